@@ -1,4 +1,4 @@
-ghost use Rattle.std.specs.Prelude.{◌≡◌, ◌<◌, ⊤, ℕ, Option, Some, None, IfOk, IsSomeAnd, MatchOption, OnErr, OnOk};
+ghost use Rattle.std.specs.Prelude.{◌≡◌, ◌<◌, ⊤, ℕ, Option, Some, None, IfOk, IsSomeAnd, MatchOption, OnErr, OnOk, refl};
 ghost use Rattle.draid_spec.specs.Geometry.{IsGeometry};
 ghost use Rattle.draid_shelf.specs.Shelf.{HasLeavesOf, IsKnown, SameOthers, most_metaslabs};
 ghost use Rattle.draid_shelf.specs.Kits.{IsUncounted, ShelfCounts, uber_bytes};
@@ -20,6 +20,8 @@ impl Shelf for FileShelf {
     type A = FileArea;
 
     ghost told = { λ _. None };
+
+    ghost steady = { λ x y. refl };
 
     ghost faults = { λ shelf. shelf.faults };
 

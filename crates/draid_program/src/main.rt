@@ -2,8 +2,13 @@
 
 #![tactic(auto)]
 
-ghost use Rattle.std.specs.Prelude.{◌≤◌, length};
-ghost use Rattle.draid_choose.specs.Rooms.{Picks, most_rooms};
+ghost use Rattle.std.specs.Prelude.{◌≡◌, ◌≤◌, length, map, string_bytes};
+ghost use Rattle.std.specs.Fn.{FnReturnsAt};
+ghost use Rattle.std.specs.Process.{exit_status};
+ghost use Rattle.draid_choose.specs.Rooms.{IsChooser, Picks, most_rooms};
+ghost use Rattle.draid_run.specs.Script.{RunIs};
+ghost use Rattle.draid_run.specs.Shelves.{on_shelf};
+ghost use Rattle.draid_run.specs.Status.{code_of};
 
 use draid_choose::{Chooser, first_fit};
 use draid_files::{FileShelf, Input, Output};
@@ -21,48 +26,60 @@ fn words(rt: &HostRuntime) -> io::Result<Vec<String>> {
     Ok(env::args(rt)?.skip(1).collect(rt.alloc())?)
 }
 
-/// Runs the script on the pool of a shelf.
-fn run_on<H: Shelf, S: Source, K: Sink>(
-    rt: &(impl AllocGlobal + Threads + Sync),
+/// Runs the script of the source for these words, and exits with the status of the run.
+fn run_on<
+    H: Shelf,
+    S: Source,
+    K: Sink,
+    F: Fn(&[Room]) -> Option<u32>,
+    A: AllocGlobal + Threads + Sync,
+>(
+    rt: &A,
     words: &[String],
     shelf: &mut H,
     source: &mut S,
     sink: &mut K,
-) -> Status {
+    chooser: &Chooser<F>,
+) -> ExitCode
+    requires { IsChooser F.Fn chooser.now }
+    ensures { (status : Status) × (exit_status result ≡ code_of status)
+        × RunIs H.R.Rack H.A.Area (FnReturnsAt F.Fn chooser.now) (map string_bytes words.now) status (S.left source.old) (K.held sink.old) (K.held sink.new) (on_shelf H.Shelf shelf.old) (on_shelf H.Shelf shelf.new) }
+{
+    let status = run(rt, words, shelf, source, sink, chooser);
+    ExitCode::from(status.code())
+}
+
+/// Says that there was no memory for the words.
+fn end_starved<K: Sink>(sink: &mut K) -> ExitCode {
+    let status = match sink.put(b"no memory\n") {
+        Ok(()) => Status::NoMemory,
+        Err(Failed) => Status::SinkFault,
+    };
+    ExitCode::from(status.code())
+}
+
+fn main(rt: HostRuntime) -> ExitCode {
+    let mut source = Input::new(rt.stdin());
+    let mut sink = Output::new(rt.stdout());
     let chooser = Chooser::new(
         |rooms: &[Room]| -> Option<u32>
             requires { length rooms.now ≤ most_rooms }
             ensures { Picks rooms.now result }
         { first_fit(rooms) },
     );
-    run(rt, words, shelf, source, sink, &chooser)
-}
-
-/// Says that there was no memory for the words.
-fn end_starved<K: Sink>(sink: &mut K) -> Status {
-    match sink.put(b"no memory\n") {
-        Ok(()) => Status::NoMemory,
-        Err(Failed) => Status::SinkFault,
-    }
-}
-
-fn main(rt: HostRuntime) -> ExitCode {
-    let mut source = Input::new(rt.stdin());
-    let mut sink = Output::new(rt.stdout());
     let Ok(words) = words(&rt) else {
         return ExitCode::from(Status::NoMemory.code());
     };
-    let status = match read_words(rt.alloc(), &words) {
+    match read_words(rt.alloc(), &words) {
         Ok(Mode::Session { dir: Some(path) }) => {
             let mut shelf = FileShelf::new(&rt, path);
-            run_on(&rt, &words, &mut shelf, &mut source, &mut sink)
+            run_on(&rt, &words, &mut shelf, &mut source, &mut sink, &chooser)
         }
-        // A shelf in memory in its place could have the session of a folder run in memory.
+        // Over a shelf in memory `run` might read the words, and run the session of a folder.
         Err(WordsFault::NoMemory) => end_starved(&mut sink),
         _ => {
-            let mut shelf = MemoryShelf::new(rt.alloc(), CrashRule::New);
-            run_on(&rt, &words, &mut shelf, &mut source, &mut sink)
+            let mut shelf = MemoryShelf::new(rt.alloc(), CrashRule::Torn);
+            run_on(&rt, &words, &mut shelf, &mut source, &mut sink, &chooser)
         }
-    };
-    ExitCode::from(status.code())
+    }
 }

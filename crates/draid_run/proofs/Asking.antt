@@ -20,7 +20,7 @@ use Rattle.draid_run.specs.Making.{CreateIs}
 use Rattle.draid_run.specs.Says.{DamageSays, FreeSays, ReadSays, StatusSays, SumSays}
 use Rattle.draid_run.specs.Script.{IsUnbuilt}
 use Rattle.draid_run.specs.Serve.{AnswerIs, AskIs, IsSaid}
-use Rattle.draid_run.specs.Shelves.{OnShelf}
+use Rattle.draid_run.specs.Shelves.{MayFind, OnShelf}
 use Rattle.draid_run.specs.declared.answer.Stop.{Stop}
 use Rattle.draid_run.specs.declared.answer.Stop.TheVariants as stop
 use Rattle.draid_run.proofs.Said.{damage_does, free_does, read_does, status_does, sum_does}
@@ -40,7 +40,7 @@ module _ {R A : Type 0} (rack : racks.Ghosts R) (area : areas.Ghosts A) (chosen 
 -- an empty line, or a comment
 pub turned_silent : {R A : Type 0} (rack : racks.Ghosts R) (area : areas.Ghosts A) (chosen : List Room → Option ℕ → Type 0) (entry now : OnShelf) (pool : Option (Pool R A)) (x : Desk) (line : Line) → line ≡ variant.Nothing
     → IsDesk rack area entry now pool x → Turned rack area chosen (Ok (command_in line)) entry x None now pool
-turned_silent rack area chosen entry now pool x line is desk = record { new = x; desk = desk; turns = subst (λ l. TurnsBy chosen (Ok (command_in l)) x None x) (sym is) refl }
+turned_silent rack area chosen entry now pool x line is desk = record { new = x; desk = desk; turns = subst (λ l. TurnsBy chosen (MayFind rack area entry) (Ok (command_in l)) x None x) (sym is) refl }
 
 -- a pool was to be made
 module _ {R A : Type 0} (rack : racks.Ghosts R) (area : areas.Ghosts A) (chosen : List Room → Option ℕ → Type 0) (entry before now : OnShelf) (pool : Option (Pool R A)) (x : Desk) (new : Option (Pool R A)) (text : List ℕ) (children : ℕ) (keys : PoolKeys) where

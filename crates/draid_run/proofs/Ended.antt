@@ -6,12 +6,12 @@ use Rattle.draid_rack.specs.declared.Rack as racks
 use Rattle.draid_area.specs.declared.Area as areas
 use Rattle.draid_lines.specs.Lines.{lines_of}
 use Rattle.draid_reply.specs.declared.reply.Reply.{Reply}
-use Rattle.draid_session.specs.Session.{Desk, Untouched, Bare, Made, Open, Shut, Foreign, Unknown, IsLeft}
+use Rattle.draid_session.specs.Session.{Desk, Untouched, Bare, Made, Open, Shut, Foreign, Unknown, left_of}
 use Rattle.draid_pool.specs.declared.pool.Pool.{Pool}
 use Rattle.draid_run.specs.Desks.{IsDesk, LeavesDesk}
 use Rattle.draid_run.specs.Script.{BreaksOff, Ends, EndsWithLine, Fails, FailsShut, GetsReplies, IsSession, Prints, RunsFrom, Shows}
 use Rattle.draid_run.specs.Serve.{Served}
-use Rattle.draid_run.specs.Shelves.{HasFailed, HoldsDesk, IsClosed, OnShelf}
+use Rattle.draid_run.specs.Shelves.{HasFailed, HoldsDesk, IsClosed, OnShelf, TellsAsBefore}
 use Rattle.draid_run.specs.Status.{HasNumber, last_text}
 use Rattle.draid_run.specs.declared.status.Status.{Status}
 use Rattle.draid_run.specs.declared.status.Status.TheVariants.{Done, Usage, Line, SourceFault, SinkFault, NoMemory, TooLong, ShelfFault, Record}
@@ -87,9 +87,9 @@ shelf_fails area (Some text) lines (Made told n geometry) last entry now breaks 
 shelf_fails area (Some text) lines (Shut crash x) last entry now breaks shut failed = shut tt
 shelf_fails area (Some text) lines Unknown last entry now breaks shut failed = shut tt
 shelf_fails area (Some text) lines Foreign last entry now breaks shut failed = failed
-shelf_fails area (Some text) lines (Open x) (Open y) entry now breaks shut failed =
-    broken_rose x.geometry x.perms breaks.command breaks.breaks.holds x y breaks.breaks.broken breaks.breaks.follows
-shelf_fails area (Some text) lines (Open x) last entry now breaks shut failed = absurd breaks.breaks
+shelf_fails area (Some text) lines (Open x) last entry now breaks shut failed =
+    let b = breaks.breaks in
+    subst (λ d. Fails area (Some text) lines (Open x) d entry now) (sym b.1) (broken_rose x.geometry x.perms breaks.command b.2.holds x b.0 b.2.broken b.2.follows)
 
 not_usage : NoMemory ≡ Usage → ⊥
 not_usage e = cc e
@@ -126,8 +126,9 @@ module _ {R A : Type 0} (rack : racks.Ghosts R) (area : areas.Ghosts A) (chosen 
 
   -- what was served, as the run of these words
   run_of : (words : List (List ℕ)) (status ended : Status) (input start mid new : Option (List ℕ)) (entry before now : OnShelf) (pool : Option (Pool R A)) → (ended ≡ Usage → ⊥) → IsSession words
-      → (is : Served rack area chosen first ended input start mid entry before pool) → LeavesDesk area entry before now pool is.last → Prints status ended (last_text ended) mid new → RunsFrom rack area chosen words status input start new entry now first
-  run_of words status ended input start mid new entry before now pool other session is leaves line = record {
+      → (is : Served rack area chosen first ended input start mid entry before pool) → LeavesDesk area entry before now pool is.last → TellsAsBefore entry now
+      → Prints status ended (last_text ended) mid new → RunsFrom rack area chosen words status input start new entry now first
+  run_of words status ended input start mid new entry before now pool other session is leaves tells line = record {
     last = is.last;
     session = record {
       lines = is.lines;
@@ -144,9 +145,8 @@ module _ {R A : Type 0} (rack : racks.Ghosts R) (area : areas.Ghosts A) (chosen 
       shows = is.shows;
       prints = record { between = mid; replies = is.prints; last = line };
     };
-    left = leaves.left;
-    is_left = leaves.is;
     shelf = leaves.shelf;
+    tells = tells;
     failed = λ e. shelf_fails area is.broken is.lines is.mid is.last entry now (subst (λ s. BreaksOff s is.broken is.mid is.last) e is.breaks)
         (λ closed. (let since = is.since e closed in subst (FailsShut area is.broken is.lines is.mid entry) (sym (leaves.same since.0)) since.1)) (leaves.failed (is.failed e));
     bad = is.bad;
@@ -155,16 +155,16 @@ module _ {R A : Type 0} (rack : racks.Ghosts R) (area : areas.Ghosts A) (chosen 
   -- a run of a session: what was served, the last line, and the pool on the shelf
   pub run_served : (words : List (List ℕ)) (status ended : Status) (input start mid new : Option (List ℕ)) (entry before now : OnShelf) (pool : Option (Pool R A)) → IsSession words → (ended ≡ Usage → ⊥)
       → Served rack area chosen first ended input start mid entry before pool → EndsWithLine ended status mid new
-      → ((x : Desk) → IsDesk rack area entry before pool x → LeavesDesk area entry before now pool x)
+      → ((x : Desk) → IsDesk rack area entry before pool x → LeavesDesk area entry before now pool x) → TellsAsBefore entry now
       → RunsFrom rack area chosen words status input start new entry now first
-  run_served words status ended input start mid new entry before now pool session other is line leaves = elim line.is [
+  run_served words status ended input start mid new entry before now pool session other is line leaves tells = elim line.is [
     | inl same ↦
         let prints = subst (λ m. Prints status m (last_text m) mid new) same line.prints in
-        run_of words status ended input start mid new entry before now pool other session is (leaves is.last is.desk) prints
+        run_of words status ended input start mid new entry before now pool other session is (leaves is.last is.desk) tells prints
     | inr none ↦
         let prints = subst (λ m. Prints status m (last_text m) mid new) none.0 line.prints in
         let short = short_served ended input start mid entry before pool none.1 is in
-        run_of words status NoMemory input start mid new entry before now pool (λ e. absurd (not_usage e)) session short (leaves short.last short.desk) prints
+        run_of words status NoMemory input start mid new entry before now pool (λ e. absurd (not_usage e)) session short (leaves short.last short.desk) tells prints
   ]
 
 module _ {R A : Type 0} (rack : racks.Ghosts R) (area : areas.Ghosts A) (chosen : List Room → Option ℕ → Type 0) (words : List (List ℕ)) (status : Status) (input old new : Option (List ℕ)) (entry : OnShelf) (first : Desk) (at : HoldsDesk first entry entry) where
@@ -189,21 +189,20 @@ module _ {R A : Type 0} (rack : racks.Ghosts R) (area : areas.Ghosts A) (chosen 
         shows = shows;
         prints = record { between = old; replies = gets; last = subst (λ m. Prints status m (last_text m) old new) same line.prints };
       };
-      left = first;
-      is_left = back first at;
-      shelf = at;
+      shelf = back first at;
+      tells = refl;
       failed = λ e. absurd (not_fault meant refused e);
       bad = λ metaslab place kind e. absurd (not_bad meant refused metaslab place kind e);
     }
     | inr none ↦ absurd (plain none.1)
   ]
     where
-      back : (x : Desk) → HoldsDesk x entry entry → IsLeft x x
-      back Untouched is = refl
-      back Bare is = refl
-      back (Made tells count geometry) is = refl
-      back (Shut crash x) is = refl
-      back Unknown is = refl
+      back : (x : Desk) → HoldsDesk x entry entry → HoldsDesk (left_of x) entry entry
+      back Untouched is = is
+      back Bare is = is
+      back (Made tells count geometry) is = is
+      back (Shut crash x) is = is
+      back Unknown is = is
       back (Open x) is = absurd is
       back Foreign is = absurd is
 

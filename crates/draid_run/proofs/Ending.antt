@@ -1,5 +1,5 @@
 -- A run that nothing disturbs, and of which each line can be run, ends with its input.
-use Rattle.std.proofs.Common.{arith, ◌≡◌, ◌≢◌, ◌∙◌, ◌<◌, ◌≤◌, ◌++◌, inl, inr, ℕ, true, false, List, [], ◌∷◌, Option, Some, None, Result, Ok, Err, refl, sym, ap, subst, length, length-append, take, take_all, All}
+use Rattle.std.proofs.Common.{arith, ◌≡◌, ◌≢◌, ◌∙◌, ◌<◌, ◌≤◌, ◌++◌, inl, inr, ℕ, Bool, true, false, List, [], ◌∷◌, Option, Some, None, Result, Ok, Err, refl, sym, ap, subst, length, length-append, take, take_all, All}
 use Rattle.std.specs.Prelude.{slice_index_or}
 use Rattle.std.specs.List.{before_first, position_or_len}
 use Rattle.std.proofs.lemmas.Bool.{cases_lt}
@@ -12,7 +12,8 @@ use Rattle.draid_lines.proofs.Ends.{lines_first, lines_last, position-le}
 use Rattle.draid_script.specs.Grammar.{line_of}
 use Rattle.draid_script.specs.Line.{Command, ImportPool}
 use Rattle.draid_script.specs.declared.fault.LineFault.{LineFault}
-use Rattle.draid_session.specs.Session.{Desk, Untouched, Bare, Made, Open, Shut, Foreign, Unknown, Breaks, RecordFails}
+use Rattle.draid_session.specs.Session.{Desk, Untouched, Bare, Made, Open, Shut, Foreign, Unknown, Breaks, BreaksGiven, RecordFails}
+use Rattle.draid_session.specs.State.{State}
 use Rattle.draid_run.specs.Ending.{CanRun, EndsWell, IsBuilt, IsUndisturbed, IsUntold}
 use Rattle.draid_run.specs.Script.{BreaksOff, Ends, IsSession, LineFaultIs, Prints, RunsFrom}
 use Rattle.draid_run.specs.Shelves.{OnShelf}
@@ -72,8 +73,11 @@ not_built (Err why) kind at built fault = built
 
 -- ---- records
 
+told_given : (b : Bool) (x : State) (last : Desk) → BreaksGiven b RecordFails x last → b ≡ false
+told_given true x last breaks = absurd breaks
+told_given false x last breaks = refl
+
 untold_by : (mid last : Desk) (command : Command) → Breaks RecordFails mid command last → IsUntold mid
-untold_by Untouched last ImportPool breaks = tt
 untold_by Untouched last command breaks = tt
 untold_by Unknown last command breaks = tt
 untold_by Bare last ImportPool breaks = absurd breaks
@@ -81,12 +85,9 @@ untold_by Bare last command breaks = absurd breaks
 untold_by (Made true failed geometry) last ImportPool breaks = absurd breaks
 untold_by (Made true failed geometry) last command breaks = absurd breaks
 untold_by (Made false failed geometry) last command breaks = refl
-untold_by (Shut crash x) Unknown ImportPool breaks = breaks
-untold_by (Shut crash x) last ImportPool breaks = absurd breaks
+untold_by (Shut crash x) last ImportPool breaks = told_given x.told x last breaks
 untold_by (Shut crash x) last command breaks = absurd breaks
-untold_by (Open x) last ImportPool breaks = absurd breaks
 untold_by (Open x) last command breaks = absurd breaks
-untold_by Foreign last ImportPool breaks = absurd breaks
 untold_by Foreign last command breaks = absurd breaks
 
 -- ---- the run

@@ -1,12 +1,12 @@
 -- The pool that is open is given back to the shelf.
-use Rattle.std.proofs.Common.{◌≡◌, ◌∙◌, inl, inr, arith, refl, sym, subst, ℕ, Bool, true, false, Option, Some, None, MatchOption}
-use Rattle.std.specs.Prelude.{IsSomeAnd, is_some}
+use Rattle.std.proofs.Common.{◌≡◌, ◌∙◌, inl, inr, arith, refl, sym, subst, ℕ, Bool, false, Option, Some, None, MatchOption}
+use Rattle.std.specs.Prelude.{IsSomeAnd}
 use Rattle.draid_rack.specs.declared.Rack as racks
 use Rattle.draid_area.specs.Area.{Content}
 use Rattle.draid_area.specs.declared.Area as areas
 use Rattle.draid_segments.specs.Segments.{Pieces}
 use Rattle.draid_shelf.specs.Kits.{AreNewChecks, Held, KitTold, OnHeld}
-use Rattle.draid_session.specs.Session.{Desk, Untouched, Bare, Made, Open, Shut, Foreign, Unknown, IsGiven}
+use Rattle.draid_session.specs.Session.{Desk, Untouched, Bare, Made, Open, Shut, Foreign, Unknown}
 use Rattle.draid_session.specs.State.{Metaslab, State}
 use Rattle.draid_pool.specs.Closing.{GivesBack, HoldsPool, Rests, RestsOn, SameCounts}
 use Rattle.draid_pool.specs.Failing.{AreaFails}
@@ -17,7 +17,7 @@ use Rattle.draid_pool.specs.Records.{HasLeafNumbers}
 use Rattle.draid_pool.specs.Ubers.{UberStands}
 use Rattle.draid_pool.specs.declared.pool.Pool.{Pool}
 use Rattle.draid_run.specs.Desks.{IsDesk, LeavesDesk}
-use Rattle.draid_run.specs.Shelves.{AreaHasFailed, HasChecks, HoldsShut, IsOut, OnShelf}
+use Rattle.draid_run.specs.Shelves.{AreaHasFailed, HasChecks, HoldsShut, IsOut, OnShelf, TellsAsBefore}
 
 -- ---- whether the shelf tells makes no other difference to what it holds
 
@@ -74,32 +74,17 @@ all_held x crash None old holds away = tt
 all_held x crash (Some held) None holds away = absurd holds
 all_held x crash (Some held) (Some before) holds away = holds away
 
-told_then : (x : State) (P : Held → Held → Type 0) (new old : Option Held) → OnHeld new (λ held. MatchOption old ⊥ (λ before. P before held)) → x.told ≡ is_some old → is_some new ≡ true → x.told ≡ true
-told_then x P None old holds told is = absurd (cc is)
-told_then x P (Some held) None holds told is = absurd holds
-told_then x P (Some held) (Some before) holds told is = told
-
-module _ (x : State) (crash : Bool) (before now : OnShelf) (gives : GivesBack x crash before.held now.held now.leaves now.counts now.own.uber) where
-  -- the state of the pool that was given back: whether it tells is whether the shelf does
-  abbrev pub left_as : State
-  left_as = told_as x (is_some now.held)
-
-  -- with its devices the shelf has the pool
-  pub shelf_has : now.own.checks ≡ before.own.checks → IsOut x before → HoldsShut crash left_as now
-  shelf_has checks out = record {
-    held = on_held now.held (HoldsPool x crash) (HoldsPool left_as crash) (holds_as x (is_some now.held) crash) (all_held x crash now.held before.held gives.held out.held);
-    importable = on_held now.held (λ held. IsImportable x held now.leaves) (λ held. IsImportable left_as held now.leaves) (importable_as x (is_some now.held) now) gives.importable;
-    told = refl;
-    counts = gives.counted;
-    uber = gives.uber;
-    checks = checks ∙ out.checks;
-  }
-
-  pub is_given : IsOut x before → IsGiven x left_as
-  is_given out = record {
-    same = refl;
-    told = told_then x (λ before held. IsSomeAnd before.checks AreNewChecks → HoldsPool x crash held) now.held before.held gives.held out.told;
-  }
+-- with its devices the shelf has the pool, and tells as before
+pub shelf_has : (x : State) (crash : Bool) (before now : OnShelf) → GivesBack x crash before.held now.held now.leaves now.counts now.own.uber → now.own.checks ≡ before.own.checks → TellsAsBefore before now → IsOut x before
+    → HoldsShut crash x now
+shelf_has x crash before now gives checks tells out = record {
+  held = all_held x crash now.held before.held gives.held out.held;
+  importable = gives.importable;
+  told = out.told ∙ sym tells;
+  counts = gives.counted;
+  uber = gives.uber;
+  checks = checks ∙ out.checks;
+}
 
 -- what has failed on an area of the pool shows there
 area_shows : (crash : Bool) (x : State) (now : OnShelf) → HoldsShut crash x now → AreaHasFailed x → AreaFailed now.counts now.own
@@ -120,32 +105,28 @@ module _ {R A : Type 0} (rack : racks.Ghosts R) (area : areas.Ghosts A) (entry b
       (subst (λ n. IsDesk rack area entry before None x → LeavesDesk {R = R} area entry before n None x) (sym same) (by x))
     where
       by : (x : Desk) → IsDesk rack area entry before None x → LeavesDesk {R = R} area entry before before None x
-      by Untouched is = record { left = Untouched; is = refl; shelf = is.shelf; failed = λ failed. failed; same = λ closed. refl }
-      by Bare is = record { left = Bare; is = refl; shelf = is.shelf; failed = λ failed. failed; same = λ closed. refl }
-      by (Made tells count geometry) is = record { left = Made tells count geometry; is = refl; shelf = is.shelf; failed = λ failed. failed; same = λ closed. refl }
-      by (Shut crash y) is = record { left = Shut crash y; is = refl; shelf = is.shelf; failed = λ failed. failed; same = λ closed. refl }
-      by Unknown is = record { left = Unknown; is = refl; shelf = is.shelf; failed = λ failed. failed; same = λ closed. refl }
+      by Untouched is = record { shelf = is.shelf; failed = λ failed. failed; same = λ closed. refl }
+      by Bare is = record { shelf = is.shelf; failed = λ failed. failed; same = λ closed. refl }
+      by (Made tells count geometry) is = record { shelf = is.shelf; failed = λ failed. failed; same = λ closed. refl }
+      by (Shut crash y) is = record { shelf = is.shelf; failed = λ failed. failed; same = λ closed. refl }
+      by Unknown is = record { shelf = is.shelf; failed = λ failed. failed; same = λ closed. refl }
       by (Open y) is = absurd is.stands
       by Foreign is = absurd is.stands
 
-  pub leaves_open : (pool : Pool R A) → desk ≡ Some pool → ((x : State) → Represents rack area pool x → GivesBack x false before.held now.held now.leaves now.counts now.own.uber) → now.own.checks ≡ before.own.checks
+  pub leaves_open : (pool : Pool R A) → desk ≡ Some pool → ((x : State) → Represents rack area pool x → GivesBack x false before.held now.held now.leaves now.counts now.own.uber) → now.own.checks ≡ before.own.checks → TellsAsBefore before now
       → (AreaFails area.faults pool → AreaFailed now.counts now.own) → (x : Desk) → IsDesk rack area entry before desk x → LeavesDesk area entry before now desk x
-  leaves_open pool some back checks shows x = subst (λ d. IsDesk rack area entry before d x → LeavesDesk area entry before now d x) (sym some) (by x) where
+  leaves_open pool some back checks tells shows x = subst (λ d. IsDesk rack area entry before d x → LeavesDesk area entry before now d x) (sym some) (by x) where
     by : (x : Desk) → IsDesk rack area entry before (Some pool) x → LeavesDesk area entry before now (Some pool) x
     by Untouched is = absurd is.stands
     by Bare is = absurd is.stands
-    by (Made tells count geometry) is = absurd is.stands
+    by (Made told count geometry) is = absurd is.stands
     by (Shut crash y) is = absurd is.stands
     by Unknown is = absurd is.stands
-    by Foreign is = record { left = Unknown; is = refl; shelf = tt; failed = λ failed. inr (shows failed); same = λ closed. absurd closed }
+    by Foreign is = record { shelf = tt; failed = λ failed. inr (shows failed); same = λ closed. absurd closed }
     by (Open y) is =
-        let gives = back y is.stands.1 in
-        let holds = shelf_has y false before now gives checks is.shelf in
-        let left : State = left_as y false before now gives in
+        let holds = shelf_has y false before now (back y is.stands.1) checks tells is.shelf in
         record {
-          left = Shut false left;
-          is = (left, refl, is_given y false before now gives is.shelf);
           shelf = holds;
-          failed = λ failed. inr (area_shows false left now holds failed);
+          failed = λ failed. inr (area_shows false y now holds failed);
           same = λ closed. absurd closed;
         }

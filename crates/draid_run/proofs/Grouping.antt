@@ -12,6 +12,7 @@ use Rattle.draid_session.specs.Follows.{Follows}
 use Rattle.draid_session.specs.Groups as groups
 use Rattle.draid_session.specs.Holds.{Hold}
 use Rattle.draid_session.specs.Phases.{Broke}
+use Rattle.draid_session.specs.Replies.{IsReplyTo}
 use Rattle.draid_session.specs.Session.{Desk, Untouched, Bare, Made, Open, Shut, Foreign, Unknown, ShelfFails, TurnsBy}
 use Rattle.draid_session.specs.State.{State, Store}
 use Rattle.draid_pool.specs.Answers.{ExportDoes, SyncDoes}
@@ -25,15 +26,19 @@ use Rattle.draid_pool.specs.declared.fault.SyncFault.TheVariants as sync
 use Rattle.draid_pool.specs.declared.fault.Synced.{Synced as Group}
 use Rattle.draid_pool.specs.declared.pool.Pool.{Pool}
 use Rattle.draid_run.specs.Desks.{Broken, IsDesk, IsPool, IsShelf, ReplyDoes, Turned}
-use Rattle.draid_run.specs.Groups.{CrashDid, CrashTurns, ExportDid, ExportIs, ExportTurns, IsBehind, Leads, RefusalIs, StopShows, SyncDid, SyncLeads, export_reply, foreign_behind, refusal_of, sync_reply}
+use Rattle.draid_run.specs.Groups.{CrashDid, CrashTurns, ExportDid, ExportIs, ExportTurns, Leads, RefusalIs, SyncDid, SyncLeads, SyncShows, desk_left, export_reply, foreign_left, refusal_of, sync_reply}
 use Rattle.draid_run.specs.Serve.{AnswerIs, IsSaid}
-use Rattle.draid_run.specs.Shelves.{IsOut, OnShelf, PoolFails}
+use Rattle.draid_run.specs.Shelves.{IsOut, MayFind, OnShelf, PoolFails, TellsAsBefore}
 use Rattle.draid_run.specs.declared.answer.Stop.{Stop}
 use Rattle.draid_run.specs.declared.answer.Stop.TheVariants as stop
+use Rattle.draid_run.proofs.Behind.{open_behind, still_foreign, sync_keeps}
 use Rattle.draid_run.proofs.Broke.{broken_shows}
 use Rattle.draid_run.proofs.Following.{same_store}
-use Rattle.draid_run.proofs.GivenBack.{is_given, left_as, shelf_has}
+use Rattle.draid_run.proofs.GivenBack.{shelf_has}
 use Rattle.draid_run.proofs.Steps.{by_answer, still_out}
+
+some_same : {T : Type 0} (a b : T) → Some a ≡ Some b → a ≡ b
+some_same a b is = cc is
 
 module _ {R A : Type 0} (rack : racks.Ghosts R) (area : areas.Ghosts A) where
   -- ---- a sync
@@ -48,22 +53,29 @@ module _ {R A : Type 0} (rack : racks.Ghosts R) (area : areas.Ghosts A) where
   sync_refused x pool result why (Err stop.Unbuilt) is said c = absurd said
   sync_refused x pool result why (Err (stop.Record metaslab place kind)) is said c = absurd said
 
-  -- what a refusal shows that has no reply
-  shows_why : (called : CommandName) (pool : Option (Pool R A)) (why : SyncFault) (said : Result Reply Stop) → RefusalIs called why said → (why ≡ sync.Shelf → PoolFails area pool) → StopShows area said pool
-  shows_why called pool why (Ok reply) refused fails = tt
-  shows_why called pool sync.Shelf (Err stop.Shelf) refused fails = fails refl
-  shows_why called pool sync.Worn (Err stop.Shelf) refused fails = absurd (cc refused)
-  shows_why called pool sync.Last (Err stop.Shelf) refused fails = absurd (cc refused)
-  shows_why called pool sync.NoMemory (Err stop.Shelf) refused fails = absurd (cc refused)
-  shows_why called pool why (Err stop.Unbuilt) refused fails = absurd refused
-  shows_why called pool why (Err (stop.Record metaslab place kind)) refused fails = absurd refused
+  -- a refusal is a reply that a sync may have
+  refuses_sync : (why : SyncFault) (reply : Reply) → refusal_of name.Sync why ≡ Some reply → IsReplyTo SyncPool reply
+  refuses_sync sync.Worn reply is = subst (IsReplyTo SyncPool) (some_same (Worn name.Sync) reply is) tt
+  refuses_sync sync.Last reply is = subst (IsReplyTo SyncPool) (some_same (Last name.Sync) reply is) tt
+  refuses_sync sync.NoMemory reply is = subst (IsReplyTo SyncPool) (some_same (NoMemory name.Sync) reply is) tt
+  refuses_sync sync.Shelf reply is = absurd (cc is)
 
-  pub refusal_shows : {T : Type 0} (called : CommandName) (pool : Pool R A) (result : Result T SyncFault) (why : SyncFault) (said : Result Reply Stop) → result ≡ Err why → RefusalIs called why said
-      → (result ≡ Err sync.Shelf → AreaFails area.faults pool) → StopShows area said (Some pool)
-  refusal_shows called pool result why said is refused fails = shows_why called (Some pool) why said refused (λ same. fails (is ∙ ap Err same))
+  -- or an area failed
+  shows_why : (pool : Option (Pool R A)) (why : SyncFault) (said : Result Reply Stop) → RefusalIs name.Sync why said → (why ≡ sync.Shelf → PoolFails area pool) → SyncShows area said pool
+  shows_why pool why (Ok reply) refused fails = refuses_sync why reply refused
+  shows_why pool sync.Shelf (Err stop.Shelf) refused fails = fails refl
+  shows_why pool sync.Worn (Err stop.Shelf) refused fails = absurd (cc refused)
+  shows_why pool sync.Last (Err stop.Shelf) refused fails = absurd (cc refused)
+  shows_why pool sync.NoMemory (Err stop.Shelf) refused fails = absurd (cc refused)
+  shows_why pool why (Err stop.Unbuilt) refused fails = absurd refused
+  shows_why pool why (Err (stop.Record metaslab place kind)) refused fails = absurd refused
+
+  pub refusal_shows : {T : Type 0} (pool : Pool R A) (result : Result T SyncFault) (why : SyncFault) (said : Result Reply Stop) → result ≡ Err why → RefusalIs name.Sync why said
+      → (result ≡ Err sync.Shelf → AreaFails area.faults pool) → SyncShows area said (Some pool)
+  refusal_shows pool result why said is refused fails = shows_why (Some pool) why said refused (λ same. fails (is ∙ ap Err same))
 
   pub sync_open : (desk : Option (Pool R A)) (pool new : Pool R A) (result : Result Reply Stop) → desk ≡ Some pool → IsWhole rack area new → ((x : State) → Represents rack area pool x → SyncLeads rack area x result new)
-      → StopShows area result (Some new) → (x : Desk) → IsPool rack area desk x → SyncDid rack area x result (Some new)
+      → SyncShows area result (Some new) → (x : Desk) → IsPool rack area desk x → SyncDid rack area x result (Some new)
   sync_open desk pool new result is whole leads shows x = subst (λ d. IsPool rack area d x → SyncDid rack area x result (Some new)) (sym is) (by x) where
     by : (x : Desk) → IsPool rack area (Some pool) x → SyncDid rack area x result (Some new)
     by Untouched stands = absurd stands
@@ -71,7 +83,7 @@ module _ {R A : Type 0} (rack : racks.Ghosts R) (area : areas.Ghosts A) where
     by (Made tells count geometry) stands = absurd stands
     by (Shut crash y) stands = absurd stands
     by Unknown stands = absurd stands
-    by (Open y) stands = (whole, leads y stands.1)
+    by (Open y) stands = (whole, shows, leads y stands.1)
     by Foreign stands = (whole, shows)
 
   pub sync_shut : (desk new : Option (Pool R A)) (result : Result Reply Stop) → desk ≡ None → new ≡ None → result ≡ Ok (NoPool name.Sync) → (x : Desk) → IsPool rack area desk x → SyncDid rack area x result new
@@ -89,9 +101,6 @@ module _ {R A : Type 0} (rack : racks.Ghosts R) (area : areas.Ghosts A) where
 
 ok_same : (a b : Reply) (x y : Result Reply Stop) → x ≡ Ok a → y ≡ Ok b → x ≡ y → a ≡ b
 ok_same a b x y one other same = (let z = sym one ∙ same ∙ other in cc)
-
-some_same : {T : Type 0} (a b : T) → Some a ≡ Some b → a ≡ b
-some_same a b is = cc is
 
 module _ (chosen : List Room → Option ℕ → Type 0) (x : State) (holds : List Hold) (store : Store) where
   sync_does : (answer : Result Group SyncFault) (reply : Reply) → sync_reply answer ≡ Some reply → SyncDoes x answer holds store → ReplyDoes x chosen SyncPool reply holds store
@@ -120,8 +129,12 @@ follows_to : (x mid : State) (holds : List Hold) (store : Store) → Follows hol
 follows_to x mid holds store follows same = subst (λ t. Follows holds x (record mid { store = t })) (same_store holds x mid follows ∙ sym same) follows
 
 module _ {R A : Type 0} (rack : racks.Ghosts R) (area : areas.Ghosts A) (chosen : List Room → Option ℕ → Type 0) (entry before now : OnShelf) where
+  -- a command has a reply
+  abbrev TurnsTo : Command → Desk → Reply → Desk → Type 0
+  TurnsTo command x reply new = TurnsBy chosen (MayFind rack area entry) (Ok command) x (Some reply) new
+
   -- without a pool
-  told : (x : Desk) (reply : Reply) (command : Command) (called : CommandName) (pool new : Option (Pool R A)) → reply ≡ NoPool called → new ≡ None → IsDesk rack area entry now None x → TurnsBy chosen (Ok command) x (Some (NoPool called)) x
+  told : (x : Desk) (reply : Reply) (command : Command) (called : CommandName) (pool new : Option (Pool R A)) → reply ≡ NoPool called → new ≡ None → IsDesk rack area entry now None x → TurnsTo command x (NoPool called) x
       → Turned rack area chosen (Ok command) entry x (Some reply) now new
   told x reply command called pool new said none is turns =
       subst (λ r. Turned rack area chosen (Ok command) entry x (Some r) now new) (sym said)
@@ -129,20 +142,24 @@ module _ {R A : Type 0} (rack : racks.Ghosts R) (area : areas.Ghosts A) (chosen 
 
   -- ---- a sync leaves the shelf alone
   pub by_sync : (x : Desk) (reply : Reply) (desk new : Option (Pool R A)) → IsDesk rack area entry now desk x → SyncDid rack area x (Ok reply) new → Turned rack area chosen (Ok SyncPool) entry x (Some reply) now new
-  by_sync Untouched reply desk new is did = told Untouched reply SyncPool name.Sync desk new (ok_same reply (NoPool name.Sync) (Ok reply) (Ok (NoPool name.Sync)) refl refl did.0) did.1 (record { stands = tt; shelf = is.shelf }) (refl, refl)
-  by_sync (Made tells count geometry) reply desk new is did = told (Made tells count geometry) reply SyncPool name.Sync desk new (ok_same reply (NoPool name.Sync) (Ok reply) (Ok (NoPool name.Sync)) refl refl did.0) did.1 (record { stands = tt; shelf = is.shelf }) (refl, refl)
-  by_sync (Shut crash y) reply desk new is did = told (Shut crash y) reply SyncPool name.Sync desk new (ok_same reply (NoPool name.Sync) (Ok reply) (Ok (NoPool name.Sync)) refl refl did.0) did.1 (record { stands = tt; shelf = is.shelf }) (refl, refl)
-  by_sync Bare reply desk new is did = told Bare reply SyncPool name.Sync desk new (ok_same reply (NoPool name.Sync) (Ok reply) (Ok (NoPool name.Sync)) refl refl did.0) did.1 (record { stands = tt; shelf = is.shelf }) (refl, refl)
-  by_sync Unknown reply desk new is did = told Unknown reply SyncPool name.Sync desk new (ok_same reply (NoPool name.Sync) (Ok reply) (Ok (NoPool name.Sync)) refl refl did.0) did.1 (record { stands = tt; shelf = is.shelf }) (refl, refl)
+  by_sync Untouched reply desk new is did = told Untouched reply SyncPool name.Sync desk new (ok_same reply (NoPool name.Sync) (Ok reply) (Ok (NoPool name.Sync)) refl refl did.0) did.1 (record { stands = tt; shelf = is.shelf }) (name.Sync, refl, refl, refl)
+  by_sync (Made tells count geometry) reply desk new is did = told (Made tells count geometry) reply SyncPool name.Sync desk new (ok_same reply (NoPool name.Sync) (Ok reply) (Ok (NoPool name.Sync)) refl refl did.0) did.1 (record { stands = tt; shelf = is.shelf }) (name.Sync, refl, refl, refl)
+  by_sync (Shut crash y) reply desk new is did = told (Shut crash y) reply SyncPool name.Sync desk new (ok_same reply (NoPool name.Sync) (Ok reply) (Ok (NoPool name.Sync)) refl refl did.0) did.1 (record { stands = tt; shelf = is.shelf }) (name.Sync, refl, refl, refl)
+  by_sync Bare reply desk new is did = told Bare reply SyncPool name.Sync desk new (ok_same reply (NoPool name.Sync) (Ok reply) (Ok (NoPool name.Sync)) refl refl did.0) did.1 (record { stands = tt; shelf = is.shelf }) (name.Sync, refl, refl, refl)
+  by_sync Unknown reply desk new is did = told Unknown reply SyncPool name.Sync desk new (ok_same reply (NoPool name.Sync) (Ok reply) (Ok (NoPool name.Sync)) refl refl did.0) did.1 (record { stands = tt; shelf = is.shelf }) (name.Sync, refl, refl, refl)
   by_sync Foreign reply desk None is did = absurd did
-  by_sync Foreign reply desk (Some new) is did = record { new = Foreign; desk = record { stands = did.0; shelf = tt }; turns = refl }
+  by_sync Foreign reply desk (Some new) is did = record { new = Foreign; desk = record { stands = did.0; shelf = tt }; turns = (did.1, still_foreign reply (sync_keeps reply did.1)) }
   by_sync (Open y) reply desk None is did = absurd did
   by_sync (Open y) reply desk (Some new) is did =
-      let c = did.1 in
+      let c = did.2 in
       record {
         new = Open (record c.reached { store = c.store });
         desk = record { stands = (did.0, c.represents); shelf = still_out y c.reached now c.holds c.follows is.shelf c.store };
-        turns = record { holds = c.holds; mid = c.reached; store = c.store; follows = c.follows; does = sync_does chosen y c.holds c.store c.done.0 reply c.done.1 c.done.2; made = refl };
+        turns = (
+          record c.reached { store = c.store },
+          record { holds = c.holds; mid = c.reached; store = c.store; follows = c.follows; does = sync_does chosen y c.holds c.store c.done.0 reply c.done.1 c.done.2; made = refl },
+          open_behind reply (record c.reached { store = c.store }) (sync_keeps reply did.1),
+        );
       }
 
   pub sync_breaks : (x : Desk) (desk new : Option (Pool R A)) → IsDesk rack area entry now desk x → SyncDid rack area x (Err stop.Shelf) new → Broken rack area ShelfFails SyncPool entry before x now new
@@ -152,67 +169,58 @@ module _ {R A : Type 0} (rack : racks.Ghosts R) (area : areas.Ghosts A) (chosen 
   sync_breaks Bare desk new is did = absurd (cc (did.0))
   sync_breaks Unknown desk new is did = absurd (cc (did.0))
   sync_breaks Foreign desk None is did = absurd did
-  sync_breaks Foreign desk (Some new) is did = record { new = Foreign; desk = record { stands = did.0; shelf = tt }; breaks = refl; cause = did.1 }
+  sync_breaks Foreign desk (Some new) is did = record { new = Foreign; desk = record { stands = did.0; shelf = tt }; breaks = (tt, refl); cause = did.1 }
   sync_breaks (Open y) desk None is did = absurd did
   sync_breaks (Open y) desk (Some new) is did =
-      let c = did.1 in
+      let c = did.2 in
       let f = sync_fails chosen y c.holds c.store c.done.0 c.done.1 c.done.2 in
       let follows = follows_to y c.reached c.holds c.store c.follows f.0 in
       record {
         new = Open (record c.reached { store = c.store });
         desk = record { stands = (did.0, c.represents); shelf = still_out y c.reached now c.holds c.follows is.shelf c.store };
-        breaks = record { holds = c.holds; follows = follows; broken = f.1 };
+        breaks = (record c.reached { store = c.store }, refl, record { holds = c.holds; follows = follows; broken = f.1 });
         cause = broken_shows y.geometry y.perms SyncPool c.holds y (record c.reached { store = c.store }) f.1 follows;
       }
 
   -- ---- an export
-  export_turns : (x y : State) (answer : Result ℕ SyncFault) (reply : Reply) (new : Desk) → export_reply answer ≡ Some reply → IsBehind answer y new → Leads x y (ExportDoes x answer)
-      → TurnsBy chosen (Ok ExportPool) (Open x) (Some reply) new
-  export_turns x y (Ok group) reply new is b l =
-      subst (λ r. TurnsBy chosen (Ok ExportPool) (Open x) (Some r) new) (some_same (Exported group) reply is)
-      (subst (λ d. TurnsBy chosen (Ok ExportPool) (Open x) (Some (Exported group)) d) (sym b.is)
-      (record { y = y; carries = record { holds = l.holds; mid = l.mid; store = l.store; follows = l.follows; does = l.done; made = l.made }; given = b.given }))
-  export_turns x y (Err sync.Worn) reply new is b l =
-      subst (λ r. TurnsBy chosen (Ok ExportPool) (Open x) (Some r) new) (some_same (Worn name.Export) reply is)
-      (subst (λ d. TurnsBy chosen (Ok ExportPool) (Open x) (Some (Worn name.Export)) d) (sym b)
-      (record { holds = l.holds; mid = l.mid; store = l.store; follows = l.follows; does = l.done; made = l.made }))
-  export_turns x y (Err sync.Last) reply new is b l =
-      subst (λ r. TurnsBy chosen (Ok ExportPool) (Open x) (Some r) new) (some_same (Last name.Export) reply is)
-      (subst (λ d. TurnsBy chosen (Ok ExportPool) (Open x) (Some (Last name.Export)) d) (sym b)
-      (record { holds = l.holds; mid = l.mid; store = l.store; follows = l.follows; does = l.done; made = l.made }))
-  export_turns x y (Err sync.NoMemory) reply new is b l =
-      subst (λ r. TurnsBy chosen (Ok ExportPool) (Open x) (Some r) new) (some_same (NoMemory name.Export) reply is)
-      (subst (λ d. TurnsBy chosen (Ok ExportPool) (Open x) (Some (NoMemory name.Export)) d) (sym b)
-      (record { holds = l.holds; mid = l.mid; store = l.store; follows = l.follows; does = l.done; made = l.made }))
+  export_turns : (x y : State) (answer : Result ℕ SyncFault) (reply : Reply) (new : Desk) → export_reply answer ≡ Some reply → new ≡ desk_left answer y → Leads x y (ExportDoes x answer) → TurnsTo ExportPool (Open x) reply new
+  export_turns x y (Ok group) reply new is b l = subst (λ r. TurnsTo ExportPool (Open x) r new) (some_same (Exported group) reply is)
+      (y, record { holds = l.holds; mid = l.mid; store = l.store; follows = l.follows; does = l.done; made = l.made }, b)
+  export_turns x y (Err sync.Worn) reply new is b l = subst (λ r. TurnsTo ExportPool (Open x) r new) (some_same (Worn name.Export) reply is)
+      (y, record { holds = l.holds; mid = l.mid; store = l.store; follows = l.follows; does = l.done; made = l.made }, b)
+  export_turns x y (Err sync.Last) reply new is b l = subst (λ r. TurnsTo ExportPool (Open x) r new) (some_same (Last name.Export) reply is)
+      (y, record { holds = l.holds; mid = l.mid; store = l.store; follows = l.follows; does = l.done; made = l.made }, b)
+  export_turns x y (Err sync.NoMemory) reply new is b l = subst (λ r. TurnsTo ExportPool (Open x) r new) (some_same (NoMemory name.Export) reply is)
+      (y, record { holds = l.holds; mid = l.mid; store = l.store; follows = l.follows; does = l.done; made = l.made }, b)
   export_turns x y (Err sync.Shelf) reply new is b l = absurd (cc is)
 
-  foreign_turns : (answer : Result ℕ SyncFault) (reply : Reply) (new : Desk) → export_reply answer ≡ Some reply → new ≡ foreign_behind answer → TurnsBy chosen (Ok ExportPool) Foreign (Some reply) new
-  foreign_turns (Ok group) reply new is b = subst (λ r. TurnsBy chosen (Ok ExportPool) Foreign (Some r) new) (some_same (Exported group) reply is) b
-  foreign_turns (Err sync.Worn) reply new is b = subst (λ r. TurnsBy chosen (Ok ExportPool) Foreign (Some r) new) (some_same (Worn name.Export) reply is) b
-  foreign_turns (Err sync.Last) reply new is b = subst (λ r. TurnsBy chosen (Ok ExportPool) Foreign (Some r) new) (some_same (Last name.Export) reply is) b
-  foreign_turns (Err sync.NoMemory) reply new is b = subst (λ r. TurnsBy chosen (Ok ExportPool) Foreign (Some r) new) (some_same (NoMemory name.Export) reply is) b
+  foreign_turns : (answer : Result ℕ SyncFault) (reply : Reply) (new : Desk) → export_reply answer ≡ Some reply → new ≡ foreign_left answer → TurnsTo ExportPool Foreign reply new
+  foreign_turns (Ok group) reply new is b = subst (λ r. TurnsTo ExportPool Foreign r new) (some_same (Exported group) reply is) (tt, b)
+  foreign_turns (Err sync.Worn) reply new is b = subst (λ r. TurnsTo ExportPool Foreign r new) (some_same (Worn name.Export) reply is) (tt, b)
+  foreign_turns (Err sync.Last) reply new is b = subst (λ r. TurnsTo ExportPool Foreign r new) (some_same (Last name.Export) reply is) (tt, b)
+  foreign_turns (Err sync.NoMemory) reply new is b = subst (λ r. TurnsTo ExportPool Foreign r new) (some_same (NoMemory name.Export) reply is) (tt, b)
   foreign_turns (Err sync.Shelf) reply new is b = absurd (cc is)
 
   pub by_export : (x : Desk) (reply : Reply) (new : Option (Pool R A)) → ExportDid rack area entry x (Some reply) now new → Turned rack area chosen (Ok ExportPool) entry x (Some reply) now new
   by_export x reply new did = record { new = did.new; desk = did.desk; turns = by x did.turns } where
-    by : (x : Desk) → ExportTurns x (Some reply) did.new → TurnsBy chosen (Ok ExportPool) x (Some reply) did.new
-    by Untouched turns = subst (λ r. TurnsBy chosen (Ok ExportPool) Untouched (Some r) did.new) (sym (some_same reply (NoPool name.Export) turns.0)) (refl, turns.1)
-    by (Made tells count geometry) turns = subst (λ r. TurnsBy chosen (Ok ExportPool) (Made tells count geometry) (Some r) did.new) (sym (some_same reply (NoPool name.Export) turns.0)) (refl, turns.1)
-    by (Shut crash y) turns = subst (λ r. TurnsBy chosen (Ok ExportPool) (Shut crash y) (Some r) did.new) (sym (some_same reply (NoPool name.Export) turns.0)) (refl, turns.1)
-    by Bare turns = subst (λ r. TurnsBy chosen (Ok ExportPool) Bare (Some r) did.new) (sym (some_same reply (NoPool name.Export) turns.0)) (refl, turns.1)
-    by Unknown turns = subst (λ r. TurnsBy chosen (Ok ExportPool) Unknown (Some r) did.new) (sym (some_same reply (NoPool name.Export) turns.0)) (refl, turns.1)
+    by : (x : Desk) → ExportTurns x (Some reply) did.new → TurnsTo ExportPool x reply did.new
+    by Untouched turns = (name.Export, refl, some_same reply (NoPool name.Export) turns.0, turns.1)
+    by (Made tells count geometry) turns = (name.Export, refl, some_same reply (NoPool name.Export) turns.0, turns.1)
+    by (Shut crash y) turns = (name.Export, refl, some_same reply (NoPool name.Export) turns.0, turns.1)
+    by Bare turns = (name.Export, refl, some_same reply (NoPool name.Export) turns.0, turns.1)
+    by Unknown turns = (name.Export, refl, some_same reply (NoPool name.Export) turns.0, turns.1)
     by Foreign turns = foreign_turns turns.answer reply did.new turns.reply_is turns.new_is
     by (Open y) turns = export_turns y turns.y turns.answer reply did.new turns.reply_is turns.new_is turns.leads
 
   pub export_breaks : (x : Desk) (new : Option (Pool R A)) → ExportDid rack area entry x None now new → Broken rack area ShelfFails ExportPool entry before x now new
   export_breaks x new did = by x did.turns where
-    open_behind : (answer : Result ℕ SyncFault) (y : State) (d : Desk) → export_reply answer ≡ None → IsBehind answer y d → d ≡ Open y
-    open_behind (Ok group) y d is b = absurd (cc is)
-    open_behind (Err why) y d is b = b
+    stays_open : (answer : Result ℕ SyncFault) (y : State) (d : Desk) → export_reply answer ≡ None → d ≡ desk_left answer y → d ≡ Open y
+    stays_open (Ok group) y d is b = absurd (cc is)
+    stays_open (Err why) y d is b = b
 
-    still_foreign : (answer : Result ℕ SyncFault) (d : Desk) → export_reply answer ≡ None → d ≡ foreign_behind answer → d ≡ Foreign
-    still_foreign (Ok group) d is b = absurd (cc is)
-    still_foreign (Err why) d is b = b
+    stays_foreign : (answer : Result ℕ SyncFault) (d : Desk) → export_reply answer ≡ None → d ≡ foreign_left answer → d ≡ Foreign
+    stays_foreign (Ok group) d is b = absurd (cc is)
+    stays_foreign (Err why) d is b = b
 
     by : (x : Desk) → ExportTurns x None did.new → Broken rack area ShelfFails ExportPool entry before x now new
     by Untouched turns = absurd (cc (turns.0))
@@ -221,34 +229,32 @@ module _ {R A : Type 0} (rack : racks.Ghosts R) (area : areas.Ghosts A) (chosen 
     by (Shut crash y) turns = absurd (cc (turns.0))
     by Unknown turns = absurd (cc (turns.0))
     by Foreign turns =
-        let same : did.new ≡ Foreign = still_foreign turns.answer did.new turns.reply_is turns.new_is in
-        record { new = Foreign; desk = subst (λ d. IsDesk rack area entry now new d) same did.desk; breaks = refl; cause = did.failed refl same }
+        let same : did.new ≡ Foreign = stays_foreign turns.answer did.new turns.reply_is turns.new_is in
+        record { new = Foreign; desk = subst (λ d. IsDesk rack area entry now new d) same did.desk; breaks = (tt, refl); cause = did.failed refl same }
     by (Open y) turns =
         let l = turns.leads in
         let f = export_fails chosen y l.holds l.store turns.answer turns.reply_is l.done in
         let follows = subst (λ s. Follows l.holds y s) (sym l.made) (follows_to y l.mid l.holds l.store l.follows f.0) in
-        let same : did.new ≡ Open turns.y = open_behind turns.answer turns.y did.new turns.reply_is turns.new_is in
+        let same : did.new ≡ Open turns.y = stays_open turns.answer turns.y did.new turns.reply_is turns.new_is in
         record {
           new = Open turns.y;
           desk = subst (λ d. IsDesk rack area entry now new d) same did.desk;
-          breaks = record { holds = l.holds; follows = follows; broken = f.1 };
+          breaks = (turns.y, refl, record { holds = l.holds; follows = follows; broken = f.1 });
           cause = broken_shows y.geometry y.perms ExportPool l.holds y turns.y f.1 follows;
         }
 
   -- ---- a crash
   pub by_crash : (x : Desk) (reply : Reply) (new : Option (Pool R A)) → CrashDid rack area entry x reply now new → Turned rack area chosen (Ok CrashPool) entry x (Some reply) now new
   by_crash x reply new did = record { new = did.new; desk = did.desk; turns = by x did.turns } where
-    by : (x : Desk) → CrashTurns x reply did.new → TurnsBy chosen (Ok CrashPool) x (Some reply) did.new
-    by Untouched turns = subst (λ r. TurnsBy chosen (Ok CrashPool) Untouched (Some r) did.new) (sym turns.0) (refl, turns.1)
-    by (Made tells count geometry) turns = subst (λ r. TurnsBy chosen (Ok CrashPool) (Made tells count geometry) (Some r) did.new) (sym turns.0) (refl, turns.1)
-    by (Shut crash y) turns = subst (λ r. TurnsBy chosen (Ok CrashPool) (Shut crash y) (Some r) did.new) (sym turns.0) (refl, turns.1)
-    by Bare turns = subst (λ r. TurnsBy chosen (Ok CrashPool) Bare (Some r) did.new) (sym turns.0) (refl, turns.1)
-    by Unknown turns = subst (λ r. TurnsBy chosen (Ok CrashPool) Unknown (Some r) did.new) (sym turns.0) (refl, turns.1)
-    by Foreign turns = turns
-    by (Open y) turns =
-        subst (λ r. TurnsBy chosen (Ok CrashPool) (Open y) (Some r) did.new) (sym turns.0)
-        (subst (λ d. TurnsBy chosen (Ok CrashPool) (Open y) (Some Crashed) d) (sym turns.1.is)
-        (record { y = y; carries = record { holds = []; mid = y; store = y.store; follows = refl; does = (refl, refl); made = refl }; given = turns.1.given }))
+    by : (x : Desk) → CrashTurns x reply did.new → TurnsTo CrashPool x reply did.new
+    by Untouched turns = (name.Crash, refl, turns.0, turns.1)
+    by (Made tells count geometry) turns = (name.Crash, refl, turns.0, turns.1)
+    by (Shut crash y) turns = (name.Crash, refl, turns.0, turns.1)
+    by Bare turns = (name.Crash, refl, turns.0, turns.1)
+    by Unknown turns = (name.Crash, refl, turns.0, turns.1)
+    by Foreign turns = subst (λ r. TurnsTo CrashPool Foreign r did.new) (sym turns.0) (tt, turns.1)
+    by (Open y) turns = subst (λ r. TurnsTo CrashPool (Open y) r did.new) (sym turns.0)
+        (y, record { holds = []; mid = y; store = y.store; follows = refl; does = (refl, refl); made = refl }, turns.1)
 
   -- ---- the answers of the commands
   module _ (pool : Option (Pool R A)) (x : Desk) (new : Option (Pool R A)) where
@@ -267,7 +273,7 @@ module _ {R A : Type 0} (rack : racks.Ghosts R) (area : areas.Ghosts A) (chosen 
         no_record (Shut crash y) new did = cc (did.0)
         no_record Unknown new did = cc (did.0)
         no_record (Open y) None did = did
-        no_record (Open y) (Some p) did = did.1
+        no_record (Open y) (Some p) did = did.2
         no_record Foreign None did = did
         no_record Foreign (Some p) did = did.1
     answer_sync (Err stop.Unbuilt) result said same is did = absurd (not_unbuilt x new did)
@@ -279,7 +285,7 @@ module _ {R A : Type 0} (rack : racks.Ghosts R) (area : areas.Ghosts A) (chosen 
         not_unbuilt Bare new did = cc (did.0)
         not_unbuilt Unknown new did = cc (did.0)
         not_unbuilt (Open y) None did = did
-        not_unbuilt (Open y) (Some p) did = did.1
+        not_unbuilt (Open y) (Some p) did = did.2
         not_unbuilt Foreign None did = did
         not_unbuilt Foreign (Some p) did = did.1
 
@@ -293,7 +299,7 @@ module _ {R A : Type 0} (rack : racks.Ghosts R) (area : areas.Ghosts A) (chosen 
 
 module _ {R A : Type 0} (rack : racks.Ghosts R) (area : areas.Ghosts A) where
   pub sync_led : (result : Result Reply Stop) (desk : Option (Pool R A)) (pool new : Pool R A) → desk ≡ Some pool → IsWhole rack area new → ((x : State) → Represents rack area pool x → SyncLeads rack area x result new)
-      → StopShows area result (Some new) → (x : Desk) → IsPool rack area desk x → SyncDid rack area x result (Some new)
+      → SyncShows area result (Some new) → (x : Desk) → IsPool rack area desk x → SyncDid rack area x result (Some new)
   sync_led result desk pool new is whole leads shows x = subst (λ d. IsPool rack area d x → SyncDid rack area x result (Some new)) (sym is) (by x) where
     by : (x : Desk) → IsPool rack area (Some pool) x → SyncDid rack area x result (Some new)
     by Untouched stands = absurd stands
@@ -301,7 +307,7 @@ module _ {R A : Type 0} (rack : racks.Ghosts R) (area : areas.Ghosts A) where
     by (Made tells count geometry) stands = absurd stands
     by (Shut crash y) stands = absurd stands
     by Unknown stands = absurd stands
-    by (Open y) stands = (whole, leads y stands.1)
+    by (Open y) stands = (whole, shows, leads y stands.1)
     by Foreign stands = (whole, shows)
 
   pub sync_lacks : (reply : Reply) (desk : Option (Pool R A)) → desk ≡ None → reply ≡ NoPool name.Sync → (x : Desk) → IsPool rack area desk x → SyncDid rack area x (Ok reply) desk
@@ -330,27 +336,24 @@ module _ {R A : Type 0} (rack : racks.Ghosts R) (area : areas.Ghosts A) (entry b
     by Foreign stands shelf = foreign
 
   pub exported : (result : Result ℕ SyncFault) (group : ℕ) → result ≡ Ok group → ((y : State) → Represents rack area was y → CarriesOut rack area new y (ExportDoes y result))
-      → ((y : State) → Represents rack area new y → GivesBack y false before.held now.held now.leaves now.counts now.own.uber) → now.own.checks ≡ before.own.checks → (left : Option (Pool R A)) → left ≡ None
-      → (x : Desk) → IsDesk rack area entry before desk x → ExportDid rack area entry x (Some (Exported group)) now left
-  exported result group is does back checks left none = on_open (λ x. ExportDid rack area entry x (Some (Exported group)) now left) by foreign where
+      → ((y : State) → Represents rack area new y → GivesBack y false before.held now.held now.leaves now.counts now.own.uber) → now.own.checks ≡ before.own.checks → TellsAsBefore before now
+      → (left : Option (Pool R A)) → left ≡ None → (x : Desk) → IsDesk rack area entry before desk x → ExportDid rack area entry x (Some (Exported group)) now left
+  exported result group is does back checks tells left none = on_open (λ x. ExportDid rack area entry x (Some (Exported group)) now left) by foreign where
     by : (y : State) → Represents rack area was y → IsOut y before → ExportDid rack area entry (Open y) (Some (Exported group)) now left
     by y stands out =
         let c = does y stands in
         let z : State = record c.reached { store = c.store } in
-        let gives = back z c.represents in
-        let still = still_out y c.reached before c.holds c.follows out c.store in
-        let u : State = left_as z false before now gives in
         record {
-          new = Shut false u;
+          new = Shut false z;
           desk = record {
-            stands = subst (λ l. IsPool rack area l (Shut false u)) (sym none) tt;
-            shelf = shelf_has z false before now gives checks still;
+            stands = subst (λ l. IsPool rack area l (Shut false z)) (sym none) tt;
+            shelf = shelf_has z false before now (back z c.represents) checks tells (still_out y c.reached before c.holds c.follows out c.store);
           };
           turns = record {
             answer = result;
             reply_is = ap export_reply is;
             y = z;
-            new_is = subst (λ r. IsBehind r z (Shut false u)) (sym is) (record { z = u; is = refl; given = is_given z false before now gives still });
+            new_is = sym (ap (λ r. desk_left r z) is);
             leads = record { holds = c.holds; mid = c.reached; store = c.store; follows = c.follows; done = c.done; made = refl };
           };
           failed = λ e. absurd (cc e);
@@ -360,7 +363,7 @@ module _ {R A : Type 0} (rack : racks.Ghosts R) (area : areas.Ghosts A) (entry b
     foreign = record {
       new = Unknown;
       desk = record { stands = subst (λ l. IsPool rack area l Unknown) (sym none) tt; shelf = tt };
-      turns = record { answer = result; reply_is = ap export_reply is; new_is = sym (ap foreign_behind is) };
+      turns = record { answer = result; reply_is = ap export_reply is; new_is = sym (ap foreign_left is) };
       failed = λ e. absurd (cc e);
     }
 
@@ -379,7 +382,7 @@ module _ {R A : Type 0} (rack : racks.Ghosts R) (area : areas.Ghosts A) (entry b
             answer = result;
             reply_is = ap export_reply is ∙ same;
             y = z;
-            new_is = subst (λ r. IsBehind r z (Open z)) (sym is) refl;
+            new_is = sym (ap (λ r. desk_left r z) is);
             leads = record { holds = c.holds; mid = c.reached; store = c.store; follows = c.follows; done = c.done; made = refl };
           };
           failed = λ e at. absurd (cc at);
@@ -387,7 +390,7 @@ module _ {R A : Type 0} (rack : racks.Ghosts R) (area : areas.Ghosts A) (entry b
         (record {
           new = Foreign;
           desk = record { stands = whole; shelf = tt };
-          turns = record { answer = result; reply_is = ap export_reply is ∙ same; new_is = sym (ap foreign_behind is) };
+          turns = record { answer = result; reply_is = ap export_reply is ∙ same; new_is = sym (ap foreign_left is) };
           failed = λ e at. shows e;
         })
 
@@ -403,16 +406,13 @@ module _ {R A : Type 0} (rack : racks.Ghosts R) (area : areas.Ghosts A) (entry b
     by (Err stop.Unbuilt) refused = absurd refused
     by (Err (stop.Record metaslab place kind)) refused = absurd refused
 
-  pub crashed : ((y : State) → Represents rack area was y → GivesBack y true before.held now.held now.leaves now.counts now.own.uber) → now.own.checks ≡ before.own.checks → (left : Option (Pool R A)) → left ≡ None
-      → (x : Desk) → IsDesk rack area entry before desk x → CrashDid rack area entry x Crashed now left
-  crashed back checks left none = on_open (λ x. CrashDid rack area entry x Crashed now left) (λ y stands out.
-      (let gives = back y stands in
-      let u : State = left_as y true before now gives in
-      record {
-        new = Shut true u;
-        desk = record { stands = subst (λ l. IsPool rack area l (Shut true u)) (sym none) tt; shelf = shelf_has y true before now gives checks out };
-        turns = (refl, record { z = u; is = refl; given = is_given y true before now gives out });
-      }))
+  pub crashed : ((y : State) → Represents rack area was y → GivesBack y true before.held now.held now.leaves now.counts now.own.uber) → now.own.checks ≡ before.own.checks → TellsAsBefore before now
+      → (left : Option (Pool R A)) → left ≡ None → (x : Desk) → IsDesk rack area entry before desk x → CrashDid rack area entry x Crashed now left
+  crashed back checks tells left none = on_open (λ x. CrashDid rack area entry x Crashed now left) (λ y stands out. record {
+    new = Shut true y;
+    desk = record { stands = subst (λ l. IsPool rack area l (Shut true y)) (sym none) tt; shelf = shelf_has y true before now (back y stands) checks tells out };
+    turns = (refl, refl);
+  })
       (record {
         new = Unknown;
         desk = record { stands = subst (λ l. IsPool rack area l Unknown) (sym none) tt; shelf = tt };

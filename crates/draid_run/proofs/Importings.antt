@@ -16,7 +16,7 @@ use Rattle.draid_session.specs.Follows.{Follows}
 use Rattle.draid_session.specs.Holds.{Act, AreaFailed, Did, Hold, Looked, MadeLeaf, On, OnUber, RackFailed, Reserved, View}
 use Rattle.draid_session.specs.Making.{vdev_name_of}
 use Rattle.draid_session.specs.Opening.{FreesOlder, HasObjects, Imports}
-use Rattle.draid_session.specs.Session.{Desk, Untouched, Bare, Made, Open, Shut, Foreign, Unknown, LeavesState, RecordFails, ShelfFails, TurnsBy}
+use Rattle.draid_session.specs.Session.{BreaksGiven, Cause, Desk, Untouched, Bare, Made, Open, Shut, Foreign, Unknown, FindsAny, FindsGiven, FindsGivenIf, LeavesState, RecordFails, ShelfFails, TurnsBy}
 use Rattle.draid_session.specs.State.{State}
 use Rattle.draid_pool.specs.Closing.{GivesBack, HoldsPool, Rests}
 use Rattle.draid_pool.specs.Found.{HasRisen, SameChecks}
@@ -32,11 +32,11 @@ use Rattle.draid_pool.specs.declared.pool.Pool.{Pool}
 use Rattle.draid_run.specs.Desks.{Broken, IsDesk, IsPool, IsShelf, Turned}
 use Rattle.draid_run.specs.Importing.{ImportDid, ImportDoes, ImportIs, UnopenedIs}
 use Rattle.draid_run.specs.Serve.{AnswerIs, IsSaid}
-use Rattle.draid_run.specs.Shelves.{HasChecks, HoldsFault, HoldsNew, HoldsShut, IsOut, OnShelf}
+use Rattle.draid_run.specs.Shelves.{HasChecks, HoldsFault, HoldsNew, HoldsShut, IsOut, MayFind, OnShelf, TellsAsBefore}
 use Rattle.draid_run.specs.declared.answer.Stop.{Stop}
 use Rattle.draid_run.specs.declared.answer.Stop.TheVariants as stop
 use Rattle.draid_run.proofs.Following.{same_layout, same_told}
-use Rattle.draid_run.proofs.GivenBack.{is_given, left_as, on_held, shelf_has}
+use Rattle.draid_run.proofs.GivenBack.{on_held, shelf_has}
 use Rattle.draid_run.proofs.Makings.{shut}
 
 -- ---- what was found
@@ -95,6 +95,20 @@ left_told x y told leaves = elim leaves [
   | inr found ↦ found.1.told
 ]
 
+-- by whether the shelf told what was given back
+module _ (y : State) (new : Desk) where
+  given_told : (reply : Reply) → y.told ≡ true → FindsGiven y reply new → FindsGivenIf y.told y reply new
+  given_told reply told finds = subst (λ b. FindsGivenIf b y reply new) (sym told) finds
+
+  given_untold : (reply : Reply) → y.told ≡ false → FindsAny reply new → FindsGivenIf y.told y reply new
+  given_untold reply untold finds = subst (λ b. FindsGivenIf b y reply new) (sym untold) finds
+
+  breaks_told : (cause : Cause) → y.told ≡ true → BreaksGiven true cause y new → BreaksGiven y.told cause y new
+  breaks_told cause told breaks = subst (λ b. BreaksGiven b cause y new) (sym told) breaks
+
+  breaks_untold : (cause : Cause) → y.told ≡ false → new ≡ Unknown → BreaksGiven y.told cause y new
+  breaks_untold cause untold is = subst (λ b. BreaksGiven b cause y new) (sym untold) is
+
 -- ---- the shelf
 
 some_is : {T : Type 0} (o : Option T) (P : T → Type 0) → IsSomeAnd o P → is_some o ≡ true
@@ -136,17 +150,6 @@ shut_there x pieces now r told checks = record {
   counts = r.counted;
   uber = r.uber;
   checks = checks;
-}
-
--- with a crash less is held than without one
-shut_crashed : (x : State) (now : OnShelf) → HoldsShut false x now → HoldsShut true x now
-shut_crashed x now h = record {
-  held = on_held now.held (HoldsPool x false) (HoldsPool x true) (λ held p. record { pieces = p.pieces; rests = p.rests; backed = λ e. absurd (cc e) }) h.held;
-  importable = h.importable;
-  told = h.told;
-  counts = h.counts;
-  uber = h.uber;
-  checks = h.checks;
 }
 
 -- the areas of the check records stay as they were made
@@ -224,7 +227,7 @@ module _ {R A : Type 0} (rack : racks.Ghosts R) (area : areas.Ghosts A) (entry b
     -- ---- refusals
 
     pub no_pool : result ≡ Err fault.NoPool → (x : Desk) → IsPool rack area None x → IsShelf x entry before → ImportDid rack area entry x (NoPool name.Import) now None
-    no_pool is Untouched stands shelf = record { new = Unknown; desk = record { stands = tt; shelf = tt }; turns = refl }
+    no_pool is Untouched stands shelf = record { new = Unknown; desk = record { stands = tt; shelf = tt }; turns = (tt, refl) }
     no_pool is (Made true failed geometry) stands shelf =
         let left = new_left failed geometry shelf in
         record { new = Made true now.own.uber geometry; desk = record { stands = tt; shelf = left.0 }; turns = (now.own.uber, left.1, refl) }
@@ -232,7 +235,7 @@ module _ {R A : Type 0} (rack : racks.Ghosts R) (area : areas.Ghosts A) (entry b
     no_pool is Unknown stands shelf = record { new = Unknown; desk = record { stands = tt; shelf = tt }; turns = refl }
     no_pool is Bare stands shelf =
         let none = bare_none shelf in
-        record { new = Bare; desk = record { stands = tt; shelf = subst (λ (h : Option Held). IsSomeAnd h (λ held. held.uber ≡ None)) (sym none.1.held) shelf }; turns = refl }
+        record { new = Bare; desk = record { stands = tt; shelf = subst (λ (h : Option Held). IsSomeAnd h (λ held. held.uber ≡ None)) (sym none.1.held) shelf }; turns = (refl, refl) }
     no_pool is (Shut crash y) stands shelf = elim (true_or y.told) [
       | inl told ↦
           let found = was y (Err fault.NoPool) is (resting crash y before shelf told) in
@@ -241,9 +244,9 @@ module _ {R A : Type 0} (rack : racks.Ghosts R) (area : areas.Ghosts A) (entry b
           record {
             new = Shut true z;
             desk = record { stands = tt; shelf = shut_there z (resting crash y before shelf told).pieces now found.rests again (called.checks ∙ shelf.checks) };
-            turns = found.is;
+            turns = given_told y (Shut true z) (NoPool name.Import) told found.is;
           }
-      | inr untold ↦ record { new = Unknown; desk = record { stands = tt; shelf = tt }; turns = untold }
+      | inr untold ↦ record { new = Unknown; desk = record { stands = tt; shelf = tt }; turns = given_untold y Unknown (NoPool name.Import) untold refl }
     ]
     no_pool is (Open y) stands shelf = absurd stands
     no_pool is Foreign stands shelf = absurd stands
@@ -263,9 +266,9 @@ module _ {R A : Type 0} (rack : racks.Ghosts R) (area : areas.Ghosts A) (entry b
           record {
             new = Shut true z;
             desk = record { stands = tt; shelf = shut_there z (resting crash y before shelf told).pieces now left.rests (left_told y z told left.is) (called.checks ∙ shelf.checks) };
-            turns = inl left.is;
+            turns = given_told y (Shut true z) (NoMemory name.Import) told left.is;
           }
-      | inr untold ↦ record { new = Unknown; desk = record { stands = tt; shelf = tt }; turns = untold }
+      | inr untold ↦ record { new = Unknown; desk = record { stands = tt; shelf = tt }; turns = given_untold y Unknown (NoMemory name.Import) untold refl }
     ]
     no_memory is (Open y) stands shelf = absurd stands
     no_memory is Foreign stands shelf = absurd stands
@@ -285,10 +288,10 @@ module _ {R A : Type 0} (rack : racks.Ghosts R) (area : areas.Ghosts A) (entry b
           record {
             new = Shut true z;
             desk = record { stands = tt; shelf = shut_there z (resting crash y before shelf told).pieces now left.rests (left_told y z told left.is) (called.checks ∙ shelf.checks) };
-            breaks = left.is;
+            breaks = breaks_told y (Shut true z) ShelfFails told (z, refl, left.is);
             cause = (tt, called.cause is);
           }
-      | inr untold ↦ record { new = Unknown; desk = record { stands = tt; shelf = tt }; breaks = untold; cause = (tt, called.cause is) }
+      | inr untold ↦ record { new = Unknown; desk = record { stands = tt; shelf = tt }; breaks = breaks_untold y Unknown ShelfFails untold refl; cause = (tt, called.cause is) }
     ]
     shelf_failed is (Open y) stands shelf = absurd stands
     shelf_failed is Foreign stands shelf = absurd stands
@@ -302,7 +305,7 @@ module _ {R A : Type 0} (rack : racks.Ghosts R) (area : areas.Ghosts A) (entry b
     record_fails metaslab place kind is Bare stands shelf = absurd (let z = sym is ∙ (bare_none shelf).0 in cc)
     record_fails metaslab place kind is (Shut crash y) stands shelf = elim (true_or y.told) [
       | inl told ↦ absurd (was y (Err (fault.Record metaslab place kind)) is (resting crash y before shelf told))
-      | inr untold ↦ record { new = Unknown; desk = record { stands = tt; shelf = tt }; breaks = untold; cause = tt }
+      | inr untold ↦ record { new = Unknown; desk = record { stands = tt; shelf = tt }; breaks = breaks_untold y Unknown RecordFails untold refl; cause = tt }
     ]
     record_fails metaslab place kind is (Open y) stands shelf = absurd stands
     record_fails metaslab place kind is Foreign stands shelf = absurd stands
@@ -333,11 +336,11 @@ module _ {R A : Type 0} (rack : racks.Ghosts R) (area : areas.Ghosts A) (entry b
           → ((s : State) → Represents rack area pool s → HasObjects s.store.changes objects)
           → (x : Desk) → IsPool rack area None x → IsShelf x entry before → ImportDid rack area entry x (Imported called_name group objects) now (Some pool)
       imported called_name geometry group objects named layout committed counted = by where
-        foreign : (x : Desk) → ImportDoes x (Imported called_name group objects) Foreign → ImportDid rack area entry x (Imported called_name group objects) now (Some pool)
+        foreign : (x : Desk) → ImportDoes rack area entry x (Imported called_name group objects) Foreign → ImportDid rack area entry x (Imported called_name group objects) now (Some pool)
         foreign x turns = record { new = Foreign; desk = record { stands = whole; shelf = tt }; turns = turns }
 
         by : (x : Desk) → IsPool rack area None x → IsShelf x entry before → ImportDid rack area entry x (Imported called_name group objects) now (Some pool)
-        by Untouched stands shelf = foreign Untouched refl
+        by Untouched stands shelf = foreign Untouched (tt, refl)
         by (Made true failed geo) stands shelf = absurd (new_none failed geo (Ok pool) is shelf)
         by (Made false failed geo) stands shelf = foreign (Made false failed geo) refl
         by Unknown stands shelf = foreign Unknown refl
@@ -350,21 +353,21 @@ module _ {R A : Type 0} (rack : racks.Ghosts R) (area : areas.Ghosts A) (entry b
               record {
                 new = Open new;
                 desk = record { stands = (whole, f.represents); shelf = out crash y new shelf rest (found_told y f.group new f.imports) };
-                turns = (
+                turns = given_told y (Open new) (Imported called_name group objects) told (
                   subst (λ t. Imports y t new) (sym (committed new f.represents ∙ found_committed y f.group new f.imports)) f.imports,
                   named ∙ ap (λ (l : Geometry). vdev_name_of l.spec) (layout new f.represents ∙ found_geometry y f.group new f.imports),
                   counted new f.represents,
                 );
               }
-          | inr untold ↦ foreign (Shut crash y) untold
+          | inr untold ↦ foreign (Shut crash y) (given_untold y Foreign (Imported called_name group objects) untold refl)
         ]
         by (Open y) stands shelf = absurd stands
         by Foreign stands shelf = absurd stands
 
       -- there was no memory for its name, and it is given back
-      pub unnamed : (late : OnShelf) → ((s : State) → Represents rack area pool s → GivesBack s false now.held late.held late.leaves late.counts late.own.uber) → late.own.checks ≡ now.own.checks
+      pub unnamed : (late : OnShelf) → ((s : State) → Represents rack area pool s → GivesBack s false now.held late.held late.leaves late.counts late.own.uber) → late.own.checks ≡ now.own.checks → TellsAsBefore now late
           → (x : Desk) → IsPool rack area None x → IsShelf x entry before → ImportDid rack area entry x (NoMemory name.Import) late None
-      unnamed late back checks = by where
+      unnamed late back checks tells = by where
         by : (x : Desk) → IsPool rack area None x → IsShelf x entry before → ImportDid rack area entry x (NoMemory name.Import) late None
         by Untouched stands shelf = record { new = Unknown; desk = record { stands = tt; shelf = tt }; turns = refl }
         by (Made true failed geo) stands shelf = absurd (new_none failed geo (Ok pool) is shelf)
@@ -377,14 +380,12 @@ module _ {R A : Type 0} (rack : racks.Ghosts R) (area : areas.Ghosts A) (entry b
               let f = found y rest in
               let new : State = f.new in
               let away = out crash y new shelf rest (found_told y f.group new f.imports) in
-              let gives = back new f.represents in
-              let u : State = left_as new false now late gives in
               record {
-                new = Shut true u;
-                desk = record { stands = tt; shelf = shut_crashed u late (shelf_has new false now late gives checks away) };
-                turns = inr (record { group = f.group; mid = new; imports = f.imports; given = is_given new false now late gives away });
+                new = Shut false new;
+                desk = record { stands = tt; shelf = shelf_has new false now late (back new f.represents) checks tells away };
+                turns = given_told y (Shut false new) (NoMemory name.Import) told (f.group, f.imports);
               }
-          | inr untold ↦ record { new = Unknown; desk = record { stands = tt; shelf = tt }; turns = untold }
+          | inr untold ↦ record { new = Unknown; desk = record { stands = tt; shelf = tt }; turns = given_untold y Unknown (NoMemory name.Import) untold refl }
         ]
         by (Open y) stands shelf = absurd stands
         by Foreign stands shelf = absurd stands
@@ -408,14 +409,15 @@ module _ {R A : Type 0} (rack : racks.Ghosts R) (area : areas.Ghosts A) (entry b
 module _ {R A : Type 0} (rack : racks.Ghosts R) (area : areas.Ghosts A) (chosen : List Room → Option ℕ → Type 0) (entry before now : OnShelf) where
   by_import : (x : Desk) (reply : Reply) (pool : Option (Pool R A)) → ImportDid rack area entry x reply now pool → Turned rack area chosen (Ok ImportPool) entry x (Some reply) now pool
   by_import x reply pool did = record { new = did.new; desk = did.desk; turns = by x did.new did.turns } where
-    by : (x : Desk) (new : Desk) → ImportDoes x reply new → TurnsBy chosen (Ok ImportPool) x (Some reply) new
+    by : (x : Desk) (new : Desk) → ImportDoes rack area entry x reply new → TurnsBy chosen (MayFind rack area entry) (Ok ImportPool) x (Some reply) new
     by Untouched new turns = turns
     by Bare new turns = turns
     by (Made t count geometry) new turns = turns
     by (Shut crash y) new turns = turns
     by Unknown new turns = turns
-    by Foreign new turns = turns
-    by (Open y) new turns = subst (λ r. TurnsBy chosen (Ok ImportPool) (Open y) (Some r) new) (sym turns.0) turns.1
+    by Foreign new turns = subst (λ r. TurnsBy chosen (MayFind rack area entry) (Ok ImportPool) Foreign (Some r) new) (sym turns.0) (tt, turns.1)
+    by (Open y) new turns = subst (λ r. TurnsBy chosen (MayFind rack area entry) (Ok ImportPool) (Open y) (Some r) new) (sym turns.0)
+        (y, record { holds = []; mid = y; store = y.store; follows = refl; does = (refl, refl); made = refl }, turns.1)
 
   pub answer_import : (pool : Option (Pool R A)) (x : Desk) (new : Option (Pool R A)) (given : Result Reply Stop) (result : Result (Option Reply) Stop) → IsSaid given result
       → ImportIs rack area entry before x now new given → AnswerIs rack area chosen ImportPool entry before pool x now new result

@@ -1,4 +1,5 @@
 pub mod Asking
+pub mod Behind
 pub mod Broke
 pub mod Ended
 pub mod Ending
@@ -10,6 +11,7 @@ pub mod Grouping
 pub mod Importings
 pub mod Known
 pub mod Makings
+pub mod Next
 pub mod Printing
 pub mod Risen
 pub mod Runs

@@ -19,7 +19,7 @@ use Rattle.draid_script.specs.declared.name.CommandName.TheVariants as name
 use Rattle.draid_reply.specs.declared.reply.Reply.{Reply}
 use Rattle.draid_reply.specs.declared.reply.Reply.TheVariants.{Created, CreateRefused, NoMemory, PoolOpen}
 use Rattle.draid_session.specs.Making.{IsFresh, Makes, layout_by, layout_from, props_of, vdev_name_of}
-use Rattle.draid_session.specs.Session.{Desk, Untouched, Bare, Made, Open, Shut, Foreign, Unknown, Breaks, MakesNone, ShelfFails, StaysShut, uncommitted}
+use Rattle.draid_session.specs.Session.{Desk, Untouched, Bare, Made, Open, Shut, Foreign, Unknown, Breaks, MakesNone, ShelfFails, uncommitted}
 use Rattle.draid_session.specs.State.{State}
 use Rattle.draid_pool.specs.Closing.{HoldsPool, SameCounts}
 use Rattle.draid_pool.specs.Importable.{HasImageLeaves, IsImportable}
@@ -117,15 +117,6 @@ module _ {R A : Type 0} (rack : racks.Ghosts R) (area : areas.Ghosts A) where
   is_closed Unknown is = tt
   is_closed Foreign is = absurd is
   is_closed (Open z) is = absurd is
-
-  stays_shut : (x : Desk) → IsPool rack area None x → StaysShut x x
-  stays_shut Untouched is = refl
-  stays_shut (Made tells count geometry) is = refl
-  stays_shut (Shut crash z) is = refl
-  stays_shut Bare is = refl
-  stays_shut Unknown is = refl
-  stays_shut Foreign is = absurd is
-  stays_shut (Open z) is = absurd is
 
   turns_refused : (text : List ℕ) (children : ℕ) (keys : PoolKeys) (x : Desk) (why : SpecFault) → IsPool rack area None x → layout_by text children keys ≡ Err why → CreateTurns text children keys x (CreateRefused why) x
   turns_refused text children keys Untouched why is none = (none, refl)
@@ -292,7 +283,7 @@ module _ {R A : Type 0} (rack : racks.Ghosts R) (area : areas.Ghosts A) where
         | inl same ↦ (
           x,
           record { stands = subst (λ p. IsPool rack area p x) (sym none) stands; shelf = same_shelf x entry before now (not_open x stands) same shelf },
-          (has.0, layout_is (Ok has.0) has.1, inl (stays_shut x stands)),
+          (has.0, layout_is (Ok has.0) has.1, inl refl),
           is_closed x stands,
         )
         | inr all ↦ elim all.2 [

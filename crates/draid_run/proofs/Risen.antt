@@ -140,9 +140,7 @@ record_closed Bare new command breaks = tt
 record_closed (Made tells count geometry) new command breaks = tt
 record_closed (Shut crash x) new command breaks = tt
 record_closed Unknown new command breaks = tt
-record_closed (Open x) new ImportPool breaks = absurd breaks
 record_closed (Open x) new command breaks = absurd breaks
-record_closed Foreign new ImportPool breaks = absurd breaks
 record_closed Foreign new command breaks = absurd breaks
 
 -- and what it says of that record

@@ -1,13 +1,49 @@
-use Rattle.std.proofs.Common.{refl, sym, ℕ, List, [], ◌∷◌, ◌++◌, Option}
+use Rattle.std.proofs.Common.{refl, sym, subst, ◌≡◌, ℕ, List, Bool, true, [], ◌∷◌, ◌++◌, Option, Some, None}
+use Rattle.std.specs.Prelude.{IsSomeAnd, is_some}
 use Rattle.draid_names.specs.declared.room.Room.{Room}
+use Rattle.draid_rack.specs.declared.Rack as racks
+use Rattle.draid_area.specs.declared.Area as areas
 use Rattle.draid_script.specs.Grammar.{line_of}
 use Rattle.draid_reply.specs.declared.reply.Reply.{Reply}
-use Rattle.draid_session.specs.Session.{Desk, Runs, TurnsBy}
+use Rattle.draid_session.specs.Session.{Agrees, Desk, Finding, Untouched, Bare, Made, Open, Shut, Foreign, Unknown, Runs, TurnsBy}
+use Rattle.draid_pool.specs.declared.pool.Pool.{Pool}
+use Rattle.draid_run.specs.Desks.{IsDesk}
+use Rattle.draid_run.specs.Shelves.{HoldsDesk, OnShelf, TellsAsBefore}
 
 -- one more line is answered
-pub runs_more : (chosen : List Room → Option ℕ → Type 0) (start : Desk) (lines : List (List ℕ)) (replies : List (Option Reply)) (mid : Desk) (line : List ℕ) (reply : Option Reply) (new : Desk)
-    → Runs chosen start lines replies mid → TurnsBy chosen (line_of line) mid reply new → Runs chosen start (lines ++ line ∷ []) (replies ++ reply ∷ []) new
-runs_more chosen start [] [] mid line reply new runs turns = (new, rw (sym runs) turns, refl)
-runs_more chosen start [] (r ∷ rs) mid line reply new runs turns = absurd runs
-runs_more chosen start (l ∷ ls) [] mid line reply new runs turns = absurd runs
-runs_more chosen start (l ∷ ls) (r ∷ rs) mid line reply new runs turns = (runs.0, runs.1, runs_more chosen runs.0 ls rs mid line reply new runs.2 turns)
+pub runs_more : (chosen : List Room → Option ℕ → Type 0) (finds : Finding → Type 0) (tells : Bool) (start : Desk) (lines : List (List ℕ)) (replies : List (Option Reply)) (mid : Desk) (line : List ℕ) (reply : Option Reply) (new : Desk)
+    → Runs chosen finds tells start lines replies mid → TurnsBy chosen finds (line_of line) mid reply new → Agrees tells new → Runs chosen finds tells start (lines ++ line ∷ []) (replies ++ reply ∷ []) new
+runs_more chosen finds tells start [] [] mid line reply new runs turns agrees = (new, rw (sym runs) turns, agrees, refl)
+runs_more chosen finds tells start [] (r ∷ rs) mid line reply new runs turns agrees = absurd runs
+runs_more chosen finds tells start (l ∷ ls) [] mid line reply new runs turns agrees = absurd runs
+runs_more chosen finds tells start (l ∷ ls) (r ∷ rs) mid line reply new runs turns agrees = (runs.0, runs.1, runs.2, runs_more chosen finds tells runs.0 ls rs mid line reply new runs.3 turns agrees)
+
+-- ---- whether the shelf tells
+
+some_told : {T : Type 0} (o : Option T) (P : T → Type 0) → IsSomeAnd o P → true ≡ is_some o
+some_told None P p = absurd p
+some_told (Some t) P p = refl
+
+desk_tells : {R A : Type 0} (rack : racks.Ghosts R) (area : areas.Ghosts A) (entry now : OnShelf) (pool : Option (Pool R A)) (x : Desk) → IsDesk rack area entry now pool x → Agrees (is_some now.held) x
+desk_tells rack area entry now pool Untouched is = tt
+desk_tells rack area entry now pool Bare is = some_told now.held _ is.shelf
+desk_tells rack area entry now pool (Made told failed geometry) is = is.shelf.told_is
+desk_tells rack area entry now pool (Open x) is = is.shelf.told
+desk_tells rack area entry now pool (Shut crash x) is = is.shelf.told
+desk_tells rack area entry now pool Foreign is = tt
+desk_tells rack area entry now pool Unknown is = tt
+
+-- a desk says of the shelf what it does, as it did at the entry
+pub desk_agrees : {R A : Type 0} (rack : racks.Ghosts R) (area : areas.Ghosts A) (entry now : OnShelf) (pool : Option (Pool R A)) (x : Desk) → TellsAsBefore entry now → IsDesk rack area entry now pool x
+    → Agrees (is_some entry.held) x
+desk_agrees rack area entry now pool x tells is = subst (λ b. Agrees b x) tells (desk_tells rack area entry now pool x is)
+
+-- so does one without a pool
+pub shelf_agrees : (x : Desk) (entry now : OnShelf) → HoldsDesk x entry now → Agrees (is_some now.held) x
+shelf_agrees Untouched entry now is = tt
+shelf_agrees Bare entry now is = some_told now.held _ is
+shelf_agrees (Made told failed geometry) entry now is = is.told_is
+shelf_agrees (Open x) entry now is = absurd is
+shelf_agrees (Shut crash x) entry now is = is.told
+shelf_agrees Foreign entry now is = absurd is
+shelf_agrees Unknown entry now is = tt

@@ -1,6 +1,6 @@
 -- What the loop over the lines keeps, and what its ends come to.
 use Rattle.std.proofs.Common.{arith, refl, sym, ap, ◌≡◌, ◌∙◌, ◌+◌, ◌≤◌, inl, inr, ℕ, List, [], ◌∷◌, ◌++◌, Option, Some, None, Result, Ok, Err, Vec, Global, subst, append_assoc, length-append}
-use Rattle.std.specs.Prelude.{flat_map, ⊤}
+use Rattle.std.specs.Prelude.{flat_map, is_some, ⊤}
 use Rattle.std.specs.Io.KnownBytes.{prepend_known}
 use Rattle.std.proofs.lemmas.Grind.{flat_map-append}
 use Rattle.std.proofs.lemmas.List.{append-nil}
@@ -11,18 +11,18 @@ use Rattle.draid_lines.proofs.Ends.{lines_none}
 use Rattle.draid_lines.specs.Lines.{most_lines, Rest, WhereKnown, lines_of}
 use Rattle.draid_script.specs.Grammar.{line_of}
 use Rattle.draid_reply.specs.declared.reply.Reply.{Reply}
-use Rattle.draid_session.specs.Session.{Desk, Untouched, Bare, Made, Open, Shut, Foreign, Unknown, RecordFails, ShelfFails}
+use Rattle.draid_session.specs.Session.{Desk, Untouched, Bare, Made, Open, Shut, Foreign, Unknown, RecordFails, Runs, ShelfFails}
 use Rattle.draid_pool.specs.declared.pool.Pool.{Pool}
 use Rattle.draid_run.specs.Desks.{IsDesk, Turned}
 use Rattle.draid_run.specs.Script.{Ends, FaultyShut, LineFaultIs, said_text, texts_of}
 use Rattle.draid_run.specs.Serve.{BrokenLine, Cut, LineIs, Printed, Served, Serving, TextIs}
-use Rattle.draid_run.specs.Shelves.{HasFailed, HasFault, HoldsDesk, HoldsFault, OnShelf}
+use Rattle.draid_run.specs.Shelves.{HasFailed, HasFault, HoldsDesk, HoldsFault, MayFind, OnShelf, TellsAsBefore}
 use Rattle.draid_run.specs.declared.status.Status.{Status}
 use Rattle.draid_run.specs.declared.status.Status.TheVariants.{Done, Usage, Line, SourceFault, SinkFault, NoMemory, TooLong, ShelfFault, Record}
 use Rattle.draid_run.proofs.Exits.{rose_from}
 use Rattle.draid_run.proofs.Known.{appends_more, appends_none, known_input, known_on}
 use Rattle.draid_run.proofs.Risen.{cause_fault, fails_shut, faulty_shut}
-use Rattle.draid_run.proofs.Runs.{runs_more}
+use Rattle.draid_run.proofs.Runs.{desk_agrees, runs_more}
 
 -- the texts of one more reply
 texts_more : (replies : List (Option Reply)) (reply : Option Reply) → texts_of (replies ++ reply ∷ []) ≡ texts_of replies ++ said_text reply
@@ -137,12 +137,21 @@ module _ {R A : Type 0} (rack : racks.Ghosts R) (area : areas.Ghosts A) (chosen 
   serving_start input start lines pool is none first at = rw is (rw none (serving_none input start first at))
 
   module _ (first : Desk) where
+    -- the lines so far, and one more
+    abbrev RunsSo : List (List ℕ) → List (Option Reply) → Desk → Type 0
+    RunsSo lines replies new = Runs chosen (MayFind rack area entry) (is_some entry.held) first lines replies new
+
+    more : (lines : List (List ℕ)) (replies : List (Option Reply)) (mid : Desk) (line : List ℕ) (reply : Option Reply) (now : OnShelf) (pool : Option (Pool R A)) → RunsSo lines replies mid
+        → (turned : Turned rack area chosen (line_of line) entry mid reply now pool) → TellsAsBefore entry now → RunsSo (lines ++ line ∷ []) (replies ++ reply ∷ []) turned.new
+    more lines replies mid line reply now pool runs turned tells =
+        runs_more chosen (MayFind rack area entry) (is_some entry.held) first lines replies mid line reply turned.new runs turned.turns (desk_agrees rack area entry now pool turned.new tells turned.desk)
+
     pub serving_more : (input rest rest' start held held' : Option (List ℕ)) (before now : OnShelf) (pool pool' : Option (Pool R A)) (count : ℕ) (line : List ℕ)
         → (is : Serving rack area chosen first input rest start held entry before pool count)
         → WhereKnown rest rest' (λ old new. lines_of old ≡ line ∷ lines_of new)
-        → Printed rack area chosen line entry is.reached now pool' held held'
+        → Printed rack area chosen line entry is.reached now pool' held held' → TellsAsBefore entry now
         → Serving rack area chosen first input rest' start held' entry now pool' (count + 1)
-    serving_more input rest rest' start held held' before now pool pool' count line is behind printed =
+    serving_more input rest rest' start held held' before now pool pool' count line is behind printed tells =
         let counted = is.count_is in
         let longer = length-append is.lines (line ∷ []) in
         record {
@@ -151,7 +160,7 @@ module _ {R A : Type 0} (rack : racks.Ghosts R) (area : areas.Ghosts A) (chosen 
           reached = printed.turned.new;
           count_is = omega (arith, counted, longer);
           desk = printed.turned.desk;
-          runs = runs_more chosen first is.lines is.replies is.reached line printed.reply printed.turned.new is.runs printed.turned.turns;
+          runs = more is.lines is.replies is.reached line printed.reply now pool' is.runs printed.turned tells;
           known = known_on input rest rest' _ _ _ (λ x y z a b. lines_more x y z is.lines line a b) is.known behind;
           printed = rw (texts_more is.replies printed.reply) (appends_more start held held' _ _ is.printed printed.prints);
           unanswered = λ none. absurd (not_none is.lines line none);
@@ -296,7 +305,7 @@ module _ {R A : Type 0} (rack : racks.Ghosts R) (area : areas.Ghosts A) (chosen 
         bad = λ metaslab place kind e. absurd (cc e);
       }
 
-      module _ (now : OnShelf) (pool' : Option (Pool R A)) where
+      module _ (now : OnShelf) (pool' : Option (Pool R A)) (tells : TellsAsBefore entry now) where
         -- its reply could not be put
         unput : (held' : Option (List ℕ)) → Cut rack area chosen line entry is.reached now pool' held held' → Served rack area chosen first SinkFault input start held' entry now pool'
         unput held' cut = record {
@@ -307,7 +316,7 @@ module _ {R A : Type 0} (rack : racks.Ghosts R) (area : areas.Ghosts A) (chosen 
           last = cut.turned.new;
           broken = None;
           desk = cut.turned.desk;
-          runs = runs_more chosen first is.lines is.replies is.reached line (Some cut.reply) cut.turned.new is.runs cut.turned.turns;
+          runs = more is.lines is.replies is.reached line (Some cut.reply) now pool' is.runs cut.turned tells;
           breaks = refl;
           ends = known_input input rest' _ _ (λ x z e. (lines_of z, e))
               (known_on input rest rest' _ _ _ (λ x y z a b. lines_more x y z is.lines line a b) is.known behind);
@@ -328,7 +337,7 @@ module _ {R A : Type 0} (rack : racks.Ghosts R) (area : areas.Ghosts A) (chosen 
           last = turned.new;
           broken = None;
           desk = turned.desk;
-          runs = runs_more chosen first is.lines is.replies is.reached line (Some reply) turned.new is.runs turned.turns;
+          runs = more is.lines is.replies is.reached line (Some reply) now pool' is.runs turned tells;
           breaks = refl;
           ends = known_input input rest' _ _ (λ x z e. (lines_of z, e))
               (known_on input rest rest' _ _ _ (λ x y z a b. lines_more x y z is.lines line a b) is.known behind);

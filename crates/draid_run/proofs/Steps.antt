@@ -1,9 +1,8 @@
 -- What the calls of a pool did, in the words of a session.
-use Rattle.std.proofs.Common.{◌≡◌, ◌∙◌, ℕ, List, Bool, Option, Some, None, Ok, refl, subst, sym}
+use Rattle.std.proofs.Common.{◌≡◌, ◌∙◌, ℕ, List, [], Option, Some, None, Ok, refl, subst, sym}
 use Rattle.draid_rack.specs.declared.Rack as racks
 use Rattle.draid_area.specs.declared.Area as areas
 use Rattle.draid_names.specs.declared.room.Room.{Room}
-use Rattle.draid_spec.specs.declared.layout.Geometry.{Geometry}
 use Rattle.draid_script.specs.Line.{Command, Silent, CreatePool, ImportPool, ExportPool, SyncPool, CancelPasses, CrashPool, WriteObject, FillObjects, ReadObject, FreeObject, SumObjects, TakeOffline, TakeOnline, DamageSector, AttachSpare, ReplaceDisk, DetachArm, RebuildPool, ScrubPool, RebalanceSlot, ShowStatus, OpenLanes, UpgradePool, RunAgent, ShowJournal, TakeCheckpoint, RewindPool, DiscardCheckpoint}
 use Rattle.draid_script.specs.declared.line.PoolKeys.{PoolKeys}
 use Rattle.draid_script.specs.declared.name.CommandName.{CommandName}
@@ -11,8 +10,9 @@ use Rattle.draid_reply.specs.declared.reply.Reply.{Reply}
 use Rattle.draid_reply.specs.declared.reply.Reply.TheVariants.{NoPool}
 use Rattle.draid_session.specs.Follows.{Follows}
 use Rattle.draid_session.specs.Holds.{Hold}
+use Rattle.draid_session.specs.Replies.{IsReplyTo}
 use Rattle.draid_session.specs.Session as session
-use Rattle.draid_session.specs.Session.{Desk, Untouched, Bare, Made, Open, Shut, Foreign, Unknown, TurnsBy}
+use Rattle.draid_session.specs.Session.{Desk, Finding, Untouched, Bare, Made, Open, Shut, Foreign, Unknown, TurnsBy}
 use Rattle.draid_session.specs.State.{State, Store}
 use Rattle.draid_pool.specs.Carries.{CarriesOut}
 use Rattle.draid_pool.specs.Pools.{Represents}
@@ -20,7 +20,8 @@ use Rattle.draid_pool.specs.Whole.{IsWhole}
 use Rattle.draid_pool.specs.declared.pool.Pool.{Pool}
 use Rattle.draid_run.specs.Desks.{IsDesk, IsPool, PoolDid, ReplyDoes, Turned, asked_in}
 use Rattle.draid_run.specs.Making.{CreateDid, CreateTurns}
-use Rattle.draid_run.specs.Shelves.{IsOut, OnShelf}
+use Rattle.draid_run.specs.Shelves.{IsOut, MayFind, OnShelf}
+use Rattle.draid_run.proofs.Behind.{asked_keeps, open_behind, still_foreign}
 use Rattle.draid_run.proofs.Following.{same_told}
 
 -- what an answer says, said otherwise
@@ -53,18 +54,18 @@ still_out x y now holds follows out store = record { held = out.held; checks = o
 
 module _ {R A : Type 0} (rack : racks.Ghosts R) (area : areas.Ghosts A) (chosen : List Room → Option ℕ → Type 0) (command : Command) (called : CommandName) (reply : Reply) where
   -- a command was carried out on the pool that is open
-  pub did_open : (desk : Option (Pool R A)) (pool new : Pool R A) → desk ≡ Some pool → IsWhole rack area new
+  pub did_open : (desk : Option (Pool R A)) (pool new : Pool R A) → desk ≡ Some pool → IsWhole rack area new → IsReplyTo command reply
       → ((x : State) → Represents rack area pool x → CarriesOut rack area new x (ReplyDoes x chosen command reply))
       → (x : Desk) → IsPool rack area desk x → PoolDid rack area chosen command called x reply (Some new)
-  did_open desk pool new is whole step x = subst (λ d. IsPool rack area d x → PoolDid rack area chosen command called x reply (Some new)) (sym is) (by x) where
+  did_open desk pool new is whole fits step x = subst (λ d. IsPool rack area d x → PoolDid rack area chosen command called x reply (Some new)) (sym is) (by x) where
     by : (x : Desk) → IsPool rack area (Some pool) x → PoolDid rack area chosen command called x reply (Some new)
     by Untouched stands = absurd stands
     by Bare stands = absurd stands
     by (Made tells count geometry) stands = absurd stands
     by (Shut crash y) stands = absurd stands
     by Unknown stands = absurd stands
-    by (Open y) stands = (whole, step y stands.1)
-    by Foreign stands = whole
+    by (Open y) stands = (whole, fits, step y stands.1)
+    by Foreign stands = (whole, fits)
 
   -- no pool is open, and the reply says so
   pub did_shut : (desk new : Option (Pool R A)) → desk ≡ None → new ≡ None → reply ≡ NoPool called → (x : Desk) → IsPool rack area desk x → PoolDid rack area chosen command called x reply new
@@ -78,48 +79,82 @@ module _ {R A : Type 0} (rack : racks.Ghosts R) (area : areas.Ghosts A) (chosen 
     by (Open y) stands = absurd stands
     by Foreign stands = absurd stands
 
+-- a command that wants a pool, where none is open
+module _ (chosen : List Room → Option ℕ → Type 0) (finds : Finding → Type 0) where
+  shut_says : (command : Command) (called : CommandName) → asked_in command ≡ Some called → (x : Desk) → session.ShutTurns finds x command (NoPool called) x
+  shut_says (WriteObject o bytes) called is x = (called, is, refl, refl)
+  shut_says (FillObjects first count len seed) called is x = (called, is, refl, refl)
+  shut_says (ReadObject o) called is x = (called, is, refl, refl)
+  shut_says (FreeObject o) called is x = (called, is, refl, refl)
+  shut_says (SumObjects first count) called is x = (called, is, refl, refl)
+  shut_says (DamageSector leaf sector) called is x = (called, is, refl, refl)
+  shut_says (ShowStatus form) called is x = (called, is, refl, refl)
+  shut_says command called is x = absurd (cc is)
+
+  by_desk : {R A : Type 0} (rack : racks.Ghosts R) (area : areas.Ghosts A) (command : Command) (reply : Reply) (x : Desk) → IsPool rack area None x → session.ShutTurns finds x command reply x
+      → session.ReplyTurns chosen finds x command reply x
+  by_desk rack area command reply Untouched stands says = says
+  by_desk rack area command reply Bare stands says = says
+  by_desk rack area command reply (Made told count geometry) stands says = says
+  by_desk rack area command reply (Shut crash y) stands says = says
+  by_desk rack area command reply Unknown stands says = says
+  by_desk rack area command reply Foreign stands says = absurd stands
+  by_desk rack area command reply (Open y) stands says = absurd stands
+
 module _ {R A : Type 0} (rack : racks.Ghosts R) (area : areas.Ghosts A) (chosen : List Room → Option ℕ → Type 0) (entry now : OnShelf) (desk : Option (Pool R A)) (reply : Reply) where
-  turned_by : (command : Command) (called : CommandName)
-      → ((x y : State) → session.CarriesOut chosen command reply x y → TurnsBy chosen (Ok command) (Open x) (Some reply) (Open y))
-      → TurnsBy chosen (Ok command) Untouched (Some (NoPool called)) Untouched
-      → ((tells : Bool) (count : ℕ) (geometry : Geometry) → TurnsBy chosen (Ok command) (Made tells count geometry) (Some (NoPool called)) (Made tells count geometry))
-      → ((crash : Bool) (y : State) → TurnsBy chosen (Ok command) (Shut crash y) (Some (NoPool called)) (Shut crash y))
-      → TurnsBy chosen (Ok command) Bare (Some (NoPool called)) Bare → TurnsBy chosen (Ok command) Unknown (Some (NoPool called)) Unknown → TurnsBy chosen (Ok command) Foreign (Some reply) Foreign
+  -- a command has this reply
+  abbrev TurnsTo : Command → Desk → Reply → Desk → Type 0
+  TurnsTo command x said new = TurnsBy chosen (MayFind rack area entry) (Ok command) x (Some said) new
+
+  turned_by : (command : Command) (called : CommandName) → asked_in command ≡ Some called
+      → ((x y : State) → session.CarriesOut chosen command reply x y → Open y ≡ session.desk_behind reply y → TurnsTo command (Open x) reply (Open y))
+      → (IsReplyTo command reply → Foreign ≡ session.foreign_behind reply → TurnsTo command Foreign reply Foreign)
+      → ((x : Desk) → IsPool rack area None x → TurnsTo command x (NoPool called) x)
       → (x : Desk) (new : Option (Pool R A)) → IsDesk rack area entry now desk x → PoolDid rack area chosen command called x reply new → Turned rack area chosen (Ok command) entry x (Some reply) now new
-  turned_by command called turns untouched made shut bare unknown foreign = by where
-    told : (x : Desk) (new : Option (Pool R A)) → (reply ≡ NoPool called) × (new ≡ None) → IsPool rack area None x → IsDesk rack area entry now desk x → TurnsBy chosen (Ok command) x (Some (NoPool called)) x
-        → Turned rack area chosen (Ok command) entry x (Some reply) now new
-    told x new said stands is turns =
+  turned_by command called asked turns foreign shut = by where
+    says : (x : Desk) (new : Option (Pool R A)) → (reply ≡ NoPool called) × (new ≡ None) → IsPool rack area None x → IsDesk rack area entry now desk x → Turned rack area chosen (Ok command) entry x (Some reply) now new
+    says x new said stands is =
         subst (λ r. Turned rack area chosen (Ok command) entry x (Some r) now new) (sym said.0)
         (subst (λ d. Turned rack area chosen (Ok command) entry x (Some (NoPool called)) now d) (sym said.1)
-        (record { new = x; desk = record { stands = stands; shelf = is.shelf }; turns = turns }))
+        (record { new = x; desk = record { stands = stands; shelf = is.shelf }; turns = shut x stands }))
 
     by : (x : Desk) (new : Option (Pool R A)) → IsDesk rack area entry now desk x → PoolDid rack area chosen command called x reply new → Turned rack area chosen (Ok command) entry x (Some reply) now new
-    by Untouched new is did = told Untouched new did tt is untouched
-    by (Made tells count geometry) new is did = told (Made tells count geometry) new did tt is (made tells count geometry)
-    by (Shut crash y) new is did = told (Shut crash y) new did tt is (shut crash y)
-    by Bare new is did = told Bare new did tt is bare
-    by Unknown new is did = told Unknown new did tt is unknown
+    by Untouched new is did = says Untouched new did tt is
+    by (Made tells count geometry) new is did = says (Made tells count geometry) new did tt is
+    by (Shut crash y) new is did = says (Shut crash y) new did tt is
+    by Bare new is did = says Bare new did tt is
+    by Unknown new is did = says Unknown new did tt is
     by Foreign None is did = absurd did
-    by Foreign (Some new) is did = record { new = Foreign; desk = record { stands = did; shelf = tt }; turns = foreign }
+    by Foreign (Some new) is did =
+        record { new = Foreign; desk = record { stands = did.0; shelf = tt }; turns = foreign did.1 (still_foreign reply (asked_keeps command called reply asked did.1)) }
     by (Open y) None is did = absurd did
-    by (Open y) (Some new) is did = record {
-      new = Open (record did.1.reached { store = did.1.store });
-      desk = record { stands = (did.0, did.1.represents); shelf = still_out y did.1.reached now did.1.holds did.1.follows is.shelf did.1.store };
-      turns = turns y (record did.1.reached { store = did.1.store })
-          (record { holds = did.1.holds; mid = did.1.reached; store = did.1.store; follows = did.1.follows; does = did.1.done; made = refl });
-    }
+    by (Open y) (Some new) is did =
+        let c = did.2 in
+        let z : State = record c.reached { store = c.store } in
+        record {
+          new = Open z;
+          desk = record { stands = (did.0, c.represents); shelf = still_out y c.reached now c.holds c.follows is.shelf c.store };
+          turns = turns y z (record { holds = c.holds; mid = c.reached; store = c.store; follows = c.follows; does = c.done; made = refl })
+              (open_behind reply z (asked_keeps command called reply asked did.1));
+        }
 
   -- the reply of the pool that is open, or that none is
   pub by_ask : (command : Command) (called : CommandName) → asked_in command ≡ Some called → (x : Desk) (new : Option (Pool R A)) → IsDesk rack area entry now desk x
       → PoolDid rack area chosen command called x reply new → Turned rack area chosen (Ok command) entry x (Some reply) now new
-  by_ask (WriteObject o bytes) called is = turned_by (WriteObject o bytes) called (λ y z c. c) (is, refl) (λ tells count geometry. (is, refl)) (λ crash y. (is, refl)) (is, refl) (is, refl) refl
-  by_ask (FillObjects first count len seed) called is = turned_by (FillObjects first count len seed) called (λ y z c. c) (is, refl) (λ tells count geometry. (is, refl)) (λ crash y. (is, refl)) (is, refl) (is, refl) refl
-  by_ask (ReadObject o) called is = turned_by (ReadObject o) called (λ y z c. c) (is, refl) (λ tells count geometry. (is, refl)) (λ crash y. (is, refl)) (is, refl) (is, refl) refl
-  by_ask (FreeObject o) called is = turned_by (FreeObject o) called (λ y z c. c) (is, refl) (λ tells count geometry. (is, refl)) (λ crash y. (is, refl)) (is, refl) (is, refl) refl
-  by_ask (SumObjects first count) called is = turned_by (SumObjects first count) called (λ y z c. c) (is, refl) (λ tells count geometry. (is, refl)) (λ crash y. (is, refl)) (is, refl) (is, refl) refl
-  by_ask (DamageSector leaf sector) called is = turned_by (DamageSector leaf sector) called (λ y z c. c) (is, refl) (λ tells count geometry. (is, refl)) (λ crash y. (is, refl)) (is, refl) (is, refl) refl
-  by_ask (ShowStatus form) called is = turned_by (ShowStatus form) called (λ y z c. c) (is, refl) (λ tells count geometry. (is, refl)) (λ crash y. (is, refl)) (is, refl) (is, refl) refl
+  by_ask (WriteObject o bytes) called is = turned_by (WriteObject o bytes) called is (λ y z c same. (z, c, same)) (λ fits same. (fits, same)) (λ x stands.
+      by_desk chosen (MayFind rack area entry) rack area (WriteObject o bytes) (NoPool called) x stands (shut_says chosen (MayFind rack area entry) (WriteObject o bytes) called is x))
+  by_ask (FillObjects first count len seed) called is = turned_by (FillObjects first count len seed) called is (λ y z c same. (z, c, same)) (λ fits same. (fits, same)) (λ x stands.
+      by_desk chosen (MayFind rack area entry) rack area (FillObjects first count len seed) (NoPool called) x stands (shut_says chosen (MayFind rack area entry) (FillObjects first count len seed) called is x))
+  by_ask (ReadObject o) called is = turned_by (ReadObject o) called is (λ y z c same. (z, c, same)) (λ fits same. (fits, same)) (λ x stands.
+      by_desk chosen (MayFind rack area entry) rack area (ReadObject o) (NoPool called) x stands (shut_says chosen (MayFind rack area entry) (ReadObject o) called is x))
+  by_ask (FreeObject o) called is = turned_by (FreeObject o) called is (λ y z c same. (z, c, same)) (λ fits same. (fits, same)) (λ x stands.
+      by_desk chosen (MayFind rack area entry) rack area (FreeObject o) (NoPool called) x stands (shut_says chosen (MayFind rack area entry) (FreeObject o) called is x))
+  by_ask (SumObjects first count) called is = turned_by (SumObjects first count) called is (λ y z c same. (z, c, same)) (λ fits same. (fits, same)) (λ x stands.
+      by_desk chosen (MayFind rack area entry) rack area (SumObjects first count) (NoPool called) x stands (shut_says chosen (MayFind rack area entry) (SumObjects first count) called is x))
+  by_ask (DamageSector leaf sector) called is = turned_by (DamageSector leaf sector) called is (λ y z c same. (z, c, same)) (λ fits same. (fits, same)) (λ x stands.
+      by_desk chosen (MayFind rack area entry) rack area (DamageSector leaf sector) (NoPool called) x stands (shut_says chosen (MayFind rack area entry) (DamageSector leaf sector) called is x))
+  by_ask (ShowStatus form) called is = turned_by (ShowStatus form) called is (λ y z c same. (z, c, same)) (λ fits same. (fits, same)) (λ x stands.
+      by_desk chosen (MayFind rack area entry) rack area (ShowStatus form) (NoPool called) x stands (shut_says chosen (MayFind rack area entry) (ShowStatus form) called is x))
   by_ask Silent called is = absurd (cc is)
   by_ask (CreatePool text children keys) called is = absurd (cc is)
   by_ask ImportPool called is = absurd (cc is)
@@ -149,11 +184,12 @@ pub by_create : {R A : Type 0} (rack : racks.Ghosts R) (area : areas.Ghosts A) (
 by_create rack area chosen entry now text children keys x reply pool did =
     record { new = did.new; desk = did.desk; turns = by x did.new did.turns }
   where
-    by : (x : Desk) (new : Desk) → CreateTurns text children keys x reply new → TurnsBy chosen (Ok (CreatePool text children keys)) x (Some reply) new
+    by : (x : Desk) (new : Desk) → CreateTurns text children keys x reply new → TurnsBy chosen (MayFind rack area entry) (Ok (CreatePool text children keys)) x (Some reply) new
     by Untouched new turns = turns
     by Bare new turns = turns
     by (Made tells count geometry) new turns = turns
     by (Shut crash y) new turns = turns
     by Unknown new turns = turns
-    by Foreign new turns = turns
-    by (Open y) new turns = subst (λ r. TurnsBy chosen (Ok (CreatePool text children keys)) (Open y) (Some r) new) (sym turns.0) turns.1
+    by Foreign new turns = subst (λ r. TurnsBy chosen (MayFind rack area entry) (Ok (CreatePool text children keys)) Foreign (Some r) new) (sym turns.0) (tt, turns.1)
+    by (Open y) new turns = subst (λ r. TurnsBy chosen (MayFind rack area entry) (Ok (CreatePool text children keys)) (Open y) (Some r) new) (sym turns.0)
+        (y, record { holds = []; mid = y; store = y.store; follows = refl; does = (refl, refl); made = refl }, turns.1)

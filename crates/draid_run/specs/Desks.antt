@@ -12,13 +12,14 @@ use Rattle.draid_reply.specs.declared.reply.Reply.TheVariants.{NoPool}
 use Rattle.draid_session.specs.Does.{Does}
 use Rattle.draid_session.specs.Holds.{Hold}
 use Rattle.draid_session.specs.Making.{content_of}
-use Rattle.draid_session.specs.Session.{Desk, Open, Foreign, Breaks, Cause, IsLeft, RecordFails, ShelfFails, TurnsBy}
+use Rattle.draid_session.specs.Replies.{IsReplyTo}
+use Rattle.draid_session.specs.Session.{Desk, Open, Foreign, Breaks, Cause, RecordFails, ShelfFails, TurnsBy, left_of}
 use Rattle.draid_session.specs.State.{State, Store}
 use Rattle.draid_pool.specs.Carries.{CarriesOut}
 use Rattle.draid_pool.specs.Pools.{Represents}
 use Rattle.draid_pool.specs.Whole.{IsWhole}
 use Rattle.draid_pool.specs.declared.pool.Pool.{Pool}
-use Rattle.draid_run.specs.Shelves.{FailsIn, HasFailed, HasFault, HoldsDesk, IsClosed, IsOut, OnShelf}
+use Rattle.draid_run.specs.Shelves.{FailsIn, HasFailed, HasFault, HoldsDesk, IsClosed, IsOut, MayFind, OnShelf}
 
 -- ---- desks
 
@@ -48,12 +49,12 @@ pub record IsDesk {R A : Type 0} (rack : racks.Ghosts R) (area : areas.Ghosts A)
 abbrev pub ReplyDoes : State → (List Room → Option ℕ → Type 0) → Command → Reply → List Hold → Store → Type 0
 ReplyDoes x chosen command reply holds store = Does x.geometry x.perms chosen content_of command x.store holds reply store
 
--- What a command that leaves the shelf alone came to: it was carried out on the open pool, which may be one of which nothing is said, or its reply is that it wants one.
+-- What a command that leaves the shelf alone came to: it was carried out on the open pool and has a reply that it may have, or its reply is that it wants one.
 abbrev pub PoolDid : {R A : Type 0} → racks.Ghosts R → areas.Ghosts A → (List Room → Option ℕ → Type 0) → Command → CommandName → Desk → Reply → Option (Pool R A) → Type 0
 PoolDid rack area chosen command called (Open x) reply None = ⊥
 PoolDid rack area chosen command called Foreign reply None = ⊥
-PoolDid rack area chosen command called (Open x) reply (Some pool) = IsWhole rack area pool × CarriesOut rack area pool x (ReplyDoes x chosen command reply)
-PoolDid rack area chosen command called Foreign reply (Some pool) = IsWhole rack area pool
+PoolDid rack area chosen command called (Open x) reply (Some pool) = IsWhole rack area pool × IsReplyTo command reply × CarriesOut rack area pool x (ReplyDoes x chosen command reply)
+PoolDid rack area chosen command called Foreign reply (Some pool) = IsWhole rack area pool × IsReplyTo command reply
 PoolDid rack area chosen command called desk reply pool = (reply ≡ NoPool called) × (pool ≡ None)
 
 -- the name of a command that is carried out on the pool that is open, and leaves it open
@@ -72,13 +73,11 @@ pub record Turned {R A : Type 0} (rack : racks.Ghosts R) (area : areas.Ghosts A)
     (reply : Option Reply) (now : OnShelf) (pool : Option (Pool R A)) : Type 0 where
   pub new : Desk
   pub desk : IsDesk rack area entry now pool new
-  pub turns : TurnsBy chosen command old reply new
+  pub turns : TurnsBy chosen (MayFind rack area entry) command old reply new
 
 -- What is left of a desk as the pool is given back to the shelf. What had failed shows there; where none is open the shelf is as it was.
 pub record LeavesDesk {R A : Type 0} (area : areas.Ghosts A) (entry before now : OnShelf) (pool : Option (Pool R A)) (desk : Desk) : Type 0 where
-  pub left : Desk
-  pub is : IsLeft desk left
-  pub shelf : HoldsDesk left entry now
+  pub shelf : HoldsDesk (left_of desk) entry now
   pub failed : HasFault area entry before pool desk → HasFailed entry now
   pub same : IsClosed desk → now ≡ before
 

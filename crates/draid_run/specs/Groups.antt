@@ -1,14 +1,16 @@
 -- What a sync, an export and a crash come to.
-use Rattle.std.specs.Prelude.{◌≡◌, ⊤, ℕ, Bool, true, false, List, Option, Some, None, Result, Ok, Err}
+use Rattle.std.specs.Prelude.{◌≡◌, ℕ, true, false, List, Option, Some, None, Result, Ok, Err}
 use Rattle.draid_rack.specs.declared.Rack as racks
 use Rattle.draid_area.specs.declared.Area as areas
+use Rattle.draid_script.specs.Line.{SyncPool}
 use Rattle.draid_script.specs.declared.name.CommandName.{CommandName}
 use Rattle.draid_script.specs.declared.name.CommandName.TheVariants as name
 use Rattle.draid_reply.specs.declared.reply.Reply.{Reply}
 use Rattle.draid_reply.specs.declared.reply.Reply.TheVariants.{Crashed, Exported, Last, NoMemory, NoPool, Synced, Worn}
 use Rattle.draid_session.specs.Follows.{Follows}
 use Rattle.draid_session.specs.Holds.{Hold}
-use Rattle.draid_session.specs.Session.{Desk, Open, Shut, Foreign, Unknown, IsGiven}
+use Rattle.draid_session.specs.Replies.{IsReplyTo}
+use Rattle.draid_session.specs.Session.{Desk, Open, Shut, Foreign, Unknown}
 use Rattle.draid_session.specs.State.{State, Store}
 use Rattle.draid_pool.specs.Answers.{ExportDoes, SyncDoes}
 use Rattle.draid_pool.specs.Carries.{CarriesOut}
@@ -53,19 +55,19 @@ SyncLeads rack area x (Err stop.Shelf) pool = CarriesOut rack area pool x (SyncS
 SyncLeads rack area x (Err stop.Unbuilt) pool = ⊥
 SyncLeads rack area x (Err (stop.Record metaslab place kind)) pool = ⊥
 
--- what ended a sync or an export of a pool of which nothing is said: an area failed
-abbrev pub StopShows : {R A : Type 0} → areas.Ghosts A → Result Reply Stop → Option (Pool R A) → Type 0
-StopShows area (Ok reply) pool = ⊤
-StopShows area (Err stop.Shelf) pool = PoolFails area pool
-StopShows area (Err stop.Unbuilt) pool = ⊥
-StopShows area (Err (stop.Record metaslab place kind)) pool = ⊥
+-- a sync of any pool has a reply that it may have, or an area failed
+abbrev pub SyncShows : {R A : Type 0} → areas.Ghosts A → Result Reply Stop → Option (Pool R A) → Type 0
+SyncShows area (Ok reply) pool = IsReplyTo SyncPool reply
+SyncShows area (Err stop.Shelf) pool = PoolFails area pool
+SyncShows area (Err stop.Unbuilt) pool = ⊥
+SyncShows area (Err (stop.Record metaslab place kind)) pool = ⊥
 
 -- by whether a pool is open
 abbrev pub SyncDid : {R A : Type 0} → racks.Ghosts R → areas.Ghosts A → Desk → Result Reply Stop → Option (Pool R A) → Type 0
 SyncDid rack area (Open x) result None = ⊥
 SyncDid rack area Foreign result None = ⊥
-SyncDid rack area (Open x) result (Some pool) = IsWhole rack area pool × SyncLeads rack area x result pool
-SyncDid rack area Foreign result (Some pool) = IsWhole rack area pool × StopShows area result (Some pool)
+SyncDid rack area (Open x) result (Some pool) = IsWhole rack area pool × SyncShows area result (Some pool) × SyncLeads rack area x result pool
+SyncDid rack area Foreign result (Some pool) = IsWhole rack area pool × SyncShows area result (Some pool)
 SyncDid rack area desk result pool = (result ≡ Ok (NoPool name.Sync)) × (pool ≡ None)
 
 -- ---- an export, a crash
@@ -75,16 +77,10 @@ abbrev pub export_reply : Result ℕ SyncFault → Option Reply
 export_reply (Ok group) = Some (Exported group)
 export_reply (Err why) = refusal_of name.Export why
 
--- the pool of a state was given back, with a crash or without one
-pub record IsShut (crash : Bool) (y : State) (new : Desk) : Type 0 where
-  pub z : State
-  pub is : new ≡ Shut crash z
-  pub given : IsGiven y z
-
 -- it gives the pool back, unless its sync was refused
-abbrev pub IsBehind : Result ℕ SyncFault → State → Desk → Type 0
-IsBehind (Ok group) y new = IsShut false y new
-IsBehind (Err why) y new = new ≡ Open y
+abbrev pub desk_left : Result ℕ SyncFault → State → Desk
+desk_left (Ok group) y = Shut false y
+desk_left (Err why) y = Open y
 
 -- Holds led from one state to another, and are so.
 pub record Leads (x y : State) (does : List Hold → Store → Type 0) : Type 0 where
@@ -100,18 +96,18 @@ pub record Exports (x : State) (reply : Option Reply) (new : Desk) : Type 0 wher
   pub answer : Result ℕ SyncFault
   pub reply_is : export_reply answer ≡ reply
   pub y : State
-  pub new_is : IsBehind answer y new
+  pub new_is : new ≡ desk_left answer y
   pub leads : Leads x y (ExportDoes x answer)
 
 -- so of a pool of which nothing is said
-abbrev pub foreign_behind : Result ℕ SyncFault → Desk
-foreign_behind (Ok group) = Unknown
-foreign_behind (Err why) = Foreign
+abbrev pub foreign_left : Result ℕ SyncFault → Desk
+foreign_left (Ok group) = Unknown
+foreign_left (Err why) = Foreign
 
 pub record ForeignExports (reply : Option Reply) (new : Desk) : Type 0 where
   pub answer : Result ℕ SyncFault
   pub reply_is : export_reply answer ≡ reply
-  pub new_is : new ≡ foreign_behind answer
+  pub new_is : new ≡ foreign_left answer
 
 abbrev pub ExportTurns : Desk → Option Reply → Desk → Type 0
 ExportTurns (Open x) reply new = Exports x reply new
@@ -133,7 +129,7 @@ ExportIs rack area entry old now pool (Err (stop.Record metaslab place kind)) = 
 
 -- a crash gives the pool back as it is
 abbrev pub CrashTurns : Desk → Reply → Desk → Type 0
-CrashTurns (Open x) reply new = (reply ≡ Crashed) × IsShut true x new
+CrashTurns (Open x) reply new = (reply ≡ Crashed) × (new ≡ Shut true x)
 CrashTurns Foreign reply new = (reply ≡ Crashed) × (new ≡ Unknown)
 CrashTurns desk reply new = (reply ≡ NoPool name.Crash) × (new ≡ desk)
 

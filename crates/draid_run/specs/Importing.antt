@@ -11,21 +11,21 @@ use Rattle.draid_pool.specs.declared.fault.PoolFault.{PoolFault}
 use Rattle.draid_pool.specs.declared.fault.PoolFault.TheVariants as fault
 use Rattle.draid_pool.specs.declared.pool.Pool.{Pool}
 use Rattle.draid_run.specs.Desks.{Broken, IsDesk}
-use Rattle.draid_run.specs.Shelves.{HoldsFault, OnShelf}
+use Rattle.draid_run.specs.Shelves.{HoldsFault, MayFind, OnShelf}
 use Rattle.draid_run.specs.declared.answer.Stop.{Stop}
 use Rattle.draid_run.specs.declared.answer.Stop.TheVariants as stop
 
 -- what `import` does where a pool is open, or none is
-abbrev pub ImportDoes : Desk → Reply → Desk → Type 0
-ImportDoes (Open x) reply new = (reply ≡ PoolOpen name.Import) × (new ≡ Open x)
-ImportDoes Foreign reply new = (reply ≡ PoolOpen name.Import) × (new ≡ Foreign)
-ImportDoes old reply new = ImportTurns old reply new
+abbrev pub ImportDoes : {R A : Type 0} → racks.Ghosts R → areas.Ghosts A → OnShelf → Desk → Reply → Desk → Type 0
+ImportDoes rack area entry (Open x) reply new = (reply ≡ PoolOpen name.Import) × (new ≡ Open x)
+ImportDoes rack area entry Foreign reply new = (reply ≡ PoolOpen name.Import) × (new ≡ Foreign)
+ImportDoes rack area entry old reply new = ImportTurns (MayFind rack area entry) old reply new
 
 -- it was done, and this is its reply
 pub record ImportDid {R A : Type 0} (rack : racks.Ghosts R) (area : areas.Ghosts A) (entry : OnShelf) (old : Desk) (reply : Reply) (now : OnShelf) (pool : Option (Pool R A)) : Type 0 where
   pub new : Desk
   pub desk : IsDesk rack area entry now pool new
-  pub turns : ImportDoes old reply new
+  pub turns : ImportDoes rack area entry old reply new
 
 -- or the shelf failed, or a record has a fault
 abbrev pub ImportIs : {R A : Type 0} → racks.Ghosts R → areas.Ghosts A → OnShelf → OnShelf → Desk → OnShelf → Option (Pool R A) → Result Reply Stop → Type 0

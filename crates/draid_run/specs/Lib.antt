@@ -3,6 +3,7 @@ pub mod Ending
 pub mod Groups
 pub mod Importing
 pub mod Making
+pub mod Next
 pub mod Says
 pub mod Script
 pub mod Serve

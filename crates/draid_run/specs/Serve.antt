@@ -1,5 +1,5 @@
 -- What becomes of a line, and of all lines so far.
-use Rattle.std.specs.Prelude.{◌≡◌, ◌≤◌, ◌+◌, ◌⊎◌, ⊤, ℕ, List, [], ◌∷◌, ◌++◌, Option, Some, None, Result, Ok, Err, MatchOption, length}
+use Rattle.std.specs.Prelude.{◌≡◌, ◌≤◌, ◌+◌, ◌⊎◌, ⊤, ℕ, List, [], ◌∷◌, ◌++◌, Option, Some, None, Result, Ok, Err, MatchOption, is_some, length}
 use Rattle.std.specs.Io.KnownBytes.{Appends, prepend_known}
 use Rattle.std.specs.declared.vec.Vec.{Vec}
 use Rattle.std.specs.declared.alloc.Global.{Global}
@@ -17,7 +17,7 @@ use Rattle.draid_session.specs.Session.{Cause, Desk, RecordFails, Runs, ShelfFai
 use Rattle.draid_pool.specs.declared.pool.Pool.{Pool}
 use Rattle.draid_run.specs.Desks.{Broken, IsDesk, PoolDid, Turned, asked_in}
 use Rattle.draid_run.specs.Script.{BreaksOff, Ends, FailsShut, FaultyShut, GetsReplies, IsUnbuilt, LineFaultIs, Shows, said_text, texts_of}
-use Rattle.draid_run.specs.Shelves.{HasFault, HoldsFault, IsClosed, OnShelf}
+use Rattle.draid_run.specs.Shelves.{HasFault, HoldsFault, IsClosed, MayFind, OnShelf}
 use Rattle.draid_run.specs.declared.answer.Stop.{Stop}
 use Rattle.draid_run.specs.declared.answer.Stop.TheVariants as stop
 use Rattle.draid_run.specs.declared.status.Status.{Status}
@@ -107,7 +107,7 @@ module _ {R A : Type 0} (rack : racks.Ghosts R) (area : areas.Ghosts A) (chosen 
     pub reached : Desk
     pub count_is : length lines ≡ count
     pub desk : IsDesk rack area entry now pool reached
-    pub runs : Runs chosen first lines replies reached
+    pub runs : Runs chosen (MayFind rack area entry) (is_some entry.held) first lines replies reached
     pub known : WhereKnown input rest (λ all behind. lines_of all ≡ lines ++ lines_of behind)
     pub printed : Appends start held (texts_of replies)
     pub unanswered : lines ≡ [] → now ≡ entry
@@ -121,7 +121,7 @@ module _ {R A : Type 0} (rack : racks.Ghosts R) (area : areas.Ghosts A) (chosen 
     pub last : Desk
     pub broken : Option (List ℕ)
     pub desk : IsDesk rack area entry now pool last
-    pub runs : Runs chosen first lines replies mid
+    pub runs : Runs chosen (MayFind rack area entry) (is_some entry.held) first lines replies mid
     pub breaks : BreaksOff ended broken mid last
     pub ends : MatchOption input ⊤ (Ends ended broken lines)
     pub shows : Shows ended replies shown

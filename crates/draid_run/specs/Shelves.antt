@@ -8,7 +8,7 @@ use Rattle.draid_spec.specs.declared.layout.Geometry.{Geometry}
 use Rattle.draid_script.specs.Line.{Command, CreatePool, ImportPool}
 use Rattle.draid_shelf.specs.Kits.{AreNewChecks, Held, KitCounts, OnHeld}
 use Rattle.draid_shelf.specs.declared.Shelf as shelves
-use Rattle.draid_session.specs.Session.{Desk, Untouched, Bare, Made, Open, Shut, Foreign, Unknown, HasLayout}
+use Rattle.draid_session.specs.Session.{Desk, Finding, Untouched, Bare, Made, Open, Shut, Foreign, Unknown, HasLayout}
 use Rattle.draid_session.specs.State.{Metaslab, State}
 use Rattle.draid_pool.specs.Closing.{HoldsPool, OwnCounts, SameCounts}
 use Rattle.draid_pool.specs.Failing.{AreaFails}
@@ -85,6 +85,14 @@ HoldsDesk (Open state) entry now = ⊥
 HoldsDesk (Shut crash state) entry now = HoldsShut crash state now
 HoldsDesk Foreign entry now = ⊥
 HoldsDesk Unknown entry now = ⊤
+
+-- What an import may find on a shelf that is as it was at the entry. It isn't said yet what that depends on.
+abbrev pub MayFind : {R A : Type 0} → racks.Ghosts R → areas.Ghosts A → OnShelf → Finding → Type 0
+MayFind rack area entry finding = ⊤
+
+-- the shelf tells before and after, or neither
+abbrev pub TellsAsBefore : OnShelf → OnShelf → Type 0
+TellsAsBefore before now = is_some now.held ≡ is_some before.held
 
 -- ---- failures
 

@@ -4,6 +4,7 @@ ghost use Rattle.std.specs.Fn.{FnReturnsAt};
 ghost use Rattle.draid_choose.specs.Rooms.{IsChooser};
 ghost use Rattle.draid_script.specs.Line.{FillObjects, IsInRange};
 ghost use Rattle.draid_session.specs.Making.{content_of};
+ghost use Rattle.draid_session.specs.Replies.{IsReplyTo};
 ghost use Rattle.draid_session.specs.State.{State};
 ghost use Rattle.draid_pool.specs.Carries.{CarriesOut};
 ghost use Rattle.draid_pool.specs.Pools.{Represents};
@@ -44,6 +45,7 @@ pub(crate) fn fill<R: Rack, A: Area, F: Fn(&[Room]) -> Option<u32>>(
     requires chooser { IsChooser F.Fn chooser.now }
     requires whole { IsWhole R.Rack A.Area pool.old }
     ensures whole { IsWhole R.Rack A.Area pool.new }
+    ensures fits { IsReplyTo (FillObjects first count len seed) result }
     ensures step { (x : State) → Represents R.Rack A.Area pool.old x
         → CarriesOut R.Rack A.Area pool.new x (ReplyDoes x (FnReturnsAt F.Fn chooser.now) (FillObjects first count len seed) result) }
 {

@@ -5,7 +5,7 @@ ghost use Rattle.draid_session.specs.State.{State};
 ghost use Rattle.draid_pool.specs.Pools.{Represents};
 ghost use Rattle.draid_pool.specs.Whole.{IsWhole};
 ghost use Rattle.draid_run.specs.Desks.{IsDesk, IsPool};
-ghost use Rattle.draid_run.specs.Groups.{CrashDid, ExportIs, RefusalIs, StopShows, SyncDid, SyncLeads};
+ghost use Rattle.draid_run.specs.Groups.{CrashDid, ExportIs, RefusalIs, SyncDid, SyncLeads, SyncShows};
 ghost use Rattle.draid_run.specs.Shelves.{OnShelf, on_shelf};
 
 use crate::answer::{Stop, no_pool};
@@ -33,7 +33,7 @@ fn sync_open<R: Rack, A: Area>(pool: &mut Pool<R, A>) -> Result<Reply, Stop>
     requires whole { IsWhole R.Rack A.Area pool.old }
     ensures whole { IsWhole R.Rack A.Area pool.new }
     ensures leads { (x : State) → Represents R.Rack A.Area pool.old x → SyncLeads R.Rack A.Area x result pool.new }
-    ensures shows { StopShows A.Area result (Some pool.new) }
+    ensures shows { SyncShows A.Area result (Some pool.new) }
 {
     match pool.sync() {
         Ok(Synced { group, thin }) => Ok(Reply::Synced { group, thin }),

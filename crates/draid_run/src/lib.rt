@@ -14,6 +14,9 @@ mod status;
 mod top;
 mod words;
 
-pub use laws::undisturbed_runs_are_done;
+pub use laws::{
+    crashed_pools_are_found_again, new_shelves_have_no_pool, runs_follow_one_another,
+    undisturbed_runs_are_done,
+};
 pub use status::Status;
 pub use top::run;

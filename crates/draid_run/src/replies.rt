@@ -2,7 +2,8 @@
 ghost use Rattle.std.specs.Prelude.{◌≡◌, None};
 ghost use Rattle.std.specs.Fn.{FnReturnsAt};
 ghost use Rattle.draid_choose.specs.Rooms.{IsChooser};
-ghost use Rattle.draid_script.specs.Line.{IsInRange, SumObjects, WriteObject, command_in};
+ghost use Rattle.draid_script.specs.Line.{DamageSector, FreeObject, IsInRange, ReadObject, ShowStatus, SumObjects, WriteObject, command_in};
+ghost use Rattle.draid_session.specs.Replies.{IsReplyTo};
 ghost use Rattle.draid_session.specs.State.{State};
 ghost use Rattle.draid_pool.specs.Carries.{CarriesOut};
 ghost use Rattle.draid_pool.specs.Pools.{Represents};
@@ -33,6 +34,7 @@ fn write<R: Rack, A: Area, F: Fn(&[Room]) -> Option<u32>>(
     requires chooser { IsChooser F.Fn chooser.now }
     requires whole { IsWhole R.Rack A.Area pool.old }
     ensures whole { IsWhole R.Rack A.Area pool.new }
+    ensures fits { IsReplyTo (WriteObject object bytes.now) result }
     ensures step { (x : State) → Represents R.Rack A.Area pool.old x
         → CarriesOut R.Rack A.Area pool.new x (ReplyDoes x (FnReturnsAt F.Fn chooser.now) (WriteObject object bytes.now) result) }
 {
@@ -64,6 +66,7 @@ fn write<R: Rack, A: Area, F: Fn(&[Room]) -> Option<u32>>(
 fn read<R: Rack, A: Area>(pool: &mut Pool<R, A>, object: u64) -> Reply
     requires whole { IsWhole R.Rack A.Area pool.old }
     ensures whole { IsWhole R.Rack A.Area pool.new }
+    ensures fits { IsReplyTo (ReadObject object) result }
     ensures step { (x : State) → Represents R.Rack A.Area pool.old x
         → CarriesOut R.Rack A.Area pool.new x (ReadSays object result x) }
 {
@@ -86,6 +89,7 @@ fn read<R: Rack, A: Area>(pool: &mut Pool<R, A>, object: u64) -> Reply
 fn free<R: Rack, A: Area>(pool: &mut Pool<R, A>, object: u64) -> Reply
     requires whole { IsWhole R.Rack A.Area pool.old }
     ensures whole { IsWhole R.Rack A.Area pool.new }
+    ensures fits { IsReplyTo (FreeObject object) result }
     ensures step { (x : State) → Represents R.Rack A.Area pool.old x
         → CarriesOut R.Rack A.Area pool.new x (FreeSays object result x) }
 {
@@ -105,6 +109,7 @@ fn sum<R: Rack, A: Area>(
     requires range { IsInRange (SumObjects first count) }
     requires whole { IsWhole R.Rack A.Area pool.old }
     ensures whole { IsWhole R.Rack A.Area pool.new }
+    ensures fits { IsReplyTo (SumObjects first count) result }
     ensures step { (x : State) → Represents R.Rack A.Area pool.old x
         → CarriesOut R.Rack A.Area pool.new x (SumSays first count result x) }
 {
@@ -122,6 +127,7 @@ fn sum<R: Rack, A: Area>(
 fn damage<R: Rack, A: Area>(pool: &mut Pool<R, A>, leaf: u64, sector: u64) -> Reply
     requires whole { IsWhole R.Rack A.Area pool.old }
     ensures whole { IsWhole R.Rack A.Area pool.new }
+    ensures fits { IsReplyTo (DamageSector leaf sector) result }
     ensures step { (x : State) → Represents R.Rack A.Area pool.old x
         → CarriesOut R.Rack A.Area pool.new x (DamageSays leaf sector result x) }
 {
@@ -139,6 +145,7 @@ fn damage<R: Rack, A: Area>(pool: &mut Pool<R, A>, leaf: u64, sector: u64) -> Re
 /// Tells what a pool is, in this format.
 fn status<R: Rack, A: Area>(alloc: Global, pool: &Pool<R, A>, format: StatusFormat) -> Reply
     requires whole { IsWhole R.Rack A.Area pool.now }
+    ensures fits { IsReplyTo (ShowStatus format) result }
     ensures step { (x : State) → Represents R.Rack A.Area pool.now x
         → CarriesOut R.Rack A.Area pool.now x (StatusSays format result x) }
 {
@@ -163,6 +170,7 @@ pub(crate) fn reply<R: Rack, A: Area, F: Fn(&[Room]) -> Option<u32>>(
     requires asks { asked_in (command_in line.now) ≡ None → ⊥ }
     requires whole { IsWhole R.Rack A.Area pool.old }
     ensures whole { IsWhole R.Rack A.Area pool.new }
+    ensures fits { IsReplyTo (command_in line.now) result }
     ensures step { (x : State) → Represents R.Rack A.Area pool.old x
         → CarriesOut R.Rack A.Area pool.new x (ReplyDoes x (FnReturnsAt F.Fn chooser.now) (command_in line.now) result) }
 {

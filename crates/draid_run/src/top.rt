@@ -84,6 +84,11 @@ pub fn run<
     requires chooser { IsChooser F.Fn chooser.now }
     ensures run { RunIs H.R.Rack H.A.Area (FnReturnsAt F.Fn chooser.now) (map string_bytes words.now) result (S.left source.old) (K.held sink.old) (K.held sink.new) (on_shelf H.Shelf shelf.old) (on_shelf H.Shelf shelf.new) }
 
+    // What has failed stays counted.
+    ensures source_later { S.faults source.old ≤ S.faults source.new }
+    ensures sink_later { K.faults sink.old ≤ K.faults sink.new }
+    ensures shelf_later { H.faults shelf.old ≤ H.faults shelf.new }
+
     // The devices are to blame only where they failed in this run.
     ensures source_fault { result ≡ Status.SourceFault → Rose (S.faults source.old) (S.faults source.new) }
     ensures sink_fault { result ≡ Status.SinkFault → Rose (K.faults sink.old) (K.faults sink.new) }

@@ -1,3 +1,4 @@
+pub mod Again
 pub mod Certain
 pub mod Failed
 pub mod Lists

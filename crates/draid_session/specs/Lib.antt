@@ -9,6 +9,7 @@ pub mod Making
 pub mod Opening
 pub mod Phases
 pub mod Reads
+pub mod Replies
 pub mod Rooms
 pub mod Session
 pub mod State

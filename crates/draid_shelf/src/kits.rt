@@ -1,4 +1,4 @@
-ghost use Rattle.std.specs.Prelude.{◌≡◌, ◌<◌, ⊤, ℕ, Option, Some, None, false, IfOk, IsErr, IsErrOf, IsSome, IsSomeAnd, MatchOption, OnOk, OnErr};
+ghost use Rattle.std.specs.Prelude.{◌≡◌, ◌<◌, ⊤, ℕ, Option, Some, None, false, IfOk, IsErr, IsErrOf, IsSome, IsSomeAnd, MatchOption, OnOk, OnErr, refl};
 ghost use Rattle.draid_spec.specs.Geometry.{IsGeometry};
 ghost use Rattle.draid_rack.specs.Memory.{faults_of_memory, shape_of_memory, told_by_memory};
 ghost use Rattle.draid_area.specs.Memory.{size_of_memory};
@@ -39,6 +39,8 @@ impl Shelf for MemoryShelf {
     ghost leaves = { λ shelf. shape_at shelf.devices.racks };
 
     ghost uber_size = { uber_size_of };
+
+    ghost steady = { λ x y. refl };
 
     fn has_pool(&self) -> bool {
         self.devices.uber.is_some()

@@ -1,4 +1,4 @@
-ghost use Rattle.std.specs.Prelude.{◌≡◌, ◌<◌, ◌↔◌, ℕ, Option, None, Some, IfOk, IsSome, IsSomeAnd, IsTrue, MatchOption, OnOk, OnErr, ⊤};
+ghost use Rattle.std.specs.Prelude.{◌≡◌, ◌<◌, ◌↔◌, ℕ, Option, None, Some, IfOk, IsSome, IsSomeAnd, IsTrue, MatchOption, OnOk, OnErr, is_some, ⊤};
 ghost use Rattle.draid_spec.specs.Geometry.{IsGeometry};
 ghost use Rattle.draid_rack.specs.Rack.{Shape};
 ghost use Rattle.draid_shelf.specs.Shelf.{HasLeavesOf, IsKnown, SameOthers, most_metaslabs};
@@ -166,4 +166,7 @@ pub trait Shelf {
         ensures check_counts { check_counts self.new ≡ check_counts self.old }
         ensures uber_count { uber_count self.new ≡ uber_count self.old }
         ensures faults { faults self.new ≡ faults self.old };
+
+    /// Each shelf of this kind tells what it holds, or none does.
+    ghost steady: { (x y : Self) → is_some (told y) ≡ is_some (told x) };
 }

@@ -1,4 +1,4 @@
-use Rattle.std.proofs.Common.{◌∙◌, ◌+◌, arith, ap, length}
+use Rattle.std.proofs.Common.{◌∙◌, ◌+◌, arith, ap, length, refl}
 use Rattle.std.specs.Fn.{FnReturnsAt}
 use Rattle.draid_session.specs.Making.{content_of}
 use Rattle.draid_run.proofs.Filled.{fill_stopped, fill_unbegun, filled_all, filled_more, filled_none, whole}
@@ -7,6 +7,7 @@ use Rattle.draid_run.proofs.fill.fill.Goals as goal
 pub returns-in_default : goal.returns-in_default
 returns-in_default g c = record {
   whole = c.requires.whole;
+  fits = (refl, (let some = c.requires.range.0.0 in omega (arith, some)));
   step = λ x rep. fill_unbegun g.R.Rack g.A.Area (FnReturnsAt g.F.Fn c.args.chooser.now) c.args.first c.args.len c.args.seed x c.args.pool.now c.args.count
       (let some = c.requires.range.0.0 in omega (arith, some)) rep;
 }
@@ -28,6 +29,7 @@ returns-in-Err g c =
     let is = c.deref.ensures.value ∙ all ∙ c.draw.ensures.bytes ∙ ap (λ n. content_of c.args.seed (c.args.first + c.loop-written.written) n) (old ∙ long) in
     record {
       whole = c.write.ensures.whole;
+      fits = (refl, c.loop-written-test.true);
       step = λ x rep. (let m = c.loop-written.invariant.filled x rep in
           fill_stopped g.R.Rack g.A.Area (FnReturnsAt g.F.Fn c.args.chooser.now) c.args.first c.args.len c.args.seed x c.loop-written.pool c.write.new.self
           c.loop-written.written c.deref.result.now c.write.result is m (c.write.ensures.step (record m.reached { store = m.store }) m.represents) c.args.count c.in-Err.why c.in-Err.is
@@ -56,6 +58,7 @@ returns g c =
     let upto = c.loop-written.auto.written-end in
     record {
       whole = c.loop-written.invariant.whole;
+      fits = (refl, refl);
       step = λ x rep. filled_all g.R.Rack g.A.Area (FnReturnsAt g.F.Fn c.args.chooser.now) c.args.first c.args.len c.args.seed x c.loop-written.pool
           c.loop-written.written c.args.count (omega (arith, ends, upto)) (c.loop-written.invariant.filled x rep);
     }

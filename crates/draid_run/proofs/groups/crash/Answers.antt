@@ -10,4 +10,4 @@ close-requires-clause-whole g c κs within = is_whole g.H.R.Rack g.H.A.Area c.ar
 pub returns-in-Some-clause-did : goal.returns-in-Some-clause-did
 returns-in-Some-clause-did g c entry x desk =
     crashed g.H.R.Rack g.H.A.Area entry (on_shelf g.H.Shelf c.args.shelf.now) (on_shelf g.H.Shelf c.close.new.shelf) c.args.pool.now c.in-Some.open c.in-Some.open (sym c.take.ensures.value ∙ c.in-Some.is)
-    c.close.ensures.back c.close.ensures.checks c.take.new.self c.take.ensures.after x desk
+    c.close.ensures.back c.close.ensures.checks (g.met.H.Shelf.steady c.args.shelf.now c.close.new.shelf) c.take.new.self c.take.ensures.after x desk

@@ -11,7 +11,7 @@ sync_for_export-requires g c = record { whole = is_whole g.H.R.Rack g.H.A.Area c
 pub returns-in-Ok-clause-answer : goal.returns-in-Ok-clause-answer
 returns-in-Ok-clause-answer g c entry x desk =
     exported g.H.R.Rack g.H.A.Area entry (on_shelf g.H.Shelf c.args.shelf.now) (on_shelf g.H.Shelf c.close.new.shelf) c.args.pool.now c.in-Some.open c.sync_for_export.new.self (sym c.take.ensures.value ∙ c.in-Some.is)
-    c.sync_for_export.result c.in-Ok.group c.in-Ok.is c.sync_for_export.ensures.carries c.close.ensures.back c.close.ensures.checks c.take.new.self c.take.ensures.after x desk
+    c.sync_for_export.result c.in-Ok.group c.in-Ok.is c.sync_for_export.ensures.carries c.close.ensures.back c.close.ensures.checks (g.met.H.Shelf.steady c.args.shelf.now c.close.new.shelf) c.take.new.self c.take.ensures.after x desk
 
 pub returns-in-Err-clause-answer : goal.returns-in-Err-clause-answer
 returns-in-Err-clause-answer g c entry x desk =

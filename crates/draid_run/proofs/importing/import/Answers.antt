@@ -18,7 +18,7 @@ returns-in_default g c = record {
       let none = sym c.is_some.ensures ∙ c.if-is_some.false in
       subst (λ p. ImportDid g.H.R.Rack g.H.A.Area entry x (NoMemory name.Import) late p) (sym (none_open c.args.pool.now none))
       (unnamed g.H.R.Rack g.H.A.Area entry before now c.import.result
-      (record { whole = e.whole; none = e.none; imports = e.import; tells = e.tells; checks_held = e.held; checks = e.checks; cause = e.cause; made = e.made }) c.in-Ok.open c.in-Ok.is late c.close.ensures.back c.close.ensures.checks
+      (record { whole = e.whole; none = e.none; imports = e.import; tells = e.tells; checks_held = e.held; checks = e.checks; cause = e.cause; made = e.made }) c.in-Ok.open c.in-Ok.is late c.close.ensures.back c.close.ensures.checks (g.met.H.Shelf.steady c.import.new.shelf c.close.new.shelf)
       x (shut g.H.R.Rack g.H.A.Area c.args.pool.now x none desk.stands) desk.shelf));
   later = later_same _ _ _ c.import.ensures.later c.close.ensures.faults;
 }

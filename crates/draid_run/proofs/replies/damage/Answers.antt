@@ -7,6 +7,7 @@ use Rattle.draid_run.proofs.replies.damage.Goals as goal
 pub returns-in-Ok : goal.returns-in-Ok
 returns-in-Ok g c = record {
   whole = c.damage.ensures.whole;
+  fits = (refl, refl);
   step = λ x is.
       by_answer g.R.Rack g.A.Area (λ r. DamageDoes x c.args.leaf c.args.sector r) _ x c.damage.new.self c.damage.result c.damage.result refl
       (λ holds store w. (c.damage.result, sym (ap (λ r. damage_reply c.args.leaf c.args.sector r) c.in-Ok.is), w)) (c.damage.ensures.step x is);
@@ -15,6 +16,7 @@ returns-in-Ok g c = record {
 pub returns-in-Err-NoSuch : goal.returns-in-Err-NoSuch
 returns-in-Err-NoSuch g c = record {
   whole = c.damage.ensures.whole;
+  fits = (refl, refl);
   step = λ x is.
       by_answer g.R.Rack g.A.Area (λ r. DamageDoes x c.args.leaf c.args.sector r) _ x c.damage.new.self c.damage.result c.damage.result refl
       (λ holds store w. (c.damage.result, sym (ap (λ r. damage_reply c.args.leaf c.args.sector r) (c.in-Err-NoSuch.is ∙ ap Err c.in-Err-NoSuch.field-0-is)), w)) (c.damage.ensures.step x is);
@@ -23,6 +25,7 @@ returns-in-Err-NoSuch g c = record {
 pub returns-in-Err-Worn : goal.returns-in-Err-Worn
 returns-in-Err-Worn g c = record {
   whole = c.damage.ensures.whole;
+  fits = (refl, refl);
   step = λ x is.
       by_answer g.R.Rack g.A.Area (λ r. DamageDoes x c.args.leaf c.args.sector r) _ x c.damage.new.self c.damage.result c.damage.result refl
       (λ holds store w. (c.damage.result, sym (ap (λ r. damage_reply c.args.leaf c.args.sector r) (c.in-Err-Worn.is ∙ ap Err c.in-Err-Worn.field-0-is)), w)) (c.damage.ensures.step x is);
@@ -31,6 +34,7 @@ returns-in-Err-Worn g c = record {
 pub returns-in-Err-Failed : goal.returns-in-Err-Failed
 returns-in-Err-Failed g c = record {
   whole = c.damage.ensures.whole;
+  fits = (refl, refl);
   step = λ x is.
       by_answer g.R.Rack g.A.Area (λ r. DamageDoes x c.args.leaf c.args.sector r) _ x c.damage.new.self c.damage.result c.damage.result refl
       (λ holds store w. (c.damage.result, sym (ap (λ r. damage_reply c.args.leaf c.args.sector r) (c.in-Err-Failed.is ∙ ap Err c.in-Err-Failed.field-0-is)), w)) (c.damage.ensures.step x is);
@@ -39,6 +43,7 @@ returns-in-Err-Failed g c = record {
 pub returns-in-Err-NoMemory : goal.returns-in-Err-NoMemory
 returns-in-Err-NoMemory g c = record {
   whole = c.damage.ensures.whole;
+  fits = tt;
   step = λ x is.
       by_answer g.R.Rack g.A.Area (λ r. DamageDoes x c.args.leaf c.args.sector r) _ x c.damage.new.self c.damage.result c.damage.result refl
       (λ holds store w. (c.damage.result, sym (ap (λ r. damage_reply c.args.leaf c.args.sector r) (c.in-Err-NoMemory.is ∙ ap Err c.in-Err-NoMemory.field-0-is)), w)) (c.damage.ensures.step x is);

@@ -7,6 +7,7 @@ use Rattle.draid_run.proofs.replies.free.Goals as goal
 pub returns-in-Ok : goal.returns-in-Ok
 returns-in-Ok g c = record {
   whole = c.free.ensures.whole;
+  fits = refl;
   step = λ x is.
       by_answer g.R.Rack g.A.Area (λ r. FreeDoes x c.args.object r) _ x c.free.new.self c.free.result c.free.result refl
       (λ holds store w. (c.free.result, sym (ap (λ r. free_reply c.args.object r) c.in-Ok.is), w)) (c.free.ensures.step x is);
@@ -15,6 +16,7 @@ returns-in-Ok g c = record {
 pub returns-in-Err-NoObject : goal.returns-in-Err-NoObject
 returns-in-Err-NoObject g c = record {
   whole = c.free.ensures.whole;
+  fits = refl;
   step = λ x is.
       by_answer g.R.Rack g.A.Area (λ r. FreeDoes x c.args.object r) _ x c.free.new.self c.free.result c.free.result refl
       (λ holds store w. (c.free.result, sym (ap (λ r. free_reply c.args.object r) c.in-Err-NoObject.is), w)) (c.free.ensures.step x is);

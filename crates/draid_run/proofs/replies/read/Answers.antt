@@ -7,6 +7,7 @@ use Rattle.draid_run.proofs.replies.read.Goals as goal
 pub returns-in-Ok : goal.returns-in-Ok
 returns-in-Ok g c = record {
   whole = c.read.ensures.whole;
+  fits = refl;
   step = λ x is.
       by_answer g.R.Rack g.A.Area (λ r. ReadDoes x c.args.object r) _ x c.read.new.self c.read.result c.read.result refl
       (λ holds store w. (c.read.result, sym (ap (λ r. read_reply c.args.object r) c.in-Ok.is), w)) (c.read.ensures.step x is);
@@ -15,6 +16,7 @@ returns-in-Ok g c = record {
 pub returns-in-Err-NoObject : goal.returns-in-Err-NoObject
 returns-in-Err-NoObject g c = record {
   whole = c.read.ensures.whole;
+  fits = refl;
   step = λ x is.
       by_answer g.R.Rack g.A.Area (λ r. ReadDoes x c.args.object r) _ x c.read.new.self c.read.result c.read.result refl
       (λ holds store w. (c.read.result, sym (ap (λ r. read_reply c.args.object r) (c.in-Err-NoObject.is ∙ ap Err c.in-Err-NoObject.field-0-is)), w)) (c.read.ensures.step x is);
@@ -23,6 +25,7 @@ returns-in-Err-NoObject g c = record {
 pub returns-in-Err-Unreadable : goal.returns-in-Err-Unreadable
 returns-in-Err-Unreadable g c = record {
   whole = c.read.ensures.whole;
+  fits = refl;
   step = λ x is.
       by_answer g.R.Rack g.A.Area (λ r. ReadDoes x c.args.object r) _ x c.read.new.self c.read.result c.read.result refl
       (λ holds store w. (c.read.result, sym (ap (λ r. read_reply c.args.object r) (c.in-Err-Unreadable.is ∙ ap Err c.in-Err-Unreadable.field-0-is)), w)) (c.read.ensures.step x is);
@@ -31,6 +34,7 @@ returns-in-Err-Unreadable g c = record {
 pub returns-in-Err-Worn : goal.returns-in-Err-Worn
 returns-in-Err-Worn g c = record {
   whole = c.read.ensures.whole;
+  fits = refl;
   step = λ x is.
       by_answer g.R.Rack g.A.Area (λ r. ReadDoes x c.args.object r) _ x c.read.new.self c.read.result c.read.result refl
       (λ holds store w. (c.read.result, sym (ap (λ r. read_reply c.args.object r) (c.in-Err-Worn.is ∙ ap Err c.in-Err-Worn.field-0-is)), w)) (c.read.ensures.step x is);
@@ -39,6 +43,7 @@ returns-in-Err-Worn g c = record {
 pub returns-in-Err-NoMemory : goal.returns-in-Err-NoMemory
 returns-in-Err-NoMemory g c = record {
   whole = c.read.ensures.whole;
+  fits = tt;
   step = λ x is.
       by_answer g.R.Rack g.A.Area (λ r. ReadDoes x c.args.object r) _ x c.read.new.self c.read.result c.read.result refl
       (λ holds store w. (c.read.result, sym (ap (λ r. read_reply c.args.object r) (c.in-Err-NoMemory.is ∙ ap Err c.in-Err-NoMemory.field-0-is)), w)) (c.read.ensures.step x is);

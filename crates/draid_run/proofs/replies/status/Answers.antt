@@ -6,6 +6,7 @@ use Rattle.draid_run.proofs.replies.status.Goals as goal
 
 pub returns-in-Ok : goal.returns-in-Ok
 returns-in-Ok g c = record {
+  fits = tt;
   step = λ x is.
       by_answer g.R.Rack g.A.Area (λ r. StatusDoes x c.args.format r) _ x c.args.pool.now c.status_bytes.result c.status_bytes.result refl
       (λ holds store w. (c.status_bytes.result, sym (ap status_reply c.in-Ok.is), w))
@@ -14,6 +15,7 @@ returns-in-Ok g c = record {
 
 pub returns-in-Err : goal.returns-in-Err
 returns-in-Err g c = record {
+  fits = tt;
   step = λ x is.
       by_answer g.R.Rack g.A.Area (λ r. StatusDoes x c.args.format r) _ x c.args.pool.now c.status_bytes.result c.status_bytes.result refl
       (λ holds store w. (c.status_bytes.result, sym (ap status_reply c.in-Err.is), w))

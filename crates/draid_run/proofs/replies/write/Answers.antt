@@ -7,6 +7,7 @@ use Rattle.draid_run.proofs.replies.write.Goals as goal
 pub returns-in-Ok : goal.returns-in-Ok
 returns-in-Ok g c = record {
   whole = c.write.ensures.whole;
+  fits = refl;
   step = λ x is.
       by_answer g.R.Rack g.A.Area (λ r. WriteDoes x (FnReturnsAt g.F.Fn c.args.chooser.now) c.args.object c.args.bytes.now r) _ x c.write.new.self c.write.result (Ok tt) c.in-Ok.is (λ holds store w. (refl, w)) (c.write.ensures.step x is);
 }
@@ -14,6 +15,7 @@ returns-in-Ok g c = record {
 pub returns-in-Err-NoSpace : goal.returns-in-Err-NoSpace
 returns-in-Err-NoSpace g c = record {
   whole = c.write.ensures.whole;
+  fits = refl;
   step = λ x is.
       by_answer g.R.Rack g.A.Area (λ r. WriteDoes x (FnReturnsAt g.F.Fn c.args.chooser.now) c.args.object c.args.bytes.now r) _ x c.write.new.self c.write.result _ (c.in-Err-NoSpace.is ∙ ap Err c.in-Err-NoSpace.field-0-is) (λ holds store w. (refl, w)) (c.write.ensures.step x is);
 }
@@ -21,6 +23,7 @@ returns-in-Err-NoSpace g c = record {
 pub returns-in-Err-Missed : goal.returns-in-Err-Missed
 returns-in-Err-Missed g c = record {
   whole = c.write.ensures.whole;
+  fits = refl;
   step = λ x is.
       by_answer g.R.Rack g.A.Area (λ r. WriteDoes x (FnReturnsAt g.F.Fn c.args.chooser.now) c.args.object c.args.bytes.now r) _ x c.write.new.self c.write.result _ (c.in-Err-Missed.is ∙ ap Err c.in-Err-Missed.field-0-is) (λ holds store w. (refl, w)) (c.write.ensures.step x is);
 }
@@ -28,6 +31,7 @@ returns-in-Err-Missed g c = record {
 pub returns-in-Err-Last : goal.returns-in-Err-Last
 returns-in-Err-Last g c = record {
   whole = c.write.ensures.whole;
+  fits = refl;
   step = λ x is.
       by_answer g.R.Rack g.A.Area (λ r. WriteDoes x (FnReturnsAt g.F.Fn c.args.chooser.now) c.args.object c.args.bytes.now r) _ x c.write.new.self c.write.result _ (c.in-Err-Last.is ∙ ap Err c.in-Err-Last.field-0-is) (λ holds store w. (refl, w)) (c.write.ensures.step x is);
 }
@@ -35,6 +39,7 @@ returns-in-Err-Last g c = record {
 pub returns-in-Err-NoMemory : goal.returns-in-Err-NoMemory
 returns-in-Err-NoMemory g c = record {
   whole = c.write.ensures.whole;
+  fits = tt;
   step = λ x is.
       by_answer g.R.Rack g.A.Area (λ r. WriteDoes x (FnReturnsAt g.F.Fn c.args.chooser.now) c.args.object c.args.bytes.now r) _ x c.write.new.self c.write.result _ (c.in-Err-NoMemory.is ∙ ap Err c.in-Err-NoMemory.field-0-is) (λ holds store w. w) (c.write.ensures.step x is);
 }

@@ -55,7 +55,7 @@ returns-in-Err-serve_line g c =
       served = λ first at.
           (let serving = c.lines.invariant.serving first at in
           let text = text_by c.lines.lines c.next_text.new.lines _ _ _ _ c.in-Ok-Some.field-0-is c.in-Ok-Some.ensures.text in
-          served_line _ _ _ _ first _ _ _ _ _ _ _ _ _ text.3 serving c.lines.invariant.shelf_later _ _ _ _
+          served_line _ _ _ _ first _ _ _ _ _ _ _ _ _ text.3 serving c.lines.invariant.shelf_later _ _ (g.met.H.Shelf.steady c.args.shelf.now c.serve_line.new.shelf) _ _
           (line_by g.H.R.Rack g.H.A.Area (FnReturnsAt g.F.Fn c.args.chooser.now) (on_shelf g.H.Shelf c.args.shelf.now) c.lines.number _ _ c.in-Ok-Some.text.items (on_shelf g.H.Shelf c.lines.shelf) c.lines.pool serving.reached (on_shelf g.H.Shelf c.serve_line.new.shelf) c.serve_line.new.pool (g.K.Sink.held c.lines.sink) (g.K.Sink.held c.serve_line.new.sink) (Err c.in-Err-serve_line.status) (sym c.lines.invariant.given) c.deref.ensures.value (c.in-Err-serve_line.ensures.line (on_shelf g.H.Shelf c.args.shelf.now) serving.reached serving.desk)));
       source_later = later_on _ _ _ c.lines.invariant.source_later c.next_text.ensures.later;
       sink_later = later_on _ _ _ c.lines.invariant.sink_later c.serve_line.ensures.later;
@@ -72,7 +72,7 @@ lines-preserved g c =
     let given = c.lines.invariant.given in
     record {
       serving = λ first at. (let serving = c.lines.invariant.serving first at in rw one (serving_more _ _ _ _ first _ _ _ _ _ _ _ _ _ _ _ _ serving text.3
-          (line_by g.H.R.Rack g.H.A.Area (FnReturnsAt g.F.Fn c.args.chooser.now) (on_shelf g.H.Shelf c.args.shelf.now) c.lines.number c.lines.number _ c.in-Ok-Some.text.items (on_shelf g.H.Shelf c.lines.shelf) c.lines.pool serving.reached (on_shelf g.H.Shelf c.serve_line.new.shelf) c.serve_line.new.pool (g.K.Sink.held c.lines.sink) (g.K.Sink.held c.serve_line.new.sink) (Ok tt) refl c.deref.ensures.value (c.in_default.ensures.line (on_shelf g.H.Shelf c.args.shelf.now) serving.reached serving.desk))));
+          (line_by g.H.R.Rack g.H.A.Area (FnReturnsAt g.F.Fn c.args.chooser.now) (on_shelf g.H.Shelf c.args.shelf.now) c.lines.number c.lines.number _ c.in-Ok-Some.text.items (on_shelf g.H.Shelf c.lines.shelf) c.lines.pool serving.reached (on_shelf g.H.Shelf c.serve_line.new.shelf) c.serve_line.new.pool (g.K.Sink.held c.lines.sink) (g.K.Sink.held c.serve_line.new.sink) (Ok tt) refl c.deref.ensures.value (c.in_default.ensures.line (on_shelf g.H.Shelf c.args.shelf.now) serving.reached serving.desk)) (g.met.H.Shelf.steady c.args.shelf.now c.serve_line.new.shelf)));
       fault = text.2;
       given = next_number _ _ _ one given;
       few = text.1;

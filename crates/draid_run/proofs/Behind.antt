@@ -1,0 +1,56 @@
+-- Which replies leave the pool open.
+use Rattle.std.proofs.Common.{◌≡◌, refl, Some}
+use Rattle.std.specs.Prelude.{⊤}
+use Rattle.draid_script.specs.Line.{Command, SyncPool, WriteObject, FillObjects, ReadObject, FreeObject, SumObjects, DamageSector, ShowStatus}
+use Rattle.draid_script.specs.declared.name.CommandName.{CommandName}
+use Rattle.draid_reply.specs.declared.reply.Reply.{Reply}
+use Rattle.draid_reply.specs.declared.reply.Reply.TheVariants.{Crashed, Exported}
+use Rattle.draid_session.specs.Replies.{IsReplyTo}
+use Rattle.draid_session.specs.Session.{Open, Foreign, desk_behind, foreign_behind}
+use Rattle.draid_session.specs.State.{State}
+use Rattle.draid_run.specs.Desks.{asked_in}
+
+abbrev pub KeepsOpen : Reply → Type 0
+KeepsOpen (Exported group) = ⊥
+KeepsOpen Crashed = ⊥
+KeepsOpen reply = ⊤
+
+pub open_behind : (reply : Reply) (x : State) → KeepsOpen reply → Open x ≡ desk_behind reply x
+open_behind (Exported group) x keeps = absurd keeps
+open_behind Crashed x keeps = absurd keeps
+open_behind reply x keeps = refl
+
+pub still_foreign : (reply : Reply) → KeepsOpen reply → Foreign ≡ foreign_behind reply
+still_foreign (Exported group) keeps = absurd keeps
+still_foreign Crashed keeps = absurd keeps
+still_foreign reply keeps = refl
+
+pub sync_keeps : (reply : Reply) → IsReplyTo SyncPool reply → KeepsOpen reply
+sync_keeps (Exported group) is = absurd is
+sync_keeps Crashed is = absurd is
+sync_keeps reply is = tt
+
+-- a command that is carried out on the open pool gives none back
+pub asked_keeps : (command : Command) (called : CommandName) (reply : Reply) → asked_in command ≡ Some called → IsReplyTo command reply → KeepsOpen reply
+asked_keeps (WriteObject o bytes) called (Exported group) asked is = absurd is
+asked_keeps (WriteObject o bytes) called Crashed asked is = absurd is
+asked_keeps (WriteObject o bytes) called reply asked is = tt
+asked_keeps (FillObjects first count len seed) called (Exported group) asked is = absurd is
+asked_keeps (FillObjects first count len seed) called Crashed asked is = absurd is
+asked_keeps (FillObjects first count len seed) called reply asked is = tt
+asked_keeps (ReadObject o) called (Exported group) asked is = absurd is
+asked_keeps (ReadObject o) called Crashed asked is = absurd is
+asked_keeps (ReadObject o) called reply asked is = tt
+asked_keeps (FreeObject o) called (Exported group) asked is = absurd is
+asked_keeps (FreeObject o) called Crashed asked is = absurd is
+asked_keeps (FreeObject o) called reply asked is = tt
+asked_keeps (SumObjects first count) called (Exported group) asked is = absurd is
+asked_keeps (SumObjects first count) called Crashed asked is = absurd is
+asked_keeps (SumObjects first count) called reply asked is = tt
+asked_keeps (DamageSector leaf sector) called (Exported group) asked is = absurd is
+asked_keeps (DamageSector leaf sector) called Crashed asked is = absurd is
+asked_keeps (DamageSector leaf sector) called reply asked is = tt
+asked_keeps (ShowStatus form) called (Exported group) asked is = absurd is
+asked_keeps (ShowStatus form) called Crashed asked is = absurd is
+asked_keeps (ShowStatus form) called reply asked is = tt
+asked_keeps command called reply asked is = absurd (cc asked)

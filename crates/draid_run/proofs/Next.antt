@@ -1,0 +1,154 @@
+-- What the next run finds, and the lines of a run between which a crash came.
+use Rattle.std.proofs.Common.{◌≡◌, ◌∙◌, refl, sym, ap, subst, ℕ, Bool, true, false, List, [], ◌∷◌, ◌++◌, Option, Some, None, Ok, String, Global, length, replicate, arith}
+use Rattle.std.specs.Prelude.{IsSomeAnd, is_some}
+use Rattle.draid_names.specs.declared.room.Room.{Room}
+use Rattle.draid_rack.specs.Moments as rack_moments
+use Rattle.draid_rack.specs.Rack.{Told}
+use Rattle.draid_area.specs.Area.{Content}
+use Rattle.draid_area.specs.Moments as area_moments
+use Rattle.draid_area.proofs.Moments.{leaves_all}
+use Rattle.draid_spec.specs.declared.layout.Geometry.{Geometry}
+use Rattle.draid_script.specs.Grammar.{line_of}
+use Rattle.draid_script.specs.Line.{CrashPool, ImportPool}
+use Rattle.draid_reply.specs.declared.reply.Reply.{Reply}
+use Rattle.draid_reply.specs.declared.reply.Reply.TheVariants.{Crashed, Imported}
+use Rattle.draid_shelf.specs.Kits.{AreNewChecks, Both, ChecksTold, CrashedChecks, CrashedHeld, CrashedKit, Held, IsNewArea, IsNewRack, KitCounts, KitTold, OnHeld, uber_bytes}
+use Rattle.draid_session.specs.Session.{Agrees, Desk, Finding, Untouched, Bare, Made, Open, Shut, Foreign, Unknown, KnowsShelf, Runs, left_of}
+use Rattle.draid_session.specs.State.{State}
+use Rattle.draid_session.proofs.Again.{crash_found, runs_known}
+use Rattle.draid_pool.specs.Closing.{HoldsPool, SameCounts}
+use Rattle.draid_pool.specs.Opening.{HoldsMade}
+use Rattle.draid_pool.proofs.Closed.{rests_crashed}
+use Rattle.draid_pool.proofs.ImportClosed.{importable_left}
+use Rattle.draid_run.specs.Next.{FindsAgain, HasCrashed, IsFound, next_desk}
+use Rattle.draid_run.specs.Shelves.{HoldsBare, HoldsDesk, HoldsNew, HoldsShut, IsSame, OnShelf, TellsAsBefore}
+use Rattle.draid_run.proofs.Makings.{same_shelf}
+use Rattle.draid_run.proofs.Serving.{as_found}
+
+-- ---- a crash of the shelf
+
+both_and : {T : Type 0} (C : T → T → Type 0) (P Q : T → Type 0) (o n : Option T) → Both C o n → ((a b : T) → C a b → P a → Q b) → IsSomeAnd o P → IsSomeAnd n Q
+both_and C P Q None n both step holds = absurd holds
+both_and C P Q (Some a) None both step holds = absurd both
+both_and C P Q (Some a) (Some b) both step holds = step a b both holds
+
+both_held : (o n : Option Held) (P Q : Held → Type 0) → Both CrashedHeld o n → ((a b : Held) → CrashedHeld a b → P a → Q b) → OnHeld o P → OnHeld n Q
+both_held o None P Q both step holds = tt
+both_held None (Some b) P Q both step holds = absurd (cc both)
+both_held (Some a) (Some b) P Q both step holds = step a b both holds
+
+both_some : (o n : Option Held) → Both CrashedHeld o n → is_some n ≡ is_some o
+both_some None n both = ap is_some both
+both_some (Some a) None both = absurd both
+both_some (Some a) (Some b) both = refl
+
+-- an area that was made, and to which nothing was written, is so behind a crash
+new_left : (bytes : List ℕ) (a b : Content) → area_moments.IsCrashOutcome a b → IsNewArea bytes a → IsNewArea bytes b
+new_left bytes a b crash new =
+    let same : b.bytes ≡ a.bytes = leaves_all a b.bytes new.soft (new.firm ∙ sym (ap length new.bytes_are)) crash.left in
+    record { bytes_are = same ∙ new.bytes_are; firm = crash.firm ∙ ap length (same ∙ new.bytes_are); soft = crash.soft }
+
+zeros_left : (geometry : Geometry) (a b : Told) → rack_moments.IsCrashOutcome a b → IsNewRack geometry a → IsNewRack geometry b
+zeros_left geometry a b crash new = record {
+  zeros = λ l s child inside. crash.firm l s (new.soft l s) ∙ new.zeros l s child inside;
+  soft = crash.soft;
+  harmed = λ l s. crash.harmed l s ∙ new.harmed l s;
+}
+
+checks_left : (a b : Option ChecksTold) → Both CrashedChecks a b → IsSomeAnd a AreNewChecks → IsSomeAnd b AreNewChecks
+checks_left a b both = both_and CrashedChecks AreNewChecks AreNewChecks a b both (λ x y crash new. record { even = new_left [] x.even y.even crash.even new.even; odd = new_left [] x.odd y.odd crash.odd new.odd })
+
+made_left : (geometry : Geometry) (a b : Held) → CrashedHeld a b → HoldsMade geometry a → HoldsMade geometry b
+made_left geometry a b crash made = record {
+  uber = both_and area_moments.IsCrashOutcome (IsNewArea (replicate uber_bytes 0)) (IsNewArea (replicate uber_bytes 0)) a.uber b.uber crash.uber (new_left (replicate uber_bytes 0)) made.uber;
+  checks = checks_left a.checks b.checks crash.checks made.checks;
+  kits = λ m below. both_and CrashedKit (λ (kit : KitTold). IsNewRack geometry kit.rack) (λ (kit : KitTold). IsNewRack geometry kit.rack) (a.kits m) (b.kits m) (crash.kits m) (λ x y c. zeros_left geometry x.rack y.rack c.rack) (made.kits m below);
+}
+
+pool_left : (x : State) (crashed : Bool) (a b : Held) → CrashedHeld a b → HoldsPool x crashed a → HoldsPool x true b
+pool_left x crashed a b crash pool = record { pieces = pool.pieces; rests = rests_crashed x pool.pieces a b pool.rests crash; backed = λ none. absurd (cc none) }
+
+module _ (left found : OnShelf) (it : HasCrashed left found) where
+  bare_crashed : HoldsBare left → HoldsBare found
+  bare_crashed = both_and CrashedHeld (λ held. held.uber ≡ None) (λ held. held.uber ≡ None) left.held found.held it.held (λ a b crash none. none_left a.uber b.uber crash.uber none) where
+    none_left : (a b : Option Content) → Both area_moments.IsCrashOutcome a b → a ≡ None → b ≡ None
+    none_left None b both none = both
+    none_left (Some x) b both none = absurd (cc none)
+
+  new_crashed : (told : Bool) (failed : ℕ) (geometry : Geometry) → HoldsNew told failed geometry left → HoldsNew told failed geometry found
+  new_crashed told failed geometry new = record {
+    told_is = new.told_is ∙ sym (both_some left.held found.held it.held);
+    made = record {
+      held = both_held left.held found.held (HoldsMade geometry) (HoldsMade geometry) it.held (made_left geometry) new.made.held;
+      counts = λ m who less. ap (λ (k : KitCounts). k.rack who) (it.counts m) ∙ new.made.counts m who less;
+      uber = it.uber ∙ new.made.uber;
+      checks = it.checks ∙ new.made.checks;
+    };
+  }
+
+  shut_crashed : (crashed : Bool) (x : State) → HoldsShut crashed x left → HoldsShut true x found
+  shut_crashed crashed x shut = record {
+    held = both_held left.held found.held (HoldsPool x crashed) (HoldsPool x true) it.held (pool_left x crashed) shut.held;
+    importable = importable_left x left.held found.held left.leaves found.leaves it.held it.leaves shut.importable;
+    told = shut.told ∙ sym (both_some left.held found.held it.held);
+    counts = λ m y there. subst (λ (k : KitCounts). SameCounts y.counts k) (sym (it.counts m)) (shut.counts m y there);
+    uber = it.uber ∙ shut.uber;
+    checks = it.checks ∙ shut.checks;
+  }
+
+-- ---- the desk of the next run
+
+crashed_desk : (x : Desk) (entry left found : OnShelf) → HasCrashed left found → HoldsDesk (left_of x) entry left → HoldsDesk (next_desk true x) found found
+crashed_desk Untouched entry left found it is = as_found found
+crashed_desk Bare entry left found it is = bare_crashed left found it is
+crashed_desk (Made told failed geometry) entry left found it is = new_crashed left found it told failed geometry is
+crashed_desk (Open x) entry left found it is = shut_crashed left found it false x is
+crashed_desk (Shut crashed x) entry left found it is = shut_crashed left found it crashed x is
+crashed_desk Foreign entry left found it is = as_found found
+crashed_desk Unknown entry left found it is = as_found found
+
+not_open : (x : Desk) (y : State) → left_of x ≡ Open y → ⊥
+not_open Untouched y is = cc is
+not_open Bare y is = cc is
+not_open (Made told failed geometry) y is = cc is
+not_open (Open x) y is = cc is
+not_open (Shut crashed x) y is = cc is
+not_open Foreign y is = cc is
+not_open Unknown y is = cc is
+
+same_desk : (x : Desk) (entry left found : OnShelf) → IsSame left found → HoldsDesk (left_of x) entry left → HoldsDesk (next_desk false x) found found
+same_desk Untouched entry left found same is = as_found found
+same_desk Bare entry left found same is = same_shelf Bare entry left found (not_open Bare) same is
+same_desk (Made told failed geometry) entry left found same is = same_shelf (Made told failed geometry) entry left found (not_open (Made told failed geometry)) same is
+same_desk (Open x) entry left found same is = same_shelf (Shut false x) entry left found (not_open (Open x)) same is
+same_desk (Shut crashed x) entry left found same is = same_shelf (Shut crashed x) entry left found (not_open (Shut crashed x)) same is
+same_desk Foreign entry left found same is = as_found found
+same_desk Unknown entry left found same is = as_found found
+
+pub desk_found : (crash : Bool) (x : Desk) (entry left found : OnShelf) → IsFound crash left found → HoldsDesk (left_of x) entry left → HoldsDesk (next_desk crash x) found found
+desk_found true x entry left found it is = crashed_desk x entry left found it is
+desk_found false x entry left found it is = same_desk x entry left found it is
+
+pub tells_found : (crash : Bool) (entry left found : OnShelf) → IsFound crash left found → TellsAsBefore entry left → TellsAsBefore entry found
+tells_found true entry left found it tells = both_some left.held found.held it.held ∙ tells
+tells_found false entry left found it tells = ap is_some it.0.held ∙ tells
+
+-- ---- a crash among the lines of a run
+
+module _ (chosen : List Room → Option ℕ → Type 0) (finds : Finding → Type 0) (crash import : List ℕ) (back : List (List ℕ)) (called : String Global) (group objects : ℕ) (behind : List (Option Reply)) (last : Desk)
+    (is_crash : line_of crash ≡ Ok CrashPool) (is_import : line_of import ≡ Ok ImportPool) where
+  here : (first : Desk) → KnowsShelf first → Agrees true first → Runs chosen finds true first (crash ∷ import ∷ back) (Some Crashed ∷ Some (Imported called group objects) ∷ behind) last
+      → FindsAgain chosen finds first [] [] group objects back behind last
+  here first known agrees runs =
+      let it = crash_found chosen finds crash import back called group objects behind last is_crash is_import first known runs in
+      record { old = it.old; new = it.new; before = sym it.was; imports = it.imports; counted = it.counted; after = it.after }
+
+  pub again : (front : List (List ℕ)) (said : List (Option Reply)) (first : Desk) → length said ≡ length front → KnowsShelf first → Agrees true first
+      → Runs chosen finds true first (front ++ (crash ∷ import ∷ back)) (said ++ (Some Crashed ∷ Some (Imported called group objects) ∷ behind)) last → FindsAgain chosen finds first front said group objects back behind last
+  again [] [] first same known agrees runs = here first known agrees runs
+  again [] (reply ∷ said) first same known agrees runs = absurd (omega (arith, same))
+  again (line ∷ front) [] first same known agrees runs = absurd (omega (arith, same))
+  again (line ∷ front) (reply ∷ said) first same known agrees runs =
+      let one = runs_known chosen finds (line ∷ []) (reply ∷ []) first runs.0 known agrees (runs.0, runs.1, runs.2, refl) in
+      let it = again front said runs.0 (omega (arith, same)) one.0 one.1 runs.3 in
+      record { old = it.old; new = it.new; before = (runs.0, runs.1, runs.2, it.before); imports = it.imports; counted = it.counted; after = it.after }
