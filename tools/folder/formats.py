@@ -40,10 +40,10 @@ class Reader:
     def exactly(self, width, value):
         return self.number(width, value, value)
 
-    def test(self, holds):
-        """A test that blames the last field."""
+    def test(self, holds, at=None):
+        """A test that blames the last field, or another one."""
         if not holds:
-            raise Bad(self.field, 2)
+            raise Bad(self.field if at is None else at, 2)
 
 
 @dataclasses.dataclass
@@ -183,8 +183,9 @@ def block_of(reader, uber, least):
     number_of = (reader.number(8, 0, 2**32 - 1), reader.number(8, 1, LAST))
     first = reader.number(8, least, uber.stripes() - 1)
     stripes = reader.number(4, 1, uber.height - first % uber.height)
+    at_stripes = reader.field
     length = reader.number(4, 1, 131_072)
-    reader.test(stripes == math.ceil(math.ceil(length / uber.sector) / uber.data))
+    reader.test(stripes == math.ceil(math.ceil(length / uber.sector) / uber.data), at_stripes)
     reader.number(8, 1, uber.group)
     return Block(*number_of, first, stripes, length, reader.raw(32), at)
 

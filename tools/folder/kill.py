@@ -4,7 +4,7 @@ import re
 import subprocess
 import time
 
-from common import PROGRAM, TWO, made
+from common import PROGRAM, SMALL, TWO, check, fresh, made, run
 from story import Story, is_kept
 
 OBJECTS = 16
@@ -24,8 +24,23 @@ def killed(folder, script):
     return replies.split("\n")[:-1]
 
 
+def creates(rounds):
+    """A create over a pool is killed: the old pool is there with its object, or none, or the new one without objects."""
+    base = made(TWO + "write 7 aa\nsync\n")
+    allowed = ["import draid1:2d:4c:0s-0 group=2 objects=1\nread 7 1 aa\n", "import no pool\nread no pool\n", "import draid1:2d:3c:0s-0 group=1 objects=0\nread 7 no object\n"]
+    ended = [0, 0, 0]
+    for number in range(rounds):
+        folder = fresh(copy_of=base)
+        killed(folder, SMALL)
+        status, replies = run("import\nread 7\n", folder)
+        if check(f"kill of create {number}", (status, replies in allowed), (0, True)):
+            ended[allowed.index(replies)] += 1
+    print(f"kill: {rounds} creates: the old pool {ended[0]}, none {ended[1]}, the new one {ended[2]}")
+
+
 def main(rounds=200, seed=1):
     random.seed(seed)
+    creates(rounds)
     folder = made(TWO)
     kept = {1: {}}
     group = 1

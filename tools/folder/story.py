@@ -7,10 +7,12 @@ LENGTHS = [1, 100, 512, 1024, 3000]
 
 
 class Story:
-    """A script of so many lines over a pool that was imported, on objects below a number."""
+    """A script of so many lines over a pool that was imported, on objects below a number. Where devices fail, a write may be
+    missed, and changes nothing then."""
 
-    def __init__(self, random, lines, objects):
+    def __init__(self, random, lines, objects, may_miss=False):
         self.objects = objects
+        self.may_miss = may_miss
         self.steps = [self._step(random) for _ in range(lines)]
 
     def _step(self, random):
@@ -47,6 +49,8 @@ class Story:
 
     def _take(self, step, reply, now):
         kind, number, bytes_of = step
+        if self.may_miss and re.fullmatch(rf"write {number} missed columns=\d+", reply):
+            return
         assert reply in (f"{kind} {number} ok", f"free {number} no object"), (step, reply)
         self._change(kind, number, bytes_of, now)
 
