@@ -11,11 +11,12 @@ ghost use Rattle.draid_run.specs.Shelves.{on_shelf};
 ghost use Rattle.draid_run.specs.Status.{code_of};
 
 use draid_choose::{Chooser, first_fit};
-use draid_files::{Input, Output};
+use draid_files::{FileShelf, Input, Output};
 use draid_lines::{Sink, Source};
-use draid_names::Room;
+use draid_names::{Failed, Room};
 use draid_run::{Status, run};
 use draid_shelf::{CrashRule, MemoryShelf, Shelf};
+use draid_words::{Mode, WordsFault, read_words};
 use std::process::ExitCode;
 use std::thread::Threads;
 use std::{env, io};
@@ -48,8 +49,16 @@ fn run_on<
     ExitCode::from(status.code())
 }
 
+/// Says that there was no memory for the words.
+fn end_starved<K: Sink>(sink: &mut K) -> ExitCode {
+    let status = match sink.put(b"no memory\n") {
+        Ok(()) => Status::NoMemory,
+        Err(Failed) => Status::SinkFault,
+    };
+    ExitCode::from(status.code())
+}
+
 fn main(rt: HostRuntime) -> ExitCode {
-    let mut shelf = MemoryShelf::new(rt.alloc(), CrashRule::Torn);
     let mut source = Input::new(rt.stdin());
     let mut sink = Output::new(rt.stdout());
     let chooser = Chooser::new(
@@ -58,8 +67,19 @@ fn main(rt: HostRuntime) -> ExitCode {
             ensures { Picks rooms.now result }
         { first_fit(rooms) },
     );
-    match words(&rt) {
-        Ok(words) => run_on(&rt, &words, &mut shelf, &mut source, &mut sink, &chooser),
-        Err(_) => ExitCode::from(Status::NoMemory.code()),
+    let Ok(words) = words(&rt) else {
+        return ExitCode::from(Status::NoMemory.code());
+    };
+    match read_words(rt.alloc(), &words) {
+        Ok(Mode::Session { dir: Some(path) }) => {
+            let mut shelf = FileShelf::new(&rt, path);
+            run_on(&rt, &words, &mut shelf, &mut source, &mut sink, &chooser)
+        }
+        // Over a shelf in memory `run` might read the words, and run the session of a folder.
+        Err(WordsFault::NoMemory) => end_starved(&mut sink),
+        _ => {
+            let mut shelf = MemoryShelf::new(rt.alloc(), CrashRule::Torn);
+            run_on(&rt, &words, &mut shelf, &mut source, &mut sink, &chooser)
+        }
     }
 }

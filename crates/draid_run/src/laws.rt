@@ -17,7 +17,7 @@ use draid_names::Room;
 use draid_rack::Rack;
 use draid_shelf::{MemoryShelf, Shelf};
 
-/// Law: where the words ask for a session in memory, each line of the input can be run, no device fails and memory isn't
+/// Law: where the words ask for a session, each line of the input can be run, no device fails and memory isn't
 /// wanting, a run ends with its input, with status 0. Else a record has a fault, where the shelf's pool isn't known or
 /// wasn't told.
 pub fn undisturbed_runs_are_done<R: Rack, A: Area, F: Fn(&[Room]) -> Option<u32>>(

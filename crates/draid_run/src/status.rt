@@ -8,7 +8,7 @@ use std::alloc::{AllocError, Global};
 pub enum Status {
     /// The script was read to its end (0).
     Done,
-    /// The words don't ask for a session in memory (1).
+    /// The words don't ask for a session (1).
     Usage,
     /// This line, counted from 1, is refused by a fault of this kind at this place (2).
     Line {

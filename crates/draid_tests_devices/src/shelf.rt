@@ -11,7 +11,7 @@ use draid_spec::{Geometry, Props, Spec, SpecFault, geometry};
 use std::alloc::Global;
 
 /// Four children, two metaslabs of three slices of eight sectors on each child.
-fn small_geometry() -> Result<Geometry, SpecFault>
+pub(crate) fn small_geometry() -> Result<Geometry, SpecFault>
     ensures { IfOk result IsGeometry }
 {
     let spec = Spec {
@@ -88,7 +88,7 @@ fn use_rack<R: Rack>(rack: &mut R) -> Result<(), Failed>
 }
 
 /// The same in metaslab 1, and writes a record of it; whether all was done.
-fn use_devices<H: Shelf>(shelf: &mut H, geometry: &Geometry) -> bool
+pub(crate) fn use_devices<H: Shelf>(shelf: &mut H, geometry: &Geometry) -> bool
     requires { geometry.now.props.sector ≡ 512 }
 {
     match shelf.take(1, geometry) {
@@ -109,7 +109,7 @@ fn read_both<R: Rack>(rack: &mut R) -> Result<[u8; 2], Failed>
 }
 
 /// Whether the shelf has the devices of metaslab 1, the two sectors read so, and the record is so long.
-fn has_left<H: Shelf>(shelf: &mut H, geometry: &Geometry, sectors: [u8; 2], record: u64) -> bool
+pub(crate) fn has_left<H: Shelf>(shelf: &mut H, geometry: &Geometry, sectors: [u8; 2], record: u64) -> bool
     requires { geometry.now.props.sector ≡ 512 }
 {
     match shelf.take(1, geometry) {

@@ -370,7 +370,7 @@ static REFUSED: [&str; 7] = [
     "session 1",
     "workload x",
     "workload 1",
-    "session --dir pool",
+    "session --dir",
 ];
 
 static USAGE: &str = "usage: dzpool session [--dir DIR] or dzpool workload NUMBER\n";
