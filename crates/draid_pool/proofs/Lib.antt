@@ -22,6 +22,7 @@ pub mod Moved
 pub mod OneHold
 pub mod Opened
 pub mod Pointed
+pub mod PointedSums
 pub mod PutSteps
 pub mod ReadSteps
 pub mod ReplaceSteps
