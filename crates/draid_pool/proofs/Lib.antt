@@ -25,6 +25,7 @@ pub mod OneAnswer
 pub mod OneHold
 pub mod Opened
 pub mod Pointed
+pub mod PointedSums
 pub mod PutSteps
 pub mod ReadSteps
 pub mod ReplaceSteps

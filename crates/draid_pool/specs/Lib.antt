@@ -12,6 +12,7 @@ pub mod Importing
 pub mod Metaslabs
 pub mod Objects
 pub mod Opening
+pub mod PointerSums
 pub mod Pointers
 pub mod Pools
 pub mod Records

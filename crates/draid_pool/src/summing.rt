@@ -1,11 +1,13 @@
 //! Sums of many objects: their blocks are fetched and solved in batches.
-ghost use Rattle.std.specs.Prelude.{◌≡◌, ◌≤◌, ◌+◌, All, IfOk, None, length};
+ghost use Rattle.std.specs.Prelude.{◌≡◌, ◌≤◌, ◌<◌, ◌+◌, ⊤, All, IfOk, MatchOption, None, length};
 ghost use Rattle.draid_block.specs.Blocks.{cut_of};
 ghost use Rattle.draid_block.specs.Solving.{IsFetched};
 ghost use Rattle.draid_session.specs.State.{State};
 ghost use Rattle.draid_pool.specs.Answers.{SumDoes};
 ghost use Rattle.draid_pool.specs.Batches.{AddIs, FeedIs, FetchesBatch};
 ghost use Rattle.draid_pool.specs.Carries.{CarriesOut};
+ghost use Rattle.draid_pool.specs.PointerSums.{AddFinds, BlocksOf, StopsFor, SumFinds};
+ghost use Rattle.draid_pool.specs.Pointers.{SamePointers, pointer_in};
 ghost use Rattle.draid_pool.specs.Pools.{Represents};
 ghost use Rattle.draid_pool.specs.Whole.{IsWhole};
 
@@ -38,6 +40,10 @@ fn fetch_batch<R: Rack, A: Area>(pool: &mut Pool<R, A>, first: u64, count: u64) 
     ensures fetched { All (IsFetched (cut_of pool.new.geometry)) result.blocks.items }
     ensures some { result.fault ≡ None → 1 ≤ length result.blocks.items }
     ensures few { length result.blocks.items ≤ count }
+    ensures objects { pool.new.objects ≡ pool.old.objects }
+    ensures found { BlocksOf (pointer_in pool.old) first result.blocks.items }
+    ensures stops { MatchOption result.fault ⊤ (λ why. (length result.blocks.items < count)
+        × StopsFor (pointer_in pool.old (first + length result.blocks.items)) why) }
     ensures step { (x : State) → Represents R.Rack A.Area pool.old x
         → FetchesBatch R.Rack A.Area pool.new x first count result }
 {
@@ -106,6 +112,8 @@ pub(crate) fn add_batch<R: Rack, A: Area>(
     requires whole { IsWhole R.Rack A.Area pool.old }
     ensures whole { IsWhole R.Rack A.Area pool.new }
     ensures added { IfOk result (λ added. (1 ≤ added) × (added ≤ count)) }
+    ensures objects { pool.new.objects ≡ pool.old.objects }
+    ensures adds { AddFinds (pointer_in pool.old) first count hasher.old hasher.new result }
     ensures step { (x : State) → Represents R.Rack A.Area pool.old x
         → CarriesOut R.Rack A.Area pool.new x (AddIs x first count hasher.old hasher.new result) }
 {
@@ -138,6 +146,8 @@ impl<R: Rack, A: Area> Pool<R, A> {
         requires range { first + count ≤ OBJECTS }
         requires whole { IsWhole R.Rack A.Area self.old }
         ensures whole { IsWhole R.Rack A.Area self.new }
+        ensures same { SamePointers self.old self.new }
+        ensures sums { SumFinds (pointer_in self.old) first count result }
         ensures step { (x : State) → Represents R.Rack A.Area self.old x
             → CarriesOut R.Rack A.Area self.new x (SumDoes x first count result) }
     {

@@ -2,6 +2,8 @@ use Rattle.std.proofs.Common.{◌≡◌, ◌≤◌, ◌<◌, ◌+◌, ◌^◌, A
 use Rattle.draid_block.specs.Blocks.{cut_of}
 use Rattle.draid_block.specs.Solving.{IsFetched}
 use Rattle.draid_session.specs.State.{State}
+use Rattle.draid_pool.specs.PointerSums.{BlocksOf}
+use Rattle.draid_pool.specs.Pointers.{pointer_in}
 use Rattle.draid_pool.specs.Pools.{Represents}
 use Rattle.draid_pool.specs.Whole.{IsWhole}
 use Rattle.draid_pool.proofs.Batched.{Fetching}
@@ -15,6 +17,8 @@ invariant-loop-object g l = record {
   geometry : l.pool.geometry ≡ l.initial.pool.geometry;
   fetched : All (IsFetched (cut_of l.initial.pool.geometry)) l.blocks.items;
   many : l.first + length l.blocks.items ≡ l.object;
+  objects : l.pool.objects ≡ l.initial.pool.objects;
+  found : BlocksOf (pointer_in l.initial.pool) l.first l.blocks.items;
   few : l.bytes < 2 ^ 20;
   bound : l.object ≤ l.first + l.count;
 }

@@ -1,11 +1,18 @@
-use Rattle.std.proofs.Common.{◌-◌, arith}
+use Rattle.std.proofs.Common.{◌-◌, ◌+◌, ◌∙◌, arith, nat_eq, refl, subst}
+use Rattle.std.specs.HashMap.{get}
 use Rattle.std.proofs.lemmas.Result.{err_from_is_err_and}
+use Rattle.draid_pool.specs.PointerSums.{AddsFitting, StopsSum}
+use Rattle.draid_pool.specs.Pointers.{pointer_in}
+use Rattle.draid_pool.proofs.Pointed.{same_pointers}
+use Rattle.draid_pool.proofs.PointedSums.{sofar_done, sofar_more, sofar_none, sofar_stops}
 use Rattle.draid_pool.proofs.Sums.{sum_done, sum_stops, summing_more, summing_none}
 use Rattle.draid_pool.proofs.pool.Pool.sum.Goals as goal
 
 pub loop-summed-init : goal.loop-summed-init
 loop-summed-init g c = record {
   summing = λ x is. summing_none g.R.Rack g.A.Area c.args.self.now x c.args.first c.new-hasher.result c.new-hasher.ensures is;
+  objects = refl;
+  sofar = sofar_none (pointer_in c.args.self.now) c.args.first c.new-hasher.result c.new-hasher.ensures;
   whole = c.requires.whole;
   bound = omega arith;
 }
@@ -16,6 +23,14 @@ add_batch-requires-clause-whole g c κs within = c.loop-summed.invariant.whole
 pub returns-in_err-summed : goal.returns-in_err-summed
 returns-in_err-summed g c = record {
   whole = c.in_err-summed.ensures.whole;
+  same = same_pointers c.args.self.now c.add_batch.new.pool (c.in_err-summed.ensures.objects ∙ c.loop-summed.invariant.objects);
+  sums =
+      (let p = err_from_is_err_and c.from_residual.result c.from_residual.ensures.1 in
+      let below = c.loop-summed-test.true in
+      rw (p.1, p.2) (sofar_stops (pointer_in c.args.self.now) c.args.first c.loop-summed.summed (c.args.count - c.loop-summed.summed) c.args.count c.loop-summed.hasher c.in_err-summed.field-0.0
+      c.loop-summed.invariant.sofar
+      (subst (λ table. StopsSum (λ o. get nat_eq table o) (c.args.first + c.loop-summed.summed) (c.args.count - c.loop-summed.summed) c.in_err-summed.field-0.0) c.loop-summed.invariant.objects c.in_err-summed.ensures.adds)
+      (omega (arith, below))));
   step = λ x is.
       (let p = err_from_is_err_and c.from_residual.result c.from_residual.ensures.1 in
       rw (p.1, p.2) (sum_stops g.R.Rack g.A.Area c.loop-summed.self c.add_batch.new.pool x c.args.first c.loop-summed.summed c.args.count c.loop-summed.hasher c.add_batch.new.hasher
@@ -44,6 +59,10 @@ loop-summed-preserved g c =
     let below = c.loop-summed-test.true in
     record {
       whole = c.in_ok-summed.ensures.whole;
+      objects = c.in_ok-summed.ensures.objects ∙ c.loop-summed.invariant.objects;
+      sofar = sofar_more (pointer_in c.args.self.now) c.args.first c.loop-summed.summed c.in_ok-summed.field-0 c.loop-summed.hasher c.add_batch.new.hasher c.loop-summed.invariant.sofar
+          (subst (λ table. AddsFitting (λ o. get nat_eq table o) (c.args.first + c.loop-summed.summed) c.in_ok-summed.field-0 c.loop-summed.hasher c.add_batch.new.hasher) c.loop-summed.invariant.objects
+          c.in_ok-summed.ensures.adds);
       summing = λ x given.
           summing_more g.R.Rack g.A.Area c.loop-summed.self c.add_batch.new.pool x c.args.first c.loop-summed.summed (c.args.count - c.loop-summed.summed)
           c.in_ok-summed.field-0 c.loop-summed.hasher c.add_batch.new.hasher (c.loop-summed.invariant.summing x given) (λ y represents. c.in_ok-summed.ensures.step y represents);
@@ -53,6 +72,11 @@ loop-summed-preserved g c =
 pub returns : goal.returns
 returns g c = record {
   whole = c.loop-summed.invariant.whole;
+  same = same_pointers c.args.self.now c.loop-summed.self c.loop-summed.invariant.objects;
+  sums =
+      (let end = c.loop-summed-test.false in
+      let bound = c.loop-summed.invariant.bound in
+      sofar_done (pointer_in c.args.self.now) c.args.first c.loop-summed.summed c.args.count c.loop-summed.hasher c.finalize.result c.loop-summed.invariant.sofar (omega (arith, end, bound)) c.finalize.ensures);
   step = λ x is.
       (let end = c.loop-summed-test.false in
       let bound = c.loop-summed.invariant.bound in
