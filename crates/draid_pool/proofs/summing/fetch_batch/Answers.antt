@@ -47,10 +47,12 @@ returns-in-Err g c =
       few = (let many = i.many in omega (arith, many, below));
       objects = c.in-Err.ensures.objects ∙ i.objects;
       found = i.found;
-      stops = (let many = i.many in (omega (arith, many, below),
-          subst (λ (o : ℕ). StopsFor (pointer_in c.args.pool.now o) c.in-Err.why) (sym many)
-          (fetch_stops (pointer_in c.args.pool.now c.loop-object.object) c.in-Err.why
-          (subst (λ table. FetchFinds (get nat_eq table c.loop-object.object) (Err c.in-Err.why)) i.objects c.in-Err.ensures.found))));
+      stops = (let many = i.many in (
+        omega (arith, many, below),
+        subst (λ (o : ℕ). StopsFor (pointer_in c.args.pool.now o) c.in-Err.why) (sym many)
+            (fetch_stops (pointer_in c.args.pool.now c.loop-object.object) c.in-Err.why
+            (subst (λ table. FetchFinds (get nat_eq table c.loop-object.object) (Err c.in-Err.why)) i.objects c.in-Err.ensures.found)),
+      ));
       step = λ x is.
           fetching_ends g.R.Rack g.A.Area c.loop-object.pool c.fetch.new.self x c.args.first c.args.count c.loop-object.object c.loop-object.blocks.items
           batch c.in-Err.why (i.fetching x is) below refl refl (λ y represents. c.in-Err.ensures.step y represents);
@@ -105,7 +107,7 @@ returns g c =
     let i = c.loop-object.invariant in
     let P : Pool g.row.R.Denot g.row.A.Denot → Vec Fetched Global → Type 0
     = λ p v. IsWhole g.R.Rack g.A.Area p × All (IsFetched (cut_of p.geometry)) v.items × (1 ≤ length v.items) × (length v.items ≤ c.args.count)
-        × (p.objects ≡ c.args.pool.now.objects) × BlocksOf (pointer_in c.args.pool.now) c.args.first v.items in
+    × (p.objects ≡ c.args.pool.now.objects) × BlocksOf (pointer_in c.args.pool.now) c.args.first v.items in
     let z : P c.loop-object-test.pool c.loop-object-test.blocks = elim c.loop-object-test.branch [
       | else-loop-object-test w ↦
           let ends = w.loop-object-test.false in

@@ -17,9 +17,10 @@ returns-in_default g c =
     record {
       whole = whole_table g.R.Rack g.A.Area old new c.requires.whole refl refl refl refl refl
           (λ o q at. c.requires.whole.objects o q (removed (λ i. get nat_eq new.objects i) (λ i. get nat_eq old.objects i) c.args.object (λ i. c.remove.ensures.updates.0 i) o q at).0);
-      frees =
-          (sym c.remove.ensures.value ∙ c.in_default.is,
-          none_taken (λ i. get nat_eq new.objects i) (λ i. get nat_eq old.objects i) c.args.object (λ i. c.remove.ensures.updates.0 i) (sym c.remove.ensures.value ∙ c.in_default.is));
+      frees = (
+        sym c.remove.ensures.value ∙ c.in_default.is,
+        none_taken (λ i. get nat_eq new.objects i) (λ i. get nat_eq old.objects i) c.args.object (λ i. c.remove.ensures.updates.0 i) (sym c.remove.ensures.value ∙ c.in_default.is),
+      );
       step = λ x is.
           unfreed_step g.R.Rack g.A.Area c.args.object NoObject old new x is (sym c.remove.ensures.value ∙ c.in_default.is) refl refl refl refl refl (λ q. c.remove.ensures.updates.0 q);
     }

@@ -82,8 +82,11 @@ returns-in-Ok g c =
     = record { geometry = old.geometry; shards = with_item old.shards c.args.metaslab c.store.new.shard; uber = old.uber; objects = c.reserve.new.self; seq = old.seq + 1; floor = c.in-Ok.pointer.birth; alloc = old.alloc } in
     record {
       whole = c.replace.ensures.whole;
-      writes = (c.in-Ok.pointer, content_fits c.in-Ok.pointer c.args.block.now.bytes e.content,
-          behind (pointer_in c.replace.new.self) (pointer_in mid) (pointer_in old) c.args.object (Some c.in-Ok.pointer) c.replace.ensures.sets (λ q. c.reserve.ensures.entries.2 q));
+      writes = (
+        c.in-Ok.pointer,
+        content_fits c.in-Ok.pointer c.args.block.now.bytes e.content,
+        behind (pointer_in c.replace.new.self) (pointer_in mid) (pointer_in old) c.args.object (Some c.in-Ok.pointer) c.replace.ensures.sets (λ q. c.reserve.ensures.entries.2 q),
+      );
       step = λ x is.
           (let n = stored_here g.R.Rack g.A.Area c.args.metaslab c.args.object c.args.block.now.bytes old shard c.store.new.shard x is at.0 c.in-Ok.pointer e.stores in
           wrote g.R.Rack g.A.Area c.args.metaslab c.args.object c.args.block.now.bytes old shard c.store.new.shard x is at.0 c.in-Ok.pointer n mid refl refl refl refl refl (λ q. c.reserve.ensures.entries.2 q) c.replace.new.self
