@@ -31,7 +31,7 @@ pub(crate) fn make_area(
 pub(crate) fn open_area(folder: &Folder, name: FileName) -> Result<FileArea, DeviceFault>
     ensures { IfOk result (λ area. area.file.faults ≡ 0) }
 {
-    let file = folder.open(name)?;
+    let file = folder.open_renewed(name)?;
     match file.length() {
         Ok(size) => Ok(FileArea { file, size }),
         Err(_) => Err(DeviceFault::Failed),

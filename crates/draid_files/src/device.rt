@@ -3,9 +3,9 @@ ghost use Rattle.std.specs.Prelude.{◌≡◌, ◌≤◌, length};
 ghost use Rattle.draid_names.specs.Faults.{HasCause, Rose};
 
 use draid_names::Failed;
+use std::alloc::Global;
 use std::fs::File;
 use std::io;
-use std::os::fd::AsRawFd;
 use std::os::unix::fs::FileExt;
 
 /// An open file, and how often calls on it have failed.
@@ -45,15 +45,18 @@ impl DeviceFile {
         self.file.sync_all()
     }
 
-    /// Has the disk take what an earlier run wrote, and lets go of what the system keeps of it in memory: after a sync
-    /// that failed in that run it may be other bytes than the disk has.
+    /// Has the disk take what an earlier run wrote.
     pub(crate) fn settle(&self) -> io::Result<()> {
-        self.file.sync_all()?;
-        let advised = libc::posix_fadvise(self.file.as_raw_fd(), 0, 0, libc::POSIX_FADV_DONTNEED);
-        if advised != 0 {
-            return Err(io::Error::from_raw_os_error(advised));
-        }
-        Ok(())
+        self.file.sync_all()
+    }
+
+    /// Writes all its bytes again, and has the disk take them. After a sync that failed in an earlier run the system may
+    /// have some of them in memory alone, and take them for written.
+    pub(crate) fn renew(&self, alloc: Global) -> io::Result<()> {
+        let mut bytes = vec![in alloc; 0; self.length()? as usize]?;
+        self.file.read_exact_at(&mut bytes, 0)?;
+        self.file.write_all_at(&bytes, 0)?;
+        self.file.sync_all()
     }
 
     /// Fills `into` with the bytes from there on.

@@ -68,7 +68,7 @@ impl Folder {
         Ok(file)
     }
 
-    /// Opens a file, as the disk has it.
+    /// Opens a file, and has the disk take it.
     pub(crate) fn open(&self, name: FileName) -> Result<DeviceFile, DeviceFault>
         ensures { IfOk result (λ file. file.faults ≡ 0) }
     {
@@ -79,6 +79,15 @@ impl Folder {
             .open(&self.rt, path.as_str());
         let file = DeviceFile::new(answered(opened)?);
         answered(file.settle())?;
+        Ok(file)
+    }
+
+    /// Opens a file whose bytes the disk is to have as they are read, whatever became of an earlier run.
+    pub(crate) fn open_renewed(&self, name: FileName) -> Result<DeviceFile, DeviceFault>
+        ensures { IfOk result (λ file. file.faults ≡ 0) }
+    {
+        let file = self.open(name)?;
+        answered(file.renew(self.alloc()))?;
         Ok(file)
     }
 
