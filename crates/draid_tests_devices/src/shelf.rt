@@ -109,7 +109,12 @@ fn read_both<R: Rack>(rack: &mut R) -> Result<[u8; 2], Failed>
 }
 
 /// Whether the shelf has the devices of metaslab 1, the two sectors read so, and the record is so long.
-pub(crate) fn has_left<H: Shelf>(shelf: &mut H, geometry: &Geometry, sectors: [u8; 2], record: u64) -> bool
+pub(crate) fn has_left<H: Shelf>(
+    shelf: &mut H,
+    geometry: &Geometry,
+    sectors: [u8; 2],
+    record: u64,
+) -> bool
     requires { geometry.now.props.sector ≡ 512 }
 {
     match shelf.take(1, geometry) {
