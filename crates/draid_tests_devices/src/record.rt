@@ -9,7 +9,7 @@ use draid_record::{
 use draid_spec::{Geometry, Props, Spec, SpecFault, geometry, parse_spec};
 use std::alloc::Global;
 
-const PROPS: Props = Props {
+pub(crate) const PROPS: Props = Props {
     sector: 512,
     height: 8,
     metaslabs: 1,
