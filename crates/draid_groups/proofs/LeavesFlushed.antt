@@ -1,10 +1,10 @@
 -- The leaves that a seal flushes.
-use Rattle.std.proofs.Common.{◌≡◌, ◌==◌, ◌<◌, ◌≤◌, ◌^◌, ◌&&◌, not, ◌∙◌, ℕ, zero, suc, Bool, true, false, List, [], ◌∷◌, Option, Some, None, arith, refl, sym, ap, subst, inl, inr, length, get_or, slice_get}
-use Rattle.std.specs.Prelude.{Contains, is_some, slice_index_or}
+use Rattle.std.proofs.Common.{◌≡◌, ◌==◌, ◌+◌, ◌++◌, ◌||◌, ◌<◌, ◌≤◌, ◌^◌, ◌&&◌, not, ◌∙◌, ℕ, zero, suc, Bool, true, false, List, [], ◌∷◌, Option, Some, None, arith, refl, sym, ap, subst, inl, inr, length, get_or, slice_get}
+use Rattle.std.specs.Prelude.{All, Contains, IsSome, is_some, slice_index_or}
 use Rattle.std.specs.List.{list_any}
 use Rattle.std.proofs.lemmas.Bool.{cases_lt, true≢false}
 use Rattle.std.proofs.lemmas.Bool.Decides.{nat_tests}
-use Rattle.std.proofs.lemmas.List.Elements.{All-nil}
+use Rattle.std.proofs.lemmas.List.Elements.{All-nil, All-push}
 use Rattle.std.proofs.lemmas.List.Folds.{list_any_at}
 use Rattle.draid_names.specs.declared.arm.Arm.{Arm}
 use Rattle.draid_names.specs.declared.arm.ArmAt.{ArmAt}
@@ -15,6 +15,7 @@ use Rattle.draid_machine.specs.declared.names.ArmName.TheVariants.{Leaf, Spare}
 use Rattle.draid_machine.specs.Arms.{is_here, leaf_answers, online}
 use Rattle.draid_machine.specs.State as machine
 use Rattle.draid_machine.proofs.Small.{absurd_test, both_true, either_true, true_both, is_equal, none_some, not_true, some_injective, some_same}
+use Rattle.draid_columns.specs.Flushes.{has_leaf}
 use Rattle.draid_rack.specs.Rack.{Shape}
 use Rattle.draid_slots.specs.declared.slot.Detached.{Detached}
 use Rattle.draid_slots.specs.Table.{IsArmOf, IsTable, IsThere, SlotTable, arm_at, arms_of, is_leaf_kind, is_leaving_online}
@@ -31,7 +32,7 @@ leaf_there q leaf is = by (q.arm (Leaf leaf)) refl
     by None at = absurd_test false (sym (ap (λ o. is_here o && online o) at) ∙ is) refl
     by (Some a) at = (a, at, (both_true (is_here (Some a)) (online (Some a)) (sym (ap (λ o. is_here o && online o) at) ∙ is)).0)
 
-number_in : ArmName → ℕ
+abbrev number_in : ArmName → ℕ
 number_in (Leaf m) = m
 number_in (Spare t) = t
 
@@ -193,3 +194,35 @@ pub flushed_all : (shape : Shape) (slots : SlotTable) (leaves : List ℕ) (from 
 flushed_all shape slots leaves from none f =
     let all = flushed_on shape slots leaves from (2 ^ 64) none f in
     record { there = all.there; online = all.online; all = all.below }
+
+-- ---- one leaf more
+
+or_left : (a b : Bool) → a ≡ true → (a || b) ≡ true
+or_left a b is = ap (λ c. c || b) is
+
+or_right : (a b : Bool) → b ≡ true → (a || b) ≡ true
+or_right true b is = refl
+or_right false b is = is
+
+has_front : (xs back : List ℕ) (leaf : ℕ) → has_leaf xs leaf ≡ true → has_leaf (xs ++ back) leaf ≡ true
+has_front [] back leaf is = absurd_test false is refl
+has_front (y ∷ ys) back leaf is = elim (either_true (y == leaf) (has_leaf ys leaf) is) [
+  | inl here ↦ or_left (y == leaf) (has_leaf (ys ++ back) leaf) here
+  | inr behind ↦ or_right (y == leaf) (has_leaf (ys ++ back) leaf) (has_front ys back leaf behind)
+]
+
+has_last : (xs : List ℕ) (leaf : ℕ) → has_leaf (xs ++ leaf ∷ []) leaf ≡ true
+has_last [] leaf = or_left (leaf == leaf) false (same_is leaf leaf refl)
+has_last (y ∷ ys) leaf = or_right (y == leaf) (has_leaf (ys ++ leaf ∷ []) leaf) (has_last ys leaf)
+
+-- a leaf that isn't offline is added to those below it
+pub flushed_more : (shape : Shape) (slots : SlotTable) (leaves more : List ℕ) (leaf : ℕ) → ((q : machine.Core) → HasSlots slots q → IsOnline q leaf) → more ≡ leaves ++ leaf ∷ [] → IsSome (shape.leaves leaf)
+    → FlushedBelow shape slots leaves leaf → FlushedBelow shape slots more (leaf + 1)
+flushed_more shape slots leaves more leaf online items some f = record {
+  there = subst (All (λ l. IsSome (shape.leaves l))) (sym items) (All-push (λ l. IsSome (shape.leaves l)) leaves leaf f.there some);
+  online = λ q has. subst (All (IsOnline q)) (sym items) (All-push (IsOnline q) leaves leaf (f.online q has) (online q has));
+  below = λ q other has less there on. subst (λ ls. has_leaf ls other ≡ true) (sym items) (elim (cases_lt other leaf) [
+    | inl low ↦ has_front leaves (leaf ∷ []) other (f.below q other has low there on)
+    | inr high ↦ subst (λ n. has_leaf (leaves ++ leaf ∷ []) n ≡ true) (omega (arith, less, high)) (has_last leaves leaf)
+  ]);
+}

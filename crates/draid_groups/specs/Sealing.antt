@@ -6,7 +6,7 @@ use Rattle.draid_chain.specs.Chain.{stands_before}
 use Rattle.draid_columns.specs.Flushes.{has_leaf}
 use Rattle.draid_rack.specs.Rack.{Shape}
 use Rattle.draid_machine.specs.declared.names.ArmName.TheVariants.{Leaf}
-use Rattle.draid_machine.specs.Arms.{leaf_answers, passes}
+use Rattle.draid_machine.specs.Arms.{passes}
 use Rattle.draid_machine.specs.Names.{any_below, has_number}
 use Rattle.draid_machine.specs.State as machine
 use Rattle.draid_record.specs.Record.{told_record}
