@@ -27,7 +27,7 @@ left_agrees Bare entry now holds tells = refl
 left_agrees (Made told failed geometry) entry now holds tells = holds.told_is ∙ tells
 left_agrees (Open x) entry now holds tells = holds.told ∙ tells
 left_agrees (Shut crash x) entry now holds tells = holds.told ∙ tells
-left_agrees Foreign entry now holds tells = tt
+left_agrees (Foreign known) entry now holds tells = tt
 left_agrees Unknown entry now holds tells = tt
 
 -- a book at the end of a run, before the pool is given back
@@ -62,7 +62,7 @@ ends_at ended (Some text) mid last b keeps agrees off = absurd off
 -- a desk that a shelf holds has no open pool
 holds_left : (desk : Desk) (shelf : OnShelf) → HoldsDesk desk shelf shelf → left_of desk ≡ desk
 holds_left (Open x) shelf holds = absurd holds
-holds_left Foreign shelf holds = absurd holds
+holds_left (Foreign known) shelf holds = absurd holds
 holds_left desk shelf holds = refl
 
 next_keeps : (crash : Bool) (desk : Desk) (b : Book) → Keeps (left_of desk) b → Keeps (next_desk crash desk) b

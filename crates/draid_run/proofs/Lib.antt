@@ -20,3 +20,4 @@ pub mod Said
 pub mod Serving
 pub mod Shown
 pub mod Steps
+pub mod Taught
