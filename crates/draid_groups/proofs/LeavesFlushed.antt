@@ -31,7 +31,7 @@ leaf_there q leaf is = by (q.arm (Leaf leaf)) refl
     by None at = absurd_test false (sym (ap (λ o. is_here o && online o) at) ∙ is) refl
     by (Some a) at = (a, at, (both_true (is_here (Some a)) (online (Some a)) (sym (ap (λ o. is_here o && online o) at) ∙ is)).0)
 
-number_in : ArmName → ℕ
+abbrev number_in : ArmName → ℕ
 number_in (Leaf m) = m
 number_in (Spare t) = t
 

@@ -14,6 +14,7 @@ pub mod Known
 pub mod Makings
 pub mod Next
 pub mod Printing
+pub mod Remembered
 pub mod Risen
 pub mod Runs
 pub mod Said
