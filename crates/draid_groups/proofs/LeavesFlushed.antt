@@ -1,11 +1,11 @@
 -- The leaves that a seal flushes.
-use Rattle.std.proofs.Common.{◌≡◌, ◌==◌, ◌<◌, ◌≤◌, ◌^◌, ◌&&◌, not, ◌∙◌, ℕ, zero, suc, Bool, true, false, List, [], ◌∷◌, Option, Some, None, arith, refl, sym, ap, subst, inl, inr, length, get_or, slice_get}
-use Rattle.std.specs.Prelude.{Contains, is_some, slice_index_or}
+use Rattle.std.proofs.Common.{◌≡◌, ◌==◌, ◌<◌, ◌≤◌, ◌^◌, ◌+◌, ◌&&◌, ◌||◌, not, ◌∙◌, ℕ, zero, suc, Bool, true, false, List, [], ◌∷◌, ◌++◌, Option, Some, None, arith, refl, sym, ap, subst, inl, inr, length, get_or, slice_get}
+use Rattle.std.specs.Prelude.{Contains, IsSome, is_some, slice_index_or}
 use Rattle.std.specs.List.{list_any}
 use Rattle.std.proofs.lemmas.Bool.{cases_lt, true≢false}
 use Rattle.std.proofs.lemmas.Bool.Decides.{nat_tests}
-use Rattle.std.proofs.lemmas.List.Elements.{All-nil}
-use Rattle.std.proofs.lemmas.List.Folds.{list_any_at}
+use Rattle.std.proofs.lemmas.List.Elements.{All-nil, All-push}
+use Rattle.std.proofs.lemmas.List.Folds.{list_any-append, list_any_at}
 use Rattle.draid_names.specs.declared.arm.Arm.{Arm}
 use Rattle.draid_names.specs.declared.arm.ArmAt.{ArmAt}
 use Rattle.draid_names.specs.declared.arm.ArmKind.{ArmKind}
@@ -20,6 +20,7 @@ use Rattle.draid_slots.specs.declared.slot.Detached.{Detached}
 use Rattle.draid_slots.specs.Table.{IsArmOf, IsTable, IsThere, SlotTable, arm_at, arms_of, is_leaf_kind, is_leaving_online}
 use Rattle.draid_slots.specs.States.{HasSlots, IsGone, arm_in, name_of, named}
 use Rattle.draid_groups.specs.Sealing.{AreFlushed, FlushedBelow, IsOnline}
+use Rattle.draid_columns.specs.Flushes.{has_leaf}
 use Rattle.draid_shard.specs.Fits.{IsLeaf}
 use Rattle.draid_groups.proofs.Missing.{slot_inside}
 
@@ -193,3 +194,27 @@ pub flushed_all : (shape : Shape) (slots : SlotTable) (leaves : List ℕ) (from 
 flushed_all shape slots leaves from none f =
     let all = flushed_on shape slots leaves from (2 ^ 64) none f in
     record { there = all.there; online = all.online; all = all.below }
+
+or_true : (a b : Bool) → b ≡ true → (a || b) ≡ true
+or_true true b is = refl
+or_true false b is = is
+
+has_before : (leaves : List ℕ) (last leaf : ℕ) → has_leaf leaves leaf ≡ true → has_leaf (leaves ++ last ∷ []) leaf ≡ true
+has_before leaves last leaf is = list_any-append (λ l. l == leaf) leaves (last ∷ []) ∙ ap (λ b. b || list_any (λ l. l == leaf) (last ∷ [])) is
+
+has_last : (leaves : List ℕ) (last leaf : ℕ) → last ≡ leaf → has_leaf (leaves ++ last ∷ []) leaf ≡ true
+has_last leaves last leaf is =
+    list_any-append (λ l. l == leaf) leaves (last ∷ [])
+    ∙ or_true (list_any (λ l. l == leaf) leaves) (list_any (λ l. l == leaf) (last ∷ [])) (list_any_at (λ l. l == leaf) (last ∷ []) 0 last (omega arith) (same_is last leaf is))
+
+-- one more leaf is to be flushed
+pub flushed_more : (shape : Shape) (slots : SlotTable) (leaves new : List ℕ) (last : ℕ) → new ≡ leaves ++ last ∷ [] → ((q : machine.Core) → HasSlots slots q → IsOnline q last) → IsSome (shape.leaves last)
+    → FlushedBelow shape slots leaves last → FlushedBelow shape slots new (last + 1)
+flushed_more shape slots leaves new last made online there f = subst (λ xs. FlushedBelow shape slots xs (last + 1)) (sym made) (record {
+  there = All-push (λ l. IsSome (shape.leaves l)) leaves last f.there there;
+  online = λ q has. All-push (IsOnline q) leaves last (f.online q has) (online q has);
+  below = λ q leaf has less is on. elim (cases_lt leaf last) [
+    | inl low ↦ has_before leaves last leaf (f.below q leaf has low is on)
+    | inr high ↦ has_last leaves last leaf (omega (arith, less, high))
+  ];
+})
