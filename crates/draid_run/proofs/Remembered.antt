@@ -1,6 +1,7 @@
 -- What is known of an object stays so while lines spare it.
 use Rattle.std.proofs.Common.{◌≡◌, ◌==◌, ◌∙◌, ◌<◌, ◌≤◌, ◌+◌, ◌⊎◌, ℕ, zero, suc, Bool, List, [], ◌∷◌, ◌++◌, Option, Some, None, Result, Ok, Err, Vec, Global, arith, refl, sym, ap, subst, inl, inr, cond, nat_eq, length}
 use Rattle.std.proofs.lemmas.Bool.{cases_eq}
+use Rattle.std.proofs.lemmas.Bool.Decides.{nat_tests}
 use Rattle.draid_names.specs.declared.room.Room.{Room}
 use Rattle.draid_names.specs.declared.refusal.ObjectFault.{ObjectFault}
 use Rattle.draid_names.specs.declared.refusal.ObjectFault.TheVariants as fault
@@ -11,6 +12,7 @@ use Rattle.draid_script.specs.declared.fault.LineFault.{LineFault}
 use Rattle.draid_reply.specs.declared.reply.Reply.{Reply}
 use Rattle.draid_reply.specs.declared.reply.Reply.TheVariants.{Contents, Crashed, Exported, Filled, FillRefused, FreeNoObject, Freed, NoObject, ReadWorn, Summed, SumRefused, Unreadable, Written}
 use Rattle.draid_session.specs.Known.{AllowsBytes, AllowsNone, Known, Learns, MayGiveNone, MayHaveAll, learns, learns_all, learns_filled, learns_lost}
+use Rattle.draid_session.specs.Making.{content_of}
 use Rattle.draid_session.specs.Reads.{ReadsAs}
 use Rattle.draid_session.specs.Replies.{IsReplyTo}
 use Rattle.draid_session.specs.Session.{Desk, Finding, Foreign, Runs, TurnsBy}
@@ -108,9 +110,9 @@ module _ (object : ℕ) (bytes : List ℕ) where
   kept_on : (command : Command) (reply : Reply) (old new : Known) → Spares object (Ok command) → IsReplyTo command reply → Learns command reply old new → HasKnown old → HasKnown new
   kept_on (WriteObject q bs) (Written o) old new spares fits it has = has_other q (Some bs) old new it spares has
   kept_on (WriteObject q bs) reply old new spares fits it has = has_same old new it has
-  kept_on (FillObjects first count len seed) (Filled f written) old new spares fits it has = has_same _ new it (has_filled _ first count old spares has)
+  kept_on (FillObjects first count len seed) (Filled f written) old new spares fits it has = has_same (learns_filled (λ o. content_of seed o len) first count old) new it (has_filled (λ o. content_of seed o len) first count old spares has)
   kept_on (FillObjects first count len seed) (FillRefused f written why) old new spares fits it has =
-      has_same _ new it (has_filled _ first written old (less first written count (let few = fits.1 in omega (arith, few)) spares) has)
+      has_same (learns_filled (λ o. content_of seed o len) first written old) new it (has_filled (λ o. content_of seed o len) first written old (less first written count (let few = fits.1 in omega (arith, few)) spares) has)
   kept_on (FillObjects first count len seed) reply old new spares fits it has = has_same old new it has
   kept_on (ReadObject q) (Contents o got) old new spares fits it has = has_bytes q got.items old old new it.1 has it.0 has
   kept_on (ReadObject q) (NoObject o) old new spares fits it has = has_none q old old new it.1 has it.0 has
@@ -120,9 +122,9 @@ module _ (object : ℕ) (bytes : List ℕ) where
   kept_on (FreeObject q) (Freed o) old new spares fits it has = has_other q None old new it.1 spares has
   kept_on (FreeObject q) (FreeNoObject o) old new spares fits it has = has_other q None old new it.1 spares has
   kept_on (FreeObject q) reply old new spares fits it has = has_same old new it has
-  kept_on (SumObjects first count) (Summed f c digest) old new spares fits it has = has_same _ new it.learned (has_all it.contents first old it.may has)
+  kept_on (SumObjects first count) (Summed f c digest) old new spares fits it has = has_same (learns_all first it.contents old) new it.learned (has_all it.contents first old it.may has)
   kept_on (SumObjects first count) (SumRefused q why) old new spares fits it has =
-      has_same _ new it.learned (has_lost q why old (learns_all first it.contents old) it.lost has (has_all it.contents first old it.may has))
+      has_same (learns_lost q why (learns_all first it.contents old)) new it.learned (has_lost q why old (learns_all first it.contents old) it.lost has (has_all it.contents first old it.may has))
   kept_on (SumObjects first count) reply old new spares fits it has = has_same old new it has
   kept_on command reply old new spares fits it has = has_same old new it has
 
