@@ -1,17 +1,16 @@
 -- Each run is answered as the book has it, and so are runs one after another.
-use Rattle.std.proofs.Common.{◌≡◌, ◌∙◌, refl, sym, ap, subst, ℕ, Bool, true, false, List, [], ◌∷◌, Option, Some, None, Ok, MatchOption}
-use Rattle.std.specs.Prelude.{⊤, is_some, IsSomeAnd}
+use Rattle.std.proofs.Common.{◌≡◌, ◌∙◌, refl, sym, subst, ℕ, Bool, true, false, List, [], ◌∷◌, Option, Some, None}
+use Rattle.std.specs.Prelude.{is_some, IsSomeAnd}
 use Rattle.draid_names.specs.declared.room.Room.{Room}
 use Rattle.draid_rack.specs.declared.Rack as racks
 use Rattle.draid_area.specs.declared.Area as areas
-use Rattle.draid_script.specs.Grammar.{line_of}
 use Rattle.draid_shelf.specs.Kits.{Held}
-use Rattle.draid_session.specs.Book.{AnswersRun, Book, BreaksAtLine, BreaksBook, EndsBook, blank, closed}
+use Rattle.draid_session.specs.Book.{Book, BreaksAtLine, EndsBook, blank, closed}
 use Rattle.draid_session.specs.Keeping.{Keeps}
-use Rattle.draid_session.specs.Session.{Agrees, Bare, Breaks, Desk, Finding, Foreign, Made, Open, RecordFails, Runs, ShelfFails, Shut, Unknown, Untouched, left_of}
+use Rattle.draid_session.specs.Session.{Agrees, Bare, Desk, Foreign, Made, Open, RecordFails, Runs, ShelfFails, Shut, Unknown, Untouched, left_of}
 use Rattle.draid_session.proofs.Turning.{breaks_ends, left_keeps, no_record_fails, run_turns, AllAnswered}
 use Rattle.draid_run.specs.Books.{AreRuns, BrokeAt, KeepBook, KeepsBook, OneRun}
-use Rattle.draid_run.specs.Next.{IsFound, next_desk}
+use Rattle.draid_run.specs.Next.{next_desk}
 use Rattle.draid_run.specs.Script.{BreaksAt, BreaksOff, RunIs, RunsFrom}
 use Rattle.draid_run.specs.Shelves.{HoldsBare, HoldsDesk, MayFind, OnShelf}
 use Rattle.draid_run.specs.declared.status.Status.{Status}

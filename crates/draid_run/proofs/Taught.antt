@@ -1,5 +1,5 @@
 -- What the calls of a pool say of its objects by what is known of them.
-use Rattle.std.proofs.Common.{◌≡◌, ◌==◌, ◌∙◌, ◌<◌, ◌+◌, ℕ, suc, Bool, true, false, List, [], ◌∷◌, Option, Some, None, Result, Ok, Err, Vec, Global, arith, refl, sym, ap, subst, inl, inr, cond, nat_eq}
+use Rattle.std.proofs.Common.{◌≡◌, ◌∙◌, ◌+◌, ℕ, suc, Bool, true, false, List, [], ◌∷◌, Option, Some, None, Result, Ok, Err, Vec, Global, arith, refl, sym, ap, subst, inl, inr, cond, nat_eq}
 use Rattle.std.proofs.lemmas.Bool.{cases_eq}
 use Rattle.std.proofs.lemmas.Bool.Decides.{nat_tests}
 use Rattle.draid_names.specs.declared.pointer.Pointer.{Pointer}
@@ -11,7 +11,7 @@ use Rattle.draid_reply.specs.declared.reply.Reply.{Reply}
 use Rattle.draid_reply.specs.declared.reply.Reply.TheVariants.{Filled, FillRefused, Written}
 use Rattle.draid_session.specs.Known.{AllowsBytes, AllowsNone, AllowsSome, Known, Learns, MayGiveNone, MayHaveAll, learns, learns_all, learns_filled, learns_lost}
 use Rattle.draid_session.specs.Making.{content_of}
-use Rattle.draid_pool.specs.Pointers.{FitsPointer, FreeTakes, ReadFinds, SamePointers, SetsPointer, WriteSets, pointer_in}
+use Rattle.draid_pool.specs.Pointers.{FitsPointer, FreeTakes, ReadFinds, SamePointers, WriteSets, pointer_in}
 use Rattle.draid_pool.specs.PointerSums.{FitPointers, StopsFor, SumFinds}
 use Rattle.draid_pool.specs.declared.fault.FreeFault.{FreeFault}
 use Rattle.draid_pool.specs.declared.fault.FreeFault.TheVariants as free
