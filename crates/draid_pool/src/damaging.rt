@@ -7,6 +7,7 @@ ghost use Rattle.draid_shard.specs.Part.{Part};
 ghost use Rattle.draid_shard.specs.States.{part_of};
 ghost use Rattle.draid_session.specs.State.{Metaslab};
 ghost use Rattle.draid_pool.specs.Metaslabs.{IsMetaslab};
+ghost use Rattle.draid_pool.specs.Pointers.{SamePointers};
 ghost use Rattle.draid_pool.specs.Shards.{Goes, SameBlocks, SectorDoes};
 ghost use Rattle.draid_session.specs.State.{State};
 ghost use Rattle.draid_pool.specs.Answers.{DamageDoes};
@@ -54,6 +55,7 @@ impl<R: Rack, A: Area> Pool<R, A> {
     pub fn damage(&mut self, leaf: u64, sector: u64) -> Result<(), DamageFault>
         requires whole { IsWhole R.Rack A.Area self.old }
         ensures whole { IsWhole R.Rack A.Area self.new }
+        ensures same { SamePointers self.old self.new }
         ensures step { (x : State) → Represents R.Rack A.Area self.old x
             → CarriesOut R.Rack A.Area self.new x (DamageDoes x leaf sector result) }
     {

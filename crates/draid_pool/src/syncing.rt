@@ -19,6 +19,7 @@ ghost use Rattle.draid_pool.specs.Answers.{ExportDoes, SyncDoes};
 ghost use Rattle.draid_pool.specs.Carries.{CarriesOut};
 ghost use Rattle.draid_pool.specs.Failing.{AreaRose, AreasLater, RecordsRose};
 ghost use Rattle.draid_pool.specs.Metaslabs.{IsMetaslab};
+ghost use Rattle.draid_pool.specs.Pointers.{SamePointers};
 ghost use Rattle.draid_pool.specs.Pools.{Represents};
 ghost use Rattle.draid_pool.specs.Whole.{IsWhole};
 ghost use Rattle.draid_pool.specs.Syncing.{AreClosing, AreSealed, CloseIs, CommitsBelow, FoundClosing, FoundUnsynced, HasUnsynced};
@@ -97,6 +98,7 @@ impl<R: Rack, A: Area> Pool<R, A> {
     pub fn sync(&mut self) -> Result<Synced, SyncFault>
         requires whole { IsWhole R.Rack A.Area self.old }
         ensures whole { IsWhole R.Rack A.Area self.new }
+        ensures same { SamePointers self.old self.new }
         ensures later { AreasLater A.faults self.old self.new }
         ensures cause { IsErrOf result SyncFault.Shelf → AreaRose A.faults self.old self.new }
         ensures carries { (x : State) → Represents R.Rack A.Area self.old x
@@ -117,6 +119,7 @@ impl<R: Rack, A: Area> Pool<R, A> {
     pub fn sync_for_export(&mut self) -> Result<u64, SyncFault>
         requires whole { IsWhole R.Rack A.Area self.old }
         ensures whole { IsWhole R.Rack A.Area self.new }
+        ensures same { SamePointers self.old self.new }
         ensures later { AreasLater A.faults self.old self.new }
         ensures cause { IsErrOf result SyncFault.Shelf → AreaRose A.faults self.old self.new }
         ensures carries { (x : State) → Represents R.Rack A.Area self.old x
@@ -135,6 +138,7 @@ impl<R: Rack, A: Area> Pool<R, A> {
     fn finish(&mut self) -> Result<(), SyncFault>
         requires whole { IsWhole R.Rack A.Area self.old }
         ensures whole { IsWhole R.Rack A.Area self.new }
+        ensures objects { self.new.objects ≡ self.old.objects }
         ensures later { AreasLater A.faults self.old self.new }
         ensures cause { IsErrOf result SyncFault.Shelf → AreaRose A.faults self.old self.new }
         ensures carries { (x : State) → Represents R.Rack A.Area self.old x
@@ -166,6 +170,7 @@ impl<R: Rack, A: Area> Pool<R, A> {
         requires whole { IsWhole R.Rack A.Area self.old }
         requires next { group ≡ group_of (kept_of self.old.uber) + 1 }
         ensures whole { IsWhole R.Rack A.Area self.new }
+        ensures objects { self.new.objects ≡ self.old.objects }
         ensures later { AreasLater A.faults self.old self.new }
         ensures cause { IsErrOf result SyncFault.Shelf → AreaRose A.faults self.old self.new }
         ensures carries { (x : State) → Represents R.Rack A.Area self.old x
@@ -189,6 +194,7 @@ impl<R: Rack, A: Area> Pool<R, A> {
         requires whole { IsWhole R.Rack A.Area self.old }
         requires next { group ≡ group_of (kept_of self.old.uber) + 1 }
         ensures whole { IsWhole R.Rack A.Area self.new }
+        ensures objects { self.new.objects ≡ self.old.objects }
         ensures later { AreasLater A.faults self.old self.new }
         ensures cause { IsErrOf result SyncFault.Shelf → AreaRose A.faults self.old self.new }
         ensures carries { (x : State) → Represents R.Rack A.Area self.old x
@@ -210,6 +216,7 @@ impl<R: Rack, A: Area> Pool<R, A> {
         requires whole { IsWhole R.Rack A.Area self.old }
         requires closing { AreClosing self.old.shards.items group }
         ensures whole { IsWhole R.Rack A.Area self.new }
+        ensures objects { self.new.objects ≡ self.old.objects }
         ensures later { AreasLater A.faults self.old self.new }
         ensures cause { IsErrOf result SyncFault.Shelf → AreaRose A.faults self.old self.new }
         ensures carries { (x : State) → Represents R.Rack A.Area self.old x
@@ -233,6 +240,7 @@ impl<R: Rack, A: Area> Pool<R, A> {
         requires next { group ≡ group_of (kept_of self.old.uber) + 1 }
         requires sealed { AreSealed self.old.shards.items group }
         ensures whole { IsWhole R.Rack A.Area self.new }
+        ensures objects { self.new.objects ≡ self.old.objects }
         ensures later { AreasLater A.faults self.old self.new }
         ensures cause { IsErrOf result SyncFault.Shelf → AreaRose A.faults self.old self.new }
         ensures carries { (x : State) → Represents R.Rack A.Area self.old x

@@ -5,6 +5,7 @@ use Rattle.draid_script.specs.Line.{Command, SyncPool, WriteObject, FillObjects,
 use Rattle.draid_script.specs.declared.name.CommandName.{CommandName}
 use Rattle.draid_reply.specs.declared.reply.Reply.{Reply}
 use Rattle.draid_reply.specs.declared.reply.Reply.TheVariants.{Crashed, Exported}
+use Rattle.draid_session.specs.Known.{Known}
 use Rattle.draid_session.specs.Replies.{IsReplyTo}
 use Rattle.draid_session.specs.Session.{Open, Foreign, desk_behind, foreign_behind}
 use Rattle.draid_session.specs.State.{State}
@@ -20,10 +21,10 @@ open_behind (Exported group) x keeps = absurd keeps
 open_behind Crashed x keeps = absurd keeps
 open_behind reply x keeps = refl
 
-pub still_foreign : (reply : Reply) → KeepsOpen reply → Foreign ≡ foreign_behind reply
-still_foreign (Exported group) keeps = absurd keeps
-still_foreign Crashed keeps = absurd keeps
-still_foreign reply keeps = refl
+pub still_foreign : (reply : Reply) (known : Known) → KeepsOpen reply → Foreign known ≡ foreign_behind reply known
+still_foreign (Exported group) known keeps = absurd keeps
+still_foreign Crashed known keeps = absurd keeps
+still_foreign reply known keeps = refl
 
 pub sync_keeps : (reply : Reply) → IsReplyTo SyncPool reply → KeepsOpen reply
 sync_keeps (Exported group) is = absurd is

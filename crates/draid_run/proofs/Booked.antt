@@ -1,17 +1,16 @@
 -- Each run is answered as the book has it, and so are runs one after another.
-use Rattle.std.proofs.Common.{◌≡◌, ◌∙◌, refl, sym, ap, subst, ℕ, Bool, true, false, List, [], ◌∷◌, Option, Some, None, Ok, MatchOption}
-use Rattle.std.specs.Prelude.{⊤, is_some, IsSomeAnd}
+use Rattle.std.proofs.Common.{◌≡◌, ◌∙◌, refl, sym, subst, ℕ, Bool, true, false, List, [], ◌∷◌, Option, Some, None}
+use Rattle.std.specs.Prelude.{is_some, IsSomeAnd}
 use Rattle.draid_names.specs.declared.room.Room.{Room}
 use Rattle.draid_rack.specs.declared.Rack as racks
 use Rattle.draid_area.specs.declared.Area as areas
-use Rattle.draid_script.specs.Grammar.{line_of}
 use Rattle.draid_shelf.specs.Kits.{Held}
-use Rattle.draid_session.specs.Book.{AnswersRun, Book, BreaksAtLine, BreaksBook, EndsBook, blank, closed}
+use Rattle.draid_session.specs.Book.{Book, BreaksAtLine, EndsBook, blank, closed}
 use Rattle.draid_session.specs.Keeping.{Keeps}
-use Rattle.draid_session.specs.Session.{Agrees, Bare, Breaks, Desk, Finding, Foreign, Made, Open, RecordFails, Runs, ShelfFails, Shut, Unknown, Untouched, left_of}
+use Rattle.draid_session.specs.Session.{Agrees, Bare, Desk, Foreign, Made, Open, RecordFails, Runs, ShelfFails, Shut, Unknown, Untouched, left_of}
 use Rattle.draid_session.proofs.Turning.{breaks_ends, left_keeps, no_record_fails, run_turns, AllAnswered}
 use Rattle.draid_run.specs.Books.{AreRuns, BrokeAt, KeepBook, KeepsBook, OneRun}
-use Rattle.draid_run.specs.Next.{IsFound, next_desk}
+use Rattle.draid_run.specs.Next.{next_desk}
 use Rattle.draid_run.specs.Script.{BreaksAt, BreaksOff, RunIs, RunsFrom}
 use Rattle.draid_run.specs.Shelves.{HoldsBare, HoldsDesk, MayFind, OnShelf}
 use Rattle.draid_run.specs.declared.status.Status.{Status}
@@ -27,7 +26,7 @@ left_agrees Bare entry now holds tells = refl
 left_agrees (Made told failed geometry) entry now holds tells = holds.told_is ∙ tells
 left_agrees (Open x) entry now holds tells = holds.told ∙ tells
 left_agrees (Shut crash x) entry now holds tells = holds.told ∙ tells
-left_agrees Foreign entry now holds tells = tt
+left_agrees (Foreign known) entry now holds tells = tt
 left_agrees Unknown entry now holds tells = tt
 
 -- a book at the end of a run, before the pool is given back
@@ -62,7 +61,7 @@ ends_at ended (Some text) mid last b keeps agrees off = absurd off
 -- a desk that a shelf holds has no open pool
 holds_left : (desk : Desk) (shelf : OnShelf) → HoldsDesk desk shelf shelf → left_of desk ≡ desk
 holds_left (Open x) shelf holds = absurd holds
-holds_left Foreign shelf holds = absurd holds
+holds_left (Foreign known) shelf holds = absurd holds
 holds_left desk shelf holds = refl
 
 next_keeps : (crash : Bool) (desk : Desk) (b : Book) → Keeps (left_of desk) b → Keeps (next_desk crash desk) b

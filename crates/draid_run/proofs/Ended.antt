@@ -86,7 +86,7 @@ shelf_fails area (Some text) lines Bare last entry now breaks shut failed = shut
 shelf_fails area (Some text) lines (Made told n geometry) last entry now breaks shut failed = shut tt
 shelf_fails area (Some text) lines (Shut crash x) last entry now breaks shut failed = shut tt
 shelf_fails area (Some text) lines Unknown last entry now breaks shut failed = shut tt
-shelf_fails area (Some text) lines Foreign last entry now breaks shut failed = failed
+shelf_fails area (Some text) lines (Foreign known) last entry now breaks shut failed = failed
 shelf_fails area (Some text) lines (Open x) last entry now breaks shut failed =
     let b = breaks.breaks in
     subst (λ d. Fails area (Some text) lines (Open x) d entry now) (sym b.1) (broken_rose x.geometry x.perms breaks.command b.2.holds x b.0 b.2.broken b.2.follows)
@@ -204,7 +204,7 @@ module _ {R A : Type 0} (rack : racks.Ghosts R) (area : areas.Ghosts A) (chosen 
       back (Shut crash x) is = is
       back Unknown is = is
       back (Open x) is = absurd is
-      back Foreign is = absurd is
+      back (Foreign known) is = absurd is
 
   -- a run whose words aren't those of a session
   pub run_refused : (IsSession words → ⊥) → EndsWithLine Usage status old new → RunsFrom rack area chosen words status input old new entry entry first

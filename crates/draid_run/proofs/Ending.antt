@@ -88,7 +88,7 @@ untold_by (Made false failed geometry) last command breaks = refl
 untold_by (Shut crash x) last ImportPool breaks = told_given x.told x last breaks
 untold_by (Shut crash x) last command breaks = absurd breaks
 untold_by (Open x) last command breaks = absurd breaks
-untold_by Foreign last command breaks = absurd breaks
+untold_by (Foreign known) last command breaks = absurd breaks
 
 -- ---- the run
 

@@ -111,7 +111,7 @@ module _ {R A : Type 0} (rack : racks.Ghosts R) (area : areas.Ghosts A) (entry b
       by (Shut crash y) is = record { shelf = is.shelf; failed = λ failed. failed; same = λ closed. refl }
       by Unknown is = record { shelf = is.shelf; failed = λ failed. failed; same = λ closed. refl }
       by (Open y) is = absurd is.stands
-      by Foreign is = absurd is.stands
+      by (Foreign known) is = absurd is.stands
 
   pub leaves_open : (pool : Pool R A) → desk ≡ Some pool → ((x : State) → Represents rack area pool x → GivesBack x false before.held now.held now.leaves now.counts now.own.uber) → now.own.checks ≡ before.own.checks → TellsAsBefore before now
       → (AreaFails area.faults pool → AreaFailed now.counts now.own) → (x : Desk) → IsDesk rack area entry before desk x → LeavesDesk area entry before now desk x
@@ -122,7 +122,7 @@ module _ {R A : Type 0} (rack : racks.Ghosts R) (area : areas.Ghosts A) (entry b
     by (Made told count geometry) is = absurd is.stands
     by (Shut crash y) is = absurd is.stands
     by Unknown is = absurd is.stands
-    by Foreign is = record { shelf = tt; failed = λ failed. inr (shows failed); same = λ closed. absurd closed }
+    by (Foreign known) is = record { shelf = tt; failed = λ failed. inr (shows failed); same = λ closed. absurd closed }
     by (Open y) is =
         let holds = shelf_has y false before now (back y is.stands.1) checks tells is.shelf in
         record {

@@ -12,6 +12,7 @@ use Rattle.draid_session.specs.Follows.{Follows}
 use Rattle.draid_session.specs.Groups as groups
 use Rattle.draid_session.specs.Holds.{Hold}
 use Rattle.draid_session.specs.Phases.{Broke}
+use Rattle.draid_session.specs.Known.{Known}
 use Rattle.draid_session.specs.Replies.{IsReplyTo}
 use Rattle.draid_session.specs.Session.{Desk, Untouched, Bare, Made, Open, Shut, Foreign, Unknown, ShelfFails, TurnsBy}
 use Rattle.draid_session.specs.State.{State, Store}
@@ -19,6 +20,7 @@ use Rattle.draid_pool.specs.Answers.{ExportDoes, SyncDoes}
 use Rattle.draid_pool.specs.Carries.{CarriesOut}
 use Rattle.draid_pool.specs.Closing.{GivesBack}
 use Rattle.draid_pool.specs.Failing.{AreaFails}
+use Rattle.draid_pool.specs.Pointers.{SamePointers}
 use Rattle.draid_pool.specs.Pools.{Represents}
 use Rattle.draid_pool.specs.Whole.{IsWhole}
 use Rattle.draid_pool.specs.declared.fault.SyncFault.{SyncFault}
@@ -27,6 +29,7 @@ use Rattle.draid_pool.specs.declared.fault.Synced.{Synced as Group}
 use Rattle.draid_pool.specs.declared.pool.Pool.{Pool}
 use Rattle.draid_run.specs.Desks.{Broken, IsDesk, IsPool, IsShelf, ReplyDoes, Turned}
 use Rattle.draid_run.specs.Groups.{CrashDid, CrashTurns, ExportDid, ExportIs, ExportTurns, Leads, RefusalIs, SyncDid, SyncLeads, SyncShows, desk_left, export_reply, foreign_left, refusal_of, sync_reply}
+use Rattle.draid_run.specs.Knows.{KnowsPointers}
 use Rattle.draid_run.specs.Serve.{AnswerIs, IsSaid}
 use Rattle.draid_run.specs.Shelves.{IsOut, MayFind, OnShelf, PoolFails, TellsAsBefore}
 use Rattle.draid_run.specs.declared.answer.Stop.{Stop}
@@ -36,6 +39,7 @@ use Rattle.draid_run.proofs.Broke.{broken_shows}
 use Rattle.draid_run.proofs.Following.{same_store}
 use Rattle.draid_run.proofs.GivenBack.{shelf_has}
 use Rattle.draid_run.proofs.Steps.{by_answer, still_out}
+use Rattle.draid_run.proofs.Taught.{still_known}
 
 some_same : {T : Type 0} (a b : T) → Some a ≡ Some b → a ≡ b
 some_same a b is = cc is
@@ -74,9 +78,9 @@ module _ {R A : Type 0} (rack : racks.Ghosts R) (area : areas.Ghosts A) where
       → (result ≡ Err sync.Shelf → AreaFails area.faults pool) → SyncShows area said (Some pool)
   refusal_shows pool result why said is refused fails = shows_why (Some pool) why said refused (λ same. fails (is ∙ ap Err same))
 
-  pub sync_open : (desk : Option (Pool R A)) (pool new : Pool R A) (result : Result Reply Stop) → desk ≡ Some pool → IsWhole rack area new → ((x : State) → Represents rack area pool x → SyncLeads rack area x result new)
+  pub sync_open : (desk : Option (Pool R A)) (pool new : Pool R A) (result : Result Reply Stop) → desk ≡ Some pool → IsWhole rack area new → SamePointers pool new → ((x : State) → Represents rack area pool x → SyncLeads rack area x result new)
       → SyncShows area result (Some new) → (x : Desk) → IsPool rack area desk x → SyncDid rack area x result (Some new)
-  sync_open desk pool new result is whole leads shows x = subst (λ d. IsPool rack area d x → SyncDid rack area x result (Some new)) (sym is) (by x) where
+  sync_open desk pool new result is whole same leads shows x = subst (λ d. IsPool rack area d x → SyncDid rack area x result (Some new)) (sym is) (by x) where
     by : (x : Desk) → IsPool rack area (Some pool) x → SyncDid rack area x result (Some new)
     by Untouched stands = absurd stands
     by Bare stands = absurd stands
@@ -84,7 +88,7 @@ module _ {R A : Type 0} (rack : racks.Ghosts R) (area : areas.Ghosts A) where
     by (Shut crash y) stands = absurd stands
     by Unknown stands = absurd stands
     by (Open y) stands = (whole, shows, leads y stands.1)
-    by Foreign stands = (whole, shows)
+    by (Foreign known) stands = (whole, shows, still_known pool new same known stands.1)
 
   pub sync_shut : (desk new : Option (Pool R A)) (result : Result Reply Stop) → desk ≡ None → new ≡ None → result ≡ Ok (NoPool name.Sync) → (x : Desk) → IsPool rack area desk x → SyncDid rack area x result new
   sync_shut desk new result none same said x = subst (λ d. IsPool rack area d x → SyncDid rack area x result new) (sym none) (by x) where
@@ -95,7 +99,7 @@ module _ {R A : Type 0} (rack : racks.Ghosts R) (area : areas.Ghosts A) where
     by (Shut crash y) stands = (said, same)
     by Unknown stands = (said, same)
     by (Open y) stands = absurd stands
-    by Foreign stands = absurd stands
+    by (Foreign known) stands = absurd stands
 
 -- ---- in the words of a session
 
@@ -147,8 +151,8 @@ module _ {R A : Type 0} (rack : racks.Ghosts R) (area : areas.Ghosts A) (chosen 
   by_sync (Shut crash y) reply desk new is did = told (Shut crash y) reply SyncPool name.Sync desk new (ok_same reply (NoPool name.Sync) (Ok reply) (Ok (NoPool name.Sync)) refl refl did.0) did.1 (record { stands = tt; shelf = is.shelf }) (name.Sync, refl, refl, refl)
   by_sync Bare reply desk new is did = told Bare reply SyncPool name.Sync desk new (ok_same reply (NoPool name.Sync) (Ok reply) (Ok (NoPool name.Sync)) refl refl did.0) did.1 (record { stands = tt; shelf = is.shelf }) (name.Sync, refl, refl, refl)
   by_sync Unknown reply desk new is did = told Unknown reply SyncPool name.Sync desk new (ok_same reply (NoPool name.Sync) (Ok reply) (Ok (NoPool name.Sync)) refl refl did.0) did.1 (record { stands = tt; shelf = is.shelf }) (name.Sync, refl, refl, refl)
-  by_sync Foreign reply desk None is did = absurd did
-  by_sync Foreign reply desk (Some new) is did = record { new = Foreign; desk = record { stands = did.0; shelf = tt }; turns = (did.1, still_foreign reply (sync_keeps reply did.1)) }
+  by_sync (Foreign known) reply desk None is did = absurd did
+  by_sync (Foreign known) reply desk (Some new) is did = record { new = Foreign known; desk = record { stands = (did.0, did.2); shelf = tt }; turns = (did.1, known, refl, still_foreign reply known (sync_keeps reply did.1)) }
   by_sync (Open y) reply desk None is did = absurd did
   by_sync (Open y) reply desk (Some new) is did =
       let c = did.2 in
@@ -168,8 +172,8 @@ module _ {R A : Type 0} (rack : racks.Ghosts R) (area : areas.Ghosts A) (chosen 
   sync_breaks (Shut crash y) desk new is did = absurd (cc (did.0))
   sync_breaks Bare desk new is did = absurd (cc (did.0))
   sync_breaks Unknown desk new is did = absurd (cc (did.0))
-  sync_breaks Foreign desk None is did = absurd did
-  sync_breaks Foreign desk (Some new) is did = record { new = Foreign; desk = record { stands = did.0; shelf = tt }; breaks = (tt, refl); cause = did.1 }
+  sync_breaks (Foreign known) desk None is did = absurd did
+  sync_breaks (Foreign known) desk (Some new) is did = record { new = Foreign known; desk = record { stands = (did.0, did.2); shelf = tt }; breaks = (tt, refl); cause = did.1 }
   sync_breaks (Open y) desk None is did = absurd did
   sync_breaks (Open y) desk (Some new) is did =
       let c = did.2 in
@@ -194,12 +198,12 @@ module _ {R A : Type 0} (rack : racks.Ghosts R) (area : areas.Ghosts A) (chosen 
       (y, record { holds = l.holds; mid = l.mid; store = l.store; follows = l.follows; does = l.done; made = l.made }, b)
   export_turns x y (Err sync.Shelf) reply new is b l = absurd (cc is)
 
-  foreign_turns : (answer : Result ℕ SyncFault) (reply : Reply) (new : Desk) → export_reply answer ≡ Some reply → new ≡ foreign_left answer → TurnsTo ExportPool Foreign reply new
-  foreign_turns (Ok group) reply new is b = subst (λ r. TurnsTo ExportPool Foreign r new) (some_same (Exported group) reply is) (tt, b)
-  foreign_turns (Err sync.Worn) reply new is b = subst (λ r. TurnsTo ExportPool Foreign r new) (some_same (Worn name.Export) reply is) (tt, b)
-  foreign_turns (Err sync.Last) reply new is b = subst (λ r. TurnsTo ExportPool Foreign r new) (some_same (Last name.Export) reply is) (tt, b)
-  foreign_turns (Err sync.NoMemory) reply new is b = subst (λ r. TurnsTo ExportPool Foreign r new) (some_same (NoMemory name.Export) reply is) (tt, b)
-  foreign_turns (Err sync.Shelf) reply new is b = absurd (cc is)
+  foreign_turns : (known : Known) (answer : Result ℕ SyncFault) (reply : Reply) (new : Desk) → export_reply answer ≡ Some reply → new ≡ foreign_left answer known → TurnsTo ExportPool (Foreign known) reply new
+  foreign_turns known (Ok group) reply new is b = subst (λ r. TurnsTo ExportPool (Foreign known) r new) (some_same (Exported group) reply is) (tt, known, refl, b)
+  foreign_turns known (Err sync.Worn) reply new is b = subst (λ r. TurnsTo ExportPool (Foreign known) r new) (some_same (Worn name.Export) reply is) (tt, known, refl, b)
+  foreign_turns known (Err sync.Last) reply new is b = subst (λ r. TurnsTo ExportPool (Foreign known) r new) (some_same (Last name.Export) reply is) (tt, known, refl, b)
+  foreign_turns known (Err sync.NoMemory) reply new is b = subst (λ r. TurnsTo ExportPool (Foreign known) r new) (some_same (NoMemory name.Export) reply is) (tt, known, refl, b)
+  foreign_turns known (Err sync.Shelf) reply new is b = absurd (cc is)
 
   pub by_export : (x : Desk) (reply : Reply) (new : Option (Pool R A)) → ExportDid rack area entry x (Some reply) now new → Turned rack area chosen (Ok ExportPool) entry x (Some reply) now new
   by_export x reply new did = record { new = did.new; desk = did.desk; turns = by x did.turns } where
@@ -209,7 +213,7 @@ module _ {R A : Type 0} (rack : racks.Ghosts R) (area : areas.Ghosts A) (chosen 
     by (Shut crash y) turns = (name.Export, refl, some_same reply (NoPool name.Export) turns.0, turns.1)
     by Bare turns = (name.Export, refl, some_same reply (NoPool name.Export) turns.0, turns.1)
     by Unknown turns = (name.Export, refl, some_same reply (NoPool name.Export) turns.0, turns.1)
-    by Foreign turns = foreign_turns turns.answer reply did.new turns.reply_is turns.new_is
+    by (Foreign known) turns = foreign_turns known turns.answer reply did.new turns.reply_is turns.new_is
     by (Open y) turns = export_turns y turns.y turns.answer reply did.new turns.reply_is turns.new_is turns.leads
 
   pub export_breaks : (x : Desk) (new : Option (Pool R A)) → ExportDid rack area entry x None now new → Broken rack area ShelfFails ExportPool entry before x now new
@@ -218,9 +222,9 @@ module _ {R A : Type 0} (rack : racks.Ghosts R) (area : areas.Ghosts A) (chosen 
     stays_open (Ok group) y d is b = absurd (cc is)
     stays_open (Err why) y d is b = b
 
-    stays_foreign : (answer : Result ℕ SyncFault) (d : Desk) → export_reply answer ≡ None → d ≡ foreign_left answer → d ≡ Foreign
-    stays_foreign (Ok group) d is b = absurd (cc is)
-    stays_foreign (Err why) d is b = b
+    stays_foreign : (answer : Result ℕ SyncFault) (known : Known) (d : Desk) → export_reply answer ≡ None → d ≡ foreign_left answer known → d ≡ Foreign known
+    stays_foreign (Ok group) known d is b = absurd (cc is)
+    stays_foreign (Err why) known d is b = b
 
     by : (x : Desk) → ExportTurns x None did.new → Broken rack area ShelfFails ExportPool entry before x now new
     by Untouched turns = absurd (cc (turns.0))
@@ -228,9 +232,9 @@ module _ {R A : Type 0} (rack : racks.Ghosts R) (area : areas.Ghosts A) (chosen 
     by (Made tells count geometry) turns = absurd (cc (turns.0))
     by (Shut crash y) turns = absurd (cc (turns.0))
     by Unknown turns = absurd (cc (turns.0))
-    by Foreign turns =
-        let same : did.new ≡ Foreign = stays_foreign turns.answer did.new turns.reply_is turns.new_is in
-        record { new = Foreign; desk = subst (λ d. IsDesk rack area entry now new d) same did.desk; breaks = (tt, refl); cause = did.failed refl same }
+    by (Foreign known) turns =
+        let same : did.new ≡ Foreign known = stays_foreign turns.answer known did.new turns.reply_is turns.new_is in
+        record { new = Foreign known; desk = subst (λ d. IsDesk rack area entry now new d) same did.desk; breaks = (tt, refl); cause = did.failed refl known same }
     by (Open y) turns =
         let l = turns.leads in
         let f = export_fails chosen y l.holds l.store turns.answer turns.reply_is l.done in
@@ -252,7 +256,7 @@ module _ {R A : Type 0} (rack : racks.Ghosts R) (area : areas.Ghosts A) (chosen 
     by (Shut crash y) turns = (name.Crash, refl, turns.0, turns.1)
     by Bare turns = (name.Crash, refl, turns.0, turns.1)
     by Unknown turns = (name.Crash, refl, turns.0, turns.1)
-    by Foreign turns = subst (λ r. TurnsTo CrashPool Foreign r did.new) (sym turns.0) (tt, turns.1)
+    by (Foreign known) turns = subst (λ r. TurnsTo CrashPool (Foreign known) r did.new) (sym turns.0) (tt, known, refl, turns.1)
     by (Open y) turns = subst (λ r. TurnsTo CrashPool (Open y) r did.new) (sym turns.0)
         (y, record { holds = []; mid = y; store = y.store; follows = refl; does = (refl, refl); made = refl }, turns.1)
 
@@ -274,8 +278,8 @@ module _ {R A : Type 0} (rack : racks.Ghosts R) (area : areas.Ghosts A) (chosen 
         no_record Unknown new did = cc (did.0)
         no_record (Open y) None did = did
         no_record (Open y) (Some p) did = did.2
-        no_record Foreign None did = did
-        no_record Foreign (Some p) did = did.1
+        no_record (Foreign known) None did = did
+        no_record (Foreign known) (Some p) did = did.1
     answer_sync (Err stop.Unbuilt) result said same is did = absurd (not_unbuilt x new did)
       where
         not_unbuilt : (x : Desk) (new : Option (Pool R A)) → SyncDid rack area x (Err stop.Unbuilt) new → ⊥
@@ -286,8 +290,8 @@ module _ {R A : Type 0} (rack : racks.Ghosts R) (area : areas.Ghosts A) (chosen 
         not_unbuilt Unknown new did = cc (did.0)
         not_unbuilt (Open y) None did = did
         not_unbuilt (Open y) (Some p) did = did.2
-        not_unbuilt Foreign None did = did
-        not_unbuilt Foreign (Some p) did = did.1
+        not_unbuilt (Foreign known) None did = did
+        not_unbuilt (Foreign known) (Some p) did = did.1
 
     pub answer_export : (given : Result Reply Stop) (result : Result (Option Reply) Stop) → IsSaid given result → ExportIs rack area entry x now new given → AnswerIs rack area chosen ExportPool entry before pool x now new result
     answer_export (Ok reply) result said did = subst (AnswerIs rack area chosen ExportPool entry before pool x now new) (sym said) (by_export x reply new did)
@@ -298,9 +302,9 @@ module _ {R A : Type 0} (rack : racks.Ghosts R) (area : areas.Ghosts A) (chosen 
 -- ---- a sync, by whether a pool is open
 
 module _ {R A : Type 0} (rack : racks.Ghosts R) (area : areas.Ghosts A) where
-  pub sync_led : (result : Result Reply Stop) (desk : Option (Pool R A)) (pool new : Pool R A) → desk ≡ Some pool → IsWhole rack area new → ((x : State) → Represents rack area pool x → SyncLeads rack area x result new)
+  pub sync_led : (result : Result Reply Stop) (desk : Option (Pool R A)) (pool new : Pool R A) → desk ≡ Some pool → IsWhole rack area new → SamePointers pool new → ((x : State) → Represents rack area pool x → SyncLeads rack area x result new)
       → SyncShows area result (Some new) → (x : Desk) → IsPool rack area desk x → SyncDid rack area x result (Some new)
-  sync_led result desk pool new is whole leads shows x = subst (λ d. IsPool rack area d x → SyncDid rack area x result (Some new)) (sym is) (by x) where
+  sync_led result desk pool new is whole same leads shows x = subst (λ d. IsPool rack area d x → SyncDid rack area x result (Some new)) (sym is) (by x) where
     by : (x : Desk) → IsPool rack area (Some pool) x → SyncDid rack area x result (Some new)
     by Untouched stands = absurd stands
     by Bare stands = absurd stands
@@ -308,7 +312,7 @@ module _ {R A : Type 0} (rack : racks.Ghosts R) (area : areas.Ghosts A) where
     by (Shut crash y) stands = absurd stands
     by Unknown stands = absurd stands
     by (Open y) stands = (whole, shows, leads y stands.1)
-    by Foreign stands = (whole, shows)
+    by (Foreign known) stands = (whole, shows, still_known pool new same known stands.1)
 
   pub sync_lacks : (reply : Reply) (desk : Option (Pool R A)) → desk ≡ None → reply ≡ NoPool name.Sync → (x : Desk) → IsPool rack area desk x → SyncDid rack area x (Ok reply) desk
   sync_lacks reply desk none said x = subst (λ d. IsPool rack area d x → SyncDid rack area x (Ok reply) d) (sym none) (by x) where
@@ -319,12 +323,12 @@ module _ {R A : Type 0} (rack : racks.Ghosts R) (area : areas.Ghosts A) where
     by (Shut crash y) stands = (ap Ok said, refl)
     by Unknown stands = (ap Ok said, refl)
     by (Open y) stands = absurd stands
-    by Foreign stands = absurd stands
+    by (Foreign known) stands = absurd stands
 
 -- ---- the pool is given back, or stays open
 
 module _ {R A : Type 0} (rack : racks.Ghosts R) (area : areas.Ghosts A) (entry before now : OnShelf) (desk : Option (Pool R A)) (was new : Pool R A) (some : desk ≡ Some was) where
-  on_open : (P : Desk → Type 0) → ((y : State) → Represents rack area was y → IsOut y before → P (Open y)) → P Foreign → (x : Desk) → IsDesk rack area entry before desk x → P x
+  on_open : (P : Desk → Type 0) → ((y : State) → Represents rack area was y → IsOut y before → P (Open y)) → ((known : Known) → KnowsPointers was known → P (Foreign known)) → (x : Desk) → IsDesk rack area entry before desk x → P x
   on_open P f foreign x is = by x (subst (λ d. IsPool rack area d x) some is.stands) is.shelf where
     by : (x : Desk) → IsPool rack area (Some was) x → IsShelf x entry before → P x
     by Untouched stands shelf = absurd stands
@@ -333,7 +337,7 @@ module _ {R A : Type 0} (rack : racks.Ghosts R) (area : areas.Ghosts A) (entry b
     by (Shut crash y) stands shelf = absurd stands
     by Unknown stands shelf = absurd stands
     by (Open y) stands shelf = f y stands.1 shelf
-    by Foreign stands shelf = foreign
+    by (Foreign known) stands shelf = foreign known stands.1
 
   pub exported : (result : Result ℕ SyncFault) (group : ℕ) → result ≡ Ok group → ((y : State) → Represents rack area was y → CarriesOut rack area new y (ExportDoes y result))
       → ((y : State) → Represents rack area new y → GivesBack y false before.held now.held now.leaves now.counts now.own.uber) → now.own.checks ≡ before.own.checks → TellsAsBefore before now
@@ -359,18 +363,18 @@ module _ {R A : Type 0} (rack : racks.Ghosts R) (area : areas.Ghosts A) (entry b
           failed = λ e. absurd (cc e);
         }
 
-    foreign : ExportDid rack area entry Foreign (Some (Exported group)) now left
-    foreign = record {
+    foreign : (known : Known) → KnowsPointers was known → ExportDid rack area entry (Foreign known) (Some (Exported group)) now left
+    foreign known knows = record {
       new = Unknown;
       desk = record { stands = subst (λ l. IsPool rack area l Unknown) (sym none) tt; shelf = tt };
-      turns = record { answer = result; reply_is = ap export_reply is; new_is = sym (ap foreign_left is) };
+      turns = record { answer = result; reply_is = ap export_reply is; new_is = sym (ap (λ r. foreign_left r known) is) };
       failed = λ e. absurd (cc e);
     }
 
-  pub export_refused : (result : Result ℕ SyncFault) (why : SyncFault) (said : Result Reply Stop) → result ≡ Err why → RefusalIs name.Export why said → IsWhole rack area new
+  pub export_refused : (result : Result ℕ SyncFault) (why : SyncFault) (said : Result Reply Stop) → result ≡ Err why → RefusalIs name.Export why said → IsWhole rack area new → SamePointers was new
       → (result ≡ Err sync.Shelf → AreaFails area.faults new)
       → ((y : State) → Represents rack area was y → CarriesOut rack area new y (ExportDoes y result)) → (x : Desk) → IsDesk rack area entry before desk x → ExportIs rack area entry x before (Some new) said
-  export_refused result why said is refused whole fails does = by said refused where
+  export_refused result why said is refused whole keeps fails does = by said refused where
     stays : (reply : Option Reply) → refusal_of name.Export why ≡ reply → (reply ≡ None → PoolFails area (Some new)) → (x : Desk) → IsDesk rack area entry before desk x → ExportDid rack area entry x reply before (Some new)
     stays reply same shows = on_open (λ x. ExportDid rack area entry x reply before (Some new)) (λ y stands out.
         (let c = does y stands in
@@ -385,13 +389,13 @@ module _ {R A : Type 0} (rack : racks.Ghosts R) (area : areas.Ghosts A) (entry b
             new_is = sym (ap (λ r. desk_left r z) is);
             leads = record { holds = c.holds; mid = c.reached; store = c.store; follows = c.follows; done = c.done; made = refl };
           };
-          failed = λ e at. absurd (cc at);
+          failed = λ e known at. absurd (cc at);
         }))
-        (record {
-          new = Foreign;
-          desk = record { stands = whole; shelf = tt };
-          turns = record { answer = result; reply_is = ap export_reply is ∙ same; new_is = sym (ap foreign_left is) };
-          failed = λ e at. shows e;
+        (λ known knows. record {
+          new = Foreign known;
+          desk = record { stands = (whole, still_known was new keeps known knows); shelf = tt };
+          turns = record { answer = result; reply_is = ap export_reply is ∙ same; new_is = sym (ap (λ r. foreign_left r known) is) };
+          failed = λ e known at. shows e;
         })
 
     by_shelf : (why : SyncFault) → refusal_of name.Export why ≡ None → why ≡ sync.Shelf
@@ -413,7 +417,7 @@ module _ {R A : Type 0} (rack : racks.Ghosts R) (area : areas.Ghosts A) (entry b
     desk = record { stands = subst (λ l. IsPool rack area l (Shut true y)) (sym none) tt; shelf = shelf_has y true before now (back y stands) checks tells out };
     turns = (refl, refl);
   })
-      (record {
+      (λ known knows. record {
         new = Unknown;
         desk = record { stands = subst (λ l. IsPool rack area l Unknown) (sym none) tt; shelf = tt };
         turns = (refl, refl);

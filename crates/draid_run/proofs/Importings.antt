@@ -17,6 +17,7 @@ use Rattle.draid_session.specs.Follows.{Follows}
 use Rattle.draid_session.specs.Holds.{Act, AreaFailed, Did, Hold, Looked, MadeLeaf, On, OnUber, RackFailed, Reserved, View}
 use Rattle.draid_session.specs.Making.{vdev_name_of}
 use Rattle.draid_session.specs.Opening.{FreesOlder, HasObjects, Imports}
+use Rattle.draid_session.specs.Known.{nothing_known}
 use Rattle.draid_session.specs.Session.{BreaksGiven, Cause, Desk, Untouched, Bare, Made, Open, Shut, Foreign, Unknown, FindsAny, FindsGiven, FindsGivenIf, LeavesState, RecordFails, ShelfFails, TurnsBy}
 use Rattle.draid_session.specs.State.{State}
 use Rattle.draid_pool.specs.Closing.{GivesBack, HoldsPool, Rests}
@@ -257,7 +258,7 @@ module _ {R A : Type 0} (rack : racks.Ghosts R) (area : areas.Ghosts A) (entry b
       | inr untold ↦ record { new = Unknown; desk = record { stands = tt; shelf = tt }; turns = given_untold y Unknown (NoPool name.Import) untold refl }
     ]
     no_pool is (Open y) stands shelf = absurd stands
-    no_pool is Foreign stands shelf = absurd stands
+    no_pool is (Foreign known) stands shelf = absurd stands
 
     pub no_memory : result ≡ Err fault.NoMemory → (x : Desk) → IsPool rack area None x → IsShelf x entry before → ImportDid rack area entry x (NoMemory name.Import) now None
     no_memory is Untouched stands shelf = record { new = Unknown; desk = record { stands = tt; shelf = tt }; turns = refl }
@@ -279,7 +280,7 @@ module _ {R A : Type 0} (rack : racks.Ghosts R) (area : areas.Ghosts A) (entry b
       | inr untold ↦ record { new = Unknown; desk = record { stands = tt; shelf = tt }; turns = given_untold y Unknown (NoMemory name.Import) untold refl }
     ]
     no_memory is (Open y) stands shelf = absurd stands
-    no_memory is Foreign stands shelf = absurd stands
+    no_memory is (Foreign known) stands shelf = absurd stands
 
     pub shelf_failed : result ≡ Err fault.Shelf → (x : Desk) → IsPool rack area None x → IsShelf x entry before → Broken rack area ShelfFails ImportPool entry before x now None
     shelf_failed is Untouched stands shelf = record { new = Unknown; desk = record { stands = tt; shelf = tt }; breaks = refl; cause = (tt, called.cause is) }
@@ -302,7 +303,7 @@ module _ {R A : Type 0} (rack : racks.Ghosts R) (area : areas.Ghosts A) (entry b
       | inr untold ↦ record { new = Unknown; desk = record { stands = tt; shelf = tt }; breaks = breaks_untold y Unknown ShelfFails untold refl; cause = (tt, called.cause is) }
     ]
     shelf_failed is (Open y) stands shelf = absurd stands
-    shelf_failed is Foreign stands shelf = absurd stands
+    shelf_failed is (Foreign known) stands shelf = absurd stands
 
     pub record_fails : (metaslab : Option ℕ) (place kind : ℕ) → result ≡ Err (fault.Record metaslab place kind) → (x : Desk) → IsPool rack area None x → IsShelf x entry before
         → Broken rack area RecordFails ImportPool entry before x now None
@@ -316,7 +317,7 @@ module _ {R A : Type 0} (rack : racks.Ghosts R) (area : areas.Ghosts A) (entry b
       | inr untold ↦ record { new = Unknown; desk = record { stands = tt; shelf = tt }; breaks = breaks_untold y Unknown RecordFails untold refl; cause = tt }
     ]
     record_fails metaslab place kind is (Open y) stands shelf = absurd stands
-    record_fails metaslab place kind is Foreign stands shelf = absurd stands
+    record_fails metaslab place kind is (Foreign known) stands shelf = absurd stands
 
     -- ---- the pool
 
@@ -353,8 +354,8 @@ module _ {R A : Type 0} (rack : racks.Ghosts R) (area : areas.Ghosts A) (entry b
           → ((s : State) → Represents rack area pool s → HasObjects s.store.changes objects)
           → (x : Desk) → IsPool rack area None x → IsShelf x entry before → ImportDid rack area entry x (Imported called_name group objects) now (Some pool)
       imported called_name geometry group objects named own of names layout committed counted = by where
-        foreign : (x : Desk) → ImportDoes rack area entry x (Imported called_name group objects) Foreign → ImportDid rack area entry x (Imported called_name group objects) now (Some pool)
-        foreign x turns = record { new = Foreign; desk = record { stands = whole; shelf = tt }; turns = turns }
+        foreign : (x : Desk) → ImportDoes rack area entry x (Imported called_name group objects) (Foreign nothing_known) → ImportDid rack area entry x (Imported called_name group objects) now (Some pool)
+        foreign x turns = record { new = Foreign nothing_known; desk = record { stands = (whole, λ o. tt); shelf = tt }; turns = turns }
 
         by : (x : Desk) → IsPool rack area None x → IsShelf x entry before → ImportDid rack area entry x (Imported called_name group objects) now (Some pool)
         by Untouched stands shelf = foreign Untouched (
@@ -380,10 +381,10 @@ module _ {R A : Type 0} (rack : racks.Ghosts R) (area : areas.Ghosts A) (entry b
                   counted new f.represents,
                 );
               }
-          | inr untold ↦ foreign (Shut crash y) (given_untold y Foreign (Imported called_name group objects) untold refl)
+          | inr untold ↦ foreign (Shut crash y) (given_untold y (Foreign nothing_known) (Imported called_name group objects) untold refl)
         ]
         by (Open y) stands shelf = absurd stands
-        by Foreign stands shelf = absurd stands
+        by (Foreign known) stands shelf = absurd stands
 
       -- there was no memory for its name, and it is given back
       pub unnamed : (late : OnShelf) → ((s : State) → Represents rack area pool s → GivesBack s false now.held late.held late.leaves late.counts late.own.uber) → late.own.checks ≡ now.own.checks → TellsAsBefore now late
@@ -409,7 +410,7 @@ module _ {R A : Type 0} (rack : racks.Ghosts R) (area : areas.Ghosts A) (entry b
           | inr untold ↦ record { new = Unknown; desk = record { stands = tt; shelf = tt }; turns = given_untold y Unknown (NoMemory name.Import) untold refl }
         ]
         by (Open y) stands shelf = absurd stands
-        by Foreign stands shelf = absurd stands
+        by (Foreign known) stands shelf = absurd stands
 
   -- ---- a pool is open
 
@@ -423,7 +424,7 @@ module _ {R A : Type 0} (rack : racks.Ghosts R) (area : areas.Ghosts A) (entry b
     by (Shut crash y) is = absurd is.stands
     by Unknown is = absurd is.stands
     by (Open y) is = record { new = Open y; desk = is; turns = (refl, refl) }
-    by Foreign is = record { new = Foreign; desk = is; turns = (refl, refl) }
+    by (Foreign known) is = record { new = Foreign known; desk = is; turns = (refl, refl) }
 
 -- ---- in the words of all commands
 
@@ -436,7 +437,7 @@ module _ {R A : Type 0} (rack : racks.Ghosts R) (area : areas.Ghosts A) (chosen 
     by (Made t count geometry) new turns = turns
     by (Shut crash y) new turns = turns
     by Unknown new turns = turns
-    by Foreign new turns = subst (λ r. TurnsBy chosen (MayFind rack area entry) (Ok ImportPool) Foreign (Some r) new) (sym turns.0) (tt, turns.1)
+    by (Foreign known) new turns = subst (λ r. TurnsBy chosen (MayFind rack area entry) (Ok ImportPool) (Foreign known) (Some r) new) (sym turns.0) (tt, known, refl, turns.1)
     by (Open y) new turns = subst (λ r. TurnsBy chosen (MayFind rack area entry) (Ok ImportPool) (Open y) (Some r) new) (sym turns.0)
         (y, record { holds = []; mid = y; store = y.store; follows = refl; does = (refl, refl); made = refl }, turns.1)
 
@@ -452,7 +453,7 @@ pub already_open : {R A : Type 0} (rack : racks.Ghosts R) (area : areas.Ghosts A
     → ImportDid rack area entry x (PoolOpen name.Import) now desk
 already_open rack area entry now None x some is = absurd (cc some)
 already_open rack area entry now (Some pool) (Open y) some is = record { new = Open y; desk = is; turns = (refl, refl) }
-already_open rack area entry now (Some pool) Foreign some is = record { new = Foreign; desk = is; turns = (refl, refl) }
+already_open rack area entry now (Some pool) (Foreign known) some is = record { new = Foreign known; desk = is; turns = (refl, refl) }
 already_open rack area entry now (Some pool) Untouched some is = absurd is.stands
 already_open rack area entry now (Some pool) (Made _ count geometry) some is = absurd is.stands
 already_open rack area entry now (Some pool) (Shut crash z) some is = absurd is.stands

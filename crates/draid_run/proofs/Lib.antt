@@ -14,9 +14,11 @@ pub mod Known
 pub mod Makings
 pub mod Next
 pub mod Printing
+pub mod Remembered
 pub mod Risen
 pub mod Runs
 pub mod Said
 pub mod Serving
 pub mod Shown
 pub mod Steps
+pub mod Taught

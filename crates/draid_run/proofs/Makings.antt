@@ -91,7 +91,7 @@ same_shelf (Shut crash y) entry before now none s d = record {
     there = λ m z image at is. subst (λ (o : Option Shape). IsSomeAnd o (HasImageLeaves y.geometry image)) (sym (s.1 m)) (i.there m z image at is);
   }
 same_shelf Unknown entry before now none s d = tt
-same_shelf Foreign entry before now none s d = tt
+same_shelf (Foreign known) entry before now none s d = tt
 same_shelf (Open y) entry before now none s d = absurd (none y refl)
 
 module _ {R A : Type 0} (rack : racks.Ghosts R) (area : areas.Ghosts A) where
@@ -106,7 +106,7 @@ module _ {R A : Type 0} (rack : racks.Ghosts R) (area : areas.Ghosts A) where
   not_open (Shut crash z) is y same = cc same
   not_open Bare is y same = cc same
   not_open Unknown is y same = cc same
-  not_open Foreign is y same = cc same
+  not_open (Foreign known) is y same = cc same
   not_open (Open z) is y same = is
 
   is_closed : (x : Desk) → IsPool rack area None x → IsClosed x
@@ -115,7 +115,7 @@ module _ {R A : Type 0} (rack : racks.Ghosts R) (area : areas.Ghosts A) where
   is_closed (Shut crash z) is = tt
   is_closed Bare is = tt
   is_closed Unknown is = tt
-  is_closed Foreign is = absurd is
+  is_closed (Foreign known) is = absurd is
   is_closed (Open z) is = absurd is
 
   turns_refused : (text : List ℕ) (children : ℕ) (keys : PoolKeys) (x : Desk) (why : SpecFault) → IsPool rack area None x → layout_by text children keys ≡ Err why → CreateTurns text children keys x (CreateRefused why) x
@@ -124,7 +124,7 @@ module _ {R A : Type 0} (rack : racks.Ghosts R) (area : areas.Ghosts A) where
   turns_refused text children keys (Shut crash z) why is none = (none, refl)
   turns_refused text children keys Bare why is none = (none, refl)
   turns_refused text children keys Unknown why is none = (none, refl)
-  turns_refused text children keys Foreign why is none = absurd is
+  turns_refused text children keys (Foreign known) why is none = absurd is
   turns_refused text children keys (Open z) why is none = absurd is
 
   module _ (text : List ℕ) (children : ℕ) (keys : PoolKeys) (entry now : OnShelf) where
@@ -132,7 +132,7 @@ module _ {R A : Type 0} (rack : racks.Ghosts R) (area : areas.Ghosts A) where
     pub already_open : (desk : Option (Pool R A)) (x : Desk) → is_some desk ≡ true → IsDesk rack area entry now desk x → CreateDid rack area text children keys entry x (PoolOpen name.Create) now desk
     already_open None x some is = absurd (cc some)
     already_open (Some pool) (Open y) some is = record { new = Open y; desk = is; turns = (refl, refl) }
-    already_open (Some pool) Foreign some is = record { new = Foreign; desk = is; turns = (refl, refl) }
+    already_open (Some pool) (Foreign known) some is = record { new = Foreign known; desk = is; turns = (refl, refl) }
     already_open (Some pool) Untouched some is = absurd is.stands
     already_open (Some pool) (Made tells count geometry) some is = absurd is.stands
     already_open (Some pool) (Shut crash z) some is = absurd is.stands
@@ -184,7 +184,7 @@ module _ {R A : Type 0} (rack : racks.Ghosts R) (area : areas.Ghosts A) where
     turns_made (Shut crash z) m new is makes = makes
     turns_made Bare m new is makes = makes
     turns_made Unknown m new is makes = makes
-    turns_made Foreign m new is makes = absurd is
+    turns_made (Foreign known) m new is makes = absurd is
     turns_made (Open z) m new is makes = absurd is
 
     turns_none : (x : Desk) (new : Desk) → IsPool rack area None x → MakesNone text children keys x new → CreateTurns text children keys x (NoMemory name.Create) new
@@ -193,7 +193,7 @@ module _ {R A : Type 0} (rack : racks.Ghosts R) (area : areas.Ghosts A) where
     turns_none (Shut crash z) new is none = none
     turns_none Bare new is none = none
     turns_none Unknown new is none = none
-    turns_none Foreign new is none = absurd is
+    turns_none (Foreign known) new is none = absurd is
     turns_none (Open z) new is none = absurd is
 
     breaks_none : (x : Desk) (new : Desk) → IsPool rack area None x → MakesNone text children keys x new → Breaks ShelfFails x (CreatePool text children keys) new
@@ -202,7 +202,7 @@ module _ {R A : Type 0} (rack : racks.Ghosts R) (area : areas.Ghosts A) where
     breaks_none (Shut crash z) new is none = none
     breaks_none Bare new is none = none
     breaks_none Unknown new is none = none
-    breaks_none Foreign new is none = absurd is
+    breaks_none (Foreign known) new is none = absurd is
     breaks_none (Open z) new is none = absurd is
 
     module _ (result : Result answer.Made PoolFault) (pool : Option (Pool R A)) (x : Desk) (shelf : IsShelf x entry before) (stands : IsPool rack area None x)

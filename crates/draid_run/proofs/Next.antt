@@ -104,7 +104,7 @@ crashed_desk Bare entry left found it is = bare_crashed left found it is
 crashed_desk (Made told failed geometry) entry left found it is = new_crashed left found it told failed geometry is
 crashed_desk (Open x) entry left found it is = shut_crashed left found it false x is
 crashed_desk (Shut crashed x) entry left found it is = shut_crashed left found it crashed x is
-crashed_desk Foreign entry left found it is = as_found found
+crashed_desk (Foreign known) entry left found it is = as_found found
 crashed_desk Unknown entry left found it is = as_found found
 
 not_open : (x : Desk) (y : State) → left_of x ≡ Open y → ⊥
@@ -113,7 +113,7 @@ not_open Bare y is = cc is
 not_open (Made told failed geometry) y is = cc is
 not_open (Open x) y is = cc is
 not_open (Shut crashed x) y is = cc is
-not_open Foreign y is = cc is
+not_open (Foreign known) y is = cc is
 not_open Unknown y is = cc is
 
 same_desk : (x : Desk) (entry left found : OnShelf) → IsSame left found → HoldsDesk (left_of x) entry left → HoldsDesk (next_desk false x) found found
@@ -122,7 +122,7 @@ same_desk Bare entry left found same is = same_shelf Bare entry left found (not_
 same_desk (Made told failed geometry) entry left found same is = same_shelf (Made told failed geometry) entry left found (not_open (Made told failed geometry)) same is
 same_desk (Open x) entry left found same is = same_shelf (Shut false x) entry left found (not_open (Open x)) same is
 same_desk (Shut crashed x) entry left found same is = same_shelf (Shut crashed x) entry left found (not_open (Shut crashed x)) same is
-same_desk Foreign entry left found same is = as_found found
+same_desk (Foreign known) entry left found same is = as_found found
 same_desk Unknown entry left found same is = as_found found
 
 pub desk_found : (crash : Bool) (x : Desk) (entry left found : OnShelf) → IsFound crash left found → HoldsDesk (left_of x) entry left → HoldsDesk (next_desk crash x) found found

@@ -80,12 +80,12 @@ module _ {R A : Type 0} (area : areas.Ghosts A) (command : Command) (before now 
   closed_fault (Shut crash x) closed failed = failed
   closed_fault Unknown closed failed = failed
   closed_fault (Open x) closed failed = absurd closed
-  closed_fault Foreign closed failed = absurd closed
+  closed_fault (Foreign known) closed failed = absurd closed
 
   -- the cause is a fault
   pub cause_fault : (old new : Desk) → CauseShows area ShelfFails command before old now pool new → HasFault area before now pool new
   cause_fault (Open x) new cause = cause
-  cause_fault Foreign new cause = cause
+  cause_fault (Foreign known) new cause = cause
   cause_fault Untouched new cause = closed_fault new cause.0 (has_failed area command before now cause.1)
   cause_fault Bare new cause = closed_fault new cause.0 (has_failed area command before now cause.1)
   cause_fault (Made tells count geometry) new cause = closed_fault new cause.0 (has_failed area command before now cause.1)
@@ -95,7 +95,7 @@ module _ {R A : Type 0} (area : areas.Ghosts A) (command : Command) (before now 
   -- where no pool was open it is one of a command
   pub closed_cause : (old new : Desk) → IsClosed old → CauseShows area ShelfFails command before old now pool new → IsClosed new × FailsIn area command before now
   closed_cause (Open x) new closed cause = absurd closed
-  closed_cause Foreign new closed cause = absurd closed
+  closed_cause (Foreign known) new closed cause = absurd closed
   closed_cause Untouched new closed cause = cause
   closed_cause Bare new closed cause = cause
   closed_cause (Made tells count geometry) new closed cause = cause
@@ -105,7 +105,7 @@ module _ {R A : Type 0} (area : areas.Ghosts A) (command : Command) (before now 
   -- and the other way round
   pub cause_closed : (old new : Desk) → IsClosed old → IsClosed new → FailsIn area command before now → CauseShows area ShelfFails command before old now pool new
   cause_closed (Open x) new closed after failed = absurd closed
-  cause_closed Foreign new closed after failed = absurd closed
+  cause_closed (Foreign known) new closed after failed = absurd closed
   cause_closed Untouched new closed after failed = (after, failed)
   cause_closed Bare new closed after failed = (after, failed)
   cause_closed (Made tells count geometry) new closed after failed = (after, failed)
@@ -114,7 +114,7 @@ module _ {R A : Type 0} (area : areas.Ghosts A) (command : Command) (before now 
 
 closed_shelf : (x : Desk) (entry before : OnShelf) → IsClosed x → IsShelf x entry before → HoldsDesk x entry before
 closed_shelf (Open y) entry before closed shelf = absurd closed
-closed_shelf Foreign entry before closed shelf = absurd closed
+closed_shelf (Foreign known) entry before closed shelf = absurd closed
 closed_shelf Untouched entry before closed shelf = shelf
 closed_shelf Bare entry before closed shelf = shelf
 closed_shelf (Made tells count geometry) entry before closed shelf = shelf
@@ -141,7 +141,7 @@ record_closed (Made tells count geometry) new command breaks = tt
 record_closed (Shut crash x) new command breaks = tt
 record_closed Unknown new command breaks = tt
 record_closed (Open x) new command breaks = absurd breaks
-record_closed Foreign new command breaks = absurd breaks
+record_closed (Foreign known) new command breaks = absurd breaks
 
 -- and what it says of that record
 pub faulty_shut : {R A : Type 0} (rack : racks.Ghosts R) (area : areas.Ghosts A) (text : List ℕ) (lines : List (List ℕ)) (command : Command) (old new : Desk) (entry before : OnShelf) (metaslab : Option ℕ) (place kind : ℕ)

@@ -30,7 +30,7 @@ desk_tells rack area entry now pool Bare is = some_told now.held _ is.shelf
 desk_tells rack area entry now pool (Made told failed geometry) is = is.shelf.told_is
 desk_tells rack area entry now pool (Open x) is = is.shelf.told
 desk_tells rack area entry now pool (Shut crash x) is = is.shelf.told
-desk_tells rack area entry now pool Foreign is = tt
+desk_tells rack area entry now pool (Foreign known) is = tt
 desk_tells rack area entry now pool Unknown is = tt
 
 -- a desk says of the shelf what it does, as it did at the entry
@@ -45,5 +45,5 @@ shelf_agrees Bare entry now is = some_told now.held _ is
 shelf_agrees (Made told failed geometry) entry now is = is.told_is
 shelf_agrees (Open x) entry now is = absurd is
 shelf_agrees (Shut crash x) entry now is = is.told
-shelf_agrees Foreign entry now is = absurd is
+shelf_agrees (Foreign known) entry now is = absurd is
 shelf_agrees Unknown entry now is = tt

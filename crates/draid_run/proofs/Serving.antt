@@ -76,7 +76,7 @@ failed_from entry before now later failed = elim failed [
 
 fault_from : {R A : Type 0} (area : areas.Ghosts A) (entry before now : OnShelf) (pool : Option (Pool R A)) → entry.faults ≤ before.faults → (x : Desk) → HasFault area before now pool x → HasFault area entry now pool x
 fault_from area entry before now pool later (Open x) fault = fault
-fault_from area entry before now pool later Foreign fault = fault
+fault_from area entry before now pool later (Foreign known) fault = fault
 fault_from area entry before now pool later Untouched fault = failed_from entry before now later fault
 fault_from area entry before now pool later Bare fault = failed_from entry before now later fault
 fault_from area entry before now pool later (Made tells count geometry) fault = failed_from entry before now later fault
@@ -113,7 +113,7 @@ module _ {R A : Type 0} (rack : racks.Ghosts R) (area : areas.Ghosts A) (chosen 
   shut_desk (Shut crash x) is = record { stands = tt; shelf = is }
   shut_desk Bare is = record { stands = tt; shelf = is }
   shut_desk Unknown is = record { stands = tt; shelf = is }
-  shut_desk Foreign is = absurd is
+  shut_desk (Foreign known) is = absurd is
   shut_desk (Open x) is = absurd is
 
   pub serving_none : (input start : Option (List ℕ)) (first : Desk) → HoldsDesk first entry entry → Serving rack area chosen first input (prepend_known [] input) start start entry entry None 0

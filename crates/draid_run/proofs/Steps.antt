@@ -10,6 +10,7 @@ use Rattle.draid_reply.specs.declared.reply.Reply.{Reply}
 use Rattle.draid_reply.specs.declared.reply.Reply.TheVariants.{NoPool}
 use Rattle.draid_session.specs.Follows.{Follows}
 use Rattle.draid_session.specs.Holds.{Hold}
+use Rattle.draid_session.specs.Known.{Known, Learns}
 use Rattle.draid_session.specs.Replies.{IsReplyTo}
 use Rattle.draid_session.specs.Session as session
 use Rattle.draid_session.specs.Session.{Desk, Finding, Untouched, Bare, Made, Open, Shut, Foreign, Unknown, TurnsBy}
@@ -19,6 +20,7 @@ use Rattle.draid_pool.specs.Pools.{Represents}
 use Rattle.draid_pool.specs.Whole.{IsWhole}
 use Rattle.draid_pool.specs.declared.pool.Pool.{Pool}
 use Rattle.draid_run.specs.Desks.{IsDesk, IsPool, PoolDid, ReplyDoes, Turned, asked_in}
+use Rattle.draid_run.specs.Knows.{Teaches}
 use Rattle.draid_run.specs.Making.{CreateDid, CreateTurns}
 use Rattle.draid_run.specs.Shelves.{IsOut, MayFind, OnShelf}
 use Rattle.draid_run.proofs.Behind.{asked_keeps, open_behind, still_foreign}
@@ -46,7 +48,7 @@ is_whole rack area desk pool is stands = by stands.0 (subst (λ d. IsPool rack a
   by (Shut crash y) stands = absurd stands
   by Unknown stands = absurd stands
   by (Open y) stands = stands.0
-  by Foreign stands = stands
+  by (Foreign known) stands = stands.0
 
 -- the shelf is as it was while the pool's state moved on
 pub still_out : (x y : State) (now : OnShelf) (holds : List Hold) → Follows holds x y → IsOut x now → (store : Store) → IsOut (record y { store = store }) now
@@ -55,9 +57,10 @@ still_out x y now holds follows out store = record { held = out.held; checks = o
 module _ {R A : Type 0} (rack : racks.Ghosts R) (area : areas.Ghosts A) (chosen : List Room → Option ℕ → Type 0) (command : Command) (called : CommandName) (reply : Reply) where
   -- a command was carried out on the pool that is open
   pub did_open : (desk : Option (Pool R A)) (pool new : Pool R A) → desk ≡ Some pool → IsWhole rack area new → IsReplyTo command reply
+      → Teaches command reply pool new
       → ((x : State) → Represents rack area pool x → CarriesOut rack area new x (ReplyDoes x chosen command reply))
       → (x : Desk) → IsPool rack area desk x → PoolDid rack area chosen command called x reply (Some new)
-  did_open desk pool new is whole fits step x = subst (λ d. IsPool rack area d x → PoolDid rack area chosen command called x reply (Some new)) (sym is) (by x) where
+  did_open desk pool new is whole fits teaches step x = subst (λ d. IsPool rack area d x → PoolDid rack area chosen command called x reply (Some new)) (sym is) (by x) where
     by : (x : Desk) → IsPool rack area (Some pool) x → PoolDid rack area chosen command called x reply (Some new)
     by Untouched stands = absurd stands
     by Bare stands = absurd stands
@@ -65,7 +68,7 @@ module _ {R A : Type 0} (rack : racks.Ghosts R) (area : areas.Ghosts A) (chosen 
     by (Shut crash y) stands = absurd stands
     by Unknown stands = absurd stands
     by (Open y) stands = (whole, fits, step y stands.1)
-    by Foreign stands = (whole, fits)
+    by (Foreign known) stands = (whole, fits, teaches known stands.1)
 
   -- no pool is open, and the reply says so
   pub did_shut : (desk new : Option (Pool R A)) → desk ≡ None → new ≡ None → reply ≡ NoPool called → (x : Desk) → IsPool rack area desk x → PoolDid rack area chosen command called x reply new
@@ -77,7 +80,7 @@ module _ {R A : Type 0} (rack : racks.Ghosts R) (area : areas.Ghosts A) (chosen 
     by (Shut crash y) stands = (said, same)
     by Unknown stands = (said, same)
     by (Open y) stands = absurd stands
-    by Foreign stands = absurd stands
+    by (Foreign known) stands = absurd stands
 
 -- a command that wants a pool, where none is open
 module _ (chosen : List Room → Option ℕ → Type 0) (finds : Finding → Type 0) where
@@ -98,7 +101,7 @@ module _ (chosen : List Room → Option ℕ → Type 0) (finds : Finding → Typ
   by_desk rack area command reply (Made told count geometry) stands says = says
   by_desk rack area command reply (Shut crash y) stands says = says
   by_desk rack area command reply Unknown stands says = says
-  by_desk rack area command reply Foreign stands says = absurd stands
+  by_desk rack area command reply (Foreign known) stands says = absurd stands
   by_desk rack area command reply (Open y) stands says = absurd stands
 
 module _ {R A : Type 0} (rack : racks.Ghosts R) (area : areas.Ghosts A) (chosen : List Room → Option ℕ → Type 0) (entry now : OnShelf) (desk : Option (Pool R A)) (reply : Reply) where
@@ -108,7 +111,7 @@ module _ {R A : Type 0} (rack : racks.Ghosts R) (area : areas.Ghosts A) (chosen 
 
   turned_by : (command : Command) (called : CommandName) → asked_in command ≡ Some called
       → ((x y : State) → session.CarriesOut chosen command reply x y → Open y ≡ session.desk_behind reply y → TurnsTo command (Open x) reply (Open y))
-      → (IsReplyTo command reply → Foreign ≡ session.foreign_behind reply → TurnsTo command Foreign reply Foreign)
+      → ((old new : Known) → IsReplyTo command reply → Learns command reply old new → Foreign new ≡ session.foreign_behind reply new → TurnsTo command (Foreign old) reply (Foreign new))
       → ((x : Desk) → IsPool rack area None x → TurnsTo command x (NoPool called) x)
       → (x : Desk) (new : Option (Pool R A)) → IsDesk rack area entry now desk x → PoolDid rack area chosen command called x reply new → Turned rack area chosen (Ok command) entry x (Some reply) now new
   turned_by command called asked turns foreign shut = by where
@@ -124,9 +127,14 @@ module _ {R A : Type 0} (rack : racks.Ghosts R) (area : areas.Ghosts A) (chosen 
     by (Shut crash y) new is did = says (Shut crash y) new did tt is
     by Bare new is did = says Bare new did tt is
     by Unknown new is did = says Unknown new did tt is
-    by Foreign None is did = absurd did
-    by Foreign (Some new) is did =
-        record { new = Foreign; desk = record { stands = did.0; shelf = tt }; turns = foreign did.1 (still_foreign reply (asked_keeps command called reply asked did.1)) }
+    by (Foreign known) None is did = absurd did
+    by (Foreign known) (Some new) is did =
+        let k = did.2 in
+        record {
+          new = Foreign k.new;
+          desk = record { stands = (did.0, k.fits); shelf = tt };
+          turns = foreign known k.new did.1 k.learns (still_foreign reply k.new (asked_keeps command called reply asked did.1));
+        }
     by (Open y) None is did = absurd did
     by (Open y) (Some new) is did =
         let c = did.2 in
@@ -141,19 +149,19 @@ module _ {R A : Type 0} (rack : racks.Ghosts R) (area : areas.Ghosts A) (chosen 
   -- the reply of the pool that is open, or that none is
   pub by_ask : (command : Command) (called : CommandName) → asked_in command ≡ Some called → (x : Desk) (new : Option (Pool R A)) → IsDesk rack area entry now desk x
       → PoolDid rack area chosen command called x reply new → Turned rack area chosen (Ok command) entry x (Some reply) now new
-  by_ask (WriteObject o bytes) called is = turned_by (WriteObject o bytes) called is (λ y z c same. (z, c, same)) (λ fits same. (fits, same)) (λ x stands.
+  by_ask (WriteObject o bytes) called is = turned_by (WriteObject o bytes) called is (λ y z c same. (z, c, same)) (λ old new fits learns same. (fits, new, learns, same)) (λ x stands.
       by_desk chosen (MayFind rack area entry) rack area (WriteObject o bytes) (NoPool called) x stands (shut_says chosen (MayFind rack area entry) (WriteObject o bytes) called is x))
-  by_ask (FillObjects first count len seed) called is = turned_by (FillObjects first count len seed) called is (λ y z c same. (z, c, same)) (λ fits same. (fits, same)) (λ x stands.
+  by_ask (FillObjects first count len seed) called is = turned_by (FillObjects first count len seed) called is (λ y z c same. (z, c, same)) (λ old new fits learns same. (fits, new, learns, same)) (λ x stands.
       by_desk chosen (MayFind rack area entry) rack area (FillObjects first count len seed) (NoPool called) x stands (shut_says chosen (MayFind rack area entry) (FillObjects first count len seed) called is x))
-  by_ask (ReadObject o) called is = turned_by (ReadObject o) called is (λ y z c same. (z, c, same)) (λ fits same. (fits, same)) (λ x stands.
+  by_ask (ReadObject o) called is = turned_by (ReadObject o) called is (λ y z c same. (z, c, same)) (λ old new fits learns same. (fits, new, learns, same)) (λ x stands.
       by_desk chosen (MayFind rack area entry) rack area (ReadObject o) (NoPool called) x stands (shut_says chosen (MayFind rack area entry) (ReadObject o) called is x))
-  by_ask (FreeObject o) called is = turned_by (FreeObject o) called is (λ y z c same. (z, c, same)) (λ fits same. (fits, same)) (λ x stands.
+  by_ask (FreeObject o) called is = turned_by (FreeObject o) called is (λ y z c same. (z, c, same)) (λ old new fits learns same. (fits, new, learns, same)) (λ x stands.
       by_desk chosen (MayFind rack area entry) rack area (FreeObject o) (NoPool called) x stands (shut_says chosen (MayFind rack area entry) (FreeObject o) called is x))
-  by_ask (SumObjects first count) called is = turned_by (SumObjects first count) called is (λ y z c same. (z, c, same)) (λ fits same. (fits, same)) (λ x stands.
+  by_ask (SumObjects first count) called is = turned_by (SumObjects first count) called is (λ y z c same. (z, c, same)) (λ old new fits learns same. (fits, new, learns, same)) (λ x stands.
       by_desk chosen (MayFind rack area entry) rack area (SumObjects first count) (NoPool called) x stands (shut_says chosen (MayFind rack area entry) (SumObjects first count) called is x))
-  by_ask (DamageSector leaf sector) called is = turned_by (DamageSector leaf sector) called is (λ y z c same. (z, c, same)) (λ fits same. (fits, same)) (λ x stands.
+  by_ask (DamageSector leaf sector) called is = turned_by (DamageSector leaf sector) called is (λ y z c same. (z, c, same)) (λ old new fits learns same. (fits, new, learns, same)) (λ x stands.
       by_desk chosen (MayFind rack area entry) rack area (DamageSector leaf sector) (NoPool called) x stands (shut_says chosen (MayFind rack area entry) (DamageSector leaf sector) called is x))
-  by_ask (ShowStatus form) called is = turned_by (ShowStatus form) called is (λ y z c same. (z, c, same)) (λ fits same. (fits, same)) (λ x stands.
+  by_ask (ShowStatus form) called is = turned_by (ShowStatus form) called is (λ y z c same. (z, c, same)) (λ old new fits learns same. (fits, new, learns, same)) (λ x stands.
       by_desk chosen (MayFind rack area entry) rack area (ShowStatus form) (NoPool called) x stands (shut_says chosen (MayFind rack area entry) (ShowStatus form) called is x))
   by_ask Silent called is = absurd (cc is)
   by_ask (CreatePool text children keys) called is = absurd (cc is)
@@ -190,6 +198,6 @@ by_create rack area chosen entry now text children keys x reply pool did =
     by (Made tells count geometry) new turns = turns
     by (Shut crash y) new turns = turns
     by Unknown new turns = turns
-    by Foreign new turns = subst (λ r. TurnsBy chosen (MayFind rack area entry) (Ok (CreatePool text children keys)) Foreign (Some r) new) (sym turns.0) (tt, turns.1)
+    by (Foreign known) new turns = subst (λ r. TurnsBy chosen (MayFind rack area entry) (Ok (CreatePool text children keys)) (Foreign known) (Some r) new) (sym turns.0) (tt, known, refl, turns.1)
     by (Open y) new turns = subst (λ r. TurnsBy chosen (MayFind rack area entry) (Ok (CreatePool text children keys)) (Open y) (Some r) new) (sym turns.0)
         (y, record { holds = []; mid = y; store = y.store; follows = refl; does = (refl, refl); made = refl }, turns.1)

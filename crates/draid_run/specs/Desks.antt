@@ -19,23 +19,24 @@ use Rattle.draid_pool.specs.Carries.{CarriesOut}
 use Rattle.draid_pool.specs.Pools.{Represents}
 use Rattle.draid_pool.specs.Whole.{IsWhole}
 use Rattle.draid_pool.specs.declared.pool.Pool.{Pool}
+use Rattle.draid_run.specs.Knows.{KnowsBehind, KnowsPointers}
 use Rattle.draid_run.specs.Shelves.{FailsIn, HasFailed, HasFault, HoldsDesk, IsClosed, IsOut, MayFind, OnShelf}
 
 -- ---- desks
 
--- the pool that is open, if one is, is whole and stands for the state of the desk, if that says one
+-- the pool that is open, if one is, is whole and stands for the state of the desk, if that says one, or what the desk knows of its objects is so
 abbrev pub IsPool : {R A : Type 0} → racks.Ghosts R → areas.Ghosts A → Option (Pool R A) → Desk → Type 0
 IsPool rack area None (Open x) = ⊥
-IsPool rack area None Foreign = ⊥
+IsPool rack area None (Foreign known) = ⊥
 IsPool rack area None desk = ⊤
 IsPool rack area (Some pool) (Open x) = IsWhole rack area pool × Represents rack area pool x
-IsPool rack area (Some pool) Foreign = IsWhole rack area pool
+IsPool rack area (Some pool) (Foreign known) = IsWhole rack area pool × KnowsPointers pool known
 IsPool rack area (Some pool) desk = ⊥
 
 -- the shelf, where it held this at the entry
 abbrev pub IsShelf : Desk → OnShelf → OnShelf → Type 0
 IsShelf (Open x) entry now = IsOut x now
-IsShelf Foreign entry now = ⊤
+IsShelf (Foreign known) entry now = ⊤
 IsShelf desk entry now = HoldsDesk desk entry now
 
 -- both
@@ -52,9 +53,9 @@ ReplyDoes x chosen command reply holds store = Does x.geometry x.perms chosen co
 -- What a command that leaves the shelf alone came to: it was carried out on the open pool and has a reply that it may have, or its reply is that it wants one.
 abbrev pub PoolDid : {R A : Type 0} → racks.Ghosts R → areas.Ghosts A → (List Room → Option ℕ → Type 0) → Command → CommandName → Desk → Reply → Option (Pool R A) → Type 0
 PoolDid rack area chosen command called (Open x) reply None = ⊥
-PoolDid rack area chosen command called Foreign reply None = ⊥
+PoolDid rack area chosen command called (Foreign known) reply None = ⊥
 PoolDid rack area chosen command called (Open x) reply (Some pool) = IsWhole rack area pool × IsReplyTo command reply × CarriesOut rack area pool x (ReplyDoes x chosen command reply)
-PoolDid rack area chosen command called Foreign reply (Some pool) = IsWhole rack area pool × IsReplyTo command reply
+PoolDid rack area chosen command called (Foreign known) reply (Some pool) = IsWhole rack area pool × IsReplyTo command reply × KnowsBehind command reply known pool
 PoolDid rack area chosen command called desk reply pool = (reply ≡ NoPool called) × (pool ≡ None)
 
 -- the name of a command that is carried out on the pool that is open, and leaves it open
@@ -85,7 +86,7 @@ pub record LeavesDesk {R A : Type 0} (area : areas.Ghosts A) (entry before now :
 abbrev pub CauseShows : {R A : Type 0} → areas.Ghosts A → Cause → Command → OnShelf → Desk → OnShelf → Option (Pool R A) → Desk → Type 0
 CauseShows area RecordFails command before old now pool new = ⊤
 CauseShows area ShelfFails command before (Open x) now pool new = HasFault area before now pool new
-CauseShows area ShelfFails command before Foreign now pool new = HasFault area before now pool new
+CauseShows area ShelfFails command before (Foreign known) now pool new = HasFault area before now pool new
 CauseShows area ShelfFails command before old now pool new = IsClosed new × FailsIn area command before now
 
 -- A command broke off, since a call of the shelf or on an area failed, or since a record has a fault.

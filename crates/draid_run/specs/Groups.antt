@@ -9,6 +9,7 @@ use Rattle.draid_reply.specs.declared.reply.Reply.{Reply}
 use Rattle.draid_reply.specs.declared.reply.Reply.TheVariants.{Crashed, Exported, Last, NoMemory, NoPool, Synced, Worn}
 use Rattle.draid_session.specs.Follows.{Follows}
 use Rattle.draid_session.specs.Holds.{Hold}
+use Rattle.draid_session.specs.Known.{Known}
 use Rattle.draid_session.specs.Replies.{IsReplyTo}
 use Rattle.draid_session.specs.Session.{Desk, Open, Shut, Foreign, Unknown}
 use Rattle.draid_session.specs.State.{State, Store}
@@ -20,6 +21,7 @@ use Rattle.draid_pool.specs.declared.fault.SyncFault.TheVariants as sync
 use Rattle.draid_pool.specs.declared.fault.Synced.{Synced as Group}
 use Rattle.draid_pool.specs.declared.pool.Pool.{Pool}
 use Rattle.draid_run.specs.Desks.{IsDesk}
+use Rattle.draid_run.specs.Knows.{KnowsPointers}
 use Rattle.draid_run.specs.Shelves.{OnShelf, PoolFails}
 use Rattle.draid_run.specs.declared.answer.Stop.{Stop}
 use Rattle.draid_run.specs.declared.answer.Stop.TheVariants as stop
@@ -65,9 +67,9 @@ SyncShows area (Err (stop.Record metaslab place kind)) pool = ⊥
 -- by whether a pool is open
 abbrev pub SyncDid : {R A : Type 0} → racks.Ghosts R → areas.Ghosts A → Desk → Result Reply Stop → Option (Pool R A) → Type 0
 SyncDid rack area (Open x) result None = ⊥
-SyncDid rack area Foreign result None = ⊥
+SyncDid rack area (Foreign known) result None = ⊥
 SyncDid rack area (Open x) result (Some pool) = IsWhole rack area pool × SyncShows area result (Some pool) × SyncLeads rack area x result pool
-SyncDid rack area Foreign result (Some pool) = IsWhole rack area pool × SyncShows area result (Some pool)
+SyncDid rack area (Foreign known) result (Some pool) = IsWhole rack area pool × SyncShows area result (Some pool) × KnowsPointers pool known
 SyncDid rack area desk result pool = (result ≡ Ok (NoPool name.Sync)) × (pool ≡ None)
 
 -- ---- an export, a crash
@@ -99,19 +101,19 @@ pub record Exports (x : State) (reply : Option Reply) (new : Desk) : Type 0 wher
   pub new_is : new ≡ desk_left answer y
   pub leads : Leads x y (ExportDoes x answer)
 
--- so of a pool of which nothing is said
-abbrev pub foreign_left : Result ℕ SyncFault → Desk
-foreign_left (Ok group) = Unknown
-foreign_left (Err why) = Foreign
+-- so of a pool that no known session left
+abbrev pub foreign_left : Result ℕ SyncFault → Known → Desk
+foreign_left (Ok group) known = Unknown
+foreign_left (Err why) known = Foreign known
 
-pub record ForeignExports (reply : Option Reply) (new : Desk) : Type 0 where
+pub record ForeignExports (known : Known) (reply : Option Reply) (new : Desk) : Type 0 where
   pub answer : Result ℕ SyncFault
   pub reply_is : export_reply answer ≡ reply
-  pub new_is : new ≡ foreign_left answer
+  pub new_is : new ≡ foreign_left answer known
 
 abbrev pub ExportTurns : Desk → Option Reply → Desk → Type 0
 ExportTurns (Open x) reply new = Exports x reply new
-ExportTurns Foreign reply new = ForeignExports reply new
+ExportTurns (Foreign known) reply new = ForeignExports known reply new
 ExportTurns desk reply new = (reply ≡ Some (NoPool name.Export)) × (new ≡ desk)
 
 -- so where it has a reply, and where a device failed
@@ -119,7 +121,7 @@ pub record ExportDid {R A : Type 0} (rack : racks.Ghosts R) (area : areas.Ghosts
   pub new : Desk
   pub desk : IsDesk rack area entry now pool new
   pub turns : ExportTurns old reply new
-  pub failed : reply ≡ None → new ≡ Foreign → PoolFails area pool
+  pub failed : reply ≡ None → (known : Known) → new ≡ Foreign known → PoolFails area pool
 
 abbrev pub ExportIs : {R A : Type 0} → racks.Ghosts R → areas.Ghosts A → OnShelf → Desk → OnShelf → Option (Pool R A) → Result Reply Stop → Type 0
 ExportIs rack area entry old now pool (Ok reply) = ExportDid rack area entry old (Some reply) now pool
@@ -130,7 +132,7 @@ ExportIs rack area entry old now pool (Err (stop.Record metaslab place kind)) = 
 -- a crash gives the pool back as it is
 abbrev pub CrashTurns : Desk → Reply → Desk → Type 0
 CrashTurns (Open x) reply new = (reply ≡ Crashed) × (new ≡ Shut true x)
-CrashTurns Foreign reply new = (reply ≡ Crashed) × (new ≡ Unknown)
+CrashTurns (Foreign known) reply new = (reply ≡ Crashed) × (new ≡ Unknown)
 CrashTurns desk reply new = (reply ≡ NoPool name.Crash) × (new ≡ desk)
 
 pub record CrashDid {R A : Type 0} (rack : racks.Ghosts R) (area : areas.Ghosts A) (entry : OnShelf) (old : Desk) (reply : Reply) (now : OnShelf) (pool : Option (Pool R A)) : Type 0 where

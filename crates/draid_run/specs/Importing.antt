@@ -18,7 +18,7 @@ use Rattle.draid_run.specs.declared.answer.Stop.TheVariants as stop
 -- what `import` does where a pool is open, or none is
 abbrev pub ImportDoes : {R A : Type 0} → racks.Ghosts R → areas.Ghosts A → OnShelf → Desk → Reply → Desk → Type 0
 ImportDoes rack area entry (Open x) reply new = (reply ≡ PoolOpen name.Import) × (new ≡ Open x)
-ImportDoes rack area entry Foreign reply new = (reply ≡ PoolOpen name.Import) × (new ≡ Foreign)
+ImportDoes rack area entry (Foreign known) reply new = (reply ≡ PoolOpen name.Import) × (new ≡ Foreign known)
 ImportDoes rack area entry old reply new = ImportTurns (MayFind rack area entry) old reply new
 
 -- it was done, and this is its reply

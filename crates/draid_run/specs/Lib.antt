@@ -3,6 +3,7 @@ pub mod Desks
 pub mod Ending
 pub mod Groups
 pub mod Importing
+pub mod Knows
 pub mod Making
 pub mod Next
 pub mod Says

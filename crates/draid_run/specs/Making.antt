@@ -64,7 +64,7 @@ UnmadeIs why result = ⊥
 -- what `create` does where a pool is open, or none is
 abbrev pub CreateTurns : List ℕ → ℕ → PoolKeys → Desk → Reply → Desk → Type 0
 CreateTurns text children keys (Open x) reply new = (reply ≡ PoolOpen name.Create) × (new ≡ Open x)
-CreateTurns text children keys Foreign reply new = (reply ≡ PoolOpen name.Create) × (new ≡ Foreign)
+CreateTurns text children keys (Foreign known) reply new = (reply ≡ PoolOpen name.Create) × (new ≡ Foreign known)
 CreateTurns text children keys old reply new = Creates text children keys old reply new
 
 -- it was done, and this is its reply

@@ -31,7 +31,7 @@ next_desk crash (Made told failed geometry) = Made told failed geometry
 next_desk crash (Open state) = Shut crash state
 next_desk true (Shut crashed state) = Shut true state
 next_desk false (Shut crashed state) = Shut crashed state
-next_desk crash Foreign = Untouched
+next_desk crash (Foreign known) = Untouched
 next_desk crash Unknown = Untouched
 
 -- ---- crashes in a run

@@ -75,7 +75,7 @@ HoldsBare now = IsSomeAnd now.held (λ held. held.uber ≡ None)
 -- no pool is open
 abbrev pub IsClosed : Desk → Type 0
 IsClosed (Open state) = ⊥
-IsClosed Foreign = ⊥
+IsClosed (Foreign known) = ⊥
 IsClosed desk = ⊤
 
 -- What a shelf holds, where no pool is open: what it held at the entry, no pool, a new pool as it was made, the pool that was given back, or whatever it may be.
@@ -85,7 +85,7 @@ HoldsDesk Bare entry now = HoldsBare now
 HoldsDesk (Made told failed geometry) entry now = HoldsNew told failed geometry now
 HoldsDesk (Open state) entry now = ⊥
 HoldsDesk (Shut crash state) entry now = HoldsShut crash state now
-HoldsDesk Foreign entry now = ⊥
+HoldsDesk (Foreign known) entry now = ⊥
 HoldsDesk Unknown entry now = ⊤
 
 -- what an import may find on a shelf that is as it was at the entry, by what that held
@@ -122,7 +122,7 @@ PoolFails area (Some pool) = AreaFails area.faults pool
 -- the one or the other, by whether a pool is open
 abbrev pub HasFault : {R A : Type 0} → areas.Ghosts A → OnShelf → OnShelf → Option (Pool R A) → Desk → Type 0
 HasFault area entry now pool (Open x) = AreaHasFailed x
-HasFault area entry now pool Foreign = PoolFails area pool
+HasFault area entry now pool (Foreign known) = PoolFails area pool
 HasFault area entry now pool desk = HasFailed entry now
 
 -- A pool of this layout was to be made, and the shelf failed: its count rose, or it holds the new pool's devices, on an area of which a call has failed.

@@ -10,6 +10,7 @@ ghost use Rattle.draid_pool.specs.Carries.{CarriesOut};
 ghost use Rattle.draid_pool.specs.Pools.{Represents};
 ghost use Rattle.draid_pool.specs.Whole.{IsWhole};
 ghost use Rattle.draid_run.specs.Desks.{ReplyDoes};
+ghost use Rattle.draid_run.specs.Knows.{Teaches};
 
 use draid_area::Area;
 use draid_choose::Chooser;
@@ -46,6 +47,7 @@ pub(crate) fn fill<R: Rack, A: Area, F: Fn(&[Room]) -> Option<u32>>(
     requires whole { IsWhole R.Rack A.Area pool.old }
     ensures whole { IsWhole R.Rack A.Area pool.new }
     ensures fits { IsReplyTo (FillObjects first count len seed) result }
+    ensures knows { Teaches (FillObjects first count len seed) result pool.old pool.new }
     ensures step { (x : State) → Represents R.Rack A.Area pool.old x
         → CarriesOut R.Rack A.Area pool.new x (ReplyDoes x (FnReturnsAt F.Fn chooser.now) (FillObjects first count len seed) result) }
 {

@@ -2,6 +2,7 @@
 ghost use Rattle.std.specs.Prelude.{◌≡◌, ◌≤◌, None, Some, Ok, Err};
 ghost use Rattle.draid_session.specs.Session.{Desk};
 ghost use Rattle.draid_session.specs.State.{State};
+ghost use Rattle.draid_pool.specs.Pointers.{SamePointers};
 ghost use Rattle.draid_pool.specs.Pools.{Represents};
 ghost use Rattle.draid_pool.specs.Whole.{IsWhole};
 ghost use Rattle.draid_run.specs.Desks.{IsDesk, IsPool};
@@ -32,6 +33,7 @@ fn refusal(command: CommandName, fault: SyncFault) -> Result<Reply, Stop>
 fn sync_open<R: Rack, A: Area>(pool: &mut Pool<R, A>) -> Result<Reply, Stop>
     requires whole { IsWhole R.Rack A.Area pool.old }
     ensures whole { IsWhole R.Rack A.Area pool.new }
+    ensures same { SamePointers pool.old pool.new }
     ensures leads { (x : State) → Represents R.Rack A.Area pool.old x → SyncLeads R.Rack A.Area x result pool.new }
     ensures shows { SyncShows A.Area result (Some pool.new) }
 {

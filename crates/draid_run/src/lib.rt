@@ -7,6 +7,7 @@ mod books;
 mod fill;
 mod groups;
 mod importing;
+mod kept;
 mod laws;
 mod replies;
 mod serve;
@@ -16,6 +17,7 @@ mod top;
 mod words;
 
 pub use books::runs_keep_the_book;
+pub use kept::known_objects_are_read;
 pub use laws::{
     crashed_pools_are_found_again, new_shelves_have_no_pool, runs_follow_one_another,
     undisturbed_runs_are_done,

@@ -9,6 +9,7 @@ ghost use Rattle.draid_pool.specs.Carries.{CarriesOut};
 ghost use Rattle.draid_pool.specs.Pools.{Represents};
 ghost use Rattle.draid_pool.specs.Whole.{IsWhole};
 ghost use Rattle.draid_run.specs.Desks.{ReplyDoes, asked_in};
+ghost use Rattle.draid_run.specs.Knows.{Teaches};
 ghost use Rattle.draid_run.specs.Says.{DamageSays, FreeSays, ReadSays, StatusSays, SumSays};
 
 use crate::fill::fill;
@@ -35,6 +36,7 @@ fn write<R: Rack, A: Area, F: Fn(&[Room]) -> Option<u32>>(
     requires whole { IsWhole R.Rack A.Area pool.old }
     ensures whole { IsWhole R.Rack A.Area pool.new }
     ensures fits { IsReplyTo (WriteObject object bytes.now) result }
+    ensures knows { Teaches (WriteObject object bytes.now) result pool.old pool.new }
     ensures step { (x : State) → Represents R.Rack A.Area pool.old x
         → CarriesOut R.Rack A.Area pool.new x (ReplyDoes x (FnReturnsAt F.Fn chooser.now) (WriteObject object bytes.now) result) }
 {
@@ -67,6 +69,7 @@ fn read<R: Rack, A: Area>(pool: &mut Pool<R, A>, object: u64) -> Reply
     requires whole { IsWhole R.Rack A.Area pool.old }
     ensures whole { IsWhole R.Rack A.Area pool.new }
     ensures fits { IsReplyTo (ReadObject object) result }
+    ensures knows { Teaches (ReadObject object) result pool.old pool.new }
     ensures step { (x : State) → Represents R.Rack A.Area pool.old x
         → CarriesOut R.Rack A.Area pool.new x (ReadSays object result x) }
 {
@@ -90,6 +93,7 @@ fn free<R: Rack, A: Area>(pool: &mut Pool<R, A>, object: u64) -> Reply
     requires whole { IsWhole R.Rack A.Area pool.old }
     ensures whole { IsWhole R.Rack A.Area pool.new }
     ensures fits { IsReplyTo (FreeObject object) result }
+    ensures knows { Teaches (FreeObject object) result pool.old pool.new }
     ensures step { (x : State) → Represents R.Rack A.Area pool.old x
         → CarriesOut R.Rack A.Area pool.new x (FreeSays object result x) }
 {
@@ -110,6 +114,7 @@ fn sum<R: Rack, A: Area>(
     requires whole { IsWhole R.Rack A.Area pool.old }
     ensures whole { IsWhole R.Rack A.Area pool.new }
     ensures fits { IsReplyTo (SumObjects first count) result }
+    ensures knows { Teaches (SumObjects first count) result pool.old pool.new }
     ensures step { (x : State) → Represents R.Rack A.Area pool.old x
         → CarriesOut R.Rack A.Area pool.new x (SumSays first count result x) }
 {
@@ -128,6 +133,7 @@ fn damage<R: Rack, A: Area>(pool: &mut Pool<R, A>, leaf: u64, sector: u64) -> Re
     requires whole { IsWhole R.Rack A.Area pool.old }
     ensures whole { IsWhole R.Rack A.Area pool.new }
     ensures fits { IsReplyTo (DamageSector leaf sector) result }
+    ensures knows { Teaches (DamageSector leaf sector) result pool.old pool.new }
     ensures step { (x : State) → Represents R.Rack A.Area pool.old x
         → CarriesOut R.Rack A.Area pool.new x (DamageSays leaf sector result x) }
 {
@@ -146,6 +152,7 @@ fn damage<R: Rack, A: Area>(pool: &mut Pool<R, A>, leaf: u64, sector: u64) -> Re
 fn status<R: Rack, A: Area>(alloc: Global, pool: &Pool<R, A>, format: StatusFormat) -> Reply
     requires whole { IsWhole R.Rack A.Area pool.now }
     ensures fits { IsReplyTo (ShowStatus format) result }
+    ensures knows { Teaches (ShowStatus format) result pool.now pool.now }
     ensures step { (x : State) → Represents R.Rack A.Area pool.now x
         → CarriesOut R.Rack A.Area pool.now x (StatusSays format result x) }
 {
@@ -171,6 +178,7 @@ pub(crate) fn reply<R: Rack, A: Area, F: Fn(&[Room]) -> Option<u32>>(
     requires whole { IsWhole R.Rack A.Area pool.old }
     ensures whole { IsWhole R.Rack A.Area pool.new }
     ensures fits { IsReplyTo (command_in line.now) result }
+    ensures knows { Teaches (command_in line.now) result pool.old pool.new }
     ensures step { (x : State) → Represents R.Rack A.Area pool.old x
         → CarriesOut R.Rack A.Area pool.new x (ReplyDoes x (FnReturnsAt F.Fn chooser.now) (command_in line.now) result) }
 {

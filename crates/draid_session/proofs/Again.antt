@@ -66,7 +66,7 @@ module _ (chosen : List Room → Option ℕ → Type 0) (finds : Finding → Typ
   import_known (Made told failed geometry) new reply known agrees it = new_known failed geometry reply new (subst (λ b. FindsNewIf b failed geometry reply new) agrees it)
   import_known (Open x) new reply known agrees it = absurd it
   import_known (Shut crash x) new reply known agrees it = given_known x reply new (told_finds x reply new agrees it)
-  import_known Foreign new reply known agrees it = absurd known
+  import_known (Foreign f) new reply known agrees it = absurd known
   import_known Unknown new reply known agrees it = absurd known
 
   shut_known : (old new : Desk) (command : Command) (reply : Reply) → KnowsShelf old → Agrees true old → ShutTurns finds old command reply new → KnowsShelf new
@@ -80,7 +80,7 @@ module _ (chosen : List Room → Option ℕ → Type 0) (finds : Finding → Typ
   reply_known (Made told failed geometry) new command reply known agrees it = shut_known (Made told failed geometry) new command reply known agrees it
   reply_known (Open x) new command reply known agrees it = subst KnowsShelf (sym it.2) (behind_known reply it.0)
   reply_known (Shut crash x) new command reply known agrees it = shut_known (Shut crash x) new command reply known agrees it
-  reply_known Foreign new command reply known agrees it = absurd known
+  reply_known (Foreign f) new command reply known agrees it = absurd known
   reply_known Unknown new command reply known agrees it = absurd known
 
   line_known : (line : Result Command LineFault) (old new : Desk) (reply : Option Reply) → KnowsShelf old → Agrees true old → TurnsBy chosen finds line old reply new → KnowsShelf new
@@ -149,7 +149,7 @@ module _ (chosen : List Room → Option ℕ → Type 0) (finds : Finding → Typ
       by (Made told failed geometry) known turns all = absurd (cc (turns.2))
       by (Open old) known turns all = found_open old all
       by (Shut crashed old) known turns all = absurd (cc (turns.2))
-      by Foreign known turns all = absurd known
+      by (Foreign f) known turns all = absurd known
       by Unknown known turns all = absurd known
 
     pub found_again : (old : State) → Runs chosen finds true (Open old) (crash ∷ import ∷ lines) (Some Crashed ∷ Some (Imported called group objects) ∷ replies) last

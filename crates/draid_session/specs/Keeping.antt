@@ -132,5 +132,5 @@ Keeps Bare book = KeepsNone book
 Keeps (Made told failed geometry) book = KeepsNone book × (told ≡ true)
 Keeps (Open x) book = KeepsOpen x x.store book
 Keeps (Shut crash x) book = KeepsShut x book
-Keeps Foreign book = ⊥
+Keeps (Foreign known) book = ⊥
 Keeps Unknown book = ⊥

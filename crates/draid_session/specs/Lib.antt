@@ -6,6 +6,7 @@ pub mod Follows
 pub mod Groups
 pub mod Holds
 pub mod Keeping
+pub mod Known
 pub mod Looks
 pub mod Making
 pub mod Opening

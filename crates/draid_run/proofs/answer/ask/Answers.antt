@@ -13,7 +13,7 @@ returns-in-Some-pool g c = record {
   did = λ x stands. (
     c.in-Some.command,
     sym c.asked.ensures ∙ c.in-Some.is,
-    did_open g.R.Rack g.A.Area (FnReturnsAt g.F.Fn c.args.chooser.now) (command_in c.args.line.now) c.in-Some.command c.reply.result c.args.pool.now c.in-Some-pool.pool c.reply.new.pool c.in-Some-pool.is c.reply.ensures.whole c.reply.ensures.fits c.reply.ensures.step x stands,
+    did_open g.R.Rack g.A.Area (FnReturnsAt g.F.Fn c.args.chooser.now) (command_in c.args.line.now) c.in-Some.command c.reply.result c.args.pool.now c.in-Some-pool.pool c.reply.new.pool c.in-Some-pool.is c.reply.ensures.whole c.reply.ensures.fits c.reply.ensures.knows c.reply.ensures.step x stands,
   );
 }
 

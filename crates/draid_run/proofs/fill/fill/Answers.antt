@@ -1,13 +1,16 @@
 use Rattle.std.proofs.Common.{◌∙◌, ◌+◌, arith, ap, length, refl}
 use Rattle.std.specs.Fn.{FnReturnsAt}
+use Rattle.draid_names.specs.declared.refusal.WriteFault.TheVariants as fault
 use Rattle.draid_session.specs.Making.{content_of}
 use Rattle.draid_run.proofs.Filled.{fill_stopped, fill_unbegun, filled_all, filled_more, filled_none, whole}
+use Rattle.draid_run.proofs.Taught.{fill_stopped_teaches, fill_teaches, fills_more, fills_none, refused_same}
 use Rattle.draid_run.proofs.fill.fill.Goals as goal
 
 pub returns-in_default : goal.returns-in_default
 returns-in_default g c = record {
   whole = c.requires.whole;
   fits = (refl, (let some = c.requires.range.0.0 in omega (arith, some)));
+  knows = fill_stopped_teaches c.args.first c.args.len c.args.seed c.args.pool.now c.args.pool.now c.args.pool.now 0 c.args.count fault.NoMemory (λ o. refl) (fills_none c.args.first c.args.len c.args.seed c.args.pool.now);
   step = λ x rep. fill_unbegun g.R.Rack g.A.Area (FnReturnsAt g.F.Fn c.args.chooser.now) c.args.first c.args.len c.args.seed x c.args.pool.now c.args.count
       (let some = c.requires.range.0.0 in omega (arith, some)) rep;
 }
@@ -16,6 +19,7 @@ pub loop-written-init : goal.loop-written-init
 loop-written-init g c = record {
   long = (let long = c.in-Ok.ensures.len in let ok = c.in-Ok.bytes.ok in omega (arith, long, ok));
   whole = c.requires.whole;
+  knows = fills_none c.args.first c.args.len c.args.seed c.args.pool.now;
   filled = λ x rep. filled_none g.R.Rack g.A.Area (FnReturnsAt g.F.Fn c.args.chooser.now) c.args.first c.args.len c.args.seed x c.args.pool.now rep;
 }
 
@@ -30,6 +34,8 @@ returns-in-Err g c =
     record {
       whole = c.write.ensures.whole;
       fits = (refl, c.loop-written-test.true);
+      knows = fill_stopped_teaches c.args.first c.args.len c.args.seed c.args.pool.now c.loop-written.pool c.write.new.self c.loop-written.written c.args.count c.in-Err.why
+          (refused_same c.loop-written.pool c.write.new.self (c.args.first + c.loop-written.written) c.deref.result.now c.write.result c.in-Err.why c.in-Err.is c.write.ensures.writes) c.loop-written.invariant.knows;
       step = λ x rep. (let m = c.loop-written.invariant.filled x rep in
           fill_stopped g.R.Rack g.A.Area (FnReturnsAt g.F.Fn c.args.chooser.now) c.args.first c.args.len c.args.seed x c.loop-written.pool c.write.new.self
           c.loop-written.written c.deref.result.now c.write.result is m (c.write.ensures.step (record m.reached { store = m.store }) m.represents) c.args.count c.in-Err.why c.in-Err.is
@@ -47,6 +53,7 @@ loop-written-preserved g c =
     record {
       long = ap length all ∙ kept ∙ long;
       whole = c.write.ensures.whole;
+      knows = fills_more c.args.first c.args.len c.args.seed c.args.pool.now c.loop-written.pool c.write.new.self c.loop-written.written c.deref.result.now c.write.result is c.in_default-write.is c.write.ensures.writes c.loop-written.invariant.knows;
       filled = λ x rep. (let m = c.loop-written.invariant.filled x rep in
           filled_more g.R.Rack g.A.Area (FnReturnsAt g.F.Fn c.args.chooser.now) c.args.first c.args.len c.args.seed x c.loop-written.pool c.write.new.self
           c.loop-written.written c.deref.result.now c.write.result is m (c.write.ensures.step (record m.reached { store = m.store }) m.represents) c.in_default-write.is);
@@ -59,6 +66,7 @@ returns g c =
     record {
       whole = c.loop-written.invariant.whole;
       fits = (refl, refl);
+      knows = fill_teaches c.args.first c.args.len c.args.seed c.args.pool.now c.loop-written.pool c.loop-written.written c.args.count (omega (arith, ends, upto)) c.loop-written.invariant.knows;
       step = λ x rep. filled_all g.R.Rack g.A.Area (FnReturnsAt g.F.Fn c.args.chooser.now) c.args.first c.args.len c.args.seed x c.loop-written.pool
           c.loop-written.written c.args.count (omega (arith, ends, upto)) (c.loop-written.invariant.filled x rep);
     }

@@ -16,6 +16,6 @@ returns-in-Ok-clause-answer g c entry x desk =
 pub returns-in-Err-clause-answer : goal.returns-in-Err-clause-answer
 returns-in-Err-clause-answer g c entry x desk =
     export_refused g.H.R.Rack g.H.A.Area entry (on_shelf g.H.Shelf c.args.shelf.now) (on_shelf g.H.Shelf c.args.shelf.now) c.args.pool.now c.in-Some.open c.sync_for_export.new.self (sym c.take.ensures.value ∙ c.in-Some.is)
-    c.sync_for_export.result c.in-Err.fault c.refusal.result c.in-Err.is c.refusal.ensures c.sync_for_export.ensures.whole
+    c.sync_for_export.result c.in-Err.fault c.refusal.result c.in-Err.is c.refusal.ensures c.sync_for_export.ensures.whole c.sync_for_export.ensures.same
     (λ failed. rose_fails g.H.A.Area.faults c.in-Some.open c.sync_for_export.new.self (c.sync_for_export.ensures.cause failed))
     c.sync_for_export.ensures.carries x desk

@@ -7,7 +7,7 @@ sync_open-requires g c = record { whole = is_whole g.R.Rack g.A.Area c.args.pool
 
 pub returns-in-Some : goal.returns-in-Some
 returns-in-Some g c = record {
-  did = sync_led g.R.Rack g.A.Area c.sync_open.result c.args.pool.now c.in-Some.pool c.sync_open.new.pool c.in-Some.is c.sync_open.ensures.whole c.sync_open.ensures.leads c.sync_open.ensures.shows;
+  did = sync_led g.R.Rack g.A.Area c.sync_open.result c.args.pool.now c.in-Some.pool c.sync_open.new.pool c.in-Some.is c.sync_open.ensures.whole c.sync_open.ensures.same c.sync_open.ensures.leads c.sync_open.ensures.shows;
 }
 
 pub returns-in-None : goal.returns-in-None

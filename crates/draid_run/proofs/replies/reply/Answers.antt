@@ -2,6 +2,7 @@ use Rattle.std.proofs.Common.{◌∙◌, ap, subst, sym}
 use Rattle.std.specs.Fn.{FnReturnsAt}
 use Rattle.draid_script.specs.Line.{FillObjects, IsInRange, WriteObject, command_in}
 use Rattle.draid_session.specs.Replies.{IsReplyTo}
+use Rattle.draid_run.specs.Knows.{Teaches}
 use Rattle.draid_run.proofs.Asking.{asks_nothing, replied_as, replied_damage, replied_free, replied_read, replied_status, replied_sum}
 use Rattle.draid_run.proofs.replies.reply.Goals as goal
 
@@ -9,6 +10,7 @@ pub returns-in-Write : goal.returns-in-Write
 returns-in-Write g c = record {
   whole = c.write.ensures.whole;
   fits = subst (λ k. IsReplyTo k c.write.result) (sym (ap command_in c.in-Write.is ∙ ap (WriteObject c.in-Write.object) (sym c.deref.ensures.value))) c.write.ensures.fits;
+  knows = subst (λ k. Teaches k c.write.result c.args.pool.now c.write.new.pool) (sym (ap command_in c.in-Write.is ∙ ap (WriteObject c.in-Write.object) (sym c.deref.ensures.value))) c.write.ensures.knows;
   step = λ x rep. replied_as g.R.Rack g.A.Area (FnReturnsAt g.F.Fn c.args.chooser.now) c.args.line.now x c.write.new.pool c.write.result (WriteObject c.in-Write.object c.deref.result.now)
       (ap command_in c.in-Write.is ∙ ap (WriteObject c.in-Write.object) (sym c.deref.ensures.value)) (c.write.ensures.step x rep);
 }
@@ -17,6 +19,7 @@ pub returns-in-Fill : goal.returns-in-Fill
 returns-in-Fill g c = record {
   whole = c.fill.ensures.whole;
   fits = subst (λ k. IsReplyTo k c.fill.result) (sym (ap command_in c.in-Fill.is)) c.fill.ensures.fits;
+  knows = subst (λ k. Teaches k c.fill.result c.args.pool.now c.fill.new.pool) (sym (ap command_in c.in-Fill.is)) c.fill.ensures.knows;
   step = λ x rep. replied_as g.R.Rack g.A.Area (FnReturnsAt g.F.Fn c.args.chooser.now) c.args.line.now x c.fill.new.pool c.fill.result (FillObjects c.in-Fill.first c.in-Fill.count c.in-Fill.len c.in-Fill.seed)
       (ap command_in c.in-Fill.is) (c.fill.ensures.step x rep);
 }
@@ -25,6 +28,7 @@ pub returns-in-Free : goal.returns-in-Free
 returns-in-Free g c = record {
   whole = c.free.ensures.whole;
   fits = subst (λ k. IsReplyTo k c.free.result) (sym (ap command_in c.in-Free.is)) c.free.ensures.fits;
+  knows = subst (λ k. Teaches k c.free.result c.args.pool.now c.free.new.pool) (sym (ap command_in c.in-Free.is)) c.free.ensures.knows;
   step = λ x rep. replied_free g.R.Rack g.A.Area (FnReturnsAt g.F.Fn c.args.chooser.now) c.args.line.now x c.free.new.pool c.free.result c.in-Free.object c.in-Free.is (c.free.ensures.step x rep);
 }
 
@@ -32,6 +36,7 @@ pub returns-in-Read : goal.returns-in-Read
 returns-in-Read g c = record {
   whole = c.read.ensures.whole;
   fits = subst (λ k. IsReplyTo k c.read.result) (sym (ap command_in c.in-Read.is)) c.read.ensures.fits;
+  knows = subst (λ k. Teaches k c.read.result c.args.pool.now c.read.new.pool) (sym (ap command_in c.in-Read.is)) c.read.ensures.knows;
   step = λ x rep. replied_read g.R.Rack g.A.Area (FnReturnsAt g.F.Fn c.args.chooser.now) c.args.line.now x c.read.new.pool c.read.result c.in-Read.object c.in-Read.is (c.read.ensures.step x rep);
 }
 
@@ -39,6 +44,7 @@ pub returns-in-Sum : goal.returns-in-Sum
 returns-in-Sum g c = record {
   whole = c.sum.ensures.whole;
   fits = subst (λ k. IsReplyTo k c.sum.result) (sym (ap command_in c.in-Sum.is)) c.sum.ensures.fits;
+  knows = subst (λ k. Teaches k c.sum.result c.args.pool.now c.sum.new.pool) (sym (ap command_in c.in-Sum.is)) c.sum.ensures.knows;
   step = λ x rep. replied_sum g.R.Rack g.A.Area (FnReturnsAt g.F.Fn c.args.chooser.now) c.args.line.now x c.sum.new.pool c.sum.result c.in-Sum.first c.in-Sum.count c.in-Sum.is (c.sum.ensures.step x rep);
 }
 
@@ -46,6 +52,7 @@ pub returns-in-Damage : goal.returns-in-Damage
 returns-in-Damage g c = record {
   whole = c.damage.ensures.whole;
   fits = subst (λ k. IsReplyTo k c.damage.result) (sym (ap command_in c.in-Damage.is)) c.damage.ensures.fits;
+  knows = subst (λ k. Teaches k c.damage.result c.args.pool.now c.damage.new.pool) (sym (ap command_in c.in-Damage.is)) c.damage.ensures.knows;
   step = λ x rep. replied_damage g.R.Rack g.A.Area (FnReturnsAt g.F.Fn c.args.chooser.now) c.args.line.now x c.damage.new.pool c.damage.result c.in-Damage.leaf c.in-Damage.sector c.in-Damage.is (c.damage.ensures.step x rep);
 }
 
@@ -53,6 +60,7 @@ pub returns-in-Status : goal.returns-in-Status
 returns-in-Status g c = record {
   whole = c.requires.whole;
   fits = subst (λ k. IsReplyTo k c.status.result) (sym (ap command_in c.in-Status.is)) c.status.ensures.fits;
+  knows = subst (λ k. Teaches k c.status.result c.args.pool.now c.args.pool.now) (sym (ap command_in c.in-Status.is)) c.status.ensures.knows;
   step = λ x rep. replied_status g.R.Rack g.A.Area (FnReturnsAt g.F.Fn c.args.chooser.now) c.args.line.now x c.args.pool.now c.status.result c.in-Status.format c.in-Status.is (c.status.ensures.step x rep);
 }
 

@@ -17,6 +17,7 @@ loop-metaslab-init g c = record {
   carries = λ x is. came_none g.R.Rack g.A.Area (groups.Closes x.geometry x.perms c.args.group) c.args.self.now x is;
   closing = λ k shard less. absurd (omega (arith, less));
   uber = refl;
+  objects = refl;
   later = areas_still g.A.Area.faults c.args.self.now;
   many = refl;
 }
@@ -62,6 +63,7 @@ returns-in-Err g c =
           let all = i.whole.many in
           close_all_stops g.R.Rack g.A.Area c.args.group l.metaslab l.self new shard after x c.in-Err.fault (i.carries x is) set (omega (arith, below, len, vec, many, all)) e.closes);
       closing = tt;
+      objects = c.loop-metaslab.invariant.objects;
       uber = c.loop-metaslab.invariant.uber;
     }
 
@@ -84,6 +86,7 @@ loop-metaslab-preserved g c =
       carries = λ x is. close_more g.R.Rack g.A.Area c.args.group l.metaslab l.self new shard after x (i.carries x is) set e.closes;
       closing = below_set (λ (z : Shard g.row.R.Denot g.row.A.Denot). z.closing ≡ Some c.args.group) l.self.shards.items l.metaslab shard after there e.closing i.closing;
       uber = i.uber;
+      objects = i.objects;
       later = areas_on g.A.Area.faults c.args.self.now l.self new i.later (areas_set g.R.Rack g.A.Area l.metaslab l.self new shard after set e.later);
       many = length-set l.self.shards.items l.metaslab after ∙ i.many;
     }
@@ -104,5 +107,6 @@ returns g c =
           let upto = l.auto.metaslab-end in
           close_all_went g.R.Rack g.A.Area c.args.group l.metaslab l.self x (i.carries x is) (omega (arith, end, len, vec, many, all, upto)));
       closing = below_all (λ (z : Shard g.row.R.Denot g.row.A.Denot). z.closing ≡ Some c.args.group) l.self.shards.items l.metaslab (omega (arith, end, len, vec, many)) i.closing;
+      objects = c.loop-metaslab.invariant.objects;
       uber = c.loop-metaslab.invariant.uber;
     }

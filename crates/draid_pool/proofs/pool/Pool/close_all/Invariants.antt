@@ -13,6 +13,7 @@ invariant-loop-metaslab g l = record {
   carries : (x : State) → Represents g.R.Rack g.A.Area l.initial.self x → Came g.R.Rack g.A.Area (groups.Closes x.geometry x.perms l.group) l.metaslab 0 l.self x;
   closing : ClosingBelow l.self.shards.items l.group l.metaslab;
   uber : l.self.uber ≡ l.initial.self.uber;
+  objects : l.self.objects ≡ l.initial.self.objects;
   later : AreasLater g.A.Area.faults l.initial.self l.self;
   many : length l.self.shards.items ≡ length l.initial.self.shards.items;
 }

@@ -12,6 +12,7 @@ pub returns-in-Err : goal.returns-in-Err
 returns-in-Err g c =
     record {
       whole = c.close_all.ensures.whole;
+      objects = c.close_all.ensures.objects;
       later = c.close_all.ensures.later;
       cause = λ is. c.in-Err.ensures.cause (err_on ℕ Unit c.in-Err.fault sync.Shelf is);
       carries = λ x is. group_unclosed g.R.Rack g.A.Area c.close_all.new.self x c.args.group c.in-Err.fault (c.in-Err.ensures.carries x is);
@@ -21,6 +22,7 @@ pub returns-in-Err-seal_all : goal.returns-in-Err-seal_all
 returns-in-Err-seal_all g c =
     record {
       whole = c.seal_all.ensures.whole;
+      objects = c.seal_all.ensures.objects ∙ c.close_all.ensures.objects;
       later = areas_on g.A.Area.faults c.args.self.now c.close_all.new.self c.seal_all.new.self c.close_all.ensures.later c.seal_all.ensures.later;
       cause = λ is. rose_then g.A.Area.faults c.args.self.now c.close_all.new.self c.seal_all.new.self c.close_all.ensures.later (c.in-Err-seal_all.ensures.cause is);
       carries = λ x is. group_unsealed g.R.Rack g.A.Area c.close_all.new.self c.seal_all.new.self x c.args.group c.in-Err-seal_all.fault (c.in_default.ensures.carries x is) c.in-Err-seal_all.ensures.carries;
@@ -30,6 +32,7 @@ pub returns-in-Ok-commit_sealed : goal.returns-in-Ok-commit_sealed
 returns-in-Ok-commit_sealed g c =
     record {
       whole = c.commit_sealed.ensures.whole;
+      objects = c.commit_sealed.ensures.objects ∙ (c.seal_all.ensures.objects ∙ c.close_all.ensures.objects);
       later = areas_on g.A.Area.faults c.args.self.now c.seal_all.new.self c.commit_sealed.new.self
           (areas_on g.A.Area.faults c.args.self.now c.close_all.new.self c.seal_all.new.self c.close_all.ensures.later c.seal_all.ensures.later) c.commit_sealed.ensures.later;
       cause = λ is. absurd (no_refusal is);
@@ -41,6 +44,7 @@ pub returns-in-Err-commit_sealed : goal.returns-in-Err-commit_sealed
 returns-in-Err-commit_sealed g c =
     record {
       whole = c.commit_sealed.ensures.whole;
+      objects = c.commit_sealed.ensures.objects ∙ (c.seal_all.ensures.objects ∙ c.close_all.ensures.objects);
       later = areas_on g.A.Area.faults c.args.self.now c.seal_all.new.self c.commit_sealed.new.self
           (areas_on g.A.Area.faults c.args.self.now c.close_all.new.self c.seal_all.new.self c.close_all.ensures.later c.seal_all.ensures.later) c.commit_sealed.ensures.later;
       cause = λ is. rose_then g.A.Area.faults c.args.self.now c.seal_all.new.self c.commit_sealed.new.self (areas_on g.A.Area.faults c.args.self.now c.close_all.new.self c.seal_all.new.self c.close_all.ensures.later c.seal_all.ensures.later)

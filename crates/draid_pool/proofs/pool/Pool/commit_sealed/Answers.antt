@@ -23,6 +23,7 @@ returns-in-Ok g c =
     let named : Names g.A.Area old.uber uber c.args.group = record { valid = e.valid; stands = e.committed; kept = e.kept; layout = e.layout; version = e.version; next_leaf = e.leaf } in
     record {
       whole = whole_committed g.R.Rack g.A.Area old new c.args.group c.requires.whole named c.commit_all.ensures.commits c.requires.next refl refl refl refl;
+      objects = refl;
       later = areas_committed g.R.Rack g.A.Area old new c.args.group c.in-Ok.ensures.cause.later c.commit_all.ensures.commits;
       cause = λ is. absurd (no_refusal is);
       carries = λ x is. named_sealed g.R.Rack g.A.Area old new c.args.group x is c.requires.sealed c.requires.next refl refl refl refl named e.cause.later c.commit_all.ensures.commits;
@@ -37,6 +38,7 @@ returns-in-Err-Failed g c =
     let refused : Refuses g.A.Area old.uber uber c.args.group = record { valid = e.valid; stands = e.refused; kept = e.same; layout = e.same_layout; version = e.version; next_leaf = e.leaf } in
     record {
       whole = whole_refused g.R.Rack g.A.Area old new c.args.group c.requires.whole refused refl refl refl refl refl;
+      objects = refl;
       later = areas_named g.A.Area.faults old new c.in-Err-Failed.ensures.cause.later refl;
       cause = λ is. inl (e.cause.cause (ap Err c.in-Err-Failed.field-0-is));
       carries = λ x is. refused_failed g.R.Rack g.A.Area old new c.args.group x is c.requires.sealed c.requires.next refl refl refl refl refused (e.cause.cause (ap Err c.in-Err-Failed.field-0-is)) refl;
@@ -51,6 +53,7 @@ returns-in-Err-NoMemory g c =
     let refused : Refuses g.A.Area old.uber uber c.args.group = record { valid = e.valid; stands = e.refused; kept = e.same; layout = e.same_layout; version = e.version; next_leaf = e.leaf } in
     record {
       whole = whole_refused g.R.Rack g.A.Area old new c.args.group c.requires.whole refused refl refl refl refl refl;
+      objects = refl;
       later = areas_named g.A.Area.faults old new c.in-Err-NoMemory.ensures.cause.later refl;
       cause = λ is. absurd (memory_no_shelf is);
       carries = λ x is. refused_starved g.R.Rack g.A.Area old new c.args.group x is c.requires.sealed c.requires.next refl refl refl refl refused e.cause.later refl;

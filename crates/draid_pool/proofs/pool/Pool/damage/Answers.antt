@@ -7,6 +7,7 @@ use Rattle.draid_pool.proofs.pool.Pool.damage.Goals as goal
 pub returns-then-metaslab-from : goal.returns-then-metaslab-from
 returns-then-metaslab-from g c = record {
   whole = c.requires.whole;
+  same = λ o. refl;
   step = λ x is.
       damage_none g.R.Rack g.A.Area c.args.self.now x c.args.leaf c.args.sector c.metaslab_sectors-sectors.result c.from.result is c.metaslab_sectors-sectors.ensures.value c.from.ensures
       c.if-metaslab-from.true;
@@ -37,6 +38,7 @@ returns g c =
     let set = sets_shard g.R.Rack g.A.Area old k before after there in
     record {
       whole = whole_kept g.R.Rack g.A.Area k old new before after c.requires.whole r e.keeps refl refl (λ q. refl);
+      same = λ o. refl;
       step = λ x is.
           damage_done g.R.Rack g.A.Area old new before after x c.args.leaf c.args.sector c.metaslab_sectors-sectors.result c.from.result c.damage_sector.result is set
           c.metaslab_sectors-sectors.ensures.value c.from.ensures c.if-metaslab-from.false e.damages;

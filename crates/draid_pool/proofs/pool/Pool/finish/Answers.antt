@@ -1,4 +1,4 @@
-use Rattle.std.proofs.Common.{ℕ}
+use Rattle.std.proofs.Common.{ℕ, refl}
 use Rattle.draid_pool.specs.declared.fault.SyncFault.TheVariants as sync
 use Rattle.draid_pool.proofs.Causes.{err_on}
 use Rattle.draid_pool.proofs.Rises.{areas_still}
@@ -19,6 +19,7 @@ pub returns-in-Ok : goal.returns-in-Ok
 returns-in-Ok g c =
     record {
       whole = c.in-Ok.ensures.whole;
+      objects = c.in-Ok.ensures.objects;
       later = c.in-Ok.ensures.later;
       cause = λ is. absurd (no_refusal is);
       carries = λ x is. finishes_some g.R.Rack g.A.Area c.args.self.now c.commit_group.new.self x c.in-Some.group c.in-Ok.field-0 is c.in-Some.ensures.found (c.in-Ok.ensures.carries x is);
@@ -28,6 +29,7 @@ pub returns-in-Err : goal.returns-in-Err
 returns-in-Err g c =
     record {
       whole = c.in-Err.ensures.whole;
+      objects = c.in-Err.ensures.objects;
       later = c.in-Err.ensures.later;
       cause = λ is. c.in-Err.ensures.cause (err_on Unit ℕ c.in-Err.fault sync.Shelf is);
       carries = λ x is. finish_stops g.R.Rack g.A.Area c.args.self.now c.commit_group.new.self x c.in-Some.group c.in-Err.fault is c.in-Some.ensures.found (c.in-Err.ensures.carries x is);
@@ -37,6 +39,7 @@ pub returns-in-None : goal.returns-in-None
 returns-in-None g c =
     record {
       whole = c.requires.whole;
+      objects = refl;
       later = areas_still g.A.Area.faults c.args.self.now;
       cause = λ is. absurd (no_refusal is);
       carries = λ x is. finishes_none g.R.Rack g.A.Area c.args.self.now x is c.in-None.ensures.found;

@@ -17,6 +17,7 @@ loop-metaslab-init g c = record {
   sealed = λ k shard less. absurd (omega (arith, less));
   low = omega arith;
   uber = refl;
+  objects = refl;
   later = areas_still g.A.Area.faults c.args.self.now;
   many = refl;
 }
@@ -60,6 +61,7 @@ returns-in-Err g c =
           let all = i.whole.many in
           seal_all_stops g.R.Rack g.A.Area c.args.group l.metaslab l.thin l.self new shard after x c.in-Err.fault (i.carries x is) set (omega (arith, below, len, vec, many, all)) e.seals);
       sealed = tt;
+      objects = c.loop-metaslab.invariant.objects;
       uber = c.loop-metaslab.invariant.uber;
     }
 
@@ -97,6 +99,7 @@ loop-metaslab-preserved g c =
       sealed = below_set (λ (z : Shard g.row.R.Denot g.row.A.Denot). (z.closing ≡ Some c.args.group) × (z.sealed ≡ true)) l.self.shards.items l.metaslab shard after there e.sealed i.sealed;
       low = omega (arith, low, own);
       uber = i.uber;
+      objects = i.objects;
       later = areas_on g.A.Area.faults c.args.self.now l.self new i.later (areas_set g.R.Rack g.A.Area l.metaslab l.self new shard after set e.later);
       many = length-set l.self.shards.items l.metaslab after ∙ i.many;
     }
@@ -117,5 +120,6 @@ returns g c =
           let upto = l.auto.metaslab-end in
           seal_all_went g.R.Rack g.A.Area c.args.group l.metaslab l.thin l.self x (i.carries x is) (omega (arith, end, len, vec, many, all, upto)));
       sealed = below_all (λ (z : Shard g.row.R.Denot g.row.A.Denot). (z.closing ≡ Some c.args.group) × (z.sealed ≡ true)) l.self.shards.items l.metaslab (omega (arith, end, len, vec, many)) i.sealed;
+      objects = c.loop-metaslab.invariant.objects;
       uber = c.loop-metaslab.invariant.uber;
     }

@@ -17,6 +17,7 @@ invariant-loop-metaslab g l = record {
   sealed : SealedBelow l.self.shards.items l.group l.metaslab;
   low : l.thin ≤ l.metaslab * NUMBERS;
   uber : l.self.uber ≡ l.initial.self.uber;
+  objects : l.self.objects ≡ l.initial.self.objects;
   later : AreasLater g.A.Area.faults l.initial.self l.self;
   many : length l.self.shards.items ≡ length l.initial.self.shards.items;
 }

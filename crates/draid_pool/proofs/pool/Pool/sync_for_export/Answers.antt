@@ -1,4 +1,4 @@
-use Rattle.std.proofs.Common.{ℕ, subst}
+use Rattle.std.proofs.Common.{ℕ, refl, subst}
 use Rattle.draid_pool.specs.Syncing.{FoundUnsynced}
 use Rattle.draid_pool.specs.declared.fault.SyncFault.TheVariants as sync
 use Rattle.draid_pool.specs.declared.fault.Synced.{Synced}
@@ -12,6 +12,7 @@ pub returns-then-not-unsynced : goal.returns-then-not-unsynced
 returns-then-not-unsynced g c =
     record {
       whole = c.requires.whole;
+      same = λ o. refl;
       later = areas_still g.A.Area.faults c.args.self.now;
       cause = λ is. absurd (no_refusal is);
       carries = λ x is. export_none g.R.Rack g.A.Area c.args.self.now x c.committed.result is (subst (FoundUnsynced c.args.self.now.shards.items) c.if-not-unsynced.true c.unsynced.ensures.found) c.committed.ensures;
@@ -21,6 +22,7 @@ pub returns-in-Ok : goal.returns-in-Ok
 returns-in-Ok g c =
     record {
       whole = c.in-Ok.ensures.whole;
+      same = c.in-Ok.ensures.same;
       later = c.in-Ok.ensures.later;
       cause = λ is. absurd (no_refusal is);
       carries = λ x is. export_done g.R.Rack g.A.Area c.args.self.now c.sync.new.self x c.in-Ok.synced is (subst (FoundUnsynced c.args.self.now.shards.items) c.if-not-unsynced.false c.unsynced.ensures.found)
@@ -31,6 +33,7 @@ pub returns-in-Err : goal.returns-in-Err
 returns-in-Err g c =
     record {
       whole = c.in-Err.ensures.whole;
+      same = c.in-Err.ensures.same;
       later = c.in-Err.ensures.later;
       cause = λ is. c.in-Err.ensures.cause (err_on ℕ Synced c.in-Err.fault sync.Shelf is);
       carries = λ x is. export_stops g.R.Rack g.A.Area c.args.self.now c.sync.new.self x c.in-Err.fault is (subst (FoundUnsynced c.args.self.now.shards.items) c.if-not-unsynced.false c.unsynced.ensures.found)
