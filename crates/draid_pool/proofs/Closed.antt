@@ -1,401 +1,217 @@
--- The devices of a pool's metaslabs are given back to a shelf.
-use Rattle.std.proofs.Common.{arith, ◌≡◌, ◌==◌, ◌%◌, ◌+◌, ◌≤◌, ◌++◌, ◌∙◌, inl, inr, ℕ, List, [], ◌∷◌, Option, Some, None, refl, sym, ap, subst, length, length-append, if◌then◌else◌}
-use Rattle.std.specs.Prelude.{⊤, Bool, true, false, IsSome, IsSomeAnd, MatchOption, slice_get}
-use Rattle.std.proofs.lemmas.Bool.{cases_eq}
-use Rattle.std.proofs.lemmas.Bool.Decides.{nat_tests}
-use Rattle.std.proofs.lemmas.List.{append-nil, append_assoc}
-use Rattle.std.proofs.lemmas.Option.{slice_get_within}
-use Rattle.draid_rack.specs.Rack.{Told}
-use Rattle.draid_rack.specs.Rack.{Shape}
-use Rattle.draid_rack.specs.declared.Rack as racks
-use Rattle.draid_area.specs.Area.{Content}
-use Rattle.draid_area.specs.Moments as area_moments
-use Rattle.draid_area.specs.declared.Area as areas
-use Rattle.draid_names.specs.declared.pointer.Pointer.{Pointer}
-use Rattle.draid_map.specs.Place.{IsLayout}
-use Rattle.draid_machine.specs.Created.{IsReached}
+-- A group is closed: what the shard is then, and for which states it stands.
+use Rattle.std.proofs.Common.{◌≡◌, ◌⊎◌, ◌+◌, ◌<◌, ◌∙◌, ℕ, false, List, [], Some, None, arith, refl, sym, ap, subst, inl, inr, map, slice_get}
+use Rattle.std.specs.Prelude.{Contains, slice_index_or}
+use Rattle.std.proofs.lemmas.Bool.{true≢false}
+use Rattle.draid_names.specs.declared.arm.Arm.{Arm}
+use Rattle.draid_names.specs.declared.arm.ArmAt.{ArmAt}
+use Rattle.draid_names.specs.declared.numbers.TheConstants.{LAST_NUMBER}
+use Rattle.draid_rack.specs.declared.Rack.{Ghosts}
+use Rattle.draid_machine.specs.declared.event.Event.TheVariants.{Close}
+use Rattle.draid_machine.specs.declared.names.ArmName.{ArmName}
+use Rattle.draid_machine.specs.After.{close_state}
 use Rattle.draid_machine.specs.State as machine
-use Rattle.draid_layouts.specs.Layout.{layout_of}
-use Rattle.draid_segments.specs.Segments.{Backed, Pieces}
-use Rattle.draid_shelf.specs.Kits.{AreNewChecks, Both, CrashedChecks, CrashedHeld, CrashedKit, Held, IsNewArea, KitCounts, KitTold, OnHeld, gives_kit, gives_uber, kit_of, puts_uber}
-use Rattle.draid_shelf.specs.Shelf.{SameOthers}
-use Rattle.draid_stable.specs.Stable as stable
-use Rattle.draid_stable.proofs.Lasting.{stable_left}
+use Rattle.draid_entries.specs.declared.history.History.{History}
+use Rattle.draid_entries.specs.History.{KeepsOwed, owed_of, reserved_of}
+use Rattle.draid_slots.specs.declared.slot.Detached.{Detached}
+use Rattle.draid_slots.specs.Changes.{HasRoom, IsRoomier, Keeps}
+use Rattle.draid_slots.specs.Table.{SlotTable, arm_at}
+use Rattle.draid_slots.specs.States.{HasArm, HasSlots, WasArm, arm_in, name_of}
+use Rattle.draid_shard.specs.Changes.{DoesNothing}
+use Rattle.draid_shard.proofs.Changed.{same_entries}
+use Rattle.draid_shard.specs.Fits.{AreGroups, HasLeaves, Tables, TicketsAreNew, Valid, birth_groups, oldest_open, owed_for_group}
+use Rattle.draid_shard.specs.States.{IsIn, Leads, layout_by}
 use Rattle.draid_shard.specs.declared.shard.Shard.{Shard}
-use Rattle.draid_groups.specs.Groups.{ListsOnce, at_version}
-use Rattle.draid_shard.specs.Part.{Part, layout_in}
-use Rattle.draid_shard.specs.States.{layout_by}
-use Rattle.draid_uber.specs.Uber.{area_of}
-use Rattle.draid_uber.proofs.Imports.{crash_stands}
-use Rattle.draid_session.specs.State.{Metaslab, State}
-use Rattle.draid_pool.specs.Closing.{AllTell, HoldsPool, Rests, RestsOn, Returns, ReturnsLeaves, SameCounts, TakesBack, kit_in}
-use Rattle.draid_pool.specs.Metaslabs.{IsMetaslab, harm_of}
-use Rattle.draid_pool.specs.Objects.{HoldsObjects, blocks_of}
-use Rattle.draid_pool.specs.Pools.{Stands, part_in}
-use Rattle.draid_pool.specs.Importable.{AllAlike}
-use Rattle.draid_pool.specs.Records.{HasImages, HasLeafNumbers, area_for}
-use Rattle.draid_pool.specs.Ubers.{UberStands, kept_in}
-use Rattle.draid_pool.specs.declared.pool.Pool.{Pool}
-use Rattle.draid_pool.proofs.Lists.{present, some_of}
+use Rattle.draid_shard.proofs.Once.{once_kept}
+use Rattle.draid_shard.proofs.PutKept.{pass_held}
+use Rattle.draid_shard.proofs.Putting.{pass_same}
+use Rattle.draid_shard.proofs.Staging.{leaf_was, logs_kept}
+use Rattle.draid_pool.proofs.Rooms.{rooms_enough, still_of}
 
-pub at_end : {A : Type 0} (xs : List A) (x : A) (ys : List A) (n : ℕ) → n ≡ length xs → slice_get (xs ++ x ∷ ys) n ≡ Some x
-at_end xs x ys n same = rw same (place xs x ys)
-  where
-    place : {A : Type 0} (xs : List A) (x : A) (ys : List A) → slice_get (xs ++ x ∷ ys) (length xs) ≡ Some x
-    place [] x ys = refl
-    place (z ∷ xs) x ys = place xs x ys
+-- ---- slots in which room was made
+module _ (old new : SlotTable) (q : machine.Core) (kept : Keeps old new) (has : HasSlots old q) where
+  was_at : (at : ArmAt) (arm : Arm) → arm_at new at ≡ Some arm → arm_at old at ≡ Some arm
+  was_at at arm there = ap (λ arms. slice_get (slice_index_or arms at.slot []) at.arm) (sym kept.arms_stay) ∙ there
 
-pub put_here : {A : Type 0} (n q : ℕ) (x y : A) → q ≡ n → (if q == n then x else y) ≡ x
-put_here n q x y is = grind (arith, nat_tests, is)
+  is_at : (at : ArmAt) (arm : Arm) → arm_at old at ≡ Some arm → arm_at new at ≡ Some arm
+  is_at at arm there = ap (λ arms. slice_get (slice_index_or arms at.slot []) at.arm) kept.arms_stay ∙ there
 
-pub put_there : {A : Type 0} (n q : ℕ) (x y : A) → (q ≡ n → ⊥) → (if q == n then x else y) ≡ y
-put_there n q x y other = grind (arith, nat_tests, other)
+  same_arm : (at : ArmAt) (arm : Arm) → Some (arm_in old at arm) ≡ Some (arm_in new at arm)
+  same_arm at arm = λ i. Some (record { offline = arm.offline; fresh = arm.fresh; log = λ g. sym (kept.logs_stay at g) i; gone = None })
 
-module _ {R A : Type 0} (rack : racks.Ghosts R) (area : areas.Ghosts A) where
-  -- the kits of shards from a number on are held
-  pub record GivenFrom (n : ℕ) (shards : List (Shard R A)) (old new : Held) : Type 0 where
-    pub uber : new.uber ≡ old.uber
-    pub checks : new.checks ≡ old.checks
-    pub kits : (m : ℕ) (shard : Shard R A) → n ≤ m → slice_get shards m ≡ Some shard → (kit : KitTold) × (kit_in rack area shard ≡ Some kit) × (new.kits m ≡ Some kit)
-    pub others : (m : ℕ) → length shards ≤ m → new.kits m ≡ old.kits m
+  still : (n : ArmName) → HasArm old n ⊎ WasArm old n → HasArm new n ⊎ WasArm new n
+  still n (inl h) = inl (record { at = h.at; arm = h.arm; there = is_at h.at h.arm h.there; name_is = h.name_is })
+  still n (inr g) = inr (record { gone = g.gone; among = subst (λ (list : List Detached). Contains list g.gone) (sym kept.detached_stay) g.among; name_is = g.name_is })
 
-  -- the devices of the shards behind those that are left were given
-  pub record Giving (shards left : List (Shard R A)) (old new : Option Held) (before after : ℕ → KitCounts) : Type 0 where
-    pub back : List (Shard R A)
-    pub parts : left ++ back ≡ shards
-    pub held : OnHeld new (λ y. MatchOption old ⊥ (λ x. GivenFrom (length left) shards x y))
-    pub tells : IsSome old → AllTell rack area shards → IsSome new
-    pub rack_count : (m : ℕ) (shard : Shard R A) (who : Option ℕ) → length left ≤ m → slice_get shards m ≡ Some shard → (after m).rack who ≡ rack.faults shard.rack who
-    pub even_count : (m : ℕ) (shard : Shard R A) → length left ≤ m → slice_get shards m ≡ Some shard → (after m).even ≡ area.faults shard.even
-    pub odd_count : (m : ℕ) (shard : Shard R A) → length left ≤ m → slice_get shards m ≡ Some shard → (after m).odd ≡ area.faults shard.odd
-    pub others : (m : ℕ) → length shards ≤ m → after m ≡ before m
-
-  none_given : (shards : List (Shard R A)) (o : Option Held) → OnHeld o (λ y. MatchOption o ⊥ (λ x. GivenFrom (length shards) shards x y))
-  none_given shards None = tt
-  none_given shards (Some x) = record {
-    uber = refl;
-    checks = refl;
-    kits = λ m shard past there. (let below = slice_get_within shards m shard there in absurd (omega (arith, below, past)));
-    others = λ m past. refl;
+  pub slots_kept : HasSlots new q
+  slots_kept = record {
+    order = λ slot. has.order slot ∙ ap (λ arms. map name_of (slice_index_or arms slot [])) (sym kept.arms_stay);
+    arms = λ at arm there. has.arms at arm (was_at at arm there) ∙ same_arm at arm;
+    detached = λ gone among. has.detached gone (subst (λ (list : List Detached). Contains list gone) kept.detached_stay among);
+    only = λ n some. still n (has.only n some);
   }
 
-  pub giving_none : (shards : List (Shard R A)) (old : Option Held) (before : ℕ → KitCounts) → Giving shards shards old old before before
-  giving_none shards old before = record {
-    back = [];
-    parts = append-nil shards;
-    held = none_given shards old;
-    tells = λ some all. some;
-    rack_count = λ m shard who past there. (let below = slice_get_within shards m shard there in absurd (omega (arith, below, past)));
-    even_count = λ m shard past there. (let below = slice_get_within shards m shard there in absurd (omega (arith, below, past)));
-    odd_count = λ m shard past there. (let below = slice_get_within shards m shard there in absurd (omega (arith, below, past)));
-    others = λ m past. refl;
+module _ {R A : Type 0} (ghosts : Ghosts R) (old : Shard R A) (slots : SlotTable) (kept : Keeps old.slots slots) where
+  leaves_kept : Valid ghosts old → HasLeaves (ghosts.shape old.rack) old.geometry slots
+  leaves_kept v = record { bytes = v.leaves.bytes; leaves = λ leaf is. v.leaves.leaves leaf (leaf_was old.slots slots leaf kept.arms_stay kept.detached_stay is) }
+
+  -- ---- it was refused when room was made, or while it was
+  pub kept_valid : (history : History) → Valid ghosts old → IsRoomier old.slots slots → KeepsOwed old.history history → Valid ghosts (record old { slots = slots; history = history })
+  kept_valid history v roomier owed = record {
+    part = v.part;
+    version = v.version;
+    asked = v.asked;
+    tables = v.tables;
+    disabled = v.disabled;
+    few = v.few;
+    here = v.here;
+    slots = still_of old.slots slots old.geometry old.perms old.number kept v.slots;
+    once = once_kept old.slots slots kept.arms_stay kept.detached_stay v.once;
+    pass = pass_held old.slots slots old.last_pass old.pass kept.arms_stay v.pass;
+    logs = logs_kept old.slots slots (oldest_open old.open_group old.closing) (birth_groups old.closing) kept.arms_stay kept.logs_stay roomier.logs v.logs;
+    leaves = leaves_kept v;
+    groups = v.groups;
+    low = v.low;
+    tickets = v.tickets;
+    settled = v.settled;
+    owed = (let was = v.owed in let o = owed.owed in let r = owed.reserved in omega (arith, was, o, r));
   }
 
-  gives_some : (n : ℕ) (kit : Option KitTold) (mid : Option Held) → IsSome kit → IsSome mid → IsSome (gives_kit n kit mid)
-  gives_some n None mid k m = absurd (cc)
-  gives_some n (Some kit) None k m = absurd (cc)
-  gives_some n (Some kit) (Some x) k m = refl
+  pub kept_in : (history : History) (w : machine.State) → IsIn old w → IsIn (record old { slots = slots; history = history }) w
+  kept_in history w at = record {
+    held = at.held;
+    slots = slots_kept old.slots slots w.core kept at.slots;
+    pass = at.pass ∙ pass_same old.slots slots old.pass kept.arms_stay;
+    last = at.last;
+    open_group_is = at.open_group_is;
+    closing = at.closing;
+    sealed = at.sealed;
+    committed = at.committed;
+    version = at.version;
+    asked = at.asked;
+    serial = at.serial;
+    no_loan = at.no_loan;
+  }
 
-  module _ (shards left fewer back : List (Shard R A)) (shard : Shard R A) (n : ℕ) (parts : left ++ back ≡ shards) (popped : left ≡ fewer ++ shard ∷ []) (at : n ≡ length fewer) where
-    pub now : fewer ++ shard ∷ back ≡ shards
-    now = sym (append_assoc fewer (shard ∷ []) back) ∙ (ap (λ (xs : List (Shard R A)). xs ++ back) (sym popped) ∙ parts)
+  -- ---- it was closed
+  module _ (group : ℕ) (open_is : group ≡ old.open_group) (idle : old.closing ≡ None) (below : group < LAST_NUMBER) (history : History) where
+    abbrev closed : Shard R A
+    closed = record old { slots = slots; history = history; closing = Some group; open_group = group + 1 }
 
-    here : slice_get shards n ≡ Some shard
-    here = ap (λ (xs : List (Shard R A)). slice_get xs n) (sym now) ∙ at_end fewer shard back n at
+    groups_before : Valid ghosts old → (old.open_group ≡ old.committed + 1) × (old.sealed ≡ false)
+    groups_before v = subst (λ o. AreGroups old.open_group o old.committed old.sealed) idle v.groups
 
-    long : length left ≡ length fewer + 1
-    long = ap (λ (xs : List (Shard R A)). length xs) popped ∙ length-append fewer (shard ∷ [])
+    tables_next : Valid ghosts old → Tables old.geometry (group + 1) old.space old.entries
+    tables_next v =
+        let t = v.tables in record {
+          height = t.height;
+          total = t.total;
+          count = t.count;
+          inside = t.inside;
+          placed = λ k e there. (let p = t.placed k e there in let born = p.is_block.born in record {
+            run = p.run;
+            held = p.held;
+            is_block = record {
+              object_small = p.is_block.object_small;
+              some_seq = p.is_block.some_seq;
+              most_seq = p.is_block.most_seq;
+              digest_len = p.is_block.digest_len;
+              some = p.is_block.some;
+              short = p.is_block.short;
+              stripes = p.is_block.stripes;
+              born = omega (arith, born, open_is);
+              low = p.is_block.low;
+            };
+          });
+          apart = t.apart;
+          covered = t.covered;
+        }
 
-    whole : length shards ≡ length fewer + length (shard ∷ back)
-    whole = ap (λ (xs : List (Shard R A)). length xs) (sym now) ∙ length-append fewer (shard ∷ back)
-
-    own : (m : ℕ) (s : Shard R A) → m ≡ n → slice_get shards m ≡ Some s → shard ≡ s
-    own m s is there = some_of (slice_get shards n) shard s here (subst (λ (k : ℕ). slice_get shards k ≡ Some s) is there)
-
-    behind : (m : ℕ) → length fewer ≤ m → (m ≡ n → ⊥) → length left ≤ m
-    behind m low other = (let l = long in omega (arith, low, l, at, other))
-
-    apart : (m : ℕ) → length shards ≤ m → m ≡ n → ⊥
-    apart m past is = (let w = whole in omega (arith, is, past, w, at))
-
-    held_more : (kit : Option KitTold) (mid old : Option Held) → kit ≡ kit_in rack area shard → OnHeld mid (λ y. MatchOption old ⊥ (λ x. GivenFrom (length left) shards x y))
-        → OnHeld (gives_kit n kit mid) (λ y. MatchOption old ⊥ (λ x. GivenFrom (length fewer) shards x y))
-    held_more None mid old is h = tt
-    held_more (Some k) None old is h = tt
-    held_more (Some k) (Some y) None is h = absurd h
-    held_more (Some k) (Some y) (Some x) is h = record {
-      uber = h.uber;
-      checks = h.checks;
-      kits = λ m s low there. elim (cases_eq m n) [
-        | inl same ↦
-            (let e : kit_in rack area shard ≡ kit_in rack area s = ap (λ (x : Shard R A). kit_in rack area x) (own m s same there) in
-            (k, sym e ∙ sym is, put_here n m (Some k) (y.kits m) same))
-        | inr other ↦ (let given = h.kits m s (behind m low (λ same. omega (arith, same, other))) there in (given.0, given.1, put_there n m (Some k) (y.kits m) (λ same. omega (arith, same, other)) ∙ given.2))
-      ];
-      others = λ m past. put_there n m (Some k) (y.kits m) (apart m past) ∙ h.others m past;
+    pub closed_valid : Valid ghosts old → HasRoom slots 3 0 → owed_of history + 1 ≡ owed_of old.history + 3 → reserved_of history ≡ reserved_of old.history → Valid ghosts closed
+    closed_valid v room owed reserved = record {
+      part = v.part;
+      version = v.version;
+      asked = v.asked;
+      tables = tables_next v;
+      disabled = v.disabled;
+      few = v.few;
+      here = v.here;
+      slots = still_of old.slots slots old.geometry old.perms old.number kept v.slots;
+      once = once_kept old.slots slots kept.arms_stay kept.detached_stay v.once;
+      pass = pass_held old.slots slots old.last_pass old.pass kept.arms_stay v.pass;
+      logs = rooms_enough slots group 3 3 0 (omega arith) room;
+      leaves = leaves_kept v;
+      groups = (refl, open_is ∙ (groups_before v).0);
+      low = omega (arith, below);
+      tickets = subst (TicketsAreNew old.entries) (sym open_is) (subst (λ o. TicketsAreNew old.entries (oldest_open old.open_group o)) idle v.tickets);
+      settled = λ sealed. absurd (true≢false (sym sealed ∙ (groups_before v).1));
+      owed =
+          (let was = v.owed in
+          let none : owed_for_group old.closing old.sealed ≡ 0 = ap (λ o. owed_for_group o old.sealed) idle in
+          let two : owed_for_group (Some group) old.sealed ≡ 2 = ap (λ b. owed_for_group (Some group) b) (groups_before v).1 in
+          omega (arith, was, none, two, owed, reserved));
     }
 
-    pub more_held : (kit : Option KitTold) (mid new old : Option Held) → kit ≡ kit_in rack area shard → new ≡ gives_kit n kit mid → OnHeld mid (λ y. MatchOption old ⊥ (λ x. GivenFrom (length left) shards x y))
-        → OnHeld new (λ y. MatchOption old ⊥ (λ x. GivenFrom (length fewer) shards x y))
-    more_held kit mid new old is gives h = subst (λ o. OnHeld o (λ y. MatchOption old ⊥ (λ x. GivenFrom (length fewer) shards x y))) (sym gives) (held_more kit mid old is h)
-
-    -- the same of a count
-    pub counted : {B C : Type 0} (count : C → B) (of : Shard R A → B) (mid after : ℕ → C) → ((m : ℕ) (s : Shard R A) → length left ≤ m → slice_get shards m ≡ Some s → count (mid m) ≡ of s)
-        → count (after n) ≡ of shard → SameOthers n mid after → (m : ℕ) (s : Shard R A) → length fewer ≤ m → slice_get shards m ≡ Some s → count (after m) ≡ of s
-    counted count of mid after before is others m s low there = elim (cases_eq m n) [
-      | inl same ↦ ap (λ (k : ℕ). count (after k)) same ∙ (is ∙ ap of (own m s same there))
-      | inr other ↦ ap count (others m (λ same. omega (arith, same, other))) ∙ before m s (behind m low (λ same. omega (arith, same, other))) there
-    ]
-
-    pub spared : {C : Type 0} (before mid after : ℕ → C) → ((m : ℕ) → length shards ≤ m → mid m ≡ before m) → SameOthers n mid after → (m : ℕ) → length shards ≤ m → after m ≡ before m
-    spared before mid after same others m past = others m (apart m past) ∙ same m past
-
-  pub giving_more : (shards left fewer : List (Shard R A)) (shard : Shard R A) (n : ℕ) (kit : Option KitTold) (old mid new : Option Held) (before middle after : ℕ → KitCounts)
-      → Giving shards left old mid before middle → left ≡ fewer ++ shard ∷ [] → n ≡ length fewer → kit ≡ kit_in rack area shard → new ≡ gives_kit n kit mid
-      → ((who : Option ℕ) → (after n).rack who ≡ rack.faults shard.rack who) → (after n).even ≡ area.faults shard.even → (after n).odd ≡ area.faults shard.odd → SameOthers n middle after
-      → Giving shards fewer old new before after
-  giving_more shards left fewer shard n kit old mid new before middle after g popped at is gives rack_count even_count odd_count others = record {
-    back = shard ∷ g.back;
-    parts = now shards left fewer g.back shard n g.parts popped at;
-    held = more_held shards left fewer g.back shard n g.parts popped at kit mid new old is gives g.held;
-    tells = λ some all. subst IsSome (sym gives) (gives_some n kit mid (subst IsSome (sym is) (all n shard (here shards left fewer g.back shard n g.parts popped at))) (g.tells some all));
-    rack_count = λ m s who low there. counted shards left fewer g.back shard n g.parts popped at (λ (c : KitCounts). c.rack who) (λ (x : Shard R A). rack.faults x.rack who) middle after (λ m s low there. g.rack_count m s who low there) (rack_count who) others m s low there;
-    even_count = counted shards left fewer g.back shard n g.parts popped at (λ (c : KitCounts). c.even) (λ (x : Shard R A). area.faults x.even) middle after g.even_count even_count others;
-    odd_count = counted shards left fewer g.back shard n g.parts popped at (λ (c : KitCounts). c.odd) (λ (x : Shard R A). area.faults x.odd) middle after g.odd_count odd_count others;
-    others = spared shards left fewer g.back shard n g.parts popped at before middle after g.others others;
-  }
-
-  -- the shelf has the leaves of the racks behind those that are left
-  pub record GivingLeaves (shards left : List (Shard R A)) (before after : ℕ → Option Shape) : Type 0 where
-    pub own : (m : ℕ) (shard : Shard R A) → length left ≤ m → slice_get shards m ≡ Some shard → after m ≡ Some (rack.shape shard.rack)
-    pub others : (m : ℕ) → length shards ≤ m → after m ≡ before m
-
-  pub leaves_none : (shards : List (Shard R A)) (before : ℕ → Option Shape) → GivingLeaves shards shards before before
-  leaves_none shards before = record {
-    own = λ m shard past there. (let below = slice_get_within shards m shard there in absurd (omega (arith, below, past)));
-    others = λ m past. refl;
-  }
-
-  pub leaves_more : (shards left fewer : List (Shard R A)) (shard : Shard R A) (n : ℕ) (old mid : Option Held) (counts counts' : ℕ → KitCounts) (before middle after : ℕ → Option Shape)
-      → Giving shards left old mid counts counts' → GivingLeaves shards left before middle → left ≡ fewer ++ shard ∷ [] → n ≡ length fewer → after n ≡ Some (rack.shape shard.rack) → SameOthers n middle after
-      → GivingLeaves shards fewer before after
-  leaves_more shards left fewer shard n old mid counts counts' before middle after g l popped at is others = record {
-    own = counted shards left fewer g.back shard n g.parts popped at (λ (o : Option Shape). o) (λ (x : Shard R A). Some (rack.shape x.rack)) middle after l.own is others;
-    others = spared shards left fewer g.back shard n g.parts popped at before middle after l.others others;
-  }
-
-  pub leaves_all : (shards left : List (Shard R A)) (before after : ℕ → Option Shape) → GivingLeaves shards left before after → left ≡ [] → ReturnsLeaves rack shards before after
-  leaves_all shards left before after g none =
-      let zero : length left ≡ 0 = ap (λ (xs : List (Shard R A)). length xs) none in
-      record { own = λ m shard there. g.own m shard (omega (arith, zero)) there; others = g.others }
-
-  all_held : (shards : List (Shard R A)) (n : ℕ) (old new : Option Held) → n ≡ 0 → OnHeld new (λ y. MatchOption old ⊥ (λ x. GivenFrom n shards x y)) → OnHeld new (λ y. MatchOption old ⊥ (λ x. TakesBack rack area shards x y))
-  all_held shards n old None zero h = tt
-  all_held shards n None (Some y) zero h = absurd h
-  all_held shards n (Some x) (Some y) zero h = record {
-    uber = h.uber;
-    checks = h.checks;
-    kits = λ m shard there. h.kits m shard (omega (arith, zero)) there;
-    others = h.others;
-  }
-
-  pub giving_all : (shards left : List (Shard R A)) (old new : Option Held) (before after : ℕ → KitCounts) → Giving shards left old new before after → left ≡ [] → Returns rack area shards old new before after
-  giving_all shards left old new before after g none =
-      let zero : length left ≡ 0 = ap (λ (xs : List (Shard R A)). length xs) none in
-      record {
-        held = all_held shards (length left) old new zero g.held;
-        tells = g.tells;
-        rack_count = λ m shard who there. g.rack_count m shard who (omega (arith, zero)) there;
-        even_count = λ m shard there. g.even_count m shard (omega (arith, zero)) there;
-        odd_count = λ m shard there. g.odd_count m shard (omega (arith, zero)) there;
-        others = g.others;
-      }
-
--- what a kit tells, by its parts
-pub record KitIs (r : Option Told) (e o : Option Content) (kit : KitTold) : Type 0 where
-  pub rack : r ≡ Some kit.rack
-  pub even : e ≡ Some kit.even
-  pub odd : o ≡ Some kit.odd
-
-pub kit_is : (r : Option Told) (e o : Option Content) (kit : KitTold) → kit_of r e o ≡ Some kit → KitIs r e o kit
-kit_is None e o kit is = absurd (cc)
-kit_is (Some r) None o kit is = absurd (cc)
-kit_is (Some r) (Some e) None kit is = absurd (cc)
-kit_is (Some r) (Some e) (Some o) kit is =
-    let same : record { rack = r; even = e; odd = o } ≡ kit = some_of (Some kit) (record { rack = r; even = e; odd = o }) kit (sym is) refl in
-    record { rack = ap (λ (k : KitTold). Some k.rack) same; even = ap (λ (k : KitTold). Some k.even) same; odd = ap (λ (k : KitTold). Some k.odd) same }
-
-on_some : {X : Type 0} (o : Option X) (x : X) (P : X → Type 0) → o ≡ Some x → MatchOption o ⊤ P → P x
-on_some None x P is h = absurd (cc)
-on_some (Some y) x P is h = subst P (some_of (Some y) y x refl is) h
-
-some_and : {X : Type 0} (o : Option X) (x : X) (P : X → Type 0) → o ≡ Some x → P x → IsSomeAnd o P
-some_and o x P is h = subst (λ z. IsSomeAnd z P) (sym is) h
-
--- the area of a group, of two that tell
-pub area_told : (group : ℕ) (e o : Option Content) (kit : KitTold) (P : Content → Type 0) → e ≡ Some kit.even → o ≡ Some kit.odd → MatchOption (area_for group e o) ⊤ P
-    → P (stable.area_of group kit.even kit.odd)
-area_told group e o kit P even odd h = by (group % 2 == 0) h
-  where
-    by : (b : Bool) → MatchOption (if b then e else o) ⊤ P → P (if b then kit.even else kit.odd)
-    by true h = on_some e kit.even P even h
-    by false h = on_some o kit.odd P odd h
-
-module _ {R A : Type 0} (rack : racks.Ghosts R) (area : areas.Ghosts A) where
-  -- Shards that stand for the metaslabs of a state, and an uberblock whose area tells what an import may find of it.
-  pub record Parts (shards : List (Shard R A)) (content : Option Content) (x : State) : Type 0 where
-    pub layout : IsLayout x.geometry x.perms
-    pub many : length x.metaslabs ≡ x.geometry.props.metaslabs
-    pub shards_are : length shards ≡ length x.metaslabs
-    pub pieces : ℕ → Pieces
-    pub each : (m : ℕ) (shard : Shard R A) (y : Metaslab) → slice_get shards m ≡ Some shard → slice_get x.metaslabs m ≡ Some y
-        → IsMetaslab rack area (part_in x m) (pieces m) shard y
-    pub holds : HoldsObjects x.geometry x.committed x.store (blocks_of x.metaslabs) pieces
-    pub uber : UberStands x content
-    pub images : HasImages x
-    pub leaves : HasLeafNumbers x
-    pub arms : machine.Core
-    pub alike : AllAlike arms x
-
-  pub stands_parts : (pool : Pool R A) (table : ℕ → Option Pointer) (x : State) → Stands rack area pool table x → Parts pool.shards.items (area.told (area_of pool.uber)) x
-  stands_parts pool table x s = record {
-    layout = s.layout;
-    many = s.many;
-    shards_are = s.shards;
-    pieces = s.pieces;
-    each = s.each;
-    holds = s.holds;
-    uber = s.uber.stands;
-    images = s.images;
-    leaves = s.leaves;
-    arms = s.arms;
-    alike = s.alike;
-  }
-
-  backed : (x : State) (m : ℕ) (pieces : Pieces) (shard : Shard R A) (y : Metaslab) (kit : KitTold) → IsMetaslab rack area (part_in x m) pieces shard y → rack.told shard.rack ≡ Some kit.rack
-      → Backed (layout_of x.geometry x.perms m) pieces y.world kit.rack
-  backed x m pieces shard y kit is told =
-      subst (λ (p : Part). Backed (layout_in p) pieces y.world kit.rack) is.part_is (on_some (rack.told shard.rack) kit.rack (Backed (layout_by shard) pieces y.world) told is.stands.segments)
-
-  pub rests_on : (x : State) (m : ℕ) (pieces : Pieces) (shard : Shard R A) (y : Metaslab) (kit : KitTold) → IsMetaslab rack area (part_in x m) pieces shard y → kit_in rack area shard ≡ Some kit
-      → RestsOn x m pieces y kit
-  rests_on x m pieces shard y kit is told =
-      let k = kit_is (rack.told shard.rack) (area.told shard.even) (area.told shard.odd) kit told in
-      record {
-        reached = subst (λ (p : Part). IsReached (layout_in p) y.world) is.part_is is.stands.reached;
-        images = λ image of. record {
-          recorded = (area_told image.group (area.told shard.even) (area.told shard.odd) kit (ListsOnce x.geometry m image) k.even k.odd (is.records image of)).has;
-          firm = (backed x m pieces shard y kit is k.rack).images image of;
-        };
-        harm = some_and y.harm kit.rack.harmed (λ harm. (leaf sector : ℕ) → kit.rack.harmed leaf sector ≡ harm leaf sector) (is.harm ∙ ap harm_of k.rack) (λ leaf sector. refl);
-      }
-
-  module _ (shards : List (Shard R A)) (content : Option Content) (x : State) (p : Parts shards content x) where
-    shard_at : (m : ℕ) (y : Metaslab) → slice_get x.metaslabs m ≡ Some y → (shard : Shard R A) × (slice_get shards m ≡ Some shard)
-    shard_at m y there = (let within = slice_get_within x.metaslabs m y there in let many = p.shards_are in present shards m (omega (arith, within, many)))
-
-    -- what stands in for all that was given back
-    held_again : (u : Content) (a b : Held) → content ≡ Some u → TakesBack rack area shards a b → IsSomeAnd a.checks AreNewChecks → HoldsPool x false (puts_uber (Some u) b)
-    held_again u a b is t new = record {
-      pieces = p.pieces;
-      rests = record {
-        layout = p.layout;
-        uber = subst (λ o. UberStands x o) is p.uber;
-        checks = subst (λ o. IsSomeAnd o AreNewChecks) (sym t.checks) new;
-        many = p.many;
-        kits = λ m y there.
-            (let s = shard_at m y there in
-            let k = t.kits m s.0 s.1 in
-            some_and (b.kits m) k.0 (RestsOn x m (p.pieces m) y) k.2 (rests_on x m (p.pieces m) s.0 y k.0 (p.each m s.0 y s.1 there) k.1));
-        images = p.images;
-        leaves = p.leaves;
-        objects = p.holds;
+    pub closes : (w : machine.State) → IsIn old w → Leads (layout_by old) w (Close group) closed
+    closes w at = record {
+      state = close_state w group;
+      step = record { open_group = at.open_group_is ∙ sym open_is; below = below; idle = at.closing ∙ idle; made = refl };
+      is_in = record {
+        held = at.held;
+        slots = slots_kept old.slots slots w.core kept at.slots;
+        pass = at.pass ∙ pass_same old.slots slots old.pass kept.arms_stay;
+        last = at.last;
+        open_group_is = refl;
+        closing = refl;
+        sealed = at.sealed;
+        committed = at.committed;
+        version = at.version;
+        asked = at.asked;
+        serial = at.serial;
+        no_loan = at.no_loan;
       };
-      backed = λ none m y there.
-          (let s = shard_at m y there in
-          let k = t.kits m s.0 s.1 in
-          let told = (kit_is (rack.told s.0.rack) (area.told s.0.even) (area.told s.0.odd) k.0 k.1).rack in
-          some_and (b.kits m) k.0 (λ kit. Backed (layout_of x.geometry x.perms m) (p.pieces m) y.world kit.rack) k.2 (backed x m (p.pieces m) s.0 y k.0 (p.each m s.0 y s.1 there) told));
     }
 
-    all_again : (c : Option Content) (a b : Option Held) → content ≡ c → OnHeld b (λ y. MatchOption a ⊥ (λ z. TakesBack rack area shards z y))
-        → OnHeld (gives_uber c b) (λ held. MatchOption a ⊥ (λ before. IsSomeAnd before.checks AreNewChecks → HoldsPool x false held))
-    all_again None a b is h = tt
-    all_again (Some u) a None is h = tt
-    all_again (Some u) None (Some b) is h = absurd h
-    all_again (Some u) (Some a) (Some b) is h = held_again u a b is h
-
-    module _ (old mid : Option Held) (before after : ℕ → KitCounts) (r : Returns rack area shards old mid before after) where
-      pub holds_pool : (new : Option Held) → new ≡ gives_uber content mid → OnHeld new (λ held. MatchOption old ⊥ (λ before. IsSomeAnd before.checks AreNewChecks → HoldsPool x false held))
-      holds_pool new gives = subst (λ o. OnHeld o (λ held. MatchOption old ⊥ (λ before. IsSomeAnd before.checks AreNewChecks → HoldsPool x false held))) (sym gives) (all_again content old mid refl r.held)
-
-      pub counted_as : (last : ℕ → KitCounts) → ((m : ℕ) → last m ≡ after m) → (m : ℕ) (y : Metaslab) → slice_get x.metaslabs m ≡ Some y → SameCounts y.counts (last m)
-      counted_as last kept m y there =
-          let s = shard_at m y there in
-          let same = (p.each m s.0 y s.1 there).counts in
-          record {
-            rack = λ who. ap (λ (c : KitCounts). c.rack who) (kept m) ∙ (r.rack_count m s.0 who s.1 ∙ ap (λ c. c.rack who) (sym same));
-            even = ap (λ (c : KitCounts). c.even) (kept m) ∙ (r.even_count m s.0 s.1 ∙ ap (λ c. c.even) (sym same));
-            odd = ap (λ (c : KitCounts). c.odd) (kept m) ∙ (r.odd_count m s.0 s.1 ∙ ap (λ c. c.odd) (sym same));
-          }
-
--- ---- a crash
-
-both_some : {X : Type 0} (C : X → X → Type 0) (P Q : X → Type 0) (o n : Option X) → IsSomeAnd o P → Both C o n → ((a b : X) → P a → C a b → Q b) → IsSomeAnd n Q
-both_some C P Q None n h both step = absurd h
-both_some C P Q (Some a) None h both step = absurd both
-both_some C P Q (Some a) (Some b) h both step = step a b h both
-
-some_map : {X : Type 0} (o : Option X) (P Q : X → Type 0) → IsSomeAnd o P → ((x : X) → P x → Q x) → IsSomeAnd o Q
-some_map None P Q h step = absurd h
-some_map (Some x) P Q h step = step x h
-
-nothing_left : (bytes : List ℕ) → length bytes ≤ 0 → bytes ≡ []
-nothing_left [] few = refl
-nothing_left (b ∷ bytes) few = absurd (omega (arith, few))
-
-new_crashed : (x y : Content) → IsNewArea [] x → area_moments.IsCrashOutcome x y → IsNewArea [] y
-new_crashed x y new crash =
-    let most = crash.left.most in
-    let none : length x.bytes ≡ 0 = ap length new.bytes_are in
-    let empty : y.bytes ≡ [] = nothing_left y.bytes (omega (arith, most, none)) in
-    record { bytes_are = empty; firm = crash.firm ∙ ap length empty; soft = crash.soft }
-
-module _ (x : State) (pieces : ℕ → Pieces) where
-  kit_crashed : (m : ℕ) (y : Metaslab) (a b : KitTold) → RestsOn x m (pieces m) y a → CrashedKit a b → RestsOn x m (pieces m) y b
-  kit_crashed m y a b r crash = record {
-    reached = r.reached;
-    images = λ image of. stable_left (at_version image.version x.geometry) m (layout_of x.geometry x.perms m) (pieces m) image y.world.aside a b (r.images image of) crash;
-    harm = some_map y.harm (λ harm. (leaf sector : ℕ) → a.rack.harmed leaf sector ≡ harm leaf sector) (λ harm. (leaf sector : ℕ) → b.rack.harmed leaf sector ≡ harm leaf sector) r.harm
-        (λ harm same leaf sector. crash.rack.harmed leaf sector ∙ same leaf sector);
+-- ---- room was asked for, and nothing else was done
+module _ {R A : Type 0} (ghosts : Ghosts R) (old : Shard R A) (history : History) (same : KeepsOwed old.history history) where
+  pub asked_valid : Valid ghosts old → Valid ghosts (record old { history = history })
+  asked_valid v = record {
+    part = v.part;
+    version = v.version;
+    asked = v.asked;
+    tables = v.tables;
+    disabled = v.disabled;
+    few = v.few;
+    here = v.here;
+    slots = v.slots;
+    once = v.once;
+    pass = v.pass;
+    logs = v.logs;
+    leaves = record { bytes = v.leaves.bytes; leaves = v.leaves.leaves };
+    groups = v.groups;
+    low = v.low;
+    tickets = v.tickets;
+    settled = v.settled;
+    owed = (let was = v.owed in let o = same.owed in let r = same.reserved in omega (arith, was, o, r));
   }
 
-  pub rests_crashed : (held left : Held) → Rests x pieces held → CrashedHeld held left → Rests x pieces left
-  rests_crashed held left r crash = record {
-    layout = r.layout;
-    uber = both_some area_moments.IsCrashOutcome (λ c. UberStands x (Some c)) (λ c. UberStands x (Some c)) held.uber left.uber r.uber crash.uber
-        (λ a b s outcome. record { pending = s.pending; are = s.are; stands = crash_stands (kept_in x) s.pending (Some a) (Some b) s.stands outcome });
-    checks = both_some CrashedChecks AreNewChecks AreNewChecks held.checks left.checks r.checks crash.checks
-        (λ a b new outcome. record { even = new_crashed a.even b.even new.even outcome.even; odd = new_crashed a.odd b.odd new.odd outcome.odd });
-    many = r.many;
-    kits = λ m y there. both_some CrashedKit (RestsOn x m (pieces m) y) (RestsOn x m (pieces m) y) (held.kits m) (left.kits m) (r.kits m y there) (crash.kits m) (kit_crashed m y);
-    images = r.images;
-    leaves = r.leaves;
-    objects = r.objects;
+  pub asked_in : (w : machine.State) → IsIn old w → IsIn (record old { history = history }) w
+  asked_in w at = record {
+    held = at.held;
+    slots = at.slots;
+    pass = at.pass;
+    last = at.last;
+    open_group_is = at.open_group_is;
+    closing = at.closing;
+    sealed = at.sealed;
+    committed = at.committed;
+    version = at.version;
+    asked = at.asked;
+    serial = at.serial;
+    no_loan = at.no_loan;
   }
 
--- the pool is held after a crash too, where one was asked for
-pub pool_crashed : (x : State) (crash : Bool) (old mid new : Option Held) → crash ≡ true → Both CrashedHeld mid new
-    → OnHeld mid (λ held. MatchOption old ⊥ (λ before. IsSomeAnd before.checks AreNewChecks → HoldsPool x false held))
-    → OnHeld new (λ held. MatchOption old ⊥ (λ before. IsSomeAnd before.checks AreNewChecks → HoldsPool x crash held))
-pool_crashed x crash old mid None is both h = tt
-pool_crashed x crash old None (Some y) is both h = absurd (cc)
-pool_crashed x crash None (Some z) (Some y) is both h = absurd h
-pool_crashed x crash (Some w) (Some z) (Some y) is both h = λ new.
-    (let p = h new in
-    record { pieces = p.pieces; rests = rests_crashed x p.pieces z y p.rests both; backed = λ none. absurd (cc) })
-
-pub pool_uncrashed : (x : State) (crash : Bool) (old new : Option Held) → crash ≡ false
-    → OnHeld new (λ held. MatchOption old ⊥ (λ before. IsSomeAnd before.checks AreNewChecks → HoldsPool x false held))
-    → OnHeld new (λ held. MatchOption old ⊥ (λ before. IsSomeAnd before.checks AreNewChecks → HoldsPool x crash held))
-pool_uncrashed x crash old new is h = subst (λ c. OnHeld new (λ held. MatchOption old ⊥ (λ before. IsSomeAnd before.checks AreNewChecks → HoldsPool x c held))) (sym is) h
+  pub asked_nothing : DoesNothing old (record old { history = history })
+  asked_nothing = record {
+    none = record { part = refl; stored = same.events; stays = asked_in };
+    keeps = record { entries = same_entries old.entries; groups = record { open_group_is = refl; closing = refl; sealed = refl; committed = refl } };
+  }

@@ -12,7 +12,7 @@ use Rattle.draid_names.specs.declared.pointer.Pointer.{Pointer}
 use Rattle.draid_objects.specs.Changes.{Change, Write, write_of}
 use Rattle.draid_shard.specs.declared.shard.Shard.{Shard}
 use Rattle.draid_session.specs.Opening.{HasObjects}
-use Rattle.draid_pool.specs.Findings.{HasNames}
+use Rattle.draid_pool.specs.Pools.{HasNames}
 use Rattle.draid_pool.specs.Objects.{PointsTo}
 
 -- ---- numbers in ascending order

@@ -4,9 +4,8 @@ use Rattle.draid_rack.specs.declared.Rack as racks
 use Rattle.draid_area.specs.declared.Area as areas
 use Rattle.draid_shelf.specs.Kits.{Held, KitCounts}
 use Rattle.draid_uber.specs.Uber.{area_of}
-use Rattle.draid_pool.specs.Closing.{OwnCounts, Returns}
+use Rattle.draid_pool.specs.Returning.{OwnCounts, Returns, AreaFailed}
 use Rattle.draid_pool.specs.Failing.{AreaFails}
-use Rattle.draid_pool.specs.Opening.{AreaFailed}
 use Rattle.draid_pool.specs.declared.pool.Pool.{Pool}
 
 pub shows_there : {R A : Type 0} (rack : racks.Ghosts R) (area : areas.Ghosts A) (pool : Pool R A) (told mid : Option Held) (before after new : ℕ → KitCounts) (own : OwnCounts) → Returns rack area pool.shards.items told mid before after

@@ -1,5 +1,5 @@
 -- Calls that leave the images of a metaslab as they are, and with them what an import may take.
-use Rattle.std.proofs.Common.{◌≡◌, ◌∙◌, inl, inr, ℕ, Bool, true, false, Option, Some, None, IsSome, refl, sym, subst}
+use Rattle.std.proofs.Common.{◌≡◌, ◌∙◌, inl, inr, ℕ, Bool, true, false, Option, Some, None, IsSome, refl, sym, subst, ◌≢◌, ◌<◌, ◌-◌, ◌==◌, ◌&&◌, [], ◌∷◌, zero, suc, List, arith, ap, length, get_or}
 use Rattle.std.specs.Prelude.{⊤, nat_lt, if◌then◌else◌}
 use Rattle.draid_area.specs.Area.{Content}
 use Rattle.draid_machine.specs.declared.event.Event.{Event}
@@ -17,6 +17,14 @@ use Rattle.draid_pool.specs.Importable.{IsAlike}
 use Rattle.draid_pool.specs.Records.{HasImage, HasRecords, LeavesAreBelow}
 use Rattle.draid_pool.specs.Shards.{KeepsImages}
 use Rattle.draid_pool.proofs.Alike.{alike_kept, alike_then, same_bare}
+use Rattle.std.specs.List.{list_any}
+use Rattle.draid_names.specs.declared.arm.ArmKind.{ArmKind}
+use Rattle.draid_names.specs.declared.arm.ArmKind.TheVariants as kind
+use Rattle.draid_machine.proofs.Small.{equal, true_left, true_right}
+use Rattle.draid_slots.specs.declared.slot.Detached.{Detached}
+use Rattle.draid_slots.specs.Table.{SlotTable, is_leaf_kind}
+use Rattle.draid_shard.specs.Fits.{IsLeaf}
+use Rattle.draid_slots.specs.States.{HasSlots, named}
 
 pub keeps_same : (w : machine.State) → KeepsImages w w
 keeps_same w = record { image = refl; sealed = refl; leaves = λ leaf some. some; asked = refl; arms = record { order = λ slot. refl; arms = λ n. refl } }
@@ -87,3 +95,22 @@ leaves_kept kept_leaf next_leaf w v keeps below = record {
 
 pub alike_stays : (version : ℕ) (arms : machine.Core) (w v : machine.State) → KeepsImages w v → IsAlike version arms w → IsAlike version arms v
 alike_stays version arms w v keeps is = alike_kept version arms w v keeps.asked keeps.arms (λ image of. image_before w v image keeps of) is
+
+leaf_of : (k : ArmKind) (n leaf : ℕ) → named k n ≡ Leaf leaf → (k ≡ kind.Leaf) × (n ≡ leaf)
+leaf_of kind.Leaf n leaf is = (refl, (let h : n ≡ leaf = cc in h))
+leaf_of kind.Spare n leaf is = absurd (cc)
+
+any_from : (p : Detached → Bool) (list : List Detached) (gone : Detached) (k : ℕ) → k < length list → get_or list k gone ≡ gone → p gone ≡ true → list_any p list ≡ true
+any_from p [] gone k less here is = absurd (omega (arith, less))
+any_from p (x ∷ list) gone zero less here is = true_left (p x) (list_any p list) (ap p here ∙ is)
+any_from p (x ∷ list) gone (suc k) less here is = true_right (p x) (list_any p list) (any_from p list gone k (omega (arith, less)) here is)
+
+-- a leaf of which a state has an arm is one of the shard's
+pub leaf_in : (slots : SlotTable) (q : machine.Core) (leaf : ℕ) → HasSlots slots q → q.arm (Leaf leaf) ≢ None → IsLeaf slots leaf
+leaf_in slots q leaf has there = elim (has.only (Leaf leaf) there) [
+  | inl z ↦ (let is = leaf_of z.arm.kind z.arm.number leaf z.name_is in inl (z.at, z.arm, z.there, is.0, is.1))
+  | inr z ↦
+      let is = leaf_of z.gone.kind z.gone.number leaf z.name_is in
+      inr (any_from (λ (gone : Detached). is_leaf_kind gone.kind && (gone.number == leaf)) slots.detached z.gone z.among.0 z.among.1 z.among.2
+      (ap (λ k. is_leaf_kind k && (z.gone.number == leaf)) is.0 ∙ equal z.gone.number leaf is.1))
+]

@@ -1,23 +1,31 @@
 -- Counts of failed calls on the areas of a pool: none falls, and one rises.
-use Rattle.std.proofs.Common.{◌≡◌, ◌==◌, ◌%◌, ◌≤◌, ◌∙◌, inl, inr, ℕ, Bool, true, false, Some, arith, refl, sym, ap, subst, length, if◌then◌else◌}
-use Rattle.std.specs.Prelude.{slice_get}
+use Rattle.std.proofs.Common.{◌≡◌, ◌==◌, ◌%◌, ◌≤◌, ◌∙◌, inl, inr, ℕ, Bool, true, false, Some, arith, refl, sym, ap, subst, length, if◌then◌else◌, ◌<◌, Err}
+use Rattle.std.specs.Prelude.{slice_get, IsErrOf}
 use Rattle.std.proofs.lemmas.Bool.{cases_eq}
 use Rattle.std.proofs.lemmas.List.{length-set}
 use Rattle.std.proofs.lemmas.Option.{slice_get_within}
 use Rattle.draid_names.specs.Faults.{Rose}
 use Rattle.draid_rack.specs.declared.Rack as racks
 use Rattle.draid_area.specs.declared.Area as areas
-use Rattle.draid_groups.specs.Groups as sealing
-use Rattle.draid_groups.specs.Groups.{area_in}
+use Rattle.draid_pool.specs.Groups as sealing
+use Rattle.draid_pool.specs.Groups.{area_in}
 use Rattle.draid_shard.specs.Calls.{SameAreas}
 use Rattle.draid_shard.specs.declared.shard.Shard.{Shard}
 use Rattle.draid_uber.specs.Uber.{area_of}
 use Rattle.draid_pool.specs.Failing.{AreaFails, AreaRose, AreasLater, RecordsRose}
 use Rattle.draid_pool.specs.Syncing.{CommitsBelow}
 use Rattle.draid_pool.specs.declared.pool.Pool.{Pool}
-use Rattle.draid_pool.proofs.Causes.{rose_some}
 use Rattle.draid_pool.proofs.Lifted.{SetsShard}
 use Rattle.draid_pool.proofs.Lists.{get_set_other, get_set_same, present, some_of}
+use Rattle.draid_pool.specs.declared.fault.SyncFault.{SyncFault}
+
+-- a count that rose isn't 0
+pub rose_some : (before now : ℕ) → Rose before now → 0 < now
+rose_some before now rose = omega (arith, rose)
+
+-- a refusal with another kind of answer
+pub err_on : (T U : Type 0) (f g : SyncFault) → IsErrOf {T = T} (Err f) g → IsErrOf {T = U} (Err f) g
+err_on T U f g is = (let same : f ≡ g = cc in ap Err same)
 
 -- ---- counts
 

@@ -1,5 +1,5 @@
 -- What holds leave of a pool: its layout.
-use Rattle.std.proofs.Common.{◌≡◌, ◌∙◌, [], ◌∷◌, ◌++◌, List, sym, ap, subst}
+use Rattle.std.proofs.Common.{◌≡◌, ◌∙◌, [], ◌∷◌, ◌++◌, List, sym, ap, subst, ◌+◌, arith, refl}
 use Rattle.draid_rack.specs.declared.Rack as racks
 use Rattle.draid_area.specs.declared.Area as areas
 use Rattle.draid_spec.specs.declared.layout.Geometry.{Geometry}
@@ -68,3 +68,7 @@ module _ {R A : Type 0} (rack : racks.Ghosts R) (area : areas.Ghosts A) where
     done = done;
     represents = subst (λ t. Represents rack area new (record reached { store = t })) (same_layout holds x reached follows).store is;
   }
+
+pub follows_both : (front back : List Hold) (x y z : State) → Follows front x y → Follows back y z → Follows (front ++ back) x z
+follows_both [] back x y z f b = subst (λ w. Follows back w z) f b
+follows_both (hold ∷ front) back x y z f b = (f.0, f.1, follows_both front back f.0 y z f.2 b)

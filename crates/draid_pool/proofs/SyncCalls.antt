@@ -20,10 +20,9 @@ use Rattle.draid_session.specs.Looks.{LooksFrom}
 use Rattle.draid_session.specs.Phases.{Broke, Chain, End, NoneOf, Starved, WasLast, WasWorn, Went}
 use Rattle.draid_session.specs.State.{State, Store}
 use Rattle.draid_shard.specs.States.{stored_in}
-use Rattle.draid_pool.specs.Answers.{ExportDoes, SyncDoes}
+use Rattle.draid_pool.specs.Syncing.{ExportDoes, SyncDoes, AreSealed, CommitsBelow, FoundClosing, FoundUnsynced, GroupDoes, HasUnsynced, Phase, SealDoes, end_of}
 use Rattle.draid_pool.specs.Carries.{CarriesOut}
 use Rattle.draid_pool.specs.Pools.{Represents}
-use Rattle.draid_pool.specs.Syncing.{AreSealed, CommitsBelow, FoundClosing, FoundUnsynced, GroupDoes, HasUnsynced, Phase, SealDoes, end_of}
 use Rattle.draid_pool.specs.Ubers.{body_of}
 use Rattle.draid_pool.specs.declared.fault.SyncFault.{SyncFault}
 use Rattle.draid_pool.specs.declared.fault.SyncFault.TheVariants as sync

@@ -28,16 +28,15 @@ use Rattle.draid_segments.specs.Segments.{Backed, Pieces}
 use Rattle.draid_segments.proofs.Beginning.{flushed_backed}
 use Rattle.draid_entries.specs.Entries.{held_in}
 use Rattle.draid_entries.specs.History as history
-use Rattle.draid_entries.specs.History.{limit_in, reserved_of}
 use Rattle.draid_shard.specs.Calls.{SameKit, SameReserve}
 use Rattle.draid_shard.specs.Fits.{AreGroups, Valid}
-use Rattle.draid_groups.specs.Groups.{AreasLater, CloseRefused, KeepsOtherArea, ListsOnce, OpenUpto, Seals, Unsealed, area_in}
+use Rattle.draid_pool.specs.Groups.{AreasLater, CloseRefused, KeepsOtherArea, ListsOnce, OpenUpto, Seals, Unsealed, area_in}
 use Rattle.draid_shard.specs.Part.{Part, layout_in}
 use Rattle.draid_shard.specs.States.{Does, DoesNone, IsIn, layout_by, part_of}
-use Rattle.draid_groups.specs.declared.fault.CloseFault.{CloseFault}
-use Rattle.draid_groups.specs.declared.fault.CloseFault.TheVariants as close
-use Rattle.draid_groups.specs.declared.fault.SealFault.{SealFault}
-use Rattle.draid_groups.specs.declared.fault.SealFault.TheVariants as seal
+use Rattle.draid_pool.specs.declared.group_fault.CloseFault.{CloseFault}
+use Rattle.draid_pool.specs.declared.group_fault.CloseFault.TheVariants as close
+use Rattle.draid_pool.specs.declared.group_fault.SealFault.{SealFault}
+use Rattle.draid_pool.specs.declared.group_fault.SealFault.TheVariants as seal
 use Rattle.draid_shard.specs.declared.shard.Shard.{Shard}
 use Rattle.draid_shard.proofs.Standing.{has_layout}
 use Rattle.draid_session.specs.Follows.{CountsRise, Rests, area_count}
@@ -51,7 +50,7 @@ use Rattle.draid_pool.specs.Syncing.{CloseIs, Commits, KeepsCommitted, SealIs, T
 use Rattle.draid_pool.specs.declared.fault.SyncFault.{SyncFault}
 use Rattle.draid_pool.specs.declared.fault.SyncFault.TheVariants as sync
 use Rattle.draid_pool.proofs.Alike.{alike_committed, alike_kept, alike_sealed, own_arms}
-use Rattle.draid_pool.proofs.Damages.{leaf_in}
+use Rattle.draid_pool.proofs.Imaged.{leaf_in}
 use Rattle.draid_pool.proofs.Dids.{Done, did_quiet, did_with, none_here, records_same}
 use Rattle.draid_pool.proofs.Lists.{ext}
 use Rattle.draid_pool.proofs.OneHold.{passes_is, rests, worn_is}

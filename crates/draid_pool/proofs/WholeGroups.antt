@@ -15,13 +15,13 @@ use Rattle.draid_machine.specs.After.{is_freed_block}
 use Rattle.draid_machine.proofs.Small.{kept_some}
 use Rattle.draid_entries.specs.Entries.{held_in}
 use Rattle.draid_shard.specs.Calls.{IsLive}
-use Rattle.draid_groups.specs.Committing.{DropsFreed, is_freed_entry}
+use Rattle.draid_pool.specs.Committing.{DropsFreed, is_freed_entry}
 use Rattle.draid_shard.specs.Fits.{AreGroups}
 use Rattle.draid_shard.specs.declared.shard.Shard.{Shard}
 use Rattle.draid_uber.specs.Held.{IsNext}
 use Rattle.draid_uber.specs.Slots.{group_of}
 use Rattle.draid_uber.specs.Uber as ubers
-use Rattle.draid_uber.specs.Uber.{kept_of, layout_of, version_of}
+use Rattle.draid_uber.specs.Uber.{kept_of}
 use Rattle.draid_pool.specs.Syncing.{AreSealed, Commits, CommitsBelow}
 use Rattle.draid_pool.specs.Whole.{IsPointer, IsShardOf, IsWhole}
 use Rattle.draid_pool.specs.declared.pool.Pool.{Pool}

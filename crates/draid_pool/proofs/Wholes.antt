@@ -1,6 +1,6 @@
 -- What a whole pool has, and that it stays whole as one of its shards is another one of the same metaslab.
-use Rattle.std.proofs.Common.{◌≡◌, ◌==◌, ◌≤◌, ◌+◌, ◌∙◌, inl, inr, cond, ◌⊎◌, ℕ, Bool, true, false, Option, Some, None, arith, refl, sym, ap, subst, slice_index_or, slice_set, length, max, if◌then◌else◌}
-use Rattle.std.specs.Prelude.{nat_eq, slice_get, option_map, All}
+use Rattle.std.proofs.Common.{◌≡◌, ◌==◌, ◌≤◌, ◌+◌, ◌∙◌, inl, inr, cond, ◌⊎◌, ℕ, Bool, true, false, Option, Some, None, arith, refl, sym, ap, subst, slice_index_or, slice_set, length, max, if◌then◌else◌, nat_eq}
+use Rattle.std.specs.Prelude.{nat_eq, slice_get, option_map, All, cond}
 use Rattle.std.specs.HashMap.{get}
 use Rattle.std.proofs.lemmas.Bool.{cases_eq}
 use Rattle.std.proofs.lemmas.List.{length-set}
@@ -25,7 +25,7 @@ use Rattle.draid_entries.specs.Entries.{SameEntries, entry_at, held_in}
 use Rattle.draid_entries.specs.Maps.{held_at, key_of, staged}
 use Rattle.draid_shard.specs.Calls.{IsLive}
 use Rattle.draid_shard.specs.Changes.{KeepsBlocks, SetsBlock}
-use Rattle.draid_shard.specs.Fits.{Valid}
+use Rattle.draid_shard.specs.Fits.{Valid, AreGroups}
 use Rattle.draid_shard.specs.Part.{Part}
 use Rattle.draid_shard.specs.States.{IsIn, part_of}
 use Rattle.draid_shard.specs.declared.shard.Shard.{Shard}
@@ -37,8 +37,30 @@ use Rattle.draid_uber.specs.Uber.{kept_of}
 use Rattle.draid_pool.specs.Shards.{DropsBlock, HasRoom, StoresBlock}
 use Rattle.draid_pool.specs.Whole.{IsNewer, IsPointer, IsShardOf, IsWhole}
 use Rattle.draid_pool.specs.declared.pool.Pool.{Pool}
-use Rattle.draid_pool.proofs.FreeSteps.{open_high, open_low, put_elsewhere, put_here}
 use Rattle.draid_pool.proofs.Lists.{get_set_other, get_set_same, some_of}
+use Rattle.draid_objects.specs.Changes.{Freed}
+use Rattle.std.proofs.lemmas.Bool.Decides.{nat_tests}
+use Rattle.draid_session.specs.State.{State}
+use Rattle.draid_pool.specs.Pointers.{SamePointers}
+
+-- a place of a table that was set, and another
+pub put_here : (new old : Option Pointer) (object q : ℕ) (x : Option Pointer) → new ≡ cond (nat_eq object q) x old → object ≡ q → new ≡ x
+put_here new old object q x sets is = grind (arith, nat_tests, sets, is)
+
+pub put_elsewhere : (new old : Option Pointer) (object q : ℕ) (x : Option Pointer) → new ≡ cond (nat_eq object q) x old → (object ≡ q → ⊥) → new ≡ old
+put_elsewhere new old object q x sets other = grind (arith, nat_tests, sets, other)
+
+-- the open group is one of the next two behind the committed one
+pub open_high : (o : ℕ) (closing : Option ℕ) (c : ℕ) (sealed : Bool) → AreGroups o closing c sealed → c + 1 ≤ o
+open_high o None c sealed groups = (let is = groups.0 in omega (arith, is))
+open_high o (Some t) c sealed groups = (let is = groups.0 in let closing = groups.1 in omega (arith, is, closing))
+
+pub open_low : (o : ℕ) (closing : Option ℕ) (c : ℕ) (sealed : Bool) → AreGroups o closing c sealed → o ≤ c + 2
+open_low o None c sealed groups = (let is = groups.0 in omega (arith, is))
+open_low o (Some t) c sealed groups = (let is = groups.0 in let closing = groups.1 in omega (arith, is, closing))
+
+pub same_pointers : {R A : Type 0} (old new : Pool R A) → new.objects ≡ old.objects → SamePointers old new
+same_pointers old new same = λ o. ap (λ table. get nat_eq table o) same
 
 -- ---- blocks
 

@@ -1,13 +1,10 @@
 -- What a call of a pool does to the state for which the pool stands.
-use Rattle.std.specs.Prelude.{ℕ, List, Result, Ok, Err}
+use Rattle.std.specs.Prelude.{List}
 use Rattle.draid_rack.specs.declared.Rack as racks
 use Rattle.draid_area.specs.declared.Area as areas
-use Rattle.draid_names.specs.declared.refusal.ObjectFault.{ObjectFault}
-use Rattle.draid_block.specs.declared.solve.Fetched.{Fetched}
 use Rattle.draid_session.specs.State.{State, Store}
 use Rattle.draid_session.specs.Holds.{Hold}
 use Rattle.draid_session.specs.Follows.{Follows}
-use Rattle.draid_pool.specs.Answers.{FetchIs, Unfetched}
 use Rattle.draid_pool.specs.Pools.{Represents}
 use Rattle.draid_pool.specs.declared.pool.Pool.{Pool}
 
@@ -20,8 +17,3 @@ pub record CarriesOut {R A : Type 0} (rack : racks.Ghosts R) (area : areas.Ghost
   pub follows : Follows holds x reached
   pub done : does holds store
   pub represents : Represents rack area new (record reached { store = store })
-
--- An object's block was fetched; or the pool stands for the same state, and this is why.
-abbrev pub FetchLeads : {R A : Type 0} → racks.Ghosts R → areas.Ghosts A → Pool R A → State → ℕ → Result Fetched ObjectFault → Type 0
-FetchLeads rack area new x o (Ok fetched) = CarriesOut rack area new x (FetchIs x o fetched)
-FetchLeads rack area new x o (Err why) = Represents rack area new x × Unfetched x o why

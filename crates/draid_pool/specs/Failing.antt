@@ -1,7 +1,7 @@
 -- On which areas of a pool a call has failed.
 use Rattle.std.specs.Prelude.{◌≡◌, ◌<◌, ◌≤◌, ◌+◌, ◌⊎◌, ℕ, Some, length, slice_get}
 use Rattle.draid_names.specs.Faults.{Rose}
-use Rattle.draid_groups.specs.Groups as sealing
+use Rattle.draid_pool.specs.Groups as sealing
 use Rattle.draid_shard.specs.declared.shard.Shard.{Shard}
 use Rattle.draid_uber.specs.Uber.{area_of}
 use Rattle.draid_pool.specs.declared.pool.Pool.{Pool}

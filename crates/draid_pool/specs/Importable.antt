@@ -10,7 +10,7 @@ use Rattle.draid_machine.specs.Images.{IsImage}
 use Rattle.draid_machine.specs.State as machine
 use Rattle.draid_shelf.specs.Kits.{Held}
 use Rattle.draid_stable.specs.Stable as stable
-use Rattle.draid_groups.specs.Groups.{ListsOnce}
+use Rattle.draid_pool.specs.Groups.{ListsOnce}
 use Rattle.draid_session.specs.Opening.{MayFind}
 use Rattle.draid_session.specs.State.{Metaslab, State}
 

@@ -1,16 +1,7 @@
 -- What calls on a pool say of its objects by the table of their pointers alone, whatever its devices hold.
-use Rattle.std.specs.Prelude.{◌≡◌, ◌==◌, ⊤, ℕ, List, Option, Some, None, Result, Ok, Err, length, nat_eq, if◌then◌else◌}
+use Rattle.std.specs.Prelude.{◌≡◌, ℕ, Option, nat_eq}
 use Rattle.std.specs.HashMap.{get}
-use Rattle.sha2.specs.Sha256.{sha256}
-use Rattle.std.specs.declared.alloc.Global.{Global}
-use Rattle.std.specs.declared.vec.Vec.{Vec}
 use Rattle.draid_names.specs.declared.pointer.Pointer.{Pointer}
-use Rattle.draid_names.specs.declared.refusal.ObjectFault.{ObjectFault}
-use Rattle.draid_names.specs.declared.refusal.ObjectFault.TheVariants as fault
-use Rattle.draid_names.specs.declared.refusal.WriteFault.{WriteFault}
-use Rattle.draid_block.specs.declared.solve.Fetched.{Fetched}
-use Rattle.draid_pool.specs.declared.fault.FreeFault.{FreeFault}
-use Rattle.draid_pool.specs.declared.fault.FreeFault.TheVariants as free
 use Rattle.draid_pool.specs.declared.pool.Pool.{Pool}
 
 -- the pointer of an object's bytes, if it has some
@@ -20,36 +11,3 @@ pointer_in pool object = get nat_eq pool.objects object
 -- each object has the pointer that it had
 abbrev pub SamePointers : {R A : Type 0} → Pool R A → Pool R A → Type 0
 SamePointers old new = (object : ℕ) → pointer_in new object ≡ pointer_in old object
-
--- one object has this pointer, or none, and each other the one that it had
-abbrev pub SetsPointer : {R A : Type 0} → ℕ → Option Pointer → Pool R A → Pool R A → Type 0
-SetsPointer object pointer old new = (other : ℕ) → pointer_in new other ≡ (if object == other then pointer else pointer_in old other)
-
--- bytes have a pointer's length and digest
-pub record FitsPointer (pointer : Pointer) (bytes : List ℕ) : Type 0 where
-  pub len : length bytes ≡ pointer.len
-  pub digest : sha256 bytes ≡ pointer.digest
-
--- the answer to a read: bytes of the pointer's length and digest; `no object` just where the object has none
-abbrev pub ReadFinds : Option Pointer → Result (Vec ℕ Global) ObjectFault → Type 0
-ReadFinds None result = result ≡ Err fault.NoObject
-ReadFinds (Some pointer) (Ok bytes) = FitsPointer pointer bytes.items
-ReadFinds (Some pointer) (Err fault.NoObject) = ⊥
-ReadFinds (Some pointer) (Err why) = ⊤
-
--- that to the fetch of its block
-abbrev pub FetchFinds : Option Pointer → Result Fetched ObjectFault → Type 0
-FetchFinds None result = result ≡ Err fault.NoObject
-FetchFinds (Some pointer) (Ok fetched) = fetched.pointer ≡ pointer
-FetchFinds (Some pointer) (Err fault.NoObject) = ⊥
-FetchFinds (Some pointer) (Err why) = ⊤
-
--- that to a write of some bytes
-abbrev pub WriteSets : {R A : Type 0} → ℕ → List ℕ → Pool R A → Pool R A → Result Unit WriteFault → Type 0
-WriteSets object bytes old new (Ok done) = (pointer : Pointer) × FitsPointer pointer bytes × SetsPointer object (Some pointer) old new
-WriteSets object bytes old new (Err why) = SamePointers old new
-
--- that to a freeing
-abbrev pub FreeTakes : {R A : Type 0} → ℕ → Pool R A → Pool R A → Result Unit FreeFault → Type 0
-FreeTakes object old new (Ok done) = (pointer : Pointer) × (pointer_in old object ≡ Some pointer) × SetsPointer object None old new
-FreeTakes object old new (Err free.NoObject) = (pointer_in old object ≡ None) × SamePointers old new

@@ -1,5 +1,5 @@
 -- For which states a pool stands.
-use Rattle.std.specs.Prelude.{◌≡◌, ◌==◌, ◌<◌, ◌⊎◌, ℕ, Option, Some, nat_eq, length, slice_get, if◌then◌else◌}
+use Rattle.std.specs.Prelude.{◌≡◌, ◌==◌, ◌<◌, ◌⊎◌, ℕ, Option, Some, nat_eq, length, slice_get, if◌then◌else◌, ◌↔◌, List, Contains, IsSome}
 use Rattle.std.specs.HashMap.{get}
 use Rattle.draid_rack.specs.declared.Rack as racks
 use Rattle.draid_area.specs.declared.Area as areas
@@ -20,6 +20,9 @@ use Rattle.draid_pool.specs.Records.{HasImages, HasLeafNumbers}
 use Rattle.draid_pool.specs.Ubers.{IsUber}
 use Rattle.draid_pool.specs.Objects.{HasGroups, HoldsObjects, IsLastAt, PointsTo, blocks_of}
 use Rattle.draid_pool.specs.declared.pool.Pool.{Pool}
+use Rattle.std.specs.List.Sorted.{IsStrictlyIncreasing}
+use Rattle.draid_uber.specs.Slots.{group_of}
+use Rattle.draid_uber.specs.Uber.{kept_of}
 
 -- a metaslab of a state
 abbrev pub part_in : State → ℕ → Part
@@ -60,3 +63,14 @@ pub record Awaits {R A : Type 0} (rack : racks.Ghosts R) (area : areas.Ghosts A)
   pub older : (write : Write) → earlier ≡ Some write → (write.object ≡ object) × (write.seq < pointer.seq)
   pub only : (m : ℕ) (k : Key) (h : Held) → blocks_of x.metaslabs m k ≡ Some h → h.stage ≡ Live
       → IsLastAt m k (write_of x.store.changes k.object) ⊎ IsLastAt m k earlier
+
+-- the group that a pool's uberblock names
+abbrev pub group_in : {R A : Type 0} → Pool R A → ℕ
+group_in pool = group_of (kept_of pool.uber)
+
+-- so many objects have a block
+pub record HasNames (newest : ℕ → Option Pointer) (objects : ℕ) : Type 0 where
+  pub names : List ℕ
+  pub ascending : IsStrictlyIncreasing names
+  pub each : (object : ℕ) → Contains names object ↔ IsSome (newest object)
+  pub many : objects ≡ length names

@@ -4,7 +4,7 @@ use Rattle.draid_area.specs.Area.{Content, OnTold}
 use Rattle.draid_machine.specs.declared.names.ArmName.TheVariants.{Leaf}
 use Rattle.draid_machine.specs.Images.{IsImage}
 use Rattle.draid_machine.specs.State as machine
-use Rattle.draid_groups.specs.Groups.{ListsOnce}
+use Rattle.draid_pool.specs.Groups.{ListsOnce}
 use Rattle.draid_shard.specs.Part.{Part}
 use Rattle.draid_session.specs.Opening.{MayFind}
 use Rattle.draid_session.specs.State.{Metaslab, State}

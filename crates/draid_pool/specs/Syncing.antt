@@ -13,9 +13,9 @@ use Rattle.draid_session.specs.Holds.{Act, Hold, On, view_of}
 use Rattle.draid_session.specs.Phases.{End, Went, WasWorn, WasLast, Starved, Broke}
 use Rattle.draid_session.specs.State.{Metaslab, State, Store}
 use Rattle.draid_shard.specs.Calls.{ActsOn, SameAreas, SameReserve}
-use Rattle.draid_groups.specs.Changes.{CommitsGroup}
+use Rattle.draid_pool.specs.Changes.{CommitsGroup}
 use Rattle.draid_shard.specs.Fits.{Valid}
-use Rattle.draid_groups.specs.Groups.{DropsDetached}
+use Rattle.draid_pool.specs.Groups.{DropsDetached}
 use Rattle.draid_shard.specs.Part.{Part, layout_in}
 use Rattle.draid_shard.specs.States.{Does, part_of, stored_in}
 use Rattle.draid_shard.specs.declared.shard.Shard.{Shard}
@@ -24,6 +24,7 @@ use Rattle.draid_pool.specs.Metaslabs.{IsMetaslab}
 use Rattle.draid_pool.specs.Records.{LeavesAreBelow}
 use Rattle.draid_pool.specs.declared.fault.SyncFault.{SyncFault}
 use Rattle.draid_pool.specs.declared.fault.SyncFault.TheVariants as sync
+use Rattle.draid_pool.specs.declared.fault.Synced.{Synced}
 
 -- how a phase ended, by its answer
 abbrev pub end_of : {T : Type 0} → Result T SyncFault → End
@@ -122,3 +123,19 @@ FoundUnsynced {R = R} {A = A} shards false = (m : ℕ) (shard : Shard R A) → s
 -- a metaslab of a state has something that no sync has made safe
 abbrev pub HasUnsynced : State → Type 0
 HasUnsynced x = (m : ℕ) × (y : Metaslab) × (slice_get x.metaslabs m ≡ Some y) × (groups.is_unsynced y.world.committed y.events ≡ true)
+
+-- a sync, and why it was stopped
+abbrev pub SyncDoes : State → Result Synced SyncFault → List Hold → Store → Type 0
+SyncDoes x (Ok it) holds new = (new ≡ x.store) × groups.Syncs x.geometry x.perms it.group it.thin holds Went
+SyncDoes x (Err sync.Worn) holds new = (new ≡ x.store) × groups.SyncStops x.geometry x.perms holds WasWorn
+SyncDoes x (Err sync.Last) holds new = (new ≡ x.store) × groups.SyncStops x.geometry x.perms holds WasLast
+SyncDoes x (Err sync.Shelf) holds new = (new ≡ x.store) × groups.SyncStops x.geometry x.perms holds Broke
+SyncDoes x (Err sync.NoMemory) holds new = (new ≡ x.store) × groups.SyncStarves x.geometry x.perms holds
+
+-- what an export does before the pool is given back, and why it was stopped; the answer is the committed group
+abbrev pub ExportDoes : State → Result ℕ SyncFault → List Hold → Store → Type 0
+ExportDoes x (Ok group) holds new = (new ≡ x.store) × groups.Exports x.geometry x.perms group holds Went
+ExportDoes x (Err sync.Worn) holds new = (new ≡ x.store) × groups.ExportStops x.geometry x.perms holds WasWorn
+ExportDoes x (Err sync.Last) holds new = (new ≡ x.store) × groups.ExportStops x.geometry x.perms holds WasLast
+ExportDoes x (Err sync.Shelf) holds new = (new ≡ x.store) × groups.ExportStops x.geometry x.perms holds Broke
+ExportDoes x (Err sync.NoMemory) holds new = (new ≡ x.store) × groups.ExportStarves x.geometry x.perms holds

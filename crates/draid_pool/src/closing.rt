@@ -1,51 +1,58 @@
-ghost use Rattle.std.specs.Prelude.{◌≡◌, ◌≤◌, length, true};
-ghost use Rattle.draid_session.specs.State.{State};
-ghost use Rattle.draid_shelf.specs.Kits.{OnHeld};
-ghost use Rattle.draid_shelf.specs.Shelf.{most_metaslabs};
-ghost use Rattle.draid_pool.specs.Closing.{GivesBack, IsFirm, Returns, ReturnsLeaves};
-ghost use Rattle.draid_pool.specs.Failing.{AreaFails};
-ghost use Rattle.draid_pool.specs.Opening.{AreaFailed};
-ghost use Rattle.draid_pool.specs.Pools.{Represents};
-ghost use Rattle.draid_pool.specs.Whole.{IsWhole};
+ghost use Rattle.std.specs.Prelude.{◌≡◌, None, IfErr, OnErr, OnOk, ◌<◌};
+ghost use Rattle.draid_names.specs.declared.numbers.TheConstants.{LAST_NUMBER};
+ghost use Rattle.draid_machine.specs.declared.event.Event.TheVariants.{Close};
+ghost use Rattle.draid_entries.specs.History.{Passes};
+ghost use Rattle.draid_shard.specs.Calls.{SameKit, SameReserve};
+ghost use Rattle.draid_shard.specs.Changes.{DoesNothing};
+ghost use Rattle.draid_shard.specs.Fits.{Valid};
+ghost use Rattle.draid_shard.specs.States.{Does};
+ghost use Rattle.draid_pool.specs.Changes.{ClosesGroup};
+ghost use Rattle.draid_pool.specs.Groups.{CloseRefused, group_events};
 
-use crate::pool::Pool;
-use draid_groups::into_kit;
+use crate::group_fault::CloseFault;
+use draid_area::Area;
+use draid_entries::ReserveFault;
+use draid_machine::Event;
+use draid_names::LAST_NUMBER;
+use draid_rack::Rack;
 use draid_shard::Shard;
-use draid_shelf::Shelf;
 
-/// Gives the devices of the shards back to the shelf, each as those of its place.
-pub(crate) fn give_back<H: Shelf>(shelf: &mut H, shards: Vec<Shard<H::R, H::A>>)
-    requires few { length shards.items ≤ most_metaslabs }
-    ensures returns { Returns H.R.Rack H.A.Area shards.items (H.told shelf.old) (H.told shelf.new) (H.counts shelf.old) (H.counts shelf.new) }
-    ensures leaves { ReturnsLeaves H.R.Rack shards.items (H.leaves shelf.old) (H.leaves shelf.new) }
-    ensures uber { H.uber_count shelf.new ≡ H.uber_count shelf.old }
-    ensures checks { H.check_counts shelf.new ≡ H.check_counts shelf.old }
-    ensures faults { H.faults shelf.new ≡ H.faults shelf.old }
-{
-    let mut left = shards;
-    while let Some(shard) = left.pop() {
-        shelf.give(left.len() as u32, into_kit(shard));
-    }
-}
+/// In how many groups blocks may be born at a time: a closing one, the open one, and the next, to which a caller may
+/// have come.
+pub const BIRTH_GROUPS: u32 = 3;
 
-/// Gives the devices of all metaslabs and the uberblock's area back to the shelf, without a sync, and all that it holds
-/// a crash, where one is asked for.
-pub fn close<H: Shelf>(pool: Pool<H::R, H::A>, shelf: &mut H, crash: bool)
-    requires whole { IsWhole H.R.Rack H.A.Area pool }
-    ensures back { (x : State) → Represents H.R.Rack H.A.Area pool x
-        → GivesBack x crash (H.told shelf.old) (H.told shelf.new) (H.leaves shelf.new) (H.counts shelf.new)
-        (H.uber_count shelf.new) }
-    // Behind a crash nothing that the shelf tells is soft.
-    ensures crash { crash ≡ true → OnHeld (H.told shelf.new) IsFirm }
-    // What has failed on an area of the pool shows on the shelf.
-    ensures failed { AreaFails H.A.faults pool → AreaFailed (H.counts shelf.new)
-        (record { uber = H.uber_count shelf.new; checks = H.check_counts shelf.new }) }
-    ensures checks { H.check_counts shelf.new ≡ H.check_counts shelf.old }
-    ensures faults { H.faults shelf.new ≡ H.faults shelf.old }
+/// A group's closing, sealing and committing are three events.
+const GROUP_EVENTS: u64 = 3;
+
+/// Closes the open group: from now on blocks are born in the next one.
+pub fn close_group<R: Rack, A: Area>(shard: &mut Shard<R, A>, group: u64) -> Result<(), CloseFault>
+    requires valid { Valid R.Rack shard.old }
+    requires group { group ≡ shard.old.open_group }
+    requires idle { shard.old.closing ≡ None }
+    ensures valid { Valid R.Rack shard.new }
+    ensures kit { SameKit shard.old shard.new }
+    ensures event { OnOk result (Does shard.old shard.new (Close group)) }
+    ensures not_worn { OnOk result ((Passes shard.old.history group_events 0 → ⊥) × (group < LAST_NUMBER)) }
+    ensures closes { OnOk result (ClosesGroup shard.old shard.new group) }
+    ensures none { OnErr result (DoesNothing shard.old shard.new) }
+    ensures refused { IfErr result (CloseRefused shard.old group) }
+    ensures reserve { SameReserve shard.old shard.new }
 {
-    give_back(shelf, pool.shards);
-    shelf.give_uber(pool.uber.into_area());
-    if crash {
-        shelf.crash();
+    match shard.history.ask_for_group(GROUP_EVENTS) {
+        Ok(()) => {}
+        Err(ReserveFault::Worn { events }) => return Err(CloseFault::Worn { events }),
+        Err(ReserveFault::NoMemory) => return Err(CloseFault::NoMemory),
     }
+    if group == LAST_NUMBER {
+        return Err(CloseFault::Last);
+    }
+    let Ok(()) = shard.slots.reserve(shard.alloc, BIRTH_GROUPS, 0) else {
+        return Err(CloseFault::NoMemory);
+    };
+    shard.closing = Some(group);
+    shard.open_group = group + 1;
+    shard
+        .history
+        .add_asked(Event::Close { group }, GROUP_EVENTS);
+    Ok(())
 }

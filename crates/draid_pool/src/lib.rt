@@ -1,31 +1,27 @@
-//! A pool: objects whose bytes are written to blocks of its metaslabs, and read again. Each call is a list of holds of
-//! metaslabs, each of which does one event or none.
+//! An open pool: what it is made of and what it stands for; its groups, each of which is closed, sealed and committed in
+//! all of its metaslabs; and how its devices are given back.
 
 #![tactic(auto)]
 
 mod closing;
-mod counting;
-mod damaging;
+mod committing;
 mod fault;
-mod freeing;
-mod importing;
-mod laws;
-mod opening;
+mod group_fault;
+mod looks;
+mod marks;
 mod pool;
-mod reading;
-mod room;
-mod store;
-mod summing;
+mod records;
+mod returning;
+mod sealing;
 mod syncing;
+mod telling;
 mod unsynced;
-mod viewing;
-mod writing;
 
-pub use closing::close;
-pub use draid_names::{ObjectFault, WriteFault};
-pub use fault::{DamageFault, FreeFault, PoolFault, SumFault, SyncFault, Synced};
-pub use importing::import;
-pub use laws::{finds_the_same_before_a_flush, imports_find_one_thing};
-pub use opening::create;
-pub use pool::Pool;
-pub use viewing::vdev_name;
+pub use closing::{BIRTH_GROUPS, close_group};
+pub use committing::commit;
+pub use fault::{PoolFault, SyncFault, Synced};
+pub use group_fault::{CloseFault, OpenFault, OpenRefused, SealFault, Sealed};
+pub use pool::{EVENTS, Pool};
+pub use records::{record_of, write_to};
+pub use returning::{close, give_back, into_kit};
+pub use sealing::seal;

@@ -9,21 +9,24 @@ use draid_uber::Uber;
 use std::alloc::Global;
 use std::collections::HashMap;
 
+/// How many events all metaslabs of a pool may store, with those that are owed.
+pub const EVENTS: u64 = 1 << 24;
+
 /// An open pool: objects whose bytes lie in the blocks of its metaslabs.
 #[derive(Drop)]
 pub struct Pool<R: Rack, A: Area> {
-    pub(crate) geometry: Geometry,
+    pub geometry: Geometry,
     /// The metaslabs, in the order of their numbers.
-    pub(crate) shards: Vec<Shard<R, A>>,
+    pub shards: Vec<Shard<R, A>>,
     /// The uberblock, which names the committed group.
-    pub(crate) uber: Uber<A>,
+    pub uber: Uber<A>,
     /// The pointer of each object's bytes.
-    pub(crate) objects: HashMap<u64, Pointer>,
+    pub objects: HashMap<u64, Pointer>,
     /// The number of the last write that was begun.
-    pub(crate) seq: u64,
+    pub seq: u64,
     /// The greatest group that a call has used.
-    pub(crate) floor: u64,
-    pub(crate) alloc: Global,
+    pub floor: u64,
+    pub alloc: Global,
 }
 
 impl<R: Rack, A: Area> Pool<R, A> {

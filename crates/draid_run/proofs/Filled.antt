@@ -14,7 +14,7 @@ use Rattle.draid_session.specs.Holds.{Hold}
 use Rattle.draid_session.specs.Making.{content_of}
 use Rattle.draid_session.specs.State.{State, Store}
 use Rattle.draid_session.specs.Writes.{Fills, Refuses, Writes}
-use Rattle.draid_pool.specs.Answers.{WriteDoes}
+use Rattle.draid_store.specs.Answers.{WriteDoes}
 use Rattle.draid_pool.specs.Carries.{CarriesOut}
 use Rattle.draid_pool.specs.Pools.{Represents}
 use Rattle.draid_pool.specs.declared.pool.Pool.{Pool}

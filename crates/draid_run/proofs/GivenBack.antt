@@ -8,10 +8,9 @@ use Rattle.draid_segments.specs.Segments.{Pieces}
 use Rattle.draid_shelf.specs.Kits.{AreNewChecks, Held, KitTold, OnHeld}
 use Rattle.draid_session.specs.Session.{Desk, Untouched, Bare, Made, Open, Shut, Foreign, Unknown}
 use Rattle.draid_session.specs.State.{Metaslab, State}
-use Rattle.draid_pool.specs.Closing.{GivesBack, HoldsPool, Rests, RestsOn, SameCounts}
+use Rattle.draid_pool.specs.Returning.{GivesBack, HoldsPool, Rests, RestsOn, SameCounts, AreaFailed}
 use Rattle.draid_pool.specs.Failing.{AreaFails}
 use Rattle.draid_pool.specs.Importable.{IsFindable, IsImportable}
-use Rattle.draid_pool.specs.Opening.{AreaFailed}
 use Rattle.draid_pool.specs.Pools.{Represents}
 use Rattle.draid_pool.specs.Records.{HasLeafNumbers}
 use Rattle.draid_pool.specs.Ubers.{UberStands}

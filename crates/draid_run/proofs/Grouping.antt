@@ -16,9 +16,9 @@ use Rattle.draid_session.specs.Known.{Known}
 use Rattle.draid_session.specs.Replies.{IsReplyTo}
 use Rattle.draid_session.specs.Session.{Desk, Untouched, Bare, Made, Open, Shut, Foreign, Unknown, ShelfFails, TurnsBy}
 use Rattle.draid_session.specs.State.{State, Store}
-use Rattle.draid_pool.specs.Answers.{ExportDoes, SyncDoes}
+use Rattle.draid_pool.specs.Syncing.{ExportDoes, SyncDoes}
 use Rattle.draid_pool.specs.Carries.{CarriesOut}
-use Rattle.draid_pool.specs.Closing.{GivesBack}
+use Rattle.draid_pool.specs.Returning.{GivesBack}
 use Rattle.draid_pool.specs.Failing.{AreaFails}
 use Rattle.draid_pool.specs.Pointers.{SamePointers}
 use Rattle.draid_pool.specs.Pools.{Represents}

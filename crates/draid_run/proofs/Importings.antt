@@ -20,18 +20,19 @@ use Rattle.draid_session.specs.Opening.{FreesOlder, HasObjects, Imports}
 use Rattle.draid_session.specs.Known.{nothing_known}
 use Rattle.draid_session.specs.Session.{BreaksGiven, Cause, Desk, Untouched, Bare, Made, Open, Shut, Foreign, Unknown, FindsAny, FindsGiven, FindsGivenIf, LeavesState, RecordFails, ShelfFails, TurnsBy}
 use Rattle.draid_session.specs.State.{State}
-use Rattle.draid_pool.specs.Closing.{GivesBack, HoldsPool, Rests}
-use Rattle.draid_pool.specs.Faulty.{HoldsNoGroup}
-use Rattle.draid_pool.specs.Findings.{FindsPool, HasNames, IsReadPool, group_in}
-use Rattle.draid_pool.specs.Found.{HasRisen, SameChecks}
+use Rattle.draid_pool.specs.Returning.{GivesBack, HoldsPool, Rests}
+use Rattle.draid_import.specs.Faulty.{HoldsNoGroup}
+use Rattle.draid_import.specs.Findings.{FindsPool, IsReadPool}
+use Rattle.draid_pool.specs.Pools.{HasNames, group_in, Represents}
+use Rattle.draid_import.specs.Found.{HasRisen, SameChecks}
 use Rattle.draid_pool.specs.Importable.{IsImportable}
-use Rattle.draid_pool.specs.Importing as pools
-use Rattle.draid_pool.specs.Importing.{FindsNoPool, ImportsPool, LeavesMade, LeavesPool, RestsThere}
-use Rattle.draid_pool.specs.Opening.{HoldsMade, IsAsBefore, NoChecks}
-use Rattle.draid_pool.specs.Pools.{Represents}
+use Rattle.draid_import.specs.Importing as pools
+use Rattle.draid_import.specs.Importing.{FindsNoPool, ImportsPool, LeavesMade, LeavesPool, RestsThere}
+use Rattle.draid_pool.specs.Taking.{HoldsMade, IsAsBefore}
+use Rattle.draid_create.specs.Opening.{NoChecks}
 use Rattle.draid_pool.specs.Whole.{IsWhole}
 use Rattle.draid_pool.specs.declared.fault.PoolFault.{PoolFault}
-use Rattle.draid_pool.proofs.Findings.{finds_pool}
+use Rattle.draid_import.proofs.Findings.{finds_pool}
 use Rattle.draid_pool.proofs.Lists.{ext}
 use Rattle.draid_pool.specs.declared.fault.PoolFault.TheVariants as fault
 use Rattle.draid_pool.specs.declared.pool.Pool.{Pool}

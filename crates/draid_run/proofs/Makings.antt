@@ -21,10 +21,11 @@ use Rattle.draid_reply.specs.declared.reply.Reply.TheVariants.{Created, CreateRe
 use Rattle.draid_session.specs.Making.{IsFresh, Makes, layout_by, layout_from, props_of, vdev_name_of}
 use Rattle.draid_session.specs.Session.{Desk, Untouched, Bare, Made, Open, Shut, Foreign, Unknown, Breaks, MakesNone, ShelfFails, uncommitted}
 use Rattle.draid_session.specs.State.{State}
-use Rattle.draid_pool.specs.Closing.{HoldsPool, SameCounts}
+use Rattle.draid_pool.specs.Returning.{HoldsPool, SameCounts}
 use Rattle.draid_pool.specs.Importable.{HasImageLeaves, IsImportable}
-use Rattle.draid_pool.specs.Opening as opening
-use Rattle.draid_pool.specs.Opening.{HoldsMade, HoldsUncommitted, IsAway, IsRefused, ShelfIs}
+use Rattle.draid_create.specs.Opening as opening
+use Rattle.draid_pool.specs.Taking.{HoldsMade}
+use Rattle.draid_create.specs.Opening.{HoldsUncommitted, IsAway, IsRefused, ShelfIs}
 use Rattle.draid_pool.specs.Whole.{IsWhole}
 use Rattle.draid_pool.specs.declared.fault.PoolFault.{PoolFault}
 use Rattle.draid_pool.specs.declared.fault.PoolFault.TheVariants as fault

@@ -16,10 +16,10 @@ use Rattle.draid_shelf.specs.Kits.{AreNewChecks, Both, ChecksTold, CrashedChecks
 use Rattle.draid_session.specs.Session.{Agrees, Desk, Finding, Untouched, Bare, Made, Open, Shut, Foreign, Unknown, KnowsShelf, Runs, left_of}
 use Rattle.draid_session.specs.State.{State}
 use Rattle.draid_session.proofs.Again.{crash_found, runs_known}
-use Rattle.draid_pool.specs.Closing.{HoldsPool, SameCounts}
-use Rattle.draid_pool.specs.Opening.{HoldsMade}
-use Rattle.draid_pool.proofs.Closed.{rests_crashed}
-use Rattle.draid_pool.proofs.ImportClosed.{importable_left}
+use Rattle.draid_pool.specs.Returning.{HoldsPool, SameCounts}
+use Rattle.draid_pool.specs.Taking.{HoldsMade}
+use Rattle.draid_pool.proofs.Returned.{rests_crashed}
+use Rattle.draid_pool.proofs.Importables.{importable_left}
 use Rattle.draid_run.specs.Next.{FindsAgain, HasCrashed, IsFound, next_desk}
 use Rattle.draid_run.specs.Shelves.{HoldsBare, HoldsDesk, HoldsNew, HoldsShut, IsSame, OnShelf, TellsAsBefore}
 use Rattle.draid_run.proofs.Makings.{same_shelf}

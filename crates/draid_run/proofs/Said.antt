@@ -11,11 +11,11 @@ use Rattle.draid_script.specs.declared.line.StatusFormat.{StatusFormat}
 use Rattle.draid_reply.specs.declared.reply.Reply.{Reply}
 use Rattle.draid_session.specs.Holds.{Hold}
 use Rattle.draid_session.specs.State.{State, Store}
-use Rattle.draid_pool.specs.Answers.{DamageDoes, FreeDoes, ReadDoes, SumDoes}
-use Rattle.draid_pool.specs.declared.fault.DamageFault.{DamageFault}
-use Rattle.draid_pool.specs.declared.fault.DamageFault.TheVariants as damaged
-use Rattle.draid_pool.specs.declared.fault.FreeFault.{FreeFault}
-use Rattle.draid_pool.specs.declared.fault.SumFault.{SumFault}
+use Rattle.draid_store.specs.Answers.{DamageDoes, FreeDoes, ReadDoes, SumDoes}
+use Rattle.draid_store.specs.declared.fault.DamageFault.{DamageFault}
+use Rattle.draid_store.specs.declared.fault.DamageFault.TheVariants as damaged
+use Rattle.draid_store.specs.declared.fault.FreeFault.{FreeFault}
+use Rattle.draid_store.specs.declared.fault.SumFault.{SumFault}
 use Rattle.draid_run.specs.Desks.{ReplyDoes}
 use Rattle.draid_run.specs.Says.{DamageSays, FreeSays, ReadSays, StatusDoes, StatusSays, SumSays, damage_reply, free_reply, read_reply, status_reply, sum_reply}
 

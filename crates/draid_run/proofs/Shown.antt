@@ -14,7 +14,7 @@ use Rattle.draid_session.specs.Status.{IsPoolView, text_by}
 use Rattle.draid_report.specs.declared.view.View.{View as PoolView}
 use Rattle.draid_pool.specs.Carries.{CarriesOut}
 use Rattle.draid_pool.specs.Pools.{Represents}
-use Rattle.draid_pool.specs.Views.{uber_view, views_of}
+use Rattle.draid_status.specs.Views.{uber_view, views_of}
 use Rattle.draid_pool.specs.declared.pool.Pool.{Pool}
 use Rattle.draid_pool.proofs.Looking.{changes_none, looked, looks_at}
 use Rattle.draid_pool.proofs.Steps.{carried, follows_on}

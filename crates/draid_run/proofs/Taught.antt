@@ -11,11 +11,12 @@ use Rattle.draid_reply.specs.declared.reply.Reply.{Reply}
 use Rattle.draid_reply.specs.declared.reply.Reply.TheVariants.{Filled, FillRefused, Written}
 use Rattle.draid_session.specs.Known.{AllowsBytes, AllowsNone, AllowsSome, Known, Learns, MayGiveNone, MayHaveAll, learns, learns_all, learns_filled, learns_lost}
 use Rattle.draid_session.specs.Making.{content_of}
-use Rattle.draid_pool.specs.Pointers.{FitsPointer, FreeTakes, ReadFinds, SamePointers, WriteSets, pointer_in}
-use Rattle.draid_pool.specs.PointerSums.{FitPointers, StopsFor, SumFinds}
-use Rattle.draid_pool.specs.declared.fault.FreeFault.{FreeFault}
-use Rattle.draid_pool.specs.declared.fault.FreeFault.TheVariants as free
-use Rattle.draid_pool.specs.declared.fault.SumFault.{SumFault}
+use Rattle.draid_store.specs.Pointers.{FitsPointer, FreeTakes, ReadFinds, WriteSets}
+use Rattle.draid_pool.specs.Pointers.{SamePointers, pointer_in}
+use Rattle.draid_store.specs.PointerSums.{FitPointers, StopsFor, SumFinds}
+use Rattle.draid_store.specs.declared.fault.FreeFault.{FreeFault}
+use Rattle.draid_store.specs.declared.fault.FreeFault.TheVariants as free
+use Rattle.draid_store.specs.declared.fault.SumFault.{SumFault}
 use Rattle.draid_pool.specs.declared.pool.Pool.{Pool}
 use Rattle.draid_run.specs.Knows.{FitsKnown, KnowsPointers, KnowsTable, Teaches}
 use Rattle.draid_run.specs.Says.{free_reply, read_reply, sum_reply}

@@ -13,7 +13,7 @@ use Rattle.draid_session.specs.Known.{Known}
 use Rattle.draid_session.specs.Replies.{IsReplyTo}
 use Rattle.draid_session.specs.Session.{Desk, Open, Shut, Foreign, Unknown}
 use Rattle.draid_session.specs.State.{State, Store}
-use Rattle.draid_pool.specs.Answers.{ExportDoes, SyncDoes}
+use Rattle.draid_pool.specs.Syncing.{ExportDoes, SyncDoes}
 use Rattle.draid_pool.specs.Carries.{CarriesOut}
 use Rattle.draid_pool.specs.Whole.{IsWhole}
 use Rattle.draid_pool.specs.declared.fault.SyncFault.{SyncFault}

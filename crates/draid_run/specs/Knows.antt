@@ -6,7 +6,8 @@ use Rattle.draid_script.specs.Line.{Command, CrashPool, ExportPool, FillObjects,
 use Rattle.draid_script.specs.declared.fault.LineFault.{LineFault}
 use Rattle.draid_reply.specs.declared.reply.Reply.{Reply}
 use Rattle.draid_session.specs.Known.{Known, Learns}
-use Rattle.draid_pool.specs.Pointers.{FitsPointer, pointer_in}
+use Rattle.draid_store.specs.Pointers.{FitsPointer}
+use Rattle.draid_pool.specs.Pointers.{pointer_in}
 use Rattle.draid_pool.specs.declared.pool.Pool.{Pool}
 
 -- An object that is known to have no bytes has no pointer; one that is known to have some has a pointer that they fit.

@@ -13,7 +13,7 @@ use Rattle.draid_reply.specs.declared.reply.Reply.{Reply}
 use Rattle.draid_reply.specs.declared.reply.Reply.TheVariants.{CreateRefused, NoMemory, PoolOpen}
 use Rattle.draid_session.specs.Making.{vdev_name_of}
 use Rattle.draid_session.specs.Session.{Desk, Open, Foreign, Creates, ShelfFails}
-use Rattle.draid_pool.specs.Opening.{HasLayout, Opens, ShelfIs}
+use Rattle.draid_create.specs.Opening.{HasLayout, Opens, ShelfIs}
 use Rattle.draid_pool.specs.Whole.{IsWhole}
 use Rattle.draid_pool.specs.declared.fault.PoolFault.{PoolFault}
 use Rattle.draid_pool.specs.declared.fault.PoolFault.TheVariants as fault

@@ -12,12 +12,12 @@ use Rattle.draid_reply.specs.declared.reply.Reply.TheVariants.{NoMemory, Content
 use Rattle.draid_session.specs.Holds.{Hold}
 use Rattle.draid_session.specs.State.{State, Store}
 use Rattle.draid_session.specs.Status.{IsPoolView, Tells, text_by}
-use Rattle.draid_pool.specs.Answers.{DamageDoes, FreeDoes, ReadDoes, SumDoes}
-use Rattle.draid_pool.specs.declared.fault.DamageFault.{DamageFault}
-use Rattle.draid_pool.specs.declared.fault.DamageFault.TheVariants as damaged
-use Rattle.draid_pool.specs.declared.fault.FreeFault.{FreeFault}
-use Rattle.draid_pool.specs.declared.fault.SumFault.{SumFault}
-use Rattle.draid_pool.specs.Views.{uber_view, views_of}
+use Rattle.draid_store.specs.Answers.{DamageDoes, FreeDoes, ReadDoes, SumDoes}
+use Rattle.draid_store.specs.declared.fault.DamageFault.{DamageFault}
+use Rattle.draid_store.specs.declared.fault.DamageFault.TheVariants as damaged
+use Rattle.draid_store.specs.declared.fault.FreeFault.{FreeFault}
+use Rattle.draid_store.specs.declared.fault.SumFault.{SumFault}
+use Rattle.draid_status.specs.Views.{uber_view, views_of}
 use Rattle.draid_report.specs.declared.view.View.{View as PoolView}
 
 abbrev pub read_reply : ℕ → Result (Vec ℕ Global) ObjectFault → Reply

@@ -11,13 +11,14 @@ use Rattle.draid_shelf.specs.declared.Shelf as shelves
 use Rattle.draid_session.specs.Session.{Desk, Finding, Fault, Nothing, Untouched, Bare, Made, Open, Shut, Foreign, Unknown, HasLayout}
 use Rattle.draid_session.specs.Session as finding
 use Rattle.draid_session.specs.State.{Metaslab, State}
-use Rattle.draid_pool.specs.Closing.{HoldsPool, OwnCounts, SameCounts}
+use Rattle.draid_pool.specs.Returning.{HoldsPool, OwnCounts, SameCounts, AreaFailed}
 use Rattle.draid_pool.specs.Failing.{AreaFails}
-use Rattle.draid_pool.specs.Faulty.{HoldsNoGroup, RecordIsBad}
-use Rattle.draid_pool.specs.Findings.{FindsPool}
-use Rattle.draid_pool.specs.Found.{HasRisen}
+use Rattle.draid_import.specs.Faulty.{HoldsNoGroup, RecordIsBad}
+use Rattle.draid_import.specs.Findings.{FindsPool}
+use Rattle.draid_import.specs.Found.{HasRisen}
 use Rattle.draid_pool.specs.Importable.{IsImportable}
-use Rattle.draid_pool.specs.Opening.{AreaFailed, IsAsBefore, NewPoolFailed, NoChecks, SameLeaves, StaysMade}
+use Rattle.draid_pool.specs.Taking.{IsAsBefore}
+use Rattle.draid_create.specs.Opening.{NewPoolFailed, NoChecks, SameLeaves, StaysMade}
 use Rattle.draid_pool.specs.declared.pool.Pool.{Pool}
 
 -- What a shelf tells that it holds, the leaves of each metaslab's rack where they are known, and how often calls have failed: on the devices of each metaslab, on the

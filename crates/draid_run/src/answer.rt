@@ -15,12 +15,13 @@ use crate::{groups, importing, replies};
 use draid_area::Area;
 use draid_choose::Chooser;
 use draid_names::Room;
-use draid_pool::{Pool, PoolFault, vdev_name};
+use draid_pool::{Pool, PoolFault};
 use draid_rack::Rack;
 use draid_reply::Reply;
 use draid_script::{CommandName, Line, PoolKeys};
 use draid_shelf::Shelf;
 use draid_spec::{Props, Spec, geometry, parse_spec};
+use draid_status::vdev_name;
 use std::alloc::Global;
 use std::thread::Threads;
 
@@ -124,7 +125,7 @@ fn make<H: Shelf>(
     let Ok(name) = vdev_name(alloc, spec) else {
         return Err(PoolFault::NoMemory);
     };
-    match draid_pool::create(alloc, shelf, spec, props) {
+    match draid_create::create(alloc, shelf, spec, props) {
         Ok(open) => {
             *pool = Some(open);
             Ok(Made {

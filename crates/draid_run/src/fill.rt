@@ -18,6 +18,7 @@ use draid_names::{Room, WriteFault};
 use draid_pool::Pool;
 use draid_rack::Rack;
 use draid_reply::Reply;
+use draid_store::write;
 use rand_core::{Rng, SeedableRng};
 use rand_xoshiro::Xoroshiro128PlusPlus;
 use std::alloc::Global;
@@ -60,7 +61,7 @@ pub(crate) fn fill<R: Rack, A: Area, F: Fn(&[Room]) -> Option<u32>>(
     };
     for written in 0..count {
         draw(&mut bytes, seed, first + written);
-        if let Err(why) = pool.write(chooser, first + written, &bytes) {
+        if let Err(why) = write(pool, chooser, first + written, &bytes) {
             return Reply::FillRefused {
                 first,
                 written,

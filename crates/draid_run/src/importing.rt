@@ -1,16 +1,17 @@
 //! The command that opens the pool of the shelf.
 ghost use Rattle.std.specs.Prelude.{◌≡◌, ◌≤◌};
 ghost use Rattle.draid_session.specs.Session.{Desk};
-ghost use Rattle.draid_pool.specs.Importing.{IsNotSpec};
+ghost use Rattle.draid_import.specs.Importing.{IsNotSpec};
 ghost use Rattle.draid_run.specs.Desks.{IsDesk};
 ghost use Rattle.draid_run.specs.Importing.{ImportIs, UnopenedIs};
 ghost use Rattle.draid_run.specs.Shelves.{OnShelf, on_shelf};
 
 use crate::answer::Stop;
-use draid_pool::{Pool, PoolFault, close, vdev_name};
+use draid_pool::{Pool, PoolFault, close};
 use draid_reply::Reply;
 use draid_script::CommandName;
 use draid_shelf::Shelf;
+use draid_status::vdev_name;
 use std::alloc::Global;
 
 /// What an import replies that opens no pool, or that it has no reply.
@@ -47,7 +48,7 @@ pub(crate) fn import<H: Shelf>(
             command: CommandName::Import,
         });
     }
-    match draid_pool::import(alloc, shelf) {
+    match draid_import::import(alloc, shelf) {
         Ok(open) => {
             let Ok(name) = vdev_name(alloc, open.geometry().spec) else {
                 close(open, shelf, false);

@@ -17,10 +17,11 @@ use crate::showing::status_bytes;
 use draid_area::Area;
 use draid_choose::Chooser;
 use draid_names::{ObjectFault, Room, WriteFault};
-use draid_pool::{DamageFault, FreeFault, Pool, SumFault};
+use draid_pool::Pool;
 use draid_rack::Rack;
 use draid_reply::Reply;
 use draid_script::{CommandName, Line, StatusFormat};
+use draid_store::{DamageFault, FreeFault, SumFault};
 use std::alloc::Global;
 use std::thread::Threads;
 
@@ -40,7 +41,7 @@ fn write<R: Rack, A: Area, F: Fn(&[Room]) -> Option<u32>>(
     ensures step { (x : State) → Represents R.Rack A.Area pool.old x
         → CarriesOut R.Rack A.Area pool.new x (ReplyDoes x (FnReturnsAt F.Fn chooser.now) (WriteObject object bytes.now) result) }
 {
-    match pool.write(chooser, object, bytes) {
+    match draid_store::write(pool, chooser, object, bytes) {
         Ok(()) => Reply::Written { object },
         Err(
             WriteFault::NoSpace {
@@ -73,7 +74,7 @@ fn read<R: Rack, A: Area>(pool: &mut Pool<R, A>, object: u64) -> Reply
     ensures step { (x : State) → Represents R.Rack A.Area pool.old x
         → CarriesOut R.Rack A.Area pool.new x (ReadSays object result x) }
 {
-    match pool.read(object) {
+    match draid_store::read(pool, object) {
         Ok(bytes) => Reply::Contents { object, bytes },
         Err(ObjectFault::NoObject) => Reply::NoObject { object },
         Err(ObjectFault::Unreadable { absent, tried }) => Reply::Unreadable {
@@ -97,7 +98,7 @@ fn free<R: Rack, A: Area>(pool: &mut Pool<R, A>, object: u64) -> Reply
     ensures step { (x : State) → Represents R.Rack A.Area pool.old x
         → CarriesOut R.Rack A.Area pool.new x (FreeSays object result x) }
 {
-    match pool.free(object) {
+    match draid_store::free(pool, object) {
         Ok(()) => Reply::Freed { object },
         Err(FreeFault::NoObject) => Reply::FreeNoObject { object },
     }
@@ -118,7 +119,7 @@ fn sum<R: Rack, A: Area>(
     ensures step { (x : State) → Represents R.Rack A.Area pool.old x
         → CarriesOut R.Rack A.Area pool.new x (SumSays first count result x) }
 {
-    match pool.sum(rt, first, count) {
+    match draid_store::sum(rt, pool, first, count) {
         Ok(digest) => Reply::Summed {
             first,
             count,
@@ -137,7 +138,7 @@ fn damage<R: Rack, A: Area>(pool: &mut Pool<R, A>, leaf: u64, sector: u64) -> Re
     ensures step { (x : State) → Represents R.Rack A.Area pool.old x
         → CarriesOut R.Rack A.Area pool.new x (DamageSays leaf sector result x) }
 {
-    match pool.damage(leaf, sector) {
+    match draid_store::damage(pool, leaf, sector) {
         Ok(()) => Reply::Damaged { leaf, sector },
         Err(DamageFault::NoSuch) => Reply::DamageRefused { leaf, sector },
         Err(DamageFault::Worn) => Reply::DamageWorn { leaf, sector },

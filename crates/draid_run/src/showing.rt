@@ -11,6 +11,7 @@ use draid_pool::Pool;
 use draid_rack::Rack;
 use draid_report::{status_json, status_text};
 use draid_script::StatusFormat;
+use draid_status::view;
 use std::alloc::Global;
 
 /// What a pool is, in this format.
@@ -22,7 +23,7 @@ pub(crate) fn status_bytes<R: Rack, A: Area>(
     requires whole { IsWhole R.Rack A.Area pool.now }
     ensures shows { (x : State) → Represents R.Rack A.Area pool.now x → IfOk result (λ text. ShowsPool x format text.items) }
 {
-    let view = match pool.view() {
+    let view = match view(pool) {
         Ok(view) => view,
         Err(fault) => return Err(fault),
     };

@@ -6,7 +6,7 @@ ghost use Rattle.draid_shard.specs.Fits.{Valid};
 use crate::shard::{begin, hello, logged};
 use draid_area::Area;
 use draid_block::Encoded;
-use draid_groups::{CloseFault, SealFault, Sealed, close_group};
+use draid_pool::{CloseFault, SealFault, Sealed, close_group};
 use draid_rack::Rack;
 use draid_shard::Shard;
 use std::alloc::Global;
@@ -64,7 +64,7 @@ fn seal<R: Rack, A: Area>(shard: &mut Shard<R, A>) -> Option<Result<Sealed, Seal
     if shard.sealed() {
         return None;
     }
-    Some(draid_groups::seal(shard, group))
+    Some(draid_pool::seal(shard, group))
 }
 
 /// Writes the block `hello`, and closes its group; whether the write is done.
@@ -134,7 +134,7 @@ fn commit<R: Rack, A: Area>(shard: &mut Shard<R, A>)
 {
     if let Some(group) = shard.closing() {
         if shard.sealed() {
-            draid_groups::commit(shard, group);
+            draid_pool::commit(shard, group);
         }
     }
 }

@@ -4,7 +4,9 @@ ghost use Rattle.draid_spec.specs.Geometry.{IsGeometry, metaslab_sectors};
 
 use crate::devices::{kit, layout};
 use draid_area::Area;
-use draid_groups::{OpenFault, create, into_kit, reopen};
+use draid_create::create_metaslab;
+use draid_import::reopen;
+use draid_pool::{OpenFault, into_kit};
 use draid_perm::Perms;
 use draid_rack::Rack;
 use draid_shard::Shard;
@@ -379,7 +381,7 @@ fn made<R: Rack, A: Area>(
     requires rack { HasJust (R.shape kit.rack) layout.spec.children (metaslab_sectors layout) layout.props.sector }
 {
     let perms = Perms::new(layout.spec.children, layout.props.seed);
-    match create(alloc, 0, layout, perms, kit, 10_000) {
+    match create_metaslab(alloc, 0, layout, perms, kit, 10_000) {
         Ok(shard) => Ok(opened(alloc, layout, into_kit(shard))),
         Err(refused) => Err(refused.why),
     }

@@ -10,7 +10,8 @@ ghost use Rattle.draid_shard.specs.Fits.{Valid};
 use crate::devices::{kit, layout};
 use crate::{groups, shard};
 use draid_area::Area;
-use draid_groups::{create, into_kit};
+use draid_create::create_metaslab;
+use draid_pool::into_kit;
 use draid_perm::Perms;
 use draid_rack::Rack;
 use draid_shard::Shard;
@@ -86,7 +87,7 @@ fn passes_over<R: Rack, A: Area>(
     requires rack { HasJust (R.shape kit.rack) layout.spec.children (metaslab_sectors layout) layout.props.sector }
 {
     let perms = Perms::new(layout.spec.children, layout.props.seed);
-    match create(alloc, 0, layout, perms, kit, events) {
+    match create_metaslab(alloc, 0, layout, perms, kit, events) {
         Ok(mut shard) => {
             let done = does(alloc, &mut shard, trial);
             comes_back(shard) && done

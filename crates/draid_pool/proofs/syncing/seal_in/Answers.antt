@@ -1,7 +1,7 @@
 use Rattle.std.proofs.Common.{◌<◌, ◌∙◌, ap, arith, refl, subst, sym}
 use Rattle.draid_machine.specs.State as machine
 use Rattle.draid_names.specs.Faults.{Rose}
-use Rattle.draid_groups.specs.Groups.{OpenUpto, SealIsRefused, area_in}
+use Rattle.draid_pool.specs.Groups.{OpenUpto, SealIsRefused, area_in}
 use Rattle.draid_shard.specs.States.{IsIn}
 use Rattle.draid_pool.specs.declared.fault.SyncFault.TheVariants as sync
 use Rattle.draid_shard.proofs.Shown.{state_shown}

@@ -34,10 +34,10 @@ returns-in-Err g c =
     record {
       whole = c.write.ensures.whole;
       fits = (refl, c.loop-written-test.true);
-      knows = fill_stopped_teaches c.args.first c.args.len c.args.seed c.args.pool.now c.loop-written.pool c.write.new.self c.loop-written.written c.args.count c.in-Err.why
-          (refused_same c.loop-written.pool c.write.new.self (c.args.first + c.loop-written.written) c.deref.result.now c.write.result c.in-Err.why c.in-Err.is c.write.ensures.writes) c.loop-written.invariant.knows;
+      knows = fill_stopped_teaches c.args.first c.args.len c.args.seed c.args.pool.now c.loop-written.pool c.write.new.pool c.loop-written.written c.args.count c.in-Err.why
+          (refused_same c.loop-written.pool c.write.new.pool (c.args.first + c.loop-written.written) c.deref.result.now c.write.result c.in-Err.why c.in-Err.is c.write.ensures.writes) c.loop-written.invariant.knows;
       step = λ x rep. (let m = c.loop-written.invariant.filled x rep in
-          fill_stopped g.R.Rack g.A.Area (FnReturnsAt g.F.Fn c.args.chooser.now) c.args.first c.args.len c.args.seed x c.loop-written.pool c.write.new.self
+          fill_stopped g.R.Rack g.A.Area (FnReturnsAt g.F.Fn c.args.chooser.now) c.args.first c.args.len c.args.seed x c.loop-written.pool c.write.new.pool
           c.loop-written.written c.deref.result.now c.write.result is m (c.write.ensures.step (record m.reached { store = m.store }) m.represents) c.args.count c.in-Err.why c.in-Err.is
           c.loop-written-test.true);
     }
@@ -53,9 +53,9 @@ loop-written-preserved g c =
     record {
       long = ap length all ∙ kept ∙ long;
       whole = c.write.ensures.whole;
-      knows = fills_more c.args.first c.args.len c.args.seed c.args.pool.now c.loop-written.pool c.write.new.self c.loop-written.written c.deref.result.now c.write.result is c.in_default-write.is c.write.ensures.writes c.loop-written.invariant.knows;
+      knows = fills_more c.args.first c.args.len c.args.seed c.args.pool.now c.loop-written.pool c.write.new.pool c.loop-written.written c.deref.result.now c.write.result is c.in_default-write.is c.write.ensures.writes c.loop-written.invariant.knows;
       filled = λ x rep. (let m = c.loop-written.invariant.filled x rep in
-          filled_more g.R.Rack g.A.Area (FnReturnsAt g.F.Fn c.args.chooser.now) c.args.first c.args.len c.args.seed x c.loop-written.pool c.write.new.self
+          filled_more g.R.Rack g.A.Area (FnReturnsAt g.F.Fn c.args.chooser.now) c.args.first c.args.len c.args.seed x c.loop-written.pool c.write.new.pool
           c.loop-written.written c.deref.result.now c.write.result is m (c.write.ensures.step (record m.reached { store = m.store }) m.represents) c.in_default-write.is);
     }
 

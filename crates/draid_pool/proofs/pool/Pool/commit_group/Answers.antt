@@ -2,8 +2,7 @@ use Rattle.draid_uber.specs.Uber.{kept_of}
 use Rattle.draid_uber.specs.Slots.{group_of}
 use Rattle.std.proofs.Common.{ℕ, ◌+◌, ◌∙◌, ap, sym}
 use Rattle.draid_pool.specs.declared.fault.SyncFault.TheVariants as sync
-use Rattle.draid_pool.proofs.Causes.{err_on}
-use Rattle.draid_pool.proofs.Rises.{areas_on, rose_then}
+use Rattle.draid_pool.proofs.Rises.{err_on, areas_on, rose_then}
 use Rattle.draid_pool.proofs.SyncCalls.{group_done, group_unclosed, group_unnamed, group_unsealed}
 use Rattle.draid_pool.proofs.Refusing.{no_refusal}
 use Rattle.draid_pool.proofs.pool.Pool.commit_group.Goals as goal

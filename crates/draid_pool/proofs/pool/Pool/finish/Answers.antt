@@ -1,7 +1,6 @@
 use Rattle.std.proofs.Common.{ℕ, refl}
 use Rattle.draid_pool.specs.declared.fault.SyncFault.TheVariants as sync
-use Rattle.draid_pool.proofs.Causes.{err_on}
-use Rattle.draid_pool.proofs.Rises.{areas_still}
+use Rattle.draid_pool.proofs.Rises.{err_on, areas_still}
 use Rattle.draid_pool.proofs.SyncCalls.{finish_stops, finishes_none, finishes_some}
 use Rattle.draid_pool.proofs.WholeGroups.{closing_next}
 use Rattle.draid_pool.proofs.Refusing.{no_refusal}

@@ -1,9 +1,8 @@
 use Rattle.std.proofs.Common.{◌+◌, ◌∙◌, ℕ, arith, ap}
 use Rattle.draid_pool.specs.declared.fault.SyncFault.TheVariants as sync
 use Rattle.draid_pool.specs.declared.fault.Synced.{Synced}
-use Rattle.draid_pool.proofs.Causes.{err_on}
-use Rattle.draid_pool.proofs.Pointed.{same_pointers}
-use Rattle.draid_pool.proofs.Rises.{areas_on, rose_then}
+use Rattle.draid_pool.proofs.Rises.{err_on, areas_on, rose_then}
+use Rattle.draid_pool.proofs.Wholes.{same_pointers}
 use Rattle.draid_pool.proofs.SyncCalls.{sync_done, sync_stops, sync_unfinished}
 use Rattle.draid_pool.proofs.WholeGroups.{whole_next}
 use Rattle.draid_pool.proofs.Refusing.{no_refusal}

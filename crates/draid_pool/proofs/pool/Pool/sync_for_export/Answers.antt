@@ -2,8 +2,7 @@ use Rattle.std.proofs.Common.{ℕ, refl, subst}
 use Rattle.draid_pool.specs.Syncing.{FoundUnsynced}
 use Rattle.draid_pool.specs.declared.fault.SyncFault.TheVariants as sync
 use Rattle.draid_pool.specs.declared.fault.Synced.{Synced}
-use Rattle.draid_pool.proofs.Causes.{err_on}
-use Rattle.draid_pool.proofs.Rises.{areas_still}
+use Rattle.draid_pool.proofs.Rises.{err_on, areas_still}
 use Rattle.draid_pool.proofs.SyncCalls.{export_done, export_none, export_stops}
 use Rattle.draid_pool.proofs.Refusing.{no_refusal}
 use Rattle.draid_pool.proofs.pool.Pool.sync_for_export.Goals as goal

@@ -1,0 +1,473 @@
+-- A pool that was just created.
+use Rattle.std.proofs.Common.{arith, ◌≡◌, ◌<◌, ◌∙◌, ◌⊎◌, inl, inr, ℕ, zero, suc, Bool, true, false, List, [], ◌∷◌, Option, Some, None, refl, sym, ap, subst, length, map, if◌then◌else◌}
+use Rattle.std.specs.Prelude.{IsSome, IsSomeAnd, IsTrue, MatchOption, is_some, nat_eq, nat_lt, option_map, replicate, slice_get}
+use Rattle.std.specs.HashMap.{get}
+use Rattle.std.proofs.lemmas.Bool.{cases_lt}
+use Rattle.std.proofs.lemmas.Bool.Decides.{nat_tests}
+use Rattle.std.proofs.lemmas.List.{length-map, length-replicate}
+use Rattle.std.proofs.lemmas.List.Elements.{All-cons, All-nil}
+use Rattle.std.proofs.lemmas.Option.{slice_get_within}
+use Rattle.sha2.specs.Sha256.{sha256}
+use Rattle.draid_names.specs.declared.pointer.Pointer.{Pointer}
+use Rattle.draid_rack.specs.Rack as racks_told
+use Rattle.draid_rack.specs.Rack.{Shape, Told}
+use Rattle.draid_rack.specs.declared.Rack as racks
+use Rattle.draid_area.specs.Area.{Content, OnTold}
+use Rattle.draid_area.specs.declared.Area as areas
+use Rattle.draid_spec.specs.declared.layout.Geometry.{Geometry}
+use Rattle.draid_spec.specs.Geometry.{IsGeometry}
+use Rattle.draid_perm.specs.declared.perms.Perms.{Perms}
+use Rattle.draid_map.specs.Place.{IsLayout}
+use Rattle.draid_machine.specs.declared.names.ArmName.TheVariants.{Leaf}
+use Rattle.draid_machine.specs.declared.names.Key.{Key}
+use Rattle.draid_machine.specs.declared.names.Held.{Held as Block}
+use Rattle.draid_machine.specs.Created.{created, created_core, new_arm}
+use Rattle.draid_machine.specs.State as machine
+use Rattle.draid_objects.specs.Blocks.{Blocks, none_held, table_of}
+use Rattle.draid_objects.specs.Stores.{IsFloor, Stores}
+use Rattle.draid_objects.proofs.Keeping.{none_floor, none_stored}
+use Rattle.draid_record.specs.declared.uber.UberBody.{UberBody}
+use Rattle.draid_segments.specs.Segments.{Backed, Pieces}
+use Rattle.draid_segments.proofs.Beginning.{created_backed}
+use Rattle.draid_shelf.specs.Kits.{AreNewChecks, ChecksTold, Held, IsNewArea, IsNewKit, IsNewPool, IsNewRack, IsUncounted, KitCounts, KitTold, OnHeld, gives_uber, takes_uber, uber_bytes}
+use Rattle.draid_layouts.specs.Layout as layouts
+use Rattle.draid_shard.specs.Part.{Part, layout_in}
+use Rattle.draid_shard.specs.States.{IsIn, layout_by}
+use Rattle.draid_shard.specs.declared.shard.Shard.{Shard}
+use Rattle.draid_uber.specs.declared.uber.Uber.{Uber}
+use Rattle.draid_uber.specs.Slots.{StandsTold, group_of}
+use Rattle.draid_uber.specs.Uber as ubers
+use Rattle.draid_uber.specs.Uber.{area_of, kept_of, layout_of, next_leaf_of, next_of, version_of}
+use Rattle.draid_session.specs.Making.{IsCalm, IsFresh, IsNew}
+use Rattle.draid_session.specs.Opening.{MayFind}
+use Rattle.draid_session.specs.Session.{uncommitted}
+use Rattle.draid_session.specs.State.{Metaslab, State}
+use Rattle.draid_pool.specs.Returning.{HoldsPool, OwnCounts, Returns, TakesBack}
+use Rattle.draid_pool.specs.Metaslabs.{IsMetaslab, counts_of, harm_of}
+use Rattle.draid_pool.specs.Objects.{HoldsObjects, PointsTo, blocks_of}
+use Rattle.draid_create.specs.Opening.{AreOpened, HasNewKits, IsAway, IsBackAgain, IsMade, IsOpened, IsRefused, NoChecks, Opens, SameButRecords, rack_in}
+use Rattle.draid_pool.specs.Taking.{HoldsMade, TakesFirst}
+use Rattle.draid_pool.specs.Pools.{Represents}
+use Rattle.draid_pool.specs.Importable.{AllAlike, IsAlike}
+use Rattle.draid_pool.specs.Records.{HasImages, HasLeafNumbers, HasRecords, LeavesAreBelow}
+use Rattle.draid_pool.specs.Ubers.{IsPending, IsUber, body_of}
+use Rattle.draid_pool.specs.Whole.{IsWhole}
+use Rattle.draid_pool.specs.declared.pool.Pool.{Pool}
+use Rattle.draid_pool.proofs.Alike.{alike_as, alike_created, created_same}
+use Rattle.draid_pool.proofs.Returned.{Parts, counted_as, holds_pool}
+use Rattle.draid_pool.proofs.Importables.{importable_back}
+use Rattle.draid_pool.proofs.Lists.{ext, some_of}
+
+-- what an image at a place is of
+unmapped : {A B : Type 0} (f : A → B) (xs : List A) (m : ℕ) (y : B) → slice_get (map f xs) m ≡ Some y → (x : A) × (slice_get xs m ≡ Some x) × (f x ≡ y)
+unmapped f [] m y there = absurd (cc)
+unmapped f (x ∷ xs) zero y there = (x, refl, cc)
+unmapped f (x ∷ xs) (suc m) y there = unmapped f xs m y there
+
+-- what is there, and is so
+some_of_and : {A : Type 0} (o : Option A) (P : A → Type 0) → IsSomeAnd o P → (x : A) × (o ≡ Some x) × P x
+some_of_and None P h = absurd h
+some_of_and (Some x) P h = (x, refl, h)
+
+always : (o : Option Told) (P : Told → Type 0) → ((x : Told) → P x) → racks_told.OnTold o P
+always None P h = tt
+always (Some x) P h = h x
+
+points_none : {R A : Type 0} (shards : List (Shard R A)) (o : Option Pointer) → o ≡ None → PointsTo shards o None
+points_none shards o none = subst (λ z. PointsTo shards z None) (sym none) tt
+
+-- where some is there only if a test says so
+below_test : (b : Bool) (leaf n : ℕ) → (b ≡ true → leaf < n) → IsSome (if b then Some new_arm else None) → leaf < n
+below_test false leaf n less some = absurd (cc)
+below_test true leaf n less some = less refl
+
+leaf_less : (leaf n m : ℕ) → n ≡ m → nat_lt leaf n ≡ true → leaf < m
+leaf_less leaf n m same less = grind (arith, nat_tests, same, less)
+
+module _ {R A : Type 0} (rack : racks.Ghosts R) (area : areas.Ghosts A) where
+  -- the metaslab that a new shard is
+  abbrev metaslab_of : Shard R A → Metaslab
+  metaslab_of shard = record {
+    opened = created (layout_by shard) shard.geometry.props.version;
+    events = [];
+    world = created (layout_by shard) shard.geometry.props.version;
+    reserved = 0;
+    counts = counts_of rack area shard;
+    harm = harm_of (rack.told shard.rack);
+  }
+
+  abbrev pub state_of : Geometry → Perms → List (Shard R A) → ℕ → Bool → State
+  state_of geometry perms shards count told = record {
+    geometry = geometry;
+    perms = perms;
+    metaslabs = map metaslab_of shards;
+    store = record { changes = []; seq = 0; floor = 0 };
+    committed = 1;
+    kept_leaf = geometry.spec.children;
+    next_leaf = geometry.spec.children;
+    uber_count = count;
+    pending = false;
+    told = told;
+  }
+
+  abbrev none : Pieces
+  none key column row = []
+
+  -- ---- the uberblock
+
+  module _ (geometry : Geometry) (old new : Uber A) (layout : layout_of old ≡ geometry) (version : version_of old ≡ geometry.props.version) (next_leaf : next_leaf_of old ≡ geometry.spec.children) where
+    -- what its first commit writes
+    pub first_body : next_of old 1 ≡ body_of geometry 1 geometry.spec.children
+    first_body = λ i. record { group = 1; spec = (layout i).spec; props = ubers.with_version (layout i).props (version i); next_leaf = next_leaf i }
+
+    pub first_layout : layout_of new ≡ ubers.layout_in (layout_of old) (version_of old) → layout_of new ≡ geometry
+    first_layout is = is ∙ (λ i. ubers.layout_in (layout i) (version i))
+
+    pub is_uber : (perms : Perms) (shards : List (Shard R A)) (told : Bool) → ubers.Valid area.size new → kept_of new ≡ Some (next_of old 1) → layout_of new ≡ ubers.layout_in (layout_of old) (version_of old)
+        → version_of new ≡ version_of old → next_leaf_of new ≡ next_leaf_of old → StandsTold (Some (next_of old 1)) [] (area.told (area_of new))
+        → IsUber area new (state_of geometry perms shards (area.faults (area_of new)) told)
+    is_uber perms shards told valid kept layout_is version_is leaf_is stands = record {
+      valid = valid;
+      layout = first_layout layout_is;
+      version = version_is ∙ version;
+      kept = kept ∙ ap (λ (b : UberBody). Some b) first_body;
+      next_leaf = leaf_is ∙ next_leaf;
+      count = refl;
+      stands = record { pending = []; are = All-nil (IsPending (state_of geometry perms shards (area.faults (area_of new)) told)); stands = subst (λ (b : UberBody). StandsTold (Some b) [] (area.told (area_of new))) first_body stands };
+    }
+
+  module _ (geometry : Geometry) (whole : IsGeometry geometry) (held : Option Held) (counts : ℕ → KitCounts) (shards : List (Shard R A)) (opened : AreOpened rack area geometry held counts shards) where
+    -- ---- one metaslab
+
+    world_is : (m : ℕ) (shard : Shard R A) → IsOpened rack area (record { geometry = geometry; perms = opened.perms; number = m }) held (counts m) shard
+        → created (layout_by shard) shard.geometry.props.version ≡ created (layout_in (record { geometry = geometry; perms = opened.perms; number = m })) geometry.props.version
+    world_is m shard is = ap (λ (p : Part). created (layout_in p) p.geometry.props.version) is.part_is
+
+    is_metaslab : (m : ℕ) (shard : Shard R A) → IsOpened rack area (record { geometry = geometry; perms = opened.perms; number = m }) held (counts m) shard
+        → IsMetaslab rack area (record { geometry = geometry; perms = opened.perms; number = m }) none shard (metaslab_of shard)
+    is_metaslab m shard is = record {
+      valid = is.valid;
+      part_is = is.part_is;
+      stands = record {
+        is_in = subst (IsIn shard) (sym (world_is m shard is)) is.created_is;
+        reached = record { version = shard.geometry.props.version; one = subst (λ (p : Part). (p.geometry.props.version ≡ 1) ⊎ (p.geometry.props.version ≡ 2)) (sym is.part_is) whole.version; events = []; run = refl };
+        segments = always (rack.told shard.rack) (Backed (layout_by shard) none (created (layout_by shard) shard.geometry.props.version))
+            (λ x. created_backed (layout_by shard) shard.geometry.props.version none x);
+      };
+      run = refl;
+      events = sym is.events;
+      limit = is.limit;
+      reserved = sym is.reserved;
+      counts = refl;
+      harm = refl;
+      records = subst (λ (w : machine.State). HasRecords (record { geometry = geometry; perms = opened.perms; number = m }) w (area.told shard.even) (area.told shard.odd))
+          (sym (world_is m shard is)) is.records;
+    }
+
+    is_new : ((m : ℕ) → m < geometry.props.metaslabs → IsUncounted (counts m)) → (m : ℕ) (shard : Shard R A) → m < geometry.props.metaslabs
+        → IsOpened rack area (record { geometry = geometry; perms = opened.perms; number = m }) held (counts m) shard → IsNew geometry opened.perms m (metaslab_of shard)
+    is_new uncounted m shard below is = record {
+      opened = world_is m shard is;
+      world = refl;
+      events = refl;
+      reserved = refl;
+      counts = λ who. is.rack_count who ∙ (uncounted m below).no_rack who;
+    }
+
+    -- where the shelf told, no sector is harmed
+    calm_by : (h : Option Held) (m : ℕ) (shard : Shard R A) → IsTrue (is_some h) → OnHeld h (HasNewKits geometry) → m < geometry.props.metaslabs
+        → OnHeld h (λ x. IsSomeAnd (x.kits m) (λ kit. rack.told shard.rack ≡ Some kit.rack)) → IsCalm (metaslab_of shard).harm
+    calm_by None m shard told new below is = absurd (cc)
+    calm_by (Some x) m shard told new below is =
+        let k = some_of_and (x.kits m) (IsNewKit geometry) (new.kits m below) in
+        let r : rack.told shard.rack ≡ Some k.0.rack = subst (λ (o : Option KitTold). IsSomeAnd o (λ kit. rack.told shard.rack ≡ Some kit.rack)) k.1 is in
+        subst (λ (o : Option Told). IsCalm (harm_of o)) (sym r) (k.2.rack.harmed)
+
+    -- the leaves of a new metaslab have numbers below that of the next
+    leaf_below : (m : ℕ) (shard : Shard R A) (leaf : ℕ) → IsOpened rack area (record { geometry = geometry; perms = opened.perms; number = m }) held (counts m) shard
+        → IsSome ((created (layout_by shard) shard.geometry.props.version).core.arm (Leaf leaf)) → leaf < geometry.spec.children
+    leaf_below m shard leaf is some =
+        let slots : shard.geometry.spec.children ≡ geometry.spec.children = ap (λ (p : Part). p.geometry.spec.children) is.part_is in
+        below_test (nat_lt leaf shard.geometry.spec.children) leaf geometry.spec.children (leaf_less leaf shard.geometry.spec.children geometry.spec.children slots) some
+
+    -- ---- all
+
+    below_all : (m : ℕ) (shard : Shard R A) → slice_get shards m ≡ Some shard → m < geometry.props.metaslabs
+    below_all m shard there = (let within = slice_get_within shards m shard there in let many = opened.many in omega (arith, within, many))
+
+    held_at : (o : Option Metaslab) (k : Key) → ((y : Metaslab) → o ≡ Some y → (shard : Shard R A) × (metaslab_of shard ≡ y))
+        → table_of (option_map (λ (x : Metaslab). x.world) o) k ≡ None
+    held_at None k from = refl
+    held_at (Some y) k from = (let f = from y refl in ap (λ (z : Metaslab). z.world.core.held k) (sym f.1))
+
+    blocks_none : blocks_of (map metaslab_of shards) ≡ (λ m. none_held)
+    blocks_none = ext (blocks_of (map metaslab_of shards)) (λ m. none_held)
+        (λ m. ext (blocks_of (map metaslab_of shards) m) none_held (λ k. held_at (slice_get (map metaslab_of shards) m) k (λ y there. (let u = unmapped metaslab_of shards m y there in (u.0, u.2)))))
+
+    not_held : (m : ℕ) (k : Key) (h : Block) → blocks_of (map metaslab_of shards) m k ≡ Some h → ⊥
+    not_held m k h is = (let empty : blocks_of (map metaslab_of shards) m k ≡ None = ap (λ (b : Blocks). b m k) blocks_none in absurd (cc))
+
+    holds_none : (committed : ℕ) → HoldsObjects geometry committed (record { changes = []; seq = 0; floor = 0 }) (blocks_of (map metaslab_of shards)) (λ m. none)
+    holds_none committed = record {
+      stores = subst (λ (b : Blocks). Stores sha256 committed [] b) (sym blocks_none) (none_stored sha256 committed);
+      floors = λ object. subst (λ (b : Blocks). IsFloor [] b object 0) (sym blocks_none) (none_floor object 0);
+      settled = λ m k h is. absurd (not_held m k h is);
+      numbered = λ m k h is. absurd (not_held m k h is);
+      bytes = λ m k h write is by. absurd (not_held m k h is);
+    }
+
+    each_metaslab : (items : List (Shard R A)) → items ≡ shards → (m : ℕ) (shard : Shard R A) (y : Metaslab) → slice_get items m ≡ Some shard → slice_get (map metaslab_of shards) m ≡ Some y
+        → IsMetaslab rack area (record { geometry = geometry; perms = opened.perms; number = m }) none shard y
+    each_metaslab items same m shard y there there' =
+        let u = unmapped metaslab_of shards m y there' in
+        let at : slice_get shards m ≡ Some shard = ap (λ (xs : List (Shard R A)). slice_get xs m) (sym same) ∙ there in
+        let equal : shard ≡ u.0 = some_of (slice_get shards m) shard u.0 at u.1 in
+        subst (IsMetaslab rack area (record { geometry = geometry; perms = opened.perms; number = m }) none shard) (ap metaslab_of equal ∙ u.2) (is_metaslab m shard (opened.each m shard at))
+
+    -- each has an image of group 1 alone
+    images_first : (x : State) → x.metaslabs ≡ map metaslab_of shards → ((group : ℕ) → MayFind x group → 0 < group → group ≡ 1) → HasImages x
+    images_first x are one group m y found some there =
+        let u = unmapped metaslab_of shards m y (ap (λ (ys : List Metaslab). slice_get ys m) (sym are) ∙ there) in
+        record { image = y.world.image; is = inl refl; of = ap (λ (z : Metaslab). z.world.image.group) (sym u.2) ∙ sym (one group found some) }
+
+    leaves_first : (x : State) → x.metaslabs ≡ map metaslab_of shards → x.kept_leaf ≡ geometry.spec.children → x.next_leaf ≡ geometry.spec.children → HasLeafNumbers x
+    leaves_first x are kept next = record {
+      order = omega (arith, kept, next);
+      each = λ m y there.
+          (let u = unmapped metaslab_of shards m y (ap (λ (ys : List Metaslab). slice_get ys m) (sym are) ∙ there) in
+          let below = leaf_below m u.0 in
+          let is = opened.each m u.0 u.1 in
+          subst (λ (z : Metaslab). LeavesAreBelow x.kept_leaf x.next_leaf z.world) u.2 (record {
+            kept = λ leaf some. (let less = below leaf is some in omega (arith, less, kept));
+            sealed = λ image sealed. absurd (cc);
+            now = λ leaf some. (let less = below leaf is some in omega (arith, less, next));
+          }));
+    }
+
+    -- all have the version and the arms that new ones have
+    alike_first : (x : State) → x.geometry ≡ geometry → x.metaslabs ≡ map metaslab_of shards → AllAlike (created_core (layouts.layout_of geometry opened.perms 0)) x
+    alike_first x used are m y there =
+        let u = unmapped metaslab_of shards m y (ap (λ (ys : List Metaslab). slice_get ys m) (sym are) ∙ there) in
+        subst (λ (z : Metaslab). IsAlike x.geometry.props.version (created_core (layouts.layout_of geometry opened.perms 0)) z.world) u.2
+        (subst (λ (w : machine.State). IsAlike x.geometry.props.version (created_core (layouts.layout_of geometry opened.perms 0)) w) (sym (world_is m u.0 (opened.each m u.0 u.1)))
+        (subst (λ (g : Geometry). IsAlike g.props.version (created_core (layouts.layout_of geometry opened.perms 0)) (created (layout_in (record { geometry = geometry; perms = opened.perms; number = m })) geometry.props.version)) (sym used)
+        (alike_as geometry.props.version (created_core (layouts.layout_of geometry opened.perms m)) (created_core (layouts.layout_of geometry opened.perms 0))
+        (created (layouts.layout_of geometry opened.perms m) geometry.props.version) (created_same (layouts.layout_of geometry opened.perms m) (layouts.layout_of geometry opened.perms 0) refl)
+        (alike_created (layouts.layout_of geometry opened.perms m) geometry.props.version))))
+
+    -- ---- the pool
+
+    module _ (count : ℕ) (told : Bool) where
+      pub represents : (pool : Pool R A) → pool.geometry ≡ geometry → pool.shards.items ≡ shards → pool.seq ≡ 0 → pool.floor ≡ 0 → ((q : ℕ) → get nat_eq pool.objects q ≡ None)
+          → IsUber area pool.uber (state_of geometry opened.perms shards count told) → Represents rack area pool (state_of geometry opened.perms shards count told)
+      represents pool used items seq floor empty uber = record {
+        stands = record {
+          geometry = sym used;
+          layout = opened.are_perms;
+          many = length-map shards metaslab_of ∙ opened.many;
+          shards = ap (λ (xs : List (Shard R A)). length xs) items ∙ sym (length-map shards metaslab_of);
+          pieces = λ m. none;
+          each = each_metaslab pool.shards.items items;
+          holds = holds_none 1;
+          groups = record {
+            committed = λ m y there. (let u = unmapped metaslab_of shards m y there in ap (λ (z : Metaslab). z.world.committed) (sym u.2));
+            next = omega arith;
+            last = omega arith;
+          };
+          objects = λ object. points_none pool.shards.items (get nat_eq pool.objects object) (empty object);
+          seq = sym seq;
+          floor = sym floor;
+          uber = uber;
+          images = images_first (state_of geometry opened.perms shards count told) refl (λ group found some. elim found [ inl is ↦ is | inr is ↦ absurd (let none = is.0 in cc) ]);
+          leaves = leaves_first (state_of geometry opened.perms shards count told) refl refl refl;
+          arms = created_core (layouts.layout_of geometry opened.perms 0);
+          alike = alike_first (state_of geometry opened.perms shards count told) refl refl;
+        };
+        only = λ m k h is live. absurd (not_held m k h is);
+      }
+
+      -- the pool of which the first commit was refused, as it is given back
+      pub refused_parts : (content : Option Content) (body : UberBody) → body ≡ body_of geometry 1 geometry.spec.children → StandsTold None (body ∷ []) content
+          → Parts rack area shards content (uncommitted (state_of geometry opened.perms shards count told))
+      refused_parts content body is stands = let x = uncommitted (state_of geometry opened.perms shards count told) in record {
+        layout = opened.are_perms;
+        many = length-map shards metaslab_of ∙ opened.many;
+        shards_are = sym (length-map shards metaslab_of);
+        pieces = λ m. none;
+        each = each_metaslab shards refl;
+        holds = holds_none 0;
+        uber = record { pending = body ∷ []; are = All-cons (IsPending x) body [] (refl, is) (All-nil (IsPending x)); stands = stands };
+        images = images_first x refl
+            (λ group found some. elim found [ inl is ↦ absurd (omega (arith, is, some)) | inr is ↦ (let at = is.1 in omega (arith, at)) ]);
+        leaves = leaves_first x refl refl refl;
+        arms = created_core (layouts.layout_of geometry opened.perms 0);
+        alike = alike_first x refl refl;
+      }
+
+      pub is_fresh : ((m : ℕ) → m < geometry.props.metaslabs → IsUncounted (counts m)) → OnHeld held (HasNewKits geometry) → (IsTrue told → IsTrue (is_some held))
+          → IsFresh geometry (state_of geometry opened.perms shards count told)
+      is_fresh uncounted new telling = record {
+        layout = refl;
+        perms = opened.are_perms;
+        many = length-map shards metaslab_of ∙ opened.many;
+        each = λ m y there.
+            (let u = unmapped metaslab_of shards m y there in
+            subst (IsNew geometry opened.perms m) u.2 (is_new uncounted m u.0 (below_all m u.0 u.1) (opened.each m u.0 u.1)));
+        calm = λ tells m y there.
+            (let u = unmapped metaslab_of shards m y there in
+            subst (λ (x : Metaslab). IsCalm x.harm) u.2 (calm_by held m u.0 (telling tells) new (below_all m u.0 u.1) (opened.each m u.0 u.1).told));
+        store = refl;
+        committed = refl;
+        leaves = (refl, refl);
+        pending = refl;
+      }
+
+    -- a pool whose uberblock names the first group is whole
+    pub first_whole : (pool : Pool R A) → pool.geometry ≡ geometry → pool.shards.items ≡ shards → pool.floor ≡ 0 → ((q : ℕ) → get nat_eq pool.objects q ≡ None)
+        → ubers.Valid area.size pool.uber → layout_of pool.uber ≡ geometry → version_of pool.uber ≡ geometry.props.version → group_of (kept_of pool.uber) ≡ 1 → IsWhole rack area pool
+    first_whole pool used items floor empty valid layout version first = record {
+      perms = opened.perms;
+      layout = subst (λ (x : Geometry). IsLayout x opened.perms) (sym used) opened.are_perms;
+      many = ap (λ (xs : List (Shard R A)). length xs) items ∙ (opened.many ∙ ap (λ (x : Geometry). x.props.metaslabs) (sym used));
+      shards = λ m shard there.
+          (let at : slice_get shards m ≡ Some shard = ap (λ (xs : List (Shard R A)). slice_get xs m) (sym items) ∙ there in
+          let is = opened.each m shard at in
+          record {
+            valid = is.valid;
+            part = is.part_is ∙ ap (λ (x : Geometry). record { geometry = x; perms = opened.perms; number = m }) (sym used);
+            numbered = λ key h there. (let none = is.created_is.held key in absurd (cc));
+            settled = λ key h there. (let none = is.created_is.held key in absurd (cc));
+            committed = sym is.created_is.committed ∙ sym first;
+          });
+      uber = valid;
+      uber_layout = layout ∙ sym used;
+      uber_version = version ∙ ap (λ (x : Geometry). x.props.version) (sym used);
+      objects = λ object pointer there. (let none = empty object in absurd (cc));
+      floor = omega (arith, floor);
+      low = omega (arith, floor);
+    }
+
+    -- what the shelf still told was told before
+    tells : (n : ℕ) (h k : Option Held) → TakesFirst n h k → is_some h ≡ is_some k
+    tells n None k t = ap (λ (o : Option Held). is_some o) (sym t)
+    tells n (Some x) None t = absurd t
+    tells n (Some x) (Some y) t = refl
+
+    pub opens : (now : Option Held) (pool : Pool R A) → OnHeld held (HasNewKits geometry) → TakesFirst geometry.props.metaslabs held now → ((m : ℕ) → m < geometry.props.metaslabs → IsUncounted (counts m))
+        → pool.geometry ≡ geometry → pool.shards.items ≡ shards → pool.seq ≡ 0 → pool.floor ≡ 0 → ((q : ℕ) → get nat_eq pool.objects q ≡ None)
+        → IsUber area pool.uber (state_of geometry opened.perms shards (area.faults (area_of pool.uber)) (is_some held)) → Opens rack area geometry now pool
+    opens now pool new taken uncounted used items seq floor empty uber = record {
+      state = state_of geometry opened.perms shards (area.faults (area_of pool.uber)) (is_some held);
+      represents = represents (area.faults (area_of pool.uber)) (is_some held) pool used items seq floor empty uber;
+      fresh = is_fresh (area.faults (area_of pool.uber)) (is_some held) uncounted new (λ tells. tells);
+      told_is = tells geometry.props.metaslabs held now taken;
+    }
+
+    -- ---- where its first commit is refused
+
+    module _ (mid last new : Option Held) (middle late after : ℕ → KitCounts) (r : Returns rack area shards mid last middle late) (content : Option Content) (gives : new ≡ gives_uber content last)
+        (taken : TakesFirst geometry.props.metaslabs held mid) (fresh_kits : OnHeld held (HasNewKits geometry)) where
+      told_then : (c : Option Content) (h k l : Option Held) → OnHeld l (λ y. MatchOption k ⊥ (λ x. TakesBack rack area shards x y)) → TakesFirst geometry.props.metaslabs h k → IsSome (gives_uber c l) → IsTrue (is_some h)
+      told_then None h k l back t some = absurd (cc)
+      told_then (Some u) h k None back t some = absurd (cc)
+      told_then (Some u) h None (Some y) back t some = absurd back
+      told_then (Some u) None (Some x) (Some y) back t some = absurd (cc)
+      told_then (Some u) (Some w) (Some x) (Some y) back t some = refl
+
+      -- the areas of the check records were held all the time
+      checks_then : (P : Held → Type 0) (h k n : Option Held) → OnHeld h (HasNewKits geometry) → TakesFirst geometry.props.metaslabs h k → OnHeld n (λ x. MatchOption k ⊥ (λ y. IsSomeAnd y.checks AreNewChecks → P x))
+          → OnHeld n P
+      checks_then P h k None kits t held = tt
+      checks_then P h None (Some x) kits t held = absurd held
+      checks_then P None (Some y) (Some x) kits t held = absurd (cc)
+      checks_then P (Some w) (Some y) (Some x) kits t held = held (subst (λ (o : Option ChecksTold). IsSomeAnd o AreNewChecks) (sym t.checks) kits.checks)
+
+      pub refused : (body : UberBody) (now : OwnCounts) → body ≡ body_of geometry 1 geometry.spec.children → StandsTold None (body ∷ []) content → ((m : ℕ) → m < geometry.props.metaslabs → IsUncounted (counts m))
+          → ((m : ℕ) → after m ≡ late m) → NoChecks now → (leaves : ℕ → Option Shape) → ((m : ℕ) (shard : Shard R A) → slice_get shards m ≡ Some shard → leaves m ≡ Some (rack.shape shard.rack))
+          → IsRefused geometry new leaves after now
+      refused body now is stands uncounted kept checks leaves shapes =
+          let state = state_of geometry opened.perms shards now.uber (is_some held) in
+          let parts = refused_parts now.uber (is_some held) content body is stands in
+          record {
+            fresh = state;
+            is_fresh = is_fresh now.uber (is_some held) uncounted fresh_kits (λ tells. tells);
+            told = λ some. told_then content held mid last r.held taken (subst (λ (o : Option Held). IsSome o) gives some);
+            held = checks_then (HoldsPool (uncommitted state) false) held mid new fresh_kits taken (holds_pool rack area shards content (uncommitted state) parts mid last middle late r new gives);
+            importable = importable_back rack area shards (uncommitted state) parts.pieces parts.shards_are parts.each leaves parts.arms parts.alike (λ m y at. omega arith) shapes content mid last middle late r new gives;
+            counts = counted_as rack area shards content (uncommitted state) parts mid last middle late r after kept;
+            uber = omega arith;
+            checks = checks;
+          }
+
+-- ---- the shelf
+
+-- what isn't of a metaslab is held still
+pub away : (geometry : Geometry) (h n : Option Held) → OnHeld h (HasNewKits geometry) → TakesFirst geometry.props.metaslabs h n → OnHeld n IsAway
+away geometry h None new t = tt
+away geometry None (Some y) new t = absurd (cc)
+away geometry (Some x) (Some y) new t = record {
+  uber = t.uber ∙ new.uber;
+  checks = subst (λ (o : Option ChecksTold). IsSomeAnd o AreNewChecks) (sym t.checks) new.checks;
+  kits = λ m. elim (cases_lt m geometry.props.metaslabs) [
+    | inl below ↦ t.taken m below
+    | inr past ↦ t.others m past ∙ new.no_other m past
+  ];
+}
+
+-- the area of the uberblock is taken from all that was made
+pub uber_taken : (geometry : Geometry) (h : Option Held) → OnHeld h (IsNewPool geometry) → OnHeld (takes_uber h) (HasNewKits geometry)
+uber_taken geometry None new = tt
+uber_taken geometry (Some x) new = record { uber = refl; checks = new.checks; kits = new.kits; no_other = new.no_other }
+
+-- the area of a new uberblock has zeros
+pub uber_zeros : (geometry : Geometry) (h : Option Held) (content : Option Content) → OnHeld h (IsNewPool geometry) → OnHeld h (λ x. content ≡ x.uber) → (h ≡ None → content ≡ None) → OnTold content (IsNewArea (replicate uber_bytes 0))
+uber_zeros geometry None content new is untold = subst (λ (o : Option Content). OnTold o (IsNewArea (replicate uber_bytes 0))) (sym (untold refl)) tt
+uber_zeros geometry (Some x) content new is untold = (let u = some_of_and x.uber (IsNewArea (replicate uber_bytes 0)) new.uber in subst (λ (o : Option Content). OnTold o (IsNewArea (replicate uber_bytes 0))) (sym (is ∙ u.1)) u.2)
+
+pub uber_new : (content : Option Content) → OnTold content (IsNewArea (replicate uber_bytes 0)) → OnTold content ubers.IsNewArea
+uber_new None zeros = tt
+uber_new (Some x) zeros = record { bytes = zeros.bytes_are; firm = zeros.firm ∙ length-replicate {A = ℕ} uber_bytes 0; soft = zeros.soft }
+
+rack_again : (geometry : Geometry) (o n : Option KitTold) → IsSomeAnd o (IsNewKit geometry) → rack_in n ≡ rack_in o → IsSomeAnd n (λ kit. IsNewRack geometry kit.rack)
+rack_again geometry None n new same = absurd new
+rack_again geometry (Some k) None new same = absurd (cc)
+rack_again geometry (Some k) (Some l) new same = (let e : k.rack ≡ l.rack = cc in subst (IsNewRack geometry) e new.rack)
+
+-- all that was made is held again
+made_held : (geometry : Geometry) (c : Option Content) (h n : Option Held) → OnHeld h (HasNewKits geometry) → OnHeld n (λ y. MatchOption h ⊥ (λ x. SameButRecords x y)) → OnTold c (IsNewArea (replicate uber_bytes 0))
+    → OnHeld (gives_uber c n) (HoldsMade geometry)
+made_held geometry None h n new b zeros = tt
+made_held geometry (Some u) h None new b zeros = tt
+made_held geometry (Some u) None (Some y) new b zeros = absurd b
+made_held geometry (Some u) (Some x) (Some y) new b zeros = record {
+  uber = zeros;
+  checks = subst (λ (o : Option ChecksTold). IsSomeAnd o AreNewChecks) (sym b.checks) new.checks;
+  kits = λ m below. rack_again geometry (x.kits m) (y.kits m) (new.kits m below) (b.kits m);
+}
+
+pub made_again : (geometry : Geometry) (c : Option Content) (h n last : Option Held) (before after final : ℕ → KitCounts) (now : OwnCounts) → OnHeld h (HasNewKits geometry) → ((m : ℕ) → m < geometry.props.metaslabs → IsUncounted (before m))
+    → IsBackAgain h n before after → OnTold c (IsNewArea (replicate uber_bytes 0)) → last ≡ gives_uber c n → ((m : ℕ) → final m ≡ after m) → now.uber ≡ 0 → NoChecks now → IsMade geometry last final now
+made_again geometry c h n last before after final now new uncounted back zeros gives kept uber checks = record {
+  held = subst (λ (o : Option Held). OnHeld o (HoldsMade geometry)) (sym gives) (made_held geometry c h n new back.held zeros);
+  counts = λ m who below. ap (λ (x : KitCounts). x.rack who) (kept m) ∙ (back.counts m who ∙ (uncounted m below).no_rack who);
+  uber = uber;
+  checks = checks;
+}
+
+rack_new : (geometry : Geometry) (o : Option KitTold) → IsSomeAnd o (IsNewKit geometry) → IsSomeAnd o (λ kit. IsNewRack geometry kit.rack)
+rack_new geometry None h = absurd h
+rack_new geometry (Some kit) h = h.rack
+
+new_held : (geometry : Geometry) (o : Option Held) → OnHeld o (IsNewPool geometry) → OnHeld o (HoldsMade geometry)
+new_held geometry None h = tt
+new_held geometry (Some x) h = record { uber = h.uber; checks = h.checks; kits = λ m below. rack_new geometry (x.kits m) (h.kits m below) }
+
+-- all that was made is held where nothing was taken of it
+pub made_untouched : (geometry : Geometry) (old new : Option Held) (before after : ℕ → KitCounts) (own : OwnCounts) → OnHeld old (IsNewPool geometry) → new ≡ old → ((m : ℕ) → m < geometry.props.metaslabs → IsUncounted (before m))
+    → ((m : ℕ) → after m ≡ before m) → own.uber ≡ 0 → NoChecks own → IsMade geometry new after own
+made_untouched geometry old new before after own made same uncounted kept uber checks = record {
+  held = subst (λ (o : Option Held). OnHeld o (HoldsMade geometry)) (sym same) (new_held geometry old made);
+  counts = λ m who below. ap (λ (c : KitCounts). c.rack who) (kept m) ∙ (uncounted m below).no_rack who;
+  uber = uber;
+  checks = checks;
+}

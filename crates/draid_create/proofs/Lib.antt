@@ -1,0 +1,5 @@
+pub mod Causes
+pub mod Creation
+pub mod FirstRecord
+pub mod Fresh
+pub mod Opened

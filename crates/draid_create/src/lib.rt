@@ -1,0 +1,9 @@
+//! A pool is created: the devices are made on a shelf, each metaslab is opened over its own, and group 1 is committed.
+
+#![tactic(auto)]
+
+mod metaslab;
+mod opening;
+
+pub use metaslab::create_metaslab;
+pub use opening::create;

@@ -1,6 +1,0 @@
-pub mod Changes
-pub mod Committing
-pub mod Counting
-pub mod Groups
-pub mod Reopening
-pub mod Sealing

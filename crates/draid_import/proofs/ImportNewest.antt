@@ -1,0 +1,306 @@
+-- A pool whose table has the newest block of each object that an import finds.
+use Rattle.std.proofs.Common.{arith, ◌≡◌, ◌≤◌, ◌∙◌, ◌⊎◌, inl, inr, ℕ, List, Option, Some, None, length, refl, sym, ap, subst}
+use Rattle.std.specs.Prelude.{nat_eq, slice_get}
+use Rattle.std.specs.HashMap.{get}
+use Rattle.std.proofs.lemmas.Bool.{cases_lt}
+use Rattle.std.proofs.lemmas.Option.{slice_get_within}
+use Rattle.sha2.specs.Sha256.{sha256}
+use Rattle.draid_names.specs.declared.pointer.Pointer.{Pointer}
+use Rattle.draid_rack.specs.declared.Rack as racks
+use Rattle.draid_area.specs.declared.Area as areas
+use Rattle.draid_machine.specs.declared.names.Held.{Held}
+use Rattle.draid_machine.specs.declared.names.Key.{Key}
+use Rattle.draid_machine.specs.declared.names.Stage.TheVariants as stage
+use Rattle.draid_objects.specs.Blocks.{Blocks, IsGreatest}
+use Rattle.draid_objects.specs.Changes as changes
+use Rattle.draid_objects.specs.Changes.{Write, write_by, write_of}
+use Rattle.draid_objects.specs.Stores.{IsBlockOf}
+use Rattle.draid_objects.proofs.Imaging.{greatest_none, greatest_some, last_live}
+use Rattle.draid_objects.proofs.Sealing.{is_some_of, live_block}
+use Rattle.draid_objects.proofs.Sealing as sealing
+use Rattle.draid_segments.specs.Segments.{Pieces}
+use Rattle.draid_entries.specs.declared.entry.Entry.{Entry}
+use Rattle.draid_entries.specs.Entries.{entry_at}
+use Rattle.draid_entries.specs.Maps.{held_at, key_of, staged}
+use Rattle.draid_shard.specs.Calls.{IsLive}
+use Rattle.draid_shard.specs.Part.{Part}
+use Rattle.draid_shard.specs.States.{IsIn}
+use Rattle.draid_shard.specs.declared.shard.Shard.{Shard}
+use Rattle.draid_shard.proofs.Held.{HasEntry, held_entry, key_leads}
+use Rattle.draid_uber.specs.Uber.{layout_of}
+use Rattle.draid_uber.specs.declared.uber.Uber.{Uber}
+use Rattle.draid_session.specs.Opening.{Finds, FreesOlder, Imports, IsLastSeq, IsOlder}
+use Rattle.draid_session.specs.State.{Metaslab, State, Store}
+use Rattle.draid_import.specs.Imported.{AreNewest, FreedOlder, IsLastIn, IsNewestIn, IsNewestOf, SaysObjects}
+use Rattle.draid_import.specs.Importing.{ImportsPool}
+use Rattle.draid_pool.specs.Objects.{HoldsObjects, IsLastAt, IsPointerOf, PointsTo, blocks_of}
+use Rattle.draid_pool.specs.Pools.{Represents}
+use Rattle.draid_pool.specs.Ubers.{IsUber}
+use Rattle.draid_pool.specs.declared.pool.Pool.{Pool}
+use Rattle.draid_import.proofs.ImportFound.{held_there}
+use Rattle.draid_import.proofs.ImportOlder.{frees_older}
+use Rattle.draid_pool.proofs.Lists.{present, some_of}
+use Rattle.draid_pool.proofs.Lives.{held_by, live_by}
+use Rattle.draid_pool.proofs.Moved.{blocks_at}
+
+-- ---- pointers
+
+-- a pointer is known by its key, its metaslab and what a state has of its block
+same_pointer : (p q : Pointer) → key_of p ≡ key_of q → held_at (staged stage.Live p) ≡ held_at (staged stage.Live q) → p.metaslab ≡ q.metaslab → p ≡ q
+same_pointer p q key held metaslab = λ i. record {
+  object = (key i).object;
+  seq = (key i).seq;
+  metaslab = metaslab i;
+  first = (held i).first;
+  stripes = (held i).stripes;
+  len = (held i).len;
+  birth = (held i).birth;
+  digest = (held i).digest;
+}
+
+-- the newest block of an object has the greatest number
+pub is_greatest : (blocks : Blocks) (newest : ℕ → Option Pointer) (object : ℕ) (p : Pointer) → IsNewestOf blocks newest → newest object ≡ Some p → IsGreatest blocks (key_of p)
+is_greatest blocks newest object p n is m k same some =
+    let h = sealing.some_of (blocks m k) some in
+    let q = n.greatest m k h.0 h.1 in
+    let at : newest object ≡ Some q.0 = ap newest (sym (same ∙ n.own object p is)) ∙ q.1 in
+    let equal : q.0 ≡ p = some_of (newest object) q.0 p at is in
+    subst (λ (r : Pointer). k.seq ≤ r.seq) equal q.2
+
+-- where none is noted of an object, it has no block
+none_there : (blocks : Blocks) (newest : ℕ → Option Pointer) (object : ℕ) → IsNewestOf blocks newest → newest object ≡ None → (m : ℕ) (k : Key) → k.object ≡ object → blocks m k ≡ None
+none_there blocks newest object n none m k same = by (blocks m k) refl
+  where
+    by : (o : Option Held) → blocks m k ≡ o → blocks m k ≡ None
+    by None is = is
+    by (Some h) is =
+        let q = n.greatest m k h is in
+        let at : newest object ≡ Some q.0 = ap newest (sym same) ∙ q.1 in
+        let both = sym none ∙ at in
+        absurd (cc)
+
+module _ {R A : Type 0} (rack : racks.Ghosts R) (area : areas.Ghosts A) where
+  -- ---- what shards have, as states have it
+
+  module _ (shards : List (Shard R A)) (x : State) (many : length shards ≡ length x.metaslabs)
+      (in_state : (m : ℕ) (shard : Shard R A) (y : Metaslab) → slice_get shards m ≡ Some shard → slice_get x.metaslabs m ≡ Some y → IsIn shard y.world) where
+    shard_there : (m : ℕ) (y : Metaslab) → slice_get x.metaslabs m ≡ Some y → (shard : Shard R A) × (slice_get shards m ≡ Some shard)
+    shard_there m y at = (let within = slice_get_within x.metaslabs m y at in present shards m (omega (arith, within, many)))
+
+    state_there : (m : ℕ) (shard : Shard R A) → slice_get shards m ≡ Some shard → (y : Metaslab) × (slice_get x.metaslabs m ≡ Some y)
+    state_there m shard at = (let within = slice_get_within shards m shard at in present x.metaslabs m (omega (arith, within, many)))
+
+    -- the entry of a block that is held
+    pub record Found (m : ℕ) (k : Key) (h : Held) : Type 0 where
+      pub shard : Shard R A
+      pub at : slice_get shards m ≡ Some shard
+      pub y : Metaslab
+      pub there : slice_get x.metaslabs m ≡ Some y
+      pub entry : HasEntry shard.entries k h
+
+    pub found : (m : ℕ) (k : Key) (h : Held) → blocks_of x.metaslabs m k ≡ Some h → Found m k h
+    found m k h is =
+        let z = held_there x.metaslabs m k h is in
+        let s = shard_there m z.0 z.1 in
+        record { shard = s.0; at = s.1; y = z.0; there = z.1; entry = held_entry s.0.entries k h (sym ((in_state m s.0 z.0 s.1 z.1).held k) ∙ z.2) }
+
+    pub last_in : (seq : ℕ) → IsLastIn shards seq → IsLastSeq x seq
+    last_in seq l = record {
+      one = by l.one;
+      all = λ m y k h at held.
+          (let f = found m k h (blocks_at x.metaslabs m y k at ∙ held) in
+          subst (λ (j : Key). j.seq ≤ seq) f.entry.key_is (l.all m f.shard h.first f.entry.e f.at f.entry.there));
+    }
+      where
+        by : (seq ≡ 0) ⊎ ((m : ℕ) × (shard : Shard R A) × (first : ℕ) × (e : Entry) × (slice_get shards m ≡ Some shard) × (entry_at shard.entries first ≡ Some e) × (seq ≡ e.pointer.seq))
+            → (seq ≡ 0) ⊎ ((m : ℕ) × (y : Metaslab) × (k : Key) × (h : Held) × (slice_get x.metaslabs m ≡ Some y) × (y.world.core.held k ≡ Some h) × (seq ≡ k.seq))
+        by (inl none) = inl none
+        by (inr z) =
+            let y = state_there z.0 z.1 z.4 in
+            inr (z.0, y.0, key_of z.3.pointer, held_at z.3, y.1, (in_state z.0 z.1 y.0 z.4 y.1).held (key_of z.3.pointer) ∙ key_leads z.1.entries z.2 z.3 z.5, z.6)
+
+    pub newest_of : (newest : ℕ → Option Pointer) → IsNewestIn shards newest → IsNewestOf (blocks_of x.metaslabs) newest
+    newest_of newest n = record {
+      own = n.own;
+      there = λ object p is.
+          (let s = n.live object p is in
+          let y = state_there p.metaslab s.0 s.1 in
+          blocks_at x.metaslabs p.metaslab y.0 (key_of p) y.1 ∙ held_by s.0 y.0.world p (in_state p.metaslab s.0 y.0 s.1 y.1) s.2);
+      greatest = λ m k h is.
+          (let f = found m k h is in
+          let g = n.greatest m f.shard h.first f.entry.e f.at f.entry.there in
+          (g.0, ap (λ (j : Key). newest j.object) (sym f.entry.key_is) ∙ g.1, subst (λ (j : Key). j.seq ≤ g.0.seq) f.entry.key_is g.2));
+    }
+
+  -- ---- the end
+
+  module _ (mid : State) (uber : Uber A) (pieces : ℕ → Pieces) (says : SaysObjects mid) (holds : HoldsObjects mid.geometry mid.committed mid.store (blocks_of mid.metaslabs) pieces)
+      (all_live : (m : ℕ) (k : Key) (h : Held) → blocks_of mid.metaslabs m k ≡ Some h → h.stage ≡ stage.Live) (newest : ℕ → Option Pointer) (n : IsNewestOf (blocks_of mid.metaslabs) newest)
+      (shards : List (Shard R A)) (s : FreedOlder rack area mid shards uber pieces) where
+    abbrev x : State
+    x = s.reached
+
+    in_reached : (m : ℕ) (shard : Shard R A) (y : Metaslab) → slice_get shards m ≡ Some shard → slice_get x.metaslabs m ≡ Some y → IsIn shard y.world
+    in_reached m shard y at there = (s.stands.each m shard y at there).stands.is_in
+
+    y_at : (m : ℕ) (shard : Shard R A) → slice_get shards m ≡ Some shard → (y : Metaslab) × (slice_get x.metaslabs m ≡ Some y)
+    y_at m shard at = state_there shards x s.stands.shards_are in_reached m shard at
+
+    -- the newest has no later one
+    not_older : (object : ℕ) (p : Pointer) → newest object ≡ Some p → IsOlder mid (key_of p) → ⊥
+    not_older object p is older =
+        let most = is_greatest (blocks_of mid.metaslabs) newest object p n is older.m older.later older.same
+        (is_some_of (blocks_of mid.metaslabs older.m older.later) older.held (blocks_at mid.metaslabs older.m older.y older.later older.there ∙ older.found)) in
+        let greater = older.greater in
+        omega (arith, most, greater)
+
+    one_metaslab : (m o : ℕ) (k j : Key) (g h : Held) → k ≡ j → blocks_of mid.metaslabs m k ≡ Some g → blocks_of mid.metaslabs o j ≡ Some h → m ≡ o
+    one_metaslab m o k j g h same a b =
+        let v = holds.stores.only m k g a (live_block g.stage (all_live m k g a)) in
+        let w = holds.stores.only o j h b (live_block h.stage (all_live o j h b)) in
+        let equal : v.0 ≡ w.0 = some_of (write_by mid.store.changes j) v.0 w.0 (ap (write_by mid.store.changes) (sym same) ∙ v.1) w.1 in
+        sym v.2 ∙ (ap (λ (z : Write). z.metaslab) equal ∙ w.2)
+
+    -- a live block that isn't the newest of its object has a later one
+    pub older_by : (m : ℕ) (shard : Shard R A) (p : Pointer) → slice_get shards m ≡ Some shard → IsLive shard p → p.metaslab ≡ m → (newest p.object ≡ Some p → ⊥) → IsOlder mid (key_of p)
+    older_by m shard p at live here other = elim (cases_lt p.seq q.0.seq) [
+      | inl less ↦
+          let z = held_there mid.metaslabs q.0.metaslab (key_of q.0) (held_at (staged stage.Live q.0)) (n.there p.object q.0 q.1) in
+          record { m = q.0.metaslab; y = z.0; later = key_of q.0; held = held_at (staged stage.Live q.0); there = z.1; found = z.2; same = own; greater = less }
+      | inr over ↦ absurd (other (q.1 ∙ ap Some (sym (equal over))))
+    ]
+      where
+        y : (y : Metaslab) × (slice_get x.metaslabs m ≡ Some y)
+        y = y_at m shard at
+
+        there : blocks_of mid.metaslabs m (key_of p) ≡ Some (held_at (staged stage.Live p))
+        there = s.kept m (key_of p) (held_at (staged stage.Live p)) (blocks_at x.metaslabs m y.0 (key_of p) y.1 ∙ held_by shard y.0.world p (in_reached m shard y.0 at y.1) live) refl
+
+        q : (q : Pointer) × (newest p.object ≡ Some q) × (p.seq ≤ q.seq)
+        q = n.greatest m (key_of p) (held_at (staged stage.Live p)) there
+
+        own : q.0.object ≡ p.object
+        own = n.own p.object q.0 q.1
+
+        equal : q.0.seq ≤ p.seq → p ≡ q.0
+        equal over =
+            let low = q.2 in
+            let seq : p.seq ≡ q.0.seq = omega (arith, over, low) in
+            let key : key_of p ≡ key_of q.0 = (λ i. record { object = sym own i; seq = seq i }) in
+            let it = n.there p.object q.0 q.1 in
+            let metaslab : m ≡ q.0.metaslab = one_metaslab m q.0.metaslab (key_of p) (key_of q.0) (held_at (staged stage.Live p)) (held_at (staged stage.Live q.0)) key there it in
+            same_pointer p q.0 key
+            (some_of (blocks_of mid.metaslabs q.0.metaslab (key_of q.0)) (held_at (staged stage.Live p)) (held_at (staged stage.Live q.0)) ((λ i. blocks_of mid.metaslabs (sym metaslab i) (sym key i)) ∙ there) it)
+            (here ∙ metaslab)
+
+    module _ (only : AreNewest shards newest) where
+      -- what is live yet is the newest of its object
+      left : (m : ℕ) (k : Key) (h : Held) → blocks_of x.metaslabs m k ≡ Some h → h.stage ≡ stage.Live → (p : Pointer) × (newest k.object ≡ Some p) × (key_of p ≡ k) × (p.metaslab ≡ m)
+      left m k h is live =
+          let f = found shards x s.stands.shards_are in_reached m k h is in
+          let is_newest = only m f.shard h.first f.entry.e f.at f.entry.there (ap (λ (i : Held). i.stage) f.entry.held_is ∙ live) in
+          let it = s.stands.each m f.shard f.y f.at f.there in (
+            f.entry.e.pointer,
+            ap (λ (j : Key). newest j.object) (sym f.entry.key_is) ∙ is_newest,
+            f.entry.key_is,
+            it.valid.here.each h.first f.entry.e f.entry.there ∙ ap (λ (p : Part). p.number) it.part_is,
+          )
+
+      -- the write that a newest block is of
+      write_at : (object : ℕ) (p : Pointer) → newest object ≡ Some p → (w : Write) × (write_of mid.store.changes object ≡ Some w) × (w.metaslab ≡ p.metaslab) × (changes.key_of w ≡ key_of p)
+      write_at object p is = greatest_some (blocks_of mid.metaslabs) object p.metaslab (key_of p) (write_of mid.store.changes object) (says object) (n.own object p is)
+          (is_some_of (blocks_of mid.metaslabs p.metaslab (key_of p)) (held_at (staged stage.Live p)) (n.there object p is)) (is_greatest (blocks_of mid.metaslabs) newest object p n is)
+
+      -- and it is live still
+      stays : (object : ℕ) (p : Pointer) → newest object ≡ Some p → blocks_of x.metaslabs p.metaslab (key_of p) ≡ Some (held_at (staged stage.Live p))
+      stays object p is = elim (s.each p.metaslab (key_of p) (held_at (staged stage.Live p)) (n.there object p is)) [
+        | inl gone ↦ absurd (not_older object p is (frees_older mid mid.committed p.metaslab (key_of p) s.holds s.older gone))
+        | inr there ↦ there
+      ]
+
+      pointer_of : (object : ℕ) (p : Pointer) (w : Write) → newest object ≡ Some p → write_of mid.store.changes object ≡ Some w → w.metaslab ≡ p.metaslab → changes.key_of w ≡ key_of p → IsPointerOf shards p w
+      pointer_of object p w is last here key =
+          let h = last_live sha256 mid.committed object mid.store.changes (blocks_of mid.metaslabs) w holds.stores last in
+          let same : h.0 ≡ held_at (staged stage.Live p)
+          = some_of (blocks_of mid.metaslabs p.metaslab (key_of p)) h.0 (held_at (staged stage.Live p)) ((λ i. blocks_of mid.metaslabs (sym here i) (sym key i)) ∙ h.1) (n.there object p is) in
+          let of : IsBlockOf sha256 w (held_at (staged stage.Live p)) = subst (IsBlockOf sha256 w) same h.3 in
+          let z = held_there x.metaslabs p.metaslab (key_of p) (held_at (staged stage.Live p)) (stays object p is) in
+          let at = shard_there shards x s.stands.shards_are in_reached p.metaslab z.0 z.1 in
+          let it = s.stands.each p.metaslab at.0 z.0 at.1 z.1 in
+          record {
+            object_is = ap (λ (k : Key). k.object) (sym key);
+            seq_is = ap (λ (k : Key). k.seq) (sym key);
+            metaslab_is = sym here;
+            birth_is = of.birth;
+            len_is = of.len;
+            digest_is = of.digest_is;
+            shard = at.0;
+            there = at.1;
+            live = live_by rack at.0 z.0.world p it.valid it.stands.is_in z.2 (sym (ap (λ (q : Part). q.number) it.part_is));
+          }
+
+      points : (object : ℕ) → PointsTo shards (newest object) (write_of mid.store.changes object)
+      points object = by (newest object) refl
+        where
+          by : (o : Option Pointer) → newest object ≡ o → PointsTo shards (newest object) (write_of mid.store.changes object)
+          by None is =
+              let none = greatest_none (blocks_of mid.metaslabs) object (write_of mid.store.changes object) (says object) (none_there (blocks_of mid.metaslabs) newest object n is) in
+              subst (λ o. PointsTo shards o (write_of mid.store.changes object)) (sym is) (subst (PointsTo shards None) (sym none) tt)
+          by (Some p) is =
+              let w = write_at object p is in
+              subst (λ o. PointsTo shards o (write_of mid.store.changes object)) (sym is) (subst (PointsTo shards (Some p)) (sym w.1) (pointer_of object p w.0 is w.1 w.2 w.3))
+
+      pub import_stands : (pool : Pool R A) → pool.shards.items ≡ shards → pool.uber ≡ uber → pool.geometry ≡ layout_of uber → pool.seq ≡ mid.store.seq → pool.floor ≡ mid.store.floor
+          → ((object : ℕ) → get nat_eq pool.objects object ≡ newest object) → Represents rack area pool x
+      import_stands pool items uber_is layout seq floor table = record {
+        stands = record {
+          geometry = sym s.stands.uber_is.layout ∙ sym layout;
+          layout = s.stands.layout;
+          many = s.stands.many;
+          shards = ap (λ zs. length zs) items ∙ s.stands.shards_are;
+          pieces = pieces;
+          each = λ m shard y at there. s.stands.each m shard y (sym (ap (λ zs. slice_get zs m) items) ∙ at) there;
+          holds = s.stands.holds;
+          groups = s.stands.groups;
+          objects = λ object. subst (λ zs. PointsTo zs (get nat_eq pool.objects object) (write_of x.store.changes object)) (sym items)
+              (subst (λ o. PointsTo shards o (write_of x.store.changes object)) (sym (table object))
+              (subst (λ (z : Store). PointsTo shards (newest object) (write_of z.changes object)) (sym s.same_store) (points object)));
+          seq = ap (λ (z : Store). z.seq) s.same_store ∙ sym seq;
+          floor = ap (λ (z : Store). z.floor) s.same_store ∙ sym floor;
+          uber = subst (λ u. IsUber area u x) (sym uber_is) s.stands.uber_is;
+          images = s.stands.images;
+          leaves = s.stands.leaves;
+          arms = s.stands.arms;
+          alike = s.stands.alike;
+        };
+        only = λ m k h is live.
+            (let p = left m k h is live in
+            let w = write_at k.object p.0 p.1 in
+            subst (IsLastAt m k) (sym (ap (λ (z : Store). write_of z.changes k.object) s.same_store ∙ w.1)) (w.2 ∙ p.3, w.3 ∙ p.2));
+      }
+
+      -- the import, of a pool that rested on the shelf
+      pub imports : (before : State) (group : ℕ) → Finds before group mid → IsLastSeq mid mid.store.seq → Imports before group x
+      imports before group finds seq = record {
+        mid = mid;
+        finds = finds;
+        seq = seq;
+        holds = s.holds;
+        older = subst (λ g. FreesOlder mid g s.holds) finds.committed s.older;
+        all = λ m y key h at held older. elim (s.each m key h (blocks_at mid.metaslabs m y key at ∙ held)) [
+          | inl gone ↦ gone
+          | inr there ↦
+              let p = left m key h there (all_live m key h (blocks_at mid.metaslabs m y key at ∙ held)) in
+              absurd (not_older key.object p.0 p.1 (subst (IsOlder mid) (sym p.2) older))
+        ];
+        follows = s.follows;
+      }
+
+      pub imports_pool : (before : State) (group : ℕ) (pool : Pool R A) → Finds before group mid → IsLastSeq mid mid.store.seq → pool.shards.items ≡ shards → pool.uber ≡ uber → pool.geometry ≡ layout_of uber
+          → pool.seq ≡ mid.store.seq → pool.floor ≡ mid.store.floor → ((object : ℕ) → get nat_eq pool.objects object ≡ newest object) → ImportsPool rack area before pool
+      imports_pool before group pool finds last items uber_is layout seq floor table = record {
+        group = group;
+        new = x;
+        imports = imports before group finds last;
+        represents = import_stands pool items uber_is layout seq floor table;
+      }

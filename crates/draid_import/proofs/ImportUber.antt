@@ -1,0 +1,187 @@
+-- The uberblock of a pool that rests on a shelf, as an import finds it.
+use Rattle.std.proofs.Common.{arith, ◌≡◌, ◌==◌, ◌≤◌, ◌∙◌, inl, inr, Bool, true, false, [], Option, Some, None, Result, Ok, Err, length, option_map, refl, sym, ap, subst, if◌then◌else◌}
+use Rattle.std.specs.Prelude.{MatchOption, ⊤}
+use Rattle.std.proofs.lemmas.Bool.Decides.{nat_tests}
+use Rattle.std.proofs.lemmas.List.Elements.{All-contains, All-nil}
+use Rattle.draid_area.specs.Area.{Content, flushes}
+use Rattle.draid_area.specs.declared.Area as areas
+use Rattle.draid_area.proofs.Moments.{leaves_all}
+use Rattle.draid_record.specs.declared.fault.RecordFault.{RecordFault}
+use Rattle.draid_record.specs.declared.uber.UberBody.{UberBody}
+use Rattle.draid_spec.specs.declared.layout.Geometry.{Geometry}
+use Rattle.draid_spec.specs.Geometry.{IsGeometry, geometry_of}
+use Rattle.draid_spec.specs.declared.spec.SpecFault.{SpecFault}
+use Rattle.draid_spec.proofs.Layouts.{given_layout}
+use Rattle.draid_uber.specs.Slots.{Chooses, IsLeft, StandsTold, chosen_of, read_body}
+use Rattle.draid_uber.specs.Steps.{IsSameOrFlushed}
+use Rattle.draid_uber.specs.Uber.{Valid, area_of, kept_of, layout_of, next_leaf_of, version_of}
+use Rattle.draid_uber.specs.declared.uber.Uber.{Uber}
+use Rattle.draid_uber.proofs.Imports.{import_takes}
+use Rattle.draid_session.specs.State.{State}
+use Rattle.draid_import.specs.Imported.{FindsBody}
+use Rattle.draid_pool.specs.Ubers.{IsPending, IsUber, UberStands, body_of, kept_in}
+
+abbrev Chosen : Type 0
+Chosen = Option (Result UberBody RecordFault)
+
+some_body : (a b : UberBody) → Some a ≡ Some b → a ≡ b
+some_body a b is = cc
+
+same_body : (a b : UberBody) (o : Chosen) → o ≡ Some (Ok a) → o ≡ Some (Ok b) → a ≡ b
+same_body a b o is other = (let h = sym is ∙ other in cc)
+
+read_some : (kept : Option UberBody) (body : UberBody) (o : Chosen) → o ≡ Some (Ok body) → o ≡ option_map read_body kept → kept ≡ Some body
+read_some None body o is chosen = (let h = sym is ∙ chosen in absurd (cc))
+read_some (Some k) body o is chosen = ap (λ (b : UberBody). Some b) (same_body k body o chosen is)
+
+read_none : (kept : Option UberBody) (o : Chosen) → o ≡ None → o ≡ option_map read_body kept → kept ≡ None
+read_none None o is chosen = refl
+read_none (Some k) o is chosen = (let h = sym is ∙ chosen in absurd (cc))
+
+read_bad : (kept : Option UberBody) (why : RecordFault) (o : Chosen) → o ≡ Some (Err why) → o ≡ option_map read_body kept → ⊥
+read_bad None why o is chosen = (let h = sym is ∙ chosen in absurd (cc))
+read_bad (Some k) why o is chosen = (let h = sym is ∙ chosen in absurd (cc))
+
+-- ---- the body
+
+module _ (x : State) where
+  -- that of the committed group
+  committed_body : (body : UberBody) → kept_in x ≡ Some body → FindsBody x body
+  committed_body body is = by (x.committed == 0) refl is
+    where
+      found : (x.committed == 0) ≡ false → body_of x.geometry x.committed x.kept_leaf ≡ body → FindsBody x body
+      found some same = subst (FindsBody x) same (record {
+        may = inl refl;
+        some = grind (arith, nat_tests, some);
+        leaf = inl (refl, refl);
+        is = refl;
+      })
+
+      by : (b : Bool) → (x.committed == 0) ≡ b → (if b then None else Some (body_of x.geometry x.committed x.kept_leaf)) ≡ Some body → FindsBody x body
+      by true none same = absurd (cc)
+      by false some same = found some (some_body (body_of x.geometry x.committed x.kept_leaf) body same)
+
+  -- that of a commit which was refused
+  pending_body : (body : UberBody) → IsPending x body → FindsBody x body
+  pending_body body is = subst (FindsBody x) (sym is.1) (record {
+    may = inr (is.0, refl);
+    some = omega arith;
+    leaf = inr (refl, refl);
+    is = refl;
+  })
+
+  none_committed : kept_in x ≡ None → x.committed ≡ 0
+  none_committed is = by (x.committed == 0) refl is
+    where
+      by : (b : Bool) → (x.committed == 0) ≡ b → (if b then None else Some (body_of x.geometry x.committed x.kept_leaf)) ≡ None → x.committed ≡ 0
+      by true zero same = grind (arith, nat_tests, zero)
+      by false some same = absurd (cc)
+
+  module _ (c : Content) (stands : UberStands x (Some c)) (counted : c.firm ≤ length c.bytes) where
+    takes : Chooses (kept_in x) stands.pending (chosen_of c.bytes)
+    takes = import_takes (kept_in x) stands.pending c stands.stands counted
+
+    pub found_body : (body : UberBody) → chosen_of c.bytes ≡ Some (Ok body) → FindsBody x body
+    found_body body is = by takes
+      where
+        by : Chooses (kept_in x) stands.pending (chosen_of c.bytes) → FindsBody x body
+        by (inl kept) = committed_body body (read_some (kept_in x) body (chosen_of c.bytes) is kept)
+        by (inr p) =
+            let same : p.0 ≡ body = same_body p.0 body (chosen_of c.bytes) p.2 is in
+            subst (FindsBody x) same (pending_body p.0 (All-contains (IsPending x) stands.pending p.0 stands.are p.1))
+
+    -- no gate is open only where no group was committed
+    pub found_none : chosen_of c.bytes ≡ None → x.committed ≡ 0
+    found_none is = by takes
+      where
+        by : Chooses (kept_in x) stands.pending (chosen_of c.bytes) → x.committed ≡ 0
+        by (inl kept) = none_committed (read_none (kept_in x) (chosen_of c.bytes) is kept)
+        by (inr p) = (let h = sym is ∙ p.2 in absurd (cc))
+
+    -- no body has a fault
+    pub found_bad : (why : RecordFault) → chosen_of c.bytes ≡ Some (Err why) → ⊥
+    found_bad why is = by takes
+      where
+        by : Chooses (kept_in x) stands.pending (chosen_of c.bytes) → ⊥
+        by (inl kept) = read_bad (kept_in x) why (chosen_of c.bytes) is kept
+        by (inr p) = (let h = sym is ∙ p.2 in absurd (cc))
+
+    left : IsLeft (kept_in x) stands.pending c.bytes
+    left = stands.stands c.bytes (record { same = λ i d soft. refl; least = counted; most = omega arith })
+
+    -- a flush leaves it as it was
+    pub flushed_stands : UberStands x (Some (flushes c))
+    flushed_stands = record {
+      pending = stands.pending;
+      are = stands.are;
+      stands = λ bytes may. subst (IsLeft (kept_in x) stands.pending) (sym (leaves_all (flushes c) bytes (λ i. refl) refl may)) left;
+    }
+
+    -- and where no gate is open then, nothing is left of a commit that was refused
+    pub flushed_none : chosen_of c.bytes ≡ None → UberStands (record x { pending = false }) (Some (flushes c))
+    flushed_none is = record {
+      pending = [];
+      are = All-nil (IsPending (record x { pending = false }));
+      stands = λ bytes may. subst (IsLeft (kept_in x) []) (sym (leaves_all (flushes c) bytes (λ i. refl) refl may))
+          (record { long = left.long; kept_is = left.kept_is; chosen = inl (is ∙ none_of (read_none_kept is)) });
+    }
+      where
+        none_of : kept_in x ≡ None → None ≡ option_map read_body (kept_in x)
+        none_of none = ap (option_map read_body) (sym none)
+
+        read_none_kept : chosen_of c.bytes ≡ None → kept_in x ≡ None
+        read_none_kept none = by takes
+          where
+            by : Chooses (kept_in x) stands.pending (chosen_of c.bytes) → kept_in x ≡ None
+            by (inl kept) = read_none (kept_in x) (chosen_of c.bytes) none kept
+            by (inr p) = (let h = sym none ∙ p.2 in absurd (cc))
+
+-- an area that was left alone, or flushed
+pub refused_stands : (x : State) (c : Content) (new : Option Content) → UberStands x (Some c) → c.firm ≤ length c.bytes → IsSameOrFlushed (Some c) new → UberStands x new
+refused_stands x c new stands counted (inl same) = subst (UberStands x) (sym same) stands
+refused_stands x c new stands counted (inr flushed) = subst (UberStands x) (sym flushed) (flushed_stands x c stands counted)
+
+-- ---- the uberblock
+
+abbrev given : Geometry → Result Geometry SpecFault
+given geometry = Ok geometry
+
+given_is : (g h : Geometry) → given g ≡ given h → g ≡ h
+given_is g h is = cc
+
+-- a spec and properties have one layout
+pub one_layout : (g h : Geometry) → IsGeometry g → IsGeometry h → g.spec ≡ h.spec → g.props ≡ h.props → g ≡ h
+one_layout g h one other spec props = given_is g h (sym (given_layout g one) ∙ ((λ i. geometry_of (spec i) (props i)) ∙ given_layout h other))
+
+kept_layout : (kept : Option UberBody) (body : UberBody) (geometry : Geometry) → kept ≡ Some body → MatchOption kept ⊤ (λ b. (b.spec ≡ geometry.spec) × (b.props ≡ geometry.props))
+    → (body.spec ≡ geometry.spec) × (body.props ≡ geometry.props)
+kept_layout None body geometry is fits = absurd (cc)
+kept_layout (Some b) body geometry is fits = subst (λ (b : UberBody). (b.spec ≡ geometry.spec) × (b.props ≡ geometry.props)) (some_body b body is) fits
+
+-- what the state has there which is found with it
+pub found_kept : (x mid : State) (body : UberBody) → FindsBody x body → mid.geometry ≡ x.geometry → mid.committed ≡ body.group → mid.kept_leaf ≡ body.next_leaf → kept_in mid ≡ Some body
+found_kept x mid body finds geometry committed kept_leaf = by (mid.committed == 0) refl
+  where
+    by : (b : Bool) → (mid.committed == 0) ≡ b → (if b then None else Some (body_of mid.geometry mid.committed mid.kept_leaf)) ≡ Some body
+    by true zero = absurd (let some = finds.some in grind (arith, nat_tests, zero, some, committed))
+    by false some = ap (λ (b : UberBody). Some b) ((λ i. body_of (geometry i) (committed i) (kept_leaf i)) ∙ sym finds.is)
+
+module _ {A : Type 0} (area : areas.Ghosts A) (x mid : State) (uber : Uber A) (body : UberBody) (valid : Valid area.size uber) (kept : kept_of uber ≡ Some body) (finds : FindsBody x body)
+    (whole : IsGeometry x.geometry) where
+  pub found_layout : layout_of uber ≡ x.geometry
+  found_layout =
+      let fits = kept_layout (kept_of uber) body (layout_of uber) kept valid.held.kept_is in
+      one_layout (layout_of uber) x.geometry valid.held.layout_is whole (sym fits.0 ∙ ap (λ (b : UberBody). b.spec) finds.is) (sym fits.1 ∙ ap (λ (b : UberBody). b.props) finds.is)
+
+  -- it is that of the state which is found with it
+  pub found_uber : version_of uber ≡ body.props.version → next_leaf_of uber ≡ body.next_leaf → StandsTold (kept_of uber) [] (area.told (area_of uber))
+      → mid.geometry ≡ x.geometry → mid.committed ≡ body.group → mid.kept_leaf ≡ body.next_leaf → mid.next_leaf ≡ body.next_leaf → mid.uber_count ≡ area.faults (area_of uber) → IsUber area uber mid
+  found_uber version next stands geometry committed kept_leaf next_leaf count = record {
+    valid = valid;
+    layout = found_layout ∙ sym geometry;
+    version = version ∙ (ap (λ (b : UberBody). b.props.version) finds.is ∙ ap (λ (g : Geometry). g.props.version) (sym geometry));
+    kept = kept ∙ sym (found_kept x mid body finds geometry committed kept_leaf);
+    next_leaf = next ∙ sym next_leaf;
+    count = count;
+    stands = record { pending = []; are = All-nil (IsPending mid); stands = subst (λ (k : Option UberBody). StandsTold k [] (area.told (area_of uber))) (kept ∙ sym (found_kept x mid body finds geometry committed kept_leaf)) stands };
+  }

@@ -1,0 +1,6 @@
+pub mod Faulty
+pub mod Findings
+pub mod Found
+pub mod Imported
+pub mod Importing
+pub mod Reopening

@@ -1,0 +1,395 @@
+//! A pool is imported from what was given back to a shelf: its uberblock is found, each metaslab is opened from the
+//! record of the group that it names, and of each object the block with the greatest number counts.
+ghost use Rattle.std.specs.Prelude.{◌≡◌, ◌<◌, ◌≤◌, ◌+◌, ◌⊎◌, ◌↔◌, ℕ, None, Some, Err, IfErr, IfOk, IsErrOf, IsSome, IsSomeAnd, IsTrue, OnErr, OnOk, is_some, length, nat_eq, slice_get, Option};
+ghost use Rattle.std.specs.HashMap.{get};
+ghost use Rattle.draid_names.specs.Faults.{Rose};
+ghost use Rattle.draid_names.specs.declared.numbers.TheConstants.{LAST_NUMBER};
+ghost use Rattle.draid_area.specs.Area.{IsOfSize, OnTold};
+ghost use Rattle.draid_rack.specs.Rack.{Shape};
+ghost use Rattle.draid_map.specs.Place.{IsLayout};
+ghost use Rattle.draid_spec.specs.declared.layout.Geometry.{Geometry};
+ghost use Rattle.draid_shelf.specs.Kits.{Held, KitCounts, OnHeld, takes_kit, takes_uber};
+ghost use Rattle.draid_shelf.specs.Shelf.{SameOthers};
+ghost use Rattle.draid_shard.specs.Calls.{IsLive};
+ghost use Rattle.draid_shard.specs.Fits.{Valid};
+ghost use Rattle.draid_shard.specs.declared.shard.Shard.{Shard};
+ghost use Rattle.draid_uber.specs.Slots.{group_of};
+ghost use Rattle.draid_uber.specs.Uber.{kept_of, layout_of, next_leaf_of};
+ghost use Rattle.draid_segments.specs.Segments.{Pieces};
+ghost use Rattle.draid_session.specs.State.{State, limit_of};
+ghost use Rattle.draid_import.specs.Faulty.{HoldsNoGroup, IsUnread, OneIsUnread, RecordIsBad, TellsBody, UberIsBad};
+ghost use Rattle.draid_import.specs.Findings.{IsMadeOf, IsReadPool, LeavesAll};
+ghost use Rattle.draid_import.specs.Imported.{AreNewest, IsFoundOf};
+ghost use Rattle.draid_import.specs.Importing.{ImportIs, ImportsPool, IsNotSpec, LeavesMade, RestsThere};
+ghost use Rattle.draid_pool.specs.Taking.{HoldsMade, IsAsBefore, TakesFirst};
+ghost use Rattle.draid_import.specs.Found.{AnyRecordsRose, AreFreed, AreReopened, CountsLater, FreesIfOlder, FreesOlder, HasOnly, HasRisen, IsFoundUber, IsRecovered, IsReopened, IsShardFault, KeepsFound, KeepsFoundAt, KeepsKnown, LeavesShards, LeavesUber, NoRecord, OpensAllOver, OpensOver, RecordsRose, SameChecks, StaysHeld, shelf_fault_of, uber_fault_of, open_fault_of};
+ghost use Rattle.draid_found.specs.Found.{AllLive, AreFound, AreReady};
+ghost use Rattle.draid_found.specs.Together.{AreApart, AreTogether};
+ghost use Rattle.draid_pool.specs.Whole.{IsWhole};
+ghost use Rattle.draid_found.specs.declared.finding.Found.{Found};
+
+use crate::reopening::reopen;
+use draid_area::Area;
+use draid_found::{Found, FoundFault};
+use draid_names::{DeviceFault, Pointer};
+use draid_perm::Perms;
+use draid_pool::{EVENTS, OpenFault, OpenRefused, Pool, PoolFault, give_back};
+use draid_rack::Rack;
+use draid_shard::Shard;
+use draid_shelf::Shelf;
+use draid_uber::{Uber, UberFault, UberRefused};
+use std::alloc::Global;
+use std::collections::HashMap;
+
+/// Why an uberblock gave no pool.
+fn uber_fault(why: UberFault) -> PoolFault
+    ensures is { result ≡ uber_fault_of why }
+    ensures area { result ≡ PoolFault.Shelf → why ≡ UberFault.Area }
+    ensures not_spec { IsNotSpec result }
+{
+    match why {
+        UberFault::Area => PoolFault::Shelf,
+        UberFault::NoMemory => PoolFault::NoMemory,
+        UberFault::Empty => PoolFault::NoPool,
+        UberFault::Record { at, kind } => PoolFault::Record {
+            metaslab: None,
+            at,
+            kind,
+        },
+    }
+}
+
+/// Why a metaslab wasn't opened.
+fn open_fault(number: u32, why: OpenFault) -> PoolFault
+    ensures is { result ≡ open_fault_of number why }
+    ensures area { result ≡ PoolFault.Shelf → why ≡ OpenFault.Area }
+    ensures fault { IsShardFault result }
+{
+    match why {
+        OpenFault::Area => PoolFault::Shelf,
+        OpenFault::NoMemory => PoolFault::NoMemory,
+        OpenFault::Record { at, kind } => PoolFault::Record {
+            metaslab: Some(number),
+            at,
+            kind,
+        },
+    }
+}
+
+/// Why a call on the shelf gave nothing.
+fn shelf_fault(why: DeviceFault) -> PoolFault
+    ensures is { result ≡ shelf_fault_of why }
+    ensures failed { result ≡ PoolFault.Shelf → why ≡ DeviceFault.Failed }
+    ensures not_spec { IsNotSpec result }
+    ensures fault { IsShardFault result }
+{
+    match why {
+        DeviceFault::Failed => PoolFault::Shelf,
+        DeviceFault::NoMemory => PoolFault::NoMemory,
+    }
+}
+
+/// Law: an area that tells has the length that it tells.
+fn has_length_told<A: Area>(area: &A)
+    ensures { OnTold (A.told area.now) (IsOfSize (A.size area.now)) }
+{}
+
+/// Takes the area of the uberblock, and finds the uberblock there. After a refusal the area is on the shelf.
+fn find_uber<H: Shelf>(shelf: &mut H) -> Result<Uber<H::A>, PoolFault>
+    ensures found { IfOk result (IsFoundUber H.A.Area) }
+    ensures not_spec { IfErr result IsNotSpec }
+    ensures recovered { IfOk result (IsRecovered H.A.Area (H.told shelf.old) (H.uber_count shelf.old)) }
+    ensures told { OnOk result (H.told shelf.new ≡ takes_uber (H.told shelf.old)) }
+    ensures body { IfOk result (TellsBody (H.told shelf.old)) }
+    ensures empty { IsErrOf result PoolFault.NoPool → HoldsNoGroup (H.told shelf.old) }
+    ensures back { OnErr result (LeavesUber (H.told shelf.old) (H.told shelf.new) (H.uber_count shelf.old) (H.uber_count shelf.new)) }
+    ensures import { (x : State) (pieces : ℕ → Pieces)
+        → RestsThere x pieces (H.told shelf.old) (H.leaves shelf.old) (H.counts shelf.old) (H.uber_count shelf.old)
+        → IfErr result (λ why. ImportIs H.R.Rack H.A.Area x pieces (H.told shelf.new) (H.leaves shelf.new) (H.counts shelf.new) (H.uber_count shelf.new) (Err why)) }
+    ensures leaves { (m : ℕ) → H.leaves shelf.new m ≡ H.leaves shelf.old m }
+    ensures faulty { (metaslab : Option ℕ) (place kind : ℕ) → IsErrOf result (PoolFault.Record metaslab place kind) → UberIsBad (H.told shelf.old) metaslab place kind }
+    ensures none { OnHeld (H.told shelf.old) (λ held. held.uber ≡ None → IsErrOf result PoolFault.NoPool
+        × IsAsBefore (H.told shelf.old) (H.told shelf.new) (H.counts shelf.old) (H.counts shelf.new)
+        (record { uber = H.uber_count shelf.old; checks = H.check_counts shelf.old })
+        (record { uber = H.uber_count shelf.new; checks = H.check_counts shelf.new })) }
+    ensures made { (geometry : Geometry) → IsSomeAnd (H.told shelf.old) (HoldsMade geometry)
+        → LeavesMade geometry result (H.told shelf.new) (H.counts shelf.old) (H.counts shelf.new)
+        (record { uber = H.uber_count shelf.old; checks = H.check_counts shelf.old })
+        (record { uber = H.uber_count shelf.new; checks = H.check_counts shelf.new }) }
+    ensures held { SameChecks (H.told shelf.old) (H.told shelf.new) }
+    ensures checks { H.check_counts shelf.new ≡ H.check_counts shelf.old }
+    ensures counts { (m : ℕ) → H.counts shelf.new m ≡ H.counts shelf.old m }
+    ensures later { H.faults shelf.old ≤ H.faults shelf.new }
+    ensures cause { IsErrOf result PoolFault.Shelf → Rose (H.faults shelf.old) (H.faults shelf.new) ⊎ Rose (H.uber_count shelf.old) (H.uber_count shelf.new) }
+{
+    if !shelf.has_pool() {
+        return Err(PoolFault::NoPool);
+    }
+    let area = match shelf.take_uber() {
+        Ok(area) => area,
+        Err(why) => return Err(shelf_fault(why)),
+    };
+    has_length_told(&area);
+    match Uber::recover(area) {
+        Ok(uber) => Ok(uber),
+        Err(UberRefused { area, why }) => {
+            shelf.give_uber(area);
+            Err(uber_fault(why))
+        }
+    }
+}
+
+/// Takes the devices of a metaslab, and opens it from the record of the group that the uberblock names. After a refusal
+/// they are on the shelf.
+fn reopen_shard<H: Shelf>(
+    alloc: Global,
+    shelf: &mut H,
+    uber: &Uber<H::A>,
+    perms: Perms,
+    number: u32,
+) -> Result<Shard<H::R, H::A>, PoolFault>
+    requires uber { IsFoundUber H.A.Area uber.now }
+    requires layout { IsLayout (layout_of uber.now) perms }
+    requires number { number < (layout_of uber.now).props.metaslabs }
+    ensures reopened { IfOk result (IsReopened H.R.Rack (record { geometry = layout_of uber.now; perms = perms; number = number }) (group_of (kept_of uber.now))) }
+    ensures over { IfOk result (OpensOver H.R.Rack H.A.Area (limit_of (layout_of uber.now)) (group_of (kept_of uber.now)) (next_leaf_of uber.now) number (H.told shelf.old) (H.leaves shelf.old number) (H.counts shelf.old number)) }
+    ensures told { OnOk result (H.told shelf.new ≡ takes_kit number (H.told shelf.old)) }
+    ensures back { OnErr result (StaysHeld (H.told shelf.old) (H.told shelf.new)) }
+    ensures tells { OnErr result (OnHeld (H.told shelf.old) (λ held. IsSome (H.told shelf.new))) }
+    ensures leaves { SameOthers number (H.leaves shelf.old) (H.leaves shelf.new) }
+    ensures known { OnErr result (KeepsKnown (H.leaves shelf.old number) (H.leaves shelf.new number)) }
+    ensures fault { IfErr result IsShardFault }
+    ensures faulty { (metaslab : Option ℕ) (place kind : ℕ) → IsErrOf result (PoolFault.Record metaslab place kind)
+        → IsUnread H.R.Rack H.A.Area (layout_of uber.now) (group_of (kept_of uber.now)) (next_leaf_of uber.now) number (H.told shelf.old) (H.leaves shelf.old number) (H.counts shelf.old number) metaslab place kind }
+    // No record of a pool that rests on a shelf has a fault.
+    ensures opens { (x : State) (pieces : ℕ → Pieces) (held : Option Held) (leaves : ℕ → Option Shape) (counts : ℕ → KitCounts) (count : ℕ)
+        → RestsThere x pieces held leaves counts count → IsRecovered H.A.Area held count uber.now → TakesFirst number (takes_uber held) (H.told shelf.old)
+        → H.leaves shelf.old number ≡ leaves number → NoRecord result }
+    ensures back_counts { OnErr result (CountsLater (H.counts shelf.old number) (H.counts shelf.new number)) }
+    ensures held { SameChecks (H.told shelf.old) (H.told shelf.new) }
+    ensures checks { H.check_counts shelf.new ≡ H.check_counts shelf.old }
+    ensures counts { SameOthers number (H.counts shelf.old) (H.counts shelf.new) }
+    ensures later { H.faults shelf.old ≤ H.faults shelf.new }
+    ensures cause { IsErrOf result PoolFault.Shelf → Rose (H.faults shelf.old) (H.faults shelf.new) ⊎ RecordsRose (H.counts shelf.old number) (H.counts shelf.new number) }
+{
+    let layout = *uber.geometry();
+    let kit = match shelf.take(number, &layout) {
+        Ok(kit) => kit,
+        Err(why) => return Err(shelf_fault(why)),
+    };
+    let events = EVENTS / u64::from(layout.props.metaslabs);
+    let group = uber.committed();
+    match reopen(
+        alloc,
+        number,
+        layout,
+        perms,
+        kit,
+        events,
+        group,
+        uber.next_leaf(),
+    ) {
+        Ok(shard) => Ok(shard),
+        Err(OpenRefused { kit, why }) => {
+            shelf.give(number, kit);
+            Err(open_fault(number, why))
+        }
+    }
+}
+
+/// Opens all metaslabs. After a refusal all their devices are on the shelf.
+fn reopen_shards<H: Shelf>(
+    alloc: Global,
+    shelf: &mut H,
+    uber: &Uber<H::A>,
+) -> Result<Vec<Shard<H::R, H::A>>, PoolFault>
+    requires uber { IsFoundUber H.A.Area uber.now }
+    ensures opens { (x : State) (pieces : ℕ → Pieces) (held : Option Held) (counts : ℕ → KitCounts) (count : ℕ)
+        → RestsThere x pieces held (H.leaves shelf.old) counts count → IsRecovered H.A.Area held count uber.now → H.told shelf.old ≡ takes_uber held → NoRecord result }
+    ensures reopened { IfOk result (λ shards. AreReopened H.R.Rack (layout_of uber.now) (group_of (kept_of uber.now)) shards.items) }
+    ensures over { IfOk result (λ shards. OpensAllOver H.R.Rack H.A.Area (limit_of (layout_of uber.now)) (group_of (kept_of uber.now)) (next_leaf_of uber.now) (H.told shelf.old) (H.leaves shelf.old) (H.counts shelf.old) shards.items) }
+    ensures told { OnOk result (TakesFirst (layout_of uber.now).props.metaslabs (H.told shelf.old) (H.told shelf.new)) }
+    ensures left { OnOk result ((m : ℕ) → (layout_of uber.now).props.metaslabs ≤ m → (H.counts shelf.new m ≡ H.counts shelf.old m) × (H.leaves shelf.new m ≡ H.leaves shelf.old m)) }
+    ensures back { OnErr result (LeavesShards H.R.Rack H.A.Area (layout_of uber.now) (group_of (kept_of uber.now)) (next_leaf_of uber.now) (H.told shelf.old) (H.told shelf.new) (H.counts shelf.old) (H.counts shelf.new)
+        (H.leaves shelf.old) (H.leaves shelf.new)) }
+    ensures faulty { (metaslab : Option ℕ) (place kind : ℕ) → IsErrOf result (PoolFault.Record metaslab place kind)
+        → OneIsUnread H.R.Rack H.A.Area (layout_of uber.now) (group_of (kept_of uber.now)) (next_leaf_of uber.now) (H.told shelf.old) (H.leaves shelf.old) (H.counts shelf.old) metaslab place kind }
+    ensures fault { IfErr result IsShardFault }
+    ensures held { SameChecks (H.told shelf.old) (H.told shelf.new) }
+    ensures checks { H.check_counts shelf.new ≡ H.check_counts shelf.old }
+    ensures later { H.faults shelf.old ≤ H.faults shelf.new }
+    ensures cause { IsErrOf result PoolFault.Shelf → Rose (H.faults shelf.old) (H.faults shelf.new) ⊎ AnyRecordsRose (layout_of uber.now).props.metaslabs (H.counts shelf.old) (H.counts shelf.new) }
+{
+    let layout = *uber.geometry();
+    let perms = Perms::new(layout.spec.children, layout.props.seed);
+    let Ok(mut shards) = Vec::with_capacity(alloc, layout.props.metaslabs as usize) else {
+        return Err(PoolFault::NoMemory);
+    };
+    for number in 0..layout.props.metaslabs {
+        match reopen_shard(alloc, shelf, uber, perms, number) {
+            Ok(shard) => shards.push_reserved(shard),
+            Err(fault) => {
+                give_back(shelf, shards);
+                return Err(fault);
+            }
+        }
+    }
+    Ok(shards)
+}
+
+/// What the records of all metaslabs say of the objects.
+fn find_blocks<R: Rack, A: Area>(alloc: Global, shards: &[Shard<R, A>]) -> Result<Found, PoolFault>
+    requires ready { AreReady R.Rack shards.now }
+    ensures found { IfOk result (λ found. AreFound shards.now (get nat_eq found.newest) found.seq) }
+    ensures together { OnOk result (AreTogether shards.now (length shards.now)) }
+    ensures faulty { (metaslab : Option ℕ) (place kind : ℕ) → IsErrOf result (PoolFault.Record metaslab place kind) → AreApart shards.now metaslab place kind }
+    ensures no_device { IsErrOf result PoolFault.Shelf → ⊥ }
+    ensures fault { IfErr result IsShardFault }
+{
+    match draid_found::find_blocks(alloc, shards) {
+        Ok(found) => Ok(found),
+        Err(FoundFault::Record { metaslab, at, kind }) => Err(PoolFault::Record {
+            metaslab: Some(metaslab),
+            at,
+            kind,
+        }),
+        Err(FoundFault::NoMemory) => Err(PoolFault::NoMemory),
+    }
+}
+
+/// Whether this is the newest block of its object.
+fn is_newest(newest: &HashMap<u64, Pointer>, pointer: &Pointer) -> bool
+    ensures { IsTrue result ↔ (get nat_eq newest.now pointer.now.object ≡ Some pointer.now) }
+{
+    newest.get(&pointer.object) == Some(pointer)
+}
+
+/// Frees a live block that isn't the newest of its object.
+fn free_if_older<R: Rack, A: Area>(
+    shard: &mut Shard<R, A>,
+    newest: &HashMap<u64, Pointer>,
+    pointer: &Pointer,
+    floor: u64,
+)
+    requires valid { Valid R.Rack shard.old }
+    requires live { IsLive shard.old pointer.now }
+    requires floor { floor ≤ shard.old.open_group + 1 }
+    requires last { floor ≤ LAST_NUMBER }
+    ensures frees { FreesIfOlder R.Rack A.Area (get nat_eq newest.now) pointer.now floor shard.old shard.new }
+{
+    if is_newest(newest, pointer) {
+        return;
+    }
+    let Ok(_) = shard.free(pointer, floor) else {
+        unreachable!()
+    };
+}
+
+/// Frees the blocks of a metaslab that aren't the newest of their objects.
+fn free_older<R: Rack, A: Area>(shard: &mut Shard<R, A>, newest: &HashMap<u64, Pointer>, floor: u64)
+    requires valid { Valid R.Rack shard.old }
+    requires live { AllLive shard.old }
+    requires floor { floor ≤ shard.old.open_group + 1 }
+    requires last { floor ≤ LAST_NUMBER }
+    ensures frees { FreesOlder R.Rack (get nat_eq newest.now) shard.old shard.new }
+    ensures only { HasOnly (get nat_eq newest.now) shard.new }
+    ensures keeps { KeepsFoundAt R.Rack A.Area (get nat_eq newest.now) floor shard.old shard.new }
+{
+    let mut from = 0;
+    while let Some(pointer) = shard.next_held(from) {
+        free_if_older(shard, newest, &pointer, floor);
+        from = pointer.first + 1;
+    }
+}
+
+/// Frees the blocks of all metaslabs that aren't the newest of their objects.
+fn free_all<R: Rack, A: Area>(
+    shards: &mut Vec<Shard<R, A>>,
+    newest: &HashMap<u64, Pointer>,
+    floor: u64,
+)
+    requires ready { AreReady R.Rack shards.old.items }
+    requires floor { (m : ℕ) (shard : Shard R A) → slice_get shards.old.items m ≡ Some shard → floor ≤ shard.open_group + 1 }
+    requires last { floor ≤ LAST_NUMBER }
+    ensures freed { AreFreed R.Rack (get nat_eq newest.now) shards.old.items shards.new.items }
+    ensures only { AreNewest shards.new.items (get nat_eq newest.now) }
+    ensures keeps { KeepsFound R.Rack A.Area (get nat_eq newest.now) floor shards.old.items shards.new.items }
+{
+    for number in 0..shards.len() {
+        free_older(&mut shards[number], newest, floor);
+    }
+}
+
+/// The pool of these metaslabs, in which each object has its newest block.
+fn pool_of<R: Rack, A: Area>(
+    alloc: Global,
+    shards: Vec<Shard<R, A>>,
+    uber: Uber<A>,
+    found: Found,
+) -> Pool<R, A>
+    requires uber { IsFoundUber A.Area uber }
+    requires shards { AreReopened R.Rack (layout_of uber) (group_of (kept_of uber)) shards.items }
+    requires found { AreFound shards.items (get nat_eq found.newest) found.seq }
+    ensures whole { IsWhole R.Rack A.Area result }
+    ensures made { IsMadeOf R.Rack shards.items uber (get nat_eq found.newest) found.seq result }
+    ensures imports { (x : State) (pieces : ℕ → Pieces) → IsFoundOf R.Rack A.Area x uber pieces (get nat_eq found.newest) found.seq shards.items → ImportsPool R.Rack A.Area x result }
+{
+    let floor = uber.committed() + 1;
+    let mut shards = shards;
+    free_all(&mut shards, &found.newest, floor);
+    Pool {
+        geometry: *uber.geometry(),
+        shards,
+        uber,
+        objects: found.newest,
+        seq: found.seq,
+        floor,
+        alloc,
+    }
+}
+
+/// Imports the pool that was given back to the shelf. A refusal gives back all that was taken.
+pub fn import<H: Shelf>(alloc: Global, shelf: &mut H) -> Result<Pool<H::R, H::A>, PoolFault>
+    ensures whole { IfOk result (IsWhole H.R.Rack H.A.Area) }
+    ensures none { OnHeld (H.told shelf.old) (λ held. held.uber ≡ None → IsErrOf result PoolFault.NoPool
+        × IsAsBefore (H.told shelf.old) (H.told shelf.new) (H.counts shelf.old) (H.counts shelf.new)
+        (record { uber = H.uber_count shelf.old; checks = H.check_counts shelf.old })
+        (record { uber = H.uber_count shelf.new; checks = H.check_counts shelf.new })) }
+    ensures made { (geometry : Geometry) → IsSomeAnd (H.told shelf.old) (HoldsMade geometry)
+        → LeavesMade geometry result (H.told shelf.new) (H.counts shelf.old) (H.counts shelf.new)
+        (record { uber = H.uber_count shelf.old; checks = H.check_counts shelf.old })
+        (record { uber = H.uber_count shelf.new; checks = H.check_counts shelf.new }) }
+    // What is found of a pool that rests there is that pool, and a refusal leaves it there.
+    ensures import { (x : State) (pieces : ℕ → Pieces)
+        → RestsThere x pieces (H.told shelf.old) (H.leaves shelf.old) (H.counts shelf.old) (H.uber_count shelf.old)
+        → ImportIs H.R.Rack H.A.Area x pieces (H.told shelf.new) (H.leaves shelf.new) (H.counts shelf.new) (H.uber_count shelf.new) result }
+    // The answer by what the shelf held: the pool that was read, no group, or the first fault.
+    ensures read { IfOk result (IsReadPool H.R.Rack H.A.Area (H.told shelf.old) (H.leaves shelf.old) (H.counts shelf.old) (H.uber_count shelf.old)) }
+    ensures empty { IsErrOf result PoolFault.NoPool → HoldsNoGroup (H.told shelf.old) }
+    ensures faulty { (metaslab : Option ℕ) (place kind : ℕ) → IsErrOf result (PoolFault.Record metaslab place kind)
+        → RecordIsBad H.R.Rack H.A.Area (H.told shelf.old) (H.leaves shelf.old) (H.counts shelf.old) metaslab place kind }
+    ensures back { OnErr result (LeavesAll H.A.Area (H.told shelf.old) (H.told shelf.new) (H.counts shelf.old) (H.counts shelf.new) (H.uber_count shelf.old) (H.uber_count shelf.new)) }
+    ensures not_spec { IfErr result IsNotSpec }
+    ensures tells { OnOk result (is_some (H.told shelf.new) ≡ is_some (H.told shelf.old)) }
+    ensures held { SameChecks (H.told shelf.old) (H.told shelf.new) }
+    ensures checks { H.check_counts shelf.new ≡ H.check_counts shelf.old }
+    ensures later { H.faults shelf.old ≤ H.faults shelf.new }
+    ensures cause { IsErrOf result PoolFault.Shelf → HasRisen H.A.Area (H.told shelf.old) (H.faults shelf.old) (H.faults shelf.new) (H.uber_count shelf.old) (H.uber_count shelf.new) (H.counts shelf.old) (H.counts shelf.new) }
+{
+    let uber = find_uber(shelf)?;
+    let shards = match reopen_shards(alloc, shelf, &uber) {
+        Ok(shards) => shards,
+        Err(fault) => {
+            shelf.give_uber(uber.into_area());
+            return Err(fault);
+        }
+    };
+    match find_blocks(alloc, &shards) {
+        Ok(found) => Ok(pool_of(alloc, shards, uber, found)),
+        Err(fault) => {
+            give_back(shelf, shards);
+            shelf.give_uber(uber.into_area());
+            Err(fault)
+        }
+    }
+}

@@ -1,0 +1,14 @@
+//! A pool is imported from what was given back to a shelf: its uberblock is found, each metaslab is opened from the
+//! record of the group that it names, and of each object the newest block counts.
+
+#![tactic(auto)]
+
+mod importing;
+mod laws;
+mod reopening;
+mod standing;
+
+pub use importing::import;
+pub use laws::{finds_the_same_before_a_flush, imports_find_one_thing};
+pub use reopening::reopen;
+pub use standing::opened_shards_stand;

@@ -1,0 +1,52 @@
+use Rattle.std.proofs.Common.{◌+◌, ◌∙◌, arith, subst, sym}
+use Rattle.std.proofs.lemmas.Bool.{true≢false}
+use Rattle.draid_shard.proofs.Begins.{low_stripes}
+use Rattle.draid_shard.proofs.Turns.{inside_stripes}
+use Rattle.draid_pool.specs.Counting.{CountsBelow, IsOpenUpto}
+use Rattle.draid_pool.proofs.Counting.{counts_more, counts_same, none_open, open_upto}
+use Rattle.draid_pool.proofs.looks.tickets_upto.Goals.{then-is_open_upto, else-is_open_upto}
+use Rattle.draid_pool.proofs.looks.tickets_upto.Goals as goal
+
+pub overflow_add-tickets : goal.overflow_add-tickets
+overflow_add-tickets g c =
+    let i = c.loop-entry.invariant in
+    let few = i.few in
+    let from = c.in-Some.ensures.from in
+    let inside = inside_stripes g.R.Rack c.args.shard.now c.requires.valid c.in-Some.entry c.in-Some.ensures.there in
+    let low = low_stripes c.args.shard.now.geometry c.requires.valid.part.layout.geometry_is in
+    omega (arith, few, from, inside, low)
+
+pub loop-entry-preserved : goal.loop-entry-preserved
+loop-entry-preserved g c =
+    let i = c.loop-entry.invariant in
+    let at = c.in-Some.ensures in
+    let next = c.in-Some.entry.pointer.first + 1 in
+    let few = i.few in
+    let from = at.from in
+    let inside = inside_stripes g.R.Rack c.args.shard.now c.requires.valid c.in-Some.entry at.there in
+    elim c.if-is_open_upto.branch [
+      | then-is_open_upto w ↦
+          let is = w.tickets-is in
+          record {
+            counts = subst (CountsBelow c.args.shard.now.entries (IsOpenUpto c.args.group) next) (sym is)
+                (counts_more c.args.shard.now.entries (IsOpenUpto c.args.group) c.loop-entry.stripe c.loop-entry.tickets c.in-Some.entry i.counts at.there at.from at.first (c.is_open_upto.ensures.0 w.if-is_open_upto.true));
+            few = omega (arith, is, few, from);
+            low = omega (arith, inside);
+          }
+      | else-is_open_upto w ↦
+          let is = w.tickets-is in
+          record {
+            counts = subst (CountsBelow c.args.shard.now.entries (IsOpenUpto c.args.group) next) (sym is)
+                (counts_same c.args.shard.now.entries (IsOpenUpto c.args.group) c.loop-entry.stripe c.loop-entry.tickets c.in-Some.entry i.counts at.there at.from at.first
+                (λ passes. true≢false (sym (c.is_open_upto.ensures.1 passes) ∙ w.if-is_open_upto.false)));
+            few = omega (arith, is, few, from);
+            low = omega (arith, inside);
+          }
+    ]
+
+pub returns : goal.returns
+returns g c =
+    record {
+      tickets = open_upto c.args.shard.now c.args.group c.loop-entry.stripe c.loop-entry.tickets c.loop-entry.invariant.counts c.in_default.ensures.none;
+      none = none_open c.args.shard.now c.args.group c.loop-entry.stripe c.loop-entry.tickets c.loop-entry.invariant.counts c.in_default.ensures.none;
+    }
