@@ -33,9 +33,8 @@ use Rattle.draid_pool.specs.declared.fault.PoolFault.{PoolFault}
 use Rattle.draid_pool.specs.declared.fault.PoolFault.TheVariants as fault
 use Rattle.draid_pool.specs.declared.pool.Pool.{Pool}
 use Rattle.draid_pool.specs.Taking.{HoldsMade, IsAsBefore}
-use Rattle.draid_rack.specs.declared.Rack.{Ghosts}
 use Rattle.draid_pool.specs.declared.group_fault.OpenFault.{OpenFault}
-use Rattle.draid_pool.specs.declared.group_fault.OpenFault.TheVariants as fault
+use Rattle.draid_pool.specs.declared.group_fault.OpenFault.TheVariants as unopened
 
 -- ---- the pool
 
@@ -186,6 +185,6 @@ pub record HasNewKits (geometry : Geometry) (x : Held) : Type 0 where
 
 -- why a metaslab isn't created: a call on the area of the record of group 1 failed, or memory was wanting
 abbrev pub CreateIsRefused : ℕ → ℕ → OpenFault → Type 0
-CreateIsRefused before now fault.Area = Rose before now
-CreateIsRefused before now (fault.Record place kind) = ⊥
-CreateIsRefused before now fault.NoMemory = ⊤
+CreateIsRefused before now unopened.Area = Rose before now
+CreateIsRefused before now (unopened.Record place kind) = ⊥
+CreateIsRefused before now unopened.NoMemory = ⊤

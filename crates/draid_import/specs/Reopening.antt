@@ -30,6 +30,10 @@ use Rattle.draid_shard.specs.Calls.{OnBothTold}
 use Rattle.draid_shard.specs.States.{IsIn, layout_by, stored_in}
 use Rattle.draid_shard.specs.declared.shard.Shard.{Shard}
 
+-- the area of the records of a group
+abbrev pub area_of_kit : {R A : Type 0} → Kit R A → ℕ → A
+area_of_kit kit group = if group % 2 == 0 then kit.even else kit.odd
+
 -- these bytes are the area's, where it tells them
 abbrev pub AreBytes : Option content.Content → List ℕ → Type 0
 AreBytes told bytes = content.OnTold told (λ x. x.bytes ≡ bytes)
@@ -63,9 +67,6 @@ pub record BeginsWith (t : Tables) (limit : ℕ) (history : History) : Type 0 wh
   pub owed : owed_of history ≡ count_of t.entries + owed_for_pass t.pass
   pub reserved : reserved_of history ≡ 0
   pub limit_is : limit_in history ≡ limit
-
-abbrev pub area_of_kit : {R A : Type 0} → Kit R A → ℕ → A
-area_of_kit kit group = if group % 2 == 0 then kit.even else kit.odd
 
 -- A metaslab is opened from the record of a group, which has no fault to a rack with these leaves: its slots have the record's arms, its entries are the record's
 -- blocks, and it stands for what a state's opening from that image gives. Leaves that the image doesn't name went, and no other; the areas tell what they did.

@@ -280,7 +280,7 @@ fn free_if_older<R: Rack, A: Area>(
     if is_newest(newest, pointer) {
         return;
     }
-    let Ok(_) = shard.free(pointer, floor) else {
+    let Ok(_group) = shard.free(pointer, floor) else {
         unreachable!()
     };
 }

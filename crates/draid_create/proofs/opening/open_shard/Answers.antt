@@ -58,8 +58,8 @@ returns-in_err-kit g c =
       cause = λ failed. inl (c.in_err-kit.ensures.cause.cause (passed c.from_residual.result c.in_err-kit.field-0.0 _ c.from_residual.ensures.1 failed));
     }
 
-pub create-requires : goal.create-requires
-create-requires g c =
+pub create_metaslab-requires : goal.create_metaslab-requires
+create_metaslab-requires g c =
     record {
       part = record { layout = c.requires.layout; below = c.requires.number };
       rack = (let shelf = g.H.Shelf in

@@ -55,7 +55,7 @@ returns-in-Err g c =
             (subst (λ table. FetchFinds (get nat_eq table c.loop-object.object) (Err c.in-Err.why)) i.objects c.in-Err.ensures.found)),
       ));
       step = λ x is.
-          fetching_ends g.R.Rack g.A.Area c.loop-object.pool c.fetch.new.self x c.args.first c.args.count c.loop-object.object c.loop-object.blocks.items
+          fetching_ends g.R.Rack g.A.Area c.loop-object.pool c.fetch.new.pool x c.args.first c.args.count c.loop-object.object c.loop-object.blocks.items
           batch c.in-Err.why (i.fetching x is) below refl refl (λ y represents. c.in-Err.ensures.step y represents);
     }
 
@@ -76,7 +76,7 @@ returns-in_default g c =
       stops = (let many = i.many in let same = ap (λ (bs : List Fetched). length bs) all in
           (omega (arith, many, below, same), starved (pointer_in c.args.pool.now (c.args.first + length c.push.new.self.items))));
       step = λ x is.
-          fetching_unkept g.R.Rack g.A.Area c.loop-object.pool c.fetch.new.self x c.args.first c.args.count c.loop-object.object c.loop-object.blocks.items
+          fetching_unkept g.R.Rack g.A.Area c.loop-object.pool c.fetch.new.pool x c.args.first c.args.count c.loop-object.object c.loop-object.blocks.items
           batch c.in-Ok.fetched (i.fetching x is) below all refl (λ y represents. c.in-Ok.ensures.step y represents);
     }
 
@@ -88,7 +88,7 @@ loop-object-preserved g c =
     let more = c.in-Ok-push.ensures.items in
     record {
       fetching = λ x is.
-          fetching_more g.R.Rack g.A.Area c.loop-object.pool c.fetch.new.self x c.args.first c.loop-object.object c.loop-object.blocks.items c.push.new.self.items
+          fetching_more g.R.Rack g.A.Area c.loop-object.pool c.fetch.new.pool x c.args.first c.loop-object.object c.loop-object.blocks.items c.push.new.self.items
           c.in-Ok.fetched (i.fetching x is) (λ y represents. c.in-Ok.ensures.step y represents) more;
       whole = c.in-Ok.ensures.whole;
       geometry = c.in-Ok.ensures.geometry ∙ i.geometry;
@@ -165,8 +165,8 @@ returns g c =
                 let from = c.loop-object.auto.object in
                 let batch : Batch = record { blocks = w.push.new.self; fault = None } in
                 subst_both Q (sym w.pool-is) (sym w.blocks-is)
-                (fetching_done g.R.Rack g.A.Area w.fetch.new.self x c.args.first c.args.count (c.loop-object.object + 1) batch
-                (fetching_more g.R.Rack g.A.Area c.loop-object.pool w.fetch.new.self x c.args.first c.loop-object.object c.loop-object.blocks.items w.push.new.self.items
+                (fetching_done g.R.Rack g.A.Area w.fetch.new.pool x c.args.first c.args.count (c.loop-object.object + 1) batch
+                (fetching_more g.R.Rack g.A.Area c.loop-object.pool w.fetch.new.pool x c.args.first c.loop-object.object c.loop-object.blocks.items w.push.new.self.items
                 w.in-Ok.fetched (i.fetching x is) (λ y represents. w.in-Ok.ensures.step y represents) w.in-Ok-push.ensures.items)
                 (omega (arith, from)) (omega (arith, below)) refl)
           ]);
