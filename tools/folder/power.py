@@ -1,7 +1,8 @@
 """Power that goes: a run under strace is played again on a copy of its folder, up to a random call of the system. What wasn't
 synced by then is old, new, torn or half there; and a name that was made, removed or renamed is as it was when the folder was
 last synced, or as at any moment since. An import finds the last group that was synced, or the one under way; behind a create
-that has no reply yet the pool before, none, or the new one. Some runs follow one that was killed."""
+that has no reply yet the pool before, none, or the new one. Some runs follow one that was killed, behind which the system may
+have failed to write back."""
 import random
 import re
 
@@ -13,7 +14,6 @@ OBJECTS = 6
 BEFORE = "create draid1:2d:3c:0s 3 sector=512 height=8 metaslabs=3 slices=4\nwrite 1 aa\nwrite 2 bb\nsync\n"
 OTHER = "create draid1:3d:5c:0s 5 sector=512 height=8 metaslabs=1 slices=8\n"
 NO_POOL = {(None, 0): "import no pool\n" + OBJECTS * "read no pool\n"}
-
 
 # In place of a run: the system failed to write back what wasn't synced, told somebody of it, and takes it for written.
 LOST = (None, 0)
