@@ -59,6 +59,7 @@ CHANGES = [
     ("uber", lambda path: path.write_bytes(b"\x5a" + b"\0" * 1023), 8, "record uber at=1 kind=2\n"),
     ("uber", turn_to_folder, 7, "shelf fault\n"),
     ("uber", turn_to_link, 0, READS),
+    ("uber-copy", lambda path: path.write_bytes(b"x"), 0, READS),
     ("check-even", os.remove, 0, READS),
     ("check-odd", os.remove, 0, READS),
 ]

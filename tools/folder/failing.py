@@ -7,7 +7,9 @@ from common import TWO, check, fresh, has, made, run
 from story import Story, is_kept
 
 OBJECTS = 6
-FAILURES = [("pwrite64", "EIO"), ("pwrite64", "ENOSPC"), ("fdatasync", "EIO"), ("pread64", "EIO"), ("openat", "EMFILE"), ("fsync", "EIO")]
+# A call, its failure, and the last call of the kind that may be the first to fail.
+FAILURES = [("pwrite64", "EIO", 120), ("pwrite64", "ENOSPC", 120), ("fdatasync", "EIO", 120), ("pread64", "EIO", 120),
+            ("openat", "EMFILE", 120), ("fsync", "EIO", 120), ("rename", "EIO", 1)]
 SHELF = "shelf fault"
 NOT_LOADED = 127  # the system could not load the program
 
@@ -18,8 +20,8 @@ def failing(call, error, when):
 
 def one(number, before):
     """One run in which calls fail. Answers how far it came."""
-    call, error = random.choice(FAILURES)
-    when = str(random.randint(1, 120)) + random.choice(["", "+"])
+    call, error, last = random.choice(FAILURES)
+    when = str(random.randint(1, last)) + random.choice(["", "+"])
     story = Story(random, 30, OBJECTS, may_miss=True)
     folder = fresh(copy_of=before)
     row = f"failing {number}, {call} {error} from {when}"

@@ -7,8 +7,8 @@ LENGTHS = [1, 100, 512, 1024, 3000]
 
 
 class Story:
-    """A script of so many lines over a pool that was imported, on objects below a number. Where devices fail, a write may be
-    missed, and changes nothing then."""
+    """A script of so many lines over a pool that its first line opened, on objects below a number. Where devices fail, a write
+    may be missed, and changes nothing then."""
 
     def __init__(self, random, lines, objects, may_miss=False):
         self.objects = objects
@@ -24,8 +24,8 @@ class Story:
             return "free", number, None
         return "sync", None, None
 
-    def script(self):
-        return "import\n" + "".join(" ".join(str(word) for word in step if word is not None) + "\n" for step in self.steps)
+    def script(self, opening="import\n"):
+        return opening + "".join(" ".join(str(word) for word in step if word is not None) + "\n" for step in self.steps)
 
     def left(self, replies, group, objects):
         """The groups that may be found behind these replies, each with its objects: the last one that was synced, and the
@@ -63,17 +63,22 @@ class Story:
 
 def found(folder, objects):
     """The group that an import finds, and its objects; or the status and the replies, where it finds none."""
+    return pool_in(folder, objects)[1:]
+
+
+def pool_in(folder, objects):
+    """The same behind the pool's name, or behind None."""
     status, replies = common.run("import\n" + "".join(f"read {number}\n" for number in range(objects)), folder)
     lines = replies.split("\n")
-    opened = re.fullmatch(r"import \S+ group=(\d+) objects=(\d+)", lines[0])
+    opened = re.fullmatch(r"import (\S+) group=(\d+) objects=(\d+)", lines[0])
     if status != 0 or not opened:
-        return status, replies
+        return None, status, replies
     kept = {}
     for number, line in enumerate(lines[1:-1]):
         words = line.split()
         if words[2:] != ["no", "object"]:
             kept[number] = words[3] if words[2].isdigit() else line
-    return int(opened[1]), kept
+    return opened[1], int(opened[2]), kept
 
 
 def is_kept(row, folder, objects, kept):

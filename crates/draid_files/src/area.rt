@@ -31,7 +31,22 @@ pub(crate) fn make_area(
 pub(crate) fn open_area(folder: &Folder, name: FileName) -> Result<FileArea, DeviceFault>
     ensures { IfOk result (λ area. area.file.faults ≡ 0) }
 {
-    let file = folder.open_renewed(name)?;
+    let file = folder.open(name)?;
+    as_area(file)
+}
+
+/// Opens the area of the uberblock.
+pub(crate) fn open_uber(folder: &Folder) -> Result<FileArea, DeviceFault>
+    ensures { IfOk result (λ area. area.file.faults ≡ 0) }
+{
+    let file = folder.open_uber()?;
+    as_area(file)
+}
+
+/// A file with all its bytes as an area.
+fn as_area(file: DeviceFile) -> Result<FileArea, DeviceFault>
+    ensures { IfOk result (λ area. area.file ≡ file) }
+{
     match file.length() {
         Ok(size) => Ok(FileArea { file, size }),
         Err(_) => Err(DeviceFault::Failed),

@@ -50,12 +50,17 @@ impl DeviceFile {
         self.file.sync_all()
     }
 
-    /// Writes all its bytes again, and has the disk take them. After a sync that failed in an earlier run the system may
-    /// have some of them in memory alone, and take them for written.
-    pub(crate) fn renew(&self, alloc: Global) -> io::Result<()> {
+    /// All its bytes. After a sync that failed in an earlier run the system may have some of them in memory alone, and take
+    /// them for written.
+    pub(crate) fn content(&self, alloc: Global) -> io::Result<Vec<u8>> {
         let mut bytes = vec![in alloc; 0; self.length()? as usize]?;
         self.file.read_exact_at(&mut bytes, 0)?;
-        self.file.write_all_at(&bytes, 0)?;
+        Ok(bytes)
+    }
+
+    /// Writes these as its bytes, and has the disk take them.
+    pub(crate) fn renew(&self, bytes: &[u8]) -> io::Result<()> {
+        self.file.write_all_at(bytes, 0)?;
         self.file.sync_all()
     }
 

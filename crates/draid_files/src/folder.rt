@@ -82,13 +82,52 @@ impl Folder {
         Ok(file)
     }
 
-    /// Opens a file whose bytes the disk is to have as they are read, whatever became of an earlier run.
-    pub(crate) fn open_renewed(&self, name: FileName) -> Result<DeviceFile, DeviceFault>
+    /// Opens the file of the uberblock's area, and has the disk take it as it is read, whatever became of an earlier run: a
+    /// copy that the disk has takes its place. Where no copy can be made, as on a full disk, its bytes are written again where
+    /// they are.
+    pub(crate) fn open_uber(&self) -> Result<DeviceFile, DeviceFault>
         ensures { IfOk result (λ file. file.faults ≡ 0) }
     {
-        let file = self.open(name)?;
-        answered(file.renew(self.alloc()))?;
-        Ok(file)
+        let file = self.open(FileName::Uber)?;
+        let bytes = answered(file.content(self.alloc()))?;
+        match self.make_copy(&bytes) {
+            Ok(copy) => {
+                self.put_copy()?;
+                Ok(copy)
+            }
+            Err(DeviceFault::Failed) => {
+                self.remove_copy()?;
+                answered(file.renew(&bytes))?;
+                Ok(file)
+            }
+            Err(DeviceFault::NoMemory) => Err(DeviceFault::NoMemory),
+        }
+    }
+
+    /// Makes a copy of the uberblock's area with these bytes, in place of one that a killed run left.
+    fn make_copy(&self, bytes: &[u8]) -> Result<DeviceFile, DeviceFault>
+        ensures { IfOk result (λ file. file.faults ≡ 0) }
+    {
+        self.remove_copy()?;
+        let copy = self.make(FileName::UberCopy, 0)?;
+        answered(copy.renew(bytes))?;
+        Ok(copy)
+    }
+
+    /// Removes such a copy, where one is there.
+    fn remove_copy(&self) -> Result<(), DeviceFault> {
+        if self.may_have(FileName::UberCopy) {
+            self.remove(FileName::UberCopy)?;
+        }
+        Ok(())
+    }
+
+    /// Puts the copy of the uberblock's area in its place.
+    fn put_copy(&self) -> Result<(), DeviceFault> {
+        let copy = self.path_of(FileName::UberCopy)?;
+        let uber = self.path_of(FileName::Uber)?;
+        answered(fs::rename(&self.rt, copy.as_str(), uber.as_str()))?;
+        self.sync()
     }
 
     /// Removes a file.

@@ -17,6 +17,8 @@ pub(crate) enum Groups {
 pub(crate) enum FileName {
     /// The area of the uberblock.
     Uber,
+    /// A copy of it, which is to take its place.
+    UberCopy,
     /// An area of check records.
     Check { groups: Groups },
     /// An area of a metaslab's records.
@@ -43,6 +45,7 @@ impl FileName {
     {
         match self {
             FileName::Uber => String::from_str(alloc, "uber"),
+            FileName::UberCopy => String::from_str(alloc, "uber-copy"),
             FileName::Check { groups } => {
                 let groups = groups.text();
                 format!(in alloc; "check-{groups}")
@@ -74,6 +77,7 @@ impl FileName {
 fn candidate(text: &str) -> Option<FileName> {
     match text {
         "uber" => Some(FileName::Uber),
+        "uber-copy" => Some(FileName::UberCopy),
         "check-even" => Some(FileName::Check {
             groups: Groups::Even,
         }),

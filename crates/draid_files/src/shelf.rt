@@ -3,7 +3,7 @@ ghost use Rattle.draid_spec.specs.Geometry.{IsGeometry};
 ghost use Rattle.draid_shelf.specs.Kits.{ShelfCounts};
 ghost use Rattle.draid_files.specs.Shelves.{AreUncounted, IsOpened, MakesAll, PutsKit, Takes, kit_at};
 
-use crate::area::{FileArea, open_area};
+use crate::area::{FileArea, open_uber};
 use crate::devices::{Devices, no_kits, take_from};
 use crate::folder::Folder;
 use crate::making::make_devices;
@@ -94,7 +94,7 @@ impl FileShelf {
         ensures faults { self.new.faults ≡ self.old.faults }
     {
         self.lock()?;
-        open_area(&self.folder, FileName::Uber)
+        open_uber(&self.folder)
     }
 
     /// Opens the areas of the check records.
