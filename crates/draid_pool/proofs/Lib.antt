@@ -9,6 +9,7 @@ pub mod Dids
 pub mod Dropping
 pub mod Entering
 pub mod Failing
+pub mod Following
 pub mod Freed
 pub mod ImageLeaves
 pub mod Imaged
@@ -39,6 +40,7 @@ pub mod Stood
 pub mod SyncCalls
 pub mod SyncSteps
 pub mod Takings
+pub mod Taught
 pub mod Thinning
 pub mod Turns
 pub mod Unsealed

@@ -72,3 +72,15 @@ module _ {R A : Type 0} (rack : racks.Ghosts R) (area : areas.Ghosts A) where
 pub follows_both : (front back : List Hold) (x y z : State) → Follows front x y → Follows back y z → Follows (front ++ back) x z
 follows_both [] back x y z f b = subst (λ w. Follows back w z) f b
 follows_both (hold ∷ front) back x y z f b = (f.0, f.1, follows_both front back f.0 y z f.2 b)
+
+-- what an answer says, said otherwise
+pub by_answer : {R A T : Type 0} (rack : racks.Ghosts R) (area : areas.Ghosts A) (P : T → List Hold → Store → Type 0) (Q : List Hold → Store → Type 0) (x : State) (pool : Pool R A) (result said : T)
+    → result ≡ said → ((holds : List Hold) (store : Store) → P said holds store → Q holds store) → CarriesOut rack area pool x (P result) → CarriesOut rack area pool x Q
+by_answer rack area P Q x pool result said is f c = record {
+  holds = c.holds;
+  reached = c.reached;
+  store = c.store;
+  follows = c.follows;
+  done = f c.holds c.store (subst (λ r. P r c.holds c.store) is c.done);
+  represents = c.represents;
+}

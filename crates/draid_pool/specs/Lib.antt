@@ -5,6 +5,7 @@ pub mod Counting
 pub mod Failing
 pub mod Groups
 pub mod Importable
+pub mod Knows
 pub mod Metaslabs
 pub mod Objects
 pub mod Pointers

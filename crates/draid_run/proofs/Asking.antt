@@ -13,11 +13,12 @@ use Rattle.draid_reply.specs.declared.reply.Reply.{Reply}
 use Rattle.draid_session.specs.Holds.{Hold}
 use Rattle.draid_session.specs.Session.{Desk, TurnsBy}
 use Rattle.draid_session.specs.State.{State, Store}
-use Rattle.draid_pool.specs.Carries.{CarriesOut}
+use Rattle.draid_pool.specs.Carries.{CarriesOut, ReplyDoes}
 use Rattle.draid_pool.specs.declared.pool.Pool.{Pool}
-use Rattle.draid_run.specs.Desks.{IsDesk, ReplyDoes, Turned, asked_in}
+use Rattle.draid_run.specs.Desks.{IsDesk, Turned, asked_in}
 use Rattle.draid_run.specs.Making.{CreateIs}
-use Rattle.draid_run.specs.Says.{DamageSays, FreeSays, ReadSays, StatusSays, SumSays}
+use Rattle.draid_store.specs.Says.{DamageSays, FreeSays, ReadSays, SumSays}
+use Rattle.draid_status.specs.Says.{StatusSays}
 use Rattle.draid_run.specs.Script.{IsUnbuilt}
 use Rattle.draid_run.specs.Serve.{AnswerIs, AskIs, IsSaid}
 use Rattle.draid_run.specs.Shelves.{MayFind, OnShelf}

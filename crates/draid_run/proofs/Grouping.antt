@@ -17,7 +17,7 @@ use Rattle.draid_session.specs.Replies.{IsReplyTo}
 use Rattle.draid_session.specs.Session.{Desk, Untouched, Bare, Made, Open, Shut, Foreign, Unknown, ShelfFails, TurnsBy}
 use Rattle.draid_session.specs.State.{State, Store}
 use Rattle.draid_pool.specs.Syncing.{ExportDoes, SyncDoes}
-use Rattle.draid_pool.specs.Carries.{CarriesOut}
+use Rattle.draid_pool.specs.Carries.{CarriesOut, ReplyDoes}
 use Rattle.draid_pool.specs.Returning.{GivesBack}
 use Rattle.draid_pool.specs.Failing.{AreaFails}
 use Rattle.draid_pool.specs.Pointers.{SamePointers}
@@ -27,19 +27,20 @@ use Rattle.draid_pool.specs.declared.fault.SyncFault.{SyncFault}
 use Rattle.draid_pool.specs.declared.fault.SyncFault.TheVariants as sync
 use Rattle.draid_pool.specs.declared.fault.Synced.{Synced as Group}
 use Rattle.draid_pool.specs.declared.pool.Pool.{Pool}
-use Rattle.draid_run.specs.Desks.{Broken, IsDesk, IsPool, IsShelf, ReplyDoes, Turned}
+use Rattle.draid_run.specs.Desks.{Broken, IsDesk, IsPool, IsShelf, Turned}
 use Rattle.draid_run.specs.Groups.{CrashDid, CrashTurns, ExportDid, ExportIs, ExportTurns, Leads, RefusalIs, SyncDid, SyncLeads, SyncShows, desk_left, export_reply, foreign_left, refusal_of, sync_reply}
-use Rattle.draid_run.specs.Knows.{KnowsPointers}
+use Rattle.draid_pool.specs.Knows.{KnowsPointers}
 use Rattle.draid_run.specs.Serve.{AnswerIs, IsSaid}
 use Rattle.draid_run.specs.Shelves.{IsOut, MayFind, OnShelf, PoolFails, TellsAsBefore}
 use Rattle.draid_run.specs.declared.answer.Stop.{Stop}
 use Rattle.draid_run.specs.declared.answer.Stop.TheVariants as stop
 use Rattle.draid_run.proofs.Behind.{open_behind, still_foreign, sync_keeps}
 use Rattle.draid_run.proofs.Broke.{broken_shows}
-use Rattle.draid_run.proofs.Following.{same_store}
+use Rattle.draid_pool.proofs.Following.{same_store}
 use Rattle.draid_run.proofs.GivenBack.{shelf_has}
-use Rattle.draid_run.proofs.Steps.{by_answer, still_out}
-use Rattle.draid_run.proofs.Taught.{still_known}
+use Rattle.draid_pool.proofs.Steps.{by_answer}
+use Rattle.draid_run.proofs.Steps.{still_out}
+use Rattle.draid_pool.proofs.Taught.{still_known}
 
 some_same : {T : Type 0} (a b : T) → Some a ≡ Some b → a ≡ b
 some_same a b is = cc is

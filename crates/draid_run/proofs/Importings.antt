@@ -27,7 +27,7 @@ use Rattle.draid_pool.specs.Pools.{HasNames, group_in, Represents}
 use Rattle.draid_import.specs.Found.{HasRisen, SameChecks}
 use Rattle.draid_pool.specs.Importable.{IsImportable}
 use Rattle.draid_import.specs.Importing as pools
-use Rattle.draid_import.specs.Importing.{FindsNoPool, ImportsPool, LeavesMade, LeavesPool, RestsThere}
+use Rattle.draid_import.specs.Importing.{FindsNoPool, ImportsPool, LeavesMade, RestsThere}
 use Rattle.draid_pool.specs.Taking.{HoldsMade, IsAsBefore}
 use Rattle.draid_create.specs.Opening.{NoChecks}
 use Rattle.draid_pool.specs.Whole.{IsWhole}
@@ -42,7 +42,7 @@ use Rattle.draid_run.specs.Serve.{AnswerIs, IsSaid}
 use Rattle.draid_run.specs.Shelves.{HasChecks, HoldsFault, HoldsNew, HoldsShut, IsOut, IsSame, MayFind, OnShelf, TellsAsBefore}
 use Rattle.draid_run.specs.declared.answer.Stop.{Stop}
 use Rattle.draid_run.specs.declared.answer.Stop.TheVariants as stop
-use Rattle.draid_run.proofs.Following.{same_layout, same_told}
+use Rattle.draid_pool.proofs.Following.{same_layout, same_told}
 use Rattle.draid_run.proofs.GivenBack.{on_held, shelf_has}
 use Rattle.draid_run.proofs.Makings.{shut}
 

@@ -5,8 +5,6 @@ pub mod Broke
 pub mod Ended
 pub mod Ending
 pub mod Exits
-pub mod Filled
-pub mod Following
 pub mod GivenBack
 pub mod Grouping
 pub mod Importings
@@ -19,6 +17,4 @@ pub mod Risen
 pub mod Runs
 pub mod Said
 pub mod Serving
-pub mod Shown
 pub mod Steps
-pub mod Taught

@@ -16,7 +16,7 @@ use Rattle.draid_session.specs.Making.{content_of}
 use Rattle.draid_session.specs.Reads.{ReadsAs}
 use Rattle.draid_session.specs.Replies.{IsReplyTo}
 use Rattle.draid_session.specs.Session.{Desk, Finding, Foreign, Runs, TurnsBy}
-use Rattle.draid_run.specs.Knows.{AllSpare, Spares}
+use Rattle.draid_run.specs.Spares.{AllSpare, Spares}
 use Rattle.draid_run.proofs.Behind.{KeepsOpen, still_foreign}
 
 -- ---- what is learned

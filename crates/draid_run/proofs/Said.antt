@@ -16,8 +16,9 @@ use Rattle.draid_store.specs.declared.fault.DamageFault.{DamageFault}
 use Rattle.draid_store.specs.declared.fault.DamageFault.TheVariants as damaged
 use Rattle.draid_store.specs.declared.fault.FreeFault.{FreeFault}
 use Rattle.draid_store.specs.declared.fault.SumFault.{SumFault}
-use Rattle.draid_run.specs.Desks.{ReplyDoes}
-use Rattle.draid_run.specs.Says.{DamageSays, FreeSays, ReadSays, StatusDoes, StatusSays, SumSays, damage_reply, free_reply, read_reply, status_reply, sum_reply}
+use Rattle.draid_pool.specs.Carries.{ReplyDoes}
+use Rattle.draid_store.specs.Says.{DamageSays, FreeSays, ReadSays, SumSays, damage_reply, free_reply, read_reply, sum_reply}
+use Rattle.draid_status.specs.Says.{StatusDoes, StatusSays, status_reply}
 
 module _ (x : State) (chosen : List Room → Option ℕ → Type 0) (reply : Reply) (holds : List Hold) (store : Store) where
   pub read_does : (o : ℕ) → ReadSays o reply x holds store → ReplyDoes x chosen (ReadObject o) reply holds store

@@ -15,28 +15,16 @@ use Rattle.draid_session.specs.Replies.{IsReplyTo}
 use Rattle.draid_session.specs.Session as session
 use Rattle.draid_session.specs.Session.{Desk, Finding, Untouched, Bare, Made, Open, Shut, Foreign, Unknown, TurnsBy}
 use Rattle.draid_session.specs.State.{State, Store}
-use Rattle.draid_pool.specs.Carries.{CarriesOut}
+use Rattle.draid_pool.specs.Carries.{CarriesOut, ReplyDoes}
 use Rattle.draid_pool.specs.Pools.{Represents}
 use Rattle.draid_pool.specs.Whole.{IsWhole}
 use Rattle.draid_pool.specs.declared.pool.Pool.{Pool}
-use Rattle.draid_run.specs.Desks.{IsDesk, IsPool, PoolDid, ReplyDoes, Turned, asked_in}
-use Rattle.draid_run.specs.Knows.{Teaches}
+use Rattle.draid_run.specs.Desks.{IsDesk, IsPool, PoolDid, Turned, asked_in}
+use Rattle.draid_pool.specs.Knows.{Teaches}
 use Rattle.draid_run.specs.Making.{CreateDid, CreateTurns}
 use Rattle.draid_run.specs.Shelves.{IsOut, MayFind, OnShelf}
 use Rattle.draid_run.proofs.Behind.{asked_keeps, open_behind, still_foreign}
-use Rattle.draid_run.proofs.Following.{same_told}
-
--- what an answer says, said otherwise
-pub by_answer : {R A T : Type 0} (rack : racks.Ghosts R) (area : areas.Ghosts A) (P : T → List Hold → Store → Type 0) (Q : List Hold → Store → Type 0) (x : State) (pool : Pool R A) (result said : T)
-    → result ≡ said → ((holds : List Hold) (store : Store) → P said holds store → Q holds store) → CarriesOut rack area pool x (P result) → CarriesOut rack area pool x Q
-by_answer rack area P Q x pool result said is f c = record {
-  holds = c.holds;
-  reached = c.reached;
-  store = c.store;
-  follows = c.follows;
-  done = f c.holds c.store (subst (λ r. P r c.holds c.store) is c.done);
-  represents = c.represents;
-}
+use Rattle.draid_pool.proofs.Following.{same_told}
 
 -- the pool that is open is whole
 pub is_whole : {R A : Type 0} (rack : racks.Ghosts R) (area : areas.Ghosts A) (desk : Option (Pool R A)) (pool : Pool R A) → desk ≡ Some pool → (x : Desk) × IsPool rack area desk x → IsWhole rack area pool

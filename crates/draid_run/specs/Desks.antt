@@ -9,17 +9,13 @@ use Rattle.draid_script.specs.declared.name.CommandName.{CommandName}
 use Rattle.draid_script.specs.declared.name.CommandName.TheVariants as name
 use Rattle.draid_reply.specs.declared.reply.Reply.{Reply}
 use Rattle.draid_reply.specs.declared.reply.Reply.TheVariants.{NoPool}
-use Rattle.draid_session.specs.Does.{Does}
-use Rattle.draid_session.specs.Holds.{Hold}
-use Rattle.draid_session.specs.Making.{content_of}
 use Rattle.draid_session.specs.Replies.{IsReplyTo}
 use Rattle.draid_session.specs.Session.{Desk, Open, Foreign, Breaks, Cause, RecordFails, ShelfFails, TurnsBy, left_of}
-use Rattle.draid_session.specs.State.{State, Store}
-use Rattle.draid_pool.specs.Carries.{CarriesOut}
+use Rattle.draid_pool.specs.Carries.{CarriesOut, ReplyDoes}
 use Rattle.draid_pool.specs.Pools.{Represents}
 use Rattle.draid_pool.specs.Whole.{IsWhole}
 use Rattle.draid_pool.specs.declared.pool.Pool.{Pool}
-use Rattle.draid_run.specs.Knows.{KnowsBehind, KnowsPointers}
+use Rattle.draid_pool.specs.Knows.{KnowsBehind, KnowsPointers}
 use Rattle.draid_run.specs.Shelves.{FailsIn, HasFailed, HasFault, HoldsDesk, IsClosed, IsOut, MayFind, OnShelf}
 
 -- ---- desks
@@ -45,10 +41,6 @@ pub record IsDesk {R A : Type 0} (rack : racks.Ghosts R) (area : areas.Ghosts A)
   pub shelf : IsShelf desk entry now
 
 -- ---- commands
-
--- what a command does to the open pool, by its reply
-abbrev pub ReplyDoes : State → (List Room → Option ℕ → Type 0) → Command → Reply → List Hold → Store → Type 0
-ReplyDoes x chosen command reply holds store = Does x.geometry x.perms chosen content_of command x.store holds reply store
 
 -- What a command that leaves the shelf alone came to: it was carried out on the open pool and has a reply that it may have, or its reply is that it wants one.
 abbrev pub PoolDid : {R A : Type 0} → racks.Ghosts R → areas.Ghosts A → (List Room → Option ℕ → Type 0) → Command → CommandName → Desk → Reply → Option (Pool R A) → Type 0

@@ -21,7 +21,7 @@ use Rattle.draid_pool.specs.declared.fault.SyncFault.TheVariants as sync
 use Rattle.draid_pool.specs.declared.fault.Synced.{Synced as Group}
 use Rattle.draid_pool.specs.declared.pool.Pool.{Pool}
 use Rattle.draid_run.specs.Desks.{IsDesk}
-use Rattle.draid_run.specs.Knows.{KnowsPointers}
+use Rattle.draid_pool.specs.Knows.{KnowsPointers}
 use Rattle.draid_run.specs.Shelves.{OnShelf, PoolFails}
 use Rattle.draid_run.specs.declared.answer.Stop.{Stop}
 use Rattle.draid_run.specs.declared.answer.Stop.TheVariants as stop

@@ -3,11 +3,10 @@ pub mod Desks
 pub mod Ending
 pub mod Groups
 pub mod Importing
-pub mod Knows
 pub mod Making
 pub mod Next
-pub mod Says
 pub mod Script
 pub mod Serve
 pub mod Shelves
+pub mod Spares
 pub mod Status

@@ -8,7 +8,7 @@ ghost use Rattle.draid_script.specs.Line.{ReadObject, WriteObject};
 ghost use Rattle.draid_session.specs.Known.{Known};
 ghost use Rattle.draid_session.specs.Reads.{ReadsAs};
 ghost use Rattle.draid_session.specs.Session.{Desk, Foreign, Runs};
-ghost use Rattle.draid_run.specs.Knows.{AllSpare};
+ghost use Rattle.draid_run.specs.Spares.{AllSpare};
 ghost use Rattle.draid_run.specs.Shelves.{MayFind, OnShelf};
 
 use draid_area::Area;

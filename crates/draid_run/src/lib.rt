@@ -4,14 +4,12 @@
 
 mod answer;
 mod books;
-mod fill;
 mod groups;
 mod importing;
 mod kept;
 mod laws;
 mod replies;
 mod serve;
-mod showing;
 mod status;
 mod top;
 mod words;

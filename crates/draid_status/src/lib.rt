@@ -2,6 +2,8 @@
 
 #![tactic(auto)]
 
+mod replies;
 mod viewing;
 
+pub use replies::reply_to_status;
 pub use viewing::{vdev_name, view};

@@ -6,6 +6,7 @@ pub mod Damages
 pub mod Feeding
 pub mod FetchSteps
 pub mod Fetched
+pub mod Filled
 pub mod FreeSteps
 pub mod Listing
 pub mod Pointed
@@ -16,4 +17,5 @@ pub mod ReplaceSteps
 pub mod Sets
 pub mod StoreSteps
 pub mod Sums
+pub mod Teaching
 pub mod WriteSteps

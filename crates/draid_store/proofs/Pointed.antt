@@ -6,7 +6,8 @@ use Rattle.draid_names.specs.declared.refusal.ObjectFault.TheVariants as fault
 use Rattle.draid_block.specs.Blocks.{IsContent}
 use Rattle.draid_block.specs.Solving.{HasDigest}
 use Rattle.draid_block.specs.declared.solve.Fetched.{Fetched}
-use Rattle.draid_store.specs.Pointers.{FetchFinds, FitsPointer, ReadFinds}
+use Rattle.draid_store.specs.Pointers.{FetchFinds, ReadFinds}
+use Rattle.draid_pool.specs.Pointers.{FitsPointer}
 use Rattle.draid_pool.proofs.Wholes.{put_elsewhere, put_here}
 use Rattle.std.proofs.lemmas.Bool.{cases_eq}
 

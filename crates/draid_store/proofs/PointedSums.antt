@@ -16,7 +16,8 @@ use Rattle.draid_block.specs.declared.many.Solve.TheVariants.{Bytes, Unreadable}
 use Rattle.draid_block.specs.declared.solve.Fetched.{Fetched}
 use Rattle.draid_store.specs.Batches.{AreBytes, FeedsAll, FirstUnread}
 use Rattle.draid_store.specs.PointerSums.{AddsFitting, BlocksOf, DigestsFitting, FitPointers, StopsFor, StopsSum}
-use Rattle.draid_store.specs.Pointers.{FetchFinds, FitsPointer}
+use Rattle.draid_store.specs.Pointers.{FetchFinds}
+use Rattle.draid_pool.specs.Pointers.{FitsPointer}
 use Rattle.draid_store.specs.declared.fault.SumFault.{SumFault}
 use Rattle.draid_store.proofs.Sums.{joined, joined_append}
 

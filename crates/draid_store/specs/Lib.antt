@@ -2,4 +2,5 @@ pub mod Answers
 pub mod Batches
 pub mod PointerSums
 pub mod Pointers
+pub mod Says
 pub mod Shards

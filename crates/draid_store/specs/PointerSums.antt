@@ -7,7 +7,7 @@ use Rattle.draid_names.specs.declared.refusal.ObjectFault.{ObjectFault}
 use Rattle.draid_names.specs.declared.refusal.ObjectFault.TheVariants as fault
 use Rattle.draid_block.specs.declared.solve.Fetched.{Fetched}
 use Rattle.draid_store.specs.Batches.{Feeds}
-use Rattle.draid_store.specs.Pointers.{FitsPointer}
+use Rattle.draid_pool.specs.Pointers.{FitsPointer}
 use Rattle.draid_store.specs.declared.fault.SumFault.{SumFault}
 
 -- each of some objects from one on has a pointer, which its bytes fit

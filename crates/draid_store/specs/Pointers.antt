@@ -1,6 +1,5 @@
 -- What calls on the objects of a pool say by the table of their pointers alone, whatever its devices hold.
 use Rattle.std.specs.Prelude.{◌≡◌, ◌==◌, ⊤, ℕ, List, Option, Some, None, Result, Ok, Err, length, if◌then◌else◌}
-use Rattle.sha2.specs.Sha256.{sha256}
 use Rattle.std.specs.declared.alloc.Global.{Global}
 use Rattle.std.specs.declared.vec.Vec.{Vec}
 use Rattle.draid_names.specs.declared.pointer.Pointer.{Pointer}
@@ -11,16 +10,11 @@ use Rattle.draid_block.specs.declared.solve.Fetched.{Fetched}
 use Rattle.draid_store.specs.declared.fault.FreeFault.{FreeFault}
 use Rattle.draid_store.specs.declared.fault.FreeFault.TheVariants as free
 use Rattle.draid_pool.specs.declared.pool.Pool.{Pool}
-use Rattle.draid_pool.specs.Pointers.{pointer_in, SamePointers}
+use Rattle.draid_pool.specs.Pointers.{pointer_in, SamePointers, FitsPointer}
 
 -- one object has this pointer, or none, and each other the one that it had
 abbrev pub SetsPointer : {R A : Type 0} → ℕ → Option Pointer → Pool R A → Pool R A → Type 0
 SetsPointer object pointer old new = (other : ℕ) → pointer_in new other ≡ (if object == other then pointer else pointer_in old other)
-
--- bytes have a pointer's length and digest
-pub record FitsPointer (pointer : Pointer) (bytes : List ℕ) : Type 0 where
-  pub len : length bytes ≡ pointer.len
-  pub digest : sha256 bytes ≡ pointer.digest
 
 -- the answer to a read: bytes of the pointer's length and digest; `no object` just where the object has none
 abbrev pub ReadFinds : Option Pointer → Result (Vec ℕ Global) ObjectFault → Type 0

@@ -5,8 +5,10 @@
 
 mod damaging;
 mod fault;
+mod filling;
 mod freeing;
 mod reading;
+mod replies;
 mod room;
 mod store;
 mod summing;
@@ -14,7 +16,9 @@ mod writing;
 
 pub use damaging::damage;
 pub use fault::{DamageFault, FreeFault, SumFault};
+pub use filling::fill;
 pub use freeing::free;
 pub use reading::read;
+pub use replies::{reply_to_damage, reply_to_free, reply_to_read, reply_to_sum, reply_to_write};
 pub use summing::sum;
 pub use writing::write;

@@ -2,17 +2,17 @@ use Rattle.std.proofs.Common.{◌∙◌, ap, subst, sym}
 use Rattle.std.specs.Fn.{FnReturnsAt}
 use Rattle.draid_script.specs.Line.{FillObjects, IsInRange, WriteObject, command_in}
 use Rattle.draid_session.specs.Replies.{IsReplyTo}
-use Rattle.draid_run.specs.Knows.{Teaches}
+use Rattle.draid_pool.specs.Knows.{Teaches}
 use Rattle.draid_run.proofs.Asking.{asks_nothing, replied_as, replied_damage, replied_free, replied_read, replied_status, replied_sum}
 use Rattle.draid_run.proofs.replies.reply.Goals as goal
 
 pub returns-in-Write : goal.returns-in-Write
 returns-in-Write g c = record {
-  whole = c.write.ensures.whole;
-  fits = subst (λ k. IsReplyTo k c.write.result) (sym (ap command_in c.in-Write.is ∙ ap (WriteObject c.in-Write.object) (sym c.deref.ensures.value))) c.write.ensures.fits;
-  knows = subst (λ k. Teaches k c.write.result c.args.pool.now c.write.new.pool) (sym (ap command_in c.in-Write.is ∙ ap (WriteObject c.in-Write.object) (sym c.deref.ensures.value))) c.write.ensures.knows;
-  step = λ x rep. replied_as g.R.Rack g.A.Area (FnReturnsAt g.F.Fn c.args.chooser.now) c.args.line.now x c.write.new.pool c.write.result (WriteObject c.in-Write.object c.deref.result.now)
-      (ap command_in c.in-Write.is ∙ ap (WriteObject c.in-Write.object) (sym c.deref.ensures.value)) (c.write.ensures.step x rep);
+  whole = c.reply_to_write.ensures.whole;
+  fits = subst (λ k. IsReplyTo k c.reply_to_write.result) (sym (ap command_in c.in-Write.is ∙ ap (WriteObject c.in-Write.object) (sym c.deref.ensures.value))) c.reply_to_write.ensures.fits;
+  knows = subst (λ k. Teaches k c.reply_to_write.result c.args.pool.now c.reply_to_write.new.pool) (sym (ap command_in c.in-Write.is ∙ ap (WriteObject c.in-Write.object) (sym c.deref.ensures.value))) c.reply_to_write.ensures.knows;
+  step = λ x rep. replied_as g.R.Rack g.A.Area (FnReturnsAt g.F.Fn c.args.chooser.now) c.args.line.now x c.reply_to_write.new.pool c.reply_to_write.result (WriteObject c.in-Write.object c.deref.result.now)
+      (ap command_in c.in-Write.is ∙ ap (WriteObject c.in-Write.object) (sym c.deref.ensures.value)) (c.reply_to_write.ensures.step x rep);
 }
 
 pub returns-in-Fill : goal.returns-in-Fill
@@ -26,56 +26,56 @@ returns-in-Fill g c = record {
 
 pub returns-in-Free : goal.returns-in-Free
 returns-in-Free g c = record {
-  whole = c.free.ensures.whole;
-  fits = subst (λ k. IsReplyTo k c.free.result) (sym (ap command_in c.in-Free.is)) c.free.ensures.fits;
-  knows = subst (λ k. Teaches k c.free.result c.args.pool.now c.free.new.pool) (sym (ap command_in c.in-Free.is)) c.free.ensures.knows;
-  step = λ x rep. replied_free g.R.Rack g.A.Area (FnReturnsAt g.F.Fn c.args.chooser.now) c.args.line.now x c.free.new.pool c.free.result c.in-Free.object c.in-Free.is (c.free.ensures.step x rep);
+  whole = c.reply_to_free.ensures.whole;
+  fits = subst (λ k. IsReplyTo k c.reply_to_free.result) (sym (ap command_in c.in-Free.is)) c.reply_to_free.ensures.fits;
+  knows = subst (λ k. Teaches k c.reply_to_free.result c.args.pool.now c.reply_to_free.new.pool) (sym (ap command_in c.in-Free.is)) c.reply_to_free.ensures.knows;
+  step = λ x rep. replied_free g.R.Rack g.A.Area (FnReturnsAt g.F.Fn c.args.chooser.now) c.args.line.now x c.reply_to_free.new.pool c.reply_to_free.result c.in-Free.object c.in-Free.is (c.reply_to_free.ensures.step x rep);
 }
 
 pub returns-in-Read : goal.returns-in-Read
 returns-in-Read g c = record {
-  whole = c.read.ensures.whole;
-  fits = subst (λ k. IsReplyTo k c.read.result) (sym (ap command_in c.in-Read.is)) c.read.ensures.fits;
-  knows = subst (λ k. Teaches k c.read.result c.args.pool.now c.read.new.pool) (sym (ap command_in c.in-Read.is)) c.read.ensures.knows;
-  step = λ x rep. replied_read g.R.Rack g.A.Area (FnReturnsAt g.F.Fn c.args.chooser.now) c.args.line.now x c.read.new.pool c.read.result c.in-Read.object c.in-Read.is (c.read.ensures.step x rep);
+  whole = c.reply_to_read.ensures.whole;
+  fits = subst (λ k. IsReplyTo k c.reply_to_read.result) (sym (ap command_in c.in-Read.is)) c.reply_to_read.ensures.fits;
+  knows = subst (λ k. Teaches k c.reply_to_read.result c.args.pool.now c.reply_to_read.new.pool) (sym (ap command_in c.in-Read.is)) c.reply_to_read.ensures.knows;
+  step = λ x rep. replied_read g.R.Rack g.A.Area (FnReturnsAt g.F.Fn c.args.chooser.now) c.args.line.now x c.reply_to_read.new.pool c.reply_to_read.result c.in-Read.object c.in-Read.is (c.reply_to_read.ensures.step x rep);
 }
 
 pub returns-in-Sum : goal.returns-in-Sum
 returns-in-Sum g c = record {
-  whole = c.sum.ensures.whole;
-  fits = subst (λ k. IsReplyTo k c.sum.result) (sym (ap command_in c.in-Sum.is)) c.sum.ensures.fits;
-  knows = subst (λ k. Teaches k c.sum.result c.args.pool.now c.sum.new.pool) (sym (ap command_in c.in-Sum.is)) c.sum.ensures.knows;
-  step = λ x rep. replied_sum g.R.Rack g.A.Area (FnReturnsAt g.F.Fn c.args.chooser.now) c.args.line.now x c.sum.new.pool c.sum.result c.in-Sum.first c.in-Sum.count c.in-Sum.is (c.sum.ensures.step x rep);
+  whole = c.reply_to_sum.ensures.whole;
+  fits = subst (λ k. IsReplyTo k c.reply_to_sum.result) (sym (ap command_in c.in-Sum.is)) c.reply_to_sum.ensures.fits;
+  knows = subst (λ k. Teaches k c.reply_to_sum.result c.args.pool.now c.reply_to_sum.new.pool) (sym (ap command_in c.in-Sum.is)) c.reply_to_sum.ensures.knows;
+  step = λ x rep. replied_sum g.R.Rack g.A.Area (FnReturnsAt g.F.Fn c.args.chooser.now) c.args.line.now x c.reply_to_sum.new.pool c.reply_to_sum.result c.in-Sum.first c.in-Sum.count c.in-Sum.is (c.reply_to_sum.ensures.step x rep);
 }
 
 pub returns-in-Damage : goal.returns-in-Damage
 returns-in-Damage g c = record {
-  whole = c.damage.ensures.whole;
-  fits = subst (λ k. IsReplyTo k c.damage.result) (sym (ap command_in c.in-Damage.is)) c.damage.ensures.fits;
-  knows = subst (λ k. Teaches k c.damage.result c.args.pool.now c.damage.new.pool) (sym (ap command_in c.in-Damage.is)) c.damage.ensures.knows;
-  step = λ x rep. replied_damage g.R.Rack g.A.Area (FnReturnsAt g.F.Fn c.args.chooser.now) c.args.line.now x c.damage.new.pool c.damage.result c.in-Damage.leaf c.in-Damage.sector c.in-Damage.is (c.damage.ensures.step x rep);
+  whole = c.reply_to_damage.ensures.whole;
+  fits = subst (λ k. IsReplyTo k c.reply_to_damage.result) (sym (ap command_in c.in-Damage.is)) c.reply_to_damage.ensures.fits;
+  knows = subst (λ k. Teaches k c.reply_to_damage.result c.args.pool.now c.reply_to_damage.new.pool) (sym (ap command_in c.in-Damage.is)) c.reply_to_damage.ensures.knows;
+  step = λ x rep. replied_damage g.R.Rack g.A.Area (FnReturnsAt g.F.Fn c.args.chooser.now) c.args.line.now x c.reply_to_damage.new.pool c.reply_to_damage.result c.in-Damage.leaf c.in-Damage.sector c.in-Damage.is (c.reply_to_damage.ensures.step x rep);
 }
 
 pub returns-in-Status : goal.returns-in-Status
 returns-in-Status g c = record {
   whole = c.requires.whole;
-  fits = subst (λ k. IsReplyTo k c.status.result) (sym (ap command_in c.in-Status.is)) c.status.ensures.fits;
-  knows = subst (λ k. Teaches k c.status.result c.args.pool.now c.args.pool.now) (sym (ap command_in c.in-Status.is)) c.status.ensures.knows;
-  step = λ x rep. replied_status g.R.Rack g.A.Area (FnReturnsAt g.F.Fn c.args.chooser.now) c.args.line.now x c.args.pool.now c.status.result c.in-Status.format c.in-Status.is (c.status.ensures.step x rep);
+  fits = subst (λ k. IsReplyTo k c.reply_to_status.result) (sym (ap command_in c.in-Status.is)) c.reply_to_status.ensures.fits;
+  knows = subst (λ k. Teaches k c.reply_to_status.result c.args.pool.now c.args.pool.now) (sym (ap command_in c.in-Status.is)) c.reply_to_status.ensures.knows;
+  step = λ x rep. replied_status g.R.Rack g.A.Area (FnReturnsAt g.F.Fn c.args.chooser.now) c.args.line.now x c.args.pool.now c.reply_to_status.result c.in-Status.format c.in-Status.is (c.reply_to_status.ensures.step x rep);
 }
 
 pub unreachable-requires : goal.unreachable-requires
 unreachable-requires g c =
     c.requires.asks (asks_nothing c.args.line.now c.in_default.not-Write c.in_default.not-Fill c.in_default.not-Read c.in_default.not-Free c.in_default.not-Sum c.in_default.not-Damage c.in_default.not-Status)
 
-pub write-requires-clause-range : goal.write-requires-clause-range
-write-requires-clause-range g c = subst IsInRange (ap command_in c.in-Write.is ∙ ap (WriteObject c.in-Write.object) (sym c.deref.ensures.value)) c.requires.range
+pub reply_to_write-requires-clause-range : goal.reply_to_write-requires-clause-range
+reply_to_write-requires-clause-range g c = subst IsInRange (ap command_in c.in-Write.is ∙ ap (WriteObject c.in-Write.object) (sym c.deref.ensures.value)) c.requires.range
 
-pub write-requires-clause-chooser : goal.write-requires-clause-chooser
-write-requires-clause-chooser g c = c.requires.chooser
+pub reply_to_write-requires-clause-chooser : goal.reply_to_write-requires-clause-chooser
+reply_to_write-requires-clause-chooser g c = c.requires.chooser
 
-pub write-requires-clause-whole : goal.write-requires-clause-whole
-write-requires-clause-whole g c = c.requires.whole
+pub reply_to_write-requires-clause-whole : goal.reply_to_write-requires-clause-whole
+reply_to_write-requires-clause-whole g c = c.requires.whole
 
 pub fill-requires-clause-range : goal.fill-requires-clause-range
 fill-requires-clause-range g c = subst (λ l. IsInRange (command_in l)) c.in-Fill.is c.requires.range
@@ -86,20 +86,20 @@ fill-requires-clause-chooser g c = c.requires.chooser
 pub fill-requires-clause-whole : goal.fill-requires-clause-whole
 fill-requires-clause-whole g c = c.requires.whole
 
-pub sum-requires-clause-range : goal.sum-requires-clause-range
-sum-requires-clause-range g c κs within = subst (λ l. IsInRange (command_in l)) c.in-Sum.is c.requires.range
+pub reply_to_sum-requires-clause-range : goal.reply_to_sum-requires-clause-range
+reply_to_sum-requires-clause-range g c κs within = subst (λ l. IsInRange (command_in l)) c.in-Sum.is c.requires.range
 
-pub sum-requires-clause-whole : goal.sum-requires-clause-whole
-sum-requires-clause-whole g c κs within = c.requires.whole
+pub reply_to_sum-requires-clause-whole : goal.reply_to_sum-requires-clause-whole
+reply_to_sum-requires-clause-whole g c κs within = c.requires.whole
 
-pub free-requires : goal.free-requires
-free-requires g c = record { whole = c.requires.whole }
+pub reply_to_free-requires : goal.reply_to_free-requires
+reply_to_free-requires g c = record { whole = c.requires.whole }
 
-pub read-requires : goal.read-requires
-read-requires g c = record { whole = c.requires.whole }
+pub reply_to_read-requires : goal.reply_to_read-requires
+reply_to_read-requires g c = record { whole = c.requires.whole }
 
-pub damage-requires : goal.damage-requires
-damage-requires g c = record { whole = c.requires.whole }
+pub reply_to_damage-requires : goal.reply_to_damage-requires
+reply_to_damage-requires g c = record { whole = c.requires.whole }
 
-pub status-requires : goal.status-requires
-status-requires g c = record { whole = c.requires.whole }
+pub reply_to_status-requires : goal.reply_to_status-requires
+reply_to_status-requires g c = record { whole = c.requires.whole }

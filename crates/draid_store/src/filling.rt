@@ -9,16 +9,16 @@ ghost use Rattle.draid_session.specs.State.{State};
 ghost use Rattle.draid_pool.specs.Carries.{CarriesOut};
 ghost use Rattle.draid_pool.specs.Pools.{Represents};
 ghost use Rattle.draid_pool.specs.Whole.{IsWhole};
-ghost use Rattle.draid_run.specs.Desks.{ReplyDoes};
-ghost use Rattle.draid_run.specs.Knows.{Teaches};
+ghost use Rattle.draid_pool.specs.Carries.{ReplyDoes};
+ghost use Rattle.draid_pool.specs.Knows.{Teaches};
 
+use crate::writing::write;
 use draid_area::Area;
 use draid_choose::Chooser;
 use draid_names::{Room, WriteFault};
 use draid_pool::Pool;
 use draid_rack::Rack;
 use draid_reply::Reply;
-use draid_store::write;
 use rand_core::{Rng, SeedableRng};
 use rand_xoshiro::Xoroshiro128PlusPlus;
 use std::alloc::Global;
@@ -34,7 +34,7 @@ fn draw(into: &mut [u8], seed: u64, object: u64)
 }
 
 /// Gives `count` objects from the first on `len` bytes each, by a seed, until one is refused them.
-pub(crate) fn fill<R: Rack, A: Area, F: Fn(&[Room]) -> Option<u32>>(
+pub fn fill<R: Rack, A: Area, F: Fn(&[Room]) -> Option<u32>>(
     alloc: Global,
     pool: &mut Pool<R, A>,
     chooser: &Chooser<F>,

@@ -1,13 +1,10 @@
 -- What is known of a pool's objects, by the table of their pointers.
-use Rattle.std.specs.Prelude.{◌≡◌, ◌<◌, ◌≤◌, ◌+◌, ◌⊎◌, ⊤, ℕ, List, [], ◌∷◌, Option, Some, None, Result, Ok}
+use Rattle.std.specs.Prelude.{◌≡◌, ⊤, ℕ, List, Option, Some, None}
 use Rattle.draid_names.specs.declared.pointer.Pointer.{Pointer}
-use Rattle.draid_script.specs.Grammar.{line_of}
-use Rattle.draid_script.specs.Line.{Command, CrashPool, ExportPool, FillObjects, FreeObject, WriteObject}
-use Rattle.draid_script.specs.declared.fault.LineFault.{LineFault}
+use Rattle.draid_script.specs.Line.{Command}
 use Rattle.draid_reply.specs.declared.reply.Reply.{Reply}
 use Rattle.draid_session.specs.Known.{Known, Learns}
-use Rattle.draid_store.specs.Pointers.{FitsPointer}
-use Rattle.draid_pool.specs.Pointers.{pointer_in}
+use Rattle.draid_pool.specs.Pointers.{FitsPointer, pointer_in}
 use Rattle.draid_pool.specs.declared.pool.Pool.{Pool}
 
 -- An object that is known to have no bytes has no pointer; one that is known to have some has a pointer that they fit.
@@ -32,18 +29,3 @@ pub record KnowsBehind {R A : Type 0} (command : Command) (reply : Reply) (old :
 -- A reply says of the objects what is allowed by whatever was known of them, and what it adds is so.
 abbrev pub Teaches : {R A : Type 0} → Command → Reply → Pool R A → Pool R A → Type 0
 Teaches command reply old new = (known : Known) → KnowsPointers old known → KnowsBehind command reply known new
-
--- ---- lines between a write and a read
-
--- A line neither writes nor frees this object, nor gives the pool back.
-abbrev pub Spares : ℕ → Result Command LineFault → Type 0
-Spares object (Ok (WriteObject o bytes)) = o ≡ object → ⊥
-Spares object (Ok (FillObjects first count len seed)) = (object < first) ⊎ (first + count ≤ object)
-Spares object (Ok (FreeObject o)) = o ≡ object → ⊥
-Spares object (Ok ExportPool) = ⊥
-Spares object (Ok CrashPool) = ⊥
-Spares object line = ⊤
-
-abbrev pub AllSpare : ℕ → List (List ℕ) → Type 0
-AllSpare object [] = ⊤
-AllSpare object (line ∷ lines) = Spares object (line_of line) × AllSpare object lines

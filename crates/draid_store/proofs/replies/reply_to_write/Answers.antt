@@ -2,9 +2,10 @@ use Rattle.std.proofs.Common.{◌∙◌, Ok, Err, ap, refl}
 use Rattle.std.specs.Fn.{FnReturnsAt}
 use Rattle.draid_script.specs.Line.{WriteObject}
 use Rattle.draid_store.specs.Answers.{WriteDoes}
-use Rattle.draid_run.proofs.Steps.{by_answer}
-use Rattle.draid_run.proofs.Taught.{refused_same, teaches_nothing, write_teaches}
-use Rattle.draid_run.proofs.replies.write.Goals as goal
+use Rattle.draid_pool.proofs.Steps.{by_answer}
+use Rattle.draid_store.proofs.Teaching.{refused_same, write_teaches}
+use Rattle.draid_pool.proofs.Taught.{teaches_nothing}
+use Rattle.draid_store.proofs.replies.reply_to_write.Goals as goal
 
 pub returns-in-Ok : goal.returns-in-Ok
 returns-in-Ok g c = record {

@@ -1,9 +1,9 @@
 use Rattle.std.proofs.Common.{◌∙◌, Err, ap, refl, sym}
 use Rattle.draid_store.specs.Answers.{ReadDoes}
-use Rattle.draid_run.specs.Says.{read_reply}
-use Rattle.draid_run.proofs.Steps.{by_answer}
-use Rattle.draid_run.proofs.Taught.{read_teaches}
-use Rattle.draid_run.proofs.replies.read.Goals as goal
+use Rattle.draid_store.specs.Says.{read_reply}
+use Rattle.draid_pool.proofs.Steps.{by_answer}
+use Rattle.draid_store.proofs.Teaching.{read_teaches}
+use Rattle.draid_store.proofs.replies.reply_to_read.Goals as goal
 
 pub returns-in-Ok : goal.returns-in-Ok
 returns-in-Ok g c = record {

@@ -15,11 +15,10 @@ use Rattle.draid_session.specs.Making.{content_of}
 use Rattle.draid_session.specs.State.{State, Store}
 use Rattle.draid_session.specs.Writes.{Fills, Refuses, Writes}
 use Rattle.draid_store.specs.Answers.{WriteDoes}
-use Rattle.draid_pool.specs.Carries.{CarriesOut}
+use Rattle.draid_pool.specs.Carries.{CarriesOut, ReplyDoes}
 use Rattle.draid_pool.specs.Pools.{Represents}
 use Rattle.draid_pool.specs.declared.pool.Pool.{Pool}
-use Rattle.draid_run.specs.Desks.{ReplyDoes}
-use Rattle.draid_run.proofs.Following.{follows_but, follows_on, same_layout}
+use Rattle.draid_pool.proofs.Following.{follows_but, follows_on, same_layout}
 
 -- a buffer that was written from end to end
 pub whole : (n : ℕ) (x items : List ℕ) → length x ≡ length items → length items ≡ n → take n (x ++ drop (length x) items) ≡ x

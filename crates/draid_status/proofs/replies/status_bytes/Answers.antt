@@ -1,6 +1,6 @@
 use Rattle.draid_script.specs.declared.line.StatusFormat.TheVariants.{Json, Text}
-use Rattle.draid_run.proofs.Shown.{text_shows}
-use Rattle.draid_run.proofs.showing.status_bytes.Goals as goal
+use Rattle.draid_status.proofs.Shown.{text_shows}
+use Rattle.draid_status.proofs.replies.status_bytes.Goals as goal
 
 pub returns-in-Text : goal.returns-in-Text
 returns-in-Text g c = record {

@@ -4,9 +4,9 @@ use Rattle.draid_session.specs.State.{State}
 use Rattle.draid_pool.specs.Carries.{CarriesOut}
 use Rattle.draid_pool.specs.Pools.{Represents}
 use Rattle.draid_pool.specs.Whole.{IsWhole}
-use Rattle.draid_run.proofs.Filled.{FillsOf}
-use Rattle.draid_run.proofs.Taught.{FillsKnown}
-use Rattle.draid_run.proofs.fill.fill.Given as goal
+use Rattle.draid_store.proofs.Filled.{FillsOf}
+use Rattle.draid_store.proofs.Teaching.{FillsKnown}
+use Rattle.draid_store.proofs.filling.fill.Given as goal
 
 -- the objects so far have their contents
 abbrev pub invariant-loop-written : goal.invariant-loop-written

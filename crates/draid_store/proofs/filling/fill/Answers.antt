@@ -2,9 +2,9 @@ use Rattle.std.proofs.Common.{◌∙◌, ◌+◌, arith, ap, length, refl}
 use Rattle.std.specs.Fn.{FnReturnsAt}
 use Rattle.draid_names.specs.declared.refusal.WriteFault.TheVariants as fault
 use Rattle.draid_session.specs.Making.{content_of}
-use Rattle.draid_run.proofs.Filled.{fill_stopped, fill_unbegun, filled_all, filled_more, filled_none, whole}
-use Rattle.draid_run.proofs.Taught.{fill_stopped_teaches, fill_teaches, fills_more, fills_none, refused_same}
-use Rattle.draid_run.proofs.fill.fill.Goals as goal
+use Rattle.draid_store.proofs.Filled.{fill_stopped, fill_unbegun, filled_all, filled_more, filled_none, whole}
+use Rattle.draid_store.proofs.Teaching.{fill_stopped_teaches, fill_teaches, fills_more, fills_none, refused_same}
+use Rattle.draid_store.proofs.filling.fill.Goals as goal
 
 pub returns-in_default : goal.returns-in_default
 returns-in_default g c = record {

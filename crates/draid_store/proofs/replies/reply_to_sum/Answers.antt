@@ -1,9 +1,9 @@
 use Rattle.std.proofs.Common.{ap, refl, sym}
 use Rattle.draid_store.specs.Answers.{SumDoes}
-use Rattle.draid_run.specs.Says.{sum_reply}
-use Rattle.draid_run.proofs.Steps.{by_answer}
-use Rattle.draid_run.proofs.Taught.{sum_teaches}
-use Rattle.draid_run.proofs.replies.sum.Goals as goal
+use Rattle.draid_store.specs.Says.{sum_reply}
+use Rattle.draid_pool.proofs.Steps.{by_answer}
+use Rattle.draid_store.proofs.Teaching.{sum_teaches}
+use Rattle.draid_store.proofs.replies.reply_to_sum.Goals as goal
 
 pub returns-in-Ok : goal.returns-in-Ok
 returns-in-Ok g c = record {

@@ -1,10 +1,10 @@
 use Rattle.std.proofs.Common.{ap, refl, sym}
 use Rattle.draid_script.specs.Line.{ShowStatus}
-use Rattle.draid_run.specs.Says.{StatusDoes, status_reply}
-use Rattle.draid_run.proofs.Shown.{status_told}
-use Rattle.draid_run.proofs.Steps.{by_answer}
-use Rattle.draid_run.proofs.Taught.{teaches_nothing}
-use Rattle.draid_run.proofs.replies.status.Goals as goal
+use Rattle.draid_status.specs.Says.{StatusDoes, status_reply}
+use Rattle.draid_status.proofs.Shown.{status_told}
+use Rattle.draid_pool.proofs.Steps.{by_answer}
+use Rattle.draid_pool.proofs.Taught.{teaches_nothing}
+use Rattle.draid_status.proofs.replies.reply_to_status.Goals as goal
 
 pub returns-in-Ok : goal.returns-in-Ok
 returns-in-Ok g c = record {

@@ -3,7 +3,7 @@ use Rattle.rand_core.specs.Stream.{Stream, fill_bytes}
 use Rattle.rand_core.specs.Steps.{stream_of, steps_u64_low}
 use Rattle.rand_xoshiro.specs.Xoroshiro128.{plus_plus}
 use Rattle.draid_session.specs.Making.{content_of}
-use Rattle.draid_run.proofs.fill.draw.Goals as goal
+use Rattle.draid_store.proofs.filling.draw.Goals as goal
 
 pub returns-clause-bytes : goal.returns-clause-bytes
 unfolding content_of fill_bytes stream_of

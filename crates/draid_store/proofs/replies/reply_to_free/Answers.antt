@@ -1,9 +1,9 @@
 use Rattle.std.proofs.Common.{ap, refl, sym}
 use Rattle.draid_store.specs.Answers.{FreeDoes}
-use Rattle.draid_run.specs.Says.{free_reply}
-use Rattle.draid_run.proofs.Steps.{by_answer}
-use Rattle.draid_run.proofs.Taught.{free_teaches}
-use Rattle.draid_run.proofs.replies.free.Goals as goal
+use Rattle.draid_store.specs.Says.{free_reply}
+use Rattle.draid_pool.proofs.Steps.{by_answer}
+use Rattle.draid_store.proofs.Teaching.{free_teaches}
+use Rattle.draid_store.proofs.replies.reply_to_free.Goals as goal
 
 pub returns-in-Ok : goal.returns-in-Ok
 returns-in-Ok g c = record {

@@ -18,7 +18,7 @@ use Rattle.draid_status.specs.Views.{uber_view, views_of}
 use Rattle.draid_pool.specs.declared.pool.Pool.{Pool}
 use Rattle.draid_pool.proofs.Looking.{changes_none, looked, looks_at}
 use Rattle.draid_pool.proofs.Steps.{carried, follows_on}
-use Rattle.draid_run.specs.Says.{ShowsPool, StatusDoes}
+use Rattle.draid_status.specs.Says.{ShowsPool, StatusDoes}
 
 -- the text of a view, by the format that was asked for
 pub text_shows : (x : State) (form said : StatusFormat) → form ≡ said → (got : Result PoolView Starved) (view : PoolView) → got ≡ Ok view

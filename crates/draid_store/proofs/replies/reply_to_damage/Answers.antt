@@ -1,10 +1,10 @@
 use Rattle.std.proofs.Common.{◌∙◌, Err, ap, refl, sym}
 use Rattle.draid_script.specs.Line.{DamageSector}
 use Rattle.draid_store.specs.Answers.{DamageDoes}
-use Rattle.draid_run.specs.Says.{damage_reply}
-use Rattle.draid_run.proofs.Steps.{by_answer}
-use Rattle.draid_run.proofs.Taught.{teaches_nothing}
-use Rattle.draid_run.proofs.replies.damage.Goals as goal
+use Rattle.draid_store.specs.Says.{damage_reply}
+use Rattle.draid_pool.proofs.Steps.{by_answer}
+use Rattle.draid_pool.proofs.Taught.{teaches_nothing}
+use Rattle.draid_store.proofs.replies.reply_to_damage.Goals as goal
 
 pub returns-in-Ok : goal.returns-in-Ok
 returns-in-Ok g c = record {
