@@ -1,5 +1,5 @@
 -- Calls that leave the images of a metaslab as they are, and with them what an import may take.
-use Rattle.std.proofs.Common.{◌≡◌, ◌∙◌, inl, inr, ℕ, Bool, true, false, Option, Some, None, IsSome, refl, sym, subst, ◌≢◌, ◌<◌, ◌-◌, ◌==◌, ◌&&◌, [], ◌∷◌, zero, suc, List, arith, ap, length, get_or}
+use Rattle.std.proofs.Common.{◌≡◌, ◌∙◌, inl, inr, ℕ, Bool, true, false, Option, Some, None, IsSome, refl, sym, subst, ◌≢◌, ◌<◌, ◌==◌, ◌&&◌, [], ◌∷◌, zero, suc, List, arith, ap, length, get_or}
 use Rattle.std.specs.Prelude.{⊤, nat_lt, if◌then◌else◌}
 use Rattle.draid_area.specs.Area.{Content}
 use Rattle.draid_machine.specs.declared.event.Event.{Event}

@@ -1,5 +1,5 @@
 -- Slots in which room was made.
-use Rattle.std.proofs.Common.{if◌then◌else◌, ◌≡◌, ◌⊎◌, ◌+◌, ◌≤◌, ◌∙◌, ℕ, zero, suc, Bool, true, false, arith, refl, inl, inr}
+use Rattle.std.proofs.Common.{if◌then◌else◌, ◌≡◌, ◌⊎◌, ◌+◌, ◌≤◌, ◌∙◌, ℕ, zero, suc, Bool, true, false, arith, inl, inr}
 use Rattle.draid_spec.specs.declared.layout.Geometry.{Geometry}
 use Rattle.draid_perm.specs.declared.perms.Perms.{Perms}
 use Rattle.draid_slots.specs.Changes.{HasRoom, IsOf, Keeps}

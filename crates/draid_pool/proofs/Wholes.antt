@@ -40,7 +40,6 @@ use Rattle.draid_pool.specs.declared.pool.Pool.{Pool}
 use Rattle.draid_pool.proofs.Lists.{get_set_other, get_set_same, some_of}
 use Rattle.draid_objects.specs.Changes.{Freed}
 use Rattle.std.proofs.lemmas.Bool.Decides.{nat_tests}
-use Rattle.draid_session.specs.State.{State}
 use Rattle.draid_pool.specs.Pointers.{SamePointers}
 
 -- a place of a table that was set, and another

@@ -16,8 +16,14 @@ returns g c =
         valid = e.valid;
         part = e.event.1.part;
         open_group_is = e.sets.groups.open_group_is;
-        done = inr (λ same. true≢false (sym (c.is_newest.ensures.1 same) ∙ c.if-is_newest.false), (c.in-Ok._group, e.sets,
+        done = inr (
+          λ same. true≢false (sym (c.is_newest.ensures.1 same) ∙ c.if-is_newest.false),
+          (
+            c.in-Ok._group,
+            e.sets,
             frees g.R.Rack g.A.Area c.args.shard.now c.free.new.self c.args.pointer.now c.args.floor c.in-Ok._group e.valid e.kit e.reserve e.event.0 e.event.1
-            (let low = c.requires.valid.low in let floor = c.requires.floor in let last = c.requires.last in let is = e.event.0 in omega (arith, low, floor, last, is))));
+                (let low = c.requires.valid.low in let floor = c.requires.floor in let last = c.requires.last in let is = e.event.0 in omega (arith, low, floor, last, is)),
+          ),
+        );
       };
     }
