@@ -1,5 +1,5 @@
 -- What calls on the objects of a pool say by the table of their pointers alone, whatever its devices hold.
-use Rattle.std.specs.Prelude.{◌≡◌, ◌==◌, ⊤, ℕ, List, Option, Some, None, Result, Ok, Err, length, if◌then◌else◌}
+use Rattle.std.specs.Prelude.{◌≡◌, ◌==◌, ⊤, ℕ, List, Option, Some, None, Result, Ok, Err, if◌then◌else◌}
 use Rattle.std.specs.declared.alloc.Global.{Global}
 use Rattle.std.specs.declared.vec.Vec.{Vec}
 use Rattle.draid_names.specs.declared.pointer.Pointer.{Pointer}
