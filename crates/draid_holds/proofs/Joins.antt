@@ -1,5 +1,5 @@
 -- Passes that are joined to one, the last one first.
-use Rattle.std.proofs.Common.{◌≡◌, ℕ, ◌+◌, ◌-◌, ◌≤◌, ◌||◌, true, false, Bool, List, [], ◌∷◌, ◌++◌, length, sym, refl, ap, ◌∙◌, subst, arith, All}
+use Rattle.std.proofs.Common.{◌≡◌, ℕ, ◌+◌, ◌≤◌, ◌||◌, true, false, Bool, List, [], ◌∷◌, ◌++◌, sym, refl, ap, ◌∙◌, subst, arith, All}
 use Rattle.std.proofs.lemmas.List.{append_assoc, append-nil}
 use Rattle.std.proofs.lemmas.List.Elements.{All-cons, All-head, All-nil, All-tail, All-weaker}
 use Rattle.std.proofs.lemmas.List.Sums.{sum_by_push}
@@ -7,7 +7,7 @@ use Rattle.draid_turn.specs.Calls.{Caller}
 use Rattle.draid_turn.specs.Lists.{StartsWith, merge, one_if, one_within, places, times}
 use Rattle.draid_turn.specs.Numbers.{holds}
 use Rattle.draid_turn.proofs.Ascending.{times_merge, times_places}
-use Rattle.draid_turn.proofs.Beginnings.{starts_further, starts_length, starts_self}
+use Rattle.draid_turn.proofs.Beginnings.{starts_further, starts_self}
 use Rattle.draid_turn.proofs.Spans.{holds_append}
 use Rattle.draid_turn.proofs.Sums.{count_push}
 use Rattle.draid_holds.specs.Passes.{holders, makers}
@@ -86,11 +86,6 @@ module _ {E : Type 0} (start : Caller E) (all : List (Caller E)) where
       let was = r.numbers n h in
       let zero_left : holders n left ≡ 0 = ap (holders n) none in held_one (holds n first.numbers) (omega (arith, was, zero_left))
 
--- the places of a pass that made all events since the opening
-pub made_once : {E : Type 0} (opened log : List E) (own : List ℕ) (x : ℕ) → StartsWith log opened → own ≡ places (length opened) (length log - length opened) → times x own ≡ one_within (length opened) (length log) x
-made_once opened log own x since is =
-    let le = starts_length log opened since in
-    let all = times_places x (length opened) (length log - length opened) in
-    let mine : times x own ≡ times x (places (length opened) (length log - length opened)) = ap (times x) is in
-    let end : one_within (length opened) (length opened + (length log - length opened)) x ≡ one_within (length opened) (length log) x = ap (λ k. one_within (length opened) k x) (omega (arith, le)) in
-    mine ∙ (all ∙ end)
+-- the places of a pass that made all holds
+pub made_once : (own : List ℕ) (n x : ℕ) → own ≡ places 0 n → times x own ≡ one_within 0 n x
+made_once own n x is = ap (times x) is ∙ (times_places x 0 n ∙ ap (λ k. one_within 0 k x) (omega arith))

@@ -1,10 +1,12 @@
 -- Passes that are split off one after another, and joined again.
-use Rattle.std.specs.Prelude.{◌≡◌, ℕ, true, List, All, count_by, map, sum_by}
+use Rattle.std.specs.Prelude.{◌≡◌, ◌+◌, ℕ, true, List, All, count_by, length, map, sum_by}
 use Rattle.std.specs.declared.vec.Vec.{Vec}
 use Rattle.std.specs.declared.alloc.Global.{Global}
+use Rattle.draid_turn.specs.declared.past.Past.{Past}
 use Rattle.draid_turn.specs.declared.span.Span.{Span}
 use Rattle.draid_turn.specs.Calls.{Caller, Lock, newcomer}
-use Rattle.draid_turn.specs.Lists.{StartsWith, times}
+use Rattle.draid_turn.specs.History.{Stood}
+use Rattle.draid_turn.specs.Lists.{StartsWith, one_within, times}
 use Rattle.draid_turn.specs.Numbers.{HoldsSome, holds}
 
 -- how many of the lists of numbers have this one
@@ -39,3 +41,11 @@ pub record KeepsOne (held : List Span) (lists : List (Vec Span Global)) : Type 0
   pub number : ℕ
   pub there : holds number held ≡ true
   pub kept : shares number lists ≡ 0
+
+-- All passes were joined to the first one, and the value was taken out behind the history, in which each place is just
+-- one pass's
+pub record ClosesEach {T : Type 0} (step : T → Past T → Type 0) (opened : T) (first : Caller (Past T)) (passes : List (Caller (Past T))) (value : T) : Type 0 where
+  pub log : List (Past T)
+  pub stood : Stood step opened log value
+  pub seen : AllSeen log passes
+  pub single : (x : ℕ) → times x first.own + makers x passes ≡ one_within 0 (length log) x

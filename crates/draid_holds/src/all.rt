@@ -73,17 +73,15 @@ fn run_split<T: Stand + Send + Drop, W: Work<T> + Send + Drop, R: Threads + Wait
     works: Vec<W>,
     rooms: (Vec<Lane<T, W>>, Vec<Pass<T>>, Vec<W>),
 ) -> (T, Vec<W>)
-    requires first { first ≡ newcomer turn.table (T.events turn.first) all_numbers }
+    requires first { first ≡ newcomer turn.table [] all_numbers }
     requires count { length works.items ≡ length numbers.now }
     requires some { EachHoldsSome numbers.now }
     requires apart { (n : ℕ) → shares n numbers.now ≤ one_within 0 (number_limit - 1) n }
-    requires may { AllMayWork W.needs (T.events turn.first) numbers.now works.items turn }
+    requires may { AllMayWork W.needs numbers.now works.items turn }
     requires none { (rooms.0.items ≡ []) × (rooms.1.items ≡ []) × (rooms.2.items ≡ []) }
     requires room { (length works.items ≤ vec_capacity rooms.0)
         × (length works.items ≤ vec_capacity rooms.1) × (length works.items ≤ vec_capacity rooms.2) }
-    ensures fact { T.fact turn.first result.0 }
-    ensures ran { RanAll T T.number W.relates numbers.now works.items result.1.items
-        (T.events turn.first) (T.events result.0) }
+    ensures { RanAll T.step W.relates turn.first numbers.now works.items result.0 result.1.items }
 {
     let (lanes, passes, done) = rooms;
     let lanes = split_lanes(&turn, &mut first, numbers, works, lanes);
@@ -99,16 +97,13 @@ pub fn run_all<T: Stand + Send + Drop, W: Work<T> + Send + Drop, R: Threads + Wa
     numbers: &[Vec<Span>],
     works: Vec<W>,
 ) -> Result<(T, Vec<W>), Unstarted<T, W>>
-    requires fact { T.fact value value }
     requires count { length works.items ≡ length numbers.now }
     requires some { EachHoldsSome numbers.now }
     // No number is in two lists, and the greatest is in none.
     requires apart { (n : ℕ) → shares n numbers.now ≤ one_within 0 (number_limit - 1) n }
     requires may { (lock : Lock T) → lock.first ≡ value
-        → AllMayWork W.needs (T.events value) numbers.now works.items lock }
-    ensures fact { IfOk result (λ done. T.fact value done.0) }
-    ensures ran { IfOk result (λ done. RanAll T T.number W.relates numbers.now works.items done.1.items
-        (T.events value) (T.events done.0)) }
+        → AllMayWork W.needs numbers.now works.items lock }
+    ensures ran { IfOk result (λ done. RanAll T.step W.relates value numbers.now works.items done.0 done.1.items) }
     ensures refused { IfErr result (λ left. (left.value ≡ value) × (left.works ≡ works)) }
 {
     let Ok(rooms) = rooms(alloc, works.len()) else {

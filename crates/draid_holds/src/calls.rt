@@ -19,8 +19,8 @@ pub fn call_in<T: Stand, O: Act<T>, R: Wait>(
     turn: usize,
     op: &mut O,
 )
-    requires { MayCallIn T.fact T.events T.number O.needs O.relates op.old turn turns.now passes.old.items }
-    ensures { DidIn T.fact T.events T.number O.relates turns.now turn op.old op.new
+    requires { MayCallIn T.step O.needs O.relates O.concerns op.old turn turns.now passes.old.items }
+    ensures { DidIn T.step O.relates O.concerns turns.now turn op.old op.new
         passes.old.items passes.new.items }
 {
     turns[turn].call(rt, &mut passes[turn], op);
@@ -33,8 +33,8 @@ pub fn make_calls<T: Stand, O: Act<T>, R: Wait>(
     passes: &mut Vec<Pass<T>>,
     calls: &mut Vec<Call<O>>,
 )
-    requires { AllMayCall T.fact T.events T.number O.needs O.relates turns.now passes.old.items calls.old.items }
-    ensures { CallsMade T.fact T.events T.number O.relates turns.now calls.old.items calls.new.items
+    requires { AllMayCall T.step O.needs O.relates O.concerns turns.now passes.old.items calls.old.items }
+    ensures { CallsMade T.step O.relates O.concerns turns.now calls.old.items calls.new.items
         passes.old.items passes.new.items }
 {
     'calls: for i in 0..calls.len() {

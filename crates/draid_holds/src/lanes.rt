@@ -1,4 +1,5 @@
 ghost use Rattle.std.specs.Prelude.{◌≡◌, ◌+◌, ◌<◌, ◌≤◌, [], ℕ, List, All, length, map, vec_capacity};
+ghost use Rattle.draid_turn.specs.declared.past.Past.{Past};
 ghost use Rattle.draid_turn.specs.Calls.{Caller, Lock};
 ghost use Rattle.draid_turn.specs.Lists.{one_if};
 ghost use Rattle.draid_turn.specs.Numbers.{holds, number_limit};
@@ -15,15 +16,15 @@ use std::thread::Threads;
 /// What a lane does by its pass.
 pub trait Work<T: Stand> {
     /// What it needs of the lock and of its pass.
-    ghost needs: { Self → Lock T → Caller T.Event → Type 0 };
+    ghost needs: { Self → Lock T → Caller (Past T) → Type 0 };
 
     /// How it was before its holds, and how it is after them.
-    ghost relates: { Self → List (Hold T.Event) → Self → Type 0 };
+    ghost relates: { Self → List (Hold T) → Self → Type 0 };
 
     fn work(&mut self, turn: &Turn<T>, pass: &mut Pass<T>)
         requires own { pass.old.table ≡ turn.now.table }
         requires needed { needs self.old turn.now pass.old }
-        ensures { Worked T.number relates self.old self.new pass.old pass.new };
+        ensures { Worked relates self.old self.new pass.old pass.new };
 }
 
 /// A lane: its pass, and what it does.
@@ -41,7 +42,7 @@ pub fn run_lanes<T: Stand + Send, W: Work<T> + Send, R: Threads + Wait + Sync>(
 )
     requires { All (MayWork W.needs turn.now) lanes.old.items }
     ensures count { length lanes.new.items ≡ length lanes.old.items }
-    ensures worked { EachWorked T.number W.relates lanes.old.items lanes.new.items }
+    ensures worked { EachWorked W.relates lanes.old.items lanes.new.items }
 {
     let count = lanes.len();
     if count == 0 {
@@ -91,8 +92,7 @@ pub fn run_and_close<T: Stand + Send + Drop, W: Work<T> + Send + Drop, R: Thread
     requires all { (n : ℕ) → n < number_limit → 1 ≤ one_if (holds n first.numbers) + holders n (map pass_of lanes.items) }
     requires none { (passes.items ≡ []) × (works.items ≡ []) }
     requires room { (length lanes.items ≤ vec_capacity passes) × (length lanes.items ≤ vec_capacity works) }
-    ensures fact { T.fact turn.first result.0 }
-    ensures ran { AllRan T.number W.relates first lanes.items (T.events turn.first) (T.events result.0) result.1.items }
+    ensures { AllRan T.step W.relates turn.first first lanes.items result.0 result.1.items }
 {
     run_lanes(rt, &turn, &mut lanes);
     let (passes, works) = part(lanes, passes, works);

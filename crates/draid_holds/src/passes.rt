@@ -3,9 +3,9 @@ ghost use Rattle.std.specs.declared.vec.Vec.{Vec};
 ghost use Rattle.std.specs.declared.alloc.Global.{Global};
 ghost use Rattle.draid_turn.specs.declared.span.Span.{Span};
 ghost use Rattle.draid_turn.specs.Calls.{Caller, newcomer};
-ghost use Rattle.draid_turn.specs.Lists.{StartsWith, one_if, one_within, times};
+ghost use Rattle.draid_turn.specs.Lists.{StartsWith, one_if, times};
 ghost use Rattle.draid_turn.specs.Numbers.{HoldsSome, holds, number_limit};
-ghost use Rattle.draid_holds.specs.Passes.{AllSeen, AreOf, EachHoldsSome, KeepsOne, holders, makers, newcomers, shares};
+ghost use Rattle.draid_holds.specs.Passes.{AllSeen, AreOf, ClosesEach, EachHoldsSome, KeepsOne, holders, makers, newcomers, shares};
 
 use draid_turn::{Pass, Span, Stand, Turn};
 use std::sync::Wait;
@@ -50,7 +50,7 @@ pub fn join_each<T: Stand>(turn: &Turn<T>, first: &mut Pass<T>, mut passes: Vec<
 }
 
 /// Joins the passes to the first one, and closes the turn. Since together they hold all numbers, each
-/// new event is just one pass's.
+/// hold is just one pass's.
 pub fn close_each<T: Stand + Drop, R: Wait>(
     rt: &R,
     turn: Turn<T>,
@@ -60,11 +60,7 @@ pub fn close_each<T: Stand + Drop, R: Wait>(
     requires own { first.table ≡ turn.table }
     requires each { AreOf turn passes.items }
     requires all { (n : ℕ) → n < number_limit → 1 ≤ one_if (holds n first.numbers) + holders n passes.items }
-    ensures fact { T.fact turn.first result }
-    ensures since { StartsWith (T.events result) (T.events turn.first) }
-    ensures seen { AllSeen (T.events result) passes.items }
-    ensures single { (x : ℕ) → times x first.own + makers x passes.items
-        ≡ one_within (length (T.events turn.first)) (length (T.events result)) x }
+    ensures { ClosesEach T.step turn.first first passes.items result }
 {
     join_each(&turn, &mut first, passes);
     turn.close(rt, first)

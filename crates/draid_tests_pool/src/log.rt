@@ -1,4 +1,5 @@
 ghost use Rattle.std.specs.Prelude.{◌≡◌, ◌∷◌, ◌++◌, [], ⊤, None, if◌then◌else◌};
+ghost use Rattle.draid_turn.specs.Lists.{StartsWith};
 
 use draid_holds::Work;
 use draid_turn::{Act, Pass, Stand, Turn};
@@ -11,17 +12,7 @@ pub struct Log {
 }
 
 impl Stand for Log {
-    type Event = u64;
-
-    ghost events = { λ log. log.entries.items };
-
-    ghost number = { λ _. None };
-
-    ghost fact = { λ _ _. ⊤ };
-
-    fn count(&self) -> u64 {
-        self.entries.len() as u64
-    }
+    ghost step = { λ log past. StartsWith past.left.entries.items log.entries.items };
 }
 
 /// Puts a number behind the others, where there is memory for it.
@@ -35,6 +26,12 @@ impl Act<Log> for Put {
     ghost needs = { λ _ _. ⊤ };
 
     ghost relates = { λ put old after new. new.entries.items ≡ (if after.is_in then old.entries.items ++ put.entry ∷ [] else old.entries.items) };
+
+    ghost concerns = { λ _. None };
+
+    fn concerned(&self) -> Option<u64> {
+        None
+    }
 
     fn act(&mut self, log: &mut Log) {
         self.is_in = log.entries.push(self.entry).is_ok();

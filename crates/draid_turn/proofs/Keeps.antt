@@ -1,5 +1,5 @@
 -- Each kind of step keeps the rule.
-use Rattle.std.proofs.Common.{◌≡◌, ℕ, eqb, ◌+◌, ◌-◌, ◌%◌, ◌^◌, ◌<◌, ◌≤◌, List, [], ◌∷◌, ◌++◌, length, get_or, set, sym, refl, ap, ◌∙◌, subst, arith, true, eq-eqb, ne_eqb, Option, Some, None}
+use Rattle.std.proofs.Common.{◌≡◌, ℕ, eqb, ◌+◌, ◌%◌, ◌^◌, ◌<◌, ◌≤◌, List, [], ◌∷◌, ◌++◌, length, get_or, set, sym, refl, ap, ◌∙◌, subst, arith, true, eq-eqb, ne_eqb, All, Option, Some, None}
 use Rattle.std.proofs.Math.Nat.{mod-eq_of_lt}
 use mathlib.Core.Logic.{dite}
 use mathlib.Core.Option.{none, some}
@@ -12,11 +12,13 @@ use Rattle.atomic_table.proofs.Lists.{set_again, set_else}
 use Rattle.draid_turn.specs.declared.view.Stage.TheVariants.{Idle, Waiting, Holding}
 use Rattle.draid_turn.specs.declared.view.View.{View}
 use Rattle.draid_turn.specs.declared.span.Span.{Span}
-use Rattle.draid_turn.specs.Calls.{Adds, Follows}
-use Rattle.draid_turn.specs.Lists.{StartsWith, one_if, one_within, places}
-use Rattle.draid_turn.specs.Numbers.{HoldsOther, HoldsSome, all_numbers, holds, number_limit}
+use Rattle.draid_turn.specs.declared.past.Past.{Past}
+use Rattle.draid_turn.specs.Calls.{Follows}
+use Rattle.draid_turn.specs.History.{Stood, number_of}
+use Rattle.draid_turn.specs.Lists.{StartsWith, one_if, one_within}
+use Rattle.draid_turn.specs.Numbers.{HoldsOther, HoldsSome, IsOwn, all_numbers, holds, number_limit}
 use Rattle.draid_turn.specs.Steps.{HasTaken, Takes, drew, learned, looked, served, told, took}
-use Rattle.draid_turn.specs.Rule.{IsHolding, Rule}
+use Rattle.draid_turn.specs.Rule.{IsHolding, NumbersOnce, PlacesOnce, Rule, TurnsInOrder}
 use Rattle.draid_turn.specs.Views.{united_view, first_view, served_view, holding_view, learned_view, giver_view, told_view, waiting_view, new_view, spent_view}
 use Rattle.draid_turn.proofs.KeepsTurns.{added_turns, at_home, counted_turns, drawn_turns, given_turns, holder_whole, opens_turns, taken_turns, ticket_of, touched_turns, under_next}
 use Rattle.draid_turn.proofs.KeepsPlaces.{added_places, counted_places, joined_places, opens_places, touched_places, whole_places}
@@ -27,7 +29,7 @@ use Rattle.draid_turn.proofs.Spans.{all_within}
 first_few : (n : ℕ) → one_if (holds n all_numbers) ≤ one_within 0 number_limit n
 first_few n = let e = all_within n in omega (arith, e)
 
-module _ {T E : Type 0} (fact : T → Type 0) (events : T → List E) (number : E → Option ℕ) (opened : List E) where
+module _ {T E : Type 0} (fact : List E → T → Type 0) (number : E → Option ℕ) where
   abbrev V : Type 0
   V = View E
 
@@ -38,7 +40,7 @@ module _ {T E : Type 0} (fact : T → Type 0) (events : T → List E) (number : 
   M = Me (Option T) V
 
   abbrev R : St → Type 0
-  R = Rule fact events number opened
+  R = Rule fact number
 
   -- nothing changed
   same : (s : St) (r : R s) (i id : ℕ) (c : List (ℕ × Option T)) (v : V) → get_elem? s.views id ≡ some v → R (stepped s i (get_or s.words i 0) id c v keeps)
@@ -61,8 +63,8 @@ module _ {T E : Type 0} (fact : T → Type 0) (events : T → List E) (number : 
         tt,
         subst (λ b. R (stepped s 0 (either b new x) id me.1 w keeps)) (sym (eq-eqb x old hit)) record {
           log = r.log;
-          turns = drawn_turns fact events r.log s r.turns id new v at idle (omega (arith, up, hit)) small;
-          places = touched_places opened r.log s.views r.places id v w at refl;
+          turns = drawn_turns fact r.log s r.turns id new v at idle (omega (arith, up, hit)) small;
+          places = touched_places r.log s.views r.places id v w at refl;
           numbers = touched_numbers number r.log s.views r.numbers id v w at refl refl (r.numbers.unseen id v at);
         },
         (refl, (λ _. refl), λ not. absurd (not hit)),
@@ -76,34 +78,35 @@ module _ {T E : Type 0} (fact : T → Type 0) (events : T → List E) (number : 
       ))
 
   -- Waiting, and taking the value.
-  pub takes_keep : (kept : T → Type 0) → ((x : T) → fact x → kept x) → (slots id : ℕ) (me : M) (t : ℕ) → me.0.stage ≡ Waiting t → Allows R slots id me 1 (λ n. n) (took kept events number opened (step slots 1 0 0 none) me)
+  pub takes_keep : (kept : List E → T → Type 0) → ((log : List E) (x : T) → fact log x → kept log x) → (slots id : ℕ) (me : M) (t : ℕ) → me.0.stage ≡ Waiting t
+      → Allows R slots id me 1 (λ n. n) (took kept number (step slots 1 0 0 none) me)
   takes_keep kept weaker slots id me t on s r _ at _ =
       let x : ℕ = get_or s.words 1 0 in
       let v : V = me.0 in
       dite (ℕ_discrete t x)
       (λ hit.
-      let h = at_home fact events r.log s r.turns id t v at on hit in
+      let h = at_home fact r.log s r.turns id t v at on hit in
       let b = r.turns.behind id v at in
       let w : V = holding_view t r.log v in
       let keeps_rule : R (stepped s 1 x id me.1 w (takes 0 (Some h.value))) = record {
         log = r.log;
-        turns = taken_turns fact events r.log s r.turns id t v at on hit (Some h.value);
-        places = touched_places opened r.log s.views r.places id v w at refl;
+        turns = taken_turns fact r.log s r.turns id t v at on hit (Some h.value);
+        places = touched_places r.log s.views r.places id v w at refl;
         numbers = touched_numbers number r.log s.views r.numbers id v w at refl refl (seen_all number r.log w refl);
       } in
       let follows : Follows number v.numbers r.log v.seen = record { unseen = b.0; begins = b.1; foreign = r.numbers.unseen id v at b.0 b.1 } in (
-        holding_view t (events h.value) v,
+        holding_view t r.log v,
         takes 0 (Some h.value),
         h.there,
-        subst (λ l. R (stepped s 1 x id me.1 (holding_view t l v) (takes 0 (Some h.value)))) (sym h.stored) keeps_rule,
+        keeps_rule,
         λ u is. (
           (λ _. record {
             value = h.value;
-            kept = weaker h.value h.kept;
-            follows = subst (λ l. Follows number v.numbers l v.seen) (sym h.stored) follows;
-            since = subst (λ l. StartsWith l opened) (sym h.stored) r.places.since;
-            made_all = λ all. whole_places opened r.log s.views r.places id v at (whole_numbers number r.log s.views r.numbers id v at all) ∙ ap (λ l. places (length opened) (length l - length opened)) (sym h.stored);
-            view_is = ap (λ z. holding_view z (events h.value) v) (ap ticket_of (sym on ∙ is));
+            log = r.log;
+            kept = weaker r.log h.value h.kept;
+            follows = follows;
+            made_all = λ all. whole_places r.log s.views r.places id v at (whole_numbers number r.log s.views r.numbers id v at all);
+            view_is = ap (λ z. holding_view z r.log v) (ap ticket_of (sym on ∙ is));
             slot_is = refl;
           }),
           λ not. absurd (not (sym (ap ticket_of (sym on ∙ is)) ∙ hit)),
@@ -117,32 +120,33 @@ module _ {T E : Type 0} (fact : T → Type 0) (events : T → List E) (number : 
         λ u is. ((λ hit. absurd (miss (ap ticket_of (sym on ∙ is) ∙ hit))), λ _. refl),
       ))
 
-  -- Telling the count.
-  pub tells_keep : (slots id : ℕ) (me : M) (stored : List E) (count : ℕ) → IsHolding me.0.stage → count ≡ length stored → Adds number me.0.numbers me.0.seen stored → HoldsSome me.0.numbers
-      → Allows R slots id me 2 (λ _. count) (λ _. told stored (step slots 2 count 0 none) me count)
-  tells_keep slots id me stored count on is adds has s r _ at _ =
+  -- Adding to the history.
+  pub tells_keep : (slots id : ℕ) (me : M) (added : List E) → IsHolding me.0.stage → All (IsOwn number me.0.numbers) added → HoldsSome me.0.numbers
+      → Allows R slots id me 1 (λ n. n) (told added (step slots 1 0 0 none) me)
+  tells_keep slots id me added on own has s r _ at _ =
       let v : V = me.0 in
-      let w : V = told_view stored v in
-      let whole = holder_whole fact events r.log s r.turns id on.ticket v at on.is in
-      let more : stored ≡ r.log ++ adds.added = adds.behind ∙ ap (λ l. l ++ adds.added) whole in (
-        w,
+      let whole : v.seen ≡ r.log = holder_whole fact r.log s r.turns id on.ticket v at on.is in
+      let turns : TurnsInOrder fact v.seen s = subst (λ l. TurnsInOrder fact l s) (sym whole) r.turns in
+      let places : PlacesOnce v.seen s.views = subst (λ l. PlacesOnce l s.views) (sym whole) r.places in
+      let numbers : NumbersOnce number v.seen s.views = subst (λ l. NumbersOnce number l s.views) (sym whole) r.numbers in (
+        told_view added v,
         keeps,
         tt,
-        subst (λ n. R (stepped s 2 n id me.1 w keeps)) (sym is) record {
-          log = stored;
-          turns = counted_turns fact events r.log stored s r.turns id on.ticket me.1 v at on.is (adds.added, more);
-          places = counted_places opened r.log stored s.views r.places id v at whole (adds.added, more);
-          numbers = counted_numbers number r.log stored s.views r.numbers r.turns.behind id v adds.added at more adds.own has;
+        record {
+          log = v.seen ++ added;
+          turns = counted_turns fact s id on.ticket me.1 v added turns at on.is;
+          places = counted_places s.views id v added places at;
+          numbers = counted_numbers number s.views id v added numbers turns.behind at own has;
         },
         refl,
       )
 
   -- Giving the value back, and serving the next.
-  pub gives_keep : (slots id : ℕ) (me : M) (x : T) → IsHolding me.0.stage → me.1 ≡ (0, Some x) ∷ [] → fact x → events x ≡ me.0.seen → Allows R slots id me 1 (λ n. (n + 1) % 2 ^ 64) (served (step slots 1 1 0 none) me)
-  gives_keep slots id me x on out kept all s r _ at _ =
+  pub gives_keep : (slots id : ℕ) (me : M) (x : T) → IsHolding me.0.stage → me.1 ≡ (0, Some x) ∷ [] → fact me.0.seen x → Allows R slots id me 1 (λ n. (n + 1) % 2 ^ 64) (served (step slots 1 1 0 none) me)
+  gives_keep slots id me x on out kept s r _ at _ =
       let v : V = me.0 in
       let w : V = served_view v in
-      let under = under_next fact events r.log s r.turns id on.ticket v at on.is in
+      let under = under_next fact r.log s r.turns id on.ticket v at on.is in
       let f = r.turns.fits in
       let up : (get_or s.words 1 0 + 1) % 2 ^ 64 ≡ get_or s.words 1 0 + 1 = mod-eq_of_lt (omega (arith, under, f)) in (
         w,
@@ -150,8 +154,8 @@ module _ {T E : Type 0} (fact : T → Type 0) (events : T → List E) (number : 
         tt,
         subst (λ c. R (stepped s 1 ((get_or s.words 1 0 + 1) % 2 ^ 64) id c w gives)) (sym out) record {
           log = r.log;
-          turns = given_turns fact events r.log s r.turns id on.ticket ((get_or s.words 1 0 + 1) % 2 ^ 64) v x at on.is kept all up;
-          places = touched_places opened r.log s.views r.places id v w at refl;
+          turns = given_turns fact r.log s r.turns id on.ticket ((get_or s.words 1 0 + 1) % 2 ^ 64) v x at on.is kept up;
+          places = touched_places r.log s.views r.places id v w at refl;
           numbers = touched_numbers number r.log s.views r.numbers id v w at refl refl (r.numbers.unseen id v at);
         },
         refl,
@@ -166,9 +170,9 @@ module _ {T E : Type 0} (fact : T → Type 0) (events : T → List E) (number : 
       let b = r.turns.behind id v at in
       record {
         log = r.log;
-        turns = added_turns fact events r.log (record { words = s.words; homes = s.homes; views = set s.views id left }) (touched_turns fact events r.log s r.turns id v left at refl b (r.turns.heard id v at) (λ _ _ e. e))
+        turns = added_turns fact r.log (record { words = s.words; homes = s.homes; views = set s.views id left }) (touched_turns fact r.log s r.turns id v left at refl b (r.turns.heard id v at) (λ _ _ e. e))
             right refl b (r.log, refl);
-        places = added_places opened r.log (set s.views id left) (touched_places opened r.log s.views r.places id v left at refl) right refl;
+        places = added_places r.log (set s.views id left) (touched_places r.log s.views r.places id v left at refl) right refl;
         numbers = split_numbers number r.log s.views r.numbers id v given at inside other;
       }
 
@@ -183,13 +187,13 @@ module _ {T E : Type 0} (fact : T → Type 0) (events : T → List E) (number : 
       let at' : get_elem? s.views other ≡ some w = sym (set_else s.views id other both apart) ∙ there in
       let a = r.turns.behind id v at in
       let b = r.turns.behind other w at' in
-      let first = touched_turns fact events r.log s r.turns id v both at (sym idle) (longer_of (StartsWith r.log) v.seen w.seen a b) (shorter_of (StartsWith r.log) v.seen w.seen a b)
+      let first = touched_turns fact r.log s r.turns id v both at (sym idle) (longer_of (StartsWith r.log) v.seen w.seen a b) (shorter_of (StartsWith r.log) v.seen w.seen a b)
       (λ t on _. absurd (idle_holding v t idle on)) in
       record {
         log = r.log;
-        turns = touched_turns fact events r.log (record { words = s.words; homes = s.homes; views = vs }) first other w spent_view there (sym idle') (r.log, refl) (r.log, refl)
+        turns = touched_turns fact r.log (record { words = s.words; homes = s.homes; views = vs }) first other w spent_view there (sym idle') (r.log, refl) (r.log, refl)
             (λ t on _. absurd (idle_holding w t idle' on));
-        places = joined_places opened r.log s.views r.places id v other w at apart at';
+        places = joined_places r.log s.views r.places id v other w at apart at';
         numbers = joined_numbers number r.log s.views r.numbers r.turns.behind id v other w at apart at';
       }
 
@@ -204,28 +208,28 @@ module _ {T E : Type 0} (fact : T → Type 0) (events : T → List E) (number : 
         tt,
         subst (λ ws. R record { words = ws; homes = s.homes; views = set s.views id w }) (sym (set-get_or s.words 0 0)) record {
           log = r.log;
-          turns = touched_turns fact events r.log s r.turns id v w at refl a (r.log, refl) (λ _ _ e. e);
-          places = touched_places opened r.log s.views r.places id v w at refl;
+          turns = touched_turns fact r.log s r.turns id v w at refl a (r.log, refl) (λ _ _ e. e);
+          places = touched_places r.log s.views r.places id v w at refl;
           numbers = touched_numbers number r.log s.views r.numbers id v w at refl refl (r.numbers.unseen id v at);
         },
         (refl, nested v.heard v.seen b.0 a.0 (sym b.1 ∙ a.1) le),
       )
 
-module _ {T E : Type 0} (fact : T → Type 0) (events : T → List E) (number : E → Option ℕ) where
+module _ {T E : Type 0} (fact : List E → T → Type 0) (number : E → Option ℕ) where
   -- the first seat
-  opens_from : (x : T) (count : ℕ) → fact x → count ≡ length (events x) → Rule fact events number (events x) (opening (0 ∷ 0 ∷ count ∷ []) (Some x ∷ []) (first_view (events x)))
-  opens_from x count kept is =
+  opens_from : (x : T) → fact [] x → Rule fact number (opening (0 ∷ 0 ∷ []) (Some x ∷ []) first_view)
+  opens_from x kept =
       record {
-        log = events x;
-        turns = opens_turns fact events x (first_view (events x)) count kept is refl refl refl;
-        places = opens_places (events x) (first_view (events x)) refl;
-        numbers = opens_numbers number (events x) (first_view (events x)) refl refl first_few;
+        log = [];
+        turns = opens_turns fact x first_view kept refl refl refl;
+        places = opens_places first_view refl;
+        numbers = opens_numbers number [] first_view refl refl first_few;
       }
 
-  pub opens_at : (x : T) (known : T) (slots : List (Option T)) (count : ℕ) → fact x → count ≡ length (events x) → slots ≡ Some x ∷ [] → known ≡ x
-      → Rule fact events number (events known) (opening (0 ∷ 0 ∷ count ∷ []) slots (first_view (events known)))
-  opens_at x known slots count kept is one same = subst (λ (z : List (Option T) × T). Rule fact events number (events z.1) (opening (0 ∷ 0 ∷ count ∷ []) z.0 (first_view (events z.1)))) (λ k. (sym one k, sym same k))
-      (opens_from x count kept is)
+-- the first seat, where nothing was held yet
+pub opens_at : {T : Type 0} (step : T → Past T → Type 0) (x known : T) (slots : List (Option T)) → slots ≡ Some x ∷ [] → known ≡ x → Rule (Stood step known) number_of (opening (0 ∷ 0 ∷ []) slots first_view)
+opens_at {T} step x known slots one same = subst (λ (z : List (Option T) × T). Rule (Stood step z.1) number_of (opening (0 ∷ 0 ∷ []) z.0 first_view)) (λ k. (sym one k, sym same k))
+    (opens_from (Stood step x) number_of x record { is = refl; steps = tt })
 
 module _ {T : Type 0} where
   abbrev item_of : T → List (ℕ × T) → T
@@ -240,17 +244,17 @@ abbrev value_of : {T : Type 0} → T → Option T → T
 value_of d None = d
 value_of d (Some x) = x
 
-module _ {T E : Type 0} (fact : T → Type 0) (events : T → List E) (number : E → Option ℕ) (opened : List E) where
+module _ {T E : Type 0} (fact : List E → T → Type 0) (number : E → Option ℕ) where
   -- what was in the slot is the value that the step told of
-  pub has_taken : (old mid new : Me (Option T) (View E)) (ticket : ℕ) (slot : Option T) (x : T) → Takes fact events number opened old ticket mid → old.1 ≡ [] → mid.1 ≡ (0, slot) ∷ rest mid.1
-      → new ≡ (mid.0, (0, None) ∷ rest mid.1) → slot ≡ Some x → HasTaken fact events number opened old ticket new x
+  pub has_taken : (old mid new : Me (Option T) (View E)) (ticket : ℕ) (slot : Option T) (x : T) → Takes fact number old ticket mid → old.1 ≡ [] → mid.1 ≡ (0, slot) ∷ rest mid.1
+      → new ≡ (mid.0, (0, None) ∷ rest mid.1) → slot ≡ Some x → HasTaken fact number old ticket new x
   has_taken old mid new ticket slot x took empty out is there =
       let carried : mid.1 ≡ (0, Some took.value) ∷ [] = took.slot_is ∙ ap (λ l. (0, Some took.value) ∷ l) empty in
       let same : took.value ≡ x = ap (value_of took.value) (sym (slot_value mid.1 slot (Some took.value) out carried) ∙ there) in
-      subst (HasTaken fact events number opened old ticket new) same record {
+      subst (HasTaken fact number old ticket new) same record {
+        log = took.log;
         me = is ∙ (λ i. (took.view_is i, (0, None) ∷ rest (carried i)));
         kept = took.kept;
         follows = took.follows;
-        since = took.since;
         made_all = took.made_all;
       }

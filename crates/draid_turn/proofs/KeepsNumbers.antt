@@ -62,25 +62,25 @@ module _ {E : Type 0} (number : E → Option ℕ) where
   pub seen_all : (log : List E) (w : V) → w.seen ≡ log → Unseen log w
   seen_all log w e rest is = all_none (IsForeign number w.numbers) log rest (is ∙ ap (λ l. l ++ rest) e)
 
-  -- The new events concern numbers of the seat that has the value, or none.
-  pub counted_numbers : (log stored : List E) (vs : List V) (r : NumbersOnce number log vs) → Each (λ (d : V). StartsWith log d.seen) vs → (id : ℕ) (v : V) (added : List E) → get_elem? vs id ≡ some v
-      → stored ≡ log ++ added → All (IsOwn number v.numbers) added → HoldsSome v.numbers → NumbersOnce number stored (set vs id (told_view stored v))
-  counted_numbers log stored vs r behind id v added at more own has =
-      let w : V = told_view stored v in
+  -- What was added concerns numbers of the seat that has the value, or none.
+  pub counted_numbers : (vs : List V) (id : ℕ) (v : V) (added : List E) (r : NumbersOnce number v.seen vs) → Each (λ (d : V). StartsWith v.seen d.seen) vs → get_elem? vs id ≡ some v
+      → All (IsOwn number v.numbers) added → HoldsSome v.numbers → NumbersOnce number (v.seen ++ added) (set vs id (told_view added v))
+  counted_numbers vs id v added r behind at own has =
+      let log : List E = v.seen in
+      let w : V = told_view added v in
       record {
         apart = λ n. let t = count_set (λ (d : V). holds n d.numbers) vs id v w at in let was = r.apart n in omega (arith, t, was);
         made_none = each_set (λ (d : V). HoldsNone d.numbers → d.own ≡ []) (λ (d : V). HoldsNone d.numbers → d.own ≡ []) vs id w r.made_none (λ j d n e h. h)
             (λ none. absurd (true≢false (sym has.held ∙ none has.number)));
-        unseen = each_set (Unseen log) (Unseen stored) vs id w r.unseen
+        unseen = each_set (Unseen log) (Unseen (log ++ added)) vs id w r.unseen
             (λ j d not e h rest is.
             let b = behind j d e in
-            let rest_is : b.0 ++ added ≡ rest = append_cancel_left d.seen (b.0 ++ added) rest
-            (sym (append_assoc d.seen b.0 added) ∙ (ap (λ l. l ++ added) (sym b.1) ∙ (sym more ∙ is))) in
+            let rest_is : b.0 ++ added ≡ rest = append_cancel_left d.seen (b.0 ++ added) rest (sym (append_assoc d.seen b.0 added) ∙ (ap (λ l. l ++ added) (sym b.1) ∙ is)) in
             subst (All (IsForeign number d.numbers)) rest_is (All-append (IsForeign number d.numbers) b.0 added (h b.0 b.1)
             (All-weaker (IsOwn number v.numbers) (IsForeign number d.numbers)
             (λ x mine n is_n. not_true (holds n d.numbers) (λ yes. clash log vs r j id n d v not e at yes (mine n is_n)))
             added own)))
-            (seen_all stored w refl);
+            (seen_all (log ++ added) w refl);
       }
 
   -- Numbers go to a new seat.

@@ -37,7 +37,7 @@ at_turn n Idle h = inl tt
 at_turn n (Waiting t) h = inl tt
 at_turn n (Holding t) h = inr (ap (λ k. one_if (nat_eq k n)) h ∙ one_if_same n)
 
-module _ {T E : Type 0} (fact : T → Type 0) (events : T → List E) where
+module _ {T E : Type 0} (fact : List E → T → Type 0) where
   abbrev V : Type 0
   V = View E
 
@@ -48,8 +48,8 @@ module _ {T E : Type 0} (fact : T → Type 0) (events : T → List E) where
   serves s = get_or s.words 1 0
 
   -- A ticket is drawn.
-  pub drawn_turns : (log : List E) (s : St) (r : TurnsInOrder fact events log s) (id new : ℕ) (v : V) → get_elem? s.views id ≡ some v → v.stage ≡ Idle → new ≡ get_or s.words 0 0 + 1 → new < 2 ^ 64
-      → TurnsInOrder fact events log (stepped s 0 new id [] (waiting_view (get_or s.words 0 0) v) keeps)
+  pub drawn_turns : (log : List E) (s : St) (r : TurnsInOrder fact log s) (id new : ℕ) (v : V) → get_elem? s.views id ≡ some v → v.stage ≡ Idle → new ≡ get_or s.words 0 0 + 1 → new < 2 ^ 64
+      → TurnsInOrder fact log (stepped s 0 new id [] (waiting_view (get_or s.words 0 0) v) keeps)
   drawn_turns log s r id new v at idle up small =
       let old : ℕ = get_or s.words 0 0 in
       let w : V = waiting_view old v in
@@ -57,7 +57,6 @@ module _ {T E : Type 0} (fact : T → Type 0) (events : T → List E) where
       let ordered = r.ordered in
       let next : get_or (set s.words 0 new) 0 0 ≡ new = get_or-set_same s.words 0 new 0 (omega arith) in
       let same : get_or (set s.words 0 new) 1 0 ≡ serves s = get_or-set_other s.words 0 1 new 0 (λ e. omega arith) in
-      let count : get_or (set s.words 0 new) 2 0 ≡ get_or s.words 2 0 = get_or-set_other s.words 0 2 new 0 (λ e. omega arith) in
       let none_had : one_if (has_ticket v.stage) ≡ 0 = ap (λ z. one_if (has_ticket z)) idle in
       let tally = count_set (λ (d : V). has_ticket d.stage) s.views id v w at in
       let drawn = r.drawn in
@@ -76,18 +75,16 @@ module _ {T E : Type 0} (fact : T → Type 0) (events : T → List E) where
             let now_is : one_within (get_or (set s.words 0 new) 1 0) (get_or (set s.words 0 new) 0 0) n ≡ one_within (serves s) new n = ap (λ (z : ℕ × ℕ). one_within z.0 z.1 n) (λ k. (same k, next k)) in
             omega (arith, now_is, more, t, had, was);
         served = subst (λ z. Each (λ (d : V). IsServed z d.stage) (set s.views id w)) (sym same) served;
-        counted = count ∙ r.counted;
         behind = each_set (λ (d : V). StartsWith log d.seen) (λ (d : V). StartsWith log d.seen) s.views id w r.behind (λ j d n e h. h) (r.behind id v at);
         heard = each_set (λ (d : V). StartsWith log d.heard) (λ (d : V). StartsWith log d.heard) s.views id w r.heard (λ j d n e h. h) (r.heard id v at);
         slot = ⊎_elim
-            (λ (h : AtHome fact events log s). inl record {
+            (λ (h : AtHome fact log s). inl record {
               value = h.value;
               there = h.there;
               kept = h.kept;
-              stored = h.stored;
               nobody = each_set (λ (d : V). HoldsNothing d.stage) (λ (d : V). HoldsNothing d.stage) s.views id w h.nobody (λ j d n e g. g) tt;
             })
-            (λ (a : Away fact events log s). inr record {
+            (λ (a : Away fact log s). inr record {
               seat = a.seat;
               ticket = a.ticket;
               who = a.who;
@@ -105,7 +102,7 @@ module _ {T E : Type 0} (fact : T → Type 0) (events : T → List E) where
   same_words P ws i h = subst P (sym (set-get_or ws i 0)) h
 
   -- of two seats that have the ticket that is served, one is the other
-  one_seat : (log : List E) (s : St) (r : TurnsInOrder fact events log s) (i j : ℕ) (a b : V) → get_elem? s.views i ≡ some a → get_elem? s.views j ≡ some b
+  one_seat : (log : List E) (s : St) (r : TurnsInOrder fact log s) (i j : ℕ) (a b : V) → get_elem? s.views i ≡ some a → get_elem? s.views j ≡ some b
       → one_if (is_ticket (serves s) a.stage) ≡ 1 → one_if (is_ticket (serves s) b.stage) ≡ 1 → i ≡ j
   one_seat log s r i j a b e e' p q = dite (ℕ_discrete i j) (λ is. is)
       (λ not.
@@ -114,7 +111,7 @@ module _ {T E : Type 0} (fact : T → Type 0) (events : T → List E) where
       let most = within_most (serves s) (get_or s.words 0 0) (serves s) in
       absurd (omega (arith, p, q)))
 
-  pub turn_served : (log : List E) (s : St) (r : TurnsInOrder fact events log s) (id t : ℕ) (v : V) → get_elem? s.views id ≡ some v → v.stage ≡ Holding t → t ≡ serves s
+  pub turn_served : (log : List E) (s : St) (r : TurnsInOrder fact log s) (id t : ℕ) (v : V) → get_elem? s.views id ≡ some v → v.stage ≡ Holding t → t ≡ serves s
   turn_served log s r id t v at on = subst (IsServed (serves s)) on (r.served id v at)
 
   has_turn : (s : St) (t : ℕ) (v : V) → v.stage ≡ Holding t → t ≡ serves s → one_if (is_ticket (serves s) v.stage) ≡ 1
@@ -133,19 +130,19 @@ module _ {T E : Type 0} (fact : T → Type 0) (events : T → List E) where
   not_holding t s is h = subst HoldsNothing is h
 
   -- who has its turn has the value, and has seen all of its events
-  pub holder_whole : (log : List E) (s : St) (r : TurnsInOrder fact events log s) (id t : ℕ) (v : V) → get_elem? s.views id ≡ some v → v.stage ≡ Holding t → v.seen ≡ log
+  pub holder_whole : (log : List E) (s : St) (r : TurnsInOrder fact log s) (id t : ℕ) (v : V) → get_elem? s.views id ≡ some v → v.stage ≡ Holding t → v.seen ≡ log
   holder_whole log s r id t v at on = ⊎_elim
-      (λ (h : AtHome fact events log s). absurd (not_holding t v.stage on (h.nobody id v at)))
-      (λ (a : Away fact events log s).
+      (λ (h : AtHome fact log s). absurd (not_holding t v.stage on (h.nobody id v at)))
+      (λ (a : Away fact log s).
       let mine = has_turn s t v on (turn_served log s r id t v at on) in
       let theirs = has_turn s a.ticket a.who a.holding (turn_served log s r a.seat a.ticket a.who a.there a.holding) in
       ap (λ (d : V). d.seen) (seat_view s id a.seat v a.who at a.there (one_seat log s r id a.seat v a.who at a.there mine theirs)) ∙ a.whole)
       r.slot
 
   -- a seat that waits for the ticket that is served finds the value at home
-  pub at_home : (log : List E) (s : St) (r : TurnsInOrder fact events log s) (id t : ℕ) (v : V) → get_elem? s.views id ≡ some v → v.stage ≡ Waiting t → t ≡ serves s → AtHome fact events log s
-  at_home log s r id t v at on now = ⊎_elim (λ (h : AtHome fact events log s). h)
-      (λ (a : Away fact events log s).
+  pub at_home : (log : List E) (s : St) (r : TurnsInOrder fact log s) (id t : ℕ) (v : V) → get_elem? s.views id ≡ some v → v.stage ≡ Waiting t → t ≡ serves s → AtHome fact log s
+  at_home log s r id t v at on now = ⊎_elim (λ (h : AtHome fact log s). h)
+      (λ (a : Away fact log s).
       let mine : one_if (is_ticket (serves s) v.stage) ≡ 1 = ap (λ z. one_if (is_ticket (serves s) z)) on ∙ (ap (λ k. one_if (nat_eq k (serves s))) now ∙ one_if_same (serves s)) in
       let theirs = has_turn s a.ticket a.who a.holding (turn_served log s r a.seat a.ticket a.who a.there a.holding) in
       let same = seat_view s id a.seat v a.who at a.there (one_seat log s r id a.seat v a.who at a.there mine theirs) in
@@ -153,8 +150,8 @@ module _ {T E : Type 0} (fact : T → Type 0) (events : T → List E) where
       r.slot
 
   -- a view was changed, but for its stage
-  pub touched_turns : (log : List E) (s : St) (r : TurnsInOrder fact events log s) (id : ℕ) (v w : V) → get_elem? s.views id ≡ some v → w.stage ≡ v.stage → StartsWith log w.seen → StartsWith log w.heard
-      → ((t : ℕ) → v.stage ≡ Holding t → v.seen ≡ log → w.seen ≡ log) → TurnsInOrder fact events log record { words = s.words; homes = s.homes; views = set s.views id w }
+  pub touched_turns : (log : List E) (s : St) (r : TurnsInOrder fact log s) (id : ℕ) (v w : V) → get_elem? s.views id ≡ some v → w.stage ≡ v.stage → StartsWith log w.seen → StartsWith log w.heard
+      → ((t : ℕ) → v.stage ≡ Holding t → v.seen ≡ log → w.seen ≡ log) → TurnsInOrder fact log record { words = s.words; homes = s.homes; views = set s.views id w }
   touched_turns log s r id v w at st seen told whole = record {
     wide = r.wide;
     deep = r.deep;
@@ -169,18 +166,16 @@ module _ {T E : Type 0} (fact : T → Type 0) (events : T → List E) where
         let same : one_if (is_ticket n w.stage) ≡ one_if (is_ticket n v.stage) = ap (λ z. one_if (is_ticket n z)) st in
         let was = r.tickets n in omega (arith, t, same, was);
     served = each_set (λ (d : V). IsServed (serves s) d.stage) (λ (d : V). IsServed (serves s) d.stage) s.views id w r.served (λ j d n e h. h) (subst (IsServed (serves s)) (sym st) (r.served id v at));
-    counted = r.counted;
     behind = each_set (λ (d : V). StartsWith log d.seen) (λ (d : V). StartsWith log d.seen) s.views id w r.behind (λ j d n e h. h) seen;
     heard = each_set (λ (d : V). StartsWith log d.heard) (λ (d : V). StartsWith log d.heard) s.views id w r.heard (λ j d n e h. h) told;
     slot = ⊎_elim
-        (λ (h : AtHome fact events log s). inl record {
+        (λ (h : AtHome fact log s). inl record {
           value = h.value;
           there = h.there;
           kept = h.kept;
-          stored = h.stored;
           nobody = each_set (λ (d : V). HoldsNothing d.stage) (λ (d : V). HoldsNothing d.stage) s.views id w h.nobody (λ j d n e g. g) (subst HoldsNothing (sym st) (h.nobody id v at));
         })
-        (λ (a : Away fact events log s). inr (dite (ℕ_discrete a.seat id)
+        (λ (a : Away fact log s). inr (dite (ℕ_discrete a.seat id)
         (λ is.
         let same : a.who ≡ v = seat_view s a.seat id a.who v a.there at is in
         let on : v.stage ≡ Holding a.ticket = ap (λ (d : V). d.stage) (sym same) ∙ a.holding in
@@ -204,8 +199,8 @@ module _ {T E : Type 0} (fact : T → Type 0) (events : T → List E) where
   }
 
   -- one more idle seat
-  pub added_turns : (log : List E) (s : St) (r : TurnsInOrder fact events log s) (w : V) → w.stage ≡ Idle → StartsWith log w.seen → StartsWith log w.heard
-      → TurnsInOrder fact events log record { words = s.words; homes = s.homes; views = s.views ++ w ∷ [] }
+  pub added_turns : (log : List E) (s : St) (r : TurnsInOrder fact log s) (w : V) → w.stage ≡ Idle → StartsWith log w.seen → StartsWith log w.heard
+      → TurnsInOrder fact log record { words = s.words; homes = s.homes; views = s.views ++ w ∷ [] }
   added_turns log s r w idle seen told = record {
     wide = r.wide;
     deep = r.deep;
@@ -220,27 +215,25 @@ module _ {T E : Type 0} (fact : T → Type 0) (events : T → List E) where
         let z : one_if (is_ticket n w.stage) ≡ 0 = ap (λ z. one_if (is_ticket n z)) idle in
         let was = r.tickets n in omega (arith, t, z, was);
     served = each_push (λ (d : V). IsServed (serves s) d.stage) s.views w r.served (subst (IsServed (serves s)) (sym idle) tt);
-    counted = r.counted;
     behind = each_push (λ (d : V). StartsWith log d.seen) s.views w r.behind seen;
     heard = each_push (λ (d : V). StartsWith log d.heard) s.views w r.heard told;
     slot = ⊎_elim
-        (λ (h : AtHome fact events log s). inl record {
+        (λ (h : AtHome fact log s). inl record {
           value = h.value;
           there = h.there;
           kept = h.kept;
-          stored = h.stored;
           nobody = each_push (λ (d : V). HoldsNothing d.stage) s.views w h.nobody (subst HoldsNothing (sym idle) tt);
         })
-        (λ (a : Away fact events log s). inr record { seat = a.seat; ticket = a.ticket; who = a.who; there = at_longer s.views (w ∷ []) a.seat a.who a.there; holding = a.holding; whole = a.whole })
+        (λ (a : Away fact log s). inr record { seat = a.seat; ticket = a.ticket; who = a.who; there = at_longer s.views (w ∷ []) a.seat a.who a.there; holding = a.holding; whole = a.whole })
         r.slot;
   }
 
   -- The seat whose ticket is served takes the value.
-  pub taken_turns : (log : List E) (s : St) (r : TurnsInOrder fact events log s) (id t : ℕ) (v : V) → get_elem? s.views id ≡ some v → v.stage ≡ Waiting t → t ≡ serves s → (x : Option T)
-      → TurnsInOrder fact events log (stepped s 1 (serves s) id [] (holding_view t log v) (takes 0 x))
+  pub taken_turns : (log : List E) (s : St) (r : TurnsInOrder fact log s) (id t : ℕ) (v : V) → get_elem? s.views id ≡ some v → v.stage ≡ Waiting t → t ≡ serves s → (x : Option T)
+      → TurnsInOrder fact log (stepped s 1 (serves s) id [] (holding_view t log v) (takes 0 x))
   taken_turns log s r id t v at on now x =
       let w : V = holding_view t log v in
-      same_words (λ ws. TurnsInOrder fact events log record { words = ws; homes = set s.homes 0 none; views = set s.views id w }) s.words 1 record {
+      same_words (λ ws. TurnsInOrder fact log record { words = ws; homes = set s.homes 0 none; views = set s.views id w }) s.words 1 record {
         wide = r.wide;
         deep = length-set s.homes 0 none ∙ r.deep;
         fits = r.fits;
@@ -254,45 +247,38 @@ module _ {T E : Type 0} (fact : T → Type 0) (events : T → List E) where
             let had : one_if (is_ticket n v.stage) ≡ one_if (nat_eq t n) = ap (λ z. one_if (is_ticket n z)) on in
             let was = r.tickets n in omega (arith, k, had, was);
         served = each_set (λ (d : V). IsServed (serves s) d.stage) (λ (d : V). IsServed (serves s) d.stage) s.views id w r.served (λ j d n e h. h) now;
-        counted = r.counted;
         behind = each_set (λ (d : V). StartsWith log d.seen) (λ (d : V). StartsWith log d.seen) s.views id w r.behind (λ j d n e h. h) (starts_self log);
         heard = each_set (λ (d : V). StartsWith log d.heard) (λ (d : V). StartsWith log d.heard) s.views id w r.heard (λ j d n e h. h) (r.heard id v at);
         slot = inr record { seat = id; ticket = t; who = w; there = set_here s.views id w (there_inside s.views id v at); holding = refl; whole = refl };
       }
 
-  -- The seat that has the value tells how many events it stores.
-  pub counted_turns : (log stored : List E) (s : St) (r : TurnsInOrder fact events log s) (id t : ℕ) (c : List (ℕ × Option T)) (v : V) → get_elem? s.views id ≡ some v → v.stage ≡ Holding t → StartsWith stored log
-      → TurnsInOrder fact events stored (stepped s 2 (length stored) id c (told_view stored v) keeps)
-  counted_turns log stored s r id t c v at on more =
-      let w : V = told_view stored v in
-      let new : ℕ = length stored in
-      let wide = r.wide in
-      let first : get_or (set s.words 2 new) 0 0 ≡ get_or s.words 0 0 = get_or-set_other s.words 2 0 new 0 (λ e. omega arith) in
-      let second : get_or (set s.words 2 new) 1 0 ≡ serves s = get_or-set_other s.words 2 1 new 0 (λ e. omega arith) in
-      let third : get_or (set s.words 2 new) 2 0 ≡ new = get_or-set_same s.words 2 new 0 (omega arith) in
-      let served : Each (λ (d : V). IsServed (serves s) d.stage) (set s.views id w) =
-      each_set (λ (d : V). IsServed (serves s) d.stage) (λ (d : V). IsServed (serves s) d.stage) s.views id w r.served (λ j d n e h. h) (r.served id v at) in
-      record {
-        wide = length-set s.words 2 new ∙ wide;
+  -- The seat that has the value adds to the history.
+  pub counted_turns : (s : St) (id t : ℕ) (c : List (ℕ × Option T)) (v : V) (added : List E) (r : TurnsInOrder fact v.seen s) → get_elem? s.views id ≡ some v → v.stage ≡ Holding t
+      → TurnsInOrder fact (v.seen ++ added) (stepped s 1 (serves s) id c (told_view added v) keeps)
+  counted_turns s id t c v added r at on =
+      let w : V = told_view added v in
+      let log : List E = v.seen in
+      let longer : List E = log ++ added in
+      let more : StartsWith longer log = (added, refl) in
+      same_words (λ ws. TurnsInOrder fact longer record { words = ws; homes = s.homes; views = set s.views id w }) s.words 1 record {
+        wide = r.wide;
         deep = r.deep;
-        fits = let f = r.fits in omega (arith, f, first);
-        ordered = let o = r.ordered in omega (arith, o, first, second);
-        drawn = let k = count_set (λ (d : V). has_ticket d.stage) s.views id v w at in let was = r.drawn in omega (arith, k, was, first, second);
+        fits = r.fits;
+        ordered = r.ordered;
+        drawn = let k = count_set (λ (d : V). has_ticket d.stage) s.views id v w at in let was = r.drawn in omega (arith, k, was);
         tickets = λ n.
             let k = count_set (λ (d : V). is_ticket n d.stage) s.views id v w at in
             let was = r.tickets n in
-            let now_is : one_within (get_or (set s.words 2 new) 1 0) (get_or (set s.words 2 new) 0 0) n ≡ one_within (serves s) (get_or s.words 0 0) n = ap (λ (z : ℕ × ℕ). one_within z.0 z.1 n) (λ i. (second i, first i)) in
-            omega (arith, k, was, now_is);
-        served = subst (λ z. Each (λ (d : V). IsServed z d.stage) (set s.views id w)) (sym second) served;
-        counted = third;
-        behind = each_set (λ (d : V). StartsWith log d.seen) (λ (d : V). StartsWith stored d.seen) s.views id w r.behind (λ j d n e h. starts_further d.seen log stored h more) (starts_self stored);
-        heard = each_set (λ (d : V). StartsWith log d.heard) (λ (d : V). StartsWith stored d.heard) s.views id w r.heard (λ j d n e h. starts_further d.heard log stored h more)
-            (starts_further v.heard log stored (r.heard id v at) more);
+            omega (arith, k, was);
+        served = each_set (λ (d : V). IsServed (serves s) d.stage) (λ (d : V). IsServed (serves s) d.stage) s.views id w r.served (λ j d n e h. h) (r.served id v at);
+        behind = each_set (λ (d : V). StartsWith log d.seen) (λ (d : V). StartsWith longer d.seen) s.views id w r.behind (λ j d n e h. starts_further d.seen log longer h more) (starts_self longer);
+        heard = each_set (λ (d : V). StartsWith log d.heard) (λ (d : V). StartsWith longer d.heard) s.views id w r.heard (λ j d n e h. starts_further d.heard log longer h more)
+            (starts_further v.heard log longer (r.heard id v at) more);
         slot = inr record { seat = id; ticket = t; who = w; there = set_here s.views id w (there_inside s.views id v at); holding = on; whole = refl };
       }
 
   -- the ticket that is served is below the next one
-  pub under_next : (log : List E) (s : St) (r : TurnsInOrder fact events log s) (id t : ℕ) (v : V) → get_elem? s.views id ≡ some v → v.stage ≡ Holding t → serves s < get_or s.words 0 0
+  pub under_next : (log : List E) (s : St) (r : TurnsInOrder fact log s) (id t : ℕ) (v : V) → get_elem? s.views id ≡ some v → v.stage ≡ Holding t → serves s < get_or s.words 0 0
   under_next log s r id t v at on =
       let mine = has_turn s t v on (turn_served log s r id t v at on) in
       let k = count_at (λ (d : V). is_ticket (serves s) d.stage) s.views id v at in
@@ -300,9 +286,9 @@ module _ {T E : Type 0} (fact : T → Type 0) (events : T → List E) where
       (within_bounds (serves s) (get_or s.words 0 0) (serves s) (omega (arith, k, is, mine))).1
 
   -- The value is back, and the next ticket is served.
-  pub given_turns : (log : List E) (s : St) (r : TurnsInOrder fact events log s) (id t new : ℕ) (v : V) (x : T) → get_elem? s.views id ≡ some v → v.stage ≡ Holding t → fact x → events x ≡ v.seen
-      → new ≡ serves s + 1 → TurnsInOrder fact events log (stepped s 1 new id ((0, Some x) ∷ []) (served_view v) gives)
-  given_turns log s r id t new v x at on kept all up =
+  pub given_turns : (log : List E) (s : St) (r : TurnsInOrder fact log s) (id t new : ℕ) (v : V) (x : T) → get_elem? s.views id ≡ some v → v.stage ≡ Holding t → fact v.seen x
+      → new ≡ serves s + 1 → TurnsInOrder fact log (stepped s 1 new id ((0, Some x) ∷ []) (served_view v) gives)
+  given_turns log s r id t new v x at on kept up =
       let w : V = served_view v in
       let wide = r.wide in
       let deep = r.deep in
@@ -311,7 +297,6 @@ module _ {T E : Type 0} (fact : T → Type 0) (events : T → List E) where
       let under = under_next log s r id t v at on in
       let first : get_or (set s.words 1 new) 0 0 ≡ get_or s.words 0 0 = get_or-set_other s.words 1 0 new 0 (λ e. omega arith) in
       let second : get_or (set s.words 1 new) 1 0 ≡ new = get_or-set_same s.words 1 new 0 (omega arith) in
-      let third : get_or (set s.words 1 new) 2 0 ≡ get_or s.words 2 0 = get_or-set_other s.words 1 2 new 0 (λ e. omega arith) in
       let others : (j : ℕ) (d : V) → j ≢ id → get_elem? s.views j ≡ some d → IsServed (serves s) d.stage → HoldsNothing d.stage = λ j d n e h. ⊎_elim (λ (z : HoldsNothing d.stage). z)
       (λ (z : one_if (is_ticket (serves s) d.stage) ≡ 1). absurd (n (one_seat log s r j id d v e at z mine))) (at_turn (serves s) d.stage h) in
       let nobody : Each (λ (d : V). HoldsNothing d.stage) (set s.views id w) = each_set (λ (d : V). IsServed (serves s) d.stage) (λ (d : V). HoldsNothing d.stage) s.views id w r.served others tt in
@@ -332,14 +317,12 @@ module _ {T E : Type 0} (fact : T → Type 0) (events : T → List E) where
             let now_is : one_within (get_or (set s.words 1 new) 1 0) (get_or (set s.words 1 new) 0 0) n ≡ one_within new (get_or s.words 0 0) n = ap (λ (z : ℕ × ℕ). one_within z.0 z.1 n) (λ i. (second i, first i)) in
             omega (arith, k, had, was, less, now_is);
         served = λ j d e. served_else (serves s) (get_or (set s.words 1 new) 1 0) d.stage (nobody j d e) (none_served d.stage (nobody j d e));
-        counted = third ∙ r.counted;
         behind = each_set (λ (d : V). StartsWith log d.seen) (λ (d : V). StartsWith log d.seen) s.views id w r.behind (λ j d n e h. h) (r.behind id v at);
         heard = each_set (λ (d : V). StartsWith log d.heard) (λ (d : V). StartsWith log d.heard) s.views id w r.heard (λ j d n e h. h) (r.heard id v at);
         slot = inl record {
           value = x;
           there = set_here s.homes 0 (some (Some x)) (omega (arith, deep));
-          kept = kept;
-          stored = all ∙ holder_whole log s r id t v at on;
+          kept = subst (λ l. fact l x) (holder_whole log s r id t v at on) kept;
           nobody = nobody;
         };
       }
@@ -350,9 +333,8 @@ module _ {T E : Type 0} (fact : T → Type 0) (events : T → List E) where
       none_served (Holding n) h = absurd h
 
   -- the first seat
-  pub opens_turns : (x : T) (w : V) (count : ℕ) → fact x → count ≡ length (events x) → w.stage ≡ Idle → w.seen ≡ events x → w.heard ≡ []
-      → TurnsInOrder fact events (events x) (opening (0 ∷ 0 ∷ count ∷ []) (Some x ∷ []) w)
-  opens_turns x w count kept is idle seen told =
+  pub opens_turns : (x : T) (w : V) → fact [] x → w.stage ≡ Idle → w.seen ≡ [] → w.heard ≡ [] → TurnsInOrder fact [] (opening (0 ∷ 0 ∷ []) (Some x ∷ []) w)
+  opens_turns x w kept idle seen told =
       let alone : (P : V → Type 0) → P w → Each P (w ∷ []) = λ P h. each_push P [] w (λ j d e. absurd (some-ne-none d (sym e))) h in
       record {
         wide = refl;
@@ -367,8 +349,7 @@ module _ {T E : Type 0} (fact : T → Type 0) (events : T → List E) where
             let z : one_if (is_ticket n w.stage) ≡ 0 = ap (λ z. one_if (is_ticket n z)) idle in
             let o : one_within 0 0 n ≡ 0 = within_empty 0 n in omega (arith, one, z, o);
         served = alone (λ d. IsServed 0 d.stage) (subst (IsServed 0) (sym idle) tt);
-        counted = is;
-        behind = alone (λ d. StartsWith (events x) d.seen) (subst (StartsWith (events x)) (sym seen) (starts_self (events x)));
-        heard = alone (λ d. StartsWith (events x) d.heard) (subst (StartsWith (events x)) (sym told) (events x, refl));
-        slot = inl record { value = x; there = refl; kept = kept; stored = refl; nobody = alone (λ d. HoldsNothing d.stage) (subst HoldsNothing (sym idle) tt) };
+        behind = alone (λ d. StartsWith [] d.seen) (subst (StartsWith []) (sym seen) (starts_self []));
+        heard = alone (λ d. StartsWith [] d.heard) (subst (StartsWith []) (sym told) ([], refl));
+        slot = inl record { value = x; there = refl; kept = kept; nobody = alone (λ d. HoldsNothing d.stage) (subst HoldsNothing (sym idle) tt) };
       }

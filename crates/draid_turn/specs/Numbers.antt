@@ -1,13 +1,13 @@
--- The numbers that callers hold, as spans, and what events concern.
+-- The numbers that callers hold, as spans, and what holds concern.
 use Rattle.std.specs.Prelude.{◌≡◌, ◌+◌, ◌-◌, ◌^◌, ◌<◌, ◌&&◌, ◌||◌, ℕ, Bool, true, false, List, [], ◌∷◌, nat_lt, nat_le, min, max, if◌then◌else◌, Option, Some}
 use Rattle.draid_turn.specs.declared.span.Span.{Span}
 
 -- all numbers lie below this one
 abbrev pub number_limit : ℕ
-number_limit = 2 ^ 32 + 17
+number_limit = 2 ^ 32 + 18
 
 abbrev pub all_numbers : List Span
-all_numbers = record { first = 0; last = 2 ^ 32 + 16 } ∷ []
+all_numbers = record { first = 0; last = 2 ^ 32 + 17 } ∷ []
 
 abbrev pub in_span : ℕ → Span → Bool
 in_span n span = nat_le span.first n && nat_le n span.last
@@ -49,10 +49,10 @@ abbrev pub HoldsAll : List Span → Type 0
 HoldsAll spans = (n : ℕ) → n < number_limit → holds n spans ≡ true
 
 module _ {E : Type 0} (number : E → Option ℕ) where
-  -- the event concerns none of the numbers
+  -- a hold concerns none of the numbers
   abbrev pub IsForeign : List Span → E → Type 0
-  IsForeign spans event = (n : ℕ) → number event ≡ Some n → holds n spans ≡ false
+  IsForeign spans past = (n : ℕ) → number past ≡ Some n → holds n spans ≡ false
 
-  -- the event concerns one of the numbers, or none at all
+  -- a hold concerns one of the numbers, or none at all
   abbrev pub IsOwn : List Span → E → Type 0
-  IsOwn spans event = (n : ℕ) → number event ≡ Some n → holds n spans ≡ true
+  IsOwn spans past = (n : ℕ) → number past ≡ Some n → holds n spans ≡ true

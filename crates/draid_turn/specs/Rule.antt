@@ -1,5 +1,4 @@
--- The rule of the lock's table, in three parts. Word 0 is the next ticket, word 1 the one that is served, and word 2 the
--- number of stored events.
+-- The rule of the lock's table, in three parts. Word 0 is the next ticket, and word 1 the one that is served.
 use Rattle.std.specs.Prelude.{◌≡◌, ◌≤◌, ◌<◌, ◌+◌, ◌⊎◌, ◌^◌, ◌++◌, ⊤, ℕ, Bool, true, false, List, [], length, nat_eq, slice_index, Option, Some, All, count_by, sum_by}
 use mathlib.Core.Option.{some}
 use lib.ListN.{get_elem?}
@@ -36,16 +35,15 @@ pub record IsHolding (stage : Stage) : Type 0 where
   pub ticket : ℕ
   pub is : stage ≡ Holding ticket
 
-module _ {T E : Type 0} (fact : T → Type 0) (events : T → List E) where
-  -- the slot has a value with the fact that stores just these events, and no seat has it
+module _ {T E : Type 0} (fact : List E → T → Type 0) where
+  -- the slot has a value with the fact of this history, and no seat has it
   pub record AtHome (log : List E) (s : State (Option T) (View E)) : Type 0 where
     pub value : T
     pub there : get_elem? s.homes 0 ≡ some (some (Some value))
-    pub kept : fact value
-    pub stored : events value ≡ log
+    pub kept : fact log value
     pub nobody : Each (λ (view : View E). HoldsNothing view.stage) s.views
 
-  -- a seat has the value, and has seen all of the log
+  -- a seat has the value, and has seen the whole history
   pub record Away (log : List E) (s : State (Option T) (View E)) : Type 0 where
     pub seat : ℕ
     pub ticket : ℕ
@@ -57,34 +55,31 @@ module _ {T E : Type 0} (fact : T → Type 0) (events : T → List E) where
   -- Part one, the tickets and where the value is. Each ticket from the served one to the last one drawn is just one
   -- seat's, the seat that has its turn has the served one, and the log begins with what each seat has seen
   pub record TurnsInOrder (log : List E) (s : State (Option T) (View E)) : Type 0 where
-    pub wide : length s.words ≡ 3
+    pub wide : length s.words ≡ 2
     pub deep : length s.homes ≡ 1
     pub fits : slice_index s.words 0 < 2 ^ 64
     pub ordered : slice_index s.words 1 ≤ slice_index s.words 0
     pub drawn : count_by (λ (view : View E). has_ticket view.stage) s.views + slice_index s.words 1 ≡ slice_index s.words 0
     pub tickets : (n : ℕ) → count_by (λ (view : View E). is_ticket n view.stage) s.views ≡ one_within (slice_index s.words 1) (slice_index s.words 0) n
     pub served : Each (λ (view : View E). IsServed (slice_index s.words 1) view.stage) s.views
-    pub counted : slice_index s.words 2 ≡ length log
     pub behind : Each (λ (view : View E). StartsWith log view.seen) s.views
     pub heard : Each (λ (view : View E). StartsWith log view.heard) s.views
     pub slot : AtHome log s ⊎ Away log s
 
--- Part two, the places. Each place of the log since the lock was made is just one seat's, and each seat lists its own in
--- ascending order
-pub record PlacesOnce {E : Type 0} (opened log : List E) (views : List (View E)) : Type 0 where
-  pub since : StartsWith log opened
-  pub single : (x : ℕ) → sum_by (λ (view : View E). times x view.own) views ≡ one_within (length opened) (length log) x
+-- Part two, the places. Each place of the log is just one seat's, and each seat lists its own in ascending order
+pub record PlacesOnce {E : Type 0} (log : List E) (views : List (View E)) : Type 0 where
+  pub single : (x : ℕ) → sum_by (λ (view : View E). times x view.own) views ≡ one_within 0 (length log) x
   pub ascending : Each (λ (view : View E). Ascends view.own) views
 
--- Part three, the numbers. None is held by two seats, a seat that holds none made nothing, and no event that a seat
+-- Part three, the numbers. None is held by two seats, a seat that holds none made nothing, and no hold that a seat
 -- hasn't seen concerns a number that it holds
 pub record NumbersOnce {E : Type 0} (number : E → Option ℕ) (log : List E) (views : List (View E)) : Type 0 where
   pub apart : (n : ℕ) → count_by (λ (view : View E). holds n view.numbers) views ≤ one_within 0 number_limit n
   pub made_none : Each (λ (view : View E). HoldsNone view.numbers → view.own ≡ []) views
   pub unseen : Each (λ (view : View E). (rest : List E) → log ≡ view.seen ++ rest → All (IsForeign number view.numbers) rest) views
 
-pub record Rule {T E : Type 0} (fact : T → Type 0) (events : T → List E) (number : E → Option ℕ) (opened : List E) (s : State (Option T) (View E)) : Type 0 where
+pub record Rule {T E : Type 0} (fact : List E → T → Type 0) (number : E → Option ℕ) (s : State (Option T) (View E)) : Type 0 where
   pub log : List E
-  pub turns : TurnsInOrder fact events log s
-  pub places : PlacesOnce opened log s.views
+  pub turns : TurnsInOrder fact log s
+  pub places : PlacesOnce log s.views
   pub numbers : NumbersOnce number log s.views

@@ -1,10 +1,10 @@
 -- What each kind of step tells the caller that makes it.
-use Rattle.std.specs.Prelude.{◌≡◌, ◌∷◌, ℕ, List, [], Option, Some, None}
+use Rattle.std.specs.Prelude.{◌≡◌, ◌∷◌, ℕ, List, [], Option, Some, None, length}
 use Rattle.atomic_table.specs.Table.{Me, Step, rest}
 use Rattle.draid_turn.specs.declared.view.Stage.TheVariants.{Waiting}
 use Rattle.draid_turn.specs.declared.view.View.{View}
 use Rattle.draid_turn.specs.Calls.{Follows}
-use Rattle.draid_turn.specs.Lists.{StartsWith, places_added}
+use Rattle.draid_turn.specs.Lists.{StartsWith, places}
 use Rattle.draid_turn.specs.Numbers.{HoldsAll}
 use Rattle.draid_turn.specs.Views.{holding_view, learned_view, served_view, told_view, waiting_view}
 
@@ -16,8 +16,9 @@ module _ {T E : Type 0} where
   abbrev pub drew : Step (Option T) → Me (Option T) (View E) → ℕ → Me (Option T) (View E) → Type 0
   drew step old found new = (new.1 ≡ old.1) × (found ≡ step.first → new.0 ≡ waiting_view found old.0) × ((found ≡ step.first → ⊥) → new.0 ≡ old.0)
 
+  -- the history has so much more
   abbrev pub told : List E → Step (Option T) → Me (Option T) (View E) → ℕ → Me (Option T) (View E) → Type 0
-  told stored step old found new = new ≡ (told_view stored old.0, old.1)
+  told added step old found new = new ≡ (told_view added old.0, old.1)
 
   abbrev pub served : Step (Option T) → Me (Option T) (View E) → ℕ → Me (Option T) (View E) → Type 0
   served step old found new = new ≡ (served_view old.0, rest old.1)
@@ -25,15 +26,15 @@ module _ {T E : Type 0} where
   abbrev pub learned : Step (Option T) → Me (Option T) (View E) → ℕ → Me (Option T) (View E) → Type 0
   learned step old found new = (new ≡ (learned_view old.0, old.1)) × StartsWith old.0.seen old.0.heard
 
-module _ {T E : Type 0} (fact : T → Type 0) (events : T → List E) (number : E → Option ℕ) (opened : List E) where
+module _ {T E : Type 0} (fact : List E → T → Type 0) (number : E → Option ℕ) where
   -- the seat's ticket is served, and it has the value
   pub record Takes (old : Me (Option T) (View E)) (ticket : ℕ) (new : Me (Option T) (View E)) : Type 0 where
     pub value : T
-    pub kept : fact value
-    pub follows : Follows number old.0.numbers (events value) old.0.seen
-    pub since : StartsWith (events value) opened
-    pub made_all : HoldsAll old.0.numbers → old.0.own ≡ places_added opened (events value)
-    pub view_is : new.0 ≡ holding_view ticket (events value) old.0
+    pub log : List E
+    pub kept : fact log value
+    pub follows : Follows number old.0.numbers log old.0.seen
+    pub made_all : HoldsAll old.0.numbers → old.0.own ≡ places 0 (length log)
+    pub view_is : new.0 ≡ holding_view ticket log old.0
     pub slot_is : new.1 ≡ (0, Some value) ∷ old.1
 
   -- where the word is the seat's ticket, it has the value; else nothing changes
@@ -42,8 +43,8 @@ module _ {T E : Type 0} (fact : T → Type 0) (events : T → List E) (number : 
 
   -- the seat has its turn, and the value is in the caller's hands
   pub record HasTaken (old : Me (Option T) (View E)) (ticket : ℕ) (new : Me (Option T) (View E)) (value : T) : Type 0 where
-    pub me : new ≡ (holding_view ticket (events value) old.0, (0, None) ∷ [])
-    pub kept : fact value
-    pub follows : Follows number old.0.numbers (events value) old.0.seen
-    pub since : StartsWith (events value) opened
-    pub made_all : HoldsAll old.0.numbers → old.0.own ≡ places_added opened (events value)
+    pub log : List E
+    pub me : new ≡ (holding_view ticket log old.0, (0, None) ∷ [])
+    pub kept : fact log value
+    pub follows : Follows number old.0.numbers log old.0.seen
+    pub made_all : HoldsAll old.0.numbers → old.0.own ≡ places 0 (length log)

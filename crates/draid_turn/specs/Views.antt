@@ -1,9 +1,9 @@
 -- What a seat knows, and what it knows after each kind of step.
-use Rattle.std.specs.Prelude.{◌++◌, ℕ, List, []}
+use Rattle.std.specs.Prelude.{◌++◌, ℕ, List, [], length}
 use Rattle.draid_turn.specs.declared.view.Stage.TheVariants.{Idle, Waiting, Holding}
 use Rattle.draid_turn.specs.declared.view.View.{View}
 use Rattle.draid_turn.specs.declared.span.Span.{Span}
-use Rattle.draid_turn.specs.Lists.{longer, merge, places_added, shorter}
+use Rattle.draid_turn.specs.Lists.{longer, merge, places, shorter}
 use Rattle.draid_turn.specs.Numbers.{all_numbers, without}
 
 module _ {E : Type 0} where
@@ -12,24 +12,24 @@ module _ {E : Type 0} where
   idle_view seen own numbers = record { stage = Idle; seen = seen; heard = []; own = own; numbers = numbers }
 
   -- the first seat of a table
-  abbrev pub first_view : List E → View E
-  first_view stored = idle_view stored [] all_numbers
+  abbrev pub first_view : View E
+  first_view = idle_view [] [] all_numbers
 
   -- the seat drew a ticket
   abbrev pub waiting_view : ℕ → View E → View E
   waiting_view ticket view = record { stage = Waiting ticket; seen = view.seen; heard = view.heard; own = view.own; numbers = view.numbers }
 
-  -- it has its turn and the value, and has seen all events that the value stores
+  -- it has its turn and the value, and has seen the whole history
   abbrev pub holding_view : ℕ → List E → View E → View E
-  holding_view ticket stored view = record { stage = Holding ticket; seen = stored; heard = view.heard; own = view.own; numbers = view.numbers }
+  holding_view ticket log view = record { stage = Holding ticket; seen = log; heard = view.heard; own = view.own; numbers = view.numbers }
 
-  -- it has seen all events again, and those behind the ones that it had seen are its own
+  -- it added to the history, and what it added is its own
   abbrev pub told_view : List E → View E → View E
-  told_view stored view = record {
+  told_view added view = record {
     stage = view.stage;
-    seen = stored;
+    seen = view.seen ++ added;
     heard = view.heard;
-    own = view.own ++ places_added view.seen stored;
+    own = view.own ++ places (length view.seen) (length added);
     numbers = view.numbers;
   }
 

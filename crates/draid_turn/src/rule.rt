@@ -1,6 +1,8 @@
 ghost use Rattle.std.specs.Prelude.{[], ⊤, List};
+ghost use Rattle.draid_turn.specs.declared.past.Past.{Past};
 ghost use Rattle.draid_turn.specs.declared.span.Span.{Span};
 
+use crate::past::Past;
 use crate::span::Span;
 use crate::stand::Stand;
 use crate::view::View;
@@ -8,35 +10,36 @@ use atomic_table::{Join, Play, Split, TableRule};
 use std::marker::{Brand, PhantomData};
 use std::snapshot::Snapshot;
 
-/// The rule of the lock's table. Word 0 is the next ticket, word 1 the one that is served, word 2 the
-/// number of stored events; the slot has the value.
+/// The rule of the lock's table. Word 0 is the next ticket, word 1 the one that is served; the slot has
+/// the value.
 pub(crate) struct Served;
 
-impl<T: Stand> TableRule<Option<T>, View<T::Event>, Snapshot<T>> for Served {
+impl<T: Stand> TableRule<Option<T>, View<Past<T>>, Snapshot<T>> for Served {
+    ghost use Rattle.draid_turn.specs.History.{Stood, number_of};
     ghost use Rattle.draid_turn.specs.Rule.{Rule};
     ghost use Rattle.draid_turn.specs.Views.{first_view};
 
-    ghost holds = { λ key. Rule (T.fact key.value) T.events T.number (T.events key.value) };
+    ghost holds = { λ key. Rule (Stood T.step key.value) number_of };
 
-    ghost first = { λ key. first_view (T.events key.value) };
+    ghost first = { λ key. first_view };
 }
 
-/// Events that a step is told of. Neither the words nor the seat have them.
-pub(crate) trait Stored<E> {
-    ghost stored: { List E };
+/// What a step adds to the history. Neither the words nor the seat have it.
+pub(crate) trait Added<E> {
+    ghost added: { List E };
 }
 
-impl<E> Stored<E> for Brand {
-    ghost stored = { [] };
+impl<E> Added<E> for Brand {
+    ghost added = { [] };
 }
 
-/// What a step is told that every hold keeps.
+/// What a step is told of the history and the value.
 pub(crate) trait Kept<T> {
-    ghost kept: { T → Type 0 };
+    ghost kept: { List (Past T) → T → Type 0 };
 }
 
 impl<T> Kept<T> for Brand {
-    ghost kept = { λ _. ⊤ };
+    ghost kept = { λ _ _. ⊤ };
 }
 
 /// Numbers that a step is told of.
@@ -67,25 +70,26 @@ impl<E, T> Play<Option<T>, View<E>> for Draw {
 }
 
 /// Takes the value, where the ticket is served.
-pub(crate) struct Take<J, I> {
-    of: PhantomData<(J, I)>,
+pub(crate) struct Take<I> {
+    of: PhantomData<I>,
 }
 
-impl<T: Stand, J: Stored<T::Event>, I: Kept<T>> Play<Option<T>, View<T::Event>> for Take<J, I> {
+impl<T, I: Kept<T>> Play<Option<T>, View<Past<T>>> for Take<I> {
+    ghost use Rattle.draid_turn.specs.History.{number_of};
     ghost use Rattle.draid_turn.specs.Steps.{took};
 
-    ghost then = { took I.kept T.events T.number J.stored };
+    ghost then = { took I.kept number_of };
 }
 
-/// Tells how many events the value stores.
+/// A load that adds to the history.
 pub(crate) struct Tell<J> {
     of: PhantomData<J>,
 }
 
-impl<E, T, J: Stored<E>> Play<Option<T>, View<E>> for Tell<J> {
+impl<E, T, J: Added<E>> Play<Option<T>, View<E>> for Tell<J> {
     ghost use Rattle.draid_turn.specs.Steps.{told};
 
-    ghost then = { told J.stored };
+    ghost then = { told J.added };
 }
 
 /// Gives the value back, and serves the next ticket.

@@ -1,21 +1,10 @@
-ghost use Rattle.std.specs.Prelude.{◌≡◌, ℕ, List, Option, length};
+ghost use Rattle.std.specs.Prelude.{◌≡◌, ℕ, Option};
+ghost use Rattle.draid_turn.specs.declared.past.Past.{Past};
 
-/// A value that stores events.
+/// A value that is kept under a lock.
 pub trait Stand {
-    type Event;
-
-    /// The events that it stores, oldest first.
-    ghost events: { Self → List Self.Event };
-
-    /// The number that an event concerns, if any.
-    ghost number: { Self.Event → Option ℕ };
-
-    /// What every hold keeps, of the value that the lock was made with and of the value now.
-    ghost fact: { Self → Self → Type 0 };
-
-    /// How many events it stores.
-    fn count(&self) -> u64
-        ensures { result ≡ length (events self.now) };
+    /// What every hold keeps to: how it found the value, and how it left it.
+    ghost step: { Self → Past Self → Type 0 };
 }
 
 /// What is done to a value during one hold.
@@ -25,6 +14,12 @@ pub trait Act<T> {
 
     /// How it and the value were before, and how they are after.
     ghost relates: { Self → T → Self → T → Type 0 };
+
+    /// The number that it concerns, if any.
+    ghost concerns: { Self → Option ℕ };
+
+    fn concerned(&self) -> Option<u64>
+        ensures { result ≡ concerns self.now };
 
     fn act(&mut self, value: &mut T)
         requires { needs self.old value.old }

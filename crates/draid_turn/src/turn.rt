@@ -1,12 +1,13 @@
-ghost use Rattle.std.specs.Prelude.{◌≡◌, ◌∷◌, ◌++◌, ◌-◌, ◌&&◌, true, [], ℕ, length, not, None, IfOk, IfErr};
-ghost use Rattle.draid_turn.specs.Calls.{Adds, Did, Follows, MayCall, newcomer};
-ghost use Rattle.draid_turn.specs.Lists.{StartsWith, longer, merge, places_added};
-ghost use Rattle.draid_turn.specs.Numbers.{HoldsAll, HoldsOther, HoldsSome, all_numbers, holds};
+ghost use Rattle.std.specs.Prelude.{◌≡◌, ◌∷◌, ◌++◌, ◌&&◌, true, [], ℕ, length, not, None, Some, List, Option, IfOk, IfErr};
+ghost use Rattle.draid_turn.specs.declared.past.Past.{Past};
+ghost use Rattle.draid_turn.specs.Calls.{Closes, Did, MayCall, newcomer};
+ghost use Rattle.draid_turn.specs.History.{Stood, number_of};
+ghost use Rattle.draid_turn.specs.Lists.{StartsWith, longer, merge};
+ghost use Rattle.draid_turn.specs.Numbers.{HoldsOther, HoldsSome, all_numbers, holds};
 
 use crate::pass::Pass;
-use crate::rule::{
-    Draw, Given, Kept, Learn, Look, Serve, Served, Share, Stored, Take, Tell, Unite,
-};
+use crate::past::Past;
+use crate::rule::{Added, Draw, Given, Kept, Learn, Look, Serve, Served, Share, Take, Tell, Unite};
 use crate::span::Span;
 use crate::stand::{Act, Stand};
 use crate::view::View;
@@ -26,7 +27,7 @@ pub struct Refused<T> {
 /// A value under a lock that is served in the order of tickets.
 #[derive(Drop)]
 pub struct Turn<T: Stand> {
-    table: Table<Option<T>, View<T::Event>, Snapshot<T>, Served, Global>,
+    table: Table<Option<T>, View<Past<T>>, Snapshot<T>, Served, Global>,
 }
 
 impl<T: Stand> Model for Turn<T> {
@@ -37,7 +38,7 @@ impl<T: Stand> Model for Turn<T> {
 
     ghost view = { λ turn. record { table = turn.table.shared.table_id; first = turn.table.shared.key.value } };
 
-    ghost invariant = { λ turn. (turn.table.shared.table_id.words ≡ 3) × (turn.table.shared.table_id.slots ≡ 1) };
+    ghost invariant = { λ turn. (turn.table.shared.table_id.words ≡ 2) × (turn.table.shared.table_id.slots ≡ 1) };
 }
 
 impl<T: Stand> Turn<T> {
@@ -46,20 +47,18 @@ impl<T: Stand> Turn<T> {
     ghost use Rattle.draid_turn.specs.Steps.{HasTaken};
     ghost use Rattle.draid_turn.specs.Views.{giver_view, new_view, served_view, told_view, waiting_view};
 
-    /// Puts a value under a lock. The first pass has seen all that the value stores, did nothing, and holds all numbers.
+    /// Puts a value under a lock. Nothing is in its history, and the first pass holds all numbers.
     pub fn new(alloc: Global, value: T) -> Result<(Turn<T>, Pass<T>), Refused<T>>
-        requires { T.fact value value }
         ensures lock { IfOk result (λ made. made.0.first ≡ value) }
-        ensures pass { IfOk result (λ made. made.1 ≡ newcomer made.0.table (T.events value) all_numbers) }
+        ensures pass { IfOk result (λ made. made.1 ≡ newcomer made.0.table [] all_numbers) }
         ensures refused { IfErr result (λ refused. refused.value ≡ value) }
     {
         let Ok(mut slots) = Vec::with_capacity(alloc, 1) else {
             return Err(Refused { value });
         };
         let first = Snapshot::of(&value);
-        let count = value.count();
         slots.push_reserved(Some(value));
-        match Table::new(alloc, &[0, 0, count], slots, &first) {
+        match Table::new(alloc, &[0, 0], slots, &first) {
             Ok((table, seat)) => Ok((Turn { table }, Pass { seat, size: 0 })),
             Err(refused) => {
                 let atomic_table::Refused { mut slots } = refused;
@@ -88,13 +87,14 @@ impl<T: Stand> Turn<T> {
 
     /// Waits for its turn, and runs the operation once in it.
     pub fn call<O: Act<T>, R: Wait>(&self, rt: &R, pass: &mut Pass<T>, op: &mut O)
-        requires { MayCall T.fact T.events T.number O.needs O.relates op.old self.now pass.old }
-        ensures { Did (T.fact self.now.first) T.events T.number O.relates op.old op.new pass.old pass.new }
+        requires { MayCall T.step O.needs O.relates O.concerns op.old self.now pass.old }
+        ensures { Did T.step O.relates O.concerns self.now.first op.old op.new pass.old pass.new }
     {
         let ticket = self.draw(rt, &mut pass.seat);
-        let mut value = self.take_in_turn::<Brand, Brand, R>(rt, &mut pass.seat, ticket);
+        let mut value = self.take_in_turn::<Brand, R>(rt, &mut pass.seat, ticket);
+        let concerned = op.concerned();
         op.act(&mut value);
-        self.tell::<Brand>(&mut pass.seat, &value);
+        self.tell::<Brand>(&mut pass.seat, &value, concerned);
         self.give_back(&mut pass.seat, value);
     }
 
@@ -120,19 +120,15 @@ impl<T: Stand> Turn<T> {
     where
         T: Drop,
         requires own { pass.table ≡ self.table }
-        ensures fact { T.fact self.first result }
-        ensures follows { Follows T.number pass.numbers (T.events result) pass.seen }
-        ensures since { StartsWith (T.events result) (T.events self.first) }
-        // Where the pass holds all numbers, the events since `new` are those that it did, each once.
-        ensures whole { HoldsAll pass.numbers → pass.own ≡ places_added (T.events self.first) (T.events result) }
+        ensures { Closes T.step self.first pass result }
     {
         let Pass { mut seat, size: _ } = pass;
         let ticket = self.draw(rt, &mut seat);
-        self.take_in_turn::<Brand, Brand, R>(rt, &mut seat, ticket)
+        self.take_in_turn::<Brand, R>(rt, &mut seat, ticket)
     }
 
     /// Draws a ticket. Where the last number was drawn it waits without end.
-    fn draw<R: Wait>(&self, rt: &R, seat: &mut Seat<Option<T>, View<T::Event>>) -> u64
+    fn draw<R: Wait>(&self, rt: &R, seat: &mut Seat<Option<T>, View<Past<T>>>) -> u64
         requires own { seat.old.table_id ≡ self.now.table }
         requires idle { (seat.old.me.0.stage ≡ Idle) × (seat.old.me.1 ≡ []) }
         ensures own { seat.new.table_id ≡ seat.old.table_id }
@@ -155,20 +151,20 @@ impl<T: Stand> Turn<T> {
     }
 
     /// Waits until the ticket is served, and takes the value.
-    fn take_in_turn<J: Stored<T::Event>, I: Kept<T>, R: Wait>(
+    fn take_in_turn<I: Kept<T>, R: Wait>(
         &self,
         rt: &R,
-        seat: &mut Seat<Option<T>, View<T::Event>>,
+        seat: &mut Seat<Option<T>, View<Past<T>>>,
         ticket: u64,
     ) -> T
-        requires opened { (J.stored ≡ T.events self.now.first) × ((x : T) → T.fact self.now.first x → I.kept x) }
+        requires kept { (log : List (Past T)) (x : T) → Stood T.step self.now.first log x → I.kept log x }
         requires own { seat.old.table_id ≡ self.now.table }
         requires waiting { (seat.old.me.0.stage ≡ Waiting ticket) × (seat.old.me.1 ≡ []) }
         ensures own { seat.new.table_id ≡ seat.old.table_id }
-        ensures taken { HasTaken I.kept T.events T.number J.stored seat.old.me ticket seat.new.me result }
+        ensures taken { HasTaken I.kept number_of seat.old.me ticket seat.new.me result }
     {
         for _ in rt.forever() {
-            let served = self.table.shared.load::<Take<J, I>>(seat, 1);
+            let served = self.table.shared.load::<Take<I>>(seat, 1);
             if served == ticket {
                 return self.table.shared.exchange(seat, 0, None).unwrap();
             }
@@ -177,26 +173,29 @@ impl<T: Stand> Turn<T> {
         unreachable!()
     }
 
-    /// Tells the table how many events the value stores.
-    fn tell<J: Stored<T::Event>>(&self, seat: &mut Seat<Option<T>, View<T::Event>>, value: &T)
-        requires stored { J.stored ≡ T.events value.now }
+    /// Adds to the history how the value is left.
+    fn tell<J: Added<Past<T>>>(
+        &self,
+        seat: &mut Seat<Option<T>, View<Past<T>>>,
+        value: &T,
+        concerned: Option<u64>,
+    )
+        requires added { J.added ≡ record { left = value.now; concerned = concerned } ∷ [] }
         requires own { seat.old.table_id ≡ self.now.table }
-        requires adds { Adds T.number seat.old.me.0.numbers seat.old.me.0.seen (T.events value.now) }
+        requires number { (n : ℕ) → concerned ≡ Some n → holds n seat.old.me.0.numbers ≡ true }
         requires some { HoldsSome seat.old.me.0.numbers }
         requires holding { IsHolding seat.old.me.0.stage }
         ensures own { seat.new.table_id ≡ seat.old.table_id }
-        ensures told { seat.new.me ≡ (told_view (T.events value.now) seat.old.me.0, seat.old.me.1) }
+        ensures told { seat.new.me ≡ (told_view J.added seat.old.me.0, seat.old.me.1) }
     {
-        let count = value.count();
-        self.table.shared.store::<Tell<J>>(seat, 2, count);
+        self.table.shared.load::<Tell<J>>(seat, 1);
     }
 
     /// Gives the value back, and serves the next ticket.
-    fn give_back(&self, seat: &mut Seat<Option<T>, View<T::Event>>, value: T)
+    fn give_back(&self, seat: &mut Seat<Option<T>, View<Past<T>>>, value: T)
         requires own { seat.old.table_id ≡ self.now.table }
         requires holding { IsHolding seat.old.me.0.stage × (seat.old.me.1 ≡ (0, None) ∷ []) }
-        requires all { T.events value ≡ seat.old.me.0.seen }
-        requires fact { T.fact self.now.first value }
+        requires stood { Stood T.step self.now.first seat.old.me.0.seen value }
         ensures own { seat.new.table_id ≡ seat.old.table_id }
         ensures served { seat.new.me ≡ (served_view seat.old.me.0, []) }
     {
@@ -208,9 +207,9 @@ impl<T: Stand> Turn<T> {
     /// A new seat, which has some of the numbers.
     fn share<J: Given>(
         &self,
-        seat: &mut Seat<Option<T>, View<T::Event>>,
+        seat: &mut Seat<Option<T>, View<Past<T>>>,
         numbers: &[Span],
-    ) -> Seat<Option<T>, View<T::Event>>
+    ) -> Seat<Option<T>, View<Past<T>>>
         requires given { J.given ≡ numbers.now }
         requires own { seat.old.table_id ≡ self.now.table }
         requires held { (n : ℕ) → holds n numbers.now ≡ true → holds n seat.old.me.0.numbers ≡ true }

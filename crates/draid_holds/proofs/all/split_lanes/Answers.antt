@@ -1,5 +1,6 @@
 use Rattle.std.proofs.Common.{rules, refl, sym, ap, ◌≡◌, ◌∙◌, ◌&&◌, not, [], ◌++◌, ℕ, List, length, map, get_or, subst, arith, vec_len}
 use Rattle.std.specs.Vec.Iter.{into_iter_items}
+use Rattle.draid_turn.specs.declared.past.Past.{Past}
 use Rattle.draid_turn.specs.Calls.{Caller, newcomer}
 use Rattle.std.specs.declared.vec.Vec.{Vec}
 use Rattle.std.specs.declared.alloc.Global.{Global}
@@ -15,7 +16,7 @@ works-init g c =
     let none = c.requires.none in (
       tt,
       tt,
-      subst (λ (z : ℕ × List (Caller g.row.T-Event.Denot)). Splitting c.args.first.now c.args.numbers.now z.0 z.1 c.args.first.now) (λ k. (sym (c.args.lanes.ok.0 ∙ ap length none) k, sym (ap (map pass_of) none) k))
+      subst (λ (z : ℕ × List (Caller (Past g.row.T.Denot))). Splitting c.args.first.now c.args.numbers.now z.0 z.1 c.args.first.now) (λ k. (sym (c.args.lanes.ok.0 ∙ ap length none) k, sym (ap (map pass_of) none) k))
           (splitting_start c.args.first.now c.args.numbers.now),
       sym c.into_iter-work-iterator.ensures.into_iter_gives.0 ∙ ap (λ ls. map work_of ls ++ into_iter_items c.into_iter-work-iterator.result) (sym none),
       refl,
@@ -63,7 +64,7 @@ works-preserved g c =
     c.split-pass.new.pass c.split-pass.result same.0 same.1 same.2 (λ n. c.split-pass.ensures.left n ∙ (λ k. holds n c.works.first.numbers && not (holds n (c.deref.ensures.value k)))) new in (
       tt,
       tt,
-      subst (λ (z : ℕ × List (Caller g.row.T-Event.Denot)). Splitting c.args.first.now c.args.numbers.now z.0 z.1 c.split-pass.new.pass)
+      subst (λ (z : ℕ × List (Caller (Past g.row.T.Denot))). Splitting c.args.first.now c.args.numbers.now z.0 z.1 c.split-pass.new.pass)
           (λ k. (sym pushed.len k, sym (passes_more c.works.lanes.items c.push_reserved.new.self.items record { pass = c.split-pass.result; work = c.in-Some.work } pushed.items) k)) more,
       works_more c.args.works.items c.works.lanes.items c.push_reserved.new.self.items record { pass = c.split-pass.result; work = c.in-Some.work } (into_iter_items c.works.work-iterator) (into_iter_items c.next.new.self)
           c.in-Some.work c.works.invariant.3 is_next pushed.items refl,

@@ -1,5 +1,6 @@
 use Rattle.std.proofs.Common.{sym, ap, refl, ◌∙◌, ◌<◌, subst, Some}
 use Rattle.std.proofs.lemmas.Option.{get_or_from_slice_get, slice_get_within}
+use Rattle.draid_turn.specs.declared.past.Past.{Past}
 use Rattle.draid_turn.specs.Calls.{Caller, Lock, MayCall}
 use Rattle.draid_holds.proofs.calls.call_in.Goals as goal
 
@@ -27,5 +28,5 @@ pub call-requires : goal.call-requires
 call-requires g c =
     let lock = c.index-turns-turn.is ∙ get_or_from_slice_get c.args.turns.now c.args.turn c.requires.lock c.index-turns-turn.result c.requires.lock_is in
     let pass = c.index_mut.ensures.value ∙ get_or_from_slice_get c.args.passes.now.items c.args.turn c.requires.pass c.index_mut.result.now c.requires.pass_is in
-    subst (λ (z : Lock g.row.T.Denot × Caller g.row.T-Event.Denot). MayCall g.T.Stand.fact g.T.Stand.events g.T.Stand.number g.O.Act.needs g.O.Act.relates c.args.op.now z.0 z.1)
+    subst (λ (z : Lock g.row.T.Denot × Caller (Past g.row.T.Denot)). MayCall g.T.Stand.step g.O.Act.needs g.O.Act.relates g.O.Act.concerns c.args.op.now z.0 z.1)
     (λ k. (sym lock k, sym pass k)) c.requires.may

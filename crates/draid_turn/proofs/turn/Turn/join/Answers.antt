@@ -1,4 +1,5 @@
 use Rattle.std.proofs.Common.{rules, ap, sym, subst, ◌∙◌, ◌≤◌, length}
+use Rattle.draid_turn.specs.History.{Stood, number_of}
 use Rattle.draid_turn.proofs.Keeps.{joins_keep, learns_keep}
 use Rattle.draid_turn.proofs.Beginnings.{shorter_longer}
 use Rattle.draid_turn.specs.Numbers.{HoldsSome}
@@ -12,14 +13,14 @@ join_seat-requires g c = (
   search rules,
   ap (λ m. m.1) c.other.invariant.idle,
   search rules,
-  joins_keep (g.T.Stand.fact c.self.inside.table.shared.key.value) g.T.Stand.events g.T.Stand.number _ _ _ _ _ (ap (λ m. m.0.stage) c.pass.invariant.idle) (ap (λ m. m.0.stage) c.other.invariant.idle),
+  joins_keep (Stood g.T.Stand.step c.self.inside.table.shared.key.value) number_of _ _ _ _ (ap (λ m. m.0.stage) c.pass.invariant.idle) (ap (λ m. m.0.stage) c.other.invariant.idle),
 )
 
 pub load-requires : goal.load-requires
 load-requires g c = (
   search rules,
   search rules,
-  learns_keep (g.T.Stand.fact c.self.inside.table.shared.key.value) g.T.Stand.events g.T.Stand.number _ _ _ _
+  learns_keep (Stood g.T.Stand.step c.self.inside.table.shared.key.value) number_of _ _ _
       (subst (λ m. length m.0.heard ≤ length m.0.seen) (sym c.join_seat.ensures.2) (shorter_longer c.pass.inside.seat.me.0.seen c.other.inside.seat.me.0.seen)),
 )
 

@@ -1,8 +1,8 @@
 use Rattle.std.proofs.Common.{rules, refl, sym, ap, ◌≡◌, ◌∙◌, [], ◌∷◌, Some, None, Option, ℕ, subst}
-use mathlib.Core.Option.{none}
-use Rattle.atomic_table.specs.Table.{Allows, Me, rest, step}
-use Rattle.draid_turn.specs.Steps.{HasTaken, Takes, took}
-use Rattle.draid_turn.specs.Rule.{Rule}
+use Rattle.atomic_table.specs.Table.{Me, rest}
+use Rattle.draid_turn.specs.declared.past.Past.{Past}
+use Rattle.draid_turn.specs.History.{Stood, number_of}
+use Rattle.draid_turn.specs.Steps.{HasTaken, Takes}
 use Rattle.std.specs.Option.{IsSome}
 use Rattle.draid_turn.proofs.Keeps.{has_taken, slot_value, takes_keep}
 use Rattle.draid_turn.specs.declared.view.Stage.TheVariants.{Waiting}
@@ -10,24 +10,21 @@ use Rattle.draid_turn.specs.declared.view.View.{View}
 use Rattle.draid_turn.proofs.turn.Turn.take_in_turn.Given.{Over}
 use Rattle.draid_turn.proofs.turn.Turn.take_in_turn.Goals as goal
 
-taken : (g : Over) (start old mid new : Me (Option g.row.T.Denot) (View g.row.T-Event.Denot)) (ticket served : ℕ) (slot : Option g.row.T.Denot) (x : g.row.T.Denot)
-    → ((t : ℕ) → old.0.stage ≡ Waiting t → (t ≡ served → Takes g.I.Kept.kept g.T.Stand.events g.T.Stand.number g.J.Stored.stored old t mid) × ((t ≡ served → ⊥) → mid ≡ old))
+taken : (g : Over) (start old mid new : Me (Option g.row.T.Denot) (View (Past g.row.T.Denot))) (ticket served : ℕ) (slot : Option g.row.T.Denot) (x : g.row.T.Denot)
+    → ((t : ℕ) → old.0.stage ≡ Waiting t → (t ≡ served → Takes g.I.Kept.kept number_of old t mid) × ((t ≡ served → ⊥) → mid ≡ old))
     → old ≡ start → (start.0.stage ≡ Waiting ticket) × (start.1 ≡ []) → served ≡ ticket → mid.1 ≡ (0, slot) ∷ rest mid.1 → new ≡ (mid.0, (0, None) ∷ rest mid.1) → slot ≡ Some x
-    → HasTaken g.I.Kept.kept g.T.Stand.events g.T.Stand.number g.J.Stored.stored start ticket new x
+    → HasTaken g.I.Kept.kept number_of start ticket new x
 taken g start old mid new ticket served slot x told was waiting hit out is there =
     let step = (told ticket (ap (λ m. m.0.stage) was ∙ waiting.0)).0 (sym hit) in
-    subst (λ m. HasTaken g.I.Kept.kept g.T.Stand.events g.T.Stand.number g.J.Stored.stored m ticket new x) was
-    (has_taken g.I.Kept.kept g.T.Stand.events g.T.Stand.number g.J.Stored.stored old mid new ticket slot x step (ap (λ m. m.1) was ∙ waiting.1) out is there)
+    subst (λ m. HasTaken g.I.Kept.kept number_of m ticket new x) was
+    (has_taken g.I.Kept.kept number_of old mid new ticket slot x step (ap (λ m. m.1) was ∙ waiting.1) out is there)
 
 pub load-served-requires : goal.load-served-requires
 load-served-requires g c = (
   search rules,
   search rules,
-  subst (λ o. Allows (Rule (g.T.Stand.fact c.self.inside.table.shared.key.value) g.T.Stand.events g.T.Stand.number (g.T.Stand.events c.self.inside.table.shared.key.value)) c.self.inside.table.shared.table_id.slots c.loop.seat.id c.loop.seat.me 1
-      (λ n. n) (took g.I.Kept.kept g.T.Stand.events g.T.Stand.number o (step c.self.inside.table.shared.table_id.slots 1 0 0 none) c.loop.seat.me))
-      (ap (λ d. g.T.Stand.events d.first) c.self.view_is ∙ sym c.requires.opened.0)
-      (takes_keep (g.T.Stand.fact c.self.inside.table.shared.key.value) g.T.Stand.events g.T.Stand.number (g.T.Stand.events c.self.inside.table.shared.key.value) g.I.Kept.kept
-      (λ x k. c.requires.opened.1 x (subst (λ d. g.T.Stand.fact d.first x) c.self.view_is k)) c.self.inside.table.shared.table_id.slots c.loop.seat.id c.loop.seat.me c.args.ticket (ap (λ m. m.0.stage) c.loop.invariant.1 ∙ c.requires.waiting.0)),
+  takes_keep (Stood g.T.Stand.step c.self.inside.table.shared.key.value) number_of g.I.Kept.kept (λ log x k. c.requires.kept log x (subst (λ d. Stood g.T.Stand.step d.first log x) c.self.view_is k)) c.self.inside.table.shared.table_id.slots
+      c.loop.seat.id c.loop.seat.me c.args.ticket (ap (λ m. m.0.stage) c.loop.invariant.1 ∙ c.requires.waiting.0),
 )
 
 pub exchange-requires : goal.exchange-requires
