@@ -6,8 +6,6 @@ pub mod Dropping
 pub mod FirstRecord
 pub mod LeavesFlushed
 pub mod ListedOnce
-pub mod Marking
-pub mod Missing
 pub mod Once
 pub mod Opened
 pub mod Ranging
@@ -15,6 +13,4 @@ pub mod Releasing
 pub mod Reopened
 pub mod SealRecords
 pub mod SealSteps
-pub mod Silent
-pub mod Thinning
 pub mod Unsealed

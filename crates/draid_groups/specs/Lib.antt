@@ -1,6 +1,5 @@
 pub mod Changes
 pub mod Committing
-pub mod Counting
 pub mod Groups
 pub mod Reopening
 pub mod Sealing

@@ -7,8 +7,6 @@ mod closing;
 mod committing;
 mod fault;
 mod laws;
-mod looks;
-mod marks;
 mod opening;
 mod records;
 mod reopening;

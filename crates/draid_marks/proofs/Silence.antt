@@ -139,7 +139,7 @@ module _ (slots : SlotTable) (lay : IsLayout slots.geometry slots.perms) where
         let some = has_some slots.geometry lay.geometry_is in
         let here : slice_in slots.geometry slots.metaslab stripe ≡ whole
         = ap (λ n. n / (slots.geometry.props.height * slots.geometry.ngroups)) pool_is
-            ∙ high_digit slots.geometry.props.height slots.geometry.ngroups whole (position / slots.geometry.g) 0 group_low some.height
+        ∙ high_digit slots.geometry.props.height slots.geometry.ngroups whole (position / slots.geometry.g) 0 group_low some.height
         in
         let follows = places.slice_follows slots lay stripe in
         omega (arith, here, follows)
