@@ -20,9 +20,9 @@ use Rattle.draid_rack.specs.Rack.{Shape}
 use Rattle.draid_slots.specs.declared.slot.Detached.{Detached}
 use Rattle.draid_slots.specs.Table.{IsArmOf, IsTable, IsThere, SlotTable, arm_at, arms_of, is_leaf_kind, is_leaving_online}
 use Rattle.draid_slots.specs.States.{HasSlots, IsGone, arm_in, name_of, named}
+use Rattle.draid_marks.proofs.Missing.{slot_inside}
 use Rattle.draid_pool.specs.Sealing.{AreFlushed, FlushedBelow, IsOnline}
 use Rattle.draid_shard.specs.Fits.{IsLeaf}
-use Rattle.draid_pool.proofs.Missing.{slot_inside}
 
 -- ---- leaves that answer
 leaf_there : (q : machine.Core) (leaf : ℕ) → leaf_answers q leaf ≡ true → (a : machine.Arm) × (q.arm (Leaf leaf) ≡ Some a) × (is_here (Some a) ≡ true)

@@ -20,8 +20,6 @@ pub mod ListedOnce
 pub mod Lists
 pub mod Lives
 pub mod Looking
-pub mod Marking
-pub mod Missing
 pub mod Moved
 pub mod Naming
 pub mod OneHold
@@ -34,14 +32,12 @@ pub mod Rises
 pub mod Rooms
 pub mod SealRecords
 pub mod SealSteps
-pub mod Silent
 pub mod Steps
 pub mod Stood
 pub mod SyncCalls
 pub mod SyncSteps
 pub mod Takings
 pub mod Taught
-pub mod Thinning
 pub mod Turns
 pub mod Unsealed
 pub mod Walks

@@ -24,6 +24,7 @@ use Rattle.draid_record.specs.Record.{limits_of, told_record, told_slots}
 use Rattle.draid_record.specs.Ranges.{IsRanged}
 use Rattle.draid_record.specs.Written.{body_bytes}
 use Rattle.draid_slots.specs.Table.{arm_at, is_logged}
+use Rattle.draid_marks.specs.Silent.{AreSilent}
 use Rattle.draid_stable.specs.Images.{LeavesBelow, image_by}
 use Rattle.draid_stable.specs.Sealing.{AreMarked, AreTables, IsMade, IsSettled, was_born}
 use Rattle.draid_slots.specs.States.{arm_in, name_of, named}
@@ -38,7 +39,7 @@ use Rattle.draid_shard.specs.States.{IsIn, layout_by, part_of}
 use Rattle.draid_shard.specs.declared.shard.Shard.{Shard}
 use Rattle.draid_shard.proofs.Homes.{lays}
 use Rattle.draid_pool.specs.Groups.{ListsOnce, at_version}
-use Rattle.draid_pool.specs.Sealing.{AreSilent, IsPlan, head_of}
+use Rattle.draid_pool.specs.Sealing.{IsPlan, head_of}
 use Rattle.draid_pool.specs.declared.sealing.Plan.{Plan}
 use Rattle.draid_pool.proofs.ListedOnce.{lists_once}
 use Rattle.draid_pool.proofs.Ranging.{NumbersFit, closing_low, tables_fit}
@@ -125,7 +126,7 @@ module _ {R A : Type 0} (rack : Ghosts R) (old : Shard R A) (v : Valid rack old)
         let m = is_plan.made in
         settles (layout_by old) w.core failed
         (marked_told old.slots plan.made.slots.items marks (lies_on (layout_by old) w.core (is_silent w.core failed)) m.slots_are
-        (marked_here (part_of old) v.part old.slots v.slots w reached at.slots failed marks silent))
+        (marked_here (part_of old) old.slots v.slots w reached at.slots failed marks silent))
         (is_plan.image w.core tables ∙ (λ i. image_of (sym m.group_is i) (sym m.version_is i) w.core))
         ∙ (λ i. image_of (m.group_is i) (m.version_is i) (sealed_core (layout_by old) w.core (m.group_is i) failed wrote))
 

@@ -27,26 +27,32 @@ use Rattle.draid_machine.specs.Created.{IsReached}
 use Rattle.draid_machine.specs.Names.{has_number, is_block}
 use Rattle.draid_machine.specs.State as machine
 use Rattle.draid_machine.specs.Step.{HasWritten, SealStep}
-use Rattle.draid_machine.proofs.Small.{absurd_test, either_true, is_equal, none_some, some_same}
+use Rattle.draid_machine.proofs.Small.{absurd_test, below, either_true, is_equal, none_some, some_same, true_left}
 use Rattle.draid_segments.specs.Acts as acts
 use Rattle.draid_record.specs.Record.{PassTold, told_pass}
+use Rattle.draid_layouts.specs.Layout.{layout_of}
+use Rattle.draid_marks.specs.Layout.{layout_with}
+use Rattle.draid_marks.specs.Missed.{MarksTable, is_marked_arm}
+use Rattle.draid_marks.specs.Silent.{AreSilent, lies_silent}
+use Rattle.draid_marks.proofs.Silence.{same_number}
 use Rattle.draid_slots.specs.Changes.{IsOf}
-use Rattle.draid_slots.specs.Table.{SlotTable, arm_at, arms_of, is_logged}
+use Rattle.draid_slots.specs.Marks.{is_marked}
+use Rattle.draid_slots.specs.Table.{AreOf, IsTable, SlotTable, arm_at, arms_of, is_logged}
 use Rattle.draid_slots.specs.States.{AscendBehind, HasSlots, HoldsPass, name_of, named, names_at, pass_in}
-use Rattle.draid_stable.specs.Sealing.{LosesTargets, by_kind, is_lost, is_marked, lose_marked}
+use Rattle.draid_stable.specs.Sealing.{LosesTargets, by_kind, is_lost, lose_marked}
 use Rattle.draid_stable.proofs.Targets.{kept_ascend}
 use Rattle.draid_shard.specs.Calls.{OnBothTold}
 use Rattle.draid_shard.specs.Fits.{AreGroups, IsLeaf, TicketsAreNew, Valid, birth_groups, is_rebuild, oldest_open, owed_for_group, owed_for_pass}
-use Rattle.draid_shard.specs.Part.{IsPart, Part, layout_in}
+use Rattle.draid_shard.specs.Part.{Part, layout_in}
+use Rattle.draid_shard.specs.Rows.{LogsBirth}
 use Rattle.draid_shard.specs.States.{IsIn, layout_by, part_of}
 use Rattle.draid_shard.specs.declared.shard.Shard.{Shard}
 use Rattle.draid_shard.proofs.Once.{once_kept}
 use Rattle.draid_shard.proofs.Putting.{pass_same}
 use Rattle.draid_shard.proofs.Staging.{leaves_left, logs_left, same_of}
 use Rattle.draid_pool.specs.Groups.{OpenUpto}
-use Rattle.draid_pool.specs.Sealing.{AreFlushed, AreSilent, IsOnline, MarksTable, lies_silent}
+use Rattle.draid_pool.specs.Sealing.{AreFlushed, IsOnline}
 use Rattle.draid_pool.proofs.LeavesFlushed.{answers_leaf, answers_online, online_leaf}
-use Rattle.draid_pool.proofs.Silent.{same_number, silent_is}
 
 -- ---- a pass loses its marked targets
 
@@ -169,15 +175,45 @@ less_held marks slots after last old new loses arms held = lost_by marks (λ o n
     }) old new loses held
 
 -- ---- the slots
-module _ (part : Part) (is : IsPart part) (slots : SlotTable) (of : IsOf slots part.geometry part.perms part.number) (w : machine.State) (reached : IsReached (layout_in part) w) (has : HasSlots slots w.core)
+
+-- the layout is that of the slots
+pub layout_same : (part : Part) (slots : SlotTable) → IsOf slots part.geometry part.perms part.number → layout_with slots ≡ layout_in part
+layout_same part slots of = λ i. layout_of (of.geometry_is i) (of.perms_are i) (of.metaslab_is i)
+
+-- what the marked arms miss is one group alone
+pub logs_birth : (old new : SlotTable) (marks : List (List Bool)) (wrote : Bool) (group : ℕ) → MarksTable old new marks wrote group → LogsBirth group old new
+logs_birth old new marks wrote group table = record {
+  same = table.same;
+  arms = table.arms_stay;
+  detached = table.detached_stay;
+  others = λ at g out. table.logged at g ∙ ap (λ x. is_logged old at g || ((wrote && is_marked_arm old marks at) && x)) out ∙ none (is_logged old at g) (wrote && is_marked_arm old marks at);
+  kept = λ at has. table.logged at group ∙ true_left (is_logged old at group) ((wrote && is_marked_arm old marks at) && (group == group)) has;
+  room = table.room;
+} where
+  none : (a b : Bool) → (a || (b && false)) ≡ a
+  none true b = refl
+  none false true = refl
+  none false false = refl
+
+-- and what holds of slots holds on
+pub marked_sound : (old new : SlotTable) (marks : List (List Bool)) (wrote : Bool) (group : ℕ) → MarksTable old new marks wrote group → IsTable old → IsTable new
+marked_sound old new marks wrote group table is =
+    subst (λ detached. AreOf new.geometry new.perms new.metaslab new.arms detached) (sym table.detached_stay)
+    (subst (λ arms. AreOf new.geometry new.perms new.metaslab arms old.detached) (sym table.arms_stay)
+    (subst (λ metaslab. AreOf new.geometry new.perms metaslab old.arms old.detached) (sym table.same.metaslab_is)
+    (subst (λ perms. AreOf new.geometry perms old.metaslab old.arms old.detached) (sym table.same.perms_are)
+    (subst (λ geometry. AreOf geometry old.perms old.metaslab old.arms old.detached) (sym table.same.geometry_is) is))))
+
+module _ (part : Part) (slots : SlotTable) (of : IsOf slots part.geometry part.perms part.number) (w : machine.State) (reached : IsReached (layout_in part) w) (has : HasSlots slots w.core)
     (failed : List ℕ) (marks : List (List Bool)) (silent : AreSilent slots failed marks) where
   pub marked_here : (at : ArmAt) (a : Arm) → arm_at slots at ≡ Some a → is_marked marks at.slot at.arm ≡ lies_on (layout_in part) w.core (is_silent w.core failed) (name_of a)
-  marked_here at a there = silent at ∙ ap (lies_silent slots failed at) there ∙ silent_is part is slots of w reached has failed at a there
+  marked_here at a there =
+      silent.lie w (subst (λ l. IsReached l w) (sym (layout_same part slots of)) reached) has at a there ∙ ap (λ l. lies_on l w.core (is_silent w.core failed) (name_of a)) (layout_same part slots of)
 
   pub marked_none : (at : ArmAt) → arm_at slots at ≡ None → is_marked marks at.slot at.arm ≡ false
-  marked_none at none = silent at ∙ ap (lies_silent slots failed at) none
+  marked_none at none = silent.marked at ∙ ap (lies_silent slots failed at) none
 
-module _ (part : Part) (is : IsPart part) (slots new : SlotTable) (of : IsOf slots part.geometry part.perms part.number) (w : machine.State) (reached : IsReached (layout_in part) w) (has : HasSlots slots w.core)
+module _ (part : Part) (slots new : SlotTable) (of : IsOf slots part.geometry part.perms part.number) (w : machine.State) (reached : IsReached (layout_in part) w) (has : HasSlots slots w.core)
     (failed : List ℕ) (marks : List (List Bool)) (silent : AreSilent slots failed marks) (wrote : Bool) (group : ℕ) (table : MarksTable slots new marks wrote group) where
   abbrev bad : ArmName → Bool
   bad = lies_on (layout_in part) w.core (is_silent w.core failed)
@@ -188,22 +224,26 @@ module _ (part : Part) (is : IsPart part) (slots new : SlotTable) (of : IsOf slo
   there_below (y ∷ ys) (suc k) x is = let less = there_below ys k x is in omega (arith, less)
 
   before : (at : ArmAt) (a : Arm) → arm_at new at ≡ Some a → arm_at slots at ≡ Some a
-  before at a there = ap (λ arms. slice_get (slice_index_or arms at.slot []) at.arm) (sym table.logs.arms) ∙ there
+  before at a there = ap (λ arms. slice_get (slice_index_or arms at.slot []) at.arm) (sym table.arms_stay) ∙ there
 
   after : (at : ArmAt) (a : Arm) → arm_at slots at ≡ Some a → arm_at new at ≡ Some a
-  after at a there = ap (λ arms. slice_get (slice_index_or arms at.slot []) at.arm) table.logs.arms ∙ there
+  after at a there = ap (λ arms. slice_get (slice_index_or arms at.slot []) at.arm) table.arms_stay ∙ there
+
+  arm_is : (at : ArmAt) (a : Arm) → arm_at slots at ≡ Some a → is_marked_arm slots marks at ≡ bad (name_of a)
+  arm_is at a there =
+      ap (λ b. b && is_marked marks at.slot at.arm) (below at.arm (length (arms_of slots at.slot)) (there_below (arms_of slots at.slot) at.arm a there))
+      ∙ marked_here part slots of w reached has failed marks silent at a there
 
   log_is : (at : ArmAt) (a : Arm) (g : ℕ) → arm_at slots at ≡ Some a → (is_logged slots at g || ((wrote && bad (name_of a)) && (g == group))) ≡ is_logged new at g
-  log_is at a g there =
-      ap (λ b. is_logged slots at g || ((wrote && b) && (g == group))) (sym (marked_here part is slots of w reached has failed marks silent at a there)) ∙ sym (table.logged at g (there_below (arms_of slots at.slot) at.arm a there))
+  log_is at a g there = ap (λ b. is_logged slots at g || ((wrote && b) && (g == group))) (sym (arm_is at a there)) ∙ sym (table.logged at g)
 
   pub sealed_slots : HasSlots new (sealed_core (layout_in part) w.core group failed wrote)
   sealed_slots = record {
-    order = λ slot. has.order slot ∙ ap (λ arms. map name_of (slice_index_or arms slot [])) (sym table.logs.arms);
+    order = λ slot. has.order slot ∙ ap (λ arms. map name_of (slice_index_or arms slot [])) (sym table.arms_stay);
     arms = λ at a there. (let was = before at a there in
         ap (map_arm (log_if (wrote && bad (name_of a)) group)) (has.arms at a was)
         ∙ (λ i. Some (record { offline = a.offline; fresh = a.fresh; log = λ g. log_is at a g was i; gone = None })));
-    detached = λ gone among. (let was = has.detached gone (subst (λ list. Contains list gone) table.logs.detached among) in record {
+    detached = λ gone among. (let was = has.detached gone (subst (λ list. Contains list gone) table.detached_stay among) in record {
       arm = log_if (wrote && bad (named gone.kind gone.number)) group was.arm;
       there = ap (map_arm (log_if (wrote && bad (named gone.kind gone.number)) group)) was.there;
       offline = was.offline;
@@ -211,13 +251,13 @@ module _ (part : Part) (is : IsPart part) (slots new : SlotTable) (of : IsOf slo
     });
     only = λ n some. elim (has.only n (λ none. some (ap (map_arm (log_if (wrote && bad n) group)) none))) [
       | inl arm ↦ inl (record { at = arm.at; arm = arm.arm; there = after arm.at arm.arm arm.there; name_is = arm.name_is })
-      | inr gone ↦ inr (record { gone = gone.gone; among = subst (λ list. Contains list gone.gone) (sym table.logs.detached) gone.among; name_is = gone.name_is })
+      | inr gone ↦ inr (record { gone = gone.gone; among = subst (λ list. Contains list gone.gone) (sym table.detached_stay) gone.among; name_is = gone.name_is })
     ];
   }
 
   pub sealed_pass : (was now : Option Pass) → w.core.pass ≡ option_map (pass_in slots) was → LosesTargets marks was now → map_pass (lose_some bad) w.core.pass ≡ option_map (pass_in new) now
   sealed_pass was now is_in loses =
-      ap (map_pass (lose_some bad)) is_in ∙ pass_less slots marks bad (marked_here part is slots of w reached has failed marks silent) (marked_none part is slots of w reached has failed marks silent) was now loses ∙ pass_same slots new now table.logs.arms
+      ap (map_pass (lose_some bad)) is_in ∙ pass_less slots marks bad (marked_here part slots of w reached has failed marks silent) (marked_none part slots of w reached has failed marks silent) was now loses ∙ pass_same slots new now table.arms_stay
 
 -- ---- the flushes
 
@@ -333,8 +373,8 @@ module _ {R A : Type 0} (ghosts : Ghosts R) (old : Shard R A) (v : Valid ghosts 
     pub sealed_in : IsIn new (seal_state (layout_by old) w group failed.items wrote)
     sealed_in = record {
       held = at.held;
-      slots = sealed_slots (part_of old) v.part old.slots slots v.slots w reached at.slots failed.items marks silent wrote group table;
-      pass = sealed_pass (part_of old) v.part old.slots slots v.slots w reached at.slots failed.items marks silent wrote group table old.pass pass at.pass loses;
+      slots = sealed_slots (part_of old) old.slots slots v.slots w reached at.slots failed.items marks silent wrote group table;
+      pass = sealed_pass (part_of old) old.slots slots v.slots w reached at.slots failed.items marks silent wrote group table old.pass pass at.pass loses;
       last = at.last;
       open_group_is = at.open_group_is;
       closing = at.closing;
@@ -358,11 +398,11 @@ module _ {R A : Type 0} (ghosts : Ghosts R) (old : Shard R A) (v : Valid ghosts 
     disabled = v.disabled ∙ sym (less_rebuild marks old.pass pass loses);
     few = v.few;
     here = v.here;
-    slots = same_of old.slots slots old.geometry old.perms old.number group table.logs v.slots;
-    once = once_kept old.slots slots table.logs.arms table.logs.detached v.once;
-    pass = less_held marks old.slots slots old.last_pass old.pass pass loses table.logs.arms v.pass;
-    logs = logs_left old.slots slots (oldest_open old.open_group old.closing) (birth_groups old.closing) group (birth_low old.open_group group old.closing closing) (birth_high old.open_group group old.closing closing) table.logs v.logs;
-    leaves = leaves_left (ghosts.shape old.rack) (ghosts.shape rack) old.geometry old.slots slots group shape table.logs v.leaves;
+    slots = same_of old.slots slots old.geometry old.perms old.number group logs v.slots;
+    once = once_kept old.slots slots table.arms_stay table.detached_stay v.once;
+    pass = less_held marks old.slots slots old.last_pass old.pass pass loses table.arms_stay v.pass;
+    logs = logs_left old.slots slots (oldest_open old.open_group old.closing) (birth_groups old.closing) group (birth_low old.open_group group old.closing closing) (birth_high old.open_group group old.closing closing) logs v.logs;
+    leaves = leaves_left (ghosts.shape old.rack) (ghosts.shape rack) old.geometry old.slots slots group shape logs v.leaves;
     groups = sealed_groups old.closing closing v.groups;
     low = v.low;
     tickets = v.tickets;
@@ -370,6 +410,9 @@ module _ {R A : Type 0} (ghosts : Ghosts R) (old : Shard R A) (v : Valid ghosts 
     owed = (let was = v.owed in let pass = less_owed marks old.pass pass loses in let two = owes in let one : owed_for_group old.closing true ≡ 1 = ap (λ o. owed_for_group o true) closing in
         omega (arith, was, pass, two, one, owed, reserved));
   } where
+    logs : LogsBirth group old.slots slots
+    logs = logs_birth old.slots slots marks wrote group table
+
     next_open : (o : Option ℕ) → o ≡ Some group → AreGroups old.open_group o old.committed old.sealed → old.open_group ≡ group + 1
     next_open None e g = absurd (none_some None group refl e)
     next_open (Some t) e g = g.0 ∙ ap (λ n. n + 1) (some_same (Some t) t group refl e)

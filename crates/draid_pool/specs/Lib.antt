@@ -1,7 +1,6 @@
 pub mod Carries
 pub mod Changes
 pub mod Committing
-pub mod Counting
 pub mod Failing
 pub mod Groups
 pub mod Importable

@@ -7,8 +7,6 @@ mod closing;
 mod committing;
 mod fault;
 mod group_fault;
-mod looks;
-mod marks;
 mod pool;
 mod records;
 mod returning;

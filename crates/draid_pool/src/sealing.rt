@@ -12,18 +12,17 @@ ghost use Rattle.draid_pool.specs.Groups.{AreasLater, KeepsOtherArea, OpenUpto, 
 ghost use Rattle.draid_pool.specs.Sealing.{AreFlushed, FlushedBelow, IsOnline, IsPlan};
 
 use crate::group_fault::{SealFault, Sealed};
-use crate::looks::{thin, tickets_upto};
-use crate::marks::{mark_silent, miss_marked};
 use crate::records::{record_of, write_to};
 use draid_area::{Area, DeviceFault};
 use draid_columns::flush_leaves;
 use draid_machine::Event;
+use draid_marks::{mark_silent, miss_marked, thin, tickets_upto};
 use draid_names::{ArmKind, NoMemory};
 use draid_rack::Rack;
 use draid_record::Record;
 use draid_shard::Shard;
-use draid_slots::Slots;
-use draid_stable::{Marks, has_written, lose_targets, settle};
+use draid_slots::{Marks, Slots};
+use draid_stable::{has_written, lose_targets, settle};
 use std::alloc::Global;
 
 /// What a seal takes memory for before it changes anything: the record of the group, the leaves to flush, and room for
@@ -50,7 +49,7 @@ pub fn seal<R: Rack, A: Area>(shard: &mut Shard<R, A>, group: u64) -> Result<Sea
     ensures later { AreasLater A.faults shard.old shard.new }
     ensures reserve { SameReserve shard.old shard.new }
 {
-    let tickets = tickets_upto(shard, group);
+    let tickets = tickets_upto(&shard.entries, group);
     if tickets > 0 {
         return Err(SealFault::NotYet { tickets });
     }
@@ -87,7 +86,7 @@ fn seal_by<R: Rack, A: Area>(
         mut marks,
     } = plan;
     flush_leaves(&mut shard.rack, &leaves, &mut failed);
-    mark_silent(shard, &mut marks, &failed);
+    mark_silent(&shard.slots, &mut marks, &failed);
     let wrote = has_written(&made);
     settle(&mut made, &marks, wrote);
     match write_to(shard.alloc, &mut shard.even, &mut shard.odd, group, &made) {
@@ -100,7 +99,7 @@ fn seal_by<R: Rack, A: Area>(
     shard.sealed = true;
     shard.history.add(Event::Seal { group, failed }, 1);
     Ok(Sealed {
-        thin: thin(shard, group),
+        thin: thin(&shard.slots, &shard.entries, group),
     })
 }
 

@@ -11,5 +11,5 @@ mod slots;
 pub use draid_names::SlotFault;
 pub use laws::spares_lie_by_the_layout;
 pub use moved::Moved;
-pub use slot::{Detached, ReadArm};
+pub use slot::{Detached, Marks, ReadArm};
 pub use slots::Slots;

@@ -42,6 +42,9 @@ pub struct ReadArm {
     pub clean: bool,
 }
 
+/// Marks of a slot's arms, by their order.
+pub type Marks = [bool; 3];
+
 /// Lists with room for as many arms as a slot may have.
 fn empty_slot(alloc: Global) -> Result<Slot, NoMemory>
     ensures { IfOk result (λ slot. IsPaired slot × (arms_in slot ≡ []) × (logs_in slot ≡ [])) }

@@ -128,6 +128,28 @@ impl Slots {
         self.geometry.spec.children
     }
 
+    /// The layout of the pool. What holds of it, and of the arms, is said with it.
+    pub fn geometry(&self) -> &Geometry
+        ensures geometry { result.now ≡ self.now.geometry }
+        ensures sound { IsTable self.now }
+    {
+        &self.geometry
+    }
+
+    /// The permutations of the pool's children.
+    pub fn perms(&self) -> &Perms
+        ensures { result.now ≡ self.now.perms }
+    {
+        &self.perms
+    }
+
+    /// The number of the metaslab.
+    pub fn metaslab(&self) -> u32
+        ensures { result ≡ self.now.metaslab }
+    {
+        self.metaslab
+    }
+
     /// The arms of a slot, in the order of attachment.
     pub fn arms(&self, slot: u32) -> &[Arm]
         requires { slot < self.now.geometry.spec.children }

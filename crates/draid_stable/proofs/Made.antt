@@ -19,7 +19,8 @@ use Rattle.draid_machine.specs.State as machine
 use Rattle.draid_machine.proofs.Small.{name_refl, some_injective, true_left, true_right}
 use Rattle.draid_record.specs.Record.{ArmTold, told_arm, told_slot, told_slots}
 use Rattle.draid_stable.specs.Images.{all_arms, arm_of, has_name, name_of, none_told, order_by, target_of}
-use Rattle.draid_stable.specs.Sealing.{AllAt, AreMarked, CopiesSlot, CopiesSlots, SaysCore, is_marked}
+use Rattle.draid_stable.specs.Sealing.{AllAt, AreMarked, CopiesSlot, CopiesSlots, SaysCore}
+use Rattle.draid_slots.specs.Marks.{is_marked}
 use Rattle.draid_slots.specs.States as slots
 use Rattle.draid_slots.specs.States.{HasArm, HasSlots, WasArm, arm_in, names_at}
 

@@ -10,6 +10,7 @@ use Rattle.draid_names.specs.declared.pointer.Pointer.{Pointer}
 use Rattle.draid_ranges.specs.Numbers.{Numbers, has}
 use Rattle.draid_ranges.specs.Runs.{AreApart}
 use Rattle.draid_pass.specs.declared.pass.Pass.{Pass}
+use Rattle.draid_slots.specs.Marks.{is_marked}
 use Rattle.draid_slots.specs.Table.{IsTable, SlotTable, arms_of, is_logged}
 use Rattle.draid_machine.specs.declared.names.ArmName.{ArmName}
 use Rattle.draid_machine.specs.declared.names.Key.{Key}
@@ -53,10 +54,7 @@ pub record SaysCore (slots : List (List ArmTold)) (q : machine.Core) : Type 0 wh
   pub arms : SaysArms slots (λ n. seal_arm (q.arm n))
   pub order : (slot : ℕ) → order_by slots slot ≡ q.order slot
 
--- ---- marks of arms: the place of each in its slot
-
-abbrev pub is_marked : List (List Bool) → ℕ → ℕ → Bool
-is_marked marks slot arm = slice_index_or (slice_index_or marks slot []) arm false
+-- ---- marks of arms
 
 -- the arm that is told at a place
 abbrev pub told_at : List (List ArmTold) → ℕ → ℕ → Option ArmTold

@@ -18,6 +18,6 @@ pub use laws::{
     written_logs_are_in_range,
 };
 pub use leaves::keep_arms;
-pub use marks::{Marks, lose_targets};
+pub use marks::lose_targets;
 pub use opening::{Tables, read_tables};
 pub use sealing::{Head, has_written, record_of_tables, settle};

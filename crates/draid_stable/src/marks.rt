@@ -6,9 +6,7 @@ ghost use Rattle.draid_stable.specs.Sealing.{HaveRoom, LosesTargets, MarksArm, M
 use draid_dtl::Log;
 use draid_names::{Arm, ArmAt, LAST_NUMBER, PassKind};
 use draid_pass::Pass;
-
-/// The marks of a slot's arms, by their order.
-pub type Marks = [bool; 3];
+use draid_slots::Marks;
 
 /// Whether the arm at a place is marked.
 fn is_lost(marks: &[Marks], place: ArmAt) -> bool

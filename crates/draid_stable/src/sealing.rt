@@ -10,12 +10,12 @@ ghost use Rattle.draid_stable.specs.Sealing.{AreMarked, AreTables, HaveRoom, IsM
 ghost use Rattle.draid_slots.specs.States.{IsCurrent};
 
 use crate::arms::copied_slots;
-use crate::marks::{Marks, lose_targets, mark_slots};
+use crate::marks::{lose_targets, mark_slots};
 use draid_entries::Entries;
 use draid_names::NoMemory;
 use draid_pass::Pass;
 use draid_record::Record;
-use draid_slots::Slots;
+use draid_slots::{Marks, Slots};
 use std::alloc::Global;
 
 /// Which group of a metaslab is sealed, and in which version of the format.

@@ -1,15 +1,23 @@
-use Rattle.std.proofs.Common.{arith, refl, rules}
+use Rattle.std.proofs.Common.{◌≡◌, arith, refl, rules, subst}
 use Rattle.draid_shard.proofs.Changed.{same_entries}
+use Rattle.draid_pool.specs.Groups.{OpenUpto}
+use Rattle.draid_pool.proofs.Counting.{begin_low, none_open, open_upto}
 use Rattle.draid_pool.proofs.sealing.seal.Goals as goal
+
+pub tickets_upto-tickets-requires : goal.tickets_upto-tickets-requires
+tickets_upto-tickets-requires g c = record { below = begin_low g.R.Rack c.args.shard.now c.requires.valid }
 
 pub seal_by-requires : goal.seal_by-requires
 seal_by-requires g c =
     record {
       valid = c.requires.valid;
       closing = c.requires.closing;
-      settled = search rules;
+      settled = λ w at.
+          let none = c.if-tickets-gt0.false in
+          let zero : c.tickets_upto-tickets.result ≡ 0 = omega (arith, none) in
+          subst (OpenUpto w c.args.group) zero (open_upto c.args.shard.now c.args.group c.tickets_upto-tickets.result c.tickets_upto-tickets.ensures w at);
       tickets = (let none = c.if-tickets-gt0.false in
-          c.tickets_upto-tickets.ensures.none (omega (arith, none)));
+          none_open c.args.shard.now c.args.group c.tickets_upto-tickets.result c.tickets_upto-tickets.ensures (omega (arith, none)));
       plan = c.in-Ok.ensures;
     }
 
@@ -20,7 +28,12 @@ returns-then-tickets-gt0 g c =
       other = refl;
       sealed = tt;
       seals = tt;
-      refused = search rules;
+      refused = record {
+        none = search rules;
+        leaves = search rules;
+        counts = search rules;
+        why = (c.if-tickets-gt0.true, open_upto c.args.shard.now c.args.group c.tickets_upto-tickets.result c.tickets_upto-tickets.ensures);
+      };
       keeps = record { entries = same_entries c.args.shard.now.entries; groups = record { open_group_is = refl; closing = refl; sealed = refl; committed = refl } };
       later = record { even = omega arith; odd = omega arith };
       reserve = record { reserved = refl; limit = refl };

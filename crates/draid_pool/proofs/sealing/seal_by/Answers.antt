@@ -10,20 +10,28 @@ use Rattle.draid_machine.specs.Created.{IsReached}
 use Rattle.draid_machine.specs.Step.{SealStep}
 use Rattle.draid_machine.specs.State as machine
 use Rattle.draid_machine.proofs.Small.{some_injective}
+use Rattle.draid_entries.specs.Thin.{ThinIs}
+use Rattle.draid_spec.specs.declared.layout.Geometry.{Geometry}
+use Rattle.draid_spec.specs.Geometry.{metaslab_stripes}
+use Rattle.draid_marks.specs.Counting.{BeginBelow}
+use Rattle.draid_marks.specs.Layout.{layout_with}
+use Rattle.draid_marks.specs.Missed.{MarksTable}
+use Rattle.draid_marks.specs.Silent.{AreSilent}
 use Rattle.draid_stable.specs.Sealing.{IsSettled, LosesTargets}
 use Rattle.draid_stable.specs.Stable.{Stands}
 use Rattle.draid_stable.proofs.Logs.{copied_small}
 use Rattle.draid_record.specs.Record.{told_record}
 use Rattle.draid_shard.specs.Fits.{Valid, birth_groups, oldest_open}
-use Rattle.draid_shard.specs.States.{Does, IsIn, layout_by}
+use Rattle.draid_shard.specs.States.{Does, IsIn, layout_by, part_of}
 use Rattle.draid_shard.proofs.Changed.{same_entries}
 use Rattle.draid_shard.proofs.Staging.{room_for}
 use Rattle.draid_shard.proofs.Standing.{reached_more}
 use Rattle.draid_pool.specs.Groups.{ListsOnce}
-use Rattle.draid_pool.specs.Sealing.{AreSilent, MarksTable, area_by}
+use Rattle.draid_pool.specs.Sealing.{area_by}
+use Rattle.draid_pool.proofs.Counting.{begin_inside}
 use Rattle.draid_pool.proofs.Ranging.{blocks_low}
 use Rattle.draid_pool.proofs.SealRecords.{Settles, has_record, no_writes, writes}
-use Rattle.draid_pool.proofs.SealSteps.{birth_high, birth_low, flushes_acts, flushes_leave, on_told, one_after, seal_step, sealed_in, sealed_valid}
+use Rattle.draid_pool.proofs.SealSteps.{birth_high, birth_low, flushes_acts, flushes_leave, layout_same, marked_sound, on_told, one_after, seal_step, sealed_in, sealed_valid}
 use Rattle.draid_pool.proofs.Unsealed.{unsealed_keeps, unsealed_none, unsealed_valid}
 use Rattle.draid_pool.proofs.sealing.seal_by.Given as given
 use Rattle.draid_pool.proofs.sealing.seal_by.Goals as goal
@@ -60,8 +68,9 @@ write_to-requires g c =
 pub miss_marked-requires-clause-room : goal.miss_marked-requires-clause-room
 miss_marked-requires-clause-room g c =
     let old = c.args.shard.now in
+    λ at there among out.
     room_for old.slots (oldest_open old.open_group old.closing) (birth_groups old.closing) c.args.group (birth_low old.open_group c.args.group old.closing c.requires.closing.0)
-    (birth_high old.open_group c.args.group old.closing c.requires.closing.0) c.requires.valid.logs
+    (birth_high old.open_group c.args.group old.closing c.requires.closing.0) c.requires.valid.logs at there out
 
 -- ---- the shard afterwards
 valid : (g : given.Over) (c : After-add g)
@@ -72,7 +81,12 @@ valid g c =
     (among g c) (silent g c) (table g c) (loses g c) c.flush_leaves.ensures.shape c.requires.tickets c.add.ensures.owed c.add.ensures.reserved
 
 pub thin-requires : goal.thin-requires
-thin-requires g c = record { valid = valid g c }
+thin-requires g c =
+    let at_add : After-add g = (goal.at.thin-requires g c).After-add in
+    record {
+      table = marked_sound c.args.shard.now.slots c.miss_marked.new.slots c.mark_silent.new.marks.items c.has_written-wrote.result c.args.group (table g at_add) c.requires.plan.made.sound;
+      below = subst (λ (geometry : Geometry). BeginBelow c.args.shard.now.entries (metaslab_stripes geometry)) (sym (valid g at_add).slots.geometry_is) (begin_inside g.R.Rack c.args.shard.now c.requires.valid);
+    }
 
 -- ---- the event
 abbrev after_seal : (g : given.Over) (c : After-add g) → machine.State → machine.State
@@ -154,9 +168,11 @@ returns g c =
             subst (λ (i : machine.Image). content.OnTold (g.A.Area.told (area_by c.write_to.new.even c.write_to.new.odd c.args.group)) (ListsOnce old.geometry old.number i))
             (image_is g at_add w after image reached at step is) (stands g at_add w reached at);
         thin_is = λ w after step reached at.
-            c.thin.ensures.is after (reached_more (layout_by old) w after (Seal c.args.group c.flush_leaves.new.failed) reached step)
-            (subst (IsIn (record old { rack = c.flush_leaves.new.rack; even = c.write_to.new.even; odd = c.write_to.new.odd; slots = c.miss_marked.new.slots; pass = c.lose_targets.new.pass; sealed = true; history = c.add.new.self }))
-            (sym (state_is g at_add w after reached at step)) ((does g at_add).leads w reached at).is_in);
+            let stands = subst (IsIn (record old { rack = c.flush_leaves.new.rack; even = c.write_to.new.even; odd = c.write_to.new.odd; slots = c.miss_marked.new.slots; pass = c.lose_targets.new.pass; sealed = true; history = c.add.new.self }))
+            (sym (state_is g at_add w after reached at step)) ((does g at_add).leads w reached at).is_in in
+            let same : layout_with c.miss_marked.new.slots ≡ layout_by old = layout_same (part_of old) c.miss_marked.new.slots (valid g at_add).slots in
+            subst (λ l. ThinIs l after.core c.args.group c.thin.result) same
+            (c.thin.ensures.is after (subst (λ l. IsReached l after) (sym same) (reached_more (layout_by old) w after (Seal c.args.group c.flush_leaves.new.failed) reached step)) stands.slots stands.held);
         low = c.thin.ensures.low;
         counts = record { later = cause.later; cause = cause.cause };
       };
@@ -215,7 +231,4 @@ flush_leaves-requires g c =
     }
 
 pub mark_silent-requires : goal.mark_silent-requires
-mark_silent-requires g c = record {
-  valid = unsealed_valid c.args.shard.now c.flush_leaves.new.rack c.args.shard.now.even c.args.shard.now.odd g.R.Rack c.flush_leaves.ensures.shape c.requires.valid;
-  count = c.requires.plan.count;
-}
+mark_silent-requires g c = record { count = c.requires.plan.count ∙ ap (λ (geometry : Geometry). geometry.spec.children) (sym c.requires.valid.slots.geometry_is) }

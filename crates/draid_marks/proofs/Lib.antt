@@ -1,0 +1,7 @@
+pub mod Answering
+pub mod Counting
+pub mod Marking
+pub mod Missing
+pub mod Places
+pub mod Silence
+pub mod Thinning

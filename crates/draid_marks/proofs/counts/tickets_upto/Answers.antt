@@ -1,0 +1,46 @@
+use Rattle.std.proofs.Common.{◌+◌, ◌∙◌, arith, subst, sym}
+use Rattle.std.proofs.lemmas.Bool.{true≢false}
+use Rattle.draid_marks.specs.Counting.{CountsBelow, IsOpenUpto}
+use Rattle.draid_marks.proofs.Counting.{counts_all, counts_more, counts_same}
+use Rattle.draid_marks.proofs.counts.tickets_upto.Goals.{then-is_open_upto, else-is_open_upto}
+use Rattle.draid_marks.proofs.counts.tickets_upto.Goals as goal
+
+pub overflow_add-tickets : goal.overflow_add-tickets
+overflow_add-tickets c =
+    let few = c.loop-entry.invariant.few in
+    let from = c.in-Some.ensures.from in
+    let inside = c.requires.below c.in-Some.entry.pointer.first c.in-Some.entry c.in-Some.ensures.there in
+    omega (arith, few, from, inside)
+
+pub loop-entry-preserved : goal.loop-entry-preserved
+loop-entry-preserved c =
+    let i = c.loop-entry.invariant in
+    let at = c.in-Some.ensures in
+    let next = c.in-Some.entry.pointer.first + 1 in
+    let few = i.few in
+    let from = at.from in
+    let inside = c.requires.below c.in-Some.entry.pointer.first c.in-Some.entry at.there in
+    elim c.if-is_open_upto.branch [
+      | then-is_open_upto w ↦
+          let is = w.tickets-is in
+          record {
+            counts = subst (CountsBelow c.args.entries.now (IsOpenUpto c.args.group) next) (sym is)
+                (counts_more c.args.entries.now (IsOpenUpto c.args.group) c.loop-entry.stripe c.loop-entry.tickets c.in-Some.entry i.counts at.there at.from at.first (c.is_open_upto.ensures.0 w.if-is_open_upto.true));
+            few = omega (arith, is, few, from);
+            low = omega (arith, inside);
+          }
+      | else-is_open_upto w ↦
+          let is = w.tickets-is in
+          record {
+            counts = subst (CountsBelow c.args.entries.now (IsOpenUpto c.args.group) next) (sym is)
+                (counts_same c.args.entries.now (IsOpenUpto c.args.group) c.loop-entry.stripe c.loop-entry.tickets c.in-Some.entry i.counts at.there at.from at.first
+                (λ passes. true≢false (sym (c.is_open_upto.ensures.1 passes) ∙ w.if-is_open_upto.false)));
+            few = omega (arith, is, few, from);
+            low = omega (arith, inside);
+          }
+    ]
+
+pub returns : goal.returns
+returns c =
+    let low = c.loop-entry.invariant.low in
+    counts_all c.args.entries.now (IsOpenUpto c.args.group) c.loop-entry.stripe c.loop-entry.tickets c.loop-entry.invariant.counts (omega (arith, low)) c.in_default.ensures.none

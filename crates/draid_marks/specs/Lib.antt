@@ -1,0 +1,4 @@
+pub mod Counting
+pub mod Layout
+pub mod Missed
+pub mod Silent
