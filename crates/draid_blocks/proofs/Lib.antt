@@ -1,0 +1,14 @@
+pub mod Begins
+pub mod Damaging
+pub mod Entered
+pub mod Fetches
+pub mod Fetching
+pub mod Landings
+pub mod Placing
+pub mod PutKept
+pub mod Puts
+pub mod Putting
+pub mod Readable
+pub mod Refusing
+pub mod Taking
+pub mod Turns
