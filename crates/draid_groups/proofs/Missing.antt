@@ -9,7 +9,7 @@ use Rattle.draid_machine.proofs.Small.{below}
 use Rattle.draid_slots.specs.Table.{SlotTable, IsTable, IsThere, is_logged, room_at}
 use Rattle.draid_stable.specs.Sealing.{is_marked}
 use Rattle.draid_shard.specs.Rows.{HasRoomFor, LogsBirth}
-use Rattle.draid_shard.proofs.Landings.{logs_same}
+use Rattle.draid_shard.proofs.Staging.{logs_same}
 use Rattle.draid_groups.specs.Sealing.{MarksArms, MarksBelow, MarksTable}
 
 or_none : (a b : Bool) → b ≡ false → (a || b) ≡ a

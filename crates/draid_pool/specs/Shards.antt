@@ -21,7 +21,8 @@ use Rattle.draid_machine.specs.Step.{Fits}
 use Rattle.draid_segments.specs.Segments.{Pieces}
 use Rattle.draid_entries.specs.Entries.{entry_at}
 use Rattle.draid_entries.specs.Maps.{held_at, key_of, staged}
-use Rattle.draid_shard.specs.Calls.{IsLive, IsRoom, ShutBy, TakesBlocks}
+use Rattle.draid_shard.specs.Looks.{IsLive}
+use Rattle.draid_shard.specs.Rooms.{IsRoom, ShutBy, TakesBlocks}
 use Rattle.draid_shard.specs.Changes.{KeepsBlocks, SetsBlock}
 use Rattle.draid_shard.specs.Part.{Part, layout_in}
 use Rattle.draid_shard.specs.States.{IsIn, layout_by}

@@ -18,6 +18,7 @@ ghost use Rattle.draid_pool.specs.Whole.{IsWhole};
 use crate::fault::DamageFault;
 use crate::pool::Pool;
 use draid_area::Area;
+use draid_blocks::damage;
 use draid_entries::ReserveFault;
 use draid_rack::Rack;
 use draid_shard::Shard;
@@ -44,7 +45,7 @@ fn damage_sector<R: Rack, A: Area>(
         Err(ReserveFault::Worn { .. }) => return Err(DamageFault::Worn),
         Err(ReserveFault::NoMemory) => return Err(DamageFault::NoMemory),
     }
-    match shard.damage(leaf, sector) {
+    match damage(shard, leaf, sector) {
         Ok(()) => Ok(()),
         Err(_) => Err(DamageFault::Failed),
     }

@@ -11,9 +11,9 @@ ghost use Rattle.draid_pool.specs.Whole.{IsWhole};
 use crate::pool::Pool;
 use draid_area::Area;
 use draid_block::{Fetched, SolveFault, solve_block};
+use draid_blocks::{FetchFault, fetch};
 use draid_names::ObjectFault;
 use draid_rack::Rack;
-use draid_shard::FetchFault;
 
 impl<R: Rack, A: Area> Pool<R, A> {
     /// Reads the bytes last written to an object.
@@ -49,7 +49,7 @@ impl<R: Rack, A: Area> Pool<R, A> {
         let Some(pointer) = self.objects.get(&object).copied() else {
             return Err(ObjectFault::NoObject);
         };
-        match self.shards[pointer.metaslab as usize].fetch(&pointer) {
+        match fetch(&mut self.shards[pointer.metaslab as usize], &pointer) {
             Ok(fetched) => Ok(fetched),
             Err(FetchFault::NotLive) => unreachable!(),
             Err(FetchFault::Worn { .. }) => Err(ObjectFault::Worn),

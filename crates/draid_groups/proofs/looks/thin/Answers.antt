@@ -1,8 +1,8 @@
 use Rattle.std.proofs.Common.{◌+◌, ◌∙◌, arith, subst, sym}
 use Rattle.std.proofs.lemmas.Bool.{true≢false}
 use Rattle.draid_shard.specs.States.{part_of}
-use Rattle.draid_shard.proofs.Begins.{low_stripes}
-use Rattle.draid_shard.proofs.Turns.{inside_stripes}
+use Rattle.draid_shard.proofs.Sizes.{low_stripes}
+use Rattle.draid_shard.proofs.Kept.{inside_stripes}
 use Rattle.draid_groups.specs.Counting.{CountsBelow, IsThinIn}
 use Rattle.draid_groups.proofs.Counting.{counts_more, counts_same, thin_is}
 use Rattle.draid_groups.proofs.looks.thin.Goals.{then-is_thin, else-is_thin}

@@ -1,7 +1,7 @@
 use Rattle.std.proofs.Common.{◌+◌, ◌∙◌, arith, subst, sym}
 use Rattle.std.proofs.lemmas.Bool.{true≢false}
-use Rattle.draid_shard.proofs.Begins.{low_stripes}
-use Rattle.draid_shard.proofs.Turns.{inside_stripes}
+use Rattle.draid_shard.proofs.Sizes.{low_stripes}
+use Rattle.draid_shard.proofs.Kept.{inside_stripes}
 use Rattle.draid_groups.specs.Counting.{CountsBelow, IsOpenUpto}
 use Rattle.draid_groups.proofs.Counting.{counts_more, counts_same, none_open, open_upto}
 use Rattle.draid_groups.proofs.looks.tickets_upto.Goals.{then-is_open_upto, else-is_open_upto}
