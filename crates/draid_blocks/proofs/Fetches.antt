@@ -42,7 +42,7 @@ use Rattle.draid_shard.specs.declared.places.ColumnRows.{ColumnRows}
 use Rattle.draid_shard.specs.declared.shard.Shard.{Shard}
 use Rattle.draid_shard.proofs.Answering.{row_leaf}
 use Rattle.draid_shard.proofs.Changed.{same_entries}
-use Rattle.draid_blocks.proofs.Damaging.{same_in}
+use Rattle.draid_blocks.proofs.DamageSteps.{same_in}
 use Rattle.draid_shard.proofs.Finding.{columns_apart, reading_found, reading_none}
 use Rattle.draid_shard.proofs.Held.{key_leads}
 use Rattle.draid_shard.proofs.Homes.{geometry_is, row_sector}
@@ -140,7 +140,7 @@ module _ (part : Part) (is : IsPart part) (slots : SlotTable) (of : IsOf slots p
   pub are_fetched : AreFetched (layout_in part) w block part.geometry.props.sector failed columns told
   are_fetched = record { absent = λ c less. (absent_is c less, absent_back c less); reads = read_row }
 
--- ---- a shard whose rack and history alone changed
+-- ---- columns that were read, where the rack alone changed
 
 -- what was read is the same of either
 pub reads_in : {R A : Type 0} (rack : Ghosts R) (old new : Shard R A) (pointer : Pointer) (n : ℕ) (columns : Columns) (failed : List ℕ) → new ≡ record old { rack = new.rack } → rack.told new.rack ≡ rack.told old.rack

@@ -1,4 +1,4 @@
--- How a column of a block fares on the arms of its slot.
+-- A column is tried on one arm more.
 use Rattle.std.proofs.Common.{◌≡◌, ◌==◌, ◌+◌, ◌<◌, ◌≤◌, ◌^◌, ◌||◌, ◌&&◌, not, ◌∙◌, ◌++◌, ℕ, suc, Bool, true, false, nat_lt, List, [], ◌∷◌, Option, Some, None, arith, refl, sym, ap, ap₂, subst, inl, inr, length, if◌then◌else◌}
 use Rattle.std.specs.Prelude.{option_map}
 use Rattle.std.proofs.lemmas.Bool.{cases_lt}

@@ -1,13 +1,13 @@
 pub mod Begins
-pub mod Damaging
+pub mod DamageSteps
 pub mod Entered
 pub mod Fetches
-pub mod Fetching
 pub mod Landings
 pub mod Placing
 pub mod PutKept
+pub mod PutSteps
 pub mod Puts
-pub mod Putting
+pub mod ReadSteps
 pub mod Readable
 pub mod Refusing
 pub mod Taking

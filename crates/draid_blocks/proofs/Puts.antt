@@ -35,7 +35,7 @@ use Rattle.draid_shard.specs.declared.places.ColumnRows.{ColumnRows}
 use Rattle.draid_blocks.specs.declared.putting.Landing.{Landing}
 use Rattle.draid_shard.specs.declared.shard.Shard.{Shard}
 use Rattle.draid_blocks.specs.declared.ticket.Ticket.{Ticket}
-use Rattle.draid_blocks.proofs.Putting.{held_found, put_acts, put_slots, put_step}
+use Rattle.draid_blocks.proofs.PutSteps.{held_found, put_acts, put_slots, put_step}
 use Rattle.draid_shard.proofs.SamePass.{pass_same}
 use Rattle.draid_shard.proofs.Tables.{set_here}
 

@@ -1,4 +1,4 @@
--- For which states a shard stands after one entry of its table came, turned or went.
+-- What a state has of the blocks of a shard, and for which states a shard stands whose tables changed.
 use Rattle.std.proofs.Common.{◌≡◌, ◌∙◌, ℕ, Bool, Option, Some, None, option_map, refl, sym, ap}
 use Rattle.draid_metaslab.specs.Spaces.{Stripes}
 use Rattle.draid_machine.specs.declared.names.Key.{Key}

@@ -21,8 +21,6 @@ pub oldest_low : (group : ℕ) (closing : Option ℕ) (committed : ℕ) (sealed 
 oldest_low group None committed sealed are = omega arith
 oldest_low group (Some t) committed sealed are = let behind = are.0 in omega (arith, behind)
 
--- ---- what a shard is with other tables
-
 -- as much more or less is owed as the tables owe
 abbrev pub OwesSo : {R A : Type 0} → Shard R A → Entries → History → Type 0
 OwesSo old entries history =
@@ -71,8 +69,6 @@ fitting rack shard v = record {
   tables = v.tables;
   low = few_stripes shard.geometry v.part.layout.geometry_is;
 }
-
--- ---- what is owed
 
 -- a history alone changed
 pub history_in : {R A : Type 0} (old : Shard R A) (history : History) (w : machine.State) → IsIn old w → IsIn (with_tables old old.space old.entries history) w

@@ -9,21 +9,6 @@ use Rattle.draid_slots.specs.Table.{SlotTable, arms_of}
 use Rattle.draid_slots.specs.States.{HoldsPass, name_of, names_at, pass_in}
 use Rattle.draid_machine.specs.declared.names.ArmName.{ArmName}
 
--- a pass is as it was where the slots have the same arms
-pub pass_held : (slots new : SlotTable) (last : ℕ) (pass : Option Pass) → new.arms ≡ slots.arms → IfSome pass (HoldsPass slots last) → IfSome pass (HoldsPass new last)
-pass_held slots new last None same held = tt
-pass_held slots new last (Some p) same held = record {
-  current = record {
-    number = held.current.number;
-    targets = All-weaker (λ (place : ArmAt). place.arm < length (arms_of slots place.slot)) (λ (place : ArmAt). place.arm < length (arms_of new place.slot))
-        (λ place less. subst (λ (all : List (List Arm)). place.arm < length (slice_index_or all place.slot [])) (sym same) less) p.targets.items held.current.targets;
-  };
-  ascending = held.ascending;
-  some_max = held.some_max;
-}
-
--- ---- slots with the same arms
-
 pub names_same : (old new : SlotTable) (ats : List ArmAt) → new.arms ≡ old.arms → names_at new ats ≡ names_at old ats
 names_same old new [] same = refl
 names_same old new (at ∷ ats) same =
@@ -40,3 +25,16 @@ pass_same old new (Some p) same = λ i. Some (record {
   errors = p.errors;
   running = p.running;
 })
+
+-- it is held as before
+pub pass_held : (slots new : SlotTable) (last : ℕ) (pass : Option Pass) → new.arms ≡ slots.arms → IfSome pass (HoldsPass slots last) → IfSome pass (HoldsPass new last)
+pass_held slots new last None same held = tt
+pass_held slots new last (Some p) same held = record {
+  current = record {
+    number = held.current.number;
+    targets = All-weaker (λ (place : ArmAt). place.arm < length (arms_of slots place.slot)) (λ (place : ArmAt). place.arm < length (arms_of new place.slot))
+        (λ place less. subst (λ (all : List (List Arm)). place.arm < length (slice_index_or all place.slot [])) (sym same) less) p.targets.items held.current.targets;
+  };
+  ascending = held.ascending;
+  some_max = held.some_max;
+}

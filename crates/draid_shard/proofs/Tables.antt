@@ -90,7 +90,7 @@ spot_free geometry group space entries first need t more spot inside =
 -- ---- changes
 
 -- an entry whose stripes are still taken
-moved : (geometry : Geometry) (group : ℕ) (old new : Stripes) (pointer : Pointer) → IsPlaced geometry old group pointer
+pub moved : (geometry : Geometry) (group : ℕ) (old new : Stripes) (pointer : Pointer) → IsPlaced geometry old group pointer
     → ((x : ℕ) → pointer.first ≤ x → x < pointer.first + pointer.stripes → is_free new x ≡ false) → IsPlaced geometry new group pointer
 moved geometry group old new pointer p held = record { run = p.run; held = held; is_block = p.is_block }
 

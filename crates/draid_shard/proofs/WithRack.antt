@@ -6,8 +6,6 @@ use Rattle.draid_entries.specs.History.{owed_of, reserved_of}
 use Rattle.draid_shard.specs.Fits.{HasLeaves, Valid}
 use Rattle.draid_shard.specs.declared.shard.Shard.{Shard}
 
--- ---- a shard whose rack and history alone changed
-
 valid_on : {R A : Type 0} (rack : Ghosts R) (old : Shard R A) (r : R) (history : History) → rack.shape r ≡ rack.shape old.rack → owed_of history ≡ owed_of old.history
     → reserved_of history ≡ reserved_of old.history → Valid rack old → Valid rack (record old { rack = r; history = history })
 valid_on rack old r history shape owed reserved v = record {

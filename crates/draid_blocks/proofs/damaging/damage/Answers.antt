@@ -3,7 +3,7 @@ use Rattle.std.proofs.Common.{◌∙◌, ◌++◌, ◌∷◌, [], ap, arith, ref
 use Rattle.draid_machine.specs.declared.event.Event.TheVariants.{Damage}
 use Rattle.draid_entries.specs.History.{events_of}
 use Rattle.draid_shard.specs.Fits.{HasLeaves}
-use Rattle.draid_blocks.proofs.Damaging.{damage_acts, damage_step, same_in, sector_there}
+use Rattle.draid_blocks.proofs.DamageSteps.{damage_acts, damage_step, same_in, sector_there}
 use Rattle.draid_blocks.proofs.damaging.damage.Goals as goal
 
 pub damage-done-requires : goal.damage-done-requires

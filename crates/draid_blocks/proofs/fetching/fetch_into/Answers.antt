@@ -5,7 +5,7 @@ use Rattle.draid_machine.specs.declared.names.Stage.TheVariants.{Live}
 use Rattle.draid_entries.specs.Maps.{staged}
 use Rattle.draid_shard.specs.States.{part_of}
 use Rattle.draid_blocks.proofs.Fetches.{fetches_stored, valid_stored}
-use Rattle.draid_blocks.proofs.Fetching.{reads_none}
+use Rattle.draid_blocks.proofs.ReadSteps.{reads_none}
 use Rattle.draid_blocks.proofs.fetching.fetch_into.Goals as goal
 
 pub read_columns-requires-clause-run : goal.read_columns-requires-clause-run

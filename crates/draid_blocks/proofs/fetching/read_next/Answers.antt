@@ -2,7 +2,7 @@ use Rattle.std.proofs.Common.{◌≡◌, ◌<◌, ℕ, ap₂, ◌+◌, ◌*◌, 
 use Rattle.draid_rack.specs.Rack.{Told}
 use Rattle.draid_shard.specs.Calls.{CountsFailed}
 use Rattle.draid_shard.specs.States.{part_of}
-use Rattle.draid_blocks.proofs.Fetching.{counts_after, reads_more, replaces_twice}
+use Rattle.draid_blocks.proofs.ReadSteps.{counts_after, reads_more, replaces_twice}
 use Rattle.draid_shard.proofs.Fitted.{fits_rows}
 use Rattle.draid_blocks.proofs.Taking.{reads_buffer, whole}
 use Rattle.draid_blocks.proofs.fetching.read_next.Goals as goal

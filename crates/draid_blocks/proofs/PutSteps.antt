@@ -43,8 +43,6 @@ use Rattle.draid_parity.specs.Columns.{column_at}
 use Rattle.draid_shard.proofs.Answering.{answers_is, apart, kept_arm, leaf_at_is, listed, listed_arm, name_listed, named_arm, on_arm, row_leaf}
 use Rattle.draid_shard.proofs.Homes.{lays, row_sector}
 
--- ---- slots with the same arms
-
 there_below : {A : Type 0} (xs : List A) (k : ℕ) (x : A) → slice_get xs k ≡ Some x → k < length xs
 there_below [] k x is = absurd (cc)
 there_below (y ∷ ys) zero x is = omega arith

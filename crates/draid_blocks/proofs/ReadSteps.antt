@@ -1,4 +1,4 @@
--- What the fetching of a block says.
+-- One more column of a block was read.
 use Rattle.std.proofs.Common.{◌≡◌, ◌==◌, ◌+◌, ◌*◌, ◌<◌, ◌≤◌, ◌⊎◌, ◌∙◌, ℕ, suc, true, List, [], Option, Some, None, Vec, Global, arith, refl, sym, ap, subst, inl, inr, length, slice_get}
 use Rattle.std.proofs.lemmas.Bool.{cases_eq, cases_lt}
 use Rattle.std.proofs.lemmas.Option.{slice_get_within}
