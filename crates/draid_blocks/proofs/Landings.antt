@@ -23,7 +23,7 @@ use Rattle.draid_shard.specs.Rows.{AreApart, LogsBirth, MissesAt, answers_on, ar
 use Rattle.draid_blocks.specs.Landings.{CountsOn, IsNamed, KeepsOn, Lands, LandsOn, Wrote, is_done, noted, written_below}
 use Rattle.draid_slots.specs.States.{name_of}
 use Rattle.draid_blocks.specs.declared.outcome.Outcome.{Outcome}
-use Rattle.draid_blocks.specs.declared.outcome.Outcome.TheVariants.{Silent, Failed, Done}
+use Rattle.draid_blocks.specs.declared.outcome.Outcome.TheVariants.{Done, Failed, Silent}
 use Rattle.draid_shard.specs.declared.places.ColumnRows.{ColumnRows}
 use Rattle.draid_blocks.specs.declared.putting.Landing.{Landing}
 use Rattle.draid_shard.proofs.Holders.{holder_same}

@@ -13,7 +13,7 @@ use Rattle.draid_shard.specs.Calls.{CountsFailed}
 use Rattle.draid_blocks.specs.Landings.{CountsOn}
 use Rattle.draid_shard.specs.Rows.{IsRowsOf}
 use Rattle.draid_blocks.specs.declared.outcome.Outcome.{Outcome}
-use Rattle.draid_blocks.specs.declared.outcome.Outcome.TheVariants.{Silent, Failed, Done}
+use Rattle.draid_blocks.specs.declared.outcome.Outcome.TheVariants.{Done, Failed, Silent}
 use Rattle.draid_shard.specs.declared.places.ColumnRows.{ColumnRows}
 use Rattle.draid_shard.proofs.Counts.{counts_kept, counts_more, longer, number_more}
 

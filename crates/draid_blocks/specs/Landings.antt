@@ -13,7 +13,7 @@ use Rattle.draid_shard.specs.Calls.{CountsFailed}
 use Rattle.draid_shard.specs.declared.places.ColumnRows.{ColumnRows}
 use Rattle.draid_blocks.specs.declared.putting.Landing.{Landing}
 use Rattle.draid_blocks.specs.declared.outcome.Outcome.{Outcome}
-use Rattle.draid_blocks.specs.declared.outcome.Outcome.TheVariants.{Silent, Failed, Done}
+use Rattle.draid_blocks.specs.declared.outcome.Outcome.TheVariants.{Done, Failed, Silent}
 use Rattle.draid_shard.specs.Rows.{AreApart, LogsBirth, answers_on, arm_no, leaf_on, name_on, rows_on}
 
 -- ---- one arm

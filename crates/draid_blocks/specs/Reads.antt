@@ -10,7 +10,7 @@ use Rattle.draid_slots.specs.Table.{SlotTable}
 use Rattle.draid_shard.specs.Part.{Part}
 use Rattle.draid_shard.specs.Rows.{IsReadOn, IsRowsOf, IsSilent, rows_on}
 use Rattle.draid_blocks.specs.declared.outcome.Outcome.{Outcome}
-use Rattle.draid_blocks.specs.declared.outcome.Outcome.TheVariants.{Silent, Failed, Done}
+use Rattle.draid_blocks.specs.declared.outcome.Outcome.TheVariants.{Done, Failed, Silent}
 use Rattle.draid_shard.specs.declared.places.ColumnRows.{ColumnRows}
 
 -- what became of the reading of a column

@@ -1,4 +1,4 @@
-ghost use Rattle.std.specs.Prelude.{◌≡◌, ◌<◌, ◌+◌, ◌↔◌, IsTrue, Some, is_err};
+ghost use Rattle.std.specs.Prelude.{◌≡◌, ◌<◌, ◌+◌, Some, is_err};
 ghost use Rattle.draid_spec.specs.Geometry.{metaslab_sectors};
 ghost use Rattle.draid_machine.specs.declared.event.Event.TheVariants.{Damage};
 ghost use Rattle.draid_rack.specs.Rack.{Counts};
@@ -16,7 +16,11 @@ use draid_rack::Rack;
 use draid_shard::Shard;
 
 /// Makes each byte of a sector of the metaslab its complement, and the sector harmed. One event is reserved for it.
-pub fn damage<R: Rack, A: Area>(shard: &mut Shard<R, A>, leaf: u64, sector: u64) -> Result<(), Failed>
+pub fn damage<R: Rack, A: Area>(
+    shard: &mut Shard<R, A>,
+    leaf: u64,
+    sector: u64,
+) -> Result<(), Failed>
     requires valid { Valid R.Rack shard.old }
     requires reserved { 0 < reserved_of shard.old.history }
     requires leaf { IsLeaf shard.old.slots leaf }

@@ -37,7 +37,10 @@ struct Room {
 /// Reads the columns of a live block, each from the first arm of its slot that answers and is clean for it, else
 /// from the first that answers. A column is nothing where no arm answers, or a read of its leaf failed. A refusal
 /// has touched no device.
-pub fn fetch<R: Rack, A: Area>(shard: &mut Shard<R, A>, pointer: &Pointer) -> Result<Fetched, FetchFault>
+pub fn fetch<R: Rack, A: Area>(
+    shard: &mut Shard<R, A>,
+    pointer: &Pointer,
+) -> Result<Fetched, FetchFault>
     requires valid { Valid R.Rack shard.old }
     ensures valid { Valid R.Rack shard.new }
     ensures areas { SameAreas shard.old shard.new }

@@ -1,5 +1,4 @@
-ghost use Rattle.std.specs.Prelude.{◌≡◌, ◌≤◌, ◌+◌, ◌↔◌, ℕ, IfNone, IfOk, IfSome, IsTrue, None, OnErr, Some, is_err, max};
-ghost use Rattle.draid_names.specs.declared.numbers.TheConstants.{LAST_NUMBER};
+ghost use Rattle.std.specs.Prelude.{◌≡◌, ◌↔◌, IfOk, IsTrue, OnErr, Some, is_err, max};
 ghost use Rattle.draid_machine.specs.declared.event.Event.TheVariants.{Free};
 ghost use Rattle.draid_machine.specs.declared.names.Stage.TheVariants.{Freed};
 ghost use Rattle.draid_entries.specs.Maps.{key_of, staged};
@@ -19,7 +18,11 @@ use draid_shard::Shard;
 
 /// Frees a live block in a transaction group, which is the answer: the open one, or `floor` where that is the next
 /// one. Its stripes stay taken until that group is committed.
-pub fn free<R: Rack, A: Area>(shard: &mut Shard<R, A>, pointer: &Pointer, floor: u64) -> Result<u64, NotLive>
+pub fn free<R: Rack, A: Area>(
+    shard: &mut Shard<R, A>,
+    pointer: &Pointer,
+    floor: u64,
+) -> Result<u64, NotLive>
     requires valid { Valid R.Rack shard.old }
     requires floor { IsFloor shard.old floor }
     ensures valid { Valid R.Rack shard.new }

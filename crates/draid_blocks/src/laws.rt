@@ -1,4 +1,4 @@
-ghost use Rattle.std.specs.Prelude.{◌≡◌, ◌⊎◌, ◌+◌, ◌↔◌, ℕ, List, Some};
+ghost use Rattle.std.specs.Prelude.{◌≡◌, ◌⊎◌, ℕ, List, Some};
 ghost use Rattle.draid_block.specs.Blocks.{AreColumns, IsContent, cut_of};
 ghost use Rattle.draid_block.specs.Solving.{IsReadable};
 ghost use Rattle.draid_block.specs.declared.solve.Fetched.{Fetched};

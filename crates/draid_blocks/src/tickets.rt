@@ -1,5 +1,5 @@
 ghost use Rattle.std.specs.Prelude.{◌≡◌, ◌<◌, ◌≤◌, ◌+◌, ℕ, None, Some, IfErr, IfOk, OnErr, OnOk, false, length, max};
-ghost use Rattle.draid_names.specs.declared.numbers.TheConstants.{LAST_NUMBER, NUMBERS, OBJECTS};
+ghost use Rattle.draid_names.specs.declared.numbers.TheConstants.{NUMBERS};
 ghost use Rattle.draid_block.specs.Blocks.{cut_of};
 ghost use Rattle.draid_block.specs.Columns.{stripes_of};
 ghost use Rattle.draid_machine.specs.declared.event.Event.TheVariants.{Abort, Finish};
@@ -12,7 +12,7 @@ ghost use Rattle.draid_entries.specs.Entries.{SameEntries, SetsEntry, begun, cou
 ghost use Rattle.draid_entries.specs.History.{KeepsOwed, Passes, left_for_groups};
 ghost use Rattle.draid_entries.specs.Maps.{key_of, staged};
 ghost use Rattle.draid_blocks.specs.Tickets.{BeginRefused, IsNewWrite, IsOpen, Opens, begins};
-ghost use Rattle.draid_shard.specs.Fits.{IsFloor, IsBlock, Tables, Valid, AreFitting};
+ghost use Rattle.draid_shard.specs.Fits.{AreFitting, IsBlock, IsFloor, Tables, Valid};
 ghost use Rattle.draid_shard.specs.Rooms.{IsWornFor, block_events};
 ghost use Rattle.draid_shard.specs.Calls.{SameKit, SameReserve};
 ghost use Rattle.draid_shard.specs.Changes.{DoesNothing, SetsBlock};
@@ -26,7 +26,7 @@ use draid_block::Encoded;
 use draid_entries::{Entries, History, ReserveFault, key_of};
 use draid_machine::{Event, Stage};
 use draid_metaslab::{Space, SpaceFault};
-use draid_names::{NUMBERS, OBJECTS, Pointer};
+use draid_names::{NUMBERS, Pointer};
 use draid_rack::Rack;
 use draid_shard::{Shard, release};
 

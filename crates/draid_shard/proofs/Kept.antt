@@ -1,6 +1,6 @@
 -- What a shard keeps whose tables and history changed.
 use Rattle.std.proofs.Common.{◌≤◌, ℕ, Bool, Option, Some, None, arith, ◌≡◌, ◌+◌, ◌<◌, ◌∙◌}
-use Rattle.draid_shard.specs.Fits.{AreGroups, oldest_open, AreHere, Tables, TicketsAreNew, Valid, AreFitting}
+use Rattle.draid_shard.specs.Fits.{AreFitting, AreGroups, AreHere, Tables, TicketsAreNew, Valid, oldest_open}
 use Rattle.draid_names.specs.Numbers.{most_held}
 use Rattle.draid_spec.specs.Geometry.{metaslab_stripes}
 use Rattle.draid_metaslab.specs.Spaces.{Stripes}

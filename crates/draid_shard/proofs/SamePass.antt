@@ -1,5 +1,5 @@
 -- A pass is as it was where the slots have the same arms.
-use Rattle.std.proofs.Common.{◌≡◌, ◌-◌, ◌<◌, ℕ, List, [], Option, Some, None, IfSome, sym, subst, length, ◌∷◌, refl, slice_get}
+use Rattle.std.proofs.Common.{◌≡◌, ◌<◌, ℕ, List, [], Option, Some, None, IfSome, sym, subst, length, ◌∷◌, refl, slice_get}
 use Rattle.std.specs.Prelude.{slice_index_or, option_map}
 use Rattle.std.proofs.lemmas.List.Elements.{All-weaker}
 use Rattle.draid_names.specs.declared.arm.Arm.{Arm}

@@ -4,7 +4,6 @@ use Rattle.std.proofs.Math.Nat.{mul-le-mul}
 use Rattle.draid_names.specs.declared.numbers.TheConstants.{NUMBERS}
 use Rattle.draid_spec.specs.declared.layout.Geometry.{Geometry}
 use Rattle.draid_spec.specs.Geometry.{IsGeometry, metaslab_stripes}
-use Rattle.draid_entries.proofs.Counted.{few}
 
 -- a metaslab has few stripes
 pub low_stripes : (geometry : Geometry) → IsGeometry geometry → metaslab_stripes geometry ≤ 2 ^ 28

@@ -1,7 +1,7 @@
 -- Logs get the birth of a ticket: the shard's parts fit together as before.
 use Rattle.std.proofs.Common.{ℕ, arith, refl, ◌≡◌, ◌==◌, ◌+◌, ◌*◌, ◌<◌, ◌≤◌, ◌&&◌, ◌^◌, not, ◌∙◌, zero, suc, Bool, true, false, List, [], sym, ap, subst, inl, inr, length, slice_get, if◌then◌else◌}
 use Rattle.draid_slots.specs.Table.{SlotTable, is_leaf_kind, is_logged, room_at}
-use Rattle.draid_shard.specs.Rows.{LogsBirth, FitsRows, HasRoomFor}
+use Rattle.draid_shard.specs.Rows.{FitsRows, HasRoomFor, LogsBirth}
 use Rattle.std.specs.Prelude.{slice_index_or}
 use Rattle.std.proofs.lemmas.Bool.{cases_eq}
 use Rattle.std.proofs.lemmas.Bool.Decides.{nat_tests}

@@ -10,7 +10,7 @@ use Rattle.draid_columns.specs.declared.rows.Rows.{Rows}
 use Rattle.draid_machine.specs.declared.names.ArmName.{ArmName}
 use Rattle.draid_slots.specs.Changes.{IsSame}
 use Rattle.draid_slots.specs.Reading.{IsNone, IsRead, answers, answers_in, holder, slice_of}
-use Rattle.draid_slots.specs.Table.{SlotTable, IsThere, arm_at, arms_of, is_at, is_logged, room_at}
+use Rattle.draid_slots.specs.Table.{IsThere, SlotTable, arm_at, arms_of, is_at, is_logged, room_at}
 use Rattle.draid_slots.specs.declared.slot.ReadArm.{ReadArm}
 use Rattle.draid_shard.specs.Fits.{HasLeaves}
 use Rattle.draid_shard.specs.Part.{Part, layout_in}

@@ -1,7 +1,6 @@
-ghost use Rattle.std.specs.Prelude.{◌≡◌, ◌<◌, ◌≤◌, ◌+◌, ◌↔◌, ℕ, IfNone, IfSome, IsTrue, None, Some};
-ghost use Rattle.draid_names.specs.declared.numbers.TheConstants.{NUMBERS};
-ghost use Rattle.draid_entries.specs.Entries.{entry_at, IsEntered, SetsEntry, count_of};
-ghost use Rattle.draid_shard.specs.Fits.{Tables, AreFitting};
+ghost use Rattle.std.specs.Prelude.{◌≡◌, ◌≤◌, ◌+◌, ◌↔◌, ℕ, IfNone, IfSome, IsTrue, None, Some};
+ghost use Rattle.draid_entries.specs.Entries.{IsEntered, SetsEntry, count_of, entry_at};
+ghost use Rattle.draid_shard.specs.Fits.{AreFitting, Tables};
 ghost use Rattle.draid_shard.specs.Looks.{IsLive, IsNextHeld};
 ghost use Rattle.draid_spec.specs.declared.layout.Geometry.{Geometry};
 

@@ -1,4 +1,4 @@
-ghost use Rattle.std.specs.Prelude.{◌≡◌, ◌+◌, ◌↔◌, ℕ, List, Some};
+ghost use Rattle.std.specs.Prelude.{◌≡◌, ◌+◌, ◌↔◌, ℕ};
 ghost use Rattle.draid_machine.specs.declared.event.Event.{Event};
 ghost use Rattle.draid_machine.specs.State as machine;
 ghost use Rattle.draid_machine.specs.Step.{Step};

@@ -1,4 +1,4 @@
-ghost use Rattle.std.specs.Prelude.{◌≡◌, ◌<◌, ◌^◌, true};
+ghost use Rattle.std.specs.Prelude.{◌<◌, ◌^◌, true};
 ghost use Rattle.draid_shard.specs.Rows.{HasRoomFor, MissesAt};
 ghost use Rattle.draid_slots.specs.Table.{IsThere};
 

@@ -1,4 +1,4 @@
-ghost use Rattle.std.specs.Prelude.{◌≡◌, ◌≤◌, ◌^◌, ◌↔◌, ℕ, Contains, IfNone, IfOk, IfSome, IsTrue, false, option_map, ◌<◌, ◌+◌, Some, is_err};
+ghost use Rattle.std.specs.Prelude.{◌≡◌, ◌≤◌, ◌^◌, ◌↔◌, ℕ, Contains, IfNone, IfOk, IfSome, IsTrue, false, option_map};
 ghost use Rattle.draid_names.specs.declared.pointer.Pointer.{Pointer};
 ghost use Rattle.draid_machine.specs.declared.names.Held.{Held};
 ghost use Rattle.draid_machine.specs.declared.names.Key.{Key};
@@ -12,8 +12,8 @@ ghost use Rattle.draid_entries.specs.Listed.{AscendFrom};
 ghost use Rattle.draid_metaslab.specs.Spaces.{is_free};
 ghost use Rattle.draid_ranges.specs.Numbers.{count_below};
 ghost use Rattle.draid_slots.specs.Table.{IsThere, count_at};
-ghost use Rattle.draid_shard.specs.Looks.{IsLive, HasTickets, IsBlockOver, IsBlockUpto, IsFirstBlock, IsGreatestBirth, IsNextBlock, IsNextTaken, IsOver, Reaches};
-ghost use Rattle.draid_shard.specs.Fits.{Valid, IsLeaf};
+ghost use Rattle.draid_shard.specs.Looks.{HasTickets, IsBlockOver, IsBlockUpto, IsFirstBlock, IsGreatestBirth, IsLive, IsNextBlock, IsNextTaken, IsOver, Reaches};
+ghost use Rattle.draid_shard.specs.Fits.{IsLeaf, Valid};
 ghost use Rattle.draid_shard.specs.States.{IsIn};
 
 use crate::shard::Shard;

@@ -16,7 +16,7 @@ use Rattle.draid_blocks.proofs.Puts.{IsAfter, counted, missed_none, missed_one, 
 use Rattle.draid_shard.proofs.Staging.{column_long, room_for}
 use Rattle.draid_blocks.proofs.putting.put.Given as given
 use Rattle.draid_blocks.proofs.putting.put.Goals as goal
-use Rattle.draid_blocks.proofs.putting.put.Goals.{then-is_empty, else-is_empty}
+use Rattle.draid_blocks.proofs.putting.put.Goals.{else-is_empty, then-is_empty}
 
 pub rows_of-rows-requires-clause-part : goal.rows_of-rows-requires-clause-part
 rows_of-rows-requires-clause-part g c = c.requires.valid.part

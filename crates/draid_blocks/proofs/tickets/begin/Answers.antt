@@ -13,7 +13,7 @@ use Rattle.draid_entries.specs.declared.entry.Entry.{Entry}
 use Rattle.draid_entries.specs.History.{Passes, left_for_groups}
 use Rattle.draid_entries.specs.Maps.{key_of}
 use Rattle.draid_machine.proofs.Small.{some_same}
-use Rattle.draid_blocks.proofs.Begins.{low_count, enabled_without, IsGiven, MayBegin, begins_leads, due_from, due_low, due_upto, owed_begun, refused_by}
+use Rattle.draid_blocks.proofs.Begins.{IsGiven, MayBegin, begins_leads, due_from, due_low, due_upto, enabled_without, low_count, owed_begun, refused_by}
 use Rattle.draid_shard.proofs.FreeRuns.{fewer}
 use Rattle.draid_blocks.proofs.Entered.{here_same, here_set, stays_in, tickets_same, tickets_staged}
 use Rattle.draid_shard.proofs.Tables.{set_here}

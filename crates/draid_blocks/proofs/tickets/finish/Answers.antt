@@ -2,7 +2,7 @@ use Rattle.std.proofs.Common.{◌∙◌, ◌++◌, ◌∷◌, [], None, Some, ar
 use Rattle.draid_machine.specs.declared.event.Event.TheVariants.{Finish}
 use Rattle.draid_machine.specs.declared.names.Stage.TheVariants.{Writing, Live}
 use Rattle.draid_entries.specs.Maps.{staged}
-use Rattle.draid_blocks.proofs.Entered.{here_gone, here_turned, tickets_gone, tickets_block}
+use Rattle.draid_blocks.proofs.Entered.{here_gone, here_turned, tickets_block, tickets_gone}
 use Rattle.draid_blocks.proofs.Placing.{turned_tables}
 use Rattle.draid_blocks.proofs.Turns.{all_put, finishes, misses, owed_turns}
 use Rattle.draid_shard.proofs.Kept.{fitting, valid_with}
