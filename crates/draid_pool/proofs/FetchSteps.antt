@@ -25,6 +25,7 @@ use Rattle.draid_objects.proofs.Finding.{by_last}
 use Rattle.draid_objects.proofs.Imaging.{last_live}
 use Rattle.draid_entries.specs.History.{left_for_groups}
 use Rattle.draid_entries.specs.Maps as maps
+use Rattle.draid_shard.specs.Calls.{SameAreas, SameKit, SameReserve}
 use Rattle.draid_blocks.specs.Fetching.{Fetches}
 use Rattle.draid_shard.specs.Looks.{IsLive}
 use Rattle.draid_shard.specs.Rooms.{IsWornFor}

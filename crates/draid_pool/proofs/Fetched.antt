@@ -14,6 +14,7 @@ use Rattle.draid_machine.specs.State as machine
 use Rattle.draid_segments.specs.Reads.{IsAbsent, MoreBad}
 use Rattle.draid_segments.specs.Segments.{Pieces}
 use Rattle.draid_entries.specs.Maps.{key_of}
+use Rattle.draid_shard.specs.Calls.{ActsOn, SameAreas, SameReserve}
 use Rattle.draid_blocks.specs.Fetching.{Fetches}
 use Rattle.draid_shard.specs.Rooms.{IsWornFor}
 use Rattle.draid_shard.specs.Columns.{ArePieces}

@@ -14,6 +14,7 @@ use Rattle.draid_machine.specs.Names.{key_eq}
 use Rattle.draid_machine.specs.State as machine
 use Rattle.draid_segments.specs.Segments.{Pieces}
 use Rattle.draid_entries.specs.Maps.{key_of}
+use Rattle.draid_shard.specs.Calls.{SameAreas, SameReserve}
 use Rattle.draid_blocks.specs.Tickets.{Puts}
 use Rattle.draid_shard.specs.Columns.{ArePieces}
 use Rattle.draid_shard.specs.Fits.{Valid}

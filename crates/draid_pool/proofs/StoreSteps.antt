@@ -26,6 +26,7 @@ use Rattle.draid_segments.proofs.Beginning.{pieces_backed}
 use Rattle.draid_entries.specs.Entries.{held_in}
 use Rattle.draid_entries.specs.History.{stored_of}
 use Rattle.draid_entries.specs.Maps.{held_at, key_of, staged}
+use Rattle.draid_shard.specs.Calls.{SameKit, SameReserve}
 use Rattle.draid_blocks.specs.Tickets.{BeginRefused, Carries, IsTicketOf, begins}
 use Rattle.draid_shard.specs.Rooms.{IsWornFor, block_events}
 use Rattle.draid_shard.specs.Columns.{ArePieces, row_bytes}
