@@ -14,7 +14,7 @@ use Rattle.draid_machine.proofs.Small.{some_injective}
 use Rattle.draid_entries.specs.declared.entry.Entry.{Entry}
 use Rattle.draid_entries.specs.Entries.{entry_at}
 use Rattle.draid_entries.specs.Maps.{staged}
-use Rattle.draid_shard.specs.Calls.{IsLive, IsNextHeld}
+use Rattle.draid_shard.specs.Looks.{IsLive, IsNextHeld}
 use Rattle.draid_shard.specs.Fits.{Valid}
 use Rattle.draid_shard.specs.declared.shard.Shard.{Shard}
 use Rattle.draid_found.specs.Found.{AllLive, AreFound, AreReady, Grows, IsNumberIn, IsNumberOf, KeepsNewer, LeadsTo, Notes, NotesOne, Reaches}

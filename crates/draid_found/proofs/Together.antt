@@ -15,7 +15,7 @@ use Rattle.draid_entries.specs.declared.entries.Entries.{Entries}
 use Rattle.draid_entries.specs.Entries.{entry_at, held_in}
 use Rattle.draid_entries.specs.Maps.{held_at, key_of, staged}
 use Rattle.draid_slots.specs.Table.{SlotTable, arms_of}
-use Rattle.draid_shard.specs.Calls.{IsNextHeld}
+use Rattle.draid_shard.specs.Looks.{IsNextHeld}
 use Rattle.draid_shard.proofs.Held.{key_leads}
 use Rattle.draid_shard.specs.declared.shard.Shard.{Shard}
 use Rattle.draid_found.specs.Found.{AreReady}

@@ -5,7 +5,7 @@ use Rattle.draid_rack.specs.declared.Rack as racks
 use Rattle.draid_machine.specs.declared.names.Stage.TheVariants.{Live}
 use Rattle.draid_entries.specs.declared.entry.Entry.{Entry}
 use Rattle.draid_entries.specs.Entries.{entry_at}
-use Rattle.draid_shard.specs.Calls.{IsLive}
+use Rattle.draid_shard.specs.Looks.{IsLive}
 use Rattle.draid_shard.specs.Fits.{Valid}
 use Rattle.draid_shard.specs.declared.shard.Shard.{Shard}
 

@@ -30,7 +30,7 @@ use Rattle.draid_shelf.specs.declared.kit.Kit.{Kit}
 use Rattle.draid_spec.specs.declared.layout.Geometry.{Geometry}
 use Rattle.draid_map.specs.Place.{IsLayout}
 use Rattle.std.specs.HashMap.{get}
-use Rattle.draid_shard.specs.Calls.{IsLive}
+use Rattle.draid_shard.specs.Looks.{IsLive}
 use Rattle.draid_shard.specs.Changes.{SetsBlock}
 use Rattle.draid_shard.specs.Fits.{Valid}
 use Rattle.draid_import.specs.Reopening.{GivesBack, Opens, area_of_kit, OpenIsRefused}

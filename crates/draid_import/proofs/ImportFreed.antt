@@ -14,7 +14,7 @@ use Rattle.draid_segments.specs.Segments.{Pieces}
 use Rattle.draid_entries.specs.declared.entry.Entry.{Entry}
 use Rattle.draid_entries.specs.Entries.{entry_at}
 use Rattle.draid_entries.specs.Maps.{staged}
-use Rattle.draid_shard.specs.Calls.{IsLive, IsNextHeld}
+use Rattle.draid_shard.specs.Looks.{IsLive, IsNextHeld}
 use Rattle.draid_shard.specs.Changes.{SetsBlock}
 use Rattle.draid_shard.specs.Part.{Part}
 use Rattle.draid_shard.specs.declared.shard.Shard.{Shard}

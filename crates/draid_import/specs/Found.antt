@@ -29,7 +29,7 @@ use Rattle.draid_pool.specs.Returning.{TakesBack}
 use Rattle.draid_import.specs.Imported.{IsFoundOf}
 use Rattle.draid_pool.specs.Metaslabs.{IsMetaslab}
 use Rattle.draid_pool.specs.Shards.{FreesIn, Goes}
-use Rattle.draid_shard.specs.Calls.{IsLive}
+use Rattle.draid_shard.specs.Looks.{IsLive}
 use Rattle.draid_shard.specs.Changes.{SetsBlock}
 use Rattle.draid_shard.specs.Fits.{Valid}
 use Rattle.draid_import.specs.Reopening.{Opens, OpensCounts}

@@ -10,7 +10,7 @@ ghost use Rattle.draid_map.specs.Place.{IsLayout};
 ghost use Rattle.draid_spec.specs.declared.layout.Geometry.{Geometry};
 ghost use Rattle.draid_shelf.specs.Kits.{Held, KitCounts, OnHeld, takes_kit, takes_uber};
 ghost use Rattle.draid_shelf.specs.Shelf.{SameOthers};
-ghost use Rattle.draid_shard.specs.Calls.{IsLive};
+ghost use Rattle.draid_shard.specs.Looks.{IsLive};
 ghost use Rattle.draid_shard.specs.Fits.{Valid};
 ghost use Rattle.draid_shard.specs.declared.shard.Shard.{Shard};
 ghost use Rattle.draid_uber.specs.Slots.{group_of};
@@ -30,6 +30,7 @@ ghost use Rattle.draid_found.specs.declared.finding.Found.{Found};
 
 use crate::reopening::reopen;
 use draid_area::Area;
+use draid_blocks::free;
 use draid_found::{Found, FoundFault};
 use draid_names::{DeviceFault, Pointer};
 use draid_perm::Perms;
@@ -280,7 +281,7 @@ fn free_if_older<R: Rack, A: Area>(
     if is_newest(newest, pointer) {
         return;
     }
-    let Ok(_group) = shard.free(pointer, floor) else {
+    let Ok(_group) = free(shard, pointer, floor) else {
         unreachable!()
     };
 }

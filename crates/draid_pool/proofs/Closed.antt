@@ -22,8 +22,7 @@ use Rattle.draid_shard.specs.Fits.{AreGroups, HasLeaves, Tables, TicketsAreNew, 
 use Rattle.draid_shard.specs.States.{IsIn, Leads, layout_by}
 use Rattle.draid_shard.specs.declared.shard.Shard.{Shard}
 use Rattle.draid_shard.proofs.Once.{once_kept}
-use Rattle.draid_shard.proofs.PutKept.{pass_held}
-use Rattle.draid_shard.proofs.Putting.{pass_same}
+use Rattle.draid_shard.proofs.SamePass.{pass_held, pass_same}
 use Rattle.draid_shard.proofs.Staging.{leaf_was, logs_kept}
 use Rattle.draid_pool.proofs.Rooms.{rooms_enough, still_of}
 

@@ -38,8 +38,7 @@ use Rattle.draid_shard.specs.declared.shard.Shard.{Shard}
 use Rattle.draid_shard.proofs.Among.{any_among, any_kept, kept_among, was_among}
 use Rattle.draid_shard.proofs.Homes.{lays}
 use Rattle.draid_shard.proofs.Once.{once_fewer}
-use Rattle.draid_shard.proofs.PutKept.{pass_held}
-use Rattle.draid_shard.proofs.Putting.{pass_same}
+use Rattle.draid_shard.proofs.SamePass.{pass_held, pass_same}
 use Rattle.draid_shard.proofs.Staging.{logs_kept, logs_later}
 use Rattle.draid_pool.specs.Committing.{DropsFreed, DropsListed, IsAmong, StaysLeaf, is_freed_entry, later_than}
 use Rattle.draid_pool.specs.Groups.{DropsDetached, WasDetached}

@@ -13,7 +13,7 @@ use Rattle.draid_segments.specs.Segments.{Pieces}
 use Rattle.draid_objects.specs.Blocks.{MovesOne, table_of}
 use Rattle.draid_objects.specs.Changes.{Write, write_of}
 use Rattle.draid_entries.specs.Maps.{key_of}
-use Rattle.draid_shard.specs.Calls.{IsLive}
+use Rattle.draid_shard.specs.Looks.{IsLive}
 use Rattle.draid_shard.specs.Part.{Part, layout_in}
 use Rattle.draid_shard.specs.declared.shard.Shard.{Shard}
 use Rattle.draid_session.specs.Follows as follows

@@ -45,7 +45,7 @@ use Rattle.draid_shard.specs.Fits as fits
 use Rattle.draid_shard.specs.States.{IsIn, layout_by, part_of}
 use Rattle.draid_shard.specs.declared.shard.Shard.{Shard}
 use Rattle.draid_shard.proofs.Answering.{name_listed, once_apart}
-use Rattle.draid_shard.proofs.Begins.{few_stripes}
+use Rattle.draid_shard.proofs.Sizes.{few_stripes}
 use Rattle.draid_shard.proofs.Held.{key_leads}
 use Rattle.draid_shard.proofs.Homes.{lays}
 use Rattle.draid_pool.specs.Groups.{at_version}

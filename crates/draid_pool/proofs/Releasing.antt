@@ -7,8 +7,7 @@ use Rattle.draid_metaslab.specs.Spaces.{Stripes}
 use Rattle.draid_entries.specs.declared.entries.Entries.{Entries}
 use Rattle.draid_entries.specs.Entries.{entry_at, held_in}
 use Rattle.draid_spec.specs.declared.layout.Geometry.{Geometry}
-use Rattle.draid_shard.specs.Fits.{Tables}
-use Rattle.draid_shard.specs.Holding.{AreFitting}
+use Rattle.draid_shard.specs.Fits.{Tables, AreFitting}
 use Rattle.draid_pool.specs.Committing.{DropsSome, NoneFreed, is_freed_entry}
 
 -- ---- what a test says of one place

@@ -21,7 +21,7 @@ use Rattle.draid_objects.specs.Blocks.{Drops, table_of}
 use Rattle.draid_objects.specs.Changes.{Write, write_of}
 use Rattle.draid_objects.proofs.Keeping.{commit_floor, commit_kept}
 use Rattle.draid_entries.specs.Maps.{held_at, key_of, staged}
-use Rattle.draid_shard.specs.Calls.{IsLive}
+use Rattle.draid_shard.specs.Looks.{IsLive}
 use Rattle.draid_shard.specs.Part.{Part}
 use Rattle.draid_shard.specs.declared.shard.Shard.{Shard}
 use Rattle.draid_session.specs.Opening.{MayFind}

@@ -14,7 +14,7 @@ use Rattle.draid_machine.specs.declared.names.Key.{Key}
 use Rattle.draid_machine.specs.After.{is_freed_block}
 use Rattle.draid_machine.proofs.Small.{kept_some}
 use Rattle.draid_entries.specs.Entries.{held_in}
-use Rattle.draid_shard.specs.Calls.{IsLive}
+use Rattle.draid_shard.specs.Looks.{IsLive}
 use Rattle.draid_pool.specs.Committing.{DropsFreed, is_freed_entry}
 use Rattle.draid_shard.specs.Fits.{AreGroups}
 use Rattle.draid_shard.specs.declared.shard.Shard.{Shard}

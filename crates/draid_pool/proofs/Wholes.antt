@@ -23,7 +23,7 @@ use Rattle.draid_machine.proofs.Small.{equal, is_equal, key_true, some_injective
 use Rattle.draid_entries.specs.declared.entry.Entry.{Entry}
 use Rattle.draid_entries.specs.Entries.{SameEntries, entry_at, held_in}
 use Rattle.draid_entries.specs.Maps.{held_at, key_of, staged}
-use Rattle.draid_shard.specs.Calls.{IsLive}
+use Rattle.draid_shard.specs.Looks.{IsLive}
 use Rattle.draid_shard.specs.Changes.{KeepsBlocks, SetsBlock}
 use Rattle.draid_shard.specs.Fits.{Valid, AreGroups}
 use Rattle.draid_shard.specs.Part.{Part}

@@ -14,7 +14,7 @@ use Rattle.draid_objects.specs.Blocks.{Blocks, held_in}
 use Rattle.draid_objects.specs.Changes.{Write, key_of, write_by}
 use Rattle.draid_objects.specs.Stores.{IsFloor, Stores}
 use Rattle.draid_segments.specs.Segments.{Pieces}
-use Rattle.draid_shard.specs.Calls.{IsLive}
+use Rattle.draid_shard.specs.Looks.{IsLive}
 use Rattle.draid_shard.specs.Columns.{ArePieces}
 use Rattle.draid_shard.specs.declared.shard.Shard.{Shard}
 use Rattle.draid_session.specs.Rooms.{stripes_for}

@@ -14,7 +14,7 @@ use Rattle.draid_machine.specs.Step.{Fits}
 use Rattle.draid_segments.specs.Segments.{Pieces}
 use Rattle.draid_entries.specs.Entries.{entry_at}
 use Rattle.draid_entries.specs.Maps.{key_of, staged}
-use Rattle.draid_shard.specs.Calls.{TakesBlocks}
+use Rattle.draid_shard.specs.Rooms.{TakesBlocks}
 use Rattle.draid_shard.specs.Changes.{SetsBlock}
 use Rattle.draid_shard.specs.Part.{Part, layout_in}
 use Rattle.draid_shard.specs.States.{layout_by}

@@ -26,8 +26,7 @@ use Rattle.draid_slots.specs.Changes.{IsOf}
 use Rattle.draid_slots.specs.Reading.{IsNone, answers_in, is_clean_in}
 use Rattle.draid_slots.specs.Table.{SlotTable, arm_at, arms_of, is_logged}
 use Rattle.draid_shard.specs.Part.{IsPart, IsRun, Part, layout_in}
-use Rattle.draid_shard.specs.Reads.{IsReadOn, IsSilent}
-use Rattle.draid_shard.specs.Rows.{IsRowsOf, arm_no}
+use Rattle.draid_shard.specs.Rows.{IsReadOn, IsRowsOf, IsSilent, arm_no}
 use Rattle.draid_slots.specs.States.{HasSlots, name_of}
 use Rattle.draid_shard.specs.declared.places.ColumnRows.{ColumnRows}
 use Rattle.draid_shard.proofs.Answering.{answers_is, leaf_at_is, listed, order_is}

@@ -25,7 +25,7 @@ use Rattle.draid_entries.proofs.Counted.{few, few_back}
 use Rattle.draid_shard.specs.declared.shard.Shard.{Shard}
 use Rattle.draid_shard.specs.declared.fault.Shut.{Shut}
 use Rattle.draid_shard.specs.declared.fault.Shut.TheVariants.{Disabled, Full, Worn}
-use Rattle.draid_shard.specs.Calls.{IsLongest, ShutBy, TakesBlocks}
+use Rattle.draid_shard.specs.Rooms.{IsLongest, ShutBy, TakesBlocks}
 use Rattle.draid_shard.specs.Fits.{Tables, is_rebuild}
 use Rattle.draid_shard.specs.States.{IsIn}
 use Rattle.draid_slots.specs.States.{pass_in}

@@ -1,5 +1,7 @@
 -- Logs get the birth of a ticket: the shard's parts fit together as before.
-use Rattle.std.proofs.Common.{◌≡◌, ◌==◌, ◌+◌, ◌*◌, ◌<◌, ◌≤◌, ◌&&◌, ◌^◌, not, ◌∙◌, ℕ, zero, suc, Bool, true, false, List, [], arith, refl, sym, ap, subst, inl, inr, length, slice_get, if◌then◌else◌}
+use Rattle.std.proofs.Common.{ℕ, arith, refl, ◌≡◌, ◌==◌, ◌+◌, ◌*◌, ◌<◌, ◌≤◌, ◌&&◌, ◌^◌, not, ◌∙◌, zero, suc, Bool, true, false, List, [], sym, ap, subst, inl, inr, length, slice_get, if◌then◌else◌}
+use Rattle.draid_slots.specs.Table.{SlotTable, is_leaf_kind, is_logged, room_at}
+use Rattle.draid_shard.specs.Rows.{FitsRows, HasRoomFor, LogsBirth}
 use Rattle.std.specs.Prelude.{slice_index_or}
 use Rattle.std.proofs.lemmas.Bool.{cases_eq}
 use Rattle.std.proofs.lemmas.Bool.Decides.{nat_tests}
@@ -17,12 +19,11 @@ use Rattle.draid_perm.specs.declared.perms.Perms.{Perms}
 use Rattle.draid_slots.specs.declared.slot.Detached.{Detached}
 use Rattle.draid_slots.specs.Changes.{IsOf}
 use Rattle.draid_slots.specs.Reading.{slice_of}
-use Rattle.draid_slots.specs.Table.{SlotTable, is_leaf_kind, is_logged, room_at}
 use Rattle.draid_shard.specs.Fits.{HasLeaves, IsLeaf, LogsHaveRoom, lacking}
-use Rattle.draid_shard.specs.Rows.{FitsRows, HasRoomFor, LogsBirth}
 use Rattle.draid_shard.specs.declared.places.ColumnRows.{ColumnRows}
 
 -- ---- logs
+
 one_less : (a b : Bool) → (a ≡ true → b ≡ true) → (if b then 0 else 1) + (if b && not a then 1 else 0) ≤ (if a then 0 else 1)
 one_less true true kept = omega arith
 one_less true false kept = absurd_test false (kept refl) refl
@@ -162,7 +163,20 @@ same_of old new geometry perms number birth l of = record {
 }
 
 -- ---- columns
+
 pub column_long : (geometry : Geometry) (cut : Cut) (pointer : Pointer) (bytes long rows size : ℕ) → cut ≡ cut_of geometry → pointer.stripes ≡ stripes_of (cut_of geometry) pointer.len
     → bytes ≡ pointer.len → rows ≡ pointer.stripes → size ≡ geometry.props.sector → long ≡ column_len cut bytes → long ≡ rows * size
 unfolding column_len
 column_long geometry cut pointer bytes long rows size same stripes len n sector is = is ∙ rw (same, len, n, stripes, sector) refl
+
+-- ---- logs
+
+pub logs_same : (birth : ℕ) (a : SlotTable) → LogsBirth birth a a
+logs_same birth a = record {
+  same = record { geometry_is = refl; perms_are = refl; metaslab_is = refl };
+  arms = refl;
+  detached = refl;
+  others = λ at group out. refl;
+  kept = λ at has. has;
+  room = λ at. omega arith;
+}

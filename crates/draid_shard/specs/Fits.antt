@@ -1,10 +1,11 @@
 -- How the parts of a shard fit together: what each call needs and keeps.
-use Rattle.std.specs.Prelude.{◌≡◌, ◌<◌, ◌≤◌, ◌+◌, ◌⊎◌, ℕ, zero, suc, Bool, true, false, Option, Some, None, IfSome, Contains, length, if◌then◌else◌}
+use Rattle.std.specs.Prelude.{◌≤◌, ◌+◌, ℕ, ◌≡◌, ◌<◌, ◌⊎◌, zero, suc, Bool, true, false, Option, Some, None, IfSome, Contains, length, if◌then◌else◌}
+use Rattle.draid_names.specs.declared.numbers.TheConstants.{LAST_NUMBER, LONGEST_BLOCK, NUMBERS, OBJECTS}
+use Rattle.draid_shard.specs.declared.shard.Shard.{Shard}
 use Rattle.draid_names.specs.Numbers.{most_held}
 use Rattle.draid_names.specs.declared.arm.Arm.{Arm}
 use Rattle.draid_names.specs.declared.arm.ArmAt.{ArmAt}
 use Rattle.draid_names.specs.declared.arm.ArmKind.TheVariants as kind
-use Rattle.draid_names.specs.declared.numbers.TheConstants.{LAST_NUMBER, LONGEST_BLOCK, NUMBERS, OBJECTS}
 use Rattle.draid_names.specs.declared.pass_kind.PassKind.TheVariants.{Rebuild, Heal}
 use Rattle.draid_names.specs.declared.pointer.Pointer.{Pointer}
 use Rattle.draid_spec.specs.declared.layout.Geometry.{Geometry}
@@ -26,7 +27,6 @@ use Rattle.draid_entries.specs.History.{owed_of, reserved_of}
 use Rattle.draid_slots.specs.States.{HoldsPass, name_of, named}
 use Rattle.draid_shard.specs.Part.{IsPart, IsRun}
 use Rattle.draid_shard.specs.States.{part_of}
-use Rattle.draid_shard.specs.declared.shard.Shard.{Shard}
 
 -- ---- stripes
 
@@ -67,6 +67,13 @@ pub record Tables (geometry : Geometry) (open_group : ℕ) (space : Stripes) (en
   pub placed : (first : ℕ) (e : Entry) → entry_at entries first ≡ Some e → IsPlaced geometry space open_group e.pointer
   pub apart : (j k : ℕ) (a b : Entry) → entry_at entries j ≡ Some a → entry_at entries k ≡ Some b → j < k → j + a.pointer.stripes ≤ k
   pub covered : (x : ℕ) → x < metaslab_stripes geometry → is_free space x ≡ false → HasStripe entries x
+
+-- tables of some metaslab fit together
+pub record AreFitting (space : Stripes) (entries : Entries) : Type 0 where
+  pub geometry : Geometry
+  pub open_group : ℕ
+  pub tables : Tables geometry open_group space entries
+  pub low : metaslab_stripes geometry ≤ NUMBERS
 
 -- ---- logs
 
@@ -133,6 +140,11 @@ AreGroups open_group (Some t) committed sealed = (open_group ≡ t + 1) × (t �
 -- a ticket isn't born before the groups that are open
 abbrev pub TicketsAreNew : Entries → ℕ → Type 0
 TicketsAreNew entries from = (first : ℕ) (e : Entry) (put missed : ℕ) → entry_at entries first ≡ Some e → e.stage ≡ Writing put missed → from ≤ e.pointer.birth
+
+-- a group up to which a caller may have come: the one after the open one at most, whose number has 48 bits
+pub record IsFloor {R A : Type 0} (shard : Shard R A) (floor : ℕ) : Type 0 where
+  pub upto : floor ≤ shard.open_group + 1
+  pub low : floor ≤ LAST_NUMBER
 
 -- the pointers of all blocks and tickets name the metaslab
 pub record AreHere (entries : Entries) (number : ℕ) : Type 0 where

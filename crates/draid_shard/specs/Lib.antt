@@ -2,10 +2,9 @@ pub mod Calls
 pub mod Changes
 pub mod Columns
 pub mod Fits
-pub mod Holding
 pub mod Looks
 pub mod Part
-pub mod Reads
+pub mod Rooms
 pub mod Rows
 pub mod Stands
 pub mod States

@@ -1,6 +1,10 @@
 -- What looks at the blocks and tickets of a shard say.
-use Rattle.std.specs.Prelude.{◌≡◌, ◌⊎◌, ◌+◌, ◌<◌, ◌≤◌, ℕ, true, false, List, Some, Contains, length}
+use Rattle.std.specs.Prelude.{◌≡◌, ◌<◌, ◌≤◌, ℕ, Some, None, ◌⊎◌, ◌+◌, true, false, List, Contains, length}
 use Rattle.draid_names.specs.declared.pointer.Pointer.{Pointer}
+use Rattle.draid_machine.specs.declared.names.Stage.TheVariants as stage
+use Rattle.draid_entries.specs.Entries.{IsEntered, entry_at}
+use Rattle.draid_entries.specs.Maps.{held_at, key_of, staged}
+use Rattle.draid_shard.specs.declared.shard.Shard.{Shard}
 use Rattle.draid_machine.specs.declared.names.Key.{Key}
 use Rattle.draid_machine.specs.declared.names.Held.{Held}
 use Rattle.draid_machine.specs.declared.names.Stage.{Stage}
@@ -9,8 +13,6 @@ use Rattle.draid_machine.specs.State as machine
 use Rattle.draid_machine.specs.Step.{IsTaken}
 use Rattle.draid_entries.specs.declared.entry.Entry.{Entry}
 use Rattle.draid_entries.specs.declared.entries.Entries.{Entries}
-use Rattle.draid_entries.specs.Entries.{entry_at}
-use Rattle.draid_entries.specs.Maps.{held_at, key_of, staged}
 use Rattle.draid_entries.specs.Thin.{Distinct}
 
 -- ---- in a state
@@ -78,3 +80,13 @@ pub record IsFirstBlock (t : Entries) (from upto : ℕ) (p : Pointer) : Type 0 w
   pub block : IsBlockUpto upto (staged stage p)
   pub behind : from ≤ p.first
   pub first : NoBlockBetween t upto from p.first
+
+-- a block or ticket begins at a stripe or behind it, and none between
+pub record IsNextHeld {R A : Type 0} (shard : Shard R A) (from : ℕ) (pointer : Pointer) : Type 0 where
+  pub entered : IsEntered shard.entries pointer
+  pub behind : from ≤ pointer.first
+  pub first : (x : ℕ) → from ≤ x → x < pointer.first → entry_at shard.entries x ≡ None
+
+-- the pointer is that of a live block here
+abbrev pub IsLive : {R A : Type 0} → Shard R A → Pointer → Type 0
+IsLive shard pointer = entry_at shard.entries pointer.first ≡ Some (staged stage.Live pointer)

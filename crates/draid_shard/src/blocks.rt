@@ -1,25 +1,20 @@
-ghost use Rattle.std.specs.Prelude.{◌≡◌, ◌≤◌, ◌+◌, ◌↔◌, ℕ, IfNone, IfOk, IfSome, IsTrue, None, OnErr, Some, is_err, max};
-ghost use Rattle.draid_names.specs.declared.numbers.TheConstants.{LAST_NUMBER};
-ghost use Rattle.draid_machine.specs.declared.event.Event.TheVariants.{Free};
-ghost use Rattle.draid_machine.specs.declared.names.Stage.TheVariants.{Freed};
-ghost use Rattle.draid_entries.specs.Maps.{key_of, staged};
-ghost use Rattle.draid_entries.specs.Entries.{entry_at};
-ghost use Rattle.draid_shard.specs.Calls.{IsFloor, IsLive, IsNextHeld, SameKit, SameReserve};
-ghost use Rattle.draid_shard.specs.Changes.{SetsBlock};
-ghost use Rattle.draid_shard.specs.Fits.{Valid};
-ghost use Rattle.draid_shard.specs.States.{Does};
+ghost use Rattle.std.specs.Prelude.{◌≡◌, ◌≤◌, ◌+◌, ◌↔◌, ℕ, IfNone, IfSome, IsTrue, None, Some};
+ghost use Rattle.draid_entries.specs.Entries.{IsEntered, SetsEntry, count_of, entry_at};
+ghost use Rattle.draid_shard.specs.Fits.{AreFitting, Tables};
+ghost use Rattle.draid_shard.specs.Looks.{IsLive, IsNextHeld};
+ghost use Rattle.draid_spec.specs.declared.layout.Geometry.{Geometry};
 
-use crate::fault::NotLive;
 use crate::shard::Shard;
 use draid_area::Area;
-use draid_entries::{Entry, key_of};
-use draid_machine::{Event, Stage};
+use draid_entries::{Entries, Entry};
+use draid_machine::Stage;
+use draid_metaslab::Space;
 use draid_names::Pointer;
 use draid_rack::Rack;
 
 impl<R: Rack, A: Area> Shard<R, A> {
     /// Whether the pointer is that of a live block here.
-    pub(crate) fn is_live(&self, pointer: &Pointer) -> bool
+    pub fn is_live(&self, pointer: &Pointer) -> bool
         ensures { IsTrue result ↔ IsLive self.now pointer.now }
     {
         let live = Entry {
@@ -45,30 +40,18 @@ impl<R: Rack, A: Area> Shard<R, A> {
     {
         self.blocks_at
     }
+}
 
-    /// Frees a live block in a transaction group, which is the answer: the open one, or `floor` where that is the next
-    /// one. Its stripes stay taken until that group is committed.
-    pub fn free(&mut self, pointer: &Pointer, floor: u64) -> Result<u64, NotLive>
-        requires valid { Valid R.Rack self.old }
-        requires floor { IsFloor self.old floor }
-        ensures valid { Valid R.Rack self.new }
-        ensures kit { SameKit self.old self.new }
-        ensures not_live { IsTrue (is_err result) ↔ (IsLive self.old pointer.now → ⊥) }
-        ensures event { IfOk result (λ group. (group ≡ max self.old.open_group floor) × Does self.old self.new (Free (key_of pointer.now) group)) }
-        ensures sets { IfOk result (λ group. SetsBlock self.old self.new pointer.now (Some (staged (Freed group) pointer.now))) }
-        ensures same { OnErr result (self.new ≡ self.old) }
-        ensures reserve { SameReserve self.old self.new }
-    {
-        if !self.is_live(pointer) {
-            return Err(NotLive);
-        }
-        let group = self.open_group.max(floor);
-        self.entries.turn(pointer, Stage::Freed { group });
-        let event = Event::Free {
-            key: key_of(pointer),
-            group,
-        };
-        self.history.add(event, 1);
-        Ok(group)
-    }
+/// Ends an open write without a block: its stripes are free again.
+pub fn release(space: &mut Space, entries: &mut Entries, pointer: &Pointer)
+    requires tables { AreFitting space.old entries.old }
+    requires there { IsEntered entries.old pointer.now }
+    ensures tables { (geometry : Geometry) (open_group : ℕ) → Tables geometry open_group space.old entries.old
+        → Tables geometry open_group space.new entries.new }
+    ensures gone { SetsEntry entries.old entries.new pointer.now None }
+    ensures count { count_of entries.new + 1 ≡ count_of entries.old }
+    ensures disabled { space.new.disabled ≡ space.old.disabled }
+{
+    entries.remove(pointer);
+    space.release(pointer.first, u64::from(pointer.stripes));
 }

@@ -12,16 +12,15 @@ ghost use Rattle.draid_entries.specs.Listed.{AscendFrom};
 ghost use Rattle.draid_metaslab.specs.Spaces.{is_free};
 ghost use Rattle.draid_ranges.specs.Numbers.{count_below};
 ghost use Rattle.draid_slots.specs.Table.{IsThere, count_at};
-ghost use Rattle.draid_shard.specs.Calls.{IsLive};
-ghost use Rattle.draid_shard.specs.Fits.{Valid};
-ghost use Rattle.draid_shard.specs.Looks.{HasTickets, IsBlockOver, IsBlockUpto, IsFirstBlock, IsGreatestBirth, IsNextBlock, IsNextTaken, IsOver, Reaches};
+ghost use Rattle.draid_shard.specs.Looks.{HasTickets, IsBlockOver, IsBlockUpto, IsFirstBlock, IsGreatestBirth, IsLive, IsNextBlock, IsNextTaken, IsOver, Reaches};
+ghost use Rattle.draid_shard.specs.Fits.{IsLeaf, Valid};
 ghost use Rattle.draid_shard.specs.States.{IsIn};
 
 use crate::shard::Shard;
 use draid_area::Area;
 use draid_entries::Entry;
 use draid_machine::Stage;
-use draid_names::{ArmAt, NoMemory, Pointer};
+use draid_names::{ArmAt, ArmKind, NoMemory, Pointer};
 use draid_pass::Pass;
 use draid_rack::Rack;
 use draid_slots::Slots;
@@ -176,6 +175,13 @@ impl<R: Rack, A: Area> Shard<R, A> {
         ensures { result ≡ count_at self.now.slots at }
     {
         self.slots.log(at).count()
+    }
+
+    /// Whether a leaf is an arm, or was one and its detachment isn't committed.
+    pub fn has_leaf(&self, leaf: u64) -> bool
+        ensures { IsTrue result ↔ IsLeaf self.now.slots leaf }
+    {
+        self.slots.find(ArmKind::Leaf, leaf).is_some() || self.slots.leaving(leaf)
     }
 }
 

@@ -28,7 +28,7 @@ pub struct ColumnRows {
 
 impl ColumnRows {
     /// The rows on one leaf.
-    pub(crate) fn on(self, leaf: u64) -> Rows
+    pub fn on(self, leaf: u64) -> Rows
         ensures { result ≡ rows_on self leaf }
     {
         Rows {

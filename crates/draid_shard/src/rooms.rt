@@ -5,7 +5,8 @@ ghost use Rattle.draid_entries.specs.Entries.{count_of};
 ghost use Rattle.draid_entries.specs.History.{AskIs, IsAsked, IsReserved, left_for_groups, limit_in, reserved_of};
 ghost use Rattle.draid_machine.specs.Step.{HoldsFewer, IsEnabled};
 ghost use Rattle.draid_machine.specs.State as machine;
-ghost use Rattle.draid_shard.specs.Calls.{IsRoom, SameKit, ShutBy};
+ghost use Rattle.draid_shard.specs.Rooms.{IsRoom, ShutBy};
+ghost use Rattle.draid_shard.specs.Calls.{SameKit};
 ghost use Rattle.draid_shard.specs.Changes.{KeepsBlocks};
 ghost use Rattle.draid_shard.specs.Fits.{Valid, is_rebuild};
 ghost use Rattle.draid_shard.specs.States.{DoesNone, IsIn, stored_in};
@@ -29,14 +30,14 @@ impl<R: Rack, A: Area> Shard<R, A> {
 
     /// How many events the write of a block asks for: its own, one for each column, one for its end, and one for the
     /// freeing of the block.
-    pub(crate) fn block_events(&self) -> u64
+    pub fn block_events(&self) -> u64
         ensures { result ≡ self.now.geometry.g + 3 }
     {
         u64::from(self.geometry.g) + 3
     }
 
     /// Whether it holds as many blocks and open writes as it may.
-    pub(crate) fn is_full(&self) -> bool
+    pub fn is_full(&self) -> bool
         requires valid { Valid R.Rack self.now }
         ensures count { IsTrue result ↔ (count_of self.now.entries ≡ numbers.most_held self.now.version) }
         ensures held { (w : machine.State) → IsIn self.now w → IsTrue result ↔ (HoldsFewer w.core (numbers.most_held w.version) → ⊥) }
@@ -45,7 +46,7 @@ impl<R: Rack, A: Area> Shard<R, A> {
     }
 
     /// The rebuild that has the metaslab.
-    pub(crate) fn rebuild(&self) -> Option<u64>
+    pub fn rebuild(&self) -> Option<u64>
         ensures some { (w : machine.State) → IsIn self.now w → IfSome result (λ number. (p : machine.Pass) × (w.core.pass ≡ Some p) × (p.kind ≡ Rebuild) × (number ≡ p.number)) }
         ensures none { (w : machine.State) → IsIn self.now w → IfNone result (IsEnabled w.core) }
         ensures is { IsTrue (is_some result) ↔ IsTrue (is_rebuild self.now.pass) }

@@ -20,8 +20,8 @@ use Rattle.draid_segments.specs.Segments.{Pieces}
 use Rattle.draid_entries.specs.Entries.{owed_by}
 use Rattle.draid_entries.specs.History.{stored_of}
 use Rattle.draid_entries.specs.Owed.{IsOwed}
-use Rattle.draid_shard.specs.Calls as calls
-use Rattle.draid_shard.specs.Calls.{IsWornFor, TakesBlocks}
+use Rattle.draid_shard.specs.Rooms as shard_rooms
+use Rattle.draid_shard.specs.Rooms.{IsWornFor, TakesBlocks}
 use Rattle.draid_shard.specs.Fits.{owed_for_group, owed_for_pass}
 use Rattle.draid_shard.specs.Part.{Part, layout_in}
 use Rattle.draid_shard.specs.States.{layout_by, part_of}
@@ -131,7 +131,7 @@ module _ {R A : Type 0} (rack : racks.Ghosts R) (area : areas.Ghosts A) where
       part : Part
       part = record { geometry = geometry; perms = perms; number = m }
 
-      longest_here : (l : machine.Layout) → l ≡ layout_of geometry perms m → calls.IsLongest l y.world.core room.run → rooms_of.IsLongest geometry perms (layout_of geometry perms m) y.world.core room.run
+      longest_here : (l : machine.Layout) → l ≡ layout_of geometry perms m → shard_rooms.IsLongest l y.world.core room.run → rooms_of.IsLongest geometry perms (layout_of geometry perms m) y.world.core room.run
       longest_here l same z = subst (λ k. rooms_of.IsLongest geometry perms k y.world.core room.run) same (record { fits = z.fits; longest = z.longest })
 
   -- so of all, one after another
@@ -236,7 +236,7 @@ module _ {R A : Type 0} (rack : racks.Ghosts R) (area : areas.Ghosts A) where
         room_at zero (q ∷ qs) (r ∷ rs) room z there = (q, refl, subst (λ (v : Room). RoomIs need q v) (let same : r ≡ room = cc in same) z.0)
         room_at (suc m) (q ∷ qs) (r ∷ rs) room z there = room_at m qs rs room z.1 there
 
-        room_in : (shard : Shard R A) (w : machine.State) (room : Room) → 0 < (layout_by shard).height → calls.IsRoom shard w room.run → room.need ≡ need → room.need ≤ room.run → HasRoom need shard w
+        room_in : (shard : Shard R A) (w : machine.State) (room : Room) → 0 < (layout_by shard).height → shard_rooms.IsRoom shard w room.run → room.need ≡ need → room.need ≤ room.run → HasRoom need shard w
         room_in shard w room tall run wanted large = elim run [
           | inl z ↦ absurd (let none = z.1 in omega (arith, none, wanted, large, some))
           | inr z ↦ elim (z.1.fits) [

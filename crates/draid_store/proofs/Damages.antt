@@ -20,8 +20,8 @@ use Rattle.draid_shard.specs.Part.{Part, layout_in}
 use Rattle.draid_slots.specs.States.{HasSlots}
 use Rattle.draid_shard.specs.States.{Does, DoesNone, IsIn}
 use Rattle.draid_shard.specs.declared.shard.Shard.{Shard}
-use Rattle.draid_shard.proofs.Damaging.{leaf_found}
-use Rattle.draid_shard.proofs.Landings.{counts_kept, counts_more, counts_none}
+use Rattle.draid_shard.proofs.Leaves.{leaf_found}
+use Rattle.draid_shard.proofs.Counts.{counts_kept, counts_more, counts_none}
 use Rattle.draid_session.specs.Damage.{HasLeaf}
 use Rattle.draid_session.specs.Follows.{failed_in}
 use Rattle.draid_session.specs.Holds.{Did, Looked, On, Reserved, view_of}

@@ -25,7 +25,10 @@ use Rattle.draid_objects.proofs.Finding.{by_last}
 use Rattle.draid_objects.proofs.Imaging.{last_live}
 use Rattle.draid_entries.specs.History.{left_for_groups}
 use Rattle.draid_entries.specs.Maps as maps
-use Rattle.draid_shard.specs.Calls.{Fetches, IsLive, IsWornFor, SameAreas, SameKit, SameReserve}
+use Rattle.draid_blocks.specs.Fetching.{Fetches}
+use Rattle.draid_shard.specs.Looks.{IsLive}
+use Rattle.draid_shard.specs.Rooms.{IsWornFor}
+use Rattle.draid_shard.specs.Calls.{SameAreas, SameKit, SameReserve}
 use Rattle.draid_shard.specs.Columns.{ArePieces}
 use Rattle.draid_shard.specs.Fits.{Valid}
 use Rattle.draid_shard.specs.Part.{layout_in}

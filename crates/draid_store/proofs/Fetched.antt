@@ -14,13 +14,15 @@ use Rattle.draid_machine.specs.State as machine
 use Rattle.draid_segments.specs.Reads.{IsAbsent, MoreBad}
 use Rattle.draid_segments.specs.Segments.{Pieces}
 use Rattle.draid_entries.specs.Maps.{key_of}
-use Rattle.draid_shard.specs.Calls.{ActsOn, Fetches, IsWornFor, SameAreas, SameReserve}
+use Rattle.draid_shard.specs.Calls.{ActsOn, SameAreas, SameReserve}
+use Rattle.draid_blocks.specs.Fetching.{Fetches}
+use Rattle.draid_shard.specs.Rooms.{IsWornFor}
 use Rattle.draid_shard.specs.Columns.{ArePieces}
 use Rattle.draid_shard.specs.Fits.{Valid}
 use Rattle.draid_shard.specs.Part.{Part, layout_in}
 use Rattle.draid_shard.specs.States.{layout_by, part_of}
 use Rattle.draid_shard.specs.declared.shard.Shard.{Shard}
-use Rattle.draid_shard.proofs.Readable.{readable}
+use Rattle.draid_blocks.proofs.Readable.{readable}
 use Rattle.draid_session.specs.Holds.{Did, Hold, On, view_of}
 use Rattle.draid_session.specs.State.{Metaslab}
 use Rattle.draid_session.specs.Worn.{IsWorn}

@@ -14,12 +14,13 @@ use Rattle.draid_machine.specs.Names.{key_eq}
 use Rattle.draid_machine.specs.State as machine
 use Rattle.draid_segments.specs.Segments.{Pieces}
 use Rattle.draid_entries.specs.Maps.{key_of}
-use Rattle.draid_shard.specs.Calls.{Puts, SameAreas, SameReserve}
+use Rattle.draid_blocks.specs.Tickets.{Puts}
+use Rattle.draid_shard.specs.Calls.{SameAreas, SameReserve}
 use Rattle.draid_shard.specs.Columns.{ArePieces}
 use Rattle.draid_shard.specs.Fits.{Valid}
 use Rattle.draid_shard.specs.Part.{Part, layout_in}
 use Rattle.draid_shard.specs.declared.shard.Shard.{Shard}
-use Rattle.draid_shard.specs.declared.ticket.Ticket.{Ticket}
+use Rattle.draid_blocks.specs.declared.ticket.Ticket.{Ticket}
 use Rattle.draid_session.specs.Follows.{Acts}
 use Rattle.draid_session.specs.Holds.{Act, Did, Hold, On, view_of}
 use Rattle.draid_session.specs.State.{Metaslab}

@@ -10,10 +10,10 @@ use Rattle.draid_entries.specs.declared.entries.Entries.{Entries}
 use Rattle.draid_entries.specs.declared.entry.Entry.{Entry}
 use Rattle.draid_entries.specs.Entries.{SetsEntry, begun, entry_at, held_in, owed_at, owed_by}
 use Rattle.draid_entries.specs.Maps.{held_at, key_of, staged}
-use Rattle.draid_shard.specs.Calls.{IsTicketOf}
+use Rattle.draid_blocks.specs.Tickets.{IsTicketOf}
 use Rattle.draid_shard.specs.Changes.{KeepsBlocks, SameGroups, SetsBlock}
 use Rattle.draid_shard.specs.declared.shard.Shard.{Shard}
-use Rattle.draid_shard.specs.declared.ticket.Ticket.{Ticket}
+use Rattle.draid_blocks.specs.declared.ticket.Ticket.{Ticket}
 use Rattle.draid_shard.proofs.Held.{key_leads}
 use Rattle.draid_pool.specs.Shards.{DropsBlock, StoresBlock}
 

@@ -25,15 +25,17 @@ use Rattle.draid_segments.proofs.Beginning.{pieces_backed}
 use Rattle.draid_entries.specs.Entries.{held_in}
 use Rattle.draid_entries.specs.History.{stored_of}
 use Rattle.draid_entries.specs.Maps.{held_at, key_of, staged}
-use Rattle.draid_shard.specs.Calls.{BeginRefused, Carries, IsTicketOf, IsWornFor, SameKit, SameReserve, begins, block_events}
+use Rattle.draid_blocks.specs.Tickets.{BeginRefused, Carries, IsTicketOf, begins}
+use Rattle.draid_shard.specs.Rooms.{IsWornFor, block_events}
+use Rattle.draid_shard.specs.Calls.{SameKit, SameReserve}
 use Rattle.draid_shard.specs.Columns.{ArePieces, row_bytes}
 use Rattle.draid_shard.specs.Fits.{Valid}
 use Rattle.draid_shard.specs.Part.{Part, layout_in}
 use Rattle.draid_shard.specs.States.{Does, layout_by, part_of}
-use Rattle.draid_shard.specs.declared.fault.BeginFault.{BeginFault}
-use Rattle.draid_shard.specs.declared.fault.BeginFault.TheVariants as begin
+use Rattle.draid_blocks.specs.declared.fault.BeginFault.{BeginFault}
+use Rattle.draid_blocks.specs.declared.fault.BeginFault.TheVariants as begin
 use Rattle.draid_shard.specs.declared.shard.Shard.{Shard}
-use Rattle.draid_shard.specs.declared.ticket.Ticket.{Ticket}
+use Rattle.draid_blocks.specs.declared.ticket.Ticket.{Ticket}
 use Rattle.draid_shard.proofs.Held.{key_leads}
 use Rattle.draid_shard.proofs.OwedAll.{owed_is}
 use Rattle.draid_shard.proofs.Standing.{has_layout}

@@ -46,7 +46,7 @@ use Rattle.draid_pool.proofs.Entering.{OnlyLast}
 use Rattle.draid_store.proofs.FreeSteps.{group_low, metaslab_there, points_on, points_same, same_key}
 use Rattle.draid_pool.proofs.Lists.{ext, get_set_same, set_back, some_of}
 use Rattle.draid_pool.proofs.Lives.{held_by}
-use Rattle.draid_shard.specs.Calls.{IsLive}
+use Rattle.draid_shard.specs.Looks.{IsLive}
 use Rattle.draid_objects.proofs.Imaging.{last_live}
 use Rattle.std.proofs.lemmas.Bool.Decides.{nat_tests}
 use Rattle.draid_pool.proofs.Imaged.{keeps_same}

@@ -16,7 +16,8 @@ use Rattle.draid_machine.specs.Names.{key_eq}
 use Rattle.draid_machine.specs.State as machine
 use Rattle.draid_segments.specs.Segments.{Pieces}
 use Rattle.draid_entries.specs.Maps.{held_at, key_of, staged}
-use Rattle.draid_shard.specs.Calls.{IsLive, IsRoom, ShutBy}
+use Rattle.draid_shard.specs.Looks.{IsLive}
+use Rattle.draid_shard.specs.Rooms.{IsRoom, ShutBy}
 use Rattle.draid_shard.specs.Changes.{KeepsBlocks}
 use Rattle.draid_shard.specs.Part.{Part}
 use Rattle.draid_shard.specs.States.{IsIn}

@@ -44,7 +44,7 @@ fn damage_sector<R: Rack, A: Area>(
         Err(ReserveFault::Worn { .. }) => return Err(DamageFault::Worn),
         Err(ReserveFault::NoMemory) => return Err(DamageFault::NoMemory),
     }
-    match shard.damage(leaf, sector) {
+    match draid_blocks::damage(shard, leaf, sector) {
         Ok(()) => Ok(()),
         Err(_) => Err(DamageFault::Failed),
     }

@@ -3,7 +3,7 @@ ghost use Rattle.draid_names.specs.declared.numbers.TheConstants.{LAST_NUMBER};
 ghost use Rattle.draid_machine.specs.declared.names.Stage.TheVariants.{Freed};
 ghost use Rattle.draid_segments.specs.Segments.{Pieces};
 ghost use Rattle.draid_entries.specs.Maps.{staged};
-ghost use Rattle.draid_shard.specs.Calls.{IsLive};
+ghost use Rattle.draid_shard.specs.Looks.{IsLive};
 ghost use Rattle.draid_shard.specs.Changes.{SetsBlock};
 ghost use Rattle.draid_shard.specs.Fits.{Valid};
 ghost use Rattle.draid_shard.specs.Part.{Part};
@@ -41,7 +41,7 @@ pub(crate) fn free_block<R: Rack, A: Area>(
     ensures frees { (part : Part) (pieces : Pieces) (x : Metaslab) → IsMetaslab R.Rack A.Area part pieces shard.old x
         → Goes R.Rack A.Area part pieces x shard.new (FreesIn part.number pointer.now floor result x) }
 {
-    let Ok(group) = shard.free(pointer, floor) else {
+    let Ok(group) = draid_blocks::free(shard, pointer, floor) else {
         unreachable!()
     };
     group

@@ -14,7 +14,7 @@ use draid_block::{Fetched, SolveFault, solve_block};
 use draid_names::ObjectFault;
 use draid_pool::Pool;
 use draid_rack::Rack;
-use draid_shard::FetchFault;
+use draid_blocks::FetchFault;
 
 /// Reads the bytes last written to an object.
 pub fn read<R: Rack, A: Area>(pool: &mut Pool<R, A>, object: u64) -> Result<Vec<u8>, ObjectFault>
@@ -52,7 +52,7 @@ pub(crate) fn fetch<R: Rack, A: Area>(
     let Some(pointer) = pool.objects.get(&object).copied() else {
         return Err(ObjectFault::NoObject);
     };
-    match pool.shards[pointer.metaslab as usize].fetch(&pointer) {
+    match draid_blocks::fetch(&mut pool.shards[pointer.metaslab as usize], &pointer) {
         Ok(fetched) => Ok(fetched),
         Err(FetchFault::NotLive) => unreachable!(),
         Err(FetchFault::Worn { .. }) => Err(ObjectFault::Worn),

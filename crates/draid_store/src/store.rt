@@ -7,7 +7,7 @@ ghost use Rattle.draid_names.specs.declared.numbers.TheConstants.{LAST_NUMBER};
 ghost use Rattle.draid_segments.specs.Segments.{Pieces};
 ghost use Rattle.draid_entries.specs.Entries.{held_in};
 ghost use Rattle.draid_entries.specs.Maps.{key_of, staged};
-ghost use Rattle.draid_shard.specs.Calls.{Carries};
+ghost use Rattle.draid_blocks.specs.Tickets.{Carries};
 ghost use Rattle.draid_shard.specs.Changes.{SetsBlock};
 ghost use Rattle.draid_shard.specs.Columns.{ArePieces};
 ghost use Rattle.draid_shard.specs.Fits.{Valid};
@@ -21,9 +21,10 @@ ghost use Rattle.draid_store.specs.Shards.{SameBut, StoreDoes, StoreSets};
 
 use draid_area::Area;
 use draid_block::Encoded;
+use draid_blocks::{BeginFault, Missed, Ticket, begin, finish, put};
 use draid_names::{NUMBERS, OBJECTS, Pointer};
 use draid_rack::Rack;
-use draid_shard::{BeginFault, Missed, Shard, Ticket};
+use draid_shard::Shard;
 
 /// Why a block wasn't stored.
 #[derive(Clone, Copy)]
@@ -50,7 +51,7 @@ fn put_all<R: Rack, A: Area>(shard: &mut Shard<R, A>, ticket: &mut Ticket, block
         × SameBut (key_of ticket.old.pointer) x.world y.world) }
 {
     for _column in 0..shard.geometry.g {
-        shard.put(ticket, block);
+        put(shard, ticket, block);
     }
 }
 
@@ -89,13 +90,13 @@ pub(crate) fn store<R: Rack, A: Area>(
     ensures stores { (part : Part) (pieces : Pieces) (x : Metaslab) → IsMetaslab R.Rack A.Area part pieces shard.old x
         → StoreDoes R.Rack A.Area part pieces object seq floor block.now.bytes x shard.new result }
 {
-    let mut ticket = match shard.begin(object, seq, block, floor) {
+    let mut ticket = match begin(shard, object, seq, block, floor) {
         Ok(ticket) => ticket,
         Err(why) => return Err(begin_fault(why)),
     };
     let birth = ticket.pointer.birth;
     put_all(shard, &mut ticket, block);
-    match shard.finish(ticket) {
+    match finish(shard, ticket) {
         Ok(pointer) => Ok(pointer),
         Err(Missed { columns }) => Err(StoreFault::Missed { columns, birth }),
     }

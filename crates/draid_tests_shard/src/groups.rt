@@ -6,6 +6,7 @@ ghost use Rattle.draid_shard.specs.Fits.{Valid};
 use crate::shard::{begin, hello, logged};
 use draid_area::Area;
 use draid_block::Encoded;
+use draid_blocks::free;
 use draid_pool::{CloseFault, SealFault, Sealed, close_group};
 use draid_rack::Rack;
 use draid_shard::Shard;
@@ -158,7 +159,7 @@ pub fn gives_hello_back<R: Rack, A: Area>(alloc: Global, shard: &mut Shard<R, A>
 {
     match hello(alloc, shard) {
         Some(pointer) => {
-            let freed = shard.free(&pointer, 0).is_ok();
+            let freed = free(shard, &pointer, 0).is_ok();
             freed && shard.room(1).run == 7 && gives_back(shard)
         }
         None => false,

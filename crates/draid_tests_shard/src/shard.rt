@@ -4,15 +4,16 @@ ghost use Rattle.draid_block.specs.Solving.{IsFetched};
 ghost use Rattle.draid_spec.specs.Geometry.{IsGeometry};
 ghost use Rattle.draid_machine.specs.declared.names.Key.{Key};
 ghost use Rattle.draid_entries.specs.Entries.{held_in};
-ghost use Rattle.draid_shard.specs.Calls.{Carries};
+ghost use Rattle.draid_blocks.specs.Tickets.{Carries};
 ghost use Rattle.draid_shard.specs.Fits.{Valid};
 
 use draid_area::Area;
 use draid_block::{Encoded, Fetched, solve_block};
+use draid_blocks::{BeginFault, FetchFault, Missed, Ticket, abort, fetch, finish, free, put};
 use draid_entries::ReserveFault;
 use draid_names::{ArmAt, Pointer};
 use draid_rack::Rack;
-use draid_shard::{BeginFault, FetchFault, Missed, Shard, Shut, Ticket};
+use draid_shard::{Shard, Shut};
 use draid_spec::Geometry;
 use std::alloc::Global;
 
@@ -28,9 +29,9 @@ fn put_all<R: Rack, A: Area>(
     ensures valid { Valid R.Rack shard.new }
 {
     for _column in 0..shard.geometry.g {
-        shard.put(&mut ticket, block);
+        put(shard, &mut ticket, block);
     }
-    shard.finish(ticket)
+    finish(shard, ticket)
 }
 
 /// Begins the one write, in a floor's group or the open one.
@@ -47,7 +48,7 @@ pub fn begin<R: Rack, A: Area>(
     ensures carries { IfOk result (λ ticket. Carries shard.new ticket block.now) }
     ensures fresh { IfOk result (λ ticket. ticket.next ≡ 0) }
 {
-    shard.begin(7, 1, block, floor)
+    draid_blocks::begin(shard, 7, 1, block, floor)
 }
 
 /// Writes a block.
@@ -125,7 +126,7 @@ fn read<R: Rack, A: Area>(
     requires valid { Valid R.Rack shard.old }
     ensures valid { Valid R.Rack shard.new }
 {
-    match shard.fetch(pointer) {
+    match fetch(shard, pointer) {
         Ok(fetched) => {
             let is_hello = is_hello(alloc, &shard.geometry, &fetched);
             Some((absent(&fetched), is_hello))
@@ -146,9 +147,9 @@ fn is_freed<R: Rack, A: Area>(
     ensures valid { Valid R.Rack shard.new }
 {
     let read = read(alloc, shard, pointer);
-    let group = shard.free(pointer, 0).ok();
-    let fault = shard.fetch(pointer).err();
-    let freed = shard.free(pointer, 0);
+    let group = free(shard, pointer, 0).ok();
+    let fault = fetch(shard, pointer).err();
+    let freed = free(shard, pointer, 0);
     read == Some((absent, true))
         && group == Some(2)
         && fault == Some(FetchFault::NotLive)
@@ -203,9 +204,9 @@ fn gives_next_up<R: Rack, A: Area>(shard: &mut Shard<R, A>, block: &Encoded) -> 
     match begin(shard, block, 3) {
         Ok(mut ticket) => {
             let birth = ticket.pointer.birth;
-            shard.put(&mut ticket, block);
+            put(shard, &mut ticket, block);
             let open = shard.room(1).run;
-            shard.abort(ticket);
+            abort(shard, ticket);
             birth == 3 && open == 7 && shard.room(1).run == 8
         }
         Err(_) => false,
@@ -235,7 +236,7 @@ fn damage<R: Rack, A: Area>(shard: &mut Shard<R, A>, leaf: u64, sector: u64) -> 
     if shard.geometry.metaslab_sectors() <= sector {
         return None;
     }
-    Some(shard.damage(leaf, sector).is_ok())
+    Some(draid_blocks::damage(shard, leaf, sector).is_ok())
 }
 
 /// Whether the first sectors of the leaves 0 and 1 are damaged, that of leaf 1 only where the call is done, and a leaf 3 isn't
@@ -324,7 +325,7 @@ fn fetch_fault<R: Rack, A: Area>(
     ensures valid { Valid R.Rack shard.new }
 {
     for _ in 0..most {
-        if let Err(fault) = shard.fetch(pointer) {
+        if let Err(fault) = fetch(shard, pointer) {
             return Some(fault);
         }
     }

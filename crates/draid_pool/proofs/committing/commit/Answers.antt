@@ -1,5 +1,5 @@
 use Rattle.std.proofs.Common.{refl}
-use Rattle.draid_shard.proofs.Turns.{fitting}
+use Rattle.draid_shard.proofs.Kept.{fitting}
 use Rattle.draid_pool.proofs.Committed.{commit_acts, commit_drops, commit_leads, commit_valid}
 use Rattle.draid_pool.proofs.committing.commit.Goals as goal
 

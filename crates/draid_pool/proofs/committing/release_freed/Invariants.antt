@@ -1,8 +1,7 @@
 use Rattle.std.proofs.Common.{◌≡◌, ◌≤◌, ◌-◌, ℕ}
 use Rattle.draid_names.specs.declared.numbers.TheConstants.{NUMBERS}
 use Rattle.draid_spec.specs.declared.layout.Geometry.{Geometry}
-use Rattle.draid_shard.specs.Fits.{Tables}
-use Rattle.draid_shard.specs.Holding.{AreFitting}
+use Rattle.draid_shard.specs.Fits.{Tables, AreFitting}
 use Rattle.draid_pool.specs.Committing.{DropsSome, NoneFreed}
 use Rattle.draid_pool.proofs.committing.release_freed.Given as goal
 

@@ -2,7 +2,7 @@ use Rattle.std.proofs.Common.{◌&&◌, ◌==◌, ◌∙◌, List, ap, inr, sym}
 use Rattle.std.specs.List.{list_any}
 use Rattle.draid_slots.specs.declared.slot.Detached.{Detached}
 use Rattle.draid_slots.specs.Table.{is_leaf_kind}
-use Rattle.draid_shard.proofs.Damaging.{leaves_on}
+use Rattle.draid_shard.proofs.Leaves.{leaves_on}
 use Rattle.draid_pool.specs.Committing.{later_than}
 use Rattle.draid_pool.proofs.committing.stays.Goals as goal
 

@@ -55,10 +55,10 @@ returns-in-Ok-damage g c =
     record {
       valid = d.valid;
       part = d.event.part ∙ e.none.part;
-      keeps = kept_then c.args.shard.now c.reserve.new.self c.damage.new.self e.keeps d.keeps;
-      damages = damages g.R.Rack g.A.Area c.args.shard.now c.reserve.new.self c.damage.new.self c.args.leaf c.args.sector false
+      keeps = kept_then c.args.shard.now c.reserve.new.self c.damage.new.shard e.keeps d.keeps;
+      damages = damages g.R.Rack g.A.Area c.args.shard.now c.reserve.new.self c.damage.new.shard c.args.leaf c.args.sector false
           (record { valid = e.valid; none = e.none; kit = e.kit; limit = e.limit }) e.reserved e.answer d.valid d.event d.acts
-          (raises_damage g.R.Rack g.A.Area c.reserve.new.self c.damage.new.self c.args.leaf c.args.sector (Ok c.in-Ok-damage.field-0) d.areas d.cause) d.reserve d.limit;
+          (raises_damage g.R.Rack g.A.Area c.reserve.new.self c.damage.new.shard c.args.leaf c.args.sector (Ok c.in-Ok-damage.field-0) d.areas d.cause) d.reserve d.limit;
     }
 
 pub returns-in-Err : goal.returns-in-Err
@@ -68,8 +68,8 @@ returns-in-Err g c =
     record {
       valid = d.valid;
       part = d.event.part ∙ e.none.part;
-      keeps = kept_then c.args.shard.now c.reserve.new.self c.damage.new.self e.keeps d.keeps;
-      damages = damages g.R.Rack g.A.Area c.args.shard.now c.reserve.new.self c.damage.new.self c.args.leaf c.args.sector true
+      keeps = kept_then c.args.shard.now c.reserve.new.self c.damage.new.shard e.keeps d.keeps;
+      damages = damages g.R.Rack g.A.Area c.args.shard.now c.reserve.new.self c.damage.new.shard c.args.leaf c.args.sector true
           (record { valid = e.valid; none = e.none; kit = e.kit; limit = e.limit }) e.reserved e.answer d.valid d.event d.acts
-          (raises_damage g.R.Rack g.A.Area c.reserve.new.self c.damage.new.self c.args.leaf c.args.sector (Err c.in-Err.field-0) d.areas d.cause) d.reserve d.limit;
+          (raises_damage g.R.Rack g.A.Area c.reserve.new.self c.damage.new.shard c.args.leaf c.args.sector (Err c.in-Err.field-0) d.areas d.cause) d.reserve d.limit;
     }

@@ -5,8 +5,8 @@ use Rattle.std.proofs.lemmas.Option.{slice_get_within}
 use Rattle.draid_spec.specs.declared.layout.Geometry.{Geometry}
 use Rattle.draid_block.specs.Blocks.{cut_of}
 use Rattle.draid_block.specs.Solving.{IsFetched}
-use Rattle.draid_shard.specs.Calls.{FetchIsWorn}
-use Rattle.draid_shard.specs.declared.fault.FetchFault.TheVariants as fault
+use Rattle.draid_blocks.specs.Fetching.{FetchIsWorn}
+use Rattle.draid_blocks.specs.declared.fault.FetchFault.TheVariants as fault
 use Rattle.draid_store.proofs.FetchSteps.{fetch_done, fetch_none, fetch_starved, fetch_worn}
 use Rattle.draid_pool.proofs.Lifted.{sets_shard, with_shard}
 use Rattle.draid_store.proofs.Pointed as pointed
@@ -50,7 +50,7 @@ returns-in-Ok g c =
     let old = c.args.pool.now in
     let m = c.in-Some.pointer.metaslab in
     let before = c.index_mut.result.now in
-    let after = c.fetch.new.self in
+    let after = c.fetch.new.shard in
     let at = whole_shard g.R.Rack g.A.Area old c.args.object c.in-Some.pointer before (w.objects c.args.object c.in-Some.pointer there) c.index_mut.ensures.value in
     let e = c.in-Ok.ensures in
     let new = with_shard old m after in
@@ -73,7 +73,7 @@ returns-in-Err-Worn g c =
     let old = c.args.pool.now in
     let m = c.in-Some.pointer.metaslab in
     let before = c.index_mut.result.now in
-    let after = c.fetch.new.self in
+    let after = c.fetch.new.shard in
     let at = whole_shard g.R.Rack g.A.Area old c.args.object c.in-Some.pointer before (w.objects c.args.object c.in-Some.pointer there) c.index_mut.ensures.value in
     let e = c.in-Err-Worn.ensures in
     let worn : FetchIsWorn before (fault.Worn c.in-Err-Worn.field-0-0) = subst (FetchIsWorn before) c.in-Err-Worn.field-0-is e.worn in
@@ -97,7 +97,7 @@ returns-in-Err-NoMemory g c =
     let old = c.args.pool.now in
     let m = c.in-Some.pointer.metaslab in
     let before = c.index_mut.result.now in
-    let after = c.fetch.new.self in
+    let after = c.fetch.new.shard in
     let at = whole_shard g.R.Rack g.A.Area old c.args.object c.in-Some.pointer before (w.objects c.args.object c.in-Some.pointer there) c.index_mut.ensures.value in
     let e = c.in-Err-NoMemory.ensures in
     let new = with_shard old m after in

@@ -32,11 +32,11 @@ loop-column-preserved g c =
       carries = e.carries;
       next = (let next = e.put.next in let was = i.next in omega (arith, next, was));
       pointer = e.put.pointer ∙ i.pointer;
-      sets = set_then c.args.shard.now c.loop-column.shard c.put.new.self c.args.ticket.now.pointer (Some (staged (Writing c.loop-column.ticket.next c.loop-column.ticket.missed) c.args.ticket.now.pointer))
+      sets = set_then c.args.shard.now c.loop-column.shard c.put.new.shard c.args.ticket.now.pointer (Some (staged (Writing c.loop-column.ticket.next c.loop-column.ticket.missed) c.args.ticket.now.pointer))
           (Some (staged (Writing c.put.new.ticket.next c.put.new.ticket.missed) c.args.ticket.now.pointer)) i.sets
-          (subst (λ p. SetsBlock c.loop-column.shard c.put.new.self p (Some (staged (Writing c.put.new.ticket.next c.put.new.ticket.missed) p))) i.pointer e.put.sets);
-      some = subst (λ (p : Pointer). PutSome g.R.Rack g.A.Area c.args.shard.now c.put.new.self p c.args.block.now (c.loop-column._column + 1)) i.pointer
-          (subst (λ n. PutSome g.R.Rack g.A.Area c.args.shard.now c.put.new.self c.loop-column.ticket.pointer c.args.block.now n) (one_more c.loop-column._column) (put_more g.R.Rack g.A.Area c.args.shard.now c.loop-column.shard c.put.new.self c.loop-column.ticket c.put.new.ticket c.args.block.now c.loop-column._column e.valid e.areas e.reserve e.put
+          (subst (λ p. SetsBlock c.loop-column.shard c.put.new.shard p (Some (staged (Writing c.put.new.ticket.next c.put.new.ticket.missed) p))) i.pointer e.put.sets);
+      some = subst (λ (p : Pointer). PutSome g.R.Rack g.A.Area c.args.shard.now c.put.new.shard p c.args.block.now (c.loop-column._column + 1)) i.pointer
+          (subst (λ n. PutSome g.R.Rack g.A.Area c.args.shard.now c.put.new.shard c.loop-column.ticket.pointer c.args.block.now n) (one_more c.loop-column._column) (put_more g.R.Rack g.A.Area c.args.shard.now c.loop-column.shard c.put.new.shard c.loop-column.ticket c.put.new.ticket c.args.block.now c.loop-column._column e.valid e.areas e.reserve e.put
           (subst (λ (p : Pointer). PutSome g.R.Rack g.A.Area c.args.shard.now c.loop-column.shard p c.args.block.now c.loop-column._column) (sym i.pointer) i.some)));
     }
 

@@ -18,7 +18,7 @@ returns-in-Ok-finish g c =
     let f = c.in-Ok-finish.ensures in
     let old = c.args.shard.now in
     let block = c.args.block.now in
-    let begun : Begun g.R.Rack g.A.Area c.args.object c.args.seq c.args.floor block old c.begin.new.self c.in-Ok.ticket = record {
+    let begun : Begun g.R.Rack g.A.Area c.args.object c.args.seq c.args.floor block old c.begin.new.shard c.in-Ok.ticket = record {
       unused = c.requires.unused;
       valid = e.valid;
       kit = e.kit;
@@ -29,13 +29,13 @@ returns-in-Ok-finish g c =
       not_worn = e.not_worn;
       low = (let low = c.requires.valid.low in let last = c.requires.last in omega (arith, low, last));
     } in
-    let all : AllPut g.R.Rack g.A.Area c.args.object c.args.seq c.args.floor block c.begin.new.self c.put_all.new.shard c.in-Ok.ticket c.put_all.new.ticket = record {
+    let all : AllPut g.R.Rack g.A.Area c.args.object c.args.seq c.args.floor block c.begin.new.shard c.put_all.new.shard c.in-Ok.ticket c.put_all.new.ticket = record {
       carries = p.carries;
       all = p.all;
       pointer = p.pointer;
       puts = p.puts;
     } in
-    let ended : Ended g.R.Rack g.A.Area c.args.object c.args.seq c.args.floor block c.put_all.new.shard c.finish.new.self c.put_all.new.ticket = record {
+    let ended : Ended g.R.Rack g.A.Area c.args.object c.args.seq c.args.floor block c.put_all.new.shard c.finish.new.shard c.put_all.new.ticket = record {
       valid = f.valid;
       kit = f.kit;
       reserve = f.reserve;
@@ -44,14 +44,14 @@ returns-in-Ok-finish g c =
     record {
       valid = f.valid;
       part = f.event.part ∙ (p.part ∙ e.event.part);
-      sets = stores_block old c.begin.new.self c.put_all.new.shard c.finish.new.self c.args.object c.args.seq c.args.floor c.in-Ok.ticket c.put_all.new.ticket (Some (staged (Writing c.put_all.new.ticket.next c.put_all.new.ticket.missed) c.in-Ok.ticket.pointer)) e.ticket.was
+      sets = stores_block old c.begin.new.shard c.put_all.new.shard c.finish.new.shard c.args.object c.args.seq c.args.floor c.in-Ok.ticket c.put_all.new.ticket (Some (staged (Writing c.put_all.new.ticket.next c.put_all.new.ticket.missed) c.in-Ok.ticket.pointer)) e.ticket.was
           e.ticket.named e.ticket.enters p.sets p.pointer c.in-Ok-finish.pointer f.live.1 f.sets;
       content = subst (λ (p : Pointer). IsContent p block.bytes) (sym f.live.1) p.carries.content;
       stores = λ part pieces x is.
           (let few = f.live.0 in
           let parity = ap (λ (q : Part). q.geometry.spec.parity) p.part ∙ (ap (λ (q : Part). q.geometry.spec.parity) e.event.part ∙ ap (λ (q : Part). q.geometry.spec.parity) is.part_is) in
-          subst (Stored g.R.Rack g.A.Area part pieces c.args.object c.args.seq c.args.floor block.bytes x c.finish.new.self) (sym f.live.1)
-          (stored g.R.Rack g.A.Area c.args.object c.args.seq c.args.floor block old c.begin.new.self c.put_all.new.shard c.finish.new.self c.in-Ok.ticket c.put_all.new.ticket begun all ended part pieces x is
+          subst (Stored g.R.Rack g.A.Area part pieces c.args.object c.args.seq c.args.floor block.bytes x c.finish.new.shard) (sym f.live.1)
+          (stored g.R.Rack g.A.Area c.args.object c.args.seq c.args.floor block old c.begin.new.shard c.put_all.new.shard c.finish.new.shard c.in-Ok.ticket c.put_all.new.ticket begun all ended part pieces x is
           (omega (arith, few, parity))));
     }
 
@@ -62,7 +62,7 @@ returns-in-Err-finish g c =
     let f = c.in-Err-finish.ensures in
     let old = c.args.shard.now in
     let block = c.args.block.now in
-    let begun : Begun g.R.Rack g.A.Area c.args.object c.args.seq c.args.floor block old c.begin.new.self c.in-Ok.ticket = record {
+    let begun : Begun g.R.Rack g.A.Area c.args.object c.args.seq c.args.floor block old c.begin.new.shard c.in-Ok.ticket = record {
       unused = c.requires.unused;
       valid = e.valid;
       kit = e.kit;
@@ -73,13 +73,13 @@ returns-in-Err-finish g c =
       not_worn = e.not_worn;
       low = (let low = c.requires.valid.low in let last = c.requires.last in omega (arith, low, last));
     } in
-    let all : AllPut g.R.Rack g.A.Area c.args.object c.args.seq c.args.floor block c.begin.new.self c.put_all.new.shard c.in-Ok.ticket c.put_all.new.ticket = record {
+    let all : AllPut g.R.Rack g.A.Area c.args.object c.args.seq c.args.floor block c.begin.new.shard c.put_all.new.shard c.in-Ok.ticket c.put_all.new.ticket = record {
       carries = p.carries;
       all = p.all;
       pointer = p.pointer;
       puts = p.puts;
     } in
-    let ended : Ended g.R.Rack g.A.Area c.args.object c.args.seq c.args.floor block c.put_all.new.shard c.finish.new.self c.put_all.new.ticket = record {
+    let ended : Ended g.R.Rack g.A.Area c.args.object c.args.seq c.args.floor block c.put_all.new.shard c.finish.new.shard c.put_all.new.ticket = record {
       valid = f.valid;
       kit = f.kit;
       reserve = f.reserve;
@@ -88,14 +88,14 @@ returns-in-Err-finish g c =
     record {
       valid = f.valid;
       part = f.event.part ∙ (p.part ∙ e.event.part);
-      sets = drops_block old c.begin.new.self c.put_all.new.shard c.finish.new.self c.args.object c.args.seq c.args.floor c.in-Ok.ticket c.put_all.new.ticket (Some (staged (Writing c.put_all.new.ticket.next c.put_all.new.ticket.missed) c.in-Ok.ticket.pointer)) e.ticket.was
+      sets = drops_block old c.begin.new.shard c.put_all.new.shard c.finish.new.shard c.args.object c.args.seq c.args.floor c.in-Ok.ticket c.put_all.new.ticket (Some (staged (Writing c.put_all.new.ticket.next c.put_all.new.ticket.missed) c.in-Ok.ticket.pointer)) e.ticket.was
           e.ticket.named e.ticket.enters p.sets p.pointer f.gone;
       content = tt;
       stores = λ part pieces x is.
           (let many = f.missed.0 in
           let parity = ap (λ (q : Part). q.geometry.spec.parity) p.part ∙ (ap (λ (q : Part). q.geometry.spec.parity) e.event.part ∙ ap (λ (q : Part). q.geometry.spec.parity) is.part_is) in
-          subst (λ n. NotStored g.R.Rack g.A.Area part pieces c.args.object c.args.seq c.args.floor block.bytes x c.finish.new.self n c.in-Ok.ticket.pointer.birth) (sym f.missed.1)
-          (not_stored g.R.Rack g.A.Area c.args.object c.args.seq c.args.floor block old c.begin.new.self c.put_all.new.shard c.finish.new.self c.in-Ok.ticket c.put_all.new.ticket begun all ended part pieces x is
+          subst (λ n. NotStored g.R.Rack g.A.Area part pieces c.args.object c.args.seq c.args.floor block.bytes x c.finish.new.shard n c.in-Ok.ticket.pointer.birth) (sym f.missed.1)
+          (not_stored g.R.Rack g.A.Area c.args.object c.args.seq c.args.floor block old c.begin.new.shard c.put_all.new.shard c.finish.new.shard c.in-Ok.ticket c.put_all.new.ticket begun all ended part pieces x is
           (omega (arith, many, parity))));
     }
 
@@ -112,11 +112,11 @@ returns-in-Err g c =
     record {
       valid = c.in-Err.ensures.valid;
       part = c.in-Err.ensures.none.none.part;
-      sets = subst (λ (f : StoreFault). StoreSets c.args.shard.now c.begin.new.self c.args.object c.args.seq c.args.floor (Err f)) (sym c.begin_fault.ensures) c.in-Err.ensures.none.keeps;
+      sets = subst (λ (f : StoreFault). StoreSets c.args.shard.now c.begin.new.shard c.args.object c.args.seq c.args.floor (Err f)) (sym c.begin_fault.ensures) c.in-Err.ensures.none.keeps;
       content = tt;
       stores = λ part pieces x is. (let e = c.in-Err.ensures in
-          subst (λ (f : StoreFault). StoreDoes g.R.Rack g.A.Area part pieces c.args.object c.args.seq c.args.floor c.args.block.now.bytes x c.begin.new.self (Err f)) (sym c.begin_fault.ensures)
-          (none_here g.R.Rack g.A.Area part pieces c.args.shard.now c.begin.new.self x is e.valid e.none.none e.kit.rack e.kit.areas e.reserve.limit e.reserve.reserved));
+          subst (λ (f : StoreFault). StoreDoes g.R.Rack g.A.Area part pieces c.args.object c.args.seq c.args.floor c.args.block.now.bytes x c.begin.new.shard (Err f)) (sym c.begin_fault.ensures)
+          (none_here g.R.Rack g.A.Area part pieces c.args.shard.now c.begin.new.shard x is e.valid e.none.none e.kit.rack e.kit.areas e.reserve.limit e.reserve.reserved));
     }
 
 pub put_all-requires : goal.put_all-requires

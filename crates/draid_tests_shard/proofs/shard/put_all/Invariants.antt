@@ -1,5 +1,5 @@
 use Rattle.std.proofs.Common.{◌≡◌}
-use Rattle.draid_shard.specs.Calls.{Carries}
+use Rattle.draid_blocks.specs.Tickets.{Carries}
 use Rattle.draid_shard.specs.Fits.{Valid}
 use Rattle.draid_shard.specs.States.{part_of}
 use Rattle.draid_tests_shard.proofs.shard.put_all.Given as goal

@@ -1,6 +1,6 @@
 use Rattle.draid_shard.proofs.Changed.{same_entries}
 use Rattle.std.proofs.Common.{refl, arith}
-use Rattle.draid_shard.proofs.Turns.{history_in, valid_with}
+use Rattle.draid_shard.proofs.Kept.{history_in, valid_with}
 use Rattle.draid_shard.proofs.shard.Shard.ask.Goals as goal
 
 pub returns-clause-valid : goal.returns-clause-valid

@@ -1,5 +1,5 @@
 use Rattle.std.proofs.Common.{◌∙◌, inr, sym}
-use Rattle.draid_shard.proofs.Damaging.{leaves_on}
+use Rattle.draid_shard.proofs.Leaves.{leaves_on}
 use Rattle.draid_shard.proofs.shard.Shard.has_leaf.Goals as goal
 
 pub returns-else-is_some : goal.returns-else-is_some

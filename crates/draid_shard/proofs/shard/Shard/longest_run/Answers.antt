@@ -1,6 +1,6 @@
 use Rattle.std.proofs.Common.{inl, inr, refl}
 use Rattle.draid_shard.specs.States.{layout_by}
-use Rattle.draid_shard.proofs.Begins.{some_height}
+use Rattle.draid_shard.proofs.Sizes.{some_height}
 use Rattle.draid_shard.proofs.FreeRuns.{longest_of, shut_by, takes_by}
 use Rattle.draid_shard.proofs.shard.Shard.longest_run.Goals as goal
 

@@ -1,4 +1,4 @@
-use Rattle.draid_shard.proofs.Begins.{some_band, low_band}
+use Rattle.draid_shard.proofs.Sizes.{low_band, some_band}
 use Rattle.std.proofs.Common.{◌*◌, ◌/◌, ℕ, arith, ap₂, refl}
 use Rattle.draid_shard.proofs.shard.Shard.rows_of.Goals as goal
 

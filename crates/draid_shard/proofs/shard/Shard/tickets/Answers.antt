@@ -1,8 +1,8 @@
 use Rattle.std.proofs.Common.{◌+◌, ◌∙◌, arith, subst, sym}
 use Rattle.std.proofs.lemmas.Bool.{true≢false}
-use Rattle.draid_shard.proofs.Begins.{low_stripes}
+use Rattle.draid_shard.proofs.Sizes.{low_stripes}
 use Rattle.draid_shard.proofs.Counted.{CountsBelow, IsTicket, counts_more, counts_same, has_tickets}
-use Rattle.draid_shard.proofs.Turns.{inside_stripes}
+use Rattle.draid_shard.proofs.Kept.{inside_stripes}
 use Rattle.draid_shard.proofs.shard.Shard.tickets.Goals.{then-is_ticket, else-is_ticket}
 use Rattle.draid_shard.proofs.shard.Shard.tickets.Goals as goal
 

@@ -1,0 +1,14 @@
+pub mod Begins
+pub mod DamageSteps
+pub mod Entered
+pub mod Fetches
+pub mod Landings
+pub mod Placing
+pub mod PutKept
+pub mod PutSteps
+pub mod Puts
+pub mod ReadSteps
+pub mod Readable
+pub mod Refusing
+pub mod Taking
+pub mod Turns

@@ -1,0 +1,5 @@
+pub mod Fetching
+pub mod Holding
+pub mod Landings
+pub mod Reads
+pub mod Tickets
