@@ -11,10 +11,10 @@ ghost use Rattle.draid_pool.specs.Whole.{IsWhole};
 
 use draid_area::Area;
 use draid_block::{Fetched, SolveFault, solve_block};
+use draid_blocks::FetchFault;
 use draid_names::ObjectFault;
 use draid_pool::Pool;
 use draid_rack::Rack;
-use draid_blocks::FetchFault;
 
 /// Reads the bytes last written to an object.
 pub fn read<R: Rack, A: Area>(pool: &mut Pool<R, A>, object: u64) -> Result<Vec<u8>, ObjectFault>
