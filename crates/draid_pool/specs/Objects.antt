@@ -27,11 +27,14 @@ worlds_of metaslabs m = option_map (λ (x : Metaslab). x.world) (slice_get metas
 abbrev pub blocks_of : List Metaslab → Blocks
 blocks_of metaslabs = held_in (worlds_of metaslabs)
 
--- the pieces of a write's block are the rows of the columns of its bytes
+-- the pieces of a write's block are the rows of the columns of its bytes, or of others that have their length and digest
 pub record HasPieces (geometry : Geometry) (write : Write) (pieces : Pieces) : Type 0 where
-  pub bytes : (j : ℕ) → IsByte (slice_index write.bytes j)
+  pub content : List ℕ
+  pub len : length content ≡ length write.bytes
+  pub digest : sha256 content ≡ sha256 write.bytes
+  pub bytes : (j : ℕ) → IsByte (slice_index content j)
   pub columns : List (List ℕ)
-  pub are : AreColumns (cut_of geometry) write.bytes columns
+  pub are : AreColumns (cut_of geometry) content columns
   pub rows : ArePieces geometry.props.sector geometry.g (stripes_for geometry write.bytes) columns (key_of write) pieces
 
 -- The blocks store what befell the objects, and the floor is one for each of them. No write is under way, and none that is held has a greater number than the

@@ -1,3 +1,4 @@
+pub mod Beside
 pub mod Again
 pub mod Answering
 pub mod Calm

@@ -7,6 +7,7 @@ pub mod Groups
 pub mod Holds
 pub mod Keeping
 pub mod Known
+pub mod Lanes
 pub mod Looks
 pub mod Making
 pub mod Opening

@@ -9,8 +9,10 @@ ghost use Rattle.draid_reply.specs.declared.reply.Reply.{Reply};
 ghost use Rattle.draid_script.specs.Line.{Command, CrashPool, FreeObject, ImportPool, ReadObject, SyncPool, WriteObject};
 ghost use Rattle.draid_session.specs.Book.{Answers, AnswersAll, Book, BreaksBook, HasHad, blank, closed};
 ghost use Rattle.draid_session.specs.Certain.{AllAnswer, EndsFailed, FailsNoPut, HasPlace, MaySync, ReadsLast, StaysReadable, SyncsNext, WritesOnce};
+ghost use Rattle.draid_session.specs.Follows.{Follows};
 ghost use Rattle.draid_session.specs.Holds.{Hold, View, layout_at};
 ghost use Rattle.draid_session.specs.Keeping.{Keeps};
+ghost use Rattle.draid_session.specs.Lanes.{IsMerged, TogetherAt};
 ghost use Rattle.draid_session.specs.Looks.{AllOf, Looks};
 ghost use Rattle.draid_session.specs.Reads.{ReadsAs};
 ghost use Rattle.draid_session.specs.Rooms.{FitsNowhere, stripes_for};
@@ -54,6 +56,14 @@ pub fn idle_pools_are_synced<F: Fn(&[Room]) -> Option<u32>>(chooser: &F)
 /// Law: a command breaks off on an open pool where the count of an area rose in its last hold.
 pub fn broken_commands_end_failed()
     ensures { (command : Command) (old new : State) → (it : BreaksOpen command old new) → EndsFailed it.holds old new }
+{}
+
+/// Law: however the holds of lanes are interleaved, where they follow one another they are those of lanes beside each
+/// other.
+#[tactic(auto, using(crate::proofs::Beside::interleave))]
+pub fn lanes_may_interleave()
+    ensures { (old new : State) (lanes : List (List Hold)) (holds : List Hold) (lock : Option ℕ) → IsMerged lanes holds → Follows holds old new
+        → TogetherAt lock lanes old new }
 {}
 
 /// Law: over a shelf that tells what it holds, lines are answered as a book has it: which objects there are, with their

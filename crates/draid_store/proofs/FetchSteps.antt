@@ -121,8 +121,8 @@ module _ (x : State) (o : ℕ) (w : Write) (pointer : Pointer) (y y' : Metaslab)
   stripes : pointer.stripes ≡ stripes_of (cut_of x.geometry) (length w.bytes)
   stripes = subst (λ (p : Pointer). p.stripes ≡ stripes_of (cut_of x.geometry) p.len) f.pointer_is f.block.stripes ∙ ap (stripes_of (cut_of x.geometry)) of.len
 
-  is_content : IsContent pointer w.bytes
-  is_content = record { len = sym of.len; digest = sym of.digest; bytes = content.bytes }
+  is_content : IsContent pointer content.content
+  is_content = record { len = content.len ∙ sym of.len; digest = content.digest ∙ sym of.digest; bytes = content.bytes }
 
   pieces_are : ArePieces x.geometry.props.sector x.geometry.g pointer.stripes content.columns (maps.key_of pointer) pieces
   pieces_are =
@@ -131,13 +131,13 @@ module _ (x : State) (o : ℕ) (w : Write) (pointer : Pointer) (y y' : Metaslab)
 
   beyond : (missing tried : ℕ) → IsSolved (cut_of x.geometry) fetched (Unreadable missing tried) → reads.IsBeyond x.geometry x.perms w hold absent fetched_in
   beyond missing tried solved =
-      more_of y.harm (λ harm. ((bad : List ℕ) × IsReadable (cut_of x.geometry) fetched w.bytes bad) ⊎ MoreBad (layout_in (part_in x pointer.metaslab)) y.world harm (maps.key_of pointer) f.h f.failed.items)
+      more_of y.harm (λ harm. ((bad : List ℕ) × IsReadable (cut_of x.geometry) fetched content.content bad) ⊎ MoreBad (layout_in (part_in x pointer.metaslab)) y.world harm (maps.key_of pointer) f.h f.failed.items)
       (λ harm. MoreBad (layout_in (part_in x pointer.metaslab)) y.world harm (key_of w) f.h f.failed.items)
       (λ harm e. elim e [
-        | inl r ↦ absurd (solved.readable w.bytes r.0 r.1)
+        | inl r ↦ absurd (solved.readable content.content r.0 r.1)
         | inr m ↦ subst (λ k. MoreBad (layout_in (part_in x pointer.metaslab)) y.world harm k f.h f.failed.items) of.key m
       ])
-      (f.either w.bytes content.columns is_content content.are pieces_are)
+      (f.either content.content content.columns is_content content.are pieces_are)
 
   answers : (solve : Solve) → IsSolved (cut_of x.geometry) fetched solve → ReadDoes x o (reading_of solve) holds x.store
   answers (Bytes bytes) solved = (

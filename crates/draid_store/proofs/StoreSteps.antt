@@ -317,6 +317,9 @@ module _ {R A : Type 0} (rack : racks.Ghosts R) (area : areas.Ghosts A) (object 
             len_is = ap (λ (q : Pointer). q.len) a.pointer ∙ sym b.carries.content.len;
             digest_is = ap (λ (q : Pointer). q.digest) a.pointer ∙ sym b.carries.content.digest;
             content = record {
+              content = block.bytes;
+              len = refl;
+              digest = refl;
               bytes = b.carries.content.bytes;
               columns = block.columns;
               are = subst (λ cut. AreColumns cut block.bytes block.columns) (b.carries.cut ∙ ap (λ (q : Part). cut_of q.geometry) one.is.part_is) b.carries.columns;

@@ -75,6 +75,9 @@ follows_on (hold ∷ holds) old new s f = (record f.0 { store = s }, hold_on hol
 
 pub pieces_on : (geometry : Geometry) (w : Write) (pieces now : Pieces) → now (changes.key_of w) ≡ pieces (changes.key_of w) → HasPieces geometry w pieces → HasPieces geometry w now
 pieces_on geometry w pieces now same has = record {
+  content = has.content;
+  len = has.len;
+  digest = has.digest;
   bytes = has.bytes;
   columns = has.columns;
   are = has.are;
