@@ -21,8 +21,7 @@ use Rattle.draid_shelf.specs.declared.kit.Kit.{Kit}
 use Rattle.draid_entries.specs.History.{limit_in, reserved_of}
 use Rattle.draid_shard.specs.Fits.{Valid}
 use Rattle.draid_pool.specs.Groups.{ListsOnce}
-use Rattle.draid_create.specs.Opening.{CreateIsRefused, AreOpened, IsBackAgain, IsOpened, RecordsFailed, SameButRecords, rack_in}
-use Rattle.draid_pool.specs.declared.group_fault.OpenFault.{OpenFault}
+use Rattle.draid_create.specs.Opening.{AreOpened, IsBackAgain, IsOpened, RecordsFailed, SameButRecords, rack_in}
 use Rattle.draid_shard.specs.Part.{Part, layout_in}
 use Rattle.draid_shard.specs.States.{IsIn, part_of, stored_in}
 use Rattle.draid_shard.specs.declared.shard.Shard.{Shard}
@@ -115,11 +114,10 @@ held_again n old r s e d same h = by (kit_of s e d) refl old h
     by (Some k) is (Some x) held = kits_again n x k (sym (kit_is s e d k is).rack ∙ (same ∙ held_rack (x.kits n) r held))
 
 -- a failure of its odd area is counted there
-pub odd_failed : {T : Type 0} (before now odd : ℕ) (dev : DeviceFault) (why : OpenFault) → (dev ≡ DeviceFault.Failed → why ≡ OpenFault.Area) → CreateIsRefused before now why → odd ≡ now
-    → IsErrOf {T = T} (Err dev) DeviceFault.Failed → 0 < odd
-odd_failed before now odd dev why leads refused counted failed =
-    let is : dev ≡ DeviceFault.Failed = cc in
-    let rose : Rose before now = subst (CreateIsRefused before now) (leads is) refused in
+pub odd_failed : {T : Type 0} (before now odd : ℕ) (why : DeviceFault) → (why ≡ DeviceFault.Failed → Rose before now) → odd ≡ now → IsErrOf {T = T} (Err why) DeviceFault.Failed → 0 < odd
+odd_failed before now odd why refused counted failed =
+    let is : why ≡ DeviceFault.Failed = cc in
+    let rose = refused is in
     omega (arith, rose, counted)
 
 module _ {R A : Type 0} (rack : racks.Ghosts R) (area : areas.Ghosts A) where

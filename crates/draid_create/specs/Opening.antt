@@ -29,12 +29,10 @@ use Rattle.draid_pool.specs.Returning.{HoldsPool, OwnCounts, SameCounts}
 use Rattle.draid_pool.specs.Importable.{IsImportable}
 use Rattle.draid_pool.specs.Records.{HasRecords}
 use Rattle.draid_pool.specs.Pools.{Represents}
-use Rattle.draid_pool.specs.declared.fault.PoolFault.{PoolFault}
-use Rattle.draid_pool.specs.declared.fault.PoolFault.TheVariants as fault
+use Rattle.draid_create.specs.declared.fault.CreateFault.{CreateFault}
+use Rattle.draid_create.specs.declared.fault.CreateFault.TheVariants as fault
 use Rattle.draid_pool.specs.declared.pool.Pool.{Pool}
 use Rattle.draid_pool.specs.Taking.{HoldsMade, IsAsBefore}
-use Rattle.draid_pool.specs.declared.group_fault.OpenFault.{OpenFault}
-use Rattle.draid_pool.specs.declared.group_fault.OpenFault.TheVariants as unopened
 
 -- ---- the pool
 
@@ -94,7 +92,7 @@ HoldsUncommitted geometry new leaves after now = IsMade geometry new after now �
 -- What the shelf holds then: with the pool, the areas of the check records; for a layout that isn't there what it held; and after another refusal that too, or all
 -- devices of the new pool.
 abbrev pub ShelfIs : {P : Type 0} → Spec → Props → Option Held → Option Held → (ℕ → Option Shape) → (ℕ → Option Shape) → (ℕ → KitCounts) → (ℕ → KitCounts) → OwnCounts → OwnCounts
-    → Result P PoolFault → Type 0
+    → Result P CreateFault → Type 0
 ShelfIs spec props old new leaves leaves' before after own now (Ok pool) = OnHeld new IsAway × NoChecks now
 ShelfIs spec props old new leaves leaves' before after own now (Err (fault.Spec why)) = IsAsBefore old new before after own now × SameLeaves leaves leaves'
 ShelfIs spec props old new leaves leaves' before after own now (Err why) =
@@ -117,11 +115,9 @@ pub record NewPoolFailed (geometry : Geometry) (told : Option Held) (leaves : �
   pub failed : HasBadArea geometry kits own
 
 -- The answer. It is that the shelf failed only where its count rose in the call, or a new pool failed.
-abbrev pub CreateIs : {R A : Type 0} → racks.Ghosts R → areas.Ghosts A → Spec → Props → Option Held → (ℕ → Option Shape) → ℕ → ℕ → (ℕ → KitCounts) → OwnCounts → Result (Pool R A) PoolFault → Type 0
+abbrev pub CreateIs : {R A : Type 0} → racks.Ghosts R → areas.Ghosts A → Spec → Props → Option Held → (ℕ → Option Shape) → ℕ → ℕ → (ℕ → KitCounts) → OwnCounts → Result (Pool R A) CreateFault → Type 0
 CreateIs rack area spec props told leaves before after kits own (Ok pool) = (geometry : Geometry) × (geometry_of spec props ≡ Ok geometry) × Opens rack area geometry told pool
 CreateIs rack area spec props told leaves before after kits own (Err (fault.Spec why)) = geometry_of spec props ≡ Err why
-CreateIs rack area spec props told leaves before after kits own (Err fault.NoPool) = ⊥
-CreateIs rack area spec props told leaves before after kits own (Err (fault.Record metaslab place kind)) = ⊥
 CreateIs rack area spec props told leaves before after kits own (Err fault.Shelf) =
     (geometry : Geometry) × (geometry_of spec props ≡ Ok geometry) × (Rose before after ⊎ NewPoolFailed geometry told leaves kits own)
 CreateIs rack area spec props told leaves before after kits own (Err fault.NoMemory) = HasLayout spec props
@@ -182,9 +178,3 @@ pub record HasNewKits (geometry : Geometry) (x : Held) : Type 0 where
   pub checks : IsSomeAnd x.checks AreNewChecks
   pub kits : (m : ℕ) → m < geometry.props.metaslabs → IsSomeAnd (x.kits m) (IsNewKit geometry)
   pub no_other : (m : ℕ) → geometry.props.metaslabs ≤ m → x.kits m ≡ None
-
--- why a metaslab isn't created: a call on the area of the record of group 1 failed, or memory was wanting
-abbrev pub CreateIsRefused : ℕ → ℕ → OpenFault → Type 0
-CreateIsRefused before now unopened.Area = Rose before now
-CreateIsRefused before now (unopened.Record place kind) = ⊥
-CreateIsRefused before now unopened.NoMemory = ⊤

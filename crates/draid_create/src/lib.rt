@@ -2,8 +2,10 @@
 
 #![tactic(auto)]
 
+mod fault;
 mod metaslab;
 mod opening;
 
+pub use fault::{CreateFault, MetaslabRefused};
 pub use metaslab::create_metaslab;
 pub use opening::create;

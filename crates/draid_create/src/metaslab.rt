@@ -1,4 +1,5 @@
-ghost use Rattle.std.specs.Prelude.{◌≡◌, [], IfErr, IfOk, OnOk};
+ghost use Rattle.std.specs.Prelude.{◌≡◌, [], IfErr, IfOk, IsErrOf, OnOk};
+ghost use Rattle.draid_names.specs.Faults.{Rose};
 ghost use Rattle.draid_area.specs.Area.{OnTold};
 ghost use Rattle.draid_rack.specs.Rack.{HasJust};
 ghost use Rattle.draid_spec.specs.Geometry.{metaslab_sectors};
@@ -9,14 +10,14 @@ ghost use Rattle.draid_shard.specs.Fits.{Valid};
 ghost use Rattle.draid_shard.specs.Part.{IsPart, layout_in};
 ghost use Rattle.draid_shard.specs.States.{IsIn, layout_by, part_of, stored_in};
 ghost use Rattle.draid_pool.specs.Groups.{ListsOnce};
-ghost use Rattle.draid_create.specs.Opening.{CreateIsRefused};
 
+use crate::fault::MetaslabRefused;
 use draid_area::{Area, DeviceFault};
 use draid_entries::{Entries, History};
 use draid_metaslab::Space;
 use draid_names::NoMemory;
 use draid_perm::Perms;
-use draid_pool::{BIRTH_GROUPS, OpenFault, OpenRefused, into_kit, record_of, write_to};
+use draid_pool::{BIRTH_GROUPS, into_kit, record_of, write_to};
 use draid_rack::Rack;
 use draid_shard::Shard;
 use draid_shelf::Kit;
@@ -50,7 +51,7 @@ pub fn create_metaslab<R: Rack, A: Area>(
     perms: Perms,
     kit: Kit<R, A>,
     events: u64,
-) -> Result<Shard<R, A>, OpenRefused<R, A>>
+) -> Result<Shard<R, A>, MetaslabRefused<R, A>>
     requires part { IsPart (record { geometry = geometry; perms = perms; number = number }) }
     requires rack { HasJust (R.shape kit.rack) geometry.spec.children (metaslab_sectors geometry) geometry.props.sector }
     ensures valid { IfOk result (Valid R.Rack) }
@@ -63,20 +64,20 @@ pub fn create_metaslab<R: Rack, A: Area>(
     ensures blocks { IfOk result (λ shard. shard.blocks_at ≡ 0) }
     // The area of odd groups may have been written.
     ensures refused { IfErr result (λ refused. (refused.kit.rack ≡ kit.rack) × (refused.kit.even ≡ kit.even)) }
-    ensures why { IfErr result (λ refused. CreateIsRefused (A.faults kit.odd) (A.faults refused.kit.odd) refused.why) }
+    ensures why { IfErr result (λ refused. refused.why ≡ DeviceFault.Failed → Rose (A.faults kit.odd) (A.faults refused.kit.odd)) }
 {
     let mut shard = match empty(alloc, number, geometry, perms, kit, events) {
         Ok(shard) => shard,
         Err(kit) => {
-            return Err(OpenRefused {
+            return Err(MetaslabRefused {
                 kit,
-                why: OpenFault::NoMemory,
+                why: DeviceFault::NoMemory,
             });
         }
     };
     match write_first(&mut shard) {
         Ok(()) => Ok(shard),
-        Err(why) => Err(OpenRefused {
+        Err(why) => Err(MetaslabRefused {
             kit: into_kit(shard),
             why,
         }),
@@ -135,20 +136,16 @@ fn empty<R: Rack, A: Area>(
 }
 
 /// Writes the record of group 1 of a metaslab that is new.
-fn write_first<R: Rack, A: Area>(shard: &mut Shard<R, A>) -> Result<(), OpenFault>
+fn write_first<R: Rack, A: Area>(shard: &mut Shard<R, A>) -> Result<(), DeviceFault>
     requires valid { Valid R.Rack shard.old }
     requires created { IsIn shard.old (created (layout_by shard.old) shard.old.asked) }
     ensures same { shard.new ≡ record shard.old { odd = shard.new.odd } }
     ensures record { OnOk result (OnTold (A.told shard.new.odd)
         (ListsOnce shard.old.geometry shard.old.number (created (layout_by shard.old) shard.old.asked).image)) }
-    ensures refused { IfErr result (CreateIsRefused (A.faults shard.old.odd) (A.faults shard.new.odd)) }
+    ensures cause { IsErrOf result DeviceFault.Failed → Rose (A.faults shard.old.odd) (A.faults shard.new.odd) }
 {
     let Ok(made) = record_of(shard, 1) else {
-        return Err(OpenFault::NoMemory);
+        return Err(DeviceFault::NoMemory);
     };
-    match write_to(shard.alloc, &mut shard.even, &mut shard.odd, 1, &made) {
-        Ok(()) => Ok(()),
-        Err(DeviceFault::Failed) => Err(OpenFault::Area),
-        Err(DeviceFault::NoMemory) => Err(OpenFault::NoMemory),
-    }
+    write_to(shard.alloc, &mut shard.even, &mut shard.odd, 1, &made)
 }

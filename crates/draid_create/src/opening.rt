@@ -9,27 +9,18 @@ ghost use Rattle.draid_pool.specs.Whole.{IsWhole};
 ghost use Rattle.draid_create.specs.Opening.{AreOpened, CreateIs, HasBadArea, HasNewKits, HoldsUncommitted, IsAway, IsBackAgain, IsNewUber, IsOpened, NewPoolFailed, Opens, RecordsFailed, SameLeaves, ShelfIs};
 ghost use Rattle.draid_pool.specs.Taking.{IsAsBefore, TakesFirst};
 
+use crate::fault::{CreateFault, MetaslabRefused};
 use crate::metaslab::create_metaslab;
 use draid_area::Area;
 use draid_names::DeviceFault;
 use draid_perm::Perms;
-use draid_pool::{EVENTS, OpenFault, OpenRefused, Pool, PoolFault, give_back};
+use draid_pool::{EVENTS, Pool, give_back};
 use draid_shard::Shard;
 use draid_shelf::Shelf;
 use draid_spec::{Geometry, Props, Spec, geometry};
 use draid_uber::Uber;
 use std::alloc::Global;
 use std::collections::HashMap;
-
-/// Why a new metaslab wasn't made: its area failed, or there was no memory.
-fn device_fault(why: OpenFault) -> DeviceFault
-    ensures { result ≡ DeviceFault.Failed → why ≡ OpenFault.Area }
-{
-    match why {
-        OpenFault::Area => DeviceFault::Failed,
-        OpenFault::Record { .. } | OpenFault::NoMemory => DeviceFault::NoMemory,
-    }
-}
 
 /// Takes the devices of a new metaslab, and opens it. After a refusal they are on the shelf.
 fn open_shard<H: Shelf>(
@@ -56,9 +47,9 @@ fn open_shard<H: Shelf>(
     let events = EVENTS / u64::from(layout.props.metaslabs);
     match create_metaslab(alloc, number, layout, perms, kit, events) {
         Ok(shard) => Ok(shard),
-        Err(OpenRefused { kit, why }) => {
+        Err(MetaslabRefused { kit, why }) => {
             shelf.give(number, kit);
-            Err(device_fault(why))
+            Err(why)
         }
     }
 }
@@ -179,7 +170,7 @@ pub fn create<H: Shelf>(
     shelf: &mut H,
     spec: Spec,
     props: Props,
-) -> Result<Pool<H::R, H::A>, PoolFault>
+) -> Result<Pool<H::R, H::A>, CreateFault>
     requires spec { IsSpec props.version spec }
     ensures whole { IfOk result (IsWhole H.R.Rack H.A.Area) }
     ensures answer { CreateIs H.R.Rack H.A.Area spec props (H.told shelf.new) (H.leaves shelf.new) (H.faults shelf.old) (H.faults shelf.new) (H.counts shelf.new)
@@ -192,9 +183,9 @@ pub fn create<H: Shelf>(
     match geometry(spec, props) {
         Ok(layout) => match make_pool(alloc, shelf, layout) {
             Ok(pool) => Ok(pool),
-            Err(DeviceFault::Failed) => Err(PoolFault::Shelf),
-            Err(DeviceFault::NoMemory) => Err(PoolFault::NoMemory),
+            Err(DeviceFault::Failed) => Err(CreateFault::Shelf),
+            Err(DeviceFault::NoMemory) => Err(CreateFault::NoMemory),
         },
-        Err(fault) => Err(PoolFault::Spec(fault)),
+        Err(fault) => Err(CreateFault::Spec(fault)),
     }
 }

@@ -35,8 +35,8 @@ use Rattle.draid_shard.specs.Changes.{SetsBlock}
 use Rattle.draid_shard.specs.Fits.{Valid}
 use Rattle.draid_import.specs.Reopening.{GivesBack, Opens, area_of_kit, OpenIsRefused}
 use Rattle.draid_shard.specs.Part.{Part}
-use Rattle.draid_pool.specs.declared.group_fault.OpenFault.{OpenFault}
-use Rattle.draid_pool.specs.declared.group_fault.OpenFault.TheVariants as why_not
+use Rattle.draid_import.specs.declared.fault.OpenFault.{OpenFault}
+use Rattle.draid_import.specs.declared.fault.OpenFault.TheVariants as why_not
 use Rattle.draid_shard.specs.States.{layout_by, part_of}
 use Rattle.draid_shard.specs.declared.shard.Shard.{Shard}
 use Rattle.draid_shard.proofs.Held.{held_entry, key_leads}
@@ -48,11 +48,10 @@ use Rattle.draid_uber.specs.Uber.{kept_of, layout_of, next_leaf_of, version_of}
 use Rattle.draid_found.specs.Found.{AllLive, AreFound, AreReady}
 use Rattle.draid_import.specs.Found.{AnyRecordsRose, AreFreed, AreReopened, CountsLater, FreesAt, FreesOlder, FreesIfOlder, IsFoundUber, IsReopened, IsShardFault, LeavesUber, OpensOver, RecordsRose, SameButFlushed, SameChecks, StaysHeld}
 use Rattle.draid_pool.specs.Returning.{Returns, TakesBack}
-use Rattle.draid_import.specs.Importing.{IsNotSpec}
 use Rattle.draid_pool.specs.Taking.{TakesFirst}
 use Rattle.draid_pool.specs.Whole.{IsWhole}
-use Rattle.draid_pool.specs.declared.fault.PoolFault.{PoolFault}
-use Rattle.draid_pool.specs.declared.fault.PoolFault.TheVariants as fault
+use Rattle.draid_import.specs.declared.fault.ImportFault.{ImportFault}
+use Rattle.draid_import.specs.declared.fault.ImportFault.TheVariants as fault
 use Rattle.draid_pool.specs.declared.pool.Pool.{Pool}
 use Rattle.draid_pool.proofs.Returned.{at_end, put_here as placed_here, put_there as placed_there}
 use Rattle.draid_pool.proofs.Lists.{get_set_other, get_set_same, present, some_of}
@@ -185,14 +184,6 @@ counts_later before after same = record {
   odd = (let odd = ap (λ (k : shelf.KitCounts). k.odd) same in omega (arith, odd));
 }
 
--- neither fault of what was asked for
-pub shard_not_spec : (why : PoolFault) → IsShardFault why → IsNotSpec why
-shard_not_spec (fault.Spec why) is = is
-shard_not_spec fault.NoPool is = tt
-shard_not_spec (fault.Record metaslab place kind) is = tt
-shard_not_spec fault.Shelf is = tt
-shard_not_spec fault.NoMemory is = tt
-
 -- the area of a group that failed is one of the metaslab's
 pub records_rose : {R A : Type 0} (faults : A → ℕ) (old new : Kit R A) (group : ℕ) (before after : shelf.KitCounts) → faults old.even ≡ before.even → faults old.odd ≡ before.odd → after.even ≡ faults new.even → after.odd ≡ faults new.odd
     → Rose (faults (area_of_kit old group)) (faults (area_of_kit new group)) → RecordsRose before after
@@ -218,7 +209,7 @@ refused_area rack faults told geometry number old new group next why_not.Area h 
 refused_area rack faults told geometry number old new group next (why_not.Record place kind) h is = absurd (cc)
 refused_area rack faults told geometry number old new group next why_not.NoMemory h is = absurd (cc)
 
-pub fault_is : {T : Type 0} (why : PoolFault) → IsErrOf {T = T} (Err why) fault.Shelf → why ≡ fault.Shelf
+pub fault_is : {T : Type 0} (why : ImportFault) → IsErrOf {T = T} (Err why) fault.Shelf → why ≡ fault.Shelf
 fault_is why failed = cc
 
 -- where an uberblock was found its area was held
@@ -258,7 +249,7 @@ kit_back rack told old new group o n back is =
     subst (λ (k : Option shelf.KitTold). shelf.OnHeld o (λ x. k ≡ x.kits n)) (sym (λ i. shelf.kit_of (rack.told (back.rack i)) (both.0 i) (both.1 i))) is
 
 -- a failure is one whatever the answer would have been
-pub refused_too : {T U : Type 0} (why : PoolFault) → IsErrOf {T = T} (Err why) fault.Shelf → IsErrOf {T = U} (Err why) fault.Shelf
+pub refused_too : {T U : Type 0} (why : ImportFault) → IsErrOf {T = T} (Err why) fault.Shelf → IsErrOf {T = U} (Err why) fault.Shelf
 refused_too why failed = (let same : why ≡ fault.Shelf = cc in ap Err same)
 
 -- ---- metaslabs

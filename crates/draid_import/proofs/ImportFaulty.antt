@@ -13,8 +13,8 @@ use Rattle.draid_shelf.specs.Shelf.{IsKnown}
 use Rattle.draid_shelf.specs.declared.kit.Kit.{Kit}
 use Rattle.draid_spec.specs.declared.layout.Geometry.{Geometry}
 use Rattle.draid_import.specs.Reopening.{OpenIsRefused}
-use Rattle.draid_pool.specs.declared.group_fault.OpenFault.{OpenFault}
-use Rattle.draid_pool.specs.declared.group_fault.OpenFault.TheVariants as open_why
+use Rattle.draid_import.specs.declared.fault.OpenFault.{OpenFault}
+use Rattle.draid_import.specs.declared.fault.OpenFault.TheVariants as open_why
 use Rattle.draid_shard.specs.declared.shard.Shard.{Shard}
 use Rattle.draid_found.specs.Together.{AreApart}
 use Rattle.draid_record.specs.declared.uber.UberBody.{UberBody}
@@ -28,16 +28,16 @@ use Rattle.draid_uber.specs.declared.uber.UberFault.TheVariants as uber_why
 use Rattle.draid_import.specs.Faulty.{HoldsNoGroup, IsUnread, TellsBody, UberIsBad}
 use Rattle.draid_import.specs.Found.{IsKitOf, IsShardFault, open_fault_of, shelf_fault_of, uber_fault_of}
 use Rattle.draid_pool.specs.Taking.{TakesFirst}
-use Rattle.draid_pool.specs.declared.fault.PoolFault.{PoolFault}
-use Rattle.draid_pool.specs.declared.fault.PoolFault.TheVariants as fault
+use Rattle.draid_import.specs.declared.fault.ImportFault.{ImportFault}
+use Rattle.draid_import.specs.declared.fault.ImportFault.TheVariants as fault
 use Rattle.draid_pool.proofs.Takings.{from_first}
 
 -- the fault of an answer
-pub err_is : {T : Type 0} (f g : PoolFault) → IsErrOf {T = T} (Err f) g → f ≡ g
+pub err_is : {T : Type 0} (f g : ImportFault) → IsErrOf {T = T} (Err f) g → f ≡ g
 err_is f g err = cc
 
 -- one that is passed on
-pub passed_on : {T U : Type 0} (r : Result T PoolFault) (y f w : PoolFault) → r ≡ Err y → y ≡ f → IsErrOf r w → IsErrOf {T = U} (Err f) w
+pub passed_on : {T U : Type 0} (r : Result T ImportFault) (y f w : ImportFault) → r ≡ Err y → y ≡ f → IsErrOf r w → IsErrOf {T = U} (Err f) w
 passed_on {T} r y f w is same err = (let it : f ≡ w = sym same ∙ err_is {T = T} y w (sym is ∙ err) in ap Err it)
 
 -- metaslabs that aren't those of one pool
@@ -91,11 +91,10 @@ shelf_not_empty device.Failed is = cc
 shelf_not_empty device.NoMemory is = cc
 
 -- nor does one behind the uberblock
-pub shard_not_empty : {T : Type 0} (why : PoolFault) → IsShardFault why → IsErrOf {T = T} (Err why) fault.NoPool → ⊥
+pub shard_not_empty : {T : Type 0} (why : ImportFault) → IsShardFault why → IsErrOf {T = T} (Err why) fault.NoPool → ⊥
 shard_not_empty {T} why is err = by why is (err_is {T = T} why fault.NoPool err)
   where
-    by : (w : PoolFault) → IsShardFault w → w ≡ fault.NoPool → ⊥
-    by (fault.Spec s) is same = is
+    by : (w : ImportFault) → IsShardFault w → w ≡ fault.NoPool → ⊥
     by fault.NoPool is same = is
     by (fault.Record metaslab place kind) is same = cc
     by fault.Shelf is same = cc

@@ -35,8 +35,8 @@ use Rattle.draid_import.specs.Imported.{FindsBody, OpensFound, RestsFound}
 use Rattle.draid_import.specs.Importing.{ImportIs, LeavesPool, RestsThere}
 use Rattle.draid_pool.specs.Taking.{TakesFirst}
 use Rattle.draid_pool.specs.Ubers.{UberStands}
-use Rattle.draid_pool.specs.declared.fault.PoolFault.{PoolFault}
-use Rattle.draid_pool.specs.declared.fault.PoolFault.TheVariants as fault
+use Rattle.draid_import.specs.declared.fault.ImportFault.{ImportFault}
+use Rattle.draid_import.specs.declared.fault.ImportFault.TheVariants as fault
 use Rattle.draid_pool.proofs.Returned.{kit_is}
 use Rattle.draid_import.proofs.Found.{counts_later, stays_same}
 use Rattle.draid_import.proofs.ImportFound.{finds_image}
@@ -325,9 +325,8 @@ pub rests_known : (x : State) (pieces : ℕ → Pieces) (o : Option Held) (leave
 rests_known x pieces o leaves now counts count same there = subst (λ (s : ℕ → Option Shape). RestsThere x pieces o s counts count) (sym (ext now leaves same)) there
 
 -- a refusal that is neither a fault of what was asked for nor of a record
-pub refusal_is : {T R A : Type 0} (rack : racks.Ghosts R) (area : areas.Ghosts A) (x : State) (pieces : ℕ → Pieces) (told : Option Held) (leaves : ℕ → Option Shape) (counts : ℕ → KitCounts) (n : ℕ) (why : PoolFault)
+pub refusal_is : {T R A : Type 0} (rack : racks.Ghosts R) (area : areas.Ghosts A) (x : State) (pieces : ℕ → Pieces) (told : Option Held) (leaves : ℕ → Option Shape) (counts : ℕ → KitCounts) (n : ℕ) (why : ImportFault)
     → IsShardFault why → NoRecord {T = T} (Err why) → LeavesPool x pieces told leaves counts n → ImportIs rack area x pieces told leaves counts n (Err why)
-refusal_is rack area x pieces told leaves counts n (fault.Spec why) may no_record left = absurd may
 refusal_is rack area x pieces told leaves counts n fault.NoPool may no_record left = absurd may
 refusal_is rack area x pieces told leaves counts n (fault.Record metaslab place kind) may no_record left = absurd (no_record metaslab place kind refl)
 refusal_is rack area x pieces told leaves counts n fault.Shelf may no_record left = left

@@ -17,8 +17,8 @@ use Rattle.draid_pool.specs.Returning.{OwnCounts}
 use Rattle.draid_import.specs.Found.{shelf_fault_of, uber_fault_of}
 use Rattle.draid_import.specs.Importing.{FindsNoPool, LeavesMade}
 use Rattle.draid_pool.specs.Taking.{HoldsMade}
-use Rattle.draid_pool.specs.declared.fault.PoolFault.{PoolFault}
-use Rattle.draid_pool.specs.declared.fault.PoolFault.TheVariants as fault
+use Rattle.draid_import.specs.declared.fault.ImportFault.{ImportFault}
+use Rattle.draid_import.specs.declared.fault.ImportFault.TheVariants as fault
 use Rattle.draid_pool.proofs.Refusing.{passed_back}
 
 -- zeros have no open gate
@@ -51,7 +51,7 @@ made_not geometry (Some held) was kept Q own finds some made =
 
 module _ {P : Type 0} (geometry : Geometry) where
   -- the shelf as it was
-  pub made_same : (o new : Option Held) (before after : ℕ → KitCounts) (own now : OwnCounts) (result : Result P PoolFault) → FindsNoPool result → new ≡ o → ((m : ℕ) → after m ≡ before m) → now.uber ≡ own.uber → now.checks ≡ own.checks
+  pub made_same : (o new : Option Held) (before after : ℕ → KitCounts) (own now : OwnCounts) (result : Result P ImportFault) → FindsNoPool result → new ≡ o → ((m : ℕ) → after m ≡ before m) → now.uber ≡ own.uber → now.checks ≡ own.checks
       → IsSomeAnd o (HoldsMade geometry) → LeavesMade geometry result new before after own now
   made_same o new before after own now result none told counts uber checks made = record {
     none = none;
@@ -62,7 +62,7 @@ module _ {P : Type 0} (geometry : Geometry) where
   }
 
   -- the area wasn't taken
-  pub made_untaken : (o new : Option Held) (before after : ℕ → KitCounts) (own now : OwnCounts) (why : DeviceFault) (result : Result P PoolFault) → result ≡ Err (shelf_fault_of why) → new ≡ o → ((m : ℕ) → after m ≡ before m) → now.uber ≡ own.uber
+  pub made_untaken : (o new : Option Held) (before after : ℕ → KitCounts) (own now : OwnCounts) (why : DeviceFault) (result : Result P ImportFault) → result ≡ Err (shelf_fault_of why) → new ≡ o → ((m : ℕ) → after m ≡ before m) → now.uber ≡ own.uber
       → now.checks ≡ own.checks → IsSomeAnd o (HoldsMade geometry) → LeavesMade geometry result new before after own now
   made_untaken o new before after own now why result is told counts uber checks made =
       made_same o new before after own now result (subst FindsNoPool (sym is) (by why)) told counts uber checks made
@@ -72,7 +72,7 @@ module _ {P : Type 0} (geometry : Geometry) where
       by device.NoMemory = tt
 
   -- the area was recovered, and given back
-  pub made_left : (o mid new : Option Held) (before after : ℕ → KitCounts) (own now : OwnCounts) (was is : Option Content) (why : UberFault) (result : Result P PoolFault) → result ≡ Err (uber_fault_of why)
+  pub made_left : (o mid new : Option Held) (before after : ℕ → KitCounts) (own now : OwnCounts) (was is : Option Content) (why : UberFault) (result : Result P ImportFault) → result ≡ Err (uber_fault_of why)
       → OnHeld o (λ held. was ≡ held.uber) → OnTold was (λ c. FindsFault why (chosen_of c.bytes)) → IsSameOrFlushed was is → mid ≡ takes_uber o → new ≡ gives_uber is mid
       → ((m : ℕ) → after m ≡ before m) → own.uber ≤ now.uber → now.checks ≡ own.checks → IsSomeAnd o (HoldsMade geometry) → LeavesMade geometry result new before after own now
   made_left None mid new before after own now was is why result refused area finds flushed taken told counts uber checks made = absurd made
@@ -109,25 +109,24 @@ module _ {P : Type 0} (geometry : Geometry) where
 
 -- ---- a refusal that is passed on
 
-finds_as : (P Q : Type 0) (f : PoolFault) → FindsNoPool {P = P} (Err f) → FindsNoPool {P = Q} (Err f)
-finds_as P Q (fault.Spec why) h = h
+finds_as : (P Q : Type 0) (f : ImportFault) → FindsNoPool {P = P} (Err f) → FindsNoPool {P = Q} (Err f)
 finds_as P Q fault.NoPool h = h
 finds_as P Q (fault.Record metaslab place kind) h = h
 finds_as P Q fault.Shelf h = h
 finds_as P Q fault.NoMemory h = h
 
-pub made_passed : (P Q : Type 0) (geometry : Geometry) (r : Result Q PoolFault) (f : PoolFault) (told : Option Held) (before after : ℕ → KitCounts) (own now : OwnCounts) → IsErrAnd r (λ y. y ≡ f)
+pub made_passed : (P Q : Type 0) (geometry : Geometry) (r : Result Q ImportFault) (f : ImportFault) (told : Option Held) (before after : ℕ → KitCounts) (own now : OwnCounts) → IsErrAnd r (λ y. y ≡ f)
     → LeavesMade {P = P} geometry (Err f) told before after own now → LeavesMade geometry r told before after own now
 made_passed P Q geometry (Ok x) f told before after own now h m = absurd h
 made_passed P Q geometry (Err y) f told before after own now h m = record {
-  none = finds_as P Q y (subst (λ (z : PoolFault). FindsNoPool {P = P} (Err z)) (sym h) m.none);
+  none = finds_as P Q y (subst (λ (z : ImportFault). FindsNoPool {P = P} (Err z)) (sym h) m.none);
   held = m.held;
   counts = m.counts;
   uber = m.uber;
   checks = m.checks;
 }
 
-pub none_passed : (P Q : Type 0) (o : Option Held) (r : Result Q PoolFault) (f : PoolFault) (B : Type 0) → IsErrAnd r (λ y. y ≡ f)
+pub none_passed : (P Q : Type 0) (o : Option Held) (r : Result Q ImportFault) (f : ImportFault) (B : Type 0) → IsErrAnd r (λ y. y ≡ f)
     → OnHeld o (λ held. held.uber ≡ None → IsErrOf {T = P} (Err f) fault.NoPool × B) → OnHeld o (λ held. held.uber ≡ None → IsErrOf r fault.NoPool × B)
 none_passed P Q None r f B h n = tt
 none_passed P Q (Some x) r f B h n = λ none. (let both = n none in (passed_back r f fault.NoPool h both.0, both.1))

@@ -34,8 +34,8 @@ use Rattle.draid_import.specs.Importing.{RestsThere}
 use Rattle.draid_pool.specs.Objects.{blocks_of}
 use Rattle.draid_pool.specs.Pools.{part_in}
 use Rattle.draid_found.specs.Together.{AreApart, HasBlock, HaveSameArms}
-use Rattle.draid_pool.specs.declared.fault.PoolFault.{PoolFault}
-use Rattle.draid_pool.specs.declared.fault.PoolFault.TheVariants as fault
+use Rattle.draid_import.specs.declared.fault.ImportFault.{ImportFault}
+use Rattle.draid_import.specs.declared.fault.ImportFault.TheVariants as fault
 use Rattle.draid_import.proofs.ImportAlike.{as_many, found_alike, found_once, same_arms}
 use Rattle.draid_import.proofs.ImportFound.{part_there}
 use Rattle.draid_import.proofs.ImportOpened.{all_reached}
@@ -112,7 +112,7 @@ module _ {R A : Type 0} (rack : racks.Ghosts R) (area : areas.Ghosts A) (x : Sta
 
 -- and no fault of them is an answer
 pub no_fault_apart : {R A T : Type 0} (alloc : Global) (rack : racks.Ghosts R) (area : areas.Ghosts A) (x : State) (pieces : ℕ → Pieces) (o mid : Option Held) (leaves known : ℕ → Option Shape) (counts now : ℕ → KitCounts) (count : ℕ) (uber : Uber A)
-    (shards : List (Shard R A)) (f : PoolFault) → RestsThere x pieces o leaves counts count → IsFoundUber area uber → IsRecovered area o count uber
+    (shards : List (Shard R A)) (f : ImportFault) → RestsThere x pieces o leaves counts count → IsFoundUber area uber → IsRecovered area o count uber
     → ((k : ℕ) → now k ≡ counts k) → mid ≡ takes_uber o → AreReopened rack (layout_of uber) (group_of (kept_of uber)) shards
     → OpensAllOver rack area (limit_of (layout_of uber)) (group_of (kept_of uber)) (next_leaf_of uber) mid known now shards
     → ((metaslab : Option ℕ) (place kind : ℕ) → IsErrOf {T = T} (Err f) (fault.Record metaslab place kind) → AreApart shards metaslab place kind) → NoRecord {T = T} (Err f)

@@ -28,7 +28,7 @@ use Rattle.draid_shelf.specs.declared.kit.Kit.{Kit}
 use Rattle.draid_segments.specs.Segments.{Pieces}
 use Rattle.draid_pool.specs.Groups.{ListsOnce, at_version}
 use Rattle.draid_import.specs.Reopening.{OpenIsRefused}
-use Rattle.draid_pool.specs.declared.group_fault.OpenFault.TheVariants as fault
+use Rattle.draid_import.specs.declared.fault.OpenFault.TheVariants as fault
 use Rattle.draid_session.specs.State.{Metaslab, State}
 use Rattle.draid_pool.specs.Importable.{HasImageLeaves}
 use Rattle.draid_pool.proofs.Returned.{kit_is}

@@ -14,8 +14,8 @@ use Rattle.draid_shelf.specs.declared.kit.Kit.{Kit}
 use Rattle.draid_stable.specs.Stable as stable
 use Rattle.draid_pool.specs.Groups.{ListsOnce}
 use Rattle.draid_import.specs.Reopening.{OpenIsRefused}
-use Rattle.draid_pool.specs.declared.group_fault.OpenFault.{OpenFault}
-use Rattle.draid_pool.specs.declared.group_fault.OpenFault.TheVariants as open_why
+use Rattle.draid_import.specs.declared.fault.OpenFault.{OpenFault}
+use Rattle.draid_import.specs.declared.fault.OpenFault.TheVariants as open_why
 use Rattle.draid_uber.specs.Slots.{group_of}
 use Rattle.draid_uber.specs.Uber.{kept_of, layout_of, next_leaf_of}
 use Rattle.draid_uber.specs.declared.uber.Uber.{Uber}
@@ -24,8 +24,8 @@ use Rattle.draid_import.specs.Found.{IsFoundUber, IsRecovered, NoRecord, open_fa
 use Rattle.draid_pool.specs.Importable.{HasImageLeaves}
 use Rattle.draid_import.specs.Importing.{RestsThere}
 use Rattle.draid_pool.specs.Taking.{TakesFirst}
-use Rattle.draid_pool.specs.declared.fault.PoolFault.{PoolFault}
-use Rattle.draid_pool.specs.declared.fault.PoolFault.TheVariants as fault
+use Rattle.draid_import.specs.declared.fault.ImportFault.{ImportFault}
+use Rattle.draid_import.specs.declared.fault.ImportFault.TheVariants as fault
 use Rattle.draid_import.proofs.ImportFound.{finds_image}
 use Rattle.draid_import.proofs.ImportMetaslab.{FindsImage}
 use Rattle.draid_import.proofs.ImportOpened.{rested}
@@ -35,15 +35,15 @@ use Rattle.draid_pool.proofs.Lists.{present}
 use Rattle.draid_pool.proofs.Takings.{from_first}
 
 -- a call on the shelf that gave nothing isn't a record's fault
-pub no_shelf_record : {T : Type 0} (why : DeviceFault) (f : PoolFault) → f ≡ shelf_fault_of why → NoRecord {T = T} (Err f)
-no_shelf_record {T} why f is = subst (λ (g : PoolFault). NoRecord {T = T} (Err g)) (sym is) (by why)
+pub no_shelf_record : {T : Type 0} (why : DeviceFault) (f : ImportFault) → f ≡ shelf_fault_of why → NoRecord {T = T} (Err f)
+no_shelf_record {T} why f is = subst (λ (g : ImportFault). NoRecord {T = T} (Err g)) (sym is) (by why)
   where
     by : (why : DeviceFault) → NoRecord {T = T} (Err (shelf_fault_of why))
     by device.Failed metaslab place kind err = absurd (cc)
     by device.NoMemory metaslab place kind err = absurd (cc)
 
 -- one fault of two answers
-pub no_record_too : {T U : Type 0} (f : PoolFault) → NoRecord {T = T} (Err f) → NoRecord {T = U} (Err f)
+pub no_record_too : {T U : Type 0} (f : ImportFault) → NoRecord {T = T} (Err f) → NoRecord {T = U} (Err f)
 no_record_too f none metaslab place kind err = none metaslab place kind (let same : f ≡ fault.Record metaslab place kind = cc in ap Err same)
 
 known_leaves : (o : Option Shape) (shape : Shape) (P : Shape → Type 0) → IsKnown o shape → IsSomeAnd o P → P shape
@@ -75,13 +75,13 @@ module _ {R A : Type 0} (rack : racks.Ghosts R) (area : areas.Ghosts A) (x : Sta
 
 -- so that it isn't why the metaslab wasn't opened
 pub no_open_record : {T R A : Type 0} (rack : racks.Ghosts R) (area : areas.Ghosts A) (x : State) (pieces : ℕ → Pieces) (o now : Option Held) (leaves : ℕ → Option Shape) (counts : ℕ → KitCounts) (count : ℕ) (uber : Uber A)
-    (m : ℕ) (old new : Kit R A) (known : Option Shape) (why : OpenFault) (f : PoolFault) → f ≡ open_fault_of m why → RestsThere x pieces o leaves counts count → IsFoundUber area uber → IsRecovered area o count uber
+    (m : ℕ) (old new : Kit R A) (known : Option Shape) (why : OpenFault) (f : ImportFault) → f ≡ open_fault_of m why → RestsThere x pieces o leaves counts count → IsFoundUber area uber → IsRecovered area o count uber
     → m < (layout_of uber).props.metaslabs → TakesFirst m (takes_uber o) now → OnHeld now (λ h. kit_of (rack.told old.rack) (area.told old.even) (area.told old.odd) ≡ h.kits m)
     → known ≡ leaves m → IsKnown known (rack.shape old.rack)
     → OpenIsRefused rack area.faults area.told (layout_of uber) m old new (group_of (kept_of uber)) (next_leaf_of uber) why → NoRecord {T = T} (Err f)
 no_open_record {T} rack area x pieces None now leaves counts count uber m old new known why f is there found r below takes told same shape refused = absurd there.held
 no_open_record {T} rack area x pieces (Some held) now leaves counts count uber m old new known why f is there found r below takes told same shape refused =
-    subst (λ (g : PoolFault). NoRecord {T = T} (Err g)) (sym is) (by why refused)
+    subst (λ (g : ImportFault). NoRecord {T = T} (Err g)) (sym is) (by why refused)
   where
     own : kit_of (rack.told old.rack) (area.told old.even) (area.told old.odd) ≡ held.kits m
     own = from_first m (takes_uber (Some held)) now (λ k. kit_of (rack.told old.rack) (area.told old.even) (area.told old.odd) ≡ k) takes told

@@ -23,3 +23,4 @@ pub mod Once
 pub mod OneAnswer
 pub mod Opened
 pub mod Reopened
+pub mod Unfound

@@ -23,8 +23,8 @@ use Rattle.draid_entries.specs.History.{limit_in}
 use Rattle.draid_entries.specs.Maps.{staged}
 use Rattle.draid_segments.specs.Segments.{Pieces}
 use Rattle.draid_session.specs.State.{Metaslab, State, limit_of}
-use Rattle.draid_pool.specs.declared.fault.PoolFault.{PoolFault}
-use Rattle.draid_pool.specs.declared.fault.PoolFault.TheVariants as fault
+use Rattle.draid_import.specs.declared.fault.ImportFault.{ImportFault}
+use Rattle.draid_import.specs.declared.fault.ImportFault.TheVariants as fault
 use Rattle.draid_pool.specs.Returning.{TakesBack}
 use Rattle.draid_import.specs.Imported.{IsFoundOf}
 use Rattle.draid_pool.specs.Metaslabs.{IsMetaslab}
@@ -35,8 +35,8 @@ use Rattle.draid_shard.specs.Fits.{Valid}
 use Rattle.draid_import.specs.Reopening.{Opens, OpensCounts}
 use Rattle.draid_shard.specs.Part.{Part}
 use Rattle.draid_shard.specs.States.{part_of}
-use Rattle.draid_pool.specs.declared.group_fault.OpenFault.{OpenFault}
-use Rattle.draid_pool.specs.declared.group_fault.OpenFault.TheVariants as open_fault
+use Rattle.draid_import.specs.declared.fault.OpenFault.{OpenFault}
+use Rattle.draid_import.specs.declared.fault.OpenFault.TheVariants as open_fault
 use Rattle.draid_shard.specs.declared.shard.Shard.{Shard}
 use Rattle.draid_found.specs.Found.{AllLive}
 use Rattle.draid_uber.specs.declared.uber.Uber.{Uber}
@@ -139,33 +139,32 @@ pub record LeavesShards {R A : Type 0} (rack : racks.Ghosts R) (area : areas.Gho
 -- ---- refusals
 
 -- why an import is refused where the uberblock wasn't recovered
-abbrev pub uber_fault_of : UberFault → PoolFault
+abbrev pub uber_fault_of : UberFault → ImportFault
 uber_fault_of uber_fault.Area = fault.Shelf
 uber_fault_of uber_fault.NoMemory = fault.NoMemory
 uber_fault_of uber_fault.Empty = fault.NoPool
 uber_fault_of (uber_fault.Record place kind) = fault.Record None place kind
 
 -- or a call on the shelf gave nothing
-abbrev pub shelf_fault_of : DeviceFault → PoolFault
+abbrev pub shelf_fault_of : DeviceFault → ImportFault
 shelf_fault_of device.Failed = fault.Shelf
 shelf_fault_of device.NoMemory = fault.NoMemory
 
 -- or a metaslab wasn't opened
-abbrev pub open_fault_of : ℕ → OpenFault → PoolFault
+abbrev pub open_fault_of : ℕ → OpenFault → ImportFault
 open_fault_of number open_fault.Area = fault.Shelf
 open_fault_of number open_fault.NoMemory = fault.NoMemory
 open_fault_of number (open_fault.Record place kind) = fault.Record (Some number) place kind
 
 -- why metaslabs are not opened, or their blocks not found: neither of the faults of what was asked for
-abbrev pub IsShardFault : PoolFault → Type 0
-IsShardFault (fault.Spec why) = ⊥
+abbrev pub IsShardFault : ImportFault → Type 0
 IsShardFault fault.NoPool = ⊥
 IsShardFault (fault.Record metaslab place kind) = ⊤
 IsShardFault fault.Shelf = ⊤
 IsShardFault fault.NoMemory = ⊤
 
 -- the answer isn't that a record has a fault
-abbrev pub NoRecord : {T : Type 0} → Result T PoolFault → Type 0
+abbrev pub NoRecord : {T : Type 0} → Result T ImportFault → Type 0
 NoRecord result = (metaslab : Option ℕ) (place kind : ℕ) → IsErrOf result (fault.Record metaslab place kind) → ⊥
 
 -- ---- the uberblock

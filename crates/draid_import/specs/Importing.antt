@@ -13,8 +13,8 @@ use Rattle.draid_pool.specs.Returning.{OwnCounts, Rests, SameCounts}
 use Rattle.draid_pool.specs.Importable.{IsImportable}
 use Rattle.draid_pool.specs.Taking.{HoldsMade}
 use Rattle.draid_pool.specs.Pools.{Represents}
-use Rattle.draid_pool.specs.declared.fault.PoolFault.{PoolFault}
-use Rattle.draid_pool.specs.declared.fault.PoolFault.TheVariants as fault
+use Rattle.draid_import.specs.declared.fault.ImportFault.{ImportFault}
+use Rattle.draid_import.specs.declared.fault.ImportFault.TheVariants as fault
 use Rattle.draid_pool.specs.declared.pool.Pool.{Pool}
 
 -- The pool of a state rests on a shelf that tells, and the shelf has its counts.
@@ -43,33 +43,26 @@ pub record FindsNone (x : State) (pieces : ℕ → Pieces) (told : Option Held) 
   pub is : FindsNoGroup x y
   pub rests : RestsThere y pieces told leaves counts uber_count
 
--- a fault isn't that of a spec
-abbrev pub IsNotSpec : PoolFault → Type 0
-IsNotSpec (fault.Spec why) = ⊥
-IsNotSpec why = ⊤
-
 -- The answer. No record of such a pool has a fault.
-abbrev pub ImportIs : {R A : Type 0} → racks.Ghosts R → areas.Ghosts A → State → (ℕ → Pieces) → Option Held → (ℕ → Option Shape) → (ℕ → KitCounts) → ℕ → Result (Pool R A) PoolFault → Type 0
+abbrev pub ImportIs : {R A : Type 0} → racks.Ghosts R → areas.Ghosts A → State → (ℕ → Pieces) → Option Held → (ℕ → Option Shape) → (ℕ → KitCounts) → ℕ → Result (Pool R A) ImportFault → Type 0
 ImportIs rack area x pieces told leaves counts uber_count (Ok pool) = ImportsPool rack area x pool
 ImportIs rack area x pieces told leaves counts uber_count (Err fault.NoPool) = FindsNone x pieces told leaves counts uber_count
 ImportIs rack area x pieces told leaves counts uber_count (Err (fault.Record metaslab place kind)) = ⊥
-ImportIs rack area x pieces told leaves counts uber_count (Err (fault.Spec why)) = ⊥
 ImportIs rack area x pieces told leaves counts uber_count (Err fault.Shelf) = LeavesPool x pieces told leaves counts uber_count
 ImportIs rack area x pieces told leaves counts uber_count (Err fault.NoMemory) = LeavesPool x pieces told leaves counts uber_count
 
 -- ---- a new pool
 
 -- none is found, or it is refused for a device or for want of memory
-abbrev pub FindsNoPool : {P : Type 0} → Result P PoolFault → Type 0
+abbrev pub FindsNoPool : {P : Type 0} → Result P ImportFault → Type 0
 FindsNoPool (Ok pool) = ⊥
 FindsNoPool (Err fault.NoPool) = ⊤
 FindsNoPool (Err (fault.Record metaslab place kind)) = ⊥
-FindsNoPool (Err (fault.Spec why)) = ⊥
 FindsNoPool (Err fault.Shelf) = ⊤
 FindsNoPool (Err fault.NoMemory) = ⊤
 
 -- So it is over the devices of a new pool, to which no uberblock was committed. They are there still, and only calls on the area of the uberblock may have failed.
-pub record LeavesMade {P : Type 0} (geometry : Geometry) (result : Result P PoolFault) (told : Option Held) (before after : ℕ → KitCounts) (own now : OwnCounts) : Type 0 where
+pub record LeavesMade {P : Type 0} (geometry : Geometry) (result : Result P ImportFault) (told : Option Held) (before after : ℕ → KitCounts) (own now : OwnCounts) : Type 0 where
   pub none : FindsNoPool result
   pub held : IsSomeAnd told (HoldsMade geometry)
   pub counts : (m : ℕ) → after m ≡ before m

@@ -16,8 +16,8 @@ use Rattle.draid_record.specs.declared.fault.RecordFault.TheVariants.{Bad}
 use Rattle.draid_stable.specs.Opening.{AreRead, block_at, has_leaf, opening_of, KeepsCounts, arms_told}
 use Rattle.draid_stable.specs.declared.opening.Tables.{Tables}
 use Rattle.draid_shard.specs.Fits.{owed_for_pass}
-use Rattle.draid_pool.specs.declared.group_fault.OpenFault.{OpenFault}
-use Rattle.draid_pool.specs.declared.group_fault.OpenFault.TheVariants as fault
+use Rattle.draid_import.specs.declared.fault.OpenFault.{OpenFault}
+use Rattle.draid_import.specs.declared.fault.OpenFault.TheVariants as fault
 use Rattle.draid_import.specs.declared.reopening.ReadTables.{ReadTables}
 use Rattle.draid_machine.specs.State as machine
 use Rattle.draid_segments.specs.Acts.{DropsBut, IsNamed}

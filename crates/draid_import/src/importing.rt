@@ -20,7 +20,7 @@ ghost use Rattle.draid_session.specs.State.{State, limit_of};
 ghost use Rattle.draid_import.specs.Faulty.{HoldsNoGroup, IsUnread, OneIsUnread, RecordIsBad, TellsBody, UberIsBad};
 ghost use Rattle.draid_import.specs.Findings.{IsMadeOf, IsReadPool, LeavesAll};
 ghost use Rattle.draid_import.specs.Imported.{AreNewest, IsFoundOf};
-ghost use Rattle.draid_import.specs.Importing.{ImportIs, ImportsPool, IsNotSpec, LeavesMade, RestsThere};
+ghost use Rattle.draid_import.specs.Importing.{ImportIs, ImportsPool, LeavesMade, RestsThere};
 ghost use Rattle.draid_pool.specs.Taking.{HoldsMade, IsAsBefore, TakesFirst};
 ghost use Rattle.draid_import.specs.Found.{AnyRecordsRose, AreFreed, AreReopened, CountsLater, FreesIfOlder, FreesOlder, HasOnly, HasRisen, IsFoundUber, IsRecovered, IsReopened, IsShardFault, KeepsFound, KeepsFoundAt, KeepsKnown, LeavesShards, LeavesUber, NoRecord, OpensAllOver, OpensOver, RecordsRose, SameChecks, StaysHeld, shelf_fault_of, uber_fault_of, open_fault_of};
 ghost use Rattle.draid_found.specs.Found.{AllLive, AreFound, AreReady};
@@ -28,13 +28,14 @@ ghost use Rattle.draid_found.specs.Together.{AreApart, AreTogether};
 ghost use Rattle.draid_pool.specs.Whole.{IsWhole};
 ghost use Rattle.draid_found.specs.declared.finding.Found.{Found};
 
+use crate::fault::{ImportFault, OpenFault, OpenRefused};
 use crate::reopening::reopen;
 use draid_area::Area;
 use draid_blocks::free;
 use draid_found::{Found, FoundFault};
 use draid_names::{DeviceFault, Pointer};
 use draid_perm::Perms;
-use draid_pool::{EVENTS, OpenFault, OpenRefused, Pool, PoolFault, give_back};
+use draid_pool::{EVENTS, Pool, give_back};
 use draid_rack::Rack;
 use draid_shard::Shard;
 use draid_shelf::Shelf;
@@ -43,16 +44,15 @@ use std::alloc::Global;
 use std::collections::HashMap;
 
 /// Why an uberblock gave no pool.
-fn uber_fault(why: UberFault) -> PoolFault
+fn uber_fault(why: UberFault) -> ImportFault
     ensures is { result ≡ uber_fault_of why }
-    ensures area { result ≡ PoolFault.Shelf → why ≡ UberFault.Area }
-    ensures not_spec { IsNotSpec result }
+    ensures area { result ≡ ImportFault.Shelf → why ≡ UberFault.Area }
 {
     match why {
-        UberFault::Area => PoolFault::Shelf,
-        UberFault::NoMemory => PoolFault::NoMemory,
-        UberFault::Empty => PoolFault::NoPool,
-        UberFault::Record { at, kind } => PoolFault::Record {
+        UberFault::Area => ImportFault::Shelf,
+        UberFault::NoMemory => ImportFault::NoMemory,
+        UberFault::Empty => ImportFault::NoPool,
+        UberFault::Record { at, kind } => ImportFault::Record {
             metaslab: None,
             at,
             kind,
@@ -61,15 +61,15 @@ fn uber_fault(why: UberFault) -> PoolFault
 }
 
 /// Why a metaslab wasn't opened.
-fn open_fault(number: u32, why: OpenFault) -> PoolFault
+fn open_fault(number: u32, why: OpenFault) -> ImportFault
     ensures is { result ≡ open_fault_of number why }
-    ensures area { result ≡ PoolFault.Shelf → why ≡ OpenFault.Area }
+    ensures area { result ≡ ImportFault.Shelf → why ≡ OpenFault.Area }
     ensures fault { IsShardFault result }
 {
     match why {
-        OpenFault::Area => PoolFault::Shelf,
-        OpenFault::NoMemory => PoolFault::NoMemory,
-        OpenFault::Record { at, kind } => PoolFault::Record {
+        OpenFault::Area => ImportFault::Shelf,
+        OpenFault::NoMemory => ImportFault::NoMemory,
+        OpenFault::Record { at, kind } => ImportFault::Record {
             metaslab: Some(number),
             at,
             kind,
@@ -78,15 +78,14 @@ fn open_fault(number: u32, why: OpenFault) -> PoolFault
 }
 
 /// Why a call on the shelf gave nothing.
-fn shelf_fault(why: DeviceFault) -> PoolFault
+fn shelf_fault(why: DeviceFault) -> ImportFault
     ensures is { result ≡ shelf_fault_of why }
-    ensures failed { result ≡ PoolFault.Shelf → why ≡ DeviceFault.Failed }
-    ensures not_spec { IsNotSpec result }
+    ensures failed { result ≡ ImportFault.Shelf → why ≡ DeviceFault.Failed }
     ensures fault { IsShardFault result }
 {
     match why {
-        DeviceFault::Failed => PoolFault::Shelf,
-        DeviceFault::NoMemory => PoolFault::NoMemory,
+        DeviceFault::Failed => ImportFault::Shelf,
+        DeviceFault::NoMemory => ImportFault::NoMemory,
     }
 }
 
@@ -96,20 +95,19 @@ fn has_length_told<A: Area>(area: &A)
 {}
 
 /// Takes the area of the uberblock, and finds the uberblock there. After a refusal the area is on the shelf.
-fn find_uber<H: Shelf>(shelf: &mut H) -> Result<Uber<H::A>, PoolFault>
+fn find_uber<H: Shelf>(shelf: &mut H) -> Result<Uber<H::A>, ImportFault>
     ensures found { IfOk result (IsFoundUber H.A.Area) }
-    ensures not_spec { IfErr result IsNotSpec }
     ensures recovered { IfOk result (IsRecovered H.A.Area (H.told shelf.old) (H.uber_count shelf.old)) }
     ensures told { OnOk result (H.told shelf.new ≡ takes_uber (H.told shelf.old)) }
     ensures body { IfOk result (TellsBody (H.told shelf.old)) }
-    ensures empty { IsErrOf result PoolFault.NoPool → HoldsNoGroup (H.told shelf.old) }
+    ensures empty { IsErrOf result ImportFault.NoPool → HoldsNoGroup (H.told shelf.old) }
     ensures back { OnErr result (LeavesUber (H.told shelf.old) (H.told shelf.new) (H.uber_count shelf.old) (H.uber_count shelf.new)) }
     ensures import { (x : State) (pieces : ℕ → Pieces)
         → RestsThere x pieces (H.told shelf.old) (H.leaves shelf.old) (H.counts shelf.old) (H.uber_count shelf.old)
         → IfErr result (λ why. ImportIs H.R.Rack H.A.Area x pieces (H.told shelf.new) (H.leaves shelf.new) (H.counts shelf.new) (H.uber_count shelf.new) (Err why)) }
     ensures leaves { (m : ℕ) → H.leaves shelf.new m ≡ H.leaves shelf.old m }
-    ensures faulty { (metaslab : Option ℕ) (place kind : ℕ) → IsErrOf result (PoolFault.Record metaslab place kind) → UberIsBad (H.told shelf.old) metaslab place kind }
-    ensures none { OnHeld (H.told shelf.old) (λ held. held.uber ≡ None → IsErrOf result PoolFault.NoPool
+    ensures faulty { (metaslab : Option ℕ) (place kind : ℕ) → IsErrOf result (ImportFault.Record metaslab place kind) → UberIsBad (H.told shelf.old) metaslab place kind }
+    ensures none { OnHeld (H.told shelf.old) (λ held. held.uber ≡ None → IsErrOf result ImportFault.NoPool
         × IsAsBefore (H.told shelf.old) (H.told shelf.new) (H.counts shelf.old) (H.counts shelf.new)
         (record { uber = H.uber_count shelf.old; checks = H.check_counts shelf.old })
         (record { uber = H.uber_count shelf.new; checks = H.check_counts shelf.new })) }
@@ -121,10 +119,10 @@ fn find_uber<H: Shelf>(shelf: &mut H) -> Result<Uber<H::A>, PoolFault>
     ensures checks { H.check_counts shelf.new ≡ H.check_counts shelf.old }
     ensures counts { (m : ℕ) → H.counts shelf.new m ≡ H.counts shelf.old m }
     ensures later { H.faults shelf.old ≤ H.faults shelf.new }
-    ensures cause { IsErrOf result PoolFault.Shelf → Rose (H.faults shelf.old) (H.faults shelf.new) ⊎ Rose (H.uber_count shelf.old) (H.uber_count shelf.new) }
+    ensures cause { IsErrOf result ImportFault.Shelf → Rose (H.faults shelf.old) (H.faults shelf.new) ⊎ Rose (H.uber_count shelf.old) (H.uber_count shelf.new) }
 {
     if !shelf.has_pool() {
-        return Err(PoolFault::NoPool);
+        return Err(ImportFault::NoPool);
     }
     let area = match shelf.take_uber() {
         Ok(area) => area,
@@ -148,7 +146,7 @@ fn reopen_shard<H: Shelf>(
     uber: &Uber<H::A>,
     perms: Perms,
     number: u32,
-) -> Result<Shard<H::R, H::A>, PoolFault>
+) -> Result<Shard<H::R, H::A>, ImportFault>
     requires uber { IsFoundUber H.A.Area uber.now }
     requires layout { IsLayout (layout_of uber.now) perms }
     requires number { number < (layout_of uber.now).props.metaslabs }
@@ -160,7 +158,7 @@ fn reopen_shard<H: Shelf>(
     ensures leaves { SameOthers number (H.leaves shelf.old) (H.leaves shelf.new) }
     ensures known { OnErr result (KeepsKnown (H.leaves shelf.old number) (H.leaves shelf.new number)) }
     ensures fault { IfErr result IsShardFault }
-    ensures faulty { (metaslab : Option ℕ) (place kind : ℕ) → IsErrOf result (PoolFault.Record metaslab place kind)
+    ensures faulty { (metaslab : Option ℕ) (place kind : ℕ) → IsErrOf result (ImportFault.Record metaslab place kind)
         → IsUnread H.R.Rack H.A.Area (layout_of uber.now) (group_of (kept_of uber.now)) (next_leaf_of uber.now) number (H.told shelf.old) (H.leaves shelf.old number) (H.counts shelf.old number) metaslab place kind }
     // No record of a pool that rests on a shelf has a fault.
     ensures opens { (x : State) (pieces : ℕ → Pieces) (held : Option Held) (leaves : ℕ → Option Shape) (counts : ℕ → KitCounts) (count : ℕ)
@@ -171,7 +169,7 @@ fn reopen_shard<H: Shelf>(
     ensures checks { H.check_counts shelf.new ≡ H.check_counts shelf.old }
     ensures counts { SameOthers number (H.counts shelf.old) (H.counts shelf.new) }
     ensures later { H.faults shelf.old ≤ H.faults shelf.new }
-    ensures cause { IsErrOf result PoolFault.Shelf → Rose (H.faults shelf.old) (H.faults shelf.new) ⊎ RecordsRose (H.counts shelf.old number) (H.counts shelf.new number) }
+    ensures cause { IsErrOf result ImportFault.Shelf → Rose (H.faults shelf.old) (H.faults shelf.new) ⊎ RecordsRose (H.counts shelf.old number) (H.counts shelf.new number) }
 {
     let layout = *uber.geometry();
     let kit = match shelf.take(number, &layout) {
@@ -203,7 +201,7 @@ fn reopen_shards<H: Shelf>(
     alloc: Global,
     shelf: &mut H,
     uber: &Uber<H::A>,
-) -> Result<Vec<Shard<H::R, H::A>>, PoolFault>
+) -> Result<Vec<Shard<H::R, H::A>>, ImportFault>
     requires uber { IsFoundUber H.A.Area uber.now }
     ensures opens { (x : State) (pieces : ℕ → Pieces) (held : Option Held) (counts : ℕ → KitCounts) (count : ℕ)
         → RestsThere x pieces held (H.leaves shelf.old) counts count → IsRecovered H.A.Area held count uber.now → H.told shelf.old ≡ takes_uber held → NoRecord result }
@@ -213,18 +211,18 @@ fn reopen_shards<H: Shelf>(
     ensures left { OnOk result ((m : ℕ) → (layout_of uber.now).props.metaslabs ≤ m → (H.counts shelf.new m ≡ H.counts shelf.old m) × (H.leaves shelf.new m ≡ H.leaves shelf.old m)) }
     ensures back { OnErr result (LeavesShards H.R.Rack H.A.Area (layout_of uber.now) (group_of (kept_of uber.now)) (next_leaf_of uber.now) (H.told shelf.old) (H.told shelf.new) (H.counts shelf.old) (H.counts shelf.new)
         (H.leaves shelf.old) (H.leaves shelf.new)) }
-    ensures faulty { (metaslab : Option ℕ) (place kind : ℕ) → IsErrOf result (PoolFault.Record metaslab place kind)
+    ensures faulty { (metaslab : Option ℕ) (place kind : ℕ) → IsErrOf result (ImportFault.Record metaslab place kind)
         → OneIsUnread H.R.Rack H.A.Area (layout_of uber.now) (group_of (kept_of uber.now)) (next_leaf_of uber.now) (H.told shelf.old) (H.leaves shelf.old) (H.counts shelf.old) metaslab place kind }
     ensures fault { IfErr result IsShardFault }
     ensures held { SameChecks (H.told shelf.old) (H.told shelf.new) }
     ensures checks { H.check_counts shelf.new ≡ H.check_counts shelf.old }
     ensures later { H.faults shelf.old ≤ H.faults shelf.new }
-    ensures cause { IsErrOf result PoolFault.Shelf → Rose (H.faults shelf.old) (H.faults shelf.new) ⊎ AnyRecordsRose (layout_of uber.now).props.metaslabs (H.counts shelf.old) (H.counts shelf.new) }
+    ensures cause { IsErrOf result ImportFault.Shelf → Rose (H.faults shelf.old) (H.faults shelf.new) ⊎ AnyRecordsRose (layout_of uber.now).props.metaslabs (H.counts shelf.old) (H.counts shelf.new) }
 {
     let layout = *uber.geometry();
     let perms = Perms::new(layout.spec.children, layout.props.seed);
     let Ok(mut shards) = Vec::with_capacity(alloc, layout.props.metaslabs as usize) else {
-        return Err(PoolFault::NoMemory);
+        return Err(ImportFault::NoMemory);
     };
     for number in 0..layout.props.metaslabs {
         match reopen_shard(alloc, shelf, uber, perms, number) {
@@ -239,22 +237,25 @@ fn reopen_shards<H: Shelf>(
 }
 
 /// What the records of all metaslabs say of the objects.
-fn find_blocks<R: Rack, A: Area>(alloc: Global, shards: &[Shard<R, A>]) -> Result<Found, PoolFault>
+fn find_blocks<R: Rack, A: Area>(
+    alloc: Global,
+    shards: &[Shard<R, A>],
+) -> Result<Found, ImportFault>
     requires ready { AreReady R.Rack shards.now }
     ensures found { IfOk result (λ found. AreFound shards.now (get nat_eq found.newest) found.seq) }
     ensures together { OnOk result (AreTogether shards.now (length shards.now)) }
-    ensures faulty { (metaslab : Option ℕ) (place kind : ℕ) → IsErrOf result (PoolFault.Record metaslab place kind) → AreApart shards.now metaslab place kind }
-    ensures no_device { IsErrOf result PoolFault.Shelf → ⊥ }
+    ensures faulty { (metaslab : Option ℕ) (place kind : ℕ) → IsErrOf result (ImportFault.Record metaslab place kind) → AreApart shards.now metaslab place kind }
+    ensures no_device { IsErrOf result ImportFault.Shelf → ⊥ }
     ensures fault { IfErr result IsShardFault }
 {
     match draid_found::find_blocks(alloc, shards) {
         Ok(found) => Ok(found),
-        Err(FoundFault::Record { metaslab, at, kind }) => Err(PoolFault::Record {
+        Err(FoundFault::Record { metaslab, at, kind }) => Err(ImportFault::Record {
             metaslab: Some(metaslab),
             at,
             kind,
         }),
-        Err(FoundFault::NoMemory) => Err(PoolFault::NoMemory),
+        Err(FoundFault::NoMemory) => Err(ImportFault::NoMemory),
     }
 }
 
@@ -350,9 +351,9 @@ fn pool_of<R: Rack, A: Area>(
 }
 
 /// Imports the pool that was given back to the shelf. A refusal gives back all that was taken.
-pub fn import<H: Shelf>(alloc: Global, shelf: &mut H) -> Result<Pool<H::R, H::A>, PoolFault>
+pub fn import<H: Shelf>(alloc: Global, shelf: &mut H) -> Result<Pool<H::R, H::A>, ImportFault>
     ensures whole { IfOk result (IsWhole H.R.Rack H.A.Area) }
-    ensures none { OnHeld (H.told shelf.old) (λ held. held.uber ≡ None → IsErrOf result PoolFault.NoPool
+    ensures none { OnHeld (H.told shelf.old) (λ held. held.uber ≡ None → IsErrOf result ImportFault.NoPool
         × IsAsBefore (H.told shelf.old) (H.told shelf.new) (H.counts shelf.old) (H.counts shelf.new)
         (record { uber = H.uber_count shelf.old; checks = H.check_counts shelf.old })
         (record { uber = H.uber_count shelf.new; checks = H.check_counts shelf.new })) }
@@ -366,16 +367,15 @@ pub fn import<H: Shelf>(alloc: Global, shelf: &mut H) -> Result<Pool<H::R, H::A>
         → ImportIs H.R.Rack H.A.Area x pieces (H.told shelf.new) (H.leaves shelf.new) (H.counts shelf.new) (H.uber_count shelf.new) result }
     // The answer by what the shelf held: the pool that was read, no group, or the first fault.
     ensures read { IfOk result (IsReadPool H.R.Rack H.A.Area (H.told shelf.old) (H.leaves shelf.old) (H.counts shelf.old) (H.uber_count shelf.old)) }
-    ensures empty { IsErrOf result PoolFault.NoPool → HoldsNoGroup (H.told shelf.old) }
-    ensures faulty { (metaslab : Option ℕ) (place kind : ℕ) → IsErrOf result (PoolFault.Record metaslab place kind)
+    ensures empty { IsErrOf result ImportFault.NoPool → HoldsNoGroup (H.told shelf.old) }
+    ensures faulty { (metaslab : Option ℕ) (place kind : ℕ) → IsErrOf result (ImportFault.Record metaslab place kind)
         → RecordIsBad H.R.Rack H.A.Area (H.told shelf.old) (H.leaves shelf.old) (H.counts shelf.old) metaslab place kind }
     ensures back { OnErr result (LeavesAll H.A.Area (H.told shelf.old) (H.told shelf.new) (H.counts shelf.old) (H.counts shelf.new) (H.uber_count shelf.old) (H.uber_count shelf.new)) }
-    ensures not_spec { IfErr result IsNotSpec }
     ensures tells { OnOk result (is_some (H.told shelf.new) ≡ is_some (H.told shelf.old)) }
     ensures held { SameChecks (H.told shelf.old) (H.told shelf.new) }
     ensures checks { H.check_counts shelf.new ≡ H.check_counts shelf.old }
     ensures later { H.faults shelf.old ≤ H.faults shelf.new }
-    ensures cause { IsErrOf result PoolFault.Shelf → HasRisen H.A.Area (H.told shelf.old) (H.faults shelf.old) (H.faults shelf.new) (H.uber_count shelf.old) (H.uber_count shelf.new) (H.counts shelf.old) (H.counts shelf.new) }
+    ensures cause { IsErrOf result ImportFault.Shelf → HasRisen H.A.Area (H.told shelf.old) (H.faults shelf.old) (H.faults shelf.new) (H.uber_count shelf.old) (H.uber_count shelf.new) (H.counts shelf.old) (H.counts shelf.new) }
 {
     let uber = find_uber(shelf)?;
     let shards = match reopen_shards(alloc, shelf, &uber) {

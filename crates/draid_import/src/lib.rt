@@ -3,11 +3,13 @@
 
 #![tactic(auto)]
 
+mod fault;
 mod importing;
 mod laws;
 mod reopening;
 mod standing;
 
+pub use fault::{ImportFault, OpenFault, OpenRefused};
 pub use importing::import;
 pub use laws::{finds_the_same_before_a_flush, imports_find_one_thing};
 pub use reopening::reopen;

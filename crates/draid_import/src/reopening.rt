@@ -11,13 +11,13 @@ ghost use Rattle.draid_shard.specs.Part.{IsPart};
 ghost use Rattle.draid_shard.specs.States.{part_of};
 ghost use Rattle.draid_import.specs.Reopening.{GivesBack, KitAreasLater, Opens, OpensCounts, area_of_kit, AreBytes, AreReadFrom, BeginsWith, OpenIsRefused, ReadsTables};
 
+use crate::fault::{OpenFault, OpenRefused};
 use draid_area::Area;
 use draid_entries::History;
 use draid_metaslab::Space;
 use draid_names::{DeviceFault, NoMemory, PassKind};
 use draid_pass::Pass;
 use draid_perm::Perms;
-use draid_pool::{OpenFault, OpenRefused};
 use draid_rack::Rack;
 use draid_record::{RecordFault, length_of};
 use draid_shard::Shard;

@@ -2,7 +2,6 @@
 use Rattle.std.proofs.Common.{◌≡◌, ◌∙◌, ◌⊎◌, inr, ℕ, Bool, true, false, Option, Result, Ok, Err, ap, subst, sym}
 use Rattle.std.specs.Prelude.{IfErr, IfOk, IsErrAnd, IsErrOf, OnErr, OnOk}
 use Rattle.draid_names.specs.declared.fault.DeviceFault.TheVariants as device
-use Rattle.draid_pool.specs.declared.fault.PoolFault.TheVariants as fault
 use Rattle.draid_pool.specs.declared.fault.SyncFault.TheVariants as sync
 
 -- an answer is no refusal
@@ -12,24 +11,6 @@ no_refusal is = cc
 -- no device failed where memory is wanting
 pub no_device : {T : Type 0} → IsErrOf {T = T} (Err device.NoMemory) device.Failed → ⊥
 no_device is = cc
-
--- nor is it a fault of the shelf or of a record
-pub no_shelf : {T : Type 0} → IsErrOf {T = T} (Err fault.NoMemory) fault.Shelf → ⊥
-no_shelf is = cc
-
-pub no_record : {T : Type 0} (metaslab : Option ℕ) (place kind : ℕ) → IsErrOf {T = T} (Err fault.NoMemory) (fault.Record metaslab place kind) → ⊥
-no_record metaslab place kind is = cc
-
--- nor is a record's fault one of the shelf
-pub record_no_shelf : {T : Type 0} (metaslab : Option ℕ) (place kind : ℕ) → IsErrOf {T = T} (Err (fault.Record metaslab place kind)) fault.Shelf → ⊥
-record_no_shelf metaslab place kind is = cc
-
--- where there is no pool, nothing failed
-pub absent_no_shelf : {T : Type 0} → IsErrOf {T = T} (Err fault.NoPool) fault.Shelf → ⊥
-absent_no_shelf is = cc
-
-pub absent_no_record : {T : Type 0} (metaslab : Option ℕ) (place kind : ℕ) → IsErrOf {T = T} (Err fault.NoPool) (fault.Record metaslab place kind) → ⊥
-absent_no_record metaslab place kind is = cc
 
 -- a sync that stopped for another reason wasn't stopped by the shelf
 pub worn_no_shelf : {T : Type 0} → IsErrOf {T = T} (Err sync.Worn) sync.Shelf → ⊥

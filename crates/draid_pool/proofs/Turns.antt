@@ -33,10 +33,10 @@ use Rattle.draid_shard.specs.Fits.{AreGroups, Valid}
 use Rattle.draid_pool.specs.Groups.{AreasLater, CloseRefused, KeepsOtherArea, ListsOnce, OpenUpto, Seals, Unsealed, area_in}
 use Rattle.draid_shard.specs.Part.{Part, layout_in}
 use Rattle.draid_shard.specs.States.{Does, DoesNone, IsIn, layout_by, part_of}
-use Rattle.draid_pool.specs.declared.group_fault.CloseFault.{CloseFault}
-use Rattle.draid_pool.specs.declared.group_fault.CloseFault.TheVariants as close
-use Rattle.draid_pool.specs.declared.group_fault.SealFault.{SealFault}
-use Rattle.draid_pool.specs.declared.group_fault.SealFault.TheVariants as seal
+use Rattle.draid_pool.specs.declared.fault.CloseFault.{CloseFault}
+use Rattle.draid_pool.specs.declared.fault.CloseFault.TheVariants as close
+use Rattle.draid_pool.specs.declared.fault.SealFault.{SealFault}
+use Rattle.draid_pool.specs.declared.fault.SealFault.TheVariants as seal
 use Rattle.draid_shard.specs.declared.shard.Shard.{Shard}
 use Rattle.draid_shard.proofs.Standing.{has_layout}
 use Rattle.draid_session.specs.Follows.{CountsRise, Rests, area_count}

@@ -28,10 +28,10 @@ use Rattle.draid_shard.specs.Calls.{ActsOn, CountsFailed}
 use Rattle.draid_shard.specs.Fits.{IsLeaf}
 use Rattle.draid_shard.specs.States.{Does, DoesNone, IsIn, layout_by}
 use Rattle.draid_shard.specs.declared.shard.Shard.{Shard}
-use Rattle.draid_pool.specs.declared.group_fault.CloseFault.{CloseFault}
-use Rattle.draid_pool.specs.declared.group_fault.CloseFault.TheVariants as close
-use Rattle.draid_pool.specs.declared.group_fault.SealFault.{SealFault}
-use Rattle.draid_pool.specs.declared.group_fault.SealFault.TheVariants as seal
+use Rattle.draid_pool.specs.declared.fault.CloseFault.{CloseFault}
+use Rattle.draid_pool.specs.declared.fault.CloseFault.TheVariants as close
+use Rattle.draid_pool.specs.declared.fault.SealFault.{SealFault}
+use Rattle.draid_pool.specs.declared.fault.SealFault.TheVariants as seal
 
 -- ---- closing
 

@@ -9,7 +9,7 @@ ghost use Rattle.draid_shard.specs.States.{Does};
 ghost use Rattle.draid_pool.specs.Changes.{ClosesGroup};
 ghost use Rattle.draid_pool.specs.Groups.{CloseRefused, group_events};
 
-use crate::group_fault::CloseFault;
+use crate::fault::CloseFault;
 use draid_area::Area;
 use draid_entries::ReserveFault;
 use draid_machine::Event;

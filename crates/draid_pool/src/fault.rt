@@ -1,20 +1,26 @@
-use draid_spec::SpecFault;
+/// Why the open group isn't closed. They are looked for in this order.
+#[derive(Clone, Copy, PartialEq, Eq)]
+pub enum CloseFault {
+    /// So many events are stored or owed, and the limit leaves too few for a group.
+    Worn { events: u64 },
+    /// There is no number for a group after it.
+    Last,
+    NoMemory,
+}
 
-/// Why no pool was created or imported.
-#[derive(Clone, Copy)]
-pub enum PoolFault {
-    /// There is no layout of this spec and these properties.
-    Spec(SpecFault),
-    /// The shelf has no pool, or no gate of its uberblock is open.
-    NoPool,
-    /// The first field of a record that is out of its range begins at byte `at`: of a metaslab's record, or of the uberblock's slot.
-    Record {
-        metaslab: Option<u32>,
-        at: u64,
-        kind: u8,
-    },
-    /// The shelf failed.
-    Shelf,
+/// What a sealed group has lost: so many of its blocks have a column whose arms don't answer or missed the group.
+#[derive(Clone, Copy, PartialEq, Eq)]
+pub struct Sealed {
+    pub thin: u64,
+}
+
+/// Why the closing group isn't sealed.
+#[derive(Clone, Copy, PartialEq, Eq)]
+pub enum SealFault {
+    /// So many open writes were begun up to it.
+    NotYet { tickets: u32 },
+    /// A call on the area of its records failed.
+    Area,
     NoMemory,
 }
 

@@ -6,7 +6,6 @@
 mod closing;
 mod committing;
 mod fault;
-mod group_fault;
 mod pool;
 mod records;
 mod returning;
@@ -17,8 +16,7 @@ mod unsynced;
 
 pub use closing::{BIRTH_GROUPS, close_group};
 pub use committing::commit;
-pub use fault::{PoolFault, SyncFault, Synced};
-pub use group_fault::{CloseFault, OpenFault, OpenRefused, SealFault, Sealed};
+pub use fault::{CloseFault, SealFault, Sealed, SyncFault, Synced};
 pub use pool::{EVENTS, Pool};
 pub use records::{record_of, write_to};
 pub use returning::{close, give_back, into_kit};

@@ -11,7 +11,7 @@ ghost use Rattle.draid_pool.specs.Changes.{SealsGroup};
 ghost use Rattle.draid_pool.specs.Groups.{AreasLater, KeepsOtherArea, OpenUpto, Seals, Unsealed};
 ghost use Rattle.draid_pool.specs.Sealing.{AreFlushed, FlushedBelow, IsOnline, IsPlan};
 
-use crate::group_fault::{SealFault, Sealed};
+use crate::fault::{SealFault, Sealed};
 use crate::records::{record_of, write_to};
 use draid_area::{Area, DeviceFault};
 use draid_columns::flush_leaves;

@@ -25,8 +25,7 @@ ghost use Rattle.draid_pool.specs.Whole.{IsWhole};
 
 use crate::closing::close_group;
 use crate::committing::commit;
-use crate::fault::{SyncFault, Synced};
-use crate::group_fault::{CloseFault, SealFault};
+use crate::fault::{CloseFault, SealFault, SyncFault, Synced};
 use crate::pool::Pool;
 use crate::sealing::seal;
 use crate::unsynced::is_unsynced;

@@ -31,10 +31,10 @@ use Rattle.draid_import.specs.Importing.{FindsNoPool, ImportsPool, LeavesMade, R
 use Rattle.draid_pool.specs.Taking.{HoldsMade, IsAsBefore}
 use Rattle.draid_create.specs.Opening.{NoChecks}
 use Rattle.draid_pool.specs.Whole.{IsWhole}
-use Rattle.draid_pool.specs.declared.fault.PoolFault.{PoolFault}
+use Rattle.draid_import.specs.declared.fault.ImportFault.{ImportFault}
 use Rattle.draid_import.proofs.Findings.{finds_pool}
 use Rattle.draid_pool.proofs.Lists.{ext}
-use Rattle.draid_pool.specs.declared.fault.PoolFault.TheVariants as fault
+use Rattle.draid_import.specs.declared.fault.ImportFault.TheVariants as fault
 use Rattle.draid_pool.specs.declared.pool.Pool.{Pool}
 use Rattle.draid_run.specs.Desks.{Broken, IsDesk, IsPool, IsShelf, Turned}
 use Rattle.draid_run.specs.Importing.{ImportDid, ImportDoes, ImportIs, UnopenedIs}
@@ -186,7 +186,7 @@ fault_named rack area before m m' p p' k k' same_m same_p same_k fault =
 -- ---- the call
 
 -- what the pool's import came to
-pub record Called {R A : Type 0} (rack : racks.Ghosts R) (area : areas.Ghosts A) (before now : OnShelf) (result : Result (Pool R A) PoolFault) : Type 0 where
+pub record Called {R A : Type 0} (rack : racks.Ghosts R) (area : areas.Ghosts A) (before now : OnShelf) (result : Result (Pool R A) ImportFault) : Type 0 where
   pub whole : IfOk result (IsWhole rack area)
   pub none : OnHeld before.held (λ held. held.uber ≡ None → IsErrOf result fault.NoPool × IsAsBefore before.held now.held before.counts now.counts before.own now.own)
   pub read : IfOk result (IsReadPool rack area before.held before.leaves before.counts before.own.uber)
@@ -199,7 +199,7 @@ pub record Called {R A : Type 0} (rack : racks.Ghosts R) (area : areas.Ghosts A)
   pub made : (geometry : Geometry) → IsSomeAnd before.held (HoldsMade geometry) → LeavesMade geometry result now.held before.counts now.counts before.own now.own
 
 module _ {R A : Type 0} (rack : racks.Ghosts R) (area : areas.Ghosts A) (entry before now : OnShelf) where
-  module _ (result : Result (Pool R A) PoolFault) (called : Called rack area before now result) where
+  module _ (result : Result (Pool R A) ImportFault) (called : Called rack area before now result) where
     -- a shelf that has no pool gives none
     bare_none : IsSomeAnd before.held (λ held. held.uber ≡ None) → (result ≡ Err fault.NoPool) × IsAsBefore before.held now.held before.counts now.counts before.own now.own
     bare_none = by before.held called.none where
@@ -208,7 +208,7 @@ module _ {R A : Type 0} (rack : racks.Ghosts R) (area : areas.Ghosts A) (entry b
       by None none is = absurd is
       by (Some held) none is = none is
 
-    was : (y : State) (r : Result (Pool R A) PoolFault) → result ≡ r → (rest : Resting y before) → pools.ImportIs rack area y rest.pieces now.held now.leaves now.counts now.own.uber r
+    was : (y : State) (r : Result (Pool R A) ImportFault) → result ≡ r → (rest : Resting y before) → pools.ImportIs rack area y rest.pieces now.held now.leaves now.counts now.own.uber r
     was y r is rest = subst (pools.ImportIs rack area y rest.pieces now.held now.leaves now.counts now.own.uber) is (called.imports y rest.pieces rest.rests)
 
     -- a new pool stays there
@@ -230,7 +230,7 @@ module _ {R A : Type 0} (rack : racks.Ghosts R) (area : areas.Ghosts A) (entry b
           subst (λ n. n ≤ now.own.uber) shelf.made.uber l.uber,
         )
 
-    new_none : (failed : ℕ) (geometry : Geometry) (r : Result (Pool R A) PoolFault) → result ≡ r → HoldsNew true failed geometry before → FindsNoPool r
+    new_none : (failed : ℕ) (geometry : Geometry) (r : Result (Pool R A) ImportFault) → result ≡ r → HoldsNew true failed geometry before → FindsNoPool r
     new_none failed geometry r is shelf = subst FindsNoPool is (new_made failed geometry shelf).none
 
     -- ---- refusals
@@ -462,19 +462,18 @@ already_open rack area entry now (Some pool) Bare some is = absurd is.stands
 already_open rack area entry now (Some pool) Unknown some is = absurd is.stands
 
 -- none was opened
-module _ {R A : Type 0} (rack : racks.Ghosts R) (area : areas.Ghosts A) (entry before now : OnShelf) (result : Result (Pool R A) PoolFault) (called : Called rack area before now result)
+module _ {R A : Type 0} (rack : racks.Ghosts R) (area : areas.Ghosts A) (entry before now : OnShelf) (result : Result (Pool R A) ImportFault) (called : Called rack area before now result)
     (faulty : (metaslab : Option ℕ) (place kind : ℕ) → result ≡ Err (fault.Record metaslab place kind) → HoldsFault rack area before metaslab place kind)
     (desk : Option (Pool R A)) (x : Desk) (none : is_some desk ≡ false) (is : IsDesk rack area entry before desk x) where
   abbrev closed : IsPool rack area None x
   closed = shut rack area desk x none is.stands
 
-  unopened : (why : PoolFault) → result ≡ Err why → (said : Result Reply Stop) → UnopenedIs why said → ImportIs rack area entry before x now None said
+  unopened : (why : ImportFault) → result ≡ Err why → (said : Result Reply Stop) → UnopenedIs why said → ImportIs rack area entry before x now None said
   unopened fault.NoPool at said said_is = subst (λ s. ImportIs rack area entry before x now None s) (sym said_is) (no_pool rack area entry before now result called at x closed is.shelf)
   unopened fault.NoMemory at said said_is = subst (λ s. ImportIs rack area entry before x now None s) (sym said_is) (no_memory rack area entry before now result called at x closed is.shelf)
   unopened fault.Shelf at said said_is = subst (λ s. ImportIs rack area entry before x now None s) (sym said_is) (shelf_failed rack area entry before now result called at x closed is.shelf)
   unopened (fault.Record metaslab place kind) at said said_is =
       subst (λ s. ImportIs rack area entry before x now None s) (sym said_is) (record_fails rack area entry before now result called metaslab place kind at x closed is.shelf, faulty metaslab place kind at)
-  unopened (fault.Spec why) at said said_is = absurd said_is
 
-  pub import_unopened : (why : PoolFault) → result ≡ Err why → (said : Result Reply Stop) → UnopenedIs why said → ImportIs rack area entry before x now desk said
+  pub import_unopened : (why : ImportFault) → result ≡ Err why → (said : Result Reply Stop) → UnopenedIs why said → ImportIs rack area entry before x now desk said
   import_unopened why at said said_is = subst (λ p. ImportIs rack area entry before x now p said) (sym (none_open desk none)) (unopened why at said said_is)

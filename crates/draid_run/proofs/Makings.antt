@@ -27,11 +27,11 @@ use Rattle.draid_create.specs.Opening as opening
 use Rattle.draid_pool.specs.Taking.{HoldsMade}
 use Rattle.draid_create.specs.Opening.{HoldsUncommitted, IsAway, IsRefused, ShelfIs}
 use Rattle.draid_pool.specs.Whole.{IsWhole}
-use Rattle.draid_pool.specs.declared.fault.PoolFault.{PoolFault}
-use Rattle.draid_pool.specs.declared.fault.PoolFault.TheVariants as fault
+use Rattle.draid_create.specs.declared.fault.CreateFault.{CreateFault}
+use Rattle.draid_create.specs.declared.fault.CreateFault.TheVariants as fault
 use Rattle.draid_pool.specs.declared.pool.Pool.{Pool}
 use Rattle.draid_run.specs.Desks.{Broken, IsDesk, IsPool, IsShelf}
-use Rattle.draid_run.specs.Making.{CreateDid, CreateIs, CreateTurns, IsOfMaking, MakeIs, PoolIs, UnmadeIs}
+use Rattle.draid_run.specs.Making.{CreateDid, CreateIs, CreateTurns, MakeIs, PoolIs, UnmadeIs}
 use Rattle.draid_run.specs.Shelves.{HasChecks, HoldsShut, IsClosed, IsSame, OnShelf}
 use Rattle.draid_run.specs.declared.answer.Made as answer
 use Rattle.draid_run.specs.declared.answer.Stop.{Stop}
@@ -161,12 +161,10 @@ module _ {R A : Type 0} (rack : racks.Ghosts R) (area : areas.Ghosts A) where
     make_unnamed geometry is none = record { pool_is = ((geometry, is), none); shelf = inl unmade }
 
     module _ (now : OnShelf) where
-      pub make_failed : (why : PoolFault) → opening.CreateIs {R = R} {A = A} rack area spec props now.held now.leaves before.faults now.faults now.counts now.own (Err why)
+      pub make_failed : (why : CreateFault) → opening.CreateIs {R = R} {A = A} rack area spec props now.held now.leaves before.faults now.faults now.counts now.own (Err why)
           → ShelfIs {P = Pool R A} spec props before.held now.held before.leaves now.leaves before.counts now.counts before.own now.own (Err why) → desk ≡ None → MakeIs rack area spec props before now desk (Err why)
       make_failed (fault.Spec why) answer shelf none = record { pool_is = (answer, none); shelf = shelf }
       make_failed fault.Shelf answer shelf none = record { pool_is = (none, answer.0, answer.1, answer.2); shelf = shelf }
-      make_failed fault.NoPool answer shelf none = absurd answer
-      make_failed (fault.Record metaslab place kind) answer shelf none = absurd answer
       make_failed fault.NoMemory answer shelf none = record { pool_is = (answer, none); shelf = shelf }
 
       pub make_opened : (pool : Pool R A) (layout : Geometry) (called : answer.Made) → geometry_of spec props ≡ Ok layout → string_bytes called.name ≡ vdev_name_of spec → called.stripes ≡ pool_stripes layout → IsWhole rack area pool
@@ -206,15 +204,15 @@ module _ {R A : Type 0} (rack : racks.Ghosts R) (area : areas.Ghosts A) where
     breaks_none (Foreign known) new is none = absurd is
     breaks_none (Open z) new is none = absurd is
 
-    module _ (result : Result answer.Made PoolFault) (pool : Option (Pool R A)) (x : Desk) (shelf : IsShelf x entry before) (stands : IsPool rack area None x)
+    module _ (result : Result answer.Made CreateFault) (pool : Option (Pool R A)) (x : Desk) (shelf : IsShelf x entry before) (stands : IsPool rack area None x)
         (makes : MakeIs rack area spec (props_of keys) before now pool result) where
       layout_is : (r : Result Geometry SpecFault) → geometry_of spec (props_of keys) ≡ r → layout_by text children keys ≡ r
       layout_is r is = ap (layout_from keys) read ∙ is
 
-      pools : (r : Result answer.Made PoolFault) → result ≡ r → PoolIs rack area spec (props_of keys) before now pool r
+      pools : (r : Result answer.Made CreateFault) → result ≡ r → PoolIs rack area spec (props_of keys) before now pool r
       pools r is = subst (λ q. PoolIs rack area spec (props_of keys) before now pool q) is makes.pool_is
 
-      shelves : (r : Result answer.Made PoolFault) → result ≡ r → ShelfIs spec (props_of keys) before.held now.held before.leaves now.leaves before.counts now.counts before.own now.own r
+      shelves : (r : Result answer.Made CreateFault) → result ≡ r → ShelfIs spec (props_of keys) before.held now.held before.leaves now.leaves before.counts now.counts before.own now.own r
       shelves r is = subst (λ q. ShelfIs spec (props_of keys) before.held now.held before.leaves now.leaves before.counts now.counts before.own now.own q) is makes.shelf
 
       pub made : (m : answer.Made) → result ≡ Ok m → CreateDid rack area text children keys entry x (Created m.name m.stripes) now pool
@@ -321,17 +319,7 @@ module _ {R A : Type 0} (rack : racks.Ghosts R) (area : areas.Ghosts A) where
           }
 
       -- by why
-      pub create_unmade : (why : PoolFault) → result ≡ Err why → (said : Result Reply Stop) → UnmadeIs why said → CreateIs rack area text children keys entry before x now pool said
+      pub create_unmade : (why : CreateFault) → result ≡ Err why → (said : Result Reply Stop) → UnmadeIs why said → CreateIs rack area text children keys entry before x now pool said
       create_unmade (fault.Spec why) is said said_is = subst (λ s. CreateIs rack area text children keys entry before x now pool s) (sym said_is) (refused why is)
       create_unmade fault.Shelf is said said_is = subst (λ s. CreateIs rack area text children keys entry before x now pool s) (sym said_is) (shelf_failed is)
       create_unmade fault.NoMemory is said said_is = subst (λ s. CreateIs rack area text children keys entry before x now pool s) (sym said_is) (no_memory is)
-      create_unmade fault.NoPool is said said_is = absurd said_is
-      create_unmade (fault.Record metaslab place kind) is said said_is = absurd said_is
-
--- why none was made
-pub of_making : {R A : Type 0} (rack : racks.Ghosts R) (area : areas.Ghosts A) (spec : Spec) (props : Props) (before now : OnShelf) (pool : Option (Pool R A)) (why : PoolFault) → PoolIs rack area spec props before now pool (Err why) → IsOfMaking why
-of_making rack area spec props before now pool (fault.Spec why) is = tt
-of_making rack area spec props before now pool fault.Shelf is = tt
-of_making rack area spec props before now pool fault.NoMemory is = tt
-of_making rack area spec props before now pool fault.NoPool is = absurd is
-of_making rack area spec props before now pool (fault.Record metaslab place kind) is = absurd is

@@ -7,8 +7,8 @@ use Rattle.draid_script.specs.declared.name.CommandName.TheVariants as name
 use Rattle.draid_reply.specs.declared.reply.Reply.{Reply}
 use Rattle.draid_reply.specs.declared.reply.Reply.TheVariants.{NoMemory, NoPool, PoolOpen}
 use Rattle.draid_session.specs.Session.{Desk, Open, Foreign, ImportTurns, RecordFails, ShelfFails}
-use Rattle.draid_pool.specs.declared.fault.PoolFault.{PoolFault}
-use Rattle.draid_pool.specs.declared.fault.PoolFault.TheVariants as fault
+use Rattle.draid_import.specs.declared.fault.ImportFault.{ImportFault}
+use Rattle.draid_import.specs.declared.fault.ImportFault.TheVariants as fault
 use Rattle.draid_pool.specs.declared.pool.Pool.{Pool}
 use Rattle.draid_run.specs.Desks.{Broken, IsDesk}
 use Rattle.draid_run.specs.Shelves.{HoldsFault, MayFind, OnShelf}
@@ -36,9 +36,8 @@ ImportIs rack area entry before old now pool (Err (stop.Record metaslab place ki
     Broken rack area RecordFails ImportPool entry before old now pool × HoldsFault rack area before metaslab place kind
 
 -- an import that opened no pool, by why
-abbrev pub UnopenedIs : PoolFault → Result Reply Stop → Type 0
+abbrev pub UnopenedIs : ImportFault → Result Reply Stop → Type 0
 UnopenedIs fault.NoPool result = result ≡ Ok (NoPool name.Import)
 UnopenedIs fault.NoMemory result = result ≡ Ok (NoMemory name.Import)
 UnopenedIs fault.Shelf result = result ≡ Err stop.Shelf
 UnopenedIs (fault.Record metaslab place kind) result = result ≡ Err (stop.Record metaslab place kind)
-UnopenedIs (fault.Spec why) result = ⊥

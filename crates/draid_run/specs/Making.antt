@@ -15,8 +15,8 @@ use Rattle.draid_session.specs.Making.{vdev_name_of}
 use Rattle.draid_session.specs.Session.{Desk, Open, Foreign, Creates, ShelfFails}
 use Rattle.draid_create.specs.Opening.{HasLayout, Opens, ShelfIs}
 use Rattle.draid_pool.specs.Whole.{IsWhole}
-use Rattle.draid_pool.specs.declared.fault.PoolFault.{PoolFault}
-use Rattle.draid_pool.specs.declared.fault.PoolFault.TheVariants as fault
+use Rattle.draid_create.specs.declared.fault.CreateFault.{CreateFault}
+use Rattle.draid_create.specs.declared.fault.CreateFault.TheVariants as fault
 use Rattle.draid_pool.specs.declared.pool.Pool.{Pool}
 use Rattle.draid_run.specs.Desks.{Broken, IsDesk}
 use Rattle.draid_run.specs.Shelves.{MakingFailed, OnShelf}
@@ -33,33 +33,24 @@ pub record OpensAs {R A : Type 0} (rack : racks.Ghosts R) (area : areas.Ghosts A
   pub stripes_are : made.stripes ≡ pool_stripes geometry
 
 -- the pool, by the answer; where it is that the shelf failed, the shelf did, or an area of the pool that was made
-abbrev pub PoolIs : {R A : Type 0} → racks.Ghosts R → areas.Ghosts A → Spec → Props → OnShelf → OnShelf → Option (Pool R A) → Result Made PoolFault → Type 0
+abbrev pub PoolIs : {R A : Type 0} → racks.Ghosts R → areas.Ghosts A → Spec → Props → OnShelf → OnShelf → Option (Pool R A) → Result Made CreateFault → Type 0
 PoolIs rack area spec props before now None (Ok made) = ⊥
 PoolIs rack area spec props before now (Some pool) (Ok made) = IsWhole rack area pool × OpensAs rack area spec props now made pool
 PoolIs rack area spec props before now pool (Err (fault.Spec why)) = (geometry_of spec props ≡ Err why) × (pool ≡ None)
 PoolIs rack area spec props before now pool (Err fault.Shelf) = (pool ≡ None) × (geometry : Geometry) × (geometry_of spec props ≡ Ok geometry) × MakingFailed geometry before now
-PoolIs rack area spec props before now pool (Err fault.NoPool) = ⊥
-PoolIs rack area spec props before now pool (Err (fault.Record metaslab place kind)) = ⊥
 PoolIs rack area spec props before now pool (Err fault.NoMemory) = HasLayout spec props × (pool ≡ None)
 
-pub record MakeIs {R A : Type 0} (rack : racks.Ghosts R) (area : areas.Ghosts A) (spec : Spec) (props : Props) (before now : OnShelf) (pool : Option (Pool R A)) (result : Result Made PoolFault) : Type 0 where
+pub record MakeIs {R A : Type 0} (rack : racks.Ghosts R) (area : areas.Ghosts A) (spec : Spec) (props : Props) (before now : OnShelf) (pool : Option (Pool R A)) (result : Result Made CreateFault) : Type 0 where
   pub pool_is : PoolIs rack area spec props before now pool result
   pub shelf : ShelfIs spec props before.held now.held before.leaves now.leaves before.counts now.counts before.own now.own result
 
 -- ---- the command
 
--- a pool isn't made for one of these
-abbrev pub IsOfMaking : PoolFault → Type 0
-IsOfMaking fault.NoPool = ⊥
-IsOfMaking (fault.Record metaslab place kind) = ⊥
-IsOfMaking why = ⊤
-
 -- what is replied then
-abbrev pub UnmadeIs : PoolFault → Result Reply Stop → Type 0
+abbrev pub UnmadeIs : CreateFault → Result Reply Stop → Type 0
 UnmadeIs (fault.Spec why) result = result ≡ Ok (CreateRefused why)
 UnmadeIs fault.Shelf result = result ≡ Err stop.Shelf
 UnmadeIs fault.NoMemory result = result ≡ Ok (NoMemory name.Create)
-UnmadeIs why result = ⊥
 
 -- what `create` does where a pool is open, or none is
 abbrev pub CreateTurns : List ℕ → ℕ → PoolKeys → Desk → Reply → Desk → Type 0

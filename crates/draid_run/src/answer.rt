@@ -7,15 +7,16 @@ ghost use Rattle.draid_spec.specs.Spec.{IsSpec};
 ghost use Rattle.draid_session.specs.Making.{props_of};
 ghost use Rattle.draid_session.specs.Session.{Desk};
 ghost use Rattle.draid_run.specs.Desks.{IsDesk, IsPool, asked_in};
-ghost use Rattle.draid_run.specs.Making.{CreateIs, IsOfMaking, MakeIs, UnmadeIs};
+ghost use Rattle.draid_run.specs.Making.{CreateIs, MakeIs, UnmadeIs};
 ghost use Rattle.draid_run.specs.Serve.{AnswerIs, AskIs, IsSaid};
 ghost use Rattle.draid_run.specs.Shelves.{OnShelf, on_shelf};
 
 use crate::{groups, importing, replies};
 use draid_area::Area;
 use draid_choose::Chooser;
+use draid_create::{CreateFault, create};
 use draid_names::Room;
-use draid_pool::{Pool, PoolFault};
+use draid_pool::Pool;
 use draid_rack::Rack;
 use draid_reply::Reply;
 use draid_script::{CommandName, Line, PoolKeys};
@@ -56,17 +57,15 @@ fn props(keys: PoolKeys) -> Props
 }
 
 /// What a `create` replies that makes no pool, or that it has no reply.
-fn unmade(fault: PoolFault) -> Result<Reply, Stop>
-    requires { IsOfMaking fault }
+fn unmade(fault: CreateFault) -> Result<Reply, Stop>
     ensures { UnmadeIs fault result }
 {
     match fault {
-        PoolFault::Spec(why) => Ok(Reply::CreateRefused { why }),
-        PoolFault::Shelf => Err(Stop::Shelf),
-        PoolFault::NoMemory => Ok(Reply::NoMemory {
+        CreateFault::Spec(why) => Ok(Reply::CreateRefused { why }),
+        CreateFault::Shelf => Err(Stop::Shelf),
+        CreateFault::NoMemory => Ok(Reply::NoMemory {
             command: CommandName::Create,
         }),
-        PoolFault::NoPool | PoolFault::Record { .. } => unreachable!(),
     }
 }
 
@@ -112,7 +111,7 @@ fn make<H: Shelf>(
     pool: &mut Option<Pool<H::R, H::A>>,
     spec: Spec,
     props: Props,
-) -> Result<Made, PoolFault>
+) -> Result<Made, CreateFault>
     requires spec { IsSpec props.version spec }
     requires closed { pool.old ≡ None }
     ensures makes { MakeIs H.R.Rack H.A.Area spec props (on_shelf H.Shelf shelf.old) (on_shelf H.Shelf shelf.new) pool.new result }
@@ -120,12 +119,12 @@ fn make<H: Shelf>(
 {
     let layout = match geometry(spec, props) {
         Ok(layout) => layout,
-        Err(why) => return Err(PoolFault::Spec(why)),
+        Err(why) => return Err(CreateFault::Spec(why)),
     };
     let Ok(name) = vdev_name(alloc, spec) else {
-        return Err(PoolFault::NoMemory);
+        return Err(CreateFault::NoMemory);
     };
-    match draid_create::create(alloc, shelf, spec, props) {
+    match create(alloc, shelf, spec, props) {
         Ok(open) => {
             *pool = Some(open);
             Ok(Made {

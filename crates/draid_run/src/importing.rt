@@ -1,13 +1,13 @@
 //! The command that opens the pool of the shelf.
 ghost use Rattle.std.specs.Prelude.{◌≡◌, ◌≤◌};
 ghost use Rattle.draid_session.specs.Session.{Desk};
-ghost use Rattle.draid_import.specs.Importing.{IsNotSpec};
 ghost use Rattle.draid_run.specs.Desks.{IsDesk};
 ghost use Rattle.draid_run.specs.Importing.{ImportIs, UnopenedIs};
 ghost use Rattle.draid_run.specs.Shelves.{OnShelf, on_shelf};
 
 use crate::answer::Stop;
-use draid_pool::{Pool, PoolFault, close};
+use draid_import::ImportFault;
+use draid_pool::{Pool, close};
 use draid_reply::Reply;
 use draid_script::CommandName;
 use draid_shelf::Shelf;
@@ -15,20 +15,18 @@ use draid_status::vdev_name;
 use std::alloc::Global;
 
 /// What an import replies that opens no pool, or that it has no reply.
-fn unopened(fault: PoolFault) -> Result<Reply, Stop>
-    requires { IsNotSpec fault }
+fn unopened(fault: ImportFault) -> Result<Reply, Stop>
     ensures { UnopenedIs fault result }
 {
     match fault {
-        PoolFault::NoPool => Ok(Reply::NoPool {
+        ImportFault::NoPool => Ok(Reply::NoPool {
             command: CommandName::Import,
         }),
-        PoolFault::NoMemory => Ok(Reply::NoMemory {
+        ImportFault::NoMemory => Ok(Reply::NoMemory {
             command: CommandName::Import,
         }),
-        PoolFault::Shelf => Err(Stop::Shelf),
-        PoolFault::Record { metaslab, at, kind } => Err(Stop::Record { metaslab, at, kind }),
-        PoolFault::Spec(_) => unreachable!(),
+        ImportFault::Shelf => Err(Stop::Shelf),
+        ImportFault::Record { metaslab, at, kind } => Err(Stop::Record { metaslab, at, kind }),
     }
 }
 

@@ -1,4 +1,4 @@
-use Rattle.std.proofs.Common.{◌∙◌, ap, subst, sym, ◌≡◌, []}
+use Rattle.std.proofs.Common.{Err, ◌∙◌, ap, subst, sym, ◌≡◌, []}
 use Rattle.draid_area.specs.Area.{OnTold}
 use Rattle.draid_machine.specs.Created.{created}
 use Rattle.draid_shard.specs.Fits.{Valid}
@@ -9,7 +9,7 @@ use Rattle.draid_create.proofs.FirstRecord.{odd_in, odd_valid}
 use Rattle.draid_entries.specs.History.{limit_in, reserved_of}
 use Rattle.draid_shard.specs.declared.shard.Shard.{Shard}
 use Rattle.draid_shelf.specs.declared.kit.Kit.{Kit}
-use Rattle.draid_create.specs.Opening.{CreateIsRefused}
+use Rattle.draid_names.specs.Faults.{Rose}
 use Rattle.draid_create.proofs.metaslab.create_metaslab.Goals as goal
 
 pub returns-in-Ok-write_first : goal.returns-in-Ok-write_first
@@ -45,7 +45,7 @@ returns-in-Err g c =
       none = tt;
       blocks = tt;
       refused = (ap (λ (k : Kit g.row.R.Denot g.row.A.Denot). k.rack) c.in-Err.ensures.back, ap (λ (k : Kit g.row.R.Denot g.row.A.Denot). k.even) c.in-Err.ensures.back);
-      why = tt;
+      why = λ is. absurd (cc);
     }
 
 pub returns-in-Err-write_first : goal.returns-in-Err-write_first
@@ -62,6 +62,6 @@ returns-in-Err-write_first g c =
       none = tt;
       blocks = tt;
       refused = (ap (λ (k : Kit g.row.R.Denot g.row.A.Denot). k.rack) back ∙ (ap (λ (s : Shard g.row.R.Denot g.row.A.Denot). s.rack) same ∙ kit.0), ap (λ (k : Kit g.row.R.Denot g.row.A.Denot). k.even) back ∙ (ap (λ (s : Shard g.row.R.Denot g.row.A.Denot). s.even) same ∙ kit.1));
-      why = subst (λ n. CreateIsRefused (g.A.Area.faults c.args.kit.odd) n c.in-Err-write_first.why) (ap g.A.Area.faults (sym (ap (λ (k : Kit g.row.R.Denot g.row.A.Denot). k.odd) back)))
-          (subst (λ n. CreateIsRefused n (g.A.Area.faults c.write_first.new.shard.odd) c.in-Err-write_first.why) (ap g.A.Area.faults kit.2) c.in-Err-write_first.ensures.refused);
+      why = λ failed. subst (λ n. Rose (g.A.Area.faults c.args.kit.odd) n) (ap g.A.Area.faults (sym (ap (λ (k : Kit g.row.R.Denot g.row.A.Denot). k.odd) back)))
+          (subst (λ n. Rose n (g.A.Area.faults c.write_first.new.shard.odd)) (ap g.A.Area.faults kit.2) (c.write_first.ensures.cause (c.in-Err-write_first.is ∙ ap Err failed)));
     }

@@ -38,7 +38,7 @@ returns-in-Err g c =
       later = (let first = c.take.ensures.cause.later in let same = c.give.ensures.faults in omega (arith, first, same));
       cause = λ failed. (let area = g.H.A.Area in
           let r = c.in-Err in
-          inr (odd_failed (area.faults c.in_ok-kit.kit.odd) (area.faults r.field-0.kit.odd) (g.H.Shelf.counts c.give.new.self c.args.number).odd c.device_fault.result r.field-0.why c.device_fault.ensures r.ensures.why c.give.ensures.odd_count failed));
+          inr (odd_failed (area.faults c.in_ok-kit.kit.odd) (area.faults r.field-0.kit.odd) (g.H.Shelf.counts c.give.new.self c.args.number).odd r.field-0.why r.ensures.why c.give.ensures.odd_count failed));
     }
 
 pub returns-in_err-kit : goal.returns-in_err-kit

@@ -1,6 +1,7 @@
 use Rattle.std.proofs.Common.{Some, Err, ap}
 use Rattle.draid_import.proofs.ImportFaulty.{found_apart}
-use Rattle.draid_pool.proofs.Refusing.{no_record, no_refusal, no_shelf, record_no_shelf}
+use Rattle.draid_pool.proofs.Refusing.{no_refusal}
+use Rattle.draid_import.proofs.Unfound.{no_record, no_shelf, record_no_shelf}
 use Rattle.draid_import.proofs.importing.find_blocks.Goals as goal
 
 pub returns-in-Err-Record : goal.returns-in-Err-Record

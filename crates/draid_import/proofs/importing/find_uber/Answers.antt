@@ -1,12 +1,13 @@
 use Rattle.std.proofs.Common.{arith, ◌∙◌, inl, inr, Err, ap, refl, subst, sym}
 use Rattle.draid_uber.specs.Uber.{kept_of}
 use Rattle.draid_import.specs.Importing.{ImportIs}
-use Rattle.draid_pool.specs.declared.fault.PoolFault.{PoolFault}
+use Rattle.draid_import.specs.declared.fault.ImportFault.{ImportFault}
 use Rattle.draid_import.proofs.Found.{leaf_found, uber_left, uber_put, checks_equal, checks_given, checks_same, checks_uber_taken, found_uber, none_there, pool_there}
 use Rattle.draid_import.proofs.ImportFaulty.{err_is, no_uber, shelf_no_record, shelf_not_empty, tells_body, uber_bad, uber_empty}
 use Rattle.draid_import.proofs.ImportMade.{made_left, made_not, made_same, made_untaken}
 use Rattle.draid_import.proofs.ImportTaken.{no_pool, not_found, not_taken, taken_not}
-use Rattle.draid_pool.proofs.Refusing.{absent_no_record, absent_no_shelf, no_refusal}
+use Rattle.draid_pool.proofs.Refusing.{no_refusal}
+use Rattle.draid_import.proofs.Unfound.{absent_no_record, absent_no_shelf}
 use Rattle.draid_import.proofs.importing.find_uber.Goals as goal
 
 pub returns-in-Ok-recover : goal.returns-in-Ok-recover
@@ -15,7 +16,6 @@ returns-in-Ok-recover g c =
     let e = c.in-Ok-recover.ensures in
     record {
       found = found_uber g.H.A.Area c.in-Ok-recover.uber c.in-Ok-recover.ensures.valid c.in-Ok-recover.ensures.some c.in-Ok-recover.ensures.ranges;
-      not_spec = tt;
       recovered = (let area = g.H.A.Area in
           record {
             content = area.told c.in-Ok.area;
@@ -49,7 +49,6 @@ returns-then-not-has_pool g c =
     let shelf = g.H.Shelf in
     record {
       found = tt;
-      not_spec = tt;
       recovered = tt;
       told = tt;
       body = tt;
@@ -74,13 +73,12 @@ returns-in-Err g c =
     let e = c.in-Err.ensures in
     record {
       found = tt;
-      not_spec = c.shelf_fault.ensures.not_spec;
       recovered = tt;
       told = tt;
       body = tt;
       empty = λ err. absurd (shelf_not_empty c.in-Err.why (sym c.shelf_fault.ensures.is ∙ err_is c.shelf_fault.result _ err));
       back = uber_left (shelf.told c.args.shelf.now) (shelf.told c.take_uber.new.self) (shelf.uber_count c.args.shelf.now) (shelf.uber_count c.take_uber.new.self) c.in-Err.ensures.err c.in-Err.ensures.err_count;
-      import = λ x pieces there. subst (λ (why : PoolFault). ImportIs g.H.R.Rack g.H.A.Area x pieces (shelf.told c.take_uber.new.self) (shelf.leaves c.take_uber.new.self) (shelf.counts c.take_uber.new.self) (shelf.uber_count c.take_uber.new.self) (Err why))
+      import = λ x pieces there. subst (λ (why : ImportFault). ImportIs g.H.R.Rack g.H.A.Area x pieces (shelf.told c.take_uber.new.self) (shelf.leaves c.take_uber.new.self) (shelf.counts c.take_uber.new.self) (shelf.uber_count c.take_uber.new.self) (Err why))
           (sym c.shelf_fault.ensures.is)
           (not_taken g.H.R.Rack g.H.A.Area x pieces (shelf.told c.args.shelf.now) (shelf.told c.take_uber.new.self) (shelf.leaves c.args.shelf.now) (shelf.leaves c.take_uber.new.self)
           (shelf.counts c.args.shelf.now) (shelf.counts c.take_uber.new.self) (shelf.uber_count c.args.shelf.now) (shelf.uber_count c.take_uber.new.self) c.in-Err.why e.err e.leaves e.counts e.err_count there);
@@ -105,14 +103,13 @@ returns-in-Err-recover g c =
     let e = c.give_uber.ensures in
     record {
       found = tt;
-      not_spec = c.uber_fault.ensures.not_spec;
       recovered = tt;
       told = tt;
       body = tt;
       empty = λ err. uber_empty (shelf.told c.args.shelf.now) (area.told c.in-Ok.area) r.field-0.why t.area r.ensures.finds (sym c.uber_fault.ensures.is ∙ err_is c.uber_fault.result _ err);
       back = uber_put c.in-Ok.area (shelf.told c.args.shelf.now) (shelf.told c.take_uber.new.self) (shelf.told c.give_uber.new.self) (area.told c.in-Ok.area) (area.told r.field-0.area) (shelf.uber_count c.args.shelf.now) (shelf.uber_count c.give_uber.new.self)
           t.told e.told t.area t.needs r.ensures.err (let was = t.count in let up = r.ensures.err_later in let now = e.count in omega (arith, was, up, now));
-      import = λ x pieces there. subst (λ (why : PoolFault). ImportIs g.H.R.Rack g.H.A.Area x pieces (shelf.told c.give_uber.new.self) (shelf.leaves c.give_uber.new.self) (shelf.counts c.give_uber.new.self) (shelf.uber_count c.give_uber.new.self) (Err why))
+      import = λ x pieces there. subst (λ (why : ImportFault). ImportIs g.H.R.Rack g.H.A.Area x pieces (shelf.told c.give_uber.new.self) (shelf.leaves c.give_uber.new.self) (shelf.counts c.give_uber.new.self) (shelf.uber_count c.give_uber.new.self) (Err why))
           (sym c.uber_fault.ensures.is)
           (not_found g.H.R.Rack g.H.A.Area x pieces (shelf.told c.args.shelf.now) (shelf.told c.take_uber.new.self) (shelf.told c.give_uber.new.self) (shelf.leaves c.args.shelf.now) (shelf.leaves c.give_uber.new.self)
           (shelf.counts c.args.shelf.now) (shelf.counts c.give_uber.new.self) (shelf.uber_count c.args.shelf.now) (shelf.uber_count c.give_uber.new.self) (area.size c.in-Ok.area) (area.told c.in-Ok.area) (area.told r.field-0.area)

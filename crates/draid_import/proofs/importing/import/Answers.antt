@@ -12,7 +12,7 @@ use Rattle.draid_session.specs.State.{limit_of}
 use Rattle.draid_import.specs.Findings.{LeavesAll}
 use Rattle.draid_found.specs.Found.{AreFound, AreReady}
 use Rattle.draid_import.specs.Importing.{ImportIs}
-use Rattle.draid_pool.specs.declared.fault.PoolFault.{PoolFault}
+use Rattle.draid_import.specs.declared.fault.ImportFault.{ImportFault}
 use Rattle.draid_pool.specs.declared.pool.Pool.{Pool}
 use Rattle.draid_import.proofs.Findings.{left_found, left_unfound, over_entry, unread_entry}
 use Rattle.draid_import.proofs.ImportFaulty.{err_is, passed_on, shard_not_empty}
@@ -20,7 +20,7 @@ use Rattle.draid_import.proofs.ImportMade.{made_passed, none_passed}
 use Rattle.draid_import.proofs.ImportLeft.{leaves_all, refusal_is, refused_pool, rests_known, risen_behind}
 use Rattle.draid_import.proofs.ImportOne.{no_fault_apart}
 use Rattle.draid_import.proofs.ImportPool.{pool_found, tells_as_before}
-use Rattle.draid_import.proofs.Found.{absent_not, all_ready, checks_more, refused_too, checks_back, checks_given, shard_not_spec}
+use Rattle.draid_import.proofs.Found.{absent_not, all_ready, checks_more, refused_too, checks_back, checks_given}
 use Rattle.draid_pool.proofs.Refusing.{if_err_passed, if_ok_passed, no_refusal, on_err_always, on_ok_passed, passed, passed_is}
 use Rattle.draid_import.proofs.importing.import.Goals as goal
 
@@ -84,7 +84,6 @@ returns-in-Ok-find_blocks g c =
           });
       empty = λ err. absurd (no_refusal err);
       back = tt;
-      not_spec = tt;
       tells = tells_as_before (layout_of c.in_ok-uber.uber).props.metaslabs (shelf.told c.args.shelf.now) (shelf.told c.find_uber.new.shelf) (shelf.told c.reopen_shards.new.shelf) c.in_ok-uber.ensures.told c.in-Ok.ensures.told;
       faulty = λ metaslab place kind err. absurd (no_refusal err);
       held = checks_more (shelf.told c.args.shelf.now) (shelf.told c.find_uber.new.shelf) (shelf.told c.reopen_shards.new.shelf) c.in_ok-uber.ensures.held c.reopen_shards.ensures.held;
@@ -118,7 +117,6 @@ returns-in-Err g c =
           c.in_ok-uber.uber u.found u.recovered u.body u.told c.find_uber.ensures.counts c.in-Err.ensures.back
           (c.give_uber.ensures.told ∙ ap (λ a. gives_uber (g.H.A.Area.told a) (shelf.told c.reopen_shards.new.shelf)) c.into_area.ensures) c.give_uber.ensures.counts
           (c.give_uber.ensures.count ∙ ap g.H.A.Area.faults c.into_area.ensures);
-      not_spec = shard_not_spec c.in-Err.fault c.in-Err.ensures.fault;
       tells = tt;
       faulty = λ metaslab place kind err. (let uber = c.in_ok-uber.uber in
           inr (record {
@@ -180,7 +178,6 @@ returns-in-Err-find_blocks g c =
           e.reopened e.over e.told e.left c.give_back.ensures.returns c.give_back.ensures.leaves)
           (c.give_uber-in-Err-find_blocks.ensures.told ∙ ap (λ a. gives_uber (g.H.A.Area.told a) (shelf.told c.give_back.new.shelf)) c.into_area-in-Err-find_blocks.ensures) c.give_uber-in-Err-find_blocks.ensures.counts
           (c.give_uber-in-Err-find_blocks.ensures.count ∙ ap g.H.A.Area.faults c.into_area-in-Err-find_blocks.ensures));
-      not_spec = shard_not_spec c.in-Err-find_blocks.fault c.in-Err-find_blocks.ensures.fault;
       tells = tt;
       faulty = λ metaslab place kind err. inr (record {
         uber = uber;
@@ -217,7 +214,7 @@ returns-in_err-uber g c =
       made = λ geometry made. made_passed (Uber g.row.H-A.Denot) (Pool g.row.H-R.Denot g.row.H-A.Denot) geometry c.from_residual.result c.in_err-uber.field-0.0 _ _ _ _ _ c.from_residual.ensures.1 (c.in_err-uber.ensures.made geometry made);
       import = λ x pieces there. (let shelf = g.H.Shelf in
           let new = c.find_uber.new.shelf in
-          subst (λ (r : Result (Pool g.row.H-R.Denot g.row.H-A.Denot) PoolFault). ImportIs g.H.R.Rack g.H.A.Area x pieces (shelf.told new) (shelf.leaves new) (shelf.counts new) (shelf.uber_count new) r) (sym (passed_is c.from_residual.result c.in_err-uber.field-0.0 c.from_residual.ensures.1))
+          subst (λ (r : Result (Pool g.row.H-R.Denot g.row.H-A.Denot) ImportFault). ImportIs g.H.R.Rack g.H.A.Area x pieces (shelf.told new) (shelf.leaves new) (shelf.counts new) (shelf.uber_count new) r) (sym (passed_is c.from_residual.result c.in_err-uber.field-0.0 c.from_residual.ensures.1))
           (c.in_err-uber.ensures.import x pieces there));
       read = if_ok_passed _ c.from_residual.result _ c.from_residual.ensures.1;
       empty = λ err. c.in_err-uber.ensures.empty (passed c.from_residual.result c.in_err-uber.field-0.0 _ c.from_residual.ensures.1 err);
@@ -225,7 +222,6 @@ returns-in_err-uber g c =
           on_err_always c.from_residual.result (LeavesAll g.H.A.Area (shelf.told c.args.shelf.now) (shelf.told c.find_uber.new.shelf) (shelf.counts c.args.shelf.now) (shelf.counts c.find_uber.new.shelf) (shelf.uber_count c.args.shelf.now) (shelf.uber_count c.find_uber.new.shelf))
           (left_unfound g.H.A.Area (shelf.told c.args.shelf.now) (shelf.told c.find_uber.new.shelf) (shelf.counts c.args.shelf.now) (shelf.counts c.find_uber.new.shelf) (shelf.uber_count c.args.shelf.now) (shelf.uber_count c.find_uber.new.shelf)
           c.find_uber.ensures.counts c.in_err-uber.ensures.back));
-      not_spec = if_err_passed c.from_residual.result c.in_err-uber.field-0.0 _ c.from_residual.ensures.1 c.in_err-uber.ensures.not_spec;
       tells = on_ok_passed _ c.from_residual.result _ c.from_residual.ensures.1;
       faulty = λ metaslab place kind err. (let p = err_from_is_err_and c.from_residual.result c.from_residual.ensures.1 in
           inl (c.in_err-uber.ensures.faulty metaslab place kind (passed_on c.from_residual.result p.0 c.in_err-uber.field-0.0 _ p.1 p.2 err)));

@@ -14,7 +14,8 @@ use Rattle.draid_import.proofs.ImportUnread.{no_record_too}
 use Rattle.draid_pool.proofs.Takings.{none_taken, takes_more}
 use Rattle.draid_import.proofs.ImportFaulty.{err_is, unread_first}
 use Rattle.draid_import.proofs.ImportLeft.{leaves_none, leaves_shards}
-use Rattle.draid_pool.proofs.Refusing.{no_record, no_refusal, no_shelf}
+use Rattle.draid_pool.proofs.Refusing.{no_refusal}
+use Rattle.draid_import.proofs.Unfound.{no_record, no_shelf}
 use Rattle.draid_import.proofs.importing.reopen_shards.Goals as goal
 
 pub loop-number-init : goal.loop-number-init

@@ -4,7 +4,7 @@ use Rattle.draid_run.specs.Making.{MakeIs}
 use Rattle.draid_run.specs.Shelves.{on_shelf}
 use Rattle.draid_run.proofs.Exits.{same_later}
 use Rattle.draid_run.proofs.Importings.{none_open}
-use Rattle.draid_run.proofs.Makings.{already_open, create_unmade, made, of_making, shut, unreadable}
+use Rattle.draid_run.proofs.Makings.{already_open, create_unmade, made, shut, unreadable}
 use Rattle.draid_run.proofs.answer.create.Goals as goal
 
 pub returns-in-Ok-make : goal.returns-in-Ok-make
@@ -39,10 +39,6 @@ returns-in-Err-make g c = record {
       c.in-Err-make.fault c.in-Err-make.is c.unmade.result c.unmade.ensures;
   later = c.make.ensures.later;
 }
-
-pub unmade-requires : goal.unmade-requires
-unmade-requires g c =
-    of_making g.H.R.Rack g.H.A.Area c.in-Ok.spec c.props.result (on_shelf g.H.Shelf c.args.shelf.now) (on_shelf g.H.Shelf c.make.new.shelf) c.make.new.pool c.in-Err-make.fault c.in-Err-make.ensures.makes.pool_is
 
 pub make-requires-clause-closed : goal.make-requires-clause-closed
 make-requires-clause-closed g c κs within = none_open c.args.pool.now (sym c.is_some.ensures ∙ c.if-is_some.false)

@@ -53,6 +53,3 @@ returns-in-Err g c = record {
       e.faulty c.args.pool.now x (sym c.is_some.ensures ∙ c.if-is_some.false) desk c.in-Err.fault c.in-Err.is c.unopened.result c.unopened.ensures);
   later = c.import.ensures.later;
 }
-
-pub unopened-requires : goal.unopened-requires
-unopened-requires g c = c.in-Err.ensures.not_spec

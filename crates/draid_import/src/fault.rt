@@ -1,0 +1,38 @@
+use draid_area::Area;
+use draid_rack::Rack;
+use draid_shelf::Kit;
+
+/// Why no pool was imported.
+#[derive(Clone, Copy)]
+pub enum ImportFault {
+    /// The shelf has no pool, or no gate of its uberblock is open.
+    NoPool,
+    /// The first field of a record that is out of its range begins at byte `at`: of a metaslab's record, or of the uberblock's slot.
+    Record {
+        metaslab: Option<u32>,
+        at: u64,
+        kind: u8,
+    },
+    /// The shelf failed.
+    Shelf,
+    NoMemory,
+}
+
+/// A metaslab wasn't opened; its devices come back.
+#[derive(Drop)]
+pub struct OpenRefused<R: Rack, A: Area> {
+    pub kit: Kit<R, A>,
+    pub why: OpenFault,
+}
+
+/// Why a metaslab isn't opened.
+#[derive(Clone, Copy, PartialEq, Eq)]
+pub enum OpenFault {
+    /// A call on the area of the group's record failed.
+    Area,
+    /// The first fault of the record, at this byte: a field that is cut (kind 1) or out of its range (kind 2), bytes
+    /// behind the last field (kind 3); else the number of a leaf arm that the rack doesn't have with the metaslab's
+    /// sectors (kind 6); else a block whose object and seq a block before it has (kind 5).
+    Record { at: u64, kind: u8 },
+    NoMemory,
+}
