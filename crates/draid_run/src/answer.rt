@@ -14,7 +14,7 @@ ghost use Rattle.draid_run.specs.Shelves.{OnShelf, on_shelf};
 use crate::{groups, importing, replies};
 use draid_area::Area;
 use draid_choose::Chooser;
-use draid_create::{CreateFault, create};
+use draid_create::CreateFault;
 use draid_names::Room;
 use draid_pool::Pool;
 use draid_rack::Rack;
@@ -124,7 +124,7 @@ fn make<H: Shelf>(
     let Ok(name) = vdev_name(alloc, spec) else {
         return Err(CreateFault::NoMemory);
     };
-    match create(alloc, shelf, spec, props) {
+    match draid_create::create(alloc, shelf, spec, props) {
         Ok(open) => {
             *pool = Some(open);
             Ok(Made {

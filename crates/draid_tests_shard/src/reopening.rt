@@ -6,8 +6,9 @@ use crate::devices::{kit, layout};
 use draid_area::Area;
 use draid_create::create_metaslab;
 use draid_import::{OpenFault, reopen};
-use draid_pool::into_kit;
+use draid_names::DeviceFault;
 use draid_perm::Perms;
+use draid_pool::into_kit;
 use draid_rack::Rack;
 use draid_shard::Shard;
 use draid_shelf::Kit;
@@ -376,7 +377,7 @@ fn made<R: Rack, A: Area>(
     alloc: Global,
     layout: Geometry,
     kit: Kit<R, A>,
-) -> Result<Result<(Kept, Blocks), OpenFault>, OpenFault>
+) -> Result<Result<(Kept, Blocks), OpenFault>, DeviceFault>
     requires layout { IsGeometry layout }
     requires rack { HasJust (R.shape kit.rack) layout.spec.children (metaslab_sectors layout) layout.props.sector }
 {
@@ -391,7 +392,7 @@ fn made<R: Rack, A: Area>(
 fn made_over(
     alloc: Global,
     failing: &[u64],
-) -> Option<Result<Result<(Kept, Blocks), OpenFault>, OpenFault>> {
+) -> Option<Result<Result<(Kept, Blocks), OpenFault>, DeviceFault>> {
     let Ok(layout) = layout(4) else {
         return None;
     };
@@ -422,7 +423,7 @@ enum Course {
 /// Whether it comes so far where these calls on the area of odd groups fail.
 fn is_made(alloc: Global, failing: &[u64], wanted: Course) -> bool {
     match (made_over(alloc, failing), wanted) {
-        (Some(Err(why)), Course::No) => why == OpenFault::Area,
+        (Some(Err(why)), Course::No) => why == DeviceFault::Failed,
         (Some(Ok(Err(why))), Course::Shut) => why == OpenFault::Area,
         (Some(Ok(Ok((kept, _)))), Course::Opened) => kept == ([true, true, true, false], 32),
         _ => false,
