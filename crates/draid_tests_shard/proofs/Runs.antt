@@ -32,6 +32,7 @@ unused t seq stripe none behind = by (held_in t key) refl
   where
     key : Key
     key = record { object = 7; seq = seq }
+
     by : (o : Option Held) → held_in t key ≡ o → held_in t key ≡ None
     by None is = is
     by (Some h) is =

@@ -12,4 +12,4 @@ returns-clause-within c =
     let l = site_layout c.args.site.now in
     ok_map c.replay.result (λ (v : World). Run l (state_of c.args.world) c.args.events.now (state_of v)) (λ (v : World). IsWithin (state_of v))
     (λ v run. run_within l (state_of c.args.world) (state_of v) c.args.events.now (stripes_few c.args.site.now.geometry c.args.site.now.laid.geometry_is)
-        c.requires.within (search rules) run) c.replay.ensures.ok
+    c.requires.within (search rules) run) c.replay.ensures.ok
