@@ -1,0 +1,4 @@
+pub mod Changes
+pub mod Order
+pub mod Places
+pub mod States
