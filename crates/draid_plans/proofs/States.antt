@@ -252,15 +252,15 @@ module _ (slots : SlotTable) (lay : IsLayout slots.geometry slots.perms) (w : ma
     slots_planned : HasSlots new (plan_state w kind (arms.targets_of l w.core kind)).core
     slots_planned = slots_made new (λ n. fill_if (not (is_heal kind) && has_name (arms.targets_of l w.core kind) n) (w.open_group + 1))
         ((plan_state w kind (arms.targets_of l w.core kind)).core.pass) (w.core.last + 1) (record {
-      same_gone = fills.detached_stay;
-      names = λ slot. ap (λ all. map name_of (slice_index_or all slot [])) fills.arms_stay;
-      from = λ at a there.
-          let was : arm_at slots at ≡ Some a = subst (λ all. slice_get (slice_index_or all at.slot []) at.arm ≡ Some a) fills.arms_stay there in
-          (a, was, refl, λ i. record { offline = a.offline; fresh = a.fresh; log = λ g. log_is at a g was i; gone = None });
-      to = λ at a there. (a, subst (λ all. slice_get (slice_index_or all at.slot []) at.arm ≡ Some a) (sym fills.arms_stay) there, refl);
-      offline = λ n x. refl;
-      gone = λ n x. refl;
-    })
+          same_gone = fills.detached_stay;
+          names = λ slot. ap (λ all. map name_of (slice_index_or all slot [])) fills.arms_stay;
+          from = λ at a there.
+              let was : arm_at slots at ≡ Some a = subst (λ all. slice_get (slice_index_or all at.slot []) at.arm ≡ Some a) fills.arms_stay there in
+              (a, was, refl, λ i. record { offline = a.offline; fresh = a.fresh; log = λ g. log_is at a g was i; gone = None });
+          to = λ at a there. (a, subst (λ all. slice_get (slice_index_or all at.slot []) at.arm ≡ Some a) (sym fills.arms_stay) there, refl);
+          offline = λ n x. refl;
+          gone = λ n x. refl;
+        })
 
     pass_planned : planned_pass w kind (arms.targets_of l w.core kind) ≡ pass_in new pass
     pass_planned = by kind planned.kind_is max planned.running_is ∙ (λ i. record {
@@ -309,13 +309,12 @@ module _ (slots : SlotTable) (lay : IsLayout slots.geometry slots.perms) (w : ma
     made at a there (Some old) was is =
         let same : made_good (is_good pass at) old ≡ a = some_injective (made_good (is_good pass at) old) a is in
         let good : ((pass.errors == 0) && has_name (names_at slots pass.targets.items) (name_of a)) ≡ is_good pass at =
-        ap (λ n. (pass.errors == 0) && has_name (names_at slots pass.targets.items) n) (sym (ap name_of same)) ∙ good_is at old was in
-        (
+        ap (λ n. (pass.errors == 0) && has_name (names_at slots pass.targets.items) n) (sym (ap name_of same)) ∙ good_is at old was in (
           old,
           was,
           ap name_of same,
           ap (λ b. excise_if b pass.max (arm_in slots at old)) good
-          ∙ (λ i. record { offline = (same i).offline; fresh = (same i).fresh; log = λ g. sym (ends.logged at g) i; gone = None }),
+              ∙ (λ i. record { offline = (same i).offline; fresh = (same i).fresh; log = λ g. sym (ends.logged at g) i; gone = None }),
         )
 
     pub slots_ended : HasSlots new (done_state w (pass_in slots pass)).core

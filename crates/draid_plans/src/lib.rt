@@ -4,10 +4,14 @@
 #![tactic(auto)]
 
 mod ends;
+mod laws;
 mod logs;
+mod losses;
 mod plans;
 mod targets;
 
 pub use ends::end;
+pub use laws::slots_stay;
+pub use losses::lose_marked;
 pub use plans::{plan, room};
 pub use targets::has_target;

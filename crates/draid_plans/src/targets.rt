@@ -58,13 +58,7 @@ pub fn has_target(slots: &Slots, marks: &[Marks], kind: PassKind) -> bool
 }
 
 /// Lists those of a slot.
-fn list_in_slot(
-    slots: &Slots,
-    marks: &[Marks],
-    kind: PassKind,
-    slot: u32,
-    targets: &mut Vec<ArmAt>,
-)
+fn list_in_slot(slots: &Slots, marks: &[Marks], kind: PassKind, slot: u32, targets: &mut Vec<ArmAt>)
     requires slot { slot < slots.now.geometry.spec.children }
     requires count { length marks.now ≡ slots.now.geometry.spec.children }
     requires room { length targets.old.items + 3 ≤ vec_capacity targets.old }
@@ -84,12 +78,7 @@ fn list_in_slot(
 }
 
 /// Makes a list that of the targets of a pass of a kind, in their order.
-pub(crate) fn list_targets(
-    slots: &Slots,
-    marks: &[Marks],
-    kind: PassKind,
-    targets: &mut Vec<ArmAt>,
-)
+pub(crate) fn list_targets(slots: &Slots, marks: &[Marks], kind: PassKind, targets: &mut Vec<ArmAt>)
     requires count { length marks.now ≡ slots.now.geometry.spec.children }
     requires room { HasTargetRoom slots.now targets.old }
     ensures table { IsTable slots.now }
