@@ -1,5 +1,5 @@
 -- The targets that a pass loses, by their names.
-use Rattle.std.proofs.Common.{◌≡◌, ◌+◌, ◌-◌, not, ◌∙◌, ℕ, suc, Bool, true, false, List, [], ◌∷◌, Some, None, All, ap, arith, cond, count_by, filter, length, refl, sym, get_or}
+use Rattle.std.proofs.Common.{◌≡◌, ◌+◌, ◌-◌, not, ◌∙◌, suc, Bool, true, false, List, [], ◌∷◌, Some, None, All, ap, arith, cond, count_by, filter, length, refl, sym, get_or}
 use Rattle.std.proofs.lemmas.List.Elements.{All-head, All-tail}
 use Rattle.std.proofs.lemmas.List.Sums.{length-filter}
 use Rattle.std.proofs.lemmas.Option.{slice_get-get_or}
@@ -9,15 +9,12 @@ use Rattle.draid_names.specs.declared.pass_kind.PassKind.{PassKind}
 use Rattle.draid_names.specs.declared.pass_kind.PassKind.TheVariants.{Rebuild, Heal}
 use Rattle.draid_machine.specs.declared.names.ArmName.{ArmName}
 use Rattle.draid_machine.specs.After.{capped, lose_some, lost_errors}
-use Rattle.draid_machine.specs.Arms.{is_silent, lies_on}
-use Rattle.draid_machine.specs.State as machine
 use Rattle.draid_pass.specs.declared.pass.Pass.{Pass}
 use Rattle.draid_slots.specs.Changes.{new_arm}
 use Rattle.draid_slots.specs.States.{name_of, names_at, pass_in}
 use Rattle.draid_slots.specs.Table.{SlotTable, IsThere, arm_at, arms_of}
 use Rattle.draid_plans.specs.Ends.{Loses, counted, is_lost}
-use Rattle.draid_plans.specs.Layout.{layout_with}
-use Rattle.draid_plans.specs.Targets.{MarkSilent}
+use Rattle.draid_plans.specs.Targets.{AreMarked}
 
 -- how many go
 left_count : {X : Type 0} (bad : X → Bool) (xs : List X) → length (filter (λ x. not (bad x)) xs) + length (filter bad xs) ≡ length xs
@@ -83,21 +80,18 @@ module _ (slots : SlotTable) (bad : ArmName → Bool) (lost : ArmAt → Bool) (s
   counts_same : (ts : List ArmAt) → All (IsThere slots) ts → count_by lost ts ≡ count_by bad (names_at slots ts)
   counts_same ts all = sym (length-filter lost ts) ∙ names_lost ts all ∙ length-filter bad (names_at slots ts)
 
-pub loses_all : (marks : List (List Bool)) (old new : Pass) → Loses marks old new → (slots : SlotTable) (failed : List ℕ) (q : machine.Core) → MarkSilent slots marks failed q → All (IsThere slots) old.targets.items
-    → pass_in slots new ≡ lose_some (lies_on (layout_with slots) q (is_silent q failed)) (pass_in slots old)
-loses_all marks old new is slots failed q silent all = λ i. record {
+pub loses_all : (marks : List (List Bool)) (old new : Pass) → Loses marks old new → (slots : SlotTable) (bad : ArmName → Bool) → AreMarked slots marks bad → All (IsThere slots) old.targets.items
+    → pass_in slots new ≡ lose_some bad (pass_in slots old)
+loses_all marks old new is slots bad marked all = λ i. record {
   number = is.number_stays i;
   kind = is.kind_stays i;
-  targets = (ap (names_at slots) is.targets_are ∙ names_left slots bad (is_lost marks) silent old.targets.items all) i;
+  targets = (ap (names_at slots) is.targets_are ∙ names_left slots bad (is_lost marks) marked old.targets.items all) i;
   max = is.max_stays i;
   next = is.place_stays i;
-  errors = (is.errors_are ∙ ap (λ n. capped (old.errors + n)) (ap (counted old.kind) (counts_same slots bad (is_lost marks) silent old.targets.items all) ∙ by old.kind)) i;
+  errors = (is.errors_are ∙ ap (λ n. capped (old.errors + n)) (ap (counted old.kind) (counts_same slots bad (is_lost marks) marked old.targets.items all) ∙ by old.kind)) i;
   running = is.running_stays i;
 }
   where
-    bad : ArmName → Bool
-    bad = lies_on (layout_with slots) q (is_silent q failed)
-
     by : (k : PassKind) → counted k (count_by bad (names_at slots old.targets.items)) ≡ lost_errors k bad (names_at slots old.targets.items)
     by Rebuild = refl
     by Heal = refl

@@ -3,17 +3,17 @@ use Rattle.std.specs.Prelude.{◌≡◌, ◌==◌, ◌+◌, ◌&&◌, not, ℕ, 
 use Rattle.draid_names.specs.declared.arm.ArmAt.{ArmAt}
 use Rattle.draid_names.specs.declared.pass_kind.PassKind.{PassKind}
 use Rattle.draid_names.specs.declared.pass_kind.PassKind.TheVariants.{Rebuild, Heal}
+use Rattle.draid_machine.specs.declared.names.ArmName.{ArmName}
 use Rattle.draid_machine.specs.After.{capped, done_state, lose_some}
-use Rattle.draid_machine.specs.Arms.{is_silent, lies_on}
 use Rattle.draid_machine.specs.Created.{IsReached}
-use Rattle.draid_machine.specs.State.{Core, State}
+use Rattle.draid_machine.specs.State.{State}
 use Rattle.draid_pass.specs.declared.pass.Pass.{Pass}
 use Rattle.draid_slots.specs.Marks.{is_marked}
 use Rattle.draid_slots.specs.States.{HasSlots, pass_in}
 use Rattle.draid_slots.specs.Table.{SlotTable, IsThere}
 use Rattle.draid_plans.specs.Layout.{layout_with}
 use Rattle.draid_plans.specs.Logs.{has_place}
-use Rattle.draid_plans.specs.Targets.{MarkSilent}
+use Rattle.draid_plans.specs.Targets.{AreMarked}
 
 -- a pass that ends without errors makes its targets good
 abbrev pub is_good : Pass → ArmAt → Bool
@@ -45,8 +45,7 @@ pub record Loses (marks : List (List Bool)) (old new : Pass) : Type 0 where
   pub running_stays : new.running ≡ old.running
   pub room : vec_capacity new.targets ≡ vec_capacity old.targets
 
--- where just the arms on silent leaves are marked, and the targets are there, it loses what the machine's pass loses
+-- where just the arms that pass a test are marked, and the targets are there, it loses what the machine's pass loses by that test
 abbrev pub LosesAll : List (List Bool) → Pass → Pass → Type 0
 LosesAll marks old new =
-    (slots : SlotTable) (failed : List ℕ) (q : Core) → MarkSilent slots marks failed q → All (IsThere slots) old.targets.items
-    → pass_in slots new ≡ lose_some (lies_on (layout_with slots) q (is_silent q failed)) (pass_in slots old)
+    (slots : SlotTable) (bad : ArmName → Bool) → AreMarked slots marks bad → All (IsThere slots) old.targets.items → pass_in slots new ≡ lose_some bad (pass_in slots old)

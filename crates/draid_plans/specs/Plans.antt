@@ -46,7 +46,7 @@ pub record Plans (w : State) (old new : SlotTable) (kind : PassKind) (pass : Pas
   pub slots_are : HasSlots new (plan_state w kind (arms.targets_of (layout_with old) w.core kind)).core
   pub pass_is : (plan_state w kind (arms.targets_of (layout_with old) w.core kind)).core.pass ≡ Some (pass_in new pass)
 
--- so it is of each such state for which the arms are marked as the kind asks, and of which number and group are
+-- So it is of each such state in which the arms are marked as the kind asks, where the pass has the next number and the max of its kind.
 abbrev pub PlansAll : SlotTable → SlotTable → List (List Bool) → PassKind → Pass → Type 0
 PlansAll old new marks kind pass =
     (w : State) → IsReached (layout_with old) w → HasSlots old w.core → SuitKind old marks kind w.core → pass.number ≡ w.core.last + 1 → pass.max ≡ max_of w kind

@@ -6,6 +6,7 @@ use Rattle.draid_names.specs.declared.arm.Arm.{Arm}
 use Rattle.draid_names.specs.declared.arm.ArmAt.{ArmAt}
 use Rattle.draid_names.specs.declared.pass_kind.PassKind.{PassKind}
 use Rattle.draid_names.specs.declared.pass_kind.PassKind.TheVariants.{Rebuild, Heal}
+use Rattle.draid_machine.specs.declared.names.ArmName.{ArmName}
 use Rattle.draid_machine.specs.Arms.{is_silent, lies_on}
 use Rattle.draid_machine.specs.State as machine
 use Rattle.draid_slots.specs.Marks.{is_marked}
@@ -51,12 +52,11 @@ HasTargetRoom slots targets = 3 * slots.geometry.spec.children ≤ vec_capacity 
 
 -- ---- marks
 
--- just those arms are marked that lie in a state on a silent leaf: one that doesn't answer, or on which a call failed
-abbrev pub MarkSilent : SlotTable → List (List Bool) → List ℕ → machine.Core → Type 0
-MarkSilent slots marks failed q =
-    (at : ArmAt) (arm : Arm) → arm_at slots at ≡ Some arm → is_marked marks at.slot at.arm ≡ lies_on (layout_with slots) q (is_silent q failed) (name_of arm)
+-- just those arms are marked that pass a test of their names
+abbrev pub AreMarked : SlotTable → List (List Bool) → (ArmName → Bool) → Type 0
+AreMarked slots marks test = (at : ArmAt) (arm : Arm) → arm_at slots at ≡ Some arm → is_marked marks at.slot at.arm ≡ test (name_of arm)
 
--- a scrub takes those that lie on answering leaves alone, so they are to be marked for it
+-- a scrub takes the arms that lie on answering leaves alone, so for it just those that lie on another leaf are marked in a state
 abbrev pub SuitKind : SlotTable → List (List Bool) → PassKind → machine.Core → Type 0
 SuitKind slots marks Rebuild q = Unit {0}
-SuitKind slots marks Heal q = MarkSilent slots marks [] q
+SuitKind slots marks Heal q = AreMarked slots marks (lies_on (layout_with slots) q (is_silent q []))

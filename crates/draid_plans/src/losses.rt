@@ -36,7 +36,7 @@ fn errors_after(kind: PassKind, errors: u64, lost: u64) -> u64
     }
 }
 
-/// A pass loses its marked targets, each of which counts an error in a rebuild. It takes no memory.
+/// A pass loses its marked targets, each of which counts an error in a rebuild.
 pub fn lose_marked(pass: &mut Pass, marks: &[Marks])
     ensures lost { Loses marks.now pass.old pass.new }
     ensures state { LosesAll marks.now pass.old pass.new }
