@@ -1,0 +1,5 @@
+pub mod Changes
+pub mod Losing
+pub mod Order
+pub mod Places
+pub mod States

@@ -1,0 +1,5 @@
+pub mod Ends
+pub mod Layout
+pub mod Logs
+pub mod Plans
+pub mod Targets
