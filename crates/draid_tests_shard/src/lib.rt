@@ -6,8 +6,6 @@
 #![tactic(auto)]
 
 #[cfg(test)]
-mod calls;
-#[cfg(test)]
 mod columns;
 #[cfg(test)]
 mod devices;
@@ -25,7 +23,5 @@ mod segments;
 mod shard;
 #[cfg(test)]
 mod slots;
-#[cfg(test)]
-mod stored;
 #[cfg(test)]
 mod trials;
