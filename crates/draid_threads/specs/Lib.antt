@@ -1,0 +1,9 @@
+pub mod States
+pub mod Cells
+pub mod Locks
+pub mod Follows
+pub mod Frees
+pub mod Threads
+pub mod AtPlaces
+pub mod Writing
+pub mod Putting

@@ -1,0 +1,27 @@
+//! Metaslabs of a pool that are held one at a time: by their only owner, or by one of several threads under locks.
+
+#![tactic(auto)]
+
+mod begin;
+mod cell;
+mod columns;
+mod finish;
+mod free;
+mod freeing;
+mod locked;
+mod metaslabs;
+mod own;
+mod owned;
+mod put;
+
+pub use begin::BeginOp;
+pub use cell::Cell;
+pub use columns::put_all;
+pub use finish::FinishOp;
+pub use free::FreeOp;
+pub use freeing::free_object;
+pub use locked::Locked;
+pub use metaslabs::Metaslabs;
+pub use own::Own;
+pub use owned::Owned;
+pub use put::PutOp;
