@@ -1,6 +1,6 @@
 -- The block that an object had before is freed in a hold, by what its thread knows of a pool's state.
 use Rattle.std.proofs.Common.{◌≡◌, ◌≢◌, ◌==◌, ◌&&◌, ◌≤◌, ◌<◌, ◌+◌, ◌∙◌, ◌⊎◌, inl, inr, arith, ℕ, Bool, true, false, List, [], ◌∷◌, Option, Some, None, refl, sym, ap, subst, slice_set, max, if◌then◌else◌}
-use Rattle.std.specs.Prelude.{slice_get}
+use Rattle.std.specs.Prelude.{option_map, slice_get}
 use Rattle.draid_names.specs.declared.pointer.Pointer.{Pointer}
 use Rattle.draid_rack.specs.declared.Rack as racks
 use Rattle.draid_area.specs.declared.Area as areas
@@ -17,6 +17,7 @@ use Rattle.draid_objects.specs.Changes as changes
 use Rattle.draid_objects.specs.Changes.{Write, write_of}
 use Rattle.draid_objects.proofs.Finding.{write_object}
 use Rattle.draid_objects.proofs.One.{one_set}
+use Rattle.draid_entries.specs.Entries.{held_in}
 use Rattle.draid_entries.specs.Maps.{held_at, key_of, staged}
 use Rattle.draid_shard.specs.Fits.{Valid}
 use Rattle.draid_shard.specs.Looks.{IsLive}
@@ -144,7 +145,7 @@ module _ {R A S : Type 0} (rack : racks.Ghosts R) (area : areas.Ghosts A) (went 
   points q own_q = points_at_on last new (table q) (write_of x.store.changes q)
       (λ t w t_is w_is pt. pointer_at_on rack area went shared owns a b last new p.metaslab cell before after there drifts valid is goes (all_of owns) lives table seq floor known.pieces x known.but_it q t w own_q (pt.object_is ∙ write_object x.store.changes q w w_is)
       (λ same live. live_key rack before.shard after.shard t drifts.valid valid part
-          (frees.sets.entry.held (key_of t) ∙ held_other _ (key_of p) (key_of t) _ (other_key q t w w_is pt)) live) pt)
+          (frees.sets.entry.held (key_of t) ∙ held_other (held_in before.shard.entries) (key_of p) (key_of t) (option_map held_at (Some (staged (stage.Freed group) p))) (other_key q t w w_is pt)) live) pt)
       (known.but_it.objects q own_q)
 
   pub earlier_step : LeadsBy rack area went shared a b x (λ holds store. written.FreesBlock we floor group holds × (store ≡ record x.store { floor = group })) (Knows rack area owns new table seq group)

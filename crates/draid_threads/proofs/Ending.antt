@@ -10,6 +10,7 @@ use Rattle.draid_names.specs.declared.pointer.Pointer.{Pointer}
 use Rattle.draid_rack.specs.declared.Rack as racks
 use Rattle.draid_area.specs.declared.Area as areas
 use Rattle.draid_block.specs.Blocks.{AreColumns, BlockValue, cut_of}
+use Rattle.draid_parity.specs.Columns.{column_at}
 use Rattle.draid_block.specs.Columns.{stripes_of}
 use Rattle.draid_machine.specs.declared.event.Event.TheVariants as event
 use Rattle.draid_machine.specs.declared.names.Key.{Key}
@@ -30,7 +31,7 @@ use Rattle.draid_blocks.specs.Tickets.{Carries}
 use Rattle.draid_blocks.specs.declared.fault.Missed.{Missed}
 use Rattle.draid_blocks.specs.declared.ticket.Ticket.{Ticket}
 use Rattle.draid_shard.specs.Changes.{SetsBlock}
-use Rattle.draid_shard.specs.Columns.{ArePieces}
+use Rattle.draid_shard.specs.Columns.{ArePieces, row_bytes}
 use Rattle.draid_shard.specs.Fits.{Valid}
 use Rattle.draid_shard.specs.Looks.{IsLive}
 use Rattle.draid_shard.specs.Part.{Part, layout_in}
@@ -278,7 +279,7 @@ module _ {R A S : Type 0} (rack : racks.Ghosts R) (area : areas.Ghosts A) (went 
         are = subst (λ cut. AreColumns cut block.bytes block.columns) (fin.carried.cut ∙ ap (λ (q : Part). cut_of q.geometry) z.is.part_is) fin.carried.columns;
         rows = λ c row column inside.
             ap (λ (q : Pieces). q (changes.key_of w) c row) (turn_here m z.now open_.pieces)
-            ∙ subst (λ k. z.now k c row ≡ _) key_w (ap (λ h. h c row) (z.same (key_of ticket.pointer) open_.own)
+            ∙ subst (λ k. z.now k c row ≡ row_bytes x.geometry.props.sector (column_at block.columns c) row) key_w (ap (λ h. h c row) (z.same (key_of ticket.pointer) open_.own)
             ∙ open_.rows c row (subst (λ n. c < n) (sym whole) column) (subst (λ n. row < n) (sym stripes) inside));
       }
 

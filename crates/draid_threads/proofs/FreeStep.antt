@@ -63,7 +63,7 @@ points_at_on last new (Some p) (Some w) on points = on p w refl refl points
 counts_same : (w : _) (c : Counts) → CountsRise w w [] c c
 counts_same w c = record { rack = (omega arith); even = (omega arith); odd = (omega arith); leaves = λ leaf stays. (omega arith) }
 
-looks : (l : _) (z : Metaslab) → Acts l Looked z z
+pub looks : (l : _) (z : Metaslab) → Acts l Looked z z
 looks l z = (record { opened = refl; events = refl; world = refl; harm = refl; counts = counts_same z.world z.counts }, refl)
 
 module _ {R A S : Type 0} (rack : racks.Ghosts R) (area : areas.Ghosts A) (went : S → ℕ → Cell R A → Cell R A → S → Type 0) (shared : Bool) (owns : ℕ → Bool) (a b : S) (last new : ℕ → Option (Cell R A)) (object : ℕ) (p : Pointer)

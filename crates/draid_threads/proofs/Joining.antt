@@ -44,10 +44,19 @@ module _ {S : Type 0} (between : S → ℕ → Metaslab → Metaslab → Metasla
   )
 
 module _ {R A S : Type 0} (rack : racks.Ghosts R) (area : areas.Ghosts A) (went : S → ℕ → Cell R A → Cell R A → S → Type 0) (shared : Bool) (a b c : S) (x : State)
-    (does : List Hold → Store → Type 0) (known : State → Type 0) (then_does : Store → List Hold → Store → Type 0) (then_known : State → Type 0) where
+    (does : List Hold → Store → Type 0) (known : State → Type 0) (then_does : List Hold → Store → Type 0) (then_known : State → Type 0) where
+  -- the one and then the other
+  pub record Both (holds : List Hold) (store : Store) : Type 0 where
+    pub front : List Hold
+    pub back : List Hold
+    pub mid : Store
+    pub are : holds ≡ front ++ back
+    pub first : does front mid
+    pub second : then_does back store
+
   pub leads_then : LeadsBy rack area went shared a b x does known
-      → ((y : State) → y.geometry ≡ x.geometry → y.perms ≡ x.perms → known y → LeadsBy rack area went shared b c y (then_does y.store) then_known)
-      → LeadsBy rack area went shared a c x (λ holds store. (front : List Hold) × (back : List Hold) × (mid : Store) × (holds ≡ front ++ back) × does front mid × then_does mid back store) then_known
+      → ((y : State) → y.geometry ≡ x.geometry → y.perms ≡ x.perms → (front : List Hold) → does front y.store → known y → LeadsBy rack area went shared b c y then_does then_known)
+      → LeadsBy rack area went shared a c x Both then_known
   leads_then one next = record {
     holds = one.holds ++ two.holds;
     reached = record two.reached { store = one.reached.store };
@@ -55,7 +64,7 @@ module _ {R A S : Type 0} (rack : racks.Ghosts R) (area : areas.Ghosts A) (went 
     follows = follows_join (Between rack area went shared (part_in x)) (λ s t u v. ⊥) one.holds two.holds a x b one.reached c (record two.reached { store = one.reached.store }) one.follows
         (by_store (Between rack area went shared (part_in x)) two.holds b between c two.reached one.reached.store
         (subst (λ (part : ℕ → Part). FollowsBy (Between rack area went shared part) (λ s t u v. ⊥) b two.holds between c two.reached) (λ i. λ m. record { geometry = layout.0 i; perms = layout.1 i; number = m }) two.follows));
-    done = (one.holds, two.holds, one.store, refl, one.done, two.done);
+    done = record { front = one.holds; back = two.holds; mid = one.store; are = refl; first = one.done; second = two.done };
     knows = two.knows;
   }
     where
@@ -65,5 +74,5 @@ module _ {R A S : Type 0} (rack : racks.Ghosts R) (area : areas.Ghosts A) (went 
       between : State
       between = record one.reached { store = one.store }
 
-      two : LeadsBy rack area went shared b c between (then_does one.store) then_known
-      two = next between layout.0 layout.1 one.knows
+      two : LeadsBy rack area went shared b c between then_does then_known
+      two = next between layout.0 layout.1 one.holds one.done one.knows

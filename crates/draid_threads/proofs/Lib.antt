@@ -22,3 +22,7 @@ pub mod OpenKeeps
 pub mod Earlier
 pub mod Joining
 pub mod PutSteps
+pub mod WholeWrite
+pub mod Looking
+pub mod Saying
+pub mod Ended

@@ -1,10 +1,11 @@
 -- A write of a thread's own, hold by hold, by what the thread knows of a pool's state: a ticket is opened, and a column is put.
-use Rattle.std.proofs.Common.{◌≡◌, ◌==◌, ◌≤◌, ◌<◌, ◌+◌, ◌∙◌, ◌⊎◌, inl, inr, arith, ℕ, Bool, true, false, List, [], ◌∷◌, Option, Some, None, refl, sym, ap, subst, max, if◌then◌else◌}
+use Rattle.std.proofs.Common.{◌≡◌, ◌==◌, ◌≤◌, ◌<◌, ◌+◌, ◌∙◌, ◌⊎◌, inl, inr, arith, ℕ, Bool, true, false, List, [], ◌∷◌, Option, Some, None, refl, sym, ap, ap₂, subst, max, if◌then◌else◌}
 use Rattle.draid_names.specs.declared.numbers.TheConstants.{LAST_NUMBER}
 use Rattle.draid_names.specs.declared.pointer.Pointer.{Pointer}
 use Rattle.draid_rack.specs.declared.Rack as racks
 use Rattle.draid_area.specs.declared.Area as areas
-use Rattle.draid_block.specs.Blocks.{BlockValue}
+use Rattle.draid_block.specs.Blocks.{BlockValue, cut_of}
+use Rattle.draid_block.specs.Columns.{stripes_of}
 use Rattle.draid_machine.specs.declared.event.Event.TheVariants as event
 use Rattle.draid_machine.specs.declared.names.Key.{Key}
 use Rattle.draid_machine.specs.declared.names.Held.{Held}
@@ -94,7 +95,7 @@ module _ {R A S : Type 0} (rack : racks.Ghosts R) (area : areas.Ghosts A) (went 
       ]
     ]
 
-    pub begin_step : LeadsBy rack area went shared a b x (λ holds store. (store ≡ x.store) × BeginsIn x.geometry m floor ticket.pointer holds) (KnowsOpen rack area owns new table seq floor m ticket block)
+    pub begin_step : LeadsBy rack area went shared a b x (λ holds store. (store ≡ x.store) × BeginsIn x.geometry m floor ticket.pointer block.bytes holds) (KnowsOpen rack area owns new table seq floor m ticket block)
     begin_step = record {
       holds = On (view_of m z.z) (Did (begins ticket.pointer) d.reached.world) ∷ [];
       reached = with_metaslab x m d.reached;
@@ -107,6 +108,9 @@ module _ {R A S : Type 0} (rack : racks.Ghosts R) (area : areas.Ghosts A) (went 
         there = refl;
         takes_blocks = open_takes;
         birth_is = begin.opens.named.birth_is ∙ ap (λ g. max g floor) (sym z.is.stands.is_in.open_group_is);
+        stripes_are = (valid.tables.placed ticket.pointer.first _ begin.opens.carries.is_open).is_block.stripes ∙ ap₂ stripes_of (ap (λ (q : Part). cut_of q.geometry) (begin.does.part ∙ z.is.part_is)) (sym begin.opens.carries.content.len);
+        len_is = sym begin.opens.carries.content.len;
+        digest_is = sym begin.opens.carries.content.digest;
       });
       knows = record {
         pieces = turn m z.now knows.pieces;

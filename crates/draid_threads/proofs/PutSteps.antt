@@ -21,13 +21,17 @@ use Rattle.draid_threads.specs.Threads.{KnowsOpen, LeadsBy}
 use Rattle.draid_threads.specs.Writing.{PutsShard}
 use Rattle.draid_threads.specs.declared.cell.Cell.{Cell}
 use Rattle.draid_threads.proofs.FreeHolds.{at_here}
-use Rattle.draid_threads.proofs.Joining.{leads_then}
+use Rattle.draid_threads.proofs.Joining.{Both, leads_then}
 use Rattle.draid_threads.proofs.Opening.{put_step}
 
 module _ {R A S : Type 0} (rack : racks.Ghosts R) (area : areas.Ghosts A) (went : S → ℕ → Cell R A → Cell R A → S → Type 0) (shared : Bool) where
   -- what is done by other words
-  pub leads_as : (a b : S) (x : State) (does as : List Hold → Store → Type 0) (known : State → Type 0) → ((holds : List Hold) (store : Store) → does holds store → as holds store) → LeadsBy rack area went shared a b x does known → LeadsBy rack area went shared a b x as known
-  leads_as a b x does as known f one = record { holds = one.holds; reached = one.reached; store = one.store; follows = one.follows; done = f one.holds one.store one.done; knows = one.knows }
+  pub leads_as : (a b : S) (x : State) (does said : List Hold → Store → Type 0) (known : State → Type 0) → ((holds : List Hold) (store : Store) → does holds store → said holds store) → LeadsBy rack area went shared a b x does known → LeadsBy rack area went shared a b x said known
+  leads_as a b x does said known f one = record { holds = one.holds; reached = one.reached; store = one.store; follows = one.follows; done = f one.holds one.store one.done; knows = one.knows }
+
+  -- one column is put
+  abbrev pub PutsOne : Ticket → ℕ → State → List Hold → Store → Type 0
+  PutsOne ticket m x holds store = (store ≡ x.store) × ((hold : Hold) × (holds ≡ hold ∷ []) × PutsColumn (key_of ticket.pointer) m hold)
 
   -- none was put yet
   pub puts_none : (owns : ℕ → Bool) (last : ℕ → Option (Cell R A)) (a : S) (m : ℕ) (ticket : Ticket) (block : BlockValue) → PutsBy rack area went shared owns owns last last a a m ticket ticket block 0
@@ -38,19 +42,20 @@ module _ {R A S : Type 0} (rack : racks.Ghosts R) (area : areas.Ghosts A) (went 
       (is : (k : ℕ) → new k ≡ (if k == m then Some after else now k)) (goes : went b m before after c) (put : PutsShard rack before.shard ticket block after_ticket after.shard) where
     pub puts_one : PutsBy rack area went shared owns now_owns last new a c m first after_ticket block (n + 1)
     puts_one table seq floor x knows =
-        leads_as a c x _ (PutsSome first m (n + 1) x) (KnowsOpen rack area now_owns new table seq floor m after_ticket block)
-        (λ holds store done. joined done.0 done.1 done.2 holds store done.3 done.4 done.5)
-        (leads_then rack area went shared a b c x (PutsSome first m n x) (KnowsOpen rack area now_owns now table seq floor m ticket block)
-        (λ mid holds store. (store ≡ mid) × ((hold : Hold) × (holds ≡ hold ∷ []) × PutsColumn (key_of ticket.pointer) m hold)) (KnowsOpen rack area now_owns new table seq floor m after_ticket block)
+        leads_as a c x (Both rack area went shared a b c x (PutsSome first m n x) (KnowsOpen rack area now_owns now table seq floor m ticket block) (PutsOne ticket m x) (KnowsOpen rack area now_owns new table seq floor m after_ticket block))
+        (PutsSome first m (n + 1) x) (KnowsOpen rack area now_owns new table seq floor m after_ticket block) (λ holds store done. joined done.front done.back done.mid holds store done.are done.first done.second)
+        (leads_then rack area went shared a b c x (PutsSome first m n x) (KnowsOpen rack area now_owns now table seq floor m ticket block) (PutsOne ticket m x) (KnowsOpen rack area now_owns new table seq floor m after_ticket block)
         (some table seq floor x knows)
-        (λ y layout perms known. put_step rack area went shared now_owns b c now new m cell before after there drifts put.valid is goes table seq floor y ticket after_ticket block known put))
+        (λ y layout perms front done known.
+            subst (λ (s : Store). LeadsBy rack area went shared b c y (λ holds store. (store ≡ s) × ((hold : Hold) × (holds ≡ hold ∷ []) × PutsColumn (key_of ticket.pointer) m hold)) (KnowsOpen rack area now_owns new table seq floor m after_ticket block)) done.0
+            (put_step rack area went shared now_owns b c now new m cell before after there drifts put.valid is goes table seq floor y ticket after_ticket block known put)))
       where
-        joined : (front back : List Hold) (mid : Store) (holds : List Hold) (store : Store) → holds ≡ front ++ back → PutsSome first m n x front mid → (store ≡ mid) × ((hold : Hold) × (back ≡ hold ∷ []) × PutsColumn (key_of ticket.pointer) m hold) → PutsSome first m (n + 1) x holds store
+        joined : (front back : List Hold) (mid : Store) (holds : List Hold) (store : Store) → holds ≡ front ++ back → PutsSome first m n x front mid → (store ≡ x.store) × ((hold : Hold) × (back ≡ hold ∷ []) × PutsColumn (key_of ticket.pointer) m hold) → PutsSome first m (n + 1) x holds store
         joined front back mid holds store are before_ now_ = (
-          now_.0 ∙ before_.0,
+          now_.0,
           subst (λ k. PutsColumns (key_of first.pointer) m k holds) (one_more n)
-              (subst (λ hs. PutsColumns (key_of first.pointer) m (suc n) hs) (sym (are ∙ ap (λ bs. front ++ bs) now_.1.1))
-              (puts_more (key_of first.pointer) m n front now_.1.0 before_.1 (subst (λ (p : Pointer). PutsColumn (key_of p) m now_.1.0) pointer now_.1.2))),
+              (subst (λ hs. PutsColumns (key_of first.pointer) m (suc n) hs) (sym (are ∙ ap (λ bs. front ++ bs) now_.2))
+              (puts_more (key_of first.pointer) m n front now_.1 before_.1 (subst (λ (p : Pointer). PutsColumn (key_of p) m now_.1) pointer now_.3))),
         )
 
     pub carries_one : (columns : ℕ) → CarriesAt rack now m columns ticket block → CarriesAt rack new m columns after_ticket block

@@ -1,18 +1,24 @@
 -- The columns of a write that is under way.
-use Rattle.std.specs.Prelude.{◌≡◌, ℕ, Bool, List, Option, Some}
+use Rattle.std.specs.Prelude.{◌≡◌, ◌+◌, ◌<◌, ◌≤◌, ◌∷◌, ℕ, Bool, List, Option, Some, None, Result, Ok, Err, cond, nat_eq}
+use Rattle.draid_names.specs.declared.numbers.TheConstants.{LAST_NUMBER}
 use Rattle.draid_names.specs.declared.pointer.Pointer.{Pointer}
 use Rattle.draid_rack.specs.declared.Rack as racks
 use Rattle.draid_area.specs.declared.Area as areas
-use Rattle.draid_block.specs.Blocks.{BlockValue}
+use Rattle.draid_block.specs.Blocks.{BlockValue, cut_of}
+use Rattle.draid_objects.specs.Changes.{Wrote, write_of}
 use Rattle.draid_entries.specs.Maps.{key_of}
-use Rattle.draid_blocks.specs.Tickets.{Carries}
+use Rattle.draid_blocks.specs.Tickets.{Carries, IsNewWrite}
+use Rattle.draid_blocks.specs.declared.fault.BeginFault.{BeginFault}
+use Rattle.draid_blocks.specs.declared.fault.Missed.{Missed}
 use Rattle.draid_blocks.specs.declared.ticket.Ticket.{Ticket}
 use Rattle.draid_shard.specs.Fits.{Valid}
 use Rattle.draid_session.specs.Holds.{Hold}
+use Rattle.draid_session.specs.Looks.{OnlyLooks}
 use Rattle.draid_session.specs.State.{State, Store}
 use Rattle.draid_session.specs.Writes.{PutsColumns}
 use Rattle.draid_turn.specs.Calls.{Lock}
-use Rattle.draid_threads.specs.Threads.{KnowsOpen, LeadsBy}
+use Rattle.draid_threads.specs.Threads.{Knows, KnowsOpen, KnowsReplaced, LeadsBy}
+use Rattle.draid_threads.specs.Writing.{BeginsIn, EndsIn}
 use Rattle.draid_threads.specs.declared.cell.Cell.{Cell}
 
 -- a write is under way in a metaslab, whose blocks have so many columns
@@ -43,3 +49,49 @@ pub record Putting {R A S : Type 0} (rack : racks.Ghosts R) (area : areas.Ghosts
   pub pointer : ticket.pointer ≡ first.pointer
   pub block_is : same ≡ block
   pub step : PutsBy rack area went shared owns now_owns last now a b m first ticket block n
+
+-- ---- the begin
+
+-- a metaslab as it was left, in which the next write of an object may be begun
+pub record MayStart {R A : Type 0} (rack : racks.Ghosts R) (last : ℕ → Option (Cell R A)) (m columns object seq floor : ℕ) (block : BlockValue) : Type 0 where
+  pub cell : Cell R A
+  pub there : last m ≡ Some cell
+  pub valid : Valid rack cell.shard
+  pub new : IsNewWrite cell.shard object (seq + 1)
+  pub low : floor ≤ LAST_NUMBER
+  pub cut : block.cut ≡ cut_of cell.shard.geometry
+  pub columns_are : cell.shard.geometry.g ≡ columns
+
+module _ {R A S : Type 0} (rack : racks.Ghosts R) (area : areas.Ghosts A) (went : S → ℕ → Cell R A → Cell R A → S → Type 0) (shared : Bool) (owns now_owns : ℕ → Bool) (last now : ℕ → Option (Cell R A)) (a b : S) (m columns object seq floor : ℕ) (block : BlockValue) where
+  -- nothing came of it
+  abbrev pub LooksBy : Type 0
+  LooksBy = (table : ℕ → Option Pointer) (x : State) → Knows rack area owns last table seq floor x
+      → LeadsBy rack area went shared a b x (λ holds store. (store ≡ x.store) × OnlyLooks holds) (Knows rack area now_owns now table seq floor)
+
+  -- the write is under way
+  pub record StartsBy (ticket : Ticket) : Type 0 where
+    pub carries : CarriesAt rack now m columns ticket block
+    pub fresh : ticket.next ≡ 0
+    pub object_is : ticket.pointer.object ≡ object
+    pub seq_is : ticket.pointer.seq ≡ seq + 1
+    pub step : (table : ℕ → Option Pointer) (x : State) → Knows rack area owns last table seq floor x
+        → LeadsBy rack area went shared a b x (λ holds store. (store ≡ x.store) × BeginsIn x.geometry m floor ticket.pointer block.bytes holds) (KnowsOpen rack area now_owns now table seq floor m ticket block)
+
+  abbrev pub BeginSays : Option (Result Ticket BeginFault) → Type 0
+  BeginSays None = LooksBy
+  BeginSays (Some (Err fault)) = LooksBy
+  BeginSays (Some (Ok ticket)) = StartsBy ticket
+
+-- ---- the end
+
+-- whatever is known as the write is under way, so much is known as it ended, where its pointer comes into the table
+module _ {R A S : Type 0} (rack : racks.Ghosts R) (area : areas.Ghosts A) (went : S → ℕ → Cell R A → Cell R A → S → Type 0) (shared : Bool) (owns now_owns : ℕ → Bool) (last now : ℕ → Option (Cell R A)) (a b : S) (m : ℕ) (ticket : Ticket) (block : BlockValue) where
+  abbrev pub EndSays : Result Pointer Missed → Type 0
+  EndSays (Ok pointer) = (table then_table : ℕ → Option Pointer) (seq floor : ℕ) (x : State) → ((q : ℕ) → then_table q ≡ cond (nat_eq ticket.pointer.object q) (Some pointer) (table q)) → ticket.next ≡ x.geometry.g → KnowsOpen rack area owns last table seq floor m ticket block x
+      → LeadsBy rack area went shared a b x
+      (λ holds store. EndsIn m (key_of ticket.pointer) ticket.missed holds × (ticket.missed ≤ x.geometry.spec.parity)
+      × (store ≡ record { changes = Wrote (record { object = ticket.pointer.object; seq = x.store.seq + 1; metaslab = m; birth = ticket.pointer.birth; bytes = block.bytes }) ∷ x.store.changes; seq = x.store.seq + 1; floor = ticket.pointer.birth }))
+      (KnowsReplaced rack area now_owns now then_table (seq + 1) ticket.pointer.birth (table ticket.pointer.object) (write_of x.store.changes ticket.pointer.object))
+  EndSays (Err missed) = (table : ℕ → Option Pointer) (seq floor : ℕ) (x : State) → KnowsOpen rack area owns last table seq floor m ticket block x
+      → LeadsBy rack area went shared a b x (λ holds store. EndsIn m (key_of ticket.pointer) ticket.missed holds × (x.geometry.spec.parity < ticket.missed) × (store ≡ record { changes = x.store.changes; seq = x.store.seq + 1; floor = ticket.pointer.birth }))
+      (Knows rack area now_owns now table (seq + 1) ticket.pointer.birth)

@@ -1,5 +1,6 @@
 -- A write in holds: its beginning, its columns and its end.
 use Rattle.std.specs.Prelude.{◌≡◌, ◌≤◌, ◌<◌, ◌+◌, ℕ, List, [], ◌∷◌, Option, Some, None, MatchOption, Result, Ok, Err, length, max}
+use Rattle.sha2.specs.Sha256.{sha256}
 use Rattle.draid_names.specs.declared.numbers.TheConstants.{LAST_NUMBER}
 use Rattle.draid_names.specs.declared.pointer.Pointer.{Pointer}
 use Rattle.draid_rack.specs.declared.Rack as racks
@@ -23,7 +24,7 @@ use Rattle.draid_blocks.specs.declared.fault.BeginFault.{BeginFault}
 use Rattle.draid_blocks.specs.declared.fault.Missed.{Missed}
 use Rattle.draid_blocks.specs.declared.ticket.Ticket.{Ticket}
 use Rattle.draid_session.specs.Holds.{Did, Hold, On, View}
-use Rattle.draid_session.specs.Rooms.{IsShut}
+use Rattle.draid_session.specs.Rooms.{IsShut, stripes_for}
 use Rattle.draid_session.specs.Writes.{HasMissed}
 use Rattle.draid_threads.specs.Frees.{IsEarly}
 
@@ -99,14 +100,17 @@ module _ {R A : Type 0} (rack : racks.Ghosts R) where
 
 -- ---- holds
 
--- a ticket is opened in metaslab m
-pub record BeginsIn (geometry : Geometry) (m floor : ℕ) (pointer : Pointer) (holds : List Hold) : Type 0 where
+-- a ticket is opened in metaslab m for a block of these bytes
+pub record BeginsIn (geometry : Geometry) (m floor : ℕ) (pointer : Pointer) (bytes : List ℕ) (holds : List Hold) : Type 0 where
   pub v : View
   pub begun : machine.State
   pub are : holds ≡ On v (Did (begins pointer) begun) ∷ []
   pub there : v.metaslab ≡ m
   pub takes_blocks : IsShut geometry v → ⊥
   pub birth_is : pointer.birth ≡ max v.world.open_group floor
+  pub stripes_are : pointer.stripes ≡ stripes_for geometry bytes
+  pub len_is : pointer.len ≡ length bytes
+  pub digest_is : pointer.digest ≡ sha256 bytes
 
 -- it ends, and so many of its columns have landed nowhere
 pub record EndsIn (m : ℕ) (key : Key) (columns : ℕ) (holds : List Hold) : Type 0 where

@@ -13,6 +13,7 @@ mod metaslabs;
 mod own;
 mod owned;
 mod put;
+mod writing;
 
 pub use begin::BeginOp;
 pub use cell::Cell;
@@ -25,3 +26,4 @@ pub use metaslabs::Metaslabs;
 pub use own::Own;
 pub use owned::Owned;
 pub use put::PutOp;
+pub use writing::{begin_write, end_write};

@@ -16,6 +16,6 @@ returns g c =
         low = low;
         upto = (omega (arith, test));
         sets = e.sets;
-        frees = frees g.R.Rack g.A.Area c.args.shard.now c.free.new.self c.args.pointer.now c.args.floor c.in-Ok.group e.valid e.kit e.reserve e.event.0 e.event.1 low;
+        frees = frees g.R.Rack g.A.Area c.args.shard.now c.free.new.shard c.args.pointer.now c.args.floor c.in-Ok.group e.valid e.kit e.reserve e.event.0 e.event.1 low;
       };
     }
