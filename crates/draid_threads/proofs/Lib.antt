@@ -26,3 +26,4 @@ pub mod WholeWrite
 pub mod Looking
 pub mod Saying
 pub mod Ended
+pub mod WholeMissed

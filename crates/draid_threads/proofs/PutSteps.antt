@@ -54,8 +54,8 @@ module _ {R A S : Type 0} (rack : racks.Ghosts R) (area : areas.Ghosts A) (went 
         joined front back mid holds store are before_ now_ = (
           now_.0,
           subst (λ k. PutsColumns (key_of first.pointer) m k holds) (one_more n)
-              (subst (λ hs. PutsColumns (key_of first.pointer) m (suc n) hs) (sym (are ∙ ap (λ bs. front ++ bs) now_.2))
-              (puts_more (key_of first.pointer) m n front now_.1 before_.1 (subst (λ (p : Pointer). PutsColumn (key_of p) m now_.1) pointer now_.3))),
+              (subst (λ hs. PutsColumns (key_of first.pointer) m (suc n) hs) (sym (are ∙ ap (λ bs. front ++ bs) now_.1.1))
+              (puts_more (key_of first.pointer) m n front now_.1.0 before_.1 (subst (λ (p : Pointer). PutsColumn (key_of p) m now_.1.0) pointer now_.1.2))),
         )
 
     pub carries_one : (columns : ℕ) → CarriesAt rack now m columns ticket block → CarriesAt rack new m columns after_ticket block

@@ -17,6 +17,7 @@ use Rattle.draid_session.specs.State.{State, Store}
 use Rattle.draid_session.specs.Writes.{FreesEarlier, PutsColumns, WritesBlock}
 use Rattle.draid_session.specs.Writes as written
 use Rattle.draid_store.specs.Answers.{WriteInDoes, WritesIn}
+use Rattle.draid_threads.specs.Storing.{StoresIn, store_with}
 use Rattle.draid_threads.specs.Putting.{PutsBy, PutsSome}
 use Rattle.draid_threads.specs.Threads.{Knows, KnowsEarlier, KnowsOpen, KnowsReplaced, LeadsBy}
 use Rattle.draid_threads.specs.Writing.{BeginsIn, EndsIn}
@@ -52,10 +53,6 @@ writes_block geometry object seq bytes floor m columns p q front puts last key_i
     key_last : key_of q ≡ record { object = object; seq = seq }
     key_last = ap key_of same ∙ key_is
 
--- the store as the block has come
-abbrev pub store_with : Store → ℕ → ℕ → ℕ → List ℕ → Store
-store_with store object m birth bytes = record { changes = Wrote (record { object = object; seq = store.seq + 1; metaslab = m; birth = birth; bytes = bytes }) ∷ store.changes; seq = store.seq + 1; floor = birth }
-
 module _ {R A S : Type 0} (rack : racks.Ghosts R) (area : areas.Ghosts A) (went : S → ℕ → Cell R A → Cell R A → S → Type 0) (shared : Bool) (owns : ℕ → Bool) (l1 l2 l3 l4 : ℕ → Option (Cell R A)) (s0 s1 s2 s3 s4 : S) (m object : ℕ)
     (first ticket : Ticket) (block : BlockValue) (table then_table : ℕ → Option Pointer) (seq floor group : ℕ) (x : State) (same : ticket.pointer ≡ first.pointer) (object_is : first.pointer.object ≡ object) (seq_is : first.pointer.seq ≡ seq + 1)
     (x_seq : x.store.seq ≡ seq) (x_floor : x.store.floor ≡ floor)
@@ -64,12 +61,6 @@ module _ {R A S : Type 0} (rack : racks.Ghosts R) (area : areas.Ghosts A) (went 
     (three : (y : State) → y.geometry ≡ x.geometry → KnowsOpen rack area owns l2 table seq floor m ticket block y
         → LeadsBy rack area went shared s2 s3 y (λ holds store. EndsIn m (key_of ticket.pointer) ticket.missed holds × (ticket.missed ≤ y.geometry.spec.parity) × (store ≡ store_with y.store ticket.pointer.object m ticket.pointer.birth block.bytes))
         (KnowsReplaced rack area owns l3 then_table (seq + 1) ticket.pointer.birth (table ticket.pointer.object) (write_of y.store.changes ticket.pointer.object))) where
-  -- what the first three parts did
-  pub record Stores (x : State) (holds : List Hold) (store : Store) : Type 0 where
-    pub writes : WritesBlock x.geometry object (x.store.seq + 1) block.bytes x.store.floor m first.pointer.birth ticket.missed holds
-    pub few : ticket.missed ≤ x.geometry.spec.parity
-    pub made : store ≡ store_with x.store object m first.pointer.birth block.bytes
-
   abbrev BeginsAlone : List Hold → Store → Type 0
   BeginsAlone holds store = (store ≡ x.store) × BeginsIn x.geometry m floor first.pointer block.bytes holds
 
@@ -82,8 +73,12 @@ module _ {R A S : Type 0} (rack : racks.Ghosts R) (area : areas.Ghosts A) (went 
   abbrev Carried : State → Type 0
   Carried = KnowsOpen rack area owns l2 table seq floor m ticket block
 
-  abbrev RestDoes : List Hold → Store → Type 0
-  RestDoes holds store = (puts : List Hold) × (last : List Hold) × (holds ≡ puts ++ last) × PutsColumns (key_of first.pointer) m x.geometry.g puts × Ends x.store last store
+  pub record RestDoes (holds : List Hold) (store : Store) : Type 0 where
+    pub puts : List Hold
+    pub end : List Hold
+    pub are : holds ≡ puts ++ end
+    pub columns : PutsColumns (key_of first.pointer) m x.geometry.g puts
+    pub ends : Ends x.store end store
 
   abbrev FreesDoes : List Hold → Store → Type 0
   FreesDoes holds store = (we : Write) × (write_of x.store.changes object ≡ Some we) × written.FreesBlock we first.pointer.birth group holds
@@ -98,20 +93,21 @@ module _ {R A S : Type 0} (rack : racks.Ghosts R) (area : areas.Ghosts A) (went 
           subst (λ (t : Geometry × Store). LeadsBy rack area went shared s2 s3 u (λ holds store. EndsIn m (key_of ticket.pointer) ticket.missed holds × (ticket.missed ≤ t.0.spec.parity) × (store ≡ store_with t.1 ticket.pointer.object m ticket.pointer.birth block.bytes)) (Replaced t.1))
           (λ i. ((u_layout ∙ layout) i, (done.0 ∙ store_is) i)) (three u (u_layout ∙ layout) carried))
 
-  pub stored : LeadsBy rack area went shared s0 s3 x (Stores x) (Replaced x.store)
-  stored = leads_as rack area went shared s0 s3 x (Both rack area went shared s0 s1 s3 x BeginsAlone (KnowsOpen rack area owns l1 table seq floor m first block) RestDoes (Replaced x.store)) (Stores x) (Replaced x.store)
+  pub stored : LeadsBy rack area went shared s0 s3 x (StoresIn x m object first.pointer.birth block.bytes) (Replaced x.store)
+  stored = leads_as rack area went shared s0 s3 x (Both rack area went shared s0 s1 s3 x BeginsAlone (KnowsOpen rack area owns l1 table seq floor m first block) RestDoes (Replaced x.store)) (StoresIn x m object first.pointer.birth block.bytes) (Replaced x.store)
       (λ holds store done. made done.front done.back done.mid holds store done.are done.first done.second)
       (leads_then rack area went shared s0 s1 s3 x BeginsAlone (KnowsOpen rack area owns l1 table seq floor m first block) RestDoes (Replaced x.store) one
       (λ y layout perms front done known. leads_as rack area went shared s1 s3 y (Both rack area went shared s1 s2 s3 y (PutsSome first m x.geometry.g y) Carried (Ends x.store) (Replaced x.store)) RestDoes (Replaced x.store)
-          (λ holds store d. (d.front, d.back, d.are, d.first.1, d.second)) (rest y layout done.0 known)))
+          (λ holds store d. record { puts = d.front; end = d.back; are = d.are; columns = d.first.1; ends = d.second }) (rest y layout done.0 known)))
     where
-      made : (front back : List Hold) (mid : Store) (holds : List Hold) (store : Store) → holds ≡ front ++ back → BeginsAlone front mid → RestDoes back store → Stores x holds store
+      made : (front back : List Hold) (mid : Store) (holds : List Hold) (store : Store) → holds ≡ front ++ back → BeginsAlone front mid → RestDoes back store → StoresIn x m object first.pointer.birth block.bytes holds store
       made front back mid holds store are b r = record {
-        writes = subst (λ hs. WritesBlock x.geometry object (x.store.seq + 1) block.bytes x.store.floor m first.pointer.birth ticket.missed hs) (sym (are ∙ ap (λ l. front ++ l) r.2))
-            (writes_block x.geometry object (x.store.seq + 1) block.bytes x.store.floor m ticket.missed first.pointer ticket.pointer front r.0 r.1 key_is same
-            (subst (λ n. BeginsIn x.geometry m n first.pointer block.bytes front) (sym x_floor) b.1) r.3 r.4);
-        few = r.5;
-        made = r.6 ∙ (λ i. store_with x.store (object_at i) m (birth_at i) block.bytes);
+        writes = subst (λ hs. WritesBlock x.geometry object (x.store.seq + 1) block.bytes x.store.floor m first.pointer.birth ticket.missed hs) (sym (are ∙ ap (λ l. front ++ l) r.are))
+            (writes_block x.geometry object (x.store.seq + 1) block.bytes x.store.floor m ticket.missed first.pointer ticket.pointer front r.puts r.end key_is same
+            (subst (λ n. BeginsIn x.geometry m n first.pointer block.bytes front) (sym x_floor) b.1) r.columns r.ends.0);
+        columns = ticket.missed;
+        few = r.ends.1;
+        made = r.ends.2 ∙ (λ i. store_with x.store (object_at i) m (birth_at i) block.bytes);
       }
         where
           key_is : key_of first.pointer ≡ record { object = object; seq = x.store.seq + 1 }
@@ -133,7 +129,7 @@ module _ {R A S : Type 0} (rack : racks.Ghosts R) (area : areas.Ghosts A) (went 
     follows = stored.follows;
     done = record {
       birth = first.pointer.birth;
-      columns = ticket.missed;
+      columns = stored.done.columns;
       group = first.pointer.birth;
       front = stored.holds;
       back = [];
@@ -160,10 +156,10 @@ module _ {R A S : Type 0} (rack : racks.Ghosts R) (area : areas.Ghosts A) (went 
       → ((y : State) (we : Write) → KnowsEarlier rack area owns l3 then_table (seq + 1) ticket.pointer.birth e we y → LeadsBy rack area went shared s3 s4 y (λ holds store. written.FreesBlock we ticket.pointer.birth group holds × (store ≡ record y.store { floor = group })) (Knows rack area owns l4 then_table (seq + 1) group))
       → LeadsBy rack area went shared s0 s4 x (WriteInDoes x m object block.bytes (Ok tt)) (Knows rack area owns l4 then_table (seq + 1) group)
   wrote_again e some frees =
-      leads_as rack area went shared s0 s4 x (Both rack area went shared s0 s3 s4 x (Stores x) (Replaced x.store) FreesDoes (Knows rack area owns l4 then_table (seq + 1) group)) (WriteInDoes x m object block.bytes (Ok tt)) (Knows rack area owns l4 then_table (seq + 1) group)
+      leads_as rack area went shared s0 s4 x (Both rack area went shared s0 s3 s4 x (StoresIn x m object first.pointer.birth block.bytes) (Replaced x.store) FreesDoes (Knows rack area owns l4 then_table (seq + 1) group)) (WriteInDoes x m object block.bytes (Ok tt)) (Knows rack area owns l4 then_table (seq + 1) group)
       (λ holds store d. record {
         birth = first.pointer.birth;
-        columns = ticket.missed;
+        columns = d.first.columns;
         group = group;
         front = d.front;
         back = d.back;
@@ -173,7 +169,7 @@ module _ {R A S : Type 0} (rack : racks.Ghosts R) (area : areas.Ghosts A) (went 
         frees = subst (λ w. FreesEarlier w first.pointer.birth group d.back) (sym d.second.1) d.second.2;
         made = d.second.3;
       })
-      (leads_then rack area went shared s0 s3 s4 x (Stores x) (Replaced x.store) FreesDoes (Knows rack area owns l4 then_table (seq + 1) group) stored
+      (leads_then rack area went shared s0 s3 s4 x (StoresIn x m object first.pointer.birth block.bytes) (Replaced x.store) FreesDoes (Knows rack area owns l4 then_table (seq + 1) group) stored
       (λ y layout perms front done replaced.
           let k = subst (λ o. KnowsReplaced rack area owns l3 then_table (seq + 1) ticket.pointer.birth o (write_of x.store.changes ticket.pointer.object) y) some replaced in
           leads_as rack area went shared s3 s4 y (λ holds store. written.FreesBlock k.0 ticket.pointer.birth group holds × (store ≡ record y.store { floor = group })) FreesDoes (Knows rack area owns l4 then_table (seq + 1) group)

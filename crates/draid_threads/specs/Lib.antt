@@ -7,3 +7,4 @@ pub mod Threads
 pub mod AtPlaces
 pub mod Writing
 pub mod Putting
+pub mod Storing

@@ -13,6 +13,7 @@ mod metaslabs;
 mod own;
 mod owned;
 mod put;
+mod store;
 mod writing;
 
 pub use begin::BeginOp;
@@ -26,4 +27,5 @@ pub use metaslabs::Metaslabs;
 pub use own::Own;
 pub use owned::Owned;
 pub use put::PutOp;
+pub use store::store_block;
 pub use writing::{begin_write, end_write};

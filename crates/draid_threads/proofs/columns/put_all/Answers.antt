@@ -1,10 +1,10 @@
-use Rattle.std.proofs.Common.{◌≡◌, ◌∙◌, ◌==◌, ◌+◌, ◌<◌, ℕ, true, Option, Some, arith, sym, ap, subst, if◌then◌else◌}
+use Rattle.std.proofs.Common.{◌≡◌, ◌∙◌, ◌==◌, ◌+◌, ◌<◌, ℕ, true, Option, Some, arith, refl, sym, ap, subst, if◌then◌else◌}
 use Rattle.draid_names.specs.declared.pointer.Pointer.{Pointer}
 use Rattle.draid_threads.specs.Putting.{CarriesAt, PutsBy}
 use Rattle.draid_threads.specs.Writing.{MayPutIn, PutsShard}
 use Rattle.draid_threads.proofs.Holding.{some_same}
 use Rattle.draid_threads.proofs.OpenKeeps.{may_put, puts_keep}
-use Rattle.draid_threads.proofs.PutSteps.{carries_one, puts_one}
+use Rattle.draid_threads.proofs.PutSteps.{carries_one, puts_none, puts_one}
 use Rattle.draid_threads.proofs.columns.put_all.Goals as goal
 
 pub hold-requires-clause-may : goal.hold-requires-clause-may
@@ -53,3 +53,24 @@ columns-preserved g c =
           (puts_one g.R.Rack g.A.Area g.M.Metaslabs.went g.M.Metaslabs.shared owns now_owns i.owned last now new c.args.metaslabs.now c.columns.metaslabs c.hold.new.self c.args.metaslab c.args.ticket op.ticket done.ticket c.args.block.now c.columns._column
           i.pointer i.step held.cell held.before held.after held.there held.drifts held.is held.went put);
     }
+
+pub columns-init : goal.columns-init
+columns-init g c = record {
+  fit = c.requires.fits;
+  same_locks = refl;
+  owned = refl;
+  carries = c.requires.carries;
+  next = c.requires.fresh;
+  pointer = refl;
+  block_is = refl;
+  step = puts_none g.R.Rack g.A.Area g.M.Metaslabs.went g.M.Metaslabs.shared (g.M.Metaslabs.owns c.args.metaslabs.now) (g.M.Metaslabs.last c.args.metaslabs.now) c.args.metaslabs.now c.args.metaslab c.args.ticket c.args.block.now;
+}
+
+pub returns-clause-step : goal.returns-clause-step
+returns-clause-step g c =
+    let i = c.columns.invariant in
+    let below = c.columns.auto._column-end in
+    let done = c.columns-test.false in
+    let all : c.columns._column ≡ c.args.columns = omega (arith, below, done) in
+    subst (λ n. PutsBy g.R.Rack g.A.Area g.M.Metaslabs.went g.M.Metaslabs.shared (g.M.Metaslabs.owns c.args.metaslabs.now) (g.M.Metaslabs.owns c.columns.metaslabs) (g.M.Metaslabs.last c.args.metaslabs.now) (g.M.Metaslabs.last c.columns.metaslabs)
+        c.args.metaslabs.now c.columns.metaslabs c.args.metaslab c.args.ticket c.columns.op.ticket c.args.block.now n) all i.step

@@ -1,0 +1,38 @@
+-- A block of an object is stored: a begin, its columns and its end.
+use Rattle.std.specs.Prelude.{◌≡◌, ◌+◌, ◌≤◌, ◌∷◌, ℕ, Bool, List, Option, Some, None, Result, Ok, Err}
+use Rattle.draid_names.specs.declared.pointer.Pointer.{Pointer}
+use Rattle.draid_names.specs.declared.refusal.WriteFault.TheVariants as fault
+use Rattle.draid_rack.specs.declared.Rack as racks
+use Rattle.draid_area.specs.declared.Area as areas
+use Rattle.draid_block.specs.Blocks.{BlockValue}
+use Rattle.draid_blocks.specs.declared.fault.Missed.{Missed}
+use Rattle.draid_objects.specs.Changes.{Wrote, write_of}
+use Rattle.draid_session.specs.Holds.{Hold}
+use Rattle.draid_session.specs.Looks.{OnlyLooks}
+use Rattle.draid_session.specs.State.{State, Store}
+use Rattle.draid_session.specs.Writes.{WritesBlock}
+use Rattle.draid_store.specs.Answers.{WriteInDoes}
+use Rattle.draid_threads.specs.Threads.{Knows, KnowsReplaced, LeadsBy}
+use Rattle.draid_threads.specs.declared.cell.Cell.{Cell}
+
+-- the store as the block has come
+abbrev pub store_with : Store → ℕ → ℕ → ℕ → List ℕ → Store
+store_with store object m birth bytes = record { changes = Wrote (record { object = object; seq = store.seq + 1; metaslab = m; birth = birth; bytes = bytes }) ∷ store.changes; seq = store.seq + 1; floor = birth }
+
+-- a block of these bytes was written in metaslab m, and the one that the object had is live yet
+pub record StoresIn (x : State) (m object birth : ℕ) (bytes : List ℕ) (holds : List Hold) (store : Store) : Type 0 where
+  pub columns : ℕ
+  pub writes : WritesBlock x.geometry object (x.store.seq + 1) bytes x.store.floor m birth columns holds
+  pub few : columns ≤ x.geometry.spec.parity
+  pub made : store ≡ store_with x.store object m birth bytes
+
+module _ {R A S : Type 0} (rack : racks.Ghosts R) (area : areas.Ghosts A) (went : S → ℕ → Cell R A → Cell R A → S → Type 0) (shared : Bool) (owns now_owns : ℕ → Bool) (last now : ℕ → Option (Cell R A)) (a b : S) (m columns object : ℕ)
+    (table then_table : ℕ → Option Pointer) (seq floor then_seq then_floor : ℕ) (block : BlockValue) where
+  -- nothing; or the block was stored, and the pointer that the object had is to be freed; or too many columns landed nowhere
+  abbrev pub StoreSays : Option (Result (Option Pointer) Missed) → Type 0
+  StoreSays None = (x : State) → Knows rack area owns last table seq floor x
+      → LeadsBy rack area went shared a b x (λ holds store. (store ≡ x.store) × OnlyLooks holds) (Knows rack area now_owns now then_table then_seq then_floor)
+  StoreSays (Some (Ok earlier)) = (x : State) → x.geometry.g ≡ columns → Knows rack area owns last table seq floor x
+      → LeadsBy rack area went shared a b x (StoresIn x m object then_floor block.bytes) (KnowsReplaced rack area now_owns now then_table then_seq then_floor earlier (write_of x.store.changes object))
+  StoreSays (Some (Err missed)) = (x : State) → x.geometry.g ≡ columns → Knows rack area owns last table seq floor x
+      → LeadsBy rack area went shared a b x (WriteInDoes x m object block.bytes (Err (fault.Missed missed.columns))) (Knows rack area now_owns now then_table then_seq then_floor)
