@@ -27,3 +27,4 @@ pub mod Looking
 pub mod Saying
 pub mod Ended
 pub mod WholeMissed
+pub mod Storing

@@ -46,5 +46,7 @@ module _ {R A S : Type 0} (rack : racks.Ghosts R) (area : areas.Ghosts A) (went 
   pub end_says : (ticket : Ticket) (block : BlockValue) (result : Result Pointer Missed) → FinishesShard rack before.shard ticket block result after.shard → EndSays rack area went shared owns owns last new a b m ticket block result
   end_says ticket block (Ok pointer) d =
       λ table then_table seq floor x sets whole knows. stored_step rack area went shared owns a b last new m cell before after there drifts d.valid is goes table seq floor x ticket block knows pointer d then_table sets whole
-  end_says ticket block (Err missed) d =
-      λ table seq floor x knows. missed_step rack area went shared owns a b last new m cell before after there drifts d.valid is goes table seq floor x ticket block knows missed d
+  end_says ticket block (Err missed) d = (
+    d.ends.0,
+    λ table seq floor x knows. missed_step rack area went shared owns a b last new m cell before after there drifts d.valid is goes table seq floor x ticket block knows missed d,
+  )

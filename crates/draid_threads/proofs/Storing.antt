@@ -1,0 +1,59 @@
+-- A block of an object is stored, of its parts as calls say them.
+use Rattle.std.proofs.Common.{◌≡◌, ◌+◌, ◌∙◌, ℕ, Bool, Option, Some, None, Result, Ok, Err, refl, sym, ap, subst, cond}
+use Rattle.std.specs.Prelude.{nat_eq}
+use Rattle.draid_names.specs.declared.pointer.Pointer.{Pointer}
+use Rattle.draid_names.specs.declared.refusal.WriteFault.TheVariants as fault
+use Rattle.draid_spec.specs.declared.layout.Geometry.{Geometry}
+use Rattle.draid_rack.specs.declared.Rack as racks
+use Rattle.draid_area.specs.declared.Area as areas
+use Rattle.draid_block.specs.Blocks.{BlockValue}
+use Rattle.draid_objects.specs.Changes.{write_of}
+use Rattle.draid_blocks.specs.declared.fault.Missed.{Missed}
+use Rattle.draid_blocks.specs.declared.ticket.Ticket.{Ticket}
+use Rattle.draid_session.specs.State.{State}
+use Rattle.draid_store.specs.Answers.{WriteInDoes}
+use Rattle.draid_threads.specs.Putting.{EndSays, PutsBy, StartsBy}
+use Rattle.draid_threads.specs.Storing.{StoreSays, StoresIn}
+use Rattle.draid_threads.specs.Threads.{Knows, KnowsReplaced, LeadsBy}
+use Rattle.draid_threads.specs.declared.cell.Cell.{Cell}
+use Rattle.draid_threads.proofs.WholeMissed.{lost}
+use Rattle.draid_threads.proofs.WholeWrite.{stored}
+
+module _ {R A S : Type 0} (rack : racks.Ghosts R) (area : areas.Ghosts A) (went : S → ℕ → Cell R A → Cell R A → S → Type 0) (shared : Bool) (owns o1 o2 o3 : ℕ → Bool) (e1 : o1 ≡ owns) (e2 : o2 ≡ o1) (e3 : o3 ≡ o2)
+    (last l1 l2 l3 : ℕ → Option (Cell R A)) (s0 s1 s2 s3 : S) (m columns object : ℕ) (table : ℕ → Option Pointer) (seq floor : ℕ) (block : BlockValue) (first ticket : Ticket) (same : ticket.pointer ≡ first.pointer) (all : ticket.next ≡ columns)
+    (starts : StartsBy rack area went shared owns o1 last l1 s0 s1 m columns object seq floor block first) (puts : PutsBy rack area went shared o1 o2 l1 l2 s1 s2 m first ticket block columns) where
+  starts_own : StartsBy rack area went shared owns owns last l1 s0 s1 m columns object seq floor block first
+  starts_own = subst (λ o. StartsBy rack area went shared owns o last l1 s0 s1 m columns object seq floor block first) e1 starts
+
+  puts_own : PutsBy rack area went shared owns owns l1 l2 s1 s2 m first ticket block columns
+  puts_own = subst (λ o. PutsBy rack area went shared owns o l1 l2 s1 s2 m first ticket block columns) (e2 ∙ e1) (subst (λ o. PutsBy rack area went shared o o2 l1 l2 s1 s2 m first ticket block columns) e1 puts)
+
+  ends_own : (result : Result Pointer Missed) → EndSays rack area went shared o2 o3 l2 l3 s2 s3 m ticket block result → EndSays rack area went shared owns owns l2 l3 s2 s3 m ticket block result
+  ends_own result ends = subst (λ o. EndSays rack area went shared owns o l2 l3 s2 s3 m ticket block result) (e3 ∙ (e2 ∙ e1)) (subst (λ o. EndSays rack area went shared o o3 l2 l3 s2 s3 m ticket block result) (e2 ∙ e1) ends)
+
+  of_object : ticket.pointer.object ≡ object
+  of_object = ap (λ (p : Pointer). p.object) same ∙ starts.object_is
+
+  pub ok_says : (pointer : Pointer) (earlier : Option Pointer) (then_table : ℕ → Option Pointer) → earlier ≡ table object → ((q : ℕ) → then_table q ≡ cond (nat_eq object q) (Some pointer) (table q))
+      → EndSays rack area went shared o2 o3 l2 l3 s2 s3 m ticket block (Ok pointer) → StoreSays rack area went shared owns o3 last l3 s0 s3 m columns object table then_table seq floor (seq + 1) first.pointer.birth block (Some (Ok earlier))
+  ok_says pointer earlier then_table earlier_is sets ends =
+      subst (λ o. StoreSays rack area went shared owns o last l3 s0 s3 m columns object table then_table seq floor (seq + 1) first.pointer.birth block (Some (Ok earlier))) (sym (e3 ∙ (e2 ∙ e1)))
+      (λ x columns_are knows.
+          let says : EndSays rack area went shared owns owns l2 l3 s2 s3 m ticket block (Ok pointer) = ends_own (Ok pointer) ends in
+          subst (λ (t : ℕ × Option Pointer × ℕ). LeadsBy rack area went shared s0 s3 x (StoresIn x m object first.pointer.birth block.bytes) (KnowsReplaced rack area owns l3 then_table (seq + 1) t.0 t.1 (write_of x.store.changes t.2)))
+          (λ i. (ap (λ (p : Pointer). p.birth) same i, (ap table of_object ∙ sym earlier_is) i, of_object i))
+          (stored rack area went shared owns l1 l2 l3 l3 s0 s1 s2 s3 s3 m object first ticket block table then_table seq floor 0 x same starts.object_is starts.seq_is knows.seq knows.floor
+          (starts_own.step table x knows) (subst (λ n. PutsBy rack area went shared owns owns l1 l2 s1 s2 m first ticket block n) (sym columns_are) puts_own)
+          (λ y layout known. says table then_table seq floor y (λ q. subst (λ n. then_table q ≡ cond (nat_eq n q) (Some pointer) (table q)) (sym of_object) (sets q)) (all ∙ (sym columns_are ∙ ap (λ (g : Geometry). g.g) (sym layout))) known)))
+
+  pub missed_says : (missed : Missed) → EndSays rack area went shared o2 o3 l2 l3 s2 s3 m ticket block (Err missed)
+      → StoreSays rack area went shared owns o3 last l3 s0 s3 m columns object table table seq floor (seq + 1) first.pointer.birth block (Some (Err missed))
+  missed_says missed ends =
+      subst (λ o. StoreSays rack area went shared owns o last l3 s0 s3 m columns object table table seq floor (seq + 1) first.pointer.birth block (Some (Err missed))) (sym (e3 ∙ (e2 ∙ e1)))
+      (λ x columns_are knows.
+          let says : EndSays rack area went shared owns owns l2 l3 s2 s3 m ticket block (Err missed) = ends_own (Err missed) ends in
+          subst (λ (t : ℕ × ℕ). LeadsBy rack area went shared s0 s3 x (WriteInDoes x m object block.bytes (Err (fault.Missed t.0))) (Knows rack area owns l3 table (seq + 1) t.1))
+          (λ i. (sym says.0 i, ap (λ (p : Pointer). p.birth) same i))
+          (lost rack area went shared owns l1 l2 l3 s0 s1 s2 s3 m object first ticket block table seq floor x same starts.object_is starts.seq_is knows.seq knows.floor
+          (starts_own.step table x knows) (subst (λ n. PutsBy rack area went shared owns owns l1 l2 s1 s2 m first ticket block n) (sym columns_are) puts_own)
+          (λ y known. says.1 table seq floor y known)))
