@@ -28,3 +28,4 @@ pub mod Saying
 pub mod Ended
 pub mod WholeMissed
 pub mod Storing
+pub mod Awaiting

@@ -8,16 +8,23 @@ use Rattle.draid_rack.specs.declared.Rack as racks
 use Rattle.draid_area.specs.declared.Area as areas
 use Rattle.draid_block.specs.Blocks.{BlockValue}
 use Rattle.draid_objects.specs.Changes.{write_of}
+use Rattle.draid_blocks.specs.declared.fault.BeginFault.{BeginFault}
 use Rattle.draid_blocks.specs.declared.fault.Missed.{Missed}
 use Rattle.draid_blocks.specs.declared.ticket.Ticket.{Ticket}
 use Rattle.draid_session.specs.State.{State}
 use Rattle.draid_store.specs.Answers.{WriteInDoes}
-use Rattle.draid_threads.specs.Putting.{EndSays, PutsBy, StartsBy}
+use Rattle.draid_threads.specs.Putting.{BeginSays, EndSays, PutsBy, StartsBy}
 use Rattle.draid_threads.specs.Storing.{StoreSays, StoresIn}
 use Rattle.draid_threads.specs.Threads.{Knows, KnowsReplaced, LeadsBy}
 use Rattle.draid_threads.specs.declared.cell.Cell.{Cell}
 use Rattle.draid_threads.proofs.WholeMissed.{lost}
 use Rattle.draid_threads.proofs.WholeWrite.{stored}
+
+pub started : {R A S : Type 0} (rack : racks.Ghosts R) (area : areas.Ghosts A) (went : S → ℕ → Cell R A → Cell R A → S → Type 0) (shared : Bool) (owns now_owns : ℕ → Bool) (last now : ℕ → Option (Cell R A)) (a b : S) (m columns object seq floor : ℕ) (block : BlockValue)
+    (r : Result Ticket BeginFault) (ticket : Ticket) → r ≡ Ok ticket → BeginSays rack area went shared owns now_owns last now a b m columns object seq floor block (Some r)
+    → StartsBy rack area went shared owns now_owns last now a b m columns object seq floor block ticket
+started rack area went shared owns now_owns last now a b m columns object seq floor block (Ok t) ticket is says = (let same : t ≡ ticket = cc in subst (StartsBy rack area went shared owns now_owns last now a b m columns object seq floor block) same says)
+started rack area went shared owns now_owns last now a b m columns object seq floor block (Err fault) ticket is says = absurd (cc)
 
 module _ {R A S : Type 0} (rack : racks.Ghosts R) (area : areas.Ghosts A) (went : S → ℕ → Cell R A → Cell R A → S → Type 0) (shared : Bool) (owns o1 o2 o3 : ℕ → Bool) (e1 : o1 ≡ owns) (e2 : o2 ≡ o1) (e3 : o3 ≡ o2)
     (last l1 l2 l3 : ℕ → Option (Cell R A)) (s0 s1 s2 s3 : S) (m columns object : ℕ) (table : ℕ → Option Pointer) (seq floor : ℕ) (block : BlockValue) (first ticket : Ticket) (same : ticket.pointer ≡ first.pointer) (all : ticket.next ≡ columns)

@@ -8,3 +8,4 @@ pub mod AtPlaces
 pub mod Writing
 pub mod Putting
 pub mod Storing
+pub mod Freeing

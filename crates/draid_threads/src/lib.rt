@@ -5,6 +5,7 @@
 mod begin;
 mod cell;
 mod columns;
+mod earlier;
 mod finish;
 mod free;
 mod freeing;
@@ -19,6 +20,7 @@ mod writing;
 pub use begin::BeginOp;
 pub use cell::Cell;
 pub use columns::put_all;
+pub use earlier::free_earlier;
 pub use finish::FinishOp;
 pub use free::FreeOp;
 pub use freeing::free_object;
