@@ -22,7 +22,7 @@ use Rattle.draid_threads.specs.Frees.{FreesShard}
 use Rattle.draid_threads.specs.Freeing.{EarlierSays}
 use Rattle.draid_threads.specs.Threads.{HoldsBut, IsPointerAt, KnowsBut, KnowsEarlier, LeadsBy, PointsAt, all_of, but}
 use Rattle.draid_threads.specs.declared.cell.Cell.{Cell}
-use Rattle.draid_threads.proofs.Earlier.{earlier_step}
+use Rattle.draid_threads.proofs.Older.{earlier_step}
 use Rattle.draid_threads.proofs.FreeKnown.{Found, found_drops, found_later}
 use Rattle.draid_threads.proofs.FreeStep.{looks, points_at_on}
 use Rattle.draid_threads.proofs.Hiding.{but_inside}

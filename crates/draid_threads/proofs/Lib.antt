@@ -19,7 +19,7 @@ pub mod HoldStep
 pub mod Opening
 pub mod Ending
 pub mod OpenKeeps
-pub mod Earlier
+pub mod Older
 pub mod Joining
 pub mod PutSteps
 pub mod WholeWrite
