@@ -29,3 +29,5 @@ pub mod Ended
 pub mod WholeMissed
 pub mod Storing
 pub mod Awaiting
+pub mod Lively
+pub mod WholeBlock

@@ -1,5 +1,5 @@
 -- What the begin and the end of a write say, each in a hold.
-use Rattle.std.proofs.Common.{◌≡◌, ◌==◌, ◌+◌, ◌∙◌, ℕ, Bool, true, Option, Some, None, Result, Ok, Err, refl, sym, ap, subst, if◌then◌else◌}
+use Rattle.std.proofs.Common.{arith, ◌≤◌, max, ◌≡◌, ◌==◌, ◌+◌, ◌∙◌, ℕ, Bool, true, Option, Some, None, Result, Ok, Err, refl, sym, ap, subst, if◌then◌else◌}
 use Rattle.draid_names.specs.declared.pointer.Pointer.{Pointer}
 use Rattle.draid_rack.specs.declared.Rack as racks
 use Rattle.draid_area.specs.declared.Area as areas
@@ -40,6 +40,7 @@ module _ {R A S : Type 0} (rack : racks.Ghosts R) (area : areas.Ghosts A) (went 
         fresh = s.did.1.opens.named.fresh.0;
         object_is = s.did.1.opens.named.object_is;
         seq_is = s.did.1.opens.named.seq_is;
+        low = (let birth = s.did.1.opens.named.birth_is in let low = s.did.1.low in omega (arith, birth, low));
         step = λ table x knows. begin_step rack area went shared owns a b last new m cell before after there drifts s.valid is goes table seq floor x knows object block ticket own s.did.1 s.kit s.reserve;
       }
 

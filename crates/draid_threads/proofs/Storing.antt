@@ -20,6 +20,12 @@ use Rattle.draid_threads.specs.declared.cell.Cell.{Cell}
 use Rattle.draid_threads.proofs.WholeMissed.{lost}
 use Rattle.draid_threads.proofs.WholeWrite.{stored}
 
+abbrev pub answer_of : Option Pointer → Option (Result (Option Pointer) Missed)
+answer_of o = Some (Ok o)
+
+pub same_earlier : (o : Option Pointer) (p : Pointer) → answer_of o ≡ answer_of (Some p) → o ≡ Some p
+same_earlier o p is = cc
+
 pub started : {R A S : Type 0} (rack : racks.Ghosts R) (area : areas.Ghosts A) (went : S → ℕ → Cell R A → Cell R A → S → Type 0) (shared : Bool) (owns now_owns : ℕ → Bool) (last now : ℕ → Option (Cell R A)) (a b : S) (m columns object seq floor : ℕ) (block : BlockValue)
     (r : Result Ticket BeginFault) (ticket : Ticket) → r ≡ Ok ticket → BeginSays rack area went shared owns now_owns last now a b m columns object seq floor block (Some r)
     → StartsBy rack area went shared owns now_owns last now a b m columns object seq floor block ticket

@@ -1,5 +1,5 @@
 -- The columns of a write that is under way.
-use Rattle.std.specs.Prelude.{◌≡◌, ◌+◌, ◌<◌, ◌≤◌, ◌∷◌, ℕ, Bool, List, Option, Some, None, Result, Ok, Err, cond, nat_eq}
+use Rattle.std.specs.Prelude.{◌≡◌, ◌+◌, ◌<◌, ◌≤◌, ◌∷◌, ℕ, Bool, true, List, Option, Some, None, Result, Ok, Err, cond, nat_eq}
 use Rattle.draid_names.specs.declared.numbers.TheConstants.{LAST_NUMBER}
 use Rattle.draid_names.specs.declared.pointer.Pointer.{Pointer}
 use Rattle.draid_rack.specs.declared.Rack as racks
@@ -12,6 +12,7 @@ use Rattle.draid_blocks.specs.declared.fault.BeginFault.{BeginFault}
 use Rattle.draid_blocks.specs.declared.fault.Missed.{Missed}
 use Rattle.draid_blocks.specs.declared.ticket.Ticket.{Ticket}
 use Rattle.draid_shard.specs.Fits.{Valid}
+use Rattle.draid_shard.specs.Looks.{IsLive}
 use Rattle.draid_session.specs.Holds.{Hold}
 use Rattle.draid_session.specs.Looks.{OnlyLooks}
 use Rattle.draid_session.specs.State.{State, Store}
@@ -28,6 +29,17 @@ pub record CarriesAt {R A : Type 0} (rack : racks.Ghosts R) (last : ℕ → Opti
   pub valid : Valid rack cell.shard
   pub carries : Carries cell.shard ticket block
   pub columns_are : cell.shard.geometry.g ≡ columns
+
+-- the block of a pointer is live in its metaslab, as that was left
+pub record LiveAt {R A : Type 0} (rack : racks.Ghosts R) (last : ℕ → Option (Cell R A)) (p : Pointer) : Type 0 where
+  pub cell : Cell R A
+  pub there : last p.metaslab ≡ Some cell
+  pub valid : Valid rack cell.shard
+  pub live : IsLive cell.shard p
+
+-- so it is then of each of the thread's own
+abbrev pub KeepsLive : {R A : Type 0} → racks.Ghosts R → (ℕ → Bool) → (last now : ℕ → Option (Cell R A)) → Type 0
+KeepsLive rack owns last now = (p : Pointer) → owns p.object ≡ true → LiveAt rack last p → LiveAt rack now p
 
 -- so many columns are put, and nothing of the thread's own changed
 abbrev pub PutsSome : Ticket → ℕ → ℕ → State → List Hold → Store → Type 0
@@ -49,6 +61,7 @@ pub record Putting {R A S : Type 0} (rack : racks.Ghosts R) (area : areas.Ghosts
   pub pointer : ticket.pointer ≡ first.pointer
   pub block_is : same ≡ block
   pub step : PutsBy rack area went shared owns now_owns last now a b m first ticket block n
+  pub live : KeepsLive rack owns last now
 
 -- ---- the begin
 
@@ -74,6 +87,7 @@ module _ {R A S : Type 0} (rack : racks.Ghosts R) (area : areas.Ghosts A) (went 
     pub fresh : ticket.next ≡ 0
     pub object_is : ticket.pointer.object ≡ object
     pub seq_is : ticket.pointer.seq ≡ seq + 1
+    pub low : ticket.pointer.birth ≤ LAST_NUMBER
     pub step : (table : ℕ → Option Pointer) (x : State) → Knows rack area owns last table seq floor x
         → LeadsBy rack area went shared a b x (λ holds store. (store ≡ x.store) × BeginsIn x.geometry m floor ticket.pointer block.bytes holds) (KnowsOpen rack area now_owns now table seq floor m ticket block)
 

@@ -1,5 +1,5 @@
 -- A block of an object is stored: a begin, its columns and its end.
-use Rattle.std.specs.Prelude.{◌≡◌, ◌+◌, ◌≤◌, ◌∷◌, ℕ, Bool, List, Option, Some, None, Result, Ok, Err}
+use Rattle.std.specs.Prelude.{◌≡◌, ◌+◌, ◌≤◌, ◌∷◌, ◌++◌, ℕ, Bool, List, Option, Some, None, Result, Ok, Err}
 use Rattle.draid_names.specs.declared.pointer.Pointer.{Pointer}
 use Rattle.draid_names.specs.declared.refusal.WriteFault.TheVariants as fault
 use Rattle.draid_rack.specs.declared.Rack as racks
@@ -35,4 +35,25 @@ module _ {R A S : Type 0} (rack : racks.Ghosts R) (area : areas.Ghosts A) (went 
   StoreSays (Some (Ok earlier)) = (x : State) → x.geometry.g ≡ columns → Knows rack area owns last table seq floor x
       → LeadsBy rack area went shared a b x (StoresIn x m object then_floor block.bytes) (KnowsReplaced rack area now_owns now then_table then_seq then_floor earlier (write_of x.store.changes object))
   StoreSays (Some (Err missed)) = (x : State) → x.geometry.g ≡ columns → Knows rack area owns last table seq floor x
+      → LeadsBy rack area went shared a b x (WriteInDoes x m object block.bytes (Err (fault.Missed missed.columns))) (Knows rack area now_owns now then_table then_seq then_floor)
+
+-- the block was stored, and the one before it isn't freed yet
+pub record AwaitsIn (x : State) (m object birth : ℕ) (bytes : List ℕ) (holds : List Hold) (store : Store) : Type 0 where
+  pub front : List Hold
+  pub back : List Hold
+  pub are : holds ≡ front ++ back
+  pub looks : OnlyLooks back
+  pub stores : StoresIn x m object birth bytes front store
+
+module _ {R A S : Type 0} (rack : racks.Ghosts R) (area : areas.Ghosts A) (went : S → ℕ → Cell R A → Cell R A → S → Type 0) (shared : Bool) (owns now_owns : ℕ → Bool) (last now : ℕ → Option (Cell R A)) (a b : S) (m columns object : ℕ)
+    (table then_table : ℕ → Option Pointer) (seq floor then_seq then_floor : ℕ) (block : BlockValue) where
+  -- nothing; or a whole write; or one whose earlier block is to be freed; or too many columns landed nowhere
+  abbrev pub WriteSays : Option (Result (Option Pointer) Missed) → Type 0
+  WriteSays None = (x : State) → Knows rack area owns last table seq floor x
+      → LeadsBy rack area went shared a b x (λ holds store. (store ≡ x.store) × OnlyLooks holds) (Knows rack area now_owns now then_table then_seq then_floor)
+  WriteSays (Some (Ok None)) = (x : State) → x.geometry.g ≡ columns → Knows rack area owns last table seq floor x
+      → LeadsBy rack area went shared a b x (WriteInDoes x m object block.bytes (Ok tt)) (Knows rack area now_owns now then_table then_seq then_floor)
+  WriteSays (Some (Ok (Some earlier))) = (x : State) → x.geometry.g ≡ columns → Knows rack area owns last table seq floor x
+      → LeadsBy rack area went shared a b x (AwaitsIn x m object then_floor block.bytes) (KnowsReplaced rack area now_owns now then_table then_seq then_floor (Some earlier) (write_of x.store.changes object))
+  WriteSays (Some (Err missed)) = (x : State) → x.geometry.g ≡ columns → Knows rack area owns last table seq floor x
       → LeadsBy rack area went shared a b x (WriteInDoes x m object block.bytes (Err (fault.Missed missed.columns))) (Knows rack area now_owns now then_table then_seq then_floor)

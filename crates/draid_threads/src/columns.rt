@@ -1,5 +1,5 @@
 ghost use Rattle.std.specs.Prelude.{◌≡◌, true};
-ghost use Rattle.draid_threads.specs.Putting.{CarriesAt, PutsBy};
+ghost use Rattle.draid_threads.specs.Putting.{CarriesAt, KeepsLive, PutsBy};
 
 use crate::metaslabs::Metaslabs;
 use crate::put::PutOp;
@@ -26,6 +26,7 @@ pub fn put_all<R: Rack, A: Area, M: Metaslabs<R, A>>(
     ensures carries { CarriesAt R.Rack (M.last metaslabs.new) metaslab columns result block.now }
     ensures all { result.next ≡ columns }
     ensures pointer { result.pointer ≡ ticket.pointer }
+    ensures live { KeepsLive R.Rack (M.owns metaslabs.old) (M.last metaslabs.old) (M.last metaslabs.new) }
     ensures step { PutsBy R.Rack A.Area M.went M.shared (M.owns metaslabs.old) (M.owns metaslabs.new) (M.last metaslabs.old) (M.last metaslabs.new) metaslabs.old metaslabs.new metaslab ticket result block.now columns }
 {
     let mut op = PutOp { ticket, block };

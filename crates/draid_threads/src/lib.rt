@@ -15,6 +15,7 @@ mod own;
 mod owned;
 mod put;
 mod store;
+mod whole;
 mod writing;
 
 pub use begin::BeginOp;
@@ -30,4 +31,5 @@ pub use own::Own;
 pub use owned::Owned;
 pub use put::PutOp;
 pub use store::store_block;
+pub use whole::write_block;
 pub use writing::{begin_write, end_write};

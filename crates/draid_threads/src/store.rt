@@ -1,6 +1,8 @@
-ghost use Rattle.std.specs.Prelude.{◌≡◌, ◌<◌, nat_eq, true};
+ghost use Rattle.std.specs.Prelude.{◌≡◌, ◌<◌, ◌≤◌, Ok, Some, nat_eq, true};
 ghost use Rattle.std.specs.HashMap.{get, spare};
-ghost use Rattle.draid_threads.specs.Putting.{MayStart};
+ghost use Rattle.draid_names.specs.declared.numbers.TheConstants.{LAST_NUMBER};
+ghost use Rattle.draid_names.specs.declared.pointer.Pointer.{Pointer};
+ghost use Rattle.draid_threads.specs.Putting.{KeepsLive, MayStart};
 ghost use Rattle.draid_threads.specs.Storing.{StoreSays};
 
 use crate::columns::put_all;
@@ -29,6 +31,9 @@ pub fn store_block<R: Rack, A: Area, M: Metaslabs<R, A>>(
     ensures fits { M.fits metaslabs.new }
     ensures locks { M.locks metaslabs.new ≡ M.locks metaslabs.old }
     ensures owns { M.owns metaslabs.new ≡ M.owns metaslabs.old }
+    ensures low { own.new.floor ≤ LAST_NUMBER }
+    ensures earlier { (p : Pointer) → result ≡ Some (Ok (Some p)) → get nat_eq own.old.objects object ≡ Some p }
+    ensures live { KeepsLive R.Rack (M.owns metaslabs.old) (M.last metaslabs.old) (M.last metaslabs.new) }
     ensures says { StoreSays R.Rack A.Area M.went M.shared (M.owns metaslabs.old) (M.owns metaslabs.new) (M.last metaslabs.old) (M.last metaslabs.new) metaslabs.old metaslabs.new metaslab columns object
         (λ o. get nat_eq own.old.objects o) (λ o. get nat_eq own.new.objects o) own.old.seq own.old.floor own.new.seq own.new.floor block.now result }
 {

@@ -1,5 +1,5 @@
 ghost use Rattle.std.specs.Prelude.{◌≡◌, true};
-ghost use Rattle.draid_threads.specs.Putting.{BeginSays, CarriesAt, EndSays, MayStart};
+ghost use Rattle.draid_threads.specs.Putting.{BeginSays, CarriesAt, EndSays, KeepsLive, MayStart};
 
 use crate::begin::BeginOp;
 use crate::finish::FinishOp;
@@ -26,6 +26,7 @@ pub fn begin_write<R: Rack, A: Area, M: Metaslabs<R, A>>(
     ensures fits { M.fits metaslabs.new }
     ensures locks { M.locks metaslabs.new ≡ M.locks metaslabs.old }
     ensures owns { M.owns metaslabs.new ≡ M.owns metaslabs.old }
+    ensures live { KeepsLive R.Rack (M.owns metaslabs.old) (M.last metaslabs.old) (M.last metaslabs.new) }
     ensures says { BeginSays R.Rack A.Area M.went M.shared (M.owns metaslabs.old) (M.owns metaslabs.new) (M.last metaslabs.old) (M.last metaslabs.new) metaslabs.old metaslabs.new metaslab columns object own.now.seq own.now.floor block.now result }
 {
     let mut op = BeginOp {
@@ -54,6 +55,7 @@ pub fn end_write<R: Rack, A: Area, M: Metaslabs<R, A>>(
     ensures fits { M.fits metaslabs.new }
     ensures locks { M.locks metaslabs.new ≡ M.locks metaslabs.old }
     ensures owns { M.owns metaslabs.new ≡ M.owns metaslabs.old }
+    ensures live { KeepsLive R.Rack (M.owns metaslabs.old) (M.last metaslabs.old) (M.last metaslabs.new) }
     ensures says { EndSays R.Rack A.Area M.went M.shared (M.owns metaslabs.old) (M.owns metaslabs.new) (M.last metaslabs.old) (M.last metaslabs.new) metaslabs.old metaslabs.new metaslab ticket block.now result }
 {
     let mut op = FinishOp {

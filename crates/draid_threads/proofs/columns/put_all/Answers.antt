@@ -3,6 +3,7 @@ use Rattle.draid_names.specs.declared.pointer.Pointer.{Pointer}
 use Rattle.draid_threads.specs.Putting.{CarriesAt, PutsBy}
 use Rattle.draid_threads.specs.Writing.{MayPutIn, PutsShard}
 use Rattle.draid_threads.proofs.Holding.{some_same}
+use Rattle.draid_threads.proofs.Lively.{keeps_live, live_put}
 use Rattle.draid_threads.proofs.OpenKeeps.{may_put, puts_keep}
 use Rattle.draid_threads.proofs.PutSteps.{carries_one, puts_none, puts_one}
 use Rattle.draid_threads.proofs.columns.put_all.Goals as goal
@@ -52,6 +53,9 @@ columns-preserved g c =
       step = subst (λ o. PutsBy g.R.Rack g.A.Area g.M.Metaslabs.went g.M.Metaslabs.shared owns o last new c.args.metaslabs.now c.hold.new.self c.args.metaslab c.args.ticket done.ticket c.args.block.now (c.columns._column + 1)) (sym c.hold.ensures.owns)
           (puts_one g.R.Rack g.A.Area g.M.Metaslabs.went g.M.Metaslabs.shared owns now_owns i.owned last now new c.args.metaslabs.now c.columns.metaslabs c.hold.new.self c.args.metaslab c.args.ticket op.ticket done.ticket c.args.block.now c.columns._column
           i.pointer i.step held.cell held.before held.after held.there held.drifts held.is held.went put);
+      live = λ p own at.
+          keeps_live g.R.Rack g.A.Area g.M.Metaslabs.shared now_owns now new c.args.metaslab held.cell held.before held.after held.there held.drifts put.valid held.is
+          (λ q live. live_put g.R.Rack g.A.Area held.before.shard held.after.shard op.ticket done.ticket c.args.block.now q held.drifts.valid put live) p (ap (λ f. f p.object) i.owned ∙ own) (i.live p own at);
     }
 
 pub columns-init : goal.columns-init
@@ -64,6 +68,7 @@ columns-init g c = record {
   pointer = refl;
   block_is = refl;
   step = puts_none g.R.Rack g.A.Area g.M.Metaslabs.went g.M.Metaslabs.shared (g.M.Metaslabs.owns c.args.metaslabs.now) (g.M.Metaslabs.last c.args.metaslabs.now) c.args.metaslabs.now c.args.metaslab c.args.ticket c.args.block.now;
+  live = λ p own at. at;
 }
 
 pub returns-clause-step : goal.returns-clause-step

@@ -1,6 +1,7 @@
 use Rattle.std.proofs.Common.{◌≡◌, ◌+◌, ◌∙◌, sym, ap, subst}
 use Rattle.draid_threads.specs.Putting.{BeginSays}
 use Rattle.draid_threads.proofs.Holding.{some_same}
+use Rattle.draid_threads.proofs.Lively.{keeps_live, live_begin}
 use Rattle.draid_threads.proofs.OpenKeeps.{begins_keep, may_begin}
 use Rattle.draid_threads.proofs.Saying.{begin_says}
 use Rattle.draid_threads.proofs.writing.begin_write.Goals as goal
@@ -27,3 +28,9 @@ returns-clause-says g c =
     subst (λ o. BeginSays g.R.Rack g.A.Area g.M.Metaslabs.went g.M.Metaslabs.shared owns o last new c.args.metaslabs.now c.hold.new.self c.args.metaslab c.args.columns c.args.object c.args.own.now.seq c.args.own.now.floor c.args.block.now c.hold.new.op.out) (sym c.hold.ensures.owns)
     (begin_says g.R.Rack g.A.Area g.M.Metaslabs.went g.M.Metaslabs.shared owns last new c.args.metaslabs.now c.hold.new.self c.args.metaslab h.cell h.before h.after h.there h.drifts h.is h.went c.args.columns c.args.object c.args.own.now.seq c.args.own.now.floor
     c.args.block.now c.requires.own c.requires.may c.hold.new.op.out h.related)
+
+pub returns-clause-live : goal.returns-clause-live
+returns-clause-live g c =
+    let h = c.hold.ensures.held in
+    keeps_live g.R.Rack g.A.Area g.M.Metaslabs.shared (g.M.Metaslabs.owns c.args.metaslabs.now) (g.M.Metaslabs.last c.args.metaslabs.now) (g.M.Metaslabs.last c.hold.new.self) c.args.metaslab h.cell h.before h.after h.there h.drifts h.related.valid h.is
+    (λ q live. live_begin g.R.Rack g.A.Area h.before.shard h.after.shard c.args.object (c.args.own.now.seq + 1) c.args.own.now.floor c.args.block.now c.hold.new.op.out q h.drifts.valid h.related live)

@@ -5,6 +5,7 @@ use Rattle.draid_threads.specs.Putting.{EndSays}
 use Rattle.draid_threads.specs.Writing.{FinishesShard}
 use Rattle.draid_threads.proofs.Ended.{some_ended, keeps_ended}
 use Rattle.draid_threads.proofs.Holding.{some_same}
+use Rattle.draid_threads.proofs.Lively.{keeps_live, live_end}
 use Rattle.draid_threads.proofs.OpenKeeps.{may_finish}
 use Rattle.draid_threads.proofs.Saying.{end_says}
 use Rattle.draid_threads.proofs.writing.end_write.Goals as goal
@@ -31,3 +32,10 @@ returns-clause-says g c =
     subst (λ o. EndSays g.R.Rack g.A.Area g.M.Metaslabs.went g.M.Metaslabs.shared owns o last new c.args.metaslabs.now c.hold.new.self c.args.metaslab c.args.ticket c.args.block.now c.in-Some.result) (sym c.hold.ensures.owns)
     (end_says g.R.Rack g.A.Area g.M.Metaslabs.went g.M.Metaslabs.shared owns last new c.args.metaslabs.now c.hold.new.self c.args.metaslab h.cell h.before h.after h.there h.drifts h.is h.went c.args.ticket c.args.block.now c.in-Some.result
     (some_ended g.R.Rack h.before.shard c.args.ticket c.args.block.now h.after.shard c.hold.new.op.out c.in-Some.result h.related c.in-Some.is))
+
+pub returns-clause-live : goal.returns-clause-live
+returns-clause-live g c =
+    let h = c.hold.ensures.held in
+    let d = some_ended g.R.Rack h.before.shard c.args.ticket c.args.block.now h.after.shard c.hold.new.op.out c.in-Some.result h.related c.in-Some.is in
+    keeps_live g.R.Rack g.A.Area g.M.Metaslabs.shared (g.M.Metaslabs.owns c.args.metaslabs.now) (g.M.Metaslabs.last c.args.metaslabs.now) (g.M.Metaslabs.last c.hold.new.self) c.args.metaslab h.cell h.before h.after h.there h.drifts d.valid h.is
+    (λ q live. live_end g.R.Rack g.A.Area h.before.shard h.after.shard c.args.ticket c.args.block.now c.in-Some.result q h.drifts.valid d live)
