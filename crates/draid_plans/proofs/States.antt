@@ -21,7 +21,7 @@ use Rattle.draid_machine.specs.Arms.{arms_below, is_here, leaf_answers, leaf_at,
 use Rattle.draid_machine.specs.Created.{IsReached}
 use Rattle.draid_machine.specs.Fitting.{Fitting, IsOnce}
 use Rattle.draid_machine.specs.Images.{AreListed}
-use Rattle.draid_machine.specs.Names.{has_name, is_heal, is_leaf, name_eq, up_to}
+use Rattle.draid_machine.specs.Names.{has_name, is_heal, is_leaf, name_eq, up_to, named}
 use Rattle.draid_machine.specs.State as machine
 use Rattle.draid_machine.proofs.Fitted.{every_fit}
 use Rattle.draid_machine.proofs.Losing.{every_segment}
@@ -30,7 +30,7 @@ use Rattle.draid_pass.specs.declared.pass.Pass.{Pass}
 use Rattle.draid_ranges.specs.Runs.{is_between}
 use Rattle.draid_slots.specs.Changes.{new_arm}
 use Rattle.draid_slots.specs.Marks.{is_marked}
-use Rattle.draid_slots.specs.States.{HasSlots, arm_in, name_of, named, names_at, pass_in}
+use Rattle.draid_slots.specs.States.{HasSlots, arm_in, name_of, names_at, pass_in}
 use Rattle.draid_slots.specs.Table.{SlotTable, IsThere, arm_at, arms_of, is_at, is_logged, is_spare_kind}
 use Rattle.draid_plans.specs.Ends.{is_good}
 use Rattle.draid_plans.specs.Layout.{layout_with}
