@@ -1,0 +1,13 @@
+mod Attached
+mod Births
+mod Comes
+mod Goes
+mod Kept
+mod Left
+mod Moving
+mod Plain
+mod Renewed
+mod RenewedOne
+mod Reserved
+mod Switching
+mod Upgraded

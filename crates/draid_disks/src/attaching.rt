@@ -1,0 +1,91 @@
+ghost use Rattle.std.specs.Prelude.{◌≡◌, ◌<◌, ◌^◌, None, IfErr, OnErr, OnOk};
+ghost use Rattle.draid_entries.specs.History.{reserved_of};
+ghost use Rattle.draid_machine.specs.State as machine;
+ghost use Rattle.draid_machine.specs.Created.{IsReached};
+ghost use Rattle.draid_machine.specs.Step.{IsLast};
+ghost use Rattle.draid_machine.specs.declared.event.Event.TheVariants.{Attach};
+ghost use Rattle.draid_names.specs.declared.arm.ArmKind.TheVariants.{Spare};
+ghost use Rattle.draid_segments.specs.Segments.{Pieces};
+ghost use Rattle.draid_shard.specs.Calls.{ActsOn, SameKit};
+ghost use Rattle.draid_shard.specs.Changes.{KeepsBlocks};
+ghost use Rattle.draid_shard.specs.Fits.{Valid};
+ghost use Rattle.draid_shard.specs.States.{Does, IsIn};
+ghost use Rattle.draid_slots.specs.Changes.{HasRoom};
+ghost use Rattle.draid_slots.specs.Faults.{IsAttachRefused};
+ghost use Rattle.draid_slots.specs.States.{named};
+ghost use Rattle.draid_disks.specs.Disks.{HasAttached, IsNewLeaf, Uses, arm_called};
+
+use crate::renewing::renew;
+use draid_area::Area;
+use draid_machine::{ArmName, Event};
+use draid_names::{Arm, ArmKind, SlotFault};
+use draid_rack::Rack;
+use draid_shard::Shard;
+
+/// An arm by what it is. Spares have numbers of 32 bits; what a greater one gives is of no account.
+fn called(kind: ArmKind, number: u64) -> ArmName
+    ensures { (kind ≡ Spare → number < 2 ^ 32) → result ≡ named kind number }
+{
+    match kind {
+        ArmKind::Leaf => ArmName::Leaf { leaf: number },
+        ArmKind::Spare => ArmName::Spare {
+            spare: u32::try_from(number).unwrap_or(0),
+        },
+    }
+}
+
+/// The last group that an arm which comes now missed: the open one, or the greatest birth where that is greater.
+pub(crate) fn last_missed<R: Rack, A: Area>(shard: &Shard<R, A>) -> u64
+    requires valid { Valid R.Rack shard.now }
+    ensures range { result < 2 ^ 48 }
+    ensures last { (w : machine.State) → IsIn shard.now w → IsLast w result }
+{
+    let birth = shard.greatest_birth();
+    if birth < shard.open_group {
+        shard.open_group
+    } else {
+        birth
+    }
+}
+
+/// Gives a slot one more arm, which is no arm yet, while no pass runs. One event is reserved for it, and room in memory
+/// for one more arm.
+pub fn attach<R: Rack, A: Area>(
+    shard: &mut Shard<R, A>,
+    slot: u32,
+    kind: ArmKind,
+    number: u64,
+) -> Result<(), SlotFault>
+    requires valid { Valid R.Rack shard.old }
+    requires reserved { 0 < reserved_of shard.old.history }
+    requires room { HasRoom shard.old.slots 4 1 }
+    requires pass { shard.old.pass ≡ None }
+    requires leaf { IsNewLeaf R.Rack shard.old kind number }
+    ensures valid { Valid R.Rack shard.new }
+    ensures kit { SameKit shard.old shard.new }
+    ensures event { OnOk result (Does shard.old shard.new (Attach slot (named kind number))) }
+    ensures acts { OnOk result ((pieces : Pieces) → ActsOn R.Rack shard.old shard.new (Attach slot (named kind number)) pieces) }
+    ensures reserve { OnOk result (Uses shard.old.history shard.new.history 1) }
+    ensures arms { OnOk result (HasAttached shard.old.slots shard.new.slots slot (arm_called kind number)) }
+    ensures keeps { KeepsBlocks shard.old shard.new }
+    ensures refused { IfErr result (IsAttachRefused shard.old.slots slot (arm_called kind number)) }
+    ensures same { OnErr result (shard.new ≡ shard.old) }
+{
+    let arm = Arm {
+        kind,
+        number,
+        offline: false,
+        fresh: false,
+    };
+    let upto = last_missed(shard);
+    let moved = shard.slots.attach(slot, arm, upto)?;
+    renew(&mut shard.slots, &moved, shard.geometry.spec.spares, upto);
+    shard.history.add_reserved(
+        Event::Attach {
+            slot,
+            arm: called(kind, number),
+        },
+        0,
+    );
+    Ok(())
+}
