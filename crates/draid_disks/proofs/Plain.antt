@@ -1,6 +1,6 @@
 -- What the arms are behind a change, but for whether a pass has made them good.
 use Rattle.std.proofs.Common.{◌≡◌, ◌≢◌, ◌+◌, ◌∙◌, ℕ, zero, suc, Bool, true, false, List, [], ◌∷◌, ◌++◌, Option, Some, None, refl, sym, ap, map, slice_get, if◌then◌else◌}
-use Rattle.std.specs.Prelude.{option_map, remove}
+use Rattle.std.specs.Prelude.{option_map, remove, slice_index_or}
 use Rattle.std.proofs.lemmas.List.{map-append}
 use Rattle.draid_names.specs.declared.arm.Arm.{Arm}
 use Rattle.draid_names.specs.declared.arm.ArmAt.{ArmAt}
@@ -30,20 +30,20 @@ plain_each test (x ∷ xs) (y ∷ ys) is =
     same true = refl
     same false = refl
 
-module _ (old mid new : SlotTable) (test : ℕ → Bool) (upto : ℕ) (renews : Renews mid new test upto) where
+module _ (old mid ren new : SlotTable) (test : ℕ → Bool) (upto : ℕ) (renews : Renews mid ren test upto) (same_arms : new.arms ≡ ren.arms) (same_gone : new.detached ≡ ren.detached) where
   plain_same : (slot : ℕ) → plain_arms new slot ≡ plain_arms mid slot
-  plain_same slot = plain_each test (arms_of mid slot) (arms_of new slot) (λ k. renews.arms_are (record { slot = slot; arm = k }))
+  plain_same slot = ap (λ arms. map plain (slice_index_or arms slot [])) same_arms ∙ plain_each test (arms_of mid slot) (arms_of ren slot) (λ k. renews.arms_are (record { slot = slot; arm = k }))
 
   pub plain_attached : (slot : ℕ) (kind : ArmKind) (number : ℕ) → Attaches old mid slot (arm_called kind number) upto → HasAttached old new slot (arm_called kind number)
   plain_attached slot kind number attaches = record {
     here = plain_same slot ∙ ap (map plain) attaches.here ∙ map-append plain (arms_of old slot) (record (arm_called kind number) { fresh = true } ∷ []);
     others = λ other differs. plain_same other ∙ ap (map plain) (attaches.others other differs);
-    detached_stay = renews.detached_stay ∙ attaches.detached_stay;
+    detached_stay = same_gone ∙ renews.detached_stay ∙ attaches.detached_stay;
   }
 
   pub plain_detached : (at : ArmAt) (group : ℕ) → Detaches old mid at group → HasDetached old new at group
   plain_detached at group detaches = record {
     here = plain_same at.slot ∙ ap (map plain) detaches.here ∙ map_remove plain (arms_of old at.slot) at.arm;
     others = λ other differs. plain_same other ∙ ap (map plain) (detaches.others other differs);
-    gone = λ arm there. renews.detached_stay ∙ detaches.gone arm there;
+    gone = λ arm there. same_gone ∙ renews.detached_stay ∙ detaches.gone arm there;
   }

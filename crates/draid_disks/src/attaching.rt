@@ -1,7 +1,6 @@
-ghost use Rattle.std.specs.Prelude.{◌≡◌, ◌<◌, ◌^◌, None, IfErr, OnErr, OnOk};
+ghost use Rattle.std.specs.Prelude.{◌≡◌, ◌≤◌, ◌<◌, ◌^◌, ◌↔◌, IfErr, IsTrue, OnErr, OnOk};
 ghost use Rattle.draid_entries.specs.History.{reserved_of};
 ghost use Rattle.draid_machine.specs.State as machine;
-ghost use Rattle.draid_machine.specs.Created.{IsReached};
 ghost use Rattle.draid_machine.specs.Step.{IsLast};
 ghost use Rattle.draid_machine.specs.declared.event.Event.TheVariants.{Attach};
 ghost use Rattle.draid_names.specs.declared.arm.ArmKind.TheVariants.{Spare};
@@ -10,15 +9,15 @@ ghost use Rattle.draid_shard.specs.Calls.{ActsOn, SameKit};
 ghost use Rattle.draid_shard.specs.Changes.{KeepsBlocks};
 ghost use Rattle.draid_shard.specs.Fits.{Valid};
 ghost use Rattle.draid_shard.specs.States.{Does, IsIn};
-ghost use Rattle.draid_slots.specs.Changes.{HasRoom};
-ghost use Rattle.draid_slots.specs.Faults.{IsAttachRefused};
 ghost use Rattle.draid_slots.specs.States.{named};
-ghost use Rattle.draid_disks.specs.Disks.{HasAttached, IsNewLeaf, Uses, arm_called};
+ghost use Rattle.draid_disks.specs.Disks.{HasArmRoom, HasAttached, IsComingRefused, IsNewLeaf, Uses, arm_called};
+ghost use Rattle.draid_disks.specs.Replanning.{MayReplan, attach_events};
 
 use crate::renewing::renew;
+use crate::replanning::replan;
 use draid_area::Area;
 use draid_machine::{ArmName, Event};
-use draid_names::{Arm, ArmKind, SlotFault};
+use draid_names::{Arm, ArmKind, LAST_NUMBER, PassKind, SlotFault};
 use draid_rack::Rack;
 use draid_shard::Shard;
 
@@ -48,8 +47,25 @@ pub(crate) fn last_missed<R: Rack, A: Area>(shard: &Shard<R, A>) -> u64
     }
 }
 
-/// Gives a slot one more arm, which is no arm yet, while no pass runs. One event is reserved for it, and room in memory
-/// for one more arm.
+/// Whether a rebuild, where there is one, can be planned again.
+pub fn can_replan<R: Rack, A: Area>(shard: &Shard<R, A>) -> bool
+    ensures { IsTrue result ↔ MayReplan shard.now.pass shard.now.last_pass shard.now.open_group }
+{
+    shard.rebuild().is_none() || (shard.last_pass < LAST_NUMBER && shard.open_group < LAST_NUMBER)
+}
+
+/// How many reserved events an attachment uses.
+pub fn attach_events<R: Rack, A: Area>(shard: &Shard<R, A>) -> u32
+    ensures { result ≡ attach_events shard.now.pass }
+{
+    match &shard.pass {
+        Some(pass) if matches!(pass.kind, PassKind::Rebuild) && pass.running => 2,
+        _ => 1,
+    }
+}
+
+/// Gives a slot one more arm, which is no arm yet. A rebuild is planned again then, and a scrub loses the targets that
+/// came to lie elsewhere. Events and room in memory are reserved for it.
 pub fn attach<R: Rack, A: Area>(
     shard: &mut Shard<R, A>,
     slot: u32,
@@ -57,18 +73,17 @@ pub fn attach<R: Rack, A: Area>(
     number: u64,
 ) -> Result<(), SlotFault>
     requires valid { Valid R.Rack shard.old }
-    requires reserved { 0 < reserved_of shard.old.history }
-    requires room { HasRoom shard.old.slots 4 1 }
-    requires pass { shard.old.pass ≡ None }
+    requires reserved { attach_events shard.old.pass ≤ reserved_of shard.old.history }
+    requires room { HasArmRoom shard.old }
     requires leaf { IsNewLeaf R.Rack shard.old kind number }
     ensures valid { Valid R.Rack shard.new }
     ensures kit { SameKit shard.old shard.new }
     ensures event { OnOk result (Does shard.old shard.new (Attach slot (named kind number))) }
     ensures acts { OnOk result ((pieces : Pieces) → ActsOn R.Rack shard.old shard.new (Attach slot (named kind number)) pieces) }
-    ensures reserve { OnOk result (Uses shard.old.history shard.new.history 1) }
     ensures arms { OnOk result (HasAttached shard.old.slots shard.new.slots slot (arm_called kind number)) }
+    ensures reserve { OnOk result (Uses shard.old.history shard.new.history (attach_events shard.old.pass)) }
     ensures keeps { KeepsBlocks shard.old shard.new }
-    ensures refused { IfErr result (IsAttachRefused shard.old.slots slot (arm_called kind number)) }
+    ensures refused { IfErr result (IsComingRefused shard.old slot (arm_called kind number)) }
     ensures same { OnErr result (shard.new ≡ shard.old) }
 {
     let arm = Arm {
@@ -77,15 +92,24 @@ pub fn attach<R: Rack, A: Area>(
         offline: false,
         fresh: false,
     };
+    shard.slots.may_attach(slot, arm)?;
+    if !can_replan(shard) {
+        return Err(SlotFault::Last);
+    }
+    let passed = u64::from(attach_events(shard)) - 1;
     let upto = last_missed(shard);
     let moved = shard.slots.attach(slot, arm, upto)?;
     renew(&mut shard.slots, &moved, shard.geometry.spec.spares, upto);
-    shard.history.add_reserved(
-        Event::Attach {
-            slot,
-            arm: called(kind, number),
-        },
-        0,
+    replan(
+        &mut shard.slots,
+        &mut shard.pass,
+        &mut shard.last_pass,
+        shard.open_group,
+        &moved,
     );
+    let arm = called(kind, number);
+    shard
+        .history
+        .add_reserved(Event::Attach { slot, arm }, passed);
     Ok(())
 }

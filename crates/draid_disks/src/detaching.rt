@@ -1,15 +1,13 @@
 ghost use Rattle.std.specs.Prelude.{◌≡◌, ◌<◌, None, IfErr, OnErr, OnOk};
 ghost use Rattle.draid_entries.specs.History.{reserved_of};
 ghost use Rattle.draid_machine.specs.declared.event.Event.TheVariants.{Detach};
-ghost use Rattle.draid_names.specs.declared.numbers.TheConstants.{LAST_NUMBER};
 ghost use Rattle.draid_segments.specs.Segments.{Pieces};
 ghost use Rattle.draid_shard.specs.Calls.{ActsOn, SameKit};
 ghost use Rattle.draid_shard.specs.Changes.{KeepsBlocks};
 ghost use Rattle.draid_shard.specs.Fits.{Valid};
 ghost use Rattle.draid_shard.specs.States.{Does};
-ghost use Rattle.draid_slots.specs.Changes.{HasRoom};
 ghost use Rattle.draid_slots.specs.Faults.{IsDetachRefused};
-ghost use Rattle.draid_disks.specs.Disks.{HasDetached, IsNamed, Uses};
+ghost use Rattle.draid_disks.specs.Disks.{HasArmRoom, HasDetached, IsNamed, Uses};
 
 use crate::attaching::last_missed;
 use crate::renewing::renew;
@@ -27,9 +25,8 @@ pub fn detach<R: Rack, A: Area>(
 ) -> Result<(), SlotFault>
     requires valid { Valid R.Rack shard.old }
     requires reserved { 0 < reserved_of shard.old.history }
-    requires room { HasRoom shard.old.slots 4 1 }
+    requires room { HasArmRoom shard.old }
     requires pass { shard.old.pass ≡ None }
-    requires low { shard.old.open_group < LAST_NUMBER }
     requires there { IsNamed shard.old.slots at arm }
     ensures valid { Valid R.Rack shard.new }
     ensures kit { SameKit shard.old shard.new }
