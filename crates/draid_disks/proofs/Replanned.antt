@@ -1,25 +1,21 @@
 -- A pass that goes on where an arm has come, and the state that has it.
-use Rattle.std.proofs.Common.{◌≡◌, ◌<◌, ◌≤◌, ◌+◌, ◌∙◌, not, ℕ, Bool, true, false, List, Option, Some, None, All, IfSome, arith, refl, sym, ap, subst, filter, if◌then◌else◌}
-use Rattle.std.specs.Prelude.{option_map}
+use Rattle.std.proofs.Common.{◌≡◌, ◌≤◌, ◌+◌, ◌∙◌, not, ℕ, Bool, true, false, List, Some, None, All, arith, refl, sym, ap, subst, if◌then◌else◌}
 use Rattle.std.proofs.lemmas.List.Elements.{All-filter}
 use Rattle.draid_names.specs.declared.arm.ArmAt.{ArmAt}
-use Rattle.draid_names.specs.declared.pass_kind.PassKind.{PassKind}
 use Rattle.draid_names.specs.declared.pass_kind.PassKind.TheVariants.{Rebuild, Heal}
-use Rattle.draid_machine.specs.declared.names.ArmName.{ArmName}
 use Rattle.draid_machine.specs.After.{lose_some, lose_targets, lost_errors, replan, replan_kind}
 use Rattle.draid_machine.specs.State as machine
 use Rattle.draid_pass.specs.declared.pass.Pass.{Pass}
 use Rattle.draid_plans.specs.Ends.{Loses, LosesAll, is_lost}
 use Rattle.draid_plans.specs.Layout.{layout_with}
 use Rattle.draid_plans.specs.Logs.{Fills}
-use Rattle.draid_plans.specs.Plans.{IsPlanned, PlansAll, is_filled}
-use Rattle.draid_plans.specs.Targets.{NamedOnce}
+use Rattle.draid_plans.specs.Plans.{IsPlanned, PlansAll}
 use Rattle.draid_plans.proofs.Order.{kept_ascend}
 use Rattle.draid_shard.specs.Fits.{is_rebuild, owed_for_pass}
 use Rattle.draid_slots.specs.declared.moved.Moved.{Moved}
-use Rattle.draid_slots.specs.States.{AscendBehind, HasSlots, HoldsPass, pass_in}
+use Rattle.draid_slots.specs.States.{AscendBehind, HoldsPass, pass_in}
 use Rattle.draid_slots.specs.Table.{SlotTable, IsThere, room_at}
-use Rattle.draid_disks.specs.Replanning.{HasPass, MarksMoved, MayReplan, PassesMoved, Relogs, ReplansAll, attach_events}
+use Rattle.draid_disks.specs.Replanning.{HasPass, MarksMoved, Relogs, ReplansAll, attach_events}
 
 -- ---- the slots
 pub relogs_none : (slots : SlotTable) → Relogs slots slots
