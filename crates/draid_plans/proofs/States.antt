@@ -18,7 +18,7 @@ use Rattle.draid_machine.specs.Arms as arms
 use Rattle.draid_machine.specs.Arms.{arms_below, is_here, leaf_answers, leaf_at, online, passes}
 use Rattle.draid_machine.specs.Names.{has_name, is_heal, is_leaf, name_eq, up_to}
 use Rattle.draid_machine.specs.State as machine
-use Rattle.draid_machine.proofs.Small.{absurd_test, bool_cases, name_refl, name_true, none_some, some_injective, some_same, true_left, true_right}
+use Rattle.draid_machine.proofs.Small.{bool_cases, name_refl, name_true, none_some, some_injective, some_same, true_left}
 use Rattle.draid_pass.specs.declared.pass.Pass.{Pass}
 use Rattle.draid_ranges.specs.Runs.{is_between}
 use Rattle.draid_slots.specs.Changes.{new_arm}
