@@ -535,7 +535,7 @@ impl Slots {
     }
 
     /// Ok where an arm may be attached to a slot.
-    fn may_attach(&self, slot: u32, arm: Arm) -> Result<(), SlotFault>
+    pub fn may_attach(&self, slot: u32, arm: Arm) -> Result<(), SlotFault>
         ensures allowed { OnOk result (MayAttach self.now slot arm) }
         ensures refused { IfErr result (IsAttachRefused self.now slot arm) }
     {
