@@ -1,5 +1,8 @@
 -- What is looked for among the blocks of a metaslab, and what a history leaves of the numbers of a state.
-use Rattle.std.proofs.Common.{◌≡◌, ◌+◌, ◌<◌, ℕ, suc, List, [], ◌∷◌, Option, Some, None, Result, Ok, Err, All, IfOk, arith, refl, sym, ap, subst, inl, inr}
+use Rattle.std.proofs.Common.{◌≡◌, ◌+◌, ◌<◌, ◌∙◌, ℕ, suc, List, [], ◌∷◌, Option, Some, None, Result, Ok, Err, All, IfOk, arith, refl, sym, ap, subst, inl, inr}
+use Rattle.std.specs.Prelude.{length, slice_index_or}
+use Rattle.std.proofs.lemmas.Bool.{cases_lt}
+use Rattle.std.proofs.lemmas.Option.{get_or_from_slice_get, slice_get-get_or}
 use Rattle.draid_names.specs.declared.numbers.TheConstants.{NUMBERS}
 use Rattle.draid_machine.specs.declared.names.Key.{Key}
 use Rattle.draid_machine.specs.declared.names.Held.{Held}
@@ -32,6 +35,7 @@ unused t seq stripe none behind = by (held_in t key) refl
   where
     key : Key
     key = record { object = 7; seq = seq }
+
     by : (o : Option Held) → held_in t key ≡ o → held_in t key ≡ None
     by None is = is
     by (Some h) is =
@@ -40,6 +44,17 @@ unused t seq stripe none behind = by (held_in t key) refl
         absurd (none z.e at (all_passed t stripe z.e behind at) (ap (λ (k : Key). k.seq) z.key_is))
 
 -- ---- numbers
+
+-- events have theirs in their ranges up to a place, and so has the one there
+pub one_more : (events : List Event) (i : ℕ) (e : Event) → i < length events → e ≡ slice_index_or events i e → IsSmallEvent e
+    → ((k : ℕ) (d : Event) → k < i → IsSmallEvent (slice_index_or events k d)) → (k : ℕ) (d : Event) → k < i + 1 → IsSmallEvent (slice_index_or events k d)
+one_more events i e inside is small before k d less = elim (cases_lt k i) [
+  | inl low ↦ before k d low
+  | inr high ↦
+      let at : slice_index_or events i d ≡ e = get_or_from_slice_get events i e d (slice_get-get_or events i e inside ∙ ap Some (sym is)) in
+      let same : k ≡ i = omega (arith, less, high) in
+      subst (λ n. IsSmallEvent (slice_index_or events n d)) (sym same) (subst IsSmallEvent (sym at) small)
+]
 
 -- a history of events whose numbers are in their ranges leaves those of a state in theirs
 pub run_within : (l : Layout) (w new : State) (events : List Event) → l.stripes < NUMBERS → IsWithin w → All IsSmallEvent events → Run l w events new → IsWithin new

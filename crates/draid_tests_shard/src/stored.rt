@@ -45,16 +45,14 @@ fn are_small(events: &[Event]) -> bool
 }
 
 /// What becomes of a state by events.
-fn after(
-    alloc: Global,
-    site: &Site,
-    world: World,
-    events: &[Event],
-) -> Result<World, ReplayFault>
+fn after(alloc: Global, site: &Site, world: World, events: &[Event]) -> Result<World, ReplayFault>
     requires within { IsWithin (state_of world) }
     ensures within { IfOk result (λ world. IsWithin (state_of world)) }
 {
-    if !are_small(events) || events.len() > 100 || world.serial > 0 {
+    if !are_small(events) {
+        return Err(ReplayFault::NoMemory);
+    }
+    if events.len() > 100 || world.serial > 0 {
         return Err(ReplayFault::NoMemory);
     }
     replay(alloc, site, world, events)
@@ -104,8 +102,13 @@ fn has_logs(slots: &Slots, world: &World) -> bool {
 /// Whether a metaslab is as a state says.
 fn agrees<R: Rack, A: Area>(shard: &Shard<R, A>, world: &World) -> bool {
     let sealed = world.sealed.is_some();
-    has_groups(shard, world.open_group, world.closing, sealed, world.committed)
-        && has_held(&shard.entries, world)
+    has_groups(
+        shard,
+        world.open_group,
+        world.closing,
+        sealed,
+        world.committed,
+    ) && has_held(&shard.entries, world)
         && has_logs(&shard.slots, world)
 }
 
@@ -127,7 +130,10 @@ fn leads<R: Rack, A: Area>(
 
 /// Whether a history may lead to the same without an event.
 fn is_spare(event: &Event) -> bool {
-    matches!(event, Event::Fetch { .. } | Event::Damage { .. } | Event::Put { .. })
+    matches!(
+        event,
+        Event::Fetch { .. } | Event::Damage { .. } | Event::Put { .. }
+    )
 }
 
 /// Whether a call on a leaf failed in an event.

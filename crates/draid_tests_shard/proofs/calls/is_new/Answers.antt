@@ -10,3 +10,6 @@ overflow_add-stripe c = let low = c.in-Some.ensures.low in omega (arith, low)
 
 pub loop-entry-smaller : goal.loop-entry-smaller
 loop-entry-smaller c = let low = c.in-Some.ensures.low in let from = c.in-Some.ensures.from in omega (arith, low, from)
+
+pub returns : goal.returns
+returns c = λ new. unused c.args.entries.now c.args.seq c.loop-entry.stripe c.loop-entry.invariant c.in_default.ensures.none
