@@ -6,11 +6,13 @@ pub mod Committed
 pub mod Counted
 pub mod Counting
 pub mod Dids
+pub mod Drifting
 pub mod Dropping
 pub mod Entering
 pub mod Failing
 pub mod Following
 pub mod Freed
+pub mod Holding
 pub mod ImageLeaves
 pub mod Imaged
 pub mod Importables
@@ -24,6 +26,7 @@ pub mod Moved
 pub mod Naming
 pub mod OneHold
 pub mod OnePass
+pub mod Places
 pub mod Ranging
 pub mod Refusing
 pub mod Releasing
@@ -32,6 +35,7 @@ pub mod Rises
 pub mod Rooms
 pub mod SealRecords
 pub mod SealSteps
+pub mod Since
 pub mod Steps
 pub mod Stood
 pub mod SyncCalls

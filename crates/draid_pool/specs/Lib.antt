@@ -1,8 +1,10 @@
 pub mod Carries
 pub mod Changes
 pub mod Committing
+pub mod Drifts
 pub mod Failing
 pub mod Groups
+pub mod Holding
 pub mod Importable
 pub mod Knows
 pub mod Metaslabs

@@ -56,13 +56,13 @@ pub fn free<R: Rack, A: Area>(pool: &mut Pool<R, A>, object: u64) -> Result<(), 
     ensures step { (x : State) → Represents R.Rack A.Area pool.old x
         → CarriesOut R.Rack A.Area pool.new x (FreeDoes x object result) }
 {
-    let Some(pointer) = pool.objects.remove(&object) else {
+    let Some(pointer) = pool.own.objects.remove(&object) else {
         return Err(FreeFault::NoObject);
     };
-    pool.floor = free_block(
-        &mut pool.shards[pointer.metaslab as usize],
+    pool.own.floor = free_block(
+        &mut pool.metaslabs.shards[pointer.metaslab as usize],
         &pointer,
-        pool.floor,
+        pool.own.floor,
     );
     Ok(())
 }

@@ -13,13 +13,13 @@ use Rattle.draid_store.proofs.freeing.free.Goals as goal
 pub returns-in_default : goal.returns-in_default
 returns-in_default g c =
     let old = c.args.pool.now in
-    let new : Pool g.row.R.Denot g.row.A.Denot = record old { objects = c.remove.new.self } in
+    let new : Pool g.row.R.Denot g.row.A.Denot = record old { own = record old.own { objects = c.remove.new.self } } in
     record {
       whole = whole_table g.R.Rack g.A.Area old new c.requires.whole refl refl refl refl refl
-          (λ o q at. c.requires.whole.objects o q (removed (λ i. get nat_eq new.objects i) (λ i. get nat_eq old.objects i) c.args.object (λ i. c.remove.ensures.updates.0 i) o q at).0);
+          (λ o q at. c.requires.whole.objects o q (removed (λ i. get nat_eq new.own.objects i) (λ i. get nat_eq old.own.objects i) c.args.object (λ i. c.remove.ensures.updates.0 i) o q at).0);
       frees = (
         sym c.remove.ensures.value ∙ c.in_default.is,
-        none_taken (λ i. get nat_eq new.objects i) (λ i. get nat_eq old.objects i) c.args.object (λ i. c.remove.ensures.updates.0 i) (sym c.remove.ensures.value ∙ c.in_default.is),
+        none_taken (λ i. get nat_eq new.own.objects i) (λ i. get nat_eq old.own.objects i) c.args.object (λ i. c.remove.ensures.updates.0 i) (sym c.remove.ensures.value ∙ c.in_default.is),
       );
       step = λ x is.
           unfreed_step g.R.Rack g.A.Area c.args.object NoObject old new x is (sym c.remove.ensures.value ∙ c.in_default.is) refl refl refl refl refl (λ q. c.remove.ensures.updates.0 q);
@@ -28,8 +28,8 @@ returns-in_default g c =
 pub index_mut-requires : goal.index_mut-requires
 index_mut-requires g c =
     let of = c.requires.whole.objects c.args.object c.in-Some.pointer (sym c.remove.ensures.value ∙ c.in-Some.is) in
-    let below = slice_get_within c.args.pool.now.shards.items c.in-Some.pointer.metaslab of.shard of.there in
-    let len = c.args.pool.now.shards.ok.0 in
+    let below = slice_get_within c.args.pool.now.metaslabs.shards.items c.in-Some.pointer.metaslab of.shard of.there in
+    let len = c.args.pool.now.metaslabs.shards.ok.0 in
     omega (arith, below, len)
 
 pub free_block-pool-requires : goal.free_block-pool-requires
@@ -46,7 +46,7 @@ free_block-pool-requires g c =
 
 pub returns : goal.returns
 returns g c =
-    let there : get nat_eq c.args.pool.now.objects c.args.object ≡ Some c.in-Some.pointer = sym c.remove.ensures.value ∙ c.in-Some.is in
+    let there : get nat_eq c.args.pool.now.own.objects c.args.object ≡ Some c.in-Some.pointer = sym c.remove.ensures.value ∙ c.in-Some.is in
     let w = c.requires.whole in
     let old = c.args.pool.now in
     let p = c.in-Some.pointer in
@@ -55,12 +55,12 @@ returns g c =
     let group = c.free_block-pool.result in
     let at = whole_shard g.R.Rack g.A.Area old c.args.object p before (w.objects c.args.object p there) c.index_mut.ensures.value in
     let e = c.free_block-pool.ensures in
-    let new : Pool g.row.R.Denot g.row.A.Denot = record old { shards = with_item old.shards p.metaslab after; objects = c.remove.new.self; floor = group } in
+    let new : Pool g.row.R.Denot g.row.A.Denot = record old { metaslabs = record { shards = with_item old.metaslabs.shards p.metaslab after }; own = record old.own { objects = c.remove.new.self; floor = group } } in
     let r : Replaces g.R.Rack g.A.Area p.metaslab old new before after
     = record { there = at.0; sets = refl; geometry = refl; uber = refl; valid = e.valid; part = e.part; committed = e.sets.groups.committed } in
     record {
       whole = whole_freed g.R.Rack g.A.Area old new before after p group w r at.1 e.sets e.group refl refl
-          (others_left g.R.Rack g.A.Area old c.args.object p (λ i. get nat_eq new.objects i) w there (λ i. c.remove.ensures.updates.0 i));
+          (others_left g.R.Rack g.A.Area old c.args.object p (λ i. get nat_eq new.own.objects i) w there (λ i. c.remove.ensures.updates.0 i));
       frees = (p, there, λ i. c.remove.ensures.updates.0 i);
       step = λ x is.
           free_step g.R.Rack g.A.Area c.args.object p old new before after group x is there at.0 e.frees refl refl refl refl refl (λ q. c.remove.ensures.updates.0 q);
