@@ -202,7 +202,7 @@ impl<R: Rack, A: Area> Pool<R, A> {
         ensures closing { OnOk result (AreClosing self.new.metaslabs.shards.items group) }
         ensures uber { self.new.uber ≡ self.old.uber }
     {
-        for metaslab in 0..self.shards.len() {
+        for metaslab in 0..self.metaslabs.shards.len() {
             match close_in(&mut self.metaslabs.shards[metaslab], group) {
                 Ok(()) => {}
                 Err(fault) => return Err(fault),
@@ -225,7 +225,7 @@ impl<R: Rack, A: Area> Pool<R, A> {
         ensures uber { self.new.uber ≡ self.old.uber }
     {
         let mut thin = 0;
-        for metaslab in 0..self.shards.len() {
+        for metaslab in 0..self.metaslabs.shards.len() {
             match seal_in(&mut self.metaslabs.shards[metaslab], group) {
                 Ok(sealed) => thin += sealed,
                 Err(fault) => return Err(fault),
