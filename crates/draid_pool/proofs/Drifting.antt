@@ -19,7 +19,7 @@ use Rattle.draid_pool.proofs.Since.{state_self}
 pub keeps_self : (of : ℕ → Bool) (group : ℕ) (t : Entries) → KeepsOf of group t t
 keeps_self of group t = record { each = λ key own. inl refl }
 
-freed_later : (group later : ℕ) (o : Option Held) → group ≤ later → is_freed_block group o ≡ true → is_freed_block later o ≡ true
+pub freed_later : (group later : ℕ) (o : Option Held) → group ≤ later → is_freed_block group o ≡ true → is_freed_block later o ≡ true
 freed_later group later None less is = is
 freed_later group later (Some h) less is = by h.stage is
   where

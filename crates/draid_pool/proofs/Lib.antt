@@ -1,4 +1,5 @@
 pub mod Alike
+pub mod Alone
 pub mod Ascending
 pub mod Closed
 pub mod Commits
@@ -10,12 +11,18 @@ pub mod Drifting
 pub mod Dropping
 pub mod Entering
 pub mod Failing
+pub mod Finds
 pub mod Following
 pub mod Freed
+pub mod Glances
+pub mod HeldBy
+pub mod Hiding
+pub mod HoldStep
 pub mod Holding
 pub mod ImageLeaves
 pub mod Imaged
 pub mod Importables
+pub mod Joining
 pub mod LeavesFlushed
 pub mod Lifted
 pub mod ListedOnce
@@ -26,6 +33,9 @@ pub mod Moved
 pub mod Naming
 pub mod OneHold
 pub mod OnePass
+pub mod OwnedKnows
+pub mod OwnedStands
+pub mod Owning
 pub mod Places
 pub mod Ranging
 pub mod Refusing
@@ -35,6 +45,7 @@ pub mod Rises
 pub mod Rooms
 pub mod SealRecords
 pub mod SealSteps
+pub mod ShardSteps
 pub mod Since
 pub mod Steps
 pub mod Stood

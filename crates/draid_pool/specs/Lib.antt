@@ -3,6 +3,7 @@ pub mod Changes
 pub mod Committing
 pub mod Drifts
 pub mod Failing
+pub mod Follows
 pub mod Groups
 pub mod Holding
 pub mod Importable
@@ -17,6 +18,7 @@ pub mod Sealing
 pub mod Shards
 pub mod Syncing
 pub mod Taking
+pub mod Threads
 pub mod Ubers
 pub mod Views
 pub mod Whole
