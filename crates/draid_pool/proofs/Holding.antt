@@ -10,7 +10,7 @@ use Rattle.draid_pool.specs.Holding.{Holds, MayHold}
 use Rattle.draid_pool.proofs.Drifting.{drifts_not}
 use Rattle.draid_pool.proofs.Places.{get_set}
 
-some_same : {A : Type 0} (a b : A) → Some a ≡ Some b → a ≡ b
+pub some_same : {A : Type 0} (a b : A) → Some a ≡ Some b → a ≡ b
 some_same a b e = cc
 
 module _ {R A O : Type 0} (rack : racks.Ghosts R) (area : areas.Ghosts A) (needs : O → Shard R A → Type 0) (relates : O → Shard R A → O → Shard R A → Type 0) (concerns : O → Option ℕ) where
