@@ -258,7 +258,7 @@ module _ {R A : Type 0} (rack : racks.Ghosts R) (area : areas.Ghosts A) where
     -- ---- the pool
 
     module _ (count : ℕ) (told : Bool) where
-      pub represents : (pool : Pool R A) → pool.geometry ≡ geometry → pool.shards.items ≡ shards → pool.seq ≡ 0 → pool.floor ≡ 0 → ((q : ℕ) → get nat_eq pool.objects q ≡ None)
+      pub represents : (pool : Pool R A) → pool.geometry ≡ geometry → pool.metaslabs.shards.items ≡ shards → pool.own.seq ≡ 0 → pool.own.floor ≡ 0 → ((q : ℕ) → get nat_eq pool.own.objects q ≡ None)
           → IsUber area pool.uber (state_of geometry opened.perms shards count told) → Represents rack area pool (state_of geometry opened.perms shards count told)
       represents pool used items seq floor empty uber = record {
         stands = record {
@@ -267,14 +267,14 @@ module _ {R A : Type 0} (rack : racks.Ghosts R) (area : areas.Ghosts A) where
           many = length-map shards metaslab_of ∙ opened.many;
           shards = ap (λ (xs : List (Shard R A)). length xs) items ∙ sym (length-map shards metaslab_of);
           pieces = λ m. none;
-          each = each_metaslab pool.shards.items items;
+          each = each_metaslab pool.metaslabs.shards.items items;
           holds = holds_none 1;
           groups = record {
             committed = λ m y there. (let u = unmapped metaslab_of shards m y there in ap (λ (z : Metaslab). z.world.committed) (sym u.2));
             next = omega arith;
             last = omega arith;
           };
-          objects = λ object. points_none pool.shards.items (get nat_eq pool.objects object) (empty object);
+          objects = λ object. points_none pool.metaslabs.shards.items (get nat_eq pool.own.objects object) (empty object);
           seq = sym seq;
           floor = sym floor;
           uber = uber;
@@ -323,7 +323,7 @@ module _ {R A : Type 0} (rack : racks.Ghosts R) (area : areas.Ghosts A) where
       }
 
     -- a pool whose uberblock names the first group is whole
-    pub first_whole : (pool : Pool R A) → pool.geometry ≡ geometry → pool.shards.items ≡ shards → pool.floor ≡ 0 → ((q : ℕ) → get nat_eq pool.objects q ≡ None)
+    pub first_whole : (pool : Pool R A) → pool.geometry ≡ geometry → pool.metaslabs.shards.items ≡ shards → pool.own.floor ≡ 0 → ((q : ℕ) → get nat_eq pool.own.objects q ≡ None)
         → ubers.Valid area.size pool.uber → layout_of pool.uber ≡ geometry → version_of pool.uber ≡ geometry.props.version → group_of (kept_of pool.uber) ≡ 1 → IsWhole rack area pool
     first_whole pool used items floor empty valid layout version first = record {
       perms = opened.perms;
@@ -354,7 +354,7 @@ module _ {R A : Type 0} (rack : racks.Ghosts R) (area : areas.Ghosts A) where
     tells n (Some x) (Some y) t = refl
 
     pub opens : (now : Option Held) (pool : Pool R A) → OnHeld held (HasNewKits geometry) → TakesFirst geometry.props.metaslabs held now → ((m : ℕ) → m < geometry.props.metaslabs → IsUncounted (counts m))
-        → pool.geometry ≡ geometry → pool.shards.items ≡ shards → pool.seq ≡ 0 → pool.floor ≡ 0 → ((q : ℕ) → get nat_eq pool.objects q ≡ None)
+        → pool.geometry ≡ geometry → pool.metaslabs.shards.items ≡ shards → pool.own.seq ≡ 0 → pool.own.floor ≡ 0 → ((q : ℕ) → get nat_eq pool.own.objects q ≡ None)
         → IsUber area pool.uber (state_of geometry opened.perms shards (area.faults (area_of pool.uber)) (is_some held)) → Opens rack area geometry now pool
     opens now pool new taken uncounted used items seq floor empty uber = record {
       state = state_of geometry opened.perms shards (area.faults (area_of pool.uber)) (is_some held);

@@ -399,8 +399,8 @@ module _ {R A : Type 0} (rack : racks.Ghosts R) (newest : ℕ → Option Pointer
 
 module _ {R A : Type 0} (rack : racks.Ghosts R) (area : areas.Ghosts A) where
   pub imported_whole : (pool : Pool R A) (geometry : Geometry) (old : List (Shard R A)) (newest : ℕ → Option Pointer) → IsFoundUber area pool.uber → layout_of pool.uber ≡ geometry → pool.geometry ≡ geometry
-      → AreReopened rack geometry (group_of (kept_of pool.uber)) old → AreFound old newest pool.seq → AreFreed rack newest old pool.shards.items
-      → ((object : ℕ) → get nat_eq pool.objects object ≡ newest object) → pool.floor ≡ group_of (kept_of pool.uber) + 1 → IsWhole rack area pool
+      → AreReopened rack geometry (group_of (kept_of pool.uber)) old → AreFound old newest pool.own.seq → AreFreed rack newest old pool.metaslabs.shards.items
+      → ((object : ℕ) → get nat_eq pool.own.objects object ≡ newest object) → pool.own.floor ≡ group_of (kept_of pool.uber) + 1 → IsWhole rack area pool
   imported_whole pool geometry old newest found layout used are blocks freed table floor = record {
     perms = are.perms;
     layout = subst (λ (x : Geometry). IsLayout x are.perms) (sym used) are.layout;
@@ -431,7 +431,7 @@ module _ {R A : Type 0} (rack : racks.Ghosts R) (area : areas.Ghosts A) where
         (let to = blocks.pointers object pointer (sym (table object) ∙ there) in
         let within = slice_get_within old pointer.metaslab to.shard to.there in
         let many = freed.many in
-        let s = present pool.shards.items pointer.metaslab (omega (arith, within, many)) in
+        let s = present pool.metaslabs.shards.items pointer.metaslab (omega (arith, within, many)) in
         let f = freed.each pointer.metaslab s.0 s.1 in
         let same : to.shard ≡ f.0 = some_of (slice_get old pointer.metaslab) to.shard f.0 to.there f.1 in
         record {

@@ -35,7 +35,7 @@ use draid_blocks::free;
 use draid_found::{Found, FoundFault};
 use draid_names::{DeviceFault, Pointer};
 use draid_perm::Perms;
-use draid_pool::{EVENTS, Pool, give_back};
+use draid_pool::{EVENTS, Own, Owned, Pool, give_back};
 use draid_rack::Rack;
 use draid_shard::Shard;
 use draid_shelf::Shelf;
@@ -341,11 +341,13 @@ fn pool_of<R: Rack, A: Area>(
     free_all(&mut shards, &found.newest, floor);
     Pool {
         geometry: *uber.geometry(),
-        shards,
+        metaslabs: Owned { shards },
         uber,
-        objects: found.newest,
-        seq: found.seq,
-        floor,
+        own: Own {
+            objects: found.newest,
+            seq: found.seq,
+            floor,
+        },
         alloc,
     }
 }

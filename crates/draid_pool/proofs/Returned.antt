@@ -256,7 +256,7 @@ module _ {R A : Type 0} (rack : racks.Ghosts R) (area : areas.Ghosts A) where
     pub arms : machine.Core
     pub alike : AllAlike arms x
 
-  pub stands_parts : (pool : Pool R A) (table : ℕ → Option Pointer) (x : State) → Stands rack area pool table x → Parts pool.shards.items (area.told (area_of pool.uber)) x
+  pub stands_parts : (pool : Pool R A) (table : ℕ → Option Pointer) (x : State) → Stands rack area pool table x → Parts pool.metaslabs.shards.items (area.told (area_of pool.uber)) x
   stands_parts pool table x s = record {
     layout = s.layout;
     many = s.many;

@@ -59,17 +59,17 @@ module _ {R A : Type 0} (rack : racks.Ghosts R) (area : areas.Ghosts A) where
     pub geometry : x.geometry ≡ pool.geometry
     pub next : x.store.floor ≤ x.committed + 2
     pub last : x.store.floor ≤ LAST_NUMBER
-    pub seq : x.store.seq ≡ pool.seq
-    pub floor : x.store.floor ≡ pool.floor
+    pub seq : x.store.seq ≡ pool.own.seq
+    pub floor : x.store.floor ≡ pool.own.floor
     pub uber : IsUber area pool.uber x
 
   abbrev pub pointers_of : Pool R A → ℕ → Option Pointer
-  pointers_of pool object = get nat_eq pool.objects object
+  pointers_of pool object = get nat_eq pool.own.objects object
 
   abbrev pub HasCommitted : State → ℕ → Metaslab → Type 0
   HasCommitted x m y = y.world.committed ≡ x.committed
 
-  unfoldable pub stood_of : (pool : Pool R A) (x : State) → Represents rack area pool x → Stood pool.shards.items (pointers_of pool) x (HasCommitted x)
+  unfoldable pub stood_of : (pool : Pool R A) (x : State) → Represents rack area pool x → Stood pool.metaslabs.shards.items (pointers_of pool) x (HasCommitted x)
   stood_of pool x r = (let s = r.stands in record {
     layout = s.layout;
     many = s.many;
@@ -86,7 +86,7 @@ module _ {R A : Type 0} (rack : racks.Ghosts R) (area : areas.Ghosts A) where
     groups_are = s.groups.committed;
   })
 
-  pub represents_of : (pool : Pool R A) (x : State) → Stood pool.shards.items (pointers_of pool) x (HasCommitted x) → Rest pool x → Represents rack area pool x
+  pub represents_of : (pool : Pool R A) (x : State) → Stood pool.metaslabs.shards.items (pointers_of pool) x (HasCommitted x) → Rest pool x → Represents rack area pool x
   represents_of pool x s rest = record {
     stands = record {
       geometry = rest.geometry;

@@ -134,7 +134,7 @@ module _ {R A : Type 0} (rack : racks.Ghosts R) (area : areas.Ghosts A) where
       after : State
       after = with_metaslab x m t.reached
 
-      moves : Moves rack area m pool.shards.items shard shard' x z.y t.reached (r.stands.pieces m)
+      moves : Moves rack area m pool.metaslabs.shards.items shard shard' x z.y t.reached (r.stands.pieces m)
       moves = record {
         there = set.there;
         at = z.at;
@@ -145,10 +145,10 @@ module _ {R A : Type 0} (rack : racks.Ghosts R) (area : areas.Ghosts A) where
         alike = t.done.1.alike;
       }
 
-      stood : Stood rack area new.shards.items (λ object. get nat_eq new.objects object) after (HasCommitted rack area after)
-      stood = subst (λ zs. Stood rack area zs (λ object. get nat_eq new.objects object) after (HasCommitted rack area after)) (sym set.sets)
-          (subst (λ objects. Stood rack area (slice_set pool.shards.items m shard') (λ object. get nat_eq objects object) after (HasCommitted rack area after)) (sym set.objects)
-          (stood_moved rack area m pool.shards.items shard shard' (λ object. get nat_eq pool.objects object) x z.y t.reached (HasCommitted rack area x) (HasCommitted rack area after) (stood_of rack area pool x r) moves
+      stood : Stood rack area new.metaslabs.shards.items (λ object. get nat_eq new.own.objects object) after (HasCommitted rack area after)
+      stood = subst (λ zs. Stood rack area zs (λ object. get nat_eq new.own.objects object) after (HasCommitted rack area after)) (sym set.sets)
+          (subst (λ objects. Stood rack area (slice_set pool.metaslabs.shards.items m shard') (λ object. get nat_eq objects object) after (HasCommitted rack area after)) (sym set.objects)
+          (stood_moved rack area m pool.metaslabs.shards.items shard shard' (λ object. get nat_eq pool.own.objects object) x z.y t.reached (HasCommitted rack area x) (HasCommitted rack area after) (stood_of rack area pool x r) moves
           (each_set x.metaslabs m z.y t.reached (λ v. v.world.committed ≡ x.committed) z.at (t.done.1.committed ∙ r.stands.groups.committed m z.y z.at) r.stands.groups.committed)))
 
       rest : Rest rack area new after

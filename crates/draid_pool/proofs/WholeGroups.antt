@@ -30,8 +30,8 @@ use Rattle.draid_pool.proofs.Naming.{Names, Refuses}
 
 module _ {R A : Type 0} (rack : racks.Ghosts R) (area : areas.Ghosts A) where
   -- a pool has a metaslab
-  pub first_shard : (pool : Pool R A) → IsWhole rack area pool → (shard : Shard R A) × (slice_get pool.shards.items 0 ≡ Some shard)
-  first_shard pool w = present pool.shards.items 0 (let many = w.many in let some = w.layout.geometry_is.props.some_metaslabs in omega (arith, many, some))
+  pub first_shard : (pool : Pool R A) → IsWhole rack area pool → (shard : Shard R A) × (slice_get pool.metaslabs.shards.items 0 ≡ Some shard)
+  first_shard pool w = present pool.metaslabs.shards.items 0 (let many = w.many in let some = w.layout.geometry_is.props.some_metaslabs in omega (arith, many, some))
 
   next_low : (open_group : ℕ) (closing : Option ℕ) (committed : ℕ) (sealed : Bool) → AreGroups open_group closing committed sealed → committed + 1 ≤ open_group
   next_low open_group None committed sealed is = (let next = is.0 in omega (arith, next))
@@ -48,7 +48,7 @@ module _ {R A : Type 0} (rack : racks.Ghosts R) (area : areas.Ghosts A) where
       omega (arith, next, low, committed)
 
   -- and one behind that where it is sealed
-  pub sealed_next : (pool : Pool R A) (group : ℕ) → IsWhole rack area pool → AreSealed pool.shards.items group → group ≡ group_of (kept_of pool.uber) + 1 → IsNext (kept_of pool.uber) group
+  pub sealed_next : (pool : Pool R A) (group : ℕ) → IsWhole rack area pool → AreSealed pool.metaslabs.shards.items group → group ≡ group_of (kept_of pool.uber) + 1 → IsNext (kept_of pool.uber) group
   sealed_next pool group w sealed next =
       let z = first_shard pool w in
       let is = w.shards 0 z.0 z.1 in
@@ -58,7 +58,7 @@ module _ {R A : Type 0} (rack : racks.Ghosts R) (area : areas.Ghosts A) where
       record { behind = omega (arith, next); below = omega (arith, behind, low) }
 
   -- a group that closes is the one behind the committed one
-  pub closing_next : (pool : Pool R A) (m group : ℕ) (shard : Shard R A) → IsWhole rack area pool → slice_get pool.shards.items m ≡ Some shard → shard.closing ≡ Some group
+  pub closing_next : (pool : Pool R A) (m group : ℕ) (shard : Shard R A) → IsWhole rack area pool → slice_get pool.metaslabs.shards.items m ≡ Some shard → shard.closing ≡ Some group
       → group ≡ group_of (kept_of pool.uber) + 1
   closing_next pool m group shard w there closing =
       let is = w.shards m shard there in
@@ -69,8 +69,8 @@ module _ {R A : Type 0} (rack : racks.Ghosts R) (area : areas.Ghosts A) where
 
   -- ---- the uberblock refuses
 
-  pub whole_refused : (pool new : Pool R A) (group : ℕ) → IsWhole rack area pool → Refuses area pool.uber new.uber group → new.shards.items ≡ pool.shards.items → new.geometry ≡ pool.geometry
-      → new.objects ≡ pool.objects → new.seq ≡ pool.seq → new.floor ≡ pool.floor → IsWhole rack area new
+  pub whole_refused : (pool new : Pool R A) (group : ℕ) → IsWhole rack area pool → Refuses area pool.uber new.uber group → new.metaslabs.shards.items ≡ pool.metaslabs.shards.items → new.geometry ≡ pool.geometry
+      → new.own.objects ≡ pool.own.objects → new.own.seq ≡ pool.own.seq → new.own.floor ≡ pool.own.floor → IsWhole rack area new
   whole_refused pool new group w n shards geometry objects seq floor = record {
     perms = w.perms;
     layout = subst (λ g. IsLayout g w.perms) (sym geometry) w.layout;
@@ -99,8 +99,8 @@ module _ {R A : Type 0} (rack : racks.Ghosts R) (area : areas.Ghosts A) where
   held_on : (group : ℕ) (old new : Shard R A) (key : Key) (h : Held) → DropsFreed group old.entries new.entries → held_in new.entries key ≡ Some h → held_in old.entries key ≡ Some h
   held_on group old new key h drops there = (kept_some (is_freed_block group (held_in old.entries key)) (held_in old.entries key) h (sym (drops.held key) ∙ there)).1
 
-  pub whole_committed : (pool new : Pool R A) (group : ℕ) → IsWhole rack area pool → Names area pool.uber new.uber group → CommitsBelow rack group (length pool.shards.items) pool.shards.items new.shards.items
-      → group ≡ group_of (kept_of pool.uber) + 1 → new.geometry ≡ pool.geometry → new.objects ≡ pool.objects → new.seq ≡ pool.seq → new.floor ≡ pool.floor → IsWhole rack area new
+  pub whole_committed : (pool new : Pool R A) (group : ℕ) → IsWhole rack area pool → Names area pool.uber new.uber group → CommitsBelow rack group (length pool.metaslabs.shards.items) pool.metaslabs.shards.items new.metaslabs.shards.items
+      → group ≡ group_of (kept_of pool.uber) + 1 → new.geometry ≡ pool.geometry → new.own.objects ≡ pool.own.objects → new.own.seq ≡ pool.own.seq → new.own.floor ≡ pool.own.floor → IsWhole rack area new
   whole_committed pool new group w n commits next geometry objects seq floor = record {
     perms = w.perms;
     layout = subst (λ g. IsLayout g w.perms) (sym geometry) w.layout;
@@ -117,16 +117,16 @@ module _ {R A : Type 0} (rack : racks.Ghosts R) (area : areas.Ghosts A) where
       named : group_of (kept_of new.uber) ≡ group
       named = ap group_of n.kept
 
-      commits_at : (k : ℕ) (shard : Shard R A) → slice_get pool.shards.items k ≡ Some shard → (after : Shard R A) × (slice_get new.shards.items k ≡ Some after) × Commits rack group shard after
-      commits_at k shard there = commits.below k shard (slice_get_within pool.shards.items k shard there) there
+      commits_at : (k : ℕ) (shard : Shard R A) → slice_get pool.metaslabs.shards.items k ≡ Some shard → (after : Shard R A) × (slice_get new.metaslabs.shards.items k ≡ Some after) × Commits rack group shard after
+      commits_at k shard there = commits.below k shard (slice_get_within pool.metaslabs.shards.items k shard there) there
 
-      each : (k : ℕ) (z : Shard R A) → slice_get new.shards.items k ≡ Some z → IsShardOf rack w.perms new k z
+      each : (k : ℕ) (z : Shard R A) → slice_get new.metaslabs.shards.items k ≡ Some z → IsShardOf rack w.perms new k z
       each k z there =
-          let inside = slice_get_within new.shards.items k z there in
+          let inside = slice_get_within new.metaslabs.shards.items k z there in
           let many = commits.many in
-          let was = present pool.shards.items k (omega (arith, inside, many)) in
+          let was = present pool.metaslabs.shards.items k (omega (arith, inside, many)) in
           let after = commits_at k was.0 was.1 in
-          let own : Commits rack group was.0 z = subst (λ (q : Shard R A). Commits rack group was.0 q) (some_of (slice_get new.shards.items k) after.0 z after.1 there) after.2 in
+          let own : Commits rack group was.0 z = subst (λ (q : Shard R A). Commits rack group was.0 q) (some_of (slice_get new.metaslabs.shards.items k) after.0 z after.1 there) after.2 in
           let is = w.shards k was.0 was.1 in
           record {
             valid = own.valid;

@@ -35,15 +35,15 @@ pub record Stands {R A : Type 0} (rack : racks.Ghosts R) (area : areas.Ghosts A)
   pub geometry : x.geometry ≡ pool.geometry
   pub layout : IsLayout x.geometry x.perms
   pub many : length x.metaslabs ≡ x.geometry.props.metaslabs
-  pub shards : length pool.shards.items ≡ length x.metaslabs
+  pub shards : length pool.metaslabs.shards.items ≡ length x.metaslabs
   pub pieces : ℕ → Pieces
-  pub each : (m : ℕ) (shard : Shard R A) (y : Metaslab) → slice_get pool.shards.items m ≡ Some shard → slice_get x.metaslabs m ≡ Some y
+  pub each : (m : ℕ) (shard : Shard R A) (y : Metaslab) → slice_get pool.metaslabs.shards.items m ≡ Some shard → slice_get x.metaslabs m ≡ Some y
       → IsMetaslab rack area (part_in x m) (pieces m) shard y
   pub holds : HoldsObjects x.geometry x.committed x.store (blocks_of x.metaslabs) pieces
   pub groups : HasGroups x
-  pub objects : (object : ℕ) → PointsTo pool.shards.items (table object) (write_of x.store.changes object)
-  pub seq : x.store.seq ≡ pool.seq
-  pub floor : x.store.floor ≡ pool.floor
+  pub objects : (object : ℕ) → PointsTo pool.metaslabs.shards.items (table object) (write_of x.store.changes object)
+  pub seq : x.store.seq ≡ pool.own.seq
+  pub floor : x.store.floor ≡ pool.own.floor
   pub uber : IsUber area pool.uber x
   pub images : HasImages x
   pub leaves : HasLeafNumbers x
@@ -52,14 +52,14 @@ pub record Stands {R A : Type 0} (rack : racks.Ghosts R) (area : areas.Ghosts A)
 
 -- and each live block is that of its object's last write
 pub record Represents {R A : Type 0} (rack : racks.Ghosts R) (area : areas.Ghosts A) (pool : Pool R A) (x : State) : Type 0 where
-  pub stands : Stands rack area pool (λ object. get nat_eq pool.objects object) x
+  pub stands : Stands rack area pool (λ object. get nat_eq pool.own.objects object) x
   pub only : (m : ℕ) (k : Key) (h : Held) → blocks_of x.metaslabs m k ≡ Some h → h.stage ≡ Live → IsLastAt m k (write_of x.store.changes k.object)
 
 -- An object's new block is live, and its pointer isn't in the table yet: that has still the pointer of the block that the object had before, if it had one, which
 -- is live too.
 pub record Awaits {R A : Type 0} (rack : racks.Ghosts R) (area : areas.Ghosts A) (pool : Pool R A) (object : ℕ) (pointer : Pointer) (earlier : Option Write) (x : State) : Type 0 where
-  pub stands : Stands rack area pool (λ o. if o == object then Some pointer else get nat_eq pool.objects o) x
-  pub had : PointsTo pool.shards.items (get nat_eq pool.objects object) earlier
+  pub stands : Stands rack area pool (λ o. if o == object then Some pointer else get nat_eq pool.own.objects o) x
+  pub had : PointsTo pool.metaslabs.shards.items (get nat_eq pool.own.objects object) earlier
   pub older : (write : Write) → earlier ≡ Some write → (write.object ≡ object) × (write.seq < pointer.seq)
   pub only : (m : ℕ) (k : Key) (h : Held) → blocks_of x.metaslabs m k ≡ Some h → h.stage ≡ Live
       → IsLastAt m k (write_of x.store.changes k.object) ⊎ IsLastAt m k earlier

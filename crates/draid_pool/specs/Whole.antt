@@ -24,7 +24,7 @@ use Rattle.draid_pool.specs.declared.pool.Pool.{Pool}
 pub record IsShardOf {R A : Type 0} (rack : racks.Ghosts R) (perms : Perms) (pool : Pool R A) (m : ℕ) (shard : Shard R A) : Type 0 where
   pub valid : shards.Valid rack shard
   pub part : part_of shard ≡ record { geometry = pool.geometry; perms = perms; number = m }
-  pub numbered : (key : Key) (h : Held) → held_in shard.entries key ≡ Some h → key.seq ≤ pool.seq
+  pub numbered : (key : Key) (h : Held) → held_in shard.entries key ≡ Some h → key.seq ≤ pool.own.seq
   pub settled : (key : Key) (h : Held) → held_in shard.entries key ≡ Some h → is_block h.stage ≡ true
   pub committed : shard.committed ≡ group_of (ubers.kept_of pool.uber)
 
@@ -32,23 +32,23 @@ pub record IsShardOf {R A : Type 0} (rack : racks.Ghosts R) (perms : Perms) (poo
 pub record IsPointer {R A : Type 0} (pool : Pool R A) (object : ℕ) (pointer : Pointer) : Type 0 where
   pub object_is : pointer.object ≡ object
   pub shard : Shard R A
-  pub there : slice_get pool.shards.items pointer.metaslab ≡ Some shard
+  pub there : slice_get pool.metaslabs.shards.items pointer.metaslab ≡ Some shard
   pub live : IsLive shard pointer
 
 -- and is that of a later write than the object's pointer in the table
 pub record IsNewer {R A : Type 0} (pool : Pool R A) (object : ℕ) (pointer : Pointer) : Type 0 where
   pub is : IsPointer pool object pointer
-  pub newer : (earlier : Pointer) → get nat_eq pool.objects object ≡ Some earlier → earlier.seq < pointer.seq
+  pub newer : (earlier : Pointer) → get nat_eq pool.own.objects object ≡ Some earlier → earlier.seq < pointer.seq
 
 -- What each call needs and keeps. A pool is whole also where nothing is known of what its devices held as it was imported.
 pub record IsWhole {R A : Type 0} (rack : racks.Ghosts R) (area : areas.Ghosts A) (pool : Pool R A) : Type 0 where
   pub perms : Perms
   pub layout : IsLayout pool.geometry perms
-  pub many : length pool.shards.items ≡ pool.geometry.props.metaslabs
-  pub shards : (m : ℕ) (shard : Shard R A) → slice_get pool.shards.items m ≡ Some shard → IsShardOf rack perms pool m shard
+  pub many : length pool.metaslabs.shards.items ≡ pool.geometry.props.metaslabs
+  pub shards : (m : ℕ) (shard : Shard R A) → slice_get pool.metaslabs.shards.items m ≡ Some shard → IsShardOf rack perms pool m shard
   pub uber : ubers.Valid area.size pool.uber
   pub uber_layout : ubers.layout_of pool.uber ≡ pool.geometry
   pub uber_version : ubers.version_of pool.uber ≡ pool.geometry.props.version
-  pub objects : (object : ℕ) (pointer : Pointer) → get nat_eq pool.objects object ≡ Some pointer → IsPointer pool object pointer
-  pub floor : pool.floor ≤ group_of (ubers.kept_of pool.uber) + 2
-  pub low : pool.floor ≤ LAST_NUMBER
+  pub objects : (object : ℕ) (pointer : Pointer) → get nat_eq pool.own.objects object ≡ Some pointer → IsPointer pool object pointer
+  pub floor : pool.own.floor ≤ group_of (ubers.kept_of pool.uber) + 2
+  pub low : pool.own.floor ≤ LAST_NUMBER

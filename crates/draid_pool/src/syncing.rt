@@ -138,7 +138,7 @@ impl<R: Rack, A: Area> Pool<R, A> {
     fn finish(&mut self) -> Result<(), SyncFault>
         requires whole { IsWhole R.Rack A.Area self.old }
         ensures whole { IsWhole R.Rack A.Area self.new }
-        ensures objects { self.new.objects ≡ self.old.objects }
+        ensures objects { self.new.own.objects ≡ self.old.own.objects }
         ensures later { AreasLater A.faults self.old self.new }
         ensures cause { IsErrOf result SyncFault.Shelf → AreaRose A.faults self.old self.new }
         ensures carries { (x : State) → Represents R.Rack A.Area self.old x
@@ -155,9 +155,9 @@ impl<R: Rack, A: Area> Pool<R, A> {
 
     /// The group that is closing in a metaslab.
     fn closing(&self) -> Option<u64>
-        ensures found { FoundClosing self.now.shards.items result }
+        ensures found { FoundClosing self.now.metaslabs.shards.items result }
     {
-        for shard in &self.shards {
+        for shard in &self.metaslabs.shards {
             if let Some(group) = shard.closing() {
                 return Some(group);
             }
@@ -170,7 +170,7 @@ impl<R: Rack, A: Area> Pool<R, A> {
         requires whole { IsWhole R.Rack A.Area self.old }
         requires next { group ≡ group_of (kept_of self.old.uber) + 1 }
         ensures whole { IsWhole R.Rack A.Area self.new }
-        ensures objects { self.new.objects ≡ self.old.objects }
+        ensures objects { self.new.own.objects ≡ self.old.own.objects }
         ensures later { AreasLater A.faults self.old self.new }
         ensures cause { IsErrOf result SyncFault.Shelf → AreaRose A.faults self.old self.new }
         ensures carries { (x : State) → Represents R.Rack A.Area self.old x
@@ -194,16 +194,16 @@ impl<R: Rack, A: Area> Pool<R, A> {
         requires whole { IsWhole R.Rack A.Area self.old }
         requires next { group ≡ group_of (kept_of self.old.uber) + 1 }
         ensures whole { IsWhole R.Rack A.Area self.new }
-        ensures objects { self.new.objects ≡ self.old.objects }
+        ensures objects { self.new.own.objects ≡ self.old.own.objects }
         ensures later { AreasLater A.faults self.old self.new }
         ensures cause { IsErrOf result SyncFault.Shelf → AreaRose A.faults self.old self.new }
         ensures carries { (x : State) → Represents R.Rack A.Area self.old x
             → CarriesOut R.Rack A.Area self.new x (Phase x (groups.ClosePhase x.geometry x.perms group) (end_of result)) }
-        ensures closing { OnOk result (AreClosing self.new.shards.items group) }
+        ensures closing { OnOk result (AreClosing self.new.metaslabs.shards.items group) }
         ensures uber { self.new.uber ≡ self.old.uber }
     {
-        for metaslab in 0..self.shards.len() {
-            match close_in(&mut self.shards[metaslab], group) {
+        for metaslab in 0..self.metaslabs.shards.len() {
+            match close_in(&mut self.metaslabs.shards[metaslab], group) {
                 Ok(()) => {}
                 Err(fault) => return Err(fault),
             }
@@ -214,19 +214,19 @@ impl<R: Rack, A: Area> Pool<R, A> {
     /// Seals a group in each metaslab where it isn't sealed already, and counts the blocks that are thin.
     fn seal_all(&mut self, group: u64) -> Result<u64, SyncFault>
         requires whole { IsWhole R.Rack A.Area self.old }
-        requires closing { AreClosing self.old.shards.items group }
+        requires closing { AreClosing self.old.metaslabs.shards.items group }
         ensures whole { IsWhole R.Rack A.Area self.new }
-        ensures objects { self.new.objects ≡ self.old.objects }
+        ensures objects { self.new.own.objects ≡ self.old.own.objects }
         ensures later { AreasLater A.faults self.old self.new }
         ensures cause { IsErrOf result SyncFault.Shelf → AreaRose A.faults self.old self.new }
         ensures carries { (x : State) → Represents R.Rack A.Area self.old x
             → CarriesOut R.Rack A.Area self.new x (SealDoes x group result) }
-        ensures sealed { OnOk result (AreSealed self.new.shards.items group) }
+        ensures sealed { OnOk result (AreSealed self.new.metaslabs.shards.items group) }
         ensures uber { self.new.uber ≡ self.old.uber }
     {
         let mut thin = 0;
-        for metaslab in 0..self.shards.len() {
-            match seal_in(&mut self.shards[metaslab], group) {
+        for metaslab in 0..self.metaslabs.shards.len() {
+            match seal_in(&mut self.metaslabs.shards[metaslab], group) {
                 Ok(sealed) => thin += sealed,
                 Err(fault) => return Err(fault),
             }
@@ -238,9 +238,9 @@ impl<R: Rack, A: Area> Pool<R, A> {
     fn commit_sealed(&mut self, group: u64) -> Result<(), SyncFault>
         requires whole { IsWhole R.Rack A.Area self.old }
         requires next { group ≡ group_of (kept_of self.old.uber) + 1 }
-        requires sealed { AreSealed self.old.shards.items group }
+        requires sealed { AreSealed self.old.metaslabs.shards.items group }
         ensures whole { IsWhole R.Rack A.Area self.new }
-        ensures objects { self.new.objects ≡ self.old.objects }
+        ensures objects { self.new.own.objects ≡ self.old.own.objects }
         ensures later { AreasLater A.faults self.old self.new }
         ensures cause { IsErrOf result SyncFault.Shelf → AreaRose A.faults self.old self.new }
         ensures carries { (x : State) → Represents R.Rack A.Area self.old x
@@ -249,7 +249,7 @@ impl<R: Rack, A: Area> Pool<R, A> {
     {
         match self.uber.commit(group) {
             Ok(()) => {
-                commit_all(&mut self.shards, group);
+                commit_all(&mut self.metaslabs.shards, group);
                 Ok(())
             }
             Err(DeviceFault::Failed) => Err(SyncFault::Shelf),
@@ -259,10 +259,10 @@ impl<R: Rack, A: Area> Pool<R, A> {
 
     /// Whether a metaslab has something that no sync has made safe: an export makes a sync just there.
     pub fn unsynced(&self) -> bool
-        ensures found { FoundUnsynced self.now.shards.items result }
+        ensures found { FoundUnsynced self.now.metaslabs.shards.items result }
         ensures unsynced { (x : State) → Represents R.Rack A.Area self.now x → IsTrue result ↔ HasUnsynced x }
     {
-        for shard in &self.shards {
+        for shard in &self.metaslabs.shards {
             if is_unsynced(shard.committed(), shard.events()) {
                 return true;
             }

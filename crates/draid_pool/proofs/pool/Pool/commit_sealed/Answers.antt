@@ -18,7 +18,7 @@ pub returns-in-Ok : goal.returns-in-Ok
 returns-in-Ok g c =
     let old = c.args.self.now in
     let uber = c.commit.new.self in
-    let new : Pool g.row.R.Denot g.row.A.Denot = record old { shards = c.commit_all.new.shards; uber = uber } in
+    let new : Pool g.row.R.Denot g.row.A.Denot = record old { metaslabs = record { shards = c.commit_all.new.shards }; uber = uber } in
     let e = c.in-Ok.ensures in
     let named : Names g.A.Area old.uber uber c.args.group = record { valid = e.valid; stands = e.committed; kept = e.kept; layout = e.layout; version = e.version; next_leaf = e.leaf } in
     record {
