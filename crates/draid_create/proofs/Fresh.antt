@@ -48,12 +48,12 @@ use Rattle.draid_pool.specs.Objects.{HoldsObjects, PointsTo, blocks_of}
 use Rattle.draid_create.specs.Opening.{AreOpened, HasNewKits, IsAway, IsBackAgain, IsMade, IsOpened, IsRefused, NoChecks, Opens, SameButRecords, rack_in}
 use Rattle.draid_pool.specs.Taking.{HoldsMade, TakesFirst}
 use Rattle.draid_pool.specs.Pools.{Represents}
-use Rattle.draid_pool.specs.Importable.{AllAlike, IsAlike}
+use Rattle.draid_pool.specs.Importable.{AllAlike, IsAlike, Shared}
 use Rattle.draid_pool.specs.Records.{HasImages, HasLeafNumbers, HasRecords, LeavesAreBelow}
 use Rattle.draid_pool.specs.Ubers.{IsPending, IsUber, body_of}
 use Rattle.draid_pool.specs.Whole.{IsWhole}
 use Rattle.draid_pool.specs.declared.pool.Pool.{Pool}
-use Rattle.draid_pool.proofs.Alike.{alike_as, alike_created, created_same}
+use Rattle.draid_pool.proofs.Alike.{alike_as, alike_created, created_same, one_shared}
 use Rattle.draid_pool.proofs.Returned.{Parts, counted_as, holds_pool}
 use Rattle.draid_pool.proofs.Importables.{importable_back}
 use Rattle.draid_pool.proofs.Lists.{ext, some_of}
@@ -245,15 +245,21 @@ module _ {R A : Type 0} (rack : racks.Ghosts R) (area : areas.Ghosts A) where
     }
 
     -- all have the version and the arms that new ones have
-    alike_first : (x : State) → x.geometry ≡ geometry → x.metaslabs ≡ map metaslab_of shards → AllAlike (created_core (layouts.layout_of geometry opened.perms 0)) x
-    alike_first x used are m y there =
+    abbrev first_shared : Shared
+    first_shared = one_shared geometry.props.version (created_core (layouts.layout_of geometry opened.perms 0))
+
+    alike_first : (x : State) → x.metaslabs ≡ map metaslab_of shards → AllAlike first_shared x
+    alike_first x are m y there =
         let u = unmapped metaslab_of shards m y (ap (λ (ys : List Metaslab). slice_get ys m) (sym are) ∙ there) in
-        subst (λ (z : Metaslab). IsAlike x.geometry.props.version (created_core (layouts.layout_of geometry opened.perms 0)) z.world) u.2
-        (subst (λ (w : machine.State). IsAlike x.geometry.props.version (created_core (layouts.layout_of geometry opened.perms 0)) w) (sym (world_is m u.0 (opened.each m u.0 u.1)))
-        (subst (λ (g : Geometry). IsAlike g.props.version (created_core (layouts.layout_of geometry opened.perms 0)) (created (layout_in (record { geometry = geometry; perms = opened.perms; number = m })) geometry.props.version)) (sym used)
+        subst (λ (z : Metaslab). IsAlike first_shared z.world) u.2
+        (subst (IsAlike first_shared) (sym (world_is m u.0 (opened.each m u.0 u.1)))
         (alike_as geometry.props.version (created_core (layouts.layout_of geometry opened.perms m)) (created_core (layouts.layout_of geometry opened.perms 0))
         (created (layouts.layout_of geometry opened.perms m) geometry.props.version) (created_same (layouts.layout_of geometry opened.perms m) (layouts.layout_of geometry opened.perms 0) refl)
-        (alike_created (layouts.layout_of geometry opened.perms m) geometry.props.version))))
+        (alike_created (layouts.layout_of geometry opened.perms m) geometry.props.version)))
+
+    -- all have committed the first group
+    first_committed : (m : ℕ) (y : Metaslab) → slice_get (map metaslab_of shards) m ≡ Some y → y.world.committed ≡ 1
+    first_committed m y there = (let u = unmapped metaslab_of shards m y there in ap (λ (z : Metaslab). z.world.committed) (sym u.2))
 
     -- ---- the pool
 
@@ -270,7 +276,7 @@ module _ {R A : Type 0} (rack : racks.Ghosts R) (area : areas.Ghosts A) where
           each = each_metaslab pool.shards.items items;
           holds = holds_none 1;
           groups = record {
-            committed = λ m y there. (let u = unmapped metaslab_of shards m y there in ap (λ (z : Metaslab). z.world.committed) (sym u.2));
+            committed = first_committed;
             next = omega arith;
             last = omega arith;
           };
@@ -280,8 +286,9 @@ module _ {R A : Type 0} (rack : racks.Ghosts R) (area : areas.Ghosts A) where
           uber = uber;
           images = images_first (state_of geometry opened.perms shards count told) refl (λ group found some. elim found [ inl is ↦ is | inr is ↦ absurd (let none = is.0 in cc) ]);
           leaves = leaves_first (state_of geometry opened.perms shards count told) refl refl refl;
-          arms = created_core (layouts.layout_of geometry opened.perms 0);
-          alike = alike_first (state_of geometry opened.perms shards count told) refl refl;
+          shared = first_shared;
+          versions = record { kept = refl; now = refl };
+          alike = alike_first (state_of geometry opened.perms shards count told) refl;
         };
         only = λ m k h is live. absurd (not_held m k h is);
       }
@@ -300,8 +307,9 @@ module _ {R A : Type 0} (rack : racks.Ghosts R) (area : areas.Ghosts A) where
         images = images_first x refl
             (λ group found some. elim found [ inl is ↦ absurd (omega (arith, is, some)) | inr is ↦ (let at = is.1 in omega (arith, at)) ]);
         leaves = leaves_first x refl refl refl;
-        arms = created_core (layouts.layout_of geometry opened.perms 0);
-        alike = alike_first x refl refl;
+        shared = first_shared;
+        versions = record { kept = refl; now = refl };
+        alike = alike_first x refl;
       }
 
       pub is_fresh : ((m : ℕ) → m < geometry.props.metaslabs → IsUncounted (counts m)) → OnHeld held (HasNewKits geometry) → (IsTrue told → IsTrue (is_some held))
@@ -393,7 +401,7 @@ module _ {R A : Type 0} (rack : racks.Ghosts R) (area : areas.Ghosts A) where
             is_fresh = is_fresh now.uber (is_some held) uncounted fresh_kits (λ tells. tells);
             told = λ some. told_then content held mid last r.held taken (subst (λ (o : Option Held). IsSome o) gives some);
             held = checks_then (HoldsPool (uncommitted state) false) held mid new fresh_kits taken (holds_pool rack area shards content (uncommitted state) parts mid last middle late r new gives);
-            importable = importable_back rack area shards (uncommitted state) parts.pieces parts.shards_are parts.each leaves parts.arms parts.alike (λ m y at. omega arith) shapes content mid last middle late r new gives;
+            importable = importable_back rack area shards (uncommitted state) parts.pieces parts.shards_are parts.each leaves parts.shared parts.versions parts.alike 1 (omega arith) first_committed shapes content mid last middle late r new gives;
             counts = counted_as rack area shards content (uncommitted state) parts mid last middle late r after kept;
             uber = omega arith;
             checks = checks;

@@ -23,7 +23,7 @@ use Rattle.draid_session.specs.State.{Metaslab, State}
 use Rattle.draid_pool.specs.Importable.{AreAlike, IsAlike, IsFindable, SameArms, bare}
 use Rattle.draid_pool.specs.Objects.{HoldsObjects, blocks_of}
 use Rattle.draid_found.specs.Together.{IsSameArm}
-use Rattle.draid_pool.proofs.Alike.{alike_opened, same_bare}
+use Rattle.draid_pool.proofs.Alike.{alike_opened, one_shared, same_bare}
 use Rattle.draid_pool.proofs.Lists.{some_of}
 
 -- ---- arms
@@ -45,7 +45,7 @@ pub found_arms : (x : State) (group : ℕ) (zs : List Metaslab) → AreAlike x �
     → ((m : ℕ) (y : Metaslab) → slice_get x.metaslabs m ≡ Some y → machine.IsLayout (layout_of x.geometry x.perms m))
     → ((m : ℕ) (y : Metaslab) → slice_get x.metaslabs m ≡ Some y → IsReached (layout_of x.geometry x.perms m) y.world)
     → ((m : ℕ) (z : Metaslab) → slice_get zs m ≡ Some z → (y : Metaslab) × (slice_get x.metaslabs m ≡ Some y) × Reopens x.geometry x.perms group m y z)
-    → (arms : machine.Core) × ((m : ℕ) (z : Metaslab) → slice_get zs m ≡ Some z → IsAlike x.geometry.props.version arms z.world)
+    → (arms : machine.Core) × ((m : ℕ) (z : Metaslab) → slice_get zs m ≡ Some z → IsAlike (one_shared x.geometry.props.version arms) z.world)
 found_arms x group [] alike may findable lay reached pair = (created_core (layout_of x.geometry x.perms 0), λ m z at. absurd (cc))
 found_arms x group (first ∷ zs) alike may findable lay reached pair =
     let p = pair 0 first refl in (
@@ -53,7 +53,7 @@ found_arms x group (first ∷ zs) alike may findable lay reached pair =
       λ m z at.
           (let q = pair m z at in
           let r = q.2 in
-          subst (IsAlike x.geometry.props.version p.2.image.core) (sym (r.world ∙ r.opened))
+          subst (IsAlike (one_shared x.geometry.props.version p.2.image.core)) (sym (r.world ∙ r.opened))
           (alike_opened x.geometry.props.version p.2.image.core (layout_of x.geometry x.perms m) q.0.world r.image (findable.versions m q.0 r.image q.1 r.is)
           (alike group m 0 q.0 p.0 r.image p.2.image may q.1 p.1 r.is r.of p.2.is p.2.of)
           (λ n a there. ((every_image (layout_of x.geometry x.perms m) q.0.world (lay m q.0 q.1) (reached m q.0 q.1)).each r.image r.is).here n a there))),

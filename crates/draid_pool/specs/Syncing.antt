@@ -19,7 +19,7 @@ use Rattle.draid_pool.specs.Groups.{DropsDetached}
 use Rattle.draid_shard.specs.Part.{Part, layout_in}
 use Rattle.draid_shard.specs.States.{Does, part_of, stored_in}
 use Rattle.draid_shard.specs.declared.shard.Shard.{Shard}
-use Rattle.draid_pool.specs.Importable.{IsAlike}
+use Rattle.draid_pool.specs.Importable.{IsAlike, Shared}
 use Rattle.draid_pool.specs.Metaslabs.{IsMetaslab}
 use Rattle.draid_pool.specs.Records.{LeavesAreBelow}
 use Rattle.draid_pool.specs.declared.fault.SyncFault.{SyncFault}
@@ -67,13 +67,13 @@ pub record Turns {R A : Type 0} (rack : racks.Ghosts R) (area : areas.Ghosts A) 
   pub is : IsMetaslab rack area part pieces new reached
 
 -- What the closing and the sealing of a group leave: what is held, the committed group, the images that were there, that leaves have low numbers,
--- and the version and the arms.
+-- and what all metaslabs have in common.
 pub record KeepsCommitted (old new : machine.State) : Type 0 where
   pub held : new.core.held ≡ old.core.held
   pub committed : new.committed ≡ old.committed
   pub images : (image : machine.Image) → IsImage old image → IsImage new image
   pub leaves : (kept_leaf next_leaf : ℕ) → LeavesAreBelow kept_leaf next_leaf old → LeavesAreBelow kept_leaf next_leaf new
-  pub alike : (version : ℕ) (arms : machine.Core) → IsAlike version arms old → IsAlike version arms new
+  pub alike : (shared : Shared) → IsAlike shared old → IsAlike shared new
 
 -- all blocks, tickets and the committed group are as they were, whatever the state
 pub record KeepsTable {R A : Type 0} (old new : Shard R A) : Type 0 where
