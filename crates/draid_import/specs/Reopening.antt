@@ -26,7 +26,9 @@ use Rattle.draid_machine.specs.declared.names.Segment.{Segment}
 use Rattle.draid_machine.specs.After.{reopen_state}
 use Rattle.draid_record.specs.Written.{IsRecord}
 use Rattle.draid_stable.specs.Images.{image_by}
+use Rattle.draid_slots.specs.Table.{SlotTable}
 use Rattle.draid_shard.specs.Calls.{OnBothTold}
+use Rattle.draid_shard.specs.Fits.{IsLeaf}
 use Rattle.draid_shard.specs.States.{IsIn, layout_by, stored_in}
 use Rattle.draid_shard.specs.declared.shard.Shard.{Shard}
 
@@ -68,6 +70,11 @@ pub record BeginsWith (t : Tables) (limit : ℕ) (history : History) : Type 0 wh
   pub reserved : reserved_of history ≡ 0
   pub limit_is : limit_in history ≡ limit
 
+-- no arm is detached, and the numbers of leaves are below one
+pub record HasLowLeaves (next : ℕ) (slots : SlotTable) : Type 0 where
+  pub detached : slots.detached ≡ []
+  pub below : (leaf : ℕ) → IsLeaf slots leaf → leaf < next
+
 -- A metaslab is opened from the record of a group, which has no fault to a rack with these leaves: its slots have the record's arms, its entries are the record's
 -- blocks, and it stands for what a state's opening from that image gives. Leaves that the image doesn't name went, and no other; the areas tell what they did.
 pub record Opens {R A : Type 0} (rack : Ghosts R) (told : A → Option content.Content) (kit : Kit R A) (group next : ℕ) (shard : Shard R A) : Type 0 where
@@ -75,6 +82,7 @@ pub record Opens {R A : Type 0} (rack : Ghosts R) (told : A → Option content.C
   pub in_range : IsRecord (limits_of shard.geometry shard.number group next) value
   pub read : content.OnTold (told (area_of_kit kit group)) (λ x. opening_of (limits_of shard.geometry shard.number group next) (has_leaf (rack.shape kit.rack) (metaslab_sectors shard.geometry)) x.bytes ≡ Ok value)
   pub arms : shard.slots.arms ≡ arms_told value.slots
+  pub low : HasLowLeaves next shard.slots
   pub entries : HasLive shard.entries value.blocks
   pub is_in : (w : machine.State) (doubtful : List Segment) → IsIn shard (reopen_state (layout_by shard) w (image_by value) doubtful)
   pub leaves : OnBothTold (rack.told kit.rack) (rack.told shard.rack) (DropsBut (IsNamed (image_by value)))

@@ -1,4 +1,5 @@
 pub mod Alike
+pub mod Arms
 pub mod Ascending
 pub mod Closed
 pub mod Commits

@@ -100,7 +100,7 @@ module _ {R A : Type 0} (rack : racks.Ghosts R) (area : areas.Ghosts A) where
   pub whole_on : (m : ℕ) (pool new : Pool R A) (shard shard' : Shard R A) → IsWhole rack area pool → SetsShard rack area m pool new shard shard' → Valid rack shard' → KeepsTable shard shard' → IsWhole rack area new
   whole_on m pool new shard shard' w set valid table =
       whole_same rack area m pool new shard shard' w
-      (record { there = set.there; sets = set.sets; geometry = set.geometry; uber = set.uber; valid = valid; part = table.part; committed = table.committed }) table.entries set.seq set.floor
+      (record { there = set.there; sets = set.sets; geometry = set.geometry; uber = set.uber; valid = valid; part = table.part; committed = table.committed; slots = table.slots }) table.entries set.seq set.floor
       (λ q. ap (λ os. get nat_eq os q) set.objects)
 
   -- ---- one metaslab

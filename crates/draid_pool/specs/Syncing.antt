@@ -7,11 +7,13 @@ use Rattle.draid_machine.specs.Images.{IsImage}
 use Rattle.draid_machine.specs.State as machine
 use Rattle.draid_segments.specs.Segments.{Pieces}
 use Rattle.draid_entries.specs.Entries.{SameEntries}
+use Rattle.draid_slots.specs.Changes.{Commits as CommitsSlots}
 use Rattle.draid_session.specs.Follows.{Acts}
 use Rattle.draid_session.specs.Groups as groups
 use Rattle.draid_session.specs.Holds.{Act, Hold, On, view_of}
 use Rattle.draid_session.specs.Phases.{End, Went, WasWorn, WasLast, Starved, Broke}
 use Rattle.draid_session.specs.State.{Metaslab, State, Store}
+use Rattle.draid_shard.specs.Alike.{KeepsArms}
 use Rattle.draid_shard.specs.Calls.{ActsOn, SameAreas, SameReserve}
 use Rattle.draid_pool.specs.Changes.{CommitsGroup}
 use Rattle.draid_shard.specs.Fits.{Valid}
@@ -75,11 +77,12 @@ pub record KeepsCommitted (old new : machine.State) : Type 0 where
   pub leaves : (kept_leaf next_leaf : ℕ) → LeavesAreBelow kept_leaf next_leaf old → LeavesAreBelow kept_leaf next_leaf new
   pub alike : (shared : Shared) → IsAlike shared old → IsAlike shared new
 
--- all blocks, tickets and the committed group are as they were, whatever the state
+-- all blocks, tickets, arms and the committed group are as they were, whatever the state
 pub record KeepsTable {R A : Type 0} (old new : Shard R A) : Type 0 where
   pub part : part_of new ≡ part_of old
   pub entries : SameEntries old.entries new.entries
   pub committed : new.committed ≡ old.committed
+  pub slots : KeepsArms old.slots new.slots
 
 -- a metaslab's group was closed, or why it wasn't
 abbrev pub CloseIs : Part → ℕ → Result Unit SyncFault → Hold → Type 0
@@ -99,6 +102,7 @@ pub record Commits {R A : Type 0} (rack : racks.Ghosts R) (group : ℕ) (old new
   pub commits : CommitsGroup old new group
   pub acts : (pieces : Pieces) → ActsOn rack old new (event.Commit group) pieces
   pub leaves : DropsDetached rack old new group
+  pub slots : CommitsSlots old.slots new.slots group
   pub reserve : SameReserve old new
 
 -- ---- all metaslabs

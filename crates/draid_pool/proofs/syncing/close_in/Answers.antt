@@ -1,6 +1,7 @@
 use Rattle.std.proofs.Common.{◌∙◌, ℕ, Option, ap, refl, sym}
 use Rattle.std.specs.Prelude.{is_some}
 use Rattle.draid_pool.specs.declared.fault.SyncFault.TheVariants as sync
+use Rattle.draid_shard.proofs.Changed.{same_arms}
 use Rattle.draid_pool.proofs.Rises.{records_same, records_still}
 use Rattle.draid_pool.proofs.Turns.{close_fault, closed, closing_here, closing_next, idle_by, not_closed, open_next}
 use Rattle.draid_pool.proofs.Refusing.{last_no_shelf, memory_no_shelf, no_refusal, worn_no_shelf}
@@ -10,7 +11,7 @@ pub returns-in-Ok : goal.returns-in-Ok
 returns-in-Ok g c =
     record {
       valid = c.in-Ok.ensures.valid;
-      table = record { part = c.in-Ok.ensures.event.part; entries = c.in-Ok.ensures.closes.entries; committed = c.in-Ok.ensures.closes.committed };
+      table = record { part = c.in-Ok.ensures.event.part; entries = c.in-Ok.ensures.closes.entries; committed = c.in-Ok.ensures.closes.committed; slots = c.in-Ok.ensures.slots };
       closing = c.in-Ok.ensures.closes.closing;
       later = records_same g.A.Area.faults c.args.shard.now c.close_group.new.shard c.in-Ok.ensures.kit.areas;
       not_shelf = λ failed. no_refusal failed;
@@ -22,7 +23,7 @@ pub returns-in-Err-Worn : goal.returns-in-Err-Worn
 returns-in-Err-Worn g c =
     record {
       valid = c.in-Err-Worn.ensures.valid;
-      table = record { part = c.in-Err-Worn.ensures.none.none.part; entries = c.in-Err-Worn.ensures.none.keeps.entries; committed = c.in-Err-Worn.ensures.none.keeps.groups.committed };
+      table = record { part = c.in-Err-Worn.ensures.none.none.part; entries = c.in-Err-Worn.ensures.none.keeps.entries; committed = c.in-Err-Worn.ensures.none.keeps.groups.committed; slots = c.in-Err-Worn.ensures.slots };
       closing = tt;
       later = records_same g.A.Area.faults c.args.shard.now c.close_group.new.shard c.in-Err-Worn.ensures.kit.areas;
       not_shelf = λ failed. worn_no_shelf failed;
@@ -35,7 +36,7 @@ pub returns-in-Err-Last : goal.returns-in-Err-Last
 returns-in-Err-Last g c =
     record {
       valid = c.in-Err-Last.ensures.valid;
-      table = record { part = c.in-Err-Last.ensures.none.none.part; entries = c.in-Err-Last.ensures.none.keeps.entries; committed = c.in-Err-Last.ensures.none.keeps.groups.committed };
+      table = record { part = c.in-Err-Last.ensures.none.none.part; entries = c.in-Err-Last.ensures.none.keeps.entries; committed = c.in-Err-Last.ensures.none.keeps.groups.committed; slots = c.in-Err-Last.ensures.slots };
       closing = tt;
       later = records_same g.A.Area.faults c.args.shard.now c.close_group.new.shard c.in-Err-Last.ensures.kit.areas;
       not_shelf = λ failed. last_no_shelf failed;
@@ -48,7 +49,7 @@ pub returns-in-Err-NoMemory : goal.returns-in-Err-NoMemory
 returns-in-Err-NoMemory g c =
     record {
       valid = c.in-Err-NoMemory.ensures.valid;
-      table = record { part = c.in-Err-NoMemory.ensures.none.none.part; entries = c.in-Err-NoMemory.ensures.none.keeps.entries; committed = c.in-Err-NoMemory.ensures.none.keeps.groups.committed };
+      table = record { part = c.in-Err-NoMemory.ensures.none.none.part; entries = c.in-Err-NoMemory.ensures.none.keeps.entries; committed = c.in-Err-NoMemory.ensures.none.keeps.groups.committed; slots = c.in-Err-NoMemory.ensures.slots };
       closing = tt;
       later = records_same g.A.Area.faults c.args.shard.now c.close_group.new.shard c.in-Err-NoMemory.ensures.kit.areas;
       not_shelf = λ failed. memory_no_shelf failed;
@@ -62,7 +63,7 @@ returns-then-is_some g c =
     let old = c.args.shard.now in
     record {
       valid = c.requires.valid;
-      table = record { part = refl; entries = record { at = λ first. refl; held = λ key. refl; count = refl; owed = λ columns. refl }; committed = refl };
+      table = record { part = refl; entries = record { at = λ first. refl; held = λ key. refl; count = refl; owed = λ columns. refl }; committed = refl; slots = same_arms c.args.shard.now.slots };
       closing = closing_next old.open_group old.committed c.args.group old.closing old.sealed c.requires.valid.groups (ap (λ (o : Option ℕ). is_some o) (sym c.closing.ensures) ∙ (sym c.is_some.ensures ∙ c.if-is_some.true)) c.requires.next;
       later = records_still g.A.Area.faults c.args.shard.now;
       not_shelf = λ failed. no_refusal failed;

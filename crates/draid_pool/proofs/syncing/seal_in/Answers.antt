@@ -4,6 +4,7 @@ use Rattle.draid_names.specs.Faults.{Rose}
 use Rattle.draid_pool.specs.Groups.{OpenUpto, SealIsRefused, area_in}
 use Rattle.draid_shard.specs.States.{IsIn}
 use Rattle.draid_pool.specs.declared.fault.SyncFault.TheVariants as sync
+use Rattle.draid_shard.proofs.Changed.{same_arms}
 use Rattle.draid_shard.proofs.Shown.{state_shown}
 use Rattle.draid_pool.proofs.Rises.{records_rose, records_still}
 use Rattle.draid_pool.proofs.Turns.{no_tickets, not_sealed, seal_fault, sealed, stays_sealed}
@@ -23,7 +24,7 @@ pub returns-in-Ok : goal.returns-in-Ok
 returns-in-Ok g c =
     record {
       valid = c.in-Ok.ensures.valid;
-      table = record { part = c.in-Ok.ensures.sealed.does.part; entries = c.in-Ok.ensures.seals.entries; committed = c.in-Ok.ensures.seals.committed };
+      table = record { part = c.in-Ok.ensures.sealed.does.part; entries = c.in-Ok.ensures.seals.entries; committed = c.in-Ok.ensures.seals.committed; slots = c.in-Ok.ensures.slots };
       sealed = (c.in-Ok.ensures.seals.closing ∙ c.requires.closing, c.in-Ok.ensures.seals.sealed);
       low = c.in-Ok.ensures.sealed.low;
       later = c.in-Ok.ensures.later;
@@ -36,7 +37,7 @@ pub returns-in-Err-Area : goal.returns-in-Err-Area
 returns-in-Err-Area g c =
     record {
       valid = c.in-Err-Area.ensures.valid;
-      table = record { part = c.in-Err-Area.ensures.refused.none.part; entries = c.in-Err-Area.ensures.keeps.entries; committed = c.in-Err-Area.ensures.keeps.groups.committed };
+      table = record { part = c.in-Err-Area.ensures.refused.none.part; entries = c.in-Err-Area.ensures.keeps.entries; committed = c.in-Err-Area.ensures.keeps.groups.committed; slots = c.in-Err-Area.ensures.slots };
       sealed = tt;
       low = tt;
       later = c.in-Err-Area.ensures.later;
@@ -53,7 +54,7 @@ pub returns-in-Err-NoMemory : goal.returns-in-Err-NoMemory
 returns-in-Err-NoMemory g c =
     record {
       valid = c.in-Err-NoMemory.ensures.valid;
-      table = record { part = c.in-Err-NoMemory.ensures.refused.none.part; entries = c.in-Err-NoMemory.ensures.keeps.entries; committed = c.in-Err-NoMemory.ensures.keeps.groups.committed };
+      table = record { part = c.in-Err-NoMemory.ensures.refused.none.part; entries = c.in-Err-NoMemory.ensures.keeps.entries; committed = c.in-Err-NoMemory.ensures.keeps.groups.committed; slots = c.in-Err-NoMemory.ensures.slots };
       sealed = tt;
       low = tt;
       later = c.in-Err-NoMemory.ensures.later;
@@ -70,7 +71,7 @@ pub returns-then-sealed : goal.returns-then-sealed
 returns-then-sealed g c =
     record {
       valid = c.requires.valid;
-      table = record { part = refl; entries = record { at = λ first. refl; held = λ key. refl; count = refl; owed = λ columns. refl }; committed = refl };
+      table = record { part = refl; entries = record { at = λ first. refl; held = λ key. refl; count = refl; owed = λ columns. refl }; committed = refl; slots = same_arms c.args.shard.now.slots };
       sealed = (c.requires.closing, sym c.sealed.ensures ∙ c.if-sealed.true);
       low = omega arith;
       later = records_still g.A.Area.faults c.args.shard.now;

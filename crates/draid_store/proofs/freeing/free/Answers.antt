@@ -57,7 +57,7 @@ returns g c =
     let e = c.free_block-pool.ensures in
     let new : Pool g.row.R.Denot g.row.A.Denot = record old { shards = with_item old.shards p.metaslab after; objects = c.remove.new.self; floor = group } in
     let r : Replaces g.R.Rack g.A.Area p.metaslab old new before after
-    = record { there = at.0; sets = refl; geometry = refl; uber = refl; valid = e.valid; part = e.part; committed = e.sets.groups.committed } in
+    = record { there = at.0; sets = refl; geometry = refl; uber = refl; valid = e.valid; part = e.part; committed = e.sets.groups.committed; slots = e.sets.slots } in
     record {
       whole = whole_freed g.R.Rack g.A.Area old new before after p group w r at.1 e.sets e.group refl refl
           (others_left g.R.Rack g.A.Area old c.args.object p (λ i. get nat_eq new.objects i) w there (λ i. c.remove.ensures.updates.0 i));
