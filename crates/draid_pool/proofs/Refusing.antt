@@ -22,6 +22,16 @@ last_no_shelf is = cc
 pub memory_no_shelf : {T : Type 0} → IsErrOf {T = T} (Err sync.NoMemory) sync.Shelf → ⊥
 memory_no_shelf is = cc
 
+-- nor by the last number
+pub worn_no_last : {T : Type 0} → IsErrOf {T = T} (Err sync.Worn) sync.Last → ⊥
+worn_no_last is = cc
+
+pub shelf_no_last : {T : Type 0} → IsErrOf {T = T} (Err sync.Shelf) sync.Last → ⊥
+shelf_no_last is = cc
+
+pub memory_no_last : {T : Type 0} → IsErrOf {T = T} (Err sync.NoMemory) sync.Last → ⊥
+memory_no_last is = cc
+
 pub not_both : (b : Bool) → b ≡ true → b ≡ false → ⊥
 not_both b is isnt = cc
 

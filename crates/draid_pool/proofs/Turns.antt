@@ -3,6 +3,7 @@ use Rattle.std.proofs.Common.{◌≡◌, ◌==◌, ◌%◌, ◌<◌, ◌+◌, �
 use Rattle.std.specs.Prelude.{is_some}
 use Rattle.draid_pool.proofs.Refusing.{not_both}
 use Rattle.draid_names.specs.Faults.{Rose}
+use Rattle.draid_names.specs.declared.numbers.TheConstants.{LAST_NUMBER}
 use Rattle.draid_rack.specs.Rack.{OnTold, Told}
 use Rattle.draid_rack.specs.Moments.{Leaves, LeavesTold}
 use Rattle.draid_rack.specs.declared.Rack as racks
@@ -62,6 +63,10 @@ abbrev pub close_fault : CloseFault → SyncFault
 close_fault (close.Worn events) = sync.Worn
 close_fault close.Last = sync.Last
 close_fault close.NoMemory = sync.NoMemory
+
+-- the group that isn't closed since it is the last
+pub last_group : {R A : Type 0} (shard : Shard R A) (group : ℕ) (why : CloseFault) → why ≡ close.Last → CloseRefused shard group why → group ≡ LAST_NUMBER
+last_group shard group why is refused = (let last : CloseRefused shard group close.Last = subst (CloseRefused shard group) is refused in last.1)
 
 -- where no group is closing
 pub idle_by : (o : Option ℕ) → is_some o ≡ false → o ≡ None

@@ -1,5 +1,5 @@
 -- A whole pool stays whole as its uberblock names a group, or is refused it.
-use Rattle.std.proofs.Common.{◌≡◌, ◌≤◌, ◌+◌, ◌∙◌, ℕ, Bool, Option, Some, None, arith, sym, ap, subst, length, if◌then◌else◌}
+use Rattle.std.proofs.Common.{◌≡◌, ◌≤◌, ◌+◌, ◌∙◌, ℕ, Bool, List, Option, Some, None, arith, sym, ap, subst, length, if◌then◌else◌}
 use Rattle.std.specs.Prelude.{nat_eq, slice_get}
 use Rattle.std.specs.HashMap.{get}
 use Rattle.std.proofs.lemmas.Option.{slice_get_within}
@@ -24,7 +24,7 @@ use Rattle.draid_uber.specs.Held.{IsNext}
 use Rattle.draid_uber.specs.Slots.{group_of}
 use Rattle.draid_uber.specs.Uber as ubers
 use Rattle.draid_uber.specs.Uber.{kept_of}
-use Rattle.draid_pool.specs.Syncing.{AreSealed, Commits, CommitsBelow}
+use Rattle.draid_pool.specs.Syncing.{AreIdle, AreSealed, Commits, CommitsBelow}
 use Rattle.draid_pool.specs.Whole.{IsPointer, IsShardOf, IsWhole}
 use Rattle.draid_pool.specs.declared.pool.Pool.{Pool}
 use Rattle.draid_pool.proofs.Arms.{leaf_left, share_left}
@@ -69,6 +69,24 @@ module _ {R A : Type 0} (rack : racks.Ghosts R) (area : areas.Ghosts A) where
       let behind = groups.1 in
       let committed = is.committed in
       omega (arith, behind, committed)
+
+  -- and isn't the last
+  pub closing_low : (pool : Pool R A) (m group : ℕ) (shard : Shard R A) → IsWhole rack area pool → slice_get pool.shards.items m ≡ Some shard → shard.closing ≡ Some group → group ≡ LAST_NUMBER → ⊥
+  closing_low pool m group shard w there closing last =
+      let is = w.shards m shard there in
+      let groups : (shard.open_group ≡ group + 1) × (group ≡ shard.committed + 1) = subst (λ o. AreGroups shard.open_group o shard.committed shard.sealed) closing is.valid.groups in
+      let behind = groups.0 in
+      let low = is.valid.low in
+      omega (arith, behind, low, last)
+
+  -- where all committed their group none is closing
+  pub idle_committed : (group : ℕ) (old new : List (Shard R A)) → CommitsBelow rack group (length old) old new → AreIdle new
+  idle_committed group old new commits m z there =
+      let inside = slice_get_within new m z there in
+      let many = commits.many in
+      let was = present old m (omega (arith, inside, many)) in
+      let after = commits.below m was.0 (omega (arith, inside, many)) was.1 in
+      subst (λ (q : Shard R A). q.closing ≡ None) (some_of (slice_get new m) after.0 z after.1 there) after.2.commits.closing
 
   -- ---- the uberblock refuses
 

@@ -58,6 +58,10 @@ AreClosing {R = R} {A = A} shards group = (m : ℕ) (shard : Shard R A) → slic
 abbrev pub AreSealed : {R A : Type 0} → List (Shard R A) → ℕ → Type 0
 AreSealed {R = R} {A = A} shards group = (m : ℕ) (shard : Shard R A) → slice_get shards m ≡ Some shard → (shard.closing ≡ Some group) × (shard.sealed ≡ true)
 
+-- no group is closing in any of the shards
+abbrev pub AreIdle : {R A : Type 0} → List (Shard R A) → Type 0
+AreIdle {R = R} {A = A} shards = (m : ℕ) (shard : Shard R A) → slice_get shards m ≡ Some shard → shard.closing ≡ None
+
 -- ---- one metaslab
 
 -- One hold of a metaslab led to one for which the shard stands, with these pieces.
@@ -115,7 +119,7 @@ pub record CommitsBelow {R A : Type 0} (rack : racks.Ghosts R) (group m : ℕ) (
 
 -- a group that is closing in one of the shards, or None where none is
 abbrev pub FoundClosing : {R A : Type 0} → List (Shard R A) → Option ℕ → Type 0
-FoundClosing {R = R} {A = A} shards None = (m : ℕ) (shard : Shard R A) → slice_get shards m ≡ Some shard → shard.closing ≡ None
+FoundClosing shards None = AreIdle shards
 FoundClosing {R = R} {A = A} shards (Some group) = (m : ℕ) × (shard : Shard R A) × (slice_get shards m ≡ Some shard) × (shard.closing ≡ Some group)
 
 -- one of the shards stores something that no sync has made safe, or none does

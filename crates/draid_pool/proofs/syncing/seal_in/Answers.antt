@@ -8,7 +8,7 @@ use Rattle.draid_shard.proofs.Changed.{same_arms}
 use Rattle.draid_shard.proofs.Shown.{state_shown}
 use Rattle.draid_pool.proofs.Rises.{records_rose, records_still}
 use Rattle.draid_pool.proofs.Turns.{no_tickets, not_sealed, seal_fault, sealed, stays_sealed}
-use Rattle.draid_pool.proofs.Refusing.{memory_no_shelf, no_refusal}
+use Rattle.draid_pool.proofs.Refusing.{memory_no_last, memory_no_shelf, no_refusal, shelf_no_last}
 use Rattle.draid_pool.proofs.syncing.seal_in.Goals as goal
 
 pub unreachable-requires : goal.unreachable-requires
@@ -29,6 +29,7 @@ returns-in-Ok g c =
       low = c.in-Ok.ensures.sealed.low;
       later = c.in-Ok.ensures.later;
       cause = λ failed. absurd (no_refusal failed);
+      not_last = λ is. no_refusal is;
       seals = λ part pieces x is. (let e = c.in-Ok.ensures in
           sealed g.R.Rack g.A.Area part pieces c.args.shard.now c.seal.new.shard c.args.group c.in-Ok.sealed.thin x is e.valid e.sealed e.other e.reserve e.later);
     }
@@ -41,6 +42,7 @@ returns-in-Err-Area g c =
       sealed = tt;
       low = tt;
       later = c.in-Err-Area.ensures.later;
+      not_last = λ is. shelf_no_last is;
       cause = λ is. (let old = c.args.shard.now in
           let new = c.seal.new.shard in
           let why : ((w : machine.State) → IsIn old w → OpenUpto w c.args.group 0) × Rose (g.A.Area.faults (area_in old c.args.group)) (g.A.Area.faults (area_in new c.args.group)) = subst (SealIsRefused g.A.Area.faults old new c.args.group) c.in-Err-Area.field-0-is c.in-Err-Area.ensures.refused.why in
@@ -59,6 +61,7 @@ returns-in-Err-NoMemory g c =
       low = tt;
       later = c.in-Err-NoMemory.ensures.later;
       cause = λ failed. absurd (memory_no_shelf failed);
+      not_last = λ is. memory_no_last is;
       seals = λ part pieces x is. (let e = c.in-Err-NoMemory.ensures in
           not_sealed g.R.Rack g.A.Area part pieces c.args.shard.now c.seal.new.shard c.args.group x c.in-Err-NoMemory.field-0 sync.NoMemory is e.valid e.other e.reserve e.later c.requires.closing (sym c.sealed.ensures ∙ c.if-sealed.false) e.refused
           (ap seal_fault c.in-Err-NoMemory.field-0-is));
@@ -76,5 +79,6 @@ returns-then-sealed g c =
       low = omega arith;
       later = records_still g.A.Area.faults c.args.shard.now;
       cause = λ failed. absurd (no_refusal failed);
+      not_last = λ is. no_refusal is;
       seals = λ part pieces x is. stays_sealed g.R.Rack g.A.Area part pieces c.args.shard.now c.args.group x is c.requires.closing (sym c.sealed.ensures ∙ c.if-sealed.true);
     }
