@@ -1,5 +1,5 @@
 -- Metaslabs that have the same arms, and numbers of leaves, as calls leave them.
-use Rattle.std.proofs.Common.{◌≡◌, ◌==◌, ◌&&◌, ◌<◌, ◌∙◌, inl, inr, ℕ, zero, suc, true, List, [], ◌∷◌, Option, Some, None, IsSome, Contains, arith, refl, sym, ap, subst, length, map, slice_index_or}
+use Rattle.std.proofs.Common.{◌≡◌, ◌==◌, ◌&&◌, ◌<◌, ◌∙◌, inl, inr, ℕ, zero, suc, true, List, [], ◌∷◌, Some, None, IsSome, Contains, arith, refl, sym, ap, subst, length, map, slice_index_or}
 use Rattle.std.specs.Prelude.{filter, nat_lt, option_map, slice_get}
 use Rattle.std.proofs.lemmas.List.{length-map}
 use Rattle.std.proofs.lemmas.Option.{slice_get_within}
