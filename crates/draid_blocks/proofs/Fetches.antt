@@ -214,6 +214,7 @@ fetches_asked rack old new history pointer fetched same f = record {
     entries = f.keeps.entries;
     groups = record { open_group_is = same.open_group_is; closing = same.closing; sealed = same.sealed; committed = same.committed };
   });
+  slots = record { same = f.slots.same; arms_stay = f.slots.arms_stay; detached_stay = f.slots.detached_stay };
   failed = f.failed;
   does = record {
     part = f.does.part;

@@ -1,5 +1,5 @@
 -- What the records of all metaslabs of one pool have in common, and which fault it is where they haven't.
-use Rattle.std.specs.Prelude.{◌≡◌, ◌<◌, ◌+◌, ◌-◌, ◌*◌, ◌^◌, ◌&&◌, ◌⊎◌, ◌↔◌, ℕ, zero, suc, Bool, true, false, List, Option, Some, if◌then◌else◌, is_some, length, min, nat_eq, slice_get}
+use Rattle.std.specs.Prelude.{◌≡◌, ◌<◌, ◌+◌, ◌-◌, ◌*◌, ◌^◌, ◌&&◌, ◌⊎◌, ◌↔◌, ℕ, zero, suc, Bool, true, false, List, Option, Some, if◌then◌else◌, is_some, min, nat_eq, slice_get}
 use Rattle.std.specs.HashSet.{HashSet, contains}
 use Rattle.draid_names.specs.declared.pointer.Pointer.{Pointer}
 use Rattle.draid_machine.specs.declared.names.Key.{Key}

@@ -1,7 +1,6 @@
 -- What an import looks for in the metaslabs that it opens: they have the same arms, and no key twice.
-use Rattle.std.proofs.Common.{◌≡◌, ◌∙◌, ℕ, zero, suc, List, [], ◌∷◌, Some, length, map, refl, sym, ap, subst}
-use Rattle.std.specs.Prelude.{option_map, slice_get}
-use Rattle.std.proofs.lemmas.List.{length-map}
+use Rattle.std.proofs.Common.{◌≡◌, ◌∙◌, ℕ, List, [], ◌∷◌, Some, refl, sym, ap, subst}
+use Rattle.std.specs.Prelude.{slice_get}
 use Rattle.draid_machine.specs.declared.names.Held.{Held as Block}
 use Rattle.draid_machine.specs.declared.names.Key.{Key}
 use Rattle.draid_machine.specs.After.{reopen_state}
@@ -15,7 +14,7 @@ use Rattle.draid_objects.specs.Changes.{Write, write_by}
 use Rattle.draid_segments.specs.Segments.{Pieces}
 use Rattle.draid_session.specs.Opening.{MayFind, Reopens}
 use Rattle.draid_session.specs.State.{Metaslab, State}
-use Rattle.draid_pool.specs.Importable.{AreAlike, IsAlike, IsFindable, SameArms, bare}
+use Rattle.draid_pool.specs.Importable.{AreAlike, IsAlike, IsFindable, SameArms}
 use Rattle.draid_pool.specs.Objects.{HoldsObjects, blocks_of}
 use Rattle.draid_pool.proofs.Alike.{alike_opened, one_shared, same_bare}
 use Rattle.draid_pool.proofs.Lists.{some_of}

@@ -1,5 +1,5 @@
 -- A metaslab is opened from the record of a group.
-use Rattle.std.specs.Prelude.{◌≡◌, ◌+◌, [], ⊤, ℕ, Bool, List, Option, Err, ◌==◌, ◌≤◌, ◌%◌, Ok, if◌then◌else◌}
+use Rattle.std.specs.Prelude.{◌<◌, ◌≡◌, ◌+◌, [], ⊤, ℕ, Bool, List, Option, Err, ◌==◌, ◌≤◌, ◌%◌, Ok, if◌then◌else◌}
 use Rattle.draid_names.specs.Faults.{Rose}
 use Rattle.draid_spec.specs.declared.layout.Geometry.{Geometry}
 use Rattle.draid_spec.specs.Geometry.{metaslab_sectors}

@@ -182,6 +182,7 @@ returns-then-is_full-clause-none g c = record {
     entries = record { at = λ _. refl; held = λ _. refl; count = refl; owed = λ _. refl };
     groups = record { open_group_is = refl; closing = refl; sealed = refl; committed = refl };
   };
+  slots = same_arms c.args.shard.now.slots;
 }
 
 pub returns-then-is_full-clause-refused : goal.returns-then-is_full-clause-refused
