@@ -270,7 +270,8 @@ module _ {R A : Type 0} (rack : racks.Ghosts R) (area : areas.Ghosts A) where
           uber = subst (λ u. IsUber area u x) (sym uber_is) s.stands.uber_is;
           images = s.stands.images;
           leaves = s.stands.leaves;
-          arms = s.stands.arms;
+          shared = s.stands.shared;
+          versions = s.stands.versions;
           alike = s.stands.alike;
         };
         only = λ m k h is live.

@@ -1,5 +1,6 @@
 pub mod Alike
 pub mod Alone
+pub mod Arms
 pub mod Ascending
 pub mod Closed
 pub mod Commits

@@ -190,8 +190,9 @@ module _ {R A : Type 0} (rack : racks.Ghosts R) (area : areas.Ghosts A) where
       order = s.leaves.order;
       each = each_set x.metaslabs m y y' (λ z. LeavesAreBelow x.kept_leaf x.next_leaf z.world) t.at (leaves_kept x.kept_leaf x.next_leaf y.world y'.world t.images (s.leaves.each m y t.at)) s.leaves.each;
     };
-    arms = s.arms;
-    alike = each_set x.metaslabs m y y' (λ z. IsAlike x.geometry.props.version s.arms z.world) t.at (alike_stays x.geometry.props.version s.arms y.world y'.world t.images (s.alike m y t.at)) s.alike;
+    shared = s.shared;
+    versions = s.versions;
+    alike = each_set x.metaslabs m y y' (λ z. IsAlike s.shared z.world) t.at (alike_stays s.shared y.world y'.world t.images (s.alike m y t.at)) s.alike;
   }
     where
       each : (k : ℕ) (z : Shard R A) (v : Metaslab) → slice_get new.metaslabs.shards.items k ≡ Some z → slice_get (slice_set x.metaslabs m y') k ≡ Some v

@@ -22,6 +22,7 @@ use Rattle.draid_session.specs.State.{State, Store}
 use Rattle.draid_shard.specs.States.{stored_in}
 use Rattle.draid_pool.specs.Syncing.{ExportDoes, SyncDoes, AreSealed, CommitsBelow, FoundClosing, FoundUnsynced, GroupDoes, HasUnsynced, Phase, SealDoes, end_of}
 use Rattle.draid_pool.specs.Carries.{CarriesOut}
+use Rattle.draid_pool.specs.Importable.{keep_shared}
 use Rattle.draid_pool.specs.Pools.{Represents}
 use Rattle.draid_pool.specs.Ubers.{body_of}
 use Rattle.draid_pool.specs.declared.fault.SyncFault.{SyncFault}
@@ -29,14 +30,14 @@ use Rattle.draid_pool.specs.declared.fault.SyncFault.TheVariants as sync
 use Rattle.draid_pool.specs.declared.fault.Synced.{Synced}
 use Rattle.draid_pool.specs.declared.pool.Pool.{Pool}
 use Rattle.draid_pool.specs.Views.{seen_at}
-use Rattle.draid_pool.proofs.Commits.{CommitsAll, CommittedBelow, commits_all}
+use Rattle.draid_pool.proofs.Commits.{CommitsAll, commits_all}
 use Rattle.draid_pool.proofs.Lifted.{HasMetaslab, metaslab_of}
 use Rattle.draid_pool.proofs.Lists.{present}
 use Rattle.draid_pool.proofs.Looking.{changes_none, looked, looks_at, none_seen, not_none, seen_there}
 use Rattle.draid_pool.proofs.Moved.{uber_stays}
 use Rattle.draid_pool.proofs.Naming.{Names, Refuses, named_state, refused_state, stood_named, stood_refused, uber_named, uber_refused}
 use Rattle.draid_pool.proofs.Steps.{carried, carries_so, follows_on, own_of, same_layout, settled}
-use Rattle.draid_pool.proofs.Stood.{Rest, Stood, represents_of, stood_of}
+use Rattle.draid_pool.proofs.Stood.{CommittedBelow, IsOneOf, Rest, Stood, represents_of, stood_of}
 use Rattle.draid_pool.proofs.SyncSteps.{not_went}
 
 -- ---- ends
@@ -90,7 +91,7 @@ module _ {R A : Type 0} (rack : racks.Ghosts R) (area : areas.Ghosts A) where
     abbrev pointers : ℕ → Option Pointer
     pointers object = get nat_eq pool.own.objects object
 
-    stood : Stood rack area pool.metaslabs.shards.items pointers x (λ m y. y.world.committed ≡ x.committed)
+    stood : Stood rack area pool.metaslabs.shards.items pointers x (IsOneOf x.committed r.stands.shared)
     stood = stood_of rack area pool x r
 
     pub named_sealed : Names area pool.uber new.uber group → area.faults (area_of pool.uber) ≤ area.faults (area_of new.uber)
@@ -100,22 +101,25 @@ module _ {R A : Type 0} (rack : racks.Ghosts R) (area : areas.Ghosts A) where
     named_sealed n later commits =
         carried rack area new x (OnUber view (Committed group) ∷ c.holds) reached (Phase x (Chain (groups.Names x.geometry x.perms group) (groups.CommitPhase x.geometry x.perms group)) Went)
         (named_state x group count, record { sees = refl; acts = (count, (let is = r.stands.uber.count in omega (arith, is, later)), refl) }, c.follows)
-        (represents_of rack area new reached own rest)
+        (represents_of rack area new (keep_shared r.stands.shared) reached own rest)
         (refl, inl (OnUber view (Committed group) ∷ [], c.holds, refl, (refl, behind), (c.each, refl)))
       where
-        c : CommitsAll rack area pool.metaslabs.shards.items new.metaslabs.shards.items pointers (named_state x group count) group commits refl refl refl
-        c = commits_all rack area pool.metaslabs.shards.items new.metaslabs.shards.items pointers (named_state x group count) group commits refl refl refl
-            (stood_named rack area pool.metaslabs.shards.items pointers x (λ m y. y.world.committed ≡ x.committed) stood group sealed count (CommittedBelow group 0) behind (λ m y at less. absurd (omega (arith, less))))
+        c : CommitsAll rack area pool.metaslabs.shards.items new.metaslabs.shards.items pointers (named_state x group count) group r.stands.shared commits refl refl refl
+        c = commits_all rack area pool.metaslabs.shards.items new.metaslabs.shards.items pointers (named_state x group count) group r.stands.shared commits refl refl refl
+            (stood_named rack area pool.metaslabs.shards.items pointers x (IsOneOf x.committed r.stands.shared) stood group sealed count (CommittedBelow group r.stands.shared 0) behind
+            (λ m y at. (λ less. absurd (omega (arith, less)), λ from. r.stands.alike m y at)))
 
         reached : State
         reached = record (named_state x group count) { metaslabs = c.metaslabs }
 
-        own : Stood rack area new.metaslabs.shards.items (λ object. get nat_eq new.own.objects object) reached (λ m y. y.world.committed ≡ group)
-        own = subst (λ os. Stood rack area new.metaslabs.shards.items (λ object. get nat_eq os object) (record (named_state x group count) { metaslabs = c.metaslabs }) (λ m y. y.world.committed ≡ group)) (sym objects) c.stood
+        own : Stood rack area new.metaslabs.shards.items (λ object. get nat_eq new.own.objects object) reached (IsOneOf group (keep_shared r.stands.shared))
+        own = subst (λ os. Stood rack area new.metaslabs.shards.items (λ object. get nat_eq os object) (record (named_state x group count) { metaslabs = c.metaslabs }) (IsOneOf group (keep_shared r.stands.shared)))
+            (sym objects) c.stood
 
-        rest : Rest rack area new reached
+        rest : Rest rack area new (keep_shared r.stands.shared) reached
         rest = record {
           geometry = r.stands.geometry ∙ sym geometry;
+          versions = record { kept = r.stands.versions.now; now = r.stands.versions.now };
           next = (let fits = r.stands.groups.next in omega (arith, fits, behind));
           last = r.stands.groups.last;
           seq = r.stands.seq ∙ sym seq;
@@ -126,16 +130,17 @@ module _ {R A : Type 0} (rack : racks.Ghosts R) (area : areas.Ghosts A) where
     -- it is refused
     refused_is : Refuses area pool.uber new.uber group → new.metaslabs.shards.items ≡ pool.metaslabs.shards.items → Represents rack area new (refused_state x count)
     unfolding count
-    refused_is n shards = represents_of rack area new (refused_state x count) own rest
+    refused_is n shards = represents_of rack area new r.stands.shared (refused_state x count) own rest
       where
-        own : Stood rack area new.metaslabs.shards.items (λ object. get nat_eq new.own.objects object) (refused_state x count) (λ m y. y.world.committed ≡ x.committed)
-        own = subst (λ zs. Stood rack area zs (λ object. get nat_eq new.own.objects object) (refused_state x count) (λ m y. y.world.committed ≡ x.committed)) (sym shards)
-            (subst (λ os. Stood rack area pool.metaslabs.shards.items (λ object. get nat_eq os object) (refused_state x count) (λ m y. y.world.committed ≡ x.committed)) (sym objects)
-            (stood_refused rack area pool.metaslabs.shards.items pointers x (λ m y. y.world.committed ≡ x.committed) stood group sealed count behind))
+        own : Stood rack area new.metaslabs.shards.items (λ object. get nat_eq new.own.objects object) (refused_state x count) (IsOneOf x.committed r.stands.shared)
+        own = subst (λ zs. Stood rack area zs (λ object. get nat_eq new.own.objects object) (refused_state x count) (IsOneOf x.committed r.stands.shared)) (sym shards)
+            (subst (λ os. Stood rack area pool.metaslabs.shards.items (λ object. get nat_eq os object) (refused_state x count) (IsOneOf x.committed r.stands.shared)) (sym objects)
+            (stood_refused rack area pool.metaslabs.shards.items pointers x (IsOneOf x.committed r.stands.shared) stood group sealed count behind))
 
-        rest : Rest rack area new (refused_state x count)
+        rest : Rest rack area new r.stands.shared (refused_state x count)
         rest = record {
           geometry = r.stands.geometry ∙ sym geometry;
+          versions = r.stands.versions;
           next = r.stands.groups.next;
           last = r.stands.groups.last;
           seq = r.stands.seq ∙ sym seq;

@@ -1,5 +1,5 @@
 -- What a whole pool has, and that it stays whole as one of its shards is another one of the same metaslab.
-use Rattle.std.proofs.Common.{◌≡◌, ◌==◌, ◌≤◌, ◌+◌, ◌∙◌, inl, inr, cond, ◌⊎◌, ℕ, Bool, true, false, Option, Some, None, arith, refl, sym, ap, subst, slice_index_or, slice_set, length, max, if◌then◌else◌, nat_eq}
+use Rattle.std.proofs.Common.{◌≡◌, ◌==◌, ◌<◌, ◌≤◌, ◌+◌, ◌∙◌, inl, inr, cond, ◌⊎◌, ℕ, Bool, true, false, Option, Some, None, arith, refl, sym, ap, subst, slice_index_or, slice_set, length, max, if◌then◌else◌, nat_eq}
 use Rattle.std.specs.Prelude.{nat_eq, slice_get, option_map, All, cond}
 use Rattle.std.specs.HashMap.{get}
 use Rattle.std.proofs.lemmas.Bool.{cases_eq}
@@ -23,12 +23,14 @@ use Rattle.draid_machine.proofs.Small.{equal, is_equal, key_true, some_injective
 use Rattle.draid_entries.specs.declared.entry.Entry.{Entry}
 use Rattle.draid_entries.specs.Entries.{SameEntries, entry_at, held_in}
 use Rattle.draid_entries.specs.Maps.{held_at, key_of, staged}
+use Rattle.draid_shard.specs.Alike.{KeepsArms}
 use Rattle.draid_shard.specs.Looks.{IsLive}
 use Rattle.draid_shard.specs.Changes.{KeepsBlocks, SetsBlock}
 use Rattle.draid_shard.specs.Fits.{Valid, AreGroups}
 use Rattle.draid_shard.specs.Part.{Part}
 use Rattle.draid_shard.specs.States.{IsIn, part_of}
 use Rattle.draid_shard.specs.declared.shard.Shard.{Shard}
+use Rattle.draid_shard.proofs.Changed.{same_arms}
 use Rattle.draid_shard.proofs.Held.{key_leads}
 use Rattle.draid_shard.proofs.Shown.{state_shown}
 use Rattle.draid_uber.specs.Slots.{group_of}
@@ -37,6 +39,7 @@ use Rattle.draid_uber.specs.Uber.{kept_of}
 use Rattle.draid_pool.specs.Shards.{DropsBlock, HasRoom, StoresBlock}
 use Rattle.draid_pool.specs.Whole.{IsNewer, IsPointer, IsShardOf, IsWhole}
 use Rattle.draid_pool.specs.declared.pool.Pool.{Pool}
+use Rattle.draid_pool.proofs.Arms.{Kept, all_kept, leaf_kept}
 use Rattle.draid_pool.proofs.Lists.{get_set_other, get_set_same, some_of}
 use Rattle.draid_objects.specs.Changes.{Freed}
 use Rattle.std.proofs.lemmas.Bool.Decides.{nat_tests}
@@ -181,6 +184,7 @@ module _ {R A : Type 0} (rack : racks.Ghosts R) (area : areas.Ghosts A) where
     pub valid : Valid rack shard'
     pub part : part_of shard' ≡ part_of shard
     pub committed : shard'.committed ≡ shard.committed
+    pub slots : KeepsArms shard.slots shard'.slots
 
   same_shard : (perms : Perms) (pool new : Pool R A) (k : ℕ) (z : Shard R A) → IsShardOf rack perms pool k z → new.geometry ≡ pool.geometry → new.uber ≡ pool.uber → pool.own.seq ≤ new.own.seq
       → IsShardOf rack perms new k z
@@ -190,6 +194,7 @@ module _ {R A : Type 0} (rack : racks.Ghosts R) (area : areas.Ghosts A) where
     numbered = λ key h there. (let low = is.numbered key h there in omega (arith, low, up));
     settled = is.settled;
     committed = is.committed ∙ ap (λ u. group_of (kept_of u)) (sym uber);
+    leaves = λ leaf own. subst (λ u. leaf < ubers.next_leaf_of u) (sym uber) (is.leaves leaf own);
   }
 
   whole_replaced : (m : ℕ) (pool new : Pool R A) (shard shard' : Shard R A) → IsWhole rack area pool → Replaces m pool new shard shard' → pool.own.seq ≤ new.own.seq → Numbered new.own.seq shard'
@@ -199,6 +204,7 @@ module _ {R A : Type 0} (rack : racks.Ghosts R) (area : areas.Ghosts A) where
     layout = subst (λ g. IsLayout g w.perms) (sym r.geometry) w.layout;
     many = ap (λ zs. length zs) r.sets ∙ (length-set pool.metaslabs.shards.items m shard' ∙ (w.many ∙ ap (λ (g : Geometry). g.props.metaslabs) (sym r.geometry)));
     shards = each;
+    alike = all_kept pool.metaslabs.shards.items new.metaslabs.shards.items kept w.alike;
     uber = subst (ubers.Valid area.size) (sym r.uber) w.uber;
     uber_layout = ap (λ u. ubers.layout_of u) r.uber ∙ (w.uber_layout ∙ sym r.geometry);
     uber_version = ap (λ u. ubers.version_of u) r.uber ∙ (w.uber_version ∙ ap (λ (g : Geometry). g.props.version) (sym r.geometry));
@@ -216,7 +222,21 @@ module _ {R A : Type 0} (rack : racks.Ghosts R) (area : areas.Ghosts A) where
             numbered = n.numbered;
             settled = n.settled;
             committed = r.committed ∙ (was.committed ∙ ap (λ u. group_of (kept_of u)) (sym r.uber));
+            leaves = λ leaf own. subst (λ u. leaf < ubers.next_leaf_of u) (sym r.uber) (was.leaves leaf (leaf_kept shard.slots shard'.slots leaf r.slots own));
           }
+
+      kept : (k : ℕ) (z : Shard R A) → slice_get new.metaslabs.shards.items k ≡ Some z → Kept pool.metaslabs.shards.items k z
+      kept k z there = elim (cases_eq k m) [
+        | inl same ↦
+            let here : shard' ≡ z = some_of (slice_get new.metaslabs.shards.items m) shard' z (ap (λ zs. slice_get zs m) r.sets ∙ get_set_same pool.metaslabs.shards.items m shard shard' r.there)
+            (subst (λ j. slice_get new.metaslabs.shards.items j ≡ Some z) same there) in
+            record { before = shard; there = ap (slice_get pool.metaslabs.shards.items) same ∙ r.there; slots = subst (λ (q : Shard R A). KeepsArms shard.slots q.slots) here r.slots }
+        | inr other ↦ record {
+          before = z;
+          there = sym (get_set_other pool.metaslabs.shards.items m k shard' (λ same. omega (arith, same, other))) ∙ (sym (ap (λ zs. slice_get zs k) r.sets) ∙ there);
+          slots = same_arms z.slots;
+        }
+      ]
 
       each : (k : ℕ) (z : Shard R A) → slice_get new.metaslabs.shards.items k ≡ Some z → IsShardOf rack w.perms new k z
       each k z there = elim (cases_eq k m) [
@@ -364,6 +384,7 @@ module _ {R A : Type 0} (rack : racks.Ghosts R) (area : areas.Ghosts A) where
     layout = subst (λ g. IsLayout g w.perms) (sym geometry) w.layout;
     many = ap (λ zs. length zs) shards ∙ (w.many ∙ ap (λ (g : Geometry). g.props.metaslabs) (sym geometry));
     shards = λ k z there. same_shard w.perms pool new k z (w.shards k z (sym (ap (λ zs. slice_get zs k) shards) ∙ there)) geometry uber (omega (arith, seq));
+    alike = λ m n a b at here. w.alike m n a b (sym (ap (λ zs. slice_get zs m) shards) ∙ at) (sym (ap (λ zs. slice_get zs n) shards) ∙ here);
     uber = subst (ubers.Valid area.size) (sym uber) w.uber;
     uber_layout = ap (λ u. ubers.layout_of u) uber ∙ (w.uber_layout ∙ sym geometry);
     uber_version = ap (λ u. ubers.version_of u) uber ∙ (w.uber_version ∙ ap (λ (g : Geometry). g.props.version) (sym geometry));

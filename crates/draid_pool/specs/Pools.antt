@@ -8,13 +8,12 @@ use Rattle.draid_names.specs.declared.pointer.Pointer.{Pointer}
 use Rattle.draid_machine.specs.declared.names.Held.{Held}
 use Rattle.draid_machine.specs.declared.names.Key.{Key}
 use Rattle.draid_machine.specs.declared.names.Stage.TheVariants.{Live}
-use Rattle.draid_machine.specs.State as machine
 use Rattle.draid_segments.specs.Segments.{Pieces}
 use Rattle.draid_objects.specs.Changes.{Write, write_of}
 use Rattle.draid_shard.specs.Part.{Part}
 use Rattle.draid_shard.specs.declared.shard.Shard.{Shard}
 use Rattle.draid_session.specs.State.{Metaslab, State}
-use Rattle.draid_pool.specs.Importable.{AllAlike}
+use Rattle.draid_pool.specs.Importable.{AllAlike, HasOneVersion, Shared}
 use Rattle.draid_pool.specs.Metaslabs.{IsMetaslab}
 use Rattle.draid_pool.specs.Records.{HasImages, HasLeafNumbers}
 use Rattle.draid_pool.specs.Ubers.{IsUber}
@@ -30,7 +29,7 @@ part_in x m = record { geometry = x.geometry; perms = x.perms; number = m }
 
 -- The pool has one shard for each metaslab of its layout, which stands for it. The metaslabs hold what befell the objects; the table has the pointer of each object
 -- that has bytes; the number of the last write and the floor are the pool's. The uberblock names a group of which each metaslab has the record. All
--- metaslabs have the layout's version, and the same arms.
+-- metaslabs have the layout's version, and the same arms: in the committed group, and now.
 pub record Stands {R A : Type 0} (rack : racks.Ghosts R) (area : areas.Ghosts A) (pool : Pool R A) (table : ℕ → Option Pointer) (x : State) : Type 0 where
   pub geometry : x.geometry ≡ pool.geometry
   pub layout : IsLayout x.geometry x.perms
@@ -47,8 +46,9 @@ pub record Stands {R A : Type 0} (rack : racks.Ghosts R) (area : areas.Ghosts A)
   pub uber : IsUber area pool.uber x
   pub images : HasImages x
   pub leaves : HasLeafNumbers x
-  pub arms : machine.Core
-  pub alike : AllAlike arms x
+  pub shared : Shared
+  pub versions : HasOneVersion x.geometry.props.version shared
+  pub alike : AllAlike shared x
 
 -- and each live block is that of its object's last write
 pub record Represents {R A : Type 0} (rack : racks.Ghosts R) (area : areas.Ghosts A) (pool : Pool R A) (x : State) : Type 0 where

@@ -1,7 +1,7 @@
 //! Groups of a pool: one is closed in all metaslabs and sealed in all, then the uberblock names it, and then it is
 //! committed in all.
 ghost use Rattle.std.specs.Prelude.{◌≡◌, ◌≤◌, ◌+◌, ◌↔◌, true, All, Some, IfOk, IsErrOf, IsTrue, OnOk, length};
-ghost use Rattle.draid_names.specs.declared.numbers.TheConstants.{NUMBERS};
+ghost use Rattle.draid_names.specs.declared.numbers.TheConstants.{LAST_NUMBER, NUMBERS};
 ghost use Rattle.draid_machine.specs.Names.{is_block};
 ghost use Rattle.draid_machine.specs.declared.names.Held.{Held};
 ghost use Rattle.draid_machine.specs.declared.names.Key.{Key};
@@ -15,7 +15,7 @@ ghost use Rattle.draid_session.specs.Phases.{Chain};
 ghost use Rattle.draid_session.specs.State.{Metaslab, State};
 ghost use Rattle.draid_uber.specs.Slots.{group_of};
 ghost use Rattle.draid_uber.specs.Uber.{kept_of};
-ghost use Rattle.draid_pool.specs.Syncing.{ExportDoes, SyncDoes, AreClosing, AreSealed, CloseIs, CommitsBelow, FoundClosing, FoundUnsynced, HasUnsynced, GroupDoes, KeepsCommitted, KeepsTable, Phase, SealDoes, SealIs, Turns, end_of};
+ghost use Rattle.draid_pool.specs.Syncing.{ExportDoes, SyncDoes, AreClosing, AreIdle, AreSealed, CloseIs, CommitsBelow, FoundClosing, FoundUnsynced, HasUnsynced, GroupDoes, KeepsCommitted, KeepsTable, Phase, SealDoes, SealIs, Turns, end_of};
 ghost use Rattle.draid_pool.specs.Carries.{CarriesOut};
 ghost use Rattle.draid_pool.specs.Failing.{AreaRose, AreasLater, RecordsRose};
 ghost use Rattle.draid_pool.specs.Metaslabs.{IsMetaslab};
@@ -43,6 +43,7 @@ fn close_in<R: Rack, A: Area>(shard: &mut Shard<R, A>, group: u64) -> Result<(),
     ensures closing { OnOk result (shard.new.closing ≡ Some group) }
     ensures later { sealing.AreasLater A.faults shard.old shard.new }
     ensures not_shelf { IsErrOf result SyncFault.Shelf → ⊥ }
+    ensures last { IsErrOf result SyncFault.Last → group ≡ LAST_NUMBER }
     ensures closes { (part : Part) (pieces : Pieces) (x : Metaslab) → IsMetaslab R.Rack A.Area part pieces shard.old x
         → Turns R.Rack A.Area part pieces x shard.new (λ hold y. CloseIs part group result hold × KeepsCommitted x.world y.world) }
 {
@@ -68,6 +69,7 @@ fn seal_in<R: Rack, A: Area>(shard: &mut Shard<R, A>, group: u64) -> Result<u64,
     ensures low { IfOk result (λ thin. thin ≤ NUMBERS) }
     ensures later { sealing.AreasLater A.faults shard.old shard.new }
     ensures cause { IsErrOf result SyncFault.Shelf → RecordsRose A.faults shard.old shard.new }
+    ensures not_last { IsErrOf result SyncFault.Last → ⊥ }
     ensures seals { (part : Part) (pieces : Pieces) (x : Metaslab) → IsMetaslab R.Rack A.Area part pieces shard.old x
         → Turns R.Rack A.Area part pieces x shard.new (λ hold y. SealIs part group result hold × KeepsCommitted x.world y.world) }
 {
@@ -135,12 +137,15 @@ impl<R: Rack, A: Area> Pool<R, A> {
     }
 
     /// Commits a group that is closing in a metaslab, if there is one.
-    fn finish(&mut self) -> Result<(), SyncFault>
+    pub fn finish(&mut self) -> Result<(), SyncFault>
         requires whole { IsWhole R.Rack A.Area self.old }
         ensures whole { IsWhole R.Rack A.Area self.new }
         ensures objects { self.new.own.objects ≡ self.old.own.objects }
         ensures later { AreasLater A.faults self.old self.new }
         ensures cause { IsErrOf result SyncFault.Shelf → AreaRose A.faults self.old self.new }
+        // A group that closes has a number below the last.
+        ensures not_last { IsErrOf result SyncFault.Last → ⊥ }
+        ensures idle { OnOk result (AreIdle self.new.metaslabs.shards.items) }
         ensures carries { (x : State) → Represents R.Rack A.Area self.old x
             → CarriesOut R.Rack A.Area self.new x (Phase x (groups.Finishes x.geometry x.perms) (end_of result)) }
     {
@@ -173,6 +178,8 @@ impl<R: Rack, A: Area> Pool<R, A> {
         ensures objects { self.new.own.objects ≡ self.old.own.objects }
         ensures later { AreasLater A.faults self.old self.new }
         ensures cause { IsErrOf result SyncFault.Shelf → AreaRose A.faults self.old self.new }
+        ensures last { IsErrOf result SyncFault.Last → group ≡ LAST_NUMBER }
+        ensures idle { OnOk result (AreIdle self.new.metaslabs.shards.items) }
         ensures carries { (x : State) → Represents R.Rack A.Area self.old x
             → CarriesOut R.Rack A.Area self.new x (GroupDoes x group result) }
     {
@@ -197,6 +204,7 @@ impl<R: Rack, A: Area> Pool<R, A> {
         ensures objects { self.new.own.objects ≡ self.old.own.objects }
         ensures later { AreasLater A.faults self.old self.new }
         ensures cause { IsErrOf result SyncFault.Shelf → AreaRose A.faults self.old self.new }
+        ensures last { IsErrOf result SyncFault.Last → group ≡ LAST_NUMBER }
         ensures carries { (x : State) → Represents R.Rack A.Area self.old x
             → CarriesOut R.Rack A.Area self.new x (Phase x (groups.ClosePhase x.geometry x.perms group) (end_of result)) }
         ensures closing { OnOk result (AreClosing self.new.metaslabs.shards.items group) }
@@ -219,6 +227,7 @@ impl<R: Rack, A: Area> Pool<R, A> {
         ensures objects { self.new.own.objects ≡ self.old.own.objects }
         ensures later { AreasLater A.faults self.old self.new }
         ensures cause { IsErrOf result SyncFault.Shelf → AreaRose A.faults self.old self.new }
+        ensures not_last { IsErrOf result SyncFault.Last → ⊥ }
         ensures carries { (x : State) → Represents R.Rack A.Area self.old x
             → CarriesOut R.Rack A.Area self.new x (SealDoes x group result) }
         ensures sealed { OnOk result (AreSealed self.new.metaslabs.shards.items group) }
@@ -243,6 +252,8 @@ impl<R: Rack, A: Area> Pool<R, A> {
         ensures objects { self.new.own.objects ≡ self.old.own.objects }
         ensures later { AreasLater A.faults self.old self.new }
         ensures cause { IsErrOf result SyncFault.Shelf → AreaRose A.faults self.old self.new }
+        ensures not_last { IsErrOf result SyncFault.Last → ⊥ }
+        ensures idle { OnOk result (AreIdle self.new.metaslabs.shards.items) }
         ensures carries { (x : State) → Represents R.Rack A.Area self.old x
             → CarriesOut R.Rack A.Area self.new x (Phase x
             (Chain (groups.Names x.geometry x.perms group) (groups.CommitPhase x.geometry x.perms group)) (end_of result)) }

@@ -98,14 +98,14 @@ module _ {R A : Type 0} (rack : racks.Ghosts R) (area : areas.Ghosts A) (pool : 
   pub same_arms : ShowSameArms (views_of x)
   same_arms = record {
     order = λ v u c d slot. (has v c).order slot ∙ sym ((has u d).order slot);
-    offline = λ v u c d name a b at there here too. offline_same v.world.core u.world.core is.stands.arms name a b ((has v c).now name) ((has u d).now name) at there here too;
+    offline = λ v u c d name a b at there here too. offline_same v.world.core u.world.core is.stands.shared.arms name a b ((has v c).now name) ((has u d).now name) at there here too;
   }
     where
-      has : (v : View) → Contains (views_of x) v → HasArms is.stands.arms v.world
+      has : (v : View) → Contains (views_of x) v → HasArms is.stands.shared v.world
       has v c =
           let z = found_at (views_of x) v c in
           let s = seen_of 0 z.0 x.metaslabs v z.1 in
-          subst (λ (w : machine.State). HasArms is.stands.arms w) (sym (ap (λ (u : View). u.world) s.2)) (is.stands.alike z.0 s.0 s.1).same
+          subst (λ (w : machine.State). HasArms is.stands.shared w) (sym (ap (λ (u : View). u.world) s.2)) (is.stands.alike z.0 s.0 s.1).same
 
   -- ---- blocks
 

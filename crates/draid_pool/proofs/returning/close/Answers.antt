@@ -20,8 +20,8 @@ returns-then-crash g c =
           let parts = stands_parts g.H.R.Rack g.H.A.Area c.args.pool table x represents.stands in
           let held = holds_pool g.H.R.Rack g.H.A.Area c.args.pool.metaslabs.shards.items content x parts (shelf.told c.args.shelf.now) (shelf.told c.give_back.new.shelf) (shelf.counts c.args.shelf.now) (shelf.counts c.give_back.new.shelf)
           c.give_back.ensures.returns (shelf.told c.give_uber.new.self) (c.give_uber.ensures.told ∙ ap (λ a. gives_uber (g.H.A.Area.told a) (shelf.told c.give_back.new.shelf)) c.into_area.ensures) in
-          let given = importable_back g.H.R.Rack g.H.A.Area c.args.pool.metaslabs.shards.items x represents.stands.pieces represents.stands.shards represents.stands.each (shelf.leaves c.give_uber.new.self) represents.stands.arms represents.stands.alike
-          (λ m y at. (let is = represents.stands.groups.committed m y at in omega (arith, is))) (λ m shard there. c.give_uber.ensures.leaves m ∙ c.give_back.ensures.leaves.own m shard there) content (shelf.told c.args.shelf.now) (shelf.told c.give_back.new.shelf) (shelf.counts c.args.shelf.now)
+          let given = importable_back g.H.R.Rack g.H.A.Area c.args.pool.metaslabs.shards.items x represents.stands.pieces represents.stands.shards represents.stands.each (shelf.leaves c.give_uber.new.self) represents.stands.shared represents.stands.versions
+          represents.stands.alike x.committed (omega arith) represents.stands.groups.committed (λ m shard there. c.give_uber.ensures.leaves m ∙ c.give_back.ensures.leaves.own m shard there) content (shelf.told c.args.shelf.now) (shelf.told c.give_back.new.shelf) (shelf.counts c.args.shelf.now)
           (shelf.counts c.give_back.new.shelf) c.give_back.ensures.returns (shelf.told c.give_uber.new.self) (c.give_uber.ensures.told ∙ ap (λ a. gives_uber (g.H.A.Area.told a) (shelf.told c.give_back.new.shelf)) c.into_area.ensures) in
           record {
             importable = importable_left x (shelf.told c.give_uber.new.self) (shelf.told c.crash.new.self) (shelf.leaves c.give_uber.new.self) (shelf.leaves c.crash.new.self) c.crash.ensures.told c.crash.ensures.leaves given;
@@ -48,8 +48,8 @@ returns g c =
           let held = holds_pool g.H.R.Rack g.H.A.Area c.args.pool.metaslabs.shards.items content x parts (shelf.told c.args.shelf.now) (shelf.told c.give_back.new.shelf) (shelf.counts c.args.shelf.now) (shelf.counts c.give_back.new.shelf)
           c.give_back.ensures.returns (shelf.told c.give_uber.new.self) (c.give_uber.ensures.told ∙ ap (λ a. gives_uber (g.H.A.Area.told a) (shelf.told c.give_back.new.shelf)) c.into_area.ensures) in
           record {
-            importable = importable_back g.H.R.Rack g.H.A.Area c.args.pool.metaslabs.shards.items x represents.stands.pieces represents.stands.shards represents.stands.each (shelf.leaves c.give_uber.new.self) represents.stands.arms
-                represents.stands.alike (λ m y at. (let is = represents.stands.groups.committed m y at in omega (arith, is))) (λ m shard there. c.give_uber.ensures.leaves m ∙ c.give_back.ensures.leaves.own m shard there) content (shelf.told c.args.shelf.now)
+            importable = importable_back g.H.R.Rack g.H.A.Area c.args.pool.metaslabs.shards.items x represents.stands.pieces represents.stands.shards represents.stands.each (shelf.leaves c.give_uber.new.self) represents.stands.shared
+                represents.stands.versions represents.stands.alike x.committed (omega arith) represents.stands.groups.committed (λ m shard there. c.give_uber.ensures.leaves m ∙ c.give_back.ensures.leaves.own m shard there) content (shelf.told c.args.shelf.now)
                 (shelf.told c.give_back.new.shelf) (shelf.counts c.args.shelf.now) (shelf.counts c.give_back.new.shelf) c.give_back.ensures.returns (shelf.told c.give_uber.new.self)
                 (c.give_uber.ensures.told ∙ ap (λ a. gives_uber (g.H.A.Area.told a) (shelf.told c.give_back.new.shelf)) c.into_area.ensures);
             held = pool_uncrashed x c.args.crash (shelf.told c.args.shelf.now) (shelf.told c.give_uber.new.self) c.if-crash.false held;

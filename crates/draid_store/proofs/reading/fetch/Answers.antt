@@ -55,7 +55,7 @@ returns-in-Ok g c =
     let e = c.in-Ok.ensures in
     let new = with_shard old m after in
     let r : Replaces g.R.Rack g.A.Area m old new before after
-    = record { there = at.0; sets = refl; geometry = refl; uber = refl; valid = e.valid; part = e.fetches.does.part; committed = e.fetches.keeps.groups.committed } in
+    = record { there = at.0; sets = refl; geometry = refl; uber = refl; valid = e.valid; part = e.fetches.does.part; committed = e.fetches.keeps.groups.committed; slots = e.fetches.slots } in
     let set = sets_shard g.R.Rack g.A.Area old m before after at.0 in
     record {
       whole = whole_kept g.R.Rack g.A.Area m old new before after w r e.fetches.keeps refl refl (λ q. refl);
@@ -79,7 +79,7 @@ returns-in-Err-Worn g c =
     let worn : FetchIsWorn before (fault.Worn c.in-Err-Worn.field-0-0) = subst (FetchIsWorn before) c.in-Err-Worn.field-0-is e.worn in
     let new = with_shard old m after in
     let r : Replaces g.R.Rack g.A.Area m old new before after
-    = record { there = at.0; sets = refl; geometry = refl; uber = refl; valid = e.valid; part = e.none.none.part; committed = e.none.keeps.groups.committed } in
+    = record { there = at.0; sets = refl; geometry = refl; uber = refl; valid = e.valid; part = e.none.none.part; committed = e.none.keeps.groups.committed; slots = e.none.slots } in
     let set = sets_shard g.R.Rack g.A.Area old m before after at.0 in
     record {
       whole = whole_kept g.R.Rack g.A.Area m old new before after w r e.none.keeps refl refl (λ q. refl);
@@ -102,7 +102,7 @@ returns-in-Err-NoMemory g c =
     let e = c.in-Err-NoMemory.ensures in
     let new = with_shard old m after in
     let r : Replaces g.R.Rack g.A.Area m old new before after
-    = record { there = at.0; sets = refl; geometry = refl; uber = refl; valid = e.valid; part = e.none.none.part; committed = e.none.keeps.groups.committed } in
+    = record { there = at.0; sets = refl; geometry = refl; uber = refl; valid = e.valid; part = e.none.none.part; committed = e.none.keeps.groups.committed; slots = e.none.slots } in
     let set = sets_shard g.R.Rack g.A.Area old m before after at.0 in
     record {
       whole = whole_kept g.R.Rack g.A.Area m old new before after w r e.none.keeps refl refl (λ q. refl);

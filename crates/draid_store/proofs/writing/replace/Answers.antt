@@ -40,7 +40,7 @@ returns-in-Some g c =
     let e = c.free_block-pool.ensures in
     let new : Pool g.row.R.Denot g.row.A.Denot = record old { metaslabs = record { shards = with_item old.metaslabs.shards p.metaslab after }; own = record old.own { objects = c.insert.new.self; floor = group } } in
     let r : Replaces g.R.Rack g.A.Area p.metaslab old new before after
-    = record { there = at.0; sets = refl; geometry = refl; uber = refl; valid = e.valid; part = e.part; committed = e.sets.groups.committed } in
+    = record { there = at.0; sets = refl; geometry = refl; uber = refl; valid = e.valid; part = e.part; committed = e.sets.groups.committed; slots = e.sets.slots } in
     record {
       whole = whole_freed g.R.Rack g.A.Area old new before after p group w r at.1 e.sets e.group refl refl
           (others_beside g.R.Rack g.A.Area old c.args.object c.args.pointer p (λ i. get nat_eq new.own.objects i) w c.requires.newer there (λ i. c.in-Ok.ensures.updates.0 i));

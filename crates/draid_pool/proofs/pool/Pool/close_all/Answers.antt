@@ -59,6 +59,7 @@ returns-in-Err g c =
       later = (let e = c.close_in.ensures in
           areas_on g.A.Area.faults c.args.self.now l.self new i.later (areas_set g.R.Rack g.A.Area l.metaslab l.self new shard after set e.later));
       cause = λ is. absurd (c.in-Err.ensures.not_shelf is);
+      last = λ is. c.in-Err.ensures.last is;
       carries = λ x is. (let e = c.in-Err.ensures in
           let all = i.whole.many in
           close_all_stops g.R.Rack g.A.Area c.args.group l.metaslab l.self new shard after x c.in-Err.fault (i.carries x is) set (omega (arith, below, len, vec, many, all)) e.closes);
@@ -103,6 +104,7 @@ returns g c =
       whole = c.loop-metaslab.invariant.whole;
       later = c.loop-metaslab.invariant.later;
       cause = λ is. absurd (no_refusal is);
+      last = λ is. absurd (no_refusal is);
       carries = λ x is. (let all = i.whole.many in
           let upto = l.auto.metaslab-end in
           close_all_went g.R.Rack g.A.Area c.args.group l.metaslab l.self x (i.carries x is) (omega (arith, end, len, vec, many, all, upto)));

@@ -57,6 +57,7 @@ returns-in-Err g c =
       later = (let e = c.seal_in.ensures in
           areas_on g.A.Area.faults c.args.self.now l.self new i.later (areas_set g.R.Rack g.A.Area l.metaslab l.self new shard after set e.later));
       cause = λ is. rose_then g.A.Area.faults c.args.self.now l.self new i.later (rose_set g.R.Rack g.A.Area l.metaslab l.self new shard after set (c.in-Err.ensures.cause is));
+      not_last = λ is. c.in-Err.ensures.not_last is;
       carries = λ x is. (let e = c.in-Err.ensures in
           let all = i.whole.many in
           seal_all_stops g.R.Rack g.A.Area c.args.group l.metaslab l.thin l.self new shard after x c.in-Err.fault (i.carries x is) set (omega (arith, below, len, vec, many, all)) e.seals);
@@ -116,6 +117,7 @@ returns g c =
       whole = c.loop-metaslab.invariant.whole;
       later = c.loop-metaslab.invariant.later;
       cause = λ is. absurd (no_refusal is);
+      not_last = λ is. no_refusal is;
       carries = λ x is. (let all = i.whole.many in
           let upto = l.auto.metaslab-end in
           seal_all_went g.R.Rack g.A.Area c.args.group l.metaslab l.thin l.self x (i.carries x is) (omega (arith, end, len, vec, many, all, upto)));
