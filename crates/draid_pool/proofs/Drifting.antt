@@ -13,7 +13,8 @@ use Rattle.draid_machine.specs.Names.{is_freed_by}
 use Rattle.draid_machine.proofs.Small.{is_low, low}
 use Rattle.draid_shard.specs.Fits.{Valid}
 use Rattle.draid_shard.specs.declared.shard.Shard.{Shard}
-use Rattle.draid_pool.specs.Drifts.{Drifts, KeepsOf}
+use Rattle.draid_shard.proofs.Changed.{same_arms}
+use Rattle.draid_pool.specs.Drifts.{Drifts, KeepsGroups, KeepsOf}
 use Rattle.draid_pool.proofs.Since.{state_self}
 
 pub keeps_self : (of : ℕ → Bool) (group : ℕ) (t : Entries) → KeepsOf of group t t
@@ -42,13 +43,16 @@ keeps_then of group later a b c less x y = record { each = λ key own. by key (x
 pub keeps_some : (of some : ℕ → Bool) (group : ℕ) (a b : Entries) → ((n : ℕ) → some n ≡ true → of n ≡ true) → KeepsOf of group a b → KeepsOf some group a b
 keeps_some of some group a b inside x = record { each = λ key own. x.each key (inside key.object own) }
 
+pub groups_kept : {R A : Type 0} (shard : Shard R A) → KeepsGroups shard shard
+groups_kept shard = record { groups = record { open_group_is = refl; closing = refl; sealed = refl; committed = refl }; arms = same_arms shard.slots }
+
 -- what no one else holds is as it was
 pub drifts_not : {R A : Type 0} (rack : racks.Ghosts R) (area : areas.Ghosts A) (owns : ℕ → Bool) (shard : Shard R A) → Valid rack shard → Drifts rack area false owns shard shard
 drifts_not rack area owns shard v = record {
   valid = v;
   part = refl;
   later = (omega arith);
-  groups = λ own. record { open_group_is = refl; closing = refl; sealed = refl; committed = refl };
+  groups = λ own. groups_kept shard;
   own = keeps_self owns shard.committed shard.entries;
   state = state_self rack area owns shard;
   still = λ alone. refl;

@@ -14,13 +14,14 @@ use Rattle.draid_entries.specs.declared.entry.Entry.{Entry}
 use Rattle.draid_entries.specs.declared.entries.Entries.{Entries}
 use Rattle.draid_entries.specs.Entries.{SetsEntry, held_in}
 use Rattle.draid_entries.specs.Maps.{held_at, key_of}
-use Rattle.draid_shard.specs.Changes.{SameGroups}
 use Rattle.draid_shard.specs.Fits.{Valid}
 use Rattle.draid_shard.specs.Looks.{IsLive}
 use Rattle.draid_shard.specs.Part.{Part}
 use Rattle.draid_shard.specs.States.{part_of}
 use Rattle.draid_shard.specs.declared.shard.Shard.{Shard}
-use Rattle.draid_pool.specs.Drifts.{Drifts, KeepsOf, groups_number}
+use Rattle.draid_shard.proofs.Changed.{arms_then}
+use Rattle.draid_pool.specs.Drifts.{Drifts, KeepsGroups, KeepsOf, groups_number}
+use Rattle.draid_pool.proofs.Drifting.{groups_kept}
 use Rattle.draid_pool.specs.Threads.{AllStay, HasPointer, IsHeldBy, IsWholeBut, Stays}
 use Rattle.draid_pool.proofs.Lists.{some_of}
 use Rattle.draid_pool.proofs.ShardSteps.{pointer_on}
@@ -88,13 +89,16 @@ module _ {R A : Type 0} (rack : racks.Ghosts R) (mine then_mine : Key → Bool) 
 
 -- ---- all of them
 
-groups_then : {R A : Type 0} (a b c : Shard R A) → SameGroups a b → SameGroups b c → SameGroups a c
-groups_then a b c x y = record { open_group_is = y.open_group_is ∙ x.open_group_is; closing = y.closing ∙ x.closing; sealed = y.sealed ∙ x.sealed; committed = y.committed ∙ x.committed }
+groups_then : {R A : Type 0} (a b c : Shard R A) → KeepsGroups a b → KeepsGroups b c → KeepsGroups a c
+groups_then a b c x y = record {
+  groups = record { open_group_is = y.groups.open_group_is ∙ x.groups.open_group_is; closing = y.groups.closing ∙ x.groups.closing; sealed = y.groups.sealed ∙ x.groups.sealed; committed = y.groups.committed ∙ x.groups.committed };
+  arms = arms_then a.slots b.slots c.slots x.arms y.arms;
+}
 
 module _ {R A : Type 0} (owns : ℕ → Bool) where
   pub stay_same : (last : ℕ → Option (Shard R A)) → AllStay owns last last
   stay_same last = record {
-    each = λ m shard at. (shard, at, record { part = refl; groups = λ own. record { open_group_is = refl; closing = refl; sealed = refl; committed = refl } });
+    each = λ m shard at. (shard, at, record { part = refl; groups = λ own. groups_kept shard });
     absent = λ m at. at;
   }
 
@@ -111,7 +115,7 @@ module _ {R A : Type 0} (owns : ℕ → Bool) where
   together_on last now stay same m n shard other own at there =
       let x = before m shard at in
       let y = before n other there in
-      (y.2.groups own).committed ∙ (same m n x.0 y.0 own x.1 y.1 ∙ sym (x.2.groups own).committed)
+      (y.2.groups own).groups.committed ∙ (same m n x.0 y.0 own x.1 y.1 ∙ sym (x.2.groups own).groups.committed)
     where
       before : (k : ℕ) (s : Shard R A) → now k ≡ Some s → (was : Shard R A) × (last k ≡ Some was) × Stays owns was s
       before k s at_k = by (last k) refl
@@ -122,7 +126,7 @@ module _ {R A : Type 0} (owns : ℕ → Bool) where
 
   -- one hold
   module _ (rack : racks.Ghosts R) (area : areas.Ghosts A) (shared : Bool) (last now : ℕ → Option (Shard R A)) (m : ℕ) (shard before after : Shard R A) (there : last m ≡ Some shard) (drifts : Drifts rack area shared owns shard before)
-      (part : part_of after ≡ part_of before) (groups : SameGroups before after) (is : (k : ℕ) → now k ≡ (if k == m then Some after else last k)) where
+      (part : part_of after ≡ part_of before) (groups : KeepsGroups before after) (is : (k : ℕ) → now k ≡ (if k == m then Some after else last k)) where
     here : now m ≡ Some after
     here = is m ∙ ap (λ b. if b then Some after else last m) (eq-eqb m m refl)
 
@@ -135,7 +139,7 @@ module _ {R A : Type 0} (owns : ℕ → Bool) where
           (λ same.
               let s_is : shard ≡ s = some_of (last m) shard s there (ap last (sym same) ∙ at) in
               (after, ap now same ∙ here, subst (λ c. Stays owns c after) s_is (record { part = part ∙ drifts.part; groups = λ own. groups_then shard before after (drifts.groups own) groups })))
-          (λ not. (s, away k not ∙ at, record { part = refl; groups = λ own. record { open_group_is = refl; closing = refl; sealed = refl; committed = refl } }));
+          (λ not. (s, away k not ∙ at, record { part = refl; groups = λ own. groups_kept s }));
       absent = λ k at. dite (ℕ_discrete k m)
           (λ same. absurd (none_some (last m) shard (ap last (sym same) ∙ at) there))
           (λ not. away k not ∙ at);

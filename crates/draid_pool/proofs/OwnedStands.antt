@@ -40,6 +40,9 @@ use Rattle.draid_pool.specs.Threads.{AllStay, CarriesBy, IsWholeBy, Knows}
 use Rattle.draid_pool.specs.Whole.{IsWhole}
 use Rattle.draid_pool.specs.declared.pool.Pool.{Pool}
 use Rattle.draid_pool.proofs.Alone.{carries_alone}
+use Rattle.draid_shard.specs.Alike.{KeepsArms}
+use Rattle.draid_shard.specs.Fits.{IsLeaf}
+use Rattle.draid_pool.proofs.Arms.{Kept, all_kept, leaf_kept}
 use Rattle.draid_pool.proofs.Imaged.{LeavesImages, alike_stays, image_kept, keeps_same, keeps_then, leaves_kept, step_keeps}
 use Rattle.draid_pool.proofs.Lists.{get_set_other, get_set_same, present, some_of}
 use Rattle.draid_pool.proofs.Moved.{uber_stays}
@@ -164,9 +167,12 @@ module _ {R A : Type 0} (rack : racks.Ghosts R) (area : areas.Ghosts A) where
           part = ap (λ (s : Shard R A). part_of s) (sym same) ∙ (z.2.part ∙ (is.part ∙ ap (λ (g : Geometry). record { geometry = g; perms = w.perms; number = m }) (sym geometry)));
           numbered = λ key h. held.numbered key h refl;
           settled = λ key h. held.settled key h refl;
-          committed = ap (λ (s : Shard R A). s.committed) (sym same) ∙ ((z.2.groups refl).committed ∙ (is.committed ∙ ap (λ u. group_of (kept_of u)) (sym uber)));
+          committed = ap (λ (s : Shard R A). s.committed) (sym same) ∙ ((z.2.groups refl).groups.committed ∙ (is.committed ∙ ap (λ u. group_of (kept_of u)) (sym uber)));
+          leaves = λ leaf own. subst (λ u. leaf < ubers.next_leaf_of u) (sym uber)
+              (is.leaves leaf (leaf_kept was.0.slots z.0.slots leaf (z.2.groups refl).arms (subst (λ (s : Shard R A). IsLeaf s.slots leaf) (sym same) own)));
         }
       );
+      alike = all_kept pool.metaslabs.shards.items new.metaslabs.shards.items kept w.alike;
       uber = subst (λ u. ubers.Valid area.size u) (sym uber) w.uber;
       uber_layout = ap (λ u. ubers.layout_of u) uber ∙ (w.uber_layout ∙ sym geometry);
       uber_version = ap (λ u. ubers.version_of u) uber ∙ (w.uber_version ∙ ap (λ (g : Geometry). g.props.version) (sym geometry));
@@ -175,6 +181,13 @@ module _ {R A : Type 0} (rack : racks.Ghosts R) (area : areas.Ghosts A) where
       low = by.low;
     }
       where
+        kept : (k : ℕ) (s : Shard R A) → slice_get new.metaslabs.shards.items k ≡ Some s → Kept pool.metaslabs.shards.items k s
+        kept k s at =
+            let was = present pool.metaslabs.shards.items k (let inside = slice_get_within new.metaslabs.shards.items k s at in let many = many_left in omega (arith, inside, many)) in
+            let z = stay.each k was.0 was.1 in
+            let same : z.0 ≡ s = some_of (left_in new k) z.0 s z.1 at in
+            record { before = was.0; there = was.1; slots = subst (λ (q : Shard R A). KeepsArms was.0.slots q.slots) same (z.2.groups refl).arms }
+
         floor : new.own.floor ≤ group_of (kept_of new.uber) + 2
         floor =
             let some = w.layout.geometry_is.props.some_metaslabs in
@@ -182,7 +195,7 @@ module _ {R A : Type 0} (rack : racks.Ghosts R) (area : areas.Ghosts A) where
             let was = present pool.metaslabs.shards.items 0 (omega (arith, some, many)) in
             let z = stay.each 0 was.0 was.1 in
             let next = by.next 0 z.0 refl z.1 in
-            let same = (z.2.groups refl).committed in
+            let same = (z.2.groups refl).groups.committed in
             let is = (w.shards 0 was.0 was.1).committed in
             let group = ap (λ u. group_of (kept_of u)) uber in
             omega (arith, next, same, is, group)

@@ -14,7 +14,6 @@ use Rattle.draid_entries.specs.Entries.{held_in}
 use Rattle.draid_objects.specs.Blocks.{Blocks}
 use Rattle.draid_objects.specs.Changes.{Change, Write, object_of, write_of}
 use Rattle.draid_shard.specs.Looks.{IsLive}
-use Rattle.draid_shard.specs.Changes.{SameGroups}
 use Rattle.draid_shard.specs.Fits.{Valid}
 use Rattle.draid_shard.specs.Part.{Part, layout_in}
 use Rattle.draid_shard.specs.States.{part_of}
@@ -24,7 +23,7 @@ use Rattle.draid_pool.specs.Metaslabs.{IsMetaslab}
 use Rattle.draid_pool.specs.Objects.{HoldsObjects, IsLastAt, blocks_of}
 use Rattle.draid_pool.specs.Pools.{part_in}
 use Rattle.draid_pool.specs.Follows.{FollowsBy}
-use Rattle.draid_pool.specs.Drifts.{Since, groups_number}
+use Rattle.draid_pool.specs.Drifts.{KeepsGroups, Since, groups_number}
 use Rattle.draid_shard.specs.declared.shard.Shard.{Shard}
 
 -- ---- what the blocks are of a thread's own objects
@@ -112,10 +111,10 @@ pub record IsWholeBut {R A : Type 0} (rack : racks.Ghosts R) (owns : ℕ → Boo
 abbrev pub IsWholeBy : {R A : Type 0} → racks.Ghosts R → (ℕ → Bool) → (ℕ → Option (Shard R A)) → (ℕ → Option Pointer) → (seq floor : ℕ) → Type 0
 IsWholeBy rack owns last table seq floor = IsWholeBut rack owns (all_of owns) last table seq floor
 
--- a metaslab is the same as before, and so are its groups where they are the thread's own
+-- a metaslab is the same as before, and so are its groups and arms where they are the thread's own
 pub record Stays {R A : Type 0} (owns : ℕ → Bool) (old new : Shard R A) : Type 0 where
   pub part : part_of new ≡ part_of old
-  pub groups : owns groups_number ≡ true → SameGroups old new
+  pub groups : owns groups_number ≡ true → KeepsGroups old new
 
 -- so is each, and none comes or goes
 pub record AllStay {R A : Type 0} (owns : ℕ → Bool) (last now : ℕ → Option (Shard R A)) : Type 0 where

@@ -5,26 +5,20 @@ use Rattle.draid_rack.specs.declared.Rack as racks
 use Rattle.draid_area.specs.declared.Area as areas
 use Rattle.draid_machine.specs.declared.names.Stage.TheVariants as stage
 use Rattle.draid_entries.specs.Maps.{staged}
-use Rattle.draid_shard.specs.Changes.{SameGroups}
 use Rattle.draid_shard.specs.declared.shard.Shard.{Shard}
-use Rattle.draid_pool.specs.Drifts.{KeepsOf, KeepsTo, StateStep, is_other}
+use Rattle.draid_pool.specs.Drifts.{KeepsGroups, KeepsOf, KeepsTo, StateStep, is_other}
 use Rattle.draid_store.specs.Frees.{FreesBlock, FreesShard, IsEarly}
-use Rattle.draid_pool.proofs.Drifting.{keeps_self}
+use Rattle.draid_pool.proofs.Drifting.{groups_kept, keeps_self}
 use Rattle.draid_pool.proofs.ShardSteps.{sets_others, state_goes}
 use Rattle.draid_pool.proofs.Since.{state_self}
 
-pub same_groups : {R A : Type 0} (old new : Shard R A) → new ≡ old → SameGroups old new
-same_groups {R} {A} old new same = record {
-  open_group_is = ap (λ (s : Shard R A). s.open_group) same;
-  closing = ap (λ (s : Shard R A). s.closing) same;
-  sealed = ap (λ (s : Shard R A). s.sealed) same;
-  committed = ap (λ (s : Shard R A). s.committed) same;
-}
+pub same_groups : {R A : Type 0} (old new : Shard R A) → new ≡ old → KeepsGroups old new
+same_groups old new same = subst (KeepsGroups old) (sym same) (groups_kept old)
 
 module _ {R A : Type 0} (rack : racks.Ghosts R) (area : areas.Ghosts A) where
-  pub free_groups : (x y : Shard R A) (p : Pointer) (floor : ℕ) (out : Option ℕ) → FreesShard rack area x p floor out y → SameGroups x y
+  pub free_groups : (x y : Shard R A) (p : Pointer) (floor : ℕ) (out : Option ℕ) → FreesShard rack area x p floor out y → KeepsGroups x y
   free_groups x y p floor None f = same_groups x y f.did.same
-  free_groups x y p floor (Some group) f = f.did.sets.groups
+  free_groups x y p floor (Some group) f = record { groups = f.did.sets.groups; arms = f.did.sets.slots }
 
   pub free_keeps : (x y : Shard R A) (p : Pointer) (floor : ℕ) (out : Option ℕ) → FreesShard rack area x p floor out y → KeepsTo rack area x y (Some p.object)
   free_keeps x y p floor out f = by out f.did
@@ -45,7 +39,7 @@ module _ {R A : Type 0} (rack : racks.Ghosts R) (area : areas.Ghosts A) where
         valid = f.valid;
         part = f.part;
         later = (let same = b.sets.groups.committed in omega (arith, same));
-        groups = λ other. b.sets.groups;
+        groups = λ other. record { groups = b.sets.groups; arms = b.sets.slots };
         others = sets_others y.committed x.entries y.entries p (Some (staged (stage.Freed group) p)) b.sets.entry;
         state = state_goes rack area of x y _ b.frees;
       }

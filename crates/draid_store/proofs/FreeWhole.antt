@@ -14,12 +14,11 @@ use Rattle.draid_machine.proofs.Small.{held_other}
 use Rattle.draid_entries.specs.declared.entry.Entry.{Entry}
 use Rattle.draid_entries.specs.Entries.{held_in}
 use Rattle.draid_entries.specs.Maps.{held_at, key_of, staged}
-use Rattle.draid_shard.specs.Changes.{SameGroups}
 use Rattle.draid_shard.specs.Looks.{IsLive}
 use Rattle.draid_shard.specs.Fits.{Valid}
 use Rattle.draid_shard.specs.declared.shard.Shard.{Shard}
 use Rattle.draid_shard.proofs.Held.{key_leads}
-use Rattle.draid_pool.specs.Drifts.{Drifts, KeepsTo, groups_number, is_other}
+use Rattle.draid_pool.specs.Drifts.{Drifts, KeepsGroups, KeepsTo, groups_number, is_other}
 use Rattle.draid_pool.specs.Threads.{HasPointer, IsHeldBy, IsWholeBy, all_of}
 use Rattle.draid_store.specs.Frees.{FreesBlock, FreesShard, IsEarly, MayFreeIn}
 use Rattle.draid_pool.proofs.HeldBy.{held_drifts, held_set, whole_on}
@@ -37,7 +36,7 @@ module _ {R A : Type 0} (rack : racks.Ghosts R) (area : areas.Ghosts A) (shared 
   }
 
   module _ (new : ℕ → Option (Shard R A)) (table : ℕ → Option Pointer) (has : HasPointer last rack owns object p) (whole : IsWholeBy rack owns last table seq floor) (shard before after : Shard R A) (there : last p.metaslab ≡ Some shard)
-      (drifts : Drifts rack area shared owns shard before) (keeps : KeepsTo rack area before after (Some p.object)) (groups : SameGroups before after) (is : (k : ℕ) → new k ≡ (if k == p.metaslab then Some after else last k)) where
+      (drifts : Drifts rack area shared owns shard before) (keeps : KeepsTo rack area before after (Some p.object)) (groups : KeepsGroups before after) (is : (k : ℕ) → new k ≡ (if k == p.metaslab then Some after else last k)) where
     own_key : all_of owns p.metaslab (key_of p) ≡ true
     own_key = ap owns has.object_is ∙ has.own
 
@@ -49,7 +48,7 @@ module _ {R A : Type 0} (rack : racks.Ghosts R) (area : areas.Ghosts A) (shared 
 
     -- the committed group of the metaslab that was held
     committed : owns groups_number ≡ true → after.committed ≡ shard.committed
-    committed own = groups.committed ∙ (drifts.groups own).committed
+    committed own = groups.groups.committed ∙ (drifts.groups own).groups.committed
 
     whole_then : (table' : ℕ → Option Pointer) (group : ℕ) → IsHeldBy rack (all_of owns p.metaslab) seq after → (owns groups_number ≡ true → group ≤ after.committed + 2) → group ≤ LAST_NUMBER
         → ((q : ℕ) (r : Pointer) → table' q ≡ Some r → HasPointer last rack owns q r × (IsLive before r → IsLive after r)) → IsWholeBy rack owns new table' seq group
@@ -73,7 +72,7 @@ module _ {R A : Type 0} (rack : racks.Ghosts R) (area : areas.Ghosts A) (shared 
             let same = committed own in
             let high = open_low before.open_group before.closing before.committed before.sealed drifts.valid.groups in
             let group_is = fb.group_is in
-            let stays = groups.committed in
+            let stays = groups.groups.committed in
             omega (arith, up, same, high, group_is, stays)) fb.low
         (λ q r r_is. (let h = others q r r_is in
             (h.0, live_key rack before after r drifts.valid keeps.valid keeps.part (fb.sets.entry.held (key_of r) ∙ held_other (held_in before.entries) (key_of p) (key_of r) (option_map held_at freed) h.1))))
@@ -86,7 +85,7 @@ module _ {R A : Type 0} (rack : racks.Ghosts R) (area : areas.Ghosts A) (shared 
     free_served own early =
         let up = whole.next p.metaslab shard own there in
         let high = open_high before.open_group before.closing before.committed before.sealed drifts.valid.groups in
-        let same = (drifts.groups own).committed in
+        let same = (drifts.groups own).groups.committed in
         let late = early.early in
         omega (arith, up, high, same, late)
 
