@@ -7,13 +7,14 @@ use Rattle.draid_spec.specs.declared.layout.Geometry.{Geometry}
 use Rattle.draid_perm.specs.declared.perms.Perms.{Perms}
 use Rattle.draid_objects.specs.Changes.{group_of, object_of}
 use Rattle.draid_objects.proofs.Finding.{kept_all}
-use Rattle.draid_script.specs.Line.{Command, CreatePool, ImportPool, ExportPool, SyncPool, CrashPool, WriteObject, FillObjects, ReadObject, FreeObject, SumObjects, DamageSector, ShowStatus}
+use Rattle.draid_script.specs.Line.{Command, CreatePool, ImportPool, ExportPool, SyncPool, CrashPool, WriteObject, FillObjects, ReadObject, FreeObject, SumObjects, TakeOffline, TakeOnline, DamageSector, AttachSpare, ReplaceDisk, DetachArm, ShowStatus}
 use Rattle.draid_script.specs.declared.line.PoolKeys.{PoolKeys}
 use Rattle.draid_script.specs.declared.name.CommandName.TheVariants as name
 use Rattle.draid_reply.specs.declared.reply.Reply.{Reply}
 use Rattle.draid_reply.specs.declared.reply.Reply.TheVariants.{PoolOpen, NoMemory, Worn, Last, Crashed, Synced, Exported}
 use Rattle.draid_session.specs.Book.{Answers, AnswersBy, Book, BreaksBook, BreaksBy, NamesKept, OpenAnswers, OpenBreaks, closed, doubtful, synced}
 use Rattle.draid_session.specs.Does.{Broken, Does}
+use Rattle.draid_session.specs.Everywhere.{IsOnArms}
 use Rattle.draid_session.specs.Follows.{Follows}
 use Rattle.draid_session.specs.Groups as groups
 use Rattle.draid_session.specs.Holds.{Hold, LookedUber, OnUber, UberView, View}
@@ -24,6 +25,7 @@ use Rattle.draid_session.specs.Phases.{Broke, End, NoneOf, Starved, WasLast, Was
 use Rattle.draid_session.specs.Session.{CarriesOut, Cause, BreaksIn, Desk, Open, OpenTurns, RecordFails, ShelfFails, Shut, desk_behind}
 use Rattle.draid_session.specs.State.{State, Store, Metaslab}
 use Rattle.draid_session.proofs.Answering.{IsOnObjects, objects_answer}
+use Rattle.draid_session.proofs.Arming.{arms_answer, arms_not_crashed, arms_not_exported, detach_breaks, offline_breaks, online_breaks, replace_breaks, spare_breaks}
 use Rattle.draid_session.proofs.Calm.{CalmTo, calm_follows, calm_store, follows_store, looks_calm}
 use Rattle.draid_session.proofs.Changing.{calm_fit, looks_from_calm, calm_under}
 use Rattle.draid_session.proofs.Looked.{follows_split, looks_at}
@@ -75,6 +77,11 @@ module _ (geometry : Geometry) (perms : Perms) (chosen : List Room → Option �
   stays_open command is (Exported group) does state = absurd (not_exported command group is does)
   stays_open command is Crashed does state = absurd (not_crashed command is does)
   stays_open command is reply does state = refl
+
+  arms_stay_open : (command : Command) → IsOnArms command → (reply : Reply) → DoesTo command reply → (state : State) → desk_behind reply state ≡ Open state
+  arms_stay_open command is (Exported group) does state = absurd (arms_not_exported geometry perms chosen old new holds command group is does)
+  arms_stay_open command is Crashed does state = absurd (arms_not_crashed geometry perms chosen old new holds command is does)
+  arms_stay_open command is reply does state = refl
 
 -- the thread has this store
 with_store : (mid new : State) (store : Store) (b : Book) → new ≡ record mid { store = store } → KeepsOpen mid store b → Keeps (Open new) b
@@ -286,6 +293,12 @@ module _ (chosen : List Room → Option ℕ → Type 0) (old : State) (b : Book)
       next_at b command reply (Open state) (desk_behind reply state) (stays_open old.geometry old.perms chosen old.store it.store it.holds command is reply it.does state)
       (open_next command reply (Open state) one.next one.answers (with_store it.mid state it.store one.next it.made one.fits))
 
+  on_arms : (command : Command) (reply : Reply) (state : State) → IsOnArms command → CarriesOut chosen command reply old state → Next b command reply (desk_behind reply state)
+  on_arms command reply state is it =
+      let one = arms_answer chosen old it.mid it.store it.holds b fit it.follows command reply is it.does in
+      next_at b command reply (Open state) (desk_behind reply state) (arms_stay_open old.geometry old.perms chosen old.store it.store it.holds command is reply it.does state)
+      (open_next command reply (Open state) one.next one.answers (with_store it.mid state it.store one.next it.made one.fits))
+
   carries_turns : (command : Command) (reply : Reply) (state : State) → CarriesOut chosen command reply old state → Next b command reply (desk_behind reply state)
   carries_turns (CreatePool text children keys) reply state it = create_turns text children keys reply state it
   carries_turns ImportPool reply state it = import_turns reply state it
@@ -299,6 +312,11 @@ module _ (chosen : List Room → Option ℕ → Type 0) (old : State) (b : Book)
   carries_turns (SumObjects first count) reply state it = on_objects (SumObjects first count) reply state tt it
   carries_turns (DamageSector leaf sector) reply state it = on_objects (DamageSector leaf sector) reply state tt it
   carries_turns (ShowStatus form) reply state it = on_objects (ShowStatus form) reply state tt it
+  carries_turns (TakeOffline leaf) reply state it = on_arms (TakeOffline leaf) reply state tt it
+  carries_turns (TakeOnline leaf) reply state it = on_arms (TakeOnline leaf) reply state tt it
+  carries_turns (AttachSpare slot spare) reply state it = on_arms (AttachSpare slot spare) reply state tt it
+  carries_turns (ReplaceDisk slot sectors) reply state it = on_arms (ReplaceDisk slot sectors) reply state tt it
+  carries_turns (DetachArm arm) reply state it = on_arms (DetachArm arm) reply state tt it
   carries_turns command reply state it = absurd it.does
 
   pub open_turns : (command : Command) (reply : Reply) (new : Desk) → OpenTurns chosen old command reply new → Next b command reply new
@@ -310,8 +328,11 @@ module _ (chosen : List Room → Option ℕ → Type 0) (old : State) (b : Book)
   open_breaks RecordFails command new breaks = absurd breaks
   open_breaks ShelfFails command new (state, is, it) = subst (EndsIn b command) (sym is) (by command it.broken)
     where
+      keeps : (book : Book) → KeepsOpen state old.store book → Keeps (Open state) book
+      keeps book d = subst (λ s. KeepsOpen state s book) (sym (follows_store it.holds old state it.follows)) d
+
       doubts : Doubts state → Keeps (Open state) (doubtful b)
-      doubts d = subst (λ s. KeepsOpen state s (doubtful b)) (sym (follows_store it.holds old state it.follows)) d
+      doubts d = keeps (doubtful b) d
 
       breaks : (command : Command) (book : Book) → OpenBreaks b command book → Keeps (Open state) book → EndsIn b command (Open state)
       breaks command book it keeps = record { book = book; breaks = subst (λ z. BreaksBy z b command book) (sym fit.is_open) it; keeps = keeps }
@@ -319,4 +340,9 @@ module _ (chosen : List Room → Option ℕ → Type 0) (old : State) (b : Book)
       by : (command : Command) → Broken old.geometry old.perms command it.holds → EndsIn b command (Open state)
       by SyncPool s = breaks SyncPool (doubtful b) refl (doubts (sync_doubts it.holds Broke state s it.follows))
       by ExportPool e = breaks ExportPool (doubtful b) refl (doubts (export_doubts it.holds Broke state e it.follows))
+      by (TakeOffline leaf) s = breaks (TakeOffline leaf) b refl (keeps b (offline_breaks chosen old state old.store it.holds b fit it.follows leaf s))
+      by (TakeOnline leaf) s = breaks (TakeOnline leaf) b refl (keeps b (online_breaks chosen old state old.store it.holds b fit it.follows leaf s))
+      by (AttachSpare slot spare) s = breaks (AttachSpare slot spare) b refl (keeps b (spare_breaks chosen old state old.store it.holds b fit it.follows slot spare s))
+      by (ReplaceDisk slot sectors) s = breaks (ReplaceDisk slot sectors) b refl (keeps b (replace_breaks chosen old state old.store it.holds b fit it.follows slot sectors s.0 s.1))
+      by (DetachArm arm) s = breaks (DetachArm arm) (doubtful b) refl (keeps (doubtful b) (detach_breaks chosen old state old.store it.holds b fit it.follows arm s.0 s.1))
       by command s = absurd s

@@ -1,7 +1,9 @@
+pub mod Arms
 pub mod Book
 pub mod Certain
 pub mod Damage
 pub mod Does
+pub mod Everywhere
 pub mod Follows
 pub mod Groups
 pub mod Holds

@@ -9,6 +9,7 @@ ghost use Rattle.draid_reply.specs.declared.reply.Reply.{Reply};
 ghost use Rattle.draid_script.specs.Line.{Command, CrashPool, FreeObject, ImportPool, ReadObject, SyncPool, WriteObject};
 ghost use Rattle.draid_session.specs.Book.{Answers, AnswersAll, Book, BreaksBook, HasHad, blank, closed};
 ghost use Rattle.draid_session.specs.Certain.{AllAnswer, EndsFailed, FailsNoPut, HasPlace, MaySync, ReadsLast, StaysReadable, SyncsNext, WritesOnce};
+ghost use Rattle.draid_session.specs.Everywhere.{ArmsChange, ArmsStay, IsOnArms};
 ghost use Rattle.draid_session.specs.Follows.{Follows};
 ghost use Rattle.draid_session.specs.Holds.{Hold, View, layout_at};
 ghost use Rattle.draid_session.specs.Keeping.{Keeps};
@@ -53,7 +54,15 @@ pub fn idle_pools_are_synced<F: Fn(&[Room]) -> Option<u32>>(chooser: &F)
     ensures { (reply : Reply) (old new : State) → CarriesOut (FnReturnsAt F.Fn chooser.now) SyncPool reply old new → MaySync old → SyncsNext old reply }
 {}
 
-/// Law: a command breaks off on an open pool where the count of an area rose in its last hold.
+/// Law: a command that changes arms does so by one event in each metaslab where its reply says that it is done, and by none
+/// where it was refused; a detachment stands whose sync was refused.
+pub fn arms_change_everywhere_or_nowhere<F: Fn(&[Room]) -> Option<u32>>(chooser: &F)
+    ensures answered { (command : Command) (reply : Reply) (old new : State) → (it : CarriesOut (FnReturnsAt F.Fn chooser.now) command reply old new)
+        → IsOnArms command → ArmsChange old.geometry command reply it.holds }
+    ensures broken { (command : Command) (old new : State) → (it : BreaksOpen command old new) → IsOnArms command → ArmsStay old.geometry command it.holds }
+{}
+
+/// Law: a command breaks off on an open pool where a count rose in its last hold: of an area, or of a rack by itself.
 pub fn broken_commands_end_failed()
     ensures { (command : Command) (old new : State) → (it : BreaksOpen command old new) → EndsFailed it.holds old new }
 {}
