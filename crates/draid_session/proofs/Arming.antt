@@ -14,6 +14,7 @@ use Rattle.draid_reply.specs.declared.reply.Reply.TheVariants.{Crashed, Detached
 use Rattle.draid_script.specs.Line.{AttachSpare, Command, DetachArm, ReplaceDisk, TakeOffline, TakeOnline}
 use Rattle.draid_script.specs.declared.line.ArmArgument.{ArmArgument}
 use Rattle.draid_script.specs.declared.name.CommandName.TheVariants as name
+use Rattle.draid_session.specs.Choices.{Choices}
 use Rattle.draid_session.specs.Arms as arms
 use Rattle.draid_session.specs.Book.{Book, NamesNext, OpenAnswers, doubtful, synced}
 use Rattle.draid_session.specs.Does.{Does}
@@ -179,12 +180,12 @@ module _ (geometry : Geometry) (perms : Perms) where
 
 -- ---- commands
 
-module _ (chosen : List Room → Option ℕ → Type 0) (old mid : State) (store : Store) (holds : List Hold) (b : Book) (fit : KeepsOpen old old.store b) (follows : Follows holds old mid) where
+module _ (choices : Choices) (old mid : State) (store : Store) (holds : List Hold) (b : Book) (fit : KeepsOpen old old.store b) (follows : Follows holds old mid) where
   abbrev Booked : Command → Reply → Type 0
-  Booked command reply = Books chosen old mid store holds b fit follows command reply
+  Booked command reply = Books choices old mid store holds b fit follows command reply
 
   abbrev DoesTo : Command → Reply → Type 0
-  DoesTo command reply = Does old.geometry old.perms chosen content_of command old.store holds reply store
+  DoesTo command reply = Does old.geometry old.perms choices content_of command old.store holds reply store
 
   with_book : (command : Command) (reply : Reply) (next : Book) → store ≡ old.store → OpenAnswers b command reply next → KeepsOpen mid old.store next → Booked command reply
   with_book command reply next same answers fits = record { next = next; answers = answers; fits = subst (λ s. KeepsOpen mid s next) (sym same) fits }
@@ -279,8 +280,8 @@ module _ (chosen : List Room → Option ℕ → Type 0) (old mid : State) (store
   detach_breaks arm group l = (detaches arm group Broke l).stopped (λ is. absurd (cc))
 
 -- a change of arms leaves the pool open
-module _ (geometry : Geometry) (perms : Perms) (chosen : List Room → Option ℕ → Type 0) (old new : Store) (holds : List Hold) where
-  pub arms_not_exported : (command : Command) (group : ℕ) → IsOnArms command → Does geometry perms chosen content_of command old holds (Exported group) new → ⊥
+module _ (geometry : Geometry) (perms : Perms) (choices : Choices) (old new : Store) (holds : List Hold) where
+  pub arms_not_exported : (command : Command) (group : ℕ) → IsOnArms command → Does geometry perms choices content_of command old holds (Exported group) new → ⊥
   arms_not_exported (TakeOffline leaf) group is does = does
   arms_not_exported (TakeOnline leaf) group is does = does
   arms_not_exported (AttachSpare slot spare) group is does = does
@@ -288,7 +289,7 @@ module _ (geometry : Geometry) (perms : Perms) (chosen : List Room → Option �
   arms_not_exported (DetachArm arm) group is does = does
   arms_not_exported command group is does = is
 
-  pub arms_not_crashed : (command : Command) → IsOnArms command → Does geometry perms chosen content_of command old holds Crashed new → ⊥
+  pub arms_not_crashed : (command : Command) → IsOnArms command → Does geometry perms choices content_of command old holds Crashed new → ⊥
   arms_not_crashed (TakeOffline leaf) is does = does
   arms_not_crashed (TakeOnline leaf) is does = does
   arms_not_crashed (AttachSpare slot spare) is does = does

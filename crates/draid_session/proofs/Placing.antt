@@ -14,6 +14,7 @@ use Rattle.draid_reply.specs.declared.reply.Reply.TheVariants.{Detached, DetachL
 use Rattle.draid_script.specs.Line.{AttachSpare, Command, DetachArm, ReplaceDisk, TakeOffline, TakeOnline}
 use Rattle.draid_script.specs.declared.line.ArmArgument.{ArmArgument}
 use Rattle.draid_script.specs.declared.name.CommandName.TheVariants as name
+use Rattle.draid_session.specs.Choices.{Choices}
 use Rattle.draid_session.specs.Arms as arms
 use Rattle.draid_session.specs.Does.{Broken, Does}
 use Rattle.draid_session.specs.Everywhere.{ArmsChange, ArmsStay, Change, Everywhere, IsOnArms, Left, Nowhere, changes_arms, changes_in, one_each}
@@ -274,9 +275,9 @@ module _ (geometry : Geometry) (perms : Perms) where
   replace_change : (slot : ℕ) (sectors : Option ℕ) (leaf : ℕ) → IsChange (event.Attach slot (Leaf leaf)) refl (arms.TakesDisk geometry perms slot sectors leaf)
   replace_change slot sectors leaf = comes_change (event.Attach slot (Leaf leaf)) refl (arms.BreaksDisk geometry perms slot sectors) (arms.AttachesDisk geometry perms slot leaf) (disk_change slot leaf)
 
-  module _ (chosen : List Room → Option ℕ → Type 0) (content : ℕ → ℕ → ℕ → List ℕ) (holds : List Hold) (old new : Store) where
+  module _ (choices : Choices) (content : ℕ → ℕ → ℕ → List ℕ) (holds : List Hold) (old new : Store) where
     abbrev DoesTo : Command → Reply → Type 0
-    DoesTo command reply = Does geometry perms chosen content command old holds reply new
+    DoesTo command reply = Does geometry perms choices content command old holds reply new
 
     offline_answers : (leaf : ℕ) (reply : Reply) → DoesTo (TakeOffline leaf) reply → ArmsChange geometry (TakeOffline leaf) reply holds
     offline_answers leaf (OfflineDone l) d = (offline_change leaf).went holds d.2
@@ -322,10 +323,10 @@ module _ (geometry : Geometry) (perms : Perms) where
     arms_change (DetachArm arm) reply is d = detach_answers arm reply d
     arms_change command reply is d = absurd is
 
-  pub arms_stay : (command : Command) (holds : List Hold) → IsOnArms command → Broken geometry perms command holds → ArmsStay geometry command holds
-  arms_stay (TakeOffline leaf) holds is c = (offline_change leaf).stopped holds Broke c (λ is. absurd (cc))
-  arms_stay (TakeOnline leaf) holds is c = (online_change leaf).stopped holds Broke c (λ is. absurd (cc))
-  arms_stay (AttachSpare slot spare) holds is c = (attach_change slot spare).stopped holds Broke c (λ is. absurd (cc))
-  arms_stay (ReplaceDisk slot sectors) holds is c = (replace_change slot sectors c.0).stopped holds Broke c.1 (λ is. absurd (cc))
-  arms_stay (DetachArm arm) holds is c = (loses arm c.0 holds Broke c.1).1
-  arms_stay command holds is c = absurd is
+  pub arms_stay : (command : Command) (old : Store) (holds : List Hold) (new : Store) → IsOnArms command → Broken geometry perms command old holds new → ArmsStay geometry command holds
+  arms_stay (TakeOffline leaf) old holds new is b = (offline_change leaf).stopped holds Broke b.1 (λ is. absurd (cc))
+  arms_stay (TakeOnline leaf) old holds new is b = (online_change leaf).stopped holds Broke b.1 (λ is. absurd (cc))
+  arms_stay (AttachSpare slot spare) old holds new is b = (attach_change slot spare).stopped holds Broke b.1 (λ is. absurd (cc))
+  arms_stay (ReplaceDisk slot sectors) old holds new is b = (replace_change slot sectors b.1.0).stopped holds Broke b.1.1 (λ is. absurd (cc))
+  arms_stay (DetachArm arm) old holds new is b = (loses arm b.1.0 holds Broke b.1.1).1
+  arms_stay command old holds new is b = absurd is

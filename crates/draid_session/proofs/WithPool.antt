@@ -12,6 +12,7 @@ use Rattle.draid_script.specs.declared.line.PoolKeys.{PoolKeys}
 use Rattle.draid_script.specs.declared.name.CommandName.TheVariants as name
 use Rattle.draid_reply.specs.declared.reply.Reply.{Reply}
 use Rattle.draid_reply.specs.declared.reply.Reply.TheVariants.{PoolOpen, NoMemory, Worn, Last, Crashed, Synced, Exported}
+use Rattle.draid_session.specs.Choices.{Choices}
 use Rattle.draid_session.specs.Book.{Answers, AnswersBy, Book, BreaksBook, BreaksBy, NamesKept, OpenAnswers, OpenBreaks, closed, doubtful, synced}
 use Rattle.draid_session.specs.Does.{Broken, Does}
 use Rattle.draid_session.specs.Everywhere.{IsOnArms}
@@ -49,9 +50,9 @@ pub record EndsIn (b : Book) (command : Command) (new : Desk) : Type 0 where
   pub keeps : Keeps new book
 
 -- a command on objects leaves the pool open
-module _ (geometry : Geometry) (perms : Perms) (chosen : List Room → Option ℕ → Type 0) (old new : Store) (holds : List Hold) where
+module _ (geometry : Geometry) (perms : Perms) (choices : Choices) (old new : Store) (holds : List Hold) where
   abbrev DoesTo : Command → Reply → Type 0
-  DoesTo command reply = Does geometry perms chosen content_of command old holds reply new
+  DoesTo command reply = Does geometry perms choices content_of command old holds reply new
 
   not_exported : (command : Command) (group : ℕ) → IsOnObjects command → DoesTo command (Exported group) → ⊥
   not_exported (WriteObject object bytes) group is does = does
@@ -79,8 +80,8 @@ module _ (geometry : Geometry) (perms : Perms) (chosen : List Room → Option �
   stays_open command is reply does state = refl
 
   arms_stay_open : (command : Command) → IsOnArms command → (reply : Reply) → DoesTo command reply → (state : State) → desk_behind reply state ≡ Open state
-  arms_stay_open command is (Exported group) does state = absurd (arms_not_exported geometry perms chosen old new holds command group is does)
-  arms_stay_open command is Crashed does state = absurd (arms_not_crashed geometry perms chosen old new holds command is does)
+  arms_stay_open command is (Exported group) does state = absurd (arms_not_exported geometry perms choices old new holds command group is does)
+  arms_stay_open command is Crashed does state = absurd (arms_not_crashed geometry perms choices old new holds command is does)
   arms_stay_open command is reply does state = refl
 
 -- the thread has this store
@@ -122,7 +123,7 @@ synced_again x store b f all idle = record {
   floor = f.floor;
 }
 
-module _ (chosen : List Room → Option ℕ → Type 0) (old : State) (b : Book) (fit : KeepsOpen old old.store b) where
+module _ (choices : Choices) (old : State) (b : Book) (fit : KeepsOpen old old.store b) where
   open_next : (command : Command) (reply : Reply) (new : Desk) (book : Book) → OpenAnswers b command reply book → Keeps new book → Next b command reply new
   open_next command reply new book answers keeps =
       record { book = book; answers = subst (λ z. AnswersBy z b command reply book) (sym fit.is_open) answers; keeps = keeps }
@@ -214,7 +215,7 @@ module _ (chosen : List Room → Option ℕ → Type 0) (old : State) (b : Book)
 
   -- ---- each command
 
-  module _ (command : Command) (reply : Reply) (state : State) (it : CarriesOut chosen command reply old state) where
+  module _ (command : Command) (reply : Reply) (state : State) (it : CarriesOut choices command reply old state) where
     -- the store is as it was
     same_store : (book : Book) → it.store ≡ old.store → KeepsOpen it.mid old.store book → Keeps (Open state) book
     same_store book same f = with_store it.mid state it.store book it.made (subst (λ s. KeepsOpen it.mid s book) (sym same) f)
@@ -225,13 +226,13 @@ module _ (chosen : List Room → Option ℕ → Type 0) (old : State) (b : Book)
         let is : it.mid ≡ old = subst (λ hs. Follows hs old it.mid) none it.follows in
         same_store b same (subst (λ (s : State). KeepsOpen s old.store b) (sym is) fit)
 
-  sync_turns : (reply : Reply) (state : State) → CarriesOut chosen SyncPool reply old state → Next b SyncPool reply (desk_behind reply state)
+  sync_turns : (reply : Reply) (state : State) → CarriesOut choices SyncPool reply old state → Next b SyncPool reply (desk_behind reply state)
   sync_turns reply state it = by reply it.does
     where
       doubts : it.store ≡ old.store → Doubts it.mid → Keeps (Open state) (doubtful b)
       doubts same d = same_store SyncPool reply state it (doubtful b) same d
 
-      by : (r : Reply) → Does old.geometry old.perms chosen content_of SyncPool old.store it.holds r it.store → Next b SyncPool r (desk_behind r state)
+      by : (r : Reply) → Does old.geometry old.perms choices content_of SyncPool old.store it.holds r it.store → Next b SyncPool r (desk_behind r state)
       by (Synced group thin) d =
           let s = (syncs_fit old.geometry old.perms group thin it.holds Went old it.mid old.store b d.1 it.follows refl fit).0 refl in
           open_next SyncPool (Synced group thin) (Open state) (synced group b) (s.0, refl) (same_store SyncPool reply state it (synced group b) d.0 s.1)
@@ -243,13 +244,13 @@ module _ (chosen : List Room → Option ℕ → Type 0) (old : State) (b : Book)
       ]))
       by r d = absurd d
 
-  export_turns : (reply : Reply) (state : State) → CarriesOut chosen ExportPool reply old state → Next b ExportPool reply (desk_behind reply state)
+  export_turns : (reply : Reply) (state : State) → CarriesOut choices ExportPool reply old state → Next b ExportPool reply (desk_behind reply state)
   export_turns reply state it = by reply it.does
     where
       doubts : it.store ≡ old.store → Doubts it.mid → Keeps (Open state) (doubtful b)
       doubts same d = same_store ExportPool reply state it (doubtful b) same d
 
-      by : (r : Reply) → Does old.geometry old.perms chosen content_of ExportPool old.store it.holds r it.store → Next b ExportPool r (desk_behind r state)
+      by : (r : Reply) → Does old.geometry old.perms choices content_of ExportPool old.store it.holds r it.store → Next b ExportPool r (desk_behind r state)
       by (Exported group) d =
           let e = (exports group it.holds Went it.mid d.1 it.follows).went refl in
           open_next ExportPool (Exported group) (Shut false state) (closed (synced group b)) (e.0, refl)
@@ -262,44 +263,44 @@ module _ (chosen : List Room → Option ℕ → Type 0) (old : State) (b : Book)
       ]))
       by r d = absurd d
 
-  crash_turns : (reply : Reply) (state : State) → CarriesOut chosen CrashPool reply old state → Next b CrashPool reply (desk_behind reply state)
+  crash_turns : (reply : Reply) (state : State) → CarriesOut choices CrashPool reply old state → Next b CrashPool reply (desk_behind reply state)
   crash_turns reply state it = by reply it.does
     where
-      by : (r : Reply) → Does old.geometry old.perms chosen content_of CrashPool old.store it.holds r it.store → Next b CrashPool r (desk_behind r state)
+      by : (r : Reply) → Does old.geometry old.perms choices content_of CrashPool old.store it.holds r it.store → Next b CrashPool r (desk_behind r state)
       by Crashed d = open_next CrashPool Crashed (Shut true state) (closed b) refl (closed_shut state b (held_none CrashPool reply state it d.0 d.1))
       by r d = absurd d
 
-  create_turns : (text : List ℕ) (children : ℕ) (keys : PoolKeys) (reply : Reply) (state : State) → CarriesOut chosen (CreatePool text children keys) reply old state
+  create_turns : (text : List ℕ) (children : ℕ) (keys : PoolKeys) (reply : Reply) (state : State) → CarriesOut choices (CreatePool text children keys) reply old state
       → Next b (CreatePool text children keys) reply (desk_behind reply state)
   create_turns text children keys reply state it = by reply it.does
     where
-      by : (r : Reply) → Does old.geometry old.perms chosen content_of (CreatePool text children keys) old.store it.holds r it.store
+      by : (r : Reply) → Does old.geometry old.perms choices content_of (CreatePool text children keys) old.store it.holds r it.store
           → Next b (CreatePool text children keys) r (desk_behind r state)
       by (PoolOpen name.Create) d =
           open_next (CreatePool text children keys) (PoolOpen name.Create) (Open state) b refl (held_none (CreatePool text children keys) reply state it d.0 d.1)
       by r d = absurd d
 
-  import_turns : (reply : Reply) (state : State) → CarriesOut chosen ImportPool reply old state → Next b ImportPool reply (desk_behind reply state)
+  import_turns : (reply : Reply) (state : State) → CarriesOut choices ImportPool reply old state → Next b ImportPool reply (desk_behind reply state)
   import_turns reply state it = by reply it.does
     where
-      by : (r : Reply) → Does old.geometry old.perms chosen content_of ImportPool old.store it.holds r it.store → Next b ImportPool r (desk_behind r state)
+      by : (r : Reply) → Does old.geometry old.perms choices content_of ImportPool old.store it.holds r it.store → Next b ImportPool r (desk_behind r state)
       by (PoolOpen name.Import) d = open_next ImportPool (PoolOpen name.Import) (Open state) b refl (held_none ImportPool reply state it d.0 d.1)
       by r d = absurd d
 
-  on_objects : (command : Command) (reply : Reply) (state : State) → IsOnObjects command → CarriesOut chosen command reply old state
+  on_objects : (command : Command) (reply : Reply) (state : State) → IsOnObjects command → CarriesOut choices command reply old state
       → Next b command reply (desk_behind reply state)
   on_objects command reply state is it =
-      let one = objects_answer chosen old it.mid it.store it.holds b fit it.follows old.geometry old.perms command reply is it.does in
-      next_at b command reply (Open state) (desk_behind reply state) (stays_open old.geometry old.perms chosen old.store it.store it.holds command is reply it.does state)
+      let one = objects_answer choices old it.mid it.store it.holds b fit it.follows old.geometry old.perms command reply is it.does in
+      next_at b command reply (Open state) (desk_behind reply state) (stays_open old.geometry old.perms choices old.store it.store it.holds command is reply it.does state)
       (open_next command reply (Open state) one.next one.answers (with_store it.mid state it.store one.next it.made one.fits))
 
-  on_arms : (command : Command) (reply : Reply) (state : State) → IsOnArms command → CarriesOut chosen command reply old state → Next b command reply (desk_behind reply state)
+  on_arms : (command : Command) (reply : Reply) (state : State) → IsOnArms command → CarriesOut choices command reply old state → Next b command reply (desk_behind reply state)
   on_arms command reply state is it =
-      let one = arms_answer chosen old it.mid it.store it.holds b fit it.follows command reply is it.does in
-      next_at b command reply (Open state) (desk_behind reply state) (arms_stay_open old.geometry old.perms chosen old.store it.store it.holds command is reply it.does state)
+      let one = arms_answer choices old it.mid it.store it.holds b fit it.follows command reply is it.does in
+      next_at b command reply (Open state) (desk_behind reply state) (arms_stay_open old.geometry old.perms choices old.store it.store it.holds command is reply it.does state)
       (open_next command reply (Open state) one.next one.answers (with_store it.mid state it.store one.next it.made one.fits))
 
-  carries_turns : (command : Command) (reply : Reply) (state : State) → CarriesOut chosen command reply old state → Next b command reply (desk_behind reply state)
+  carries_turns : (command : Command) (reply : Reply) (state : State) → CarriesOut choices command reply old state → Next b command reply (desk_behind reply state)
   carries_turns (CreatePool text children keys) reply state it = create_turns text children keys reply state it
   carries_turns ImportPool reply state it = import_turns reply state it
   carries_turns ExportPool reply state it = export_turns reply state it
@@ -319,7 +320,7 @@ module _ (chosen : List Room → Option ℕ → Type 0) (old : State) (b : Book)
   carries_turns (DetachArm arm) reply state it = on_arms (DetachArm arm) reply state tt it
   carries_turns command reply state it = absurd it.does
 
-  pub open_turns : (command : Command) (reply : Reply) (new : Desk) → OpenTurns chosen old command reply new → Next b command reply new
+  pub open_turns : (command : Command) (reply : Reply) (new : Desk) → OpenTurns choices old command reply new → Next b command reply new
   open_turns command reply new (state, it, is) = next_at b command reply (desk_behind reply state) new is (carries_turns command reply state it)
 
   -- ---- where a device fails
@@ -328,21 +329,19 @@ module _ (chosen : List Room → Option ℕ → Type 0) (old : State) (b : Book)
   open_breaks RecordFails command new breaks = absurd breaks
   open_breaks ShelfFails command new (state, is, it) = subst (EndsIn b command) (sym is) (by command it.broken)
     where
-      keeps : (book : Book) → KeepsOpen state old.store book → Keeps (Open state) book
-      keeps book d = subst (λ s. KeepsOpen state s book) (sym (follows_store it.holds old state it.follows)) d
+      breaks : (command : Command) (book : Book) → OpenBreaks b command book → it.store ≡ old.store → KeepsOpen it.mid old.store book → EndsIn b command (Open state)
+      breaks command book answers same fits = record {
+        book = book;
+        breaks = subst (λ z. BreaksBy z b command book) (sym fit.is_open) answers;
+        keeps = with_store it.mid state it.store book it.made (subst (λ s. KeepsOpen it.mid s book) (sym same) fits);
+      }
 
-      doubts : Doubts state → Keeps (Open state) (doubtful b)
-      doubts d = keeps (doubtful b) d
-
-      breaks : (command : Command) (book : Book) → OpenBreaks b command book → Keeps (Open state) book → EndsIn b command (Open state)
-      breaks command book it keeps = record { book = book; breaks = subst (λ z. BreaksBy z b command book) (sym fit.is_open) it; keeps = keeps }
-
-      by : (command : Command) → Broken old.geometry old.perms command it.holds → EndsIn b command (Open state)
-      by SyncPool s = breaks SyncPool (doubtful b) refl (doubts (sync_doubts it.holds Broke state s it.follows))
-      by ExportPool e = breaks ExportPool (doubtful b) refl (doubts (export_doubts it.holds Broke state e it.follows))
-      by (TakeOffline leaf) s = breaks (TakeOffline leaf) b refl (keeps b (offline_breaks chosen old state old.store it.holds b fit it.follows leaf s))
-      by (TakeOnline leaf) s = breaks (TakeOnline leaf) b refl (keeps b (online_breaks chosen old state old.store it.holds b fit it.follows leaf s))
-      by (AttachSpare slot spare) s = breaks (AttachSpare slot spare) b refl (keeps b (spare_breaks chosen old state old.store it.holds b fit it.follows slot spare s))
-      by (ReplaceDisk slot sectors) s = breaks (ReplaceDisk slot sectors) b refl (keeps b (replace_breaks chosen old state old.store it.holds b fit it.follows slot sectors s.0 s.1))
-      by (DetachArm arm) s = breaks (DetachArm arm) (doubtful b) refl (keeps (doubtful b) (detach_breaks chosen old state old.store it.holds b fit it.follows arm s.0 s.1))
+      by : (command : Command) → Broken old.geometry old.perms command old.store it.holds it.store → EndsIn b command (Open state)
+      by SyncPool s = breaks SyncPool (doubtful b) refl s.0 (sync_doubts it.holds Broke it.mid s.1 it.follows)
+      by ExportPool e = breaks ExportPool (doubtful b) refl e.0 (export_doubts it.holds Broke it.mid e.1 it.follows)
+      by (TakeOffline leaf) s = breaks (TakeOffline leaf) b refl s.0 (offline_breaks choices old it.mid it.store it.holds b fit it.follows leaf s.1)
+      by (TakeOnline leaf) s = breaks (TakeOnline leaf) b refl s.0 (online_breaks choices old it.mid it.store it.holds b fit it.follows leaf s.1)
+      by (AttachSpare slot spare) s = breaks (AttachSpare slot spare) b refl s.0 (spare_breaks choices old it.mid it.store it.holds b fit it.follows slot spare s.1)
+      by (ReplaceDisk slot sectors) s = breaks (ReplaceDisk slot sectors) b refl s.0 (replace_breaks choices old it.mid it.store it.holds b fit it.follows slot sectors s.1.0 s.1.1)
+      by (DetachArm arm) s = breaks (DetachArm arm) (doubtful b) refl s.0 (detach_breaks choices old it.mid it.store it.holds b fit it.follows arm s.1.0 s.1.1)
       by command s = absurd s

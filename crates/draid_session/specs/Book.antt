@@ -15,6 +15,7 @@ use Rattle.draid_report.specs.Tree.{json_of}
 use Rattle.draid_report.specs.declared.view.View.{View}
 use Rattle.draid_reply.specs.declared.reply.Reply.{Reply}
 use Rattle.draid_reply.specs.declared.reply.Reply.TheVariants.{NoPool, PoolOpen, NoMemory, Worn, Last, Created, CreateRefused, Imported, Exported, Crashed, Synced, Written, NoSpace, Missed, WriteLast, Filled, FillRefused, Contents, NoObject, Unreadable, ReadWorn, Summed, SumRefused, Freed, FreeNoObject, Damaged, DamageRefused, DamageFailed, DamageWorn, OfflineDone, OfflineRefused, OfflineWorn, OnlineDone, OnlineRefused, OnlineWorn, Spared, SpareRefused, SpareWorn, Replaced, ReplaceRefused, ReplaceWorn, Detached, DetachRefused, DetachWorn, DetachLast, Status}
+use Rattle.draid_session.specs.Said.{Said}
 use Rattle.draid_session.specs.Making.{content_of}
 use Rattle.draid_session.specs.Reads.{ReadsAs}
 use Rattle.draid_session.specs.Session.{name_of}
@@ -252,17 +253,17 @@ Answers old command reply new = AnswersBy old.is_open old command reply new
 
 -- ---- lines
 
--- an empty line and a comment have no reply, and every other line has one
-abbrev pub AnswersLine : Result Command LineFault → Book → Option Reply → Book → Type 0
-AnswersLine (Ok Silent) old None new = new ≡ old
-AnswersLine (Ok Silent) old (Some reply) new = ⊥
-AnswersLine (Ok command) old (Some reply) new = Answers old command reply new
-AnswersLine line old reply new = ⊥
+-- an empty line and a comment have no reply, and every other line has one, outside a section
+abbrev pub AnswersLine : Result Command LineFault → Book → List Said → Book → Type 0
+AnswersLine (Ok Silent) old [] new = new ≡ old
+AnswersLine (Ok Silent) old (said ∷ more) new = ⊥
+AnswersLine (Ok command) old (said ∷ []) new = (said.lane ≡ None) × Answers old command said.reply new
+AnswersLine line old saids new = ⊥
 
--- the lines are answered by the replies, one after another
-abbrev pub AnswersAll : Book → List (List ℕ) → List (Option Reply) → Book → Type 0
+-- the lines are answered by the replies to each, one after another
+abbrev pub AnswersAll : Book → List (List ℕ) → List (List Said) → Book → Type 0
 AnswersAll old [] [] new = new ≡ old
-AnswersAll old (line ∷ lines) (reply ∷ replies) new = (mid : Book) × AnswersLine (line_of line) old reply mid × AnswersAll mid lines replies new
+AnswersAll old (line ∷ lines) (saids ∷ replies) new = (mid : Book) × AnswersLine (line_of line) old saids mid × AnswersAll mid lines replies new
 AnswersAll old lines replies new = ⊥
 
 -- ---- the end of a run
@@ -301,7 +302,7 @@ EndsBook None old new = new ≡ old
 EndsBook (Some line) old new = BreaksAtLine (line_of line) old new
 
 -- A run: its lines are answered, it ends behind them or in a line that breaks off, and a pool that is open is given back.
-pub record AnswersRun (old : Book) (lines : List (List ℕ)) (replies : List (Option Reply)) (broken : Option (List ℕ)) (new : Book) : Type 0 where
+pub record AnswersRun (old : Book) (lines : List (List ℕ)) (replies : List (List Said)) (broken : Option (List ℕ)) (new : Book) : Type 0 where
   pub mid : Book
   pub last : Book
   pub answers : AnswersAll old lines replies mid

@@ -1,6 +1,7 @@
 pub mod Arms
 pub mod Book
 pub mod Certain
+pub mod Choices
 pub mod Damage
 pub mod Does
 pub mod Everywhere
@@ -17,6 +18,7 @@ pub mod Phases
 pub mod Reads
 pub mod Replies
 pub mod Rooms
+pub mod Said
 pub mod Session
 pub mod State
 pub mod Status
