@@ -1,5 +1,5 @@
--- On which areas of a pool a call has failed.
-use Rattle.std.specs.Prelude.{◌≡◌, ◌<◌, ◌≤◌, ◌+◌, ◌⊎◌, ℕ, Some, length, slice_get}
+-- On which areas and racks of a pool a call has failed.
+use Rattle.std.specs.Prelude.{◌≡◌, ◌<◌, ◌≤◌, ◌+◌, ◌⊎◌, ℕ, Option, Some, None, length, slice_get}
 use Rattle.draid_names.specs.Faults.{Rose}
 use Rattle.draid_pool.specs.Groups as sealing
 use Rattle.draid_shard.specs.declared.shard.Shard.{Shard}
@@ -10,6 +10,10 @@ use Rattle.draid_pool.specs.declared.pool.Pool.{Pool}
 abbrev pub AreaFails : {R A : Type 0} → (A → ℕ) → Pool R A → Type 0
 AreaFails {R = R} {A = A} faults pool =
     (0 < faults (area_of pool.uber)) ⊎ ((m : ℕ) × (shard : Shard R A) × (slice_get pool.metaslabs.shards.items m ≡ Some shard) × (0 < faults shard.even + faults shard.odd))
+
+-- one has on the rack of a metaslab as a whole
+abbrev pub RackFails : {R A : Type 0} → (R → Option ℕ → ℕ) → Pool R A → Type 0
+RackFails {R = R} {A = A} faults pool = (m : ℕ) × (shard : Shard R A) × (slice_get pool.shards.items m ≡ Some shard) × (0 < faults shard.rack None)
 
 -- No area's count of failed calls falls, neither that of the uberblock nor those of a metaslab's records, and no metaslab comes or goes.
 pub record AreasLater {R A : Type 0} (faults : A → ℕ) (old new : Pool R A) : Type 0 where

@@ -1,8 +1,7 @@
 -- What a line comes to that asks something of the pool that is open.
-use Rattle.std.proofs.Common.{◌≡◌, ℕ, List, Option, Some, None, Result, Ok, Err, ap, refl, sym, subst, Vec, Global}
+use Rattle.std.proofs.Common.{[], ◌≡◌, ℕ, List, Option, Some, None, Result, Ok, Err, ap, refl, sym, subst, Vec, Global}
 use Rattle.draid_rack.specs.declared.Rack as racks
 use Rattle.draid_area.specs.declared.Area as areas
-use Rattle.draid_names.specs.declared.room.Room.{Room}
 use Rattle.draid_script.specs.Line.{Command, CreatePool, ReadObject, FreeObject, SumObjects, DamageSector, ShowStatus, command_in}
 use Rattle.draid_script.specs.declared.line.Line.{Line}
 use Rattle.draid_script.specs.declared.line.Line.TheVariants as variant
@@ -10,6 +9,7 @@ use Rattle.draid_script.specs.declared.line.PoolKeys.{PoolKeys}
 use Rattle.draid_script.specs.declared.line.StatusFormat.{StatusFormat}
 use Rattle.draid_script.specs.declared.name.CommandName.{CommandName}
 use Rattle.draid_reply.specs.declared.reply.Reply.{Reply}
+use Rattle.draid_session.specs.Choices.{Choices}
 use Rattle.draid_session.specs.Holds.{Hold}
 use Rattle.draid_session.specs.Session.{Desk, TurnsBy}
 use Rattle.draid_session.specs.State.{State, Store}
@@ -27,29 +27,29 @@ use Rattle.draid_run.specs.declared.answer.Stop.TheVariants as stop
 use Rattle.draid_run.proofs.Said.{damage_does, free_does, read_does, status_does, sum_does}
 use Rattle.draid_run.proofs.Steps.{by_ask, by_create}
 
-module _ {R A : Type 0} (rack : racks.Ghosts R) (area : areas.Ghosts A) (chosen : List Room → Option ℕ → Type 0) (entry now : OnShelf) (pool : Option (Pool R A)) (x : Desk) (is : IsDesk rack area entry now pool x) (command : Command)
+module _ {R A : Type 0} (rack : racks.Ghosts R) (area : areas.Ghosts A) (choices : Choices) (entry now : OnShelf) (pool : Option (Pool R A)) (x : Desk) (is : IsDesk rack area entry now pool x) (command : Command)
     (unbuilt : asked_in command ≡ None → IsUnbuilt command) (new : Option (Pool R A)) where
-  pub answer_ask : (given : Result Reply Stop) (result : Result (Option Reply) Stop) → IsSaid given result → AskIs rack area chosen command pool x new given
-      → AnswerIs rack area chosen command entry now pool x now new result
+  pub answer_ask : (given : Result Reply Stop) (result : Result (Option Reply) Stop) → IsSaid given result → AskIs rack area choices command pool x new given
+      → AnswerIs rack area choices command entry now pool x now new result
   answer_ask (Ok reply) result said did =
-      subst (AnswerIs rack area chosen command entry now pool x now new) (sym said) (by_ask rack area chosen entry now pool reply command did.0 did.1 x new is did.2)
+      subst (AnswerIs rack area choices command entry now pool x now new) (sym said) (by_ask rack area choices entry now pool reply command did.0 did.1 x new is did.2)
   answer_ask (Err stop.Unbuilt) result said did =
-      subst (AnswerIs rack area chosen command entry now pool x now new) (sym said) (unbuilt did.0, refl, did.1)
+      subst (AnswerIs rack area choices command entry now pool x now new) (sym said) (unbuilt did.0, refl, did.1)
   answer_ask (Err stop.Shelf) result said did = absurd did
   answer_ask (Err (stop.Record metaslab place kind)) result said did = absurd did
 
 -- an empty line, or a comment
-pub turned_silent : {R A : Type 0} (rack : racks.Ghosts R) (area : areas.Ghosts A) (chosen : List Room → Option ℕ → Type 0) (entry now : OnShelf) (pool : Option (Pool R A)) (x : Desk) (line : Line) → line ≡ variant.Nothing
-    → IsDesk rack area entry now pool x → Turned rack area chosen (Ok (command_in line)) entry x None now pool
-turned_silent rack area chosen entry now pool x line is desk = record { new = x; desk = desk; turns = subst (λ l. TurnsBy chosen (MayFind rack area entry) (Ok (command_in l)) x None x) (sym is) refl }
+pub turned_silent : {R A : Type 0} (rack : racks.Ghosts R) (area : areas.Ghosts A) (choices : Choices) (entry now : OnShelf) (pool : Option (Pool R A)) (x : Desk) (line : Line) → line ≡ variant.Nothing
+    → IsDesk rack area entry now pool x → Turned rack area choices (Ok (command_in line)) entry x [] now pool
+turned_silent rack area choices entry now pool x line is desk = record { new = x; desk = desk; turns = subst (λ l. TurnsBy choices (MayFind rack area entry) (Ok (command_in l)) x [] x) (sym is) refl }
 
 -- a pool was to be made
-module _ {R A : Type 0} (rack : racks.Ghosts R) (area : areas.Ghosts A) (chosen : List Room → Option ℕ → Type 0) (entry before now : OnShelf) (pool : Option (Pool R A)) (x : Desk) (new : Option (Pool R A)) (text : List ℕ) (children : ℕ) (keys : PoolKeys) where
+module _ {R A : Type 0} (rack : racks.Ghosts R) (area : areas.Ghosts A) (choices : Choices) (entry before now : OnShelf) (pool : Option (Pool R A)) (x : Desk) (new : Option (Pool R A)) (text : List ℕ) (children : ℕ) (keys : PoolKeys) where
   pub answer_create : (given : Result Reply Stop) (result : Result (Option Reply) Stop) → IsSaid given result → CreateIs rack area text children keys entry before x now new given
-      → AnswerIs rack area chosen (CreatePool text children keys) entry before pool x now new result
+      → AnswerIs rack area choices (CreatePool text children keys) entry before pool x now new result
   answer_create (Ok reply) result said did =
-      subst (AnswerIs rack area chosen (CreatePool text children keys) entry before pool x now new) (sym said) (by_create rack area chosen entry now text children keys x reply new did)
-  answer_create (Err stop.Shelf) result said did = subst (AnswerIs rack area chosen (CreatePool text children keys) entry before pool x now new) (sym said) did
+      subst (AnswerIs rack area choices (CreatePool text children keys) entry before pool x now new) (sym said) (by_create rack area choices entry now text children keys x reply new did)
+  answer_create (Err stop.Shelf) result said did = subst (AnswerIs rack area choices (CreatePool text children keys) entry before pool x now new) (sym said) did
   answer_create (Err stop.Unbuilt) result said did = absurd did
   answer_create (Err (stop.Record metaslab place kind)) result said did = absurd did
 
@@ -137,32 +137,32 @@ is_unbuilt variant.Discard nothing create opens export sync crash none = tt
 
 -- ---- what a pool replies, by the line
 
-module _ {R A : Type 0} (rack : racks.Ghosts R) (area : areas.Ghosts A) (chosen : List Room → Option ℕ → Type 0) (line : Line) (x : State) (pool : Pool R A) (reply : Reply) where
-  replied_by : (command : Command) (says : List Hold → Store → Type 0) → command_in line ≡ command → ((holds : List Hold) (store : Store) → says holds store → ReplyDoes x chosen command reply holds store)
-      → CarriesOut rack area pool x says → CarriesOut rack area pool x (ReplyDoes x chosen (command_in line) reply)
+module _ {R A : Type 0} (rack : racks.Ghosts R) (area : areas.Ghosts A) (choices : Choices) (line : Line) (x : State) (pool : Pool R A) (reply : Reply) where
+  replied_by : (command : Command) (says : List Hold → Store → Type 0) → command_in line ≡ command → ((holds : List Hold) (store : Store) → says holds store → ReplyDoes x choices command reply holds store)
+      → CarriesOut rack area pool x says → CarriesOut rack area pool x (ReplyDoes x choices (command_in line) reply)
   replied_by command says is does c = record {
     holds = c.holds;
     reached = c.reached;
     store = c.store;
     follows = c.follows;
-    done = subst (λ k. ReplyDoes x chosen k reply c.holds c.store) (sym is) (does c.holds c.store c.done);
+    done = subst (λ k. ReplyDoes x choices k reply c.holds c.store) (sym is) (does c.holds c.store c.done);
     represents = c.represents;
   }
 
-  pub replied_as : (command : Command) → command_in line ≡ command → CarriesOut rack area pool x (ReplyDoes x chosen command reply) → CarriesOut rack area pool x (ReplyDoes x chosen (command_in line) reply)
-  replied_as command is = replied_by command (ReplyDoes x chosen command reply) is (λ holds store does. does)
+  pub replied_as : (command : Command) → command_in line ≡ command → CarriesOut rack area pool x (ReplyDoes x choices command reply) → CarriesOut rack area pool x (ReplyDoes x choices (command_in line) reply)
+  replied_as command is = replied_by command (ReplyDoes x choices command reply) is (λ holds store does. does)
 
-  pub replied_read : (o : ℕ) → line ≡ variant.Read o → CarriesOut rack area pool x (ReadSays o reply x) → CarriesOut rack area pool x (ReplyDoes x chosen (command_in line) reply)
-  replied_read o is = replied_by (ReadObject o) (ReadSays o reply x) (ap command_in is) (λ holds store. read_does x chosen reply holds store o)
+  pub replied_read : (o : ℕ) → line ≡ variant.Read o → CarriesOut rack area pool x (ReadSays o reply x) → CarriesOut rack area pool x (ReplyDoes x choices (command_in line) reply)
+  replied_read o is = replied_by (ReadObject o) (ReadSays o reply x) (ap command_in is) (λ holds store. read_does x choices reply holds store o)
 
-  pub replied_free : (o : ℕ) → line ≡ variant.Free o → CarriesOut rack area pool x (FreeSays o reply x) → CarriesOut rack area pool x (ReplyDoes x chosen (command_in line) reply)
-  replied_free o is = replied_by (FreeObject o) (FreeSays o reply x) (ap command_in is) (λ holds store. free_does x chosen reply holds store o)
+  pub replied_free : (o : ℕ) → line ≡ variant.Free o → CarriesOut rack area pool x (FreeSays o reply x) → CarriesOut rack area pool x (ReplyDoes x choices (command_in line) reply)
+  replied_free o is = replied_by (FreeObject o) (FreeSays o reply x) (ap command_in is) (λ holds store. free_does x choices reply holds store o)
 
-  pub replied_sum : (first count : ℕ) → line ≡ variant.Sum first count → CarriesOut rack area pool x (SumSays first count reply x) → CarriesOut rack area pool x (ReplyDoes x chosen (command_in line) reply)
-  replied_sum first count is = replied_by (SumObjects first count) (SumSays first count reply x) (ap command_in is) (λ holds store. sum_does x chosen reply holds store first count)
+  pub replied_sum : (first count : ℕ) → line ≡ variant.Sum first count → CarriesOut rack area pool x (SumSays first count reply x) → CarriesOut rack area pool x (ReplyDoes x choices (command_in line) reply)
+  replied_sum first count is = replied_by (SumObjects first count) (SumSays first count reply x) (ap command_in is) (λ holds store. sum_does x choices reply holds store first count)
 
-  pub replied_damage : (leaf sector : ℕ) → line ≡ variant.Damage leaf sector → CarriesOut rack area pool x (DamageSays leaf sector reply x) → CarriesOut rack area pool x (ReplyDoes x chosen (command_in line) reply)
-  replied_damage leaf sector is = replied_by (DamageSector leaf sector) (DamageSays leaf sector reply x) (ap command_in is) (λ holds store. damage_does x chosen reply holds store leaf sector)
+  pub replied_damage : (leaf sector : ℕ) → line ≡ variant.Damage leaf sector → CarriesOut rack area pool x (DamageSays leaf sector reply x) → CarriesOut rack area pool x (ReplyDoes x choices (command_in line) reply)
+  replied_damage leaf sector is = replied_by (DamageSector leaf sector) (DamageSays leaf sector reply x) (ap command_in is) (λ holds store. damage_does x choices reply holds store leaf sector)
 
-  pub replied_status : (form : StatusFormat) → line ≡ variant.Status form → CarriesOut rack area pool x (StatusSays form reply x) → CarriesOut rack area pool x (ReplyDoes x chosen (command_in line) reply)
-  replied_status form is = replied_by (ShowStatus form) (StatusSays form reply x) (ap command_in is) (λ holds store. status_does x chosen reply holds store form)
+  pub replied_status : (form : StatusFormat) → line ≡ variant.Status form → CarriesOut rack area pool x (StatusSays form reply x) → CarriesOut rack area pool x (ReplyDoes x choices (command_in line) reply)
+  replied_status form is = replied_by (ShowStatus form) (StatusSays form reply x) (ap command_in is) (λ holds store. status_does x choices reply holds store form)

@@ -4,6 +4,7 @@ ghost use Rattle.draid_script.specs.Line.{IsInRange, command_in};
 ghost use Rattle.std.specs.Fn.{FnReturnsAt};
 ghost use Rattle.draid_choose.specs.Rooms.{IsChooser};
 ghost use Rattle.draid_spec.specs.Spec.{IsSpec};
+ghost use Rattle.draid_session.specs.Choices.{choices_by};
 ghost use Rattle.draid_session.specs.Making.{props_of};
 ghost use Rattle.draid_session.specs.Session.{Desk};
 ghost use Rattle.draid_run.specs.Desks.{IsDesk, IsPool, asked_in};
@@ -171,7 +172,7 @@ fn ask<R: Rack, A: Area, F: Fn(&[Room]) -> Option<u32>>(
     requires range { IsInRange (command_in line.now) }
     requires desk { (x : Desk) × IsPool R.Rack A.Area pool.old x }
     ensures did { (x : Desk) → IsPool R.Rack A.Area pool.old x
-        → AskIs R.Rack A.Area (FnReturnsAt F.Fn chooser.now) (command_in line.now) pool.old x pool.new result }
+        → AskIs R.Rack A.Area (choices_by (FnReturnsAt F.Fn chooser.now)) (command_in line.now) pool.old x pool.new result }
 {
     let Some(command) = asked(line) else {
         return Err(Stop::Unbuilt);
@@ -205,7 +206,7 @@ pub(crate) fn answer<H: Shelf, F: Fn(&[Room]) -> Option<u32>>(
     requires range { IsInRange (command_in line.now) }
     requires desk { (x : Desk) × IsPool H.R.Rack H.A.Area pool.old x }
     ensures answer { (entry : OnShelf) (x : Desk) → IsDesk H.R.Rack H.A.Area entry (on_shelf H.Shelf shelf.old) pool.old x
-        → AnswerIs H.R.Rack H.A.Area (FnReturnsAt F.Fn chooser.now) (command_in line.now) entry (on_shelf H.Shelf shelf.old) pool.old x (on_shelf H.Shelf shelf.new) pool.new result }
+        → AnswerIs H.R.Rack H.A.Area (choices_by (FnReturnsAt F.Fn chooser.now)) (command_in line.now) entry (on_shelf H.Shelf shelf.old) pool.old x (on_shelf H.Shelf shelf.new) pool.new result }
     ensures later { H.faults shelf.old ≤ H.faults shelf.new }
 {
     match line {

@@ -3,6 +3,7 @@ ghost use Rattle.std.specs.Prelude.{◌≡◌, None};
 ghost use Rattle.std.specs.Fn.{FnReturnsAt};
 ghost use Rattle.draid_choose.specs.Rooms.{IsChooser};
 ghost use Rattle.draid_script.specs.Line.{DamageSector, FreeObject, IsInRange, ReadObject, ShowStatus, SumObjects, WriteObject, command_in};
+ghost use Rattle.draid_session.specs.Choices.{choices_by};
 ghost use Rattle.draid_session.specs.Replies.{IsReplyTo};
 ghost use Rattle.draid_session.specs.State.{State};
 ghost use Rattle.draid_pool.specs.Carries.{CarriesOut};
@@ -44,7 +45,7 @@ pub(crate) fn reply<R: Rack, A: Area, F: Fn(&[Room]) -> Option<u32>>(
     ensures fits { IsReplyTo (command_in line.now) result }
     ensures knows { Teaches (command_in line.now) result pool.old pool.new }
     ensures step { (x : State) → Represents R.Rack A.Area pool.old x
-        → CarriesOut R.Rack A.Area pool.new x (ReplyDoes x (FnReturnsAt F.Fn chooser.now) (command_in line.now) result) }
+        → CarriesOut R.Rack A.Area pool.new x (ReplyDoes x (choices_by (FnReturnsAt F.Fn chooser.now)) (command_in line.now) result) }
 {
     match line {
         Line::Write { object, bytes } => reply_to_write(pool, chooser, *object, bytes),

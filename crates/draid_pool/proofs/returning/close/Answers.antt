@@ -6,7 +6,7 @@ use Rattle.draid_machine.proofs.Small.{absurd_test}
 use Rattle.draid_shelf.specs.Kits.{gives_uber}
 use Rattle.draid_uber.specs.Uber.{area_of}
 use Rattle.draid_pool.proofs.Returned.{counted_as, holds_pool, pool_crashed, pool_uncrashed, stands_parts}
-use Rattle.draid_pool.proofs.Failing.{shows_there}
+use Rattle.draid_pool.proofs.Failing.{racks_there, shows_there}
 use Rattle.draid_pool.proofs.Importables.{firm_crashed, importable_back, importable_left}
 use Rattle.draid_pool.proofs.Wholes.{few_whole}
 use Rattle.draid_pool.proofs.returning.close.Goals as goal
@@ -34,6 +34,8 @@ returns-then-crash g c =
       failed = shows_there g.H.R.Rack g.H.A.Area c.args.pool (shelf.told c.args.shelf.now) (shelf.told c.give_back.new.shelf) (shelf.counts c.args.shelf.now) (shelf.counts c.give_back.new.shelf) (shelf.counts c.crash.new.self)
           (record { uber = shelf.uber_count c.crash.new.self; checks = shelf.check_counts c.crash.new.self }) c.give_back.ensures.returns
           (λ m. c.crash.ensures.counts m ∙ c.give_uber.ensures.counts m) (c.crash.ensures.uber_count ∙ (c.give_uber.ensures.count ∙ ap g.H.A.Area.faults c.into_area.ensures));
+      racks = racks_there g.H.R.Rack g.H.A.Area c.args.pool (shelf.told c.args.shelf.now) (shelf.told c.give_back.new.shelf) (shelf.counts c.args.shelf.now) (shelf.counts c.give_back.new.shelf) (shelf.counts c.crash.new.self)
+          c.give_back.ensures.returns (λ m. c.crash.ensures.counts m ∙ c.give_uber.ensures.counts m);
       checks = c.crash.ensures.check_counts ∙ (c.give_uber.ensures.check_counts ∙ c.give_back.ensures.checks);
       faults = c.crash.ensures.faults ∙ (c.give_uber.ensures.faults ∙ c.give_back.ensures.faults);
     }
@@ -61,6 +63,8 @@ returns g c =
       failed = shows_there g.H.R.Rack g.H.A.Area c.args.pool (shelf.told c.args.shelf.now) (shelf.told c.give_back.new.shelf) (shelf.counts c.args.shelf.now) (shelf.counts c.give_back.new.shelf) (shelf.counts c.give_uber.new.self)
           (record { uber = shelf.uber_count c.give_uber.new.self; checks = shelf.check_counts c.give_uber.new.self }) c.give_back.ensures.returns
           (λ m. c.give_uber.ensures.counts m) (c.give_uber.ensures.count ∙ ap g.H.A.Area.faults c.into_area.ensures);
+      racks = racks_there g.H.R.Rack g.H.A.Area c.args.pool (shelf.told c.args.shelf.now) (shelf.told c.give_back.new.shelf) (shelf.counts c.args.shelf.now) (shelf.counts c.give_back.new.shelf) (shelf.counts c.give_uber.new.self)
+          c.give_back.ensures.returns (λ m. c.give_uber.ensures.counts m);
       checks = c.give_uber.ensures.check_counts ∙ c.give_back.ensures.checks;
       faults = c.give_uber.ensures.faults ∙ c.give_back.ensures.faults;
     }

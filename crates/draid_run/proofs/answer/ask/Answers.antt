@@ -1,5 +1,6 @@
 use Rattle.std.proofs.Common.{◌∙◌, refl, sym}
 use Rattle.std.specs.Fn.{FnReturnsAt}
+use Rattle.draid_session.specs.Choices.{choices_by}
 use Rattle.draid_script.specs.Line.{command_in}
 use Rattle.draid_run.proofs.Asking.{some_asked}
 use Rattle.draid_run.proofs.Steps.{did_open, did_shut, is_whole}
@@ -13,7 +14,7 @@ returns-in-Some-pool g c = record {
   did = λ x stands. (
     c.in-Some.command,
     sym c.asked.ensures ∙ c.in-Some.is,
-    did_open g.R.Rack g.A.Area (FnReturnsAt g.F.Fn c.args.chooser.now) (command_in c.args.line.now) c.in-Some.command c.reply.result c.args.pool.now c.in-Some-pool.pool c.reply.new.pool c.in-Some-pool.is c.reply.ensures.whole c.reply.ensures.fits c.reply.ensures.knows c.reply.ensures.step x stands,
+    did_open g.R.Rack g.A.Area (choices_by (FnReturnsAt g.F.Fn c.args.chooser.now)) (command_in c.args.line.now) c.in-Some.command c.reply.result c.args.pool.now c.in-Some-pool.pool c.reply.new.pool c.in-Some-pool.is c.reply.ensures.whole c.reply.ensures.fits c.reply.ensures.knows c.reply.ensures.step x stands,
   );
 }
 
@@ -22,7 +23,7 @@ returns-in-None g c = record {
   did = λ x stands. (
     c.in-Some.command,
     sym c.asked.ensures ∙ c.in-Some.is,
-    did_shut g.R.Rack g.A.Area (FnReturnsAt g.F.Fn c.args.chooser.now) (command_in c.args.line.now) c.in-Some.command c.no_pool.result c.args.pool.now c.args.pool.now c.in-None.is c.in-None.is c.no_pool.ensures x stands,
+    did_shut g.R.Rack g.A.Area (choices_by (FnReturnsAt g.F.Fn c.args.chooser.now)) (command_in c.args.line.now) c.in-Some.command c.no_pool.result c.args.pool.now c.args.pool.now c.in-None.is c.in-None.is c.no_pool.ensures x stands,
   );
 }
 
