@@ -9,7 +9,7 @@ ghost use Rattle.draid_shard.specs.Calls.{ActsOn, SameKit};
 ghost use Rattle.draid_shard.specs.Changes.{KeepsBlocks};
 ghost use Rattle.draid_shard.specs.Fits.{Valid};
 ghost use Rattle.draid_shard.specs.States.{Does, IsIn};
-ghost use Rattle.draid_slots.specs.States.{named};
+ghost use Rattle.draid_machine.specs.Names.{named};
 ghost use Rattle.draid_disks.specs.Disks.{HasArmRoom, HasAttached, IsComingRefused, IsNewLeaf, Uses, arm_called};
 ghost use Rattle.draid_disks.specs.Replanning.{MayReplan, attach_events};
 

@@ -8,6 +8,7 @@ use Rattle.draid_entries.specs.declared.entry.Entry.{Entry}
 use Rattle.draid_entries.specs.declared.entries.Entries.{Entries}
 use Rattle.draid_entries.specs.Entries.{entry_at}
 use Rattle.draid_entries.specs.Maps.{key_of}
+use Rattle.draid_record.specs.declared.sizes.TheConstants.{BLOCK_BYTES, SLOT_COUNT_AT}
 use Rattle.draid_slots.specs.Table.{SlotTable, arms_of}
 use Rattle.draid_shard.specs.declared.shard.Shard.{Shard}
 
@@ -50,9 +51,9 @@ unfoldable pub blocks_below : Entries → ℕ → ℕ
 blocks_below t zero = 0
 blocks_below t (suc n) = blocks_below t n + (if is_some (entry_at t n) then 1 else 0)
 
--- where a block stands in the record from which its metaslab was opened: it takes 72 bytes, behind those of lower stripes. A number of 64 bits doesn't go on.
+-- where a block stands in the record from which its metaslab was opened: behind those of lower stripes. A number of 64 bits doesn't go on.
 abbrev pub place_in : {R A : Type 0} → Shard R A → ℕ → ℕ
-place_in shard first = min (shard.blocks_at + 72 * blocks_below shard.entries first) (2 ^ 64 - 1)
+place_in shard first = min (shard.blocks_at + BLOCK_BYTES * blocks_below shard.entries first) (2 ^ 64 - 1)
 
 -- just a block was noted besides
 abbrev pub NotesJust : Pointer → (Key → Bool) → (Key → Bool) → Type 0
@@ -95,7 +96,7 @@ pub record IsNotedTwice {R A : Type 0} (shard : Shard R A) (noted : Key → Bool
 pub record HasOtherArms {R A : Type 0} (shards : List (Shard R A)) (metaslab : Option ℕ) (place kind : ℕ) : Type 0 where
   pub m : ℕ
   pub metaslab_is : metaslab ≡ Some m
-  pub place_is : place ≡ 20
+  pub place_is : place ≡ SLOT_COUNT_AT
   pub kind_is : kind ≡ 4
   pub first : Shard R A
   pub begins : slice_get shards 0 ≡ Some first

@@ -5,7 +5,7 @@ use Rattle.std.specs.HashMap.{get}
 use Rattle.std.proofs.lemmas.Bool.{cases_lt}
 use Rattle.draid_area.specs.Area.{Content, flushes}
 use Rattle.draid_area.specs.declared.Area as areas
-use Rattle.draid_rack.specs.Rack.{Shape, Told}
+use Rattle.draid_rack.specs.Rack.{Shape, Told, OnBothTold}
 use Rattle.draid_rack.specs.declared.Rack as racks
 use Rattle.draid_spec.specs.declared.layout.Geometry.{Geometry}
 use Rattle.draid_spec.specs.Geometry.{metaslab_sectors}
@@ -15,7 +15,6 @@ use Rattle.draid_shelf.specs.Kits.{Held, KitCounts, KitTold, OnHeld, gives_uber,
 use Rattle.draid_stable.specs.Images.{image_by}
 use Rattle.draid_stable.specs.Opening.{has_leaf}
 use Rattle.draid_stable.specs.Stable as stable
-use Rattle.draid_shard.specs.Calls.{OnBothTold}
 use Rattle.draid_shard.specs.Part.{Part}
 use Rattle.draid_shard.specs.declared.shard.Shard.{Shard}
 use Rattle.draid_import.specs.Reopening.{area_of_kit}

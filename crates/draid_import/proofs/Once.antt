@@ -16,7 +16,7 @@ use Rattle.draid_record.specs.Record.{ArmTold, has_arm, is_kind, limit_of, stand
 use Rattle.draid_slots.specs.declared.slot.Detached.{Detached}
 use Rattle.draid_slots.specs.Table.{SlotTable, arm_at, arms_of}
 use Rattle.draid_stable.specs.Opening.{arms_told}
-use Rattle.draid_slots.specs.States.{named}
+use Rattle.draid_machine.specs.Names.{named}
 use Rattle.draid_stable.proofs.Named.{any_got, apart_slots}
 use Rattle.draid_stable.proofs.Opened.{from_map, index_map}
 use Rattle.draid_shard.specs.Fits.{NamesOnce}

@@ -26,7 +26,7 @@ use Rattle.draid_machine.specs.declared.names.Segment.{Segment}
 use Rattle.draid_machine.specs.After.{reopen_state}
 use Rattle.draid_record.specs.Written.{IsRecord}
 use Rattle.draid_stable.specs.Images.{image_by}
-use Rattle.draid_shard.specs.Calls.{OnBothTold}
+use Rattle.draid_rack.specs.Rack.{OnBothTold}
 use Rattle.draid_shard.specs.States.{IsIn, layout_by, stored_in}
 use Rattle.draid_shard.specs.declared.shard.Shard.{Shard}
 

@@ -16,14 +16,14 @@ use Rattle.draid_machine.specs.declared.names.ArmName.{ArmName}
 use Rattle.draid_machine.specs.After.{done_state, each_arm, excise_if, fill_if, map_arm, plan_state, planned_pass}
 use Rattle.draid_machine.specs.Arms as arms
 use Rattle.draid_machine.specs.Arms.{arms_below, is_here, leaf_answers, leaf_at, online, passes}
-use Rattle.draid_machine.specs.Names.{has_name, is_heal, is_leaf, name_eq, up_to}
+use Rattle.draid_machine.specs.Names.{has_name, is_heal, is_leaf, name_eq, up_to, named}
 use Rattle.draid_machine.specs.State as machine
 use Rattle.draid_machine.proofs.Small.{bool_cases, name_refl, name_true, none_some, some_injective, some_same, true_left}
 use Rattle.draid_pass.specs.declared.pass.Pass.{Pass}
 use Rattle.draid_ranges.specs.Runs.{is_between}
 use Rattle.draid_slots.specs.Changes.{new_arm}
 use Rattle.draid_slots.specs.Marks.{is_marked}
-use Rattle.draid_slots.specs.States.{HasSlots, arm_in, name_of, named, names_at, pass_in}
+use Rattle.draid_slots.specs.States.{HasSlots, arm_in, name_of, names_at, pass_in}
 use Rattle.draid_slots.specs.Table.{SlotTable, IsThere, arm_at, arms_of, is_at, is_logged, is_spare_kind}
 use Rattle.draid_plans.specs.Ends.{is_good}
 use Rattle.draid_plans.specs.Layout.{layout_with}

@@ -24,7 +24,8 @@ use Rattle.draid_machine.proofs.Small.{equal, true_left, true_right}
 use Rattle.draid_slots.specs.declared.slot.Detached.{Detached}
 use Rattle.draid_slots.specs.Table.{SlotTable, is_leaf_kind}
 use Rattle.draid_shard.specs.Fits.{IsLeaf}
-use Rattle.draid_slots.specs.States.{HasSlots, named}
+use Rattle.draid_slots.specs.States.{HasSlots}
+use Rattle.draid_machine.specs.Names.{named}
 
 pub keeps_same : (w : machine.State) → KeepsImages w w
 keeps_same w = record { image = refl; sealed = refl; leaves = λ leaf some. some; asked = refl; arms = record { order = λ slot. refl; arms = λ n. refl } }

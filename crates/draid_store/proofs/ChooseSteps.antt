@@ -124,15 +124,12 @@ module _ {R A : Type 0} (rack : racks.Ghosts R) (area : areas.Ghosts A) where
     ];
     run = λ is_open. elim (of.run y.world is.stands.is_in) [
       | inl z ↦ absurd (takes_none part pieces shard y m is z.0 is_open)
-      | inr z ↦ longest_here (layout_by shard) (ap layout_in is.part_is) z.1
+      | inr z ↦ subst (λ (l : machine.Layout). IsLongest l y.world.core room.run) (ap layout_in is.part_is) z.1
     ];
   }
     where
       part : Part
       part = record { geometry = geometry; perms = perms; number = m }
-
-      longest_here : (l : machine.Layout) → l ≡ layout_of geometry perms m → shard_rooms.IsLongest l y.world.core room.run → rooms_of.IsLongest geometry perms (layout_of geometry perms m) y.world.core room.run
-      longest_here l same z = subst (λ k. rooms_of.IsLongest geometry perms k y.world.core room.run) same (record { fits = z.fits; longest = z.longest })
 
   -- so of all, one after another
   rooms_from : (geometry : Geometry) (perms : Perms) (need m : ℕ) (pieces : ℕ → Pieces) (shards : List (Shard R A)) (ys : List Metaslab) (rooms : List Room) → length shards ≡ length ys

@@ -6,6 +6,8 @@
 #![tactic(auto)]
 
 #[cfg(test)]
+mod calls;
+#[cfg(test)]
 mod columns;
 #[cfg(test)]
 mod devices;
@@ -25,5 +27,7 @@ mod segments;
 mod shard;
 #[cfg(test)]
 mod slots;
+#[cfg(test)]
+mod stored;
 #[cfg(test)]
 mod trials;
