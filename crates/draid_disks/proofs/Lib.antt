@@ -7,6 +7,7 @@ mod Left
 mod Marked
 mod Moving
 mod Plain
+mod Refused
 mod Renewed
 mod RenewedOne
 mod Replanned

@@ -140,6 +140,16 @@ pub fn commit<R: Rack, A: Area>(shard: &mut Shard<R, A>)
     }
 }
 
+/// Commits the open group, as far as that goes.
+pub fn sync<R: Rack, A: Area>(shard: &mut Shard<R, A>)
+    requires valid { Valid R.Rack shard.old }
+    ensures valid { Valid R.Rack shard.new }
+{
+    close(shard);
+    let _ = seal(shard);
+    commit(shard);
+}
+
 /// Seals and commits the open group. Whether the longest run of free stripes is seven once it is sealed, and eight once it
 /// is committed.
 fn gives_back<R: Rack, A: Area>(shard: &mut Shard<R, A>) -> bool

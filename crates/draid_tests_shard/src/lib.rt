@@ -12,6 +12,8 @@ mod columns;
 #[cfg(test)]
 mod devices;
 #[cfg(test)]
+mod disks;
+#[cfg(test)]
 mod entries;
 #[cfg(test)]
 mod groups;
