@@ -1,40 +1,33 @@
 -- What a pool stands for behind holds by its only thread that leave groups and arms: from what the thread knows then, and from what the pool stood for.
-use Rattle.std.proofs.Common.{◌≡◌, ◌≤◌, ◌<◌, ◌+◌, ◌∙◌, ◌⊎◌, inl, inr, arith, ℕ, zero, suc, Bool, true, false, List, [], ◌∷◌, Option, Some, None, refl, sym, ap, subst, slice_set, length}
-use Rattle.std.specs.Prelude.{slice_get, nat_eq, nat_lt, if◌then◌else◌, ⊤}
+use Rattle.std.proofs.Common.{◌≡◌, ◌≤◌, ◌+◌, ◌∙◌, inl, inr, arith, ℕ, suc, Bool, true, false, List, [], ◌∷◌, Some, None, refl, sym, ap, subst, slice_set, length}
+use Rattle.std.specs.Prelude.{slice_get, nat_lt, if◌then◌else◌, ⊤}
 use Rattle.std.proofs.lemmas.Bool.{cases_eq}
 use Rattle.std.proofs.lemmas.List.{length-set}
 use Rattle.std.proofs.lemmas.Option.{slice_get_within}
 use Rattle.draid_map.specs.Place.{IsLayout}
 use Rattle.draid_spec.specs.declared.layout.Geometry.{Geometry}
-use Rattle.draid_names.specs.declared.pointer.Pointer.{Pointer}
 use Rattle.draid_rack.specs.declared.Rack as racks
 use Rattle.draid_area.specs.declared.Area as areas
 use Rattle.draid_machine.specs.declared.event.Event.{Event}
 use Rattle.draid_machine.specs.declared.event.Event.TheVariants.{Begin, Put, Finish, Abort, Free, Fetch, Damage, Close}
-use Rattle.draid_machine.specs.declared.names.Key.{Key}
-use Rattle.draid_machine.specs.declared.names.Held.{Held}
-use Rattle.draid_machine.specs.declared.names.Stage.TheVariants.{Live}
 use Rattle.draid_machine.specs.After.{gone_state, live_state}
 use Rattle.draid_machine.specs.State as machine
 use Rattle.draid_machine.specs.Step.{Step}
 use Rattle.draid_machine.proofs.Small.{none_some}
-use Rattle.draid_segments.specs.Segments.{Pieces}
 use Rattle.draid_objects.specs.Changes.{write_of}
 use Rattle.draid_shard.specs.States.{part_of}
 use Rattle.draid_shard.specs.declared.shard.Shard.{Shard}
 use Rattle.draid_layouts.specs.Layout.{layout_of}
-use Rattle.draid_session.specs.Follows.{Acts, Follows, HoldsMetaslab, Rests}
+use Rattle.draid_session.specs.Follows.{Acts, Follows, HoldsMetaslab}
 use Rattle.draid_session.specs.Holds.{Act, AreaFailed, Did, Hold, Looked, MadeLeaf, On, OnUber, RackFailed, Reserved, View}
 use Rattle.draid_session.specs.State.{Metaslab, State, Store}
 use Rattle.draid_uber.specs.Slots.{group_of}
 use Rattle.draid_uber.specs.Uber as ubers
 use Rattle.draid_uber.specs.Uber.{kept_of}
 use Rattle.draid_pool.specs.Carries.{CarriesOut}
-use Rattle.draid_pool.specs.Importable.{IsAlike}
 use Rattle.draid_pool.specs.Metaslabs.{IsMetaslab}
 use Rattle.draid_pool.specs.Objects.{HoldsObjects, IsLastAt, blocks_of}
 use Rattle.draid_pool.specs.Pools.{Represents, Stands, part_in}
-use Rattle.draid_pool.specs.Records.{HasImage, LeavesAreBelow}
 use Rattle.draid_pool.specs.Shards.{KeepsImages}
 use Rattle.draid_pool.specs.Threads.{AllStay, CarriesBy, IsWholeBy, Knows}
 use Rattle.draid_pool.specs.Whole.{IsWhole}
@@ -154,19 +147,19 @@ module _ {R A : Type 0} (rack : racks.Ghosts R) (area : areas.Ghosts A) where
       layout = subst (λ g. IsLayout g w.perms) (sym geometry) w.layout;
       many = many_left ∙ (w.many ∙ ap (λ (g : Geometry). g.props.metaslabs) (sym geometry));
       shards = λ m shard at. (
-        let was = present pool.metaslabs.shards.items m (let inside = slice_get_within new.metaslabs.shards.items m shard at in let many = many_left in omega (arith, inside, many)) in
-        let z = stay.each m was.0 was.1 in
-        let same : z.0 ≡ shard = some_of (left_in new m) z.0 shard z.1 at in
-        let held = by.shards m shard at in
-        let is = w.shards m was.0 was.1 in
-        record {
-          valid = held.valid;
-          part = ap (λ (s : Shard R A). part_of s) (sym same) ∙ (z.2.part ∙ (is.part ∙ ap (λ (g : Geometry). record { geometry = g; perms = w.perms; number = m }) (sym geometry)));
-          numbered = λ key h. held.numbered key h refl;
-          settled = λ key h. held.settled key h refl;
-          committed = ap (λ (s : Shard R A). s.committed) (sym same) ∙ ((z.2.groups refl).committed ∙ (is.committed ∙ ap (λ u. group_of (kept_of u)) (sym uber)));
-        }
-      );
+          let was = present pool.metaslabs.shards.items m (let inside = slice_get_within new.metaslabs.shards.items m shard at in let many = many_left in omega (arith, inside, many)) in
+          let z = stay.each m was.0 was.1 in
+          let same : z.0 ≡ shard = some_of (left_in new m) z.0 shard z.1 at in
+          let held = by.shards m shard at in
+          let is = w.shards m was.0 was.1 in
+          record {
+            valid = held.valid;
+            part = ap (λ (s : Shard R A). part_of s) (sym same) ∙ (z.2.part ∙ (is.part ∙ ap (λ (g : Geometry). record { geometry = g; perms = w.perms; number = m }) (sym geometry)));
+            numbered = λ key h. held.numbered key h refl;
+            settled = λ key h. held.settled key h refl;
+            committed = ap (λ (s : Shard R A). s.committed) (sym same) ∙ ((z.2.groups refl).committed ∙ (is.committed ∙ ap (λ u. group_of (kept_of u)) (sym uber)));
+          }
+          );
       uber = subst (λ u. ubers.Valid area.size u) (sym uber) w.uber;
       uber_layout = ap (λ u. ubers.layout_of u) uber ∙ (w.uber_layout ∙ sym geometry);
       uber_version = ap (λ u. ubers.version_of u) uber ∙ (w.uber_version ∙ ap (λ (g : Geometry). g.props.version) (sym geometry));

@@ -1,5 +1,5 @@
 -- What the answer of a call isn't.
-use Rattle.std.proofs.Common.{◌≡◌, ◌∙◌, ◌⊎◌, inr, ℕ, Bool, true, false, Option, Result, Ok, Err, ap, subst, sym}
+use Rattle.std.proofs.Common.{◌≡◌, ◌∙◌, ◌⊎◌, inr, Bool, true, false, Result, Ok, Err, ap, subst, sym}
 use Rattle.std.specs.Prelude.{IfErr, IfOk, IsErrAnd, IsErrOf, OnErr, OnOk}
 use Rattle.draid_names.specs.declared.fault.DeviceFault.TheVariants as device
 use Rattle.draid_pool.specs.declared.fault.SyncFault.TheVariants as sync
