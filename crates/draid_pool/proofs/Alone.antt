@@ -4,9 +4,8 @@ use Rattle.draid_names.specs.declared.pointer.Pointer.{Pointer}
 use Rattle.draid_rack.specs.declared.Rack as racks
 use Rattle.draid_area.specs.declared.Area as areas
 use Rattle.draid_session.specs.Follows.{Follows, HoldsMetaslab, HoldsUber}
-use Rattle.draid_session.specs.Holds.{Act, Hold, On, OnUber, View, view_of}
+use Rattle.draid_session.specs.Holds.{Act, Hold, On, OnUber, View}
 use Rattle.draid_session.specs.State.{Metaslab, State, Store}
-use Rattle.draid_layouts.specs.Layout.{layout_of}
 use Rattle.draid_pool.specs.Pools.{part_in}
 use Rattle.draid_pool.specs.Follows.{FollowsBy, HeldAt}
 use Rattle.draid_pool.specs.Threads.{Between, CarriesBy}

@@ -1,41 +1,21 @@
 -- What a hold finds of what a thread knew, and where its pointers lead.
-use Rattle.std.proofs.Common.{◌≡◌, ◌≢◌, ◌==◌, ◌&&◌, ◌≤◌, ◌+◌, ◌∙◌, ◌⊎◌, inl, inr, arith, ℕ, zero, suc, Bool, true, false, List, [], ◌∷◌, Option, Some, None, Ok, Err, refl, sym, ap, subst, slice_set, cond, max, if◌then◌else◌, eq-eqb, ne_eqb}
-use mathlib.Core.Logic.{dite}
-use native.Mathlib.Decide.{ℕ_discrete}
-use Rattle.std.specs.Prelude.{slice_get, nat_eq}
+use Rattle.std.proofs.Common.{◌≡◌, ◌≤◌, ◌∙◌, ◌⊎◌, inl, inr, arith, ℕ, zero, suc, Bool, true, false, List, [], ◌∷◌, Option, Some, None, refl, sym, ap, subst, max}
+use Rattle.std.specs.Prelude.{slice_get}
 use Rattle.std.proofs.lemmas.Bool.{true≢false}
-use Rattle.std.proofs.lemmas.Bool.Decides.{nat_tests}
 use Rattle.draid_names.specs.declared.pointer.Pointer.{Pointer}
 use Rattle.draid_rack.specs.declared.Rack as racks
 use Rattle.draid_area.specs.declared.Area as areas
-use Rattle.draid_machine.specs.declared.event.Event.TheVariants as event
 use Rattle.draid_machine.specs.declared.names.Key.{Key}
-use Rattle.draid_machine.specs.declared.names.Held.{Held}
-use Rattle.draid_machine.specs.declared.names.Stage.TheVariants as stage
-use Rattle.draid_machine.specs.Names.{key_eq}
-use Rattle.draid_machine.specs.After.{is_freed_block, set_held}
-use Rattle.draid_machine.proofs.Small.{bool_cases, key_true}
+use Rattle.draid_machine.specs.After.{is_freed_block}
 use Rattle.draid_segments.specs.Segments.{Pieces}
-use Rattle.draid_objects.specs.Blocks.{Sets}
-use Rattle.draid_objects.specs.Changes as changes
-use Rattle.draid_objects.specs.Changes.{Change, Freed, Write, write_of}
-use Rattle.draid_objects.specs.Stores.{IsOnlyLive}
-use Rattle.draid_objects.proofs.Finding.{changes_it, other_changes, write_object}
-use Rattle.draid_objects.proofs.One.{one_set}
-use Rattle.draid_entries.specs.Entries.{held_in}
-use Rattle.draid_entries.specs.Maps.{key_of}
-use Rattle.draid_shard.specs.Looks.{IsLive}
-use Rattle.draid_shard.specs.Fits.{Valid}
+use Rattle.draid_objects.specs.Changes.{Write}
 use Rattle.draid_shard.specs.Part.{Part, layout_in}
 use Rattle.draid_session.specs.Follows.{Acts, CountsRise}
 use Rattle.draid_session.specs.Holds.{Looked}
 use Rattle.draid_session.specs.State.{Counts, Metaslab, State}
 use Rattle.draid_pool.specs.Metaslabs.{IsMetaslab}
-use Rattle.draid_pool.specs.Objects.{HoldsObjects, IsLastAt, blocks_of, worlds_of}
-use Rattle.draid_pool.specs.Pools.{part_in}
-use Rattle.draid_pool.proofs.Lists.{get_set_other, get_set_same, set_twice, some_of}
-use Rattle.draid_pool.proofs.Moved.{blocks_at, moves_one, turn, turn_here, turn_other, with_metaslab}
-use Rattle.draid_pool.specs.Drifts.{Drifts, GoesOn, KeepsOf, Since}
+use Rattle.draid_pool.proofs.Lists.{some_of}
+use Rattle.draid_pool.specs.Drifts.{Drifts, Since}
 use Rattle.draid_pool.specs.Threads.{Bounds, IsPointerAt, PointsAt}
 use Rattle.draid_shard.specs.declared.shard.Shard.{Shard}
 use Rattle.draid_pool.proofs.Since.{since_self}
@@ -123,4 +103,3 @@ counts_same w c = record { rack = (omega arith); even = (omega arith); odd = (om
 
 pub looks : (l : _) (z : Metaslab) → Acts l Looked z z
 looks l z = (record { opened = refl; events = refl; world = refl; harm = refl; counts = counts_same z.world z.counts }, refl)
-

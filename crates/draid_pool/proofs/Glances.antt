@@ -1,12 +1,12 @@
 -- A hold that changed nothing, by what its thread knows of a pool's state.
-use Rattle.std.proofs.Common.{◌≡◌, ◌==◌, ◌≤◌, ◌<◌, ◌+◌, ◌∙◌, ◌⊎◌, arith, ℕ, Bool, List, [], ◌∷◌, Option, Some, None, MatchOption, Result, Ok, Err, refl, sym, ap, subst, if◌then◌else◌}
+use Rattle.std.proofs.Common.{◌≡◌, ◌==◌, ◌∙◌, ℕ, Bool, [], ◌∷◌, Option, Some, refl, sym, ap, subst, if◌then◌else◌}
 use Rattle.std.specs.Prelude.{slice_get}
 use Rattle.draid_names.specs.declared.pointer.Pointer.{Pointer}
 use Rattle.draid_rack.specs.declared.Rack as racks
 use Rattle.draid_area.specs.declared.Area as areas
 use Rattle.draid_machine.specs.declared.names.Key.{Key}
 use Rattle.draid_segments.specs.Segments.{Pieces}
-use Rattle.draid_objects.specs.Changes.{Write, write_of}
+use Rattle.draid_objects.specs.Changes.{write_of}
 use Rattle.draid_objects.proofs.Finding.{write_object}
 use Rattle.draid_entries.specs.Entries.{held_in}
 use Rattle.draid_entries.specs.Maps.{key_of}
@@ -14,14 +14,14 @@ use Rattle.draid_shard.specs.Fits.{Valid}
 use Rattle.draid_shard.specs.Part.{Part, layout_in}
 use Rattle.draid_shard.specs.States.{part_of}
 use Rattle.draid_shard.specs.declared.shard.Shard.{Shard}
-use Rattle.draid_session.specs.Holds.{Hold, Looked, On, view_of}
+use Rattle.draid_session.specs.Holds.{Looked, On, view_of}
 use Rattle.draid_session.specs.Looks.{OnlyLooks}
-use Rattle.draid_session.specs.State.{Metaslab, State, Store}
+use Rattle.draid_session.specs.State.{Metaslab, State}
 use Rattle.draid_pool.specs.Metaslabs.{IsMetaslab}
 use Rattle.draid_pool.specs.Pools.{part_in}
 use Rattle.draid_pool.proofs.Moved.{turn, with_metaslab}
 use Rattle.draid_pool.specs.Drifts.{Drifts}
-use Rattle.draid_pool.specs.Threads.{Between, HoldsOwn, Knows, KnowsBut, LeadsBy, PointsAt, all_of}
+use Rattle.draid_pool.specs.Threads.{Knows, KnowsBut, LeadsBy, all_of}
 use Rattle.draid_pool.proofs.Finds.{Found, found_drops, found_later, looks, points_at_on}
 use Rattle.draid_pool.proofs.HoldStep.{each_on, f, follows, here, live_key, pointer_at_on}
 use Rattle.draid_pool.proofs.Owning.{own_drifts}

@@ -1,5 +1,5 @@
 -- What a thread needs of its metaslabs, as they are held.
-use Rattle.std.proofs.Common.{◌≡◌, ◌==◌, ◌≤◌, ◌+◌, ◌∙◌, ◌⊎◌, inl, inr, arith, ℕ, Bool, true, false, Option, Some, None, refl, sym, ap, subst, option_map, if◌then◌else◌, eq-eqb, ne_eqb}
+use Rattle.std.proofs.Common.{◌≡◌, ◌==◌, ◌≤◌, ◌+◌, ◌∙◌, inl, inr, arith, ℕ, Bool, true, false, Option, Some, None, refl, sym, ap, subst, option_map, if◌then◌else◌, eq-eqb, ne_eqb}
 use mathlib.Core.Logic.{dite}
 use native.Mathlib.Decide.{ℕ_discrete}
 use Rattle.draid_names.specs.declared.numbers.TheConstants.{LAST_NUMBER}
@@ -9,9 +9,8 @@ use Rattle.draid_area.specs.declared.Area as areas
 use Rattle.draid_machine.specs.declared.names.Key.{Key}
 use Rattle.draid_machine.specs.declared.names.Held.{Held}
 use Rattle.draid_machine.specs.Names.{is_block, key_eq}
-use Rattle.draid_machine.proofs.Small.{bool_cases, held_other, key_true, none_some}
+use Rattle.draid_machine.proofs.Small.{bool_cases, key_true, none_some}
 use Rattle.draid_entries.specs.declared.entry.Entry.{Entry}
-use Rattle.draid_entries.specs.declared.entries.Entries.{Entries}
 use Rattle.draid_entries.specs.Entries.{SetsEntry, held_in}
 use Rattle.draid_entries.specs.Maps.{held_at, key_of}
 use Rattle.draid_shard.specs.Fits.{Valid}

@@ -1,10 +1,10 @@
 -- A place that isn't seen: nothing is there, or a block that came there.
-use Rattle.std.proofs.Common.{◌≡◌, ◌==◌, ◌&&◌, ◌+◌, ◌∙◌, ◌⊎◌, inl, inr, arith, ℕ, Bool, true, false, Option, Some, None, refl, sym, ap, subst, if◌then◌else◌}
+use Rattle.std.proofs.Common.{◌≡◌, ◌==◌, ◌&&◌, ◌+◌, ◌∙◌, inl, inr, arith, ℕ, Bool, true, false, Option, Some, None, refl, sym, ap, subst, if◌then◌else◌}
 use Rattle.std.proofs.lemmas.Bool.{true≢false}
 use Rattle.draid_machine.specs.declared.names.Key.{Key}
 use Rattle.draid_machine.specs.declared.names.Held.{Held}
 use Rattle.draid_machine.specs.Names.{key_eq}
-use Rattle.draid_machine.proofs.Small.{bool_cases, both_true, equal, is_equal, key_refl, key_true}
+use Rattle.draid_machine.proofs.Small.{bool_cases, both_true, equal, is_equal, key_true}
 use Rattle.draid_segments.specs.Segments.{Pieces}
 use Rattle.draid_objects.specs.Blocks.{Blocks, Sets}
 use Rattle.draid_session.specs.State.{State}

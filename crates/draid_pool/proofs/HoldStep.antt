@@ -1,8 +1,8 @@
 -- One hold of a metaslab by a thread, by what it knows of a pool's state.
-use Rattle.std.proofs.Common.{◌≡◌, ◌==◌, ◌≤◌, ◌∙◌, ◌⊎◌, inl, inr, arith, ℕ, Bool, true, false, List, [], ◌∷◌, Option, Some, None, refl, sym, ap, subst, slice_set, if◌then◌else◌, eq-eqb, ne_eqb}
+use Rattle.std.proofs.Common.{◌≡◌, ◌==◌, ◌≤◌, ◌∙◌, inl, inr, arith, ℕ, Bool, true, false, [], ◌∷◌, Option, Some, refl, sym, ap, subst, slice_set, if◌then◌else◌}
 use mathlib.Core.Logic.{dite}
 use native.Mathlib.Decide.{ℕ_discrete}
-use Rattle.std.specs.Prelude.{slice_get}
+use Rattle.std.specs.Prelude.{slice_get, option_map}
 use Rattle.draid_names.specs.declared.pointer.Pointer.{Pointer}
 use Rattle.draid_rack.specs.declared.Rack as racks
 use Rattle.draid_area.specs.declared.Area as areas
@@ -26,21 +26,17 @@ use Rattle.draid_shard.specs.States.{part_of}
 use Rattle.draid_shard.specs.declared.shard.Shard.{Shard}
 use Rattle.draid_shard.proofs.Held.{held_entry, key_leads}
 use Rattle.draid_session.specs.Follows.{Acts}
-use Rattle.draid_session.specs.Holds.{Act, Hold, On, view_of}
-use Rattle.draid_session.specs.State.{Metaslab, State, Store}
+use Rattle.draid_session.specs.Holds.{Act, On, view_of}
+use Rattle.draid_session.specs.State.{Metaslab, State}
 use Rattle.draid_pool.specs.Metaslabs.{IsMetaslab}
 use Rattle.draid_pool.specs.Pools.{part_in}
 use Rattle.draid_pool.proofs.Lists.{get_set_other, get_set_same, some_of}
-use Rattle.draid_pool.proofs.Lives.{held_by, live_by}
 use Rattle.draid_pool.proofs.Moved.{turn, turn_here, turn_other, with_metaslab}
-use Rattle.std.specs.Prelude.{option_map}
 use Rattle.draid_pool.specs.Drifts.{Drifts}
-use Rattle.draid_pool.specs.Follows.{FollowsBy, HeldAt}
-use Rattle.draid_pool.specs.Drifts.{Since}
-use Rattle.draid_pool.specs.Threads.{Between, HoldsBut, IsPointerAt, KnowsBut, PointsAt, all_of, but}
+use Rattle.draid_pool.specs.Follows.{FollowsBy}
+use Rattle.draid_pool.specs.Threads.{Between, IsPointerAt, KnowsBut, PointsAt}
 use Rattle.draid_pool.proofs.ShardSteps.{at_here, at_other, live_before, same_entry}
 use Rattle.draid_pool.proofs.Finds.{Found, found, found_drops, found_later, points_at_on}
-use Rattle.draid_pool.proofs.Hiding.{but_here, but_inside}
 use Rattle.draid_pool.proofs.Owning.{StaysAt, but_drifts}
 
 -- a block that is held as it was is live as it was
@@ -70,37 +66,35 @@ module _ {R A S : Type 0} (rack : racks.Ghosts R) (area : areas.Ghosts A) (went 
       → (y : Metaslab) × (slice_get (slice_set x.metaslabs m r) k ≡ Some y) × IsMetaslab rack area (part_in x k) (turn m now pieces k) c y
   each_on r now it k c at_k = dite (ℕ_discrete k m)
       (λ same.
-          let c_is : after ≡ c = some_of (new m) after c (at_here rack area shared owns last new m shard before after there drifts valid after_valid is) (ap new (sym same) ∙ at_k) in
-          (
-            r,
-            ap (slice_get (slice_set x.metaslabs m r)) same ∙ get_set_same x.metaslabs m here.0 r here.1,
-            subst (λ j. IsMetaslab rack area (part_in x j) (turn m now pieces j) c r) (sym same)
+      let c_is : after ≡ c = some_of (new m) after c (at_here rack area shared owns last new m shard before after there drifts valid after_valid is) (ap new (sym same) ∙ at_k) in (
+        r,
+        ap (slice_get (slice_set x.metaslabs m r)) same ∙ get_set_same x.metaslabs m here.0 r here.1,
+        subst (λ j. IsMetaslab rack area (part_in x j) (turn m now pieces j) c r) (sym same)
             (subst (λ (d : Shard R A). IsMetaslab rack area (part_in x m) (turn m now pieces m) d r) c_is (subst (λ q. IsMetaslab rack area (part_in x m) q after r) (sym (turn_here m now pieces)) it)),
-          ))
+      ))
       (λ not.
-          let z = knows.each k c (sym (at_other rack area shared owns last new m shard before after there drifts valid after_valid is k not) ∙ at_k) in
-          (
-            z.0,
-            get_set_other x.metaslabs m k r not ∙ z.1,
-            subst (λ q. IsMetaslab rack area (part_in x k) q c z.0) (sym (turn_other m k now pieces not)) z.2,
-          ))
+      let z = knows.each k c (sym (at_other rack area shared owns last new m shard before after there drifts valid after_valid is k not) ∙ at_k) in (
+        z.0,
+        get_set_other x.metaslabs m k r not ∙ z.1,
+        subst (λ q. IsMetaslab rack area (part_in x k) q c z.0) (sym (turn_other m k now pieces not)) z.2,
+      ))
 
   -- the block of a pointer that the hold left live
   pub pointer_at_on : (q : ℕ) (r : Pointer) (w : Write) → owns q ≡ true → r.object ≡ q → (r.metaslab ≡ m → IsLive before r → IsLive after r) → IsPointerAt last r w → IsPointerAt new r w
   pointer_at_on q r w own object_q on pt = dite (ℕ_discrete r.metaslab m)
       (λ same.
-          let c : pt.shard ≡ shard = some_of (last m) pt.shard shard (ap last (sym same) ∙ pt.there) there in
-          record {
-            object_is = pt.object_is;
-            seq_is = pt.seq_is;
-            metaslab_is = pt.metaslab_is;
-            birth_is = pt.birth_is;
-            len_is = pt.len_is;
-            digest_is = pt.digest_is;
-            shard = after;
-            there = ap new same ∙ at_here rack area shared owns last new m shard before after there drifts valid after_valid is;
-            live = on same (live_before rack area shared owns last new m shard before after there drifts valid after_valid is r (ap owns object_q ∙ own) (subst (λ (z : Shard R A). IsLive z r) c pt.live));
-          })
+      let c : pt.shard ≡ shard = some_of (last m) pt.shard shard (ap last (sym same) ∙ pt.there) there in
+      record {
+        object_is = pt.object_is;
+        seq_is = pt.seq_is;
+        metaslab_is = pt.metaslab_is;
+        birth_is = pt.birth_is;
+        len_is = pt.len_is;
+        digest_is = pt.digest_is;
+        shard = after;
+        there = ap new same ∙ at_here rack area shared owns last new m shard before after there drifts valid after_valid is;
+        live = on same (live_before rack area shared owns last new m shard before after there drifts valid after_valid is r (ap owns object_q ∙ own) (subst (λ (z : Shard R A). IsLive z r) c pt.live));
+      })
       (λ not. record {
         object_is = pt.object_is;
         seq_is = pt.seq_is;

@@ -1,12 +1,12 @@
 -- What one thread does, one thing after another.
-use Rattle.std.proofs.Common.{◌≡◌, ◌++◌, ◌∙◌, ℕ, Bool, List, [], ◌∷◌, refl, sym, ap, subst}
+use Rattle.std.proofs.Common.{◌≡◌, ◌++◌, ◌∙◌, ℕ, Bool, List, [], ◌∷◌, refl, ap, subst}
 use Rattle.draid_rack.specs.declared.Rack as racks
 use Rattle.draid_area.specs.declared.Area as areas
 use Rattle.draid_shard.specs.Part.{Part}
-use Rattle.draid_session.specs.Holds.{Act, Hold, On, OnUber, View}
+use Rattle.draid_session.specs.Holds.{Hold, On, OnUber}
 use Rattle.draid_session.specs.State.{Metaslab, State, Store}
 use Rattle.draid_pool.specs.Pools.{part_in}
-use Rattle.draid_pool.specs.Follows.{FollowsBy, HeldAt}
+use Rattle.draid_pool.specs.Follows.{FollowsBy}
 use Rattle.draid_pool.specs.Threads.{Between, LeadsBy}
 use Rattle.draid_shard.specs.declared.shard.Shard.{Shard}
 use Rattle.draid_pool.proofs.Alone.{follows_join}

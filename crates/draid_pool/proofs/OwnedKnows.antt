@@ -1,5 +1,5 @@
 -- A thread that owns all objects of a pool, with nobody beside it, knows what the pool stands for.
-use Rattle.std.proofs.Common.{◌≡◌, ◌≤◌, ◌∙◌, ◌⊎◌, inl, inr, arith, ℕ, Bool, true, false, List, [], ◌∷◌, Option, Some, None, refl, sym, ap, subst, filter, length}
+use Rattle.std.proofs.Common.{◌≡◌, ◌≤◌, ◌∙◌, inl, arith, ℕ, Bool, true, List, [], ◌∷◌, Option, Some, None, refl, sym, ap, subst}
 use Rattle.std.specs.Prelude.{slice_get, nat_eq}
 use Rattle.std.specs.HashMap.{get}
 use Rattle.sha2.specs.Sha256.{sha256}
@@ -10,11 +10,11 @@ use Rattle.draid_objects.specs.Changes.{Change, Write, write_of}
 use Rattle.draid_objects.proofs.Keeping.{commit_kept}
 use Rattle.draid_shard.specs.Part.{Part}
 use Rattle.draid_shard.specs.declared.shard.Shard.{Shard}
-use Rattle.draid_session.specs.State.{Metaslab, State}
+use Rattle.draid_session.specs.State.{State}
 use Rattle.draid_pool.specs.Objects.{HoldsObjects, IsLastAt, PointsTo, blocks_of}
 use Rattle.draid_pool.specs.Pools.{Represents, Stands}
-use Rattle.draid_pool.specs.Threads.{Bounds, IsPointerAt, IsWholeBy, Knows, PointsAt, own_changes}
-use Rattle.draid_pool.specs.Whole.{IsPointer, IsWhole}
+use Rattle.draid_pool.specs.Threads.{Bounds, IsWholeBy, Knows, PointsAt, own_changes}
+use Rattle.draid_pool.specs.Whole.{IsWhole}
 use Rattle.draid_pool.specs.declared.pool.Pool.{Pool}
 use Rattle.draid_pool.proofs.Lifted.{metaslab_of}
 use Rattle.draid_pool.proofs.Lists.{present}

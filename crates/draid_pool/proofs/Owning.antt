@@ -1,22 +1,20 @@
 -- What is known of a thread's own objects stays, as others hold the metaslabs.
-use Rattle.std.proofs.Common.{◌≡◌, ◌==◌, ◌&&◌, ◌≤◌, ◌∙◌, ◌⊎◌, inl, inr, arith, ℕ, Bool, true, false, List, [], ◌∷◌, Option, Some, None, refl, sym, ap, subst, slice_set, filter, find, cond, if◌then◌else◌}
+use Rattle.std.proofs.Common.{◌≡◌, ◌==◌, ◌≤◌, ◌∙◌, ◌⊎◌, inl, inr, arith, ℕ, Bool, true, false, List, [], ◌∷◌, Some, None, refl, sym, ap, subst, slice_set, cond, if◌then◌else◌}
 use Rattle.std.specs.Prelude.{slice_get, option_map}
 use Rattle.std.proofs.lemmas.Bool.{cases_eq, true≢false}
 use Rattle.sha2.specs.Sha256.{sha256}
 use Rattle.draid_spec.specs.declared.layout.Geometry.{Geometry}
 use Rattle.draid_machine.specs.declared.names.Key.{Key}
 use Rattle.draid_machine.specs.declared.names.Held.{Held}
-use Rattle.draid_machine.specs.declared.names.Stage.TheVariants.{Live}
 use Rattle.draid_machine.specs.After.{is_freed_block}
-use Rattle.draid_machine.specs.Names.{is_block}
-use Rattle.draid_machine.proofs.Small.{is_equal, equal, none_some}
+use Rattle.draid_machine.proofs.Small.{is_equal, none_some}
 use Rattle.draid_segments.specs.Segments.{Pieces}
 use Rattle.draid_objects.specs.Blocks.{Blocks, Drops, table_of}
-use Rattle.draid_objects.specs.Changes.{Change, Write, key_of, object_of, last_of, write_in, write_of, write_by}
+use Rattle.draid_objects.specs.Changes.{Change, Write, key_of, object_of, last_of, write_in, write_of}
 use Rattle.draid_objects.proofs.Finding.{write_key}
 use Rattle.draid_objects.proofs.Keeping.{commit_floor, commit_kept}
 use Rattle.draid_session.specs.State.{Metaslab, State}
-use Rattle.draid_pool.specs.Objects.{HoldsObjects, HasPieces, IsLastAt, blocks_of}
+use Rattle.draid_pool.specs.Objects.{HoldsObjects, HasPieces, blocks_of}
 use Rattle.draid_pool.proofs.Lists.{get_set_other, get_set_same, some_of}
 use Rattle.draid_pool.proofs.Moved.{blocks_at, turn, turn_here, turn_other, with_metaslab}
 use Rattle.draid_pool.specs.Threads.{Bounds, HoldsBut, HoldsOwn, all_of, own_blocks, own_changes, own_store}

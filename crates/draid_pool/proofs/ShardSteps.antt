@@ -1,25 +1,21 @@
 -- What a call of a shard keeps to, and the pointers of blocks that a hold leaves live.
-use Rattle.std.proofs.Common.{◌≡◌, ◌≢◌, ◌==◌, ◌&&◌, ◌≤◌, ◌+◌, ◌∙◌, ◌⊎◌, inl, inr, arith, ℕ, Bool, true, false, List, [], ◌∷◌, Option, Some, None, MatchOption, Ok, Err, refl, sym, ap, subst, slice_set, cond, max, option_map, if◌then◌else◌, eq-eqb, ne_eqb}
+use Rattle.std.proofs.Common.{◌≡◌, ◌==◌, ◌∙◌, inl, inr, ℕ, Bool, true, false, List, [], ◌∷◌, Option, Some, refl, sym, ap, subst, option_map, if◌then◌else◌, eq-eqb, ne_eqb}
 use mathlib.Core.Logic.{dite}
 use native.Mathlib.Decide.{ℕ_discrete}
-use Rattle.std.specs.Prelude.{slice_get}
-use Rattle.std.proofs.lemmas.Bool.{cases_eq, true≢false}
+use Rattle.std.proofs.lemmas.Bool.{true≢false}
 use Rattle.draid_names.specs.declared.pointer.Pointer.{Pointer}
 use Rattle.draid_rack.specs.declared.Rack as racks
 use Rattle.draid_area.specs.declared.Area as areas
-use Rattle.draid_machine.specs.declared.event.Event.{Event}
-use Rattle.draid_machine.specs.declared.event.Event.TheVariants as event
 use Rattle.draid_machine.specs.declared.names.Key.{Key}
-use Rattle.draid_machine.specs.declared.names.Held.{Held}
 use Rattle.draid_machine.specs.declared.names.Stage.TheVariants as stage
 use Rattle.draid_machine.specs.Names.{key_eq}
-use Rattle.draid_machine.specs.After.{is_freed_block, set_held}
+use Rattle.draid_machine.specs.After.{is_freed_block}
 use Rattle.draid_machine.specs.State as machine
-use Rattle.draid_machine.proofs.Small.{bool_cases, held_other, key_true, none_some}
+use Rattle.draid_machine.proofs.Small.{bool_cases, held_other, key_true}
 use Rattle.draid_segments.specs.Segments.{Pieces}
 use Rattle.draid_entries.specs.declared.entry.Entry.{Entry}
 use Rattle.draid_entries.specs.declared.entries.Entries.{Entries}
-use Rattle.draid_entries.specs.Entries.{SetsEntry, entry_at, held_in}
+use Rattle.draid_entries.specs.Entries.{SetsEntry, held_in}
 use Rattle.draid_entries.specs.Maps.{held_at, key_of, staged}
 use Rattle.draid_shard.specs.Looks.{IsLive}
 use Rattle.draid_shard.specs.Fits.{Valid}
@@ -27,15 +23,14 @@ use Rattle.draid_shard.specs.Part.{Part, layout_in}
 use Rattle.draid_shard.specs.States.{part_of}
 use Rattle.draid_shard.specs.declared.shard.Shard.{Shard}
 use Rattle.draid_shard.proofs.Held.{held_entry, key_leads}
-use Rattle.draid_session.specs.Follows.{Acts, Adds, Rests}
+use Rattle.draid_session.specs.Follows.{Acts, Rests}
 use Rattle.draid_session.specs.Holds.{AreaFailed, Did, Act, Hold, Looked, MadeLeaf, On, RackFailed, Reserved, view_of}
 use Rattle.draid_session.specs.State.{Metaslab}
 use Rattle.draid_pool.specs.Metaslabs.{IsMetaslab}
 use Rattle.draid_pool.specs.Shards.{FollowsIn, Goes}
-use Rattle.draid_pool.specs.Drifts.{Drifts, GoesOn, KeepsOf, Since, StateStep, is_other}
-use Rattle.draid_pool.specs.Threads.{HasPointer, IsPointerAt}
-use Rattle.draid_pool.proofs.Drifting.{keeps_self}
-use Rattle.draid_pool.proofs.Since.{nothing_more, since_self, since_then, state_self}
+use Rattle.draid_pool.specs.Drifts.{Drifts, KeepsOf, Since, StateStep, is_other}
+use Rattle.draid_pool.specs.Threads.{HasPointer}
+use Rattle.draid_pool.proofs.Since.{nothing_more, since_self, since_then}
 
 -- ---- what a shard's call says, it keeps to
 
@@ -128,13 +123,13 @@ module _ {R A : Type 0} (rack : racks.Ghosts R) (area : areas.Ghosts A) where
     pub pointer_on : (q : ℕ) (p : Pointer) → HasPointer last rack owns q p → (IsLive before p → IsLive after p) → HasPointer new rack owns q p
     pointer_on q p has on = dite (ℕ_discrete p.metaslab m)
         (λ same.
-            let c : has.shard ≡ shard = one (last m) has.shard shard (ap last (sym same) ∙ has.there) there in
-            record {
-              object_is = has.object_is;
-              own = has.own;
-              shard = after;
-              there = ap new same ∙ at_here;
-              valid = after_valid;
-              live = on (live_before p (ap owns has.object_is ∙ has.own) (subst (λ (z : Shard R A). IsLive z p) c has.live));
-            })
+        let c : has.shard ≡ shard = one (last m) has.shard shard (ap last (sym same) ∙ has.there) there in
+        record {
+          object_is = has.object_is;
+          own = has.own;
+          shard = after;
+          there = ap new same ∙ at_here;
+          valid = after_valid;
+          live = on (live_before p (ap owns has.object_is ∙ has.own) (subst (λ (z : Shard R A). IsLive z p) c has.live));
+        })
         (λ not. record { object_is = has.object_is; own = has.own; shard = has.shard; there = at_other p.metaslab not ∙ has.there; valid = has.valid; live = has.live })

@@ -1,16 +1,14 @@
 -- What comes behind a metaslab, by events.
-use Rattle.std.proofs.Common.{◌≡◌, ◌++◌, ◌∙◌, [], ◌∷◌, ℕ, Bool, true, List, refl, sym, ap, subst}
+use Rattle.std.proofs.Common.{◌≡◌, ◌++◌, ◌∙◌, [], ◌∷◌, ℕ, Bool, true, List, refl, ap, subst}
 use Rattle.draid_rack.specs.declared.Rack as racks
 use Rattle.draid_area.specs.declared.Area as areas
 use Rattle.draid_machine.specs.declared.event.Event.{Event}
 use Rattle.draid_machine.specs.State as machine
-use Rattle.draid_machine.specs.Step.{Run, Step}
-use Rattle.draid_segments.specs.Segments.{Pieces}
-use Rattle.draid_shard.specs.Part.{Part, layout_in}
+use Rattle.draid_machine.specs.Step.{Run}
+use Rattle.draid_shard.specs.Part.{layout_in}
 use Rattle.draid_shard.specs.declared.shard.Shard.{Shard}
 use Rattle.draid_session.specs.State.{Metaslab}
-use Rattle.draid_pool.specs.Metaslabs.{IsMetaslab}
-use Rattle.draid_pool.specs.Drifts.{GoesOn, Since, StateStep}
+use Rattle.draid_pool.specs.Drifts.{Since, StateStep}
 
 run_join : (l : machine.Layout) (w v u : machine.State) (es fs : List Event) → Run l w es v → Run l v fs u → Run l w (es ++ fs) u
 run_join l w v u [] fs x y = subst (λ t. Run l t fs u) x y

@@ -13,7 +13,7 @@ AreaFails {R = R} {A = A} faults pool =
 
 -- one has on the rack of a metaslab as a whole
 abbrev pub RackFails : {R A : Type 0} → (R → Option ℕ → ℕ) → Pool R A → Type 0
-RackFails {R = R} {A = A} faults pool = (m : ℕ) × (shard : Shard R A) × (slice_get pool.shards.items m ≡ Some shard) × (0 < faults shard.rack None)
+RackFails {R = R} {A = A} faults pool = (m : ℕ) × (shard : Shard R A) × (slice_get pool.metaslabs.shards.items m ≡ Some shard) × (0 < faults shard.rack None)
 
 -- No area's count of failed calls falls, neither that of the uberblock nor those of a metaslab's records, and no metaslab comes or goes.
 pub record AreasLater {R A : Type 0} (faults : A → ℕ) (old new : Pool R A) : Type 0 where

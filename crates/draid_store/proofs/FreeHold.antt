@@ -1,40 +1,36 @@
 -- A command that frees an object, by what its thread knows.
-use Rattle.std.proofs.Common.{◌≡◌, ◌≢◌, ◌==◌, ◌&&◌, ◌≤◌, ◌+◌, ◌∙◌, ◌⊎◌, inl, inr, arith, ℕ, Bool, true, false, List, [], ◌∷◌, Option, Some, None, Result, Ok, Err, refl, sym, ap, subst, slice_set, cond, max, if◌then◌else◌, eq-eqb, ne_eqb}
+use Rattle.std.proofs.Common.{◌≡◌, ◌==◌, ◌≤◌, ◌∙◌, arith, ℕ, Bool, true, false, List, [], ◌∷◌, Option, Some, None, Result, Ok, Err, refl, sym, ap, subst, slice_set, cond, max, if◌then◌else◌, ne_eqb}
 use mathlib.Core.Logic.{dite}
 use native.Mathlib.Decide.{ℕ_discrete}
 use Rattle.std.specs.Prelude.{slice_get, nat_eq}
-use Rattle.std.proofs.lemmas.Bool.{true≢false}
 use Rattle.draid_names.specs.declared.pointer.Pointer.{Pointer}
 use Rattle.draid_rack.specs.declared.Rack as racks
 use Rattle.draid_area.specs.declared.Area as areas
 use Rattle.draid_machine.specs.declared.event.Event.TheVariants as event
 use Rattle.draid_machine.specs.declared.names.Key.{Key}
-use Rattle.draid_machine.proofs.Small.{equal, is_equal}
+use Rattle.draid_machine.proofs.Small.{equal}
 use Rattle.draid_segments.specs.Segments.{Pieces}
 use Rattle.draid_objects.specs.Changes as changes
 use Rattle.draid_objects.specs.Changes.{Change, Freed, Write, write_of}
 use Rattle.draid_objects.proofs.Finding.{changes_it, other_changes, write_object}
 use Rattle.draid_entries.specs.Maps.{key_of}
-use Rattle.draid_shard.specs.Looks.{IsLive}
-use Rattle.draid_shard.specs.Fits.{Valid}
-use Rattle.draid_shard.specs.Part.{Part, layout_in}
+use Rattle.draid_shard.specs.Part.{layout_in}
 use Rattle.draid_shard.specs.declared.shard.Shard.{Shard}
-use Rattle.draid_session.specs.Follows.{Acts, CountsRise}
-use Rattle.draid_session.specs.Holds.{Did, Hold, Looked, On, view_of}
-use Rattle.draid_session.specs.State.{Counts, Metaslab, State, Store}
+use Rattle.draid_session.specs.Follows.{Acts}
+use Rattle.draid_session.specs.Holds.{Did, Hold, On, view_of}
+use Rattle.draid_session.specs.State.{Metaslab, State, Store}
 use Rattle.draid_pool.specs.Metaslabs.{IsMetaslab}
 use Rattle.draid_pool.specs.Pools.{part_in}
 use Rattle.draid_pool.specs.Shards.{FollowsIn, FreesIn, Goes}
 use Rattle.draid_pool.proofs.Wholes.{put_here, put_elsewhere}
 use Rattle.draid_store.proofs.FreeSteps.{same_key}
-use Rattle.draid_pool.proofs.Lists.{get_set_other, get_set_same, set_twice, some_of}
-use Rattle.draid_pool.proofs.Moved.{turn, turn_here, turn_other, with_metaslab}
+use Rattle.draid_pool.proofs.Lists.{get_set_same, set_twice}
+use Rattle.draid_pool.proofs.Moved.{turn, with_metaslab}
 use Rattle.draid_store.specs.Answers.{FreeDoes}
 use Rattle.draid_store.specs.declared.fault.FreeFault.{FreeFault}
 use Rattle.draid_store.specs.declared.fault.FreeFault.TheVariants.{NoObject}
 use Rattle.draid_pool.proofs.OwnedStands.{ArePlain}
-use Rattle.draid_pool.specs.Drifts.{Drifts, KeepsTo, is_other, Since}
-use Rattle.draid_pool.specs.Follows.{FollowsBy, HeldAt}
+use Rattle.draid_pool.specs.Drifts.{Drifts, KeepsTo, is_other}
 use Rattle.draid_store.specs.Frees.{FreesBlock, IsEarly, TriesFree}
 use Rattle.draid_pool.specs.Threads.{CarriesBy, HoldsOwn, IsPointerAt, Knows, KnowsBut, PointsAt, all_of}
 use Rattle.draid_pool.proofs.ShardSteps.{acts_one, live_on}
@@ -125,18 +121,18 @@ module _ {R A S : Type 0} (rack : racks.Ghosts R) (area : areas.Ghosts A) (went 
       points : (q : ℕ) → owns q ≡ true → PointsAt new (table' q) (write_of store.changes q)
       points q own_q = dite (ℕ_discrete object q)
           (λ same.
-              let t : table' q ≡ None = put_here (table' q) (table q) object q None (objects q) same in
-              let v : write_of store.changes q ≡ None = changes_it (Freed object group) x.store.changes q (equal object q same) in
-              subst (λ o. PointsAt new o (write_of store.changes q)) (sym t) (subst (λ o. PointsAt new None o) (sym v) tt))
+          let t : table' q ≡ None = put_here (table' q) (table q) object q None (objects q) same in
+          let v : write_of store.changes q ≡ None = changes_it (Freed object group) x.store.changes q (equal object q same) in
+          subst (λ o. PointsAt new o (write_of store.changes q)) (sym t) (subst (λ o. PointsAt new None o) (sym v) tt))
           (λ not.
-              let t : table' q ≡ table q = put_elsewhere (table' q) (table q) object q None (objects q) not in
-              let v : write_of store.changes q ≡ write_of x.store.changes q = other_changes (Freed object group) x.store.changes q (ne_eqb object q not) in
-              subst (λ o. PointsAt new o (write_of store.changes q)) (sym t) (subst (λ o. PointsAt new (table q) o) (sym v)
-              (points_at_on last new (table q) (write_of x.store.changes q)
-              (λ s u s_is u_is pt.
-                  let s_q : s.object ≡ q = pt.object_is ∙ write_object x.store.changes q u u_is in
-                  pointer_at_on rack area went shared owns a b last new p.metaslab shard before after there drifts keeps.valid is goes (all_of owns) (all_of owns) table seq floor knows.pieces x known q s u own_q s_q (λ at. live_on rack area (is_other (Some object)) after.committed before after s drifts.valid keeps.valid keeps.part keeps.others (ap (is_other (Some object)) s_q ∙ other_object q not)) pt)
-              (knows.objects q own_q))))
+          let t : table' q ≡ table q = put_elsewhere (table' q) (table q) object q None (objects q) not in
+          let v : write_of store.changes q ≡ write_of x.store.changes q = other_changes (Freed object group) x.store.changes q (ne_eqb object q not) in
+          subst (λ o. PointsAt new o (write_of store.changes q)) (sym t) (subst (λ o. PointsAt new (table q) o) (sym v)
+          (points_at_on last new (table q) (write_of x.store.changes q)
+          (λ s u s_is u_is pt.
+          let s_q : s.object ≡ q = pt.object_is ∙ write_object x.store.changes q u u_is in
+          pointer_at_on rack area went shared owns a b last new p.metaslab shard before after there drifts keeps.valid is goes (all_of owns) (all_of owns) table seq floor knows.pieces x known q s u own_q s_q (λ at. live_on rack area (is_other (Some object)) after.committed before after s drifts.valid keeps.valid keeps.part keeps.others (ap (is_other (Some object)) s_q ∙ other_object q not)) pt)
+          (knows.objects q own_q))))
 
       by : CarriesBy rack area went shared owns new table' seq group a b x (TriesFree x object (Some (Ok tt)))
       by = record {

@@ -1,5 +1,5 @@
 -- The freeing of a block in a hold keeps to what every hold keeps to.
-use Rattle.std.proofs.Common.{◌≡◌, ◌≤◌, arith, ℕ, Bool, Option, Some, None, MatchOption, refl, sym, ap, subst}
+use Rattle.std.proofs.Common.{◌≡◌, arith, ℕ, Bool, Option, Some, None, MatchOption, sym, ap, subst}
 use Rattle.draid_names.specs.declared.pointer.Pointer.{Pointer}
 use Rattle.draid_rack.specs.declared.Rack as racks
 use Rattle.draid_area.specs.declared.Area as areas

@@ -1,42 +1,24 @@
 -- An object of a pool is freed.
-use Rattle.std.proofs.Common.{◌≡◌, ◌==◌, ◌&&◌, ◌≤◌, ◌+◌, ◌∙◌, inl, inr, ℕ, Bool, true, false, List, [], ◌∷◌, Option, Some, None, Ok, Err, arith, refl, sym, ap, subst, slice_set, length, max, if◌then◌else◌}
-use Rattle.std.specs.Prelude.{slice_get, nat_eq, cond}
+use Rattle.std.proofs.Common.{◌≡◌, ◌==◌, ◌&&◌, ◌≤◌, ◌+◌, ◌∙◌, ℕ, false, List, Option, Some, None, arith, refl, sym, ap, subst, length, max}
+use Rattle.std.specs.Prelude.{slice_get, nat_eq}
 use Rattle.std.specs.HashMap.{get}
 use Rattle.std.proofs.lemmas.Option.{slice_get_within}
-use Rattle.std.proofs.lemmas.Bool.{cases_eq}
 use Rattle.draid_names.specs.declared.pointer.Pointer.{Pointer}
 use Rattle.draid_rack.specs.declared.Rack as racks
 use Rattle.draid_area.specs.declared.Area as areas
 use Rattle.draid_machine.specs.declared.names.Key.{Key}
-use Rattle.draid_machine.specs.declared.names.Stage.TheVariants as stage
-use Rattle.draid_machine.specs.declared.event.Event.TheVariants as event
 use Rattle.draid_machine.specs.Names.{key_eq}
-use Rattle.draid_segments.specs.Segments.{Pieces}
-use Rattle.draid_objects.specs.Blocks.{Sets}
 use Rattle.draid_objects.specs.Changes as changes
 use Rattle.draid_objects.specs.Changes.{Freed, Write, write_of}
-use Rattle.draid_objects.proofs.Finding.{changes_it, other_changes, write_object}
-use Rattle.draid_objects.specs.Stores.{IsOnlyLive}
-use Rattle.draid_objects.proofs.One.{one_set}
-use Rattle.draid_machine.proofs.Small.{absurd_test, equal, is_equal}
 use Rattle.draid_entries.specs.Maps.{key_of}
-use Rattle.draid_shard.specs.Part.{Part}
 use Rattle.draid_shard.specs.declared.shard.Shard.{Shard}
-use Rattle.draid_session.specs.Holds.{Did, On, view_of}
-use Rattle.draid_session.specs.State.{Metaslab, State, Store}
-use Rattle.draid_store.specs.Answers.{FreeDoes}
-use Rattle.draid_pool.specs.Carries.{CarriesOut}
-use Rattle.draid_pool.specs.Metaslabs.{IsMetaslab}
-use Rattle.draid_pool.specs.Objects.{HoldsObjects, IsPointerOf, PointsTo, blocks_of, worlds_of}
-use Rattle.draid_pool.specs.Pools.{Represents, Stands, part_in}
-use Rattle.draid_pool.specs.Shards.{FreesIn, Goes}
-use Rattle.draid_store.specs.declared.fault.FreeFault.{FreeFault}
+use Rattle.draid_session.specs.State.{Metaslab, State}
+use Rattle.draid_pool.specs.Objects.{IsPointerOf, PointsTo}
+use Rattle.draid_pool.specs.Pools.{Represents, Stands}
 use Rattle.draid_pool.specs.Ubers.{IsUber}
 use Rattle.draid_pool.specs.declared.pool.Pool.{Pool}
-use Rattle.draid_pool.proofs.Entering.{freed_holds, freed_only, only_live}
 use Rattle.draid_pool.proofs.Lists.{present}
-use Rattle.draid_pool.proofs.Moved.{Turned, blocks_at, follows_one, moves_one, pointer_on, stands_turned, turn, turn_back, with_metaslab}
-use Rattle.draid_pool.proofs.Wholes.{open_low, put_elsewhere, put_here}
+use Rattle.draid_pool.proofs.Wholes.{open_low}
 
 -- ---- the table
 

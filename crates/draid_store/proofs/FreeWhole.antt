@@ -1,5 +1,5 @@
 -- What a thread needs, as it frees an object of its own.
-use Rattle.std.proofs.Common.{◌≡◌, ◌==◌, ◌≤◌, ◌+◌, ◌∙◌, arith, ℕ, Bool, true, false, Option, Some, None, max, option_map, refl, sym, ap, subst, cond, if◌then◌else◌, eq-eqb, ne_eqb}
+use Rattle.std.proofs.Common.{◌≡◌, ◌==◌, ◌≤◌, ◌+◌, ◌∙◌, arith, ℕ, Bool, true, false, Option, Some, None, option_map, refl, sym, ap, subst, cond, if◌then◌else◌, ne_eqb}
 use mathlib.Core.Logic.{dite}
 use native.Mathlib.Decide.{ℕ_discrete}
 use Rattle.std.specs.Prelude.{nat_eq}
@@ -7,7 +7,6 @@ use Rattle.draid_names.specs.declared.numbers.TheConstants.{LAST_NUMBER}
 use Rattle.draid_names.specs.declared.pointer.Pointer.{Pointer}
 use Rattle.draid_rack.specs.declared.Rack as racks
 use Rattle.draid_area.specs.declared.Area as areas
-use Rattle.draid_machine.specs.declared.names.Key.{Key}
 use Rattle.draid_machine.specs.declared.names.Stage.TheVariants as stage
 use Rattle.draid_machine.specs.Names.{is_block, key_eq}
 use Rattle.draid_machine.proofs.Small.{held_other}
@@ -15,7 +14,6 @@ use Rattle.draid_entries.specs.declared.entry.Entry.{Entry}
 use Rattle.draid_entries.specs.Entries.{held_in}
 use Rattle.draid_entries.specs.Maps.{held_at, key_of, staged}
 use Rattle.draid_shard.specs.Looks.{IsLive}
-use Rattle.draid_shard.specs.Fits.{Valid}
 use Rattle.draid_shard.specs.declared.shard.Shard.{Shard}
 use Rattle.draid_shard.proofs.Held.{key_leads}
 use Rattle.draid_pool.specs.Drifts.{Drifts, KeepsGroups, KeepsTo, groups_number, is_other}
@@ -75,7 +73,7 @@ module _ {R A : Type 0} (rack : racks.Ghosts R) (area : areas.Ghosts A) (shared 
             let stays = groups.groups.committed in
             omega (arith, up, same, high, group_is, stays)) fb.low
         (λ q r r_is. (let h = others q r r_is in
-            (h.0, live_key rack before after r drifts.valid keeps.valid keeps.part (fb.sets.entry.held (key_of r) ∙ held_other (held_in before.entries) (key_of p) (key_of r) (option_map held_at freed) h.1))))
+        (h.0, live_key rack before after r drifts.valid keeps.valid keeps.part (fb.sets.entry.held (key_of r) ∙ held_other (held_in before.entries) (key_of p) (key_of r) (option_map held_at freed) h.1))))
       where
         freed : Option Entry
         freed = Some (staged (stage.Freed group) p)
@@ -95,8 +93,8 @@ pub left_in_table : {R A : Type 0} (rack : racks.Ghosts R) (owns : ℕ → Bool)
 left_in_table rack owns last object seq floor p table table' whole named objects q r r_is = dite (ℕ_discrete object q)
     (λ same. absurd (let e : None ≡ Some r = sym (put_here (table' q) (table q) object q None (objects q) same) ∙ r_is in cc))
     (λ not.
-        let h = whole.pointers q r (sym (put_elsewhere (table' q) (table q) object q None (objects q) not) ∙ r_is) in
-        (h, other_key p (key_of r) (ap (λ n. is_other (Some n) r.object) named ∙ (ap (is_other (Some object)) h.object_is ∙ ap (λ c. if c then false else true) (ne_eqb object q not)))))
+    let h = whole.pointers q r (sym (put_elsewhere (table' q) (table q) object q None (objects q) not) ∙ r_is) in
+    (h, other_key p (key_of r) (ap (λ n. is_other (Some n) r.object) named ∙ (ap (is_other (Some object)) h.object_is ∙ ap (λ c. if c then false else true) (ne_eqb object q not)))))
 
 -- ---- what the hold's answer says
 

@@ -69,5 +69,9 @@ pub fn damage<R: Rack, A: Area>(
     if metaslab >= u64::from(pool.geometry.props.metaslabs) {
         return Err(DamageFault::NoSuch);
     }
-    damage_sector(&mut pool.metaslabs.shards[metaslab as usize], leaf, sector % sectors)
+    damage_sector(
+        &mut pool.metaslabs.shards[metaslab as usize],
+        leaf,
+        sector % sectors,
+    )
 }

@@ -52,7 +52,10 @@ pub(crate) fn fetch<R: Rack, A: Area>(
     let Some(pointer) = pool.own.objects.get(&object).copied() else {
         return Err(ObjectFault::NoObject);
     };
-    match draid_blocks::fetch(&mut pool.metaslabs.shards[pointer.metaslab as usize], &pointer) {
+    match draid_blocks::fetch(
+        &mut pool.metaslabs.shards[pointer.metaslab as usize],
+        &pointer,
+    ) {
         Ok(fetched) => Ok(fetched),
         Err(FetchFault::NotLive) => unreachable!(),
         Err(FetchFault::Worn { .. }) => Err(ObjectFault::Worn),

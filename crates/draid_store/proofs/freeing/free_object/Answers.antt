@@ -1,13 +1,12 @@
-use Rattle.std.proofs.Common.{◌≡◌, ◌∙◌, ℕ, Bool, Option, Some, None, Ok, true, refl, sym, ap, subst}
+use Rattle.std.proofs.Common.{◌≡◌, ◌∙◌, ℕ, Option, Some, None, Ok, refl, sym, ap, subst}
 use Rattle.std.specs.Prelude.{nat_eq}
 use Rattle.std.specs.HashMap.{get}
 use Rattle.std.specs.Option.{option_copied}
 use Rattle.draid_names.specs.declared.pointer.Pointer.{Pointer}
-use Rattle.draid_session.specs.State.{State}
 use Rattle.draid_pool.specs.Drifts.{KeepsTo}
-use Rattle.draid_store.specs.Frees.{FreesShard, TriesFree}
+use Rattle.draid_store.specs.Frees.{TriesFree}
 use Rattle.draid_store.specs.Pointers.{TriesTake}
-use Rattle.draid_pool.specs.Threads.{CarriesBy, HasPointer, IsWholeBy}
+use Rattle.draid_pool.specs.Threads.{CarriesBy, IsWholeBy}
 use Rattle.draid_pool.proofs.HeldBy.{stay_held, stay_same}
 use Rattle.draid_pool.proofs.Holding.{some_same}
 use Rattle.draid_store.proofs.FreeKeeps.{free_groups, free_keeps}

@@ -1,4 +1,4 @@
-use Rattle.std.proofs.Common.{◌≡◌, ◌∙◌, true, sym, ap, Some}
+use Rattle.std.proofs.Common.{◌∙◌, true, sym, ap, Some}
 use Rattle.std.proofs.lemmas.Option.{slice_get-get_or, slice_get_within}
 use Rattle.draid_pool.proofs.Holding.{owned_holds, owned_needs}
 use Rattle.draid_pool.proofs.owned.OwnedMetaslabs.hold.Goals as goal
