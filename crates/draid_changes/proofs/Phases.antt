@@ -9,10 +9,9 @@ use Rattle.draid_shard.specs.Part.{Part}
 use Rattle.draid_shard.specs.declared.shard.Shard.{Shard}
 use Rattle.draid_session.specs.Holds.{Hold}
 use Rattle.draid_session.specs.Phases.{End, Walk, Went}
-use Rattle.draid_session.specs.State.{Metaslab, State, Store}
+use Rattle.draid_session.specs.State.{Metaslab, State}
 use Rattle.draid_pool.specs.Carries.{CarriesOut}
 use Rattle.draid_pool.specs.Metaslabs.{IsMetaslab}
-use Rattle.draid_pool.specs.Pools.{part_in}
 use Rattle.draid_pool.specs.Syncing.{KeepsCommitted, Phase, Turns}
 use Rattle.draid_pool.specs.declared.pool.Pool.{Pool}
 use Rattle.draid_pool.proofs.Lifted.{SetsShard}
@@ -55,9 +54,11 @@ module _ {R A : Type 0} (rack : racks.Ghosts R) (area : areas.Ghosts A) (P : Hol
   pub phase_went : (m : ℕ) (new : Pool R A) (x : State) → (c : Came rack area (P_of x) m 0 new x) → m ≡ new.geometry.props.metaslabs
       → CarriesOut rack area new x (Phase x (λ holds end. Walk (P_of x) (S_of x) 0 x.geometry.props.metaslabs holds end 0) Went)
   phase_went m new x c all =
-      carried rack area new x c.holds c.reached (Phase x (λ holds end. Walk (P_of x) (S_of x) 0 x.geometry.props.metaslabs holds end 0) Went) c.follows c.represents
-      (refl, subst (λ n. Walk (P_of x) (S_of x) 0 n c.holds Went 0) (all ∙ ap (λ (g : Geometry). g.props.metaslabs) (sym c.represents.stands.geometry ∙ (same_layout c.holds x c.reached c.follows).geometry))
-      (walk_went (P_of x) (S_of x) 0 m c.holds 0 c.walked))
+      carried rack area new x c.holds c.reached (Phase x (λ holds end. Walk (P_of x) (S_of x) 0 x.geometry.props.metaslabs holds end 0) Went) c.follows c.represents (
+        refl,
+        subst (λ n. Walk (P_of x) (S_of x) 0 n c.holds Went 0) (all ∙ ap (λ (g : Geometry). g.props.metaslabs) (sym c.represents.stands.geometry ∙ (same_layout c.holds x c.reached c.follows).geometry))
+            (walk_went (P_of x) (S_of x) 0 m c.holds 0 c.walked),
+      )
 
   -- the next metaslab stopped it
   pub phase_stops : (m : ℕ) (mid new : Pool R A) (shard shard' : Shard R A) (x : State) (end : End) → (c : Came rack area (P_of x) m 0 mid x) → SetsShard rack area m mid new shard shard'
@@ -70,6 +71,8 @@ module _ {R A : Type 0} (rack : racks.Ghosts R) (area : areas.Ghosts A) (P : Hol
       let few : m < x.geometry.props.metaslabs
       = subst (λ (g : Geometry). m < g.props.metaslabs) (sym c.represents.stands.geometry ∙ (same_layout c.holds x c.reached c.follows).geometry) below in
       carried rack area new x (c.holds ++ o.hold ∷ []) o.reached (Phase x (λ holds end. Walk (P_of x) (S_of x) 0 x.geometry.props.metaslabs holds end 0) end)
-      (follows_on c.holds (o.hold ∷ []) x c.reached o.reached c.follows (o.reached, o.holds, refl)) o.represents
-      (refl, walk_stops (P_of x) (S_of x) 0 m x.geometry.props.metaslabs c.holds 0 o.hold end few c.walked stopped (subst (λ k. S_of x k o.hold end) (let same : m ≡ 0 + m = omega arith in same)
-      (own_of x c.reached (λ g p store. S g p m o.hold end) (same_layout c.holds x c.reached c.follows) o.done)))
+      (follows_on c.holds (o.hold ∷ []) x c.reached o.reached c.follows (o.reached, o.holds, refl)) o.represents (
+        refl,
+        walk_stops (P_of x) (S_of x) 0 m x.geometry.props.metaslabs c.holds 0 o.hold end few c.walked stopped (subst (λ k. S_of x k o.hold end) (let same : m ≡ 0 + m = omega arith in same)
+            (own_of x c.reached (λ g p store. S g p m o.hold end) (same_layout c.holds x c.reached c.follows) o.done)),
+      )

@@ -14,8 +14,8 @@ use Rattle.draid_shard.specs.States.{DoesNone}
 use Rattle.draid_shard.specs.declared.shard.Shard.{Shard}
 use Rattle.draid_disks.specs.Disks.{IsReservedFor}
 use Rattle.draid_session.specs.Arms as arms
-use Rattle.draid_session.specs.Holds.{Hold, Looked, On, Reserved, view_of}
-use Rattle.draid_session.specs.Phases.{End, Went}
+use Rattle.draid_session.specs.Holds.{Looked, On, Reserved, view_of}
+use Rattle.draid_session.specs.Phases.{Went}
 use Rattle.draid_session.specs.State.{Metaslab}
 use Rattle.draid_session.specs.Worn.{ReservesWorn}
 use Rattle.draid_pool.specs.Metaslabs.{IsMetaslab}

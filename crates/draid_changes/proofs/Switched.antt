@@ -1,13 +1,12 @@
 -- One metaslab of a pool as a leaf goes offline there, or comes back.
-use Rattle.std.proofs.Common.{◌≡◌, ◌+◌, ◌∙◌, [], inl, inr, ℕ, Bool, true, false, Option, Some, None, IsSome, arith, refl, sym, ap, subst, if◌then◌else◌}
+use Rattle.std.proofs.Common.{◌≡◌, ◌+◌, ◌∙◌, [], ℕ, Bool, true, false, Option, Some, None, IsSome, arith, refl, sym, ap, subst, if◌then◌else◌}
 use Rattle.std.specs.Prelude.{option_map}
 use Rattle.draid_rack.specs.declared.Rack as racks
 use Rattle.draid_area.specs.declared.Area as areas
 use Rattle.draid_machine.specs.declared.event.Event.{Event}
-use Rattle.draid_machine.specs.declared.event.Event.TheVariants as event
 use Rattle.draid_machine.specs.declared.names.ArmName.{ArmName}
 use Rattle.draid_machine.specs.declared.names.ArmName.TheVariants.{Leaf}
-use Rattle.draid_machine.specs.After.{seal_arm, set_arm, switch_state}
+use Rattle.draid_machine.specs.After.{seal_arm, set_arm}
 use Rattle.draid_machine.specs.Images.{IsImage}
 use Rattle.draid_machine.specs.Names.{name_eq}
 use Rattle.draid_machine.specs.State as machine
@@ -26,7 +25,6 @@ use Rattle.draid_session.specs.Holds.{Did, On, view_of}
 use Rattle.draid_session.specs.State.{Metaslab, State}
 use Rattle.draid_pool.specs.Importable.{IsAlike, Shared, bare}
 use Rattle.draid_pool.specs.Metaslabs.{IsMetaslab, counts_of}
-use Rattle.draid_pool.specs.Pools.{part_in}
 use Rattle.draid_pool.specs.Syncing.{Turns}
 use Rattle.draid_pool.proofs.Dids.{Done, did_with, records_same}
 use Rattle.draid_changes.specs.Walks.{Switches, switch_event}

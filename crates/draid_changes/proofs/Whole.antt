@@ -17,7 +17,7 @@ use Rattle.draid_entries.specs.Entries.{SameEntries}
 use Rattle.draid_slots.specs.declared.slot.Detached.{Detached}
 use Rattle.draid_slots.specs.Changes.{ChangesArms, switched, switched_arm}
 use Rattle.draid_slots.specs.Table.{SlotTable, arm_at, arms_of, is_leaf_kind, is_leaf_of}
-use Rattle.draid_shard.specs.Alike.{AreSameArms, HaveSameArms, IsSameArm, ShareArms}
+use Rattle.draid_shard.specs.Alike.{IsSameArm, ShareArms}
 use Rattle.draid_shard.specs.Fits.{IsLeaf, Valid}
 use Rattle.draid_shard.specs.States.{part_of}
 use Rattle.draid_shard.specs.declared.shard.Shard.{Shard}
@@ -38,9 +38,8 @@ pub record IsStill {R A : Type 0} (rack : racks.Ghosts R) (old new : Shard R A) 
   pub entries : SameEntries old.entries new.entries
   pub committed : new.committed ≡ old.committed
 
--- the pool has other metaslabs, and all else is as it was
-pub record SetsShards {R A : Type 0} (pool new : Pool R A) (shards : List (Shard R A)) : Type 0 where
-  pub sets : new.metaslabs.shards.items ≡ shards
+-- all that a pool has besides its metaslabs is as it was
+pub record SameOwn {R A : Type 0} (pool new : Pool R A) : Type 0 where
   pub geometry : new.geometry ≡ pool.geometry
   pub uber : new.uber ≡ pool.uber
   pub objects : new.own.objects ≡ pool.own.objects
@@ -49,7 +48,7 @@ pub record SetsShards {R A : Type 0} (pool new : Pool R A) (shards : List (Shard
 
 module _ {R A : Type 0} (rack : racks.Ghosts R) (area : areas.Ghosts A) where
   pub whole_changed : (Changes : Shard R A → Shard R A → Type 0) (pool new : Pool R A) → IsWhole rack area pool → ChangedBelow Changes (length pool.metaslabs.shards.items) pool.metaslabs.shards.items new.metaslabs.shards.items
-      → SetsShards pool new new.metaslabs.shards.items → ((old now : Shard R A) → Changes old now → IsStill rack old now)
+      → SameOwn pool new → ((old now : Shard R A) → Changes old now → IsStill rack old now)
       → ((k : ℕ) (now : Shard R A) → slice_get new.metaslabs.shards.items k ≡ Some now → (leaf : ℕ) → IsLeaf now.slots leaf → leaf < next_leaf_of new.uber) → AllShare new.metaslabs.shards.items → IsWhole rack area new
   whole_changed Changes pool new w c set still leaves share =
       record {

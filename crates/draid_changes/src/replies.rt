@@ -20,10 +20,7 @@ use draid_reply::Reply;
 use draid_script::CommandName;
 
 /// Takes a leaf offline.
-pub fn reply_to_offline<R: Rack, A: Area>(
-    pool: &mut Pool<R, A>,
-    leaf: u64,
-) -> Result<Reply, Failed>
+pub fn reply_to_offline<R: Rack, A: Area>(pool: &mut Pool<R, A>, leaf: u64) -> Result<Reply, Failed>
     requires whole { IsWhole R.Rack A.Area pool.old }
     ensures whole { IsWhole R.Rack A.Area pool.new }
     ensures same { SamePointers pool.old pool.new }

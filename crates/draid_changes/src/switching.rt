@@ -1,7 +1,6 @@
-ghost use Rattle.std.specs.Prelude.{◌≡◌, ◌<◌, ◌↔◌, All, IsErrOf, IsTrue, Some, false, length, slice_get, true, ℕ};
-ghost use Rattle.draid_entries.specs.History.{reserved_of};
+ghost use Rattle.std.specs.Prelude.{◌≡◌, ◌↔◌, IsErrOf, IsTrue, Some, false, length, slice_get, true, ℕ};
 ghost use Rattle.draid_session.specs.State.{State};
-ghost use Rattle.draid_shard.specs.Fits.{Valid};
+ghost use Rattle.draid_slots.specs.Table.{IsTable};
 ghost use Rattle.draid_shard.specs.declared.shard.Shard.{Shard};
 ghost use Rattle.draid_disks.specs.Disks.{IsLeafArm};
 ghost use Rattle.draid_pool.specs.Carries.{CarriesOut};
@@ -48,11 +47,7 @@ pub fn online<R: Rack, A: Area>(pool: &mut Pool<R, A>, leaf: u64) -> Result<(), 
 }
 
 /// Takes a leaf offline or online in all metaslabs. A group that is closing is committed first.
-fn switch<R: Rack, A: Area>(
-    pool: &mut Pool<R, A>,
-    leaf: u64,
-    offline: bool,
-) -> Result<(), ArmFault>
+fn switch<R: Rack, A: Area>(pool: &mut Pool<R, A>, leaf: u64, offline: bool) -> Result<(), ArmFault>
     requires whole { IsWhole R.Rack A.Area pool.old }
     ensures whole { IsWhole R.Rack A.Area pool.new }
     ensures same { SamePointers pool.old pool.new }
@@ -94,9 +89,14 @@ fn arm_fault(fault: SyncFault) -> ArmFault
 
 /// Whether a leaf is an arm of a slot.
 fn is_arm<R: Rack, A: Area>(shard: &Shard<R, A>, leaf: u64) -> bool
-    ensures { IsTrue result ↔ IsLeafArm shard.now.slots leaf }
+    ensures arm { IsTrue result ↔ IsLeafArm shard.now.slots leaf }
+    ensures sound { IsTable shard.now.slots }
 {
-    shard.slots.find(ArmKind::Leaf, leaf).is_some()
+    let children = shard.slots.children();
+    match shard.slots.find(ArmKind::Leaf, leaf) {
+        Some(at) => at.slot < children,
+        None => false,
+    }
 }
 
 /// Takes a leaf that is an arm offline or online in each metaslab, for which an event is reserved there.
