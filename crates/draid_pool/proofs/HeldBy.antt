@@ -136,8 +136,8 @@ module _ {R A : Type 0} (owns : ℕ → Bool) where
     stay_held = record {
       each = λ k s at. dite (ℕ_discrete k m)
           (λ same.
-              let s_is : shard ≡ s = some_of (last m) shard s there (ap last (sym same) ∙ at) in
-              (after, ap now same ∙ here, subst (λ c. Stays owns c after) s_is (record { part = part ∙ drifts.part; groups = λ own. groups_then shard before after (drifts.groups own) groups })))
+          let s_is : shard ≡ s = some_of (last m) shard s there (ap last (sym same) ∙ at) in
+          (after, ap now same ∙ here, subst (λ c. Stays owns c after) s_is (record { part = part ∙ drifts.part; groups = λ own. groups_then shard before after (drifts.groups own) groups })))
           (λ not. (s, away k not ∙ at, record { part = refl; groups = λ own. groups_kept s }));
       absent = λ k at. dite (ℕ_discrete k m)
           (λ same. absurd (none_some (last m) shard (ap last (sym same) ∙ at) there))

@@ -150,21 +150,21 @@ module _ {R A : Type 0} (rack : racks.Ghosts R) (area : areas.Ghosts A) where
       layout = subst (λ g. IsLayout g w.perms) (sym geometry) w.layout;
       many = many_left ∙ (w.many ∙ ap (λ (g : Geometry). g.props.metaslabs) (sym geometry));
       shards = λ m shard at. (
-        let was = present pool.metaslabs.shards.items m (let inside = slice_get_within new.metaslabs.shards.items m shard at in let many = many_left in omega (arith, inside, many)) in
-        let z = stay.each m was.0 was.1 in
-        let same : z.0 ≡ shard = some_of (left_in new m) z.0 shard z.1 at in
-        let held = by.shards m shard at in
-        let is = w.shards m was.0 was.1 in
-        record {
-          valid = held.valid;
-          part = ap (λ (s : Shard R A). part_of s) (sym same) ∙ (z.2.part ∙ (is.part ∙ ap (λ (g : Geometry). record { geometry = g; perms = w.perms; number = m }) (sym geometry)));
-          numbered = λ key h. held.numbered key h refl;
-          settled = λ key h. held.settled key h refl;
-          committed = ap (λ (s : Shard R A). s.committed) (sym same) ∙ ((z.2.groups refl).groups.committed ∙ (is.committed ∙ ap (λ u. group_of (kept_of u)) (sym uber)));
-          leaves = λ leaf own. subst (λ u. leaf < ubers.next_leaf_of u) (sym uber)
-              (is.leaves leaf (leaf_kept was.0.slots z.0.slots leaf (z.2.groups refl).arms (subst (λ (s : Shard R A). IsLeaf s.slots leaf) (sym same) own)));
-        }
-      );
+          let was = present pool.metaslabs.shards.items m (let inside = slice_get_within new.metaslabs.shards.items m shard at in let many = many_left in omega (arith, inside, many)) in
+          let z = stay.each m was.0 was.1 in
+          let same : z.0 ≡ shard = some_of (left_in new m) z.0 shard z.1 at in
+          let held = by.shards m shard at in
+          let is = w.shards m was.0 was.1 in
+          record {
+            valid = held.valid;
+            part = ap (λ (s : Shard R A). part_of s) (sym same) ∙ (z.2.part ∙ (is.part ∙ ap (λ (g : Geometry). record { geometry = g; perms = w.perms; number = m }) (sym geometry)));
+            numbered = λ key h. held.numbered key h refl;
+            settled = λ key h. held.settled key h refl;
+            committed = ap (λ (s : Shard R A). s.committed) (sym same) ∙ ((z.2.groups refl).groups.committed ∙ (is.committed ∙ ap (λ u. group_of (kept_of u)) (sym uber)));
+            leaves = λ leaf own. subst (λ u. leaf < ubers.next_leaf_of u) (sym uber)
+                (is.leaves leaf (leaf_kept was.0.slots z.0.slots leaf (z.2.groups refl).arms (subst (λ (s : Shard R A). IsLeaf s.slots leaf) (sym same) own)));
+          }
+          );
       alike = all_kept pool.metaslabs.shards.items new.metaslabs.shards.items kept w.alike;
       uber = subst (λ u. ubers.Valid area.size u) (sym uber) w.uber;
       uber_layout = ap (λ u. ubers.layout_of u) uber ∙ (w.uber_layout ∙ sym geometry);

@@ -59,9 +59,7 @@ pub(crate) fn reply<R: Rack, A: Area, F: Fn(&[Room]) -> Option<u32>>(
             count,
             len,
             seed,
-        } => Ok(fill(
-            alloc, pool, chooser, *first, *count, *len, *seed,
-        )),
+        } => Ok(fill(alloc, pool, chooser, *first, *count, *len, *seed)),
         Line::Free { object } => Ok(reply_to_free(pool, *object)),
         Line::Read { object } => Ok(reply_to_read(pool, *object)),
         Line::Sum { first, count } => Ok(reply_to_sum(rt, pool, *first, *count)),

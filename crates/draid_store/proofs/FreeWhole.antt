@@ -66,12 +66,12 @@ module _ {R A : Type 0} (rack : racks.Ghosts R) (area : areas.Ghosts A) (shared 
           settled = λ e e_is seen. ap (λ (i : Entry). is_block i.stage) (some_of freed e (staged (stage.Freed group) p) e_is refl);
         }))
         (λ own.
-            let up = whole.next p.metaslab shard own there in
-            let same = committed own in
-            let high = open_low before.open_group before.closing before.committed before.sealed drifts.valid.groups in
-            let group_is = fb.group_is in
-            let stays = groups.groups.committed in
-            omega (arith, up, same, high, group_is, stays)) fb.low
+        let up = whole.next p.metaslab shard own there in
+        let same = committed own in
+        let high = open_low before.open_group before.closing before.committed before.sealed drifts.valid.groups in
+        let group_is = fb.group_is in
+        let stays = groups.groups.committed in
+        omega (arith, up, same, high, group_is, stays)) fb.low
         (λ q r r_is. (let h = others q r r_is in
         (h.0, live_key rack before after r drifts.valid keeps.valid keeps.part (fb.sets.entry.held (key_of r) ∙ held_other (held_in before.entries) (key_of p) (key_of r) (option_map held_at freed) h.1))))
       where
