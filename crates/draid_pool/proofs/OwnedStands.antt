@@ -1,5 +1,5 @@
 -- What a pool stands for behind holds by its only thread that leave groups and arms: from what the thread knows then, and from what the pool stood for.
-use Rattle.std.proofs.Common.{◌≡◌, ◌≤◌, ◌+◌, ◌∙◌, inl, inr, arith, ℕ, suc, Bool, true, false, List, [], ◌∷◌, Some, None, refl, sym, ap, subst, slice_set, length}
+use Rattle.std.proofs.Common.{◌≡◌, ◌<◌, ◌≤◌, ◌+◌, ◌∙◌, inl, inr, arith, ℕ, suc, Bool, true, false, List, [], ◌∷◌, Some, None, refl, sym, ap, subst, slice_set, length}
 use Rattle.std.specs.Prelude.{slice_get, nat_lt, if◌then◌else◌, ⊤}
 use Rattle.std.proofs.lemmas.Bool.{cases_eq}
 use Rattle.std.proofs.lemmas.List.{length-set}
@@ -236,8 +236,9 @@ module _ {R A : Type 0} (rack : racks.Ghosts R) (area : areas.Ghosts A) where
             order = s.leaves.order;
             each = λ m u at. (let z = each m u at in leaves_kept x.kept_leaf x.next_leaf z.0.world u.world z.2.images (s.leaves.each m z.0 z.1));
           };
-          arms = s.arms;
-          alike = λ m u at. (let z = each m u at in alike_stays x.geometry.props.version s.arms z.0.world u.world z.2.images (s.alike m z.0 z.1));
+          shared = s.shared;
+          versions = s.versions;
+          alike = λ m u at. (let z = each m u at in alike_stays s.shared z.0.world u.world z.2.images (s.alike m z.0 z.1));
         };
         only = λ m key h there live. subst (λ cs. IsLastAt m key (write_of cs key.object)) (all_own store.changes) (k.holds.only m key h there live);
       }

@@ -41,7 +41,7 @@ acts_since : (l : machine.Layout) (act : Act) (x y : Metaslab) → Acts l act x 
 acts_since l Looked x y a = rests_since l x y a.0
 acts_since l (Did e w) x y a = record { opened = a.opened; more = e ∷ []; stored = a.stored; run = (w, a.legal, a.world) }
 acts_since l (Reserved n) x y a = rests_since l x y a.0
-acts_since l (MadeLeaf leaf) x y a = rests_since l x y a.0
+acts_since l (MadeLeaf leaf) x y a = record { opened = a.0.opened; more = []; stored = a.0.events ∙ nothing_more x.events; run = a.0.world }
 acts_since l (AreaFailed group) x y a = rests_since l x y a.0
 acts_since l RackFailed x y a = rests_since l x y a.0
 
