@@ -15,7 +15,7 @@ returns-in-Write g c = record {
   whole = c.reply_to_write.ensures.whole;
   fits = subst (λ k. IsReplyTo k c.reply_to_write.result) (sym (ap command_in c.in-Write.is ∙ ap (WriteObject c.in-Write.object) (sym c.deref.ensures.value))) c.reply_to_write.ensures.fits;
   knows = subst (λ k. Teaches k c.reply_to_write.result c.args.pool.now c.reply_to_write.new.pool) (sym (ap command_in c.in-Write.is ∙ ap (WriteObject c.in-Write.object) (sym c.deref.ensures.value))) c.reply_to_write.ensures.knows;
-  breaks = λ failed. absurd failed;
+  breaks = λ failed. absurd (cc failed);
   step = λ x rep. replied_as g.R.Rack g.A.Area (choices_by (FnReturnsAt g.F.Fn c.args.chooser.now)) c.args.line.now x c.reply_to_write.new.pool c.reply_to_write.result (WriteObject c.in-Write.object c.deref.result.now)
       (ap command_in c.in-Write.is ∙ ap (WriteObject c.in-Write.object) (sym c.deref.ensures.value)) (c.reply_to_write.ensures.step x rep);
 }
@@ -25,7 +25,7 @@ returns-in-Fill g c = record {
   whole = c.fill.ensures.whole;
   fits = subst (λ k. IsReplyTo k c.fill.result) (sym (ap command_in c.in-Fill.is)) c.fill.ensures.fits;
   knows = subst (λ k. Teaches k c.fill.result c.args.pool.now c.fill.new.pool) (sym (ap command_in c.in-Fill.is)) c.fill.ensures.knows;
-  breaks = λ failed. absurd failed;
+  breaks = λ failed. absurd (cc failed);
   step = λ x rep. replied_as g.R.Rack g.A.Area (choices_by (FnReturnsAt g.F.Fn c.args.chooser.now)) c.args.line.now x c.fill.new.pool c.fill.result (FillObjects c.in-Fill.first c.in-Fill.count c.in-Fill.len c.in-Fill.seed)
       (ap command_in c.in-Fill.is) (c.fill.ensures.step x rep);
 }
@@ -35,7 +35,7 @@ returns-in-Free g c = record {
   whole = c.reply_to_free.ensures.whole;
   fits = subst (λ k. IsReplyTo k c.reply_to_free.result) (sym (ap command_in c.in-Free.is)) c.reply_to_free.ensures.fits;
   knows = subst (λ k. Teaches k c.reply_to_free.result c.args.pool.now c.reply_to_free.new.pool) (sym (ap command_in c.in-Free.is)) c.reply_to_free.ensures.knows;
-  breaks = λ failed. absurd failed;
+  breaks = λ failed. absurd (cc failed);
   step = λ x rep. replied_free g.R.Rack g.A.Area (choices_by (FnReturnsAt g.F.Fn c.args.chooser.now)) c.args.line.now x c.reply_to_free.new.pool c.reply_to_free.result c.in-Free.object c.in-Free.is (c.reply_to_free.ensures.step x rep);
 }
 
@@ -44,7 +44,7 @@ returns-in-Read g c = record {
   whole = c.reply_to_read.ensures.whole;
   fits = subst (λ k. IsReplyTo k c.reply_to_read.result) (sym (ap command_in c.in-Read.is)) c.reply_to_read.ensures.fits;
   knows = subst (λ k. Teaches k c.reply_to_read.result c.args.pool.now c.reply_to_read.new.pool) (sym (ap command_in c.in-Read.is)) c.reply_to_read.ensures.knows;
-  breaks = λ failed. absurd failed;
+  breaks = λ failed. absurd (cc failed);
   step = λ x rep. replied_read g.R.Rack g.A.Area (choices_by (FnReturnsAt g.F.Fn c.args.chooser.now)) c.args.line.now x c.reply_to_read.new.pool c.reply_to_read.result c.in-Read.object c.in-Read.is (c.reply_to_read.ensures.step x rep);
 }
 
@@ -53,7 +53,7 @@ returns-in-Sum g c = record {
   whole = c.reply_to_sum.ensures.whole;
   fits = subst (λ k. IsReplyTo k c.reply_to_sum.result) (sym (ap command_in c.in-Sum.is)) c.reply_to_sum.ensures.fits;
   knows = subst (λ k. Teaches k c.reply_to_sum.result c.args.pool.now c.reply_to_sum.new.pool) (sym (ap command_in c.in-Sum.is)) c.reply_to_sum.ensures.knows;
-  breaks = λ failed. absurd failed;
+  breaks = λ failed. absurd (cc failed);
   step = λ x rep. replied_sum g.R.Rack g.A.Area (choices_by (FnReturnsAt g.F.Fn c.args.chooser.now)) c.args.line.now x c.reply_to_sum.new.pool c.reply_to_sum.result c.in-Sum.first c.in-Sum.count c.in-Sum.is (c.reply_to_sum.ensures.step x rep);
 }
 
@@ -88,7 +88,7 @@ returns-in-Damage g c = record {
   whole = c.reply_to_damage.ensures.whole;
   fits = subst (λ k. IsReplyTo k c.reply_to_damage.result) (sym (ap command_in c.in-Damage.is)) c.reply_to_damage.ensures.fits;
   knows = subst (λ k. Teaches k c.reply_to_damage.result c.args.pool.now c.reply_to_damage.new.pool) (sym (ap command_in c.in-Damage.is)) c.reply_to_damage.ensures.knows;
-  breaks = λ failed. absurd failed;
+  breaks = λ failed. absurd (cc failed);
   step = λ x rep. replied_damage g.R.Rack g.A.Area (choices_by (FnReturnsAt g.F.Fn c.args.chooser.now)) c.args.line.now x c.reply_to_damage.new.pool c.reply_to_damage.result c.in-Damage.leaf c.in-Damage.sector c.in-Damage.is (c.reply_to_damage.ensures.step x rep);
 }
 
@@ -97,7 +97,7 @@ returns-in-Status g c = record {
   whole = c.requires.whole;
   fits = subst (λ k. IsReplyTo k c.reply_to_status.result) (sym (ap command_in c.in-Status.is)) c.reply_to_status.ensures.fits;
   knows = subst (λ k. Teaches k c.reply_to_status.result c.args.pool.now c.args.pool.now) (sym (ap command_in c.in-Status.is)) c.reply_to_status.ensures.knows;
-  breaks = λ failed. absurd failed;
+  breaks = λ failed. absurd (cc failed);
   step = λ x rep. replied_status g.R.Rack g.A.Area (choices_by (FnReturnsAt g.F.Fn c.args.chooser.now)) c.args.line.now x c.args.pool.now c.reply_to_status.result c.in-Status.format c.in-Status.is (c.reply_to_status.ensures.step x rep);
 }
 
