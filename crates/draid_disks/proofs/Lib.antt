@@ -1,7 +1,9 @@
 mod Attached
 mod Births
+mod Checked
 mod Comes
 mod Goes
+mod Going
 mod Kept
 mod Left
 mod Marked
