@@ -1,7 +1,6 @@
 -- What the records of all metaslabs of one pool have in common, and which fault it is where they haven't.
-use Rattle.std.specs.Prelude.{◌≡◌, ◌<◌, ◌+◌, ◌-◌, ◌*◌, ◌^◌, ◌&&◌, ◌⊎◌, ◌↔◌, ℕ, zero, suc, Bool, true, false, List, Option, Some, if◌then◌else◌, is_some, length, min, nat_eq, slice_get}
+use Rattle.std.specs.Prelude.{◌≡◌, ◌<◌, ◌+◌, ◌-◌, ◌*◌, ◌^◌, ◌&&◌, ◌⊎◌, ◌↔◌, ℕ, zero, suc, Bool, true, false, List, Option, Some, if◌then◌else◌, is_some, min, nat_eq, slice_get}
 use Rattle.std.specs.HashSet.{HashSet, contains}
-use Rattle.draid_names.specs.declared.arm.Arm.{Arm}
 use Rattle.draid_names.specs.declared.pointer.Pointer.{Pointer}
 use Rattle.draid_machine.specs.declared.names.Key.{Key}
 use Rattle.draid_entries.specs.declared.entry.Entry.{Entry}
@@ -10,25 +9,8 @@ use Rattle.draid_entries.specs.Entries.{entry_at}
 use Rattle.draid_entries.specs.Maps.{key_of}
 use Rattle.draid_record.specs.declared.sizes.TheConstants.{BLOCK_BYTES, SLOT_COUNT_AT}
 use Rattle.draid_slots.specs.Table.{SlotTable, arms_of}
+use Rattle.draid_shard.specs.Alike.{HaveSameArms}
 use Rattle.draid_shard.specs.declared.shard.Shard.{Shard}
-
--- ---- arms
-
--- two arms are one, but for whether a pass has made it good
-pub record IsSameArm (p q : Arm) : Type 0 where
-  pub kind_is : p.kind ≡ q.kind
-  pub number_is : p.number ≡ q.number
-  pub offline_is : p.offline ≡ q.offline
-
--- so all of two slots, one after another
-pub record AreSameArms (ps qs : List Arm) : Type 0 where
-  pub many : length ps ≡ length qs
-  pub each : (k : ℕ) (p q : Arm) → slice_get ps k ≡ Some p → slice_get qs k ≡ Some q → IsSameArm p q
-
--- so those of each slot of two metaslabs
-pub record HaveSameArms (a b : SlotTable) : Type 0 where
-  pub children : b.geometry.spec.children ≡ a.geometry.spec.children
-  pub slots : (slot : ℕ) → slot < a.geometry.spec.children → AreSameArms (arms_of a slot) (arms_of b slot)
 
 -- ---- blocks
 

@@ -55,7 +55,7 @@ unread_entry rack area geometry group next o mid leaves yet_leaves counts yet me
 
 -- the finding that a pool is of which so much was read
 pub finds_pool : {R A : Type 0} (rack : racks.Ghosts R) (area : areas.Ghosts A) (held : Option Held) (leaves : ℕ → Option Shape) (counts : ℕ → KitCounts) (count : ℕ) (pool : Pool R A) (group : ℕ) (name : List ℕ) (objects : ℕ)
-    → IsReadPool rack area held leaves counts count pool → group ≡ group_in pool → name ≡ vdev_name_of pool.geometry.spec → HasNames (get nat_eq pool.objects) objects
+    → IsReadPool rack area held leaves counts count pool → group ≡ group_in pool → name ≡ vdev_name_of pool.geometry.spec → HasNames (get nat_eq pool.own.objects) objects
     → FindsPool rack area held leaves counts group name objects
 finds_pool rack area held leaves counts count pool group name objects is group_is name_is names = record {
   uber = is.uber;

@@ -65,7 +65,7 @@ use Rattle.draid_pool.specs.Metaslabs.{IsMetaslab, counts_of, harm_of}
 use Rattle.draid_pool.specs.Pools.{part_in}
 use Rattle.draid_pool.specs.Records.{HasRecords, LeavesAreBelow, area_for}
 use Rattle.draid_pool.proofs.Returned.{KitIs, kit_is}
-use Rattle.draid_import.proofs.ImportAlike.{same_names}
+use Rattle.draid_pool.proofs.Arms.{same_names}
 use Rattle.draid_pool.proofs.Lists.{ext}
 
 -- nothing is in doubt

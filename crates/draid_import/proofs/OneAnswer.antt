@@ -37,7 +37,8 @@ use Rattle.draid_uber.specs.declared.uber.Uber.{Uber}
 use Rattle.draid_session.specs.Making.{vdev_name_of}
 use Rattle.draid_session.specs.State.{limit_of}
 use Rattle.draid_found.specs.Found.{AreFound}
-use Rattle.draid_found.specs.Together.{AreApart, AreSameArms, AreTogether, HasBlock, HasBlockTwice, HasEarlier, HasOtherArms, HaveSameArms, blocks_below, place_in}
+use Rattle.draid_found.specs.Together.{AreApart, AreTogether, HasBlock, HasBlockTwice, HasEarlier, HasOtherArms, blocks_below, place_in}
+use Rattle.draid_shard.specs.Alike.{AreSameArms, HaveSameArms}
 use Rattle.draid_import.specs.Faulty.{AreReadApart, HoldsNoGroup, IsUnread, OneIsUnread, RecordIsBad, TellsBody}
 use Rattle.draid_import.specs.Findings.{FindsPool, KnowsLeaves}
 use Rattle.draid_import.specs.Found.{AreReopened, IsFoundUber, IsReopened, OpensAllOver, OpensOver}

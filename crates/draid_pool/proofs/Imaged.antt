@@ -13,7 +13,7 @@ use Rattle.draid_machine.specs.State as machine
 use Rattle.draid_machine.specs.Step.{Step}
 use Rattle.draid_shard.specs.Part.{Part}
 use Rattle.draid_session.specs.State.{Metaslab}
-use Rattle.draid_pool.specs.Importable.{IsAlike}
+use Rattle.draid_pool.specs.Importable.{IsAlike, Shared}
 use Rattle.draid_pool.specs.Records.{HasImage, HasRecords, LeavesAreBelow}
 use Rattle.draid_pool.specs.Shards.{KeepsImages}
 use Rattle.draid_pool.proofs.Alike.{alike_kept, alike_then, same_bare}
@@ -94,8 +94,8 @@ leaves_kept kept_leaf next_leaf w v keeps below = record {
   now = λ leaf some. below.now leaf (keeps.leaves leaf some);
 }
 
-pub alike_stays : (version : ℕ) (arms : machine.Core) (w v : machine.State) → KeepsImages w v → IsAlike version arms w → IsAlike version arms v
-alike_stays version arms w v keeps is = alike_kept version arms w v keeps.asked keeps.arms (λ image of. image_before w v image keeps of) is
+pub alike_stays : (shared : Shared) (w v : machine.State) → KeepsImages w v → IsAlike shared w → IsAlike shared v
+alike_stays shared w v keeps is = alike_kept shared w v keeps.asked keeps.arms keeps.image keeps.sealed is
 
 leaf_of : (k : ArmKind) (n leaf : ℕ) → named k n ≡ Leaf leaf → (k ≡ kind.Leaf) × (n ≡ leaf)
 leaf_of kind.Leaf n leaf is = (refl, (let h : n ≡ leaf = cc in h))

@@ -1,13 +1,13 @@
 -- What a call of a pool does to the state for which the pool stands.
-use Rattle.std.specs.Prelude.{List, ℕ, Option}
+use Rattle.std.specs.Prelude.{List}
 use Rattle.draid_rack.specs.declared.Rack as racks
 use Rattle.draid_area.specs.declared.Area as areas
+use Rattle.draid_session.specs.Choices.{Choices}
 use Rattle.draid_session.specs.State.{State, Store}
 use Rattle.draid_session.specs.Holds.{Hold}
 use Rattle.draid_session.specs.Follows.{Follows}
 use Rattle.draid_pool.specs.Pools.{Represents}
 use Rattle.draid_pool.specs.declared.pool.Pool.{Pool}
-use Rattle.draid_names.specs.declared.room.Room.{Room}
 use Rattle.draid_script.specs.Line.{Command}
 use Rattle.draid_reply.specs.declared.reply.Reply.{Reply}
 use Rattle.draid_session.specs.Does.{Does}
@@ -24,5 +24,5 @@ pub record CarriesOut {R A : Type 0} (rack : racks.Ghosts R) (area : areas.Ghost
   pub represents : Represents rack area new (record reached { store = store })
 
 -- what a command does to the open pool, by its reply
-abbrev pub ReplyDoes : State → (List Room → Option ℕ → Type 0) → Command → Reply → List Hold → Store → Type 0
-ReplyDoes x chosen command reply holds store = Does x.geometry x.perms chosen content_of command x.store holds reply store
+abbrev pub ReplyDoes : State → Choices → Command → Reply → List Hold → Store → Type 0
+ReplyDoes x choices command reply holds store = Does x.geometry x.perms choices content_of command x.store holds reply store

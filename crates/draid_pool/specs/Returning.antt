@@ -1,5 +1,5 @@
 -- What a shelf holds of a pool that was given back to it.
-use Rattle.std.specs.Prelude.{◌≡◌, ◌≤◌, ⊤, ℕ, Bool, false, List, Option, Some, MatchOption, IsSome, IsSomeAnd, length, slice_get, ◌<◌, ◌+◌, ◌⊎◌}
+use Rattle.std.specs.Prelude.{◌≡◌, ◌≤◌, ⊤, ℕ, Bool, false, List, Option, Some, None, MatchOption, IsSome, IsSomeAnd, length, slice_get, ◌<◌, ◌+◌, ◌⊎◌}
 use Rattle.draid_rack.specs.Rack.{Shape}
 use Rattle.draid_rack.specs.declared.Rack as racks
 use Rattle.draid_area.specs.Area.{Content}
@@ -121,6 +121,10 @@ pub record ReturnsLeaves {R A : Type 0} (rack : racks.Ghosts R) (shards : List (
 pub record OwnCounts : Type 0 where
   pub uber : ℕ
   pub checks : CheckCounts
+
+-- a call on the rack of a metaslab as a whole has failed
+abbrev pub RackFailed : (ℕ → KitCounts) → Type 0
+RackFailed kits = (m : ℕ) × (0 < (kits m).rack None)
 
 -- a call on the uberblock's area, or on an area of a metaslab's records, has failed
 abbrev pub AreaFailed : (ℕ → KitCounts) → OwnCounts → Type 0

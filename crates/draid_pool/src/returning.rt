@@ -2,8 +2,8 @@ ghost use Rattle.std.specs.Prelude.{◌≡◌, ◌≤◌, length, true};
 ghost use Rattle.draid_session.specs.State.{State};
 ghost use Rattle.draid_shelf.specs.Kits.{OnHeld};
 ghost use Rattle.draid_shelf.specs.Shelf.{most_metaslabs};
-ghost use Rattle.draid_pool.specs.Returning.{GivesBack, IsFirm, Returns, ReturnsLeaves, AreaFailed};
-ghost use Rattle.draid_pool.specs.Failing.{AreaFails};
+ghost use Rattle.draid_pool.specs.Returning.{GivesBack, IsFirm, Returns, ReturnsLeaves, AreaFailed, RackFailed};
+ghost use Rattle.draid_pool.specs.Failing.{AreaFails, RackFails};
 ghost use Rattle.draid_pool.specs.Pools.{Represents};
 ghost use Rattle.draid_pool.specs.Whole.{IsWhole};
 
@@ -37,13 +37,14 @@ pub fn close<H: Shelf>(pool: Pool<H::R, H::A>, shelf: &mut H, crash: bool)
         (H.uber_count shelf.new) }
     // Behind a crash nothing that the shelf tells is soft.
     ensures crash { crash ≡ true → OnHeld (H.told shelf.new) IsFirm }
-    // What has failed on an area of the pool shows on the shelf.
+    // What has failed on an area of the pool, or on a rack as a whole, shows on the shelf.
     ensures failed { AreaFails H.A.faults pool → AreaFailed (H.counts shelf.new)
         (record { uber = H.uber_count shelf.new; checks = H.check_counts shelf.new }) }
+    ensures racks { RackFails H.R.faults pool → RackFailed (H.counts shelf.new) }
     ensures checks { H.check_counts shelf.new ≡ H.check_counts shelf.old }
     ensures faults { H.faults shelf.new ≡ H.faults shelf.old }
 {
-    give_back(shelf, pool.shards);
+    give_back(shelf, pool.metaslabs.shards);
     shelf.give_uber(pool.uber.into_area());
     if crash {
         shelf.crash();

@@ -7,6 +7,7 @@ ghost use Rattle.std.specs.Fn.{FnReturnsAt};
 ghost use Rattle.std.specs.Process.{exit_status};
 ghost use Rattle.draid_choose.specs.Rooms.{IsChooser, Picks, most_rooms};
 ghost use Rattle.draid_run.specs.Script.{RunIs};
+ghost use Rattle.draid_session.specs.Choices.{choices_by};
 ghost use Rattle.draid_run.specs.Shelves.{on_shelf};
 ghost use Rattle.draid_run.specs.Status.{code_of};
 
@@ -43,7 +44,7 @@ fn run_on<
 ) -> ExitCode
     requires { IsChooser F.Fn chooser.now }
     ensures { (status : Status) × (exit_status result ≡ code_of status)
-        × RunIs H.R.Rack H.A.Area (FnReturnsAt F.Fn chooser.now) (map string_bytes words.now) status (S.left source.old) (K.held sink.old) (K.held sink.new) (on_shelf H.Shelf shelf.old) (on_shelf H.Shelf shelf.new) }
+        × RunIs H.R.Rack H.A.Area (choices_by (FnReturnsAt F.Fn chooser.now)) (map string_bytes words.now) status (S.left source.old) (K.held sink.old) (K.held sink.new) (on_shelf H.Shelf shelf.old) (on_shelf H.Shelf shelf.new) }
 {
     let status = run(rt, words, shelf, source, sink, chooser);
     ExitCode::from(status.code())

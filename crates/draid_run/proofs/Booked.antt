@@ -1,10 +1,10 @@
 -- Each run is answered as the book has it, and so are runs one after another.
 use Rattle.std.proofs.Common.{◌≡◌, ◌∙◌, refl, sym, subst, ℕ, Bool, true, false, List, [], ◌∷◌, Option, Some, None}
 use Rattle.std.specs.Prelude.{is_some, IsSomeAnd}
-use Rattle.draid_names.specs.declared.room.Room.{Room}
 use Rattle.draid_rack.specs.declared.Rack as racks
 use Rattle.draid_area.specs.declared.Area as areas
 use Rattle.draid_shelf.specs.Kits.{Held}
+use Rattle.draid_session.specs.Choices.{Choices}
 use Rattle.draid_session.specs.Book.{Book, BreaksAtLine, EndsBook, blank, closed}
 use Rattle.draid_session.specs.Keeping.{Keeps}
 use Rattle.draid_session.specs.Session.{Agrees, Bare, Desk, Foreign, Made, Open, RecordFails, Runs, ShelfFails, Shut, Unknown, Untouched, left_of}
@@ -76,7 +76,7 @@ pub bare_tells : (o : Option Held) (P : Held → Type 0) → IsSomeAnd o P → i
 bare_tells None P holds = absurd holds
 bare_tells (Some held) P holds = refl
 
-module _ {R A : Type 0} (rack : racks.Ghosts R) (area : areas.Ghosts A) (chosen : List Room → Option ℕ → Type 0) where
+module _ {R A : Type 0} (rack : racks.Ghosts R) (area : areas.Ghosts A) (choices : Choices) where
   -- ---- one run
 
   -- what a run leaves on its shelf
@@ -88,7 +88,7 @@ module _ {R A : Type 0} (rack : racks.Ghosts R) (area : areas.Ghosts A) (chosen 
     pub keeps : Keeps (left_of last) b
 
   run_keeps : (words : List (List ℕ)) (status : Status) (input old new : Option (List ℕ)) (entry now : OnShelf) (first : Desk) (b : Book)
-      → RunsFrom rack area chosen words status input old new entry now first → is_some entry.held ≡ true → Keeps first b
+      → RunsFrom rack area choices words status input old new entry now first → is_some entry.held ≡ true → Keeps first b
       → (later : Book) × KeepsBook words status input old new b later × Leaves now later
   run_keeps words status input old new entry now first b it tells keeps = (
     closed ends.book,
@@ -112,16 +112,16 @@ module _ {R A : Type 0} (rack : racks.Ghosts R) (area : areas.Ghosts A) (chosen 
       now_tells : is_some now.held ≡ true
       now_tells = it.tells ∙ tells
 
-      all : AllAnswered chosen (MayFind rack area entry) b it.session.lines it.session.replies it.session.mid
-      all = run_turns chosen (MayFind rack area entry) it.session.lines it.session.replies first it.session.mid b keeps
-          (subst (λ t. Runs chosen (MayFind rack area entry) t first it.session.lines it.session.replies it.session.mid) tells it.session.runs)
+      all : AllAnswered choices (MayFind rack area entry) b it.session.lines it.session.replies it.session.mid
+      all = run_turns choices (MayFind rack area entry) it.session.lines it.session.replies first it.session.mid b keeps
+          (subst (λ t. Runs choices (MayFind rack area entry) t first it.session.lines it.session.replies it.session.mid) tells it.session.runs)
 
       ends : EndsAt it.session.ended it.session.broken all.book it.last
       ends = ends_at it.session.ended it.session.broken it.session.mid it.last all.book all.keeps (left_agrees it.last entry now it.shelf now_tells) it.session.breaks
 
   -- ---- several runs
 
-  more_keep : (runs : List OneRun) (shelf : OnShelf) (b : Book) → Leaves shelf b → AreRuns rack area chosen shelf runs → (later : Book) × KeepBook b runs later
+  more_keep : (runs : List OneRun) (shelf : OnShelf) (b : Book) → Leaves shelf b → AreRuns rack area choices shelf runs → (later : Book) × KeepBook b runs later
   more_keep [] shelf b left are = (b, refl)
   more_keep (run ∷ runs) shelf b left (found, is, more) =
       let first = next_desk run.crash left.last in
@@ -132,7 +132,7 @@ module _ {R A : Type 0} (rack : racks.Ghosts R) (area : areas.Ghosts A) (chosen 
       let rest = more_keep runs run.now one.0 one.2 more in
       (rest.0, (one.0, one.1, rest.1))
 
-  pub runs_keep : (runs : List OneRun) (shelf : OnShelf) (desk : Desk) (b : Book) → AreRuns rack area chosen shelf runs → HoldsDesk desk shelf shelf
+  pub runs_keep : (runs : List OneRun) (shelf : OnShelf) (desk : Desk) (b : Book) → AreRuns rack area choices shelf runs → HoldsDesk desk shelf shelf
       → is_some shelf.held ≡ true → Keeps desk b
       → (later : Book) × KeepBook b runs later
   runs_keep runs shelf desk b are holds tells keeps =
@@ -147,7 +147,7 @@ module _ {R A : Type 0} (rack : racks.Ghosts R) (area : areas.Ghosts A) (chosen 
       more_keep runs shelf b left are
 
   pub bare_keeps : (words : List (List ℕ)) (status : Status) (input old new : Option (List ℕ)) (entry now : OnShelf)
-      → RunIs rack area chosen words status input old new entry now → HoldsBare entry
+      → RunIs rack area choices words status input old new entry now → HoldsBare entry
       → (book : Book) × KeepsBook words status input old new blank book
   bare_keeps words status input old new entry now is bare =
       let tells = bare_tells entry.held (λ held. held.uber ≡ None) bare in

@@ -1,35 +1,36 @@
--- A sync or an export that a failing device ended: the count of an area of the pool rose.
-use Rattle.std.proofs.Common.{◌≡◌, ◌≤◌, ◌<◌, ◌-◌, ◌^◌, ◌∙◌, ◌⊎◌, ◌==◌, ◌%◌, min, inl, inr, arith, refl, sym, subst, ℕ, Bool, true, false, List, [], ◌∷◌, Some, if◌then◌else◌}
+-- A command that a failing device ended: the count of an area of the pool rose, or in one that makes leaves that of a rack as a whole.
+use Rattle.std.proofs.Common.{◌≡◌, ◌≤◌, ◌<◌, ◌-◌, ◌^◌, ◌∙◌, ◌⊎◌, ◌==◌, ◌%◌, min, inl, inr, arith, refl, sym, subst, ℕ, Bool, true, false, List, [], ◌∷◌, Some, None, if◌then◌else◌}
 use Rattle.std.specs.Prelude.{slice_get, slice_set}
 use Rattle.std.proofs.lemmas.Bool.Decides.{nat_tests}
 use Rattle.draid_names.specs.Faults.{Rose}
 use Rattle.draid_spec.specs.declared.layout.Geometry.{Geometry}
 use Rattle.draid_perm.specs.declared.perms.Perms.{Perms}
 use Rattle.draid_script.specs.Line.{Command}
-use Rattle.draid_session.specs.Certain.{HasFailed}
+use Rattle.draid_session.specs.Certain.{HasFailed, MakesLeaves}
 use Rattle.draid_session.specs.Does.{Broken}
 use Rattle.draid_session.specs.Follows.{Follows, Holds, HoldsMetaslab, UberActs, area_count}
 use Rattle.draid_session.specs.Holds.{Act, AreaFailed, Committed, CommitFailed, CommitStarved, Did, Hold, Looked, LookedUber, MadeLeaf, NextLeaf, On, OnUber, RackFailed, Reserved, UberAct, View}
-use Rattle.draid_session.specs.State.{Counts, Metaslab, State}
+use Rattle.draid_session.specs.State.{Counts, Metaslab, State, Store}
 use Rattle.draid_session.proofs.Failed.{breaks_failed}
 use Rattle.draid_session.proofs.Lists.{get_set_other, get_set_same, some_of}
-use Rattle.draid_run.specs.Shelves.{AreaHasFailed, AreaRose}
+use Rattle.draid_run.specs.Shelves.{AreaHasFailed, AreaRose, RackHasFailed, RackRose}
 
 -- ---- counts don't fall
 
--- a metaslab of the later state was one before, and none of its areas' counts fell; nor did that of the uberblock's, but above its greatest value
+-- a metaslab of the later state was one before, and no count of its areas or of its rack as a whole fell; nor did that of the uberblock's, but above its greatest value
 pub record CameFrom (x : State) (k : ℕ) (z : Metaslab) : Type 0 where
   pub y : Metaslab
   pub there : slice_get x.metaslabs k ≡ Some y
   pub even : y.counts.even ≤ z.counts.even
   pub odd : y.counts.odd ≤ z.counts.odd
+  pub rack : y.counts.rack None ≤ z.counts.rack None
 
 pub record IsLater (x z : State) : Type 0 where
   pub each : (k : ℕ) (m : Metaslab) → slice_get z.metaslabs k ≡ Some m → CameFrom x k m
   pub uber : min x.uber_count (2 ^ 64 - 1) ≤ z.uber_count
 
 later_none : (x : State) → IsLater x x
-later_none x = record { each = λ k m there. record { y = m; there = there; even = omega arith; odd = omega arith }; uber = omega arith }
+later_none x = record { each = λ k m there. record { y = m; there = there; even = omega arith; odd = omega arith; rack = omega arith }; uber = omega arith }
 
 later_more : (x y z : State) → IsLater x y → IsLater y z → IsLater x z
 later_more x y z a b = record {
@@ -40,24 +41,26 @@ later_more x y z a b = record {
       let more = two.even in
       let odd = one.odd in
       let again = two.odd in
-      record { y = one.y; there = one.there; even = omega (arith, even, more); odd = omega (arith, odd, again) }
+      let rack = one.rack in
+      let whole = two.rack in
+      record { y = one.y; there = one.there; even = omega (arith, even, more); odd = omega (arith, odd, again); rack = omega (arith, rack, whole) }
       );
   uber = (let first = a.uber in let next = b.uber in omega (arith, first, next));
 }
 
 module _ (v : View) (x z : State) where
-  act_even : (act : Act) → (it : HoldsMetaslab v act x z) → (it.before.counts.even ≤ it.after.counts.even) × (it.before.counts.odd ≤ it.after.counts.odd)
-  act_even Looked it = (it.acts.0.counts.even, it.acts.0.counts.odd)
-  act_even (Did e w) it = (it.acts.counts.even, it.acts.counts.odd)
-  act_even (Reserved n) it = (it.acts.0.counts.even, it.acts.0.counts.odd)
-  act_even (MadeLeaf leaf) it = (it.acts.0.counts.even, it.acts.0.counts.odd)
-  act_even (AreaFailed group) it = (it.acts.0.counts.even, it.acts.0.counts.odd)
-  act_even RackFailed it = (it.acts.0.counts.even, it.acts.0.counts.odd)
+  act_even : (act : Act) → (it : HoldsMetaslab v act x z) → (it.before.counts.even ≤ it.after.counts.even) × (it.before.counts.odd ≤ it.after.counts.odd) × (it.before.counts.rack None ≤ it.after.counts.rack None)
+  act_even Looked it = (it.acts.0.counts.even, it.acts.0.counts.odd, it.acts.0.counts.rack)
+  act_even (Did e w) it = (it.acts.counts.even, it.acts.counts.odd, it.acts.counts.rack)
+  act_even (Reserved n) it = (it.acts.0.counts.even, it.acts.0.counts.odd, it.acts.0.counts.rack)
+  act_even (MadeLeaf leaf) it = (it.acts.0.counts.even, it.acts.0.counts.odd, it.acts.0.counts.rack)
+  act_even (AreaFailed group) it = (it.acts.0.counts.even, it.acts.0.counts.odd, it.acts.0.counts.rack)
+  act_even RackFailed it = (it.acts.0.counts.even, it.acts.0.counts.odd, it.acts.0.counts.rack)
 
   act_later : (act : Act) → HoldsMetaslab v act x z → IsLater x z
   act_later act it = subst (IsLater x) (sym it.made) (record { each = λ k m there. from k m there (k == v.metaslab) refl; uber = omega arith })
     where
-      counts : (it.before.counts.even ≤ it.after.counts.even) × (it.before.counts.odd ≤ it.after.counts.odd)
+      counts : (it.before.counts.even ≤ it.after.counts.even) × (it.before.counts.odd ≤ it.after.counts.odd) × (it.before.counts.rack None ≤ it.after.counts.rack None)
       counts = act_even act it
 
       from : (k : ℕ) (m : Metaslab) → slice_get (slice_set x.metaslabs v.metaslab it.after) k ≡ Some m → (b : Bool) → (k == v.metaslab) ≡ b → CameFrom x k m
@@ -66,10 +69,10 @@ module _ (v : View) (x z : State) where
           let two : slice_get (slice_set x.metaslabs v.metaslab it.after) k ≡ Some it.after =
           subst (λ n. slice_get (slice_set x.metaslabs v.metaslab it.after) n ≡ Some it.after) at (get_set_same x.metaslabs v.metaslab it.before it.after it.there) in
           let same : it.after ≡ m = some_of (slice_get (slice_set x.metaslabs v.metaslab it.after) k) it.after m two there in
-          subst (CameFrom x k) same (record { y = it.before; there = subst (λ n. slice_get x.metaslabs n ≡ Some it.before) at it.there; even = counts.0; odd = counts.1 })
+          subst (CameFrom x k) same (record { y = it.before; there = subst (λ n. slice_get x.metaslabs n ≡ Some it.before) at it.there; even = counts.0; odd = counts.1; rack = counts.2 })
       from k m there false is =
           let one : slice_get x.metaslabs k ≡ Some m = sym (get_set_other x.metaslabs v.metaslab k it.after (λ at. (let other = is in grind (arith, nat_tests, other, at)))) ∙ there in
-          record { y = m; there = one; even = omega arith; odd = omega arith }
+          record { y = m; there = one; even = omega arith; odd = omega arith; rack = omega arith }
 
 uber_later : (act : UberAct) (x z : State) → UberActs act x z → IsLater x z
 uber_later LookedUber x z it = subst (IsLater x) (sym it) (later_none x)
@@ -100,10 +103,10 @@ either group before after = by (group % 2 == 0) where
   by true rose = inl rose
   by false rose = inr rose
 
-rose_here : (hold : Hold) (x y z : State) → IsLater x y → HasFailed hold y z → AreaRose x z
-rose_here (On v (AreaFailed group)) x y z later failed =
+rose_here : (command : Command) (hold : Hold) (x y z : State) → IsLater x y → HasFailed command hold y z → AreaRose x z ⊎ (MakesLeaves command × RackRose x z)
+rose_here command (On v (AreaFailed group)) x y z later failed =
     let was = later.each v.metaslab failed.0 failed.2 in
-    inl (
+    inl (inl (
       v.metaslab,
       was.y,
       failed.1,
@@ -113,15 +116,19 @@ rose_here (On v (AreaFailed group)) x y z later failed =
         | inl even ↦ inl (rose_from was.y.counts.even failed.0.counts.even failed.1.counts.even was.even even)
         | inr odd ↦ inr (rose_from was.y.counts.odd failed.0.counts.odd failed.1.counts.odd was.odd odd)
       ],
-    )
-rose_here (OnUber u (CommitFailed group)) x y z later failed = inr (rose_capped x.uber_count y.uber_count z.uber_count later.uber failed)
-rose_here hold x y z later failed = absurd failed
+    ))
+rose_here command (On v RackFailed) x y z later failed =
+    let was = later.each v.metaslab failed.1 failed.3 in
+    inr (failed.0, (v.metaslab, was.y, failed.2, was.there, failed.4, rose_from (was.y.counts.rack None) (failed.1.counts.rack None) (failed.2.counts.rack None) was.rack failed.5))
+rose_here command (OnUber u (CommitFailed group)) x y z later failed = inl (inr (rose_capped x.uber_count y.uber_count z.uber_count later.uber failed))
+rose_here command hold x y z later failed = absurd failed
 
 -- a command that breaks off has a rise
-pub broken_rose : (geometry : Geometry) (perms : Perms) (command : Command) (holds : List Hold) (x y : State) → Broken geometry perms command holds → Follows holds x y → AreaRose x y
-broken_rose geometry perms command holds x y broken follows =
-    let e = breaks_failed geometry perms command holds x y broken follows in
-    rose_here e.hold x e.mid y (follows_later e.front x e.mid e.follows) e.failed
+pub broken_rose : (geometry : Geometry) (perms : Perms) (command : Command) (old : Store) (holds : List Hold) (new : Store) (x y : State) → Broken geometry perms command old holds new → Follows holds x y
+    → AreaRose x y ⊎ (MakesLeaves command × RackRose x y)
+broken_rose geometry perms command old holds new x y broken follows =
+    let e = breaks_failed geometry perms command old holds new x y broken follows in
+    rose_here command e.hold x e.mid y (follows_later e.front x e.mid e.follows) e.failed
 
 rose_some : (before now : ℕ) → Rose before now → 0 < now
 rose_some before now rose = omega (arith, rose)
@@ -141,5 +148,12 @@ rose_shows x y rose = elim rose [
   | inr uber ↦ inr (rose_some x.uber_count y.uber_count uber)
 ]
 
-pub broken_shows : (geometry : Geometry) (perms : Perms) (command : Command) (holds : List Hold) (x y : State) → Broken geometry perms command holds → Follows holds x y → AreaHasFailed y
-broken_shows geometry perms command holds x y broken follows = rose_shows x y (broken_rose geometry perms command holds x y broken follows)
+pub rack_shows : (x y : State) → RackRose x y → RackHasFailed y
+rack_shows x y rose = (rose.0, rose.2, rose.4, rose_some (rose.1.counts.rack None) (rose.2.counts.rack None) rose.5)
+
+pub broken_shows : (geometry : Geometry) (perms : Perms) (command : Command) (old : Store) (holds : List Hold) (new : Store) (x y : State) → Broken geometry perms command old holds new → Follows holds x y
+    → AreaHasFailed y ⊎ (MakesLeaves command × RackHasFailed y)
+broken_shows geometry perms command old holds new x y broken follows = elim (broken_rose geometry perms command old holds new x y broken follows) [
+  | inl rose ↦ inl (rose_shows x y rose)
+  | inr rose ↦ inr (rose.0, rack_shows x y rose.1)
+]

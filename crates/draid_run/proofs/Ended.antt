@@ -1,17 +1,17 @@
 -- A run that has ended: what was served, and then the last line.
 use Rattle.std.proofs.Common.{refl, sym, subst, ◌≡◌, ◌∙◌, ◌⊎◌, inl, inr, ℕ, List, [], ◌∷◌, Option, Some, None, MatchOption}
 use Rattle.std.specs.Prelude.{⊤}
-use Rattle.draid_names.specs.declared.room.Room.{Room}
 use Rattle.draid_rack.specs.declared.Rack as racks
 use Rattle.draid_area.specs.declared.Area as areas
 use Rattle.draid_lines.specs.Lines.{lines_of}
-use Rattle.draid_reply.specs.declared.reply.Reply.{Reply}
+use Rattle.draid_session.specs.Said.{Said}
+use Rattle.draid_session.specs.Choices.{Choices}
 use Rattle.draid_session.specs.Session.{Desk, Untouched, Bare, Made, Open, Shut, Foreign, Unknown, left_of}
 use Rattle.draid_pool.specs.declared.pool.Pool.{Pool}
 use Rattle.draid_run.specs.Desks.{IsDesk, LeavesDesk}
 use Rattle.draid_run.specs.Script.{BreaksOff, Ends, EndsWithLine, Fails, FailsShut, GetsReplies, IsSession, Prints, RunsFrom, Shows}
 use Rattle.draid_run.specs.Serve.{Served}
-use Rattle.draid_run.specs.Shelves.{HasFailed, HoldsDesk, IsClosed, OnShelf, TellsAsBefore}
+use Rattle.draid_run.specs.Shelves.{AreaRose, DeviceFailed, HasFailed, HoldsDesk, IsClosed, MakesLeavesAt, MakesLeavesBy, MayMakeLeaves, OnShelf, RackFailedOn, RackRose, TellsAsBefore}
 use Rattle.draid_run.specs.Status.{HasNumber, last_text}
 use Rattle.draid_run.specs.declared.status.Status.{Status}
 use Rattle.draid_run.specs.declared.status.Status.TheVariants.{Done, Usage, Line, SourceFault, SinkFault, NoMemory, TooLong, ShelfFault, Record}
@@ -55,7 +55,7 @@ breaks_short SinkFault broken mid last number breaks = absurd number
 breaks_short NoMemory broken mid last number breaks = absurd number
 breaks_short ShelfFault broken mid last number breaks = absurd number
 
-shows_short : (ended : Status) (replies shown : List (Option Reply)) → HasNumber ended → Shows ended replies shown → Shows NoMemory replies shown
+shows_short : (ended : Status) (replies : List (List Said)) (shown : List Said) → HasNumber ended → Shows ended replies shown → Shows NoMemory replies shown
 shows_short (Line line kind at) replies shown number shows = inl shows
 shows_short (TooLong line) replies shown number shows = inl shows
 shows_short (Record metaslab place kind) replies shown number shows = inl shows
@@ -66,7 +66,7 @@ shows_short SinkFault replies shown number shows = absurd number
 shows_short NoMemory replies shown number shows = absurd number
 shows_short ShelfFault replies shown number shows = absurd number
 
-gets_short : (ended : Status) (shown : List (Option Reply)) (old new : Option (List ℕ)) → HasNumber ended → GetsReplies ended shown old new → GetsReplies NoMemory shown old new
+gets_short : (ended : Status) (shown : List Said) (old new : Option (List ℕ)) → HasNumber ended → GetsReplies ended shown old new → GetsReplies NoMemory shown old new
 gets_short (Line line kind at) shown old new number gets = gets
 gets_short (TooLong line) shown old new number gets = gets
 gets_short (Record metaslab place kind) shown old new number gets = gets
@@ -79,7 +79,7 @@ gets_short ShelfFault shown old new number gets = absurd number
 
 -- what failed, by what was open
 shelf_fails : {A : Type 0} (area : areas.Ghosts A) (broken : Option (List ℕ)) (lines : List (List ℕ)) (mid last : Desk) (entry now : OnShelf) → BreaksOff ShelfFault broken mid last
-    → (IsClosed mid → FailsShut area broken lines mid entry now) → HasFailed entry now → Fails area broken lines mid last entry now
+    → (IsClosed mid → FailsShut area broken lines mid entry now) → HasFailed entry now ⊎ (MakesLeavesAt broken × RackFailedOn now) → Fails area broken lines mid last entry now
 shelf_fails area None lines mid last entry now breaks shut failed = absurd breaks
 shelf_fails area (Some text) lines Untouched last entry now breaks shut failed = shut tt
 shelf_fails area (Some text) lines Bare last entry now breaks shut failed = shut tt
@@ -89,7 +89,12 @@ shelf_fails area (Some text) lines Unknown last entry now breaks shut failed = s
 shelf_fails area (Some text) lines (Foreign known) last entry now breaks shut failed = failed
 shelf_fails area (Some text) lines (Open x) last entry now breaks shut failed =
     let b = breaks.breaks in
-    subst (λ d. Fails area (Some text) lines (Open x) d entry now) (sym b.1) (broken_rose x.geometry x.perms breaks.command b.2.holds x b.0 b.2.broken b.2.follows)
+    let it = b.2 in
+    let rose = broken_rose x.geometry x.perms breaks.command x.store it.holds it.store x it.mid it.broken it.follows in
+    subst (λ d. Fails area (Some text) lines (Open x) d entry now) (sym b.1) (subst (λ s. AreaRose x s ⊎ (MakesLeavesAt (Some text) × RackRose x s)) (sym it.made) (elim rose [
+      | inl area ↦ inl area
+      | inr whole ↦ inr (subst MakesLeavesBy (sym breaks.line) whole.0, whole.1)
+    ]))
 
 not_usage : NoMemory ≡ Usage → ⊥
 not_usage e = cc e
@@ -102,10 +107,24 @@ not_bad : (meant : Status) → (meant ≡ Usage) ⊎ (meant ≡ NoMemory) → (m
 not_bad meant (inl usage) metaslab place kind is = (let e = sym usage ∙ is in cc e)
 not_bad meant (inr none) metaslab place kind is = (let e = sym none ∙ is in cc e)
 
-module _ {R A : Type 0} (rack : racks.Ghosts R) (area : areas.Ghosts A) (chosen : List Room → Option ℕ → Type 0) (first : Desk) where
+-- a line of an input that makes leaves
+may_make : (input : Option (List ℕ)) (broken : Option (List ℕ)) (lines : List (List ℕ)) → MatchOption input ⊤ (Ends ShelfFault broken lines) → MakesLeavesAt broken → MayMakeLeaves input
+may_make None broken lines ends makes = tt
+may_make (Some bytes) None lines ends makes = absurd ends
+may_make (Some bytes) (Some text) lines ends makes = (lines, text, ends.0, ends.1, makes)
+
+-- what has failed shows on the shelf
+pub device_failed : {R A : Type 0} (rack : racks.Ghosts R) (area : areas.Ghosts A) (choices : Choices) (first : Desk) (ended : Status) (input start held : Option (List ℕ)) (entry before now : OnShelf) (pool : Option (Pool R A))
+    → (is : Served rack area choices first ended input start held entry before pool) → LeavesDesk rack area entry before now pool is.last → ended ≡ ShelfFault → DeviceFailed input entry now
+device_failed rack area choices first ended input start held entry before now pool is leaves e = elim (is.failed e) [
+  | inl fault ↦ inl (leaves.failed fault)
+  | inr whole ↦ inr (may_make input is.broken is.lines (subst (λ s. MatchOption input ⊤ (Ends s is.broken is.lines)) e is.ends) whole.0, leaves.racks whole.1)
+]
+
+module _ {R A : Type 0} (rack : racks.Ghosts R) (area : areas.Ghosts A) (choices : Choices) (first : Desk) where
   -- want of memory for the last line is as good an end as that line
-  short_served : (ended : Status) (input start held : Option (List ℕ)) (entry now : OnShelf) (pool : Option (Pool R A)) → HasNumber ended → Served rack area chosen first ended input start held entry now pool
-      → Served rack area chosen first NoMemory input start held entry now pool
+  short_served : (ended : Status) (input start held : Option (List ℕ)) (entry now : OnShelf) (pool : Option (Pool R A)) → HasNumber ended → Served rack area choices first ended input start held entry now pool
+      → Served rack area choices first NoMemory input start held entry now pool
   short_served ended input start held entry now pool number is = record {
     lines = is.lines;
     replies = is.replies;
@@ -126,8 +145,8 @@ module _ {R A : Type 0} (rack : racks.Ghosts R) (area : areas.Ghosts A) (chosen 
 
   -- what was served, as the run of these words
   run_of : (words : List (List ℕ)) (status ended : Status) (input start mid new : Option (List ℕ)) (entry before now : OnShelf) (pool : Option (Pool R A)) → (ended ≡ Usage → ⊥) → IsSession words
-      → (is : Served rack area chosen first ended input start mid entry before pool) → LeavesDesk area entry before now pool is.last → TellsAsBefore entry now
-      → Prints status ended (last_text ended) mid new → RunsFrom rack area chosen words status input start new entry now first
+      → (is : Served rack area choices first ended input start mid entry before pool) → LeavesDesk rack area entry before now pool is.last → TellsAsBefore entry now
+      → Prints status ended (last_text ended) mid new → RunsFrom rack area choices words status input start new entry now first
   run_of words status ended input start mid new entry before now pool other session is leaves tells line = record {
     last = is.last;
     session = record {
@@ -148,15 +167,15 @@ module _ {R A : Type 0} (rack : racks.Ghosts R) (area : areas.Ghosts A) (chosen 
     shelf = leaves.shelf;
     tells = tells;
     failed = λ e. shelf_fails area is.broken is.lines is.mid is.last entry now (subst (λ s. BreaksOff s is.broken is.mid is.last) e is.breaks)
-        (λ closed. (let since = is.since e closed in subst (FailsShut area is.broken is.lines is.mid entry) (sym (leaves.same since.0)) since.1)) (leaves.failed (is.failed e));
+        (λ closed. (let since = is.since e closed in subst (FailsShut area is.broken is.lines is.mid entry) (sym (leaves.same since.0)) since.1)) (elim (is.failed e) [ inl fault ↦ inl (leaves.failed fault) | inr whole ↦ inr (whole.0, leaves.racks whole.1) ]);
     bad = is.bad;
   }
 
   -- a run of a session: what was served, the last line, and the pool on the shelf
   pub run_served : (words : List (List ℕ)) (status ended : Status) (input start mid new : Option (List ℕ)) (entry before now : OnShelf) (pool : Option (Pool R A)) → IsSession words → (ended ≡ Usage → ⊥)
-      → Served rack area chosen first ended input start mid entry before pool → EndsWithLine ended status mid new
-      → ((x : Desk) → IsDesk rack area entry before pool x → LeavesDesk area entry before now pool x) → TellsAsBefore entry now
-      → RunsFrom rack area chosen words status input start new entry now first
+      → Served rack area choices first ended input start mid entry before pool → EndsWithLine ended status mid new
+      → ((x : Desk) → IsDesk rack area entry before pool x → LeavesDesk rack area entry before now pool x) → TellsAsBefore entry now
+      → RunsFrom rack area choices words status input start new entry now first
   run_served words status ended input start mid new entry before now pool session other is line leaves tells = elim line.is [
     | inl same ↦
         let prints = subst (λ m. Prints status m (last_text m) mid new) same line.prints in
@@ -167,10 +186,10 @@ module _ {R A : Type 0} (rack : racks.Ghosts R) (area : areas.Ghosts A) (chosen 
         run_of words status NoMemory input start mid new entry before now pool (λ e. absurd (not_usage e)) session short (leaves short.last short.desk) tells prints
   ]
 
-module _ {R A : Type 0} (rack : racks.Ghosts R) (area : areas.Ghosts A) (chosen : List Room → Option ℕ → Type 0) (words : List (List ℕ)) (status : Status) (input old new : Option (List ℕ)) (entry : OnShelf) (first : Desk) (at : HoldsDesk first entry entry) where
+module _ {R A : Type 0} (rack : racks.Ghosts R) (area : areas.Ghosts A) (choices : Choices) (words : List (List ℕ)) (status : Status) (input old new : Option (List ℕ)) (entry : OnShelf) (first : Desk) (at : HoldsDesk first entry entry) where
   -- a run that does nothing but print its last line
   run_of_none : (meant : Status) → (meant ≡ Usage → IsSession words → ⊥) → (meant ≡ Usage) ⊎ (meant ≡ NoMemory) → ((known : Option (List ℕ)) → MatchOption known ⊤ (Ends meant None [])) → Shows meant [] []
-      → BreaksOff meant None first first → GetsReplies meant [] old old → (HasNumber meant → ⊥) → EndsWithLine meant status old new → RunsFrom rack area chosen words status input old new entry entry first
+      → BreaksOff meant None first first → GetsReplies meant [] old old → (HasNumber meant → ⊥) → EndsWithLine meant status old new → RunsFrom rack area choices words status input old new entry entry first
   run_of_none meant wrong refused ends shows breaks gets plain line = elim line.is [
     | inl same ↦ record {
       last = first;
@@ -207,14 +226,14 @@ module _ {R A : Type 0} (rack : racks.Ghosts R) (area : areas.Ghosts A) (chosen 
       back (Foreign known) is = absurd is
 
   -- a run whose words aren't those of a session
-  pub run_refused : (IsSession words → ⊥) → EndsWithLine Usage status old new → RunsFrom rack area chosen words status input old new entry entry first
+  pub run_refused : (IsSession words → ⊥) → EndsWithLine Usage status old new → RunsFrom rack area choices words status input old new entry entry first
   run_refused wrong = run_of_none Usage (λ e. wrong) (inl refl) ends_nothing refl refl (appends_none old) (λ number. number) where
     ends_nothing : (known : Option (List ℕ)) → MatchOption known ⊤ (Ends Usage None [])
     ends_nothing None = tt
     ends_nothing (Some bytes) = refl
 
   -- a run whose words can't be read for want of memory
-  pub run_unread : EndsWithLine NoMemory status old new → RunsFrom rack area chosen words status input old new entry entry first
+  pub run_unread : EndsWithLine NoMemory status old new → RunsFrom rack area choices words status input old new entry entry first
   run_unread = run_of_none NoMemory (λ e. absurd (not_usage e)) (inr refl) ends_nothing (inl refl) refl (appends_none old) (λ number. number) where
     ends_nothing : (known : Option (List ℕ)) → MatchOption known ⊤ (Ends NoMemory None [])
     ends_nothing None = tt

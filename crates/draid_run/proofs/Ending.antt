@@ -4,7 +4,6 @@ use Rattle.std.specs.Prelude.{slice_index_or}
 use Rattle.std.specs.List.{before_first, position_or_len}
 use Rattle.std.proofs.lemmas.Bool.{cases_lt}
 use Rattle.draid_names.specs.declared.numbers.TheConstants.{LONGEST_LINE}
-use Rattle.draid_names.specs.declared.room.Room.{Room}
 use Rattle.draid_rack.specs.declared.Rack as racks
 use Rattle.draid_area.specs.declared.Area as areas
 use Rattle.draid_lines.specs.Lines.{IsTooLong, is_end, lines_of}
@@ -12,6 +11,7 @@ use Rattle.draid_lines.proofs.Ends.{lines_first, lines_last, position-le}
 use Rattle.draid_script.specs.Grammar.{line_of}
 use Rattle.draid_script.specs.Line.{Command, ImportPool}
 use Rattle.draid_script.specs.declared.fault.LineFault.{LineFault}
+use Rattle.draid_session.specs.Choices.{Choices}
 use Rattle.draid_session.specs.Session.{Desk, Untouched, Bare, Made, Open, Shut, Foreign, Unknown, Breaks, BreaksGiven, RecordFails}
 use Rattle.draid_session.specs.State.{State}
 use Rattle.draid_run.specs.Ending.{CanRun, EndsWell, IsBuilt, IsUndisturbed, IsUntold}
@@ -96,7 +96,7 @@ meant_is : (status ended : Status) (text : List ℕ) (old new : Option (List ℕ
 meant_is SinkFault ended text old new sink prints = absurd (sink refl)
 meant_is status ended text old new sink prints = sym prints.0
 
-module _ {R A : Type 0} (rack : racks.Ghosts R) (area : areas.Ghosts A) (chosen : List Room → Option ℕ → Type 0) (words : List (List ℕ)) (input : List ℕ) (session : IsSession words) (can : CanRun input) where
+module _ {R A : Type 0} (rack : racks.Ghosts R) (area : areas.Ghosts A) (choices : Choices) (words : List (List ℕ)) (input : List ℕ) (session : IsSession words) (can : CanRun input) where
   by_end : (ended : Status) (broken : Option (List ℕ)) (lines : List (List ℕ)) (mid last : Desk) → IsUndisturbed ended → (ended ≡ Usage → IsSession words → ⊥) → BreaksOff ended broken mid last → Ends ended broken lines input → EndsWell ended mid
   by_end Done broken lines mid last quiet usage breaks ends = tt
   by_end Usage broken lines mid last quiet usage breaks ends = usage refl session
@@ -110,7 +110,7 @@ module _ {R A : Type 0} (rack : racks.Ghosts R) (area : areas.Ghosts A) (chosen 
   by_end (Record metaslab place kind) None lines mid last quiet usage breaks ends = absurd breaks
   by_end (Record metaslab place kind) (Some text) lines mid last quiet usage breaks ends = untold_by mid last breaks.command breaks.breaks
 
-  pub ends_well : (status : Status) (old new : Option (List ℕ)) (entry now : OnShelf) (first : Desk) → (it : RunsFrom rack area chosen words status (Some input) old new entry now first) → IsUndisturbed status → EndsWell status it.session.mid
+  pub ends_well : (status : Status) (old new : Option (List ℕ)) (entry now : OnShelf) (first : Desk) → (it : RunsFrom rack area choices words status (Some input) old new entry now first) → IsUndisturbed status → EndsWell status it.session.mid
   ends_well status old new entry now first it quiet =
       let s = it.session in
       let same : s.ended ≡ status = meant_is status s.ended (last_text s.ended) s.prints.between new quiet.sink s.prints.last in

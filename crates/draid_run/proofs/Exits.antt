@@ -1,8 +1,9 @@
 -- What the exits of a run's functions come to.
-use Rattle.std.proofs.Common.{arith, ◌≡◌, ◌≤◌, inl, inr, ◌⊎◌, ℕ, List, Option, Some, None, Result, Ok, Err, Vec, Global, refl, subst, sym}
+use Rattle.std.proofs.Common.{arith, ◌≡◌, ◌≤◌, inl, inr, ◌⊎◌, ℕ, List, [], Option, Some, None, Result, Ok, Err, Vec, Global, refl, subst, sym}
 use Rattle.std.specs.Prelude.{⊤}
+use Rattle.std.specs.Io.KnownBytes.{Appends}
+use Rattle.std.proofs.lemmas.List.{append-nil}
 use Rattle.draid_names.specs.Faults.{Rose}
-use Rattle.draid_names.specs.declared.room.Room.{Room}
 use Rattle.draid_rack.specs.declared.Rack as racks
 use Rattle.draid_area.specs.declared.Area as areas
 use Rattle.draid_lines.specs.declared.lines.ReadFault.{ReadFault}
@@ -11,6 +12,8 @@ use Rattle.draid_script.specs.Grammar.{line_of}
 use Rattle.draid_script.specs.Line.{Command}
 use Rattle.draid_reply.specs.Reply.{text_of}
 use Rattle.draid_reply.specs.declared.reply.Reply.{Reply}
+use Rattle.draid_session.specs.Said.{alone}
+use Rattle.draid_session.specs.Choices.{Choices}
 use Rattle.draid_session.specs.Session.{Desk}
 use Rattle.draid_pool.specs.declared.pool.Pool.{Pool}
 use Rattle.draid_run.specs.Desks.{Turned}
@@ -20,6 +23,7 @@ use Rattle.draid_run.specs.Shelves.{OnShelf}
 use Rattle.draid_run.specs.declared.answer.Stop.{Stop}
 use Rattle.draid_run.specs.declared.answer.Stop.TheVariants as stop
 use Rattle.draid_run.specs.declared.status.Status.{Status}
+use Rattle.draid_run.proofs.Known.{appends_none}
 use Rattle.draid_run.specs.declared.status.Status.TheVariants.{Done, Usage, Line, SourceFault, SinkFault, NoMemory, TooLong, ShelfFault, Record}
 
 -- nothing failed since
@@ -86,12 +90,14 @@ module _ (P : Type 0) where
   stop_cause number (stop.Record metaslab place kind) status is sink = absurd (cc (is, sink))
 
 -- a line was answered, and its reply printed or not
-module _ {R A : Type 0} (rack : racks.Ghosts R) (area : areas.Ghosts A) (chosen : List Room → Option ℕ → Type 0) (number : ℕ) (text : List ℕ) (entry before : OnShelf) (pool : Option (Pool R A)) (x : Desk) (now : OnShelf) (pool' : Option (Pool R A)) (reply : Reply) (held held' : Option (List ℕ)) where
-  pub line_told : (result : Result Unit Status) → Turned rack area chosen (line_of text) entry x (Some reply) now pool' → PrintIs (text_of reply) held held' result
-      → LineIs rack area chosen number text entry before pool x now pool' held held' result
-  line_told (Ok done) turned prints = record { reply = Some reply; turned = turned; prints = prints }
-  line_told (Err SinkFault) turned prints = record { reply = reply; turned = turned; prints = prints }
-  line_told (Err NoMemory) turned prints = (prints, inr (reply, turned))
+module _ {R A : Type 0} (rack : racks.Ghosts R) (area : areas.Ghosts A) (choices : Choices) (number : ℕ) (text : List ℕ) (entry before : OnShelf) (pool : Option (Pool R A)) (x : Desk) (now : OnShelf) (pool' : Option (Pool R A)) (reply : Reply) (held held' : Option (List ℕ)) where
+  pub line_told : (result : Result Unit Status) → Turned rack area choices (line_of text) entry x (alone reply) now pool' → PrintIs (text_of reply) held held' result
+      → LineIs rack area choices number text entry before pool x now pool' held held' result
+  line_told (Ok done) turned prints = record { saids = alone reply; turned = turned; prints = subst (λ text. Appends held held' text) (sym (append-nil (text_of reply))) prints }
+  line_told (Err SinkFault) turned prints =
+      record { part = []; said = record { lane = None; reply = reply }; rest = []; mid = held; turned = turned; whole = appends_none held; prints = prints }
+  line_told (Err NoMemory) turned prints =
+      inr (record { part = []; said = record { lane = None; reply = reply }; rest = []; turned = turned; prints = subst (λ now. Appends held now []) (sym prints) (appends_none held) })
   line_told (Err Done) turned prints = absurd prints
   line_told (Err Usage) turned prints = absurd prints
   line_told (Err (Line line kind at)) turned prints = absurd prints
@@ -101,15 +107,15 @@ module _ {R A : Type 0} (rack : racks.Ghosts R) (area : areas.Ghosts A) (chosen 
   line_told (Err (Record metaslab place kind)) turned prints = absurd prints
 
 -- a line has no reply, and the run ends
-module _ {R A : Type 0} (rack : racks.Ghosts R) (area : areas.Ghosts A) (chosen : List Room → Option ℕ → Type 0) (number : ℕ) (text : List ℕ) (entry before : OnShelf) (pool : Option (Pool R A)) (x : Desk) (now : OnShelf) (pool' : Option (Pool R A)) (held : Option (List ℕ)) (command : Command) (line : line_of text ≡ Ok command) where
-  by_stop : (why : Stop) → AnswerIs rack area chosen command entry before pool x now pool' (Err why) → LineIs rack area chosen number text entry before pool x now pool' held held (Err (status_of number why))
+module _ {R A : Type 0} (rack : racks.Ghosts R) (area : areas.Ghosts A) (choices : Choices) (number : ℕ) (text : List ℕ) (entry before : OnShelf) (pool : Option (Pool R A)) (x : Desk) (now : OnShelf) (pool' : Option (Pool R A)) (held : Option (List ℕ)) (command : Command) (line : line_of text ≡ Ok command) where
+  by_stop : (why : Stop) → AnswerIs rack area choices command entry before pool x now pool' (Err why) → LineIs rack area choices number text entry before pool x now pool' held held (Err (status_of number why))
   by_stop stop.Unbuilt answered = (subst (λ r. LineFaultIs r 7 0) (sym line) (answered.0, refl, refl), answered.1, answered.2, refl, refl)
   by_stop stop.Shelf answered = (refl, record { command = command; line = line; broken = answered })
   by_stop (stop.Record metaslab place kind) answered = (refl, record { command = command; line = line; broken = answered.0 }, answered.1)
 
-  pub line_stopped : (why : Stop) (status : Status) → status ≡ status_of number why → AnswerIs rack area chosen command entry before pool x now pool' (Err why)
-      → LineIs rack area chosen number text entry before pool x now pool' held held (Err status)
-  line_stopped why status is answered = subst (λ s. LineIs rack area chosen number text entry before pool x now pool' held held (Err s)) (sym is) (by_stop why answered)
+  pub line_stopped : (why : Stop) (status : Status) → status ≡ status_of number why → AnswerIs rack area choices command entry before pool x now pool' (Err why)
+      → LineIs rack area choices number text entry before pool x now pool' held held (Err status)
+  line_stopped why status is answered = subst (λ s. LineIs rack area choices number text entry before pool x now pool' held held (Err s)) (sym is) (by_stop why answered)
 
 -- ---- the next line's text
 

@@ -8,15 +8,15 @@ use Rattle.draid_segments.specs.Segments.{Pieces}
 use Rattle.draid_shelf.specs.Kits.{AreNewChecks, Held, KitTold, OnHeld}
 use Rattle.draid_session.specs.Session.{Desk, Untouched, Bare, Made, Open, Shut, Foreign, Unknown}
 use Rattle.draid_session.specs.State.{Metaslab, State}
-use Rattle.draid_pool.specs.Returning.{GivesBack, HoldsPool, Rests, RestsOn, SameCounts, AreaFailed}
-use Rattle.draid_pool.specs.Failing.{AreaFails}
+use Rattle.draid_pool.specs.Returning.{GivesBack, HoldsPool, Rests, RestsOn, SameCounts, AreaFailed, RackFailed}
+use Rattle.draid_pool.specs.Failing.{AreaFails, RackFails}
 use Rattle.draid_pool.specs.Importable.{IsFindable, IsImportable}
 use Rattle.draid_pool.specs.Pools.{Represents}
 use Rattle.draid_pool.specs.Records.{HasLeafNumbers}
 use Rattle.draid_pool.specs.Ubers.{UberStands}
 use Rattle.draid_pool.specs.declared.pool.Pool.{Pool}
 use Rattle.draid_run.specs.Desks.{IsDesk, LeavesDesk}
-use Rattle.draid_run.specs.Shelves.{AreaHasFailed, HasChecks, HoldsShut, IsOut, OnShelf, TellsAsBefore}
+use Rattle.draid_run.specs.Shelves.{AreaHasFailed, HasChecks, HoldsShut, IsOut, OnShelf, RackFailedOn, RackHasFailed, TellsAsBefore}
 
 -- ---- whether the shelf tells makes no other difference to what it holds
 
@@ -97,35 +97,44 @@ area_shows crash x now holds failed = elim failed [
   | inr some ↦ (let same = holds.uber in inr (omega (arith, same, some)))
 ]
 
+-- so what has failed on a rack as a whole
+racks_show : (crash : Bool) (x : State) (now : OnShelf) → HoldsShut crash x now → RackHasFailed x → RackFailedOn now
+racks_show crash x now holds at =
+    let same : SameCounts at.1.counts (now.counts at.0) = holds.counts at.0 at.1 at.2 in
+    let count = same.rack None in
+    let some = at.3 in
+    (at.0, omega (arith, count, some))
+
 module _ {R A : Type 0} (rack : racks.Ghosts R) (area : areas.Ghosts A) (entry before now : OnShelf) (desk : Option (Pool R A)) where
-  pub leaves_shut : desk ≡ None → now ≡ before → (x : Desk) → IsDesk rack area entry before desk x → LeavesDesk area entry before now desk x
+  pub leaves_shut : desk ≡ None → now ≡ before → (x : Desk) → IsDesk rack area entry before desk x → LeavesDesk rack area entry before now desk x
   leaves_shut none same x =
-      subst (λ d. IsDesk rack area entry before d x → LeavesDesk area entry before now d x) (sym none)
-      (subst (λ n. IsDesk rack area entry before None x → LeavesDesk {R = R} area entry before n None x) (sym same) (by x))
+      subst (λ d. IsDesk rack area entry before d x → LeavesDesk rack area entry before now d x) (sym none)
+      (subst (λ n. IsDesk rack area entry before None x → LeavesDesk rack area entry before n None x) (sym same) (by x))
     where
-      by : (x : Desk) → IsDesk rack area entry before None x → LeavesDesk {R = R} area entry before before None x
-      by Untouched is = record { shelf = is.shelf; failed = λ failed. failed; same = λ closed. refl }
-      by Bare is = record { shelf = is.shelf; failed = λ failed. failed; same = λ closed. refl }
-      by (Made tells count geometry) is = record { shelf = is.shelf; failed = λ failed. failed; same = λ closed. refl }
-      by (Shut crash y) is = record { shelf = is.shelf; failed = λ failed. failed; same = λ closed. refl }
-      by Unknown is = record { shelf = is.shelf; failed = λ failed. failed; same = λ closed. refl }
+      by : (x : Desk) → IsDesk rack area entry before None x → LeavesDesk rack area entry before before None x
+      by Untouched is = record { shelf = is.shelf; failed = λ failed. failed; racks = λ fault. absurd fault; same = λ closed. refl }
+      by Bare is = record { shelf = is.shelf; failed = λ failed. failed; racks = λ fault. absurd fault; same = λ closed. refl }
+      by (Made tells count geometry) is = record { shelf = is.shelf; failed = λ failed. failed; racks = λ fault. absurd fault; same = λ closed. refl }
+      by (Shut crash y) is = record { shelf = is.shelf; failed = λ failed. failed; racks = λ fault. absurd fault; same = λ closed. refl }
+      by Unknown is = record { shelf = is.shelf; failed = λ failed. failed; racks = λ fault. absurd fault; same = λ closed. refl }
       by (Open y) is = absurd is.stands
       by (Foreign known) is = absurd is.stands
 
   pub leaves_open : (pool : Pool R A) → desk ≡ Some pool → ((x : State) → Represents rack area pool x → GivesBack x false before.held now.held now.leaves now.counts now.own.uber) → now.own.checks ≡ before.own.checks → TellsAsBefore before now
-      → (AreaFails area.faults pool → AreaFailed now.counts now.own) → (x : Desk) → IsDesk rack area entry before desk x → LeavesDesk area entry before now desk x
-  leaves_open pool some back checks tells shows x = subst (λ d. IsDesk rack area entry before d x → LeavesDesk area entry before now d x) (sym some) (by x) where
-    by : (x : Desk) → IsDesk rack area entry before (Some pool) x → LeavesDesk area entry before now (Some pool) x
+      → (AreaFails area.faults pool → AreaFailed now.counts now.own) → (RackFails rack.faults pool → RackFailed now.counts) → (x : Desk) → IsDesk rack area entry before desk x → LeavesDesk rack area entry before now desk x
+  leaves_open pool some back checks tells shows whole x = subst (λ d. IsDesk rack area entry before d x → LeavesDesk rack area entry before now d x) (sym some) (by x) where
+    by : (x : Desk) → IsDesk rack area entry before (Some pool) x → LeavesDesk rack area entry before now (Some pool) x
     by Untouched is = absurd is.stands
     by Bare is = absurd is.stands
     by (Made told count geometry) is = absurd is.stands
     by (Shut crash y) is = absurd is.stands
     by Unknown is = absurd is.stands
-    by (Foreign known) is = record { shelf = tt; failed = λ failed. inr (shows failed); same = λ closed. absurd closed }
+    by (Foreign known) is = record { shelf = tt; failed = λ failed. inr (shows failed); racks = whole; same = λ closed. absurd closed }
     by (Open y) is =
         let holds = shelf_has y false before now (back y is.stands.1) checks tells is.shelf in
         record {
           shelf = holds;
           failed = λ failed. inr (area_shows false y now holds failed);
+          racks = racks_show false y now holds;
           same = λ closed. absurd closed;
         }

@@ -1,6 +1,5 @@
 -- What a sync, an export and a crash did, in the words of a session.
-use Rattle.std.proofs.Common.{◌≡◌, ◌∙◌, refl, sym, ap, subst, ℕ, true, false, List, [], Option, Some, None, Result, Ok, Err}
-use Rattle.draid_names.specs.declared.room.Room.{Room}
+use Rattle.std.proofs.Common.{◌≡◌, ◌∙◌, ◌⊎◌, inl, inr, refl, sym, ap, subst, ℕ, true, false, List, [], Option, Some, None, Result, Ok, Err}
 use Rattle.draid_rack.specs.declared.Rack as racks
 use Rattle.draid_area.specs.declared.Area as areas
 use Rattle.draid_script.specs.Line.{Command, CrashPool, ExportPool, SyncPool}
@@ -8,6 +7,9 @@ use Rattle.draid_script.specs.declared.name.CommandName.{CommandName}
 use Rattle.draid_script.specs.declared.name.CommandName.TheVariants as name
 use Rattle.draid_reply.specs.declared.reply.Reply.{Reply}
 use Rattle.draid_reply.specs.declared.reply.Reply.TheVariants.{Crashed, Exported, Last, NoMemory, NoPool, Synced, Worn}
+use Rattle.draid_session.specs.Certain.{MakesLeaves}
+use Rattle.draid_session.specs.Said.{alone}
+use Rattle.draid_session.specs.Choices.{Choices}
 use Rattle.draid_session.specs.Follows.{Follows}
 use Rattle.draid_session.specs.Groups as groups
 use Rattle.draid_session.specs.Holds.{Hold}
@@ -31,12 +33,11 @@ use Rattle.draid_run.specs.Desks.{Broken, IsDesk, IsPool, IsShelf, Turned}
 use Rattle.draid_run.specs.Groups.{CrashDid, CrashTurns, ExportDid, ExportIs, ExportTurns, Leads, RefusalIs, SyncDid, SyncLeads, SyncShows, desk_left, export_reply, foreign_left, refusal_of, sync_reply}
 use Rattle.draid_pool.specs.Knows.{KnowsPointers}
 use Rattle.draid_run.specs.Serve.{AnswerIs, IsSaid}
-use Rattle.draid_run.specs.Shelves.{IsOut, MayFind, OnShelf, PoolFails, TellsAsBefore}
+use Rattle.draid_run.specs.Shelves.{AreaHasFailed, IsOut, MayFind, OnShelf, PoolFails, RackHasFailed, TellsAsBefore}
 use Rattle.draid_run.specs.declared.answer.Stop.{Stop}
 use Rattle.draid_run.specs.declared.answer.Stop.TheVariants as stop
 use Rattle.draid_run.proofs.Behind.{open_behind, still_foreign, sync_keeps}
 use Rattle.draid_run.proofs.Broke.{broken_shows}
-use Rattle.draid_pool.proofs.Following.{same_store}
 use Rattle.draid_run.proofs.GivenBack.{shelf_has}
 use Rattle.draid_pool.proofs.Steps.{by_answer}
 use Rattle.draid_run.proofs.Steps.{still_out}
@@ -107,12 +108,12 @@ module _ {R A : Type 0} (rack : racks.Ghosts R) (area : areas.Ghosts A) where
 ok_same : (a b : Reply) (x y : Result Reply Stop) → x ≡ Ok a → y ≡ Ok b → x ≡ y → a ≡ b
 ok_same a b x y one other same = (let z = sym one ∙ same ∙ other in cc)
 
-module _ (chosen : List Room → Option ℕ → Type 0) (x : State) (holds : List Hold) (store : Store) where
-  sync_does : (answer : Result Group SyncFault) (reply : Reply) → sync_reply answer ≡ Some reply → SyncDoes x answer holds store → ReplyDoes x chosen SyncPool reply holds store
-  sync_does (Ok it) reply is does = subst (λ r. ReplyDoes x chosen SyncPool r holds store) (some_same (Synced it.group it.thin) reply is) does
-  sync_does (Err sync.Worn) reply is does = subst (λ r. ReplyDoes x chosen SyncPool r holds store) (some_same (Worn name.Sync) reply is) does
-  sync_does (Err sync.Last) reply is does = subst (λ r. ReplyDoes x chosen SyncPool r holds store) (some_same (Last name.Sync) reply is) does
-  sync_does (Err sync.NoMemory) reply is does = subst (λ r. ReplyDoes x chosen SyncPool r holds store) (some_same (NoMemory name.Sync) reply is) does
+module _ (choices : Choices) (x : State) (holds : List Hold) (store : Store) where
+  sync_does : (answer : Result Group SyncFault) (reply : Reply) → sync_reply answer ≡ Some reply → SyncDoes x answer holds store → ReplyDoes x choices SyncPool reply holds store
+  sync_does (Ok it) reply is does = subst (λ r. ReplyDoes x choices SyncPool r holds store) (some_same (Synced it.group it.thin) reply is) does
+  sync_does (Err sync.Worn) reply is does = subst (λ r. ReplyDoes x choices SyncPool r holds store) (some_same (Worn name.Sync) reply is) does
+  sync_does (Err sync.Last) reply is does = subst (λ r. ReplyDoes x choices SyncPool r holds store) (some_same (Last name.Sync) reply is) does
+  sync_does (Err sync.NoMemory) reply is does = subst (λ r. ReplyDoes x choices SyncPool r holds store) (some_same (NoMemory name.Sync) reply is) does
   sync_does (Err sync.Shelf) reply is does = absurd (cc is)
 
   sync_fails : (answer : Result Group SyncFault) → sync_reply answer ≡ None → SyncDoes x answer holds store → (store ≡ x.store) × groups.SyncStops x.geometry x.perms holds Broke
@@ -129,31 +130,27 @@ module _ (chosen : List Room → Option ℕ → Type 0) (x : State) (holds : Lis
   export_fails (Err sync.NoMemory) is does = absurd (cc is)
   export_fails (Err sync.Shelf) is does = does
 
--- the holds lead to the state with what the pool has of its own then, where that is as it was
-follows_to : (x mid : State) (holds : List Hold) (store : Store) → Follows holds x mid → store ≡ x.store → Follows holds x (record mid { store = store })
-follows_to x mid holds store follows same = subst (λ t. Follows holds x (record mid { store = t })) (same_store holds x mid follows ∙ sym same) follows
-
-module _ {R A : Type 0} (rack : racks.Ghosts R) (area : areas.Ghosts A) (chosen : List Room → Option ℕ → Type 0) (entry before now : OnShelf) where
+module _ {R A : Type 0} (rack : racks.Ghosts R) (area : areas.Ghosts A) (choices : Choices) (entry before now : OnShelf) where
   -- a command has a reply
   abbrev TurnsTo : Command → Desk → Reply → Desk → Type 0
-  TurnsTo command x reply new = TurnsBy chosen (MayFind rack area entry) (Ok command) x (Some reply) new
+  TurnsTo command x reply new = TurnsBy choices (MayFind rack area entry) (Ok command) x (alone reply) new
 
   -- without a pool
   told : (x : Desk) (reply : Reply) (command : Command) (called : CommandName) (pool new : Option (Pool R A)) → reply ≡ NoPool called → new ≡ None → IsDesk rack area entry now None x → TurnsTo command x (NoPool called) x
-      → Turned rack area chosen (Ok command) entry x (Some reply) now new
+      → Turned rack area choices (Ok command) entry x (alone reply) now new
   told x reply command called pool new said none is turns =
-      subst (λ r. Turned rack area chosen (Ok command) entry x (Some r) now new) (sym said)
-      (subst (λ d. Turned rack area chosen (Ok command) entry x (Some (NoPool called)) now d) (sym none) (record { new = x; desk = is; turns = turns }))
+      subst (λ r. Turned rack area choices (Ok command) entry x (alone r) now new) (sym said)
+      (subst (λ d. Turned rack area choices (Ok command) entry x (alone (NoPool called)) now d) (sym none) (record { new = x; desk = is; turns = turns }))
 
   -- ---- a sync leaves the shelf alone
-  pub by_sync : (x : Desk) (reply : Reply) (desk new : Option (Pool R A)) → IsDesk rack area entry now desk x → SyncDid rack area x (Ok reply) new → Turned rack area chosen (Ok SyncPool) entry x (Some reply) now new
-  by_sync Untouched reply desk new is did = told Untouched reply SyncPool name.Sync desk new (ok_same reply (NoPool name.Sync) (Ok reply) (Ok (NoPool name.Sync)) refl refl did.0) did.1 (record { stands = tt; shelf = is.shelf }) (name.Sync, refl, refl, refl)
-  by_sync (Made tells count geometry) reply desk new is did = told (Made tells count geometry) reply SyncPool name.Sync desk new (ok_same reply (NoPool name.Sync) (Ok reply) (Ok (NoPool name.Sync)) refl refl did.0) did.1 (record { stands = tt; shelf = is.shelf }) (name.Sync, refl, refl, refl)
-  by_sync (Shut crash y) reply desk new is did = told (Shut crash y) reply SyncPool name.Sync desk new (ok_same reply (NoPool name.Sync) (Ok reply) (Ok (NoPool name.Sync)) refl refl did.0) did.1 (record { stands = tt; shelf = is.shelf }) (name.Sync, refl, refl, refl)
-  by_sync Bare reply desk new is did = told Bare reply SyncPool name.Sync desk new (ok_same reply (NoPool name.Sync) (Ok reply) (Ok (NoPool name.Sync)) refl refl did.0) did.1 (record { stands = tt; shelf = is.shelf }) (name.Sync, refl, refl, refl)
-  by_sync Unknown reply desk new is did = told Unknown reply SyncPool name.Sync desk new (ok_same reply (NoPool name.Sync) (Ok reply) (Ok (NoPool name.Sync)) refl refl did.0) did.1 (record { stands = tt; shelf = is.shelf }) (name.Sync, refl, refl, refl)
+  pub by_sync : (x : Desk) (reply : Reply) (desk new : Option (Pool R A)) → IsDesk rack area entry now desk x → SyncDid rack area x (Ok reply) new → Turned rack area choices (Ok SyncPool) entry x (alone reply) now new
+  by_sync Untouched reply desk new is did = told Untouched reply SyncPool name.Sync desk new (ok_same reply (NoPool name.Sync) (Ok reply) (Ok (NoPool name.Sync)) refl refl did.0) did.1 (record { stands = tt; shelf = is.shelf }) (refl, (name.Sync, refl, refl, refl))
+  by_sync (Made tells count geometry) reply desk new is did = told (Made tells count geometry) reply SyncPool name.Sync desk new (ok_same reply (NoPool name.Sync) (Ok reply) (Ok (NoPool name.Sync)) refl refl did.0) did.1 (record { stands = tt; shelf = is.shelf }) (refl, (name.Sync, refl, refl, refl))
+  by_sync (Shut crash y) reply desk new is did = told (Shut crash y) reply SyncPool name.Sync desk new (ok_same reply (NoPool name.Sync) (Ok reply) (Ok (NoPool name.Sync)) refl refl did.0) did.1 (record { stands = tt; shelf = is.shelf }) (refl, (name.Sync, refl, refl, refl))
+  by_sync Bare reply desk new is did = told Bare reply SyncPool name.Sync desk new (ok_same reply (NoPool name.Sync) (Ok reply) (Ok (NoPool name.Sync)) refl refl did.0) did.1 (record { stands = tt; shelf = is.shelf }) (refl, (name.Sync, refl, refl, refl))
+  by_sync Unknown reply desk new is did = told Unknown reply SyncPool name.Sync desk new (ok_same reply (NoPool name.Sync) (Ok reply) (Ok (NoPool name.Sync)) refl refl did.0) did.1 (record { stands = tt; shelf = is.shelf }) (refl, (name.Sync, refl, refl, refl))
   by_sync (Foreign known) reply desk None is did = absurd did
-  by_sync (Foreign known) reply desk (Some new) is did = record { new = Foreign known; desk = record { stands = (did.0, did.2); shelf = tt }; turns = (did.1, known, refl, still_foreign reply known (sync_keeps reply did.1)) }
+  by_sync (Foreign known) reply desk (Some new) is did = record { new = Foreign known; desk = record { stands = (did.0, did.2); shelf = tt }; turns = (refl, (did.1, known, refl, still_foreign reply known (sync_keeps reply did.1))) }
   by_sync (Open y) reply desk None is did = absurd did
   by_sync (Open y) reply desk (Some new) is did =
       let c = did.2 in
@@ -161,9 +158,12 @@ module _ {R A : Type 0} (rack : racks.Ghosts R) (area : areas.Ghosts A) (chosen 
         new = Open (record c.reached { store = c.store });
         desk = record { stands = (did.0, c.represents); shelf = still_out y c.reached now c.holds c.follows is.shelf c.store };
         turns = (
-          record c.reached { store = c.store },
-          record { holds = c.holds; mid = c.reached; store = c.store; follows = c.follows; does = sync_does chosen y c.holds c.store c.done.0 reply c.done.1 c.done.2; made = refl },
-          open_behind reply (record c.reached { store = c.store }) (sync_keeps reply did.1),
+          refl,
+          (
+            record c.reached { store = c.store },
+            record { holds = c.holds; mid = c.reached; store = c.store; follows = c.follows; does = sync_does choices y c.holds c.store c.done.0 reply c.done.1 c.done.2; made = refl },
+            open_behind reply (record c.reached { store = c.store }) (sync_keeps reply did.1),
+          ),
         );
       }
 
@@ -174,46 +174,45 @@ module _ {R A : Type 0} (rack : racks.Ghosts R) (area : areas.Ghosts A) (chosen 
   sync_breaks Bare desk new is did = absurd (cc (did.0))
   sync_breaks Unknown desk new is did = absurd (cc (did.0))
   sync_breaks (Foreign known) desk None is did = absurd did
-  sync_breaks (Foreign known) desk (Some new) is did = record { new = Foreign known; desk = record { stands = (did.0, did.2); shelf = tt }; breaks = (tt, refl); cause = did.1 }
+  sync_breaks (Foreign known) desk (Some new) is did = record { new = Foreign known; desk = record { stands = (did.0, did.2); shelf = tt }; breaks = (tt, refl); cause = inl did.1 }
   sync_breaks (Open y) desk None is did = absurd did
   sync_breaks (Open y) desk (Some new) is did =
       let c = did.2 in
-      let f = sync_fails chosen y c.holds c.store c.done.0 c.done.1 c.done.2 in
-      let follows = follows_to y c.reached c.holds c.store c.follows f.0 in
+      let f = sync_fails choices y c.holds c.store c.done.0 c.done.1 c.done.2 in
       record {
         new = Open (record c.reached { store = c.store });
         desk = record { stands = (did.0, c.represents); shelf = still_out y c.reached now c.holds c.follows is.shelf c.store };
-        breaks = (record c.reached { store = c.store }, refl, record { holds = c.holds; follows = follows; broken = f.1 });
-        cause = broken_shows y.geometry y.perms SyncPool c.holds y (record c.reached { store = c.store }) f.1 follows;
+        breaks = (record c.reached { store = c.store }, refl, record { holds = c.holds; mid = c.reached; store = c.store; follows = c.follows; broken = f; made = refl });
+        cause = broken_shows y.geometry y.perms SyncPool y.store c.holds c.store y c.reached f c.follows;
       }
 
   -- ---- an export
   export_turns : (x y : State) (answer : Result ℕ SyncFault) (reply : Reply) (new : Desk) → export_reply answer ≡ Some reply → new ≡ desk_left answer y → Leads x y (ExportDoes x answer) → TurnsTo ExportPool (Open x) reply new
   export_turns x y (Ok group) reply new is b l = subst (λ r. TurnsTo ExportPool (Open x) r new) (some_same (Exported group) reply is)
-      (y, record { holds = l.holds; mid = l.mid; store = l.store; follows = l.follows; does = l.done; made = l.made }, b)
+      (refl, (y, record { holds = l.holds; mid = l.mid; store = l.store; follows = l.follows; does = l.done; made = l.made }, b))
   export_turns x y (Err sync.Worn) reply new is b l = subst (λ r. TurnsTo ExportPool (Open x) r new) (some_same (Worn name.Export) reply is)
-      (y, record { holds = l.holds; mid = l.mid; store = l.store; follows = l.follows; does = l.done; made = l.made }, b)
+      (refl, (y, record { holds = l.holds; mid = l.mid; store = l.store; follows = l.follows; does = l.done; made = l.made }, b))
   export_turns x y (Err sync.Last) reply new is b l = subst (λ r. TurnsTo ExportPool (Open x) r new) (some_same (Last name.Export) reply is)
-      (y, record { holds = l.holds; mid = l.mid; store = l.store; follows = l.follows; does = l.done; made = l.made }, b)
+      (refl, (y, record { holds = l.holds; mid = l.mid; store = l.store; follows = l.follows; does = l.done; made = l.made }, b))
   export_turns x y (Err sync.NoMemory) reply new is b l = subst (λ r. TurnsTo ExportPool (Open x) r new) (some_same (NoMemory name.Export) reply is)
-      (y, record { holds = l.holds; mid = l.mid; store = l.store; follows = l.follows; does = l.done; made = l.made }, b)
+      (refl, (y, record { holds = l.holds; mid = l.mid; store = l.store; follows = l.follows; does = l.done; made = l.made }, b))
   export_turns x y (Err sync.Shelf) reply new is b l = absurd (cc is)
 
   foreign_turns : (known : Known) (answer : Result ℕ SyncFault) (reply : Reply) (new : Desk) → export_reply answer ≡ Some reply → new ≡ foreign_left answer known → TurnsTo ExportPool (Foreign known) reply new
-  foreign_turns known (Ok group) reply new is b = subst (λ r. TurnsTo ExportPool (Foreign known) r new) (some_same (Exported group) reply is) (tt, known, refl, b)
-  foreign_turns known (Err sync.Worn) reply new is b = subst (λ r. TurnsTo ExportPool (Foreign known) r new) (some_same (Worn name.Export) reply is) (tt, known, refl, b)
-  foreign_turns known (Err sync.Last) reply new is b = subst (λ r. TurnsTo ExportPool (Foreign known) r new) (some_same (Last name.Export) reply is) (tt, known, refl, b)
-  foreign_turns known (Err sync.NoMemory) reply new is b = subst (λ r. TurnsTo ExportPool (Foreign known) r new) (some_same (NoMemory name.Export) reply is) (tt, known, refl, b)
+  foreign_turns known (Ok group) reply new is b = subst (λ r. TurnsTo ExportPool (Foreign known) r new) (some_same (Exported group) reply is) (refl, (tt, known, refl, b))
+  foreign_turns known (Err sync.Worn) reply new is b = subst (λ r. TurnsTo ExportPool (Foreign known) r new) (some_same (Worn name.Export) reply is) (refl, (tt, known, refl, b))
+  foreign_turns known (Err sync.Last) reply new is b = subst (λ r. TurnsTo ExportPool (Foreign known) r new) (some_same (Last name.Export) reply is) (refl, (tt, known, refl, b))
+  foreign_turns known (Err sync.NoMemory) reply new is b = subst (λ r. TurnsTo ExportPool (Foreign known) r new) (some_same (NoMemory name.Export) reply is) (refl, (tt, known, refl, b))
   foreign_turns known (Err sync.Shelf) reply new is b = absurd (cc is)
 
-  pub by_export : (x : Desk) (reply : Reply) (new : Option (Pool R A)) → ExportDid rack area entry x (Some reply) now new → Turned rack area chosen (Ok ExportPool) entry x (Some reply) now new
+  pub by_export : (x : Desk) (reply : Reply) (new : Option (Pool R A)) → ExportDid rack area entry x (Some reply) now new → Turned rack area choices (Ok ExportPool) entry x (alone reply) now new
   by_export x reply new did = record { new = did.new; desk = did.desk; turns = by x did.turns } where
     by : (x : Desk) → ExportTurns x (Some reply) did.new → TurnsTo ExportPool x reply did.new
-    by Untouched turns = (name.Export, refl, some_same reply (NoPool name.Export) turns.0, turns.1)
-    by (Made tells count geometry) turns = (name.Export, refl, some_same reply (NoPool name.Export) turns.0, turns.1)
-    by (Shut crash y) turns = (name.Export, refl, some_same reply (NoPool name.Export) turns.0, turns.1)
-    by Bare turns = (name.Export, refl, some_same reply (NoPool name.Export) turns.0, turns.1)
-    by Unknown turns = (name.Export, refl, some_same reply (NoPool name.Export) turns.0, turns.1)
+    by Untouched turns = (refl, (name.Export, refl, some_same reply (NoPool name.Export) turns.0, turns.1))
+    by (Made tells count geometry) turns = (refl, (name.Export, refl, some_same reply (NoPool name.Export) turns.0, turns.1))
+    by (Shut crash y) turns = (refl, (name.Export, refl, some_same reply (NoPool name.Export) turns.0, turns.1))
+    by Bare turns = (refl, (name.Export, refl, some_same reply (NoPool name.Export) turns.0, turns.1))
+    by Unknown turns = (refl, (name.Export, refl, some_same reply (NoPool name.Export) turns.0, turns.1))
     by (Foreign known) turns = foreign_turns known turns.answer reply did.new turns.reply_is turns.new_is
     by (Open y) turns = export_turns y turns.y turns.answer reply did.new turns.reply_is turns.new_is turns.leads
 
@@ -235,40 +234,39 @@ module _ {R A : Type 0} (rack : racks.Ghosts R) (area : areas.Ghosts A) (chosen 
     by Unknown turns = absurd (cc (turns.0))
     by (Foreign known) turns =
         let same : did.new ≡ Foreign known = stays_foreign turns.answer known did.new turns.reply_is turns.new_is in
-        record { new = Foreign known; desk = subst (λ d. IsDesk rack area entry now new d) same did.desk; breaks = (tt, refl); cause = did.failed refl known same }
+        record { new = Foreign known; desk = subst (λ d. IsDesk rack area entry now new d) same did.desk; breaks = (tt, refl); cause = inl (did.failed refl known same) }
     by (Open y) turns =
         let l = turns.leads in
-        let f = export_fails chosen y l.holds l.store turns.answer turns.reply_is l.done in
-        let follows = subst (λ s. Follows l.holds y s) (sym l.made) (follows_to y l.mid l.holds l.store l.follows f.0) in
+        let f = export_fails choices y l.holds l.store turns.answer turns.reply_is l.done in
         let same : did.new ≡ Open turns.y = stays_open turns.answer turns.y did.new turns.reply_is turns.new_is in
         record {
           new = Open turns.y;
           desk = subst (λ d. IsDesk rack area entry now new d) same did.desk;
-          breaks = (turns.y, refl, record { holds = l.holds; follows = follows; broken = f.1 });
-          cause = broken_shows y.geometry y.perms ExportPool l.holds y turns.y f.1 follows;
+          breaks = (turns.y, refl, record { holds = l.holds; mid = l.mid; store = l.store; follows = l.follows; broken = f; made = l.made });
+          cause = subst (λ s. AreaHasFailed s ⊎ (MakesLeaves ExportPool × RackHasFailed s)) (sym l.made) (broken_shows y.geometry y.perms ExportPool y.store l.holds l.store y l.mid f l.follows);
         }
 
   -- ---- a crash
-  pub by_crash : (x : Desk) (reply : Reply) (new : Option (Pool R A)) → CrashDid rack area entry x reply now new → Turned rack area chosen (Ok CrashPool) entry x (Some reply) now new
+  pub by_crash : (x : Desk) (reply : Reply) (new : Option (Pool R A)) → CrashDid rack area entry x reply now new → Turned rack area choices (Ok CrashPool) entry x (alone reply) now new
   by_crash x reply new did = record { new = did.new; desk = did.desk; turns = by x did.turns } where
     by : (x : Desk) → CrashTurns x reply did.new → TurnsTo CrashPool x reply did.new
-    by Untouched turns = (name.Crash, refl, turns.0, turns.1)
-    by (Made tells count geometry) turns = (name.Crash, refl, turns.0, turns.1)
-    by (Shut crash y) turns = (name.Crash, refl, turns.0, turns.1)
-    by Bare turns = (name.Crash, refl, turns.0, turns.1)
-    by Unknown turns = (name.Crash, refl, turns.0, turns.1)
-    by (Foreign known) turns = subst (λ r. TurnsTo CrashPool (Foreign known) r did.new) (sym turns.0) (tt, known, refl, turns.1)
+    by Untouched turns = (refl, (name.Crash, refl, turns.0, turns.1))
+    by (Made tells count geometry) turns = (refl, (name.Crash, refl, turns.0, turns.1))
+    by (Shut crash y) turns = (refl, (name.Crash, refl, turns.0, turns.1))
+    by Bare turns = (refl, (name.Crash, refl, turns.0, turns.1))
+    by Unknown turns = (refl, (name.Crash, refl, turns.0, turns.1))
+    by (Foreign known) turns = subst (λ r. TurnsTo CrashPool (Foreign known) r did.new) (sym turns.0) (refl, (tt, known, refl, turns.1))
     by (Open y) turns = subst (λ r. TurnsTo CrashPool (Open y) r did.new) (sym turns.0)
-        (y, record { holds = []; mid = y; store = y.store; follows = refl; does = (refl, refl); made = refl }, turns.1)
+        (refl, (y, record { holds = []; mid = y; store = y.store; follows = refl; does = (refl, refl); made = refl }, turns.1))
 
   -- ---- the answers of the commands
   module _ (pool : Option (Pool R A)) (x : Desk) (new : Option (Pool R A)) where
     pub answer_sync : (given : Result Reply Stop) (result : Result (Option Reply) Stop) → IsSaid given result → before ≡ now → IsDesk rack area entry before pool x → SyncDid rack area x given new
-        → AnswerIs rack area chosen SyncPool entry before pool x now new result
+        → AnswerIs rack area choices SyncPool entry before pool x now new result
     answer_sync (Ok reply) result said same is did =
-        subst (AnswerIs rack area chosen SyncPool entry before pool x now new) (sym said) (by_sync x reply pool new (subst (λ b. IsDesk rack area entry b pool x) same is) did)
+        subst (AnswerIs rack area choices SyncPool entry before pool x now new) (sym said) (by_sync x reply pool new (subst (λ b. IsDesk rack area entry b pool x) same is) did)
     answer_sync (Err stop.Shelf) result said same is did =
-        subst (AnswerIs rack area chosen SyncPool entry before pool x now new) (sym said) (sync_breaks x pool new (subst (λ b. IsDesk rack area entry b pool x) same is) did)
+        subst (AnswerIs rack area choices SyncPool entry before pool x now new) (sym said) (sync_breaks x pool new (subst (λ b. IsDesk rack area entry b pool x) same is) did)
     answer_sync (Err (stop.Record metaslab place kind)) result said same is did = absurd (no_record x new did)
       where
         no_record : (x : Desk) (new : Option (Pool R A)) → SyncDid rack area x (Err (stop.Record metaslab place kind)) new → ⊥
@@ -294,9 +292,9 @@ module _ {R A : Type 0} (rack : racks.Ghosts R) (area : areas.Ghosts A) (chosen 
         not_unbuilt (Foreign known) None did = did
         not_unbuilt (Foreign known) (Some p) did = did.1
 
-    pub answer_export : (given : Result Reply Stop) (result : Result (Option Reply) Stop) → IsSaid given result → ExportIs rack area entry x now new given → AnswerIs rack area chosen ExportPool entry before pool x now new result
-    answer_export (Ok reply) result said did = subst (AnswerIs rack area chosen ExportPool entry before pool x now new) (sym said) (by_export x reply new did)
-    answer_export (Err stop.Shelf) result said did = subst (AnswerIs rack area chosen ExportPool entry before pool x now new) (sym said) (export_breaks x new did)
+    pub answer_export : (given : Result Reply Stop) (result : Result (Option Reply) Stop) → IsSaid given result → ExportIs rack area entry x now new given → AnswerIs rack area choices ExportPool entry before pool x now new result
+    answer_export (Ok reply) result said did = subst (AnswerIs rack area choices ExportPool entry before pool x now new) (sym said) (by_export x reply new did)
+    answer_export (Err stop.Shelf) result said did = subst (AnswerIs rack area choices ExportPool entry before pool x now new) (sym said) (export_breaks x new did)
     answer_export (Err stop.Unbuilt) result said did = absurd did
     answer_export (Err (stop.Record metaslab place kind)) result said did = absurd did
 

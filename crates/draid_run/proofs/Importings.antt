@@ -2,7 +2,6 @@
 use Rattle.std.proofs.Common.{◌≡◌, ◌≤◌, ◌∙◌, ◌⊎◌, inl, inr, refl, sym, ap, subst, ℕ, List, Bool, true, false, [], ◌∷◌, Option, Some, None, Result, Ok, Err, String, Global}
 use Rattle.std.specs.Prelude.{IfOk, IsErrOf, IsSomeAnd, OnOk, is_some, nat_eq, string_bytes}
 use Rattle.std.specs.HashMap.{get}
-use Rattle.draid_names.specs.declared.room.Room.{Room}
 use Rattle.draid_rack.specs.declared.Rack as racks
 use Rattle.draid_area.specs.declared.Area as areas
 use Rattle.draid_spec.specs.declared.layout.Geometry.{Geometry}
@@ -13,6 +12,8 @@ use Rattle.draid_script.specs.Line.{ImportPool}
 use Rattle.draid_script.specs.declared.name.CommandName.TheVariants as name
 use Rattle.draid_reply.specs.declared.reply.Reply.{Reply}
 use Rattle.draid_reply.specs.declared.reply.Reply.TheVariants.{Imported, NoMemory, NoPool, PoolOpen}
+use Rattle.draid_session.specs.Said.{alone}
+use Rattle.draid_session.specs.Choices.{Choices}
 use Rattle.draid_session.specs.Follows.{Follows}
 use Rattle.draid_session.specs.Holds.{Act, AreaFailed, Did, Hold, Looked, MadeLeaf, On, OnUber, RackFailed, Reserved, View}
 use Rattle.draid_session.specs.Making.{vdev_name_of}
@@ -349,7 +350,7 @@ module _ {R A : Type 0} (rack : racks.Ghosts R) (area : areas.Ghosts A) (entry b
           (subst (λ k. FindsPool rack area before.held before.leaves k group called_name objects) (ext before.counts entry.counts same.0.counts) finds))
 
       pub imported : (called_name : String Global) (geometry : Geometry) (group objects : ℕ) → string_bytes called_name ≡ vdev_name_of geometry.spec → geometry ≡ pool.geometry
-          → group ≡ group_in pool → HasNames (get nat_eq pool.objects) objects
+          → group ≡ group_in pool → HasNames (get nat_eq pool.own.objects) objects
           → ((s : State) → Represents rack area pool s → geometry ≡ s.geometry)
           → ((s : State) → Represents rack area pool s → group ≡ s.committed)
           → ((s : State) → Represents rack area pool s → HasObjects s.store.changes objects)
@@ -429,24 +430,24 @@ module _ {R A : Type 0} (rack : racks.Ghosts R) (area : areas.Ghosts A) (entry b
 
 -- ---- in the words of all commands
 
-module _ {R A : Type 0} (rack : racks.Ghosts R) (area : areas.Ghosts A) (chosen : List Room → Option ℕ → Type 0) (entry before now : OnShelf) where
-  by_import : (x : Desk) (reply : Reply) (pool : Option (Pool R A)) → ImportDid rack area entry x reply now pool → Turned rack area chosen (Ok ImportPool) entry x (Some reply) now pool
+module _ {R A : Type 0} (rack : racks.Ghosts R) (area : areas.Ghosts A) (choices : Choices) (entry before now : OnShelf) where
+  by_import : (x : Desk) (reply : Reply) (pool : Option (Pool R A)) → ImportDid rack area entry x reply now pool → Turned rack area choices (Ok ImportPool) entry x (alone reply) now pool
   by_import x reply pool did = record { new = did.new; desk = did.desk; turns = by x did.new did.turns } where
-    by : (x : Desk) (new : Desk) → ImportDoes rack area entry x reply new → TurnsBy chosen (MayFind rack area entry) (Ok ImportPool) x (Some reply) new
-    by Untouched new turns = turns
-    by Bare new turns = turns
-    by (Made t count geometry) new turns = turns
-    by (Shut crash y) new turns = turns
-    by Unknown new turns = turns
-    by (Foreign known) new turns = subst (λ r. TurnsBy chosen (MayFind rack area entry) (Ok ImportPool) (Foreign known) (Some r) new) (sym turns.0) (tt, known, refl, turns.1)
-    by (Open y) new turns = subst (λ r. TurnsBy chosen (MayFind rack area entry) (Ok ImportPool) (Open y) (Some r) new) (sym turns.0)
-        (y, record { holds = []; mid = y; store = y.store; follows = refl; does = (refl, refl); made = refl }, turns.1)
+    by : (x : Desk) (new : Desk) → ImportDoes rack area entry x reply new → TurnsBy choices (MayFind rack area entry) (Ok ImportPool) x (alone reply) new
+    by Untouched new turns = (refl, turns)
+    by Bare new turns = (refl, turns)
+    by (Made t count geometry) new turns = (refl, turns)
+    by (Shut crash y) new turns = (refl, turns)
+    by Unknown new turns = (refl, turns)
+    by (Foreign known) new turns = subst (λ r. TurnsBy choices (MayFind rack area entry) (Ok ImportPool) (Foreign known) (alone r) new) (sym turns.0) (refl, (tt, known, refl, turns.1))
+    by (Open y) new turns = subst (λ r. TurnsBy choices (MayFind rack area entry) (Ok ImportPool) (Open y) (alone r) new) (sym turns.0)
+        (refl, (y, record { holds = []; mid = y; store = y.store; follows = refl; does = (refl, refl); made = refl }, turns.1))
 
   pub answer_import : (pool : Option (Pool R A)) (x : Desk) (new : Option (Pool R A)) (given : Result Reply Stop) (result : Result (Option Reply) Stop) → IsSaid given result
-      → ImportIs rack area entry before x now new given → AnswerIs rack area chosen ImportPool entry before pool x now new result
-  answer_import pool x new (Ok reply) result said did = subst (AnswerIs rack area chosen ImportPool entry before pool x now new) (sym said) (by_import x reply new did)
-  answer_import pool x new (Err stop.Shelf) result said did = subst (AnswerIs rack area chosen ImportPool entry before pool x now new) (sym said) did
-  answer_import pool x new (Err (stop.Record metaslab place kind)) result said did = subst (AnswerIs rack area chosen ImportPool entry before pool x now new) (sym said) did
+      → ImportIs rack area entry before x now new given → AnswerIs rack area choices ImportPool entry before pool x now new result
+  answer_import pool x new (Ok reply) result said did = subst (AnswerIs rack area choices ImportPool entry before pool x now new) (sym said) (by_import x reply new did)
+  answer_import pool x new (Err stop.Shelf) result said did = subst (AnswerIs rack area choices ImportPool entry before pool x now new) (sym said) did
+  answer_import pool x new (Err (stop.Record metaslab place kind)) result said did = subst (AnswerIs rack area choices ImportPool entry before pool x now new) (sym said) did
   answer_import pool x new (Err stop.Unbuilt) result said did = absurd did
 
 -- a pool is open already

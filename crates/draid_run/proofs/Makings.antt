@@ -315,7 +315,7 @@ module _ {R A : Type 0} (rack : racks.Ghosts R) (area : areas.Ghosts A) where
             new = n.0;
             desk = n.1;
             breaks = breaks_none x n.0 stands n.2;
-            cause = cause_closed area (CreatePool text children keys) before now pool x n.0 (is_closed x stands) n.3 (o.1, layout_is (Ok o.1) o.2, o.3);
+            cause = cause_closed rack area (CreatePool text children keys) before now pool x n.0 (is_closed x stands) n.3 (o.1, layout_is (Ok o.1) o.2, o.3);
           }
 
       -- by why

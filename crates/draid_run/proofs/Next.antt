@@ -1,7 +1,6 @@
 -- What the next run finds, and the lines of a run between which a crash came.
 use Rattle.std.proofs.Common.{◌≡◌, ◌∙◌, refl, sym, ap, subst, ℕ, Bool, true, false, List, [], ◌∷◌, ◌++◌, Option, Some, None, Ok, String, Global, length, replicate, arith}
 use Rattle.std.specs.Prelude.{IsSomeAnd, is_some}
-use Rattle.draid_names.specs.declared.room.Room.{Room}
 use Rattle.draid_rack.specs.Moments as rack_moments
 use Rattle.draid_rack.specs.Rack.{Told}
 use Rattle.draid_area.specs.Area.{Content}
@@ -10,9 +9,10 @@ use Rattle.draid_area.proofs.Moments.{leaves_all}
 use Rattle.draid_spec.specs.declared.layout.Geometry.{Geometry}
 use Rattle.draid_script.specs.Grammar.{line_of}
 use Rattle.draid_script.specs.Line.{CrashPool, ImportPool}
-use Rattle.draid_reply.specs.declared.reply.Reply.{Reply}
 use Rattle.draid_reply.specs.declared.reply.Reply.TheVariants.{Crashed, Imported}
 use Rattle.draid_shelf.specs.Kits.{AreNewChecks, Both, ChecksTold, CrashedChecks, CrashedHeld, CrashedKit, Held, IsNewArea, IsNewRack, KitCounts, KitTold, OnHeld, uber_bytes}
+use Rattle.draid_session.specs.Said.{Said, alone}
+use Rattle.draid_session.specs.Choices.{Choices}
 use Rattle.draid_session.specs.Session.{Agrees, Desk, Finding, Untouched, Bare, Made, Open, Shut, Foreign, Unknown, KnowsShelf, Runs, left_of}
 use Rattle.draid_session.specs.State.{State}
 use Rattle.draid_session.proofs.Again.{crash_found, runs_known}
@@ -135,20 +135,20 @@ tells_found false entry left found it tells = ap is_some it.0.held ∙ tells
 
 -- ---- a crash among the lines of a run
 
-module _ (chosen : List Room → Option ℕ → Type 0) (finds : Finding → Type 0) (crash import : List ℕ) (back : List (List ℕ)) (called : String Global) (group objects : ℕ) (behind : List (Option Reply)) (last : Desk)
+module _ (choices : Choices) (finds : Finding → Type 0) (crash import : List ℕ) (back : List (List ℕ)) (called : String Global) (group objects : ℕ) (behind : List (List Said)) (last : Desk)
     (is_crash : line_of crash ≡ Ok CrashPool) (is_import : line_of import ≡ Ok ImportPool) where
-  here : (first : Desk) → KnowsShelf first → Agrees true first → Runs chosen finds true first (crash ∷ import ∷ back) (Some Crashed ∷ Some (Imported called group objects) ∷ behind) last
-      → FindsAgain chosen finds first [] [] group objects back behind last
+  here : (first : Desk) → KnowsShelf first → Agrees true first → Runs choices finds true first (crash ∷ import ∷ back) (alone Crashed ∷ alone (Imported called group objects) ∷ behind) last
+      → FindsAgain choices finds first [] [] group objects back behind last
   here first known agrees runs =
-      let it = crash_found chosen finds crash import back called group objects behind last is_crash is_import first known runs in
+      let it = crash_found choices finds crash import back called group objects behind last is_crash is_import first known runs in
       record { old = it.old; new = it.new; before = sym it.was; imports = it.imports; counted = it.counted; after = it.after }
 
-  pub again : (front : List (List ℕ)) (said : List (Option Reply)) (first : Desk) → length said ≡ length front → KnowsShelf first → Agrees true first
-      → Runs chosen finds true first (front ++ (crash ∷ import ∷ back)) (said ++ (Some Crashed ∷ Some (Imported called group objects) ∷ behind)) last → FindsAgain chosen finds first front said group objects back behind last
+  pub again : (front : List (List ℕ)) (said : List (List Said)) (first : Desk) → length said ≡ length front → KnowsShelf first → Agrees true first
+      → Runs choices finds true first (front ++ (crash ∷ import ∷ back)) (said ++ (alone Crashed ∷ alone (Imported called group objects) ∷ behind)) last → FindsAgain choices finds first front said group objects back behind last
   again [] [] first same known agrees runs = here first known agrees runs
-  again [] (reply ∷ said) first same known agrees runs = absurd (omega (arith, same))
+  again [] (saids ∷ said) first same known agrees runs = absurd (omega (arith, same))
   again (line ∷ front) [] first same known agrees runs = absurd (omega (arith, same))
-  again (line ∷ front) (reply ∷ said) first same known agrees runs =
-      let one = runs_known chosen finds (line ∷ []) (reply ∷ []) first runs.0 known agrees (runs.0, runs.1, runs.2, refl) in
+  again (line ∷ front) (saids ∷ said) first same known agrees runs =
+      let one = runs_known choices finds (line ∷ []) (saids ∷ []) first runs.0 known agrees (runs.0, runs.1, runs.2, refl) in
       let it = again front said runs.0 (omega (arith, same)) one.0 one.1 runs.3 in
       record { old = it.old; new = it.new; before = (runs.0, runs.1, runs.2, it.before); imports = it.imports; counted = it.counted; after = it.after }

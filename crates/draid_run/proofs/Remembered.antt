@@ -2,7 +2,6 @@
 use Rattle.std.proofs.Common.{◌≡◌, ◌∙◌, ◌<◌, ◌≤◌, ◌+◌, ◌⊎◌, ℕ, zero, suc, Bool, List, [], ◌∷◌, ◌++◌, Option, Some, None, Result, Ok, Err, Vec, Global, arith, refl, sym, ap, subst, inl, inr, cond, nat_eq, length}
 use Rattle.std.proofs.lemmas.Bool.{cases_eq}
 use Rattle.std.proofs.lemmas.Bool.Decides.{nat_tests}
-use Rattle.draid_names.specs.declared.room.Room.{Room}
 use Rattle.draid_names.specs.declared.refusal.ObjectFault.{ObjectFault}
 use Rattle.draid_names.specs.declared.refusal.ObjectFault.TheVariants as fault
 use Rattle.draid_machine.proofs.Small.{equal}
@@ -11,6 +10,8 @@ use Rattle.draid_script.specs.Line.{Command, Silent, CrashPool, ExportPool, Writ
 use Rattle.draid_script.specs.declared.fault.LineFault.{LineFault}
 use Rattle.draid_reply.specs.declared.reply.Reply.{Reply}
 use Rattle.draid_reply.specs.declared.reply.Reply.TheVariants.{Contents, Crashed, Exported, Filled, FillRefused, FreeNoObject, Freed, NoObject, ReadWorn, Summed, SumRefused, Unreadable, Written}
+use Rattle.draid_session.specs.Said.{Said, alone}
+use Rattle.draid_session.specs.Choices.{Choices}
 use Rattle.draid_session.specs.Known.{AllowsBytes, AllowsNone, Known, Learns, MayGiveNone, MayHaveAll, learns, learns_all, learns_filled, learns_lost}
 use Rattle.draid_session.specs.Making.{content_of}
 use Rattle.draid_session.specs.Reads.{ReadsAs}
@@ -137,51 +138,54 @@ module _ (object : ℕ) (bytes : List ℕ) where
 
   -- ---- lines
 
-  module _ (chosen : List Room → Option ℕ → Type 0) (finds : Finding → Type 0) where
+  module _ (choices : Choices) (finds : Finding → Type 0) where
     record StillForeign (desk : Desk) : Type 0 where
       new : Known
       is : desk ≡ Foreign new
       has : HasKnown new
 
-    line_on : (line : Result Command LineFault) (reply : Option Reply) (old : Known) (mid : Desk) → Spares object line → TurnsBy chosen finds line (Foreign old) reply mid → HasKnown old → StillForeign mid
-    line_on (Err why) reply old mid spares turns has = absurd turns
-    line_on (Ok Silent) None old mid spares turns has = record { new = old; is = turns; has = has }
-    line_on (Ok Silent) (Some reply) old mid spares turns has = absurd turns
-    line_on (Ok command) None old mid spares turns has = absurd turns
-    line_on (Ok command) (Some reply) old mid spares turns has = record {
-      new = turns.1;
-      is = turns.3 ∙ sym (still_foreign reply turns.1 (stays_open command reply spares turns.0));
-      has = kept_on command reply old turns.1 spares turns.0 turns.2 has;
-    }
+    line_on : (line : Result Command LineFault) (saids : List Said) (old : Known) (mid : Desk) → Spares object line → TurnsBy choices finds line (Foreign old) saids mid → HasKnown old → StillForeign mid
+    line_on (Err why) saids old mid spares turns has = absurd turns
+    line_on (Ok Silent) [] old mid spares turns has = record { new = old; is = turns; has = has }
+    line_on (Ok Silent) (said ∷ more) old mid spares turns has = absurd turns
+    line_on (Ok command) [] old mid spares turns has = absurd turns
+    line_on (Ok command) (said ∷ other ∷ more) old mid spares turns has = absurd turns
+    line_on (Ok command) (said ∷ []) old mid spares turns has =
+        let t = turns.1 in
+        record {
+          new = t.1;
+          is = t.3 ∙ sym (still_foreign said.reply t.1 (stays_open command said.reply spares t.0));
+          has = kept_on command said.reply old t.1 spares t.0 t.2 has;
+        }
 
     module _ (tells : Bool) (read : List ℕ) (p : ℕ) (got : Vec ℕ Global) (is_read : line_of read ≡ Ok (ReadObject object)) where
-      pub read_behind : (lines : List (List ℕ)) (replies : List (Option Reply)) (old : Known) (last : Desk) → AllSpare object lines → length replies ≡ length lines
-          → Runs chosen finds tells (Foreign old) (lines ++ (read ∷ [])) (replies ++ (Some (Contents p got) ∷ [])) last → HasKnown old → ReadsAs bytes got.items
+      pub read_behind : (lines : List (List ℕ)) (replies : List (List Said)) (old : Known) (last : Desk) → AllSpare object lines → length replies ≡ length lines
+          → Runs choices finds tells (Foreign old) (lines ++ (read ∷ [])) (replies ++ (alone (Contents p got) ∷ [])) last → HasKnown old → ReadsAs bytes got.items
       read_behind [] [] old last spare same runs has =
-          let turns = subst (λ r. TurnsBy chosen finds r (Foreign old) (Some (Contents p got)) runs.0) is_read runs.1 in
-          may_read old got.items has turns.2.0
-      read_behind [] (reply ∷ replies) old last spare same runs has = absurd (cc same)
+          let turns = subst (λ r. TurnsBy choices finds r (Foreign old) (alone (Contents p got)) runs.0) is_read runs.1 in
+          may_read old got.items has turns.1.2.0
+      read_behind [] (saids ∷ replies) old last spare same runs has = absurd (cc same)
       read_behind (line ∷ lines) [] old last spare same runs has = absurd (cc same)
-      read_behind (line ∷ lines) (reply ∷ replies) old last spare same runs has =
-          let f = line_on (line_of line) reply old runs.0 spare.0 runs.1 has in
-          let rest = subst (λ d. Runs chosen finds tells d (lines ++ (read ∷ [])) (replies ++ (Some (Contents p got) ∷ [])) last) f.is runs.3 in
+      read_behind (line ∷ lines) (saids ∷ replies) old last spare same runs has =
+          let f = line_on (line_of line) saids old runs.0 spare.0 runs.1 has in
+          let rest = subst (λ d. Runs choices finds tells d (lines ++ (read ∷ [])) (replies ++ (alone (Contents p got) ∷ [])) last) f.is runs.3 in
           read_behind lines replies f.new last spare.1 (omega (arith, same)) rest f.has
 
 -- ---- behind a write, and behind a read
 
-module _ (chosen : List Room → Option ℕ → Type 0) (finds : Finding → Type 0) (tells : Bool) (lines : List (List ℕ)) (replies : List (Option Reply)) (object o p : ℕ) (old : Known) (last : Desk) (spare : AllSpare object lines)
+module _ (choices : Choices) (finds : Finding → Type 0) (tells : Bool) (lines : List (List ℕ)) (replies : List (List Said)) (object o p : ℕ) (old : Known) (last : Desk) (spare : AllSpare object lines)
     (same : length replies ≡ length lines) (first read : List ℕ) (got : Vec ℕ Global) (is_read : line_of read ≡ Ok (ReadObject object)) where
   abbrev RunsOn : Reply → Type 0
-  RunsOn reply = Runs chosen finds tells (Foreign old) (first ∷ (lines ++ (read ∷ []))) (Some reply ∷ (replies ++ (Some (Contents p got) ∷ []))) last
+  RunsOn reply = Runs choices finds tells (Foreign old) (first ∷ (lines ++ (read ∷ []))) (alone reply ∷ (replies ++ (alone (Contents p got) ∷ []))) last
 
   pub written_read : (bytes : List ℕ) → line_of first ≡ Ok (WriteObject object bytes) → RunsOn (Written o) → ReadsAs bytes got.items
   written_read bytes is runs =
-      let turns = subst (λ r. TurnsBy chosen finds r (Foreign old) (Some (Written o)) runs.0) is runs.1 in
-      let rest = subst (λ d. Runs chosen finds tells d (lines ++ (read ∷ [])) (replies ++ (Some (Contents p got) ∷ [])) last) turns.3 runs.3 in
-      read_behind object bytes chosen finds tells read p got is_read lines replies turns.1 last spare same rest (has_own object bytes bytes old turns.1 turns.2 (reads_itself bytes))
+      let turns = (subst (λ r. TurnsBy choices finds r (Foreign old) (alone (Written o)) runs.0) is runs.1).1 in
+      let rest = subst (λ d. Runs choices finds tells d (lines ++ (read ∷ [])) (replies ++ (alone (Contents p got) ∷ [])) last) turns.3 runs.3 in
+      read_behind object bytes choices finds tells read p got is_read lines replies turns.1 last spare same rest (has_own object bytes bytes old turns.1 turns.2 (reads_itself bytes))
 
   pub read_read : (was : Vec ℕ Global) → line_of first ≡ Ok (ReadObject object) → RunsOn (Contents o was) → ReadsAs was.items got.items
   read_read was is runs =
-      let turns = subst (λ r. TurnsBy chosen finds r (Foreign old) (Some (Contents o was)) runs.0) is runs.1 in
-      let rest = subst (λ d. Runs chosen finds tells d (lines ++ (read ∷ [])) (replies ++ (Some (Contents p got) ∷ [])) last) turns.3 runs.3 in
-      read_behind object was.items chosen finds tells read p got is_read lines replies turns.1 last spare same rest (has_own object was.items was.items old turns.1 turns.2.1 (reads_itself was.items))
+      let turns = (subst (λ r. TurnsBy choices finds r (Foreign old) (alone (Contents o was)) runs.0) is runs.1).1 in
+      let rest = subst (λ d. Runs choices finds tells d (lines ++ (read ∷ [])) (replies ++ (alone (Contents p got) ∷ [])) last) turns.3 runs.3 in
+      read_behind object was.items choices finds tells read p got is_read lines replies turns.1 last spare same rest (has_own object was.items was.items old turns.1 turns.2.1 (reads_itself was.items))

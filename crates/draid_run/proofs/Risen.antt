@@ -11,7 +11,7 @@ use Rattle.draid_import.specs.Found.{HasRisen}
 use Rattle.draid_pool.specs.declared.pool.Pool.{Pool}
 use Rattle.draid_run.specs.Desks.{CauseShows, IsShelf}
 use Rattle.draid_run.specs.Script.{FailsShut, FaultyShut}
-use Rattle.draid_run.specs.Shelves.{FailsIn, HasFailed, HasFault, HoldsDesk, HoldsFault, IsClosed, MakingFailed, OnShelf}
+use Rattle.draid_run.specs.Shelves.{FailsIn, FaultIn, HasFailed, HasFault, HoldsDesk, HoldsFault, IsClosed, MakingFailed, OnShelf}
 
 rose_some : (before now : ℕ) → Rose before now → 0 < now
 rose_some before now rose = omega (arith, rose)
@@ -72,7 +72,7 @@ has_failed area TakeCheckpoint before now failed = absurd failed
 has_failed area RewindPool before now failed = absurd failed
 has_failed area DiscardCheckpoint before now failed = absurd failed
 
-module _ {R A : Type 0} (area : areas.Ghosts A) (command : Command) (before now : OnShelf) (pool : Option (Pool R A)) where
+module _ {R A : Type 0} (rack : racks.Ghosts R) (area : areas.Ghosts A) (command : Command) (before now : OnShelf) (pool : Option (Pool R A)) where
   closed_fault : (new : Desk) → IsClosed new → HasFailed before now → HasFault area before now pool new
   closed_fault Untouched closed failed = failed
   closed_fault Bare closed failed = failed
@@ -83,17 +83,17 @@ module _ {R A : Type 0} (area : areas.Ghosts A) (command : Command) (before now 
   closed_fault (Foreign known) closed failed = absurd closed
 
   -- the cause is a fault
-  pub cause_fault : (old new : Desk) → CauseShows area ShelfFails command before old now pool new → HasFault area before now pool new
+  pub cause_fault : (old new : Desk) → CauseShows rack area ShelfFails command before old now pool new → FaultIn rack area command before now pool new
   cause_fault (Open x) new cause = cause
   cause_fault (Foreign known) new cause = cause
-  cause_fault Untouched new cause = closed_fault new cause.0 (has_failed area command before now cause.1)
-  cause_fault Bare new cause = closed_fault new cause.0 (has_failed area command before now cause.1)
-  cause_fault (Made tells count geometry) new cause = closed_fault new cause.0 (has_failed area command before now cause.1)
-  cause_fault (Shut crash x) new cause = closed_fault new cause.0 (has_failed area command before now cause.1)
-  cause_fault Unknown new cause = closed_fault new cause.0 (has_failed area command before now cause.1)
+  cause_fault Untouched new cause = inl (closed_fault new cause.0 (has_failed area command before now cause.1))
+  cause_fault Bare new cause = inl (closed_fault new cause.0 (has_failed area command before now cause.1))
+  cause_fault (Made tells count geometry) new cause = inl (closed_fault new cause.0 (has_failed area command before now cause.1))
+  cause_fault (Shut crash x) new cause = inl (closed_fault new cause.0 (has_failed area command before now cause.1))
+  cause_fault Unknown new cause = inl (closed_fault new cause.0 (has_failed area command before now cause.1))
 
   -- where no pool was open it is one of a command
-  pub closed_cause : (old new : Desk) → IsClosed old → CauseShows area ShelfFails command before old now pool new → IsClosed new × FailsIn area command before now
+  pub closed_cause : (old new : Desk) → IsClosed old → CauseShows rack area ShelfFails command before old now pool new → IsClosed new × FailsIn area command before now
   closed_cause (Open x) new closed cause = absurd closed
   closed_cause (Foreign known) new closed cause = absurd closed
   closed_cause Untouched new closed cause = cause
@@ -103,7 +103,7 @@ module _ {R A : Type 0} (area : areas.Ghosts A) (command : Command) (before now 
   closed_cause Unknown new closed cause = cause
 
   -- and the other way round
-  pub cause_closed : (old new : Desk) → IsClosed old → IsClosed new → FailsIn area command before now → CauseShows area ShelfFails command before old now pool new
+  pub cause_closed : (old new : Desk) → IsClosed old → IsClosed new → FailsIn area command before now → CauseShows rack area ShelfFails command before old now pool new
   cause_closed (Open x) new closed after failed = absurd closed
   cause_closed (Foreign known) new closed after failed = absurd closed
   cause_closed Untouched new closed after failed = (after, failed)
@@ -122,10 +122,10 @@ closed_shelf (Shut crash y) entry before closed shelf = shelf
 closed_shelf Unknown entry before closed shelf = shelf
 
 -- what a run says of the command at which it broke off
-pub fails_shut : {R A : Type 0} (area : areas.Ghosts A) (text : List ℕ) (lines : List (List ℕ)) (command : Command) (old new : Desk) (entry before now : OnShelf) (pool : Option (Pool R A)) → line_of text ≡ Ok command → IsShelf old entry before
-    → entry.faults ≤ before.faults → (lines ≡ [] → before ≡ entry) → CauseShows area ShelfFails command before old now pool new → IsClosed old → IsClosed new × FailsShut area (Some text) lines old entry now
-fails_shut area text lines command old new entry before now pool line shelf later first cause closed =
-    let shown = closed_cause area command before now pool old new closed cause in (
+pub fails_shut : {R A : Type 0} (rack : racks.Ghosts R) (area : areas.Ghosts A) (text : List ℕ) (lines : List (List ℕ)) (command : Command) (old new : Desk) (entry before now : OnShelf) (pool : Option (Pool R A)) → line_of text ≡ Ok command → IsShelf old entry before
+    → entry.faults ≤ before.faults → (lines ≡ [] → before ≡ entry) → CauseShows rack area ShelfFails command before old now pool new → IsClosed old → IsClosed new × FailsShut area (Some text) lines old entry now
+fails_shut rack area text lines command old new entry before now pool line shelf later first cause closed =
+    let shown = closed_cause rack area command before now pool old new closed cause in (
       shown.0,
       record {
         came = record { text = text; is = refl; command = command; line = line; before = before; held = closed_shelf old entry before closed shelf; later = later; first = first };

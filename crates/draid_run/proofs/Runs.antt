@@ -1,22 +1,22 @@
 use Rattle.std.proofs.Common.{refl, sym, subst, ◌≡◌, ℕ, List, Bool, true, [], ◌∷◌, ◌++◌, Option, Some, None}
 use Rattle.std.specs.Prelude.{IsSomeAnd, is_some}
-use Rattle.draid_names.specs.declared.room.Room.{Room}
 use Rattle.draid_rack.specs.declared.Rack as racks
 use Rattle.draid_area.specs.declared.Area as areas
 use Rattle.draid_script.specs.Grammar.{line_of}
-use Rattle.draid_reply.specs.declared.reply.Reply.{Reply}
+use Rattle.draid_session.specs.Said.{Said}
+use Rattle.draid_session.specs.Choices.{Choices}
 use Rattle.draid_session.specs.Session.{Agrees, Desk, Finding, Untouched, Bare, Made, Open, Shut, Foreign, Unknown, Runs, TurnsBy}
 use Rattle.draid_pool.specs.declared.pool.Pool.{Pool}
 use Rattle.draid_run.specs.Desks.{IsDesk}
 use Rattle.draid_run.specs.Shelves.{HoldsDesk, OnShelf, TellsAsBefore}
 
 -- one more line is answered
-pub runs_more : (chosen : List Room → Option ℕ → Type 0) (finds : Finding → Type 0) (tells : Bool) (start : Desk) (lines : List (List ℕ)) (replies : List (Option Reply)) (mid : Desk) (line : List ℕ) (reply : Option Reply) (new : Desk)
-    → Runs chosen finds tells start lines replies mid → TurnsBy chosen finds (line_of line) mid reply new → Agrees tells new → Runs chosen finds tells start (lines ++ line ∷ []) (replies ++ reply ∷ []) new
-runs_more chosen finds tells start [] [] mid line reply new runs turns agrees = (new, rw (sym runs) turns, agrees, refl)
-runs_more chosen finds tells start [] (r ∷ rs) mid line reply new runs turns agrees = absurd runs
-runs_more chosen finds tells start (l ∷ ls) [] mid line reply new runs turns agrees = absurd runs
-runs_more chosen finds tells start (l ∷ ls) (r ∷ rs) mid line reply new runs turns agrees = (runs.0, runs.1, runs.2, runs_more chosen finds tells runs.0 ls rs mid line reply new runs.3 turns agrees)
+pub runs_more : (choices : Choices) (finds : Finding → Type 0) (tells : Bool) (start : Desk) (lines : List (List ℕ)) (replies : List (List Said)) (mid : Desk) (line : List ℕ) (saids : List Said) (new : Desk)
+    → Runs choices finds tells start lines replies mid → TurnsBy choices finds (line_of line) mid saids new → Agrees tells new → Runs choices finds tells start (lines ++ line ∷ []) (replies ++ saids ∷ []) new
+runs_more choices finds tells start [] [] mid line saids new runs turns agrees = (new, rw (sym runs) turns, agrees, refl)
+runs_more choices finds tells start [] (r ∷ rs) mid line saids new runs turns agrees = absurd runs
+runs_more choices finds tells start (l ∷ ls) [] mid line saids new runs turns agrees = absurd runs
+runs_more choices finds tells start (l ∷ ls) (r ∷ rs) mid line saids new runs turns agrees = (runs.0, runs.1, runs.2, runs_more choices finds tells runs.0 ls rs mid line saids new runs.3 turns agrees)
 
 -- ---- whether the shelf tells
 

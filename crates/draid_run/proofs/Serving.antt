@@ -1,22 +1,23 @@
 -- What the loop over the lines keeps, and what its ends come to.
-use Rattle.std.proofs.Common.{arith, refl, sym, ap, ◌≡◌, ◌∙◌, ◌+◌, ◌≤◌, inl, inr, ℕ, List, [], ◌∷◌, ◌++◌, Option, Some, None, Result, Ok, Err, Vec, Global, subst, append_assoc, length-append}
+use Rattle.std.proofs.Common.{arith, refl, sym, ap, ◌≡◌, ◌∙◌, ◌+◌, ◌≤◌, ◌⊎◌, inl, inr, ℕ, List, [], ◌∷◌, ◌++◌, Option, Some, None, Result, Ok, Err, Vec, Global, subst, append_assoc, length-append}
 use Rattle.std.specs.Prelude.{flat_map, is_some, ⊤}
 use Rattle.std.specs.Io.KnownBytes.{prepend_known}
 use Rattle.std.proofs.lemmas.Grind.{flat_map-append}
 use Rattle.std.proofs.lemmas.List.{append-nil}
-use Rattle.draid_names.specs.declared.room.Room.{Room}
 use Rattle.draid_rack.specs.declared.Rack as racks
 use Rattle.draid_area.specs.declared.Area as areas
 use Rattle.draid_lines.proofs.Ends.{lines_none}
 use Rattle.draid_lines.specs.Lines.{most_lines, Rest, WhereKnown, lines_of}
 use Rattle.draid_script.specs.Grammar.{line_of}
-use Rattle.draid_reply.specs.declared.reply.Reply.{Reply}
+use Rattle.draid_script.specs.Line.{Command}
+use Rattle.draid_session.specs.Said.{Said}
+use Rattle.draid_session.specs.Choices.{Choices}
 use Rattle.draid_session.specs.Session.{Desk, Untouched, Bare, Made, Open, Shut, Foreign, Unknown, RecordFails, Runs, ShelfFails}
 use Rattle.draid_pool.specs.declared.pool.Pool.{Pool}
 use Rattle.draid_run.specs.Desks.{IsDesk, Turned}
-use Rattle.draid_run.specs.Script.{Ends, FaultyShut, LineFaultIs, said_text, texts_of}
-use Rattle.draid_run.specs.Serve.{BrokenLine, Cut, LineIs, Printed, Served, Serving, TextIs}
-use Rattle.draid_run.specs.Shelves.{HasFailed, HasFault, HoldsDesk, HoldsFault, MayFind, OnShelf, TellsAsBefore}
+use Rattle.draid_run.specs.Script.{all_said, Ends, FaultyShut, LineFaultIs, said_text, texts_of}
+use Rattle.draid_run.specs.Serve.{BrokenLine, Cut, LineIs, Printed, Served, Serving, TextIs, Untold}
+use Rattle.draid_run.specs.Shelves.{FaultIn, HasFailed, HasFault, HoldsDesk, HoldsFault, MakesLeavesAt, MakesLeavesBy, MayFind, OnShelf, RackFault, TellsAsBefore}
 use Rattle.draid_run.specs.declared.status.Status.{Status}
 use Rattle.draid_run.specs.declared.status.Status.TheVariants.{Done, Usage, Line, SourceFault, SinkFault, NoMemory, TooLong, ShelfFault, Record}
 use Rattle.draid_run.proofs.Exits.{rose_from}
@@ -24,9 +25,16 @@ use Rattle.draid_run.proofs.Known.{appends_more, appends_none, known_input, know
 use Rattle.draid_run.proofs.Risen.{cause_fault, fails_shut, faulty_shut}
 use Rattle.draid_run.proofs.Runs.{desk_agrees, runs_more}
 
--- the texts of one more reply
-texts_more : (replies : List (Option Reply)) (reply : Option Reply) → texts_of (replies ++ reply ∷ []) ≡ texts_of replies ++ said_text reply
-texts_more replies reply = flat_map-append said_text replies (reply ∷ []) ∙ ap (λ t. flat_map said_text replies ++ t) (append-nil (said_text reply))
+-- the replies to one more line
+all_more : (replies : List (List Said)) (saids : List Said) → all_said (replies ++ saids ∷ []) ≡ all_said replies ++ saids
+all_more replies saids = flat_map-append (λ (s : List Said). s) replies (saids ∷ []) ∙ ap (λ t. all_said replies ++ t) (append-nil saids)
+
+-- and their texts
+texts_both : (front back : List Said) → texts_of (front ++ back) ≡ texts_of front ++ texts_of back
+texts_both front back = flat_map-append said_text front back
+
+texts_more : (replies : List (List Said)) (saids : List Said) → texts_of (all_said (replies ++ saids ∷ [])) ≡ texts_of (all_said replies) ++ texts_of saids
+texts_more replies saids = ap texts_of (all_more replies saids) ∙ texts_both (all_said replies) saids
 
 -- the lines so far, one more, and the rest
 lines_more : (all behind rest : List ℕ) (lines : List (List ℕ)) (line : List ℕ) → lines_of all ≡ lines ++ lines_of behind → lines_of behind ≡ line ∷ lines_of rest
@@ -83,7 +91,15 @@ fault_from area entry before now pool later (Made tells count geometry) fault = 
 fault_from area entry before now pool later (Shut crash x) fault = failed_from entry before now later fault
 fault_from area entry before now pool later Unknown fault = failed_from entry before now later fault
 
-module _ {R A : Type 0} (rack : racks.Ghosts R) (area : areas.Ghosts A) (chosen : List Room → Option ℕ → Type 0) (entry : OnShelf) where
+-- what shows in a line shows of the run that ended there
+fault_at : {R A : Type 0} (rack : racks.Ghosts R) (area : areas.Ghosts A) (entry before now : OnShelf) (pool : Option (Pool R A)) → entry.faults ≤ before.faults → (text : List ℕ) (command : Command) → line_of text ≡ Ok command
+    → (x : Desk) → FaultIn rack area command before now pool x → HasFault area entry now pool x ⊎ (MakesLeavesAt (Some text) × RackFault rack pool x)
+fault_at rack area entry before now pool later text command line x fault = elim fault [
+  | inl failed ↦ inl (fault_from area entry before now pool later x failed)
+  | inr whole ↦ inr (subst MakesLeavesBy (sym line) whole.0, whole.1)
+]
+
+module _ {R A : Type 0} (rack : racks.Ghosts R) (area : areas.Ghosts A) (choices : Choices) (entry : OnShelf) where
   -- the fault that a status names
   abbrev NamesFault : OnShelf → Status → Type 0
   NamesFault before (Record metaslab place kind) = HoldsFault rack area before metaslab place kind
@@ -91,20 +107,20 @@ module _ {R A : Type 0} (rack : racks.Ghosts R) (area : areas.Ghosts A) (chosen 
 
   -- the line under another name of its number and its text
   pub line_by : (number number' : ℕ) (text text' : List ℕ) (before : OnShelf) (pool : Option (Pool R A)) (x : Desk) (now : OnShelf) (pool' : Option (Pool R A)) (held held' : Option (List ℕ)) (result : Result Unit Status)
-      → number ≡ number' → text ≡ text' → LineIs rack area chosen number text entry before pool x now pool' held held' result → LineIs rack area chosen number' text' entry before pool x now pool' held held' result
+      → number ≡ number' → text ≡ text' → LineIs rack area choices number text entry before pool x now pool' held held' result → LineIs rack area choices number' text' entry before pool x now pool' held held' result
   line_by number number' text text' before pool x now pool' held held' result numbers texts line =
-      let P : ℕ → Type 0 = λ n. LineIs rack area chosen n text entry before pool x now pool' held held' result in
-      let Q : List ℕ → Type 0 = λ t. LineIs rack area chosen number' t entry before pool x now pool' held held' result in
+      let P : ℕ → Type 0 = λ n. LineIs rack area choices n text entry before pool x now pool' held held' result in
+      let Q : List ℕ → Type 0 = λ t. LineIs rack area choices number' t entry before pool x now pool' held held' result in
       subst Q texts (subst P numbers line)
 
   -- a line that wasn't run has no fault of the source's, nor of the words
   pub line_no_source : (number : ℕ) (text : List ℕ) (before : OnShelf) (pool : Option (Pool R A)) (x : Desk) (now : OnShelf) (pool' : Option (Pool R A)) (held held' : Option (List ℕ)) (status : Status)
-      → LineIs rack area chosen number text entry before pool x now pool' held held' (Err status) → status ≡ SourceFault → ⊥
-  line_no_source number text before pool x now pool' held held' status line is = subst (λ s. LineIs rack area chosen number text entry before pool x now pool' held held' (Err s)) is line
+      → LineIs rack area choices number text entry before pool x now pool' held held' (Err status) → status ≡ SourceFault → ⊥
+  line_no_source number text before pool x now pool' held held' status line is = subst (λ s. LineIs rack area choices number text entry before pool x now pool' held held' (Err s)) is line
 
   pub line_no_usage : (number : ℕ) (text : List ℕ) (before : OnShelf) (pool : Option (Pool R A)) (x : Desk) (now : OnShelf) (pool' : Option (Pool R A)) (held held' : Option (List ℕ)) (status : Status)
-      → LineIs rack area chosen number text entry before pool x now pool' held held' (Err status) → status ≡ Usage → ⊥
-  line_no_usage number text before pool x now pool' held held' status line is = subst (λ s. LineIs rack area chosen number text entry before pool x now pool' held held' (Err s)) is line
+      → LineIs rack area choices number text entry before pool x now pool' held held' (Err status) → status ≡ Usage → ⊥
+  line_no_usage number text before pool x now pool' held held' status line is = subst (λ s. LineIs rack area choices number text entry before pool x now pool' held held' (Err s)) is line
 
   -- a desk without a pool
   shut_desk : (first : Desk) → HoldsDesk first entry entry → IsDesk rack area entry entry None first
@@ -116,7 +132,7 @@ module _ {R A : Type 0} (rack : racks.Ghosts R) (area : areas.Ghosts A) (chosen 
   shut_desk (Foreign known) is = absurd is
   shut_desk (Open x) is = absurd is
 
-  pub serving_none : (input start : Option (List ℕ)) (first : Desk) → HoldsDesk first entry entry → Serving rack area chosen first input (prepend_known [] input) start start entry entry None 0
+  pub serving_none : (input start : Option (List ℕ)) (first : Desk) → HoldsDesk first entry entry → Serving rack area choices first input (prepend_known [] input) start start entry entry None 0
   serving_none input start first at = record {
     lines = [];
     replies = [];
@@ -133,47 +149,47 @@ module _ {R A : Type 0} (rack : racks.Ghosts R) (area : areas.Ghosts A) (chosen 
     starts (Some x) = refl
 
   pub serving_start : (input start : Option (List ℕ)) (lines : Rest) (pool : Option (Pool R A)) → lines ≡ record { held = []; given = 0; fault = None } → pool ≡ None
-      → (first : Desk) → HoldsDesk first entry entry → Serving rack area chosen first input (prepend_known lines.held input) start start entry entry pool lines.given
+      → (first : Desk) → HoldsDesk first entry entry → Serving rack area choices first input (prepend_known lines.held input) start start entry entry pool lines.given
   serving_start input start lines pool is none first at = rw is (rw none (serving_none input start first at))
 
   module _ (first : Desk) where
     -- the lines so far, and one more
-    abbrev RunsSo : List (List ℕ) → List (Option Reply) → Desk → Type 0
-    RunsSo lines replies new = Runs chosen (MayFind rack area entry) (is_some entry.held) first lines replies new
+    abbrev RunsSo : List (List ℕ) → List (List Said) → Desk → Type 0
+    RunsSo lines replies new = Runs choices (MayFind rack area entry) (is_some entry.held) first lines replies new
 
-    more : (lines : List (List ℕ)) (replies : List (Option Reply)) (mid : Desk) (line : List ℕ) (reply : Option Reply) (now : OnShelf) (pool : Option (Pool R A)) → RunsSo lines replies mid
-        → (turned : Turned rack area chosen (line_of line) entry mid reply now pool) → TellsAsBefore entry now → RunsSo (lines ++ line ∷ []) (replies ++ reply ∷ []) turned.new
-    more lines replies mid line reply now pool runs turned tells =
-        runs_more chosen (MayFind rack area entry) (is_some entry.held) first lines replies mid line reply turned.new runs turned.turns (desk_agrees rack area entry now pool turned.new tells turned.desk)
+    more : (lines : List (List ℕ)) (replies : List (List Said)) (mid : Desk) (line : List ℕ) (saids : List Said) (now : OnShelf) (pool : Option (Pool R A)) → RunsSo lines replies mid
+        → (turned : Turned rack area choices (line_of line) entry mid saids now pool) → TellsAsBefore entry now → RunsSo (lines ++ line ∷ []) (replies ++ saids ∷ []) turned.new
+    more lines replies mid line saids now pool runs turned tells =
+        runs_more choices (MayFind rack area entry) (is_some entry.held) first lines replies mid line saids turned.new runs turned.turns (desk_agrees rack area entry now pool turned.new tells turned.desk)
 
     pub serving_more : (input rest rest' start held held' : Option (List ℕ)) (before now : OnShelf) (pool pool' : Option (Pool R A)) (count : ℕ) (line : List ℕ)
-        → (is : Serving rack area chosen first input rest start held entry before pool count)
+        → (is : Serving rack area choices first input rest start held entry before pool count)
         → WhereKnown rest rest' (λ old new. lines_of old ≡ line ∷ lines_of new)
-        → Printed rack area chosen line entry is.reached now pool' held held' → TellsAsBefore entry now
-        → Serving rack area chosen first input rest' start held' entry now pool' (count + 1)
+        → Printed rack area choices line entry is.reached now pool' held held' → TellsAsBefore entry now
+        → Serving rack area choices first input rest' start held' entry now pool' (count + 1)
     serving_more input rest rest' start held held' before now pool pool' count line is behind printed tells =
         let counted = is.count_is in
         let longer = length-append is.lines (line ∷ []) in
         record {
           lines = is.lines ++ line ∷ [];
-          replies = is.replies ++ printed.reply ∷ [];
+          replies = is.replies ++ printed.saids ∷ [];
           reached = printed.turned.new;
           count_is = omega (arith, counted, longer);
           desk = printed.turned.desk;
-          runs = more is.lines is.replies is.reached line printed.reply now pool' is.runs printed.turned tells;
+          runs = more is.lines is.replies is.reached line printed.saids now pool' is.runs printed.turned tells;
           known = known_on input rest rest' _ _ _ (λ x y z a b. lines_more x y z is.lines line a b) is.known behind;
-          printed = rw (texts_more is.replies printed.reply) (appends_more start held held' _ _ is.printed printed.prints);
+          printed = rw (texts_more is.replies printed.saids) (appends_more start held held' _ _ is.printed printed.prints);
           unanswered = λ none. absurd (not_none is.lines line none);
         }
 
     -- the input ended
     pub served_done : (input rest rest' start held : Option (List ℕ)) (now : OnShelf) (pool : Option (Pool R A)) (count : ℕ)
-        → Serving rack area chosen first input rest start held entry now pool count → WhereKnown rest rest' (λ old new. old ≡ [])
-        → Served rack area chosen first Done input start held entry now pool
+        → Serving rack area choices first input rest start held entry now pool count → WhereKnown rest rest' (λ old new. old ≡ [])
+        → Served rack area choices first Done input start held entry now pool
     served_done input rest rest' start held now pool count is end = record {
       lines = is.lines;
       replies = is.replies;
-      shown = is.replies;
+      shown = all_said is.replies;
       mid = is.reached;
       last = is.reached;
       broken = None;
@@ -192,12 +208,12 @@ module _ {R A : Type 0} (rack : racks.Ghosts R) (area : areas.Ghosts A) (chosen 
 
     -- the next line could not be read
     pub served_unread : (input start held left left' : Option (List ℕ)) (now : OnShelf) (pool : Option (Pool R A)) (lines lines' : Rest) (status : Status)
-        → Serving rack area chosen first input (prepend_known lines.held left) start held entry now pool lines.given → TextIs lines lines' left left' (Err status)
-        → Served rack area chosen first status input start held entry now pool
+        → Serving rack area choices first input (prepend_known lines.held left) start held entry now pool lines.given → TextIs lines lines' left left' (Err status)
+        → Served rack area choices first status input start held entry now pool
     served_unread input start held left left' now pool lines lines' SourceFault is text = record {
       lines = is.lines;
       replies = is.replies;
-      shown = is.replies;
+      shown = all_said is.replies;
       mid = is.reached;
       last = is.reached;
       broken = None;
@@ -214,7 +230,7 @@ module _ {R A : Type 0} (rack : racks.Ghosts R) (area : areas.Ghosts A) (chosen 
     served_unread input start held left left' now pool lines lines' NoMemory is text = record {
       lines = is.lines;
       replies = is.replies;
-      shown = is.replies;
+      shown = all_said is.replies;
       mid = is.reached;
       last = is.reached;
       broken = None;
@@ -234,7 +250,7 @@ module _ {R A : Type 0} (rack : racks.Ghosts R) (area : areas.Ghosts A) (chosen 
         record {
           lines = is.lines;
           replies = is.replies;
-          shown = is.replies;
+          shown = all_said is.replies;
           mid = is.reached;
           last = is.reached;
           broken = None;
@@ -259,15 +275,15 @@ module _ {R A : Type 0} (rack : racks.Ghosts R) (area : areas.Ghosts A) (chosen 
 
     -- a line was taken, and the run ended with it
     module _ (input rest rest' start held : Option (List ℕ)) (before : OnShelf) (pool : Option (Pool R A)) (count : ℕ) (line : List ℕ) (behind : WhereKnown rest rest' (λ old new. lines_of old ≡ line ∷ lines_of new))
-        (is : Serving rack area chosen first input rest start held entry before pool count) (later : entry.faults ≤ before.faults) where
+        (is : Serving rack area choices first input rest start held entry before pool count) (later : entry.faults ≤ before.faults) where
       -- it can't be run
-      unrun : (number kind at : ℕ) → LineFaultIs (line_of line) kind at → number ≡ count + 1 → Served rack area chosen first (Line number kind at) input start held entry before pool
+      unrun : (number kind at : ℕ) → LineFaultIs (line_of line) kind at → number ≡ count + 1 → Served rack area choices first (Line number kind at) input start held entry before pool
       unrun number kind at fault n =
           let counted = is.count_is in
           record {
             lines = is.lines;
             replies = is.replies;
-            shown = is.replies;
+            shown = all_said is.replies;
             mid = is.reached;
             last = is.reached;
             broken = None;
@@ -285,11 +301,11 @@ module _ {R A : Type 0} (rack : racks.Ghosts R) (area : areas.Ghosts A) (chosen 
           }
 
       -- memory was wanting before it was done
-      undone : Served rack area chosen first NoMemory input start held entry before pool
+      undone : Served rack area choices first NoMemory input start held entry before pool
       undone = record {
         lines = is.lines;
         replies = is.replies;
-        shown = is.replies;
+        shown = all_said is.replies;
         mid = is.reached;
         last = is.reached;
         broken = None;
@@ -307,53 +323,65 @@ module _ {R A : Type 0} (rack : racks.Ghosts R) (area : areas.Ghosts A) (chosen 
 
       module _ (now : OnShelf) (pool' : Option (Pool R A)) (tells : TellsAsBefore entry now) where
         -- its reply could not be put
-        unput : (held' : Option (List ℕ)) → Cut rack area chosen line entry is.reached now pool' held held' → Served rack area chosen first SinkFault input start held' entry now pool'
+        unput : (held' : Option (List ℕ)) → Cut rack area choices line entry is.reached now pool' held held' → Served rack area choices first SinkFault input start held' entry now pool'
         unput held' cut = record {
           lines = is.lines ++ line ∷ [];
-          replies = is.replies ++ Some cut.reply ∷ [];
-          shown = is.replies ++ Some cut.reply ∷ [];
+          replies = is.replies ++ (cut.part ++ cut.said ∷ cut.rest) ∷ [];
+          shown = all_said is.replies ++ (cut.part ++ cut.said ∷ []);
           mid = cut.turned.new;
           last = cut.turned.new;
           broken = None;
           desk = cut.turned.desk;
-          runs = more is.lines is.replies is.reached line (Some cut.reply) now pool' is.runs cut.turned tells;
+          runs = more is.lines is.replies is.reached line (cut.part ++ cut.said ∷ cut.rest) now pool' is.runs cut.turned tells;
           breaks = refl;
           ends = known_input input rest' _ _ (λ x z e. (lines_of z, e))
               (known_on input rest rest' _ _ _ (λ x y z a b. lines_more x y z is.lines line a b) is.known behind);
-          shows = refl;
-          prints = record { front = is.replies; reply = cut.reply; mid = held; shown_are = refl; whole = is.printed; part = cut.prints };
+          shows = (
+            cut.part,
+            cut.said,
+            cut.rest,
+            record { front = is.replies; replies_are = ap (λ s. is.replies ++ s ∷ []) (sym (append_assoc cut.part (cut.said ∷ []) cut.rest)); shown_are = refl },
+          );
+          prints = record {
+            front = all_said is.replies ++ cut.part;
+            said = cut.said;
+            mid = cut.mid;
+            shown_are = sym (append_assoc (all_said is.replies) cut.part (cut.said ∷ []));
+            whole = rw (texts_both (all_said is.replies) cut.part) (appends_more start held cut.mid _ _ is.printed cut.whole);
+            part = cut.prints;
+          };
           failed = λ e. absurd (cc e);
           since = λ e. absurd (cc e);
           bad = λ metaslab place kind e. absurd (cc e);
         }
 
         -- memory was wanting for the text of its reply
-        untold : (reply : Reply) → Turned rack area chosen (line_of line) entry is.reached (Some reply) now pool' → Served rack area chosen first NoMemory input start held entry now pool'
-        untold reply turned = record {
+        untold : (held' : Option (List ℕ)) → Untold rack area choices line entry is.reached now pool' held held' → Served rack area choices first NoMemory input start held' entry now pool'
+        untold held' cut = record {
           lines = is.lines ++ line ∷ [];
-          replies = is.replies ++ Some reply ∷ [];
-          shown = is.replies;
-          mid = turned.new;
-          last = turned.new;
+          replies = is.replies ++ (cut.part ++ cut.said ∷ cut.rest) ∷ [];
+          shown = all_said is.replies ++ cut.part;
+          mid = cut.turned.new;
+          last = cut.turned.new;
           broken = None;
-          desk = turned.desk;
-          runs = more is.lines is.replies is.reached line (Some reply) now pool' is.runs turned tells;
+          desk = cut.turned.desk;
+          runs = more is.lines is.replies is.reached line (cut.part ++ cut.said ∷ cut.rest) now pool' is.runs cut.turned tells;
           breaks = refl;
           ends = known_input input rest' _ _ (λ x z e. (lines_of z, e))
               (known_on input rest rest' _ _ _ (λ x y z a b. lines_more x y z is.lines line a b) is.known behind);
-          shows = inr (reply, refl);
-          prints = is.printed;
+          shows = inr (cut.part, cut.said, cut.rest, record { front = is.replies; replies_are = refl; shown_are = refl });
+          prints = rw (texts_both (all_said is.replies) cut.part) (appends_more start held held' _ _ is.printed cut.prints);
           failed = λ e. absurd (cc e);
           since = λ e. absurd (cc e);
           bad = λ metaslab place kind e. absurd (cc e);
         }
 
         -- the shelf failed
-        failed : BrokenLine rack area ShelfFails line entry before is.reached now pool' → Served rack area chosen first ShelfFault input start held entry now pool'
+        failed : BrokenLine rack area ShelfFails line entry before is.reached now pool' → Served rack area choices first ShelfFault input start held entry now pool'
         failed at = record {
           lines = is.lines;
           replies = is.replies;
-          shown = is.replies;
+          shown = all_said is.replies;
           mid = is.reached;
           last = at.broken.new;
           broken = Some line;
@@ -364,18 +392,18 @@ module _ {R A : Type 0} (rack : racks.Ghosts R) (area : areas.Ghosts A) (chosen 
               (known_on input rest rest' _ _ (λ all z. lines_of all ≡ is.lines ++ (line ∷ lines_of z)) (λ x y z a b. a ∙ ap (λ xs. is.lines ++ xs) b) is.known behind);
           shows = refl;
           prints = is.printed;
-          failed = λ e. fault_from area entry before now pool' later at.broken.new (cause_fault area at.command before now pool' is.reached at.broken.new at.broken.cause);
-          since = λ e. fails_shut area line is.lines at.command is.reached at.broken.new entry before now pool' at.line is.desk.shelf later is.unanswered at.broken.cause;
+          failed = λ e. fault_at rack area entry before now pool' later line at.command at.line at.broken.new (cause_fault rack area at.command before now pool' is.reached at.broken.new at.broken.cause);
+          since = λ e. fails_shut rack area line is.lines at.command is.reached at.broken.new entry before now pool' at.line is.desk.shelf later is.unanswered at.broken.cause;
           bad = λ metaslab place kind e. absurd (cc e);
         }
 
         -- a record has a fault
         faulty : (metaslab : Option ℕ) (place kind : ℕ) → BrokenLine rack area RecordFails line entry before is.reached now pool' → HoldsFault rack area before metaslab place kind
-            → Served rack area chosen first (Record metaslab place kind) input start held entry now pool'
+            → Served rack area choices first (Record metaslab place kind) input start held entry now pool'
         faulty metaslab place kind at fault = record {
           lines = is.lines;
           replies = is.replies;
-          shown = is.replies;
+          shown = all_said is.replies;
           mid = is.reached;
           last = at.broken.new;
           broken = Some line;
@@ -396,14 +424,14 @@ module _ {R A : Type 0} (rack : racks.Ghosts R) (area : areas.Ghosts A) (chosen 
                 let holds : HoldsFault rack area before m p k = subst (λ (s : Status). NamesFault before s) e fault in
                 faulty_shut rack area line is.lines at.command is.reached at.broken.new entry before m p k at.line is.desk.shelf later is.unanswered at.broken.breaks holds
 
-        pub served_line : (held' : Option (List ℕ)) (status : Status) → LineIs rack area chosen (count + 1) line entry before pool is.reached now pool' held held' (Err status)
-            → Served rack area chosen first status input start held' entry now pool'
+        pub served_line : (held' : Option (List ℕ)) (status : Status) → LineIs rack area choices (count + 1) line entry before pool is.reached now pool' held held' (Err status)
+            → Served rack area choices first status input start held' entry now pool'
         served_line held' SinkFault became = unput held' became
         served_line held' (Line number kind at) became =
             rw became.1 (rw became.2 (rw became.3 (unrun number kind at became.0 became.4)))
-        served_line held' NoMemory became = elim became.1 [
-          | inl same ↦ rw same.0 (rw same.1 (rw became.0 undone))
-          | inr made ↦ rw became.0 (untold made.0 made.1)
+        served_line held' NoMemory became = elim became [
+          | inl same ↦ rw same.1 (rw same.2 (rw same.0 undone))
+          | inr cut ↦ untold held' cut
         ]
         served_line held' ShelfFault became = rw became.0 (failed became.1)
         served_line held' (Record metaslab place kind) became = rw became.0 (faulty metaslab place kind became.1 became.2)

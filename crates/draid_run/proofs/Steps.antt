@@ -1,25 +1,30 @@
 -- What the calls of a pool did, in the words of a session.
-use Rattle.std.proofs.Common.{◌≡◌, ◌∙◌, ℕ, List, [], Option, Some, None, Ok, refl, subst, sym}
+use Rattle.std.proofs.Common.{◌≡◌, ◌∙◌, inl, ℕ, List, [], Option, Some, None, Ok, refl, subst, sym}
 use Rattle.draid_rack.specs.declared.Rack as racks
 use Rattle.draid_area.specs.declared.Area as areas
-use Rattle.draid_names.specs.declared.room.Room.{Room}
 use Rattle.draid_script.specs.Line.{Command, Silent, CreatePool, ImportPool, ExportPool, SyncPool, CancelPasses, CrashPool, WriteObject, FillObjects, ReadObject, FreeObject, SumObjects, TakeOffline, TakeOnline, DamageSector, AttachSpare, ReplaceDisk, DetachArm, RebuildPool, ScrubPool, RebalanceSlot, ShowStatus, OpenLanes, UpgradePool, RunAgent, ShowJournal, TakeCheckpoint, RewindPool, DiscardCheckpoint}
 use Rattle.draid_script.specs.declared.line.PoolKeys.{PoolKeys}
 use Rattle.draid_script.specs.declared.name.CommandName.{CommandName}
 use Rattle.draid_reply.specs.declared.reply.Reply.{Reply}
 use Rattle.draid_reply.specs.declared.reply.Reply.TheVariants.{NoPool}
+use Rattle.draid_session.specs.Said.{alone}
+use Rattle.draid_session.specs.Choices.{Choices}
 use Rattle.draid_session.specs.Follows.{Follows}
 use Rattle.draid_session.specs.Holds.{Hold}
 use Rattle.draid_session.specs.Known.{Known, Learns}
 use Rattle.draid_session.specs.Replies.{IsReplyTo}
 use Rattle.draid_session.specs.Session as session
-use Rattle.draid_session.specs.Session.{Desk, Finding, Untouched, Bare, Made, Open, Shut, Foreign, Unknown, TurnsBy}
+use Rattle.draid_session.specs.Session.{Desk, Finding, Untouched, Bare, Made, Open, Shut, Foreign, Unknown, MayBreak, ShelfFails, TurnsBy}
 use Rattle.draid_session.specs.State.{State, Store}
 use Rattle.draid_pool.specs.Carries.{CarriesOut, ReplyDoes}
 use Rattle.draid_pool.specs.Pools.{Represents}
 use Rattle.draid_pool.specs.Whole.{IsWhole}
 use Rattle.draid_pool.specs.declared.pool.Pool.{Pool}
-use Rattle.draid_run.specs.Desks.{IsDesk, IsPool, PoolDid, Turned, asked_in}
+use Rattle.draid_pool.specs.Failing.{AreaFails}
+use Rattle.draid_pool.specs.Pointers.{SamePointers}
+use Rattle.draid_pool.proofs.Taught.{still_known}
+use Rattle.draid_run.specs.Desks.{BreaksBy, Broken, IsDesk, IsPool, PoolBroke, PoolDid, Turned, asked_in}
+use Rattle.draid_run.proofs.Broke.{broken_shows}
 use Rattle.draid_pool.specs.Knows.{Teaches}
 use Rattle.draid_run.specs.Making.{CreateDid, CreateTurns}
 use Rattle.draid_run.specs.Shelves.{IsOut, MayFind, OnShelf}
@@ -42,14 +47,14 @@ is_whole rack area desk pool is stands = by stands.0 (subst (λ d. IsPool rack a
 pub still_out : (x y : State) (now : OnShelf) (holds : List Hold) → Follows holds x y → IsOut x now → (store : Store) → IsOut (record y { store = store }) now
 still_out x y now holds follows out store = record { held = out.held; checks = out.checks; told = same_told holds x y follows ∙ out.told }
 
-module _ {R A : Type 0} (rack : racks.Ghosts R) (area : areas.Ghosts A) (chosen : List Room → Option ℕ → Type 0) (command : Command) (called : CommandName) (reply : Reply) where
+module _ {R A : Type 0} (rack : racks.Ghosts R) (area : areas.Ghosts A) (choices : Choices) (command : Command) (called : CommandName) (reply : Reply) where
   -- a command was carried out on the pool that is open
   pub did_open : (desk : Option (Pool R A)) (pool new : Pool R A) → desk ≡ Some pool → IsWhole rack area new → IsReplyTo command reply
       → Teaches command reply pool new
-      → ((x : State) → Represents rack area pool x → CarriesOut rack area new x (ReplyDoes x chosen command reply))
-      → (x : Desk) → IsPool rack area desk x → PoolDid rack area chosen command called x reply (Some new)
-  did_open desk pool new is whole fits teaches step x = subst (λ d. IsPool rack area d x → PoolDid rack area chosen command called x reply (Some new)) (sym is) (by x) where
-    by : (x : Desk) → IsPool rack area (Some pool) x → PoolDid rack area chosen command called x reply (Some new)
+      → ((x : State) → Represents rack area pool x → CarriesOut rack area new x (ReplyDoes x choices command reply))
+      → (x : Desk) → IsPool rack area desk x → PoolDid rack area choices command called x reply (Some new)
+  did_open desk pool new is whole fits teaches step x = subst (λ d. IsPool rack area d x → PoolDid rack area choices command called x reply (Some new)) (sym is) (by x) where
+    by : (x : Desk) → IsPool rack area (Some pool) x → PoolDid rack area choices command called x reply (Some new)
     by Untouched stands = absurd stands
     by Bare stands = absurd stands
     by (Made tells count geometry) stands = absurd stands
@@ -59,9 +64,9 @@ module _ {R A : Type 0} (rack : racks.Ghosts R) (area : areas.Ghosts A) (chosen 
     by (Foreign known) stands = (whole, fits, teaches known stands.1)
 
   -- no pool is open, and the reply says so
-  pub did_shut : (desk new : Option (Pool R A)) → desk ≡ None → new ≡ None → reply ≡ NoPool called → (x : Desk) → IsPool rack area desk x → PoolDid rack area chosen command called x reply new
-  did_shut desk new none same said x = subst (λ d. IsPool rack area d x → PoolDid rack area chosen command called x reply new) (sym none) (by x) where
-    by : (x : Desk) → IsPool rack area None x → PoolDid rack area chosen command called x reply new
+  pub did_shut : (desk new : Option (Pool R A)) → desk ≡ None → new ≡ None → reply ≡ NoPool called → (x : Desk) → IsPool rack area desk x → PoolDid rack area choices command called x reply new
+  did_shut desk new none same said x = subst (λ d. IsPool rack area d x → PoolDid rack area choices command called x reply new) (sym none) (by x) where
+    by : (x : Desk) → IsPool rack area None x → PoolDid rack area choices command called x reply new
     by Untouched stands = (said, same)
     by Bare stands = (said, same)
     by (Made tells count geometry) stands = (said, same)
@@ -70,20 +75,56 @@ module _ {R A : Type 0} (rack : racks.Ghosts R) (area : areas.Ghosts A) (chosen 
     by (Open y) stands = absurd stands
     by (Foreign known) stands = absurd stands
 
+-- a device of the pool failed in a command
+pub broke_open : {R A : Type 0} (rack : racks.Ghosts R) (area : areas.Ghosts A) (command : Command) (desk : Option (Pool R A)) (pool new : Pool R A) → desk ≡ Some pool → IsWhole rack area new
+    → MayBreak command × AreaFails area.faults new × SamePointers pool new → ((x : State) → Represents rack area pool x → CarriesOut rack area new x (BreaksBy x command)) → (x : Desk) → IsPool rack area desk x → PoolBroke rack area command x (Some new)
+broke_open rack area command desk pool new is whole breaks step x = subst (λ d. IsPool rack area d x → PoolBroke rack area command x (Some new)) (sym is) (by x)
+  where
+    by : (x : Desk) → IsPool rack area (Some pool) x → PoolBroke rack area command x (Some new)
+    by Untouched stands = absurd stands
+    by Bare stands = absurd stands
+    by (Made tells count geometry) stands = absurd stands
+    by (Shut crash y) stands = absurd stands
+    by Unknown stands = absurd stands
+    by (Open y) stands = (whole, step y stands.1)
+    by (Foreign known) stands = (whole, breaks.0, breaks.1, still_known pool new breaks.2 known stands.1)
+
+-- so the run breaks off
+pub ask_breaks : {R A : Type 0} (rack : racks.Ghosts R) (area : areas.Ghosts A) (entry before now : OnShelf) (command : Command) (x : Desk) (desk new : Option (Pool R A)) → IsDesk rack area entry now desk x → PoolBroke rack area command x new
+    → Broken rack area ShelfFails command entry before x now new
+ask_breaks rack area entry before now command Untouched desk new is did = absurd did
+ask_breaks rack area entry before now command Bare desk new is did = absurd did
+ask_breaks rack area entry before now command (Made tells count geometry) desk new is did = absurd did
+ask_breaks rack area entry before now command (Shut crash y) desk new is did = absurd did
+ask_breaks rack area entry before now command Unknown desk new is did = absurd did
+ask_breaks rack area entry before now command (Foreign known) desk None is did = absurd did
+ask_breaks rack area entry before now command (Foreign known) desk (Some new) is did = record { new = Foreign known; desk = record { stands = (did.0, did.3); shelf = tt }; breaks = (did.1, refl); cause = inl did.2 }
+ask_breaks rack area entry before now command (Open y) desk None is did = absurd did
+ask_breaks rack area entry before now command (Open y) desk (Some new) is did =
+    let c = did.1 in
+    record {
+      new = Open (record c.reached { store = c.store });
+      desk = record { stands = (did.0, c.represents); shelf = still_out y c.reached now c.holds c.follows is.shelf c.store };
+      breaks = (record c.reached { store = c.store }, refl, record { holds = c.holds; mid = c.reached; store = c.store; follows = c.follows; broken = c.done; made = refl });
+      cause = broken_shows y.geometry y.perms command y.store c.holds c.store y c.reached c.done c.follows;
+    }
+
 -- a command that wants a pool, where none is open
-module _ (chosen : List Room → Option ℕ → Type 0) (finds : Finding → Type 0) where
+module _ (choices : Choices) (finds : Finding → Type 0) where
   shut_says : (command : Command) (called : CommandName) → asked_in command ≡ Some called → (x : Desk) → session.ShutTurns finds x command (NoPool called) x
   shut_says (WriteObject o bytes) called is x = (called, is, refl, refl)
   shut_says (FillObjects first count len seed) called is x = (called, is, refl, refl)
   shut_says (ReadObject o) called is x = (called, is, refl, refl)
   shut_says (FreeObject o) called is x = (called, is, refl, refl)
   shut_says (SumObjects first count) called is x = (called, is, refl, refl)
+  shut_says (TakeOffline leaf) called is x = (called, is, refl, refl)
+  shut_says (TakeOnline leaf) called is x = (called, is, refl, refl)
   shut_says (DamageSector leaf sector) called is x = (called, is, refl, refl)
   shut_says (ShowStatus form) called is x = (called, is, refl, refl)
   shut_says command called is x = absurd (cc is)
 
   by_desk : {R A : Type 0} (rack : racks.Ghosts R) (area : areas.Ghosts A) (command : Command) (reply : Reply) (x : Desk) → IsPool rack area None x → session.ShutTurns finds x command reply x
-      → session.ReplyTurns chosen finds x command reply x
+      → session.ReplyTurns choices finds x command reply x
   by_desk rack area command reply Untouched stands says = says
   by_desk rack area command reply Bare stands says = says
   by_desk rack area command reply (Made told count geometry) stands says = says
@@ -92,24 +133,24 @@ module _ (chosen : List Room → Option ℕ → Type 0) (finds : Finding → Typ
   by_desk rack area command reply (Foreign known) stands says = absurd stands
   by_desk rack area command reply (Open y) stands says = absurd stands
 
-module _ {R A : Type 0} (rack : racks.Ghosts R) (area : areas.Ghosts A) (chosen : List Room → Option ℕ → Type 0) (entry now : OnShelf) (desk : Option (Pool R A)) (reply : Reply) where
+module _ {R A : Type 0} (rack : racks.Ghosts R) (area : areas.Ghosts A) (choices : Choices) (entry now : OnShelf) (desk : Option (Pool R A)) (reply : Reply) where
   -- a command has this reply
   abbrev TurnsTo : Command → Desk → Reply → Desk → Type 0
-  TurnsTo command x said new = TurnsBy chosen (MayFind rack area entry) (Ok command) x (Some said) new
+  TurnsTo command x said new = TurnsBy choices (MayFind rack area entry) (Ok command) x (alone said) new
 
   turned_by : (command : Command) (called : CommandName) → asked_in command ≡ Some called
-      → ((x y : State) → session.CarriesOut chosen command reply x y → Open y ≡ session.desk_behind reply y → TurnsTo command (Open x) reply (Open y))
+      → ((x y : State) → session.CarriesOut choices command reply x y → Open y ≡ session.desk_behind reply y → TurnsTo command (Open x) reply (Open y))
       → ((old new : Known) → IsReplyTo command reply → Learns command reply old new → Foreign new ≡ session.foreign_behind reply new → TurnsTo command (Foreign old) reply (Foreign new))
       → ((x : Desk) → IsPool rack area None x → TurnsTo command x (NoPool called) x)
-      → (x : Desk) (new : Option (Pool R A)) → IsDesk rack area entry now desk x → PoolDid rack area chosen command called x reply new → Turned rack area chosen (Ok command) entry x (Some reply) now new
+      → (x : Desk) (new : Option (Pool R A)) → IsDesk rack area entry now desk x → PoolDid rack area choices command called x reply new → Turned rack area choices (Ok command) entry x (alone reply) now new
   turned_by command called asked turns foreign shut = by where
-    says : (x : Desk) (new : Option (Pool R A)) → (reply ≡ NoPool called) × (new ≡ None) → IsPool rack area None x → IsDesk rack area entry now desk x → Turned rack area chosen (Ok command) entry x (Some reply) now new
+    says : (x : Desk) (new : Option (Pool R A)) → (reply ≡ NoPool called) × (new ≡ None) → IsPool rack area None x → IsDesk rack area entry now desk x → Turned rack area choices (Ok command) entry x (alone reply) now new
     says x new said stands is =
-        subst (λ r. Turned rack area chosen (Ok command) entry x (Some r) now new) (sym said.0)
-        (subst (λ d. Turned rack area chosen (Ok command) entry x (Some (NoPool called)) now d) (sym said.1)
+        subst (λ r. Turned rack area choices (Ok command) entry x (alone r) now new) (sym said.0)
+        (subst (λ d. Turned rack area choices (Ok command) entry x (alone (NoPool called)) now d) (sym said.1)
         (record { new = x; desk = record { stands = stands; shelf = is.shelf }; turns = shut x stands }))
 
-    by : (x : Desk) (new : Option (Pool R A)) → IsDesk rack area entry now desk x → PoolDid rack area chosen command called x reply new → Turned rack area chosen (Ok command) entry x (Some reply) now new
+    by : (x : Desk) (new : Option (Pool R A)) → IsDesk rack area entry now desk x → PoolDid rack area choices command called x reply new → Turned rack area choices (Ok command) entry x (alone reply) now new
     by Untouched new is did = says Untouched new did tt is
     by (Made tells count geometry) new is did = says (Made tells count geometry) new did tt is
     by (Shut crash y) new is did = says (Shut crash y) new did tt is
@@ -136,21 +177,21 @@ module _ {R A : Type 0} (rack : racks.Ghosts R) (area : areas.Ghosts A) (chosen 
 
   -- the reply of the pool that is open, or that none is
   pub by_ask : (command : Command) (called : CommandName) → asked_in command ≡ Some called → (x : Desk) (new : Option (Pool R A)) → IsDesk rack area entry now desk x
-      → PoolDid rack area chosen command called x reply new → Turned rack area chosen (Ok command) entry x (Some reply) now new
-  by_ask (WriteObject o bytes) called is = turned_by (WriteObject o bytes) called is (λ y z c same. (z, c, same)) (λ old new fits learns same. (fits, new, learns, same)) (λ x stands.
-      by_desk chosen (MayFind rack area entry) rack area (WriteObject o bytes) (NoPool called) x stands (shut_says chosen (MayFind rack area entry) (WriteObject o bytes) called is x))
-  by_ask (FillObjects first count len seed) called is = turned_by (FillObjects first count len seed) called is (λ y z c same. (z, c, same)) (λ old new fits learns same. (fits, new, learns, same)) (λ x stands.
-      by_desk chosen (MayFind rack area entry) rack area (FillObjects first count len seed) (NoPool called) x stands (shut_says chosen (MayFind rack area entry) (FillObjects first count len seed) called is x))
-  by_ask (ReadObject o) called is = turned_by (ReadObject o) called is (λ y z c same. (z, c, same)) (λ old new fits learns same. (fits, new, learns, same)) (λ x stands.
-      by_desk chosen (MayFind rack area entry) rack area (ReadObject o) (NoPool called) x stands (shut_says chosen (MayFind rack area entry) (ReadObject o) called is x))
-  by_ask (FreeObject o) called is = turned_by (FreeObject o) called is (λ y z c same. (z, c, same)) (λ old new fits learns same. (fits, new, learns, same)) (λ x stands.
-      by_desk chosen (MayFind rack area entry) rack area (FreeObject o) (NoPool called) x stands (shut_says chosen (MayFind rack area entry) (FreeObject o) called is x))
-  by_ask (SumObjects first count) called is = turned_by (SumObjects first count) called is (λ y z c same. (z, c, same)) (λ old new fits learns same. (fits, new, learns, same)) (λ x stands.
-      by_desk chosen (MayFind rack area entry) rack area (SumObjects first count) (NoPool called) x stands (shut_says chosen (MayFind rack area entry) (SumObjects first count) called is x))
-  by_ask (DamageSector leaf sector) called is = turned_by (DamageSector leaf sector) called is (λ y z c same. (z, c, same)) (λ old new fits learns same. (fits, new, learns, same)) (λ x stands.
-      by_desk chosen (MayFind rack area entry) rack area (DamageSector leaf sector) (NoPool called) x stands (shut_says chosen (MayFind rack area entry) (DamageSector leaf sector) called is x))
-  by_ask (ShowStatus form) called is = turned_by (ShowStatus form) called is (λ y z c same. (z, c, same)) (λ old new fits learns same. (fits, new, learns, same)) (λ x stands.
-      by_desk chosen (MayFind rack area entry) rack area (ShowStatus form) (NoPool called) x stands (shut_says chosen (MayFind rack area entry) (ShowStatus form) called is x))
+      → PoolDid rack area choices command called x reply new → Turned rack area choices (Ok command) entry x (alone reply) now new
+  by_ask (WriteObject o bytes) called is = turned_by (WriteObject o bytes) called is (λ y z c same. (refl, (z, c, same))) (λ old new fits learns same. (refl, (fits, new, learns, same))) (λ x stands.
+      (refl, by_desk choices (MayFind rack area entry) rack area (WriteObject o bytes) (NoPool called) x stands (shut_says choices (MayFind rack area entry) (WriteObject o bytes) called is x)))
+  by_ask (FillObjects first count len seed) called is = turned_by (FillObjects first count len seed) called is (λ y z c same. (refl, (z, c, same))) (λ old new fits learns same. (refl, (fits, new, learns, same))) (λ x stands.
+      (refl, by_desk choices (MayFind rack area entry) rack area (FillObjects first count len seed) (NoPool called) x stands (shut_says choices (MayFind rack area entry) (FillObjects first count len seed) called is x)))
+  by_ask (ReadObject o) called is = turned_by (ReadObject o) called is (λ y z c same. (refl, (z, c, same))) (λ old new fits learns same. (refl, (fits, new, learns, same))) (λ x stands.
+      (refl, by_desk choices (MayFind rack area entry) rack area (ReadObject o) (NoPool called) x stands (shut_says choices (MayFind rack area entry) (ReadObject o) called is x)))
+  by_ask (FreeObject o) called is = turned_by (FreeObject o) called is (λ y z c same. (refl, (z, c, same))) (λ old new fits learns same. (refl, (fits, new, learns, same))) (λ x stands.
+      (refl, by_desk choices (MayFind rack area entry) rack area (FreeObject o) (NoPool called) x stands (shut_says choices (MayFind rack area entry) (FreeObject o) called is x)))
+  by_ask (SumObjects first count) called is = turned_by (SumObjects first count) called is (λ y z c same. (refl, (z, c, same))) (λ old new fits learns same. (refl, (fits, new, learns, same))) (λ x stands.
+      (refl, by_desk choices (MayFind rack area entry) rack area (SumObjects first count) (NoPool called) x stands (shut_says choices (MayFind rack area entry) (SumObjects first count) called is x)))
+  by_ask (DamageSector leaf sector) called is = turned_by (DamageSector leaf sector) called is (λ y z c same. (refl, (z, c, same))) (λ old new fits learns same. (refl, (fits, new, learns, same))) (λ x stands.
+      (refl, by_desk choices (MayFind rack area entry) rack area (DamageSector leaf sector) (NoPool called) x stands (shut_says choices (MayFind rack area entry) (DamageSector leaf sector) called is x)))
+  by_ask (ShowStatus form) called is = turned_by (ShowStatus form) called is (λ y z c same. (refl, (z, c, same))) (λ old new fits learns same. (refl, (fits, new, learns, same))) (λ x stands.
+      (refl, by_desk choices (MayFind rack area entry) rack area (ShowStatus form) (NoPool called) x stands (shut_says choices (MayFind rack area entry) (ShowStatus form) called is x)))
   by_ask Silent called is = absurd (cc is)
   by_ask (CreatePool text children keys) called is = absurd (cc is)
   by_ask ImportPool called is = absurd (cc is)
@@ -158,8 +199,10 @@ module _ {R A : Type 0} (rack : racks.Ghosts R) (area : areas.Ghosts A) (chosen 
   by_ask SyncPool called is = absurd (cc is)
   by_ask CancelPasses called is = absurd (cc is)
   by_ask CrashPool called is = absurd (cc is)
-  by_ask (TakeOffline leaf) called is = absurd (cc is)
-  by_ask (TakeOnline leaf) called is = absurd (cc is)
+  by_ask (TakeOffline leaf) called is = turned_by (TakeOffline leaf) called is (λ y z c same. (refl, (z, c, same))) (λ old new fits learns same. (refl, (fits, new, learns, same))) (λ x stands.
+      (refl, by_desk choices (MayFind rack area entry) rack area (TakeOffline leaf) (NoPool called) x stands (shut_says choices (MayFind rack area entry) (TakeOffline leaf) called is x)))
+  by_ask (TakeOnline leaf) called is = turned_by (TakeOnline leaf) called is (λ y z c same. (refl, (z, c, same))) (λ old new fits learns same. (refl, (fits, new, learns, same))) (λ x stands.
+      (refl, by_desk choices (MayFind rack area entry) rack area (TakeOnline leaf) (NoPool called) x stands (shut_says choices (MayFind rack area entry) (TakeOnline leaf) called is x)))
   by_ask (AttachSpare slot spare) called is = absurd (cc is)
   by_ask (ReplaceDisk slot sectors) called is = absurd (cc is)
   by_ask (DetachArm arm) called is = absurd (cc is)
@@ -175,17 +218,17 @@ module _ {R A : Type 0} (rack : racks.Ghosts R) (area : areas.Ghosts A) (chosen 
   by_ask DiscardCheckpoint called is = absurd (cc is)
 
 -- a pool was made or refused, in the words of all commands
-pub by_create : {R A : Type 0} (rack : racks.Ghosts R) (area : areas.Ghosts A) (chosen : List Room → Option ℕ → Type 0) (entry now : OnShelf) (text : List ℕ) (children : ℕ) (keys : PoolKeys) (x : Desk) (reply : Reply)
-    (pool : Option (Pool R A)) → CreateDid rack area text children keys entry x reply now pool → Turned rack area chosen (Ok (CreatePool text children keys)) entry x (Some reply) now pool
-by_create rack area chosen entry now text children keys x reply pool did =
+pub by_create : {R A : Type 0} (rack : racks.Ghosts R) (area : areas.Ghosts A) (choices : Choices) (entry now : OnShelf) (text : List ℕ) (children : ℕ) (keys : PoolKeys) (x : Desk) (reply : Reply)
+    (pool : Option (Pool R A)) → CreateDid rack area text children keys entry x reply now pool → Turned rack area choices (Ok (CreatePool text children keys)) entry x (alone reply) now pool
+by_create rack area choices entry now text children keys x reply pool did =
     record { new = did.new; desk = did.desk; turns = by x did.new did.turns }
   where
-    by : (x : Desk) (new : Desk) → CreateTurns text children keys x reply new → TurnsBy chosen (MayFind rack area entry) (Ok (CreatePool text children keys)) x (Some reply) new
-    by Untouched new turns = turns
-    by Bare new turns = turns
-    by (Made tells count geometry) new turns = turns
-    by (Shut crash y) new turns = turns
-    by Unknown new turns = turns
-    by (Foreign known) new turns = subst (λ r. TurnsBy chosen (MayFind rack area entry) (Ok (CreatePool text children keys)) (Foreign known) (Some r) new) (sym turns.0) (tt, known, refl, turns.1)
-    by (Open y) new turns = subst (λ r. TurnsBy chosen (MayFind rack area entry) (Ok (CreatePool text children keys)) (Open y) (Some r) new) (sym turns.0)
-        (y, record { holds = []; mid = y; store = y.store; follows = refl; does = (refl, refl); made = refl }, turns.1)
+    by : (x : Desk) (new : Desk) → CreateTurns text children keys x reply new → TurnsBy choices (MayFind rack area entry) (Ok (CreatePool text children keys)) x (alone reply) new
+    by Untouched new turns = (refl, turns)
+    by Bare new turns = (refl, turns)
+    by (Made tells count geometry) new turns = (refl, turns)
+    by (Shut crash y) new turns = (refl, turns)
+    by Unknown new turns = (refl, turns)
+    by (Foreign known) new turns = subst (λ r. TurnsBy choices (MayFind rack area entry) (Ok (CreatePool text children keys)) (Foreign known) (alone r) new) (sym turns.0) (refl, (tt, known, refl, turns.1))
+    by (Open y) new turns = subst (λ r. TurnsBy choices (MayFind rack area entry) (Ok (CreatePool text children keys)) (Open y) (alone r) new) (sym turns.0)
+        (refl, (y, record { holds = []; mid = y; store = y.store; follows = refl; does = (refl, refl); made = refl }, turns.1))

@@ -1,9 +1,9 @@
 -- Runs in words of objects alone: what the input of a run and its sink say of the objects, and those of several runs over one shelf.
 use Rattle.std.specs.Prelude.{◌≡◌, ⊤, ℕ, Bool, List, [], ◌∷◌, Option, Some, None, MatchOption}
-use Rattle.draid_names.specs.declared.room.Room.{Room}
 use Rattle.draid_rack.specs.declared.Rack as racks
 use Rattle.draid_area.specs.declared.Area as areas
-use Rattle.draid_reply.specs.declared.reply.Reply.{Reply}
+use Rattle.draid_session.specs.Said.{Said}
+use Rattle.draid_session.specs.Choices.{Choices}
 use Rattle.draid_session.specs.Book.{AnswersRun, Book}
 use Rattle.draid_run.specs.Next.{IsFound}
 use Rattle.draid_run.specs.Script.{Ends, IsRefused, IsSession, PrintsAll, RunIs, Shows}
@@ -22,8 +22,8 @@ BrokeAt ended (Some text) = ⊥
 -- A run from one book to another: lines of its input were answered by replies, as the book has it; it ended for a cause; and the sink got the replies' texts and the last line.
 pub record KeepsBook (words : List (List ℕ)) (status : Status) (input old new : Option (List ℕ)) (before after : Book) : Type 0 where
   pub lines : List (List ℕ)
-  pub replies : List (Option Reply)
-  pub shown : List (Option Reply)
+  pub replies : List (List Said)
+  pub shown : List Said
   pub ended : Status
   pub broken : Option (List ℕ)
   pub usage : ended ≡ Usage → IsSession words → ⊥
@@ -48,11 +48,11 @@ pub record OneRun : Type 0 where
   pub now : OnShelf
 
 -- Such runs, one after another, over a shelf that holds this at first: each finds what the one before left, or what a crash left of that.
-module _ {R A : Type 0} (rack : racks.Ghosts R) (area : areas.Ghosts A) (chosen : List Room → Option ℕ → Type 0) where
+module _ {R A : Type 0} (rack : racks.Ghosts R) (area : areas.Ghosts A) (choices : Choices) where
   abbrev pub AreRuns : OnShelf → List OneRun → Type 0
   AreRuns shelf [] = ⊤
   AreRuns shelf (run ∷ runs) =
-      IsFound run.crash shelf run.entry × RunIs rack area chosen run.words run.status run.input run.old run.new run.entry run.now × AreRuns run.now runs
+      IsFound run.crash shelf run.entry × RunIs rack area choices run.words run.status run.input run.old run.new run.entry run.now × AreRuns run.now runs
 
 -- they are answered by one book
 abbrev pub KeepBook : Book → List OneRun → Book → Type 0

@@ -1,22 +1,27 @@
 -- For which desk the pool and the shelf stand between lines, and what a command comes to.
-use Rattle.std.specs.Prelude.{◌≡◌, ⊤, ℕ, List, Option, Some, None, Result}
-use Rattle.draid_names.specs.declared.room.Room.{Room}
+use Rattle.std.specs.Prelude.{◌≡◌, ⊤, ℕ, List, Option, Some, None, Result, Ok, Err}
+use Rattle.draid_names.specs.declared.fault.Failed.{Failed}
 use Rattle.draid_rack.specs.declared.Rack as racks
 use Rattle.draid_area.specs.declared.Area as areas
-use Rattle.draid_script.specs.Line.{Command, WriteObject, ReadObject, FillObjects, FreeObject, SumObjects, DamageSector, ShowStatus}
+use Rattle.draid_script.specs.Line.{Command, WriteObject, ReadObject, FillObjects, FreeObject, SumObjects, TakeOffline, TakeOnline, DamageSector, ShowStatus}
 use Rattle.draid_script.specs.declared.fault.LineFault.{LineFault}
 use Rattle.draid_script.specs.declared.name.CommandName.{CommandName}
 use Rattle.draid_script.specs.declared.name.CommandName.TheVariants as name
 use Rattle.draid_reply.specs.declared.reply.Reply.{Reply}
 use Rattle.draid_reply.specs.declared.reply.Reply.TheVariants.{NoPool}
+use Rattle.draid_session.specs.Said.{Said}
+use Rattle.draid_session.specs.Choices.{Choices}
+use Rattle.draid_session.specs.Does as session
+use Rattle.draid_session.specs.Holds.{Hold}
+use Rattle.draid_session.specs.State.{State, Store}
 use Rattle.draid_session.specs.Replies.{IsReplyTo}
-use Rattle.draid_session.specs.Session.{Desk, Open, Foreign, Breaks, Cause, RecordFails, ShelfFails, TurnsBy, left_of}
+use Rattle.draid_session.specs.Session.{Desk, Open, Foreign, Breaks, Cause, MayBreak, RecordFails, ShelfFails, TurnsBy, left_of}
 use Rattle.draid_pool.specs.Carries.{CarriesOut, ReplyDoes}
 use Rattle.draid_pool.specs.Pools.{Represents}
 use Rattle.draid_pool.specs.Whole.{IsWhole}
 use Rattle.draid_pool.specs.declared.pool.Pool.{Pool}
 use Rattle.draid_pool.specs.Knows.{KnowsBehind, KnowsPointers}
-use Rattle.draid_run.specs.Shelves.{FailsIn, HasFailed, HasFault, HoldsDesk, IsClosed, IsOut, MayFind, OnShelf}
+use Rattle.draid_run.specs.Shelves.{FailsIn, FaultIn, HasFailed, HasFault, HoldsDesk, IsClosed, IsOut, MayFind, OnShelf, PoolFails, RackFailedOn, RackFault}
 
 -- ---- desks
 
@@ -42,13 +47,28 @@ pub record IsDesk {R A : Type 0} (rack : racks.Ghosts R) (area : areas.Ghosts A)
 
 -- ---- commands
 
+-- what a command did to the open pool that a failing device ended
+abbrev pub BreaksBy : State → Command → List Hold → Store → Type 0
+BreaksBy x command holds store = session.Broken x.geometry x.perms command x.store holds store
+
 -- What a command that leaves the shelf alone came to: it was carried out on the open pool and has a reply that it may have, or its reply is that it wants one.
-abbrev pub PoolDid : {R A : Type 0} → racks.Ghosts R → areas.Ghosts A → (List Room → Option ℕ → Type 0) → Command → CommandName → Desk → Reply → Option (Pool R A) → Type 0
-PoolDid rack area chosen command called (Open x) reply None = ⊥
-PoolDid rack area chosen command called (Foreign known) reply None = ⊥
-PoolDid rack area chosen command called (Open x) reply (Some pool) = IsWhole rack area pool × IsReplyTo command reply × CarriesOut rack area pool x (ReplyDoes x chosen command reply)
-PoolDid rack area chosen command called (Foreign known) reply (Some pool) = IsWhole rack area pool × IsReplyTo command reply × KnowsBehind command reply known pool
-PoolDid rack area chosen command called desk reply pool = (reply ≡ NoPool called) × (pool ≡ None)
+abbrev pub PoolDid : {R A : Type 0} → racks.Ghosts R → areas.Ghosts A → Choices → Command → CommandName → Desk → Reply → Option (Pool R A) → Type 0
+PoolDid rack area choices command called (Open x) reply None = ⊥
+PoolDid rack area choices command called (Foreign known) reply None = ⊥
+PoolDid rack area choices command called (Open x) reply (Some pool) = IsWhole rack area pool × IsReplyTo command reply × CarriesOut rack area pool x (ReplyDoes x choices command reply)
+PoolDid rack area choices command called (Foreign known) reply (Some pool) = IsWhole rack area pool × IsReplyTo command reply × KnowsBehind command reply known pool
+PoolDid rack area choices command called desk reply pool = (reply ≡ NoPool called) × (pool ≡ None)
+
+-- what a command did to the open pool, by its reply, or where it has none
+abbrev pub AnswerDoes : State → Choices → Command → Result Reply Failed → List Hold → Store → Type 0
+AnswerDoes x choices command (Ok reply) holds store = ReplyDoes x choices command reply holds store
+AnswerDoes x choices command (Err failed) holds store = BreaksBy x command holds store
+
+-- What such a command came to that a failing device of the open pool ended: the pool stands for the state to which it came so far, or its objects are as they were known.
+abbrev pub PoolBroke : {R A : Type 0} → racks.Ghosts R → areas.Ghosts A → Command → Desk → Option (Pool R A) → Type 0
+PoolBroke rack area command (Open x) (Some pool) = IsWhole rack area pool × CarriesOut rack area pool x (BreaksBy x command)
+PoolBroke rack area command (Foreign known) (Some pool) = IsWhole rack area pool × MayBreak command × PoolFails area (Some pool) × KnowsPointers pool known
+PoolBroke rack area command desk pool = ⊥
 
 -- the name of a command that is carried out on the pool that is open, and leaves it open
 abbrev pub asked_in : Command → Option CommandName
@@ -57,33 +77,36 @@ asked_in (FillObjects first count len seed) = Some name.Fill
 asked_in (ReadObject object) = Some name.Read
 asked_in (FreeObject object) = Some name.Free
 asked_in (SumObjects first count) = Some name.Sum
+asked_in (TakeOffline leaf) = Some name.Offline
+asked_in (TakeOnline leaf) = Some name.Online
 asked_in (DamageSector leaf sector) = Some name.Damage
 asked_in (ShowStatus form) = Some name.Status
 asked_in command = None
 
--- A command was done, and this is its reply.
-pub record Turned {R A : Type 0} (rack : racks.Ghosts R) (area : areas.Ghosts A) (chosen : List Room → Option ℕ → Type 0) (command : Result Command LineFault) (entry : OnShelf) (old : Desk)
-    (reply : Option Reply) (now : OnShelf) (pool : Option (Pool R A)) : Type 0 where
+-- A line was done, and these are the replies to it.
+pub record Turned {R A : Type 0} (rack : racks.Ghosts R) (area : areas.Ghosts A) (choices : Choices) (command : Result Command LineFault) (entry : OnShelf) (old : Desk)
+    (saids : List Said) (now : OnShelf) (pool : Option (Pool R A)) : Type 0 where
   pub new : Desk
   pub desk : IsDesk rack area entry now pool new
-  pub turns : TurnsBy chosen (MayFind rack area entry) command old reply new
+  pub turns : TurnsBy choices (MayFind rack area entry) command old saids new
 
 -- What is left of a desk as the pool is given back to the shelf. What had failed shows there; where none is open the shelf is as it was.
-pub record LeavesDesk {R A : Type 0} (area : areas.Ghosts A) (entry before now : OnShelf) (pool : Option (Pool R A)) (desk : Desk) : Type 0 where
+pub record LeavesDesk {R A : Type 0} (rack : racks.Ghosts R) (area : areas.Ghosts A) (entry before now : OnShelf) (pool : Option (Pool R A)) (desk : Desk) : Type 0 where
   pub shelf : HoldsDesk (left_of desk) entry now
   pub failed : HasFault area entry before pool desk → HasFailed entry now
+  pub racks : RackFault rack pool desk → RackFailedOn now
   pub same : IsClosed desk → now ≡ before
 
 -- What shows why a command broke off: what failed, by whether it found a pool open, which stays open then; or no more than what the record's fault is.
-abbrev pub CauseShows : {R A : Type 0} → areas.Ghosts A → Cause → Command → OnShelf → Desk → OnShelf → Option (Pool R A) → Desk → Type 0
-CauseShows area RecordFails command before old now pool new = ⊤
-CauseShows area ShelfFails command before (Open x) now pool new = HasFault area before now pool new
-CauseShows area ShelfFails command before (Foreign known) now pool new = HasFault area before now pool new
-CauseShows area ShelfFails command before old now pool new = IsClosed new × FailsIn area command before now
+abbrev pub CauseShows : {R A : Type 0} → racks.Ghosts R → areas.Ghosts A → Cause → Command → OnShelf → Desk → OnShelf → Option (Pool R A) → Desk → Type 0
+CauseShows rack area RecordFails command before old now pool new = ⊤
+CauseShows rack area ShelfFails command before (Open x) now pool new = FaultIn rack area command before now pool new
+CauseShows rack area ShelfFails command before (Foreign known) now pool new = FaultIn rack area command before now pool new
+CauseShows rack area ShelfFails command before old now pool new = IsClosed new × FailsIn area command before now
 
 -- A command broke off, since a call of the shelf or on an area failed, or since a record has a fault.
 pub record Broken {R A : Type 0} (rack : racks.Ghosts R) (area : areas.Ghosts A) (why : Cause) (command : Command) (entry before : OnShelf) (old : Desk) (now : OnShelf) (pool : Option (Pool R A)) : Type 0 where
   pub new : Desk
   pub desk : IsDesk rack area entry now pool new
   pub breaks : Breaks why old command new
-  pub cause : CauseShows area why command before old now pool new
+  pub cause : CauseShows rack area why command before old now pool new

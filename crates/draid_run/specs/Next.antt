@@ -1,8 +1,8 @@
 -- Runs one after another over one shelf, and what a run tells of crashes.
 use Rattle.std.specs.Prelude.{◌≡◌, ℕ, Bool, true, false, List, Option}
-use Rattle.draid_names.specs.declared.room.Room.{Room}
-use Rattle.draid_reply.specs.declared.reply.Reply.{Reply}
 use Rattle.draid_shelf.specs.Kits.{Both, CrashedHeld}
+use Rattle.draid_session.specs.Said.{Said}
+use Rattle.draid_session.specs.Choices.{Choices}
 use Rattle.draid_session.specs.Opening.{HasObjects, Imports}
 use Rattle.draid_session.specs.Session.{Desk, Finding, Untouched, Bare, Made, Open, Shut, Foreign, Unknown, Runs}
 use Rattle.draid_session.specs.State.{State}
@@ -38,11 +38,11 @@ next_desk crash Unknown = Untouched
 
 -- Lines and their replies, with a crash and an import that found a pool among them: the pool was open, and the import found one of its groups, with what this kept. All lines are those of one run, over
 -- a shelf that tells.
-pub record FindsAgain (chosen : List Room → Option ℕ → Type 0) (finds : Finding → Type 0) (first : Desk) (front : List (List ℕ)) (said : List (Option Reply)) (group objects : ℕ) (back : List (List ℕ))
-    (behind : List (Option Reply)) (last : Desk) : Type 0 where
+pub record FindsAgain (choices : Choices) (finds : Finding → Type 0) (first : Desk) (front : List (List ℕ)) (said : List (List Said)) (group objects : ℕ) (back : List (List ℕ))
+    (behind : List (List Said)) (last : Desk) : Type 0 where
   pub old : State
   pub new : State
-  pub before : Runs chosen finds true first front said (Open old)
+  pub before : Runs choices finds true first front said (Open old)
   pub imports : Imports old group new
   pub counted : HasObjects new.store.changes objects
-  pub after : Runs chosen finds true (Open new) back behind last
+  pub after : Runs choices finds true (Open new) back behind last

@@ -3,7 +3,6 @@ use Rattle.std.specs.Prelude.{◌≡◌, ◌≤◌, ◌+◌, ◌⊎◌, ⊤, ℕ
 use Rattle.std.specs.Io.KnownBytes.{Appends, prepend_known}
 use Rattle.std.specs.declared.vec.Vec.{Vec}
 use Rattle.std.specs.declared.alloc.Global.{Global}
-use Rattle.draid_names.specs.declared.room.Room.{Room}
 use Rattle.draid_rack.specs.declared.Rack as racks
 use Rattle.draid_area.specs.declared.Area as areas
 use Rattle.draid_lines.specs.Lines.{Rest, WhereKnown, IsTooLong, lines_of, most_lines}
@@ -11,13 +10,14 @@ use Rattle.draid_lines.specs.Sink.{AppendsFront}
 use Rattle.draid_script.specs.Grammar.{line_of}
 use Rattle.draid_script.specs.Line.{Command}
 use Rattle.draid_script.specs.declared.name.CommandName.{CommandName}
-use Rattle.draid_reply.specs.Reply.{text_of}
 use Rattle.draid_reply.specs.declared.reply.Reply.{Reply}
+use Rattle.draid_session.specs.Said.{Said, alone}
+use Rattle.draid_session.specs.Choices.{Choices}
 use Rattle.draid_session.specs.Session.{Cause, Desk, RecordFails, Runs, ShelfFails}
 use Rattle.draid_pool.specs.declared.pool.Pool.{Pool}
-use Rattle.draid_run.specs.Desks.{Broken, IsDesk, PoolDid, Turned, asked_in}
-use Rattle.draid_run.specs.Script.{BreaksOff, Ends, FailsShut, FaultyShut, GetsReplies, IsUnbuilt, LineFaultIs, Shows, said_text, texts_of}
-use Rattle.draid_run.specs.Shelves.{HasFault, HoldsFault, IsClosed, MayFind, OnShelf}
+use Rattle.draid_run.specs.Desks.{Broken, IsDesk, PoolBroke, PoolDid, Turned, asked_in}
+use Rattle.draid_run.specs.Script.{all_said, BreaksOff, Ends, FailsShut, FaultyShut, GetsReplies, IsUnbuilt, LineFaultIs, Shows, said_text, texts_of}
+use Rattle.draid_run.specs.Shelves.{HasFault, HoldsFault, IsClosed, MakesLeavesAt, MayFind, OnShelf, RackFault}
 use Rattle.draid_run.specs.declared.answer.Stop.{Stop}
 use Rattle.draid_run.specs.declared.answer.Stop.TheVariants as stop
 use Rattle.draid_run.specs.declared.status.Status.{Status}
@@ -53,39 +53,56 @@ abbrev pub IsSaid : Result Reply Stop → Result (Option Reply) Stop → Type 0
 IsSaid (Ok reply) result = result ≡ Ok (Some reply)
 IsSaid (Err stop) result = result ≡ Err stop
 
+-- what is said to a line outside a section: one reply, or none
+abbrev pub said_of : Option Reply → List Said
+said_of None = []
+said_of (Some reply) = alone reply
+
 -- the status of a run that ends at the line of this number
 abbrev pub status_of : ℕ → Stop → Status
 status_of number stop.Unbuilt = Line number 7 0
 status_of number stop.Shelf = ShelfFault
 status_of number (stop.Record metaslab place kind) = Record metaslab place kind
 
-module _ {R A : Type 0} (rack : racks.Ghosts R) (area : areas.Ghosts A) (chosen : List Room → Option ℕ → Type 0) where
-  -- the reply of the pool that is open, or that none is; or that the command asks for none
+module _ {R A : Type 0} (rack : racks.Ghosts R) (area : areas.Ghosts A) (choices : Choices) where
+  -- the reply of the pool that is open, or that none is; that a device of it failed; or that the command asks for none
   abbrev pub AskIs : Command → Option (Pool R A) → Desk → Option (Pool R A) → Result Reply Stop → Type 0
-  AskIs command pool old pool' (Ok reply) = (called : CommandName) × (asked_in command ≡ Some called) × PoolDid rack area chosen command called old reply pool'
+  AskIs command pool old pool' (Ok reply) = (called : CommandName) × (asked_in command ≡ Some called) × PoolDid rack area choices command called old reply pool'
   AskIs command pool old pool' (Err stop.Unbuilt) = (asked_in command ≡ None) × (pool' ≡ pool)
-  AskIs command pool old pool' (Err stop.Shelf) = ⊥
+  AskIs command pool old pool' (Err stop.Shelf) = PoolBroke rack area command old pool'
   AskIs command pool old pool' (Err (stop.Record metaslab place kind)) = ⊥
 
   -- the reply to a command, or why it has none
   abbrev pub AnswerIs : Command → OnShelf → OnShelf → Option (Pool R A) → Desk → OnShelf → Option (Pool R A) → Result (Option Reply) Stop → Type 0
-  AnswerIs command entry before pool old now pool' (Ok reply) = Turned rack area chosen (Ok command) entry old reply now pool'
+  AnswerIs command entry before pool old now pool' (Ok reply) = Turned rack area choices (Ok command) entry old (said_of reply) now pool'
   AnswerIs command entry before pool old now pool' (Err stop.Unbuilt) = IsUnbuilt command × (now ≡ before) × (pool' ≡ pool)
   AnswerIs command entry before pool old now pool' (Err stop.Shelf) = Broken rack area ShelfFails command entry before old now pool'
   AnswerIs command entry before pool old now pool' (Err (stop.Record metaslab place kind)) =
       Broken rack area RecordFails command entry before old now pool' × HoldsFault rack area before metaslab place kind
 
-  -- A line was answered, and its reply printed.
+  -- A line was answered, and the replies to it were printed.
   pub record Printed (text : List ℕ) (entry : OnShelf) (old : Desk) (now : OnShelf) (pool : Option (Pool R A)) (held held' : Option (List ℕ)) : Type 0 where
-    pub reply : Option Reply
-    pub turned : Turned rack area chosen (line_of text) entry old reply now pool
-    pub prints : Appends held held' (said_text reply)
+    pub saids : List Said
+    pub turned : Turned rack area choices (line_of text) entry old saids now pool
+    pub prints : Appends held held' (texts_of saids)
 
-  -- A line was answered, and the sink failed at its reply.
+  -- A line was answered, and the sink failed at one of the replies to it.
   pub record Cut (text : List ℕ) (entry : OnShelf) (old : Desk) (now : OnShelf) (pool : Option (Pool R A)) (held held' : Option (List ℕ)) : Type 0 where
-    pub reply : Reply
-    pub turned : Turned rack area chosen (line_of text) entry old (Some reply) now pool
-    pub prints : AppendsFront held held' (text_of reply)
+    pub part : List Said
+    pub said : Said
+    pub rest : List Said
+    pub mid : Option (List ℕ)
+    pub turned : Turned rack area choices (line_of text) entry old (part ++ said ∷ rest) now pool
+    pub whole : Appends held mid (texts_of part)
+    pub prints : AppendsFront mid held' (said_text said)
+
+  -- A line was answered, and memory was wanting for the text of one of the replies to it.
+  pub record Untold (text : List ℕ) (entry : OnShelf) (old : Desk) (now : OnShelf) (pool : Option (Pool R A)) (held held' : Option (List ℕ)) : Type 0 where
+    pub part : List Said
+    pub said : Said
+    pub rest : List Said
+    pub turned : Turned rack area choices (line_of text) entry old (part ++ said ∷ rest) now pool
+    pub prints : Appends held held' (texts_of part)
 
   -- what became of a line
   abbrev pub LineIs : ℕ → List ℕ → OnShelf → OnShelf → Option (Pool R A) → Desk → OnShelf → Option (Pool R A) → Option (List ℕ) → Option (List ℕ) → Result Unit Status → Type 0
@@ -97,35 +114,35 @@ module _ {R A : Type 0} (rack : racks.Ghosts R) (area : areas.Ghosts A) (chosen 
   LineIs number text entry before pool old now pool' held held' (Err (Line line kind at)) =
       LineFaultIs (line_of text) kind at × (now ≡ before) × (pool' ≡ pool) × (held' ≡ held) × (line ≡ number)
   LineIs number text entry before pool old now pool' held held' (Err NoMemory) =
-      (held' ≡ held) × (((now ≡ before) × (pool' ≡ pool)) ⊎ ((reply : Reply) × Turned rack area chosen (line_of text) entry old (Some reply) now pool'))
+      ((held' ≡ held) × (now ≡ before) × (pool' ≡ pool)) ⊎ Untold text entry old now pool' held held'
   LineIs number text entry before pool old now pool' held held' (Err status) = ⊥
 
   -- The lines so far were answered and their replies printed, from this desk on.
   pub record Serving (first : Desk) (input rest start held : Option (List ℕ)) (entry now : OnShelf) (pool : Option (Pool R A)) (count : ℕ) : Type 0 where
     pub lines : List (List ℕ)
-    pub replies : List (Option Reply)
+    pub replies : List (List Said)
     pub reached : Desk
     pub count_is : length lines ≡ count
     pub desk : IsDesk rack area entry now pool reached
-    pub runs : Runs chosen (MayFind rack area entry) (is_some entry.held) first lines replies reached
+    pub runs : Runs choices (MayFind rack area entry) (is_some entry.held) first lines replies reached
     pub known : WhereKnown input rest (λ all behind. lines_of all ≡ lines ++ lines_of behind)
-    pub printed : Appends start held (texts_of replies)
+    pub printed : Appends start held (texts_of (all_said replies))
     pub unanswered : lines ≡ [] → now ≡ entry
 
   -- The lines were served until the run ended.
   pub record Served (first : Desk) (ended : Status) (input start held : Option (List ℕ)) (entry now : OnShelf) (pool : Option (Pool R A)) : Type 0 where
     pub lines : List (List ℕ)
-    pub replies : List (Option Reply)
-    pub shown : List (Option Reply)
+    pub replies : List (List Said)
+    pub shown : List Said
     pub mid : Desk
     pub last : Desk
     pub broken : Option (List ℕ)
     pub desk : IsDesk rack area entry now pool last
-    pub runs : Runs chosen (MayFind rack area entry) (is_some entry.held) first lines replies mid
+    pub runs : Runs choices (MayFind rack area entry) (is_some entry.held) first lines replies mid
     pub breaks : BreaksOff ended broken mid last
     pub ends : MatchOption input ⊤ (Ends ended broken lines)
     pub shows : Shows ended replies shown
     pub prints : GetsReplies ended shown start held
-    pub failed : ended ≡ ShelfFault → HasFault area entry now pool last
+    pub failed : ended ≡ ShelfFault → HasFault area entry now pool last ⊎ (MakesLeavesAt broken × RackFault rack pool last)
     pub since : ended ≡ ShelfFault → IsClosed mid → IsClosed last × FailsShut area broken lines mid entry now
     pub bad : (metaslab : Option ℕ) (place kind : ℕ) → ended ≡ Record metaslab place kind → FaultyShut rack area broken lines mid entry metaslab place kind

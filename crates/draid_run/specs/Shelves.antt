@@ -1,18 +1,22 @@
 -- What a shelf holds between lines and as a run ends.
-use Rattle.std.specs.Prelude.{◌≡◌, ◌<◌, ◌+◌, ◌⊎◌, ⊤, ℕ, Bool, Option, Some, None, IsSomeAnd, is_some, slice_get}
+use Rattle.std.specs.Prelude.{◌≡◌, ◌<◌, ◌+◌, ◌⊎◌, ◌++◌, ⊤, ℕ, Bool, List, ◌∷◌, Option, Some, None, Result, Ok, Err, IsSomeAnd, MatchOption, is_some, slice_get}
 use Rattle.draid_names.specs.Faults.{Rose}
 use Rattle.draid_rack.specs.Rack.{Shape}
 use Rattle.draid_rack.specs.declared.Rack as racks
 use Rattle.draid_area.specs.declared.Area as areas
 use Rattle.draid_spec.specs.declared.layout.Geometry.{Geometry}
+use Rattle.draid_lines.specs.Lines.{lines_of}
+use Rattle.draid_script.specs.Grammar.{line_of}
 use Rattle.draid_script.specs.Line.{Command, CreatePool, ImportPool}
+use Rattle.draid_script.specs.declared.fault.LineFault.{LineFault}
 use Rattle.draid_shelf.specs.Kits.{AreNewChecks, Held, KitCounts, OnHeld}
 use Rattle.draid_shelf.specs.declared.Shelf as shelves
+use Rattle.draid_session.specs.Certain.{MakesLeaves}
 use Rattle.draid_session.specs.Session.{Desk, Finding, Fault, Nothing, Untouched, Bare, Made, Open, Shut, Foreign, Unknown, HasLayout}
 use Rattle.draid_session.specs.Session as finding
 use Rattle.draid_session.specs.State.{Metaslab, State}
-use Rattle.draid_pool.specs.Returning.{HoldsPool, OwnCounts, SameCounts, AreaFailed}
-use Rattle.draid_pool.specs.Failing.{AreaFails}
+use Rattle.draid_pool.specs.Returning.{HoldsPool, OwnCounts, SameCounts, AreaFailed, RackFailed}
+use Rattle.draid_pool.specs.Failing.{AreaFails, RackFails}
 use Rattle.draid_import.specs.Faulty.{HoldsNoGroup, RecordIsBad}
 use Rattle.draid_import.specs.Findings.{FindsPool}
 use Rattle.draid_import.specs.Found.{HasRisen}
@@ -115,6 +119,15 @@ AreaRose x y =
     ((m : ℕ) × (a : Metaslab) × (b : Metaslab) × (slice_get x.metaslabs m ≡ Some a) × (slice_get y.metaslabs m ≡ Some b)
     × (Rose a.counts.even b.counts.even ⊎ Rose a.counts.odd b.counts.odd)) ⊎ Rose x.uber_count y.uber_count
 
+-- a call on a rack of an open pool as a whole has failed
+abbrev pub RackHasFailed : State → Type 0
+RackHasFailed x = (m : ℕ) × (y : Metaslab) × (slice_get x.metaslabs m ≡ Some y) × (0 < y.counts.rack None)
+
+-- the count of one rose between two states of the pool
+abbrev pub RackRose : State → State → Type 0
+RackRose x y =
+    (m : ℕ) × (a : Metaslab) × (b : Metaslab) × (slice_get x.metaslabs m ≡ Some a) × (slice_get y.metaslabs m ≡ Some b) × Rose (a.counts.rack None) (b.counts.rack None)
+
 -- so of a pool of which nothing else is said
 abbrev pub PoolFails : {R A : Type 0} → areas.Ghosts A → Option (Pool R A) → Type 0
 PoolFails area None = ⊥
@@ -125,6 +138,40 @@ abbrev pub HasFault : {R A : Type 0} → areas.Ghosts A → OnShelf → OnShelf 
 HasFault area entry now pool (Open x) = AreaHasFailed x
 HasFault area entry now pool (Foreign known) = PoolFails area pool
 HasFault area entry now pool desk = HasFailed entry now
+
+-- a call on a rack of the pool that is open has failed as a whole
+abbrev pub RackFault : {R A : Type 0} → racks.Ghosts R → Option (Pool R A) → Desk → Type 0
+RackFault rack pool (Open x) = RackHasFailed x
+RackFault rack None (Foreign known) = ⊥
+RackFault rack (Some pool) (Foreign known) = RackFails rack.faults pool
+RackFault rack pool desk = ⊥
+
+-- one shows on a shelf
+abbrev pub RackFailedOn : OnShelf → Type 0
+RackFailedOn now = RackFailed now.counts
+
+-- what shows why a command ended: a fault, or in one that makes leaves that of a rack
+abbrev pub FaultIn : {R A : Type 0} → racks.Ghosts R → areas.Ghosts A → Command → OnShelf → OnShelf → Option (Pool R A) → Desk → Type 0
+FaultIn rack area command entry now pool desk = HasFault area entry now pool desk ⊎ (MakesLeaves command × RackFault rack pool desk)
+
+-- the command that a line asks for makes leaves
+abbrev pub MakesLeavesBy : Result Command LineFault → Type 0
+MakesLeavesBy (Ok command) = MakesLeaves command
+MakesLeavesBy (Err fault) = ⊥
+
+-- so of the line at which a run broke off
+abbrev pub MakesLeavesAt : Option (List ℕ) → Type 0
+MakesLeavesAt None = ⊥
+MakesLeavesAt (Some text) = MakesLeavesBy (line_of text)
+
+-- an input, where it is known, has such a line
+abbrev pub MayMakeLeaves : Option (List ℕ) → Type 0
+MayMakeLeaves input =
+    MatchOption input ⊤ (λ bytes. (front : List (List ℕ)) × (line : List ℕ) × (rest : List (List ℕ)) × (lines_of bytes ≡ front ++ (line ∷ rest)) × MakesLeavesBy (line_of line))
+
+-- What shows on a shelf of a run that ended since a device failed: an area or the shelf itself has; or, where the input may make leaves, a rack.
+abbrev pub DeviceFailed : Option (List ℕ) → OnShelf → OnShelf → Type 0
+DeviceFailed input entry now = HasFailed entry now ⊎ (MayMakeLeaves input × RackFailedOn now)
 
 -- A pool of this layout was to be made, and the shelf failed: its count rose, or it holds the new pool's devices, on an area of which a call has failed.
 abbrev pub MakingFailed : Geometry → OnShelf → OnShelf → Type 0

@@ -4,6 +4,7 @@ ghost use Rattle.draid_script.specs.Line.{IsInRange, command_in};
 ghost use Rattle.std.specs.Fn.{FnReturnsAt};
 ghost use Rattle.draid_choose.specs.Rooms.{IsChooser};
 ghost use Rattle.draid_spec.specs.Spec.{IsSpec};
+ghost use Rattle.draid_session.specs.Choices.{choices_by};
 ghost use Rattle.draid_session.specs.Making.{props_of};
 ghost use Rattle.draid_session.specs.Session.{Desk};
 ghost use Rattle.draid_run.specs.Desks.{IsDesk, IsPool, asked_in};
@@ -15,7 +16,7 @@ use crate::{groups, importing, replies};
 use draid_area::Area;
 use draid_choose::Chooser;
 use draid_create::CreateFault;
-use draid_names::Room;
+use draid_names::{Failed, Room};
 use draid_pool::Pool;
 use draid_rack::Rack;
 use draid_reply::Reply;
@@ -143,7 +144,7 @@ pub(crate) fn no_pool(command: CommandName) -> Reply
     Reply::NoPool { command }
 }
 
-/// The name of what a line asks of the pool that is open, where that has a reply and leaves it open.
+/// The name of what a line asks of the pool that is open, where that leaves it open.
 fn asked(line: &Line) -> Option<CommandName>
     ensures { result ≡ asked_in (command_in line.now) }
 {
@@ -153,6 +154,8 @@ fn asked(line: &Line) -> Option<CommandName>
         Line::Free { .. } => Some(CommandName::Free),
         Line::Read { .. } => Some(CommandName::Read),
         Line::Sum { .. } => Some(CommandName::Sum),
+        Line::Offline { .. } => Some(CommandName::Offline),
+        Line::Online { .. } => Some(CommandName::Online),
         Line::Damage { .. } => Some(CommandName::Damage),
         Line::Status { .. } => Some(CommandName::Status),
         _ => None,
@@ -171,13 +174,16 @@ fn ask<R: Rack, A: Area, F: Fn(&[Room]) -> Option<u32>>(
     requires range { IsInRange (command_in line.now) }
     requires desk { (x : Desk) × IsPool R.Rack A.Area pool.old x }
     ensures did { (x : Desk) → IsPool R.Rack A.Area pool.old x
-        → AskIs R.Rack A.Area (FnReturnsAt F.Fn chooser.now) (command_in line.now) pool.old x pool.new result }
+        → AskIs R.Rack A.Area (choices_by (FnReturnsAt F.Fn chooser.now)) (command_in line.now) pool.old x pool.new result }
 {
     let Some(command) = asked(line) else {
         return Err(Stop::Unbuilt);
     };
     match pool {
-        Some(pool) => Ok(replies::reply(rt, alloc, pool, chooser, line)),
+        Some(pool) => match replies::reply(rt, alloc, pool, chooser, line) {
+            Ok(reply) => Ok(reply),
+            Err(Failed) => Err(Stop::Shelf),
+        },
         None => Ok(no_pool(command)),
     }
 }
@@ -205,7 +211,7 @@ pub(crate) fn answer<H: Shelf, F: Fn(&[Room]) -> Option<u32>>(
     requires range { IsInRange (command_in line.now) }
     requires desk { (x : Desk) × IsPool H.R.Rack H.A.Area pool.old x }
     ensures answer { (entry : OnShelf) (x : Desk) → IsDesk H.R.Rack H.A.Area entry (on_shelf H.Shelf shelf.old) pool.old x
-        → AnswerIs H.R.Rack H.A.Area (FnReturnsAt F.Fn chooser.now) (command_in line.now) entry (on_shelf H.Shelf shelf.old) pool.old x (on_shelf H.Shelf shelf.new) pool.new result }
+        → AnswerIs H.R.Rack H.A.Area (choices_by (FnReturnsAt F.Fn chooser.now)) (command_in line.now) entry (on_shelf H.Shelf shelf.old) pool.old x (on_shelf H.Shelf shelf.new) pool.new result }
     ensures later { H.faults shelf.old ≤ H.faults shelf.new }
 {
     match line {

@@ -5,6 +5,8 @@ ghost use Rattle.draid_reply.specs.declared.reply.Reply.{Reply};
 ghost use Rattle.draid_script.specs.Grammar.{line_of};
 ghost use Rattle.draid_script.specs.Line.{CrashPool, ImportPool};
 ghost use Rattle.draid_shelf.specs.Memory.{HoldsNothing};
+ghost use Rattle.draid_session.specs.Choices.{choices_by};
+ghost use Rattle.draid_session.specs.Said.{Said, alone};
 ghost use Rattle.draid_session.specs.Session.{Bare, Desk, KnowsShelf};
 ghost use Rattle.draid_run.specs.Ending.{CanRun, EndsWell, IsUndisturbed};
 ghost use Rattle.draid_run.specs.Next.{FindsAgain, IsFound, next_desk};
@@ -26,7 +28,7 @@ pub fn undisturbed_runs_are_done<R: Rack, A: Area, F: Fn(&[Room]) -> Option<u32>
     chooser: &F,
 )
     ensures { (words : List (List ℕ)) (status : Status) (input : List ℕ) (old new : Option (List ℕ)) (entry now : OnShelf) (first : Desk)
-        → (it : RunsFrom R.Rack A.Area (FnReturnsAt F.Fn chooser.now) words status (Some input) old new entry now first)
+        → (it : RunsFrom R.Rack A.Area (choices_by (FnReturnsAt F.Fn chooser.now)) words status (Some input) old new entry now first)
         → IsSession words → CanRun input → IsUndisturbed status → EndsWell status it.session.mid }
 {}
 
@@ -38,7 +40,7 @@ pub fn runs_follow_one_another<R: Rack, A: Area, F: Fn(&[Room]) -> Option<u32>>(
     chooser: &F,
 )
     ensures { (words : List (List ℕ)) (status : Status) (input old new : Option (List ℕ)) (entry now found : OnShelf) (first : Desk) (crash : Bool)
-        → (it : RunsFrom R.Rack A.Area (FnReturnsAt F.Fn chooser.now) words status input old new entry now first)
+        → (it : RunsFrom R.Rack A.Area (choices_by (FnReturnsAt F.Fn chooser.now)) words status input old new entry now first)
         → IsFound crash now found → HoldsDesk (next_desk crash it.last) found found × TellsAsBefore entry found }
 {}
 
@@ -50,13 +52,13 @@ pub fn crashed_pools_are_found_again<R: Rack, A: Area, F: Fn(&[Room]) -> Option<
     chooser: &F,
 )
     ensures { (words : List (List ℕ)) (status : Status) (input old new : Option (List ℕ)) (entry now : OnShelf) (first : Desk)
-        → (it : RunsFrom R.Rack A.Area (FnReturnsAt F.Fn chooser.now) words status input old new entry now first)
+        → (it : RunsFrom R.Rack A.Area (choices_by (FnReturnsAt F.Fn chooser.now)) words status input old new entry now first)
         → is_some entry.held ≡ true → HoldsDesk first entry entry → KnowsShelf first
-        → (front back : List (List ℕ)) (crash import : List ℕ) (said behind : List (Option Reply)) (called : String Heap) (group objects : ℕ)
+        → (front back : List (List ℕ)) (crash import : List ℕ) (said behind : List (List Said)) (called : String Heap) (group objects : ℕ)
         → line_of crash ≡ Ok CrashPool → line_of import ≡ Ok ImportPool → length said ≡ length front
         → it.session.lines ≡ front ++ (crash ∷ import ∷ back)
-        → it.session.replies ≡ said ++ (Some (Reply.Crashed) ∷ Some (Reply.Imported called group objects) ∷ behind)
-        → FindsAgain (FnReturnsAt F.Fn chooser.now) (MayFind R.Rack A.Area entry) first front said group objects back behind it.session.mid }
+        → it.session.replies ≡ said ++ (alone Reply.Crashed ∷ alone (Reply.Imported called group objects) ∷ behind)
+        → FindsAgain (choices_by (FnReturnsAt F.Fn chooser.now)) (MayFind R.Rack A.Area entry) first front said group objects back behind it.session.mid }
 {}
 
 /// Law: a new shelf in memory tells that it has no pool.

@@ -6,6 +6,7 @@ ghost use Rattle.draid_names.specs.Faults.{Rose};
 ghost use Rattle.draid_script.specs.Grammar.{line_of};
 ghost use Rattle.draid_script.specs.Line.{IsInRange, command_in};
 ghost use Rattle.draid_reply.specs.Reply.{text_of};
+ghost use Rattle.draid_session.specs.Choices.{choices_by};
 ghost use Rattle.draid_session.specs.Session.{Desk};
 ghost use Rattle.draid_run.specs.Desks.{IsDesk, IsPool};
 ghost use Rattle.draid_run.specs.Serve.{LineIs, PrintIs, Served, TextIs, status_of};
@@ -57,7 +58,7 @@ fn serve_command<H: Shelf, K: Sink, F: Fn(&[Room]) -> Option<u32>>(
     requires desk { (x : Desk) × IsPool H.R.Rack H.A.Area pool.old x }
     ensures line { (text : List ℕ) (entry : OnShelf) (x : Desk) → line_of text ≡ Ok (command_in line.now)
         → IsDesk H.R.Rack H.A.Area entry (on_shelf H.Shelf shelf.old) pool.old x
-        → LineIs H.R.Rack H.A.Area (FnReturnsAt F.Fn chooser.now) number text entry (on_shelf H.Shelf shelf.old) pool.old x (on_shelf H.Shelf shelf.new) pool.new (K.held sink.old) (K.held sink.new) result }
+        → LineIs H.R.Rack H.A.Area (choices_by (FnReturnsAt F.Fn chooser.now)) number text entry (on_shelf H.Shelf shelf.old) pool.old x (on_shelf H.Shelf shelf.new) pool.new (K.held sink.old) (K.held sink.new) result }
     ensures later { K.faults sink.old ≤ K.faults sink.new }
     ensures cause { result ≡ Err Status.SinkFault → Rose (K.faults sink.old) (K.faults sink.new) }
     ensures shelf_later { H.faults shelf.old ≤ H.faults shelf.new }
@@ -83,7 +84,7 @@ fn serve_line<H: Shelf, K: Sink, F: Fn(&[Room]) -> Option<u32>>(
     requires chooser { IsChooser F.Fn chooser.now }
     requires desk { (x : Desk) × IsPool H.R.Rack H.A.Area pool.old x }
     ensures line { (entry : OnShelf) (x : Desk) → IsDesk H.R.Rack H.A.Area entry (on_shelf H.Shelf shelf.old) pool.old x
-        → LineIs H.R.Rack H.A.Area (FnReturnsAt F.Fn chooser.now) number text.now entry (on_shelf H.Shelf shelf.old) pool.old x (on_shelf H.Shelf shelf.new) pool.new (K.held sink.old) (K.held sink.new) result }
+        → LineIs H.R.Rack H.A.Area (choices_by (FnReturnsAt F.Fn chooser.now)) number text.now entry (on_shelf H.Shelf shelf.old) pool.old x (on_shelf H.Shelf shelf.new) pool.new (K.held sink.old) (K.held sink.new) result }
     ensures later { K.faults sink.old ≤ K.faults sink.new }
     ensures cause { result ≡ Err Status.SinkFault → Rose (K.faults sink.old) (K.faults sink.new) }
     ensures shelf_later { H.faults shelf.old ≤ H.faults shelf.new }
@@ -153,7 +154,7 @@ pub(crate) fn serve<H: Shelf, S: Source, K: Sink, F: Fn(&[Room]) -> Option<u32>>
     requires chooser { IsChooser F.Fn chooser.now }
     requires closed { pool.old ≡ None }
     ensures served { (first : Desk) → HoldsDesk first (on_shelf H.Shelf shelf.old) (on_shelf H.Shelf shelf.old)
-        → Served H.R.Rack H.A.Area (FnReturnsAt F.Fn chooser.now) first result (S.left source.old) (K.held sink.old) (K.held sink.new) (on_shelf H.Shelf shelf.old) (on_shelf H.Shelf shelf.new) pool.new }
+        → Served H.R.Rack H.A.Area (choices_by (FnReturnsAt F.Fn chooser.now)) first result (S.left source.old) (K.held sink.old) (K.held sink.new) (on_shelf H.Shelf shelf.old) (on_shelf H.Shelf shelf.new) pool.new }
     ensures source_later { S.faults source.old ≤ S.faults source.new }
     ensures sink_later { K.faults sink.old ≤ K.faults sink.new }
     ensures shelf_later { H.faults shelf.old ≤ H.faults shelf.new }

@@ -2,10 +2,11 @@ ghost use Rattle.std.specs.Prelude.{◌≡◌, ◌≤◌, ◌⊎◌, ⊤, List, 
 ghost use Rattle.std.specs.Fn.{FnReturnsAt};
 ghost use Rattle.draid_choose.specs.Rooms.{IsChooser};
 ghost use Rattle.draid_names.specs.Faults.{Rose};
+ghost use Rattle.draid_session.specs.Choices.{choices_by};
 ghost use Rattle.draid_session.specs.Session.{Desk};
 ghost use Rattle.draid_run.specs.Desks.{IsDesk, IsPool, LeavesDesk};
 ghost use Rattle.draid_run.specs.Script.{EndsWithLine, Prints, RunIs};
-ghost use Rattle.draid_run.specs.Shelves.{HasFailed, OnShelf, on_shelf};
+ghost use Rattle.draid_run.specs.Shelves.{DeviceFailed, OnShelf, on_shelf};
 
 use crate::serve::serve;
 use crate::status::{Status, fixed_line, numbered_line};
@@ -57,7 +58,7 @@ fn end_run<K: Sink>(alloc: Global, sink: &mut K, ended: Status) -> Status
 fn give_back<H: Shelf>(shelf: &mut H, pool: Option<Pool<H::R, H::A>>)
     requires desk { (x : Desk) × IsPool H.R.Rack H.A.Area pool x }
     ensures leaves { (entry : OnShelf) (x : Desk) → IsDesk H.R.Rack H.A.Area entry (on_shelf H.Shelf shelf.old) pool x
-        → LeavesDesk H.A.Area entry (on_shelf H.Shelf shelf.old) (on_shelf H.Shelf shelf.new) pool x }
+        → LeavesDesk H.R.Rack H.A.Area entry (on_shelf H.Shelf shelf.old) (on_shelf H.Shelf shelf.new) pool x }
     ensures faults { H.faults shelf.new ≡ H.faults shelf.old }
 {
     if let Some(pool) = pool {
@@ -82,7 +83,7 @@ pub fn run<
     chooser: &Chooser<F>,
 ) -> Status
     requires chooser { IsChooser F.Fn chooser.now }
-    ensures run { RunIs H.R.Rack H.A.Area (FnReturnsAt F.Fn chooser.now) (map string_bytes words.now) result (S.left source.old) (K.held sink.old) (K.held sink.new) (on_shelf H.Shelf shelf.old) (on_shelf H.Shelf shelf.new) }
+    ensures run { RunIs H.R.Rack H.A.Area (choices_by (FnReturnsAt F.Fn chooser.now)) (map string_bytes words.now) result (S.left source.old) (K.held sink.old) (K.held sink.new) (on_shelf H.Shelf shelf.old) (on_shelf H.Shelf shelf.new) }
 
     // What has failed stays counted.
     ensures source_later { S.faults source.old ≤ S.faults source.new }
@@ -92,7 +93,7 @@ pub fn run<
     // The devices are to blame only where they failed in this run.
     ensures source_fault { result ≡ Status.SourceFault → Rose (S.faults source.old) (S.faults source.new) }
     ensures sink_fault { result ≡ Status.SinkFault → Rose (K.faults sink.old) (K.faults sink.new) }
-    ensures shelf_fault { result ≡ Status.ShelfFault → HasFailed (on_shelf H.Shelf shelf.old) (on_shelf H.Shelf shelf.new) }
+    ensures shelf_fault { result ≡ Status.ShelfFault → DeviceFailed (S.left source.old) (on_shelf H.Shelf shelf.old) (on_shelf H.Shelf shelf.new) }
 {
     let alloc = rt.alloc();
     match take_words(alloc, words) {

@@ -9,6 +9,8 @@ use Rattle.draid_script.specs.declared.line.PoolKeys.{PoolKeys}
 use Rattle.draid_script.specs.declared.name.CommandName.TheVariants as name
 use Rattle.draid_reply.specs.declared.reply.Reply.{Reply}
 use Rattle.draid_reply.specs.declared.reply.Reply.TheVariants.{NoPool, NoMemory, Created, CreateRefused, Imported, Exported, Crashed}
+use Rattle.draid_session.specs.Said.{Said, alone}
+use Rattle.draid_session.specs.Choices.{Choices}
 use Rattle.draid_session.specs.Follows.{Follows}
 use Rattle.draid_session.specs.Opening.{HasObjects, Imports}
 use Rattle.draid_session.specs.Session.{Agrees, CarriesOut, Creates, Desk, Finding, FindsGiven, FindsGivenIf, FindsNew, FindsNewIf, ImportTurns, KnowsShelf, MakesNone, ReplyTurns, Runs, ShutTurns, TurnsBy, desk_behind, Untouched, Bare, Made, Open, Shut, Foreign, Unknown}
@@ -59,7 +61,7 @@ behind_known (Exported group) x = tt
 behind_known Crashed x = tt
 behind_known reply x = tt
 
-module _ (chosen : List Room → Option ℕ → Type 0) (finds : Finding → Type 0) where
+module _ (choices : Choices) (finds : Finding → Type 0) where
   import_known : (old new : Desk) (reply : Reply) → KnowsShelf old → Agrees true old → ImportTurns finds old reply new → KnowsShelf new
   import_known Untouched new reply known agrees it = absurd known
   import_known Bare new reply known agrees it = subst KnowsShelf (sym it.1) tt
@@ -74,7 +76,7 @@ module _ (chosen : List Room → Option ℕ → Type 0) (finds : Finding → Typ
   shut_known old new ImportPool reply known agrees it = import_known old new reply known agrees it
   shut_known old new command reply known agrees it = known_as old new it.3 known
 
-  reply_known : (old new : Desk) (command : Command) (reply : Reply) → KnowsShelf old → Agrees true old → ReplyTurns chosen finds old command reply new → KnowsShelf new
+  reply_known : (old new : Desk) (command : Command) (reply : Reply) → KnowsShelf old → Agrees true old → ReplyTurns choices finds old command reply new → KnowsShelf new
   reply_known Untouched new command reply known agrees it = absurd known
   reply_known Bare new command reply known agrees it = shut_known Bare new command reply known agrees it
   reply_known (Made told failed geometry) new command reply known agrees it = shut_known (Made told failed geometry) new command reply known agrees it
@@ -83,26 +85,27 @@ module _ (chosen : List Room → Option ℕ → Type 0) (finds : Finding → Typ
   reply_known (Foreign f) new command reply known agrees it = absurd known
   reply_known Unknown new command reply known agrees it = absurd known
 
-  line_known : (line : Result Command LineFault) (old new : Desk) (reply : Option Reply) → KnowsShelf old → Agrees true old → TurnsBy chosen finds line old reply new → KnowsShelf new
-  line_known (Err fault) old new reply known agrees it = absurd it
-  line_known (Ok Silent) old new None known agrees it = known_as old new it known
-  line_known (Ok Silent) old new (Some reply) known agrees it = absurd it
-  line_known (Ok command) old new None known agrees it = absurd it
-  line_known (Ok command) old new (Some reply) known agrees it = reply_known old new command reply known agrees it
+  line_known : (line : Result Command LineFault) (old new : Desk) (saids : List Said) → KnowsShelf old → Agrees true old → TurnsBy choices finds line old saids new → KnowsShelf new
+  line_known (Err fault) old new saids known agrees it = absurd it
+  line_known (Ok Silent) old new [] known agrees it = known_as old new it known
+  line_known (Ok Silent) old new (said ∷ more) known agrees it = absurd it
+  line_known (Ok command) old new [] known agrees it = absurd it
+  line_known (Ok command) old new (said ∷ []) known agrees it = reply_known old new command said.reply known agrees it.1
+  line_known (Ok command) old new (said ∷ other ∷ more) known agrees it = absurd it
 
   -- ---- all lines
 
-  pub runs_known : (lines : List (List ℕ)) (replies : List (Option Reply)) (old new : Desk) → KnowsShelf old → Agrees true old → Runs chosen finds true old lines replies new → KnowsShelf new × Agrees true new
+  pub runs_known : (lines : List (List ℕ)) (replies : List (List Said)) (old new : Desk) → KnowsShelf old → Agrees true old → Runs choices finds true old lines replies new → KnowsShelf new × Agrees true new
   runs_known [] [] old new known agrees runs = (known_as old new runs known, subst (Agrees true) (sym runs) agrees)
-  runs_known [] (reply ∷ replies) old new known agrees runs = absurd runs
+  runs_known [] (saids ∷ replies) old new known agrees runs = absurd runs
   runs_known (line ∷ lines) [] old new known agrees runs = absurd runs
-  runs_known (line ∷ lines) (reply ∷ replies) old new known agrees runs =
-      runs_known lines replies runs.0 new (line_known (line_of line) old runs.0 reply known agrees runs.1) runs.2 runs.3
+  runs_known (line ∷ lines) (saids ∷ replies) old new known agrees runs =
+      runs_known lines replies runs.0 new (line_known (line_of line) old runs.0 saids known agrees runs.1) runs.2 runs.3
 
   -- ---- a crash, and an import
 
   -- a crash changes nothing of the pool
-  crash_same : (old state : State) → CarriesOut chosen CrashPool Crashed old state → state ≡ old
+  crash_same : (old state : State) → CarriesOut choices CrashPool Crashed old state → state ≡ old
   crash_same old state it =
       let stays : it.mid ≡ old = subst (λ holds. Follows holds old it.mid) it.does.1 it.follows in
       it.made ∙ ap (λ (s : State). record s { store = it.store }) stays ∙ ap (λ t. record old { store = t }) it.does.0
@@ -119,41 +122,41 @@ module _ (chosen : List Room → Option ℕ → Type 0) (finds : Finding → Typ
   reopened old called group objects mid it = absurd it
 
   -- so behind a crash
-  pub record FoundAgain (first : Desk) (group objects : ℕ) (lines : List (List ℕ)) (replies : List (Option Reply)) (last : Desk) : Type 0 where
+  pub record FoundAgain (first : Desk) (group objects : ℕ) (lines : List (List ℕ)) (replies : List (List Said)) (last : Desk) : Type 0 where
     pub old : State
     pub new : State
     pub was : first ≡ Open old
     pub imports : Imports old group new
     pub counted : HasObjects new.store.changes objects
-    pub after : Runs chosen finds true (Open new) lines replies last
+    pub after : Runs choices finds true (Open new) lines replies last
 
-  module _ (crash import : List ℕ) (lines : List (List ℕ)) (called : String Global) (group objects : ℕ) (replies : List (Option Reply)) (last : Desk) (is_crash : line_of crash ≡ Ok CrashPool) (is_import : line_of import ≡ Ok ImportPool) where
-    found_open : (old : State) → Runs chosen finds true (Open old) (crash ∷ import ∷ lines) (Some Crashed ∷ Some (Imported called group objects) ∷ replies) last → FoundAgain (Open old) group objects lines replies last
+  module _ (crash import : List ℕ) (lines : List (List ℕ)) (called : String Global) (group objects : ℕ) (replies : List (List Said)) (last : Desk) (is_crash : line_of crash ≡ Ok CrashPool) (is_import : line_of import ≡ Ok ImportPool) where
+    found_open : (old : State) → Runs choices finds true (Open old) (crash ∷ import ∷ lines) (alone Crashed ∷ alone (Imported called group objects) ∷ replies) last → FoundAgain (Open old) group objects lines replies last
     found_open old runs =
-        let crashed = subst (λ r. TurnsBy chosen finds r (Open old) (Some Crashed) runs.0) is_crash runs.1 in
-        let shut : runs.0 ≡ Shut true old = crashed.2 ∙ ap (λ s. Shut true s) (crash_same old crashed.0 crashed.1) in
+        let crashed = subst (λ r. TurnsBy choices finds r (Open old) (alone Crashed) runs.0) is_crash runs.1 in
+        let shut : runs.0 ≡ Shut true old = crashed.1.2 ∙ ap (λ s. Shut true s) (crash_same old crashed.1.0 crashed.1.1) in
         let told : old.told ≡ true = subst (Agrees true) shut runs.2 in
         let rest = runs.3 in
-        let found = subst (λ r. TurnsBy chosen finds r runs.0 (Some (Imported called group objects)) rest.0) is_import rest.1 in
-        let given = subst (λ d. TurnsBy chosen finds (Ok ImportPool) d (Some (Imported called group objects)) rest.0) shut found in
-        let it = reopened old called group objects rest.0 (told_finds old (Imported called group objects) rest.0 told given) in
-        record { old = old; new = it.new; was = refl; imports = it.imports; counted = it.counted; after = subst (λ d. Runs chosen finds true d lines replies last) it.is rest.3 }
+        let found = subst (λ r. TurnsBy choices finds r runs.0 (alone (Imported called group objects)) rest.0) is_import rest.1 in
+        let given = subst (λ d. TurnsBy choices finds (Ok ImportPool) d (alone (Imported called group objects)) rest.0) shut found in
+        let it = reopened old called group objects rest.0 (told_finds old (Imported called group objects) rest.0 told given.1) in
+        record { old = old; new = it.new; was = refl; imports = it.imports; counted = it.counted; after = subst (λ d. Runs choices finds true d lines replies last) it.is rest.3 }
 
     -- a crash wants an open pool
-    pub crash_found : (first : Desk) → KnowsShelf first → Runs chosen finds true first (crash ∷ import ∷ lines) (Some Crashed ∷ Some (Imported called group objects) ∷ replies) last → FoundAgain first group objects lines replies last
-    crash_found first known runs = by first known (subst (λ r. TurnsBy chosen finds r first (Some Crashed) runs.0) is_crash runs.1) runs where
-      by : (x : Desk) → KnowsShelf x → TurnsBy chosen finds (Ok CrashPool) x (Some Crashed) runs.0 → Runs chosen finds true x (crash ∷ import ∷ lines) (Some Crashed ∷ Some (Imported called group objects) ∷ replies) last
+    pub crash_found : (first : Desk) → KnowsShelf first → Runs choices finds true first (crash ∷ import ∷ lines) (alone Crashed ∷ alone (Imported called group objects) ∷ replies) last → FoundAgain first group objects lines replies last
+    crash_found first known runs = by first known (subst (λ r. TurnsBy choices finds r first (alone Crashed) runs.0) is_crash runs.1) runs where
+      by : (x : Desk) → KnowsShelf x → TurnsBy choices finds (Ok CrashPool) x (alone Crashed) runs.0 → Runs choices finds true x (crash ∷ import ∷ lines) (alone Crashed ∷ alone (Imported called group objects) ∷ replies) last
           → FoundAgain x group objects lines replies last
       by Untouched known turns all = absurd known
-      by Bare known turns all = absurd (cc (turns.2))
-      by (Made told failed geometry) known turns all = absurd (cc (turns.2))
+      by Bare known turns all = absurd (cc (turns.1.2))
+      by (Made told failed geometry) known turns all = absurd (cc (turns.1.2))
       by (Open old) known turns all = found_open old all
-      by (Shut crashed old) known turns all = absurd (cc (turns.2))
+      by (Shut crashed old) known turns all = absurd (cc (turns.1.2))
       by (Foreign f) known turns all = absurd known
       by Unknown known turns all = absurd known
 
-    pub found_again : (old : State) → Runs chosen finds true (Open old) (crash ∷ import ∷ lines) (Some Crashed ∷ Some (Imported called group objects) ∷ replies) last
-        → (new : State) × Imports old group new × HasObjects new.store.changes objects × Runs chosen finds true (Open new) lines replies last
+    pub found_again : (old : State) → Runs choices finds true (Open old) (crash ∷ import ∷ lines) (alone Crashed ∷ alone (Imported called group objects) ∷ replies) last
+        → (new : State) × Imports old group new × HasObjects new.store.changes objects × Runs choices finds true (Open new) lines replies last
     found_again old runs = (let it = found_open old runs in (it.new, subst (λ s. Imports s group it.new) (same_open it.old old (sym it.was)) it.imports, it.counted, it.after)) where
       same_open : (a b : State) → Open a ≡ Open b → a ≡ b
       same_open a b is = cc is

@@ -1,9 +1,13 @@
 -- Holds that leave the groups of all metaslabs as they are.
-use Rattle.std.proofs.Common.{◌≡◌, ◌∙◌, ◌==◌, ◌⊎◌, ◌++◌, ℕ, Bool, true, false, List, [], ◌∷◌, Some, inl, inr, refl, sym, ap, subst}
+use Rattle.std.proofs.Common.{◌≡◌, ◌∙◌, ◌==◌, ◌⊎◌, ◌++◌, ℕ, Bool, true, false, List, [], ◌∷◌, Option, Some, None, inl, inr, refl, sym, ap, subst}
 use Rattle.std.specs.Prelude.{⊤, nat_lt, slice_get, slice_set}
 use Rattle.draid_machine.specs.declared.event.Event.{Event}
 use Rattle.draid_machine.specs.declared.event.Event.TheVariants as event
-use Rattle.draid_machine.specs.After.{finish_state}
+use Rattle.draid_names.specs.declared.pass_kind.PassKind.{PassKind}
+use Rattle.draid_names.specs.declared.pass_kind.PassKind.TheVariants.{Heal, Rebuild}
+use Rattle.draid_machine.specs.After.{attach_state, attached_core, finish_state, rearranged_state, replan, replan_kind}
+use Rattle.draid_machine.specs.Arms.{has_moved}
+use Rattle.draid_machine.specs.declared.names.ArmName.{ArmName}
 use Rattle.draid_machine.specs.State as machine
 use Rattle.draid_machine.specs.Step.{Step}
 use Rattle.draid_machine.proofs.Small.{absurd_test, equal, is_equal}
@@ -25,6 +29,11 @@ IsCalm (event.Finish key) = ⊤
 IsCalm (event.Free key group) = ⊤
 IsCalm (event.Fetch key failed) = ⊤
 IsCalm (event.Damage leaf sector failed) = ⊤
+IsCalm (event.Offline leaf) = ⊤
+IsCalm (event.Online leaf) = ⊤
+IsCalm (event.Attach slot arm) = ⊤
+IsCalm (event.Detach slot arm) = ⊤
+IsCalm event.Upgrade = ⊤
 IsCalm (event.Seal group failed) = ⊤
 IsCalm e = ⊥
 
@@ -44,6 +53,19 @@ finish_alike l w k h m = by (nat_lt l.parity m) refl
     by true is = rw is (record { group = refl; closing = refl; committed = refl })
     by false is = rw is (record { group = refl; closing = refl; committed = refl })
 
+kind_alike : (l : machine.Layout) (w v : machine.State) (moved : ArmName → Bool) (p : machine.Pass) (kind : PassKind) → Alike w v → Alike w (replan_kind l v moved p kind)
+kind_alike l w v moved p Rebuild a = record { group = a.group; closing = a.closing; committed = a.committed }
+kind_alike l w v moved p Heal a = record { group = a.group; closing = a.closing; committed = a.committed }
+
+replan_alike : (l : machine.Layout) (w v : machine.State) (moved : ArmName → Bool) (pass : Option machine.Pass) → Alike w v → Alike w (replan l v moved pass)
+replan_alike l w v moved None a = a
+replan_alike l w v moved (Some p) a = kind_alike l w v moved p p.kind a
+
+attach_alike : (l : machine.Layout) (w : machine.State) (slot : ℕ) (n : ArmName) (last : ℕ) → Alike w (attach_state l w slot n last)
+attach_alike l w slot n last =
+    let q = attached_core w.core slot n last in
+    replan_alike l w (rearranged_state l w last q) (has_moved l w.core q) w.core.pass (record { group = refl; closing = refl; committed = refl })
+
 pub step_alike : (l : machine.Layout) (w : machine.State) (e : Event) (new : machine.State) → IsCalm e → Step l w e new → Alike w new
 step_alike l w (event.Begin key first stripes len birth digest) new calm s = alike_by w _ new s.made (record { group = refl; closing = refl; committed = refl })
 step_alike l w (event.Put key landed failed) new calm s = alike_by w _ new s.made (record { group = refl; closing = refl; committed = refl })
@@ -51,6 +73,11 @@ step_alike l w (event.Finish key) new calm s = alike_by w _ new s.made (finish_a
 step_alike l w (event.Free key group) new calm s = alike_by w _ new s.made (record { group = refl; closing = refl; committed = refl })
 step_alike l w (event.Fetch key failed) new calm s = alike_by w _ new s.made (record { group = refl; closing = refl; committed = refl })
 step_alike l w (event.Damage leaf sector failed) new calm s = alike_by w _ new s.made (record { group = refl; closing = refl; committed = refl })
+step_alike l w (event.Offline leaf) new calm s = alike_by w _ new s.made (record { group = refl; closing = refl; committed = refl })
+step_alike l w (event.Online leaf) new calm s = alike_by w _ new s.made (record { group = refl; closing = refl; committed = refl })
+step_alike l w (event.Attach slot arm) new calm s = alike_by w _ new s.made (attach_alike l w slot arm s.last)
+step_alike l w (event.Detach slot arm) new calm s = alike_by w _ new s.made (record { group = refl; closing = refl; committed = refl })
+step_alike l w event.Upgrade new calm s = alike_by w _ new s.made (record { group = refl; closing = refl; committed = refl })
 step_alike l w (event.Seal group failed) new calm s = alike_by w _ new s.made (record { group = refl; closing = refl; committed = refl })
 step_alike l w e new calm s = absurd calm
 
@@ -60,6 +87,7 @@ abbrev pub IsCalmHold : Hold → Type 0
 IsCalmHold (On v (Did e w)) = IsCalm e
 IsCalmHold (On v act) = ⊤
 IsCalmHold (OnUber u LookedUber) = ⊤
+IsCalmHold (OnUber u (NextLeaf next)) = ⊤
 IsCalmHold hold = ⊥
 
 -- the same pool, but for what calm holds change
@@ -79,6 +107,17 @@ alike_more a b c x y = record { group = y.group ∙ x.group; closing = y.closing
 
 pub calm_none : (x : State) → CalmTo x x
 calm_none x = record { committed = refl; pending = refl; told = refl; geometry = refl; each = λ k y there. (y, there, alike_same y.world, goes_none y); back = λ k z there. (z, there, alike_same z.world, goes_none z) }
+
+-- the next leaf has another number
+calm_leaf : (x : State) (next : ℕ) → CalmTo x (record x { next_leaf = next })
+calm_leaf x next = record {
+  committed = refl;
+  pending = refl;
+  told = refl;
+  geometry = refl;
+  each = λ k y there. (y, there, alike_same y.world, goes_none y);
+  back = λ k z there. (z, there, alike_same z.world, goes_none z);
+}
 
 pub calm_more : (x y z : State) → CalmTo x y → CalmTo y z → CalmTo x z
 calm_more x y z a b = record {
@@ -173,6 +212,7 @@ hold_calm v act old new calm it = record {
 hold_calms : (hold : Hold) (old new : State) → IsCalmHold hold → Holds hold old new → CalmTo old new
 hold_calms (On v act) old new calm it = hold_calm v act old new calm it
 hold_calms (OnUber u LookedUber) old new calm it = subst (CalmTo old) (sym it.acts) (calm_none old)
+hold_calms (OnUber u (NextLeaf next)) old new calm it = subst (CalmTo old) (sym it.acts) (calm_leaf old next)
 hold_calms (OnUber u act) old new calm it = absurd calm
 
 pub calm_follows : (holds : List Hold) (old new : State) → AllOf IsCalmHold holds → Follows holds old new → CalmTo old new

@@ -1,6 +1,7 @@
 pub mod Beside
 pub mod Again
 pub mod Answering
+pub mod Arming
 pub mod Calm
 pub mod Certain
 pub mod Changing
@@ -11,7 +12,9 @@ pub mod Lists
 pub mod Looked
 pub mod NoPool
 pub mod Noted
+pub mod Phased
 pub mod Placed
+pub mod Placing
 pub mod Rooms
 pub mod Saying
 pub mod Shelved

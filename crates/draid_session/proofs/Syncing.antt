@@ -11,7 +11,7 @@ use Rattle.draid_session.specs.Follows.{Follows}
 use Rattle.draid_session.specs.Groups as groups
 use Rattle.draid_session.specs.Holds.{Hold, LookedUber, OnUber, UberView, View}
 use Rattle.draid_session.specs.Looks.{AllOf}
-use Rattle.draid_session.specs.Phases.{End, NoneOf, Went}
+use Rattle.draid_session.specs.Phases.{Broke, End, NoneOf, Starved, WasLast, WasWorn, Went}
 use Rattle.draid_session.specs.State.{Metaslab, State, Store}
 use Rattle.draid_session.proofs.Changing.{calm_fit, looks_from_calm}
 use Rattle.draid_session.proofs.Calm.{CalmTo, calm_follows}
@@ -20,6 +20,14 @@ use Rattle.draid_session.proofs.Lists.{all_at}
 use Rattle.draid_session.proofs.Looked.{Seen, follows_split, looks_all, looks_at, looks_seen}
 use Rattle.draid_session.proofs.Saying.{tells_later, tells_synced}
 use Rattle.draid_session.specs.Keeping.{SaysObjects, IsInStep, AreInStep, ShowsUnsynced, IsLowFloor, KeepsOpen, IsUnderWay}
+
+-- a phase went through, or was stopped
+went_or_not : (end : End) → (end ≡ Went) ⊎ (end ≡ Went → ⊥)
+went_or_not Went = inl refl
+went_or_not WasWorn = inr (λ is. absurd (cc))
+went_or_not WasLast = inr (λ is. absurd (cc))
+went_or_not Starved = inr (λ is. absurd (cc))
+went_or_not Broke = inr (λ is. absurd (cc))
 
 -- ---- books
 
@@ -57,13 +65,14 @@ steady_used x z store s (inl none) = elim s.pending [
 ]
 steady_used x z store s (inr unsynced) = inr (steady_unsynced x z s unsynced)
 
-pub steady_fit : (x z : State) (store : Store) (b : Book) → Steady x z → KeepsOpen x store b → KeepsOpen z store (doubtful b)
-steady_fit x z store b s f = record {
+-- where the next group may be there by the book
+steady_few : (x z : State) (store : Store) (b : Book) → x.committed + 1 ≤ b.group + b.refused → Steady x z → KeepsOpen x store b → KeepsOpen z store b
+steady_few x z store b few s f = record {
   is_open = f.is_open;
-  says = subst (λ n. SaysObjects n store.changes (doubtful b)) (sym s.committed) (record { now = f.says.now; keeps = f.says.keeps; had = f.says.had });
+  says = subst (λ n. SaysObjects n store.changes b) (sym s.committed) f.says;
   low = (let same = s.committed in let low = f.low in omega (arith, low, same));
-  few = (let same = s.committed in let few = f.few in omega (arith, same, few));
-  under = λ u. (let same = s.committed in let few = f.few in omega (arith, same, few));
+  few = (let same = s.committed in omega (arith, same, few));
+  under = λ u. (let same = s.committed in omega (arith, same, few));
   told = s.told ∙ f.told;
   some = (let same = s.committed in let some = f.some in omega (arith, some, same));
   steps = steady_steps x z s f.steps;
@@ -74,6 +83,9 @@ steady_fit x z store b s f = record {
   groups = f.groups;
   floor = steady_floor x z store.floor s f.floor;
 }
+
+pub steady_fit : (x z : State) (store : Store) (b : Book) → Steady x z → KeepsOpen x store b → KeepsOpen z store (doubtful b)
+steady_fit x z store b s f = (let few = f.few in steady_few x z store (doubtful b) (omega (arith, few)) s (fit_doubt x store b f))
 
 module _ (geometry : Geometry) (perms : Perms) where
   done_steps : (group : ℕ) (x z : State) → Done geometry perms group x z → AreInStep z
@@ -156,13 +168,12 @@ module _ (geometry : Geometry) (perms : Perms) where
   IsFew x b v = (group : ℕ) → v.world.closing ≡ Some group → x.committed + 1 ≤ b.group + b.refused
 
   -- what a finishing leaves
-  record FinishLeaves (end : End) (z : State) (store : Store) (b : Book) : Type 0 where
-    pub went : end ≡ Went → KeepsOpen z store b
-    pub stopped : (end ≡ Went → ⊥) → KeepsOpen z store (doubtful b)
+  pub record FinishLeaves (end : End) (z : State) (store : Store) (b : Book) : Type 0 where
+    pub keeps : KeepsOpen z store b
     pub layout : end ≡ Went → z.geometry ≡ geometry
     pub idle : end ≡ Went → AreIdle z
 
-  finishes : (holds : List Hold) (end : End) (x z : State) (store : Store) (b : Book) → groups.Finishes geometry perms holds end → Follows holds x z → x.geometry ≡ geometry
+  pub finishes : (holds : List Hold) (end : End) (x z : State) (store : Store) (b : Book) → groups.Finishes geometry perms holds end → Follows holds x z → x.geometry ≡ geometry
       → KeepsOpen x store b → FinishLeaves end z store b
   finishes holds end x z store b f follows of fit = by f.does
     where
@@ -208,8 +219,7 @@ module _ (geometry : Geometry) (perms : Perms) where
       by (inl none) =
           let is : z ≡ parts.0 = subst (λ hs. Follows hs parts.0 z) none.1 parts.2 in
           record {
-            went = λ went. subst (λ (s : State). KeepsOpen s store b) (sym is) fit_s;
-            stopped = λ stopped. absurd (stopped none.2);
+            keeps = subst (λ (s : State). KeepsOpen s store b) (sym is) fit_s;
             layout = λ went. ap (λ (s : State). s.geometry) is ∙ layout_s;
             idle = λ went. subst AreIdle (sym is) (idle_s none.0);
           }
@@ -219,9 +229,12 @@ module _ (geometry : Geometry) (perms : Perms) where
           let same = calm.committed in
           let few : more.0 ≤ b.group + b.refused = omega (arith, next, low, same) in
           let g = group_walk geometry perms more.0 more.2 f.rest end parts.0 z more.5 parts.2 next fit_s.steps fit_s.inside fit_s.place fit_s.noted layout_s in
+          let closes : parts.0.committed + 1 ≤ b.group + b.refused = omega (arith, low, same) in
           record {
-            went = λ went. done_fit more.0 parts.0 z store b next few (g.0 went) fit_s;
-            stopped = λ stopped. steady_fit parts.0 z store b (g.1 stopped) fit_s;
+            keeps = elim (went_or_not end) [
+              | inl went ↦ done_fit more.0 parts.0 z store b next few (g.0 went) fit_s
+              | inr stopped ↦ steady_few parts.0 z store b closes (g.1 stopped) fit_s
+            ];
             layout = λ went. (g.0 went).layout;
             idle = λ went k y there. ((g.0 went).idle k y there).1;
           }
@@ -243,10 +256,10 @@ module _ (geometry : Geometry) (perms : Perms) where
       → Follows holds x z → x.geometry ≡ geometry
       → KeepsOpen x store b → (end ≡ Went → NamesNext b group × KeepsOpen z store (synced group b)) × ((end ≡ Went → ⊥) → KeepsOpen z store (doubtful b))
   syncs_fit group thin holds end x z store b (inr w) follows of fit =
-      (λ went. absurd (w.0 went), λ stopped. (finishes holds end x z store b w.1 follows of fit).stopped stopped)
+      (λ went. absurd (w.0 went), λ stopped. fit_doubt z store b (finishes holds end x z store b w.1 follows of fit).keeps)
   syncs_fit group thin holds end x z store b (inl (front, back, are, f, next)) follows of fit =
       let parts = follows_split front back x z (subst (λ hs. Follows hs x z) are follows) in
       let d = finishes front Went x parts.0 store b f parts.1 of fit in
-      let kept = d.went refl in
+      let kept = d.keeps in
       let n = next_fit group thin back end parts.0 z store b next parts.2 (d.layout refl) (d.idle refl) kept in
       (λ went. (let one = n.0 went in let low = kept.low in let few = kept.few in let is = one.0 in ((omega (arith, low, is), omega (arith, few, is)), one.1)), n.1)

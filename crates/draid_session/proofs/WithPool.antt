@@ -7,13 +7,15 @@ use Rattle.draid_spec.specs.declared.layout.Geometry.{Geometry}
 use Rattle.draid_perm.specs.declared.perms.Perms.{Perms}
 use Rattle.draid_objects.specs.Changes.{group_of, object_of}
 use Rattle.draid_objects.proofs.Finding.{kept_all}
-use Rattle.draid_script.specs.Line.{Command, CreatePool, ImportPool, ExportPool, SyncPool, CrashPool, WriteObject, FillObjects, ReadObject, FreeObject, SumObjects, DamageSector, ShowStatus}
+use Rattle.draid_script.specs.Line.{Command, CreatePool, ImportPool, ExportPool, SyncPool, CrashPool, WriteObject, FillObjects, ReadObject, FreeObject, SumObjects, TakeOffline, TakeOnline, DamageSector, AttachSpare, ReplaceDisk, DetachArm, ShowStatus}
 use Rattle.draid_script.specs.declared.line.PoolKeys.{PoolKeys}
 use Rattle.draid_script.specs.declared.name.CommandName.TheVariants as name
 use Rattle.draid_reply.specs.declared.reply.Reply.{Reply}
 use Rattle.draid_reply.specs.declared.reply.Reply.TheVariants.{PoolOpen, NoMemory, Worn, Last, Crashed, Synced, Exported}
+use Rattle.draid_session.specs.Choices.{Choices}
 use Rattle.draid_session.specs.Book.{Answers, AnswersBy, Book, BreaksBook, BreaksBy, NamesKept, OpenAnswers, OpenBreaks, closed, doubtful, synced}
 use Rattle.draid_session.specs.Does.{Broken, Does}
+use Rattle.draid_session.specs.Everywhere.{IsOnArms}
 use Rattle.draid_session.specs.Follows.{Follows}
 use Rattle.draid_session.specs.Groups as groups
 use Rattle.draid_session.specs.Holds.{Hold, LookedUber, OnUber, UberView, View}
@@ -24,6 +26,7 @@ use Rattle.draid_session.specs.Phases.{Broke, End, NoneOf, Starved, WasLast, Was
 use Rattle.draid_session.specs.Session.{CarriesOut, Cause, BreaksIn, Desk, Open, OpenTurns, RecordFails, ShelfFails, Shut, desk_behind}
 use Rattle.draid_session.specs.State.{State, Store, Metaslab}
 use Rattle.draid_session.proofs.Answering.{IsOnObjects, objects_answer}
+use Rattle.draid_session.proofs.Arming.{arms_answer, arms_not_crashed, arms_not_exported, detach_breaks, offline_breaks, online_breaks, replace_breaks, spare_breaks}
 use Rattle.draid_session.proofs.Calm.{CalmTo, calm_follows, calm_store, follows_store, looks_calm}
 use Rattle.draid_session.proofs.Changing.{calm_fit, looks_from_calm, calm_under}
 use Rattle.draid_session.proofs.Looked.{follows_split, looks_at}
@@ -47,9 +50,9 @@ pub record EndsIn (b : Book) (command : Command) (new : Desk) : Type 0 where
   pub keeps : Keeps new book
 
 -- a command on objects leaves the pool open
-module _ (geometry : Geometry) (perms : Perms) (chosen : List Room → Option ℕ → Type 0) (old new : Store) (holds : List Hold) where
+module _ (geometry : Geometry) (perms : Perms) (choices : Choices) (old new : Store) (holds : List Hold) where
   abbrev DoesTo : Command → Reply → Type 0
-  DoesTo command reply = Does geometry perms chosen content_of command old holds reply new
+  DoesTo command reply = Does geometry perms choices content_of command old holds reply new
 
   not_exported : (command : Command) (group : ℕ) → IsOnObjects command → DoesTo command (Exported group) → ⊥
   not_exported (WriteObject object bytes) group is does = does
@@ -75,6 +78,11 @@ module _ (geometry : Geometry) (perms : Perms) (chosen : List Room → Option �
   stays_open command is (Exported group) does state = absurd (not_exported command group is does)
   stays_open command is Crashed does state = absurd (not_crashed command is does)
   stays_open command is reply does state = refl
+
+  arms_stay_open : (command : Command) → IsOnArms command → (reply : Reply) → DoesTo command reply → (state : State) → desk_behind reply state ≡ Open state
+  arms_stay_open command is (Exported group) does state = absurd (arms_not_exported geometry perms choices old new holds command group is does)
+  arms_stay_open command is Crashed does state = absurd (arms_not_crashed geometry perms choices old new holds command is does)
+  arms_stay_open command is reply does state = refl
 
 -- the thread has this store
 with_store : (mid new : State) (store : Store) (b : Book) → new ≡ record mid { store = store } → KeepsOpen mid store b → Keeps (Open new) b
@@ -115,7 +123,7 @@ synced_again x store b f all idle = record {
   floor = f.floor;
 }
 
-module _ (chosen : List Room → Option ℕ → Type 0) (old : State) (b : Book) (fit : KeepsOpen old old.store b) where
+module _ (choices : Choices) (old : State) (b : Book) (fit : KeepsOpen old old.store b) where
   open_next : (command : Command) (reply : Reply) (new : Desk) (book : Book) → OpenAnswers b command reply book → Keeps new book → Next b command reply new
   open_next command reply new book answers keeps =
       record { book = book; answers = subst (λ z. AnswersBy z b command reply book) (sym fit.is_open) answers; keeps = keeps }
@@ -207,7 +215,7 @@ module _ (chosen : List Room → Option ℕ → Type 0) (old : State) (b : Book)
 
   -- ---- each command
 
-  module _ (command : Command) (reply : Reply) (state : State) (it : CarriesOut chosen command reply old state) where
+  module _ (command : Command) (reply : Reply) (state : State) (it : CarriesOut choices command reply old state) where
     -- the store is as it was
     same_store : (book : Book) → it.store ≡ old.store → KeepsOpen it.mid old.store book → Keeps (Open state) book
     same_store book same f = with_store it.mid state it.store book it.made (subst (λ s. KeepsOpen it.mid s book) (sym same) f)
@@ -218,13 +226,13 @@ module _ (chosen : List Room → Option ℕ → Type 0) (old : State) (b : Book)
         let is : it.mid ≡ old = subst (λ hs. Follows hs old it.mid) none it.follows in
         same_store b same (subst (λ (s : State). KeepsOpen s old.store b) (sym is) fit)
 
-  sync_turns : (reply : Reply) (state : State) → CarriesOut chosen SyncPool reply old state → Next b SyncPool reply (desk_behind reply state)
+  sync_turns : (reply : Reply) (state : State) → CarriesOut choices SyncPool reply old state → Next b SyncPool reply (desk_behind reply state)
   sync_turns reply state it = by reply it.does
     where
       doubts : it.store ≡ old.store → Doubts it.mid → Keeps (Open state) (doubtful b)
       doubts same d = same_store SyncPool reply state it (doubtful b) same d
 
-      by : (r : Reply) → Does old.geometry old.perms chosen content_of SyncPool old.store it.holds r it.store → Next b SyncPool r (desk_behind r state)
+      by : (r : Reply) → Does old.geometry old.perms choices content_of SyncPool old.store it.holds r it.store → Next b SyncPool r (desk_behind r state)
       by (Synced group thin) d =
           let s = (syncs_fit old.geometry old.perms group thin it.holds Went old it.mid old.store b d.1 it.follows refl fit).0 refl in
           open_next SyncPool (Synced group thin) (Open state) (synced group b) (s.0, refl) (same_store SyncPool reply state it (synced group b) d.0 s.1)
@@ -236,13 +244,13 @@ module _ (chosen : List Room → Option ℕ → Type 0) (old : State) (b : Book)
       ]))
       by r d = absurd d
 
-  export_turns : (reply : Reply) (state : State) → CarriesOut chosen ExportPool reply old state → Next b ExportPool reply (desk_behind reply state)
+  export_turns : (reply : Reply) (state : State) → CarriesOut choices ExportPool reply old state → Next b ExportPool reply (desk_behind reply state)
   export_turns reply state it = by reply it.does
     where
       doubts : it.store ≡ old.store → Doubts it.mid → Keeps (Open state) (doubtful b)
       doubts same d = same_store ExportPool reply state it (doubtful b) same d
 
-      by : (r : Reply) → Does old.geometry old.perms chosen content_of ExportPool old.store it.holds r it.store → Next b ExportPool r (desk_behind r state)
+      by : (r : Reply) → Does old.geometry old.perms choices content_of ExportPool old.store it.holds r it.store → Next b ExportPool r (desk_behind r state)
       by (Exported group) d =
           let e = (exports group it.holds Went it.mid d.1 it.follows).went refl in
           open_next ExportPool (Exported group) (Shut false state) (closed (synced group b)) (e.0, refl)
@@ -255,38 +263,44 @@ module _ (chosen : List Room → Option ℕ → Type 0) (old : State) (b : Book)
       ]))
       by r d = absurd d
 
-  crash_turns : (reply : Reply) (state : State) → CarriesOut chosen CrashPool reply old state → Next b CrashPool reply (desk_behind reply state)
+  crash_turns : (reply : Reply) (state : State) → CarriesOut choices CrashPool reply old state → Next b CrashPool reply (desk_behind reply state)
   crash_turns reply state it = by reply it.does
     where
-      by : (r : Reply) → Does old.geometry old.perms chosen content_of CrashPool old.store it.holds r it.store → Next b CrashPool r (desk_behind r state)
+      by : (r : Reply) → Does old.geometry old.perms choices content_of CrashPool old.store it.holds r it.store → Next b CrashPool r (desk_behind r state)
       by Crashed d = open_next CrashPool Crashed (Shut true state) (closed b) refl (closed_shut state b (held_none CrashPool reply state it d.0 d.1))
       by r d = absurd d
 
-  create_turns : (text : List ℕ) (children : ℕ) (keys : PoolKeys) (reply : Reply) (state : State) → CarriesOut chosen (CreatePool text children keys) reply old state
+  create_turns : (text : List ℕ) (children : ℕ) (keys : PoolKeys) (reply : Reply) (state : State) → CarriesOut choices (CreatePool text children keys) reply old state
       → Next b (CreatePool text children keys) reply (desk_behind reply state)
   create_turns text children keys reply state it = by reply it.does
     where
-      by : (r : Reply) → Does old.geometry old.perms chosen content_of (CreatePool text children keys) old.store it.holds r it.store
+      by : (r : Reply) → Does old.geometry old.perms choices content_of (CreatePool text children keys) old.store it.holds r it.store
           → Next b (CreatePool text children keys) r (desk_behind r state)
       by (PoolOpen name.Create) d =
           open_next (CreatePool text children keys) (PoolOpen name.Create) (Open state) b refl (held_none (CreatePool text children keys) reply state it d.0 d.1)
       by r d = absurd d
 
-  import_turns : (reply : Reply) (state : State) → CarriesOut chosen ImportPool reply old state → Next b ImportPool reply (desk_behind reply state)
+  import_turns : (reply : Reply) (state : State) → CarriesOut choices ImportPool reply old state → Next b ImportPool reply (desk_behind reply state)
   import_turns reply state it = by reply it.does
     where
-      by : (r : Reply) → Does old.geometry old.perms chosen content_of ImportPool old.store it.holds r it.store → Next b ImportPool r (desk_behind r state)
+      by : (r : Reply) → Does old.geometry old.perms choices content_of ImportPool old.store it.holds r it.store → Next b ImportPool r (desk_behind r state)
       by (PoolOpen name.Import) d = open_next ImportPool (PoolOpen name.Import) (Open state) b refl (held_none ImportPool reply state it d.0 d.1)
       by r d = absurd d
 
-  on_objects : (command : Command) (reply : Reply) (state : State) → IsOnObjects command → CarriesOut chosen command reply old state
+  on_objects : (command : Command) (reply : Reply) (state : State) → IsOnObjects command → CarriesOut choices command reply old state
       → Next b command reply (desk_behind reply state)
   on_objects command reply state is it =
-      let one = objects_answer chosen old it.mid it.store it.holds b fit it.follows old.geometry old.perms command reply is it.does in
-      next_at b command reply (Open state) (desk_behind reply state) (stays_open old.geometry old.perms chosen old.store it.store it.holds command is reply it.does state)
+      let one = objects_answer choices old it.mid it.store it.holds b fit it.follows old.geometry old.perms command reply is it.does in
+      next_at b command reply (Open state) (desk_behind reply state) (stays_open old.geometry old.perms choices old.store it.store it.holds command is reply it.does state)
       (open_next command reply (Open state) one.next one.answers (with_store it.mid state it.store one.next it.made one.fits))
 
-  carries_turns : (command : Command) (reply : Reply) (state : State) → CarriesOut chosen command reply old state → Next b command reply (desk_behind reply state)
+  on_arms : (command : Command) (reply : Reply) (state : State) → IsOnArms command → CarriesOut choices command reply old state → Next b command reply (desk_behind reply state)
+  on_arms command reply state is it =
+      let one = arms_answer choices old it.mid it.store it.holds b fit it.follows command reply is it.does in
+      next_at b command reply (Open state) (desk_behind reply state) (arms_stay_open old.geometry old.perms choices old.store it.store it.holds command is reply it.does state)
+      (open_next command reply (Open state) one.next one.answers (with_store it.mid state it.store one.next it.made one.fits))
+
+  carries_turns : (command : Command) (reply : Reply) (state : State) → CarriesOut choices command reply old state → Next b command reply (desk_behind reply state)
   carries_turns (CreatePool text children keys) reply state it = create_turns text children keys reply state it
   carries_turns ImportPool reply state it = import_turns reply state it
   carries_turns ExportPool reply state it = export_turns reply state it
@@ -299,9 +313,14 @@ module _ (chosen : List Room → Option ℕ → Type 0) (old : State) (b : Book)
   carries_turns (SumObjects first count) reply state it = on_objects (SumObjects first count) reply state tt it
   carries_turns (DamageSector leaf sector) reply state it = on_objects (DamageSector leaf sector) reply state tt it
   carries_turns (ShowStatus form) reply state it = on_objects (ShowStatus form) reply state tt it
+  carries_turns (TakeOffline leaf) reply state it = on_arms (TakeOffline leaf) reply state tt it
+  carries_turns (TakeOnline leaf) reply state it = on_arms (TakeOnline leaf) reply state tt it
+  carries_turns (AttachSpare slot spare) reply state it = on_arms (AttachSpare slot spare) reply state tt it
+  carries_turns (ReplaceDisk slot sectors) reply state it = on_arms (ReplaceDisk slot sectors) reply state tt it
+  carries_turns (DetachArm arm) reply state it = on_arms (DetachArm arm) reply state tt it
   carries_turns command reply state it = absurd it.does
 
-  pub open_turns : (command : Command) (reply : Reply) (new : Desk) → OpenTurns chosen old command reply new → Next b command reply new
+  pub open_turns : (command : Command) (reply : Reply) (new : Desk) → OpenTurns choices old command reply new → Next b command reply new
   open_turns command reply new (state, it, is) = next_at b command reply (desk_behind reply state) new is (carries_turns command reply state it)
 
   -- ---- where a device fails
@@ -310,13 +329,19 @@ module _ (chosen : List Room → Option ℕ → Type 0) (old : State) (b : Book)
   open_breaks RecordFails command new breaks = absurd breaks
   open_breaks ShelfFails command new (state, is, it) = subst (EndsIn b command) (sym is) (by command it.broken)
     where
-      doubts : Doubts state → Keeps (Open state) (doubtful b)
-      doubts d = subst (λ s. KeepsOpen state s (doubtful b)) (sym (follows_store it.holds old state it.follows)) d
+      breaks : (command : Command) (book : Book) → OpenBreaks b command book → it.store ≡ old.store → KeepsOpen it.mid old.store book → EndsIn b command (Open state)
+      breaks command book answers same fits = record {
+        book = book;
+        breaks = subst (λ z. BreaksBy z b command book) (sym fit.is_open) answers;
+        keeps = with_store it.mid state it.store book it.made (subst (λ s. KeepsOpen it.mid s book) (sym same) fits);
+      }
 
-      breaks : (command : Command) (book : Book) → OpenBreaks b command book → Keeps (Open state) book → EndsIn b command (Open state)
-      breaks command book it keeps = record { book = book; breaks = subst (λ z. BreaksBy z b command book) (sym fit.is_open) it; keeps = keeps }
-
-      by : (command : Command) → Broken old.geometry old.perms command it.holds → EndsIn b command (Open state)
-      by SyncPool s = breaks SyncPool (doubtful b) refl (doubts (sync_doubts it.holds Broke state s it.follows))
-      by ExportPool e = breaks ExportPool (doubtful b) refl (doubts (export_doubts it.holds Broke state e it.follows))
+      by : (command : Command) → Broken old.geometry old.perms command old.store it.holds it.store → EndsIn b command (Open state)
+      by SyncPool s = breaks SyncPool (doubtful b) refl s.0 (sync_doubts it.holds Broke it.mid s.1 it.follows)
+      by ExportPool e = breaks ExportPool (doubtful b) refl e.0 (export_doubts it.holds Broke it.mid e.1 it.follows)
+      by (TakeOffline leaf) s = breaks (TakeOffline leaf) b refl s.0 (offline_breaks choices old it.mid it.store it.holds b fit it.follows leaf s.1)
+      by (TakeOnline leaf) s = breaks (TakeOnline leaf) b refl s.0 (online_breaks choices old it.mid it.store it.holds b fit it.follows leaf s.1)
+      by (AttachSpare slot spare) s = breaks (AttachSpare slot spare) b refl s.0 (spare_breaks choices old it.mid it.store it.holds b fit it.follows slot spare s.1)
+      by (ReplaceDisk slot sectors) s = breaks (ReplaceDisk slot sectors) b refl s.0 (replace_breaks choices old it.mid it.store it.holds b fit it.follows slot sectors s.1.0 s.1.1)
+      by (DetachArm arm) s = breaks (DetachArm arm) (doubtful b) refl s.0 (detach_breaks choices old it.mid it.store it.holds b fit it.follows arm s.1.0 s.1.1)
       by command s = absurd s

@@ -5,7 +5,7 @@ use Rattle.sha2.specs.Sha256.{sha256}
 use Rattle.draid_names.specs.declared.refusal.ObjectFault.{ObjectFault}
 use Rattle.draid_names.specs.declared.refusal.ObjectFault.TheVariants as fault
 use Rattle.draid_script.specs.Grammar.{line_of}
-use Rattle.draid_script.specs.Line.{Command, Silent, CreatePool, ImportPool, ExportPool, SyncPool, CrashPool, WriteObject, FillObjects, ReadObject, FreeObject, SumObjects, DamageSector, ShowStatus}
+use Rattle.draid_script.specs.Line.{Command, Silent, CreatePool, ImportPool, ExportPool, SyncPool, CrashPool, WriteObject, FillObjects, ReadObject, FreeObject, SumObjects, TakeOffline, TakeOnline, DamageSector, AttachSpare, ReplaceDisk, DetachArm, ShowStatus}
 use Rattle.draid_script.specs.declared.fault.LineFault.{LineFault}
 use Rattle.draid_script.specs.declared.line.StatusFormat.{StatusFormat}
 use Rattle.draid_script.specs.declared.line.StatusFormat.TheVariants as format
@@ -14,7 +14,8 @@ use Rattle.draid_report.specs.Text.{text_of}
 use Rattle.draid_report.specs.Tree.{json_of}
 use Rattle.draid_report.specs.declared.view.View.{View}
 use Rattle.draid_reply.specs.declared.reply.Reply.{Reply}
-use Rattle.draid_reply.specs.declared.reply.Reply.TheVariants.{NoPool, PoolOpen, NoMemory, Worn, Last, Created, CreateRefused, Imported, Exported, Crashed, Synced, Written, NoSpace, Missed, WriteLast, Filled, FillRefused, Contents, NoObject, Unreadable, ReadWorn, Summed, SumRefused, Freed, FreeNoObject, Damaged, DamageRefused, DamageFailed, DamageWorn, Status}
+use Rattle.draid_reply.specs.declared.reply.Reply.TheVariants.{NoPool, PoolOpen, NoMemory, Worn, Last, Created, CreateRefused, Imported, Exported, Crashed, Synced, Written, NoSpace, Missed, WriteLast, Filled, FillRefused, Contents, NoObject, Unreadable, ReadWorn, Summed, SumRefused, Freed, FreeNoObject, Damaged, DamageRefused, DamageFailed, DamageWorn, OfflineDone, OfflineRefused, OfflineWorn, OnlineDone, OnlineRefused, OnlineWorn, Spared, SpareRefused, SpareWorn, Replaced, ReplaceRefused, ReplaceWorn, Detached, DetachRefused, DetachWorn, DetachLast, Status}
+use Rattle.draid_session.specs.Said.{Said}
 use Rattle.draid_session.specs.Making.{content_of}
 use Rattle.draid_session.specs.Reads.{ReadsAs}
 use Rattle.draid_session.specs.Session.{name_of}
@@ -168,7 +169,7 @@ pub record IsStatusOf (old : Book) (format : StatusFormat) (text : List ℕ) : T
   pub last : old.group ≤ view.group
   pub few : view.group ≤ old.group + old.refused
 
--- what a command does where a pool is open
+-- What a command does where a pool is open. One that changes arms changes no object; it names no group, but for a detachment, which ends with a sync.
 abbrev pub OpenAnswers : Book → Command → Reply → Book → Type 0
 OpenAnswers old (WriteObject object bytes) (Written o) new = (o ≡ object) × (new ≡ changed object (Some bytes) old)
 OpenAnswers old (WriteObject object bytes) (NoSpace o run disabled full worn) new = (o ≡ object) × (new ≡ old)
@@ -205,6 +206,27 @@ OpenAnswers old (DamageSector leaf sector) (DamageFailed l s) new = (l ≡ leaf)
 OpenAnswers old (DamageSector leaf sector) (DamageRefused l s) new = (l ≡ leaf) × (s ≡ sector) × (new ≡ old)
 OpenAnswers old (DamageSector leaf sector) (DamageWorn l s) new = (l ≡ leaf) × (s ≡ sector) × (new ≡ old)
 OpenAnswers old (DamageSector leaf sector) (NoMemory name.Damage) new = new ≡ old
+OpenAnswers old (TakeOffline leaf) (OfflineDone l) new = (l ≡ leaf) × (new ≡ old)
+OpenAnswers old (TakeOffline leaf) (OfflineRefused l) new = (l ≡ leaf) × (new ≡ old)
+OpenAnswers old (TakeOffline leaf) (OfflineWorn l) new = (l ≡ leaf) × (new ≡ old)
+OpenAnswers old (TakeOffline leaf) (NoMemory name.Offline) new = new ≡ old
+OpenAnswers old (TakeOnline leaf) (OnlineDone l) new = (l ≡ leaf) × (new ≡ old)
+OpenAnswers old (TakeOnline leaf) (OnlineRefused l) new = (l ≡ leaf) × (new ≡ old)
+OpenAnswers old (TakeOnline leaf) (OnlineWorn l) new = (l ≡ leaf) × (new ≡ old)
+OpenAnswers old (TakeOnline leaf) (NoMemory name.Online) new = new ≡ old
+OpenAnswers old (AttachSpare slot spare) (Spared s called) new = (s ≡ slot) × (new ≡ old)
+OpenAnswers old (AttachSpare slot spare) (SpareRefused s why) new = (s ≡ slot) × (new ≡ old)
+OpenAnswers old (AttachSpare slot spare) (SpareWorn s) new = (s ≡ slot) × (new ≡ old)
+OpenAnswers old (AttachSpare slot spare) (NoMemory name.Spare) new = new ≡ old
+OpenAnswers old (ReplaceDisk slot sectors) (Replaced s leaf) new = (s ≡ slot) × (new ≡ old)
+OpenAnswers old (ReplaceDisk slot sectors) (ReplaceRefused s why) new = (s ≡ slot) × (new ≡ old)
+OpenAnswers old (ReplaceDisk slot sectors) (ReplaceWorn s) new = (s ≡ slot) × (new ≡ old)
+OpenAnswers old (ReplaceDisk slot sectors) (NoMemory name.Replace) new = new ≡ old
+OpenAnswers old (DetachArm arm) (Detached a group) new = (a ≡ arm) × NamesNext old group × (new ≡ synced group old)
+OpenAnswers old (DetachArm arm) (DetachRefused a why) new = (a ≡ arm) × (new ≡ old)
+OpenAnswers old (DetachArm arm) (DetachWorn a) new = (a ≡ arm) × (new ≡ doubtful old)
+OpenAnswers old (DetachArm arm) (DetachLast a) new = (a ≡ arm) × (new ≡ doubtful old)
+OpenAnswers old (DetachArm arm) (NoMemory name.Detach) new = new ≡ doubtful old
 OpenAnswers old (ShowStatus format) (Status text) new = IsStatusOf old format text.items × (new ≡ old)
 OpenAnswers old (ShowStatus format) (NoMemory name.Status) new = new ≡ old
 OpenAnswers old command reply new = ⊥
@@ -231,26 +253,31 @@ Answers old command reply new = AnswersBy old.is_open old command reply new
 
 -- ---- lines
 
--- an empty line and a comment have no reply, and every other line has one
-abbrev pub AnswersLine : Result Command LineFault → Book → Option Reply → Book → Type 0
-AnswersLine (Ok Silent) old None new = new ≡ old
-AnswersLine (Ok Silent) old (Some reply) new = ⊥
-AnswersLine (Ok command) old (Some reply) new = Answers old command reply new
-AnswersLine line old reply new = ⊥
+-- an empty line and a comment have no reply, and every other line has one, outside a section
+abbrev pub AnswersLine : Result Command LineFault → Book → List Said → Book → Type 0
+AnswersLine (Ok Silent) old [] new = new ≡ old
+AnswersLine (Ok Silent) old (said ∷ more) new = ⊥
+AnswersLine (Ok command) old (said ∷ []) new = (said.lane ≡ None) × Answers old command said.reply new
+AnswersLine line old saids new = ⊥
 
--- the lines are answered by the replies, one after another
-abbrev pub AnswersAll : Book → List (List ℕ) → List (Option Reply) → Book → Type 0
+-- the lines are answered by the replies to each, one after another
+abbrev pub AnswersAll : Book → List (List ℕ) → List (List Said) → Book → Type 0
 AnswersAll old [] [] new = new ≡ old
-AnswersAll old (line ∷ lines) (reply ∷ replies) new = (mid : Book) × AnswersLine (line_of line) old reply mid × AnswersAll mid lines replies new
+AnswersAll old (line ∷ lines) (saids ∷ replies) new = (mid : Book) × AnswersLine (line_of line) old saids mid × AnswersAll mid lines replies new
 AnswersAll old lines replies new = ⊥
 
 -- ---- the end of a run
 
--- A failing device ends the run in a command, which has no reply: of a sync or an export a group may be there; an import changes nothing; and a create leaves what it does for
--- want of memory. No other command breaks off.
+-- A failing device ends the run in a command, which has no reply: of a sync, an export or a detachment a group may be there; another change of arms and an import change no object;
+-- and a create leaves what it does for want of memory. No other command breaks off.
 abbrev pub OpenBreaks : Book → Command → Book → Type 0
 OpenBreaks old SyncPool new = new ≡ doubtful old
 OpenBreaks old ExportPool new = new ≡ doubtful old
+OpenBreaks old (TakeOffline leaf) new = new ≡ old
+OpenBreaks old (TakeOnline leaf) new = new ≡ old
+OpenBreaks old (AttachSpare slot spare) new = new ≡ old
+OpenBreaks old (ReplaceDisk slot sectors) new = new ≡ old
+OpenBreaks old (DetachArm arm) new = new ≡ doubtful old
 OpenBreaks old command new = ⊥
 
 abbrev pub ShutBreaks : Book → Command → Book → Type 0
@@ -275,7 +302,7 @@ EndsBook None old new = new ≡ old
 EndsBook (Some line) old new = BreaksAtLine (line_of line) old new
 
 -- A run: its lines are answered, it ends behind them or in a line that breaks off, and a pool that is open is given back.
-pub record AnswersRun (old : Book) (lines : List (List ℕ)) (replies : List (Option Reply)) (broken : Option (List ℕ)) (new : Book) : Type 0 where
+pub record AnswersRun (old : Book) (lines : List (List ℕ)) (replies : List (List Said)) (broken : Option (List ℕ)) (new : Book) : Type 0 where
   pub mid : Book
   pub last : Book
   pub answers : AnswersAll old lines replies mid

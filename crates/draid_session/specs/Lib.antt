@@ -1,7 +1,10 @@
+pub mod Arms
 pub mod Book
 pub mod Certain
+pub mod Choices
 pub mod Damage
 pub mod Does
+pub mod Everywhere
 pub mod Follows
 pub mod Groups
 pub mod Holds
@@ -15,6 +18,7 @@ pub mod Phases
 pub mod Reads
 pub mod Replies
 pub mod Rooms
+pub mod Said
 pub mod Session
 pub mod State
 pub mod Status

@@ -1,9 +1,9 @@
 -- Which replies a command may have where a pool is open, whatever the pool is: each names what the command names.
 use Rattle.std.specs.Prelude.{◌≡◌, ◌<◌, ⊤}
-use Rattle.draid_script.specs.Line.{Command, CreatePool, ImportPool, ExportPool, SyncPool, CrashPool, WriteObject, FillObjects, ReadObject, FreeObject, SumObjects, DamageSector, ShowStatus}
+use Rattle.draid_script.specs.Line.{Command, CreatePool, ImportPool, ExportPool, SyncPool, CrashPool, WriteObject, FillObjects, ReadObject, FreeObject, SumObjects, TakeOffline, TakeOnline, DamageSector, AttachSpare, ReplaceDisk, DetachArm, ShowStatus}
 use Rattle.draid_script.specs.declared.name.CommandName.TheVariants as name
 use Rattle.draid_reply.specs.declared.reply.Reply.{Reply}
-use Rattle.draid_reply.specs.declared.reply.Reply.TheVariants.{PoolOpen, NoMemory, Worn, Last, Exported, Crashed, Synced, Written, NoSpace, Missed, WriteLast, Filled, FillRefused, Contents, NoObject, Unreadable, ReadWorn, Summed, SumRefused, Freed, FreeNoObject, Damaged, DamageRefused, DamageFailed, DamageWorn, Status}
+use Rattle.draid_reply.specs.declared.reply.Reply.TheVariants.{PoolOpen, NoMemory, Worn, Last, Exported, Crashed, Synced, Written, NoSpace, Missed, WriteLast, Filled, FillRefused, Contents, NoObject, Unreadable, ReadWorn, Summed, SumRefused, Freed, FreeNoObject, Damaged, DamageRefused, DamageFailed, DamageWorn, OfflineDone, OfflineRefused, OfflineWorn, OnlineDone, OnlineRefused, OnlineWorn, Spared, SpareRefused, SpareWorn, Replaced, ReplaceRefused, ReplaceWorn, Detached, DetachRefused, DetachWorn, DetachLast, Status}
 
 abbrev pub IsReplyTo : Command → Reply → Type 0
 IsReplyTo (CreatePool text children keys) (PoolOpen name.Create) = ⊤
@@ -39,6 +39,27 @@ IsReplyTo (DamageSector leaf sector) (DamageFailed l s) = (l ≡ leaf) × (s ≡
 IsReplyTo (DamageSector leaf sector) (DamageRefused l s) = (l ≡ leaf) × (s ≡ sector)
 IsReplyTo (DamageSector leaf sector) (DamageWorn l s) = (l ≡ leaf) × (s ≡ sector)
 IsReplyTo (DamageSector leaf sector) (NoMemory name.Damage) = ⊤
+IsReplyTo (TakeOffline leaf) (OfflineDone l) = l ≡ leaf
+IsReplyTo (TakeOffline leaf) (OfflineRefused l) = l ≡ leaf
+IsReplyTo (TakeOffline leaf) (OfflineWorn l) = l ≡ leaf
+IsReplyTo (TakeOffline leaf) (NoMemory name.Offline) = ⊤
+IsReplyTo (TakeOnline leaf) (OnlineDone l) = l ≡ leaf
+IsReplyTo (TakeOnline leaf) (OnlineRefused l) = l ≡ leaf
+IsReplyTo (TakeOnline leaf) (OnlineWorn l) = l ≡ leaf
+IsReplyTo (TakeOnline leaf) (NoMemory name.Online) = ⊤
+IsReplyTo (AttachSpare slot spare) (Spared s called) = s ≡ slot
+IsReplyTo (AttachSpare slot spare) (SpareRefused s why) = s ≡ slot
+IsReplyTo (AttachSpare slot spare) (SpareWorn s) = s ≡ slot
+IsReplyTo (AttachSpare slot spare) (NoMemory name.Spare) = ⊤
+IsReplyTo (ReplaceDisk slot sectors) (Replaced s leaf) = s ≡ slot
+IsReplyTo (ReplaceDisk slot sectors) (ReplaceRefused s why) = s ≡ slot
+IsReplyTo (ReplaceDisk slot sectors) (ReplaceWorn s) = s ≡ slot
+IsReplyTo (ReplaceDisk slot sectors) (NoMemory name.Replace) = ⊤
+IsReplyTo (DetachArm arm) (Detached a group) = a ≡ arm
+IsReplyTo (DetachArm arm) (DetachRefused a why) = a ≡ arm
+IsReplyTo (DetachArm arm) (DetachWorn a) = a ≡ arm
+IsReplyTo (DetachArm arm) (DetachLast a) = a ≡ arm
+IsReplyTo (DetachArm arm) (NoMemory name.Detach) = ⊤
 IsReplyTo (ShowStatus form) (Status text) = ⊤
 IsReplyTo (ShowStatus form) (NoMemory name.Status) = ⊤
 IsReplyTo command reply = ⊥

@@ -9,6 +9,8 @@ ghost use Rattle.draid_reply.specs.declared.reply.Reply.{Reply};
 ghost use Rattle.draid_script.specs.Line.{Command, CrashPool, FreeObject, ImportPool, ReadObject, SyncPool, WriteObject};
 ghost use Rattle.draid_session.specs.Book.{Answers, AnswersAll, Book, BreaksBook, HasHad, blank, closed};
 ghost use Rattle.draid_session.specs.Certain.{AllAnswer, EndsFailed, FailsNoPut, HasPlace, MaySync, ReadsLast, StaysReadable, SyncsNext, WritesOnce};
+ghost use Rattle.draid_session.specs.Choices.{choices_by};
+ghost use Rattle.draid_session.specs.Everywhere.{ArmsChange, ArmsStay, IsOnArms};
 ghost use Rattle.draid_session.specs.Follows.{Follows};
 ghost use Rattle.draid_session.specs.Holds.{Hold, View, layout_at};
 ghost use Rattle.draid_session.specs.Keeping.{Keeps};
@@ -16,6 +18,7 @@ ghost use Rattle.draid_session.specs.Lanes.{IsMerged, TogetherAt};
 ghost use Rattle.draid_session.specs.Looks.{AllOf, Looks};
 ghost use Rattle.draid_session.specs.Reads.{ReadsAs};
 ghost use Rattle.draid_session.specs.Rooms.{FitsNowhere, stripes_for};
+ghost use Rattle.draid_session.specs.Said.{Said};
 ghost use Rattle.draid_session.specs.Session.{Agrees, Bare, Breaks, BreaksOpen, CarriesOut, Cause, Desk, IsAnything, Made, RecordFails, Runs, left_of};
 ghost use Rattle.draid_session.specs.State.{State};
 ghost use Rattle.draid_session.specs.Writes.{HasNoSpace};
@@ -35,7 +38,7 @@ pub fn no_space_means_no_room()
 /// is worn, or memory is wanting.
 pub fn readable_objects_are_read<F: Fn(&[Room]) -> Option<u32>>(chooser: &F)
     ensures { (object : ℕ) (reply : Reply) (old new : State) (w : Write)
-        → CarriesOut (FnReturnsAt F.Fn chooser.now) (ReadObject object) reply old new → write_of old.store.changes object ≡ Some w
+        → CarriesOut (choices_by (FnReturnsAt F.Fn chooser.now)) (ReadObject object) reply old new → write_of old.store.changes object ≡ Some w
         → StaysReadable old new w → ReadsLast old object w reply }
 {}
 
@@ -43,19 +46,28 @@ pub fn readable_objects_are_read<F: Fn(&[Room]) -> Option<u32>>(chooser: &F)
 /// no put fails. Else the last number of a write is used up, or memory is wanting.
 pub fn writes_that_fit_are_done<F: Fn(&[Room]) -> Option<u32>>(chooser: &F)
     ensures { (object : ℕ) (bytes : List ℕ) (reply : Reply) (old new : State)
-        → (it : CarriesOut (FnReturnsAt F.Fn chooser.now) (WriteObject object bytes) reply old new)
+        → (it : CarriesOut (choices_by (FnReturnsAt F.Fn chooser.now)) (WriteObject object bytes) reply old new)
         → HasPlace old (stripes_for old.geometry bytes) → AllAnswer old → AllOf FailsNoPut it.holds → WritesOnce old object reply }
 {}
 
 /// Law: a sync commits the group behind the committed one where no group is closing, each metaslab has room for the events
 /// of a closing, and that group hasn't the last number. Else memory is wanting.
 pub fn idle_pools_are_synced<F: Fn(&[Room]) -> Option<u32>>(chooser: &F)
-    ensures { (reply : Reply) (old new : State) → CarriesOut (FnReturnsAt F.Fn chooser.now) SyncPool reply old new → MaySync old → SyncsNext old reply }
+    ensures { (reply : Reply) (old new : State) → CarriesOut (choices_by (FnReturnsAt F.Fn chooser.now)) SyncPool reply old new → MaySync old → SyncsNext old reply }
 {}
 
-/// Law: a command breaks off on an open pool where the count of an area rose in its last hold.
+/// Law: a command that changes arms does so by one event in each metaslab where its reply says that it is done, and by none
+/// where it was refused; a detachment stands whose sync was refused.
+pub fn arms_change_everywhere_or_nowhere<F: Fn(&[Room]) -> Option<u32>>(chooser: &F)
+    ensures answered { (command : Command) (reply : Reply) (old new : State) → (it : CarriesOut (choices_by (FnReturnsAt F.Fn chooser.now)) command reply old new)
+        → IsOnArms command → ArmsChange old.geometry command reply it.holds }
+    ensures broken { (command : Command) (old new : State) → (it : BreaksOpen command old new) → IsOnArms command → ArmsStay old.geometry command it.holds }
+{}
+
+/// Law: a command breaks off on an open pool where a count rose in its last hold: of an area, or in a replacement of a rack
+/// as a whole.
 pub fn broken_commands_end_failed()
-    ensures { (command : Command) (old new : State) → (it : BreaksOpen command old new) → EndsFailed it.holds old new }
+    ensures { (command : Command) (old new : State) → (it : BreaksOpen command old new) → EndsFailed command it.holds old it.mid }
 {}
 
 /// Law: however the holds of lanes are interleaved, where they follow one another they are those of lanes beside each
@@ -69,14 +81,14 @@ pub fn lanes_may_interleave()
 /// Law: over a shelf that tells what it holds, lines are answered as a book has it: which objects there are, with their
 /// bytes, what a group keeps of them, and what an import finds. It is blank where there is no pool.
 pub fn sessions_keep_the_book<F: Fn(&[Room]) -> Option<u32>>(chooser: &F)
-    ensures from_blank { (lines : List (List ℕ)) (replies : List (Option Reply)) (last : Desk)
-        → Runs (FnReturnsAt F.Fn chooser.now) IsAnything true Bare lines replies last
+    ensures from_blank { (lines : List (List ℕ)) (replies : List (List Said)) (last : Desk)
+        → Runs (choices_by (FnReturnsAt F.Fn chooser.now)) IsAnything true Bare lines replies last
         → (book : Book) × AnswersAll blank lines replies book }
 
     ensures bare { Keeps Bare blank }
     ensures made { (failed : ℕ) (geometry : Geometry) → Keeps (Made true failed geometry) blank }
-    ensures goes_on { (lines : List (List ℕ)) (replies : List (Option Reply)) (old new : Desk) (book : Book)
-        → Keeps old book → Runs (FnReturnsAt F.Fn chooser.now) IsAnything true old lines replies new
+    ensures goes_on { (lines : List (List ℕ)) (replies : List (List Said)) (old new : Desk) (book : Book)
+        → Keeps old book → Runs (choices_by (FnReturnsAt F.Fn chooser.now)) IsAnything true old lines replies new
         → (later : Book) × AnswersAll book lines replies later × Keeps new later }
 {}
 

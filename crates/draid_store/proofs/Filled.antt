@@ -10,6 +10,7 @@ use Rattle.draid_spec.specs.declared.layout.Geometry.{Geometry}
 use Rattle.draid_perm.specs.declared.perms.Perms.{Perms}
 use Rattle.draid_script.specs.Line.{FillObjects}
 use Rattle.draid_reply.specs.declared.reply.Reply.TheVariants.{Filled, FillRefused}
+use Rattle.draid_session.specs.Choices.{choices_by}
 use Rattle.draid_session.specs.Holds.{Hold}
 use Rattle.draid_session.specs.Making.{content_of}
 use Rattle.draid_session.specs.State.{State, Store}
@@ -33,7 +34,7 @@ module _ {R A : Type 0} (rack : racks.Ghosts R) (area : areas.Ghosts A) (chosen 
   filled_none pool is = record { holds = []; reached = x; store = x.store; follows = refl; done = (refl, refl); represents = is }
 
   -- no memory for the first
-  pub fill_unbegun : (pool : Pool R A) (count : ℕ) → 0 < count → Represents rack area pool x → CarriesOut rack area pool x (ReplyDoes x chosen (FillObjects first count len seed) (FillRefused first 0 fault.NoMemory))
+  pub fill_unbegun : (pool : Pool R A) (count : ℕ) → 0 < count → Represents rack area pool x → CarriesOut rack area pool x (ReplyDoes x (choices_by chosen) (FillObjects first count len seed) (FillRefused first 0 fault.NoMemory))
   fill_unbegun pool count some is = record {
     holds = [];
     reached = x;
@@ -47,7 +48,7 @@ module _ {R A : Type 0} (rack : racks.Ghosts R) (area : areas.Ghosts A) (chosen 
   }
 
   pub filled_all : (pool : Pool R A) (written count : ℕ) → written ≡ count → CarriesOut rack area pool x (FillsOf x chosen first len seed written)
-      → CarriesOut rack area pool x (ReplyDoes x chosen (FillObjects first count len seed) (Filled first count))
+      → CarriesOut rack area pool x (ReplyDoes x (choices_by chosen) (FillObjects first count len seed) (Filled first count))
   filled_all pool written count same m = record {
     holds = m.holds;
     reached = m.reached;
@@ -84,7 +85,7 @@ module _ {R A : Type 0} (rack : racks.Ghosts R) (area : areas.Ghosts A) (chosen 
         (subst (λ k. FillsOf x chosen first len seed k (m.holds ++ n.holds) n.store) next (m.holds, n.holds, m.store, refl, m.done, here))
 
     pub fill_stopped : (count : ℕ) (why : WriteFault) → result ≡ Err why → written < count
-        → CarriesOut rack area new x (ReplyDoes x chosen (FillObjects first count len seed) (FillRefused first written why))
+        → CarriesOut rack area new x (ReplyDoes x (choices_by chosen) (FillObjects first count len seed) (FillRefused first written why))
     fill_stopped count why err fewer =
         let same = same_layout m.holds x m.reached m.follows in
         let refused : Refuses m.reached.geometry m.reached.perms chosen (first + written) bytes why m.store n.holds n.store
@@ -92,5 +93,5 @@ module _ {R A : Type 0} (rack : racks.Ghosts R) (area : areas.Ghosts A) (chosen 
         let gave = subst (λ b. Refuses m.reached.geometry m.reached.perms chosen (first + written) b why m.store n.holds n.store) is refused in
         let laid = subst (λ (q : Geometry). Refuses q m.reached.perms chosen (first + written) (content_of seed (first + written) len) why m.store n.holds n.store) same.0 gave in
         let here = subst (λ (q : Perms). Refuses x.geometry q chosen (first + written) (content_of seed (first + written) len) why m.store n.holds n.store) same.1 laid in
-        carried (ReplyDoes x chosen (FillObjects first count len seed) (FillRefused first written why))
+        carried (ReplyDoes x (choices_by chosen) (FillObjects first count len seed) (FillRefused first written why))
         (refl, record { front = m.holds; back = n.holds; mid = m.store; fewer = fewer; are = refl; fills = m.done; refuses = here })

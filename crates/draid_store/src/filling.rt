@@ -3,6 +3,7 @@ ghost use Rattle.std.specs.Prelude.{◌≡◌, List, length};
 ghost use Rattle.std.specs.Fn.{FnReturnsAt};
 ghost use Rattle.draid_choose.specs.Rooms.{IsChooser};
 ghost use Rattle.draid_script.specs.Line.{FillObjects, IsInRange};
+ghost use Rattle.draid_session.specs.Choices.{choices_by};
 ghost use Rattle.draid_session.specs.Making.{content_of};
 ghost use Rattle.draid_session.specs.Replies.{IsReplyTo};
 ghost use Rattle.draid_session.specs.State.{State};
@@ -50,7 +51,7 @@ pub fn fill<R: Rack, A: Area, F: Fn(&[Room]) -> Option<u32>>(
     ensures fits { IsReplyTo (FillObjects first count len seed) result }
     ensures knows { Teaches (FillObjects first count len seed) result pool.old pool.new }
     ensures step { (x : State) → Represents R.Rack A.Area pool.old x
-        → CarriesOut R.Rack A.Area pool.new x (ReplyDoes x (FnReturnsAt F.Fn chooser.now) (FillObjects first count len seed) result) }
+        → CarriesOut R.Rack A.Area pool.new x (ReplyDoes x (choices_by (FnReturnsAt F.Fn chooser.now)) (FillObjects first count len seed) result) }
 {
     let Ok(mut bytes) = vec![in alloc; 0; len as usize] else {
         return Reply::FillRefused {

@@ -3,6 +3,7 @@ ghost use Rattle.std.specs.Prelude.{◌≡◌};
 ghost use Rattle.std.specs.Fn.{FnReturnsAt};
 ghost use Rattle.draid_choose.specs.Rooms.{IsChooser};
 ghost use Rattle.draid_script.specs.Line.{DamageSector, FreeObject, IsInRange, ReadObject, SumObjects, WriteObject};
+ghost use Rattle.draid_session.specs.Choices.{choices_by};
 ghost use Rattle.draid_session.specs.Replies.{IsReplyTo};
 ghost use Rattle.draid_session.specs.State.{State};
 ghost use Rattle.draid_pool.specs.Carries.{CarriesOut, ReplyDoes};
@@ -40,7 +41,7 @@ pub fn reply_to_write<R: Rack, A: Area, F: Fn(&[Room]) -> Option<u32>>(
     ensures fits { IsReplyTo (WriteObject object bytes.now) result }
     ensures knows { Teaches (WriteObject object bytes.now) result pool.old pool.new }
     ensures step { (x : State) → Represents R.Rack A.Area pool.old x
-        → CarriesOut R.Rack A.Area pool.new x (ReplyDoes x (FnReturnsAt F.Fn chooser.now) (WriteObject object bytes.now) result) }
+        → CarriesOut R.Rack A.Area pool.new x (ReplyDoes x (choices_by (FnReturnsAt F.Fn chooser.now)) (WriteObject object bytes.now) result) }
 {
     match write(pool, chooser, object, bytes) {
         Ok(()) => Reply::Written { object },

@@ -23,7 +23,7 @@ use Rattle.draid_stable.proofs.Logs.{copied_small}
 use Rattle.draid_record.specs.Record.{told_record}
 use Rattle.draid_shard.specs.Fits.{Valid, birth_groups, oldest_open}
 use Rattle.draid_shard.specs.States.{Does, IsIn, layout_by, part_of}
-use Rattle.draid_shard.proofs.Changed.{same_entries}
+use Rattle.draid_shard.proofs.Changed.{same_arms, same_entries}
 use Rattle.draid_shard.proofs.Staging.{room_for}
 use Rattle.draid_shard.proofs.Standing.{reached_more}
 use Rattle.draid_pool.specs.Groups.{ListsOnce}
@@ -179,6 +179,7 @@ returns g c =
       seals = record { entries = same_entries c.args.shard.now.entries; open_group_is = refl; closing = refl; sealed = refl; committed = refl };
       refused = tt;
       keeps = tt;
+      slots = record { same = (table g at_add).same; arms_stay = (table g at_add).arms_stay; detached_stay = (table g at_add).detached_stay };
       later = record { even = c.write_to.ensures.even_later; odd = c.write_to.ensures.odd_later };
       reserve = record { reserved = c.add.ensures.reserved; limit = c.add.ensures.limit };
     }
@@ -198,6 +199,7 @@ returns-in-Err-Failed g c = record {
     why = (c.requires.settled, c.write_to.ensures.cause (c.in-Err-Failed.is ∙ ap Err c.in-Err-Failed.field-0-is));
   };
   keeps = unsealed_keeps c.args.shard.now c.flush_leaves.new.rack c.write_to.new.even c.write_to.new.odd;
+  slots = same_arms c.args.shard.now.slots;
   later = record { even = c.write_to.ensures.even_later; odd = c.write_to.ensures.odd_later };
   reserve = record { reserved = refl; limit = refl };
 }
@@ -216,6 +218,7 @@ returns-in-Err-NoMemory g c = record {
     why = tt;
   };
   keeps = unsealed_keeps c.args.shard.now c.flush_leaves.new.rack c.write_to.new.even c.write_to.new.odd;
+  slots = same_arms c.args.shard.now.slots;
   later = record { even = c.write_to.ensures.even_later; odd = c.write_to.ensures.odd_later };
   reserve = record { reserved = refl; limit = refl };
 }

@@ -1,5 +1,6 @@
 use Rattle.std.proofs.Common.{◌∷◌, ◌++◌, subst, true}
 use Rattle.std.specs.Fn.{FnReturnsAt}
+use Rattle.draid_session.specs.Choices.{choices_by}
 use Rattle.draid_session.specs.Session.{Agrees, Runs}
 use Rattle.draid_run.specs.Shelves.{MayFind}
 use Rattle.draid_run.proofs.Next.{again}
@@ -8,10 +9,10 @@ use Rattle.draid_run.proofs.laws.crashed_pools_are_found_again.Goals as goal
 
 pub returns : goal.returns
 returns g c words status input old new entry now first it tells holds known front back crash import said behind called group objects is_crash is_import same lines replies =
-    let chosen = FnReturnsAt g.F.Fn c.args.chooser.now in
+    let choices = choices_by (FnReturnsAt g.F.Fn c.args.chooser.now) in
     let finds = MayFind g.R.Rack g.A.Area entry in
     let s = it.session in
-    let told = subst (λ b. Runs chosen finds b first s.lines s.replies s.mid) tells s.runs in
-    let lined = subst (λ ls. Runs chosen finds true first ls s.replies s.mid) lines told in
-    let runs = subst (λ rs. Runs chosen finds true first (front ++ (crash ∷ import ∷ back)) rs s.mid) replies lined in
-    again chosen finds crash import back called group objects behind s.mid is_crash is_import front said first same known (subst (λ b. Agrees b first) tells (shelf_agrees first entry entry holds)) runs
+    let told = subst (λ b. Runs choices finds b first s.lines s.replies s.mid) tells s.runs in
+    let lined = subst (λ ls. Runs choices finds true first ls s.replies s.mid) lines told in
+    let runs = subst (λ rs. Runs choices finds true first (front ++ (crash ∷ import ∷ back)) rs s.mid) replies lined in
+    again choices finds crash import back called group objects behind s.mid is_crash is_import front said first same known (subst (λ b. Agrees b first) tells (shelf_agrees first entry entry holds)) runs

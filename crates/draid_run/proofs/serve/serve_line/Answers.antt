@@ -21,7 +21,7 @@ returns-in-Err-Line-clause-shelf_later g c = same_later (g.H.Shelf.faults c.args
 
 pub returns-in-Err-NoMemory : goal.returns-in-Err-NoMemory
 returns-in-Err-NoMemory g c = record {
-  line = λ entry x desk. (refl, inl (refl, refl));
+  line = λ entry x desk. inl (refl, refl, refl);
   later = same_later (g.K.Sink.faults c.args.sink.now);
   cause = memory_cause _;
   shelf_later = same_later (g.H.Shelf.faults c.args.shelf.now);

@@ -1,8 +1,9 @@
 use Rattle.std.proofs.Common.{◌∙◌, ap, refl, Err}
 use Rattle.std.specs.Fn.{FnReturnsAt}
+use Rattle.draid_session.specs.Choices.{choices_by}
 use Rattle.draid_session.specs.Session.{Untouched}
 use Rattle.draid_run.specs.Shelves.{on_shelf}
-use Rattle.draid_run.proofs.Ended.{run_refused, run_served, run_unread}
+use Rattle.draid_run.proofs.Ended.{device_failed, run_refused, run_served, run_unread}
 use Rattle.draid_run.specs.declared.status.Status.TheVariants.{NoMemory, ShelfFault, SourceFault, Usage}
 use Rattle.draid_run.proofs.Exits.{blameless, later_on, later_same, same_later, sink_last, sink_since}
 use Rattle.draid_run.proofs.Serving.{as_found}
@@ -11,7 +12,7 @@ use Rattle.draid_run.proofs.top.run.Goals as goal
 pub returns-in-Err-Usage : goal.returns-in-Err-Usage
 returns-in-Err-Usage g c = record {
   run = λ first at.
-      run_refused g.H.R.Rack g.H.A.Area (FnReturnsAt g.F.Fn c.args.chooser.now) _ _ _ _ _ (on_shelf g.H.Shelf c.args.shelf.now) first at
+      run_refused g.H.R.Rack g.H.A.Area (choices_by (FnReturnsAt g.F.Fn c.args.chooser.now)) _ _ _ _ _ (on_shelf g.H.Shelf c.args.shelf.now) first at
       (c.take_words.ensures.usage (c.in-Err-Usage.is ∙ ap Err c.in-Err-Usage.field-0-is)) c.end_run.ensures.line;
   source_later = same_later (g.S.Source.faults c.args.source.now);
   sink_later = c.end_run.ensures.later;
@@ -24,7 +25,7 @@ returns-in-Err-Usage g c = record {
 pub returns-in-Err-NoMemory : goal.returns-in-Err-NoMemory
 returns-in-Err-NoMemory g c = record {
   run = λ first at.
-      run_unread g.H.R.Rack g.H.A.Area (FnReturnsAt g.F.Fn c.args.chooser.now) _ _ _ _ _ (on_shelf g.H.Shelf c.args.shelf.now) first at
+      run_unread g.H.R.Rack g.H.A.Area (choices_by (FnReturnsAt g.F.Fn c.args.chooser.now)) _ _ _ _ _ (on_shelf g.H.Shelf c.args.shelf.now) first at
       c.end_run-in-Err-NoMemory.ensures.line;
   source_later = same_later (g.S.Source.faults c.args.source.now);
   sink_later = c.end_run-in-Err-NoMemory.ensures.later;
@@ -37,7 +38,7 @@ returns-in-Err-NoMemory g c = record {
 pub returns : goal.returns
 returns g c = record {
   run = λ first at.
-      run_served g.H.R.Rack g.H.A.Area (FnReturnsAt g.F.Fn c.args.chooser.now) first _ _ c.serve-ended.result _ _ _ _ (on_shelf g.H.Shelf c.args.shelf.now) (on_shelf g.H.Shelf c.serve-ended.new.shelf) (on_shelf g.H.Shelf c.give_back.new.shelf) c.serve-ended.new.pool
+      run_served g.H.R.Rack g.H.A.Area (choices_by (FnReturnsAt g.F.Fn c.args.chooser.now)) first _ _ c.serve-ended.result _ _ _ _ (on_shelf g.H.Shelf c.args.shelf.now) (on_shelf g.H.Shelf c.serve-ended.new.shelf) (on_shelf g.H.Shelf c.give_back.new.shelf) c.serve-ended.new.pool
       c.in-Ok.ensures.session c.serve-ended.ensures.no_usage (c.serve-ended.ensures.served first at) c.end_run-2.ensures.line (c.give_back.ensures.leaves (on_shelf g.H.Shelf c.args.shelf.now)) (g.met.H.Shelf.steady c.args.shelf.now c.give_back.new.shelf);
   source_later = c.serve-ended.ensures.source_later;
   sink_later = later_on _ _ _ c.serve-ended.ensures.sink_later c.end_run-2.ensures.later;
@@ -45,8 +46,10 @@ returns g c = record {
   source_fault = λ is. c.serve-ended.ensures.source_cause (c.end_run-2.ensures.source is);
   sink_fault = λ is. sink_since c.serve-ended.result _ _ _ c.serve-ended.ensures.sink_later c.end_run-2.ensures.later c.serve-ended.ensures.sink_cause (c.end_run-2.ensures.cause is);
   shelf_fault = λ is.
-      (let served = c.serve-ended.ensures.served Untouched (as_found (on_shelf g.H.Shelf c.args.shelf.now)) in
-      (c.give_back.ensures.leaves (on_shelf g.H.Shelf c.args.shelf.now) served.last served.desk).failed (served.failed (c.end_run-2.ensures.shelf is)));
+      (let entry = on_shelf g.H.Shelf c.args.shelf.now in
+      let served = c.serve-ended.ensures.served Untouched (as_found entry) in
+      device_failed g.H.R.Rack g.H.A.Area (choices_by (FnReturnsAt g.F.Fn c.args.chooser.now)) Untouched c.serve-ended.result _ _ _ entry (on_shelf g.H.Shelf c.serve-ended.new.shelf) (on_shelf g.H.Shelf c.give_back.new.shelf) c.serve-ended.new.pool served
+      (c.give_back.ensures.leaves entry served.last served.desk) (c.end_run-2.ensures.shelf is));
 }
 
 pub give_back-requires-clause-desk : goal.give_back-requires-clause-desk
