@@ -1,3 +1,4 @@
+mod Alike
 mod Attached
 mod Births
 mod Checked

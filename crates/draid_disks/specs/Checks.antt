@@ -6,16 +6,16 @@ use Rattle.draid_names.specs.declared.refusal.SlotFault.TheVariants.{NoSuch, Spa
 use Rattle.draid_pass.specs.declared.pass.Pass.{Pass}
 use Rattle.draid_slots.specs.Faults.{HasLeafBeside}
 use Rattle.draid_slots.specs.Table.{SlotTable, arms_of, count_at, is_logged}
+use Rattle.draid_shard.specs.Alike.{HaveSameArms}
 use Rattle.draid_shard.specs.declared.shard.Shard.{Shard}
-use Rattle.draid_disks.specs.Disks.{plain_arms}
 
 -- each of them is so
 abbrev pub Each : {R A : Type 0} → (Shard R A → Type 0) → List (Shard R A) → Type 0
 Each {R} {A} P shards = (m : ℕ) (shard : Shard R A) → slice_get shards m ≡ Some shard → P shard
 
--- each has the arms of some slots, but for whether a pass has made them good
+-- each has the arms of some slots
 abbrev pub AreAlike : {R A : Type 0} → SlotTable → List (Shard R A) → Type 0
-AreAlike slots shards = Each (λ shard. (slot : ℕ) → plain_arms shard.slots slot ≡ plain_arms slots slot) shards
+AreAlike slots shards = Each (λ shard. HaveSameArms slots shard.slots) shards
 
 -- ---- passes
 
