@@ -1,14 +1,13 @@
 -- Slots that have the same arms, before a change and behind it.
-use Rattle.std.proofs.Common.{◌≡◌, ◌≢◌, ◌==◌, ◌+◌, ◌<◌, ◌∙◌, ℕ, zero, suc, Bool, true, false, List, [], ◌∷◌, ◌++◌, Some, None, arith, refl, sym, ap, subst, inl, inr, length, map, slice_get}
+use Rattle.std.proofs.Common.{◌≡◌, ◌<◌, ◌∙◌, ℕ, zero, suc, false, List, [], ◌∷◌, ◌++◌, Some, None, arith, refl, sym, ap, subst, inl, inr, length, map, slice_get}
 use Rattle.std.specs.Prelude.{option_map, remove}
 use Rattle.std.proofs.lemmas.Bool.{cases_eq}
 use Rattle.std.proofs.lemmas.List.{length-map}
 use Rattle.draid_names.specs.declared.arm.Arm.{Arm}
 use Rattle.draid_names.specs.declared.arm.ArmAt.{ArmAt}
 use Rattle.draid_machine.proofs.Small.{none_some, some_injective}
-use Rattle.draid_slots.specs.declared.slot.Detached.{Detached}
 use Rattle.draid_slots.specs.Table.{SlotTable, arm_at, arms_of}
-use Rattle.draid_shard.specs.Alike.{AreSameArms, HaveSameArms, IsSameArm, ShareArms}
+use Rattle.draid_shard.specs.Alike.{AreSameArms, IsSameArm, ShareArms}
 use Rattle.draid_disks.specs.Disks.{HasAttached, HasDetached, plain, plain_arms}
 
 -- ---- the arms of a slot
