@@ -1,7 +1,10 @@
+mod Alike
 mod Attached
 mod Births
+mod Checked
 mod Comes
 mod Goes
+mod Going
 mod Kept
 mod Left
 mod Marked

@@ -11,7 +11,7 @@ use Rattle.draid_slots.specs.Table.{SlotTable, arms_of}
 use Rattle.draid_disks.specs.Disks.{HasAttached, HasDetached, arm_called, plain, plain_arms}
 use Rattle.draid_disks.specs.Renewing.{Renews, is_renewed, renewed_arm}
 
-map_remove : (f : Arm → Arm) (xs : List Arm) (i : ℕ) → map f (remove xs i) ≡ remove (map f xs) i
+pub map_remove : (f : Arm → Arm) (xs : List Arm) (i : ℕ) → map f (remove xs i) ≡ remove (map f xs) i
 map_remove f [] zero = refl
 map_remove f [] (suc i) = refl
 map_remove f (x ∷ xs) zero = refl
