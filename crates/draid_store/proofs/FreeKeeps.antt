@@ -4,7 +4,9 @@ use Rattle.draid_names.specs.declared.pointer.Pointer.{Pointer}
 use Rattle.draid_rack.specs.declared.Rack as racks
 use Rattle.draid_area.specs.declared.Area as areas
 use Rattle.draid_machine.specs.declared.names.Stage.TheVariants as stage
-use Rattle.draid_entries.specs.Maps.{staged}
+use Rattle.draid_objects.specs.Changes as changes
+use Rattle.draid_objects.specs.Changes.{Write}
+use Rattle.draid_entries.specs.Maps.{key_of, staged}
 use Rattle.draid_shard.specs.Changes.{SameGroups}
 use Rattle.draid_shard.specs.declared.shard.Shard.{Shard}
 use Rattle.draid_pool.specs.Drifts.{KeepsOf, KeepsTo, StateStep, is_other}
@@ -12,6 +14,10 @@ use Rattle.draid_store.specs.Frees.{FreesBlock, FreesShard, IsEarly}
 use Rattle.draid_pool.proofs.Drifting.{keeps_self}
 use Rattle.draid_pool.proofs.ShardSteps.{sets_others, state_goes}
 use Rattle.draid_pool.proofs.Since.{state_self}
+
+-- the same key by both names
+pub same_key : (p : Pointer) (w : Write) → p.object ≡ w.object → p.seq ≡ w.seq → key_of p ≡ changes.key_of w
+same_key p w object seq = λ i. record { object = object i; seq = seq i }
 
 pub same_groups : {R A : Type 0} (old new : Shard R A) → new ≡ old → SameGroups old new
 same_groups {R} {A} old new same = record {
