@@ -1,7 +1,6 @@
 -- The block that an object had before isn't freed yet, since its metaslab hasn't come to the group before the floor.
-use Rattle.std.proofs.Common.{◌≡◌, ◌==◌, ◌≤◌, ◌+◌, ◌∙◌, ℕ, Bool, true, List, [], ◌∷◌, Option, Some, None, refl, sym, ap, subst, if◌then◌else◌}
+use Rattle.std.proofs.Common.{◌≡◌, ◌==◌, ◌∙◌, ℕ, Bool, true, [], ◌∷◌, Option, Some, None, refl, if◌then◌else◌}
 use Rattle.std.specs.Prelude.{slice_get}
-use Rattle.draid_names.specs.declared.numbers.TheConstants.{LAST_NUMBER}
 use Rattle.draid_names.specs.declared.pointer.Pointer.{Pointer}
 use Rattle.draid_rack.specs.declared.Rack as racks
 use Rattle.draid_area.specs.declared.Area as areas
@@ -9,18 +8,17 @@ use Rattle.draid_machine.specs.declared.names.Key.{Key}
 use Rattle.draid_objects.specs.Changes.{Write, write_of}
 use Rattle.draid_objects.proofs.Finding.{write_object}
 use Rattle.draid_entries.specs.Maps.{key_of}
-use Rattle.draid_shard.specs.Fits.{Valid}
-use Rattle.draid_shard.specs.Part.{Part, layout_in}
-use Rattle.draid_session.specs.Holds.{Hold, Looked, On, view_of}
+use Rattle.draid_shard.specs.Part.{layout_in}
+use Rattle.draid_session.specs.Holds.{Looked, On, view_of}
 use Rattle.draid_session.specs.Looks.{OnlyLooks}
-use Rattle.draid_session.specs.State.{Metaslab, State, Store}
+use Rattle.draid_session.specs.State.{Metaslab, State}
 use Rattle.draid_pool.specs.Metaslabs.{IsMetaslab}
 use Rattle.draid_pool.specs.Pools.{part_in}
 use Rattle.draid_pool.proofs.Moved.{turn, with_metaslab}
 use Rattle.draid_pool.specs.Drifts.{Drifts}
 use Rattle.draid_store.specs.Frees.{FreesShard}
 use Rattle.draid_store.specs.Freeing.{EarlierSays}
-use Rattle.draid_pool.specs.Threads.{HoldsBut, IsPointerAt, KnowsBut, LeadsBy, PointsAt, all_of, but}
+use Rattle.draid_pool.specs.Threads.{IsPointerAt, LeadsBy, all_of, but}
 use Rattle.draid_store.specs.Open.{KnowsEarlier}
 use Rattle.draid_shard.specs.declared.shard.Shard.{Shard}
 use Rattle.draid_store.proofs.Older.{earlier_step}

@@ -33,7 +33,7 @@ use Rattle.draid_shard.specs.declared.shard.Shard.{Shard}
 use Rattle.draid_shard.proofs.OwedAll.{owed_is}
 use Rattle.draid_session.specs.Follows.{Follows}
 use Rattle.draid_session.specs.Holds.{View, view_of}
-use Rattle.draid_session.specs.Looks.{CountIs, Looks, LooksFrom, OnlyLooks}
+use Rattle.draid_session.specs.Looks.{CountIs, Looks, LooksFrom}
 use Rattle.draid_session.specs.Rooms as rooms_of
 use Rattle.draid_session.specs.Rooms.{IsDisabled, IsFull, IsRoomOf, IsShut, IsWornForBlock, LooksForRoom, longest, stripes_for}
 use Rattle.draid_session.specs.State.{Metaslab, State}

@@ -1,6 +1,5 @@
 -- The column of a block is put where nothing is known of the block's pieces: they are replaced for this column alone.
-use Rattle.std.proofs.Common.{◌≡◌, ◌==◌, ◌<◌, ◌≤◌, ◌+◌, ◌&&◌, ◌∙◌, inl, inr, ℕ, Bool, true, false, List, Option, Some, None, arith, refl, sym, ap, ap₂, subst, true≢false, nat_lt, if◌then◌else◌}
-use Rattle.std.specs.Prelude.{MatchOption}
+use Rattle.std.proofs.Common.{◌≡◌, ◌==◌, ◌<◌, ◌+◌, ◌&&◌, ◌∙◌, ℕ, Bool, true, false, List, Option, Some, None, arith, refl, sym, ap, subst, nat_lt, if◌then◌else◌}
 use Rattle.std.proofs.lemmas.Bool.Decides.{nat_tests}
 use Rattle.draid_rack.specs.Rack.{OnTold, Told}
 use Rattle.draid_rack.specs.declared.Rack as racks
@@ -21,18 +20,17 @@ use Rattle.draid_machine.specs.Created.{IsReached}
 use Rattle.draid_machine.specs.Names.{has_name, is_put, key_eq}
 use Rattle.draid_machine.specs.State as machine
 use Rattle.draid_machine.specs.State.{Core, IsLayout, Layout, State}
-use Rattle.draid_machine.specs.Step.{Step}
 use Rattle.draid_machine.proofs.Losing.{every_segment}
 use Rattle.draid_machine.proofs.Small.{four_true, key_refl, key_true}
 use Rattle.draid_segments.specs.Acts.{PutsColumn}
-use Rattle.draid_segments.specs.Segments.{Backed, Pieces, piece_of, reads_at}
+use Rattle.draid_segments.specs.Segments.{Backed, Pieces, piece_of}
 use Rattle.draid_segments.proofs.Apart.{stands}
 use Rattle.draid_entries.specs.Maps.{held_at, key_of, staged}
 use Rattle.draid_shard.specs.Calls.{ActsOn, OnBothTold, SameAreas, SameReserve}
 use Rattle.draid_blocks.specs.Tickets.{Carries, Puts}
 use Rattle.draid_shard.specs.Columns.{ArePieces, row_bytes}
 use Rattle.draid_shard.specs.Fits.{Valid}
-use Rattle.draid_shard.specs.Part.{Part, layout_in}
+use Rattle.draid_shard.specs.Part.{Part}
 use Rattle.draid_shard.specs.States.{IsIn, layout_by, part_of}
 use Rattle.draid_shard.specs.declared.shard.Shard.{Shard}
 use Rattle.draid_blocks.specs.declared.ticket.Ticket.{Ticket}
@@ -206,7 +204,7 @@ module _ {R A : Type 0} (rack : racks.Ghosts R) (area : areas.Ghosts A) where
           reached = is.stands.reached;
           segments = on_told (rack.told old.rack) (Backed (layout_by old) pieces x.world) (Backed (layout_by old) other x.world)
               (λ t b. column_backed (layout_by old) (has_layout (part_of old) is.valid.part) x.world is.stands.reached key ticket before.next before.missed size block.columns pieces t
-                  (found x.world is.stands.is_in) refl b) is.stands.segments;
+              (found x.world is.stands.is_in) refl b) is.stands.segments;
         };
         run = is.run;
         events = is.events;
@@ -221,7 +219,7 @@ module _ {R A : Type 0} (rack : racks.Ghosts R) (area : areas.Ghosts A) where
       acts w after step reached is_in =
           on_both (rack.told old.rack) (rack.told new.rack) _ _
           (λ a b p. subst (λ c. PutsColumn (layout_by old) w.core key step.h step.c put.landed (column_for key c size block.columns pieces) a b) column
-              (puts_by_column (layout_by old) w.core key step.h step.c size put.landed block.columns pieces a b p))
+          (puts_by_column (layout_by old) w.core key step.h step.c size put.landed block.columns pieces a b p))
           (put.acts rows (rows_are key size old.geometry.g before.pointer.stripes block.columns pieces) w after step reached is_in)
         where
           its : step.h ≡ ticket

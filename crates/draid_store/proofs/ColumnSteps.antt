@@ -1,15 +1,13 @@
 -- One column more of a write that is under way.
-use Rattle.std.proofs.Common.{◌≡◌, ◌==◌, ◌<◌, ◌+◌, ◌++◌, ◌∙◌, arith, ℕ, zero, suc, Bool, true, List, [], ◌∷◌, Option, Some, refl, sym, ap, subst, if◌then◌else◌}
+use Rattle.std.proofs.Common.{◌≡◌, ◌==◌, ◌+◌, ◌++◌, ◌∙◌, ℕ, suc, Bool, List, [], ◌∷◌, Option, Some, refl, sym, ap, subst, if◌then◌else◌}
 use Rattle.draid_names.specs.declared.pointer.Pointer.{Pointer}
 use Rattle.draid_rack.specs.declared.Rack as racks
 use Rattle.draid_area.specs.declared.Area as areas
 use Rattle.draid_block.specs.Blocks.{BlockValue}
 use Rattle.draid_entries.specs.Maps.{key_of}
-use Rattle.draid_blocks.specs.Tickets.{Carries}
 use Rattle.draid_blocks.specs.declared.ticket.Ticket.{Ticket}
 use Rattle.draid_shard.specs.Fits.{Valid}
 use Rattle.draid_shard.specs.Part.{Part}
-use Rattle.draid_shard.specs.States.{part_of}
 use Rattle.draid_session.specs.Holds.{Hold}
 use Rattle.draid_session.specs.State.{State, Store}
 use Rattle.draid_session.specs.Writes.{PutsColumn, PutsColumns}
@@ -48,8 +46,8 @@ module _ {R A S : Type 0} (rack : racks.Ghosts R) (area : areas.Ghosts A) (went 
         (leads_then rack area went shared a b c x (PutsSome first m n x) (KnowsOpen rack area now_owns now table seq floor m ticket block) (PutsOne ticket m x) (KnowsOpen rack area now_owns new table seq floor m after_ticket block)
         (some table seq floor x knows)
         (λ y layout perms front done known.
-            subst (λ (s : Store). LeadsBy rack area went shared b c y (λ holds store. (store ≡ s) × ((hold : Hold) × (holds ≡ hold ∷ []) × PutsColumn (key_of ticket.pointer) m hold)) (KnowsOpen rack area now_owns new table seq floor m after_ticket block)) done.0
-            (put_step rack area went shared now_owns b c now new m shard before after there drifts put.valid is goes table seq floor y ticket after_ticket block known put)))
+        subst (λ (s : Store). LeadsBy rack area went shared b c y (λ holds store. (store ≡ s) × ((hold : Hold) × (holds ≡ hold ∷ []) × PutsColumn (key_of ticket.pointer) m hold)) (KnowsOpen rack area now_owns new table seq floor m after_ticket block)) done.0
+        (put_step rack area went shared now_owns b c now new m shard before after there drifts put.valid is goes table seq floor y ticket after_ticket block known put)))
       where
         joined : (front back : List Hold) (mid : Store) (holds : List Hold) (store : Store) → holds ≡ front ++ back → PutsSome first m n x front mid → (store ≡ x.store) × ((hold : Hold) × (back ≡ hold ∷ []) × PutsColumn (key_of ticket.pointer) m hold) → PutsSome first m (n + 1) x holds store
         joined front back mid holds store are before_ now_ = (

@@ -1,11 +1,10 @@
 -- A write of a thread's own ends in a hold, by what the thread knows of a pool's state.
-use Rattle.std.proofs.Common.{◌≡◌, ◌≢◌, ◌==◌, ◌≤◌, ◌<◌, ◌+◌, ◌∙◌, ◌⊎◌, inl, inr, arith, ℕ, Bool, true, false, List, [], ◌∷◌, Option, Some, None, Ok, Err, refl, sym, ap, ap₂, subst, cond, max, length, if◌then◌else◌, eq-eqb, ne_eqb}
+use Rattle.std.proofs.Common.{◌≡◌, ◌==◌, ◌≤◌, ◌<◌, ◌+◌, ◌∙◌, ◌⊎◌, inl, inr, arith, ℕ, Bool, true, [], ◌∷◌, Option, Some, None, Ok, Err, refl, sym, ap, ap₂, subst, cond, if◌then◌else◌, ne_eqb}
 use mathlib.Core.Logic.{dite}
 use native.Mathlib.Decide.{ℕ_discrete}
-use Rattle.std.specs.Prelude.{slice_get, nat_eq, option_map}
+use Rattle.std.specs.Prelude.{nat_eq, option_map}
 use Rattle.std.proofs.lemmas.Bool.{true≢false}
 use Rattle.sha2.specs.Sha256.{sha256}
-use Rattle.draid_names.specs.declared.numbers.TheConstants.{LAST_NUMBER}
 use Rattle.draid_names.specs.declared.pointer.Pointer.{Pointer}
 use Rattle.draid_rack.specs.declared.Rack as racks
 use Rattle.draid_area.specs.declared.Area as areas
@@ -17,7 +16,7 @@ use Rattle.draid_machine.specs.declared.names.Key.{Key}
 use Rattle.draid_machine.specs.declared.names.Held.{Held}
 use Rattle.draid_machine.specs.declared.names.Stage.TheVariants as stage
 use Rattle.draid_machine.specs.Names.{key_eq}
-use Rattle.draid_machine.proofs.Small.{equal, is_equal, key_refl}
+use Rattle.draid_machine.proofs.Small.{equal, key_refl}
 use Rattle.draid_segments.specs.Segments.{Pieces}
 use Rattle.draid_objects.specs.Blocks.{Blocks, Sets}
 use Rattle.draid_objects.specs.Changes as changes
@@ -27,21 +26,17 @@ use Rattle.draid_objects.proofs.Finding.{changes_it, other_changes, write_object
 use Rattle.draid_entries.specs.declared.entry.Entry.{Entry}
 use Rattle.draid_entries.specs.Entries.{entry_at, held_in}
 use Rattle.draid_entries.specs.Maps.{held_at, key_of, staged}
-use Rattle.draid_blocks.specs.Tickets.{Carries}
 use Rattle.draid_blocks.specs.declared.fault.Missed.{Missed}
 use Rattle.draid_blocks.specs.declared.ticket.Ticket.{Ticket}
 use Rattle.draid_shard.specs.Changes.{SetsBlock}
-use Rattle.draid_shard.specs.Columns.{ArePieces, row_bytes}
+use Rattle.draid_shard.specs.Columns.{row_bytes}
 use Rattle.draid_shard.specs.Fits.{Valid}
-use Rattle.draid_shard.specs.Looks.{IsLive}
-use Rattle.draid_shard.specs.Part.{Part, layout_in}
-use Rattle.draid_shard.specs.States.{part_of}
+use Rattle.draid_shard.specs.Part.{Part}
 use Rattle.draid_shard.specs.declared.shard.Shard.{Shard}
 use Rattle.draid_shard.proofs.Held.{key_leads}
-use Rattle.draid_session.specs.Holds.{Did, Hold, On, view_of}
+use Rattle.draid_session.specs.Holds.{Did, On, view_of}
 use Rattle.draid_session.specs.Rooms.{stripes_for}
-use Rattle.draid_session.specs.State.{Metaslab, State, Store}
-use Rattle.draid_pool.specs.Metaslabs.{IsMetaslab}
+use Rattle.draid_session.specs.State.{State, Store}
 use Rattle.draid_pool.specs.Objects.{HasPieces, HoldsObjects, IsLastAt, blocks_of}
 use Rattle.draid_pool.specs.Pools.{part_in}
 use Rattle.draid_pool.proofs.Dids.{Done, did_quiet}
@@ -54,8 +49,8 @@ use Rattle.draid_store.proofs.PutSteps.{set_own}
 use Rattle.draid_store.proofs.Written.{missed_holds, written_holds, written_only}
 use Rattle.draid_pool.specs.Drifts.{Drifts}
 use Rattle.draid_pool.specs.Follows.{FollowsBy}
-use Rattle.draid_pool.specs.Threads.{Between, Bounds, HoldsBut, HoldsOwn, IsPointerAt, Knows, KnowsBut, LeadsBy, PointsAt, all_of, but, own_blocks, own_changes, own_store}
-use Rattle.draid_store.specs.Open.{KnowsEarlier, KnowsOpen, KnowsReplaced}
+use Rattle.draid_pool.specs.Threads.{Between, HoldsBut, HoldsOwn, IsPointerAt, Knows, KnowsBut, LeadsBy, PointsAt, all_of, but, own_blocks, own_changes, own_store}
+use Rattle.draid_store.specs.Open.{KnowsOpen, KnowsReplaced}
 use Rattle.draid_store.specs.Writing.{EndsIn, FinishesShard}
 use Rattle.draid_pool.proofs.ShardSteps.{at_here}
 use Rattle.draid_pool.proofs.Finds.{Found, all_low, bound_in}
@@ -175,7 +170,7 @@ module _ {R A S : Type 0} (rack : racks.Ghosts R) (area : areas.Ghosts A) (went 
     -- what is there
     pub at_it : blocks_of x_then.metaslabs m (key_of ticket.pointer) ≡ option_map held_at entry
     at_it = blocks_at x_then.metaslabs m d.reached (key_of ticket.pointer) (get_set_same x.metaslabs m (here rack area went shared owns a b last new m shard before after there drifts valid is goes seen seen table seq floor open_.pieces x open_.but_it).0 d.reached
-            (here rack area went shared owns a b last new m shard before after there drifts valid is goes seen seen table seq floor open_.pieces x open_.but_it).1)
+        (here rack area went shared owns a b last new m shard before after there drifts valid is goes seen seen table seq floor open_.pieces x open_.but_it).1)
         ∙ (d.is.stands.is_in.held (key_of ticket.pointer) ∙ (sets.entry.held (key_of ticket.pointer) ∙ set_own (held_in before.entries) (key_of ticket.pointer) (option_map held_at entry)))
 
     pub ends : EndsIn m (key_of ticket.pointer) ticket.missed (On (view_of m z.z) (Did (event.Finish (key_of ticket.pointer)) d.reached.world) ∷ [])
@@ -305,13 +300,13 @@ module _ {R A S : Type 0} (rack : racks.Ghosts R) (area : areas.Ghosts A) (went 
       points : (q : ℕ) → owns q ≡ true → PointsAt new (table_then q) (write_of store_then.changes q)
       points q own_q = dite (ℕ_discrete ticket.pointer.object q)
           (λ same.
-              let t : table_then q ≡ Some pointer = put_here (table_then q) (table q) ticket.pointer.object q (Some pointer) (sets_table q) same in
-              let v : write_of store_then.changes q ≡ Some w = changes_it (Wrote w) x.store.changes q (equal ticket.pointer.object q same) in
-              subst (λ o. PointsAt new o (write_of store_then.changes q)) (sym (t ∙ ap Some fin.ends.0)) (subst (λ o. PointsAt new (Some ticket.pointer) o) (sym v) itself))
+          let t : table_then q ≡ Some pointer = put_here (table_then q) (table q) ticket.pointer.object q (Some pointer) (sets_table q) same in
+          let v : write_of store_then.changes q ≡ Some w = changes_it (Wrote w) x.store.changes q (equal ticket.pointer.object q same) in
+          subst (λ o. PointsAt new o (write_of store_then.changes q)) (sym (t ∙ ap Some fin.ends.0)) (subst (λ o. PointsAt new (Some ticket.pointer) o) (sym v) itself))
           (λ not.
-              let t : table_then q ≡ table q = put_elsewhere (table_then q) (table q) ticket.pointer.object q (Some pointer) (sets_table q) not in
-              let v : write_of store_then.changes q ≡ write_of x.store.changes q = other_changes (Wrote w) x.store.changes q (ne_eqb ticket.pointer.object q not) in
-              subst (λ o. PointsAt new o (write_of store_then.changes q)) (sym t) (subst (λ o. PointsAt new (table q) o) (sym v) (s.objects q own_q)))
+          let t : table_then q ≡ table q = put_elsewhere (table_then q) (table q) ticket.pointer.object q (Some pointer) (sets_table q) not in
+          let v : write_of store_then.changes q ≡ write_of x.store.changes q = other_changes (Wrote w) x.store.changes q (ne_eqb ticket.pointer.object q not) in
+          subst (λ o. PointsAt new o (write_of store_then.changes q)) (sym t) (subst (λ o. PointsAt new (table q) o) (sym v) (s.objects q own_q)))
 
       number : x.store.seq + 1 ≡ seq + 1
       number = (let n = open_.but_it.seq in omega (arith, n))
@@ -321,21 +316,25 @@ module _ {R A S : Type 0} (rack : racks.Ghosts R) (area : areas.Ghosts A) (went 
       replaced None None was_is pt = (refl, record { pieces = pieces_then; each = s.each; holds = known None was_is; objects = points; seq = number; floor = refl })
       replaced None (Some we) was_is pt = absurd pt
       replaced (Some e) None was_is pt = absurd pt
-      replaced (Some e) (Some we) was_is pt = (we, refl, record {
-        pieces = pieces_then;
-        but_it = record {
-          each = s.each;
-          holds = subst (λ (t : ℕ × Key). HoldsBut owns (all_of owns) (but t.0 t.1 (all_of owns)) (record x_now { store = store_then }) pieces_then) (λ i. (sym pt.metaslab_is i, sym (same_key e we pt.object_is pt.seq_is) i)) (known (Some we) was_is);
-          objects = points;
-          seq = number;
-          floor = refl;
-        };
-        own = ap owns of_object ∙ open_.own;
-        had = pt;
-        newer = w;
-        is_last = changes_it (Wrote w) x.store.changes e.object (equal ticket.pointer.object e.object (sym of_object));
-        later = (let low = older in let own_seq = pt.seq_is in omega (arith, low, own_seq));
-      })
+      replaced (Some e) (Some we) was_is pt = (
+        we,
+        refl,
+        record {
+          pieces = pieces_then;
+          but_it = record {
+            each = s.each;
+            holds = subst (λ (t : ℕ × Key). HoldsBut owns (all_of owns) (but t.0 t.1 (all_of owns)) (record x_now { store = store_then }) pieces_then) (λ i. (sym pt.metaslab_is i, sym (same_key e we pt.object_is pt.seq_is) i)) (known (Some we) was_is);
+            objects = points;
+            seq = number;
+            floor = refl;
+          };
+          own = ap owns of_object ∙ open_.own;
+          had = pt;
+          newer = w;
+          is_last = changes_it (Wrote w) x.store.changes e.object (equal ticket.pointer.object e.object (sym of_object));
+          later = (let low = older in let own_seq = pt.seq_is in omega (arith, low, own_seq));
+        },
+      )
         where
           of_object : e.object ≡ ticket.pointer.object
           of_object = pt.object_is ∙ write_object x.store.changes ticket.pointer.object we was_is
@@ -344,5 +343,5 @@ module _ {R A S : Type 0} (rack : racks.Ghosts R) (area : areas.Ghosts A) (went 
           older =
               let h = hidden.holds (bound_in x_now.metaslabs) (all_low x_now) in
               let found = last_live sha256 (bound_in x_now.metaslabs) ticket.pointer.object (own_changes owns x.store.changes)
-                  (own_blocks (but m (changes.key_of w) (all_of owns)) (blocks_of x_now.metaslabs)) we h.stores (write_own owns x.store.changes ticket.pointer.object open_.own ∙ was_is) in
+              (own_blocks (but m (changes.key_of w) (all_of owns)) (blocks_of x_now.metaslabs)) we h.stores (write_own owns x.store.changes ticket.pointer.object open_.own ∙ was_is) in
               h.numbered we.metaslab (changes.key_of we) found.0 found.1

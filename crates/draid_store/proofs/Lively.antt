@@ -1,7 +1,5 @@
 -- Blocks that are live as a metaslab was left, and as it is left then.
-use Rattle.std.proofs.Common.{inl, inr, ◌⊎◌, ◌≡◌, ◌==◌, ◌∙◌, ◌+◌, ◌<◌, ◌≤◌, ℕ, Bool, true, Option, Some, None, MatchOption, Result, Ok, Err, refl, sym, ap, subst, if◌then◌else◌, ne_eqb}
-use mathlib.Core.Logic.{dite}
-use native.Mathlib.Decide.{ℕ_discrete}
+use Rattle.std.proofs.Common.{inl, inr, ◌≡◌, ◌∙◌, ℕ, Option, Some, None, Result, Ok, Err, refl, sym, ap, subst}
 use Rattle.draid_names.specs.declared.pointer.Pointer.{Pointer}
 use Rattle.draid_rack.specs.declared.Rack as racks
 use Rattle.draid_area.specs.declared.Area as areas
@@ -24,9 +22,7 @@ use Rattle.draid_shard.specs.States.{part_of}
 use Rattle.draid_shard.specs.declared.shard.Shard.{Shard}
 use Rattle.draid_shard.proofs.Held.{key_leads}
 use Rattle.draid_pool.proofs.Lists.{some_of}
-use Rattle.draid_pool.specs.Drifts.{Drifts}
-use Rattle.draid_store.specs.Writing.{BeginsAs, BeginsShard, FinishesAs, FinishesShard, PutsShard}
-use Rattle.draid_pool.proofs.ShardSteps.{at_here, live_on}
+use Rattle.draid_store.specs.Writing.{BeginsShard, FinishesAs, FinishesShard, PutsShard}
 use Rattle.draid_pool.proofs.HoldStep.{live_key}
 
 writing_live : (c m : ℕ) → stage.Writing c m ≡ stage.Live → ⊥
@@ -45,7 +41,7 @@ module _ {R A : Type 0} (rack : racks.Ghosts R) (area : areas.Ghosts A) where
   live_put old new ticket now block q valid put live =
       live_beside old new ticket.pointer q (Some (staged (stage.Writing now.next now.missed) ticket.pointer)) valid put.valid put.puts.does.part put.puts.sets
       (λ h there is_live. writing_live ticket.next ticket.missed (ap (λ (i : Held). i.stage) (some_of (held_in old.entries (key_of ticket.pointer)) (held_at (staged (stage.Writing ticket.next ticket.missed) ticket.pointer)) h
-          (key_leads old.entries ticket.pointer.first (staged (stage.Writing ticket.next ticket.missed) ticket.pointer) put.carried.is_open) there) ∙ is_live)) live
+      (key_leads old.entries ticket.pointer.first (staged (stage.Writing ticket.next ticket.missed) ticket.pointer) put.carried.is_open) there) ∙ is_live)) live
 
   pub live_end : (old new : Shard R A) (ticket : Ticket) (block : BlockValue) (result : Result Pointer Missed) (q : Pointer) → Valid rack old → FinishesShard rack old ticket block result new → IsLive old q → IsLive new q
   live_end old new ticket block result q valid d live = by result d.ends
@@ -64,4 +60,4 @@ module _ {R A : Type 0} (rack : racks.Ghosts R) (area : areas.Ghosts A) where
   live_begin old new object seq floor block (Some (Ok ticket)) q valid b live =
       live_beside old new ticket.pointer q (Some (begun ticket.pointer)) valid b.valid b.part b.did.1.opens.enters
       (λ h there is_live. none_some (held_in old.entries (key_of ticket.pointer)) h
-          (ap (held_in old.entries) (λ i. record { object = b.did.1.opens.named.object_is i; seq = b.did.1.opens.named.seq_is i }) ∙ b.did.1.unused) there) live
+      (ap (held_in old.entries) (λ i. record { object = b.did.1.opens.named.object_is i; seq = b.did.1.opens.named.seq_is i }) ∙ b.did.1.unused) there) live

@@ -1,5 +1,5 @@
 -- The block that an object had before is freed in a hold, by what its thread knows of a pool's state.
-use Rattle.std.proofs.Common.{◌≡◌, ◌≢◌, ◌==◌, ◌&&◌, ◌≤◌, ◌<◌, ◌+◌, ◌∙◌, ◌⊎◌, inl, inr, arith, ℕ, Bool, true, false, List, [], ◌∷◌, Option, Some, None, refl, sym, ap, subst, slice_set, max, if◌then◌else◌}
+use Rattle.std.proofs.Common.{◌≡◌, ◌≢◌, ◌==◌, ◌≤◌, ◌∙◌, inl, inr, arith, ℕ, Bool, true, false, [], ◌∷◌, Option, Some, None, refl, sym, ap, subst, slice_set, if◌then◌else◌}
 use Rattle.std.specs.Prelude.{option_map, slice_get}
 use Rattle.draid_names.specs.declared.pointer.Pointer.{Pointer}
 use Rattle.draid_rack.specs.declared.Rack as racks
@@ -9,7 +9,7 @@ use Rattle.draid_machine.specs.declared.names.Key.{Key}
 use Rattle.draid_machine.specs.declared.names.Held.{Held}
 use Rattle.draid_machine.specs.declared.names.Stage.TheVariants as stage
 use Rattle.draid_machine.specs.Names.{key_eq}
-use Rattle.draid_machine.specs.After.{is_freed_block, set_held}
+use Rattle.draid_machine.specs.After.{set_held}
 use Rattle.draid_machine.proofs.Small.{bool_cases, held_other, key_true}
 use Rattle.draid_segments.specs.Segments.{Pieces}
 use Rattle.draid_objects.specs.Blocks.{Blocks, Sets}
@@ -20,16 +20,15 @@ use Rattle.draid_objects.proofs.One.{one_set}
 use Rattle.draid_entries.specs.Entries.{held_in}
 use Rattle.draid_entries.specs.Maps.{held_at, key_of, staged}
 use Rattle.draid_shard.specs.Fits.{Valid}
-use Rattle.draid_shard.specs.Looks.{IsLive}
-use Rattle.draid_shard.specs.Part.{Part, layout_in}
+use Rattle.draid_shard.specs.Part.{layout_in}
 use Rattle.draid_shard.specs.States.{part_of}
 use Rattle.draid_shard.specs.declared.shard.Shard.{Shard}
 use Rattle.draid_session.specs.Follows.{Acts}
-use Rattle.draid_session.specs.Holds.{Did, Hold, On, view_of}
-use Rattle.draid_session.specs.State.{Metaslab, State, Store}
+use Rattle.draid_session.specs.Holds.{Did, On, view_of}
+use Rattle.draid_session.specs.State.{Metaslab, State}
 use Rattle.draid_session.specs.Writes as written
 use Rattle.draid_pool.specs.Metaslabs.{IsMetaslab}
-use Rattle.draid_pool.specs.Objects.{HoldsObjects, IsLastAt, blocks_of, worlds_of}
+use Rattle.draid_pool.specs.Objects.{blocks_of, worlds_of}
 use Rattle.draid_pool.specs.Pools.{part_in}
 use Rattle.draid_pool.specs.Shards.{FollowsIn, FreesIn, Goes}
 use Rattle.draid_pool.proofs.Entering.{older_holds, still}
@@ -37,9 +36,8 @@ use Rattle.draid_pool.proofs.Lists.{get_set_same, set_twice, some_of}
 use Rattle.draid_pool.proofs.Moved.{blocks_at, moves_one, turn, with_metaslab}
 use Rattle.draid_store.proofs.FreeKeeps.{same_key}
 use Rattle.draid_pool.specs.Drifts.{Drifts}
-use Rattle.draid_pool.specs.Follows.{FollowsBy}
 use Rattle.draid_store.specs.Frees.{FreesBlock}
-use Rattle.draid_pool.specs.Threads.{Between, Bounds, HoldsBut, HoldsOwn, IsPointerAt, Knows, KnowsBut, LeadsBy, PointsAt, all_of, but, own_blocks, own_changes, own_store}
+use Rattle.draid_pool.specs.Threads.{HoldsBut, HoldsOwn, IsPointerAt, Knows, LeadsBy, PointsAt, all_of, but, own_blocks, own_changes, own_store}
 use Rattle.draid_store.specs.Open.{KnowsEarlier}
 use Rattle.draid_pool.proofs.ShardSteps.{acts_one}
 use Rattle.draid_pool.proofs.Finds.{Found, all_low, bound_in, found_drops, found_later, points_at_on}
@@ -144,7 +142,7 @@ module _ {R A S : Type 0} (rack : racks.Ghosts R) (area : areas.Ghosts A) (went 
   points q own_q = points_at_on last new (table q) (write_of x.store.changes q)
       (λ t w t_is w_is pt. pointer_at_on rack area went shared owns a b last new p.metaslab shard before after there drifts valid is goes (all_of owns) lives table seq floor known.pieces x known.but_it q t w own_q (pt.object_is ∙ write_object x.store.changes q w w_is)
       (λ same live. live_key rack before after t drifts.valid valid part
-          (frees.sets.entry.held (key_of t) ∙ held_other (held_in before.entries) (key_of p) (key_of t) (option_map held_at (Some (staged (stage.Freed group) p))) (other_key q t w w_is pt)) live) pt)
+      (frees.sets.entry.held (key_of t) ∙ held_other (held_in before.entries) (key_of p) (key_of t) (option_map held_at (Some (staged (stage.Freed group) p))) (other_key q t w w_is pt)) live) pt)
       (known.but_it.objects q own_q)
 
   pub earlier_step : LeadsBy rack area went shared a b x (λ holds store. written.FreesBlock we floor group holds × (store ≡ record x.store { floor = group })) (Knows rack area owns new table seq group)
@@ -153,13 +151,16 @@ module _ {R A S : Type 0} (rack : racks.Ghosts R) (area : areas.Ghosts A) (went 
     reached = with_metaslab x p.metaslab g.reached;
     store = record x.store { floor = group };
     follows = follows rack area went shared owns a b last new p.metaslab shard before after there drifts valid is goes (all_of owns) lives table seq floor known.pieces x known.but_it (Did (event.Free (key_of p) group) g.reached.world) g.reached z.now g.is acts;
-    done = (record {
-      v = view_of p.metaslab z.z;
-      after = g.reached.world;
-      did = ap (λ j. On (view_of p.metaslab z.z) (Did (event.Free j group) g.reached.world) ∷ []) (same_key p we known.had.object_is known.had.seq_is);
-      there = known.had.metaslab_is;
-      group_is = g.done.group_is;
-    }, refl);
+    done = (
+      record {
+        v = view_of p.metaslab z.z;
+        after = g.reached.world;
+        did = ap (λ j. On (view_of p.metaslab z.z) (Did (event.Free j group) g.reached.world) ∷ []) (same_key p we known.had.object_is known.had.seq_is);
+        there = known.had.metaslab_is;
+        group_is = g.done.group_is;
+      },
+      refl,
+    );
     knows = record {
       pieces = pieces_then;
       each = each_on rack area went shared owns a b last new p.metaslab shard before after there drifts valid is goes (all_of owns) lives table seq floor known.pieces x known.but_it g.reached z.now g.is;

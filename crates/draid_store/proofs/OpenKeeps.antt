@@ -1,17 +1,14 @@
 -- The operations of a write keep to what every hold keeps to, and may be run whatever others did since.
-use Rattle.std.proofs.Common.{◌≡◌, ◌≤◌, ◌<◌, ◌+◌, ◌∙◌, ◌⊎◌, inl, inr, arith, ℕ, Bool, true, false, Option, Some, None, MatchOption, Result, Ok, Err, refl, sym, ap, subst, max}
+use Rattle.std.proofs.Common.{◌≡◌, ◌≤◌, ◌<◌, ◌+◌, ◌∙◌, inl, inr, arith, ℕ, Bool, true, false, Option, Some, None, MatchOption, Result, Ok, Err, refl, sym, ap, subst}
 use Rattle.std.proofs.lemmas.Bool.{true≢false}
-use Rattle.draid_names.specs.declared.numbers.TheConstants.{LAST_NUMBER, NUMBERS, OBJECTS}
+use Rattle.draid_names.specs.declared.numbers.TheConstants.{LAST_NUMBER}
 use Rattle.draid_names.specs.declared.pointer.Pointer.{Pointer}
 use Rattle.draid_rack.specs.declared.Rack as racks
 use Rattle.draid_area.specs.declared.Area as areas
 use Rattle.draid_block.specs.Blocks.{BlockValue, cut_of}
-use Rattle.draid_machine.specs.declared.names.Key.{Key}
 use Rattle.draid_machine.specs.declared.names.Stage.{Stage}
 use Rattle.draid_machine.specs.declared.names.Stage.TheVariants as stage
-use Rattle.draid_machine.specs.Names.{is_freed_by}
 use Rattle.draid_machine.specs.After.{is_freed_block}
-use Rattle.draid_segments.specs.Segments.{Pieces}
 use Rattle.draid_entries.specs.declared.entry.Entry.{Entry}
 use Rattle.draid_entries.specs.Entries.{begun, entry_at, held_in}
 use Rattle.draid_entries.specs.Maps.{held_at, key_of, staged}
@@ -21,14 +18,11 @@ use Rattle.draid_blocks.specs.declared.fault.Missed.{Missed}
 use Rattle.draid_blocks.specs.declared.ticket.Ticket.{Ticket}
 use Rattle.draid_shard.specs.Fits.{Valid}
 use Rattle.draid_shard.specs.Part.{Part, layout_in}
-use Rattle.draid_shard.specs.States.{part_of}
 use Rattle.draid_shard.specs.declared.shard.Shard.{Shard}
 use Rattle.draid_shard.proofs.Held.{held_entry, key_leads}
-use Rattle.draid_session.specs.State.{Metaslab}
-use Rattle.draid_pool.specs.Metaslabs.{IsMetaslab}
 use Rattle.draid_pool.proofs.Dids.{none_here}
 use Rattle.draid_pool.proofs.Glances.{IsStill}
-use Rattle.draid_pool.specs.Drifts.{Drifts, KeepsOf, KeepsTo, is_other, GoesOn, StateStep}
+use Rattle.draid_pool.specs.Drifts.{Drifts, KeepsOf, KeepsTo, is_other, StateStep}
 use Rattle.draid_store.specs.Writing.{BeginsAs, BeginsShard, FinishesShard, MayBeginIn, MayFinishIn, MayPutIn, PutsShard}
 use Rattle.draid_pool.proofs.Drifting.{keeps_self}
 use Rattle.draid_store.proofs.FreeKeeps.{same_groups}

@@ -1,5 +1,5 @@
 -- A write of a thread's own, hold by hold, by what the thread knows of a pool's state: a ticket is opened, and a column is put.
-use Rattle.std.proofs.Common.{◌≡◌, ◌==◌, ◌≤◌, ◌<◌, ◌+◌, ◌∙◌, ◌⊎◌, inl, inr, arith, ℕ, Bool, true, false, List, [], ◌∷◌, Option, Some, None, refl, sym, ap, ap₂, subst, max, if◌then◌else◌}
+use Rattle.std.proofs.Common.{◌≡◌, ◌==◌, ◌≤◌, ◌+◌, ◌∙◌, inl, inr, arith, ℕ, Bool, true, [], ◌∷◌, Option, Some, refl, sym, ap, ap₂, subst, max, if◌then◌else◌}
 use Rattle.draid_names.specs.declared.numbers.TheConstants.{LAST_NUMBER}
 use Rattle.draid_names.specs.declared.pointer.Pointer.{Pointer}
 use Rattle.draid_rack.specs.declared.Rack as racks
@@ -10,33 +10,30 @@ use Rattle.draid_machine.specs.declared.event.Event.TheVariants as event
 use Rattle.draid_machine.specs.declared.names.Key.{Key}
 use Rattle.draid_machine.specs.declared.names.Held.{Held}
 use Rattle.draid_machine.specs.declared.names.Stage.TheVariants as stage
-use Rattle.draid_machine.specs.Names.{key_eq}
 use Rattle.draid_machine.proofs.Small.{none_some}
 use Rattle.draid_segments.specs.Segments.{Pieces}
 use Rattle.draid_entries.specs.Entries.{begun, held_in}
 use Rattle.draid_entries.specs.Maps.{held_at, key_of, staged}
-use Rattle.draid_blocks.specs.Tickets.{Carries, begins}
+use Rattle.draid_blocks.specs.Tickets.{begins}
 use Rattle.draid_blocks.specs.declared.ticket.Ticket.{Ticket}
 use Rattle.draid_shard.specs.Calls.{SameKit, SameReserve}
 use Rattle.draid_shard.specs.Columns.{ArePieces}
 use Rattle.draid_shard.specs.Fits.{Valid}
-use Rattle.draid_shard.specs.Part.{Part, layout_in}
+use Rattle.draid_shard.specs.Part.{Part}
 use Rattle.draid_shard.specs.Rooms.{IsWornFor}
-use Rattle.draid_shard.specs.States.{part_of}
 use Rattle.draid_shard.specs.declared.shard.Shard.{Shard}
 use Rattle.draid_shard.proofs.Held.{key_leads}
 use Rattle.draid_session.specs.Holds.{Did, Hold, On, view_of}
 use Rattle.draid_session.specs.Rooms.{IsShut}
-use Rattle.draid_session.specs.State.{Metaslab, State, Store}
+use Rattle.draid_session.specs.State.{State}
 use Rattle.draid_session.specs.Writes.{PutsColumn}
-use Rattle.draid_pool.specs.Metaslabs.{IsMetaslab}
 use Rattle.draid_pool.specs.Pools.{part_in}
 use Rattle.draid_pool.proofs.Dids.{Done, did_quiet}
 use Rattle.draid_pool.proofs.Lists.{some_of}
 use Rattle.draid_pool.proofs.Moved.{turn, turn_here, with_metaslab}
 use Rattle.draid_store.proofs.Refused.{worn_for}
 use Rattle.draid_pool.specs.Drifts.{Drifts}
-use Rattle.draid_pool.specs.Threads.{Between, HoldsBut, Knows, KnowsBut, LeadsBy, all_of, but}
+use Rattle.draid_pool.specs.Threads.{Knows, KnowsBut, LeadsBy, all_of, but}
 use Rattle.draid_store.specs.Open.{KnowsOpen}
 use Rattle.draid_store.specs.Writing.{BeginsBlock, BeginsIn, PutsShard}
 use Rattle.draid_store.proofs.Column.{column_for, one_column_more, others_same, put_column}
@@ -101,17 +98,20 @@ module _ {R A S : Type 0} (rack : racks.Ghosts R) (area : areas.Ghosts A) (went 
       reached = with_metaslab x m d.reached;
       store = x.store;
       follows = follows rack area went shared owns a b last new m shard before after there drifts valid is goes mine mine table seq floor knows.pieces x known (Did (begins ticket.pointer) d.reached.world) d.reached z.now d.is d.acts;
-      done = (refl, record {
-        v = view_of m z.z;
-        begun = d.reached.world;
-        are = refl;
-        there = refl;
-        takes_blocks = open_takes;
-        birth_is = begin.opens.named.birth_is ∙ ap (λ g. max g floor) (sym z.is.stands.is_in.open_group_is);
-        stripes_are = (valid.tables.placed ticket.pointer.first _ begin.opens.carries.is_open).is_block.stripes ∙ ap₂ stripes_of (ap (λ (q : Part). cut_of q.geometry) (begin.does.part ∙ z.is.part_is)) (sym begin.opens.carries.content.len);
-        len_is = sym begin.opens.carries.content.len;
-        digest_is = sym begin.opens.carries.content.digest;
-      });
+      done = (
+        refl,
+        record {
+          v = view_of m z.z;
+          begun = d.reached.world;
+          are = refl;
+          there = refl;
+          takes_blocks = open_takes;
+          birth_is = begin.opens.named.birth_is ∙ ap (λ g. max g floor) (sym z.is.stands.is_in.open_group_is);
+          stripes_are = (valid.tables.placed ticket.pointer.first _ begin.opens.carries.is_open).is_block.stripes ∙ ap₂ stripes_of (ap (λ (q : Part). cut_of q.geometry) (begin.does.part ∙ z.is.part_is)) (sym begin.opens.carries.content.len);
+          len_is = sym begin.opens.carries.content.len;
+          digest_is = sym begin.opens.carries.content.digest;
+        },
+      );
       knows = record {
         pieces = turn m z.now knows.pieces;
         but_it = unseen_step rack area went shared owns a b last new m shard before after there drifts valid is goes mine mine table seq floor knows.pieces x known ticket.pointer (Some (begun ticket.pointer)) begin.opens.enters begin.does.part
@@ -155,8 +155,8 @@ module _ {R A S : Type 0} (rack : racks.Ghosts R) (area : areas.Ghosts A) (went 
         subst (λ q. ArePieces x.geometry.props.sector now.next now.pointer.stripes block.columns (key_of now.pointer) q) (sym (turn_here m columns_now open_.pieces))
         (subst (λ (t : ℕ × Pointer). ArePieces x.geometry.props.sector t.0 t.1.stripes block.columns (key_of t.1) columns_now) (λ i. (sym put.puts.next i, sym put.puts.pointer i))
         (subst (λ n. ArePieces x.geometry.props.sector (ticket.next + 1) ticket.pointer.stripes block.columns (key_of ticket.pointer) (column_for (key_of ticket.pointer) ticket.next n block.columns g.now)) (sym size)
-            (one_column_more (key_of ticket.pointer) ticket.next x.geometry.props.sector ticket.pointer.stripes block.columns g.now
-            (λ c row less inside. ap (λ h. h c row) (g.same (key_of ticket.pointer) open_.own) ∙ open_.rows c row less inside))))
+        (one_column_more (key_of ticket.pointer) ticket.next x.geometry.props.sector ticket.pointer.stripes block.columns g.now
+        (λ c row less inside. ap (λ h. h c row) (g.same (key_of ticket.pointer) open_.own) ∙ open_.rows c row less inside))))
       where
         size : before.geometry.props.sector ≡ x.geometry.props.sector
         size = ap (λ (q : Part). q.geometry.props.sector) g.is.part_is
@@ -168,11 +168,14 @@ module _ {R A S : Type 0} (rack : racks.Ghosts R) (area : areas.Ghosts A) (went 
       store = x.store;
       follows = follows rack area went shared owns a b last new m shard before after there drifts valid is goes seen seen table seq floor open_.pieces x open_.but_it
           (Did (event.Put (key_of ticket.pointer) put.puts.landed put.puts.failed) e.reached.world) e.reached columns_now e.is e.acts;
-      done = (refl, (
-        On (view_of m g.z) (Did (event.Put (key_of ticket.pointer) put.puts.landed put.puts.failed) e.reached.world),
+      done = (
         refl,
-        record { v = view_of m g.z; landed = put.puts.landed; failed = put.puts.failed; after = e.reached.world; did = refl; there = refl },
-      ));
+        (
+          On (view_of m g.z) (Did (event.Put (key_of ticket.pointer) put.puts.landed put.puts.failed) e.reached.world),
+          refl,
+          record { v = view_of m g.z; landed = put.puts.landed; failed = put.puts.failed; after = e.reached.world; did = refl; there = refl },
+        ),
+      );
       knows = record {
         pieces = turn m columns_now open_.pieces;
         but_it = subst (λ k. KnowsBut rack area owns (but m k (all_of owns)) (but m k (all_of owns)) new table seq floor (turn m columns_now open_.pieces) (with_metaslab x m e.reached)) (sym key_now)

@@ -1,20 +1,16 @@
 -- A put keeps to what every hold keeps to, on both sides.
-use Rattle.std.proofs.Common.{◌≡◌, ◌++◌, [], ◌∷◌, ℕ, Bool, true, Some, None, arith, refl, sym, ap, subst}
+use Rattle.std.proofs.Common.{[], ◌∷◌, Some, arith, refl}
 use Rattle.draid_rack.specs.declared.Rack as racks
 use Rattle.draid_area.specs.declared.Area as areas
 use Rattle.draid_block.specs.Blocks.{BlockValue}
 use Rattle.draid_machine.specs.declared.event.Event.TheVariants.{Put}
-use Rattle.draid_segments.specs.Segments.{Pieces}
 use Rattle.draid_entries.specs.Maps.{key_of}
 use Rattle.draid_shard.specs.Calls.{SameAreas, SameReserve}
 use Rattle.draid_blocks.specs.Tickets.{Carries, Puts}
 use Rattle.draid_shard.specs.Fits.{Valid}
-use Rattle.draid_shard.specs.Part.{Part, layout_in}
 use Rattle.draid_blocks.specs.declared.ticket.Ticket.{Ticket}
-use Rattle.draid_session.specs.State.{Metaslab}
-use Rattle.draid_pool.specs.Metaslabs.{IsMetaslab}
 use Rattle.draid_store.proofs.Column.{column_for, others_same, put_column}
-use Rattle.draid_pool.specs.Drifts.{KeepsTo, is_other, GoesOn}
+use Rattle.draid_pool.specs.Drifts.{KeepsTo}
 use Rattle.draid_shard.specs.declared.shard.Shard.{Shard}
 use Rattle.draid_pool.proofs.ShardSteps.{other_key, sets_others}
 

@@ -1,14 +1,10 @@
 -- The begin and the end of a write keep to what every hold keeps to, on both sides.
-use Rattle.std.proofs.Common.{◌≡◌, ◌++◌, [], ◌∷◌, ℕ, Bool, true, Option, Some, None, arith, refl, sym, ap, subst}
+use Rattle.std.proofs.Common.{[], ◌∷◌, ℕ, Bool, Option, Some, arith, refl}
 use Rattle.draid_names.specs.declared.pointer.Pointer.{Pointer}
-use Rattle.draid_rack.specs.Rack.{Told}
 use Rattle.draid_rack.specs.declared.Rack as racks
 use Rattle.draid_area.specs.declared.Area as areas
 use Rattle.draid_machine.specs.declared.event.Event.{Event}
 use Rattle.draid_machine.specs.declared.event.Event.TheVariants as event
-use Rattle.draid_machine.specs.State as machine
-use Rattle.draid_machine.specs.Step.{Step}
-use Rattle.draid_segments.specs.Acts as segments
 use Rattle.draid_segments.specs.Segments.{Pieces}
 use Rattle.draid_entries.specs.declared.entry.Entry.{Entry}
 use Rattle.draid_entries.specs.Maps.{key_of}
@@ -16,15 +12,13 @@ use Rattle.draid_shard.specs.Calls.{SameKit, SameReserve}
 use Rattle.draid_blocks.specs.Tickets.{begins}
 use Rattle.draid_shard.specs.Changes.{SetsBlock}
 use Rattle.draid_shard.specs.Fits.{Valid}
-use Rattle.draid_shard.specs.Part.{Part, layout_in}
-use Rattle.draid_shard.specs.States.{Does, layout_by}
+use Rattle.draid_shard.specs.Part.{Part}
+use Rattle.draid_shard.specs.States.{Does}
 use Rattle.draid_shard.specs.declared.shard.Shard.{Shard}
-use Rattle.draid_session.specs.Follows.{failed_in, uses}
 use Rattle.draid_session.specs.State.{Metaslab}
 use Rattle.draid_pool.specs.Metaslabs.{IsMetaslab}
 use Rattle.draid_pool.proofs.Dids.{Done, did_quiet}
-use Rattle.draid_pool.proofs.Imaged.{LeavesImages}
-use Rattle.draid_pool.specs.Drifts.{KeepsTo, is_other, GoesOn, StateStep}
+use Rattle.draid_pool.specs.Drifts.{KeepsTo, is_other, StateStep}
 use Rattle.draid_pool.proofs.ShardSteps.{sets_others}
 
 module _ {R A : Type 0} (rack : racks.Ghosts R) (area : areas.Ghosts A) where

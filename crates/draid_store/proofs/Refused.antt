@@ -1,61 +1,32 @@
 -- Why no write is begun in a metaslab, and that want of memory alone is why where there is room.
-use Rattle.std.proofs.Common.{◌≡◌, ◌≤◌, ◌<◌, ◌+◌, ◌++◌, ◌∙◌, inl, inr, [], ◌∷◌, ℕ, Bool, true, false, List, Option, Some, None, arith, refl, sym, ap, ap₂, subst, max, length, nat_lt, if◌then◌else◌}
-use Rattle.draid_names.specs.declared.numbers.TheConstants.{LAST_NUMBER}
-use Rattle.draid_names.specs.declared.pointer.Pointer.{Pointer}
-use Rattle.draid_rack.specs.Rack.{OnTold, Told}
+use Rattle.std.proofs.Common.{◌≡◌, ◌∙◌, ℕ, false, Some, arith, refl, sym, ap, subst, length}
 use Rattle.draid_rack.specs.declared.Rack as racks
 use Rattle.draid_area.specs.declared.Area as areas
-use Rattle.draid_parity.specs.Columns.{column_at}
-use Rattle.draid_block.specs.Blocks.{BlockValue, cut_of, AreColumns}
+use Rattle.draid_block.specs.Blocks.{BlockValue, cut_of}
 use Rattle.draid_block.specs.Columns.{stripes_of}
-use Rattle.draid_machine.specs.declared.event.Event.TheVariants as event
-use Rattle.draid_machine.specs.declared.names.Held.{Held}
-use Rattle.draid_machine.specs.declared.names.Key.{Key}
-use Rattle.draid_machine.specs.declared.names.Stage.{Stage}
-use Rattle.draid_machine.specs.declared.names.Stage.TheVariants as stage
-use Rattle.draid_machine.specs.Names.{key_eq}
-use Rattle.draid_machine.specs.After.{gone_state, live_state}
-use Rattle.std.proofs.lemmas.Bool.Decides.{nat_tests}
-use Rattle.std.specs.Prelude.{IsSome}
 use Rattle.draid_entries.specs.Owed.{IsOwed}
 use Rattle.draid_machine.specs.State as machine
-use Rattle.draid_machine.proofs.Small.{key_refl, key_true}
-use Rattle.draid_segments.specs.Segments.{Backed, Pieces}
-use Rattle.draid_segments.proofs.Beginning.{pieces_backed}
-use Rattle.draid_entries.specs.Entries.{held_in}
+use Rattle.draid_segments.specs.Segments.{Pieces}
 use Rattle.draid_entries.specs.History.{stored_of}
-use Rattle.draid_entries.specs.Maps.{held_at, key_of, staged}
-use Rattle.draid_blocks.specs.Tickets.{BeginRefused, Carries, IsTicketOf, begins}
-use Rattle.draid_shard.specs.Rooms.{IsWornFor, block_events}
-use Rattle.draid_shard.specs.Calls.{SameKit, SameReserve}
-use Rattle.draid_shard.specs.Columns.{ArePieces, row_bytes}
-use Rattle.draid_shard.specs.Fits.{Valid}
-use Rattle.draid_shard.specs.Part.{Part, layout_in}
-use Rattle.draid_shard.specs.States.{Does, layout_by, part_of}
+use Rattle.draid_blocks.specs.Tickets.{BeginRefused}
+use Rattle.draid_shard.specs.Rooms.{IsWornFor}
+use Rattle.draid_shard.specs.Part.{Part}
 use Rattle.draid_blocks.specs.declared.fault.BeginFault.{BeginFault}
 use Rattle.draid_blocks.specs.declared.fault.BeginFault.TheVariants as begin
 use Rattle.draid_shard.specs.declared.shard.Shard.{Shard}
-use Rattle.draid_blocks.specs.declared.ticket.Ticket.{Ticket}
-use Rattle.draid_shard.proofs.Held.{key_leads}
 use Rattle.draid_shard.proofs.OwedAll.{owed_is}
-use Rattle.draid_shard.proofs.Standing.{has_layout}
-use Rattle.draid_session.specs.Holds.{Did, Hold, On, view_of}
-use Rattle.draid_session.specs.Rooms.{IsShut, stripes_for}
+use Rattle.draid_session.specs.Holds.{view_of}
 use Rattle.draid_session.specs.State.{Metaslab}
 use Rattle.draid_session.specs.Worn.{IsWorn}
-use Rattle.draid_session.specs.Writes.{PutsColumns, WritesBlock}
 use Rattle.draid_pool.specs.Metaslabs.{IsMetaslab}
 use Rattle.draid_pool.specs.Whole.{IsWhole}
 use Rattle.draid_pool.specs.declared.pool.Pool.{Pool}
 use Rattle.draid_pool.proofs.OwnedKnows.{all, left_in}
 use Rattle.draid_pool.proofs.Wholes.{whole_room}
 use Rattle.draid_store.specs.Putting.{RefusesAt}
-use Rattle.draid_pool.specs.Shards.{FollowsIn, Goes, HasRoom, KeepsImages}
+use Rattle.draid_pool.specs.Shards.{HasRoom}
 use Rattle.draid_store.specs.Shards.{HasRoomAt}
-use Rattle.draid_pool.proofs.Dids.{Done, did_quiet}
-use Rattle.draid_pool.proofs.Imaged.{keeps_then, step_keeps}
 use Rattle.draid_pool.proofs.Lists.{some_of}
-use Rattle.draid_pool.proofs.Lives.{live_by}
 
 -- a block for which there is room is refused for want of memory alone
 pub never_refused : {R A : Type 0} (shard : Shard R A) (need : ℕ) (w : machine.State) → HasRoom need shard w → (why : BeginFault) → BeginRefused shard need w why → why ≡ begin.NoMemory

@@ -1,24 +1,17 @@
 -- A pool of which nothing changed but a table that says the same.
-use Rattle.std.proofs.Common.{◌≡◌, ◌==◌, ◌&&◌, ◌≤◌, ◌+◌, ◌∙◌, ℕ, false, List, Option, Some, None, arith, refl, sym, ap, subst, length, max}
+use Rattle.std.proofs.Common.{◌≡◌, ◌∙◌, ℕ, List, Option, sym, ap, subst, length}
 use Rattle.std.specs.Prelude.{slice_get, nat_eq}
 use Rattle.std.specs.HashMap.{get}
-use Rattle.std.proofs.lemmas.Option.{slice_get_within}
 use Rattle.draid_names.specs.declared.pointer.Pointer.{Pointer}
 use Rattle.draid_rack.specs.declared.Rack as racks
 use Rattle.draid_area.specs.declared.Area as areas
-use Rattle.draid_machine.specs.declared.names.Key.{Key}
-use Rattle.draid_machine.specs.Names.{key_eq}
-use Rattle.draid_objects.specs.Changes as changes
-use Rattle.draid_objects.specs.Changes.{Freed, Write, write_of}
-use Rattle.draid_entries.specs.Maps.{key_of}
+use Rattle.draid_objects.specs.Changes.{Write, write_of}
 use Rattle.draid_shard.specs.declared.shard.Shard.{Shard}
-use Rattle.draid_session.specs.State.{Metaslab, State}
-use Rattle.draid_pool.specs.Objects.{IsPointerOf, PointsTo}
+use Rattle.draid_session.specs.State.{State}
+use Rattle.draid_pool.specs.Objects.{PointsTo}
 use Rattle.draid_pool.specs.Pools.{Represents, Stands}
 use Rattle.draid_pool.specs.Ubers.{IsUber}
 use Rattle.draid_pool.specs.declared.pool.Pool.{Pool}
-use Rattle.draid_pool.proofs.Lists.{present}
-use Rattle.draid_pool.proofs.Wholes.{open_low}
 
 pub points_same : {R A : Type 0} (shards : List (Shard R A)) (o q : Option Pointer) (w : Option Write) → q ≡ o → PointsTo shards o w → PointsTo shards q w
 points_same shards o q w same points = subst (λ z. PointsTo shards z w) (sym same) points

@@ -1,21 +1,7 @@
 -- Changes of a shard's blocks, one after another.
-use Rattle.std.proofs.Common.{◌≡◌, ◌==◌, ◌+◌, ◌∙◌, ℕ, Bool, true, false, Option, Some, None, arith, refl, sym, ap, subst, max, if◌then◌else◌}
-use Rattle.std.specs.Prelude.{option_map}
-use Rattle.draid_names.specs.declared.pointer.Pointer.{Pointer}
-use Rattle.draid_machine.specs.declared.names.Key.{Key}
-use Rattle.draid_machine.specs.declared.names.Stage.TheVariants.{Live}
-use Rattle.draid_machine.specs.Names.{key_eq}
-use Rattle.draid_machine.proofs.Small.{equal, is_equal, key_true}
-use Rattle.draid_entries.specs.declared.entries.Entries.{Entries}
-use Rattle.draid_entries.specs.declared.entry.Entry.{Entry}
-use Rattle.draid_entries.specs.Entries.{SetsEntry, begun, entry_at, held_in, owed_at, owed_by}
-use Rattle.draid_entries.specs.Maps.{held_at, key_of, staged}
-use Rattle.draid_blocks.specs.Tickets.{IsTicketOf}
-use Rattle.draid_shard.specs.Changes.{KeepsBlocks, SameGroups, SetsBlock}
+use Rattle.std.proofs.Common.{◌∙◌, refl}
+use Rattle.draid_shard.specs.Changes.{KeepsBlocks, SameGroups}
 use Rattle.draid_shard.specs.declared.shard.Shard.{Shard}
-use Rattle.draid_blocks.specs.declared.ticket.Ticket.{Ticket}
-use Rattle.draid_shard.proofs.Held.{key_leads}
-use Rattle.draid_pool.specs.Shards.{DropsBlock, StoresBlock}
 
 same_groups : {R A : Type 0} (shard : Shard R A) → SameGroups shard shard
 same_groups shard = record { open_group_is = refl; closing = refl; sealed = refl; committed = refl }

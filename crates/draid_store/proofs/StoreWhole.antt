@@ -1,14 +1,12 @@
 -- What a thread has stays whole as it stores a block, of its parts.
-use Rattle.std.proofs.Common.{◌≡◌, ◌==◌, ◌≤◌, ◌<◌, ◌+◌, ◌∙◌, ◌⊎◌, inl, inr, arith, ℕ, Bool, true, false, Option, Some, None, Result, Ok, Err, refl, sym, ap, subst, cond, if◌then◌else◌}
+use Rattle.std.proofs.Common.{◌≡◌, ◌≤◌, ◌<◌, ◌+◌, ◌∙◌, inl, inr, arith, ℕ, Bool, true, Option, Some, None, Result, Ok, Err, refl, sym, ap, subst, cond}
 use mathlib.Core.Logic.{dite}
 use native.Mathlib.Decide.{ℕ_discrete}
 use Rattle.std.specs.Prelude.{nat_eq}
-use Rattle.std.proofs.lemmas.Bool.{true≢false}
-use Rattle.draid_names.specs.declared.numbers.TheConstants.{LAST_NUMBER, NUMBERS, OBJECTS}
+use Rattle.draid_names.specs.declared.numbers.TheConstants.{NUMBERS, OBJECTS}
 use Rattle.draid_names.specs.declared.pointer.Pointer.{Pointer}
 use Rattle.draid_rack.specs.declared.Rack as racks
-use Rattle.draid_area.specs.declared.Area as areas
-use Rattle.draid_block.specs.Blocks.{BlockValue, IsContent}
+use Rattle.draid_block.specs.Blocks.{BlockValue}
 use Rattle.draid_blocks.specs.declared.fault.Missed.{Missed}
 use Rattle.draid_blocks.specs.declared.ticket.Ticket.{Ticket}
 use Rattle.draid_machine.specs.declared.names.Key.{Key}
@@ -110,10 +108,10 @@ module _ {R A : Type 0} (rack : racks.Ghosts R) (owns : ℕ → Bool) where
                 let objects : p.object ≡ r.object = ap (λ (k : Key). k.object) keys in
                 dite (ℕ_discrete object q)
                 (λ here.
-                    let r_of : pointer ≡ r = some_of (table' q) pointer r (put_here (table' q) (table q) object q (Some pointer) (sets q) here) r_is in
-                    let r_seq : pointer.seq ≡ r.seq = ap (λ (z : Pointer). z.seq) r_of in
-                    absurd (omega (arith, low, high, seqs, r_seq)))
+                let r_of : pointer ≡ r = some_of (table' q) pointer r (put_here (table' q) (table q) object q (Some pointer) (sets q) here) r_is in
+                let r_seq : pointer.seq ≡ r.seq = ap (λ (z : Pointer). z.seq) r_of in
+                absurd (omega (arith, low, high, seqs, r_seq)))
                 (λ not.
-                    let h = both.0.pointers q r (sym (put_elsewhere (table' q) (table q) object q (Some pointer) (sets q) not) ∙ r_is) in
-                    absurd (not (sym (both.0.pointers object p had).object_is ∙ (objects ∙ h.object_is))))
+                let h = both.0.pointers q r (sym (put_elsewhere (table' q) (table q) object q (Some pointer) (sets q) not) ∙ r_is) in
+                absurd (not (sym (both.0.pointers object p had).object_is ∙ (objects ∙ h.object_is))))
           ]

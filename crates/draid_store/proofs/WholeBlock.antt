@@ -4,8 +4,7 @@ use Rattle.draid_names.specs.declared.pointer.Pointer.{Pointer}
 use Rattle.draid_rack.specs.declared.Rack as racks
 use Rattle.draid_area.specs.declared.Area as areas
 use Rattle.draid_block.specs.Blocks.{BlockValue}
-use Rattle.draid_blocks.specs.declared.fault.Missed.{Missed}
-use Rattle.draid_objects.specs.Changes.{Write, Wrote, write_of}
+use Rattle.draid_objects.specs.Changes.{Write, write_of}
 use Rattle.draid_session.specs.Holds.{Hold}
 use Rattle.draid_session.specs.Looks.{OnlyLooks}
 use Rattle.draid_session.specs.State.{State, Store}
@@ -37,26 +36,26 @@ module _ {R A S : Type 0} (rack : racks.Ghosts R) (area : areas.Ghosts A) (went 
   pub no_earlier : StoreSays rack area went shared owns o3 last l3 s0 s3 m columns object table then_table seq floor then_seq birth block (Some (Ok None))
       → WriteSays rack area went shared owns o3 last l3 s0 s3 m columns object table then_table seq floor then_seq birth block (Some (Ok None))
   no_earlier says x columns_are knows =
-    let s = says x columns_are knows in
-    record {
-      holds = s.holds;
-      reached = s.reached;
-      store = s.store;
-      follows = s.follows;
-      done = record {
-        birth = birth;
-        columns = s.done.columns;
-        group = birth;
-        front = s.holds;
-        back = [];
-        are = nothing s.holds;
-        writes = s.done.writes;
-        few = s.done.few;
-        frees = subst (λ w. FreesEarlier w birth birth []) (sym s.knows.0) (refl, refl);
-        made = s.done.made;
-      };
-      knows = s.knows.1;
-    }
+      let s = says x columns_are knows in
+      record {
+        holds = s.holds;
+        reached = s.reached;
+        store = s.store;
+        follows = s.follows;
+        done = record {
+          birth = birth;
+          columns = s.done.columns;
+          group = birth;
+          front = s.holds;
+          back = [];
+          are = nothing s.holds;
+          writes = s.done.writes;
+          few = s.done.few;
+          frees = subst (λ w. FreesEarlier w birth birth []) (sym s.knows.0) (refl, refl);
+          made = s.done.made;
+        };
+        knows = s.knows.1;
+      }
     where
       nothing : (hs : List Hold) → hs ≡ hs ++ []
       nothing [] = refl
@@ -95,9 +94,9 @@ module _ {R A S : Type 0} (rack : racks.Ghosts R) (area : areas.Ghosts A) (went 
         (leads_then rack area went shared s0 s3 s4 x (StoresIn x m object birth block.bytes) (KnowsReplaced rack area o3 l3 then_table then_seq birth (Some e) (write_of x.store.changes object)) (FreesDoes (write_of x.store.changes object) x.store group) (Knows rack area o4 l4 then_table then_seq group)
         (stored x columns_are knows)
         (λ y layout perms front done k.
-            leads_as rack area went shared s3 s4 y (λ holds store. written.FreesBlock k.0 birth group holds × (store ≡ record y.store { floor = group })) (FreesDoes (write_of x.store.changes object) x.store group) (Knows rack area o4 l4 then_table then_seq group)
-            (λ holds store d. record { we = k.0; before_is = k.1; frees_it = d.0; made = d.1 ∙ ap (λ (s : Store). record s { floor = group }) done.made })
-            (subst (λ o. EarlierSays rack area went shared o3 o4 l3 l4 s3 s4 e then_table then_table then_seq birth y k.0 o) out_is (frees then_table then_seq y k.0 k.2))))
+        leads_as rack area went shared s3 s4 y (λ holds store. written.FreesBlock k.0 birth group holds × (store ≡ record y.store { floor = group })) (FreesDoes (write_of x.store.changes object) x.store group) (Knows rack area o4 l4 then_table then_seq group)
+        (λ holds store d. record { we = k.0; before_is = k.1; frees_it = d.0; made = d.1 ∙ ap (λ (s : Store). record s { floor = group }) done.made })
+        (subst (λ o. EarlierSays rack area went shared o3 o4 l3 l4 s3 s4 e then_table then_table then_seq birth y k.0 o) out_is (frees then_table then_seq y k.0 k.2))))
 
     -- or it is to be tried again
     pub earlier_awaits : out ≡ None → WriteSays rack area went shared owns o4 last l4 s0 s4 m columns object table then_table seq floor then_seq birth block (Some (Ok (Some e)))
@@ -107,10 +106,10 @@ module _ {R A S : Type 0} (rack : racks.Ghosts R) (area : areas.Ghosts A) (went 
         (λ holds store d. record { front = d.front; back = d.back; are = d.are; looks = d.second.looks; stores = record { columns = d.first.columns; writes = d.first.writes; few = d.first.few; made = d.second.made } })
         (leads_then rack area went shared s0 s3 s4 x (StoresIn x m object birth block.bytes) (KnowsReplaced rack area o3 l3 then_table then_seq birth (Some e) (write_of x.store.changes object)) (LooksDoes x.store) (KnowsReplaced rack area o4 l4 then_table then_seq birth (Some e) (write_of x.store.changes object))
         (stored x columns_are knows) (λ y layout perms front done k.
-            leads_as rack area went shared s3 s4 y (λ holds store. (store ≡ y.store) × OnlyLooks holds) (LooksDoes x.store) (KnowsReplaced rack area o4 l4 then_table then_seq birth (Some e) (write_of x.store.changes object))
-            (λ holds store d. record { looks = d.1; made = d.0 ∙ done.made })
-            (known_as y k.0 k.1
-            (subst (λ o. EarlierSays rack area went shared o3 o4 l3 l4 s3 s4 e then_table then_table then_seq birth y k.0 o) out_is (frees then_table then_seq y k.0 k.2)))))
+        leads_as rack area went shared s3 s4 y (λ holds store. (store ≡ y.store) × OnlyLooks holds) (LooksDoes x.store) (KnowsReplaced rack area o4 l4 then_table then_seq birth (Some e) (write_of x.store.changes object))
+        (λ holds store d. record { looks = d.1; made = d.0 ∙ done.made })
+        (known_as y k.0 k.1
+        (subst (λ o. EarlierSays rack area went shared o3 o4 l3 l4 s3 s4 e then_table then_table then_seq birth y k.0 o) out_is (frees then_table then_seq y k.0 k.2)))))
       where
         known_as : (y : State) (we : Write) → write_of x.store.changes object ≡ Some we → LeadsBy rack area went shared s3 s4 y (λ holds store. (store ≡ y.store) × OnlyLooks holds) (KnowsEarlier rack area o4 l4 then_table then_seq birth e we)
             → LeadsBy rack area went shared s3 s4 y (λ holds store. (store ≡ y.store) × OnlyLooks holds) (KnowsReplaced rack area o4 l4 then_table then_seq birth (Some e) (write_of x.store.changes object))

@@ -1,12 +1,11 @@
 -- A write by one thread of which too many columns landed nowhere, of its parts.
-use Rattle.std.proofs.Common.{◌≡◌, ◌<◌, ◌+◌, ◌++◌, ◌∙◌, ℕ, Bool, List, Option, Err, refl, sym, ap, subst}
+use Rattle.std.proofs.Common.{◌≡◌, ◌<◌, ◌+◌, ◌++◌, ◌∙◌, ℕ, Bool, List, Option, Err, sym, ap, subst}
 use Rattle.draid_names.specs.declared.pointer.Pointer.{Pointer}
 use Rattle.draid_names.specs.declared.refusal.WriteFault.TheVariants as fault
 use Rattle.draid_spec.specs.declared.layout.Geometry.{Geometry}
 use Rattle.draid_rack.specs.declared.Rack as racks
 use Rattle.draid_area.specs.declared.Area as areas
 use Rattle.draid_block.specs.Blocks.{BlockValue}
-use Rattle.draid_machine.specs.declared.names.Key.{Key}
 use Rattle.draid_entries.specs.Maps.{key_of}
 use Rattle.draid_blocks.specs.declared.ticket.Ticket.{Ticket}
 use Rattle.draid_session.specs.Holds.{Hold}
@@ -32,8 +31,8 @@ module _ {R A S : Type 0} (rack : racks.Ghosts R) (area : areas.Ghosts A) (went 
     (one : LeadsBy rack area went shared s0 s1 x (λ holds store. (store ≡ x.store) × BeginsIn x.geometry m floor first.pointer block.bytes holds) (KnowsOpen rack area owns l1 table seq floor m first block))
     (two : PutsBy rack area went shared owns owns l1 l2 s1 s2 m first ticket block x.geometry.g)
     (three : (y : State) → KnowsOpen rack area owns l2 table seq floor m ticket block y
-        → LeadsBy rack area went shared s2 s3 y (λ holds store. EndsIn m (key_of ticket.pointer) ticket.missed holds × (y.geometry.spec.parity < ticket.missed) × (store ≡ store_without y.store ticket.pointer.birth))
-        (Knows rack area owns l3 table (seq + 1) ticket.pointer.birth)) where
+    → LeadsBy rack area went shared s2 s3 y (λ holds store. EndsIn m (key_of ticket.pointer) ticket.missed holds × (y.geometry.spec.parity < ticket.missed) × (store ≡ store_without y.store ticket.pointer.birth))
+    (Knows rack area owns l3 table (seq + 1) ticket.pointer.birth)) where
   abbrev BeginsAlone : List Hold → Store → Type 0
   BeginsAlone holds store = (store ≡ x.store) × BeginsIn x.geometry m floor first.pointer block.bytes holds
 
@@ -58,8 +57,8 @@ module _ {R A S : Type 0} (rack : racks.Ghosts R) (area : areas.Ghosts A) (went 
   rest y layout store_is known =
       leads_then rack area went shared s1 s2 s3 y (PutsSome first m x.geometry.g y) Carried Ends Behind (two table seq floor y known)
       (λ u u_layout perms front done carried.
-          subst (λ (t : Geometry × Store). LeadsBy rack area went shared s2 s3 u (λ holds store. EndsIn m (key_of ticket.pointer) ticket.missed holds × (t.0.spec.parity < ticket.missed) × (store ≡ store_without t.1 ticket.pointer.birth)) Behind)
-          (λ i. ((u_layout ∙ layout) i, (done.0 ∙ store_is) i)) (three u carried))
+      subst (λ (t : Geometry × Store). LeadsBy rack area went shared s2 s3 u (λ holds store. EndsIn m (key_of ticket.pointer) ticket.missed holds × (t.0.spec.parity < ticket.missed) × (store ≡ store_without t.1 ticket.pointer.birth)) Behind)
+      (λ i. ((u_layout ∙ layout) i, (done.0 ∙ store_is) i)) (three u carried))
 
   pub lost : LeadsBy rack area went shared s0 s3 x (WriteInDoes x m object block.bytes (Err (fault.Missed ticket.missed))) (Knows rack area owns l3 table (seq + 1) ticket.pointer.birth)
   lost = leads_as rack area went shared s0 s3 x (Both rack area went shared s0 s1 s3 x BeginsAlone (KnowsOpen rack area owns l1 table seq floor m first block) RestDoes Behind) (WriteInDoes x m object block.bytes (Err (fault.Missed ticket.missed))) Behind
@@ -74,7 +73,7 @@ module _ {R A S : Type 0} (rack : racks.Ghosts R) (area : areas.Ghosts A) (went 
       })
       (leads_then rack area went shared s0 s1 s3 x BeginsAlone (KnowsOpen rack area owns l1 table seq floor m first block) RestDoes Behind one
       (λ y layout perms front done known. leads_as rack area went shared s1 s3 y (Both rack area went shared s1 s2 s3 y (PutsSome first m x.geometry.g y) Carried Ends Behind) RestDoes Behind
-          (λ holds store d. record { puts = d.front; end = d.back; are = d.are; columns = d.first.1; ends = d.second }) (rest y layout done.0 known)))
+      (λ holds store d. record { puts = d.front; end = d.back; are = d.are; columns = d.first.1; ends = d.second }) (rest y layout done.0 known)))
     where
       key_is : key_of first.pointer ≡ record { object = object; seq = x.store.seq + 1 }
       key_is = λ i. record { object = object_is i; seq = (seq_is ∙ ap (λ n. n + 1) (sym x_seq)) i }

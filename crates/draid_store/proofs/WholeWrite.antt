@@ -1,22 +1,19 @@
 -- A whole write by one thread, of its parts.
-use Rattle.std.proofs.Common.{◌≡◌, ◌≤◌, ◌+◌, ◌++◌, ◌∙◌, arith, ℕ, Bool, List, [], ◌∷◌, Option, Some, None, Ok, refl, sym, ap, subst, length}
-use Rattle.sha2.specs.Sha256.{sha256}
+use Rattle.std.proofs.Common.{◌≡◌, ◌≤◌, ◌+◌, ◌++◌, ◌∙◌, ℕ, Bool, List, [], ◌∷◌, Option, Some, None, Ok, refl, sym, ap, subst}
 use Rattle.draid_names.specs.declared.pointer.Pointer.{Pointer}
 use Rattle.draid_spec.specs.declared.layout.Geometry.{Geometry}
 use Rattle.draid_rack.specs.declared.Rack as racks
 use Rattle.draid_area.specs.declared.Area as areas
 use Rattle.draid_block.specs.Blocks.{BlockValue}
-use Rattle.draid_machine.specs.declared.names.Key.{Key}
 use Rattle.draid_machine.specs.declared.event.Event.TheVariants as event
 use Rattle.draid_objects.specs.Changes.{Write, Wrote, write_of}
 use Rattle.draid_entries.specs.Maps.{key_of}
-use Rattle.draid_blocks.specs.Tickets.{begins}
 use Rattle.draid_blocks.specs.declared.ticket.Ticket.{Ticket}
-use Rattle.draid_session.specs.Holds.{Did, Hold, On, View}
+use Rattle.draid_session.specs.Holds.{Did, Hold, On}
 use Rattle.draid_session.specs.State.{State, Store}
 use Rattle.draid_session.specs.Writes.{FreesEarlier, PutsColumns, WritesBlock}
 use Rattle.draid_session.specs.Writes as written
-use Rattle.draid_store.specs.Answers.{WriteInDoes, WritesIn}
+use Rattle.draid_store.specs.Answers.{WriteInDoes}
 use Rattle.draid_store.specs.Storing.{StoresIn, store_with}
 use Rattle.draid_store.specs.Putting.{PutsBy, PutsSome}
 use Rattle.draid_pool.specs.Threads.{Knows, LeadsBy}
@@ -60,8 +57,8 @@ module _ {R A S : Type 0} (rack : racks.Ghosts R) (area : areas.Ghosts A) (went 
     (one : LeadsBy rack area went shared s0 s1 x (λ holds store. (store ≡ x.store) × BeginsIn x.geometry m floor first.pointer block.bytes holds) (KnowsOpen rack area owns l1 table seq floor m first block))
     (two : PutsBy rack area went shared owns owns l1 l2 s1 s2 m first ticket block x.geometry.g)
     (three : (y : State) → y.geometry ≡ x.geometry → KnowsOpen rack area owns l2 table seq floor m ticket block y
-        → LeadsBy rack area went shared s2 s3 y (λ holds store. EndsIn m (key_of ticket.pointer) ticket.missed holds × (ticket.missed ≤ y.geometry.spec.parity) × (store ≡ store_with y.store ticket.pointer.object m ticket.pointer.birth block.bytes))
-        (KnowsReplaced rack area owns l3 then_table (seq + 1) ticket.pointer.birth (table ticket.pointer.object) (write_of y.store.changes ticket.pointer.object))) where
+    → LeadsBy rack area went shared s2 s3 y (λ holds store. EndsIn m (key_of ticket.pointer) ticket.missed holds × (ticket.missed ≤ y.geometry.spec.parity) × (store ≡ store_with y.store ticket.pointer.object m ticket.pointer.birth block.bytes))
+    (KnowsReplaced rack area owns l3 then_table (seq + 1) ticket.pointer.birth (table ticket.pointer.object) (write_of y.store.changes ticket.pointer.object))) where
   abbrev BeginsAlone : List Hold → Store → Type 0
   BeginsAlone holds store = (store ≡ x.store) × BeginsIn x.geometry m floor first.pointer block.bytes holds
 
@@ -91,15 +88,15 @@ module _ {R A S : Type 0} (rack : racks.Ghosts R) (area : areas.Ghosts A) (went 
   rest y layout store_is known =
       leads_then rack area went shared s1 s2 s3 y (PutsSome first m x.geometry.g y) Carried (Ends x.store) (Replaced x.store) (two table seq floor y known)
       (λ u u_layout perms front done carried.
-          subst (λ (t : Geometry × Store). LeadsBy rack area went shared s2 s3 u (λ holds store. EndsIn m (key_of ticket.pointer) ticket.missed holds × (ticket.missed ≤ t.0.spec.parity) × (store ≡ store_with t.1 ticket.pointer.object m ticket.pointer.birth block.bytes)) (Replaced t.1))
-          (λ i. ((u_layout ∙ layout) i, (done.0 ∙ store_is) i)) (three u (u_layout ∙ layout) carried))
+      subst (λ (t : Geometry × Store). LeadsBy rack area went shared s2 s3 u (λ holds store. EndsIn m (key_of ticket.pointer) ticket.missed holds × (ticket.missed ≤ t.0.spec.parity) × (store ≡ store_with t.1 ticket.pointer.object m ticket.pointer.birth block.bytes)) (Replaced t.1))
+      (λ i. ((u_layout ∙ layout) i, (done.0 ∙ store_is) i)) (three u (u_layout ∙ layout) carried))
 
   pub stored : LeadsBy rack area went shared s0 s3 x (StoresIn x m object first.pointer.birth block.bytes) (Replaced x.store)
   stored = leads_as rack area went shared s0 s3 x (Both rack area went shared s0 s1 s3 x BeginsAlone (KnowsOpen rack area owns l1 table seq floor m first block) RestDoes (Replaced x.store)) (StoresIn x m object first.pointer.birth block.bytes) (Replaced x.store)
       (λ holds store done. made done.front done.back done.mid holds store done.are done.first done.second)
       (leads_then rack area went shared s0 s1 s3 x BeginsAlone (KnowsOpen rack area owns l1 table seq floor m first block) RestDoes (Replaced x.store) one
       (λ y layout perms front done known. leads_as rack area went shared s1 s3 y (Both rack area went shared s1 s2 s3 y (PutsSome first m x.geometry.g y) Carried (Ends x.store) (Replaced x.store)) RestDoes (Replaced x.store)
-          (λ holds store d. record { puts = d.front; end = d.back; are = d.are; columns = d.first.1; ends = d.second }) (rest y layout done.0 known)))
+      (λ holds store d. record { puts = d.front; end = d.back; are = d.are; columns = d.first.1; ends = d.second }) (rest y layout done.0 known)))
     where
       made : (front back : List Hold) (mid : Store) (holds : List Hold) (store : Store) → holds ≡ front ++ back → BeginsAlone front mid → RestDoes back store → StoresIn x m object first.pointer.birth block.bytes holds store
       made front back mid holds store are b r = record {
@@ -172,12 +169,12 @@ module _ {R A S : Type 0} (rack : racks.Ghosts R) (area : areas.Ghosts A) (went 
       })
       (leads_then rack area went shared s0 s3 s4 x (StoresIn x m object first.pointer.birth block.bytes) (Replaced x.store) FreesDoes (Knows rack area owns l4 then_table (seq + 1) group) stored
       (λ y layout perms front done replaced.
-          let k = subst (λ o. KnowsReplaced rack area owns l3 then_table (seq + 1) ticket.pointer.birth o (write_of x.store.changes ticket.pointer.object) y) some replaced in
-          leads_as rack area went shared s3 s4 y (λ holds store. written.FreesBlock k.0 ticket.pointer.birth group holds × (store ≡ record y.store { floor = group })) FreesDoes (Knows rack area owns l4 then_table (seq + 1) group)
-          (λ holds store d. (
-            k.0,
-            ap (write_of x.store.changes) (sym (ap (λ (p : Pointer). p.object) same ∙ object_is)) ∙ k.1,
-            subst (λ n. written.FreesBlock k.0 n group holds) (ap (λ (p : Pointer). p.birth) same) d.0,
-            d.1 ∙ ap (λ (s : Store). record s { floor = group }) done.made,
-          ))
-          (frees y k.0 k.2)))
+      let k = subst (λ o. KnowsReplaced rack area owns l3 then_table (seq + 1) ticket.pointer.birth o (write_of x.store.changes ticket.pointer.object) y) some replaced in
+      leads_as rack area went shared s3 s4 y (λ holds store. written.FreesBlock k.0 ticket.pointer.birth group holds × (store ≡ record y.store { floor = group })) FreesDoes (Knows rack area owns l4 then_table (seq + 1) group)
+      (λ holds store d. (
+        k.0,
+        ap (write_of x.store.changes) (sym (ap (λ (p : Pointer). p.object) same ∙ object_is)) ∙ k.1,
+        subst (λ n. written.FreesBlock k.0 n group holds) (ap (λ (p : Pointer). p.birth) same) d.0,
+        d.1 ∙ ap (λ (s : Store). record s { floor = group }) done.made,
+      ))
+      (frees y k.0 k.2)))

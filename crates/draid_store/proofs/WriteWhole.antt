@@ -1,7 +1,5 @@
 -- What a thread has stays whole through a write of its own, hold by hold.
-use Rattle.std.proofs.Common.{◌≡◌, ◌==◌, ◌≤◌, ◌+◌, ◌∙◌, ◌⊎◌, inl, inr, arith, ℕ, Bool, true, false, Option, Some, None, Result, Ok, Err, max, refl, sym, ap, subst, if◌then◌else◌}
-use mathlib.Core.Logic.{dite}
-use native.Mathlib.Decide.{ℕ_discrete}
+use Rattle.std.proofs.Common.{◌≡◌, ◌==◌, ◌≤◌, ◌+◌, ◌∙◌, inl, arith, ℕ, Bool, true, Option, Some, None, Result, Ok, Err, refl, sym, ap, subst, if◌then◌else◌}
 use Rattle.std.proofs.lemmas.Bool.{true≢false}
 use Rattle.draid_names.specs.declared.numbers.TheConstants.{LAST_NUMBER}
 use Rattle.draid_names.specs.declared.pointer.Pointer.{Pointer}
@@ -11,9 +9,9 @@ use Rattle.draid_block.specs.Blocks.{BlockValue}
 use Rattle.draid_machine.specs.declared.names.Key.{Key}
 use Rattle.draid_machine.specs.declared.names.Stage.TheVariants as stage
 use Rattle.draid_machine.specs.Names.{is_block, key_eq}
-use Rattle.draid_machine.proofs.Small.{equal, key_refl, key_true, none_some}
+use Rattle.draid_machine.proofs.Small.{equal, key_refl}
 use Rattle.draid_entries.specs.declared.entry.Entry.{Entry}
-use Rattle.draid_entries.specs.Entries.{SetsEntry, begun, entry_at, held_in}
+use Rattle.draid_entries.specs.Entries.{SetsEntry, begun, entry_at}
 use Rattle.draid_entries.specs.Maps.{key_of, staged}
 use Rattle.draid_blocks.specs.declared.fault.BeginFault.{BeginFault}
 use Rattle.draid_blocks.specs.declared.fault.Missed.{Missed}
@@ -23,14 +21,14 @@ use Rattle.draid_shard.specs.Fits.{Valid}
 use Rattle.draid_shard.specs.Looks.{IsLive}
 use Rattle.draid_shard.specs.States.{part_of}
 use Rattle.draid_shard.specs.declared.shard.Shard.{Shard}
-use Rattle.draid_pool.specs.Drifts.{Drifts, KeepsOf, groups_number}
+use Rattle.draid_pool.specs.Drifts.{Drifts, groups_number}
 use Rattle.draid_pool.specs.Threads.{AllStay, HasPointer, IsHeldBy, IsWholeBut, IsWholeBy, all_of, but}
 use Rattle.draid_store.specs.Putting.{BeginRefusedBy, BeginsWhole, EndsWhole}
 use Rattle.draid_store.specs.Writing.{BeginsShard, FinishesShard, PutsShard}
-use Rattle.draid_pool.proofs.HeldBy.{FitsAt, held_drifts, held_set, stay_held, whole_on}
+use Rattle.draid_pool.proofs.HeldBy.{held_drifts, held_set, stay_held, whole_on}
 use Rattle.draid_pool.proofs.Hiding.{but_away, but_here, but_inside}
 use Rattle.draid_pool.proofs.Lists.{some_of}
-use Rattle.draid_pool.proofs.ShardSteps.{at_here, pointer_on}
+use Rattle.draid_pool.proofs.ShardSteps.{at_here}
 use Rattle.draid_pool.proofs.Wholes.{open_high, open_low}
 use Rattle.draid_store.proofs.FreeKeeps.{same_groups}
 use Rattle.draid_store.proofs.Lively.{live_begin, live_end, live_put}
@@ -83,12 +81,12 @@ module _ {R A : Type 0} (rack : racks.Ghosts R) (area : areas.Ghosts A) (shared 
       (record { numbered = λ e e_is seen. absurd (hidden owns m (key_of ticket.pointer) seen); settled = λ e e_is seen. absurd (hidden owns m (key_of ticket.pointer) seen) }))
       (λ n k not seen. but_inside (all_of owns) m (key_of ticket.pointer) n k seen) (omega arith)
       (λ own.
-          let up = whole.next m shard own there in
-          let drift = (drifts.groups own).committed in
-          let same = g.committed in
-          let high = open_low before.open_group before.closing before.committed before.sealed drifts.valid.groups in
-          let birth = b.did.1.opens.named.birth_is in
-          omega (arith, up, drift, same, high, birth))
+      let up = whole.next m shard own there in
+      let drift = (drifts.groups own).committed in
+      let same = g.committed in
+      let high = open_low before.open_group before.closing before.committed before.sealed drifts.valid.groups in
+      let birth = b.did.1.opens.named.birth_is in
+      omega (arith, up, drift, same, high, birth))
       (let birth = b.did.1.opens.named.birth_is in let low = b.did.1.low in omega (arith, birth, low))
       (λ q live. live_begin rack area before after object (seq + 1) floor block (Some (Ok ticket)) q drifts.valid b live)
     where

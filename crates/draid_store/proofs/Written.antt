@@ -1,54 +1,27 @@
 -- What the blocks store as a block comes, or as a write is given up.
-use Rattle.std.proofs.Common.{◌≡◌, ◌==◌, ◌≤◌, ◌<◌, ◌+◌, ◌++◌, ◌⊎◌, ◌∙◌, inl, inr, ℕ, Bool, true, false, List, [], ◌∷◌, Option, Some, Ok, Err, arith, refl, sym, ap, subst, slice_set, slice_index_or, if◌then◌else◌}
-use Rattle.std.specs.Prelude.{slice_get, nat_eq}
-use Rattle.std.specs.HashMap.{get}
-use Rattle.std.proofs.lemmas.Option.{get_or_from_slice_get}
+use Rattle.std.proofs.Common.{◌≡◌, ◌==◌, ◌≤◌, ◌+◌, ◌⊎◌, ◌∙◌, inl, inr, ℕ, Bool, true, false, ◌∷◌, Option, Some, arith, refl, sym, ap, subst}
 use Rattle.std.proofs.lemmas.Bool.{cases_eq}
 use Rattle.sha2.specs.Sha256.{sha256}
-use Rattle.draid_names.specs.declared.pointer.Pointer.{Pointer}
-use Rattle.draid_names.specs.declared.refusal.WriteFault.TheVariants as fault
 use Rattle.draid_spec.specs.declared.layout.Geometry.{Geometry}
-use Rattle.draid_rack.specs.declared.Rack as racks
-use Rattle.draid_area.specs.declared.Area as areas
 use Rattle.draid_machine.specs.declared.names.Held.{Held}
 use Rattle.draid_machine.specs.declared.names.Key.{Key}
 use Rattle.draid_machine.specs.declared.names.Stage.TheVariants as stage
 use Rattle.draid_machine.specs.Names.{is_block, key_eq}
-use Rattle.draid_machine.specs.After.{set_held}
 use Rattle.draid_machine.proofs.Small.{equal, is_equal, key_refl, key_true}
 use Rattle.draid_segments.specs.Segments.{Pieces}
 use Rattle.draid_objects.specs.Blocks.{Blocks, Sets}
 use Rattle.draid_objects.specs.Changes as changes
 use Rattle.draid_objects.specs.Changes.{Write, Wrote, write_by, write_of}
 use Rattle.draid_objects.specs.Stores.{IsBlockOf}
-use Rattle.draid_objects.proofs.Finding.{by_other, by_own, changes_it, other_changes, write_key, write_object}
+use Rattle.draid_objects.proofs.Finding.{by_other, by_own, changes_it, other_changes, write_key}
 use Rattle.draid_objects.proofs.Keeping.{floor_up, written, written_floor}
-use Rattle.draid_objects.proofs.One.{one_set}
 use Rattle.draid_objects.proofs.Sealing.{set_cases}
-use Rattle.draid_entries.specs.Maps.{held_at, key_of, staged}
-use Rattle.draid_shard.specs.Part.{Part}
-use Rattle.draid_shard.specs.declared.shard.Shard.{Shard}
-use Rattle.draid_session.specs.Follows as follows
-use Rattle.draid_session.specs.Follows.{Follows, UberActs}
-use Rattle.draid_session.specs.Holds.{Committed, CommitFailed, CommitStarved, Hold, LookedUber, NextLeaf, On, OnUber, UberAct}
-use Rattle.draid_session.specs.State.{Metaslab, State, Store}
-use Rattle.draid_session.specs.Writes.{WritesBlock}
-use Rattle.draid_store.specs.Answers.{WriteInDoes}
-use Rattle.draid_pool.specs.Carries.{CarriesOut}
-use Rattle.draid_pool.specs.Metaslabs.{IsMetaslab}
-use Rattle.draid_pool.specs.Objects.{HasPieces, HoldsObjects, IsLastAt, IsPointerOf, PointsTo, blocks_of, worlds_of}
-use Rattle.draid_pool.specs.Pools.{Awaits, Represents, Stands, part_in}
+use Rattle.draid_session.specs.State.{Store}
+use Rattle.draid_pool.specs.Objects.{HasPieces, HoldsObjects, IsLastAt}
 use Rattle.draid_store.specs.Shards.{SamePieces}
-use Rattle.draid_pool.specs.declared.pool.Pool.{Pool}
 use Rattle.draid_pool.proofs.Entering.{OnlyLast}
-use Rattle.draid_pool.proofs.Lists.{ext, get_set_same, set_back, some_of}
-use Rattle.draid_pool.proofs.Lives.{held_by}
-use Rattle.draid_shard.specs.Looks.{IsLive}
-use Rattle.draid_objects.proofs.Imaging.{last_live}
 use Rattle.std.proofs.lemmas.Bool.Decides.{nat_tests}
-use Rattle.draid_pool.proofs.Imaged.{keeps_same}
-use Rattle.draid_pool.proofs.Moved.{Turned, blocks_at, follows_one, moves_one, pointer_on, same_blocks, stands_turned, turn, turn_back, turn_here, turn_other, with_metaslab}
-use Rattle.draid_pool.proofs.Steps.{follows_both}
+use Rattle.draid_pool.proofs.Moved.{turn, turn_here, turn_other}
 use Rattle.draid_pool.proofs.Owning.{pieces_on}
 
 differs : (object o : ℕ) → (o == object) ≡ false → (object == o) ≡ false

@@ -1,5 +1,5 @@
 -- The block that an object had before is freed.
-use Rattle.std.specs.Prelude.{◌≡◌, ◌≤◌, ℕ, Bool, true, false, List, Option, Some, None}
+use Rattle.std.specs.Prelude.{◌≡◌, ℕ, Bool, false, Option, Some, None}
 use Rattle.draid_machine.specs.Names.{key_eq}
 use Rattle.draid_entries.specs.Maps.{key_of}
 use Rattle.draid_names.specs.declared.pointer.Pointer.{Pointer}

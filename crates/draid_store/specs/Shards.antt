@@ -1,24 +1,15 @@
 -- What becomes of one metaslab as a sector is damaged there; and what the shards of a pool say of their room.
-use Rattle.std.specs.Prelude.{◌≡◌, ◌≤◌, ◌<◌, ℕ, Bool, true, false, List, [], ◌∷◌, Option, Some, Result, Ok, Err, length, max, slice_get}
+use Rattle.std.specs.Prelude.{◌≡◌, ℕ, Bool, true, false, List, [], ◌∷◌, Option, Some, Result, Ok, Err, slice_get}
 use Rattle.std.specs.List.{AllZip}
-use Rattle.sha2.specs.Sha256.{sha256}
-use Rattle.draid_names.specs.declared.pointer.Pointer.{Pointer}
 use Rattle.draid_names.specs.declared.room.Room.{Room}
-use Rattle.draid_names.specs.declared.numbers.TheConstants.{LAST_NUMBER}
 use Rattle.draid_names.specs.declared.refusal.WriteFault.{WriteFault}
 use Rattle.draid_names.specs.declared.refusal.WriteFault.TheVariants as fault
-use Rattle.draid_rack.specs.declared.Rack as racks
-use Rattle.draid_area.specs.declared.Area as areas
 use Rattle.draid_machine.specs.declared.names.Key.{Key}
-use Rattle.draid_machine.specs.declared.names.Stage.TheVariants.{Live}
 use Rattle.draid_machine.specs.declared.event.Event.TheVariants as event
 use Rattle.draid_machine.specs.Names.{key_eq}
 use Rattle.draid_machine.specs.State as machine
 use Rattle.draid_segments.specs.Segments.{Pieces}
-use Rattle.draid_entries.specs.Maps.{held_at, key_of, staged}
-use Rattle.draid_shard.specs.Looks.{IsLive}
 use Rattle.draid_shard.specs.Rooms.{IsRoom, ShutBy}
-use Rattle.draid_shard.specs.Changes.{KeepsBlocks}
 use Rattle.draid_shard.specs.Part.{Part}
 use Rattle.draid_shard.specs.States.{IsIn}
 use Rattle.draid_shard.specs.declared.fault.Shut.{Shut}
@@ -30,12 +21,9 @@ use Rattle.draid_session.specs.Looks.{CountIs}
 use Rattle.draid_session.specs.Rooms.{longest}
 use Rattle.draid_session.specs.State.{Metaslab}
 use Rattle.draid_session.specs.Worn.{ReservesWorn}
-use Rattle.draid_session.specs.Writes.{WritesBlock}
-use Rattle.draid_pool.specs.Metaslabs.{IsMetaslab}
-use Rattle.draid_pool.specs.Objects.{HasPieces}
 use Rattle.draid_store.specs.declared.fault.DamageFault.{DamageFault}
 use Rattle.draid_store.specs.declared.fault.DamageFault.TheVariants as damage
-use Rattle.draid_pool.specs.Shards.{Goes, HasRoom, StoresBlock, DropsBlock}
+use Rattle.draid_pool.specs.Shards.{HasRoom}
 
 -- the room that a shard has for a block of so many stripes
 pub record RoomIs {R A : Type 0} (need : ℕ) (shard : Shard R A) (room : Room) : Type 0 where

@@ -5,7 +5,6 @@ use Rattle.draid_names.specs.declared.refusal.WriteFault.TheVariants as fault
 use Rattle.draid_rack.specs.declared.Rack as racks
 use Rattle.draid_area.specs.declared.Area as areas
 use Rattle.draid_block.specs.Blocks.{BlockValue}
-use Rattle.draid_blocks.specs.declared.fault.BeginFault.{BeginFault}
 use Rattle.draid_objects.specs.Changes.{Wrote, write_of}
 use Rattle.draid_session.specs.Holds.{Hold}
 use Rattle.draid_session.specs.Looks.{OnlyLooks}

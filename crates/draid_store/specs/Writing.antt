@@ -19,14 +19,13 @@ use Rattle.draid_shard.specs.Fits.{Valid}
 use Rattle.draid_shard.specs.Rooms.{IsWornFor, block_events}
 use Rattle.draid_shard.specs.States.{Does, IsIn, part_of}
 use Rattle.draid_shard.specs.declared.shard.Shard.{Shard}
-use Rattle.draid_blocks.specs.Tickets.{BeginRefused, Carries, IsNewWrite, IsOpen, Opens, Puts, begins}
+use Rattle.draid_blocks.specs.Tickets.{BeginRefused, Carries, IsNewWrite, Opens, Puts, begins}
 use Rattle.draid_blocks.specs.declared.fault.BeginFault.{BeginFault}
 use Rattle.draid_blocks.specs.declared.fault.Missed.{Missed}
 use Rattle.draid_blocks.specs.declared.ticket.Ticket.{Ticket}
 use Rattle.draid_session.specs.Holds.{Did, Hold, On, View}
 use Rattle.draid_session.specs.Rooms.{IsShut, stripes_for}
 use Rattle.draid_session.specs.Writes.{HasMissed}
-use Rattle.draid_store.specs.Frees.{IsEarly}
 
 module _ {R A : Type 0} (rack : racks.Ghosts R) where
   -- ---- its beginning

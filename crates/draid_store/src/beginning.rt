@@ -42,13 +42,7 @@ impl<'a, R: Rack, A: Area> Act<Shard<R, A>> for BeginOp<'a> {
         if self.floor > shard.open_group + 1 {
             return;
         }
-        self.out = Some(draid_blocks::begin(
-            shard,
-            self.object,
-            self.seq,
-            self.block,
-            self.floor,
-        ));
+        self.out = Some(draid_blocks::begin(shard, self.object, self.seq, self.block, self.floor));
     }
 }
 

@@ -165,7 +165,14 @@ fn write_in<R: Rack, A: Area>(
         return Err(WriteFault::NoMemory);
     }
     let columns = pool.geometry.g;
-    match write_block(&mut pool.metaslabs, &mut pool.own, metaslab, columns, object, block) {
+    match write_block(
+        &mut pool.metaslabs,
+        &mut pool.own,
+        metaslab,
+        columns,
+        object,
+        block,
+    ) {
         Some(Ok(None)) => Ok(()),
         Some(Err(StoreFault::Missed(Missed { columns }))) => Err(WriteFault::Missed { columns }),
         Some(Err(StoreFault::Refused(why))) => Err(refused(why)),

@@ -1,4 +1,4 @@
-use Rattle.std.proofs.Common.{◌≡◌, ◌≤◌, ◌+◌, ◌∙◌, sym, ap, subst}
+use Rattle.std.proofs.Common.{◌≤◌, ◌+◌, ◌∙◌, sym, ap, subst}
 use Rattle.draid_store.specs.Putting.{BeginSays}
 use Rattle.draid_pool.proofs.Holding.{some_same}
 use Rattle.draid_pool.proofs.Lists.{some_of}

@@ -1,8 +1,5 @@
-use Rattle.std.proofs.Common.{◌≡◌, ◌∙◌, Option, Some, None, MatchOption, Result, Ok, Err, sym, ap, subst}
-use Rattle.draid_names.specs.declared.pointer.Pointer.{Pointer}
-use Rattle.draid_blocks.specs.declared.fault.Missed.{Missed}
+use Rattle.std.proofs.Common.{◌∙◌, sym, ap, subst}
 use Rattle.draid_store.specs.Putting.{EndSays}
-use Rattle.draid_store.specs.Writing.{FinishesShard}
 use Rattle.draid_store.proofs.Ended.{ended_pointer, keeps_ended, some_ended}
 use Rattle.draid_pool.proofs.Holding.{some_same}
 use Rattle.draid_store.proofs.OpenKeeps.{may_finish}

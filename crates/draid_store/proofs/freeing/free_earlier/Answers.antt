@@ -1,4 +1,4 @@
-use Rattle.std.proofs.Common.{◌≡◌, ◌∙◌, sym, ap, subst}
+use Rattle.std.proofs.Common.{◌∙◌, sym, ap, subst}
 use Rattle.draid_store.specs.Freeing.{EarlierSays}
 use Rattle.draid_pool.proofs.HeldBy.{stay_held}
 use Rattle.draid_pool.proofs.Holding.{some_same}

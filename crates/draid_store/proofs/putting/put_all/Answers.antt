@@ -1,6 +1,6 @@
-use Rattle.std.proofs.Common.{◌≡◌, ◌∙◌, ◌==◌, ◌+◌, ◌<◌, ℕ, true, Option, Some, arith, refl, sym, ap, subst, if◌then◌else◌}
+use Rattle.std.proofs.Common.{◌≡◌, ◌∙◌, ◌+◌, arith, refl, sym, ap, subst}
 use Rattle.draid_names.specs.declared.pointer.Pointer.{Pointer}
-use Rattle.draid_store.specs.Putting.{CarriesAt, PutsBy}
+use Rattle.draid_store.specs.Putting.{PutsBy}
 use Rattle.draid_store.specs.Writing.{MayPutIn, PutsShard}
 use Rattle.draid_pool.proofs.Holding.{some_same}
 use Rattle.draid_entries.specs.Maps.{key_of}
@@ -83,4 +83,4 @@ returns-clause-step g c =
     let done = c.columns-test.false in
     let all : c.columns._column ≡ c.args.columns = omega (arith, below, done) in
     subst (λ n. PutsBy g.R.Rack g.A.Area g.M.Metaslabs.went g.M.Metaslabs.shared (g.M.Metaslabs.owns c.args.metaslabs.now) (g.M.Metaslabs.owns c.columns.metaslabs) (g.M.Metaslabs.last c.args.metaslabs.now) (g.M.Metaslabs.last c.columns.metaslabs)
-        c.args.metaslabs.now c.columns.metaslabs c.args.metaslab c.args.ticket c.columns.op.ticket c.args.block.now n) all i.step
+    c.args.metaslabs.now c.columns.metaslabs c.args.metaslab c.args.ticket c.columns.op.ticket c.args.block.now n) all i.step

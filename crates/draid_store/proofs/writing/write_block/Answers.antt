@@ -1,7 +1,6 @@
-use Rattle.std.proofs.Common.{◌≡◌, ◌∙◌, ℕ, Option, Some, None, Result, Ok, Err, ap, sym, subst}
+use Rattle.std.proofs.Common.{◌≡◌, ◌∙◌, Some, None, Ok, Err, ap, sym, subst}
 use Rattle.std.specs.Prelude.{nat_eq}
 use Rattle.std.specs.HashMap.{get}
-use Rattle.draid_names.specs.declared.pointer.Pointer.{Pointer}
 use Rattle.draid_pool.specs.Drifts.{groups_number}
 use Rattle.draid_pool.specs.Threads.{AllStay, HasPointer, IsWholeBy}
 use Rattle.draid_store.specs.Freeing.{EarlierWhole}
@@ -22,7 +21,7 @@ returns-in-Some-Ok-None g c =
       whole = e.whole;
       sets = subst (StoreSetsTable c.args.object c.args.block.now.bytes (λ o. get nat_eq c.args.own.now.objects o) (λ o. get nat_eq c.store_block.new.own.objects o)) none e.sets;
       says = same_first g.R.Rack g.A.Area g.M.Metaslabs.went g.M.Metaslabs.shared (g.M.Metaslabs.owns c.args.metaslabs.now) (g.M.Metaslabs.owns c.store_block.new.metaslabs) (g.M.Metaslabs.last c.args.metaslabs.now) (g.M.Metaslabs.last c.store_block.new.metaslabs) c.args.metaslabs.now c.store_block.new.metaslabs c.args.metaslab c.args.columns c.args.object
-    (λ o. get nat_eq c.args.own.now.objects o) (λ o. get nat_eq c.store_block.new.own.objects o) c.args.own.now.seq c.args.own.now.floor c.store_block.new.own.seq c.store_block.new.own.floor c.args.block.now c.store_block.result none e.says;
+          (λ o. get nat_eq c.args.own.now.objects o) (λ o. get nat_eq c.store_block.new.own.objects o) c.args.own.now.seq c.args.own.now.floor c.store_block.new.own.seq c.store_block.new.own.floor c.args.block.now c.store_block.result none e.says;
       refused = tt;
       served = λ own. tt;
     }
@@ -39,7 +38,7 @@ returns-in-Some-Err g c =
       whole = e.whole;
       sets = subst (StoreSetsTable c.args.object c.args.block.now.bytes (λ o. get nat_eq c.args.own.now.objects o) (λ o. get nat_eq c.store_block.new.own.objects o)) fault e.sets;
       says = same_err g.R.Rack g.A.Area g.M.Metaslabs.went g.M.Metaslabs.shared (g.M.Metaslabs.owns c.args.metaslabs.now) (g.M.Metaslabs.owns c.store_block.new.metaslabs) (g.M.Metaslabs.last c.args.metaslabs.now) (g.M.Metaslabs.last c.store_block.new.metaslabs) c.args.metaslabs.now c.store_block.new.metaslabs c.args.metaslab c.args.columns c.args.object
-    (λ o. get nat_eq c.args.own.now.objects o) (λ o. get nat_eq c.store_block.new.own.objects o) c.args.own.now.seq c.args.own.now.floor c.store_block.new.own.seq c.store_block.new.own.floor c.args.block.now c.store_block.result c.in-Some-Err.why fault e.says;
+          (λ o. get nat_eq c.args.own.now.objects o) (λ o. get nat_eq c.store_block.new.own.objects o) c.args.own.now.seq c.args.own.now.floor c.store_block.new.own.seq c.store_block.new.own.floor c.args.block.now c.store_block.result c.in-Some-Err.why fault e.says;
       refused = subst (StoreRefusedBy g.R.Rack g.A.Area g.M.Metaslabs.shared (g.M.Metaslabs.owns c.args.metaslabs.now) (g.M.Metaslabs.last c.args.metaslabs.now) c.args.metaslab c.args.block.now) fault e.refused;
       served = λ own. tt;
     }
@@ -55,7 +54,7 @@ returns-in-None g c =
       whole = e.whole;
       sets = subst (StoreSetsTable c.args.object c.args.block.now.bytes (λ o. get nat_eq c.args.own.now.objects o) (λ o. get nat_eq c.store_block.new.own.objects o)) c.in-None.is e.sets;
       says = same_none g.R.Rack g.A.Area g.M.Metaslabs.went g.M.Metaslabs.shared (g.M.Metaslabs.owns c.args.metaslabs.now) (g.M.Metaslabs.owns c.store_block.new.metaslabs) (g.M.Metaslabs.last c.args.metaslabs.now) (g.M.Metaslabs.last c.store_block.new.metaslabs) c.args.metaslabs.now c.store_block.new.metaslabs c.args.metaslab c.args.columns c.args.object
-    (λ o. get nat_eq c.args.own.now.objects o) (λ o. get nat_eq c.store_block.new.own.objects o) c.args.own.now.seq c.args.own.now.floor c.store_block.new.own.seq c.store_block.new.own.floor c.args.block.now c.store_block.result c.in-None.is e.says;
+          (λ o. get nat_eq c.args.own.now.objects o) (λ o. get nat_eq c.store_block.new.own.objects o) c.args.own.now.seq c.args.own.now.floor c.store_block.new.own.seq c.store_block.new.own.floor c.args.block.now c.store_block.result c.in-None.is e.says;
       refused = tt;
       served = λ own. e.served own c.in-None.is;
     }
@@ -90,9 +89,9 @@ returns-in_default g c =
       whole = subst (λ o. IsWholeBy g.R.Rack o (g.M.Metaslabs.last c.free_earlier.new.metaslabs) (λ o. get nat_eq c.store_block.new.own.objects o) c.store_block.new.own.seq c.store_block.new.own.floor) e.owns
           (subst (EarlierWhole g.R.Rack (g.M.Metaslabs.owns c.store_block.new.metaslabs) (g.M.Metaslabs.last c.free_earlier.new.metaslabs) (λ o. get nat_eq c.store_block.new.own.objects o) c.store_block.new.own.seq c.store_block.new.own.floor) c.in_default.is (f.whole (λ o. get nat_eq c.store_block.new.own.objects o) c.store_block.new.own.seq whole back.apart));
       says = earlier_awaits g.R.Rack g.A.Area g.M.Metaslabs.went g.M.Metaslabs.shared (g.M.Metaslabs.owns c.args.metaslabs.now) (g.M.Metaslabs.owns c.store_block.new.metaslabs) (g.M.Metaslabs.last c.args.metaslabs.now) (g.M.Metaslabs.last c.store_block.new.metaslabs) c.args.metaslabs.now c.store_block.new.metaslabs c.args.metaslab c.args.columns c.args.object
-    (λ o. get nat_eq c.args.own.now.objects o) (λ o. get nat_eq c.store_block.new.own.objects o) c.args.own.now.seq c.args.own.now.floor c.store_block.new.own.seq c.store_block.new.own.floor c.args.block.now
-    (g.M.Metaslabs.owns c.free_earlier.new.metaslabs) f.owns (g.M.Metaslabs.last c.free_earlier.new.metaslabs) c.free_earlier.new.metaslabs p (subst (StoreSays g.R.Rack g.A.Area g.M.Metaslabs.went g.M.Metaslabs.shared (g.M.Metaslabs.owns c.args.metaslabs.now) (g.M.Metaslabs.owns c.store_block.new.metaslabs) (g.M.Metaslabs.last c.args.metaslabs.now) (g.M.Metaslabs.last c.store_block.new.metaslabs) c.args.metaslabs.now c.store_block.new.metaslabs c.args.metaslab c.args.columns c.args.object
-    (λ o. get nat_eq c.args.own.now.objects o) (λ o. get nat_eq c.store_block.new.own.objects o) c.args.own.now.seq c.args.own.now.floor c.store_block.new.own.seq c.store_block.new.own.floor c.args.block.now) some e.says) c.free_earlier.result (λ t n y we k. f.says t n y we k) c.in_default.is;
+          (λ o. get nat_eq c.args.own.now.objects o) (λ o. get nat_eq c.store_block.new.own.objects o) c.args.own.now.seq c.args.own.now.floor c.store_block.new.own.seq c.store_block.new.own.floor c.args.block.now
+          (g.M.Metaslabs.owns c.free_earlier.new.metaslabs) f.owns (g.M.Metaslabs.last c.free_earlier.new.metaslabs) c.free_earlier.new.metaslabs p (subst (StoreSays g.R.Rack g.A.Area g.M.Metaslabs.went g.M.Metaslabs.shared (g.M.Metaslabs.owns c.args.metaslabs.now) (g.M.Metaslabs.owns c.store_block.new.metaslabs) (g.M.Metaslabs.last c.args.metaslabs.now) (g.M.Metaslabs.last c.store_block.new.metaslabs) c.args.metaslabs.now c.store_block.new.metaslabs c.args.metaslab c.args.columns c.args.object
+          (λ o. get nat_eq c.args.own.now.objects o) (λ o. get nat_eq c.store_block.new.own.objects o) c.args.own.now.seq c.args.own.now.floor c.store_block.new.own.seq c.store_block.new.own.floor c.args.block.now) some e.says) c.free_earlier.result (λ t n y we k. f.says t n y we k) c.in_default.is;
       refused = tt;
       served = λ own. f.served (λ o. get nat_eq c.store_block.new.own.objects o) c.store_block.new.own.seq whole (ap (λ o. o groups_number) e.owns ∙ own) c.in_default.is;
     }
@@ -115,9 +114,9 @@ returns g c =
       whole = subst (λ o. IsWholeBy g.R.Rack o (g.M.Metaslabs.last c.free_earlier.new.metaslabs) (λ o. get nat_eq c.store_block.new.own.objects o) c.store_block.new.own.seq c.in-Some.group) e.owns
           (subst (EarlierWhole g.R.Rack (g.M.Metaslabs.owns c.store_block.new.metaslabs) (g.M.Metaslabs.last c.free_earlier.new.metaslabs) (λ o. get nat_eq c.store_block.new.own.objects o) c.store_block.new.own.seq c.store_block.new.own.floor) c.in-Some.is (f.whole (λ o. get nat_eq c.store_block.new.own.objects o) c.store_block.new.own.seq whole back.apart));
       says = earlier_freed g.R.Rack g.A.Area g.M.Metaslabs.went g.M.Metaslabs.shared (g.M.Metaslabs.owns c.args.metaslabs.now) (g.M.Metaslabs.owns c.store_block.new.metaslabs) (g.M.Metaslabs.last c.args.metaslabs.now) (g.M.Metaslabs.last c.store_block.new.metaslabs) c.args.metaslabs.now c.store_block.new.metaslabs c.args.metaslab c.args.columns c.args.object
-    (λ o. get nat_eq c.args.own.now.objects o) (λ o. get nat_eq c.store_block.new.own.objects o) c.args.own.now.seq c.args.own.now.floor c.store_block.new.own.seq c.store_block.new.own.floor c.args.block.now
-    (g.M.Metaslabs.owns c.free_earlier.new.metaslabs) f.owns (g.M.Metaslabs.last c.free_earlier.new.metaslabs) c.free_earlier.new.metaslabs p (subst (StoreSays g.R.Rack g.A.Area g.M.Metaslabs.went g.M.Metaslabs.shared (g.M.Metaslabs.owns c.args.metaslabs.now) (g.M.Metaslabs.owns c.store_block.new.metaslabs) (g.M.Metaslabs.last c.args.metaslabs.now) (g.M.Metaslabs.last c.store_block.new.metaslabs) c.args.metaslabs.now c.store_block.new.metaslabs c.args.metaslab c.args.columns c.args.object
-    (λ o. get nat_eq c.args.own.now.objects o) (λ o. get nat_eq c.store_block.new.own.objects o) c.args.own.now.seq c.args.own.now.floor c.store_block.new.own.seq c.store_block.new.own.floor c.args.block.now) some e.says) c.free_earlier.result (λ t n y we k. f.says t n y we k) c.in-Some.group c.in-Some.is;
+          (λ o. get nat_eq c.args.own.now.objects o) (λ o. get nat_eq c.store_block.new.own.objects o) c.args.own.now.seq c.args.own.now.floor c.store_block.new.own.seq c.store_block.new.own.floor c.args.block.now
+          (g.M.Metaslabs.owns c.free_earlier.new.metaslabs) f.owns (g.M.Metaslabs.last c.free_earlier.new.metaslabs) c.free_earlier.new.metaslabs p (subst (StoreSays g.R.Rack g.A.Area g.M.Metaslabs.went g.M.Metaslabs.shared (g.M.Metaslabs.owns c.args.metaslabs.now) (g.M.Metaslabs.owns c.store_block.new.metaslabs) (g.M.Metaslabs.last c.args.metaslabs.now) (g.M.Metaslabs.last c.store_block.new.metaslabs) c.args.metaslabs.now c.store_block.new.metaslabs c.args.metaslab c.args.columns c.args.object
+          (λ o. get nat_eq c.args.own.now.objects o) (λ o. get nat_eq c.store_block.new.own.objects o) c.args.own.now.seq c.args.own.now.floor c.store_block.new.own.seq c.store_block.new.own.floor c.args.block.now) some e.says) c.free_earlier.result (λ t n y we k. f.says t n y we k) c.in-Some.group c.in-Some.is;
       refused = tt;
       served = λ own. tt;
     }

@@ -1,4 +1,4 @@
-use Rattle.std.proofs.Common.{◌≡◌, ◌≤◌, ◌+◌, ◌∙◌, [], Some, None, Ok, Err, false, arith, refl, sym, ap, subst, length}
+use Rattle.std.proofs.Common.{◌≡◌, ◌≤◌, ◌∙◌, [], Some, None, Ok, Err, false, refl, sym, ap, subst}
 use Rattle.std.specs.Prelude.{OnOk, Result, is_err}
 use Rattle.std.specs.HashMap.{spare}
 use Rattle.draid_spec.specs.declared.layout.Geometry.{Geometry}
