@@ -33,7 +33,7 @@ use Rattle.draid_shard.specs.declared.shard.Shard.{Shard}
 use Rattle.draid_shard.proofs.OwedAll.{owed_is}
 use Rattle.draid_session.specs.Follows.{Follows}
 use Rattle.draid_session.specs.Holds.{View, view_of}
-use Rattle.draid_session.specs.Looks.{CountIs, Looks, LooksFrom, OnlyLooks}
+use Rattle.draid_session.specs.Looks.{CountIs, Looks, LooksFrom}
 use Rattle.draid_session.specs.Rooms as rooms_of
 use Rattle.draid_session.specs.Rooms.{IsDisabled, IsFull, IsRoomOf, IsShut, IsWornForBlock, LooksForRoom, longest, stripes_for}
 use Rattle.draid_session.specs.State.{Metaslab, State}
@@ -49,7 +49,7 @@ use Rattle.draid_pool.specs.Whole.{IsWhole}
 use Rattle.draid_pool.specs.declared.pool.Pool.{Pool}
 use Rattle.draid_pool.specs.Views.{seen_at}
 use Rattle.draid_pool.proofs.Looking.{changes_none, looked, looks_at}
-use Rattle.draid_store.proofs.StoreSteps.{worn_for}
+use Rattle.draid_store.proofs.Refused.{worn_for}
 use Rattle.draid_pool.proofs.Wholes.{whole_valid}
 use Rattle.draid_pool.proofs.Steps.{follows_both}
 
@@ -387,6 +387,6 @@ module _ {R A : Type 0} (rack : racks.Ghosts R) (area : areas.Ghosts A) where
         reached = c.reached;
         store = c.store;
         follows = c.follows;
-        done = (subst OnlyLooks (sym c.done.0) tt, c.done.1);
+        done = c.done;
         represents = c.represents;
       }

@@ -23,7 +23,7 @@ use Rattle.draid_pool.specs.Metaslabs.{IsMetaslab}
 use Rattle.draid_pool.specs.Pools.{part_in}
 use Rattle.draid_pool.specs.Shards.{FollowsIn, FreesIn, Goes}
 use Rattle.draid_pool.proofs.Wholes.{put_here, put_elsewhere}
-use Rattle.draid_store.proofs.FreeSteps.{same_key}
+use Rattle.draid_store.proofs.FreeKeeps.{same_key}
 use Rattle.draid_pool.proofs.Lists.{get_set_same, set_twice}
 use Rattle.draid_pool.proofs.Moved.{turn, with_metaslab}
 use Rattle.draid_store.specs.Answers.{FreeDoes}
@@ -90,7 +90,7 @@ module _ {R A S : Type 0} (rack : racks.Ghosts R) (area : areas.Ghosts A) (went 
       of = found_w.2
 
       key : key_of p ≡ changes.key_of w
-      key = same_key rack area p w of.object_is of.seq_is
+      key = same_key p w of.object_is of.seq_is
 
       mine_p : p.object ≡ object
       mine_p = of.object_is ∙ write_object x.store.changes object w found_w.1

@@ -4,7 +4,11 @@ use Rattle.draid_names.specs.declared.pointer.Pointer.{Pointer}
 use Rattle.draid_rack.specs.declared.Rack as racks
 use Rattle.draid_area.specs.declared.Area as areas
 use Rattle.draid_machine.specs.declared.names.Stage.TheVariants as stage
-use Rattle.draid_entries.specs.Maps.{staged}
+use Rattle.draid_objects.specs.Changes as changes
+use Rattle.draid_objects.specs.Changes.{Write}
+use Rattle.draid_entries.specs.Maps.{key_of, staged}
+use Rattle.draid_entries.specs.declared.entry.Entry.{Entry}
+use Rattle.draid_shard.specs.Changes.{DoesNothing, SetsBlock}
 use Rattle.draid_shard.specs.declared.shard.Shard.{Shard}
 use Rattle.draid_pool.specs.Drifts.{KeepsGroups, KeepsOf, KeepsTo, StateStep, is_other}
 use Rattle.draid_store.specs.Frees.{FreesBlock, FreesShard, IsEarly}
@@ -12,8 +16,19 @@ use Rattle.draid_pool.proofs.Drifting.{groups_kept, keeps_self}
 use Rattle.draid_pool.proofs.ShardSteps.{sets_others, state_goes}
 use Rattle.draid_pool.proofs.Since.{state_self}
 
+-- the same key by both names
+pub same_key : (p : Pointer) (w : Write) → p.object ≡ w.object → p.seq ≡ w.seq → key_of p ≡ changes.key_of w
+same_key p w object seq = λ i. record { object = object i; seq = seq i }
+
 pub same_groups : {R A : Type 0} (old new : Shard R A) → new ≡ old → KeepsGroups old new
 same_groups old new same = subst (KeepsGroups old) (sym same) (groups_kept old)
+
+-- a block that is set leaves the groups and the arms, and so does what does nothing
+pub sets_groups : {R A : Type 0} (old new : Shard R A) (p : Pointer) (entry : Option Entry) → SetsBlock old new p entry → KeepsGroups old new
+sets_groups old new p entry sets = record { groups = sets.groups; arms = sets.slots }
+
+pub nothing_groups : {R A : Type 0} (old new : Shard R A) → DoesNothing old new → KeepsGroups old new
+nothing_groups old new none = record { groups = none.keeps.groups; arms = none.slots }
 
 module _ {R A : Type 0} (rack : racks.Ghosts R) (area : areas.Ghosts A) where
   pub free_groups : (x y : Shard R A) (p : Pointer) (floor : ℕ) (out : Option ℕ) → FreesShard rack area x p floor out y → KeepsGroups x y

@@ -18,6 +18,7 @@ use Rattle.draid_shard.specs.declared.shard.Shard.{Shard}
 use Rattle.draid_shard.proofs.Held.{key_leads}
 use Rattle.draid_pool.specs.Drifts.{Drifts, KeepsGroups, KeepsTo, groups_number, is_other}
 use Rattle.draid_pool.specs.Threads.{HasPointer, IsHeldBy, IsWholeBy, all_of}
+use Rattle.draid_store.specs.Freeing.{EarlierWhole, IsApart}
 use Rattle.draid_store.specs.Frees.{FreesBlock, FreesShard, IsEarly, MayFreeIn}
 use Rattle.draid_pool.proofs.HeldBy.{held_drifts, held_set, whole_on}
 use Rattle.draid_pool.proofs.Lists.{some_of}
@@ -86,6 +87,15 @@ module _ {R A : Type 0} (rack : racks.Ghosts R) (area : areas.Ghosts A) (shared 
         let same = (drifts.groups own).groups.committed in
         let late = early.early in
         omega (arith, up, high, same, late)
+
+    -- an earlier block, of which no pointer is in the table
+    pub earlier_whole : IsApart table p → (out : Option ℕ) → FreesShard rack area before p floor out after → EarlierWhole rack owns new table seq floor out
+    earlier_whole apart None f = early_whole f.did
+    earlier_whole apart (Some group) f = free_whole table group f.did (λ q r r_is. (whole.pointers q r r_is, apart q r r_is))
+
+    pub earlier_served : (out : Option ℕ) → FreesShard rack area before p floor out after → owns groups_number ≡ true → out ≡ None → ⊥
+    earlier_served None f own none = free_served own f.did
+    earlier_served (Some group) f own none = absurd (cc)
 
 -- the pointers of a table from which an object's is taken
 pub left_in_table : {R A : Type 0} (rack : racks.Ghosts R) (owns : ℕ → Bool) (last : ℕ → Option (Shard R A)) (object seq floor : ℕ) (p : Pointer) (table table' : ℕ → Option Pointer) → IsWholeBy rack owns last table seq floor → p.object ≡ object

@@ -92,11 +92,7 @@ WriteInDoes x m o bytes (Ok done) holds new = WritesIn x m o bytes holds new
 WriteInDoes x m o bytes (Err (fault.NoSpace run disabled full worn)) holds new = ⊥
 WriteInDoes x m o bytes (Err (fault.Missed columns)) holds new = MissesIn x m o bytes columns holds new
 WriteInDoes x m o bytes (Err fault.Last) holds new = ⊥
-WriteInDoes x m o bytes (Err fault.NoMemory) holds new = (holds ≡ []) × (new ≡ x.store)
-
--- the block that an object had before is freed
-abbrev pub ReplaceDoes : State → Option Write → List Hold → Store → Type 0
-ReplaceDoes x earlier holds new = (group : ℕ) × written.FreesEarlier earlier x.store.floor group holds × (new ≡ record x.store { floor = group })
+WriteInDoes x m o bytes (Err fault.NoMemory) holds new = OnlyLooks holds × (new ≡ x.store)
 
 -- a block's answer as that of a read
 abbrev pub reading_of : Solve → Result (Vec ℕ Global) ObjectFault

@@ -1,7 +1,12 @@
 pub mod Answers
 pub mod Batches
+pub mod Freeing
 pub mod Frees
+pub mod Open
 pub mod PointerSums
 pub mod Pointers
+pub mod Putting
 pub mod Says
 pub mod Shards
+pub mod Storing
+pub mod Writing

@@ -1,3 +1,4 @@
+use draid_blocks::{BeginFault, Missed};
 use draid_names::ObjectFault;
 
 /// Why no object was freed.
@@ -5,6 +6,15 @@ use draid_names::ObjectFault;
 pub enum FreeFault {
     /// It has no bytes.
     NoObject,
+}
+
+/// Why a block wasn't stored.
+#[derive(Clone, Copy)]
+pub enum StoreFault {
+    /// No write was begun.
+    Refused(BeginFault),
+    /// Too many of its columns landed on no leaf.
+    Missed(Missed),
 }
 
 /// The first of some objects that gives no bytes, and why.

@@ -13,12 +13,16 @@ ghost use Rattle.draid_session.specs.State.{Metaslab, State};
 ghost use Rattle.draid_pool.specs.Metaslabs.{IsMetaslab};
 ghost use Rattle.draid_pool.specs.Shards.{FreesIn, Goes};
 ghost use Rattle.draid_store.specs.Answers.{FreeDoes};
+ghost use Rattle.draid_names.specs.declared.pointer.Pointer.{Pointer};
+ghost use Rattle.draid_objects.specs.Changes.{Write};
+ghost use Rattle.draid_store.specs.Freeing.{EarlierSays, EarlierWhole, IsApart};
+ghost use Rattle.draid_store.specs.Open.{KnowsEarlier};
 ghost use Rattle.draid_store.specs.Frees.{FreesShard, MayFreeIn, TriesFree};
 ghost use Rattle.draid_pool.specs.Carries.{CarriesOut};
 ghost use Rattle.draid_pool.specs.Drifts.{groups_number};
 ghost use Rattle.draid_store.specs.Pointers.{FreeTakes, TriesTake};
 ghost use Rattle.draid_pool.specs.Pools.{Represents};
-ghost use Rattle.draid_pool.specs.Threads.{AllStay, CarriesBy, IsWholeBy, Knows};
+ghost use Rattle.draid_pool.specs.Threads.{AllStay, CarriesBy, HasPointer, IsWholeBy, Knows};
 ghost use Rattle.draid_pool.specs.Whole.{IsWhole};
 
 use crate::fault::FreeFault;
@@ -128,6 +132,38 @@ pub fn free_object<R: Rack, A: Area, M: Metaslabs<R, A>>(
     own.objects.remove(&object);
     own.floor = group;
     Some(Ok(()))
+}
+
+/// Frees the block that an object had before, in a hold. Nothing where it is to be tried again.
+pub fn free_earlier<R: Rack, A: Area, M: Metaslabs<R, A>>(
+    metaslabs: &mut M,
+    pointer: Pointer,
+    floor: u64,
+) -> Option<u64>
+    requires fits { M.fits metaslabs.old }
+    requires has { HasPointer (M.last metaslabs.old) R.Rack (M.owns metaslabs.old) pointer.object pointer }
+    requires low { floor ≤ LAST_NUMBER }
+    ensures fits { M.fits metaslabs.new }
+    ensures locks { M.locks metaslabs.new ≡ M.locks metaslabs.old }
+    ensures owns { M.owns metaslabs.new ≡ M.owns metaslabs.old }
+    ensures stay { AllStay (M.owns metaslabs.old) (M.last metaslabs.old) (M.last metaslabs.new) }
+    ensures whole { (table : ℕ → Option Pointer) (seq : ℕ) → IsWholeBy R.Rack (M.owns metaslabs.old) (M.last metaslabs.old) table seq floor → IsApart table pointer
+        → EarlierWhole R.Rack (M.owns metaslabs.old) (M.last metaslabs.new) table seq floor result }
+    ensures says { (table : ℕ → Option Pointer) (seq : ℕ) (x : State) (we : Write) → KnowsEarlier R.Rack A.Area (M.owns metaslabs.old) (M.last metaslabs.old) table seq floor pointer we x
+        → EarlierSays R.Rack A.Area M.went M.shared (M.owns metaslabs.old) (M.owns metaslabs.new) (M.last metaslabs.old) (M.last metaslabs.new) metaslabs.old metaslabs.new pointer table table seq floor x we result }
+    // Who alone closes groups never has to try again.
+    ensures served { (table : ℕ → Option Pointer) (seq : ℕ) → IsWholeBy R.Rack (M.owns metaslabs.old) (M.last metaslabs.old) table seq floor
+        → M.owns metaslabs.old groups_number ≡ true → result ≡ None → ⊥ }
+{
+    let op = metaslabs.hold(
+        pointer.metaslab,
+        FreeOp {
+            pointer,
+            floor,
+            out: None,
+        },
+    );
+    op.out
 }
 
 /// Frees an object, which has no bytes then. Their block keeps its stripes until its group is committed, and is still

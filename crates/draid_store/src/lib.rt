@@ -3,10 +3,13 @@
 
 #![tactic(auto)]
 
+mod beginning;
 mod damaging;
 mod fault;
 mod filling;
+mod finishing;
 mod freeing;
+mod putting;
 mod reading;
 mod replies;
 mod room;
@@ -14,11 +17,15 @@ mod store;
 mod summing;
 mod writing;
 
+pub use beginning::{BeginOp, begin_write};
 pub use damaging::damage;
-pub use fault::{DamageFault, FreeFault, SumFault};
+pub use fault::{DamageFault, FreeFault, StoreFault, SumFault};
 pub use filling::fill;
-pub use freeing::{FreeOp, free, free_object};
+pub use finishing::{FinishOp, end_write};
+pub use freeing::{FreeOp, free, free_earlier, free_object};
+pub use putting::{PutOp, put_all};
 pub use reading::read;
 pub use replies::{reply_to_damage, reply_to_free, reply_to_read, reply_to_sum, reply_to_write};
+pub use store::store_block;
 pub use summing::sum;
-pub use writing::write;
+pub use writing::{write, write_block};

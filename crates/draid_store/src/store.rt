@@ -1,103 +1,69 @@
-ghost use Rattle.std.specs.Prelude.{◌≡◌, ◌≤◌, ◌<◌, ◌+◌, IfOk, None, Some, length};
-ghost use Rattle.draid_block.specs.Blocks.{IsContent, cut_of};
-ghost use Rattle.draid_block.specs.Columns.{stripes_of};
-ghost use Rattle.draid_machine.specs.State as machine;
-ghost use Rattle.draid_machine.specs.declared.names.Stage.TheVariants.{Writing};
-ghost use Rattle.draid_names.specs.declared.numbers.TheConstants.{LAST_NUMBER};
-ghost use Rattle.draid_segments.specs.Segments.{Pieces};
-ghost use Rattle.draid_entries.specs.Entries.{held_in};
-ghost use Rattle.draid_entries.specs.Maps.{key_of, staged};
-ghost use Rattle.draid_blocks.specs.Tickets.{Carries};
-ghost use Rattle.draid_shard.specs.Changes.{SetsBlock};
-ghost use Rattle.draid_shard.specs.Columns.{ArePieces};
-ghost use Rattle.draid_shard.specs.Fits.{Valid};
-ghost use Rattle.draid_shard.specs.Part.{Part};
-ghost use Rattle.draid_shard.specs.States.{IsIn, part_of};
-ghost use Rattle.draid_session.specs.State.{Metaslab};
-ghost use Rattle.draid_session.specs.Writes.{PutsColumns};
-ghost use Rattle.draid_pool.specs.Metaslabs.{IsMetaslab};
-ghost use Rattle.draid_pool.specs.Shards.{Goes, HasRoom};
-ghost use Rattle.draid_store.specs.Shards.{SameBut, StoreDoes, StoreSets};
+ghost use Rattle.std.specs.Prelude.{◌≡◌, ◌+◌, ◌<◌, None, Ok, Some, nat_eq, true};
+ghost use Rattle.std.specs.HashMap.{get, spare};
+ghost use Rattle.draid_names.specs.declared.numbers.TheConstants.{NUMBERS, OBJECTS};
+ghost use Rattle.draid_names.specs.declared.pointer.Pointer.{Pointer};
+ghost use Rattle.draid_pool.specs.Drifts.{groups_number};
+ghost use Rattle.draid_pool.specs.Threads.{AllStay, IsWholeBy};
+ghost use Rattle.draid_store.specs.Putting.{Takes};
+ghost use Rattle.draid_store.specs.Storing.{ComesBack, StoreRefusedBy, StoreSays, StoreSetsTable};
 
+use crate::beginning::begin_write;
+use crate::fault::StoreFault;
+use crate::finishing::end_write;
+use crate::putting::put_all;
 use draid_area::Area;
 use draid_block::Encoded;
-use draid_blocks::{BeginFault, Missed, Ticket, begin, finish, put};
-use draid_names::{NUMBERS, OBJECTS, Pointer};
+use draid_names::Pointer;
+use draid_pool::{Metaslabs, Own};
 use draid_rack::Rack;
-use draid_shard::Shard;
 
-/// Why a block wasn't stored.
-#[derive(Clone, Copy)]
-pub(crate) enum StoreFault {
-    /// So many columns landed on no leaf. The block would have been born in this group.
-    Missed { columns: u32, birth: u64 },
-    NoMemory,
-}
-
-/// Writes all columns of a block whose write has begun.
-fn put_all<R: Rack, A: Area>(shard: &mut Shard<R, A>, ticket: &mut Ticket, block: &Encoded)
-    requires valid { Valid R.Rack shard.old }
-    requires carries { Carries shard.old ticket.old block.now }
-    requires fresh { ticket.old.next ≡ 0 }
-    ensures valid { Valid R.Rack shard.new }
-    ensures carries { Carries shard.new ticket.new block.now }
-    ensures all { ticket.new.next ≡ shard.old.geometry.g }
-    ensures pointer { ticket.new.pointer ≡ ticket.old.pointer }
-    ensures part { part_of shard.new ≡ part_of shard.old }
-    ensures sets { SetsBlock shard.old shard.new ticket.old.pointer (Some (staged (Writing ticket.new.next ticket.new.missed) ticket.old.pointer)) }
-    ensures puts { (part : Part) (pieces : Pieces) (x : Metaslab) → IsMetaslab R.Rack A.Area part pieces shard.old x
-        → ArePieces part.geometry.props.sector part.geometry.g ticket.old.pointer.stripes block.now.columns (key_of ticket.old.pointer) pieces
-        → Goes R.Rack A.Area part pieces x shard.new (λ holds y. PutsColumns (key_of ticket.old.pointer) part.number part.geometry.g holds
-        × SameBut (key_of ticket.old.pointer) x.world y.world) }
-{
-    for _column in 0..shard.geometry.g {
-        put(shard, ticket, block);
-    }
-}
-
-/// Why no block was begun in a shard that has room for it: want of memory alone.
-fn begin_fault(why: BeginFault) -> StoreFault
-    requires { why ≡ BeginFault.NoMemory }
-    ensures { result ≡ StoreFault.NoMemory }
-{
-    match why {
-        BeginFault::NoMemory => StoreFault::NoMemory,
-        _ => unreachable!(),
-    }
-}
-
-/// Writes a block of `object` to a shard that has room for it. It is born in the open group, or in `floor` where that
-/// is the next one.
-pub(crate) fn store<R: Rack, A: Area>(
-    shard: &mut Shard<R, A>,
+/// Writes a block of an object in a metaslab. The pointer that the object had comes back: its block is to be freed.
+/// Nothing where the metaslab hasn't come to the group before the floor, so that it is to be tried again.
+pub fn store_block<R: Rack, A: Area, M: Metaslabs<R, A>>(
+    metaslabs: &mut M,
+    own: &mut Own,
+    metaslab: u32,
+    columns: u32,
     object: u64,
-    seq: u64,
     block: &Encoded,
-    floor: u64,
-) -> Result<Pointer, StoreFault>
-    requires valid { Valid R.Rack shard.old }
+) -> Option<Result<Option<Pointer>, StoreFault>>
+    requires fits { M.fits metaslabs.old }
+    requires own { M.owns metaslabs.old object ≡ true }
     requires object { object < OBJECTS }
-    requires seq { (1 ≤ seq) × (seq < NUMBERS) }
-    requires unused { held_in shard.old.entries (record { object = object; seq = seq }) ≡ None }
-    requires floor { floor ≤ shard.old.open_group + 1 }
-    requires last { floor ≤ LAST_NUMBER }
-    requires cut { block.now.cut ≡ cut_of shard.old.geometry }
-    requires room { (w : machine.State) × IsIn shard.old w × HasRoom (stripes_of (cut_of shard.old.geometry) (length block.now.bytes)) shard.old w }
-    ensures valid { Valid R.Rack shard.new }
-    ensures part { part_of shard.new ≡ part_of shard.old }
-    ensures sets { StoreSets shard.old shard.new object seq floor result }
-    ensures content { IfOk result (λ pointer. IsContent pointer block.now.bytes) }
-    ensures stores { (part : Part) (pieces : Pieces) (x : Metaslab) → IsMetaslab R.Rack A.Area part pieces shard.old x
-        → StoreDoes R.Rack A.Area part pieces object seq floor block.now.bytes x shard.new result }
+    requires last { own.old.seq + 1 < NUMBERS }
+    requires takes { Takes (M.last metaslabs.old) metaslab columns block.now }
+    requires room { 0 < spare own.old.objects }
+    requires whole { IsWholeBy R.Rack (M.owns metaslabs.old) (M.last metaslabs.old) (λ o. get nat_eq own.old.objects o) own.old.seq own.old.floor }
+    ensures fits { M.fits metaslabs.new }
+    ensures locks { M.locks metaslabs.new ≡ M.locks metaslabs.old }
+    ensures owns { M.owns metaslabs.new ≡ M.owns metaslabs.old }
+    ensures stay { AllStay (M.owns metaslabs.old) (M.last metaslabs.old) (M.last metaslabs.new) }
+    ensures whole { IsWholeBy R.Rack (M.owns metaslabs.old) (M.last metaslabs.new) (λ o. get nat_eq own.new.objects o) own.new.seq own.new.floor }
+    ensures sets { StoreSetsTable object block.now.bytes (λ o. get nat_eq own.old.objects o) (λ o. get nat_eq own.new.objects o) result }
+    ensures earlier { (p : Pointer) → result ≡ Some (Ok (Some p)) → ComesBack R.Rack (M.owns metaslabs.old) (M.last metaslabs.new) (λ o. get nat_eq own.new.objects o) object p }
+    ensures says { StoreSays R.Rack A.Area M.went M.shared (M.owns metaslabs.old) (M.owns metaslabs.new) (M.last metaslabs.old) (M.last metaslabs.new) metaslabs.old metaslabs.new metaslab columns object
+        (λ o. get nat_eq own.old.objects o) (λ o. get nat_eq own.new.objects o) own.old.seq own.old.floor own.new.seq own.new.floor block.now result }
+    ensures refused { StoreRefusedBy R.Rack A.Area M.shared (M.owns metaslabs.old) (M.last metaslabs.old) metaslab block.now result }
+    // Who alone closes groups never has to try again.
+    ensures served { M.owns metaslabs.old groups_number ≡ true → result ≡ None → ⊥ }
 {
-    let mut ticket = match begin(shard, object, seq, block, floor) {
-        Ok(ticket) => ticket,
-        Err(why) => return Err(begin_fault(why)),
+    let ticket = match begin_write(metaslabs, own, metaslab, columns, object, block) {
+        Some(Ok(ticket)) => ticket,
+        Some(Err(why)) => return Some(Err(StoreFault::Refused(why))),
+        None => return None,
     };
     let birth = ticket.pointer.birth;
-    put_all(shard, &mut ticket, block);
-    match finish(shard, ticket) {
-        Ok(pointer) => Ok(pointer),
-        Err(Missed { columns }) => Err(StoreFault::Missed { columns, birth }),
+    let ticket = put_all(metaslabs, metaslab, columns, ticket, block);
+    let result = end_write(metaslabs, metaslab, columns, ticket, block);
+    own.seq += 1;
+    own.floor = birth;
+    match result {
+        Ok(pointer) => {
+            let Ok(earlier) = own.objects.insert(object, pointer) else {
+                unreachable!()
+            };
+            Some(Ok(earlier))
+        }
+        Err(missed) => Some(Err(StoreFault::Missed(missed))),
     }
 }

@@ -33,8 +33,8 @@ returns-then-pool-ge-LAST_NUMBER g c = record {
       (FnReturnsAt g.F.Fn c.args.chooser.now) c.args.object c.in-Some.metaslab c.in-Some.ensures.answer c.if-pool-ge-LAST_NUMBER.true;
 }
 
-pub write_block-requires : goal.write_block-requires
-write_block-requires g c =
+pub write_in-requires : goal.write_in-requires
+write_in-requires g c =
     record {
       object = c.requires.object;
       cut = c.requires.cut;
@@ -45,10 +45,10 @@ write_block-requires g c =
 
 pub returns : goal.returns
 returns g c = record {
-  whole = c.write_block.ensures.whole;
-  writes = c.write_block.ensures.writes;
+  whole = c.write_in.ensures.whole;
+  writes = c.write_in.ensures.writes;
   step = λ x is.
       written_as g.R.Rack g.A.Area c.args.pool.now x is c.args.block.now.bytes (stripes_for c.args.pool.now.geometry c.args.block.now.bytes) c.args.rooms.now refl c.requires.rooms
-      (FnReturnsAt g.F.Fn c.args.chooser.now) c.args.object c.in-Some.metaslab c.write_block.result c.write_block.new.pool c.in-Some.ensures.answer
-      (let last = c.if-pool-ge-LAST_NUMBER.false in omega (arith, last)) (c.write_block.ensures.step x is);
+      (FnReturnsAt g.F.Fn c.args.chooser.now) c.args.object c.in-Some.metaslab c.write_in.result c.write_in.new.pool c.in-Some.ensures.answer
+      (let last = c.if-pool-ge-LAST_NUMBER.false in omega (arith, last)) (c.write_in.ensures.step x is);
 }

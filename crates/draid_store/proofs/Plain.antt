@@ -1,0 +1,39 @@
+-- The holds of a write leave groups and arms.
+use Rattle.std.proofs.Common.{◌++◌, ℕ, zero, suc, List, [], ◌∷◌, Option, Some, None, Result, Ok, Err, sym, subst}
+use Rattle.draid_names.specs.declared.refusal.WriteFault.{WriteFault}
+use Rattle.draid_names.specs.declared.refusal.WriteFault.TheVariants as fault
+use Rattle.draid_spec.specs.declared.layout.Geometry.{Geometry}
+use Rattle.draid_machine.specs.declared.names.Key.{Key}
+use Rattle.draid_objects.specs.Changes.{Write}
+use Rattle.draid_session.specs.Holds.{Hold}
+use Rattle.draid_session.specs.Looks.{OnlyLooks}
+use Rattle.draid_session.specs.State.{State, Store}
+use Rattle.draid_session.specs.Writes.{FreesEarlier, PutsColumns, WritesBlock}
+use Rattle.draid_store.specs.Answers.{WriteInDoes}
+use Rattle.draid_pool.proofs.OwnedStands.{ArePlain}
+
+plain_append : (a b : List Hold) → ArePlain a → ArePlain b → ArePlain (a ++ b)
+plain_append [] b x y = y
+plain_append (hold ∷ a) b x y = (x.0, plain_append a b x.1 y)
+
+pub looks_plain : (holds : List Hold) → OnlyLooks holds → ArePlain holds
+looks_plain [] looks = tt
+looks_plain (hold ∷ holds) looks = ((subst (λ h. ArePlain (h ∷ [])) (sym looks.0.1) (tt, tt)).0, looks_plain holds looks.1)
+
+puts_plain : (key : Key) (m n : ℕ) (holds : List Hold) → PutsColumns key m n holds → ArePlain holds
+puts_plain key m zero holds puts = subst ArePlain (sym puts) tt
+puts_plain key m (suc n) holds puts = subst ArePlain (sym puts.2) ((subst (λ h. ArePlain (h ∷ [])) (sym puts.3.did) (tt, tt)).0, puts_plain key m n puts.1 puts.4)
+
+block_plain : (geometry : Geometry) (object seq : ℕ) (bytes : List ℕ) (floor m birth columns : ℕ) (holds : List Hold) → WritesBlock geometry object seq bytes floor m birth columns holds → ArePlain holds
+block_plain geometry object seq bytes floor m birth columns holds w = subst ArePlain (sym w.are) (tt, plain_append w.puts _ (puts_plain w.key m geometry.g w.puts w.all_put) (tt, tt))
+
+earlier_plain : (earlier : Option Write) (floor group : ℕ) (holds : List Hold) → FreesEarlier earlier floor group holds → ArePlain holds
+earlier_plain None floor group holds f = subst ArePlain (sym f.0) tt
+earlier_plain (Some w) floor group holds f = subst ArePlain (sym f.did) (tt, tt)
+
+pub write_plain : (x : State) (m object : ℕ) (bytes : List ℕ) (result : Result Unit WriteFault) (holds : List Hold) (store : Store) → WriteInDoes x m object bytes result holds store → ArePlain holds
+write_plain x m object bytes (Ok done) holds store w = subst ArePlain (sym w.are) (plain_append w.front w.back (block_plain x.geometry object _ bytes _ m w.birth w.columns w.front w.writes) (earlier_plain _ w.birth w.group w.back w.frees))
+write_plain x m object bytes (Err (fault.NoSpace run disabled full worn)) holds store w = absurd w
+write_plain x m object bytes (Err (fault.Missed columns)) holds store w = block_plain x.geometry object _ bytes _ m w.birth columns holds w.writes
+write_plain x m object bytes (Err fault.Last) holds store w = absurd w
+write_plain x m object bytes (Err fault.NoMemory) holds store w = looks_plain holds w.0

@@ -1,0 +1,51 @@
+-- The begin and the end of a write keep to what every hold keeps to, on both sides.
+use Rattle.std.proofs.Common.{[], ◌∷◌, ℕ, Bool, Option, Some, arith, refl}
+use Rattle.draid_names.specs.declared.pointer.Pointer.{Pointer}
+use Rattle.draid_rack.specs.declared.Rack as racks
+use Rattle.draid_area.specs.declared.Area as areas
+use Rattle.draid_machine.specs.declared.event.Event.{Event}
+use Rattle.draid_machine.specs.declared.event.Event.TheVariants as event
+use Rattle.draid_segments.specs.Segments.{Pieces}
+use Rattle.draid_entries.specs.declared.entry.Entry.{Entry}
+use Rattle.draid_entries.specs.Maps.{key_of}
+use Rattle.draid_shard.specs.Calls.{SameKit, SameReserve}
+use Rattle.draid_blocks.specs.Tickets.{begins}
+use Rattle.draid_shard.specs.Changes.{SetsBlock}
+use Rattle.draid_shard.specs.Fits.{Valid}
+use Rattle.draid_shard.specs.Part.{Part}
+use Rattle.draid_shard.specs.States.{Does}
+use Rattle.draid_shard.specs.declared.shard.Shard.{Shard}
+use Rattle.draid_session.specs.State.{Metaslab}
+use Rattle.draid_pool.specs.Metaslabs.{IsMetaslab}
+use Rattle.draid_pool.proofs.Dids.{Done, did_quiet}
+use Rattle.draid_pool.specs.Drifts.{KeepsTo, is_other, StateStep}
+use Rattle.draid_pool.proofs.ShardSteps.{sets_others}
+use Rattle.draid_store.proofs.FreeKeeps.{sets_groups}
+
+module _ {R A : Type 0} (rack : racks.Ghosts R) (area : areas.Ghosts A) where
+  -- an event that led somewhere with the same pieces is a step of the state
+  pub state_done : (of : ℕ → Bool) (old new : Shard R A) (e : Event) → ((part : Part) (pieces : Pieces) (x : Metaslab) → IsMetaslab rack area part pieces old x → Done rack area part pieces new e x) → StateStep rack area of old new
+  state_done of old new e done part pieces x is =
+      let d = done part pieces x is in
+      record { reached = d.reached; now = pieces; is = d.is; since = record { opened = d.acts.opened; more = e ∷ []; stored = d.acts.stored; run = (d.reached.world, d.step, refl) }; same = λ k mine. refl }
+
+  one_keeps : (x y : Shard R A) (p : Pointer) (entry : Option Entry) (e : Event) → Valid rack y → Does x y e → SetsBlock x y p entry
+      → ((part : Part) (pieces : Pieces) (u : Metaslab) → IsMetaslab rack area part pieces x u → Done rack area part pieces y e u) → KeepsTo rack area x y (Some p.object)
+  one_keeps x y p entry e valid does sets done = record {
+    valid = valid;
+    part = does.part;
+    later = (let same = sets.groups.committed in omega (arith, same));
+    groups = λ other. sets_groups x y p entry sets;
+    others = sets_others y.committed x.entries y.entries p entry sets.entry;
+    state = state_done (is_other (Some p.object)) x y e done;
+  }
+
+  pub begin_keeps : (x y : Shard R A) (p : Pointer) (entry : Option Entry) → Valid rack y → Does x y (begins p) → SameKit x y → SameReserve x y → SetsBlock x y p entry
+      → KeepsTo rack area x y (Some p.object)
+  begin_keeps x y p entry valid does kit reserve sets = one_keeps x y p entry (begins p) valid does sets
+      (λ part pieces u is. did_quiet rack area part pieces x y (begins p) u is valid does kit reserve (λ w after step s t same. same) (λ v step. refl) refl refl tt)
+
+  pub finish_keeps : (x y : Shard R A) (p : Pointer) (entry : Option Entry) → Valid rack y → Does x y (event.Finish (key_of p)) → SameKit x y → SameReserve x y → SetsBlock x y p entry
+      → KeepsTo rack area x y (Some p.object)
+  finish_keeps x y p entry valid does kit reserve sets = one_keeps x y p entry (event.Finish (key_of p)) valid does sets
+      (λ part pieces u is. did_quiet rack area part pieces x y (event.Finish (key_of p)) u is valid does kit reserve (λ w after step s t same. same) (λ v step. refl) refl refl tt)

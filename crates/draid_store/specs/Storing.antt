@@ -1,0 +1,93 @@
+-- A block of an object is stored: a begin, its columns and its end.
+use Rattle.std.specs.Prelude.{◌≡◌, ◌+◌, ◌≤◌, ◌∷◌, ◌++◌, ◌==◌, ⊤, ℕ, Bool, List, Option, Some, None, Result, Ok, Err, if◌then◌else◌}
+use Rattle.draid_names.specs.declared.pointer.Pointer.{Pointer}
+use Rattle.draid_names.specs.declared.refusal.WriteFault.TheVariants as fault
+use Rattle.draid_rack.specs.declared.Rack as racks
+use Rattle.draid_area.specs.declared.Area as areas
+use Rattle.draid_block.specs.Blocks.{BlockValue}
+use Rattle.draid_objects.specs.Changes.{Wrote, write_of}
+use Rattle.draid_session.specs.Holds.{Hold}
+use Rattle.draid_session.specs.Looks.{OnlyLooks}
+use Rattle.draid_session.specs.State.{State, Store}
+use Rattle.draid_session.specs.Writes.{WritesBlock}
+use Rattle.draid_store.specs.Answers.{WriteInDoes}
+use Rattle.draid_store.specs.Freeing.{IsApart}
+use Rattle.draid_store.specs.Open.{KnowsReplaced}
+use Rattle.draid_store.specs.Putting.{RefusesAt}
+use Rattle.draid_store.specs.declared.fault.StoreFault.{StoreFault}
+use Rattle.draid_store.specs.declared.fault.StoreFault.TheVariants.{Missed, Refused}
+use Rattle.draid_pool.specs.Pointers.{FitsPointer}
+use Rattle.draid_pool.specs.Threads.{HasPointer, Knows, LeadsBy}
+use Rattle.draid_shard.specs.declared.shard.Shard.{Shard}
+
+-- the store as the block has come
+abbrev pub store_with : Store → ℕ → ℕ → ℕ → List ℕ → Store
+store_with store object m birth bytes = record { changes = Wrote (record { object = object; seq = store.seq + 1; metaslab = m; birth = birth; bytes = bytes }) ∷ store.changes; seq = store.seq + 1; floor = birth }
+
+-- a block of these bytes was written in metaslab m, and the one that the object had is live yet
+pub record StoresIn (x : State) (m object birth : ℕ) (bytes : List ℕ) (holds : List Hold) (store : Store) : Type 0 where
+  pub columns : ℕ
+  pub writes : WritesBlock x.geometry object (x.store.seq + 1) bytes x.store.floor m birth columns holds
+  pub few : columns ≤ x.geometry.spec.parity
+  pub made : store ≡ store_with x.store object m birth bytes
+
+module _ {R A S : Type 0} (rack : racks.Ghosts R) (area : areas.Ghosts A) (went : S → ℕ → Shard R A → Shard R A → S → Type 0) (shared : Bool) (owns now_owns : ℕ → Bool) (last now : ℕ → Option (Shard R A)) (a b : S) (m columns object : ℕ)
+    (table then_table : ℕ → Option Pointer) (seq floor then_seq then_floor : ℕ) (block : BlockValue) where
+  -- It is to be tried again; or the block was stored, and the pointer that the object had is to be freed; or no write was begun; or too many columns landed nowhere
+  abbrev pub StoreSays : Option (Result (Option Pointer) StoreFault) → Type 0
+  StoreSays None = (x : State) → Knows rack area owns last table seq floor x
+      → LeadsBy rack area went shared a b x (λ holds store. (store ≡ x.store) × OnlyLooks holds) (Knows rack area now_owns now then_table then_seq then_floor)
+  StoreSays (Some (Ok earlier)) = (x : State) → x.geometry.g ≡ columns → Knows rack area owns last table seq floor x
+      → LeadsBy rack area went shared a b x (StoresIn x m object then_floor block.bytes) (KnowsReplaced rack area now_owns now then_table then_seq then_floor earlier (write_of x.store.changes object))
+  StoreSays (Some (Err (Refused why))) = (x : State) → Knows rack area owns last table seq floor x
+      → LeadsBy rack area went shared a b x (λ holds store. (store ≡ x.store) × OnlyLooks holds) (Knows rack area now_owns now then_table then_seq then_floor)
+  StoreSays (Some (Err (Missed missed))) = (x : State) → x.geometry.g ≡ columns → Knows rack area owns last table seq floor x
+      → LeadsBy rack area went shared a b x (WriteInDoes x m object block.bytes (Err (fault.Missed missed.columns))) (Knows rack area now_owns now then_table then_seq then_floor)
+
+-- the block was stored, and the one before it isn't freed yet
+pub record AwaitsIn (x : State) (m object birth : ℕ) (bytes : List ℕ) (holds : List Hold) (store : Store) : Type 0 where
+  pub front : List Hold
+  pub back : List Hold
+  pub are : holds ≡ front ++ back
+  pub looks : OnlyLooks back
+  pub stores : StoresIn x m object birth bytes front store
+
+module _ {R A S : Type 0} (rack : racks.Ghosts R) (area : areas.Ghosts A) (went : S → ℕ → Shard R A → Shard R A → S → Type 0) (shared : Bool) (owns now_owns : ℕ → Bool) (last now : ℕ → Option (Shard R A)) (a b : S) (m columns object : ℕ)
+    (table then_table : ℕ → Option Pointer) (seq floor then_seq then_floor : ℕ) (block : BlockValue) where
+  -- It is to be tried again; or a whole write; or one whose earlier block is to be freed; or no write was begun; or too many columns landed nowhere.
+  abbrev pub WriteSays : Option (Result (Option Pointer) StoreFault) → Type 0
+  WriteSays None = (x : State) → Knows rack area owns last table seq floor x
+      → LeadsBy rack area went shared a b x (λ holds store. (store ≡ x.store) × OnlyLooks holds) (Knows rack area now_owns now then_table then_seq then_floor)
+  WriteSays (Some (Ok None)) = (x : State) → x.geometry.g ≡ columns → Knows rack area owns last table seq floor x
+      → LeadsBy rack area went shared a b x (WriteInDoes x m object block.bytes (Ok tt)) (Knows rack area now_owns now then_table then_seq then_floor)
+  WriteSays (Some (Ok (Some earlier))) = (x : State) → x.geometry.g ≡ columns → Knows rack area owns last table seq floor x
+      → LeadsBy rack area went shared a b x (AwaitsIn x m object then_floor block.bytes) (KnowsReplaced rack area now_owns now then_table then_seq then_floor (Some earlier) (write_of x.store.changes object))
+  WriteSays (Some (Err (Refused why))) = (x : State) → Knows rack area owns last table seq floor x
+      → LeadsBy rack area went shared a b x (λ holds store. (store ≡ x.store) × OnlyLooks holds) (Knows rack area now_owns now then_table then_seq then_floor)
+  WriteSays (Some (Err (Missed missed))) = (x : State) → x.geometry.g ≡ columns → Knows rack area owns last table seq floor x
+      → LeadsBy rack area went shared a b x (WriteInDoes x m object block.bytes (Err (fault.Missed missed.columns))) (Knows rack area now_owns now then_table then_seq then_floor)
+
+-- ---- whatever is known of the devices
+
+-- the object has a new pointer, which the bytes fit, or all is as it was
+abbrev pub StoreSetsTable : ℕ → List ℕ → (table now : ℕ → Option Pointer) → Option (Result (Option Pointer) StoreFault) → Type 0
+StoreSetsTable object bytes table now (Some (Ok earlier)) = (pointer : Pointer) × FitsPointer pointer bytes × ((other : ℕ) → now other ≡ (if object == other then Some pointer else table other))
+StoreSetsTable object bytes table now (Some (Err why)) = (other : ℕ) → now other ≡ table other
+StoreSetsTable object bytes table now None = (other : ℕ) → now other ≡ table other
+
+-- why no write was begun, where none was
+abbrev pub StoreRefusedBy : {R A : Type 0} → racks.Ghosts R → areas.Ghosts A → Bool → (ℕ → Bool) → (ℕ → Option (Shard R A)) → ℕ → BlockValue → Option (Result (Option Pointer) StoreFault) → Type 0
+StoreRefusedBy rack area shared owns last m block (Some (Err (Refused why))) = RefusesAt rack area shared owns last m block why
+StoreRefusedBy rack area shared owns last m block result = ⊤
+
+-- the pointer that comes back is that of a live block, which the table has no more
+pub record ComesBack {R A : Type 0} (rack : racks.Ghosts R) (owns : ℕ → Bool) (now : ℕ → Option (Shard R A)) (table : ℕ → Option Pointer) (object : ℕ) (p : Pointer) : Type 0 where
+  pub has : HasPointer now rack owns object p
+  pub apart : IsApart table p
+
+-- nothing is to be tried again
+abbrev pub IsServed : Option (Result (Option Pointer) StoreFault) → Type 0
+IsServed (Some (Ok None)) = ⊤
+IsServed (Some (Ok (Some earlier))) = ⊥
+IsServed (Some (Err why)) = ⊤
+IsServed None = ⊥
