@@ -1,7 +1,7 @@
 -- The column of a block is put where nothing is known of the block's pieces: they are replaced for this column alone.
 use Rattle.std.proofs.Common.{◌≡◌, ◌==◌, ◌<◌, ◌+◌, ◌&&◌, ◌∙◌, ℕ, Bool, true, false, List, Option, Some, None, arith, refl, sym, ap, subst, nat_lt, if◌then◌else◌}
 use Rattle.std.proofs.lemmas.Bool.Decides.{nat_tests}
-use Rattle.draid_rack.specs.Rack.{OnTold, Told}
+use Rattle.draid_rack.specs.Rack.{OnTold, Told, OnBothTold}
 use Rattle.draid_rack.specs.declared.Rack as racks
 use Rattle.draid_area.specs.declared.Area as areas
 use Rattle.draid_parity.specs.Columns.{column_at}
@@ -26,7 +26,7 @@ use Rattle.draid_segments.specs.Acts.{PutsColumn}
 use Rattle.draid_segments.specs.Segments.{Backed, Pieces, piece_of}
 use Rattle.draid_segments.proofs.Apart.{stands}
 use Rattle.draid_entries.specs.Maps.{held_at, key_of, staged}
-use Rattle.draid_shard.specs.Calls.{ActsOn, OnBothTold, SameAreas, SameReserve}
+use Rattle.draid_shard.specs.Calls.{ActsOn, SameAreas, SameReserve}
 use Rattle.draid_blocks.specs.Tickets.{Carries, Puts}
 use Rattle.draid_shard.specs.Columns.{ArePieces, row_bytes}
 use Rattle.draid_shard.specs.Fits.{Valid}
