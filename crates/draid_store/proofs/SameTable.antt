@@ -34,7 +34,8 @@ module _ {R A : Type 0} (rack : racks.Ghosts R) (area : areas.Ghosts A) where
     uber = subst (λ u. IsUber area u x) (sym uber) s.uber;
     images = s.images;
     leaves = s.leaves;
-    arms = s.arms;
+    shared = s.shared;
+    versions = s.versions;
     alike = s.alike;
   }
 
