@@ -12,7 +12,7 @@ use Rattle.draid_machine.specs.State as machine
 use Rattle.draid_machine.specs.Step.{Step}
 use Rattle.draid_machine.proofs.Small.{absurd_test, equal, is_equal}
 use Rattle.draid_layouts.specs.Layout.{layout_of}
-use Rattle.draid_session.specs.Follows.{Follows, Holds, HoldsMetaslab, Acts}
+use Rattle.draid_session.specs.Follows.{Follows, Holds, HoldsMetaslab, MetaslabActs}
 use Rattle.draid_session.specs.Holds.{Act, AreaFailed, Committed, CommitFailed, CommitStarved, NextLeaf, Did, Hold, Looked, LookedUber, MadeLeaf, On, OnUber, RackFailed, Reserved, View}
 use Rattle.draid_session.specs.Looks.{AllOf, OnlyLooks}
 use Rattle.draid_session.specs.State.{Metaslab, State, Store}
@@ -166,7 +166,7 @@ hold_back v act old new it k z there = by (k == v.metaslab) refl
         let other : k ≡ v.metaslab → ⊥ = λ at. absurd_test (k == v.metaslab) (equal k v.metaslab at) is in
         inr (other, sym (get_set_other old.metaslabs v.metaslab k it.after other) ∙ there_set)
 
-acts_alike : (l : machine.Layout) (act : Act) (v : View) (x y : Metaslab) → IsCalmHold (On v act) → Acts l act x y → Alike x.world y.world
+acts_alike : (l : machine.Layout) (act : Act) (v : View) (x y : Metaslab) → IsCalmHold (On v act) → MetaslabActs l act x y → Alike x.world y.world
 acts_alike l Looked v x y calm it = alike_by x.world x.world y.world it.0.world (alike_same x.world)
 acts_alike l (Did e w) v x y calm it = alike_by x.world w y.world it.world (step_alike l x.world e w calm it.legal)
 acts_alike l (Reserved n) v x y calm it = alike_by x.world x.world y.world it.0.world (alike_same x.world)
@@ -178,7 +178,7 @@ pub calm_commit : (e : Event) → IsCalm e → is_commit e ≡ false
 calm_commit (event.Commit group) calm = absurd calm
 calm_commit e calm = refl
 
-acts_goes : (l : machine.Layout) (act : Act) (v : View) (x y : Metaslab) → IsCalmHold (On v act) → Acts l act x y → Goes x y
+acts_goes : (l : machine.Layout) (act : Act) (v : View) (x y : Metaslab) → IsCalmHold (On v act) → MetaslabActs l act x y → Goes x y
 acts_goes l Looked v x y calm it = goes_same x y it.0.world it.0.events
 acts_goes l (Did e w) v x y calm it =
     let a = alike_by x.world w y.world it.world (step_alike l x.world e w calm it.legal) in goes_more x y e (calm_commit e calm) a.committed a.closing it.stored

@@ -21,7 +21,7 @@ use Rattle.draid_shard.specs.Fits.{Valid}
 use Rattle.draid_shard.specs.Part.{Part, layout_in}
 use Rattle.draid_shard.specs.declared.shard.Shard.{Shard}
 use Rattle.draid_blocks.specs.declared.ticket.Ticket.{Ticket}
-use Rattle.draid_session.specs.Follows.{Acts}
+use Rattle.draid_session.specs.Follows.{MetaslabActs}
 use Rattle.draid_session.specs.Holds.{Act, Did, Hold, On, view_of}
 use Rattle.draid_session.specs.State.{Metaslab}
 use Rattle.draid_session.specs.Writes.{PutsColumn, PutsColumns}
@@ -38,7 +38,7 @@ set_other f key k v other = ap (λ b. if b then v else f k) other
 pub set_own : (f : Key → Option Held) (key : Key) (v : Option Held) → set_held f key v key ≡ v
 set_own f key v = ap (λ b. if b then v else f key) (key_refl key)
 
-pub follows_more : (l : machine.Layout) (m : ℕ) (holds : List Hold) (x y z : Metaslab) (act : Act) → FollowsIn l m holds x y → Acts l act y z → FollowsIn l m (holds ++ On (view_of m y) act ∷ []) x z
+pub follows_more : (l : machine.Layout) (m : ℕ) (holds : List Hold) (x y z : Metaslab) (act : Act) → FollowsIn l m holds x y → MetaslabActs l act y z → FollowsIn l m (holds ++ On (view_of m y) act ∷ []) x z
 follows_more l m [] x y z act f acts = subst (λ v. FollowsIn l m (On (view_of m y) act ∷ []) v z) f (act, z, refl, acts, refl)
 follows_more l m (hold ∷ holds) x y z act f acts = (f.0, f.1, f.2, f.3, follows_more l m holds f.1 y z act f.4 acts)
 
