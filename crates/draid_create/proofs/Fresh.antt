@@ -105,6 +105,8 @@ module _ {R A : Type 0} (rack : racks.Ghosts R) (area : areas.Ghosts A) where
     committed = 1;
     kept_leaf = geometry.spec.children;
     next_leaf = geometry.spec.children;
+    kept_version = geometry.props.version;
+    next_version = geometry.props.version;
     uber_count = count;
     pending = false;
     told = told;
@@ -133,7 +135,7 @@ module _ {R A : Type 0} (rack : racks.Ghosts R) (area : areas.Ghosts A) where
       kept = kept ∙ ap (λ (b : UberBody). Some b) first_body;
       next_leaf = leaf_is ∙ next_leaf;
       count = refl;
-      stands = record { pending = []; are = All-nil (IsPending (state_of geometry perms shards (area.faults (area_of new)) told)); stands = subst (λ (b : UberBody). StandsTold (Some b) [] (area.told (area_of new))) first_body stands };
+      stands = record { pending = []; are = All-nil (IsPending (state_of geometry perms shards (area.faults (area_of new)) told)); stands = subst (λ (b : UberBody). StandsTold (Some b) [] (area.told (area_of new))) first_body stands; versions = (refl, refl) };
     }
 
   module _ (geometry : Geometry) (whole : IsGeometry geometry) (held : Option Held) (counts : ℕ → KitCounts) (shards : List (Shard R A)) (opened : AreOpened rack area geometry held counts shards) where
@@ -296,7 +298,7 @@ module _ {R A : Type 0} (rack : racks.Ghosts R) (area : areas.Ghosts A) where
         pieces = λ m. none;
         each = each_metaslab shards refl;
         holds = holds_none 0;
-        uber = record { pending = body ∷ []; are = All-cons (IsPending x) body [] (refl, is) (All-nil (IsPending x)); stands = stands };
+        uber = record { pending = body ∷ []; are = All-cons (IsPending x) body [] (refl, is) (All-nil (IsPending x)); stands = stands; versions = (refl, refl) };
         images = images_first x refl
             (λ group found some. elim found [ inl is ↦ absurd (omega (arith, is, some)) | inr is ↦ (let at = is.1 in omega (arith, at)) ]);
         leaves = leaves_first x refl refl refl;
@@ -319,6 +321,7 @@ module _ {R A : Type 0} (rack : racks.Ghosts R) (area : areas.Ghosts A) where
         store = refl;
         committed = refl;
         leaves = (refl, refl);
+        versions = (refl, refl);
         pending = refl;
       }
 

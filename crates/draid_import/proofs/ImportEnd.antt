@@ -44,7 +44,7 @@ module _ {R A : Type 0} (rack : racks.Ghosts R) (area : areas.Ghosts A) (x : Sta
     knows = record {
       says = opened_says rack area x pieces held rests findable uber body body_is shards many each seq counted;
       holds = stood.holds;
-      live = found_live x mid body.group pieces finds rests.layout rests.many (all_reached x pieces held rests) rests.leaves findable rests.objects;
+      live = found_live x mid body.group pieces finds refl rests.layout rests.many (all_reached x pieces held rests) rests.leaves findable rests.objects;
       newest_is = newest_of rack area shards mid stood.shards_are (λ m shard y at there. (stood.each m shard y at there).stands.is_in) newest newest_in;
     };
     freed = none_freed rack area mid uber pieces shards stood;

@@ -106,7 +106,7 @@ module _ (x : State) (layout : IsLayout x.geometry x.perms) (many : length x.met
 
 -- ---- the state
 
-module _ (x mid : State) (group : ℕ) (pieces : ℕ → Pieces) (finds : Finds x group mid) (layout : IsLayout x.geometry x.perms) (many : length x.metaslabs ≡ x.geometry.props.metaslabs)
+module _ (x mid : State) (group : ℕ) (pieces : ℕ → Pieces) (finds : Finds x group mid) (same : mid.geometry ≡ x.geometry) (layout : IsLayout x.geometry x.perms) (many : length x.metaslabs ≡ x.geometry.props.metaslabs)
     (reached : (m : ℕ) (y : Metaslab) → slice_get x.metaslabs m ≡ Some y → IsReached (layout_of x.geometry x.perms m) y.world) (leaves : HasLeafNumbers x) (findable : IsFindable x)
     (objects : HoldsObjects x.geometry x.committed x.store (blocks_of x.metaslabs) pieces) where
   -- the metaslab that was opened, and that which it was opened from
@@ -191,7 +191,7 @@ module _ (x mid : State) (group : ℕ) (pieces : ℕ → Pieces) (finds : Finds 
         (opening_floor x.store.changes (blocks_of x.metaslabs) (blocks_of mid.metaslabs) group object (group + 1) found_blocks (omega arith)));
     settled = λ m k h is. live_block h.stage (found_live m k h is);
     numbered = numbered;
-    bytes = λ m k h write is by. subst (λ g. HasPieces g write (pieces m)) (sym finds.layout.0)
+    bytes = λ m k h write is by. subst (λ g. HasPieces g write (pieces m)) (sym same)
         (found_pieces m k h write is (subst (λ (cs : List Change). write_by cs k ≡ Some write) finds.changes by));
   })
 
@@ -234,7 +234,7 @@ module _ (x mid : State) (group : ℕ) (pieces : ℕ → Pieces) (finds : Finds 
     committed = λ m z at. (let is = found_committed m z at in omega (arith, is));
     versions = λ m z image at is.
         (let p = pair_at m z at in
-        ap (λ (i : machine.Image). i.version) (sym (only_image m z p image is)) ∙ (findable.versions m p.y p.reopens.image p.at p.reopens.is ∙ ap (λ g. g.props.version) (sym finds.layout.0)));
+        ap (λ (i : machine.Image). i.version) (sym (only_image m z p image is)) ∙ (findable.versions m p.y p.reopens.image p.at p.reopens.is ∙ ap (λ g. g.props.version) (sym same)));
   }
 
   pub found_leaves : HasLeafNumbers mid

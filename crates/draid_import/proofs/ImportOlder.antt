@@ -77,7 +77,7 @@ free_opens l m holds y z key group are f = by (subst (λ hs. FollowsIn l m hs y 
     by : FollowsIn l m (On (view_of m y) (Did (event.Free key group) z.world) ∷ []) y z → z.world.open_group ≡ y.world.open_group
     by g =
         let act : g.0 ≡ Did (event.Free key group) z.world = ap act_of (sym g.2) in
-        let acts : follows.Acts l (Did (event.Free key group) z.world) y g.1 = subst (λ a. follows.Acts l a y g.1) act g.3 in
+        let acts : follows.MetaslabActs l (Did (event.Free key group) z.world) y g.1 = subst (λ a. follows.MetaslabActs l a y g.1) act g.3 in
         ap (λ (w : machine.State). w.open_group) acts.legal.made
 
 -- ---- older blocks
@@ -103,7 +103,7 @@ module _ {R A : Type 0} (rack : racks.Ghosts R) (area : areas.Ghosts A) (mid : S
     kept = is.kept;
     next_leaf = is.next_leaf;
     count = is.count;
-    stands = record { pending = is.stands.pending; are = is.stands.are; stands = is.stands.stands };
+    stands = record { pending = is.stands.pending; are = is.stands.are; stands = is.stands.stands; versions = is.stands.versions };
   }
 
   pub none_freed : (shards : List (Shard R A)) → StandsFound rack area shards uber pieces mid → FreedOlder rack area mid shards uber pieces

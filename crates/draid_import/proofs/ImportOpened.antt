@@ -1,9 +1,10 @@
 -- All metaslabs of a pool that rests on a shelf, as an import opens them.
-use Rattle.std.proofs.Common.{arith, ◌≡◌, ◌<◌, ◌≤◌, ◌∙◌, ℕ, zero, suc, List, [], ◌∷◌, Option, Some, None, length, refl, sym, subst}
+use Rattle.std.proofs.Common.{arith, ◌≡◌, ◌<◌, ◌≤◌, ◌∙◌, ℕ, zero, suc, List, [], ◌∷◌, Option, Some, None, length, inl, inr, refl, sym, subst}
 use Rattle.std.specs.Prelude.{IsSomeAnd, slice_get}
 use Rattle.std.proofs.lemmas.Option.{slice_get_within}
 use Rattle.draid_names.specs.declared.numbers.TheConstants.{LAST_NUMBER}
 use Rattle.draid_rack.specs.declared.Rack as racks
+use Rattle.draid_area.specs.Area.{Content}
 use Rattle.draid_area.specs.declared.Area as areas
 use Rattle.draid_machine.specs.Created.{IsReached}
 use Rattle.draid_machine.specs.State as machine
@@ -16,8 +17,9 @@ use Rattle.draid_shard.specs.declared.shard.Shard.{Shard}
 use Rattle.draid_uber.specs.Slots.{StandsTold}
 use Rattle.draid_uber.specs.Uber.{Valid, area_of, kept_of, next_leaf_of, version_of}
 use Rattle.draid_uber.specs.declared.uber.Uber.{Uber}
-use Rattle.draid_session.specs.Opening.{Finds, IsLastSeq, LeafIn, MayFind, Reopens}
+use Rattle.draid_session.specs.Opening.{Finds, IsLastSeq, LeafIn, MayFind, Reopens, VersionIn}
 use Rattle.draid_session.specs.State.{Metaslab, State}
+use Rattle.draid_pool.specs.Ubers.{HasVersions, UberStands}
 use Rattle.draid_pool.specs.Returning.{Rests, RestsOn}
 use Rattle.draid_pool.specs.Importable.{AllAlike, AreAlike, IsFindable}
 use Rattle.draid_import.specs.Imported.{FindsBody, OpensFound, SaysObjects, StandsFound, found_state}
@@ -52,10 +54,19 @@ module _ (x : State) (pieces : ℕ → Pieces) (held : Held) (rests : Rests x pi
   pub all_reached : (m : ℕ) (y : Metaslab) → slice_get x.metaslabs m ≡ Some y → IsReached (layout_of x.geometry x.perms m) y.world
   all_reached m y at = (rested (held.kits m) x m (pieces m) y (rests.kits m y at)).2.reached
 
-pub finds_state : (x : State) (group next : ℕ) (metaslabs : List Metaslab) (seq count : ℕ) → MayFind x group → 0 < group → LeafIn x group next → length metaslabs ≡ length x.metaslabs
+pub rests_versions : (x : State) (o : Option Content) → IsSomeAnd o (λ content. UberStands x (Some content)) → HasVersions x
+rests_versions x None stands = absurd stands
+rests_versions x (Some content) stands = stands.versions
+
+-- the version that is found
+version_in : (x : State) (group : ℕ) → HasVersions x → MayFind x group → VersionIn x group x.geometry.props.version
+version_in x group versions (inl is) = inl (is, sym versions.0)
+version_in x group versions (inr is) = inr (is.1, sym versions.1)
+
+pub finds_state : (x : State) (group next : ℕ) (metaslabs : List Metaslab) (seq count : ℕ) → HasVersions x → MayFind x group → 0 < group → LeafIn x group next → length metaslabs ≡ length x.metaslabs
     → ((m : ℕ) (y z : Metaslab) → slice_get x.metaslabs m ≡ Some y → slice_get metaslabs m ≡ Some z → Reopens x.geometry x.perms group m y z) → x.uber_count ≤ count
     → Finds x group (found_state x group next metaslabs seq count)
-finds_state x group next metaslabs seq count may some leaf many each counts = record {
+finds_state x group next metaslabs seq count versions may some leaf many each counts = record {
   found = may;
   some = some;
   layout = (refl, refl);
@@ -63,6 +74,7 @@ finds_state x group next metaslabs seq count may some leaf many each counts = re
   each = each;
   committed = refl;
   leaves = (leaf, refl);
+  version = (version_in x group versions may, refl);
   pending = refl;
   counts = counts;
   changes = refl;
@@ -95,7 +107,7 @@ module _ {R A : Type 0} (rack : racks.Ghosts R) (area : areas.Ghosts A) (x : Sta
     opened_state = found_state x body.group body.next_leaf all_opened.0 seq (area.faults (area_of uber))
 
     pub finds_opened : Finds x body.group opened_state
-    finds_opened = finds_state x body.group body.next_leaf all_opened.0 seq (area.faults (area_of uber)) body_is.may body_is.some body_is.leaf all_opened.1 (λ m y z at there. (all_opened.2 m y z at there).reopens) counted
+    finds_opened = finds_state x body.group body.next_leaf all_opened.0 seq (area.faults (area_of uber)) (rests_versions x held.uber rests.uber) body_is.may body_is.some body_is.leaf all_opened.1 (λ m y z at there. (all_opened.2 m y z at there).reopens) counted
 
     pub opened_is_in : (m : ℕ) (shard : Shard R A) (z : Metaslab) → slice_get shards m ≡ Some shard → slice_get opened_state.metaslabs m ≡ Some z → IsMetaslab rack area (part_in x m) (pieces m) shard z
     opened_is_in m shard z at there =
@@ -108,7 +120,7 @@ module _ {R A : Type 0} (rack : racks.Ghosts R) (area : areas.Ghosts A) (x : Sta
     reached = all_reached x pieces held rests
 
     pub opened_says : SaysObjects opened_state
-    opened_says = found_says x opened_state body.group pieces finds_opened rests.layout rests.many reached rests.leaves findable rests.objects
+    opened_says = found_says x opened_state body.group pieces finds_opened refl rests.layout rests.many reached rests.leaves findable rests.objects
 
     opened_arms : AreAlike x → (arms : machine.Core) × AllAlike arms opened_state
     opened_arms alike = found_arms x body.group all_opened.0 alike body_is.may findable
@@ -125,14 +137,14 @@ module _ {R A : Type 0} (rack : racks.Ghosts R) (area : areas.Ghosts A) (x : Sta
       many = all_opened.1 ∙ rests.many;
       shards_are = many ∙ sym all_opened.1;
       each = opened_is_in;
-      holds = found_holds x opened_state body.group pieces finds_opened rests.layout rests.many reached rests.leaves findable rests.objects
-          (numbered_last x opened_state body.group pieces finds_opened rests.layout rests.many reached rests.leaves findable rests.objects last);
-      groups = found_groups x opened_state body.group pieces finds_opened rests.layout rests.many reached rests.leaves findable rests.objects low;
-      uber_is = found_uber area x opened_state uber body valid kept body_is rests.layout.geometry_is version next stands refl refl refl refl refl;
-      images = found_images x opened_state body.group pieces finds_opened rests.layout rests.many reached rests.leaves findable rests.objects;
-      leaves = found_leaves x opened_state body.group pieces finds_opened rests.layout rests.many reached rests.leaves findable rests.objects;
+      holds = found_holds x opened_state body.group pieces finds_opened refl rests.layout rests.many reached rests.leaves findable rests.objects
+          (numbered_last x opened_state body.group pieces finds_opened refl rests.layout rests.many reached rests.leaves findable rests.objects last);
+      groups = found_groups x opened_state body.group pieces finds_opened refl rests.layout rests.many reached rests.leaves findable rests.objects low;
+      uber_is = found_uber area x opened_state uber body valid kept body_is rests.layout.geometry_is version next stands refl refl refl refl refl (refl, refl);
+      images = found_images x opened_state body.group pieces finds_opened refl rests.layout rests.many reached rests.leaves findable rests.objects;
+      leaves = found_leaves x opened_state body.group pieces finds_opened refl rests.layout rests.many reached rests.leaves findable rests.objects;
       arms = (opened_arms alike).0;
       alike = (opened_arms alike).1;
-      open_groups = found_open x opened_state body.group pieces finds_opened rests.layout rests.many reached rests.leaves findable rests.objects;
+      open_groups = found_open x opened_state body.group pieces finds_opened refl rests.layout rests.many reached rests.leaves findable rests.objects;
       floor = refl;
     }

@@ -56,7 +56,7 @@ module _ {R A : Type 0} (shards : List (Shard R A)) (newest : ℕ → Option Poi
 
 pub uber_content : (x : State) (o : Option Content) → IsSomeAnd o (λ c. UberStands x (Some c)) → (c : Content) × (o ≡ Some c) × UberStands x (Some c)
 uber_content x None h = absurd h
-uber_content x (Some c) h = (c, refl, record { pending = h.pending; are = h.are; stands = h.stands })
+uber_content x (Some c) h = (c, refl, record { pending = h.pending; are = h.are; stands = h.stands; versions = h.versions })
 
 kept_body : (kept : Option UberBody) → 1 ≤ group_of kept → (body : UberBody) × (kept ≡ Some body)
 kept_body None some = absurd (omega (arith, some))

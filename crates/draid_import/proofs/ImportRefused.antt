@@ -31,7 +31,7 @@ use Rattle.draid_pool.specs.Ubers.{IsPending, UberStands}
 use Rattle.draid_pool.proofs.Returned.{area_told, kit_is, rests_on}
 use Rattle.draid_import.proofs.ImportFound.{found_findable, found_holds, found_images, found_leaves, numbered_before}
 use Rattle.draid_import.proofs.ImportMetaslab.{FindsImage, counts_rise, found_image, unopened, unopened_reopens, unopened_rests}
-use Rattle.draid_import.proofs.ImportOpened.{all_reached, collect, finds_state}
+use Rattle.draid_import.proofs.ImportOpened.{all_reached, collect, finds_state, rests_versions}
 use Rattle.draid_import.proofs.ImportUber.{found_kept}
 use Rattle.draid_pool.proofs.ImageLeaves.{leaves_there}
 use Rattle.draid_pool.proofs.Lists.{present}
@@ -84,7 +84,7 @@ module _ (x : State) (pieces : ℕ → Pieces) (held : Held) (rests : Rests x pi
   pub rests_again : Rests (record x { pending = pending; uber_count = n }) pieces (puts_uber (Some u) held)
   rests_again = record {
     layout = rests.layout;
-    uber = record { pending = stands.pending; are = stands.are; stands = stands.stands };
+    uber = record { pending = stands.pending; are = stands.are; stands = stands.stands; versions = stands.versions };
     checks = rests.checks;
     many = rests.many;
     kits = λ m y at. on_kit (held.kits m) m y (rests.kits m y at);
@@ -177,7 +177,7 @@ module _ (x : State) (pieces : ℕ → Pieces) (held : Held) (rests : Rests x pi
     mid = found_state x body.group body.next_leaf shelved.0 x.store.seq n
 
     finds : Finds x body.group mid
-    finds = finds_state x body.group body.next_leaf shelved.0 x.store.seq n body_is.may body_is.some body_is.leaf shelved.1 (λ m y z at there. (shelved.2 m y z at there).reopens) counted
+    finds = finds_state x body.group body.next_leaf shelved.0 x.store.seq n (rests_versions x held.uber rests.uber) body_is.may body_is.some body_is.leaf shelved.1 (λ m y z at there. (shelved.2 m y z at there).reopens) counted
 
     reached : (m : ℕ) (y : Metaslab) → slice_get x.metaslabs m ≡ Some y → IsReached (layout_of x.geometry x.perms m) y.world
     reached = all_reached x pieces held rests
@@ -216,17 +216,17 @@ module _ (x : State) (pieces : ℕ → Pieces) (held : Held) (rests : Rests x pi
         held = record {
           layout = rests.layout;
           uber = subst (λ o. IsSomeAnd o (λ c. UberStands mid (Some c))) (sym uber)
-              (record { pending = []; are = All-nil (IsPending mid); stands = subst (λ k. StandsTold k [] (Some u)) (sym (found_kept x mid body body_is refl refl refl)) stands });
+              (record { pending = []; are = All-nil (IsPending mid); stands = subst (λ k. StandsTold k [] (Some u)) (sym (found_kept x mid body body_is refl refl refl)) stands; versions = (refl, refl) });
           checks = checks;
           many = shelved.1 ∙ rests.many;
           kits = λ m z at. on_mid (new.kits m) m z (there m z at).1.kit;
-          images = found_images x mid body.group pieces finds rests.layout rests.many reached rests.leaves findable rests.objects;
-          leaves = found_leaves x mid body.group pieces finds rests.layout rests.many reached rests.leaves findable rests.objects;
-          objects = found_holds x mid body.group pieces finds rests.layout rests.many reached rests.leaves findable rests.objects
-              (numbered_before x mid body.group pieces finds rests.layout rests.many reached rests.leaves findable rests.objects refl);
+          images = found_images x mid body.group pieces finds refl rests.layout rests.many reached rests.leaves findable rests.objects;
+          leaves = found_leaves x mid body.group pieces finds refl rests.layout rests.many reached rests.leaves findable rests.objects;
+          objects = found_holds x mid body.group pieces finds refl rests.layout rests.many reached rests.leaves findable rests.objects
+              (numbered_before x mid body.group pieces finds refl rests.layout rests.many reached rests.leaves findable rests.objects refl);
         };
         importable = record {
-          findable = found_findable x mid body.group pieces finds rests.layout rests.many reached rests.leaves findable rests.objects;
+          findable = found_findable x mid body.group pieces finds refl rests.layout rests.many reached rests.leaves findable rests.objects;
           alike = alike_mid;
           once = λ m z image at is. (there m z at).1.once image is;
           there = λ m z image at is. (there m z at).1.leaves image is;

@@ -19,7 +19,7 @@ use Rattle.draid_uber.specs.declared.uber.Uber.{Uber}
 use Rattle.draid_uber.proofs.Imports.{import_takes}
 use Rattle.draid_session.specs.State.{State}
 use Rattle.draid_import.specs.Imported.{FindsBody}
-use Rattle.draid_pool.specs.Ubers.{IsPending, IsUber, UberStands, body_of, kept_in}
+use Rattle.draid_pool.specs.Ubers.{HasVersions, IsPending, IsUber, UberStands, body_of, kept_in}
 
 abbrev Chosen : Type 0
 Chosen = Option (Result UberBody RecordFault)
@@ -115,6 +115,7 @@ module _ (x : State) where
       pending = stands.pending;
       are = stands.are;
       stands = λ bytes may. subst (IsLeft (kept_in x) stands.pending) (sym (leaves_all (flushes c) bytes (λ i. refl) refl may)) left;
+      versions = stands.versions;
     }
 
     -- and where no gate is open then, nothing is left of a commit that was refused
@@ -124,6 +125,7 @@ module _ (x : State) where
       are = All-nil (IsPending (record x { pending = false }));
       stands = λ bytes may. subst (IsLeft (kept_in x) []) (sym (leaves_all (flushes c) bytes (λ i. refl) refl may))
           (record { long = left.long; kept_is = left.kept_is; chosen = inl (is ∙ none_of (read_none_kept is)) });
+      versions = stands.versions;
     }
       where
         none_of : kept_in x ≡ None → None ≡ option_map read_body (kept_in x)
@@ -175,13 +177,13 @@ module _ {A : Type 0} (area : areas.Ghosts A) (x mid : State) (uber : Uber A) (b
 
   -- it is that of the state which is found with it
   pub found_uber : version_of uber ≡ body.props.version → next_leaf_of uber ≡ body.next_leaf → StandsTold (kept_of uber) [] (area.told (area_of uber))
-      → mid.geometry ≡ x.geometry → mid.committed ≡ body.group → mid.kept_leaf ≡ body.next_leaf → mid.next_leaf ≡ body.next_leaf → mid.uber_count ≡ area.faults (area_of uber) → IsUber area uber mid
-  found_uber version next stands geometry committed kept_leaf next_leaf count = record {
+      → mid.geometry ≡ x.geometry → mid.committed ≡ body.group → mid.kept_leaf ≡ body.next_leaf → mid.next_leaf ≡ body.next_leaf → mid.uber_count ≡ area.faults (area_of uber) → HasVersions mid → IsUber area uber mid
+  found_uber version next stands geometry committed kept_leaf next_leaf count versions = record {
     valid = valid;
     layout = found_layout ∙ sym geometry;
     version = version ∙ (ap (λ (b : UberBody). b.props.version) finds.is ∙ ap (λ (g : Geometry). g.props.version) (sym geometry));
     kept = kept ∙ sym (found_kept x mid body finds geometry committed kept_leaf);
     next_leaf = next ∙ sym next_leaf;
     count = count;
-    stands = record { pending = []; are = All-nil (IsPending mid); stands = subst (λ (k : Option UberBody). StandsTold k [] (area.told (area_of uber))) (kept ∙ sym (found_kept x mid body finds geometry committed kept_leaf)) stands };
+    stands = record { pending = []; are = All-nil (IsPending mid); stands = subst (λ (k : Option UberBody). StandsTold k [] (area.told (area_of uber))) (kept ∙ sym (found_kept x mid body finds geometry committed kept_leaf)) stands; versions = versions };
   }

@@ -118,7 +118,7 @@ module _ {R A : Type 0} (rack : racks.Ghosts R) (area : areas.Ghosts A) where
     kept = is.kept;
     next_leaf = is.next_leaf;
     count = is.count;
-    stands = record { pending = is.stands.pending; are = is.stands.are; stands = is.stands.stands };
+    stands = record { pending = is.stands.pending; are = is.stands.are; stands = is.stands.stands; versions = is.stands.versions };
   })
 
   pub record Turned (m : ℕ) (pool new : Pool R A) (shard shard' : Shard R A) (x : State) (y y' : Metaslab) (now : Pieces) : Type 0 where

@@ -48,7 +48,7 @@ pub record Refuses {A : Type 0} (area : areas.Ghosts A) (old new : Uber A) (grou
 
 -- a state behind them
 abbrev pub named_state : State → ℕ → ℕ → State
-named_state x group count = record x { committed = group; kept_leaf = x.next_leaf; pending = false; uber_count = count }
+named_state x group count = record x { committed = group; kept_leaf = x.next_leaf; kept_version = x.next_version; pending = false; uber_count = count }
 
 abbrev pub refused_state : State → ℕ → State
 refused_state x count = record x { pending = true; uber_count = count }
@@ -77,6 +77,7 @@ module _ {A : Type 0} (area : areas.Ghosts A) (old new : Uber A) (group : ℕ) (
           are = All-nil (IsPending (named_state x group (area.faults (area_of new))));
           stands = subst (λ kept. StandsTold kept [] (area.told (area_of new))) own
               (n.stands is.stands.pending (subst (λ kept. StandsTold kept is.stands.pending (area.told (area_of old))) (sym is.kept) is.stands.stands));
+          versions = (is.stands.versions.1, is.stands.versions.1);
         };
       }
 
@@ -96,6 +97,7 @@ module _ {A : Type 0} (area : areas.Ghosts A) (old new : Uber A) (group : ℕ) (
               (All-weaker (IsPending x) (IsPending after) (λ body pending. (refl, pending.1)) is.stands.pending is.stands.are);
           stands = subst (λ kept. StandsTold kept (next_of old group ∷ is.stands.pending) (area.told (area_of new))) is.kept
               (n.stands is.stands.pending (subst (λ kept. StandsTold kept is.stands.pending (area.told (area_of old))) (sym is.kept) is.stands.stands));
+          versions = is.stands.versions;
         };
       }
 

@@ -373,7 +373,7 @@ module _ (x : State) (pieces : ℕ → Pieces) where
   rests_crashed held left r crash = record {
     layout = r.layout;
     uber = both_some area_moments.IsCrashOutcome (λ c. UberStands x (Some c)) (λ c. UberStands x (Some c)) held.uber left.uber r.uber crash.uber
-        (λ a b s outcome. record { pending = s.pending; are = s.are; stands = crash_stands (kept_in x) s.pending (Some a) (Some b) s.stands outcome });
+        (λ a b s outcome. record { pending = s.pending; are = s.are; stands = crash_stands (kept_in x) s.pending (Some a) (Some b) s.stands outcome; versions = s.versions });
     checks = both_some CrashedChecks AreNewChecks AreNewChecks held.checks left.checks r.checks crash.checks
         (λ a b new outcome. record { even = new_crashed a.even b.even new.even outcome.even; odd = new_crashed a.odd b.odd new.odd outcome.odd });
     many = r.many;

@@ -21,11 +21,16 @@ kept_in x = if x.committed == 0 then None else Some (body_of x.geometry x.commit
 abbrev pub IsPending : State → UberBody → Type 0
 IsPending x body = (x.pending ≡ true) × (body ≡ body_of x.geometry (x.committed + 1) x.next_leaf)
 
+-- the pool's version is that of its layout, in the committed group and in the next
+abbrev pub HasVersions : State → Type 0
+HasVersions x = (x.kept_version ≡ x.geometry.props.version) × (x.next_version ≡ x.geometry.props.version)
+
 -- Whatever a crash leaves of an area, an import finds the committed group there, or one of which a commit was refused.
 pub record UberStands (x : State) (told : Option Content) : Type 0 where
   pub pending : List UberBody
   pub are : All (IsPending x) pending
   pub stands : StandsTold (kept_in x) pending told
+  pub versions : HasVersions x
 
 -- the uberblock of an open pool
 pub record IsUber {A : Type 0} (area : areas.Ghosts A) (uber : Uber A) (x : State) : Type 0 where

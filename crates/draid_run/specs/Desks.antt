@@ -1,5 +1,5 @@
 -- For which desk the pool and the shelf stand between lines, and what a command comes to.
-use Rattle.std.specs.Prelude.{◌≡◌, ⊤, ℕ, List, Option, Some, None, Result}
+use Rattle.std.specs.Prelude.{◌≡◌, ⊤, List, Option, Some, None, Result}
 use Rattle.draid_rack.specs.declared.Rack as racks
 use Rattle.draid_area.specs.declared.Area as areas
 use Rattle.draid_script.specs.Line.{Command, WriteObject, ReadObject, FillObjects, FreeObject, SumObjects, DamageSector, ShowStatus}

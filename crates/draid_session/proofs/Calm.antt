@@ -13,7 +13,7 @@ use Rattle.draid_machine.specs.Step.{Step}
 use Rattle.draid_machine.proofs.Small.{absurd_test, equal, is_equal}
 use Rattle.draid_layouts.specs.Layout.{layout_of}
 use Rattle.draid_session.specs.Follows.{Follows, Holds, HoldsMetaslab, MetaslabActs}
-use Rattle.draid_session.specs.Holds.{Act, AreaFailed, Committed, CommitFailed, CommitStarved, NextLeaf, Did, Hold, Looked, LookedUber, MadeLeaf, On, OnUber, RackFailed, Reserved, View}
+use Rattle.draid_session.specs.Holds.{Act, AreaFailed, Committed, CommitFailed, CommitStarved, NextLeaf, AsksVersion, Did, Hold, Looked, LookedUber, MadeLeaf, On, OnUber, RackFailed, Reserved, View}
 use Rattle.draid_session.specs.Looks.{AllOf, OnlyLooks}
 use Rattle.draid_session.specs.State.{Metaslab, State, Store}
 use Rattle.draid_session.specs.Groups.{is_commit}
@@ -88,6 +88,7 @@ IsCalmHold (On v (Did e w)) = IsCalm e
 IsCalmHold (On v act) = ⊤
 IsCalmHold (OnUber u LookedUber) = ⊤
 IsCalmHold (OnUber u (NextLeaf next)) = ⊤
+IsCalmHold (OnUber u (AsksVersion version)) = ⊤
 IsCalmHold hold = ⊥
 
 -- the same pool, but for what calm holds change
@@ -108,7 +109,17 @@ alike_more a b c x y = record { group = y.group ∙ x.group; closing = y.closing
 pub calm_none : (x : State) → CalmTo x x
 calm_none x = record { committed = refl; pending = refl; told = refl; geometry = refl; each = λ k y there. (y, there, alike_same y.world, goes_none y); back = λ k z there. (z, there, alike_same z.world, goes_none z) }
 
--- the next leaf has another number
+-- the next group has another version, or the next leaf another number
+calm_version : (x : State) (version : ℕ) → CalmTo x (record x { next_version = version })
+calm_version x version = record {
+  committed = refl;
+  pending = refl;
+  told = refl;
+  geometry = refl;
+  each = λ k y there. (y, there, alike_same y.world, goes_none y);
+  back = λ k z there. (z, there, alike_same z.world, goes_none z);
+}
+
 calm_leaf : (x : State) (next : ℕ) → CalmTo x (record x { next_leaf = next })
 calm_leaf x next = record {
   committed = refl;
@@ -213,6 +224,7 @@ hold_calms : (hold : Hold) (old new : State) → IsCalmHold hold → Holds hold 
 hold_calms (On v act) old new calm it = hold_calm v act old new calm it
 hold_calms (OnUber u LookedUber) old new calm it = subst (CalmTo old) (sym it.acts) (calm_none old)
 hold_calms (OnUber u (NextLeaf next)) old new calm it = subst (CalmTo old) (sym it.acts) (calm_leaf old next)
+hold_calms (OnUber u (AsksVersion version)) old new calm it = subst (CalmTo old) (sym it.acts) (calm_version old version)
 hold_calms (OnUber u act) old new calm it = absurd calm
 
 pub calm_follows : (holds : List Hold) (old new : State) → AllOf IsCalmHold holds → Follows holds old new → CalmTo old new
@@ -236,6 +248,7 @@ hold_store (OnUber u (Committed group)) x z it = ap (λ (s : State). s.store) it
 hold_store (OnUber u (CommitFailed group)) x z it = ap (λ (s : State). s.store) it.acts.2
 hold_store (OnUber u (CommitStarved group)) x z it = ap (λ (s : State). s.store) it.acts.2
 hold_store (OnUber u (NextLeaf next)) x z it = ap (λ (s : State). s.store) it.acts
+hold_store (OnUber u (AsksVersion version)) x z it = ap (λ (s : State). s.store) it.acts
 
 pub follows_store : (holds : List Hold) (x z : State) → Follows holds x z → z.store ≡ x.store
 follows_store [] x z follows = ap (λ (s : State). s.store) follows

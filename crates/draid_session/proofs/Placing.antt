@@ -1,11 +1,9 @@
 -- Where a command changes arms, by its phases.
-use Rattle.std.proofs.Common.{◌≡◌, ◌∙◌, ◌+◌, ◌++◌, ◌⊎◌, ℕ, zero, suc, Bool, true, false, List, [], ◌∷◌, Option, inl, inr, refl, sym, ap, subst, append-nil}
+use Rattle.std.proofs.Common.{◌≡◌, ◌∙◌, ◌+◌, ◌++◌, ◌⊎◌, ℕ, zero, suc, true, false, List, [], ◌∷◌, Option, inl, inr, refl, sym, ap, subst, append-nil}
 use Rattle.std.specs.Prelude.{⊤, if◌then◌else◌}
 use Rattle.draid_names.specs.declared.refusal.SlotFault.{SlotFault}
-use Rattle.draid_names.specs.declared.room.Room.{Room}
 use Rattle.draid_spec.specs.declared.layout.Geometry.{Geometry}
 use Rattle.draid_perm.specs.declared.perms.Perms.{Perms}
-use Rattle.draid_machine.specs.declared.names.ArmName.{ArmName}
 use Rattle.draid_machine.specs.declared.names.ArmName.TheVariants.{Leaf, Spare}
 use Rattle.draid_machine.specs.declared.event.Event.{Event}
 use Rattle.draid_machine.specs.declared.event.Event.TheVariants as event
@@ -19,7 +17,7 @@ use Rattle.draid_session.specs.Arms as arms
 use Rattle.draid_session.specs.Does.{Broken, Does}
 use Rattle.draid_session.specs.Everywhere.{ArmsChange, ArmsStay, Change, Everywhere, IsOnArms, Left, Nowhere, changes_arms, changes_in, one_each}
 use Rattle.draid_session.specs.Groups as groups
-use Rattle.draid_session.specs.Holds.{Act, AreaFailed, CommitFailed, CommitStarved, Committed, Did, Hold, Looked, LookedUber, MadeLeaf, On, OnUber, RackFailed, Reserved, UberView, View}
+use Rattle.draid_session.specs.Holds.{AreaFailed, CommitFailed, CommitStarved, Committed, Did, Hold, Looked, LookedUber, MadeLeaf, On, OnUber, RackFailed, Reserved, UberView, View}
 use Rattle.draid_session.specs.Looks.{AllOf, OnlyLooks}
 use Rattle.draid_session.specs.Phases.{Broke, Chain, Each, End, Starved, WasLast, WasWorn, Went}
 use Rattle.draid_session.specs.State.{Store}

@@ -30,7 +30,7 @@ use Rattle.draid_shard.specs.Part.{Part}
 use Rattle.draid_shard.specs.declared.shard.Shard.{Shard}
 use Rattle.draid_session.specs.Follows as follows
 use Rattle.draid_session.specs.Follows.{Follows, UberActs}
-use Rattle.draid_session.specs.Holds.{Committed, CommitFailed, CommitStarved, Hold, LookedUber, NextLeaf, On, OnUber, UberAct}
+use Rattle.draid_session.specs.Holds.{AsksVersion, Committed, CommitFailed, CommitStarved, Hold, LookedUber, NextLeaf, On, OnUber, UberAct}
 use Rattle.draid_session.specs.State.{Metaslab, State, Store}
 use Rattle.draid_session.specs.Writes.{WritesBlock}
 use Rattle.draid_store.specs.Answers.{ReplaceDoes, WriteInDoes}
@@ -62,6 +62,7 @@ uber_on (Committed group) old new s acts = (acts.0, acts.1, ap (λ (z : State). 
 uber_on (CommitFailed group) old new s acts = (acts.0, acts.1, ap (λ (z : State). record z { store = s }) acts.2)
 uber_on (CommitStarved group) old new s acts = (acts.0, acts.1, ap (λ (z : State). record z { store = s }) acts.2)
 uber_on (NextLeaf next) old new s acts = ap (λ (z : State). record z { store = s }) acts
+uber_on (AsksVersion version) old new s acts = ap (λ (z : State). record z { store = s }) acts
 
 hold_on : (hold : Hold) (old new : State) (s : Store) → follows.Holds hold old new → follows.Holds hold (record old { store = s }) (record new { store = s })
 hold_on (On v act) old new s h = record { before = h.before; after = h.after; there = h.there; sees = h.sees; acts = h.acts; made = ap (λ (z : State). record z { store = s }) h.made }
