@@ -124,7 +124,7 @@ module _ (geometry : Geometry) (perms : Perms) where
     comes_fit : (Breaks : List View → UberView → SlotFault → Type 0) (Goes : List View → UberView → List Hold → End → Type 0)
         → ((views : List View) (u : UberView) → IsCalmPhase (Goes views u)) → (holds : List Hold) (end : End)
         → arms.Comes geometry perms Breaks Goes holds end → Follows holds x z → KeepsOpen z store b
-    comes_fit Breaks Goes calm holds end (inr f) follows = (finishes geometry perms holds end x z store b f.1 follows of fit).keeps
+    comes_fit Breaks Goes calm holds end (inr f) follows = (finishes geometry perms holds end x z store b f.2 follows of fit).keeps
     comes_fit Breaks Goes calm holds end (inl g) follows =
         let begun = begins_fit holds g.views g.u g.rest g.begins follows in
         calm_fit begun.y z store b (calm_follows g.rest begun.y z (calm g.views g.u g.rest end g.does) begun.follows) begun.fits
@@ -172,7 +172,7 @@ module _ (geometry : Geometry) (perms : Perms) where
   loses_fit : (arm : ArmName) (group : ℕ) (holds : List Hold) (end : End) (x z : State) (store : Store) (b : Book) → arms.LosesArm geometry perms arm group holds end
       → Follows holds x z → x.geometry ≡ geometry → KeepsOpen x store b → EndsAsSync group end z store b
   loses_fit arm group holds end x z store b (inr f) follows of fit =
-      record { went = λ went. absurd (f.0 went); stopped = λ stopped. fit_doubt z store b (finishes geometry perms holds end x z store b f.1 follows of fit).keeps }
+      record { went = λ went. absurd (f.0 went); stopped = λ stopped. fit_doubt z store b (finishes geometry perms holds end x z store b f.2 follows of fit).keeps }
   loses_fit arm group holds end x z store b (inl g) follows of fit =
       let begun = begins_fit x z store b of fit holds g.views g.u g.rest g.begins follows in
       leaves_fit arm group g.views g.rest end begun.y z store b g.does begun.follows begun.layout begun.fits
