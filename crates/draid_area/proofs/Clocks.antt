@@ -4,7 +4,8 @@ use Rattle.std.proofs.lemmas.List.{places, same_lists}
 use Rattle.std.proofs.lemmas.List.Folds.{list_any-append}
 use Rattle.std.specs.List.{splice}
 use Rattle.draid_area.specs.declared.cells.Span.{Span}
-use Rattle.draid_area.specs.Area.{Content, Writes, begins, flushes, tears, tick, waits, within, writes}
+use Rattle.draid_area.specs.Area.{Content, Writes, begins, flushes, tears, waits, within, writes}
+use Rattle.draid_names.specs.Clocks.{tick}
 use Rattle.draid_area.specs.Cells.{HasMarks, clock_at, covers, is_soft, is_torn, told_by}
 use Rattle.draid_area.proofs.Splices.{splice_nothing, splice_padded}
 

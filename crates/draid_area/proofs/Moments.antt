@@ -2,7 +2,8 @@ use Rattle.std.proofs.Common.{arith, refl, ◌≡◌, ◌≤◌, ◌<◌, ◌+�
 use Rattle.std.proofs.lemmas.Bool.Decides.{nat_tests}
 use Rattle.std.proofs.lemmas.List.{ext_get_or}
 use Rattle.std.specs.List.{splice}
-use Rattle.draid_area.specs.Area.{Content, Writes, OnTold, IsOrderly, MayLeave, last_clock, tick, within, writes, flushes}
+use Rattle.draid_area.specs.Area.{Content, Writes, OnTold, IsOrderly, MayLeave, within, writes, flushes}
+use Rattle.draid_names.specs.Clocks.{tick, last_clock}
 use Rattle.draid_area.specs.Moments.{Stays, Goes, Between, CrashKeeps, CrashesTold, IsCrashOutcome, LeavesWritten, Elapses, ElapsesTold, ChangesOnly, ChangesOnlyTold, OnBoth}
 use Rattle.draid_area.proofs.Splices.{length-splice, splice_outside}
 

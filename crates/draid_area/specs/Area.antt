@@ -1,5 +1,6 @@
 use Rattle.std.specs.Prelude.{◌≡◌, ◌≤◌, ⊤, ◌+◌, ◌-◌, ◌^◌, ◌&&◌, ℕ, Bool, true, false, List, Option, Result, MatchOption, OnOk, IsErrOf, option_map, nat_le, nat_lt, length, slice_range, slice_index_or, if◌then◌else◌}
 use Rattle.std.specs.List.{splice}
+use Rattle.draid_names.specs.Clocks.{tick}
 use Rattle.draid_names.specs.Faults.{Rose}
 use Rattle.draid_names.specs.declared.fault.DeviceFault.{DeviceFault}
 
@@ -11,13 +12,6 @@ pub record Content : Type 0 where
   pub soft : ℕ → Bool
   pub since : ℕ → ℕ
   pub clock : ℕ
-
-abbrev pub last_clock : ℕ
-last_clock = 2 ^ 64 - 1
-
--- one change later. It stands still at the last clock
-abbrev pub tick : ℕ → ℕ
-tick c = if nat_lt c last_clock then c + 1 else c
 
 -- the offset is one of n from here on
 abbrev pub within : ℕ → ℕ → ℕ → Bool

@@ -1,6 +1,7 @@
 use Rattle.std.specs.Prelude.{◌≡◌, ◌<◌, ◌≤◌, ◌+◌, ⊤, ℕ, Bool, false, nat_lt, List, Option, None, MatchOption, IsTrue, length, slice_index_or}
 use Rattle.std.specs.List.{splice}
-use Rattle.draid_area.specs.Area.{Content, MayLeave, last_clock}
+use Rattle.draid_area.specs.Area.{Content, MayLeave}
+use Rattle.draid_names.specs.Clocks.{last_clock}
 
 -- an offset that wasn't written between two states
 pub record Stays (x y : Content) (i : ℕ) : Type 0 where

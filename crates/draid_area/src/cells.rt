@@ -1,7 +1,8 @@
 ghost use Rattle.std.specs.Prelude.{◌≡◌, ◌+◌, ◌-◌, ◌^◌, ◌&&◌, min, nat_lt, ◌<◌, ◌≤◌, ◌++◌, ℕ, true, false, if◌then◌else◌, OnOk, OnErr, length, replicate, slice_index_or, slice_range, take, vec_capacity, vec_len};
 ghost use Rattle.std.specs.List.{splice};
 ghost use Rattle.draid_area.specs.Cells.{AreInside, LeavesByte, byte_at, covers, is_torn, length_by, torn_by};
-ghost use Rattle.draid_area.specs.Area.{tick, within};
+ghost use Rattle.draid_area.specs.Area.{within};
+ghost use Rattle.draid_names.specs.Clocks.{tick};
 ghost use Rattle.draid_faults.specs.Crash.{left_by};
 
 use draid_faults::{CrashRule, leave};

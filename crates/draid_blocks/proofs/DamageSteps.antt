@@ -3,13 +3,12 @@ use Rattle.std.proofs.Common.{◌≡◌, ◌<◌, ℕ, true, false, Option, Some
 use Rattle.std.specs.Prelude.{MatchOption, Result, Ok, Err, OnErr, OnOk, is_err, option_map}
 use Rattle.draid_names.specs.declared.fault.Failed.{Failed}
 use Rattle.draid_spec.specs.Geometry.{metaslab_sectors}
-use Rattle.draid_rack.specs.Rack.{Fits, Shape, Told, damages}
+use Rattle.draid_rack.specs.Rack.{Fits, Shape, Told, damages, OnBothTold}
 use Rattle.draid_machine.specs.State as machine
 use Rattle.draid_machine.specs.Step.{DamageStep}
 use Rattle.draid_segments.specs.Acts.{Damages}
 use Rattle.draid_entries.specs.declared.history.History.{History}
 use Rattle.draid_slots.specs.Table.{SlotTable}
-use Rattle.draid_shard.specs.Calls.{OnBothTold}
 use Rattle.draid_shard.specs.Fits.{IsLeaf}
 use Rattle.draid_shard.specs.States.{IsIn, layout_by}
 use Rattle.draid_shard.specs.declared.shard.Shard.{Shard}

@@ -30,6 +30,7 @@ use Rattle.draid_slots.specs.Table.{SlotTable}
 use Rattle.draid_blocks.specs.Fetching.{AreFetched, Fetches}
 use Rattle.draid_shard.specs.Calls.{CountsFailed}
 use Rattle.draid_shard.specs.Looks.{IsLive}
+use Rattle.draid_shard.specs.Alike.{KeepsArms}
 use Rattle.draid_shard.specs.Changes.{KeepsBlocks}
 use Rattle.draid_shard.specs.Columns.{row_bytes}
 use Rattle.draid_shard.specs.Fits.{IsPlaced, Valid}
@@ -41,7 +42,7 @@ use Rattle.draid_shard.specs.States.{IsIn, Leads, layout_by, part_of, stored_in}
 use Rattle.draid_shard.specs.declared.places.ColumnRows.{ColumnRows}
 use Rattle.draid_shard.specs.declared.shard.Shard.{Shard}
 use Rattle.draid_shard.proofs.Answering.{row_leaf}
-use Rattle.draid_shard.proofs.Changed.{same_entries}
+use Rattle.draid_shard.proofs.Changed.{same_arms, same_entries}
 use Rattle.draid_blocks.proofs.DamageSteps.{same_in}
 use Rattle.draid_shard.proofs.Finding.{columns_apart, reading_found, reading_none}
 use Rattle.draid_shard.proofs.Held.{key_leads}
@@ -193,6 +194,7 @@ module _ {R A : Type 0} (rack : Ghosts R) (old new : Shard R A) (valid : Valid r
     pointer_is = pointer_is;
     fetched_is = is_fetched;
     keeps = subst (KeepsBlocks old) (sym after) (record { entries = same_entries old.entries; groups = record { open_group_is = refl; closing = refl; sealed = refl; committed = refl } });
+    slots = subst (λ (s : Shard R A). KeepsArms old.slots s.slots) (sym after) (same_arms old.slots);
     failed = failed;
     does = record { part = ap (λ s. part_of s) after; stored = stored; leads = leads };
     counts = counts;
@@ -212,6 +214,7 @@ fetches_asked rack old new history pointer fetched same f = record {
     entries = f.keeps.entries;
     groups = record { open_group_is = same.open_group_is; closing = same.closing; sealed = same.sealed; committed = same.committed };
   });
+  slots = record { same = f.slots.same; arms_stay = f.slots.arms_stay; detached_stay = f.slots.detached_stay };
   failed = f.failed;
   does = record {
     part = f.does.part;

@@ -8,9 +8,9 @@ use Rattle.draid_names.specs.declared.arm.Arm.{Arm}
 use Rattle.draid_names.specs.declared.arm.ArmAt.{ArmAt}
 use Rattle.draid_names.specs.declared.arm.ArmKind.TheVariants.{Spare}
 use Rattle.draid_rack.specs.Moments.{Leaves}
-use Rattle.draid_rack.specs.Rack.{Told}
+use Rattle.draid_rack.specs.Rack.{Told, OnBothTold}
 use Rattle.draid_rack.proofs.Moments.{leaves_more, leaves_on, leaves_self}
-use Rattle.draid_columns.specs.Columns.{RowsStand, TellsBoth, WritesRows, in_rows}
+use Rattle.draid_columns.specs.Columns.{RowsStand, WritesRows, in_rows}
 use Rattle.draid_machine.specs.declared.names.ArmName.{ArmName}
 use Rattle.draid_machine.specs.Arms.{passes}
 use Rattle.draid_machine.specs.Names.{has_name, has_number, name_eq}
@@ -219,10 +219,10 @@ module _ (slots mid new : SlotTable) (rows : ColumnRows) (n : ℕ) (column : Lis
     own_leaf : (k leaf : ℕ) → k ≡ n → leaf_on slots rows k ≡ Some leaf → at ≡ leaf
     own_leaf k leaf same on = some_same (leaf_on slots rows n) at leaf here (subst (λ j. leaf_on slots rows j ≡ Some leaf) same on)
 
-  told_more : (w : Outcome) (s t u : Option Told) → LandsOn slots rows n column w t u → TellsBoth s t (Wrote slots rows n column landing.landed) → TellsBoth s u (Wrote slots rows (suc n) column (noted landing name w).landed)
+  told_more : (w : Outcome) (s t u : Option Told) → LandsOn slots rows n column w t u → OnBothTold s t (Wrote slots rows n column landing.landed) → OnBothTold s u (Wrote slots rows (suc n) column (noted landing name w).landed)
   told_more Silent None t u l e = l.1 ∙ e
   told_more Silent (Some x) None u l e = absurd e
-  told_more Silent (Some x) (Some y) u l e = subst (λ v. TellsBoth (Some x) v (Wrote slots rows (suc n) column landing.landed)) (sym l.1) (wrote_silent x y e)
+  told_more Silent (Some x) (Some y) u l e = subst (λ v. OnBothTold (Some x) v (Wrote slots rows (suc n) column landing.landed)) (sym l.1) (wrote_silent x y e)
   told_more (Failed leaf) None None u l e = l.2
   told_more (Failed leaf) None (Some y) u l e = absurd (cc)
   told_more (Failed leaf) (Some x) None u l e = absurd e
@@ -391,7 +391,7 @@ lands_none slots rows column o f = record {
   others = λ at group out. refl;
   counts = counts_none f;
 } where
-  told : (o : Option Told) → TellsBoth o o (Wrote slots rows 0 column [])
+  told : (o : Option Told) → OnBothTold o o (Wrote slots rows 0 column [])
   told None = refl
   told (Some x) = record {
     leaves = leaves_self (written_below slots rows 0) x;

@@ -6,8 +6,8 @@ use Rattle.std.proofs.lemmas.Bool.Decides.{nat_tests}
 use Rattle.draid_names.specs.declared.arm.Arm.{Arm}
 use Rattle.draid_names.specs.declared.arm.ArmAt.{ArmAt}
 use Rattle.draid_names.specs.declared.pointer.Pointer.{Pointer}
-use Rattle.draid_rack.specs.Rack.{Told}
-use Rattle.draid_columns.specs.Columns.{TellsBoth, in_rows}
+use Rattle.draid_rack.specs.Rack.{Told, OnBothTold}
+use Rattle.draid_columns.specs.Columns.{in_rows}
 use Rattle.draid_machine.specs.declared.names.ArmName.{ArmName}
 use Rattle.draid_machine.specs.declared.names.Held.{Held}
 use Rattle.draid_machine.specs.declared.names.Segment.{Segment}
@@ -19,7 +19,7 @@ use Rattle.draid_machine.specs.Arms.{fails, leaf_answers, leaf_at, passes}
 use Rattle.draid_machine.specs.Claims.{is_on}
 use Rattle.draid_machine.specs.Created.{IsReached}
 use Rattle.draid_machine.specs.Images.{Owned}
-use Rattle.draid_machine.specs.Names.{any_below, has_name, has_number, key_eq}
+use Rattle.draid_machine.specs.Names.{any_below, has_name, has_number, key_eq, named}
 use Rattle.draid_machine.specs.State as machine
 use Rattle.draid_machine.specs.Step.{FailsThere, PutStep}
 use Rattle.draid_machine.proofs.Losing.{every_segment}
@@ -31,12 +31,11 @@ use Rattle.draid_entries.specs.Entries.{entry_at, held_in}
 use Rattle.draid_entries.specs.Maps.{held_at, held_from, key_of, staged}
 use Rattle.draid_slots.specs.Changes.{IsOf}
 use Rattle.draid_slots.specs.Table.{SlotTable, arm_at, arms_of, is_logged}
-use Rattle.draid_shard.specs.Calls.{OnBothTold}
 use Rattle.draid_shard.specs.Columns.{ArePieces, row_bytes}
 use Rattle.draid_shard.specs.Part.{IsPart, IsRun, Part, layout_in}
 use Rattle.draid_shard.specs.Rows.{AreApart, IsRowsOf, answers_on, arm_no, leaf_on, name_on, rows_on}
 use Rattle.draid_blocks.specs.Landings.{Lands, Wrote, written_below}
-use Rattle.draid_slots.specs.States.{HasSlots, name_of, named}
+use Rattle.draid_slots.specs.States.{HasSlots, name_of}
 use Rattle.draid_shard.specs.declared.places.ColumnRows.{ColumnRows}
 use Rattle.draid_blocks.specs.declared.putting.Landing.{Landing}
 use Rattle.draid_parity.specs.Columns.{column_at}
@@ -286,7 +285,7 @@ module _ (part : Part) (is : IsPart part) (slots new : SlotTable) (of : IsOf slo
       put_of : (a b d e : ℕ) → Writing a b ≡ Writing d e → a ≡ d
       put_of a b d e same = cc
 
-      told : (o p : Option Told) → TellsBoth o p (Wrote slots rows (length (arms_of slots rows.slot)) bytes landing.landed) → OnBothTold o p (PutsColumn (layout_in part) w.core (key_of pointer) block c landing.landed pieces)
+      told : (o p : Option Told) → OnBothTold o p (Wrote slots rows (length (arms_of slots rows.slot)) bytes landing.landed) → OnBothTold o p (PutsColumn (layout_in part) w.core (key_of pointer) block c landing.landed pieces)
       told None p h = h
       told (Some x) None h = h
       told (Some x) (Some y) h = puts_column pieces columns are of_column x y h

@@ -2,7 +2,7 @@
 use Rattle.std.proofs.Common.{◌==◌, ◌≤◌, Bool, true, false, refl, ◌≡◌, ◌+◌, ◌<◌, ◌∙◌, ℕ, List, [], ◌∷◌, Option, Some, arith, sym, ap, ap₂, subst, length, if◌then◌else◌}
 use Rattle.std.proofs.lemmas.Bool.Decides.{nat_tests}
 use Rattle.draid_names.specs.declared.pointer.Pointer.{Pointer}
-use Rattle.draid_rack.specs.Rack.{Told}
+use Rattle.draid_rack.specs.Rack.{Told, OnBothTold}
 use Rattle.draid_rack.specs.declared.Rack.{Ghosts}
 use Rattle.draid_spec.specs.declared.layout.Geometry.{Geometry}
 use Rattle.draid_parity.specs.Columns.{column_at}
@@ -24,7 +24,7 @@ use Rattle.draid_entries.specs.Maps.{held_at, key_of, staged}
 use Rattle.draid_slots.specs.Changes.{IsOf}
 use Rattle.draid_slots.specs.Table.{SlotTable, arms_of}
 use Rattle.draid_segments.specs.Acts.{PutsColumn}
-use Rattle.draid_shard.specs.Calls.{ActsOn, OnBothTold}
+use Rattle.draid_shard.specs.Calls.{ActsOn}
 use Rattle.draid_blocks.specs.Tickets.{Carries}
 use Rattle.draid_shard.specs.Columns.{ArePieces}
 use Rattle.draid_shard.specs.Part.{IsPart, IsRun}

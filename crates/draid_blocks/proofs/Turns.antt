@@ -22,7 +22,7 @@ use Rattle.draid_blocks.specs.Fetching.{Fetches}
 use Rattle.draid_shard.specs.Looks.{IsLive}
 use Rattle.draid_blocks.specs.Tickets.{IsOpen}
 use Rattle.draid_shard.specs.Changes.{DoesNothing}
-use Rattle.draid_shard.proofs.Changed.{same_entries}
+use Rattle.draid_shard.proofs.Changed.{same_arms, same_entries}
 use Rattle.draid_shard.specs.Fits.{Valid}
 use Rattle.draid_shard.specs.States.{IsIn, Leads, layout_by}
 use Rattle.draid_shard.proofs.Held.{key_leads, tables_in, with_tables}
@@ -129,6 +129,7 @@ module _ {R A : Type 0} (old : Shard R A) (history : History) (same : KeepsOwed 
   asked_nothing = record {
     none = record { part = refl; stored = same.events; stays = history_in old history };
     keeps = record { entries = same_entries old.entries; groups = record { open_group_is = refl; closing = refl; sealed = refl; committed = refl } };
+    slots = same_arms old.slots;
   }
 
   -- a fetch from then on is one from before
@@ -140,6 +141,7 @@ module _ {R A : Type 0} (old : Shard R A) (history : History) (same : KeepsOwed 
         pointer_is = f.pointer_is;
         fetched_is = f.fetched_is;
         keeps = record { entries = f.keeps.entries; groups = record { open_group_is = groups.open_group_is; closing = groups.closing; sealed = groups.sealed; committed = groups.committed } };
+        slots = record { same = f.slots.same; arms_stay = f.slots.arms_stay; detached_stay = f.slots.detached_stay };
         failed = f.failed;
         does = record {
           part = f.does.part;

@@ -17,6 +17,7 @@ use Rattle.draid_machine.specs.State as machine
 use Rattle.draid_segments.specs.Reads.{IsAbsent}
 use Rattle.draid_entries.specs.History.{owed_of, stored_of}
 use Rattle.draid_entries.specs.Maps.{key_of}
+use Rattle.draid_shard.specs.Alike.{KeepsArms}
 use Rattle.draid_shard.specs.Changes.{KeepsBlocks}
 use Rattle.draid_shard.specs.Columns.{row_bytes}
 use Rattle.draid_shard.specs.States.{Does, IsIn, layout_by}
@@ -39,6 +40,7 @@ pub record Fetches {R A : Type 0} (rack : Ghosts R) (old new : Shard R A) (point
   pub pointer_is : fetched.pointer ≡ pointer
   pub fetched_is : IsFetched (cut_of old.geometry) fetched
   pub keeps : KeepsBlocks old new
+  pub slots : KeepsArms old.slots new.slots
   pub failed : Vec ℕ Global
   pub does : Does old new (event.Fetch (key_of pointer) failed)
   pub counts : CountsFailed failed.items (rack.faults old.rack) (rack.faults new.rack)

@@ -3,8 +3,8 @@ use Rattle.std.specs.Prelude.{◌≡◌, ◌==◌, ◌<◌, ◌≤◌, ◌+◌, 
 use Rattle.draid_names.specs.Faults.{Rose}
 use Rattle.draid_names.specs.declared.arm.ArmAt.{ArmAt}
 use Rattle.draid_rack.specs.Moments.{Leaves, LeavesTold}
-use Rattle.draid_rack.specs.Rack.{Told}
-use Rattle.draid_columns.specs.Columns.{RowsStand, TellsBoth, WritesRows, in_rows}
+use Rattle.draid_rack.specs.Rack.{Told, OnBothTold}
+use Rattle.draid_columns.specs.Columns.{RowsStand, WritesRows, in_rows}
 use Rattle.draid_machine.specs.declared.names.ArmName.{ArmName}
 use Rattle.draid_machine.specs.Names.{any_below, has_name, has_number}
 use Rattle.draid_machine.specs.Arms.{passes}
@@ -25,7 +25,7 @@ LandsOn slots rows k column (Failed leaf) old new =
     (answers_on slots rows k ≡ true) × (leaf_on slots rows k ≡ Some leaf) × LeavesTold (in_rows (rows_on rows leaf)) old new
 LandsOn slots rows k column Done old new =
     (answers_on slots rows k ≡ true) × (leaf : ℕ) × (leaf_on slots rows k ≡ Some leaf)
-    × TellsBoth old new (WritesRows (rows_on rows leaf) column rows.count rows.count)
+    × OnBothTold old new (WritesRows (rows_on rows leaf) column rows.count rows.count)
 
 -- no count falls, and that of the leaf rose on which a call failed
 pub record CountsOn (outcome : Outcome) (old new : Option ℕ → ℕ) : Type 0 where
@@ -68,7 +68,7 @@ KeepsOn slots rows count leaf = (k : ℕ) × (k < count) × (answers_on slots ro
 -- The column was tried on the first so many arms of its slot. It landed on those that answer and whose leaf didn't fail, and the logs of the others have
 -- the birth.
 pub record Lands (slots new : SlotTable) (rows : ColumnRows) (count : ℕ) (column : List ℕ) (landing : Landing) (told now : Option Told) (before after : Option ℕ → ℕ) : Type 0 where
-  pub told_is : TellsBoth told now (Wrote slots rows count column landing.landed)
+  pub told_is : OnBothTold told now (Wrote slots rows count column landing.landed)
   pub logs : LogsBirth rows.birth slots new
   pub listed : AreApart slots rows → (n : ArmName) → has_name landing.landed n ≡ true → IsNamed slots rows count n
   pub lands : AreApart slots rows → (k : ℕ) (n : ArmName) → k < count → name_on slots rows k ≡ Some n

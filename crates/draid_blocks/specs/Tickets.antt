@@ -12,7 +12,7 @@ use Rattle.draid_machine.specs.declared.names.ArmName.{ArmName}
 use Rattle.draid_machine.specs.declared.names.Stage.TheVariants as stage
 use Rattle.draid_machine.specs.Names.{is_nil}
 use Rattle.draid_machine.specs.State as machine
-use Rattle.draid_machine.specs.Step.{Fits, HoldsFewer, IsEnabled}
+use Rattle.draid_machine.specs.Step.{Fits, HoldsFewer, IsEnabled, IsLongest}
 use Rattle.draid_segments.specs.Segments.{Pieces}
 use Rattle.draid_entries.specs.Entries.{begun, count_of, entry_at, held_in}
 use Rattle.draid_entries.specs.History.{owed_of, stored_of}
@@ -25,7 +25,7 @@ use Rattle.draid_blocks.specs.declared.fault.BeginFault.TheVariants as begin
 use Rattle.draid_shard.specs.declared.shard.Shard.{Shard}
 use Rattle.draid_blocks.specs.declared.ticket.Ticket.{Ticket}
 use Rattle.draid_shard.specs.Calls.{ActsOn, CountsFailed}
-use Rattle.draid_shard.specs.Rooms.{IsLongest, IsWornFor, block_events}
+use Rattle.draid_shard.specs.Rooms.{IsWornFor, block_events}
 
 -- a write of this number to an object may be begun: both are in range, and no block or ticket has them
 pub record IsNewWrite {R A : Type 0} (shard : Shard R A) (object seq : ℕ) : Type 0 where

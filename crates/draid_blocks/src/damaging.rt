@@ -5,6 +5,7 @@ ghost use Rattle.draid_rack.specs.Rack.{Counts};
 ghost use Rattle.draid_segments.specs.Segments.{Pieces};
 ghost use Rattle.draid_entries.specs.History.{limit_in, reserved_of};
 ghost use Rattle.draid_shard.specs.Calls.{ActsOn, SameAreas};
+ghost use Rattle.draid_shard.specs.Alike.{KeepsArms};
 ghost use Rattle.draid_shard.specs.Changes.{KeepsBlocks};
 ghost use Rattle.draid_shard.specs.Fits.{IsLeaf, Valid};
 ghost use Rattle.draid_shard.specs.States.{Does};
@@ -30,6 +31,7 @@ pub fn damage<R: Rack, A: Area>(
     ensures event { Does shard.old shard.new (Damage leaf sector (is_err result)) }
     ensures acts { (pieces : Pieces) → ActsOn R.Rack shard.old shard.new (Damage leaf sector (is_err result)) pieces }
     ensures keeps { KeepsBlocks shard.old shard.new }
+    ensures slots { KeepsArms shard.old.slots shard.new.slots }
     ensures cause { Counts (Some leaf) result (R.faults shard.old.rack) (R.faults shard.new.rack) }
     ensures reserve { reserved_of shard.new.history + 1 ≡ reserved_of shard.old.history }
     ensures limit { limit_in shard.new.history ≡ limit_in shard.old.history }

@@ -1,12 +1,9 @@
 use Rattle.std.specs.Prelude.{◌≡◌, ◌+◌, ◌-◌, ◌*◌, ◌/◌, ◌==◌, ◌||◌, ℕ, zero, suc, Bool, false, Option, None, Some, if◌then◌else◌}
 use Rattle.std.specs.Option.{option_map_or}
+use Rattle.draid_spec.specs.Geometry.{slice_at}
 use Rattle.draid_spec.specs.declared.layout.Geometry.{Geometry}
 use Rattle.draid_perm.specs.declared.perms.Perms.{Perms}
 use Rattle.draid_perm.specs.Perms.{child_of, children_of}
-
--- the slice that a sector of a child lies in
-abbrev pub slice_at : Geometry → ℕ → ℕ
-slice_at geometry sector = sector / (geometry.rows * geometry.props.height)
 
 -- the slot at a spare's position of a slice: the spares have the last positions
 abbrev pub spare_slot : Perms → ℕ → ℕ → ℕ

@@ -1,8 +1,8 @@
 ghost use Rattle.std.specs.Prelude.{◌≡◌, ◌<◌, ◌≤◌, ◌↔◌, IsTrue, length};
-ghost use Rattle.draid_spec.specs.Geometry.{IsGeometry};
+ghost use Rattle.draid_spec.specs.Geometry.{IsGeometry, slice_at};
 ghost use Rattle.draid_perm.specs.Perms.{children_of};
 ghost use Rattle.draid_names.specs.Spares.{AreUsed, IsArm};
-ghost use Rattle.draid_chain.specs.Chain.{holder_in, holder_of, links_in, links_of, slice_at, spare_slot, stands_before};
+ghost use Rattle.draid_chain.specs.Chain.{holder_in, holder_of, links_in, links_of, spare_slot, stands_before};
 ghost use Rattle.draid_chain.specs.Used.{HasColumn, first_in};
 
 use draid_perm::Perms;
@@ -42,7 +42,7 @@ pub fn holder(
         geometry,
         perms,
         used,
-        slice_of(geometry, sector),
+        sector / geometry.slice_sectors(),
         slot,
         spare,
     )
@@ -72,7 +72,7 @@ pub fn links(
         geometry,
         perms,
         used,
-        slice_of(geometry, sector),
+        sector / geometry.slice_sectors(),
         slot,
         spare,
     )
@@ -99,14 +99,6 @@ pub fn slice_holder(
     ensures below { result < geometry.now.spec.children }
 {
     chain(geometry, perms, used, slice, slot, spare).holder
-}
-
-/// The slice that a sector lies in.
-fn slice_of(geometry: &Geometry, sector: u64) -> u64
-    requires { IsGeometry geometry.now }
-    ensures { result ≡ slice_at geometry.now sector }
-{
-    sector / (u64::from(geometry.rows) * u64::from(geometry.props.height))
 }
 
 /// The chain of a spare arm in a slice. Where its slot has no column there, it has one link.

@@ -1,5 +1,6 @@
 ghost use Rattle.std.specs.Prelude.{◌≡◌, ◌≢◌, ◌+◌, ◌*◌, ◌<◌, ◌≤◌, ℕ, Option, Some, None};
 ghost use Rattle.draid_spec.specs.declared.layout.Geometry.{Geometry};
+ghost use Rattle.draid_spec.specs.Geometry.{slice_sectors};
 ghost use Rattle.draid_perm.specs.declared.perms.Perms.{Perms};
 ghost use Rattle.draid_perm.specs.Perms.{children_of};
 ghost use Rattle.draid_names.specs.Spares.{AreOfOne, AreSpares, AreUsed, IsArm};
@@ -86,9 +87,9 @@ pub fn chains_lead_back()
 /// Law: the sectors of a slice have one holder for a spare arm.
 pub fn slices_have_one_holder()
     ensures { (geometry : Geometry) (perms : Perms) (first : ℕ → Option ℕ) (slot spare slice x : ℕ)
-        → x < geometry.rows * geometry.props.height
+        → x < slice_sectors geometry
         → holder_of geometry perms first slot spare
-        (slice * (geometry.rows * geometry.props.height) + x)
+        (slice * slice_sectors geometry + x)
         ≡ holder_in perms geometry.spec.spares slice first slot spare }
 {}
 

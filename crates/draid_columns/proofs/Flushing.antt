@@ -8,9 +8,8 @@ use Rattle.std.proofs.lemmas.List.Elements.{All-nil, All-push, All-weaker}
 use Rattle.std.proofs.lemmas.List.Folds.{list_any-append}
 use Rattle.std.proofs.lemmas.List.Sums.{sum_by-append}
 use Rattle.draid_names.specs.Faults.{Rose}
-use Rattle.draid_rack.specs.Rack.{Told, flushes}
+use Rattle.draid_rack.specs.Rack.{Told, flushes, OnBothTold}
 use Rattle.draid_rack.proofs.Moments.{leaves_flushes, leaves_on, leaves_self}
-use Rattle.draid_columns.specs.Columns.{TellsBoth}
 use Rattle.draid_columns.specs.Flushes.{CountsFailed, FlushesBut, has_leaf}
 
 -- ---- a leaf more
@@ -44,14 +43,14 @@ has_fewer xs x leaf e = by (has_leaf xs leaf) (sym (has_more xs x leaf) ∙ e)
     by false e = (refl, λ at. grind (arith, nat_tests, e, at))
 
 -- ---- what is told
-pub flushed_none : (o : Option Told) → TellsBoth o o (FlushesBut [] [])
+pub flushed_none : (o : Option Told) → OnBothTold o o (FlushesBut [] [])
 flushed_none None = refl
 flushed_none (Some x) = record { firm = λ leaf sector has fails. absurd (true≢false (sym has)); leaves = leaves_self (λ l s. false) x }
 
-pub flushed_more : (all failed : List ℕ) (leaf : ℕ) (o p q : Option Told) → TellsBoth o p (FlushesBut all failed) → q ≡ option_map (flushes leaf) p → TellsBoth o q (FlushesBut (all ++ leaf ∷ []) failed)
+pub flushed_more : (all failed : List ℕ) (leaf : ℕ) (o p q : Option Told) → OnBothTold o p (FlushesBut all failed) → q ≡ option_map (flushes leaf) p → OnBothTold o q (FlushesBut (all ++ leaf ∷ []) failed)
 flushed_more all failed leaf None p q h e = e ∙ ap (option_map (flushes leaf)) h
 flushed_more all failed leaf (Some x) None q h e = absurd h
-flushed_more all failed leaf (Some x) (Some y) q h e = subst (λ v. TellsBoth (Some x) v (FlushesBut (all ++ leaf ∷ []) failed)) (sym e) (record {
+flushed_more all failed leaf (Some x) (Some y) q h e = subst (λ v. OnBothTold (Some x) v (FlushesBut (all ++ leaf ∷ []) failed)) (sym e) (record {
   firm = λ l s has fails. elim (has_cases all leaf l has) [
     | inl before ↦ (let was = h.firm l s before fails in grind (arith, nat_tests, was))
     | inr same ↦ grind (arith, nat_tests, same)
@@ -59,10 +58,10 @@ flushed_more all failed leaf (Some x) (Some y) q h e = subst (λ v. TellsBoth (S
   leaves = leaves_on (λ l s. false) x y (flushes leaf y) h.leaves (leaves_flushes (λ l s. false) leaf y);
 })
 
-pub failed_more : (all failed : List ℕ) (leaf : ℕ) (o p q : Option Told) → TellsBoth o p (FlushesBut all failed) → q ≡ p → TellsBoth o q (FlushesBut (all ++ leaf ∷ []) (failed ++ leaf ∷ []))
+pub failed_more : (all failed : List ℕ) (leaf : ℕ) (o p q : Option Told) → OnBothTold o p (FlushesBut all failed) → q ≡ p → OnBothTold o q (FlushesBut (all ++ leaf ∷ []) (failed ++ leaf ∷ []))
 failed_more all failed leaf None p q h e = e ∙ h
 failed_more all failed leaf (Some x) None q h e = absurd h
-failed_more all failed leaf (Some x) (Some y) q h e = subst (λ v. TellsBoth (Some x) v (FlushesBut (all ++ leaf ∷ []) (failed ++ leaf ∷ []))) (sym e) (record {
+failed_more all failed leaf (Some x) (Some y) q h e = subst (λ v. OnBothTold (Some x) v (FlushesBut (all ++ leaf ∷ []) (failed ++ leaf ∷ []))) (sym e) (record {
   firm = λ l s has fails. let z = has_fewer failed leaf l fails in elim (has_cases all leaf l has) [
     | inl before ↦ h.firm l s before z.0
     | inr same ↦ absurd (z.1 same)

@@ -4,10 +4,10 @@ use Rattle.std.proofs.Math.Nat.{mul-le-mul_right}
 use Rattle.std.proofs.lemmas.Bool.{cases_lt}
 use Rattle.std.proofs.lemmas.Bool.Decides.{nat_tests}
 use Rattle.draid_rack.specs.Moments.{Leaves, LeavesTold}
-use Rattle.draid_rack.specs.Rack.{Fits, Shape, Told, lands}
+use Rattle.draid_rack.specs.Rack.{Fits, Shape, Told, lands, OnBothTold}
 use Rattle.draid_rack.proofs.Moments.{leaves_lands, leaves_more, leaves_on, leaves_self}
 use Rattle.draid_columns.specs.declared.rows.Rows.{Rows}
-use Rattle.draid_columns.specs.Columns.{HasRows, RowsStand, TellsBoth, WritesRows, in_first, in_rows, row_of}
+use Rattle.draid_columns.specs.Columns.{HasRows, RowsStand, WritesRows, in_first, in_rows, row_of}
 
 -- a row is a sector of the leaf
 pub row_fits : (shape : Shape) (rows : Rows) (row n : ℕ) → HasRows shape rows → row < rows.count → n ≡ rows.size → Fits shape rows.leaf (rows.first + row) n
@@ -62,23 +62,23 @@ module _ (rows : Rows) (column : List ℕ) where
     | inr same ↦ (let i : j ≡ row = omega (arith, same, less) in grind (arith, nat_tests, e, i))
   ]
 
-  pub told_none : (o : Option Told) → TellsBoth o o (WritesRows rows column 0 0)
+  pub told_none : (o : Option Told) → OnBothTold o o (WritesRows rows column 0 0)
   told_none None = refl
   told_none (Some x) = none_written x
 
-  pub told_tried : (row : ℕ) (bytes : List ℕ) (o p : Option Told) → TellsBoth o p (WritesRows rows column row row)
-      → TellsBoth o (option_map (λ x. lands rows.leaf (rows.first + row) bytes false x) p) (WritesRows rows column row (row + 1))
+  pub told_tried : (row : ℕ) (bytes : List ℕ) (o p : Option Told) → OnBothTold o p (WritesRows rows column row row)
+      → OnBothTold o (option_map (λ x. lands rows.leaf (rows.first + row) bytes false x) p) (WritesRows rows column row (row + 1))
   told_tried row bytes None p h = ap (option_map (λ x. lands rows.leaf (rows.first + row) bytes false x)) h
   told_tried row bytes (Some x) None h = absurd h
   told_tried row bytes (Some x) (Some y) h = record { stand = before_stand row bytes x y h; whole = next_whole row bytes x y h; leaves = next_leaves row bytes x y h }
 
-  pub told_written : (row : ℕ) (bytes : List ℕ) (o p : Option Told) → TellsBoth o p (WritesRows rows column row row) → bytes ≡ row_of rows column row
-      → TellsBoth o (option_map (λ x. lands rows.leaf (rows.first + row) bytes false x) p) (WritesRows rows column (row + 1) (row + 1))
+  pub told_written : (row : ℕ) (bytes : List ℕ) (o p : Option Told) → OnBothTold o p (WritesRows rows column row row) → bytes ≡ row_of rows column row
+      → OnBothTold o (option_map (λ x. lands rows.leaf (rows.first + row) bytes false x) p) (WritesRows rows column (row + 1) (row + 1))
   told_written row bytes None p h e = ap (option_map (λ x. lands rows.leaf (rows.first + row) bytes false x)) h
   told_written row bytes (Some x) None h e = absurd h
   told_written row bytes (Some x) (Some y) h e = record { stand = next_stand row bytes x y h e; whole = next_whole row bytes x y h; leaves = next_leaves row bytes x y h }
 
-  pub told_leaves : (written tried : ℕ) (o p : Option Told) → tried ≤ rows.count → TellsBoth o p (WritesRows rows column written tried) → LeavesTold (in_rows rows) o p
+  pub told_leaves : (written tried : ℕ) (o p : Option Told) → tried ≤ rows.count → OnBothTold o p (WritesRows rows column written tried) → LeavesTold (in_rows rows) o p
   told_leaves written tried None p few h = h
   told_leaves written tried (Some x) None few h = h
   told_leaves written tried (Some x) (Some y) few h = leaves_more (in_first rows tried) (in_rows rows) x y (λ l s e. grind (arith, nat_tests, e, few)) h.leaves

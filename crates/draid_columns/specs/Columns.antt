@@ -1,7 +1,7 @@
 -- Rows of a column on one leaf.
 use Rattle.std.specs.Prelude.{◌≡◌, ◌==◌, ◌<◌, ◌≤◌, ◌+◌, ◌*◌, ◌^◌, ◌&&◌, ℕ, Bool, false, nat_le, nat_lt, List, Option, Some, None, MatchOption, take, drop}
 use Rattle.draid_rack.specs.Moments.{Leaves}
-use Rattle.draid_rack.specs.Rack.{Shape, Told}
+use Rattle.draid_rack.specs.Rack.{Shape, Told, OnBothTold}
 use Rattle.draid_columns.specs.declared.rows.Rows.{Rows}
 
 -- the bytes of a row of a column
@@ -32,10 +32,6 @@ pub record WritesRows (rows : Rows) (column : List ℕ) (written tried : ℕ) (x
   pub whole : (row : ℕ) → row < tried → y.harmed rows.leaf (rows.first + row) ≡ false
   pub leaves : Leaves (in_first rows tried) x y
 
--- before and after: what is told stays told, and the two meet P
-abbrev pub TellsBoth : Option Told → Option Told → (Told → Told → Type 0) → Type 0
-TellsBoth old new P = MatchOption old (new ≡ None) (λ x. MatchOption new ⊥ (λ y. P x y))
-
 -- a row failed, and those before it were written
 abbrev pub StopsAtRow : Rows → List ℕ → Option Told → Option Told → Type 0
-StopsAtRow rows column old new = (row : ℕ) × (row < rows.count) × TellsBoth old new (WritesRows rows column row (row + 1))
+StopsAtRow rows column old new = (row : ℕ) × (row < rows.count) × OnBothTold old new (WritesRows rows column row (row + 1))

@@ -1,5 +1,5 @@
 ghost use Rattle.std.specs.Prelude.{◌≡◌, ◌≤◌, [], All, IsSome, length, vec_capacity};
-ghost use Rattle.draid_columns.specs.Columns.{TellsBoth};
+ghost use Rattle.draid_rack.specs.Rack.{OnBothTold};
 ghost use Rattle.draid_columns.specs.Flushes.{CountsFailed, FlushesBut};
 
 use draid_rack::Rack;
@@ -9,7 +9,7 @@ pub fn flush_leaves<R: Rack>(rack: &mut R, leaves: &[u64], failed: &mut Vec<u64>
     requires there { All (λ leaf. IsSome ((R.shape rack.old).leaves leaf)) leaves.now }
     requires none { failed.old.items ≡ [] }
     requires room { length leaves.now ≤ vec_capacity failed.old }
-    ensures told { TellsBoth (R.told rack.old) (R.told rack.new) (FlushesBut leaves.now failed.new.items) }
+    ensures told { OnBothTold (R.told rack.old) (R.told rack.new) (FlushesBut leaves.now failed.new.items) }
     ensures cause { CountsFailed leaves.now failed.new.items (R.faults rack.old) (R.faults rack.new) }
     ensures shape { R.shape rack.new ≡ R.shape rack.old }
 {

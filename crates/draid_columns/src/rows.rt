@@ -1,7 +1,7 @@
 ghost use Rattle.std.specs.Prelude.{◌≡◌, ◌*◌, OnErr, OnOk, Some, length};
-ghost use Rattle.draid_columns.specs.Columns.{HasRows, RowsStand, StopsAtRow, TellsBoth, WritesRows, in_rows};
+ghost use Rattle.draid_columns.specs.Columns.{HasRows, RowsStand, StopsAtRow, WritesRows, in_rows};
+ghost use Rattle.draid_rack.specs.Rack.{OnBothTold, Counts, OnTold};
 ghost use Rattle.draid_rack.specs.Moments.{LeavesTold};
-ghost use Rattle.draid_rack.specs.Rack.{Counts, OnTold};
 
 use draid_names::Failed;
 use draid_rack::Rack;
@@ -19,7 +19,7 @@ pub struct Rows {
 pub fn write_rows<R: Rack>(rack: &mut R, rows: Rows, column: &[u8]) -> Result<(), Failed>
     requires there { HasRows (R.shape rack.old) rows }
     requires long { length column.now ≡ rows.count * rows.size }
-    ensures ok { OnOk result (TellsBoth (R.told rack.old) (R.told rack.new)
+    ensures ok { OnOk result (OnBothTold (R.told rack.old) (R.told rack.new)
         (WritesRows rows column.now rows.count rows.count)) }
     ensures err { OnErr result (StopsAtRow rows column.now (R.told rack.old) (R.told rack.new)) }
     ensures leaves { LeavesTold (in_rows rows) (R.told rack.old) (R.told rack.new) }

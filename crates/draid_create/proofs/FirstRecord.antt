@@ -17,7 +17,8 @@ use Rattle.draid_record.specs.Record.{told_pass, told_record}
 use Rattle.draid_slots.specs.Table.{arm_at}
 use Rattle.draid_stable.specs.Images.{image_by}
 use Rattle.draid_stable.specs.Sealing.{AreTables, IsMade, IsSettled, lose_marked}
-use Rattle.draid_slots.specs.States.{arm_in, named, pass_in}
+use Rattle.draid_slots.specs.States.{arm_in, pass_in}
+use Rattle.draid_machine.specs.Names.{named}
 use Rattle.draid_stable.specs.Stable.{Stands}
 use Rattle.draid_shard.specs.declared.shard.Shard.{Shard}
 use Rattle.draid_shard.specs.Fits.{Valid}

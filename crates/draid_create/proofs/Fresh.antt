@@ -18,10 +18,11 @@ use Rattle.draid_spec.specs.declared.layout.Geometry.{Geometry}
 use Rattle.draid_spec.specs.Geometry.{IsGeometry}
 use Rattle.draid_perm.specs.declared.perms.Perms.{Perms}
 use Rattle.draid_map.specs.Place.{IsLayout}
-use Rattle.draid_machine.specs.declared.names.ArmName.TheVariants.{Leaf}
+use Rattle.draid_machine.specs.declared.names.ArmName.{ArmName}
+use Rattle.draid_machine.specs.declared.names.ArmName.TheVariants.{Leaf, Spare}
 use Rattle.draid_machine.specs.declared.names.Key.{Key}
 use Rattle.draid_machine.specs.declared.names.Held.{Held as Block}
-use Rattle.draid_machine.specs.Created.{created, created_core, new_arm}
+use Rattle.draid_machine.specs.Created.{created, created_arm, created_core, new_arm}
 use Rattle.draid_machine.specs.State as machine
 use Rattle.draid_objects.specs.Blocks.{Blocks, none_held, table_of}
 use Rattle.draid_objects.specs.Stores.{IsFloor, Stores}
@@ -31,6 +32,7 @@ use Rattle.draid_segments.specs.Segments.{Backed, Pieces}
 use Rattle.draid_segments.proofs.Beginning.{created_backed}
 use Rattle.draid_shelf.specs.Kits.{AreNewChecks, ChecksTold, Held, IsNewArea, IsNewKit, IsNewPool, IsNewRack, IsUncounted, KitCounts, KitTold, OnHeld, gives_uber, takes_uber, uber_bytes}
 use Rattle.draid_layouts.specs.Layout as layouts
+use Rattle.draid_shard.specs.Alike.{ShareArms}
 use Rattle.draid_shard.specs.Part.{Part, layout_in}
 use Rattle.draid_shard.specs.States.{IsIn, layout_by}
 use Rattle.draid_shard.specs.declared.shard.Shard.{Shard}
@@ -48,12 +50,13 @@ use Rattle.draid_pool.specs.Objects.{HoldsObjects, PointsTo, blocks_of}
 use Rattle.draid_create.specs.Opening.{AreOpened, HasNewKits, IsAway, IsBackAgain, IsMade, IsOpened, IsRefused, NoChecks, Opens, SameButRecords, rack_in}
 use Rattle.draid_pool.specs.Taking.{HoldsMade, TakesFirst}
 use Rattle.draid_pool.specs.Pools.{Represents}
-use Rattle.draid_pool.specs.Importable.{AllAlike, IsAlike}
+use Rattle.draid_pool.specs.Importable.{AllAlike, IsAlike, Shared}
 use Rattle.draid_pool.specs.Records.{HasImages, HasLeafNumbers, HasRecords, LeavesAreBelow}
 use Rattle.draid_pool.specs.Ubers.{IsPending, IsUber, body_of}
 use Rattle.draid_pool.specs.Whole.{IsWhole}
 use Rattle.draid_pool.specs.declared.pool.Pool.{Pool}
-use Rattle.draid_pool.proofs.Alike.{alike_as, alike_created, created_same}
+use Rattle.draid_pool.proofs.Alike.{alike_as, alike_created, created_same, one_shared}
+use Rattle.draid_pool.proofs.Arms.{have_same, leaf_named, none_detached}
 use Rattle.draid_pool.proofs.Returned.{Parts, counted_as, holds_pool}
 use Rattle.draid_pool.proofs.Importables.{importable_back}
 use Rattle.draid_pool.proofs.Lists.{ext, some_of}
@@ -75,6 +78,15 @@ always (Some x) P h = h x
 
 points_none : {R A : Type 0} (shards : List (Shard R A)) (o : Option Pointer) → o ≡ None → PointsTo shards o None
 points_none shards o none = subst (λ z. PointsTo shards z None) (sym none) tt
+
+-- a new metaslab has no detached arm
+created_here : (l : machine.Layout) (n : ArmName) (a : machine.Arm) → created_arm l n ≡ Some a → a.gone ≡ None
+created_here l (Leaf m) a own = by (nat_lt m l.slots) own
+  where
+    by : (b : Bool) → (if b then Some new_arm else None) ≡ Some a → a.gone ≡ None
+    by true own = ap (λ (c : machine.Arm). c.gone) (sym (some_of (Some new_arm) new_arm a refl own))
+    by false own = absurd (cc)
+created_here l (Spare t) a own = absurd (cc)
 
 -- where some is there only if a test says so
 below_test : (b : Bool) (leaf n : ℕ) → (b ≡ true → leaf < n) → IsSome (if b then Some new_arm else None) → leaf < n
@@ -192,6 +204,27 @@ module _ {R A : Type 0} (rack : racks.Ghosts R) (area : areas.Ghosts A) where
         let slots : shard.geometry.spec.children ≡ geometry.spec.children = ap (λ (p : Part). p.geometry.spec.children) is.part_is in
         below_test (nat_lt leaf shard.geometry.spec.children) leaf geometry.spec.children (leaf_less leaf shard.geometry.spec.children geometry.spec.children slots) some
 
+    -- none of its arms is detached
+    detached_first : (m : ℕ) (shard : Shard R A) → slice_get shards m ≡ Some shard → shard.slots.detached ≡ []
+    detached_first m shard there =
+        let is = opened.each m shard there in
+        none_detached shard.slots (created_core (layout_in (record { geometry = geometry; perms = opened.perms; number = m }))) is.created_is.slots
+        (λ n a own. created_here (layout_in (record { geometry = geometry; perms = opened.perms; number = m })) n a own)
+
+    -- all have the same arms
+    share_first : (m n : ℕ) (a b : Shard R A) → slice_get shards m ≡ Some a → slice_get shards n ≡ Some b → ShareArms a.slots b.slots
+    share_first m n a b at here =
+        let one = opened.each m a at in
+        let other = opened.each n b here in
+        let first = one.valid.slots.geometry_is ∙ ap (λ (p : Part). p.geometry) one.part_is in
+        let second = other.valid.slots.geometry_is ∙ ap (λ (p : Part). p.geometry) other.part_is in
+        record {
+          arms = have_same a.slots b.slots (created_core (layout_in (record { geometry = geometry; perms = opened.perms; number = m }))) (created_core (layout_in (record { geometry = geometry; perms = opened.perms; number = n })))
+              one.created_is.slots other.created_is.slots (created_same (layouts.layout_of geometry opened.perms m) (layouts.layout_of geometry opened.perms n) refl)
+              (ap (λ (g : Geometry). g.spec.children) (second ∙ sym first));
+          detached = detached_first n b here ∙ sym (detached_first m a at);
+        }
+
     -- ---- all
 
     below_all : (m : ℕ) (shard : Shard R A) → slice_get shards m ≡ Some shard → m < geometry.props.metaslabs
@@ -247,20 +280,26 @@ module _ {R A : Type 0} (rack : racks.Ghosts R) (area : areas.Ghosts A) where
     }
 
     -- all have the version and the arms that new ones have
-    alike_first : (x : State) → x.geometry ≡ geometry → x.metaslabs ≡ map metaslab_of shards → AllAlike (created_core (layouts.layout_of geometry opened.perms 0)) x
-    alike_first x used are m y there =
+    abbrev first_shared : Shared
+    first_shared = one_shared geometry.props.version (created_core (layouts.layout_of geometry opened.perms 0))
+
+    alike_first : (x : State) → x.metaslabs ≡ map metaslab_of shards → AllAlike first_shared x
+    alike_first x are m y there =
         let u = unmapped metaslab_of shards m y (ap (λ (ys : List Metaslab). slice_get ys m) (sym are) ∙ there) in
-        subst (λ (z : Metaslab). IsAlike x.geometry.props.version (created_core (layouts.layout_of geometry opened.perms 0)) z.world) u.2
-        (subst (λ (w : machine.State). IsAlike x.geometry.props.version (created_core (layouts.layout_of geometry opened.perms 0)) w) (sym (world_is m u.0 (opened.each m u.0 u.1)))
-        (subst (λ (g : Geometry). IsAlike g.props.version (created_core (layouts.layout_of geometry opened.perms 0)) (created (layout_in (record { geometry = geometry; perms = opened.perms; number = m })) geometry.props.version)) (sym used)
+        subst (λ (z : Metaslab). IsAlike first_shared z.world) u.2
+        (subst (IsAlike first_shared) (sym (world_is m u.0 (opened.each m u.0 u.1)))
         (alike_as geometry.props.version (created_core (layouts.layout_of geometry opened.perms m)) (created_core (layouts.layout_of geometry opened.perms 0))
         (created (layouts.layout_of geometry opened.perms m) geometry.props.version) (created_same (layouts.layout_of geometry opened.perms m) (layouts.layout_of geometry opened.perms 0) refl)
-        (alike_created (layouts.layout_of geometry opened.perms m) geometry.props.version))))
+        (alike_created (layouts.layout_of geometry opened.perms m) geometry.props.version)))
+
+    -- all have committed the first group
+    first_committed : (m : ℕ) (y : Metaslab) → slice_get (map metaslab_of shards) m ≡ Some y → y.world.committed ≡ 1
+    first_committed m y there = (let u = unmapped metaslab_of shards m y there in ap (λ (z : Metaslab). z.world.committed) (sym u.2))
 
     -- ---- the pool
 
     module _ (count : ℕ) (told : Bool) where
-      pub represents : (pool : Pool R A) → pool.geometry ≡ geometry → pool.shards.items ≡ shards → pool.seq ≡ 0 → pool.floor ≡ 0 → ((q : ℕ) → get nat_eq pool.objects q ≡ None)
+      pub represents : (pool : Pool R A) → pool.geometry ≡ geometry → pool.metaslabs.shards.items ≡ shards → pool.own.seq ≡ 0 → pool.own.floor ≡ 0 → ((q : ℕ) → get nat_eq pool.own.objects q ≡ None)
           → IsUber area pool.uber (state_of geometry opened.perms shards count told) → Represents rack area pool (state_of geometry opened.perms shards count told)
       represents pool used items seq floor empty uber = record {
         stands = record {
@@ -269,21 +308,22 @@ module _ {R A : Type 0} (rack : racks.Ghosts R) (area : areas.Ghosts A) where
           many = length-map shards metaslab_of ∙ opened.many;
           shards = ap (λ (xs : List (Shard R A)). length xs) items ∙ sym (length-map shards metaslab_of);
           pieces = λ m. none;
-          each = each_metaslab pool.shards.items items;
+          each = each_metaslab pool.metaslabs.shards.items items;
           holds = holds_none 1;
           groups = record {
-            committed = λ m y there. (let u = unmapped metaslab_of shards m y there in ap (λ (z : Metaslab). z.world.committed) (sym u.2));
+            committed = first_committed;
             next = omega arith;
             last = omega arith;
           };
-          objects = λ object. points_none pool.shards.items (get nat_eq pool.objects object) (empty object);
+          objects = λ object. points_none pool.metaslabs.shards.items (get nat_eq pool.own.objects object) (empty object);
           seq = sym seq;
           floor = sym floor;
           uber = uber;
           images = images_first (state_of geometry opened.perms shards count told) refl (λ group found some. elim found [ inl is ↦ is | inr is ↦ absurd (let none = is.0 in cc) ]);
           leaves = leaves_first (state_of geometry opened.perms shards count told) refl refl refl;
-          arms = created_core (layouts.layout_of geometry opened.perms 0);
-          alike = alike_first (state_of geometry opened.perms shards count told) refl refl;
+          shared = first_shared;
+          versions = record { kept = refl; now = refl };
+          alike = alike_first (state_of geometry opened.perms shards count told) refl;
         };
         only = λ m k h is live. absurd (not_held m k h is);
       }
@@ -302,8 +342,9 @@ module _ {R A : Type 0} (rack : racks.Ghosts R) (area : areas.Ghosts A) where
         images = images_first x refl
             (λ group found some. elim found [ inl is ↦ absurd (omega (arith, is, some)) | inr is ↦ (let at = is.1 in omega (arith, at)) ]);
         leaves = leaves_first x refl refl refl;
-        arms = created_core (layouts.layout_of geometry opened.perms 0);
-        alike = alike_first x refl refl;
+        shared = first_shared;
+        versions = record { kept = refl; now = refl };
+        alike = alike_first x refl;
       }
 
       pub is_fresh : ((m : ℕ) → m < geometry.props.metaslabs → IsUncounted (counts m)) → OnHeld held (HasNewKits geometry) → (IsTrue told → IsTrue (is_some held))
@@ -326,9 +367,9 @@ module _ {R A : Type 0} (rack : racks.Ghosts R) (area : areas.Ghosts A) where
       }
 
     -- a pool whose uberblock names the first group is whole
-    pub first_whole : (pool : Pool R A) → pool.geometry ≡ geometry → pool.shards.items ≡ shards → pool.floor ≡ 0 → ((q : ℕ) → get nat_eq pool.objects q ≡ None)
-        → ubers.Valid area.size pool.uber → layout_of pool.uber ≡ geometry → version_of pool.uber ≡ geometry.props.version → group_of (kept_of pool.uber) ≡ 1 → IsWhole rack area pool
-    first_whole pool used items floor empty valid layout version first = record {
+    pub first_whole : (pool : Pool R A) → pool.geometry ≡ geometry → pool.metaslabs.shards.items ≡ shards → pool.own.floor ≡ 0 → ((q : ℕ) → get nat_eq pool.own.objects q ≡ None)
+        → ubers.Valid area.size pool.uber → layout_of pool.uber ≡ geometry → version_of pool.uber ≡ geometry.props.version → group_of (kept_of pool.uber) ≡ 1 → next_leaf_of pool.uber ≡ geometry.spec.children → IsWhole rack area pool
+    first_whole pool used items floor empty valid layout version first next = record {
       perms = opened.perms;
       layout = subst (λ (x : Geometry). IsLayout x opened.perms) (sym used) opened.are_perms;
       many = ap (λ (xs : List (Shard R A)). length xs) items ∙ (opened.many ∙ ap (λ (x : Geometry). x.props.metaslabs) (sym used));
@@ -341,7 +382,10 @@ module _ {R A : Type 0} (rack : racks.Ghosts R) (area : areas.Ghosts A) where
             numbered = λ key h there. (let none = is.created_is.held key in absurd (cc));
             settled = λ key h there. (let none = is.created_is.held key in absurd (cc));
             committed = sym is.created_is.committed ∙ sym first;
+            leaves = λ leaf own. (let less = below_test (nat_lt leaf geometry.spec.children) leaf geometry.spec.children (leaf_less leaf geometry.spec.children geometry.spec.children refl)
+                (leaf_named shard.slots (created_core (layout_in (record { geometry = geometry; perms = opened.perms; number = m }))) leaf is.created_is.slots (detached_first m shard at) own) in omega (arith, less, next));
           });
+      alike = λ m n a b at here. share_first m n a b (ap (λ (xs : List (Shard R A)). slice_get xs m) (sym items) ∙ at) (ap (λ (xs : List (Shard R A)). slice_get xs n) (sym items) ∙ here);
       uber = valid;
       uber_layout = layout ∙ sym used;
       uber_version = version ∙ ap (λ (x : Geometry). x.props.version) (sym used);
@@ -357,7 +401,7 @@ module _ {R A : Type 0} (rack : racks.Ghosts R) (area : areas.Ghosts A) where
     tells n (Some x) (Some y) t = refl
 
     pub opens : (now : Option Held) (pool : Pool R A) → OnHeld held (HasNewKits geometry) → TakesFirst geometry.props.metaslabs held now → ((m : ℕ) → m < geometry.props.metaslabs → IsUncounted (counts m))
-        → pool.geometry ≡ geometry → pool.shards.items ≡ shards → pool.seq ≡ 0 → pool.floor ≡ 0 → ((q : ℕ) → get nat_eq pool.objects q ≡ None)
+        → pool.geometry ≡ geometry → pool.metaslabs.shards.items ≡ shards → pool.own.seq ≡ 0 → pool.own.floor ≡ 0 → ((q : ℕ) → get nat_eq pool.own.objects q ≡ None)
         → IsUber area pool.uber (state_of geometry opened.perms shards (area.faults (area_of pool.uber)) (is_some held)) → Opens rack area geometry now pool
     opens now pool new taken uncounted used items seq floor empty uber = record {
       state = state_of geometry opened.perms shards (area.faults (area_of pool.uber)) (is_some held);
@@ -396,7 +440,7 @@ module _ {R A : Type 0} (rack : racks.Ghosts R) (area : areas.Ghosts A) where
             is_fresh = is_fresh now.uber (is_some held) uncounted fresh_kits (λ tells. tells);
             told = λ some. told_then content held mid last r.held taken (subst (λ (o : Option Held). IsSome o) gives some);
             held = checks_then (HoldsPool (uncommitted state) false) held mid new fresh_kits taken (holds_pool rack area shards content (uncommitted state) parts mid last middle late r new gives);
-            importable = importable_back rack area shards (uncommitted state) parts.pieces parts.shards_are parts.each leaves parts.arms parts.alike (λ m y at. omega arith) shapes content mid last middle late r new gives;
+            importable = importable_back rack area shards (uncommitted state) parts.pieces parts.shards_are parts.each leaves parts.shared parts.versions parts.alike 1 (omega arith) first_committed shapes content mid last middle late r new gives;
             counts = counted_as rack area shards content (uncommitted state) parts mid last middle late r after kept;
             uber = omega arith;
             checks = checks;

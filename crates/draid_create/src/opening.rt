@@ -14,7 +14,7 @@ use crate::metaslab::create_metaslab;
 use draid_area::Area;
 use draid_names::DeviceFault;
 use draid_perm::Perms;
-use draid_pool::{EVENTS, Pool, give_back};
+use draid_pool::{EVENTS, Own, Owned, Pool, give_back};
 use draid_shard::Shard;
 use draid_shelf::Shelf;
 use draid_spec::{Geometry, Props, Spec, geometry};
@@ -120,11 +120,13 @@ fn open_pool<H: Shelf>(
     match uber.commit(1) {
         Ok(()) => Ok(Pool {
             geometry: layout,
-            shards,
+            metaslabs: Owned { shards },
             uber,
-            objects: HashMap::new(alloc),
-            seq: 0,
-            floor: 0,
+            own: Own {
+                objects: HashMap::new(alloc),
+                seq: 0,
+                floor: 0,
+            },
             alloc,
         }),
         Err(fault) => {

@@ -115,7 +115,8 @@ impl Log {
 
     /// How many groups it has.
     pub fn count(&self) -> u64
-        ensures { result ≡ count_below (has self.now) (2 ^ 48) }
+        ensures count { result ≡ count_below (has self.now) (2 ^ 48) }
+        ensures low { (x : ℕ) → 2 ^ 48 ≤ x → has self.now x ≡ false }
     {
         self.groups.count()
     }

@@ -19,7 +19,8 @@ use Rattle.draid_shard.specs.Looks.{IsNextHeld}
 use Rattle.draid_shard.proofs.Held.{key_leads}
 use Rattle.draid_shard.specs.declared.shard.Shard.{Shard}
 use Rattle.draid_found.specs.Found.{AreReady}
-use Rattle.draid_found.specs.Together.{AreApart, AreSameArms, AreTogether, HasBlock, HasEarlier, HaveSameArms, IsNotedTwice, IsUnnoted, NotesJust, NotesJustOf, blocks_below, noted_in, pair_eq, place_in}
+use Rattle.draid_found.specs.Together.{AreApart, AreTogether, HasBlock, HasEarlier, IsNotedTwice, IsUnnoted, NotesJust, NotesJustOf, blocks_below, noted_in, pair_eq, place_in}
+use Rattle.draid_shard.specs.Alike.{AreSameArms, HaveSameArms}
 use Rattle.draid_found.specs.declared.fault.FoundFault.{FoundFault}
 use Rattle.draid_found.specs.declared.fault.FoundFault.TheVariants as fault
 

@@ -1,33 +1,16 @@
 -- What the records of all metaslabs of one pool have in common, and which fault it is where they haven't.
-use Rattle.std.specs.Prelude.{◌≡◌, ◌<◌, ◌+◌, ◌-◌, ◌*◌, ◌^◌, ◌&&◌, ◌⊎◌, ◌↔◌, ℕ, zero, suc, Bool, true, false, List, Option, Some, if◌then◌else◌, is_some, length, min, nat_eq, slice_get}
+use Rattle.std.specs.Prelude.{◌≡◌, ◌<◌, ◌+◌, ◌-◌, ◌*◌, ◌^◌, ◌&&◌, ◌⊎◌, ◌↔◌, ℕ, zero, suc, Bool, true, false, List, Option, Some, if◌then◌else◌, is_some, min, nat_eq, slice_get}
 use Rattle.std.specs.HashSet.{HashSet, contains}
-use Rattle.draid_names.specs.declared.arm.Arm.{Arm}
 use Rattle.draid_names.specs.declared.pointer.Pointer.{Pointer}
 use Rattle.draid_machine.specs.declared.names.Key.{Key}
 use Rattle.draid_entries.specs.declared.entry.Entry.{Entry}
 use Rattle.draid_entries.specs.declared.entries.Entries.{Entries}
 use Rattle.draid_entries.specs.Entries.{entry_at}
 use Rattle.draid_entries.specs.Maps.{key_of}
+use Rattle.draid_record.specs.declared.sizes.TheConstants.{BLOCK_BYTES, SLOT_COUNT_AT}
 use Rattle.draid_slots.specs.Table.{SlotTable, arms_of}
+use Rattle.draid_shard.specs.Alike.{HaveSameArms}
 use Rattle.draid_shard.specs.declared.shard.Shard.{Shard}
-
--- ---- arms
-
--- two arms are one, but for whether a pass has made it good
-pub record IsSameArm (p q : Arm) : Type 0 where
-  pub kind_is : p.kind ≡ q.kind
-  pub number_is : p.number ≡ q.number
-  pub offline_is : p.offline ≡ q.offline
-
--- so all of two slots, one after another
-pub record AreSameArms (ps qs : List Arm) : Type 0 where
-  pub many : length ps ≡ length qs
-  pub each : (k : ℕ) (p q : Arm) → slice_get ps k ≡ Some p → slice_get qs k ≡ Some q → IsSameArm p q
-
--- so those of each slot of two metaslabs
-pub record HaveSameArms (a b : SlotTable) : Type 0 where
-  pub children : b.geometry.spec.children ≡ a.geometry.spec.children
-  pub slots : (slot : ℕ) → slot < a.geometry.spec.children → AreSameArms (arms_of a slot) (arms_of b slot)
 
 -- ---- blocks
 
@@ -50,9 +33,9 @@ unfoldable pub blocks_below : Entries → ℕ → ℕ
 blocks_below t zero = 0
 blocks_below t (suc n) = blocks_below t n + (if is_some (entry_at t n) then 1 else 0)
 
--- where a block stands in the record from which its metaslab was opened: it takes 72 bytes, behind those of lower stripes. A number of 64 bits doesn't go on.
+-- where a block stands in the record from which its metaslab was opened: behind those of lower stripes. A number of 64 bits doesn't go on.
 abbrev pub place_in : {R A : Type 0} → Shard R A → ℕ → ℕ
-place_in shard first = min (shard.blocks_at + 72 * blocks_below shard.entries first) (2 ^ 64 - 1)
+place_in shard first = min (shard.blocks_at + BLOCK_BYTES * blocks_below shard.entries first) (2 ^ 64 - 1)
 
 -- just a block was noted besides
 abbrev pub NotesJust : Pointer → (Key → Bool) → (Key → Bool) → Type 0
@@ -95,7 +78,7 @@ pub record IsNotedTwice {R A : Type 0} (shard : Shard R A) (noted : Key → Bool
 pub record HasOtherArms {R A : Type 0} (shards : List (Shard R A)) (metaslab : Option ℕ) (place kind : ℕ) : Type 0 where
   pub m : ℕ
   pub metaslab_is : metaslab ≡ Some m
-  pub place_is : place ≡ 20
+  pub place_is : place ≡ SLOT_COUNT_AT
   pub kind_is : kind ≡ 4
   pub first : Shard R A
   pub begins : slice_get shards 0 ≡ Some first

@@ -1,5 +1,5 @@
 ghost use Rattle.std.specs.Prelude.{◌≡◌, ◌↔◌, IsTrue};
-ghost use Rattle.draid_found.specs.Together.{AreSameArms, HaveSameArms, IsSameArm};
+ghost use Rattle.draid_shard.specs.Alike.{AreSameArms, HaveSameArms, IsSameArm};
 
 use draid_area::Area;
 use draid_names::Arm;

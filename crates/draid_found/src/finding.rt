@@ -11,15 +11,10 @@ use crate::fault::FoundFault;
 use draid_area::Area;
 use draid_names::{NoMemory, Pointer};
 use draid_rack::Rack;
+use draid_record::{BLOCK_BYTES, SLOT_COUNT_AT};
 use draid_shard::Shard;
 use std::alloc::Global;
 use std::collections::{HashMap, HashSet};
-
-/// Where the number of slots stands in a metaslab's record.
-const SLOTS_AT: u64 = 20;
-
-/// How many bytes of a record a block takes.
-const BLOCK_BYTES: u64 = 72;
 
 /// Whether a block is newer than that of its object which was noted.
 fn is_newer(newest: &HashMap<u64, Pointer>, pointer: &Pointer) -> bool
@@ -120,7 +115,7 @@ pub fn find_blocks<R: Rack, A: Area>(
         if !are_alike(&shards[0], shard) {
             return Err(FoundFault::Record {
                 metaslab: shard.number,
-                at: SLOTS_AT,
+                at: SLOT_COUNT_AT,
                 kind: 4,
             });
         }

@@ -5,7 +5,7 @@ use Rattle.std.specs.HashMap.{get}
 use Rattle.std.proofs.lemmas.Bool.{cases_lt}
 use Rattle.draid_area.specs.Area.{Content, flushes}
 use Rattle.draid_area.specs.declared.Area as areas
-use Rattle.draid_rack.specs.Rack.{Shape, Told}
+use Rattle.draid_rack.specs.Rack.{Shape, Told, OnBothTold}
 use Rattle.draid_rack.specs.declared.Rack as racks
 use Rattle.draid_spec.specs.declared.layout.Geometry.{Geometry}
 use Rattle.draid_spec.specs.Geometry.{metaslab_sectors}
@@ -15,7 +15,6 @@ use Rattle.draid_shelf.specs.Kits.{Held, KitCounts, KitTold, OnHeld, gives_uber,
 use Rattle.draid_stable.specs.Images.{image_by}
 use Rattle.draid_stable.specs.Opening.{has_leaf}
 use Rattle.draid_stable.specs.Stable as stable
-use Rattle.draid_shard.specs.Calls.{OnBothTold}
 use Rattle.draid_shard.specs.Part.{Part}
 use Rattle.draid_shard.specs.declared.shard.Shard.{Shard}
 use Rattle.draid_import.specs.Reopening.{area_of_kit}
@@ -56,7 +55,7 @@ unread_entry rack area geometry group next o mid leaves yet_leaves counts yet me
 
 -- the finding that a pool is of which so much was read
 pub finds_pool : {R A : Type 0} (rack : racks.Ghosts R) (area : areas.Ghosts A) (held : Option Held) (leaves : ℕ → Option Shape) (counts : ℕ → KitCounts) (count : ℕ) (pool : Pool R A) (group : ℕ) (name : List ℕ) (objects : ℕ)
-    → IsReadPool rack area held leaves counts count pool → group ≡ group_in pool → name ≡ vdev_name_of pool.geometry.spec → HasNames (get nat_eq pool.objects) objects
+    → IsReadPool rack area held leaves counts count pool → group ≡ group_in pool → name ≡ vdev_name_of pool.geometry.spec → HasNames (get nat_eq pool.own.objects) objects
     → FindsPool rack area held leaves counts group name objects
 finds_pool rack area held leaves counts count pool group name objects is group_is name_is names = record {
   uber = is.uber;

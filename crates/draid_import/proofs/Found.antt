@@ -39,6 +39,8 @@ use Rattle.draid_import.specs.declared.fault.OpenFault.{OpenFault}
 use Rattle.draid_import.specs.declared.fault.OpenFault.TheVariants as why_not
 use Rattle.draid_shard.specs.States.{layout_by, part_of}
 use Rattle.draid_shard.specs.declared.shard.Shard.{Shard}
+use Rattle.draid_found.specs.Together.{AreTogether}
+use Rattle.draid_shard.proofs.Changed.{arms_then, same_arms}
 use Rattle.draid_shard.proofs.Held.{held_entry, key_leads}
 use Rattle.draid_import.proofs.Reopened.{both_same}
 use Rattle.draid_uber.specs.declared.uber.Uber.{Uber}
@@ -46,7 +48,7 @@ use Rattle.draid_uber.specs.Slots.{group_of}
 use Rattle.draid_uber.specs.Uber as ubers
 use Rattle.draid_uber.specs.Uber.{kept_of, layout_of, next_leaf_of, version_of}
 use Rattle.draid_found.specs.Found.{AllLive, AreFound, AreReady}
-use Rattle.draid_import.specs.Found.{AnyRecordsRose, AreFreed, AreReopened, CountsLater, FreesAt, FreesOlder, FreesIfOlder, IsFoundUber, IsReopened, IsShardFault, LeavesUber, OpensOver, RecordsRose, SameButFlushed, SameChecks, StaysHeld}
+use Rattle.draid_import.specs.Found.{AnyRecordsRose, AreFreed, AreReopened, CountsLater, FreesAt, FreesOlder, FreesIfOlder, HaveLowLeaves, IsFoundUber, IsReopened, IsShardFault, LeavesUber, OpensOver, RecordsRose, SameButFlushed, SameChecks, StaysHeld}
 use Rattle.draid_pool.specs.Returning.{Returns, TakesBack}
 use Rattle.draid_pool.specs.Taking.{TakesFirst}
 use Rattle.draid_pool.specs.Whole.{IsWhole}
@@ -56,6 +58,7 @@ use Rattle.draid_pool.specs.declared.pool.Pool.{Pool}
 use Rattle.draid_pool.proofs.Returned.{at_end, put_here as placed_here, put_there as placed_there}
 use Rattle.draid_pool.proofs.Lists.{get_set_other, get_set_same, present, some_of}
 use Rattle.draid_pool.proofs.Takings.{from_first, get_before, rose_since}
+use Rattle.draid_pool.proofs.Arms.{AllShare, all_kept, have_from, leaf_kept}
 use Rattle.draid_pool.proofs.Wholes.{live_beside, one_live}
 
 -- ---- the uberblock
@@ -324,6 +327,7 @@ module _ {R A : Type 0} (rack : racks.Ghosts R) (newest : ℕ → Option Pointer
     valid = valid;
     part = refl;
     committed = refl;
+    slots = same_arms shard.slots;
     kept = λ object p is own here. here;
     blocks = λ first e there. (ap (λ (s : Stage). is_block s) (live first e there), (e, there, refl));
   }
@@ -335,6 +339,7 @@ module _ {R A : Type 0} (rack : racks.Ghosts R) (newest : ℕ → Option Pointer
     valid = valid;
     part = part ∙ f.part;
     committed = sets.groups.committed ∙ f.committed;
+    slots = arms_then old.slots mid.slots new.slots f.slots sets.slots;
     kept = λ object q is own here.
         (let yet = f.kept object q is own here in
         live_beside mid new p q (Some (staged (Freed group) p)) sets
@@ -397,11 +402,22 @@ module _ {R A : Type 0} (rack : racks.Ghosts R) (newest : ℕ → Option Pointer
 
 -- ---- the pool
 
+-- metaslabs of one pool, of which none has a detached arm
+all_share : {R A : Type 0} {next : ℕ} (shards : List (Shard R A)) → AreTogether shards (length shards) → HaveLowLeaves next shards → AllShare shards
+all_share shards together low m n a b at here =
+    let inside = slice_get_within shards m a at in
+    let within = slice_get_within shards n b here in
+    let first = present shards 0 (omega (arith, inside)) in
+    record {
+      arms = have_from first.0.slots a.slots b.slots (together.alike m first.0 a inside first.1 at) (together.alike n first.0 b within first.1 here);
+      detached = (low n b here).detached ∙ sym (low m a at).detached;
+    }
+
 module _ {R A : Type 0} (rack : racks.Ghosts R) (area : areas.Ghosts A) where
   pub imported_whole : (pool : Pool R A) (geometry : Geometry) (old : List (Shard R A)) (newest : ℕ → Option Pointer) → IsFoundUber area pool.uber → layout_of pool.uber ≡ geometry → pool.geometry ≡ geometry
-      → AreReopened rack geometry (group_of (kept_of pool.uber)) old → AreFound old newest pool.seq → AreFreed rack newest old pool.shards.items
-      → ((object : ℕ) → get nat_eq pool.objects object ≡ newest object) → pool.floor ≡ group_of (kept_of pool.uber) + 1 → IsWhole rack area pool
-  imported_whole pool geometry old newest found layout used are blocks freed table floor = record {
+      → AreReopened rack geometry (group_of (kept_of pool.uber)) old → AreFound old newest pool.own.seq → AreTogether old (length old) → HaveLowLeaves (next_leaf_of pool.uber) old → AreFreed rack newest old pool.metaslabs.shards.items
+      → ((object : ℕ) → get nat_eq pool.own.objects object ≡ newest object) → pool.own.floor ≡ group_of (kept_of pool.uber) + 1 → IsWhole rack area pool
+  imported_whole pool geometry old newest found layout used are blocks together low freed table floor = record {
     perms = are.perms;
     layout = subst (λ (x : Geometry). IsLayout x are.perms) (sym used) are.layout;
     many = freed.many ∙ (are.many ∙ ap (λ (x : Geometry). x.props.metaslabs) (sym used));
@@ -423,7 +439,9 @@ module _ {R A : Type 0} (rack : racks.Ghosts R) (area : areas.Ghosts A) where
               (let e = held_entry shard.entries key h held in
               subst (λ (i : Held). is_block i.stage ≡ true) e.held_is (frees.blocks h.first e.e e.there).0);
           committed = frees.committed ∙ is.committed;
+          leaves = λ leaf own. (low m f.0 f.1).below leaf (leaf_kept f.0.slots shard.slots leaf frees.slots own);
         });
+    alike = all_kept old pool.metaslabs.shards.items (λ k z there. (let f = freed.each k z there in record { before = f.0; there = f.1; slots = f.2.slots })) (all_share old together low);
     uber = found.valid;
     uber_layout = layout ∙ sym used;
     uber_version = found.version ∙ ap (λ (x : Geometry). x.props.version) (layout ∙ sym used);
@@ -431,7 +449,7 @@ module _ {R A : Type 0} (rack : racks.Ghosts R) (area : areas.Ghosts A) where
         (let to = blocks.pointers object pointer (sym (table object) ∙ there) in
         let within = slice_get_within old pointer.metaslab to.shard to.there in
         let many = freed.many in
-        let s = present pool.shards.items pointer.metaslab (omega (arith, within, many)) in
+        let s = present pool.metaslabs.shards.items pointer.metaslab (omega (arith, within, many)) in
         let f = freed.each pointer.metaslab s.0 s.1 in
         let same : to.shard ≡ f.0 = some_of (slice_get old pointer.metaslab) to.shard f.0 to.there f.1 in
         record {

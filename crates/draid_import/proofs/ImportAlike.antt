@@ -1,10 +1,6 @@
 -- What an import looks for in the metaslabs that it opens: they have the same arms, and no key twice.
-use Rattle.std.proofs.Common.{◌≡◌, ◌∙◌, ℕ, zero, suc, List, [], ◌∷◌, Some, length, map, refl, sym, ap, subst}
-use Rattle.std.specs.Prelude.{option_map, slice_get}
-use Rattle.std.proofs.lemmas.List.{length-map}
-use Rattle.draid_names.specs.declared.arm.Arm.{Arm}
-use Rattle.draid_names.specs.declared.arm.ArmKind.{ArmKind}
-use Rattle.draid_names.specs.declared.arm.ArmKind.TheVariants as kind
+use Rattle.std.proofs.Common.{◌≡◌, ◌∙◌, ℕ, List, [], ◌∷◌, Some, refl, sym, ap, subst}
+use Rattle.std.specs.Prelude.{slice_get}
 use Rattle.draid_machine.specs.declared.names.Held.{Held as Block}
 use Rattle.draid_machine.specs.declared.names.Key.{Key}
 use Rattle.draid_machine.specs.After.{reopen_state}
@@ -17,13 +13,13 @@ use Rattle.draid_objects.specs.Blocks.{Blocks, sealed_at}
 use Rattle.draid_objects.specs.Changes.{Write, write_by}
 use Rattle.draid_segments.specs.Segments.{Pieces}
 use Rattle.draid_slots.specs.Table.{SlotTable, arms_of}
-use Rattle.draid_slots.specs.States.{HasSlots, name_of, named}
+use Rattle.draid_slots.specs.States.{HasSlots, name_of}
+use Rattle.draid_machine.specs.Names.{named}
 use Rattle.draid_session.specs.Opening.{MayFind, Reopens}
 use Rattle.draid_session.specs.State.{Metaslab, State}
-use Rattle.draid_pool.specs.Importable.{AreAlike, IsAlike, IsFindable, SameArms, bare}
+use Rattle.draid_pool.specs.Importable.{AreAlike, IsAlike, IsFindable, SameArms}
 use Rattle.draid_pool.specs.Objects.{HoldsObjects, blocks_of}
-use Rattle.draid_found.specs.Together.{IsSameArm}
-use Rattle.draid_pool.proofs.Alike.{alike_opened, same_bare}
+use Rattle.draid_pool.proofs.Alike.{alike_opened, one_shared, same_bare}
 use Rattle.draid_pool.proofs.Lists.{some_of}
 
 -- ---- arms
@@ -45,7 +41,7 @@ pub found_arms : (x : State) (group : ℕ) (zs : List Metaslab) → AreAlike x �
     → ((m : ℕ) (y : Metaslab) → slice_get x.metaslabs m ≡ Some y → machine.IsLayout (layout_of x.geometry x.perms m))
     → ((m : ℕ) (y : Metaslab) → slice_get x.metaslabs m ≡ Some y → IsReached (layout_of x.geometry x.perms m) y.world)
     → ((m : ℕ) (z : Metaslab) → slice_get zs m ≡ Some z → (y : Metaslab) × (slice_get x.metaslabs m ≡ Some y) × Reopens x.geometry x.perms group m y z)
-    → (arms : machine.Core) × ((m : ℕ) (z : Metaslab) → slice_get zs m ≡ Some z → IsAlike x.geometry.props.version arms z.world)
+    → (arms : machine.Core) × ((m : ℕ) (z : Metaslab) → slice_get zs m ≡ Some z → IsAlike (one_shared x.geometry.props.version arms) z.world)
 found_arms x group [] alike may findable lay reached pair = (created_core (layout_of x.geometry x.perms 0), λ m z at. absurd (cc))
 found_arms x group (first ∷ zs) alike may findable lay reached pair =
     let p = pair 0 first refl in (
@@ -53,47 +49,11 @@ found_arms x group (first ∷ zs) alike may findable lay reached pair =
       λ m z at.
           (let q = pair m z at in
           let r = q.2 in
-          subst (IsAlike x.geometry.props.version p.2.image.core) (sym (r.world ∙ r.opened))
+          subst (IsAlike (one_shared x.geometry.props.version p.2.image.core)) (sym (r.world ∙ r.opened))
           (alike_opened x.geometry.props.version p.2.image.core (layout_of x.geometry x.perms m) q.0.world r.image (findable.versions m q.0 r.image q.1 r.is)
           (alike group m 0 q.0 p.0 r.image p.2.image may q.1 p.1 r.is r.of p.2.is p.2.of)
           (λ n a there. ((every_image (layout_of x.geometry x.perms m) q.0.world (lay m q.0 q.1) (reached m q.0 q.1)).each r.image r.is).here n a there))),
     )
-
-mapped_at : {A B : Type 0} (f : A → B) (xs ys : List A) (k : ℕ) (p q : A) → map f xs ≡ map f ys → slice_get xs k ≡ Some p → slice_get ys k ≡ Some q → f p ≡ f q
-mapped_at f xs ys k p q same a b = some_of (slice_get (map f ys) k) (f p) (f q) (ap (λ zs. slice_get zs k) (sym same) ∙ get_map f xs k p a) (get_map f ys k q b)
-  where
-    get_map : {A B : Type 0} (f : A → B) (xs : List A) (k : ℕ) (p : A) → slice_get xs k ≡ Some p → slice_get (map f xs) k ≡ Some (f p)
-    get_map f [] k p a = absurd (cc)
-    get_map f (x ∷ xs) zero p a = ap (λ (y : _). Some (f y)) (some_of (Some p) x p (sym a) refl)
-    get_map f (x ∷ xs) (suc k) p a = get_map f xs k p a
-
--- arms of one name are of one kind and number
-pub same_names : (a b : ArmKind) (m n : ℕ) → named a m ≡ named b n → (a ≡ b) × (m ≡ n)
-same_names kind.Leaf kind.Leaf m n is = (refl, cc)
-same_names kind.Leaf kind.Spare m n is = absurd (cc)
-same_names kind.Spare kind.Leaf m n is = absurd (cc)
-same_names kind.Spare kind.Spare m n is = (refl, cc)
-
-one_arm : (a b : machine.Arm) → Some a ≡ Some b → a ≡ b
-one_arm a b is = cc
-
-module _ (a b : SlotTable) (v w : machine.Core) (first : HasSlots a v) (second : HasSlots b w) (same : SameArms v w) where
-  order : (slot : ℕ) → map name_of (arms_of a slot) ≡ map name_of (arms_of b slot)
-  order slot = sym (first.order slot) ∙ (same.order slot ∙ second.order slot)
-
-  -- the slots of their shards have as many arms
-  pub as_many : (slot : ℕ) → length (arms_of a slot) ≡ length (arms_of b slot)
-  as_many slot = sym (length-map (arms_of a slot) name_of) ∙ (ap length (order slot) ∙ length-map (arms_of b slot) name_of)
-
-  -- and one after another the same
-  pub same_arms : (slot k : ℕ) (p q : Arm) → slice_get (arms_of a slot) k ≡ Some p → slice_get (arms_of b slot) k ≡ Some q → IsSameArm p q
-  same_arms slot k p q at there =
-      let name = mapped_at name_of (arms_of a slot) (arms_of b slot) k p q (order slot) at there in
-      let is = same_names p.kind q.kind p.number q.number name in
-      let one = ap (option_map bare) (first.arms (record { slot = slot; arm = k }) p at) in
-      let other = ap (option_map bare) (second.arms (record { slot = slot; arm = k }) q there) in
-      let offline = sym one ∙ (ap (λ n. option_map bare (v.arm n)) name ∙ (same.arms (name_of q) ∙ other)) in
-      record { kind_is = is.0; number_is = is.1; offline_is = ap (λ (a : machine.Arm). a.offline) (one_arm _ _ offline) }
 
 -- ---- keys
 

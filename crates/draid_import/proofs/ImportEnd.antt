@@ -81,8 +81,8 @@ module _ {R A : Type 0} (rack : racks.Ghosts R) (area : areas.Ghosts A) (x : Sta
   }
 
   -- each live block that is left is the newest of its object: the pool is imported
-  pub found_imports : (shards : List (Shard R A)) (f : IsFoundOf rack area x uber pieces newest seq shards) (pool : Pool R A) → AreNewest shards newest → pool.shards.items ≡ shards → pool.uber ≡ uber
-      → pool.geometry ≡ layout_of uber → pool.seq ≡ seq → pool.floor ≡ f.group + 1 → ((object : ℕ) → get nat_eq pool.objects object ≡ newest object) → ImportsPool rack area x pool
+  pub found_imports : (shards : List (Shard R A)) (f : IsFoundOf rack area x uber pieces newest seq shards) (pool : Pool R A) → AreNewest shards newest → pool.metaslabs.shards.items ≡ shards → pool.uber ≡ uber
+      → pool.geometry ≡ layout_of uber → pool.own.seq ≡ seq → pool.own.floor ≡ f.group + 1 → ((object : ℕ) → get nat_eq pool.own.objects object ≡ newest object) → ImportsPool rack area x pool
   found_imports shards f pool only items uber_is layout seq_is floor table =
       imports_pool rack area f.mid uber pieces f.knows.says f.knows.holds f.knows.live newest f.knows.newest_is shards f.freed only x f.group pool f.finds f.last items uber_is layout
       (seq_is ∙ sym f.seq_is) (floor ∙ sym f.finds.floor) table

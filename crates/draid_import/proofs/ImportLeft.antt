@@ -7,7 +7,7 @@ use Rattle.std.proofs.lemmas.Option.{slice_get_within}
 use Rattle.draid_names.specs.Faults.{Rose}
 use Rattle.draid_area.specs.Area.{Content, flushes}
 use Rattle.draid_area.specs.declared.Area as areas
-use Rattle.draid_rack.specs.Rack.{Shape, Told}
+use Rattle.draid_rack.specs.Rack.{Shape, Told, OnBothTold}
 use Rattle.draid_rack.specs.declared.Rack as racks
 use Rattle.draid_spec.specs.declared.layout.Geometry.{Geometry}
 use Rattle.draid_perm.specs.declared.perms.Perms.{Perms}
@@ -20,7 +20,6 @@ use Rattle.draid_shelf.specs.Shelf.{IsKnown, SameOthers}
 use Rattle.draid_shelf.specs.declared.kit.Kit.{Kit}
 use Rattle.draid_stable.specs.Images.{image_by}
 use Rattle.draid_stable.specs.Stable as stable
-use Rattle.draid_shard.specs.Calls.{OnBothTold}
 use Rattle.draid_pool.specs.Groups.{ListsOnce}
 use Rattle.draid_import.specs.Reopening.{Opens}
 use Rattle.draid_shard.specs.declared.shard.Shard.{Shard}

@@ -7,7 +7,7 @@ use denote.RawPtr.{null_ptr}
 use Rattle.draid_area.specs.Area.{Content}
 use Rattle.draid_area.specs.Area as content
 use Rattle.draid_area.specs.declared.Area as areas
-use Rattle.draid_rack.specs.Rack.{Told}
+use Rattle.draid_rack.specs.Rack.{Told, OnBothTold}
 use Rattle.draid_rack.specs.declared.Rack as racks
 use Rattle.draid_spec.specs.declared.layout.Geometry.{Geometry}
 use Rattle.draid_spec.specs.Geometry.{metaslab_sectors}
@@ -23,7 +23,7 @@ use Rattle.draid_machine.specs.After.{map_arm, reopen_state, seal_held}
 use Rattle.draid_machine.specs.Claims.{claims}
 use Rattle.draid_machine.specs.Created.{IsReached}
 use Rattle.draid_machine.specs.Images.{IsImage}
-use Rattle.draid_machine.specs.Names.{has_segment}
+use Rattle.draid_machine.specs.Names.{has_segment, named}
 use Rattle.draid_machine.specs.Sound.{Sound}
 use Rattle.draid_machine.specs.State as machine
 use Rattle.draid_machine.proofs.Rows.{reached_sound}
@@ -41,12 +41,11 @@ use Rattle.draid_shelf.specs.declared.kit.Kit.{Kit}
 use Rattle.draid_stable.specs.Images.{LeavesBelow, image_by}
 use Rattle.draid_stable.specs.Kits.{IsStable}
 use Rattle.draid_stable.specs.Opening.{has_leaf, has_leaf_arm}
-use Rattle.draid_slots.specs.States.{HasSlots, named}
+use Rattle.draid_slots.specs.States.{HasSlots}
 use Rattle.draid_stable.proofs.There.{arm_named}
 use Rattle.draid_stable.specs.Stable as stable
 use Rattle.draid_stable.specs.Stable.{HasRecord}
 use Rattle.draid_entries.specs.History.{limit_in}
-use Rattle.draid_shard.specs.Calls.{OnBothTold}
 use Rattle.draid_shard.specs.Fits.{Valid}
 use Rattle.draid_pool.specs.Groups.{ListsOnce, at_version}
 use Rattle.draid_import.specs.Reopening.{Opens, area_of_kit}
@@ -66,7 +65,7 @@ use Rattle.draid_pool.specs.Metaslabs.{IsMetaslab, counts_of, harm_of}
 use Rattle.draid_pool.specs.Pools.{part_in}
 use Rattle.draid_pool.specs.Records.{HasRecords, LeavesAreBelow, area_for}
 use Rattle.draid_pool.proofs.Returned.{KitIs, kit_is}
-use Rattle.draid_import.proofs.ImportAlike.{same_names}
+use Rattle.draid_pool.proofs.Arms.{same_names}
 use Rattle.draid_pool.proofs.Lists.{ext}
 
 -- nothing is in doubt

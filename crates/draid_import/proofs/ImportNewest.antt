@@ -250,8 +250,8 @@ module _ {R A : Type 0} (rack : racks.Ghosts R) (area : areas.Ghosts A) where
               let w = write_at object p is in
               subst (λ o. PointsTo shards o (write_of mid.store.changes object)) (sym is) (subst (PointsTo shards (Some p)) (sym w.1) (pointer_of object p w.0 is w.1 w.2 w.3))
 
-      pub import_stands : (pool : Pool R A) → pool.shards.items ≡ shards → pool.uber ≡ uber → pool.geometry ≡ layout_of uber → pool.seq ≡ mid.store.seq → pool.floor ≡ mid.store.floor
-          → ((object : ℕ) → get nat_eq pool.objects object ≡ newest object) → Represents rack area pool x
+      pub import_stands : (pool : Pool R A) → pool.metaslabs.shards.items ≡ shards → pool.uber ≡ uber → pool.geometry ≡ layout_of uber → pool.own.seq ≡ mid.store.seq → pool.own.floor ≡ mid.store.floor
+          → ((object : ℕ) → get nat_eq pool.own.objects object ≡ newest object) → Represents rack area pool x
       import_stands pool items uber_is layout seq floor table = record {
         stands = record {
           geometry = sym s.stands.uber_is.layout ∙ sym layout;
@@ -262,7 +262,7 @@ module _ {R A : Type 0} (rack : racks.Ghosts R) (area : areas.Ghosts A) where
           each = λ m shard y at there. s.stands.each m shard y (sym (ap (λ zs. slice_get zs m) items) ∙ at) there;
           holds = s.stands.holds;
           groups = s.stands.groups;
-          objects = λ object. subst (λ zs. PointsTo zs (get nat_eq pool.objects object) (write_of x.store.changes object)) (sym items)
+          objects = λ object. subst (λ zs. PointsTo zs (get nat_eq pool.own.objects object) (write_of x.store.changes object)) (sym items)
               (subst (λ o. PointsTo shards o (write_of x.store.changes object)) (sym (table object))
               (subst (λ (z : Store). PointsTo shards (newest object) (write_of z.changes object)) (sym s.same_store) (points object)));
           seq = ap (λ (z : Store). z.seq) s.same_store ∙ sym seq;
@@ -270,7 +270,8 @@ module _ {R A : Type 0} (rack : racks.Ghosts R) (area : areas.Ghosts A) where
           uber = subst (λ u. IsUber area u x) (sym uber_is) s.stands.uber_is;
           images = s.stands.images;
           leaves = s.stands.leaves;
-          arms = s.stands.arms;
+          shared = s.stands.shared;
+          versions = s.stands.versions;
           alike = s.stands.alike;
         };
         only = λ m k h is live.
@@ -296,8 +297,8 @@ module _ {R A : Type 0} (rack : racks.Ghosts R) (area : areas.Ghosts A) where
         follows = s.follows;
       }
 
-      pub imports_pool : (before : State) (group : ℕ) (pool : Pool R A) → Finds before group mid → IsLastSeq mid mid.store.seq → pool.shards.items ≡ shards → pool.uber ≡ uber → pool.geometry ≡ layout_of uber
-          → pool.seq ≡ mid.store.seq → pool.floor ≡ mid.store.floor → ((object : ℕ) → get nat_eq pool.objects object ≡ newest object) → ImportsPool rack area before pool
+      pub imports_pool : (before : State) (group : ℕ) (pool : Pool R A) → Finds before group mid → IsLastSeq mid mid.store.seq → pool.metaslabs.shards.items ≡ shards → pool.uber ≡ uber → pool.geometry ≡ layout_of uber
+          → pool.own.seq ≡ mid.store.seq → pool.own.floor ≡ mid.store.floor → ((object : ℕ) → get nat_eq pool.own.objects object ≡ newest object) → ImportsPool rack area before pool
       imports_pool before group pool finds last items uber_is layout seq floor table = record {
         group = group;
         new = x;

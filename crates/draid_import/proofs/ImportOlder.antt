@@ -198,8 +198,9 @@ module _ {R A : Type 0} (rack : racks.Ghosts R) (area : areas.Ghosts A) (mid : S
         order = st.leaves.order;
         each = each_set x.metaslabs m y y' (λ z. LeavesAreBelow x.kept_leaf x.next_leaf z.world) at (leaves_kept x.kept_leaf x.next_leaf y.world y'.world g.images (st.leaves.each m y at)) st.leaves.each;
       };
-      arms = st.arms;
-      alike = each_set x.metaslabs m y y' (λ z. IsAlike x.geometry.props.version st.arms z.world) at (alike_stays x.geometry.props.version st.arms y.world y'.world g.images (st.alike m y at)) st.alike;
+      shared = st.shared;
+      versions = st.versions;
+      alike = each_set x.metaslabs m y y' (λ z. IsAlike st.shared z.world) at (alike_stays st.shared y.world y'.world g.images (st.alike m y at)) st.alike;
       open_groups = each_set x.metaslabs m y y' (λ z. z.world.open_group ≡ x.committed + 1) at
           (free_opens (layout_in (part_in x m)) m g.holds y y' k group g.done.are g.follows ∙ st.open_groups m y at) st.open_groups;
       floor = st.floor;

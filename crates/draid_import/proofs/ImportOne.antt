@@ -33,10 +33,12 @@ use Rattle.draid_import.specs.Imported.{OpensFound}
 use Rattle.draid_import.specs.Importing.{RestsThere}
 use Rattle.draid_pool.specs.Objects.{blocks_of}
 use Rattle.draid_pool.specs.Pools.{part_in}
-use Rattle.draid_found.specs.Together.{AreApart, HasBlock, HaveSameArms}
+use Rattle.draid_found.specs.Together.{AreApart, HasBlock}
+use Rattle.draid_shard.specs.Alike.{HaveSameArms}
 use Rattle.draid_import.specs.declared.fault.ImportFault.{ImportFault}
 use Rattle.draid_import.specs.declared.fault.ImportFault.TheVariants as fault
-use Rattle.draid_import.proofs.ImportAlike.{as_many, found_alike, found_once, same_arms}
+use Rattle.draid_pool.proofs.Arms.{have_same}
+use Rattle.draid_import.proofs.ImportAlike.{found_alike, found_once}
 use Rattle.draid_import.proofs.ImportFound.{part_there}
 use Rattle.draid_import.proofs.ImportOpened.{all_reached}
 use Rattle.draid_import.proofs.ImportPool.{FoundBody, as_many_found, body_found, each_found}
@@ -75,13 +77,9 @@ module _ {R A : Type 0} (rack : racks.Ghosts R) (area : areas.Ghosts A) (x : Sta
 
   -- two of them have the same arms
   all_same : (m n : ℕ) (first shard : Shard R A) → slice_get shards m ≡ Some first → slice_get shards n ≡ Some shard → HaveSameArms first.slots shard.slots
-  all_same m n first shard here at = record {
-    children = ap (λ (g : Geometry). g.spec.children) (layout_is n shard at ∙ sym (layout_is m first here));
-    slots = λ slot below. record {
-      many = as_many first.slots shard.slots p.opens.z.world.core q.opens.z.world.core p.opens.is.stands.is_in.slots q.opens.is.stands.is_in.slots same slot;
-      each = same_arms first.slots shard.slots p.opens.z.world.core q.opens.z.world.core p.opens.is.stands.is_in.slots q.opens.is.stands.is_in.slots same slot;
-    };
-  }
+  all_same m n first shard here at =
+      have_same first.slots shard.slots p.opens.z.world.core q.opens.z.world.core p.opens.is.stands.is_in.slots q.opens.is.stands.is_in.slots same
+      (ap (λ (g : Geometry). g.spec.children) (layout_is n shard at ∙ sym (layout_is m first here)))
     where
       p : Pair m first
       p = pair m first here

@@ -26,6 +26,7 @@ use Rattle.draid_import.specs.Imported.{FindsBody, OpensFound, SaysObjects, Stan
 use Rattle.draid_pool.specs.Metaslabs.{IsMetaslab}
 use Rattle.draid_pool.specs.Pools.{part_in}
 use Rattle.draid_import.proofs.ImportAlike.{found_arms}
+use Rattle.draid_pool.proofs.Alike.{one_shared}
 use Rattle.draid_import.proofs.ImportFound.{found_groups, found_holds, found_images, found_leaves, found_open, found_says, numbered_last, part_there}
 use Rattle.draid_import.proofs.ImportUber.{found_uber}
 use Rattle.draid_pool.proofs.Lists.{present, some_of}
@@ -122,7 +123,7 @@ module _ {R A : Type 0} (rack : racks.Ghosts R) (area : areas.Ghosts A) (x : Sta
     pub opened_says : SaysObjects opened_state
     opened_says = found_says x opened_state body.group pieces finds_opened refl rests.layout rests.many reached rests.leaves findable rests.objects
 
-    opened_arms : AreAlike x → (arms : machine.Core) × AllAlike arms opened_state
+    opened_arms : AreAlike x → (arms : machine.Core) × AllAlike (one_shared x.geometry.props.version arms) opened_state
     opened_arms alike = found_arms x body.group all_opened.0 alike body_is.may findable
         (λ m y at. has_layout (part_in x m) (part_there x rests.layout rests.many rests.images rests.leaves findable m y at)) reached (λ m z at.
         (let within = slice_get_within all_opened.0 m z at in
@@ -143,7 +144,8 @@ module _ {R A : Type 0} (rack : racks.Ghosts R) (area : areas.Ghosts A) (x : Sta
       uber_is = found_uber area x opened_state uber body valid kept body_is rests.layout.geometry_is version next stands refl refl refl refl refl (refl, refl);
       images = found_images x opened_state body.group pieces finds_opened refl rests.layout rests.many reached rests.leaves findable rests.objects;
       leaves = found_leaves x opened_state body.group pieces finds_opened refl rests.layout rests.many reached rests.leaves findable rests.objects;
-      arms = (opened_arms alike).0;
+      shared = one_shared x.geometry.props.version (opened_arms alike).0;
+      versions = record { kept = refl; now = refl };
       alike = (opened_arms alike).1;
       open_groups = found_open x opened_state body.group pieces finds_opened refl rests.layout rests.many reached rests.leaves findable rests.objects;
       floor = refl;

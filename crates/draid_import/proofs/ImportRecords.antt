@@ -10,7 +10,7 @@ use Rattle.draid_rack.specs.declared.Rack as racks
 use Rattle.draid_spec.specs.Geometry.{metaslab_sectors}
 use Rattle.draid_spec.specs.declared.layout.Geometry.{Geometry}
 use Rattle.draid_machine.specs.declared.names.ArmName.TheVariants.{Leaf}
-use Rattle.draid_machine.specs.Names.{name_eq}
+use Rattle.draid_machine.specs.Names.{name_eq, named}
 use Rattle.draid_machine.specs.State as machine
 use Rattle.draid_machine.proofs.Small.{equal}
 use Rattle.draid_record.specs.Record.{ArmTold, RecordTold, limits_of, record_of}
@@ -19,8 +19,8 @@ use Rattle.draid_record.specs.declared.limits.Limits.{Limits}
 use Rattle.draid_slots.specs.Table.{is_leaf, is_leaf_kind}
 use Rattle.draid_entries.specs.Live.{first_twice}
 use Rattle.draid_stable.specs.Images.{all_arms, arm_of, has_name}
-use Rattle.draid_stable.specs.Opening.{arm_len, arms_len, fitting, has_leaf, is_lacking, lacking_from, lacking_in, once_in, opening_of, slots_at, there_in}
-use Rattle.draid_slots.specs.States.{named}
+use Rattle.draid_record.specs.declared.sizes.TheConstants.{SLOTS_AT}
+use Rattle.draid_stable.specs.Opening.{arm_len, arms_len, fitting, has_leaf, is_lacking, lacking_from, lacking_in, once_in, opening_of, there_in}
 use Rattle.draid_stable.specs.Stable as stable
 use Rattle.draid_stable.specs.Stable.{HasRecord}
 use Rattle.draid_shelf.specs.Kits.{KitTold, kit_of}
@@ -98,7 +98,7 @@ there_by (Some n) sectors is = (let same : n ≡ sectors = cc in equal n sectors
 -- ---- records
 
 -- what is read and lacks nothing is the answer
-whole : (limits : Limits) (there : ℕ → Bool) (bytes : List ℕ) (value : RecordTold) → record_of limits bytes ≡ Ok value → lacking_from there slots_at value.slots ≡ None → first_twice value.blocks ≡ None
+whole : (limits : Limits) (there : ℕ → Bool) (bytes : List ℕ) (value : RecordTold) → record_of limits bytes ≡ Ok value → lacking_from there SLOTS_AT value.slots ≡ None → first_twice value.blocks ≡ None
     → opening_of limits there bytes ≡ Ok value
 whole limits there bytes value read lacks once = ap (fitting there bytes) read ∙ (ap (there_in bytes value) lacks ∙ ap (once_in bytes value) once)
 
@@ -115,7 +115,7 @@ module _ (x : State) (m : ℕ) (pieces : Pieces) (y : Metaslab) (kit : KitTold) 
       (subst (λ (g : Geometry). opening_of (limits_of g m f.image.group next) (has_leaf (rack.shape old.rack) (metaslab_sectors x.geometry)) (stable.area_of f.image.group kit.even kit.odd).bytes ≡ Ok has.value)
       (own_version f.image.version x.geometry f.version)
       (whole (limits_of (at_version f.image.version x.geometry) m f.image.group next) (has_leaf (rack.shape old.rack) (metaslab_sectors x.geometry)) (stable.area_of f.image.group kit.even kit.odd).bytes has.value read
-      (none_from (has_leaf (rack.shape old.rack) (metaslab_sectors x.geometry)) slots_at has.value.slots there) once.once))
+      (none_from (has_leaf (rack.shape old.rack) (metaslab_sectors x.geometry)) SLOTS_AT has.value.slots there) once.once))
     where
       read : record_of (limits_of (at_version f.image.version x.geometry) m f.image.group next) (stable.area_of f.image.group kit.even kit.odd).bytes ≡ Ok has.value
       read = read_there (at_version f.image.version x.geometry) m next f.image (stable.area_of f.image.group kit.even kit.odd) has f.below

@@ -14,12 +14,12 @@ use Rattle.draid_record.specs.declared.limits.Limits.{Limits}
 use Rattle.draid_record.specs.Ranges.{AreArms, AreSlots}
 use Rattle.draid_record.specs.Record.{ArmTold, has_arm, is_kind, limit_of, stands}
 use Rattle.draid_slots.specs.declared.slot.Detached.{Detached}
-use Rattle.draid_slots.specs.Table.{SlotTable, arm_at, arms_of}
+use Rattle.draid_slots.specs.Table.{SlotTable, arm_at, arms_of, is_leaf_kind}
 use Rattle.draid_stable.specs.Opening.{arms_told}
-use Rattle.draid_slots.specs.States.{named}
+use Rattle.draid_machine.specs.Names.{named}
 use Rattle.draid_stable.proofs.Named.{any_got, apart_slots}
 use Rattle.draid_stable.proofs.Opened.{from_map, index_map}
-use Rattle.draid_shard.specs.Fits.{NamesOnce}
+use Rattle.draid_shard.specs.Fits.{IsLeaf, NamesOnce}
 use Rattle.draid_shard.proofs.Among.{has_nothing}
 
 -- ---- the arms of a record in its ranges
@@ -80,6 +80,21 @@ apart_in_slot limits before [] s j k t u are at there kind number less = absurd 
 apart_in_slot limits before (x ∷ rest) zero j k t u are at there kind number less = apart_arms limits before (length x) [] x j k t u are.0.arms_are at there kind number less
 apart_in_slot limits before (x ∷ rest) (suc s) j k t u are at there kind number less = apart_in_slot limits (before ++ x ∷ []) rest s j k t u are.1 at there kind number less
 
+-- each has a number that there is
+arms_low : (limits : Limits) (before : List (List ArmTold)) (count : ℕ) (here list : List ArmTold) (k : ℕ) (u : ArmTold) → AreArms limits before count here list → slice_get list k ≡ Some u
+    → nat_lt u.0.number (limit_of limits u.0.kind) ≡ true
+arms_low limits before count here [] k u are there = absurd (cc)
+arms_low limits before count here (a ∷ rest) zero u are there =
+    subst (λ (t : ArmTold). nat_lt t.0.number (limit_of limits t.0.kind) ≡ true) (some_injective a u there)
+    (both_true (nat_lt a.0.number (limit_of limits a.0.kind)) (not (stands before here a.0.kind a.0.number)) are.0.known).0
+arms_low limits before count here (a ∷ rest) (suc k) u are there = arms_low limits before count (here ++ a ∷ []) rest k u are.1 there
+
+slots_low : (limits : Limits) (before slots : List (List ArmTold)) (s k : ℕ) (u : ArmTold) → AreSlots limits before slots → slice_get (slice_index_or slots s []) k ≡ Some u
+    → nat_lt u.0.number (limit_of limits u.0.kind) ≡ true
+slots_low limits before [] s k u are there = absurd (cc)
+slots_low limits before (x ∷ rest) zero k u are there = arms_low limits before (length x) [] x k u are.0.arms_are there
+slots_low limits before (x ∷ rest) (suc s) k u are there = slots_low limits (before ++ x ∷ []) rest s k u are.1 there
+
 module _ (limits : Limits) (all : List (List ArmTold)) (ranged : AreSlots limits [] all) (table : SlotTable) (arms : table.arms ≡ arms_told all) (none : table.detached ≡ []) where
   abbrev first : ArmTold → Arm
   first told = told.0
@@ -119,3 +134,14 @@ module _ (limits : Limits) (all : List (List ArmTold)) (ranged : AreSlots limits
     detached = λ gone other among also name. absurd (has_nothing gone (subst (λ (list : List Detached). Contains list gone) none among));
     apart = λ at a gone there among name. has_nothing gone (subst (λ (list : List Detached). Contains list gone) none among);
   }
+
+  -- leaves have numbers below that of the next one
+  pub told_low : (leaf : ℕ) → IsLeaf table leaf → leaf < limits.next_leaf
+  told_low leaf (inl (at, arm, there, kind_is, number)) =
+      let t = told_there at arm there in
+      let low : nat_lt arm.number (limit_of limits arm.kind) ≡ true
+      = subst (λ (a : Arm). nat_lt a.number (limit_of limits a.kind) ≡ true) t.2 (slots_low limits [] all at.slot at.arm t.0 ranged t.1) in
+      let own : nat_lt arm.number limits.next_leaf ≡ true = ap (λ k. nat_lt arm.number (limit_of limits k)) (sym kind_is) ∙ low in
+      grind (arith, nat_tests, own, number)
+  told_low leaf (inr gone) =
+      absurd (true≢false (sym gone ∙ ap (λ (list : List Detached). list_any (λ (gone : Detached). is_leaf_kind gone.kind && (gone.number == leaf)) list) none))

@@ -17,6 +17,7 @@ use Rattle.draid_record.specs.declared.fault.RecordFault.TheVariants.{Bad}
 use Rattle.draid_record.specs.declared.uber.UberBody.{UberBody}
 use Rattle.draid_shelf.specs.Kits.{Held, KitCounts, KitTold, puts_uber, takes_uber}
 use Rattle.draid_shelf.specs.Shelf.{IsKnown}
+use Rattle.draid_record.specs.declared.sizes.TheConstants.{BLOCK_BYTES}
 use Rattle.draid_stable.specs.Opening.{arms_told, block_at, has_leaf, opening_of}
 use Rattle.draid_stable.specs.Stable as stable
 use Rattle.draid_machine.specs.declared.names.Key.{Key}
@@ -36,7 +37,8 @@ use Rattle.draid_uber.specs.declared.uber.Uber.{Uber}
 use Rattle.draid_session.specs.Making.{vdev_name_of}
 use Rattle.draid_session.specs.State.{limit_of}
 use Rattle.draid_found.specs.Found.{AreFound}
-use Rattle.draid_found.specs.Together.{AreApart, AreSameArms, AreTogether, HasBlock, HasBlockTwice, HasEarlier, HasOtherArms, HaveSameArms, blocks_below, place_in}
+use Rattle.draid_found.specs.Together.{AreApart, AreTogether, HasBlock, HasBlockTwice, HasEarlier, HasOtherArms, blocks_below, place_in}
+use Rattle.draid_shard.specs.Alike.{AreSameArms, HaveSameArms}
 use Rattle.draid_import.specs.Faulty.{AreReadApart, HoldsNoGroup, IsUnread, OneIsUnread, RecordIsBad, TellsBody}
 use Rattle.draid_import.specs.Findings.{FindsPool, KnowsLeaves}
 use Rattle.draid_import.specs.Found.{AreReopened, IsFoundUber, IsReopened, OpensAllOver, OpensOver}
@@ -122,7 +124,7 @@ module _ {R A : Type 0} where
   block_too s t key w h = record { first = h.first; e = h.e; there = sym (w.«at» h.first) ∙ h.there; key_is = h.key_is }
 
   place_too : (s t : Shard R A) (first : ℕ) → IsTwin s t → place_in s first ≡ place_in t first
-  place_too s t first w = λ i. min (w.place i + 72 * counted_too s.entries t.entries w.«at» first i) (2 ^ 64 - 1)
+  place_too s t first w = λ i. min (w.place i + BLOCK_BYTES * counted_too s.entries t.entries w.«at» first i) (2 ^ 64 - 1)
 
 -- ---- the metaslabs
 

@@ -2,7 +2,7 @@
 use Rattle.std.proofs.Common.{◌≡◌, ◌⊎◌, ◌||◌, ◌++◌, inl, inr, ℕ, List, Option, Some, None, Result, Ok, MatchOption, Vec, Global, length, drop, refl, sym, ◌∙◌, ap, subst}
 use Rattle.std.proofs.lemmas.List.{take-append-drop}
 use Rattle.draid_area.specs.Area as content
-use Rattle.draid_rack.specs.Rack.{OnTold, Told}
+use Rattle.draid_rack.specs.Rack.{OnTold, Told, OnBothTold}
 use Rattle.draid_rack.specs.declared.Rack.{Ghosts}
 use Rattle.draid_spec.specs.declared.layout.Geometry.{Geometry}
 use Rattle.draid_spec.specs.Geometry.{metaslab_sectors}
@@ -29,7 +29,6 @@ use Rattle.draid_stable.specs.Images.{LeavesBelow, image_by}
 use Rattle.draid_stable.specs.Opening.{has_leaf}
 use Rattle.draid_stable.specs.Stable.{HasRecord}
 use Rattle.draid_shard.specs.declared.shard.Shard.{Shard}
-use Rattle.draid_shard.specs.Calls.{OnBothTold}
 use Rattle.draid_shard.specs.Part.{IsPart}
 use Rattle.draid_shard.specs.Stands.{StandsFor}
 use Rattle.draid_shard.specs.States.{IsIn, layout_by, part_of}

@@ -14,7 +14,7 @@ use Rattle.draid_spec.specs.Geometry.{IsGeometry, metaslab_sectors, metaslab_str
 use Rattle.draid_area.specs.Area.{Content, OnTold}
 use Rattle.draid_shelf.specs.declared.kit.Kit.{Kit}
 use Rattle.draid_rack.specs.Moments.{LeavesTold}
-use Rattle.draid_rack.specs.Rack.{Shape, Told}
+use Rattle.draid_rack.specs.Rack.{Shape, Told, OnBothTold}
 use Rattle.draid_segments.specs.Acts.{DropsBut, IsNamed}
 use Rattle.draid_slots.specs.Changes.{HasRoom}
 use Rattle.draid_slots.specs.Table.{SlotTable, is_leaf_kind, is_logged}
@@ -39,12 +39,12 @@ use Rattle.draid_record.specs.Record as spec
 use Rattle.draid_record.specs.Record.{ArmTold, RecordTold, limits_of, record_of}
 use Rattle.draid_stable.specs.declared.opening.Tables as opening
 use Rattle.draid_stable.specs.Images.{image_by}
-use Rattle.draid_stable.specs.Opening.{AreRead, arms_told, block_at, has_leaf, has_leaf_arm, lacking_from, opening_of, run_of, slots_at}
+use Rattle.draid_record.specs.declared.sizes.TheConstants.{SLOTS_AT}
+use Rattle.draid_stable.specs.Opening.{AreRead, arms_told, block_at, has_leaf, has_leaf_arm, lacking_from, opening_of, run_of}
 use Rattle.draid_stable.proofs.Opened.{found_at}
 use Rattle.draid_stable.proofs.Places.{each_block, inside, sound_limits}
 use Rattle.draid_stable.proofs.Settled.{get_is}
 use Rattle.draid_stable.proofs.There.{arm_named, has_sectors, leaf_there, named_leaf, whole_parts}
-use Rattle.draid_shard.specs.Calls.{OnBothTold}
 use Rattle.draid_shard.specs.Fits as fits
 use Rattle.draid_shard.specs.Fits.{AreHere, HasLeaves, HasStripe, IsLeaf, IsPlaced, LogsHaveRoom, Tables, TicketsAreNew, lacking}
 use Rattle.draid_shard.specs.Part.{IsRun}
@@ -295,7 +295,7 @@ enough_room slots from groups arms room at there =
 
 -- ---- leaves
 pub leaves_there : (old new : Shape) (geometry : Geometry) (slots : SlotTable) (all : List (List ArmTold)) → slots.arms ≡ arms_told all → slots.detached ≡ []
-    → lacking_from (has_leaf old (metaslab_sectors geometry)) slots_at all ≡ None → old.bytes ≡ geometry.props.sector → new.bytes ≡ old.bytes
+    → lacking_from (has_leaf old (metaslab_sectors geometry)) SLOTS_AT all ≡ None → old.bytes ≡ geometry.props.sector → new.bytes ≡ old.bytes
     → ((leaf : ℕ) → has_leaf_arm slots leaf ≡ true → new.leaves leaf ≡ old.leaves leaf) → HasLeaves new geometry slots
 leaves_there old new geometry slots all arms none lacks bytes same kept = record { bytes = same ∙ bytes; leaves = leaves }
   where

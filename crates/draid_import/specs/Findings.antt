@@ -43,11 +43,11 @@ pub record IsRead {R A : Type 0} (rack : racks.Ghosts R) (area : areas.Ghosts A)
 pub record IsMadeOf {R A : Type 0} (rack : racks.Ghosts R) (shards : List (Shard R A)) (uber : Uber A) (newest : ℕ → Option Pointer) (seq : ℕ) (pool : Pool R A) : Type 0 where
   pub uber_is : pool.uber ≡ uber
   pub layout : pool.geometry ≡ layout_of uber
-  pub objects : (object : ℕ) → get nat_eq pool.objects object ≡ newest object
-  pub seq_is : pool.seq ≡ seq
-  pub floor : pool.floor ≡ group_of (kept_of uber) + 1
-  pub freed : AreFreed rack newest shards pool.shards.items
-  pub only : AreNewest pool.shards.items newest
+  pub objects : (object : ℕ) → get nat_eq pool.own.objects object ≡ newest object
+  pub seq_is : pool.own.seq ≡ seq
+  pub floor : pool.own.floor ≡ group_of (kept_of uber) + 1
+  pub freed : AreFreed rack newest shards pool.metaslabs.shards.items
+  pub only : AreNewest pool.metaslabs.shards.items newest
 
 -- a pool is what was read of a shelf
 pub record IsReadPool {R A : Type 0} (rack : racks.Ghosts R) (area : areas.Ghosts A) (held : Option Held) (leaves : ℕ → Option Shape) (counts : ℕ → KitCounts) (uber_count : ℕ) (pool : Pool R A) : Type 0 where

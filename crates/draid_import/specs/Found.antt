@@ -30,9 +30,10 @@ use Rattle.draid_import.specs.Imported.{IsFoundOf}
 use Rattle.draid_pool.specs.Metaslabs.{IsMetaslab}
 use Rattle.draid_pool.specs.Shards.{FreesIn, Goes}
 use Rattle.draid_shard.specs.Looks.{IsLive}
+use Rattle.draid_shard.specs.Alike.{KeepsArms}
 use Rattle.draid_shard.specs.Changes.{SetsBlock}
 use Rattle.draid_shard.specs.Fits.{Valid}
-use Rattle.draid_import.specs.Reopening.{Opens, OpensCounts}
+use Rattle.draid_import.specs.Reopening.{HasLowLeaves, Opens, OpensCounts}
 use Rattle.draid_shard.specs.Part.{Part}
 use Rattle.draid_shard.specs.States.{part_of}
 use Rattle.draid_import.specs.declared.fault.OpenFault.{OpenFault}
@@ -91,6 +92,10 @@ pub record AreReopened {R A : Type 0} (rack : racks.Ghosts R) (geometry : Geomet
   pub layout : IsLayout geometry perms
   pub many : length shards ≡ geometry.props.metaslabs
   pub each : (m : ℕ) (shard : Shard R A) → slice_get shards m ≡ Some shard → IsReopened rack (record { geometry = geometry; perms = perms; number = m }) group shard
+
+-- none of the arms of some metaslabs is detached, and their leaves have numbers below one
+abbrev pub HaveLowLeaves : {R A : Type 0} → ℕ → List (Shard R A) → Type 0
+HaveLowLeaves {R} {A} next shards = (m : ℕ) (shard : Shard R A) → slice_get shards m ≡ Some shard → HasLowLeaves next shard.slots
 
 -- the devices that a shelf held for a metaslab, with their counts and with the leaves that were known
 pub record IsKitOf {R A : Type 0} (rack : racks.Ghosts R) (area : areas.Ghosts A) (m : ℕ) (held : Option shelf.Held) (known : Option Shape) (counts : shelf.KitCounts) (kit : Kit R A) : Type 0 where
@@ -231,6 +236,7 @@ pub record FreesOlder {R A : Type 0} (rack : racks.Ghosts R) (newest : ℕ → O
   pub valid : Valid rack new
   pub part : part_of new ≡ part_of old
   pub committed : new.committed ≡ old.committed
+  pub slots : KeepsArms old.slots new.slots
   pub kept : (object : ℕ) (p : Pointer) → newest object ≡ Some p → p.object ≡ object → IsLive old p → IsLive new p
   pub blocks : (first : ℕ) (e : Entry) → entry_at new.entries first ≡ Some e
       → (is_block e.stage ≡ true) × ((e' : Entry) × (entry_at old.entries first ≡ Some e') × (e'.pointer ≡ e.pointer))

@@ -31,7 +31,7 @@ use Rattle.draid_session.specs.Holds.{Hold}
 use Rattle.draid_session.specs.Opening.{Finds, Frees, FreesOlder, IsLastSeq, LeafIn, MayFind, Reopens}
 use Rattle.draid_session.specs.State.{Metaslab, State}
 use Rattle.draid_pool.specs.Returning.{RestsOn, SameCounts}
-use Rattle.draid_pool.specs.Importable.{AllAlike, HasImageLeaves}
+use Rattle.draid_pool.specs.Importable.{AllAlike, HasImageLeaves, HasOneVersion, Shared}
 use Rattle.draid_pool.specs.Metaslabs.{IsMetaslab}
 use Rattle.draid_pool.specs.Objects.{HasGroups, HoldsObjects, blocks_of}
 use Rattle.draid_pool.specs.Pools.{part_in}
@@ -100,8 +100,9 @@ pub record StandsFound {R A : Type 0} (rack : racks.Ghosts R) (area : areas.Ghos
   pub uber_is : IsUber area uber x
   pub images : HasImages x
   pub leaves : HasLeafNumbers x
-  pub arms : machine.Core
-  pub alike : AllAlike arms x
+  pub shared : Shared
+  pub versions : HasOneVersion x.geometry.props.version shared
+  pub alike : AllAlike shared x
   pub open_groups : (m : ℕ) (y : Metaslab) → slice_get x.metaslabs m ≡ Some y → y.world.open_group ≡ x.committed + 1
   pub floor : x.store.floor ≡ x.committed + 1
 

@@ -1,5 +1,5 @@
 -- A metaslab is opened from the record of a group.
-use Rattle.std.specs.Prelude.{◌≡◌, ◌+◌, [], ⊤, ℕ, Bool, List, Option, Err, ◌==◌, ◌≤◌, ◌%◌, Ok, if◌then◌else◌}
+use Rattle.std.specs.Prelude.{◌<◌, ◌≡◌, ◌+◌, [], ⊤, ℕ, Bool, List, Option, Err, ◌==◌, ◌≤◌, ◌%◌, Ok, if◌then◌else◌}
 use Rattle.draid_names.specs.Faults.{Rose}
 use Rattle.draid_spec.specs.declared.layout.Geometry.{Geometry}
 use Rattle.draid_spec.specs.Geometry.{metaslab_sectors}
@@ -15,7 +15,7 @@ use Rattle.draid_record.specs.Record.{limits_of, RecordTold}
 use Rattle.draid_record.specs.declared.fault.RecordFault.TheVariants.{Bad}
 use Rattle.draid_stable.specs.Opening.{AreRead, block_at, has_leaf, opening_of, KeepsCounts, arms_told}
 use Rattle.draid_stable.specs.declared.opening.Tables.{Tables}
-use Rattle.draid_shard.specs.Fits.{owed_for_pass}
+use Rattle.draid_shard.specs.Fits.{owed_for_pass, IsLeaf}
 use Rattle.draid_import.specs.declared.fault.OpenFault.{OpenFault}
 use Rattle.draid_import.specs.declared.fault.OpenFault.TheVariants as fault
 use Rattle.draid_import.specs.declared.reopening.ReadTables.{ReadTables}
@@ -26,7 +26,8 @@ use Rattle.draid_machine.specs.declared.names.Segment.{Segment}
 use Rattle.draid_machine.specs.After.{reopen_state}
 use Rattle.draid_record.specs.Written.{IsRecord}
 use Rattle.draid_stable.specs.Images.{image_by}
-use Rattle.draid_shard.specs.Calls.{OnBothTold}
+use Rattle.draid_rack.specs.Rack.{OnBothTold}
+use Rattle.draid_slots.specs.Table.{SlotTable}
 use Rattle.draid_shard.specs.States.{IsIn, layout_by, stored_in}
 use Rattle.draid_shard.specs.declared.shard.Shard.{Shard}
 
@@ -68,6 +69,11 @@ pub record BeginsWith (t : Tables) (limit : ℕ) (history : History) : Type 0 wh
   pub reserved : reserved_of history ≡ 0
   pub limit_is : limit_in history ≡ limit
 
+-- no arm is detached, and the numbers of leaves are below one
+pub record HasLowLeaves (next : ℕ) (slots : SlotTable) : Type 0 where
+  pub detached : slots.detached ≡ []
+  pub below : (leaf : ℕ) → IsLeaf slots leaf → leaf < next
+
 -- A metaslab is opened from the record of a group, which has no fault to a rack with these leaves: its slots have the record's arms, its entries are the record's
 -- blocks, and it stands for what a state's opening from that image gives. Leaves that the image doesn't name went, and no other; the areas tell what they did.
 pub record Opens {R A : Type 0} (rack : Ghosts R) (told : A → Option content.Content) (kit : Kit R A) (group next : ℕ) (shard : Shard R A) : Type 0 where
@@ -75,6 +81,7 @@ pub record Opens {R A : Type 0} (rack : Ghosts R) (told : A → Option content.C
   pub in_range : IsRecord (limits_of shard.geometry shard.number group next) value
   pub read : content.OnTold (told (area_of_kit kit group)) (λ x. opening_of (limits_of shard.geometry shard.number group next) (has_leaf (rack.shape kit.rack) (metaslab_sectors shard.geometry)) x.bytes ≡ Ok value)
   pub arms : shard.slots.arms ≡ arms_told value.slots
+  pub low : HasLowLeaves next shard.slots
   pub entries : HasLive shard.entries value.blocks
   pub is_in : (w : machine.State) (doubtful : List Segment) → IsIn shard (reopen_state (layout_by shard) w (image_by value) doubtful)
   pub leaves : OnBothTold (rack.told kit.rack) (rack.told shard.rack) (DropsBut (IsNamed (image_by value)))

@@ -22,7 +22,7 @@ ghost use Rattle.draid_import.specs.Findings.{IsMadeOf, IsReadPool, LeavesAll};
 ghost use Rattle.draid_import.specs.Imported.{AreNewest, IsFoundOf};
 ghost use Rattle.draid_import.specs.Importing.{ImportIs, ImportsPool, LeavesMade, RestsThere};
 ghost use Rattle.draid_pool.specs.Taking.{HoldsMade, IsAsBefore, TakesFirst};
-ghost use Rattle.draid_import.specs.Found.{AnyRecordsRose, AreFreed, AreReopened, CountsLater, FreesIfOlder, FreesOlder, HasOnly, HasRisen, IsFoundUber, IsRecovered, IsReopened, IsShardFault, KeepsFound, KeepsFoundAt, KeepsKnown, LeavesShards, LeavesUber, NoRecord, OpensAllOver, OpensOver, RecordsRose, SameChecks, StaysHeld, shelf_fault_of, uber_fault_of, open_fault_of};
+ghost use Rattle.draid_import.specs.Found.{AnyRecordsRose, AreFreed, AreReopened, CountsLater, FreesIfOlder, FreesOlder, HasOnly, HaveLowLeaves, HasRisen, IsFoundUber, IsRecovered, IsReopened, IsShardFault, KeepsFound, KeepsFoundAt, KeepsKnown, LeavesShards, LeavesUber, NoRecord, OpensAllOver, OpensOver, RecordsRose, SameChecks, StaysHeld, shelf_fault_of, uber_fault_of, open_fault_of};
 ghost use Rattle.draid_found.specs.Found.{AllLive, AreFound, AreReady};
 ghost use Rattle.draid_found.specs.Together.{AreApart, AreTogether};
 ghost use Rattle.draid_pool.specs.Whole.{IsWhole};
@@ -35,7 +35,7 @@ use draid_blocks::free;
 use draid_found::{Found, FoundFault};
 use draid_names::{DeviceFault, Pointer};
 use draid_perm::Perms;
-use draid_pool::{EVENTS, Pool, give_back};
+use draid_pool::{EVENTS, Own, Owned, Pool, give_back};
 use draid_rack::Rack;
 use draid_shard::Shard;
 use draid_shelf::Shelf;
@@ -332,6 +332,8 @@ fn pool_of<R: Rack, A: Area>(
     requires uber { IsFoundUber A.Area uber }
     requires shards { AreReopened R.Rack (layout_of uber) (group_of (kept_of uber)) shards.items }
     requires found { AreFound shards.items (get nat_eq found.newest) found.seq }
+    requires together { AreTogether shards.items (length shards.items) }
+    requires low { HaveLowLeaves (next_leaf_of uber) shards.items }
     ensures whole { IsWhole R.Rack A.Area result }
     ensures made { IsMadeOf R.Rack shards.items uber (get nat_eq found.newest) found.seq result }
     ensures imports { (x : State) (pieces : ℕ → Pieces) → IsFoundOf R.Rack A.Area x uber pieces (get nat_eq found.newest) found.seq shards.items → ImportsPool R.Rack A.Area x result }
@@ -341,11 +343,13 @@ fn pool_of<R: Rack, A: Area>(
     free_all(&mut shards, &found.newest, floor);
     Pool {
         geometry: *uber.geometry(),
-        shards,
+        metaslabs: Owned { shards },
         uber,
-        objects: found.newest,
-        seq: found.seq,
-        floor,
+        own: Own {
+            objects: found.newest,
+            seq: found.seq,
+            floor,
+        },
         alloc,
     }
 }

@@ -5,6 +5,7 @@ ghost use Rattle.draid_names.specs.declared.numbers.TheConstants.{LAST_NUMBER};
 ghost use Rattle.draid_metaslab.specs.Spaces.{Stripes};
 ghost use Rattle.draid_entries.specs.Entries.{count_of};
 ghost use Rattle.draid_entries.specs.History.{limit_in};
+ghost use Rattle.draid_record.specs.declared.sizes.TheConstants.{BLOCK_BYTES};
 ghost use Rattle.draid_stable.specs.Opening.{len_of};
 ghost use Rattle.draid_shard.specs.Fits.{IsLeaf, Valid, is_rebuild, owed_for_pass};
 ghost use Rattle.draid_shard.specs.Part.{IsPart};
@@ -19,15 +20,12 @@ use draid_names::{DeviceFault, NoMemory, PassKind};
 use draid_pass::Pass;
 use draid_perm::Perms;
 use draid_rack::Rack;
-use draid_record::{RecordFault, length_of};
+use draid_record::{BLOCK_BYTES, RecordFault, length_of};
 use draid_shard::Shard;
 use draid_shelf::Kit;
 use draid_spec::Geometry;
 use draid_stable::{Tables, keep_arms, read_tables};
 use std::alloc::Global;
-
-/// How many bytes a block has in a record.
-const BLOCK_LEN: u64 = 72;
 
 /// The tables of a record, and the byte of its first block.
 #[derive(Drop)]
@@ -79,9 +77,9 @@ fn read_group<R: Rack, A: Area>(
 /// The byte at which the first block of a record stands, of which these are the tables: the blocks are the last of it.
 fn first_block(bytes: &[u8], tables: &Tables) -> u64
     requires { AreReadFrom bytes.now tables.now }
-    ensures { result ≡ len_of bytes.now - 72 * count_of tables.now.entries }
+    ensures { result ≡ len_of bytes.now - BLOCK_BYTES * count_of tables.now.entries }
 {
-    length_of(bytes).saturating_sub(BLOCK_LEN * tables.entries.count() as u64)
+    length_of(bytes).saturating_sub(BLOCK_BYTES * tables.entries.count() as u64)
 }
 
 /// The tables of the record of a group.

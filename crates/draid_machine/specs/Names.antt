@@ -1,4 +1,6 @@
 use Rattle.std.specs.Prelude.{if◌then◌else◌, ◌==◌, ◌+◌, ◌||◌, ◌&&◌, ℕ, zero, suc, Bool, true, false, nat_le, nat_lt, List, [], ◌∷◌}
+use Rattle.draid_names.specs.declared.arm.ArmKind.{ArmKind}
+use Rattle.draid_names.specs.declared.arm.ArmKind.TheVariants as kind
 use Rattle.draid_names.specs.declared.pass_kind.PassKind.{PassKind}
 use Rattle.draid_names.specs.declared.pass_kind.PassKind.TheVariants.{Rebuild, Heal}
 use Rattle.draid_machine.specs.declared.names.Key.{Key}
@@ -8,6 +10,11 @@ use Rattle.draid_machine.specs.declared.names.Stage.{Stage}
 use Rattle.draid_machine.specs.declared.names.Stage.TheVariants.{Writing, Live, Freed}
 use Rattle.draid_machine.specs.declared.names.Held.{Held}
 use Rattle.draid_machine.specs.declared.names.Segment.{Segment}
+
+-- an arm by what it is, and its number
+abbrev pub named : ArmKind → ℕ → ArmName
+named kind.Leaf number = Leaf number
+named kind.Spare number = Spare number
 
 -- one key, one arm, one segment
 abbrev pub key_eq : Key → Key → Bool

@@ -32,6 +32,11 @@ pub record Fits (l : Layout) (q : Core) (first stripes : ℕ) : Type 0 where
   pub group : (first + stripes - 1) / l.height ≡ first / l.height
   pub free : (x : ℕ) → first ≤ x → x < first + stripes → IsTaken q x → ⊥
 
+-- the longest run of free stripes within one parity group
+pub record IsLongest (l : Layout) (q : Core) (run : ℕ) : Type 0 where
+  pub fits : (run ≡ 0) ⊎ ((first : ℕ) × Fits l q first run)
+  pub longest : (first stripes : ℕ) → 0 < stripes → Fits l q first stripes → stripes ≤ run
+
 -- so few blocks and tickets that a list shorter than the limit has all their keys
 pub record HoldsFewer (q : Core) (limit : ℕ) : Type 0 where
   pub keys : List Key

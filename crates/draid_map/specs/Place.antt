@@ -1,6 +1,6 @@
 use Rattle.std.specs.Prelude.{◌+◌, ◌-◌, ◌*◌, ◌/◌, ◌%◌, ℕ}
 use Rattle.draid_spec.specs.declared.layout.Geometry.{Geometry}
-use Rattle.draid_spec.specs.Geometry.{IsGeometry}
+use Rattle.draid_spec.specs.Geometry.{IsGeometry, slice_at}
 use Rattle.draid_perm.specs.declared.perms.Perms.{Perms}
 use Rattle.draid_perm.specs.Perms.{AreSeeded, child_of}
 use Rattle.draid_map.specs.declared.sectors.Place.{Place}
@@ -26,4 +26,4 @@ place_of geometry perms stripe column =
 -- the child that keeps a sector for a spare: the spares have the last positions
 abbrev pub spare_child_of : Geometry → Perms → ℕ → ℕ → ℕ
 spare_child_of geometry perms spare sector =
-    child_of perms (sector / (geometry.rows * geometry.props.height)) (geometry.spec.children - 1 - spare)
+    child_of perms (slice_at geometry sector) (geometry.spec.children - 1 - spare)

@@ -14,13 +14,13 @@ use Rattle.draid_machine.specs.Arms as arms
 use Rattle.draid_machine.specs.Arms.{is_clean, is_here, is_silent, leaf_answers, leaf_at, logged, online, passes}
 use Rattle.draid_machine.specs.Created.{IsReached}
 use Rattle.draid_machine.specs.Images.{Owned}
-use Rattle.draid_machine.specs.Names.{has_name, has_number, name_eq}
+use Rattle.draid_machine.specs.Names.{has_name, has_number, name_eq, named}
 use Rattle.draid_machine.specs.State as machine
 use Rattle.draid_machine.proofs.Losing.{every_segment}
 use Rattle.draid_machine.proofs.Small.{absurd_test, below, either_true, name_refl, name_true, some_same, true_left, true_right}
 use Rattle.draid_slots.specs.Reading as reading
 use Rattle.draid_slots.specs.Reading.{answers, holder, holder_of, is_online, spare_slot}
-use Rattle.draid_slots.specs.States.{HasSlots, arm_in, name_of, named}
+use Rattle.draid_slots.specs.States.{HasSlots, arm_in, name_of}
 use Rattle.draid_slots.specs.Table as table
 use Rattle.draid_slots.specs.Table.{SlotTable, arm_at, arms_of, is_leaf_kind, is_logged, is_spare_kind}
 use Rattle.draid_marks.specs.Layout.{layout_with}

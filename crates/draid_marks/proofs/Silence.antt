@@ -8,7 +8,7 @@ use Rattle.draid_names.specs.declared.arm.Arm.{Arm}
 use Rattle.draid_names.specs.declared.arm.ArmAt.{ArmAt}
 use Rattle.draid_names.specs.declared.arm.ArmKind.{ArmKind}
 use Rattle.draid_names.specs.declared.arm.ArmKind.TheVariants as kind
-use Rattle.draid_spec.specs.Geometry.{metaslab_sectors, metaslab_stripes}
+use Rattle.draid_spec.specs.Geometry.{metaslab_sectors, metaslab_stripes, slice_at, slice_sectors}
 use Rattle.draid_perm.specs.declared.perms.Perms.{Perms}
 use Rattle.draid_perm.specs.Perms.{child_of}
 use Rattle.draid_map.specs.declared.sectors.Place.{Place}
@@ -22,12 +22,11 @@ use Rattle.draid_machine.specs.declared.names.ArmName.{ArmName}
 use Rattle.draid_machine.specs.declared.names.ArmName.TheVariants.{Spare}
 use Rattle.draid_machine.specs.Arms.{has_column, is_silent, leaf_at, lies_on, passes}
 use Rattle.draid_machine.specs.Created.{IsReached}
-use Rattle.draid_machine.specs.Names.{any_below, has_name, has_number}
+use Rattle.draid_machine.specs.Names.{any_below, has_name, has_number, named}
 use Rattle.draid_machine.specs.State as machine
 use Rattle.draid_machine.proofs.Small.{absurd_test, any_at, both_true, either_true, is_equal, true_both}
-use Rattle.draid_slots.specs.Reading as reading
 use Rattle.draid_slots.specs.Reading.{answers, first_leaf, holder, holder_of, is_online, pool_slice, spare_slot}
-use Rattle.draid_slots.specs.States.{HasSlots, name_of, named}
+use Rattle.draid_slots.specs.States.{HasSlots, name_of}
 use Rattle.draid_slots.specs.Table.{SlotTable, arm_at, arms_of, is_leaf_kind}
 use Rattle.draid_marks.specs.Layout.{layout_with}
 use Rattle.draid_marks.specs.Silent.{has_column_in, is_silent_in, lies_silent}
@@ -79,21 +78,21 @@ silent_by slots failed at slice other leaf same is = by (holder slots at slice) 
 
 module _ (slots : SlotTable) (lay : IsLayout slots.geometry slots.perms) where
   -- a sector at the front of a slice is in it
-  pub slice_front : (slice rows height : ℕ) → rows ≡ slots.geometry.rows → height ≡ slots.geometry.props.height → reading.slice_of slots.geometry (slice * (rows * height)) ≡ slice
-  slice_front slice rows height r h =
+  pub slice_front : (slice size : ℕ) → size ≡ slice_sectors slots.geometry → slice_at slots.geometry (slice * size) ≡ slice
+  slice_front slice size is =
       let some = has_some slots.geometry lay.geometry_is in
-      (λ i. slice * (r i * h i) / (slots.geometry.rows * slots.geometry.props.height)) ∙ slice_back slice slots.geometry.rows slots.geometry.props.height some.rows some.height
+      ap (λ n. slice_at slots.geometry (slice * n)) is ∙ slice_back slice slots.geometry.rows slots.geometry.props.height some.rows some.height
 
   -- and in the metaslab
-  pub front_inside : (slice rows height : ℕ) → rows ≡ slots.geometry.rows → height ≡ slots.geometry.props.height → slice < slots.geometry.props.slices → slice * (rows * height) < metaslab_sectors slots.geometry
-  front_inside slice rows height r h less =
+  pub front_inside : (slice size : ℕ) → size ≡ slice_sectors slots.geometry → slice < slots.geometry.props.slices → slice * size < metaslab_sectors slots.geometry
+  front_inside slice size is less =
       let some = has_some slots.geometry lay.geometry_is in
       let up : (slice + 1) * (slots.geometry.rows * slots.geometry.props.height) ≤ slots.geometry.props.slices * (slots.geometry.rows * slots.geometry.props.height)
       = mul-le-mul_right (slots.geometry.rows * slots.geometry.props.height) (omega (arith, less)) in
       let more : slice * (slots.geometry.rows * slots.geometry.props.height) < (slice + 1) * (slots.geometry.rows * slots.geometry.props.height) = step slice slots.geometry.rows slots.geometry.props.height some.rows some.height in
       let same : slots.geometry.props.slices * (slots.geometry.rows * slots.geometry.props.height) ≡ metaslab_sectors slots.geometry = assoc slots.geometry.props.slices slots.geometry.rows slots.geometry.props.height in
       let whole : slice * (slots.geometry.rows * slots.geometry.props.height) < metaslab_sectors slots.geometry = omega (arith, up, more, same) in
-      subst (λ (n : ℕ). n < metaslab_sectors slots.geometry) (λ i. slice * (sym r i * sym h i)) whole
+      subst (λ (n : ℕ). slice * n < metaslab_sectors slots.geometry) (sym is) whole
     where
       step : (a b c : ℕ) → 0 < b → 0 < c → a * (b * c) < (a + 1) * (b * c)
       step a b c x y = let both : 0 < b * c = grind arith in let next : (a + 1) * (b * c) ≡ a * (b * c) + b * c = grind arith in omega (arith, both, next)

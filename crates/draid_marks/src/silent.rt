@@ -83,8 +83,7 @@ fn is_silent(slots: &Slots, at: ArmAt, slice: u64, failed: &[u64]) -> bool
     ensures { result ≡ is_silent_in slots.now failed.now at slice }
 {
     let geometry = slots.geometry();
-    let band = u64::from(geometry.rows) * u64::from(geometry.props.height);
-    let leaf = slots.place(at, slice * band).leaf;
+    let leaf = slots.place(at, slice * geometry.slice_sectors()).leaf;
     !slots.answers(at, slice) || is_among(failed, leaf)
 }
 

@@ -4,7 +4,8 @@ use Rattle.std.proofs.lemmas.Bool.Decides.{nat_tests}
 use Rattle.std.proofs.lemmas.List.{append-nil, append_assoc, take_more}
 use Rattle.std.proofs.lemmas.List.Elements.{All-append, All-filter, All-head, All-nil, All-push, All-tail, All-weaker}
 use Rattle.draid_names.specs.declared.arm.ArmAt.{ArmAt}
-use Rattle.draid_slots.specs.States.{AscendBehind, least_arm, least_slot}
+use Rattle.draid_slots.specs.States.{AscendBehind}
+use Rattle.draid_names.specs.Arms.{least_arm, least_slot}
 use Rattle.draid_slots.specs.Table.{SlotTable, IsThere, arms_of, is_at}
 use Rattle.draid_plans.specs.Logs.{has_place}
 use Rattle.draid_plans.specs.Targets.{places_below, places_in}

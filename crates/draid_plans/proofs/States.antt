@@ -12,48 +12,28 @@ use Rattle.draid_names.specs.declared.arm.ArmKind.{ArmKind}
 use Rattle.draid_names.specs.declared.arm.ArmKind.TheVariants as kinds
 use Rattle.draid_names.specs.declared.pass_kind.PassKind.{PassKind}
 use Rattle.draid_names.specs.declared.pass_kind.PassKind.TheVariants.{Rebuild, Heal}
-use Rattle.draid_map.specs.Place.{IsLayout}
-use Rattle.draid_layouts.proofs.Layouts.{layout_is}
 use Rattle.draid_machine.specs.declared.names.ArmName.{ArmName}
 use Rattle.draid_machine.specs.After.{done_state, each_arm, excise_if, fill_if, map_arm, plan_state, planned_pass}
 use Rattle.draid_machine.specs.Arms as arms
 use Rattle.draid_machine.specs.Arms.{arms_below, is_here, leaf_answers, leaf_at, online, passes}
-use Rattle.draid_machine.specs.Created.{IsReached}
-use Rattle.draid_machine.specs.Fitting.{Fitting, IsOnce}
-use Rattle.draid_machine.specs.Images.{AreListed}
-use Rattle.draid_machine.specs.Names.{has_name, is_heal, is_leaf, name_eq, up_to}
+use Rattle.draid_machine.specs.Names.{has_name, is_heal, is_leaf, name_eq, up_to, named}
 use Rattle.draid_machine.specs.State as machine
-use Rattle.draid_machine.proofs.Fitted.{every_fit}
-use Rattle.draid_machine.proofs.Losing.{every_segment}
-use Rattle.draid_machine.proofs.Small.{absurd_test, bool_cases, name_refl, name_true, none_some, some_injective, some_same, true_left, true_right}
+use Rattle.draid_machine.proofs.Small.{bool_cases, name_refl, name_true, none_some, some_injective, some_same, true_left}
 use Rattle.draid_pass.specs.declared.pass.Pass.{Pass}
 use Rattle.draid_ranges.specs.Runs.{is_between}
 use Rattle.draid_slots.specs.Changes.{new_arm}
 use Rattle.draid_slots.specs.Marks.{is_marked}
-use Rattle.draid_slots.specs.States.{HasSlots, arm_in, name_of, named, names_at, pass_in}
+use Rattle.draid_slots.specs.States.{HasSlots, arm_in, name_of, names_at, pass_in}
 use Rattle.draid_slots.specs.Table.{SlotTable, IsThere, arm_at, arms_of, is_at, is_logged, is_spare_kind}
 use Rattle.draid_plans.specs.Ends.{is_good}
 use Rattle.draid_plans.specs.Layout.{layout_with}
 use Rattle.draid_plans.specs.Logs.{Excises, Fills, has_place, made_good}
 use Rattle.draid_plans.specs.Plans.{IsPlanned, Plans, is_filled, max_of}
-use Rattle.draid_plans.specs.Targets.{SuitKind, is_target, places_below, places_in, takes, takes_some, targets_of}
+use Rattle.draid_plans.specs.Targets.{NamedOnce, SuitKind, is_target, places_below, places_in, takes, takes_some, targets_of}
 use Rattle.draid_plans.proofs.Changes.{same_place}
 use Rattle.draid_plans.proofs.Order.{there_below}
 
 -- ---- lists of arms, and of their names
-name_listed : (xs : List Arm) (k : ℕ) (n : ArmName) → option_map name_of (slice_get xs k) ≡ Some n → has_name (map name_of xs) n ≡ true
-name_listed [] k n is = absurd (cc)
-name_listed (a ∷ xs) zero n is = true_left (name_eq (name_of a) n) (has_name (map name_of xs) n) (subst (λ m. name_eq m n ≡ true) (sym (some_same (Some (name_of a)) (name_of a) n refl is)) (name_refl n))
-name_listed (a ∷ xs) (suc k) n is = true_right (name_eq (name_of a) n) (has_name (map name_of xs) n) (name_listed xs k n is)
-
-once_apart : (xs : List Arm) (j k : ℕ) (n : ArmName) → IsOnce (map name_of xs) → option_map name_of (slice_get xs j) ≡ Some n → option_map name_of (slice_get xs k) ≡ Some n → j ≡ k
-once_apart [] j k n once a b = absurd (cc)
-once_apart (x ∷ xs) zero zero n once a b = refl
-once_apart (x ∷ xs) zero (suc k) n once a b =
-    absurd_test (has_name (map name_of xs) (name_of x)) (subst (λ m. has_name (map name_of xs) m ≡ true) (sym (some_same (Some (name_of x)) (name_of x) n refl a)) (name_listed xs k n b)) once.0
-once_apart (x ∷ xs) (suc j) zero n once a b =
-    absurd_test (has_name (map name_of xs) (name_of x)) (subst (λ m. has_name (map name_of xs) m ≡ true) (sym (some_same (Some (name_of x)) (name_of x) n refl b)) (name_listed xs j n a)) once.0
-once_apart (x ∷ xs) (suc j) (suc k) n once a b = ap suc (once_apart xs j k n once.1 a b)
 
 -- arms that are made good keep their names
 names_kept : (xs ys : List Arm) (g : ℕ → Bool) → ((k : ℕ) → slice_get ys k ≡ option_map (made_good (g k)) (slice_get xs k)) → map name_of ys ≡ map name_of xs
@@ -75,46 +55,9 @@ names_append slots (x ∷ xs) ys = by (arm_at slots x) (names_append slots xs ys
 pub names_same : (old new : SlotTable) (ats : List ArmAt) → new.arms ≡ old.arms → names_at new ats ≡ names_at old ats
 names_same old new ats same = ap (λ arms. names_at (record old { arms = arms }) ats) same
 
-module _ (slots : SlotTable) (lay : IsLayout slots.geometry slots.perms) (w : machine.State) (reached : IsReached (layout_with slots) w) (has : HasSlots slots w.core) where
+module _ (slots : SlotTable) (w : machine.State) (has : HasSlots slots w.core) where
   abbrev l : machine.Layout
   l = layout_with slots
-
-  -- ---- no name has two places
-  listed : AreListed w.core
-  listed = (every_segment l w (layout_is slots.geometry slots.perms slots.metaslab lay) reached).listed
-
-  fits : Fitting l w
-  fits = every_fit l w (layout_is slots.geometry slots.perms slots.metaslab lay) reached
-
-  in_order : (at : ArmAt) (a : Arm) → arm_at slots at ≡ Some a → has_name (w.core.order at.slot) (name_of a) ≡ true
-  in_order at a there = subst (λ ns. has_name ns (name_of a) ≡ true) (sym (has.order at.slot)) (name_listed (arms_of slots at.slot) at.arm (name_of a) (ap (option_map name_of) there))
-
-  one_place : (t at : ArmAt) (b a : Arm) → arm_at slots t ≡ Some b → arm_at slots at ≡ Some a → name_of b ≡ name_of a → t ≡ at
-  one_place t at b a there here same =
-      let s : t.slot ≡ at.slot = listed.one t.slot at.slot (name_of a) (subst (λ n. has_name (w.core.order t.slot) n ≡ true) same (in_order t b there)) (in_order at a here) in
-      let once : IsOnce (map name_of (arms_of slots at.slot)) = subst IsOnce (has.order at.slot) (fits.core.order.once at.slot) in
-      let moved : slice_get (arms_of slots at.slot) t.arm ≡ Some b = subst (λ x. slice_get (arms_of slots x) t.arm ≡ Some b) s there in
-      let k : t.arm ≡ at.arm = once_apart (arms_of slots at.slot) t.arm at.arm (name_of a) once (ap (option_map name_of) moved ∙ ap Some same) (ap (option_map name_of) here) in
-      λ i. record { slot = s i; arm = k i }
-
-  names_has : (ts : List ArmAt) (at : ArmAt) (a : Arm) → arm_at slots at ≡ Some a → has_name (names_at slots ts) (name_of a) ≡ has_place ts at
-  names_has [] at a here = refl
-  names_has (t ∷ ts) at a here = by (arm_at slots t) refl (is_at t at) refl (names_has ts at a here)
-    where
-      by : (o : Option Arm) → arm_at slots t ≡ o → (b : Bool) → is_at t at ≡ b → has_name (names_at slots ts) (name_of a) ≡ has_place ts at
-          → has_name (elim o as (λ o. List ArmName) [ None ↦ names_at slots ts | Some arm ↦ name_of arm ∷ names_at slots ts ]) (name_of a) ≡ (b || has_place ts at)
-      by None there true is rest = absurd (none_some (arm_at slots t) a there (subst (λ x. arm_at slots x ≡ Some a) (sym (same_place t at is)) here))
-      by None there false is rest = rest
-      by (Some x) there true is rest =
-          let same : x ≡ a = some_same (arm_at slots at) x a (subst (λ p. arm_at slots p ≡ Some x) (same_place t at is) there) here in
-          true_left (name_eq (name_of x) (name_of a)) (has_name (names_at slots ts) (name_of a)) (subst (λ n. name_eq n (name_of a) ≡ true) (sym (ap name_of same)) (name_refl (name_of a)))
-      by (Some x) there false is rest = elim (bool_cases (name_eq (name_of x) (name_of a))) [
-        | inl equal ↦ absurd (true≢false (sym (self at) ∙ subst (λ p. is_at p at ≡ false) (one_place t at x a there here (name_true (name_of x) (name_of a) equal)) is))
-        | inr differs ↦ ap (λ b. b || has_name (names_at slots ts) (name_of a)) differs ∙ rest
-      ]
-        where
-          self : (at : ArmAt) → is_at at at ≡ true
-          self at = grind (arith, nat_tests)
 
   -- ---- targets
   module _ (marks : List (List Bool)) (kind : PassKind) (suits : SuitKind slots marks kind w.core) where
@@ -226,103 +169,124 @@ module _ (slots : SlotTable) (lay : IsLayout slots.geometry slots.perms) (w : ma
     ];
   }
 
-  -- a pass is planned
-  module _ (new : SlotTable) (marks : List (List Bool)) (kind : PassKind) (pass : Pass) (suits : SuitKind slots marks kind w.core)
-      (planned : IsPlanned slots marks kind pass.number pass.max pass) (fills : Fills slots new (is_filled kind pass.targets.items) pass.max)
-      (number : pass.number ≡ w.core.last + 1) (max : pass.max ≡ max_of w kind) where
-    named_so : names_at slots pass.targets.items ≡ arms.targets_of l w.core kind
-    named_so = ap (names_at slots) planned.targets_are ∙ targets_are marks kind suits
-
-    log_is : (at : ArmAt) (a : Arm) (g : ℕ) → arm_at slots at ≡ Some a
-        → (if not (is_heal kind) && has_name (arms.targets_of l w.core kind) (name_of a) then up_to (w.open_group + 1) g else is_logged slots at g) ≡ is_logged new at g
-    log_is at a g there =
-        ap (λ ns. if not (is_heal kind) && has_name ns (name_of a) then up_to (w.open_group + 1) g else is_logged slots at g) (sym named_so)
-        ∙ ap (λ b. if not (is_heal kind) && b then up_to (w.open_group + 1) g else is_logged slots at g) (names_has pass.targets.items at a there)
-        ∙ by kind (has_place pass.targets.items at) max ∙ sym (fills.logged at g)
+  -- ---- where no two arms have one name
+  module _ (once : NamedOnce slots) where
+    names_has : (ts : List ArmAt) (at : ArmAt) (a : Arm) → arm_at slots at ≡ Some a → has_name (names_at slots ts) (name_of a) ≡ has_place ts at
+    names_has [] at a here = refl
+    names_has (t ∷ ts) at a here = by (arm_at slots t) refl (is_at t at) refl (names_has ts at a here)
       where
-        upto : (m g : ℕ) → up_to m g ≡ is_between 1 (m + 1) g
-        upto m g = grind (arith, nat_tests)
+        by : (o : Option Arm) → arm_at slots t ≡ o → (b : Bool) → is_at t at ≡ b → has_name (names_at slots ts) (name_of a) ≡ has_place ts at
+            → has_name (elim o as (λ o. List ArmName) [ None ↦ names_at slots ts | Some arm ↦ name_of arm ∷ names_at slots ts ]) (name_of a) ≡ (b || has_place ts at)
+        by None there true is rest = absurd (none_some (arm_at slots t) a there (subst (λ x. arm_at slots x ≡ Some a) (sym (same_place t at is)) here))
+        by None there false is rest = rest
+        by (Some x) there true is rest =
+            let same : x ≡ a = some_same (arm_at slots at) x a (subst (λ p. arm_at slots p ≡ Some x) (same_place t at is) there) here in
+            true_left (name_eq (name_of x) (name_of a)) (has_name (names_at slots ts) (name_of a)) (subst (λ n. name_eq n (name_of a) ≡ true) (sym (ap name_of same)) (name_refl (name_of a)))
+        by (Some x) there false is rest = elim (bool_cases (name_eq (name_of x) (name_of a))) [
+          | inl equal ↦ absurd (true≢false (sym (self at) ∙ subst (λ p. is_at p at ≡ false) (once t at x a there here (name_true (name_of x) (name_of a) equal)) is))
+          | inr differs ↦ ap (λ b. b || has_name (names_at slots ts) (name_of a)) differs ∙ rest
+        ]
+          where
+            self : (at : ArmAt) → is_at at at ≡ true
+            self at = grind (arith, nat_tests)
 
-        by : (k : PassKind) (b : Bool) → pass.max ≡ max_of w k → (if not (is_heal k) && b then up_to (w.open_group + 1) g else is_logged slots at g)
-            ≡ (if not (is_heal k) && b then is_between 1 (pass.max + 1) g else is_logged slots at g)
-        by Rebuild true m = upto (w.open_group + 1) g ∙ ap (λ n. is_between 1 (n + 1) g) (sym m)
-        by Rebuild false m = refl
-        by Heal b m = refl
+    -- a pass is planned
+    module _ (new : SlotTable) (marks : List (List Bool)) (kind : PassKind) (pass : Pass) (suits : SuitKind slots marks kind w.core)
+        (planned : IsPlanned slots marks kind pass.number pass.max pass) (fills : Fills slots new (is_filled kind pass.targets.items) pass.max)
+        (number : pass.number ≡ w.core.last + 1) (max : pass.max ≡ max_of w kind) where
+      named_so : names_at slots pass.targets.items ≡ arms.targets_of l w.core kind
+      named_so = ap (names_at slots) planned.targets_are ∙ targets_are marks kind suits
 
-    slots_planned : HasSlots new (plan_state w kind (arms.targets_of l w.core kind)).core
-    slots_planned = slots_made new (λ n. fill_if (not (is_heal kind) && has_name (arms.targets_of l w.core kind) n) (w.open_group + 1))
-        ((plan_state w kind (arms.targets_of l w.core kind)).core.pass) (w.core.last + 1) (record {
-          same_gone = fills.detached_stay;
-          names = λ slot. ap (λ all. map name_of (slice_index_or all slot [])) fills.arms_stay;
-          from = λ at a there.
-              let was : arm_at slots at ≡ Some a = subst (λ all. slice_get (slice_index_or all at.slot []) at.arm ≡ Some a) fills.arms_stay there in
-              (a, was, refl, λ i. record { offline = a.offline; fresh = a.fresh; log = λ g. log_is at a g was i; gone = None });
-          to = λ at a there. (a, subst (λ all. slice_get (slice_index_or all at.slot []) at.arm ≡ Some a) (sym fills.arms_stay) there, refl);
-          offline = λ n x. refl;
-          gone = λ n x. refl;
-        })
+      log_is : (at : ArmAt) (a : Arm) (g : ℕ) → arm_at slots at ≡ Some a
+          → (if not (is_heal kind) && has_name (arms.targets_of l w.core kind) (name_of a) then up_to (w.open_group + 1) g else is_logged slots at g) ≡ is_logged new at g
+      log_is at a g there =
+          ap (λ ns. if not (is_heal kind) && has_name ns (name_of a) then up_to (w.open_group + 1) g else is_logged slots at g) (sym named_so)
+          ∙ ap (λ b. if not (is_heal kind) && b then up_to (w.open_group + 1) g else is_logged slots at g) (names_has pass.targets.items at a there)
+          ∙ by kind (has_place pass.targets.items at) max ∙ sym (fills.logged at g)
+        where
+          upto : (m g : ℕ) → up_to m g ≡ is_between 1 (m + 1) g
+          upto m g = grind (arith, nat_tests)
 
-    pass_planned : planned_pass w kind (arms.targets_of l w.core kind) ≡ pass_in new pass
-    pass_planned = by kind planned.kind_is max planned.running_is ∙ (λ i. record {
-      number = pass.number;
-      kind = pass.kind;
-      targets = (sym named_so ∙ sym (names_same slots new pass.targets.items fills.arms_stay)) i;
-      max = pass.max;
-      next = pass.at;
-      errors = pass.errors;
-      running = pass.running;
-    })
-      where
-        by : (k : PassKind) → pass.kind ≡ k → pass.max ≡ max_of w k → pass.running ≡ is_heal k → planned_pass w k (arms.targets_of l w.core kind)
-            ≡ record { number = pass.number; kind = pass.kind; targets = arms.targets_of l w.core kind; max = pass.max; next = pass.at; errors = pass.errors; running = pass.running }
-        by Rebuild k m r = λ i. record {
-          number = sym number i;
-          kind = sym k i;
-          targets = arms.targets_of l w.core kind;
-          max = sym m i;
-          next = sym planned.first i;
-          errors = sym planned.no_errors i;
-          running = sym r i;
-        }
-        by Heal k m r = λ i. record {
-          number = sym number i;
-          kind = sym k i;
-          targets = arms.targets_of l w.core kind;
-          max = sym m i;
-          next = sym planned.first i;
-          errors = sym planned.no_errors i;
-          running = sym r i;
-        }
+          by : (k : PassKind) (b : Bool) → pass.max ≡ max_of w k → (if not (is_heal k) && b then up_to (w.open_group + 1) g else is_logged slots at g)
+              ≡ (if not (is_heal k) && b then is_between 1 (pass.max + 1) g else is_logged slots at g)
+          by Rebuild true m = upto (w.open_group + 1) g ∙ ap (λ n. is_between 1 (n + 1) g) (sym m)
+          by Rebuild false m = refl
+          by Heal b m = refl
 
-    pub plans : Plans w slots new kind pass
-    plans = record { slots_are = slots_planned; pass_is = ap Some pass_planned }
+      slots_planned : HasSlots new (plan_state w kind (arms.targets_of l w.core kind)).core
+      slots_planned = slots_made new (λ n. fill_if (not (is_heal kind) && has_name (arms.targets_of l w.core kind) n) (w.open_group + 1))
+          ((plan_state w kind (arms.targets_of l w.core kind)).core.pass) (w.core.last + 1) (record {
+            same_gone = fills.detached_stay;
+            names = λ slot. ap (λ all. map name_of (slice_index_or all slot [])) fills.arms_stay;
+            from = λ at a there.
+                let was : arm_at slots at ≡ Some a = subst (λ all. slice_get (slice_index_or all at.slot []) at.arm ≡ Some a) fills.arms_stay there in
+                (a, was, refl, λ i. record { offline = a.offline; fresh = a.fresh; log = λ g. log_is at a g was i; gone = None });
+            to = λ at a there. (a, subst (λ all. slice_get (slice_index_or all at.slot []) at.arm ≡ Some a) (sym fills.arms_stay) there, refl);
+            offline = λ n x. refl;
+            gone = λ n x. refl;
+          })
 
-  -- a pass ends
-  module _ (new : SlotTable) (pass : Pass) (ends : Excises slots new (is_good pass) pass.max) where
-    good_is : (at : ArmAt) (a : Arm) → arm_at slots at ≡ Some a → ((pass.errors == 0) && has_name (names_at slots pass.targets.items) (name_of a)) ≡ is_good pass at
-    good_is at a there = ap (λ b. (pass.errors == 0) && b) (names_has pass.targets.items at a there)
+      pass_planned : planned_pass w kind (arms.targets_of l w.core kind) ≡ pass_in new pass
+      pass_planned = by kind planned.kind_is max planned.running_is ∙ (λ i. record {
+        number = pass.number;
+        kind = pass.kind;
+        targets = (sym named_so ∙ sym (names_same slots new pass.targets.items fills.arms_stay)) i;
+        max = pass.max;
+        next = pass.at;
+        errors = pass.errors;
+        running = pass.running;
+      })
+        where
+          by : (k : PassKind) → pass.kind ≡ k → pass.max ≡ max_of w k → pass.running ≡ is_heal k → planned_pass w k (arms.targets_of l w.core kind)
+              ≡ record { number = pass.number; kind = pass.kind; targets = arms.targets_of l w.core kind; max = pass.max; next = pass.at; errors = pass.errors; running = pass.running }
+          by Rebuild k m r = λ i. record {
+            number = sym number i;
+            kind = sym k i;
+            targets = arms.targets_of l w.core kind;
+            max = sym m i;
+            next = sym planned.first i;
+            errors = sym planned.no_errors i;
+            running = sym r i;
+          }
+          by Heal k m r = λ i. record {
+            number = sym number i;
+            kind = sym k i;
+            targets = arms.targets_of l w.core kind;
+            max = sym m i;
+            next = sym planned.first i;
+            errors = sym planned.no_errors i;
+            running = sym r i;
+          }
 
-    made : (at : ArmAt) (a : Arm) → arm_at new at ≡ Some a → (o : Option Arm) → arm_at slots at ≡ o → option_map (made_good (is_good pass at)) o ≡ Some a
-        → (old : Arm) × (arm_at slots at ≡ Some old) × (name_of old ≡ name_of a)
-        × (excise_if ((pass.errors == 0) && has_name (names_at slots pass.targets.items) (name_of a)) pass.max (arm_in slots at old) ≡ arm_in new at a)
-    made at a there None was is = absurd (none_some None a refl is)
-    made at a there (Some old) was is =
-        let same : made_good (is_good pass at) old ≡ a = some_injective (made_good (is_good pass at) old) a is in
-        let good : ((pass.errors == 0) && has_name (names_at slots pass.targets.items) (name_of a)) ≡ is_good pass at =
-        ap (λ n. (pass.errors == 0) && has_name (names_at slots pass.targets.items) n) (sym (ap name_of same)) ∙ good_is at old was in (
-          old,
-          was,
-          ap name_of same,
-          ap (λ b. excise_if b pass.max (arm_in slots at old)) good
-              ∙ (λ i. record { offline = (same i).offline; fresh = (same i).fresh; log = λ g. sym (ends.logged at g) i; gone = None }),
-        )
+      pub plans : Plans w slots new kind pass
+      plans = record { slots_are = slots_planned; pass_is = ap Some pass_planned }
 
-    pub slots_ended : HasSlots new (done_state w (pass_in slots pass)).core
-    slots_ended = slots_made new (λ n. excise_if ((pass.errors == 0) && has_name (names_at slots pass.targets.items) n) pass.max) None w.core.last (record {
-      same_gone = ends.detached_stay;
-      names = λ slot. names_kept (arms_of slots slot) (arms_of new slot) (λ k. is_good pass (record { slot = slot; arm = k })) (λ k. ends.arms_are (record { slot = slot; arm = k }));
-      from = λ at a there. made at a there (arm_at slots at) refl (sym (ends.arms_are at) ∙ there);
-      to = λ at old there. (made_good (is_good pass at) old, ends.arms_are at ∙ ap (option_map (made_good (is_good pass at))) there, refl);
-      offline = λ n x. refl;
-      gone = λ n x. refl;
-    })
+    -- a pass ends
+    module _ (new : SlotTable) (pass : Pass) (ends : Excises slots new (is_good pass) pass.max) where
+      good_is : (at : ArmAt) (a : Arm) → arm_at slots at ≡ Some a → ((pass.errors == 0) && has_name (names_at slots pass.targets.items) (name_of a)) ≡ is_good pass at
+      good_is at a there = ap (λ b. (pass.errors == 0) && b) (names_has pass.targets.items at a there)
+
+      made : (at : ArmAt) (a : Arm) → arm_at new at ≡ Some a → (o : Option Arm) → arm_at slots at ≡ o → option_map (made_good (is_good pass at)) o ≡ Some a
+          → (old : Arm) × (arm_at slots at ≡ Some old) × (name_of old ≡ name_of a)
+          × (excise_if ((pass.errors == 0) && has_name (names_at slots pass.targets.items) (name_of a)) pass.max (arm_in slots at old) ≡ arm_in new at a)
+      made at a there None was is = absurd (none_some None a refl is)
+      made at a there (Some old) was is =
+          let same : made_good (is_good pass at) old ≡ a = some_injective (made_good (is_good pass at) old) a is in
+          let good : ((pass.errors == 0) && has_name (names_at slots pass.targets.items) (name_of a)) ≡ is_good pass at =
+          ap (λ n. (pass.errors == 0) && has_name (names_at slots pass.targets.items) n) (sym (ap name_of same)) ∙ good_is at old was in (
+            old,
+            was,
+            ap name_of same,
+            ap (λ b. excise_if b pass.max (arm_in slots at old)) good
+                ∙ (λ i. record { offline = (same i).offline; fresh = (same i).fresh; log = λ g. sym (ends.logged at g) i; gone = None }),
+          )
+
+      pub slots_ended : HasSlots new (done_state w (pass_in slots pass)).core
+      slots_ended = slots_made new (λ n. excise_if ((pass.errors == 0) && has_name (names_at slots pass.targets.items) n) pass.max) None w.core.last (record {
+        same_gone = ends.detached_stay;
+        names = λ slot. names_kept (arms_of slots slot) (arms_of new slot) (λ k. is_good pass (record { slot = slot; arm = k })) (λ k. ends.arms_are (record { slot = slot; arm = k }));
+        from = λ at a there. made at a there (arm_at slots at) refl (sym (ends.arms_are at) ∙ there);
+        to = λ at old there. (made_good (is_good pass at) old, ends.arms_are at ∙ ap (option_map (made_good (is_good pass at))) there, refl);
+        offline = λ n x. refl;
+        gone = λ n x. refl;
+      })

@@ -5,15 +5,13 @@ use Rattle.draid_names.specs.declared.pass_kind.PassKind.{PassKind}
 use Rattle.draid_names.specs.declared.pass_kind.PassKind.TheVariants.{Rebuild, Heal}
 use Rattle.draid_machine.specs.declared.names.ArmName.{ArmName}
 use Rattle.draid_machine.specs.After.{capped, done_state, lose_some}
-use Rattle.draid_machine.specs.Created.{IsReached}
 use Rattle.draid_machine.specs.State.{State}
 use Rattle.draid_pass.specs.declared.pass.Pass.{Pass}
 use Rattle.draid_slots.specs.Marks.{is_marked}
 use Rattle.draid_slots.specs.States.{HasSlots, pass_in}
 use Rattle.draid_slots.specs.Table.{SlotTable, IsThere}
-use Rattle.draid_plans.specs.Layout.{layout_with}
 use Rattle.draid_plans.specs.Logs.{has_place}
-use Rattle.draid_plans.specs.Targets.{AreMarked}
+use Rattle.draid_plans.specs.Targets.{AreMarked, NamedOnce}
 
 -- a pass that ends without errors makes its targets good
 abbrev pub is_good : Pass → ArmAt → Bool
@@ -22,7 +20,7 @@ is_good pass at = (pass.errors == 0) && has_place pass.targets.items at
 -- what the machine's Done makes of each state that has the old slots has the new ones
 abbrev pub EndsAll : SlotTable → SlotTable → Pass → Type 0
 EndsAll old new pass =
-    (w : State) → IsReached (layout_with old) w → HasSlots old w.core → HasSlots new (done_state w (pass_in old pass)).core
+    (w : State) → NamedOnce old → HasSlots old w.core → HasSlots new (done_state w (pass_in old pass)).core
 
 -- ---- targets that are lost: those of marked arms
 

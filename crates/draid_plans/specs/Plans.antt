@@ -5,7 +5,6 @@ use Rattle.draid_names.specs.declared.pass_kind.PassKind.{PassKind}
 use Rattle.draid_names.specs.declared.pass_kind.PassKind.TheVariants.{Rebuild, Heal}
 use Rattle.draid_machine.specs.After.{plan_state}
 use Rattle.draid_machine.specs.Arms as arms
-use Rattle.draid_machine.specs.Created.{IsReached}
 use Rattle.draid_machine.specs.Names.{is_heal}
 use Rattle.draid_machine.specs.State.{State}
 use Rattle.draid_pass.specs.declared.pass.Pass.{Pass}
@@ -13,7 +12,7 @@ use Rattle.draid_slots.specs.States.{HasSlots, pass_in}
 use Rattle.draid_slots.specs.Table.{SlotTable, IsThere, room_at}
 use Rattle.draid_plans.specs.Layout.{layout_with}
 use Rattle.draid_plans.specs.Logs.{has_place}
-use Rattle.draid_plans.specs.Targets.{HasTargetRoom, SuitKind, targets_of}
+use Rattle.draid_plans.specs.Targets.{HasTargetRoom, NamedOnce, SuitKind, targets_of}
 
 -- a rebuild wants room for one change of each log
 abbrev pub HasLogRoom : SlotTable → PassKind → Type 0
@@ -49,5 +48,5 @@ pub record Plans (w : State) (old new : SlotTable) (kind : PassKind) (pass : Pas
 -- So it is of each such state in which the arms are marked as the kind asks, where the pass has the next number and the max of its kind.
 abbrev pub PlansAll : SlotTable → SlotTable → List (List Bool) → PassKind → Pass → Type 0
 PlansAll old new marks kind pass =
-    (w : State) → IsReached (layout_with old) w → HasSlots old w.core → SuitKind old marks kind w.core → pass.number ≡ w.core.last + 1 → pass.max ≡ max_of w kind
+    (w : State) → NamedOnce old → HasSlots old w.core → SuitKind old marks kind w.core → pass.number ≡ w.core.last + 1 → pass.max ≡ max_of w kind
     → Plans w old new kind pass

@@ -50,6 +50,12 @@ targets_of slots marks kind = filter (is_target slots marks kind) (places_of slo
 abbrev pub HasTargetRoom : SlotTable → Vec ArmAt Global → Type 0
 HasTargetRoom slots targets = 3 * slots.geometry.spec.children ≤ vec_capacity targets
 
+-- ---- names
+
+-- no two arms have one name
+abbrev pub NamedOnce : SlotTable → Type 0
+NamedOnce slots = (at other : ArmAt) (a b : Arm) → arm_at slots at ≡ Some a → arm_at slots other ≡ Some b → name_of a ≡ name_of b → at ≡ other
+
 -- ---- marks
 
 -- just those arms are marked that pass a test of their names

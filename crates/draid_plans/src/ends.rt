@@ -1,5 +1,5 @@
 ghost use Rattle.std.specs.Prelude.{◌<◌, ◌^◌, All};
-ghost use Rattle.draid_slots.specs.Table.{IsTable, IsThere};
+ghost use Rattle.draid_slots.specs.Table.{IsThere};
 ghost use Rattle.draid_plans.specs.Ends.{EndsAll, is_good};
 ghost use Rattle.draid_plans.specs.Logs.{Excises};
 
@@ -10,7 +10,6 @@ use draid_slots::Slots;
 /// Ends a pass: without errors the groups up to its max leave its targets' logs, and they aren't fresh any more. It takes no
 /// memory.
 pub fn end(slots: &mut Slots, pass: &Pass)
-    requires table { IsTable slots.old }
     requires range { pass.now.max < 2 ^ 48 }
     requires there { All (IsThere slots.old) pass.now.targets.items }
     ensures logs { Excises slots.old slots.new (is_good pass.now) pass.now.max }

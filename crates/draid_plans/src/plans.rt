@@ -38,7 +38,7 @@ pub fn plan(
 ) -> Pass
     requires range { max < 2 ^ 48 }
     requires some_max { 1 ≤ max }
-    requires count { length marks.now ≡ slots.old.geometry.spec.children }
+    requires count { slots.old.geometry.spec.children ≤ length marks.now }
     requires targets { HasTargetRoom slots.old targets }
     requires logs { HasLogRoom slots.old kind }
     ensures pass { IsPlanned slots.old marks.now kind number max result }

@@ -1,5 +1,5 @@
 -- All metaslabs have the layout's version and the same arms: what keeps it so.
-use Rattle.std.proofs.Common.{◌≡◌, ◌∙◌, inl, inr, ◌⊎◌, ℕ, Bool, true, false, List, [], ◌∷◌, Option, Some, None, refl, sym, ap, subst, if◌then◌else◌}
+use Rattle.std.proofs.Common.{arith, ◌≡◌, ◌∙◌, inl, inr, ℕ, Bool, true, false, List, [], ◌∷◌, Option, Some, None, refl, sym, ap, subst, if◌then◌else◌}
 use Rattle.std.specs.Prelude.{nat_le, nat_lt, option_map}
 use Rattle.draid_machine.specs.declared.names.ArmName.{ArmName}
 use Rattle.draid_machine.specs.declared.names.ArmName.TheVariants.{Leaf, Spare}
@@ -7,9 +7,10 @@ use Rattle.draid_machine.specs.After.{image_of, is_gone_arm, keep_if, map_arm, r
 use Rattle.draid_machine.specs.Arms.{is_here}
 use Rattle.draid_machine.specs.Created.{created, created_arm, created_core, new_arm}
 use Rattle.draid_machine.specs.Images.{IsImage}
+use Rattle.draid_machine.specs.Sound.{GroupsSound}
 use Rattle.draid_machine.specs.State as machine
 use Rattle.draid_machine.specs.Step.{CommitStep, SealStep}
-use Rattle.draid_pool.specs.Importable.{IsAlike, SameArms, bare}
+use Rattle.draid_pool.specs.Importable.{IsAlike, SameArms, Shared, bare, keep_shared}
 
 -- ---- arms
 
@@ -62,79 +63,78 @@ alike_then a b c one other = record { order = λ slot. one.order slot ∙ other.
 
 -- ---- metaslabs
 
-module _ (version : ℕ) (arms : machine.Core) where
+module _ (shared : Shared) where
   -- no image came, and the arms stayed
-  pub alike_kept : (w v : machine.State) → v.asked ≡ w.asked → SameArms v.core w.core → ((image : machine.Image) → IsImage v image → IsImage w image) → IsAlike version arms w → IsAlike version arms v
-  alike_kept w v asked same images is = record {
-    versions = record { asked = asked ∙ is.versions.asked; images = λ image of. is.versions.images image (images image of) };
+  pub alike_kept : (w v : machine.State) → v.asked ≡ w.asked → SameArms v.core w.core → v.image ≡ w.image → v.sealed ≡ w.sealed → IsAlike shared w → IsAlike shared v
+  alike_kept w v asked same image sealed is = record {
+    versions = record {
+      asked = asked ∙ is.versions.asked;
+      kept = ap (λ (i : machine.Image). i.version) image ∙ is.versions.kept;
+      sealed = λ i of. is.versions.sealed i (sym sealed ∙ of);
+    };
     same = record {
       order = λ slot. same.order slot ∙ is.same.order slot;
       now = λ n. sealed_bare (v.core.arm n) (w.core.arm n) (same.arms n) ∙ is.same.now n;
-      images = λ image of. is.same.images image (images image of);
+      kept = subst (λ (i : machine.Image). SameArms i.core shared.kept_arms) (sym image) is.same.kept;
+      sealed = λ i of. is.same.sealed i (sym sealed ∙ of);
     };
   }
 
-  pub alike_sealed : (l : machine.Layout) (w v : machine.State) (t : ℕ) (failed : List ℕ) → SealStep l w t failed v → IsAlike version arms w → IsAlike version arms v
-  alike_sealed l w v t failed step is = subst (IsAlike version arms) (sym step.made) (record {
-    versions = record { asked = is.versions.asked; images = λ image of. elim of [ inl own ↦ is.versions.images image (inl own) | inr sealed ↦ ap (λ (i : machine.Image). i.version) (sym (made_is image sealed)) ∙ is.versions.asked ] };
+  pub alike_sealed : (l : machine.Layout) (w v : machine.State) (t : ℕ) (failed : List ℕ) → SealStep l w t failed v → IsAlike shared w → IsAlike shared v
+  alike_sealed l w v t failed step is = subst (IsAlike shared) (sym step.made) (record {
+    versions = record {
+      asked = is.versions.asked;
+      kept = is.versions.kept;
+      sealed = λ image of. ap (λ (i : machine.Image). i.version) (sym (made_is image of)) ∙ is.versions.asked;
+    };
     same = record {
       order = is.same.order;
       now = now;
-      images = λ image of. elim of [
-        | inl own ↦ is.same.images image (inl own)
-        | inr sealed ↦ subst (λ (i : machine.Image). SameArms i.core arms) (made_is image sealed) (record { order = is.same.order; arms = now })
-      ];
+      kept = is.same.kept;
+      sealed = λ image of. subst (λ (i : machine.Image). SameArms i.core shared.arms) (made_is image of) (record { order = is.same.order; arms = now });
     };
   })
     where
-      core : machine.Core
-      core = sealed_core l w.core t failed step.wrote
-
       made_is : (image : machine.Image) → Some (image_of t w.asked (sealed_core l w.core t failed step.wrote)) ≡ Some image → image_of t w.asked (sealed_core l w.core t failed step.wrote) ≡ image
       made_is image is = cc
 
-      now : (n : ArmName) → option_map bare (seal_arm ((sealed_core l w.core t failed step.wrote).arm n)) ≡ option_map bare (arms.arm n)
+      now : (n : ArmName) → option_map bare (seal_arm ((sealed_core l w.core t failed step.wrote).arm n)) ≡ option_map bare (shared.arms.arm n)
       now n = sealed_bare _ (w.core.arm n) (same_bare _ (w.core.arm n) (λ a. refl)) ∙ is.same.now n
 
-  pub alike_committed : (l : machine.Layout) (w v : machine.State) (t : ℕ) → CommitStep l w t v → IsAlike version arms w → IsAlike version arms v
-  alike_committed l w v t step is = subst (IsAlike version arms) (sym step.made) (record {
-    versions = record { asked = is.versions.asked; images = λ image of. is.versions.images image (was image of) };
+  -- what is of now is kept from the commit on
+  pub alike_committed : (l : machine.Layout) (w v : machine.State) (t : ℕ) → CommitStep l w t v → IsAlike shared w → IsAlike (keep_shared shared) v
+  alike_committed l w v t step is = subst (IsAlike (keep_shared shared)) (sym step.made) (record {
+    versions = record { asked = is.versions.asked; kept = is.versions.sealed step.image step.sealed; sealed = λ image of. absurd (cc) };
     same = record {
       order = is.same.order;
       now = λ n. ap (λ (o : Option machine.Arm). option_map bare o) (committed_seal t (w.core.arm n)) ∙ is.same.now n;
-      images = λ image of. is.same.images image (was image of);
+      kept = is.same.sealed step.image step.sealed;
+      sealed = λ image of. absurd (cc);
     };
   })
-    where
-      was : (image : machine.Image) → (step.image ≡ image) ⊎ (None ≡ Some image) → IsImage w image
-      was image (inl own) = inr (step.sealed ∙ ap (λ (i : machine.Image). Some i) own)
-      was image (inr sealed) = absurd (cc)
 
-  -- opened from an image that has the version and the arms
-  pub alike_opened : (l : machine.Layout) (w : machine.State) (image : machine.Image) → image.version ≡ version → SameArms image.core arms
-      → ((n : ArmName) (a : machine.Arm) → image.core.arm n ≡ Some a → a.gone ≡ None) → IsAlike version arms (reopen_state l w image [])
-  alike_opened l w image version_is same none = record {
-    versions = record { asked = version_is; images = λ i of. ap (λ (j : machine.Image). j.version) (sym (only i of)) ∙ version_is };
-    same = record {
-      order = same.order;
-      now = λ n. sealed_bare _ (image.core.arm n) (same_bare _ (image.core.arm n) (λ a. refl)) ∙ (ap (λ (o : Option machine.Arm). option_map bare o) (settled (image.core.arm n) (none n)) ∙ same.arms n);
-      images = λ i of. subst (λ (j : machine.Image). SameArms j.core arms) (only i of) same;
-    };
-  }
-    where
-      only : (i : machine.Image) → (image ≡ i) ⊎ (None ≡ Some i) → image ≡ i
-      only i (inl own) = own
-      only i (inr sealed) = absurd (cc)
+-- what metaslabs have in common of which nothing changed since the committed group
+abbrev pub one_shared : ℕ → machine.Core → Shared
+one_shared version arms = record { kept_version = version; kept_arms = arms; version = version; arms = arms }
+
+-- opened from an image that has the version and the arms
+pub alike_opened : (version : ℕ) (arms : machine.Core) (l : machine.Layout) (w : machine.State) (image : machine.Image) → image.version ≡ version → SameArms image.core arms
+    → ((n : ArmName) (a : machine.Arm) → image.core.arm n ≡ Some a → a.gone ≡ None) → IsAlike (one_shared version arms) (reopen_state l w image [])
+alike_opened version arms l w image version_is same none = record {
+  versions = record { asked = version_is; kept = version_is; sealed = λ i of. absurd (cc) };
+  same = record {
+    order = same.order;
+    now = λ n. sealed_bare _ (image.core.arm n) (same_bare _ (image.core.arm n) (λ a. refl)) ∙ (ap (λ (o : Option machine.Arm). option_map bare o) (settled (image.core.arm n) (none n)) ∙ same.arms n);
+    kept = same;
+    sealed = λ i of. absurd (cc);
+  };
+}
 
 -- a new one has the arms of its slots
-pub alike_created : (l : machine.Layout) (version : ℕ) → IsAlike version (created_core l) (created l version)
+pub alike_created : (l : machine.Layout) (version : ℕ) → IsAlike (one_shared version (created_core l)) (created l version)
 alike_created l version = record {
-  versions = record { asked = refl; images = λ image of. ap (λ (i : machine.Image). i.version) (sym (only image of)) };
-  same = record {
-    order = λ slot. refl;
-    now = new;
-    images = λ image of. subst (λ (i : machine.Image). SameArms i.core (created_core l)) (only image of) (own_arms (created_core l));
-  };
+  versions = record { asked = refl; kept = refl; sealed = λ image of. absurd (cc) };
+  same = record { order = λ slot. refl; now = new; kept = own_arms (created_core l); sealed = λ image of. absurd (cc) };
 }
   where
     by : (there : Bool) → option_map bare (seal_arm (if there then Some new_arm else None)) ≡ option_map bare (if there then Some new_arm else None)
@@ -145,10 +145,6 @@ alike_created l version = record {
     new (Leaf m) = by (nat_lt m l.slots)
     new (Spare t) = refl
 
-    only : (image : machine.Image) → IsImage (created l version) image → (created l version).image ≡ image
-    only image (inl own) = own
-    only image (inr sealed) = absurd (cc)
-
 -- new ones have the same arms where their layouts have as many slots
 pub created_same : (l k : machine.Layout) → l.slots ≡ k.slots → SameArms (created_core l) (created_core k)
 created_same l k same = record { order = λ slot. ap (λ (n : ℕ). if nat_lt slot n then Leaf slot ∷ [] else []) same; arms = by }
@@ -158,12 +154,40 @@ created_same l k same = record { order = λ slot. ap (λ (n : ℕ). if nat_lt sl
     by (Spare t) = refl
 
 -- a metaslab that has these arms has the same ones
-pub alike_as : (version : ℕ) (arms other : machine.Core) (w : machine.State) → SameArms arms other → IsAlike version arms w → IsAlike version other w
+pub alike_as : (version : ℕ) (arms other : machine.Core) (w : machine.State) → SameArms arms other → IsAlike (one_shared version arms) w → IsAlike (one_shared version other) w
 alike_as version arms other w same is = record {
-  versions = is.versions;
+  versions = record { asked = is.versions.asked; kept = is.versions.kept; sealed = is.versions.sealed };
   same = record {
     order = λ slot. is.same.order slot ∙ same.order slot;
     now = λ n. is.same.now n ∙ same.arms n;
-    images = λ image of. alike_then image.core arms other (is.same.images image of) same;
+    kept = alike_then w.image.core arms other is.same.kept same;
+    sealed = λ image of. alike_then image.core arms other (is.same.sealed image of) same;
   };
 }
+
+-- ---- images
+
+-- the groups of a state are sound
+abbrev pub GroupsStand : machine.State → Type 0
+GroupsStand w = GroupsSound w.open_group w.committed w.closing w.image w.sealed w.core.held
+
+-- a sealed image is of a later group than a committed one
+later : (w v : machine.State) (a b : machine.Image) → GroupsStand w → GroupsStand v → w.image ≡ a → v.sealed ≡ Some b → w.committed ≡ v.committed → a.group ≡ b.group → ⊥
+later w v a b first second own sealed same group =
+    let of : a.group ≡ w.committed = ap (λ (i : machine.Image). i.group) (sym own) ∙ first.image_is in
+    let next = (second.closing_is b.group (second.sealed_is b sealed)).0 in
+    omega (arith, of, next, same, group)
+
+-- the images of one group, of metaslabs that have committed one group, have the same arms: both are committed, or both are sealed
+pub images_alike : (shared : Shared) (w v : machine.State) (a b : machine.Image) → IsAlike shared w → IsAlike shared v → GroupsStand w → GroupsStand v → w.committed ≡ v.committed
+    → IsImage w a → IsImage v b → a.group ≡ b.group → SameArms a.core b.core
+images_alike shared w v a b one other first second same is is' group = by is is'
+  where
+    arms_of : (u : machine.State) (i : machine.Image) → IsAlike shared u → u.image ≡ i → SameArms i.core shared.kept_arms
+    arms_of u i alike own = subst (λ (j : machine.Image). SameArms j.core shared.kept_arms) own alike.same.kept
+
+    by : IsImage w a → IsImage v b → SameArms a.core b.core
+    by (inl x) (inl y) = alike_then a.core shared.kept_arms b.core (arms_of w a one x) (alike_back b.core shared.kept_arms (arms_of v b other y))
+    by (inr x) (inr y) = alike_then a.core shared.arms b.core (one.same.sealed a x) (alike_back b.core shared.arms (other.same.sealed b y))
+    by (inl x) (inr y) = absurd (later w v a b first second x y same group)
+    by (inr x) (inl y) = absurd (later v w b a second first y x (sym same) (sym group))

@@ -17,7 +17,7 @@ use Rattle.draid_slots.specs.Changes.{HasRoom, IsRoomier, Keeps}
 use Rattle.draid_slots.specs.Table.{SlotTable, arm_at}
 use Rattle.draid_slots.specs.States.{HasArm, HasSlots, WasArm, arm_in, name_of}
 use Rattle.draid_shard.specs.Changes.{DoesNothing}
-use Rattle.draid_shard.proofs.Changed.{same_entries}
+use Rattle.draid_shard.proofs.Changed.{same_arms, same_entries}
 use Rattle.draid_shard.specs.Fits.{AreGroups, HasLeaves, Tables, TicketsAreNew, Valid, birth_groups, oldest_open, owed_for_group}
 use Rattle.draid_shard.specs.States.{IsIn, Leads, layout_by}
 use Rattle.draid_shard.specs.declared.shard.Shard.{Shard}
@@ -213,4 +213,5 @@ module _ {R A : Type 0} (ghosts : Ghosts R) (old : Shard R A) (history : History
   asked_nothing = record {
     none = record { part = refl; stored = same.events; stays = asked_in };
     keeps = record { entries = same_entries old.entries; groups = record { open_group_is = refl; closing = refl; sealed = refl; committed = refl } };
+    slots = same_arms old.slots;
   }

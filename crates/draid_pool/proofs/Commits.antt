@@ -16,13 +16,14 @@ use Rattle.draid_session.specs.Groups as groups
 use Rattle.draid_session.specs.Holds.{Hold, On, view_of}
 use Rattle.draid_session.specs.Phases.{Each}
 use Rattle.draid_session.specs.State.{Metaslab, State}
+use Rattle.draid_pool.specs.Importable.{Shared, keep_shared}
 use Rattle.draid_pool.specs.Pools.{part_in}
 use Rattle.draid_pool.specs.Records.{LeavesAreBelow}
 use Rattle.draid_pool.specs.Syncing.{Commits, CommitsBelow, Turns}
 use Rattle.draid_pool.proofs.Lists.{get_set_other, get_set_same, present, some_of}
 use Rattle.draid_pool.proofs.Moved.{with_metaslab}
 use Rattle.draid_pool.proofs.Steps.{follows_on}
-use Rattle.draid_pool.proofs.Stood.{Moves, Stood, stood_moved}
+use Rattle.draid_pool.proofs.Stood.{CommittedBelow, IsOneOf, Moves, Stood, stood_moved}
 use Rattle.draid_pool.proofs.Turns.{CommitsState, commit_turns}
 use Rattle.draid_pool.proofs.Walks.{Walked, walk_each, walked_more}
 
@@ -57,11 +58,7 @@ module _ {R A : Type 0} (rack : racks.Ghosts R) where
 
 -- ---- the metaslabs
 
--- this is committed below a number
-abbrev pub CommittedBelow : ℕ → ℕ → ℕ → Metaslab → Type 0
-CommittedBelow group m k y = k < m → y.world.committed ≡ group
-
-module _ {R A : Type 0} (rack : racks.Ghosts R) (area : areas.Ghosts A) (old new : List (Shard R A)) (table : ℕ → Option Pointer) (x : State) (group : ℕ)
+module _ {R A : Type 0} (rack : racks.Ghosts R) (area : areas.Ghosts A) (old new : List (Shard R A)) (table : ℕ → Option Pointer) (x : State) (group : ℕ) (shared : Shared)
     (commits : CommitsBelow rack group (length old) old new) (committed : x.committed ≡ group) (idle : x.pending ≡ false) (one_leaf : x.kept_leaf ≡ x.next_leaf) where
   -- So many metaslabs have committed the group, each in one hold.
   pub record CameTo (m : ℕ) : Type 0 where
@@ -72,9 +69,9 @@ module _ {R A : Type 0} (rack : racks.Ghosts R) (area : areas.Ghosts A) (old new
     pub holds : List Hold
     pub follows : Follows holds x (record x { metaslabs = metaslabs })
     pub walked : Walked (λ k hold n. groups.Commits x.geometry x.perms group k hold × (n ≡ 0)) 0 m holds 0
-    pub stood : Stood rack area now table (record x { metaslabs = metaslabs }) (CommittedBelow group m)
+    pub stood : Stood rack area now table (record x { metaslabs = metaslabs }) (CommittedBelow group shared m)
 
-  came_none : Stood rack area old table x (CommittedBelow group 0) → CameTo 0
+  came_none : Stood rack area old table x (CommittedBelow group shared 0) → CameTo 0
   came_none s = record { now = old; below = λ k less. absurd (omega (arith, less)); others = λ k from. refl; metaslabs = x.metaslabs; holds = []; follows = refl; walked = (refl, refl); stood = s }
 
   module _ (m : ℕ) (less : m < length old) (c : CameTo m) where
@@ -130,7 +127,6 @@ module _ {R A : Type 0} (rack : racks.Ghosts R) (area : areas.Ghosts A) (old new
         | inr is ↦ absurd_test x.pending is.0 idle
       ];
       leaves = leaves;
-      alike = λ version arms. turns.done.1.alike version arms;
     }
 
     pub came_on : CameTo (m + 1)
@@ -152,18 +148,21 @@ module _ {R A : Type 0} (rack : racks.Ghosts R) (area : areas.Ghosts A) (old new
       walked = subst (λ k. Walked (λ j hold n. groups.Commits x.geometry x.perms group j hold × (n ≡ 0)) 0 k (c.holds ++ On (view_of m own.0) turns.act ∷ []) 0) (let on : suc m ≡ m + 1 = omega arith in on)
           (walked_more (λ j hold n. groups.Commits x.geometry x.perms group j hold × (n ≡ 0)) 0 m c.holds 0 (On (view_of m own.0) turns.act) 0 c.walked
           (subst (λ k. groups.Commits x.geometry x.perms group k (On (view_of m own.0) turns.act)) (let same : m ≡ 0 + m = omega arith in same) turns.done.0, refl));
-      stood = stood_moved rack area m c.now shard.0 after.0 table mid own.0 turns.reached (CommittedBelow group m) (CommittedBelow group (m + 1)) c.stood moves groups_on;
+      stood = stood_moved rack area m c.now shard.0 after.0 table mid own.0 turns.reached (CommittedBelow group shared m) (CommittedBelow group shared (m + 1)) c.stood moves said_on;
     } where
-      groups_on : (k : ℕ) (u : Metaslab) → slice_get (slice_set c.metaslabs m turns.reached) k ≡ Some u → CommittedBelow group (m + 1) k u
-      groups_on k u at under = elim (cases_eq k m) [
+      said_on : (k : ℕ) (u : Metaslab) → slice_get (slice_set c.metaslabs m turns.reached) k ≡ Some u → CommittedBelow group shared (m + 1) k u
+      said_on k u at = elim (cases_eq k m) [
         | inl same ↦
             let is : turns.reached ≡ u = some_of (slice_get (slice_set c.metaslabs m turns.reached) m) turns.reached u (get_set_same c.metaslabs m own.0 turns.reached own.1)
             (subst (λ j. slice_get (slice_set c.metaslabs m turns.reached) j ≡ Some u) same at) in
-            subst (λ (v : Metaslab). v.world.committed ≡ group) is turns.done.1.committed
-        | inr other ↦ c.stood.groups_are k u (sym (get_set_other c.metaslabs m k turns.reached (λ same. omega (arith, same, other))) ∙ at) (omega (arith, under, other))
+            let before = (c.stood.said m own.0 own.1).1 (omega arith) in
+            (λ under. subst (IsOneOf group (keep_shared shared) k) is (turns.done.1.committed, turns.done.1.alike shared before), λ from. absurd (omega (arith, same, from)))
+        | inr other ↦
+            let before = c.stood.said k u (sym (get_set_other c.metaslabs m k turns.reached (λ same. omega (arith, same, other))) ∙ at) in
+            (λ under. before.0 (omega (arith, under, other)), λ from. before.1 (omega (arith, from)))
       ]
 
-  came_to : (m : ℕ) → m ≤ length old → Stood rack area old table x (CommittedBelow group 0) → CameTo m
+  came_to : (m : ℕ) → m ≤ length old → Stood rack area old table x (CommittedBelow group shared 0) → CameTo m
   came_to zero less s = came_none s
   came_to (suc m) less s = subst CameTo (let on : m + 1 ≡ suc m = omega arith in on) (came_on m (omega (arith, less)) (came_to m (omega (arith, less)) s))
 
@@ -173,15 +172,15 @@ module _ {R A : Type 0} (rack : racks.Ghosts R) (area : areas.Ghosts A) (old new
     pub holds : List Hold
     pub follows : Follows holds x (record x { metaslabs = metaslabs })
     pub each : Each (groups.Commits x.geometry x.perms group) 0 x.geometry.props.metaslabs holds
-    pub stood : Stood rack area new table (record x { metaslabs = metaslabs }) (λ k y. y.world.committed ≡ group)
+    pub stood : Stood rack area new table (record x { metaslabs = metaslabs }) (IsOneOf group (keep_shared shared))
 
-  pub commits_all : Stood rack area old table x (CommittedBelow group 0) → CommitsAll
+  pub commits_all : Stood rack area old table x (CommittedBelow group shared 0) → CommitsAll
   commits_all s = record {
     metaslabs = c.metaslabs;
     holds = c.holds;
     follows = c.follows;
     each = subst (λ n. Each (groups.Commits x.geometry x.perms group) 0 n c.holds) (s.shards_are ∙ s.many) (walk_each (groups.Commits x.geometry x.perms group) 0 (length old) c.holds 0 c.walked);
-    stood = subst (λ zs. Stood rack area zs table (record x { metaslabs = c.metaslabs }) (λ k y. y.world.committed ≡ group)) same (record {
+    stood = subst (λ zs. Stood rack area zs table (record x { metaslabs = c.metaslabs }) (IsOneOf group (keep_shared shared))) same (record {
       layout = c.stood.layout;
       many = c.stood.many;
       shards_are = c.stood.shards_are;
@@ -192,9 +191,7 @@ module _ {R A : Type 0} (rack : racks.Ghosts R) (area : areas.Ghosts A) (old new
       objects = c.stood.objects;
       images = c.stood.images;
       leaves = c.stood.leaves;
-      arms = c.stood.arms;
-      alike = c.stood.alike;
-      groups_are = λ k y at. c.stood.groups_are k y at (let inside = slice_get_within c.metaslabs k y at in omega (arith, inside, long));
+      said = λ k y at. (c.stood.said k y at).0 (let inside = slice_get_within c.metaslabs k y at in omega (arith, inside, long));
     });
   } where
     below_or : (k n : ℕ) → (k < n) ⊎ (n ≤ k)

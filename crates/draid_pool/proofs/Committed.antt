@@ -9,7 +9,7 @@ use Rattle.draid_names.specs.declared.arm.ArmAt.{ArmAt}
 use Rattle.draid_names.specs.declared.arm.ArmKind.{ArmKind}
 use Rattle.draid_names.specs.declared.arm.ArmKind.TheVariants as kind
 use Rattle.draid_rack.specs.Moments.{LeavesTold}
-use Rattle.draid_rack.specs.Rack.{Told}
+use Rattle.draid_rack.specs.Rack.{Told, OnBothTold}
 use Rattle.draid_rack.specs.declared.Rack.{Ghosts}
 use Rattle.draid_metaslab.specs.Spaces.{Stripes}
 use Rattle.draid_machine.specs.declared.event.Event.TheVariants.{Commit}
@@ -30,8 +30,9 @@ use Rattle.draid_entries.specs.History.{owed_of, reserved_of}
 use Rattle.draid_slots.specs.declared.slot.Detached.{Detached}
 use Rattle.draid_slots.specs.Changes.{Commits}
 use Rattle.draid_slots.specs.Table.{SlotTable, arm_at, is_leaf_kind, is_logged, room_at}
-use Rattle.draid_slots.specs.States.{HasArm, HasSlots, IsGone, WasArm, arm_in, name_of, named}
-use Rattle.draid_shard.specs.Calls.{ActsOn, OnBothTold}
+use Rattle.draid_slots.specs.States.{HasArm, HasSlots, IsGone, WasArm, arm_in, name_of}
+use Rattle.draid_machine.specs.Names.{named}
+use Rattle.draid_shard.specs.Calls.{ActsOn}
 use Rattle.draid_shard.specs.Fits.{AreGroups, HasLeaves, IsLeaf, LogsHaveRoom, Tables, Valid, birth_groups, oldest_open, owed_for_group}
 use Rattle.draid_shard.specs.States.{IsIn, Leads, layout_by, part_of}
 use Rattle.draid_shard.specs.declared.shard.Shard.{Shard}

@@ -1,7 +1,7 @@
 -- A shard that stands for a metaslab stands for the one behind a call's event, or behind a call without one.
 use Rattle.std.proofs.Common.{◌≡◌, ◌≤◌, ◌+◌, ◌-◌, ◌^◌, ◌==◌, ◌++◌, ◌∙◌, [], ◌∷◌, ℕ, List, Option, Some, None, arith, refl, sym, ap, subst, min}
 use Rattle.std.specs.Prelude.{count_by}
-use Rattle.draid_rack.specs.Rack.{Told}
+use Rattle.draid_rack.specs.Rack.{Told, OnBothTold}
 use Rattle.draid_rack.specs.declared.Rack as racks
 use Rattle.draid_area.specs.declared.Area as areas
 use Rattle.draid_machine.specs.declared.event.Event.{Event}
@@ -10,7 +10,7 @@ use Rattle.draid_machine.specs.Step.{Run, Step}
 use Rattle.draid_segments.specs.Acts as segments
 use Rattle.draid_segments.specs.Segments.{Pieces}
 use Rattle.draid_entries.specs.History.{limit_in, reserved_of}
-use Rattle.draid_shard.specs.Calls.{ActsOn, OnBothTold, SameAreas, SameKit, SameReserve}
+use Rattle.draid_shard.specs.Calls.{ActsOn, SameAreas, SameKit, SameReserve}
 use Rattle.draid_shard.specs.Fits.{Valid}
 use Rattle.draid_shard.specs.Part.{Part, layout_in}
 use Rattle.draid_shard.specs.Stands.{StandsFor}

@@ -8,7 +8,7 @@ use Rattle.draid_pool.specs.Returning.{OwnCounts, Returns, AreaFailed, RackFaile
 use Rattle.draid_pool.specs.Failing.{AreaFails, RackFails}
 use Rattle.draid_pool.specs.declared.pool.Pool.{Pool}
 
-pub shows_there : {R A : Type 0} (rack : racks.Ghosts R) (area : areas.Ghosts A) (pool : Pool R A) (told mid : Option Held) (before after new : ℕ → KitCounts) (own : OwnCounts) → Returns rack area pool.shards.items told mid before after
+pub shows_there : {R A : Type 0} (rack : racks.Ghosts R) (area : areas.Ghosts A) (pool : Pool R A) (told mid : Option Held) (before after new : ℕ → KitCounts) (own : OwnCounts) → Returns rack area pool.metaslabs.shards.items told mid before after
     → ((m : ℕ) → new m ≡ after m) → own.uber ≡ area.faults (area_of pool.uber) → AreaFails area.faults pool → AreaFailed new own
 shows_there rack area pool told mid before after new own returns same uber failed = elim failed [
   | inl some ↦ inr (omega (arith, uber, some))
@@ -19,7 +19,7 @@ shows_there rack area pool told mid before after new own returns same uber faile
       inl (at.0, omega (arith, even, odd, some))
 ]
 
-pub racks_there : {R A : Type 0} (rack : racks.Ghosts R) (area : areas.Ghosts A) (pool : Pool R A) (told mid : Option Held) (before after new : ℕ → KitCounts) → Returns rack area pool.shards.items told mid before after
+pub racks_there : {R A : Type 0} (rack : racks.Ghosts R) (area : areas.Ghosts A) (pool : Pool R A) (told mid : Option Held) (before after new : ℕ → KitCounts) → Returns rack area pool.metaslabs.shards.items told mid before after
     → ((m : ℕ) → new m ≡ after m) → RackFails rack.faults pool → RackFailed new
 racks_there rack area pool told mid before after new returns same at =
     let count = ap (λ (k : KitCounts). k.rack None) (same at.0) ∙ returns.rack_count at.0 at.1 None at.2 in

@@ -13,7 +13,7 @@ use Rattle.draid_machine.specs.State as machine
 use Rattle.draid_machine.specs.Step.{Step}
 use Rattle.draid_shard.specs.Part.{Part}
 use Rattle.draid_session.specs.State.{Metaslab}
-use Rattle.draid_pool.specs.Importable.{IsAlike}
+use Rattle.draid_pool.specs.Importable.{IsAlike, Shared}
 use Rattle.draid_pool.specs.Records.{HasImage, HasRecords, LeavesAreBelow}
 use Rattle.draid_pool.specs.Shards.{KeepsImages}
 use Rattle.draid_pool.proofs.Alike.{alike_kept, alike_then, same_bare}
@@ -24,7 +24,8 @@ use Rattle.draid_machine.proofs.Small.{equal, true_left, true_right}
 use Rattle.draid_slots.specs.declared.slot.Detached.{Detached}
 use Rattle.draid_slots.specs.Table.{SlotTable, is_leaf_kind}
 use Rattle.draid_shard.specs.Fits.{IsLeaf}
-use Rattle.draid_slots.specs.States.{HasSlots, named}
+use Rattle.draid_slots.specs.States.{HasSlots}
+use Rattle.draid_machine.specs.Names.{named}
 
 pub keeps_same : (w : machine.State) → KeepsImages w w
 keeps_same w = record { image = refl; sealed = refl; leaves = λ leaf some. some; asked = refl; arms = record { order = λ slot. refl; arms = λ n. refl } }
@@ -93,8 +94,8 @@ leaves_kept kept_leaf next_leaf w v keeps below = record {
   now = λ leaf some. below.now leaf (keeps.leaves leaf some);
 }
 
-pub alike_stays : (version : ℕ) (arms : machine.Core) (w v : machine.State) → KeepsImages w v → IsAlike version arms w → IsAlike version arms v
-alike_stays version arms w v keeps is = alike_kept version arms w v keeps.asked keeps.arms (λ image of. image_before w v image keeps of) is
+pub alike_stays : (shared : Shared) (w v : machine.State) → KeepsImages w v → IsAlike shared w → IsAlike shared v
+alike_stays shared w v keeps is = alike_kept shared w v keeps.asked keeps.arms keeps.image keeps.sealed is
 
 leaf_of : (k : ArmKind) (n leaf : ℕ) → named k n ≡ Leaf leaf → (k ≡ kind.Leaf) × (n ≡ leaf)
 leaf_of kind.Leaf n leaf is = (refl, (let h : n ≡ leaf = cc in h))

@@ -1,5 +1,5 @@
 -- A pool that is given back to a shelf is one of which no record has a fault to an import.
-use Rattle.std.proofs.Common.{arith, ◌≡◌, ◌==◌, ◌%◌, ◌<◌, ◌≤◌, ◌∙◌, ℕ, Bool, true, false, List, Option, Some, None, length, take, sym, subst, if◌then◌else◌}
+use Rattle.std.proofs.Common.{arith, ◌≡◌, ◌==◌, ◌%◌, ◌<◌, ◌≤◌, ◌∙◌, inl, inr, ap, ℕ, Bool, true, false, List, Option, Some, None, length, take, sym, subst, if◌then◌else◌}
 use Rattle.std.proofs.lemmas.List.{places, same_lists}
 use Rattle.std.specs.Prelude.{⊤, IsSomeAnd, MatchOption, slice_get}
 use Rattle.std.proofs.lemmas.Option.{slice_get_within}
@@ -8,6 +8,7 @@ use Rattle.draid_area.specs.Moments.{IsCrashOutcome}
 use Rattle.draid_area.specs.declared.Area as areas
 use Rattle.draid_rack.specs.Rack.{Shape}
 use Rattle.draid_rack.specs.declared.Rack as racks
+use Rattle.draid_machine.specs.Images.{IsImage}
 use Rattle.draid_machine.specs.State as machine
 use Rattle.draid_spec.specs.declared.layout.Geometry.{Geometry}
 use Rattle.draid_record.specs.Written.{record_bytes}
@@ -18,27 +19,38 @@ use Rattle.draid_shard.specs.declared.shard.Shard.{Shard}
 use Rattle.draid_session.specs.State.{Metaslab, State}
 use Rattle.draid_pool.specs.Returning.{IsFirm, IsFirmArea, IsFirmKit, Returns, TakesBack}
 use Rattle.draid_pool.specs.Groups.{ListsOnce}
-use Rattle.draid_pool.specs.Importable.{AllAlike, HasImageLeaves, IsImportable}
+use Rattle.draid_pool.specs.Importable.{AllAlike, HasImageLeaves, HasOneVersion, IsImportable, Shared}
 use Rattle.draid_pool.specs.Metaslabs.{IsMetaslab}
 use Rattle.draid_pool.specs.Pools.{part_in}
-use Rattle.draid_pool.proofs.Alike.{alike_back, alike_then}
+use Rattle.draid_pool.proofs.Alike.{GroupsStand, images_alike}
 use Rattle.draid_pool.proofs.Returned.{area_told, kit_is}
 use Rattle.draid_pool.proofs.ImageLeaves.{leaves_there}
 use Rattle.draid_pool.proofs.Lists.{present}
+use Rattle.draid_pool.proofs.Turns.{state_sound}
 
 module _ {R A : Type 0} (rack : racks.Ghosts R) (area : areas.Ghosts A) (shards : List (Shard R A)) (x : State) (pieces : ℕ → Pieces) (many : length shards ≡ length x.metaslabs)
     (each : (m : ℕ) (shard : Shard R A) (y : Metaslab) → slice_get shards m ≡ Some shard → slice_get x.metaslabs m ≡ Some y → IsMetaslab rack area (part_in x m) (pieces m) shard y) where
   shard_there : (m : ℕ) (y : Metaslab) → slice_get x.metaslabs m ≡ Some y → (shard : Shard R A) × (slice_get shards m ≡ Some shard)
   shard_there m y at = (let within = slice_get_within x.metaslabs m y at in present shards m (omega (arith, within, many)))
 
-  module _ (leaves : ℕ → Option Shape) (arms : machine.Core) (alike : AllAlike arms x) (committed : (m : ℕ) (y : Metaslab) → slice_get x.metaslabs m ≡ Some y → x.committed ≤ y.world.committed)
+  module _ (leaves : ℕ → Option Shape) (shared : Shared) (versions : HasOneVersion x.geometry.props.version shared) (alike : AllAlike shared x) (group : ℕ) (least : x.committed ≤ group)
+      (committed : (m : ℕ) (y : Metaslab) → slice_get x.metaslabs m ≡ Some y → y.world.committed ≡ group)
       (shapes : (m : ℕ) (shard : Shard R A) → slice_get shards m ≡ Some shard → leaves m ≡ Some (rack.shape shard.rack)) where
+    version_is : (m : ℕ) (y : Metaslab) (image : machine.Image) → slice_get x.metaslabs m ≡ Some y → IsImage y.world image → image.version ≡ x.geometry.props.version
+    version_is m y image at is = (let own = (alike m y at).versions in elim is [
+      | inl here ↦ ap (λ (i : machine.Image). i.version) (sym here) ∙ (own.kept ∙ versions.kept)
+      | inr here ↦ own.sealed image here ∙ versions.now
+    ])
+
+    groups : (m : ℕ) (y : Metaslab) → slice_get x.metaslabs m ≡ Some y → GroupsStand y.world
+    groups m y at = (let s = shard_there m y at in (state_sound rack area (part_in x m) (pieces m) s.0 y (each m s.0 y s.1 at)).groups)
+
     -- where the shelf has the leaves of its racks
     importable_given : (old new : Held) → TakesBack rack area shards old new → IsImportable x new leaves
     importable_given old new takes = record {
-      findable = record { committed = committed; versions = λ m y image at is. (alike m y at).versions.images image is };
-      alike = λ group m n y z a b may at here is of is' of'.
-          alike_then a.core arms b.core ((alike m y at).same.images a is) (alike_back b.core arms ((alike n z here).same.images b is'));
+      findable = record { committed = λ m y at. (let is = committed m y at in omega (arith, is, least)); versions = version_is };
+      alike = λ k m n y z a b may at here is of is' of'.
+          images_alike shared y.world z.world a b (alike m y at) (alike n z here) (groups m y at) (groups n z here) (committed m y at ∙ sym (committed n z here)) is is' (of ∙ sym of');
       once = λ m y image at is.
           (let s = shard_there m y at in
           let k = takes.kits m s.0 s.1 in

@@ -19,7 +19,8 @@ use Rattle.draid_columns.specs.Flushes.{has_leaf}
 use Rattle.draid_rack.specs.Rack.{Shape}
 use Rattle.draid_slots.specs.declared.slot.Detached.{Detached}
 use Rattle.draid_slots.specs.Table.{IsArmOf, IsTable, IsThere, SlotTable, arm_at, arms_of, is_leaf_kind, is_leaving_online}
-use Rattle.draid_slots.specs.States.{HasSlots, IsGone, arm_in, name_of, named}
+use Rattle.draid_slots.specs.States.{HasSlots, IsGone, arm_in, name_of}
+use Rattle.draid_machine.specs.Names.{named}
 use Rattle.draid_marks.proofs.Missing.{slot_inside}
 use Rattle.draid_pool.specs.Sealing.{AreFlushed, FlushedBelow, IsOnline}
 use Rattle.draid_shard.specs.Fits.{IsLeaf}

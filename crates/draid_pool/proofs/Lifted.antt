@@ -32,44 +32,44 @@ shard_at shards m some here there is = slice_get-get_or shards m here (slice_get
 
 -- the pool with another shard at a place
 abbrev pub with_shard : {R A : Type 0} → Pool R A → ℕ → Shard R A → Pool R A
-with_shard pool m shard = record pool { shards = with_item pool.shards m shard }
+with_shard pool m shard = record pool { metaslabs = record { shards = with_item pool.metaslabs.shards m shard } }
 
 module _ {R A : Type 0} (rack : racks.Ghosts R) (area : areas.Ghosts A) where
   -- one shard of a pool is another, and the rest is as before
   pub record SetsShard (m : ℕ) (pool new : Pool R A) (shard shard' : Shard R A) : Type 0 where
-    pub there : slice_get pool.shards.items m ≡ Some shard
-    pub sets : new.shards.items ≡ slice_set pool.shards.items m shard'
+    pub there : slice_get pool.metaslabs.shards.items m ≡ Some shard
+    pub sets : new.metaslabs.shards.items ≡ slice_set pool.metaslabs.shards.items m shard'
     pub geometry : new.geometry ≡ pool.geometry
-    pub objects : new.objects ≡ pool.objects
-    pub seq : new.seq ≡ pool.seq
-    pub floor : new.floor ≡ pool.floor
+    pub objects : new.own.objects ≡ pool.own.objects
+    pub seq : new.own.seq ≡ pool.own.seq
+    pub floor : new.own.floor ≡ pool.own.floor
     pub uber : new.uber ≡ pool.uber
 
-  pub sets_shard : (pool : Pool R A) (m : ℕ) (shard shard' : Shard R A) → slice_get pool.shards.items m ≡ Some shard → SetsShard m pool (with_shard pool m shard') shard shard'
+  pub sets_shard : (pool : Pool R A) (m : ℕ) (shard shard' : Shard R A) → slice_get pool.metaslabs.shards.items m ≡ Some shard → SetsShard m pool (with_shard pool m shard') shard shard'
   sets_shard pool m shard shard' there = record { there = there; sets = refl; geometry = refl; objects = refl; seq = refl; floor = refl; uber = refl }
 
   -- the metaslab of a shard
-  pub record HasMetaslab (pool : Pool R A) (x : State) (s : Stands rack area pool (λ object. get nat_eq pool.objects object) x) (m : ℕ) (shard : Shard R A) : Type 0 where
+  pub record HasMetaslab (pool : Pool R A) (x : State) (s : Stands rack area pool (λ object. get nat_eq pool.own.objects object) x) (m : ℕ) (shard : Shard R A) : Type 0 where
     pub y : Metaslab
     pub at : slice_get x.metaslabs m ≡ Some y
     pub is : IsMetaslab rack area (part_in x m) (s.pieces m) shard y
 
-  pub metaslab_of : (pool : Pool R A) (x : State) (s : Stands rack area pool (λ object. get nat_eq pool.objects object) x) (m : ℕ) (shard : Shard R A) → slice_get pool.shards.items m ≡ Some shard
+  pub metaslab_of : (pool : Pool R A) (x : State) (s : Stands rack area pool (λ object. get nat_eq pool.own.objects object) x) (m : ℕ) (shard : Shard R A) → slice_get pool.metaslabs.shards.items m ≡ Some shard
       → HasMetaslab pool x s m shard
   metaslab_of pool x s m shard there =
-      let below = slice_get_within pool.shards.items m shard there in
+      let below = slice_get_within pool.metaslabs.shards.items m shard there in
       let same = s.shards in
       let z = present x.metaslabs m (omega (arith, below, same)) in
       record { y = z.0; at = z.1; is = s.each m shard z.0 there z.1 }
 
   points_on : (m : ℕ) (pool new : Pool R A) (shard shard' : Shard R A) (x : State) (y y' : Metaslab) (now : Pieces) (p : Option Pointer) (w : Option Write)
-      → Stands rack area pool (λ object. get nat_eq pool.objects object) x → Turned rack area m pool new shard shard' x y y' now → y'.world.core.held ≡ y.world.core.held
-      → PointsTo pool.shards.items p w → PointsTo new.shards.items p w
+      → Stands rack area pool (λ object. get nat_eq pool.own.objects object) x → Turned rack area m pool new shard shard' x y y' now → y'.world.core.held ≡ y.world.core.held
+      → PointsTo pool.metaslabs.shards.items p w → PointsTo new.metaslabs.shards.items p w
   points_on m pool new shard shard' x y y' now None None s t same is = tt
   points_on m pool new shard shard' x y y' now None (Some w) s t same is = absurd is
   points_on m pool new shard shard' x y y' now (Some p) None s t same is = absurd is
   points_on m pool new shard shard' x y y' now (Some p) (Some w) s t same is =
-      pointer_on rack area m pool new shard shard' (λ object. get nat_eq pool.objects object) x y y' now p w s t (λ here. ap (λ held. held (key_of p)) same) is
+      pointer_on rack area m pool new shard shard' (λ object. get nat_eq pool.own.objects object) x y y' now p w s t (λ here. ap (λ held. held (key_of p)) same) is
 
   pub kept_represents : (m : ℕ) (pool new : Pool R A) (shard shard' : Shard R A) (x : State) (y y' : Metaslab) → (r : Represents rack area pool x) → SetsShard m pool new shard shard'
       → slice_get x.metaslabs m ≡ Some y → IsMetaslab rack area (part_in x m) (r.stands.pieces m) shard' y' → SameBlocks y y' → KeepsImages y.world y'.world
@@ -82,10 +82,10 @@ module _ {R A : Type 0} (rack : racks.Ghosts R) (area : areas.Ghosts A) where
       = subst (λ b. HoldsObjects x.geometry x.committed x.store b (turn m (s.pieces m) s.pieces)) (sym blocks)
       (subst (λ p. HoldsObjects x.geometry x.committed x.store (blocks_of x.metaslabs) p) (sym (turn_back m s.pieces)) s.holds) in
       record {
-        stands = stands_turned rack area m pool new shard shard' (λ object. get nat_eq pool.objects object) (λ object. get nat_eq new.objects object) x y y' (s.pieces m) x.store s t holds
+        stands = stands_turned rack area m pool new shard shard' (λ object. get nat_eq pool.own.objects object) (λ object. get nat_eq new.own.objects object) x y y' (s.pieces m) x.store s t holds
             s.groups.next s.groups.last
-            (λ object. subst (λ objects. PointsTo new.shards.items (get nat_eq objects object) (write_of x.store.changes object)) (sym set.objects)
-            (points_on m pool new shard shard' x y y' (s.pieces m) (get nat_eq pool.objects object) (write_of x.store.changes object) s t same.held (s.objects object)))
+            (λ object. subst (λ objects. PointsTo new.metaslabs.shards.items (get nat_eq objects object) (write_of x.store.changes object)) (sym set.objects)
+            (points_on m pool new shard shard' x y y' (s.pieces m) (get nat_eq pool.own.objects object) (write_of x.store.changes object) s t same.held (s.objects object)))
             (s.seq ∙ sym set.seq) (s.floor ∙ sym set.floor);
         only = subst (λ (b : Blocks). (n : ℕ) (k : Key) (h : Held) → b n k ≡ Some h → h.stage ≡ Live → IsLastAt n k (write_of x.store.changes k.object)) (sym blocks) r.only;
       }

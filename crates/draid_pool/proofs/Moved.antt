@@ -122,8 +122,8 @@ module _ {R A : Type 0} (rack : racks.Ghosts R) (area : areas.Ghosts A) where
   })
 
   pub record Turned (m : ℕ) (pool new : Pool R A) (shard shard' : Shard R A) (x : State) (y y' : Metaslab) (now : Pieces) : Type 0 where
-    pub there : slice_get pool.shards.items m ≡ Some shard
-    pub sets : new.shards.items ≡ slice_set pool.shards.items m shard'
+    pub there : slice_get pool.metaslabs.shards.items m ≡ Some shard
+    pub sets : new.metaslabs.shards.items ≡ slice_set pool.metaslabs.shards.items m shard'
     pub geometry : new.geometry ≡ pool.geometry
     pub at : slice_get x.metaslabs m ≡ Some y
     pub is : IsMetaslab rack area (part_in x m) now shard' y'
@@ -134,10 +134,10 @@ module _ {R A : Type 0} (rack : racks.Ghosts R) (area : areas.Ghosts A) where
   -- a block that the moved metaslab has yet is live there
   pub pointer_on : (m : ℕ) (pool new : Pool R A) (shard shard' : Shard R A) (table : ℕ → Option Pointer) (x : State) (y y' : Metaslab) (now : Pieces) (p : Pointer) (w : Write)
       → Stands rack area pool table x → Turned m pool new shard shard' x y y' now
-      → (p.metaslab ≡ m → y'.world.core.held (key_of p) ≡ y.world.core.held (key_of p)) → IsPointerOf pool.shards.items p w → IsPointerOf new.shards.items p w
+      → (p.metaslab ≡ m → y'.world.core.held (key_of p) ≡ y.world.core.held (key_of p)) → IsPointerOf pool.metaslabs.shards.items p w → IsPointerOf new.metaslabs.shards.items p w
   pointer_on m pool new shard shard' table x y y' now p w s t same of = elim (cases_eq p.metaslab m) [
     | inl is ↦
-        let was : of.shard ≡ shard = some_of (slice_get pool.shards.items m) of.shard shard (subst (λ k. slice_get pool.shards.items k ≡ Some of.shard) is of.there) t.there in
+        let was : of.shard ≡ shard = some_of (slice_get pool.metaslabs.shards.items m) of.shard shard (subst (λ k. slice_get pool.metaslabs.shards.items k ≡ Some of.shard) is of.there) t.there in
         let before = s.each m shard y t.there t.at in
         let held = held_by shard y.world p before.stands.is_in (subst (λ z. IsLive z p) was of.live) in
         record {
@@ -148,7 +148,7 @@ module _ {R A : Type 0} (rack : racks.Ghosts R) (area : areas.Ghosts A) where
           len_is = of.len_is;
           digest_is = of.digest_is;
           shard = shard';
-          there = ap (λ k. slice_get new.shards.items k) is ∙ (ap (λ zs. slice_get zs m) t.sets ∙ get_set_same pool.shards.items m shard shard' t.there);
+          there = ap (λ k. slice_get new.metaslabs.shards.items k) is ∙ (ap (λ zs. slice_get zs m) t.sets ∙ get_set_same pool.metaslabs.shards.items m shard shard' t.there);
           live = live_by rack shard' y'.world p t.is.valid t.is.stands.is_in (same is ∙ held) (is ∙ sym (ap (λ (q : Part). q.number) t.is.part_is));
         }
     | inr other ↦
@@ -160,7 +160,7 @@ module _ {R A : Type 0} (rack : racks.Ghosts R) (area : areas.Ghosts A) where
           len_is = of.len_is;
           digest_is = of.digest_is;
           shard = of.shard;
-          there = ap (λ zs. slice_get zs p.metaslab) t.sets ∙ (get_set_other pool.shards.items m p.metaslab shard' (λ is. omega (arith, is, other)) ∙ of.there);
+          there = ap (λ zs. slice_get zs p.metaslab) t.sets ∙ (get_set_other pool.metaslabs.shards.items m p.metaslab shard' (λ is. omega (arith, is, other)) ∙ of.there);
           live = of.live;
         }
   ]
@@ -170,13 +170,13 @@ module _ {R A : Type 0} (rack : racks.Ghosts R) (area : areas.Ghosts A) where
       → (s : Stands rack area pool table x) → Turned m pool new shard shard' x y y' now
       → HoldsObjects x.geometry x.committed store (blocks_of (slice_set x.metaslabs m y')) (turn m now s.pieces)
       → store.floor ≤ x.committed + 2 → store.floor ≤ LAST_NUMBER
-      → ((object : ℕ) → PointsTo new.shards.items (table' object) (write_of store.changes object)) → store.seq ≡ new.seq → store.floor ≡ new.floor
+      → ((object : ℕ) → PointsTo new.metaslabs.shards.items (table' object) (write_of store.changes object)) → store.seq ≡ new.own.seq → store.floor ≡ new.own.floor
       → Stands rack area new table' (record x { metaslabs = slice_set x.metaslabs m y'; store = store })
   stands_turned m pool new shard shard' table table' x y y' now store s t holds next last objects seq floor = record {
     geometry = s.geometry ∙ sym t.geometry;
     layout = s.layout;
     many = length-set x.metaslabs m y' ∙ s.many;
-    shards = ap (λ zs. length zs) t.sets ∙ (length-set pool.shards.items m shard' ∙ (s.shards ∙ sym (length-set x.metaslabs m y')));
+    shards = ap (λ zs. length zs) t.sets ∙ (length-set pool.metaslabs.shards.items m shard' ∙ (s.shards ∙ sym (length-set x.metaslabs m y')));
     pieces = turn m now s.pieces;
     each = each;
     holds = holds;
@@ -190,15 +190,16 @@ module _ {R A : Type 0} (rack : racks.Ghosts R) (area : areas.Ghosts A) where
       order = s.leaves.order;
       each = each_set x.metaslabs m y y' (λ z. LeavesAreBelow x.kept_leaf x.next_leaf z.world) t.at (leaves_kept x.kept_leaf x.next_leaf y.world y'.world t.images (s.leaves.each m y t.at)) s.leaves.each;
     };
-    arms = s.arms;
-    alike = each_set x.metaslabs m y y' (λ z. IsAlike x.geometry.props.version s.arms z.world) t.at (alike_stays x.geometry.props.version s.arms y.world y'.world t.images (s.alike m y t.at)) s.alike;
+    shared = s.shared;
+    versions = s.versions;
+    alike = each_set x.metaslabs m y y' (λ z. IsAlike s.shared z.world) t.at (alike_stays s.shared y.world y'.world t.images (s.alike m y t.at)) s.alike;
   }
     where
-      each : (k : ℕ) (z : Shard R A) (v : Metaslab) → slice_get new.shards.items k ≡ Some z → slice_get (slice_set x.metaslabs m y') k ≡ Some v
+      each : (k : ℕ) (z : Shard R A) (v : Metaslab) → slice_get new.metaslabs.shards.items k ≡ Some z → slice_get (slice_set x.metaslabs m y') k ≡ Some v
           → IsMetaslab rack area (part_in x k) (turn m now s.pieces k) z v
       each k z v a b = elim (cases_eq k m) [
         | inl is ↦
-            let here : shard' ≡ z = some_of (slice_get new.shards.items m) shard' z (ap (λ zs. slice_get zs m) t.sets ∙ get_set_same pool.shards.items m shard shard' t.there) (subst (λ j. slice_get new.shards.items j ≡ Some z) is a) in
+            let here : shard' ≡ z = some_of (slice_get new.metaslabs.shards.items m) shard' z (ap (λ zs. slice_get zs m) t.sets ∙ get_set_same pool.metaslabs.shards.items m shard shard' t.there) (subst (λ j. slice_get new.metaslabs.shards.items j ≡ Some z) is a) in
             let at : y' ≡ v = some_of (slice_get (slice_set x.metaslabs m y') m) y' v (get_set_same x.metaslabs m y y' t.at) (subst (λ j. slice_get (slice_set x.metaslabs m y') j ≡ Some v) is b) in
             let moved : IsMetaslab rack area (part_in x m) (turn m now s.pieces m) shard' y' = subst (λ p. IsMetaslab rack area (part_in x m) p shard' y') (sym (turn_here m now s.pieces)) t.is in
             subst (λ j. IsMetaslab rack area (part_in x j) (turn m now s.pieces j) z v) (sym is)
@@ -206,7 +207,7 @@ module _ {R A : Type 0} (rack : racks.Ghosts R) (area : areas.Ghosts A) where
         | inr other ↦
             let differ : k ≡ m → ⊥ = (λ is. omega (arith, is, other)) in
             subst (λ p. IsMetaslab rack area (part_in x k) p z v) (sym (turn_other m k now s.pieces differ))
-            (s.each k z v (sym (get_set_other pool.shards.items m k shard' differ) ∙ (sym (ap (λ zs. slice_get zs k) t.sets) ∙ a)) (sym (get_set_other x.metaslabs m k y' differ) ∙ b))
+            (s.each k z v (sym (get_set_other pool.metaslabs.shards.items m k shard' differ) ∙ (sym (ap (λ zs. slice_get zs k) t.sets) ∙ a)) (sym (get_set_other x.metaslabs m k y' differ) ∙ b))
       ]
 
       committed : (k : ℕ) (v : Metaslab) → slice_get (slice_set x.metaslabs m y') k ≡ Some v → v.world.committed ≡ x.committed

@@ -107,8 +107,8 @@ some_is : (o : Option machine.Image) → is_some o ≡ true → (image : machine
 some_is None some = absurd_test false some refl
 some_is (Some image) some = (image, refl)
 
-module _ {R A : Type 0} (rack : racks.Ghosts R) (area : areas.Ghosts A) (shards : List (Shard R A)) (table : ℕ → Option Pointer) (x : State) (groups : ℕ → Metaslab → Type 0)
-    (s : Stood rack area shards table x groups) (group : ℕ) (sealed : AreSealed shards group) where
+module _ {R A : Type 0} (rack : racks.Ghosts R) (area : areas.Ghosts A) (shards : List (Shard R A)) (table : ℕ → Option Pointer) (x : State) (says : ℕ → Metaslab → Type 0)
+    (s : Stood rack area shards table x says) (group : ℕ) (sealed : AreSealed shards group) where
   -- each metaslab has an image of the sealed group
   sealed_image : (m : ℕ) (y : Metaslab) → slice_get x.metaslabs m ≡ Some y → HasImage group y
   sealed_image m y at =
@@ -126,7 +126,7 @@ module _ {R A : Type 0} (rack : racks.Ghosts R) (area : areas.Ghosts A) (shards 
       }
 
   -- as the uberblock was refused the group
-  pub stood_refused : (count : ℕ) → group ≡ x.committed + 1 → Stood rack area shards table (refused_state x count) groups
+  pub stood_refused : (count : ℕ) → group ≡ x.committed + 1 → Stood rack area shards table (refused_state x count) says
   stood_refused count behind = record {
     layout = s.layout;
     many = s.many;
@@ -141,9 +141,7 @@ module _ {R A : Type 0} (rack : racks.Ghosts R) (area : areas.Ghosts A) (shards 
       | inr is ↦ subst (λ k. HasImage k y) (behind ∙ sym is.1) (sealed_image m y at)
     ];
     leaves = record { order = s.leaves.order; each = s.leaves.each };
-    arms = s.arms;
-    alike = s.alike;
-    groups_are = s.groups_are;
+    said = s.said;
   }
 
   -- as it names the group
@@ -176,7 +174,5 @@ module _ {R A : Type 0} (rack : racks.Ghosts R) (area : areas.Ghosts A) (shards 
         now = below.now;
       });
     };
-    arms = s.arms;
-    alike = s.alike;
-    groups_are = own;
+    said = own;
   }

@@ -28,7 +28,7 @@ use Rattle.draid_machine.specs.Created.{IsReached}
 use Rattle.draid_machine.specs.Fitting as fitting
 use Rattle.draid_machine.specs.Fitting.{Fitting}
 use Rattle.draid_machine.specs.Images.{Owned}
-use Rattle.draid_machine.specs.Names.{has_name}
+use Rattle.draid_machine.specs.Names.{has_name, named}
 use Rattle.draid_machine.specs.Sound.{Sound}
 use Rattle.draid_machine.specs.State as machine
 use Rattle.draid_machine.proofs.Fitted.{every_fit}
@@ -38,7 +38,7 @@ use Rattle.draid_record.specs.Ranges.{least_running}
 use Rattle.draid_record.specs.Record.{limits_of, stripes_of, told_pass}
 use Rattle.draid_record.specs.Written.{bit}
 use Rattle.draid_slots.specs.Table.{SlotTable, arm_at, arms_of}
-use Rattle.draid_slots.specs.States.{HoldsPass, arm_in, name_of, named, pass_in}
+use Rattle.draid_slots.specs.States.{HoldsPass, arm_in, name_of, pass_in}
 use Rattle.draid_stable.specs.Within.{ArmsFit, EntriesFit, IsPlaced, LimitsFit, PassFits, TablesFit}
 use Rattle.draid_shard.specs.Fits.{Valid}
 use Rattle.draid_shard.specs.Fits as fits

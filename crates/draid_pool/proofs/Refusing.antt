@@ -1,5 +1,5 @@
 -- What the answer of a call isn't.
-use Rattle.std.proofs.Common.{◌≡◌, ◌∙◌, ◌⊎◌, inr, ℕ, Bool, true, false, Option, Result, Ok, Err, ap, subst, sym}
+use Rattle.std.proofs.Common.{◌≡◌, ◌∙◌, ◌⊎◌, inr, Bool, true, false, Result, Ok, Err, ap, subst, sym}
 use Rattle.std.specs.Prelude.{IfErr, IfOk, IsErrAnd, IsErrOf, OnErr, OnOk}
 use Rattle.draid_names.specs.declared.fault.DeviceFault.TheVariants as device
 use Rattle.draid_pool.specs.declared.fault.SyncFault.TheVariants as sync
@@ -21,6 +21,16 @@ last_no_shelf is = cc
 
 pub memory_no_shelf : {T : Type 0} → IsErrOf {T = T} (Err sync.NoMemory) sync.Shelf → ⊥
 memory_no_shelf is = cc
+
+-- nor by the last number
+pub worn_no_last : {T : Type 0} → IsErrOf {T = T} (Err sync.Worn) sync.Last → ⊥
+worn_no_last is = cc
+
+pub shelf_no_last : {T : Type 0} → IsErrOf {T = T} (Err sync.Shelf) sync.Last → ⊥
+shelf_no_last is = cc
+
+pub memory_no_last : {T : Type 0} → IsErrOf {T = T} (Err sync.NoMemory) sync.Last → ⊥
+memory_no_last is = cc
 
 pub not_both : (b : Bool) → b ≡ true → b ≡ false → ⊥
 not_both b is isnt = cc

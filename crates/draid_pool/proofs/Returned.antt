@@ -13,7 +13,6 @@ use Rattle.draid_area.specs.declared.Area as areas
 use Rattle.draid_names.specs.declared.pointer.Pointer.{Pointer}
 use Rattle.draid_map.specs.Place.{IsLayout}
 use Rattle.draid_machine.specs.Created.{IsReached}
-use Rattle.draid_machine.specs.State as machine
 use Rattle.draid_layouts.specs.Layout.{layout_of}
 use Rattle.draid_segments.specs.Segments.{Backed, Pieces}
 use Rattle.draid_shelf.specs.Kits.{AreNewChecks, Both, CrashedChecks, CrashedHeld, CrashedKit, Held, IsNewArea, KitCounts, KitTold, OnHeld, gives_kit, gives_uber, kit_of, puts_uber}
@@ -31,7 +30,7 @@ use Rattle.draid_pool.specs.Returning.{AllTell, HoldsPool, Rests, RestsOn, Retur
 use Rattle.draid_pool.specs.Metaslabs.{IsMetaslab, harm_of}
 use Rattle.draid_pool.specs.Objects.{HoldsObjects, blocks_of}
 use Rattle.draid_pool.specs.Pools.{Stands, part_in}
-use Rattle.draid_pool.specs.Importable.{AllAlike}
+use Rattle.draid_pool.specs.Importable.{AllAlike, HasOneVersion, Shared}
 use Rattle.draid_pool.specs.Records.{HasImages, HasLeafNumbers, area_for}
 use Rattle.draid_pool.specs.Ubers.{UberStands, kept_in}
 use Rattle.draid_pool.specs.declared.pool.Pool.{Pool}
@@ -253,10 +252,11 @@ module _ {R A : Type 0} (rack : racks.Ghosts R) (area : areas.Ghosts A) where
     pub uber : UberStands x content
     pub images : HasImages x
     pub leaves : HasLeafNumbers x
-    pub arms : machine.Core
-    pub alike : AllAlike arms x
+    pub shared : Shared
+    pub versions : HasOneVersion x.geometry.props.version shared
+    pub alike : AllAlike shared x
 
-  pub stands_parts : (pool : Pool R A) (table : ℕ → Option Pointer) (x : State) → Stands rack area pool table x → Parts pool.shards.items (area.told (area_of pool.uber)) x
+  pub stands_parts : (pool : Pool R A) (table : ℕ → Option Pointer) (x : State) → Stands rack area pool table x → Parts pool.metaslabs.shards.items (area.told (area_of pool.uber)) x
   stands_parts pool table x s = record {
     layout = s.layout;
     many = s.many;
@@ -267,7 +267,8 @@ module _ {R A : Type 0} (rack : racks.Ghosts R) (area : areas.Ghosts A) where
     uber = s.uber.stands;
     images = s.images;
     leaves = s.leaves;
-    arms = s.arms;
+    shared = s.shared;
+    versions = s.versions;
     alike = s.alike;
   }
 

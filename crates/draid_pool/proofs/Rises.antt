@@ -65,13 +65,13 @@ module _ {R A : Type 0} (faults : A → ℕ) where
   areas_still pool = record {
     uber = omega arith;
     many = refl;
-    shards = λ m before after at is. subst (λ z. sealing.AreasLater faults before z) (some_of (slice_get pool.shards.items m) before after at is) (records_still before);
+    shards = λ m before after at is. subst (λ z. sealing.AreasLater faults before z) (some_of (slice_get pool.metaslabs.shards.items m) before after at is) (records_still before);
   }
 
   -- the metaslab at a place, in a pool with as many
-  there_in : (old new : Pool R A) (m : ℕ) (shard : Shard R A) → length new.shards.items ≡ length old.shards.items → slice_get old.shards.items m ≡ Some shard
-      → (after : Shard R A) × (slice_get new.shards.items m ≡ Some after)
-  there_in old new m shard many at = present new.shards.items m (let inside = slice_get_within old.shards.items m shard at in omega (arith, inside, many))
+  there_in : (old new : Pool R A) (m : ℕ) (shard : Shard R A) → length new.metaslabs.shards.items ≡ length old.metaslabs.shards.items → slice_get old.metaslabs.shards.items m ≡ Some shard
+      → (after : Shard R A) × (slice_get new.metaslabs.shards.items m ≡ Some after)
+  there_in old new m shard many at = present new.metaslabs.shards.items m (let inside = slice_get_within old.metaslabs.shards.items m shard at in omega (arith, inside, many))
 
   pub areas_on : (old mid new : Pool R A) → AreasLater faults old mid → AreasLater faults mid new → AreasLater faults old new
   areas_on old mid new first second = record {
@@ -103,12 +103,12 @@ module _ {R A : Type 0} (faults : A → ℕ) where
   ]
 
   -- the uberblock's area alone was called
-  pub areas_named : (old new : Pool R A) → faults (area_of old.uber) ≤ faults (area_of new.uber) → new.shards.items ≡ old.shards.items → AreasLater faults old new
+  pub areas_named : (old new : Pool R A) → faults (area_of old.uber) ≤ faults (area_of new.uber) → new.metaslabs.shards.items ≡ old.metaslabs.shards.items → AreasLater faults old new
   areas_named old new later same = record {
     uber = later;
     many = ap (λ zs. length zs) same;
     shards = λ m before after at is.
-        subst (λ z. sealing.AreasLater faults before z) (some_of (slice_get old.shards.items m) before after at (ap (λ zs. slice_get zs m) (sym same) ∙ is)) (records_still before);
+        subst (λ z. sealing.AreasLater faults before z) (some_of (slice_get old.metaslabs.shards.items m) before after at (ap (λ zs. slice_get zs m) (sym same) ∙ is)) (records_still before);
   }
 
   -- a count that rose isn't 0
@@ -131,31 +131,31 @@ module _ {R A : Type 0} (rack : racks.Ghosts R) (area : areas.Ghosts A) where
   pub areas_set : (m : ℕ) (old new : Pool R A) (shard shard' : Shard R A) → SetsShard rack area m old new shard shard' → sealing.AreasLater area.faults shard shard' → AreasLater area.faults old new
   areas_set m old new shard shard' set later = record {
     uber = (let is = ap (λ u. area.faults (area_of u)) set.uber in omega (arith, is));
-    many = ap (λ zs. length zs) set.sets ∙ length-set old.shards.items m shard';
+    many = ap (λ zs. length zs) set.sets ∙ length-set old.metaslabs.shards.items m shard';
     shards = λ k before after at is. elim (cases_eq k m) [
       | inl same ↦
-          let was : shard ≡ before = some_of (slice_get old.shards.items m) shard before set.there (subst (λ j. slice_get old.shards.items j ≡ Some before) same at) in
-          let now : shard' ≡ after = some_of (slice_get new.shards.items m) shard' after (ap (λ zs. slice_get zs m) set.sets ∙ get_set_same old.shards.items m shard shard' set.there)
-          (subst (λ j. slice_get new.shards.items j ≡ Some after) same is) in
+          let was : shard ≡ before = some_of (slice_get old.metaslabs.shards.items m) shard before set.there (subst (λ j. slice_get old.metaslabs.shards.items j ≡ Some before) same at) in
+          let now : shard' ≡ after = some_of (slice_get new.metaslabs.shards.items m) shard' after (ap (λ zs. slice_get zs m) set.sets ∙ get_set_same old.metaslabs.shards.items m shard shard' set.there)
+          (subst (λ j. slice_get new.metaslabs.shards.items j ≡ Some after) same is) in
           subst (λ z. sealing.AreasLater area.faults z after) was (subst (λ z. sealing.AreasLater area.faults shard z) now later)
       | inr other ↦
-          let stays : slice_get new.shards.items k ≡ slice_get old.shards.items k = ap (λ zs. slice_get zs k) set.sets ∙ get_set_other old.shards.items m k shard' (λ same. omega (arith, same, other)) in
-          subst (λ z. sealing.AreasLater area.faults before z) (some_of (slice_get old.shards.items k) before after at (sym stays ∙ is)) (records_still area.faults before)
+          let stays : slice_get new.metaslabs.shards.items k ≡ slice_get old.metaslabs.shards.items k = ap (λ zs. slice_get zs k) set.sets ∙ get_set_other old.metaslabs.shards.items m k shard' (λ same. omega (arith, same, other)) in
+          subst (λ z. sealing.AreasLater area.faults before z) (some_of (slice_get old.metaslabs.shards.items k) before after at (sym stays ∙ is)) (records_still area.faults before)
     ];
   }
 
   -- and the count of one of its areas rose
   pub rose_set : (m : ℕ) (old new : Pool R A) (shard shard' : Shard R A) → SetsShard rack area m old new shard shard' → RecordsRose area.faults shard shard' → AreaRose area.faults old new
   rose_set m old new shard shard' set rose =
-      inr (m, shard, shard', set.there, ap (λ zs. slice_get zs m) set.sets ∙ get_set_same old.shards.items m shard shard' set.there, rose)
+      inr (m, shard, shard', set.there, ap (λ zs. slice_get zs m) set.sets ∙ get_set_same old.metaslabs.shards.items m shard shard' set.there, rose)
 
   -- the uberblock's area was called, and each metaslab committed
   pub areas_committed : (old new : Pool R A) (group : ℕ) → area.faults (area_of old.uber) ≤ area.faults (area_of new.uber)
-      → CommitsBelow rack group (length old.shards.items) old.shards.items new.shards.items → AreasLater area.faults old new
+      → CommitsBelow rack group (length old.metaslabs.shards.items) old.metaslabs.shards.items new.metaslabs.shards.items → AreasLater area.faults old new
   areas_committed old new group later commits = record {
     uber = later;
     many = commits.many;
     shards = λ m before after at is.
-        let z = commits.below m before (slice_get_within old.shards.items m before at) at in
-        subst (λ y. sealing.AreasLater area.faults before y) (some_of (slice_get new.shards.items m) z.0 after z.1 is) (records_same area.faults before z.0 z.2.areas);
+        let z = commits.below m before (slice_get_within old.metaslabs.shards.items m before at) at in
+        subst (λ y. sealing.AreasLater area.faults before y) (some_of (slice_get new.metaslabs.shards.items m) z.0 after z.1 is) (records_same area.faults before z.0 z.2.areas);
   }

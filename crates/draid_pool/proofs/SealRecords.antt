@@ -27,7 +27,8 @@ use Rattle.draid_slots.specs.Table.{arm_at, is_logged}
 use Rattle.draid_marks.specs.Silent.{AreSilent}
 use Rattle.draid_stable.specs.Images.{LeavesBelow, image_by}
 use Rattle.draid_stable.specs.Sealing.{AreMarked, AreTables, IsMade, IsSettled, was_born}
-use Rattle.draid_slots.specs.States.{arm_in, name_of, named}
+use Rattle.draid_slots.specs.States.{arm_in, name_of}
+use Rattle.draid_machine.specs.Names.{named}
 use Rattle.draid_stable.specs.Stable.{Stands}
 use Rattle.draid_stable.specs.Within.{LogsFit}
 use Rattle.draid_stable.proofs.Born.{born_written, none_written}

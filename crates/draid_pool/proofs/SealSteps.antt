@@ -9,10 +9,9 @@ use Rattle.draid_names.specs.declared.arm.ArmAt.{ArmAt}
 use Rattle.draid_names.specs.declared.pass_kind.PassKind.{PassKind}
 use Rattle.draid_names.specs.declared.pass_kind.PassKind.TheVariants.{Rebuild, Heal}
 use Rattle.draid_rack.specs.Moments.{LeavesTold}
-use Rattle.draid_rack.specs.Rack.{Shape, Told}
+use Rattle.draid_rack.specs.Rack.{Shape, Told, OnBothTold}
 use Rattle.draid_rack.specs.declared.Rack.{Ghosts}
 use Rattle.draid_area.specs.Area as content
-use Rattle.draid_columns.specs.Columns.{TellsBoth}
 use Rattle.draid_columns.specs.Flushes.{FlushesBut, has_leaf}
 use Rattle.draid_pass.specs.declared.pass.Pass.{Pass}
 use Rattle.draid_entries.specs.declared.history.History.{History}
@@ -24,7 +23,7 @@ use Rattle.draid_machine.specs.declared.names.Key.{Key}
 use Rattle.draid_machine.specs.After.{capped, log_if, lose_some, lost_errors, map_arm, map_pass, seal_state, sealed_core}
 use Rattle.draid_machine.specs.Arms.{is_silent, leaf_answers, lies_on}
 use Rattle.draid_machine.specs.Created.{IsReached}
-use Rattle.draid_machine.specs.Names.{has_number, is_block}
+use Rattle.draid_machine.specs.Names.{has_number, is_block, named}
 use Rattle.draid_machine.specs.State as machine
 use Rattle.draid_machine.specs.Step.{HasWritten, SealStep}
 use Rattle.draid_machine.proofs.Small.{absurd_test, below, either_true, is_equal, none_some, some_same, true_left}
@@ -38,10 +37,9 @@ use Rattle.draid_marks.proofs.Silence.{same_number}
 use Rattle.draid_slots.specs.Changes.{IsOf}
 use Rattle.draid_slots.specs.Marks.{is_marked}
 use Rattle.draid_slots.specs.Table.{AreOf, IsTable, SlotTable, arm_at, arms_of, is_logged}
-use Rattle.draid_slots.specs.States.{AscendBehind, HasSlots, HoldsPass, name_of, named, names_at, pass_in}
+use Rattle.draid_slots.specs.States.{AscendBehind, HasSlots, HoldsPass, name_of, names_at, pass_in}
 use Rattle.draid_stable.specs.Sealing.{LosesTargets, by_kind, is_lost, lose_marked}
 use Rattle.draid_stable.proofs.Targets.{kept_ascend}
-use Rattle.draid_shard.specs.Calls.{OnBothTold}
 use Rattle.draid_shard.specs.Fits.{AreGroups, IsLeaf, TicketsAreNew, Valid, birth_groups, is_rebuild, oldest_open, owed_for_group, owed_for_pass}
 use Rattle.draid_shard.specs.Part.{Part, layout_in}
 use Rattle.draid_shard.specs.Rows.{LogsBirth}
@@ -287,12 +285,12 @@ flushes_one shape slots leaves failed q has there small are x y f = record {
   not_off false e = absurd (true≢false e)
 
 pub flushes_acts : (shape : Shape) (slots : SlotTable) (leaves failed : List ℕ) (q : machine.Core) (o p : Option Told) → HasSlots slots q → ((leaf : ℕ) → IsLeaf slots leaf → IsSome (shape.leaves leaf))
-    → AreSmall slots → AreFlushed shape slots leaves → TellsBoth o p (FlushesBut leaves failed) → OnBothTold o p (acts.Flushes q failed)
+    → AreSmall slots → AreFlushed shape slots leaves → OnBothTold o p (FlushesBut leaves failed) → OnBothTold o p (acts.Flushes q failed)
 flushes_acts shape slots leaves failed q None p has there small are t = t
 flushes_acts shape slots leaves failed q (Some x) None has there small are t = absurd t
 flushes_acts shape slots leaves failed q (Some x) (Some y) has there small are t = flushes_one shape slots leaves failed q has there small are x y t
 
-pub flushes_leave : (leaves failed : List ℕ) (o p : Option Told) → TellsBoth o p (FlushesBut leaves failed) → LeavesTold acts.nowhere o p
+pub flushes_leave : (leaves failed : List ℕ) (o p : Option Told) → OnBothTold o p (FlushesBut leaves failed) → LeavesTold acts.nowhere o p
 flushes_leave leaves failed None p t = t
 flushes_leave leaves failed (Some x) None t = absurd t
 flushes_leave leaves failed (Some x) (Some y) t = t.leaves

@@ -1,4 +1,4 @@
--- The shards of a pool stand for the metaslabs of a state, whatever is said of the metaslabs' groups; and so they do as one of them moves.
+-- The shards of a pool stand for the metaslabs of a state, whatever is said of each metaslab's group, version and arms; and so they do as one of them moves.
 use Rattle.std.proofs.Common.{◌≡◌, ◌<◌, ◌≤◌, ◌+◌, ◌⊎◌, ◌∙◌, inl, inr, ℕ, true, List, Option, Some, None, arith, refl, sym, ap, subst, slice_set, length}
 use Rattle.std.specs.Prelude.{nat_eq, option_map, slice_get}
 use Rattle.std.specs.HashMap.{get}
@@ -14,7 +14,6 @@ use Rattle.draid_machine.specs.declared.names.Held.{Held}
 use Rattle.draid_machine.specs.declared.names.Key.{Key}
 use Rattle.draid_machine.specs.declared.names.Stage.TheVariants.{Live}
 use Rattle.draid_machine.specs.After.{is_freed_block}
-use Rattle.draid_machine.specs.State as machine
 use Rattle.draid_machine.proofs.Small.{absurd_test, none_some}
 use Rattle.draid_segments.specs.Segments.{Pieces}
 use Rattle.draid_objects.specs.Blocks.{Drops, table_of}
@@ -26,7 +25,7 @@ use Rattle.draid_shard.specs.Part.{Part}
 use Rattle.draid_shard.specs.declared.shard.Shard.{Shard}
 use Rattle.draid_session.specs.Opening.{MayFind}
 use Rattle.draid_session.specs.State.{Metaslab, State}
-use Rattle.draid_pool.specs.Importable.{AllAlike, IsAlike}
+use Rattle.draid_pool.specs.Importable.{HasOneVersion, IsAlike, Shared, keep_shared}
 use Rattle.draid_pool.specs.Metaslabs.{IsMetaslab}
 use Rattle.draid_pool.specs.Objects.{HoldsObjects, IsLastAt, IsPointerOf, PointsTo, blocks_of}
 use Rattle.draid_pool.specs.Pools.{Represents, part_in}
@@ -37,9 +36,17 @@ use Rattle.draid_pool.proofs.Lists.{get_set_other, get_set_same, some_of}
 use Rattle.draid_pool.proofs.Lives.{held_by, live_by}
 use Rattle.draid_pool.proofs.Moved.{blocks_at, each_set, with_metaslab}
 
+-- a metaslab has committed this group, and has what all have in common
+abbrev pub IsOneOf : ℕ → Shared → ℕ → Metaslab → Type 0
+IsOneOf group shared m y = (y.world.committed ≡ group) × IsAlike shared y.world
+
+-- so have those below a number, where what was of now is kept by then; the others have it as before
+abbrev pub CommittedBelow : ℕ → Shared → ℕ → ℕ → Metaslab → Type 0
+CommittedBelow group shared m k y = (k < m → IsOneOf group (keep_shared shared) k y) × (m ≤ k → IsAlike shared y.world)
+
 module _ {R A : Type 0} (rack : racks.Ghosts R) (area : areas.Ghosts A) where
-  -- of each metaslab this is said of its groups
-  pub record Stood (shards : List (Shard R A)) (table : ℕ → Option Pointer) (x : State) (groups : ℕ → Metaslab → Type 0) : Type 0 where
+  -- this is said of the group of each metaslab, and of its version and arms
+  pub record Stood (shards : List (Shard R A)) (table : ℕ → Option Pointer) (x : State) (says : ℕ → Metaslab → Type 0) : Type 0 where
     pub layout : IsLayout x.geometry x.perms
     pub many : length x.metaslabs ≡ x.geometry.props.metaslabs
     pub shards_are : length shards ≡ length x.metaslabs
@@ -50,26 +57,22 @@ module _ {R A : Type 0} (rack : racks.Ghosts R) (area : areas.Ghosts A) where
     pub objects : (object : ℕ) → PointsTo shards (table object) (write_of x.store.changes object)
     pub images : HasImages x
     pub leaves : HasLeafNumbers x
-    pub arms : machine.Core
-    pub alike : AllAlike arms x
-    pub groups_are : (m : ℕ) (y : Metaslab) → slice_get x.metaslabs m ≡ Some y → groups m y
+    pub said : (m : ℕ) (y : Metaslab) → slice_get x.metaslabs m ≡ Some y → says m y
 
   -- what a pool has besides
-  pub record Rest (pool : Pool R A) (x : State) : Type 0 where
+  pub record Rest (pool : Pool R A) (shared : Shared) (x : State) : Type 0 where
     pub geometry : x.geometry ≡ pool.geometry
+    pub versions : HasOneVersion x.geometry.props.version shared
     pub next : x.store.floor ≤ x.committed + 2
     pub last : x.store.floor ≤ LAST_NUMBER
-    pub seq : x.store.seq ≡ pool.seq
-    pub floor : x.store.floor ≡ pool.floor
+    pub seq : x.store.seq ≡ pool.own.seq
+    pub floor : x.store.floor ≡ pool.own.floor
     pub uber : IsUber area pool.uber x
 
   abbrev pub pointers_of : Pool R A → ℕ → Option Pointer
-  pointers_of pool object = get nat_eq pool.objects object
+  pointers_of pool object = get nat_eq pool.own.objects object
 
-  abbrev pub HasCommitted : State → ℕ → Metaslab → Type 0
-  HasCommitted x m y = y.world.committed ≡ x.committed
-
-  unfoldable pub stood_of : (pool : Pool R A) (x : State) → Represents rack area pool x → Stood pool.shards.items (pointers_of pool) x (HasCommitted x)
+  unfoldable pub stood_of : (pool : Pool R A) (x : State) → (r : Represents rack area pool x) → Stood pool.metaslabs.shards.items (pointers_of pool) x (IsOneOf x.committed r.stands.shared)
   stood_of pool x r = (let s = r.stands in record {
     layout = s.layout;
     many = s.many;
@@ -81,13 +84,11 @@ module _ {R A : Type 0} (rack : racks.Ghosts R) (area : areas.Ghosts A) where
     objects = s.objects;
     images = s.images;
     leaves = s.leaves;
-    arms = s.arms;
-    alike = s.alike;
-    groups_are = s.groups.committed;
+    said = λ m y at. (s.groups.committed m y at, s.alike m y at);
   })
 
-  pub represents_of : (pool : Pool R A) (x : State) → Stood pool.shards.items (pointers_of pool) x (HasCommitted x) → Rest pool x → Represents rack area pool x
-  represents_of pool x s rest = record {
+  pub represents_of : (pool : Pool R A) (shared : Shared) (x : State) → Stood pool.metaslabs.shards.items (pointers_of pool) x (IsOneOf x.committed shared) → Rest pool shared x → Represents rack area pool x
+  represents_of pool shared x s rest = record {
     stands = record {
       geometry = rest.geometry;
       layout = s.layout;
@@ -96,15 +97,16 @@ module _ {R A : Type 0} (rack : racks.Ghosts R) (area : areas.Ghosts A) where
       pieces = s.pieces;
       each = s.each;
       holds = s.holds;
-      groups = record { committed = s.groups_are; next = rest.next; last = rest.last };
+      groups = record { committed = λ m y at. (s.said m y at).0; next = rest.next; last = rest.last };
       objects = s.objects;
       seq = rest.seq;
       floor = rest.floor;
       uber = rest.uber;
       images = s.images;
       leaves = s.leaves;
-      arms = s.arms;
-      alike = s.alike;
+      shared = shared;
+      versions = rest.versions;
+      alike = λ m y at. (s.said m y at).1;
     };
     only = s.only;
   }
@@ -119,14 +121,13 @@ module _ {R A : Type 0} (rack : racks.Ghosts R) (area : areas.Ghosts A) where
     pub held : (key : Key) → (y'.world.core.held key ≡ y.world.core.held key) ⊎ ((is_freed_block x.committed (y.world.core.held key) ≡ true) × (y'.world.core.held key ≡ None))
     pub images : (group : ℕ) → MayFind x group → 0 < group → HasImage group y → HasImage group y'
     pub leaves : LeavesAreBelow x.kept_leaf x.next_leaf y.world → LeavesAreBelow x.kept_leaf x.next_leaf y'.world
-    pub alike : (version : ℕ) (arms : machine.Core) → IsAlike version arms y.world → IsAlike version arms y'.world
 
   live_stays : (group : ℕ) (h : Held) (o n : Option Held) → o ≡ Some h → h.stage ≡ Live → (n ≡ o) ⊎ ((is_freed_block group o ≡ true) × (n ≡ None)) → n ≡ Some h
   live_stays group h o n there live (inl same) = same ∙ there
   live_stays group h o n there live (inr gone) = absurd_test (is_freed_block group o) gone.0 (ap (is_freed_block group) there ∙ ap (λ stage. is_freed_block group (Some (record h { stage = stage }))) live)
 
-  module _ (m : ℕ) (shards : List (Shard R A)) (shard shard' : Shard R A) (table : ℕ → Option Pointer) (x : State) (y y' : Metaslab) (groups groups' : ℕ → Metaslab → Type 0)
-      (s : Stood shards table x groups) (v : Moves m shards shard shard' x y y' (s.pieces m)) where
+  module _ (m : ℕ) (shards : List (Shard R A)) (shard shard' : Shard R A) (table : ℕ → Option Pointer) (x : State) (y y' : Metaslab) (says says' : ℕ → Metaslab → Type 0)
+      (s : Stood shards table x says) (v : Moves m shards shard shard' x y y' (s.pieces m)) where
     abbrev after : List Metaslab
     after = slice_set x.metaslabs m y'
 
@@ -207,7 +208,7 @@ module _ {R A : Type 0} (rack : racks.Ghosts R) (area : areas.Ghosts A) where
     points (Some p) None is = absurd is
     points (Some p) (Some w) is = pointer_stays p w is
 
-    pub stood_moved : ((k : ℕ) (u : Metaslab) → slice_get after k ≡ Some u → groups' k u) → Stood (slice_set shards m shard') table (with_metaslab x m y') groups'
+    pub stood_moved : ((k : ℕ) (u : Metaslab) → slice_get after k ≡ Some u → says' k u) → Stood (slice_set shards m shard') table (with_metaslab x m y') says'
     stood_moved own = record {
       layout = s.layout;
       many = length-set x.metaslabs m y' ∙ s.many;
@@ -222,7 +223,5 @@ module _ {R A : Type 0} (rack : racks.Ghosts R) (area : areas.Ghosts A) where
         order = s.leaves.order;
         each = each_set x.metaslabs m y y' (λ z. LeavesAreBelow x.kept_leaf x.next_leaf z.world) v.at (v.leaves (s.leaves.each m y v.at)) s.leaves.each;
       };
-      arms = s.arms;
-      alike = each_set x.metaslabs m y y' (λ z. IsAlike x.geometry.props.version s.arms z.world) v.at (v.alike x.geometry.props.version s.arms (s.alike m y v.at)) s.alike;
-      groups_are = own;
+      said = own;
     }

@@ -22,6 +22,7 @@ use Rattle.draid_session.specs.State.{State, Store}
 use Rattle.draid_shard.specs.States.{stored_in}
 use Rattle.draid_pool.specs.Syncing.{ExportDoes, SyncDoes, AreSealed, CommitsBelow, FoundClosing, FoundUnsynced, GroupDoes, HasUnsynced, Phase, SealDoes, end_of}
 use Rattle.draid_pool.specs.Carries.{CarriesOut}
+use Rattle.draid_pool.specs.Importable.{keep_shared}
 use Rattle.draid_pool.specs.Pools.{Represents}
 use Rattle.draid_pool.specs.Ubers.{body_of}
 use Rattle.draid_pool.specs.declared.fault.SyncFault.{SyncFault}
@@ -29,14 +30,14 @@ use Rattle.draid_pool.specs.declared.fault.SyncFault.TheVariants as sync
 use Rattle.draid_pool.specs.declared.fault.Synced.{Synced}
 use Rattle.draid_pool.specs.declared.pool.Pool.{Pool}
 use Rattle.draid_pool.specs.Views.{seen_at}
-use Rattle.draid_pool.proofs.Commits.{CommitsAll, CommittedBelow, commits_all}
+use Rattle.draid_pool.proofs.Commits.{CommitsAll, commits_all}
 use Rattle.draid_pool.proofs.Lifted.{HasMetaslab, metaslab_of}
 use Rattle.draid_pool.proofs.Lists.{present}
 use Rattle.draid_pool.proofs.Looking.{changes_none, looked, looks_at, none_seen, not_none, seen_there}
 use Rattle.draid_pool.proofs.Moved.{uber_stays}
 use Rattle.draid_pool.proofs.Naming.{Names, Refuses, named_state, refused_state, stood_named, stood_refused, uber_named, uber_refused}
 use Rattle.draid_pool.proofs.Steps.{carried, carries_so, follows_on, own_of, same_layout, settled}
-use Rattle.draid_pool.proofs.Stood.{Rest, Stood, represents_of, stood_of}
+use Rattle.draid_pool.proofs.Stood.{CommittedBelow, IsOneOf, Rest, Stood, represents_of, stood_of}
 use Rattle.draid_pool.proofs.SyncSteps.{not_went}
 
 -- ---- ends
@@ -76,8 +77,8 @@ module _ {R A : Type 0} (rack : racks.Ghosts R) (area : areas.Ghosts A) where
 
   -- ---- the uberblock names the group
 
-  module _ (pool new : Pool R A) (group : ℕ) (x : State) (r : Represents rack area pool x) (sealed : AreSealed pool.shards.items group) (next : group ≡ group_of (kept_of pool.uber) + 1)
-      (geometry : new.geometry ≡ pool.geometry) (objects : new.objects ≡ pool.objects) (seq : new.seq ≡ pool.seq) (floor : new.floor ≡ pool.floor) where
+  module _ (pool new : Pool R A) (group : ℕ) (x : State) (r : Represents rack area pool x) (sealed : AreSealed pool.metaslabs.shards.items group) (next : group ≡ group_of (kept_of pool.uber) + 1)
+      (geometry : new.geometry ≡ pool.geometry) (objects : new.own.objects ≡ pool.own.objects) (seq : new.own.seq ≡ pool.own.seq) (floor : new.own.floor ≡ pool.own.floor) where
     behind : group ≡ x.committed + 1
     behind = next ∙ ap (λ n. n + 1) (pool_group pool x r)
 
@@ -88,34 +89,37 @@ module _ {R A : Type 0} (rack : racks.Ghosts R) (area : areas.Ghosts A) where
     view = record { committed = x.committed; next_leaf = x.next_leaf }
 
     abbrev pointers : ℕ → Option Pointer
-    pointers object = get nat_eq pool.objects object
+    pointers object = get nat_eq pool.own.objects object
 
-    stood : Stood rack area pool.shards.items pointers x (λ m y. y.world.committed ≡ x.committed)
+    stood : Stood rack area pool.metaslabs.shards.items pointers x (IsOneOf x.committed r.stands.shared)
     stood = stood_of rack area pool x r
 
     pub named_sealed : Names area pool.uber new.uber group → area.faults (area_of pool.uber) ≤ area.faults (area_of new.uber)
-        → CommitsBelow rack group (length pool.shards.items) pool.shards.items new.shards.items
+        → CommitsBelow rack group (length pool.metaslabs.shards.items) pool.metaslabs.shards.items new.metaslabs.shards.items
         → CarriesOut rack area new x (Phase x (Chain (groups.Names x.geometry x.perms group) (groups.CommitPhase x.geometry x.perms group)) Went)
     unfolding count
     named_sealed n later commits =
         carried rack area new x (OnUber view (Committed group) ∷ c.holds) reached (Phase x (Chain (groups.Names x.geometry x.perms group) (groups.CommitPhase x.geometry x.perms group)) Went)
         (named_state x group count, record { sees = refl; acts = (count, (let is = r.stands.uber.count in omega (arith, is, later)), refl) }, c.follows)
-        (represents_of rack area new reached own rest)
+        (represents_of rack area new (keep_shared r.stands.shared) reached own rest)
         (refl, inl (OnUber view (Committed group) ∷ [], c.holds, refl, (refl, behind), (c.each, refl)))
       where
-        c : CommitsAll rack area pool.shards.items new.shards.items pointers (named_state x group count) group commits refl refl refl
-        c = commits_all rack area pool.shards.items new.shards.items pointers (named_state x group count) group commits refl refl refl
-            (stood_named rack area pool.shards.items pointers x (λ m y. y.world.committed ≡ x.committed) stood group sealed count (CommittedBelow group 0) behind (λ m y at less. absurd (omega (arith, less))))
+        c : CommitsAll rack area pool.metaslabs.shards.items new.metaslabs.shards.items pointers (named_state x group count) group r.stands.shared commits refl refl refl
+        c = commits_all rack area pool.metaslabs.shards.items new.metaslabs.shards.items pointers (named_state x group count) group r.stands.shared commits refl refl refl
+            (stood_named rack area pool.metaslabs.shards.items pointers x (IsOneOf x.committed r.stands.shared) stood group sealed count (CommittedBelow group r.stands.shared 0) behind
+            (λ m y at. (λ less. absurd (omega (arith, less)), λ from. r.stands.alike m y at)))
 
         reached : State
         reached = record (named_state x group count) { metaslabs = c.metaslabs }
 
-        own : Stood rack area new.shards.items (λ object. get nat_eq new.objects object) reached (λ m y. y.world.committed ≡ group)
-        own = subst (λ os. Stood rack area new.shards.items (λ object. get nat_eq os object) (record (named_state x group count) { metaslabs = c.metaslabs }) (λ m y. y.world.committed ≡ group)) (sym objects) c.stood
+        own : Stood rack area new.metaslabs.shards.items (λ object. get nat_eq new.own.objects object) reached (IsOneOf group (keep_shared r.stands.shared))
+        own = subst (λ os. Stood rack area new.metaslabs.shards.items (λ object. get nat_eq os object) (record (named_state x group count) { metaslabs = c.metaslabs }) (IsOneOf group (keep_shared r.stands.shared)))
+            (sym objects) c.stood
 
-        rest : Rest rack area new reached
+        rest : Rest rack area new (keep_shared r.stands.shared) reached
         rest = record {
           geometry = r.stands.geometry ∙ sym geometry;
+          versions = record { kept = r.stands.versions.now; now = r.stands.versions.now };
           next = (let fits = r.stands.groups.next in omega (arith, fits, behind));
           last = r.stands.groups.last;
           seq = r.stands.seq ∙ sym seq;
@@ -124,18 +128,19 @@ module _ {R A : Type 0} (rack : racks.Ghosts R) (area : areas.Ghosts A) where
         }
 
     -- it is refused
-    refused_is : Refuses area pool.uber new.uber group → new.shards.items ≡ pool.shards.items → Represents rack area new (refused_state x count)
+    refused_is : Refuses area pool.uber new.uber group → new.metaslabs.shards.items ≡ pool.metaslabs.shards.items → Represents rack area new (refused_state x count)
     unfolding count
-    refused_is n shards = represents_of rack area new (refused_state x count) own rest
+    refused_is n shards = represents_of rack area new r.stands.shared (refused_state x count) own rest
       where
-        own : Stood rack area new.shards.items (λ object. get nat_eq new.objects object) (refused_state x count) (λ m y. y.world.committed ≡ x.committed)
-        own = subst (λ zs. Stood rack area zs (λ object. get nat_eq new.objects object) (refused_state x count) (λ m y. y.world.committed ≡ x.committed)) (sym shards)
-            (subst (λ os. Stood rack area pool.shards.items (λ object. get nat_eq os object) (refused_state x count) (λ m y. y.world.committed ≡ x.committed)) (sym objects)
-            (stood_refused rack area pool.shards.items pointers x (λ m y. y.world.committed ≡ x.committed) stood group sealed count behind))
+        own : Stood rack area new.metaslabs.shards.items (λ object. get nat_eq new.own.objects object) (refused_state x count) (IsOneOf x.committed r.stands.shared)
+        own = subst (λ zs. Stood rack area zs (λ object. get nat_eq new.own.objects object) (refused_state x count) (IsOneOf x.committed r.stands.shared)) (sym shards)
+            (subst (λ os. Stood rack area pool.metaslabs.shards.items (λ object. get nat_eq os object) (refused_state x count) (IsOneOf x.committed r.stands.shared)) (sym objects)
+            (stood_refused rack area pool.metaslabs.shards.items pointers x (IsOneOf x.committed r.stands.shared) stood group sealed count behind))
 
-        rest : Rest rack area new (refused_state x count)
+        rest : Rest rack area new r.stands.shared (refused_state x count)
         rest = record {
           geometry = r.stands.geometry ∙ sym geometry;
+          versions = r.stands.versions;
           next = r.stands.groups.next;
           last = r.stands.groups.last;
           seq = r.stands.seq ∙ sym seq;
@@ -143,7 +148,7 @@ module _ {R A : Type 0} (rack : racks.Ghosts R) (area : areas.Ghosts A) where
           uber = uber_refused area pool.uber new.uber group x r.stands.uber n behind;
         }
 
-    pub refused_failed : Refuses area pool.uber new.uber group → Rose (area.faults (area_of pool.uber)) (area.faults (area_of new.uber)) → new.shards.items ≡ pool.shards.items
+    pub refused_failed : Refuses area pool.uber new.uber group → Rose (area.faults (area_of pool.uber)) (area.faults (area_of new.uber)) → new.metaslabs.shards.items ≡ pool.metaslabs.shards.items
         → CarriesOut rack area new x (Phase x (Chain (groups.Names x.geometry x.perms group) (groups.CommitPhase x.geometry x.perms group)) Broke)
     unfolding count
     refused_failed n rose shards =
@@ -151,7 +156,7 @@ module _ {R A : Type 0} (rack : racks.Ghosts R) (area : areas.Ghosts A) where
         (refused_state x count, record { sees = refl; acts = (count, subst (λ k. Rose k count) (sym r.stands.uber.count) rose, refl) }, refl)
         (refused_is n shards) (refl, inr (not_went Unit sync.Shelf, (refl, behind)))
 
-    pub refused_starved : Refuses area pool.uber new.uber group → area.faults (area_of pool.uber) ≤ area.faults (area_of new.uber) → new.shards.items ≡ pool.shards.items
+    pub refused_starved : Refuses area pool.uber new.uber group → area.faults (area_of pool.uber) ≤ area.faults (area_of new.uber) → new.metaslabs.shards.items ≡ pool.metaslabs.shards.items
         → CarriesOut rack area new x (Phase x (Chain (groups.Names x.geometry x.perms group) (groups.CommitPhase x.geometry x.perms group)) Starved)
     unfolding count
     refused_starved n later shards =
@@ -215,11 +220,11 @@ module _ {R A : Type 0} (rack : racks.Ghosts R) (area : areas.Ghosts A) where
   looked_all pool x r = subst (λ n. LooksFrom 0 n (looks_of x) (seen_at 0 x.metaslabs)) r.stands.many (looked 0 x.metaslabs)
 
   -- a metaslab that a shard stands for is seen
-  seen_of : (pool : Pool R A) (x : State) (m : ℕ) (shard : Shard R A) (r : Represents rack area pool x) (there : slice_get pool.shards.items m ≡ Some shard)
+  seen_of : (pool : Pool R A) (x : State) (m : ℕ) (shard : Shard R A) (r : Represents rack area pool x) (there : slice_get pool.metaslabs.shards.items m ≡ Some shard)
       → Contains (seen_at 0 x.metaslabs) (view_of (0 + m) (metaslab_of rack area pool x r.stands m shard there).y)
   seen_of pool x m shard r there = (let z = metaslab_of rack area pool x r.stands m shard there in seen_there 0 m x.metaslabs z.y z.at)
 
-  pub finishes_none : (pool : Pool R A) (x : State) → Represents rack area pool x → FoundClosing pool.shards.items None → CarriesOut rack area pool x (Phase x (groups.Finishes x.geometry x.perms) Went)
+  pub finishes_none : (pool : Pool R A) (x : State) → Represents rack area pool x → FoundClosing pool.metaslabs.shards.items None → CarriesOut rack area pool x (Phase x (groups.Finishes x.geometry x.perms) Went)
   finishes_none pool x r none =
       carried rack area pool x (looks_of x) x (Phase x (groups.Finishes x.geometry x.perms) Went) (changes_none x [] x.metaslabs 0 refl refl) r
       (refl, record { looks = looks_of x; rest = []; views = seen_at 0 x.metaslabs; are = sym (append-nil (looks_of x)); looked = looked_all pool x r; does = inl (idle, refl, refl) })
@@ -227,10 +232,10 @@ module _ {R A : Type 0} (rack : racks.Ghosts R) (area : areas.Ghosts A) where
       idle : NoneOf groups.HasClosing (seen_at 0 x.metaslabs)
       idle = none_seen groups.HasClosing 0 x.metaslabs (λ k y at is.
           (let long = r.stands.shards in let inside = slice_get_within x.metaslabs k y at in
-          let shard = present pool.shards.items k (omega (arith, long, inside)) in
+          let shard = present pool.metaslabs.shards.items k (omega (arith, long, inside)) in
           none_some y.world.closing is.0 ((r.stands.each k shard.0 y shard.1 at).stands.is_in.closing ∙ none k shard.0 shard.1) is.1))
 
-  finishes : (pool new : Pool R A) (x : State) (group thin m : ℕ) (shard : Shard R A) (end : End) → Represents rack area pool x → slice_get pool.shards.items m ≡ Some shard → shard.closing ≡ Some group
+  finishes : (pool new : Pool R A) (x : State) (group thin m : ℕ) (shard : Shard R A) (end : End) → Represents rack area pool x → slice_get pool.metaslabs.shards.items m ≡ Some shard → shard.closing ≡ Some group
       → (d : CarriesOut rack area new x (Phase x (groups.Group x.geometry x.perms group thin) end)) → CarriesOut rack area new x (Phase x (groups.Finishes x.geometry x.perms) end)
   finishes pool new x group thin m shard end r there closing d =
       let z : HasMetaslab rack area pool x r.stands m shard = metaslab_of rack area pool x r.stands m shard there in
@@ -248,11 +253,11 @@ module _ {R A : Type 0} (rack : racks.Ghosts R) (area : areas.Ghosts A) where
         },
       )
 
-  pub finishes_some : (pool new : Pool R A) (x : State) (group thin : ℕ) → Represents rack area pool x → FoundClosing pool.shards.items (Some group)
+  pub finishes_some : (pool new : Pool R A) (x : State) (group thin : ℕ) → Represents rack area pool x → FoundClosing pool.metaslabs.shards.items (Some group)
       → CarriesOut rack area new x (GroupDoes x group (Ok thin)) → CarriesOut rack area new x (Phase x (groups.Finishes x.geometry x.perms) Went)
   finishes_some pool new x group thin r found d = finishes pool new x group thin found.0 found.1 Went r found.2 found.3 d
 
-  pub finish_stops : (pool new : Pool R A) (x : State) (group : ℕ) (why : SyncFault) → Represents rack area pool x → FoundClosing pool.shards.items (Some group)
+  pub finish_stops : (pool new : Pool R A) (x : State) (group : ℕ) (why : SyncFault) → Represents rack area pool x → FoundClosing pool.metaslabs.shards.items (Some group)
       → CarriesOut rack area new x (GroupDoes x group (Err why)) → CarriesOut rack area new x (Phase x (groups.Finishes x.geometry x.perms) (end_of {T = Unit} (Err why)))
   finish_stops pool new x group why r found d =
       subst (λ end. CarriesOut rack area new x (Phase x (groups.Finishes x.geometry x.perms) end)) (sym (end_same why))
@@ -304,7 +309,7 @@ module _ {R A : Type 0} (rack : racks.Ghosts R) (area : areas.Ghosts A) where
 
   -- ---- an export
 
-  exports : (pool new : Pool R A) (x : State) (group thin m : ℕ) (shard : Shard R A) (end : End) → Represents rack area pool x → slice_get pool.shards.items m ≡ Some shard
+  exports : (pool new : Pool R A) (x : State) (group thin m : ℕ) (shard : Shard R A) (end : End) → Represents rack area pool x → slice_get pool.metaslabs.shards.items m ≡ Some shard
       → groups.is_unsynced shard.committed (stored_in shard) ≡ true → CarriesOut rack area new x (Phase x (groups.Syncs x.geometry x.perms group thin) end)
       → CarriesOut rack area new x (Phase x (groups.Exports x.geometry x.perms group) end)
   exports pool new x group thin m shard end r there unsynced d =
@@ -326,7 +331,7 @@ module _ {R A : Type 0} (rack : racks.Ghosts R) (area : areas.Ghosts A) where
         },
       )
 
-  pub export_none : (pool : Pool R A) (x : State) (group : ℕ) → Represents rack area pool x → FoundUnsynced pool.shards.items false → group ≡ group_of (kept_of pool.uber)
+  pub export_none : (pool : Pool R A) (x : State) (group : ℕ) → Represents rack area pool x → FoundUnsynced pool.metaslabs.shards.items false → group ≡ group_of (kept_of pool.uber)
       → CarriesOut rack area pool x (ExportDoes x (Ok group))
   export_none pool x group r none is =
       let u : UberView = record { committed = x.committed; next_leaf = x.next_leaf } in
@@ -347,13 +352,13 @@ module _ {R A : Type 0} (rack : racks.Ghosts R) (area : areas.Ghosts A) where
       synced : NoneOf groups.IsUnsynced (seen_at 0 x.metaslabs)
       synced = none_seen groups.IsUnsynced 0 x.metaslabs (λ k y at is.
           (let long = r.stands.shards in let inside = slice_get_within x.metaslabs k y at in
-          let shard = present pool.shards.items k (omega (arith, long, inside)) in
+          let shard = present pool.metaslabs.shards.items k (omega (arith, long, inside)) in
           let own = r.stands.each k shard.0 y shard.1 at in
           absurd_test (groups.is_unsynced y.world.committed y.events) is
           (ap (λ c. groups.is_unsynced c y.events) own.stands.is_in.committed ∙ (ap (groups.is_unsynced shard.0.committed) own.events ∙ none k shard.0 shard.1))))
 
   -- what is found in the shards is so of each state for which they stand
-  pub unsynced_of : (pool : Pool R A) (x : State) (result : Bool) → Represents rack area pool x → FoundUnsynced pool.shards.items result → (result ≡ true) ↔ HasUnsynced x
+  pub unsynced_of : (pool : Pool R A) (x : State) (result : Bool) → Represents rack area pool x → FoundUnsynced pool.metaslabs.shards.items result → (result ≡ true) ↔ HasUnsynced x
   unsynced_of pool x true r (m, shard, there, unsynced) =
       let z : HasMetaslab rack area pool x r.stands m shard = metaslab_of rack area pool x r.stands m shard there in
       ((λ _. (m, z.y, z.at, ap (λ c. groups.is_unsynced c z.y.events) z.is.stands.is_in.committed ∙ (ap (groups.is_unsynced shard.committed) z.is.events ∙ unsynced))), (λ _. refl))
@@ -361,25 +366,25 @@ module _ {R A : Type 0} (rack : racks.Ghosts R) (area : areas.Ghosts A) where
     (λ is. absurd_test false is refl),
     (λ (k, y, at, unsynced).
         (let long = r.stands.shards in let inside = slice_get_within x.metaslabs k y at in
-        let shard = present pool.shards.items k (omega (arith, long, inside)) in
+        let shard = present pool.metaslabs.shards.items k (omega (arith, long, inside)) in
         let own = r.stands.each k shard.0 y shard.1 at in
         absurd_test (groups.is_unsynced y.world.committed y.events) unsynced
         (ap (λ c. groups.is_unsynced c y.events) own.stands.is_in.committed ∙ (ap (groups.is_unsynced shard.0.committed) own.events ∙ none k shard.0 shard.1)))),
   )
 
-  pub export_done : (pool new : Pool R A) (x : State) (it : Synced) → Represents rack area pool x → FoundUnsynced pool.shards.items true → CarriesOut rack area new x (SyncDoes x (Ok it))
+  pub export_done : (pool new : Pool R A) (x : State) (it : Synced) → Represents rack area pool x → FoundUnsynced pool.metaslabs.shards.items true → CarriesOut rack area new x (SyncDoes x (Ok it))
       → CarriesOut rack area new x (ExportDoes x (Ok it.group))
   export_done pool new x it r found d = exports pool new x it.group it.thin found.0 found.1 Went r found.2 found.3 d
 
   export_with : (pool new : Pool R A) (x : State) (why : SyncFault) (end : End) (d : CarriesOut rack area new x (λ holds store. (store ≡ x.store) × groups.SyncStops x.geometry x.perms holds end))
-      → Represents rack area pool x → FoundUnsynced pool.shards.items true → CarriesOut rack area new x (λ holds store. (store ≡ x.store) × groups.ExportStops x.geometry x.perms holds end)
+      → Represents rack area pool x → FoundUnsynced pool.metaslabs.shards.items true → CarriesOut rack area new x (λ holds store. (store ≡ x.store) × groups.ExportStops x.geometry x.perms holds end)
   export_with pool new x why end d r found =
       let s = d.done.1 in
       let z = exports pool new x s.group s.thin found.0 found.1 end r found.2 found.3
       (record { holds = d.holds; reached = d.reached; store = d.store; follows = d.follows; done = (d.done.0, s.syncs); represents = d.represents }) in
       record { holds = z.holds; reached = z.reached; store = z.store; follows = z.follows; done = (z.done.0, record { group = s.group; stopped = s.stopped; exports = z.done.1 }); represents = z.represents }
 
-  pub export_stops : (pool new : Pool R A) (x : State) (why : SyncFault) → Represents rack area pool x → FoundUnsynced pool.shards.items true → CarriesOut rack area new x (SyncDoes x (Err why))
+  pub export_stops : (pool new : Pool R A) (x : State) (why : SyncFault) → Represents rack area pool x → FoundUnsynced pool.metaslabs.shards.items true → CarriesOut rack area new x (SyncDoes x (Err why))
       → CarriesOut rack area new x (ExportDoes x (Err why))
   export_stops pool new x sync.Worn r found d = export_with pool new x sync.Worn WasWorn d r found
   export_stops pool new x sync.Last r found d = export_with pool new x sync.Last WasLast d r found

@@ -30,7 +30,7 @@ use Rattle.draid_pool.proofs.Lifted.{HasMetaslab, SetsShard, metaslab_of}
 use Rattle.draid_pool.proofs.Lists.{get_set_other, get_set_same, some_of}
 use Rattle.draid_pool.proofs.Moved.{each_set, uber_stays, with_metaslab}
 use Rattle.draid_pool.proofs.Steps.{carried, follows_on, own_of, same_layout}
-use Rattle.draid_pool.proofs.Stood.{HasCommitted, Moves, Rest, Stood, represents_of, stood_moved, stood_of}
+use Rattle.draid_pool.proofs.Stood.{IsOneOf, Moves, Rest, Stood, represents_of, stood_moved, stood_of}
 use Rattle.draid_pool.proofs.Wholes.{whole_same}
 use Rattle.draid_pool.proofs.Walks.{Walked, walk_stops, walk_went, walked_more}
 
@@ -100,7 +100,7 @@ module _ {R A : Type 0} (rack : racks.Ghosts R) (area : areas.Ghosts A) where
   pub whole_on : (m : ℕ) (pool new : Pool R A) (shard shard' : Shard R A) → IsWhole rack area pool → SetsShard rack area m pool new shard shard' → Valid rack shard' → KeepsTable shard shard' → IsWhole rack area new
   whole_on m pool new shard shard' w set valid table =
       whole_same rack area m pool new shard shard' w
-      (record { there = set.there; sets = set.sets; geometry = set.geometry; uber = set.uber; valid = valid; part = table.part; committed = table.committed }) table.entries set.seq set.floor
+      (record { there = set.there; sets = set.sets; geometry = set.geometry; uber = set.uber; valid = valid; part = table.part; committed = table.committed; slots = table.slots }) table.entries set.seq set.floor
       (λ q. ap (λ os. get nat_eq os q) set.objects)
 
   -- ---- one metaslab
@@ -122,7 +122,7 @@ module _ {R A : Type 0} (rack : racks.Ghosts R) (area : areas.Ghosts A) where
     reached = after;
     holds = record { before = z.y; after = t.reached; there = z.at; sees = refl; acts = t.acts; made = refl };
     done = t.done.0;
-    represents = represents_of rack area new after stood rest;
+    represents = represents_of rack area new r.stands.shared after stood rest;
   }
     where
       z : HasMetaslab rack area pool x r.stands m shard
@@ -134,7 +134,7 @@ module _ {R A : Type 0} (rack : racks.Ghosts R) (area : areas.Ghosts A) where
       after : State
       after = with_metaslab x m t.reached
 
-      moves : Moves rack area m pool.shards.items shard shard' x z.y t.reached (r.stands.pieces m)
+      moves : Moves rack area m pool.metaslabs.shards.items shard shard' x z.y t.reached (r.stands.pieces m)
       moves = record {
         there = set.there;
         at = z.at;
@@ -142,18 +142,19 @@ module _ {R A : Type 0} (rack : racks.Ghosts R) (area : areas.Ghosts A) where
         held = λ key. inl (ap (λ held. held key) t.done.1.held);
         images = λ group may some has. record { image = has.image; is = t.done.1.images has.image has.is; of = has.of };
         leaves = t.done.1.leaves x.kept_leaf x.next_leaf;
-        alike = t.done.1.alike;
       }
 
-      stood : Stood rack area new.shards.items (λ object. get nat_eq new.objects object) after (HasCommitted rack area after)
-      stood = subst (λ zs. Stood rack area zs (λ object. get nat_eq new.objects object) after (HasCommitted rack area after)) (sym set.sets)
-          (subst (λ objects. Stood rack area (slice_set pool.shards.items m shard') (λ object. get nat_eq objects object) after (HasCommitted rack area after)) (sym set.objects)
-          (stood_moved rack area m pool.shards.items shard shard' (λ object. get nat_eq pool.objects object) x z.y t.reached (HasCommitted rack area x) (HasCommitted rack area after) (stood_of rack area pool x r) moves
-          (each_set x.metaslabs m z.y t.reached (λ v. v.world.committed ≡ x.committed) z.at (t.done.1.committed ∙ r.stands.groups.committed m z.y z.at) r.stands.groups.committed)))
+      stood : Stood rack area new.metaslabs.shards.items (λ object. get nat_eq new.own.objects object) after (IsOneOf x.committed r.stands.shared)
+      stood = subst (λ zs. Stood rack area zs (λ object. get nat_eq new.own.objects object) after (IsOneOf x.committed r.stands.shared)) (sym set.sets)
+          (subst (λ objects. Stood rack area (slice_set pool.metaslabs.shards.items m shard') (λ object. get nat_eq objects object) after (IsOneOf x.committed r.stands.shared)) (sym set.objects)
+          (stood_moved rack area m pool.metaslabs.shards.items shard shard' (λ object. get nat_eq pool.own.objects object) x z.y t.reached (IsOneOf x.committed r.stands.shared) (IsOneOf x.committed r.stands.shared) (stood_of rack area pool x r) moves
+          (each_set x.metaslabs m z.y t.reached (IsOneOf x.committed r.stands.shared m) z.at (t.done.1.committed ∙ r.stands.groups.committed m z.y z.at, t.done.1.alike r.stands.shared (r.stands.alike m z.y z.at))
+          (λ k v at. (r.stands.groups.committed k v at, r.stands.alike k v at)))))
 
-      rest : Rest rack area new after
+      rest : Rest rack area new r.stands.shared after
       rest = record {
         geometry = r.stands.geometry ∙ sym set.geometry;
+        versions = r.stands.versions;
         next = r.stands.groups.next;
         last = r.stands.groups.last;
         seq = r.stands.seq ∙ sym set.seq;

@@ -3,6 +3,7 @@ use Rattle.std.proofs.Common.{◌≡◌, ◌==◌, ◌%◌, ◌<◌, ◌+◌, �
 use Rattle.std.specs.Prelude.{is_some}
 use Rattle.draid_pool.proofs.Refusing.{not_both}
 use Rattle.draid_names.specs.Faults.{Rose}
+use Rattle.draid_names.specs.declared.numbers.TheConstants.{LAST_NUMBER}
 use Rattle.draid_rack.specs.Rack.{OnTold, Told}
 use Rattle.draid_rack.specs.Moments.{Leaves, LeavesTold}
 use Rattle.draid_rack.specs.declared.Rack as racks
@@ -43,7 +44,7 @@ use Rattle.draid_session.specs.Follows.{CountsRise, HasNoEvent, area_count}
 use Rattle.draid_session.specs.Groups as groups
 use Rattle.draid_session.specs.Holds.{AreaFailed, Did, Hold, Looked, On, view_of}
 use Rattle.draid_session.specs.State.{Metaslab}
-use Rattle.draid_pool.specs.Importable.{IsAlike}
+use Rattle.draid_pool.specs.Importable.{IsAlike, Shared, keep_shared}
 use Rattle.draid_pool.specs.Metaslabs.{IsMetaslab, counts_of, harm_of}
 use Rattle.draid_pool.specs.Records.{HasRecords, area_for}
 use Rattle.draid_pool.specs.Syncing.{CloseIs, Commits, KeepsCommitted, SealIs, Turns}
@@ -62,6 +63,10 @@ abbrev pub close_fault : CloseFault → SyncFault
 close_fault (close.Worn events) = sync.Worn
 close_fault close.Last = sync.Last
 close_fault close.NoMemory = sync.NoMemory
+
+-- the group that isn't closed since it is the last
+pub last_group : {R A : Type 0} (shard : Shard R A) (group : ℕ) (why : CloseFault) → why ≡ close.Last → CloseRefused shard group why → group ≡ LAST_NUMBER
+last_group shard group why is refused = (let last : CloseRefused shard group close.Last = subst (CloseRefused shard group) is refused in last.1)
 
 -- where no group is closing
 pub idle_by : (o : Option ℕ) → is_some o ≡ false → o ≡ None
@@ -85,7 +90,7 @@ seal_fault seal.NoMemory = sync.NoMemory
 -- ---- states
 
 kept_here : (w : machine.State) → KeepsCommitted w w
-kept_here w = record { held = refl; committed = refl; images = λ image is. is; leaves = λ kept_leaf next_leaf below. below; alike = λ version arms is. is }
+kept_here w = record { held = refl; committed = refl; images = λ image is. is; leaves = λ kept_leaf next_leaf below. below; alike = λ shared is. is }
 
 close_keeps : (l : machine.Layout) (w v : machine.State) (group : ℕ) → Step l w (event.Close group) v → KeepsCommitted w v
 close_keeps l w v group step = subst (KeepsCommitted w) (sym step.made) (record {
@@ -93,7 +98,7 @@ close_keeps l w v group step = subst (KeepsCommitted w) (sym step.made) (record 
   committed = refl;
   images = λ image is. is;
   leaves = λ kept_leaf next_leaf below. record { kept = below.kept; sealed = below.sealed; now = below.now };
-  alike = λ version arms is. alike_kept version arms w _ refl (own_arms w.core) (λ image of. of) is;
+  alike = λ shared is. alike_kept shared w _ refl (own_arms w.core) refl refl is;
 })
 
 from_mapped : (f : machine.Arm → machine.Arm) (o : Option machine.Arm) → IsSome (map_arm f o) → IsSome o
@@ -106,7 +111,7 @@ from_sealed (Some a) some = refl
 
 seal_keeps : (l : machine.Layout) (w v : machine.State) (group : ℕ) (failed : Vec ℕ Global) → Step l w (event.Seal group failed) v → KeepsCommitted w v
 seal_keeps l w v group failed step = subst (KeepsCommitted w) (sym step.made) (record {
-  alike = λ version arms is. subst (IsAlike version arms) step.made (alike_sealed version arms l w v group failed.items step is);
+  alike = λ shared is. subst (IsAlike shared) step.made (alike_sealed shared l w v group failed.items step is);
   held = refl;
   committed = refl;
   images = λ image is. elim is [ inl here ↦ inl here | inr here ↦ absurd (none_some w.sealed image step.unsealed here) ];
@@ -127,7 +132,7 @@ pub record CommitsState (group : ℕ) (w v : machine.State) : Type 0 where
   pub of : v.image.group ≡ group
   pub none : v.sealed ≡ None
   pub leaves : (leaf : ℕ) → IsSome (v.core.arm (Leaf leaf)) → IsSome (w.core.arm (Leaf leaf))
-  pub alike : (version : ℕ) (arms : machine.Core) → IsAlike version arms w → IsAlike version arms v
+  pub alike : (shared : Shared) → IsAlike shared w → IsAlike (keep_shared shared) v
 
 -- ---- areas
 
@@ -386,7 +391,7 @@ module _ {R A : Type 0} (rack : racks.Ghosts R) (area : areas.Ghosts A) where
     of = some_injective step.image.group group (sym (sound.groups.sealed_is step.image step.sealed) ∙ step.closing);
     none = refl;
     leaves = λ leaf some. from_kept _ (w.core.arm (Leaf leaf)) some;
-    alike = λ version arms is. subst (IsAlike version arms) step.made (alike_committed version arms l w v group step is);
+    alike = λ shared is. subst (IsAlike (keep_shared shared)) step.made (alike_committed shared l w v group step is);
   })
 
   commit_here : (pieces : Pieces) (old new : Shard R A) (group : ℕ) (x : Metaslab) → IsMetaslab rack area (part_of old) pieces old x → Commits rack group old new

@@ -9,17 +9,17 @@ use Rattle.draid_pool.specs.declared.pool.Pool.{Pool}
 -- one has on the uberblock's area, or on an area of a metaslab's records
 abbrev pub AreaFails : {R A : Type 0} → (A → ℕ) → Pool R A → Type 0
 AreaFails {R = R} {A = A} faults pool =
-    (0 < faults (area_of pool.uber)) ⊎ ((m : ℕ) × (shard : Shard R A) × (slice_get pool.shards.items m ≡ Some shard) × (0 < faults shard.even + faults shard.odd))
+    (0 < faults (area_of pool.uber)) ⊎ ((m : ℕ) × (shard : Shard R A) × (slice_get pool.metaslabs.shards.items m ≡ Some shard) × (0 < faults shard.even + faults shard.odd))
 
 -- one has on the rack of a metaslab as a whole
 abbrev pub RackFails : {R A : Type 0} → (R → Option ℕ → ℕ) → Pool R A → Type 0
-RackFails {R = R} {A = A} faults pool = (m : ℕ) × (shard : Shard R A) × (slice_get pool.shards.items m ≡ Some shard) × (0 < faults shard.rack None)
+RackFails {R = R} {A = A} faults pool = (m : ℕ) × (shard : Shard R A) × (slice_get pool.metaslabs.shards.items m ≡ Some shard) × (0 < faults shard.rack None)
 
 -- No area's count of failed calls falls, neither that of the uberblock nor those of a metaslab's records, and no metaslab comes or goes.
 pub record AreasLater {R A : Type 0} (faults : A → ℕ) (old new : Pool R A) : Type 0 where
   pub uber : faults (area_of old.uber) ≤ faults (area_of new.uber)
-  pub many : length new.shards.items ≡ length old.shards.items
-  pub shards : (m : ℕ) (before after : Shard R A) → slice_get old.shards.items m ≡ Some before → slice_get new.shards.items m ≡ Some after
+  pub many : length new.metaslabs.shards.items ≡ length old.metaslabs.shards.items
+  pub shards : (m : ℕ) (before after : Shard R A) → slice_get old.metaslabs.shards.items m ≡ Some before → slice_get new.metaslabs.shards.items m ≡ Some after
       → sealing.AreasLater faults before after
 
 -- the count of one of the two areas of a metaslab's records rose
@@ -30,4 +30,4 @@ RecordsRose faults old new = Rose (faults old.even) (faults new.even) ⊎ Rose (
 abbrev pub AreaRose : {R A : Type 0} → (A → ℕ) → Pool R A → Pool R A → Type 0
 AreaRose {R = R} {A = A} faults old new =
     Rose (faults (area_of old.uber)) (faults (area_of new.uber))
-    ⊎ ((m : ℕ) × (before : Shard R A) × (after : Shard R A) × (slice_get old.shards.items m ≡ Some before) × (slice_get new.shards.items m ≡ Some after) × RecordsRose faults before after)
+    ⊎ ((m : ℕ) × (before : Shard R A) × (after : Shard R A) × (slice_get old.metaslabs.shards.items m ≡ Some before) × (slice_get new.metaslabs.shards.items m ≡ Some after) × RecordsRose faults before after)

@@ -28,27 +28,45 @@ pub record SameArms (a b : machine.Core) : Type 0 where
   pub order : (slot : ℕ) → a.order slot ≡ b.order slot
   pub arms : (n : ArmName) → option_map bare (a.arm n) ≡ option_map bare (b.arm n)
 
--- the images of a metaslab have a version, and so will the next one
-pub record HasVersion (version : ℕ) (w : machine.State) : Type 0 where
-  pub asked : w.asked ≡ version
-  pub images : (image : machine.Image) → IsImage w image → image.version ≡ version
+-- What all metaslabs of a pool have in common: the version and the arms that the committed group has, and those of now.
+pub record Shared : Type 0 where
+  pub kept_version : ℕ
+  pub kept_arms : machine.Core
+  pub version : ℕ
+  pub arms : machine.Core
 
--- A metaslab has just these arms where it stands, but for detached ones, and so have its images.
-pub record HasArms (arms : machine.Core) (w : machine.State) : Type 0 where
-  pub order : (slot : ℕ) → w.core.order slot ≡ arms.order slot
-  pub now : (n : ArmName) → option_map bare (seal_arm (w.core.arm n)) ≡ option_map bare (arms.arm n)
-  pub images : (image : machine.Image) → IsImage w image → SameArms image.core arms
+-- the group that has those of now is committed
+abbrev pub keep_shared : Shared → Shared
+keep_shared shared = record shared { kept_version = shared.version; kept_arms = shared.arms }
 
--- a metaslab has a version and arms
-pub record IsAlike (version : ℕ) (arms : machine.Core) (w : machine.State) : Type 0 where
-  pub versions : HasVersion version w
-  pub same : HasArms arms w
+-- both versions are this one
+pub record HasOneVersion (version : ℕ) (shared : Shared) : Type 0 where
+  pub kept : shared.kept_version ≡ version
+  pub now : shared.version ≡ version
+
+-- the committed image of a metaslab has the version that is kept; a sealed image has that of now, and so will the next one
+pub record HasVersions (shared : Shared) (w : machine.State) : Type 0 where
+  pub asked : w.asked ≡ shared.version
+  pub kept : w.image.version ≡ shared.kept_version
+  pub sealed : (image : machine.Image) → w.sealed ≡ Some image → image.version ≡ shared.version
+
+-- A metaslab has just the arms of now where it stands, but for detached ones, and so has a sealed image. The committed one has those that are kept.
+pub record HasArms (shared : Shared) (w : machine.State) : Type 0 where
+  pub order : (slot : ℕ) → w.core.order slot ≡ shared.arms.order slot
+  pub now : (n : ArmName) → option_map bare (seal_arm (w.core.arm n)) ≡ option_map bare (shared.arms.arm n)
+  pub kept : SameArms w.image.core shared.kept_arms
+  pub sealed : (image : machine.Image) → w.sealed ≡ Some image → SameArms image.core shared.arms
+
+-- a metaslab has what all have in common
+pub record IsAlike (shared : Shared) (w : machine.State) : Type 0 where
+  pub versions : HasVersions shared w
+  pub same : HasArms shared w
 
 -- so have all metaslabs of a state
-abbrev pub AllAlike : machine.Core → State → Type 0
-AllAlike arms x = (m : ℕ) (y : Metaslab) → slice_get x.metaslabs m ≡ Some y → IsAlike x.geometry.props.version arms y.world
+abbrev pub AllAlike : Shared → State → Type 0
+AllAlike shared x = (m : ℕ) (y : Metaslab) → slice_get x.metaslabs m ≡ Some y → IsAlike shared y.world
 
--- the images that all metaslabs have of a group have the same arms
+-- the images that all metaslabs have of a group that an import may find have the same arms
 abbrev pub AreAlike : State → Type 0
 AreAlike x = (group m n : ℕ) (y z : Metaslab) (a b : machine.Image) → MayFind x group → slice_get x.metaslabs m ≡ Some y → slice_get x.metaslabs n ≡ Some z → IsImage y.world a → a.group ≡ group
     → IsImage z.world b → b.group ≡ group → SameArms a.core b.core

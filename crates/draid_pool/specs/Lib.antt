@@ -1,8 +1,11 @@
 pub mod Carries
 pub mod Changes
 pub mod Committing
+pub mod Drifts
 pub mod Failing
+pub mod Follows
 pub mod Groups
+pub mod Holding
 pub mod Importable
 pub mod Knows
 pub mod Metaslabs
@@ -15,6 +18,7 @@ pub mod Sealing
 pub mod Shards
 pub mod Syncing
 pub mod Taking
+pub mod Threads
 pub mod Ubers
 pub mod Views
 pub mod Whole

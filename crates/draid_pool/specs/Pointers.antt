@@ -7,7 +7,7 @@ use Rattle.sha2.specs.Sha256.{sha256}
 
 -- the pointer of an object's bytes, if it has some
 abbrev pub pointer_in : {R A : Type 0} → Pool R A → ℕ → Option Pointer
-pointer_in pool object = get nat_eq pool.objects object
+pointer_in pool object = get nat_eq pool.own.objects object
 
 -- each object has the pointer that it had
 abbrev pub SamePointers : {R A : Type 0} → Pool R A → Pool R A → Type 0

@@ -8,13 +8,12 @@ use Rattle.draid_names.specs.declared.pointer.Pointer.{Pointer}
 use Rattle.draid_machine.specs.declared.names.Held.{Held}
 use Rattle.draid_machine.specs.declared.names.Key.{Key}
 use Rattle.draid_machine.specs.declared.names.Stage.TheVariants.{Live}
-use Rattle.draid_machine.specs.State as machine
 use Rattle.draid_segments.specs.Segments.{Pieces}
 use Rattle.draid_objects.specs.Changes.{Write, write_of}
 use Rattle.draid_shard.specs.Part.{Part}
 use Rattle.draid_shard.specs.declared.shard.Shard.{Shard}
 use Rattle.draid_session.specs.State.{Metaslab, State}
-use Rattle.draid_pool.specs.Importable.{AllAlike}
+use Rattle.draid_pool.specs.Importable.{AllAlike, HasOneVersion, Shared}
 use Rattle.draid_pool.specs.Metaslabs.{IsMetaslab}
 use Rattle.draid_pool.specs.Records.{HasImages, HasLeafNumbers}
 use Rattle.draid_pool.specs.Ubers.{IsUber}
@@ -30,36 +29,37 @@ part_in x m = record { geometry = x.geometry; perms = x.perms; number = m }
 
 -- The pool has one shard for each metaslab of its layout, which stands for it. The metaslabs hold what befell the objects; the table has the pointer of each object
 -- that has bytes; the number of the last write and the floor are the pool's. The uberblock names a group of which each metaslab has the record. All
--- metaslabs have the layout's version, and the same arms.
+-- metaslabs have the layout's version, and the same arms: in the committed group, and now.
 pub record Stands {R A : Type 0} (rack : racks.Ghosts R) (area : areas.Ghosts A) (pool : Pool R A) (table : ℕ → Option Pointer) (x : State) : Type 0 where
   pub geometry : x.geometry ≡ pool.geometry
   pub layout : IsLayout x.geometry x.perms
   pub many : length x.metaslabs ≡ x.geometry.props.metaslabs
-  pub shards : length pool.shards.items ≡ length x.metaslabs
+  pub shards : length pool.metaslabs.shards.items ≡ length x.metaslabs
   pub pieces : ℕ → Pieces
-  pub each : (m : ℕ) (shard : Shard R A) (y : Metaslab) → slice_get pool.shards.items m ≡ Some shard → slice_get x.metaslabs m ≡ Some y
+  pub each : (m : ℕ) (shard : Shard R A) (y : Metaslab) → slice_get pool.metaslabs.shards.items m ≡ Some shard → slice_get x.metaslabs m ≡ Some y
       → IsMetaslab rack area (part_in x m) (pieces m) shard y
   pub holds : HoldsObjects x.geometry x.committed x.store (blocks_of x.metaslabs) pieces
   pub groups : HasGroups x
-  pub objects : (object : ℕ) → PointsTo pool.shards.items (table object) (write_of x.store.changes object)
-  pub seq : x.store.seq ≡ pool.seq
-  pub floor : x.store.floor ≡ pool.floor
+  pub objects : (object : ℕ) → PointsTo pool.metaslabs.shards.items (table object) (write_of x.store.changes object)
+  pub seq : x.store.seq ≡ pool.own.seq
+  pub floor : x.store.floor ≡ pool.own.floor
   pub uber : IsUber area pool.uber x
   pub images : HasImages x
   pub leaves : HasLeafNumbers x
-  pub arms : machine.Core
-  pub alike : AllAlike arms x
+  pub shared : Shared
+  pub versions : HasOneVersion x.geometry.props.version shared
+  pub alike : AllAlike shared x
 
 -- and each live block is that of its object's last write
 pub record Represents {R A : Type 0} (rack : racks.Ghosts R) (area : areas.Ghosts A) (pool : Pool R A) (x : State) : Type 0 where
-  pub stands : Stands rack area pool (λ object. get nat_eq pool.objects object) x
+  pub stands : Stands rack area pool (λ object. get nat_eq pool.own.objects object) x
   pub only : (m : ℕ) (k : Key) (h : Held) → blocks_of x.metaslabs m k ≡ Some h → h.stage ≡ Live → IsLastAt m k (write_of x.store.changes k.object)
 
 -- An object's new block is live, and its pointer isn't in the table yet: that has still the pointer of the block that the object had before, if it had one, which
 -- is live too.
 pub record Awaits {R A : Type 0} (rack : racks.Ghosts R) (area : areas.Ghosts A) (pool : Pool R A) (object : ℕ) (pointer : Pointer) (earlier : Option Write) (x : State) : Type 0 where
-  pub stands : Stands rack area pool (λ o. if o == object then Some pointer else get nat_eq pool.objects o) x
-  pub had : PointsTo pool.shards.items (get nat_eq pool.objects object) earlier
+  pub stands : Stands rack area pool (λ o. if o == object then Some pointer else get nat_eq pool.own.objects o) x
+  pub had : PointsTo pool.metaslabs.shards.items (get nat_eq pool.own.objects object) earlier
   pub older : (write : Write) → earlier ≡ Some write → (write.object ≡ object) × (write.seq < pointer.seq)
   pub only : (m : ℕ) (k : Key) (h : Held) → blocks_of x.metaslabs m k ≡ Some h → h.stage ≡ Live
       → IsLastAt m k (write_of x.store.changes k.object) ⊎ IsLastAt m k earlier

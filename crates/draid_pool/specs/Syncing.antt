@@ -7,11 +7,13 @@ use Rattle.draid_machine.specs.Images.{IsImage}
 use Rattle.draid_machine.specs.State as machine
 use Rattle.draid_segments.specs.Segments.{Pieces}
 use Rattle.draid_entries.specs.Entries.{SameEntries}
+use Rattle.draid_slots.specs.Changes.{Commits as CommitsSlots}
 use Rattle.draid_session.specs.Follows.{MetaslabActs}
 use Rattle.draid_session.specs.Groups as groups
 use Rattle.draid_session.specs.Holds.{Act, Hold, On, view_of}
 use Rattle.draid_session.specs.Phases.{End, Went, WasWorn, WasLast, Starved, Broke}
 use Rattle.draid_session.specs.State.{Metaslab, State, Store}
+use Rattle.draid_shard.specs.Alike.{KeepsArms}
 use Rattle.draid_shard.specs.Calls.{ActsOn, SameAreas, SameReserve}
 use Rattle.draid_pool.specs.Changes.{CommitsGroup}
 use Rattle.draid_shard.specs.Fits.{Valid}
@@ -19,7 +21,7 @@ use Rattle.draid_pool.specs.Groups.{DropsDetached}
 use Rattle.draid_shard.specs.Part.{Part, layout_in}
 use Rattle.draid_shard.specs.States.{Does, part_of, stored_in}
 use Rattle.draid_shard.specs.declared.shard.Shard.{Shard}
-use Rattle.draid_pool.specs.Importable.{IsAlike}
+use Rattle.draid_pool.specs.Importable.{IsAlike, Shared}
 use Rattle.draid_pool.specs.Metaslabs.{IsMetaslab}
 use Rattle.draid_pool.specs.Records.{LeavesAreBelow}
 use Rattle.draid_pool.specs.declared.fault.SyncFault.{SyncFault}
@@ -56,6 +58,10 @@ AreClosing {R = R} {A = A} shards group = (m : ℕ) (shard : Shard R A) → slic
 abbrev pub AreSealed : {R A : Type 0} → List (Shard R A) → ℕ → Type 0
 AreSealed {R = R} {A = A} shards group = (m : ℕ) (shard : Shard R A) → slice_get shards m ≡ Some shard → (shard.closing ≡ Some group) × (shard.sealed ≡ true)
 
+-- no group is closing in any of the shards
+abbrev pub AreIdle : {R A : Type 0} → List (Shard R A) → Type 0
+AreIdle {R = R} {A = A} shards = (m : ℕ) (shard : Shard R A) → slice_get shards m ≡ Some shard → shard.closing ≡ None
+
 -- ---- one metaslab
 
 -- One hold of a metaslab led to one for which the shard stands, with these pieces.
@@ -67,19 +73,20 @@ pub record Turns {R A : Type 0} (rack : racks.Ghosts R) (area : areas.Ghosts A) 
   pub is : IsMetaslab rack area part pieces new reached
 
 -- What the closing and the sealing of a group leave: what is held, the committed group, the images that were there, that leaves have low numbers,
--- and the version and the arms.
+-- and what all metaslabs have in common.
 pub record KeepsCommitted (old new : machine.State) : Type 0 where
   pub held : new.core.held ≡ old.core.held
   pub committed : new.committed ≡ old.committed
   pub images : (image : machine.Image) → IsImage old image → IsImage new image
   pub leaves : (kept_leaf next_leaf : ℕ) → LeavesAreBelow kept_leaf next_leaf old → LeavesAreBelow kept_leaf next_leaf new
-  pub alike : (version : ℕ) (arms : machine.Core) → IsAlike version arms old → IsAlike version arms new
+  pub alike : (shared : Shared) → IsAlike shared old → IsAlike shared new
 
--- all blocks, tickets and the committed group are as they were, whatever the state
+-- all blocks, tickets, arms and the committed group are as they were, whatever the state
 pub record KeepsTable {R A : Type 0} (old new : Shard R A) : Type 0 where
   pub part : part_of new ≡ part_of old
   pub entries : SameEntries old.entries new.entries
   pub committed : new.committed ≡ old.committed
+  pub slots : KeepsArms old.slots new.slots
 
 -- a metaslab's group was closed, or why it wasn't
 abbrev pub CloseIs : Part → ℕ → Result Unit SyncFault → Hold → Type 0
@@ -99,6 +106,7 @@ pub record Commits {R A : Type 0} (rack : racks.Ghosts R) (group : ℕ) (old new
   pub commits : CommitsGroup old new group
   pub acts : (pieces : Pieces) → ActsOn rack old new (event.Commit group) pieces
   pub leaves : DropsDetached rack old new group
+  pub slots : CommitsSlots old.slots new.slots group
   pub reserve : SameReserve old new
 
 -- ---- all metaslabs
@@ -111,7 +119,7 @@ pub record CommitsBelow {R A : Type 0} (rack : racks.Ghosts R) (group m : ℕ) (
 
 -- a group that is closing in one of the shards, or None where none is
 abbrev pub FoundClosing : {R A : Type 0} → List (Shard R A) → Option ℕ → Type 0
-FoundClosing {R = R} {A = A} shards None = (m : ℕ) (shard : Shard R A) → slice_get shards m ≡ Some shard → shard.closing ≡ None
+FoundClosing shards None = AreIdle shards
 FoundClosing {R = R} {A = A} shards (Some group) = (m : ℕ) × (shard : Shard R A) × (slice_get shards m ≡ Some shard) × (shard.closing ≡ Some group)
 
 -- one of the shards stores something that no sync has made safe, or none does

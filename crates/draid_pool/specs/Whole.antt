@@ -11,6 +11,7 @@ use Rattle.draid_machine.specs.declared.names.Held.{Held}
 use Rattle.draid_machine.specs.declared.names.Key.{Key}
 use Rattle.draid_machine.specs.Names.{is_block}
 use Rattle.draid_entries.specs.Entries.{held_in}
+use Rattle.draid_shard.specs.Alike.{ShareArms}
 use Rattle.draid_shard.specs.Looks.{IsLive}
 use Rattle.draid_shard.specs.Fits as shards
 use Rattle.draid_shard.specs.States.{part_of}
@@ -20,35 +21,37 @@ use Rattle.draid_uber.specs.Uber as ubers
 use Rattle.draid_pool.specs.declared.pool.Pool.{Pool}
 
 -- One of the shards is that of a layout's metaslab. Its blocks have numbers of writes that were begun, and none of its writes is under way. It has committed the
--- group that the uberblock names.
+-- group that the uberblock names. Its leaves, with those whose detachment isn't committed, have numbers below that of the next leaf.
 pub record IsShardOf {R A : Type 0} (rack : racks.Ghosts R) (perms : Perms) (pool : Pool R A) (m : ℕ) (shard : Shard R A) : Type 0 where
   pub valid : shards.Valid rack shard
   pub part : part_of shard ≡ record { geometry = pool.geometry; perms = perms; number = m }
-  pub numbered : (key : Key) (h : Held) → held_in shard.entries key ≡ Some h → key.seq ≤ pool.seq
+  pub numbered : (key : Key) (h : Held) → held_in shard.entries key ≡ Some h → key.seq ≤ pool.own.seq
   pub settled : (key : Key) (h : Held) → held_in shard.entries key ≡ Some h → is_block h.stage ≡ true
   pub committed : shard.committed ≡ group_of (ubers.kept_of pool.uber)
+  pub leaves : (leaf : ℕ) → shards.IsLeaf shard.slots leaf → leaf < ubers.next_leaf_of pool.uber
 
 -- a pointer of an object is that of a live block in its metaslab
 pub record IsPointer {R A : Type 0} (pool : Pool R A) (object : ℕ) (pointer : Pointer) : Type 0 where
   pub object_is : pointer.object ≡ object
   pub shard : Shard R A
-  pub there : slice_get pool.shards.items pointer.metaslab ≡ Some shard
+  pub there : slice_get pool.metaslabs.shards.items pointer.metaslab ≡ Some shard
   pub live : IsLive shard pointer
 
 -- and is that of a later write than the object's pointer in the table
 pub record IsNewer {R A : Type 0} (pool : Pool R A) (object : ℕ) (pointer : Pointer) : Type 0 where
   pub is : IsPointer pool object pointer
-  pub newer : (earlier : Pointer) → get nat_eq pool.objects object ≡ Some earlier → earlier.seq < pointer.seq
+  pub newer : (earlier : Pointer) → get nat_eq pool.own.objects object ≡ Some earlier → earlier.seq < pointer.seq
 
--- What each call needs and keeps. A pool is whole also where nothing is known of what its devices held as it was imported.
+-- What each call needs and keeps. A pool is whole also where nothing is known of what its devices held as it was imported. All its metaslabs have the same arms.
 pub record IsWhole {R A : Type 0} (rack : racks.Ghosts R) (area : areas.Ghosts A) (pool : Pool R A) : Type 0 where
   pub perms : Perms
   pub layout : IsLayout pool.geometry perms
-  pub many : length pool.shards.items ≡ pool.geometry.props.metaslabs
-  pub shards : (m : ℕ) (shard : Shard R A) → slice_get pool.shards.items m ≡ Some shard → IsShardOf rack perms pool m shard
+  pub many : length pool.metaslabs.shards.items ≡ pool.geometry.props.metaslabs
+  pub shards : (m : ℕ) (shard : Shard R A) → slice_get pool.metaslabs.shards.items m ≡ Some shard → IsShardOf rack perms pool m shard
+  pub alike : (m n : ℕ) (a b : Shard R A) → slice_get pool.metaslabs.shards.items m ≡ Some a → slice_get pool.metaslabs.shards.items n ≡ Some b → ShareArms a.slots b.slots
   pub uber : ubers.Valid area.size pool.uber
   pub uber_layout : ubers.layout_of pool.uber ≡ pool.geometry
   pub uber_version : ubers.version_of pool.uber ≡ pool.geometry.props.version
-  pub objects : (object : ℕ) (pointer : Pointer) → get nat_eq pool.objects object ≡ Some pointer → IsPointer pool object pointer
-  pub floor : pool.floor ≤ group_of (ubers.kept_of pool.uber) + 2
-  pub low : pool.floor ≤ LAST_NUMBER
+  pub objects : (object : ℕ) (pointer : Pointer) → get nat_eq pool.own.objects object ≡ Some pointer → IsPointer pool object pointer
+  pub floor : pool.own.floor ≤ group_of (ubers.kept_of pool.uber) + 2
+  pub low : pool.own.floor ≤ LAST_NUMBER

@@ -2,6 +2,7 @@ ghost use Rattle.std.specs.Prelude.{◌≡◌, None, IfErr, OnErr, OnOk, ◌<◌
 ghost use Rattle.draid_names.specs.declared.numbers.TheConstants.{LAST_NUMBER};
 ghost use Rattle.draid_machine.specs.declared.event.Event.TheVariants.{Close};
 ghost use Rattle.draid_entries.specs.History.{Passes};
+ghost use Rattle.draid_shard.specs.Alike.{KeepsArms};
 ghost use Rattle.draid_shard.specs.Calls.{SameKit, SameReserve};
 ghost use Rattle.draid_shard.specs.Changes.{DoesNothing};
 ghost use Rattle.draid_shard.specs.Fits.{Valid};
@@ -35,6 +36,7 @@ pub fn close_group<R: Rack, A: Area>(shard: &mut Shard<R, A>, group: u64) -> Res
     ensures not_worn { OnOk result ((Passes shard.old.history group_events 0 → ⊥) × (group < LAST_NUMBER)) }
     ensures closes { OnOk result (ClosesGroup shard.old shard.new group) }
     ensures none { OnErr result (DoesNothing shard.old shard.new) }
+    ensures slots { KeepsArms shard.old.slots shard.new.slots }
     ensures refused { IfErr result (CloseRefused shard.old group) }
     ensures reserve { SameReserve shard.old shard.new }
 {

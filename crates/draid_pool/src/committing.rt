@@ -6,6 +6,7 @@ ghost use Rattle.draid_segments.specs.Segments.{Pieces};
 ghost use Rattle.draid_spec.specs.declared.layout.Geometry.{Geometry};
 ghost use Rattle.draid_entries.specs.Entries.{entry_at};
 ghost use Rattle.draid_slots.specs.declared.slot.Detached.{Detached};
+ghost use Rattle.draid_slots.specs.Changes.{Commits};
 ghost use Rattle.draid_slots.specs.Table.{is_leaf_kind};
 ghost use Rattle.draid_shard.specs.Calls.{ActsOn, SameAreas, SameReserve};
 ghost use Rattle.draid_shard.specs.Fits.{Tables, Valid, AreFitting};
@@ -34,6 +35,7 @@ pub fn commit<R: Rack, A: Area>(shard: &mut Shard<R, A>, group: u64)
     ensures acts { (pieces : Pieces) → ActsOn R.Rack shard.old shard.new (Commit group) pieces }
     // Of the leaves those alone go that were detached up to the group and are no arms.
     ensures leaves { DropsDetached R.Rack shard.old shard.new group }
+    ensures slots { Commits shard.old.slots shard.new.slots group }
     ensures reserve { SameReserve shard.old shard.new }
 {
     release_freed(&mut shard.space, &mut shard.entries, group);

@@ -3,9 +3,13 @@
 
 #![tactic(auto)]
 
+mod cell;
 mod closing;
 mod committing;
 mod fault;
+mod metaslabs;
+mod own;
+mod owned;
 mod pool;
 mod records;
 mod returning;
@@ -14,9 +18,13 @@ mod syncing;
 mod telling;
 mod unsynced;
 
+pub use cell::Cell;
 pub use closing::{BIRTH_GROUPS, close_group};
 pub use committing::commit;
 pub use fault::{CloseFault, SealFault, Sealed, SyncFault, Synced};
+pub use metaslabs::Metaslabs;
+pub use own::Own;
+pub use owned::Owned;
 pub use pool::{EVENTS, Pool};
 pub use records::{record_of, write_to};
 pub use returning::{close, give_back, into_kit};

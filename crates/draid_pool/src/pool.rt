@@ -1,13 +1,12 @@
 ghost use Rattle.std.specs.Prelude.{◌≡◌};
 
+use crate::own::Own;
+use crate::owned::Owned;
 use draid_area::Area;
-use draid_names::Pointer;
 use draid_rack::Rack;
-use draid_shard::Shard;
 use draid_spec::Geometry;
 use draid_uber::Uber;
 use std::alloc::Global;
-use std::collections::HashMap;
 
 /// How many events all metaslabs of a pool may store, with those that are owed.
 pub const EVENTS: u64 = 1 << 24;
@@ -16,16 +15,10 @@ pub const EVENTS: u64 = 1 << 24;
 #[derive(Drop)]
 pub struct Pool<R: Rack, A: Area> {
     pub geometry: Geometry,
-    /// The metaslabs, in the order of their numbers.
-    pub shards: Vec<Shard<R, A>>,
+    pub metaslabs: Owned<R, A>,
     /// The uberblock, which names the committed group.
     pub uber: Uber<A>,
-    /// The pointer of each object's bytes.
-    pub objects: HashMap<u64, Pointer>,
-    /// The number of the last write that was begun.
-    pub seq: u64,
-    /// The greatest group that a call has used.
-    pub floor: u64,
+    pub own: Own,
     pub alloc: Global,
 }
 

@@ -44,7 +44,7 @@ pub fn close<H: Shelf>(pool: Pool<H::R, H::A>, shelf: &mut H, crash: bool)
     ensures checks { H.check_counts shelf.new ≡ H.check_counts shelf.old }
     ensures faults { H.faults shelf.new ≡ H.faults shelf.old }
 {
-    give_back(shelf, pool.shards);
+    give_back(shelf, pool.metaslabs.shards);
     shelf.give_uber(pool.uber.into_area());
     if crash {
         shelf.crash();

@@ -3,6 +3,7 @@ ghost use Rattle.draid_machine.specs.State as machine;
 ghost use Rattle.draid_rack.specs.Rack.{Shape};
 ghost use Rattle.draid_slots.specs.Table.{IsTable};
 ghost use Rattle.draid_slots.specs.States.{HasSlots};
+ghost use Rattle.draid_shard.specs.Alike.{KeepsArms};
 ghost use Rattle.draid_shard.specs.Calls.{SameReserve};
 ghost use Rattle.draid_shard.specs.Changes.{KeepsBlocks};
 ghost use Rattle.draid_shard.specs.Fits.{TicketsAreNew, Valid};
@@ -46,6 +47,7 @@ pub fn seal<R: Rack, A: Area>(shard: &mut Shard<R, A>, group: u64) -> Result<Sea
     ensures seals { OnOk result (SealsGroup shard.old shard.new) }
     ensures refused { IfErr result (Unsealed R.Rack A.faults shard.old shard.new group) }
     ensures keeps { OnErr result (KeepsBlocks shard.old shard.new) }
+    ensures slots { KeepsArms shard.old.slots shard.new.slots }
     ensures later { AreasLater A.faults shard.old shard.new }
     ensures reserve { SameReserve shard.old shard.new }
 {
@@ -76,6 +78,7 @@ fn seal_by<R: Rack, A: Area>(
     ensures seals { OnOk result (SealsGroup shard.old shard.new) }
     ensures refused { IfErr result (Unsealed R.Rack A.faults shard.old shard.new group) }
     ensures keeps { OnErr result (KeepsBlocks shard.old shard.new) }
+    ensures slots { KeepsArms shard.old.slots shard.new.slots }
     ensures later { AreasLater A.faults shard.old shard.new }
     ensures reserve { SameReserve shard.old shard.new }
 {

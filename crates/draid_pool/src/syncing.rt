@@ -1,7 +1,7 @@
 //! Groups of a pool: one is closed in all metaslabs and sealed in all, then the uberblock names it, and then it is
 //! committed in all.
 ghost use Rattle.std.specs.Prelude.{◌≡◌, ◌≤◌, ◌+◌, ◌↔◌, true, All, Some, IfOk, IsErrOf, IsTrue, OnOk, length};
-ghost use Rattle.draid_names.specs.declared.numbers.TheConstants.{NUMBERS};
+ghost use Rattle.draid_names.specs.declared.numbers.TheConstants.{LAST_NUMBER, NUMBERS};
 ghost use Rattle.draid_machine.specs.Names.{is_block};
 ghost use Rattle.draid_machine.specs.declared.names.Held.{Held};
 ghost use Rattle.draid_machine.specs.declared.names.Key.{Key};
@@ -15,7 +15,7 @@ ghost use Rattle.draid_session.specs.Phases.{Chain};
 ghost use Rattle.draid_session.specs.State.{Metaslab, State};
 ghost use Rattle.draid_uber.specs.Slots.{group_of};
 ghost use Rattle.draid_uber.specs.Uber.{kept_of};
-ghost use Rattle.draid_pool.specs.Syncing.{ExportDoes, SyncDoes, AreClosing, AreSealed, CloseIs, CommitsBelow, FoundClosing, FoundUnsynced, HasUnsynced, GroupDoes, KeepsCommitted, KeepsTable, Phase, SealDoes, SealIs, Turns, end_of};
+ghost use Rattle.draid_pool.specs.Syncing.{ExportDoes, SyncDoes, AreClosing, AreIdle, AreSealed, CloseIs, CommitsBelow, FoundClosing, FoundUnsynced, HasUnsynced, GroupDoes, KeepsCommitted, KeepsTable, Phase, SealDoes, SealIs, Turns, end_of};
 ghost use Rattle.draid_pool.specs.Carries.{CarriesOut};
 ghost use Rattle.draid_pool.specs.Failing.{AreaRose, AreasLater, RecordsRose};
 ghost use Rattle.draid_pool.specs.Metaslabs.{IsMetaslab};
@@ -43,6 +43,7 @@ fn close_in<R: Rack, A: Area>(shard: &mut Shard<R, A>, group: u64) -> Result<(),
     ensures closing { OnOk result (shard.new.closing ≡ Some group) }
     ensures later { sealing.AreasLater A.faults shard.old shard.new }
     ensures not_shelf { IsErrOf result SyncFault.Shelf → ⊥ }
+    ensures last { IsErrOf result SyncFault.Last → group ≡ LAST_NUMBER }
     ensures closes { (part : Part) (pieces : Pieces) (x : Metaslab) → IsMetaslab R.Rack A.Area part pieces shard.old x
         → Turns R.Rack A.Area part pieces x shard.new (λ hold y. CloseIs part group result hold × KeepsCommitted x.world y.world) }
 {
@@ -68,6 +69,7 @@ fn seal_in<R: Rack, A: Area>(shard: &mut Shard<R, A>, group: u64) -> Result<u64,
     ensures low { IfOk result (λ thin. thin ≤ NUMBERS) }
     ensures later { sealing.AreasLater A.faults shard.old shard.new }
     ensures cause { IsErrOf result SyncFault.Shelf → RecordsRose A.faults shard.old shard.new }
+    ensures not_last { IsErrOf result SyncFault.Last → ⊥ }
     ensures seals { (part : Part) (pieces : Pieces) (x : Metaslab) → IsMetaslab R.Rack A.Area part pieces shard.old x
         → Turns R.Rack A.Area part pieces x shard.new (λ hold y. SealIs part group result hold × KeepsCommitted x.world y.world) }
 {
@@ -135,12 +137,15 @@ impl<R: Rack, A: Area> Pool<R, A> {
     }
 
     /// Commits a group that is closing in a metaslab, if there is one.
-    fn finish(&mut self) -> Result<(), SyncFault>
+    pub fn finish(&mut self) -> Result<(), SyncFault>
         requires whole { IsWhole R.Rack A.Area self.old }
         ensures whole { IsWhole R.Rack A.Area self.new }
-        ensures objects { self.new.objects ≡ self.old.objects }
+        ensures objects { self.new.own.objects ≡ self.old.own.objects }
         ensures later { AreasLater A.faults self.old self.new }
         ensures cause { IsErrOf result SyncFault.Shelf → AreaRose A.faults self.old self.new }
+        // A group that closes has a number below the last.
+        ensures not_last { IsErrOf result SyncFault.Last → ⊥ }
+        ensures idle { OnOk result (AreIdle self.new.metaslabs.shards.items) }
         ensures carries { (x : State) → Represents R.Rack A.Area self.old x
             → CarriesOut R.Rack A.Area self.new x (Phase x (groups.Finishes x.geometry x.perms) (end_of result)) }
     {
@@ -155,9 +160,9 @@ impl<R: Rack, A: Area> Pool<R, A> {
 
     /// The group that is closing in a metaslab.
     fn closing(&self) -> Option<u64>
-        ensures found { FoundClosing self.now.shards.items result }
+        ensures found { FoundClosing self.now.metaslabs.shards.items result }
     {
-        for shard in &self.shards {
+        for shard in &self.metaslabs.shards {
             if let Some(group) = shard.closing() {
                 return Some(group);
             }
@@ -170,9 +175,11 @@ impl<R: Rack, A: Area> Pool<R, A> {
         requires whole { IsWhole R.Rack A.Area self.old }
         requires next { group ≡ group_of (kept_of self.old.uber) + 1 }
         ensures whole { IsWhole R.Rack A.Area self.new }
-        ensures objects { self.new.objects ≡ self.old.objects }
+        ensures objects { self.new.own.objects ≡ self.old.own.objects }
         ensures later { AreasLater A.faults self.old self.new }
         ensures cause { IsErrOf result SyncFault.Shelf → AreaRose A.faults self.old self.new }
+        ensures last { IsErrOf result SyncFault.Last → group ≡ LAST_NUMBER }
+        ensures idle { OnOk result (AreIdle self.new.metaslabs.shards.items) }
         ensures carries { (x : State) → Represents R.Rack A.Area self.old x
             → CarriesOut R.Rack A.Area self.new x (GroupDoes x group result) }
     {
@@ -194,16 +201,17 @@ impl<R: Rack, A: Area> Pool<R, A> {
         requires whole { IsWhole R.Rack A.Area self.old }
         requires next { group ≡ group_of (kept_of self.old.uber) + 1 }
         ensures whole { IsWhole R.Rack A.Area self.new }
-        ensures objects { self.new.objects ≡ self.old.objects }
+        ensures objects { self.new.own.objects ≡ self.old.own.objects }
         ensures later { AreasLater A.faults self.old self.new }
         ensures cause { IsErrOf result SyncFault.Shelf → AreaRose A.faults self.old self.new }
+        ensures last { IsErrOf result SyncFault.Last → group ≡ LAST_NUMBER }
         ensures carries { (x : State) → Represents R.Rack A.Area self.old x
             → CarriesOut R.Rack A.Area self.new x (Phase x (groups.ClosePhase x.geometry x.perms group) (end_of result)) }
-        ensures closing { OnOk result (AreClosing self.new.shards.items group) }
+        ensures closing { OnOk result (AreClosing self.new.metaslabs.shards.items group) }
         ensures uber { self.new.uber ≡ self.old.uber }
     {
-        for metaslab in 0..self.shards.len() {
-            match close_in(&mut self.shards[metaslab], group) {
+        for metaslab in 0..self.metaslabs.shards.len() {
+            match close_in(&mut self.metaslabs.shards[metaslab], group) {
                 Ok(()) => {}
                 Err(fault) => return Err(fault),
             }
@@ -214,19 +222,20 @@ impl<R: Rack, A: Area> Pool<R, A> {
     /// Seals a group in each metaslab where it isn't sealed already, and counts the blocks that are thin.
     fn seal_all(&mut self, group: u64) -> Result<u64, SyncFault>
         requires whole { IsWhole R.Rack A.Area self.old }
-        requires closing { AreClosing self.old.shards.items group }
+        requires closing { AreClosing self.old.metaslabs.shards.items group }
         ensures whole { IsWhole R.Rack A.Area self.new }
-        ensures objects { self.new.objects ≡ self.old.objects }
+        ensures objects { self.new.own.objects ≡ self.old.own.objects }
         ensures later { AreasLater A.faults self.old self.new }
         ensures cause { IsErrOf result SyncFault.Shelf → AreaRose A.faults self.old self.new }
+        ensures not_last { IsErrOf result SyncFault.Last → ⊥ }
         ensures carries { (x : State) → Represents R.Rack A.Area self.old x
             → CarriesOut R.Rack A.Area self.new x (SealDoes x group result) }
-        ensures sealed { OnOk result (AreSealed self.new.shards.items group) }
+        ensures sealed { OnOk result (AreSealed self.new.metaslabs.shards.items group) }
         ensures uber { self.new.uber ≡ self.old.uber }
     {
         let mut thin = 0;
-        for metaslab in 0..self.shards.len() {
-            match seal_in(&mut self.shards[metaslab], group) {
+        for metaslab in 0..self.metaslabs.shards.len() {
+            match seal_in(&mut self.metaslabs.shards[metaslab], group) {
                 Ok(sealed) => thin += sealed,
                 Err(fault) => return Err(fault),
             }
@@ -238,18 +247,20 @@ impl<R: Rack, A: Area> Pool<R, A> {
     fn commit_sealed(&mut self, group: u64) -> Result<(), SyncFault>
         requires whole { IsWhole R.Rack A.Area self.old }
         requires next { group ≡ group_of (kept_of self.old.uber) + 1 }
-        requires sealed { AreSealed self.old.shards.items group }
+        requires sealed { AreSealed self.old.metaslabs.shards.items group }
         ensures whole { IsWhole R.Rack A.Area self.new }
-        ensures objects { self.new.objects ≡ self.old.objects }
+        ensures objects { self.new.own.objects ≡ self.old.own.objects }
         ensures later { AreasLater A.faults self.old self.new }
         ensures cause { IsErrOf result SyncFault.Shelf → AreaRose A.faults self.old self.new }
+        ensures not_last { IsErrOf result SyncFault.Last → ⊥ }
+        ensures idle { OnOk result (AreIdle self.new.metaslabs.shards.items) }
         ensures carries { (x : State) → Represents R.Rack A.Area self.old x
             → CarriesOut R.Rack A.Area self.new x (Phase x
             (Chain (groups.Names x.geometry x.perms group) (groups.CommitPhase x.geometry x.perms group)) (end_of result)) }
     {
         match self.uber.commit(group) {
             Ok(()) => {
-                commit_all(&mut self.shards, group);
+                commit_all(&mut self.metaslabs.shards, group);
                 Ok(())
             }
             Err(DeviceFault::Failed) => Err(SyncFault::Shelf),
@@ -259,10 +270,10 @@ impl<R: Rack, A: Area> Pool<R, A> {
 
     /// Whether a metaslab has something that no sync has made safe: an export makes a sync just there.
     pub fn unsynced(&self) -> bool
-        ensures found { FoundUnsynced self.now.shards.items result }
+        ensures found { FoundUnsynced self.now.metaslabs.shards.items result }
         ensures unsynced { (x : State) → Represents R.Rack A.Area self.now x → IsTrue result ↔ HasUnsynced x }
     {
-        for shard in &self.shards {
+        for shard in &self.metaslabs.shards {
             if is_unsynced(shard.committed(), shard.events()) {
                 return true;
             }

@@ -20,9 +20,9 @@ impl<R: Rack, A: Area> Pool<R, A> {
 
     /// How many objects have bytes.
     pub fn objects(&self) -> u64
-        ensures names { HasNames (get nat_eq self.now.objects) result }
+        ensures names { HasNames (get nat_eq self.now.own.objects) result }
         ensures state { (x : State) → Represents R.Rack A.Area self.now x → HasObjects x.store.changes result }
     {
-        self.objects.len() as u64
+        self.own.objects.len() as u64
     }
 }

@@ -1,6 +1,7 @@
 use Rattle.std.proofs.Common.{arith, refl, subst, ◌∙◌, ◌≡◌, ◌≤◌, ◌<◌, ◌==◌, ◌&&◌, ℕ, Bool, true, false, List, Option, Some, None, Result, Ok, Err, OnOk, OnErr, IsTrue, option_map, nat_lt, if◌then◌else◌}
 use Rattle.std.proofs.lemmas.Bool.Decides.{nat_tests}
-use Rattle.draid_rack.specs.Rack.{Told, Lands, OnTold, IsOfShape, IsOrderly, Shape, adds, damages, drops, flushes, lands, last_clock, settles, tick}
+use Rattle.draid_rack.specs.Rack.{Told, Lands, OnTold, IsOfShape, IsOrderly, Shape, adds, damages, drops, flushes, lands, settles}
+use Rattle.draid_names.specs.Clocks.{tick, last_clock}
 use Rattle.draid_rack.specs.Moments.{Stays, Goes, Between, Keeps, KeptOthers, Elapses, ElapsesTold, ChangesOnly, ChangesOnlyTold, Leaves, LeavesTold, OnBoth, IsCrashOutcome, CrashKeepsOthers, CrashesTold}
 
 pub goes_on : (x y z : Told) → Goes x y → Goes y z → Goes x z

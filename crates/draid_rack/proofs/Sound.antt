@@ -7,7 +7,7 @@ use Rattle.std.specs.BTreeMap.{BTreeMap}
 use Rattle.draid_rack.specs.declared.leaf.Leaf.{Leaf}
 use Rattle.draid_rack.specs.Leaves.{AreLong, AreUpTo, Changes, IsBlank, faults_by, faults_in, leaf_at, since_of, view_at, view_in, soft_of, harmed_of}
 use Rattle.draid_rack.specs.Sectors.{View, IsLong, blank}
-use Rattle.draid_rack.specs.Rack.{tick}
+use Rattle.draid_names.specs.Clocks.{tick}
 
 some_of : (x y : View) → Some x ≡ Some y → x ≡ y
 some_of x y is = ap (λ o. unwrap_or o x) is

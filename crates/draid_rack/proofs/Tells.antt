@@ -7,7 +7,8 @@ use Rattle.draid_rack.specs.declared.sector.Sector.{Sector}
 use Rattle.draid_rack.specs.declared.leaf.Leaf.{Leaf}
 use Rattle.draid_rack.specs.Leaves.{AreLong, Changes, IsBlank, bytes_of, harmed_of, leaf_at, sectors_in, shape_by, since_of, soft_of, told_of, view_at, view_in}
 use Rattle.draid_rack.specs.Sectors.{View, blank, damaged, flushed, is_of_leaf, is_sector, landed, marked, settled, view_of}
-use Rattle.draid_rack.specs.Rack.{Lands, adds, complement, damages, drops, flushes, lands, put, put_leaf, settles, tick, with_leaf}
+use Rattle.draid_rack.specs.Rack.{Lands, adds, complement, damages, drops, flushes, lands, put, put_leaf, settles, with_leaf}
+use Rattle.draid_names.specs.Clocks.{tick}
 
 -- a sector below the number of sectors is there
 has_row : (rows : List Sector) (s : ℕ) → s < length rows → (x : View) × (option_map view_of (slice_get rows s) ≡ Some x)

@@ -1,5 +1,6 @@
 use Rattle.std.specs.Prelude.{◌≡◌, ◌<◌, ◌≤◌, ⊤, ℕ, Bool, false, List, Option, Some, None, MatchOption, IsTrue, option_map, length}
-use Rattle.draid_rack.specs.Rack.{Told, last_clock}
+use Rattle.draid_rack.specs.Rack.{Told}
+use Rattle.draid_names.specs.Clocks.{last_clock}
 
 -- a sector that wasn't changed between two states
 pub record Stays (x y : Told) (l s : ℕ) (bytes : List ℕ) : Type 0 where

@@ -1,5 +1,6 @@
 use Rattle.std.specs.Prelude.{◌≡◌, ◌<◌, ◌≤◌, ⊤, ◌==◌, ◌&&◌, ◌+◌, ◌-◌, ◌^◌, ℕ, Bool, true, false, List, Option, Some, None, Result, MatchOption, OnOk, OnErr, option_map, unwrap_or, length, map, replicate, nat_lt, if◌then◌else◌}
 use Rattle.std.specs.List.{list_any}
+use Rattle.draid_names.specs.Clocks.{tick}
 use Rattle.draid_names.specs.Faults.{Rose}
 use Rattle.draid_faults.specs.Calls.{CountsJust}
 use Rattle.draid_names.specs.declared.arm.At.{At}
@@ -41,12 +42,9 @@ pub record Told : Type 0 where
   pub since : ℕ → ℕ → ℕ
   pub clock : ℕ
 
-abbrev pub last_clock : ℕ
-last_clock = 2 ^ 64 - 1
-
--- one change later. It stands still at the last clock
-abbrev pub tick : ℕ → ℕ
-tick c = if nat_lt c last_clock then c + 1 else c
+-- before and after: what is told stays told, and the two meet P
+abbrev pub OnBothTold : Option Told → Option Told → (Told → Told → Type 0) → Type 0
+OnBothTold old new P = MatchOption old (new ≡ None) (λ x. MatchOption new ⊥ (λ y. P x y))
 
 -- f with another answer at one sector
 abbrev pub put : {A : Type 0} → ℕ → ℕ → A → (ℕ → ℕ → A) → ℕ → ℕ → A

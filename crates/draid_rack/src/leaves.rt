@@ -3,7 +3,7 @@ ghost use Rattle.std.specs.List.{list_any};
 ghost use Rattle.draid_names.specs.declared.arm.At.{At};
 ghost use Rattle.draid_rack.specs.Leaves.{Changes, CountsFault, bytes_of, harmed_of, leaf_at, view_at};
 ghost use Rattle.draid_rack.specs.Sectors.{crashed, damaged, flushed, is_of_leaf, is_sector, landed, marked, settled};
-ghost use Rattle.draid_rack.specs.Rack.{tick};
+ghost use Rattle.draid_names.specs.Clocks.{tick};
 
 use crate::leaf::Leaf;
 use draid_faults::CrashRule;

@@ -139,7 +139,8 @@ impl RangeSet {
 
     /// How many members there are.
     pub fn count(&self) -> u64
-        ensures { result ≡ count_below (has self.now) (2 ^ 48) }
+        ensures count { result ≡ count_below (has self.now) (2 ^ 48) }
+        ensures low { (x : ℕ) → 2 ^ 48 ≤ x → has self.now x ≡ false }
     {
         total(&self.runs)
     }

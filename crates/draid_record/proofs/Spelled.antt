@@ -4,6 +4,7 @@ use Rattle.std.specs.Prelude.{◌==◌, ◌&&◌, ◌||◌, ⊤, nat_lt, slice_i
 use Rattle.std.proofs.lemmas.Bool.{true≢false}
 use Rattle.std.proofs.lemmas.List.{length-append}
 use Rattle.byteorder.specs.Endian.{big_bytes}
+use Rattle.draid_names.specs.Arms.{least_arm, least_slot}
 use Rattle.draid_names.specs.declared.numbers.TheConstants.{NUMBERS}
 use Rattle.draid_names.specs.declared.arm.Arm.{Arm}
 use Rattle.draid_names.specs.declared.arm.ArmAt.{ArmAt}
@@ -140,11 +141,11 @@ slots_in limits before (s ∷ list) each = (slot_in limits before each.0.0 s eac
 
 -- ---- the pass
 target_in : (all : List (List ArmTold)) (before : Option ArmAt) (bytes : List ℕ) (t : ArmAt) → Spells (spec.target all before) bytes t
-    → (spec.least_slot before ≤ t.slot) × (t.slot ≤ length all - 1) × (t.slot < 2 ^ 16) × (spec.least_arm before t.slot ≤ t.arm) × (t.arm ≤ length (slice_index_or all t.slot []) - 1) × (t.arm < 2 ^ 8)
+    → (least_slot before ≤ t.slot) × (t.slot ≤ length all - 1) × (t.slot < 2 ^ 16) × (least_arm before t.slot ≤ t.arm) × (t.arm ≤ length (slice_index_or all t.slot []) - 1) × (t.arm < 2 ^ 8)
 unfolding Spells
 target_in all before bytes t is =
     subst
-    (λ (t : ArmAt). (spec.least_slot before ≤ t.slot) × (t.slot ≤ length all - 1) × (t.slot < 2 ^ 16) × (spec.least_arm before t.slot ≤ t.arm) × (t.arm ≤ length (slice_index_or all t.slot []) - 1) × (t.arm < 2 ^ 8))
+    (λ (t : ArmAt). (least_slot before ≤ t.slot) × (t.slot ≤ length all - 1) × (t.slot < 2 ^ 16) × (least_arm before t.slot ≤ t.arm) × (t.arm ≤ length (slice_index_or all t.slot []) - 1) × (t.arm < 2 ^ 8))
     (sym is.6.6.1)
     (is.4, is.5, (let small = is.3 in omega (arith, small)), is.6.4, is.6.5, (let small = is.6.3 in omega (arith, small)))
 

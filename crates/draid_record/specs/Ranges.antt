@@ -8,7 +8,8 @@ use Rattle.draid_names.specs.declared.pass_kind.PassKind.TheVariants.{Rebuild, H
 use Rattle.draid_names.specs.declared.pointer.Pointer.{Pointer}
 use Rattle.draid_ranges.specs.declared.run.Run.{Run}
 use Rattle.draid_record.specs.declared.limits.Limits.{Limits}
-use Rattle.draid_record.specs.Record.{ArmTold, PassTold, RecordTold, are_flags, arm_count, has_leaf, least_arm, least_slot, limit_of, spaces_of, stands, stripes_of}
+use Rattle.draid_record.specs.Record.{ArmTold, PassTold, RecordTold, are_flags, arm_count, has_leaf, limit_of, spaces_of, stands, stripes_of}
+use Rattle.draid_names.specs.Arms.{least_arm, least_slot}
 use Rattle.draid_record.specs.Written.{bit, code_of, flags_of}
 
 -- runs of groups below 2^48 from `low` on, with a group between each two that is in none

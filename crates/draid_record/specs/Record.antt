@@ -4,6 +4,7 @@ use Rattle.std.specs.List.{list_any}
 use Rattle.std.specs.Option.{option_map}
 use Rattle.std.specs.declared.alloc.Global.{Global}
 use Rattle.std.specs.declared.vec.Vec.{Vec}
+use Rattle.draid_names.specs.Arms.{least_arm, least_slot}
 use Rattle.draid_names.specs.Numbers.{most_held}
 use Rattle.draid_names.specs.declared.numbers.TheConstants.{LAST_NUMBER, LONGEST_BLOCK, NUMBERS, OBJECTS}
 use Rattle.draid_names.specs.declared.arm.Arm.{Arm}
@@ -120,15 +121,6 @@ pub record PassTold : Type 0 where
   pub «at» : ℕ
   pub errors : ℕ
   pub running : Bool
-
--- where the slot and the arm of a target begin behind the one before
-abbrev pub least_slot : Option ArmAt → ℕ
-least_slot None = 0
-least_slot (Some before) = before.slot
-
-abbrev pub least_arm : Option ArmAt → ℕ → ℕ
-least_arm None slot = 0
-least_arm (Some before) slot = if slot == before.slot then before.arm + 1 else 0
 
 -- a target: an arm that is there, behind the target before
 abbrev pub target : List (List ArmTold) → Option ArmAt → Grammar ArmAt

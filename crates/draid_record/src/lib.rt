@@ -12,6 +12,7 @@ mod log;
 mod pass;
 mod reader;
 mod record;
+mod sizes;
 mod uber;
 mod writer;
 mod writing;
@@ -23,5 +24,6 @@ pub use law::{
 };
 pub use limits::Limits;
 pub use record::{Record, length_of, read_record};
+pub use sizes::{BLOCK_BYTES, SLOT_COUNT_AT, SLOTS_AT, arm_len};
 pub use uber::{UberBody, read_uber, write_uber};
 pub use writing::write_record;

@@ -1,5 +1,6 @@
 ghost use Rattle.std.specs.Prelude.{◌≡◌, ◌≤◌, ◌<◌, [], All, IfOk, IfSome, length, slice_index_or};
 ghost use Rattle.std.specs.Option.{option_map};
+ghost use Rattle.draid_names.specs.Arms as arms;
 ghost use Rattle.draid_record.specs.Reader.{Reads, state_of};
 ghost use Rattle.draid_record.specs.Record as spec;
 ghost use Rattle.draid_record.specs.Record.{told_pass, told_slots};
@@ -34,7 +35,7 @@ fn arms_at(all: &[Vec<(Arm, Log)>], slot: usize) -> u64
 }
 
 fn least_slot(before: Option<ArmAt>) -> u64
-    ensures { result ≡ spec.least_slot before }
+    ensures { result ≡ arms.least_slot before }
 {
     match before {
         Some(before) => u64::from(before.slot),
@@ -43,7 +44,7 @@ fn least_slot(before: Option<ArmAt>) -> u64
 }
 
 fn least_arm(before: Option<ArmAt>, slot: u64) -> u64
-    ensures { result ≡ spec.least_arm before slot }
+    ensures { result ≡ arms.least_arm before slot }
 {
     match before {
         Some(before) if slot == u64::from(before.slot) => u64::from(before.arm) + 1,

@@ -1,8 +1,8 @@
 -- What a line comes to that asks something of the pool that is open.
-use Rattle.std.proofs.Common.{[], ◌≡◌, ℕ, List, Option, Some, None, Result, Ok, Err, ap, refl, sym, subst, Vec, Global}
+use Rattle.std.proofs.Common.{[], ◌≡◌, IfOk, ℕ, List, Option, Some, None, Result, Ok, Err, ap, refl, sym, subst, Vec, Global}
 use Rattle.draid_rack.specs.declared.Rack as racks
 use Rattle.draid_area.specs.declared.Area as areas
-use Rattle.draid_script.specs.Line.{Command, CreatePool, ReadObject, FreeObject, SumObjects, DamageSector, ShowStatus, command_in}
+use Rattle.draid_script.specs.Line.{Command, CreatePool, ReadObject, FreeObject, SumObjects, TakeOffline, TakeOnline, DamageSector, ShowStatus, command_in}
 use Rattle.draid_script.specs.declared.line.Line.{Line}
 use Rattle.draid_script.specs.declared.line.Line.TheVariants as variant
 use Rattle.draid_script.specs.declared.line.PoolKeys.{PoolKeys}
@@ -15,8 +15,10 @@ use Rattle.draid_session.specs.Session.{Desk, TurnsBy}
 use Rattle.draid_session.specs.State.{State, Store}
 use Rattle.draid_pool.specs.Carries.{CarriesOut, ReplyDoes}
 use Rattle.draid_pool.specs.declared.pool.Pool.{Pool}
-use Rattle.draid_run.specs.Desks.{IsDesk, Turned, asked_in}
+use Rattle.draid_run.specs.Desks.{AnswerDoes, IsDesk, Turned, asked_in}
 use Rattle.draid_run.specs.Making.{CreateIs}
+use Rattle.draid_names.specs.declared.fault.Failed.{Failed}
+use Rattle.draid_changes.specs.Says.{OfflineSays, OnlineSays}
 use Rattle.draid_store.specs.Says.{DamageSays, FreeSays, ReadSays, SumSays}
 use Rattle.draid_status.specs.Says.{StatusSays}
 use Rattle.draid_run.specs.Script.{IsUnbuilt}
@@ -24,8 +26,8 @@ use Rattle.draid_run.specs.Serve.{AnswerIs, AskIs, IsSaid}
 use Rattle.draid_run.specs.Shelves.{MayFind, OnShelf}
 use Rattle.draid_run.specs.declared.answer.Stop.{Stop}
 use Rattle.draid_run.specs.declared.answer.Stop.TheVariants as stop
-use Rattle.draid_run.proofs.Said.{damage_does, free_does, read_does, status_does, sum_does}
-use Rattle.draid_run.proofs.Steps.{by_ask, by_create}
+use Rattle.draid_run.proofs.Said.{damage_does, free_does, offline_does, online_does, read_does, status_does, sum_does}
+use Rattle.draid_run.proofs.Steps.{ask_breaks, by_ask, by_create}
 
 module _ {R A : Type 0} (rack : racks.Ghosts R) (area : areas.Ghosts A) (choices : Choices) (entry now : OnShelf) (pool : Option (Pool R A)) (x : Desk) (is : IsDesk rack area entry now pool x) (command : Command)
     (unbuilt : asked_in command ≡ None → IsUnbuilt command) (new : Option (Pool R A)) where
@@ -35,7 +37,8 @@ module _ {R A : Type 0} (rack : racks.Ghosts R) (area : areas.Ghosts A) (choices
       subst (AnswerIs rack area choices command entry now pool x now new) (sym said) (by_ask rack area choices entry now pool reply command did.0 did.1 x new is did.2)
   answer_ask (Err stop.Unbuilt) result said did =
       subst (AnswerIs rack area choices command entry now pool x now new) (sym said) (unbuilt did.0, refl, did.1)
-  answer_ask (Err stop.Shelf) result said did = absurd did
+  answer_ask (Err stop.Shelf) result said did =
+      subst (AnswerIs rack area choices command entry now pool x now new) (sym said) (ask_breaks rack area entry now now command x pool new is did)
   answer_ask (Err (stop.Record metaslab place kind)) result said did = absurd did
 
 -- an empty line, or a comment
@@ -53,6 +56,11 @@ module _ {R A : Type 0} (rack : racks.Ghosts R) (area : areas.Ghosts A) (choices
   answer_create (Err stop.Unbuilt) result said did = absurd did
   answer_create (Err (stop.Record metaslab place kind)) result said did = absurd did
 
+-- what is so of each reply is so of that of an answer
+pub each_reply : (result : Result Reply Failed) (P : Reply → Type 0) → ((reply : Reply) → P reply) → IfOk result P
+each_reply (Ok reply) P each = each reply
+each_reply (Err failed) P each = tt
+
 -- ---- lines
 
 pub some_asked : {called : CommandName} → Some called ≡ None → ⊥
@@ -64,38 +72,40 @@ pub asks_nothing : (line : Line) → ((object : ℕ) (bytes : Vec ℕ Global) �
     → ((object : ℕ) → line ≡ variant.Read object → ⊥)
     → ((object : ℕ) → line ≡ variant.Free object → ⊥)
     → ((first : ℕ) (count : ℕ) → line ≡ variant.Sum first count → ⊥)
+    → ((leaf : ℕ) → line ≡ variant.Offline leaf → ⊥)
+    → ((leaf : ℕ) → line ≡ variant.Online leaf → ⊥)
     → ((leaf : ℕ) (sector : ℕ) → line ≡ variant.Damage leaf sector → ⊥)
     → ((form : StatusFormat) → line ≡ variant.Status form → ⊥)
     → asked_in (command_in line) ≡ None
-asks_nothing variant.Nothing write fill read free sum damage status = refl
-asks_nothing (variant.Create spec children keys) write fill read free sum damage status = refl
-asks_nothing variant.Import write fill read free sum damage status = refl
-asks_nothing variant.Export write fill read free sum damage status = refl
-asks_nothing variant.Sync write fill read free sum damage status = refl
-asks_nothing variant.Cancel write fill read free sum damage status = refl
-asks_nothing variant.Crash write fill read free sum damage status = refl
-asks_nothing (variant.Write object bytes) write fill read free sum damage status = absurd (write object bytes refl)
-asks_nothing (variant.Fill first count len seed) write fill read free sum damage status = absurd (fill first count len seed refl)
-asks_nothing (variant.Read object) write fill read free sum damage status = absurd (read object refl)
-asks_nothing (variant.Free object) write fill read free sum damage status = absurd (free object refl)
-asks_nothing (variant.Sum first count) write fill read free sum damage status = absurd (sum first count refl)
-asks_nothing (variant.Offline leaf) write fill read free sum damage status = refl
-asks_nothing (variant.Online leaf) write fill read free sum damage status = refl
-asks_nothing (variant.Damage leaf sector) write fill read free sum damage status = absurd (damage leaf sector refl)
-asks_nothing (variant.Spare slot spare) write fill read free sum damage status = refl
-asks_nothing (variant.Replace slot sectors) write fill read free sum damage status = refl
-asks_nothing (variant.Detach arm) write fill read free sum damage status = refl
-asks_nothing (variant.Rebuild limit) write fill read free sum damage status = refl
-asks_nothing (variant.Scrub limit) write fill read free sum damage status = refl
-asks_nothing (variant.Rebalance slot) write fill read free sum damage status = refl
-asks_nothing (variant.Status form) write fill read free sum damage status = absurd (status form refl)
-asks_nothing (variant.Lanes count) write fill read free sum damage status = refl
-asks_nothing variant.Upgrade write fill read free sum damage status = refl
-asks_nothing (variant.Agent least) write fill read free sum damage status = refl
-asks_nothing variant.AgentLog write fill read free sum damage status = refl
-asks_nothing variant.Checkpoint write fill read free sum damage status = refl
-asks_nothing variant.Rewind write fill read free sum damage status = refl
-asks_nothing variant.Discard write fill read free sum damage status = refl
+asks_nothing variant.Nothing write fill read free sum offline online damage status = refl
+asks_nothing (variant.Create spec children keys) write fill read free sum offline online damage status = refl
+asks_nothing variant.Import write fill read free sum offline online damage status = refl
+asks_nothing variant.Export write fill read free sum offline online damage status = refl
+asks_nothing variant.Sync write fill read free sum offline online damage status = refl
+asks_nothing variant.Cancel write fill read free sum offline online damage status = refl
+asks_nothing variant.Crash write fill read free sum offline online damage status = refl
+asks_nothing (variant.Write object bytes) write fill read free sum offline online damage status = absurd (write object bytes refl)
+asks_nothing (variant.Fill first count len seed) write fill read free sum offline online damage status = absurd (fill first count len seed refl)
+asks_nothing (variant.Read object) write fill read free sum offline online damage status = absurd (read object refl)
+asks_nothing (variant.Free object) write fill read free sum offline online damage status = absurd (free object refl)
+asks_nothing (variant.Sum first count) write fill read free sum offline online damage status = absurd (sum first count refl)
+asks_nothing (variant.Offline leaf) write fill read free sum offline online damage status = absurd (offline leaf refl)
+asks_nothing (variant.Online leaf) write fill read free sum offline online damage status = absurd (online leaf refl)
+asks_nothing (variant.Damage leaf sector) write fill read free sum offline online damage status = absurd (damage leaf sector refl)
+asks_nothing (variant.Spare slot spare) write fill read free sum offline online damage status = refl
+asks_nothing (variant.Replace slot sectors) write fill read free sum offline online damage status = refl
+asks_nothing (variant.Detach arm) write fill read free sum offline online damage status = refl
+asks_nothing (variant.Rebuild limit) write fill read free sum offline online damage status = refl
+asks_nothing (variant.Scrub limit) write fill read free sum offline online damage status = refl
+asks_nothing (variant.Rebalance slot) write fill read free sum offline online damage status = refl
+asks_nothing (variant.Status form) write fill read free sum offline online damage status = absurd (status form refl)
+asks_nothing (variant.Lanes count) write fill read free sum offline online damage status = refl
+asks_nothing variant.Upgrade write fill read free sum offline online damage status = refl
+asks_nothing (variant.Agent least) write fill read free sum offline online damage status = refl
+asks_nothing variant.AgentLog write fill read free sum offline online damage status = refl
+asks_nothing variant.Checkpoint write fill read free sum offline online damage status = refl
+asks_nothing variant.Rewind write fill read free sum offline online damage status = refl
+asks_nothing variant.Discard write fill read free sum offline online damage status = refl
 
 -- and nothing of the shelf: its command is beyond what is built
 pub is_unbuilt : (line : Line) → (line ≡ variant.Nothing → ⊥)
@@ -117,8 +127,8 @@ is_unbuilt (variant.Fill first count len seed) nothing create opens export sync 
 is_unbuilt (variant.Read object) nothing create opens export sync crash none = absurd (cc none)
 is_unbuilt (variant.Free object) nothing create opens export sync crash none = absurd (cc none)
 is_unbuilt (variant.Sum first count) nothing create opens export sync crash none = absurd (cc none)
-is_unbuilt (variant.Offline leaf) nothing create opens export sync crash none = tt
-is_unbuilt (variant.Online leaf) nothing create opens export sync crash none = tt
+is_unbuilt (variant.Offline leaf) nothing create opens export sync crash none = absurd (cc none)
+is_unbuilt (variant.Online leaf) nothing create opens export sync crash none = absurd (cc none)
 is_unbuilt (variant.Damage leaf sector) nothing create opens export sync crash none = absurd (cc none)
 is_unbuilt (variant.Spare slot spare) nothing create opens export sync crash none = tt
 is_unbuilt (variant.Replace slot sectors) nothing create opens export sync crash none = tt
@@ -136,6 +146,24 @@ is_unbuilt variant.Rewind nothing create opens export sync crash none = tt
 is_unbuilt variant.Discard nothing create opens export sync crash none = tt
 
 -- ---- what a pool replies, by the line
+
+module _ {R A : Type 0} (rack : racks.Ghosts R) (area : areas.Ghosts A) (choices : Choices) (line : Line) (x : State) (pool : Pool R A) where
+  carried : (command : Command) (says : List Hold → Store → Type 0) (said : Result Reply Failed) → command_in line ≡ command → ((holds : List Hold) (store : Store) → says holds store → AnswerDoes x choices command said holds store)
+      → CarriesOut rack area pool x says → CarriesOut rack area pool x (AnswerDoes x choices (command_in line) said)
+  carried command says said is does c = record {
+    holds = c.holds;
+    reached = c.reached;
+    store = c.store;
+    follows = c.follows;
+    done = subst (λ k. AnswerDoes x choices k said c.holds c.store) (sym is) (does c.holds c.store c.done);
+    represents = c.represents;
+  }
+
+  pub replied_offline : (leaf : ℕ) (said : Result Reply Failed) → line ≡ variant.Offline leaf → CarriesOut rack area pool x (OfflineSays leaf said x) → CarriesOut rack area pool x (AnswerDoes x choices (command_in line) said)
+  replied_offline leaf said is c = carried (TakeOffline leaf) (OfflineSays leaf said x) said (ap command_in is) (λ holds store. offline_does x choices said holds store leaf) c
+
+  pub replied_online : (leaf : ℕ) (said : Result Reply Failed) → line ≡ variant.Online leaf → CarriesOut rack area pool x (OnlineSays leaf said x) → CarriesOut rack area pool x (AnswerDoes x choices (command_in line) said)
+  replied_online leaf said is c = carried (TakeOnline leaf) (OnlineSays leaf said x) said (ap command_in is) (λ holds store. online_does x choices said holds store leaf) c
 
 module _ {R A : Type 0} (rack : racks.Ghosts R) (area : areas.Ghosts A) (choices : Choices) (line : Line) (x : State) (pool : Pool R A) (reply : Reply) where
   replied_by : (command : Command) (says : List Hold → Store → Type 0) → command_in line ≡ command → ((holds : List Hold) (store : Store) → says holds store → ReplyDoes x choices command reply holds store)

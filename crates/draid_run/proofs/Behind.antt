@@ -1,7 +1,7 @@
 -- Which replies leave the pool open.
 use Rattle.std.proofs.Common.{◌≡◌, refl, Some}
 use Rattle.std.specs.Prelude.{⊤}
-use Rattle.draid_script.specs.Line.{Command, SyncPool, WriteObject, FillObjects, ReadObject, FreeObject, SumObjects, DamageSector, ShowStatus}
+use Rattle.draid_script.specs.Line.{Command, SyncPool, WriteObject, FillObjects, ReadObject, FreeObject, SumObjects, TakeOffline, TakeOnline, DamageSector, ShowStatus}
 use Rattle.draid_script.specs.declared.name.CommandName.{CommandName}
 use Rattle.draid_reply.specs.declared.reply.Reply.{Reply}
 use Rattle.draid_reply.specs.declared.reply.Reply.TheVariants.{Crashed, Exported}
@@ -48,6 +48,12 @@ asked_keeps (FreeObject o) called reply asked is = tt
 asked_keeps (SumObjects first count) called (Exported group) asked is = absurd is
 asked_keeps (SumObjects first count) called Crashed asked is = absurd is
 asked_keeps (SumObjects first count) called reply asked is = tt
+asked_keeps (TakeOnline leaf) called (Exported group) asked is = absurd is
+asked_keeps (TakeOnline leaf) called Crashed asked is = absurd is
+asked_keeps (TakeOnline leaf) called reply asked is = tt
+asked_keeps (TakeOffline leaf) called (Exported group) asked is = absurd is
+asked_keeps (TakeOffline leaf) called Crashed asked is = absurd is
+asked_keeps (TakeOffline leaf) called reply asked is = tt
 asked_keeps (DamageSector leaf sector) called (Exported group) asked is = absurd is
 asked_keeps (DamageSector leaf sector) called Crashed asked is = absurd is
 asked_keeps (DamageSector leaf sector) called reply asked is = tt

@@ -351,7 +351,7 @@ module _ {R A : Type 0} (rack : racks.Ghosts R) (area : areas.Ghosts A) (entry b
           (subst (λ k. FindsPool rack area before.held before.leaves k group called_name objects) (ext before.counts entry.counts same.0.counts) finds))
 
       pub imported : (called_name : String Global) (geometry : Geometry) (group objects : ℕ) → string_bytes called_name ≡ vdev_name_of geometry.spec → geometry ≡ pool.geometry
-          → group ≡ group_in pool → HasNames (get nat_eq pool.objects) objects
+          → group ≡ group_in pool → HasNames (get nat_eq pool.own.objects) objects
           → ((s : State) → Represents rack area pool s → geometry ≡ s.geometry)
           → ((s : State) → Represents rack area pool s → group ≡ s.committed)
           → ((s : State) → Represents rack area pool s → HasObjects s.store.changes objects)

@@ -1,5 +1,5 @@
 -- What the calls of a pool did, in the words of a session.
-use Rattle.std.proofs.Common.{◌≡◌, ◌∙◌, ℕ, List, [], Option, Some, None, Ok, refl, subst, sym}
+use Rattle.std.proofs.Common.{◌≡◌, ◌∙◌, inl, ℕ, List, [], Option, Some, None, Ok, refl, subst, sym}
 use Rattle.draid_rack.specs.declared.Rack as racks
 use Rattle.draid_area.specs.declared.Area as areas
 use Rattle.draid_script.specs.Line.{Command, Silent, CreatePool, ImportPool, ExportPool, SyncPool, CancelPasses, CrashPool, WriteObject, FillObjects, ReadObject, FreeObject, SumObjects, TakeOffline, TakeOnline, DamageSector, AttachSpare, ReplaceDisk, DetachArm, RebuildPool, ScrubPool, RebalanceSlot, ShowStatus, OpenLanes, UpgradePool, RunAgent, ShowJournal, TakeCheckpoint, RewindPool, DiscardCheckpoint}
@@ -14,13 +14,17 @@ use Rattle.draid_session.specs.Holds.{Hold}
 use Rattle.draid_session.specs.Known.{Known, Learns}
 use Rattle.draid_session.specs.Replies.{IsReplyTo}
 use Rattle.draid_session.specs.Session as session
-use Rattle.draid_session.specs.Session.{Desk, Finding, Untouched, Bare, Made, Open, Shut, Foreign, Unknown, TurnsBy}
+use Rattle.draid_session.specs.Session.{Desk, Finding, Untouched, Bare, Made, Open, Shut, Foreign, Unknown, MayBreak, ShelfFails, TurnsBy}
 use Rattle.draid_session.specs.State.{State, Store}
 use Rattle.draid_pool.specs.Carries.{CarriesOut, ReplyDoes}
 use Rattle.draid_pool.specs.Pools.{Represents}
 use Rattle.draid_pool.specs.Whole.{IsWhole}
 use Rattle.draid_pool.specs.declared.pool.Pool.{Pool}
-use Rattle.draid_run.specs.Desks.{IsDesk, IsPool, PoolDid, Turned, asked_in}
+use Rattle.draid_pool.specs.Failing.{AreaFails}
+use Rattle.draid_pool.specs.Pointers.{SamePointers}
+use Rattle.draid_pool.proofs.Taught.{still_known}
+use Rattle.draid_run.specs.Desks.{BreaksBy, Broken, IsDesk, IsPool, PoolBroke, PoolDid, Turned, asked_in}
+use Rattle.draid_run.proofs.Broke.{broken_shows}
 use Rattle.draid_pool.specs.Knows.{Teaches}
 use Rattle.draid_run.specs.Making.{CreateDid, CreateTurns}
 use Rattle.draid_run.specs.Shelves.{IsOut, MayFind, OnShelf}
@@ -71,6 +75,40 @@ module _ {R A : Type 0} (rack : racks.Ghosts R) (area : areas.Ghosts A) (choices
     by (Open y) stands = absurd stands
     by (Foreign known) stands = absurd stands
 
+-- a device of the pool failed in a command
+pub broke_open : {R A : Type 0} (rack : racks.Ghosts R) (area : areas.Ghosts A) (command : Command) (desk : Option (Pool R A)) (pool new : Pool R A) → desk ≡ Some pool → IsWhole rack area new
+    → MayBreak command × AreaFails area.faults new × SamePointers pool new → ((x : State) → Represents rack area pool x → CarriesOut rack area new x (BreaksBy x command)) → (x : Desk) → IsPool rack area desk x → PoolBroke rack area command x (Some new)
+broke_open rack area command desk pool new is whole breaks step x = subst (λ d. IsPool rack area d x → PoolBroke rack area command x (Some new)) (sym is) (by x)
+  where
+    by : (x : Desk) → IsPool rack area (Some pool) x → PoolBroke rack area command x (Some new)
+    by Untouched stands = absurd stands
+    by Bare stands = absurd stands
+    by (Made tells count geometry) stands = absurd stands
+    by (Shut crash y) stands = absurd stands
+    by Unknown stands = absurd stands
+    by (Open y) stands = (whole, step y stands.1)
+    by (Foreign known) stands = (whole, breaks.0, breaks.1, still_known pool new breaks.2 known stands.1)
+
+-- so the run breaks off
+pub ask_breaks : {R A : Type 0} (rack : racks.Ghosts R) (area : areas.Ghosts A) (entry before now : OnShelf) (command : Command) (x : Desk) (desk new : Option (Pool R A)) → IsDesk rack area entry now desk x → PoolBroke rack area command x new
+    → Broken rack area ShelfFails command entry before x now new
+ask_breaks rack area entry before now command Untouched desk new is did = absurd did
+ask_breaks rack area entry before now command Bare desk new is did = absurd did
+ask_breaks rack area entry before now command (Made tells count geometry) desk new is did = absurd did
+ask_breaks rack area entry before now command (Shut crash y) desk new is did = absurd did
+ask_breaks rack area entry before now command Unknown desk new is did = absurd did
+ask_breaks rack area entry before now command (Foreign known) desk None is did = absurd did
+ask_breaks rack area entry before now command (Foreign known) desk (Some new) is did = record { new = Foreign known; desk = record { stands = (did.0, did.3); shelf = tt }; breaks = (did.1, refl); cause = inl did.2 }
+ask_breaks rack area entry before now command (Open y) desk None is did = absurd did
+ask_breaks rack area entry before now command (Open y) desk (Some new) is did =
+    let c = did.1 in
+    record {
+      new = Open (record c.reached { store = c.store });
+      desk = record { stands = (did.0, c.represents); shelf = still_out y c.reached now c.holds c.follows is.shelf c.store };
+      breaks = (record c.reached { store = c.store }, refl, record { holds = c.holds; mid = c.reached; store = c.store; follows = c.follows; broken = c.done; made = refl });
+      cause = broken_shows y.geometry y.perms command y.store c.holds c.store y c.reached c.done c.follows;
+    }
+
 -- a command that wants a pool, where none is open
 module _ (choices : Choices) (finds : Finding → Type 0) where
   shut_says : (command : Command) (called : CommandName) → asked_in command ≡ Some called → (x : Desk) → session.ShutTurns finds x command (NoPool called) x
@@ -79,6 +117,8 @@ module _ (choices : Choices) (finds : Finding → Type 0) where
   shut_says (ReadObject o) called is x = (called, is, refl, refl)
   shut_says (FreeObject o) called is x = (called, is, refl, refl)
   shut_says (SumObjects first count) called is x = (called, is, refl, refl)
+  shut_says (TakeOffline leaf) called is x = (called, is, refl, refl)
+  shut_says (TakeOnline leaf) called is x = (called, is, refl, refl)
   shut_says (DamageSector leaf sector) called is x = (called, is, refl, refl)
   shut_says (ShowStatus form) called is x = (called, is, refl, refl)
   shut_says command called is x = absurd (cc is)
@@ -159,8 +199,10 @@ module _ {R A : Type 0} (rack : racks.Ghosts R) (area : areas.Ghosts A) (choices
   by_ask SyncPool called is = absurd (cc is)
   by_ask CancelPasses called is = absurd (cc is)
   by_ask CrashPool called is = absurd (cc is)
-  by_ask (TakeOffline leaf) called is = absurd (cc is)
-  by_ask (TakeOnline leaf) called is = absurd (cc is)
+  by_ask (TakeOffline leaf) called is = turned_by (TakeOffline leaf) called is (λ y z c same. (refl, (z, c, same))) (λ old new fits learns same. (refl, (fits, new, learns, same))) (λ x stands.
+      (refl, by_desk choices (MayFind rack area entry) rack area (TakeOffline leaf) (NoPool called) x stands (shut_says choices (MayFind rack area entry) (TakeOffline leaf) called is x)))
+  by_ask (TakeOnline leaf) called is = turned_by (TakeOnline leaf) called is (λ y z c same. (refl, (z, c, same))) (λ old new fits learns same. (refl, (fits, new, learns, same))) (λ x stands.
+      (refl, by_desk choices (MayFind rack area entry) rack area (TakeOnline leaf) (NoPool called) x stands (shut_says choices (MayFind rack area entry) (TakeOnline leaf) called is x)))
   by_ask (AttachSpare slot spare) called is = absurd (cc is)
   by_ask (ReplaceDisk slot sectors) called is = absurd (cc is)
   by_ask (DetachArm arm) called is = absurd (cc is)

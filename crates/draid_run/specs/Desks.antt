@@ -1,8 +1,9 @@
 -- For which desk the pool and the shelf stand between lines, and what a command comes to.
-use Rattle.std.specs.Prelude.{◌≡◌, ⊤, List, Option, Some, None, Result}
+use Rattle.std.specs.Prelude.{◌≡◌, ⊤, ℕ, List, Option, Some, None, Result, Ok, Err}
+use Rattle.draid_names.specs.declared.fault.Failed.{Failed}
 use Rattle.draid_rack.specs.declared.Rack as racks
 use Rattle.draid_area.specs.declared.Area as areas
-use Rattle.draid_script.specs.Line.{Command, WriteObject, ReadObject, FillObjects, FreeObject, SumObjects, DamageSector, ShowStatus}
+use Rattle.draid_script.specs.Line.{Command, WriteObject, ReadObject, FillObjects, FreeObject, SumObjects, TakeOffline, TakeOnline, DamageSector, ShowStatus}
 use Rattle.draid_script.specs.declared.fault.LineFault.{LineFault}
 use Rattle.draid_script.specs.declared.name.CommandName.{CommandName}
 use Rattle.draid_script.specs.declared.name.CommandName.TheVariants as name
@@ -10,14 +11,17 @@ use Rattle.draid_reply.specs.declared.reply.Reply.{Reply}
 use Rattle.draid_reply.specs.declared.reply.Reply.TheVariants.{NoPool}
 use Rattle.draid_session.specs.Said.{Said}
 use Rattle.draid_session.specs.Choices.{Choices}
+use Rattle.draid_session.specs.Does as session
+use Rattle.draid_session.specs.Holds.{Hold}
+use Rattle.draid_session.specs.State.{State, Store}
 use Rattle.draid_session.specs.Replies.{IsReplyTo}
-use Rattle.draid_session.specs.Session.{Desk, Open, Foreign, Breaks, Cause, RecordFails, ShelfFails, TurnsBy, left_of}
+use Rattle.draid_session.specs.Session.{Desk, Open, Foreign, Breaks, Cause, MayBreak, RecordFails, ShelfFails, TurnsBy, left_of}
 use Rattle.draid_pool.specs.Carries.{CarriesOut, ReplyDoes}
 use Rattle.draid_pool.specs.Pools.{Represents}
 use Rattle.draid_pool.specs.Whole.{IsWhole}
 use Rattle.draid_pool.specs.declared.pool.Pool.{Pool}
 use Rattle.draid_pool.specs.Knows.{KnowsBehind, KnowsPointers}
-use Rattle.draid_run.specs.Shelves.{FailsIn, FaultIn, HasFailed, HasFault, HoldsDesk, IsClosed, IsOut, MayFind, OnShelf, RackFailedOn, RackFault}
+use Rattle.draid_run.specs.Shelves.{FailsIn, FaultIn, HasFailed, HasFault, HoldsDesk, IsClosed, IsOut, MayFind, OnShelf, PoolFails, RackFailedOn, RackFault}
 
 -- ---- desks
 
@@ -43,6 +47,10 @@ pub record IsDesk {R A : Type 0} (rack : racks.Ghosts R) (area : areas.Ghosts A)
 
 -- ---- commands
 
+-- what a command did to the open pool that a failing device ended
+abbrev pub BreaksBy : State → Command → List Hold → Store → Type 0
+BreaksBy x command holds store = session.Broken x.geometry x.perms command x.store holds store
+
 -- What a command that leaves the shelf alone came to: it was carried out on the open pool and has a reply that it may have, or its reply is that it wants one.
 abbrev pub PoolDid : {R A : Type 0} → racks.Ghosts R → areas.Ghosts A → Choices → Command → CommandName → Desk → Reply → Option (Pool R A) → Type 0
 PoolDid rack area choices command called (Open x) reply None = ⊥
@@ -51,6 +59,17 @@ PoolDid rack area choices command called (Open x) reply (Some pool) = IsWhole ra
 PoolDid rack area choices command called (Foreign known) reply (Some pool) = IsWhole rack area pool × IsReplyTo command reply × KnowsBehind command reply known pool
 PoolDid rack area choices command called desk reply pool = (reply ≡ NoPool called) × (pool ≡ None)
 
+-- what a command did to the open pool, by its reply, or where it has none
+abbrev pub AnswerDoes : State → Choices → Command → Result Reply Failed → List Hold → Store → Type 0
+AnswerDoes x choices command (Ok reply) holds store = ReplyDoes x choices command reply holds store
+AnswerDoes x choices command (Err failed) holds store = BreaksBy x command holds store
+
+-- What such a command came to that a failing device of the open pool ended: the pool stands for the state to which it came so far, or its objects are as they were known.
+abbrev pub PoolBroke : {R A : Type 0} → racks.Ghosts R → areas.Ghosts A → Command → Desk → Option (Pool R A) → Type 0
+PoolBroke rack area command (Open x) (Some pool) = IsWhole rack area pool × CarriesOut rack area pool x (BreaksBy x command)
+PoolBroke rack area command (Foreign known) (Some pool) = IsWhole rack area pool × MayBreak command × PoolFails area (Some pool) × KnowsPointers pool known
+PoolBroke rack area command desk pool = ⊥
+
 -- the name of a command that is carried out on the pool that is open, and leaves it open
 abbrev pub asked_in : Command → Option CommandName
 asked_in (WriteObject object bytes) = Some name.Write
@@ -58,6 +77,8 @@ asked_in (FillObjects first count len seed) = Some name.Fill
 asked_in (ReadObject object) = Some name.Read
 asked_in (FreeObject object) = Some name.Free
 asked_in (SumObjects first count) = Some name.Sum
+asked_in (TakeOffline leaf) = Some name.Offline
+asked_in (TakeOnline leaf) = Some name.Online
 asked_in (DamageSector leaf sector) = Some name.Damage
 asked_in (ShowStatus form) = Some name.Status
 asked_in command = None

@@ -15,7 +15,7 @@ use Rattle.draid_session.specs.Said.{Said, alone}
 use Rattle.draid_session.specs.Choices.{Choices}
 use Rattle.draid_session.specs.Session.{Cause, Desk, RecordFails, Runs, ShelfFails}
 use Rattle.draid_pool.specs.declared.pool.Pool.{Pool}
-use Rattle.draid_run.specs.Desks.{Broken, IsDesk, PoolDid, Turned, asked_in}
+use Rattle.draid_run.specs.Desks.{Broken, IsDesk, PoolBroke, PoolDid, Turned, asked_in}
 use Rattle.draid_run.specs.Script.{all_said, BreaksOff, Ends, FailsShut, FaultyShut, GetsReplies, IsUnbuilt, LineFaultIs, Shows, said_text, texts_of}
 use Rattle.draid_run.specs.Shelves.{HasFault, HoldsFault, IsClosed, MakesLeavesAt, MayFind, OnShelf, RackFault}
 use Rattle.draid_run.specs.declared.answer.Stop.{Stop}
@@ -65,11 +65,11 @@ status_of number stop.Shelf = ShelfFault
 status_of number (stop.Record metaslab place kind) = Record metaslab place kind
 
 module _ {R A : Type 0} (rack : racks.Ghosts R) (area : areas.Ghosts A) (choices : Choices) where
-  -- the reply of the pool that is open, or that none is; or that the command asks for none
+  -- the reply of the pool that is open, or that none is; that a device of it failed; or that the command asks for none
   abbrev pub AskIs : Command → Option (Pool R A) → Desk → Option (Pool R A) → Result Reply Stop → Type 0
   AskIs command pool old pool' (Ok reply) = (called : CommandName) × (asked_in command ≡ Some called) × PoolDid rack area choices command called old reply pool'
   AskIs command pool old pool' (Err stop.Unbuilt) = (asked_in command ≡ None) × (pool' ≡ pool)
-  AskIs command pool old pool' (Err stop.Shelf) = ⊥
+  AskIs command pool old pool' (Err stop.Shelf) = PoolBroke rack area command old pool'
   AskIs command pool old pool' (Err (stop.Record metaslab place kind)) = ⊥
 
   -- the reply to a command, or why it has none

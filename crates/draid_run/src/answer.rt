@@ -16,7 +16,7 @@ use crate::{groups, importing, replies};
 use draid_area::Area;
 use draid_choose::Chooser;
 use draid_create::CreateFault;
-use draid_names::Room;
+use draid_names::{Failed, Room};
 use draid_pool::Pool;
 use draid_rack::Rack;
 use draid_reply::Reply;
@@ -144,7 +144,7 @@ pub(crate) fn no_pool(command: CommandName) -> Reply
     Reply::NoPool { command }
 }
 
-/// The name of what a line asks of the pool that is open, where that has a reply and leaves it open.
+/// The name of what a line asks of the pool that is open, where that leaves it open.
 fn asked(line: &Line) -> Option<CommandName>
     ensures { result ≡ asked_in (command_in line.now) }
 {
@@ -154,6 +154,8 @@ fn asked(line: &Line) -> Option<CommandName>
         Line::Free { .. } => Some(CommandName::Free),
         Line::Read { .. } => Some(CommandName::Read),
         Line::Sum { .. } => Some(CommandName::Sum),
+        Line::Offline { .. } => Some(CommandName::Offline),
+        Line::Online { .. } => Some(CommandName::Online),
         Line::Damage { .. } => Some(CommandName::Damage),
         Line::Status { .. } => Some(CommandName::Status),
         _ => None,
@@ -178,7 +180,10 @@ fn ask<R: Rack, A: Area, F: Fn(&[Room]) -> Option<u32>>(
         return Err(Stop::Unbuilt);
     };
     match pool {
-        Some(pool) => Ok(replies::reply(rt, alloc, pool, chooser, line)),
+        Some(pool) => match replies::reply(rt, alloc, pool, chooser, line) {
+            Ok(reply) => Ok(reply),
+            Err(Failed) => Err(Stop::Shelf),
+        },
         None => Ok(no_pool(command)),
     }
 }

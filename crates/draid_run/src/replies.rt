@@ -1,23 +1,27 @@
 //! What the commands of an open pool reply.
-ghost use Rattle.std.specs.Prelude.{◌≡◌, None};
+ghost use Rattle.std.specs.Prelude.{◌≡◌, None, IfOk, IsErr};
 ghost use Rattle.std.specs.Fn.{FnReturnsAt};
 ghost use Rattle.draid_choose.specs.Rooms.{IsChooser};
-ghost use Rattle.draid_script.specs.Line.{DamageSector, FreeObject, IsInRange, ReadObject, ShowStatus, SumObjects, WriteObject, command_in};
+ghost use Rattle.draid_script.specs.Line.{TakeOffline, TakeOnline, DamageSector, FreeObject, IsInRange, ReadObject, ShowStatus, SumObjects, WriteObject, command_in};
 ghost use Rattle.draid_session.specs.Choices.{choices_by};
 ghost use Rattle.draid_session.specs.Replies.{IsReplyTo};
+ghost use Rattle.draid_session.specs.Session.{MayBreak};
 ghost use Rattle.draid_session.specs.State.{State};
 ghost use Rattle.draid_pool.specs.Carries.{CarriesOut};
 ghost use Rattle.draid_pool.specs.Pools.{Represents};
 ghost use Rattle.draid_pool.specs.Whole.{IsWhole};
-ghost use Rattle.draid_pool.specs.Carries.{ReplyDoes};
-ghost use Rattle.draid_run.specs.Desks.{asked_in};
+ghost use Rattle.draid_pool.specs.Failing.{AreaFails};
+ghost use Rattle.draid_pool.specs.Pointers.{SamePointers};
+ghost use Rattle.draid_run.specs.Desks.{AnswerDoes, asked_in};
 ghost use Rattle.draid_pool.specs.Knows.{Teaches};
 ghost use Rattle.draid_store.specs.Says.{DamageSays, FreeSays, ReadSays, SumSays};
 ghost use Rattle.draid_status.specs.Says.{StatusSays};
+ghost use Rattle.draid_changes.specs.Says.{OfflineSays, OnlineSays};
 
 use draid_area::Area;
+use draid_changes::{reply_to_offline, reply_to_online};
 use draid_choose::Chooser;
-use draid_names::Room;
+use draid_names::{Failed, Room};
 use draid_pool::Pool;
 use draid_rack::Rack;
 use draid_reply::Reply;
@@ -29,37 +33,40 @@ use draid_store::{
 use std::alloc::Global;
 use std::thread::Threads;
 
-/// What a pool replies to a line that asks something of it.
+/// What a pool replies to a line that asks something of it, or that a device of it failed.
 pub(crate) fn reply<R: Rack, A: Area, F: Fn(&[Room]) -> Option<u32>>(
     rt: &(impl Threads + Sync),
     alloc: Global,
     pool: &mut Pool<R, A>,
     chooser: &Chooser<F>,
     line: &Line,
-) -> Reply
+) -> Result<Reply, Failed>
     requires chooser { IsChooser F.Fn chooser.now }
     requires range { IsInRange (command_in line.now) }
     requires asks { asked_in (command_in line.now) ≡ None → ⊥ }
     requires whole { IsWhole R.Rack A.Area pool.old }
     ensures whole { IsWhole R.Rack A.Area pool.new }
-    ensures fits { IsReplyTo (command_in line.now) result }
-    ensures knows { Teaches (command_in line.now) result pool.old pool.new }
+    ensures fits { IfOk result (IsReplyTo (command_in line.now)) }
+    ensures knows { IfOk result (λ reply. Teaches (command_in line.now) reply pool.old pool.new) }
+    ensures breaks { IsErr result → MayBreak (command_in line.now) × AreaFails A.faults pool.new × SamePointers pool.old pool.new }
     ensures step { (x : State) → Represents R.Rack A.Area pool.old x
-        → CarriesOut R.Rack A.Area pool.new x (ReplyDoes x (choices_by (FnReturnsAt F.Fn chooser.now)) (command_in line.now) result) }
+        → CarriesOut R.Rack A.Area pool.new x (AnswerDoes x (choices_by (FnReturnsAt F.Fn chooser.now)) (command_in line.now) result) }
 {
     match line {
-        Line::Write { object, bytes } => reply_to_write(pool, chooser, *object, bytes),
+        Line::Write { object, bytes } => Ok(reply_to_write(pool, chooser, *object, bytes)),
         Line::Fill {
             first,
             count,
             len,
             seed,
-        } => fill(alloc, pool, chooser, *first, *count, *len, *seed),
-        Line::Free { object } => reply_to_free(pool, *object),
-        Line::Read { object } => reply_to_read(pool, *object),
-        Line::Sum { first, count } => reply_to_sum(rt, pool, *first, *count),
-        Line::Damage { leaf, sector } => reply_to_damage(pool, *leaf, *sector),
-        Line::Status { format } => reply_to_status(alloc, pool, *format),
+        } => Ok(fill(alloc, pool, chooser, *first, *count, *len, *seed)),
+        Line::Free { object } => Ok(reply_to_free(pool, *object)),
+        Line::Read { object } => Ok(reply_to_read(pool, *object)),
+        Line::Sum { first, count } => Ok(reply_to_sum(rt, pool, *first, *count)),
+        Line::Offline { leaf } => reply_to_offline(pool, *leaf),
+        Line::Online { leaf } => reply_to_online(pool, *leaf),
+        Line::Damage { leaf, sector } => Ok(reply_to_damage(pool, *leaf, *sector)),
+        Line::Status { format } => Ok(reply_to_status(alloc, pool, *format)),
         _ => unreachable!(),
     }
 }

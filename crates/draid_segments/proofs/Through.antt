@@ -3,7 +3,8 @@ use Rattle.std.proofs.Common.{◌≡◌, ◌<◌, ◌≤◌, ℕ, Bool, Option, 
 use Rattle.draid_machine.specs.declared.names.Held.{Held}
 use Rattle.draid_machine.specs.declared.names.Segment.{Segment}
 use Rattle.draid_machine.specs.State.{Layout, Image}
-use Rattle.draid_rack.specs.Rack.{IsOrderly, Told, last_clock}
+use Rattle.draid_rack.specs.Rack.{IsOrderly, Told}
+use Rattle.draid_names.specs.Clocks.{last_clock}
 use Rattle.draid_rack.specs.Moments.{Between, Stays}
 use Rattle.draid_segments.specs.Segments.{Firm, FirmThrough, IsClaim, Pieces, Steady, sector_at}
 use Rattle.draid_segments.proofs.Backing.{still}

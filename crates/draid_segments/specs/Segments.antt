@@ -9,7 +9,8 @@ use Rattle.draid_machine.specs.Names.{is_block, is_freed_by}
 use Rattle.draid_machine.specs.State.{Layout, Arm, Pass, Core, Image, State}
 use Rattle.draid_machine.specs.Claims.{IsOn, claims, passed}
 use Rattle.draid_machine.specs.Images.{IsImage}
-use Rattle.draid_rack.specs.Rack.{Told, last_clock}
+use Rattle.draid_rack.specs.Rack.{Told}
+use Rattle.draid_names.specs.Clocks.{last_clock}
 use Rattle.draid_rack.specs.Moments.{Between}
 
 -- ---- one segment

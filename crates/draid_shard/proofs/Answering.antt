@@ -19,7 +19,7 @@ use Rattle.draid_machine.specs.Claims.{is_at_held, is_on}
 use Rattle.draid_machine.specs.Created.{IsReached}
 use Rattle.draid_machine.specs.Fitting.{Fitting, IsOnce}
 use Rattle.draid_machine.specs.Images.{LiesAt, Owned}
-use Rattle.draid_machine.specs.Names.{has_name, name_eq}
+use Rattle.draid_machine.specs.Names.{has_name, name_eq, named}
 use Rattle.draid_machine.specs.State as machine
 use Rattle.draid_machine.proofs.Fitted.{every_fit}
 use Rattle.draid_machine.proofs.Losing.{every_segment}
@@ -28,12 +28,13 @@ use Rattle.draid_machine.proofs.Small.{absurd_test, below, either_true, equal, n
 use Rattle.draid_entries.specs.Maps.{held_at, key_of, staged}
 use Rattle.draid_slots.specs.Changes.{IsOf}
 use Rattle.draid_slots.specs.Reading as reading
-use Rattle.draid_slots.specs.Reading.{holder, holder_of, is_online, pool_slice, slice_of, spare_slot}
+use Rattle.draid_slots.specs.Reading.{holder, holder_of, is_online, pool_slice, spare_slot}
+use Rattle.draid_spec.specs.Geometry.{slice_at}
 use Rattle.draid_slots.specs.Table as table
 use Rattle.draid_slots.specs.Table.{SlotTable, arm_at, arms_of, is_leaf_kind, is_spare_kind}
 use Rattle.draid_shard.specs.Part.{IsPart, IsRun, Part, layout_in}
 use Rattle.draid_shard.specs.Rows.{AreApart, IsRowsOf, answers_on, arm_no, leaf_on, name_on}
-use Rattle.draid_slots.specs.States.{HasSlots, arm_in, name_of, named}
+use Rattle.draid_slots.specs.States.{HasSlots, arm_in, name_of}
 use Rattle.draid_shard.specs.declared.places.ColumnRows.{ColumnRows}
 use Rattle.draid_shard.proofs.Holders.{holder_there}
 use Rattle.draid_shard.proofs.Homes.{has_column, lays, same_group, slice_follows}
@@ -111,7 +112,7 @@ module _ (part : Part) (is : IsPart part) (slots : SlotTable) (of : IsOf slots p
   module _ (pointer : Pointer) (run : IsRun part.geometry pointer.first pointer.stripes) (c : ℕ) (column : c < part.geometry.g) (rows : ColumnRows) (rows_are : IsRowsOf part pointer c rows) where
     slice_path : slice_in part.geometry part.number pointer.first ≡ pool_slice slots rows.slice
     slice_path =
-        let local : slice_of part.geometry ((layout_in part).sector_of pointer.first c) ≡ rows.slice = ap (slice_of part.geometry) (sym rows_are.first_is) ∙ sym rows_are.slice_is in
+        let local : slice_at part.geometry ((layout_in part).sector_of pointer.first c) ≡ rows.slice = ap (slice_at part.geometry) (sym rows_are.first_is) ∙ sym rows_are.slice_is in
         sym (slice_follows part is pointer.first c column) ∙ (λ i. sym of.metaslab_is i * (sym of.geometry_is i).props.slices + local i)
 
     -- a spare's home is the slot to which its chain leads

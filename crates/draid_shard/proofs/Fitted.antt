@@ -3,10 +3,9 @@ use Rattle.std.proofs.Common.{◌≡◌, ◌+◌, ◌<◌, ◌≤◌, ◌^◌, �
 use Rattle.draid_names.specs.declared.numbers.TheConstants.{LAST_NUMBER}
 use Rattle.draid_names.specs.declared.pointer.Pointer.{Pointer}
 use Rattle.draid_spec.specs.declared.layout.Geometry.{Geometry}
-use Rattle.draid_spec.specs.Geometry.{metaslab_sectors}
+use Rattle.draid_spec.specs.Geometry.{metaslab_sectors, slice_at}
 use Rattle.draid_rack.specs.Rack.{Shape}
 use Rattle.draid_slots.specs.Changes.{IsOf}
-use Rattle.draid_slots.specs.Reading.{slice_of}
 use Rattle.draid_slots.specs.Table.{SlotTable}
 use Rattle.draid_shard.specs.Fits.{AreGroups, HasLeaves, birth_groups, oldest_open}
 use Rattle.draid_shard.specs.Part.{IsPart, IsRun, Part}
@@ -19,7 +18,7 @@ pub fits_rows : (part : Part) (is : IsPart part) (slots : SlotTable) (of : IsOf 
 fits_rows part is slots of shape pointer run c column rows rows_are leaves = record {
   leaves = subst (λ (geometry : Geometry). HasLeaves shape geometry slots) same leaves;
   size_is = rows_are.size_is ∙ ap (λ (geometry : Geometry). geometry.props.sector) same;
-  slice_is = rows_are.slice_is ∙ ap (λ (geometry : Geometry). slice_of geometry rows.first) same;
+  slice_is = rows_are.slice_is ∙ ap (λ (geometry : Geometry). slice_at geometry rows.first) same;
   some = (let some = run.some in let count = rows_are.count_is in omega (arith, some, count));
   inside = subst (λ (geometry : Geometry). rows.first + rows.count ≤ metaslab_sectors geometry) same inside;
   low = subst (λ (geometry : Geometry). metaslab_sectors geometry < 2 ^ 64) same (few_sectors part is);

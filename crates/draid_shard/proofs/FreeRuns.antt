@@ -14,7 +14,7 @@ use Rattle.draid_metaslab.specs.Spots.{IsLargest, IsSpot}
 use Rattle.draid_machine.specs.declared.names.Key.{Key}
 use Rattle.draid_machine.specs.declared.names.Held.{Held}
 use Rattle.draid_machine.specs.State as machine
-use Rattle.draid_machine.specs.Step.{Fits, HoldsFewer, IsEnabled, IsTaken}
+use Rattle.draid_machine.specs.Step.{Fits, HoldsFewer, IsEnabled, IsTaken, IsLongest}
 use Rattle.draid_machine.proofs.Small.{none_some, some_injective}
 use Rattle.draid_pass.specs.declared.pass.Pass.{Pass}
 use Rattle.draid_slots.specs.Table.{SlotTable}
@@ -25,7 +25,7 @@ use Rattle.draid_entries.proofs.Counted.{few, few_back}
 use Rattle.draid_shard.specs.declared.shard.Shard.{Shard}
 use Rattle.draid_shard.specs.declared.fault.Shut.{Shut}
 use Rattle.draid_shard.specs.declared.fault.Shut.TheVariants.{Disabled, Full, Worn}
-use Rattle.draid_shard.specs.Rooms.{IsLongest, ShutBy, TakesBlocks}
+use Rattle.draid_shard.specs.Rooms.{ShutBy, TakesBlocks}
 use Rattle.draid_shard.specs.Fits.{Tables, is_rebuild}
 use Rattle.draid_shard.specs.States.{IsIn}
 use Rattle.draid_slots.specs.States.{pass_in}

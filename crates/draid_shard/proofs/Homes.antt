@@ -1,7 +1,7 @@
 -- Where the columns of a metaslab have their places.
 use Rattle.std.proofs.Common.{◌≡◌, ◌+◌, ◌-◌, ◌*◌, ◌/◌, ◌%◌, ◌<◌, ◌≤◌, ◌^◌, ◌∙◌, ℕ, refl, sym, ap, subst, arith, add_comm, mul_comm}
 use Rattle.std.proofs.Math.Nat.{add-mul-div_left, mod-lt, mul-le-mul_right}
-use Rattle.draid_spec.specs.Geometry.{IsGeometry, metaslab_sectors, metaslab_stripes, pool_stripes}
+use Rattle.draid_spec.specs.Geometry.{IsGeometry, metaslab_sectors, metaslab_stripes, pool_stripes, slice_at}
 use Rattle.draid_map.specs.declared.sectors.Place.{Place}
 use Rattle.draid_map.specs.Place.{place_of}
 use Rattle.draid_map.proofs.Apart.{has_some}
@@ -12,7 +12,6 @@ use Rattle.draid_chain.specs.Used.{HasColumn}
 use Rattle.draid_machine.specs.State as machine
 use Rattle.draid_layouts.specs.Layout.{pool_stripe, slice_in}
 use Rattle.draid_layouts.proofs.Layouts.{layout_is}
-use Rattle.draid_slots.specs.Reading.{slice_of}
 use Rattle.draid_shard.specs.Part.{IsPart, IsRun, Part, layout_in}
 
 module _ (part : Part) (is : IsPart part) where
@@ -47,13 +46,13 @@ module _ (part : Part) (is : IsPart part) where
       positive a b x y = grind arith
 
   -- a column's slice in the pool is that of its sector in the metaslab, counted on
-  pub slice_follows : (x c : ℕ) → c < part.geometry.g → part.number * part.geometry.props.slices + slice_of part.geometry ((layout_in part).sector_of x c) ≡ slice_in part.geometry part.number x
+  pub slice_follows : (x c : ℕ) → c < part.geometry.g → part.number * part.geometry.props.slices + slice_at part.geometry ((layout_in part).sector_of x c) ≡ slice_in part.geometry part.number x
   slice_follows x c column =
       let low = sector_from x c column in
       let local : ℕ = (layout_in part).sector_of x c in
       let wide : part.number * metaslab_sectors part.geometry ≡ part.geometry.rows * part.geometry.props.height * (part.number * part.geometry.props.slices) = grind arith in
       let sum : (place_of part.geometry part.perms (pool_stripe part.geometry part.number x) c).sector ≡ local + part.geometry.rows * part.geometry.props.height * (part.number * part.geometry.props.slices) = omega (arith, low, wide) in
-      add_comm (part.number * part.geometry.props.slices) (slice_of part.geometry local)
+      add_comm (part.number * part.geometry.props.slices) (slice_at part.geometry local)
       ∙ sym (add-mul-div_left local (part.number * part.geometry.props.slices) some_band)
       ∙ ap (λ n. n / (part.geometry.rows * part.geometry.props.height)) (sym sum)
       ∙ place_slice part.geometry part.perms (pool_stripe part.geometry part.number x) c geometry_is column
@@ -88,7 +87,7 @@ module _ (part : Part) (is : IsPart part) where
       omega (arith, last, is_row, some)
 
   -- and in one of its slices
-  pub slice_below : (sector : ℕ) → sector < metaslab_sectors part.geometry → slice_of part.geometry sector < part.geometry.props.slices
+  pub slice_below : (sector : ℕ) → sector < metaslab_sectors part.geometry → slice_at part.geometry sector < part.geometry.props.slices
   slice_below sector less =
       let some = has_some part.geometry geometry_is in
       let shape : metaslab_sectors part.geometry ≡ part.geometry.props.slices * part.geometry.rows * part.geometry.props.height = refl in

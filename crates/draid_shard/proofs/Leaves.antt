@@ -11,7 +11,8 @@ use Rattle.draid_machine.proofs.Small.{absurd_test, both_true, either_true, is_e
 use Rattle.draid_slots.specs.declared.slot.Detached.{Detached}
 use Rattle.draid_slots.specs.Table.{IsArmOf, SlotTable, arm_at, is_leaf_kind, is_leaving}
 use Rattle.draid_shard.specs.Fits.{IsLeaf}
-use Rattle.draid_slots.specs.States.{HasSlots, arm_in, named}
+use Rattle.draid_slots.specs.States.{HasSlots, arm_in}
+use Rattle.draid_machine.specs.Names.{named}
 
 leaf_kind : (k : ArmKind) → is_leaf_kind k ≡ true → k ≡ kind.Leaf
 leaf_kind kind.Leaf is = refl

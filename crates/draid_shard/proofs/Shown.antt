@@ -8,13 +8,13 @@ use Rattle.draid_names.specs.declared.arm.ArmAt.{ArmAt}
 use Rattle.draid_names.specs.declared.arm.ArmKind.TheVariants as kind
 use Rattle.draid_rack.specs.declared.Rack.{Ghosts}
 use Rattle.draid_machine.specs.declared.names.ArmName.{ArmName}
-use Rattle.draid_machine.specs.Names.{has_name, name_eq}
+use Rattle.draid_machine.specs.Names.{has_name, name_eq, named}
 use Rattle.draid_machine.specs.State as machine
 use Rattle.draid_machine.proofs.Small.{absurd_test, bool_cases, name_refl, name_true, some_same, true_left, true_right}
 use Rattle.draid_entries.specs.Entries.{held_in}
 use Rattle.draid_slots.specs.declared.slot.Detached.{Detached}
 use Rattle.draid_slots.specs.Table.{SlotTable, arm_at, arms_of}
-use Rattle.draid_slots.specs.States.{HasArm, HasSlots, IsGone, WasArm, arm_in, name_of, named, pass_in}
+use Rattle.draid_slots.specs.States.{HasArm, HasSlots, IsGone, WasArm, arm_in, name_of, pass_in}
 use Rattle.draid_slots.proofs.Somewhere.{any_where}
 use Rattle.draid_shard.specs.declared.shard.Shard.{Shard}
 use Rattle.draid_shard.specs.Fits.{NamesOnce, Valid}

@@ -18,18 +18,3 @@ few_stripes geometry is = let low = low_stripes geometry is in omega (arith, low
 
 pub some_height : (geometry : Geometry) → IsGeometry geometry → 0 < geometry.props.height
 some_height geometry is = let least : 8 ≤ geometry.props.height = is.props.least_height in omega (arith, least)
-
--- the sectors of a band are some, and few
-pub low_band : (geometry : Geometry) → IsGeometry geometry → (rows height : ℕ) → rows ≡ geometry.rows → height ≡ geometry.props.height → rows * height < 2 ^ 64
-low_band geometry is rows height r h =
-    let few : rows ≤ 64 = (let a = is.slice.most_rows in let w = is.width in let d = is.disks in let c = is.spec.most_children in omega (arith, a, w, d, c, r)) in
-    let low : height ≤ 4096 = (let most = is.props.most_height in omega (arith, most, h)) in
-    let both : rows * height ≤ 64 * 4096 = mul-le-mul few low in
-    omega (arith, both)
-
-pub some_band : (geometry : Geometry) → IsGeometry geometry → (rows height : ℕ) → rows ≡ geometry.rows → height ≡ geometry.props.height → 0 < rows * height
-some_band geometry is rows height r h =
-    let some : 1 ≤ rows = (let a = is.slice.some_rows in omega (arith, a, r)) in
-    let tall : 1 ≤ height = (let a = is.props.least_height in omega (arith, a, h)) in
-    let both : 1 * 1 ≤ rows * height = mul-le-mul some tall in
-    omega (arith, both)

@@ -9,7 +9,7 @@ use Rattle.draid_names.specs.declared.arm.Arm.{Arm}
 use Rattle.draid_names.specs.declared.arm.ArmAt.{ArmAt}
 use Rattle.draid_names.specs.declared.pointer.Pointer.{Pointer}
 use Rattle.draid_spec.specs.declared.layout.Geometry.{Geometry}
-use Rattle.draid_spec.specs.Geometry.{metaslab_sectors}
+use Rattle.draid_spec.specs.Geometry.{metaslab_sectors, slice_at}
 use Rattle.draid_block.specs.Blocks.{column_len, cut_of}
 use Rattle.draid_block.specs.Columns.{Cut, stripes_of}
 use Rattle.draid_rack.specs.Rack.{Shape}
@@ -18,7 +18,6 @@ use Rattle.std.specs.List.{list_any}
 use Rattle.draid_perm.specs.declared.perms.Perms.{Perms}
 use Rattle.draid_slots.specs.declared.slot.Detached.{Detached}
 use Rattle.draid_slots.specs.Changes.{IsOf}
-use Rattle.draid_slots.specs.Reading.{slice_of}
 use Rattle.draid_shard.specs.Fits.{HasLeaves, IsLeaf, LogsHaveRoom, lacking}
 use Rattle.draid_shard.specs.declared.places.ColumnRows.{ColumnRows}
 
@@ -147,7 +146,7 @@ fits_left shape now old new rows birth same l fits =
     record {
       leaves = subst (λ (g : Geometry). HasLeaves now g new) geometry (leaves_left shape now old.geometry old new birth same l fits.leaves);
       size_is = fits.size_is ∙ ap (λ (g : Geometry). g.props.sector) geometry;
-      slice_is = fits.slice_is ∙ ap (λ (g : Geometry). slice_of g rows.first) geometry;
+      slice_is = fits.slice_is ∙ ap (λ (g : Geometry). slice_at g rows.first) geometry;
       some = fits.some;
       inside = subst (λ (g : Geometry). rows.first + rows.count ≤ metaslab_sectors g) geometry fits.inside;
       low = subst (λ (g : Geometry). metaslab_sectors g < 2 ^ 64) geometry fits.low;

@@ -1,6 +1,6 @@
 -- A shard that stood for a state stands for the one behind an event.
 use Rattle.std.proofs.Common.{◌≡◌, ◌++◌, [], ◌∷◌, List, Option, Some, None, refl, sym, subst}
-use Rattle.draid_rack.specs.Rack.{OnTold, Told}
+use Rattle.draid_rack.specs.Rack.{OnTold, Told, OnBothTold}
 use Rattle.draid_rack.specs.declared.Rack.{Ghosts}
 use Rattle.draid_machine.specs.declared.event.Event.{Event}
 use Rattle.draid_machine.specs.Created.{IsReached, created}
@@ -11,7 +11,7 @@ use Rattle.draid_segments.specs.Acts.{Acts, WritesPieces, pieces_after}
 use Rattle.draid_segments.specs.Segments.{Backed, Pieces}
 use Rattle.draid_segments.proofs.Whole.{event_backed}
 use Rattle.draid_shard.specs.declared.shard.Shard.{Shard}
-use Rattle.draid_shard.specs.Calls.{ActsOn, OnBothTold}
+use Rattle.draid_shard.specs.Calls.{ActsOn}
 use Rattle.draid_shard.specs.Part.{IsPart, Part, layout_in}
 use Rattle.draid_shard.specs.Stands.{StandsFor}
 use Rattle.draid_shard.specs.States.{Does, DoesNone, Leads, layout_by, part_of}

@@ -1,6 +1,6 @@
 -- What calls do to the devices of a shard, and what they leave of its reserve.
 use Rattle.std.specs.Prelude.{◌≡◌, ◌≤◌, ◌+◌, ◌-◌, ◌^◌, ◌==◌, ℕ, List, Option, Some, None, MatchOption, min, count_by}
-use Rattle.draid_rack.specs.Rack.{Told}
+use Rattle.draid_rack.specs.Rack.{Told, OnBothTold}
 use Rattle.draid_rack.specs.declared.Rack.{Ghosts}
 use Rattle.draid_machine.specs.declared.event.Event.{Event}
 use Rattle.draid_machine.specs.Created.{IsReached}
@@ -27,10 +27,6 @@ pub record SameKit {R A : Type 0} (old new : Shard R A) : Type 0 where
 pub record CountsFailed (failed : List ℕ) (old new : Option ℕ → ℕ) : Type 0 where
   pub later : (who : Option ℕ) → old who ≤ new who
   pub cause : (leaf : ℕ) → min (old (Some leaf) + count_by (λ l. l == leaf) failed) (2 ^ 64 - 1) ≤ new (Some leaf)
-
--- before and after: what is told stays told, and the two are so
-abbrev pub OnBothTold : Option Told → Option Told → (Told → Told → Type 0) → Type 0
-OnBothTold old new P = MatchOption old (new ≡ None) (λ x. MatchOption new ⊥ (λ y. P x y))
 
 -- The rack did what the call of an event does to it, in each state for which the shard stood. These are the pieces that the call writes.
 abbrev pub ActsOn : {R A : Type 0} → Ghosts R → Shard R A → Shard R A → Event → Pieces → Type 0

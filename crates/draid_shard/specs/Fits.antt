@@ -24,7 +24,8 @@ use Rattle.draid_entries.specs.declared.entry.Entry.{Entry}
 use Rattle.draid_entries.specs.declared.entries.Entries.{Entries}
 use Rattle.draid_entries.specs.Entries.{count_of, entry_at, owed_by}
 use Rattle.draid_entries.specs.History.{owed_of, reserved_of}
-use Rattle.draid_slots.specs.States.{HoldsPass, name_of, named}
+use Rattle.draid_slots.specs.States.{HoldsPass, name_of}
+use Rattle.draid_machine.specs.Names.{named}
 use Rattle.draid_shard.specs.Part.{IsPart, IsRun}
 use Rattle.draid_shard.specs.States.{part_of}
 

@@ -2,7 +2,7 @@
 use Rattle.std.specs.Prelude.{◌≡◌, ◌<◌, ◌≤◌, ◌+◌, ◌⊎◌, ℕ, Option, Some, None}
 use Rattle.draid_names.specs.Numbers.{most_held}
 use Rattle.draid_machine.specs.State as machine
-use Rattle.draid_machine.specs.Step.{Fits, HoldsFewer, IsEnabled}
+use Rattle.draid_machine.specs.Step.{Fits, HoldsFewer, IsEnabled, IsLongest}
 use Rattle.draid_entries.specs.History.{Passes, left_for_groups}
 use Rattle.draid_shard.specs.States.{layout_by}
 use Rattle.draid_shard.specs.declared.fault.Shut.{Shut}
@@ -29,11 +29,6 @@ ShutBy shard w None = TakesBlocks shard w
 ShutBy shard w (Some Disabled) = IsEnabled w.core → ⊥
 ShutBy shard w (Some Full) = IsEnabled w.core × (HoldsFewer w.core (most_held w.version) → ⊥)
 ShutBy shard w (Some Worn) = IsEnabled w.core × HoldsFewer w.core (most_held w.version) × IsWornFor shard (block_events shard)
-
--- the longest run of free stripes within one parity group
-pub record IsLongest (l : machine.Layout) (q : machine.Core) (run : ℕ) : Type 0 where
-  pub fits : (run ≡ 0) ⊎ ((first : ℕ) × Fits l q first run)
-  pub longest : (first stripes : ℕ) → 0 < stripes → Fits l q first stripes → stripes ≤ run
 
 -- the run that a room tells: the longest one, and none where the metaslab takes no block
 abbrev pub IsRoom : {R A : Type 0} → Shard R A → machine.State → ℕ → Type 0

@@ -4,12 +4,12 @@ use Rattle.draid_names.specs.declared.arm.Arm.{Arm}
 use Rattle.draid_names.specs.declared.arm.ArmAt.{ArmAt}
 use Rattle.draid_names.specs.declared.arm.ArmKind.TheVariants.{Spare}
 use Rattle.draid_names.specs.declared.pointer.Pointer.{Pointer}
-use Rattle.draid_spec.specs.Geometry.{metaslab_sectors}
+use Rattle.draid_spec.specs.Geometry.{metaslab_sectors, slice_at}
 use Rattle.draid_rack.specs.Rack.{Shape}
 use Rattle.draid_columns.specs.declared.rows.Rows.{Rows}
 use Rattle.draid_machine.specs.declared.names.ArmName.{ArmName}
 use Rattle.draid_slots.specs.Changes.{IsSame}
-use Rattle.draid_slots.specs.Reading.{IsNone, IsRead, answers, answers_in, holder, slice_of}
+use Rattle.draid_slots.specs.Reading.{IsNone, IsRead, answers, answers_in, holder}
 use Rattle.draid_slots.specs.Table.{IsThere, SlotTable, arm_at, arms_of, is_at, is_logged, room_at}
 use Rattle.draid_slots.specs.declared.slot.ReadArm.{ReadArm}
 use Rattle.draid_shard.specs.Fits.{HasLeaves}
@@ -24,7 +24,7 @@ pub record IsRowsOf (part : Part) (pointer : Pointer) (column : ℕ) (rows : Col
   pub count_is : rows.count ≡ pointer.stripes
   pub size_is : rows.size ≡ part.geometry.props.sector
   pub birth_is : rows.birth ≡ pointer.birth
-  pub slice_is : rows.slice ≡ slice_of part.geometry rows.first
+  pub slice_is : rows.slice ≡ slice_at part.geometry rows.first
 
 -- the rows of a column on a leaf
 abbrev pub rows_on : ColumnRows → ℕ → Rows
@@ -34,7 +34,7 @@ rows_on rows leaf = record { leaf = leaf; first = rows.first; count = rows.count
 pub record FitsRows (shape : Shape) (slots : SlotTable) (rows : ColumnRows) : Type 0 where
   pub leaves : HasLeaves shape slots.geometry slots
   pub size_is : rows.size ≡ slots.geometry.props.sector
-  pub slice_is : rows.slice ≡ slice_of slots.geometry rows.first
+  pub slice_is : rows.slice ≡ slice_at slots.geometry rows.first
   pub some : 0 < rows.count
   pub inside : rows.first + rows.count ≤ metaslab_sectors slots.geometry
   pub low : metaslab_sectors slots.geometry < 2 ^ 64

@@ -82,10 +82,9 @@ impl<R: Rack, A: Area> Shard<R, A> {
             pointer.first,
             column,
         );
-        let band = u64::from(self.geometry.rows) * u64::from(self.geometry.props.height);
         ColumnRows {
             slot: place.child,
-            slice: place.sector / band,
+            slice: place.sector / self.geometry.slice_sectors(),
             first: place.sector,
             count: u64::from(pointer.stripes),
             size: self.geometry.props.sector as usize,

@@ -7,6 +7,7 @@ ghost use Rattle.draid_machine.specs.Step.{HoldsFewer, IsEnabled};
 ghost use Rattle.draid_machine.specs.State as machine;
 ghost use Rattle.draid_shard.specs.Rooms.{IsRoom, ShutBy};
 ghost use Rattle.draid_shard.specs.Calls.{SameKit};
+ghost use Rattle.draid_shard.specs.Alike.{KeepsArms};
 ghost use Rattle.draid_shard.specs.Changes.{KeepsBlocks};
 ghost use Rattle.draid_shard.specs.Fits.{Valid, is_rebuild};
 ghost use Rattle.draid_shard.specs.States.{DoesNone, IsIn, stored_in};
@@ -106,6 +107,7 @@ impl<R: Rack, A: Area> Shard<R, A> {
         ensures kit { SameKit self.old self.new }
         ensures none { DoesNone self.old self.new }
         ensures keeps { KeepsBlocks self.old self.new }
+        ensures slots { KeepsArms self.old.slots self.new.slots }
         ensures answer { IsReserved self.old.history events result }
         ensures reserved { OnOk result (reserved_of self.new.history ≡ max events (reserved_of self.old.history)) }
         ensures same { OnErr result (reserved_of self.new.history ≡ reserved_of self.old.history) }
@@ -121,6 +123,7 @@ impl<R: Rack, A: Area> Shard<R, A> {
         ensures kit { SameKit self.old self.new }
         ensures none { DoesNone self.old self.new }
         ensures keeps { KeepsBlocks self.old self.new }
+        ensures slots { KeepsArms self.old.slots self.new.slots }
         ensures answer { AskIs self.old.history events left_for_groups result }
         ensures asked { OnOk result (IsAsked self.new.history events) }
         ensures same { reserved_of self.new.history ≡ reserved_of self.old.history }

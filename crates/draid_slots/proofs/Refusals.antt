@@ -1,18 +1,18 @@
 -- What an attachment and a detachment need, from the tests that look for it.
-use Rattle.std.proofs.Common.{◌≡◌, ◌≢◌, ℕ, zero, suc, ◌<◌, true, false, List, [], ◌∷◌, map, length, get_or, arith, refl, ap, sym, ◌∙◌, inl, inr, Some}
+use Rattle.std.proofs.Common.{◌≡◌, ◌≢◌, ◌+◌, ◌^◌, ℕ, zero, suc, ◌<◌, Bool, true, false, if◌then◌else◌, List, [], ◌∷◌, map, length, get_or, arith, refl, ap, sym, ◌∙◌, inl, inr, Some}
 use Rattle.std.specs.Prelude.{remove, ◌⊎◌}
-use Rattle.std.proofs.lemmas.Bool.{false≢true}
+use Rattle.std.proofs.lemmas.Bool.{cases_lt, false≢true}
 use Rattle.std.proofs.lemmas.List.Edits.{length-remove}
 use Rattle.draid_names.specs.declared.arm.Arm.{Arm}
 use Rattle.draid_names.specs.declared.arm.ArmAt.{ArmAt}
 use Rattle.draid_names.specs.declared.arm.ArmKind.{ArmKind}
 use Rattle.draid_names.specs.declared.arm.ArmKind.TheVariants.{Leaf, Spare}
 use Rattle.draid_perm.specs.declared.perms.Perms.{Perms}
-use Rattle.draid_ranges.specs.Numbers.{Numbers}
+use Rattle.draid_ranges.specs.Numbers.{Numbers, count_below, has}
 use Rattle.draid_spec.specs.declared.layout.Geometry.{Geometry}
 use Rattle.draid_slots.specs.declared.slot.Detached.{Detached}
 use Rattle.draid_slots.specs.declared.slot.Slot.{Slot}
-use Rattle.draid_slots.specs.Faults.{IsIdle, IsKnown, IsLeastCount, IsLeastLogged}
+use Rattle.draid_slots.specs.Faults.{HasWhole, IsIdle, IsKnown, IsLeastCount, IsLeastLogged}
 use Rattle.draid_slots.specs.Table.{SlotTable, arms_in, count_of, has_leaf, holds_spare, is_leaf, is_leaf_kind, is_spare_kind, logs_in, no_log, table_of}
 use Rattle.draid_slots.proofs.Tables.{IsPlace}
 
@@ -59,3 +59,37 @@ least_logged geometry perms metaslab slots detached next places at slot logs gro
           let count = ap (λ ls. count_of (get_or ls other no_log)) found in
           omega arith;
     }
+
+-- where none is counted and none is higher, none is there
+pub none_below : (f : ℕ → Bool) (n : ℕ) → count_below f n ≡ 0 → (x : ℕ) → x < n → f x ≡ false
+unfolding count_below
+none_below f zero none x less = absurd (omega (arith, less))
+none_below f (suc n) none x less = by (f n) refl (λ rest low. none_below f n rest x low)
+  where
+    by : (b : Bool) → f n ≡ b → (count_below f n ≡ 0 → x < n → f x ≡ false) → f x ≡ false
+    by true is before = (let z : count_below f n + 1 ≡ 0 = ap (λ (t : Bool). count_below f n + (if t then 1 else 0)) (sym is) ∙ none in absurd (omega (arith, z)))
+    by false is before = (
+        let z : count_below f n + 0 ≡ 0 = ap (λ (t : Bool). count_below f n + (if t then 1 else 0)) (sym is) ∙ none in
+        let rest : count_below f n ≡ 0 = omega (arith, z) in
+        elim (cases_lt x n) [
+          | inl low ↦ before rest low
+          | inr past ↦ let e : x ≡ n = omega (arith, less, past) in ap f e ∙ is
+        ])
+
+pub whole_beside : (geometry : Geometry) (perms : Perms) (metaslab : ℕ) (slots : List Slot) (detached : List Detached) (next : List ℕ) (places : ℕ) (at : ArmAt) (slot : Slot) (logs : List Numbers)
+    → IsPlace slots at slot → logs ≡ logs_in slot → IsLeastCount logs at.arm (length logs) 0 → HasWhole (table_of geometry perms metaslab slots detached next places) at
+whole_beside geometry perms metaslab slots detached next places at slot logs place are is =
+    let same : length logs ≡ length (arms_in slot) = (let paired = place.paired in ap length are ∙ paired.same) in
+    let arms = ap length place.arms_are in
+    let found : get_or (map logs_in slots) at.slot [] ≡ logs = place.logs_are ∙ sym are in
+    let some = is.one in (
+      some.0,
+      (some.1, (let below = some.2 in omega arith)),
+      λ group. ap (λ ls. has (get_or ls some.0 no_log) group) found ∙ none_at group,
+    )
+  where
+    none_at : (group : ℕ) → has (get_or logs is.one.0 no_log) group ≡ false
+    none_at group = elim (cases_lt group (2 ^ 48)) [
+      | inl less ↦ none_below (has (get_or logs is.one.0 no_log)) (2 ^ 48) is.one.3 group less
+      | inr past ↦ is.low is.one.0 group is.one.1 is.one.2 past
+    ]

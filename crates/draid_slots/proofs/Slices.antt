@@ -2,12 +2,12 @@
 use Rattle.std.proofs.Common.{◌≡◌, ℕ, ◌+◌, ◌*◌, ◌/◌, ◌<◌, ◌≤◌, ap, ◌∙◌, arith}
 use Rattle.std.proofs.Math.Nat.{add_comm, add-mul-div_right, mul-le-mul}
 use Rattle.draid_chain.specs.Chain.{holder_in, holder_of}
-use Rattle.draid_spec.specs.Geometry.{IsGeometry, metaslab_sectors}
-use Rattle.draid_slots.specs.Reading.{slice_of, spare_slot}
+use Rattle.draid_spec.specs.Geometry.{IsGeometry, metaslab_sectors, slice_at}
+use Rattle.draid_slots.specs.Reading.{spare_slot}
 use Rattle.draid_slots.specs.Table.{SlotTable, first_spares}
 
 pub layout_slot : (table : SlotTable) (slot spare sector : ℕ) → IsGeometry table.geometry → sector < metaslab_sectors table.geometry
-    → holder_of table.geometry table.perms (first_spares table) slot spare (table.metaslab * metaslab_sectors table.geometry + sector) ≡ spare_slot table slot spare (slice_of table.geometry sector)
+    → holder_of table.geometry table.perms (first_spares table) slot spare (table.metaslab * metaslab_sectors table.geometry + sector) ≡ spare_slot table slot spare (slice_at table.geometry sector)
 layout_slot table slot spare sector is below =
     let d = table.geometry.rows * table.geometry.props.height in
     let rows = is.slice.some_rows in

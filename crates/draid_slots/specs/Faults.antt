@@ -1,10 +1,10 @@
-use Rattle.std.specs.Prelude.{◌≡◌, ◌≢◌, ◌<◌, ◌≤◌, ◌⊎◌, ℕ, true, false, List, length, remove, slice_index_or}
+use Rattle.std.specs.Prelude.{◌≡◌, ◌≢◌, ◌<◌, ◌≤◌, ◌^◌, ◌⊎◌, ℕ, true, false, List, length, remove, slice_index_or}
 use Rattle.draid_names.specs.declared.arm.Arm.{Arm}
 use Rattle.draid_names.specs.declared.arm.ArmAt.{ArmAt}
 use Rattle.draid_names.specs.declared.refusal.SlotFault.{SlotFault}
 use Rattle.draid_names.specs.declared.refusal.SlotFault.TheVariants.{NoSuch, SpareBusy, LogNotEmpty, LastArm, PassRunning, TooSmall, Full, Last}
-use Rattle.draid_ranges.specs.Numbers.{Numbers}
-use Rattle.draid_slots.specs.Table.{SlotTable, IsThere, arms_of, count_at, count_of, no_log, has_leaf, holds_spare, is_spare_kind}
+use Rattle.draid_ranges.specs.Numbers.{Numbers, has}
+use Rattle.draid_slots.specs.Table.{SlotTable, IsThere, arms_of, count_at, count_of, no_log, has_leaf, holds_spare, is_logged, is_spare_kind}
 
 -- ---- attaching
 
@@ -58,11 +58,15 @@ pub record IsLeastLogged (table : SlotTable) (at : ArmAt) (groups : ℕ) : Type 
   pub one : (other : ℕ) × IsBeside table at other × (count_at table (record { slot = at.slot; arm = other }) ≡ groups)
   pub least : (other : ℕ) → IsBeside table at other → groups ≤ count_at table (record { slot = at.slot; arm = other })
 
+-- another arm of the slot missed nothing at all
+abbrev pub HasWhole : SlotTable → ArmAt → Type 0
+HasWhole table at = (other : ℕ) × IsBeside table at other × ((group : ℕ) → is_logged table (record { slot = at.slot; arm = other }) group ≡ false)
+
 -- what a detachment needs
 pub record MayDetach (table : SlotTable) (at : ArmAt) : Type 0 where
   pub there : IsThere table at
   pub leaf_beside : HasLeafBeside table at
-  pub missed_none : IsLeastLogged table at 0
+  pub missed_none : HasWhole table at
 
 -- the first of these that is broken, with its values
 abbrev pub IsDetachRefused : SlotTable → ArmAt → SlotFault → Type 0
@@ -76,7 +80,8 @@ IsDetachRefused table at (PassRunning metaslab number) = ⊥
 IsDetachRefused table at (TooSmall need have) = ⊥
 IsDetachRefused table at Last = ⊥
 
--- the least number of groups in a log before a bound and beside the one at a place
+-- the least number of groups in a log before a bound and beside the one at a place: a log has no groups but those that are counted
 pub record IsLeastCount (logs : List Numbers) (at bound groups : ℕ) : Type 0 where
   pub one : (other : ℕ) × (other ≢ at) × (other < bound) × (count_of (slice_index_or logs other no_log) ≡ groups)
   pub least : (other : ℕ) → other ≢ at → other < bound → groups ≤ count_of (slice_index_or logs other no_log)
+  pub low : (other group : ℕ) → other ≢ at → other < bound → 2 ^ 48 ≤ group → has (slice_index_or logs other no_log) group ≡ false

@@ -8,10 +8,6 @@ use Rattle.draid_slots.specs.Table.{SlotTable, arm_at, arms_of, first_spares, is
 
 -- Slices and sectors are those of the metaslab, counted from 0.
 
--- the slice of a sector
-abbrev pub slice_of : Geometry → ℕ → ℕ
-slice_of geometry sector = sector / (geometry.rows * geometry.props.height)
-
 -- the same slice, counted through the pool
 abbrev pub pool_slice : SlotTable → ℕ → ℕ
 pool_slice table slice = table.metaslab * table.geometry.props.slices + slice

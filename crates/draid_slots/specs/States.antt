@@ -1,5 +1,7 @@
 -- The arms of the slots and the pass, as a state of the metaslab has them.
 use Rattle.std.specs.Prelude.{◌≡◌, ◌==◌, ◌≢◌, ◌<◌, ◌≤◌, ◌+◌, ◌⊎◌, ⊤, ℕ, List, [], ◌∷◌, Option, Some, None, All, Contains, length, map, if◌then◌else◌}
+use Rattle.draid_machine.specs.Names.{named}
+use Rattle.draid_names.specs.Arms.{least_arm, least_slot}
 use Rattle.draid_names.specs.declared.arm.Arm.{Arm}
 use Rattle.draid_names.specs.declared.arm.ArmAt.{ArmAt}
 use Rattle.draid_names.specs.declared.arm.ArmKind.{ArmKind}
@@ -12,10 +14,6 @@ use Rattle.draid_machine.specs.declared.names.ArmName.TheVariants.{Leaf, Spare}
 use Rattle.draid_machine.specs.State as machine
 
 -- an arm by what it is
-abbrev pub named : ArmKind → ℕ → ArmName
-named kind.Leaf number = Leaf number
-named kind.Spare number = Spare number
-
 abbrev pub name_of : Arm → ArmName
 name_of arm = named arm.kind arm.number
 
@@ -67,15 +65,6 @@ pass_in slots p = record {
   errors = p.errors;
   running = p.running;
 }
-
--- where the slot and the arm of a target begin behind the one before
-abbrev pub least_slot : Option ArmAt → ℕ
-least_slot None = 0
-least_slot (Some before) = before.slot
-
-abbrev pub least_arm : Option ArmAt → ℕ → ℕ
-least_arm None slot = 0
-least_arm (Some before) slot = if slot == before.slot then before.arm + 1 else 0
 
 -- places that ascend by slot and arm, behind one before
 abbrev pub AscendBehind : Option ArmAt → List ArmAt → Type 0

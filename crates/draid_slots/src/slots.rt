@@ -1,5 +1,5 @@
 ghost use Rattle.std.specs.Prelude.{◌≡◌, ◌≢◌, ◌==◌, ◌+◌, ◌-◌, ◌*◌, ◌<◌, ◌≤◌, ◌^◌, ◌||◌, ◌&&◌, ◌∷◌, ◌↔◌, [], ℕ, All, Some, None, IsTrue, true, false, map, filter, length, nat_lt, IfOk, IfErr, OnOk, OnErr, IfSome, IfNone, IsSomeAnd, slice_index_or, vec_len, vec_capacity};
-ghost use Rattle.draid_spec.specs.Geometry.{metaslab_sectors};
+ghost use Rattle.draid_spec.specs.Geometry.{metaslab_sectors, slice_at};
 ghost use Rattle.draid_map.specs.Place.{IsLayout};
 ghost use Rattle.draid_names.specs.declared.arm.Arm.{Arm};
 ghost use Rattle.draid_names.specs.declared.arm.ArmAt.{ArmAt};
@@ -12,7 +12,7 @@ ghost use Rattle.draid_names.specs.Spares.{AreUsed, IsArm};
 ghost use Rattle.draid_chain.specs.Chain.{holder_in};
 ghost use Rattle.draid_chain.specs.Used.{first_in};
 ghost use Rattle.draid_slots.specs.Moves.{ArePlaces, HasMoved, Lies, LiesElsewhere, ArmsWere, has_moved};
-ghost use Rattle.draid_slots.specs.Reading.{IsFirst, IsNone, IsRead, answers, answers_in, holder, is_clean_in, pool_slice, slice_of};
+ghost use Rattle.draid_slots.specs.Reading.{IsFirst, IsNone, IsRead, answers, answers_in, holder, is_clean_in, pool_slice};
 ghost use Rattle.draid_slots.specs.Table.{AreKept, AreSlots, IsArmOf, IsPaired, IsTable, IsThere, SlotTable, arm_at, arms_listed, arms_of, has_spare, holds_spare, is_leaving, is_leaving_online, is_logged, log_at, logs_listed, next_rooms, room_at, table_of};
 
 use crate::lists::{
@@ -171,11 +171,10 @@ impl Slots {
     pub fn place(&self, at: ArmAt, sector: u64) -> At
         requires there { IsThere self.now at }
         requires sector { sector < metaslab_sectors self.now.geometry }
-        ensures leaf { IsSomeAnd (holder self.now at (slice_of self.now.geometry sector)) (λ leaf. leaf.number ≡ result.leaf) }
+        ensures leaf { IsSomeAnd (holder self.now at (slice_at self.now.geometry sector)) (λ leaf. leaf.number ≡ result.leaf) }
         ensures sector { result.sector ≡ sector }
     {
-        let slice = sector
-            / (u64::from(self.geometry.rows) * u64::from(self.geometry.props.height));
+        let slice = sector / self.geometry.slice_sectors();
         At {
             leaf: self.holder(at, slice).number,
             sector,
@@ -536,7 +535,7 @@ impl Slots {
     }
 
     /// Ok where an arm may be attached to a slot.
-    fn may_attach(&self, slot: u32, arm: Arm) -> Result<(), SlotFault>
+    pub fn may_attach(&self, slot: u32, arm: Arm) -> Result<(), SlotFault>
         ensures allowed { OnOk result (MayAttach self.now slot arm) }
         ensures refused { IfErr result (IsAttachRefused self.now slot arm) }
     {

@@ -99,6 +99,14 @@ metaslab_stripes geometry = geometry.props.slices * geometry.ngroups * geometry.
 abbrev pub metaslab_sectors : Geometry → ℕ
 metaslab_sectors geometry = geometry.props.slices * geometry.rows * geometry.props.height
 
+-- the sectors that a slice has of each child: a height of them for each row
+abbrev pub slice_sectors : Geometry → ℕ
+slice_sectors geometry = geometry.rows * geometry.props.height
+
+-- the slice that a sector of a child lies in
+abbrev pub slice_at : Geometry → ℕ → ℕ
+slice_at geometry sector = sector / slice_sectors geometry
+
 -- the stripes of a pool, and the sectors of a child, over all metaslabs
 abbrev pub pool_stripes : Geometry → ℕ
 pool_stripes geometry = geometry.props.metaslabs * geometry.props.slices * geometry.ngroups * geometry.props.height

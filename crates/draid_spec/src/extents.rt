@@ -36,6 +36,15 @@ impl Geometry {
         slices * u64::from(self.rows) * u64::from(self.props.height)
     }
 
+    /// The sectors that a slice has of each child, at most 2^18.
+    pub fn slice_sectors(&self) -> u64
+        requires { IsGeometry self.now }
+        ensures value { result ≡ geometry.slice_sectors self.now }
+        ensures some { 0 < result }
+    {
+        u64::from(self.rows) * u64::from(self.props.height)
+    }
+
     /// The sectors of a child, over all metaslabs.
     pub fn child_sectors(&self) -> u64
         requires { IsGeometry self.now }

@@ -19,7 +19,8 @@ use Rattle.draid_record.specs.Ranges.{AreArms, AreSlots, IsArm, IsSlot}
 use Rattle.draid_record.specs.Record.{ArmTold, are_flags, has_arm, has_leaf, is_kind, limit_of, stands}
 use Rattle.draid_record.specs.Written.{code_of, flags_of}
 use Rattle.draid_stable.specs.Images.{none_told}
-use Rattle.draid_slots.specs.States.{name_of, named}
+use Rattle.draid_slots.specs.States.{name_of}
+use Rattle.draid_machine.specs.Names.{named}
 use Rattle.draid_stable.specs.Within.{ArmsFit, LogFits, LogsFit, TellsArms}
 use Rattle.draid_stable.proofs.Settled.{get_is}
 

@@ -10,7 +10,7 @@ use Rattle.draid_names.specs.declared.arm.Arm.{Arm}
 use Rattle.draid_names.specs.declared.arm.ArmKind.{ArmKind}
 use Rattle.draid_names.specs.declared.arm.ArmKind.TheVariants.{Leaf, Spare}
 use Rattle.draid_machine.proofs.Small.{both_true, name_refl, not_true, some_injective}
-use Rattle.draid_machine.specs.Names.{name_eq}
+use Rattle.draid_machine.specs.Names.{name_eq, named}
 use Rattle.draid_slots.specs.Table as table
 use Rattle.draid_record.specs.declared.limits.Limits.{Limits}
 use Rattle.draid_record.specs.Ranges.{AreArms, AreSlots, IsArm, IsSlot}
@@ -18,7 +18,6 @@ use Rattle.draid_record.specs.Record.{ArmTold, has_arm, has_leaf, is_kind, limit
 use Rattle.draid_record.specs.Written.{code_of}
 use Rattle.draid_stable.specs.Images.{all_arms, has_name, name_of}
 use Rattle.draid_stable.specs.Opening.{arms_told}
-use Rattle.draid_slots.specs.States.{named}
 
 -- ---- an arm of a kind and number
 

@@ -26,7 +26,6 @@ use Rattle.draid_slots.specs.States.{AscendBehind, HasArm, HasSlots, HoldsPass, 
 use Rattle.draid_slots.specs.States as slots
 use Rattle.draid_stable.proofs.Named.{found_in}
 use Rattle.draid_stable.proofs.Settled.{get_is}
-use Rattle.draid_stable.proofs.Targets.{arm_same, slot_same}
 
 -- ---- lists
 pub index_map : {X Y : Type 0} (f : X → Y) (xs : List X) (k : ℕ) (d : X) → slice_index_or (map f xs) k (f d) ≡ f (slice_index_or xs k d)
@@ -203,7 +202,7 @@ module _ (limits : Limits) (all : List (List ArmTold)) (ranged : AreSlots limits
       let arm = are.4 in
       let least = some_arms [] all at.slot ranged (omega (arith, slot, some)) in
       let same = ap length (arms_at at.slot) ∙ length-map (slice_index_or all at.slot []) first in
-      (one_more there_at at ats (omega (arith, arm, least, same)) rest.0, (subst (λ n. n ≤ at.slot) (slot_same before) are.0, subst (λ n. n ≤ at.arm) (arm_same before at.slot) are.3, rest.1))
+      (one_more there_at at ats (omega (arith, arm, least, same)) rest.0, (are.0, are.3, rest.1))
 
   some_slots : (slots : List (List ArmTold)) → 1 ≤ arm_count slots → 1 ≤ length slots
   some_slots [] some = absurd (omega (arith, some))

@@ -11,19 +11,11 @@ use Rattle.draid_record.specs.Ranges.{AreTargets, IsPass}
 use Rattle.draid_record.specs.Record as told
 use Rattle.draid_record.specs.Record.{ArmTold, PassTold, arm_count}
 use Rattle.draid_stable.specs.Sealing.{is_lost, lose_marked}
-use Rattle.draid_slots.specs.States.{AscendBehind, least_arm, least_slot}
+use Rattle.draid_slots.specs.States.{AscendBehind}
+use Rattle.draid_names.specs.Arms.{least_arm, least_slot}
 use Rattle.draid_stable.specs.Within.{PassFits}
 
 -- ---- places in order
-
--- a record's words for where a target begins say the same
-pub slot_same : (before : Option ArmAt) → told.least_slot before ≡ least_slot before
-slot_same None = refl
-slot_same (Some b) = refl
-
-pub arm_same : (before : Option ArmAt) (slot : ℕ) → told.least_arm before slot ≡ least_arm before slot
-arm_same None slot = refl
-arm_same (Some b) slot = refl
 
 least : (bs ba ts ta us ua : ℕ) → bs ≤ ts → (if ts == bs then ba + 1 else 0) ≤ ta → ts ≤ us → (if us == ts then ta + 1 else 0) ≤ ua → (if us == bs then ba + 1 else 0) ≤ ua
 least bs ba ts ta us ua p q r s = grind (arith, nat_tests)
@@ -86,10 +78,10 @@ module _ (all : List (List ArmTold)) (most : (slot : ℕ) → length (slice_inde
       let here : Here t = All-head Here t ts there in
       let inside = slot_inside t here in
       let m = most t.slot in (
-        subst (λ n. n ≤ t.slot) (sym (slot_same before)) asc.0,
+        asc.0,
         omega (arith, inside),
         omega (arith, inside, short),
-        subst (λ n. n ≤ t.arm) (sym (arm_same before t.slot)) asc.1,
+        asc.1,
         omega (arith, here),
         omega (arith, here, m),
         targets_ranged ts (Some t) (All-tail Here t ts there) asc.2,

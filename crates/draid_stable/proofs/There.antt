@@ -11,7 +11,7 @@ use Rattle.draid_names.specs.declared.arm.ArmKind.TheVariants as kind
 use Rattle.draid_rack.specs.Rack.{Shape}
 use Rattle.draid_machine.specs.declared.names.ArmName.{ArmName}
 use Rattle.draid_machine.specs.declared.names.ArmName.TheVariants.{Leaf}
-use Rattle.draid_machine.specs.Names.{has_name, name_eq}
+use Rattle.draid_machine.specs.Names.{has_name, name_eq, named}
 use Rattle.draid_machine.proofs.Small.{name_true, some_injective}
 use Rattle.draid_segments.specs.Acts.{IsNamed}
 use Rattle.draid_slots.specs.Table.{IsArmOf, SlotTable, arm_at, is_leaf, is_leaf_kind, is_leaf_of}
@@ -20,31 +20,31 @@ use Rattle.draid_record.specs.Record.{ArmTold, RecordTold, record_of}
 use Rattle.draid_record.specs.declared.fault.RecordFault.{RecordFault}
 use Rattle.draid_record.specs.declared.limits.Limits.{Limits}
 use Rattle.draid_stable.specs.Images.{image_by, name_of}
-use Rattle.draid_stable.specs.Opening.{arm_len, arms_len, arms_told, fitting, has_leaf, has_leaf_arm, is_lacking, lacking_from, lacking_in, once_in, opening_of, slots_at, there_in}
-use Rattle.draid_slots.specs.States.{named}
+use Rattle.draid_record.specs.declared.sizes.TheConstants.{SLOTS_AT}
+use Rattle.draid_stable.specs.Opening.{arm_len, arms_len, arms_told, fitting, has_leaf, has_leaf_arm, is_lacking, lacking_from, lacking_in, once_in, opening_of, there_in}
 use Rattle.draid_stable.proofs.Named.{any_got}
 use Rattle.draid_stable.proofs.Opened.{from_map, index_map, into_map}
 
 -- ---- what a record says that was read without a fault
 pub record Parts (limits : Limits) (there : ℕ → Bool) (bytes : List ℕ) (value : RecordTold) : Type 0 where
   pub read : record_of limits bytes ≡ Ok value
-  pub lacks : lacking_from there slots_at value.slots ≡ None
+  pub lacks : lacking_from there SLOTS_AT value.slots ≡ None
   pub once : first_twice value.blocks ≡ None
 
 pub whole_parts : (limits : Limits) (there : ℕ → Bool) (bytes : List ℕ) (value : RecordTold) → opening_of limits there bytes ≡ Ok value → Parts limits there bytes value
 whole_parts limits there bytes value is = by (record_of limits bytes) refl is
   where
-    once_by : (v : RecordTold) → record_of limits bytes ≡ Ok v → lacking_from there slots_at v.slots ≡ None → (o : Option ℕ) → first_twice v.blocks ≡ o → once_in bytes v o ≡ Ok value → Parts limits there bytes value
+    once_by : (v : RecordTold) → record_of limits bytes ≡ Ok v → lacking_from there SLOTS_AT v.slots ≡ None → (o : Option ℕ) → first_twice v.blocks ≡ o → once_in bytes v o ≡ Ok value → Parts limits there bytes value
     once_by v read lacks None once e = let same : v ≡ value = cc in subst (Parts limits there bytes) same (record { read = read; lacks = lacks; once = once })
     once_by v read lacks (Some k) once e = absurd (cc)
 
-    there_by : (v : RecordTold) → record_of limits bytes ≡ Ok v → (o : Option ℕ) → lacking_from there slots_at v.slots ≡ o → there_in bytes v o ≡ Ok value → Parts limits there bytes value
+    there_by : (v : RecordTold) → record_of limits bytes ≡ Ok v → (o : Option ℕ) → lacking_from there SLOTS_AT v.slots ≡ o → there_in bytes v o ≡ Ok value → Parts limits there bytes value
     there_by v read None lacks e = once_by v read lacks (first_twice v.blocks) refl e
     there_by v read (Some k) lacks e = absurd (cc)
 
     by : (r : Result RecordTold RecordFault) → record_of limits bytes ≡ r → fitting there bytes r ≡ Ok value → Parts limits there bytes value
     by (Err f) read e = absurd (cc)
-    by (Ok v) read e = there_by v read (lacking_from there slots_at v.slots) refl e
+    by (Ok v) read e = there_by v read (lacking_from there SLOTS_AT v.slots) refl e
 
 -- ---- each leaf arm is there
 both_none : {A : Type 0} (o p : Option A) → option_or o p ≡ None → (o ≡ None) × (p ≡ None)
@@ -133,7 +133,7 @@ named_leaf table value leaf arms is =
     any_in (is_leaf_of leaf) table.arms is.0 at.0 at.1.0 there (is_the_leaf leaf at.1.0 name.0 name.1)
 
 -- a leaf arm of the tables is in a rack of which the record lacks no leaf
-pub leaf_there : (table : SlotTable) (there : ℕ → Bool) (slots : List (List ArmTold)) (at : ArmAt) (arm : Arm) (leaf : ℕ) → table.arms ≡ arms_told slots → lacking_from there slots_at slots ≡ None
+pub leaf_there : (table : SlotTable) (there : ℕ → Bool) (slots : List (List ArmTold)) (at : ArmAt) (arm : Arm) (leaf : ℕ) → table.arms ≡ arms_told slots → lacking_from there SLOTS_AT slots ≡ None
     → arm_at table at ≡ Some arm → arm.kind ≡ kind.Leaf → arm.number ≡ leaf → there leaf ≡ true
 leaf_there table there slots at arm leaf arms lacks found k n =
     let first : ArmTold → Arm = λ told. told.0 in
@@ -141,7 +141,7 @@ leaf_there table there slots at arm leaf arms lacks found k n =
     ap (λ xs. slice_get xs at.arm) (sym (index_map (map first) slots at.slot [])) ∙ ap (λ (a : List (List Arm)). slice_get (slice_index_or a at.slot []) at.arm) (sym arms) ∙ found in
     let t = from_map first (slice_index_or slots at.slot []) at.arm arm here in
     let leaf_is : is_leaf t.0.0 ≡ true = ap is_leaf t.2 ∙ ap is_leaf_kind k in
-    ap there (sym n ∙ ap (λ (a : Arm). a.number) (sym t.2)) ∙ there_if there slots_at slots at.slot at.arm t.0 lacks t.1 leaf_is
+    ap there (sym n ∙ ap (λ (a : Arm). a.number) (sym t.2)) ∙ there_if there SLOTS_AT slots at.slot at.arm t.0 lacks t.1 leaf_is
 
 -- a leaf that is found among the arms is one
 pub found_leaf : (table : SlotTable) (leaf : ℕ) (o : Option ArmAt) → is_some o ≡ true → IfSome o (λ at. IsArmOf kind.Leaf leaf (arm_at table at)) → has_leaf_arm table leaf ≡ true

@@ -27,7 +27,8 @@ use Rattle.draid_record.specs.Ranges.{AreArms, AreSlots, IsRanged}
 use Rattle.draid_record.specs.Record.{ArmTold, RecordTold, Spelled, limits_of, record_of, told_arm, told_record, told_slot, told_slots}
 use Rattle.draid_record.proofs.Spelled.{spelled_ranged}
 use Rattle.draid_stable.specs.declared.opening.Tables.{Tables}
-use Rattle.draid_stable.specs.Opening.{AreTablesOf, IsSpaceOf, arms_told, fitting, lacking_from, once_in, opening_of, slots_at, there_in}
+use Rattle.draid_record.specs.declared.sizes.TheConstants.{SLOTS_AT}
+use Rattle.draid_stable.specs.Opening.{AreTablesOf, IsSpaceOf, arms_told, fitting, lacking_from, once_in, opening_of, there_in}
 use Rattle.draid_slots.specs.States.{HoldsPass, pass_in}
 use Rattle.draid_slots.proofs.Somewhere.{any_where}
 use Rattle.draid_stable.proofs.Named.{apart_slots, slots_are}
@@ -126,7 +127,7 @@ metaslab_slots geometry metaslab group next lists are children =
 
 -- ---- the whole
 
-pub found_whole : (limits : Limits) (there : ℕ → Bool) (bytes : List ℕ) (value : RecordTold) → record_of limits bytes ≡ Ok value → lacking_from there slots_at value.slots ≡ None → first_twice value.blocks ≡ None
+pub found_whole : (limits : Limits) (there : ℕ → Bool) (bytes : List ℕ) (value : RecordTold) → record_of limits bytes ≡ Ok value → lacking_from there SLOTS_AT value.slots ≡ None → first_twice value.blocks ≡ None
     → opening_of limits there bytes ≡ Ok value
 found_whole limits there bytes value found lacks once = ap (fitting there bytes) found ∙ ap (there_in bytes value) lacks ∙ ap (once_in bytes value) once
 

@@ -20,6 +20,7 @@ use Rattle.draid_machine.specs.State as machine
 use Rattle.draid_slots.specs.Changes.{HasRoom, IsOf}
 use Rattle.draid_slots.specs.Table.{SlotTable, is_leaf, is_leaf_of}
 use Rattle.draid_entries.specs.Live.{HasLive, first_twice}
+use Rattle.draid_record.specs.declared.sizes.TheConstants.{BLOCK_BYTES, SLOTS_AT}
 use Rattle.draid_record.specs.Ranges.{IsRanged}
 use Rattle.draid_record.specs.Record.{ArmTold, RecordTold, record_of}
 use Rattle.draid_record.specs.declared.fault.RecordFault.{RecordFault}
@@ -58,19 +59,15 @@ abbrev pub lacking_from : (ℕ → Bool) → ℕ → List (List ArmTold) → Opt
 lacking_from there place [] = None
 lacking_from there place (slot ∷ rest) = option_or (lacking_in there (place + 1) slot) (lacking_from there (place + 1 + arms_len slot) rest)
 
--- the slots stand behind the front, the metaslab, the group and the number of slots
-abbrev pub slots_at : ℕ
-slots_at = 22
-
 -- ---- blocks that stand twice
 
 -- the length that a record says at its front
 abbrev pub len_of : List ℕ → ℕ
 len_of bytes = big_number 4 (drop 6 bytes)
 
--- where the block at a place of the list stands: the blocks are the last of a record, and each has 72 bytes
+-- where the block at a place of the list stands: the blocks are the last of a record
 abbrev pub block_at : List ℕ → List Pointer → ℕ → ℕ
-block_at bytes blocks place = len_of bytes - 72 * (length blocks - place)
+block_at bytes blocks place = len_of bytes - BLOCK_BYTES * (length blocks - place)
 
 -- a list of blocks has one that stands twice, the first of which is at this place; else memory was wanting
 abbrev pub IsTwice : List ℕ → List Pointer → RecordFault → Type 0
@@ -90,7 +87,7 @@ there_in bytes value None = once_in bytes value (first_twice value.blocks)
 
 abbrev pub fitting : (ℕ → Bool) → List ℕ → Result RecordTold RecordFault → Result RecordTold RecordFault
 fitting there bytes (Err fault) = Err fault
-fitting there bytes (Ok value) = there_in bytes value (lacking_from there slots_at value.slots)
+fitting there bytes (Ok value) = there_in bytes value (lacking_from there SLOTS_AT value.slots)
 
 -- what bytes tell to a rack that has these leaves: a record, or its first fault
 abbrev pub opening_of : Limits → (ℕ → Bool) → List ℕ → Result RecordTold RecordFault

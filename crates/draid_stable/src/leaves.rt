@@ -1,16 +1,15 @@
 ghost use Rattle.std.specs.Prelude.{◌≡◌, ◌+◌, ◌<◌, ◌≤◌, ◌*◌, ◌^◌, not, ℕ, All, None, false, length, true};
 ghost use Rattle.draid_rack.specs.Moments.{LeavesTold};
 ghost use Rattle.draid_record.specs.Record.{told_slot, told_slots};
+ghost use Rattle.draid_record.specs.declared.sizes.TheConstants.{SLOTS_AT};
 ghost use Rattle.draid_stable.specs.Opening as spec;
 ghost use Rattle.draid_stable.specs.Opening.{KeepsCounts};
 
 use draid_dtl::Log;
 use draid_names::{Arm, ArmKind};
 use draid_rack::Rack;
+use draid_record::{SLOTS_AT, arm_len};
 use draid_slots::Slots;
-
-/// Where the slots of a record begin.
-const SLOTS_AT: u64 = 22;
 
 /// Whether the rack has a leaf with so many sectors.
 fn has_leaf<R: Rack>(rack: &R, sectors: u64, leaf: u64) -> bool
@@ -27,14 +26,6 @@ fn is_lacking<R: Rack>(rack: &R, sectors: u64, arm: &Arm) -> bool
     ensures { result ≡ spec.is_lacking (spec.has_leaf (R.shape rack.now) sectors) arm.now }
 {
     arm.kind == ArmKind::Leaf && !has_leaf(rack, sectors, arm.number)
-}
-
-/// The bytes of an arm in a record.
-fn arm_len(log: &Log) -> u64
-    requires { length log.now.runs < 2 ^ 32 }
-    ensures { result ≡ 14 + 16 * length log.now.runs }
-{
-    14 + 16 * log.runs().len() as u64
 }
 
 /// The bytes of the arms of a slot.
@@ -74,7 +65,7 @@ pub(crate) fn lacking<R: Rack>(rack: &R, sectors: u64, lists: &[Vec<(Arm, Log)>]
     requires count { length lists.now < 2 ^ 16 }
     requires few { All (λ list. length list.items ≤ 3) lists.now }
     requires short { All (λ list. All (λ pair. length pair.1.runs < 2 ^ 32) list.items) lists.now }
-    ensures { result ≡ spec.lacking_from (spec.has_leaf (R.shape rack.now) sectors) spec.slots_at (told_slots lists.now) }
+    ensures { result ≡ spec.lacking_from (spec.has_leaf (R.shape rack.now) sectors) SLOTS_AT (told_slots lists.now) }
 {
     let mut place = SLOTS_AT;
     for list in lists {

@@ -22,7 +22,7 @@ use draid_pass::Pass;
 use draid_perm::Perms;
 use draid_rack::Rack;
 use draid_ranges::Run;
-use draid_record::{RecordFault, length_of, read_record};
+use draid_record::{BLOCK_BYTES, RecordFault, length_of, read_record};
 use draid_slots::Slots;
 use draid_spec::Geometry;
 use std::alloc::Global;
@@ -106,7 +106,7 @@ fn entries_of(alloc: Global, bytes: &[u8], blocks: &[Pointer]) -> Result<Entries
         Ok(entries) => Ok(entries),
         Err(ListFault::NoMemory) => Err(RecordFault::NoMemory),
         Err(ListFault::Twice { place }) => {
-            let behind = 72 * blocks.len().saturating_sub(place) as u64;
+            let behind = BLOCK_BYTES * blocks.len().saturating_sub(place) as u64;
             Err(RecordFault::Bad {
                 at: length_of(bytes).saturating_sub(behind),
                 kind: 5,

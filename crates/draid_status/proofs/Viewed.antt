@@ -92,30 +92,30 @@ offline_same v u arms name a b first second at there here too =
 module _ {R A : Type 0} (rack : racks.Ghosts R) (area : areas.Ghosts A) (pool : Pool R A) (x : State) (is : Represents rack area pool x) where
   -- ---- the pool's shards
 
-  pub pool_shown : AreShown pool.shards.items (views_of x)
-  pool_shown = shown_from 0 pool.shards.items x.metaslabs is.stands.shards (λ k shard y a b. (is.stands.each k shard y a b).stands.is_in)
+  pub pool_shown : AreShown pool.metaslabs.shards.items (views_of x)
+  pool_shown = shown_from 0 pool.metaslabs.shards.items x.metaslabs is.stands.shards (λ k shard y a b. (is.stands.each k shard y a b).stands.is_in)
 
   pub same_arms : ShowSameArms (views_of x)
   same_arms = record {
     order = λ v u c d slot. (has v c).order slot ∙ sym ((has u d).order slot);
-    offline = λ v u c d name a b at there here too. offline_same v.world.core u.world.core is.stands.arms name a b ((has v c).now name) ((has u d).now name) at there here too;
+    offline = λ v u c d name a b at there here too. offline_same v.world.core u.world.core is.stands.shared.arms name a b ((has v c).now name) ((has u d).now name) at there here too;
   }
     where
-      has : (v : View) → Contains (views_of x) v → HasArms is.stands.arms v.world
+      has : (v : View) → Contains (views_of x) v → HasArms is.stands.shared v.world
       has v c =
           let z = found_at (views_of x) v c in
           let s = seen_of 0 z.0 x.metaslabs v z.1 in
-          subst (λ (w : machine.State). HasArms is.stands.arms w) (sym (ap (λ (u : View). u.world) s.2)) (is.stands.alike z.0 s.0 s.1).same
+          subst (λ (w : machine.State). HasArms is.stands.shared w) (sym (ap (λ (u : View). u.world) s.2)) (is.stands.alike z.0 s.0 s.1).same
 
   -- ---- blocks
 
-  module _ (m : ℕ) (shard : Shard R A) (y : Metaslab) (here : slice_get pool.shards.items m ≡ Some shard) (there : slice_get x.metaslabs m ≡ Some y) where
+  module _ (m : ℕ) (shard : Shard R A) (y : Metaslab) (here : slice_get pool.metaslabs.shards.items m ≡ Some shard) (there : slice_get x.metaslabs m ≡ Some y) where
     its : IsMetaslab rack area (part_in x m) (is.stands.pieces m) shard y
     its = is.stands.each m shard y here there
 
     -- a block to which the table points is live
-    live_of : (entry : Entry) (at : ℕ) → entry_at shard.entries at ≡ Some entry → get nat_eq pool.objects entry.pointer.object ≡ Some entry.pointer → BeginsBlock (view_of m y) at
-    live_of entry at found pointed = by (write_of x.store.changes entry.pointer.object) (subst (λ (o : Option Pointer). PointsTo pool.shards.items o (write_of x.store.changes entry.pointer.object)) pointed (is.stands.objects entry.pointer.object))
+    live_of : (entry : Entry) (at : ℕ) → entry_at shard.entries at ≡ Some entry → get nat_eq pool.own.objects entry.pointer.object ≡ Some entry.pointer → BeginsBlock (view_of m y) at
+    live_of entry at found pointed = by (write_of x.store.changes entry.pointer.object) (subst (λ (o : Option Pointer). PointsTo pool.metaslabs.shards.items o (write_of x.store.changes entry.pointer.object)) pointed (is.stands.objects entry.pointer.object))
       where
         first : entry.pointer.first ≡ at
         first = first_is shard.entries at entry found
@@ -123,9 +123,9 @@ module _ {R A : Type 0} (rack : racks.Ghosts R) (area : areas.Ghosts A) (pool : 
         named : entry.pointer.metaslab ≡ m
         named = its.valid.here.each at entry found ∙ ap (λ (p : Part). p.number) its.part_is
 
-        begun : (s : Shard R A) → slice_get pool.shards.items entry.pointer.metaslab ≡ Some s → entry_at s.entries entry.pointer.first ≡ Some (staged Live entry.pointer) → BeginsBlock (view_of m y) at
+        begun : (s : Shard R A) → slice_get pool.metaslabs.shards.items entry.pointer.metaslab ≡ Some s → entry_at s.entries entry.pointer.first ≡ Some (staged Live entry.pointer) → BeginsBlock (view_of m y) at
         begun s s_there live =
-            let same : s ≡ shard = some_injective s shard (sym s_there ∙ ap (slice_get pool.shards.items) named ∙ here) in
+            let same : s ≡ shard = some_injective s shard (sym s_there ∙ ap (slice_get pool.metaslabs.shards.items) named ∙ here) in
             let entered = subst (λ (t : Shard R A). entry_at t.entries entry.pointer.first ≡ Some (staged Live entry.pointer)) same live in
             record {
               key = key_of entry.pointer;
@@ -135,22 +135,22 @@ module _ {R A : Type 0} (rack : racks.Ghosts R) (area : areas.Ghosts A) (pool : 
               first = first;
             }
 
-        by : (o : Option Write) → PointsTo pool.shards.items (Some entry.pointer) o → BeginsBlock (view_of m y) at
+        by : (o : Option Write) → PointsTo pool.metaslabs.shards.items (Some entry.pointer) o → BeginsBlock (view_of m y) at
         by None points = absurd points
         by (Some write) points = begun points.shard points.there points.live
 
     -- and the table points to each that is live
-    pointed_of : (at : ℕ) → BeginsBlock (view_of m y) at → IsPointedAt pool.objects shard at
+    pointed_of : (at : ℕ) → BeginsBlock (view_of m y) at → IsPointedAt pool.own.objects shard at
     pointed_of at b = by (write_of x.store.changes b.key.object) last (is.stands.objects b.key.object)
       where
         last : IsLastAt m b.key (write_of x.store.changes b.key.object)
         last = is.only m b.key b.held (blocks_at x.metaslabs m y b.key there ∙ b.there) b.live
 
-        pointed : (write : Write) (pointer : Pointer) → IsLastAt m b.key (Some write) → get nat_eq pool.objects b.key.object ≡ Some pointer → IsPointerOf pool.shards.items pointer write → IsPointedAt pool.objects shard at
+        pointed : (write : Write) (pointer : Pointer) → IsLastAt m b.key (Some write) → get nat_eq pool.own.objects b.key.object ≡ Some pointer → IsPointerOf pool.metaslabs.shards.items pointer write → IsPointedAt pool.own.objects shard at
         pointed write pointer of got points =
             let named : pointer.metaslab ≡ m = points.metaslab_is ∙ of.0 in
             let key : key_of pointer ≡ b.key = ap₂ (λ (o s : ℕ). key_by o s) points.object_is points.seq_is ∙ of.1 in
-            let same : points.shard ≡ shard = some_injective points.shard shard (sym points.there ∙ ap (slice_get pool.shards.items) named ∙ here) in
+            let same : points.shard ≡ shard = some_injective points.shard shard (sym points.there ∙ ap (slice_get pool.metaslabs.shards.items) named ∙ here) in
             let entered = subst (λ (t : Shard R A). entry_at t.entries pointer.first ≡ Some (staged Live pointer)) same points.live in
             let held = its.stands.is_in.held (key_of pointer) ∙ key_leads shard.entries pointer.first (staged Live pointer) entered in
             let equal : held_at (staged Live pointer) ≡ b.held = some_injective (held_at (staged Live pointer)) b.held (sym held ∙ ap y.world.core.held key ∙ b.there) in
@@ -158,41 +158,41 @@ module _ {R A : Type 0} (rack : racks.Ghosts R) (area : areas.Ghosts A) (pool : 
             record {
               entry = staged Live pointer;
               there = ap (entry_at shard.entries) (sym place) ∙ entered;
-              pointed = ap (get nat_eq pool.objects) (ap (λ (k : Key). k.object) key) ∙ got;
+              pointed = ap (get nat_eq pool.own.objects) (ap (λ (k : Key). k.object) key) ∙ got;
             }
 
-        by : (o : Option Write) → IsLastAt m b.key o → PointsTo pool.shards.items (get nat_eq pool.objects b.key.object) o → IsPointedAt pool.objects shard at
+        by : (o : Option Write) → IsLastAt m b.key o → PointsTo pool.metaslabs.shards.items (get nat_eq pool.own.objects b.key.object) o → IsPointedAt pool.own.objects shard at
         by None none points = absurd none
-        by (Some write) of points = found (get nat_eq pool.objects b.key.object) refl points
+        by (Some write) of points = found (get nat_eq pool.own.objects b.key.object) refl points
           where
-            found : (o : Option Pointer) → get nat_eq pool.objects b.key.object ≡ o → PointsTo pool.shards.items o (Some write) → IsPointedAt pool.objects shard at
+            found : (o : Option Pointer) → get nat_eq pool.own.objects b.key.object ≡ o → PointsTo pool.metaslabs.shards.items o (Some write) → IsPointedAt pool.own.objects shard at
             found None got points = absurd points
             found (Some pointer) got points = pointed write pointer of got points
 
-    pub metaslab_told : (it : MetaslabView) → IsToldOf pool.objects shard it → IsMetaslabView x.geometry x.perms (view_of m y) it
+    pub metaslab_told : (it : MetaslabView) → IsToldOf pool.own.objects shard it → IsMetaslabView x.geometry x.perms (view_of m y) it
     metaslab_told it told = record {
       free = subst (λ (p : Part). HasCount (IsFreeStripe p.geometry p.perms (view_of m y)) it.free) its.part_is (told.free (view_of m y) its.stands.is_in);
-      blocks = count_as (IsPointedAt pool.objects shard) (BeginsBlock (view_of m y)) it.blocks (λ at p. live_of p.entry at p.there p.pointed) pointed_of told.blocks;
+      blocks = count_as (IsPointedAt pool.own.objects shard) (BeginsBlock (view_of m y)) it.blocks (λ at p. live_of p.entry at p.there p.pointed) pointed_of told.blocks;
       pass = told.pass (view_of m y) its.stands.is_in;
     }
 
   -- ---- the pool
 
-  pub metaslabs_told : (views : List MetaslabView) → AllZip (IsToldOf pool.objects) pool.shards.items views → (m : ℕ) (v : View) (it : MetaslabView) → slice_get (views_of x) m ≡ Some v → slice_get views m ≡ Some it
+  pub metaslabs_told : (views : List MetaslabView) → AllZip (IsToldOf pool.own.objects) pool.metaslabs.shards.items views → (m : ℕ) (v : View) (it : MetaslabView) → slice_get (views_of x) m ≡ Some v → slice_get views m ≡ Some it
       → IsMetaslabView x.geometry x.perms v it
   metaslabs_told views told m v it at there =
       let y = seen_of 0 m x.metaslabs v at in
-      let s = zip_right (IsToldOf pool.objects) pool.shards.items views told m it there in
+      let s = zip_right (IsToldOf pool.own.objects) pool.metaslabs.shards.items views told m it there in
       let plain : 0 + m ≡ m = omega arith in
       subst (λ (u : View). IsMetaslabView x.geometry x.perms u it) (sym (y.2 ∙ ap (λ (j : ℕ). view_of j y.0) plain)) (metaslab_told m s.0 y.0 s.1 y.1 it s.2)
 
-  pub many_told : (views : List MetaslabView) → AllZip (IsToldOf pool.objects) pool.shards.items views → length views ≡ length (views_of x)
-  many_told views told = zip_long (IsToldOf pool.objects) pool.shards.items views told ∙ sym (zip_long IsShown pool.shards.items (views_of x) pool_shown)
+  pub many_told : (views : List MetaslabView) → AllZip (IsToldOf pool.own.objects) pool.metaslabs.shards.items views → length views ≡ length (views_of x)
+  many_told views told = zip_long (IsToldOf pool.own.objects) pool.metaslabs.shards.items views told ∙ sym (zip_long IsShown pool.metaslabs.shards.items (views_of x) pool_shown)
 
   -- what is told of a pool, by what is told of its shards
-  pub pool_told : (shards : List (Shard R A)) → shards ≡ pool.shards.items → (view : PoolView) → string_bytes view.name ≡ vdev_name_of pool.geometry.spec → view.group ≡ x.committed
+  pub pool_told : (shards : List (Shard R A)) → shards ≡ pool.metaslabs.shards.items → (view : PoolView) → string_bytes view.name ≡ vdev_name_of pool.geometry.spec → view.group ≡ x.committed
       → ((views : List View) → AreShown shards views → IsGreatestOpen views view.open_group) → HasObjects x.store.changes view.objects → length view.slots.items ≡ pool.geometry.spec.children
-      → AreSlotViews pool.geometry shards view.slots.items → AllZip (IsToldOf pool.objects) shards view.metaslabs.items → IsPoolView x.geometry x.perms x.store (uber_view x) (views_of x) view
+      → AreSlotViews pool.geometry shards view.slots.items → AllZip (IsToldOf pool.own.objects) shards view.metaslabs.items → IsPoolView x.geometry x.perms x.store (uber_view x) (views_of x) view
   pool_told shards same view name group last objects many slots told = record {
     name = name ∙ ap (λ (g : Geometry). vdev_name_of g.spec) laid;
     group = group;
@@ -210,12 +210,12 @@ module _ {R A : Type 0} (rack : racks.Ghosts R) (area : areas.Ghosts A) (pool : 
       shown : AreShown shards (views_of x)
       shown = subst (λ (xs : List (Shard R A)). AreShown xs (views_of x)) (sym same) pool_shown
 
-      here : AllZip (IsToldOf pool.objects) pool.shards.items view.metaslabs.items
-      here = subst (λ (xs : List (Shard R A)). AllZip (IsToldOf pool.objects) xs view.metaslabs.items) same told
+      here : AllZip (IsToldOf pool.own.objects) pool.metaslabs.shards.items view.metaslabs.items
+      here = subst (λ (xs : List (Shard R A)). AllZip (IsToldOf pool.own.objects) xs view.metaslabs.items) same told
 
 -- each shard has the pool's layout
-pub all_laid : {R A : Type 0} (rack : racks.Ghosts R) (area : areas.Ghosts A) (pool : Pool R A) → IsWhole rack area pool → All (λ (shard : Shard R A). shard.geometry ≡ pool.geometry) pool.shards.items
-all_laid rack area pool w k d below = ap (λ (p : Part). p.geometry) (w.shards k (slice_index_or pool.shards.items k d) (slice_get-get_or pool.shards.items k d below)).part
+pub all_laid : {R A : Type 0} (rack : racks.Ghosts R) (area : areas.Ghosts A) (pool : Pool R A) → IsWhole rack area pool → All (λ (shard : Shard R A). shard.geometry ≡ pool.geometry) pool.metaslabs.shards.items
+all_laid rack area pool w k d below = ap (λ (p : Part). p.geometry) (w.shards k (slice_index_or pool.metaslabs.shards.items k d) (slice_get-get_or pool.metaslabs.shards.items k d below)).part
 
-pub some_shards : {R A : Type 0} (rack : racks.Ghosts R) (area : areas.Ghosts A) (pool : Pool R A) → IsWhole rack area pool → 0 < length pool.shards.items
+pub some_shards : {R A : Type 0} (rack : racks.Ghosts R) (area : areas.Ghosts A) (pool : Pool R A) → IsWhole rack area pool → 0 < length pool.metaslabs.shards.items
 some_shards rack area pool w = let many = w.many in let some = w.layout.geometry_is.props.some_metaslabs in omega (arith, many, some)

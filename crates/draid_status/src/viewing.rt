@@ -31,10 +31,10 @@ pub fn view<R: Rack, A: Area>(pool: &Pool<R, A>) -> Result<View, NoMemory>
     ensures view { (x : State) → Represents R.Rack A.Area pool.now x → IfOk result (IsPoolView x.geometry x.perms x.store (uber_view x) (views_of x)) }
 {
     let alloc = pool.alloc;
-    let shards = pool.shards.as_slice();
+    let shards = pool.metaslabs.shards.as_slice();
     let name = vdev_name(alloc, pool.geometry.spec)?;
     let slots = slot_views(alloc, shards, pool.geometry)?;
-    let metaslabs = metaslab_views(alloc, shards, &pool.objects)?;
+    let metaslabs = metaslab_views(alloc, shards, &pool.own.objects)?;
     Ok(View {
         name,
         group: pool.committed(),

@@ -124,15 +124,12 @@ module _ {R A : Type 0} (rack : racks.Ghosts R) (area : areas.Ghosts A) where
     ];
     run = λ is_open. elim (of.run y.world is.stands.is_in) [
       | inl z ↦ absurd (takes_none part pieces shard y m is z.0 is_open)
-      | inr z ↦ longest_here (layout_by shard) (ap layout_in is.part_is) z.1
+      | inr z ↦ subst (λ (l : machine.Layout). IsLongest l y.world.core room.run) (ap layout_in is.part_is) z.1
     ];
   }
     where
       part : Part
       part = record { geometry = geometry; perms = perms; number = m }
-
-      longest_here : (l : machine.Layout) → l ≡ layout_of geometry perms m → shard_rooms.IsLongest l y.world.core room.run → rooms_of.IsLongest geometry perms (layout_of geometry perms m) y.world.core room.run
-      longest_here l same z = subst (λ k. rooms_of.IsLongest geometry perms k y.world.core room.run) same (record { fits = z.fits; longest = z.longest })
 
   -- so of all, one after another
   rooms_from : (geometry : Geometry) (perms : Perms) (need m : ℕ) (pieces : ℕ → Pieces) (shards : List (Shard R A)) (ys : List Metaslab) (rooms : List Room) → length shards ≡ length ys
@@ -217,15 +214,15 @@ module _ {R A : Type 0} (rack : racks.Ghosts R) (area : areas.Ghosts A) where
   as_long need (z ∷ zs) [] zip = absurd zip
   as_long need (z ∷ zs) (r ∷ rs) zip = ap suc (as_long need zs rs zip.1)
 
-  module _ (pool : Pool R A) (w : IsWhole rack area pool) (need : ℕ) (rooms : List Room) (zip : AllZip (RoomIs need) pool.shards.items rooms) where
+  module _ (pool : Pool R A) (w : IsWhole rack area pool) (need : ℕ) (rooms : List Room) (zip : AllZip (RoomIs need) pool.metaslabs.shards.items rooms) where
     -- the room of the metaslab that was named
-    pub has_room : (m : ℕ) → 1 ≤ need → Picks rooms (Some m) → HasRoomAt pool.shards.items m need
+    pub has_room : (m : ℕ) → 1 ≤ need → Picks rooms (Some m) → HasRoomAt pool.metaslabs.shards.items m need
     has_room m some picks =
         let fit = picks.some m refl in
-        let at = room_at m pool.shards.items rooms fit.0 zip fit.1 in
+        let at = room_at m pool.metaslabs.shards.items rooms fit.0 zip fit.1 in
         record { shard = at.0; there = at.1; room = λ w in_. room_in at.0 w fit.0 (tall at.0 at.1) (at.2.run w in_) at.2.wanted fit.2 }
       where
-        tall : (shard : Shard R A) → slice_get pool.shards.items m ≡ Some shard → 0 < (layout_by shard).height
+        tall : (shard : Shard R A) → slice_get pool.metaslabs.shards.items m ≡ Some shard → 0 < (layout_by shard).height
         tall shard there = (has_layout (part_of shard) (whole_valid rack area pool m shard w there).part).tall
 
         room_at : (m : ℕ) (shards : List (Shard R A)) (rooms : List Room) (room : Room) → AllZip (RoomIs need) shards rooms → slice_get rooms m ≡ Some room
@@ -246,10 +243,10 @@ module _ {R A : Type 0} (rack : racks.Ghosts R) (area : areas.Ghosts A) where
         ]
 
   module _ (pool : Pool R A) (x : State) (is : Represents rack area pool x) where
-    s : Stands rack area pool (λ o. get nat_eq pool.objects o) x
+    s : Stands rack area pool (λ o. get nat_eq pool.own.objects o) x
     s = is.stands
 
-    each_from : (k : ℕ) (shard : Shard R A) (y : Metaslab) → slice_get pool.shards.items k ≡ Some shard → slice_get x.metaslabs k ≡ Some y
+    each_from : (k : ℕ) (shard : Shard R A) (y : Metaslab) → slice_get pool.metaslabs.shards.items k ≡ Some shard → slice_get x.metaslabs k ≡ Some y
         → IsMetaslab rack area (record { geometry = x.geometry; perms = x.perms; number = 0 + k }) (is.stands.pieces k) shard y
     each_from k shard y a b = subst (λ n. IsMetaslab rack area (record { geometry = x.geometry; perms = x.perms; number = n }) (is.stands.pieces k) shard y) (none_plus k) (is.stands.each k shard y a b)
       where
@@ -265,12 +262,12 @@ module _ {R A : Type 0} (rack : racks.Ghosts R) (area : areas.Ghosts A) where
     pub starved_step : (chosen : List Room → Option ℕ → Type 0) (object : ℕ) (bytes : List ℕ) → CarriesOut rack area pool x (WriteDoes x chosen object bytes (Err fault.NoMemory))
     starved_step chosen object bytes = record { holds = []; reached = x; store = x.store; follows = refl; done = (tt, refl); represents = is }
 
-    module _ (bytes : List ℕ) (need : ℕ) (rooms : List Room) (need_is : need ≡ stripes_for pool.geometry bytes) (zip : AllZip (RoomIs need) pool.shards.items rooms) where
+    module _ (bytes : List ℕ) (need : ℕ) (rooms : List Room) (need_is : need ≡ stripes_for pool.geometry bytes) (zip : AllZip (RoomIs need) pool.metaslabs.shards.items rooms) where
       for_room : LooksForRoom x.geometry x.perms bytes (looks_at 0 x.metaslabs) (seen_at 0 x.metaslabs) rooms
       for_room = record {
         looked = looked_all;
         are = subst (λ n. AllZip (IsRoomOf x.geometry x.perms n) (seen_at 0 x.metaslabs) rooms) (need_is ∙ ap (λ (g : Geometry). stripes_for g bytes) (sym is.stands.geometry))
-            (rooms_from x.geometry x.perms need 0 is.stands.pieces pool.shards.items x.metaslabs rooms is.stands.shards each_from zip);
+            (rooms_from x.geometry x.perms need 0 is.stands.pieces pool.metaslabs.shards.items x.metaslabs rooms is.stands.shards each_from zip);
       }
 
       pub chooses : (chosen : List Room → Option ℕ → Type 0) (m : ℕ) → chosen rooms (Some m) → Chooses x.geometry x.perms chosen bytes m (looks_at 0 x.metaslabs)
@@ -289,10 +286,10 @@ module _ {R A : Type 0} (rack : racks.Ghosts R) (area : areas.Ghosts A) where
       shut_all : (why : Shut) (P : View → Type 0) (count : ℕ)
           → ((number : ℕ) (p : Pieces) (shard : Shard R A) (y : Metaslab) (o : Option Shut) → IsMetaslab rack area (record { geometry = x.geometry; perms = x.perms; number = number }) p shard y → ShutIs shard o
           → ((o ≡ Some why) → P (view_of number y)) × ((o ≡ Some why → ⊥) → P (view_of number y) → ⊥))
-          → AreShut pool.shards.items why count → CountIs P (seen_at 0 x.metaslabs) count
-      shut_all why P count says z = shut_from why P x.geometry x.perms 0 is.stands.pieces pool.shards.items x.metaslabs z.0 count is.stands.shards each_from says z.1 z.2
+          → AreShut pool.metaslabs.shards.items why count → CountIs P (seen_at 0 x.metaslabs) count
+      shut_all why P count says z = shut_from why P x.geometry x.perms 0 is.stands.pieces pool.metaslabs.shards.items x.metaslabs z.0 count is.stands.shards each_from says z.1 z.2
 
-      pub no_space_step : (chosen : List Room → Option ℕ → Type 0) (object : ℕ) (why : WriteFault) → 1 ≤ need → Picks rooms None → IsNoSpace pool.shards.items rooms why
+      pub no_space_step : (chosen : List Room → Option ℕ → Type 0) (object : ℕ) (why : WriteFault) → 1 ≤ need → Picks rooms None → IsNoSpace pool.metaslabs.shards.items rooms why
           → CarriesOut rack area pool x (WriteDoes x chosen object bytes (Err why))
       no_space_step chosen object (fault.NoSpace run disabled full worn) some picks z = record {
         holds = looks_at 0 x.metaslabs;
@@ -306,7 +303,7 @@ module _ {R A : Type 0} (rack : racks.Ghosts R) (area : areas.Ghosts A) where
             looked = for_room;
             run_is = z.0;
             short =
-                let less = short_all rooms pool.shards.items some zip (picks.none.0 refl) in
+                let less = short_all rooms pool.metaslabs.shards.items some zip (picks.none.0 refl) in
                 let run_is = z.0 in
                 let same = need_is ∙ ap (λ (g : Geometry). stripes_for g bytes) (sym is.stands.geometry) in
                 omega (arith, less, run_is, same);
@@ -322,7 +319,7 @@ module _ {R A : Type 0} (rack : racks.Ghosts R) (area : areas.Ghosts A) where
       no_space_step chosen object fault.Last some picks z = absurd z
       no_space_step chosen object fault.NoMemory some picks z = absurd z
 
-      pub last_step : (chosen : List Room → Option ℕ → Type 0) (object m : ℕ) → chosen rooms (Some m) → LAST_NUMBER ≤ pool.seq → CarriesOut rack area pool x (WriteDoes x chosen object bytes (Err fault.Last))
+      pub last_step : (chosen : List Room → Option ℕ → Type 0) (object m : ℕ) → chosen rooms (Some m) → LAST_NUMBER ≤ pool.own.seq → CarriesOut rack area pool x (WriteDoes x chosen object bytes (Err fault.Last))
       last_step chosen object m named last = record {
         holds = looks_at 0 x.metaslabs;
         reached = x;
@@ -333,7 +330,7 @@ module _ {R A : Type 0} (rack : racks.Ghosts R) (area : areas.Ghosts A) where
       }
 
       -- what a write in the named metaslab did is what the write did
-      pub written_as : (chosen : List Room → Option ℕ → Type 0) (object m : ℕ) (result : Result Unit WriteFault) (new : Pool R A) → chosen rooms (Some m) → pool.seq < LAST_NUMBER
+      pub written_as : (chosen : List Room → Option ℕ → Type 0) (object m : ℕ) (result : Result Unit WriteFault) (new : Pool R A) → chosen rooms (Some m) → pool.own.seq < LAST_NUMBER
           → CarriesOut rack area new x (WriteInDoes x m object bytes result) → CarriesOut rack area new x (WriteDoes x chosen object bytes result)
       written_as chosen object m (Ok done) new named number c = record {
         holds = looks_at 0 x.metaslabs ++ c.holds;

@@ -71,13 +71,13 @@ damage_does x leaf sector k within y at in_it below (Err fault.NoMemory) holds s
 module _ {R A : Type 0} (rack : racks.Ghosts R) (area : areas.Ghosts A) where
   -- the shard of a metaslab below their number
   pub damage_shard : (pool : Pool R A) (k metaslabs : ℕ) (shard : Shard R A) → IsWhole rack area pool → metaslabs ≡ pool.geometry.props.metaslabs → k < metaslabs
-      → shard ≡ slice_index_or pool.shards.items k shard → slice_get pool.shards.items k ≡ Some shard
+      → shard ≡ slice_index_or pool.metaslabs.shards.items k shard → slice_get pool.metaslabs.shards.items k ≡ Some shard
   damage_shard pool k metaslabs shard w are below value =
       let many = w.many in
-      let z = present pool.shards.items k (omega (arith, many, are, below)) in
-      shard_at pool.shards.items k z.0 shard z.1 value
+      let z = present pool.metaslabs.shards.items k (omega (arith, many, are, below)) in
+      shard_at pool.metaslabs.shards.items k z.0 shard z.1 value
 
-  pub sector_below : (pool : Pool R A) (k sector sectors : ℕ) (shard : Shard R A) → IsWhole rack area pool → slice_get pool.shards.items k ≡ Some shard
+  pub sector_below : (pool : Pool R A) (k sector sectors : ℕ) (shard : Shard R A) → IsWhole rack area pool → slice_get pool.metaslabs.shards.items k ≡ Some shard
       → sectors ≡ metaslab_sectors pool.geometry → 0 < sectors → sector % sectors < metaslab_sectors shard.geometry
   sector_below pool k sector sectors shard w there is some =
       let same = is ∙ ap metaslab_sectors (sym (whole_geometry rack area pool k shard w there)) in

@@ -191,17 +191,17 @@ module _ {R A : Type 0} (rack : racks.Ghosts R) (area : areas.Ghosts A) where
     pub w : Write
     pub last : write_of x.store.changes o ≡ Some w
     pub of : IsOf pointer w
-    pub there : slice_get pool.shards.items pointer.metaslab ≡ Some shard
+    pub there : slice_get pool.metaslabs.shards.items pointer.metaslab ≡ Some shard
     pub live : IsLive shard pointer
     pub y : Metaslab
     pub at : slice_get x.metaslabs pointer.metaslab ≡ Some y
     pub is : IsMetaslab rack area (part_in x pointer.metaslab) (r.stands.pieces pointer.metaslab) shard y
     pub content : HasPieces x.geometry w (r.stands.pieces pointer.metaslab)
 
-  pub found : (pool : Pool R A) (x : State) (r : Represents rack area pool x) (o : ℕ) (pointer : Pointer) (shard : Shard R A) → get nat_eq pool.objects o ≡ Some pointer
-      → slice_get pool.shards.items pointer.metaslab ≡ Some shard → Found pool x r o pointer shard
+  pub found : (pool : Pool R A) (x : State) (r : Represents rack area pool x) (o : ℕ) (pointer : Pointer) (shard : Shard R A) → get nat_eq pool.own.objects o ≡ Some pointer
+      → slice_get pool.metaslabs.shards.items pointer.metaslab ≡ Some shard → Found pool x r o pointer shard
   found pool x r o pointer shard there at =
-      let z = pointed pool.shards.items (get nat_eq pool.objects o) (write_of x.store.changes o) pointer there (r.stands.objects o) in
+      let z = pointed pool.metaslabs.shards.items (get nat_eq pool.own.objects o) (write_of x.store.changes o) pointer there (r.stands.objects o) in
       let m : HasMetaslab rack area pool x r.stands pointer.metaslab shard = metaslab_of rack area pool x r.stands pointer.metaslab shard at in
       record {
         w = z.w;
@@ -213,17 +213,17 @@ module _ {R A : Type 0} (rack : racks.Ghosts R) (area : areas.Ghosts A) where
           digest = z.of.digest_is;
         };
         there = at;
-        live = subst (λ q. IsLive q pointer) (some_of (slice_get pool.shards.items pointer.metaslab) z.of.shard shard z.of.there at) z.of.live;
+        live = subst (λ q. IsLive q pointer) (some_of (slice_get pool.metaslabs.shards.items pointer.metaslab) z.of.shard shard z.of.there at) z.of.live;
         y = m.y;
         at = m.at;
         is = m.is;
         content = subst (λ k. HasPieces x.geometry z.w (r.stands.pieces k)) (sym z.of.metaslab_is) (content_of x r.stands.pieces o z.w r.stands.holds z.is);
       }
 
-  pub fetch_none : (pool : Pool R A) (x : State) (o : ℕ) → Represents rack area pool x → get nat_eq pool.objects o ≡ None → FetchLeads rack area pool x o (Err object.NoObject)
-  fetch_none pool x o r none = (r, unpointed pool.shards.items (get nat_eq pool.objects o) (write_of x.store.changes o) none (r.stands.objects o))
+  pub fetch_none : (pool : Pool R A) (x : State) (o : ℕ) → Represents rack area pool x → get nat_eq pool.own.objects o ≡ None → FetchLeads rack area pool x o (Err object.NoObject)
+  fetch_none pool x o r none = (r, unpointed pool.metaslabs.shards.items (get nat_eq pool.own.objects o) (write_of x.store.changes o) none (r.stands.objects o))
 
-  pub fetch_done : (pool new : Pool R A) (shard shard' : Shard R A) (x : State) (o : ℕ) (pointer : Pointer) (fetched : Fetched) → Represents rack area pool x → get nat_eq pool.objects o ≡ Some pointer
+  pub fetch_done : (pool new : Pool R A) (shard shard' : Shard R A) (x : State) (o : ℕ) (pointer : Pointer) (fetched : Fetched) → Represents rack area pool x → get nat_eq pool.own.objects o ≡ Some pointer
       → SetsShard rack area pointer.metaslab pool new shard shard' → Fetches rack shard shard' pointer fetched → Valid rack shard' → SameAreas shard shard'
       → rack.told shard'.rack ≡ rack.told shard.rack → SameReserve shard shard' → (IsWornFor shard 1 → ⊥) → CarriesOut rack area new x (FetchIs x o fetched)
   fetch_done pool new shard shard' x o pointer fetched r there set f valid same told reserve never =
@@ -242,7 +242,7 @@ module _ {R A : Type 0} (rack : racks.Ghosts R) (area : areas.Ghosts A) where
       (none_here rack area (part_in x pointer.metaslab) (r.stands.pieces pointer.metaslab) shard shard' z.y z.is valid none kit.rack kit.areas reserve.limit reserve.reserved)
       (record { held = refl; committed = refl }) (keeps_same z.y.world))
 
-  pub fetch_worn : (pool new : Pool R A) (shard shard' : Shard R A) (x : State) (o : ℕ) (pointer : Pointer) → Represents rack area pool x → get nat_eq pool.objects o ≡ Some pointer
+  pub fetch_worn : (pool new : Pool R A) (shard shard' : Shard R A) (x : State) (o : ℕ) (pointer : Pointer) → Represents rack area pool x → get nat_eq pool.own.objects o ≡ Some pointer
       → SetsShard rack area pointer.metaslab pool new shard shard' → Valid rack shard' → DoesNone shard shard' → SameKit shard shard' → SameReserve shard shard' → IsWornFor shard 1
       → FetchLeads rack area new x o (Err object.Worn)
   fetch_worn pool new shard shard' x o pointer r there set valid none kit reserve worn =
@@ -258,7 +258,7 @@ module _ {R A : Type 0} (rack : racks.Ghosts R) (area : areas.Ghosts A) where
         },
       )
 
-  pub fetch_starved : (pool new : Pool R A) (shard shard' : Shard R A) (x : State) (o : ℕ) (pointer : Pointer) → Represents rack area pool x → get nat_eq pool.objects o ≡ Some pointer
+  pub fetch_starved : (pool new : Pool R A) (shard shard' : Shard R A) (x : State) (o : ℕ) (pointer : Pointer) → Represents rack area pool x → get nat_eq pool.own.objects o ≡ Some pointer
       → SetsShard rack area pointer.metaslab pool new shard shard' → Valid rack shard' → DoesNone shard shard' → SameKit shard shard' → SameReserve shard shard'
       → FetchLeads rack area new x o (Err object.NoMemory)
   fetch_starved pool new shard shard' x o pointer r there set valid none kit reserve =

@@ -7,7 +7,11 @@ pub mod Feeding
 pub mod FetchSteps
 pub mod Fetched
 pub mod Filled
+pub mod FreeHold
+pub mod FreeKeeps
+pub mod FreeKnown
 pub mod FreeSteps
+pub mod FreeWhole
 pub mod Listing
 pub mod Pointed
 pub mod PointedSums

@@ -64,9 +64,9 @@ other_object k j other = by (key_eq k j) refl
     by false is = is
 
 module _ {R A : Type 0} (rack : racks.Ghosts R) (area : areas.Ghosts A) where
-  pub replaced_none : (object : ℕ) (pointer : Pointer) (pool new : Pool R A) (earlier : Option Write) (x : State) → Awaits rack area pool object pointer earlier x → get nat_eq pool.objects object ≡ None
-      → new.shards.items ≡ pool.shards.items → new.geometry ≡ pool.geometry → new.uber ≡ pool.uber → new.seq ≡ pool.seq → new.floor ≡ pool.floor
-      → ((q : ℕ) → get nat_eq new.objects q ≡ cond (nat_eq object q) (Some pointer) (get nat_eq pool.objects q))
+  pub replaced_none : (object : ℕ) (pointer : Pointer) (pool new : Pool R A) (earlier : Option Write) (x : State) → Awaits rack area pool object pointer earlier x → get nat_eq pool.own.objects object ≡ None
+      → new.metaslabs.shards.items ≡ pool.metaslabs.shards.items → new.geometry ≡ pool.geometry → new.uber ≡ pool.uber → new.own.seq ≡ pool.own.seq → new.own.floor ≡ pool.own.floor
+      → ((q : ℕ) → get nat_eq new.own.objects q ≡ cond (nat_eq object q) (Some pointer) (get nat_eq pool.own.objects q))
       → CarriesOut rack area new x (ReplaceDoes x earlier)
   replaced_none object pointer pool new earlier x a none shards layout uber seq floor sets =
       subst (λ e. CarriesOut rack area new x (ReplaceDoes x e)) (sym nothing) (record {
@@ -76,8 +76,8 @@ module _ {R A : Type 0} (rack : racks.Ghosts R) (area : areas.Ghosts A) where
         follows = refl;
         done = (x.store.floor, (refl, refl), refl);
         represents = record {
-          stands = same_stands rack area pool new (with_pointer object pointer (λ o. get nat_eq pool.objects o)) (λ o. get nat_eq new.objects o) x shards layout uber seq floor
-              (entered (λ o. get nat_eq new.objects o) object pointer (λ o. get nat_eq pool.objects o) sets) a.stands;
+          stands = same_stands rack area pool new (with_pointer object pointer (λ o. get nat_eq pool.own.objects o)) (λ o. get nat_eq new.own.objects o) x shards layout uber seq floor
+              (entered (λ o. get nat_eq new.own.objects o) object pointer (λ o. get nat_eq pool.own.objects o) sets) a.stands;
           only = λ m k h at live. elim (a.only m k h at live) [
             | inl is ↦ is
             | inr is ↦ absurd (subst (IsLastAt m k) nothing is)
@@ -86,20 +86,20 @@ module _ {R A : Type 0} (rack : racks.Ghosts R) (area : areas.Ghosts A) where
       })
     where
       nothing : earlier ≡ None
-      nothing = pointed_none pool.shards.items (get nat_eq pool.objects object) earlier none a.had
+      nothing = pointed_none pool.metaslabs.shards.items (get nat_eq pool.own.objects object) earlier none a.had
 
   pub replaced_some : (object : ℕ) (pointer p : Pointer) (pool new : Pool R A) (shard shard' : Shard R A) (group : ℕ) (earlier : Option Write) (x : State) → Awaits rack area pool object pointer earlier x
-      → get nat_eq pool.objects object ≡ Some p → slice_get pool.shards.items p.metaslab ≡ Some shard
-      → ((part : Part) (pieces : Pieces) (y : Metaslab) → IsMetaslab rack area part pieces shard y → Goes rack area part pieces y shard' (FreesIn part.number p pool.floor group y))
-      → new.shards.items ≡ slice_set pool.shards.items p.metaslab shard' → new.geometry ≡ pool.geometry → new.uber ≡ pool.uber → new.seq ≡ pool.seq → new.floor ≡ group
-      → ((q : ℕ) → get nat_eq new.objects q ≡ cond (nat_eq object q) (Some pointer) (get nat_eq pool.objects q))
+      → get nat_eq pool.own.objects object ≡ Some p → slice_get pool.metaslabs.shards.items p.metaslab ≡ Some shard
+      → ((part : Part) (pieces : Pieces) (y : Metaslab) → IsMetaslab rack area part pieces shard y → Goes rack area part pieces y shard' (FreesIn part.number p pool.own.floor group y))
+      → new.metaslabs.shards.items ≡ slice_set pool.metaslabs.shards.items p.metaslab shard' → new.geometry ≡ pool.geometry → new.uber ≡ pool.uber → new.own.seq ≡ pool.own.seq → new.own.floor ≡ group
+      → ((q : ℕ) → get nat_eq new.own.objects q ≡ cond (nat_eq object q) (Some pointer) (get nat_eq pool.own.objects q))
       → CarriesOut rack area new x (ReplaceDoes x earlier)
   replaced_some object pointer p pool new shard shard' group earlier x a there at frees sets layout uber seq floor objects = subst (λ e. CarriesOut rack area new x (ReplaceDoes x e)) (sym found.1) by
     where
       table : ℕ → Option Pointer
-      table = with_pointer object pointer (λ o. get nat_eq pool.objects o)
+      table = with_pointer object pointer (λ o. get nat_eq pool.own.objects o)
 
-      s : Stands rack area pool (with_pointer object pointer (λ o. get nat_eq pool.objects o)) x
+      s : Stands rack area pool (with_pointer object pointer (λ o. get nat_eq pool.own.objects o)) x
       s = a.stands
 
       m : ℕ
@@ -108,13 +108,13 @@ module _ {R A : Type 0} (rack : racks.Ghosts R) (area : areas.Ghosts A) where
       k : Key
       k = key_of p
 
-      found : (write : Write) × (earlier ≡ Some write) × IsPointerOf pool.shards.items p write
-      found = pointed pool.shards.items (get nat_eq pool.objects object) earlier p there a.had
+      found : (write : Write) × (earlier ≡ Some write) × IsPointerOf pool.metaslabs.shards.items p write
+      found = pointed pool.metaslabs.shards.items (get nat_eq pool.own.objects object) earlier p there a.had
 
       w : Write
       w = found.0
 
-      of : IsPointerOf pool.shards.items p w
+      of : IsPointerOf pool.metaslabs.shards.items p w
       of = found.2
 
       older : (w.object ≡ object) × (w.seq < pointer.seq)
@@ -126,9 +126,9 @@ module _ {R A : Type 0} (rack : racks.Ghosts R) (area : areas.Ghosts A) where
       own : p.object ≡ object
       own = of.object_is ∙ older.0
 
-      newer : (write : Write) × (write_of x.store.changes object ≡ Some write) × IsPointerOf pool.shards.items pointer write
-      newer = pointed pool.shards.items (with_pointer object pointer (λ o. get nat_eq pool.objects o) object) (write_of x.store.changes object) pointer
-          (ap (λ b. if b then Some pointer else get nat_eq pool.objects object) (equal object object refl)) (s.objects object)
+      newer : (write : Write) × (write_of x.store.changes object ≡ Some write) × IsPointerOf pool.metaslabs.shards.items pointer write
+      newer = pointed pool.metaslabs.shards.items (with_pointer object pointer (λ o. get nat_eq pool.own.objects o) object) (write_of x.store.changes object) pointer
+          (ap (λ b. if b then Some pointer else get nat_eq pool.own.objects object) (equal object object refl)) (s.objects object)
 
       differs : changes.key_of newer.0 ≢ k
       differs same =
@@ -139,12 +139,12 @@ module _ {R A : Type 0} (rack : racks.Ghosts R) (area : areas.Ghosts A) where
           omega (arith, seqs, number, old, less)
 
       y_there : (y : Metaslab) × (slice_get x.metaslabs m ≡ Some y)
-      y_there = metaslab_there rack area pool (with_pointer object pointer (λ o. get nat_eq pool.objects o)) x m shard s at
+      y_there = metaslab_there rack area pool (with_pointer object pointer (λ o. get nat_eq pool.own.objects o)) x m shard s at
 
       y : Metaslab
       y = y_there.0
 
-      g : Goes rack area (part_in x m) (s.pieces m) y shard' (FreesIn m p pool.floor group y)
+      g : Goes rack area (part_in x m) (s.pieces m) y shard' (FreesIn m p pool.own.floor group y)
       g = frees (part_in x m) (s.pieces m) y (s.each m shard y at y_there.1)
 
       store : Store
@@ -154,7 +154,7 @@ module _ {R A : Type 0} (rack : racks.Ghosts R) (area : areas.Ghosts A) where
       turned = record { there = at; sets = sets; geometry = layout; at = y_there.1; is = g.is; committed = g.done.committed; images = g.images; uber = uber }
 
       low : (group ≤ x.committed + 2) × (x.store.floor ≤ group)
-      low = group_low rack area pool (with_pointer object pointer (λ o. get nat_eq pool.objects o)) x m shard y group s at y_there.1 g.done.group_is
+      low = group_low rack area pool (with_pointer object pointer (λ o. get nat_eq pool.own.objects o)) x m shard y group s at y_there.1 g.done.group_is
 
       here : HoldsObjects x.geometry x.committed x.store (blocks_of x.metaslabs) (turn m (s.pieces m) s.pieces)
       here = subst (HoldsObjects x.geometry x.committed x.store (blocks_of x.metaslabs)) (sym (turn_back m s.pieces)) s.holds
@@ -167,11 +167,11 @@ module _ {R A : Type 0} (rack : racks.Ghosts R) (area : areas.Ghosts A) where
           (Some (record g.done.held { stage = stage.Freed group })) g.done.made
 
       -- the key of another pointer of the table
-      apart : (o : ℕ) (q : Pointer) (write : Write) → with_pointer object pointer (λ i. get nat_eq pool.objects i) o ≡ Some q → write_of x.store.changes o ≡ Some write → IsPointerOf pool.shards.items q write
+      apart : (o : ℕ) (q : Pointer) (write : Write) → with_pointer object pointer (λ i. get nat_eq pool.own.objects i) o ≡ Some q → write_of x.store.changes o ≡ Some write → IsPointerOf pool.metaslabs.shards.items q write
           → key_eq k (key_of q) ≡ false
       apart o q write is last points = elim (cases_eq o object) [
         | inl same ↦
-            let one : pointer ≡ q = some_injective pointer q (sym (ap (λ b. if b then Some pointer else get nat_eq pool.objects o) (equal o object same)) ∙ is) in
+            let one : pointer ≡ q = some_injective pointer q (sym (ap (λ b. if b then Some pointer else get nat_eq pool.own.objects o) (equal o object same)) ∙ is) in
             let seqs = ap (λ (z : Pointer). z.seq) one in
             let old = of.seq_is in
             let less = older.1 in
@@ -179,12 +179,12 @@ module _ {R A : Type 0} (rack : racks.Ghosts R) (area : areas.Ghosts A) where
         | inr other ↦ other_object k (key_of q) (λ same. (let whose = points.object_is ∙ write_object x.store.changes o write last in let mine = own in omega (arith, same, whose, mine, other)))
       ]
 
-      points : (o : ℕ) → PointsTo new.shards.items (get nat_eq new.objects o) (write_of x.store.changes o)
+      points : (o : ℕ) → PointsTo new.metaslabs.shards.items (get nat_eq new.own.objects o) (write_of x.store.changes o)
       points o =
-          points_same new.shards.items (with_pointer object pointer (λ i. get nat_eq pool.objects i) o) (get nat_eq new.objects o) (write_of x.store.changes o)
-          (entered (λ i. get nat_eq new.objects i) object pointer (λ i. get nat_eq pool.objects i) objects o)
-          (points_on pool.shards.items new.shards.items (with_pointer object pointer (λ i. get nat_eq pool.objects i) o) (write_of x.store.changes o)
-          (λ q write q_is last_is points. pointer_on rack area m pool new shard shard' (with_pointer object pointer (λ i. get nat_eq pool.objects i)) x y g.reached (s.pieces m) q write s turned
+          points_same new.metaslabs.shards.items (with_pointer object pointer (λ i. get nat_eq pool.own.objects i) o) (get nat_eq new.own.objects o) (write_of x.store.changes o)
+          (entered (λ i. get nat_eq new.own.objects i) object pointer (λ i. get nat_eq pool.own.objects i) objects o)
+          (points_on pool.metaslabs.shards.items new.metaslabs.shards.items (with_pointer object pointer (λ i. get nat_eq pool.own.objects i) o) (write_of x.store.changes o)
+          (λ q write q_is last_is points. pointer_on rack area m pool new shard shard' (with_pointer object pointer (λ i. get nat_eq pool.own.objects i)) x y g.reached (s.pieces m) q write s turned
           (λ same. ap (λ f. f (key_of q)) g.done.made ∙ ap (λ b. if b then Some (record g.done.held { stage = stage.Freed group }) else y.world.core.held (key_of q)) (apart o q write q_is last_is points)) points)
           (s.objects o))
 
@@ -206,7 +206,7 @@ module _ {R A : Type 0} (rack : racks.Ghosts R) (area : areas.Ghosts A) where
           refl,
         );
         represents = record {
-          stands = stands_turned rack area m pool new shard shard' (with_pointer object pointer (λ o. get nat_eq pool.objects o)) (λ o. get nat_eq new.objects o) x y g.reached (s.pieces m) store s turned
+          stands = stands_turned rack area m pool new shard shard' (with_pointer object pointer (λ o. get nat_eq pool.own.objects o)) (λ o. get nat_eq new.own.objects o) x y g.reached (s.pieces m) store s turned
               (older_holds x.geometry x.committed x.store (blocks_of x.metaslabs) (blocks_of (slice_set x.metaslabs m g.reached)) (turn m (s.pieces m) s.pieces) here m k g.done.held k_there g.done.live group low.1
               set newer.0 (ap (write_of x.store.changes) own ∙ newer.1) differs) low.0 g.done.low points (s.seq ∙ sym seq) (sym floor);
           only = λ n j i there live.

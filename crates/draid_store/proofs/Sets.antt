@@ -14,6 +14,7 @@ use Rattle.draid_blocks.specs.Tickets.{IsTicketOf}
 use Rattle.draid_shard.specs.Changes.{KeepsBlocks, SameGroups, SetsBlock}
 use Rattle.draid_shard.specs.declared.shard.Shard.{Shard}
 use Rattle.draid_blocks.specs.declared.ticket.Ticket.{Ticket}
+use Rattle.draid_shard.proofs.Changed.{arms_then, same_arms}
 use Rattle.draid_shard.proofs.Held.{key_leads}
 use Rattle.draid_pool.specs.Shards.{DropsBlock, StoresBlock}
 
@@ -66,7 +67,7 @@ entry_set t p e there of = record {
     held key false other = refl
 
 pub set_none : {R A : Type 0} (shard : Shard R A) (p : Pointer) (e : Entry) → entry_at shard.entries p.first ≡ Some e → e.pointer ≡ p → SetsBlock shard shard p (Some e)
-set_none shard p e there of = record { entry = entry_set shard.entries p e there of; groups = same_groups shard }
+set_none shard p e there of = record { entry = entry_set shard.entries p e there of; groups = same_groups shard; slots = same_arms shard.slots }
 
 -- and then again
 entry_then : (old mid new : Entries) (p : Pointer) (e f : Option Entry) → SetsEntry old mid p e → SetsEntry mid new p f → SetsEntry old new p f
@@ -92,7 +93,7 @@ entry_then old mid new p e f a b = record {
     held key false other = a.held key ∙ ap (λ b. if b then option_map held_at e else held_in old key) other
 
 pub set_then : {R A : Type 0} (old mid new : Shard R A) (p : Pointer) (e f : Option Entry) → SetsBlock old mid p e → SetsBlock mid new p f → SetsBlock old new p f
-set_then old mid new p e f a b = record { entry = entry_then old.entries mid.entries new.entries p e f a.entry b.entry; groups = groups_then old mid new a.groups b.groups }
+set_then old mid new p e f a b = record { entry = entry_then old.entries mid.entries new.entries p e f a.entry b.entry; groups = groups_then old mid new a.groups b.groups; slots = arms_then old.slots mid.slots new.slots a.slots b.slots }
 
 -- ---- a write
 

@@ -180,15 +180,15 @@ module _ {R A : Type 0} (rack : racks.Ghosts R) (area : areas.Ghosts A) where
       let same : shard ≡ own = value ∙ get_or_from_slice_get shards m own shard there in
       (there ∙ ap Some (sym same), same)
 
-  module _ (m object : ℕ) (bytes : List ℕ) (pool : Pool R A) (shard shard' : Shard R A) (x : State) (is : Represents rack area pool x) (at : slice_get pool.shards.items m ≡ Some shard) where
+  module _ (m object : ℕ) (bytes : List ℕ) (pool : Pool R A) (shard shard' : Shard R A) (x : State) (is : Represents rack area pool x) (at : slice_get pool.metaslabs.shards.items m ≡ Some shard) where
     abbrev tables : ℕ → Option Pointer
-    tables o = get nat_eq pool.objects o
+    tables o = get nat_eq pool.own.objects o
 
-    s : Stands rack area pool (λ o. get nat_eq pool.objects o) x
+    s : Stands rack area pool (λ o. get nat_eq pool.own.objects o) x
     s = is.stands
 
     abbrev y_there : (y : Metaslab) × (slice_get x.metaslabs m ≡ Some y)
-    y_there = metaslab_there rack area pool (λ o. get nat_eq pool.objects o) x m shard is.stands at
+    y_there = metaslab_there rack area pool (λ o. get nat_eq pool.own.objects o) x m shard is.stands at
 
     abbrev y : Metaslab
     y = y_there.0
@@ -199,35 +199,35 @@ module _ {R A : Type 0} (rack : racks.Ghosts R) (area : areas.Ghosts A) where
 
     -- what became of the block here
     pub stored_here : (pointer : Pointer)
-        → ((part : Part) (pieces : Pieces) (z : Metaslab) → IsMetaslab rack area part pieces shard z → Stored rack area part pieces object (pool.seq + 1) pool.floor bytes z shard' pointer)
-        → Stored rack area (part_in x m) (is.stands.pieces m) object (x.store.seq + 1) pool.floor bytes y shard' pointer
+        → ((part : Part) (pieces : Pieces) (z : Metaslab) → IsMetaslab rack area part pieces shard z → Stored rack area part pieces object (pool.own.seq + 1) pool.own.floor bytes z shard' pointer)
+        → Stored rack area (part_in x m) (is.stands.pieces m) object (x.store.seq + 1) pool.own.floor bytes y shard' pointer
     stored_here pointer stores =
-        subst (λ seq. Stored rack area (part_in x m) (is.stands.pieces m) object (seq + 1) pool.floor bytes y shard' pointer) (sym is.stands.seq) (stores (part_in x m) (is.stands.pieces m) y its)
+        subst (λ seq. Stored rack area (part_in x m) (is.stands.pieces m) object (seq + 1) pool.own.floor bytes y shard' pointer) (sym is.stands.seq) (stores (part_in x m) (is.stands.pieces m) y its)
 
     pub missed_here : (e : StoreFault) (columns birth : ℕ) → e ≡ store_fault.Missed columns birth
-        → ((part : Part) (pieces : Pieces) (z : Metaslab) → IsMetaslab rack area part pieces shard z → StoreDoes rack area part pieces object (pool.seq + 1) pool.floor bytes z shard' (Err e))
-        → NotStored rack area (part_in x m) (is.stands.pieces m) object (x.store.seq + 1) pool.floor bytes y shard' columns birth
+        → ((part : Part) (pieces : Pieces) (z : Metaslab) → IsMetaslab rack area part pieces shard z → StoreDoes rack area part pieces object (pool.own.seq + 1) pool.own.floor bytes z shard' (Err e))
+        → NotStored rack area (part_in x m) (is.stands.pieces m) object (x.store.seq + 1) pool.own.floor bytes y shard' columns birth
     missed_here e columns birth same stores =
-        subst (λ seq. NotStored rack area (part_in x m) (is.stands.pieces m) object (seq + 1) pool.floor bytes y shard' columns birth) (sym is.stands.seq)
-        (subst (λ f. StoreDoes rack area (part_in x m) (is.stands.pieces m) object (pool.seq + 1) pool.floor bytes y shard' (Err f)) same (stores (part_in x m) (is.stands.pieces m) y its))
+        subst (λ seq. NotStored rack area (part_in x m) (is.stands.pieces m) object (seq + 1) pool.own.floor bytes y shard' columns birth) (sym is.stands.seq)
+        (subst (λ f. StoreDoes rack area (part_in x m) (is.stands.pieces m) object (pool.own.seq + 1) pool.own.floor bytes y shard' (Err f)) same (stores (part_in x m) (is.stands.pieces m) y its))
 
     pub unwritten_here : (e : StoreFault) → e ≡ store_fault.NoMemory
-        → ((part : Part) (pieces : Pieces) (z : Metaslab) → IsMetaslab rack area part pieces shard z → StoreDoes rack area part pieces object (pool.seq + 1) pool.floor bytes z shard' (Err e))
+        → ((part : Part) (pieces : Pieces) (z : Metaslab) → IsMetaslab rack area part pieces shard z → StoreDoes rack area part pieces object (pool.own.seq + 1) pool.own.floor bytes z shard' (Err e))
         → IsMetaslab rack area (part_in x m) (is.stands.pieces m) shard' y
     unwritten_here e same stores =
-        subst (λ f. StoreDoes rack area (part_in x m) (is.stands.pieces m) object (pool.seq + 1) pool.floor bytes y shard' (Err f)) same (stores (part_in x m) (is.stands.pieces m) y its)
+        subst (λ f. StoreDoes rack area (part_in x m) (is.stands.pieces m) object (pool.own.seq + 1) pool.own.floor bytes y shard' (Err f)) same (stores (part_in x m) (is.stands.pieces m) y its)
 
     -- ---- nothing was written
-    pub unwritten : (new : Pool R A) → IsMetaslab rack area (part_in x m) (is.stands.pieces m) shard' y → new.shards.items ≡ slice_set pool.shards.items m shard' → new.geometry ≡ pool.geometry → new.uber ≡ pool.uber
-        → new.seq ≡ pool.seq → new.floor ≡ pool.floor → ((q : ℕ) → get nat_eq new.objects q ≡ get nat_eq pool.objects q) → Represents rack area new x
+    pub unwritten : (new : Pool R A) → IsMetaslab rack area (part_in x m) (is.stands.pieces m) shard' y → new.metaslabs.shards.items ≡ slice_set pool.metaslabs.shards.items m shard' → new.geometry ≡ pool.geometry → new.uber ≡ pool.uber
+        → new.own.seq ≡ pool.own.seq → new.own.floor ≡ pool.own.floor → ((q : ℕ) → get nat_eq new.own.objects q ≡ get nat_eq pool.own.objects q) → Represents rack area new x
     unwritten new same sets layout uber seq floor objects =
         subst (λ ys. Represents rack area new (record x { metaslabs = ys })) (set_back x.metaslabs m y y_there.1) (record {
-          stands = stands_turned rack area m pool new shard shard' (λ o. get nat_eq pool.objects o) (λ o. get nat_eq new.objects o) x y y (is.stands.pieces m) x.store is.stands turned
+          stands = stands_turned rack area m pool new shard shard' (λ o. get nat_eq pool.own.objects o) (λ o. get nat_eq new.own.objects o) x y y (is.stands.pieces m) x.store is.stands turned
               (subst (λ bs. HoldsObjects x.geometry x.committed x.store bs (turn m (is.stands.pieces m) is.stands.pieces)) (sym (same_blocks x.metaslabs m y y y_there.1 refl))
               (subst (HoldsObjects x.geometry x.committed x.store (blocks_of x.metaslabs)) (sym (turn_back m is.stands.pieces)) is.stands.holds)) is.stands.groups.next is.stands.groups.last
-              (λ o. points_same new.shards.items (get nat_eq pool.objects o) (get nat_eq new.objects o) (write_of x.store.changes o) (objects o)
-              (points_on pool.shards.items new.shards.items (get nat_eq pool.objects o) (write_of x.store.changes o)
-              (λ q write q_is last points. pointer_on rack area m pool new shard shard' (λ o. get nat_eq pool.objects o) x y y (is.stands.pieces m) q write is.stands turned (λ same. refl) points) (is.stands.objects o)))
+              (λ o. points_same new.metaslabs.shards.items (get nat_eq pool.own.objects o) (get nat_eq new.own.objects o) (write_of x.store.changes o) (objects o)
+              (points_on pool.metaslabs.shards.items new.metaslabs.shards.items (get nat_eq pool.own.objects o) (write_of x.store.changes o)
+              (λ q write q_is last points. pointer_on rack area m pool new shard shard' (λ o. get nat_eq pool.own.objects o) x y y (is.stands.pieces m) q write is.stands turned (λ same. refl) points) (is.stands.objects o)))
               (is.stands.seq ∙ sym seq) (is.stands.floor ∙ sym floor);
           only = subst (λ bs. OnlyLast bs x.store.changes) (sym (same_blocks x.metaslabs m y y y_there.1 refl)) is.only;
         })
@@ -236,9 +236,9 @@ module _ {R A : Type 0} (rack : racks.Ghosts R) (area : areas.Ghosts A) where
         turned = record { there = at; sets = sets; geometry = layout; at = y_there.1; is = same; committed = refl; images = keeps_same y.world; uber = uber }
 
     -- ---- too many columns landed nowhere
-    pub missed : (columns birth : ℕ) (new : Pool R A) → NotStored rack area (part_in x m) (is.stands.pieces m) object (x.store.seq + 1) pool.floor bytes y shard' columns birth
-        → new.shards.items ≡ slice_set pool.shards.items m shard' → new.geometry ≡ pool.geometry → new.uber ≡ pool.uber → new.seq ≡ pool.seq + 1 → new.floor ≡ birth
-        → ((q : ℕ) → get nat_eq new.objects q ≡ get nat_eq pool.objects q) → CarriesOut rack area new x (WriteInDoes x m object bytes (Err (fault.Missed columns)))
+    pub missed : (columns birth : ℕ) (new : Pool R A) → NotStored rack area (part_in x m) (is.stands.pieces m) object (x.store.seq + 1) pool.own.floor bytes y shard' columns birth
+        → new.metaslabs.shards.items ≡ slice_set pool.metaslabs.shards.items m shard' → new.geometry ≡ pool.geometry → new.uber ≡ pool.uber → new.own.seq ≡ pool.own.seq + 1 → new.own.floor ≡ birth
+        → ((q : ℕ) → get nat_eq new.own.objects q ≡ get nat_eq pool.own.objects q) → CarriesOut rack area new x (WriteInDoes x m object bytes (Err (fault.Missed columns)))
     missed columns birth new n sets layout uber seq floor objects = record {
       holds = n.goes.holds;
       reached = with_metaslab x m n.goes.reached;
@@ -251,12 +251,12 @@ module _ {R A : Type 0} (rack : racks.Ghosts R) (area : areas.Ghosts A) where
         made = refl;
       };
       represents = record {
-        stands = stands_turned rack area m pool new shard shard' (λ o. get nat_eq pool.objects o) (λ o. get nat_eq new.objects o) x y n.goes.reached n.now store is.stands turned
+        stands = stands_turned rack area m pool new shard shard' (λ o. get nat_eq pool.own.objects o) (λ o. get nat_eq new.own.objects o) x y n.goes.reached n.now store is.stands turned
             (subst (λ bs. HoldsObjects x.geometry x.committed store bs (turn m n.now is.stands.pieces)) (sym blocks)
             (missed_holds x.geometry x.committed x.store (blocks_of x.metaslabs) is.stands.pieces is.stands.holds m object n.now n.same birth low.1)) low.0 n.low
-            (λ o. points_same new.shards.items (get nat_eq pool.objects o) (get nat_eq new.objects o) (write_of x.store.changes o) (objects o)
-            (points_on pool.shards.items new.shards.items (get nat_eq pool.objects o) (write_of x.store.changes o)
-            (λ q write q_is last points. pointer_on rack area m pool new shard shard' (λ o. get nat_eq pool.objects o) x y n.goes.reached n.now q write is.stands turned (λ same. n.goes.done.1 (key_of q)) points)
+            (λ o. points_same new.metaslabs.shards.items (get nat_eq pool.own.objects o) (get nat_eq new.own.objects o) (write_of x.store.changes o) (objects o)
+            (points_on pool.metaslabs.shards.items new.metaslabs.shards.items (get nat_eq pool.own.objects o) (write_of x.store.changes o)
+            (λ q write q_is last points. pointer_on rack area m pool new shard shard' (λ o. get nat_eq pool.own.objects o) x y n.goes.reached n.now q write is.stands turned (λ same. n.goes.done.1 (key_of q)) points)
             (is.stands.objects o)))
             (let old = is.stands.seq in omega (arith, old, seq)) (sym floor);
         only = subst (λ bs. OnlyLast bs x.store.changes) (sym blocks) is.only;
@@ -270,15 +270,15 @@ module _ {R A : Type 0} (rack : racks.Ghosts R) (area : areas.Ghosts A) where
         turned = record { there = at; sets = sets; geometry = layout; at = y_there.1; is = n.goes.is; committed = n.goes.done.2; images = n.goes.images; uber = uber }
 
         low : (birth ≤ x.committed + 2) × (x.store.floor ≤ birth)
-        low = group_low rack area pool (λ o. get nat_eq pool.objects o) x m shard y birth is.stands at y_there.1 n.birth_is
+        low = group_low rack area pool (λ o. get nat_eq pool.own.objects o) x m shard y birth is.stands at y_there.1 n.birth_is
 
         blocks : blocks_of (slice_set x.metaslabs m n.goes.reached) ≡ blocks_of x.metaslabs
         blocks = same_blocks x.metaslabs m y n.goes.reached y_there.1 (ext n.goes.reached.world.core.held y.world.core.held n.goes.done.1)
 
     -- ---- the block is live
-    module _ (pointer : Pointer) (n : Stored rack area (part_in x m) (is.stands.pieces m) object (x.store.seq + 1) pool.floor bytes y shard' pointer) (mid : Pool R A)
-        (sets : mid.shards.items ≡ slice_set pool.shards.items m shard') (layout : mid.geometry ≡ pool.geometry) (uber : mid.uber ≡ pool.uber) (seq : mid.seq ≡ pool.seq + 1) (floor : mid.floor ≡ pointer.birth)
-        (objects : (q : ℕ) → get nat_eq mid.objects q ≡ get nat_eq pool.objects q) where
+    module _ (pointer : Pointer) (n : Stored rack area (part_in x m) (is.stands.pieces m) object (x.store.seq + 1) pool.own.floor bytes y shard' pointer) (mid : Pool R A)
+        (sets : mid.metaslabs.shards.items ≡ slice_set pool.metaslabs.shards.items m shard') (layout : mid.geometry ≡ pool.geometry) (uber : mid.uber ≡ pool.uber) (seq : mid.own.seq ≡ pool.own.seq + 1) (floor : mid.own.floor ≡ pointer.birth)
+        (objects : (q : ℕ) → get nat_eq mid.own.objects q ≡ get nat_eq pool.own.objects q) where
       abbrev w : Write
       w = record { object = object; seq = x.store.seq + 1; metaslab = m; birth = n.birth; bytes = bytes }
 
@@ -299,7 +299,7 @@ module _ {R A : Type 0} (rack : racks.Ghosts R) (area : areas.Ghosts A) where
       turned = record { there = at; sets = sets; geometry = layout; at = y_there.1; is = n.goes.is; committed = stored.others.committed; images = n.goes.images; uber = uber }
 
       low : (n.birth ≤ x.committed + 2) × (x.store.floor ≤ n.birth)
-      low = group_low rack area pool (λ o. get nat_eq pool.objects o) x m shard y n.birth is.stands at y_there.1 n.birth_is
+      low = group_low rack area pool (λ o. get nat_eq pool.own.objects o) x m shard y n.birth is.stands at y_there.1 n.birth_is
 
       made : n.goes.reached.world.core.held ≡ set_held y.world.core.held (changes.key_of w) (Some (held_at (staged stage.Live pointer)))
       made = ext n.goes.reached.world.core.held (set_held y.world.core.held (changes.key_of w) (Some (held_at (staged stage.Live pointer)))) (λ k. by k (key_eq (changes.key_of w) k) refl)
@@ -319,7 +319,7 @@ module _ {R A : Type 0} (rack : racks.Ghosts R) (area : areas.Ghosts A) where
       of_block : IsBlockOf sha256 w (held_at (staged stage.Live pointer))
       of_block = record { birth = stored.birth_is; len = stored.len_is; digest_is = stored.digest_is }
 
-      here : IsPointerOf mid.shards.items pointer w
+      here : IsPointerOf mid.metaslabs.shards.items pointer w
       here = record {
         object_is = stored.object_is;
         seq_is = stored.seq_is;
@@ -328,44 +328,44 @@ module _ {R A : Type 0} (rack : racks.Ghosts R) (area : areas.Ghosts A) where
         len_is = stored.len_is;
         digest_is = stored.digest_is;
         shard = shard';
-        there = ap (λ k. slice_get mid.shards.items k) stored.metaslab_is ∙ (ap (λ zs. slice_get zs m) sets ∙ get_set_same pool.shards.items m shard shard' at);
+        there = ap (λ k. slice_get mid.metaslabs.shards.items k) stored.metaslab_is ∙ (ap (λ zs. slice_get zs m) sets ∙ get_set_same pool.metaslabs.shards.items m shard shard' at);
         live = stored.live;
       }
 
       -- a block that was there is there yet
-      old_pointer : (o : ℕ) (q : Pointer) (write : Write) → write_of x.store.changes o ≡ Some write → IsPointerOf pool.shards.items q write → IsPointerOf mid.shards.items q write
+      old_pointer : (o : ℕ) (q : Pointer) (write : Write) → write_of x.store.changes o ≡ Some write → IsPointerOf pool.metaslabs.shards.items q write → IsPointerOf mid.metaslabs.shards.items q write
       old_pointer o q write last points =
-          pointer_on rack area m pool mid shard shard' (λ o. get nat_eq pool.objects o) x y n.goes.reached n.now q write is.stands turned
+          pointer_on rack area m pool mid shard shard' (λ o. get nat_eq pool.own.objects o) x y n.goes.reached n.now q write is.stands turned
           (λ same. stored.others.held (key_of q) (subst (λ j. key_eq j (key_of q) ≡ false) (sym its_key)
           (not_key x.geometry x.committed x.store (blocks_of x.metaslabs) is.stands.pieces is.stands.holds m object n.now n.same m (key_of q) (held_at (staged stage.Live q)) (was same)))) points
         where
           was : q.metaslab ≡ m → blocks_of x.metaslabs m (key_of q) ≡ Some (held_at (staged stage.Live q))
           was same =
-              let there : slice_get pool.shards.items m ≡ Some points.shard = subst (λ k. slice_get pool.shards.items k ≡ Some points.shard) same points.there in
-              let one : points.shard ≡ shard = some_of (slice_get pool.shards.items m) points.shard shard there at in
+              let there : slice_get pool.metaslabs.shards.items m ≡ Some points.shard = subst (λ k. slice_get pool.metaslabs.shards.items k ≡ Some points.shard) same points.there in
+              let one : points.shard ≡ shard = some_of (slice_get pool.metaslabs.shards.items m) points.shard shard there at in
               blocks_at x.metaslabs m y (key_of q) y_there.1 ∙ held_by shard y.world q (is.stands.each m shard y at y_there.1).stands.is_in (subst (λ z. IsLive z q) one points.live)
 
-      all_points : (o : ℕ) → PointsTo mid.shards.items (with_pointer object pointer (λ i. get nat_eq mid.objects i) o) (write_of (Wrote w ∷ x.store.changes) o)
+      all_points : (o : ℕ) → PointsTo mid.metaslabs.shards.items (with_pointer object pointer (λ i. get nat_eq mid.own.objects i) o) (write_of (Wrote w ∷ x.store.changes) o)
       all_points o = by (o == object) refl
         where
-          by : (b : Bool) → (o == object) ≡ b → PointsTo mid.shards.items (with_pointer object pointer (λ i. get nat_eq mid.objects i) o) (write_of (Wrote w ∷ x.store.changes) o)
+          by : (b : Bool) → (o == object) ≡ b → PointsTo mid.metaslabs.shards.items (with_pointer object pointer (λ i. get nat_eq mid.own.objects i) o) (write_of (Wrote w ∷ x.store.changes) o)
           by true same =
-              points_same mid.shards.items (Some pointer) (with_pointer object pointer (λ i. get nat_eq mid.objects i) o) (write_of (Wrote w ∷ x.store.changes) o)
-              (ap (λ b. if b then Some pointer else get nat_eq mid.objects o) same)
-              (subst (PointsTo mid.shards.items (Some pointer)) (sym (changes_it (Wrote w) x.store.changes o (equal object o (sym (is_equal o object same))))) here)
+              points_same mid.metaslabs.shards.items (Some pointer) (with_pointer object pointer (λ i. get nat_eq mid.own.objects i) o) (write_of (Wrote w ∷ x.store.changes) o)
+              (ap (λ b. if b then Some pointer else get nat_eq mid.own.objects o) same)
+              (subst (PointsTo mid.metaslabs.shards.items (Some pointer)) (sym (changes_it (Wrote w) x.store.changes o (equal object o (sym (is_equal o object same))))) here)
           by false other =
-              points_same mid.shards.items (get nat_eq pool.objects o) (with_pointer object pointer (λ i. get nat_eq mid.objects i) o) (write_of (Wrote w ∷ x.store.changes) o)
-              (ap (λ b. if b then Some pointer else get nat_eq mid.objects o) other ∙ objects o)
-              (subst (PointsTo mid.shards.items (get nat_eq pool.objects o)) (sym (other_changes (Wrote w) x.store.changes o (differs object o other)))
-              (points_on pool.shards.items mid.shards.items (get nat_eq pool.objects o) (write_of x.store.changes o) (λ q write q_is last points. old_pointer o q write last points) (is.stands.objects o)))
+              points_same mid.metaslabs.shards.items (get nat_eq pool.own.objects o) (with_pointer object pointer (λ i. get nat_eq mid.own.objects i) o) (write_of (Wrote w ∷ x.store.changes) o)
+              (ap (λ b. if b then Some pointer else get nat_eq mid.own.objects o) other ∙ objects o)
+              (subst (PointsTo mid.metaslabs.shards.items (get nat_eq pool.own.objects o)) (sym (other_changes (Wrote w) x.store.changes o (differs object o other)))
+              (points_on pool.metaslabs.shards.items mid.metaslabs.shards.items (get nat_eq pool.own.objects o) (write_of x.store.changes o) (λ q write q_is last points. old_pointer o q write last points) (is.stands.objects o)))
 
       pub awaits : Awaits rack area mid object pointer (write_of x.store.changes object) between
       awaits = record {
-        stands = stands_turned rack area m pool mid shard shard' (λ o. get nat_eq pool.objects o) (with_pointer object pointer (λ o. get nat_eq mid.objects o)) x y n.goes.reached n.now store_then is.stands turned
+        stands = stands_turned rack area m pool mid shard shard' (λ o. get nat_eq pool.own.objects o) (with_pointer object pointer (λ o. get nat_eq mid.own.objects o)) x y n.goes.reached n.now store_then is.stands turned
             (written_holds x.geometry x.committed x.store (blocks_of x.metaslabs) is.stands.pieces is.stands.holds m object n.now n.same w refl refl refl low.1 (blocks_of (slice_set x.metaslabs m n.goes.reached))
             (held_at (staged stage.Live pointer)) refl of_block set stored.content) low.0 n.low all_points (let old = is.stands.seq in omega (arith, old, seq)) (sym (floor ∙ stored.birth_is));
-        had = points_same mid.shards.items (get nat_eq pool.objects object) (get nat_eq mid.objects object) (write_of x.store.changes object) (objects object)
-            (points_on pool.shards.items mid.shards.items (get nat_eq pool.objects object) (write_of x.store.changes object) (λ q write q_is last points. old_pointer object q write last points) (is.stands.objects object));
+        had = points_same mid.metaslabs.shards.items (get nat_eq pool.own.objects object) (get nat_eq mid.own.objects object) (write_of x.store.changes object) (objects object)
+            (points_on pool.metaslabs.shards.items mid.metaslabs.shards.items (get nat_eq pool.own.objects object) (write_of x.store.changes object) (λ q write q_is last points. old_pointer object q write last points) (is.stands.objects object));
         older = λ write last. (write_object x.store.changes object write last, older write last);
         only = written_only x.geometry x.committed x.store (blocks_of x.metaslabs) is.stands.pieces is.stands.holds m object n.now n.same w refl refl refl low.1 (blocks_of (slice_set x.metaslabs m n.goes.reached))
             (held_at (staged stage.Live pointer)) refl of_block set stored.content is.only;

@@ -35,7 +35,11 @@ abbrev pub WriteSets : {R A : Type 0} → ℕ → List ℕ → Pool R A → Pool
 WriteSets object bytes old new (Ok done) = (pointer : Pointer) × FitsPointer pointer bytes × SetsPointer object (Some pointer) old new
 WriteSets object bytes old new (Err why) = SamePointers old new
 
--- that to a freeing
+-- that to a freeing, of a thread's table; nothing changed where it is to be tried again
+abbrev pub TriesTake : ℕ → (table now : ℕ → Option Pointer) → Option (Result Unit FreeFault) → Type 0
+TriesTake object table now None = (other : ℕ) → now other ≡ table other
+TriesTake object table now (Some (Ok done)) = (pointer : Pointer) × (table object ≡ Some pointer) × ((other : ℕ) → now other ≡ (if object == other then None else table other))
+TriesTake object table now (Some (Err free.NoObject)) = (table object ≡ None) × ((other : ℕ) → now other ≡ table other)
+
 abbrev pub FreeTakes : {R A : Type 0} → ℕ → Pool R A → Pool R A → Result Unit FreeFault → Type 0
-FreeTakes object old new (Ok done) = (pointer : Pointer) × (pointer_in old object ≡ Some pointer) × SetsPointer object None old new
-FreeTakes object old new (Err free.NoObject) = (pointer_in old object ≡ None) × SamePointers old new
+FreeTakes object old new result = TriesTake object (pointer_in old) (pointer_in new) (Some result)

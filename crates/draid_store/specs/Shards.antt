@@ -18,7 +18,7 @@ use Rattle.draid_segments.specs.Segments.{Pieces}
 use Rattle.draid_entries.specs.Maps.{held_at, key_of, staged}
 use Rattle.draid_shard.specs.Looks.{IsLive}
 use Rattle.draid_shard.specs.Rooms.{IsRoom, ShutBy}
-use Rattle.draid_shard.specs.Changes.{KeepsBlocks}
+use Rattle.draid_shard.specs.Changes.{DoesNothing}
 use Rattle.draid_shard.specs.Part.{Part}
 use Rattle.draid_shard.specs.States.{IsIn}
 use Rattle.draid_shard.specs.declared.fault.Shut.{Shut}
@@ -102,7 +102,7 @@ StoreDoes rack area part pieces object seq floor bytes x new (Err store.NoMemory
 abbrev pub StoreSets : {R A : Type 0} → Shard R A → Shard R A → (object seq floor : ℕ) → Result Pointer StoreFault → Type 0
 StoreSets old new object seq floor (Ok pointer) = StoresBlock old new object seq floor pointer
 StoreSets old new object seq floor (Err (store.Missed columns birth)) = DropsBlock old new floor birth
-StoreSets old new object seq floor (Err store.NoMemory) = KeepsBlocks old new
+StoreSets old new object seq floor (Err store.NoMemory) = DoesNothing old new
 
 -- an event was reserved, and then the sector was damaged, or the leaf failed
 pub record DamagesIn (part : Part) (leaf sector : ℕ) (failed : Bool) (x : Metaslab) (holds : List Hold) : Type 0 where

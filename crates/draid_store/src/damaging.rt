@@ -1,6 +1,7 @@
 ghost use Rattle.std.specs.Prelude.{◌≡◌, ◌<◌};
 ghost use Rattle.draid_spec.specs.Geometry.{metaslab_sectors};
 ghost use Rattle.draid_segments.specs.Segments.{Pieces};
+ghost use Rattle.draid_shard.specs.Alike.{KeepsArms};
 ghost use Rattle.draid_shard.specs.Changes.{KeepsBlocks};
 ghost use Rattle.draid_shard.specs.Fits.{Valid};
 ghost use Rattle.draid_shard.specs.Part.{Part};
@@ -33,6 +34,7 @@ fn damage_sector<R: Rack, A: Area>(
     ensures valid { Valid R.Rack shard.new }
     ensures part { part_of shard.new ≡ part_of shard.old }
     ensures keeps { KeepsBlocks shard.old shard.new }
+    ensures slots { KeepsArms shard.old.slots shard.new.slots }
     ensures damages { (part : Part) (pieces : Pieces) (x : Metaslab) → IsMetaslab R.Rack A.Area part pieces shard.old x
         → Goes R.Rack A.Area part pieces x shard.new (λ holds y. SectorDoes part leaf sector x result holds × SameBlocks x y) }
 {
@@ -67,5 +69,9 @@ pub fn damage<R: Rack, A: Area>(
     if metaslab >= u64::from(pool.geometry.props.metaslabs) {
         return Err(DamageFault::NoSuch);
     }
-    damage_sector(&mut pool.shards[metaslab as usize], leaf, sector % sectors)
+    damage_sector(
+        &mut pool.metaslabs.shards[metaslab as usize],
+        leaf,
+        sector % sectors,
+    )
 }

@@ -17,7 +17,7 @@ mod writing;
 pub use damaging::damage;
 pub use fault::{DamageFault, FreeFault, SumFault};
 pub use filling::fill;
-pub use freeing::free;
+pub use freeing::{FreeOp, free, free_object};
 pub use reading::read;
 pub use replies::{reply_to_damage, reply_to_free, reply_to_read, reply_to_sum, reply_to_write};
 pub use summing::sum;

@@ -43,16 +43,19 @@ pub(crate) fn fetch<R: Rack, A: Area>(
     requires whole { IsWhole R.Rack A.Area pool.old }
     ensures whole { IsWhole R.Rack A.Area pool.new }
     ensures geometry { pool.new.geometry ≡ pool.old.geometry }
-    ensures objects { pool.new.objects ≡ pool.old.objects }
+    ensures objects { pool.new.own.objects ≡ pool.old.own.objects }
     ensures found { FetchFinds (pointer_in pool.old object) result }
     ensures fetched { IfOk result (IsFetched (cut_of pool.old.geometry)) }
     ensures step { (x : State) → Represents R.Rack A.Area pool.old x
         → FetchLeads R.Rack A.Area pool.new x object result }
 {
-    let Some(pointer) = pool.objects.get(&object).copied() else {
+    let Some(pointer) = pool.own.objects.get(&object).copied() else {
         return Err(ObjectFault::NoObject);
     };
-    match draid_blocks::fetch(&mut pool.shards[pointer.metaslab as usize], &pointer) {
+    match draid_blocks::fetch(
+        &mut pool.metaslabs.shards[pointer.metaslab as usize],
+        &pointer,
+    ) {
         Ok(fetched) => Ok(fetched),
         Err(FetchFault::NotLive) => unreachable!(),
         Err(FetchFault::Worn { .. }) => Err(ObjectFault::Worn),

@@ -41,7 +41,7 @@ fn fetch_batch<R: Rack, A: Area>(pool: &mut Pool<R, A>, first: u64, count: u64) 
     ensures fetched { All (IsFetched (cut_of pool.new.geometry)) result.blocks.items }
     ensures some { result.fault ≡ None → 1 ≤ length result.blocks.items }
     ensures few { length result.blocks.items ≤ count }
-    ensures objects { pool.new.objects ≡ pool.old.objects }
+    ensures objects { pool.new.own.objects ≡ pool.old.own.objects }
     ensures found { BlocksOf (pointer_in pool.old) first result.blocks.items }
     ensures stops { MatchOption result.fault ⊤ (λ why. (length result.blocks.items < count)
         × StopsFor (pointer_in pool.old (first + length result.blocks.items)) why) }
@@ -113,7 +113,7 @@ pub(crate) fn add_batch<R: Rack, A: Area>(
     requires whole { IsWhole R.Rack A.Area pool.old }
     ensures whole { IsWhole R.Rack A.Area pool.new }
     ensures added { IfOk result (λ added. (1 ≤ added) × (added ≤ count)) }
-    ensures objects { pool.new.objects ≡ pool.old.objects }
+    ensures objects { pool.new.own.objects ≡ pool.old.own.objects }
     ensures adds { AddFinds (pointer_in pool.old) first count hasher.old hasher.new result }
     ensures step { (x : State) → Represents R.Rack A.Area pool.old x
         → CarriesOut R.Rack A.Area pool.new x (AddIs x first count hasher.old hasher.new result) }

@@ -49,7 +49,7 @@ pub fn write<R: Rack, A: Area, F: Fn(&[Room]) -> Option<u32>>(
         return Err(WriteFault::NoMemory);
     };
     let need = u64::from(block.stripes());
-    let Ok(rooms) = rooms_of(pool.alloc, pool.shards.as_slice(), need) else {
+    let Ok(rooms) = rooms_of(pool.alloc, pool.metaslabs.shards.as_slice(), need) else {
         return Err(WriteFault::NoMemory);
     };
     write_chosen(pool, chooser, rooms.as_slice(), object, &block)
@@ -67,7 +67,7 @@ fn write_chosen<R: Rack, A: Area, F: Fn(&[Room]) -> Option<u32>>(
     requires object { object < OBJECTS }
     requires cut { block.now.cut ≡ cut_of pool.old.geometry }
     requires some { 1 ≤ stripes_for pool.old.geometry block.now.bytes }
-    requires rooms { AllZip (RoomIs (stripes_for pool.old.geometry block.now.bytes)) pool.old.shards.items rooms.now }
+    requires rooms { AllZip (RoomIs (stripes_for pool.old.geometry block.now.bytes)) pool.old.metaslabs.shards.items rooms.now }
     requires whole { IsWhole R.Rack A.Area pool.old }
     ensures whole { IsWhole R.Rack A.Area pool.new }
     ensures writes { WriteSets object block.now.bytes pool.old pool.new result }
@@ -77,7 +77,7 @@ fn write_chosen<R: Rack, A: Area, F: Fn(&[Room]) -> Option<u32>>(
     let Some(metaslab) = chooser.pick(rooms) else {
         return Err(no_space(pool, rooms));
     };
-    if pool.seq >= LAST_NUMBER {
+    if pool.own.seq >= LAST_NUMBER {
         return Err(WriteFault::Last);
     }
     write_block(pool, metaslab, object, block)
@@ -86,9 +86,9 @@ fn write_chosen<R: Rack, A: Area, F: Fn(&[Room]) -> Option<u32>>(
 /// Why no metaslab took a block, where these are the rooms.
 fn no_space<R: Rack, A: Area>(pool: &Pool<R, A>, rooms: &[Room]) -> WriteFault
     requires whole { IsWhole R.Rack A.Area pool.now }
-    ensures { IsNoSpace pool.now.shards.items rooms.now result }
+    ensures { IsNoSpace pool.now.metaslabs.shards.items rooms.now result }
 {
-    let shards = pool.shards.as_slice();
+    let shards = pool.metaslabs.shards.as_slice();
     WriteFault::NoSpace {
         run: longest_run(rooms),
         disabled: count_shut(shards, Shut::Disabled),
@@ -106,28 +106,28 @@ fn write_block<R: Rack, A: Area>(
 ) -> Result<(), WriteFault>
     requires object { object < OBJECTS }
     requires cut { block.now.cut ≡ cut_of pool.old.geometry }
-    requires room { HasRoomAt pool.old.shards.items metaslab (stripes_of (cut_of pool.old.geometry) (length block.now.bytes)) }
-    requires last { pool.old.seq + 1 < NUMBERS }
+    requires room { HasRoomAt pool.old.metaslabs.shards.items metaslab (stripes_of (cut_of pool.old.geometry) (length block.now.bytes)) }
+    requires last { pool.old.own.seq + 1 < NUMBERS }
     requires whole { IsWhole R.Rack A.Area pool.old }
     ensures whole { IsWhole R.Rack A.Area pool.new }
     ensures writes { WriteSets object block.now.bytes pool.old pool.new result }
     ensures step { (x : State) → Represents R.Rack A.Area pool.old x
         → CarriesOut R.Rack A.Area pool.new x (WriteInDoes x metaslab object block.now.bytes result) }
 {
-    if pool.objects.reserve(1).is_err() {
+    if pool.own.objects.reserve(1).is_err() {
         return Err(WriteFault::NoMemory);
     }
-    let shard = &mut pool.shards[metaslab as usize];
-    match store(shard, object, pool.seq + 1, block, pool.floor) {
+    let shard = &mut pool.metaslabs.shards[metaslab as usize];
+    match store(shard, object, pool.own.seq + 1, block, pool.own.floor) {
         Ok(pointer) => {
-            pool.seq += 1;
-            pool.floor = pointer.birth;
+            pool.own.seq += 1;
+            pool.own.floor = pointer.birth;
             replace(pool, object, pointer);
             Ok(())
         }
         Err(StoreFault::Missed { columns, birth }) => {
-            pool.seq += 1;
-            pool.floor = birth;
+            pool.own.seq += 1;
+            pool.own.floor = birth;
             Err(WriteFault::Missed { columns })
         }
         Err(StoreFault::NoMemory) => Err(WriteFault::NoMemory),
@@ -136,7 +136,7 @@ fn write_block<R: Rack, A: Area>(
 
 /// Gives an object the pointer of its new block, and frees the block that it had before.
 fn replace<R: Rack, A: Area>(pool: &mut Pool<R, A>, object: u64, pointer: Pointer)
-    requires room { 0 < spare pool.old.objects }
+    requires room { 0 < spare pool.old.own.objects }
     requires whole { IsWhole R.Rack A.Area pool.old }
     requires newer { IsNewer pool.old object pointer }
     ensures whole { IsWhole R.Rack A.Area pool.new }
@@ -144,14 +144,14 @@ fn replace<R: Rack, A: Area>(pool: &mut Pool<R, A>, object: u64, pointer: Pointe
     ensures step { (x : State) (earlier : Option Write) → Awaits R.Rack A.Area pool.old object pointer earlier x
         → CarriesOut R.Rack A.Area pool.new x (ReplaceDoes x earlier) }
 {
-    let Ok(earlier) = pool.objects.insert(object, pointer) else {
+    let Ok(earlier) = pool.own.objects.insert(object, pointer) else {
         unreachable!()
     };
     if let Some(earlier) = earlier {
-        pool.floor = free_block(
-            &mut pool.shards[earlier.metaslab as usize],
+        pool.own.floor = free_block(
+            &mut pool.metaslabs.shards[earlier.metaslab as usize],
             &earlier,
-            pool.floor,
+            pool.own.floor,
         );
     }
 }

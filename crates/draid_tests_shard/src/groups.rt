@@ -13,7 +13,7 @@ use draid_shard::Shard;
 use std::alloc::Global;
 
 /// Whether these are the open, the closing and the last committed group, and whether the closing one is sealed.
-fn has_groups<R: Rack, A: Area>(
+pub fn has_groups<R: Rack, A: Area>(
     shard: &Shard<R, A>,
     open: u64,
     closing: Option<u64>,
@@ -46,7 +46,7 @@ pub fn stays_open<R: Rack, A: Area>(shard: &mut Shard<R, A>) -> bool
 }
 
 /// Closes the open group, if none is closing.
-fn close<R: Rack, A: Area>(shard: &mut Shard<R, A>)
+pub fn close<R: Rack, A: Area>(shard: &mut Shard<R, A>)
     requires valid { Valid R.Rack shard.old }
     ensures valid { Valid R.Rack shard.new }
 {
@@ -57,7 +57,7 @@ fn close<R: Rack, A: Area>(shard: &mut Shard<R, A>)
 }
 
 /// Seals the closing group, if it isn't sealed.
-fn seal<R: Rack, A: Area>(shard: &mut Shard<R, A>) -> Option<Result<Sealed, SealFault>>
+pub fn seal<R: Rack, A: Area>(shard: &mut Shard<R, A>) -> Option<Result<Sealed, SealFault>>
     requires valid { Valid R.Rack shard.old }
     ensures valid { Valid R.Rack shard.new }
 {
@@ -129,7 +129,7 @@ pub fn waits_for_hello<R: Rack, A: Area>(alloc: Global, shard: &mut Shard<R, A>)
 }
 
 /// Commits the closing group, if it is sealed.
-fn commit<R: Rack, A: Area>(shard: &mut Shard<R, A>)
+pub fn commit<R: Rack, A: Area>(shard: &mut Shard<R, A>)
     requires valid { Valid R.Rack shard.old }
     ensures valid { Valid R.Rack shard.new }
 {
@@ -138,6 +138,16 @@ fn commit<R: Rack, A: Area>(shard: &mut Shard<R, A>)
             draid_pool::commit(shard, group);
         }
     }
+}
+
+/// Commits the open group, as far as that goes.
+pub fn sync<R: Rack, A: Area>(shard: &mut Shard<R, A>)
+    requires valid { Valid R.Rack shard.old }
+    ensures valid { Valid R.Rack shard.new }
+{
+    close(shard);
+    let _ = seal(shard);
+    commit(shard);
 }
 
 /// Seals and commits the open group. Whether the longest run of free stripes is seven once it is sealed, and eight once it

@@ -6,9 +6,13 @@
 #![tactic(auto)]
 
 #[cfg(test)]
+mod calls;
+#[cfg(test)]
 mod columns;
 #[cfg(test)]
 mod devices;
+#[cfg(test)]
+mod disks;
 #[cfg(test)]
 mod entries;
 #[cfg(test)]
@@ -23,5 +27,7 @@ mod segments;
 mod shard;
 #[cfg(test)]
 mod slots;
+#[cfg(test)]
+mod stored;
 #[cfg(test)]
 mod trials;

@@ -18,7 +18,7 @@ use draid_spec::Geometry;
 use std::alloc::Global;
 
 /// Writes all columns of a block, and ends its write.
-fn put_all<R: Rack, A: Area>(
+pub fn put_all<R: Rack, A: Area>(
     shard: &mut Shard<R, A>,
     mut ticket: Ticket,
     block: &Encoded,
@@ -226,7 +226,7 @@ pub fn gives_hello_up<R: Rack, A: Area>(alloc: Global, shard: &mut Shard<R, A>) 
 }
 
 /// Damages a sector, where an event is reserved for that and the sector is there; whether it is done.
-fn damage<R: Rack, A: Area>(shard: &mut Shard<R, A>, leaf: u64, sector: u64) -> Option<bool>
+pub fn damage<R: Rack, A: Area>(shard: &mut Shard<R, A>, leaf: u64, sector: u64) -> Option<bool>
     requires valid { Valid R.Rack shard.old }
     ensures valid { Valid R.Rack shard.new }
 {

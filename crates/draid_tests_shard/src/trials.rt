@@ -8,7 +8,7 @@ ghost use Rattle.draid_entries.specs.Entries.{held_in};
 ghost use Rattle.draid_shard.specs.Fits.{Valid};
 
 use crate::devices::{kit, layout};
-use crate::{groups, shard};
+use crate::{groups, shard, stored};
 use draid_area::Area;
 use draid_create::create_metaslab;
 use draid_perm::Perms;
@@ -44,6 +44,8 @@ enum Trial {
     Waits,
     /// It gives stripes that were freed back at a commit.
     GivesBack,
+    /// What it stores of many calls is replayed.
+    Stores,
 }
 
 /// Whether an empty metaslab does so.
@@ -67,6 +69,7 @@ fn does<R: Rack, A: Area>(alloc: Global, shard: &mut Shard<R, A>, trial: Trial) 
         Trial::SealsAgain => groups::seals_again(alloc, shard),
         Trial::Waits => groups::waits_for_hello(alloc, shard),
         Trial::GivesBack => groups::gives_hello_back(alloc, shard),
+        Trial::Stores => stored::stores(alloc, shard),
     }
 }
 
@@ -125,7 +128,7 @@ const SECOND: [bool; 3] = [false, true, false];
 // last 3,072 events are left for the closing of groups, which may use the limit up; each fetch is an event. A seal flushes
 // three leaves behind those writes; one on which that fails has the group in its log, and the block is thin. Where its area
 // fails, a group isn't sealed, and may be sealed once more.
-static ROWS: [Row; 18] = [
+static ROWS: [Row; 19] = [
     (
         "a block lives",
         &[],
@@ -242,6 +245,14 @@ static ROWS: [Row; 18] = [
         &[],
         4096,
         Trial::GivesBack,
+    ),
+    // A write, a read, two writes of one block, a flush and a damage fail.
+    (
+        "what many calls stored is replayed",
+        &[1, 7, 9, 11, 21, 26],
+        &[],
+        4096,
+        Trial::Stores,
     ),
 ];
 

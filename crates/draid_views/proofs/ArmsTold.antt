@@ -26,15 +26,12 @@ use Rattle.draid_shard.specs.States.{IsIn}
 use Rattle.draid_shard.specs.declared.shard.Shard.{Shard}
 use Rattle.draid_report.specs.declared.view.ArmView.{ArmView}
 use Rattle.draid_session.specs.Holds.{View}
-use Rattle.draid_session.specs.Status.{IsArmView, groups_of, logged_in, name_of, named}
+use Rattle.draid_session.specs.Status.{IsArmView, groups_of, logged_in, name_of}
+use Rattle.draid_machine.specs.Names.{named}
 use Rattle.draid_views.specs.Views.{AreArmsTold, AreShown, AreSlotViews, AreSlotsTold, IsArmTold, IsLogCount, IsShown, LogsAre, StandsIn}
 use Rattle.draid_views.proofs.Zips.{contains_at, found_at, zip_left, zip_long, zip_right}
 
 -- ---- names
-
-names_same : (k : ArmKind) (number : ℕ) → slots_of.named k number ≡ named k number
-names_same kind.Leaf number = refl
-names_same kind.Spare number = refl
 
 abbrev number_in : ArmName → ℕ
 number_in (Leaf number) = number
@@ -55,11 +52,10 @@ kind_named kind.Spare number = refl
 -- an arm is of the kind and number that its name says
 arm_of_name : (k : ArmKind) (number : ℕ) (arm : Arm) → slots_of.name_of arm ≡ named k number → (arm.kind ≡ k) × (arm.number ≡ number)
 arm_of_name k number arm is =
-    let same = sym (names_same arm.kind arm.number) ∙ is in
-    (sym (kind_named arm.kind arm.number) ∙ ap kind_in same ∙ kind_named k number, sym (number_named arm.kind arm.number) ∙ ap number_in same ∙ number_named k number)
+    (sym (kind_named arm.kind arm.number) ∙ ap kind_in is ∙ kind_named k number, sym (number_named arm.kind arm.number) ∙ ap number_in is ∙ number_named k number)
 
 name_of_arm : (k : ArmKind) (number : ℕ) (arm : Arm) → arm.kind ≡ k → arm.number ≡ number → slots_of.name_of arm ≡ named k number
-name_of_arm k number arm a b = names_same arm.kind arm.number ∙ ap₂ named a b
+name_of_arm k number arm a b = ap₂ named a b
 
 -- ---- logs
 
@@ -188,7 +184,7 @@ slots_more geometry shards table count slots arms told was = record {
 
 names_told : (views : List ArmView) → map slots_of.name_of (map (λ (view : ArmView). view.arm) views) ≡ map name_of views
 names_told [] = refl
-names_told (view ∷ views) = ap₂ (λ (n : ArmName) (ns : List ArmName). n ∷ ns) (names_same view.arm.kind view.arm.number) (names_told views)
+names_told (view ∷ views) = ap (λ (ns : List ArmName). named view.arm.kind view.arm.number ∷ ns) (names_told views)
 
 -- an arm that a state has in a slot stands there
 stands_in : (slots : SlotTable) (q : machine.Core) (slot k : ℕ) (name : ArmName) → HasSlots slots q → slice_get (q.order slot) k ≡ Some name
@@ -259,7 +255,7 @@ module _ {R A : Type 0} (geometry : Geometry) (shards : List (Shard R A)) (shard
           first_has =
               let arm_there : slice_get (arms_of shard.slots slot) k ≡ Some view.arm =
               ap (λ (xs : List Arm). slice_get xs k) (sym here.arms_are) ∙ slice_get-map (λ (v : ArmView). v.arm) arms.items k ∙ ap (option_map (λ (v : ArmView). v.arm)) there in
-              ap seen.0.world.core.arm (sym (names_same view.arm.kind view.arm.number)) ∙ seen.2.slots.arms place view.arm arm_there
+              seen.2.slots.arms place view.arm arm_there
 
           offline : (v : View) → Contains views v → IsSomeAnd (v.world.core.arm (name_of view)) (λ arm. arm.offline ≡ view.arm.offline)
           offline v c =

@@ -4,7 +4,8 @@ ghost use Rattle.draid_names.specs.declared.numbers.TheConstants.{NUMBERS};
 ghost use Rattle.draid_perm.specs.declared.perms.Perms.{Perms};
 ghost use Rattle.draid_slots.specs.Table.{IsTable, arms_of};
 ghost use Rattle.draid_shard.specs.Fits.{Valid};
-ghost use Rattle.draid_session.specs.Status.{named, spare_name_in};
+ghost use Rattle.draid_session.specs.Status.{spare_name_in};
+ghost use Rattle.draid_machine.specs.Names.{named};
 ghost use Rattle.draid_views.specs.Views.{AreArmsTold, AreSlotViews, IsArmTold, IsLogCount, LogsAre, TellFirst};
 
 use draid_area::Area;

@@ -1,4 +1,4 @@
-use Rattle.draid_shard.proofs.Changed.{same_entries}
+use Rattle.draid_shard.proofs.Changed.{same_arms, same_entries}
 use Rattle.std.proofs.Common.{◌∙◌, ◌++◌, ◌∷◌, [], ap, arith, refl, subst, sym}
 use Rattle.draid_machine.specs.declared.event.Event.TheVariants.{Damage}
 use Rattle.draid_entries.specs.History.{events_of}
@@ -63,3 +63,6 @@ returns-clause-reserve g c = c.add_reserved.ensures.reserved
 
 pub returns-clause-limit : goal.returns-clause-limit
 returns-clause-limit g c = c.add_reserved.ensures.limit
+
+pub returns-clause-slots : goal.returns-clause-slots
+returns-clause-slots g c = same_arms c.args.shard.now.slots

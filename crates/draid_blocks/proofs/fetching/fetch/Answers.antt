@@ -1,7 +1,7 @@
 use Rattle.draid_blocks.proofs.Refusing.{fetched_is_other, memory_is_other, worn_is_other}
 use Rattle.std.proofs.Common.{◌∙◌, refl, sym}
 use Rattle.std.proofs.lemmas.Bool.{true≢false}
-use Rattle.draid_shard.proofs.Changed.{same_entries}
+use Rattle.draid_shard.proofs.Changed.{same_arms, same_entries}
 use Rattle.draid_blocks.proofs.Turns.{asked_fetches, asked_nothing, asked_valid}
 use Rattle.draid_blocks.proofs.fetching.fetch.Goals as goal
 
@@ -31,6 +31,7 @@ returns-then-not-is_live g c = record {
   none = record {
     none = record { part = refl; stored = refl; stays = λ w is_in. is_in };
     keeps = record { entries = same_entries c.args.shard.now.entries; groups = record { open_group_is = refl; closing = refl; sealed = refl; committed = refl } };
+    slots = same_arms c.args.shard.now.slots;
   };
   kit = record { rack = refl; areas = record { even = refl; odd = refl } };
   reserve = record { reserved = refl; limit = refl };

@@ -7,6 +7,7 @@ use Rattle.draid_blocks.proofs.Begins.{due_from, due_upto}
 use Rattle.draid_blocks.proofs.Entered.{here_turned, tickets_block}
 use Rattle.draid_blocks.proofs.Placing.{turned_tables}
 use Rattle.draid_blocks.proofs.Turns.{frees, owed_turns}
+use Rattle.draid_shard.proofs.Changed.{same_arms}
 use Rattle.draid_shard.proofs.Kept.{valid_with}
 use Rattle.draid_blocks.proofs.freeing.free.Goals as goal
 
@@ -54,7 +55,7 @@ pub returns-clause-not_live : goal.returns-clause-not_live
 returns-clause-not_live g c = (λ e. absurd (true≢false (sym e)), λ dead. absurd (dead (c.is_live.ensures.0 c.if-not-is_live.false)))
 
 pub returns-clause-sets : goal.returns-clause-sets
-returns-clause-sets g c = record { entry = c.turn.ensures.entered; groups = record { open_group_is = refl; closing = refl; sealed = refl; committed = refl } }
+returns-clause-sets g c = record { entry = c.turn.ensures.entered; groups = record { open_group_is = refl; closing = refl; sealed = refl; committed = refl }; slots = same_arms c.args.shard.now.slots }
 
 pub returns-clause-reserve : goal.returns-clause-reserve
 returns-clause-reserve g c = record { reserved = c.add.ensures.reserved; limit = c.add.ensures.limit }

@@ -140,7 +140,11 @@ returns-clause-put g c =
       pointer = (after g c).pointer_is;
       next = counts.next_is;
       missed = counted c.land-landed.result.landed c.args.ticket.now.missed c.if-is_empty.ticket.missed counts.missed_is;
-      sets = record { entry = sets g c; groups = record { open_group_is = refl; closing = refl; sealed = refl; committed = refl } };
+      sets = record {
+        entry = sets g c;
+        groups = record { open_group_is = refl; closing = refl; sealed = refl; committed = refl };
+        slots = record { same = c.land-landed.ensures.lands.logs.same; arms_stay = c.land-landed.ensures.lands.logs.arms; detached_stay = c.land-landed.ensures.lands.logs.detached };
+      };
       acts = put_acted c.args.shard.now c.land-landed.new.rack c.land-landed.new.slots c.turn.new.self c.add.new.self c.args.ticket.now.pointer c.args.ticket.now.next c.args.ticket.now.missed
           (c.if-is_empty.ticket.next + 1) c.if-is_empty.ticket.missed c.rows_of-rows.result c.column-column.result.now c.land-landed.result _ _ _ _ v.part v.slots run c.requires.left c.rows_of-rows.ensures
           c.requires.carries.is_open c.land-landed.ensures.lands (sets g c) counts g.R.Rack c.args.block.now.columns refl refl c.column-column.ensures.column;

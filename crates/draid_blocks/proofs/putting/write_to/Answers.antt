@@ -3,7 +3,8 @@ use Rattle.draid_blocks.proofs.putting.write_to.Goals as goal
 use Rattle.std.proofs.Common.{length, arith, ◌∙◌, Some, refl, subst, sym}
 use Rattle.draid_names.specs.Faults.{Rose}
 use Rattle.draid_rack.specs.Moments.{LeavesTold}
-use Rattle.draid_columns.specs.Columns.{TellsBoth, WritesRows, in_rows}
+use Rattle.draid_columns.specs.Columns.{WritesRows, in_rows}
+use Rattle.draid_rack.specs.Rack.{OnBothTold}
 use Rattle.draid_columns.specs.declared.rows.Rows.{Rows}
 use Rattle.draid_blocks.proofs.Landings.{counts_done, counts_failed, counts_silent}
 
@@ -20,7 +21,7 @@ returns-in-Ok-clause-lands g c = (
   sym c.answers.ensures ∙ c.if-not-answers.false,
   c.place-leaf.result.leaf,
   leaf_is c.args.slots.now c.args.rows c.args.arm c.place-leaf.result.leaf _ (sym c.requires.fits.slice_is) c.place-leaf.ensures.leaf,
-  subst (λ (on : Rows). TellsBoth (g.R.Rack.told c.args.rack.now) (g.R.Rack.told c.write_rows.new.rack) (WritesRows on c.args.column.now on.count on.count)) c.on.ensures c.in-Ok.ensures.ok,
+  subst (λ (on : Rows). OnBothTold (g.R.Rack.told c.args.rack.now) (g.R.Rack.told c.write_rows.new.rack) (WritesRows on c.args.column.now on.count on.count)) c.on.ensures c.in-Ok.ensures.ok,
 )
 
 pub returns-in-Err-clause-lands : goal.returns-in-Err-clause-lands

@@ -5,6 +5,7 @@ use Rattle.draid_machine.specs.declared.names.Stage.TheVariants.{Writing}
 use Rattle.draid_entries.specs.Maps.{staged}
 use Rattle.draid_blocks.proofs.Entered.{here_gone, tickets_gone}
 use Rattle.draid_blocks.proofs.Turns.{aborts, owed_turns}
+use Rattle.draid_shard.proofs.Changed.{same_arms}
 use Rattle.draid_shard.proofs.Kept.{fitting, valid_with}
 use Rattle.draid_blocks.proofs.tickets.abort.Goals as goal
 
@@ -46,7 +47,7 @@ pub returns-clause-kit : goal.returns-clause-kit
 returns-clause-kit g c = record { rack = refl; areas = record { even = refl; odd = refl } }
 
 pub returns-clause-gone : goal.returns-clause-gone
-returns-clause-gone g c = record { entry = c.release.ensures.gone; groups = record { open_group_is = refl; closing = refl; sealed = refl; committed = refl } }
+returns-clause-gone g c = record { entry = c.release.ensures.gone; groups = record { open_group_is = refl; closing = refl; sealed = refl; committed = refl }; slots = same_arms c.args.shard.now.slots }
 
 pub returns-clause-reserve : goal.returns-clause-reserve
 returns-clause-reserve g c = record { reserved = c.add.ensures.reserved; limit = c.add.ensures.limit }

@@ -1,4 +1,4 @@
-use Rattle.draid_shard.proofs.Changed.{same_entries}
+use Rattle.draid_shard.proofs.Changed.{same_arms, same_entries}
 use Rattle.std.proofs.Common.{rules, ◌≡◌, ◌∙◌, Some, arith, ap, ap₂, refl, sym, subst, length}
 use Rattle.std.proofs.lemmas.Bool.{true≢false}
 use Rattle.draid_names.specs.Numbers.{most_held}
@@ -147,7 +147,7 @@ returns-in-Ok-clause-ticket g c =
         few = omega arith;
       };
       was = e.was;
-      enters = record { entry = e.entered; groups = record { open_group_is = refl; closing = refl; sealed = refl; committed = refl } };
+      enters = record { entry = e.entered; groups = record { open_group_is = refl; closing = refl; sealed = refl; committed = refl }; slots = same_arms c.args.shard.now.slots };
     }
 
 pub returns-in-Err-clause-kit : goal.returns-in-Err-clause-kit
@@ -163,6 +163,7 @@ returns-in-Err-clause-none g c =
         stays = λ w is_in. stays_in c.args.shard.now c.hold.new.space c.hold.new.entries c.hold.new.history w e.same is_in;
       };
       keeps = record { entries = e.same; groups = record { open_group_is = refl; closing = refl; sealed = refl; committed = refl } };
+      slots = same_arms c.args.shard.now.slots;
     }
 
 pub returns-in-Err-clause-reserve : goal.returns-in-Err-clause-reserve
@@ -181,6 +182,7 @@ returns-then-is_full-clause-none g c = record {
     entries = record { at = λ _. refl; held = λ _. refl; count = refl; owed = λ _. refl };
     groups = record { open_group_is = refl; closing = refl; sealed = refl; committed = refl };
   };
+  slots = same_arms c.args.shard.now.slots;
 }
 
 pub returns-then-is_full-clause-refused : goal.returns-then-is_full-clause-refused
@@ -202,6 +204,7 @@ pub returns-in-Some-clause-none : goal.returns-in-Some-clause-none
 returns-in-Some-clause-none g c = record {
   none = record { part = refl; stored = refl; stays = λ w is_in. is_in };
   keeps = record { entries = same_entries c.args.shard.now.entries; groups = record { open_group_is = refl; closing = refl; sealed = refl; committed = refl } };
+  slots = same_arms c.args.shard.now.slots;
 }
 
 pub returns-in-Some-clause-reserve : goal.returns-in-Some-clause-reserve

@@ -5,6 +5,7 @@ use Rattle.draid_entries.specs.Maps.{staged}
 use Rattle.draid_blocks.proofs.Entered.{here_gone, here_turned, tickets_block, tickets_gone}
 use Rattle.draid_blocks.proofs.Placing.{turned_tables}
 use Rattle.draid_blocks.proofs.Turns.{all_put, finishes, misses, owed_turns}
+use Rattle.draid_shard.proofs.Changed.{same_arms}
 use Rattle.draid_shard.proofs.Kept.{fitting, valid_with}
 use Rattle.draid_blocks.proofs.tickets.finish.Goals as goal
 
@@ -83,7 +84,7 @@ pub returns-then-ticket-shard-clause-missed : goal.returns-then-ticket-shard-cla
 returns-then-ticket-shard-clause-missed g c = (c.if-ticket-shard.true, refl)
 
 pub returns-then-ticket-shard-clause-gone : goal.returns-then-ticket-shard-clause-gone
-returns-then-ticket-shard-clause-gone g c = record { entry = c.release.ensures.gone; groups = record { open_group_is = refl; closing = refl; sealed = refl; committed = refl } }
+returns-then-ticket-shard-clause-gone g c = record { entry = c.release.ensures.gone; groups = record { open_group_is = refl; closing = refl; sealed = refl; committed = refl }; slots = same_arms c.args.shard.now.slots }
 
 pub returns-then-ticket-shard-clause-reserve : goal.returns-then-ticket-shard-clause-reserve
 returns-then-ticket-shard-clause-reserve g c = record { reserved = c.add.ensures.reserved; limit = c.add.ensures.limit }
@@ -95,7 +96,7 @@ pub returns-clause-live : goal.returns-clause-live
 returns-clause-live g c = (c.if-ticket-shard.false, refl)
 
 pub returns-clause-sets : goal.returns-clause-sets
-returns-clause-sets g c = record { entry = c.turn.ensures.entered; groups = record { open_group_is = refl; closing = refl; sealed = refl; committed = refl } }
+returns-clause-sets g c = record { entry = c.turn.ensures.entered; groups = record { open_group_is = refl; closing = refl; sealed = refl; committed = refl }; slots = same_arms c.args.shard.now.slots }
 
 pub returns-clause-reserve : goal.returns-clause-reserve
 returns-clause-reserve g c = record { reserved = c.add-2.ensures.reserved; limit = c.add-2.ensures.limit }

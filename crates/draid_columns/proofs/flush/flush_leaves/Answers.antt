@@ -1,7 +1,7 @@
 use Rattle.std.proofs.Common.{◌≡◌, ◌≤◌, ◌+◌, ◌++◌, ◌∷◌, [], ◌∙◌, ℕ, List, Vec, Global, true, false, arith, ap, sym, subst, length, take, slice_index_or, vec_capacity}
 use Rattle.std.specs.Result.{is_err}
 use Rattle.std.proofs.lemmas.List.{take_more}
-use Rattle.draid_columns.specs.Columns.{TellsBoth}
+use Rattle.draid_rack.specs.Rack.{OnBothTold}
 use Rattle.draid_columns.specs.Flushes.{CountsFailed, FlushesBut}
 use Rattle.draid_columns.proofs.Flushing.{counts_failed, counts_flushed, err_of, failed_more, flushed_more, longer, ok_of}
 use Rattle.draid_columns.proofs.flush.flush_leaves.Goals.{then-is_err, else-is_err}
@@ -23,8 +23,8 @@ loop-leaf-preserved g c =
             shape = c.flush.ensures.shape ∙ before.shape;
             few = subst (λ xs. length xs ≤ c.loop-leaf.leaf-index + 1) (sym items) (longer was leaf c.loop-leaf.leaf-index before.few);
             room = subst (λ (v : Vec ℕ Global). length c.args.leaves.now ≤ vec_capacity v) (sym w.failed-is) (let a = w.push_reserved.ensures.capacity in let b = before.room in omega (arith, a, b));
-            told = subst (λ xs. TellsBoth (rack.told c.args.rack.now) (rack.told c.flush.new.self) (FlushesBut xs c.if-is_err.failed.items)) (sym more)
-                (subst (λ xs. TellsBoth (rack.told c.args.rack.now) (rack.told c.flush.new.self) (FlushesBut (all ++ leaf ∷ []) xs)) (sym items)
+            told = subst (λ xs. OnBothTold (rack.told c.args.rack.now) (rack.told c.flush.new.self) (FlushesBut xs c.if-is_err.failed.items)) (sym more)
+                (subst (λ xs. OnBothTold (rack.told c.args.rack.now) (rack.told c.flush.new.self) (FlushesBut (all ++ leaf ∷ []) xs)) (sym items)
                 (failed_more all was leaf (rack.told c.args.rack.now) (rack.told c.loop-leaf.rack) (rack.told c.flush.new.self) before.told (err_of c.flush.result fails c.flush.ensures.err)));
             cause = subst (λ xs. CountsFailed xs c.if-is_err.failed.items (rack.faults c.args.rack.now) (rack.faults c.flush.new.self)) (sym more)
                 (subst (λ xs. CountsFailed (all ++ leaf ∷ []) xs (rack.faults c.args.rack.now) (rack.faults c.flush.new.self)) (sym items)
@@ -38,8 +38,8 @@ loop-leaf-preserved g c =
             shape = c.flush.ensures.shape ∙ before.shape;
             few = subst (λ xs. length xs ≤ c.loop-leaf.leaf-index + 1) (sym items) (let a = before.few in omega (arith, a));
             room = subst (λ (v : Vec ℕ Global). length c.args.leaves.now ≤ vec_capacity v) (sym w.failed-is) before.room;
-            told = subst (λ xs. TellsBoth (rack.told c.args.rack.now) (rack.told c.flush.new.self) (FlushesBut xs c.if-is_err.failed.items)) (sym more)
-                (subst (λ xs. TellsBoth (rack.told c.args.rack.now) (rack.told c.flush.new.self) (FlushesBut (all ++ leaf ∷ []) xs)) (sym items)
+            told = subst (λ xs. OnBothTold (rack.told c.args.rack.now) (rack.told c.flush.new.self) (FlushesBut xs c.if-is_err.failed.items)) (sym more)
+                (subst (λ xs. OnBothTold (rack.told c.args.rack.now) (rack.told c.flush.new.self) (FlushesBut (all ++ leaf ∷ []) xs)) (sym items)
                 (flushed_more all was leaf (rack.told c.args.rack.now) (rack.told c.loop-leaf.rack) (rack.told c.flush.new.self) before.told (ok_of c.flush.result fine c.flush.ensures.ok)));
             cause = subst (λ xs. CountsFailed xs c.if-is_err.failed.items (rack.faults c.args.rack.now) (rack.faults c.flush.new.self)) (sym more)
                 (subst (λ xs. CountsFailed (all ++ leaf ∷ []) xs (rack.faults c.args.rack.now) (rack.faults c.flush.new.self)) (sym items)

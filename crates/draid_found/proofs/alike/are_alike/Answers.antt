@@ -1,7 +1,7 @@
 use Rattle.std.proofs.Common.{arith, List, subst, ◌∙◌, sym}
 use Rattle.draid_names.specs.declared.arm.Arm.{Arm}
 use Rattle.draid_slots.specs.Table.{arms_of}
-use Rattle.draid_found.specs.Together.{AreSameArms}
+use Rattle.draid_shard.specs.Alike.{AreSameArms}
 use Rattle.draid_found.proofs.Together.{slots_more, is_so, not_so}
 use Rattle.draid_machine.proofs.Small.{absurd_test}
 use Rattle.draid_found.proofs.alike.are_alike.Goals as goal

@@ -1,6 +1,6 @@
 use Rattle.std.proofs.Common.{◌<◌, ◌≤◌, ℕ}
 use Rattle.draid_slots.specs.Table.{arms_of}
-use Rattle.draid_found.specs.Together.{AreSameArms}
+use Rattle.draid_shard.specs.Alike.{AreSameArms}
 use Rattle.draid_found.proofs.alike.are_alike.Given as goal
 
 -- the slots so far have the same arms

@@ -1,7 +1,7 @@
 use Rattle.std.proofs.Common.{◌≡◌, ◌<◌, ◌≤◌, ℕ, Some, length}
 use Rattle.std.specs.Prelude.{slice_get}
 use Rattle.draid_names.specs.declared.arm.Arm.{Arm}
-use Rattle.draid_found.specs.Together.{IsSameArm}
+use Rattle.draid_shard.specs.Alike.{IsSameArm}
 use Rattle.draid_found.proofs.alike.have_same_arms.Given as goal
 
 -- the arms so far are the same

@@ -40,6 +40,8 @@ pool_of-requires g c =
       shards = c.in-Ok.ensures.reopened;
       found = (let found = c.in-Ok-find_blocks.found in
           subst (λ (xs : List (Shard g.row.H-R.Denot g.row.H-A.Denot)). AreFound xs (get nat_eq found.newest) found.seq) c.deref.ensures.value c.in-Ok-find_blocks.ensures.found);
+      together = subst (λ (xs : List (Shard g.row.H-R.Denot g.row.H-A.Denot)). AreTogether xs (length xs)) c.deref.ensures.value c.in-Ok-find_blocks.ensures.together;
+      low = λ m shard there. (c.in-Ok.ensures.over m shard there).opens.low;
     }
 
 pub give_back-requires-clause-few : goal.give_back-requires-clause-few

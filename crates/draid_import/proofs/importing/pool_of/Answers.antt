@@ -23,7 +23,7 @@ free_all-requires g c =
 
 pub returns : goal.returns
 returns g c = record {
-  whole = imported_whole g.R.Rack g.A.Area _ (layout_of c.args.uber) c.args.shards.items (get nat_eq c.args.found.newest) c.requires.uber refl c.geometry.ensures c.requires.shards c.requires.found c.free_all.ensures.freed
+  whole = imported_whole g.R.Rack g.A.Area _ (layout_of c.args.uber) c.args.shards.items (get nat_eq c.args.found.newest) c.requires.uber refl c.geometry.ensures c.requires.shards c.requires.found c.requires.together c.requires.low c.free_all.ensures.freed
       (λ object. refl) (ap (λ n. n + 1) c.committed-floor.ensures);
   made = record {
     uber_is = refl;

@@ -2,6 +2,7 @@ use Rattle.std.proofs.Common.{◌-◌, ◌*◌, ◌∙◌, ℕ, List, arith, ap,
 use Rattle.draid_spec.specs.Geometry.{metaslab_sectors}
 use Rattle.draid_entries.specs.Entries.{count_of}
 use Rattle.draid_record.specs.Record.{limits_of}
+use Rattle.draid_record.specs.declared.sizes.TheConstants.{BLOCK_BYTES}
 use Rattle.draid_stable.specs.Opening.{AreRead, has_leaf, len_of}
 use Rattle.draid_import.specs.Reopening.{AreReadFrom}
 use Rattle.draid_import.proofs.reopening.read_kit.Goals as goal
@@ -66,8 +67,8 @@ returns-in-Ok-read_tables g c =
             bytes = c.in-Ok.bytes.items;
             are = c.in-Ok.ensures.bytes;
             read = read;
-            place = c.first_block-blocks_at.ensures ∙ ap (λ (bytes : List ℕ). len_of bytes - 72 * count_of c.in-Ok-read_tables.tables.entries) c.deref-in-Ok-read_tables.ensures.value
-                ∙ ap (λ n. len_of c.in-Ok.bytes.items - 72 * n) (let count = read.tables.entries.count in omega (arith, count));
+            place = c.first_block-blocks_at.ensures ∙ ap (λ (bytes : List ℕ). len_of bytes - BLOCK_BYTES * count_of c.in-Ok-read_tables.tables.entries) c.deref-in-Ok-read_tables.ensures.value
+                ∙ ap (λ n. len_of c.in-Ok.bytes.items - BLOCK_BYTES * n) (let count = read.tables.entries.count in omega (arith, count));
           });
       refused = tt;
     }

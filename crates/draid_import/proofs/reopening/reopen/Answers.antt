@@ -10,7 +10,7 @@ use Rattle.draid_stable.proofs.There.{whole_parts}
 use Rattle.draid_shard.specs.Fits.{is_rebuild}
 use Rattle.draid_import.specs.Reopening.{area_of_kit}
 use Rattle.draid_pool.proofs.Rooms.{own_version}
-use Rattle.draid_import.proofs.Once.{told_once}
+use Rattle.draid_import.proofs.Once.{told_low, told_once}
 use Rattle.draid_import.proofs.Reopened.{are_here, both_same, drops_but, enough_room, leaves_there, no_writes, tables_fit, told_opening, told_place}
 use Rattle.draid_import.proofs.reopening.reopen.Goals as goal
 
@@ -83,6 +83,7 @@ returns g c =
             in_range = ranged_spelled limits r.value r.ranged;
             read = told_opening (g.A.Area.told (area_of_kit c.args.kit c.args.group)) limits there c.in-Ok.ensures.read.bytes r.value c.in-Ok.ensures.read.are r.found;
             arms = t.arms;
+            low = record { detached = t.detached; below = told_low limits r.value.slots r.ranged.slots_are c.in-Ok.it.tables.slots t.arms t.detached };
             entries = t.entries;
             is_in = λ w doubtful. record {
               held = λ key. sym (t.entries.held key);

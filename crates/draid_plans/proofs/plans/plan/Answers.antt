@@ -46,5 +46,5 @@ returns-clause-holds c =
     }
 
 pub returns-clause-state : goal.returns-clause-state
-returns-clause-state c = λ w reached has suits number max.
-    plans c.args.slots.now c.list_targets.ensures.table.layout w reached has c.fill_for.new.slots c.args.marks.now c.args.kind _ suits (returns-clause-pass c) (returns-clause-logs c) number max
+returns-clause-state c = λ w once has suits number max.
+    plans c.args.slots.now w has once c.fill_for.new.slots c.args.marks.now c.args.kind _ suits (returns-clause-pass c) (returns-clause-logs c) number max

@@ -15,11 +15,11 @@ returns-then-has_target_in-clause-targets c =
     )
 
 pub returns-then-has_target_in-clause-state : goal.returns-then-has_target_in-clause-state
-returns-then-has_target_in-clause-state c = λ w reached has suits.
+returns-then-has_target_in-clause-state c = λ w has suits.
     let slots = c.args.slots.now in
     let test = c.loop-slot-test.true in
     let count = c.children-slot-end.ensures.count in (
-      λ is. some_there slots c.children-slot-end.ensures.sound.layout w reached has c.args.marks.now c.args.kind suits
+      λ is. some_there slots w has c.args.marks.now c.args.kind suits
           (some_below slots (is_target slots c.args.marks.now c.args.kind) c.loop-slot.slot slots.geometry.spec.children (omega (arith, test, count)) (c.has_target_in.ensures.0 c.if-has_target_in.true)),
       λ some. refl,
     )
@@ -40,12 +40,12 @@ returns-clause-targets c =
     )
 
 pub returns-clause-state : goal.returns-clause-state
-returns-clause-state c = λ w reached has suits.
+returns-clause-state c = λ w has suits.
     let past = c.loop-slot-test.false in
     let upto = c.loop-slot.auto.slot-end in
     let count = c.children-slot-end.ensures.count in
     let all : c.loop-slot.slot ≡ c.args.slots.now.geometry.spec.children = omega (arith, past, upto, count) in (
       λ is. absurd (true≢false (sym is)),
-      λ some. absurd (some (none_there c.args.slots.now c.children-slot-end.ensures.sound.layout w reached has c.args.marks.now c.args.kind suits
+      λ some. absurd (some (none_there c.args.slots.now w has c.args.marks.now c.args.kind suits
           (subst (λ n. filter (is_target c.args.slots.now c.args.marks.now c.args.kind) (places_below c.args.slots.now n) ≡ []) all c.loop-slot.invariant))),
     )

@@ -1,7 +1,7 @@
 use Rattle.std.proofs.Common.{◌∙◌, ◌++◌, ◌∷◌, [], List, arith, ap, refl, Err, subst}
 use Rattle.draid_machine.specs.declared.event.Event.{Event}
 use Rattle.draid_machine.specs.declared.event.Event.TheVariants.{Close}
-use Rattle.draid_shard.proofs.Changed.{same_entries}
+use Rattle.draid_shard.proofs.Changed.{arms_kept, same_arms, same_entries}
 use Rattle.draid_pool.proofs.Closed.{asked_nothing, asked_valid, closed_valid, closes, kept_in, kept_valid}
 use Rattle.draid_entries.specs.History.{AskIs}
 use Rattle.draid_pool.proofs.closing.close_group.Goals as goal
@@ -18,6 +18,7 @@ returns-in-Err-Worn g c =
       not_worn = tt;
       closes = tt;
       none = asked_nothing g.R.Rack c.args.shard.now c.ask_for_group.new.self c.ask_for_group.ensures.same;
+      slots = same_arms c.args.shard.now.slots;
       refused = subst (λ e. AskIs c.args.shard.now.history 3 0 (Err e)) c.in-Err-Worn.field-0-is c.in-Err-Worn.ensures.answer;
       reserve = record { reserved = c.ask_for_group.ensures.same.reserved; limit = c.ask_for_group.ensures.same.limit };
     }
@@ -31,6 +32,7 @@ returns-in-Err-NoMemory g c =
       not_worn = tt;
       closes = tt;
       none = asked_nothing g.R.Rack c.args.shard.now c.ask_for_group.new.self c.ask_for_group.ensures.same;
+      slots = same_arms c.args.shard.now.slots;
       refused = tt;
       reserve = record { reserved = c.ask_for_group.ensures.same.reserved; limit = c.ask_for_group.ensures.same.limit };
     }
@@ -50,7 +52,9 @@ returns-in_default g c =
           stays = kept_in g.R.Rack c.args.shard.now c.reserve.new.self c.in_default.ensures.kept c.ask_for_group.new.self;
         };
         keeps = record { entries = same_entries c.args.shard.now.entries; groups = record { open_group_is = refl; closing = refl; sealed = refl; committed = refl } };
+        slots = arms_kept c.args.shard.now.slots c.reserve.new.self c.in_default.ensures.kept;
       };
+      slots = arms_kept c.args.shard.now.slots c.reserve.new.self c.in_default.ensures.kept;
       refused = tt;
       reserve = record { reserved = c.ask_for_group.ensures.same.reserved; limit = c.ask_for_group.ensures.same.limit };
     }
@@ -64,6 +68,7 @@ returns-then-group-eq-LAST_NUMBER g c =
       not_worn = tt;
       closes = tt;
       none = asked_nothing g.R.Rack c.args.shard.now c.ask_for_group.new.self c.ask_for_group.ensures.same;
+      slots = same_arms c.args.shard.now.slots;
       refused = (c.in-Ok.ensures.answer, c.if-group-eq-LAST_NUMBER.true);
       reserve = record { reserved = c.ask_for_group.ensures.same.reserved; limit = c.ask_for_group.ensures.same.limit };
     }
@@ -89,6 +94,7 @@ returns g c =
           (c.in-Ok.ensures.answer, omega (arith, low, open_is, other)));
       closes = record { entries = same_entries c.args.shard.now.entries; open_group_is = refl; closing = refl; sealed = refl; committed = refl };
       none = tt;
+      slots = arms_kept c.args.shard.now.slots c.reserve.new.self c.in-Ok-reserve.ensures.kept;
       refused = tt;
       reserve = record { reserved = c.add_asked.ensures.reserved ∙ c.in-Ok.ensures.same.reserved; limit = c.add_asked.ensures.limit ∙ c.in-Ok.ensures.same.limit };
     }

@@ -25,5 +25,6 @@ returns g c =
           c.release_freed.ensures.drops c.commit.ensures c.drop_detached.ensures;
       leaves = commit_drops g.R.Rack c.args.shard.now c.requires.valid c.args.group c.requires.sealed.0 c.requires.sealed.1 c.drop_detached.new.rack c.release_freed.new.space c.release_freed.new.entries c.commit.new.self c.add.new.self
           c.release_freed.ensures.drops c.commit.ensures c.drop_detached.ensures;
+      slots = c.commit.ensures;
       reserve = record { reserved = c.add.ensures.reserved; limit = c.add.ensures.limit };
     }

@@ -15,18 +15,18 @@ pub returns-then-crash : goal.returns-then-crash
 returns-then-crash g c =
     let shelf = g.H.Shelf in
     record {
-      back = λ x represents. (let table : ℕ → Option Pointer = λ object. get nat_eq c.args.pool.objects object in
+      back = λ x represents. (let table : ℕ → Option Pointer = λ object. get nat_eq c.args.pool.own.objects object in
           let content = g.H.A.Area.told (area_of c.args.pool.uber) in
           let parts = stands_parts g.H.R.Rack g.H.A.Area c.args.pool table x represents.stands in
-          let held = holds_pool g.H.R.Rack g.H.A.Area c.args.pool.shards.items content x parts (shelf.told c.args.shelf.now) (shelf.told c.give_back.new.shelf) (shelf.counts c.args.shelf.now) (shelf.counts c.give_back.new.shelf)
+          let held = holds_pool g.H.R.Rack g.H.A.Area c.args.pool.metaslabs.shards.items content x parts (shelf.told c.args.shelf.now) (shelf.told c.give_back.new.shelf) (shelf.counts c.args.shelf.now) (shelf.counts c.give_back.new.shelf)
           c.give_back.ensures.returns (shelf.told c.give_uber.new.self) (c.give_uber.ensures.told ∙ ap (λ a. gives_uber (g.H.A.Area.told a) (shelf.told c.give_back.new.shelf)) c.into_area.ensures) in
-          let given = importable_back g.H.R.Rack g.H.A.Area c.args.pool.shards.items x represents.stands.pieces represents.stands.shards represents.stands.each (shelf.leaves c.give_uber.new.self) represents.stands.arms represents.stands.alike
-          (λ m y at. (let is = represents.stands.groups.committed m y at in omega (arith, is))) (λ m shard there. c.give_uber.ensures.leaves m ∙ c.give_back.ensures.leaves.own m shard there) content (shelf.told c.args.shelf.now) (shelf.told c.give_back.new.shelf) (shelf.counts c.args.shelf.now)
+          let given = importable_back g.H.R.Rack g.H.A.Area c.args.pool.metaslabs.shards.items x represents.stands.pieces represents.stands.shards represents.stands.each (shelf.leaves c.give_uber.new.self) represents.stands.shared represents.stands.versions
+          represents.stands.alike x.committed (omega arith) represents.stands.groups.committed (λ m shard there. c.give_uber.ensures.leaves m ∙ c.give_back.ensures.leaves.own m shard there) content (shelf.told c.args.shelf.now) (shelf.told c.give_back.new.shelf) (shelf.counts c.args.shelf.now)
           (shelf.counts c.give_back.new.shelf) c.give_back.ensures.returns (shelf.told c.give_uber.new.self) (c.give_uber.ensures.told ∙ ap (λ a. gives_uber (g.H.A.Area.told a) (shelf.told c.give_back.new.shelf)) c.into_area.ensures) in
           record {
             importable = importable_left x (shelf.told c.give_uber.new.self) (shelf.told c.crash.new.self) (shelf.leaves c.give_uber.new.self) (shelf.leaves c.crash.new.self) c.crash.ensures.told c.crash.ensures.leaves given;
             held = pool_crashed x c.args.crash (shelf.told c.args.shelf.now) (shelf.told c.give_uber.new.self) (shelf.told c.crash.new.self) c.if-crash.true c.crash.ensures.told held;
-            counted = counted_as g.H.R.Rack g.H.A.Area c.args.pool.shards.items content x parts (shelf.told c.args.shelf.now) (shelf.told c.give_back.new.shelf) (shelf.counts c.args.shelf.now) (shelf.counts c.give_back.new.shelf)
+            counted = counted_as g.H.R.Rack g.H.A.Area c.args.pool.metaslabs.shards.items content x parts (shelf.told c.args.shelf.now) (shelf.told c.give_back.new.shelf) (shelf.counts c.args.shelf.now) (shelf.counts c.give_back.new.shelf)
                 c.give_back.ensures.returns (shelf.counts c.crash.new.self) (λ m. c.crash.ensures.counts m ∙ c.give_uber.ensures.counts m);
             uber = c.crash.ensures.uber_count ∙ (c.give_uber.ensures.count ∙ (ap g.H.A.Area.faults c.into_area.ensures ∙ sym represents.stands.uber.count));
           });
@@ -44,18 +44,18 @@ pub returns : goal.returns
 returns g c =
     let shelf = g.H.Shelf in
     record {
-      back = λ x represents. (let table : ℕ → Option Pointer = λ object. get nat_eq c.args.pool.objects object in
+      back = λ x represents. (let table : ℕ → Option Pointer = λ object. get nat_eq c.args.pool.own.objects object in
           let content = g.H.A.Area.told (area_of c.args.pool.uber) in
           let parts = stands_parts g.H.R.Rack g.H.A.Area c.args.pool table x represents.stands in
-          let held = holds_pool g.H.R.Rack g.H.A.Area c.args.pool.shards.items content x parts (shelf.told c.args.shelf.now) (shelf.told c.give_back.new.shelf) (shelf.counts c.args.shelf.now) (shelf.counts c.give_back.new.shelf)
+          let held = holds_pool g.H.R.Rack g.H.A.Area c.args.pool.metaslabs.shards.items content x parts (shelf.told c.args.shelf.now) (shelf.told c.give_back.new.shelf) (shelf.counts c.args.shelf.now) (shelf.counts c.give_back.new.shelf)
           c.give_back.ensures.returns (shelf.told c.give_uber.new.self) (c.give_uber.ensures.told ∙ ap (λ a. gives_uber (g.H.A.Area.told a) (shelf.told c.give_back.new.shelf)) c.into_area.ensures) in
           record {
-            importable = importable_back g.H.R.Rack g.H.A.Area c.args.pool.shards.items x represents.stands.pieces represents.stands.shards represents.stands.each (shelf.leaves c.give_uber.new.self) represents.stands.arms
-                represents.stands.alike (λ m y at. (let is = represents.stands.groups.committed m y at in omega (arith, is))) (λ m shard there. c.give_uber.ensures.leaves m ∙ c.give_back.ensures.leaves.own m shard there) content (shelf.told c.args.shelf.now)
+            importable = importable_back g.H.R.Rack g.H.A.Area c.args.pool.metaslabs.shards.items x represents.stands.pieces represents.stands.shards represents.stands.each (shelf.leaves c.give_uber.new.self) represents.stands.shared
+                represents.stands.versions represents.stands.alike x.committed (omega arith) represents.stands.groups.committed (λ m shard there. c.give_uber.ensures.leaves m ∙ c.give_back.ensures.leaves.own m shard there) content (shelf.told c.args.shelf.now)
                 (shelf.told c.give_back.new.shelf) (shelf.counts c.args.shelf.now) (shelf.counts c.give_back.new.shelf) c.give_back.ensures.returns (shelf.told c.give_uber.new.self)
                 (c.give_uber.ensures.told ∙ ap (λ a. gives_uber (g.H.A.Area.told a) (shelf.told c.give_back.new.shelf)) c.into_area.ensures);
             held = pool_uncrashed x c.args.crash (shelf.told c.args.shelf.now) (shelf.told c.give_uber.new.self) c.if-crash.false held;
-            counted = counted_as g.H.R.Rack g.H.A.Area c.args.pool.shards.items content x parts (shelf.told c.args.shelf.now) (shelf.told c.give_back.new.shelf) (shelf.counts c.args.shelf.now) (shelf.counts c.give_back.new.shelf)
+            counted = counted_as g.H.R.Rack g.H.A.Area c.args.pool.metaslabs.shards.items content x parts (shelf.told c.args.shelf.now) (shelf.told c.give_back.new.shelf) (shelf.counts c.args.shelf.now) (shelf.counts c.give_back.new.shelf)
                 c.give_back.ensures.returns (shelf.counts c.give_uber.new.self) (λ m. c.give_uber.ensures.counts m);
             uber = c.give_uber.ensures.count ∙ (ap g.H.A.Area.faults c.into_area.ensures ∙ sym represents.stands.uber.count);
           });

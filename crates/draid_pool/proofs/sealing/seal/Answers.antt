@@ -1,5 +1,5 @@
 use Rattle.std.proofs.Common.{◌≡◌, arith, refl, rules, subst}
-use Rattle.draid_shard.proofs.Changed.{same_entries}
+use Rattle.draid_shard.proofs.Changed.{same_arms, same_entries}
 use Rattle.draid_pool.specs.Groups.{OpenUpto}
 use Rattle.draid_pool.proofs.Counting.{begin_low, none_open, open_upto}
 use Rattle.draid_pool.proofs.sealing.seal.Goals as goal
@@ -35,6 +35,7 @@ returns-then-tickets-gt0 g c =
         why = (c.if-tickets-gt0.true, open_upto c.args.shard.now c.args.group c.tickets_upto-tickets.result c.tickets_upto-tickets.ensures);
       };
       keeps = record { entries = same_entries c.args.shard.now.entries; groups = record { open_group_is = refl; closing = refl; sealed = refl; committed = refl } };
+      slots = same_arms c.args.shard.now.slots;
       later = record { even = omega arith; odd = omega arith };
       reserve = record { reserved = refl; limit = refl };
     }
@@ -48,6 +49,7 @@ returns-in-Err g c =
       seals = tt;
       refused = search rules;
       keeps = record { entries = same_entries c.args.shard.now.entries; groups = record { open_group_is = refl; closing = refl; sealed = refl; committed = refl } };
+      slots = same_arms c.args.shard.now.slots;
       later = record { even = omega arith; odd = omega arith };
       reserve = record { reserved = refl; limit = refl };
     }
@@ -61,6 +63,7 @@ returns-in-Ok g c =
       seals = c.seal_by.ensures.seals;
       refused = c.seal_by.ensures.refused;
       keeps = c.seal_by.ensures.keeps;
+      slots = c.seal_by.ensures.slots;
       later = c.seal_by.ensures.later;
       reserve = c.seal_by.ensures.reserve;
     }

@@ -2,7 +2,7 @@ use Rattle.std.specs.Prelude.{vec_capacity}
 use Rattle.std.proofs.Common.{Err, length, ◌≡◌, ◌≤◌, ◌+◌, ◌^◌, ◌∙◌, ℕ, true, IsSome, List, Some, Vec, Global, All, ap, refl, sym, subst}
 use Rattle.draid_names.specs.declared.pointer.Pointer.{Pointer}
 use Rattle.draid_area.specs.Area as content
-use Rattle.draid_columns.specs.Columns.{TellsBoth}
+use Rattle.draid_rack.specs.Rack.{OnBothTold}
 use Rattle.draid_columns.specs.Flushes.{FlushesBut, has_leaf}
 use Rattle.draid_machine.specs.declared.event.Event.TheVariants.{Seal}
 use Rattle.draid_machine.specs.After.{image_of, seal_state, sealed_core}
@@ -23,7 +23,7 @@ use Rattle.draid_stable.proofs.Logs.{copied_small}
 use Rattle.draid_record.specs.Record.{told_record}
 use Rattle.draid_shard.specs.Fits.{Valid, birth_groups, oldest_open}
 use Rattle.draid_shard.specs.States.{Does, IsIn, layout_by, part_of}
-use Rattle.draid_shard.proofs.Changed.{same_entries}
+use Rattle.draid_shard.proofs.Changed.{same_arms, same_entries}
 use Rattle.draid_shard.proofs.Staging.{room_for}
 use Rattle.draid_shard.proofs.Standing.{reached_more}
 use Rattle.draid_pool.specs.Groups.{ListsOnce}
@@ -48,8 +48,8 @@ silent : (g : given.Over) (c : After-add g) → AreSilent c.args.shard.now.slots
 silent g c = subst (λ failed. AreSilent c.args.shard.now.slots failed c.mark_silent.new.marks.items) c.deref-2.ensures.value c.mark_silent.ensures.silent
 
 told : (g : given.Over) (c : After-add g)
-    → TellsBoth (g.R.Rack.told c.args.shard.now.rack) (g.R.Rack.told c.flush_leaves.new.rack) (FlushesBut c.args.plan.leaves.items c.flush_leaves.new.failed.items)
-told g c = subst (λ leaves. TellsBoth (g.R.Rack.told c.args.shard.now.rack) (g.R.Rack.told c.flush_leaves.new.rack) (FlushesBut leaves c.flush_leaves.new.failed.items)) c.deref.ensures.value c.flush_leaves.ensures.told
+    → OnBothTold (g.R.Rack.told c.args.shard.now.rack) (g.R.Rack.told c.flush_leaves.new.rack) (FlushesBut c.args.plan.leaves.items c.flush_leaves.new.failed.items)
+told g c = subst (λ leaves. OnBothTold (g.R.Rack.told c.args.shard.now.rack) (g.R.Rack.told c.flush_leaves.new.rack) (FlushesBut leaves c.flush_leaves.new.failed.items)) c.deref.ensures.value c.flush_leaves.ensures.told
 
 among : (g : given.Over) (c : After-add g) → All (λ leaf. has_leaf c.args.plan.leaves.items leaf ≡ true) c.flush_leaves.new.failed.items
 among g c = subst (λ (leaves : List ℕ). All (λ leaf. has_leaf leaves leaf ≡ true) c.flush_leaves.new.failed.items) c.deref.ensures.value c.flush_leaves.ensures.cause.among
@@ -179,6 +179,7 @@ returns g c =
       seals = record { entries = same_entries c.args.shard.now.entries; open_group_is = refl; closing = refl; sealed = refl; committed = refl };
       refused = tt;
       keeps = tt;
+      slots = record { same = (table g at_add).same; arms_stay = (table g at_add).arms_stay; detached_stay = (table g at_add).detached_stay };
       later = record { even = c.write_to.ensures.even_later; odd = c.write_to.ensures.odd_later };
       reserve = record { reserved = c.add.ensures.reserved; limit = c.add.ensures.limit };
     }
@@ -193,11 +194,12 @@ returns-in-Err-Failed g c = record {
   refused = record {
     none = unsealed_none c.args.shard.now c.flush_leaves.new.rack c.write_to.new.even c.write_to.new.odd;
     leaves = flushes_leave c.args.plan.leaves.items c.flush_leaves.new.failed.items (g.R.Rack.told c.args.shard.now.rack) (g.R.Rack.told c.flush_leaves.new.rack)
-        (subst (λ leaves. TellsBoth (g.R.Rack.told c.args.shard.now.rack) (g.R.Rack.told c.flush_leaves.new.rack) (FlushesBut leaves c.flush_leaves.new.failed.items)) c.deref.ensures.value c.flush_leaves.ensures.told);
+        (subst (λ leaves. OnBothTold (g.R.Rack.told c.args.shard.now.rack) (g.R.Rack.told c.flush_leaves.new.rack) (FlushesBut leaves c.flush_leaves.new.failed.items)) c.deref.ensures.value c.flush_leaves.ensures.told);
     counts = c.flush_leaves.ensures.cause.later;
     why = (c.requires.settled, c.write_to.ensures.cause (c.in-Err-Failed.is ∙ ap Err c.in-Err-Failed.field-0-is));
   };
   keeps = unsealed_keeps c.args.shard.now c.flush_leaves.new.rack c.write_to.new.even c.write_to.new.odd;
+  slots = same_arms c.args.shard.now.slots;
   later = record { even = c.write_to.ensures.even_later; odd = c.write_to.ensures.odd_later };
   reserve = record { reserved = refl; limit = refl };
 }
@@ -211,11 +213,12 @@ returns-in-Err-NoMemory g c = record {
   refused = record {
     none = unsealed_none c.args.shard.now c.flush_leaves.new.rack c.write_to.new.even c.write_to.new.odd;
     leaves = flushes_leave c.args.plan.leaves.items c.flush_leaves.new.failed.items (g.R.Rack.told c.args.shard.now.rack) (g.R.Rack.told c.flush_leaves.new.rack)
-        (subst (λ leaves. TellsBoth (g.R.Rack.told c.args.shard.now.rack) (g.R.Rack.told c.flush_leaves.new.rack) (FlushesBut leaves c.flush_leaves.new.failed.items)) c.deref.ensures.value c.flush_leaves.ensures.told);
+        (subst (λ leaves. OnBothTold (g.R.Rack.told c.args.shard.now.rack) (g.R.Rack.told c.flush_leaves.new.rack) (FlushesBut leaves c.flush_leaves.new.failed.items)) c.deref.ensures.value c.flush_leaves.ensures.told);
     counts = c.flush_leaves.ensures.cause.later;
     why = tt;
   };
   keeps = unsealed_keeps c.args.shard.now c.flush_leaves.new.rack c.write_to.new.even c.write_to.new.odd;
+  slots = same_arms c.args.shard.now.slots;
   later = record { even = c.write_to.ensures.even_later; odd = c.write_to.ensures.odd_later };
   reserve = record { reserved = refl; limit = refl };
 }

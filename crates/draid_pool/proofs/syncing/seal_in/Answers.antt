@@ -4,10 +4,11 @@ use Rattle.draid_names.specs.Faults.{Rose}
 use Rattle.draid_pool.specs.Groups.{OpenUpto, SealIsRefused, area_in}
 use Rattle.draid_shard.specs.States.{IsIn}
 use Rattle.draid_pool.specs.declared.fault.SyncFault.TheVariants as sync
+use Rattle.draid_shard.proofs.Changed.{same_arms}
 use Rattle.draid_shard.proofs.Shown.{state_shown}
 use Rattle.draid_pool.proofs.Rises.{records_rose, records_still}
 use Rattle.draid_pool.proofs.Turns.{no_tickets, not_sealed, seal_fault, sealed, stays_sealed}
-use Rattle.draid_pool.proofs.Refusing.{memory_no_shelf, no_refusal}
+use Rattle.draid_pool.proofs.Refusing.{memory_no_last, memory_no_shelf, no_refusal, shelf_no_last}
 use Rattle.draid_pool.proofs.syncing.seal_in.Goals as goal
 
 pub unreachable-requires : goal.unreachable-requires
@@ -23,11 +24,12 @@ pub returns-in-Ok : goal.returns-in-Ok
 returns-in-Ok g c =
     record {
       valid = c.in-Ok.ensures.valid;
-      table = record { part = c.in-Ok.ensures.sealed.does.part; entries = c.in-Ok.ensures.seals.entries; committed = c.in-Ok.ensures.seals.committed };
+      table = record { part = c.in-Ok.ensures.sealed.does.part; entries = c.in-Ok.ensures.seals.entries; committed = c.in-Ok.ensures.seals.committed; slots = c.in-Ok.ensures.slots };
       sealed = (c.in-Ok.ensures.seals.closing ∙ c.requires.closing, c.in-Ok.ensures.seals.sealed);
       low = c.in-Ok.ensures.sealed.low;
       later = c.in-Ok.ensures.later;
       cause = λ failed. absurd (no_refusal failed);
+      not_last = λ is. no_refusal is;
       seals = λ part pieces x is. (let e = c.in-Ok.ensures in
           sealed g.R.Rack g.A.Area part pieces c.args.shard.now c.seal.new.shard c.args.group c.in-Ok.sealed.thin x is e.valid e.sealed e.other e.reserve e.later);
     }
@@ -36,10 +38,11 @@ pub returns-in-Err-Area : goal.returns-in-Err-Area
 returns-in-Err-Area g c =
     record {
       valid = c.in-Err-Area.ensures.valid;
-      table = record { part = c.in-Err-Area.ensures.refused.none.part; entries = c.in-Err-Area.ensures.keeps.entries; committed = c.in-Err-Area.ensures.keeps.groups.committed };
+      table = record { part = c.in-Err-Area.ensures.refused.none.part; entries = c.in-Err-Area.ensures.keeps.entries; committed = c.in-Err-Area.ensures.keeps.groups.committed; slots = c.in-Err-Area.ensures.slots };
       sealed = tt;
       low = tt;
       later = c.in-Err-Area.ensures.later;
+      not_last = λ is. shelf_no_last is;
       cause = λ is. (let old = c.args.shard.now in
           let new = c.seal.new.shard in
           let why : ((w : machine.State) → IsIn old w → OpenUpto w c.args.group 0) × Rose (g.A.Area.faults (area_in old c.args.group)) (g.A.Area.faults (area_in new c.args.group)) = subst (SealIsRefused g.A.Area.faults old new c.args.group) c.in-Err-Area.field-0-is c.in-Err-Area.ensures.refused.why in
@@ -53,11 +56,12 @@ pub returns-in-Err-NoMemory : goal.returns-in-Err-NoMemory
 returns-in-Err-NoMemory g c =
     record {
       valid = c.in-Err-NoMemory.ensures.valid;
-      table = record { part = c.in-Err-NoMemory.ensures.refused.none.part; entries = c.in-Err-NoMemory.ensures.keeps.entries; committed = c.in-Err-NoMemory.ensures.keeps.groups.committed };
+      table = record { part = c.in-Err-NoMemory.ensures.refused.none.part; entries = c.in-Err-NoMemory.ensures.keeps.entries; committed = c.in-Err-NoMemory.ensures.keeps.groups.committed; slots = c.in-Err-NoMemory.ensures.slots };
       sealed = tt;
       low = tt;
       later = c.in-Err-NoMemory.ensures.later;
       cause = λ failed. absurd (memory_no_shelf failed);
+      not_last = λ is. memory_no_last is;
       seals = λ part pieces x is. (let e = c.in-Err-NoMemory.ensures in
           not_sealed g.R.Rack g.A.Area part pieces c.args.shard.now c.seal.new.shard c.args.group x c.in-Err-NoMemory.field-0 sync.NoMemory is e.valid e.other e.reserve e.later c.requires.closing (sym c.sealed.ensures ∙ c.if-sealed.false) e.refused
           (ap seal_fault c.in-Err-NoMemory.field-0-is));
@@ -70,10 +74,11 @@ pub returns-then-sealed : goal.returns-then-sealed
 returns-then-sealed g c =
     record {
       valid = c.requires.valid;
-      table = record { part = refl; entries = record { at = λ first. refl; held = λ key. refl; count = refl; owed = λ columns. refl }; committed = refl };
+      table = record { part = refl; entries = record { at = λ first. refl; held = λ key. refl; count = refl; owed = λ columns. refl }; committed = refl; slots = same_arms c.args.shard.now.slots };
       sealed = (c.requires.closing, sym c.sealed.ensures ∙ c.if-sealed.true);
       low = omega arith;
       later = records_still g.A.Area.faults c.args.shard.now;
       cause = λ failed. absurd (no_refusal failed);
+      not_last = λ is. no_refusal is;
       seals = λ part pieces x is. stays_sealed g.R.Rack g.A.Area part pieces c.args.shard.now c.args.group x is c.requires.closing (sym c.sealed.ensures ∙ c.if-sealed.true);
     }

@@ -3,19 +3,24 @@ use Rattle.std.specs.Fn.{FnReturnsAt}
 use Rattle.draid_session.specs.Choices.{choices_by}
 use Rattle.draid_script.specs.Line.{command_in}
 use Rattle.draid_run.proofs.Asking.{some_asked}
-use Rattle.draid_run.proofs.Steps.{did_open, did_shut, is_whole}
+use Rattle.draid_run.proofs.Steps.{broke_open, did_open, did_shut, is_whole}
 use Rattle.draid_run.proofs.answer.ask.Goals as goal
 
 pub returns-in_default : goal.returns-in_default
 returns-in_default g c = record { did = λ x stands. (sym c.asked.ensures ∙ c.in_default.is, refl) }
 
-pub returns-in-Some-pool : goal.returns-in-Some-pool
-returns-in-Some-pool g c = record {
+pub returns-in-Ok : goal.returns-in-Ok
+returns-in-Ok g c = record {
   did = λ x stands. (
     c.in-Some.command,
     sym c.asked.ensures ∙ c.in-Some.is,
-    did_open g.R.Rack g.A.Area (choices_by (FnReturnsAt g.F.Fn c.args.chooser.now)) (command_in c.args.line.now) c.in-Some.command c.reply.result c.args.pool.now c.in-Some-pool.pool c.reply.new.pool c.in-Some-pool.is c.reply.ensures.whole c.reply.ensures.fits c.reply.ensures.knows c.reply.ensures.step x stands,
+    did_open g.R.Rack g.A.Area (choices_by (FnReturnsAt g.F.Fn c.args.chooser.now)) (command_in c.args.line.now) c.in-Some.command c.in-Ok.reply c.args.pool.now c.in-Some-pool.pool c.reply.new.pool c.in-Some-pool.is c.in-Ok.ensures.whole c.in-Ok.ensures.fits c.in-Ok.ensures.knows c.in-Ok.ensures.step x stands,
   );
+}
+
+pub returns-in-Err : goal.returns-in-Err
+returns-in-Err g c = record {
+  did = λ x stands. broke_open g.R.Rack g.A.Area (command_in c.args.line.now) c.args.pool.now c.in-Some-pool.pool c.reply.new.pool c.in-Some-pool.is c.in-Err.ensures.whole (c.in-Err.ensures.breaks tt) c.in-Err.ensures.step x stands;
 }
 
 pub returns-in-None : goal.returns-in-None

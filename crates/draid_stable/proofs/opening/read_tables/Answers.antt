@@ -12,6 +12,7 @@ use Rattle.draid_metaslab.specs.Spaces.{IsSpan}
 use Rattle.draid_names.specs.declared.numbers.TheConstants.{NUMBERS}
 use Rattle.draid_entries.specs.Listed.{AscendFrom}
 use Rattle.draid_entries.specs.Live.{HasLive, first_twice}
+use Rattle.draid_record.specs.declared.sizes.TheConstants.{SLOTS_AT}
 use Rattle.draid_stable.specs.Opening as spec
 use Rattle.draid_stable.specs.Opening.{IsSpaceOf}
 use Rattle.draid_stable.proofs.Places.{ascending, each_block, inside, low_block}
@@ -87,9 +88,9 @@ returns-clause-read g c =
     let ranged : IsRanged limits (told_record c.in_ok-it.it) =
     ranged_of c.args.geometry c.args.metaslab c.args.group c.args.next_leaf c.args.bytes.now (told_record c.in_ok-it.it) c.requires.layout.geometry_is c.requires.group c.in_ok-it.ensures.found in
     let there = spec.has_leaf (g.R.Rack.shape c.args.rack.now) (metaslab_sectors c.args.geometry) in
-    let lacks : spec.lacking_from there spec.slots_at (told_slots c.in_ok-it.it.slots.items) ≡ None =
-    ap (λ (lists : List (Vec (Arm × Numbers) Global)). spec.lacking_from there spec.slots_at (told_slots lists)) (sym c.deref.ensures.value)
-    ∙ ap (λ n. spec.lacking_from (spec.has_leaf (g.R.Rack.shape c.args.rack.now) n) spec.slots_at (told_slots c.deref.result.now)) (sym c.metaslab_sectors.ensures.value) ∙ sym c.lacking.ensures ∙ c.in_default.is in
+    let lacks : spec.lacking_from there SLOTS_AT (told_slots c.in_ok-it.it.slots.items) ≡ None =
+    ap (λ (lists : List (Vec (Arm × Numbers) Global)). spec.lacking_from there SLOTS_AT (told_slots lists)) (sym c.deref.ensures.value)
+    ∙ ap (λ n. spec.lacking_from (spec.has_leaf (g.R.Rack.shape c.args.rack.now) n) SLOTS_AT (told_slots c.deref.result.now)) (sym c.metaslab_sectors.ensures.value) ∙ sym c.lacking.ensures ∙ c.in_default.is in
     let once : first_twice c.in_ok-it.it.blocks.items ≡ None = ap first_twice (sym c.deref-2.ensures.value) ∙ c.in_ok-entries.ensures.once in
     record {
       value = told_record c.in_ok-it.it;

@@ -34,7 +34,7 @@ returns g c =
     let e = c.damage_sector.ensures in
     let new = with_shard old k after in
     let r : Replaces g.R.Rack g.A.Area k old new before after
-    = record { there = there; sets = refl; geometry = refl; uber = refl; valid = e.valid; part = e.part; committed = e.keeps.groups.committed } in
+    = record { there = there; sets = refl; geometry = refl; uber = refl; valid = e.valid; part = e.part; committed = e.keeps.groups.committed; slots = e.slots } in
     let set = sets_shard g.R.Rack g.A.Area old k before after there in
     record {
       whole = whole_kept g.R.Rack g.A.Area k old new before after c.requires.whole r e.keeps refl refl (λ q. refl);

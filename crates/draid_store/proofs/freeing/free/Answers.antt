@@ -1,67 +1,24 @@
-use Rattle.std.proofs.Common.{◌≡◌, ◌∙◌, Some, arith, refl, sym}
-use Rattle.std.specs.Prelude.{nat_eq}
-use Rattle.std.specs.HashMap.{get}
-use Rattle.std.specs.Vec.{with_item}
-use Rattle.std.proofs.lemmas.Option.{slice_get_within}
-use Rattle.draid_store.specs.declared.fault.FreeFault.TheVariants.{NoObject}
+use Rattle.std.proofs.Common.{refl}
+use Rattle.draid_store.specs.Answers.{FreeDoes}
+use Rattle.draid_pool.specs.Whole.{IsWhole}
 use Rattle.draid_pool.specs.declared.pool.Pool.{Pool}
-use Rattle.draid_store.proofs.Pointed.{none_taken}
-use Rattle.draid_store.proofs.FreeSteps.{free_step, unfreed_step}
-use Rattle.draid_pool.proofs.Wholes.{Replaces, others_left, removed, whole_floor, whole_freed, whole_shard, whole_table, whole_valid}
+use Rattle.draid_pool.proofs.OwnedKnows.{knows_all, whole_by}
+use Rattle.draid_pool.proofs.OwnedStands.{carries_out, whole_left}
+use Rattle.draid_store.proofs.FreeHold.{free_plain}
 use Rattle.draid_store.proofs.freeing.free.Goals as goal
 
-pub returns-in_default : goal.returns-in_default
-returns-in_default g c =
-    let old = c.args.pool.now in
-    let new : Pool g.row.R.Denot g.row.A.Denot = record old { objects = c.remove.new.self } in
-    record {
-      whole = whole_table g.R.Rack g.A.Area old new c.requires.whole refl refl refl refl refl
-          (λ o q at. c.requires.whole.objects o q (removed (λ i. get nat_eq new.objects i) (λ i. get nat_eq old.objects i) c.args.object (λ i. c.remove.ensures.updates.0 i) o q at).0);
-      frees = (
-        sym c.remove.ensures.value ∙ c.in_default.is,
-        none_taken (λ i. get nat_eq new.objects i) (λ i. get nat_eq old.objects i) c.args.object (λ i. c.remove.ensures.updates.0 i) (sym c.remove.ensures.value ∙ c.in_default.is),
-      );
-      step = λ x is.
-          unfreed_step g.R.Rack g.A.Area c.args.object NoObject old new x is (sym c.remove.ensures.value ∙ c.in_default.is) refl refl refl refl refl (λ q. c.remove.ensures.updates.0 q);
-    }
-
-pub index_mut-requires : goal.index_mut-requires
-index_mut-requires g c =
-    let of = c.requires.whole.objects c.args.object c.in-Some.pointer (sym c.remove.ensures.value ∙ c.in-Some.is) in
-    let below = slice_get_within c.args.pool.now.shards.items c.in-Some.pointer.metaslab of.shard of.there in
-    let len = c.args.pool.now.shards.ok.0 in
-    omega (arith, below, len)
-
-pub free_block-pool-requires : goal.free_block-pool-requires
-free_block-pool-requires g c =
-    let w = c.requires.whole in
-    let of = w.objects c.args.object c.in-Some.pointer (sym c.remove.ensures.value ∙ c.in-Some.is) in
-    let at = whole_shard g.R.Rack g.A.Area c.args.pool.now c.args.object c.in-Some.pointer c.index_mut.result.now of c.index_mut.ensures.value in
-    record {
-      valid = whole_valid g.R.Rack g.A.Area c.args.pool.now c.in-Some.pointer.metaslab c.index_mut.result.now w at.0;
-      live = at.1;
-      floor = whole_floor g.R.Rack g.A.Area c.args.pool.now c.in-Some.pointer.metaslab c.index_mut.result.now w at.0;
-      last = w.low;
-    }
+pub free_object-requires-clause-whole : goal.free_object-requires-clause-whole
+free_object-requires-clause-whole g c = whole_by g.R.Rack g.A.Area c.args.pool.now c.requires.whole
 
 pub returns : goal.returns
 returns g c =
-    let there : get nat_eq c.args.pool.now.objects c.args.object ≡ Some c.in-Some.pointer = sym c.remove.ensures.value ∙ c.in-Some.is in
-    let w = c.requires.whole in
     let old = c.args.pool.now in
-    let p = c.in-Some.pointer in
-    let before = c.index_mut.result.now in
-    let after = c.free_block-pool.new.shard in
-    let group = c.free_block-pool.result in
-    let at = whole_shard g.R.Rack g.A.Area old c.args.object p before (w.objects c.args.object p there) c.index_mut.ensures.value in
-    let e = c.free_block-pool.ensures in
-    let new : Pool g.row.R.Denot g.row.A.Denot = record old { shards = with_item old.shards p.metaslab after; objects = c.remove.new.self; floor = group } in
-    let r : Replaces g.R.Rack g.A.Area p.metaslab old new before after
-    = record { there = at.0; sets = refl; geometry = refl; uber = refl; valid = e.valid; part = e.part; committed = e.sets.groups.committed } in
+    let new : Pool g.row.R.Denot g.row.A.Denot = record old { metaslabs = c.free_object.new.metaslabs; own = c.free_object.new.own } in
+    let e = c.in-Some.ensures in
+    let whole : IsWhole g.R.Rack g.A.Area new = whole_left g.R.Rack g.A.Area old new c.requires.whole refl refl e.stay e.whole in
     record {
-      whole = whole_freed g.R.Rack g.A.Area old new before after p group w r at.1 e.sets e.group refl refl
-          (others_left g.R.Rack g.A.Area old c.args.object p (λ i. get nat_eq new.objects i) w there (λ i. c.remove.ensures.updates.0 i));
-      frees = (p, there, λ i. c.remove.ensures.updates.0 i);
+      whole = whole;
+      frees = e.takes;
       step = λ x is.
-          free_step g.R.Rack g.A.Area c.args.object p old new before after group x is there at.0 e.frees refl refl refl refl refl (λ q. c.remove.ensures.updates.0 q);
+          carries_out g.R.Rack g.A.Area old new x is refl refl whole _ _ _ (FreeDoes x c.args.object c.in-Some.result) (free_plain x c.args.object c.in-Some.result) (e.step x (knows_all g.R.Rack g.A.Area old x is));
     }

@@ -19,7 +19,7 @@ returns-in_default g c = record {
   whole = c.requires.whole;
   geometry = refl;
   objects = refl;
-  found = fetch_nothing (get nat_eq c.args.pool.now.objects c.args.object) (sym (sym c.get.ensures.value ∙ (sym c.copied.ensures ∙ c.in_default.is)));
+  found = fetch_nothing (get nat_eq c.args.pool.now.own.objects c.args.object) (sym (sym c.get.ensures.value ∙ (sym c.copied.ensures ∙ c.in_default.is)));
   fetched = tt;
   step = λ x is. fetch_none g.R.Rack g.A.Area c.args.pool.now x c.args.object is (sym c.get.ensures.value ∙ (sym c.copied.ensures ∙ c.in_default.is));
 }
@@ -27,8 +27,8 @@ returns-in_default g c = record {
 pub index_mut-requires : goal.index_mut-requires
 index_mut-requires g c =
     let of = c.requires.whole.objects c.args.object c.in-Some.pointer (sym c.get.ensures.value ∙ (sym c.copied.ensures ∙ c.in-Some.is)) in
-    let below = slice_get_within c.args.pool.now.shards.items c.in-Some.pointer.metaslab of.shard of.there in
-    let len = c.args.pool.now.shards.ok.0 in
+    let below = slice_get_within c.args.pool.now.metaslabs.shards.items c.in-Some.pointer.metaslab of.shard of.there in
+    let len = c.args.pool.now.metaslabs.shards.ok.0 in
     omega (arith, below, len)
 
 pub fetch-requires : goal.fetch-requires
@@ -45,7 +45,7 @@ unreachable-requires g c =
 
 pub returns-in-Ok : goal.returns-in-Ok
 returns-in-Ok g c =
-    let there : get nat_eq c.args.pool.now.objects c.args.object ≡ Some c.in-Some.pointer = sym c.get.ensures.value ∙ (sym c.copied.ensures ∙ c.in-Some.is) in
+    let there : get nat_eq c.args.pool.now.own.objects c.args.object ≡ Some c.in-Some.pointer = sym c.get.ensures.value ∙ (sym c.copied.ensures ∙ c.in-Some.is) in
     let w = c.requires.whole in
     let old = c.args.pool.now in
     let m = c.in-Some.pointer.metaslab in
@@ -55,20 +55,20 @@ returns-in-Ok g c =
     let e = c.in-Ok.ensures in
     let new = with_shard old m after in
     let r : Replaces g.R.Rack g.A.Area m old new before after
-    = record { there = at.0; sets = refl; geometry = refl; uber = refl; valid = e.valid; part = e.fetches.does.part; committed = e.fetches.keeps.groups.committed } in
+    = record { there = at.0; sets = refl; geometry = refl; uber = refl; valid = e.valid; part = e.fetches.does.part; committed = e.fetches.keeps.groups.committed; slots = e.fetches.slots } in
     let set = sets_shard g.R.Rack g.A.Area old m before after at.0 in
     record {
       whole = whole_kept g.R.Rack g.A.Area m old new before after w r e.fetches.keeps refl refl (λ q. refl);
       geometry = refl;
       objects = refl;
-      found = fetch_block (get nat_eq c.args.pool.now.objects c.args.object) c.in-Some.pointer c.in-Ok.fetched there e.fetched.0;
+      found = fetch_block (get nat_eq c.args.pool.now.own.objects c.args.object) c.in-Some.pointer c.in-Ok.fetched there e.fetched.0;
       fetched = subst (λ (geometry : Geometry). IsFetched (cut_of geometry) c.in-Ok.fetched) (whole_geometry g.R.Rack g.A.Area old m before w at.0) e.fetched.1;
       step = λ x is. fetch_done g.R.Rack g.A.Area old new before after x c.args.object c.in-Some.pointer c.in-Ok.fetched is there set e.fetches e.valid e.areas e.told e.reserve e.not_worn;
     }
 
 pub returns-in-Err-Worn : goal.returns-in-Err-Worn
 returns-in-Err-Worn g c =
-    let there : get nat_eq c.args.pool.now.objects c.args.object ≡ Some c.in-Some.pointer = sym c.get.ensures.value ∙ (sym c.copied.ensures ∙ c.in-Some.is) in
+    let there : get nat_eq c.args.pool.now.own.objects c.args.object ≡ Some c.in-Some.pointer = sym c.get.ensures.value ∙ (sym c.copied.ensures ∙ c.in-Some.is) in
     let w = c.requires.whole in
     let old = c.args.pool.now in
     let m = c.in-Some.pointer.metaslab in
@@ -79,20 +79,20 @@ returns-in-Err-Worn g c =
     let worn : FetchIsWorn before (fault.Worn c.in-Err-Worn.field-0-0) = subst (FetchIsWorn before) c.in-Err-Worn.field-0-is e.worn in
     let new = with_shard old m after in
     let r : Replaces g.R.Rack g.A.Area m old new before after
-    = record { there = at.0; sets = refl; geometry = refl; uber = refl; valid = e.valid; part = e.none.none.part; committed = e.none.keeps.groups.committed } in
+    = record { there = at.0; sets = refl; geometry = refl; uber = refl; valid = e.valid; part = e.none.none.part; committed = e.none.keeps.groups.committed; slots = e.none.slots } in
     let set = sets_shard g.R.Rack g.A.Area old m before after at.0 in
     record {
       whole = whole_kept g.R.Rack g.A.Area m old new before after w r e.none.keeps refl refl (λ q. refl);
       geometry = refl;
       objects = refl;
-      found = pointed.fetch_worn (get nat_eq c.args.pool.now.objects c.args.object) c.in-Some.pointer there;
+      found = pointed.fetch_worn (get nat_eq c.args.pool.now.own.objects c.args.object) c.in-Some.pointer there;
       fetched = tt;
       step = λ x is. fetch_worn g.R.Rack g.A.Area old new before after x c.args.object c.in-Some.pointer is there set e.valid e.none.none e.kit e.reserve worn.0;
     }
 
 pub returns-in-Err-NoMemory : goal.returns-in-Err-NoMemory
 returns-in-Err-NoMemory g c =
-    let there : get nat_eq c.args.pool.now.objects c.args.object ≡ Some c.in-Some.pointer = sym c.get.ensures.value ∙ (sym c.copied.ensures ∙ c.in-Some.is) in
+    let there : get nat_eq c.args.pool.now.own.objects c.args.object ≡ Some c.in-Some.pointer = sym c.get.ensures.value ∙ (sym c.copied.ensures ∙ c.in-Some.is) in
     let w = c.requires.whole in
     let old = c.args.pool.now in
     let m = c.in-Some.pointer.metaslab in
@@ -102,13 +102,13 @@ returns-in-Err-NoMemory g c =
     let e = c.in-Err-NoMemory.ensures in
     let new = with_shard old m after in
     let r : Replaces g.R.Rack g.A.Area m old new before after
-    = record { there = at.0; sets = refl; geometry = refl; uber = refl; valid = e.valid; part = e.none.none.part; committed = e.none.keeps.groups.committed } in
+    = record { there = at.0; sets = refl; geometry = refl; uber = refl; valid = e.valid; part = e.none.none.part; committed = e.none.keeps.groups.committed; slots = e.none.slots } in
     let set = sets_shard g.R.Rack g.A.Area old m before after at.0 in
     record {
       whole = whole_kept g.R.Rack g.A.Area m old new before after w r e.none.keeps refl refl (λ q. refl);
       geometry = refl;
       objects = refl;
-      found = pointed.fetch_starved (get nat_eq c.args.pool.now.objects c.args.object) c.in-Some.pointer there;
+      found = pointed.fetch_starved (get nat_eq c.args.pool.now.own.objects c.args.object) c.in-Some.pointer there;
       fetched = tt;
       step = λ x is. fetch_starved g.R.Rack g.A.Area old new before after x c.args.object c.in-Some.pointer is there set e.valid e.none.none e.kit e.reserve;
     }

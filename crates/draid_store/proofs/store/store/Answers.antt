@@ -112,7 +112,7 @@ returns-in-Err g c =
     record {
       valid = c.in-Err.ensures.valid;
       part = c.in-Err.ensures.none.none.part;
-      sets = subst (λ (f : StoreFault). StoreSets c.args.shard.now c.begin.new.shard c.args.object c.args.seq c.args.floor (Err f)) (sym c.begin_fault.ensures) c.in-Err.ensures.none.keeps;
+      sets = subst (λ (f : StoreFault). StoreSets c.args.shard.now c.begin.new.shard c.args.object c.args.seq c.args.floor (Err f)) (sym c.begin_fault.ensures) c.in-Err.ensures.none;
       content = tt;
       stores = λ part pieces x is. (let e = c.in-Err.ensures in
           subst (λ (f : StoreFault). StoreDoes g.R.Rack g.A.Area part pieces c.args.object c.args.seq c.args.floor c.args.block.now.bytes x c.begin.new.shard (Err f)) (sym c.begin_fault.ensures)

@@ -108,7 +108,7 @@ returns g c =
     let i = c.loop-object.invariant in
     let P : Pool g.row.R.Denot g.row.A.Denot → Vec Fetched Global → Type 0
     = λ p v. IsWhole g.R.Rack g.A.Area p × All (IsFetched (cut_of p.geometry)) v.items × (1 ≤ length v.items) × (length v.items ≤ c.args.count)
-    × (p.objects ≡ c.args.pool.now.objects) × BlocksOf (pointer_in c.args.pool.now) c.args.first v.items in
+    × (p.own.objects ≡ c.args.pool.now.own.objects) × BlocksOf (pointer_in c.args.pool.now) c.args.first v.items in
     let z : P c.loop-object-test.pool c.loop-object-test.blocks = elim c.loop-object-test.branch [
       | else-loop-object-test w ↦
           let ends = w.loop-object-test.false in

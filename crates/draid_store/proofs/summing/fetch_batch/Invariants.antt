@@ -17,7 +17,7 @@ invariant-loop-object g l = record {
   geometry : l.pool.geometry ≡ l.initial.pool.geometry;
   fetched : All (IsFetched (cut_of l.initial.pool.geometry)) l.blocks.items;
   many : l.first + length l.blocks.items ≡ l.object;
-  objects : l.pool.objects ≡ l.initial.pool.objects;
+  objects : l.pool.own.objects ≡ l.initial.pool.own.objects;
   found : BlocksOf (pointer_in l.initial.pool) l.first l.blocks.items;
   few : l.bytes < 2 ^ 20;
   bound : l.object ≤ l.first + l.count;

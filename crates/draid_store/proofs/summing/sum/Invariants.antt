@@ -12,7 +12,7 @@ abbrev pub invariant-loop-summed : goal.invariant-loop-summed
 invariant-loop-summed g l = record {
   summing : (x : State) → Represents g.R.Rack g.A.Area l.initial.pool x → Summing g.R.Rack g.A.Area l.pool x l.first l.summed l.hasher;
   whole : IsWhole g.R.Rack g.A.Area l.pool;
-  objects : l.pool.objects ≡ l.initial.pool.objects;
+  objects : l.pool.own.objects ≡ l.initial.pool.own.objects;
   sofar : Sofar (pointer_in l.initial.pool) l.first l.summed l.hasher;
   bound : l.summed ≤ l.count;
 }

@@ -33,8 +33,8 @@ write_chosen-requires g c =
       object = c.requires.object;
       cut = c.in-Ok.ensures.cut;
       some = subst (λ n. 1 ≤ n) need (subst (λ n. 1 ≤ n) (sym c.from-need.ensures) c.stripes.ensures.some);
-      rooms = subst (λ (rs : List Room). AllZip (RoomIs (stripes_for c.args.pool.now.geometry c.in-Ok.block.bytes)) c.args.pool.now.shards.items rs) (sym c.as_slice-2.ensures.value)
-          (subst (λ n. AllZip (RoomIs n) c.args.pool.now.shards.items c.in-Ok-rooms_of.rooms.items) need
+      rooms = subst (λ (rs : List Room). AllZip (RoomIs (stripes_for c.args.pool.now.geometry c.in-Ok.block.bytes)) c.args.pool.now.metaslabs.shards.items rs) (sym c.as_slice-2.ensures.value)
+          (subst (λ n. AllZip (RoomIs n) c.args.pool.now.metaslabs.shards.items c.in-Ok-rooms_of.rooms.items) need
           (subst (λ (xs : List (Shard g.row.R.Denot g.row.A.Denot)). AllZip (RoomIs c.from-need.result) xs c.in-Ok-rooms_of.rooms.items) c.as_slice.ensures.value c.in-Ok-rooms_of.ensures));
       whole = c.requires.whole;
     }

@@ -5,7 +5,7 @@ use Rattle.std.specs.Vec.{with_item}
 use Rattle.std.proofs.lemmas.Option.{slice_get_within}
 use Rattle.draid_block.specs.Blocks.{cut_of}
 use Rattle.draid_objects.specs.Changes.{write_of}
-use Rattle.draid_shard.specs.Changes.{KeepsBlocks}
+use Rattle.draid_shard.specs.Changes.{DoesNothing}
 use Rattle.draid_pool.specs.Pointers.{pointer_in}
 use Rattle.draid_pool.specs.Shards.{DropsBlock}
 use Rattle.draid_store.specs.Shards.{StoreSets}
@@ -23,7 +23,7 @@ on_ok (Err e) P ok none = absurd (cc)
 pub returns-then-is_err : goal.returns-then-is_err
 returns-then-is_err g c =
     let old = c.args.pool.now in
-    let new : Pool g.row.R.Denot g.row.A.Denot = record old { objects = c.reserve.new.self } in
+    let new : Pool g.row.R.Denot g.row.A.Denot = record old { own = record old.own { objects = c.reserve.new.self } } in
     record {
       whole = whole_table g.R.Rack g.A.Area old new c.requires.whole refl refl refl refl refl (λ o q at. c.requires.whole.objects o q (sym (c.reserve.ensures.entries.2 o) ∙ at));
       writes = λ q. c.reserve.ensures.entries.2 q;
@@ -39,18 +39,18 @@ returns-then-is_err g c =
 
 pub index_mut-shard-requires : goal.index_mut-shard-requires
 index_mut-shard-requires g c =
-    let below = slice_get_within c.args.pool.now.shards.items c.args.metaslab c.requires.room.shard c.requires.room.there in
-    let len = c.args.pool.now.shards.ok.0 in
+    let below = slice_get_within c.args.pool.now.metaslabs.shards.items c.args.metaslab c.requires.room.shard c.requires.room.there in
+    let len = c.args.pool.now.metaslabs.shards.ok.0 in
     omega (arith, below, len)
 
 pub store-requires : goal.store-requires
 store-requires g c =
-    let at = borrowed g.R.Rack g.A.Area c.args.pool.now.shards.items c.args.metaslab c.requires.room.shard c.index_mut-shard.result.now c.requires.room.there c.index_mut-shard.ensures.value in
+    let at = borrowed g.R.Rack g.A.Area c.args.pool.now.metaslabs.shards.items c.args.metaslab c.requires.room.shard c.index_mut-shard.result.now c.requires.room.there c.index_mut-shard.ensures.value in
     record {
       valid = whole_valid g.R.Rack g.A.Area c.args.pool.now c.args.metaslab c.index_mut-shard.result.now c.requires.whole at.0;
       object = c.requires.object;
       seq = (omega arith, c.requires.last);
-      unused = whole_unused g.R.Rack g.A.Area c.args.pool.now c.args.metaslab c.args.object (c.args.pool.now.seq + 1) c.index_mut-shard.result.now c.requires.whole at.0 refl;
+      unused = whole_unused g.R.Rack g.A.Area c.args.pool.now c.args.metaslab c.args.object (c.args.pool.now.own.seq + 1) c.index_mut-shard.result.now c.requires.whole at.0 refl;
       floor = whole_floor g.R.Rack g.A.Area c.args.pool.now c.args.metaslab c.index_mut-shard.result.now c.requires.whole at.0;
       last = c.requires.whole.low;
       cut = c.requires.cut ∙ sym (ap cut_of (whole_geometry g.R.Rack g.A.Area c.args.pool.now c.args.metaslab c.index_mut-shard.result.now c.requires.whole at.0));
@@ -62,10 +62,10 @@ replace-requires g c =
     let w = c.requires.whole in
     let old = c.args.pool.now in
     let shard = c.index_mut-shard.result.now in
-    let at = borrowed g.R.Rack g.A.Area old.shards.items c.args.metaslab c.requires.room.shard shard c.requires.room.there c.index_mut-shard.ensures.value in
+    let at = borrowed g.R.Rack g.A.Area old.metaslabs.shards.items c.args.metaslab c.requires.room.shard shard c.requires.room.there c.index_mut-shard.ensures.value in
     let e = c.in-Ok.ensures in
-    let mid : Pool g.row.R.Denot g.row.A.Denot = record { geometry = old.geometry; shards = with_item old.shards c.args.metaslab c.store.new.shard; uber = old.uber; objects = c.reserve.new.self; seq = old.seq + 1; floor = c.in-Ok.pointer.birth; alloc = old.alloc } in
-    let r : Replaces g.R.Rack g.A.Area c.args.metaslab old mid shard c.store.new.shard = record { there = at.0; sets = refl; geometry = refl; uber = refl; valid = e.valid; part = e.part; committed = e.sets.sets.groups.committed } in
+    let mid : Pool g.row.R.Denot g.row.A.Denot = record { geometry = old.geometry; metaslabs = record { shards = with_item old.metaslabs.shards c.args.metaslab c.store.new.shard }; uber = old.uber; own = record { objects = c.reserve.new.self; seq = old.own.seq + 1; floor = c.in-Ok.pointer.birth }; alloc = old.alloc } in
+    let r : Replaces g.R.Rack g.A.Area c.args.metaslab old mid shard c.store.new.shard = record { there = at.0; sets = refl; geometry = refl; uber = refl; valid = e.valid; part = e.part; committed = e.sets.sets.groups.committed; slots = e.sets.sets.slots } in
     record {
       room = on_ok c.reserve.result (1 ≤ spare c.reserve.new.self) c.reserve.ensures.ok (sym c.is_err.ensures.value ∙ c.if-is_err.false);
       whole = (whole_stored g.R.Rack g.A.Area c.args.metaslab c.args.object old mid shard c.store.new.shard c.in-Ok.pointer w r e.sets refl refl (λ q. c.reserve.ensures.entries.2 q)).0;
@@ -77,10 +77,10 @@ returns-in-Ok g c =
     let w = c.requires.whole in
     let old = c.args.pool.now in
     let shard = c.index_mut-shard.result.now in
-    let at = borrowed g.R.Rack g.A.Area old.shards.items c.args.metaslab c.requires.room.shard shard c.requires.room.there c.index_mut-shard.ensures.value in
+    let at = borrowed g.R.Rack g.A.Area old.metaslabs.shards.items c.args.metaslab c.requires.room.shard shard c.requires.room.there c.index_mut-shard.ensures.value in
     let e = c.in-Ok.ensures in
     let mid : Pool g.row.R.Denot g.row.A.Denot
-    = record { geometry = old.geometry; shards = with_item old.shards c.args.metaslab c.store.new.shard; uber = old.uber; objects = c.reserve.new.self; seq = old.seq + 1; floor = c.in-Ok.pointer.birth; alloc = old.alloc } in
+    = record { geometry = old.geometry; metaslabs = record { shards = with_item old.metaslabs.shards c.args.metaslab c.store.new.shard }; uber = old.uber; own = record { objects = c.reserve.new.self; seq = old.own.seq + 1; floor = c.in-Ok.pointer.birth }; alloc = old.alloc } in
     record {
       whole = c.replace.ensures.whole;
       writes = (
@@ -100,14 +100,14 @@ returns-in-Err-Missed g c =
     let w = c.requires.whole in
     let old = c.args.pool.now in
     let shard = c.index_mut-shard.result.now in
-    let at = borrowed g.R.Rack g.A.Area old.shards.items c.args.metaslab c.requires.room.shard shard c.requires.room.there c.index_mut-shard.ensures.value in
+    let at = borrowed g.R.Rack g.A.Area old.metaslabs.shards.items c.args.metaslab c.requires.room.shard shard c.requires.room.there c.index_mut-shard.ensures.value in
     let e = c.in-Err-Missed.ensures in
     let new : Pool g.row.R.Denot g.row.A.Denot
-    = record { geometry = old.geometry; shards = with_item old.shards c.args.metaslab c.store.new.shard; uber = old.uber; objects = c.reserve.new.self; seq = old.seq + 1; floor = c.in-Err-Missed.birth; alloc = old.alloc } in
-    let drops : DropsBlock shard c.store.new.shard old.floor c.in-Err-Missed.birth
-    = subst (λ f. StoreSets shard c.store.new.shard c.args.object (old.seq + 1) old.floor (Err f)) c.in-Err-Missed.field-0-is e.sets in
+    = record { geometry = old.geometry; metaslabs = record { shards = with_item old.metaslabs.shards c.args.metaslab c.store.new.shard }; uber = old.uber; own = record { objects = c.reserve.new.self; seq = old.own.seq + 1; floor = c.in-Err-Missed.birth }; alloc = old.alloc } in
+    let drops : DropsBlock shard c.store.new.shard old.own.floor c.in-Err-Missed.birth
+    = subst (λ f. StoreSets shard c.store.new.shard c.args.object (old.own.seq + 1) old.own.floor (Err f)) c.in-Err-Missed.field-0-is e.sets in
     let r : Replaces g.R.Rack g.A.Area c.args.metaslab old new shard c.store.new.shard
-    = record { there = at.0; sets = refl; geometry = refl; uber = refl; valid = e.valid; part = e.part; committed = drops.sets.groups.committed } in
+    = record { there = at.0; sets = refl; geometry = refl; uber = refl; valid = e.valid; part = e.part; committed = drops.sets.groups.committed; slots = drops.sets.slots } in
     record {
       whole = whole_dropped g.R.Rack g.A.Area c.args.metaslab c.in-Err-Missed.birth old new shard c.store.new.shard w r drops refl refl (λ q. c.reserve.ensures.entries.2 q);
       writes = λ q. c.reserve.ensures.entries.2 q;
@@ -121,14 +121,14 @@ returns-in-Err-NoMemory g c =
     let w = c.requires.whole in
     let old = c.args.pool.now in
     let shard = c.index_mut-shard.result.now in
-    let at = borrowed g.R.Rack g.A.Area old.shards.items c.args.metaslab c.requires.room.shard shard c.requires.room.there c.index_mut-shard.ensures.value in
+    let at = borrowed g.R.Rack g.A.Area old.metaslabs.shards.items c.args.metaslab c.requires.room.shard shard c.requires.room.there c.index_mut-shard.ensures.value in
     let e = c.in-Err-NoMemory.ensures in
-    let new : Pool g.row.R.Denot g.row.A.Denot = record old { shards = with_item old.shards c.args.metaslab c.store.new.shard; objects = c.reserve.new.self } in
-    let keeps : KeepsBlocks shard c.store.new.shard = subst (λ f. StoreSets shard c.store.new.shard c.args.object (old.seq + 1) old.floor (Err f)) c.in-Err-NoMemory.field-0-is e.sets in
+    let new : Pool g.row.R.Denot g.row.A.Denot = record old { metaslabs = record { shards = with_item old.metaslabs.shards c.args.metaslab c.store.new.shard }; own = record old.own { objects = c.reserve.new.self } } in
+    let none : DoesNothing shard c.store.new.shard = subst (λ f. StoreSets shard c.store.new.shard c.args.object (old.own.seq + 1) old.own.floor (Err f)) c.in-Err-NoMemory.field-0-is e.sets in
     let r : Replaces g.R.Rack g.A.Area c.args.metaslab old new shard c.store.new.shard
-    = record { there = at.0; sets = refl; geometry = refl; uber = refl; valid = e.valid; part = e.part; committed = keeps.groups.committed } in
+    = record { there = at.0; sets = refl; geometry = refl; uber = refl; valid = e.valid; part = e.part; committed = none.keeps.groups.committed; slots = none.slots } in
     record {
-      whole = whole_kept g.R.Rack g.A.Area c.args.metaslab old new shard c.store.new.shard w r keeps refl refl (λ q. c.reserve.ensures.entries.2 q);
+      whole = whole_kept g.R.Rack g.A.Area c.args.metaslab old new shard c.store.new.shard w r none.keeps refl refl (λ q. c.reserve.ensures.entries.2 q);
       writes = λ q. c.reserve.ensures.entries.2 q;
       step = λ x is. record {
         holds = [];

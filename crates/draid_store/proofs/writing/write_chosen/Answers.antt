@@ -10,7 +10,7 @@ pick-requires g c =
     record {
       chooser = c.requires.chooser;
       few = (let need = stripes_for c.args.pool.now.geometry c.args.block.now.bytes in
-          let long = as_long g.R.Rack g.A.Area need c.args.pool.now.shards.items c.args.rooms.now c.requires.rooms in
+          let long = as_long g.R.Rack g.A.Area need c.args.pool.now.metaslabs.shards.items c.args.rooms.now c.requires.rooms in
           let few = few_whole g.R.Rack g.A.Area c.args.pool.now c.requires.whole in
           omega (arith, long, few));
     }

@@ -1,6 +1,6 @@
 use Rattle.std.proofs.Common.{arith, refl, length}
 use Rattle.std.proofs.lemmas.Option.{slice_get_read}
-use Rattle.draid_session.specs.Status.{named}
+use Rattle.draid_machine.specs.Names.{named}
 use Rattle.draid_views.proofs.ArmsTold.{sums_all, sums_more, sums_none}
 use Rattle.draid_views.proofs.arms.logged_groups.Goals as goal
 

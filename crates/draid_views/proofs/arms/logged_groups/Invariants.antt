@@ -1,4 +1,4 @@
-use Rattle.draid_session.specs.Status.{named}
+use Rattle.draid_machine.specs.Names.{named}
 use Rattle.draid_views.proofs.ArmsTold.{SumsUpto}
 use Rattle.draid_views.proofs.arms.logged_groups.Given as goal
 

@@ -29,9 +29,9 @@ close_in-requires g c =
     let shard = c.index_mut.result.now in
     let below = c.loop-metaslab-test.true in
     let len = c.len-metaslab-end.ensures in
-    let vec = c.args.self.now.shards.ok.0 in
+    let vec = c.args.self.now.metaslabs.shards.ok.0 in
     let many = i.many in
-    let there = borrowed_at l.self.shards.items l.metaslab shard (omega (arith, below, len, vec, many)) c.index_mut.ensures.value in
+    let there = borrowed_at l.self.metaslabs.shards.items l.metaslab shard (omega (arith, below, len, vec, many)) c.index_mut.ensures.value in
     record {
       valid = whole_valid g.R.Rack g.A.Area l.self l.metaslab shard i.whole there;
       next = (let committed = (i.whole.shards l.metaslab shard there).committed in
@@ -47,9 +47,9 @@ returns-in-Err g c =
     let shard = c.index_mut.result.now in
     let below = c.loop-metaslab-test.true in
     let len = c.len-metaslab-end.ensures in
-    let vec = c.args.self.now.shards.ok.0 in
+    let vec = c.args.self.now.metaslabs.shards.ok.0 in
     let many = i.many in
-    let there = borrowed_at l.self.shards.items l.metaslab shard (omega (arith, below, len, vec, many)) c.index_mut.ensures.value in
+    let there = borrowed_at l.self.metaslabs.shards.items l.metaslab shard (omega (arith, below, len, vec, many)) c.index_mut.ensures.value in
     let after = c.close_in.new.shard in
     let new = with_shard l.self l.metaslab after in
     let set = sets_shard g.R.Rack g.A.Area l.self l.metaslab shard after there in
@@ -59,6 +59,7 @@ returns-in-Err g c =
       later = (let e = c.close_in.ensures in
           areas_on g.A.Area.faults c.args.self.now l.self new i.later (areas_set g.R.Rack g.A.Area l.metaslab l.self new shard after set e.later));
       cause = λ is. absurd (c.in-Err.ensures.not_shelf is);
+      last = λ is. c.in-Err.ensures.last is;
       carries = λ x is. (let e = c.in-Err.ensures in
           let all = i.whole.many in
           close_all_stops g.R.Rack g.A.Area c.args.group l.metaslab l.self new shard after x c.in-Err.fault (i.carries x is) set (omega (arith, below, len, vec, many, all)) e.closes);
@@ -74,9 +75,9 @@ loop-metaslab-preserved g c =
     let shard = c.index_mut.result.now in
     let below = c.loop-metaslab-test.true in
     let len = c.len-metaslab-end.ensures in
-    let vec = c.args.self.now.shards.ok.0 in
+    let vec = c.args.self.now.metaslabs.shards.ok.0 in
     let many = i.many in
-    let there = borrowed_at l.self.shards.items l.metaslab shard (omega (arith, below, len, vec, many)) c.index_mut.ensures.value in
+    let there = borrowed_at l.self.metaslabs.shards.items l.metaslab shard (omega (arith, below, len, vec, many)) c.index_mut.ensures.value in
     let after = c.close_in.new.shard in
     let new = with_shard l.self l.metaslab after in
     let set = sets_shard g.R.Rack g.A.Area l.self l.metaslab shard after there in
@@ -84,11 +85,11 @@ loop-metaslab-preserved g c =
     record {
       whole = whole_on g.R.Rack g.A.Area l.metaslab l.self new shard after i.whole set e.valid e.table;
       carries = λ x is. close_more g.R.Rack g.A.Area c.args.group l.metaslab l.self new shard after x (i.carries x is) set e.closes;
-      closing = below_set (λ (z : Shard g.row.R.Denot g.row.A.Denot). z.closing ≡ Some c.args.group) l.self.shards.items l.metaslab shard after there e.closing i.closing;
+      closing = below_set (λ (z : Shard g.row.R.Denot g.row.A.Denot). z.closing ≡ Some c.args.group) l.self.metaslabs.shards.items l.metaslab shard after there e.closing i.closing;
       uber = i.uber;
       objects = i.objects;
       later = areas_on g.A.Area.faults c.args.self.now l.self new i.later (areas_set g.R.Rack g.A.Area l.metaslab l.self new shard after set e.later);
-      many = length-set l.self.shards.items l.metaslab after ∙ i.many;
+      many = length-set l.self.metaslabs.shards.items l.metaslab after ∙ i.many;
     }
 
 pub returns : goal.returns
@@ -97,16 +98,17 @@ returns g c =
     let i = l.invariant in
     let end = c.loop-metaslab-test.false in
     let len = c.len-metaslab-end.ensures in
-    let vec = c.args.self.now.shards.ok.0 in
+    let vec = c.args.self.now.metaslabs.shards.ok.0 in
     let many = i.many in
     record {
       whole = c.loop-metaslab.invariant.whole;
       later = c.loop-metaslab.invariant.later;
       cause = λ is. absurd (no_refusal is);
+      last = λ is. absurd (no_refusal is);
       carries = λ x is. (let all = i.whole.many in
           let upto = l.auto.metaslab-end in
           close_all_went g.R.Rack g.A.Area c.args.group l.metaslab l.self x (i.carries x is) (omega (arith, end, len, vec, many, all, upto)));
-      closing = below_all (λ (z : Shard g.row.R.Denot g.row.A.Denot). z.closing ≡ Some c.args.group) l.self.shards.items l.metaslab (omega (arith, end, len, vec, many)) i.closing;
+      closing = below_all (λ (z : Shard g.row.R.Denot g.row.A.Denot). z.closing ≡ Some c.args.group) l.self.metaslabs.shards.items l.metaslab (omega (arith, end, len, vec, many)) i.closing;
       objects = c.loop-metaslab.invariant.objects;
       uber = c.loop-metaslab.invariant.uber;
     }

@@ -11,9 +11,9 @@ abbrev pub invariant-loop-metaslab : goal.invariant-loop-metaslab
 invariant-loop-metaslab g l = record {
   whole : IsWhole g.R.Rack g.A.Area l.self;
   carries : (x : State) → Represents g.R.Rack g.A.Area l.initial.self x → Came g.R.Rack g.A.Area (groups.Closes x.geometry x.perms l.group) l.metaslab 0 l.self x;
-  closing : ClosingBelow l.self.shards.items l.group l.metaslab;
+  closing : ClosingBelow l.self.metaslabs.shards.items l.group l.metaslab;
   uber : l.self.uber ≡ l.initial.self.uber;
-  objects : l.self.objects ≡ l.initial.self.objects;
+  objects : l.self.own.objects ≡ l.initial.self.own.objects;
   later : AreasLater g.A.Area.faults l.initial.self l.self;
-  many : length l.self.shards.items ≡ length l.initial.self.shards.items;
+  many : length l.self.metaslabs.shards.items ≡ length l.initial.self.metaslabs.shards.items;
 }

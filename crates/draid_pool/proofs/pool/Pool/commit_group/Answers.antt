@@ -14,6 +14,8 @@ returns-in-Err g c =
       objects = c.close_all.ensures.objects;
       later = c.close_all.ensures.later;
       cause = λ is. c.in-Err.ensures.cause (err_on ℕ Unit c.in-Err.fault sync.Shelf is);
+      last = λ is. c.in-Err.ensures.last (err_on ℕ Unit c.in-Err.fault sync.Last is);
+      idle = tt;
       carries = λ x is. group_unclosed g.R.Rack g.A.Area c.close_all.new.self x c.args.group c.in-Err.fault (c.in-Err.ensures.carries x is);
     }
 
@@ -24,6 +26,8 @@ returns-in-Err-seal_all g c =
       objects = c.seal_all.ensures.objects ∙ c.close_all.ensures.objects;
       later = areas_on g.A.Area.faults c.args.self.now c.close_all.new.self c.seal_all.new.self c.close_all.ensures.later c.seal_all.ensures.later;
       cause = λ is. rose_then g.A.Area.faults c.args.self.now c.close_all.new.self c.seal_all.new.self c.close_all.ensures.later (c.in-Err-seal_all.ensures.cause is);
+      last = λ is. absurd (c.in-Err-seal_all.ensures.not_last is);
+      idle = tt;
       carries = λ x is. group_unsealed g.R.Rack g.A.Area c.close_all.new.self c.seal_all.new.self x c.args.group c.in-Err-seal_all.fault (c.in_default.ensures.carries x is) c.in-Err-seal_all.ensures.carries;
     }
 
@@ -35,6 +39,8 @@ returns-in-Ok-commit_sealed g c =
       later = areas_on g.A.Area.faults c.args.self.now c.seal_all.new.self c.commit_sealed.new.self
           (areas_on g.A.Area.faults c.args.self.now c.close_all.new.self c.seal_all.new.self c.close_all.ensures.later c.seal_all.ensures.later) c.commit_sealed.ensures.later;
       cause = λ is. absurd (no_refusal is);
+      last = λ is. absurd (no_refusal is);
+      idle = c.in-Ok-commit_sealed.ensures.idle;
       carries = λ x is. group_done g.R.Rack g.A.Area c.close_all.new.self c.seal_all.new.self c.commit_sealed.new.self x c.args.group c.in-Ok.thin (c.in_default.ensures.carries x is) c.in-Ok.ensures.carries
           c.in-Ok-commit_sealed.ensures.carries;
     }
@@ -48,6 +54,8 @@ returns-in-Err-commit_sealed g c =
           (areas_on g.A.Area.faults c.args.self.now c.close_all.new.self c.seal_all.new.self c.close_all.ensures.later c.seal_all.ensures.later) c.commit_sealed.ensures.later;
       cause = λ is. rose_then g.A.Area.faults c.args.self.now c.seal_all.new.self c.commit_sealed.new.self (areas_on g.A.Area.faults c.args.self.now c.close_all.new.self c.seal_all.new.self c.close_all.ensures.later c.seal_all.ensures.later)
           (c.in-Err-commit_sealed.ensures.cause (err_on ℕ Unit c.in-Err-commit_sealed.fault sync.Shelf is));
+      last = λ is. absurd (c.in-Err-commit_sealed.ensures.not_last (err_on ℕ Unit c.in-Err-commit_sealed.fault sync.Last is));
+      idle = tt;
       carries = λ x is. group_unnamed g.R.Rack g.A.Area c.close_all.new.self c.seal_all.new.self c.commit_sealed.new.self x c.args.group c.in-Ok.thin c.in-Err-commit_sealed.fault (c.in_default.ensures.carries x is)
           c.in-Ok.ensures.carries c.in-Err-commit_sealed.ensures.carries;
     }

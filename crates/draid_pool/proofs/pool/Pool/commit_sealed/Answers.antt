@@ -3,9 +3,9 @@ use Rattle.draid_pool.specs.declared.pool.Pool.{Pool}
 use Rattle.draid_pool.proofs.Naming.{Names, Refuses}
 use Rattle.draid_pool.proofs.Rises.{areas_committed, areas_named}
 use Rattle.draid_pool.proofs.SyncCalls.{named_sealed, refused_failed, refused_starved}
-use Rattle.draid_pool.proofs.WholeGroups.{sealed_next, whole_committed, whole_refused}
+use Rattle.draid_pool.proofs.WholeGroups.{idle_committed, sealed_next, whole_committed, whole_refused}
 use Rattle.draid_pool.proofs.Wholes.{all_whole}
-use Rattle.draid_pool.proofs.Refusing.{no_refusal, memory_no_shelf}
+use Rattle.draid_pool.proofs.Refusing.{memory_no_last, memory_no_shelf, no_refusal, shelf_no_last}
 use Rattle.draid_pool.proofs.pool.Pool.commit_sealed.Goals as goal
 
 pub commit-requires-clause-next : goal.commit-requires-clause-next
@@ -18,7 +18,7 @@ pub returns-in-Ok : goal.returns-in-Ok
 returns-in-Ok g c =
     let old = c.args.self.now in
     let uber = c.commit.new.self in
-    let new : Pool g.row.R.Denot g.row.A.Denot = record old { shards = c.commit_all.new.shards; uber = uber } in
+    let new : Pool g.row.R.Denot g.row.A.Denot = record old { metaslabs = record { shards = c.commit_all.new.shards }; uber = uber } in
     let e = c.in-Ok.ensures in
     let named : Names g.A.Area old.uber uber c.args.group = record { valid = e.valid; stands = e.committed; kept = e.kept; layout = e.layout; version = e.version; next_leaf = e.leaf } in
     record {
@@ -26,6 +26,8 @@ returns-in-Ok g c =
       objects = refl;
       later = areas_committed g.R.Rack g.A.Area old new c.args.group c.in-Ok.ensures.cause.later c.commit_all.ensures.commits;
       cause = λ is. absurd (no_refusal is);
+      not_last = λ is. no_refusal is;
+      idle = idle_committed g.R.Rack g.A.Area c.args.group old.metaslabs.shards.items new.metaslabs.shards.items c.commit_all.ensures.commits;
       carries = λ x is. named_sealed g.R.Rack g.A.Area old new c.args.group x is c.requires.sealed c.requires.next refl refl refl refl named e.cause.later c.commit_all.ensures.commits;
     }
 
@@ -41,6 +43,8 @@ returns-in-Err-Failed g c =
       objects = refl;
       later = areas_named g.A.Area.faults old new c.in-Err-Failed.ensures.cause.later refl;
       cause = λ is. inl (e.cause.cause (ap Err c.in-Err-Failed.field-0-is));
+      not_last = λ is. shelf_no_last is;
+      idle = tt;
       carries = λ x is. refused_failed g.R.Rack g.A.Area old new c.args.group x is c.requires.sealed c.requires.next refl refl refl refl refused (e.cause.cause (ap Err c.in-Err-Failed.field-0-is)) refl;
     }
 
@@ -56,5 +60,7 @@ returns-in-Err-NoMemory g c =
       objects = refl;
       later = areas_named g.A.Area.faults old new c.in-Err-NoMemory.ensures.cause.later refl;
       cause = λ is. absurd (memory_no_shelf is);
+      not_last = λ is. memory_no_last is;
+      idle = tt;
       carries = λ x is. refused_starved g.R.Rack g.A.Area old new c.args.group x is c.requires.sealed c.requires.next refl refl refl refl refused e.cause.later refl;
     }

@@ -2,7 +2,7 @@ use Rattle.std.proofs.Common.{ℕ, refl}
 use Rattle.draid_pool.specs.declared.fault.SyncFault.TheVariants as sync
 use Rattle.draid_pool.proofs.Rises.{err_on, areas_still}
 use Rattle.draid_pool.proofs.SyncCalls.{finish_stops, finishes_none, finishes_some}
-use Rattle.draid_pool.proofs.WholeGroups.{closing_next}
+use Rattle.draid_pool.proofs.WholeGroups.{closing_low, closing_next}
 use Rattle.draid_pool.proofs.Refusing.{no_refusal}
 use Rattle.draid_pool.proofs.pool.Pool.finish.Goals as goal
 
@@ -21,6 +21,8 @@ returns-in-Ok g c =
       objects = c.in-Ok.ensures.objects;
       later = c.in-Ok.ensures.later;
       cause = λ is. absurd (no_refusal is);
+      not_last = λ is. no_refusal is;
+      idle = c.in-Ok.ensures.idle;
       carries = λ x is. finishes_some g.R.Rack g.A.Area c.args.self.now c.commit_group.new.self x c.in-Some.group c.in-Ok.field-0 is c.in-Some.ensures.found (c.in-Ok.ensures.carries x is);
     }
 
@@ -31,6 +33,9 @@ returns-in-Err g c =
       objects = c.in-Err.ensures.objects;
       later = c.in-Err.ensures.later;
       cause = λ is. c.in-Err.ensures.cause (err_on Unit ℕ c.in-Err.fault sync.Shelf is);
+      not_last = λ is. (let found = c.in-Some.ensures.found in
+          closing_low g.R.Rack g.A.Area c.args.self.now found.0 c.in-Some.group found.1 c.requires.whole found.2 found.3 (c.in-Err.ensures.last (err_on Unit ℕ c.in-Err.fault sync.Last is)));
+      idle = tt;
       carries = λ x is. finish_stops g.R.Rack g.A.Area c.args.self.now c.commit_group.new.self x c.in-Some.group c.in-Err.fault is c.in-Some.ensures.found (c.in-Err.ensures.carries x is);
     }
 
@@ -41,5 +46,7 @@ returns-in-None g c =
       objects = refl;
       later = areas_still g.A.Area.faults c.args.self.now;
       cause = λ is. absurd (no_refusal is);
+      not_last = λ is. no_refusal is;
+      idle = c.in-None.ensures.found;
       carries = λ x is. finishes_none g.R.Rack g.A.Area c.args.self.now x is c.in-None.ensures.found;
     }

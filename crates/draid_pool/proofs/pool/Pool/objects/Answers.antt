@@ -3,6 +3,6 @@ use Rattle.draid_pool.proofs.pool.Pool.objects.Goals as goal
 
 pub returns : goal.returns
 returns g c = record {
-  names = has_names c.args.self.now.objects c.len.result c.len.ensures.unique c.len.ensures.len;
-  state = λ x represents. has_objects c.args.self.now.shards.items c.args.self.now.objects x.store.changes c.len.result c.len.ensures.unique c.len.ensures.len represents.stands.objects;
+  names = has_names c.args.self.now.own.objects c.len.result c.len.ensures.unique c.len.ensures.len;
+  state = λ x represents. has_objects c.args.self.now.metaslabs.shards.items c.args.self.now.own.objects x.store.changes c.len.result c.len.ensures.unique c.len.ensures.len represents.stands.objects;
 }

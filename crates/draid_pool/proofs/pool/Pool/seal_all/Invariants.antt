@@ -13,11 +13,11 @@ abbrev pub invariant-loop-metaslab : goal.invariant-loop-metaslab
 invariant-loop-metaslab g l = record {
   whole : IsWhole g.R.Rack g.A.Area l.self;
   carries : (x : State) → Represents g.R.Rack g.A.Area l.initial.self x → Came g.R.Rack g.A.Area (groups.Seals x.geometry x.perms l.group) l.metaslab l.thin l.self x;
-  closing : AreClosing l.self.shards.items l.group;
-  sealed : SealedBelow l.self.shards.items l.group l.metaslab;
+  closing : AreClosing l.self.metaslabs.shards.items l.group;
+  sealed : SealedBelow l.self.metaslabs.shards.items l.group l.metaslab;
   low : l.thin ≤ l.metaslab * NUMBERS;
   uber : l.self.uber ≡ l.initial.self.uber;
-  objects : l.self.objects ≡ l.initial.self.objects;
+  objects : l.self.own.objects ≡ l.initial.self.own.objects;
   later : AreasLater g.A.Area.faults l.initial.self l.self;
-  many : length l.self.shards.items ≡ length l.initial.self.shards.items;
+  many : length l.self.metaslabs.shards.items ≡ length l.initial.self.metaslabs.shards.items;
 }

@@ -14,7 +14,7 @@ returns-then-not-unsynced g c =
       same = λ o. refl;
       later = areas_still g.A.Area.faults c.args.self.now;
       cause = λ is. absurd (no_refusal is);
-      carries = λ x is. export_none g.R.Rack g.A.Area c.args.self.now x c.committed.result is (subst (FoundUnsynced c.args.self.now.shards.items) c.if-not-unsynced.true c.unsynced.ensures.found) c.committed.ensures;
+      carries = λ x is. export_none g.R.Rack g.A.Area c.args.self.now x c.committed.result is (subst (FoundUnsynced c.args.self.now.metaslabs.shards.items) c.if-not-unsynced.true c.unsynced.ensures.found) c.committed.ensures;
     }
 
 pub returns-in-Ok : goal.returns-in-Ok
@@ -24,7 +24,7 @@ returns-in-Ok g c =
       same = c.in-Ok.ensures.same;
       later = c.in-Ok.ensures.later;
       cause = λ is. absurd (no_refusal is);
-      carries = λ x is. export_done g.R.Rack g.A.Area c.args.self.now c.sync.new.self x c.in-Ok.synced is (subst (FoundUnsynced c.args.self.now.shards.items) c.if-not-unsynced.false c.unsynced.ensures.found)
+      carries = λ x is. export_done g.R.Rack g.A.Area c.args.self.now c.sync.new.self x c.in-Ok.synced is (subst (FoundUnsynced c.args.self.now.metaslabs.shards.items) c.if-not-unsynced.false c.unsynced.ensures.found)
           (c.in-Ok.ensures.carries x is);
     }
 
@@ -35,6 +35,6 @@ returns-in-Err g c =
       same = c.in-Err.ensures.same;
       later = c.in-Err.ensures.later;
       cause = λ is. c.in-Err.ensures.cause (err_on ℕ Synced c.in-Err.fault sync.Shelf is);
-      carries = λ x is. export_stops g.R.Rack g.A.Area c.args.self.now c.sync.new.self x c.in-Err.fault is (subst (FoundUnsynced c.args.self.now.shards.items) c.if-not-unsynced.false c.unsynced.ensures.found)
+      carries = λ x is. export_stops g.R.Rack g.A.Area c.args.self.now c.sync.new.self x c.in-Err.fault is (subst (FoundUnsynced c.args.self.now.metaslabs.shards.items) c.if-not-unsynced.false c.unsynced.ensures.found)
           (c.in-Err.ensures.carries x is);
     }

@@ -1,4 +1,4 @@
-use Rattle.draid_shard.proofs.Changed.{same_entries}
+use Rattle.draid_shard.proofs.Changed.{same_arms, same_entries}
 use Rattle.std.proofs.Common.{refl, arith}
 use Rattle.draid_shard.proofs.Kept.{history_in, valid_with}
 use Rattle.draid_shard.proofs.shard.Shard.ask.Goals as goal
@@ -30,3 +30,6 @@ returns-clause-same g c = c.ask.ensures.same.reserved
 
 pub returns-clause-limit : goal.returns-clause-limit
 returns-clause-limit g c = c.ask.ensures.same.limit
+
+pub returns-clause-slots : goal.returns-clause-slots
+returns-clause-slots g c = same_arms c.args.self.now.slots

@@ -1,4 +1,4 @@
-use Rattle.draid_shard.proofs.Changed.{same_entries}
+use Rattle.draid_shard.proofs.Changed.{same_arms, same_entries}
 use Rattle.std.proofs.Common.{refl, arith}
 use Rattle.draid_shard.proofs.Kept.{history_in, valid_with}
 use Rattle.draid_shard.proofs.shard.Shard.reserve.Goals as goal
@@ -20,3 +20,6 @@ returns-clause-keeps g c = record { entries = same_entries c.args.self.now.entri
 
 pub returns-clause-limit : goal.returns-clause-limit
 returns-clause-limit g c = c.reserve.ensures.limit
+
+pub returns-clause-slots : goal.returns-clause-slots
+returns-clause-slots g c = same_arms c.args.self.now.slots

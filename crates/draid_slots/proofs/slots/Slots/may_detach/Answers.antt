@@ -4,9 +4,9 @@ use Rattle.std.proofs.lemmas.Bool.{false≢true}
 use Rattle.std.proofs.lemmas.List.{get_or-map, length-map}
 use Rattle.draid_names.specs.declared.refusal.SlotFault.TheVariants.{LogNotEmpty}
 use Rattle.draid_slots.specs.declared.slot.Slot.{Slot}
-use Rattle.draid_slots.specs.Faults.{IsDetachRefused, MayDetach, HasLeafBeside, IsLeastLogged}
+use Rattle.draid_slots.specs.Faults.{IsDetachRefused, IsLeastCount, MayDetach, HasLeafBeside}
 use Rattle.draid_slots.specs.Table.{IsPaired, IsThere, SlotTable, arms_in, arms_of, has_leaf, next_rooms, table_of}
-use Rattle.draid_slots.proofs.Refusals.{least_logged, one_beside}
+use Rattle.draid_slots.proofs.Refusals.{least_logged, one_beside, whole_beside}
 use Rattle.draid_slots.proofs.Tables.{IsPlace, its_place, slot_there}
 use Rattle.draid_slots.proofs.slots.Slots.may_detach.Goals as goal
 
@@ -36,10 +36,10 @@ returns-in-Some-eq0-clause-allowed c =
     let beside : HasLeafBeside t c.args.at =
     ap (λ arms. has_leaf (remove arms c.args.at.arm)) (arms ∙ sym c.deref.ensures.value) ∙ sym c.has_leaf_beside.ensures ∙ c.if-not-has_leaf_beside.false in
     let M : SlotTable → Type 0 = λ t. MayDetach t c.args.at in
-    let L : ℕ → Type 0 = λ n. IsLeastLogged t c.args.at n in
-    let least = least_logged s.geometry s.perms s.metaslab slots s.detached.items (next_rooms s.next.items) (vec_capacity s.detached - vec_len s.detached) c.args.at slot
-    c.deref-2.result.now c.in-Some-eq0.field-0 place c.deref-2.ensures.value c.in-Some-eq0.ensures.least in
-    subst M c.self.view_is (record { there = there; leaf_beside = beside; missed_none = subst L c.in-Some-eq0.field-0-test least })
+    let L : ℕ → Type 0 = λ n. IsLeastCount c.deref-2.result.now c.args.at.arm (length c.deref-2.result.now) n in
+    let whole = whole_beside s.geometry s.perms s.metaslab slots s.detached.items (next_rooms s.next.items) (vec_capacity s.detached - vec_len s.detached) c.args.at slot
+    c.deref-2.result.now place c.deref-2.ensures.value (subst L c.in-Some-eq0.field-0-test c.in-Some-eq0.ensures.least) in
+    subst M c.self.view_is (record { there = there; leaf_beside = beside; missed_none = whole })
 
 pub returns-in-Some-clause-refused : goal.returns-in-Some-clause-refused
 returns-in-Some-clause-refused c =

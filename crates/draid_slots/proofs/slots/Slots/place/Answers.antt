@@ -1,7 +1,8 @@
-use Rattle.std.proofs.Common.{◌≡◌, ◌*◌, ◌/◌, ◌<◌, ℕ, zero, suc, Some, refl, ap, ap₂, subst, ◌∙◌, arith}
+use Rattle.std.proofs.Common.{◌≡◌, ◌*◌, ◌/◌, ◌<◌, ℕ, zero, suc, Some, refl, ap, subst, ◌∙◌, arith}
 use Rattle.std.proofs.Math.Nat.{mul_assoc}
 use Rattle.std.proofs.lemmas.Nat.{div_below}
 use Rattle.draid_names.specs.declared.arm.Arm.{Arm}
+use Rattle.draid_spec.specs.Geometry.{slice_sectors}
 use Rattle.draid_slots.specs.Reading.{holder}
 use Rattle.draid_slots.specs.Table.{SlotTable}
 use Rattle.draid_slots.proofs.slots.Slots.place.Goals as goal
@@ -20,7 +21,7 @@ slice_below sector slices rows height size is few =
 pub holder-requires : goal.holder-requires
 holder-requires c =
     let t : SlotTable = c.args.self.now in
-    let size = ap₂ (λ m n. m * n) c.from.ensures c.from-2.ensures ∙ ap (λ (t : SlotTable). t.geometry.rows * t.geometry.props.height) c.self.view_is in
+    let size = c.slice_sectors.ensures.value ∙ ap (λ (t : SlotTable). slice_sectors t.geometry) c.self.view_is in
     record {
       there = c.requires.there;
       slice = slice_below c.args.sector t.geometry.props.slices t.geometry.rows t.geometry.props.height _ size c.requires.sector;
@@ -28,7 +29,7 @@ holder-requires c =
 
 pub returns : goal.returns
 returns c =
-    let size = ap₂ (λ m n. m * n) c.from.ensures c.from-2.ensures ∙ ap (λ (t : SlotTable). t.geometry.rows * t.geometry.props.height) c.self.view_is in
+    let size = c.slice_sectors.ensures.value ∙ ap (λ (t : SlotTable). slice_sectors t.geometry) c.self.view_is in
     let found : Arm = c.holder.result in
     let D : ℕ → Type 0 = λ n. holder c.args.self.now c.args.at (c.args.sector / n) ≡ Some found in
     let is = subst D size c.holder.ensures in

@@ -1,0 +1,6 @@
+pub mod Calls
+pub mod Phases
+pub mod Reserved
+pub mod Switched
+pub mod Walk
+pub mod Whole

@@ -1,0 +1,28 @@
+use Rattle.std.proofs.Common.{◌∙◌, true, Ok, Err, ap, refl}
+use Rattle.draid_changes.specs.Answers.{SwitchDoes}
+use Rattle.draid_changes.specs.declared.fault.ArmFault.TheVariants as fault
+use Rattle.draid_pool.proofs.Steps.{by_answer}
+use Rattle.draid_changes.proofs.replies.reply_to_offline.Goals as goal
+
+pub returns-in-Ok-clause-step : goal.returns-in-Ok-clause-step
+returns-in-Ok-clause-step g c = λ x is.
+    by_answer g.R.Rack g.A.Area (λ r. SwitchDoes x c.args.leaf true r) _ x c.offline.new.pool c.offline.result (Ok tt) (c.in-Ok.is) (λ holds store w. (Ok tt, refl, w)) (c.offline.ensures.carries x is)
+
+pub returns-in-Err-Slot-clause-step : goal.returns-in-Err-Slot-clause-step
+returns-in-Err-Slot-clause-step g c = λ x is.
+    by_answer g.R.Rack g.A.Area (λ r. SwitchDoes x c.args.leaf true r) _ x c.offline.new.pool c.offline.result (Err (fault.Slot c.in-Err-Slot.field-0-0)) (c.in-Err-Slot.is ∙ ap Err c.in-Err-Slot.field-0-is) (λ holds store w. (Err (fault.Slot c.in-Err-Slot.field-0-0), refl, w)) (c.offline.ensures.carries x is)
+
+pub returns-in-Err-Worn-clause-step : goal.returns-in-Err-Worn-clause-step
+returns-in-Err-Worn-clause-step g c = λ x is.
+    by_answer g.R.Rack g.A.Area (λ r. SwitchDoes x c.args.leaf true r) _ x c.offline.new.pool c.offline.result (Err fault.Worn) (c.in-Err-Worn.is ∙ ap Err c.in-Err-Worn.field-0-is) (λ holds store w. (Err fault.Worn, refl, w)) (c.offline.ensures.carries x is)
+
+pub returns-in-Err-NoMemory-clause-step : goal.returns-in-Err-NoMemory-clause-step
+returns-in-Err-NoMemory-clause-step g c = λ x is.
+    by_answer g.R.Rack g.A.Area (λ r. SwitchDoes x c.args.leaf true r) _ x c.offline.new.pool c.offline.result (Err fault.NoMemory) (c.in-Err-NoMemory.is ∙ ap Err c.in-Err-NoMemory.field-0-is) (λ holds store w. (Err fault.NoMemory, refl, w)) (c.offline.ensures.carries x is)
+
+pub returns-in-Err-Shelf-clause-cause : goal.returns-in-Err-Shelf-clause-cause
+returns-in-Err-Shelf-clause-cause g c = λ failed. c.offline.ensures.cause (c.in-Err-Shelf.is ∙ ap Err c.in-Err-Shelf.field-0-is)
+
+pub returns-in-Err-Shelf-clause-step : goal.returns-in-Err-Shelf-clause-step
+returns-in-Err-Shelf-clause-step g c = λ x is.
+    by_answer g.R.Rack g.A.Area (λ r. SwitchDoes x c.args.leaf true r) _ x c.offline.new.pool c.offline.result (Err fault.Shelf) (c.in-Err-Shelf.is ∙ ap Err c.in-Err-Shelf.field-0-is) (λ holds store w. (Err fault.Shelf, tt, w)) (c.offline.ensures.carries x is)

@@ -1,0 +1,115 @@
+use Rattle.std.proofs.Common.{◌≡◌, ◌<◌, Some, Err, ap, refl, subst, length, slice_index_or}
+use Rattle.std.specs.Prelude.{slice_get}
+use Rattle.std.proofs.lemmas.Option.{slice_get_within}
+use Rattle.draid_shard.specs.declared.shard.Shard.{Shard}
+use Rattle.draid_session.specs.Arms as arms
+use Rattle.draid_session.specs.Phases.{Starved, WasWorn}
+use Rattle.draid_session.specs.State.{State}
+use Rattle.draid_pool.specs.Carries.{CarriesOut}
+use Rattle.draid_pool.specs.Pools.{Represents}
+use Rattle.draid_pool.specs.Syncing.{Phase}
+use Rattle.draid_pool.specs.declared.pool.Pool.{Pool}
+use Rattle.draid_pool.proofs.Refusing.{not_both}
+use Rattle.draid_pool.proofs.Rises.{areas_on}
+use Rattle.draid_pool.proofs.SyncSteps.{borrowed_at}
+use Rattle.draid_pool.proofs.WholeGroups.{first_shard}
+use Rattle.draid_changes.specs.Walks.{end_of_reserving}
+use Rattle.draid_changes.proofs.Calls.{areas_switched, err_same, idle_reserved, may_switch, shelf_first, starved_no_way, switch_done, switch_refused, switch_starved, switch_stopped, switch_unfinished, switched_whole, worn_no_way}
+use Rattle.draid_changes.proofs.switching.switch.Goals as goal
+
+-- ---- a closing group couldn't be committed first
+
+pub returns-in-Err-clause-cause : goal.returns-in-Err-clause-cause
+returns-in-Err-clause-cause g c =
+    λ is. c.in-Err.ensures.cause (ap Err (shelf_first c.in-Err.fault c.arm_fault.result c.arm_fault.ensures (err_same c.arm_fault.result _ is)))
+
+pub returns-in-Err-clause-carries : goal.returns-in-Err-clause-carries
+returns-in-Err-clause-carries g c = λ x is.
+    switch_unfinished g.R.Rack g.A.Area c.finish.new.self x c.args.leaf c.args.offline c.in-Err.fault c.arm_fault.result c.arm_fault.ensures (c.in-Err.ensures.carries x is)
+
+-- ---- the first metaslab
+
+-- it was borrowed
+there : {R A : Type 0} (mid : Pool R A) (first : Shard R A) → 0 < length mid.metaslabs.shards.items → first ≡ slice_index_or mid.metaslabs.shards.items 0 first → slice_get mid.metaslabs.shards.items 0 ≡ Some first
+there mid first some is = borrowed_at mid.metaslabs.shards.items 0 first some is
+
+pub returns-then-not-is_arm-clause-carries : goal.returns-then-not-is_arm-clause-carries
+returns-then-not-is_arm-clause-carries g c = λ x is.
+    (let mid = c.finish.new.self in
+    let first = c.index.result.now in
+    let one = first_shard g.R.Rack g.A.Area mid c.in_default.ensures.whole in
+    let at = there mid first (slice_get_within mid.metaslabs.shards.items 0 one.0 one.1) c.index.ensures in
+    switch_refused g.R.Rack g.A.Area mid x c.args.leaf first (c.in_default.ensures.carries x is) at (λ own. not_both c.is_arm.result (c.is_arm.ensures.arm.1 own) c.if-not-is_arm.true))
+
+-- ---- all metaslabs
+
+pub switch_all-requires : goal.switch_all-requires
+switch_all-requires g c =
+    let mid = c.finish.new.self in
+    let first = c.index.result.now in
+    let one = first_shard g.R.Rack g.A.Area mid c.in_default.ensures.whole in
+    let at = there mid first (slice_get_within mid.metaslabs.shards.items 0 one.0 one.1) c.index.ensures in
+    record {
+      ready = may_switch g.R.Rack g.A.Area mid c.reserve_all.new.pool c.args.leaf first c.in_default.ensures.whole c.in-Ok.ensures.whole at c.is_arm.ensures.sound
+          (c.is_arm.ensures.arm.0 c.if-not-is_arm.false) c.in-Ok.ensures.reserves;
+    }
+
+pub returns-in-Ok-clause-whole : goal.returns-in-Ok-clause-whole
+returns-in-Ok-clause-whole g c =
+    let late = c.reserve_all.new.pool in
+    let new : Pool g.row.R.Denot g.row.A.Denot = record late { metaslabs = record { shards = c.switch_all.new.shards } } in
+    switched_whole g.R.Rack g.A.Area c.args.leaf c.args.offline late new c.in-Ok.ensures.whole c.switch_all.ensures.switches
+    (record { geometry = refl; uber = refl; objects = refl; seq = refl; floor = refl })
+
+pub returns-in-Ok-clause-later : goal.returns-in-Ok-clause-later
+returns-in-Ok-clause-later g c =
+    let faults = g.A.Area.faults in
+    let old = c.args.pool.now in
+    let mid = c.finish.new.self in
+    let late = c.reserve_all.new.pool in
+    let new : Pool g.row.R.Denot g.row.A.Denot = record late { metaslabs = record { shards = c.switch_all.new.shards } } in
+    areas_on faults old late new (areas_on faults old mid late c.in_default.ensures.later c.in-Ok.ensures.later)
+    (areas_switched g.R.Rack g.A.Area c.args.leaf c.args.offline late new c.switch_all.ensures.switches (record { geometry = refl; uber = refl; objects = refl; seq = refl; floor = refl }))
+
+pub returns-in-Ok-clause-carries : goal.returns-in-Ok-clause-carries
+returns-in-Ok-clause-carries g c = λ x is.
+    (let mid = c.finish.new.self in
+    let late = c.reserve_all.new.pool in
+    let new : Pool g.row.R.Denot g.row.A.Denot = record late { metaslabs = record { shards = c.switch_all.new.shards } } in
+    let first = c.index.result.now in
+    let one = first_shard g.R.Rack g.A.Area mid c.in_default.ensures.whole in
+    let at = there mid first (slice_get_within mid.metaslabs.shards.items 0 one.0 one.1) c.index.ensures in
+    switch_done g.R.Rack g.A.Area mid late new x c.args.leaf c.args.offline first (c.in_default.ensures.carries x is) at (c.is_arm.ensures.arm.0 c.if-not-is_arm.false) c.in-Ok.ensures.carries
+    (idle_reserved g.R.Rack g.A.Area 1 mid late c.in_default.ensures.idle c.in-Ok.ensures.reserves) c.switch_all.ensures.switches
+    (record { geometry = refl; uber = refl; objects = refl; seq = refl; floor = refl }))
+
+-- ---- events couldn't be reserved
+
+pub returns-in-Err-Worn-clause-later : goal.returns-in-Err-Worn-clause-later
+returns-in-Err-Worn-clause-later g c = areas_on g.A.Area.faults c.args.pool.now c.finish.new.self c.reserve_all.new.pool c.in_default.ensures.later c.in-Err-Worn.ensures.later
+
+pub returns-in-Err-Worn-clause-carries : goal.returns-in-Err-Worn-clause-carries
+returns-in-Err-Worn-clause-carries g c = λ x is.
+    (let mid = c.finish.new.self in
+    let late = c.reserve_all.new.pool in
+    let first = c.index.result.now in
+    let one = first_shard g.R.Rack g.A.Area mid c.in_default.ensures.whole in
+    let at = there mid first (slice_get_within mid.metaslabs.shards.items 0 one.0 one.1) c.index.ensures in
+    switch_stopped g.R.Rack g.A.Area mid late x c.args.leaf c.args.offline WasWorn first (c.in_default.ensures.carries x is) at (c.is_arm.ensures.arm.0 c.if-not-is_arm.false) worn_no_way
+    (subst (λ f. (y : State) → Represents g.R.Rack g.A.Area mid y → CarriesOut g.R.Rack g.A.Area late y (Phase y (arms.ReservePhase y.geometry y.perms (λ v. 1)) (end_of_reserving (Err f)))) c.in-Err-Worn.field-0-is
+    c.in-Err-Worn.ensures.carries))
+
+pub returns-in-Err-NoMemory-clause-later : goal.returns-in-Err-NoMemory-clause-later
+returns-in-Err-NoMemory-clause-later g c = areas_on g.A.Area.faults c.args.pool.now c.finish.new.self c.reserve_all.new.pool c.in_default.ensures.later c.in-Err-NoMemory.ensures.later
+
+pub returns-in-Err-NoMemory-clause-carries : goal.returns-in-Err-NoMemory-clause-carries
+returns-in-Err-NoMemory-clause-carries g c = λ x is.
+    (let mid = c.finish.new.self in
+    let late = c.reserve_all.new.pool in
+    let first = c.index.result.now in
+    let one = first_shard g.R.Rack g.A.Area mid c.in_default.ensures.whole in
+    let at = there mid first (slice_get_within mid.metaslabs.shards.items 0 one.0 one.1) c.index.ensures in
+    switch_starved g.R.Rack g.A.Area late x c.args.leaf c.args.offline
+    (switch_stopped g.R.Rack g.A.Area mid late x c.args.leaf c.args.offline Starved first (c.in_default.ensures.carries x is) at (c.is_arm.ensures.arm.0 c.if-not-is_arm.false) starved_no_way
+    (subst (λ f. (y : State) → Represents g.R.Rack g.A.Area mid y → CarriesOut g.R.Rack g.A.Area late y (Phase y (arms.ReservePhase y.geometry y.perms (λ v. 1)) (end_of_reserving (Err f)))) c.in-Err-NoMemory.field-0-is
+    c.in-Err-NoMemory.ensures.carries)))

@@ -1,0 +1,60 @@
+-- How all metaslabs are changed, one after another, and what becomes of each.
+use Rattle.std.specs.Prelude.{◌≡◌, ◌<◌, ◌≤◌, ℕ, Bool, true, false, List, Some, Result, Ok, Err, length, slice_get}
+use Rattle.draid_rack.specs.declared.Rack.{Ghosts}
+use Rattle.draid_machine.specs.declared.event.Event.{Event}
+use Rattle.draid_machine.specs.declared.event.Event.TheVariants as event
+use Rattle.draid_segments.specs.Segments.{Pieces}
+use Rattle.draid_entries.specs.History.{reserved_of}
+use Rattle.draid_entries.specs.declared.history.ReserveFault.{ReserveFault}
+use Rattle.draid_entries.specs.declared.history.ReserveFault.TheVariants as reserve
+use Rattle.draid_slots.specs.Changes.{ChangesArms, switched}
+use Rattle.draid_shard.specs.Alike.{KeepsArms}
+use Rattle.draid_shard.specs.Calls.{ActsOn, SameKit}
+use Rattle.draid_shard.specs.Changes.{KeepsBlocks}
+use Rattle.draid_shard.specs.Fits.{Valid}
+use Rattle.draid_shard.specs.States.{Does}
+use Rattle.draid_shard.specs.declared.shard.Shard.{Shard}
+use Rattle.draid_disks.specs.Disks.{IsLeafArm, Uses}
+use Rattle.draid_session.specs.Phases.{End, Went, WasWorn, Starved}
+
+-- each of a list below a number was changed so, and the others are as they were
+pub record ChangedBelow {S : Type 0} (Changes : S → S → Type 0) (m : ℕ) (old new : List S) : Type 0 where
+  pub many : length new ≡ length old
+  pub below : (k : ℕ) (x : S) → k < m → slice_get old k ≡ Some x → (y : S) × (slice_get new k ≡ Some y) × Changes x y
+  pub others : (k : ℕ) → m ≤ k → slice_get new k ≡ slice_get old k
+
+-- ---- reserving
+
+-- how the reserving in all metaslabs ended, by its answer
+abbrev pub end_of_reserving : Result Unit ReserveFault → End
+end_of_reserving (Ok done) = Went
+end_of_reserving (Err (reserve.Worn events)) = WasWorn
+end_of_reserving (Err reserve.NoMemory) = Starved
+
+-- so many events at least are reserved; arms and groups are as they were
+pub record Reserves {R A : Type 0} (events : ℕ) (old new : Shard R A) : Type 0 where
+  pub reserved : events ≤ reserved_of new.history
+  pub slots : KeepsArms old.slots new.slots
+  pub closing : new.closing ≡ old.closing
+
+-- ---- leaves that go offline or come back
+
+abbrev pub switch_event : ℕ → Bool → Event
+switch_event leaf true = event.Offline leaf
+switch_event leaf false = event.Online leaf
+
+-- a leaf is an arm of a metaslab, and an event is reserved for what becomes of it
+pub record MaySwitch {R A : Type 0} (rack : Ghosts R) (leaf : ℕ) (shard : Shard R A) : Type 0 where
+  pub valid : Valid rack shard
+  pub reserved : 0 < reserved_of shard.history
+  pub arm : IsLeafArm shard.slots leaf
+
+-- it went offline there, or came back
+pub record Switches {R A : Type 0} (rack : Ghosts R) (leaf : ℕ) (offline : Bool) (old new : Shard R A) : Type 0 where
+  pub valid : Valid rack new
+  pub kit : SameKit old new
+  pub does : Does old new (switch_event leaf offline)
+  pub acts : (pieces : Pieces) → ActsOn rack old new (switch_event leaf offline) pieces
+  pub keeps : KeepsBlocks old new
+  pub slots : ChangesArms old.slots new.slots (switched leaf offline)
+  pub reserve : Uses old.history new.history 1

@@ -1,0 +1,12 @@
+//! Changes of a pool's arms, each made in all of its metaslabs or in none: leaves go offline and come back.
+
+#![tactic(auto)]
+
+mod fault;
+mod replies;
+mod reserving;
+mod switching;
+
+pub use fault::ArmFault;
+pub use replies::{reply_to_offline, reply_to_online};
+pub use switching::{offline, online};

@@ -1,0 +1,64 @@
+//! What the commands on the arms of a pool reply. Where a device failed there is no reply.
+ghost use Rattle.std.specs.Prelude.{IfOk, IsErr};
+ghost use Rattle.draid_script.specs.Line.{TakeOffline, TakeOnline};
+ghost use Rattle.draid_session.specs.Replies.{IsReplyTo};
+ghost use Rattle.draid_session.specs.State.{State};
+ghost use Rattle.draid_pool.specs.Carries.{CarriesOut};
+ghost use Rattle.draid_pool.specs.Failing.{AreaRose, AreasLater};
+ghost use Rattle.draid_pool.specs.Pointers.{SamePointers};
+ghost use Rattle.draid_pool.specs.Pools.{Represents};
+ghost use Rattle.draid_pool.specs.Whole.{IsWhole};
+ghost use Rattle.draid_changes.specs.Says.{OfflineSays, OnlineSays};
+
+use crate::fault::ArmFault;
+use crate::switching::{offline, online};
+use draid_area::Area;
+use draid_names::Failed;
+use draid_pool::Pool;
+use draid_rack::Rack;
+use draid_reply::Reply;
+use draid_script::CommandName;
+
+/// Takes a leaf offline.
+pub fn reply_to_offline<R: Rack, A: Area>(pool: &mut Pool<R, A>, leaf: u64) -> Result<Reply, Failed>
+    requires whole { IsWhole R.Rack A.Area pool.old }
+    ensures whole { IsWhole R.Rack A.Area pool.new }
+    ensures same { SamePointers pool.old pool.new }
+    ensures later { AreasLater A.faults pool.old pool.new }
+    ensures cause { IsErr result → AreaRose A.faults pool.old pool.new }
+    ensures fits { IfOk result (IsReplyTo (TakeOffline leaf)) }
+    ensures step { (x : State) → Represents R.Rack A.Area pool.old x
+        → CarriesOut R.Rack A.Area pool.new x (OfflineSays leaf result x) }
+{
+    match offline(pool, leaf) {
+        Ok(()) => Ok(Reply::OfflineDone { leaf }),
+        Err(ArmFault::Slot { .. }) => Ok(Reply::OfflineRefused { leaf }),
+        Err(ArmFault::Worn) => Ok(Reply::OfflineWorn { leaf }),
+        Err(ArmFault::NoMemory) => Ok(Reply::NoMemory {
+            command: CommandName::Offline,
+        }),
+        Err(ArmFault::Shelf) => Err(Failed),
+    }
+}
+
+/// Takes a leaf online.
+pub fn reply_to_online<R: Rack, A: Area>(pool: &mut Pool<R, A>, leaf: u64) -> Result<Reply, Failed>
+    requires whole { IsWhole R.Rack A.Area pool.old }
+    ensures whole { IsWhole R.Rack A.Area pool.new }
+    ensures same { SamePointers pool.old pool.new }
+    ensures later { AreasLater A.faults pool.old pool.new }
+    ensures cause { IsErr result → AreaRose A.faults pool.old pool.new }
+    ensures fits { IfOk result (IsReplyTo (TakeOnline leaf)) }
+    ensures step { (x : State) → Represents R.Rack A.Area pool.old x
+        → CarriesOut R.Rack A.Area pool.new x (OnlineSays leaf result x) }
+{
+    match online(pool, leaf) {
+        Ok(()) => Ok(Reply::OnlineDone { leaf }),
+        Err(ArmFault::Slot { .. }) => Ok(Reply::OnlineRefused { leaf }),
+        Err(ArmFault::Worn) => Ok(Reply::OnlineWorn { leaf }),
+        Err(ArmFault::NoMemory) => Ok(Reply::NoMemory {
+            command: CommandName::Online,
+        }),
+        Err(ArmFault::Shelf) => Err(Failed),
+    }
+}

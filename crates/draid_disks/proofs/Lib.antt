@@ -1,0 +1,16 @@
+mod Attached
+mod Births
+mod Comes
+mod Goes
+mod Kept
+mod Left
+mod Marked
+mod Moving
+mod Plain
+mod Refused
+mod Renewed
+mod RenewedOne
+mod Replanned
+mod Reserved
+mod Switching
+mod Upgraded

@@ -1,0 +1,59 @@
+-- What becomes of a metaslab's table while others hold it.
+use Rattle.std.proofs.Common.{◌≡◌, ◌∙◌, ◌≤◌, ◌⊎◌, inl, inr, arith, ℕ, Bool, true, false, Option, Some, None, subst, refl}
+use Rattle.draid_rack.specs.declared.Rack as racks
+use Rattle.draid_area.specs.declared.Area as areas
+use Rattle.draid_entries.specs.declared.entries.Entries.{Entries}
+use Rattle.draid_entries.specs.Entries.{held_in}
+use Rattle.draid_machine.specs.declared.names.Key.{Key}
+use Rattle.draid_machine.specs.declared.names.Held.{Held}
+use Rattle.draid_machine.specs.declared.names.Stage.{Stage}
+use Rattle.draid_machine.specs.declared.names.Stage.TheVariants as stage
+use Rattle.draid_machine.specs.After.{is_freed_block}
+use Rattle.draid_machine.specs.Names.{is_freed_by}
+use Rattle.draid_machine.proofs.Small.{is_low, low}
+use Rattle.draid_shard.specs.Fits.{Valid}
+use Rattle.draid_shard.specs.declared.shard.Shard.{Shard}
+use Rattle.draid_shard.proofs.Changed.{same_arms}
+use Rattle.draid_pool.specs.Drifts.{Drifts, KeepsGroups, KeepsOf}
+use Rattle.draid_pool.proofs.Since.{state_self}
+
+pub keeps_self : (of : ℕ → Bool) (group : ℕ) (t : Entries) → KeepsOf of group t t
+keeps_self of group t = record { each = λ key own. inl refl }
+
+pub freed_later : (group later : ℕ) (o : Option Held) → group ≤ later → is_freed_block group o ≡ true → is_freed_block later o ≡ true
+freed_later group later None less is = is
+freed_later group later (Some h) less is = by h.stage is
+  where
+    by : (s : Stage) → is_freed_by group s ≡ true → is_freed_by later s ≡ true
+    by stage.Live e = e
+    by (stage.Writing p m) e = e
+    by (stage.Freed g) e = (let a = is_low g group e in low g later (omega (arith, a, less)))
+
+pub keeps_then : (of : ℕ → Bool) (group later : ℕ) (a b c : Entries) → group ≤ later → KeepsOf of group a b → KeepsOf of later b c → KeepsOf of later a c
+keeps_then of group later a b c less x y = record { each = λ key own. by key (x.each key own) (y.each key own) }
+  where
+    by : (key : Key) → (held_in b key ≡ held_in a key) ⊎ ((is_freed_block group (held_in a key) ≡ true) × (held_in b key ≡ None))
+        → (held_in c key ≡ held_in b key) ⊎ ((is_freed_block later (held_in b key) ≡ true) × (held_in c key ≡ None))
+        → (held_in c key ≡ held_in a key) ⊎ ((is_freed_block later (held_in a key) ≡ true) × (held_in c key ≡ None))
+    by key (inl e) (inl f) = inl (f ∙ e)
+    by key (inl e) (inr f) = inr (subst (λ o. is_freed_block later o ≡ true) e f.0, f.1)
+    by key (inr e) (inl f) = inr (freed_later group later (held_in a key) less e.0, f ∙ e.1)
+    by key (inr e) (inr f) = inr (freed_later group later (held_in a key) less e.0, f.1)
+
+pub keeps_some : (of some : ℕ → Bool) (group : ℕ) (a b : Entries) → ((n : ℕ) → some n ≡ true → of n ≡ true) → KeepsOf of group a b → KeepsOf some group a b
+keeps_some of some group a b inside x = record { each = λ key own. x.each key (inside key.object own) }
+
+pub groups_kept : {R A : Type 0} (shard : Shard R A) → KeepsGroups shard shard
+groups_kept shard = record { groups = record { open_group_is = refl; closing = refl; sealed = refl; committed = refl }; arms = same_arms shard.slots }
+
+-- what no one else holds is as it was
+pub drifts_not : {R A : Type 0} (rack : racks.Ghosts R) (area : areas.Ghosts A) (owns : ℕ → Bool) (shard : Shard R A) → Valid rack shard → Drifts rack area false owns shard shard
+drifts_not rack area owns shard v = record {
+  valid = v;
+  part = refl;
+  later = (omega arith);
+  groups = λ own. groups_kept shard;
+  own = keeps_self owns shard.committed shard.entries;
+  state = state_self rack area owns shard;
+  still = λ alone. refl;
+}

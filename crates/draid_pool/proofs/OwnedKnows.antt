@@ -1,0 +1,119 @@
+-- A thread that owns all objects of a pool, with nobody beside it, knows what the pool stands for.
+use Rattle.std.proofs.Common.{◌≡◌, ◌≤◌, ◌∙◌, inl, arith, ℕ, Bool, true, List, [], ◌∷◌, Option, Some, None, refl, sym, ap, subst}
+use Rattle.std.specs.Prelude.{slice_get, nat_eq}
+use Rattle.std.specs.HashMap.{get}
+use Rattle.sha2.specs.Sha256.{sha256}
+use Rattle.draid_names.specs.declared.pointer.Pointer.{Pointer}
+use Rattle.draid_rack.specs.declared.Rack as racks
+use Rattle.draid_area.specs.declared.Area as areas
+use Rattle.draid_objects.specs.Changes.{Change, Write, write_of}
+use Rattle.draid_objects.proofs.Keeping.{commit_kept}
+use Rattle.draid_shard.specs.Part.{Part}
+use Rattle.draid_shard.specs.declared.shard.Shard.{Shard}
+use Rattle.draid_session.specs.State.{State}
+use Rattle.draid_pool.specs.Objects.{HoldsObjects, IsLastAt, PointsTo, blocks_of}
+use Rattle.draid_pool.specs.Pools.{Represents, Stands}
+use Rattle.draid_pool.specs.Threads.{Bounds, IsWholeBy, Knows, PointsAt, own_changes}
+use Rattle.draid_pool.specs.Whole.{IsWhole}
+use Rattle.draid_pool.specs.declared.pool.Pool.{Pool}
+use Rattle.draid_pool.proofs.Lifted.{metaslab_of}
+use Rattle.draid_pool.proofs.Lists.{present}
+
+-- all objects are the thread's own
+abbrev pub all : ℕ → Bool
+all object = true
+
+-- the metaslabs of a pool as they were left, and its table
+abbrev pub left_in : {R A : Type 0} → Pool R A → ℕ → Option (Shard R A)
+left_in pool m = slice_get pool.metaslabs.shards.items m
+
+abbrev pub table_in : {R A : Type 0} → Pool R A → ℕ → Option Pointer
+table_in pool object = get nat_eq pool.own.objects object
+
+pub all_own : (cs : List Change) → own_changes all cs ≡ cs
+all_own [] = refl
+all_own (c ∷ cs) = ap (λ l. c ∷ l) (all_own cs)
+
+module _ {R A : Type 0} where
+  points_in : (shards : List (Shard R A)) (o : Option Pointer) (w : Option Write) → PointsTo shards o w → PointsAt (λ m. slice_get shards m) o w
+  points_in shards None None points = tt
+  points_in shards None (Some w) points = absurd points
+  points_in shards (Some p) None points = absurd points
+  points_in shards (Some p) (Some w) points = record {
+    object_is = points.object_is;
+    seq_is = points.seq_is;
+    metaslab_is = points.metaslab_is;
+    birth_is = points.birth_is;
+    len_is = points.len_is;
+    digest_is = points.digest_is;
+    shard = points.shard;
+    there = points.there;
+    live = points.live;
+  }
+
+  pub points_out : (shards : List (Shard R A)) (o : Option Pointer) (w : Option Write) → PointsAt (λ m. slice_get shards m) o w → PointsTo shards o w
+  points_out shards None None points = tt
+  points_out shards None (Some w) points = absurd points
+  points_out shards (Some p) None points = absurd points
+  points_out shards (Some p) (Some w) points = record {
+    object_is = points.object_is;
+    seq_is = points.seq_is;
+    metaslab_is = points.metaslab_is;
+    birth_is = points.birth_is;
+    len_is = points.len_is;
+    digest_is = points.digest_is;
+    shard = points.shard;
+    there = points.there;
+    live = points.live;
+  }
+
+module _ {R A : Type 0} (rack : racks.Ghosts R) (area : areas.Ghosts A) where
+  pub whole_by : (pool : Pool R A) → IsWhole rack area pool → IsWholeBy rack all (left_in pool) (table_in pool) pool.own.seq pool.own.floor
+  whole_by pool w = record {
+    shards = λ m shard there. (let is = w.shards m shard there in record {
+      valid = is.valid;
+      numbered = λ key h own. is.numbered key h;
+      settled = λ key h own. is.settled key h;
+    });
+    placed = λ m shard there. ap (λ (q : Part). q.number) (w.shards m shard there).part;
+    together = λ m n shard other own there at. (w.shards n other at).committed ∙ sym (w.shards m shard there).committed;
+    next = λ m shard own there. (let floor = w.floor in let group = (w.shards m shard there).committed in omega (arith, floor, group));
+    pointers = λ object pointer at. (let p = w.objects object pointer at in record {
+      object_is = p.object_is;
+      own = refl;
+      shard = p.shard;
+      there = p.there;
+      valid = (w.shards pointer.metaslab p.shard p.there).valid;
+      live = p.live;
+    });
+    low = w.low;
+  }
+
+  pub knows_all : (pool : Pool R A) (x : State) → Represents rack area pool x → Knows rack area all (left_in pool) (table_in pool) pool.own.seq pool.own.floor x
+  knows_all pool x r = record {
+    pieces = s.pieces;
+    each = λ m shard at. (let z = metaslab_of rack area pool x s m shard at in (z.y, z.at, z.is));
+    holds = record {
+      holds = λ c b. subst (λ cs. HoldsObjects x.geometry c (record x.store { changes = cs }) (blocks_of x.metaslabs) s.pieces) (sym (all_own x.store.changes)) (record {
+        stores = commit_kept sha256 x.committed x.store.changes (blocks_of x.metaslabs) (blocks_of x.metaslabs) s.holds.stores c (low c b) (λ m k. inl refl);
+        floors = s.holds.floors;
+        settled = s.holds.settled;
+        numbered = s.holds.numbered;
+        bytes = s.holds.bytes;
+      });
+      only = λ m k h at live. subst (λ cs. IsLastAt m k (write_of cs k.object)) (sym (all_own x.store.changes)) (r.only m k h at live);
+    };
+    objects = λ o mine. points_in pool.metaslabs.shards.items (table_in pool o) (write_of x.store.changes o) (s.objects o);
+    seq = s.seq;
+    floor = s.floor;
+  }
+    where
+      s : Stands rack area pool (table_in pool) x
+      s = r.stands
+
+      low : (c : ℕ) → Bounds x c → x.committed ≤ c
+      low c b =
+          let first = present x.metaslabs 0 (let many = s.many in let some = s.layout.geometry_is.props.some_metaslabs in omega (arith, many, some)) in
+          let bound = b 0 first.0 first.1 in
+          let same = s.groups.committed 0 first.0 first.1 in
+          omega (arith, bound, same)

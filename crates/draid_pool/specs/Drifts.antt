@@ -1,0 +1,83 @@
+-- What every hold of a metaslab keeps to, and what others may have done to it between two holds of one thread.
+use Rattle.std.specs.Prelude.{◌≡◌, ◌==◌, ◌++◌, ◌≤◌, ◌⊎◌, ℕ, Bool, true, false, List, Option, Some, None, if◌then◌else◌}
+use Rattle.draid_rack.specs.declared.Rack as racks
+use Rattle.draid_area.specs.declared.Area as areas
+use Rattle.draid_machine.specs.declared.event.Event.{Event}
+use Rattle.draid_machine.specs.declared.names.Key.{Key}
+use Rattle.draid_machine.specs.After.{is_freed_block}
+use Rattle.draid_machine.specs.State as machine
+use Rattle.draid_machine.specs.Step.{Run}
+use Rattle.draid_segments.specs.Segments.{Pieces}
+use Rattle.draid_entries.specs.Entries.{held_in}
+use Rattle.draid_entries.specs.declared.entries.Entries.{Entries}
+use Rattle.draid_shard.specs.Alike.{KeepsArms}
+use Rattle.draid_shard.specs.Changes.{SameGroups}
+use Rattle.draid_shard.specs.Fits.{Valid}
+use Rattle.draid_shard.specs.Part.{Part, layout_in}
+use Rattle.draid_shard.specs.States.{part_of}
+use Rattle.draid_shard.specs.declared.shard.Shard.{Shard}
+use Rattle.draid_session.specs.State.{Metaslab}
+use Rattle.draid_pool.specs.Metaslabs.{IsMetaslab}
+
+-- ---- states
+
+-- a metaslab came from another by events
+pub record Since (l : machine.Layout) (first x : Metaslab) : Type 0 where
+  pub opened : x.opened ≡ first.opened
+  pub more : List Event
+  pub stored : x.events ≡ first.events ++ more
+  pub run : Run l first.world more x.world
+
+-- a shard stands for a metaslab that came from one by events, with the same pieces of the objects of a test
+pub record GoesOn {R A : Type 0} (rack : racks.Ghosts R) (area : areas.Ghosts A) (of : ℕ → Bool) (part : Part) (pieces : Pieces) (x : Metaslab) (new : Shard R A) : Type 0 where
+  pub reached : Metaslab
+  pub now : Pieces
+  pub is : IsMetaslab rack area part now new reached
+  pub since : Since (layout_in part) x reached
+  pub same : (k : Key) → of k.object ≡ true → now k ≡ pieces k
+
+-- whatever the one stood for, the other stands for something behind it
+abbrev pub StateStep : {R A : Type 0} → racks.Ghosts R → areas.Ghosts A → (ℕ → Bool) → Shard R A → Shard R A → Type 0
+StateStep rack area of old new = (part : Part) (pieces : Pieces) (x : Metaslab) → IsMetaslab rack area part pieces old x → GoesOn rack area of part pieces x new
+
+-- ---- tables
+
+-- what is held of the objects of a test is as it was, but that blocks may be gone that were freed up to a group
+pub record KeepsOf (of : ℕ → Bool) (group : ℕ) (old new : Entries) : Type 0 where
+  pub each : (key : Key) → of key.object ≡ true → (held_in new key ≡ held_in old key) ⊎ ((is_freed_block group (held_in old key) ≡ true) × (held_in new key ≡ None))
+
+-- another object than that which is concerned, if one is
+abbrev pub is_other : Option ℕ → ℕ → Bool
+is_other None object = true
+is_other (Some n) object = if n == object then false else true
+
+-- ---- metaslabs
+
+-- the number that a hold concerns which may change the groups or the arms of a metaslab; it is no object's
+abbrev pub groups_number : ℕ
+groups_number = 4_294_967_312
+
+-- the groups are as they were, and so are the arms, which change with them; logs may be others
+pub record KeepsGroups {R A : Type 0} (old new : Shard R A) : Type 0 where
+  pub groups : SameGroups old new
+  pub arms : KeepsArms old.slots new.slots
+
+-- What every hold keeps to: the metaslab is valid, what it has of objects that the hold doesn't concern is as it was, its groups and arms are as they were unless the hold
+-- concerns them, and whatever state it stood for, it stands for one behind it.
+pub record KeepsTo {R A : Type 0} (rack : racks.Ghosts R) (area : areas.Ghosts A) (old new : Shard R A) (concerned : Option ℕ) : Type 0 where
+  pub valid : Valid rack new
+  pub part : part_of new ≡ part_of old
+  pub later : old.committed ≤ new.committed
+  pub groups : is_other concerned groups_number ≡ true → KeepsGroups old new
+  pub others : KeepsOf (is_other concerned) new.committed old.entries new.entries
+  pub state : StateStep rack area (is_other concerned) old new
+
+-- what others may have done since, where there are any: what it has of a thread's own objects is as it was, and so are its groups and arms where they are the thread's own
+pub record Drifts {R A : Type 0} (rack : racks.Ghosts R) (area : areas.Ghosts A) (shared : Bool) (owns : ℕ → Bool) (old now : Shard R A) : Type 0 where
+  pub valid : Valid rack now
+  pub part : part_of now ≡ part_of old
+  pub later : old.committed ≤ now.committed
+  pub groups : owns groups_number ≡ true → KeepsGroups old now
+  pub own : KeepsOf owns now.committed old.entries now.entries
+  pub state : StateStep rack area owns old now
+  pub still : shared ≡ false → now ≡ old

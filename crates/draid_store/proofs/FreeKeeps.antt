@@ -1,0 +1,45 @@
+-- The freeing of a block in a hold keeps to what every hold keeps to.
+use Rattle.std.proofs.Common.{◌≡◌, arith, ℕ, Bool, Option, Some, None, MatchOption, sym, ap, subst}
+use Rattle.draid_names.specs.declared.pointer.Pointer.{Pointer}
+use Rattle.draid_rack.specs.declared.Rack as racks
+use Rattle.draid_area.specs.declared.Area as areas
+use Rattle.draid_machine.specs.declared.names.Stage.TheVariants as stage
+use Rattle.draid_entries.specs.Maps.{staged}
+use Rattle.draid_shard.specs.declared.shard.Shard.{Shard}
+use Rattle.draid_pool.specs.Drifts.{KeepsGroups, KeepsOf, KeepsTo, StateStep, is_other}
+use Rattle.draid_store.specs.Frees.{FreesBlock, FreesShard, IsEarly}
+use Rattle.draid_pool.proofs.Drifting.{groups_kept, keeps_self}
+use Rattle.draid_pool.proofs.ShardSteps.{sets_others, state_goes}
+use Rattle.draid_pool.proofs.Since.{state_self}
+
+pub same_groups : {R A : Type 0} (old new : Shard R A) → new ≡ old → KeepsGroups old new
+same_groups old new same = subst (KeepsGroups old) (sym same) (groups_kept old)
+
+module _ {R A : Type 0} (rack : racks.Ghosts R) (area : areas.Ghosts A) where
+  pub free_groups : (x y : Shard R A) (p : Pointer) (floor : ℕ) (out : Option ℕ) → FreesShard rack area x p floor out y → KeepsGroups x y
+  free_groups x y p floor None f = same_groups x y f.did.same
+  free_groups x y p floor (Some group) f = record { groups = f.did.sets.groups; arms = f.did.sets.slots }
+
+  pub free_keeps : (x y : Shard R A) (p : Pointer) (floor : ℕ) (out : Option ℕ) → FreesShard rack area x p floor out y → KeepsTo rack area x y (Some p.object)
+  free_keeps x y p floor out f = by out f.did
+    where
+      of : ℕ → Bool
+      of = is_other (Some p.object)
+
+      by : (o : Option ℕ) → MatchOption o (IsEarly rack area x floor y) (λ group. FreesBlock rack area x p floor group y) → KeepsTo rack area x y (Some p.object)
+      by None e = record {
+        valid = f.valid;
+        part = f.part;
+        later = (let same = ap (λ (s : Shard R A). s.committed) e.same in omega (arith, same));
+        groups = λ other. same_groups x y e.same;
+        others = subst (λ (s : Shard R A). KeepsOf of s.committed x.entries s.entries) (sym e.same) (keeps_self of x.committed x.entries);
+        state = subst (StateStep rack area of x) (sym e.same) (state_self rack area of x);
+      }
+      by (Some group) b = record {
+        valid = f.valid;
+        part = f.part;
+        later = (let same = b.sets.groups.committed in omega (arith, same));
+        groups = λ other. record { groups = b.sets.groups; arms = b.sets.slots };
+        others = sets_others y.committed x.entries y.entries p (Some (staged (stage.Freed group) p)) b.sets.entry;
+        state = state_goes rack area of x y _ b.frees;
+      }
