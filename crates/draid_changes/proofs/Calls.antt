@@ -234,14 +234,14 @@ module _ {R A : Type 0} (rack : racks.Ghosts R) (area : areas.Ghosts A) where
       → CarriesOut rack area mid x (Phase x (groups.Finishes x.geometry x.perms) (end_of {T = Unit} (Err why))) → CarriesOut rack area mid x (SwitchDoes x leaf offline (Err fault))
   switch_unfinished mid x leaf offline sync.Worn fault is c =
       subst (λ f. CarriesOut rack area mid x (SwitchDoes x leaf offline (Err f))) (sym is)
-      (carries_so rack area mid x (Phase x (groups.Finishes x.geometry x.perms) WasWorn) (SwitchDoes x leaf offline (Err armed.Worn)) c (λ holds store done. (done.0, inr (not_went Unit sync.Worn, done.1))))
+      (carries_so rack area mid x (Phase x (groups.Finishes x.geometry x.perms) WasWorn) (SwitchDoes x leaf offline (Err armed.Worn)) c (λ holds store done. (done.0, inr (not_went Unit sync.Worn, λ is. absurd (cc), done.1))))
   switch_unfinished mid x leaf offline sync.Last fault is c = absurd is
   switch_unfinished mid x leaf offline sync.Shelf fault is c =
       subst (λ f. CarriesOut rack area mid x (SwitchDoes x leaf offline (Err f))) (sym is)
-      (carries_so rack area mid x (Phase x (groups.Finishes x.geometry x.perms) Broke) (SwitchDoes x leaf offline (Err armed.Shelf)) c (λ holds store done. (done.0, inr (not_went Unit sync.Shelf, done.1))))
+      (carries_so rack area mid x (Phase x (groups.Finishes x.geometry x.perms) Broke) (SwitchDoes x leaf offline (Err armed.Shelf)) c (λ holds store done. (done.0, inr (not_went Unit sync.Shelf, λ is. absurd (cc), done.1))))
   switch_unfinished mid x leaf offline sync.NoMemory fault is c =
       subst (λ f. CarriesOut rack area mid x (SwitchDoes x leaf offline (Err f))) (sym is)
-      (carries_so rack area mid x (Phase x (groups.Finishes x.geometry x.perms) Starved) (SwitchDoes x leaf offline (Err armed.NoMemory)) c (λ holds store done. (done.0, inl (inr (not_went Unit sync.NoMemory, done.1)))))
+      (carries_so rack area mid x (Phase x (groups.Finishes x.geometry x.perms) Starved) (SwitchDoes x leaf offline (Err armed.NoMemory)) c (λ holds store done. (done.0, inl (inr (not_went Unit sync.NoMemory, λ is. absurd (cc), done.1)))))
 
   -- a metaslab couldn't reserve an event
   pub switch_stopped : (mid new : Pool R A) (x : State) (leaf : ℕ) (offline : Bool) (end : End) (first : Shard R A) → CarriesOut rack area mid x (Phase x (groups.Finishes x.geometry x.perms) Went)

@@ -138,7 +138,7 @@ SyncDoes x (Ok it) holds new = (new ≡ x.store) × groups.Syncs x.geometry x.pe
 SyncDoes x (Err sync.Worn) holds new = (new ≡ x.store) × groups.SyncStops x.geometry x.perms holds WasWorn
 SyncDoes x (Err sync.Last) holds new = (new ≡ x.store) × groups.SyncStops x.geometry x.perms holds WasLast
 SyncDoes x (Err sync.Shelf) holds new = (new ≡ x.store) × groups.SyncStops x.geometry x.perms holds Broke
-SyncDoes x (Err sync.NoMemory) holds new = (new ≡ x.store) × groups.SyncStarves x.geometry x.perms holds
+SyncDoes x (Err sync.NoMemory) holds new = (new ≡ x.store) × groups.SyncStops x.geometry x.perms holds Starved
 
 -- what an export does before the pool is given back, and why it was stopped; the answer is the committed group
 abbrev pub ExportDoes : State → Result ℕ SyncFault → List Hold → Store → Type 0
@@ -146,4 +146,4 @@ ExportDoes x (Ok group) holds new = (new ≡ x.store) × groups.Exports x.geomet
 ExportDoes x (Err sync.Worn) holds new = (new ≡ x.store) × groups.ExportStops x.geometry x.perms holds WasWorn
 ExportDoes x (Err sync.Last) holds new = (new ≡ x.store) × groups.ExportStops x.geometry x.perms holds WasLast
 ExportDoes x (Err sync.Shelf) holds new = (new ≡ x.store) × groups.ExportStops x.geometry x.perms holds Broke
-ExportDoes x (Err sync.NoMemory) holds new = (new ≡ x.store) × groups.ExportStarves x.geometry x.perms holds
+ExportDoes x (Err sync.NoMemory) holds new = (new ≡ x.store) × groups.ExportStops x.geometry x.perms holds Starved
