@@ -34,7 +34,7 @@ module _ (x : State) (b : Bool) where
   told_as = record x { told = b }
 
   uber_as : (content : Content) → UberStands x (Some content) → UberStands told_as (Some content)
-  uber_as content u = record { pending = u.pending; are = u.are; stands = u.stands; versions = u.versions }
+  uber_as content u = record { pending = u.pending; are = u.are; stands = u.stands }
 
   rests_on : (m : ℕ) (pieces : Pieces) (y : Metaslab) (kit : KitTold) → RestsOn x m pieces y kit → RestsOn told_as m pieces y kit
   rests_on m pieces y kit r = record { reached = r.reached; images = r.images; harm = r.harm }
