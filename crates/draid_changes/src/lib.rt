@@ -1,4 +1,4 @@
-//! Changes of a pool's arms, each made in all of its metaslabs or in none: leaves go offline and come back.
+//! Changes of a pool's arms, each made in all of its metaslabs or in none: leaves go offline and come back. And the change of its version.
 
 #![tactic(auto)]
 
@@ -6,7 +6,9 @@ mod fault;
 mod replies;
 mod reserving;
 mod switching;
+mod upgrading;
 
 pub use fault::ArmFault;
 pub use replies::{reply_to_offline, reply_to_online};
 pub use switching::{offline, online};
+pub use upgrading::{UpgradeFault, upgrade};
