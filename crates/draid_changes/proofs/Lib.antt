@@ -1,3 +1,4 @@
+pub mod Attached
 pub mod Calls
 pub mod Phases
 pub mod Reserved

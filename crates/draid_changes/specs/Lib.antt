@@ -1,3 +1,4 @@
 pub mod Answers
+pub mod Attaching
 pub mod Says
 pub mod Walks

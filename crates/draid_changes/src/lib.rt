@@ -2,6 +2,7 @@
 
 #![tactic(auto)]
 
+mod attaching;
 mod fault;
 mod replies;
 mod reserving;
