@@ -1,5 +1,5 @@
 -- One metaslab of a pool as an arm comes to a slot there.
-use Rattle.std.proofs.Common.{◌≡◌, ◌<◌, ◌+◌, ◌∙◌, ◌++◌, ◌==◌, ◌⊎◌, inl, inr, [], ◌∷◌, ℕ, Bool, true, false, List, Option, Some, None, IsSome, arith, refl, sym, ap, subst, if◌then◌else◌}
+use Rattle.std.proofs.Common.{◌≡◌, ◌<◌, ◌+◌, ◌∙◌, ◌++◌, ◌==◌, ◌⊎◌, inl, inr, [], ◌∷◌, ℕ, Bool, true, false, Option, Some, None, IsSome, arith, refl, sym, ap, subst, if◌then◌else◌}
 use Rattle.std.specs.Prelude.{option_map}
 use Rattle.draid_names.specs.declared.arm.ArmKind.{ArmKind}
 use Rattle.draid_names.specs.declared.pass_kind.PassKind.{PassKind}
@@ -18,13 +18,9 @@ use Rattle.draid_area.specs.declared.Area as areas
 use Rattle.draid_machine.specs.declared.event.Event.TheVariants.{Attach}
 use Rattle.draid_segments.specs.Segments.{Pieces}
 use Rattle.draid_entries.specs.History.{reserved_of}
-use Rattle.draid_pass.specs.declared.pass.Pass.{Pass}
-use Rattle.draid_slots.specs.States.{pass_in}
-use Rattle.draid_slots.specs.Table.{SlotTable}
 use Rattle.draid_shard.specs.Calls.{SameKit}
 use Rattle.draid_shard.specs.Part.{Part, layout_in}
 use Rattle.draid_shard.specs.declared.shard.Shard.{Shard}
-use Rattle.draid_disks.specs.Replanning.{attach_events}
 use Rattle.draid_session.specs.Arms as arms
 use Rattle.draid_session.specs.Follows.{CountsRise, replans}
 use Rattle.draid_session.specs.Holds.{Did, On, view_of}
@@ -34,6 +30,7 @@ use Rattle.draid_pool.specs.Metaslabs.{IsMetaslab, counts_of}
 use Rattle.draid_pool.specs.Syncing.{Turns}
 use Rattle.draid_pool.proofs.Dids.{Done, did_with, records_same}
 use Rattle.draid_changes.specs.Attaching.{Attaches}
+use Rattle.draid_changes.proofs.Reserved.{same_events}
 use Rattle.draid_changes.proofs.Walk.{IsChanged}
 
 -- an arm as it comes, without what passes make good
@@ -204,15 +201,6 @@ image_was l w v slot n image step own =
       | inl of ↦ inl (sym r.image ∙ of)
       | inr of ↦ inr (sym r.sealed ∙ of)
     ]
-
--- what an attachment uses of what is reserved, by the pass of the metaslab
-same_events : (slots : SlotTable) (p : Option Pass) → replans (option_map (pass_in slots) p) ≡ attach_events p
-same_events slots None = refl
-same_events slots (Some p) = by p.kind p.running
-  where
-    by : (k : PassKind) (running : Bool) → replans (Some (record (pass_in slots p) { kind = k; running = running })) ≡ attach_events (Some (record p { kind = k; running = running }))
-    by Rebuild running = refl
-    by Heal running = refl
 
 module _ {R A : Type 0} (rack : racks.Ghosts R) (area : areas.Ghosts A) where
   counts_stay : (old new : Shard R A) (w v : machine.State) → SameKit old new → CountsRise w v [] (counts_of rack area old) (counts_of rack area new)

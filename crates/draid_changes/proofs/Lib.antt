@@ -1,5 +1,7 @@
 pub mod Attached
+pub mod Begun
 pub mod Calls
+pub mod Events
 pub mod Phases
 pub mod Reserved
 pub mod Switched

@@ -4,6 +4,7 @@
 
 mod attaching;
 mod fault;
+mod need;
 mod replies;
 mod reserving;
 mod switching;
