@@ -1,6 +1,10 @@
+pub mod Attached
+pub mod Begun
 pub mod Calls
+pub mod Events
 pub mod Phases
 pub mod Reserved
 pub mod Switched
+pub mod Upgraded
 pub mod Walk
 pub mod Whole

@@ -1,4 +1,5 @@
 pub mod Answers
+pub mod Attaching
 pub mod Says
 pub mod Upgrading
 pub mod Walks

@@ -1,5 +1,5 @@
 -- How version 2 is asked for in the metaslabs of a pool, and what an upgrade says by its answer.
-use Rattle.std.specs.Prelude.{◌≡◌, ◌≢◌, ◌<◌, ◌⊎◌, ℕ, List, None, Some, Result, Ok, Err, slice_get}
+use Rattle.std.specs.Prelude.{◌≡◌, ◌≢◌, ◌<◌, ◌⊎◌, ℕ, List, None, Result, Ok, Err}
 use Rattle.draid_rack.specs.declared.Rack.{Ghosts}
 use Rattle.draid_machine.specs.declared.event.Event.TheVariants as event
 use Rattle.draid_segments.specs.Segments.{Pieces}
@@ -12,7 +12,7 @@ use Rattle.draid_shard.specs.States.{Does}
 use Rattle.draid_shard.specs.declared.shard.Shard.{Shard}
 use Rattle.draid_disks.specs.Disks.{Uses}
 use Rattle.draid_session.specs.Holds.{Hold}
-use Rattle.draid_session.specs.State.{Metaslab, State, Store}
+use Rattle.draid_session.specs.State.{State, Store}
 use Rattle.draid_session.specs.Versions as versions
 use Rattle.draid_pool.specs.Syncing.{end_of}
 use Rattle.draid_pool.specs.declared.fault.SyncFault.{SyncFault}
@@ -40,10 +40,6 @@ pub record Upgrades {R A : Type 0} (rack : Ghosts R) (old new : Shard R A) : Typ
 -- it is asked for there: only just, or it was already
 abbrev pub UpgradesIn : {R A : Type 0} → Ghosts R → Shard R A → Shard R A → Type 0
 UpgradesIn rack old new = Upgrades rack old new ⊎ ((new ≡ old) × (old.asked ≢ 1))
-
--- no metaslab of a state has or asks for version 2
-abbrev pub NoneAsks : State → Type 0
-NoneAsks x = (m : ℕ) (y : Metaslab) → slice_get x.metaslabs m ≡ Some y → y.world.asked ≡ 1
 
 -- ---- the pool
 

@@ -2,7 +2,9 @@
 
 #![tactic(auto)]
 
+mod attaching;
 mod fault;
+mod need;
 mod replies;
 mod reserving;
 mod switching;

@@ -1,4 +1,4 @@
-ghost use Rattle.std.specs.Prelude.{◌≡◌, ◌→◌, Err, IsErrOf, None, Some, length, slice_get, ℕ};
+ghost use Rattle.std.specs.Prelude.{◌≡◌, Err, IsErrOf, None, Some, length, slice_get, ℕ};
 ghost use Rattle.draid_entries.specs.declared.history.ReserveFault.{ReserveFault};
 ghost use Rattle.draid_machine.specs.declared.event.Event.TheVariants as event;
 ghost use Rattle.draid_shard.specs.declared.shard.Shard.{Shard};
@@ -12,9 +12,11 @@ ghost use Rattle.draid_pool.specs.Pointers.{SamePointers};
 ghost use Rattle.draid_pool.specs.Pools.{Represents};
 ghost use Rattle.draid_pool.specs.Syncing.{AreIdle, Phase, end_of};
 ghost use Rattle.draid_pool.specs.Whole.{IsWhole};
-ghost use Rattle.draid_changes.specs.Upgrading.{MayUpgrade, NoneAsks, RaiseDoes, UpgradeDoes, UpgradesIn};
+ghost use Rattle.draid_uber.specs.Uber.{version_of};
+ghost use Rattle.draid_changes.specs.Upgrading.{MayUpgrade, RaiseDoes, UpgradeDoes, UpgradesIn};
 ghost use Rattle.draid_changes.specs.Walks.{ChangedBelow, end_of_reserving};
 
+use crate::need::Need;
 use crate::reserving::reserve_all;
 use draid_area::Area;
 use draid_entries::ReserveFault;
@@ -61,10 +63,10 @@ fn raise<R: Rack, A: Area>(pool: &mut Pool<R, A>) -> Result<u64, SyncFault>
     ensures objects { pool.new.own.objects ≡ pool.old.own.objects }
     ensures later { AreasLater A.faults pool.old pool.new }
     ensures cause { IsErrOf result SyncFault.Shelf → AreaRose A.faults pool.old pool.new }
-    ensures carries { (x : State) → Represents R.Rack A.Area pool.old x → NoneAsks x
+    ensures carries { (x : State) → Represents R.Rack A.Area pool.old x → version_of pool.old.uber ≡ 1
         → CarriesOut R.Rack A.Area pool.new x (RaiseDoes x result) }
 {
-    if let Err(fault) = reserve_all(pool, 1) {
+    if let Err(fault) = reserve_all(pool, Need::Event) {
         return Err(stopped(fault));
     }
     ask(pool);
@@ -92,7 +94,7 @@ fn ask<R: Rack, A: Area>(pool: &mut Pool<R, A>)
     ensures whole { IsWhole R.Rack A.Area pool.new }
     ensures objects { pool.new.own.objects ≡ pool.old.own.objects }
     ensures later { AreasLater A.faults pool.old pool.new }
-    ensures carries { (x : State) → Represents R.Rack A.Area pool.old x → NoneAsks x
+    ensures carries { (x : State) → Represents R.Rack A.Area pool.old x → version_of pool.old.uber ≡ 1
         → CarriesOut R.Rack A.Area pool.new x (Phase x (Chain (EventPhase x.geometry x.perms event.Upgrade) Asks) Went) }
 {
     ask_all(&mut pool.metaslabs.shards);
