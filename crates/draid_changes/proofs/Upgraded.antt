@@ -7,7 +7,6 @@ use Rattle.std.proofs.lemmas.Option.{slice_get_within}
 use Rattle.draid_names.specs.declared.pointer.Pointer.{Pointer}
 use Rattle.draid_rack.specs.declared.Rack as racks
 use Rattle.draid_area.specs.declared.Area as areas
-use Rattle.draid_record.specs.declared.uber.UberBody.{UberBody}
 use Rattle.draid_machine.specs.declared.event.Event.TheVariants as event
 use Rattle.draid_machine.specs.Images.{IsImage}
 use Rattle.draid_machine.specs.State as machine
@@ -37,7 +36,7 @@ use Rattle.draid_pool.specs.Syncing.{AreIdle, Phase, Turns}
 use Rattle.draid_pool.specs.Ubers.{IsPending, IsUber, UberStands, kept_in}
 use Rattle.draid_pool.specs.Whole.{IsWhole}
 use Rattle.draid_pool.specs.declared.pool.Pool.{Pool}
-use Rattle.draid_pool.proofs.Dids.{Done, did_with, raises_none, records_same, rises}
+use Rattle.draid_pool.proofs.Dids.{Done, did_with, records_same}
 use Rattle.draid_pool.proofs.Lifted.{metaslab_of}
 use Rattle.draid_pool.proofs.Lists.{present}
 use Rattle.draid_pool.proofs.Steps.{carried, follows_on}
@@ -46,6 +45,7 @@ use Rattle.draid_pool.proofs.Turns.{state_sound}
 use Rattle.draid_changes.specs.Upgrading.{MayUpgrade, Upgrades, UpgradesIn}
 use Rattle.draid_changes.specs.Walks.{ChangedBelow}
 use Rattle.draid_changes.proofs.Events.{unsealed}
+use Rattle.draid_changes.proofs.Switched.{counts_stay}
 use Rattle.draid_changes.proofs.Walk.{ChangesAll, IsChanged, changes_all}
 use Rattle.draid_changes.proofs.Whole.{SameOwn}
 
@@ -73,7 +73,7 @@ module _ {R A : Type 0} (rack : racks.Ghosts R) (area : areas.Ghosts A) where
   upgrade_turns x shared old new s part pieces y is none alike =
       let d : Done rack area part pieces new event.Upgrade y
       = did_with rack area part pieces old new event.Upgrade y is s.valid s.does (s.acts pieces) (λ v step. refl) s.reserve.limit s.reserve.reserved
-      (λ v step is_in. rises rack area [] old new y.world v (raises_none rack area old new s.kit))
+      (λ v step is_in. counts_stay rack area old new y.world v s.kit)
       (λ v step image now. records_same rack area part y.world old new s.kit.areas is.records image (subst (λ (w : machine.State). IsImage w image) step.made now)) in
       record {
         act = Did event.Upgrade d.reached.world;

@@ -39,7 +39,7 @@ pub record Upgrades {R A : Type 0} (rack : Ghosts R) (old new : Shard R A) : Typ
 
 -- it is asked for there: only just, or it was already
 abbrev pub UpgradesIn : {R A : Type 0} → Ghosts R → Shard R A → Shard R A → Type 0
-UpgradesIn rack old new = Upgrades rack old new ⊎ ((new ≡ old) × (old.asked ≢ 1))
+UpgradesIn rack old new = Upgrades rack old new ⊎ ((new ≡ old) × (old.asked ≢ 1) × Valid rack old)
 
 -- ---- the pool
 

@@ -60,7 +60,7 @@ fn raise<R: Rack, A: Area>(pool: &mut Pool<R, A>) -> Result<u64, SyncFault>
     requires whole { IsWhole R.Rack A.Area pool.old }
     requires idle { AreIdle pool.old.metaslabs.shards.items }
     ensures whole { IsWhole R.Rack A.Area pool.new }
-    ensures objects { pool.new.own.objects ≡ pool.old.own.objects }
+    ensures same { SamePointers pool.old pool.new }
     ensures later { AreasLater A.faults pool.old pool.new }
     ensures cause { IsErrOf result SyncFault.Shelf → AreaRose A.faults pool.old pool.new }
     ensures carries { (x : State) → Represents R.Rack A.Area pool.old x → version_of pool.old.uber ≡ 1
