@@ -12,8 +12,8 @@ use Rattle.draid_machine.specs.State as machine
 use Rattle.draid_machine.specs.Step.{Step}
 use Rattle.draid_machine.proofs.Small.{absurd_test, equal, is_equal}
 use Rattle.draid_layouts.specs.Layout.{layout_of}
-use Rattle.draid_session.specs.Follows.{Follows, Holds, HoldsMetaslab, Acts}
-use Rattle.draid_session.specs.Holds.{Act, AreaFailed, Committed, CommitFailed, CommitStarved, NextLeaf, Did, Hold, Looked, LookedUber, MadeLeaf, On, OnUber, RackFailed, Reserved, View}
+use Rattle.draid_session.specs.Follows.{Follows, Holds, HoldsMetaslab, MetaslabActs}
+use Rattle.draid_session.specs.Holds.{Act, AreaFailed, Committed, CommitFailed, CommitStarved, NextLeaf, AsksVersion, Did, Hold, Looked, LookedUber, MadeLeaf, On, OnUber, RackFailed, Reserved, View}
 use Rattle.draid_session.specs.Looks.{AllOf, OnlyLooks}
 use Rattle.draid_session.specs.State.{Metaslab, State, Store}
 use Rattle.draid_session.specs.Groups.{is_commit}
@@ -88,6 +88,7 @@ IsCalmHold (On v (Did e w)) = IsCalm e
 IsCalmHold (On v act) = ⊤
 IsCalmHold (OnUber u LookedUber) = ⊤
 IsCalmHold (OnUber u (NextLeaf next)) = ⊤
+IsCalmHold (OnUber u (AsksVersion version)) = ⊤
 IsCalmHold hold = ⊥
 
 -- the same pool, but for what calm holds change
@@ -108,7 +109,17 @@ alike_more a b c x y = record { group = y.group ∙ x.group; closing = y.closing
 pub calm_none : (x : State) → CalmTo x x
 calm_none x = record { committed = refl; pending = refl; told = refl; geometry = refl; each = λ k y there. (y, there, alike_same y.world, goes_none y); back = λ k z there. (z, there, alike_same z.world, goes_none z) }
 
--- the next leaf has another number
+-- the next group has another version, or the next leaf another number
+calm_version : (x : State) (version : ℕ) → CalmTo x (record x { next_version = version })
+calm_version x version = record {
+  committed = refl;
+  pending = refl;
+  told = refl;
+  geometry = refl;
+  each = λ k y there. (y, there, alike_same y.world, goes_none y);
+  back = λ k z there. (z, there, alike_same z.world, goes_none z);
+}
+
 calm_leaf : (x : State) (next : ℕ) → CalmTo x (record x { next_leaf = next })
 calm_leaf x next = record {
   committed = refl;
@@ -166,7 +177,7 @@ hold_back v act old new it k z there = by (k == v.metaslab) refl
         let other : k ≡ v.metaslab → ⊥ = λ at. absurd_test (k == v.metaslab) (equal k v.metaslab at) is in
         inr (other, sym (get_set_other old.metaslabs v.metaslab k it.after other) ∙ there_set)
 
-acts_alike : (l : machine.Layout) (act : Act) (v : View) (x y : Metaslab) → IsCalmHold (On v act) → Acts l act x y → Alike x.world y.world
+acts_alike : (l : machine.Layout) (act : Act) (v : View) (x y : Metaslab) → IsCalmHold (On v act) → MetaslabActs l act x y → Alike x.world y.world
 acts_alike l Looked v x y calm it = alike_by x.world x.world y.world it.0.world (alike_same x.world)
 acts_alike l (Did e w) v x y calm it = alike_by x.world w y.world it.world (step_alike l x.world e w calm it.legal)
 acts_alike l (Reserved n) v x y calm it = alike_by x.world x.world y.world it.0.world (alike_same x.world)
@@ -178,7 +189,7 @@ pub calm_commit : (e : Event) → IsCalm e → is_commit e ≡ false
 calm_commit (event.Commit group) calm = absurd calm
 calm_commit e calm = refl
 
-acts_goes : (l : machine.Layout) (act : Act) (v : View) (x y : Metaslab) → IsCalmHold (On v act) → Acts l act x y → Goes x y
+acts_goes : (l : machine.Layout) (act : Act) (v : View) (x y : Metaslab) → IsCalmHold (On v act) → MetaslabActs l act x y → Goes x y
 acts_goes l Looked v x y calm it = goes_same x y it.0.world it.0.events
 acts_goes l (Did e w) v x y calm it =
     let a = alike_by x.world w y.world it.world (step_alike l x.world e w calm it.legal) in goes_more x y e (calm_commit e calm) a.committed a.closing it.stored
@@ -213,6 +224,7 @@ hold_calms : (hold : Hold) (old new : State) → IsCalmHold hold → Holds hold 
 hold_calms (On v act) old new calm it = hold_calm v act old new calm it
 hold_calms (OnUber u LookedUber) old new calm it = subst (CalmTo old) (sym it.acts) (calm_none old)
 hold_calms (OnUber u (NextLeaf next)) old new calm it = subst (CalmTo old) (sym it.acts) (calm_leaf old next)
+hold_calms (OnUber u (AsksVersion version)) old new calm it = subst (CalmTo old) (sym it.acts) (calm_version old version)
 hold_calms (OnUber u act) old new calm it = absurd calm
 
 pub calm_follows : (holds : List Hold) (old new : State) → AllOf IsCalmHold holds → Follows holds old new → CalmTo old new
@@ -236,6 +248,7 @@ hold_store (OnUber u (Committed group)) x z it = ap (λ (s : State). s.store) it
 hold_store (OnUber u (CommitFailed group)) x z it = ap (λ (s : State). s.store) it.acts.2
 hold_store (OnUber u (CommitStarved group)) x z it = ap (λ (s : State). s.store) it.acts.2
 hold_store (OnUber u (NextLeaf next)) x z it = ap (λ (s : State). s.store) it.acts
+hold_store (OnUber u (AsksVersion version)) x z it = ap (λ (s : State). s.store) it.acts
 
 pub follows_store : (holds : List Hold) (x z : State) → Follows holds x z → z.store ≡ x.store
 follows_store [] x z follows = ap (λ (s : State). s.store) follows
