@@ -5,9 +5,11 @@ use Rattle.draid_machine.specs.declared.event.Event.{Event}
 use Rattle.draid_machine.specs.declared.event.Event.TheVariants as event
 use Rattle.draid_names.specs.declared.pass_kind.PassKind.{PassKind}
 use Rattle.draid_names.specs.declared.pass_kind.PassKind.TheVariants.{Heal, Rebuild}
-use Rattle.draid_machine.specs.After.{attach_state, attached_core, finish_state, rearranged_state, replan, replan_kind}
+use Rattle.draid_machine.specs.After.{attach_state, attached_core, finish_state, land_block_state, land_stripe_state, rearranged_state, replan, replan_kind, unsourced}
 use Rattle.draid_machine.specs.Arms.{has_moved}
+use Rattle.draid_machine.specs.declared.event.Patched.{Patched}
 use Rattle.draid_machine.specs.declared.names.ArmName.{ArmName}
+use Rattle.draid_machine.specs.declared.names.Held.{Held}
 use Rattle.draid_machine.specs.State as machine
 use Rattle.draid_machine.specs.Step.{Step}
 use Rattle.draid_machine.proofs.Small.{absurd_test, equal, is_equal}
@@ -35,6 +37,13 @@ IsCalm (event.Attach slot arm) = ⊤
 IsCalm (event.Detach slot arm) = ⊤
 IsCalm event.Upgrade = ⊤
 IsCalm (event.Seal group failed) = ⊤
+IsCalm (event.Plan kind) = ⊤
+IsCalm event.Ready = ⊤
+IsCalm (event.Lend failed) = ⊤
+IsCalm (event.LandStripe pass serial failed) = ⊤
+IsCalm (event.LandBlock pass serial failed patched unreadable) = ⊤
+IsCalm (event.Done failed) = ⊤
+IsCalm event.Cancel = ⊤
 IsCalm e = ⊥
 
 -- the same groups
@@ -66,6 +75,18 @@ attach_alike l w slot n last =
     let q = attached_core w.core slot n last in
     replan_alike l w (rearranged_state l w last q) (has_moved l w.core q) w.core.pass (record { group = refl; closing = refl; committed = refl })
 
+stripe_alike : (l : machine.Layout) (w : machine.State) (p : machine.Pass) (n : machine.Loan) (h : Held) (failed : List ℕ) → Alike w (land_stripe_state l w p n h failed)
+stripe_alike l w p n h failed = by (nat_lt l.parity (unsourced l n)) refl
+  where
+    by : (b : Bool) → nat_lt l.parity (unsourced l n) ≡ b → Alike w (land_stripe_state l w p n h failed)
+    by true is = rw is (record { group = refl; closing = refl; committed = refl })
+    by false is = rw is (record { group = refl; closing = refl; committed = refl })
+
+block_alike : (l : machine.Layout) (w : machine.State) (p : machine.Pass) (n : machine.Loan) (h : Held) (failed : List ℕ) (patched : List Patched) (unreadable whole : Bool)
+    → Alike w (land_block_state l w p n h failed patched unreadable whole)
+block_alike l w p n h failed patched true whole = record { group = refl; closing = refl; committed = refl }
+block_alike l w p n h failed patched false whole = record { group = refl; closing = refl; committed = refl }
+
 pub step_alike : (l : machine.Layout) (w : machine.State) (e : Event) (new : machine.State) → IsCalm e → Step l w e new → Alike w new
 step_alike l w (event.Begin key first stripes len birth digest) new calm s = alike_by w _ new s.made (record { group = refl; closing = refl; committed = refl })
 step_alike l w (event.Put key landed failed) new calm s = alike_by w _ new s.made (record { group = refl; closing = refl; committed = refl })
@@ -79,6 +100,14 @@ step_alike l w (event.Attach slot arm) new calm s = alike_by w _ new s.made (att
 step_alike l w (event.Detach slot arm) new calm s = alike_by w _ new s.made (record { group = refl; closing = refl; committed = refl })
 step_alike l w event.Upgrade new calm s = alike_by w _ new s.made (record { group = refl; closing = refl; committed = refl })
 step_alike l w (event.Seal group failed) new calm s = alike_by w _ new s.made (record { group = refl; closing = refl; committed = refl })
+step_alike l w (event.Plan kind) new calm s = alike_by w _ new s.made (record { group = refl; closing = refl; committed = refl })
+step_alike l w event.Ready new calm s = alike_by w _ new s.made (record { group = refl; closing = refl; committed = refl })
+step_alike l w (event.Lend failed) new calm s = alike_by w _ new s.made (record { group = refl; closing = refl; committed = refl })
+step_alike l w (event.LandStripe pass serial failed) new calm s = alike_by w _ new s.made (stripe_alike l w s.p s.n s.h failed.items)
+step_alike l w (event.LandBlock pass serial failed patched unreadable) new calm s =
+    alike_by w _ new s.made (block_alike l w s.p s.n s.h failed.items patched.items unreadable s.whole)
+step_alike l w (event.Done failed) new calm s = alike_by w _ new s.made (record { group = refl; closing = refl; committed = refl })
+step_alike l w event.Cancel new calm s = alike_by w _ new s.made (record { group = refl; closing = refl; committed = refl })
 step_alike l w e new calm s = absurd calm
 
 -- ---- holds

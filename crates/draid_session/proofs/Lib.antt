@@ -12,6 +12,7 @@ pub mod Lists
 pub mod Looked
 pub mod NoPool
 pub mod Noted
+pub mod Passing
 pub mod Phased
 pub mod Placed
 pub mod Placing

@@ -14,6 +14,7 @@ pub mod Lanes
 pub mod Looks
 pub mod Making
 pub mod Opening
+pub mod Passes
 pub mod Phases
 pub mod Reads
 pub mod Replies
