@@ -49,10 +49,10 @@ end_same sync.Shelf = refl
 end_same sync.NoMemory = refl
 
 -- the committed group of a state
-group_from : (n next_leaf : ℕ) (geometry : Geometry) → group_of (if n == 0 then None else Some (body_of geometry n next_leaf)) ≡ n
-group_from n next_leaf geometry = elim (bool_cases (n == 0)) [
-  | inl none ↦ ap (λ b. group_of (if b then None else Some (body_of geometry n next_leaf))) none ∙ sym (is_equal n 0 none)
-  | inr other ↦ ap (λ b. group_of (if b then None else Some (body_of geometry n next_leaf))) other
+group_from : (n version next_leaf : ℕ) (geometry : Geometry) → group_of (if n == 0 then None else Some (body_of geometry version n next_leaf)) ≡ n
+group_from n version next_leaf geometry = elim (bool_cases (n == 0)) [
+  | inl none ↦ ap (λ b. group_of (if b then None else Some (body_of geometry version n next_leaf))) none ∙ sym (is_equal n 0 none)
+  | inr other ↦ ap (λ b. group_of (if b then None else Some (body_of geometry version n next_leaf))) other
 ]
 
 -- what a phase says of the layout and its permutations
@@ -61,7 +61,7 @@ Says = Geometry → Perms → List Hold → End → Type 0
 
 module _ {R A : Type 0} (rack : racks.Ghosts R) (area : areas.Ghosts A) where
   pub pool_group : (pool : Pool R A) (x : State) → Represents rack area pool x → group_of (kept_of pool.uber) ≡ x.committed
-  pool_group pool x r = ap group_of r.stands.uber.kept ∙ group_from x.committed x.kept_leaf x.geometry
+  pool_group pool x r = ap group_of r.stands.uber.kept ∙ group_from x.committed x.kept_version x.kept_leaf x.geometry
 
   -- ---- phases, one after another
 

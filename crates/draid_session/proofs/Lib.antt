@@ -16,6 +16,7 @@ pub mod Passing
 pub mod Phased
 pub mod Placed
 pub mod Placing
+pub mod Raising
 pub mod Rooms
 pub mod Saying
 pub mod Shelved

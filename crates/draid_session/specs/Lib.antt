@@ -23,5 +23,6 @@ pub mod Said
 pub mod Session
 pub mod State
 pub mod Status
+pub mod Versions
 pub mod Worn
 pub mod Writes

@@ -1,9 +1,9 @@
 -- Which replies a command may have where a pool is open, whatever the pool is: each names what the command names.
 use Rattle.std.specs.Prelude.{◌≡◌, ◌<◌, ◌≤◌, ⊤, ℕ, Bool, true, false, Option, Some, None}
-use Rattle.draid_script.specs.Line.{Command, CreatePool, ImportPool, ExportPool, SyncPool, CancelPasses, CrashPool, WriteObject, FillObjects, ReadObject, FreeObject, SumObjects, TakeOffline, TakeOnline, DamageSector, AttachSpare, ReplaceDisk, DetachArm, RebuildPool, ScrubPool, ShowStatus}
+use Rattle.draid_script.specs.Line.{Command, CreatePool, ImportPool, ExportPool, SyncPool, CancelPasses, CrashPool, WriteObject, FillObjects, ReadObject, FreeObject, SumObjects, TakeOffline, TakeOnline, DamageSector, AttachSpare, ReplaceDisk, DetachArm, RebuildPool, ScrubPool, ShowStatus, UpgradePool}
 use Rattle.draid_script.specs.declared.name.CommandName.TheVariants as name
 use Rattle.draid_reply.specs.declared.reply.Reply.{Reply}
-use Rattle.draid_reply.specs.declared.reply.Reply.TheVariants.{PoolOpen, NoMemory, Worn, Last, PassThere, Exported, Crashed, Synced, Written, NoSpace, Missed, WriteLast, Filled, FillRefused, Contents, NoObject, Unreadable, ReadWorn, Summed, SumRefused, Freed, FreeNoObject, Damaged, DamageRefused, DamageFailed, DamageWorn, OfflineDone, OfflineRefused, OfflineWorn, OnlineDone, OnlineRefused, OnlineWorn, Spared, SpareRefused, SpareWorn, Replaced, ReplaceRefused, ReplaceWorn, Detached, DetachRefused, DetachWorn, DetachLast, Rebuilt, RebuildNothing, Scrubbed, Cancelled, Status}
+use Rattle.draid_reply.specs.declared.reply.Reply.TheVariants.{PoolOpen, NoMemory, Worn, Last, PassThere, Exported, Crashed, Synced, Written, NoSpace, Missed, WriteLast, Filled, FillRefused, Contents, NoObject, Unreadable, ReadWorn, Summed, SumRefused, Freed, FreeNoObject, Damaged, DamageRefused, DamageFailed, DamageWorn, OfflineDone, OfflineRefused, OfflineWorn, OnlineDone, OnlineRefused, OnlineWorn, Spared, SpareRefused, SpareWorn, Replaced, ReplaceRefused, ReplaceWorn, Detached, DetachRefused, DetachWorn, DetachLast, Rebuilt, RebuildNothing, Scrubbed, Cancelled, Status, Upgraded, UpgradeAlready}
 
 -- so many stripes or blocks are lent within a limit: all of it where a further one is left for later
 abbrev pub IsWithin : Option ℕ → ℕ → Bool → Type 0
@@ -78,6 +78,11 @@ IsReplyTo (ScrubPool limit) (Worn name.Scrub) = ⊤
 IsReplyTo (ScrubPool limit) (Last name.Scrub) = ⊤
 IsReplyTo (ScrubPool limit) (NoMemory name.Scrub) = ⊤
 IsReplyTo CancelPasses (Cancelled passes) = ⊤
+IsReplyTo UpgradePool (Upgraded group) = ⊤
+IsReplyTo UpgradePool UpgradeAlready = ⊤
+IsReplyTo UpgradePool (Worn name.Upgrade) = ⊤
+IsReplyTo UpgradePool (Last name.Upgrade) = ⊤
+IsReplyTo UpgradePool (NoMemory name.Upgrade) = ⊤
 IsReplyTo (ShowStatus form) (Status text) = ⊤
 IsReplyTo (ShowStatus form) (NoMemory name.Status) = ⊤
 IsReplyTo command reply = ⊥
