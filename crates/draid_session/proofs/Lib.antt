@@ -23,5 +23,6 @@ pub mod Shelved
 pub mod Synced
 pub mod Syncing
 pub mod Turning
+pub mod Undisturbed
 pub mod WithPool
 pub mod Written

@@ -27,7 +27,7 @@ use Rattle.draid_session.specs.State.{State, Store, Metaslab}
 use Rattle.draid_session.proofs.Answering.{IsOnObjects, objects_answer}
 use Rattle.draid_session.proofs.Arming.{arms_answer, arms_not_crashed, arms_not_exported, detach_breaks, offline_breaks, online_breaks, replace_breaks, spare_breaks}
 use Rattle.draid_session.proofs.Passing.{IsOnPasses, passes_answer, passes_not_crashed, passes_not_exported, rebuild_breaks}
-use Rattle.draid_session.proofs.Calm.{CalmTo, calm_follows, calm_store, follows_store, looks_calm}
+use Rattle.draid_session.proofs.Calm.{CalmTo, calm_follows, calm_store, looks_calm}
 use Rattle.draid_session.proofs.Changing.{calm_fit, looks_from_calm, calm_under}
 use Rattle.draid_session.proofs.Looked.{follows_split, looks_at}
 use Rattle.draid_session.proofs.Raising.{upgrade_answers, upgrade_breaks}
@@ -89,6 +89,7 @@ module _ (geometry : Geometry) (perms : Perms) (choices : Choices) (old new : St
   passes_stay_open command is (Exported group) does state = absurd (passes_not_exported geometry perms choices old new holds command group is does)
   passes_stay_open command is Crashed does state = absurd (passes_not_crashed geometry perms choices old new holds command is does)
   passes_stay_open command is reply does state = refl
+
   upgrade_open : (reply : Reply) → DoesTo UpgradePool reply → (state : State) → desk_behind reply state ≡ Open state
   upgrade_open (Exported group) does state = absurd does
   upgrade_open Crashed does state = absurd does
@@ -315,6 +316,7 @@ module _ (choices : Choices) (old : State) (b : Book) (fit : KeepsOpen old old.s
       let one = passes_answer choices old it.mid it.store it.holds b fit it.follows command reply is it.does in
       next_at b command reply (Open state) (desk_behind reply state) (passes_stay_open old.geometry old.perms choices old.store it.store it.holds command is reply it.does state)
       (open_next command reply (Open state) one.next one.answers (with_store it.mid state it.store one.next it.made one.fits))
+
   upgrade_turns : (reply : Reply) (state : State) → CarriesOut choices UpgradePool reply old state → Next b UpgradePool reply (desk_behind reply state)
   upgrade_turns reply state it =
       let one = upgrade_answers choices old it.mid it.store it.holds b fit it.follows reply it.does in

@@ -23,6 +23,7 @@ pub mod Said
 pub mod Session
 pub mod State
 pub mod Status
+pub mod Undisturbed
 pub mod Versions
 pub mod Worn
 pub mod Writes

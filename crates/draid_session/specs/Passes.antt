@@ -21,8 +21,8 @@ use Rattle.draid_machine.specs.State as machine
 use Rattle.draid_machine.specs.Step.{IsNext, ReadyStep}
 use Rattle.draid_session.specs.Groups.{Syncs}
 use Rattle.draid_session.specs.Holds.{View, Looked, Did, Hold, On, layout_at}
-use Rattle.draid_session.specs.Looks.{CountIs, IsLook, Looks, OnlyLooks}
-use Rattle.draid_session.specs.Phases.{End, Went, WasWorn, WasLast, Starved, Broke, Chain, NoneOf}
+use Rattle.draid_session.specs.Looks.{CountIs, Looks, OnlyLooks}
+use Rattle.draid_session.specs.Phases.{End, Went, WasWorn, WasLast, Starved, Chain, NoneOf}
 use Rattle.draid_session.specs.Worn.{IsWorn}
 
 -- What a command has done so far: the stripe of the pool at which its first pass went on, the stripes or blocks that it lent, the columns that it rewrote, counted by arm, and the
@@ -229,7 +229,7 @@ module _ (geometry : Geometry) (perms : Perms) where
     pub lands : LandsAs kind u e repaired
 
   -- with nothing left the pass ends, with these errors
-  pub record Ends (m errors : ℕ) (holds : List Hold) : Type 0 where
+  pub record EndsPass (m errors : ℕ) (holds : List Hold) : Type 0 where
     pub v : View
     pub p : machine.Pass
     pub failed : Vec ℕ Global
@@ -259,7 +259,7 @@ module _ (geometry : Geometry) (perms : Perms) where
 
   -- what comes when no further unit lands
   abbrev pub LastOf : ℕ → Option ℕ → Tally → List Hold → Outcome → Tally → Type 0
-  LastOf m left t holds Ended new = (errors : ℕ) × Ends m errors holds × (new ≡ has_ended errors t)
+  LastOf m left t holds Ended new = (errors : ℕ) × EndsPass m errors holds × (new ≡ has_ended errors t)
   LastOf m left t holds Paused new = KeepsBack m holds (λ v. IsUsedUp left) × (new ≡ t)
   LastOf m left t holds (Stopped WasWorn) new = KeepsBack m holds (λ v. (IsUsedUp left → ⊥) × LendIsWorn v) × (new ≡ t)
   LastOf m left t holds (Stopped Starved) new = (KeepsBack m holds (λ v. IsUsedUp left → ⊥) ⊎ StaysOut m left holds) × (new ≡ t)
