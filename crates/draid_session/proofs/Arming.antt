@@ -186,10 +186,10 @@ module _ (choices : Choices) (old mid : State) (store : Store) (holds : List Hol
   abbrev DoesTo : Command → Reply → Type 0
   DoesTo command reply = Does old.geometry old.perms choices content_of command old.store holds reply store
 
-  with_book : (command : Command) (reply : Reply) (next : Book) → store ≡ old.store → OpenAnswers b command reply next → KeepsOpen mid old.store next → Booked command reply
+  pub with_book : (command : Command) (reply : Reply) (next : Book) → store ≡ old.store → OpenAnswers b command reply next → KeepsOpen mid old.store next → Booked command reply
   with_book command reply next same answers fits = record { next = next; answers = answers; fits = subst (λ s. KeepsOpen mid s next) (sym same) fits }
 
-  looked : OnlyLooks holds → KeepsOpen mid old.store b
+  pub looked : OnlyLooks holds → KeepsOpen mid old.store b
   looked looks = calm_fit old mid old.store b (calm_follows holds old mid (looks_calm holds looks) follows) fit
 
   offline_answers : (leaf : ℕ) (reply : Reply) → DoesTo (TakeOffline leaf) reply → Booked (TakeOffline leaf) reply

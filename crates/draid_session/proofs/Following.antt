@@ -33,7 +33,7 @@ freed_not_read object o p read old mid new is freed reads =
     none_some (mid.now object) r.1.0 (ap (λ (b : Book). b.now object) f.2 ∙ own_object object None old.now) r.1.1
 
 -- where no group was refused, just the last one that a reply named is found
-sure_found : (old : Book) (group : ℕ) (objects : Objects) → old.refused ≡ 0 → MayBeFound old group objects → (group ≡ old.group) × ((object : ℕ) → objects object ≡ old.kept object)
+sure_found : (old : Book) (group : ℕ) (objects : Objects) → old.untold ≡ 0 → MayBeFound old group objects → (group ≡ old.group) × ((object : ℕ) → objects object ≡ old.kept object)
 sure_found old group objects none (inl last) = last
 sure_found old group objects none (inr later) = absurd (let low = later.0 in let few = later.1 in omega (arith, none, low, few))
 
@@ -44,7 +44,7 @@ synced_found group thin found many called old mid left new is synced crashed imp
     let s = in_open old mid SyncPool (Synced group thin) is synced in
     let c = in_open mid left CrashPool Crashed (ap (λ (b : Book). b.is_open) s.1 ∙ is) crashed in
     let t : TakesUp left found many new = in_shut left new ImportPool (Imported called found many) (ap (λ (b : Book). b.is_open) c) imported in
-    let last = sure_found left found t.objects (ap (λ (b : Book). b.refused) c ∙ ap (λ (b : Book). b.refused) s.1) t.may in (
+    let last = sure_found left found t.objects (ap (λ (b : Book). b.untold) c ∙ ap (λ (b : Book). b.untold) s.1) t.may in (
       last.0 ∙ (ap (λ (b : Book). b.group) c ∙ ap (λ (b : Book). b.group) s.1),
       λ object. ap (λ (b : Book). b.now object) t.made ∙ (last.1 object ∙ (ap (λ (b : Book). b.kept object) c ∙ ap (λ (b : Book). b.kept object) s.1)),
     )

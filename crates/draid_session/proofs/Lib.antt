@@ -12,6 +12,7 @@ pub mod Lists
 pub mod Looked
 pub mod NoPool
 pub mod Noted
+pub mod Passing
 pub mod Phased
 pub mod Placed
 pub mod Placing
@@ -22,5 +23,6 @@ pub mod Shelved
 pub mod Synced
 pub mod Syncing
 pub mod Turning
+pub mod Undisturbed
 pub mod WithPool
 pub mod Written

@@ -89,7 +89,7 @@ found_from x group (inl same) = omega (arith, same)
 found_from x group (inr next) = (let is = next.1 in omega (arith, is))
 
 -- it is no later than by as many as were refused
-found_few : (x : State) (b : Book) (group : ℕ) → KeepsShut x b → MayFind x group → group ≤ b.group + b.refused
+found_few : (x : State) (b : Book) (group : ℕ) → KeepsShut x b → MayFind x group → group ≤ b.group + b.untold
 found_few x b group f (inl same) = (let few = f.few in omega (arith, same, few))
 found_few x b group f (inr next) = (let under = f.under next.0 in let is = next.1 in omega (arith, is, under))
 

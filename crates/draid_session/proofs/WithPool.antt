@@ -6,7 +6,7 @@ use Rattle.draid_spec.specs.declared.layout.Geometry.{Geometry}
 use Rattle.draid_perm.specs.declared.perms.Perms.{Perms}
 use Rattle.draid_objects.specs.Changes.{group_of, object_of}
 use Rattle.draid_objects.proofs.Finding.{kept_all}
-use Rattle.draid_script.specs.Line.{Command, CreatePool, ImportPool, ExportPool, SyncPool, CrashPool, WriteObject, FillObjects, ReadObject, FreeObject, SumObjects, TakeOffline, TakeOnline, DamageSector, AttachSpare, ReplaceDisk, DetachArm, ShowStatus, UpgradePool}
+use Rattle.draid_script.specs.Line.{Command, CreatePool, ImportPool, ExportPool, SyncPool, CancelPasses, CrashPool, WriteObject, FillObjects, ReadObject, FreeObject, SumObjects, TakeOffline, TakeOnline, DamageSector, AttachSpare, ReplaceDisk, DetachArm, RebuildPool, ScrubPool, ShowStatus, UpgradePool}
 use Rattle.draid_script.specs.declared.line.PoolKeys.{PoolKeys}
 use Rattle.draid_script.specs.declared.name.CommandName.TheVariants as name
 use Rattle.draid_reply.specs.declared.reply.Reply.{Reply}
@@ -26,6 +26,7 @@ use Rattle.draid_session.specs.Session.{CarriesOut, Cause, BreaksIn, Desk, Open,
 use Rattle.draid_session.specs.State.{State, Store, Metaslab}
 use Rattle.draid_session.proofs.Answering.{IsOnObjects, objects_answer}
 use Rattle.draid_session.proofs.Arming.{arms_answer, arms_not_crashed, arms_not_exported, detach_breaks, offline_breaks, online_breaks, replace_breaks, spare_breaks}
+use Rattle.draid_session.proofs.Passing.{IsOnPasses, passes_answer, passes_not_crashed, passes_not_exported, rebuild_breaks}
 use Rattle.draid_session.proofs.Calm.{CalmTo, calm_follows, calm_store, looks_calm}
 use Rattle.draid_session.proofs.Changing.{calm_fit, looks_from_calm, calm_under}
 use Rattle.draid_session.proofs.Looked.{follows_split, looks_at}
@@ -83,6 +84,11 @@ module _ (geometry : Geometry) (perms : Perms) (choices : Choices) (old new : St
   arms_stay_open command is (Exported group) does state = absurd (arms_not_exported geometry perms choices old new holds command group is does)
   arms_stay_open command is Crashed does state = absurd (arms_not_crashed geometry perms choices old new holds command is does)
   arms_stay_open command is reply does state = refl
+
+  passes_stay_open : (command : Command) → IsOnPasses command → (reply : Reply) → DoesTo command reply → (state : State) → desk_behind reply state ≡ Open state
+  passes_stay_open command is (Exported group) does state = absurd (passes_not_exported geometry perms choices old new holds command group is does)
+  passes_stay_open command is Crashed does state = absurd (passes_not_crashed geometry perms choices old new holds command is does)
+  passes_stay_open command is reply does state = refl
 
   upgrade_open : (reply : Reply) → DoesTo UpgradePool reply → (state : State) → desk_behind reply state ≡ Open state
   upgrade_open (Exported group) does state = absurd does
@@ -305,6 +311,12 @@ module _ (choices : Choices) (old : State) (b : Book) (fit : KeepsOpen old old.s
       next_at b command reply (Open state) (desk_behind reply state) (arms_stay_open old.geometry old.perms choices old.store it.store it.holds command is reply it.does state)
       (open_next command reply (Open state) one.next one.answers (with_store it.mid state it.store one.next it.made one.fits))
 
+  on_passes : (command : Command) (reply : Reply) (state : State) → IsOnPasses command → CarriesOut choices command reply old state → Next b command reply (desk_behind reply state)
+  on_passes command reply state is it =
+      let one = passes_answer choices old it.mid it.store it.holds b fit it.follows command reply is it.does in
+      next_at b command reply (Open state) (desk_behind reply state) (passes_stay_open old.geometry old.perms choices old.store it.store it.holds command is reply it.does state)
+      (open_next command reply (Open state) one.next one.answers (with_store it.mid state it.store one.next it.made one.fits))
+
   upgrade_turns : (reply : Reply) (state : State) → CarriesOut choices UpgradePool reply old state → Next b UpgradePool reply (desk_behind reply state)
   upgrade_turns reply state it =
       let one = upgrade_answers choices old it.mid it.store it.holds b fit it.follows reply it.does in
@@ -329,6 +341,9 @@ module _ (choices : Choices) (old : State) (b : Book) (fit : KeepsOpen old old.s
   carries_turns (AttachSpare slot spare) reply state it = on_arms (AttachSpare slot spare) reply state tt it
   carries_turns (ReplaceDisk slot sectors) reply state it = on_arms (ReplaceDisk slot sectors) reply state tt it
   carries_turns (DetachArm arm) reply state it = on_arms (DetachArm arm) reply state tt it
+  carries_turns (RebuildPool limit) reply state it = on_passes (RebuildPool limit) reply state tt it
+  carries_turns (ScrubPool limit) reply state it = on_passes (ScrubPool limit) reply state tt it
+  carries_turns CancelPasses reply state it = on_passes CancelPasses reply state tt it
   carries_turns UpgradePool reply state it = upgrade_turns reply state it
   carries_turns command reply state it = absurd it.does
 
@@ -356,5 +371,8 @@ module _ (choices : Choices) (old : State) (b : Book) (fit : KeepsOpen old old.s
       by (AttachSpare slot spare) s = breaks (AttachSpare slot spare) b refl s.0 (spare_breaks choices old it.mid it.store it.holds b fit it.follows slot spare s.1)
       by (ReplaceDisk slot sectors) s = breaks (ReplaceDisk slot sectors) b refl s.0 (replace_breaks choices old it.mid it.store it.holds b fit it.follows slot sectors s.1.0 s.1.1)
       by (DetachArm arm) s = breaks (DetachArm arm) (doubtful b) refl s.0 (detach_breaks choices old it.mid it.store it.holds b fit it.follows arm s.1.0 s.1.1)
+      by (RebuildPool limit) s =
+          let broke = rebuild_breaks choices old it.mid it.store it.holds b fit it.follows limit s.1 in
+          breaks (RebuildPool limit) (record b { untold = broke.untold }) (broke.untold, broke.reaches, refl) s.0 broke.keeps
       by UpgradePool s = breaks UpgradePool (doubtful b) refl s.0 (upgrade_breaks choices old it.mid it.store it.holds b fit it.follows s.1.0 s.1.1)
       by command s = absurd s

@@ -5,7 +5,7 @@ use Rattle.sha2.specs.Sha256.{sha256}
 use Rattle.draid_names.specs.declared.refusal.ObjectFault.{ObjectFault}
 use Rattle.draid_names.specs.declared.refusal.ObjectFault.TheVariants as fault
 use Rattle.draid_script.specs.Grammar.{line_of}
-use Rattle.draid_script.specs.Line.{Command, Silent, CreatePool, ImportPool, ExportPool, SyncPool, CrashPool, WriteObject, FillObjects, ReadObject, FreeObject, SumObjects, TakeOffline, TakeOnline, DamageSector, AttachSpare, ReplaceDisk, DetachArm, ShowStatus, UpgradePool}
+use Rattle.draid_script.specs.Line.{Command, Silent, CreatePool, ImportPool, ExportPool, SyncPool, CancelPasses, CrashPool, WriteObject, FillObjects, ReadObject, FreeObject, SumObjects, TakeOffline, TakeOnline, DamageSector, AttachSpare, ReplaceDisk, DetachArm, RebuildPool, ScrubPool, ShowStatus, UpgradePool}
 use Rattle.draid_script.specs.declared.fault.LineFault.{LineFault}
 use Rattle.draid_script.specs.declared.line.StatusFormat.{StatusFormat}
 use Rattle.draid_script.specs.declared.line.StatusFormat.TheVariants as format
@@ -14,7 +14,7 @@ use Rattle.draid_report.specs.Text.{text_of}
 use Rattle.draid_report.specs.Tree.{json_of}
 use Rattle.draid_report.specs.declared.view.View.{View}
 use Rattle.draid_reply.specs.declared.reply.Reply.{Reply}
-use Rattle.draid_reply.specs.declared.reply.Reply.TheVariants.{NoPool, PoolOpen, NoMemory, Worn, Last, Created, CreateRefused, Imported, Exported, Crashed, Synced, Written, NoSpace, Missed, WriteLast, Filled, FillRefused, Contents, NoObject, Unreadable, ReadWorn, Summed, SumRefused, Freed, FreeNoObject, Damaged, DamageRefused, DamageFailed, DamageWorn, OfflineDone, OfflineRefused, OfflineWorn, OnlineDone, OnlineRefused, OnlineWorn, Spared, SpareRefused, SpareWorn, Replaced, ReplaceRefused, ReplaceWorn, Detached, DetachRefused, DetachWorn, DetachLast, Status, Upgraded, UpgradeAlready}
+use Rattle.draid_reply.specs.declared.reply.Reply.TheVariants.{NoPool, PoolOpen, NoMemory, Worn, Last, PassThere, Created, CreateRefused, Imported, Exported, Crashed, Synced, Written, NoSpace, Missed, WriteLast, Filled, FillRefused, Contents, NoObject, Unreadable, ReadWorn, Summed, SumRefused, Freed, FreeNoObject, Damaged, DamageRefused, DamageFailed, DamageWorn, OfflineDone, OfflineRefused, OfflineWorn, OnlineDone, OnlineRefused, OnlineWorn, Spared, SpareRefused, SpareWorn, Replaced, ReplaceRefused, ReplaceWorn, Detached, DetachRefused, DetachWorn, DetachLast, Rebuilt, RebuildNothing, Scrubbed, Cancelled, Status, Upgraded, UpgradeAlready}
 use Rattle.draid_session.specs.Said.{Said}
 use Rattle.draid_session.specs.Making.{content_of}
 use Rattle.draid_session.specs.Reads.{ReadsAs}
@@ -52,22 +52,22 @@ pub record AreMany (objects : Objects) (many : ℕ) : Type 0 where
 -- ---- the book
 
 -- Whether a pool is open. The objects as they are now. The last group that a reply named, 0 where none did; the objects as it keeps them; and as they were after each
--- change since, the newest first. And how many groups were refused since, which may be there all the same.
+-- change since, the newest first. And how many groups may be there of which no reply told: those that were refused since, and those of rebuilds.
 pub record Book : Type 0 where
   pub is_open : Bool
   pub now : Objects
   pub group : ℕ
   pub kept : Objects
   pub since : List Objects
-  pub refused : ℕ
+  pub untold : ℕ
 
 -- no pool is open, and there is none
 abbrev pub blank : Book
-blank = record { is_open = false; now = no_objects; group = 0; kept = no_objects; since = []; refused = 0 }
+blank = record { is_open = false; now = no_objects; group = 0; kept = no_objects; since = []; untold = 0 }
 
 -- one is open, with these objects, which this group keeps
 abbrev pub opened : ℕ → Objects → Book
-opened group objects = record { is_open = true; now = objects; group = group; kept = objects; since = []; refused = 0 }
+opened group objects = record { is_open = true; now = objects; group = group; kept = objects; since = []; untold = 0 }
 
 -- an object is written, or freed
 abbrev pub changed : ℕ → Option (List ℕ) → Book → Book
@@ -80,15 +80,15 @@ filled content first (suc n) book = changed (first + n) (Some (content (first + 
 
 -- a group keeps the objects as they are now
 abbrev pub synced : ℕ → Book → Book
-synced group book = record book { group = group; kept = book.now; since = []; refused = 0 }
+synced group book = record book { group = group; kept = book.now; since = []; untold = 0 }
 
--- a group was refused, which may be there all the same
+-- a group was refused, which may be there all the same, untold
 abbrev pub doubtful : Book → Book
-doubtful book = record book { refused = book.refused + 1 }
+doubtful book = record book { untold = book.untold + 1 }
 
--- none that was refused is there
+-- no group is there but those that a reply told of
 abbrev pub certain : Book → Book
-certain book = record book { refused = 0 }
+certain book = record book { untold = 0 }
 
 -- the pool is given back
 abbrev pub closed : Book → Book
@@ -105,12 +105,12 @@ WasSo (objects ∷ more) object bytes = (bytes ≡ objects object) ⊎ WasSo mor
 abbrev pub HasHad : Book → ℕ → Option (List ℕ) → Type 0
 HasHad book object bytes = (bytes ≡ book.kept object) ⊎ WasSo book.since object bytes
 
--- Which group may be found, with which objects: the last that a reply named, with what it keeps; or a later one, by at most as many as were refused, and then each object is as it
+-- Which group may be found, with which objects: the last that a reply named, with what it keeps; or a later one, by at most as many as no reply told of, and then each object is as it
 -- was at some time since.
 abbrev pub MayBeFound : Book → ℕ → Objects → Type 0
 MayBeFound book group objects =
     ((group ≡ book.group) × ((object : ℕ) → objects object ≡ book.kept object))
-    ⊎ ((book.group < group) × (group ≤ book.group + book.refused) × ((object : ℕ) → HasHad book object (objects object)))
+    ⊎ ((book.group < group) × (group ≤ book.group + book.untold) × ((object : ℕ) → HasHad book object (objects object)))
 
 -- an import takes up a group that is found, with so many objects
 pub record TakesUp (old : Book) (group many : ℕ) (new : Book) : Type 0 where
@@ -144,9 +144,9 @@ pub record IsDigest (objects : Objects) (first count : ℕ) (digest : List ℕ) 
   pub have : HaveContents objects first contents
   pub is : digest ≡ sha256 (flat_map (λ bytes. bytes) contents)
 
--- A sync names the group behind the last that a reply named, or behind those that were refused since.
+-- A sync names the group behind the last that a reply named, or behind those since of which no reply told.
 abbrev pub NamesNext : Book → ℕ → Type 0
-NamesNext old group = (old.group < group) × (group ≤ old.group + old.refused + 1)
+NamesNext old group = (old.group < group) × (group ≤ old.group + old.untold + 1)
 
 -- An export names such a one; or the last one again, where that keeps the objects as they are.
 abbrev pub NamesKept : Book → ℕ → Type 0
@@ -161,15 +161,20 @@ text_in format.Json view = json_of view
 abbrev pub LeavesNone : Book → Book → Type 0
 LeavesNone old new = (new ≡ old) ⊎ (new ≡ doubtful blank)
 
--- A status tells how many objects there are, and which group is committed: the last that a reply named, or a later one, by at most as many as were refused.
+-- A status tells how many objects there are, and which group is committed: the last that a reply named, or a later one, by at most as many as no reply told of.
 pub record IsStatusOf (old : Book) (format : StatusFormat) (text : List ℕ) : Type 0 where
   pub view : View
   pub text_is : text ≡ text_in format view
   pub objects : AreMany old.now view.objects
   pub last : old.group ≤ view.group
-  pub few : view.group ≤ old.group + old.refused
+  pub few : view.group ≤ old.group + old.untold
 
--- What a command does where a pool is open. One that changes arms or the version changes no object; a detachment and an upgrade end with a sync, and the others name no group.
+-- groups may have been committed of which the reply doesn't tell; no object changed
+abbrev pub MayHaveSynced : Book → Book → Type 0
+MayHaveSynced old new = (untold : ℕ) × (old.untold ≤ untold) × (new ≡ record old { untold = untold })
+
+-- What a command does where a pool is open. One that changes arms or the version, and a pass, changes no object; a detachment and an upgrade end with a sync, a rebuild may commit
+-- groups of which it doesn't tell, and the others name no group.
 abbrev pub OpenAnswers : Book → Command → Reply → Book → Type 0
 OpenAnswers old (WriteObject object bytes) (Written o) new = (o ≡ object) × (new ≡ changed object (Some bytes) old)
 OpenAnswers old (WriteObject object bytes) (NoSpace o run disabled full worn) new = (o ≡ object) × (new ≡ old)
@@ -227,6 +232,18 @@ OpenAnswers old (DetachArm arm) (DetachRefused a why) new = (a ≡ arm) × (new 
 OpenAnswers old (DetachArm arm) (DetachWorn a) new = (a ≡ arm) × (new ≡ doubtful old)
 OpenAnswers old (DetachArm arm) (DetachLast a) new = (a ≡ arm) × (new ≡ doubtful old)
 OpenAnswers old (DetachArm arm) (NoMemory name.Detach) new = new ≡ doubtful old
+OpenAnswers old (RebuildPool limit) (Rebuilt from stripes errors paused) new = MayHaveSynced old new
+OpenAnswers old (RebuildPool limit) RebuildNothing new = new ≡ old
+OpenAnswers old (RebuildPool limit) (PassThere name.Rebuild metaslab number) new = new ≡ old
+OpenAnswers old (RebuildPool limit) (Worn name.Rebuild) new = MayHaveSynced old new
+OpenAnswers old (RebuildPool limit) (Last name.Rebuild) new = MayHaveSynced old new
+OpenAnswers old (RebuildPool limit) (NoMemory name.Rebuild) new = MayHaveSynced old new
+OpenAnswers old (ScrubPool limit) (Scrubbed from blocks repaired errors paused) new = new ≡ old
+OpenAnswers old (ScrubPool limit) (PassThere name.Scrub metaslab number) new = new ≡ old
+OpenAnswers old (ScrubPool limit) (Worn name.Scrub) new = new ≡ old
+OpenAnswers old (ScrubPool limit) (Last name.Scrub) new = new ≡ old
+OpenAnswers old (ScrubPool limit) (NoMemory name.Scrub) new = new ≡ old
+OpenAnswers old CancelPasses (Cancelled passes) new = new ≡ old
 OpenAnswers old UpgradePool (Upgraded group) new = NamesNext old group × (new ≡ synced group old)
 OpenAnswers old UpgradePool UpgradeAlready new = new ≡ old
 OpenAnswers old UpgradePool (Worn name.Upgrade) new = new ≡ doubtful old
@@ -273,7 +290,7 @@ AnswersAll old lines replies new = ⊥
 
 -- ---- the end of a run
 
--- A failing device ends the run in a command, which has no reply: of a sync, an export, a detachment or an upgrade a group may be there; another change of arms and an import change no object;
+-- A failing device ends the run in a command, which has no reply: of a sync, an export, a detachment or an upgrade a group may be there, of a rebuild some; another change of arms and an import change no object;
 -- and a create leaves what it does for want of memory. No other command breaks off.
 abbrev pub OpenBreaks : Book → Command → Book → Type 0
 OpenBreaks old SyncPool new = new ≡ doubtful old
@@ -283,6 +300,7 @@ OpenBreaks old (TakeOnline leaf) new = new ≡ old
 OpenBreaks old (AttachSpare slot spare) new = new ≡ old
 OpenBreaks old (ReplaceDisk slot sectors) new = new ≡ old
 OpenBreaks old (DetachArm arm) new = new ≡ doubtful old
+OpenBreaks old (RebuildPool limit) new = MayHaveSynced old new
 OpenBreaks old UpgradePool new = new ≡ doubtful old
 OpenBreaks old command new = ⊥
 

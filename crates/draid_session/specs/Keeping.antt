@@ -91,13 +91,13 @@ IsLowFloor x floor = (floor ≤ x.committed + 1) ⊎ ((floor ≤ x.committed + 2
 
 -- ---- desks
 
--- An open pool, of which the changes are of this store. The committed group is the last that a reply named or a later one, by at most as many as were refused; so is one that is under way.
+-- An open pool, of which the changes are of this store. The committed group is the last that a reply named or a later one, by at most as many as no reply told of; so is one that is under way.
 pub record KeepsOpen (x : State) (store : Store) (book : Book) : Type 0 where
   pub is_open : book.is_open ≡ true
   pub says : SaysObjects x.committed store.changes book
   pub low : book.group ≤ x.committed
-  pub few : x.committed ≤ book.group + book.refused
-  pub under : IsUnderWay x → x.committed + 1 ≤ book.group + book.refused
+  pub few : x.committed ≤ book.group + book.untold
+  pub under : IsUnderWay x → x.committed + 1 ≤ book.group + book.untold
   pub told : x.told ≡ true
   pub some : 0 < x.committed
   pub steps : AreInStep x
@@ -114,8 +114,8 @@ pub record KeepsShut (x : State) (book : Book) : Type 0 where
   pub keeps : book.group ≡ x.committed → (o : ℕ) → book.kept o ≡ bytes_in (kept x.committed x.store.changes o)
   pub had : (group o : ℕ) → x.committed ≤ group → HasHad book o (bytes_in (kept group x.store.changes o))
   pub low : book.group ≤ x.committed
-  pub few : x.committed ≤ book.group + book.refused
-  pub under : x.pending ≡ true → x.committed + 1 ≤ book.group + book.refused
+  pub few : x.committed ≤ book.group + book.untold
+  pub under : x.pending ≡ true → x.committed + 1 ≤ book.group + book.untold
   pub told : x.told ≡ true
   pub inside : AreInside x
   pub place : HasMetaslab x

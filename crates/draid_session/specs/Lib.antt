@@ -14,6 +14,7 @@ pub mod Lanes
 pub mod Looks
 pub mod Making
 pub mod Opening
+pub mod Passes
 pub mod Phases
 pub mod Reads
 pub mod Replies
@@ -22,6 +23,7 @@ pub mod Said
 pub mod Session
 pub mod State
 pub mod Status
+pub mod Undisturbed
 pub mod Versions
 pub mod Worn
 pub mod Writes

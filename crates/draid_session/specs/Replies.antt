@@ -1,9 +1,15 @@
 -- Which replies a command may have where a pool is open, whatever the pool is: each names what the command names.
-use Rattle.std.specs.Prelude.{◌≡◌, ◌<◌, ⊤}
-use Rattle.draid_script.specs.Line.{Command, CreatePool, ImportPool, ExportPool, SyncPool, CrashPool, WriteObject, FillObjects, ReadObject, FreeObject, SumObjects, TakeOffline, TakeOnline, DamageSector, AttachSpare, ReplaceDisk, DetachArm, ShowStatus, UpgradePool}
+use Rattle.std.specs.Prelude.{◌≡◌, ◌<◌, ◌≤◌, ⊤, ℕ, Bool, true, false, Option, Some, None}
+use Rattle.draid_script.specs.Line.{Command, CreatePool, ImportPool, ExportPool, SyncPool, CancelPasses, CrashPool, WriteObject, FillObjects, ReadObject, FreeObject, SumObjects, TakeOffline, TakeOnline, DamageSector, AttachSpare, ReplaceDisk, DetachArm, RebuildPool, ScrubPool, ShowStatus, UpgradePool}
 use Rattle.draid_script.specs.declared.name.CommandName.TheVariants as name
 use Rattle.draid_reply.specs.declared.reply.Reply.{Reply}
-use Rattle.draid_reply.specs.declared.reply.Reply.TheVariants.{PoolOpen, NoMemory, Worn, Last, Exported, Crashed, Synced, Written, NoSpace, Missed, WriteLast, Filled, FillRefused, Contents, NoObject, Unreadable, ReadWorn, Summed, SumRefused, Freed, FreeNoObject, Damaged, DamageRefused, DamageFailed, DamageWorn, OfflineDone, OfflineRefused, OfflineWorn, OnlineDone, OnlineRefused, OnlineWorn, Spared, SpareRefused, SpareWorn, Replaced, ReplaceRefused, ReplaceWorn, Detached, DetachRefused, DetachWorn, DetachLast, Status, Upgraded, UpgradeAlready}
+use Rattle.draid_reply.specs.declared.reply.Reply.TheVariants.{PoolOpen, NoMemory, Worn, Last, PassThere, Exported, Crashed, Synced, Written, NoSpace, Missed, WriteLast, Filled, FillRefused, Contents, NoObject, Unreadable, ReadWorn, Summed, SumRefused, Freed, FreeNoObject, Damaged, DamageRefused, DamageFailed, DamageWorn, OfflineDone, OfflineRefused, OfflineWorn, OnlineDone, OnlineRefused, OnlineWorn, Spared, SpareRefused, SpareWorn, Replaced, ReplaceRefused, ReplaceWorn, Detached, DetachRefused, DetachWorn, DetachLast, Rebuilt, RebuildNothing, Scrubbed, Cancelled, Status, Upgraded, UpgradeAlready}
+
+-- so many stripes or blocks are lent within a limit: all of it where a further one is left for later
+abbrev pub IsWithin : Option ℕ → ℕ → Bool → Type 0
+IsWithin None units paused = paused ≡ false
+IsWithin (Some limit) units true = units ≡ limit
+IsWithin (Some limit) units false = units ≤ limit
 
 abbrev pub IsReplyTo : Command → Reply → Type 0
 IsReplyTo (CreatePool text children keys) (PoolOpen name.Create) = ⊤
@@ -60,6 +66,18 @@ IsReplyTo (DetachArm arm) (DetachRefused a why) = a ≡ arm
 IsReplyTo (DetachArm arm) (DetachWorn a) = a ≡ arm
 IsReplyTo (DetachArm arm) (DetachLast a) = a ≡ arm
 IsReplyTo (DetachArm arm) (NoMemory name.Detach) = ⊤
+IsReplyTo (RebuildPool limit) (Rebuilt from stripes errors paused) = IsWithin limit stripes paused
+IsReplyTo (RebuildPool limit) RebuildNothing = ⊤
+IsReplyTo (RebuildPool limit) (PassThere name.Rebuild metaslab number) = ⊤
+IsReplyTo (RebuildPool limit) (Worn name.Rebuild) = ⊤
+IsReplyTo (RebuildPool limit) (Last name.Rebuild) = ⊤
+IsReplyTo (RebuildPool limit) (NoMemory name.Rebuild) = ⊤
+IsReplyTo (ScrubPool limit) (Scrubbed from blocks repaired errors paused) = IsWithin limit blocks paused
+IsReplyTo (ScrubPool limit) (PassThere name.Scrub metaslab number) = ⊤
+IsReplyTo (ScrubPool limit) (Worn name.Scrub) = ⊤
+IsReplyTo (ScrubPool limit) (Last name.Scrub) = ⊤
+IsReplyTo (ScrubPool limit) (NoMemory name.Scrub) = ⊤
+IsReplyTo CancelPasses (Cancelled passes) = ⊤
 IsReplyTo UpgradePool (Upgraded group) = ⊤
 IsReplyTo UpgradePool UpgradeAlready = ⊤
 IsReplyTo UpgradePool (Worn name.Upgrade) = ⊤

@@ -1,4 +1,4 @@
-ghost use Rattle.std.specs.Prelude.{◌≡◌, ◌<◌, ℕ, false, true, List, Option, Some, String};
+ghost use Rattle.std.specs.Prelude.{◌≡◌, ◌<◌, ℕ, Bool, false, true, List, Option, Some, String};
 ghost use Rattle.std.specs.Fn.{FnReturnsAt};
 ghost use Rattle.std.specs.declared.alloc.Global.{Global as Heap};
 ghost use Rattle.std.specs.declared.vec.Vec.{Vec};
@@ -6,7 +6,7 @@ ghost use Rattle.draid_spec.specs.declared.layout.Geometry.{Geometry};
 ghost use Rattle.draid_perm.specs.declared.perms.Perms.{Perms};
 ghost use Rattle.draid_objects.specs.Changes.{Write, write_of};
 ghost use Rattle.draid_reply.specs.declared.reply.Reply.{Reply};
-ghost use Rattle.draid_script.specs.Line.{Command, CrashPool, FreeObject, ImportPool, ReadObject, SyncPool, WriteObject};
+ghost use Rattle.draid_script.specs.Line.{Command, CrashPool, FreeObject, ImportPool, ReadObject, RebuildPool, SyncPool, WriteObject};
 ghost use Rattle.draid_session.specs.Book.{Answers, AnswersAll, Book, BreaksBook, HasHad, blank, closed};
 ghost use Rattle.draid_session.specs.Certain.{AllAnswer, EndsFailed, FailsNoPut, HasPlace, MaySync, ReadsLast, StaysReadable, SyncsNext, WritesOnce};
 ghost use Rattle.draid_session.specs.Choices.{choices_by};
@@ -21,6 +21,7 @@ ghost use Rattle.draid_session.specs.Rooms.{FitsNowhere, stripes_for};
 ghost use Rattle.draid_session.specs.Said.{Said};
 ghost use Rattle.draid_session.specs.Session.{Agrees, Bare, Breaks, BreaksOpen, CarriesOut, Cause, Desk, IsAnything, Made, RecordFails, Runs, left_of};
 ghost use Rattle.draid_session.specs.State.{State};
+ghost use Rattle.draid_session.specs.Undisturbed.{HaveNoErrors, IsUndisturbed, WentWell};
 ghost use Rattle.draid_session.specs.Writes.{HasNoSpace};
 
 use draid_names::Room;
@@ -117,4 +118,15 @@ pub fn books_give_back_what_was_kept()
         → (found ≡ group) × ((object : ℕ) → new.now object ≡ old.now object) }
     ensures imported { (found many object : ℕ) (called : String Heap) (old new : Book)
         → old.is_open ≡ false → Answers old ImportPool (Reply.Imported called found many) new → HasHad old object (new.now object) }
+{}
+
+/// Law: a rebuild counts no error, loses no target and makes each good, where no call fails, each leaf on which a target
+/// lies answers, each stripe that lands has enough sources, and no pass had an error when it came.
+pub fn undisturbed_rebuilds_are_whole<F: Fn(&[Room]) -> Option<u32>>(chooser: &F)
+    ensures errors { (limit : Option ℕ) (from stripes errors : ℕ) (paused : Bool) (old new : State)
+        → (it : CarriesOut (choices_by (FnReturnsAt F.Fn chooser.now)) (RebuildPool limit) (Reply.Rebuilt from stripes errors paused) old new)
+        → HaveNoErrors old → AllOf (IsUndisturbed old.geometry old.perms) it.holds → errors ≡ 0 }
+    ensures targets { (limit : Option ℕ) (reply : Reply) (old new : State)
+        → (it : CarriesOut (choices_by (FnReturnsAt F.Fn chooser.now)) (RebuildPool limit) reply old new)
+        → HaveNoErrors old → AllOf (IsUndisturbed old.geometry old.perms) it.holds → AllOf WentWell it.holds }
 {}
