@@ -4,6 +4,7 @@
 #![tactic(auto)]
 
 mod blocks;
+mod dropping;
 mod fault;
 mod groups;
 mod laws;
@@ -15,6 +16,7 @@ mod rooms;
 mod shard;
 
 pub use blocks::release;
+pub use dropping::drop_loan;
 pub use fault::Shut;
 pub use laws::{calls_keep_what_stands, valid_shards_have_states, worn_is_what_is_owed};
 pub use loan::{KeptLoan, Source};
