@@ -158,6 +158,15 @@ keeps_some rack shard v kept is e only group freed freed_is w reached at =
     by true = refl
     by false = refl
 
+-- without one no loan counts
+pub keeps_absent : {R A : Type 0} (rack : Ghosts R) (shard : Shard R A) → Valid rack shard → (kept : KeptLoan) → shard.kept ≡ Some kept → ((d : Entry) → IsOver shard.entries kept.stripe d → ⊥) → (group : ℕ)
+    → KeepsLoan shard group false
+keeps_absent rack shard v kept is none group w reached at =
+    let lent : w.loan ≡ Some (loan_in kept) = at.loan ∙ ap (option_map loan_in) is in
+    let fits = (reached_sound (layout_by shard) (lays (part_of shard) v.part) w reached).loan (loan_in kept) lent in
+    let over = held_over shard w at (key_of kept.pointer) fits.h kept.stripe fits.found fits.taken in
+    absurd (none over.e over.over)
+
 pub keeps_none : {R A : Type 0} (shard : Shard R A) (group : ℕ) → shard.kept ≡ None → KeepsLoan shard group false
 keeps_none shard group none w reached at =
     ap (keep_loan (λ k. is_freed_block group (w.core.held k))) (at.loan ∙ ap (option_map loan_in) none) ∙ ap (option_map loan_in) (sym none)
@@ -316,8 +325,8 @@ module _ {R A : Type 0} (ghosts : Ghosts R) (old : Shard R A) (valid : Valid gho
         | inr g ↦ gone_leaf w leaf at.slots s g
       ]
 
-      kept : (leaf : ℕ) → StaysAfter w group leaf → listed.goes leaf ≡ false
-      kept leaf s = elim (bool_cases (listed.goes leaf)) [
+      remains : (leaf : ℕ) → StaysAfter w group leaf → listed.goes leaf ≡ false
+      remains leaf s = elim (bool_cases (listed.goes leaf)) [
         | inl gone ↦ absurd ((listed.only leaf gone).1 (stays_leaf leaf s))
         | inr stays ↦ stays
       ]
@@ -325,7 +334,7 @@ module _ {R A : Type 0} (ghosts : Ghosts R) (old : Shard R A) (valid : Valid gho
       both : (o p : Option Told) → LeavesTold (λ leaf sector. listed.goes leaf) o p → OnBothTold o p (DropsBut (StaysAfter w group))
       both None p is = is
       both (Some x) None is = absurd is
-      both (Some x) (Some y) is = record { goes = listed.goes; kept = kept; others = is }
+      both (Some x) (Some y) is = record { goes = listed.goes; kept = remains; others = is }
 
   pub commit_drops : DropsDetached ghosts old after group
   commit_drops = record {

@@ -169,9 +169,9 @@ fewer_left p (x ∷ xs) = by (p x) (fewer_left p xs)
 pub less_lends : (marks : List (List Bool)) (old new : Option Pass) → LosesTargets marks old new → StillLends old new
 less_lends marks old new loses = lost_by marks StillLends tt
     (λ p r less.
-      (let count = ap (λ (t : PassTold). length t.targets) less.told in
-      let fewer = fewer_left (λ place. not (is_lost marks place)) p.targets.items in
-      (ap (λ (t : PassTold). t.kind) less.told, omega (arith, count, fewer)))) old new loses
+    (let count = ap (λ (t : PassTold). length t.targets) less.told in
+    let fewer = fewer_left (λ place. not (is_lost marks place)) p.targets.items in
+    (ap (λ (t : PassTold). t.kind) less.told, omega (arith, count, fewer)))) old new loses
 
 pub less_held : (marks : List (List Bool)) (slots after : SlotTable) (last : ℕ) (old new : Option Pass) → LosesTargets marks old new → after.arms ≡ slots.arms → IfSome old (HoldsPass slots last)
     → IfSome new (HoldsPass after last)
