@@ -32,7 +32,7 @@ same_in old rack history w is = record {
   version = is.version;
   asked = is.asked;
   serial = is.serial;
-  no_loan = is.no_loan;
+  loan = is.loan;
 }
 
 pub damage_step : {R A : Type 0} (old : Shard R A) (w : machine.State) (leaf sector : ℕ) → IsIn old w → IsLeaf old.slots leaf → sector < metaslab_sectors old.geometry → DamageStep (layout_by old) w leaf sector w

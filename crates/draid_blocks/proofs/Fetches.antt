@@ -23,7 +23,7 @@ use Rattle.draid_machine.specs.Step.{FetchStep}
 use Rattle.draid_machine.proofs.Small.{some_same}
 use Rattle.draid_segments.specs.Reads.{IsAbsent, IsUnread}
 use Rattle.draid_entries.specs.declared.history.History.{History}
-use Rattle.draid_entries.specs.History.{events_of, owed_of, reserved_of}
+use Rattle.draid_entries.specs.History.{events_of, owed_of, reserved_of, stored_of}
 use Rattle.draid_entries.specs.Maps.{held_at, key_of, staged}
 use Rattle.draid_slots.specs.Changes.{IsOf}
 use Rattle.draid_slots.specs.Table.{SlotTable}
@@ -234,9 +234,10 @@ module _ {R A : Type 0} (rack : Ghosts R) (old mid : Shard R A) (valid : Valid r
   reserved_mid = ap (λ s. reserved_of s.history) after
 
   pub valid_stored : rack.shape mid.rack ≡ rack.shape old.rack → owed_of history + 1 ≡ owed_of mid.history + 1 → reserved_of history ≡ reserved_of mid.history
-      → Valid rack (record mid { history = history })
-  valid_stored shape owed reserved =
-      valid_fetched rack old (record mid { history = history }) (with_history old mid history after) shape (let same = owed_mid in omega (arith, owed, same)) (reserved ∙ reserved_mid) valid
+      → stored_of mid.history ≤ stored_of history → Valid rack (record mid { history = history })
+  valid_stored shape owed reserved stored =
+      valid_fetched rack old (record mid { history = history }) (with_history old mid history after) shape (let same = owed_mid in omega (arith, owed, same)) (reserved ∙ reserved_mid)
+      (let same : stored_of mid.history ≡ stored_of old.history = ap (λ s. stored_of s.history) after in omega (arith, same, stored)) valid
 
   pub fetches_stored : (pointer : Pointer) (key : Key) (columns : Vec (Option (Vec ℕ Global)) Global) (failed : Vec ℕ Global) → IsLive old pointer → key ≡ key_of pointer
       → ReadsColumns (part_of old) old.slots pointer old.geometry.g (rack.told old.rack) columns.items failed.items → CountsFailed failed.items (rack.faults old.rack) (rack.faults mid.rack)

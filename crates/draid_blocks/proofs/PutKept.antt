@@ -7,10 +7,10 @@ use Rattle.draid_machine.specs.declared.names.Stage.TheVariants.{Writing}
 use Rattle.draid_entries.specs.declared.entries.Entries.{Entries}
 use Rattle.draid_entries.specs.declared.history.History.{History}
 use Rattle.draid_entries.specs.Entries.{SetsEntry, count_of, entry_at, owed_at, owed_by}
-use Rattle.draid_entries.specs.History.{owed_of, reserved_of}
+use Rattle.draid_entries.specs.History.{owed_of, reserved_of, stored_of}
 use Rattle.draid_entries.specs.Maps.{staged}
 use Rattle.draid_slots.specs.Table.{SlotTable}
-use Rattle.draid_shard.specs.Fits.{Valid, birth_groups, oldest_open}
+use Rattle.draid_shard.specs.Fits.{Valid, birth_groups, changes_for_end, oldest_open}
 use Rattle.draid_shard.specs.Rows.{LogsBirth}
 use Rattle.draid_shard.specs.declared.shard.Shard.{Shard}
 use Rattle.draid_shard.proofs.Fitted.{born_from}
@@ -40,8 +40,8 @@ module _ {R A : Type 0} (ghosts : Ghosts R) (old : Shard R A) (valid : Valid gho
 
   pub put_valid : (rack : R) (slots : SlotTable) (history : History) (birth : ℕ) → birth ≡ pointer.birth → LogsBirth birth old.slots slots → ghosts.shape rack ≡ ghosts.shape old.rack
       → count_of entries ≡ count_of old.entries → owed_of history + 1 ≡ owed_of old.history → reserved_of history ≡ reserved_of old.history
-      → Valid ghosts (record old { rack = rack; slots = slots; entries = entries; history = history })
-  put_valid rack slots history birth born logs shape count owed reserved =
+      → stored_of old.history ≤ stored_of history → Valid ghosts (record old { rack = rack; slots = slots; entries = entries; history = history })
+  put_valid rack slots history birth born logs shape count owed reserved stored =
       let at_birth : LogsBirth pointer.birth old.slots slots = subst (λ b. LogsBirth b old.slots slots) born logs in
       record {
         part = valid.part;
@@ -54,7 +54,10 @@ module _ {R A : Type 0} (ghosts : Ghosts R) (old : Shard R A) (valid : Valid gho
         slots = same_of old.slots slots old.geometry old.perms old.number pointer.birth at_birth valid.slots;
         once = once_kept old.slots slots at_birth.arms at_birth.detached valid.once;
         pass = pass_held old.slots slots old.last_pass old.pass at_birth.arms valid.pass;
-        logs = logs_left old.slots slots (oldest_open old.open_group old.closing) (birth_groups old.closing) pointer.birth low high at_birth valid.logs;
+        kept = valid.kept;
+        serial = (let low = valid.serial in omega (arith, low, stored));
+        flushed = valid.flushed;
+        logs = logs_left old.slots slots (oldest_open old.open_group old.closing) (birth_groups old.closing) (changes_for_end old.pass old.closing) pointer.birth low high at_birth valid.logs;
         leaves = leaves_left (ghosts.shape old.rack) (ghosts.shape rack) old.geometry old.slots slots pointer.birth shape at_birth valid.leaves;
         groups = valid.groups;
         low = valid.low;

@@ -119,7 +119,7 @@ module _ {R A : Type 0} (old : Shard R A) (rack : R) (slots : SlotTable) (entrie
       version = at.version;
       asked = at.asked;
       serial = at.serial;
-      no_loan = at.no_loan;
+      loan = at.loan;
     };
   }
 

@@ -123,7 +123,7 @@ module _ {R A : Type 0} (old : Shard R A) (history : History) (same : KeepsOwed 
   asked_valid rack v =
       let owed = same.owed in
       let reserved = same.reserved in
-      valid_with rack old old.space old.entries history v v.tables refl v.few v.here (λ from low was. was) (omega (arith, owed, reserved))
+      valid_with rack old old.space old.entries history v v.tables refl v.few v.here (λ from low was. was) (omega (arith, owed, reserved)) (let stored = same.stored in omega (arith, stored))
 
   pub asked_nothing : DoesNothing old (record old { history = history })
   asked_nothing = record {

@@ -91,6 +91,9 @@ odd_valid rack old odd v = record {
   slots = v.slots;
   once = v.once;
   pass = v.pass;
+  kept = v.kept;
+  serial = v.serial;
+  flushed = v.flushed;
   logs = v.logs;
   leaves = v.leaves;
   groups = v.groups;
@@ -113,5 +116,5 @@ odd_in old odd w at = record {
   version = at.version;
   asked = at.asked;
   serial = at.serial;
-  no_loan = at.no_loan;
+  loan = at.loan;
 }

@@ -40,10 +40,10 @@ pub record IsNewLeaf {R A : Type 0} (rack : Ghosts R) (shard : Shard R A) (k : A
   pub unused : k ≡ kind.Leaf → IsLeaf shard.slots number → ⊥
   pub made : k ≡ kind.Leaf → (rack.shape shard.rack).leaves number ≡ Some (metaslab_sectors shard.geometry)
 
--- Room in memory for a change of arms: each log may be made anew for a place that changed and for a new plan, lose what that plan makes good, and get the births
--- of three groups then; one arm may come and one go; and a list that there is has room for the targets of a new plan.
+-- Room in memory for a change of arms: each log may be made anew for a place that changed and for a new plan, get the births of three groups, lose them as that
+-- plan makes them good, and get them again; one arm may come and one go; and a list that there is has room for the targets of a new plan.
 pub record HasArmRoom {R A : Type 0} (shard : Shard R A) : Type 0 where
-  pub slots : HasRoom shard.slots 6 1
+  pub slots : HasRoom shard.slots 8 1
   pub targets : IfSome shard.pass (λ (pass : Pass). HasTargetRoom shard.slots pass.targets)
 
 -- why an arm doesn't come: it may not, or a rebuild can't be planned again

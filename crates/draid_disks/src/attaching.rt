@@ -19,7 +19,7 @@ use draid_area::Area;
 use draid_machine::{ArmName, Event};
 use draid_names::{Arm, ArmKind, LAST_NUMBER, PassKind, SlotFault};
 use draid_rack::Rack;
-use draid_shard::Shard;
+use draid_shard::{Shard, drop_loan};
 
 /// An arm by what it is. Spares have numbers of 32 bits; what a greater one gives is of no account.
 fn called(kind: ArmKind, number: u64) -> ArmName
@@ -107,6 +107,7 @@ pub fn attach<R: Rack, A: Area>(
         shard.open_group,
         &moved,
     );
+    drop_loan(&mut shard.kept, &mut shard.history);
     let arm = called(kind, number);
     shard
         .history

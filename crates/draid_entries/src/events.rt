@@ -163,6 +163,17 @@ impl History {
         self.owed += asked - 1;
     }
 
+    /// So many events are owed no more: nothing comes of what owed them.
+    pub fn forget(&mut self, events: u64)
+        requires owed { events + reserved_of self.old ≤ owed_of self.old }
+        ensures stored { events_of self.new ≡ events_of self.old }
+        ensures owed { owed_of self.new + events ≡ owed_of self.old }
+        ensures reserved { reserved_of self.new ≡ reserved_of self.old }
+        ensures limit { limit_in self.new ≡ limit_in self.old }
+    {
+        self.owed -= events;
+    }
+
     /// Stores an event for which one was reserved. So many further ones that were reserved stay owed, to a call that
     /// was made.
     pub fn add_reserved(&mut self, event: Event, passed: u64)

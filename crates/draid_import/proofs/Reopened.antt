@@ -46,7 +46,8 @@ use Rattle.draid_stable.proofs.Places.{each_block, inside, sound_limits}
 use Rattle.draid_stable.proofs.Settled.{get_is}
 use Rattle.draid_stable.proofs.There.{arm_named, has_sectors, leaf_there, named_leaf, whole_parts}
 use Rattle.draid_shard.specs.Fits as fits
-use Rattle.draid_shard.specs.Fits.{AreHere, HasLeaves, HasStripe, IsLeaf, IsPlaced, LogsHaveRoom, Tables, TicketsAreNew, lacking}
+use Rattle.draid_pass.specs.declared.pass.Pass.{Pass}
+use Rattle.draid_shard.specs.Fits.{AreHere, HasLeaves, HasStripe, IsLeaf, IsPlaced, LogsHaveRoom, Tables, TicketsAreNew, changes_for_end, is_rebuild, lacking}
 use Rattle.draid_shard.specs.Part.{IsRun}
 use Rattle.draid_import.specs.Reopening.{GivesBack}
 
@@ -287,11 +288,17 @@ lacking_most log from (suc n) = by (log (from + n)) (lacking_most log from n)
     by true few = omega (arith, few)
     by false few = omega (arith, few)
 
-pub enough_room : (slots : SlotTable) (from groups arms : ℕ) → HasRoom slots groups arms → LogsHaveRoom slots from groups
-enough_room slots from groups arms room at there =
-    let few = lacking_most (is_logged slots at) from groups in
+-- two groups, and for a rebuild once more
+pub enough_room : (slots : SlotTable) (pass : Option Pass) (from arms : ℕ) → HasRoom slots 4 arms → LogsHaveRoom slots from 2 (changes_for_end pass None)
+enough_room slots pass from arms room at there =
+    let few = lacking_most (is_logged slots at) from 2 in
     let more = room.logs at there in
-    omega (arith, few, more)
+    let end = most (is_rebuild pass) in
+    omega (arith, few, more, end)
+  where
+    most : (b : Bool) → (if b then 2 else 0) ≤ 2
+    most true = omega arith
+    most false = omega arith
 
 -- ---- leaves
 pub leaves_there : (old new : Shape) (geometry : Geometry) (slots : SlotTable) (all : List (List ArmTold)) → slots.arms ≡ arms_told all → slots.detached ≡ []

@@ -1,4 +1,4 @@
-ghost use Rattle.std.specs.Prelude.{◌≡◌, ◌<◌, ◌≤◌, ◌-◌, ◌*◌, ◌||◌, ◌^◌, ℕ, None, IfErr, IfOk, IsErrOf, length, MatchResult};
+ghost use Rattle.std.specs.Prelude.{◌≡◌, ◌<◌, ◌≤◌, ◌-◌, ◌*◌, ◌||◌, ◌^◌, ℕ, None, IfErr, IfOk, IsErrOf, length, MatchResult, vec_capacity};
 ghost use Rattle.draid_names.specs.Faults.{Rose};
 ghost use Rattle.draid_names.specs.declared.fault.DeviceFault.{DeviceFault};
 ghost use Rattle.draid_names.specs.declared.numbers.TheConstants.{LAST_NUMBER};
@@ -8,6 +8,7 @@ ghost use Rattle.draid_entries.specs.History.{limit_in};
 ghost use Rattle.draid_record.specs.declared.sizes.TheConstants.{BLOCK_BYTES};
 ghost use Rattle.draid_stable.specs.Opening.{len_of};
 ghost use Rattle.draid_shard.specs.Fits.{IsLeaf, Valid, is_rebuild, owed_for_pass};
+ghost use Rattle.draid_shard.specs.Loans.{HasFlushRoom};
 ghost use Rattle.draid_shard.specs.Part.{IsPart};
 ghost use Rattle.draid_shard.specs.States.{part_of};
 ghost use Rattle.draid_import.specs.Reopening.{GivesBack, KitAreasLater, Opens, OpensCounts, area_of_kit, AreBytes, AreReadFrom, BeginsWith, OpenIsRefused, ReadsTables};
@@ -136,6 +137,17 @@ fn history_of(alloc: Global, tables: &Tables, events: u64) -> Result<History, No
     History::opened(alloc, events, owed)
 }
 
+/// Room for the leaves on which the end of a pass may fail: those of all arms, of which no slot has more than three.
+fn flush_room(alloc: Global, pass: &Option<Pass>, children: u32) -> Result<Vec<u64>, NoMemory>
+    ensures { IfOk result (λ room. HasFlushRoom children pass.now (vec_capacity room)) }
+{
+    if pass.is_none() {
+        return Ok(Vec::new(alloc));
+    }
+    let room = Vec::with_capacity(alloc, 3 * children as usize)?;
+    Ok(room)
+}
+
 /// Whether a pass is a rebuild.
 fn is_rebuild(pass: &Option<Pass>) -> bool
     ensures { result ≡ is_rebuild pass.now }
@@ -194,6 +206,12 @@ pub fn reopen<R: Rack, A: Area>(
             why: OpenFault::NoMemory,
         });
     };
+    let Ok(flushed) = flush_room(alloc, &tables.pass, geometry.spec.children) else {
+        return Err(OpenRefused {
+            kit,
+            why: OpenFault::NoMemory,
+        });
+    };
     keep_arms(&mut kit.rack, &tables.slots);
     let mut space = tables.space;
     shut_for(&mut space, &tables.pass);
@@ -207,6 +225,9 @@ pub fn reopen<R: Rack, A: Area>(
         pass: tables.pass,
         last_pass: tables.last_pass,
         serial: 0,
+        kept: None,
+        idle: None,
+        flushed,
         history,
         entries: tables.entries,
         even: kit.even,

@@ -1,5 +1,5 @@
 -- A group is closed: what the shard is then, and for which states it stands.
-use Rattle.std.proofs.Common.{◌≡◌, ◌⊎◌, ◌+◌, ◌<◌, ◌∙◌, ℕ, false, List, [], Some, None, arith, refl, sym, ap, subst, inl, inr, map, slice_get}
+use Rattle.std.proofs.Common.{◌≡◌, ◌⊎◌, ◌+◌, ◌<◌, ◌≤◌, ◌∙◌, ℕ, false, List, [], Some, None, arith, refl, sym, ap, subst, inl, inr, map, slice_get}
 use Rattle.std.specs.Prelude.{Contains, slice_index_or}
 use Rattle.std.proofs.lemmas.Bool.{true≢false}
 use Rattle.draid_names.specs.declared.arm.Arm.{Arm}
@@ -11,20 +11,20 @@ use Rattle.draid_machine.specs.declared.names.ArmName.{ArmName}
 use Rattle.draid_machine.specs.After.{close_state}
 use Rattle.draid_machine.specs.State as machine
 use Rattle.draid_entries.specs.declared.history.History.{History}
-use Rattle.draid_entries.specs.History.{KeepsOwed, owed_of, reserved_of}
+use Rattle.draid_entries.specs.History.{KeepsOwed, owed_of, reserved_of, stored_of}
 use Rattle.draid_slots.specs.declared.slot.Detached.{Detached}
 use Rattle.draid_slots.specs.Changes.{HasRoom, IsRoomier, Keeps}
 use Rattle.draid_slots.specs.Table.{SlotTable, arm_at}
 use Rattle.draid_slots.specs.States.{HasArm, HasSlots, WasArm, arm_in, name_of}
 use Rattle.draid_shard.specs.Changes.{DoesNothing}
 use Rattle.draid_shard.proofs.Changed.{same_arms, same_entries}
-use Rattle.draid_shard.specs.Fits.{AreGroups, HasLeaves, Tables, TicketsAreNew, Valid, birth_groups, oldest_open, owed_for_group}
+use Rattle.draid_shard.specs.Fits.{AreGroups, HasLeaves, Tables, TicketsAreNew, Valid, birth_groups, changes_for_end, oldest_open, owed_for_group}
 use Rattle.draid_shard.specs.States.{IsIn, Leads, layout_by}
 use Rattle.draid_shard.specs.declared.shard.Shard.{Shard}
 use Rattle.draid_shard.proofs.Once.{once_kept}
 use Rattle.draid_shard.proofs.SamePass.{pass_held, pass_same}
 use Rattle.draid_shard.proofs.Staging.{leaf_was, logs_kept}
-use Rattle.draid_pool.proofs.Rooms.{rooms_enough, still_of}
+use Rattle.draid_pool.proofs.Rooms.{changes_most, rooms_enough, still_of}
 
 -- ---- slots in which room was made
 module _ (old new : SlotTable) (q : machine.Core) (kept : Keeps old new) (has : HasSlots old q) where
@@ -66,7 +66,10 @@ module _ {R A : Type 0} (ghosts : Ghosts R) (old : Shard R A) (slots : SlotTable
     slots = still_of old.slots slots old.geometry old.perms old.number kept v.slots;
     once = once_kept old.slots slots kept.arms_stay kept.detached_stay v.once;
     pass = pass_held old.slots slots old.last_pass old.pass kept.arms_stay v.pass;
-    logs = logs_kept old.slots slots (oldest_open old.open_group old.closing) (birth_groups old.closing) kept.arms_stay kept.logs_stay roomier.logs v.logs;
+    kept = v.kept;
+    serial = (let low = v.serial in let stored = owed.stored in omega (arith, low, stored));
+    flushed = v.flushed;
+    logs = logs_kept old.slots slots (oldest_open old.open_group old.closing) (birth_groups old.closing) (changes_for_end old.pass old.closing) kept.arms_stay kept.logs_stay roomier.logs v.logs;
     leaves = leaves_kept v;
     groups = v.groups;
     low = v.low;
@@ -88,7 +91,7 @@ module _ {R A : Type 0} (ghosts : Ghosts R) (old : Shard R A) (slots : SlotTable
     version = at.version;
     asked = at.asked;
     serial = at.serial;
-    no_loan = at.no_loan;
+    loan = at.loan;
   }
 
   -- ---- it was closed
@@ -125,8 +128,9 @@ module _ {R A : Type 0} (ghosts : Ghosts R) (old : Shard R A) (slots : SlotTable
           covered = t.covered;
         }
 
-    pub closed_valid : Valid ghosts old → HasRoom slots 3 0 → owed_of history + 1 ≡ owed_of old.history + 3 → reserved_of history ≡ reserved_of old.history → Valid ghosts closed
-    closed_valid v room owed reserved = record {
+    pub closed_valid : Valid ghosts old → HasRoom slots 6 0 → owed_of history + 1 ≡ owed_of old.history + 3 → reserved_of history ≡ reserved_of old.history
+        → stored_of old.history ≤ stored_of history → Valid ghosts closed
+    closed_valid v room owed reserved stored = record {
       part = v.part;
       version = v.version;
       asked = v.asked;
@@ -137,7 +141,10 @@ module _ {R A : Type 0} (ghosts : Ghosts R) (old : Shard R A) (slots : SlotTable
       slots = still_of old.slots slots old.geometry old.perms old.number kept v.slots;
       once = once_kept old.slots slots kept.arms_stay kept.detached_stay v.once;
       pass = pass_held old.slots slots old.last_pass old.pass kept.arms_stay v.pass;
-      logs = rooms_enough slots group 3 3 0 (omega arith) room;
+      kept = v.kept;
+      serial = (let low = v.serial in omega (arith, low, stored));
+      flushed = v.flushed;
+      logs = rooms_enough slots group 3 (changes_for_end old.pass (Some group)) 6 0 (let most = changes_most old.pass (Some group) in omega (arith, most)) room;
       leaves = leaves_kept v;
       groups = (refl, open_is ∙ (groups_before v).0);
       low = omega (arith, below);
@@ -166,7 +173,7 @@ module _ {R A : Type 0} (ghosts : Ghosts R) (old : Shard R A) (slots : SlotTable
         version = at.version;
         asked = at.asked;
         serial = at.serial;
-        no_loan = at.no_loan;
+        loan = at.loan;
       };
     }
 
@@ -184,6 +191,9 @@ module _ {R A : Type 0} (ghosts : Ghosts R) (old : Shard R A) (history : History
     slots = v.slots;
     once = v.once;
     pass = v.pass;
+    kept = v.kept;
+    serial = (let low = v.serial in let stored = same.stored in omega (arith, low, stored));
+    flushed = v.flushed;
     logs = v.logs;
     leaves = record { bytes = v.leaves.bytes; leaves = v.leaves.leaves };
     groups = v.groups;
@@ -206,7 +216,7 @@ module _ {R A : Type 0} (ghosts : Ghosts R) (old : Shard R A) (history : History
     version = at.version;
     asked = at.asked;
     serial = at.serial;
-    no_loan = at.no_loan;
+    loan = at.loan;
   }
 
   pub asked_nothing : DoesNothing old (record old { history = history })

@@ -1,5 +1,5 @@
 -- A group is committed: what the shard is then, for which states it stands, and which leaves went.
-use Rattle.std.proofs.Common.{◌≡◌, ◌≢◌, ◌==◌, ◌⊎◌, ◌&&◌, ◌+◌, ◌≤◌, ◌∙◌, ℕ, true, false, nat_le, nat_lt, List, [], Option, Some, None, arith, refl, sym, ap, subst, inl, inr, is_some, map, slice_get, if◌then◌else◌}
+use Rattle.std.proofs.Common.{◌≡◌, ◌≢◌, ◌==◌, ◌⊎◌, ◌&&◌, ◌+◌, ◌≤◌, ◌∙◌, ℕ, true, false, nat_le, nat_lt, not, Bool, IfSome, option_map, List, [], Option, Some, None, arith, refl, sym, ap, subst, inl, inr, is_some, map, slice_get, if◌then◌else◌}
 use Rattle.std.specs.Prelude.{Contains, slice_index_or}
 use Rattle.std.proofs.lemmas.Bool.{cases_lt, true≢false}
 use Rattle.std.proofs.lemmas.Bool.Decides.{nat_tests}
@@ -15,7 +15,7 @@ use Rattle.draid_metaslab.specs.Spaces.{Stripes}
 use Rattle.draid_machine.specs.declared.event.Event.TheVariants.{Commit}
 use Rattle.draid_machine.specs.declared.names.ArmName.{ArmName}
 use Rattle.draid_machine.specs.declared.names.ArmName.TheVariants.{Leaf}
-use Rattle.draid_machine.specs.After.{commit_state, is_freed_block, is_gone_arm, is_gone_by, keep_loan}
+use Rattle.draid_machine.specs.After.{commit_state, is_freed_block, is_gone_arm, is_gone_by, keep_if, keep_loan}
 use Rattle.draid_machine.specs.Created.{IsReached}
 use Rattle.draid_machine.specs.State as machine
 use Rattle.draid_machine.proofs.Fitted.{every_fit}
@@ -26,14 +26,20 @@ use Rattle.draid_entries.specs.declared.entry.Entry.{Entry}
 use Rattle.draid_entries.specs.declared.entries.Entries.{Entries}
 use Rattle.draid_entries.specs.declared.history.History.{History}
 use Rattle.draid_entries.specs.Entries.{entry_at}
-use Rattle.draid_entries.specs.History.{owed_of, reserved_of}
+use Rattle.draid_entries.specs.History.{owed_of, reserved_of, stored_of}
 use Rattle.draid_slots.specs.declared.slot.Detached.{Detached}
 use Rattle.draid_slots.specs.Changes.{Commits}
 use Rattle.draid_slots.specs.Table.{SlotTable, arm_at, is_leaf_kind, is_logged, room_at}
 use Rattle.draid_slots.specs.States.{HasArm, HasSlots, IsGone, WasArm, arm_in, name_of}
-use Rattle.draid_machine.specs.Names.{named}
+use Rattle.draid_machine.specs.Names.{is_freed_by, named}
+use Rattle.draid_machine.proofs.Rows.{reached_sound}
+use Rattle.draid_entries.specs.Maps.{held_at, key_of}
+use Rattle.draid_shard.specs.Looks.{IsOver}
+use Rattle.draid_shard.proofs.Over.{held_over}
 use Rattle.draid_shard.specs.Calls.{ActsOn}
-use Rattle.draid_shard.specs.Fits.{AreGroups, HasLeaves, IsLeaf, LogsHaveRoom, Tables, Valid, birth_groups, oldest_open, owed_for_group}
+use Rattle.draid_shard.specs.Fits.{AreGroups, HasLeaves, IsLeaf, LogsHaveRoom, Tables, Valid, birth_groups, changes_for_end, is_rebuild, oldest_open, owed_for_group}
+use Rattle.draid_shard.specs.Loans.{IsKept, loan_in, owed_for_loan}
+use Rattle.draid_shard.specs.declared.loan.KeptLoan.{KeptLoan}
 use Rattle.draid_shard.specs.States.{IsIn, Leads, layout_by, part_of}
 use Rattle.draid_shard.specs.declared.shard.Shard.{Shard}
 use Rattle.draid_shard.proofs.Among.{any_among, any_kept, kept_among, was_among}
@@ -41,7 +47,7 @@ use Rattle.draid_shard.proofs.Homes.{lays}
 use Rattle.draid_shard.proofs.Once.{once_fewer}
 use Rattle.draid_shard.proofs.SamePass.{pass_held, pass_same}
 use Rattle.draid_shard.proofs.Staging.{logs_kept, logs_later}
-use Rattle.draid_pool.specs.Committing.{DropsFreed, DropsListed, IsAmong, StaysLeaf, is_freed_entry, later_than}
+use Rattle.draid_pool.specs.Committing.{DropsFreed, DropsListed, KeepsLoan, IsAmong, StaysLeaf, is_freed_entry, later_than}
 use Rattle.draid_pool.specs.Groups.{DropsDetached, WasDetached}
 use Rattle.draid_pool.proofs.Dropping.{leaf_by, stays_by}
 
@@ -132,10 +138,43 @@ is_version version asked (inl one) low high = elim (cases_lt 1 asked) [
 ]
 is_version version asked (inr two) low high = inr (omega (arith, two, low, high))
 
+pub owes_one : (closing : Option ℕ) (sealed : Bool) (group : ℕ) → closing ≡ Some group → sealed ≡ true → owed_for_group closing sealed ≡ 1
+owes_one closing sealed group closing_is sealed_is = ap (λ o. owed_for_group o sealed) closing_is ∙ ap (λ b. owed_for_group (Some group) b) sealed_is
+
+-- ---- the loan that counts
+
+-- the entry over its stripe is its block's
+pub keeps_some : {R A : Type 0} (rack : Ghosts R) (shard : Shard R A) → Valid rack shard → (kept : KeptLoan) → shard.kept ≡ Some kept → (e : Entry)
+    → ((d : Entry) → IsOver shard.entries kept.stripe d → d ≡ e) → (group : ℕ) (freed : Bool) → freed ≡ is_freed_by group e.stage → KeepsLoan shard group freed
+keeps_some rack shard v kept is e only group freed freed_is w reached at =
+    let lent : w.loan ≡ Some (loan_in kept) = at.loan ∙ ap (option_map loan_in) is in
+    let fits = (reached_sound (layout_by shard) (lays (part_of shard) v.part) w reached).loan (loan_in kept) lent in
+    let over = held_over shard w at (key_of kept.pointer) fits.h kept.stripe fits.found fits.taken in
+    let same : fits.h ≡ held_at e = sym over.is ∙ ap held_at (only over.e over.over) in
+    let gone : is_freed_block group (w.core.held (key_of kept.pointer)) ≡ freed = ap (is_freed_block group) (fits.found ∙ ap Some same) ∙ sym freed_is in
+    ap (keep_loan (λ k. is_freed_block group (w.core.held k))) lent ∙ ap (λ b. keep_if (not b) (loan_in kept)) gone ∙ by freed ∙ ap (λ o. option_map loan_in (if freed then None else o)) (sym is)
+  where
+    by : (b : Bool) → keep_if (not b) (loan_in kept) ≡ option_map loan_in (if b then None else Some kept)
+    by true = refl
+    by false = refl
+
+-- without one no loan counts
+pub keeps_absent : {R A : Type 0} (rack : Ghosts R) (shard : Shard R A) → Valid rack shard → (kept : KeptLoan) → shard.kept ≡ Some kept → ((d : Entry) → IsOver shard.entries kept.stripe d → ⊥) → (group : ℕ)
+    → KeepsLoan shard group false
+keeps_absent rack shard v kept is none group w reached at =
+    let lent : w.loan ≡ Some (loan_in kept) = at.loan ∙ ap (option_map loan_in) is in
+    let fits = (reached_sound (layout_by shard) (lays (part_of shard) v.part) w reached).loan (loan_in kept) lent in
+    let over = held_over shard w at (key_of kept.pointer) fits.h kept.stripe fits.found fits.taken in
+    absurd (none over.e over.over)
+
+pub keeps_none : {R A : Type 0} (shard : Shard R A) (group : ℕ) → shard.kept ≡ None → KeepsLoan shard group false
+keeps_none shard group none w reached at =
+    ap (keep_loan (λ k. is_freed_block group (w.core.held k))) (at.loan ∙ ap (option_map loan_in) none) ∙ ap (option_map loan_in) (sym none)
+
 -- ---- the shard
 
 module _ {R A : Type 0} (ghosts : Ghosts R) (old : Shard R A) (valid : Valid ghosts old) (group : ℕ) (closing_is : old.closing ≡ Some group) (sealed_is : old.sealed ≡ true) (rack : R) (space : Stripes)
-    (entries : Entries) (slots : SlotTable) (history : History) (freed : DropsFreed group old.entries entries) (commits : Commits old.slots slots group)
+    (entries : Entries) (slots : SlotTable) (lends : Bool) (kept : Option KeptLoan) (kept_is : kept ≡ (if lends then None else old.kept)) (history : History) (freed : DropsFreed group old.entries entries) (commits : Commits old.slots slots group)
     (listed : DropsListed ghosts old.slots group old.slots.detached old.rack rack) where
   abbrev after : Shard R A
   after = record old {
@@ -143,6 +182,7 @@ module _ {R A : Type 0} (ghosts : Ghosts R) (old : Shard R A) (valid : Valid gho
     space = space;
     entries = entries;
     slots = slots;
+    kept = kept;
     history = history;
     committed = group;
     closing = None;
@@ -157,12 +197,17 @@ module _ {R A : Type 0} (ghosts : Ghosts R) (old : Shard R A) (valid : Valid gho
   was_there : (first : ℕ) (e : Entry) → entry_at entries first ≡ Some e → entry_at old.entries first ≡ Some e
   was_there first e there = (kept_some (is_freed_entry group (entry_at old.entries first)) (entry_at old.entries first) e (sym (freed.at first) ∙ there)).1
 
-  logs : LogsHaveRoom slots old.open_group 2
+  logs : LogsHaveRoom slots old.open_group 2 (changes_for_end old.pass None)
   logs =
-      let had : LogsHaveRoom old.slots group 3 = subst (λ o. LogsHaveRoom old.slots (oldest_open old.open_group o) (birth_groups o)) closing_is valid.logs in
-      logs_kept old.slots slots old.open_group 2 commits.arms_stay (λ at g. ap (λ logs. is_logged (record old.slots { logs = logs }) at g) commits.logs_stay) room
-      (logs_later old.slots group old.open_group 2 groups.0 had)
+      let had : LogsHaveRoom old.slots group 3 (changes_for_end old.pass (Some group))
+      = subst (λ o. LogsHaveRoom old.slots (oldest_open old.open_group o) (birth_groups o) (changes_for_end old.pass o)) closing_is valid.logs in
+      logs_kept old.slots slots old.open_group 2 (changes_for_end old.pass None) commits.arms_stay (λ at g. ap (λ logs. is_logged (record old.slots { logs = logs }) at g) commits.logs_stay) room
+      (logs_later old.slots group old.open_group 2 (changes_for_end old.pass (Some group)) (changes_for_end old.pass None) groups.0 (fewer (is_rebuild old.pass)) had)
     where
+      fewer : (b : Bool) → (if b then 2 else 0) ≤ (if b then 3 else 0)
+      fewer true = omega arith
+      fewer false = omega arith
+
       room : (at : ArmAt) → room_at old.slots at ≤ room_at slots at
       room at = subst (λ logs. room_at old.slots at ≤ room_at (record old.slots { logs = logs }) at) (sym commits.logs_stay) (omega arith)
 
@@ -188,9 +233,9 @@ module _ {R A : Type 0} (ghosts : Ghosts R) (old : Shard R A) (valid : Valid gho
     leaves = λ leaf is. same_leaf leaf (leaf_stays leaf is) ∙ valid.leaves.leaves leaf (was_leaf leaf (stays_by old.slots slots group leaf commits is));
   }
 
-  pub commit_valid : Tables old.geometry old.open_group space entries → space.disabled ≡ old.space.disabled → owed_of history + 1 ≡ owed_of old.history
-      → reserved_of history ≡ reserved_of old.history → Valid ghosts after
-  commit_valid tables disabled owed reserved = record {
+  pub commit_valid : Tables old.geometry old.open_group space entries → space.disabled ≡ old.space.disabled → owed_of history + 1 + owed_for_loan old.kept ≡ owed_of old.history + owed_for_loan kept
+      → reserved_of history ≡ reserved_of old.history → stored_of old.history ≤ stored_of history → Valid ghosts after
+  commit_valid tables disabled owed reserved stored = record {
     part = valid.part;
     version = is_version old.version old.asked valid.version valid.asked.0 valid.asked.1;
     asked = (let high = valid.asked.1 in (omega arith, high));
@@ -210,6 +255,9 @@ module _ {R A : Type 0} (ghosts : Ghosts R) (old : Shard R A) (valid : Valid gho
     once = once_fewer old.slots slots commits.arms_stay (λ gone among. (was_among (λ (gone : Detached). nat_lt group gone.group) old.slots.detached gone
         (subst (λ (list : List Detached). Contains list gone) commits.detached_later among)).0) valid.once;
     pass = pass_held old.slots slots old.last_pass old.pass commits.arms_stay valid.pass;
+    kept = subst (λ (o : Option KeptLoan). IfSome o (IsKept old.geometry old.pass)) (sym kept_is) (still lends);
+    serial = (let low = valid.serial in omega (arith, low, stored));
+    flushed = valid.flushed;
     logs = logs;
     leaves = leaves;
     groups = (groups.0, refl);
@@ -221,11 +269,14 @@ module _ {R A : Type 0} (ghosts : Ghosts R) (old : Shard R A) (valid : Valid gho
         let one : owed_for_group old.closing old.sealed ≡ 1 = ap (λ o. owed_for_group o old.sealed) closing_is ∙ ap (λ b. owed_for_group (Some group) b) sealed_is in
         let same = freed.owed old.geometry.g in
         omega (arith, was, one, same, owed, reserved));
-  }
+  } where
+    still : (b : Bool) → IfSome (if b then None else old.kept) (IsKept old.geometry old.pass)
+    still true = tt
+    still false = valid.kept
 
   -- ---- the event
-  pub commit_leads : (w : machine.State) → IsReached (layout_by old) w → IsIn old w → Leads (layout_by old) w (Commit group) after
-  commit_leads w reached at = by w.sealed refl
+  pub commit_leads : KeepsLoan old group lends → (w : machine.State) → IsReached (layout_by old) w → IsIn old w → Leads (layout_by old) w (Commit group) after
+  commit_leads loan w reached at = by w.sealed refl
     where
       by : (o : Option machine.Image) → w.sealed ≡ o → Leads (layout_by old) w (Commit group) after
       by None none = absurd (true≢false (sym (sym (ap (λ (o : Option machine.Image). is_some o) none) ∙ at.sealed ∙ sealed_is)))
@@ -244,7 +295,7 @@ module _ {R A : Type 0} (ghosts : Ghosts R) (old : Shard R A) (valid : Valid gho
           version = (every_fit (layout_by old) w (lays (part_of old) valid.part) reached).versions.sealed image is ∙ at.asked;
           asked = at.asked;
           serial = at.serial;
-          no_loan = ap (keep_loan (λ k. is_freed_block group (w.core.held k))) at.no_loan;
+          loan = loan w reached at ∙ sym (ap (option_map loan_in) kept_is);
         };
       }
 
@@ -274,8 +325,8 @@ module _ {R A : Type 0} (ghosts : Ghosts R) (old : Shard R A) (valid : Valid gho
         | inr g ↦ gone_leaf w leaf at.slots s g
       ]
 
-      kept : (leaf : ℕ) → StaysAfter w group leaf → listed.goes leaf ≡ false
-      kept leaf s = elim (bool_cases (listed.goes leaf)) [
+      remains : (leaf : ℕ) → StaysAfter w group leaf → listed.goes leaf ≡ false
+      remains leaf s = elim (bool_cases (listed.goes leaf)) [
         | inl gone ↦ absurd ((listed.only leaf gone).1 (stays_leaf leaf s))
         | inr stays ↦ stays
       ]
@@ -283,7 +334,7 @@ module _ {R A : Type 0} (ghosts : Ghosts R) (old : Shard R A) (valid : Valid gho
       both : (o p : Option Told) → LeavesTold (λ leaf sector. listed.goes leaf) o p → OnBothTold o p (DropsBut (StaysAfter w group))
       both None p is = is
       both (Some x) None is = absurd is
-      both (Some x) (Some y) is = record { goes = listed.goes; kept = kept; others = is }
+      both (Some x) (Some y) is = record { goes = listed.goes; kept = remains; others = is }
 
   pub commit_drops : DropsDetached ghosts old after group
   commit_drops = record {

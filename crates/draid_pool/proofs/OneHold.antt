@@ -13,6 +13,7 @@ use Rattle.draid_shard.specs.Fits.{Valid, owed_for_group, owed_for_pass}
 use Rattle.draid_shard.specs.Part.{Part, layout_in}
 use Rattle.draid_shard.specs.States.{DoesNone, part_of}
 use Rattle.draid_shard.specs.declared.shard.Shard.{Shard}
+use Rattle.draid_shard.specs.Loans.{owed_for_loan}
 use Rattle.draid_shard.proofs.OwedAll.{owed_is}
 use Rattle.draid_shard.proofs.Standing.{none_stands}
 use Rattle.draid_session.specs.Follows.{MetaslabActs, HasNoEvent}
@@ -67,7 +68,7 @@ module _ {R A : Type 0} (rack : racks.Ghosts R) (area : areas.Ghosts A) where
       → worn.Passes shard.geometry (view_of shard.number x) asked left
   worn_here pieces shard x asked left is passes =
       let all = is.valid.owed in
-      let owed : ℕ = owed_by shard.geometry.g shard.entries + owed_for_pass shard.pass + owed_for_group shard.closing shard.sealed in
+      let owed : ℕ = owed_by shard.geometry.g shard.entries + owed_for_pass shard.pass + owed_for_loan shard.kept + owed_for_group shard.closing shard.sealed in
       let same : owed + reserved_of shard.history ≡ owed_of shard.history = omega (arith, all) in
       let limit = is.limit in
       let stored : length x.events ≡ stored_of shard.history = ap length is.events ∙ sym shard.history.events.ok.0 in

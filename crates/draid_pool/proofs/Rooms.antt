@@ -1,10 +1,11 @@
 -- Slots in which room was made.
-use Rattle.std.proofs.Common.{if◌then◌else◌, ◌≡◌, ◌⊎◌, ◌+◌, ◌≤◌, ◌∙◌, ℕ, zero, suc, Bool, true, false, arith, inl, inr}
+use Rattle.std.proofs.Common.{if◌then◌else◌, ◌≡◌, ◌⊎◌, ◌+◌, ◌≤◌, ◌∙◌, ℕ, zero, suc, Bool, Option, true, false, arith, inl, inr}
 use Rattle.draid_spec.specs.declared.layout.Geometry.{Geometry}
 use Rattle.draid_perm.specs.declared.perms.Perms.{Perms}
 use Rattle.draid_slots.specs.Changes.{HasRoom, IsOf, Keeps}
 use Rattle.draid_slots.specs.Table.{SlotTable, is_logged}
-use Rattle.draid_shard.specs.Fits.{LogsHaveRoom, lacking}
+use Rattle.draid_pass.specs.declared.pass.Pass.{Pass}
+use Rattle.draid_shard.specs.Fits.{LogsHaveRoom, birth_groups, changes_for_end, is_rebuild, lacking}
 
 -- what memory was made for changes nothing
 pub still_of : (old new : SlotTable) (geometry : Geometry) (perms : Perms) (number : ℕ) → Keeps old new → IsOf old geometry perms number → IsOf new geometry perms number
@@ -23,11 +24,19 @@ lacking_most log from (suc n) = by (log (from + n)) (lacking_most log from n)
     by true few = omega (arith, few)
     by false few = omega (arith, few)
 
-pub rooms_enough : (slots : SlotTable) (from groups changes arms : ℕ) → groups ≤ changes → HasRoom slots changes arms → LogsHaveRoom slots from groups
-rooms_enough slots from groups changes arms enough room at there =
+pub rooms_enough : (slots : SlotTable) (from groups more changes arms : ℕ) → groups + more ≤ changes → HasRoom slots changes arms → LogsHaveRoom slots from groups more
+rooms_enough slots from groups more changes arms enough room at there =
     let few = lacking_most (is_logged slots at) from groups in
-    let more = room.logs at there in
-    omega (arith, few, more, enough)
+    let left = room.logs at there in
+    omega (arith, few, left, enough)
+
+-- at the end of a rebuild three groups are wanted again at most
+pub changes_most : (pass : Option Pass) (closing : Option ℕ) → changes_for_end pass closing ≤ birth_groups closing
+changes_most pass closing = by (is_rebuild pass) (birth_groups closing)
+  where
+    by : (b : Bool) (groups : ℕ) → (if b then groups else 0) ≤ groups
+    by true groups = omega arith
+    by false groups = omega arith
 
 -- no other version is asked for
 pub own_version : (version : ℕ) → (version ≡ 1) ⊎ (version ≡ 2) → (version ≤ version) × (version ≤ 2)

@@ -1,6 +1,6 @@
 -- A seal of a shard: its event is legal, and the shard stands for the state behind it.
 use Rattle.std.proofs.Common.{◌≡◌, ◌==◌, ◌<◌, ◌≤◌, ◌+◌, ◌^◌, ◌||◌, ◌&&◌, not, ◌⊎◌, ◌∙◌, ℕ, zero, suc, Bool, true, false, List, [], ◌∷◌, Option, Some, None, IsSome, IfSome, All, Vec, Global, arith, refl, sym, ap, ap₂, subst, inl, inr, cond, count_by, filter, length, map, slice_get, if◌then◌else◌}
-use Rattle.std.specs.Prelude.{Contains, is_some, option_map, slice_index_or}
+use Rattle.std.specs.Prelude.{Contains, is_some, option_map, slice_index_or, vec_capacity}
 use Rattle.std.proofs.lemmas.Bool.{cases_lt, true≢false}
 use Rattle.std.proofs.lemmas.List.Elements.{All-filter, All-head, All-tail, All-weaker}
 use Rattle.std.proofs.lemmas.List.Sums.{length-filter}
@@ -15,7 +15,7 @@ use Rattle.draid_area.specs.Area as content
 use Rattle.draid_columns.specs.Flushes.{FlushesBut, has_leaf}
 use Rattle.draid_pass.specs.declared.pass.Pass.{Pass}
 use Rattle.draid_entries.specs.declared.history.History.{History}
-use Rattle.draid_entries.specs.History.{owed_of, reserved_of}
+use Rattle.draid_entries.specs.History.{owed_of, reserved_of, stored_of}
 use Rattle.draid_machine.specs.declared.names.ArmName.{ArmName}
 use Rattle.draid_machine.specs.declared.names.ArmName.TheVariants.{Leaf}
 use Rattle.draid_machine.specs.declared.names.Held.{Held}
@@ -40,11 +40,12 @@ use Rattle.draid_slots.specs.Table.{AreOf, IsTable, SlotTable, arm_at, arms_of, 
 use Rattle.draid_slots.specs.States.{AscendBehind, HasSlots, HoldsPass, name_of, names_at, pass_in}
 use Rattle.draid_stable.specs.Sealing.{LosesTargets, by_kind, is_lost, lose_marked}
 use Rattle.draid_stable.proofs.Targets.{kept_ascend}
-use Rattle.draid_shard.specs.Fits.{AreGroups, IsLeaf, TicketsAreNew, Valid, birth_groups, is_rebuild, oldest_open, owed_for_group, owed_for_pass}
+use Rattle.draid_shard.specs.Fits.{AreGroups, IsLeaf, LogsHaveRoom, TicketsAreNew, Valid, birth_groups, changes_for_end, is_rebuild, oldest_open, owed_for_group, owed_for_pass}
 use Rattle.draid_shard.specs.Part.{Part, layout_in}
 use Rattle.draid_shard.specs.Rows.{LogsBirth}
 use Rattle.draid_shard.specs.States.{IsIn, layout_by, part_of}
 use Rattle.draid_shard.specs.declared.shard.Shard.{Shard}
+use Rattle.draid_shard.proofs.Lent.{StillLends, changes_still, flush_still, kept_still}
 use Rattle.draid_shard.proofs.Once.{once_kept}
 use Rattle.draid_shard.proofs.SamePass.{pass_same}
 use Rattle.draid_shard.proofs.Staging.{leaves_left, logs_left, same_of}
@@ -156,6 +157,21 @@ less_owed marks old new loses = lost_by marks (λ o n. owed_for_pass n ≡ owed_
 pub less_rebuild : (marks : List (List Bool)) (old new : Option Pass) → LosesTargets marks old new → is_rebuild new ≡ is_rebuild old
 less_rebuild marks old new loses = lost_by marks (λ o n. is_rebuild n ≡ is_rebuild o) refl
     (λ p r less. ap (λ k. elim k as (λ k. Bool) [ Rebuild ↦ true | Heal ↦ false ]) (ap (λ (t : PassTold). t.kind) less.told)) old new loses
+
+fewer_left : (p : ArmAt → Bool) (xs : List ArmAt) → length (filter p xs) ≤ length xs
+fewer_left p [] = omega arith
+fewer_left p (x ∷ xs) = by (p x) (fewer_left p xs)
+  where
+    by : (b : Bool) → length (filter p xs) ≤ length xs → length (cond b (x ∷ filter p xs) (filter p xs)) ≤ suc (length xs)
+    by true less = omega (arith, less)
+    by false less = omega (arith, less)
+
+pub less_lends : (marks : List (List Bool)) (old new : Option Pass) → LosesTargets marks old new → StillLends old new
+less_lends marks old new loses = lost_by marks StillLends tt
+    (λ p r less.
+    (let count = ap (λ (t : PassTold). length t.targets) less.told in
+    let fewer = fewer_left (λ place. not (is_lost marks place)) p.targets.items in
+    (ap (λ (t : PassTold). t.kind) less.told, omega (arith, count, fewer)))) old new loses
 
 pub less_held : (marks : List (List Bool)) (slots after : SlotTable) (last : ℕ) (old new : Option Pass) → LosesTargets marks old new → after.arms ≡ slots.arms → IfSome old (HoldsPass slots last)
     → IfSome new (HoldsPass after last)
@@ -381,14 +397,15 @@ module _ {R A : Type 0} (ghosts : Ghosts R) (old : Shard R A) (v : Valid ghosts 
       version = at.version;
       asked = at.asked;
       serial = at.serial;
-      no_loan = at.no_loan;
+      loan = at.loan;
     }
 
   owes : owed_for_group old.closing old.sealed ≡ 2
   owes = ap₂ owed_for_group closing unsealed
 
-  pub sealed_valid : ghosts.shape rack ≡ ghosts.shape old.rack → TicketsAreNew old.entries (group + 1) → owed_of history + 1 ≡ owed_of old.history → reserved_of history ≡ reserved_of old.history → Valid ghosts new
-  sealed_valid shape settled owed reserved = record {
+  pub sealed_valid : ghosts.shape rack ≡ ghosts.shape old.rack → TicketsAreNew old.entries (group + 1) → owed_of history + 1 ≡ owed_of old.history → reserved_of history ≡ reserved_of old.history
+      → stored_of old.history ≤ stored_of history → Valid ghosts new
+  sealed_valid shape settled owed reserved stored = record {
     part = v.part;
     version = v.version;
     asked = v.asked;
@@ -399,7 +416,12 @@ module _ {R A : Type 0} (ghosts : Ghosts R) (old : Shard R A) (v : Valid ghosts 
     slots = same_of old.slots slots old.geometry old.perms old.number group logs v.slots;
     once = once_kept old.slots slots table.arms_stay table.detached_stay v.once;
     pass = less_held marks old.slots slots old.last_pass old.pass pass loses table.arms_stay v.pass;
-    logs = logs_left old.slots slots (oldest_open old.open_group old.closing) (birth_groups old.closing) group (birth_low old.open_group group old.closing closing) (birth_high old.open_group group old.closing closing) logs v.logs;
+    kept = kept_still old.geometry old.pass pass old.kept (less_lends marks old.pass pass loses) v.kept;
+    serial = (let low = v.serial in omega (arith, low, stored));
+    flushed = flush_still old.geometry.spec.children (vec_capacity old.flushed) old.pass pass (less_lends marks old.pass pass loses) v.flushed;
+    logs = subst (LogsHaveRoom slots (oldest_open old.open_group old.closing) (birth_groups old.closing)) (sym (changes_still old.pass pass old.closing (less_rebuild marks old.pass pass loses)))
+        (logs_left old.slots slots (oldest_open old.open_group old.closing) (birth_groups old.closing) (changes_for_end old.pass old.closing) group
+        (birth_low old.open_group group old.closing closing) (birth_high old.open_group group old.closing closing) logs v.logs);
     leaves = leaves_left (ghosts.shape old.rack) (ghosts.shape rack) old.geometry old.slots slots group shape logs v.leaves;
     groups = sealed_groups old.closing closing v.groups;
     low = v.low;

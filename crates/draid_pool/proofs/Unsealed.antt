@@ -24,6 +24,9 @@ module _ {R A : Type 0} (old : Shard R A) (rack : R) (even odd : A) where
     slots = v.slots;
     once = v.once;
     pass = v.pass;
+    kept = v.kept;
+    serial = v.serial;
+    flushed = v.flushed;
     logs = v.logs;
     leaves = subst (λ shape. HasLeaves shape old.geometry old.slots) (sym same) v.leaves;
     groups = v.groups;
@@ -46,7 +49,7 @@ module _ {R A : Type 0} (old : Shard R A) (rack : R) (even odd : A) where
     version = at.version;
     asked = at.asked;
     serial = at.serial;
-    no_loan = at.no_loan;
+    loan = at.loan;
   }
 
   pub unsealed_none : DoesNone old new

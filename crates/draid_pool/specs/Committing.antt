@@ -1,17 +1,22 @@
 -- What a commit takes out of a metaslab's tables, and which leaves it gives up.
-use Rattle.std.specs.Prelude.{◌≡◌, ◌==◌, ◌<◌, ◌≤◌, ◌⊎◌, ℕ, Bool, true, false, nat_lt, List, Option, Some, None, Contains, filter, if◌then◌else◌}
+use Rattle.std.specs.Prelude.{◌≡◌, ◌==◌, ◌<◌, ◌≤◌, ◌⊎◌, ℕ, Bool, true, false, nat_lt, List, Option, Some, None, Contains, filter, option_map, if◌then◌else◌}
 use Rattle.draid_names.specs.declared.arm.ArmKind.TheVariants as kind
 use Rattle.draid_rack.specs.Moments.{LeavesTold}
 use Rattle.draid_rack.specs.declared.Rack.{Ghosts}
 use Rattle.draid_machine.specs.declared.names.Key.{Key}
 use Rattle.draid_machine.specs.Names.{is_freed_by}
-use Rattle.draid_machine.specs.After.{is_freed_block}
+use Rattle.draid_machine.specs.After.{is_freed_block, keep_loan}
+use Rattle.draid_machine.specs.Created.{IsReached}
+use Rattle.draid_machine.specs.State as machine
 use Rattle.draid_entries.specs.declared.entry.Entry.{Entry}
 use Rattle.draid_entries.specs.declared.entries.Entries.{Entries}
 use Rattle.draid_entries.specs.Entries.{count_of, entry_at, held_in, owed_by}
 use Rattle.draid_slots.specs.declared.slot.Detached.{Detached}
 use Rattle.draid_slots.specs.Table.{SlotTable}
 use Rattle.draid_shard.specs.Fits.{IsLeaf}
+use Rattle.draid_shard.specs.Loans.{loan_in}
+use Rattle.draid_shard.specs.States.{IsIn, layout_by}
+use Rattle.draid_shard.specs.declared.shard.Shard.{Shard}
 
 -- ---- blocks
 
@@ -37,6 +42,14 @@ pub record DropsSome (group : ℕ) (old new : Entries) : Type 0 where
 -- nothing that begins before a stripe was freed up to a group
 abbrev pub NoneFreed : ℕ → Entries → ℕ → Type 0
 NoneFreed group entries stripe = (first : ℕ) → first < stripe → is_freed_entry group (entry_at entries first) ≡ false
+
+-- ---- the loan that counts
+
+-- what a state keeps of it where what was freed up to a group goes
+abbrev pub KeepsLoan : {R A : Type 0} → Shard R A → ℕ → Bool → Type 0
+KeepsLoan shard group freed =
+    (w : machine.State) → IsReached (layout_by shard) w → IsIn shard w
+    → keep_loan (λ k. is_freed_block group (w.core.held k)) w.loan ≡ option_map loan_in (if freed then None else shard.kept)
 
 -- ---- leaves
 

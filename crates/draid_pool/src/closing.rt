@@ -22,6 +22,10 @@ use draid_shard::Shard;
 /// have come.
 pub const BIRTH_GROUPS: u32 = 3;
 
+/// The changes of a log for which a closing makes room: the end of a rebuild takes these groups out of its targets' logs
+/// once more.
+const LOG_CHANGES: u32 = 2 * BIRTH_GROUPS;
+
 /// A group's closing, sealing and committing are three events.
 const GROUP_EVENTS: u64 = 3;
 
@@ -48,7 +52,7 @@ pub fn close_group<R: Rack, A: Area>(shard: &mut Shard<R, A>, group: u64) -> Res
     if group == LAST_NUMBER {
         return Err(CloseFault::Last);
     }
-    let Ok(()) = shard.slots.reserve(shard.alloc, BIRTH_GROUPS, 0) else {
+    let Ok(()) = shard.slots.reserve(shard.alloc, LOG_CHANGES, 0) else {
         return Err(CloseFault::NoMemory);
     };
     shard.closing = Some(group);

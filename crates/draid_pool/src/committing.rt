@@ -1,10 +1,12 @@
-ghost use Rattle.std.specs.Prelude.{◌≡◌, ◌==◌, ◌&&◌, ◌↔◌, ℕ, Some, IsTrue, true, false};
+ghost use Rattle.std.specs.Prelude.{◌≡◌, ◌==◌, ◌≤◌, ◌+◌, ◌&&◌, ◌↔◌, ℕ, None, Some, IsTrue, true, false, if◌then◌else◌};
 ghost use Rattle.std.specs.List.{list_any};
 ghost use Rattle.draid_machine.specs.declared.event.Event.TheVariants.{Commit};
 ghost use Rattle.draid_machine.specs.Names as names;
 ghost use Rattle.draid_segments.specs.Segments.{Pieces};
 ghost use Rattle.draid_spec.specs.declared.layout.Geometry.{Geometry};
 ghost use Rattle.draid_entries.specs.Entries.{entry_at};
+ghost use Rattle.draid_entries.specs.History.{events_of, limit_in, owed_of, reserved_of};
+ghost use Rattle.draid_shard.specs.Loans.{owed_for_loan};
 ghost use Rattle.draid_slots.specs.declared.slot.Detached.{Detached};
 ghost use Rattle.draid_slots.specs.Changes.{Commits};
 ghost use Rattle.draid_slots.specs.Table.{is_leaf_kind};
@@ -12,16 +14,16 @@ ghost use Rattle.draid_shard.specs.Calls.{ActsOn, SameAreas, SameReserve};
 ghost use Rattle.draid_shard.specs.Fits.{Tables, Valid, AreFitting};
 ghost use Rattle.draid_shard.specs.States.{Does};
 ghost use Rattle.draid_pool.specs.Changes.{CommitsGroup};
-ghost use Rattle.draid_pool.specs.Committing.{DropsFreed, DropsListed, DropsOne, DropsSome, StaysLeaf, is_freed_entry, later_than};
+ghost use Rattle.draid_pool.specs.Committing.{DropsFreed, DropsListed, DropsOne, DropsSome, KeepsLoan, StaysLeaf, is_freed_entry, later_than};
 ghost use Rattle.draid_pool.specs.Groups.{DropsDetached};
 
 use draid_area::Area;
-use draid_entries::{Entries, Entry};
+use draid_entries::{Entries, Entry, History};
 use draid_machine::{Event, Stage};
 use draid_metaslab::Space;
 use draid_names::ArmKind;
 use draid_rack::Rack;
-use draid_shard::{Shard, release};
+use draid_shard::{KeptLoan, Shard, drop_loan, release};
 use draid_slots::{Detached, Slots};
 
 /// Commits the sealed group: what was freed and detached up to it goes, and its stripes are free.
@@ -38,6 +40,8 @@ pub fn commit<R: Rack, A: Area>(shard: &mut Shard<R, A>, group: u64)
     ensures slots { Commits shard.old.slots shard.new.slots group }
     ensures reserve { SameReserve shard.old shard.new }
 {
+    let freed = lends_freed(shard, group);
+    drop_if(freed, &mut shard.kept, &mut shard.history);
     release_freed(&mut shard.space, &mut shard.entries, group);
     drop_detached(&mut shard.rack, &shard.slots, group);
     shard.slots.commit(group);
@@ -46,6 +50,34 @@ pub fn commit<R: Rack, A: Area>(shard: &mut Shard<R, A>, group: u64)
     shard.sealed = false;
     shard.version = shard.asked;
     shard.history.add(Event::Commit { group }, 1);
+}
+
+/// Whether the block of the loan that counts was freed up to a group.
+fn lends_freed<R: Rack, A: Area>(shard: &Shard<R, A>, group: u64) -> bool
+    requires valid { Valid R.Rack shard.now }
+    ensures { KeepsLoan shard.now group result }
+{
+    let Some(kept) = &shard.kept else {
+        return false;
+    };
+    match shard.entries.last_upto(kept.stripe) {
+        Some(entry) => is_freed_by(entry.stage, group),
+        None => false,
+    }
+}
+
+/// Drops the loan whose block was freed.
+fn drop_if(freed: bool, kept: &mut Option<KeptLoan>, history: &mut History)
+    requires owed { owed_for_loan kept.old + reserved_of history.old ≤ owed_of history.old }
+    ensures kept { kept.new ≡ (if freed then None else kept.old) }
+    ensures stored { events_of history.new ≡ events_of history.old }
+    ensures owed { owed_of history.new + owed_for_loan kept.old ≡ owed_of history.old + owed_for_loan kept.new }
+    ensures reserved { reserved_of history.new ≡ reserved_of history.old }
+    ensures limit { limit_in history.new ≡ limit_in history.old }
+{
+    if freed {
+        drop_loan(kept, history);
+    }
 }
 
 /// Gives back the stripes of all that was freed up to a group.

@@ -60,5 +60,5 @@ tables_in old space entries history w held present aside kept is_in same = recor
   version = is_in.version;
   asked = is_in.asked;
   serial = is_in.serial;
-  no_loan = is_in.no_loan;
+  loan = is_in.loan;
 }

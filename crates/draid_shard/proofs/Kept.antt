@@ -1,16 +1,18 @@
 -- What a shard keeps whose tables and history changed.
-use Rattle.std.proofs.Common.{◌≤◌, ℕ, Bool, Option, Some, None, arith, ◌≡◌, ◌+◌, ◌<◌, ◌∙◌}
+use Rattle.std.proofs.Common.{[], ◌∷◌, ◌++◌, ap, length, ◌≤◌, ℕ, Bool, Option, Some, None, arith, ◌≡◌, ◌+◌, ◌<◌, ◌∙◌}
+use Rattle.std.proofs.lemmas.List.{length_push}
 use Rattle.draid_shard.specs.Fits.{AreFitting, AreGroups, AreHere, Tables, TicketsAreNew, Valid, oldest_open}
 use Rattle.draid_names.specs.Numbers.{most_held}
 use Rattle.draid_spec.specs.Geometry.{metaslab_stripes}
 use Rattle.draid_metaslab.specs.Spaces.{Stripes}
 use Rattle.draid_machine.specs.State as machine
 use Rattle.draid_rack.specs.declared.Rack.{Ghosts}
+use Rattle.draid_machine.specs.declared.event.Event.{Event}
 use Rattle.draid_entries.specs.declared.entry.Entry.{Entry}
 use Rattle.draid_entries.specs.declared.entries.Entries.{Entries}
 use Rattle.draid_entries.specs.declared.history.History.{History}
 use Rattle.draid_entries.specs.Entries.{count_of, entry_at, owed_by}
-use Rattle.draid_entries.specs.History.{owed_of, reserved_of}
+use Rattle.draid_entries.specs.History.{events_of, owed_of, reserved_of, stored_of}
 use Rattle.draid_shard.specs.declared.shard.Shard.{Shard}
 use Rattle.draid_shard.specs.States.{IsIn}
 use Rattle.draid_shard.proofs.Sizes.{few_stripes}
@@ -32,8 +34,9 @@ KeepsTickets open_group old new = (from : ℕ) → from ≤ open_group → Ticke
 
 pub valid_with : {R A : Type 0} (rack : Ghosts R) (old : Shard R A) (space : Stripes) (entries : Entries) (history : History) → Valid rack old
     → Tables old.geometry old.open_group space entries → space.disabled ≡ old.space.disabled → count_of entries ≤ most_held old.version
-    → AreHere entries old.number → KeepsTickets old.open_group old.entries entries → OwesSo old entries history → Valid rack (with_tables old space entries history)
-valid_with rack old space entries history v tables disabled few here tickets owed = record {
+    → AreHere entries old.number → KeepsTickets old.open_group old.entries entries → OwesSo old entries history
+    → stored_of old.history ≤ stored_of history → Valid rack (with_tables old space entries history)
+valid_with rack old space entries history v tables disabled few here tickets owed stored = record {
   part = v.part;
   version = v.version;
   asked = v.asked;
@@ -44,6 +47,9 @@ valid_with rack old space entries history v tables disabled few here tickets owe
   slots = v.slots;
   once = v.once;
   pass = v.pass;
+  kept = v.kept;
+  serial = (let low = v.serial in omega (arith, low, stored));
+  flushed = v.flushed;
   logs = v.logs;
   leaves = v.leaves;
   groups = v.groups;
@@ -69,6 +75,12 @@ fitting rack shard v = record {
   tables = v.tables;
   low = few_stripes shard.geometry v.part.layout.geometry_is;
 }
+
+-- an event more is stored
+pub stored_more : (old new : History) (event : Event) → events_of new ≡ events_of old ++ event ∷ [] → stored_of old ≤ stored_of new
+stored_more old new event is =
+    let count : length (events_of new) ≡ length (events_of old) + 1 = ap length is ∙ length_push (events_of old) event in
+    omega (arith, count)
 
 -- a history alone changed
 pub history_in : {R A : Type 0} (old : Shard R A) (history : History) (w : machine.State) → IsIn old w → IsIn (with_tables old old.space old.entries history) w

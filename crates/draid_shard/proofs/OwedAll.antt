@@ -10,6 +10,8 @@ use Rattle.draid_entries.specs.Owed.{IsOwed, owed_by_group, owed_by_loan, owed_b
 use Rattle.draid_entries.proofs.Owing.{owes, owes_back}
 use Rattle.draid_shard.specs.declared.shard.Shard.{Shard}
 use Rattle.draid_shard.specs.Fits.{Valid, owed_for_group, owed_for_pass}
+use Rattle.draid_shard.specs.Loans.{loan_in, owed_for_loan}
+use Rattle.draid_shard.specs.declared.loan.KeptLoan.{KeptLoan}
 use Rattle.draid_shard.specs.States.{IsIn}
 use Rattle.draid_slots.specs.States.{pass_in}
 
@@ -22,12 +24,16 @@ group_owes None sealed = refl
 group_owes (Some t) None = refl
 group_owes (Some t) (Some image) = refl
 
+loan_owes : (kept : Option KeptLoan) → owed_by_loan (option_map loan_in kept) ≡ owed_for_loan kept
+loan_owes None = refl
+loan_owes (Some kept) = refl
+
 -- what is owed besides blocks and tickets
 besides : {R A : Type 0} (shard : Shard R A) (w : machine.State) → IsIn shard w
-    → owed_by_pass w.core.pass + owed_by_loan w.loan + owed_by_group w.closing w.sealed ≡ owed_for_pass shard.pass + owed_for_group shard.closing shard.sealed
+    → owed_by_pass w.core.pass + owed_by_loan w.loan + owed_by_group w.closing w.sealed ≡ owed_for_pass shard.pass + owed_for_loan shard.kept + owed_for_group shard.closing shard.sealed
 besides shard w is_in =
     let pass : owed_by_pass w.core.pass ≡ owed_for_pass shard.pass = ap owed_by_pass is_in.pass ∙ pass_owes shard.slots shard.pass in
-    let loan : owed_by_loan w.loan ≡ 0 = ap owed_by_loan is_in.no_loan in
+    let loan : owed_by_loan w.loan ≡ owed_for_loan shard.kept = ap owed_by_loan is_in.loan ∙ loan_owes shard.kept in
     let group : owed_by_group w.closing w.sealed ≡ owed_for_group shard.closing shard.sealed
     = group_owes w.closing w.sealed ∙ ap (λ t. owed_for_group t (is_some w.sealed)) is_in.closing ∙ ap (owed_for_group shard.closing) is_in.sealed in
     omega (arith, pass, loan, group)
@@ -36,7 +42,7 @@ pub owed_is : {R A : Type 0} (rack : Ghosts R) (shard : Shard R A) (w : machine.
     → (IsOwed shard.geometry.g w owed ↔ (owed + reserved_of shard.history ≡ owed_of shard.history))
 owed_is rack shard w owed v is_in = (to, from)
   where
-    rest : owed_by_pass w.core.pass + owed_by_loan w.loan + owed_by_group w.closing w.sealed ≡ owed_for_pass shard.pass + owed_for_group shard.closing shard.sealed
+    rest : owed_by_pass w.core.pass + owed_by_loan w.loan + owed_by_group w.closing w.sealed ≡ owed_for_pass shard.pass + owed_for_loan shard.kept + owed_for_group shard.closing shard.sealed
     rest = besides shard w is_in
 
     to : IsOwed shard.geometry.g w owed → owed + reserved_of shard.history ≡ owed_of shard.history

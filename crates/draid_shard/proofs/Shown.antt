@@ -18,6 +18,7 @@ use Rattle.draid_slots.specs.States.{HasArm, HasSlots, IsGone, WasArm, arm_in, n
 use Rattle.draid_slots.proofs.Somewhere.{any_where}
 use Rattle.draid_shard.specs.declared.shard.Shard.{Shard}
 use Rattle.draid_shard.specs.Fits.{NamesOnce, Valid}
+use Rattle.draid_shard.specs.Loans.{loan_in}
 use Rattle.draid_shard.specs.States.{IsIn}
 use Rattle.draid_shard.proofs.Among.{any_among}
 use Rattle.draid_shard.proofs.Answering.{name_found, name_listed}
@@ -131,7 +132,7 @@ state_by shard =
       asked = shard.asked;
       core = core_by shard;
       serial = shard.serial;
-      loan = None;
+      loan = option_map loan_in shard.kept;
       image = image;
       sealed = if shard.sealed then Some image else None;
       present = λ s. false;
@@ -154,7 +155,7 @@ state_shown rack shard v = (
     version = refl;
     asked = refl;
     serial = refl;
-    no_loan = refl;
+    loan = refl;
   },
 ) where
   by : (b : Bool) (image : machine.Image) → is_some (if b then Some image else None) ≡ b

@@ -65,9 +65,9 @@ module _ (old new : ℕ → Bool) (birth : ℕ) (others : (group : ℕ) → (gro
         (inside from n low (omega (arith, high, before))) (there (from + n) before)
   ]
 
-  pub lacking_less : (from groups room left : ℕ) → from ≤ birth → birth < from + groups → lacking old from groups ≤ room
-      → room ≤ left + (if new birth && not (old birth) then 1 else 0) → lacking new from groups ≤ left
-  lacking_less from groups room left low high has used = let less = inside from groups low high in omega (arith, less, has, used)
+  pub lacking_less : (from groups more room left : ℕ) → from ≤ birth → birth < from + groups → lacking old from groups + more ≤ room
+      → room ≤ left + (if new birth && not (old birth) then 1 else 0) → lacking new from groups + more ≤ left
+  lacking_less from groups more room left low high has used = let less = inside from groups low high in omega (arith, less, has, used)
 
 -- a group that the log lacks counts
 lacking_one : (log : ℕ → Bool) (from groups birth : ℕ) → from ≤ birth → birth < from + groups → log birth ≡ false → 0 < lacking log from groups
@@ -78,15 +78,15 @@ lacking_one log from (suc n) birth low high out = elim (cases_eq birth (from + n
 ]
 
 -- the birth of a ticket finds room, and leaves room
-pub room_for : (slots : SlotTable) (from groups birth : ℕ) → from ≤ birth → birth < from + groups → LogsHaveRoom slots from groups → HasRoomFor slots birth
-room_for slots from groups birth low high logs = λ at there out.
+pub room_for : (slots : SlotTable) (from groups more birth : ℕ) → from ≤ birth → birth < from + groups → LogsHaveRoom slots from groups more → HasRoomFor slots birth
+room_for slots from groups more birth low high logs = λ at there out.
     let some = lacking_one (is_logged slots at) from groups birth low high out in
     let few = logs at there in
     omega (arith, some, few)
 
-pub logs_left : (old new : SlotTable) (from groups birth : ℕ) → from ≤ birth → birth < from + groups → LogsBirth birth old new → LogsHaveRoom old from groups → LogsHaveRoom new from groups
-logs_left old new from groups birth low high l logs = λ at there.
-    lacking_less (is_logged old at) (is_logged new at) birth (l.others at) (l.kept at) from groups (room_at old at) (room_at new at) low high
+pub logs_left : (old new : SlotTable) (from groups more birth : ℕ) → from ≤ birth → birth < from + groups → LogsBirth birth old new → LogsHaveRoom old from groups more → LogsHaveRoom new from groups more
+logs_left old new from groups more birth low high l logs = λ at there.
+    lacking_less (is_logged old at) (is_logged new at) birth (l.others at) (l.kept at) from groups more (room_at old at) (room_at new at) low high
     (logs at (subst (λ arms. at.arm < length (slice_index_or arms at.slot [])) l.arms there)) (l.room at)
 
 -- from the next group on a log lacks one group less at most
@@ -97,16 +97,16 @@ later_less log from (suc n) =
     add_less (lacking log (from + 1) n) (lacking log from (suc n)) (lack (log (from + 1 + n))) (lack (log (from + suc n)))
     (later_less log from n) (subst (λ x. lack (log x) ≤ lack (log (from + suc n))) (sym next) (omega arith))
 
-pub logs_later : (slots : SlotTable) (from next groups : ℕ) → next ≡ from + 1 → LogsHaveRoom slots from (suc groups) → LogsHaveRoom slots next groups
-logs_later slots from next groups up logs = subst (λ x. LogsHaveRoom slots x groups) (sym up) (λ at there.
-    let less = later_less (is_logged slots at) from groups in
+pub logs_later : (slots : SlotTable) (from next groups more less : ℕ) → next ≡ from + 1 → less ≤ more → LogsHaveRoom slots from (suc groups) more → LogsHaveRoom slots next groups less
+logs_later slots from next groups more less up fewer logs = subst (λ x. LogsHaveRoom slots x groups less) (sym up) (λ at there.
+    let later = later_less (is_logged slots at) from groups in
     let few = logs at there in
-    omega (arith, less, few))
+    omega (arith, later, few, fewer))
 
 -- slots with the same logs and no less room
-pub logs_kept : (old new : SlotTable) (from groups : ℕ) → new.arms ≡ old.arms → ((at : ArmAt) (group : ℕ) → is_logged new at group ≡ is_logged old at group)
-    → ((at : ArmAt) → room_at old at ≤ room_at new at) → LogsHaveRoom old from groups → LogsHaveRoom new from groups
-logs_kept old new from groups arms same more logs at there =
+pub logs_kept : (old new : SlotTable) (from groups ends : ℕ) → new.arms ≡ old.arms → ((at : ArmAt) (group : ℕ) → is_logged new at group ≡ is_logged old at group)
+    → ((at : ArmAt) → room_at old at ≤ room_at new at) → LogsHaveRoom old from groups ends → LogsHaveRoom new from groups ends
+logs_kept old new from groups ends arms same more logs at there =
     let few = logs at (subst (λ arms. at.arm < length (slice_index_or arms at.slot [])) arms there) in
     let is : lacking (is_logged new at) from groups ≡ lacking (is_logged old at) from groups = ap (λ (log : ℕ → Bool). lacking log from groups) (λ i group. same at group i) in
     let room = more at in

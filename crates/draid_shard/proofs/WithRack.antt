@@ -1,14 +1,14 @@
 -- A shard whose rack and history alone changed.
-use Rattle.std.proofs.Common.{◌≡◌, ◌∙◌, arith, refl, sym, ap, subst}
+use Rattle.std.proofs.Common.{◌≤◌, ◌≡◌, ◌∙◌, arith, refl, sym, ap, subst}
 use Rattle.draid_rack.specs.declared.Rack.{Ghosts}
 use Rattle.draid_entries.specs.declared.history.History.{History}
-use Rattle.draid_entries.specs.History.{owed_of, reserved_of}
+use Rattle.draid_entries.specs.History.{owed_of, reserved_of, stored_of}
 use Rattle.draid_shard.specs.Fits.{HasLeaves, Valid}
 use Rattle.draid_shard.specs.declared.shard.Shard.{Shard}
 
 valid_on : {R A : Type 0} (rack : Ghosts R) (old : Shard R A) (r : R) (history : History) → rack.shape r ≡ rack.shape old.rack → owed_of history ≡ owed_of old.history
-    → reserved_of history ≡ reserved_of old.history → Valid rack old → Valid rack (record old { rack = r; history = history })
-valid_on rack old r history shape owed reserved v = record {
+    → reserved_of history ≡ reserved_of old.history → stored_of old.history ≤ stored_of history → Valid rack old → Valid rack (record old { rack = r; history = history })
+valid_on rack old r history shape owed reserved stored v = record {
   part = v.part;
   version = v.version;
   asked = v.asked;
@@ -19,6 +19,9 @@ valid_on rack old r history shape owed reserved v = record {
   slots = v.slots;
   once = v.once;
   pass = v.pass;
+  kept = v.kept;
+  serial = (let low = v.serial in omega (arith, low, stored));
+  flushed = v.flushed;
   logs = v.logs;
   leaves = subst (λ shape. HasLeaves shape old.geometry old.slots) (sym shape) v.leaves;
   groups = v.groups;
@@ -29,11 +32,11 @@ valid_on rack old r history shape owed reserved v = record {
 }
 
 pub valid_rack : {R A : Type 0} (rack : Ghosts R) (old new : Shard R A) → new ≡ record old { rack = new.rack } → rack.shape new.rack ≡ rack.shape old.rack → Valid rack old → Valid rack new
-valid_rack rack old new after shape v = subst (Valid rack) (sym after) (valid_on rack old new.rack old.history shape refl refl v)
+valid_rack rack old new after shape v = subst (Valid rack) (sym after) (valid_on rack old new.rack old.history shape refl refl (omega arith) v)
 
 pub valid_fetched : {R A : Type 0} (rack : Ghosts R) (old new : Shard R A) → new ≡ record old { rack = new.rack; history = new.history } → rack.shape new.rack ≡ rack.shape old.rack
-    → owed_of new.history ≡ owed_of old.history → reserved_of new.history ≡ reserved_of old.history → Valid rack old → Valid rack new
-valid_fetched rack old new after shape owed reserved v = subst (Valid rack) (sym after) (valid_on rack old new.rack new.history shape owed reserved v)
+    → owed_of new.history ≡ owed_of old.history → reserved_of new.history ≡ reserved_of old.history → stored_of old.history ≤ stored_of new.history → Valid rack old → Valid rack new
+valid_fetched rack old new after shape owed reserved stored v = subst (Valid rack) (sym after) (valid_on rack old new.rack new.history shape owed reserved stored v)
 
 pub rack_twice : {R A : Type 0} (a b c : Shard R A) → b ≡ record a { rack = b.rack } → c ≡ record b { rack = c.rack } → c ≡ record a { rack = c.rack }
 rack_twice {R} {A} a b c one two = two ∙ ap (λ (s : Shard R A). record s { rack = c.rack }) one

@@ -1,6 +1,6 @@
 -- What calls do to the devices of a shard, and what they leave of its reserve.
-use Rattle.std.specs.Prelude.{◌≡◌, ◌≤◌, ◌+◌, ◌-◌, ◌^◌, ◌==◌, ℕ, List, Option, Some, None, MatchOption, min, count_by}
-use Rattle.draid_rack.specs.Rack.{Told, OnBothTold}
+use Rattle.std.specs.Prelude.{◌≡◌, ◌≤◌, ◌+◌, ◌-◌, ◌^◌, ◌==◌, ℕ, List, Option, Some, min, count_by}
+use Rattle.draid_rack.specs.Rack.{OnBothTold}
 use Rattle.draid_rack.specs.declared.Rack.{Ghosts}
 use Rattle.draid_machine.specs.declared.event.Event.{Event}
 use Rattle.draid_machine.specs.Created.{IsReached}

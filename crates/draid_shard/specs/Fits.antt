@@ -1,5 +1,5 @@
 -- How the parts of a shard fit together: what each call needs and keeps.
-use Rattle.std.specs.Prelude.{◌≤◌, ◌+◌, ℕ, ◌≡◌, ◌<◌, ◌⊎◌, zero, suc, Bool, true, false, Option, Some, None, IfSome, Contains, length, if◌then◌else◌}
+use Rattle.std.specs.Prelude.{◌≤◌, ◌+◌, ℕ, ◌≡◌, ◌<◌, ◌⊎◌, zero, suc, Bool, true, false, Option, Some, None, IfSome, Contains, length, vec_capacity, if◌then◌else◌}
 use Rattle.draid_names.specs.declared.numbers.TheConstants.{LAST_NUMBER, LONGEST_BLOCK, NUMBERS, OBJECTS}
 use Rattle.draid_shard.specs.declared.shard.Shard.{Shard}
 use Rattle.draid_names.specs.Numbers.{most_held}
@@ -23,9 +23,10 @@ use Rattle.draid_slots.specs.Table.{IsThere, SlotTable, arm_at, is_leaving, is_l
 use Rattle.draid_entries.specs.declared.entry.Entry.{Entry}
 use Rattle.draid_entries.specs.declared.entries.Entries.{Entries}
 use Rattle.draid_entries.specs.Entries.{count_of, entry_at, owed_by}
-use Rattle.draid_entries.specs.History.{owed_of, reserved_of}
+use Rattle.draid_entries.specs.History.{owed_of, reserved_of, stored_of}
 use Rattle.draid_slots.specs.States.{HoldsPass, name_of}
 use Rattle.draid_machine.specs.Names.{named}
+use Rattle.draid_shard.specs.Loans.{HasFlushRoom, IsKept, owed_for_loan}
 use Rattle.draid_shard.specs.Part.{IsPart, IsRun}
 use Rattle.draid_shard.specs.States.{part_of}
 
@@ -93,9 +94,9 @@ abbrev pub birth_groups : Option ℕ → ℕ
 birth_groups None = 2
 birth_groups (Some t) = 3
 
--- each log has room for so many groups from one on
-abbrev pub LogsHaveRoom : SlotTable → ℕ → ℕ → Type 0
-LogsHaveRoom slots from groups = (at : ArmAt) → IsThere slots at → lacking (is_logged slots at) from groups ≤ room_at slots at
+-- each log has room for so many groups from one on, and for so many more changes
+abbrev pub LogsHaveRoom : SlotTable → ℕ → ℕ → ℕ → Type 0
+LogsHaveRoom slots from groups more = (at : ArmAt) → IsThere slots at → lacking (is_logged slots at) from groups + more ≤ room_at slots at
 
 -- ---- names
 
@@ -126,6 +127,10 @@ owed_for_pass (Some p) = elim p.kind as (λ k. ℕ) [ Rebuild ↦ if p.running t
 abbrev pub is_rebuild : Option Pass → Bool
 is_rebuild None = false
 is_rebuild (Some p) = elim p.kind as (λ k. Bool) [ Rebuild ↦ true | Heal ↦ false ]
+
+-- the end of a rebuild takes the groups in which blocks may be born out of its targets' logs, so that these lack them again
+abbrev pub changes_for_end : Option Pass → Option ℕ → ℕ
+changes_for_end pass closing = if is_rebuild pass then birth_groups closing else 0
 
 abbrev pub owed_for_group : Option ℕ → Bool → ℕ
 owed_for_group None sealed = 0
@@ -165,7 +170,11 @@ pub record Valid {R A : Type 0} (rack : Ghosts R) (shard : Shard R A) : Type 0 w
   pub slots : IsOf shard.slots shard.geometry shard.perms shard.number
   pub once : NamesOnce shard.slots
   pub pass : IfSome shard.pass (HoldsPass shard.slots shard.last_pass)
-  pub logs : LogsHaveRoom shard.slots (oldest_open shard.open_group shard.closing) (birth_groups shard.closing)
+  -- the loan that counts, and no more loans than events
+  pub kept : IfSome shard.kept (IsKept shard.geometry shard.pass)
+  pub serial : shard.serial ≤ stored_of shard.history
+  pub flushed : HasFlushRoom shard.geometry.spec.children shard.pass (vec_capacity shard.flushed)
+  pub logs : LogsHaveRoom shard.slots (oldest_open shard.open_group shard.closing) (birth_groups shard.closing) (changes_for_end shard.pass shard.closing)
   pub leaves : HasLeaves (rack.shape shard.rack) shard.geometry shard.slots
   pub groups : AreGroups shard.open_group shard.closing shard.committed shard.sealed
   pub low : shard.open_group ≤ LAST_NUMBER
@@ -173,4 +182,4 @@ pub record Valid {R A : Type 0} (rack : Ghosts R) (shard : Shard R A) : Type 0 w
   -- a group is sealed without an open ticket that was born up to it
   pub settled : shard.sealed ≡ true → TicketsAreNew shard.entries shard.open_group
   pub owed : owed_of shard.history
-      ≡ owed_by shard.geometry.g shard.entries + owed_for_pass shard.pass + owed_for_group shard.closing shard.sealed + reserved_of shard.history
+      ≡ owed_by shard.geometry.g shard.entries + owed_for_pass shard.pass + owed_for_loan shard.kept + owed_for_group shard.closing shard.sealed + reserved_of shard.history

@@ -1,8 +1,8 @@
 -- Whether a shard takes blocks, and for how long a one it has room.
-use Rattle.std.specs.Prelude.{◌≡◌, ◌<◌, ◌≤◌, ◌+◌, ◌⊎◌, ℕ, Option, Some, None}
+use Rattle.std.specs.Prelude.{◌≡◌, ◌+◌, ◌⊎◌, ℕ, Option, Some, None}
 use Rattle.draid_names.specs.Numbers.{most_held}
 use Rattle.draid_machine.specs.State as machine
-use Rattle.draid_machine.specs.Step.{Fits, HoldsFewer, IsEnabled, IsLongest}
+use Rattle.draid_machine.specs.Step.{HoldsFewer, IsEnabled, IsLongest}
 use Rattle.draid_entries.specs.History.{Passes, left_for_groups}
 use Rattle.draid_shard.specs.States.{layout_by}
 use Rattle.draid_shard.specs.declared.fault.Shut.{Shut}

@@ -1,6 +1,6 @@
 -- For which states of its metaslab a shard stands: what it stores is what they have. What they have besides (which segments are present, in doubt or kept, and
 -- the images) it doesn't store.
-use Rattle.std.specs.Prelude.{◌≡◌, ◌++◌, List, [], ◌∷◌, None, is_some, option_map}
+use Rattle.std.specs.Prelude.{◌≡◌, ◌++◌, List, [], ◌∷◌, is_some, option_map}
 use Rattle.draid_machine.specs.declared.event.Event.{Event}
 use Rattle.draid_machine.specs.declared.names.Key.{Key}
 use Rattle.draid_machine.specs.State as machine
@@ -9,6 +9,7 @@ use Rattle.draid_machine.specs.Step.{Step}
 use Rattle.draid_entries.specs.Entries.{held_in}
 use Rattle.draid_entries.specs.History.{events_of}
 use Rattle.draid_slots.specs.States.{HasSlots, pass_in}
+use Rattle.draid_shard.specs.Loans.{loan_in}
 use Rattle.draid_shard.specs.Part.{Part, layout_in}
 use Rattle.draid_shard.specs.declared.shard.Shard.{Shard}
 
@@ -31,7 +32,7 @@ pub record IsIn {R A : Type 0} (shard : Shard R A) (w : machine.State) : Type 0 
   pub version : w.version ≡ shard.version
   pub asked : w.asked ≡ shard.asked
   pub serial : w.serial ≡ shard.serial
-  pub no_loan : w.loan ≡ None
+  pub loan : w.loan ≡ option_map loan_in shard.kept
 
 -- the events since the shard's opening
 abbrev pub stored_in : {R A : Type 0} → Shard R A → List Event

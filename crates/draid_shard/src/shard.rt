@@ -1,3 +1,4 @@
+use crate::loan::KeptLoan;
 use draid_area::Area;
 use draid_entries::{Entries, History};
 use draid_metaslab::Space;
@@ -25,6 +26,12 @@ pub struct Shard<R: Rack, A: Area> {
     pub last_pass: u64,
     /// The number of the last loan since the opening.
     pub serial: u64,
+    /// The loan that counts.
+    pub kept: Option<KeptLoan>,
+    /// The room of the last loan, to be used again.
+    pub idle: Option<KeptLoan>,
+    /// Room for the leaves on which the end of a pass fails.
+    pub flushed: Vec<u64>,
     /// What was done since the opening.
     pub history: History,
     /// The blocks and the open writes.

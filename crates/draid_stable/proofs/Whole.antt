@@ -137,7 +137,7 @@ module _ (geometry : Geometry) (perms : Perms) (metaslab group next : ℕ) (ther
   all = told_slots it.slots.items
 
   pub tables_are : HasLive t.entries it.blocks.items → IsOf t.slots geometry perms metaslab → t.slots.arms ≡ arms_listed it.slots.items
-      → ((at : ArmAt) (g : ℕ) → is_logged t.slots at g ≡ (has (log_in (logs_listed it.slots.items) at) g && nat_le g group)) → t.slots.detached ≡ [] → HasRoom t.slots 2 0
+      → ((at : ArmAt) (g : ℕ) → is_logged t.slots at g ≡ (has (log_in (logs_listed it.slots.items) at) g && nat_le g group)) → t.slots.detached ≡ [] → HasRoom t.slots 4 0
       → IsSpaceOf geometry it.blocks.items t.space → t.pass ≡ it.pass → t.last_pass ≡ it.last_pass → IfSome it.pass (λ p. p.number ≡ it.last_pass) → AreTablesOf geometry perms (told_record it) t
   tables_are live of arms logs none room space pass last number = record {
     entries = live;

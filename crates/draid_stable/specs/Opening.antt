@@ -128,14 +128,14 @@ pub record IsSpaceOf (geometry : Geometry) (blocks : List Pointer) (space : Stri
   pub deferred : space.deferred ≡ []
   pub enabled : space.disabled ≡ false
 
--- The tables are those of a record. The slots have no detachment, and each log has room for the groups in which blocks may be born.
+-- The tables are those of a record. The slots have no detachment, and each log has room for the groups in which blocks may be born, twice.
 pub record AreTablesOf (geometry : Geometry) (perms : Perms) (value : RecordTold) (t : Tables) : Type 0 where
   pub entries : HasLive t.entries value.blocks
   pub of : IsOf t.slots geometry perms value.metaslab
   pub arms : t.slots.arms ≡ arms_told value.slots
   pub detached : t.slots.detached ≡ []
   pub slots : HasSlots t.slots (opened_core value)
-  pub room : HasRoom t.slots 2 0
+  pub room : HasRoom t.slots 4 0
   pub space : IsSpaceOf geometry value.blocks t.space
   pub pass : option_map (pass_of value) value.pass ≡ option_map (pass_in t.slots) t.pass
   pub last : t.last_pass ≡ value.last_pass

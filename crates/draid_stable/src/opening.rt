@@ -27,8 +27,9 @@ use draid_slots::Slots;
 use draid_spec::Geometry;
 use std::alloc::Global;
 
-/// In how many groups blocks may be born at first: the open one, and the next, to which a caller may have come.
-const BIRTH_GROUPS: u32 = 2;
+/// The changes of a log for which there is room at first. Blocks may be born in the open group and in the next, to which a
+/// caller may have come; and the end of a rebuild takes these groups out of the logs of its targets.
+const LOG_CHANGES: u32 = 4;
 
 /// The tables of a metaslab that is opened from a record.
 #[derive(Drop)]
@@ -132,12 +133,12 @@ fn slots_of(
     ensures logs { IfOk result (λ slots. (at : ArmAt) (g : ℕ)
         → is_logged slots at g ≡ (has (log_in (logs_listed lists.items) at) g && nat_le g group)) }
     ensures detached { IfOk result (λ slots. slots.detached ≡ []) }
-    ensures room { IfOk result (λ slots. HasRoom slots 2 0) }
+    ensures room { IfOk result (λ slots. HasRoom slots 4 0) }
 {
     let mut lists = lists;
     cut_slots(&mut lists, group);
     let mut slots = Slots::of(alloc, geometry, perms, metaslab, lists)?;
-    slots.reserve(alloc, BIRTH_GROUPS, 0)?;
+    slots.reserve(alloc, LOG_CHANGES, 0)?;
     Ok(slots)
 }
 

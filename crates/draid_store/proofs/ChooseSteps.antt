@@ -30,6 +30,7 @@ use Rattle.std.proofs.lemmas.Nat.{div-add-mod', le-div}
 use Rattle.draid_shard.specs.declared.fault.Shut.{Shut}
 use Rattle.draid_shard.specs.declared.fault.Shut.TheVariants as shut
 use Rattle.draid_shard.specs.declared.shard.Shard.{Shard}
+use Rattle.draid_shard.specs.Loans.{owed_for_loan}
 use Rattle.draid_shard.proofs.OwedAll.{owed_is}
 use Rattle.draid_session.specs.Follows.{Follows}
 use Rattle.draid_session.specs.Holds.{View, view_of}
@@ -77,7 +78,7 @@ module _ {R A : Type 0} (rack : racks.Ghosts R) (area : areas.Ghosts A) where
   -- what the shard does is what a session calls worn
   for_worn : (part : Part) (pieces : Pieces) (shard : Shard R A) (y : Metaslab) (m asked : ℕ) → IsMetaslab rack area part pieces shard y → IsWornFor shard asked → IsWorn part.geometry (view_of m y) asked
   for_worn part pieces shard y m asked is worn =
-      let owed : ℕ = owed_by shard.geometry.g shard.entries + owed_for_pass shard.pass + owed_for_group shard.closing shard.sealed in
+      let owed : ℕ = owed_by shard.geometry.g shard.entries + owed_for_pass shard.pass + owed_for_loan shard.kept + owed_for_group shard.closing shard.sealed in
       let all = is.valid.owed in
       let limit = is.limit in
       let stored : length y.events ≡ stored_of shard.history = ap (λ es. length es) is.events ∙ sym shard.history.events.ok.0 in

@@ -3,6 +3,7 @@ use Rattle.std.proofs.Common.{◌∙◌, ◌++◌, ◌∷◌, [], ap, arith, ref
 use Rattle.draid_machine.specs.declared.event.Event.TheVariants.{Damage}
 use Rattle.draid_entries.specs.History.{events_of}
 use Rattle.draid_shard.specs.Fits.{HasLeaves}
+use Rattle.draid_shard.proofs.Kept.{stored_more}
 use Rattle.draid_blocks.proofs.DamageSteps.{damage_acts, damage_step, same_in, sector_there}
 use Rattle.draid_blocks.proofs.damaging.damage.Goals as goal
 
@@ -23,6 +24,9 @@ returns-clause-valid g c =
       slots = v.slots;
       once = v.once;
       pass = v.pass;
+      kept = v.kept;
+      serial = (let low = v.serial in let more = stored_more c.args.shard.now.history c.add_reserved.new.self _ c.add_reserved.ensures.stored in omega (arith, low, more));
+      flushed = v.flushed;
       logs = v.logs;
       leaves = subst (λ shape. HasLeaves shape c.args.shard.now.geometry c.args.shard.now.slots) (sym c.damage-done.ensures.shape) v.leaves;
       groups = v.groups;

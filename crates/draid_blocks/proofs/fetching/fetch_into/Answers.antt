@@ -5,6 +5,7 @@ use Rattle.draid_machine.specs.declared.names.Stage.TheVariants.{Live}
 use Rattle.draid_entries.specs.Maps.{staged}
 use Rattle.draid_shard.specs.States.{part_of}
 use Rattle.draid_blocks.proofs.Fetches.{fetches_stored, valid_stored}
+use Rattle.draid_shard.proofs.Kept.{stored_more}
 use Rattle.draid_blocks.proofs.ReadSteps.{reads_none}
 use Rattle.draid_blocks.proofs.fetching.fetch_into.Goals as goal
 
@@ -17,7 +18,7 @@ read_columns-requires-clause-none g c =
 
 pub returns-clause-valid : goal.returns-clause-valid
 returns-clause-valid g c =
-    valid_stored g.R.Rack c.args.shard.now c.read_columns.new.shard c.requires.valid c.read_columns.ensures.rack c.add_asked.new.self c.read_columns.ensures.shape c.add_asked.ensures.owed c.add_asked.ensures.reserved
+    valid_stored g.R.Rack c.args.shard.now c.read_columns.new.shard c.requires.valid c.read_columns.ensures.rack c.add_asked.new.self c.read_columns.ensures.shape c.add_asked.ensures.owed c.add_asked.ensures.reserved (stored_more c.read_columns.new.shard.history c.add_asked.new.self _ c.add_asked.ensures.stored)
 
 pub returns-clause-fetches : goal.returns-clause-fetches
 returns-clause-fetches g c =

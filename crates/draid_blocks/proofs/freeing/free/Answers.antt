@@ -8,7 +8,7 @@ use Rattle.draid_blocks.proofs.Entered.{here_turned, tickets_block}
 use Rattle.draid_blocks.proofs.Placing.{turned_tables}
 use Rattle.draid_blocks.proofs.Turns.{frees, owed_turns}
 use Rattle.draid_shard.proofs.Changed.{same_arms}
-use Rattle.draid_shard.proofs.Kept.{valid_with}
+use Rattle.draid_shard.proofs.Kept.{stored_more, valid_with}
 use Rattle.draid_blocks.proofs.freeing.free.Goals as goal
 
 pub add-requires-clause-owed : goal.add-requires-clause-owed
@@ -30,7 +30,7 @@ returns-clause-valid g c =
     refl (let few = v.few in let count = c.turn.ensures.count in omega (arith, few, count))
     (here_turned c.args.shard.now.entries c.turn.new.self c.args.pointer.now Live (Freed c.max-group.result) c.args.shard.now.number is_live c.turn.ensures.entered v.here)
     (λ from low was. tickets_block c.args.shard.now.entries c.turn.new.self c.args.pointer.now (Freed c.max-group.result) from refl was c.turn.ensures.entered)
-    (let owed = c.add.ensures.owed in let reserved = c.add.ensures.reserved in omega (arith, turns, owed, reserved))
+    (let owed = c.add.ensures.owed in let reserved = c.add.ensures.reserved in omega (arith, turns, owed, reserved)) (stored_more c.args.shard.now.history c.add.new.self _ c.add.ensures.stored)
 
 pub returns-clause-event : goal.returns-clause-event
 returns-clause-event g c =

@@ -5,7 +5,7 @@ use Rattle.draid_machine.specs.declared.event.Event.TheVariants.{Put}
 use Rattle.draid_machine.specs.declared.names.Stage.TheVariants.{Writing}
 use Rattle.draid_entries.specs.Entries.{IsEntered, SetsEntry}
 use Rattle.draid_entries.specs.Maps.{key_of, staged}
-use Rattle.draid_shard.specs.Fits.{birth_groups, oldest_open}
+use Rattle.draid_shard.specs.Fits.{birth_groups, changes_for_end, oldest_open}
 use Rattle.draid_shard.specs.Rows.{HasRoomFor}
 use Rattle.draid_shard.specs.States.{part_of}
 use Rattle.draid_blocks.specs.declared.ticket.Ticket.{Ticket}
@@ -13,6 +13,7 @@ use Rattle.draid_shard.proofs.Fitted.{born_from, born_low, fits_rows}
 use Rattle.draid_shard.proofs.Homes.{geometry_is}
 use Rattle.draid_blocks.proofs.PutKept.{owes_one, put_valid}
 use Rattle.draid_blocks.proofs.Puts.{IsAfter, counted, missed_none, missed_one, nowhere, put_acted, put_carries, put_leads, same_pointer}
+use Rattle.draid_shard.proofs.Kept.{stored_more}
 use Rattle.draid_shard.proofs.Staging.{column_long, room_for}
 use Rattle.draid_blocks.proofs.putting.put.Given as given
 use Rattle.draid_blocks.proofs.putting.put.Goals as goal
@@ -51,7 +52,7 @@ land-landed-requires-clause-birth g c =
 pub land-landed-requires-clause-room : goal.land-landed-requires-clause-room
 land-landed-requires-clause-room g c =
     let v = c.requires.valid in
-    subst (HasRoomFor c.args.shard.now.slots) (sym c.rows_of-rows.ensures.birth_is) (room_for c.args.shard.now.slots (oldest_open c.args.shard.now.open_group c.args.shard.now.closing) (birth_groups c.args.shard.now.closing) c.args.ticket.now.pointer.birth
+    subst (HasRoomFor c.args.shard.now.slots) (sym c.rows_of-rows.ensures.birth_is) (room_for c.args.shard.now.slots (oldest_open c.args.shard.now.open_group c.args.shard.now.closing) (birth_groups c.args.shard.now.closing) (changes_for_end c.args.shard.now.pass c.args.shard.now.closing) c.args.ticket.now.pointer.birth
     (v.tickets c.args.ticket.now.pointer.first _ c.args.ticket.now.next c.args.ticket.now.missed c.requires.carries.is_open refl)
     (born_from c.args.shard.now.open_group c.args.shard.now.committed c.args.ticket.now.pointer.birth c.args.shard.now.closing c.args.shard.now.sealed v.groups
     (v.tables.placed c.args.ticket.now.pointer.first _ c.requires.carries.is_open).is_block.born) v.logs)
@@ -116,7 +117,7 @@ returns-clause-valid g c =
     put_valid g.R.Rack c.args.shard.now c.requires.valid c.args.ticket.now.pointer c.args.ticket.now.next c.args.ticket.now.missed (c.if-is_empty.ticket.next + 1) c.if-is_empty.ticket.missed
     c.requires.carries.is_open c.requires.left (after g c).counts.next_is c.turn.new.self (sets g c)
     c.land-landed.new.rack c.land-landed.new.slots c.add.new.self c.rows_of-rows.result.birth c.rows_of-rows.ensures.birth_is c.land-landed.ensures.lands.logs c.land-landed.ensures.shape
-    c.turn.ensures.count c.add.ensures.owed c.add.ensures.reserved
+    c.turn.ensures.count c.add.ensures.owed c.add.ensures.reserved (stored_more c.args.shard.now.history c.add.new.self _ c.add.ensures.stored)
 
 pub returns-clause-carries : goal.returns-clause-carries
 returns-clause-carries g c =

@@ -6,7 +6,7 @@ use Rattle.draid_entries.specs.Maps.{staged}
 use Rattle.draid_blocks.proofs.Entered.{here_gone, tickets_gone}
 use Rattle.draid_blocks.proofs.Turns.{aborts, owed_turns}
 use Rattle.draid_shard.proofs.Changed.{same_arms}
-use Rattle.draid_shard.proofs.Kept.{fitting, valid_with}
+use Rattle.draid_shard.proofs.Kept.{fitting, stored_more, valid_with}
 use Rattle.draid_blocks.proofs.tickets.abort.Goals as goal
 
 pub release-requires-clause-tables : goal.release-requires-clause-tables
@@ -31,7 +31,7 @@ returns-clause-valid g c =
     (let few = v.few in let count = c.release.ensures.count in omega (arith, few, count))
     (here_gone c.args.shard.now.entries c.release.new.entries c.args.ticket.pointer c.args.shard.now.number c.release.ensures.gone v.here)
     (λ from low was. tickets_gone c.args.shard.now.entries c.release.new.entries c.args.ticket.pointer from was c.release.ensures.gone)
-    (let owed = c.add.ensures.owed in let reserved = c.add.ensures.reserved in let from = c.from-owed.ensures in let left = c.saturating_sub-left.ensures in omega (arith, turns, owed, reserved, from, left))
+    (let owed = c.add.ensures.owed in let reserved = c.add.ensures.reserved in let from = c.from-owed.ensures in let left = c.saturating_sub-left.ensures in omega (arith, turns, owed, reserved, from, left)) (stored_more c.args.shard.now.history c.add.new.self _ c.add.ensures.stored)
 
 pub returns-clause-event : goal.returns-clause-event
 returns-clause-event g c = record {

@@ -17,7 +17,7 @@ use Rattle.draid_blocks.proofs.Begins.{IsGiven, MayBegin, begins_leads, due_from
 use Rattle.draid_shard.proofs.FreeRuns.{fewer}
 use Rattle.draid_blocks.proofs.Entered.{here_same, here_set, stays_in, tickets_same, tickets_staged}
 use Rattle.draid_shard.proofs.Tables.{set_here}
-use Rattle.draid_shard.proofs.Kept.{fitting, valid_with}
+use Rattle.draid_shard.proofs.Kept.{fitting, stored_more, valid_with}
 use Rattle.draid_blocks.proofs.tickets.begin.Goals as goal
 
 pub hold-requires-clause-tables : goal.hold-requires-clause-tables
@@ -49,6 +49,7 @@ returns-in-Ok-clause-valid g c =
     (λ from low was. tickets_staged c.args.shard.now.entries c.hold.new.entries p (Writing 0 0) from
     (let due = due_from c.args.shard.now.open_group p.birth c.args.floor birth in omega (arith, low, due)) was e.entered)
     (let owed = e.stored.owed in let reserved = e.stored.reserved in let asked = c.block_events-asked.ensures in omega (arith, owes, owed, reserved, asked))
+    (stored_more c.args.shard.now.history c.hold.new.history _ e.stored.stored)
 
 pub returns-in-Ok-clause-event : goal.returns-in-Ok-clause-event
 returns-in-Ok-clause-event g c =
@@ -97,7 +98,7 @@ returns-in-Err-clause-valid g c =
     e.disabled (let count = e.same.count in let few = v.few in omega (arith, few, count))
     (here_same c.args.shard.now.entries c.hold.new.entries c.args.shard.now.number v.here e.same)
     (λ from low was. tickets_same c.args.shard.now.entries c.hold.new.entries from was e.same)
-    (let owed = e.kept.owed in let reserved = e.kept.reserved in let same = e.same.owed c.args.shard.now.geometry.g in omega (arith, owed, reserved, same))
+    (let owed = e.kept.owed in let reserved = e.kept.reserved in let same = e.same.owed c.args.shard.now.geometry.g in omega (arith, owed, reserved, same)) (let stored = e.kept.stored in omega (arith, stored))
 
 pub returns-in-Err-clause-refused : goal.returns-in-Err-clause-refused
 returns-in-Err-clause-refused g c w is_in =

@@ -6,7 +6,7 @@ use Rattle.draid_blocks.proofs.Entered.{here_gone, here_turned, tickets_block, t
 use Rattle.draid_blocks.proofs.Placing.{turned_tables}
 use Rattle.draid_blocks.proofs.Turns.{all_put, finishes, misses, owed_turns}
 use Rattle.draid_shard.proofs.Changed.{same_arms}
-use Rattle.draid_shard.proofs.Kept.{fitting, valid_with}
+use Rattle.draid_shard.proofs.Kept.{fitting, stored_more, valid_with}
 use Rattle.draid_blocks.proofs.tickets.finish.Goals as goal
 
 pub release-requires-clause-tables : goal.release-requires-clause-tables
@@ -39,7 +39,7 @@ returns-then-ticket-shard-clause-valid g c =
     (let few = v.few in let count = c.release.ensures.count in omega (arith, few, count))
     (here_gone c.args.shard.now.entries c.release.new.entries c.args.ticket.pointer c.args.shard.now.number c.release.ensures.gone v.here)
     (λ from low was. tickets_gone c.args.shard.now.entries c.release.new.entries c.args.ticket.pointer from was c.release.ensures.gone)
-    (let owed = c.add.ensures.owed in let reserved = c.add.ensures.reserved in omega (arith, turns, owed, reserved))
+    (let owed = c.add.ensures.owed in let reserved = c.add.ensures.reserved in omega (arith, turns, owed, reserved)) (stored_more c.args.shard.now.history c.add.new.self _ c.add.ensures.stored)
 
 pub returns-clause-valid : goal.returns-clause-valid
 returns-clause-valid g c =
@@ -53,7 +53,7 @@ returns-clause-valid g c =
     refl (let few = v.few in let count = c.turn.ensures.count in omega (arith, few, count))
     (here_turned c.args.shard.now.entries c.turn.new.self c.args.ticket.pointer (Writing c.args.ticket.next c.args.ticket.missed) Live c.args.shard.now.number c.requires.is_open c.turn.ensures.entered v.here)
     (λ from low was. tickets_block c.args.shard.now.entries c.turn.new.self c.args.ticket.pointer Live from refl was c.turn.ensures.entered)
-    (let owed = c.add-2.ensures.owed in let reserved = c.add-2.ensures.reserved in omega (arith, turns, owed, reserved))
+    (let owed = c.add-2.ensures.owed in let reserved = c.add-2.ensures.reserved in omega (arith, turns, owed, reserved)) (stored_more c.args.shard.now.history c.add-2.new.self _ c.add-2.ensures.stored)
 
 pub returns-clause-event : goal.returns-clause-event
 returns-clause-event g c = record {

@@ -1,6 +1,7 @@
 use Rattle.std.proofs.Common.{◌≡◌, ◌∷◌, ◌++◌, [], refl, subst, sym}
 use Rattle.draid_machine.specs.declared.event.Event.TheVariants.{Detach}
 use Rattle.draid_machine.specs.declared.names.ArmName.{ArmName}
+use Rattle.draid_shard.proofs.Kept.{stored_more}
 use Rattle.draid_shard.specs.States.{Does, stored_in}
 use Rattle.draid_disks.specs.Renewing.{moved_below}
 use Rattle.draid_disks.proofs.Goes.{after_shard, goes_in, goes_step, goes_valid, once_mid, room_mid, state}
@@ -20,6 +21,7 @@ pub returns-clause-valid : goal.returns-clause-valid
 returns-clause-valid g c =
     goes_valid g.R.Rack c.args.shard.now c.requires.valid c.requires.pass c.args.at c.requires.there.0 c.requires.there.1 c.in_ok-moved.ensures.allowed c.detach.new.self c.in_ok-moved.ensures.detached
     c.renew.new.slots c.in_ok-moved.moved c.last_missed-upto.result c.add_reserved.new.self c.in_ok-moved.ensures.moved c.renew.ensures c.requires.room.slots c.add_reserved.ensures.owed c.add_reserved.ensures.reserved
+    (stored_more c.args.shard.now.history c.add_reserved.new.self _ c.add_reserved.ensures.stored)
 
 pub returns-clause-event : goal.returns-clause-event
 returns-clause-event g c =

@@ -38,6 +38,18 @@ returns-in_default g c = record {
   refused = tt;
 }
 
+pub returns-in_default-flush_room : goal.returns-in_default-flush_room
+returns-in_default-flush_room g c = record {
+  valid = tt;
+  part = tt;
+  begins = tt;
+  opened = tt;
+  gone = tt;
+  counts = c.read_kit.ensures.later;
+  back = c.read_kit.ensures.back;
+  refused = tt;
+}
+
 pub returns : goal.returns
 returns g c =
     let geometry = c.args.geometry in
@@ -64,7 +76,10 @@ returns g c =
             slots = record { geometry_is = t.of.geometry_is; perms_are = t.of.perms_are; metaslab_is = t.of.metaslab_is ∙ r.ranged.metaslab_is };
             once = told_once limits r.value.slots r.ranged.slots_are c.in-Ok.it.tables.slots t.arms t.detached;
             pass = t.holds;
-            logs = enough_room c.in-Ok.it.tables.slots (c.args.group + 1) 2 0 t.room;
+            kept = tt;
+            serial = omega arith;
+            flushed = c.in-Ok-flush_room.ensures;
+            logs = enough_room c.in-Ok.it.tables.slots c.in-Ok.it.tables.pass (c.args.group + 1) 0 t.room;
             leaves = leaves_there (g.R.Rack.shape c.args.kit.rack) (g.R.Rack.shape c.keep_arms.new.rack) geometry c.in-Ok.it.tables.slots r.value.slots t.arms t.detached parts.lacks c.requires.bytes
                 (c.keep_arms.ensures.bytes ∙ ap (λ rack. (g.R.Rack.shape rack).bytes) c.in-Ok.ensures.back.rack)
                 (λ leaf named. c.keep_arms.ensures.kept leaf named ∙ ap (λ rack. (g.R.Rack.shape rack).leaves leaf) c.in-Ok.ensures.back.rack);
@@ -97,7 +112,7 @@ returns g c =
               version = r.ranged.version_is;
               asked = r.ranged.version_is;
               serial = refl;
-              no_loan = refl;
+              loan = refl;
             };
             leaves = drops_but c.in-Ok.it.tables.slots r.value (g.R.Rack.told c.args.kit.rack) (g.R.Rack.told c.keep_arms.new.rack) t.arms
                 (subst (λ rack. LeavesTold (λ leaf sector. not (has_leaf_arm c.in-Ok.it.tables.slots leaf)) (g.R.Rack.told rack) (g.R.Rack.told c.keep_arms.new.rack)) back.rack c.keep_arms.ensures.told);

@@ -1,6 +1,7 @@
 use Rattle.std.proofs.Common.{◌∙◌, ◌++◌, ◌∷◌, [], List, arith, ap, refl, Err, subst}
 use Rattle.draid_machine.specs.declared.event.Event.{Event}
 use Rattle.draid_machine.specs.declared.event.Event.TheVariants.{Close}
+use Rattle.draid_shard.proofs.Kept.{stored_more}
 use Rattle.draid_shard.proofs.Changed.{arms_kept, same_arms, same_entries}
 use Rattle.draid_pool.proofs.Closed.{asked_nothing, asked_valid, closed_valid, closes, kept_in, kept_valid}
 use Rattle.draid_entries.specs.History.{AskIs}
@@ -82,7 +83,8 @@ returns g c =
           let same = c.in-Ok.ensures.same in
           let low = v.low in
           closed_valid g.R.Rack c.args.shard.now c.reserve.new.self c.in-Ok-reserve.ensures.kept c.args.group open_is c.requires.idle (omega (arith, low, open_is, other)) c.add_asked.new.self v c.in-Ok-reserve.ensures.room
-          (let owed = c.add_asked.ensures.owed in let was = same.owed in omega (arith, owed, was)) (c.add_asked.ensures.reserved ∙ same.reserved));
+          (let owed = c.add_asked.ensures.owed in let was = same.owed in omega (arith, owed, was)) (c.add_asked.ensures.reserved ∙ same.reserved)
+          (let more = stored_more c.ask_for_group.new.self c.add_asked.new.self _ c.add_asked.ensures.stored in let kept = same.stored in omega (arith, more, kept)));
       kit = record { rack = refl; areas = record { even = refl; odd = refl } };
       event = (let low = c.requires.valid.low in
           record {

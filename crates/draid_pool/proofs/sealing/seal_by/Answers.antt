@@ -21,8 +21,9 @@ use Rattle.draid_stable.specs.Sealing.{IsSettled, LosesTargets}
 use Rattle.draid_stable.specs.Stable.{Stands}
 use Rattle.draid_stable.proofs.Logs.{copied_small}
 use Rattle.draid_record.specs.Record.{told_record}
-use Rattle.draid_shard.specs.Fits.{Valid, birth_groups, oldest_open}
+use Rattle.draid_shard.specs.Fits.{Valid, birth_groups, changes_for_end, oldest_open}
 use Rattle.draid_shard.specs.States.{Does, IsIn, layout_by, part_of}
+use Rattle.draid_shard.proofs.Kept.{stored_more}
 use Rattle.draid_shard.proofs.Changed.{same_arms, same_entries}
 use Rattle.draid_shard.proofs.Staging.{room_for}
 use Rattle.draid_shard.proofs.Standing.{reached_more}
@@ -69,7 +70,7 @@ pub miss_marked-requires-clause-room : goal.miss_marked-requires-clause-room
 miss_marked-requires-clause-room g c =
     let old = c.args.shard.now in
     λ at there among out.
-    room_for old.slots (oldest_open old.open_group old.closing) (birth_groups old.closing) c.args.group (birth_low old.open_group c.args.group old.closing c.requires.closing.0)
+    room_for old.slots (oldest_open old.open_group old.closing) (birth_groups old.closing) (changes_for_end old.pass old.closing) c.args.group (birth_low old.open_group c.args.group old.closing c.requires.closing.0)
     (birth_high old.open_group c.args.group old.closing c.requires.closing.0) c.requires.valid.logs at there out
 
 -- ---- the shard afterwards
@@ -79,6 +80,7 @@ valid g c =
     sealed_valid g.R.Rack c.args.shard.now c.requires.valid c.args.group c.requires.closing.0 c.requires.closing.1 c.flush_leaves.new.rack c.write_to.new.even c.write_to.new.odd c.miss_marked.new.slots
     c.lose_targets.new.pass c.add.new.self c.args.plan.leaves.items c.flush_leaves.new.failed c.mark_silent.new.marks.items c.has_written-wrote.result c.requires.plan.leaves_are
     (among g c) (silent g c) (table g c) (loses g c) c.flush_leaves.ensures.shape c.requires.tickets c.add.ensures.owed c.add.ensures.reserved
+    (stored_more c.args.shard.now.history c.add.new.self _ c.add.ensures.stored)
 
 pub thin-requires : goal.thin-requires
 thin-requires g c =

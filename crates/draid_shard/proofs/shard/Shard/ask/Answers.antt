@@ -8,7 +8,7 @@ returns-clause-valid g c =
     let v = c.requires.valid in
     let same = c.ask.ensures.same in
     valid_with g.R.Rack c.args.self.now c.args.self.now.space c.args.self.now.entries c.ask.new.self v v.tables refl v.few v.here (λ from low was. was)
-    (let owed = same.owed in let reserved = same.reserved in omega (arith, owed, reserved))
+    (let owed = same.owed in let reserved = same.reserved in omega (arith, owed, reserved)) (let stored = same.stored in omega (arith, stored))
 
 pub returns-clause-none : goal.returns-clause-none
 returns-clause-none g c = record { part = refl; stored = c.ask.ensures.same.events; stays = history_in c.args.self.now c.ask.new.self }

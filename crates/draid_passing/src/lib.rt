@@ -1,0 +1,12 @@
+//! A pass over one metaslab: it is planned, made ready, ended and cancelled, each call as an event of the metaslab's state.
+
+#![tactic(auto)]
+
+mod cancelling;
+mod fault;
+mod owing;
+mod readying;
+
+pub use cancelling::cancel;
+pub use fault::{NotYet, PlanFault};
+pub use readying::ready;
