@@ -4,3 +4,4 @@ pub mod Moments
 pub mod Rack
 pub mod Sectors
 pub mod Shaped
+pub mod Soft

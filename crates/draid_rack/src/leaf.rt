@@ -1,15 +1,25 @@
-ghost use Rattle.std.specs.Prelude.{◌≡◌, ◌≤◌, ◌<◌, ◌==◌, ◌+◌, ◌-◌, ◌^◌, min, true, IfOk, IsSomeAnd, Some, length};
+ghost use Rattle.std.specs.Prelude.{◌≡◌, ◌≤◌, ◌<◌, ◌==◌, ◌+◌, ◌-◌, ◌^◌, min, false, true, IfOk, IsSomeAnd, Some, length};
+ghost use Rattle.std.specs.List.{list_any};
+ghost use Rattle.draid_rack.specs.Soft.{FlushesThose, ListsSoft};
 
 use crate::sector::Sector;
 use draid_faults::CrashRule;
 use draid_names::NoMemory;
 use std::alloc::Global;
 
+/// So many soft sectors a leaf lists at most.
+const LISTED: usize = 1_024;
+
 #[derive(Drop)]
 pub(crate) struct Leaf {
     pub sectors: Vec<Sector>,
+    /// The soft sectors, and maybe others. There is room for them from the start.
+    pub soft: Vec<u64>,
+    /// Whether a soft sector may be missing there, since they were too many.
+    pub unlisted: bool,
     /// How often a call on this leaf has failed.
     pub faults: u64,
+    ghost listed: { ListsSoft unlisted soft.items sectors.items },
 }
 
 impl Leaf {
@@ -30,6 +40,8 @@ impl Leaf {
         }
         Ok(Leaf {
             sectors: rows,
+            soft: Vec::with_capacity(alloc, LISTED)?,
+            unlisted: false,
             faults: 0,
         })
     }
@@ -44,11 +56,27 @@ impl Leaf {
         }
     }
 
+    /// Lists a sector, which is written now.
+    fn list(&mut self, sector: u64)
+        requires { sector < length self.old.sectors.items }
+        ensures sectors { self.new.sectors ≡ self.old.sectors }
+        ensures faults { self.new.faults ≡ self.old.faults }
+        ensures listed { self.new.unlisted ≡ false → list_any (λ k. k == sector) self.new.soft.items ≡ true }
+    {
+        if self.sectors[sector as usize].soft || self.unlisted {
+            return;
+        }
+        if self.soft.len() >= LISTED || self.soft.push(sector).is_err() {
+            self.unlisted = true;
+        }
+    }
+
     /// Notes that a write of a sector failed, which left its bytes.
     pub(crate) fn mark(&mut self, sector: u64, harmed: bool, clock: u64)
         requires { sector < length self.old.sectors.items }
         ensures { ChangesSectors (λ s. s == sector) (marked harmed clock) self.old self.new }
     {
+        self.list(sector);
         let place = &mut self.sectors[sector as usize];
         place.mark(harmed, clock);
     }
@@ -57,6 +85,7 @@ impl Leaf {
         requires { IsSomeAnd (view_in (Some self.old) sector) (λ x. length x.bytes ≡ length bytes.now) }
         ensures { ChangesSectors (λ s. s == sector) (landed bytes.now harmed clock) self.old self.new }
     {
+        self.list(sector);
         let place = &mut self.sectors[sector as usize];
         place.land(bytes, harmed, clock);
     }
@@ -80,9 +109,13 @@ impl Leaf {
     pub(crate) fn flush(&mut self)
         ensures { ChangesSectors (λ _. true) flushed self.old self.new }
     {
-        for i in 0..self.sectors.len() {
-            self.sectors[i].flush();
+        if self.unlisted {
+            flush_all(&mut self.sectors);
+        } else {
+            flush_these(&mut self.sectors, &self.soft);
         }
+        self.soft.clear();
+        self.unlisted = false;
     }
 
     pub(crate) fn crash(&mut self, rule: CrashRule)
@@ -91,5 +124,35 @@ impl Leaf {
         for i in 0..self.sectors.len() {
             self.sectors[i].crash(rule);
         }
+        self.soft.clear();
+        self.unlisted = false;
+    }
+}
+
+/// Flushes each sector.
+fn flush_all(sectors: &mut Vec<Sector>)
+    ensures { FlushesThose (λ _. true) sectors.old.items sectors.new.items }
+{
+    for i in 0..sectors.len() {
+        sectors[i].flush();
+    }
+}
+
+/// Flushes those of a list, which has each soft one.
+fn flush_these(sectors: &mut Vec<Sector>, listed: &[u64])
+    requires { ListsSoft false listed.now sectors.old.items }
+    ensures { FlushesThose (λ _. true) sectors.old.items sectors.new.items }
+{
+    for sector in listed {
+        flush_one(sectors, *sector);
+    }
+}
+
+/// Flushes one, if it is there.
+fn flush_one(sectors: &mut Vec<Sector>, sector: u64)
+    ensures { FlushesThose (λ s. sector == s) sectors.old.items sectors.new.items }
+{
+    if let Some(place) = sectors.get_mut(sector as usize) {
+        place.flush();
     }
 }
