@@ -1,9 +1,12 @@
 pub mod Attached
 pub mod Begun
 pub mod Calls
+pub mod Coming
 pub mod Events
 pub mod Phases
 pub mod Reserved
+pub mod Barred
+pub mod Spared
 pub mod Switched
 pub mod Walk
 pub mod Whole

@@ -1,4 +1,5 @@
-//! Changes of a pool's arms, each made in all of its metaslabs or in none: leaves go offline and come back.
+//! Changes of a pool's arms, each made in all of its metaslabs or in none: leaves go offline
+//! and come back, and spares come to slots.
 
 #![tactic(auto)]
 
@@ -7,8 +8,11 @@ mod fault;
 mod need;
 mod replies;
 mod reserving;
+mod rules;
+mod sparing;
 mod switching;
 
 pub use fault::ArmFault;
-pub use replies::{reply_to_offline, reply_to_online};
+pub use replies::{reply_to_offline, reply_to_online, reply_to_spare};
+pub use sparing::spare;
 pub use switching::{offline, online};
