@@ -8,16 +8,16 @@ ghost use Rattle.draid_pool.specs.Failing.{AreaRose, AreasLater};
 ghost use Rattle.draid_pool.specs.Pointers.{SamePointers};
 ghost use Rattle.draid_pool.specs.Pools.{Represents};
 ghost use Rattle.draid_pool.specs.Whole.{IsWhole};
-ghost use Rattle.draid_changes.specs.Answers.{IsFor, SwitchDoes};
+ghost use Rattle.draid_changes.specs.Answers.{SwitchDoes};
 ghost use Rattle.draid_changes.specs.Walks.{ChangedBelow, MaySwitch, Switches};
 
-use crate::fault::ArmFault;
+use crate::fault::{ArmFault, arm_fault};
 use crate::need::Need;
 use crate::reserving::reserve_all;
 use draid_area::Area;
 use draid_entries::ReserveFault;
 use draid_names::{ArmKind, SlotFault};
-use draid_pool::{Pool, SyncFault};
+use draid_pool::Pool;
 use draid_rack::Rack;
 use draid_shard::Shard;
 
@@ -72,19 +72,6 @@ fn switch<R: Rack, A: Area>(pool: &mut Pool<R, A>, leaf: u64, offline: bool) -> 
         }
         Err(ReserveFault::Worn { .. }) => Err(ArmFault::Worn),
         Err(ReserveFault::NoMemory) => Err(ArmFault::NoMemory),
-    }
-}
-
-/// Why a group that was closing couldn't be committed first. That group isn't the last.
-fn arm_fault(fault: SyncFault) -> ArmFault
-    requires { (fault ≡ SyncFault.Last) → ⊥ }
-    ensures { IsFor fault result }
-{
-    match fault {
-        SyncFault::Worn => ArmFault::Worn,
-        SyncFault::Last => unreachable!(),
-        SyncFault::Shelf => ArmFault::Shelf,
-        SyncFault::NoMemory => ArmFault::NoMemory,
     }
 }
 

@@ -2,7 +2,7 @@
 ghost use Rattle.std.specs.Prelude.{◌≡◌, None, IfOk, IsErr};
 ghost use Rattle.std.specs.Fn.{FnReturnsAt};
 ghost use Rattle.draid_choose.specs.Rooms.{IsChooser};
-ghost use Rattle.draid_script.specs.Line.{TakeOffline, TakeOnline, DamageSector, FreeObject, IsInRange, ReadObject, ShowStatus, SumObjects, WriteObject, command_in};
+ghost use Rattle.draid_script.specs.Line.{AttachSpare, TakeOffline, TakeOnline, DamageSector, FreeObject, IsInRange, ReadObject, ShowStatus, SumObjects, WriteObject, command_in};
 ghost use Rattle.draid_session.specs.Choices.{choices_by};
 ghost use Rattle.draid_session.specs.Replies.{IsReplyTo};
 ghost use Rattle.draid_session.specs.Session.{MayBreak};
@@ -16,10 +16,10 @@ ghost use Rattle.draid_run.specs.Desks.{AnswerDoes, asked_in};
 ghost use Rattle.draid_pool.specs.Knows.{Teaches};
 ghost use Rattle.draid_store.specs.Says.{DamageSays, FreeSays, ReadSays, SumSays};
 ghost use Rattle.draid_status.specs.Says.{StatusSays};
-ghost use Rattle.draid_changes.specs.Says.{OfflineSays, OnlineSays};
+ghost use Rattle.draid_changes.specs.Says.{SpareSays, SwitchSays};
 
 use draid_area::Area;
-use draid_changes::{reply_to_offline, reply_to_online, reply_to_upgrade};
+use draid_changes::{reply_to_offline, reply_to_online, reply_to_spare, reply_to_upgrade};
 use draid_choose::Chooser;
 use draid_names::{Failed, Room};
 use draid_pool::Pool;
@@ -66,6 +66,7 @@ pub(crate) fn reply<R: Rack, A: Area, F: Fn(&[Room]) -> Option<u32>>(
         Line::Offline { leaf } => reply_to_offline(pool, *leaf),
         Line::Online { leaf } => reply_to_online(pool, *leaf),
         Line::Damage { leaf, sector } => Ok(reply_to_damage(pool, *leaf, *sector)),
+        Line::Spare { slot, spare } => reply_to_spare(alloc, pool, *slot, *spare),
         Line::Status { format } => Ok(reply_to_status(alloc, pool, *format)),
         Line::Upgrade => reply_to_upgrade(pool),
         _ => unreachable!(),

@@ -6,7 +6,7 @@ use Rattle.draid_changes.proofs.replies.reply_to_offline.Goals as goal
 
 pub returns-in-Ok-clause-step : goal.returns-in-Ok-clause-step
 returns-in-Ok-clause-step g c = λ x is.
-    by_answer g.R.Rack g.A.Area (λ r. SwitchDoes x c.args.leaf true r) _ x c.offline.new.pool c.offline.result (Ok tt) (c.in-Ok.is) (λ holds store w. (Ok tt, refl, w)) (c.offline.ensures.carries x is)
+    by_answer g.R.Rack g.A.Area (λ r. SwitchDoes x c.args.leaf true r) _ x c.offline.new.pool c.offline.result (Ok tt) (c.in-Ok.is) (λ holds store w. (Ok tt, (_, refl, refl), w)) (c.offline.ensures.carries x is)
 
 pub returns-in-Err-Slot-clause-step : goal.returns-in-Err-Slot-clause-step
 returns-in-Err-Slot-clause-step g c = λ x is.
