@@ -21,7 +21,7 @@ use Rattle.draid_pool.specs.Metaslabs.{IsMetaslab}
 use Rattle.draid_pool.specs.Pools.{part_in}
 use Rattle.draid_pool.proofs.Moved.{turn, with_metaslab}
 use Rattle.draid_pool.specs.Drifts.{Drifts}
-use Rattle.draid_pool.specs.Threads.{Knows, KnowsBut, LeadsBy, all_of}
+use Rattle.draid_pool.specs.Threads.{Knows, LeadsBy, all_of}
 use Rattle.draid_pool.proofs.Finds.{Found, found_drops, found_later, looks, points_at_on}
 use Rattle.draid_pool.proofs.HoldStep.{each_on, f, follows, here, live_key, pointer_at_on}
 use Rattle.draid_pool.proofs.Owning.{own_drifts}
@@ -45,14 +45,11 @@ module _ {R A S : Type 0} (rack : racks.Ghosts R) (area : areas.Ghosts A) (went 
     (shard before after : Shard R A) (there : last m ≡ Some shard) (drifts : Drifts rack area shared owns shard before)
     (is : (k : ℕ) → new k ≡ (if k == m then Some after else last k)) (goes : went a m before after b) (table : ℕ → Option Pointer) (seq floor : ℕ) (x : State) (knows : Knows rack area owns last table seq floor x)
     (still : IsStill rack area before after) where
-  known : KnowsBut rack area owns (all_of owns) (all_of owns) last table seq floor knows.pieces x
-  known = record { each = knows.each; holds = knows.holds; objects = knows.objects; seq = knows.seq; floor = knows.floor }
-
   abbrev y : (y : Metaslab) × (slice_get x.metaslabs m ≡ Some y) × IsMetaslab rack area (part_in x m) (knows.pieces m) shard y
-  y = here rack area went shared owns a b last new m shard before after there drifts still.valid is goes (all_of owns) (all_of owns) table seq floor knows.pieces x known
+  y = here rack area went shared owns a b last new m shard before after there drifts still.valid is goes (all_of owns) (all_of owns) table seq floor knows.pieces x knows.but_it
 
   abbrev z : Found rack area shared owns (part_in x m) (knows.pieces m) y.0 before
-  z = f rack area went shared owns a b last new m shard before after there drifts still.valid is goes (all_of owns) (all_of owns) table seq floor knows.pieces x known
+  z = f rack area went shared owns a b last new m shard before after there drifts still.valid is goes (all_of owns) (all_of owns) table seq floor knows.pieces x knows.but_it
 
   it : IsMetaslab rack area (part_in x m) z.now after z.z
   it = still.stands (part_in x m) z.now z.z z.is
@@ -62,17 +59,19 @@ module _ {R A S : Type 0} (rack : racks.Ghosts R) (area : areas.Ghosts A) (went 
     holds = On (view_of m z.z) Looked ∷ [];
     reached = with_metaslab x m z.z;
     store = x.store;
-    follows = follows rack area went shared owns a b last new m shard before after there drifts still.valid is goes (all_of owns) (all_of owns) table seq floor knows.pieces x known Looked z.z z.now it (looks (layout_in (part_in x m)) z.z);
+    follows = follows rack area went shared owns a b last new m shard before after there drifts still.valid is goes (all_of owns) (all_of owns) table seq floor knows.pieces x knows.but_it Looked z.z z.now it (looks (layout_in (part_in x m)) z.z) (λ same. refl);
     done = (refl, ((view_of m z.z, refl), tt));
     knows = record {
       pieces = turn m z.now knows.pieces;
-      each = each_on rack area went shared owns a b last new m shard before after there drifts still.valid is goes (all_of owns) (all_of owns) table seq floor knows.pieces x known z.z z.now it;
-      holds = own_drifts owns x m y.0 z.z knows.pieces z.now y.1 (found_later rack area shared owns shard before drifts (part_in x m) (knows.pieces m) z.now y.0 z.z y.2 z.is)
-          (found_drops rack area shared owns shard before drifts (part_in x m) (knows.pieces m) z.now y.0 z.z y.2 z.is) z.same knows.holds;
-      objects = λ q own_q. points_at_on last new (table q) (write_of x.store.changes q)
-          (λ t w t_is w_is pt. pointer_at_on rack area went shared owns a b last new m shard before after there drifts still.valid is goes (all_of owns) (all_of owns) table seq floor knows.pieces x known q t w own_q (pt.object_is ∙ write_object x.store.changes q w w_is)
-          (λ same live. live_key rack before after t drifts.valid still.valid still.part_is (still.held (key_of t)) live) pt) (knows.objects q own_q);
-      seq = knows.seq;
-      floor = knows.floor;
+      but_it = record {
+        each = each_on rack area went shared owns a b last new m shard before after there drifts still.valid is goes (all_of owns) (all_of owns) table seq floor knows.pieces x knows.but_it z.z z.now it;
+        holds = own_drifts owns x m y.0 z.z knows.pieces z.now y.1 (found_later rack area shared owns shard before drifts (part_in x m) (knows.pieces m) z.now y.0 z.z y.2 z.is)
+            (found_drops rack area shared owns shard before drifts (part_in x m) (knows.pieces m) z.now y.0 z.z y.2 z.is) z.same knows.but_it.holds;
+        objects = λ q own_q. points_at_on last new (table q) (write_of x.store.changes q)
+            (λ t w t_is w_is pt. pointer_at_on rack area went shared owns a b last new m shard before after there drifts still.valid is goes (all_of owns) (all_of owns) table seq floor knows.pieces x knows.but_it q t w own_q (pt.object_is ∙ write_object x.store.changes q w w_is)
+            (λ same live. live_key rack before after t drifts.valid still.valid still.part_is (still.held (key_of t)) live) pt) (knows.but_it.objects q own_q);
+        seq = knows.but_it.seq;
+        floor = knows.but_it.floor;
+      };
     };
   }

@@ -37,6 +37,7 @@ module _ {S : Type 0} (between : S → ℕ → Metaslab → Metaslab → Metasla
       there = f.2.there;
       sees = f.2.sees;
       acts = f.2.acts;
+      still = f.2.still;
       goes = f.2.goes;
       made = ap (λ (s : State). record s { store = store }) f.2.made;
     },

@@ -92,20 +92,22 @@ module _ {R A : Type 0} (rack : racks.Ghosts R) (area : areas.Ghosts A) where
   pub knows_all : (pool : Pool R A) (x : State) → Represents rack area pool x → Knows rack area all (left_in pool) (table_in pool) pool.own.seq pool.own.floor x
   knows_all pool x r = record {
     pieces = s.pieces;
-    each = λ m shard at. (let z = metaslab_of rack area pool x s m shard at in (z.y, z.at, z.is));
-    holds = record {
-      holds = λ c b. subst (λ cs. HoldsObjects x.geometry c (record x.store { changes = cs }) (blocks_of x.metaslabs) s.pieces) (sym (all_own x.store.changes)) (record {
-        stores = commit_kept sha256 x.committed x.store.changes (blocks_of x.metaslabs) (blocks_of x.metaslabs) s.holds.stores c (low c b) (λ m k. inl refl);
-        floors = s.holds.floors;
-        settled = s.holds.settled;
-        numbered = s.holds.numbered;
-        bytes = s.holds.bytes;
-      });
-      only = λ m k h at live. subst (λ cs. IsLastAt m k (write_of cs k.object)) (sym (all_own x.store.changes)) (r.only m k h at live);
+    but_it = record {
+      each = λ m shard at. (let z = metaslab_of rack area pool x s m shard at in (z.y, z.at, z.is));
+      holds = record {
+        holds = λ c b. subst (λ cs. HoldsObjects x.geometry c (record x.store { changes = cs }) (blocks_of x.metaslabs) s.pieces) (sym (all_own x.store.changes)) (record {
+          stores = commit_kept sha256 x.committed x.store.changes (blocks_of x.metaslabs) (blocks_of x.metaslabs) s.holds.stores c (low c b) (λ m k. inl refl);
+          floors = s.holds.floors;
+          settled = s.holds.settled;
+          numbered = s.holds.numbered;
+          bytes = s.holds.bytes;
+        });
+        only = λ m k h at live. subst (λ cs. IsLastAt m k (write_of cs k.object)) (sym (all_own x.store.changes)) (r.only m k h at live);
+      };
+      objects = λ o mine. points_in pool.metaslabs.shards.items (table_in pool o) (write_of x.store.changes o) (s.objects o);
+      seq = s.seq;
+      floor = s.floor;
     };
-    objects = λ o mine. points_in pool.metaslabs.shards.items (table_in pool o) (write_of x.store.changes o) (s.objects o);
-    seq = s.seq;
-    floor = s.floor;
   }
     where
       s : Stands rack area pool (table_in pool) x

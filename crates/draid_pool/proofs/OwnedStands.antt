@@ -206,11 +206,11 @@ module _ {R A : Type 0} (rack : racks.Ghosts R) (area : areas.Ghosts A) where
 
       holds : HoldsObjects x.geometry x.committed store (blocks_of zs) k.pieces
       holds = subst (λ cs. HoldsObjects x.geometry x.committed (record store { changes = cs }) (blocks_of zs) k.pieces) (all_own store.changes)
-          (k.holds.holds x.committed (λ m u at. (let same = committed m u at in omega (arith, same))))
+          (k.but_it.holds.holds x.committed (λ m u at. (let same = committed m u at in omega (arith, same))))
 
       floor_is : store.floor ≤ x.committed + 2
       floor_is =
-          let own = k.floor in
+          let own = k.but_it.floor in
           let next = w.floor in
           let group = pool_group rack area pool x r in
           let same = ap (λ u. group_of (kept_of u)) uber in
@@ -224,12 +224,12 @@ module _ {R A : Type 0} (rack : racks.Ghosts R) (area : areas.Ghosts A) where
           many = many ∙ s.many;
           shards = (let a = w.many in let b = s.many in let c = many in let d = ap (λ (g : Geometry). g.props.metaslabs) (s.geometry ∙ sym geometry) in omega (arith, a, b, c, d));
           pieces = k.pieces;
-          each = λ m shard u a b. (let z = k.each m shard a in subst (λ y. IsMetaslab rack area (part_in x m) (k.pieces m) shard y) (some_of (slice_get zs m) z.0 u z.1 b) z.2);
+          each = λ m shard u a b. (let z = k.but_it.each m shard a in subst (λ y. IsMetaslab rack area (part_in x m) (k.pieces m) shard y) (some_of (slice_get zs m) z.0 u z.1 b) z.2);
           holds = holds;
-          groups = record { committed = committed; next = floor_is; last = (let own = k.floor in let low = w.low in omega (arith, own, low)) };
-          objects = λ object. points_out new.metaslabs.shards.items (table_in new object) (write_of store.changes object) (k.objects object refl);
-          seq = k.seq;
-          floor = k.floor;
+          groups = record { committed = committed; next = floor_is; last = (let own = k.but_it.floor in let low = w.low in omega (arith, own, low)) };
+          objects = λ object. points_out new.metaslabs.shards.items (table_in new object) (write_of store.changes object) (k.but_it.objects object refl);
+          seq = k.but_it.seq;
+          floor = k.but_it.floor;
           uber = uber_stays rack area pool new x zs store uber s.uber;
           images = λ group m u may some at. (let z = each m u at in image_kept group z.0 u z.2.images (s.images group m z.0 may some z.1));
           leaves = record {
@@ -240,7 +240,7 @@ module _ {R A : Type 0} (rack : racks.Ghosts R) (area : areas.Ghosts A) where
           versions = s.versions;
           alike = λ m u at. (let z = each m u at in alike_stays s.shared z.0.world u.world z.2.images (s.alike m z.0 z.1));
         };
-        only = λ m key h there live. subst (λ cs. IsLastAt m key (write_of cs key.object)) (all_own store.changes) (k.holds.only m key h there live);
+        only = λ m key h there live. subst (λ cs. IsLastAt m key (write_of cs key.object)) (all_own store.changes) (k.but_it.holds.only m key h there live);
       }
 
     -- a command of the only thread is one of the pool

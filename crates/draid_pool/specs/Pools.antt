@@ -1,5 +1,5 @@
 -- For which states a pool stands.
-use Rattle.std.specs.Prelude.{◌≡◌, ◌==◌, ◌<◌, ◌⊎◌, ℕ, Option, Some, nat_eq, length, slice_get, if◌then◌else◌, ◌↔◌, List, Contains, IsSome}
+use Rattle.std.specs.Prelude.{◌≡◌, ℕ, Option, Some, nat_eq, length, slice_get, ◌↔◌, List, Contains, IsSome}
 use Rattle.std.specs.HashMap.{get}
 use Rattle.draid_rack.specs.declared.Rack as racks
 use Rattle.draid_area.specs.declared.Area as areas
@@ -9,7 +9,7 @@ use Rattle.draid_machine.specs.declared.names.Held.{Held}
 use Rattle.draid_machine.specs.declared.names.Key.{Key}
 use Rattle.draid_machine.specs.declared.names.Stage.TheVariants.{Live}
 use Rattle.draid_segments.specs.Segments.{Pieces}
-use Rattle.draid_objects.specs.Changes.{Write, write_of}
+use Rattle.draid_objects.specs.Changes.{write_of}
 use Rattle.draid_shard.specs.Part.{Part}
 use Rattle.draid_shard.specs.declared.shard.Shard.{Shard}
 use Rattle.draid_session.specs.State.{Metaslab, State}
@@ -54,15 +54,6 @@ pub record Stands {R A : Type 0} (rack : racks.Ghosts R) (area : areas.Ghosts A)
 pub record Represents {R A : Type 0} (rack : racks.Ghosts R) (area : areas.Ghosts A) (pool : Pool R A) (x : State) : Type 0 where
   pub stands : Stands rack area pool (λ object. get nat_eq pool.own.objects object) x
   pub only : (m : ℕ) (k : Key) (h : Held) → blocks_of x.metaslabs m k ≡ Some h → h.stage ≡ Live → IsLastAt m k (write_of x.store.changes k.object)
-
--- An object's new block is live, and its pointer isn't in the table yet: that has still the pointer of the block that the object had before, if it had one, which
--- is live too.
-pub record Awaits {R A : Type 0} (rack : racks.Ghosts R) (area : areas.Ghosts A) (pool : Pool R A) (object : ℕ) (pointer : Pointer) (earlier : Option Write) (x : State) : Type 0 where
-  pub stands : Stands rack area pool (λ o. if o == object then Some pointer else get nat_eq pool.own.objects o) x
-  pub had : PointsTo pool.metaslabs.shards.items (get nat_eq pool.own.objects object) earlier
-  pub older : (write : Write) → earlier ≡ Some write → (write.object ≡ object) × (write.seq < pointer.seq)
-  pub only : (m : ℕ) (k : Key) (h : Held) → blocks_of x.metaslabs m k ≡ Some h → h.stage ≡ Live
-      → IsLastAt m k (write_of x.store.changes k.object) ⊎ IsLastAt m k earlier
 
 -- the group that a pool's uberblock names
 abbrev pub group_in : {R A : Type 0} → Pool R A → ℕ

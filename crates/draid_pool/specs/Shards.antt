@@ -1,5 +1,5 @@
 -- What becomes of one metaslab as a block is written to its shard, or freed, fetched or damaged there.
-use Rattle.std.specs.Prelude.{◌≡◌, ◌≤◌, ℕ, List, [], ◌∷◌, Some, None, IsSome, max}
+use Rattle.std.specs.Prelude.{◌≡◌, ◌≤◌, ℕ, List, [], ◌∷◌, Some, IsSome, max}
 use Rattle.draid_names.specs.declared.pointer.Pointer.{Pointer}
 use Rattle.draid_names.specs.declared.numbers.TheConstants.{LAST_NUMBER}
 use Rattle.draid_rack.specs.declared.Rack as racks
@@ -12,10 +12,8 @@ use Rattle.draid_machine.specs.After.{set_held}
 use Rattle.draid_machine.specs.State as machine
 use Rattle.draid_machine.specs.Step.{Fits}
 use Rattle.draid_segments.specs.Segments.{Pieces}
-use Rattle.draid_entries.specs.Entries.{entry_at}
-use Rattle.draid_entries.specs.Maps.{key_of, staged}
+use Rattle.draid_entries.specs.Maps.{key_of}
 use Rattle.draid_shard.specs.Rooms.{TakesBlocks}
-use Rattle.draid_shard.specs.Changes.{SetsBlock}
 use Rattle.draid_shard.specs.Part.{Part, layout_in}
 use Rattle.draid_shard.specs.States.{layout_by}
 use Rattle.draid_shard.specs.declared.shard.Shard.{Shard}
@@ -56,23 +54,6 @@ pub record HasRoom {R A : Type 0} (need : ℕ) (shard : Shard R A) (w : machine.
   pub first : ℕ
   pub fits : Fits (layout_by shard) w.core first need
 
--- ---- writes
-
--- A block of this write came where none began, and nothing else changed.
-pub record StoresBlock {R A : Type 0} (old new : Shard R A) (object seq floor : ℕ) (pointer : Pointer) : Type 0 where
-  pub key : key_of pointer ≡ record { object = object; seq = seq }
-  pub metaslab_is : pointer.metaslab ≡ old.number
-  pub birth_is : pointer.birth ≡ max old.open_group floor
-  pub was : entry_at old.entries pointer.first ≡ None
-  pub sets : SetsBlock old new pointer (Some (staged Live pointer))
-
--- nothing begins where a write was begun and given up, as none did before
-pub record DropsBlock {R A : Type 0} (old new : Shard R A) (floor birth : ℕ) : Type 0 where
-  pub birth_is : birth ≡ max old.open_group floor
-  pub pointer : Pointer
-  pub was : entry_at old.entries pointer.first ≡ None
-  pub sets : SetsBlock old new pointer None
-
 -- ---- freeing
 
 -- The block of a pointer was freed, in the greater of the group that was open and a floor. All else is as it was.
@@ -92,5 +73,3 @@ pub record FreesIn (m : ℕ) (pointer : Pointer) (floor group : ℕ) (x : Metasl
 pub record SameBlocks (x y : Metaslab) : Type 0 where
   pub held : y.world.core.held ≡ x.world.core.held
   pub committed : y.world.committed ≡ x.world.committed
-
--- ---- the pool's metaslabs

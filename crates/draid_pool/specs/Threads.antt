@@ -135,11 +135,7 @@ pub record KnowsBut {R A : Type 0} (rack : racks.Ghosts R) (area : areas.Ghosts 
 -- none of its writes is under way
 pub record Knows {R A : Type 0} (rack : racks.Ghosts R) (area : areas.Ghosts A) (owns : ℕ → Bool) (last : ℕ → Option (Shard R A)) (table : ℕ → Option Pointer) (number group : ℕ) (x : State) : Type 0 where
   pub pieces : ℕ → Pieces
-  pub each : (m : ℕ) (shard : Shard R A) → last m ≡ Some shard → (y : Metaslab) × (slice_get x.metaslabs m ≡ Some y) × IsMetaslab rack area (part_in x m) (pieces m) shard y
-  pub holds : HoldsOwn owns x pieces
-  pub objects : (object : ℕ) → owns object ≡ true → PointsAt last (table object) (write_of x.store.changes object)
-  pub seq : x.store.seq ≡ number
-  pub floor : x.store.floor ≡ group
+  pub but_it : KnowsBut rack area owns (all_of owns) (all_of owns) last table number group pieces x
 
 -- One hold of a thread's own: of a metaslab that stood for the one which was found, behind others' holds since this thread left it.
 pub record Between {R A S : Type 0} (rack : racks.Ghosts R) (area : areas.Ghosts A) (went : S → ℕ → Shard R A → Shard R A → S → Type 0) (shared : Bool) (part : ℕ → Part) (a : S) (m : ℕ) (old found left : Metaslab) (b : S) : Type 0 where

@@ -37,11 +37,6 @@ pub record IsPointer {R A : Type 0} (pool : Pool R A) (object : ℕ) (pointer : 
   pub there : slice_get pool.metaslabs.shards.items pointer.metaslab ≡ Some shard
   pub live : IsLive shard pointer
 
--- and is that of a later write than the object's pointer in the table
-pub record IsNewer {R A : Type 0} (pool : Pool R A) (object : ℕ) (pointer : Pointer) : Type 0 where
-  pub is : IsPointer pool object pointer
-  pub newer : (earlier : Pointer) → get nat_eq pool.own.objects object ≡ Some earlier → earlier.seq < pointer.seq
-
 -- What each call needs and keeps. A pool is whole also where nothing is known of what its devices held as it was imported. All its metaslabs have the same arms.
 -- But for its version its uberblock has the pool's layout.
 pub record IsWhole {R A : Type 0} (rack : racks.Ghosts R) (area : areas.Ghosts A) (pool : Pool R A) : Type 0 where

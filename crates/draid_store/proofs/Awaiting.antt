@@ -57,7 +57,7 @@ module _ {R A S : Type 0} (rack : racks.Ghosts R) (area : areas.Ghosts A) (went 
       holds = On (view_of p.metaslab z.z) Looked ∷ [];
       reached = with_metaslab x p.metaslab z.z;
       store = x.store;
-      follows = follows rack area went shared owns a b last new p.metaslab shard before after there drifts still.valid is goes (all_of owns) lives table seq floor known.pieces x known.but_it Looked z.z z.now it (looks (layout_in (part_in x p.metaslab)) z.z);
+      follows = follows rack area went shared owns a b last new p.metaslab shard before after there drifts still.valid is goes (all_of owns) lives table seq floor known.pieces x known.but_it Looked z.z z.now it (looks (layout_in (part_in x p.metaslab)) z.z) (λ same. refl);
       done = (refl, ((view_of p.metaslab z.z, refl), tt));
       knows = record {
         pieces = turn p.metaslab z.now known.pieces;

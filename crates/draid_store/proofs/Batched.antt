@@ -1,12 +1,14 @@
 -- The blocks of one object after another, and the answers that solve them.
-use Rattle.std.proofs.Common.{◌≡◌, ◌+◌, ◌<◌, ◌≤◌, ◌⊎◌, ◌∙◌, ◌++◌, ℕ, suc, List, [], ◌∷◌, Option, Some, None, Ok, Err, arith, refl, sym, ap, subst, inl, inr, length, length-append, vec_len}
+use Rattle.std.proofs.Common.{◌≡◌, ◌+◌, ◌<◌, ◌≤◌, ◌⊎◌, ◌∙◌, ◌++◌, ℕ, Bool, suc, List, [], ◌∷◌, Option, Some, None, Ok, Err, arith, refl, sym, ap, subst, inl, inr, length, length-append, vec_len}
 use Rattle.std.specs.Prelude.{All}
 use Rattle.std.specs.List.{AllZip}
 use Rattle.std.proofs.lemmas.List.{append-nil, append_assoc}
 use Rattle.std.proofs.lemmas.List.Elements.{All-nil, All-push}
 use Rattle.sha2.specs.declared.Sha256.{Sha256}
+use Rattle.draid_names.specs.declared.pointer.Pointer.{Pointer}
 use Rattle.draid_names.specs.declared.refusal.ObjectFault.{ObjectFault}
 use Rattle.draid_names.specs.declared.refusal.ObjectFault.TheVariants as object
+use Rattle.draid_names.specs.declared.refusal.ObjectFault.TheVariants.{NoMemory}
 use Rattle.draid_rack.specs.declared.Rack as racks
 use Rattle.draid_area.specs.declared.Area as areas
 use Rattle.draid_spec.specs.declared.layout.Geometry.{Geometry}
@@ -18,28 +20,36 @@ use Rattle.draid_block.specs.declared.many.Solve.{Solve}
 use Rattle.draid_block.specs.declared.many.Solve.TheVariants.{Bytes, Unreadable}
 use Rattle.draid_block.specs.declared.solve.Fetched.{Fetched}
 use Rattle.draid_objects.specs.Changes.{Write, write_of}
+use Rattle.draid_shard.specs.declared.shard.Shard.{Shard}
 use Rattle.draid_session.specs.Does.{IsOne}
-use Rattle.draid_session.specs.Follows.{Follows}
 use Rattle.draid_session.specs.Holds.{Hold}
+use Rattle.draid_session.specs.Looks.{OnlyLooks}
 use Rattle.draid_session.specs.Reads as reads
 use Rattle.draid_session.specs.State.{State, Store}
-use Rattle.draid_store.specs.Answers.{FetchIs, IsFetchOf, ReadDoes, Unfetched, reading_of, FetchLeads}
-use Rattle.draid_store.specs.Batches.{AddIs, AreBytes, EndsBatch, FeedsAll, FetchesBatch, FetchesBlocks, FirstUnread}
-use Rattle.draid_pool.specs.Carries.{CarriesOut}
-use Rattle.draid_pool.specs.Pools.{Represents}
+use Rattle.draid_store.specs.Answers.{FetchDoes, FetchIs, IsFetchOf, NoFetch, ReadDoes, reading_of}
+use Rattle.draid_store.specs.Batches.{AddIs, AddTries, AreBytes, EndsBatch, FeedsAll, FetchesBatch, FetchesBlocks, FirstUnread}
+use Rattle.draid_store.specs.Fetching.{ButLooks, HaveLayout}
 use Rattle.draid_store.specs.declared.fault.SumFault.{SumFault}
-use Rattle.draid_pool.specs.declared.pool.Pool.{Pool}
 use Rattle.draid_store.specs.declared.summing.Batch.{Batch}
-use Rattle.draid_store.proofs.ReadSteps.{look_at, looks_on, reads_worn}
-use Rattle.draid_pool.proofs.Steps.{SameLayout, carried, follows_on, own_of, same_layout, settled}
+use Rattle.draid_store.specs.PointerSums.{BlocksOf}
+use Rattle.draid_store.specs.Pointers.{FetchFinds}
+use Rattle.draid_turn.specs.Calls.{Lock}
+use Rattle.draid_pool.specs.declared.cell.Cell.{Cell}
+use Rattle.draid_pool.specs.Threads.{AllStay, IsWholeBy, Knows, LeadsBy}
+use Rattle.draid_pool.proofs.HeldBy.{stay_same, stay_then}
+use Rattle.draid_pool.proofs.Joining.{Both, leads_then}
+use Rattle.draid_pool.proofs.Steps.{SameLayout, own_of}
+use Rattle.draid_store.proofs.ColumnSteps.{leads_as}
+use Rattle.draid_store.proofs.PointedSums.{blocks_more}
+use Rattle.draid_store.proofs.QuietWhole.{layout_stays}
 use Rattle.draid_store.proofs.Sums.{gives_length}
 
 -- ---- fetching
 
 -- what was fetched with the same layout and the same of the thread's own
-fetch_own : (x y : State) (o : ℕ) (fetched : Fetched) (holds : List Hold) (store : Store) → SameLayout x y → FetchIs y o fetched holds store → FetchIs x o fetched holds x.store
+fetch_own : (x y : State) (o : ℕ) (fetched : Fetched) (holds : List Hold) (store : Store) → SameLayout x y → FetchIs y o fetched holds store → FetchIs x o fetched holds store
 fetch_own x y o fetched holds store s f = record {
-  store = refl;
+  store = f.store ∙ s.store;
   block = subst (λ (g : Geometry). IsFetched (cut_of g) fetched) s.geometry f.block;
   one = own_of x y (λ g p t. IsOne (λ hold. (w : Write) × (absent : List ℕ) × (write_of t.changes o ≡ Some w) × reads.Fetches g p w hold absent) holds) s f.one;
   answers = answers;
@@ -48,9 +58,16 @@ fetch_own x y o fetched holds store s f = record {
     back : (solve : Solve) → IsSolved (cut_of x.geometry) fetched solve → IsSolved (cut_of y.geometry) fetched solve
     back solve is = subst (λ (g : Geometry). IsSolved (cut_of g) fetched solve) (sym s.geometry) is
 
-    answers : (solve : Solve) → IsSolved (cut_of x.geometry) fetched solve → ReadDoes x o (reading_of solve) holds x.store
-    answers (Bytes bytes) is = (refl, own_of x y (λ g p t. IsOne (reads.Gives g p t o bytes.items) holds) s (f.answers (Bytes bytes) (back (Bytes bytes) is)).1)
-    answers (Unreadable absent tried) is = (refl, own_of x y (λ g p t. IsOne (reads.Loses g p t o absent tried) holds) s (f.answers (Unreadable absent tried) (back (Unreadable absent tried) is)).1)
+    answers : (solve : Solve) → IsSolved (cut_of x.geometry) fetched solve → ReadDoes x o (reading_of solve) holds store
+    answers (Bytes bytes) is = (f.store ∙ s.store, own_of x y (λ g p t. IsOne (reads.Gives g p t o bytes.items) holds) s (f.answers (Bytes bytes) (back (Bytes bytes) is)).1)
+    answers (Unreadable absent tried) is = (f.store ∙ s.store, own_of x y (λ g p t. IsOne (reads.Loses g p t o absent tried) holds) s (f.answers (Unreadable absent tried) (back (Unreadable absent tried) is)).1)
+
+-- so it is where nothing was
+none_own : (x y : State) (o : ℕ) (why : ObjectFault) (holds : List Hold) → SameLayout x y → NoFetch y o why holds → NoFetch x o why holds
+none_own x y o object.NoObject holds s is = own_of x y (λ g p t. (write_of t.changes o ≡ None) × (holds ≡ [])) s is
+none_own x y o (object.Unreadable absent tried) holds s is = is
+none_own x y o object.Worn holds s is = own_of x y (λ g p t. IsOne (reads.ReadsWorn g p t o) holds) s is
+none_own x y o object.NoMemory holds s is = is
 
 fetches_more : (x : State) (first object : ℕ) (blocks : List Fetched) (block : Fetched) (front back : List Hold) → first + length blocks ≡ object → FetchesBlocks x first blocks front
     → FetchIs x object block back x.store → FetchesBlocks x first (blocks ++ block ∷ []) (front ++ back)
@@ -60,9 +77,6 @@ fetches_more x first object (b ∷ bs) block front back at is next =
     (is.0, is.1 ++ back, ap (λ hs. hs ++ back) is.2 ∙ append_assoc is.0 is.1 back, is.3, fetches_more x (first + 1) object bs block is.1 back (omega (arith, at)) is.4 next)
 
 -- the blocks of a layout that were fetched
-pub none_fetched : (cut : Cut) (blocks : List Fetched) → blocks ≡ [] → All (IsFetched cut) blocks
-none_fetched cut blocks none = subst (All (IsFetched cut)) (sym none) (All-nil (IsFetched cut))
-
 pub more_fetched : (cut : Cut) (blocks blocks' : List Fetched) (block : Fetched) → All (IsFetched cut) blocks → IsFetched cut block → blocks' ≡ blocks ++ block ∷ [] → All (IsFetched cut) blocks'
 more_fetched cut blocks blocks' block all one more = subst (All (IsFetched cut)) (sym more) (All-push (IsFetched cut) blocks block all one)
 
@@ -96,15 +110,30 @@ fetched_all x first (b ∷ bs) holds is =
       (let all = ap length is.2 in omega (arith, all, long, n, m)),
     )
 
--- behind the blocks that were kept
-behind_fetches : (x reached : State) (first count many : ℕ) (fault : Option ObjectFault) (holds : List Hold) → EndsBatch x reached first count many fault holds
-    → FetchesOf x (first + many) holds × (many + length holds ≤ count)
-behind_fetches x reached first count many None holds is =
-    (subst (FetchesOf x (first + many)) (sym is.2) tt, (let none = ap length is.2 in let within = is.1 in omega (arith, none, within)))
-behind_fetches x reached first count many (Some why) holds (below, inl is) =
-    (subst (FetchesOf x (first + many)) (sym is.0) tt, (let none = ap length is.0 in omega (arith, none, below)))
-behind_fetches x reached first count many (Some why) holds (below, inr is) =
-    (let one = one_fetch x (first + many) holds is.1 in (one.0, (let n = one.1 in omega (arith, n, below))))
+-- behind the blocks that were kept some were fetched, or there was a look
+record Behind (x : State) (o : ℕ) (holds : List Hold) : Type 0 where
+  pub front : List Hold
+  pub back : List Hold
+  pub are : holds ≡ front ++ back
+  pub fetches : FetchesOf x o front
+  pub looks : OnlyLooks back
+
+behind_none : (x : State) (o : ℕ) (why : ObjectFault) (holds : List Hold) → NoFetch x o why holds → Behind x o holds × (length holds ≤ 1)
+behind_none x o object.NoObject holds is = (record { front = []; back = []; are = is.1; fetches = tt; looks = tt }, (let none = ap length is.1 in omega (arith, none)))
+behind_none x o (object.Unreadable absent tried) holds is = absurd is
+behind_none x o object.Worn holds is =
+    (record { front = []; back = holds; are = refl; fetches = tt; looks = subst OnlyLooks (sym is.1) ((is.2.v, is.2.looked.looked), tt) }, (let one = ap length is.1 in omega (arith, one)))
+behind_none x o object.NoMemory holds is =
+    (record { front = []; back = holds; are = refl; fetches = tt; looks = subst OnlyLooks (sym is.1) (is.2, tt) }, (let one = ap length is.1 in omega (arith, one)))
+
+behind_fetches : (x : State) (first count many : ℕ) (fault : Option ObjectFault) (holds : List Hold) → EndsBatch x first count many fault holds → Behind x (first + many) holds × (many + length holds ≤ count)
+behind_fetches x first count many None holds is =
+    (record { front = []; back = []; are = is.2; fetches = tt; looks = tt }, (let none = ap length is.2 in let within = is.1 in omega (arith, none, within)))
+behind_fetches x first count many (Some why) holds (below, inl is) =
+    (let z = behind_none x (first + many) why holds is in (z.0, (let short = z.1 in omega (arith, short, below))))
+behind_fetches x first count many (Some why) holds (below, inr is) =
+    (let one = one_fetch x (first + many) holds is.1 in
+    (record { front = holds; back = []; are = sym (append-nil holds); fetches = one.0; looks = tt }, (let n = one.1 in omega (arith, n, below))))
 
 -- ---- solving
 pub solved_length : (cut : Cut) (blocks : List Fetched) (solves : List Solve) → AllZip (IsSolved cut) blocks solves → length solves ≡ length blocks
@@ -194,250 +223,280 @@ lost_in x first (b ∷ bs) (Bytes bytes ∷ ss) after (c ∷ cs) absent tried ho
 
 -- ---- why an object gives no bytes
 
--- with looks at the state that was reached
-record Stop (x reached : State) (o : ℕ) (why : ObjectFault) (back : List Hold) : Type 0 where
-  pub extra : List Hold
-  pub follows : Follows extra reached reached
-  pub stops : reads.StopsFor x.geometry x.perms x.store o why (back ++ extra)
-  pub short : length (back ++ extra) ≤ 1
+stop_none : (x : State) (o : ℕ) (why : ObjectFault) (back : List Hold) → NoFetch x o why back → reads.StopsFor x.geometry x.perms x.store o why back
+stop_none x o object.NoObject back is = is
+stop_none x o (object.Unreadable absent tried) back is = absurd is
+stop_none x o object.Worn back is = is
+stop_none x o object.NoMemory back is = ([], back, refl, tt, subst OnlyLooks (sym is.1) (is.2, tt))
 
-stop_none : (x reached : State) (o : ℕ) (why : ObjectFault) → SameLayout x reached → Unfetched reached o why → Stop x reached o why []
-stop_none x reached o object.NoObject s is = record { extra = []; follows = refl; stops = (own_of x reached (λ g p t. write_of t.changes o ≡ None) s is, refl); short = omega arith }
-stop_none x reached o (object.Unreadable absent tried) s is = absurd is
-stop_none x reached o object.Worn s is = record {
-  extra = look_at reached o is ∷ [];
-  follows = looks_on reached is.w.metaslab is.y is.there;
-  stops = (look_at reached o is, refl, own_of x reached (λ g p t. reads.ReadsWorn g p t o (look_at reached o is)) s (reads_worn reached o is));
-  short = omega arith;
-}
-stop_none x reached o object.NoMemory s is = record { extra = []; follows = refl; stops = ([], [], refl, tt, tt); short = omega arith }
-
-stop_one : (x reached : State) (o : ℕ) (why : ObjectFault) (back : List Hold) → why ≡ object.NoMemory → IsOne (IsFetchOf x o) back → Stop x reached o why back
-stop_one x reached o why back is one =
-    let z = one_fetch x o back one in
-    record {
-      extra = [];
-      follows = refl;
-      stops = subst (λ w. reads.StopsFor x.geometry x.perms x.store o w (back ++ [])) (sym is) (back, [], refl, z.0, tt);
-      short = (let n = z.1 in let long = length-append back [] in omega (arith, n, long));
-    }
-
-stop_at : (x reached : State) (o : ℕ) (why : ObjectFault) (back : List Hold) → SameLayout x reached
-    → ((back ≡ []) × Unfetched reached o why) ⊎ ((why ≡ object.NoMemory) × IsOne (IsFetchOf x o) back) → Stop x reached o why back
-stop_at x reached o why back s (inl is) = subst (Stop x reached o why) (sym is.0) (stop_none x reached o why s is.1)
-stop_at x reached o why back s (inr is) = stop_one x reached o why back is.0 is.1
+stop_at : (x : State) (o : ℕ) (why : ObjectFault) (back : List Hold) → NoFetch x o why back ⊎ ((why ≡ object.NoMemory) × IsOne (IsFetchOf x o) back)
+    → reads.StopsFor x.geometry x.perms x.store o why back × (length back ≤ 1)
+stop_at x o why back (inl is) = (stop_none x o why back is, (behind_none x o why back is).1)
+stop_at x o why back (inr is) =
+    (let one = one_fetch x o back is.1 in
+    (subst (λ w. reads.StopsFor x.geometry x.perms x.store o w back) (sym is.0) (back, [], sym (append-nil back), one.0, tt), (let n = one.1 in omega (arith, n))))
 
 -- ---- a batch
-module _ {R A : Type 0} (rack : racks.Ghosts R) (area : areas.Ghosts A) where
-  -- the blocks of the objects so far were fetched
-  pub record Fetching (new : Pool R A) (x : State) (first object : ℕ) (blocks : List Fetched) : Type 0 where
-    pub many : first + length blocks ≡ object
-    pub holds : List Hold
-    pub reached : State
-    pub follows : Follows holds x reached
-    pub fetches : FetchesBlocks x first blocks holds
-    pub represents : Represents rack area new reached
 
-  pub fetching_none : (old : Pool R A) (x : State) (first : ℕ) → Represents rack area old x → Fetching old x first first []
-  fetching_none old x first is = record { many = omega arith; holds = []; reached = x; follows = refl; fetches = refl; represents = is }
+-- the blocks of the objects so far were fetched
+abbrev pub FetchedSome : State → ℕ → List Fetched → List Hold → Store → Type 0
+FetchedSome x first blocks holds store = (store ≡ x.store) × FetchesBlocks x first blocks holds
 
-  pub fetching_more : (mid new : Pool R A) (x : State) (first object : ℕ) (blocks blocks' : List Fetched) (block : Fetched) → Fetching mid x first object blocks
-      → ((y : State) → Represents rack area mid y → FetchLeads rack area new y object (Ok block)) → blocks' ≡ blocks ++ block ∷ [] → Fetching new x first (object + 1) blocks'
-  fetching_more mid new x first object blocks blocks' block f moves pushed =
-      let c : CarriesOut rack area new f.reached (FetchIs f.reached object block) = moves f.reached f.represents in
-      let d = fetch_own x f.reached object block c.holds c.store (same_layout f.holds x f.reached f.follows) c.done in
-      let many = f.many in
-      record {
-        many = (let long = ap length pushed ∙ length-append blocks (block ∷ []) in omega (arith, many, long));
-        holds = f.holds ++ c.holds;
-        reached = c.reached;
-        follows = follows_on f.holds c.holds x f.reached c.reached f.follows c.follows;
-        fetches = subst (λ (bs : List Fetched). FetchesBlocks x first bs (f.holds ++ c.holds)) (sym pushed) (fetches_more x first object blocks block f.holds c.holds f.many f.fetches d);
-        represents = settled rack area new f.reached (FetchIs f.reached object block) c c.done.store;
-      }
+module _ {R A S : Type 0} (rack : racks.Ghosts R) (area : areas.Ghosts A) (went : S → ℕ → Shard R A → Shard R A → S → Type 0) (shared : Bool) (owns : ℕ → Bool) (table : ℕ → Option Pointer) (seq floor : ℕ) where
+  -- what is known as a thread's metaslabs were left so
+  abbrev pub Known : (ℕ → Option (Shard R A)) → State → Type 0
+  Known last = Knows rack area owns last table seq floor
 
-  -- the batch ends where an object gives no block
-  pub fetching_ends : (mid new : Pool R A) (x : State) (first count object : ℕ) (blocks : List Fetched) (batch : Batch) (why : ObjectFault) → Fetching mid x first object blocks
-      → object < first + count → batch.blocks.items ≡ blocks → batch.fault ≡ Some why → ((y : State) → Represents rack area mid y → FetchLeads rack area new y object (Err why))
-      → FetchesBatch rack area new x first count batch
-  fetching_ends mid new x first count object blocks batch why f below all fault moves =
-      let d : Represents rack area new f.reached × Unfetched f.reached object why = moves f.reached f.represents in
-      let many = f.many in
-      let ends : EndsBatch x f.reached first count (length blocks) (Some why) [] = (omega (arith, many, below), inl (refl, subst (λ (o : ℕ). Unfetched f.reached o why) (sym many) d.1)) in
-      record {
-        front = f.holds;
-        back = [];
-        reached = f.reached;
-        follows = subst (λ hs. Follows hs x f.reached) (sym (append-nil f.holds)) f.follows;
-        fetches = subst (λ (bs : List Fetched). FetchesBlocks x first bs f.holds) (sym all) f.fetches;
-        ends = subst (λ (o : Option ObjectFault). EndsBatch x f.reached first count (length batch.blocks.items) o []) (sym fault)
-            (subst (λ (bs : List Fetched). EndsBatch x f.reached first count (length bs) (Some why) []) (sym all) ends);
-        represents = d.0;
-      }
+  -- so far, from where a command began
+  abbrev pub Fetching : (last now : ℕ → Option (Shard R A)) → S → S → ℕ → List Fetched → Type 0
+  Fetching last now a b first blocks = (x : State) → Known last x → LeadsBy rack area went shared a b x (FetchedSome x first blocks) (Known now)
 
-  -- memory was wanting for a block that was fetched
-  pub fetching_unkept : (mid new : Pool R A) (x : State) (first count at : ℕ) (blocks : List Fetched) (batch : Batch) (block : Fetched) → Fetching mid x first at blocks
-      → at < first + count → batch.blocks.items ≡ blocks → batch.fault ≡ Some object.NoMemory → ((y : State) → Represents rack area mid y → FetchLeads rack area new y at (Ok block))
-      → FetchesBatch rack area new x first count batch
-  fetching_unkept mid new x first count at blocks batch block f below all fault moves =
-      let c : CarriesOut rack area new f.reached (FetchIs f.reached at block) = moves f.reached f.represents in
-      let d = fetch_own x f.reached at block c.holds c.store (same_layout f.holds x f.reached f.follows) c.done in
-      let many = f.many in
-      let ends : EndsBatch x c.reached first count (length blocks) (Some object.NoMemory) c.holds
-      = (omega (arith, many, below), inr (refl, subst (λ (o : ℕ). IsOne (IsFetchOf x o) c.holds) (sym many) d.one)) in
-      record {
-        front = f.holds;
-        back = c.holds;
-        reached = c.reached;
-        follows = follows_on f.holds c.holds x f.reached c.reached f.follows c.follows;
-        fetches = subst (λ (bs : List Fetched). FetchesBlocks x first bs f.holds) (sym all) f.fetches;
-        ends = subst (λ (o : Option ObjectFault). EndsBatch x c.reached first count (length batch.blocks.items) o c.holds) (sym fault)
-            (subst (λ (bs : List Fetched). EndsBatch x c.reached first count (length bs) (Some object.NoMemory) c.holds) (sym all) ends);
-        represents = settled rack area new f.reached (FetchIs f.reached at block) c c.done.store;
-      }
+  pub fetching_none : (last : ℕ → Option (Shard R A)) (a : S) (first : ℕ) → Fetching last last a a first []
+  fetching_none last a first x known = record { holds = []; reached = x; store = x.store; follows = (refl, refl); done = (refl, refl); knows = known }
+
+  module _ (last now new : ℕ → Option (Shard R A)) (a b c : S) (first object : ℕ) (blocks : List Fetched) (many : first + length blocks ≡ object) (some : Fetching last now a b first blocks) where
+    same_own : (x y : State) (front : List Hold) → y.geometry ≡ x.geometry → y.perms ≡ x.perms → FetchedSome x first blocks front y.store → SameLayout x y
+    same_own x y front geometry perms done = record { geometry = geometry; perms = perms; store = done.0 }
+
+    -- the next one was, too
+    module _ (block : Fetched) (moves : (y : State) → Known now y → LeadsBy rack area went shared b c y (FetchDoes y object (Ok block)) (Known new)) where
+      next : (x : State) → Known last x → LeadsBy rack area went shared a c x (Both rack area went shared a b c x (FetchedSome x first blocks) (Known now) (FetchIs x object block) (Known new)) (Known new)
+      next x known = leads_then rack area went shared a b c x (FetchedSome x first blocks) (Known now) (FetchIs x object block) (Known new) (some x known)
+          (λ y geometry perms front done known_y. leads_as rack area went shared b c y (FetchDoes y object (Ok block)) (FetchIs x object block) (Known new)
+          (λ holds store f. fetch_own x y object block holds store (same_own x y front geometry perms done) f) (moves y known_y))
+
+      pub fetching_more : (blocks' : List Fetched) → blocks' ≡ blocks ++ block ∷ [] → Fetching last new a c first blocks'
+      fetching_more blocks' pushed x known = leads_as rack area went shared a c x (Both rack area went shared a b c x (FetchedSome x first blocks) (Known now) (FetchIs x object block) (Known new)) (FetchedSome x first blocks') (Known new)
+          (λ holds store d. (
+            d.second.store,
+            subst (λ hs. FetchesBlocks x first blocks' hs) (sym d.are) (subst (λ (bs : List Fetched). FetchesBlocks x first bs (d.front ++ d.back)) (sym pushed)
+                (fetches_more x first object blocks block d.front d.back many d.first.1 (subst (λ s. FetchIs x object block d.back s) d.second.store d.second))),
+          )) (next x known)
+
+      -- memory was wanting to keep it
+      pub fetching_unkept : (count : ℕ) (batch : Batch) → object < first + count → batch.blocks.items ≡ blocks → batch.fault ≡ Some NoMemory → (x : State) → Known last x → LeadsBy rack area went shared a c x (FetchesBatch x first count batch) (Known new)
+      fetching_unkept count batch below all is x known = leads_as rack area went shared a c x (Both rack area went shared a b c x (FetchedSome x first blocks) (Known now) (FetchIs x object block) (Known new)) (FetchesBatch x first count batch) (Known new)
+          (λ holds store d. record {
+            same = d.second.store;
+            front = d.front;
+            back = d.back;
+            are = d.are;
+            fetches = subst (λ (bs : List Fetched). FetchesBlocks x first bs d.front) (sym all) d.first.1;
+            ends = subst (λ (o : Option ObjectFault). EndsBatch x first count (length batch.blocks.items) o d.back) (sym is)
+                (subst (λ (bs : List Fetched). EndsBatch x first count (length bs) (Some NoMemory) d.back) (sym all)
+                (omega (arith, many, below), inr (refl, subst (λ (o : ℕ). IsOne (IsFetchOf x o) d.back) (sym many) d.second.one)));
+          }) (next x known)
+
+    -- the batch ends where an object gives no block
+    pub fetching_ends : (count : ℕ) (batch : Batch) (why : ObjectFault) → object < first + count → batch.blocks.items ≡ blocks → batch.fault ≡ Some why
+        → ((y : State) → Known now y → LeadsBy rack area went shared b c y (FetchDoes y object (Err why)) (Known new)) → (x : State) → Known last x → LeadsBy rack area went shared a c x (FetchesBatch x first count batch) (Known new)
+    fetching_ends count batch why below all is moves x known =
+        leads_as rack area went shared a c x (Both rack area went shared a b c x (FetchedSome x first blocks) (Known now) (FetchDoes x object (Err why)) (Known new)) (FetchesBatch x first count batch) (Known new)
+        (λ holds store d. record {
+          same = d.second.0;
+          front = d.front;
+          back = d.back;
+          are = d.are;
+          fetches = subst (λ (bs : List Fetched). FetchesBlocks x first bs d.front) (sym all) d.first.1;
+          ends = subst (λ (o : Option ObjectFault). EndsBatch x first count (length batch.blocks.items) o d.back) (sym is)
+              (subst (λ (bs : List Fetched). EndsBatch x first count (length bs) (Some why) d.back) (sym all)
+              (omega (arith, many, below), inl (subst (λ (o : ℕ). NoFetch x o why d.back) (sym many) d.second.1)));
+        })
+        (leads_then rack area went shared a b c x (FetchedSome x first blocks) (Known now) (FetchDoes x object (Err why)) (Known new) (some x known)
+        (λ y geometry perms front done known_y. leads_as rack area went shared b c y (FetchDoes y object (Err why)) (FetchDoes x object (Err why)) (Known new)
+        (λ holds store f. (f.0 ∙ done.0, none_own x y object why holds (same_own x y front geometry perms done) f.1)) (moves y known_y)))
 
   -- it has blocks enough, or all of them
-  pub fetching_done : (new : Pool R A) (x : State) (first count object : ℕ) (batch : Batch) → Fetching new x first object batch.blocks.items → first < object → object ≤ first + count
-      → batch.fault ≡ None → FetchesBatch rack area new x first count batch
-  fetching_done new x first count object batch f some within fault =
-      let many = f.many in
-      record {
-        front = f.holds;
+  pub fetching_done : (last now : ℕ → Option (Shard R A)) (a b : S) (first count object : ℕ) (batch : Batch) → first + length batch.blocks.items ≡ object → Fetching last now a b first batch.blocks.items → first < object → object ≤ first + count
+      → batch.fault ≡ None → (x : State) → Known last x → LeadsBy rack area went shared a b x (FetchesBatch x first count batch) (Known now)
+  fetching_done last now a b first count object batch many some more within none x known = leads_as rack area went shared a b x (FetchedSome x first batch.blocks.items) (FetchesBatch x first count batch) (Known now)
+      (λ holds store d. record {
+        same = d.0;
+        front = holds;
         back = [];
-        reached = f.reached;
-        follows = subst (λ hs. Follows hs x f.reached) (sym (append-nil f.holds)) f.follows;
-        fetches = f.fetches;
-        ends = subst (λ (o : Option ObjectFault). EndsBatch x f.reached first count (length batch.blocks.items) o []) (sym fault) (omega (arith, many, some), omega (arith, many, within), refl);
-        represents = f.represents;
-      }
+        are = sym (append-nil holds);
+        fetches = d.1;
+        ends = subst (λ (o : Option ObjectFault). EndsBatch x first count (length batch.blocks.items) o []) (sym none) (omega (arith, many, more), omega (arith, many, within), refl);
+      }) (some x known)
 
-  -- what the blocks are solved with
-  batch_layout : (x : State) (first count : ℕ) (batch : Batch) (new : Pool R A) → (b : FetchesBatch rack area new x first count batch) → new.geometry ≡ x.geometry
-  batch_layout x first count batch new b = sym b.represents.stands.geometry ∙ (same_layout (b.front ++ b.back) x b.reached b.follows).geometry
+-- The blocks of the objects so far were fetched, and so much stays of what the thread has.
+pub record BatchAt {R A S : Type 0} (rack : racks.Ghosts R) (area : areas.Ghosts A) (went : S → ℕ → Shard R A → Shard R A → S → Type 0) (shared : Bool) (held locks : List (Lock (Cell R A))) (owns now_owns : ℕ → Bool) (fits : Type 0) (last now : ℕ → Option (Shard R A))
+    (table : ℕ → Option Pointer) (seq floor : ℕ) (a b : S) (first object : ℕ) (blocks : List Fetched) : Type 0 where
+  pub fit : fits
+  pub same_locks : held ≡ locks
+  pub owned : now_owns ≡ owns
+  pub stay : AllStay owns last now
+  pub whole : IsWholeBy rack owns now table seq floor
+  pub fetched : (geometry : Geometry) → HaveLayout geometry last → All (IsFetched (cut_of geometry)) blocks
+  pub many : first + length blocks ≡ object
+  pub found : BlocksOf table first blocks
+  pub step : Fetching rack area went shared owns table seq floor last now a b first blocks
 
-  -- memory was wanting for the answers
-  pub unsolved : (x : State) (first count : ℕ) (batch : Batch) (hasher hasher' : Sha256) (new : Pool R A) → 1 ≤ count → FetchesBatch rack area new x first count batch
-      → CarriesOut rack area new x (AddIs x first count hasher hasher' (Err (record { object = first; why = object.NoMemory })))
-  unsolved x first count batch hasher hasher' new some b =
-      let all = fetched_all x first batch.blocks.items b.front b.fetches in
-      let more = behind_fetches x b.reached first count (length batch.blocks.items) batch.fault b.back b.ends in
-      let n = all.1 in
-      let m = more.1 in
-      let long = length-append b.front b.back in
-      carried rack area new x (b.front ++ b.back) b.reached (AddIs x first count hasher hasher' (Err (record { object = first; why = object.NoMemory }))) b.follows b.represents (
-        refl,
-        record {
-          contents = [];
-          front = [];
-          back = b.front ++ b.back;
-          are = refl;
-          object_is = omega arith;
-          within = omega (arith, some);
-          gives = refl;
-          stops = (
-            b.front ++ b.back,
-            [],
-            sym (append-nil (b.front ++ b.back)),
-            fetches_append x first (first + length batch.blocks.items) b.front b.back (omega (arith, n)) all.0 more.0,
-            tt,
-          );
-          fetched = omega (arith, long, n, m);
-        },
-      )
+module _ {R A S : Type 0} (rack : racks.Ghosts R) (area : areas.Ghosts A) (went : S → ℕ → Shard R A → Shard R A → S → Type 0) (shared : Bool) (held locks next_locks : List (Lock (Cell R A))) (owns now_owns next_owns : ℕ → Bool) (fits next_fits : Type 0) (last now new : ℕ → Option (Shard R A))
+    (table : ℕ → Option Pointer) (seq floor : ℕ) (a b c : S) (first object : ℕ) (blocks : List Fetched) (i : BatchAt rack area went shared held locks owns now_owns fits last now table seq floor a b first object blocks)
+    (fit : next_fits) (same_locks : next_locks ≡ held) (owned : next_owns ≡ now_owns) (stay : AllStay now_owns now new) (whole : IsWholeBy rack now_owns new table seq floor) where
+  stay_on : AllStay owns last new
+  stay_on = stay_then owns last now new i.stay (subst (λ o. AllStay o now new) i.owned stay)
 
-  -- one of the blocks can't be read
-  pub unread_in : (x : State) (first count : ℕ) (batch : Batch) (solves : List Solve) (hasher hasher' : Sha256) (fault : SumFault) (new : Pool R A)
-      → FetchesBatch rack area new x first count batch → AllZip (IsSolved (cut_of new.geometry)) batch.blocks.items solves → FirstUnread first solves fault
-      → CarriesOut rack area new x (AddIs x first count hasher hasher' (Err fault))
-  unread_in x first count batch solves hasher hasher' fault new b solved u =
-      let blocks = batch.blocks.items in
-      let here = subst (λ (g : Geometry). AllZip (IsSolved (cut_of g)) blocks solves) (batch_layout x first count batch new b) solved in
-      let l = lost_in x first blocks u.before u.after u.contents u.absent u.tried b.front b.fetches (subst (AllZip (IsSolved (cut_of x.geometry)) blocks) u.order here) u.are in
-      let more = behind_fetches x b.reached first count (length blocks) batch.fault b.back b.ends in
-      let m = more.1 in
-      let many = l.many in
-      let long = l.long in
-      let n = (fetched_all x first blocks b.front b.fetches).1 in
-      let held = length-append b.front b.back in
-      let lost : SumFault = record { object = first + length u.before; why = object.Unreadable u.absent u.tried } in
-      subst (λ (f : SumFault). CarriesOut rack area new x (AddIs x first count hasher hasher' (Err f))) (sym u.named)
-      (carried rack area new x (b.front ++ b.back) b.reached (AddIs x first count hasher hasher' (Err lost)) b.follows b.represents (
-        refl,
+  pub moves_on : (does : State → List Hold → Store → Type 0) → ((y : State) → Knows rack area now_owns now table seq floor y → LeadsBy rack area went shared b c y (does y) (Knows rack area now_owns new table seq floor))
+      → (y : State) → Knows rack area owns now table seq floor y → LeadsBy rack area went shared b c y (does y) (Knows rack area owns new table seq floor)
+  moves_on does moves = subst (λ o. (y : State) → Knows rack area o now table seq floor y → LeadsBy rack area went shared b c y (does y) (Knows rack area o new table seq floor)) i.owned moves
+
+  -- another one
+  pub batch_more : (block : Fetched) (blocks' : List Fetched) → blocks' ≡ blocks ++ block ∷ [] → FetchFinds (table object) (Ok block) → ((geometry : Geometry) → HaveLayout geometry now → IsFetched (cut_of geometry) block)
+      → ((y : State) → Knows rack area now_owns now table seq floor y → LeadsBy rack area went shared b c y (FetchDoes y object (Ok block)) (Knows rack area now_owns new table seq floor))
+      → BatchAt rack area went shared next_locks locks owns next_owns next_fits last new table seq floor a c first (object + 1) blocks'
+  batch_more block blocks' pushed finds is moves = record {
+    fit = fit;
+    same_locks = same_locks ∙ i.same_locks;
+    owned = owned ∙ i.owned;
+    stay = stay_on;
+    whole = subst (λ o. IsWholeBy rack o new table seq floor) i.owned whole;
+    fetched = λ geometry have. more_fetched (cut_of geometry) blocks blocks' block (i.fetched geometry have) (is geometry (layout_stays owns last now geometry i.stay have)) pushed;
+    many = (let many = i.many in let long = one_longer blocks blocks' block pushed in omega (arith, many, long));
+    found = subst (BlocksOf table first) (sym pushed) (blocks_more table first object blocks block i.many i.found finds);
+    step = fetching_more rack area went shared owns table seq floor last now new a b c first object blocks i.many i.step block (moves_on (λ y. FetchDoes y object (Ok block)) moves) blocks' pushed;
+  }
+
+pub none_at : {R A S : Type 0} (rack : racks.Ghosts R) (area : areas.Ghosts A) (went : S → ℕ → Shard R A → Shard R A → S → Type 0) (shared : Bool) (locks : List (Lock (Cell R A))) (owns : ℕ → Bool) (fits : Type 0) (last : ℕ → Option (Shard R A))
+    (table : ℕ → Option Pointer) (seq floor : ℕ) (a : S) (first : ℕ) (blocks : List Fetched) → blocks ≡ [] → fits → IsWholeBy rack owns last table seq floor
+    → BatchAt rack area went shared locks locks owns owns fits last last table seq floor a a first first blocks
+none_at rack area went shared locks owns fits last table seq floor a first blocks none fit whole = subst (BatchAt rack area went shared locks locks owns owns fits last last table seq floor a a first first) (sym none) (record {
+  fit = fit;
+  same_locks = refl;
+  owned = refl;
+  stay = stay_same owns last;
+  whole = whole;
+  fetched = λ geometry have. All-nil (IsFetched (cut_of geometry));
+  many = omega arith;
+  found = tt;
+  step = fetching_none rack area went shared owns table seq floor last a first;
+})
+
+-- ---- what a batch adds
+
+no_looks : (does : List Hold → Store → Type 0) (holds : List Hold) (store : Store) → does holds store → ButLooks does holds store
+no_looks does holds store did = record { front = holds; back = []; are = sym (append-nil holds); did = did; looks = tt }
+
+-- memory was wanting for the answers
+pub unsolved : (x : State) (first count : ℕ) (batch : Batch) (hasher hasher' : Sha256) → 1 ≤ count → (holds : List Hold) (store : Store) → FetchesBatch x first count batch holds store
+    → AddTries x first count hasher hasher' (Err (record { object = first; why = object.NoMemory })) holds store
+unsolved x first count batch hasher hasher' some holds store b =
+    let all = fetched_all x first batch.blocks.items b.front b.fetches in
+    let more = behind_fetches x first count (length batch.blocks.items) batch.fault b.back b.ends in
+    let n = all.1 in
+    let m = more.1 in
+    let are = ap length b.are in
+    let long = length-append b.front b.back in
+    no_looks (AddIs x first count hasher hasher' (Err (record { object = first; why = object.NoMemory }))) holds store (
+      b.same,
+      record {
+        contents = [];
+        front = [];
+        back = holds;
+        are = refl;
+        object_is = omega arith;
+        within = omega (arith, some);
+        gives = refl;
+        stops = (
+          b.front ++ more.0.front,
+          more.0.back,
+          b.are ∙ (ap (λ hs. b.front ++ hs) more.0.are ∙ sym (append_assoc b.front more.0.front more.0.back)),
+          fetches_append x first (first + length batch.blocks.items) b.front more.0.front (omega (arith, n)) all.0 more.0.fetches,
+          more.0.looks,
+        );
+        fetched = omega (arith, are, long, n, m);
+      },
+    )
+
+-- one of the blocks can't be read
+pub unread_in : (x : State) (first count : ℕ) (batch : Batch) (solves : List Solve) (hasher hasher' : Sha256) (fault : SumFault) → AllZip (IsSolved (cut_of x.geometry)) batch.blocks.items solves → FirstUnread first solves fault
+    → (holds : List Hold) (store : Store) → FetchesBatch x first count batch holds store → AddTries x first count hasher hasher' (Err fault) holds store
+unread_in x first count batch solves hasher hasher' fault here u holds store b =
+    let blocks = batch.blocks.items in
+    let l = lost_in x first blocks u.before u.after u.contents u.absent u.tried b.front b.fetches (subst (AllZip (IsSolved (cut_of x.geometry)) blocks) u.order here) u.are in
+    let more = behind_fetches x first count (length blocks) batch.fault b.back b.ends in
+    let m = more.1 in
+    let many = l.many in
+    let long = l.long in
+    let n = (fetched_all x first blocks b.front b.fetches).1 in
+    let held = length-append b.front more.0.front in
+    let all = ap length more.0.are in
+    let both = length-append more.0.front more.0.back in
+    record {
+      front = b.front ++ more.0.front;
+      back = more.0.back;
+      are = b.are ∙ (ap (λ hs. b.front ++ hs) more.0.are ∙ sym (append_assoc b.front more.0.front more.0.back));
+      did = subst (λ (f : SumFault). AddIs x first count hasher hasher' (Err f) (b.front ++ more.0.front) store) (sym u.named) (
+        b.same,
         record {
           contents = u.contents;
           front = l.front;
-          back = l.hold ∷ (l.rest ++ b.back);
-          are = ap (λ hs. hs ++ b.back) l.are ∙ append_assoc l.front (l.hold ∷ l.rest) b.back;
+          back = l.hold ∷ (l.rest ++ more.0.front);
+          are = ap (λ hs. hs ++ more.0.front) l.are ∙ append_assoc l.front (l.hold ∷ l.rest) more.0.front;
           object_is = omega (arith, many);
           within = omega (arith, many, long, m);
           gives = l.gives;
           stops = (
             l.hold,
-            l.rest ++ b.back,
+            l.rest ++ more.0.front,
             refl,
             l.loses,
-            fetches_append x (first + length u.before + 1) (first + length blocks) l.rest b.back (omega (arith, long)) l.fetches more.0,
+            fetches_append x (first + length u.before + 1) (first + length blocks) l.rest more.0.front (omega (arith, long)) l.fetches more.0.fetches,
           );
-          fetched = omega (arith, held, n, m);
+          fetched = omega (arith, held, n, m, all, both);
         },
-      ))
+      );
+      looks = more.0.looks;
+    }
 
-  -- all blocks gave their bytes, and the next object gives none
-  pub batch_stops : (x : State) (first count added : ℕ) (batch : Batch) (solves : List Solve) (hasher hasher' : Sha256) (why : ObjectFault) (new : Pool R A)
-      → FetchesBatch rack area new x first count batch → AllZip (IsSolved (cut_of new.geometry)) batch.blocks.items solves → FeedsAll solves hasher hasher'
-      → added ≡ vec_len batch.blocks → batch.fault ≡ Some why
-      → CarriesOut rack area new x (AddIs x first count hasher hasher' (Err (record { object = first + added; why = why })))
-  batch_stops x first count added batch solves hasher hasher' why new b solved f counted fault =
-      let long = counted ∙ batch.blocks.ok.0 in
-      let blocks = batch.blocks.items in
-      let here = subst (λ (g : Geometry). AllZip (IsSolved (cut_of g)) blocks solves) (batch_layout x first count batch new b) solved in
-      let g = bytes_given x first blocks solves f.contents b.front b.fetches here f.are in
-      let ends : EndsBatch x b.reached first count (length blocks) (Some why) b.back = subst (λ (o : Option ObjectFault). EndsBatch x b.reached first count (length blocks) o b.back) fault b.ends in
-      let layout = same_layout (b.front ++ b.back) x b.reached b.follows in
-      let stop : Stop x b.reached (first + length blocks) why b.back = stop_at x b.reached (first + length blocks) why b.back layout ends.1 in
-      let many = g.1 in
-      let below = ends.0 in
-      let short = stop.short in
-      let n = gives_length x.geometry x.perms x.store first f.contents b.front g.0 in
-      let last : SumFault = record { object = first + added; why = why } in
-      let are = append_assoc b.front b.back stop.extra in
-      let held = ap length are ∙ length-append b.front (b.back ++ stop.extra) in
-      carried rack area new x ((b.front ++ b.back) ++ stop.extra) b.reached (AddIs x first count hasher hasher' (Err last))
-      (follows_on (b.front ++ b.back) stop.extra x b.reached b.reached b.follows stop.follows) b.represents (
-        refl,
-        record {
-          contents = f.contents;
-          front = b.front;
-          back = b.back ++ stop.extra;
-          are = are;
-          object_is = omega (arith, many, long);
-          within = omega (arith, many, below);
-          gives = g.0;
-          stops = subst (λ (k : ℕ). reads.StopsFor x.geometry x.perms x.store (first + k) why (b.back ++ stop.extra)) (sym long) stop.stops;
-          fetched = omega (arith, held, short, n, many, below);
-        },
-      )
-
-  -- all blocks gave their bytes
-  pub batch_added : (x : State) (first count added : ℕ) (batch : Batch) (solves : List Solve) (hasher hasher' : Sha256) (new : Pool R A)
-      → FetchesBatch rack area new x first count batch → AllZip (IsSolved (cut_of new.geometry)) batch.blocks.items solves → FeedsAll solves hasher hasher'
-      → added ≡ vec_len batch.blocks → batch.fault ≡ None → CarriesOut rack area new x (AddIs x first count hasher hasher' (Ok added))
-  batch_added x first count added batch solves hasher hasher' new b solved f counted fault =
-      let long = counted ∙ batch.blocks.ok.0 in
-      let blocks = batch.blocks.items in
-      let here = subst (λ (g : Geometry). AllZip (IsSolved (cut_of g)) blocks solves) (batch_layout x first count batch new b) solved in
-      let g = bytes_given x first blocks solves f.contents b.front b.fetches here f.are in
-      let ends : EndsBatch x b.reached first count (length blocks) None b.back = subst (λ (o : Option ObjectFault). EndsBatch x b.reached first count (length blocks) o b.back) fault b.ends in
-      let some = ends.0 in
-      let within = ends.1 in
-      let all : b.front ++ b.back ≡ b.front = ap (λ hs. b.front ++ hs) ends.2 ∙ append-nil b.front in
-      carried rack area new x (b.front ++ b.back) b.reached (AddIs x first count hasher hasher' (Ok added)) b.follows b.represents
-      (record {
-        store = refl;
-        some = omega (arith, long, some);
-        within = omega (arith, long, within);
+-- all blocks gave their bytes, and the next object gives none
+pub batch_stops : (x : State) (first count added : ℕ) (batch : Batch) (solves : List Solve) (hasher hasher' : Sha256) (why : ObjectFault) → AllZip (IsSolved (cut_of x.geometry)) batch.blocks.items solves → FeedsAll solves hasher hasher'
+    → added ≡ vec_len batch.blocks → batch.fault ≡ Some why → (holds : List Hold) (store : Store) → FetchesBatch x first count batch holds store
+    → AddTries x first count hasher hasher' (Err (record { object = first + added; why = why })) holds store
+batch_stops x first count added batch solves hasher hasher' why here f counted fault holds store b =
+    let long = counted ∙ batch.blocks.ok.0 in
+    let blocks = batch.blocks.items in
+    let g = bytes_given x first blocks solves f.contents b.front b.fetches here f.are in
+    let ends : EndsBatch x first count (length blocks) (Some why) b.back = subst (λ (o : Option ObjectFault). EndsBatch x first count (length blocks) o b.back) fault b.ends in
+    let stop = stop_at x (first + length blocks) why b.back ends.1 in
+    let many = g.1 in
+    let below = ends.0 in
+    let short = stop.1 in
+    let n = gives_length x.geometry x.perms x.store first f.contents b.front g.0 in
+    let held = ap length b.are ∙ length-append b.front b.back in
+    no_looks (AddIs x first count hasher hasher' (Err (record { object = first + added; why = why }))) holds store (
+      b.same,
+      record {
         contents = f.contents;
-        many = g.1 ∙ sym long;
-        gives = subst (λ hs. GivesOf x first f.contents hs) (sym all) g.0;
-        fed = f.fed;
-      })
+        front = b.front;
+        back = b.back;
+        are = b.are;
+        object_is = omega (arith, many, long);
+        within = omega (arith, many, below);
+        gives = g.0;
+        stops = subst (λ (k : ℕ). reads.StopsFor x.geometry x.perms x.store (first + k) why b.back) (sym long) stop.0;
+        fetched = omega (arith, held, short, n, many, below);
+      },
+    )
+
+-- all blocks gave their bytes
+pub batch_added : (x : State) (first count added : ℕ) (batch : Batch) (solves : List Solve) (hasher hasher' : Sha256) → AllZip (IsSolved (cut_of x.geometry)) batch.blocks.items solves → FeedsAll solves hasher hasher'
+    → added ≡ vec_len batch.blocks → batch.fault ≡ None → (holds : List Hold) (store : Store) → FetchesBatch x first count batch holds store → AddTries x first count hasher hasher' (Ok added) holds store
+batch_added x first count added batch solves hasher hasher' here f counted fault holds store b =
+    let long = counted ∙ batch.blocks.ok.0 in
+    let blocks = batch.blocks.items in
+    let g = bytes_given x first blocks solves f.contents b.front b.fetches here f.are in
+    let ends : EndsBatch x first count (length blocks) None b.back = subst (λ (o : Option ObjectFault). EndsBatch x first count (length blocks) o b.back) fault b.ends in
+    let some = ends.0 in
+    let within = ends.1 in
+    let all : holds ≡ b.front = b.are ∙ (ap (λ hs. b.front ++ hs) ends.2 ∙ append-nil b.front) in
+    record {
+      store = b.same;
+      some = omega (arith, long, some);
+      within = omega (arith, long, within);
+      contents = f.contents;
+      many = g.1 ∙ sym long;
+      gives = subst (λ hs. GivesOf x first f.contents hs) (sym all) g.0;
+      fed = f.fed;
+    }

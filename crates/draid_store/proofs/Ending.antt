@@ -184,7 +184,7 @@ module _ {R A S : Type 0} (rack : racks.Ghosts R) (area : areas.Ghosts A) (went 
 
     pub followed : FollowsBy (Between rack area went shared (part_in x)) (λ s t u v. ⊥) a (On (view_of m z.z) (Did (event.Finish (key_of ticket.pointer)) d.reached.world) ∷ []) x b x_then
     followed = follows rack area went shared owns a b last new m shard before after there drifts valid is goes seen seen table seq floor open_.pieces x open_.but_it
-        (Did (event.Finish (key_of ticket.pointer)) d.reached.world) d.reached z.now d.is d.acts
+        (Did (event.Finish (key_of ticket.pointer)) d.reached.world) d.reached z.now d.is d.acts (λ same. absurd (cc))
 
   -- ---- more columns than the parity landed nowhere
 
@@ -199,13 +199,15 @@ module _ {R A S : Type 0} (rack : racks.Ghosts R) (area : areas.Ghosts A) (went 
     done = (ends (Err missed) fin None fin.ends.2, subst (λ n. n < ticket.missed) (ap (λ (q : Part). q.geometry.spec.parity) z.is.part_is) fin.ends.1, refl);
     knows = record {
       pieces = pieces_then;
-      each = s.each;
-      holds = gone owns (with_metaslab x m (d (Err missed) fin None fin.ends.2).reached) pieces_then m ticket.pointer.object ticket.pointer.birth (let low = s.floor in let born = open_.born in omega (arith, low, born))
-          (unhide owns (with_metaslab x m (d (Err missed) fin None fin.ends.2).reached) pieces_then m (key_of ticket.pointer)
-          (own_is (all_of owns) (blocks_of (with_metaslab x m (d (Err missed) fin None fin.ends.2).reached).metaslabs) m (key_of ticket.pointer) open_.own ∙ at_it (Err missed) fin None fin.ends.2) s.holds);
-      objects = s.objects;
-      seq = (let n = s.seq in omega (arith, n));
-      floor = refl;
+      but_it = record {
+        each = s.each;
+        holds = gone owns (with_metaslab x m (d (Err missed) fin None fin.ends.2).reached) pieces_then m ticket.pointer.object ticket.pointer.birth (let low = s.floor in let born = open_.born in omega (arith, low, born))
+            (unhide owns (with_metaslab x m (d (Err missed) fin None fin.ends.2).reached) pieces_then m (key_of ticket.pointer)
+            (own_is (all_of owns) (blocks_of (with_metaslab x m (d (Err missed) fin None fin.ends.2).reached).metaslabs) m (key_of ticket.pointer) open_.own ∙ at_it (Err missed) fin None fin.ends.2) s.holds);
+        objects = s.objects;
+        seq = (let n = s.seq in omega (arith, n));
+        floor = refl;
+      };
     };
   }
     where
@@ -313,7 +315,7 @@ module _ {R A S : Type 0} (rack : racks.Ghosts R) (area : areas.Ghosts A) (went 
 
       replaced : (had : Option Pointer) (was : Option Write) → write_of x.store.changes ticket.pointer.object ≡ was → PointsAt new had was
           → KnowsReplaced rack area owns new table_then (seq + 1) ticket.pointer.birth had was (record x_now { store = store_then })
-      replaced None None was_is pt = (refl, record { pieces = pieces_then; each = s.each; holds = known None was_is; objects = points; seq = number; floor = refl })
+      replaced None None was_is pt = (refl, record { pieces = pieces_then; but_it = record { each = s.each; holds = known None was_is; objects = points; seq = number; floor = refl } })
       replaced None (Some we) was_is pt = absurd pt
       replaced (Some e) None was_is pt = absurd pt
       replaced (Some e) (Some we) was_is pt = (

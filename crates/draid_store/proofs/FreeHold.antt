@@ -32,7 +32,7 @@ use Rattle.draid_store.specs.declared.fault.FreeFault.TheVariants.{NoObject}
 use Rattle.draid_pool.proofs.OwnedStands.{ArePlain}
 use Rattle.draid_pool.specs.Drifts.{Drifts, KeepsTo, is_other}
 use Rattle.draid_store.specs.Frees.{FreesBlock, IsEarly, TriesFree}
-use Rattle.draid_pool.specs.Threads.{CarriesBy, HoldsOwn, IsPointerAt, Knows, KnowsBut, PointsAt, all_of}
+use Rattle.draid_pool.specs.Threads.{CarriesBy, HoldsOwn, IsPointerAt, Knows, PointsAt, all_of}
 use Rattle.draid_pool.proofs.ShardSteps.{acts_one, live_on}
 use Rattle.draid_store.proofs.FreeKnown.{own_freed}
 use Rattle.draid_pool.proofs.Finds.{Found, found_drops, found_later, pointed_at, pointed_nowhere, points_at_on}
@@ -50,21 +50,18 @@ module _ {R A S : Type 0} (rack : racks.Ghosts R) (area : areas.Ghosts A) (went 
   abbrev mine : ℕ → Key → Bool
   mine = all_of owns
 
-  known : KnowsBut rack area owns mine mine last table seq floor knows.pieces x
-  known = record { each = knows.each; holds = knows.holds; objects = knows.objects; seq = knows.seq; floor = knows.floor }
-
   abbrev y : (y : Metaslab) × (slice_get x.metaslabs p.metaslab ≡ Some y) × IsMetaslab rack area (part_in x p.metaslab) (knows.pieces p.metaslab) shard y
-  y = here rack area went shared owns a b last new p.metaslab shard before after there drifts keeps.valid is goes (all_of owns) (all_of owns) table seq floor knows.pieces x known
+  y = here rack area went shared owns a b last new p.metaslab shard before after there drifts keeps.valid is goes (all_of owns) (all_of owns) table seq floor knows.pieces x knows.but_it
 
   abbrev z : Found rack area shared owns (part_in x p.metaslab) (knows.pieces p.metaslab) y.0 before
-  z = f rack area went shared owns a b last new p.metaslab shard before after there drifts keeps.valid is goes (all_of owns) (all_of owns) table seq floor knows.pieces x known
+  z = f rack area went shared owns a b last new p.metaslab shard before after there drifts keeps.valid is goes (all_of owns) (all_of owns) table seq floor knows.pieces x knows.but_it
 
   abbrev pieces : ℕ → Pieces
   pieces = turn p.metaslab z.now knows.pieces
 
   holds_found : HoldsOwn owns (with_metaslab x m z.z) pieces
   holds_found = own_drifts owns x m y.0 z.z knows.pieces z.now y.1 (found_later rack area shared owns shard before drifts (part_in x m) (knows.pieces m) z.now y.0 z.z y.2 z.is)
-      (found_drops rack area shared owns shard before drifts (part_in x m) (knows.pieces m) z.now y.0 z.z y.2 z.is) z.same knows.holds
+      (found_drops rack area shared owns shard before drifts (part_in x m) (knows.pieces m) z.now y.0 z.z y.2 z.is) z.same knows.but_it.holds
 
   other_object : (q : ℕ) → (object ≡ q → ⊥) → is_other (Some object) q ≡ true
   other_object q not = ap (λ c. if c then false else true) (ne_eqb object q not)
@@ -81,7 +78,7 @@ module _ {R A S : Type 0} (rack : racks.Ghosts R) (area : areas.Ghosts A) (went 
   free_step table' group fb objects = by
     where
       found_w : (write : Write) × (write_of x.store.changes object ≡ Some write) × IsPointerAt last p write
-      found_w = pointed_at last (table object) (write_of x.store.changes object) p at (knows.objects object own)
+      found_w = pointed_at last (table object) (write_of x.store.changes object) p at (knows.but_it.objects object own)
 
       w : Write
       w = found_w.0
@@ -105,7 +102,7 @@ module _ {R A S : Type 0} (rack : racks.Ghosts R) (area : areas.Ghosts A) (went 
       acts = acts_one (layout_in (part_in x m)) m (Did (event.Free (key_of p) group) r.world) z.z r (subst (λ hs. FollowsIn (layout_in (part_in x m)) m hs z.z r) g.done.are g.follows)
 
       later : x.store.floor ≤ group
-      later = (let a = g.done.group_is in let b = knows.floor in omega (arith, a, b))
+      later = (let a = g.done.group_is in let b = knows.but_it.floor in omega (arith, a, b))
 
       freed_at : HoldsOwn owns (record (with_metaslab (with_metaslab x m z.z) m r) { store = record { changes = Freed p.object group ∷ x.store.changes; seq = x.store.seq; floor = group } }) pieces
       freed_at = own_freed owns (with_metaslab x m z.z) m z.z r pieces (get_set_same x.metaslabs m y.0 z.z y.1) (key_of p) (ap owns mine_p ∙ own) g.done.held g.done.found g.done.live group later g.done.made g.done.committed
@@ -131,15 +128,15 @@ module _ {R A S : Type 0} (rack : racks.Ghosts R) (area : areas.Ghosts A) (went 
           (points_at_on last new (table q) (write_of x.store.changes q)
           (λ s u s_is u_is pt.
           let s_q : s.object ≡ q = pt.object_is ∙ write_object x.store.changes q u u_is in
-          pointer_at_on rack area went shared owns a b last new p.metaslab shard before after there drifts keeps.valid is goes (all_of owns) (all_of owns) table seq floor knows.pieces x known q s u own_q s_q (λ at. live_on rack area (is_other (Some object)) after.committed before after s drifts.valid keeps.valid keeps.part keeps.others (ap (is_other (Some object)) s_q ∙ other_object q not)) pt)
-          (knows.objects q own_q))))
+          pointer_at_on rack area went shared owns a b last new p.metaslab shard before after there drifts keeps.valid is goes (all_of owns) (all_of owns) table seq floor knows.pieces x knows.but_it q s u own_q s_q (λ at. live_on rack area (is_other (Some object)) after.committed before after s drifts.valid keeps.valid keeps.part keeps.others (ap (is_other (Some object)) s_q ∙ other_object q not)) pt)
+          (knows.but_it.objects q own_q))))
 
       by : CarriesBy rack area went shared owns new table' seq group a b x (TriesFree x object (Some (Ok tt)))
       by = record {
         holds = On (view_of m z.z) (Did (event.Free (key_of p) group) r.world) ∷ [];
         reached = with_metaslab x m r;
         store = store;
-        follows = follows rack area went shared owns a b last new p.metaslab shard before after there drifts keeps.valid is goes (all_of owns) (all_of owns) table seq floor knows.pieces x known (Did (event.Free (key_of p) group) r.world) r z.now g.is acts;
+        follows = follows rack area went shared owns a b last new p.metaslab shard before after there drifts keeps.valid is goes (all_of owns) (all_of owns) table seq floor knows.pieces x knows.but_it (Did (event.Free (key_of p) group) r.world) r z.now g.is acts (λ same. absurd (cc));
         done = record {
           w = w;
           group = group;
@@ -149,11 +146,11 @@ module _ {R A S : Type 0} (rack : racks.Ghosts R) (area : areas.Ghosts A) (went 
             after = r.world;
             did = ap (λ j. On (view_of m z.z) (Did (event.Free j group) r.world) ∷ []) key;
             there = of.metaslab_is;
-            group_is = g.done.group_is ∙ ap (λ n. max z.z.world.open_group n) (sym knows.floor);
+            group_is = g.done.group_is ∙ ap (λ n. max z.z.world.open_group n) (sym knows.but_it.floor);
           };
           made = refl;
         };
-        knows = record { pieces = pieces; each = each_on rack area went shared owns a b last new p.metaslab shard before after there drifts keeps.valid is goes (all_of owns) (all_of owns) table seq floor knows.pieces x known r z.now g.is; holds = holds_after; objects = points; seq = knows.seq; floor = refl };
+        knows = record { pieces = pieces; but_it = record { each = each_on rack area went shared owns a b last new p.metaslab shard before after there drifts keeps.valid is goes (all_of owns) (all_of owns) table seq floor knows.pieces x knows.but_it r z.now g.is; holds = holds_after; objects = points; seq = knows.but_it.seq; floor = refl } };
       }
 
 -- the object has no bytes
@@ -165,7 +162,7 @@ not_there rack area went shared owns a last object table seq floor own none x kn
   reached = x;
   store = x.store;
   follows = (refl, refl);
-  done = (refl, refl, pointed_nowhere last (table object) (write_of x.store.changes object) none (knows.objects object own));
+  done = (refl, refl, pointed_nowhere last (table object) (write_of x.store.changes object) none (knows.but_it.objects object own));
   knows = knows;
 }
 

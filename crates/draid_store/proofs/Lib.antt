@@ -9,6 +9,8 @@ pub mod Damages
 pub mod Ended
 pub mod Ending
 pub mod Feeding
+pub mod FetchHold
+pub mod FetchKeeps
 pub mod FetchSteps
 pub mod Fetched
 pub mod Filled
@@ -27,6 +29,7 @@ pub mod PointedSums
 pub mod PutKeeps
 pub mod PutSteps
 pub mod QuietKeeps
+pub mod QuietWhole
 pub mod ReadSteps
 pub mod Refused
 pub mod SameTable
@@ -36,6 +39,7 @@ pub mod StoreWhole
 pub mod Storing
 pub mod Sums
 pub mod Teaching
+pub mod Unlooked
 pub mod WholeBlock
 pub mod WholeMissed
 pub mod WholeWrite

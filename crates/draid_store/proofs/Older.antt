@@ -150,7 +150,7 @@ module _ {R A S : Type 0} (rack : racks.Ghosts R) (area : areas.Ghosts A) (went 
     holds = On (view_of p.metaslab z.z) (Did (event.Free (key_of p) group) g.reached.world) ∷ [];
     reached = with_metaslab x p.metaslab g.reached;
     store = record x.store { floor = group };
-    follows = follows rack area went shared owns a b last new p.metaslab shard before after there drifts valid is goes (all_of owns) lives table seq floor known.pieces x known.but_it (Did (event.Free (key_of p) group) g.reached.world) g.reached z.now g.is acts;
+    follows = follows rack area went shared owns a b last new p.metaslab shard before after there drifts valid is goes (all_of owns) lives table seq floor known.pieces x known.but_it (Did (event.Free (key_of p) group) g.reached.world) g.reached z.now g.is acts (λ same. absurd (cc));
     done = (
       record {
         v = view_of p.metaslab z.z;
@@ -163,10 +163,12 @@ module _ {R A S : Type 0} (rack : racks.Ghosts R) (area : areas.Ghosts A) (went 
     );
     knows = record {
       pieces = pieces_then;
-      each = each_on rack area went shared owns a b last new p.metaslab shard before after there drifts valid is goes (all_of owns) lives table seq floor known.pieces x known.but_it g.reached z.now g.is;
-      holds = freed;
-      objects = points;
-      seq = known.but_it.seq;
-      floor = refl;
+      but_it = record {
+        each = each_on rack area went shared owns a b last new p.metaslab shard before after there drifts valid is goes (all_of owns) lives table seq floor known.pieces x known.but_it g.reached z.now g.is;
+        holds = freed;
+        objects = points;
+        seq = known.but_it.seq;
+        floor = refl;
+      };
     };
   }

@@ -48,11 +48,11 @@ writing_live c m e = cc
 pub all_but : {R A : Type 0} (rack : racks.Ghosts R) (area : areas.Ghosts A) (owns : ℕ → Bool) (last : ℕ → Option (Shard R A)) (table : ℕ → Option Pointer) (seq floor m : ℕ) (key : Key) (x : State) (knows : Knows rack area owns last table seq floor x)
     → key.seq ≡ seq + 1 → KnowsBut rack area owns (but m key (all_of owns)) (but m key (all_of owns)) last table seq floor knows.pieces x
 all_but rack area owns last table seq floor m key x knows next = record {
-  each = knows.each;
-  holds = hide owns x knows.pieces m key (unused_own owns x knows.pieces m key (let a = knows.seq in omega (arith, a, next)) knows.holds) knows.holds;
-  objects = knows.objects;
-  seq = knows.seq;
-  floor = knows.floor;
+  each = knows.but_it.each;
+  holds = hide owns x knows.pieces m key (unused_own owns x knows.pieces m key (let a = knows.but_it.seq in omega (arith, a, next)) knows.but_it.holds) knows.but_it.holds;
+  objects = knows.but_it.objects;
+  seq = knows.but_it.seq;
+  floor = knows.but_it.floor;
 }
 
 module _ {R A S : Type 0} (rack : racks.Ghosts R) (area : areas.Ghosts A) (went : S → ℕ → Shard R A → Shard R A → S → Type 0) (shared : Bool) (owns : ℕ → Bool) (a b : S) (last new : ℕ → Option (Shard R A)) (m : ℕ)
@@ -97,7 +97,7 @@ module _ {R A S : Type 0} (rack : racks.Ghosts R) (area : areas.Ghosts A) (went 
       holds = On (view_of m z.z) (Did (begins ticket.pointer) d.reached.world) ∷ [];
       reached = with_metaslab x m d.reached;
       store = x.store;
-      follows = follows rack area went shared owns a b last new m shard before after there drifts valid is goes mine mine table seq floor knows.pieces x known (Did (begins ticket.pointer) d.reached.world) d.reached z.now d.is d.acts;
+      follows = follows rack area went shared owns a b last new m shard before after there drifts valid is goes mine mine table seq floor knows.pieces x known (Did (begins ticket.pointer) d.reached.world) d.reached z.now d.is d.acts (λ same. absurd (cc));
       done = (
         refl,
         record {
@@ -167,7 +167,7 @@ module _ {R A S : Type 0} (rack : racks.Ghosts R) (area : areas.Ghosts A) (went 
       reached = with_metaslab x m e.reached;
       store = x.store;
       follows = follows rack area went shared owns a b last new m shard before after there drifts valid is goes seen seen table seq floor open_.pieces x open_.but_it
-          (Did (event.Put (key_of ticket.pointer) put.puts.landed put.puts.failed) e.reached.world) e.reached columns_now e.is e.acts;
+          (Did (event.Put (key_of ticket.pointer) put.puts.landed put.puts.failed) e.reached.world) e.reached columns_now e.is e.acts (λ same. absurd (cc));
       done = (
         refl,
         (

@@ -12,7 +12,7 @@ use Rattle.draid_session.specs.Writes.{FreesEarlier, PutsColumns, WritesBlock}
 use Rattle.draid_store.specs.Answers.{WriteInDoes}
 use Rattle.draid_pool.proofs.OwnedStands.{ArePlain}
 
-plain_append : (a b : List Hold) → ArePlain a → ArePlain b → ArePlain (a ++ b)
+pub plain_append : (a b : List Hold) → ArePlain a → ArePlain b → ArePlain (a ++ b)
 plain_append [] b x y = y
 plain_append (hold ∷ a) b x y = (x.0, plain_append a b x.1 y)
 

@@ -1,6 +1,5 @@
 -- What was fetched of an object is solved.
-use Rattle.std.proofs.Common.{◌≡◌, [], ◌∷◌, ℕ, List, Some, Err, arith, refl, ap, subst}
-use Rattle.std.specs.Prelude.{slice_get}
+use Rattle.std.proofs.Common.{◌≡◌, ◌+◌, [], ◌∷◌, ℕ, Bool, List, Vec, Global, Result, Ok, Err, arith, refl, sym, subst}
 use Rattle.draid_names.specs.declared.refusal.ObjectFault.{ObjectFault}
 use Rattle.draid_names.specs.declared.refusal.ObjectFault.TheVariants as object
 use Rattle.draid_rack.specs.declared.Rack as racks
@@ -15,20 +14,21 @@ use Rattle.draid_block.specs.declared.solve.SolveFault.{SolveFault}
 use Rattle.draid_block.specs.declared.solve.SolveFault.TheVariants as solve
 use Rattle.draid_block.specs.declared.many.Solve.{Solve}
 use Rattle.draid_block.specs.declared.solve.Fetched.{Fetched}
-use Rattle.draid_shard.specs.Part.{layout_in}
-use Rattle.draid_session.specs.Follows.{Follows}
-use Rattle.draid_session.specs.Holds.{Hold, Looked, On, view_of}
+use Rattle.draid_objects.specs.Changes.{Write}
+use Rattle.draid_shard.specs.declared.shard.Shard.{Shard}
+use Rattle.draid_session.specs.Holds.{Hold}
+use Rattle.draid_session.specs.Looks.{OnlyLooks}
 use Rattle.draid_session.specs.Reads as reads
-use Rattle.draid_session.specs.State.{Metaslab, State}
-use Rattle.draid_store.specs.Answers.{FetchIs, IsWornAt, ReadDoes, Unfetched, reading_of}
-use Rattle.draid_pool.specs.Carries.{CarriesOut}
-use Rattle.draid_pool.specs.Pools.{Represents, part_in}
-use Rattle.draid_pool.specs.declared.pool.Pool.{Pool}
-use Rattle.draid_pool.proofs.Lifted.{carries_none}
-use Rattle.draid_pool.proofs.Lists.{set_back}
-use Rattle.draid_pool.proofs.Moved.{follows_one}
-use Rattle.draid_pool.proofs.OneHold.{looks_in}
-use Rattle.draid_pool.proofs.Steps.{carries_so, pool_layout}
+use Rattle.draid_session.specs.State.{State, Store}
+use Rattle.draid_store.specs.Answers.{FetchDoes, ReadDoes, SumDoes, reading_of}
+use Rattle.draid_store.specs.Batches.{SumTries}
+use Rattle.draid_store.specs.Fetching.{ButLooks}
+use Rattle.draid_store.specs.declared.fault.SumFault.{SumFault}
+use Rattle.std.proofs.lemmas.List.{append-nil}
+use Rattle.draid_pool.specs.Threads.{LeadsBy}
+use Rattle.draid_pool.proofs.OwnedStands.{ArePlain, IsPlain}
+use Rattle.draid_store.proofs.ColumnSteps.{leads_as}
+use Rattle.draid_store.proofs.Plain.{looks_plain, plain_append}
 
 -- the answer of a solver, by its fault
 pub unread_is : (cut : Cut) (fetched : Fetched) (fault : SolveFault) (absent tried : ℕ) → fault ≡ solve.Unreadable absent tried → SolvesBlock cut fetched (Err fault) → AnswersDigest fetched (Err fault)
@@ -39,42 +39,65 @@ unread_is cut fetched fault absent tried is solves digest readable = record {
   readable = λ w bad r. subst (λ f. IsAnswered (Err f)) is (readable w bad r);
 }
 
--- ---- looks
+-- ---- what is read
 
--- a look at a metaslab of a pool leaves it
-pub looks_on : (x : State) (m : ℕ) (y : Metaslab) → slice_get x.metaslabs m ≡ Some y → Follows (On (view_of m y) Looked ∷ []) x x
-looks_on x m y there =
-    subst (Follows (On (view_of m y) Looked ∷ []) x) (ap (λ ys. record x { metaslabs = ys }) (set_back x.metaslabs m y there))
-    (follows_one m (On (view_of m y) Looked ∷ []) x y y there (looks_in (layout_in (part_in x m)) m y))
+pub read_solved : (x : State) (o : ℕ) (fetched : Fetched) (solve : Solve) → IsSolved (cut_of x.geometry) fetched solve → (holds : List Hold) (store : Store) → FetchDoes x o (Ok fetched) holds store → ReadDoes x o (reading_of solve) holds store
+read_solved x o fetched solve solved holds store f = f.answers solve solved
 
-abbrev pub look_at : (x : State) (o : ℕ) → IsWornAt x o → Hold
-look_at x o is = On (view_of is.w.metaslab is.y) Looked
+pub read_starved : (x : State) (o : ℕ) (fetched : Fetched) (holds : List Hold) (store : Store) → FetchDoes x o (Ok fetched) holds store → ReadDoes x o (Err object.NoMemory) holds store
+read_starved x o fetched holds store f = (let z = f.one in (f.store, (z.0 ∷ [], [], z.1, (z.2.0, z.2.1, z.2.2, z.2.3, tt), omega arith, tt)))
 
-pub reads_worn : (x : State) (o : ℕ) (is : IsWornAt x o) → reads.ReadsWorn x.geometry x.perms x.store o (look_at x o is)
-reads_worn x o is = record { w = is.w; v = view_of is.w.metaslab is.y; written = is.written; looked = record { looked = refl; there = refl }; worn = is.worn }
+-- no block was fetched
+pub unread : (x : State) (o : ℕ) (why : ObjectFault) (holds : List Hold) (store : Store) → FetchDoes x o (Err why) holds store → ReadDoes x o (Err why) holds store
+unread x o object.NoObject holds store f = (f.0, f.1.1, f.1.0)
+unread x o (object.Unreadable absent tried) holds store f = absurd f.1
+unread x o object.Worn holds store f = f
+unread x o object.NoMemory holds store f = (f.0, ([], holds, refl, tt, omega arith, subst OnlyLooks (sym f.1.1) (f.1.2, tt)))
 
-module _ {R A : Type 0} (rack : racks.Ghosts R) (area : areas.Ghosts A) where
-  pub read_solved : (pool : Pool R A) (x : State) (o : ℕ) (fetched : Fetched) (solve : Solve) → CarriesOut rack area pool x (FetchIs x o fetched) → IsSolved (cut_of pool.geometry) fetched solve
-      → CarriesOut rack area pool x (ReadDoes x o (reading_of solve))
-  read_solved pool x o fetched solve c solved =
-      let same = pool_layout rack area pool x (FetchIs x o fetched) c in
-      carries_so rack area pool x (FetchIs x o fetched) (ReadDoes x o (reading_of solve)) c
-      (λ holds store f. f.answers solve (subst (λ (g : Geometry). IsSolved (cut_of g) fetched solve) same solved))
+-- the answers of a read, by those of its solver
+pub solved_as : {R A S : Type 0} (rack : racks.Ghosts R) (area : areas.Ghosts A) (went : S → ℕ → Shard R A → Shard R A → S → Type 0) (shared : Bool) (a b : S) (x : State) (o : ℕ) (fetched : Fetched) (solve : Solve) (geometry : Geometry) (known : State → Type 0)
+    → x.geometry ≡ geometry → IsSolved (cut_of geometry) fetched solve → LeadsBy rack area went shared a b x (FetchDoes x o (Ok fetched)) known → LeadsBy rack area went shared a b x (ReadDoes x o (reading_of solve)) known
+solved_as rack area went shared a b x o fetched solve geometry known same solved one =
+    leads_as rack area went shared a b x (FetchDoes x o (Ok fetched)) (ReadDoes x o (reading_of solve)) known (read_solved x o fetched solve (subst (λ (g : Geometry). IsSolved (cut_of g) fetched solve) (sym same) solved)) one
 
-  pub read_starved : (pool : Pool R A) (x : State) (o : ℕ) (fetched : Fetched) → CarriesOut rack area pool x (FetchIs x o fetched) → CarriesOut rack area pool x (ReadDoes x o (Err object.NoMemory))
-  read_starved pool x o fetched c =
-      carries_so rack area pool x (FetchIs x o fetched) (ReadDoes x o (Err object.NoMemory)) c (λ holds store f. (let z = f.one in (f.store, (z.0 ∷ [], [], z.1, (z.2.0, z.2.1, z.2.2, z.2.3, tt), omega arith, tt))))
+-- ---- reads leave groups and arms
 
-  -- no block was fetched
-  pub unread : (pool : Pool R A) (x : State) (o : ℕ) (why : ObjectFault) → Represents rack area pool x → Unfetched x o why → CarriesOut rack area pool x (ReadDoes x o (Err why))
-  unread pool x o object.NoObject r is = carries_none rack area pool x (ReadDoes x o (Err object.NoObject)) r (refl, refl, is)
-  unread pool x o (object.Unreadable absent tried) r is = absurd is
-  unread pool x o object.Worn r is = record {
-    holds = look_at x o is ∷ [];
-    reached = x;
-    store = x.store;
-    follows = looks_on x is.w.metaslab is.y is.there;
-    done = (refl, (look_at x o is, refl, reads_worn x o is));
-    represents = r;
-  }
-  unread pool x o object.NoMemory r is = carries_none rack area pool x (ReadDoes x o (Err object.NoMemory)) r (refl, ([], [], refl, tt, omega arith, tt))
+fetch_plain : (x : State) (w : Write) (hold : Hold) (absent : List ℕ) → reads.Fetches x.geometry x.perms w hold absent → IsPlain hold
+fetch_plain x w hold absent f = subst IsPlain (sym f.did) tt
+
+one_plain : (holds : List Hold) (hold : Hold) → holds ≡ hold ∷ [] → IsPlain hold → ArePlain holds
+one_plain holds hold is plain = subst ArePlain (sym is) (plain, tt)
+
+all_plain : (x : State) (o : ℕ) (holds : List Hold) → reads.FetchesAll x.geometry x.perms x.store o holds → ArePlain holds
+all_plain x o [] is = tt
+all_plain x o (hold ∷ holds) is = (fetch_plain x is.0 hold is.1 is.3, all_plain x (o + 1) holds is.4)
+
+gives_plain : (x : State) (o : ℕ) (contents : List (List ℕ)) (holds : List Hold) → reads.GivesAll x.geometry x.perms x.store o contents holds → ArePlain holds
+gives_plain x o [] holds is = subst ArePlain (sym is) tt
+gives_plain x o (c ∷ cs) holds is = subst ArePlain (sym is.2) (fetch_plain x is.3.w is.0 is.3.absent is.3.fetches, gives_plain x (o + 1) cs is.1 is.4)
+
+stops_plain : (x : State) (o : ℕ) (why : ObjectFault) (holds : List Hold) → reads.StopsFor x.geometry x.perms x.store o why holds → ArePlain holds
+stops_plain x o object.NoObject holds is = subst ArePlain (sym is.1) tt
+stops_plain x o (object.Unreadable absent tried) holds is = subst ArePlain (sym is.2) (fetch_plain x is.3.w is.0 is.3.absent is.3.fetches, all_plain x (o + 1) is.1 is.4)
+stops_plain x o object.Worn holds is = one_plain holds is.0 is.1 (subst IsPlain (sym is.2.looked.looked) tt)
+stops_plain x o object.NoMemory holds is = subst ArePlain (sym is.2) (plain_append is.0 is.1 (all_plain x o is.0 is.3) (looks_plain is.1 is.4))
+
+pub read_plain : (x : State) (o : ℕ) (result : Result (Vec ℕ Global) ObjectFault) (holds : List Hold) (store : Store) → ReadDoes x o result holds store → ArePlain holds
+read_plain x o (Ok bytes) holds store is = one_plain holds is.1.0 is.1.1 (fetch_plain x is.1.2.w is.1.0 is.1.2.absent is.1.2.fetches)
+read_plain x o (Err object.NoObject) holds store is = subst ArePlain (sym is.1) tt
+read_plain x o (Err (object.Unreadable absent tried)) holds store is = one_plain holds is.1.0 is.1.1 (fetch_plain x is.1.2.w is.1.0 is.1.2.absent is.1.2.fetches)
+read_plain x o (Err object.Worn) holds store is = one_plain holds is.1.0 is.1.1 (subst IsPlain (sym is.1.2.looked.looked) tt)
+read_plain x o (Err object.NoMemory) holds store is = subst ArePlain (sym is.1.2) (plain_append is.1.0 is.1.1 (all_plain x o is.1.0 is.1.3) (looks_plain is.1.1 is.1.5))
+
+pub sum_plain : (x : State) (first count : ℕ) (result : Result (List ℕ) SumFault) (holds : List Hold) (store : Store) → SumDoes x first count result holds store → ArePlain holds
+sum_plain x first count (Ok digest) holds store is = gives_plain x first is.1.contents holds is.1.gives
+sum_plain x first count (Err fault) holds store is =
+    subst ArePlain (sym is.1.are) (plain_append is.1.front is.1.back (gives_plain x first is.1.contents is.1.front is.1.gives) (stops_plain x fault.object fault.why is.1.back is.1.stops))
+
+-- with looks behind it
+pub tries_but : (x : State) (first count : ℕ) (result : Result (List ℕ) SumFault) (holds : List Hold) (store : Store) → SumTries x first count result holds store → ButLooks (SumDoes x first count result) holds store
+tries_but x first count (Ok digest) holds store is = record { front = holds; back = []; are = sym (append-nil holds); did = is; looks = tt }
+tries_but x first count (Err fault) holds store is = is
+
+pub sum_looks_plain : (x : State) (first count : ℕ) (result : Result (List ℕ) SumFault) (holds : List Hold) (store : Store) → ButLooks (SumDoes x first count result) holds store → ArePlain holds
+sum_looks_plain x first count result holds store is = subst ArePlain (sym is.are) (plain_append is.front is.back (sum_plain x first count result is.front store is.did) (looks_plain is.back is.looks))

@@ -59,7 +59,7 @@ module _ {R A S : Type 0} (rack : racks.Ghosts R) (area : areas.Ghosts A) (went 
       let says : EndSays rack area went shared owns owns l2 l3 s2 s3 m ticket block (Ok pointer) = ends_own (Ok pointer) ends in
       subst (λ (t : ℕ × Option Pointer × ℕ). LeadsBy rack area went shared s0 s3 x (StoresIn x m object first.pointer.birth block.bytes) (KnowsReplaced rack area owns l3 then_table (seq + 1) t.0 t.1 (write_of x.store.changes t.2)))
       (λ i. (ap (λ (p : Pointer). p.birth) same i, (ap table of_object ∙ sym earlier_is) i, of_object i))
-      (stored rack area went shared owns l1 l2 l3 l3 s0 s1 s2 s3 s3 m object first ticket block table then_table seq floor 0 x same starts.object_is starts.seq_is knows.seq knows.floor
+      (stored rack area went shared owns l1 l2 l3 l3 s0 s1 s2 s3 s3 m object first ticket block table then_table seq floor 0 x same starts.object_is starts.seq_is knows.but_it.seq knows.but_it.floor
       (starts_own.step table x knows) (subst (λ n. PutsBy rack area went shared owns owns l1 l2 s1 s2 m first ticket block n) (sym columns_are) puts_own)
       (λ y layout known. says table then_table seq floor y (λ q. subst (λ n. then_table q ≡ cond (nat_eq n q) (Some pointer) (table q)) (sym of_object) (sets q)) (all ∙ (sym columns_are ∙ ap (λ (g : Geometry). g.g) (sym layout))) known)))
 
@@ -71,7 +71,7 @@ module _ {R A S : Type 0} (rack : racks.Ghosts R) (area : areas.Ghosts A) (went 
       let says : EndSays rack area went shared owns owns l2 l3 s2 s3 m ticket block (Err missed) = ends_own (Err missed) ends in
       subst (λ (t : ℕ × ℕ). LeadsBy rack area went shared s0 s3 x (WriteInDoes x m object block.bytes (Err (fault.Missed t.0))) (Knows rack area owns l3 table (seq + 1) t.1))
       (λ i. (sym says.0 i, ap (λ (p : Pointer). p.birth) same i))
-      (lost rack area went shared owns l1 l2 l3 s0 s1 s2 s3 m object first ticket block table seq floor x same starts.object_is starts.seq_is knows.seq knows.floor
+      (lost rack area went shared owns l1 l2 l3 s0 s1 s2 s3 m object first ticket block table seq floor x same starts.object_is starts.seq_is knows.but_it.seq knows.but_it.floor
       (starts_own.step table x knows) (subst (λ n. PutsBy rack area went shared owns owns l1 l2 s1 s2 m first ticket block n) (sym columns_are) puts_own)
       (λ y known. says.1 table seq floor y known)))
 

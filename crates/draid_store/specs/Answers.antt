@@ -1,5 +1,5 @@
 -- What each call of a pool does, by its answer: its holds, and what the pool has of its own before and after.
-use Rattle.std.specs.Prelude.{◌≡◌, ◌≤◌, ◌<◌, ◌+◌, ⊤, ℕ, true, false, List, [], ◌∷◌, ◌++◌, Option, Some, None, slice_get, Result, Ok, Err}
+use Rattle.std.specs.Prelude.{◌≡◌, ◌≤◌, ◌<◌, ◌+◌, ℕ, true, false, List, [], ◌∷◌, ◌++◌, Option, Some, None, Result, Ok, Err}
 use Rattle.std.specs.declared.vec.Vec.{Vec}
 use Rattle.std.specs.declared.alloc.Global.{Global}
 use Rattle.draid_names.specs.declared.refusal.ObjectFault.{ObjectFault}
@@ -16,21 +16,15 @@ use Rattle.draid_block.specs.declared.solve.Fetched.{Fetched}
 use Rattle.draid_objects.specs.Changes.{Write, Wrote, write_of}
 use Rattle.draid_session.specs.Damage as damage
 use Rattle.draid_session.specs.Does.{IsOne, ReadStarves}
-use Rattle.draid_session.specs.Holds.{Hold, view_of}
+use Rattle.draid_session.specs.Holds.{Hold, Looked, On, View}
 use Rattle.draid_session.specs.Looks.{OnlyLooks}
 use Rattle.draid_session.specs.Reads as reads
-use Rattle.draid_session.specs.State.{Metaslab, State, Store}
-use Rattle.draid_session.specs.Worn.{IsWorn}
+use Rattle.draid_session.specs.State.{State, Store}
 use Rattle.draid_session.specs.Writes as written
 use Rattle.draid_store.specs.declared.fault.DamageFault.{DamageFault}
 use Rattle.draid_store.specs.declared.fault.DamageFault.TheVariants as damaged
 use Rattle.draid_store.specs.declared.fault.FreeFault.{FreeFault}
 use Rattle.draid_store.specs.declared.fault.SumFault.{SumFault}
-use Rattle.draid_rack.specs.declared.Rack as racks
-use Rattle.draid_area.specs.declared.Area as areas
-use Rattle.draid_pool.specs.Pools.{Represents}
-use Rattle.draid_pool.specs.declared.pool.Pool.{Pool}
-use Rattle.draid_pool.specs.Carries.{CarriesOut}
 
 -- a write, where the chooser may name these metaslabs
 abbrev pub WriteDoes : State → (List Room → Option ℕ → Type 0) → ℕ → List ℕ → Result Unit WriteFault → List Hold → Store → Type 0
@@ -110,22 +104,14 @@ pub record FetchIs (x : State) (o : ℕ) (fetched : Fetched) (holds : List Hold)
   pub one : IsOne (IsFetchOf x o) holds
   pub answers : (solve : Solve) → IsSolved (cut_of x.geometry) fetched solve → ReadDoes x o (reading_of solve) holds new
 
--- an object's block lies in a metaslab that is worn
-pub record IsWornAt (x : State) (o : ℕ) : Type 0 where
-  pub w : Write
-  pub y : Metaslab
-  pub written : write_of x.store.changes o ≡ Some w
-  pub there : slice_get x.metaslabs w.metaslab ≡ Some y
-  pub worn : IsWorn x.geometry (view_of w.metaslab y) 1
+-- Why no block of an object was fetched: it has none; or its metaslab is worn, or memory was wanting, as it was looked at.
+abbrev pub NoFetch : State → ℕ → ObjectFault → List Hold → Type 0
+NoFetch x o object.NoObject holds = (write_of x.store.changes o ≡ None) × (holds ≡ [])
+NoFetch x o (object.Unreadable absent tried) holds = ⊥
+NoFetch x o object.Worn holds = IsOne (reads.ReadsWorn x.geometry x.perms x.store o) holds
+NoFetch x o object.NoMemory holds = IsOne (λ hold. (v : View) × (hold ≡ On v Looked)) holds
 
--- why no block of an object is fetched in a state
-abbrev pub Unfetched : State → ℕ → ObjectFault → Type 0
-Unfetched x o object.NoObject = write_of x.store.changes o ≡ None
-Unfetched x o (object.Unreadable absent tried) = ⊥
-Unfetched x o object.Worn = IsWornAt x o
-Unfetched x o object.NoMemory = ⊤
-
--- An object's block was fetched; or the pool stands for the same state, and this is why.
-abbrev pub FetchLeads : {R A : Type 0} → racks.Ghosts R → areas.Ghosts A → Pool R A → State → ℕ → Result Fetched ObjectFault → Type 0
-FetchLeads rack area new x o (Ok fetched) = CarriesOut rack area new x (FetchIs x o fetched)
-FetchLeads rack area new x o (Err why) = Represents rack area new x × Unfetched x o why
+-- an object's block was fetched, or it wasn't
+abbrev pub FetchDoes : State → ℕ → Result Fetched ObjectFault → List Hold → Store → Type 0
+FetchDoes x o (Ok fetched) holds new = FetchIs x o fetched holds new
+FetchDoes x o (Err why) holds new = (new ≡ x.store) × NoFetch x o why holds

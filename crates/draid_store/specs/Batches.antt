@@ -7,16 +7,12 @@ use Rattle.draid_block.specs.declared.many.Solve.TheVariants.{Bytes, Unreadable}
 use Rattle.draid_block.specs.declared.solve.Fetched.{Fetched}
 use Rattle.draid_names.specs.declared.refusal.ObjectFault.{ObjectFault}
 use Rattle.draid_names.specs.declared.refusal.ObjectFault.TheVariants as object
-use Rattle.draid_rack.specs.declared.Rack as racks
-use Rattle.draid_area.specs.declared.Area as areas
 use Rattle.draid_session.specs.Does.{IsOne}
-use Rattle.draid_session.specs.Follows.{Follows}
 use Rattle.draid_session.specs.Holds.{Hold}
 use Rattle.draid_session.specs.Reads.{GivesAll}
 use Rattle.draid_session.specs.State.{State, Store}
-use Rattle.draid_store.specs.Answers.{FetchIs, IsFetchOf, SumDoes, Unfetched}
-use Rattle.draid_pool.specs.Pools.{Represents}
-use Rattle.draid_pool.specs.declared.pool.Pool.{Pool}
+use Rattle.draid_store.specs.Answers.{FetchIs, IsFetchOf, NoFetch, SumDoes}
+use Rattle.draid_store.specs.Fetching.{ButLooks}
 use Rattle.draid_store.specs.declared.fault.SumFault.{SumFault}
 use Rattle.draid_store.specs.declared.summing.Batch.{Batch}
 
@@ -28,22 +24,20 @@ FetchesBlocks x first [] holds = holds ≡ []
 FetchesBlocks x first (fetched ∷ more) holds =
     (front : List Hold) × (back : List Hold) × (holds ≡ front ++ back) × FetchIs x first fetched front x.store × FetchesBlocks x (first + 1) more back
 
--- Why a batch ends behind so many blocks: it has at least one; or the next object has none to be fetched in the state that was reached, or its block was fetched
--- and there was no memory to keep it.
-abbrev pub EndsBatch : State → State → ℕ → ℕ → ℕ → Option ObjectFault → List Hold → Type 0
-EndsBatch x reached first count many None holds = (1 ≤ many) × (many ≤ count) × (holds ≡ [])
-EndsBatch x reached first count many (Some why) holds = (many < count)
-    × (((holds ≡ []) × Unfetched reached (first + many) why) ⊎ ((why ≡ object.NoMemory) × IsOne (IsFetchOf x (first + many)) holds))
+-- Why a batch ends behind so many blocks: it has at least one; or the next object has none to be fetched, or its block was fetched and there was no memory to keep
+-- it.
+abbrev pub EndsBatch : State → ℕ → ℕ → ℕ → Option ObjectFault → List Hold → Type 0
+EndsBatch x first count many None holds = (1 ≤ many) × (many ≤ count) × (holds ≡ [])
+EndsBatch x first count many (Some why) holds = (many < count) × (NoFetch x (first + many) why holds ⊎ ((why ≡ object.NoMemory) × IsOne (IsFetchOf x (first + many)) holds))
 
--- the blocks of the first of so many objects were fetched, and the pool stands for the state that was reached
-pub record FetchesBatch {R A : Type 0} (rack : racks.Ghosts R) (area : areas.Ghosts A) (new : Pool R A) (x : State) (first count : ℕ) (batch : Batch) : Type 0 where
+-- the blocks of the first of so many objects were fetched
+pub record FetchesBatch (x : State) (first count : ℕ) (batch : Batch) (holds : List Hold) (store : Store) : Type 0 where
+  pub same : store ≡ x.store
   pub front : List Hold
   pub back : List Hold
-  pub reached : State
-  pub follows : Follows (front ++ back) x reached
+  pub are : holds ≡ front ++ back
   pub fetches : FetchesBlocks x first batch.blocks.items front
-  pub ends : EndsBatch x reached first count (length batch.blocks.items) batch.fault back
-  pub represents : Represents rack area new reached
+  pub ends : EndsBatch x first count (length batch.blocks.items) batch.fault back
 
 -- ---- feeding
 
@@ -93,3 +87,13 @@ pub record AddsBytes (x : State) (first count added : ℕ) (hasher hasher' : Sha
 abbrev pub AddIs : State → ℕ → ℕ → Sha256 → Sha256 → Result ℕ SumFault → List Hold → Store → Type 0
 AddIs x first count hasher hasher' (Ok added) holds new = AddsBytes x first count added hasher hasher' holds new
 AddIs x first count hasher hasher' (Err fault) holds new = SumDoes x first count (Err fault) holds new
+
+-- where no bytes were added, metaslabs may be looked at behind that
+abbrev pub AddTries : State → ℕ → ℕ → Sha256 → Sha256 → Result ℕ SumFault → List Hold → Store → Type 0
+AddTries x first count hasher hasher' (Ok added) holds new = AddIs x first count hasher hasher' (Ok added) holds new
+AddTries x first count hasher hasher' (Err fault) holds new = ButLooks (AddIs x first count hasher hasher' (Err fault)) holds new
+
+-- so it is of a sum
+abbrev pub SumTries : State → ℕ → ℕ → Result (List ℕ) SumFault → List Hold → Store → Type 0
+SumTries x first count (Ok digest) holds new = SumDoes x first count (Ok digest) holds new
+SumTries x first count (Err fault) holds new = ButLooks (SumDoes x first count (Err fault)) holds new

@@ -1,5 +1,6 @@
 pub mod Answers
 pub mod Batches
+pub mod Fetching
 pub mod Freeing
 pub mod Frees
 pub mod Open

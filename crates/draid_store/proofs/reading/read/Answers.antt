@@ -1,62 +1,32 @@
-use Rattle.std.proofs.Common.{subst, sym}
-use Rattle.std.proofs.lemmas.Result.{err_from_is_err_and}
-use Rattle.draid_spec.specs.declared.layout.Geometry.{Geometry}
-use Rattle.draid_block.specs.Blocks.{cut_of}
-use Rattle.draid_block.specs.Solving.{IsFetched}
-use Rattle.draid_block.specs.declared.many.Solve.TheVariants.{Bytes, Unreadable}
-use Rattle.draid_pool.specs.Pointers.{pointer_in}
-use Rattle.draid_store.proofs.Pointed as pointed
-use Rattle.draid_store.proofs.Pointed.{read_bytes, read_lost, read_stops}
-use Rattle.draid_pool.proofs.Wholes.{same_pointers}
-use Rattle.draid_store.proofs.ReadSteps.{read_solved, read_starved, unread, unread_is}
+use Rattle.std.proofs.Common.{refl}
+use Rattle.draid_pool.specs.Whole.{IsWhole}
+use Rattle.draid_pool.specs.declared.pool.Pool.{Pool}
+use Rattle.draid_pool.proofs.OwnedKnows.{knows_all, whole_by}
+use Rattle.draid_pool.proofs.OwnedStands.{carries_out, whole_left}
+use Rattle.draid_pool.proofs.Wholes.{whole_geometry}
+use Rattle.draid_store.specs.Answers.{ReadDoes}
+use Rattle.draid_store.proofs.ReadSteps.{read_plain}
 use Rattle.draid_store.proofs.reading.read.Goals as goal
 
-pub returns-in_err-fetched : goal.returns-in_err-fetched
-returns-in_err-fetched g c = record {
-  whole = c.in_err-fetched.ensures.whole;
-  same = same_pointers c.args.pool.now c.fetch.new.pool c.in_err-fetched.ensures.objects;
-  read =
-      (let p = err_from_is_err_and c.from_residual.result c.from_residual.ensures.1 in
-      rw (p.1, p.2) (read_stops (pointer_in c.args.pool.now c.args.object) c.in_err-fetched.field-0.0 c.in_err-fetched.ensures.found));
-  step = λ x is.
-      (let p = err_from_is_err_and c.from_residual.result c.from_residual.ensures.1 in
-      let f = c.in_err-fetched.ensures.step x is in
-      rw (p.1, p.2) (unread g.R.Rack g.A.Area c.fetch.new.pool x c.args.object c.in_err-fetched.field-0.0 f.0 f.1));
-}
-
-pub solve_block-requires : goal.solve_block-requires
-solve_block-requires g c =
-    record {
-      geometry = c.in_ok-fetched.ensures.whole.layout.geometry_is;
-      fetched = subst (λ (geometry : Geometry). IsFetched (cut_of geometry) c.in_ok-fetched.fetched) (sym c.in_ok-fetched.ensures.geometry) c.in_ok-fetched.ensures.fetched;
-    }
-
-pub returns-in-Ok : goal.returns-in-Ok
-returns-in-Ok g c = record {
-  whole = c.in_ok-fetched.ensures.whole;
-  same = same_pointers c.args.pool.now c.fetch.new.pool c.in_ok-fetched.ensures.objects;
-  read = read_bytes (pointer_in c.args.pool.now c.args.object) c.in_ok-fetched.fetched c.in-Ok.bytes c.in_ok-fetched.ensures.found c.in-Ok.ensures.digest;
-  step = λ x is.
-      (let e = c.in-Ok.ensures in
-      read_solved g.R.Rack g.A.Area c.fetch.new.pool x c.args.object c.in_ok-fetched.fetched (Bytes c.in-Ok.bytes) (c.in_ok-fetched.ensures.step x is)
-      (record { solves = e.solves; digest = e.digest; readable = e.readable }));
-}
-
-pub returns-in-Err-Unreadable : goal.returns-in-Err-Unreadable
-returns-in-Err-Unreadable g c = record {
-  whole = c.in_ok-fetched.ensures.whole;
-  same = same_pointers c.args.pool.now c.fetch.new.pool c.in_ok-fetched.ensures.objects;
-  read = read_lost (pointer_in c.args.pool.now c.args.object) c.in_ok-fetched.fetched c.in-Err-Unreadable.absent c.in-Err-Unreadable.tried c.in_ok-fetched.ensures.found;
-  step = λ x is.
-      (let e = c.in-Err-Unreadable.ensures in
-      read_solved g.R.Rack g.A.Area c.fetch.new.pool x c.args.object c.in_ok-fetched.fetched (Unreadable c.in-Err-Unreadable.absent c.in-Err-Unreadable.tried) (c.in_ok-fetched.ensures.step x is)
-      (unread_is _ c.in_ok-fetched.fetched c.in-Err-Unreadable.field-0 c.in-Err-Unreadable.absent c.in-Err-Unreadable.tried c.in-Err-Unreadable.field-0-is e.solves e.digest e.readable));
+pub read_object-requires : goal.read_object-requires
+read_object-requires g c = record {
+  fits = tt;
+  own = refl;
+  geometry = c.requires.whole.layout.geometry_is;
+  layout = λ m shard at. whole_geometry g.R.Rack g.A.Area c.args.pool.now m shard c.requires.whole at;
+  whole = whole_by g.R.Rack g.A.Area c.args.pool.now c.requires.whole;
 }
 
 pub returns : goal.returns
-returns g c = record {
-  whole = c.in_ok-fetched.ensures.whole;
-  same = same_pointers c.args.pool.now c.fetch.new.pool c.in_ok-fetched.ensures.objects;
-  read = pointed.read_starved (pointer_in c.args.pool.now c.args.object) c.in_ok-fetched.fetched c.in_ok-fetched.ensures.found;
-  step = λ x is. read_starved g.R.Rack g.A.Area c.fetch.new.pool x c.args.object c.in_ok-fetched.fetched (c.in_ok-fetched.ensures.step x is);
-}
+returns g c =
+    let old = c.args.pool.now in
+    let new : Pool g.row.R.Denot g.row.A.Denot = record old { metaslabs = c.read_object.new.metaslabs } in
+    let e = c.read_object.ensures in
+    let whole : IsWhole g.R.Rack g.A.Area new = whole_left g.R.Rack g.A.Area old new c.requires.whole refl refl e.stay e.whole in
+    record {
+      whole = whole;
+      same = λ o. refl;
+      read = e.read;
+      step = λ x is.
+          carries_out g.R.Rack g.A.Area old new x is refl refl whole _ _ _ (ReadDoes x c.args.object c.read_object.result) (read_plain x c.args.object c.read_object.result) (e.step x is.stands.geometry (knows_all g.R.Rack g.A.Area old x is));
+    }

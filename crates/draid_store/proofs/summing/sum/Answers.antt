@@ -1,85 +1,40 @@
-use Rattle.std.proofs.Common.{◌-◌, ◌+◌, ◌∙◌, arith, nat_eq, refl, subst}
-use Rattle.std.specs.HashMap.{get}
-use Rattle.std.proofs.lemmas.Result.{err_from_is_err_and}
-use Rattle.draid_store.specs.PointerSums.{AddsFitting, StopsSum}
-use Rattle.draid_pool.specs.Pointers.{pointer_in}
-use Rattle.draid_pool.proofs.Wholes.{same_pointers}
-use Rattle.draid_store.proofs.PointedSums.{sofar_done, sofar_more, sofar_none, sofar_stops}
-use Rattle.draid_store.proofs.Sums.{sum_done, sum_stops, summing_more, summing_none}
+use Rattle.std.proofs.Common.{refl}
+use Rattle.draid_pool.specs.Whole.{IsWhole}
+use Rattle.draid_pool.specs.declared.pool.Pool.{Pool}
+use Rattle.draid_pool.proofs.OwnedKnows.{knows_all, whole_by}
+use Rattle.draid_pool.proofs.OwnedStands.{whole_left}
+use Rattle.draid_pool.proofs.Wholes.{whole_geometry}
+use Rattle.draid_pool.specs.Threads.{Knows}
+use Rattle.draid_pool.proofs.OwnedKnows.{all, left_in, table_in}
+use Rattle.draid_store.specs.Answers.{SumDoes}
+use Rattle.draid_store.specs.Batches.{SumTries}
+use Rattle.draid_store.specs.Fetching.{ButLooks}
+use Rattle.draid_store.proofs.ColumnSteps.{leads_as}
+use Rattle.draid_store.proofs.ReadSteps.{sum_looks_plain, tries_but}
+use Rattle.draid_store.proofs.Unlooked.{carries_but}
 use Rattle.draid_store.proofs.summing.sum.Goals as goal
 
-pub loop-summed-init : goal.loop-summed-init
-loop-summed-init g c = record {
-  summing = λ x is. summing_none g.R.Rack g.A.Area c.args.pool.now x c.args.first c.new-hasher.result c.new-hasher.ensures is;
-  objects = refl;
-  sofar = sofar_none (pointer_in c.args.pool.now) c.args.first c.new-hasher.result c.new-hasher.ensures;
-  whole = c.requires.whole;
-  bound = omega arith;
-}
+pub sum_objects-requires-clause-geometry : goal.sum_objects-requires-clause-geometry
+sum_objects-requires-clause-geometry g c κs within = c.requires.whole.layout.geometry_is
 
-pub add_batch-requires-clause-whole : goal.add_batch-requires-clause-whole
-add_batch-requires-clause-whole g c κs within = c.loop-summed.invariant.whole
+pub sum_objects-requires-clause-layout : goal.sum_objects-requires-clause-layout
+sum_objects-requires-clause-layout g c κs within m shard at = whole_geometry g.R.Rack g.A.Area c.args.pool.now m shard c.requires.whole at
 
-pub returns-in_err-summed : goal.returns-in_err-summed
-returns-in_err-summed g c = record {
-  whole = c.in_err-summed.ensures.whole;
-  same = same_pointers c.args.pool.now c.add_batch.new.pool (c.in_err-summed.ensures.objects ∙ c.loop-summed.invariant.objects);
-  sums =
-      (let p = err_from_is_err_and c.from_residual.result c.from_residual.ensures.1 in
-      let below = c.loop-summed-test.true in
-      rw (p.1, p.2) (sofar_stops (pointer_in c.args.pool.now) c.args.first c.loop-summed.summed (c.args.count - c.loop-summed.summed) c.args.count c.loop-summed.hasher c.in_err-summed.field-0.0
-      c.loop-summed.invariant.sofar
-      (subst (λ table. StopsSum (λ o. get nat_eq table o) (c.args.first + c.loop-summed.summed) (c.args.count - c.loop-summed.summed) c.in_err-summed.field-0.0) c.loop-summed.invariant.objects c.in_err-summed.ensures.adds)
-      (omega (arith, below))));
-  step = λ x is.
-      (let p = err_from_is_err_and c.from_residual.result c.from_residual.ensures.1 in
-      rw (p.1, p.2) (sum_stops g.R.Rack g.A.Area c.loop-summed.pool c.add_batch.new.pool x c.args.first c.loop-summed.summed c.args.count c.loop-summed.hasher c.add_batch.new.hasher
-      c.in_err-summed.field-0.0 (c.loop-summed.invariant.summing x is) c.loop-summed.invariant.bound (λ y represents. c.in_err-summed.ensures.step y represents)));
-}
-
-pub overflow_add-summed : goal.overflow_add-summed
-overflow_add-summed g c =
-    let some = c.in_ok-summed.ensures.added in
-    let within = some.1 in
-    let below = c.loop-summed-test.true in
-    let fits = c.ranges.count.fits in
-    omega (arith, within, below, fits)
-
-pub loop-summed-smaller : goal.loop-summed-smaller
-loop-summed-smaller g c =
-    let some = c.in_ok-summed.ensures.added in
-    let more = some.0 in
-    let below = c.loop-summed-test.true in
-    omega (arith, more, below)
-
-pub loop-summed-preserved : goal.loop-summed-preserved
-loop-summed-preserved g c =
-    let some = c.in_ok-summed.ensures.added in
-    let within = some.1 in
-    let below = c.loop-summed-test.true in
-    record {
-      whole = c.in_ok-summed.ensures.whole;
-      objects = c.in_ok-summed.ensures.objects ∙ c.loop-summed.invariant.objects;
-      sofar = sofar_more (pointer_in c.args.pool.now) c.args.first c.loop-summed.summed c.in_ok-summed.field-0 c.loop-summed.hasher c.add_batch.new.hasher c.loop-summed.invariant.sofar
-          (subst (λ table. AddsFitting (λ o. get nat_eq table o) (c.args.first + c.loop-summed.summed) c.in_ok-summed.field-0 c.loop-summed.hasher c.add_batch.new.hasher) c.loop-summed.invariant.objects
-          c.in_ok-summed.ensures.adds);
-      summing = λ x given.
-          summing_more g.R.Rack g.A.Area c.loop-summed.pool c.add_batch.new.pool x c.args.first c.loop-summed.summed (c.args.count - c.loop-summed.summed)
-          c.in_ok-summed.field-0 c.loop-summed.hasher c.add_batch.new.hasher (c.loop-summed.invariant.summing x given) (λ y represents. c.in_ok-summed.ensures.step y represents);
-      bound = omega (arith, within, below);
-    }
+pub sum_objects-requires-clause-whole : goal.sum_objects-requires-clause-whole
+sum_objects-requires-clause-whole g c κs within = whole_by g.R.Rack g.A.Area c.args.pool.now c.requires.whole
 
 pub returns : goal.returns
-returns g c = record {
-  whole = c.loop-summed.invariant.whole;
-  same = same_pointers c.args.pool.now c.loop-summed.pool c.loop-summed.invariant.objects;
-  sums =
-      (let end = c.loop-summed-test.false in
-      let bound = c.loop-summed.invariant.bound in
-      sofar_done (pointer_in c.args.pool.now) c.args.first c.loop-summed.summed c.args.count c.loop-summed.hasher c.finalize.result c.loop-summed.invariant.sofar (omega (arith, end, bound)) c.finalize.ensures);
-  step = λ x is.
-      (let end = c.loop-summed-test.false in
-      let bound = c.loop-summed.invariant.bound in
-      sum_done g.R.Rack g.A.Area c.loop-summed.pool x c.args.first c.loop-summed.summed c.args.count c.loop-summed.hasher c.finalize.result
-      (c.loop-summed.invariant.summing x is) (omega (arith, end, bound)) c.finalize.ensures);
-}
+returns g c =
+    let old = c.args.pool.now in
+    let new : Pool g.row.R.Denot g.row.A.Denot = record old { metaslabs = c.sum_objects.new.metaslabs } in
+    let e = c.sum_objects.ensures in
+    let whole : IsWhole g.R.Rack g.A.Area new = whole_left g.R.Rack g.A.Area old new c.requires.whole refl refl e.stay e.whole in
+    record {
+      whole = whole;
+      same = λ o. refl;
+      sums = e.sums;
+      step = λ x is.
+          carries_but g.R.Rack g.A.Area old new x is refl refl whole _ _ _ (SumDoes x c.args.first c.args.count c.sum_objects.result) (sum_looks_plain x c.args.first c.args.count c.sum_objects.result)
+          (leads_as _ _ _ _ _ _ x (SumTries x c.args.first c.args.count c.sum_objects.result) (ButLooks (SumDoes x c.args.first c.args.count c.sum_objects.result)) (λ y. Knows g.R.Rack g.A.Area all (left_in new) (table_in new) new.own.seq new.own.floor y)
+          (tries_but x c.args.first c.args.count c.sum_objects.result) (e.step x is.stands.geometry (knows_all g.R.Rack g.A.Area old x is)));
+    }
