@@ -1,0 +1,7 @@
+mod Cancelled
+mod Following
+mod Planned
+mod Readied
+mod Rooms
+mod Roomy
+mod Spaces

@@ -5,8 +5,10 @@
 mod cancelling;
 mod fault;
 mod owing;
+mod planning;
 mod readying;
 
 pub use cancelling::cancel;
 pub use fault::{NotYet, PlanFault};
+pub use planning::plan;
 pub use readying::ready;
