@@ -1,4 +1,5 @@
 pub mod Answers
 pub mod Attaching
+pub mod Behind
 pub mod Says
 pub mod Walks
