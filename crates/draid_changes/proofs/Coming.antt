@@ -16,7 +16,7 @@ use Rattle.draid_area.specs.declared.Area as areas
 use Rattle.draid_machine.proofs.Small.{absurd_test, none_some, some_injective}
 use Rattle.draid_pass.specs.declared.pass.Pass.{Pass}
 use Rattle.draid_slots.specs.Faults.{MayAttach}
-use Rattle.draid_slots.specs.Table.{IsTable, SlotTable, arm_at, arms_of, has_spare, is_leaf_kind, is_spare_of, was_spare_of}
+use Rattle.draid_slots.specs.Table.{IsArmOf, IsTable, SlotTable, arm_at, arms_of, has_spare, is_leaf_kind, is_spare_of, was_spare_of}
 use Rattle.draid_slots.specs.declared.slot.Detached.{Detached}
 use Rattle.draid_shard.specs.Alike.{KeepsArms, ShareArms}
 use Rattle.draid_shard.specs.Fits.{IsLeaf, is_rebuild}
@@ -121,7 +121,23 @@ attached_leaf old new slot arm leaf a (inl (at, b, there, kind_is, number)) =
         let z = plain_got (arms_of old s) at.arm (plain b) before in
         (record { slot = s; arm = at.arm }, z.0, z.1, ap (λ (x : Arm). x.kind) z.2 ∙ kind_is, ap (λ (x : Arm). x.number) z.2 ∙ number)
 
+-- the last arm of the slot is the one that came
+got_last : {X : Type 0} (xs : List X) (y : X) → slice_get (xs ++ y ∷ []) (length xs) ≡ Some y
+got_last [] y = refl
+got_last (x ∷ xs) y = got_last xs y
+
+attached_arm : (old new : SlotTable) (slot : ℕ) (arm : Arm) → HasAttached old new slot arm → (k : ℕ) × IsArmOf arm.kind arm.number (arm_at new (record { slot = slot; arm = k }))
+attached_arm old new slot arm a =
+    let k = length (plain_arms old slot) in
+    let z = plain_got (arms_of new slot) k arm (ap (λ xs. slice_get xs k) a.here ∙ got_last (plain_arms old slot) arm) in
+    (k, (z.0, z.1, ap (λ (x : Arm). x.kind) z.2, ap (λ (x : Arm). x.number) z.2))
+
 module _ {R A : Type 0} (rack : racks.Ghosts R) (area : areas.Ghosts A) where
+  -- it is an arm of the slot in each metaslab
+  pub came_to_all : (slot : ℕ) (k : ArmKind) (number : ℕ) (old new : List (Shard R A)) → ChangedBelow (Attaches rack slot k number) (length old) old new → (m : ℕ) (z : Shard R A) → slice_get new m ≡ Some z
+      → (arm : ℕ) × IsArmOf k number (arm_at z.slots (record { slot = slot; arm = arm }))
+  came_to_all slot k number old new c m z at = (let was = changed_at (Attaches rack slot k number) old new c m z at in attached_arm was.0.slots z.slots slot (arm_called k number) was.2.slots)
+
   -- the slots of a metaslab of a whole pool have the pool's layout
   pub slots_layout : (pool : Pool R A) (m : ℕ) (shard : Shard R A) → IsWhole rack area pool → slice_get pool.metaslabs.shards.items m ≡ Some shard → shard.slots.geometry ≡ pool.geometry
   slots_layout pool m shard w there = (let is = w.shards m shard there in is.valid.slots.geometry_is ∙ ap (λ (p : Part). p.geometry) is.part)

@@ -3,6 +3,7 @@ pub mod Begun
 pub mod Calls
 pub mod Coming
 pub mod Events
+pub mod Leaves
 pub mod Phases
 pub mod Raised
 pub mod Reserved

@@ -8,6 +8,7 @@ ghost use Rattle.draid_pool.specs.Failing.{AreaRose, AreasLater};
 ghost use Rattle.draid_pool.specs.Pointers.{SamePointers};
 ghost use Rattle.draid_pool.specs.Pools.{Represents};
 ghost use Rattle.draid_pool.specs.Whole.{IsWhole};
+ghost use Rattle.draid_changes.specs.Behind.{ArmsBehind};
 ghost use Rattle.draid_changes.specs.Says.{SpareSays, SwitchSays};
 
 use crate::fault::ArmFault;
@@ -32,6 +33,7 @@ pub fn reply_to_offline<R: Rack, A: Area>(pool: &mut Pool<R, A>, leaf: u64) -> R
     ensures fits { IfOk result (IsReplyTo (TakeOffline leaf)) }
     ensures step { (x : State) → Represents R.Rack A.Area pool.old x
         → CarriesOut R.Rack A.Area pool.new x (SwitchSays leaf true result x) }
+    ensures arms { IfOk result (λ reply. ArmsBehind (TakeOffline leaf) reply pool.new.metaslabs.shards.items) }
 {
     match offline(pool, leaf) {
         Ok(()) => Ok(Reply::OfflineDone { leaf }),
@@ -54,6 +56,7 @@ pub fn reply_to_online<R: Rack, A: Area>(pool: &mut Pool<R, A>, leaf: u64) -> Re
     ensures fits { IfOk result (IsReplyTo (TakeOnline leaf)) }
     ensures step { (x : State) → Represents R.Rack A.Area pool.old x
         → CarriesOut R.Rack A.Area pool.new x (SwitchSays leaf false result x) }
+    ensures arms { IfOk result (λ reply. ArmsBehind (TakeOnline leaf) reply pool.new.metaslabs.shards.items) }
 {
     match online(pool, leaf) {
         Ok(()) => Ok(Reply::OnlineDone { leaf }),
@@ -81,6 +84,7 @@ pub fn reply_to_spare<R: Rack, A: Area>(
     ensures fits { IfOk result (IsReplyTo (AttachSpare slot number)) }
     ensures step { (x : State) → Represents R.Rack A.Area pool.old x
         → CarriesOut R.Rack A.Area pool.new x (SpareSays slot number result x) }
+    ensures arms { IfOk result (λ reply. ArmsBehind (AttachSpare slot number) reply pool.new.metaslabs.shards.items) }
 {
     // (before the spare comes: a want of memory may not follow that)
     let Ok(name) = spare_name(alloc, pool.geometry.spec, number) else {

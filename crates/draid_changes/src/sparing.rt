@@ -8,6 +8,7 @@ ghost use Rattle.draid_pool.specs.Pointers.{SamePointers};
 ghost use Rattle.draid_pool.specs.Pools.{Represents};
 ghost use Rattle.draid_pool.specs.Whole.{IsWhole};
 ghost use Rattle.draid_changes.specs.Answers.{SpareDoes};
+ghost use Rattle.draid_changes.specs.Behind.{SpareIs};
 
 use crate::attaching::attach_all;
 use crate::fault::{ArmFault, arm_fault};
@@ -30,6 +31,7 @@ pub fn spare<R: Rack, A: Area>(pool: &mut Pool<R, A>, slot: u32, spare: u32) -> 
     ensures cause { IsErrOf result ArmFault.Shelf → AreaRose A.faults pool.old pool.new }
     ensures carries { (x : State) → Represents R.Rack A.Area pool.old x
         → CarriesOut R.Rack A.Area pool.new x (SpareDoes x slot spare result) }
+    ensures arms { SpareIs slot spare result pool.new.metaslabs.shards.items }
 {
     if let Err(fault) = pool.finish() {
         return Err(arm_fault(fault));

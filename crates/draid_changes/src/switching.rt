@@ -9,6 +9,7 @@ ghost use Rattle.draid_pool.specs.Pointers.{SamePointers};
 ghost use Rattle.draid_pool.specs.Pools.{Represents};
 ghost use Rattle.draid_pool.specs.Whole.{IsWhole};
 ghost use Rattle.draid_changes.specs.Answers.{SwitchDoes};
+ghost use Rattle.draid_changes.specs.Behind.{LeafIs};
 ghost use Rattle.draid_changes.specs.Walks.{ChangedBelow, MaySwitch, Switches};
 
 use crate::fault::{ArmFault, arm_fault};
@@ -30,6 +31,7 @@ pub fn offline<R: Rack, A: Area>(pool: &mut Pool<R, A>, leaf: u64) -> Result<(),
     ensures cause { IsErrOf result ArmFault.Shelf → AreaRose A.faults pool.old pool.new }
     ensures carries { (x : State) → Represents R.Rack A.Area pool.old x
         → CarriesOut R.Rack A.Area pool.new x (SwitchDoes x leaf true result) }
+    ensures arms { LeafIs leaf true result pool.new.metaslabs.shards.items }
 {
     switch(pool, leaf, true)
 }
@@ -43,6 +45,7 @@ pub fn online<R: Rack, A: Area>(pool: &mut Pool<R, A>, leaf: u64) -> Result<(), 
     ensures cause { IsErrOf result ArmFault.Shelf → AreaRose A.faults pool.old pool.new }
     ensures carries { (x : State) → Represents R.Rack A.Area pool.old x
         → CarriesOut R.Rack A.Area pool.new x (SwitchDoes x leaf false result) }
+    ensures arms { LeafIs leaf false result pool.new.metaslabs.shards.items }
 {
     switch(pool, leaf, false)
 }
@@ -56,6 +59,7 @@ fn switch<R: Rack, A: Area>(pool: &mut Pool<R, A>, leaf: u64, offline: bool) -> 
     ensures cause { IsErrOf result ArmFault.Shelf → AreaRose A.faults pool.old pool.new }
     ensures carries { (x : State) → Represents R.Rack A.Area pool.old x
         → CarriesOut R.Rack A.Area pool.new x (SwitchDoes x leaf offline result) }
+    ensures arms { LeafIs leaf offline result pool.new.metaslabs.shards.items }
 {
     if let Err(fault) = pool.finish() {
         return Err(arm_fault(fault));

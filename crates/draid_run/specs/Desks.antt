@@ -21,6 +21,7 @@ use Rattle.draid_pool.specs.Pools.{Represents}
 use Rattle.draid_pool.specs.Whole.{IsWhole}
 use Rattle.draid_pool.specs.declared.pool.Pool.{Pool}
 use Rattle.draid_pool.specs.Knows.{KnowsBehind, KnowsPointers}
+use Rattle.draid_changes.specs.Behind.{ArmsBehind}
 use Rattle.draid_run.specs.Shelves.{FailsIn, FaultIn, HasFailed, HasFault, HoldsDesk, IsClosed, IsOut, MayFind, OnShelf, PoolFails, RackFailedOn, RackFault}
 
 -- ---- desks
@@ -51,12 +52,14 @@ pub record IsDesk {R A : Type 0} (rack : racks.Ghosts R) (area : areas.Ghosts A)
 abbrev pub BreaksBy : State → Command → List Hold → Store → Type 0
 BreaksBy x command holds store = session.Broken x.geometry x.perms command x.store holds store
 
--- What a command that leaves the shelf alone came to: it was carried out on the open pool and has a reply that it may have, or its reply is that it wants one.
+-- What a command that leaves the shelf alone came to: it was carried out on the open pool and has a reply that it may have, or its reply is that it wants one. Of a pool
+-- of which no state is known it says what became of its objects and of its arms.
 abbrev pub PoolDid : {R A : Type 0} → racks.Ghosts R → areas.Ghosts A → Choices → Command → CommandName → Desk → Reply → Option (Pool R A) → Type 0
 PoolDid rack area choices command called (Open x) reply None = ⊥
 PoolDid rack area choices command called (Foreign known) reply None = ⊥
 PoolDid rack area choices command called (Open x) reply (Some pool) = IsWhole rack area pool × IsReplyTo command reply × CarriesOut rack area pool x (ReplyDoes x choices command reply)
-PoolDid rack area choices command called (Foreign known) reply (Some pool) = IsWhole rack area pool × IsReplyTo command reply × KnowsBehind command reply known pool
+PoolDid rack area choices command called (Foreign known) reply (Some pool) =
+    IsWhole rack area pool × IsReplyTo command reply × KnowsBehind command reply known pool × ArmsBehind command reply pool.metaslabs.shards.items
 PoolDid rack area choices command called desk reply pool = (reply ≡ NoPool called) × (pool ≡ None)
 
 -- what a command did to the open pool, by its reply, or where it has none

@@ -1,7 +1,8 @@
-use Rattle.std.proofs.Common.{◌≡◌, ℕ, List, Err, ap, refl, subst, sym, length}
+use Rattle.std.proofs.Common.{Result, ◌≡◌, ℕ, List, Err, ap, refl, subst, sym, length}
 use Rattle.std.specs.Prelude.{IfErr}
 use Rattle.draid_names.specs.declared.arm.Arm.{Arm}
 use Rattle.draid_names.specs.declared.arm.ArmKind.TheVariants as kind
+use Rattle.draid_names.specs.declared.refusal.SlotFault.{SlotFault}
 use Rattle.draid_rack.specs.declared.Rack as racks
 use Rattle.draid_shard.specs.declared.shard.Shard.{Shard}
 use Rattle.draid_disks.specs.Disks.{arm_called}
@@ -18,8 +19,9 @@ use Rattle.draid_changes.specs.Walks.{ChangedBelow, end_of_reserving, events_at}
 use Rattle.draid_changes.specs.declared.fault.ArmFault.TheVariants as armed
 use Rattle.draid_changes.specs.declared.need.Need.TheVariants as needs
 use Rattle.draid_changes.proofs.Begun.{err_same, first_borrowed, shelf_first, starved_no_way, unfinished, worn_no_way}
-use Rattle.draid_changes.proofs.Coming.{attached_whole, may_come}
+use Rattle.draid_changes.proofs.Coming.{attached_whole, came_to_all, may_come}
 use Rattle.draid_changes.proofs.Events.{areas_changed, idle_reserved}
+use Rattle.draid_changes.proofs.Leaves.{spare_unfinished}
 use Rattle.draid_changes.proofs.Spared.{SpareBreaks, SpareComes, no_leaf, spare_done, spare_refused, spare_stopped}
 use Rattle.draid_changes.proofs.sparing.spare.Goals as goal
 
@@ -35,15 +37,20 @@ returns-in-Err-clause-carries g c = λ x is.
 
 -- ---- the rules
 
+-- a rule forbids the spare
+barred : {R A : Type 0} (mid : Pool R A) (first : Shard R A) (shards : List (Shard R A)) (slot spare : ℕ) (arm : Arm) (result : Result Unit SlotFault) (why : SlotFault) → IfErr result (IsBarred first.slots shards slot arm)
+    → result ≡ Err why → shards ≡ mid.metaslabs.shards.items → arm ≡ arm_called kind.Spare spare → IsBarred first.slots mid.metaslabs.shards.items slot (arm_called kind.Spare spare) why
+barred mid first shards slot spare arm result why refused is same called =
+    subst (λ a. IsBarred first.slots mid.metaslabs.shards.items slot a why) called
+    (subst (λ zs. IsBarred first.slots zs slot arm why) same (subst (λ r. IfErr r (IsBarred first.slots shards slot arm)) is refused))
+
 pub returns-in-Err-may_come-clause-carries : goal.returns-in-Err-may_come-clause-carries
 returns-in-Err-may_come-clause-carries g c = λ x is.
     (let mid = c.finish.new.self in
     let first = c.index.result.now in
     let at = first_borrowed g.R.Rack g.A.Area mid first c.in_default.ensures.whole c.index.ensures in
     spare_refused g.R.Rack g.A.Area mid x c.args.slot c.args.spare first (c.in_default.ensures.carries x is) at c.in-Err-may_come.why
-    (subst (λ arm. IsBarred first.slots mid.metaslabs.shards.items c.args.slot arm c.in-Err-may_come.why) c.spare_arm-arm.ensures
-    (subst (λ shards. IsBarred first.slots shards c.args.slot c.spare_arm-arm.result c.in-Err-may_come.why) c.deref.ensures.value
-    (subst (λ r. IfErr r (IsBarred first.slots c.deref.result.now c.args.slot c.spare_arm-arm.result)) c.in-Err-may_come.is c.may_come.ensures.refused))))
+    (barred mid first c.deref.result.now c.args.slot c.args.spare c.spare_arm-arm.result c.may_come.result c.in-Err-may_come.why c.may_come.ensures.refused c.in-Err-may_come.is c.deref.ensures.value c.spare_arm-arm.ensures))
 
 -- no rule forbids the spare
 may : {R A : Type 0} (mid : Pool R A) (first : Shard R A) (shards : List (Shard R A)) (slot spare : ℕ) (arm : Arm) → MayComeAll first.slots shards slot arm → shards ≡ mid.metaslabs.shards.items → arm ≡ arm_called kind.Spare spare
@@ -130,3 +137,24 @@ returns-in-Err-NoMemory-clause-carries g c = λ x is.
     spare_stopped g.R.Rack g.A.Area mid x c.args.slot c.args.spare first (c.in_default.ensures.carries x is) at own late armed.NoMemory Starved starved_no_way refl
     (subst (λ f. (y : State) → Represents g.R.Rack g.A.Area mid y → CarriesOut g.R.Rack g.A.Area late y (Phase y (arms.ReservePhase y.geometry y.perms (events_at needs.Attachment)) (end_of_reserving (Err f)))) c.in-Err-NoMemory.field-0-is
     c.in-Err-NoMemory.ensures.carries))
+
+-- ---- what becomes of the slot
+
+pub returns-in-Err-clause-arms : goal.returns-in-Err-clause-arms
+returns-in-Err-clause-arms g c = spare_unfinished g.R.Rack g.A.Area c.args.slot c.args.spare c.in-Err.fault c.arm_fault.result c.finish.new.self.metaslabs.shards.items c.arm_fault.ensures
+
+pub returns-in-Err-may_come-clause-arms : goal.returns-in-Err-may_come-clause-arms
+returns-in-Err-may_come-clause-arms g c =
+    let mid = c.finish.new.self in
+    let first = c.index.result.now in (
+      first,
+      first_borrowed g.R.Rack g.A.Area mid first c.in_default.ensures.whole c.index.ensures,
+      barred mid first c.deref.result.now c.args.slot c.args.spare c.spare_arm-arm.result c.may_come.result c.in-Err-may_come.why
+          c.may_come.ensures.refused c.in-Err-may_come.is c.deref.ensures.value c.spare_arm-arm.ensures,
+    )
+
+pub returns-in-Ok-clause-arms : goal.returns-in-Ok-clause-arms
+returns-in-Ok-clause-arms g c =
+    let late = c.reserve_all.new.pool in
+    came_to_all g.R.Rack g.A.Area c.args.slot kind.Spare c.args.spare late.metaslabs.shards.items c.attach_all.new.shards.items
+    (got g.R.Rack late.metaslabs.shards.items c.attach_all.new.shards.items c.args.slot c.args.spare c.spare_arm-arm.result c.spare_arm-arm.ensures c.attach_all.ensures.attaches)

@@ -13,6 +13,7 @@ use Rattle.draid_changes.specs.declared.fault.ArmFault.TheVariants as armed
 use Rattle.draid_changes.specs.declared.need.Need.TheVariants as needs
 use Rattle.draid_changes.proofs.Begun.{err_same, first_borrowed, shelf_first, starved_no_way, unfinished, worn_no_way}
 use Rattle.draid_changes.proofs.Calls.{may_switch, switch_done, switch_refused, switch_stopped, switched_whole}
+use Rattle.draid_changes.proofs.Leaves.{all_switched, leaf_unfinished, none_has}
 use Rattle.draid_changes.proofs.Events.{areas_changed, idle_reserved}
 use Rattle.draid_changes.proofs.switching.switch.Goals as goal
 
@@ -102,3 +103,25 @@ returns-in-Err-NoMemory-clause-carries g c = λ x is.
     switch_stopped g.R.Rack g.A.Area mid late x c.args.leaf c.args.offline armed.NoMemory Starved first (c.in_default.ensures.carries x is) at (c.is_arm.ensures.arm.0 c.if-not-is_arm.false) starved_no_way refl
     (subst (λ f. (y : State) → Represents g.R.Rack g.A.Area mid y → CarriesOut g.R.Rack g.A.Area late y (Phase y (arms.ReservePhase y.geometry y.perms (λ v. 1)) (end_of_reserving (Err f)))) c.in-Err-NoMemory.field-0-is
     c.in-Err-NoMemory.ensures.carries))
+
+-- ---- what becomes of the leaf's arms
+
+pub returns-in-Err-clause-arms : goal.returns-in-Err-clause-arms
+returns-in-Err-clause-arms g c = leaf_unfinished g.R.Rack g.A.Area c.args.leaf c.args.offline c.in-Err.fault c.arm_fault.result c.finish.new.self.metaslabs.shards.items c.arm_fault.ensures
+
+pub returns-then-not-is_arm-clause-arms : goal.returns-then-not-is_arm-clause-arms
+returns-then-not-is_arm-clause-arms g c =
+    let mid = c.finish.new.self in
+    let first = c.index.result.now in
+    let at = first_borrowed g.R.Rack g.A.Area mid first c.in_default.ensures.whole c.index.ensures in
+    (refl, none_has g.R.Rack g.A.Area mid c.args.leaf first c.in_default.ensures.whole at (λ own. not_both c.is_arm.result (c.is_arm.ensures.arm.1 own) c.if-not-is_arm.true))
+
+pub returns-in-Ok-clause-arms : goal.returns-in-Ok-clause-arms
+returns-in-Ok-clause-arms g c =
+    let mid = c.finish.new.self in
+    let late = c.reserve_all.new.pool in
+    let first = c.index.result.now in
+    let at = first_borrowed g.R.Rack g.A.Area mid first c.in_default.ensures.whole c.index.ensures in
+    all_switched g.R.Rack g.A.Area c.args.leaf c.args.offline late.metaslabs.shards.items c.switch_all.new.shards.items
+    (may_switch g.R.Rack g.A.Area mid late c.args.leaf first c.in_default.ensures.whole c.in-Ok.ensures.whole at c.is_arm.ensures.sound (c.is_arm.ensures.arm.0 c.if-not-is_arm.false) c.in-Ok.ensures.reserves)
+    c.switch_all.ensures.switches
