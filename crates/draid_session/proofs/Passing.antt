@@ -29,7 +29,7 @@ use Rattle.draid_session.proofs.Arming.{looked, with_book}
 use Rattle.draid_session.proofs.Calm.{IsCalmHold, calm_both, calm_follows}
 use Rattle.draid_session.proofs.Changing.{calm_fit, looks_from_calm}
 use Rattle.draid_session.proofs.Looked.{follows_split}
-use Rattle.draid_session.proofs.Phased.{IsPhase}
+use Rattle.draid_session.proofs.Phased.{IsPhase, walk_all}
 use Rattle.draid_session.proofs.Syncing.{syncs_untold}
 
 -- a scrub commits no group, a rebuild may
@@ -264,19 +264,14 @@ module _ (geometry : Geometry) (perms : Perms) where
     other_keeps : (kind : PassKind) (holds : List Hold) (metaslab number : ℕ) → passes.FindsOther geometry perms kind holds metaslab number → Follows holds x z → KeepsOpen z store b
     other_keeps kind holds metaslab number f follows = calm_keeps holds (looks_from_calm 0 geometry.props.metaslabs holds f.views f.looked) follows
 
-    cancel_calm : (m : ℕ) (hold : Hold) (v : View) → passes.CancelsAt geometry perms m hold v → IsCalmHold hold
-    cancel_calm m hold v c = elim c.how [
-      | inl ended ↦ subst IsCalmHold (sym ended.1) tt
-      | inr idle ↦ subst IsCalmHold (sym idle.0) tt
-    ]
-
-    cancels_calm : (m n : ℕ) (holds : List Hold) (views : List View) → passes.CancelsFrom geometry perms m n holds views → AllOf IsCalmHold holds
-    cancels_calm m zero holds views c = subst (AllOf IsCalmHold) (sym c.0) tt
-    cancels_calm m (suc n) holds views (hold, rest, v, more, are, seen, one, others) =
-        subst (AllOf IsCalmHold) (sym are) (cancel_calm m hold v one, cancels_calm (m + 1) n rest more others)
+    cancel_calm : (m : ℕ) (hold : Hold) (ended : ℕ) → passes.CancelsAt geometry perms m hold ended → IsCalmHold hold
+    cancel_calm m (On v (Did event.Cancel after)) ended c = tt
+    cancel_calm m (On v Looked) ended c = tt
+    cancel_calm m hold ended c = absurd c
 
     cancels_keep : (ended : ℕ) (holds : List Hold) → passes.Cancels geometry perms ended holds → Follows holds x z → KeepsOpen z store b
-    cancels_keep ended holds c follows = calm_keeps holds (cancels_calm 0 geometry.props.metaslabs holds c.0 c.1) follows
+    cancels_keep ended holds c follows = calm_keeps holds
+        (walk_all IsCalmHold (passes.CancelsAt geometry perms) (passes.NeverStops geometry perms) cancel_calm (λ m hold end stop. absurd stop) 0 geometry.props.metaslabs holds Went ended c) follows
 
 -- ---- commands
 

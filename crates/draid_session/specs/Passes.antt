@@ -22,7 +22,7 @@ use Rattle.draid_machine.specs.Step.{IsNext, ReadyStep}
 use Rattle.draid_session.specs.Groups.{Syncs}
 use Rattle.draid_session.specs.Holds.{View, Looked, Did, Hold, On, layout_at}
 use Rattle.draid_session.specs.Looks.{CountIs, Looks, OnlyLooks}
-use Rattle.draid_session.specs.Phases.{End, Went, WasWorn, WasLast, Starved, Chain, NoneOf}
+use Rattle.draid_session.specs.Phases.{End, Went, WasWorn, WasLast, Starved, Chain, NoneOf, Walk}
 use Rattle.draid_session.specs.Worn.{IsWorn}
 
 -- What a command has done so far: the stripe of the pool at which its first pass went on, the stripes or blocks that it lent, the columns that it rewrote, counted by arm, and the
@@ -392,16 +392,14 @@ module _ (geometry : Geometry) (perms : Perms) where
   -- ---- cancel
 
   -- a metaslab's pass ends, if it has one
-  pub record CancelsAt (m : ℕ) (hold : Hold) (v : View) : Type 0 where
-    pub there : v.metaslab ≡ m
-    pub how : ((after : machine.State) × (hold ≡ On v (Did event.Cancel after))) ⊎ ((hold ≡ On v Looked) × HasNoPass v)
+  abbrev pub CancelsAt : ℕ → Hold → ℕ → Type 0
+  CancelsAt m (On v (Did event.Cancel after)) ended = (v.metaslab ≡ m) × (ended ≡ 1)
+  CancelsAt m (On v Looked) ended = (v.metaslab ≡ m) × HasNoPass v × (ended ≡ 0)
+  CancelsAt m hold ended = ⊥
 
-  abbrev pub CancelsFrom : ℕ → ℕ → List Hold → List View → Type 0
-  CancelsFrom m zero holds views = (holds ≡ []) × (views ≡ [])
-  CancelsFrom m (suc n) holds views =
-      (hold : Hold) × (rest : List Hold) × (v : View) × (more : List View)
-      × (holds ≡ hold ∷ rest) × (views ≡ v ∷ more) × CancelsAt m hold v × CancelsFrom (m + 1) n rest more
+  abbrev pub NeverStops : ℕ → Hold → End → Type 0
+  NeverStops m hold end = ⊥
 
+  -- so in each, and so many passes end
   abbrev pub Cancels : ℕ → List Hold → Type 0
-  Cancels passes holds =
-      (views : List View) × CancelsFrom 0 geometry.props.metaslabs holds views × CountIs (λ v. (p : machine.Pass) × (v.world.core.pass ≡ Some p)) views passes
+  Cancels ended holds = Walk CancelsAt NeverStops 0 geometry.props.metaslabs holds Went ended
