@@ -13,6 +13,7 @@ use Rattle.draid_machine.proofs.Small.{held_other}
 use Rattle.draid_entries.specs.declared.entry.Entry.{Entry}
 use Rattle.draid_entries.specs.Entries.{held_in}
 use Rattle.draid_entries.specs.Maps.{held_at, key_of, staged}
+use Rattle.draid_shard.specs.Fits.{Valid}
 use Rattle.draid_shard.specs.Looks.{IsLive}
 use Rattle.draid_shard.specs.declared.shard.Shard.{Shard}
 use Rattle.draid_shard.proofs.Held.{key_leads}
@@ -23,7 +24,7 @@ use Rattle.draid_store.specs.Frees.{FreesBlock, FreesShard, IsEarly, MayFreeIn}
 use Rattle.draid_pool.proofs.HeldBy.{held_drifts, held_set, whole_on}
 use Rattle.draid_pool.proofs.Lists.{some_of}
 use Rattle.draid_pool.proofs.HoldStep.{live_key}
-use Rattle.draid_pool.proofs.ShardSteps.{live_on, other_key}
+use Rattle.draid_pool.proofs.ShardSteps.{live_on, other_key, pointer_on}
 use Rattle.draid_pool.proofs.Wholes.{open_high, open_low, put_elsewhere, put_here}
 
 module _ {R A : Type 0} (rack : racks.Ghosts R) (area : areas.Ghosts A) (shared : Bool) (owns : ℕ → Bool) (last : ℕ → Option (Shard R A)) (object : ℕ) (p : Pointer) (seq floor : ℕ) where
@@ -116,3 +117,11 @@ module _ {R A : Type 0} (rack : racks.Ghosts R) (area : areas.Ghosts A) (old new
   pub did_free : (group : ℕ) (out : Option ℕ) → FreesShard rack area old p floor out new → out ≡ Some group → FreesBlock rack area old p floor group new
   did_free group None f is = absurd (cc)
   did_free group (Some t) f is = (let same : t ≡ group = cc in subst (λ n. FreesBlock rack area old p floor n new) same f.did)
+
+-- where an earlier block is to be tried again it is live yet
+pub earlier_has : {R A : Type 0} (rack : racks.Ghosts R) (area : areas.Ghosts A) (shared : Bool) (owns : ℕ → Bool) (last new : ℕ → Option (Shard R A)) (p : Pointer) (shard before after : Shard R A) → last p.metaslab ≡ Some shard → Drifts rack area shared owns shard before → Valid rack after
+    → ((k : ℕ) → new k ≡ (if k == p.metaslab then Some after else last k)) → (floor : ℕ) → HasPointer last rack owns p.object p → (out : Option ℕ) → FreesShard rack area before p floor out after → out ≡ None → HasPointer new rack owns p.object p
+earlier_has {R} {A} rack area shared owns last new p shard before after there drifts valid is floor has None f none =
+    pointer_on rack area shared owns last new p.metaslab shard before after there drifts (subst (Valid rack) (some_of (last p.metaslab) has.shard shard has.there there) has.valid) valid is p.object p has
+    (λ live. subst (λ (s : Shard R A). IsLive s p) (sym f.did.same) live)
+earlier_has rack area shared owns last new p shard before after there drifts valid is floor has (Some group) f none = absurd (cc)

@@ -20,6 +20,9 @@ pub mod FreeKnown
 pub mod FreeWhole
 pub mod Listing
 pub mod Lively
+pub mod LookHold
+pub mod LookKeeps
+pub mod LookRooms
 pub mod Older
 pub mod OpenKeeps
 pub mod Opening
@@ -32,7 +35,6 @@ pub mod QuietKeeps
 pub mod QuietWhole
 pub mod ReadSteps
 pub mod Refused
-pub mod SameTable
 pub mod Saying
 pub mod Sets
 pub mod StoreWhole
@@ -43,5 +45,6 @@ pub mod Unlooked
 pub mod WholeBlock
 pub mod WholeMissed
 pub mod WholeWrite
+pub mod WriteRounds
 pub mod WriteWhole
 pub mod Written

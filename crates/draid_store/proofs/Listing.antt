@@ -1,39 +1,9 @@
--- What is said of one shard after another.
-use Rattle.std.proofs.Common.{arith, ◌≡◌, ◌+◌, ◌<◌, ◌≤◌, ◌++◌, ◌∙◌, inl, inr, ℕ, suc, List, [], ◌∷◌, Option, Some, refl, sym, ap, subst, length, drop, slice_index_or}
-use Rattle.std.proofs.Math.Seq.{drop-cons}
-use Rattle.std.proofs.lemmas.List.{append-nil, append_assoc, at_drop_all}
-use Rattle.std.specs.List.{AllZip}
+-- How many of a list are so.
+use Rattle.std.proofs.Common.{◌≡◌, ◌+◌, ◌++◌, ◌⊎◌, inl, inr, ℕ, List, [], ◌∷◌, Option, Some, None, refl, sym, ap, subst}
 use Rattle.draid_session.specs.Looks.{CountIs}
 use Rattle.draid_shard.specs.declared.fault.Shut.{Shut}
-use Rattle.draid_shard.specs.declared.shard.Shard.{Shard}
-use Rattle.draid_store.specs.Shards.{AreShut, ShutIs}
-
-module _ {A B : Type 0} (P : A → B → Type 0) where
-  -- what is said of those so far, whatever is said of the others
-  pub record AreListed (xs : List A) (k : ℕ) (ys : List B) : Type 0 where
-    pub before : (rest : List B) → AllZip P (drop k xs) rest → AllZip P xs (ys ++ rest)
-
-  next_of : (xs : List A) (k : ℕ) (x : A) → k < length xs → x ≡ slice_index_or xs k x → drop k xs ≡ x ∷ drop (k + 1) xs
-  next_of xs k x below here =
-      let step : suc k ≡ k + 1 = omega arith in
-      drop-cons xs k x below ∙ (ap (λ (s : A). s ∷ drop (suc k) xs) (sym here) ∙ ap (λ (n : ℕ). x ∷ drop n xs) step)
-
-  pub listed_more : (xs : List A) (k : ℕ) (x : A) (ys : List B) (y : B) → k < length xs → x ≡ slice_index_or xs k x → P x y → AreListed xs k ys → AreListed xs (k + 1) (ys ++ y ∷ [])
-  listed_more xs k x ys y below here is listed = record {
-    before = λ rest more.
-        subst (AllZip P xs) (sym (append_assoc ys (y ∷ []) rest))
-        (listed.before (y ∷ rest) (subst (λ (zs : List A). AllZip P zs (y ∷ rest)) (sym (next_of xs k x below here)) (is, more)));
-  }
-
-  pub listed_none : (xs : List A) (ys : List B) → ys ≡ [] → AreListed xs 0 ys
-  listed_none xs ys none = record { before = λ rest zip. subst (λ (zs : List B). AllZip P xs (zs ++ rest)) (sym none) zip }
-
-  pub listed_all : (xs : List A) (k : ℕ) (ys : List B) → length xs ≤ k → AreListed xs k ys → AllZip P xs ys
-  listed_all xs k ys end listed =
-      let none : drop k xs ≡ [] = at_drop_all (λ (zs : List A). zs) xs k end in
-      subst (AllZip P xs) (append-nil ys) (listed.before [] (subst (λ (zs : List A). AllZip P zs []) (sym none) tt))
-
--- ---- counts
+use Rattle.draid_shard.specs.declared.fault.Shut.TheVariants as shut
+use Rattle.draid_store.specs.Looking.{CountsOne}
 
 count_more : {A : Type 0} (P : A → Type 0) (xs : List A) (x : A) (n : ℕ) → P x → CountIs P xs n → CountIs P (xs ++ x ∷ []) (n + 1)
 count_more P [] x n is counted = inl (is, n, refl, counted)
@@ -49,33 +19,22 @@ count_not P (y ∷ xs) x n other counted = elim counted [
   | inr z ↦ inr (z.0, count_not P xs x n other z.1)
 ]
 
--- so many of the shards so far
-pub record Counting {R A : Type 0} (why : Shut) (shards : List (Shard R A)) (k count : ℕ) : Type 0 where
-  pub all : List (Option Shut)
-  pub listed : AreListed ShutIs shards k all
-  pub counted : CountIs (λ s. s ≡ Some why) all count
-  pub few : count ≤ k
+pub is_reason : (reason : Option Shut) (why : Shut) → (reason ≡ Some why) ⊎ (reason ≡ Some why → ⊥)
+is_reason None why = inr (λ same. absurd (cc))
+is_reason (Some shut.Disabled) shut.Disabled = inl refl
+is_reason (Some shut.Disabled) shut.Full = inr (λ same. absurd (cc))
+is_reason (Some shut.Disabled) shut.Worn = inr (λ same. absurd (cc))
+is_reason (Some shut.Full) shut.Disabled = inr (λ same. absurd (cc))
+is_reason (Some shut.Full) shut.Full = inl refl
+is_reason (Some shut.Full) shut.Worn = inr (λ same. absurd (cc))
+is_reason (Some shut.Worn) shut.Disabled = inr (λ same. absurd (cc))
+is_reason (Some shut.Worn) shut.Full = inr (λ same. absurd (cc))
+is_reason (Some shut.Worn) shut.Worn = inl refl
 
-pub counting_none : {R A : Type 0} (why : Shut) (shards : List (Shard R A)) → Counting why shards 0 0
-counting_none why shards = record { all = []; listed = record { before = λ rest zip. zip }; counted = refl; few = omega arith }
-
-pub counting_more : {R A : Type 0} (why : Shut) (shards : List (Shard R A)) (k count : ℕ) (shard : Shard R A) (shut : Option Shut) → k < length shards → shard ≡ slice_index_or shards k shard → ShutIs shard shut
-    → shut ≡ Some why → Counting why shards k count → Counting why shards (k + 1) (count + 1)
-counting_more why shards k count shard shut below here is same c = record {
-  all = c.all ++ shut ∷ [];
-  listed = listed_more ShutIs shards k shard c.all shut below here is c.listed;
-  counted = count_more (λ s. s ≡ Some why) c.all shut count same c.counted;
-  few = (let few = c.few in omega (arith, few));
-}
-
-pub counting_not : {R A : Type 0} (why : Shut) (shards : List (Shard R A)) (k count : ℕ) (shard : Shard R A) (shut : Option Shut) → k < length shards → shard ≡ slice_index_or shards k shard → ShutIs shard shut
-    → (shut ≡ Some why → ⊥) → Counting why shards k count → Counting why shards (k + 1) count
-counting_not why shards k count shard shut below here is other c = record {
-  all = c.all ++ shut ∷ [];
-  listed = listed_more ShutIs shards k shard c.all shut below here is c.listed;
-  counted = count_not (λ s. s ≡ Some why) c.all shut count other c.counted;
-  few = (let few = c.few in omega (arith, few));
-}
-
-pub counting_all : {R A : Type 0} (why : Shut) (shards : List (Shard R A)) (k count : ℕ) → length shards ≤ k → Counting why shards k count → AreShut shards why count
-counting_all why shards k count end c = (c.all, listed_all ShutIs shards k c.all end c.listed, c.counted)
+-- one more of a list, where it is so just where this is the reason
+pub count_one : {V : Type 0} (P : V → Type 0) (views : List V) (v : V) (reason : Option Shut) (why : Shut) (old new : ℕ) → CountsOne reason why old new → (reason ≡ Some why → P v) × ((reason ≡ Some why → ⊥) → P v → ⊥) → CountIs P views old
+    → CountIs P (views ++ v ∷ []) new
+count_one P views v reason why old new counts so counted = elim (is_reason reason why) [
+  | inl is ↦ subst (CountIs P (views ++ v ∷ [])) (sym (counts.more is)) (count_more P views v old (so.0 is) counted)
+  | inr other ↦ subst (CountIs P (views ++ v ∷ [])) (sym (counts.same other)) (count_not P views v old (so.1 other) counted)
+]

@@ -2,14 +2,17 @@
 use Rattle.std.proofs.Common.{◌++◌, ℕ, zero, suc, List, [], ◌∷◌, Option, Some, None, Result, Ok, Err, sym, subst}
 use Rattle.draid_names.specs.declared.refusal.WriteFault.{WriteFault}
 use Rattle.draid_names.specs.declared.refusal.WriteFault.TheVariants as fault
+use Rattle.draid_names.specs.declared.room.Room.{Room}
 use Rattle.draid_spec.specs.declared.layout.Geometry.{Geometry}
 use Rattle.draid_machine.specs.declared.names.Key.{Key}
 use Rattle.draid_objects.specs.Changes.{Write}
-use Rattle.draid_session.specs.Holds.{Hold}
+use Rattle.draid_session.specs.Holds.{Hold, View}
 use Rattle.draid_session.specs.Looks.{OnlyLooks}
 use Rattle.draid_session.specs.State.{State, Store}
-use Rattle.draid_session.specs.Writes.{FreesEarlier, PutsColumns, WritesBlock}
-use Rattle.draid_store.specs.Answers.{WriteInDoes}
+use Rattle.draid_session.specs.Writes.{FreesEarlier, PutsColumns, Tries, WritesBlock}
+use Rattle.draid_session.specs.Rooms.{LooksForRoom}
+use Rattle.draid_store.specs.Answers.{WriteDoes}
+use Rattle.draid_store.proofs.LookHold.{only_looked}
 use Rattle.draid_pool.proofs.OwnedStands.{ArePlain}
 
 pub plain_append : (a b : List Hold) → ArePlain a → ArePlain b → ArePlain (a ++ b)
@@ -31,9 +34,16 @@ earlier_plain : (earlier : Option Write) (floor group : ℕ) (holds : List Hold)
 earlier_plain None floor group holds f = subst ArePlain (sym f.0) tt
 earlier_plain (Some w) floor group holds f = subst ArePlain (sym f.did) (tt, tt)
 
-pub write_plain : (x : State) (m object : ℕ) (bytes : List ℕ) (result : Result Unit WriteFault) (holds : List Hold) (store : Store) → WriteInDoes x m object bytes result holds store → ArePlain holds
-write_plain x m object bytes (Ok done) holds store w = subst ArePlain (sym w.are) (plain_append w.front w.back (block_plain x.geometry object _ bytes _ m w.birth w.columns w.front w.writes) (earlier_plain _ w.birth w.group w.back w.frees))
-write_plain x m object bytes (Err (fault.NoSpace run disabled full worn)) holds store w = absurd w
-write_plain x m object bytes (Err (fault.Missed columns)) holds store w = block_plain x.geometry object _ bytes _ m w.birth columns holds w.writes
-write_plain x m object bytes (Err fault.Last) holds store w = absurd w
-write_plain x m object bytes (Err fault.NoMemory) holds store w = looks_plain holds w.0
+rooms_plain : (x : State) (bytes : List ℕ) (holds : List Hold) (views : List View) (rooms : List Room) → LooksForRoom x.geometry x.perms bytes holds views rooms → ArePlain holds
+rooms_plain x bytes holds views rooms l = looks_plain holds (only_looked 0 x.geometry.props.metaslabs holds views l.looked)
+
+tries_plain : (x : State) (chosen : List Room → Option ℕ → Type 0) (object : ℕ) (bytes : List ℕ) (m birth columns : ℕ) (holds : List Hold) → Tries x.geometry x.perms chosen object bytes x.store m birth columns holds → ArePlain holds
+tries_plain x chosen object bytes m birth columns holds t = subst ArePlain (sym t.are)
+    (plain_append t.looks t.written (rooms_plain x bytes t.looks t.chooses.views t.chooses.rooms t.chooses.looked) (block_plain x.geometry object _ bytes _ m birth columns t.written t.writes))
+
+pub write_plain : (x : State) (chosen : List Room → Option ℕ → Type 0) (object : ℕ) (bytes : List ℕ) (result : Result Unit WriteFault) (holds : List Hold) (store : Store) → WriteDoes x chosen object bytes result holds store → ArePlain holds
+write_plain x chosen object bytes (Ok done) holds store w = subst ArePlain (sym w.are) (plain_append w.tried w.freed (tries_plain x chosen object bytes w.m w.birth w.columns w.tried w.tries) (earlier_plain _ w.birth w.group w.freed w.frees))
+write_plain x chosen object bytes (Err (fault.NoSpace run disabled full worn)) holds store w = rooms_plain x bytes holds w.0.views w.0.rooms w.0.looked
+write_plain x chosen object bytes (Err (fault.Missed columns)) holds store w = tries_plain x chosen object bytes w.m w.birth columns holds w.tries
+write_plain x chosen object bytes (Err fault.Last) holds store w = rooms_plain x bytes holds w.0.chooses.views w.0.chooses.rooms w.0.chooses.looked
+write_plain x chosen object bytes (Err fault.NoMemory) holds store w = looks_plain holds w.0

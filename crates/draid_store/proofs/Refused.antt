@@ -1,5 +1,5 @@
 -- Why no write is begun in a metaslab, and that want of memory alone is why where there is room.
-use Rattle.std.proofs.Common.{◌≡◌, ◌∙◌, ℕ, false, Some, arith, refl, sym, ap, subst, length}
+use Rattle.std.proofs.Common.{◌≡◌, ◌∙◌, ℕ, Bool, false, Option, Some, arith, refl, sym, ap, subst, length}
 use Rattle.draid_rack.specs.declared.Rack as racks
 use Rattle.draid_area.specs.declared.Area as areas
 use Rattle.draid_block.specs.Blocks.{BlockValue, cut_of}
@@ -10,7 +10,10 @@ use Rattle.draid_segments.specs.Segments.{Pieces}
 use Rattle.draid_entries.specs.History.{stored_of}
 use Rattle.draid_blocks.specs.Tickets.{BeginRefused}
 use Rattle.draid_shard.specs.Rooms.{IsWornFor}
+use Rattle.draid_shard.specs.Fits.{Valid}
 use Rattle.draid_shard.specs.Part.{Part}
+use Rattle.draid_shard.specs.States.{IsIn}
+use Rattle.draid_shard.proofs.Shown.{state_shown}
 use Rattle.draid_blocks.specs.declared.fault.BeginFault.{BeginFault}
 use Rattle.draid_blocks.specs.declared.fault.BeginFault.TheVariants as begin
 use Rattle.draid_shard.specs.declared.shard.Shard.{Shard}
@@ -19,13 +22,8 @@ use Rattle.draid_session.specs.Holds.{view_of}
 use Rattle.draid_session.specs.State.{Metaslab}
 use Rattle.draid_session.specs.Worn.{IsWorn}
 use Rattle.draid_pool.specs.Metaslabs.{IsMetaslab}
-use Rattle.draid_pool.specs.Whole.{IsWhole}
-use Rattle.draid_pool.specs.declared.pool.Pool.{Pool}
-use Rattle.draid_pool.proofs.OwnedKnows.{all, left_in}
-use Rattle.draid_pool.proofs.Wholes.{whole_room}
 use Rattle.draid_store.specs.Putting.{RefusesAt}
 use Rattle.draid_pool.specs.Shards.{HasRoom}
-use Rattle.draid_store.specs.Shards.{HasRoomAt}
 use Rattle.draid_pool.proofs.Lists.{some_of}
 
 -- a block for which there is room is refused for want of memory alone
@@ -48,10 +46,11 @@ worn_for rack area part pieces shard x m asked is worn =
     let reserved = is.reserved in
     omega (arith, all, over, limit, stored, reserved)
 
--- why no write was begun in a metaslab of a pool that has room for it
-pub refused_memory : {R A : Type 0} (rack : racks.Ghosts R) (area : areas.Ghosts A) (pool : Pool R A) (m : ℕ) (block : BlockValue) (why : BeginFault) → IsWhole rack area pool → RefusesAt rack area false all (left_in pool) m block why
-    → HasRoomAt pool.metaslabs.shards.items m (stripes_of (cut_of pool.geometry) (length block.bytes)) → why ≡ begin.NoMemory
-refused_memory {R} {A} rack area pool m block why w r room =
-    let same : r.found ≡ room.shard = r.drifts.still refl ∙ some_of (left_in pool m) r.shard room.shard r.there room.there in
-    let z = whole_room rack area pool m (length block.bytes) room.shard r.found w (room.there ∙ ap Some (sym same)) same room.room in
-    never_refused r.found (stripes_of (cut_of r.found.geometry) (length block.bytes)) z.0 z.2 why (r.why z.0 z.1)
+-- where nobody comes between, no write is begun in a metaslab that has room for it for want of memory alone
+pub refused_memory : {R A : Type 0} (rack : racks.Ghosts R) (area : areas.Ghosts A) (shared : Bool) (owns : ℕ → Bool) (last : ℕ → Option (Shard R A)) (m : ℕ) (block : BlockValue) (why : BeginFault) (shard : Shard R A) → shared ≡ false → RefusesAt rack area shared owns last m block why
+    → last m ≡ Some shard → Valid rack shard → ((w : machine.State) → IsIn shard w → HasRoom (stripes_of (cut_of shard.geometry) (length block.bytes)) shard w) → why ≡ begin.NoMemory
+refused_memory {R} {A} rack area shared owns last m block why shard alone r there valid room =
+    let same : r.found ≡ shard = r.drifts.still alone ∙ some_of (last m) r.shard shard r.there there in
+    let z = state_shown rack shard valid in
+    let refused = subst (λ (s : Shard R A). (w : machine.State) → IsIn s w → BeginRefused s (stripes_of (cut_of s.geometry) (length block.bytes)) w why) same r.why in
+    never_refused shard (stripes_of (cut_of shard.geometry) (length block.bytes)) z.0 (room z.0 z.1) why (refused z.0 z.1)

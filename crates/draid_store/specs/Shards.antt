@@ -1,9 +1,6 @@
 -- What becomes of one metaslab as a sector is damaged there; and what the shards of a pool say of their room.
-use Rattle.std.specs.Prelude.{◌≡◌, ℕ, Bool, true, false, List, [], ◌∷◌, Option, Some, Result, Ok, Err, slice_get}
-use Rattle.std.specs.List.{AllZip}
+use Rattle.std.specs.Prelude.{◌≡◌, ℕ, Bool, true, false, List, [], ◌∷◌, Option, Result, Ok, Err}
 use Rattle.draid_names.specs.declared.room.Room.{Room}
-use Rattle.draid_names.specs.declared.refusal.WriteFault.{WriteFault}
-use Rattle.draid_names.specs.declared.refusal.WriteFault.TheVariants as fault
 use Rattle.draid_machine.specs.declared.names.Key.{Key}
 use Rattle.draid_machine.specs.declared.event.Event.TheVariants as event
 use Rattle.draid_machine.specs.Names.{key_eq}
@@ -13,17 +10,13 @@ use Rattle.draid_shard.specs.Rooms.{IsRoom, ShutBy}
 use Rattle.draid_shard.specs.Part.{Part}
 use Rattle.draid_shard.specs.States.{IsIn}
 use Rattle.draid_shard.specs.declared.fault.Shut.{Shut}
-use Rattle.draid_shard.specs.declared.fault.Shut.TheVariants as shut
 use Rattle.draid_shard.specs.declared.shard.Shard.{Shard}
 use Rattle.draid_session.specs.Damage.{HasLeaf}
 use Rattle.draid_session.specs.Holds.{Did, Hold, Looked, On, Reserved, view_of}
-use Rattle.draid_session.specs.Looks.{CountIs}
-use Rattle.draid_session.specs.Rooms.{longest}
 use Rattle.draid_session.specs.State.{Metaslab}
 use Rattle.draid_session.specs.Worn.{ReservesWorn}
 use Rattle.draid_store.specs.declared.fault.DamageFault.{DamageFault}
 use Rattle.draid_store.specs.declared.fault.DamageFault.TheVariants as damage
-use Rattle.draid_pool.specs.Shards.{HasRoom}
 
 -- the room that a shard has for a block of so many stripes
 pub record RoomIs {R A : Type 0} (need : ℕ) (shard : Shard R A) (room : Room) : Type 0 where
@@ -53,19 +46,3 @@ SectorDoes part leaf sector x (Err damage.NoSuch) holds = (holds ≡ On (view_of
 SectorDoes part leaf sector x (Err damage.Worn) holds =
     (holds ≡ On (view_of part.number x) Looked ∷ []) × HasLeaf (view_of part.number x) leaf × ReservesWorn part.geometry (view_of part.number x) 1
 SectorDoes part leaf sector x (Err damage.NoMemory) holds = holds ≡ []
-
--- a metaslab of a pool has room for a block of so many stripes
-pub record HasRoomAt {R A : Type 0} (shards : List (Shard R A)) (m need : ℕ) : Type 0 where
-  pub shard : Shard R A
-  pub there : slice_get shards m ≡ Some shard
-  pub room : (w : machine.State) → IsIn shard w → HasRoom need shard w
-
--- so many of them take no new block for this reason
-abbrev pub AreShut : {R A : Type 0} → List (Shard R A) → Shut → ℕ → Type 0
-AreShut shards why count = (all : List (Option Shut)) × AllZip ShutIs shards all × CountIs (λ s. s ≡ Some why) all count
-
--- the longest run of some rooms, and so many of the metaslabs take no new block
-abbrev pub IsNoSpace : {R A : Type 0} → List (Shard R A) → List Room → WriteFault → Type 0
-IsNoSpace shards rooms (fault.NoSpace run disabled full worn) =
-    (run ≡ longest rooms) × AreShut shards shut.Disabled disabled × AreShut shards shut.Full full × AreShut shards shut.Worn worn
-IsNoSpace shards rooms why = ⊥

@@ -1,7 +1,10 @@
 -- A block of an object is stored: a begin, its columns and its end.
 use Rattle.std.specs.Prelude.{◌≡◌, ◌+◌, ◌≤◌, ◌∷◌, ◌++◌, ◌==◌, ⊤, ℕ, Bool, List, Option, Some, None, Result, Ok, Err, if◌then◌else◌}
 use Rattle.draid_names.specs.declared.pointer.Pointer.{Pointer}
+use Rattle.draid_names.specs.declared.refusal.WriteFault.{WriteFault}
 use Rattle.draid_names.specs.declared.refusal.WriteFault.TheVariants as fault
+use Rattle.draid_names.specs.declared.room.Room.{Room}
+use Rattle.draid_blocks.specs.declared.fault.BeginFault.TheVariants as begin
 use Rattle.draid_rack.specs.declared.Rack as racks
 use Rattle.draid_area.specs.declared.Area as areas
 use Rattle.draid_block.specs.Blocks.{BlockValue}
@@ -9,8 +12,8 @@ use Rattle.draid_objects.specs.Changes.{Wrote, write_of}
 use Rattle.draid_session.specs.Holds.{Hold}
 use Rattle.draid_session.specs.Looks.{OnlyLooks}
 use Rattle.draid_session.specs.State.{State, Store}
-use Rattle.draid_session.specs.Writes.{WritesBlock}
-use Rattle.draid_store.specs.Answers.{WriteInDoes}
+use Rattle.draid_session.specs.Writes.{Tries, WritesBlock}
+use Rattle.draid_store.specs.Answers.{WriteDoes, WriteInDoes}
 use Rattle.draid_store.specs.Freeing.{IsApart}
 use Rattle.draid_store.specs.Open.{KnowsReplaced}
 use Rattle.draid_store.specs.Putting.{RefusesAt}
@@ -70,7 +73,7 @@ module _ {R A S : Type 0} (rack : racks.Ghosts R) (area : areas.Ghosts A) (went 
 -- ---- whatever is known of the devices
 
 -- the object has a new pointer, which the bytes fit, or all is as it was
-abbrev pub StoreSetsTable : ℕ → List ℕ → (table now : ℕ → Option Pointer) → Option (Result (Option Pointer) StoreFault) → Type 0
+abbrev pub StoreSetsTable : {E : Type 0} → ℕ → List ℕ → (table now : ℕ → Option Pointer) → Option (Result (Option Pointer) E) → Type 0
 StoreSetsTable object bytes table now (Some (Ok earlier)) = (pointer : Pointer) × FitsPointer pointer bytes × ((other : ℕ) → now other ≡ (if object == other then Some pointer else table other))
 StoreSetsTable object bytes table now (Some (Err why)) = (other : ℕ) → now other ≡ table other
 StoreSetsTable object bytes table now None = (other : ℕ) → now other ≡ table other
@@ -86,8 +89,42 @@ pub record ComesBack {R A : Type 0} (rack : racks.Ghosts R) (owns : ℕ → Bool
   pub apart : IsApart table p
 
 -- nothing is to be tried again
-abbrev pub IsServed : Option (Result (Option Pointer) StoreFault) → Type 0
+abbrev pub IsServed : {E : Type 0} → Option (Result (Option Pointer) E) → Type 0
 IsServed (Some (Ok None)) = ⊤
 IsServed (Some (Ok (Some earlier))) = ⊥
 IsServed (Some (Err why)) = ⊤
 IsServed None = ⊥
+
+-- ---- in the metaslab that is named
+
+-- what a write answers, by what became of it in that metaslab; nothing where that had no room any more
+abbrev pub IsAnswerTo : Result (Option Pointer) StoreFault → Option (Result (Option Pointer) WriteFault) → Type 0
+IsAnswerTo (Ok earlier) result = result ≡ Some (Ok earlier)
+IsAnswerTo (Err (Missed missed)) result = result ≡ Some (Err (fault.Missed missed.columns))
+IsAnswerTo (Err (Refused begin.NoMemory)) result = result ≡ Some (Err fault.NoMemory)
+IsAnswerTo (Err (Refused (begin.Disabled pass))) result = result ≡ None
+IsAnswerTo (Err (Refused (begin.Entries held))) result = result ≡ None
+IsAnswerTo (Err (Refused (begin.NoRoom largest))) result = result ≡ None
+IsAnswerTo (Err (Refused (begin.Worn events))) result = result ≡ None
+
+-- a block was written in the metaslab that the chooser named, and the one that the object had isn't freed yet
+pub record WriteAwaits (x : State) (chosen : List Room → Option ℕ → Type 0) (object : ℕ) (bytes : List ℕ) (holds : List Hold) (store : Store) : Type 0 where
+  pub m : ℕ
+  pub birth : ℕ
+  pub columns : ℕ
+  pub front : List Hold
+  pub back : List Hold
+  pub are : holds ≡ front ++ back
+  pub tries : Tries x.geometry x.perms chosen object bytes x.store m birth columns front
+  pub few : columns ≤ x.geometry.spec.parity
+  pub made : store ≡ store_with x.store object m birth bytes
+  pub looks : OnlyLooks back
+
+-- It is to be tried again; or it is a whole write; or one whose earlier block is to be freed; or it was refused.
+module _ {R A S : Type 0} (rack : racks.Ghosts R) (area : areas.Ghosts A) (went : S → ℕ → Shard R A → Shard R A → S → Type 0) (shared : Bool) (owns : ℕ → Bool) (now : ℕ → Option (Shard R A)) (a b : S) (chosen : List Room → Option ℕ → Type 0) (object : ℕ) (bytes : List ℕ)
+    (then_table : ℕ → Option Pointer) (then_seq then_floor : ℕ) (x : State) where
+  abbrev pub WritesBy : Option (Result (Option Pointer) WriteFault) → Type 0
+  WritesBy None = LeadsBy rack area went shared a b x (λ holds store. (store ≡ x.store) × OnlyLooks holds) (Knows rack area owns now then_table then_seq then_floor)
+  WritesBy (Some (Ok None)) = LeadsBy rack area went shared a b x (WriteDoes x chosen object bytes (Ok tt)) (Knows rack area owns now then_table then_seq then_floor)
+  WritesBy (Some (Ok (Some earlier))) = LeadsBy rack area went shared a b x (WriteAwaits x chosen object bytes) (KnowsReplaced rack area owns now then_table then_seq then_floor (Some earlier) (write_of x.store.changes object))
+  WritesBy (Some (Err why)) = LeadsBy rack area went shared a b x (WriteDoes x chosen object bytes (Err why)) (Knows rack area owns now then_table then_seq then_floor)

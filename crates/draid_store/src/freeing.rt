@@ -149,6 +149,8 @@ pub fn free_earlier<R: Rack, A: Area, M: Metaslabs<R, A>>(
     ensures stay { AllStay (M.owns metaslabs.old) (M.last metaslabs.old) (M.last metaslabs.new) }
     ensures whole { (table : ℕ → Option Pointer) (seq : ℕ) → IsWholeBy R.Rack (M.owns metaslabs.old) (M.last metaslabs.old) table seq floor → IsApart table pointer
         → EarlierWhole R.Rack (M.owns metaslabs.old) (M.last metaslabs.new) table seq floor result }
+    // Where it is to be tried again the block is live yet.
+    ensures has { result ≡ None → HasPointer (M.last metaslabs.new) R.Rack (M.owns metaslabs.old) pointer.object pointer }
     ensures says { (table : ℕ → Option Pointer) (seq : ℕ) (x : State) (we : Write) → KnowsEarlier R.Rack A.Area (M.owns metaslabs.old) (M.last metaslabs.old) table seq floor pointer we x
         → EarlierSays R.Rack A.Area M.went M.shared (M.owns metaslabs.old) (M.owns metaslabs.new) (M.last metaslabs.old) (M.last metaslabs.new) metaslabs.old metaslabs.new pointer table table seq floor x we result }
     // Who alone closes groups never has to try again.

@@ -28,6 +28,7 @@ pub use freeing::{FreeOp, free, free_earlier, free_object};
 pub use putting::{PutOp, put_all};
 pub use reading::{read, read_object};
 pub use replies::{reply_to_damage, reply_to_free, reply_to_read, reply_to_sum, reply_to_write};
+pub use room::{LookOp, Rooms, Seen};
 pub use store::store_block;
 pub use summing::{sum, sum_objects};
-pub use writing::{write, write_block};
+pub use writing::{write, write_block, write_encoded, write_object};

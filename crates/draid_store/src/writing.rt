@@ -1,27 +1,28 @@
-ghost use Rattle.std.specs.Prelude.{◌≡◌, ◌<◌, ◌≤◌, ◌+◌, Option, Some, length, nat_eq, true};
+ghost use Rattle.std.specs.Prelude.{◌≡◌, ◌<◌, ◌≤◌, ◌+◌, ℕ, Ok, Option, Some, false, length, nat_eq, true};
 ghost use Rattle.std.specs.Fn.{FnReturnsAt};
 ghost use Rattle.std.specs.HashMap.{get, spare};
-ghost use Rattle.std.specs.List.{AllZip};
 ghost use Rattle.draid_choose.specs.Rooms.{IsChooser};
 ghost use Rattle.draid_names.specs.declared.numbers.TheConstants.{NUMBERS, OBJECTS};
+ghost use Rattle.draid_names.specs.declared.pointer.Pointer.{Pointer};
+ghost use Rattle.draid_spec.specs.Geometry.{IsGeometry};
 ghost use Rattle.draid_block.specs.Blocks.{cut_of};
-ghost use Rattle.draid_block.specs.Columns.{stripes_of};
-ghost use Rattle.draid_session.specs.Rooms.{stripes_for};
+ghost use Rattle.draid_session.specs.Rooms.{longest};
 ghost use Rattle.draid_session.specs.State.{State};
-ghost use Rattle.draid_store.specs.Answers.{WriteDoes, WriteInDoes};
+ghost use Rattle.draid_store.specs.Answers.{WriteDoes};
+ghost use Rattle.draid_store.specs.Fetching.{HaveLayout};
+ghost use Rattle.draid_store.specs.Looking.{HasMany};
 ghost use Rattle.draid_store.specs.Putting.{Takes};
-ghost use Rattle.draid_store.specs.Storing.{IsServed, StoreRefusedBy, StoreSetsTable, WriteSays};
+ghost use Rattle.draid_store.specs.Storing.{ComesBack, IsAnswerTo, IsServed, StoreRefusedBy, StoreSetsTable, WriteSays, WritesBy};
 ghost use Rattle.draid_pool.specs.Carries.{CarriesOut};
 ghost use Rattle.draid_store.specs.Pointers.{WriteSets};
 ghost use Rattle.draid_pool.specs.Drifts.{groups_number};
 ghost use Rattle.draid_pool.specs.Pools.{Represents};
-ghost use Rattle.draid_pool.specs.Threads.{AllStay, IsWholeBy};
+ghost use Rattle.draid_pool.specs.Threads.{AllStay, IsWholeBy, Knows};
 ghost use Rattle.draid_pool.specs.Whole.{IsWhole};
-ghost use Rattle.draid_store.specs.Shards.{HasRoomAt, IsNoSpace, RoomIs};
 
 use crate::fault::StoreFault;
 use crate::freeing::free_earlier;
-use crate::room::{count_shut, longest_run, rooms_of};
+use crate::room::{Rooms, longest_run, look_for_room};
 use crate::store::store_block;
 use draid_area::Area;
 use draid_block::Encoded;
@@ -30,7 +31,8 @@ use draid_choose::Chooser;
 use draid_names::{LAST_NUMBER, LONGEST_BLOCK, OBJECTS, Pointer, Room, WriteFault};
 use draid_pool::{Metaslabs, Own, Pool};
 use draid_rack::Rack;
-use draid_shard::Shut;
+use draid_spec::Geometry;
+use std::alloc::Global;
 
 /// Writes 1 to 131,072 bytes to an object below 2^32, in the metaslab that the chooser names. After any refusal the
 /// object has its earlier bytes.
@@ -50,55 +52,137 @@ pub fn write<R: Rack, A: Area, F: Fn(&[Room]) -> Option<u32>>(
     ensures step { (x : State) → Represents R.Rack A.Area pool.old x
         → CarriesOut R.Rack A.Area pool.new x (WriteDoes x (FnReturnsAt F.Fn chooser.now) object bytes.now result) }
 {
-    let Ok(block) = Encoded::of(pool.alloc, &pool.geometry, bytes) else {
-        return Err(WriteFault::NoMemory);
-    };
-    let need = u64::from(block.stripes());
-    let Ok(rooms) = rooms_of(pool.alloc, pool.metaslabs.shards.as_slice(), need) else {
-        return Err(WriteFault::NoMemory);
-    };
-    write_chosen(pool, chooser, rooms.as_slice(), object, &block)
+    match write_object(
+        pool.alloc,
+        &mut pool.metaslabs,
+        &mut pool.own,
+        &pool.geometry,
+        chooser,
+        object,
+        bytes,
+    ) {
+        Some(Ok(None)) => Ok(()),
+        Some(Err(why)) => Err(why),
+        Some(Ok(Some(_))) => unreachable!(),
+        None => unreachable!(),
+    }
 }
 
-/// Writes a block of an object to the metaslab that the chooser names, where these are the rooms for it.
-fn write_chosen<R: Rack, A: Area, F: Fn(&[Room]) -> Option<u32>>(
-    pool: &mut Pool<R, A>,
+/// Writes 1 to 131,072 bytes to a thread's own object below 2^32, in the metaslab that the chooser names, where all
+/// metaslabs have this layout. After any refusal the object has its earlier bytes. Where the block that it had is yet to
+/// be freed its pointer comes back. Nothing where the write is to be tried again.
+pub fn write_object<R: Rack, A: Area, M: Metaslabs<R, A>, F: Fn(&[Room]) -> Option<u32>>(
+    alloc: Global,
+    metaslabs: &mut M,
+    own: &mut Own,
+    geometry: &Geometry,
     chooser: &Chooser<F>,
-    rooms: &[Room],
+    object: u64,
+    bytes: &[u8],
+) -> Option<Result<Option<Pointer>, WriteFault>>
+    requires chooser { IsChooser F.Fn chooser.now }
+    requires fits { M.fits metaslabs.old }
+    requires own { M.owns metaslabs.old object ≡ true }
+    requires geometry { IsGeometry geometry.now }
+    requires layout { HaveLayout geometry.now (M.last metaslabs.old) }
+    requires many { HasMany R.Rack geometry.now.props.metaslabs (M.last metaslabs.old) }
+    requires object { object < OBJECTS }
+    requires some { 1 ≤ length bytes.now }
+    requires short { length bytes.now ≤ LONGEST_BLOCK }
+    requires whole { IsWholeBy R.Rack (M.owns metaslabs.old) (M.last metaslabs.old) (λ o. get nat_eq own.old.objects o) own.old.seq own.old.floor }
+    ensures fits { M.fits metaslabs.new }
+    ensures locks { M.locks metaslabs.new ≡ M.locks metaslabs.old }
+    ensures owns { M.owns metaslabs.new ≡ M.owns metaslabs.old }
+    ensures stay { AllStay (M.owns metaslabs.old) (M.last metaslabs.old) (M.last metaslabs.new) }
+    ensures whole { IsWholeBy R.Rack (M.owns metaslabs.old) (M.last metaslabs.new) (λ o. get nat_eq own.new.objects o) own.new.seq own.new.floor }
+    ensures sets { StoreSetsTable object bytes.now (λ o. get nat_eq own.old.objects o) (λ o. get nat_eq own.new.objects o) result }
+    // The pointer that comes back is that of a live block, which the table has no more.
+    ensures earlier { (p : Pointer) → result ≡ Some (Ok (Some p)) → ComesBack R.Rack (M.owns metaslabs.old) (M.last metaslabs.new) (λ o. get nat_eq own.new.objects o) object p }
+    ensures step { (x : State) → x.geometry ≡ geometry.now → Knows R.Rack A.Area (M.owns metaslabs.old) (M.last metaslabs.old) (λ o. get nat_eq own.old.objects o) own.old.seq own.old.floor x
+        → WritesBy R.Rack A.Area M.went M.shared (M.owns metaslabs.old) (M.last metaslabs.new) metaslabs.old metaslabs.new (FnReturnsAt F.Fn chooser.now) object bytes.now (λ o. get nat_eq own.new.objects o) own.new.seq own.new.floor x result }
+    // Who alone closes groups, with nobody between its holds, never has to try again.
+    ensures served { M.owns metaslabs.old groups_number ≡ true → M.shared ≡ false → IsServed result }
+{
+    let Ok(block) = Encoded::of(alloc, geometry, bytes) else {
+        return Some(Err(WriteFault::NoMemory));
+    };
+    write_encoded(alloc, metaslabs, own, geometry, chooser, object, &block)
+}
+
+/// The same of a block that is encoded.
+pub fn write_encoded<R: Rack, A: Area, M: Metaslabs<R, A>, F: Fn(&[Room]) -> Option<u32>>(
+    alloc: Global,
+    metaslabs: &mut M,
+    own: &mut Own,
+    geometry: &Geometry,
+    chooser: &Chooser<F>,
     object: u64,
     block: &Encoded,
-) -> Result<(), WriteFault>
+) -> Option<Result<Option<Pointer>, WriteFault>>
     requires chooser { IsChooser F.Fn chooser.now }
+    requires fits { M.fits metaslabs.old }
+    requires own { M.owns metaslabs.old object ≡ true }
+    requires geometry { IsGeometry geometry.now }
+    requires layout { HaveLayout geometry.now (M.last metaslabs.old) }
+    requires many { HasMany R.Rack geometry.now.props.metaslabs (M.last metaslabs.old) }
     requires object { object < OBJECTS }
-    requires cut { block.now.cut ≡ cut_of pool.old.geometry }
-    requires some { 1 ≤ stripes_for pool.old.geometry block.now.bytes }
-    requires rooms { AllZip (RoomIs (stripes_for pool.old.geometry block.now.bytes)) pool.old.metaslabs.shards.items rooms.now }
-    requires whole { IsWhole R.Rack A.Area pool.old }
-    ensures whole { IsWhole R.Rack A.Area pool.new }
-    ensures writes { WriteSets object block.now.bytes pool.old pool.new result }
-    ensures step { (x : State) → Represents R.Rack A.Area pool.old x
-        → CarriesOut R.Rack A.Area pool.new x (WriteDoes x (FnReturnsAt F.Fn chooser.now) object block.now.bytes result) }
+    requires cut { block.now.cut ≡ cut_of geometry.now }
+    requires whole { IsWholeBy R.Rack (M.owns metaslabs.old) (M.last metaslabs.old) (λ o. get nat_eq own.old.objects o) own.old.seq own.old.floor }
+    ensures fits { M.fits metaslabs.new }
+    ensures locks { M.locks metaslabs.new ≡ M.locks metaslabs.old }
+    ensures owns { M.owns metaslabs.new ≡ M.owns metaslabs.old }
+    ensures stay { AllStay (M.owns metaslabs.old) (M.last metaslabs.old) (M.last metaslabs.new) }
+    ensures whole { IsWholeBy R.Rack (M.owns metaslabs.old) (M.last metaslabs.new) (λ o. get nat_eq own.new.objects o) own.new.seq own.new.floor }
+    ensures sets { StoreSetsTable object block.now.bytes (λ o. get nat_eq own.old.objects o) (λ o. get nat_eq own.new.objects o) result }
+    // The pointer that comes back is that of a live block, which the table has no more.
+    ensures earlier { (p : Pointer) → result ≡ Some (Ok (Some p)) → ComesBack R.Rack (M.owns metaslabs.old) (M.last metaslabs.new) (λ o. get nat_eq own.new.objects o) object p }
+    ensures step { (x : State) → x.geometry ≡ geometry.now → Knows R.Rack A.Area (M.owns metaslabs.old) (M.last metaslabs.old) (λ o. get nat_eq own.old.objects o) own.old.seq own.old.floor x
+        → WritesBy R.Rack A.Area M.went M.shared (M.owns metaslabs.old) (M.last metaslabs.new) metaslabs.old metaslabs.new (FnReturnsAt F.Fn chooser.now) object block.now.bytes (λ o. get nat_eq own.new.objects o) own.new.seq own.new.floor x result }
+    // Who alone closes groups, with nobody between its holds, never has to try again.
+    ensures served { M.owns metaslabs.old groups_number ≡ true → M.shared ≡ false → IsServed result }
 {
-    let Some(metaslab) = chooser.pick(rooms) else {
-        return Err(no_space(pool, rooms));
+    let need = u64::from(block.stripes());
+    let Ok(seen) = look_for_room(alloc, metaslabs, geometry.props.metaslabs, need) else {
+        return Some(Err(WriteFault::NoMemory));
     };
-    if pool.own.seq >= LAST_NUMBER {
-        return Err(WriteFault::Last);
+    let Some(metaslab) = chooser.pick(&seen.rooms) else {
+        return Some(Err(no_space(&seen)));
+    };
+    if own.seq >= LAST_NUMBER {
+        return Some(Err(WriteFault::Last));
     }
-    write_in(pool, metaslab, object, block)
+    if own.objects.reserve(1).is_err() {
+        return Some(Err(WriteFault::NoMemory));
+    }
+    match write_block(metaslabs, own, metaslab, geometry.g, object, block) {
+        Some(stored) => written_as(stored),
+        None => None,
+    }
+}
+
+/// The answer of a write in the metaslab that was named. Nothing where that had no room any more.
+fn written_as(
+    stored: Result<Option<Pointer>, StoreFault>,
+) -> Option<Result<Option<Pointer>, WriteFault>>
+    ensures { IsAnswerTo stored result }
+{
+    match stored {
+        Ok(earlier) => Some(Ok(earlier)),
+        Err(StoreFault::Missed(Missed { columns })) => Some(Err(WriteFault::Missed { columns })),
+        Err(StoreFault::Refused(BeginFault::NoMemory)) => Some(Err(WriteFault::NoMemory)),
+        Err(StoreFault::Refused(_)) => None,
+    }
 }
 
 /// Why no metaslab took a block, where these are the rooms.
-fn no_space<R: Rack, A: Area>(pool: &Pool<R, A>, rooms: &[Room]) -> WriteFault
-    requires whole { IsWhole R.Rack A.Area pool.now }
-    ensures { IsNoSpace pool.now.metaslabs.shards.items rooms.now result }
+fn no_space(seen: &Rooms) -> WriteFault
+    ensures { result ≡ WriteFault.NoSpace (longest seen.now.rooms.items) seen.now.disabled seen.now.full seen.now.worn }
 {
-    let shards = pool.metaslabs.shards.as_slice();
     WriteFault::NoSpace {
-        run: longest_run(rooms),
-        disabled: count_shut(shards, Shut::Disabled),
-        full: count_shut(shards, Shut::Full),
-        worn: count_shut(shards, Shut::Worn),
+        run: longest_run(&seen.rooms),
+        disabled: seen.disabled,
+        full: seen.full,
+        worn: seen.worn,
     }
 }
 
@@ -125,6 +209,8 @@ pub fn write_block<R: Rack, A: Area, M: Metaslabs<R, A>>(
     ensures stay { AllStay (M.owns metaslabs.old) (M.last metaslabs.old) (M.last metaslabs.new) }
     ensures whole { IsWholeBy R.Rack (M.owns metaslabs.old) (M.last metaslabs.new) (λ o. get nat_eq own.new.objects o) own.new.seq own.new.floor }
     ensures sets { StoreSetsTable object block.now.bytes (λ o. get nat_eq own.old.objects o) (λ o. get nat_eq own.new.objects o) result }
+    // The pointer that comes back is that of a live block, which the table has no more.
+    ensures earlier { (p : Pointer) → result ≡ Some (Ok (Some p)) → ComesBack R.Rack (M.owns metaslabs.old) (M.last metaslabs.new) (λ o. get nat_eq own.new.objects o) object p }
     ensures says { WriteSays R.Rack A.Area M.went M.shared (M.owns metaslabs.old) (M.owns metaslabs.new) (M.last metaslabs.old) (M.last metaslabs.new) metaslabs.old metaslabs.new metaslab columns object
         (λ o. get nat_eq own.old.objects o) (λ o. get nat_eq own.new.objects o) own.old.seq own.old.floor own.new.seq own.new.floor block.now result }
     ensures refused { StoreRefusedBy R.Rack A.Area M.shared (M.owns metaslabs.old) (M.last metaslabs.old) metaslab block.now result }
@@ -142,52 +228,4 @@ pub fn write_block<R: Rack, A: Area, M: Metaslabs<R, A>>(
     };
     own.floor = group;
     Some(Ok(None))
-}
-
-/// Writes a block of an object to a metaslab of a pool that has room for it.
-fn write_in<R: Rack, A: Area>(
-    pool: &mut Pool<R, A>,
-    metaslab: u32,
-    object: u64,
-    block: &Encoded,
-) -> Result<(), WriteFault>
-    requires object { object < OBJECTS }
-    requires cut { block.now.cut ≡ cut_of pool.old.geometry }
-    requires room { HasRoomAt pool.old.metaslabs.shards.items metaslab (stripes_of (cut_of pool.old.geometry) (length block.now.bytes)) }
-    requires last { pool.old.own.seq + 1 < NUMBERS }
-    requires whole { IsWhole R.Rack A.Area pool.old }
-    ensures whole { IsWhole R.Rack A.Area pool.new }
-    ensures writes { WriteSets object block.now.bytes pool.old pool.new result }
-    ensures step { (x : State) → Represents R.Rack A.Area pool.old x
-        → CarriesOut R.Rack A.Area pool.new x (WriteInDoes x metaslab object block.now.bytes result) }
-{
-    if pool.own.objects.reserve(1).is_err() {
-        return Err(WriteFault::NoMemory);
-    }
-    let columns = pool.geometry.g;
-    match write_block(
-        &mut pool.metaslabs,
-        &mut pool.own,
-        metaslab,
-        columns,
-        object,
-        block,
-    ) {
-        Some(Ok(None)) => Ok(()),
-        Some(Err(StoreFault::Missed(Missed { columns }))) => Err(WriteFault::Missed { columns }),
-        Some(Err(StoreFault::Refused(why))) => Err(refused(why)),
-        Some(Ok(Some(_))) => unreachable!(),
-        None => unreachable!(),
-    }
-}
-
-/// Why no write was begun in a metaslab that has room for it: want of memory alone.
-fn refused(why: BeginFault) -> WriteFault
-    requires { why ≡ BeginFault.NoMemory }
-    ensures { result ≡ WriteFault.NoMemory }
-{
-    match why {
-        BeginFault::NoMemory => WriteFault::NoMemory,
-        _ => unreachable!(),
-    }
 }

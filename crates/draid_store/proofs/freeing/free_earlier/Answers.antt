@@ -4,7 +4,7 @@ use Rattle.draid_pool.proofs.HeldBy.{stay_held}
 use Rattle.draid_pool.proofs.Holding.{some_same}
 use Rattle.draid_store.proofs.Awaiting.{earlier_says}
 use Rattle.draid_store.proofs.FreeKeeps.{free_groups, free_keeps}
-use Rattle.draid_store.proofs.FreeWhole.{earlier_served, earlier_whole, may_free}
+use Rattle.draid_store.proofs.FreeWhole.{earlier_has, earlier_served, earlier_whole, may_free}
 use Rattle.draid_store.proofs.freeing.free_earlier.Goals as goal
 
 pub hold-op-requires-clause-may : goal.hold-op-requires-clause-may
@@ -47,3 +47,9 @@ returns-clause-says g c table seq x we known =
     let new = g.M.Metaslabs.last c.hold-op.new.self in
     subst (λ o. EarlierSays g.R.Rack g.A.Area g.M.Metaslabs.went g.M.Metaslabs.shared owns o last new c.args.metaslabs.now c.hold-op.new.self c.args.pointer table table seq c.args.floor x we c.hold-op.result.out) (sym c.hold-op.ensures.owns)
     (earlier_says g.R.Rack g.A.Area g.M.Metaslabs.went g.M.Metaslabs.shared owns c.args.metaslabs.now c.hold-op.new.self last new c.args.pointer h.shard h.before h.after h.there h.drifts h.is h.went table seq c.args.floor x we known c.hold-op.result.out h.related)
+
+pub returns-clause-has : goal.returns-clause-has
+returns-clause-has g c none =
+    let h = c.hold-op.ensures.held in
+    earlier_has g.R.Rack g.A.Area g.M.Metaslabs.shared (g.M.Metaslabs.owns c.args.metaslabs.now) (g.M.Metaslabs.last c.args.metaslabs.now) (g.M.Metaslabs.last c.hold-op.new.self) c.args.pointer h.shard h.before h.after h.there h.drifts h.keeps.valid h.is
+    c.args.floor c.requires.has c.hold-op.result.out h.related none

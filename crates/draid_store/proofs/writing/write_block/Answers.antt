@@ -1,4 +1,5 @@
-use Rattle.std.proofs.Common.{◌≡◌, ◌∙◌, Some, None, Ok, Err, ap, sym, subst}
+use Rattle.std.proofs.Common.{◌≡◌, ◌∙◌, Option, Some, None, Result, Ok, Err, ap, sym, subst}
+use Rattle.draid_names.specs.declared.pointer.Pointer.{Pointer}
 use Rattle.std.specs.Prelude.{nat_eq}
 use Rattle.std.specs.HashMap.{get}
 use Rattle.draid_pool.specs.Drifts.{groups_number}
@@ -8,6 +9,9 @@ use Rattle.draid_store.specs.Storing.{ComesBack, StoreRefusedBy, StoreSays, Stor
 use Rattle.draid_pool.proofs.HeldBy.{stay_then}
 use Rattle.draid_store.proofs.WholeBlock.{answered, earlier_awaits, earlier_freed, same_err, same_first, same_none}
 use Rattle.draid_store.proofs.writing.write_block.Goals as goal
+
+same_back : {E : Type 0} (p q : Pointer) → ◌≡◌ {A = Option (Result (Option Pointer) E)} (Some (Ok (Some p))) (Some (Ok (Some q))) → p ≡ q
+same_back p q is = cc
 
 pub returns-in-Some-Ok-None : goal.returns-in-Some-Ok-None
 returns-in-Some-Ok-None g c =
@@ -20,6 +24,7 @@ returns-in-Some-Ok-None g c =
       stay = e.stay;
       whole = e.whole;
       sets = subst (StoreSetsTable c.args.object c.args.block.now.bytes (λ o. get nat_eq c.args.own.now.objects o) (λ o. get nat_eq c.store_block.new.own.objects o)) none e.sets;
+      earlier = λ q is. absurd (cc);
       says = same_first g.R.Rack g.A.Area g.M.Metaslabs.went g.M.Metaslabs.shared (g.M.Metaslabs.owns c.args.metaslabs.now) (g.M.Metaslabs.owns c.store_block.new.metaslabs) (g.M.Metaslabs.last c.args.metaslabs.now) (g.M.Metaslabs.last c.store_block.new.metaslabs) c.args.metaslabs.now c.store_block.new.metaslabs c.args.metaslab c.args.columns c.args.object
           (λ o. get nat_eq c.args.own.now.objects o) (λ o. get nat_eq c.store_block.new.own.objects o) c.args.own.now.seq c.args.own.now.floor c.store_block.new.own.seq c.store_block.new.own.floor c.args.block.now c.store_block.result none e.says;
       refused = tt;
@@ -37,6 +42,7 @@ returns-in-Some-Err g c =
       stay = e.stay;
       whole = e.whole;
       sets = subst (StoreSetsTable c.args.object c.args.block.now.bytes (λ o. get nat_eq c.args.own.now.objects o) (λ o. get nat_eq c.store_block.new.own.objects o)) fault e.sets;
+      earlier = λ q is. absurd (cc);
       says = same_err g.R.Rack g.A.Area g.M.Metaslabs.went g.M.Metaslabs.shared (g.M.Metaslabs.owns c.args.metaslabs.now) (g.M.Metaslabs.owns c.store_block.new.metaslabs) (g.M.Metaslabs.last c.args.metaslabs.now) (g.M.Metaslabs.last c.store_block.new.metaslabs) c.args.metaslabs.now c.store_block.new.metaslabs c.args.metaslab c.args.columns c.args.object
           (λ o. get nat_eq c.args.own.now.objects o) (λ o. get nat_eq c.store_block.new.own.objects o) c.args.own.now.seq c.args.own.now.floor c.store_block.new.own.seq c.store_block.new.own.floor c.args.block.now c.store_block.result c.in-Some-Err.why fault e.says;
       refused = subst (StoreRefusedBy g.R.Rack g.A.Area g.M.Metaslabs.shared (g.M.Metaslabs.owns c.args.metaslabs.now) (g.M.Metaslabs.last c.args.metaslabs.now) c.args.metaslab c.args.block.now) fault e.refused;
@@ -53,6 +59,7 @@ returns-in-None g c =
       stay = e.stay;
       whole = e.whole;
       sets = subst (StoreSetsTable c.args.object c.args.block.now.bytes (λ o. get nat_eq c.args.own.now.objects o) (λ o. get nat_eq c.store_block.new.own.objects o)) c.in-None.is e.sets;
+      earlier = λ q is. absurd (cc);
       says = same_none g.R.Rack g.A.Area g.M.Metaslabs.went g.M.Metaslabs.shared (g.M.Metaslabs.owns c.args.metaslabs.now) (g.M.Metaslabs.owns c.store_block.new.metaslabs) (g.M.Metaslabs.last c.args.metaslabs.now) (g.M.Metaslabs.last c.store_block.new.metaslabs) c.args.metaslabs.now c.store_block.new.metaslabs c.args.metaslab c.args.columns c.args.object
           (λ o. get nat_eq c.args.own.now.objects o) (λ o. get nat_eq c.store_block.new.own.objects o) c.args.own.now.seq c.args.own.now.floor c.store_block.new.own.seq c.store_block.new.own.floor c.args.block.now c.store_block.result c.in-None.is e.says;
       refused = tt;
@@ -88,6 +95,11 @@ returns-in_default g c =
       sets = subst (StoreSetsTable c.args.object c.args.block.now.bytes (λ o. get nat_eq c.args.own.now.objects o) (λ o. get nat_eq c.store_block.new.own.objects o)) some e.sets;
       whole = subst (λ o. IsWholeBy g.R.Rack o (g.M.Metaslabs.last c.free_earlier.new.metaslabs) (λ o. get nat_eq c.store_block.new.own.objects o) c.store_block.new.own.seq c.store_block.new.own.floor) e.owns
           (subst (EarlierWhole g.R.Rack (g.M.Metaslabs.owns c.store_block.new.metaslabs) (g.M.Metaslabs.last c.free_earlier.new.metaslabs) (λ o. get nat_eq c.store_block.new.own.objects o) c.store_block.new.own.seq c.store_block.new.own.floor) c.in_default.is (f.whole (λ o. get nat_eq c.store_block.new.own.objects o) c.store_block.new.own.seq whole back.apart));
+      earlier = λ q is. subst (ComesBack g.R.Rack (g.M.Metaslabs.owns c.args.metaslabs.now) (g.M.Metaslabs.last c.free_earlier.new.metaslabs) (λ o. get nat_eq c.store_block.new.own.objects o) c.args.object) (same_back p q is) (record {
+        has = subst (λ o. HasPointer (g.M.Metaslabs.last c.free_earlier.new.metaslabs) g.R.Rack o c.args.object p) e.owns
+            (subst (λ n. HasPointer (g.M.Metaslabs.last c.free_earlier.new.metaslabs) g.R.Rack (g.M.Metaslabs.owns c.store_block.new.metaslabs) n p) back.has.object_is (f.has c.in_default.is));
+        apart = back.apart;
+      });
       says = earlier_awaits g.R.Rack g.A.Area g.M.Metaslabs.went g.M.Metaslabs.shared (g.M.Metaslabs.owns c.args.metaslabs.now) (g.M.Metaslabs.owns c.store_block.new.metaslabs) (g.M.Metaslabs.last c.args.metaslabs.now) (g.M.Metaslabs.last c.store_block.new.metaslabs) c.args.metaslabs.now c.store_block.new.metaslabs c.args.metaslab c.args.columns c.args.object
           (λ o. get nat_eq c.args.own.now.objects o) (λ o. get nat_eq c.store_block.new.own.objects o) c.args.own.now.seq c.args.own.now.floor c.store_block.new.own.seq c.store_block.new.own.floor c.args.block.now
           (g.M.Metaslabs.owns c.free_earlier.new.metaslabs) f.owns (g.M.Metaslabs.last c.free_earlier.new.metaslabs) c.free_earlier.new.metaslabs p (subst (StoreSays g.R.Rack g.A.Area g.M.Metaslabs.went g.M.Metaslabs.shared (g.M.Metaslabs.owns c.args.metaslabs.now) (g.M.Metaslabs.owns c.store_block.new.metaslabs) (g.M.Metaslabs.last c.args.metaslabs.now) (g.M.Metaslabs.last c.store_block.new.metaslabs) c.args.metaslabs.now c.store_block.new.metaslabs c.args.metaslab c.args.columns c.args.object
@@ -113,6 +125,7 @@ returns g c =
       sets = subst (StoreSetsTable c.args.object c.args.block.now.bytes (λ o. get nat_eq c.args.own.now.objects o) (λ o. get nat_eq c.store_block.new.own.objects o)) some e.sets;
       whole = subst (λ o. IsWholeBy g.R.Rack o (g.M.Metaslabs.last c.free_earlier.new.metaslabs) (λ o. get nat_eq c.store_block.new.own.objects o) c.store_block.new.own.seq c.in-Some.group) e.owns
           (subst (EarlierWhole g.R.Rack (g.M.Metaslabs.owns c.store_block.new.metaslabs) (g.M.Metaslabs.last c.free_earlier.new.metaslabs) (λ o. get nat_eq c.store_block.new.own.objects o) c.store_block.new.own.seq c.store_block.new.own.floor) c.in-Some.is (f.whole (λ o. get nat_eq c.store_block.new.own.objects o) c.store_block.new.own.seq whole back.apart));
+      earlier = λ q is. absurd (cc);
       says = earlier_freed g.R.Rack g.A.Area g.M.Metaslabs.went g.M.Metaslabs.shared (g.M.Metaslabs.owns c.args.metaslabs.now) (g.M.Metaslabs.owns c.store_block.new.metaslabs) (g.M.Metaslabs.last c.args.metaslabs.now) (g.M.Metaslabs.last c.store_block.new.metaslabs) c.args.metaslabs.now c.store_block.new.metaslabs c.args.metaslab c.args.columns c.args.object
           (λ o. get nat_eq c.args.own.now.objects o) (λ o. get nat_eq c.store_block.new.own.objects o) c.args.own.now.seq c.args.own.now.floor c.store_block.new.own.seq c.store_block.new.own.floor c.args.block.now
           (g.M.Metaslabs.owns c.free_earlier.new.metaslabs) f.owns (g.M.Metaslabs.last c.free_earlier.new.metaslabs) c.free_earlier.new.metaslabs p (subst (StoreSays g.R.Rack g.A.Area g.M.Metaslabs.went g.M.Metaslabs.shared (g.M.Metaslabs.owns c.args.metaslabs.now) (g.M.Metaslabs.owns c.store_block.new.metaslabs) (g.M.Metaslabs.last c.args.metaslabs.now) (g.M.Metaslabs.last c.store_block.new.metaslabs) c.args.metaslabs.now c.store_block.new.metaslabs c.args.metaslab c.args.columns c.args.object
