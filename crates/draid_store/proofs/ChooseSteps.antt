@@ -15,7 +15,6 @@ use Rattle.draid_perm.specs.declared.perms.Perms.{Perms}
 use Rattle.draid_choose.specs.Rooms.{Picks}
 use Rattle.draid_machine.specs.State as machine
 use Rattle.draid_machine.specs.Step.{Fits, IsLongest}
-use Rattle.draid_layouts.specs.Layout.{layout_of}
 use Rattle.draid_segments.specs.Segments.{Pieces}
 use Rattle.draid_entries.specs.Entries.{owed_by}
 use Rattle.draid_entries.specs.History.{stored_of}
@@ -35,7 +34,6 @@ use Rattle.draid_shard.proofs.OwedAll.{owed_is}
 use Rattle.draid_session.specs.Follows.{Follows}
 use Rattle.draid_session.specs.Holds.{View, view_of}
 use Rattle.draid_session.specs.Looks.{CountIs, Looks, LooksFrom}
-use Rattle.draid_session.specs.Rooms as rooms_of
 use Rattle.draid_session.specs.Rooms.{IsDisabled, IsFull, IsRoomOf, IsShut, IsWornForBlock, LooksForRoom, longest, stripes_for}
 use Rattle.draid_session.specs.State.{Metaslab, State}
 use Rattle.draid_session.specs.Worn.{IsWorn}
