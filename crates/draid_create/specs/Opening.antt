@@ -1,5 +1,5 @@
 -- What becomes of a shelf on which a pool is created, and of the pool.
-use Rattle.std.specs.Prelude.{◌≡◌, ◌<◌, ◌≤◌, ◌+◌, ◌⊎◌, ℕ, false, List, [], Option, Some, None, MatchOption, IsSome, IsSomeAnd, IsTrue, is_some, option_map, Result, Ok, Err, length, replicate, slice_get, ⊤}
+use Rattle.std.specs.Prelude.{◌≡◌, ◌<◌, ◌≤◌, ◌+◌, ◌⊎◌, ℕ, false, List, [], Option, Some, None, MatchOption, IsSome, IsSomeAnd, IsTrue, is_some, option_map, Result, Ok, Err, length, replicate, slice_get}
 use Rattle.draid_names.specs.Faults.{Rose}
 use Rattle.draid_rack.specs.Rack.{Shape, Told}
 use Rattle.draid_rack.specs.declared.Rack as racks

@@ -48,7 +48,7 @@ use Rattle.draid_uber.specs.Slots.{group_of}
 use Rattle.draid_uber.specs.Uber as ubers
 use Rattle.draid_uber.specs.Uber.{kept_of, layout_of, next_leaf_of, version_of}
 use Rattle.draid_found.specs.Found.{AllLive, AreFound, AreReady}
-use Rattle.draid_import.specs.Found.{AnyRecordsRose, AreFreed, AreReopened, CountsLater, FreesAt, FreesOlder, FreesIfOlder, HaveLowLeaves, IsFoundUber, IsReopened, IsShardFault, LeavesUber, OpensOver, RecordsRose, SameButFlushed, SameChecks, StaysHeld}
+use Rattle.draid_import.specs.Found.{AnyRecordsRose, AreFreed, AreReopened, CountsLater, FreesAt, FreesOlder, FreesIfOlder, HaveLowLeaves, IsFoundUber, IsReopened, LeavesUber, OpensOver, RecordsRose, SameButFlushed, SameChecks, StaysHeld}
 use Rattle.draid_pool.specs.Returning.{Returns, TakesBack}
 use Rattle.draid_pool.specs.Taking.{TakesFirst}
 use Rattle.draid_pool.specs.Whole.{IsWhole}

@@ -1,6 +1,6 @@
 -- Refusals of an import that are others.
-use Rattle.std.proofs.Common.{◌≡◌, ◌∙◌, ◌⊎◌, inr, ℕ, Bool, true, false, Option, Result, Ok, Err, ap, subst, sym}
-use Rattle.std.specs.Prelude.{IfErr, IfOk, IsErrAnd, IsErrOf, OnErr, OnOk}
+use Rattle.std.proofs.Common.{ℕ, Option, Err}
+use Rattle.std.specs.Prelude.{IsErrOf}
 use Rattle.draid_import.specs.declared.fault.ImportFault.TheVariants as fault
 
 -- nor is it a fault of the shelf or of a record

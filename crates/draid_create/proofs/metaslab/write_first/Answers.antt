@@ -1,6 +1,5 @@
 use Rattle.std.proofs.Common.{Result, Ok, Err, ap, refl}
 use Rattle.std.specs.Prelude.{OnOk}
-use Rattle.draid_names.specs.declared.fault.DeviceFault.{DeviceFault}
 use Rattle.draid_area.specs.Area.{OnTold}
 use Rattle.draid_machine.specs.Created.{created}
 use Rattle.draid_record.specs.Record.{told_record}

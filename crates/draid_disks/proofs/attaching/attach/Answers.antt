@@ -1,6 +1,6 @@
 use Rattle.std.proofs.Common.{◌≡◌, ◌≤◌, ◌+◌, ◌-◌, ◌∷◌, ◌++◌, ◌∙◌, [], List, ap, arith, length, refl, subst}
 use Rattle.draid_machine.specs.declared.event.Event.{Event}
-use Rattle.draid_entries.specs.History.{owed_of, reserved_of, stored_of}
+use Rattle.draid_entries.specs.History.{owed_of, stored_of}
 use Rattle.draid_shard.specs.Loans.{owed_for_loan}
 use Rattle.draid_shard.proofs.Kept.{stored_more}
 use Rattle.draid_machine.specs.declared.event.Event.TheVariants.{Attach}

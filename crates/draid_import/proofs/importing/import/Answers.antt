@@ -21,7 +21,7 @@ use Rattle.draid_import.proofs.ImportLeft.{leaves_all, refusal_is, refused_pool,
 use Rattle.draid_import.proofs.ImportOne.{no_fault_apart}
 use Rattle.draid_import.proofs.ImportPool.{pool_found, tells_as_before}
 use Rattle.draid_import.proofs.Found.{absent_not, all_ready, checks_more, refused_too, checks_back, checks_given}
-use Rattle.draid_pool.proofs.Refusing.{if_err_passed, if_ok_passed, no_refusal, on_err_always, on_ok_passed, passed, passed_is}
+use Rattle.draid_pool.proofs.Refusing.{if_ok_passed, no_refusal, on_err_always, on_ok_passed, passed, passed_is}
 use Rattle.draid_import.proofs.importing.import.Goals as goal
 
 pub find_blocks-requires : goal.find_blocks-requires

@@ -1,4 +1,3 @@
-use Rattle.std.proofs.Common.{refl}
 use Rattle.draid_shard.proofs.Over.{none_over, only_last}
 use Rattle.draid_pool.proofs.Committed.{keeps_absent, keeps_none, keeps_some}
 use Rattle.draid_pool.proofs.committing.lends_freed.Goals as goal
