@@ -12,9 +12,6 @@ use Rattle.draid_layouts.specs.Layout.{layout_of}
 use Rattle.draid_objects.specs.Blocks.{Blocks, sealed_at}
 use Rattle.draid_objects.specs.Changes.{Write, write_by}
 use Rattle.draid_segments.specs.Segments.{Pieces}
-use Rattle.draid_slots.specs.Table.{SlotTable, arms_of}
-use Rattle.draid_slots.specs.States.{HasSlots, name_of}
-use Rattle.draid_machine.specs.Names.{named}
 use Rattle.draid_session.specs.Opening.{MayFind, Reopens, VersionIn}
 use Rattle.draid_session.specs.State.{Metaslab, State}
 use Rattle.draid_pool.specs.Importable.{AreAlike, IsAlike, IsFindable, SameArms}

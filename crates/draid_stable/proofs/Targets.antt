@@ -8,6 +8,7 @@ use Rattle.draid_names.specs.declared.numbers.TheConstants.{LAST_NUMBER, NUMBERS
 use Rattle.draid_slots.specs.Table.{SlotTable, arms_of}
 use Rattle.draid_record.specs.declared.limits.Limits.{Limits}
 use Rattle.draid_record.specs.Ranges.{AreTargets, IsPass}
+use Rattle.draid_record.specs.Record as told
 use Rattle.draid_record.specs.Record.{ArmTold, PassTold, arm_count}
 use Rattle.draid_stable.specs.Sealing.{is_lost, lose_marked}
 use Rattle.draid_slots.specs.States.{AscendBehind}
