@@ -1,10 +1,15 @@
 pub mod Attached
 pub mod Begun
+pub mod Called
 pub mod Calls
 pub mod Events
+pub mod Leaving
+pub mod Left
 pub mod Phases
 pub mod Raised
 pub mod Reserved
+pub mod Rules
+pub mod Staying
 pub mod Switched
 pub mod Upgraded
 pub mod UpgradedWhole

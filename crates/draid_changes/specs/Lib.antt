@@ -1,5 +1,7 @@
 pub mod Answers
 pub mod Attaching
+pub mod DetachSays
+pub mod Detaching
 pub mod Says
 pub mod UpgradeSays
 pub mod Upgrading

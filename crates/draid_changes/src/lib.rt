@@ -4,6 +4,8 @@
 #![tactic(auto)]
 
 mod attaching;
+mod detach_reply;
+mod detaching;
 mod fault;
 mod need;
 mod replies;
@@ -12,6 +14,8 @@ mod switching;
 mod upgrade_reply;
 mod upgrading;
 
+pub use detach_reply::reply_to_detach;
+pub use detaching::{DetachFault, detach};
 pub use fault::ArmFault;
 pub use replies::{reply_to_offline, reply_to_online};
 pub use switching::{offline, online};
