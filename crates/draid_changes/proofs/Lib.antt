@@ -1,10 +1,14 @@
 pub mod Attached
 pub mod Begun
 pub mod Calls
+pub mod Coming
 pub mod Events
+pub mod Leaves
 pub mod Phases
 pub mod Raised
 pub mod Reserved
+pub mod Barred
+pub mod Spared
 pub mod Switched
 pub mod Upgraded
 pub mod UpgradedWhole

@@ -1,4 +1,4 @@
-mod Alike
+pub mod Alike
 mod Attached
 mod Births
 mod Checked
