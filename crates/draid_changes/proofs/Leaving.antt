@@ -62,7 +62,7 @@ use Rattle.draid_changes.proofs.Events.{areas_changed, events_done, unsealed}
 use Rattle.draid_changes.proofs.Left.{leave_turns, left_shared}
 use Rattle.draid_changes.proofs.Raised.{Any, IsGroup, Reserving, Syncing, not_last, not_through, sync_stops}
 use Rattle.draid_changes.proofs.Staying.{was_at}
-use Rattle.draid_changes.proofs.Rules.{goes_still}
+use Rattle.draid_changes.proofs.Forbids.{goes_still}
 use Rattle.draid_changes.proofs.Walk.{IsChanged, changed_at}
 use Rattle.draid_changes.proofs.Whole.{SameOwn, whole_changed}
 

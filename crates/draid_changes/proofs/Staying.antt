@@ -40,7 +40,7 @@ use Rattle.draid_pool.proofs.Lifted.{HasMetaslab, metaslab_of}
 use Rattle.draid_pool.proofs.Lists.{present, some_of}
 use Rattle.draid_changes.specs.Detaching.{MayGo}
 use Rattle.draid_changes.proofs.Begun.{first_seen, seen_first}
-use Rattle.draid_changes.proofs.Rules.{arm_here, arm_there, logged_there, lowest_seen, name_same, no_pass, none_lowest, none_seen, other_name, slot_inside, sums_seen}
+use Rattle.draid_changes.proofs.Forbids.{arm_here, arm_there, logged_there, lowest_seen, name_same, no_pass, none_lowest, none_seen, other_name, slot_inside, sums_seen}
 
 -- ---- lists
 

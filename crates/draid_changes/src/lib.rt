@@ -1,5 +1,5 @@
-//! Changes of a pool's arms, each made in all of its metaslabs or in none: leaves go offline and come back. And that of
-//! its version.
+//! Changes of a pool's arms, each made in all of its metaslabs or in none: leaves go offline and come back, spares
+//! come to slots, and arms leave them. And that of its version.
 
 #![tactic(auto)]
 
@@ -10,6 +10,8 @@ mod fault;
 mod need;
 mod replies;
 mod reserving;
+mod rules;
+mod sparing;
 mod switching;
 mod upgrade_reply;
 mod upgrading;
@@ -17,7 +19,8 @@ mod upgrading;
 pub use detach_reply::reply_to_detach;
 pub use detaching::{DetachFault, detach};
 pub use fault::ArmFault;
-pub use replies::{reply_to_offline, reply_to_online};
+pub use replies::{reply_to_offline, reply_to_online, reply_to_spare};
+pub use sparing::spare;
 pub use switching::{offline, online};
 pub use upgrade_reply::reply_to_upgrade;
 pub use upgrading::{UpgradeFault, upgrade};

@@ -8,7 +8,7 @@ use Rattle.draid_pool.specs.declared.pool.Pool.{Pool}
 use Rattle.draid_pool.proofs.SyncSteps.{borrowed_at}
 use Rattle.draid_pool.proofs.WholeGroups.{first_shard}
 use Rattle.draid_changes.proofs.Staying.{going_broken, none_broken, none_named, stands}
-use Rattle.draid_changes.proofs.Rules.{named_shared}
+use Rattle.draid_changes.proofs.Forbids.{named_shared}
 use Rattle.draid_changes.proofs.detaching.place_to_leave.Goals as goal
 
 -- the first metaslab was borrowed

@@ -96,6 +96,7 @@ loop-metaslab-preserved g c =
             room = e.room;
             slots = arms_kept shard.slots after.slots e.arms;
             logs = e.arms;
+            sound = e.sound;
             pass = e.pass;
             last = e.last;
             groups = e.keeps.groups;
