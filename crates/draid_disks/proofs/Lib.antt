@@ -10,7 +10,7 @@ mod Left
 mod Marked
 mod Moving
 mod Plain
-mod Refused
+pub mod Refused
 mod Renewed
 mod RenewedOne
 mod Replanned

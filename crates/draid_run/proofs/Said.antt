@@ -1,16 +1,16 @@
 -- What the replies of commands say, in the words of a session.
-use Rattle.std.proofs.Common.{◌≡◌, inl, ℕ, true, false, List, Option, Result, Ok, Err, refl, subst, sym, Bool}
+use Rattle.std.proofs.Common.{◌≡◌, inl, ℕ, Bool, true, false, List, Result, Ok, Err, refl, subst, sym}
 use Rattle.std.specs.declared.vec.Vec.{Vec}
 use Rattle.std.specs.declared.alloc.Global.{Global}
 use Rattle.draid_names.specs.declared.fault.NoMemory.{NoMemory as Starved}
 use Rattle.draid_names.specs.declared.refusal.ObjectFault.{ObjectFault}
 use Rattle.draid_names.specs.declared.refusal.ObjectFault.TheVariants as object
-use Rattle.draid_script.specs.Line.{DamageSector, FreeObject, ReadObject, ShowStatus, SumObjects, TakeOffline, TakeOnline, UpgradePool, AttachSpare, Command}
+use Rattle.draid_script.specs.Line.{AttachSpare, Command, DamageSector, FreeObject, ReadObject, ShowStatus, SumObjects, TakeOffline, TakeOnline, DetachArm, UpgradePool}
+use Rattle.draid_script.specs.declared.name.CommandName.{CommandName}
 use Rattle.draid_script.specs.declared.name.CommandName.TheVariants as name
 use Rattle.draid_script.specs.declared.line.StatusFormat.{StatusFormat}
 use Rattle.draid_reply.specs.declared.reply.Reply.{Reply}
-use Rattle.draid_reply.specs.declared.reply.Reply.TheVariants.{Last, NoMemory, OfflineDone, OfflineRefused, OfflineWorn, OnlineDone, OnlineRefused, OnlineWorn, UpgradeAlready, Upgraded, Worn, SpareRefused, SpareWorn}
-use Rattle.draid_script.specs.declared.name.CommandName.{CommandName}
+use Rattle.draid_reply.specs.declared.reply.Reply.TheVariants.{DetachLast, DetachRefused, DetachWorn, Detached, Last, NoMemory, OfflineDone, OfflineRefused, OfflineWorn, OnlineDone, OnlineRefused, OnlineWorn, SpareRefused, SpareWorn, UpgradeAlready, Upgraded, Worn}
 use Rattle.draid_session.specs.Choices.{Choices}
 use Rattle.draid_session.specs.Holds.{Hold}
 use Rattle.draid_session.specs.State.{State, Store}
@@ -19,6 +19,12 @@ use Rattle.draid_names.specs.declared.refusal.SlotFault.{SlotFault}
 use Rattle.draid_names.specs.declared.refusal.SlotFault.TheVariants as slot
 use Rattle.draid_session.specs.Arms as arms
 use Rattle.draid_changes.specs.Answers.{SpareDoes, SwitchDoes}
+use Rattle.draid_changes.specs.DetachSays.{DetachSays, IsDetachReply}
+use Rattle.draid_changes.specs.Detaching.{DetachDoes}
+use Rattle.draid_changes.specs.declared.detaching.DetachFault.{DetachFault}
+use Rattle.draid_changes.specs.declared.detaching.DetachFault.TheVariants as detaching
+use Rattle.draid_script.specs.declared.line.ArmArgument.{ArmArgument}
+use Rattle.draid_session.specs.Arms.{arm_of}
 use Rattle.draid_changes.specs.Says.{IsReplyBy, IsSpared, SpareSays, SwitchSays}
 use Rattle.draid_changes.specs.UpgradeSays.{IsUpgradeReply, UpgradeSays}
 use Rattle.draid_changes.specs.Upgrading.{UpgradeDoes}
@@ -91,7 +97,6 @@ module _ (x : State) (choices : Choices) (said : Result Reply Failed) (holds : L
       (λ it reply is did. subst (λ r. ReplyDoes x choices (AttachSpare slot spare) r holds store) (sym is.1) (refl, is.2, did.0, did.1)) (λ why did. (refl, did.0, did.1)) (λ did. (refl, did.0, did.1)) (λ did. did) (λ did. did)
       says.0 says.1 says.2
 
-module _ (x : State) (choices : Choices) (said : Result Reply Failed) (holds : List Hold) (store : Store) where
   pub upgrade_does : UpgradeSays said x holds store → AnswerDoes x choices UpgradePool said holds store
   upgrade_does says = by says.0 says.1 says.2
     where
@@ -109,6 +114,25 @@ module _ (x : State) (choices : Choices) (said : Result Reply Failed) (holds : L
       by (Err (upgrading.Sync sync.Last)) is does = replied (Last name.Upgrade) is does
       by (Err (upgrading.Sync sync.NoMemory)) is does = replied (NoMemory name.Upgrade) is (does.0, inl does.1)
       by (Err (upgrading.Sync sync.Shelf)) is does = broke said is does
+
+module _ (x : State) (choices : Choices) (said : Result Reply Failed) (holds : List Hold) (store : Store) (arm : ArmArgument) where
+  pub detach_does : DetachSays arm said x holds store → AnswerDoes x choices (DetachArm arm) said holds store
+  detach_does says = by says.0 says.1 says.2
+    where
+      replied : (reply : Reply) → said ≡ Ok reply → ReplyDoes x choices (DetachArm arm) reply holds store → AnswerDoes x choices (DetachArm arm) said holds store
+      replied reply is does = subst (λ s. AnswerDoes x choices (DetachArm arm) s holds store) (sym is) does
+
+      broke : (given : Result Reply Failed) → IsDetachReply arm (Err (detaching.Sync sync.Shelf)) given → DetachDoes x (arm_of arm) (Err (detaching.Sync sync.Shelf)) holds store → AnswerDoes x choices (DetachArm arm) given holds store
+      broke (Ok reply) is does = absurd is
+      broke (Err failed) is does = does
+
+      by : (answer : Result ℕ DetachFault) → IsDetachReply arm answer said → DetachDoes x (arm_of arm) answer holds store → AnswerDoes x choices (DetachArm arm) said holds store
+      by (Ok group) is does = replied (Detached arm group) is (refl, does.0, does.1)
+      by (Err (detaching.Slot why)) is does = replied (DetachRefused arm why) is (refl, does.0, does.1)
+      by (Err (detaching.Sync sync.Worn)) is does = replied (DetachWorn arm) is (refl, does.0, does.1)
+      by (Err (detaching.Sync sync.Last)) is does = replied (DetachLast arm) is (refl, does.0, does.1)
+      by (Err (detaching.Sync sync.NoMemory)) is does = replied (NoMemory name.Detach) is (does.0, inl does.1)
+      by (Err (detaching.Sync sync.Shelf)) is does = broke said is does
 
 module _ (x : State) (choices : Choices) (reply : Reply) (holds : List Hold) (store : Store) where
   pub read_does : (o : ℕ) → ReadSays o reply x holds store → ReplyDoes x choices (ReadObject o) reply holds store

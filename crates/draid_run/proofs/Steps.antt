@@ -123,6 +123,7 @@ module _ (choices : Choices) (finds : Finding → Type 0) where
   shut_says (DamageSector leaf sector) called is x = (called, is, refl, refl)
   shut_says (AttachSpare slot spare) called is x = (called, is, refl, refl)
   shut_says (ShowStatus form) called is x = (called, is, refl, refl)
+  shut_says (DetachArm arm) called is x = (called, is, refl, refl)
   shut_says UpgradePool called is x = (called, is, refl, refl)
   shut_says command called is x = absurd (cc is)
 
@@ -209,7 +210,8 @@ module _ {R A : Type 0} (rack : racks.Ghosts R) (area : areas.Ghosts A) (choices
   by_ask (AttachSpare slot spare) called is = turned_by (AttachSpare slot spare) called is (λ y z c same. (refl, (z, c, same))) (λ old new fits learns same. (refl, (fits, new, learns, same))) (λ x stands.
       (refl, by_desk choices (MayFind rack area entry) rack area (AttachSpare slot spare) (NoPool called) x stands (shut_says choices (MayFind rack area entry) (AttachSpare slot spare) called is x)))
   by_ask (ReplaceDisk slot sectors) called is = absurd (cc is)
-  by_ask (DetachArm arm) called is = absurd (cc is)
+  by_ask (DetachArm arm) called is = turned_by (DetachArm arm) called is (λ y z c same. (refl, (z, c, same))) (λ old new fits learns same. (refl, (fits, new, learns, same))) (λ x stands.
+      (refl, by_desk choices (MayFind rack area entry) rack area (DetachArm arm) (NoPool called) x stands (shut_says choices (MayFind rack area entry) (DetachArm arm) called is x)))
   by_ask (RebuildPool limit) called is = absurd (cc is)
   by_ask (ScrubPool limit) called is = absurd (cc is)
   by_ask (RebalanceSlot slot) called is = absurd (cc is)

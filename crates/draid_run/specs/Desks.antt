@@ -3,7 +3,7 @@ use Rattle.std.specs.Prelude.{◌≡◌, ⊤, List, Option, Some, None, Result, 
 use Rattle.draid_names.specs.declared.fault.Failed.{Failed}
 use Rattle.draid_rack.specs.declared.Rack as racks
 use Rattle.draid_area.specs.declared.Area as areas
-use Rattle.draid_script.specs.Line.{Command, WriteObject, ReadObject, FillObjects, FreeObject, SumObjects, TakeOffline, TakeOnline, DamageSector, ShowStatus, UpgradePool, AttachSpare}
+use Rattle.draid_script.specs.Line.{Command, WriteObject, ReadObject, FillObjects, FreeObject, SumObjects, TakeOffline, TakeOnline, DamageSector, AttachSpare, ShowStatus, DetachArm, UpgradePool}
 use Rattle.draid_script.specs.declared.fault.LineFault.{LineFault}
 use Rattle.draid_script.specs.declared.name.CommandName.{CommandName}
 use Rattle.draid_script.specs.declared.name.CommandName.TheVariants as name
@@ -85,6 +85,7 @@ asked_in (TakeOnline leaf) = Some name.Online
 asked_in (DamageSector leaf sector) = Some name.Damage
 asked_in (AttachSpare slot spare) = Some name.Spare
 asked_in (ShowStatus form) = Some name.Status
+asked_in (DetachArm arm) = Some name.Detach
 asked_in UpgradePool = Some name.Upgrade
 asked_in command = None
 

@@ -159,6 +159,7 @@ fn asked(line: &Line) -> Option<CommandName>
         Line::Damage { .. } => Some(CommandName::Damage),
         Line::Spare { .. } => Some(CommandName::Spare),
         Line::Status { .. } => Some(CommandName::Status),
+        Line::Detach { .. } => Some(CommandName::Detach),
         Line::Upgrade => Some(CommandName::Upgrade),
         _ => None,
     }

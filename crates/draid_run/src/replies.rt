@@ -20,7 +20,7 @@ ghost use Rattle.draid_changes.specs.Behind.{ArmsBehind};
 ghost use Rattle.draid_changes.specs.Says.{SpareSays, SwitchSays};
 
 use draid_area::Area;
-use draid_changes::{reply_to_offline, reply_to_online, reply_to_spare, reply_to_upgrade};
+use draid_changes::{reply_to_detach, reply_to_offline, reply_to_online, reply_to_spare, reply_to_upgrade};
 use draid_choose::Chooser;
 use draid_names::{Failed, Room};
 use draid_pool::Pool;
@@ -70,6 +70,7 @@ pub(crate) fn reply<R: Rack, A: Area, F: Fn(&[Room]) -> Option<u32>>(
         Line::Damage { leaf, sector } => Ok(reply_to_damage(pool, *leaf, *sector)),
         Line::Spare { slot, spare } => reply_to_spare(alloc, pool, *slot, *spare),
         Line::Status { format } => Ok(reply_to_status(alloc, pool, *format)),
+        Line::Detach { arm } => reply_to_detach(pool, *arm),
         Line::Upgrade => reply_to_upgrade(pool),
         _ => unreachable!(),
     }

@@ -1,14 +1,14 @@
 use Rattle.std.proofs.Common.{◌∙◌, true, false, IfOk, ap, refl, subst, sym}
 use Rattle.std.specs.Fn.{FnReturnsAt}
 use Rattle.draid_session.specs.Choices.{choices_by}
-use Rattle.draid_script.specs.Line.{FillObjects, IsInRange, TakeOffline, TakeOnline, UpgradePool, WriteObject, command_in, AttachSpare}
+use Rattle.draid_script.specs.Line.{AttachSpare, FillObjects, IsInRange, TakeOffline, TakeOnline, DetachArm, UpgradePool, WriteObject, command_in}
 use Rattle.draid_session.specs.Replies.{IsReplyTo}
 use Rattle.draid_pool.specs.Knows.{Teaches}
 use Rattle.draid_pool.proofs.Rises.{rose_fails}
 use Rattle.draid_pool.proofs.Taught.{teaches_nothing}
 use Rattle.draid_session.specs.Session.{MayBreak}
-use Rattle.draid_run.proofs.Asking.{asks_nothing, each_reply, replied_as, replied_damage, replied_free, replied_read, replied_status, replied_sum, replied_upgrade, replied_spare, replied_switch}
 use Rattle.draid_changes.specs.Behind.{ArmsBehind}
+use Rattle.draid_run.proofs.Asking.{asks_nothing, each_reply, replied_as, replied_damage, replied_detach, replied_free, replied_read, replied_spare, replied_status, replied_sum, replied_switch, replied_upgrade}
 use Rattle.draid_run.proofs.replies.reply.Goals as goal
 
 pub returns-in-Write : goal.returns-in-Write
@@ -106,6 +106,22 @@ returns-in-Spare g c =
       step = λ x rep. replied_spare g.R.Rack g.A.Area (choices_by (FnReturnsAt g.F.Fn c.args.chooser.now)) c.args.line.now x c.reply_to_spare.new.pool c.in-Spare.slot c.in-Spare.spare c.reply_to_spare.result c.in-Spare.is (e.step x rep);
     }
 
+pub returns-in-Detach : goal.returns-in-Detach
+returns-in-Detach g c =
+    let e = c.reply_to_detach.ensures in
+    let is = ap command_in c.in-Detach.is in
+    record {
+      whole = e.whole;
+      fits = subst (λ k. IfOk c.reply_to_detach.result (IsReplyTo k)) (sym is) e.fits;
+      knows = subst (λ k. IfOk c.reply_to_detach.result (λ reply. Teaches k reply c.args.pool.now c.reply_to_detach.new.pool)) (sym is)
+          (each_reply c.reply_to_detach.result (λ reply. Teaches (DetachArm c.in-Detach.arm) reply c.args.pool.now c.reply_to_detach.new.pool)
+          (λ reply. teaches_nothing (DetachArm c.in-Detach.arm) reply (λ known. refl) c.args.pool.now c.reply_to_detach.new.pool e.same));
+      arms = subst (λ k. IfOk c.reply_to_detach.result (λ reply. ArmsBehind k reply c.reply_to_detach.new.pool.metaslabs.shards.items)) (sym is)
+          (each_reply c.reply_to_detach.result (λ reply. ArmsBehind (DetachArm c.in-Detach.arm) reply c.reply_to_detach.new.pool.metaslabs.shards.items) (λ reply. tt));
+      breaks = λ failed. (subst MayBreak (sym is) tt, rose_fails g.A.Area.faults c.args.pool.now c.reply_to_detach.new.pool (e.cause failed), e.same);
+      step = λ x rep. replied_detach g.R.Rack g.A.Area (choices_by (FnReturnsAt g.F.Fn c.args.chooser.now)) c.args.line.now x c.reply_to_detach.new.pool c.in-Detach.arm c.reply_to_detach.result c.in-Detach.is (e.step x rep);
+    }
+
 pub returns-in-Upgrade : goal.returns-in-Upgrade
 returns-in-Upgrade g c =
     let e = c.reply_to_upgrade.ensures in
@@ -115,6 +131,8 @@ returns-in-Upgrade g c =
       fits = subst (λ k. IfOk c.reply_to_upgrade.result (IsReplyTo k)) (sym is) e.fits;
       knows = subst (λ k. IfOk c.reply_to_upgrade.result (λ reply. Teaches k reply c.args.pool.now c.reply_to_upgrade.new.pool)) (sym is)
           (each_reply c.reply_to_upgrade.result (λ reply. Teaches UpgradePool reply c.args.pool.now c.reply_to_upgrade.new.pool) (λ reply. teaches_nothing UpgradePool reply (λ known. refl) c.args.pool.now c.reply_to_upgrade.new.pool e.same));
+      arms = subst (λ k. IfOk c.reply_to_upgrade.result (λ reply. ArmsBehind k reply c.reply_to_upgrade.new.pool.metaslabs.shards.items)) (sym is)
+          (each_reply c.reply_to_upgrade.result (λ reply. ArmsBehind UpgradePool reply c.reply_to_upgrade.new.pool.metaslabs.shards.items) (λ reply. tt));
       breaks = λ failed. (subst MayBreak (sym is) tt, rose_fails g.A.Area.faults c.args.pool.now c.reply_to_upgrade.new.pool (e.cause failed), e.same);
       step = λ x rep. replied_upgrade g.R.Rack g.A.Area (choices_by (FnReturnsAt g.F.Fn c.args.chooser.now)) c.args.line.now x c.reply_to_upgrade.new.pool c.reply_to_upgrade.result c.in-Upgrade.is (e.step x rep);
     }
@@ -141,7 +159,7 @@ returns-in-Status g c = record {
 
 pub unreachable-requires : goal.unreachable-requires
 unreachable-requires g c =
-    c.requires.asks (asks_nothing c.args.line.now c.in_default.not-Write c.in_default.not-Fill c.in_default.not-Read c.in_default.not-Free c.in_default.not-Sum c.in_default.not-Offline c.in_default.not-Online c.in_default.not-Damage c.in_default.not-Spare c.in_default.not-Status c.in_default.not-Upgrade)
+    c.requires.asks (asks_nothing c.args.line.now c.in_default.not-Write c.in_default.not-Fill c.in_default.not-Read c.in_default.not-Free c.in_default.not-Sum c.in_default.not-Offline c.in_default.not-Online c.in_default.not-Damage c.in_default.not-Spare c.in_default.not-Status c.in_default.not-Detach c.in_default.not-Upgrade)
 
 pub reply_to_write-requires-clause-range : goal.reply_to_write-requires-clause-range
 reply_to_write-requires-clause-range g c = subst IsInRange (ap command_in c.in-Write.is ∙ ap (WriteObject c.in-Write.object) (sym c.deref.ensures.value)) c.requires.range
@@ -185,7 +203,11 @@ reply_to_offline-requires g c = record { whole = c.requires.whole }
 pub reply_to_online-requires : goal.reply_to_online-requires
 reply_to_online-requires g c = record { whole = c.requires.whole }
 
-pub reply_to_upgrade-requires : goal.reply_to_upgrade-requires
-reply_to_upgrade-requires g c = record { whole = c.requires.whole }
 pub reply_to_spare-requires : goal.reply_to_spare-requires
 reply_to_spare-requires g c = record { whole = c.requires.whole }
+
+pub reply_to_upgrade-requires : goal.reply_to_upgrade-requires
+reply_to_upgrade-requires g c = record { whole = c.requires.whole }
+
+pub reply_to_detach-requires : goal.reply_to_detach-requires
+reply_to_detach-requires g c = record { whole = c.requires.whole }
