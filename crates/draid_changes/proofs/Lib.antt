@@ -1,6 +1,12 @@
+pub mod Attached
+pub mod Begun
 pub mod Calls
+pub mod Events
 pub mod Phases
+pub mod Raised
 pub mod Reserved
 pub mod Switched
+pub mod Upgraded
+pub mod UpgradedWhole
 pub mod Walk
 pub mod Whole

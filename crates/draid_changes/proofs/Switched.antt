@@ -127,7 +127,7 @@ happens : (part : Part) (leaf : ℕ) (offline : Bool) (x : Metaslab) (w : machin
 happens part leaf offline x w = (refl, refl)
 
 module _ {R A : Type 0} (rack : racks.Ghosts R) (area : areas.Ghosts A) where
-  counts_stay : (old new : Shard R A) (w v : machine.State) → SameKit old new → CountsRise w v [] (counts_of rack area old) (counts_of rack area new)
+  pub counts_stay : (old new : Shard R A) (w v : machine.State) → SameKit old new → CountsRise w v [] (counts_of rack area old) (counts_of rack area new)
   counts_stay old new w v kit = record {
     rack = (let e = ap (λ r. rack.faults r None) kit.rack in omega (arith, e));
     even = (let e = ap area.faults kit.areas.even in omega (arith, e));

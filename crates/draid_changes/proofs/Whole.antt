@@ -28,6 +28,7 @@ use Rattle.draid_pool.specs.Whole.{IsPointer, IsShardOf, IsWhole}
 use Rattle.draid_pool.specs.declared.pool.Pool.{Pool}
 use Rattle.draid_pool.proofs.Arms.{AllShare}
 use Rattle.draid_pool.proofs.Lists.{present}
+use Rattle.draid_pool.proofs.Versions.{same_uber_layout}
 use Rattle.draid_changes.specs.Walks.{ChangedBelow}
 use Rattle.draid_changes.proofs.Walk.{changed_at}
 
@@ -58,8 +59,7 @@ module _ {R A : Type 0} (rack : racks.Ghosts R) (area : areas.Ghosts A) where
         shards = each;
         alike = share;
         uber = subst (ubers.Valid area.size) (sym set.uber) w.uber;
-        uber_layout = ap (λ u. ubers.layout_of u) set.uber ∙ (w.uber_layout ∙ sym set.geometry);
-        uber_version = ap (λ u. ubers.version_of u) set.uber ∙ (w.uber_version ∙ ap (λ (g : Geometry). g.props.version) (sym set.geometry));
+        uber_layout = same_uber_layout pool.uber new.uber pool.geometry new.geometry set.uber set.geometry w.uber_layout;
         objects = λ o q at. pointer o q (w.objects o q (sym (ap (λ os. get nat_eq os o) set.objects) ∙ at));
         floor = subst (λ u. new.own.floor ≤ group_of (kept_of u) + 2) (sym set.uber) (let fits = w.floor in let same = set.floor in omega (arith, fits, same));
         low = (let low = w.low in let same = set.floor in omega (arith, low, same));

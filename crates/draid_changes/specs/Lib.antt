@@ -1,3 +1,6 @@
 pub mod Answers
+pub mod Attaching
 pub mod Says
+pub mod UpgradeSays
+pub mod Upgrading
 pub mod Walks

@@ -10,12 +10,17 @@ use Rattle.draid_entries.specs.declared.history.ReserveFault.TheVariants as rese
 use Rattle.draid_slots.specs.Changes.{ChangesArms, switched}
 use Rattle.draid_shard.specs.Alike.{KeepsArms}
 use Rattle.draid_shard.specs.Calls.{ActsOn, SameKit}
-use Rattle.draid_shard.specs.Changes.{KeepsBlocks}
+use Rattle.draid_shard.specs.Changes.{KeepsBlocks, SameGroups}
 use Rattle.draid_shard.specs.Fits.{Valid}
 use Rattle.draid_shard.specs.States.{Does}
 use Rattle.draid_shard.specs.declared.shard.Shard.{Shard}
-use Rattle.draid_disks.specs.Disks.{IsLeafArm, Uses}
+use Rattle.draid_disks.specs.Disks.{HasArmRoom, IsLeafArm, SamePass, Uses}
+use Rattle.draid_disks.specs.Replanning.{attach_events}
+use Rattle.draid_session.specs.Follows.{replans}
+use Rattle.draid_session.specs.Holds.{View}
 use Rattle.draid_session.specs.Phases.{End, Went, WasWorn, Starved}
+use Rattle.draid_changes.specs.declared.need.Need.{Need}
+use Rattle.draid_changes.specs.declared.need.Need.TheVariants as needs
 
 -- each of a list below a number was changed so, and the others are as they were
 pub record ChangedBelow {S : Type 0} (Changes : S → S → Type 0) (m : ℕ) (old new : List S) : Type 0 where
@@ -31,11 +36,24 @@ end_of_reserving (Ok done) = Went
 end_of_reserving (Err (reserve.Worn events)) = WasWorn
 end_of_reserving (Err reserve.NoMemory) = Starved
 
--- so many events at least are reserved; arms and groups are as they were
-pub record Reserves {R A : Type 0} (events : ℕ) (old new : Shard R A) : Type 0 where
-  pub reserved : events ≤ reserved_of new.history
+-- how many events a change asks for in a metaslab, as its shard has it and as it is seen
+abbrev pub events_in : {R A : Type 0} → Need → Shard R A → ℕ
+events_in needs.Event shard = 1
+events_in needs.Attachment shard = attach_events shard.pass
+
+abbrev pub events_at : Need → View → ℕ
+events_at needs.Event = λ v. 1
+events_at needs.Attachment = λ v. replans v.world.core.pass
+
+-- So many events at least are reserved, and there is room in memory for a change of arms. All else is as it was, but for the room of a pass's list of targets.
+pub record Reserves {R A : Type 0} (need : Need) (old new : Shard R A) : Type 0 where
+  pub reserved : events_in need new ≤ reserved_of new.history
+  pub room : HasArmRoom new
   pub slots : KeepsArms old.slots new.slots
-  pub closing : new.closing ≡ old.closing
+  pub pass : SamePass old.pass new.pass
+  pub last : new.last_pass ≡ old.last_pass
+  pub groups : SameGroups old new
+  pub kit : SameKit old new
 
 -- ---- leaves that go offline or come back
 

@@ -12,6 +12,7 @@ ghost use Rattle.draid_changes.specs.Answers.{IsFor, SwitchDoes};
 ghost use Rattle.draid_changes.specs.Walks.{ChangedBelow, MaySwitch, Switches};
 
 use crate::fault::ArmFault;
+use crate::need::Need;
 use crate::reserving::reserve_all;
 use draid_area::Area;
 use draid_entries::ReserveFault;
@@ -64,7 +65,7 @@ fn switch<R: Rack, A: Area>(pool: &mut Pool<R, A>, leaf: u64, offline: bool) -> 
             why: SlotFault::NoSuch,
         });
     }
-    match reserve_all(pool, 1) {
+    match reserve_all(pool, Need::Event) {
         Ok(()) => {
             switch_all(&mut pool.metaslabs.shards, leaf, offline);
             Ok(())

@@ -23,6 +23,8 @@ use Rattle.draid_machine.specs.declared.names.ArmName.TheVariants.{Leaf, Spare}
 use Rattle.draid_machine.specs.declared.names.Key.{Key}
 use Rattle.draid_machine.specs.declared.names.Held.{Held as Block}
 use Rattle.draid_machine.specs.Created.{created, created_arm, created_core, new_arm}
+use Rattle.draid_machine.specs.Images.{IsImage}
+use Rattle.draid_machine.specs.State.{Image}
 use Rattle.draid_machine.specs.State as machine
 use Rattle.draid_objects.specs.Blocks.{Blocks, none_held, table_of}
 use Rattle.draid_objects.specs.Stores.{IsFloor, Stores}
@@ -41,7 +43,7 @@ use Rattle.draid_uber.specs.Slots.{StandsTold, group_of}
 use Rattle.draid_uber.specs.Uber as ubers
 use Rattle.draid_uber.specs.Uber.{area_of, kept_of, layout_of, next_leaf_of, next_of, version_of}
 use Rattle.draid_session.specs.Making.{IsCalm, IsFresh, IsNew}
-use Rattle.draid_session.specs.Opening.{MayFind}
+use Rattle.draid_session.specs.Opening.{MayFind, VersionIn}
 use Rattle.draid_session.specs.Session.{uncommitted}
 use Rattle.draid_session.specs.State.{Metaslab, State}
 use Rattle.draid_pool.specs.Returning.{HoldsPool, OwnCounts, Returns, TakesBack}
@@ -117,6 +119,8 @@ module _ {R A : Type 0} (rack : racks.Ghosts R) (area : areas.Ghosts A) where
     committed = 1;
     kept_leaf = geometry.spec.children;
     next_leaf = geometry.spec.children;
+    kept_version = geometry.props.version;
+    next_version = geometry.props.version;
     uber_count = count;
     pending = false;
     told = told;
@@ -129,7 +133,7 @@ module _ {R A : Type 0} (rack : racks.Ghosts R) (area : areas.Ghosts A) where
 
   module _ (geometry : Geometry) (old new : Uber A) (layout : layout_of old ≡ geometry) (version : version_of old ≡ geometry.props.version) (next_leaf : next_leaf_of old ≡ geometry.spec.children) where
     -- what its first commit writes
-    pub first_body : next_of old 1 ≡ body_of geometry 1 geometry.spec.children
+    pub first_body : next_of old 1 ≡ body_of geometry geometry.props.version 1 geometry.spec.children
     first_body = λ i. record { group = 1; spec = (layout i).spec; props = ubers.with_version (layout i).props (version i); next_leaf = next_leaf i }
 
     pub first_layout : layout_of new ≡ ubers.layout_in (layout_of old) (version_of old) → layout_of new ≡ geometry
@@ -294,6 +298,18 @@ module _ {R A : Type 0} (rack : racks.Ghosts R) (area : areas.Ghosts A) where
     first_committed : (m : ℕ) (y : Metaslab) → slice_get (map metaslab_of shards) m ≡ Some y → y.world.committed ≡ 1
     first_committed m y there = (let u = unmapped metaslab_of shards m y there in ap (λ (z : Metaslab). z.world.committed) (sym u.2))
 
+    -- the image of each is of the first group, which is to have its version
+    first_versions : (count : ℕ) (told : Bool) (m : ℕ) (y : Metaslab) (image : Image) → slice_get (map metaslab_of shards) m ≡ Some y → IsImage y.world image
+        → VersionIn (uncommitted (state_of geometry opened.perms shards count told)) image.group image.version
+    first_versions count told m y image there is =
+        let u = unmapped metaslab_of shards m y there in
+        by u.0 (ap (λ (p : Part). p.geometry.props.version) (opened.each m u.0 u.1).part_is) (subst (λ (z : Metaslab). IsImage z.world image) (sym u.2) is)
+      where
+        by : (shard : Shard R A) → shard.geometry.props.version ≡ geometry.props.version → IsImage (metaslab_of shard).world image
+            → VersionIn (uncommitted (state_of geometry opened.perms shards count told)) image.group image.version
+        by shard version (inl own) = inr (ap (λ (i : Image). i.group) (sym own), ap (λ (i : Image). i.version) (sym own) ∙ version)
+        by shard version (inr sealed) = absurd (cc)
+
     -- ---- the pool
 
     module _ (count : ℕ) (told : Bool) where
@@ -327,7 +343,7 @@ module _ {R A : Type 0} (rack : racks.Ghosts R) (area : areas.Ghosts A) where
       }
 
       -- the pool of which the first commit was refused, as it is given back
-      pub refused_parts : (content : Option Content) (body : UberBody) → body ≡ body_of geometry 1 geometry.spec.children → StandsTold None (body ∷ []) content
+      pub refused_parts : (content : Option Content) (body : UberBody) → body ≡ body_of geometry geometry.props.version 1 geometry.spec.children → StandsTold None (body ∷ []) content
           → Parts rack area shards content (uncommitted (state_of geometry opened.perms shards count told))
       refused_parts content body is stands = let x = uncommitted (state_of geometry opened.perms shards count told) in record {
         layout = opened.are_perms;
@@ -360,13 +376,14 @@ module _ {R A : Type 0} (rack : racks.Ghosts R) (area : areas.Ghosts A) where
         store = refl;
         committed = refl;
         leaves = (refl, refl);
+        versions = (refl, refl);
         pending = refl;
       }
 
     -- a pool whose uberblock names the first group is whole
     pub first_whole : (pool : Pool R A) → pool.geometry ≡ geometry → pool.metaslabs.shards.items ≡ shards → pool.own.floor ≡ 0 → ((q : ℕ) → get nat_eq pool.own.objects q ≡ None)
-        → ubers.Valid area.size pool.uber → layout_of pool.uber ≡ geometry → version_of pool.uber ≡ geometry.props.version → group_of (kept_of pool.uber) ≡ 1 → next_leaf_of pool.uber ≡ geometry.spec.children → IsWhole rack area pool
-    first_whole pool used items floor empty valid layout version first next = record {
+        → ubers.Valid area.size pool.uber → layout_of pool.uber ≡ geometry → group_of (kept_of pool.uber) ≡ 1 → next_leaf_of pool.uber ≡ geometry.spec.children → IsWhole rack area pool
+    first_whole pool used items floor empty valid layout first next = record {
       perms = opened.perms;
       layout = subst (λ (x : Geometry). IsLayout x opened.perms) (sym used) opened.are_perms;
       many = ap (λ (xs : List (Shard R A)). length xs) items ∙ (opened.many ∙ ap (λ (x : Geometry). x.props.metaslabs) (sym used));
@@ -384,8 +401,7 @@ module _ {R A : Type 0} (rack : racks.Ghosts R) (area : areas.Ghosts A) where
           });
       alike = λ m n a b at here. share_first m n a b (ap (λ (xs : List (Shard R A)). slice_get xs m) (sym items) ∙ at) (ap (λ (xs : List (Shard R A)). slice_get xs n) (sym items) ∙ here);
       uber = valid;
-      uber_layout = layout ∙ sym used;
-      uber_version = version ∙ ap (λ (x : Geometry). x.props.version) (sym used);
+      uber_layout = ap (λ (g : Geometry). ubers.layout_in g pool.geometry.props.version) (layout ∙ sym used);
       objects = λ object pointer there. (let none = empty object in absurd (cc));
       floor = omega (arith, floor);
       low = omega (arith, floor);
@@ -426,7 +442,7 @@ module _ {R A : Type 0} (rack : racks.Ghosts R) (area : areas.Ghosts A) where
       checks_then P None (Some y) (Some x) kits t held = absurd (cc)
       checks_then P (Some w) (Some y) (Some x) kits t held = held (subst (λ (o : Option ChecksTold). IsSomeAnd o AreNewChecks) (sym t.checks) kits.checks)
 
-      pub refused : (body : UberBody) (now : OwnCounts) → body ≡ body_of geometry 1 geometry.spec.children → StandsTold None (body ∷ []) content → ((m : ℕ) → m < geometry.props.metaslabs → IsUncounted (counts m))
+      pub refused : (body : UberBody) (now : OwnCounts) → body ≡ body_of geometry geometry.props.version 1 geometry.spec.children → StandsTold None (body ∷ []) content → ((m : ℕ) → m < geometry.props.metaslabs → IsUncounted (counts m))
           → ((m : ℕ) → after m ≡ late m) → NoChecks now → (leaves : ℕ → Option Shape) → ((m : ℕ) (shard : Shard R A) → slice_get shards m ≡ Some shard → leaves m ≡ Some (rack.shape shard.rack))
           → IsRefused geometry new leaves after now
       refused body now is stands uncounted kept checks leaves shapes =
@@ -437,7 +453,7 @@ module _ {R A : Type 0} (rack : racks.Ghosts R) (area : areas.Ghosts A) where
             is_fresh = is_fresh now.uber (is_some held) uncounted fresh_kits (λ tells. tells);
             told = λ some. told_then content held mid last r.held taken (subst (λ (o : Option Held). IsSome o) gives some);
             held = checks_then (HoldsPool (uncommitted state) false) held mid new fresh_kits taken (holds_pool rack area shards content (uncommitted state) parts mid last middle late r new gives);
-            importable = importable_back rack area shards (uncommitted state) parts.pieces parts.shards_are parts.each leaves parts.shared parts.versions parts.alike 1 (omega arith) first_committed shapes content mid last middle late r new gives;
+            importable = importable_back rack area shards (uncommitted state) parts.pieces parts.shards_are parts.each leaves parts.shared parts.alike 1 (omega arith) (first_versions now.uber (is_some held)) first_committed shapes content mid last middle late r new gives;
             counts = counted_as rack area shards content (uncommitted state) parts mid last middle late r after kept;
             uber = omega arith;
             checks = checks;

@@ -443,8 +443,7 @@ module _ {R A : Type 0} (rack : racks.Ghosts R) (area : areas.Ghosts A) where
         });
     alike = all_kept old pool.metaslabs.shards.items (λ k z there. (let f = freed.each k z there in record { before = f.0; there = f.1; slots = f.2.slots })) (all_share old together low);
     uber = found.valid;
-    uber_layout = layout ∙ sym used;
-    uber_version = found.version ∙ ap (λ (x : Geometry). x.props.version) (layout ∙ sym used);
+    uber_layout = ap (λ g. ubers.layout_in g pool.geometry.props.version) (layout ∙ sym used);
     objects = λ object pointer there.
         (let to = blocks.pointers object pointer (sym (table object) ∙ there) in
         let within = slice_get_within old pointer.metaslab to.shard to.there in

@@ -15,12 +15,13 @@ use Rattle.draid_segments.specs.Segments.{Pieces}
 use Rattle.draid_slots.specs.Table.{SlotTable, arms_of}
 use Rattle.draid_slots.specs.States.{HasSlots, name_of}
 use Rattle.draid_machine.specs.Names.{named}
-use Rattle.draid_session.specs.Opening.{MayFind, Reopens}
+use Rattle.draid_session.specs.Opening.{MayFind, Reopens, VersionIn}
 use Rattle.draid_session.specs.State.{Metaslab, State}
 use Rattle.draid_pool.specs.Importable.{AreAlike, IsAlike, IsFindable, SameArms}
 use Rattle.draid_pool.specs.Objects.{HoldsObjects, blocks_of}
 use Rattle.draid_pool.proofs.Alike.{alike_opened, one_shared, same_bare}
 use Rattle.draid_pool.proofs.Lists.{some_of}
+use Rattle.draid_import.proofs.ImportVersion.{image_version}
 
 -- ---- arms
 
@@ -37,20 +38,20 @@ found_alike x group m n y z v w alike may at there r s = subst (λ (q : machine.
     same = alike group m n y z r.image s.image may at there r.is r.of s.is s.of
 
 -- all that were opened from images of a group have the version, and the arms of one of them
-pub found_arms : (x : State) (group : ℕ) (zs : List Metaslab) → AreAlike x → MayFind x group → IsFindable x
+pub found_arms : (x : State) (group : ℕ) (zs : List Metaslab) → AreAlike x → MayFind x group → IsFindable x → VersionIn x group x.geometry.props.version
     → ((m : ℕ) (y : Metaslab) → slice_get x.metaslabs m ≡ Some y → machine.IsLayout (layout_of x.geometry x.perms m))
     → ((m : ℕ) (y : Metaslab) → slice_get x.metaslabs m ≡ Some y → IsReached (layout_of x.geometry x.perms m) y.world)
     → ((m : ℕ) (z : Metaslab) → slice_get zs m ≡ Some z → (y : Metaslab) × (slice_get x.metaslabs m ≡ Some y) × Reopens x.geometry x.perms group m y z)
     → (arms : machine.Core) × ((m : ℕ) (z : Metaslab) → slice_get zs m ≡ Some z → IsAlike (one_shared x.geometry.props.version arms) z.world)
-found_arms x group [] alike may findable lay reached pair = (created_core (layout_of x.geometry x.perms 0), λ m z at. absurd (cc))
-found_arms x group (first ∷ zs) alike may findable lay reached pair =
+found_arms x group [] alike may findable version lay reached pair = (created_core (layout_of x.geometry x.perms 0), λ m z at. absurd (cc))
+found_arms x group (first ∷ zs) alike may findable version lay reached pair =
     let p = pair 0 first refl in (
       p.2.image.core,
       λ m z at.
           (let q = pair m z at in
           let r = q.2 in
           subst (IsAlike (one_shared x.geometry.props.version p.2.image.core)) (sym (r.world ∙ r.opened))
-          (alike_opened x.geometry.props.version p.2.image.core (layout_of x.geometry x.perms m) q.0.world r.image (findable.versions m q.0 r.image q.1 r.is)
+          (alike_opened x.geometry.props.version p.2.image.core (layout_of x.geometry x.perms m) q.0.world r.image (image_version x findable group x.geometry.props.version version m q.0 r.image q.1 r.is r.of)
           (alike group m 0 q.0 p.0 r.image p.2.image may q.1 p.1 r.is r.of p.2.is p.2.of)
           (λ n a there. ((every_image (layout_of x.geometry x.perms m) q.0.world (lay m q.0 q.1) (reached m q.0 q.1)).each r.image r.is).here n a there))),
     )

@@ -34,8 +34,8 @@ module _ {R A : Type 0} (rack : racks.Ghosts R) (area : areas.Ghosts A) (x : Sta
   pub found_begins : (held : Held) (rests : Rests x pieces held) (findable : IsFindable x) (alike : AreAlike x) (body : UberBody) (body_is : FindsBody x body) (shards : List (Shard R A)) (many : length shards ≡ length x.metaslabs)
       → ((m : ℕ) (shard : Shard R A) (y : Metaslab) → slice_get shards m ≡ Some shard → slice_get x.metaslabs m ≡ Some y → OpensFound rack area x body.group m (pieces m) y shard)
       → x.uber_count ≤ area.faults (area_of uber) → IsLastIn shards seq → IsNewestIn shards newest → body.group < LAST_NUMBER → Valid area.size uber → kept_of uber ≡ Some body
-      → version_of uber ≡ body.props.version → next_leaf_of uber ≡ body.next_leaf → StandsTold (kept_of uber) [] (area.told (area_of uber)) → IsFoundOf rack area x uber pieces newest seq shards
-  found_begins held rests findable alike body body_is shards many each counted last newest_in low valid kept version next stands = record {
+      → version_of uber ≡ body.props.version → next_leaf_of uber ≡ body.next_leaf → StandsTold (kept_of uber) [] (area.told (area_of uber)) → layout_of uber ≡ x.geometry → IsFoundOf rack area x uber pieces newest seq shards
+  found_begins held rests findable alike body body_is shards many each counted last newest_in low valid kept version next stands layout = record {
     group = body.group;
     mid = mid;
     finds = finds;
@@ -44,7 +44,7 @@ module _ {R A : Type 0} (rack : racks.Ghosts R) (area : areas.Ghosts A) (x : Sta
     knows = record {
       says = opened_says rack area x pieces held rests findable uber body body_is shards many each seq counted;
       holds = stood.holds;
-      live = found_live x mid body.group pieces finds rests.layout rests.many (all_reached x pieces held rests) rests.leaves findable rests.objects;
+      live = found_live x mid body.group pieces finds refl rests.layout rests.many (all_reached x pieces held rests) rests.leaves findable rests.objects;
       newest_is = newest_of rack area shards mid stood.shards_are (λ m shard y at there. (stood.each m shard y at there).stands.is_in) newest newest_in;
     };
     freed = none_freed rack area mid uber pieces shards stood;
@@ -61,7 +61,7 @@ module _ {R A : Type 0} (rack : racks.Ghosts R) (area : areas.Ghosts A) (x : Sta
           (λ m shard y at there. (opened_is_in rack area x pieces held rests findable uber body body_is shards many each seq counted m shard y at there).stands.is_in) seq last
 
       stood : StandsFound rack area shards uber pieces mid
-      stood = opened_stands rack area x pieces held rests findable uber body body_is shards many each seq counted alike last_is low valid kept version next stands
+      stood = opened_stands rack area x pieces held rests findable uber body body_is shards many each seq counted alike last_is low valid kept version next stands layout
 
   -- a live block was freed that isn't the newest of its object
   pub found_frees : (shards : List (Shard R A)) (f : IsFoundOf rack area x uber pieces newest seq shards) (m : ℕ) (shard shard' : Shard R A) (p : Pointer) (floor group : ℕ) → slice_get shards m ≡ Some shard

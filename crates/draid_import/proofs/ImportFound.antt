@@ -30,7 +30,7 @@ use Rattle.draid_shelf.specs.Kits.{KitTold}
 use Rattle.draid_stable.specs.Images.{LeavesBelow}
 use Rattle.draid_shard.specs.Part.{IsPart}
 use Rattle.draid_shard.proofs.Standing.{has_layout}
-use Rattle.draid_session.specs.Opening.{Finds, IsLastSeq, LeafIn, MayFind, Reopens}
+use Rattle.draid_session.specs.Opening.{Finds, IsLastSeq, LeafIn, MayFind, Reopens, VersionIn}
 use Rattle.draid_session.specs.State.{Metaslab, State}
 use Rattle.draid_pool.specs.Returning.{RestsOn}
 use Rattle.draid_pool.specs.Importable.{IsFindable}
@@ -38,6 +38,7 @@ use Rattle.draid_pool.specs.Objects.{HasGroups, HasPieces, HoldsObjects, blocks_
 use Rattle.draid_pool.specs.Pools.{part_in}
 use Rattle.draid_pool.specs.Records.{HasImage, HasImages, HasLeafNumbers, LeavesAreBelow}
 use Rattle.draid_import.proofs.ImportMetaslab.{FindsImage}
+use Rattle.draid_import.proofs.ImportVersion.{image_version}
 use Rattle.draid_pool.proofs.Lists.{present, some_of}
 use Rattle.draid_pool.proofs.Moved.{blocks_at}
 
@@ -89,16 +90,16 @@ module _ (x : State) (layout : IsLayout x.geometry x.perms) (many : length x.met
   pub part_there : (m : ℕ) (y : Metaslab) → slice_get x.metaslabs m ≡ Some y → IsPart (part_in x m)
   part_there m y at = record { layout = layout; below = (let within = slice_get_within x.metaslabs m y at in omega (arith, within, many)) }
 
-  pub finds_image : (m : ℕ) (pieces : Pieces) (y : Metaslab) (kit : KitTold) (group next : ℕ) → slice_get x.metaslabs m ≡ Some y → RestsOn x m pieces y kit → MayFind x group → 0 < group → LeafIn x group next
+  pub finds_image : (m : ℕ) (pieces : Pieces) (y : Metaslab) (kit : KitTold) (group next : ℕ) → slice_get x.metaslabs m ≡ Some y → RestsOn x m pieces y kit → MayFind x group → 0 < group → LeafIn x group next → VersionIn x group x.geometry.props.version
       → FindsImage x m pieces y kit group next
-  finds_image m pieces y kit group next at rests may some leaf =
+  finds_image m pieces y kit group next at rests may some leaf version =
       let z = images group m y may some at in
       let part = part_there m y at in
       record {
         image = z.image;
         is = z.is;
         of = z.of;
-        version = findable.versions m y z.image at z.is;
+        version = image_version x findable group x.geometry.props.version version m y z.image at z.is z.of;
         below = leaves_below (layout_of x.geometry x.perms m) x y.world z.image group next (has_layout (part_in x m) part) rests.reached (findable.committed m y at) (leaves.each m y at) leaves.order leaf z.is z.of;
         part = part;
         rests = rests;
@@ -106,7 +107,7 @@ module _ (x : State) (layout : IsLayout x.geometry x.perms) (many : length x.met
 
 -- ---- the state
 
-module _ (x mid : State) (group : ℕ) (pieces : ℕ → Pieces) (finds : Finds x group mid) (layout : IsLayout x.geometry x.perms) (many : length x.metaslabs ≡ x.geometry.props.metaslabs)
+module _ (x mid : State) (group : ℕ) (pieces : ℕ → Pieces) (finds : Finds x group mid) (same : mid.geometry ≡ x.geometry) (layout : IsLayout x.geometry x.perms) (many : length x.metaslabs ≡ x.geometry.props.metaslabs)
     (reached : (m : ℕ) (y : Metaslab) → slice_get x.metaslabs m ≡ Some y → IsReached (layout_of x.geometry x.perms m) y.world) (leaves : HasLeafNumbers x) (findable : IsFindable x)
     (objects : HoldsObjects x.geometry x.committed x.store (blocks_of x.metaslabs) pieces) where
   -- the metaslab that was opened, and that which it was opened from
@@ -191,7 +192,7 @@ module _ (x mid : State) (group : ℕ) (pieces : ℕ → Pieces) (finds : Finds 
         (opening_floor x.store.changes (blocks_of x.metaslabs) (blocks_of mid.metaslabs) group object (group + 1) found_blocks (omega arith)));
     settled = λ m k h is. live_block h.stage (found_live m k h is);
     numbered = numbered;
-    bytes = λ m k h write is by. subst (λ g. HasPieces g write (pieces m)) (sym finds.layout.0)
+    bytes = λ m k h write is by. subst (λ g. HasPieces g write (pieces m)) (sym same)
         (found_pieces m k h write is (subst (λ (cs : List Change). write_by cs k ≡ Some write) finds.changes by));
   })
 
@@ -234,7 +235,11 @@ module _ (x mid : State) (group : ℕ) (pieces : ℕ → Pieces) (finds : Finds 
     committed = λ m z at. (let is = found_committed m z at in omega (arith, is));
     versions = λ m z image at is.
         (let p = pair_at m z at in
-        ap (λ (i : machine.Image). i.version) (sym (only_image m z p image is)) ∙ (findable.versions m p.y p.reopens.image p.at p.reopens.is ∙ ap (λ g. g.props.version) (sym finds.layout.0)));
+        inl (
+          ap (λ (i : machine.Image). i.group) (sym (only_image m z p image is)) ∙ (p.reopens.of ∙ sym finds.committed),
+          ap (λ (i : machine.Image). i.version) (sym (only_image m z p image is))
+              ∙ (image_version x findable group mid.next_version finds.version.0 m p.y p.reopens.image p.at p.reopens.is p.reopens.of ∙ sym finds.version.1),
+        ));
   }
 
   pub found_leaves : HasLeafNumbers mid

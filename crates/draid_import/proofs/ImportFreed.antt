@@ -31,10 +31,10 @@ use Rattle.draid_pool.proofs.Lists.{get_set_other, get_set_same, present, set_ba
 
 -- ---- the group
 
-kept_group : (x : State) (kept : Option UberBody) → kept ≡ (if x.committed == 0 then None else Some (body_of x.geometry x.committed x.kept_leaf)) → group_of kept ≡ x.committed
+kept_group : (x : State) (kept : Option UberBody) → kept ≡ (if x.committed == 0 then None else Some (body_of x.geometry x.kept_version x.committed x.kept_leaf)) → group_of kept ≡ x.committed
 kept_group x kept is = by (x.committed == 0) refl is
   where
-    by : (b : Bool) → (x.committed == 0) ≡ b → kept ≡ (if b then None else Some (body_of x.geometry x.committed x.kept_leaf)) → group_of kept ≡ x.committed
+    by : (b : Bool) → (x.committed == 0) ≡ b → kept ≡ (if b then None else Some (body_of x.geometry x.kept_version x.committed x.kept_leaf)) → group_of kept ≡ x.committed
     by true zero none = (let same : x.committed ≡ 0 = grind (arith, nat_tests, zero) in ap (λ (k : Option UberBody). group_of k) none ∙ sym same)
     by false some is = ap (λ (k : Option UberBody). group_of k) is
 

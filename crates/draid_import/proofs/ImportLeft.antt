@@ -41,8 +41,9 @@ use Rattle.draid_import.proofs.Found.{counts_later, stays_same}
 use Rattle.draid_import.proofs.ImportFound.{finds_image}
 use Rattle.draid_import.proofs.ImportMetaslab.{FindsImage}
 use Rattle.draid_import.proofs.ImportOpened.{rested}
-use Rattle.draid_import.proofs.ImportPool.{FoundBody, body_found, one_table, shard_found, uber_content}
+use Rattle.draid_import.proofs.ImportPool.{FoundBody, RestsFoundAt, body_found, one_table, shard_found, uber_content}
 use Rattle.draid_import.proofs.ImportRefused.{found_leaves_pool, given_found, left_found}
+use Rattle.draid_import.proofs.ImportVersion.{LeavesFound, found_at, left_from}
 use Rattle.draid_pool.proofs.Lists.{ext, present}
 use Rattle.draid_pool.proofs.Takings.{rose_since}
 
@@ -253,7 +254,7 @@ module _ {R A : Type 0} (rack : racks.Ghosts R) (area : areas.Ghosts A) (x : Sta
           let within = slice_get_within x.metaslabs m y at in
           let below : m < geometry.props.metaslabs = omega (arith, within, many) in
           let f : FindsImage x m (pieces m) y kit.0 body.group body.next_leaf
-          = finds_image x there.held.layout there.held.many there.held.images there.held.leaves there.importable.findable m (pieces m) y kit.0 body.group body.next_leaf at kit.2 finds.may finds.some finds.leaf in
+          = finds_image x there.held.layout there.held.many there.held.images there.held.leaves there.importable.findable m (pieces m) y kit.0 body.group body.next_leaf at kit.2 finds.may finds.some finds.leaf finds.version in
           let later = l.others m past in
           let had = there.counted m y at in (
             kit.0,
@@ -267,8 +268,8 @@ module _ {R A : Type 0} (rack : racks.Ghosts R) (area : areas.Ghosts A) (x : Sta
           )
 
   -- the pool as the group has it whose uberblock was found
-  pub refused_leaves : (u : Content) (n : ℕ) → StandsTold (Some body) [] (Some u) → x.uber_count ≤ n → LeavesPool x pieces (gives_uber (Some u) back) now after n
-  refused_leaves u n stands counted = subst (λ o. LeavesPool x pieces (gives_uber (Some u) o) now after n) (sym given.1)
+  pub refused_leaves : (u : Content) (n : ℕ) → StandsTold (Some body) [] (Some u) → x.uber_count ≤ n → LeavesFound x pieces (gives_uber (Some u) back) now after n
+  refused_leaves u n stands counted = subst (λ o. LeavesFound x pieces (gives_uber (Some u) o) now after n) (sym given.1)
       (found_leaves_pool x pieces held there.held there.importable.findable body finds (puts_uber (Some u) given.0) now after n there.importable.alike counted each u refl stands
       (subst (λ o. IsSomeAnd o AreNewChecks) (sym takes.checks) there.held.checks))
 
@@ -283,11 +284,15 @@ refused_pool {R} {A} alloc rack area x pieces (Some held) mid back new leaves ye
     subst (λ (o : Option Held). LeavesPool x pieces o now after n) (sym (gives ∙ ap (λ t. gives_uber t back) told))
     (subst (λ (s : ℕ → Option Shape). LeavesPool x pieces (gives_uber (Some (flushes c.0)) back) s after n) (sym (ext now late_leaves now_is))
     (subst (λ (k : ℕ → KitCounts). LeavesPool x pieces (gives_uber (Some (flushes c.0)) back) late_leaves k n) (sym (ext after late after_is))
-    (refused_leaves rack area x pieces held leaves counts count there b.body b.finds alloc (layout_of uber) b.layout (group_of (kept_of uber)) (next_leaf_of uber) back late late_leaves left opened (flushes c.0) n stands
-    (let later = r.later in let own = there.uber in omega (arith, later, own, n_is)))))
+    (left_from x f.version pieces (gives_uber (Some (flushes c.0)) back) late_leaves late n
+    (refused_leaves rack area (found_at x f.version) pieces held leaves counts count f.there b.body b.finds alloc (layout_of uber) b.layout (group_of (kept_of uber)) (next_leaf_of uber) back late late_leaves left opened (flushes c.0) n stands
+    (let later = r.later in let own = there.uber in omega (arith, later, own, n_is))))))
   where
-    b : FoundBody area x pieces held there.held uber count found r
-    b = body_found area x pieces held there.held uber count found r
+    f : RestsFoundAt x pieces held leaves counts count uber
+    f = body_found area x pieces held leaves counts count uber there found r
+
+    b : FoundBody (found_at x f.version) uber
+    b = f.b
 
     c : (c : Content) × (held.uber ≡ Some c) × UberStands x (Some c)
     c = uber_content x held.uber there.held.uber
@@ -303,10 +308,10 @@ refused_pool {R} {A} alloc rack area x pieces (Some held) mid back new leaves ye
         (subst (λ (s : ℕ → Option Shape). LeavesShards rack area (layout_of uber) (group_of (kept_of uber)) (next_leaf_of uber) mid back counts late s late_leaves) (ext yet_leaves leaves same_leaves)
         (subst (λ (k : ℕ → KitCounts). LeavesShards rack area (layout_of uber) (group_of (kept_of uber)) (next_leaf_of uber) mid back k late yet_leaves late_leaves) (ext yet counts same_counts) l))
 
-    opened : (m : ℕ) (shard : Shard R A) (y : Metaslab) → slice_get left.shards m ≡ Some shard → slice_get x.metaslabs m ≡ Some y → OpensFound rack area x b.body.group m (pieces m) y shard
+    opened : (m : ℕ) (shard : Shard R A) (y : Metaslab) → slice_get left.shards m ≡ Some shard → slice_get x.metaslabs m ≡ Some y → OpensFound rack area (found_at x f.version) b.body.group m (pieces m) y shard
     opened m shard y at here =
-        let perms = one_table x.geometry left.perms x.perms (subst (λ (g : Geometry). IsLayout g left.perms) b.layout left.layout) there.held.layout in
-        shard_found rack area x pieces held leaves counts count there uber found r alloc (leaves m) counts m shard y left.perms perms (λ k. refl) (left.each m shard at).valid (left.each m shard at).part_is (left.over m shard at) here
+        let perms = one_table (found_at x f.version).geometry left.perms x.perms (subst (λ (g : Geometry). IsLayout g left.perms) b.layout left.layout) f.there.held.layout in
+        shard_found rack area (found_at x f.version) pieces held leaves counts count f.there uber found r b alloc (leaves m) counts m shard y left.perms perms (λ k. refl) (left.each m shard at).valid (left.each m shard at).part_is (left.over m shard at) here
 
 -- ---- the answer
 

@@ -29,7 +29,7 @@ use Rattle.draid_shard.specs.declared.shard.Shard.{Shard}
 use Rattle.draid_shard.proofs.Held.{HasEntry, held_entry, key_leads}
 use Rattle.draid_uber.specs.Uber.{layout_of}
 use Rattle.draid_uber.specs.declared.uber.Uber.{Uber}
-use Rattle.draid_session.specs.Opening.{Finds, FreesOlder, Imports, IsLastSeq, IsOlder}
+use Rattle.draid_session.specs.Opening.{Finds, FreesOlder, Imports, IsLastSeq, IsOlder, layout_at_version}
 use Rattle.draid_session.specs.State.{Metaslab, State, Store}
 use Rattle.draid_import.specs.Imported.{AreNewest, FreedOlder, IsLastIn, IsNewestIn, IsNewestOf, SaysObjects}
 use Rattle.draid_import.specs.Importing.{ImportsPool}
@@ -254,7 +254,7 @@ module _ {R A : Type 0} (rack : racks.Ghosts R) (area : areas.Ghosts A) where
           → ((object : ℕ) → get nat_eq pool.own.objects object ≡ newest object) → Represents rack area pool x
       import_stands pool items uber_is layout seq floor table = record {
         stands = record {
-          geometry = sym s.stands.uber_is.layout ∙ sym layout;
+          geometry = sym (s.stands.uber_is.layout ∙ (λ i. layout_at_version (s.stands.at_version i) x.geometry)) ∙ sym layout;
           layout = s.stands.layout;
           many = s.stands.many;
           shards = ap (λ zs. length zs) items ∙ s.stands.shards_are;

@@ -77,7 +77,7 @@ free_opens l m holds y z key group are f = by (subst (λ hs. FollowsIn l m hs y 
     by : FollowsIn l m (On (view_of m y) (Did (event.Free key group) z.world) ∷ []) y z → z.world.open_group ≡ y.world.open_group
     by g =
         let act : g.0 ≡ Did (event.Free key group) z.world = ap act_of (sym g.2) in
-        let acts : follows.Acts l (Did (event.Free key group) z.world) y g.1 = subst (λ a. follows.Acts l a y g.1) act g.3 in
+        let acts : follows.MetaslabActs l (Did (event.Free key group) z.world) y g.1 = subst (λ a. follows.MetaslabActs l a y g.1) act g.3 in
         ap (λ (w : machine.State). w.open_group) acts.legal.made
 
 -- ---- older blocks
@@ -200,6 +200,7 @@ module _ {R A : Type 0} (rack : racks.Ghosts R) (area : areas.Ghosts A) (mid : S
       };
       shared = st.shared;
       versions = st.versions;
+      at_version = st.at_version;
       alike = each_set x.metaslabs m y y' (λ z. IsAlike st.shared z.world) at (alike_stays st.shared y.world y'.world g.images (st.alike m y at)) st.alike;
       open_groups = each_set x.metaslabs m y y' (λ z. z.world.open_group ≡ x.committed + 1) at
           (free_opens (layout_in (part_in x m)) m g.holds y y' k group g.done.are g.follows ∙ st.open_groups m y at) st.open_groups;

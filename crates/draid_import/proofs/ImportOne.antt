@@ -42,6 +42,7 @@ use Rattle.draid_import.proofs.ImportAlike.{found_alike, found_once}
 use Rattle.draid_import.proofs.ImportFound.{part_there}
 use Rattle.draid_import.proofs.ImportOpened.{all_reached}
 use Rattle.draid_import.proofs.ImportPool.{FoundBody, as_many_found, body_found, each_found}
+use Rattle.draid_import.proofs.ImportVersion.{found_at}
 use Rattle.draid_pool.proofs.Lists.{present}
 use Rattle.draid_pool.proofs.Moved.{blocks_at}
 
@@ -53,12 +54,9 @@ reopened_held x group m y z k lay reached r =
     ∙ (((every_image (metaslab_layout x.geometry x.perms m) y.world lay reached).each r.image r.is).blocks k ∙ ap (λ g. seal_held g (y.world.core.held k)) r.of)
 
 module _ {R A : Type 0} (rack : racks.Ghosts R) (area : areas.Ghosts A) (x : State) (pieces : ℕ → Pieces) (held : Held) (leaves : ℕ → Option Shape) (counts : ℕ → KitCounts) (count : ℕ)
-    (there : RestsThere x pieces (Some held) leaves counts count) (uber : Uber A) (found : IsFoundUber area uber) (r : IsRecovered area (Some held) count uber)
+    (there : RestsThere x pieces (Some held) leaves counts count) (uber : Uber A) (found : IsFoundUber area uber) (r : IsRecovered area (Some held) count uber) (b : FoundBody x uber)
     (alloc : Global) (known : ℕ → Option Shape) (now : ℕ → KitCounts) (shards : List (Shard R A)) (counted : (k : ℕ) → now k ≡ counts k) (re : AreReopened rack (layout_of uber) (group_of (kept_of uber)) shards)
     (over : OpensAllOver rack area (limit_of (layout_of uber)) (group_of (kept_of uber)) (next_leaf_of uber) (takes_uber (Some held)) known now shards) where
-  abbrev b : FoundBody area x pieces held there.held uber count found r
-  b = body_found area x pieces held there.held uber count found r
-
   -- a shard with the metaslab of the state that it was
   record Pair (m : ℕ) (shard : Shard R A) : Type 0 where
     y : Metaslab
@@ -68,9 +66,9 @@ module _ {R A : Type 0} (rack : racks.Ghosts R) (area : areas.Ghosts A) (x : Sta
   pair : (m : ℕ) (shard : Shard R A) → slice_get shards m ≡ Some shard → Pair m shard
   pair m shard here =
       let within = slice_get_within shards m shard here in
-      let many = as_many_found rack area x pieces held leaves counts count there uber found r shards re in
+      let many = as_many_found rack area x pieces held leaves counts count there uber found r b shards re in
       let y = present x.metaslabs m (omega (arith, within, many)) in
-      record { y = y.0; at = y.1; opens = each_found rack area x pieces held leaves counts count there uber found r alloc known now shards counted re over m shard y.0 here y.1 }
+      record { y = y.0; at = y.1; opens = each_found rack area x pieces held leaves counts count there uber found r b alloc known now shards counted re over m shard y.0 here y.1 }
 
   layout_is : (m : ℕ) (shard : Shard R A) → slice_get shards m ≡ Some shard → shard.slots.geometry ≡ layout_of uber
   layout_is m shard here = (let is = re.each m shard here in is.valid.slots.geometry_is ∙ ap (λ (p : Part). p.geometry) is.part_is)
@@ -116,6 +114,7 @@ pub no_fault_apart : {R A T : Type 0} (alloc : Global) (rack : racks.Ghosts R) (
     → ((metaslab : Option ℕ) (place kind : ℕ) → IsErrOf {T = T} (Err f) (fault.Record metaslab place kind) → AreApart shards metaslab place kind) → NoRecord {T = T} (Err f)
 no_fault_apart alloc rack area x pieces None mid leaves known counts now count uber shards f there found r counted taken re over faulty metaslab place kind err = absurd there.held
 no_fault_apart alloc rack area x pieces (Some held) mid leaves known counts now count uber shards f there found r counted taken re over faulty metaslab place kind err =
-    not_apart rack area x pieces held leaves counts count there uber found r alloc known now shards counted re
+    let f = body_found area x pieces held leaves counts count uber there found r in
+    not_apart rack area (found_at x f.version) pieces held leaves counts count f.there uber found r f.b alloc known now shards counted re
     (subst (λ o. OpensAllOver rack area (limit_of (layout_of uber)) (group_of (kept_of uber)) (next_leaf_of uber) o known now shards) taken over) metaslab place kind
     (faulty metaslab place kind err)

@@ -14,9 +14,10 @@ use Rattle.draid_segments.specs.Segments.{Pieces}
 use Rattle.draid_shelf.specs.Kits.{Held, KitTold}
 use Rattle.draid_shard.specs.declared.shard.Shard.{Shard}
 use Rattle.draid_uber.specs.Slots.{StandsTold}
+use Rattle.draid_uber.specs.Uber as ubers
 use Rattle.draid_uber.specs.Uber.{Valid, area_of, kept_of, next_leaf_of, version_of}
 use Rattle.draid_uber.specs.declared.uber.Uber.{Uber}
-use Rattle.draid_session.specs.Opening.{Finds, IsLastSeq, LeafIn, MayFind, Reopens}
+use Rattle.draid_session.specs.Opening.{Finds, IsLastSeq, LeafIn, MayFind, Reopens, VersionIn}
 use Rattle.draid_session.specs.State.{Metaslab, State}
 use Rattle.draid_pool.specs.Returning.{Rests, RestsOn}
 use Rattle.draid_pool.specs.Importable.{AllAlike, AreAlike, IsFindable}
@@ -53,10 +54,10 @@ module _ (x : State) (pieces : ℕ → Pieces) (held : Held) (rests : Rests x pi
   pub all_reached : (m : ℕ) (y : Metaslab) → slice_get x.metaslabs m ≡ Some y → IsReached (layout_of x.geometry x.perms m) y.world
   all_reached m y at = (rested (held.kits m) x m (pieces m) y (rests.kits m y at)).2.reached
 
-pub finds_state : (x : State) (group next : ℕ) (metaslabs : List Metaslab) (seq count : ℕ) → MayFind x group → 0 < group → LeafIn x group next → length metaslabs ≡ length x.metaslabs
+pub finds_state : (x : State) (group next : ℕ) (metaslabs : List Metaslab) (seq count : ℕ) → VersionIn x group x.geometry.props.version → MayFind x group → 0 < group → LeafIn x group next → length metaslabs ≡ length x.metaslabs
     → ((m : ℕ) (y z : Metaslab) → slice_get x.metaslabs m ≡ Some y → slice_get metaslabs m ≡ Some z → Reopens x.geometry x.perms group m y z) → x.uber_count ≤ count
     → Finds x group (found_state x group next metaslabs seq count)
-finds_state x group next metaslabs seq count may some leaf many each counts = record {
+finds_state x group next metaslabs seq count version may some leaf many each counts = record {
   found = may;
   some = some;
   layout = (refl, refl);
@@ -64,6 +65,7 @@ finds_state x group next metaslabs seq count may some leaf many each counts = re
   each = each;
   committed = refl;
   leaves = (leaf, refl);
+  version = (version, refl);
   pending = refl;
   counts = counts;
   changes = refl;
@@ -96,7 +98,7 @@ module _ {R A : Type 0} (rack : racks.Ghosts R) (area : areas.Ghosts A) (x : Sta
     opened_state = found_state x body.group body.next_leaf all_opened.0 seq (area.faults (area_of uber))
 
     pub finds_opened : Finds x body.group opened_state
-    finds_opened = finds_state x body.group body.next_leaf all_opened.0 seq (area.faults (area_of uber)) body_is.may body_is.some body_is.leaf all_opened.1 (λ m y z at there. (all_opened.2 m y z at there).reopens) counted
+    finds_opened = finds_state x body.group body.next_leaf all_opened.0 seq (area.faults (area_of uber)) body_is.version body_is.may body_is.some body_is.leaf all_opened.1 (λ m y z at there. (all_opened.2 m y z at there).reopens) counted
 
     pub opened_is_in : (m : ℕ) (shard : Shard R A) (z : Metaslab) → slice_get shards m ≡ Some shard → slice_get opened_state.metaslabs m ≡ Some z → IsMetaslab rack area (part_in x m) (pieces m) shard z
     opened_is_in m shard z at there =
@@ -109,10 +111,10 @@ module _ {R A : Type 0} (rack : racks.Ghosts R) (area : areas.Ghosts A) (x : Sta
     reached = all_reached x pieces held rests
 
     pub opened_says : SaysObjects opened_state
-    opened_says = found_says x opened_state body.group pieces finds_opened rests.layout rests.many reached rests.leaves findable rests.objects
+    opened_says = found_says x opened_state body.group pieces finds_opened refl rests.layout rests.many reached rests.leaves findable rests.objects
 
     opened_arms : AreAlike x → (arms : machine.Core) × AllAlike (one_shared x.geometry.props.version arms) opened_state
-    opened_arms alike = found_arms x body.group all_opened.0 alike body_is.may findable
+    opened_arms alike = found_arms x body.group all_opened.0 alike body_is.may findable body_is.version
         (λ m y at. has_layout (part_in x m) (part_there x rests.layout rests.many rests.images rests.leaves findable m y at)) reached (λ m z at.
         (let within = slice_get_within all_opened.0 m z at in
         let same = all_opened.1 in
@@ -120,21 +122,22 @@ module _ {R A : Type 0} (rack : racks.Ghosts R) (area : areas.Ghosts A) (x : Sta
         (y.0, y.1, (all_opened.2 m y.0 z y.1 at).reopens)))
 
     pub opened_stands : AreAlike x → IsLastSeq opened_state seq → body.group < LAST_NUMBER → Valid area.size uber → kept_of uber ≡ Some body → version_of uber ≡ body.props.version → next_leaf_of uber ≡ body.next_leaf
-        → StandsTold (kept_of uber) [] (area.told (area_of uber)) → StandsFound rack area shards uber pieces opened_state
-    opened_stands alike last low valid kept version next stands = record {
+        → StandsTold (kept_of uber) [] (area.told (area_of uber)) → ubers.layout_of uber ≡ x.geometry → StandsFound rack area shards uber pieces opened_state
+    opened_stands alike last low valid kept version next stands layout_is = record {
       layout = rests.layout;
       many = all_opened.1 ∙ rests.many;
       shards_are = many ∙ sym all_opened.1;
       each = opened_is_in;
-      holds = found_holds x opened_state body.group pieces finds_opened rests.layout rests.many reached rests.leaves findable rests.objects
-          (numbered_last x opened_state body.group pieces finds_opened rests.layout rests.many reached rests.leaves findable rests.objects last);
-      groups = found_groups x opened_state body.group pieces finds_opened rests.layout rests.many reached rests.leaves findable rests.objects low;
-      uber_is = found_uber area x opened_state uber body valid kept body_is rests.layout.geometry_is version next stands refl refl refl refl refl;
-      images = found_images x opened_state body.group pieces finds_opened rests.layout rests.many reached rests.leaves findable rests.objects;
-      leaves = found_leaves x opened_state body.group pieces finds_opened rests.layout rests.many reached rests.leaves findable rests.objects;
+      holds = found_holds x opened_state body.group pieces finds_opened refl rests.layout rests.many reached rests.leaves findable rests.objects
+          (numbered_last x opened_state body.group pieces finds_opened refl rests.layout rests.many reached rests.leaves findable rests.objects last);
+      groups = found_groups x opened_state body.group pieces finds_opened refl rests.layout rests.many reached rests.leaves findable rests.objects low;
+      uber_is = found_uber area x opened_state uber body valid kept body_is layout_is version next stands refl refl refl refl refl (refl, refl);
+      images = found_images x opened_state body.group pieces finds_opened refl rests.layout rests.many reached rests.leaves findable rests.objects;
+      leaves = found_leaves x opened_state body.group pieces finds_opened refl rests.layout rests.many reached rests.leaves findable rests.objects;
       shared = one_shared x.geometry.props.version (opened_arms alike).0;
       versions = record { kept = refl; now = refl };
+      at_version = refl;
       alike = (opened_arms alike).1;
-      open_groups = found_open x opened_state body.group pieces finds_opened rests.layout rests.many reached rests.leaves findable rests.objects;
+      open_groups = found_open x opened_state body.group pieces finds_opened refl rests.layout rests.many reached rests.leaves findable rests.objects;
       floor = refl;
     }

@@ -12,6 +12,7 @@ use Rattle.draid_perm.specs.declared.perms.Perms.{Perms}
 use Rattle.draid_perm.proofs.Same.{same_perms}
 use Rattle.draid_record.specs.declared.uber.UberBody.{UberBody}
 use Rattle.draid_spec.specs.declared.layout.Geometry.{Geometry}
+use Rattle.draid_spec.specs.Geometry.{IsGeometry}
 use Rattle.draid_segments.specs.Segments.{Pieces}
 use Rattle.draid_shelf.specs.Kits.{Held, KitCounts, KitTold, takes_uber}
 use Rattle.draid_stable.specs.Stable as stable
@@ -23,6 +24,7 @@ use Rattle.draid_shard.specs.declared.shard.Shard.{Shard}
 use Rattle.draid_uber.specs.Slots.{chosen_of, group_of, read_body}
 use Rattle.draid_uber.specs.Uber.{kept_of, layout_of, next_leaf_of, version_of}
 use Rattle.draid_uber.specs.declared.uber.Uber.{Uber}
+use Rattle.draid_session.specs.Opening.{layout_at_version}
 use Rattle.draid_session.specs.State.{Metaslab, State, limit_of}
 use Rattle.draid_pool.specs.Returning.{Rests}
 use Rattle.draid_found.specs.Found.{AreFound}
@@ -38,6 +40,7 @@ use Rattle.draid_import.proofs.ImportFound.{finds_image}
 use Rattle.draid_import.proofs.ImportMetaslab.{FindsImage, opens_found}
 use Rattle.draid_import.proofs.ImportOpened.{rested}
 use Rattle.draid_import.proofs.ImportUber.{found_body, found_layout}
+use Rattle.draid_import.proofs.ImportVersion.{found_at, found_from, there_at}
 
 -- ---- the blocks
 
@@ -65,49 +68,58 @@ kept_body (Some body) some = (body, refl)
 body_next : (kept : Option UberBody) (next : ℕ) (body : UberBody) → IsSomeAnd kept (λ b. next ≡ b.next_leaf) → kept ≡ Some body → next ≡ body.next_leaf
 body_next kept next body leaf is = subst (λ o. IsSomeAnd o (λ b. next ≡ b.next_leaf)) is leaf
 
-module _ {A : Type 0} (area : areas.Ghosts A) (x : State) (pieces : ℕ → Pieces) (held : Held) (rests : Rests x pieces held) (uber : Uber A) (count : ℕ)
-    (found : IsFoundUber area uber) (r : IsRecovered area (Some held) count uber) where
-  -- the body that was found, and what the area of the uberblock told
-  pub record FoundBody : Type 0 where
-    pub body : UberBody
-    pub kept : kept_of uber ≡ Some body
-    pub finds : FindsBody x body
-    pub group : group_of (kept_of uber) ≡ body.group
-    pub version : version_of uber ≡ body.props.version
-    pub next : next_leaf_of uber ≡ body.next_leaf
-    pub layout : layout_of uber ≡ x.geometry
+-- the body that was found, and what the area of the uberblock told: the state's layout is at the version that was found
+pub record FoundBody {A : Type 0} (x : State) (uber : Uber A) : Type 0 where
+  pub body : UberBody
+  pub kept : kept_of uber ≡ Some body
+  pub finds : FindsBody x body
+  pub group : group_of (kept_of uber) ≡ body.group
+  pub version : version_of uber ≡ body.props.version
+  pub next : next_leaf_of uber ≡ body.next_leaf
+  pub layout : layout_of uber ≡ x.geometry
 
-  pub body_found : FoundBody
-  body_found = record {
+-- and the pool rests at that version
+pub record RestsFoundAt {A : Type 0} (x : State) (pieces : ℕ → Pieces) (held : Held) (leaves : ℕ → Option Shape) (counts : ℕ → KitCounts) (count : ℕ) (uber : Uber A) : Type 0 where
+  pub version : ℕ
+  pub there : RestsThere (found_at x version) pieces (Some held) leaves counts count
+  pub b : FoundBody (found_at x version) uber
+
+pub body_found : {A : Type 0} (area : areas.Ghosts A) (x : State) (pieces : ℕ → Pieces) (held : Held) (leaves : ℕ → Option Shape) (counts : ℕ → KitCounts) (count : ℕ) (uber : Uber A)
+    → RestsThere x pieces (Some held) leaves counts count → IsFoundUber area uber → IsRecovered area (Some held) count uber → RestsFoundAt x pieces held leaves counts count uber
+body_found {A} area x pieces held leaves counts count uber there found r = record {
+  version = kept.0.props.version;
+  there = there_at x kept.0.props.version pieces held leaves counts count (record { geometry_is = subst IsGeometry layout found.valid.held.layout_is; perms_are = there.held.layout.perms_are }) there;
+  b = record {
     body = kept.0;
     kept = kept.1;
     finds = finds;
     group = ap (λ (k : Option UberBody). group_of k) kept.1;
-    version = found.version ∙ (ap (λ (g : Geometry). g.props.version) layout ∙ ap (λ (b : UberBody). b.props.version) (sym finds.is));
+    version = found.version ∙ ap (λ (g : Geometry). g.props.version) layout;
     next = body_next (kept_of uber) (next_leaf_of uber) kept.0 r.leaf kept.1;
     layout = layout;
-  }
-    where
-      kept : (body : UberBody) × (kept_of uber ≡ Some body)
-      kept = kept_body (kept_of uber) found.some
+  };
+}
+  where
+    kept : (body : UberBody) × (kept_of uber ≡ Some body)
+    kept = kept_body (kept_of uber) found.some
 
-      c : (c : Content) × (held.uber ≡ Some c) × UberStands x (Some c)
-      c = uber_content x held.uber rests.uber
+    c : (c : Content) × (held.uber ≡ Some c) × UberStands x (Some c)
+    c = uber_content x held.uber there.held.uber
 
-      own : r.content ≡ Some c.0
-      own = r.own ∙ c.1
+    own : r.content ≡ Some c.0
+    own = r.own ∙ c.1
 
-      counted : IsOfSize r.size c.0
-      counted = subst (λ o. OnTold o (IsOfSize r.size)) own r.counted
+    counted : IsOfSize r.size c.0
+    counted = subst (λ o. OnTold o (IsOfSize r.size)) own r.counted
 
-      chosen : chosen_of c.0.bytes ≡ option_map read_body (kept_of uber)
-      chosen = subst (λ o. OnTold o (λ (y : Content). chosen_of y.bytes ≡ option_map read_body (kept_of uber))) own r.finds
+    chosen : chosen_of c.0.bytes ≡ option_map read_body (kept_of uber)
+    chosen = subst (λ o. OnTold o (λ (y : Content). chosen_of y.bytes ≡ option_map read_body (kept_of uber))) own r.finds
 
-      finds : FindsBody x kept.0
-      finds = found_body x c.0 c.2 counted.firm kept.0 (chosen ∙ ap (λ (k : Option UberBody). option_map read_body k) kept.1)
+    finds : FindsBody (found_at x kept.0.props.version) kept.0
+    finds = found_body x c.0 c.2 counted.firm kept.0 (chosen ∙ ap (λ (k : Option UberBody). option_map read_body k) kept.1)
 
-      layout : layout_of uber ≡ x.geometry
-      layout = found_layout area x x uber kept.0 found.valid kept.1 finds rests.layout.geometry_is
+    layout : layout_of uber ≡ layout_at_version kept.0.props.version x.geometry
+    layout = found_layout area x uber kept.0 found.valid kept.1 finds there.held.layout.geometry_is
 
 -- ---- the metaslabs
 
@@ -119,15 +131,12 @@ pub once_there : (o : Option KitTold) (kit : KitTold) (P : KitTold → Type 0) �
 once_there o kit P is h = subst (λ q. IsSomeAnd q P) is h
 
 module _ {R A : Type 0} (rack : racks.Ghosts R) (area : areas.Ghosts A) (x : State) (pieces : ℕ → Pieces) (held : Held) (leaves : ℕ → Option Shape) (counts : ℕ → KitCounts) (count : ℕ)
-    (there : RestsThere x pieces (Some held) leaves counts count) (uber : Uber A) (found : IsFoundUber area uber) (r : IsRecovered area (Some held) count uber) where
+    (there : RestsThere x pieces (Some held) leaves counts count) (uber : Uber A) (found : IsFoundUber area uber) (r : IsRecovered area (Some held) count uber) (b : FoundBody x uber) where
   abbrev rests : Rests x pieces held
   rests = there.held
 
   abbrev importable : IsImportable x held leaves
   importable = there.importable
-
-  abbrev pub b : FoundBody area x pieces held rests uber count found r
-  b = body_found area x pieces held rests uber count found r
 
   -- one that was opened from its record of the group
   pub shard_found : (alloc : Global) (known : Option Shape) (now : ℕ → KitCounts) (m : ℕ) (shard : Shard R A) (y : Metaslab) (perms : Perms) → perms ≡ x.perms → ((k : ℕ) → now k ≡ counts k)
@@ -137,7 +146,7 @@ module _ {R A : Type 0} (rack : racks.Ghosts R) (area : areas.Ghosts A) (x : Sta
   shard_found alloc known now m shard y perms same counted valid part over at =
       let kit = rested (held.kits m) x m (pieces m) y (rests.kits m y at) in
       let f : FindsImage x m (pieces m) y kit.0 b.body.group b.body.next_leaf
-      = finds_image x rests.layout rests.many rests.images rests.leaves importable.findable m (pieces m) y kit.0 b.body.group b.body.next_leaf at kit.2 b.finds.may b.finds.some b.finds.leaf in
+      = finds_image x rests.layout rests.many rests.images rests.leaves importable.findable m (pieces m) y kit.0 b.body.group b.body.next_leaf at kit.2 b.finds.may b.finds.some b.finds.leaf b.finds.version in
       let is_part : part_of shard ≡ part_in x m = part ∙ (λ i. record { geometry = b.layout i; perms = same i; number = m }) in
       let opens : Opens rack area.told over.kit b.body.group b.body.next_leaf shard
       = subst (λ n. Opens rack area.told over.kit b.body.group n shard) b.next (subst (λ n. Opens rack area.told over.kit n (next_leaf_of uber) shard) b.group over.opens) in
@@ -171,7 +180,7 @@ module _ {R A : Type 0} (rack : racks.Ghosts R) (area : areas.Ghosts A) (x : Sta
       let group = b.group in
       found_begins rack area x pieces uber newest seq held rests importable.findable importable.alike b.body b.finds shards
       (as_many_found shards re) (each_found alloc known now shards counted re over)
-      (omega (arith, later, own)) (last_found shards newest seq blocks) (newest_found shards newest seq blocks) (omega (arith, low, group)) found.valid b.kept b.version b.next r.stands
+      (omega (arith, later, own)) (last_found shards newest seq blocks) (newest_found shards newest seq blocks) (omega (arith, low, group)) found.valid b.kept b.version b.next r.stands b.layout
 
 -- what the pool is made of, whatever the shelf tells
 pub pool_found : {R A : Type 0} (alloc : Global) (rack : racks.Ghosts R) (area : areas.Ghosts A) (x : State) (pieces : ℕ → Pieces) (o mid : Option Held) (leaves known : ℕ → Option Shape) (counts now : ℕ → KitCounts) (count : ℕ) (uber : Uber A)
@@ -180,8 +189,10 @@ pub pool_found : {R A : Type 0} (alloc : Global) (rack : racks.Ghosts R) (area :
     → OpensAllOver rack area (limit_of (layout_of uber)) (group_of (kept_of uber)) (next_leaf_of uber) mid known now shards → AreFound shards newest seq → IsFoundOf rack area x uber pieces newest seq shards
 pool_found alloc rack area x pieces None mid leaves known counts now count uber shards newest seq there found r counted taken re over blocks = absurd there.held
 pool_found alloc rack area x pieces (Some held) mid leaves known counts now count uber shards newest seq there found r counted taken re over blocks =
-    shards_found rack area x pieces held leaves counts count there uber found r alloc known now shards newest seq counted re
-    (subst (λ o. OpensAllOver rack area (limit_of (layout_of uber)) (group_of (kept_of uber)) (next_leaf_of uber) o known now shards) taken over) blocks
+    let f = body_found area x pieces held leaves counts count uber there found r in
+    found_from x f.version rack area uber pieces newest seq shards
+    (shards_found rack area (found_at x f.version) pieces held leaves counts count f.there uber found r f.b alloc known now shards newest seq counted re
+    (subst (λ o. OpensAllOver rack area (limit_of (layout_of uber)) (group_of (kept_of uber)) (next_leaf_of uber) o known now shards) taken over) blocks)
 
 -- ---- the shelf
 

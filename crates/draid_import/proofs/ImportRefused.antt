@@ -33,6 +33,7 @@ use Rattle.draid_import.proofs.ImportFound.{found_findable, found_holds, found_i
 use Rattle.draid_import.proofs.ImportMetaslab.{FindsImage, counts_rise, found_image, unopened, unopened_reopens, unopened_rests}
 use Rattle.draid_import.proofs.ImportOpened.{all_reached, collect, finds_state}
 use Rattle.draid_import.proofs.ImportUber.{found_kept}
+use Rattle.draid_import.proofs.ImportVersion.{LeavesFound}
 use Rattle.draid_pool.proofs.ImageLeaves.{leaves_there}
 use Rattle.draid_pool.proofs.Lists.{present}
 
@@ -177,7 +178,7 @@ module _ (x : State) (pieces : ℕ → Pieces) (held : Held) (rests : Rests x pi
     mid = found_state x body.group body.next_leaf shelved.0 x.store.seq n
 
     finds : Finds x body.group mid
-    finds = finds_state x body.group body.next_leaf shelved.0 x.store.seq n body_is.may body_is.some body_is.leaf shelved.1 (λ m y z at there. (shelved.2 m y z at there).reopens) counted
+    finds = finds_state x body.group body.next_leaf shelved.0 x.store.seq n body_is.version body_is.may body_is.some body_is.leaf shelved.1 (λ m y z at there. (shelved.2 m y z at there).reopens) counted
 
     reached : (m : ℕ) (y : Metaslab) → slice_get x.metaslabs m ≡ Some y → IsReached (layout_of x.geometry x.perms m) y.world
     reached = all_reached x pieces held rests
@@ -209,24 +210,24 @@ module _ (x : State) (pieces : ℕ → Pieces) (held : Held) (rests : Rests x pi
         (alike body.group k j p.0 q.0 p.2.reopens.image q.2.reopens.image body_is.may p.1 q.1 p.2.reopens.is p.2.reopens.of q.2.reopens.is q.2.reopens.of))
 
     -- a refusal behind the uberblock leaves the pool as the group has it
-    pub found_leaves_pool : (u : Content) → new.uber ≡ Some u → StandsTold (Some body) [] (Some u) → IsSomeAnd new.checks AreNewChecks → LeavesPool x pieces (Some new) now counts n
+    pub found_leaves_pool : (u : Content) → new.uber ≡ Some u → StandsTold (Some body) [] (Some u) → IsSomeAnd new.checks AreNewChecks → LeavesFound x pieces (Some new) now counts n
     found_leaves_pool u uber stands checks = record {
       y = mid;
       rests = record {
         held = record {
           layout = rests.layout;
           uber = subst (λ o. IsSomeAnd o (λ c. UberStands mid (Some c))) (sym uber)
-              (record { pending = []; are = All-nil (IsPending mid); stands = subst (λ k. StandsTold k [] (Some u)) (sym (found_kept x mid body body_is refl refl refl)) stands });
+              (record { pending = []; are = All-nil (IsPending mid); stands = subst (λ k. StandsTold k [] (Some u)) (sym (found_kept x mid body body_is refl refl refl refl)) stands });
           checks = checks;
           many = shelved.1 ∙ rests.many;
           kits = λ m z at. on_mid (new.kits m) m z (there m z at).1.kit;
-          images = found_images x mid body.group pieces finds rests.layout rests.many reached rests.leaves findable rests.objects;
-          leaves = found_leaves x mid body.group pieces finds rests.layout rests.many reached rests.leaves findable rests.objects;
-          objects = found_holds x mid body.group pieces finds rests.layout rests.many reached rests.leaves findable rests.objects
-              (numbered_before x mid body.group pieces finds rests.layout rests.many reached rests.leaves findable rests.objects refl);
+          images = found_images x mid body.group pieces finds refl rests.layout rests.many reached rests.leaves findable rests.objects;
+          leaves = found_leaves x mid body.group pieces finds refl rests.layout rests.many reached rests.leaves findable rests.objects;
+          objects = found_holds x mid body.group pieces finds refl rests.layout rests.many reached rests.leaves findable rests.objects
+              (numbered_before x mid body.group pieces finds refl rests.layout rests.many reached rests.leaves findable rests.objects refl);
         };
         importable = record {
-          findable = found_findable x mid body.group pieces finds rests.layout rests.many reached rests.leaves findable rests.objects;
+          findable = found_findable x mid body.group pieces finds refl rests.layout rests.many reached rests.leaves findable rests.objects;
           alike = alike_mid;
           once = λ m z image at is. (there m z at).1.once image is;
           there = λ m z image at is. (there m z at).1.leaves image is;
@@ -234,5 +235,6 @@ module _ (x : State) (pieces : ℕ → Pieces) (held : Held) (rests : Rests x pi
         counted = λ m z at. (there m z at).1.same;
         uber = refl;
       };
-      is = inr (body.group, finds);
+      group = body.group;
+      finds = finds;
     }

@@ -17,9 +17,11 @@ use Rattle.draid_uber.specs.Steps.{IsSameOrFlushed}
 use Rattle.draid_uber.specs.Uber.{Valid, area_of, kept_of, layout_of, next_leaf_of, version_of}
 use Rattle.draid_uber.specs.declared.uber.Uber.{Uber}
 use Rattle.draid_uber.proofs.Imports.{import_takes}
+use Rattle.draid_session.specs.Opening.{layout_at_version}
 use Rattle.draid_session.specs.State.{State}
 use Rattle.draid_import.specs.Imported.{FindsBody}
 use Rattle.draid_pool.specs.Ubers.{IsPending, IsUber, UberStands, body_of, kept_in}
+use Rattle.draid_import.proofs.ImportVersion.{found_at, layout_at}
 
 abbrev Chosen : Type 0
 Chosen = Option (Result UberBody RecordFault)
@@ -46,34 +48,36 @@ read_bad (Some k) why o is chosen = (let h = sym is ∙ chosen in absurd (cc))
 
 module _ (x : State) where
   -- that of the committed group
-  committed_body : (body : UberBody) → kept_in x ≡ Some body → FindsBody x body
+  committed_body : (body : UberBody) → kept_in x ≡ Some body → FindsBody (found_at x body.props.version) body
   committed_body body is = by (x.committed == 0) refl is
     where
-      found : (x.committed == 0) ≡ false → body_of x.geometry x.committed x.kept_leaf ≡ body → FindsBody x body
-      found some same = subst (FindsBody x) same (record {
+      found : (x.committed == 0) ≡ false → body_of x.geometry x.kept_version x.committed x.kept_leaf ≡ body → FindsBody (found_at x body.props.version) body
+      found some same = subst (λ (b : UberBody). FindsBody (found_at x b.props.version) b) same (record {
         may = inl refl;
         some = grind (arith, nat_tests, some);
         leaf = inl (refl, refl);
+        version = inl (refl, refl);
         is = refl;
       })
 
-      by : (b : Bool) → (x.committed == 0) ≡ b → (if b then None else Some (body_of x.geometry x.committed x.kept_leaf)) ≡ Some body → FindsBody x body
+      by : (b : Bool) → (x.committed == 0) ≡ b → (if b then None else Some (body_of x.geometry x.kept_version x.committed x.kept_leaf)) ≡ Some body → FindsBody (found_at x body.props.version) body
       by true none same = absurd (cc)
-      by false some same = found some (some_body (body_of x.geometry x.committed x.kept_leaf) body same)
+      by false some same = found some (some_body (body_of x.geometry x.kept_version x.committed x.kept_leaf) body same)
 
   -- that of a commit which was refused
-  pending_body : (body : UberBody) → IsPending x body → FindsBody x body
-  pending_body body is = subst (FindsBody x) (sym is.1) (record {
+  pending_body : (body : UberBody) → IsPending x body → FindsBody (found_at x body.props.version) body
+  pending_body body is = subst (λ (b : UberBody). FindsBody (found_at x b.props.version) b) (sym is.1) (record {
     may = inr (is.0, refl);
     some = omega arith;
     leaf = inr (refl, refl);
+    version = inr (refl, refl);
     is = refl;
   })
 
   none_committed : kept_in x ≡ None → x.committed ≡ 0
   none_committed is = by (x.committed == 0) refl is
     where
-      by : (b : Bool) → (x.committed == 0) ≡ b → (if b then None else Some (body_of x.geometry x.committed x.kept_leaf)) ≡ None → x.committed ≡ 0
+      by : (b : Bool) → (x.committed == 0) ≡ b → (if b then None else Some (body_of x.geometry x.kept_version x.committed x.kept_leaf)) ≡ None → x.committed ≡ 0
       by true zero same = grind (arith, nat_tests, zero)
       by false some same = absurd (cc)
 
@@ -81,14 +85,14 @@ module _ (x : State) where
     takes : Chooses (kept_in x) stands.pending (chosen_of c.bytes)
     takes = import_takes (kept_in x) stands.pending c stands.stands counted
 
-    pub found_body : (body : UberBody) → chosen_of c.bytes ≡ Some (Ok body) → FindsBody x body
+    pub found_body : (body : UberBody) → chosen_of c.bytes ≡ Some (Ok body) → FindsBody (found_at x body.props.version) body
     found_body body is = by takes
       where
-        by : Chooses (kept_in x) stands.pending (chosen_of c.bytes) → FindsBody x body
+        by : Chooses (kept_in x) stands.pending (chosen_of c.bytes) → FindsBody (found_at x body.props.version) body
         by (inl kept) = committed_body body (read_some (kept_in x) body (chosen_of c.bytes) is kept)
         by (inr p) =
             let same : p.0 ≡ body = same_body p.0 body (chosen_of c.bytes) p.2 is in
-            subst (FindsBody x) same (pending_body p.0 (All-contains (IsPending x) stands.pending p.0 stands.are p.1))
+            subst (λ (b : UberBody). FindsBody (found_at x b.props.version) b) same (pending_body p.0 (All-contains (IsPending x) stands.pending p.0 stands.are p.1))
 
     -- no gate is open only where no group was committed
     pub found_none : chosen_of c.bytes ≡ None → x.committed ≡ 0
@@ -159,29 +163,32 @@ kept_layout None body geometry is fits = absurd (cc)
 kept_layout (Some b) body geometry is fits = subst (λ (b : UberBody). (b.spec ≡ geometry.spec) × (b.props ≡ geometry.props)) (some_body b body is) fits
 
 -- what the state has there which is found with it
-pub found_kept : (x mid : State) (body : UberBody) → FindsBody x body → mid.geometry ≡ x.geometry → mid.committed ≡ body.group → mid.kept_leaf ≡ body.next_leaf → kept_in mid ≡ Some body
-found_kept x mid body finds geometry committed kept_leaf = by (mid.committed == 0) refl
+pub found_kept : (x mid : State) (body : UberBody) → FindsBody x body → mid.geometry ≡ x.geometry → mid.kept_version ≡ x.geometry.props.version → mid.committed ≡ body.group → mid.kept_leaf ≡ body.next_leaf → kept_in mid ≡ Some body
+found_kept x mid body finds geometry version committed kept_leaf = by (mid.committed == 0) refl
   where
-    by : (b : Bool) → (mid.committed == 0) ≡ b → (if b then None else Some (body_of mid.geometry mid.committed mid.kept_leaf)) ≡ Some body
+    by : (b : Bool) → (mid.committed == 0) ≡ b → (if b then None else Some (body_of mid.geometry mid.kept_version mid.committed mid.kept_leaf)) ≡ Some body
     by true zero = absurd (let some = finds.some in grind (arith, nat_tests, zero, some, committed))
-    by false some = ap (λ (b : UberBody). Some b) ((λ i. body_of (geometry i) (committed i) (kept_leaf i)) ∙ sym finds.is)
+    by false some = ap (λ (b : UberBody). Some b) ((λ i. body_of (geometry i) (version i) (committed i) (kept_leaf i)) ∙ sym finds.is)
+
+-- it has the pool's layout at the version that is found
+pub found_layout : {A : Type 0} (area : areas.Ghosts A) (x : State) (uber : Uber A) (body : UberBody) → Valid area.size uber → kept_of uber ≡ Some body → FindsBody (found_at x body.props.version) body → IsGeometry x.geometry
+    → layout_of uber ≡ layout_at_version body.props.version x.geometry
+found_layout area x uber body valid kept finds whole =
+    let fits = kept_layout (kept_of uber) body (layout_of uber) kept valid.held.kept_is in
+    layout_at body.props.version (layout_of uber) x.geometry valid.held.layout_is whole (sym fits.0 ∙ ap (λ (b : UberBody). b.spec) finds.is) (sym fits.1 ∙ ap (λ (b : UberBody). b.props) finds.is)
 
 module _ {A : Type 0} (area : areas.Ghosts A) (x mid : State) (uber : Uber A) (body : UberBody) (valid : Valid area.size uber) (kept : kept_of uber ≡ Some body) (finds : FindsBody x body)
-    (whole : IsGeometry x.geometry) where
-  pub found_layout : layout_of uber ≡ x.geometry
-  found_layout =
-      let fits = kept_layout (kept_of uber) body (layout_of uber) kept valid.held.kept_is in
-      one_layout (layout_of uber) x.geometry valid.held.layout_is whole (sym fits.0 ∙ ap (λ (b : UberBody). b.spec) finds.is) (sym fits.1 ∙ ap (λ (b : UberBody). b.props) finds.is)
-
+    (layout : layout_of uber ≡ x.geometry) where
   -- it is that of the state which is found with it
   pub found_uber : version_of uber ≡ body.props.version → next_leaf_of uber ≡ body.next_leaf → StandsTold (kept_of uber) [] (area.told (area_of uber))
-      → mid.geometry ≡ x.geometry → mid.committed ≡ body.group → mid.kept_leaf ≡ body.next_leaf → mid.next_leaf ≡ body.next_leaf → mid.uber_count ≡ area.faults (area_of uber) → IsUber area uber mid
-  found_uber version next stands geometry committed kept_leaf next_leaf count = record {
+      → mid.geometry ≡ x.geometry → mid.committed ≡ body.group → mid.kept_leaf ≡ body.next_leaf → mid.next_leaf ≡ body.next_leaf → mid.uber_count ≡ area.faults (area_of uber)
+      → (mid.kept_version ≡ x.geometry.props.version) × (mid.next_version ≡ x.geometry.props.version) → IsUber area uber mid
+  found_uber version next stands geometry committed kept_leaf next_leaf count versions = record {
     valid = valid;
-    layout = found_layout ∙ sym geometry;
-    version = version ∙ (ap (λ (b : UberBody). b.props.version) finds.is ∙ ap (λ (g : Geometry). g.props.version) (sym geometry));
-    kept = kept ∙ sym (found_kept x mid body finds geometry committed kept_leaf);
+    layout = layout ∙ sym (λ i. layout_at_version (versions.0 i) (geometry i));
+    version = version ∙ (ap (λ (b : UberBody). b.props.version) finds.is ∙ sym versions.1);
+    kept = kept ∙ sym (found_kept x mid body finds geometry versions.0 committed kept_leaf);
     next_leaf = next ∙ sym next_leaf;
     count = count;
-    stands = record { pending = []; are = All-nil (IsPending mid); stands = subst (λ (k : Option UberBody). StandsTold k [] (area.told (area_of uber))) (kept ∙ sym (found_kept x mid body finds geometry committed kept_leaf)) stands };
+    stands = record { pending = []; are = All-nil (IsPending mid); stands = subst (λ (k : Option UberBody). StandsTold k [] (area.told (area_of uber))) (kept ∙ sym (found_kept x mid body finds geometry versions.0 committed kept_leaf)) stands };
   }

@@ -30,6 +30,7 @@ use Rattle.draid_import.proofs.ImportFound.{finds_image}
 use Rattle.draid_import.proofs.ImportMetaslab.{FindsImage}
 use Rattle.draid_import.proofs.ImportOpened.{rested}
 use Rattle.draid_import.proofs.ImportPool.{FoundBody, body_found, once_there}
+use Rattle.draid_import.proofs.ImportVersion.{found_at}
 use Rattle.draid_import.proofs.ImportRecords.{not_refused}
 use Rattle.draid_pool.proofs.Lists.{present}
 use Rattle.draid_pool.proofs.Takings.{from_first}
@@ -51,10 +52,7 @@ known_leaves None shape P is h = absurd h
 known_leaves (Some s) shape P is h = subst P (sym is) h
 
 module _ {R A : Type 0} (rack : racks.Ghosts R) (area : areas.Ghosts A) (x : State) (pieces : ℕ → Pieces) (held : Held) (leaves : ℕ → Option Shape) (counts : ℕ → KitCounts) (count : ℕ)
-    (there : RestsThere x pieces (Some held) leaves counts count) (uber : Uber A) (found : IsFoundUber area uber) (r : IsRecovered area (Some held) count uber) where
-  abbrev b : FoundBody area x pieces held there.held uber count found r
-  b = body_found area x pieces held there.held uber count found r
-
+    (there : RestsThere x pieces (Some held) leaves counts count) (uber : Uber A) (found : IsFoundUber area uber) (r : IsRecovered area (Some held) count uber) (b : FoundBody x uber) where
   -- a metaslab's record is opened
   pub not_unread : (m : ℕ) → m < (layout_of uber).props.metaslabs → (old new : Kit R A) (place k : ℕ) → kit_of (rack.told old.rack) (area.told old.even) (area.told old.odd) ≡ held.kits m
       → IsKnown (leaves m) (rack.shape old.rack)
@@ -65,7 +63,7 @@ module _ {R A : Type 0} (rack : racks.Ghosts R) (area : areas.Ghosts A) (x : Sta
       let y = present x.metaslabs m (omega (arith, below, many, same)) in
       let kit = rested (held.kits m) x m (pieces m) y.0 (there.held.kits m y.0 y.1) in
       let f : FindsImage x m (pieces m) y.0 kit.0 b.body.group b.body.next_leaf
-      = finds_image x there.held.layout there.held.many there.held.images there.held.leaves there.importable.findable m (pieces m) y.0 kit.0 b.body.group b.body.next_leaf y.1 kit.2 b.finds.may b.finds.some b.finds.leaf in
+      = finds_image x there.held.layout there.held.many there.held.images there.held.leaves there.importable.findable m (pieces m) y.0 kit.0 b.body.group b.body.next_leaf y.1 kit.2 b.finds.may b.finds.some b.finds.leaf b.finds.version in
       not_refused x m (pieces m) y.0 kit.0 b.body.group b.body.next_leaf f
       (once_there (held.kits m) kit.0 (λ k. ListsOnce x.geometry m f.image (stable.area_of f.image.group k.even k.odd)) kit.1 (there.importable.once m y.0 f.image y.1 f.is))
       rack area old (told ∙ kit.1) (known_leaves (leaves m) (rack.shape old.rack) (HasImageLeaves x.geometry f.image) known (there.importable.there m y.0 f.image y.1 f.is)) new place k
@@ -90,4 +88,5 @@ no_open_record {T} rack area x pieces (Some held) now leaves counts count uber m
     by open_why.Area h metaslab place kind err = absurd (cc)
     by open_why.NoMemory h metaslab place kind err = absurd (cc)
     by (open_why.Record at k) h metaslab place kind err =
-        not_unread rack area x pieces held leaves counts count there uber found r m below old new at k own (subst (λ (s : Option Shape). IsKnown s (rack.shape old.rack)) same shape) h
+        let f = body_found area x pieces held leaves counts count uber there found r in
+        not_unread rack area (found_at x f.version) pieces held leaves counts count f.there uber found r f.b m below old new at k own (subst (λ (s : Option Shape). IsKnown s (rack.shape old.rack)) same shape) h

@@ -19,6 +19,7 @@ pub mod ImportRefused
 pub mod ImportTaken
 pub mod ImportUber
 pub mod ImportUnread
+pub mod ImportVersion
 pub mod Once
 pub mod OneAnswer
 pub mod Opened

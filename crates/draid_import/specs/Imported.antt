@@ -28,22 +28,23 @@ use Rattle.draid_shard.specs.declared.shard.Shard.{Shard}
 use Rattle.draid_uber.specs.declared.uber.Uber.{Uber}
 use Rattle.draid_session.specs.Follows.{Follows}
 use Rattle.draid_session.specs.Holds.{Hold}
-use Rattle.draid_session.specs.Opening.{Finds, Frees, FreesOlder, IsLastSeq, LeafIn, MayFind, Reopens}
+use Rattle.draid_session.specs.Opening.{Finds, Frees, FreesOlder, IsLastSeq, LeafIn, MayFind, Reopens, VersionIn}
 use Rattle.draid_session.specs.State.{Metaslab, State}
 use Rattle.draid_pool.specs.Returning.{RestsOn, SameCounts}
-use Rattle.draid_pool.specs.Importable.{AllAlike, HasImageLeaves, HasOneVersion, Shared}
+use Rattle.draid_pool.specs.Importable.{AllAlike, HasImageLeaves, HasPoolVersions, Shared}
 use Rattle.draid_pool.specs.Metaslabs.{IsMetaslab}
 use Rattle.draid_pool.specs.Objects.{HasGroups, HoldsObjects, blocks_of}
 use Rattle.draid_pool.specs.Pools.{part_in}
 use Rattle.draid_pool.specs.Records.{HasImages, HasLeafNumbers, area_for}
 use Rattle.draid_pool.specs.Ubers.{IsUber, body_of}
 
--- a body that was found is that of a group which the uberblock may have
+-- a body that was found is that of a group which the uberblock may have, and the state's layout is at its version
 pub record FindsBody (x : State) (body : UberBody) : Type 0 where
   pub may : MayFind x body.group
   pub some : 0 < body.group
   pub leaf : LeafIn x body.group body.next_leaf
-  pub is : body ≡ body_of x.geometry body.group body.next_leaf
+  pub version : VersionIn x body.group x.geometry.props.version
+  pub is : body ≡ body_of x.geometry x.geometry.props.version body.group body.next_leaf
 
 -- as a metaslab is opened no count of calls on its devices falls, but for those of leaves that go
 pub record CountsOn {R A : Type 0} (rack : racks.Ghosts R) (area : areas.Ghosts A) (kit : Kit R A) (shard : Shard R A) : Type 0 where
@@ -80,6 +81,8 @@ found_state x group next metaslabs seq uber_count = record {
   committed = group;
   kept_leaf = next;
   next_leaf = next;
+  kept_version = x.geometry.props.version;
+  next_version = x.geometry.props.version;
   uber_count = uber_count;
   pending = false;
   told = true;
@@ -87,7 +90,8 @@ found_state x group next metaslabs seq uber_count = record {
 
 -- ---- what is found
 
--- Shards stand for the metaslabs of a state, and the uberblock is the state's: all that a pool has of it but the table of its objects. Older blocks may be live.
+-- Shards stand for the metaslabs of a state, and the uberblock is the state's: all that a pool has of it but the table of its objects. Older blocks may be live. Its layout is at the version that
+-- the committed group has.
 pub record StandsFound {R A : Type 0} (rack : racks.Ghosts R) (area : areas.Ghosts A) (shards : List (Shard R A)) (uber : Uber A) (pieces : ℕ → Pieces) (x : State) : Type 0 where
   pub layout : IsLayout x.geometry x.perms
   pub many : length x.metaslabs ≡ x.geometry.props.metaslabs
@@ -99,7 +103,8 @@ pub record StandsFound {R A : Type 0} (rack : racks.Ghosts R) (area : areas.Ghos
   pub images : HasImages x
   pub leaves : HasLeafNumbers x
   pub shared : Shared
-  pub versions : HasOneVersion x.geometry.props.version shared
+  pub versions : HasPoolVersions x.kept_version x.next_version shared
+  pub at_version : x.kept_version ≡ x.geometry.props.version
   pub alike : AllAlike shared x
   pub open_groups : (m : ℕ) (y : Metaslab) → slice_get x.metaslabs m ≡ Some y → y.world.open_group ≡ x.committed + 1
   pub floor : x.store.floor ≡ x.committed + 1

@@ -17,7 +17,7 @@ use Rattle.draid_shard.specs.Stands.{StandsFor}
 use Rattle.draid_shard.specs.States.{Does, DoesNone, IsIn, layout_by, part_of}
 use Rattle.draid_shard.specs.declared.shard.Shard.{Shard}
 use Rattle.draid_shard.proofs.Standing.{event_stands, none_stands}
-use Rattle.draid_session.specs.Follows.{Acts, CountsRise, HarmBoth, HarmBy, failed_in, uses}
+use Rattle.draid_session.specs.Follows.{MetaslabActs, CountsRise, HarmBoth, HarmBy, failed_in, uses}
 use Rattle.draid_session.specs.Holds.{Did}
 use Rattle.draid_session.specs.State.{Metaslab}
 use Rattle.draid_pool.specs.Metaslabs.{IsMetaslab, counts_of, harm_of}
@@ -52,7 +52,7 @@ pub record Raises {R A : Type 0} (rack : racks.Ghosts R) (area : areas.Ghosts A)
 pub record Done {R A : Type 0} (rack : racks.Ghosts R) (area : areas.Ghosts A) (part : Part) (pieces : Pieces) (new : Shard R A) (e : Event) (x : Metaslab) : Type 0 where
   pub reached : Metaslab
   pub step : Step (layout_in part) x.world e reached.world
-  pub acts : Acts (layout_in part) (Did e reached.world) x reached
+  pub acts : MetaslabActs (layout_in part) (Did e reached.world) x reached
   pub is : IsMetaslab rack area part pieces new reached
 
 module _ {R A : Type 0} (rack : racks.Ghosts R) (area : areas.Ghosts A) where

@@ -10,7 +10,7 @@ use Rattle.draid_machine.specs.After.{is_freed_block}
 use Rattle.draid_segments.specs.Segments.{Pieces}
 use Rattle.draid_objects.specs.Changes.{Write}
 use Rattle.draid_shard.specs.Part.{Part, layout_in}
-use Rattle.draid_session.specs.Follows.{Acts, CountsRise}
+use Rattle.draid_session.specs.Follows.{MetaslabActs, CountsRise}
 use Rattle.draid_session.specs.Holds.{Looked}
 use Rattle.draid_session.specs.State.{Counts, Metaslab, State}
 use Rattle.draid_pool.specs.Metaslabs.{IsMetaslab}
@@ -101,5 +101,5 @@ points_at_on last new (Some p) (Some w) on points = on p w refl refl points
 counts_same : (w : _) (c : Counts) → CountsRise w w [] c c
 counts_same w c = record { rack = (omega arith); even = (omega arith); odd = (omega arith); leaves = λ leaf stays. (omega arith) }
 
-pub looks : (l : _) (z : Metaslab) → Acts l Looked z z
+pub looks : (l : _) (z : Metaslab) → MetaslabActs l Looked z z
 looks l z = (record { opened = refl; events = refl; world = refl; harm = refl; counts = counts_same z.world z.counts }, refl)

@@ -1,7 +1,7 @@
 -- Holds that follow one another, whatever the pool has of its own.
 use Rattle.std.proofs.Common.{◌≡◌, ◌∙◌, List, [], ◌∷◌, ◌++◌, ap, subst}
 use Rattle.draid_session.specs.Follows.{Follows, Holds, UberActs}
-use Rattle.draid_session.specs.Holds.{Hold, On, OnUber, UberAct, LookedUber, Committed, CommitFailed, CommitStarved, NextLeaf}
+use Rattle.draid_session.specs.Holds.{Hold, On, OnUber, UberAct, LookedUber, Committed, CommitFailed, CommitStarved, NextLeaf, AsksVersion}
 use Rattle.draid_session.specs.State.{State, Store}
 
 pub follows_on : (holds more : List Hold) (x mid new : State) → Follows holds x mid → Follows more mid new → Follows (holds ++ more) x new
@@ -16,6 +16,7 @@ module _ (a b : State) (s : Store) where
   uber_but (CommitFailed group) u = (u.0, u.1, ap (λ (y : State). record y { store = a.store }) u.2)
   uber_but (CommitStarved group) u = (u.0, u.1, ap (λ (y : State). record y { store = a.store }) u.2)
   uber_but (NextLeaf next) u = ap (λ (y : State). record y { store = a.store }) u
+  uber_but (AsksVersion version) u = ap (λ (y : State). record y { store = a.store }) u
 
   holds_but : (hold : Hold) → Holds hold (record a { store = s }) b → Holds hold a (record b { store = a.store })
   holds_but (On v act) h = record {
@@ -41,6 +42,7 @@ uber_layout (Committed group) a b u = (ap (λ (y : State). y.geometry) u.2, ap (
 uber_layout (CommitFailed group) a b u = (ap (λ (y : State). y.geometry) u.2, ap (λ (y : State). y.perms) u.2)
 uber_layout (CommitStarved group) a b u = (ap (λ (y : State). y.geometry) u.2, ap (λ (y : State). y.perms) u.2)
 uber_layout (NextLeaf next) a b u = (ap (λ (y : State). y.geometry) u, ap (λ (y : State). y.perms) u)
+uber_layout (AsksVersion version) a b u = (ap (λ (y : State). y.geometry) u, ap (λ (y : State). y.perms) u)
 
 hold_layout : (hold : Hold) (a b : State) → Holds hold a b → (b.geometry ≡ a.geometry) × (b.perms ≡ a.perms)
 hold_layout (On v act) a b h = (ap (λ (y : State). y.geometry) h.made, ap (λ (y : State). y.perms) h.made)
@@ -60,6 +62,7 @@ uber_told (Committed group) a b u = ap (λ (y : State). y.told) u.2
 uber_told (CommitFailed group) a b u = ap (λ (y : State). y.told) u.2
 uber_told (CommitStarved group) a b u = ap (λ (y : State). y.told) u.2
 uber_told (NextLeaf next) a b u = ap (λ (y : State). y.told) u
+uber_told (AsksVersion version) a b u = ap (λ (y : State). y.told) u
 
 hold_told : (hold : Hold) (a b : State) → Holds hold a b → b.told ≡ a.told
 hold_told (On v act) a b h = ap (λ (y : State). y.told) h.made
@@ -76,6 +79,7 @@ uber_store (Committed group) a b u = ap (λ (y : State). y.store) u.2
 uber_store (CommitFailed group) a b u = ap (λ (y : State). y.store) u.2
 uber_store (CommitStarved group) a b u = ap (λ (y : State). y.store) u.2
 uber_store (NextLeaf next) a b u = ap (λ (y : State). y.store) u
+uber_store (AsksVersion version) a b u = ap (λ (y : State). y.store) u
 
 hold_store : (hold : Hold) (a b : State) → Holds hold a b → b.store ≡ a.store
 hold_store (On v act) a b h = ap (λ (y : State). y.store) h.made

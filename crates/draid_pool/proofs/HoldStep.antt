@@ -25,7 +25,7 @@ use Rattle.draid_shard.specs.Part.{Part, layout_in}
 use Rattle.draid_shard.specs.States.{part_of}
 use Rattle.draid_shard.specs.declared.shard.Shard.{Shard}
 use Rattle.draid_shard.proofs.Held.{held_entry, key_leads}
-use Rattle.draid_session.specs.Follows.{Acts}
+use Rattle.draid_session.specs.Follows.{MetaslabActs}
 use Rattle.draid_session.specs.Holds.{Act, Looked, On, view_of}
 use Rattle.draid_session.specs.State.{Metaslab, State}
 use Rattle.draid_pool.specs.Metaslabs.{IsMetaslab}
@@ -108,7 +108,7 @@ module _ {R A S : Type 0} (rack : racks.Ghosts R) (area : areas.Ghosts A) (went 
       })
 
   -- one hold that did this
-  pub follows : (act : Act) (r : Metaslab) (now : Pieces) → IsMetaslab rack area (part_in x m) now after r → Acts (layout_in (part_in x m)) act f.z r → (act ≡ Looked → r ≡ f.z)
+  pub follows : (act : Act) (r : Metaslab) (now : Pieces) → IsMetaslab rack area (part_in x m) now after r → MetaslabActs (layout_in (part_in x m)) act f.z r → (act ≡ Looked → r ≡ f.z)
       → FollowsBy (Between rack area went shared (part_in x)) (λ s t u v. ⊥) a (On (view_of m f.z) act ∷ []) x b (with_metaslab x m r)
   follows act r now it acts still = (
     b,

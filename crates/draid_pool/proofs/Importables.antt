@@ -16,10 +16,11 @@ use Rattle.draid_segments.specs.Segments.{Pieces}
 use Rattle.draid_shelf.specs.Kits.{Both, ChecksTold, CrashedChecks, CrashedHeld, CrashedKit, Held, KitCounts, KitTold, OnHeld, gives_uber, puts_uber}
 use Rattle.draid_stable.specs.Stable as stable
 use Rattle.draid_shard.specs.declared.shard.Shard.{Shard}
+use Rattle.draid_session.specs.Opening.{VersionIn}
 use Rattle.draid_session.specs.State.{Metaslab, State}
 use Rattle.draid_pool.specs.Returning.{IsFirm, IsFirmArea, IsFirmKit, Returns, TakesBack}
 use Rattle.draid_pool.specs.Groups.{ListsOnce}
-use Rattle.draid_pool.specs.Importable.{AllAlike, HasImageLeaves, HasOneVersion, IsImportable, Shared}
+use Rattle.draid_pool.specs.Importable.{AllAlike, HasImageLeaves, HasPoolVersions, IsImportable, Shared}
 use Rattle.draid_pool.specs.Metaslabs.{IsMetaslab}
 use Rattle.draid_pool.specs.Pools.{part_in}
 use Rattle.draid_pool.proofs.Alike.{GroupsStand, images_alike}
@@ -33,24 +34,30 @@ module _ {R A : Type 0} (rack : racks.Ghosts R) (area : areas.Ghosts A) (shards 
   shard_there : (m : ℕ) (y : Metaslab) → slice_get x.metaslabs m ≡ Some y → (shard : Shard R A) × (slice_get shards m ≡ Some shard)
   shard_there m y at = (let within = slice_get_within x.metaslabs m y at in present shards m (omega (arith, within, many)))
 
-  module _ (leaves : ℕ → Option Shape) (shared : Shared) (versions : HasOneVersion x.geometry.props.version shared) (alike : AllAlike shared x) (group : ℕ) (least : x.committed ≤ group)
+  groups_at : (m : ℕ) (y : Metaslab) → slice_get x.metaslabs m ≡ Some y → GroupsStand y.world
+  groups_at m y at = (let s = shard_there m y at in (state_sound rack area (part_in x m) (pieces m) s.0 y (each m s.0 y s.1 at)).groups)
+
+  -- the images of an open pool have the version that is found with their group
+  pub versions_found : (shared : Shared) → HasPoolVersions x.kept_version x.next_version shared → AllAlike shared x → ((m : ℕ) (y : Metaslab) → slice_get x.metaslabs m ≡ Some y → y.world.committed ≡ x.committed)
+      → (m : ℕ) (y : Metaslab) (image : machine.Image) → slice_get x.metaslabs m ≡ Some y → IsImage y.world image → VersionIn x image.group image.version
+  versions_found shared versions alike committed m y image at is =
+      let own = (alike m y at).versions in
+      let groups = groups_at m y at in
+      elim is [
+        | inl here ↦ inl (ap (λ (i : machine.Image). i.group) (sym here) ∙ (groups.image_is ∙ committed m y at), ap (λ (i : machine.Image). i.version) (sym here) ∙ (own.kept ∙ versions.kept))
+        | inr here ↦ inr ((let next = (groups.closing_is image.group (groups.sealed_is image here)).0 in let of = committed m y at in omega (arith, next, of)), own.sealed image here ∙ versions.now)
+      ]
+
+  module _ (leaves : ℕ → Option Shape) (shared : Shared) (alike : AllAlike shared x) (group : ℕ) (least : x.committed ≤ group)
+      (version_is : (m : ℕ) (y : Metaslab) (image : machine.Image) → slice_get x.metaslabs m ≡ Some y → IsImage y.world image → VersionIn x image.group image.version)
       (committed : (m : ℕ) (y : Metaslab) → slice_get x.metaslabs m ≡ Some y → y.world.committed ≡ group)
       (shapes : (m : ℕ) (shard : Shard R A) → slice_get shards m ≡ Some shard → leaves m ≡ Some (rack.shape shard.rack)) where
-    version_is : (m : ℕ) (y : Metaslab) (image : machine.Image) → slice_get x.metaslabs m ≡ Some y → IsImage y.world image → image.version ≡ x.geometry.props.version
-    version_is m y image at is = (let own = (alike m y at).versions in elim is [
-      | inl here ↦ ap (λ (i : machine.Image). i.version) (sym here) ∙ (own.kept ∙ versions.kept)
-      | inr here ↦ own.sealed image here ∙ versions.now
-    ])
-
-    groups : (m : ℕ) (y : Metaslab) → slice_get x.metaslabs m ≡ Some y → GroupsStand y.world
-    groups m y at = (let s = shard_there m y at in (state_sound rack area (part_in x m) (pieces m) s.0 y (each m s.0 y s.1 at)).groups)
-
     -- where the shelf has the leaves of its racks
     importable_given : (old new : Held) → TakesBack rack area shards old new → IsImportable x new leaves
     importable_given old new takes = record {
       findable = record { committed = λ m y at. (let is = committed m y at in omega (arith, is, least)); versions = version_is };
       alike = λ k m n y z a b may at here is of is' of'.
-          images_alike shared y.world z.world a b (alike m y at) (alike n z here) (groups m y at) (groups n z here) (committed m y at ∙ sym (committed n z here)) is is' (of ∙ sym of');
+          images_alike shared y.world z.world a b (alike m y at) (alike n z here) (groups_at m y at) (groups_at n z here) (committed m y at ∙ sym (committed n z here)) is is' (of ∙ sym of');
       once = λ m y image at is.
           (let s = shard_there m y at in
           let k = takes.kits m s.0 s.1 in

@@ -62,6 +62,7 @@ pub mod Takings
 pub mod Taught
 pub mod Turns
 pub mod Unsealed
+pub mod Versions
 pub mod Walks
 pub mod WholeGroups
 pub mod Wholes

@@ -48,7 +48,7 @@ pub record Refuses {A : Type 0} (area : areas.Ghosts A) (old new : Uber A) (grou
 
 -- a state behind them
 abbrev pub named_state : State → ℕ → ℕ → State
-named_state x group count = record x { committed = group; kept_leaf = x.next_leaf; pending = false; uber_count = count }
+named_state x group count = record x { committed = group; kept_leaf = x.next_leaf; kept_version = x.next_version; pending = false; uber_count = count }
 
 abbrev pub refused_state : State → ℕ → State
 refused_state x count = record x { pending = true; uber_count = count }
@@ -58,13 +58,13 @@ none_is group some = elim (bool_cases (group == 0)) [ inl none ↦ absurd (let s
 
 module _ {A : Type 0} (area : areas.Ghosts A) (old new : Uber A) (group : ℕ) (x : State) (is : IsUber area old x) where
   -- what the commit writes
-  next_is : next_of old group ≡ body_of x.geometry group x.next_leaf
+  next_is : next_of old group ≡ body_of x.geometry x.next_version group x.next_leaf
   next_is = λ i. record { group = group; spec = (is.layout i).spec; props = with_version (is.layout i).props (is.version i); next_leaf = is.next_leaf i }
 
   pub uber_named : Names area old new group → 0 < group → IsUber area new (named_state x group (area.faults (area_of new)))
   uber_named n some =
       let own : Some (next_of old group) ≡ kept_in (named_state x group (area.faults (area_of new)))
-      = ap Some next_is ∙ sym (ap (λ b. if b then None else Some (body_of x.geometry group x.next_leaf)) (none_is group some)) in
+      = ap Some next_is ∙ sym (ap (λ b. if b then None else Some (body_of x.geometry x.next_version group x.next_leaf)) (none_is group some)) in
       record {
         valid = n.valid;
         layout = n.layout ∙ (λ i. ubers.layout_in (is.layout i) (is.version i));
@@ -92,7 +92,7 @@ module _ {A : Type 0} (area : areas.Ghosts A) (old new : Uber A) (group : ℕ) (
         count = refl;
         stands = record {
           pending = next_of old group ∷ is.stands.pending;
-          are = All-cons (IsPending after) (next_of old group) is.stands.pending (refl, next_is ∙ ap (λ g. body_of x.geometry g x.next_leaf) behind)
+          are = All-cons (IsPending after) (next_of old group) is.stands.pending (refl, next_is ∙ ap (λ g. body_of x.geometry x.next_version g x.next_leaf) behind)
               (All-weaker (IsPending x) (IsPending after) (λ body pending. (refl, pending.1)) is.stands.pending is.stands.are);
           stands = subst (λ kept. StandsTold kept (next_of old group ∷ is.stands.pending) (area.told (area_of new))) is.kept
               (n.stands is.stands.pending (subst (λ kept. StandsTold kept is.stands.pending (area.told (area_of old))) (sym is.kept) is.stands.stands));

@@ -18,7 +18,7 @@ use Rattle.draid_objects.specs.Changes.{write_of}
 use Rattle.draid_shard.specs.States.{part_of}
 use Rattle.draid_shard.specs.declared.shard.Shard.{Shard}
 use Rattle.draid_layouts.specs.Layout.{layout_of}
-use Rattle.draid_session.specs.Follows.{Acts, Follows, HoldsMetaslab}
+use Rattle.draid_session.specs.Follows.{MetaslabActs, Follows, HoldsMetaslab}
 use Rattle.draid_session.specs.Holds.{Act, AreaFailed, Did, Hold, Looked, MadeLeaf, On, OnUber, RackFailed, Reserved, View}
 use Rattle.draid_session.specs.State.{Metaslab, State, Store}
 use Rattle.draid_uber.specs.Slots.{group_of}
@@ -41,6 +41,7 @@ use Rattle.draid_pool.proofs.Lists.{get_set_other, get_set_same, present, some_o
 use Rattle.draid_pool.proofs.Moved.{uber_stays}
 use Rattle.draid_pool.proofs.OwnedKnows.{all, all_own, left_in, points_out, table_in}
 use Rattle.draid_pool.proofs.SyncCalls.{pool_group}
+use Rattle.draid_pool.proofs.Versions.{same_uber_layout}
 
 -- ---- holds that leave groups and arms
 
@@ -83,7 +84,7 @@ step_committed l w v e step leaves = absurd leaves
 world_rests : (x y : Metaslab) → y.world ≡ x.world → KeepsRest x y
 world_rests x y same = record { images = subst (KeepsImages x.world) (sym same) (keeps_same x.world); committed = ap (λ (s : machine.State). s.committed) same }
 
-acts_rest : (l : machine.Layout) (v : View) (act : Act) (x y : Metaslab) → Acts l act x y → IsPlain (On v act) → KeepsRest x y
+acts_rest : (l : machine.Layout) (v : View) (act : Act) (x y : Metaslab) → MetaslabActs l act x y → IsPlain (On v act) → KeepsRest x y
 acts_rest l v Looked x y a plain = world_rests x y a.0.world
 acts_rest l v (Did e w) x y a plain = record {
   images = subst (KeepsImages x.world) (sym a.world) (step_keeps l x.world w e a.legal plain);
@@ -167,8 +168,7 @@ module _ {R A : Type 0} (rack : racks.Ghosts R) (area : areas.Ghosts A) where
           );
       alike = all_kept pool.metaslabs.shards.items new.metaslabs.shards.items kept w.alike;
       uber = subst (λ u. ubers.Valid area.size u) (sym uber) w.uber;
-      uber_layout = ap (λ u. ubers.layout_of u) uber ∙ (w.uber_layout ∙ sym geometry);
-      uber_version = ap (λ u. ubers.version_of u) uber ∙ (w.uber_version ∙ ap (λ (g : Geometry). g.props.version) (sym geometry));
+      uber_layout = same_uber_layout pool.uber new.uber pool.geometry new.geometry uber geometry w.uber_layout;
       objects = λ object pointer at. (let p = by.pointers object pointer at in record { object_is = p.object_is; shard = p.shard; there = p.there; live = p.live });
       floor = floor;
       low = by.low;

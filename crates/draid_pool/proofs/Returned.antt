@@ -30,7 +30,7 @@ use Rattle.draid_pool.specs.Returning.{AllTell, HoldsPool, Rests, RestsOn, Retur
 use Rattle.draid_pool.specs.Metaslabs.{IsMetaslab, harm_of}
 use Rattle.draid_pool.specs.Objects.{HoldsObjects, blocks_of}
 use Rattle.draid_pool.specs.Pools.{Stands, part_in}
-use Rattle.draid_pool.specs.Importable.{AllAlike, HasOneVersion, Shared}
+use Rattle.draid_pool.specs.Importable.{AllAlike, HasPoolVersions, Shared}
 use Rattle.draid_pool.specs.Records.{HasImages, HasLeafNumbers, area_for}
 use Rattle.draid_pool.specs.Ubers.{UberStands, kept_in}
 use Rattle.draid_pool.specs.declared.pool.Pool.{Pool}
@@ -253,7 +253,7 @@ module _ {R A : Type 0} (rack : racks.Ghosts R) (area : areas.Ghosts A) where
     pub images : HasImages x
     pub leaves : HasLeafNumbers x
     pub shared : Shared
-    pub versions : HasOneVersion x.geometry.props.version shared
+    pub versions : HasPoolVersions x.kept_version x.next_version shared
     pub alike : AllAlike shared x
 
   pub stands_parts : (pool : Pool R A) (table : ℕ → Option Pointer) (x : State) → Stands rack area pool table x → Parts pool.metaslabs.shards.items (area.told (area_of pool.uber)) x

@@ -23,7 +23,7 @@ use Rattle.draid_shard.specs.Part.{Part, layout_in}
 use Rattle.draid_shard.specs.States.{part_of}
 use Rattle.draid_shard.specs.declared.shard.Shard.{Shard}
 use Rattle.draid_shard.proofs.Held.{held_entry, key_leads}
-use Rattle.draid_session.specs.Follows.{Acts, Rests}
+use Rattle.draid_session.specs.Follows.{MetaslabActs, HasNoEvent}
 use Rattle.draid_session.specs.Holds.{AreaFailed, Did, Act, Hold, Looked, MadeLeaf, On, RackFailed, Reserved, view_of}
 use Rattle.draid_session.specs.State.{Metaslab}
 use Rattle.draid_pool.specs.Metaslabs.{IsMetaslab}
@@ -34,10 +34,10 @@ use Rattle.draid_pool.proofs.Since.{nothing_more, since_self, since_then}
 
 -- ---- what a shard's call says, it keeps to
 
-rests_since : (l : machine.Layout) (x y : Metaslab) → Rests x y → Since l x y
+rests_since : (l : machine.Layout) (x y : Metaslab) → HasNoEvent x y → Since l x y
 rests_since l x y r = record { opened = r.opened; more = []; stored = r.events ∙ nothing_more x.events; run = r.world }
 
-acts_since : (l : machine.Layout) (act : Act) (x y : Metaslab) → Acts l act x y → Since l x y
+acts_since : (l : machine.Layout) (act : Act) (x y : Metaslab) → MetaslabActs l act x y → Since l x y
 acts_since l Looked x y a = rests_since l x y a.0
 acts_since l (Did e w) x y a = record { opened = a.opened; more = e ∷ []; stored = a.stored; run = (w, a.legal, a.world) }
 acts_since l (Reserved n) x y a = rests_since l x y a.0
@@ -50,8 +50,8 @@ follows_since l m [] x y f = subst (Since l x) (sym f) (since_self l x)
 follows_since l m (hold ∷ holds) x y f = since_then l x f.1 y (acts_since l f.0 x f.1 f.3) (follows_since l m holds f.1 y f.4)
 
 -- one hold alone
-pub acts_one : (l : machine.Layout) (m : ℕ) (act : Act) (x y : Metaslab) → FollowsIn l m (On (view_of m x) act ∷ []) x y → Acts l act x y
-acts_one l m act x y f = subst (λ z. Acts l act x z) (sym f.4) (subst (λ a. Acts l a x f.1) (sym (same act f.0 f.2)) f.3)
+pub acts_one : (l : machine.Layout) (m : ℕ) (act : Act) (x y : Metaslab) → FollowsIn l m (On (view_of m x) act ∷ []) x y → MetaslabActs l act x y
+acts_one l m act x y f = subst (λ z. MetaslabActs l act x z) (sym f.4) (subst (λ a. MetaslabActs l a x f.1) (sym (same act f.0 f.2)) f.3)
   where
     same : (a b : Act) → On (view_of m x) a ≡ On (view_of m x) b → a ≡ b
     same a b e = cc

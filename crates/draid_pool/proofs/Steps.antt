@@ -5,7 +5,7 @@ use Rattle.draid_area.specs.declared.Area as areas
 use Rattle.draid_spec.specs.declared.layout.Geometry.{Geometry}
 use Rattle.draid_perm.specs.declared.perms.Perms.{Perms}
 use Rattle.draid_session.specs.Follows.{Follows, Holds, UberActs}
-use Rattle.draid_session.specs.Holds.{Committed, CommitFailed, CommitStarved, Hold, LookedUber, NextLeaf, On, OnUber, UberAct}
+use Rattle.draid_session.specs.Holds.{AsksVersion, Committed, CommitFailed, CommitStarved, Hold, LookedUber, NextLeaf, On, OnUber, UberAct}
 use Rattle.draid_session.specs.State.{State, Store}
 use Rattle.draid_pool.specs.Carries.{CarriesOut}
 use Rattle.draid_pool.specs.Pools.{Represents}
@@ -27,6 +27,7 @@ by_uber (Committed group) x y is = record { geometry = ap (λ (s : State). s.geo
 by_uber (CommitFailed group) x y is = record { geometry = ap (λ (s : State). s.geometry) is.2; perms = ap (λ (s : State). s.perms) is.2; store = ap (λ (s : State). s.store) is.2 }
 by_uber (CommitStarved group) x y is = record { geometry = ap (λ (s : State). s.geometry) is.2; perms = ap (λ (s : State). s.perms) is.2; store = ap (λ (s : State). s.store) is.2 }
 by_uber (NextLeaf next) x y is = record { geometry = ap (λ (s : State). s.geometry) is; perms = ap (λ (s : State). s.perms) is; store = ap (λ (s : State). s.store) is }
+by_uber (AsksVersion version) x y is = record { geometry = ap (λ (s : State). s.geometry) is; perms = ap (λ (s : State). s.perms) is; store = ap (λ (s : State). s.store) is }
 
 by_hold : (hold : Hold) (x y : State) → Holds hold x y → SameLayout x y
 by_hold (On v act) x y is = record { geometry = ap (λ (s : State). s.geometry) is.made; perms = ap (λ (s : State). s.perms) is.made; store = ap (λ (s : State). s.store) is.made }

@@ -25,7 +25,7 @@ use Rattle.draid_shard.specs.Part.{Part}
 use Rattle.draid_shard.specs.declared.shard.Shard.{Shard}
 use Rattle.draid_session.specs.Opening.{MayFind}
 use Rattle.draid_session.specs.State.{Metaslab, State}
-use Rattle.draid_pool.specs.Importable.{HasOneVersion, IsAlike, Shared, keep_shared}
+use Rattle.draid_pool.specs.Importable.{HasPoolVersions, IsAlike, Shared, keep_shared}
 use Rattle.draid_pool.specs.Metaslabs.{IsMetaslab}
 use Rattle.draid_pool.specs.Objects.{HoldsObjects, IsLastAt, IsPointerOf, PointsTo, blocks_of}
 use Rattle.draid_pool.specs.Pools.{Represents, part_in}
@@ -62,7 +62,7 @@ module _ {R A : Type 0} (rack : racks.Ghosts R) (area : areas.Ghosts A) where
   -- what a pool has besides
   pub record Rest (pool : Pool R A) (shared : Shared) (x : State) : Type 0 where
     pub geometry : x.geometry ≡ pool.geometry
-    pub versions : HasOneVersion x.geometry.props.version shared
+    pub versions : HasPoolVersions x.kept_version x.next_version shared
     pub next : x.store.floor ≤ x.committed + 2
     pub last : x.store.floor ≤ LAST_NUMBER
     pub seq : x.store.seq ≡ pool.own.seq

@@ -49,10 +49,10 @@ end_same sync.Shelf = refl
 end_same sync.NoMemory = refl
 
 -- the committed group of a state
-group_from : (n next_leaf : ℕ) (geometry : Geometry) → group_of (if n == 0 then None else Some (body_of geometry n next_leaf)) ≡ n
-group_from n next_leaf geometry = elim (bool_cases (n == 0)) [
-  | inl none ↦ ap (λ b. group_of (if b then None else Some (body_of geometry n next_leaf))) none ∙ sym (is_equal n 0 none)
-  | inr other ↦ ap (λ b. group_of (if b then None else Some (body_of geometry n next_leaf))) other
+group_from : (n version next_leaf : ℕ) (geometry : Geometry) → group_of (if n == 0 then None else Some (body_of geometry version n next_leaf)) ≡ n
+group_from n version next_leaf geometry = elim (bool_cases (n == 0)) [
+  | inl none ↦ ap (λ b. group_of (if b then None else Some (body_of geometry version n next_leaf))) none ∙ sym (is_equal n 0 none)
+  | inr other ↦ ap (λ b. group_of (if b then None else Some (body_of geometry version n next_leaf))) other
 ]
 
 -- what a phase says of the layout and its permutations
@@ -61,7 +61,7 @@ Says = Geometry → Perms → List Hold → End → Type 0
 
 module _ {R A : Type 0} (rack : racks.Ghosts R) (area : areas.Ghosts A) where
   pub pool_group : (pool : Pool R A) (x : State) → Represents rack area pool x → group_of (kept_of pool.uber) ≡ x.committed
-  pool_group pool x r = ap group_of r.stands.uber.kept ∙ group_from x.committed x.kept_leaf x.geometry
+  pool_group pool x r = ap group_of r.stands.uber.kept ∙ group_from x.committed x.kept_version x.kept_leaf x.geometry
 
   -- ---- phases, one after another
 
@@ -283,7 +283,7 @@ module _ {R A : Type 0} (rack : racks.Ghosts R) (area : areas.Ghosts A) where
   stops_do x sync.Worn holds store same stops = (same, stops)
   stops_do x sync.Last holds store same stops = (same, stops)
   stops_do x sync.Shelf holds store same stops = (same, stops)
-  stops_do x sync.NoMemory holds store same stops = (same, inl stops)
+  stops_do x sync.NoMemory holds store same stops = (same, stops)
 
   pub sync_unfinished : (new : Pool R A) (x : State) (why : SyncFault) → CarriesOut rack area new x (Phase x (groups.Finishes x.geometry x.perms) (end_of {T = Unit} (Err why)))
       → CarriesOut rack area new x (SyncDoes x (Err why))
@@ -389,10 +389,4 @@ module _ {R A : Type 0} (rack : racks.Ghosts R) (area : areas.Ghosts A) where
   export_stops pool new x sync.Worn r found d = export_with pool new x sync.Worn WasWorn d r found
   export_stops pool new x sync.Last r found d = export_with pool new x sync.Last WasLast d r found
   export_stops pool new x sync.Shelf r found d = export_with pool new x sync.Shelf Broke d r found
-  export_stops pool new x sync.NoMemory r found d = elim d.done.1 [
-    | inl stops ↦
-        let z = export_with pool new x sync.NoMemory Starved
-        (record { holds = d.holds; reached = d.reached; store = d.store; follows = d.follows; done = (d.done.0, stops); represents = d.represents }) r found in
-        record { holds = z.holds; reached = z.reached; store = z.store; follows = z.follows; done = (z.done.0, inl z.done.1); represents = z.represents }
-    | inr looks ↦ record { holds = d.holds; reached = d.reached; store = d.store; follows = d.follows; done = (d.done.0, inr looks); represents = d.represents }
-  ]
+  export_stops pool new x sync.NoMemory r found d = export_with pool new x sync.NoMemory Starved d r found

@@ -40,7 +40,7 @@ use Rattle.draid_pool.specs.declared.fault.SealFault.{SealFault}
 use Rattle.draid_pool.specs.declared.fault.SealFault.TheVariants as seal
 use Rattle.draid_shard.specs.declared.shard.Shard.{Shard}
 use Rattle.draid_shard.proofs.Standing.{has_layout}
-use Rattle.draid_session.specs.Follows.{CountsRise, Rests, area_count}
+use Rattle.draid_session.specs.Follows.{CountsRise, HasNoEvent, area_count}
 use Rattle.draid_session.specs.Groups as groups
 use Rattle.draid_session.specs.Holds.{AreaFailed, Did, Hold, Looked, On, view_of}
 use Rattle.draid_session.specs.State.{Metaslab}
@@ -312,7 +312,7 @@ module _ {R A : Type 0} (rack : racks.Ghosts R) (area : areas.Ghosts A) where
       records = old_record;
     }
 
-    rests_on : (why : SealFault) → Unsealed rack area.faults old new group why → Rests x reached
+    rests_on : (why : SealFault) → Unsealed rack area.faults old new group why → HasNoEvent x reached
     unfolding reached
     rests_on why u = record {
       opened = refl;

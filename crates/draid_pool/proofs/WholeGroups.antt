@@ -30,6 +30,7 @@ use Rattle.draid_pool.specs.declared.pool.Pool.{Pool}
 use Rattle.draid_pool.proofs.Arms.{leaf_left, share_left}
 use Rattle.draid_pool.proofs.Lists.{present, some_of}
 use Rattle.draid_pool.proofs.Naming.{Names, Refuses}
+use Rattle.draid_pool.proofs.Versions.{layout_again}
 
 module _ {R A : Type 0} (rack : racks.Ghosts R) (area : areas.Ghosts A) where
   -- a pool has a metaslab
@@ -106,8 +107,7 @@ module _ {R A : Type 0} (rack : racks.Ghosts R) (area : areas.Ghosts A) where
     });
     alike = λ m k a b at here. w.alike m k a b (sym (ap (λ zs. slice_get zs m) shards) ∙ at) (sym (ap (λ zs. slice_get zs k) shards) ∙ here);
     uber = n.valid;
-    uber_layout = n.layout ∙ (w.uber_layout ∙ sym geometry);
-    uber_version = n.version ∙ (w.uber_version ∙ ap (λ (g : Geometry). g.props.version) (sym geometry));
+    uber_layout = layout_again (ubers.layout_of pool.uber) (ubers.layout_of new.uber) pool.geometry new.geometry n.layout geometry w.uber_layout;
     objects = λ o q at. (let of = w.objects o q (sym (ap (λ os. get nat_eq os o) objects) ∙ at) in
         record { object_is = of.object_is; shard = of.shard; there = ap (λ zs. slice_get zs q.metaslab) shards ∙ of.there; live = of.live });
     floor = (let fits = w.floor in let same = ap group_of n.kept in omega (arith, fits, same, floor));
@@ -131,8 +131,7 @@ module _ {R A : Type 0} (rack : racks.Ghosts R) (area : areas.Ghosts A) where
     shards = each;
     alike = alike;
     uber = n.valid;
-    uber_layout = n.layout ∙ ((λ i. ubers.layout_in (w.uber_layout i) (w.uber_version i)) ∙ sym geometry);
-    uber_version = n.version ∙ (w.uber_version ∙ ap (λ (g : Geometry). g.props.version) (sym geometry));
+    uber_layout = layout_again (ubers.layout_in (ubers.layout_of pool.uber) (ubers.version_of pool.uber)) (ubers.layout_of new.uber) pool.geometry new.geometry n.layout geometry w.uber_layout;
     objects = λ o q at. pointer o q (w.objects o q (sym (ap (λ os. get nat_eq os o) objects) ∙ at));
     floor = (let fits = w.floor in omega (arith, fits, named, next, floor));
     low = (let low = w.low in omega (arith, low, floor));

@@ -42,6 +42,7 @@ use Rattle.draid_pool.proofs.Arms.{Kept, all_kept, leaf_kept}
 use Rattle.draid_pool.proofs.Lists.{get_set_other, get_set_same, some_of}
 use Rattle.std.proofs.lemmas.Bool.Decides.{nat_tests}
 use Rattle.draid_pool.specs.Pointers.{SamePointers}
+use Rattle.draid_pool.proofs.Versions.{same_uber_layout}
 
 -- a place of a table that was set, and another
 pub put_here : (new old : Option Pointer) (object q : ℕ) (x : Option Pointer) → new ≡ cond (nat_eq object q) x old → object ≡ q → new ≡ x
@@ -146,8 +147,7 @@ module _ {R A : Type 0} (rack : racks.Ghosts R) (area : areas.Ghosts A) where
     shards = each;
     alike = all_kept pool.metaslabs.shards.items new.metaslabs.shards.items kept w.alike;
     uber = subst (ubers.Valid area.size) (sym r.uber) w.uber;
-    uber_layout = ap (λ u. ubers.layout_of u) r.uber ∙ (w.uber_layout ∙ sym r.geometry);
-    uber_version = ap (λ u. ubers.version_of u) r.uber ∙ (w.uber_version ∙ ap (λ (g : Geometry). g.props.version) (sym r.geometry));
+    uber_layout = same_uber_layout pool.uber new.uber pool.geometry new.geometry r.uber r.geometry w.uber_layout;
     objects = objects;
     floor = subst (λ u. new.own.floor ≤ group_of (kept_of u) + 2) (sym r.uber) floor;
     low = low;
@@ -238,8 +238,7 @@ module _ {R A : Type 0} (rack : racks.Ghosts R) (area : areas.Ghosts A) where
     shards = λ k z there. same_shard w.perms pool new k z (w.shards k z (sym (ap (λ zs. slice_get zs k) shards) ∙ there)) geometry uber (omega (arith, seq));
     alike = λ m n a b at here. w.alike m n a b (sym (ap (λ zs. slice_get zs m) shards) ∙ at) (sym (ap (λ zs. slice_get zs n) shards) ∙ here);
     uber = subst (ubers.Valid area.size) (sym uber) w.uber;
-    uber_layout = ap (λ u. ubers.layout_of u) uber ∙ (w.uber_layout ∙ sym geometry);
-    uber_version = ap (λ u. ubers.version_of u) uber ∙ (w.uber_version ∙ ap (λ (g : Geometry). g.props.version) (sym geometry));
+    uber_layout = same_uber_layout pool.uber new.uber pool.geometry new.geometry uber geometry w.uber_layout;
     objects = λ o q at. (let of = objects o q at in record { object_is = of.object_is; shard = of.shard; there = ap (λ zs. slice_get zs q.metaslab) shards ∙ of.there; live = of.live });
     floor = subst (λ u. new.own.floor ≤ group_of (kept_of u) + 2) (sym uber) (let fits = w.floor in omega (arith, fits, floor));
     low = (let low = w.low in omega (arith, low, floor));

@@ -11,13 +11,13 @@ use Rattle.draid_machine.specs.State as machine
 use Rattle.draid_shelf.specs.Kits.{Held}
 use Rattle.draid_stable.specs.Stable as stable
 use Rattle.draid_pool.specs.Groups.{ListsOnce}
-use Rattle.draid_session.specs.Opening.{MayFind}
+use Rattle.draid_session.specs.Opening.{MayFind, VersionIn}
 use Rattle.draid_session.specs.State.{Metaslab, State}
 
--- Each metaslab has committed the group that the uberblock has, or a later one where the first commit was refused; its images have the version of the layout.
+-- Each metaslab has committed the group that the uberblock has, or a later one where the first commit was refused; its images have the version that is found with their group.
 pub record IsFindable (x : State) : Type 0 where
   pub committed : (m : ℕ) (y : Metaslab) → slice_get x.metaslabs m ≡ Some y → x.committed ≤ y.world.committed
-  pub versions : (m : ℕ) (y : Metaslab) (image : machine.Image) → slice_get x.metaslabs m ≡ Some y → IsImage y.world image → image.version ≡ x.geometry.props.version
+  pub versions : (m : ℕ) (y : Metaslab) (image : machine.Image) → slice_get x.metaslabs m ≡ Some y → IsImage y.world image → VersionIn x image.group image.version
 
 -- an arm without what passes make good
 abbrev pub bare : machine.Arm → machine.Arm
@@ -39,10 +39,10 @@ pub record Shared : Type 0 where
 abbrev pub keep_shared : Shared → Shared
 keep_shared shared = record shared { kept_version = shared.version; kept_arms = shared.arms }
 
--- both versions are this one
-pub record HasOneVersion (version : ℕ) (shared : Shared) : Type 0 where
-  pub kept : shared.kept_version ≡ version
-  pub now : shared.version ≡ version
+-- the versions that all metaslabs have in common are these: that of the committed group, and that of the next
+pub record HasPoolVersions (kept_version next_version : ℕ) (shared : Shared) : Type 0 where
+  pub kept : shared.kept_version ≡ kept_version
+  pub now : shared.version ≡ next_version
 
 -- the committed image of a metaslab has the version that is kept; a sealed image has that of now, and so will the next one
 pub record HasVersions (shared : Shared) (w : machine.State) : Type 0 where

@@ -13,7 +13,7 @@ use Rattle.draid_objects.specs.Changes.{write_of}
 use Rattle.draid_shard.specs.Part.{Part}
 use Rattle.draid_shard.specs.declared.shard.Shard.{Shard}
 use Rattle.draid_session.specs.State.{Metaslab, State}
-use Rattle.draid_pool.specs.Importable.{AllAlike, HasOneVersion, Shared}
+use Rattle.draid_pool.specs.Importable.{AllAlike, HasPoolVersions, Shared}
 use Rattle.draid_pool.specs.Metaslabs.{IsMetaslab}
 use Rattle.draid_pool.specs.Records.{HasImages, HasLeafNumbers}
 use Rattle.draid_pool.specs.Ubers.{IsUber}
@@ -29,7 +29,7 @@ part_in x m = record { geometry = x.geometry; perms = x.perms; number = m }
 
 -- The pool has one shard for each metaslab of its layout, which stands for it. The metaslabs hold what befell the objects; the table has the pointer of each object
 -- that has bytes; the number of the last write and the floor are the pool's. The uberblock names a group of which each metaslab has the record. All
--- metaslabs have the layout's version, and the same arms: in the committed group, and now.
+-- metaslabs have the pool's version, and the same arms: in the committed group, and now.
 pub record Stands {R A : Type 0} (rack : racks.Ghosts R) (area : areas.Ghosts A) (pool : Pool R A) (table : ℕ → Option Pointer) (x : State) : Type 0 where
   pub geometry : x.geometry ≡ pool.geometry
   pub layout : IsLayout x.geometry x.perms
@@ -47,7 +47,7 @@ pub record Stands {R A : Type 0} (rack : racks.Ghosts R) (area : areas.Ghosts A)
   pub images : HasImages x
   pub leaves : HasLeafNumbers x
   pub shared : Shared
-  pub versions : HasOneVersion x.geometry.props.version shared
+  pub versions : HasPoolVersions x.kept_version x.next_version shared
   pub alike : AllAlike shared x
 
 -- and each live block is that of its object's last write

@@ -17,7 +17,7 @@ use Rattle.draid_shard.specs.Rooms.{TakesBlocks}
 use Rattle.draid_shard.specs.Part.{Part, layout_in}
 use Rattle.draid_shard.specs.States.{layout_by}
 use Rattle.draid_shard.specs.declared.shard.Shard.{Shard}
-use Rattle.draid_session.specs.Follows.{Acts}
+use Rattle.draid_session.specs.Follows.{MetaslabActs}
 use Rattle.draid_session.specs.Holds.{Act, Did, Hold, On, view_of}
 use Rattle.draid_session.specs.State.{Metaslab}
 use Rattle.draid_pool.specs.Importable.{SameArms}
@@ -27,7 +27,7 @@ use Rattle.draid_pool.specs.Metaslabs.{IsMetaslab}
 abbrev pub FollowsIn : machine.Layout → ℕ → List Hold → Metaslab → Metaslab → Type 0
 FollowsIn l m [] x y = y ≡ x
 FollowsIn l m (hold ∷ holds) x y =
-    (act : Act) × (mid : Metaslab) × (hold ≡ On (view_of m x) act) × Acts l act x mid × FollowsIn l m holds mid y
+    (act : Act) × (mid : Metaslab) × (hold ≡ On (view_of m x) act) × MetaslabActs l act x mid × FollowsIn l m holds mid y
 
 -- the images are as they were, and so are the arms and the version of the next image; no leaf is an arm that wasn't one
 pub record KeepsImages (old new : machine.State) : Type 0 where

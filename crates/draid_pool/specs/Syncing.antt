@@ -8,7 +8,7 @@ use Rattle.draid_machine.specs.State as machine
 use Rattle.draid_segments.specs.Segments.{Pieces}
 use Rattle.draid_entries.specs.Entries.{SameEntries}
 use Rattle.draid_slots.specs.Changes.{Commits as CommitsSlots}
-use Rattle.draid_session.specs.Follows.{Acts}
+use Rattle.draid_session.specs.Follows.{MetaslabActs}
 use Rattle.draid_session.specs.Groups as groups
 use Rattle.draid_session.specs.Holds.{Act, Hold, On, view_of}
 use Rattle.draid_session.specs.Phases.{End, Went, WasWorn, WasLast, Starved, Broke}
@@ -68,7 +68,7 @@ AreIdle {R = R} {A = A} shards = (m : ℕ) (shard : Shard R A) → slice_get sha
 pub record Turns {R A : Type 0} (rack : racks.Ghosts R) (area : areas.Ghosts A) (part : Part) (pieces : Pieces) (x : Metaslab) (new : Shard R A) (does : Hold → Metaslab → Type 0) : Type 0 where
   pub act : Act
   pub reached : Metaslab
-  pub acts : Acts (layout_in part) act x reached
+  pub acts : MetaslabActs (layout_in part) act x reached
   pub done : does (On (view_of part.number x) act) reached
   pub is : IsMetaslab rack area part pieces new reached
 
@@ -138,7 +138,7 @@ SyncDoes x (Ok it) holds new = (new ≡ x.store) × groups.Syncs x.geometry x.pe
 SyncDoes x (Err sync.Worn) holds new = (new ≡ x.store) × groups.SyncStops x.geometry x.perms holds WasWorn
 SyncDoes x (Err sync.Last) holds new = (new ≡ x.store) × groups.SyncStops x.geometry x.perms holds WasLast
 SyncDoes x (Err sync.Shelf) holds new = (new ≡ x.store) × groups.SyncStops x.geometry x.perms holds Broke
-SyncDoes x (Err sync.NoMemory) holds new = (new ≡ x.store) × groups.SyncStarves x.geometry x.perms holds
+SyncDoes x (Err sync.NoMemory) holds new = (new ≡ x.store) × groups.SyncStops x.geometry x.perms holds Starved
 
 -- what an export does before the pool is given back, and why it was stopped; the answer is the committed group
 abbrev pub ExportDoes : State → Result ℕ SyncFault → List Hold → Store → Type 0
@@ -146,4 +146,4 @@ ExportDoes x (Ok group) holds new = (new ≡ x.store) × groups.Exports x.geomet
 ExportDoes x (Err sync.Worn) holds new = (new ≡ x.store) × groups.ExportStops x.geometry x.perms holds WasWorn
 ExportDoes x (Err sync.Last) holds new = (new ≡ x.store) × groups.ExportStops x.geometry x.perms holds WasLast
 ExportDoes x (Err sync.Shelf) holds new = (new ≡ x.store) × groups.ExportStops x.geometry x.perms holds Broke
-ExportDoes x (Err sync.NoMemory) holds new = (new ≡ x.store) × groups.ExportStarves x.geometry x.perms holds
+ExportDoes x (Err sync.NoMemory) holds new = (new ≡ x.store) × groups.ExportStops x.geometry x.perms holds Starved

@@ -7,19 +7,20 @@ use Rattle.draid_spec.specs.declared.layout.Geometry.{Geometry}
 use Rattle.draid_uber.specs.declared.uber.Uber.{Uber}
 use Rattle.draid_uber.specs.Slots.{StandsTold}
 use Rattle.draid_uber.specs.Uber.{Valid, area_of, kept_of, layout_of, next_leaf_of, version_of}
+use Rattle.draid_session.specs.Opening.{layout_at_version}
 use Rattle.draid_session.specs.State.{State}
 
--- what a commit of a group writes, for a pool of this layout and with this number of the next leaf
-abbrev pub body_of : Geometry → ℕ → ℕ → UberBody
-body_of geometry group next_leaf = record { group = group; spec = geometry.spec; props = geometry.props; next_leaf = next_leaf }
+-- what a commit of a group writes, for a pool of this layout, at this version and with this number of the next leaf
+abbrev pub body_of : Geometry → ℕ → ℕ → ℕ → UberBody
+body_of geometry version group next_leaf = record { group = group; spec = geometry.spec; props = record geometry.props { version = version }; next_leaf = next_leaf }
 
 -- what the committed group wrote; before the first there is none
 abbrev pub kept_in : State → Option UberBody
-kept_in x = if x.committed == 0 then None else Some (body_of x.geometry x.committed x.kept_leaf)
+kept_in x = if x.committed == 0 then None else Some (body_of x.geometry x.kept_version x.committed x.kept_leaf)
 
 -- what a refused commit of the next group may have left
 abbrev pub IsPending : State → UberBody → Type 0
-IsPending x body = (x.pending ≡ true) × (body ≡ body_of x.geometry (x.committed + 1) x.next_leaf)
+IsPending x body = (x.pending ≡ true) × (body ≡ body_of x.geometry x.next_version (x.committed + 1) x.next_leaf)
 
 -- Whatever a crash leaves of an area, an import finds the committed group there, or one of which a commit was refused.
 pub record UberStands (x : State) (told : Option Content) : Type 0 where
@@ -30,8 +31,8 @@ pub record UberStands (x : State) (told : Option Content) : Type 0 where
 -- the uberblock of an open pool
 pub record IsUber {A : Type 0} (area : areas.Ghosts A) (uber : Uber A) (x : State) : Type 0 where
   pub valid : Valid area.size uber
-  pub layout : layout_of uber ≡ x.geometry
-  pub version : version_of uber ≡ x.geometry.props.version
+  pub layout : layout_of uber ≡ layout_at_version x.kept_version x.geometry
+  pub version : version_of uber ≡ x.next_version
   pub kept : kept_of uber ≡ kept_in x
   pub next_leaf : next_leaf_of uber ≡ x.next_leaf
   pub count : x.uber_count ≡ area.faults (area_of uber)

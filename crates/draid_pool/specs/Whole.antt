@@ -38,6 +38,7 @@ pub record IsPointer {R A : Type 0} (pool : Pool R A) (object : ℕ) (pointer : 
   pub live : IsLive shard pointer
 
 -- What each call needs and keeps. A pool is whole also where nothing is known of what its devices held as it was imported. All its metaslabs have the same arms.
+-- But for its version its uberblock has the pool's layout.
 pub record IsWhole {R A : Type 0} (rack : racks.Ghosts R) (area : areas.Ghosts A) (pool : Pool R A) : Type 0 where
   pub perms : Perms
   pub layout : IsLayout pool.geometry perms
@@ -45,8 +46,7 @@ pub record IsWhole {R A : Type 0} (rack : racks.Ghosts R) (area : areas.Ghosts A
   pub shards : (m : ℕ) (shard : Shard R A) → slice_get pool.metaslabs.shards.items m ≡ Some shard → IsShardOf rack perms pool m shard
   pub alike : (m n : ℕ) (a b : Shard R A) → slice_get pool.metaslabs.shards.items m ≡ Some a → slice_get pool.metaslabs.shards.items n ≡ Some b → ShareArms a.slots b.slots
   pub uber : ubers.Valid area.size pool.uber
-  pub uber_layout : ubers.layout_of pool.uber ≡ pool.geometry
-  pub uber_version : ubers.version_of pool.uber ≡ pool.geometry.props.version
+  pub uber_layout : ubers.layout_in (ubers.layout_of pool.uber) pool.geometry.props.version ≡ pool.geometry
   pub objects : (object : ℕ) (pointer : Pointer) → get nat_eq pool.own.objects object ≡ Some pointer → IsPointer pool object pointer
   pub floor : pool.own.floor ≤ group_of (ubers.kept_of pool.uber) + 2
   pub low : pool.own.floor ≤ LAST_NUMBER

@@ -2,7 +2,7 @@
 use Rattle.std.proofs.Common.{[], ◌≡◌, IfOk, ℕ, List, Option, Some, None, Result, Ok, Err, ap, refl, sym, subst, Vec, Global}
 use Rattle.draid_rack.specs.declared.Rack as racks
 use Rattle.draid_area.specs.declared.Area as areas
-use Rattle.draid_script.specs.Line.{Command, CreatePool, ReadObject, FreeObject, SumObjects, TakeOffline, TakeOnline, DamageSector, ShowStatus, command_in}
+use Rattle.draid_script.specs.Line.{Command, CreatePool, ReadObject, FreeObject, SumObjects, TakeOffline, TakeOnline, DamageSector, ShowStatus, UpgradePool, command_in}
 use Rattle.draid_script.specs.declared.line.Line.{Line}
 use Rattle.draid_script.specs.declared.line.Line.TheVariants as variant
 use Rattle.draid_script.specs.declared.line.PoolKeys.{PoolKeys}
@@ -19,6 +19,7 @@ use Rattle.draid_run.specs.Desks.{AnswerDoes, IsDesk, Turned, asked_in}
 use Rattle.draid_run.specs.Making.{CreateIs}
 use Rattle.draid_names.specs.declared.fault.Failed.{Failed}
 use Rattle.draid_changes.specs.Says.{OfflineSays, OnlineSays}
+use Rattle.draid_changes.specs.UpgradeSays.{UpgradeSays}
 use Rattle.draid_store.specs.Says.{DamageSays, FreeSays, ReadSays, SumSays}
 use Rattle.draid_status.specs.Says.{StatusSays}
 use Rattle.draid_run.specs.Script.{IsUnbuilt}
@@ -26,7 +27,7 @@ use Rattle.draid_run.specs.Serve.{AnswerIs, AskIs, IsSaid}
 use Rattle.draid_run.specs.Shelves.{MayFind, OnShelf}
 use Rattle.draid_run.specs.declared.answer.Stop.{Stop}
 use Rattle.draid_run.specs.declared.answer.Stop.TheVariants as stop
-use Rattle.draid_run.proofs.Said.{damage_does, free_does, offline_does, online_does, read_does, status_does, sum_does}
+use Rattle.draid_run.proofs.Said.{damage_does, free_does, offline_does, online_does, read_does, status_does, sum_does, upgrade_does}
 use Rattle.draid_run.proofs.Steps.{ask_breaks, by_ask, by_create}
 
 module _ {R A : Type 0} (rack : racks.Ghosts R) (area : areas.Ghosts A) (choices : Choices) (entry now : OnShelf) (pool : Option (Pool R A)) (x : Desk) (is : IsDesk rack area entry now pool x) (command : Command)
@@ -76,36 +77,37 @@ pub asks_nothing : (line : Line) → ((object : ℕ) (bytes : Vec ℕ Global) �
     → ((leaf : ℕ) → line ≡ variant.Online leaf → ⊥)
     → ((leaf : ℕ) (sector : ℕ) → line ≡ variant.Damage leaf sector → ⊥)
     → ((form : StatusFormat) → line ≡ variant.Status form → ⊥)
+    → (line ≡ variant.Upgrade → ⊥)
     → asked_in (command_in line) ≡ None
-asks_nothing variant.Nothing write fill read free sum offline online damage status = refl
-asks_nothing (variant.Create spec children keys) write fill read free sum offline online damage status = refl
-asks_nothing variant.Import write fill read free sum offline online damage status = refl
-asks_nothing variant.Export write fill read free sum offline online damage status = refl
-asks_nothing variant.Sync write fill read free sum offline online damage status = refl
-asks_nothing variant.Cancel write fill read free sum offline online damage status = refl
-asks_nothing variant.Crash write fill read free sum offline online damage status = refl
-asks_nothing (variant.Write object bytes) write fill read free sum offline online damage status = absurd (write object bytes refl)
-asks_nothing (variant.Fill first count len seed) write fill read free sum offline online damage status = absurd (fill first count len seed refl)
-asks_nothing (variant.Read object) write fill read free sum offline online damage status = absurd (read object refl)
-asks_nothing (variant.Free object) write fill read free sum offline online damage status = absurd (free object refl)
-asks_nothing (variant.Sum first count) write fill read free sum offline online damage status = absurd (sum first count refl)
-asks_nothing (variant.Offline leaf) write fill read free sum offline online damage status = absurd (offline leaf refl)
-asks_nothing (variant.Online leaf) write fill read free sum offline online damage status = absurd (online leaf refl)
-asks_nothing (variant.Damage leaf sector) write fill read free sum offline online damage status = absurd (damage leaf sector refl)
-asks_nothing (variant.Spare slot spare) write fill read free sum offline online damage status = refl
-asks_nothing (variant.Replace slot sectors) write fill read free sum offline online damage status = refl
-asks_nothing (variant.Detach arm) write fill read free sum offline online damage status = refl
-asks_nothing (variant.Rebuild limit) write fill read free sum offline online damage status = refl
-asks_nothing (variant.Scrub limit) write fill read free sum offline online damage status = refl
-asks_nothing (variant.Rebalance slot) write fill read free sum offline online damage status = refl
-asks_nothing (variant.Status form) write fill read free sum offline online damage status = absurd (status form refl)
-asks_nothing (variant.Lanes count) write fill read free sum offline online damage status = refl
-asks_nothing variant.Upgrade write fill read free sum offline online damage status = refl
-asks_nothing (variant.Agent least) write fill read free sum offline online damage status = refl
-asks_nothing variant.AgentLog write fill read free sum offline online damage status = refl
-asks_nothing variant.Checkpoint write fill read free sum offline online damage status = refl
-asks_nothing variant.Rewind write fill read free sum offline online damage status = refl
-asks_nothing variant.Discard write fill read free sum offline online damage status = refl
+asks_nothing variant.Nothing write fill read free sum offline online damage status upgrade = refl
+asks_nothing (variant.Create spec children keys) write fill read free sum offline online damage status upgrade = refl
+asks_nothing variant.Import write fill read free sum offline online damage status upgrade = refl
+asks_nothing variant.Export write fill read free sum offline online damage status upgrade = refl
+asks_nothing variant.Sync write fill read free sum offline online damage status upgrade = refl
+asks_nothing variant.Cancel write fill read free sum offline online damage status upgrade = refl
+asks_nothing variant.Crash write fill read free sum offline online damage status upgrade = refl
+asks_nothing (variant.Write object bytes) write fill read free sum offline online damage status upgrade = absurd (write object bytes refl)
+asks_nothing (variant.Fill first count len seed) write fill read free sum offline online damage status upgrade = absurd (fill first count len seed refl)
+asks_nothing (variant.Read object) write fill read free sum offline online damage status upgrade = absurd (read object refl)
+asks_nothing (variant.Free object) write fill read free sum offline online damage status upgrade = absurd (free object refl)
+asks_nothing (variant.Sum first count) write fill read free sum offline online damage status upgrade = absurd (sum first count refl)
+asks_nothing (variant.Offline leaf) write fill read free sum offline online damage status upgrade = absurd (offline leaf refl)
+asks_nothing (variant.Online leaf) write fill read free sum offline online damage status upgrade = absurd (online leaf refl)
+asks_nothing (variant.Damage leaf sector) write fill read free sum offline online damage status upgrade = absurd (damage leaf sector refl)
+asks_nothing (variant.Spare slot spare) write fill read free sum offline online damage status upgrade = refl
+asks_nothing (variant.Replace slot sectors) write fill read free sum offline online damage status upgrade = refl
+asks_nothing (variant.Detach arm) write fill read free sum offline online damage status upgrade = refl
+asks_nothing (variant.Rebuild limit) write fill read free sum offline online damage status upgrade = refl
+asks_nothing (variant.Scrub limit) write fill read free sum offline online damage status upgrade = refl
+asks_nothing (variant.Rebalance slot) write fill read free sum offline online damage status upgrade = refl
+asks_nothing (variant.Status form) write fill read free sum offline online damage status upgrade = absurd (status form refl)
+asks_nothing (variant.Lanes count) write fill read free sum offline online damage status upgrade = refl
+asks_nothing variant.Upgrade write fill read free sum offline online damage status upgrade = absurd (upgrade refl)
+asks_nothing (variant.Agent least) write fill read free sum offline online damage status upgrade = refl
+asks_nothing variant.AgentLog write fill read free sum offline online damage status upgrade = refl
+asks_nothing variant.Checkpoint write fill read free sum offline online damage status upgrade = refl
+asks_nothing variant.Rewind write fill read free sum offline online damage status upgrade = refl
+asks_nothing variant.Discard write fill read free sum offline online damage status upgrade = refl
 
 -- and nothing of the shelf: its command is beyond what is built
 pub is_unbuilt : (line : Line) → (line ≡ variant.Nothing → ⊥)
@@ -138,7 +140,7 @@ is_unbuilt (variant.Scrub limit) nothing create opens export sync crash none = t
 is_unbuilt (variant.Rebalance slot) nothing create opens export sync crash none = tt
 is_unbuilt (variant.Status form) nothing create opens export sync crash none = absurd (cc none)
 is_unbuilt (variant.Lanes count) nothing create opens export sync crash none = tt
-is_unbuilt variant.Upgrade nothing create opens export sync crash none = tt
+is_unbuilt variant.Upgrade nothing create opens export sync crash none = absurd (cc none)
 is_unbuilt (variant.Agent least) nothing create opens export sync crash none = tt
 is_unbuilt variant.AgentLog nothing create opens export sync crash none = tt
 is_unbuilt variant.Checkpoint nothing create opens export sync crash none = tt
@@ -164,6 +166,9 @@ module _ {R A : Type 0} (rack : racks.Ghosts R) (area : areas.Ghosts A) (choices
 
   pub replied_online : (leaf : ℕ) (said : Result Reply Failed) → line ≡ variant.Online leaf → CarriesOut rack area pool x (OnlineSays leaf said x) → CarriesOut rack area pool x (AnswerDoes x choices (command_in line) said)
   replied_online leaf said is c = carried (TakeOnline leaf) (OnlineSays leaf said x) said (ap command_in is) (λ holds store. online_does x choices said holds store leaf) c
+
+  pub replied_upgrade : (said : Result Reply Failed) → line ≡ variant.Upgrade → CarriesOut rack area pool x (UpgradeSays said x) → CarriesOut rack area pool x (AnswerDoes x choices (command_in line) said)
+  replied_upgrade said is c = carried UpgradePool (UpgradeSays said x) said (ap command_in is) (λ holds store. upgrade_does x choices said holds store) c
 
 module _ {R A : Type 0} (rack : racks.Ghosts R) (area : areas.Ghosts A) (choices : Choices) (line : Line) (x : State) (pool : Pool R A) (reply : Reply) where
   replied_by : (command : Command) (says : List Hold → Store → Type 0) → command_in line ≡ command → ((holds : List Hold) (store : Store) → says holds store → ReplyDoes x choices command reply holds store)

@@ -9,7 +9,7 @@ use Rattle.draid_script.specs.Line.{Command}
 use Rattle.draid_session.specs.Certain.{HasFailed, MakesLeaves}
 use Rattle.draid_session.specs.Does.{Broken}
 use Rattle.draid_session.specs.Follows.{Follows, Holds, HoldsMetaslab, UberActs, area_count}
-use Rattle.draid_session.specs.Holds.{Act, AreaFailed, Committed, CommitFailed, CommitStarved, Did, Hold, Looked, LookedUber, MadeLeaf, NextLeaf, On, OnUber, RackFailed, Reserved, UberAct, View}
+use Rattle.draid_session.specs.Holds.{Act, AreaFailed, AsksVersion, Committed, CommitFailed, CommitStarved, Did, Hold, Looked, LookedUber, MadeLeaf, NextLeaf, On, OnUber, RackFailed, Reserved, UberAct, View}
 use Rattle.draid_session.specs.State.{Counts, Metaslab, State, Store}
 use Rattle.draid_session.proofs.Failed.{breaks_failed}
 use Rattle.draid_session.proofs.Lists.{get_set_other, get_set_same, some_of}
@@ -80,6 +80,7 @@ uber_later (Committed group) x z it = subst (IsLater x) (sym it.2) (record { eac
 uber_later (CommitFailed group) x z it = subst (IsLater x) (sym it.2) (record { each = (later_none x).each; uber = (let rose = it.1 in omega (arith, rose)) })
 uber_later (CommitStarved group) x z it = subst (IsLater x) (sym it.2) (record { each = (later_none x).each; uber = (let more = it.1 in omega (arith, more)) })
 uber_later (NextLeaf next) x z it = subst (IsLater x) (sym it) (record { each = (later_none x).each; uber = omega arith })
+uber_later (AsksVersion version) x z it = subst (IsLater x) (sym it) (record { each = (later_none x).each; uber = omega arith })
 
 hold_later : (hold : Hold) (x z : State) → Holds hold x z → IsLater x z
 hold_later (On v act) x z it = act_later v x z act it

@@ -1,5 +1,5 @@
 -- What a sync, an export and a crash did, in the words of a session.
-use Rattle.std.proofs.Common.{◌≡◌, ◌∙◌, ◌⊎◌, inl, inr, refl, sym, ap, subst, ℕ, true, false, List, [], Option, Some, None, Result, Ok, Err}
+use Rattle.std.proofs.Common.{◌≡◌, ◌∙◌, ◌⊎◌, inl, refl, sym, ap, subst, ℕ, true, false, List, [], Option, Some, None, Result, Ok, Err}
 use Rattle.draid_rack.specs.declared.Rack as racks
 use Rattle.draid_area.specs.declared.Area as areas
 use Rattle.draid_script.specs.Line.{Command, CrashPool, ExportPool, SyncPool}
@@ -10,7 +10,6 @@ use Rattle.draid_reply.specs.declared.reply.Reply.TheVariants.{Crashed, Exported
 use Rattle.draid_session.specs.Certain.{MakesLeaves}
 use Rattle.draid_session.specs.Said.{alone}
 use Rattle.draid_session.specs.Choices.{Choices}
-use Rattle.draid_session.specs.Follows.{Follows}
 use Rattle.draid_session.specs.Groups as groups
 use Rattle.draid_session.specs.Holds.{Hold}
 use Rattle.draid_session.specs.Phases.{Broke}
@@ -113,7 +112,7 @@ module _ (choices : Choices) (x : State) (holds : List Hold) (store : Store) whe
   sync_does (Ok it) reply is does = subst (λ r. ReplyDoes x choices SyncPool r holds store) (some_same (Synced it.group it.thin) reply is) does
   sync_does (Err sync.Worn) reply is does = subst (λ r. ReplyDoes x choices SyncPool r holds store) (some_same (Worn name.Sync) reply is) does
   sync_does (Err sync.Last) reply is does = subst (λ r. ReplyDoes x choices SyncPool r holds store) (some_same (Last name.Sync) reply is) does
-  sync_does (Err sync.NoMemory) reply is does = subst (λ r. ReplyDoes x choices SyncPool r holds store) (some_same (NoMemory name.Sync) reply is) does
+  sync_does (Err sync.NoMemory) reply is does = subst (λ r. ReplyDoes x choices SyncPool r holds store) (some_same (NoMemory name.Sync) reply is) (does.0, inl does.1)
   sync_does (Err sync.Shelf) reply is does = absurd (cc is)
 
   sync_fails : (answer : Result Group SyncFault) → sync_reply answer ≡ None → SyncDoes x answer holds store → (store ≡ x.store) × groups.SyncStops x.geometry x.perms holds Broke
@@ -195,7 +194,7 @@ module _ {R A : Type 0} (rack : racks.Ghosts R) (area : areas.Ghosts A) (choices
   export_turns x y (Err sync.Last) reply new is b l = subst (λ r. TurnsTo ExportPool (Open x) r new) (some_same (Last name.Export) reply is)
       (refl, (y, record { holds = l.holds; mid = l.mid; store = l.store; follows = l.follows; does = l.done; made = l.made }, b))
   export_turns x y (Err sync.NoMemory) reply new is b l = subst (λ r. TurnsTo ExportPool (Open x) r new) (some_same (NoMemory name.Export) reply is)
-      (refl, (y, record { holds = l.holds; mid = l.mid; store = l.store; follows = l.follows; does = l.done; made = l.made }, b))
+      (refl, (y, record { holds = l.holds; mid = l.mid; store = l.store; follows = l.follows; does = (l.done.0, inl l.done.1); made = l.made }, b))
   export_turns x y (Err sync.Shelf) reply new is b l = absurd (cc is)
 
   foreign_turns : (known : Known) (answer : Result ℕ SyncFault) (reply : Reply) (new : Desk) → export_reply answer ≡ Some reply → new ≡ foreign_left answer known → TurnsTo ExportPool (Foreign known) reply new

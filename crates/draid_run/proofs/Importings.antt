@@ -90,8 +90,9 @@ module _ (x : State) (group : ℕ) (new : State) (is : Imports x group new) wher
   found_committed : new.committed ≡ group
   found_committed = frees_committed is.mid group is.holds is.mid new is.older is.follows ∙ is.finds.committed
 
-  found_geometry : new.geometry ≡ x.geometry
-  found_geometry = (same_layout is.holds is.mid new is.follows).0 ∙ is.finds.layout.0
+  -- but for its version it has the layout of the pool that was given back
+  found_spec : new.geometry.spec ≡ x.geometry.spec
+  found_spec = ap (λ (g : Geometry). g.spec) (same_layout is.holds is.mid new is.follows).0 ∙ ap (λ (g : Geometry). g.spec) is.finds.layout.0
 
   found_told : new.told ≡ true
   found_told = same_told is.holds is.mid new is.follows ∙ is.finds.told
@@ -379,7 +380,7 @@ module _ {R A : Type 0} (rack : racks.Ghosts R) (area : areas.Ghosts A) (entry b
                 desk = record { stands = (whole, f.represents); shelf = out crash y new shelf rest (found_told y f.group new f.imports) };
                 turns = given_told y (Open new) (Imported called_name group objects) told (
                   subst (λ t. Imports y t new) (sym (committed new f.represents ∙ found_committed y f.group new f.imports)) f.imports,
-                  named ∙ ap (λ (l : Geometry). vdev_name_of l.spec) (layout new f.represents ∙ found_geometry y f.group new f.imports),
+                  named ∙ ap vdev_name_of (ap (λ (l : Geometry). l.spec) (layout new f.represents) ∙ found_spec y f.group new f.imports),
                   counted new f.represents,
                 );
               }

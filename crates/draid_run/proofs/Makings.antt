@@ -258,6 +258,7 @@ module _ {R A : Type 0} (rack : racks.Ghosts R) (area : areas.Ghosts A) where
             store = f.store;
             committed = f.committed;
             leaves = f.leaves;
+            versions = f.versions;
             pending = f.pending;
           }
 

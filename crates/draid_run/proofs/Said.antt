@@ -1,15 +1,15 @@
 -- What the replies of commands say, in the words of a session.
-use Rattle.std.proofs.Common.{◌≡◌, ℕ, true, false, List, Option, Result, Ok, Err, refl, subst, sym}
+use Rattle.std.proofs.Common.{◌≡◌, inl, ℕ, true, false, List, Option, Result, Ok, Err, refl, subst, sym}
 use Rattle.std.specs.declared.vec.Vec.{Vec}
 use Rattle.std.specs.declared.alloc.Global.{Global}
 use Rattle.draid_names.specs.declared.fault.NoMemory.{NoMemory as Starved}
 use Rattle.draid_names.specs.declared.refusal.ObjectFault.{ObjectFault}
 use Rattle.draid_names.specs.declared.refusal.ObjectFault.TheVariants as object
-use Rattle.draid_script.specs.Line.{DamageSector, FreeObject, ReadObject, ShowStatus, SumObjects, TakeOffline, TakeOnline}
+use Rattle.draid_script.specs.Line.{DamageSector, FreeObject, ReadObject, ShowStatus, SumObjects, TakeOffline, TakeOnline, UpgradePool}
 use Rattle.draid_script.specs.declared.name.CommandName.TheVariants as name
 use Rattle.draid_script.specs.declared.line.StatusFormat.{StatusFormat}
 use Rattle.draid_reply.specs.declared.reply.Reply.{Reply}
-use Rattle.draid_reply.specs.declared.reply.Reply.TheVariants.{NoMemory, OfflineDone, OfflineRefused, OfflineWorn, OnlineDone, OnlineRefused, OnlineWorn}
+use Rattle.draid_reply.specs.declared.reply.Reply.TheVariants.{Last, NoMemory, OfflineDone, OfflineRefused, OfflineWorn, OnlineDone, OnlineRefused, OnlineWorn, UpgradeAlready, Upgraded, Worn}
 use Rattle.draid_session.specs.Choices.{Choices}
 use Rattle.draid_session.specs.Holds.{Hold}
 use Rattle.draid_session.specs.State.{State, Store}
@@ -19,6 +19,11 @@ use Rattle.draid_names.specs.declared.refusal.SlotFault.TheVariants as slot
 use Rattle.draid_session.specs.Arms as arms
 use Rattle.draid_changes.specs.Answers.{SwitchDoes}
 use Rattle.draid_changes.specs.Says.{IsOfflineReply, IsOnlineReply, OfflineSays, OnlineSays}
+use Rattle.draid_changes.specs.UpgradeSays.{IsUpgradeReply, UpgradeSays}
+use Rattle.draid_changes.specs.Upgrading.{UpgradeDoes}
+use Rattle.draid_changes.specs.declared.upgrading.UpgradeFault.{UpgradeFault}
+use Rattle.draid_changes.specs.declared.upgrading.UpgradeFault.TheVariants as upgrading
+use Rattle.draid_pool.specs.declared.fault.SyncFault.TheVariants as sync
 use Rattle.draid_changes.specs.declared.fault.ArmFault.{ArmFault}
 use Rattle.draid_changes.specs.declared.fault.ArmFault.TheVariants as arm
 use Rattle.draid_run.specs.Desks.{AnswerDoes}
@@ -76,6 +81,25 @@ module _ (x : State) (choices : Choices) (said : Result Reply Failed) (holds : L
       by (Err arm.Worn) is does = replied (OnlineWorn leaf) is (refl, does.0, does.1)
       by (Err arm.NoMemory) is does = replied (NoMemory name.Online) is does
       by (Err arm.Shelf) is does = broke said is does
+
+module _ (x : State) (choices : Choices) (said : Result Reply Failed) (holds : List Hold) (store : Store) where
+  pub upgrade_does : UpgradeSays said x holds store → AnswerDoes x choices UpgradePool said holds store
+  upgrade_does says = by says.0 says.1 says.2
+    where
+      replied : (reply : Reply) → said ≡ Ok reply → ReplyDoes x choices UpgradePool reply holds store → AnswerDoes x choices UpgradePool said holds store
+      replied reply is does = subst (λ s. AnswerDoes x choices UpgradePool s holds store) (sym is) does
+
+      broke : (given : Result Reply Failed) → IsUpgradeReply (Err (upgrading.Sync sync.Shelf)) given → UpgradeDoes x (Err (upgrading.Sync sync.Shelf)) holds store → AnswerDoes x choices UpgradePool given holds store
+      broke (Ok reply) is does = absurd is
+      broke (Err failed) is does = does
+
+      by : (answer : Result ℕ UpgradeFault) → IsUpgradeReply answer said → UpgradeDoes x answer holds store → AnswerDoes x choices UpgradePool said holds store
+      by (Ok group) is does = replied (Upgraded group) is does
+      by (Err upgrading.Already) is does = replied UpgradeAlready is does
+      by (Err (upgrading.Sync sync.Worn)) is does = replied (Worn name.Upgrade) is does
+      by (Err (upgrading.Sync sync.Last)) is does = replied (Last name.Upgrade) is does
+      by (Err (upgrading.Sync sync.NoMemory)) is does = replied (NoMemory name.Upgrade) is (does.0, inl does.1)
+      by (Err (upgrading.Sync sync.Shelf)) is does = broke said is does
 
 module _ (x : State) (choices : Choices) (reply : Reply) (holds : List Hold) (store : Store) where
   pub read_does : (o : ℕ) → ReadSays o reply x holds store → ReplyDoes x choices (ReadObject o) reply holds store

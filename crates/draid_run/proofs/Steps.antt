@@ -121,6 +121,7 @@ module _ (choices : Choices) (finds : Finding → Type 0) where
   shut_says (TakeOnline leaf) called is x = (called, is, refl, refl)
   shut_says (DamageSector leaf sector) called is x = (called, is, refl, refl)
   shut_says (ShowStatus form) called is x = (called, is, refl, refl)
+  shut_says UpgradePool called is x = (called, is, refl, refl)
   shut_says command called is x = absurd (cc is)
 
   by_desk : {R A : Type 0} (rack : racks.Ghosts R) (area : areas.Ghosts A) (command : Command) (reply : Reply) (x : Desk) → IsPool rack area None x → session.ShutTurns finds x command reply x
@@ -210,7 +211,8 @@ module _ {R A : Type 0} (rack : racks.Ghosts R) (area : areas.Ghosts A) (choices
   by_ask (ScrubPool limit) called is = absurd (cc is)
   by_ask (RebalanceSlot slot) called is = absurd (cc is)
   by_ask (OpenLanes count) called is = absurd (cc is)
-  by_ask UpgradePool called is = absurd (cc is)
+  by_ask UpgradePool called is = turned_by UpgradePool called is (λ y z c same. (refl, (z, c, same))) (λ old new fits learns same. (refl, (fits, new, learns, same))) (λ x stands.
+      (refl, by_desk choices (MayFind rack area entry) rack area UpgradePool (NoPool called) x stands (shut_says choices (MayFind rack area entry) UpgradePool called is x)))
   by_ask (RunAgent least) called is = absurd (cc is)
   by_ask ShowJournal called is = absurd (cc is)
   by_ask TakeCheckpoint called is = absurd (cc is)

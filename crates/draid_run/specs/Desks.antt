@@ -3,7 +3,7 @@ use Rattle.std.specs.Prelude.{◌≡◌, ⊤, ℕ, List, Option, Some, None, Res
 use Rattle.draid_names.specs.declared.fault.Failed.{Failed}
 use Rattle.draid_rack.specs.declared.Rack as racks
 use Rattle.draid_area.specs.declared.Area as areas
-use Rattle.draid_script.specs.Line.{Command, WriteObject, ReadObject, FillObjects, FreeObject, SumObjects, TakeOffline, TakeOnline, DamageSector, ShowStatus}
+use Rattle.draid_script.specs.Line.{Command, WriteObject, ReadObject, FillObjects, FreeObject, SumObjects, TakeOffline, TakeOnline, DamageSector, ShowStatus, UpgradePool}
 use Rattle.draid_script.specs.declared.fault.LineFault.{LineFault}
 use Rattle.draid_script.specs.declared.name.CommandName.{CommandName}
 use Rattle.draid_script.specs.declared.name.CommandName.TheVariants as name
@@ -81,6 +81,7 @@ asked_in (TakeOffline leaf) = Some name.Offline
 asked_in (TakeOnline leaf) = Some name.Online
 asked_in (DamageSector leaf sector) = Some name.Damage
 asked_in (ShowStatus form) = Some name.Status
+asked_in UpgradePool = Some name.Upgrade
 asked_in command = None
 
 -- A line was done, and these are the replies to it.

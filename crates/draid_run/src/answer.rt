@@ -158,6 +158,7 @@ fn asked(line: &Line) -> Option<CommandName>
         Line::Online { .. } => Some(CommandName::Online),
         Line::Damage { .. } => Some(CommandName::Damage),
         Line::Status { .. } => Some(CommandName::Status),
+        Line::Upgrade => Some(CommandName::Upgrade),
         _ => None,
     }
 }

@@ -19,7 +19,7 @@ ghost use Rattle.draid_status.specs.Says.{StatusSays};
 ghost use Rattle.draid_changes.specs.Says.{OfflineSays, OnlineSays};
 
 use draid_area::Area;
-use draid_changes::{reply_to_offline, reply_to_online};
+use draid_changes::{reply_to_offline, reply_to_online, reply_to_upgrade};
 use draid_choose::Chooser;
 use draid_names::{Failed, Room};
 use draid_pool::Pool;
@@ -67,6 +67,7 @@ pub(crate) fn reply<R: Rack, A: Area, F: Fn(&[Room]) -> Option<u32>>(
         Line::Online { leaf } => reply_to_online(pool, *leaf),
         Line::Damage { leaf, sector } => Ok(reply_to_damage(pool, *leaf, *sector)),
         Line::Status { format } => Ok(reply_to_status(alloc, pool, *format)),
+        Line::Upgrade => reply_to_upgrade(pool),
         _ => unreachable!(),
     }
 }

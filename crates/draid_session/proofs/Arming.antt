@@ -1,8 +1,7 @@
 -- What the commands that change arms do to an open pool and to its book.
-use Rattle.std.proofs.Common.{◌≡◌, ◌≢◌, ◌∙◌, ◌+◌, ◌⊎◌, ℕ, zero, suc, List, [], ◌∷◌, Option, inl, inr, refl, sym, subst, ◌++◌}
+use Rattle.std.proofs.Common.{◌≡◌, ◌∙◌, ◌+◌, ℕ, List, [], ◌∷◌, Option, inl, inr, refl, sym, subst, ◌++◌}
 use Rattle.draid_names.specs.declared.refusal.SlotFault.{SlotFault}
 use Rattle.draid_names.specs.declared.refusal.SlotFault.TheVariants as slot_fault
-use Rattle.draid_names.specs.declared.room.Room.{Room}
 use Rattle.draid_spec.specs.declared.layout.Geometry.{Geometry}
 use Rattle.draid_perm.specs.declared.perms.Perms.{Perms}
 use Rattle.draid_machine.specs.declared.names.ArmName.{ArmName}
@@ -25,10 +24,10 @@ use Rattle.draid_session.specs.Holds.{Did, Hold, Looked, LookedUber, MadeLeaf, O
 use Rattle.draid_session.specs.Keeping.{KeepsOpen}
 use Rattle.draid_session.specs.Looks.{AllOf, OnlyLooks}
 use Rattle.draid_session.specs.Making.{content_of}
-use Rattle.draid_session.specs.Phases.{Broke, Chain, Each, End, Starved, Walk, WasLast, WasWorn, Went}
+use Rattle.draid_session.specs.Phases.{Broke, Chain, End, Starved, WasLast, WasWorn, Went}
 use Rattle.draid_session.specs.State.{State, Store}
 use Rattle.draid_session.proofs.Answering.{Books}
-use Rattle.draid_session.proofs.Calm.{IsCalm, IsCalmHold, calm_both, calm_follows, looks_calm}
+use Rattle.draid_session.proofs.Calm.{IsCalm, IsCalmHold, calm_follows, looks_calm}
 use Rattle.draid_session.proofs.Changing.{calm_fit, looks_from_calm}
 use Rattle.draid_session.proofs.Looked.{follows_split}
 use Rattle.draid_session.proofs.Phased.{IsPhase, chain_all, each_all, walk_all}
@@ -36,7 +35,7 @@ use Rattle.draid_session.proofs.Syncing.{finishes, fit_doubt, syncs_fit}
 
 -- ---- calm phases
 
-abbrev IsCalmPhase : (List Hold → End → Type 0) → Type 0
+abbrev pub IsCalmPhase : (List Hold → End → Type 0) → Type 0
 IsCalmPhase P = IsPhase IsCalmHold P
 
 module _ (geometry : Geometry) (perms : Perms) where
@@ -50,7 +49,7 @@ module _ (geometry : Geometry) (perms : Perms) where
     reserve_stops_calm m (On v Looked) Starved s = tt
     reserve_stops_calm m hold end s = absurd s
 
-    reserve_calm : IsCalmPhase (arms.ReservePhase geometry perms need)
+    pub reserve_calm : IsCalmPhase (arms.ReservePhase geometry perms need)
     reserve_calm holds end p =
         walk_all IsCalmHold (arms.Reserves geometry perms need) (arms.ReserveStops geometry perms need) reserves_calm reserve_stops_calm 0 geometry.props.metaslabs holds end 0 p
 
@@ -75,7 +74,7 @@ module _ (geometry : Geometry) (perms : Perms) where
     happens_calm m (On v (Did d w)) h = subst IsCalm (sym h.1) calm
     happens_calm m hold h = absurd h
 
-    event_calm : IsCalmPhase (arms.EventPhase geometry perms e)
+    pub event_calm : IsCalmPhase (arms.EventPhase geometry perms e)
     event_calm holds end p = each_all IsCalmHold (arms.Happens geometry perms e) happens_calm 0 geometry.props.metaslabs holds p.0
 
     switch_calm : (views : List View) (u : UberView) → IsCalmPhase (arms.Switches geometry perms e views u)
@@ -97,14 +96,14 @@ module _ (geometry : Geometry) (perms : Perms) where
   -- ---- a pool and its book
 
   -- the pool behind what comes first, with the holds that are left
-  record Begun (rest : List Hold) (z : State) (store : Store) (b : Book) : Type 0 where
+  pub record Begun (rest : List Hold) (z : State) (store : Store) (b : Book) : Type 0 where
     pub y : State
     pub follows : Follows rest y z
     pub layout : y.geometry ≡ geometry
     pub fits : KeepsOpen y store b
 
   module _ (x z : State) (store : Store) (b : Book) (of : x.geometry ≡ geometry) (fit : KeepsOpen x store b) where
-    begins_fit : (holds : List Hold) (views : List View) (u : UberView) (rest : List Hold) → arms.Begins geometry perms holds views u rest → Follows holds x z → Begun rest z store b
+    pub begins_fit : (holds : List Hold) (views : List View) (u : UberView) (rest : List Hold) → arms.Begins geometry perms holds views u rest → Follows holds x z → Begun rest z store b
     begins_fit holds views u rest g follows =
         let one = follows_split g.finish (g.looks ++ OnUber u LookedUber ∷ rest) x z (subst (λ hs. Follows hs x z) g.are follows) in
         let done = finishes geometry perms g.finish Went x one.0 store b g.finishes one.1 of fit in
@@ -125,7 +124,7 @@ module _ (geometry : Geometry) (perms : Perms) where
     comes_fit : (Breaks : List View → UberView → SlotFault → Type 0) (Goes : List View → UberView → List Hold → End → Type 0)
         → ((views : List View) (u : UberView) → IsCalmPhase (Goes views u)) → (holds : List Hold) (end : End)
         → arms.Comes geometry perms Breaks Goes holds end → Follows holds x z → KeepsOpen z store b
-    comes_fit Breaks Goes calm holds end (inr f) follows = (finishes geometry perms holds end x z store b f.1 follows of fit).keeps
+    comes_fit Breaks Goes calm holds end (inr f) follows = (finishes geometry perms holds end x z store b f.2 follows of fit).keeps
     comes_fit Breaks Goes calm holds end (inl g) follows =
         let begun = begins_fit holds g.views g.u g.rest g.begins follows in
         calm_fit begun.y z store b (calm_follows g.rest begun.y z (calm g.views g.u g.rest end g.does) begun.follows) begun.fits
@@ -146,17 +145,17 @@ module _ (geometry : Geometry) (perms : Perms) where
     disk_fit slot sectors leaf holds end c follows =
         comes_fit (arms.BreaksDisk geometry perms slot sectors) (arms.AttachesDisk geometry perms slot leaf) (disk_calm slot leaf) holds end c follows
 
-  -- a detachment ends as a sync does
-  record Detaches (group : ℕ) (end : End) (z : State) (store : Store) (b : Book) : Type 0 where
+  -- a command that ends with a sync
+  pub record EndsAsSync (group : ℕ) (end : End) (z : State) (store : Store) (b : Book) : Type 0 where
     pub went : end ≡ Went → NamesNext b group × KeepsOpen z store (synced group b)
     pub stopped : (end ≡ Went → ⊥) → KeepsOpen z store (doubtful b)
 
   leaves_fit : (arm : ArmName) (group : ℕ) (views : List View) (holds : List Hold) (end : End) (x z : State) (store : Store) (b : Book) → arms.Leaves geometry perms arm group views holds end
-      → Follows holds x z → x.geometry ≡ geometry → KeepsOpen x store b → Detaches group end z store b
+      → Follows holds x z → x.geometry ≡ geometry → KeepsOpen x store b → EndsAsSync group end z store b
   leaves_fit arm group views holds end x z store b l follows of fit = by l.goes
     where
       by : Chain (arms.ReservePhase geometry perms (arms.one_event geometry perms)) (Chain (arms.EventPhase geometry perms (event.Detach l.slot arm)) (groups.Syncs geometry perms group l.thin)) holds end
-          → Detaches group end z store b
+          → EndsAsSync group end z store b
       by (inr w) =
           let calm = calm_follows holds x z (reserve_calm (arms.one_event geometry perms) holds end w.1) follows in
           record { went = λ went. absurd (w.0 went); stopped = λ stopped. fit_doubt z store b (calm_fit x z store b calm fit) }
@@ -171,9 +170,9 @@ module _ (geometry : Geometry) (perms : Perms) where
           record { went = d.0; stopped = d.1 }
 
   loses_fit : (arm : ArmName) (group : ℕ) (holds : List Hold) (end : End) (x z : State) (store : Store) (b : Book) → arms.LosesArm geometry perms arm group holds end
-      → Follows holds x z → x.geometry ≡ geometry → KeepsOpen x store b → Detaches group end z store b
+      → Follows holds x z → x.geometry ≡ geometry → KeepsOpen x store b → EndsAsSync group end z store b
   loses_fit arm group holds end x z store b (inr f) follows of fit =
-      record { went = λ went. absurd (f.0 went); stopped = λ stopped. fit_doubt z store b (finishes geometry perms holds end x z store b f.1 follows of fit).keeps }
+      record { went = λ went. absurd (f.0 went); stopped = λ stopped. fit_doubt z store b (finishes geometry perms holds end x z store b f.2 follows of fit).keeps }
   loses_fit arm group holds end x z store b (inl g) follows of fit =
       let begun = begins_fit x z store b of fit holds g.views g.u g.rest g.begins follows in
       leaves_fit arm group g.views g.rest end begun.y z store b g.does begun.follows begun.layout begun.fits
@@ -237,7 +236,7 @@ module _ (choices : Choices) (old mid : State) (store : Store) (holds : List Hol
   ])
   replace_answers slot sectors reply d = absurd d
 
-  detaches : (arm : ArmArgument) (group : ℕ) (end : End) → arms.LosesArm old.geometry old.perms (arms.arm_of arm) group holds end → Detaches old.geometry old.perms group end mid old.store b
+  detaches : (arm : ArmArgument) (group : ℕ) (end : End) → arms.LosesArm old.geometry old.perms (arms.arm_of arm) group holds end → EndsAsSync old.geometry old.perms group end mid old.store b
   detaches arm group end l = loses_fit old.geometry old.perms (arms.arm_of arm) group holds end old mid old.store b l follows refl fit
 
   detach_answers : (arm : ArmArgument) (reply : Reply) → DoesTo (DetachArm arm) reply → Booked (DetachArm arm) reply

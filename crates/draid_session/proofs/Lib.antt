@@ -15,6 +15,7 @@ pub mod Noted
 pub mod Phased
 pub mod Placed
 pub mod Placing
+pub mod Raising
 pub mod Rooms
 pub mod Saying
 pub mod Shelved

@@ -1,11 +1,9 @@
 -- Where a command changes arms, by its phases.
-use Rattle.std.proofs.Common.{◌≡◌, ◌∙◌, ◌+◌, ◌++◌, ◌⊎◌, ℕ, zero, suc, Bool, true, false, List, [], ◌∷◌, Option, inl, inr, refl, sym, ap, subst, append-nil}
+use Rattle.std.proofs.Common.{◌≡◌, ◌∙◌, ◌+◌, ◌++◌, ◌⊎◌, ℕ, zero, suc, true, false, List, [], ◌∷◌, Option, inl, inr, refl, sym, ap, subst, append-nil}
 use Rattle.std.specs.Prelude.{⊤, if◌then◌else◌}
 use Rattle.draid_names.specs.declared.refusal.SlotFault.{SlotFault}
-use Rattle.draid_names.specs.declared.room.Room.{Room}
 use Rattle.draid_spec.specs.declared.layout.Geometry.{Geometry}
 use Rattle.draid_perm.specs.declared.perms.Perms.{Perms}
-use Rattle.draid_machine.specs.declared.names.ArmName.{ArmName}
 use Rattle.draid_machine.specs.declared.names.ArmName.TheVariants.{Leaf, Spare}
 use Rattle.draid_machine.specs.declared.event.Event.{Event}
 use Rattle.draid_machine.specs.declared.event.Event.TheVariants as event
@@ -19,9 +17,9 @@ use Rattle.draid_session.specs.Arms as arms
 use Rattle.draid_session.specs.Does.{Broken, Does}
 use Rattle.draid_session.specs.Everywhere.{ArmsChange, ArmsStay, Change, Everywhere, IsOnArms, Left, Nowhere, changes_arms, changes_in, one_each}
 use Rattle.draid_session.specs.Groups as groups
-use Rattle.draid_session.specs.Holds.{Act, AreaFailed, CommitFailed, CommitStarved, Committed, Did, Hold, Looked, LookedUber, MadeLeaf, On, OnUber, RackFailed, Reserved, UberView, View}
+use Rattle.draid_session.specs.Holds.{AreaFailed, CommitFailed, CommitStarved, Committed, Did, Hold, Looked, LookedUber, MadeLeaf, On, OnUber, RackFailed, Reserved, UberView, View}
 use Rattle.draid_session.specs.Looks.{AllOf, OnlyLooks}
-use Rattle.draid_session.specs.Phases.{Broke, Chain, Each, End, Starved, WasLast, WasWorn, Went}
+use Rattle.draid_session.specs.Phases.{Broke, Chain, Each, End, Starved, Walk, WasLast, WasWorn, Went}
 use Rattle.draid_session.specs.State.{Store}
 use Rattle.draid_session.proofs.Phased.{IsPhase, all_both, chain_all, each_all, looks_all_so, looks_from_all, walk_all}
 
@@ -205,7 +203,7 @@ module _ (geometry : Geometry) (perms : Perms) where
         went holds (inl g) = begin_phase holds g.views g.u g.rest g.begins ∙ (change g.views g.u).went g.rest g.does
 
         stopped : (holds : List Hold) (end : End) → arms.Comes geometry perms Breaks Goes holds end → (end ≡ Went → ⊥) → Nowhere holds
-        stopped holds end (inr f) not = none_in holds (finish_phase holds end f.1)
+        stopped holds end (inr f) not = none_in holds (finish_phase holds end f.2)
         stopped holds end (inl g) not = begin_phase holds g.views g.u g.rest g.begins ∙ (change g.views g.u).stopped g.rest end g.does not
 
   spare_change : (slot spare : ℕ) (views : List View) (u : UberView) → IsChange (event.Attach slot (Spare spare)) refl (arms.AttachesSpare geometry perms slot spare views u)
@@ -229,12 +227,32 @@ module _ (geometry : Geometry) (perms : Perms) where
   -- ---- detachments
 
   module _ (arm : ArmArgument) (group : ℕ) where
-    leaves : (views : List View) (holds : List Hold) (end : End) → arms.Leaves geometry perms (arms.arm_of arm) group views holds end → (end ≡ Went → Left geometry arm holds) × (Nowhere holds ⊎ Left geometry arm holds)
+    -- the arm is gone where the detachment went through, and where its sync met the last number
+    pub record Leaves (end : End) (holds : List Hold) : Type 0 where
+      pub went : end ≡ Went → Left geometry arm holds
+      pub last : end ≡ WasLast → Left geometry arm holds
+      pub either : Nowhere holds ⊎ Left geometry arm holds
+
+    -- reserving meets no last number
+    reserve_last : (m n : ℕ) (holds : List Hold) (sum : ℕ) (need : View → ℕ) → Walk (arms.Reserves geometry perms need) (arms.ReserveStops geometry perms need) m n holds WasLast sum → ⊥
+    reserve_last m zero holds sum need w = absurd (cc (w.1))
+    reserve_last m (suc n) holds sum need (inl w) = reserve_last (m + 1) n w.1 w.3 need w.7
+    reserve_last m (suc n) holds sum need (inr (inl w)) = none w.0 w.4 where
+      none : (hold : Hold) → arms.ReserveStops geometry perms need m hold WasLast → ⊥
+      none (On v Looked) stops = stops
+      none hold stops = stops
+    reserve_last m (suc n) holds sum need (inr (inr w)) = absurd (cc (w.1))
+
+    leaves : (views : List View) (holds : List Hold) (end : End) → arms.Leaves geometry perms (arms.arm_of arm) group views holds end → Leaves end holds
     leaves views holds end l = by l.goes
       where
         by : Chain (arms.ReservePhase geometry perms (arms.one_event geometry perms)) (Chain (arms.EventPhase geometry perms (event.Detach l.slot (arms.arm_of arm))) (groups.Syncs geometry perms group l.thin)) holds end
-            → (end ≡ Went → Left geometry arm holds) × (Nowhere holds ⊎ Left geometry arm holds)
-        by (inr w) = (λ went. absurd (w.0 went), inl (none_in holds (reserve_phase (arms.one_event geometry perms) holds end w.1)))
+            → Leaves end holds
+        by (inr w) = record {
+          went = λ went. absurd (w.0 went);
+          last = λ is. absurd (reserve_last 0 geometry.props.metaslabs holds 0 (arms.one_event geometry perms) (subst (λ e. arms.ReservePhase geometry perms (arms.one_event geometry perms) holds e) is w.1));
+          either = inl (none_in holds (reserve_phase (arms.one_event geometry perms) holds end w.1));
+        }
         by (inl (front, back, are, reserve, inr w)) = absurd (w.0 w.1.1)
         by (inl (front, back, are, reserve, inl (middle, last, same, comes, syncs))) =
             let sync = none_in last (sync_phase group l.thin last end syncs) in
@@ -244,15 +262,15 @@ module _ (geometry : Geometry) (perms : Perms) where
                   ∙ (before_in front back (reserve_phase (arms.one_event geometry perms) front Went reserve)
                   ∙ (ap changes_in same ∙ event_phase (event.Detach l.slot (arms.arm_of arm)) refl middle last Went comes sync)),
             ) in
-            (λ went. all, inr all)
+            record { went = λ went. all; last = λ is. all; either = inr all }
 
-    loses : (holds : List Hold) (end : End) → arms.LosesArm geometry perms (arms.arm_of arm) group holds end → (end ≡ Went → Left geometry arm holds) × (Nowhere holds ⊎ Left geometry arm holds)
-    loses holds end (inr f) = (λ went. absurd (f.0 went), inl (none_in holds (finish_phase holds end f.1)))
+    loses : (holds : List Hold) (end : End) → arms.LosesArm geometry perms (arms.arm_of arm) group holds end → Leaves end holds
+    loses holds end (inr f) = record { went = λ went. absurd (f.0 went); last = λ is. absurd (f.1 is); either = inl (none_in holds (finish_phase holds end f.2)) }
     loses holds end (inl g) =
         let l = leaves g.views g.rest end g.does in
         let begins = begin_phase holds g.views g.u g.rest g.begins in
         let more : Left geometry arm g.rest → Left geometry arm holds = λ x. (x.0, begins ∙ x.1) in
-        (λ went. more (l.0 went), elim l.1 [ inl none ↦ inl (begins ∙ none) | inr all ↦ inr (more all) ])
+        record { went = λ went. more (l.went went); last = λ is. more (l.last is); either = elim l.either [ inl none ↦ inl (begins ∙ none) | inr all ↦ inr (more all) ] }
 
   -- ---- commands
 
@@ -308,11 +326,11 @@ module _ (geometry : Geometry) (perms : Perms) where
     replace_answers slot sectors reply d = absurd d
 
     detach_answers : (arm : ArmArgument) (reply : Reply) → DoesTo (DetachArm arm) reply → ArmsChange geometry (DetachArm arm) reply holds
-    detach_answers arm (Detached a group) d = (loses arm group holds Went d.2).0 refl
+    detach_answers arm (Detached a group) d = (loses arm group holds Went d.2).went refl
     detach_answers arm (DetachRefused a why) d = refused (arms.BreaksDetach geometry perms (arms.arm_of arm)) why holds d.2
-    detach_answers arm (DetachWorn a) d = (loses arm d.2.0 holds WasWorn d.2.1).1
-    detach_answers arm (DetachLast a) d = (loses arm d.2.0 holds WasLast d.2.1).1
-    detach_answers arm (NoMemory name.Detach) d = elim d.1 [ inl l ↦ (loses arm l.0 holds Starved l.1).1 | inr looks ↦ inl (looked holds looks) ]
+    detach_answers arm (DetachWorn a) d = (loses arm d.2.0 holds WasWorn d.2.1).either
+    detach_answers arm (DetachLast a) d = (loses arm d.2.0 holds WasLast d.2.1).last refl
+    detach_answers arm (NoMemory name.Detach) d = elim d.1 [ inl l ↦ (loses arm l.0 holds Starved l.1).either | inr looks ↦ inl (looked holds looks) ]
     detach_answers arm reply d = absurd d
 
     pub arms_change : (command : Command) (reply : Reply) → IsOnArms command → DoesTo command reply → ArmsChange geometry command reply holds
@@ -328,5 +346,5 @@ module _ (geometry : Geometry) (perms : Perms) where
   arms_stay (TakeOnline leaf) old holds new is b = (online_change leaf).stopped holds Broke b.1 (λ is. absurd (cc))
   arms_stay (AttachSpare slot spare) old holds new is b = (attach_change slot spare).stopped holds Broke b.1 (λ is. absurd (cc))
   arms_stay (ReplaceDisk slot sectors) old holds new is b = (replace_change slot sectors b.1.0).stopped holds Broke b.1.1 (λ is. absurd (cc))
-  arms_stay (DetachArm arm) old holds new is b = (loses arm b.1.0 holds Broke b.1.1).1
+  arms_stay (DetachArm arm) old holds new is b = (loses arm b.1.0 holds Broke b.1.1).either
   arms_stay command old holds new is b = absurd is

@@ -1,6 +1,5 @@
 -- Each line is answered as the book has it, and so is each run; and a run ends as the book has it.
-use Rattle.std.proofs.Common.{◌≡◌, ℕ, true, List, [], ◌∷◌, Option, Some, None, Result, Ok, Err, refl, sym, subst}
-use Rattle.draid_names.specs.declared.room.Room.{Room}
+use Rattle.std.proofs.Common.{◌≡◌, ℕ, true, List, [], ◌∷◌, None, Result, Ok, Err, refl, sym, subst}
 use Rattle.draid_script.specs.Grammar.{line_of}
 use Rattle.draid_script.specs.Line.{Command, ImportPool, Silent}
 use Rattle.draid_script.specs.declared.fault.LineFault.{LineFault}

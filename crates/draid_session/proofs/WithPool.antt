@@ -1,13 +1,12 @@
 -- Where a pool is open: each command is answered as the book has it.
-use Rattle.std.proofs.Common.{◌≡◌, ◌≢◌, ◌∙◌, ◌<◌, ◌≤◌, ◌⊎◌, ℕ, true, false, List, [], ◌∷◌, Option, All, inl, inr, refl, sym, ap, subst, arith, Some}
+use Rattle.std.proofs.Common.{◌≡◌, ◌≢◌, ◌∙◌, ◌<◌, ◌≤◌, ◌⊎◌, ℕ, true, false, List, [], ◌∷◌, All, inl, inr, refl, sym, ap, subst, arith, Some}
 use Rattle.std.specs.Prelude.{slice_get}
 use Rattle.std.proofs.lemmas.List.Elements.{All-weaker}
-use Rattle.draid_names.specs.declared.room.Room.{Room}
 use Rattle.draid_spec.specs.declared.layout.Geometry.{Geometry}
 use Rattle.draid_perm.specs.declared.perms.Perms.{Perms}
 use Rattle.draid_objects.specs.Changes.{group_of, object_of}
 use Rattle.draid_objects.proofs.Finding.{kept_all}
-use Rattle.draid_script.specs.Line.{Command, CreatePool, ImportPool, ExportPool, SyncPool, CrashPool, WriteObject, FillObjects, ReadObject, FreeObject, SumObjects, TakeOffline, TakeOnline, DamageSector, AttachSpare, ReplaceDisk, DetachArm, ShowStatus}
+use Rattle.draid_script.specs.Line.{Command, CreatePool, ImportPool, ExportPool, SyncPool, CrashPool, WriteObject, FillObjects, ReadObject, FreeObject, SumObjects, TakeOffline, TakeOnline, DamageSector, AttachSpare, ReplaceDisk, DetachArm, ShowStatus, UpgradePool}
 use Rattle.draid_script.specs.declared.line.PoolKeys.{PoolKeys}
 use Rattle.draid_script.specs.declared.name.CommandName.TheVariants as name
 use Rattle.draid_reply.specs.declared.reply.Reply.{Reply}
@@ -27,9 +26,10 @@ use Rattle.draid_session.specs.Session.{CarriesOut, Cause, BreaksIn, Desk, Open,
 use Rattle.draid_session.specs.State.{State, Store, Metaslab}
 use Rattle.draid_session.proofs.Answering.{IsOnObjects, objects_answer}
 use Rattle.draid_session.proofs.Arming.{arms_answer, arms_not_crashed, arms_not_exported, detach_breaks, offline_breaks, online_breaks, replace_breaks, spare_breaks}
-use Rattle.draid_session.proofs.Calm.{CalmTo, calm_follows, calm_store, follows_store, looks_calm}
+use Rattle.draid_session.proofs.Calm.{CalmTo, calm_follows, calm_store, looks_calm}
 use Rattle.draid_session.proofs.Changing.{calm_fit, looks_from_calm, calm_under}
 use Rattle.draid_session.proofs.Looked.{follows_split, looks_at}
+use Rattle.draid_session.proofs.Raising.{upgrade_answers, upgrade_breaks}
 use Rattle.draid_session.proofs.Saying.{same_or_low, tells_synced}
 use Rattle.draid_session.proofs.Shelved.{closed_shut}
 use Rattle.draid_session.proofs.Syncing.{fit_doubt, syncs_fit}
@@ -83,6 +83,11 @@ module _ (geometry : Geometry) (perms : Perms) (choices : Choices) (old new : St
   arms_stay_open command is (Exported group) does state = absurd (arms_not_exported geometry perms choices old new holds command group is does)
   arms_stay_open command is Crashed does state = absurd (arms_not_crashed geometry perms choices old new holds command is does)
   arms_stay_open command is reply does state = refl
+
+  upgrade_open : (reply : Reply) → DoesTo UpgradePool reply → (state : State) → desk_behind reply state ≡ Open state
+  upgrade_open (Exported group) does state = absurd does
+  upgrade_open Crashed does state = absurd does
+  upgrade_open reply does state = refl
 
 -- the thread has this store
 with_store : (mid new : State) (store : Store) (b : Book) → new ≡ record mid { store = store } → KeepsOpen mid store b → Keeps (Open new) b
@@ -300,6 +305,12 @@ module _ (choices : Choices) (old : State) (b : Book) (fit : KeepsOpen old old.s
       next_at b command reply (Open state) (desk_behind reply state) (arms_stay_open old.geometry old.perms choices old.store it.store it.holds command is reply it.does state)
       (open_next command reply (Open state) one.next one.answers (with_store it.mid state it.store one.next it.made one.fits))
 
+  upgrade_turns : (reply : Reply) (state : State) → CarriesOut choices UpgradePool reply old state → Next b UpgradePool reply (desk_behind reply state)
+  upgrade_turns reply state it =
+      let one = upgrade_answers choices old it.mid it.store it.holds b fit it.follows reply it.does in
+      next_at b UpgradePool reply (Open state) (desk_behind reply state) (upgrade_open old.geometry old.perms choices old.store it.store it.holds reply it.does state)
+      (open_next UpgradePool reply (Open state) one.next one.answers (with_store it.mid state it.store one.next it.made one.fits))
+
   carries_turns : (command : Command) (reply : Reply) (state : State) → CarriesOut choices command reply old state → Next b command reply (desk_behind reply state)
   carries_turns (CreatePool text children keys) reply state it = create_turns text children keys reply state it
   carries_turns ImportPool reply state it = import_turns reply state it
@@ -318,6 +329,7 @@ module _ (choices : Choices) (old : State) (b : Book) (fit : KeepsOpen old old.s
   carries_turns (AttachSpare slot spare) reply state it = on_arms (AttachSpare slot spare) reply state tt it
   carries_turns (ReplaceDisk slot sectors) reply state it = on_arms (ReplaceDisk slot sectors) reply state tt it
   carries_turns (DetachArm arm) reply state it = on_arms (DetachArm arm) reply state tt it
+  carries_turns UpgradePool reply state it = upgrade_turns reply state it
   carries_turns command reply state it = absurd it.does
 
   pub open_turns : (command : Command) (reply : Reply) (new : Desk) → OpenTurns choices old command reply new → Next b command reply new
@@ -344,4 +356,5 @@ module _ (choices : Choices) (old : State) (b : Book) (fit : KeepsOpen old old.s
       by (AttachSpare slot spare) s = breaks (AttachSpare slot spare) b refl s.0 (spare_breaks choices old it.mid it.store it.holds b fit it.follows slot spare s.1)
       by (ReplaceDisk slot sectors) s = breaks (ReplaceDisk slot sectors) b refl s.0 (replace_breaks choices old it.mid it.store it.holds b fit it.follows slot sectors s.1.0 s.1.1)
       by (DetachArm arm) s = breaks (DetachArm arm) (doubtful b) refl s.0 (detach_breaks choices old it.mid it.store it.holds b fit it.follows arm s.1.0 s.1.1)
+      by UpgradePool s = breaks UpgradePool (doubtful b) refl s.0 (upgrade_breaks choices old it.mid it.store it.holds b fit it.follows s.1.0 s.1.1)
       by command s = absurd s

@@ -5,7 +5,7 @@ use Rattle.sha2.specs.Sha256.{sha256}
 use Rattle.draid_names.specs.declared.refusal.ObjectFault.{ObjectFault}
 use Rattle.draid_names.specs.declared.refusal.ObjectFault.TheVariants as fault
 use Rattle.draid_script.specs.Grammar.{line_of}
-use Rattle.draid_script.specs.Line.{Command, Silent, CreatePool, ImportPool, ExportPool, SyncPool, CrashPool, WriteObject, FillObjects, ReadObject, FreeObject, SumObjects, TakeOffline, TakeOnline, DamageSector, AttachSpare, ReplaceDisk, DetachArm, ShowStatus}
+use Rattle.draid_script.specs.Line.{Command, Silent, CreatePool, ImportPool, ExportPool, SyncPool, CrashPool, WriteObject, FillObjects, ReadObject, FreeObject, SumObjects, TakeOffline, TakeOnline, DamageSector, AttachSpare, ReplaceDisk, DetachArm, ShowStatus, UpgradePool}
 use Rattle.draid_script.specs.declared.fault.LineFault.{LineFault}
 use Rattle.draid_script.specs.declared.line.StatusFormat.{StatusFormat}
 use Rattle.draid_script.specs.declared.line.StatusFormat.TheVariants as format
@@ -14,7 +14,7 @@ use Rattle.draid_report.specs.Text.{text_of}
 use Rattle.draid_report.specs.Tree.{json_of}
 use Rattle.draid_report.specs.declared.view.View.{View}
 use Rattle.draid_reply.specs.declared.reply.Reply.{Reply}
-use Rattle.draid_reply.specs.declared.reply.Reply.TheVariants.{NoPool, PoolOpen, NoMemory, Worn, Last, Created, CreateRefused, Imported, Exported, Crashed, Synced, Written, NoSpace, Missed, WriteLast, Filled, FillRefused, Contents, NoObject, Unreadable, ReadWorn, Summed, SumRefused, Freed, FreeNoObject, Damaged, DamageRefused, DamageFailed, DamageWorn, OfflineDone, OfflineRefused, OfflineWorn, OnlineDone, OnlineRefused, OnlineWorn, Spared, SpareRefused, SpareWorn, Replaced, ReplaceRefused, ReplaceWorn, Detached, DetachRefused, DetachWorn, DetachLast, Status}
+use Rattle.draid_reply.specs.declared.reply.Reply.TheVariants.{NoPool, PoolOpen, NoMemory, Worn, Last, Created, CreateRefused, Imported, Exported, Crashed, Synced, Written, NoSpace, Missed, WriteLast, Filled, FillRefused, Contents, NoObject, Unreadable, ReadWorn, Summed, SumRefused, Freed, FreeNoObject, Damaged, DamageRefused, DamageFailed, DamageWorn, OfflineDone, OfflineRefused, OfflineWorn, OnlineDone, OnlineRefused, OnlineWorn, Spared, SpareRefused, SpareWorn, Replaced, ReplaceRefused, ReplaceWorn, Detached, DetachRefused, DetachWorn, DetachLast, Status, Upgraded, UpgradeAlready}
 use Rattle.draid_session.specs.Said.{Said}
 use Rattle.draid_session.specs.Making.{content_of}
 use Rattle.draid_session.specs.Reads.{ReadsAs}
@@ -169,7 +169,7 @@ pub record IsStatusOf (old : Book) (format : StatusFormat) (text : List ℕ) : T
   pub last : old.group ≤ view.group
   pub few : view.group ≤ old.group + old.refused
 
--- What a command does where a pool is open. One that changes arms changes no object; it names no group, but for a detachment, which ends with a sync.
+-- What a command does where a pool is open. One that changes arms or the version changes no object; a detachment and an upgrade end with a sync, and the others name no group.
 abbrev pub OpenAnswers : Book → Command → Reply → Book → Type 0
 OpenAnswers old (WriteObject object bytes) (Written o) new = (o ≡ object) × (new ≡ changed object (Some bytes) old)
 OpenAnswers old (WriteObject object bytes) (NoSpace o run disabled full worn) new = (o ≡ object) × (new ≡ old)
@@ -227,6 +227,11 @@ OpenAnswers old (DetachArm arm) (DetachRefused a why) new = (a ≡ arm) × (new 
 OpenAnswers old (DetachArm arm) (DetachWorn a) new = (a ≡ arm) × (new ≡ doubtful old)
 OpenAnswers old (DetachArm arm) (DetachLast a) new = (a ≡ arm) × (new ≡ doubtful old)
 OpenAnswers old (DetachArm arm) (NoMemory name.Detach) new = new ≡ doubtful old
+OpenAnswers old UpgradePool (Upgraded group) new = NamesNext old group × (new ≡ synced group old)
+OpenAnswers old UpgradePool UpgradeAlready new = new ≡ old
+OpenAnswers old UpgradePool (Worn name.Upgrade) new = new ≡ doubtful old
+OpenAnswers old UpgradePool (Last name.Upgrade) new = new ≡ doubtful old
+OpenAnswers old UpgradePool (NoMemory name.Upgrade) new = new ≡ doubtful old
 OpenAnswers old (ShowStatus format) (Status text) new = IsStatusOf old format text.items × (new ≡ old)
 OpenAnswers old (ShowStatus format) (NoMemory name.Status) new = new ≡ old
 OpenAnswers old command reply new = ⊥
@@ -268,7 +273,7 @@ AnswersAll old lines replies new = ⊥
 
 -- ---- the end of a run
 
--- A failing device ends the run in a command, which has no reply: of a sync, an export or a detachment a group may be there; another change of arms and an import change no object;
+-- A failing device ends the run in a command, which has no reply: of a sync, an export, a detachment or an upgrade a group may be there; another change of arms and an import change no object;
 -- and a create leaves what it does for want of memory. No other command breaks off.
 abbrev pub OpenBreaks : Book → Command → Book → Type 0
 OpenBreaks old SyncPool new = new ≡ doubtful old
@@ -278,6 +283,7 @@ OpenBreaks old (TakeOnline leaf) new = new ≡ old
 OpenBreaks old (AttachSpare slot spare) new = new ≡ old
 OpenBreaks old (ReplaceDisk slot sectors) new = new ≡ old
 OpenBreaks old (DetachArm arm) new = new ≡ doubtful old
+OpenBreaks old UpgradePool new = new ≡ doubtful old
 OpenBreaks old command new = ⊥
 
 abbrev pub ShutBreaks : Book → Command → Book → Type 0

@@ -22,5 +22,6 @@ pub mod Said
 pub mod Session
 pub mod State
 pub mod Status
+pub mod Versions
 pub mod Worn
 pub mod Writes

@@ -1,9 +1,9 @@
 -- Which replies a command may have where a pool is open, whatever the pool is: each names what the command names.
 use Rattle.std.specs.Prelude.{◌≡◌, ◌<◌, ⊤}
-use Rattle.draid_script.specs.Line.{Command, CreatePool, ImportPool, ExportPool, SyncPool, CrashPool, WriteObject, FillObjects, ReadObject, FreeObject, SumObjects, TakeOffline, TakeOnline, DamageSector, AttachSpare, ReplaceDisk, DetachArm, ShowStatus}
+use Rattle.draid_script.specs.Line.{Command, CreatePool, ImportPool, ExportPool, SyncPool, CrashPool, WriteObject, FillObjects, ReadObject, FreeObject, SumObjects, TakeOffline, TakeOnline, DamageSector, AttachSpare, ReplaceDisk, DetachArm, ShowStatus, UpgradePool}
 use Rattle.draid_script.specs.declared.name.CommandName.TheVariants as name
 use Rattle.draid_reply.specs.declared.reply.Reply.{Reply}
-use Rattle.draid_reply.specs.declared.reply.Reply.TheVariants.{PoolOpen, NoMemory, Worn, Last, Exported, Crashed, Synced, Written, NoSpace, Missed, WriteLast, Filled, FillRefused, Contents, NoObject, Unreadable, ReadWorn, Summed, SumRefused, Freed, FreeNoObject, Damaged, DamageRefused, DamageFailed, DamageWorn, OfflineDone, OfflineRefused, OfflineWorn, OnlineDone, OnlineRefused, OnlineWorn, Spared, SpareRefused, SpareWorn, Replaced, ReplaceRefused, ReplaceWorn, Detached, DetachRefused, DetachWorn, DetachLast, Status}
+use Rattle.draid_reply.specs.declared.reply.Reply.TheVariants.{PoolOpen, NoMemory, Worn, Last, Exported, Crashed, Synced, Written, NoSpace, Missed, WriteLast, Filled, FillRefused, Contents, NoObject, Unreadable, ReadWorn, Summed, SumRefused, Freed, FreeNoObject, Damaged, DamageRefused, DamageFailed, DamageWorn, OfflineDone, OfflineRefused, OfflineWorn, OnlineDone, OnlineRefused, OnlineWorn, Spared, SpareRefused, SpareWorn, Replaced, ReplaceRefused, ReplaceWorn, Detached, DetachRefused, DetachWorn, DetachLast, Status, Upgraded, UpgradeAlready}
 
 abbrev pub IsReplyTo : Command → Reply → Type 0
 IsReplyTo (CreatePool text children keys) (PoolOpen name.Create) = ⊤
@@ -60,6 +60,11 @@ IsReplyTo (DetachArm arm) (DetachRefused a why) = a ≡ arm
 IsReplyTo (DetachArm arm) (DetachWorn a) = a ≡ arm
 IsReplyTo (DetachArm arm) (DetachLast a) = a ≡ arm
 IsReplyTo (DetachArm arm) (NoMemory name.Detach) = ⊤
+IsReplyTo UpgradePool (Upgraded group) = ⊤
+IsReplyTo UpgradePool UpgradeAlready = ⊤
+IsReplyTo UpgradePool (Worn name.Upgrade) = ⊤
+IsReplyTo UpgradePool (Last name.Upgrade) = ⊤
+IsReplyTo UpgradePool (NoMemory name.Upgrade) = ⊤
 IsReplyTo (ShowStatus form) (Status text) = ⊤
 IsReplyTo (ShowStatus form) (NoMemory name.Status) = ⊤
 IsReplyTo command reply = ⊥

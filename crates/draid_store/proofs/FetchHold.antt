@@ -22,7 +22,7 @@ use Rattle.draid_shard.specs.Fits.{Valid}
 use Rattle.draid_shard.specs.Part.{Part, layout_in}
 use Rattle.draid_shard.specs.States.{part_of}
 use Rattle.draid_shard.specs.declared.shard.Shard.{Shard}
-use Rattle.draid_session.specs.Follows.{Acts}
+use Rattle.draid_session.specs.Follows.{MetaslabActs}
 use Rattle.draid_session.specs.Holds.{Act, Did, Looked, On, view_of}
 use Rattle.draid_session.specs.State.{Metaslab, State}
 use Rattle.draid_pool.specs.Drifts.{Drifts}
@@ -140,7 +140,7 @@ module _ {R A S : Type 0} (rack : racks.Ghosts R) (area : areas.Ghosts A) (went 
       act : Act
       act = Did (event.Fetch (maps.key_of p) g.done.failed) g.reached.world
 
-      acts : Acts (layout_in (part_in x p.metaslab)) act z.z g.reached
+      acts : MetaslabActs (layout_in (part_in x p.metaslab)) act z.z g.reached
       acts = acts_one (layout_in (part_in x p.metaslab)) p.metaslab act z.z g.reached (subst (λ hs. FollowsIn (layout_in (part_in x p.metaslab)) p.metaslab hs z.z g.reached) g.done.are g.follows)
 
   -- ---- none were

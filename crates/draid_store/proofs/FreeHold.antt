@@ -16,7 +16,7 @@ use Rattle.draid_objects.proofs.Finding.{changes_it, other_changes, write_object
 use Rattle.draid_entries.specs.Maps.{key_of}
 use Rattle.draid_shard.specs.Part.{layout_in}
 use Rattle.draid_shard.specs.declared.shard.Shard.{Shard}
-use Rattle.draid_session.specs.Follows.{Acts}
+use Rattle.draid_session.specs.Follows.{MetaslabActs}
 use Rattle.draid_session.specs.Holds.{Did, Hold, On, view_of}
 use Rattle.draid_session.specs.State.{Metaslab, State, Store}
 use Rattle.draid_pool.specs.Metaslabs.{IsMetaslab}
@@ -98,7 +98,7 @@ module _ {R A S : Type 0} (rack : racks.Ghosts R) (area : areas.Ghosts A) (went 
       r : Metaslab
       r = g.reached
 
-      acts : Acts (layout_in (part_in x m)) (Did (event.Free (key_of p) group) r.world) z.z r
+      acts : MetaslabActs (layout_in (part_in x m)) (Did (event.Free (key_of p) group) r.world) z.z r
       acts = acts_one (layout_in (part_in x m)) m (Did (event.Free (key_of p) group) r.world) z.z r (subst (λ hs. FollowsIn (layout_in (part_in x m)) m hs z.z r) g.done.are g.follows)
 
       later : x.store.floor ≤ group

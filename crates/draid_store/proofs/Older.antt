@@ -23,7 +23,7 @@ use Rattle.draid_shard.specs.Fits.{Valid}
 use Rattle.draid_shard.specs.Part.{layout_in}
 use Rattle.draid_shard.specs.States.{part_of}
 use Rattle.draid_shard.specs.declared.shard.Shard.{Shard}
-use Rattle.draid_session.specs.Follows.{Acts}
+use Rattle.draid_session.specs.Follows.{MetaslabActs}
 use Rattle.draid_session.specs.Holds.{Did, On, view_of}
 use Rattle.draid_session.specs.State.{Metaslab, State}
 use Rattle.draid_session.specs.Writes as written
@@ -104,7 +104,7 @@ module _ {R A S : Type 0} (rack : racks.Ghosts R) (area : areas.Ghosts A) (went 
   g : Goes rack area (part_in x p.metaslab) z.now z.z after (FreesIn p.metaslab p floor group z.z)
   g = frees.frees (part_in x p.metaslab) z.now z.z z.is
 
-  acts : Acts (layout_in (part_in x p.metaslab)) (Did (event.Free (key_of p) group) g.reached.world) z.z g.reached
+  acts : MetaslabActs (layout_in (part_in x p.metaslab)) (Did (event.Free (key_of p) group) g.reached.world) z.z g.reached
   acts = acts_one (layout_in (part_in x p.metaslab)) p.metaslab (Did (event.Free (key_of p) group) g.reached.world) z.z g.reached (subst (λ hs. FollowsIn (layout_in (part_in x p.metaslab)) p.metaslab hs z.z g.reached) g.done.are g.follows)
 
   stays : (k : Key) → owns k.object ≡ true → StaysAt y_here.0 z.z k

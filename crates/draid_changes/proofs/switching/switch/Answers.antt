@@ -13,8 +13,12 @@ use Rattle.draid_pool.proofs.Refusing.{not_both}
 use Rattle.draid_pool.proofs.Rises.{areas_on}
 use Rattle.draid_pool.proofs.SyncSteps.{borrowed_at}
 use Rattle.draid_pool.proofs.WholeGroups.{first_shard}
-use Rattle.draid_changes.specs.Walks.{end_of_reserving}
-use Rattle.draid_changes.proofs.Calls.{areas_switched, err_same, idle_reserved, may_switch, shelf_first, starved_no_way, switch_done, switch_refused, switch_starved, switch_stopped, switch_unfinished, switched_whole, worn_no_way}
+use Rattle.draid_changes.specs.Walks.{Switches, end_of_reserving, switch_event}
+use Rattle.draid_changes.specs.declared.fault.ArmFault.TheVariants as armed
+use Rattle.draid_changes.specs.declared.need.Need.TheVariants as needs
+use Rattle.draid_changes.proofs.Begun.{err_same, shelf_first, starved_no_way, unfinished, worn_no_way}
+use Rattle.draid_changes.proofs.Calls.{may_switch, switch_done, switch_refused, switch_stopped, switched_whole}
+use Rattle.draid_changes.proofs.Events.{areas_changed, idle_reserved}
 use Rattle.draid_changes.proofs.switching.switch.Goals as goal
 
 -- ---- a closing group couldn't be committed first
@@ -25,7 +29,7 @@ returns-in-Err-clause-cause g c =
 
 pub returns-in-Err-clause-carries : goal.returns-in-Err-clause-carries
 returns-in-Err-clause-carries g c = λ x is.
-    switch_unfinished g.R.Rack g.A.Area c.finish.new.self x c.args.leaf c.args.offline c.in-Err.fault c.arm_fault.result c.arm_fault.ensures (c.in-Err.ensures.carries x is)
+    unfinished g.R.Rack g.A.Area (λ g p. arms.NoLeaf g p c.args.leaf) (λ g p. arms.Switches g p (switch_event c.args.leaf c.args.offline)) c.finish.new.self x c.in-Err.fault c.arm_fault.result c.arm_fault.ensures (c.in-Err.ensures.carries x is)
 
 -- ---- the first metaslab
 
@@ -69,7 +73,7 @@ returns-in-Ok-clause-later g c =
     let late = c.reserve_all.new.pool in
     let new : Pool g.row.R.Denot g.row.A.Denot = record late { metaslabs = record { shards = c.switch_all.new.shards } } in
     areas_on faults old late new (areas_on faults old mid late c.in_default.ensures.later c.in-Ok.ensures.later)
-    (areas_switched g.R.Rack g.A.Area c.args.leaf c.args.offline late new c.switch_all.ensures.switches (record { geometry = refl; uber = refl; objects = refl; seq = refl; floor = refl }))
+    (areas_changed g.R.Rack g.A.Area (Switches g.R.Rack c.args.leaf c.args.offline) late new c.switch_all.ensures.switches (record { geometry = refl; uber = refl; objects = refl; seq = refl; floor = refl }) (λ a b s. s.kit.areas))
 
 pub returns-in-Ok-clause-carries : goal.returns-in-Ok-clause-carries
 returns-in-Ok-clause-carries g c = λ x is.
@@ -80,7 +84,7 @@ returns-in-Ok-clause-carries g c = λ x is.
     let one = first_shard g.R.Rack g.A.Area mid c.in_default.ensures.whole in
     let at = there mid first (slice_get_within mid.metaslabs.shards.items 0 one.0 one.1) c.index.ensures in
     switch_done g.R.Rack g.A.Area mid late new x c.args.leaf c.args.offline first (c.in_default.ensures.carries x is) at (c.is_arm.ensures.arm.0 c.if-not-is_arm.false) c.in-Ok.ensures.carries
-    (idle_reserved g.R.Rack g.A.Area 1 mid late c.in_default.ensures.idle c.in-Ok.ensures.reserves) c.switch_all.ensures.switches
+    (idle_reserved g.R.Rack g.A.Area needs.Event mid late c.in_default.ensures.idle c.in-Ok.ensures.reserves) c.switch_all.ensures.switches
     (record { geometry = refl; uber = refl; objects = refl; seq = refl; floor = refl }))
 
 -- ---- events couldn't be reserved
@@ -95,7 +99,7 @@ returns-in-Err-Worn-clause-carries g c = λ x is.
     let first = c.index.result.now in
     let one = first_shard g.R.Rack g.A.Area mid c.in_default.ensures.whole in
     let at = there mid first (slice_get_within mid.metaslabs.shards.items 0 one.0 one.1) c.index.ensures in
-    switch_stopped g.R.Rack g.A.Area mid late x c.args.leaf c.args.offline WasWorn first (c.in_default.ensures.carries x is) at (c.is_arm.ensures.arm.0 c.if-not-is_arm.false) worn_no_way
+    switch_stopped g.R.Rack g.A.Area mid late x c.args.leaf c.args.offline armed.Worn WasWorn first (c.in_default.ensures.carries x is) at (c.is_arm.ensures.arm.0 c.if-not-is_arm.false) worn_no_way refl
     (subst (λ f. (y : State) → Represents g.R.Rack g.A.Area mid y → CarriesOut g.R.Rack g.A.Area late y (Phase y (arms.ReservePhase y.geometry y.perms (λ v. 1)) (end_of_reserving (Err f)))) c.in-Err-Worn.field-0-is
     c.in-Err-Worn.ensures.carries))
 
@@ -109,7 +113,6 @@ returns-in-Err-NoMemory-clause-carries g c = λ x is.
     let first = c.index.result.now in
     let one = first_shard g.R.Rack g.A.Area mid c.in_default.ensures.whole in
     let at = there mid first (slice_get_within mid.metaslabs.shards.items 0 one.0 one.1) c.index.ensures in
-    switch_starved g.R.Rack g.A.Area late x c.args.leaf c.args.offline
-    (switch_stopped g.R.Rack g.A.Area mid late x c.args.leaf c.args.offline Starved first (c.in_default.ensures.carries x is) at (c.is_arm.ensures.arm.0 c.if-not-is_arm.false) starved_no_way
+    switch_stopped g.R.Rack g.A.Area mid late x c.args.leaf c.args.offline armed.NoMemory Starved first (c.in_default.ensures.carries x is) at (c.is_arm.ensures.arm.0 c.if-not-is_arm.false) starved_no_way refl
     (subst (λ f. (y : State) → Represents g.R.Rack g.A.Area mid y → CarriesOut g.R.Rack g.A.Area late y (Phase y (arms.ReservePhase y.geometry y.perms (λ v. 1)) (end_of_reserving (Err f)))) c.in-Err-NoMemory.field-0-is
-    c.in-Err-NoMemory.ensures.carries)))
+    c.in-Err-NoMemory.ensures.carries))

@@ -37,7 +37,7 @@ returns-in-Ok-commit g c =
     record {
       whole = first_whole g.H.R.Rack g.H.A.Area c.args.layout c.requires.layout (shelf.told c.args.shelf.now) (shelf.counts c.args.shelf.now) c.in-Ok.shards.items c.in-Ok.ensures.opened
           _ refl refl refl (λ q. search rules) e.valid (first_layout g.H.R.Rack g.H.A.Area c.args.layout c.args.uber c.commit.new.self u.layout u.version u.next_leaf e.layout)
-          (e.version ∙ u.version) (ap (λ (kept : Option UberBody). group_of kept) e.kept) (e.leaf ∙ u.next_leaf);
+          (ap (λ (kept : Option UberBody). group_of kept) e.kept) (e.leaf ∙ u.next_leaf);
       opens = (let o = c.in-Ok.ensures.opened in
           let before = subst (λ kept. StandsTold kept [] (g.H.A.Area.told (area_of c.args.uber))) (sym u.kept) u.stands in
           opens g.H.R.Rack g.H.A.Area c.args.layout c.requires.layout (shelf.told c.args.shelf.now) (shelf.counts c.args.shelf.now) c.in-Ok.shards.items o

@@ -7,7 +7,7 @@ use Rattle.draid_shelf.specs.Kits.{gives_uber}
 use Rattle.draid_uber.specs.Uber.{area_of}
 use Rattle.draid_pool.proofs.Returned.{counted_as, holds_pool, pool_crashed, pool_uncrashed, stands_parts}
 use Rattle.draid_pool.proofs.Failing.{racks_there, shows_there}
-use Rattle.draid_pool.proofs.Importables.{firm_crashed, importable_back, importable_left}
+use Rattle.draid_pool.proofs.Importables.{firm_crashed, importable_back, importable_left, versions_found}
 use Rattle.draid_pool.proofs.Wholes.{few_whole}
 use Rattle.draid_pool.proofs.returning.close.Goals as goal
 
@@ -20,8 +20,7 @@ returns-then-crash g c =
           let parts = stands_parts g.H.R.Rack g.H.A.Area c.args.pool table x represents.stands in
           let held = holds_pool g.H.R.Rack g.H.A.Area c.args.pool.metaslabs.shards.items content x parts (shelf.told c.args.shelf.now) (shelf.told c.give_back.new.shelf) (shelf.counts c.args.shelf.now) (shelf.counts c.give_back.new.shelf)
           c.give_back.ensures.returns (shelf.told c.give_uber.new.self) (c.give_uber.ensures.told ∙ ap (λ a. gives_uber (g.H.A.Area.told a) (shelf.told c.give_back.new.shelf)) c.into_area.ensures) in
-          let given = importable_back g.H.R.Rack g.H.A.Area c.args.pool.metaslabs.shards.items x represents.stands.pieces represents.stands.shards represents.stands.each (shelf.leaves c.give_uber.new.self) represents.stands.shared represents.stands.versions
-          represents.stands.alike x.committed (omega arith) represents.stands.groups.committed (λ m shard there. c.give_uber.ensures.leaves m ∙ c.give_back.ensures.leaves.own m shard there) content (shelf.told c.args.shelf.now) (shelf.told c.give_back.new.shelf) (shelf.counts c.args.shelf.now)
+          let given = importable_back g.H.R.Rack g.H.A.Area c.args.pool.metaslabs.shards.items x represents.stands.pieces represents.stands.shards represents.stands.each (shelf.leaves c.give_uber.new.self) represents.stands.shared represents.stands.alike x.committed (omega arith) (versions_found g.H.R.Rack g.H.A.Area c.args.pool.metaslabs.shards.items x represents.stands.pieces represents.stands.shards represents.stands.each represents.stands.shared represents.stands.versions represents.stands.alike represents.stands.groups.committed) represents.stands.groups.committed (λ m shard there. c.give_uber.ensures.leaves m ∙ c.give_back.ensures.leaves.own m shard there) content (shelf.told c.args.shelf.now) (shelf.told c.give_back.new.shelf) (shelf.counts c.args.shelf.now)
           (shelf.counts c.give_back.new.shelf) c.give_back.ensures.returns (shelf.told c.give_uber.new.self) (c.give_uber.ensures.told ∙ ap (λ a. gives_uber (g.H.A.Area.told a) (shelf.told c.give_back.new.shelf)) c.into_area.ensures) in
           record {
             importable = importable_left x (shelf.told c.give_uber.new.self) (shelf.told c.crash.new.self) (shelf.leaves c.give_uber.new.self) (shelf.leaves c.crash.new.self) c.crash.ensures.told c.crash.ensures.leaves given;
@@ -50,8 +49,7 @@ returns g c =
           let held = holds_pool g.H.R.Rack g.H.A.Area c.args.pool.metaslabs.shards.items content x parts (shelf.told c.args.shelf.now) (shelf.told c.give_back.new.shelf) (shelf.counts c.args.shelf.now) (shelf.counts c.give_back.new.shelf)
           c.give_back.ensures.returns (shelf.told c.give_uber.new.self) (c.give_uber.ensures.told ∙ ap (λ a. gives_uber (g.H.A.Area.told a) (shelf.told c.give_back.new.shelf)) c.into_area.ensures) in
           record {
-            importable = importable_back g.H.R.Rack g.H.A.Area c.args.pool.metaslabs.shards.items x represents.stands.pieces represents.stands.shards represents.stands.each (shelf.leaves c.give_uber.new.self) represents.stands.shared
-                represents.stands.versions represents.stands.alike x.committed (omega arith) represents.stands.groups.committed (λ m shard there. c.give_uber.ensures.leaves m ∙ c.give_back.ensures.leaves.own m shard there) content (shelf.told c.args.shelf.now)
+            importable = importable_back g.H.R.Rack g.H.A.Area c.args.pool.metaslabs.shards.items x represents.stands.pieces represents.stands.shards represents.stands.each (shelf.leaves c.give_uber.new.self) represents.stands.shared represents.stands.alike x.committed (omega arith) (versions_found g.H.R.Rack g.H.A.Area c.args.pool.metaslabs.shards.items x represents.stands.pieces represents.stands.shards represents.stands.each represents.stands.shared represents.stands.versions represents.stands.alike represents.stands.groups.committed) represents.stands.groups.committed (λ m shard there. c.give_uber.ensures.leaves m ∙ c.give_back.ensures.leaves.own m shard there) content (shelf.told c.args.shelf.now)
                 (shelf.told c.give_back.new.shelf) (shelf.counts c.args.shelf.now) (shelf.counts c.give_back.new.shelf) c.give_back.ensures.returns (shelf.told c.give_uber.new.self)
                 (c.give_uber.ensures.told ∙ ap (λ a. gives_uber (g.H.A.Area.told a) (shelf.told c.give_back.new.shelf)) c.into_area.ensures);
             held = pool_uncrashed x c.args.crash (shelf.told c.args.shelf.now) (shelf.told c.give_uber.new.self) c.if-crash.false held;

@@ -1,13 +1,13 @@
 use Rattle.std.proofs.Common.{◌∙◌, IfOk, ap, refl, subst, sym}
 use Rattle.std.specs.Fn.{FnReturnsAt}
 use Rattle.draid_session.specs.Choices.{choices_by}
-use Rattle.draid_script.specs.Line.{FillObjects, IsInRange, TakeOffline, TakeOnline, WriteObject, command_in}
+use Rattle.draid_script.specs.Line.{FillObjects, IsInRange, TakeOffline, TakeOnline, UpgradePool, WriteObject, command_in}
 use Rattle.draid_session.specs.Replies.{IsReplyTo}
 use Rattle.draid_pool.specs.Knows.{Teaches}
 use Rattle.draid_pool.proofs.Rises.{rose_fails}
 use Rattle.draid_pool.proofs.Taught.{teaches_nothing}
 use Rattle.draid_session.specs.Session.{MayBreak}
-use Rattle.draid_run.proofs.Asking.{asks_nothing, each_reply, replied_as, replied_damage, replied_free, replied_offline, replied_online, replied_read, replied_status, replied_sum}
+use Rattle.draid_run.proofs.Asking.{asks_nothing, each_reply, replied_as, replied_damage, replied_free, replied_offline, replied_online, replied_read, replied_status, replied_sum, replied_upgrade}
 use Rattle.draid_run.proofs.replies.reply.Goals as goal
 
 pub returns-in-Write : goal.returns-in-Write
@@ -83,6 +83,19 @@ returns-in-Online g c =
       step = λ x rep. replied_online g.R.Rack g.A.Area (choices_by (FnReturnsAt g.F.Fn c.args.chooser.now)) c.args.line.now x c.reply_to_online.new.pool c.in-Online.leaf c.reply_to_online.result c.in-Online.is (e.step x rep);
     }
 
+pub returns-in-Upgrade : goal.returns-in-Upgrade
+returns-in-Upgrade g c =
+    let e = c.reply_to_upgrade.ensures in
+    let is = ap command_in c.in-Upgrade.is in
+    record {
+      whole = e.whole;
+      fits = subst (λ k. IfOk c.reply_to_upgrade.result (IsReplyTo k)) (sym is) e.fits;
+      knows = subst (λ k. IfOk c.reply_to_upgrade.result (λ reply. Teaches k reply c.args.pool.now c.reply_to_upgrade.new.pool)) (sym is)
+          (each_reply c.reply_to_upgrade.result (λ reply. Teaches UpgradePool reply c.args.pool.now c.reply_to_upgrade.new.pool) (λ reply. teaches_nothing UpgradePool reply (λ known. refl) c.args.pool.now c.reply_to_upgrade.new.pool e.same));
+      breaks = λ failed. (subst MayBreak (sym is) tt, rose_fails g.A.Area.faults c.args.pool.now c.reply_to_upgrade.new.pool (e.cause failed), e.same);
+      step = λ x rep. replied_upgrade g.R.Rack g.A.Area (choices_by (FnReturnsAt g.F.Fn c.args.chooser.now)) c.args.line.now x c.reply_to_upgrade.new.pool c.reply_to_upgrade.result c.in-Upgrade.is (e.step x rep);
+    }
+
 pub returns-in-Damage : goal.returns-in-Damage
 returns-in-Damage g c = record {
   whole = c.reply_to_damage.ensures.whole;
@@ -103,7 +116,7 @@ returns-in-Status g c = record {
 
 pub unreachable-requires : goal.unreachable-requires
 unreachable-requires g c =
-    c.requires.asks (asks_nothing c.args.line.now c.in_default.not-Write c.in_default.not-Fill c.in_default.not-Read c.in_default.not-Free c.in_default.not-Sum c.in_default.not-Offline c.in_default.not-Online c.in_default.not-Damage c.in_default.not-Status)
+    c.requires.asks (asks_nothing c.args.line.now c.in_default.not-Write c.in_default.not-Fill c.in_default.not-Read c.in_default.not-Free c.in_default.not-Sum c.in_default.not-Offline c.in_default.not-Online c.in_default.not-Damage c.in_default.not-Status c.in_default.not-Upgrade)
 
 pub reply_to_write-requires-clause-range : goal.reply_to_write-requires-clause-range
 reply_to_write-requires-clause-range g c = subst IsInRange (ap command_in c.in-Write.is ∙ ap (WriteObject c.in-Write.object) (sym c.deref.ensures.value)) c.requires.range
@@ -146,3 +159,6 @@ reply_to_offline-requires g c = record { whole = c.requires.whole }
 
 pub reply_to_online-requires : goal.reply_to_online-requires
 reply_to_online-requires g c = record { whole = c.requires.whole }
+
+pub reply_to_upgrade-requires : goal.reply_to_upgrade-requires
+reply_to_upgrade-requires g c = record { whole = c.requires.whole }

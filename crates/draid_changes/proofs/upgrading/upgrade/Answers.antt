@@ -1,0 +1,74 @@
+use Rattle.std.proofs.Common.{◌≡◌, ◌<◌, ◌∙◌, ℕ, Some, Err, ap, refl, length, slice_index_or}
+use Rattle.std.specs.Prelude.{IsErrOf, slice_get}
+use Rattle.std.proofs.lemmas.Option.{slice_get_within}
+use Rattle.draid_shard.specs.declared.shard.Shard.{Shard}
+use Rattle.draid_pool.specs.declared.fault.SyncFault.{SyncFault}
+use Rattle.draid_pool.specs.declared.fault.SyncFault.TheVariants as sync
+use Rattle.draid_pool.specs.declared.pool.Pool.{Pool}
+use Rattle.draid_pool.proofs.Rises.{areas_on, rose_then}
+use Rattle.draid_pool.proofs.SyncSteps.{borrowed_at}
+use Rattle.draid_pool.proofs.Wholes.{same_pointers}
+use Rattle.draid_pool.proofs.WholeGroups.{first_shard}
+use Rattle.draid_changes.specs.declared.upgrading.UpgradeFault.TheVariants as fault
+use Rattle.draid_changes.proofs.Raised.{uber_one, upgrade_already, upgrade_done, upgrade_stopped, upgrade_unfinished}
+use Rattle.draid_changes.proofs.upgrading.upgrade.Goals as goal
+
+-- the first metaslab was borrowed
+there : {R A : Type 0} (mid : Pool R A) (first : Shard R A) → 0 < length mid.metaslabs.shards.items → first ≡ slice_index_or mid.metaslabs.shards.items 0 first → slice_get mid.metaslabs.shards.items 0 ≡ Some first
+there mid first some is = borrowed_at mid.metaslabs.shards.items 0 first some is
+
+-- why a group wasn't committed
+why_same : {T U : Type 0} (why : SyncFault) → IsErrOf {T = T} (Err (fault.Sync why)) (fault.Sync sync.Shelf) → IsErrOf {T = U} (Err why) sync.Shelf
+why_same sync.Worn is = absurd (cc is)
+why_same sync.Last is = absurd (cc is)
+why_same sync.Shelf is = refl
+why_same sync.NoMemory is = absurd (cc is)
+
+pub returns-in-Err-clause-cause : goal.returns-in-Err-clause-cause
+returns-in-Err-clause-cause g c = λ is. c.in-Err.ensures.cause (why_same {T = ℕ} {U = Unit} c.in-Err.why is)
+
+pub returns-in-Err-clause-carries : goal.returns-in-Err-clause-carries
+returns-in-Err-clause-carries g c = λ x is. upgrade_unfinished g.R.Rack g.A.Area c.finish.new.self x c.in-Err.why (λ last. c.in-Err.ensures.not_last (ap Err last)) (c.in-Err.ensures.carries x is)
+
+pub returns-then-index-eq2-clause-carries : goal.returns-then-index-eq2-clause-carries
+returns-then-index-eq2-clause-carries g c = λ x is.
+    (let mid = c.finish.new.self in
+    let first = c.index.result.now in
+    let one = first_shard g.R.Rack g.A.Area mid c.in_default.ensures.whole in
+    let at = there mid first (slice_get_within mid.metaslabs.shards.items 0 one.0 one.1) c.index.ensures in
+    upgrade_already g.R.Rack g.A.Area mid x first (c.in_default.ensures.carries x is) at c.if-index-eq2.true)
+
+pub returns-in-Ok : goal.returns-in-Ok
+returns-in-Ok g c =
+    let old = c.args.pool.now in
+    let mid = c.finish.new.self in
+    let new = c.raise.new.pool in
+    let first = c.index.result.now in
+    let one = first_shard g.R.Rack g.A.Area mid c.in_default.ensures.whole in
+    let at = there mid first (slice_get_within mid.metaslabs.shards.items 0 one.0 one.1) c.index.ensures in
+    record {
+      whole = c.in-Ok.ensures.whole;
+      same = λ object. c.in-Ok.ensures.same object ∙ same_pointers old mid c.in_default.ensures.objects object;
+      later = areas_on g.A.Area.faults old mid new c.in_default.ensures.later c.in-Ok.ensures.later;
+      cause = λ is. absurd (cc is);
+      carries = λ x is. upgrade_done g.R.Rack g.A.Area mid new x first (c.in_default.ensures.carries x is) at c.if-index-eq2.false c.in-Ok.group
+          (λ y r. c.in-Ok.ensures.carries y r (uber_one g.R.Rack g.A.Area mid y first r at c.if-index-eq2.false));
+    }
+
+pub returns-in-Err-raise : goal.returns-in-Err-raise
+returns-in-Err-raise g c =
+    let old = c.args.pool.now in
+    let mid = c.finish.new.self in
+    let new = c.raise.new.pool in
+    let first = c.index.result.now in
+    let one = first_shard g.R.Rack g.A.Area mid c.in_default.ensures.whole in
+    let at = there mid first (slice_get_within mid.metaslabs.shards.items 0 one.0 one.1) c.index.ensures in
+    let e = c.in-Err-raise.ensures in
+    record {
+      whole = e.whole;
+      same = λ object. e.same object ∙ same_pointers old mid c.in_default.ensures.objects object;
+      later = areas_on g.A.Area.faults old mid new c.in_default.ensures.later e.later;
+      cause = λ is. rose_then g.A.Area.faults old mid new c.in_default.ensures.later (e.cause (why_same {T = ℕ} {U = ℕ} c.in-Err-raise.why is));
+      carries = λ x is. upgrade_stopped g.R.Rack g.A.Area mid new x first (c.in_default.ensures.carries x is) at c.if-index-eq2.false c.in-Err-raise.why
+          (λ y r. e.carries y r (uber_one g.R.Rack g.A.Area mid y first r at c.if-index-eq2.false));
+    }

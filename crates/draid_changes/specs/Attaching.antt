@@ -1,0 +1,35 @@
+-- How an arm comes to a slot of each metaslab.
+use Rattle.std.specs.Prelude.{◌≤◌, ℕ}
+use Rattle.draid_names.specs.declared.arm.ArmKind.{ArmKind}
+use Rattle.draid_rack.specs.declared.Rack.{Ghosts}
+use Rattle.draid_machine.specs.declared.event.Event.TheVariants.{Attach}
+use Rattle.draid_machine.specs.Names.{named}
+use Rattle.draid_segments.specs.Segments.{Pieces}
+use Rattle.draid_entries.specs.History.{reserved_of}
+use Rattle.draid_slots.specs.Faults.{MayAttach}
+use Rattle.draid_shard.specs.Calls.{ActsOn, SameKit}
+use Rattle.draid_shard.specs.Changes.{KeepsBlocks}
+use Rattle.draid_shard.specs.Fits.{Valid}
+use Rattle.draid_shard.specs.States.{Does}
+use Rattle.draid_shard.specs.declared.shard.Shard.{Shard}
+use Rattle.draid_disks.specs.Disks.{HasArmRoom, HasAttached, IsNewLeaf, Uses, arm_called}
+use Rattle.draid_disks.specs.Replanning.{MayReplan, attach_events}
+
+-- no rule forbids the arm in a metaslab, and events and room are reserved for it there
+pub record MayCome {R A : Type 0} (rack : Ghosts R) (slot : ℕ) (kind : ArmKind) (number : ℕ) (shard : Shard R A) : Type 0 where
+  pub valid : Valid rack shard
+  pub reserved : attach_events shard.pass ≤ reserved_of shard.history
+  pub room : HasArmRoom shard
+  pub leaf : IsNewLeaf rack shard kind number
+  pub may : MayAttach shard.slots slot (arm_called kind number)
+  pub again : MayReplan shard.pass shard.last_pass shard.open_group
+
+-- it came there
+pub record Attaches {R A : Type 0} (rack : Ghosts R) (slot : ℕ) (kind : ArmKind) (number : ℕ) (old new : Shard R A) : Type 0 where
+  pub valid : Valid rack new
+  pub kit : SameKit old new
+  pub does : Does old new (Attach slot (named kind number))
+  pub acts : (pieces : Pieces) → ActsOn rack old new (Attach slot (named kind number)) pieces
+  pub keeps : KeepsBlocks old new
+  pub slots : HasAttached old.slots new.slots slot (arm_called kind number)
+  pub reserve : Uses old.history new.history (attach_events old.pass)
