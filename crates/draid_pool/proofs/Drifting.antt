@@ -1,5 +1,5 @@
 -- What becomes of a metaslab's table while others hold it.
-use Rattle.std.proofs.Common.{◌≡◌, ◌∙◌, ◌≤◌, ◌⊎◌, inl, inr, arith, ℕ, Bool, true, false, Option, Some, None, subst, refl}
+use Rattle.std.proofs.Common.{◌≡◌, ◌∙◌, ◌≤◌, ◌⊎◌, inl, inr, arith, ℕ, Bool, true, false, Option, Some, None, subst, refl, sym}
 use Rattle.draid_rack.specs.declared.Rack as racks
 use Rattle.draid_area.specs.declared.Area as areas
 use Rattle.draid_entries.specs.declared.entries.Entries.{Entries}
@@ -57,3 +57,6 @@ drifts_not rack area owns shard v = record {
   state = state_self rack area owns shard;
   still = λ alone. refl;
 }
+
+pub same_groups : {R A : Type 0} (old new : Shard R A) → new ≡ old → KeepsGroups old new
+same_groups old new same = subst (KeepsGroups old) (sym same) (groups_kept old)

@@ -77,3 +77,8 @@ module _ {R A S : Type 0} (rack : racks.Ghosts R) (area : areas.Ghosts A) (went 
 
       two : LeadsBy rack area went shared b c between then_does then_known
       two = next between layout.0 layout.1 one.holds one.done one.knows
+
+module _ {R A S : Type 0} (rack : racks.Ghosts R) (area : areas.Ghosts A) (went : S → ℕ → Shard R A → Shard R A → S → Type 0) (shared : Bool) where
+  -- what is done by other words
+  pub leads_as : (a b : S) (x : State) (does said : List Hold → Store → Type 0) (known : State → Type 0) → ((holds : List Hold) (store : Store) → does holds store → said holds store) → LeadsBy rack area went shared a b x does known → LeadsBy rack area went shared a b x said known
+  leads_as a b x does said known f one = record { holds = one.holds; reached = one.reached; store = one.store; follows = one.follows; done = f one.holds one.store one.done; knows = one.knows }

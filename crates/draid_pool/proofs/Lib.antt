@@ -27,8 +27,12 @@ pub mod Joining
 pub mod LeavesFlushed
 pub mod Lifted
 pub mod ListedOnce
+pub mod Listing
 pub mod Lists
 pub mod Lives
+pub mod LookHold
+pub mod LookKeeps
+pub mod LookRooms
 pub mod Looking
 pub mod Moved
 pub mod Naming
@@ -38,12 +42,14 @@ pub mod OwnedKnows
 pub mod OwnedStands
 pub mod Owning
 pub mod Places
+pub mod QuietWhole
 pub mod Ranging
 pub mod Refusing
 pub mod Releasing
 pub mod Returned
 pub mod Rises
 pub mod Rooms
+pub mod Roomy
 pub mod SealRecords
 pub mod SealSteps
 pub mod ShardSteps

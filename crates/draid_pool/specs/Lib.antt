@@ -8,6 +8,7 @@ pub mod Groups
 pub mod Holding
 pub mod Importable
 pub mod Knows
+pub mod Looking
 pub mod Metaslabs
 pub mod Objects
 pub mod Pointers

@@ -5,6 +5,7 @@ use Rattle.draid_names.specs.declared.numbers.TheConstants.{LAST_NUMBER}
 use Rattle.draid_names.specs.declared.pointer.Pointer.{Pointer}
 use Rattle.draid_rack.specs.declared.Rack as racks
 use Rattle.draid_area.specs.declared.Area as areas
+use Rattle.draid_spec.specs.declared.layout.Geometry.{Geometry}
 use Rattle.draid_machine.specs.declared.names.Held.{Held}
 use Rattle.draid_machine.specs.declared.names.Key.{Key}
 use Rattle.draid_machine.specs.declared.names.Stage.TheVariants.{Live}
@@ -110,6 +111,14 @@ pub record IsWholeBut {R A : Type 0} (rack : racks.Ghosts R) (owns : ℕ → Boo
 -- what each command of a thread needs and keeps
 abbrev pub IsWholeBy : {R A : Type 0} → racks.Ghosts R → (ℕ → Bool) → (ℕ → Option (Shard R A)) → (ℕ → Option Pointer) → (seq floor : ℕ) → Type 0
 IsWholeBy rack owns last table seq floor = IsWholeBut rack owns (all_of owns) last table seq floor
+
+-- what was whole, where the blocks of some places are seen, is so then
+abbrev pub KeepsWhole : {R A : Type 0} → racks.Ghosts R → (ℕ → Bool) → (ℕ → Key → Bool) → (last now : ℕ → Option (Shard R A)) → Type 0
+KeepsWhole rack owns mine last now = (table : ℕ → Option Pointer) (seq floor : ℕ) → IsWholeBut rack owns mine last table seq floor → IsWholeBut rack owns mine now table seq floor
+
+-- each metaslab has this layout
+abbrev pub HaveLayout : {R A : Type 0} → Geometry → (ℕ → Option (Shard R A)) → Type 0
+HaveLayout {R} {A} geometry last = (m : ℕ) (shard : Shard R A) → last m ≡ Some shard → shard.geometry ≡ geometry
 
 -- a metaslab is the same as before, and so are its groups and arms where they are the thread's own
 pub record Stays {R A : Type 0} (owns : ℕ → Bool) (old new : Shard R A) : Type 0 where

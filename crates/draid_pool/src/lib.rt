@@ -1,5 +1,5 @@
-//! An open pool: what it is made of and what it stands for; its groups, each of which is closed, sealed and committed in
-//! all of its metaslabs; and how its devices are given back.
+//! An open pool: what it is made of and what it stands for; its metaslabs, which are held one at a time, and looks at
+//! their rooms; its groups, each of which is closed, sealed and committed in all of them; and how its devices are given back.
 
 #![tactic(auto)]
 
@@ -13,6 +13,7 @@ mod owned;
 mod pool;
 mod records;
 mod returning;
+mod room;
 mod sealing;
 mod syncing;
 mod telling;
@@ -28,4 +29,5 @@ pub use owned::Owned;
 pub use pool::{EVENTS, Pool};
 pub use records::{record_of, write_to};
 pub use returning::{close, give_back, into_kit};
+pub use room::{LookOp, Seen, SeenRooms, look_for_room};
 pub use sealing::seal;

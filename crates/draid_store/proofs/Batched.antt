@@ -28,7 +28,8 @@ use Rattle.draid_session.specs.Reads as reads
 use Rattle.draid_session.specs.State.{State, Store}
 use Rattle.draid_store.specs.Answers.{FetchDoes, FetchIs, IsFetchOf, NoFetch, ReadDoes, reading_of}
 use Rattle.draid_store.specs.Batches.{AddIs, AddTries, AreBytes, EndsBatch, FeedsAll, FetchesBatch, FetchesBlocks, FirstUnread}
-use Rattle.draid_store.specs.Fetching.{ButLooks, HaveLayout}
+use Rattle.draid_store.specs.Fetching.{ButLooks}
+use Rattle.draid_pool.specs.Threads.{HaveLayout}
 use Rattle.draid_store.specs.declared.fault.SumFault.{SumFault}
 use Rattle.draid_store.specs.declared.summing.Batch.{Batch}
 use Rattle.draid_store.specs.PointerSums.{BlocksOf}
@@ -39,9 +40,9 @@ use Rattle.draid_pool.specs.Threads.{AllStay, IsWholeBy, Knows, LeadsBy}
 use Rattle.draid_pool.proofs.HeldBy.{stay_same, stay_then}
 use Rattle.draid_pool.proofs.Joining.{Both, leads_then}
 use Rattle.draid_pool.proofs.Steps.{SameLayout, own_of}
-use Rattle.draid_store.proofs.ColumnSteps.{leads_as}
+use Rattle.draid_pool.proofs.Joining.{leads_as}
 use Rattle.draid_store.proofs.PointedSums.{blocks_more}
-use Rattle.draid_store.proofs.QuietWhole.{layout_stays}
+use Rattle.draid_pool.proofs.QuietWhole.{layout_stays}
 use Rattle.draid_store.proofs.Sums.{gives_length}
 
 -- ---- fetching

@@ -20,14 +20,10 @@ use Rattle.draid_store.specs.Open.{KnowsOpen}
 use Rattle.draid_store.specs.Writing.{PutsShard}
 use Rattle.draid_shard.specs.declared.shard.Shard.{Shard}
 use Rattle.draid_pool.proofs.ShardSteps.{at_here}
-use Rattle.draid_pool.proofs.Joining.{Both, leads_then}
+use Rattle.draid_pool.proofs.Joining.{Both, leads_as, leads_then}
 use Rattle.draid_store.proofs.Opening.{put_step}
 
 module _ {R A S : Type 0} (rack : racks.Ghosts R) (area : areas.Ghosts A) (went : S → ℕ → Shard R A → Shard R A → S → Type 0) (shared : Bool) where
-  -- what is done by other words
-  pub leads_as : (a b : S) (x : State) (does said : List Hold → Store → Type 0) (known : State → Type 0) → ((holds : List Hold) (store : Store) → does holds store → said holds store) → LeadsBy rack area went shared a b x does known → LeadsBy rack area went shared a b x said known
-  leads_as a b x does said known f one = record { holds = one.holds; reached = one.reached; store = one.store; follows = one.follows; done = f one.holds one.store one.done; knows = one.knows }
-
   -- one column is put
   abbrev pub PutsOne : Ticket → ℕ → State → List Hold → Store → Type 0
   PutsOne ticket m x holds store = (store ≡ x.store) × ((hold : Hold) × (holds ≡ hold ∷ []) × PutsColumn (key_of ticket.pointer) m hold)
@@ -41,7 +37,7 @@ module _ {R A S : Type 0} (rack : racks.Ghosts R) (area : areas.Ghosts A) (went 
       (is : (k : ℕ) → new k ≡ (if k == m then Some after else now k)) (goes : went b m before after c) (put : PutsShard rack before ticket block after_ticket after) where
     pub puts_one : PutsBy rack area went shared owns now_owns last new a c m first after_ticket block (n + 1)
     puts_one table seq floor x knows =
-        leads_as a c x (Both rack area went shared a b c x (PutsSome first m n x) (KnowsOpen rack area now_owns now table seq floor m ticket block) (PutsOne ticket m x) (KnowsOpen rack area now_owns new table seq floor m after_ticket block))
+        leads_as rack area went shared a c x (Both rack area went shared a b c x (PutsSome first m n x) (KnowsOpen rack area now_owns now table seq floor m ticket block) (PutsOne ticket m x) (KnowsOpen rack area now_owns new table seq floor m after_ticket block))
         (PutsSome first m (n + 1) x) (KnowsOpen rack area now_owns new table seq floor m after_ticket block) (λ holds store done. joined done.front done.back done.mid holds store done.are done.first done.second)
         (leads_then rack area went shared a b c x (PutsSome first m n x) (KnowsOpen rack area now_owns now table seq floor m ticket block) (PutsOne ticket m x) (KnowsOpen rack area now_owns new table seq floor m after_ticket block)
         (some table seq floor x knows)

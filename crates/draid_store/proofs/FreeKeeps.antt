@@ -12,16 +12,13 @@ use Rattle.draid_shard.specs.Changes.{DoesNothing, SetsBlock}
 use Rattle.draid_shard.specs.declared.shard.Shard.{Shard}
 use Rattle.draid_pool.specs.Drifts.{KeepsGroups, KeepsOf, KeepsTo, StateStep, is_other}
 use Rattle.draid_store.specs.Frees.{FreesBlock, FreesShard, IsEarly}
-use Rattle.draid_pool.proofs.Drifting.{groups_kept, keeps_self}
+use Rattle.draid_pool.proofs.Drifting.{keeps_self, same_groups}
 use Rattle.draid_pool.proofs.ShardSteps.{sets_others, state_goes}
 use Rattle.draid_pool.proofs.Since.{state_self}
 
 -- the same key by both names
 pub same_key : (p : Pointer) (w : Write) → p.object ≡ w.object → p.seq ≡ w.seq → key_of p ≡ changes.key_of w
 same_key p w object seq = λ i. record { object = object i; seq = seq i }
-
-pub same_groups : {R A : Type 0} (old new : Shard R A) → new ≡ old → KeepsGroups old new
-same_groups old new same = subst (KeepsGroups old) (sym same) (groups_kept old)
 
 -- a block that is set leaves the groups and the arms, and so does what does nothing
 pub sets_groups : {R A : Type 0} (old new : Shard R A) (p : Pointer) (entry : Option Entry) → SetsBlock old new p entry → KeepsGroups old new

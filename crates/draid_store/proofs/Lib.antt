@@ -18,11 +18,7 @@ pub mod FreeHold
 pub mod FreeKeeps
 pub mod FreeKnown
 pub mod FreeWhole
-pub mod Listing
 pub mod Lively
-pub mod LookHold
-pub mod LookKeeps
-pub mod LookRooms
 pub mod Older
 pub mod OpenKeeps
 pub mod Opening
@@ -32,7 +28,6 @@ pub mod PointedSums
 pub mod PutKeeps
 pub mod PutSteps
 pub mod QuietKeeps
-pub mod QuietWhole
 pub mod ReadSteps
 pub mod Refused
 pub mod Saying

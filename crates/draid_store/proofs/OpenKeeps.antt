@@ -25,7 +25,8 @@ use Rattle.draid_pool.proofs.Glances.{IsStill}
 use Rattle.draid_pool.specs.Drifts.{Drifts, KeepsOf, KeepsTo, is_other, StateStep}
 use Rattle.draid_store.specs.Writing.{BeginsAs, BeginsShard, FinishesShard, MayBeginIn, MayFinishIn, MayPutIn, PutsShard}
 use Rattle.draid_pool.proofs.Drifting.{keeps_self}
-use Rattle.draid_store.proofs.FreeKeeps.{same_groups, nothing_groups}
+use Rattle.draid_store.proofs.FreeKeeps.{nothing_groups}
+use Rattle.draid_pool.proofs.Drifting.{same_groups}
 use Rattle.draid_store.proofs.PutKeeps.{put_keeps}
 use Rattle.draid_store.proofs.QuietKeeps.{begin_keeps, finish_keeps}
 use Rattle.draid_pool.proofs.Since.{since_self, state_self}

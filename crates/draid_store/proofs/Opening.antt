@@ -31,7 +31,7 @@ use Rattle.draid_pool.specs.Pools.{part_in}
 use Rattle.draid_pool.proofs.Dids.{Done, did_quiet}
 use Rattle.draid_pool.proofs.Lists.{some_of}
 use Rattle.draid_pool.proofs.Moved.{turn, turn_here, with_metaslab}
-use Rattle.draid_store.proofs.Refused.{worn_for}
+use Rattle.draid_pool.proofs.Roomy.{worn_for}
 use Rattle.draid_pool.specs.Drifts.{Drifts}
 use Rattle.draid_pool.specs.Threads.{Knows, KnowsBut, LeadsBy, all_of, but}
 use Rattle.draid_store.specs.Open.{KnowsOpen}

@@ -12,7 +12,7 @@ use Rattle.draid_session.specs.State.{State, Store}
 use Rattle.draid_session.specs.Writes.{FreesEarlier, PutsColumns, Tries, WritesBlock}
 use Rattle.draid_session.specs.Rooms.{LooksForRoom}
 use Rattle.draid_store.specs.Answers.{WriteDoes}
-use Rattle.draid_store.proofs.LookHold.{only_looked}
+use Rattle.draid_pool.proofs.LookHold.{only_looked}
 use Rattle.draid_pool.proofs.OwnedStands.{ArePlain}
 
 pub plain_append : (a b : List Hold) → ArePlain a → ArePlain b → ArePlain (a ++ b)

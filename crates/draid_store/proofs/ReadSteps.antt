@@ -27,7 +27,7 @@ use Rattle.draid_store.specs.declared.fault.SumFault.{SumFault}
 use Rattle.std.proofs.lemmas.List.{append-nil}
 use Rattle.draid_pool.specs.Threads.{LeadsBy}
 use Rattle.draid_pool.proofs.OwnedStands.{ArePlain, IsPlain}
-use Rattle.draid_store.proofs.ColumnSteps.{leads_as}
+use Rattle.draid_pool.proofs.Joining.{leads_as}
 use Rattle.draid_store.proofs.Plain.{looks_plain, plain_append}
 
 -- the answer of a solver, by its fault

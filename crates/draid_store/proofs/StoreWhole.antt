@@ -20,7 +20,8 @@ use Rattle.draid_shard.specs.declared.shard.Shard.{Shard}
 use Rattle.draid_shard.proofs.Held.{key_leads}
 use Rattle.draid_pool.specs.Threads.{HasPointer, IsWholeBut, IsWholeBy, all_of, but}
 use Rattle.draid_store.specs.Freeing.{IsApart}
-use Rattle.draid_store.specs.Putting.{EndsWhole, KeepsWhole, MayStart, Takes}
+use Rattle.draid_store.specs.Putting.{EndsWhole, MayStart, Takes}
+use Rattle.draid_pool.specs.Threads.{KeepsWhole}
 use Rattle.draid_store.specs.Storing.{ComesBack}
 use Rattle.draid_pool.proofs.Lists.{some_of}
 use Rattle.draid_pool.proofs.Wholes.{put_elsewhere, put_here}

@@ -19,7 +19,7 @@ use Rattle.draid_store.specs.declared.fault.SumFault.{SumFault}
 use Rattle.draid_pool.specs.Threads.{Knows, LeadsBy}
 use Rattle.draid_pool.proofs.Joining.{Both, leads_then}
 use Rattle.draid_pool.proofs.Steps.{SameLayout, own_of}
-use Rattle.draid_store.proofs.ColumnSteps.{leads_as}
+use Rattle.draid_pool.proofs.Joining.{leads_as}
 
 -- all the bytes
 abbrev pub joined : List (List ℕ) → List ℕ

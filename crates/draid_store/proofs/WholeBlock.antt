@@ -19,7 +19,7 @@ use Rattle.draid_pool.specs.Threads.{Knows, LeadsBy}
 use Rattle.draid_store.specs.Open.{KnowsEarlier, KnowsReplaced}
 use Rattle.draid_shard.specs.declared.shard.Shard.{Shard}
 use Rattle.draid_pool.proofs.Joining.{Both, leads_then}
-use Rattle.draid_store.proofs.ColumnSteps.{leads_as}
+use Rattle.draid_pool.proofs.Joining.{leads_as}
 use Rattle.draid_store.proofs.Storing.{answer_of}
 
 pub answered : (r : Option (Result (Option Pointer) StoreFault)) (s : Result (Option Pointer) StoreFault) (e o : Option Pointer) → r ≡ Some s → s ≡ Ok e → e ≡ o → r ≡ answer_of o

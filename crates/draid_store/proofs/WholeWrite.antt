@@ -21,7 +21,7 @@ use Rattle.draid_store.specs.Open.{KnowsEarlier, KnowsOpen, KnowsReplaced}
 use Rattle.draid_store.specs.Writing.{BeginsIn, EndsIn}
 use Rattle.draid_shard.specs.declared.shard.Shard.{Shard}
 use Rattle.draid_pool.proofs.Joining.{Both, leads_then}
-use Rattle.draid_store.proofs.ColumnSteps.{leads_as}
+use Rattle.draid_pool.proofs.Joining.{leads_as}
 
 joined : {A : Type 0} (a b c : List A) → (a ++ b) ++ c ≡ a ++ (b ++ c)
 joined [] b c = refl

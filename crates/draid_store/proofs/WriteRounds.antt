@@ -34,18 +34,18 @@ use Rattle.draid_pool.specs.Shards.{HasRoom}
 use Rattle.draid_pool.proofs.Joining.{Both, leads_then}
 use Rattle.draid_pool.proofs.Steps.{SameLayout, own_of}
 use Rattle.draid_store.specs.Answers.{MissesIn, WriteDoes, WriteInDoes, WritesIn}
-use Rattle.draid_store.specs.Looking.{HasMany, LooksAtRooms, LooksDo, RoomsAre}
-use Rattle.draid_store.specs.Fetching.{HaveLayout}
+use Rattle.draid_pool.specs.Looking.{HasMany, LooksAtRooms, LooksDo, RoomsAre}
+use Rattle.draid_pool.specs.Threads.{HaveLayout}
 use Rattle.draid_store.specs.Putting.{Takes}
 use Rattle.draid_store.specs.Open.{KnowsReplaced}
 use Rattle.draid_store.specs.Storing.{AwaitsIn, IsAnswerTo, IsServed, StoreRefusedBy, StoreSetsTable, WriteAwaits, WriteSays, WritesBy, store_with}
 use Rattle.draid_store.specs.declared.fault.StoreFault.{StoreFault}
 use Rattle.draid_store.specs.declared.fault.StoreFault.TheVariants.{Missed, Refused}
-use Rattle.draid_store.specs.declared.room.Rooms.{Rooms}
+use Rattle.draid_pool.specs.declared.room.SeenRooms.{SeenRooms}
 use Rattle.draid_store.proofs.ChooseSteps.{has_room, short_all}
-use Rattle.draid_store.proofs.ColumnSteps.{leads_as}
-use Rattle.draid_store.proofs.LookHold.{only_looked}
-use Rattle.draid_store.proofs.LookRooms.{looks_append}
+use Rattle.draid_pool.proofs.Joining.{leads_as}
+use Rattle.draid_pool.proofs.LookHold.{only_looked}
+use Rattle.draid_pool.proofs.LookRooms.{looks_append}
 use Rattle.draid_store.proofs.Refused.{refused_memory}
 
 -- ---- what a write did, by the layout and by what the thread had
@@ -113,7 +113,7 @@ waits_in x y m o birth bytes holds new s w = own_of x y (λ g p t. WaitsIn g t m
 
 -- ---- the looks
 
-module _ (x : State) (geometry : Geometry) (layout : x.geometry ≡ geometry) (bytes : List ℕ) (need : ℕ) (need_is : need ≡ stripes_for geometry bytes) (rooms : Rooms) where
+module _ (x : State) (geometry : Geometry) (layout : x.geometry ≡ geometry) (bytes : List ℕ) (need : ℕ) (need_is : need ≡ stripes_for geometry bytes) (rooms : SeenRooms) where
   for_room : (holds : List Hold) → (l : LooksAtRooms x.geometry x.perms need geometry.props.metaslabs rooms holds) → LooksForRoom x.geometry x.perms bytes holds l.views rooms.rooms.items
   for_room holds l = record {
     looked = subst (λ (g : Geometry). LooksFrom 0 g.props.metaslabs holds l.views) (sym layout) l.looked;
@@ -149,7 +149,7 @@ module _ (x : State) (geometry : Geometry) (layout : x.geometry ≡ geometry) (b
 -- ---- and the write
 
 module _ {R A S : Type 0} (rack : racks.Ghosts R) (area : areas.Ghosts A) (went : S → ℕ → Shard R A → Shard R A → S → Type 0) (shared : Bool) (owns : ℕ → Bool) (a b c : S) (last mid new : ℕ → Option (Shard R A)) (geometry : Geometry) (chosen : List Room → Option ℕ → Type 0)
-    (object m : ℕ) (block : BlockValue) (need : ℕ) (need_is : need ≡ stripes_for geometry block.bytes) (rooms : Rooms) (table then_table : ℕ → Option Pointer) (seq floor then_seq then_floor : ℕ) (named : chosen rooms.rooms.items (Some m)) (numbered : seq < LAST_NUMBER)
+    (object m : ℕ) (block : BlockValue) (need : ℕ) (need_is : need ≡ stripes_for geometry block.bytes) (rooms : SeenRooms) (table then_table : ℕ → Option Pointer) (seq floor then_seq then_floor : ℕ) (named : chosen rooms.rooms.items (Some m)) (numbered : seq < LAST_NUMBER)
     (x : State) (layout : x.geometry ≡ geometry) (knows : Knows rack area owns last table seq floor x) (looked : LeadsBy rack area went shared a b x (LooksDo x need geometry.props.metaslabs (Ok rooms)) (Knows rack area owns mid table seq floor)) where
   abbrev Looked : List Hold → Store → Type 0
   Looked = LooksDo x need geometry.props.metaslabs (Ok rooms)

@@ -29,7 +29,8 @@ use Rattle.draid_pool.proofs.Hiding.{but_away, but_here, but_inside}
 use Rattle.draid_pool.proofs.Lists.{some_of}
 use Rattle.draid_pool.proofs.ShardSteps.{at_here}
 use Rattle.draid_pool.proofs.Wholes.{open_high, open_low}
-use Rattle.draid_store.proofs.FreeKeeps.{same_groups, sets_groups, nothing_groups}
+use Rattle.draid_store.proofs.FreeKeeps.{sets_groups, nothing_groups}
+use Rattle.draid_pool.proofs.Drifting.{same_groups}
 use Rattle.draid_store.proofs.Lively.{live_begin, live_end, live_put}
 
 -- a place that isn't seen

@@ -1,10 +1,9 @@
 -- The fetching of a block in one hold.
-use Rattle.std.specs.Prelude.{◌≡◌, ◌≤◌, ◌<◌, ◌+◌, ◌++◌, ℕ, Bool, true, List, Option, Some, Result, Ok, Err}
+use Rattle.std.specs.Prelude.{◌≡◌, ◌≤◌, ◌<◌, ◌+◌, ◌++◌, ℕ, Bool, true, List, Result, Ok, Err}
 use Rattle.draid_names.specs.declared.pointer.Pointer.{Pointer}
 use Rattle.draid_names.specs.declared.refusal.ObjectFault.{ObjectFault}
 use Rattle.draid_names.specs.declared.refusal.ObjectFault.TheVariants as object
 use Rattle.draid_rack.specs.declared.Rack as racks
-use Rattle.draid_spec.specs.declared.layout.Geometry.{Geometry}
 use Rattle.draid_block.specs.declared.solve.Fetched.{Fetched}
 use Rattle.draid_blocks.specs.Fetching.{Fetches}
 use Rattle.draid_shard.specs.Calls.{SameAreas, SameKit, SameReserve}
@@ -17,10 +16,6 @@ use Rattle.draid_shard.specs.declared.shard.Shard.{Shard}
 use Rattle.draid_session.specs.Holds.{Hold}
 use Rattle.draid_session.specs.Looks.{OnlyLooks}
 use Rattle.draid_session.specs.State.{Store}
-
--- each metaslab has this layout
-abbrev pub HaveLayout : {R A : Type 0} → Geometry → (ℕ → Option (Shard R A)) → Type 0
-HaveLayout {R} {A} geometry last = (m : ℕ) (shard : Shard R A) → last m ≡ Some shard → shard.geometry ≡ geometry
 
 -- so many objects from one on are a thread's own
 abbrev pub OwnsFrom : (ℕ → Bool) → ℕ → ℕ → Type 0

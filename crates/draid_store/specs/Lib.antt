@@ -3,7 +3,6 @@ pub mod Batches
 pub mod Fetching
 pub mod Freeing
 pub mod Frees
-pub mod Looking
 pub mod Open
 pub mod PointerSums
 pub mod Pointers

@@ -7,7 +7,6 @@ use Rattle.draid_area.specs.declared.Area as areas
 use Rattle.draid_block.specs.Blocks.{BlockValue, cut_of}
 use Rattle.draid_block.specs.Columns.{stripes_of}
 use Rattle.draid_machine.specs.State as machine
-use Rattle.draid_machine.specs.declared.names.Key.{Key}
 use Rattle.draid_objects.specs.Changes.{Wrote, write_of}
 use Rattle.draid_entries.specs.Maps.{key_of}
 use Rattle.draid_blocks.specs.Tickets.{BeginRefused, Carries, IsNewWrite}
@@ -23,7 +22,7 @@ use Rattle.draid_session.specs.Writes.{PutsColumns}
 use Rattle.draid_turn.specs.Calls.{Lock}
 use Rattle.draid_pool.specs.declared.cell.Cell.{Cell}
 use Rattle.draid_pool.specs.Drifts.{Drifts, groups_number}
-use Rattle.draid_pool.specs.Threads.{AllStay, HasPointer, IsWholeBut, IsWholeBy, Knows, LeadsBy, all_of, but}
+use Rattle.draid_pool.specs.Threads.{AllStay, HasPointer, IsWholeBut, IsWholeBy, KeepsWhole, Knows, LeadsBy, all_of, but}
 use Rattle.draid_store.specs.Open.{KnowsOpen, KnowsReplaced}
 use Rattle.draid_store.specs.Writing.{BeginsIn, EndsIn}
 use Rattle.draid_shard.specs.declared.shard.Shard.{Shard}
@@ -35,10 +34,6 @@ pub record CarriesAt {R A : Type 0} (rack : racks.Ghosts R) (last : ℕ → Opti
   pub valid : Valid rack shard
   pub carries : Carries shard ticket block
   pub columns_are : shard.geometry.g ≡ columns
-
--- what was whole, where the blocks of some places are seen, is so then
-abbrev pub KeepsWhole : {R A : Type 0} → racks.Ghosts R → (ℕ → Bool) → (ℕ → Key → Bool) → (last now : ℕ → Option (Shard R A)) → Type 0
-KeepsWhole rack owns mine last now = (table : ℕ → Option Pointer) (seq floor : ℕ) → IsWholeBut rack owns mine last table seq floor → IsWholeBut rack owns mine now table seq floor
 
 -- so many columns are put, and nothing of the thread's own changed
 abbrev pub PutsSome : Ticket → ℕ → ℕ → State → List Hold → Store → Type 0

@@ -1,32 +1,17 @@
 -- What becomes of one metaslab as a sector is damaged there; and what the shards of a pool say of their room.
-use Rattle.std.specs.Prelude.{◌≡◌, ℕ, Bool, true, false, List, [], ◌∷◌, Option, Result, Ok, Err}
-use Rattle.draid_names.specs.declared.room.Room.{Room}
+use Rattle.std.specs.Prelude.{◌≡◌, ℕ, Bool, true, false, List, [], ◌∷◌, Result, Ok, Err}
 use Rattle.draid_machine.specs.declared.names.Key.{Key}
 use Rattle.draid_machine.specs.declared.event.Event.TheVariants as event
 use Rattle.draid_machine.specs.Names.{key_eq}
 use Rattle.draid_machine.specs.State as machine
 use Rattle.draid_segments.specs.Segments.{Pieces}
-use Rattle.draid_shard.specs.Rooms.{IsRoom, ShutBy}
 use Rattle.draid_shard.specs.Part.{Part}
-use Rattle.draid_shard.specs.States.{IsIn}
-use Rattle.draid_shard.specs.declared.fault.Shut.{Shut}
-use Rattle.draid_shard.specs.declared.shard.Shard.{Shard}
 use Rattle.draid_session.specs.Damage.{HasLeaf}
 use Rattle.draid_session.specs.Holds.{Did, Hold, Looked, On, Reserved, view_of}
 use Rattle.draid_session.specs.State.{Metaslab}
 use Rattle.draid_session.specs.Worn.{ReservesWorn}
 use Rattle.draid_store.specs.declared.fault.DamageFault.{DamageFault}
 use Rattle.draid_store.specs.declared.fault.DamageFault.TheVariants as damage
-
--- the room that a shard has for a block of so many stripes
-pub record RoomIs {R A : Type 0} (need : ℕ) (shard : Shard R A) (room : Room) : Type 0 where
-  pub metaslab : room.metaslab ≡ shard.number
-  pub wanted : room.need ≡ need
-  pub run : (w : machine.State) → IsIn shard w → IsRoom shard w room.run
-
--- why a shard takes no new block
-abbrev pub ShutIs : {R A : Type 0} → Shard R A → Option Shut → Type 0
-ShutIs shard why = (w : machine.State) → IsIn shard w → ShutBy shard w why
 
 -- pieces of other keys are as they were
 abbrev pub SamePieces : Key → Pieces → Pieces → Type 0

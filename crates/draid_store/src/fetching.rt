@@ -4,9 +4,9 @@ ghost use Rattle.draid_block.specs.Blocks.{cut_of};
 ghost use Rattle.draid_block.specs.Solving.{IsFetched};
 ghost use Rattle.draid_session.specs.State.{State};
 ghost use Rattle.draid_spec.specs.declared.layout.Geometry.{Geometry};
-ghost use Rattle.draid_pool.specs.Threads.{AllStay, CarriesBy, IsWholeBy, Knows};
+ghost use Rattle.draid_pool.specs.Threads.{AllStay, CarriesBy, HaveLayout, IsWholeBy, Knows};
 ghost use Rattle.draid_store.specs.Answers.{FetchDoes};
-ghost use Rattle.draid_store.specs.Fetching.{FetchesShard, HaveLayout, MayFetchIn};
+ghost use Rattle.draid_store.specs.Fetching.{FetchesShard, MayFetchIn};
 ghost use Rattle.draid_store.specs.Pointers.{FetchFinds};
 
 use draid_area::Area;

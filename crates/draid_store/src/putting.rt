@@ -1,7 +1,7 @@
 ghost use Rattle.std.specs.Prelude.{◌≡◌, true};
 ghost use Rattle.draid_entries.specs.Maps.{key_of};
-ghost use Rattle.draid_pool.specs.Threads.{AllStay, all_of, but};
-ghost use Rattle.draid_store.specs.Putting.{CarriesAt, KeepsWhole, PutsBy};
+ghost use Rattle.draid_pool.specs.Threads.{AllStay, KeepsWhole, all_of, but};
+ghost use Rattle.draid_store.specs.Putting.{CarriesAt, PutsBy};
 
 use draid_area::Area;
 use draid_block::Encoded;

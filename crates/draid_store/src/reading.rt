@@ -3,12 +3,11 @@ ghost use Rattle.std.specs.HashMap.{get};
 ghost use Rattle.draid_session.specs.State.{State};
 ghost use Rattle.draid_spec.specs.Geometry.{IsGeometry};
 ghost use Rattle.draid_store.specs.Answers.{ReadDoes};
-ghost use Rattle.draid_store.specs.Fetching.{HaveLayout};
 ghost use Rattle.draid_pool.specs.Carries.{CarriesOut};
 ghost use Rattle.draid_store.specs.Pointers.{ReadFinds};
 ghost use Rattle.draid_pool.specs.Pointers.{SamePointers, pointer_in};
 ghost use Rattle.draid_pool.specs.Pools.{Represents};
-ghost use Rattle.draid_pool.specs.Threads.{AllStay, CarriesBy, IsWholeBy, Knows};
+ghost use Rattle.draid_pool.specs.Threads.{AllStay, CarriesBy, HaveLayout, IsWholeBy, Knows};
 ghost use Rattle.draid_pool.specs.Whole.{IsWhole};
 
 use crate::fetching::fetch_object;

@@ -8,12 +8,12 @@ ghost use Rattle.draid_spec.specs.Geometry.{IsGeometry};
 ghost use Rattle.draid_spec.specs.declared.layout.Geometry.{Geometry};
 ghost use Rattle.draid_store.specs.Answers.{SumDoes};
 ghost use Rattle.draid_store.specs.Batches.{AddTries, FeedIs, FetchesBatch, SumTries};
-ghost use Rattle.draid_store.specs.Fetching.{HaveLayout, OwnsFrom};
+ghost use Rattle.draid_store.specs.Fetching.{OwnsFrom};
 ghost use Rattle.draid_pool.specs.Carries.{CarriesOut};
 ghost use Rattle.draid_store.specs.PointerSums.{AddFinds, BlocksOf, StopsFor, SumFinds};
 ghost use Rattle.draid_pool.specs.Pointers.{SamePointers, pointer_in};
 ghost use Rattle.draid_pool.specs.Pools.{Represents};
-ghost use Rattle.draid_pool.specs.Threads.{AllStay, CarriesBy, IsWholeBy, Knows};
+ghost use Rattle.draid_pool.specs.Threads.{AllStay, CarriesBy, HaveLayout, IsWholeBy, Knows};
 ghost use Rattle.draid_pool.specs.Whole.{IsWhole};
 
 use crate::fault::SumFault;

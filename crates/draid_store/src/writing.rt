@@ -9,27 +9,25 @@ ghost use Rattle.draid_block.specs.Blocks.{cut_of};
 ghost use Rattle.draid_session.specs.Rooms.{longest};
 ghost use Rattle.draid_session.specs.State.{State};
 ghost use Rattle.draid_store.specs.Answers.{WriteDoes};
-ghost use Rattle.draid_store.specs.Fetching.{HaveLayout};
-ghost use Rattle.draid_store.specs.Looking.{HasMany};
+ghost use Rattle.draid_pool.specs.Looking.{HasMany};
 ghost use Rattle.draid_store.specs.Putting.{Takes};
 ghost use Rattle.draid_store.specs.Storing.{ComesBack, IsAnswerTo, IsServed, StoreRefusedBy, StoreSetsTable, WriteSays, WritesBy};
 ghost use Rattle.draid_pool.specs.Carries.{CarriesOut};
 ghost use Rattle.draid_store.specs.Pointers.{WriteSets};
 ghost use Rattle.draid_pool.specs.Drifts.{groups_number};
 ghost use Rattle.draid_pool.specs.Pools.{Represents};
-ghost use Rattle.draid_pool.specs.Threads.{AllStay, IsWholeBy, Knows};
+ghost use Rattle.draid_pool.specs.Threads.{AllStay, HaveLayout, IsWholeBy, Knows};
 ghost use Rattle.draid_pool.specs.Whole.{IsWhole};
 
 use crate::fault::StoreFault;
 use crate::freeing::free_earlier;
-use crate::room::{Rooms, longest_run, look_for_room};
 use crate::store::store_block;
 use draid_area::Area;
 use draid_block::Encoded;
 use draid_blocks::{BeginFault, Missed};
 use draid_choose::Chooser;
 use draid_names::{LAST_NUMBER, LONGEST_BLOCK, OBJECTS, Pointer, Room, WriteFault};
-use draid_pool::{Metaslabs, Own, Pool};
+use draid_pool::{Metaslabs, Own, Pool, SeenRooms, look_for_room};
 use draid_rack::Rack;
 use draid_spec::Geometry;
 use std::alloc::Global;
@@ -175,7 +173,7 @@ fn written_as(
 }
 
 /// Why no metaslab took a block, where these are the rooms.
-fn no_space(seen: &Rooms) -> WriteFault
+fn no_space(seen: &SeenRooms) -> WriteFault
     ensures { result ≡ WriteFault.NoSpace (longest seen.now.rooms.items) seen.now.disabled seen.now.full seen.now.worn }
 {
     WriteFault::NoSpace {
@@ -228,4 +226,15 @@ pub fn write_block<R: Rack, A: Area, M: Metaslabs<R, A>>(
     };
     own.floor = group;
     Some(Ok(None))
+}
+
+/// The longest run of some rooms.
+fn longest_run(rooms: &[Room]) -> u64
+    ensures { result ≡ longest rooms.now }
+{
+    let mut run = 0;
+    for room in rooms {
+        run = run.max(room.run);
+    }
+    run
 }

@@ -6,7 +6,7 @@ use Rattle.draid_pool.proofs.HeldBy.{stay_held, stay_same}
 use Rattle.draid_store.proofs.FetchHold.{not_fetched, step_of}
 use Rattle.draid_store.proofs.FetchKeeps.{did_fetch, fetch_blocks, fetch_finds, fetch_groups, fetched_as, keeps_fetch, may_fetch}
 use Rattle.draid_store.proofs.Pointed.{fetch_nothing}
-use Rattle.draid_store.proofs.QuietWhole.{quiet_whole}
+use Rattle.draid_pool.proofs.QuietWhole.{quiet_whole}
 use Rattle.std.specs.Prelude.{IfOk}
 use Rattle.draid_block.specs.Blocks.{cut_of}
 use Rattle.draid_block.specs.Solving.{IsFetched}

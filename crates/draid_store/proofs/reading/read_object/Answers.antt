@@ -5,7 +5,7 @@ use Rattle.draid_block.specs.declared.many.Solve.TheVariants.{Bytes, Unreadable}
 use Rattle.draid_names.specs.declared.refusal.ObjectFault.TheVariants.{NoMemory}
 use Rattle.draid_pool.specs.Threads.{Knows}
 use Rattle.draid_store.specs.Answers.{FetchDoes, ReadDoes}
-use Rattle.draid_store.proofs.ColumnSteps.{leads_as}
+use Rattle.draid_pool.proofs.Joining.{leads_as}
 use Rattle.draid_store.proofs.Pointed as pointed
 use Rattle.draid_store.proofs.Pointed.{read_bytes, read_lost, read_stops}
 use Rattle.draid_store.proofs.ReadSteps.{read_starved, solved_as, unread, unread_is}

@@ -12,7 +12,7 @@ use Rattle.draid_names.specs.declared.refusal.ObjectFault.TheVariants.{NoMemory}
 use Rattle.draid_pool.specs.Threads.{Knows}
 use Rattle.draid_store.specs.Batches.{AddTries, FeedsAll, FetchesBatch, FirstUnread}
 use Rattle.draid_store.proofs.Batched.{batch_added, batch_stops, solved_length, unread_in, unsolved}
-use Rattle.draid_store.proofs.ColumnSteps.{leads_as}
+use Rattle.draid_pool.proofs.Joining.{leads_as}
 use Rattle.draid_store.proofs.PointedSums.{adds_all, stops_behind, stops_of, stops_starved, stops_unread}
 use Rattle.draid_store.proofs.summing.add_batch.Goals as goal
 

@@ -9,7 +9,7 @@ use Rattle.draid_pool.proofs.OwnedKnows.{all, left_in, table_in}
 use Rattle.draid_store.specs.Answers.{SumDoes}
 use Rattle.draid_store.specs.Batches.{SumTries}
 use Rattle.draid_store.specs.Fetching.{ButLooks}
-use Rattle.draid_store.proofs.ColumnSteps.{leads_as}
+use Rattle.draid_pool.proofs.Joining.{leads_as}
 use Rattle.draid_store.proofs.ReadSteps.{sum_looks_plain, tries_but}
 use Rattle.draid_store.proofs.Unlooked.{carries_but}
 use Rattle.draid_store.proofs.summing.sum.Goals as goal

@@ -5,7 +5,7 @@ use Rattle.draid_pool.specs.Threads.{AllStay, IsWholeBy}
 use Rattle.draid_pool.proofs.HeldBy.{stay_same, stay_then}
 use Rattle.draid_store.specs.Batches.{AddTries}
 use Rattle.draid_store.proofs.PointedSums.{sofar_done, sofar_more, sofar_none, sofar_stops}
-use Rattle.draid_store.proofs.QuietWhole.{layout_stays}
+use Rattle.draid_pool.proofs.QuietWhole.{layout_stays}
 use Rattle.draid_store.proofs.Sums.{on_owned, sum_done, sum_stops, summing_more, summing_none}
 use Rattle.draid_store.proofs.summing.sum_objects.Goals as goal
 

@@ -11,10 +11,10 @@ use Rattle.draid_pool.specs.Drifts.{groups_number}
 use Rattle.draid_pool.specs.Threads.{AllStay, IsWholeBy, Knows, LeadsBy}
 use Rattle.draid_pool.proofs.HeldBy.{stay_then}
 use Rattle.draid_store.specs.Answers.{WriteDoes}
-use Rattle.draid_store.specs.Looking.{LooksDo}
+use Rattle.draid_pool.specs.Looking.{LooksDo}
 use Rattle.draid_store.specs.Storing.{ComesBack, StoreSetsTable, WriteSays}
-use Rattle.draid_store.proofs.ColumnSteps.{leads_as}
-use Rattle.draid_store.proofs.QuietWhole.{layout_stays}
+use Rattle.draid_pool.proofs.Joining.{leads_as}
+use Rattle.draid_pool.proofs.QuietWhole.{layout_stays}
 use Rattle.draid_store.proofs.WriteRounds.{again, by_answer, earlier_answer, last_says, no_space_says, only_memory, served_answer, sets_answer, starved_says, takes_at}
 use Rattle.draid_store.proofs.writing.write_encoded.Goals as goal
 

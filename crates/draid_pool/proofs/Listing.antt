@@ -3,7 +3,7 @@ use Rattle.std.proofs.Common.{◌≡◌, ◌+◌, ◌++◌, ◌⊎◌, inl, inr,
 use Rattle.draid_session.specs.Looks.{CountIs}
 use Rattle.draid_shard.specs.declared.fault.Shut.{Shut}
 use Rattle.draid_shard.specs.declared.fault.Shut.TheVariants as shut
-use Rattle.draid_store.specs.Looking.{CountsOne}
+use Rattle.draid_pool.specs.Looking.{CountsOne}
 
 count_more : {A : Type 0} (P : A → Type 0) (xs : List A) (x : A) (n : ℕ) → P x → CountIs P xs n → CountIs P (xs ++ x ∷ []) (n + 1)
 count_more P [] x n is counted = inl (is, n, refl, counted)

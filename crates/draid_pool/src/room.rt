@@ -1,16 +1,13 @@
-//! What metaslabs have for a new block.
 ghost use Rattle.std.specs.Prelude.{◌≡◌, ◌≤◌, ◌<◌, ◌↔◌, ℕ, IfOk, IsTrue, OnOk, Option, Some, false, length};
 ghost use Rattle.draid_names.specs.declared.pointer.Pointer.{Pointer};
-ghost use Rattle.draid_session.specs.Rooms.{longest};
 ghost use Rattle.draid_session.specs.State.{State};
 ghost use Rattle.draid_shard.specs.Fits.{Valid};
-ghost use Rattle.draid_pool.specs.Threads.{AllStay, Knows, LeadsBy, all_of};
-ghost use Rattle.draid_store.specs.Looking.{AddsSeen, AreSame, CountsOne, HasMany, LooksDo, RoomsAre, SeenIs};
-ghost use Rattle.draid_store.specs.Putting.{KeepsWhole};
+ghost use Rattle.draid_pool.specs.Threads.{AllStay, KeepsWhole, Knows, LeadsBy, all_of};
+ghost use Rattle.draid_pool.specs.Looking.{AddsSeen, AreSame, CountsOne, HasMany, LooksDo, RoomsAre, SeenIs};
 
+use crate::metaslabs::Metaslabs;
 use draid_area::Area;
 use draid_names::{NoMemory, Room};
-use draid_pool::Metaslabs;
 use draid_rack::Rack;
 use draid_shard::{Shard, Shut};
 use draid_turn::Act;
@@ -45,7 +42,7 @@ pub struct LookOp {
 impl<R: Rack, A: Area> Act<Shard<R, A>> for LookOp {
     ghost use Rattle.std.specs.Prelude.{None, MatchOption};
     ghost use Rattle.draid_shard.specs.Fits.{Valid};
-    ghost use Rattle.draid_store.specs.Looking.{SeesShard};
+    ghost use Rattle.draid_pool.specs.Looking.{SeesShard};
 
     ghost needs = { λ _ s. Valid R.Rack s };
 
@@ -64,14 +61,14 @@ impl<R: Rack, A: Area> Act<Shard<R, A>> for LookOp {
 
 /// The rooms of metaslabs, and how many of them take no block.
 #[derive(Drop)]
-pub struct Rooms {
+pub struct SeenRooms {
     pub rooms: Vec<Room>,
     pub disabled: u32,
     pub full: u32,
     pub worn: u32,
 }
 
-impl Rooms {
+impl SeenRooms {
     /// Notes what was seen of another metaslab.
     fn add(&mut self, seen: Seen) -> Result<(), NoMemory>
         requires disabled { self.old.disabled < 64 }
@@ -109,12 +106,12 @@ fn is_shut_by(shut: Option<Shut>, why: Shut) -> bool
 }
 
 /// Looks at each of so many metaslabs, in a hold each, for the room that they have for a block of so many stripes.
-pub(crate) fn look_for_room<R: Rack, A: Area, M: Metaslabs<R, A>>(
+pub fn look_for_room<R: Rack, A: Area, M: Metaslabs<R, A>>(
     alloc: Global,
     metaslabs: &mut M,
     count: u32,
     need: u64,
-) -> Result<Rooms, NoMemory>
+) -> Result<SeenRooms, NoMemory>
     requires fits { M.fits metaslabs.old }
     requires few { count ≤ 64 }
     requires many { HasMany R.Rack count (M.last metaslabs.old) }
@@ -130,7 +127,7 @@ pub(crate) fn look_for_room<R: Rack, A: Area, M: Metaslabs<R, A>>(
     ensures still { M.shared ≡ false → AreSame (M.last metaslabs.old) (M.last metaslabs.new) }
     ensures rooms { M.shared ≡ false → IfOk result (λ rooms. RoomsAre need (M.last metaslabs.new) rooms.rooms.items) }
 {
-    let mut rooms = Rooms {
+    let mut rooms = SeenRooms {
         rooms: Vec::new(alloc),
         disabled: 0,
         full: 0,
@@ -142,15 +139,4 @@ pub(crate) fn look_for_room<R: Rack, A: Area, M: Metaslabs<R, A>>(
         rooms.add(seen)?;
     }
     Ok(rooms)
-}
-
-/// The longest run of some rooms.
-pub(crate) fn longest_run(rooms: &[Room]) -> u64
-    ensures { result ≡ longest rooms.now }
-{
-    let mut run = 0;
-    for room in rooms {
-        run = run.max(room.run);
-    }
-    run
 }

@@ -14,9 +14,21 @@ use Rattle.draid_session.specs.Holds.{Hold, View}
 use Rattle.draid_session.specs.Looks.{CountIs, LooksFrom, OnlyLooks}
 use Rattle.draid_session.specs.Rooms.{IsDisabled, IsFull, IsRoomOf, IsWornForBlock}
 use Rattle.draid_session.specs.State.{State, Store}
-use Rattle.draid_store.specs.Shards.{RoomIs, ShutIs}
-use Rattle.draid_store.specs.declared.room.Seen.{Seen}
-use Rattle.draid_store.specs.declared.room.Rooms.{Rooms}
+use Rattle.draid_machine.specs.State as machine
+use Rattle.draid_shard.specs.Rooms.{IsRoom, ShutBy}
+use Rattle.draid_shard.specs.States.{IsIn}
+use Rattle.draid_pool.specs.declared.room.Seen.{Seen}
+use Rattle.draid_pool.specs.declared.room.SeenRooms.{SeenRooms}
+
+-- the room that a shard has for a block of so many stripes
+pub record RoomIs {R A : Type 0} (need : ℕ) (shard : Shard R A) (room : Room) : Type 0 where
+  pub metaslab : room.metaslab ≡ shard.number
+  pub wanted : room.need ≡ need
+  pub run : (w : machine.State) → IsIn shard w → IsRoom shard w room.run
+
+-- why a shard takes no new block
+abbrev pub ShutIs : {R A : Type 0} → Shard R A → Option Shut → Type 0
+ShutIs shard why = (w : machine.State) → IsIn shard w → ShutBy shard w why
 
 -- what a metaslab has for a block of so many stripes
 pub record SeenIs {R A : Type 0} (need : ℕ) (shard : Shard R A) (seen : Seen) : Type 0 where
@@ -40,7 +52,7 @@ pub record CountsOne (reason : Option Shut) (why : Shut) (old new : ℕ) : Type 
   pub same : (reason ≡ Some why → ⊥) → new ≡ old
 
 -- what was seen of another metaslab was noted
-pub record AddsSeen (old : Rooms) (seen : Seen) (new : Rooms) : Type 0 where
+pub record AddsSeen (old : SeenRooms) (seen : Seen) (new : SeenRooms) : Type 0 where
   pub rooms : new.rooms.items ≡ old.rooms.items ++ seen.room ∷ []
   pub disabled : CountsOne seen.shut shut.Disabled old.disabled new.disabled
   pub full : CountsOne seen.shut shut.Full old.full new.full
@@ -49,7 +61,7 @@ pub record AddsSeen (old : Rooms) (seen : Seen) (new : Rooms) : Type 0 where
 -- ---- all of them
 
 -- These are the rooms of the first so many metaslabs, each of which was looked at, and so many of them take no block.
-pub record LooksAtRooms (geometry : Geometry) (perms : Perms) (need many : ℕ) (rooms : Rooms) (holds : List Hold) : Type 0 where
+pub record LooksAtRooms (geometry : Geometry) (perms : Perms) (need many : ℕ) (rooms : SeenRooms) (holds : List Hold) : Type 0 where
   pub views : List View
   pub looked : LooksFrom 0 many holds views
   pub are : AllZip (IsRoomOf geometry perms need) views rooms.rooms.items
@@ -58,7 +70,7 @@ pub record LooksAtRooms (geometry : Geometry) (perms : Perms) (need many : ℕ) 
   pub worn : CountIs (IsWornForBlock geometry) views rooms.worn
 
 -- the looks, by their answer
-abbrev pub LooksDo : State → (need many : ℕ) → Result Rooms NoMemory → List Hold → Store → Type 0
+abbrev pub LooksDo : State → (need many : ℕ) → Result SeenRooms NoMemory → List Hold → Store → Type 0
 LooksDo x need many (Ok rooms) holds store = (store ≡ x.store) × LooksAtRooms x.geometry x.perms need many rooms holds
 LooksDo x need many (Err fault) holds store = (store ≡ x.store) × OnlyLooks holds
 

@@ -1,5 +1,5 @@
-use Rattle.draid_store.proofs.LookRooms.{LookingAt}
-use Rattle.draid_store.proofs.room.look_for_room.Given as goal
+use Rattle.draid_pool.proofs.LookRooms.{LookingAt}
+use Rattle.draid_pool.proofs.room.look_for_room.Given as goal
 
 -- the metaslabs so far were looked at
 abbrev pub invariant-loop-metaslab : goal.invariant-loop-metaslab

@@ -9,9 +9,9 @@ use Rattle.draid_shard.specs.declared.shard.Shard.{Shard}
 use Rattle.draid_pool.specs.Drifts.{KeepsOf, KeepsTo, StateStep, is_other}
 use Rattle.draid_pool.proofs.Drifting.{keeps_self}
 use Rattle.draid_pool.proofs.Since.{state_self}
-use Rattle.draid_store.specs.Looking.{SeesShard}
-use Rattle.draid_store.specs.declared.room.Seen.{Seen}
-use Rattle.draid_store.proofs.FreeKeeps.{same_groups}
+use Rattle.draid_pool.specs.Looking.{SeesShard}
+use Rattle.draid_pool.specs.declared.room.Seen.{Seen}
+use Rattle.draid_pool.proofs.Drifting.{same_groups}
 
 module _ {R A : Type 0} (rack : racks.Ghosts R) (area : areas.Ghosts A) where
   pub same_keeps : (x y : Shard R A) → Valid rack x → y ≡ x → KeepsTo rack area x y None

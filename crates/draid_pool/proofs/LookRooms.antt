@@ -26,22 +26,21 @@ use Rattle.draid_turn.specs.Calls.{Lock}
 use Rattle.draid_pool.specs.declared.cell.Cell.{Cell}
 use Rattle.draid_pool.specs.Drifts.{Drifts}
 use Rattle.draid_pool.specs.Metaslabs.{IsMetaslab}
-use Rattle.draid_pool.specs.Threads.{AllStay, Knows, LeadsBy, all_of}
+use Rattle.draid_pool.specs.Threads.{AllStay, KeepsWhole, Knows, LeadsBy, all_of}
 use Rattle.draid_pool.proofs.HeldBy.{stay_held, stay_same, stay_then}
 use Rattle.draid_pool.proofs.Joining.{Both, leads_then}
 use Rattle.draid_pool.proofs.Lists.{some_of}
-use Rattle.draid_store.specs.Looking.{AddsSeen, AreSame, CountsOne, HasMany, LooksAtRooms, RoomAt, RoomsAre, SeenIs, SeesShard}
-use Rattle.draid_store.specs.Putting.{KeepsWhole}
-use Rattle.draid_store.specs.Shards.{RoomIs}
-use Rattle.draid_store.specs.declared.room.Rooms.{Rooms}
-use Rattle.draid_store.specs.declared.room.Seen.{Seen}
-use Rattle.draid_store.proofs.ChooseSteps.{by_disabled, by_full, by_worn, room_of}
-use Rattle.draid_store.proofs.ColumnSteps.{leads_as}
-use Rattle.draid_store.proofs.FreeKeeps.{same_groups}
-use Rattle.draid_store.proofs.Listing.{count_one, is_reason}
-use Rattle.draid_store.proofs.LookHold.{looks_more, only_looked, see_step, zip_more}
-use Rattle.draid_store.proofs.LookKeeps.{same_blocks}
-use Rattle.draid_store.proofs.QuietWhole.{quiet_whole}
+use Rattle.draid_pool.specs.Looking.{AddsSeen, AreSame, CountsOne, HasMany, LooksAtRooms, RoomAt, RoomsAre, SeenIs, SeesShard}
+use Rattle.draid_pool.specs.Looking.{RoomIs}
+use Rattle.draid_pool.specs.declared.room.SeenRooms.{SeenRooms}
+use Rattle.draid_pool.specs.declared.room.Seen.{Seen}
+use Rattle.draid_pool.proofs.Roomy.{by_disabled, by_full, by_worn, room_of}
+use Rattle.draid_pool.proofs.Joining.{leads_as}
+use Rattle.draid_pool.proofs.Drifting.{same_groups}
+use Rattle.draid_pool.proofs.Listing.{count_one, is_reason}
+use Rattle.draid_pool.proofs.LookHold.{looks_more, only_looked, see_step, zip_more}
+use Rattle.draid_pool.proofs.LookKeeps.{same_blocks}
+use Rattle.draid_pool.proofs.QuietWhole.{quiet_whole}
 
 -- what a view has for a block, as it was seen
 pub record SeenAs (geometry : Geometry) (perms : Perms) (need : ℕ) (seen : Seen) (v : View) : Type 0 where
@@ -68,7 +67,7 @@ one_more k = omega arith
 none_plus : (k : ℕ) → k ≡ 0 + k
 none_plus k = omega arith
 
-looks_one : (geometry : Geometry) (perms : Perms) (need k : ℕ) (rooms rooms' : Rooms) (seen : Seen) (front back holds : List Hold) → AddsSeen rooms seen rooms' → holds ≡ front ++ back → LooksAtRooms geometry perms need k rooms front
+looks_one : (geometry : Geometry) (perms : Perms) (need k : ℕ) (rooms rooms' : SeenRooms) (seen : Seen) (front back holds : List Hold) → AddsSeen rooms seen rooms' → holds ≡ front ++ back → LooksAtRooms geometry perms need k rooms front
     → IsOne (λ hold. (v : View) × IsLook k hold v × SeenAs geometry perms need seen v) back → LooksAtRooms geometry perms need (k + 1) rooms' holds
 looks_one geometry perms need k rooms rooms' seen front back holds adds are l one =
     let hold : Hold = one.0 in
@@ -85,12 +84,12 @@ looks_one geometry perms need k rooms rooms' seen front back holds adds are l on
     }
 
 -- the first so many metaslabs were looked at
-abbrev pub LooksSome : State → (need k : ℕ) → Rooms → List Hold → Store → Type 0
+abbrev pub LooksSome : State → (need k : ℕ) → SeenRooms → List Hold → Store → Type 0
 LooksSome x need k rooms holds store = (store ≡ x.store) × LooksAtRooms x.geometry x.perms need k rooms holds
 
 -- so far, of metaslabs as they are held
 pub record LookingAt {R A S : Type 0} (rack : racks.Ghosts R) (area : areas.Ghosts A) (went : S → ℕ → Shard R A → Shard R A → S → Type 0) (shared : Bool) (held locks : List (Lock (Cell R A))) (owns now_owns : ℕ → Bool) (fits : Type 0) (last now : ℕ → Option (Shard R A)) (a b : S)
-    (count need k : ℕ) (rooms : Rooms) : Type 0 where
+    (count need k : ℕ) (rooms : SeenRooms) : Type 0 where
   pub fit : fits
   pub same_locks : held ≡ locks
   pub owned : now_owns ≡ owns
@@ -106,7 +105,7 @@ pub record LookingAt {R A S : Type 0} (rack : racks.Ghosts R) (area : areas.Ghos
   pub worn : rooms.worn ≤ k
 
 -- none was yet
-pub looking_none : {R A S : Type 0} (rack : racks.Ghosts R) (area : areas.Ghosts A) (went : S → ℕ → Shard R A → Shard R A → S → Type 0) (shared : Bool) (locks : List (Lock (Cell R A))) (owns : ℕ → Bool) (fits : Type 0) (last : ℕ → Option (Shard R A)) (a : S) (count need : ℕ) (rooms : Rooms)
+pub looking_none : {R A S : Type 0} (rack : racks.Ghosts R) (area : areas.Ghosts A) (went : S → ℕ → Shard R A → Shard R A → S → Type 0) (shared : Bool) (locks : List (Lock (Cell R A))) (owns : ℕ → Bool) (fits : Type 0) (last : ℕ → Option (Shard R A)) (a : S) (count need : ℕ) (rooms : SeenRooms)
     → rooms.rooms.items ≡ [] → rooms.disabled ≡ 0 → rooms.full ≡ 0 → rooms.worn ≡ 0 → fits → HasMany rack count last → LookingAt rack area went shared locks locks owns owns fits last last a a count need 0 rooms
 looking_none rack area went shared locks owns fits last a count need rooms none disabled full worn fit many = record {
   fit = fit;
@@ -142,7 +141,7 @@ at_push (y ∷ xs) x zero t at = inl at
 at_push (y ∷ xs) x (suc m) t at = elim (at_push xs x m t at) [ inl was ↦ inl was | inr is ↦ inr (ap suc is.0, is.1) ]
 
 module _ {R A S : Type 0} (rack : racks.Ghosts R) (area : areas.Ghosts A) (went : S → ℕ → Shard R A → Shard R A → S → Type 0) (shared : Bool) (held locks next_locks : List (Lock (Cell R A))) (owns now_owns next_owns : ℕ → Bool) (fits next_fits : Type 0) (last now new : ℕ → Option (Shard R A)) (a b c : S)
-    (count need k : ℕ) (rooms rooms' : Rooms) (i : LookingAt rack area went shared held locks owns now_owns fits last now a b count need k rooms) (fit : next_fits) (same_locks : next_locks ≡ held) (next_owned : next_owns ≡ now_owns)
+    (count need k : ℕ) (rooms rooms' : SeenRooms) (i : LookingAt rack area went shared held locks owns now_owns fits last now a b count need k rooms) (fit : next_fits) (same_locks : next_locks ≡ held) (next_owned : next_owns ≡ now_owns)
     (shard before after : Shard R A) (there : now k ≡ Some shard) (drifts_now : Drifts rack area shared now_owns shard before) (valid : Valid rack after) (is : (j : ℕ) → new j ≡ (if j == k then Some after else now j)) (goes : went b k before after c)
     (seen : Seen) (sees : SeesShard need before seen after) where
   drifts : Drifts rack area shared owns shard before

@@ -1,10 +1,10 @@
 use Rattle.std.proofs.Common.{◌≡◌, Ok, arith, refl, subst}
 use Rattle.std.proofs.lemmas.Result.{err_from_is_err_and}
 use Rattle.draid_pool.specs.Threads.{Knows, LeadsBy}
-use Rattle.draid_store.specs.Looking.{LooksDo}
-use Rattle.draid_store.proofs.LookKeeps.{did_see, look_keeps}
-use Rattle.draid_store.proofs.LookRooms.{looking_more, looking_none, starved, stay_on, still_on, whole_on}
-use Rattle.draid_store.proofs.room.look_for_room.Goals as goal
+use Rattle.draid_pool.specs.Looking.{LooksDo}
+use Rattle.draid_pool.proofs.LookKeeps.{did_see, look_keeps}
+use Rattle.draid_pool.proofs.LookRooms.{looking_more, looking_none, starved, stay_on, still_on, whole_on}
+use Rattle.draid_pool.proofs.room.look_for_room.Goals as goal
 
 pub loop-metaslab-init : goal.loop-metaslab-init
 loop-metaslab-init g c =

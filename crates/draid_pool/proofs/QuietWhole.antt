@@ -16,7 +16,7 @@ use Rattle.draid_pool.specs.Threads.{AllStay, IsHeldBy, IsWholeBy, all_of}
 use Rattle.draid_pool.proofs.HeldBy.{held_drifts, whole_on}
 use Rattle.draid_pool.proofs.HoldStep.{live_key}
 use Rattle.draid_pool.proofs.Lists.{some_of}
-use Rattle.draid_store.specs.Fetching.{HaveLayout}
+use Rattle.draid_pool.specs.Threads.{HaveLayout}
 
 module _ {R A : Type 0} (rack : racks.Ghosts R) (area : areas.Ghosts A) (shared : Bool) (owns : ℕ → Bool) (last new : ℕ → Option (Shard R A)) (m : ℕ) (shard before after : Shard R A) (there : last m ≡ Some shard)
     (drifts : Drifts rack area shared owns shard before) (valid : Valid rack after) (part : part_of after ≡ part_of before) (groups : KeepsGroups before after) (blocks : KeepsBlocks before after)
