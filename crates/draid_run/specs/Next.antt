@@ -1,5 +1,5 @@
 -- Runs one after another over one shelf, and what a run tells of crashes.
-use Rattle.std.specs.Prelude.{◌≡◌, ℕ, Bool, true, false, List, Option}
+use Rattle.std.specs.Prelude.{◌≡◌, ℕ, Bool, true, false, List}
 use Rattle.draid_shelf.specs.Kits.{Both, CrashedHeld}
 use Rattle.draid_session.specs.Said.{Said}
 use Rattle.draid_session.specs.Choices.{Choices}
