@@ -1,5 +1,6 @@
 pub mod Answering
 pub mod Counting
+pub mod Lies
 pub mod Marking
 pub mod Missing
 pub mod Places

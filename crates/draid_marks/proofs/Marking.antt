@@ -1,5 +1,5 @@
 -- The marks of silent arms, arm by arm and slot by slot.
-use Rattle.std.proofs.Common.{◌≡◌, ◌<◌, ◌≤◌, ◌+◌, ◌&&◌, ◌∙◌, ℕ, Bool, true, false, List, [], Some, arith, sym, ap, subst, inl, inr, length, get_or, set, if◌then◌else◌, slice_index_or}
+use Rattle.std.proofs.Common.{◌≡◌, ◌<◌, ◌≤◌, ◌+◌, ◌&&◌, ◌∙◌, ℕ, zero, suc, Bool, true, false, List, [], ◌∷◌, Some, refl, replicate, arith, sym, ap, subst, inl, inr, length, get_or, set, if◌then◌else◌, slice_index_or}
 use Rattle.std.proofs.lemmas.Bool.{cases_lt}
 use Rattle.std.proofs.lemmas.Grind.{get_or-set_at}
 use Rattle.std.proofs.lemmas.List.{get_or-set_other, get_or_past}
@@ -13,6 +13,18 @@ use Rattle.draid_slots.specs.Marks.{is_marked}
 use Rattle.draid_slots.specs.Table.{SlotTable, IsThere, arm_at, arms_of, is_leaf_kind}
 use Rattle.draid_marks.specs.Silent.{AreSilent, has_column_in, is_silent_in, lies_silent}
 use Rattle.draid_marks.proofs.Silence.{silent_is}
+
+-- marks of which none is set
+pub none_marked : (n slot arm : ℕ) → is_marked (replicate n (false ∷ false ∷ false ∷ [])) slot arm ≡ false
+none_marked zero slot arm = refl
+none_marked (suc n) zero arm = by arm
+  where
+    by : (arm : ℕ) → slice_index_or (false ∷ false ∷ false ∷ []) arm false ≡ false
+    by zero = refl
+    by (suc zero) = refl
+    by (suc (suc zero)) = refl
+    by (suc (suc (suc arm))) = refl
+none_marked (suc n) (suc slot) arm = none_marked n slot arm
 
 module _ (slots : SlotTable) (failed : List ℕ) where
   abbrev pub lies_at : ℕ → ℕ → Bool
@@ -76,6 +88,20 @@ module _ (slots : SlotTable) (failed : List ℕ) where
         let unmarked = get_or_past [] at.arm false (omega arith) in
         let gone = slice_get_past (arms_of slots at.slot) at.arm (subst (λ (list : List Arm). length list ≤ at.arm) (sym no_arms) (omega arith)) in
         ap (λ (list : List Bool). slice_index_or list at.arm false) no_marks ∙ unmarked ∙ sym (ap (lies_silent slots failed at) gone)
+        )
+  ]
+
+  pub slot_above : (n : ℕ) (marks : List (List Bool)) (r : List Bool) → ((slot arm : ℕ) → n ≤ slot → is_marked marks slot arm ≡ false) → (slot arm : ℕ) → n + 1 ≤ slot → is_marked (set marks n r) slot arm ≡ false
+  slot_above n marks r above = λ slot arm past. ap (λ (list : List Bool). slice_index_or list arm false) (get_or-set_other marks n slot r [] (λ e. omega (arith, past, e))) ∙ above slot arm (omega (arith, past))
+
+  pub slots_both : (n : ℕ) (marks : List (List Bool)) → length slots.arms ≤ n → ((slot arm : ℕ) → slot < n → is_marked marks slot arm ≡ lies_at slot arm) → ((slot arm : ℕ) → n ≤ slot → is_marked marks slot arm ≡ false)
+      → (at : ArmAt) → is_marked marks at.slot at.arm ≡ lies_silent slots failed at (arm_at slots at)
+  slots_both n marks few_slots below above = λ at. elim (cases_lt at.slot n) [
+    | inl before ↦ below at.slot at.arm before
+    | inr past ↦ (
+        let no_arms = get_or_past slots.arms at.slot [] (omega (arith, few_slots, past)) in
+        let gone = slice_get_past (arms_of slots at.slot) at.arm (subst (λ (list : List Arm). length list ≤ at.arm) (sym no_arms) (omega arith)) in
+        above at.slot at.arm past ∙ sym (ap (lies_silent slots failed at) gone)
         )
   ]
 

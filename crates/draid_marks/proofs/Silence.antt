@@ -34,19 +34,19 @@ use Rattle.draid_marks.proofs.Answering.{leaf_is_online, name_listed, owned, sil
 use Rattle.draid_marks.proofs.Places as places
 
 -- ---- tests
-found_below : (n : ℕ) (p : ℕ → Bool) → any_below n p ≡ true → (x : ℕ) × (x < n) × (p x ≡ true)
+pub found_below : (n : ℕ) (p : ℕ → Bool) → any_below n p ≡ true → (x : ℕ) × (x < n) × (p x ≡ true)
 found_below zero p any = absurd_test false any refl
 found_below (suc n) p any = elim (either_true (any_below n p) (p n) any) [
   | inl before ↦ (let z = found_below n p before in (z.0, (let l = z.1 in omega (arith, l)), z.2))
   | inr here ↦ (n, omega arith, here)
 ]
 
-both_ways : (a b : Bool) → (a ≡ true → b ≡ true) → (b ≡ true → a ≡ true) → a ≡ b
+pub both_ways : (a b : Bool) → (a ≡ true → b ≡ true) → (b ≡ true → a ≡ true) → a ≡ b
 both_ways true b f g = sym (f refl)
 both_ways false true f g = absurd_test false (g refl) refl
 both_ways false false f g = refl
 
-stood : (perms : Perms) (slice position slot : ℕ) → stands_before perms slice position slot ≡ true → (at : ℕ) × (at < position) × (child_of perms slice at ≡ slot)
+pub stood : (perms : Perms) (slice position slot : ℕ) → stands_before perms slice position slot ≡ true → (at : ℕ) × (at < position) × (child_of perms slice at ≡ slot)
 stood perms slice zero slot is = absurd_test false is refl
 stood perms slice (suc p) slot is = elim (either_true (child_of perms slice p == slot) (stands_before perms slice p slot) is) [
   | inl here ↦ (p, omega arith, is_equal (child_of perms slice p) slot here)

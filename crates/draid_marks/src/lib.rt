@@ -4,9 +4,11 @@
 #![tactic(auto)]
 
 mod counts;
+mod lying;
 mod missed;
 mod silent;
 
 pub use counts::{thin, tickets_upto};
+pub use lying::lies_on;
 pub use missed::miss_marked;
-pub use silent::mark_silent;
+pub use silent::{mark_silent, silent_marks};

@@ -1,4 +1,4 @@
-ghost use Rattle.std.specs.Prelude.{◌≡◌, ◌==◌, ◌<◌, ◌&&◌, ℕ, false, length, slice_index_or};
+ghost use Rattle.std.specs.Prelude.{◌≡◌, ◌≤◌, ◌==◌, ◌<◌, ◌&&◌, ℕ, false, length, slice_index_or};
 ghost use Rattle.std.specs.List.{list_any};
 ghost use Rattle.draid_machine.specs.Names.{any_below};
 ghost use Rattle.draid_slots.specs.Table.{IsTable, IsThere, arm_at};
@@ -17,6 +17,21 @@ pub fn mark_silent(slots: &Slots, marks: &mut Vec<Marks>, failed: &[u64])
     for slot in 0..slots.children() {
         marks[slot as usize] = silent_arms(slots, slot, failed);
     }
+}
+
+/// How many slots a metaslab may have.
+const MOST_SLOTS: usize = 64;
+
+/// The same marks on their own. They take no memory.
+pub fn silent_marks(slots: &Slots, failed: &[u64]) -> [Marks; MOST_SLOTS]
+    ensures count { slots.now.geometry.spec.children ≤ length result }
+    ensures silent { AreSilent slots.now failed.now result }
+{
+    let mut marks = [[false; 3]; MOST_SLOTS];
+    for slot in 0..slots.children() {
+        marks[slot as usize] = silent_arms(slots, slot, failed);
+    }
+    marks
 }
 
 /// Which of a slot's arms lie so.
@@ -66,7 +81,7 @@ fn keeps_silent(slots: &Slots, at: ArmAt, failed: &[u64]) -> bool
 }
 
 /// Whether a slot has a column in a slice.
-fn has_column_in_slice(slots: &Slots, slot: u32, slice: u64) -> bool
+pub(crate) fn has_column_in_slice(slots: &Slots, slot: u32, slice: u64) -> bool
     requires slot { slot < slots.now.geometry.spec.children }
     requires slice { slice < slots.now.geometry.props.slices }
     ensures { result ≡ has_column_in slots.now slot slice }

@@ -1,0 +1,11 @@
+mod Bearing
+mod Cancelled
+mod Does
+mod Finished
+mod Flushed
+mod Following
+mod Planned
+mod Readied
+mod Rooms
+mod Roomy
+mod Spaces
