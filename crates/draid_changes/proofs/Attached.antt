@@ -49,7 +49,7 @@ attached_shared shared slot n =
 
 -- ---- what is planned again leaves arms as they are, but for their logs
 
-bare_renewed : (b : Bool) (last : ℕ) (o : Option machine.Arm) → option_map bare (seal_arm (map_arm (renew_if b last) o)) ≡ option_map bare (seal_arm o)
+pub bare_renewed : (b : Bool) (last : ℕ) (o : Option machine.Arm) → option_map bare (seal_arm (map_arm (renew_if b last) o)) ≡ option_map bare (seal_arm o)
 bare_renewed b last None = refl
 bare_renewed b last (Some a) = by a.gone
   where
@@ -76,7 +76,7 @@ record Replanned (s new : machine.State) : Type 0 where
   arms : (n : ArmName) → option_map bare (seal_arm (new.core.arm n)) ≡ option_map bare (seal_arm (s.core.arm n))
   there : (n : ArmName) → IsSome (new.core.arm n) → IsSome (s.core.arm n)
 
-was_there : (f : machine.Arm → machine.Arm) (o : Option machine.Arm) → IsSome (map_arm f o) → IsSome o
+pub was_there : (f : machine.Arm → machine.Arm) (o : Option machine.Arm) → IsSome (map_arm f o) → IsSome o
 was_there f None is = is
 was_there f (Some a) is = refl
 

@@ -1,6 +1,7 @@
 -- A change of a pool's arms: what is closing is finished, all is looked at, and then it is refused, or goes on to its end.
-use Rattle.std.proofs.Common.{◌≡◌, ◌≢◌, ◌++◌, ◌∙◌, [], ◌∷◌, inl, inr, List, Some, None, Err, refl, sym, ap, subst}
+use Rattle.std.proofs.Common.{◌≡◌, ◌≢◌, ◌++◌, ◌∙◌, [], ◌∷◌, inl, inr, List, Some, None, Err, refl, sym, ap, subst, slice_index_or}
 use Rattle.std.specs.Prelude.{IsErrOf, slice_get}
+use Rattle.std.proofs.lemmas.Option.{slice_get_within}
 use Rattle.draid_names.specs.declared.refusal.SlotFault.{SlotFault}
 use Rattle.draid_rack.specs.declared.Rack as racks
 use Rattle.draid_area.specs.declared.Area as areas
@@ -21,10 +22,12 @@ use Rattle.draid_pool.specs.Syncing.{Phase, end_of}
 use Rattle.draid_pool.specs.declared.fault.SyncFault.{SyncFault}
 use Rattle.draid_pool.specs.declared.fault.SyncFault.TheVariants as sync
 use Rattle.draid_pool.specs.Views.{seen_at}
+use Rattle.draid_pool.specs.Whole.{IsWhole}
 use Rattle.draid_pool.specs.declared.pool.Pool.{Pool}
 use Rattle.draid_pool.proofs.Lifted.{HasMetaslab, metaslab_of}
 use Rattle.draid_pool.proofs.Looking.{changes_none, looked, looks_at}
-use Rattle.draid_pool.proofs.SyncSteps.{not_went}
+use Rattle.draid_pool.proofs.SyncSteps.{borrowed_at, not_went}
+use Rattle.draid_pool.proofs.WholeGroups.{first_shard}
 use Rattle.draid_pool.proofs.Steps.{carried, carries_so, follows_on, own_of, same_layout, settled}
 use Rattle.draid_changes.specs.Answers.{ChangeStops, EndsIn, IsFor}
 use Rattle.draid_changes.specs.declared.fault.ArmFault.{ArmFault}
@@ -98,6 +101,10 @@ module _ {R A : Type 0} (rack : racks.Ghosts R) (area : areas.Ghosts A) where
   -- the first metaslab
   pub first_of : (mid : Pool R A) (y : State) (first : Shard R A) (r : Represents rack area mid y) → slice_get mid.metaslabs.shards.items 0 ≡ Some first → HasMetaslab rack area mid y r.stands 0 first
   first_of mid y first r there = metaslab_of rack area mid y r.stands 0 first there
+
+  -- it was borrowed
+  pub first_borrowed : (mid : Pool R A) (first : Shard R A) → IsWhole rack area mid → first ≡ slice_index_or mid.metaslabs.shards.items 0 first → slice_get mid.metaslabs.shards.items 0 ≡ Some first
+  first_borrowed mid first w is = (let one = first_shard rack area mid w in borrowed_at mid.metaslabs.shards.items 0 first (slice_get_within mid.metaslabs.shards.items 0 one.0 one.1) is)
 
   -- ---- by the rules and by what is done
 

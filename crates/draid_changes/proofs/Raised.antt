@@ -38,7 +38,7 @@ use Rattle.draid_changes.proofs.Begun.{Finished, PhaseIs, begun, first_of, first
 -- ---- phases
 
 -- events are reserved in all metaslabs, one in each
-abbrev Reserving : PhaseIs
+abbrev pub Reserving : PhaseIs
 Reserving g p = arms.ReservePhase g p (λ v. 1)
 
 -- version 2 is asked for
@@ -46,7 +46,7 @@ abbrev Asking : PhaseIs
 Asking g p = Chain (arms.EventPhase g p event.Upgrade) versions.Asks
 
 -- and what then comes is a sync, of some group
-abbrev Syncing : (ℕ → ℕ → Type 0) → PhaseIs
+abbrev pub Syncing : (ℕ → ℕ → Type 0) → PhaseIs
 Syncing Is g p holds end = (group : ℕ) × (thin : ℕ) × Is group thin × groups.Syncs g p group thin holds end
 
 abbrev Raised : (ℕ → ℕ → Type 0) → PhaseIs
@@ -73,27 +73,27 @@ module _ (Is : ℕ → ℕ → Type 0) (some : (group : ℕ) × (thin : ℕ) × 
 
 -- ---- ends
 
-not_last : (why : SyncFault) → (why ≡ sync.Last → ⊥) → end_of {T = Unit} (Err why) ≢ WasLast
+pub not_last : (why : SyncFault) → (why ≡ sync.Last → ⊥) → end_of {T = Unit} (Err why) ≢ WasLast
 not_last sync.Worn none is = absurd (cc)
 not_last sync.Last none is = none refl
 not_last sync.Shelf none is = absurd (cc)
 not_last sync.NoMemory none is = absurd (cc)
 
-not_through : (why : ReserveFault) → end_of_reserving (Err why) ≢ Went
+pub not_through : (why : ReserveFault) → end_of_reserving (Err why) ≢ Went
 not_through (reserve.Worn events) is = absurd (cc)
 not_through reserve.NoMemory is = absurd (cc)
 
-sync_stops : (x : State) (why : SyncFault) (holds : List Hold) (store : Store) → SyncDoes x (Err why) holds store → (store ≡ x.store) × groups.SyncStops x.geometry x.perms holds (end_of {T = ℕ} (Err why))
+pub sync_stops : (x : State) (why : SyncFault) (holds : List Hold) (store : Store) → SyncDoes x (Err why) holds store → (store ≡ x.store) × groups.SyncStops x.geometry x.perms holds (end_of {T = ℕ} (Err why))
 sync_stops x sync.Worn holds store does = does
 sync_stops x sync.Last holds store does = does
 sync_stops x sync.Shelf holds store does = does
 sync_stops x sync.NoMemory holds store does = does
 
 -- a group and a number of thin blocks are any, or the group is this one
-abbrev Any : ℕ → ℕ → Type 0
+abbrev pub Any : ℕ → ℕ → Type 0
 Any group thin = ℕ
 
-abbrev IsGroup : ℕ → ℕ → ℕ → Type 0
+abbrev pub IsGroup : ℕ → ℕ → ℕ → Type 0
 IsGroup group t thin = t ≡ group
 
 module _ {R A : Type 0} (rack : racks.Ghosts R) (area : areas.Ghosts A) where

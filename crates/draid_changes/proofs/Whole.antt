@@ -88,7 +88,7 @@ module _ {R A : Type 0} (rack : racks.Ghosts R) (area : areas.Ghosts A) where
 -- ---- leaves that went offline or came back
 
 -- an arm that is there then was there
-was_there : (old new : SlotTable) (leaf : ℕ) (offline : Bool) → ChangesArms old new (switched leaf offline) → (at : ArmAt) (arm : Arm) → arm_at new at ≡ Some arm
+pub was_there : (old new : SlotTable) (leaf : ℕ) (offline : Bool) → ChangesArms old new (switched leaf offline) → (at : ArmAt) (arm : Arm) → arm_at new at ≡ Some arm
     → (was : Arm) × (arm_at old at ≡ Some was) × (switched_arm leaf offline was ≡ arm)
 was_there old new leaf offline c at arm there = by (arm_at old at) refl (sym (c.arms_are at) ∙ there)
   where
@@ -97,7 +97,7 @@ was_there old new leaf offline c at arm there = by (arm_at old at) refl (sym (c.
     by (Some was) own is = (was, own, cc)
 
 -- with the same kind and number
-same_kind : (leaf : ℕ) (offline : Bool) (a : Arm) → ((switched_arm leaf offline a).kind ≡ a.kind) × ((switched_arm leaf offline a).number ≡ a.number)
+pub same_kind : (leaf : ℕ) (offline : Bool) (a : Arm) → ((switched_arm leaf offline a).kind ≡ a.kind) × ((switched_arm leaf offline a).number ≡ a.number)
 same_kind leaf offline a = by (is_leaf_of leaf a)
   where
     by : (b : Bool) → ((if b then record a { offline = offline } else a).kind ≡ a.kind) × ((if b then record a { offline = offline } else a).number ≡ a.number)

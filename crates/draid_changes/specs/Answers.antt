@@ -41,3 +41,7 @@ EndsIn fault.NoMemory end = end ≡ Starved
 -- a leaf goes offline or comes back in all metaslabs, or in none
 abbrev pub SwitchDoes : State → ℕ → Bool → Result Unit ArmFault → List Hold → Store → Type 0
 SwitchDoes x leaf offline = ChangeDoes x (arms.NoLeaf x.geometry x.perms leaf) (arms.Switches x.geometry x.perms (switch_event leaf offline))
+
+-- a slot gets a spare in all metaslabs, or in none
+abbrev pub SpareDoes : State → ℕ → ℕ → Result Unit ArmFault → List Hold → Store → Type 0
+SpareDoes x slot spare = ChangeDoes x (arms.BreaksSpare x.geometry x.perms slot spare) (arms.AttachesSpare x.geometry x.perms slot spare)

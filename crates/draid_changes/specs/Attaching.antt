@@ -1,17 +1,22 @@
 -- How an arm comes to a slot of each metaslab.
-use Rattle.std.specs.Prelude.{◌≤◌, ℕ}
+use Rattle.std.specs.Prelude.{◌≤◌, ℕ, List}
+use Rattle.draid_names.specs.declared.arm.Arm.{Arm}
 use Rattle.draid_names.specs.declared.arm.ArmKind.{ArmKind}
+use Rattle.draid_names.specs.declared.refusal.SlotFault.{SlotFault}
+use Rattle.draid_names.specs.declared.refusal.SlotFault.TheVariants as fault
 use Rattle.draid_rack.specs.declared.Rack.{Ghosts}
 use Rattle.draid_machine.specs.declared.event.Event.TheVariants.{Attach}
 use Rattle.draid_machine.specs.Names.{named}
 use Rattle.draid_segments.specs.Segments.{Pieces}
 use Rattle.draid_entries.specs.History.{reserved_of}
-use Rattle.draid_slots.specs.Faults.{MayAttach}
+use Rattle.draid_slots.specs.Faults.{IsAttachRefused, MayAttach}
+use Rattle.draid_slots.specs.Table.{SlotTable}
 use Rattle.draid_shard.specs.Calls.{ActsOn, SameKit}
 use Rattle.draid_shard.specs.Changes.{KeepsBlocks}
 use Rattle.draid_shard.specs.Fits.{Valid}
 use Rattle.draid_shard.specs.States.{Does}
 use Rattle.draid_shard.specs.declared.shard.Shard.{Shard}
+use Rattle.draid_disks.specs.Checks.{Each}
 use Rattle.draid_disks.specs.Disks.{HasArmRoom, HasAttached, IsNewLeaf, Uses, arm_called}
 use Rattle.draid_disks.specs.Replanning.{MayReplan, attach_events}
 
@@ -33,3 +38,22 @@ pub record Attaches {R A : Type 0} (rack : Ghosts R) (slot : ℕ) (kind : ArmKin
   pub keeps : KeepsBlocks old new
   pub slots : HasAttached old.slots new.slots slot (arm_called kind number)
   pub reserve : Uses old.history new.history (attach_events old.pass)
+
+-- ---- the rules
+
+-- a rebuild can be planned again in each of some metaslabs that has one
+abbrev pub AllReplan : {R A : Type 0} → List (Shard R A) → Type 0
+AllReplan {R} {A} shards = Each (λ (shard : Shard R A). MayReplan shard.pass shard.last_pass shard.open_group) shards
+
+-- no rule forbids an arm in a pool: neither these slots, whose arms all its metaslabs have, nor a rebuild
+pub record MayComeAll {R A : Type 0} (slots : SlotTable) (shards : List (Shard R A)) (slot : ℕ) (arm : Arm) : Type 0 where
+  pub may : MayAttach slots slot arm
+  pub again : AllReplan shards
+
+-- the first rule that does: one on slots, or a rebuild can't be planned again
+abbrev pub IsBarred : {R A : Type 0} → SlotTable → List (Shard R A) → ℕ → Arm → SlotFault → Type 0
+IsBarred slots shards slot arm fault.Last = MayAttach slots slot arm × (AllReplan shards → ⊥)
+IsBarred slots shards slot arm fault.NoSuch = IsAttachRefused slots slot arm fault.NoSuch
+IsBarred slots shards slot arm (fault.SpareBusy by) = IsAttachRefused slots slot arm (fault.SpareBusy by)
+IsBarred slots shards slot arm (fault.Full arms) = IsAttachRefused slots slot arm (fault.Full arms)
+IsBarred slots shards slot arm why = ⊥

@@ -1,5 +1,8 @@
 pub mod Answers
 pub mod Attaching
+pub mod Behind
+pub mod DetachSays
+pub mod Detaching
 pub mod Says
 pub mod UpgradeSays
 pub mod Upgrading

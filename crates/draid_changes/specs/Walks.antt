@@ -7,7 +7,8 @@ use Rattle.draid_segments.specs.Segments.{Pieces}
 use Rattle.draid_entries.specs.History.{reserved_of}
 use Rattle.draid_entries.specs.declared.history.ReserveFault.{ReserveFault}
 use Rattle.draid_entries.specs.declared.history.ReserveFault.TheVariants as reserve
-use Rattle.draid_slots.specs.Changes.{ChangesArms, switched}
+use Rattle.draid_slots.specs.Changes.{ChangesArms, Keeps, switched}
+use Rattle.draid_slots.specs.Table.{IsTable}
 use Rattle.draid_shard.specs.Alike.{KeepsArms}
 use Rattle.draid_shard.specs.Calls.{ActsOn, SameKit}
 use Rattle.draid_shard.specs.Changes.{KeepsBlocks, SameGroups}
@@ -50,6 +51,8 @@ pub record Reserves {R A : Type 0} (need : Need) (old new : Shard R A) : Type 0 
   pub reserved : events_in need new ≤ reserved_of new.history
   pub room : HasArmRoom new
   pub slots : KeepsArms old.slots new.slots
+  pub logs : Keeps old.slots new.slots
+  pub sound : IsTable new.slots
   pub pass : SamePass old.pass new.pass
   pub last : new.last_pass ≡ old.last_pass
   pub groups : SameGroups old new

@@ -1,19 +1,26 @@
-//! Changes of a pool's arms, each made in all of its metaslabs or in none: leaves go offline and come back. And that of
-//! its version.
+//! Changes of a pool's arms, each made in all of its metaslabs or in none: leaves go offline and come back, spares
+//! come to slots, and arms leave them. And that of its version.
 
 #![tactic(auto)]
 
 mod attaching;
+mod detach_reply;
+mod detaching;
 mod fault;
 mod need;
 mod replies;
 mod reserving;
+mod rules;
+mod sparing;
 mod switching;
 mod upgrade_reply;
 mod upgrading;
 
+pub use detach_reply::reply_to_detach;
+pub use detaching::{DetachFault, detach};
 pub use fault::ArmFault;
-pub use replies::{reply_to_offline, reply_to_online};
+pub use replies::{reply_to_offline, reply_to_online, reply_to_spare};
+pub use sparing::spare;
 pub use switching::{offline, online};
 pub use upgrade_reply::reply_to_upgrade;
 pub use upgrading::{UpgradeFault, upgrade};

@@ -8,16 +8,17 @@ ghost use Rattle.draid_pool.specs.Failing.{AreaRose, AreasLater};
 ghost use Rattle.draid_pool.specs.Pointers.{SamePointers};
 ghost use Rattle.draid_pool.specs.Pools.{Represents};
 ghost use Rattle.draid_pool.specs.Whole.{IsWhole};
-ghost use Rattle.draid_changes.specs.Answers.{IsFor, SwitchDoes};
+ghost use Rattle.draid_changes.specs.Answers.{SwitchDoes};
+ghost use Rattle.draid_changes.specs.Behind.{LeafIs};
 ghost use Rattle.draid_changes.specs.Walks.{ChangedBelow, MaySwitch, Switches};
 
-use crate::fault::ArmFault;
+use crate::fault::{ArmFault, arm_fault};
 use crate::need::Need;
 use crate::reserving::reserve_all;
 use draid_area::Area;
 use draid_entries::ReserveFault;
 use draid_names::{ArmKind, SlotFault};
-use draid_pool::{Pool, SyncFault};
+use draid_pool::Pool;
 use draid_rack::Rack;
 use draid_shard::Shard;
 
@@ -30,6 +31,7 @@ pub fn offline<R: Rack, A: Area>(pool: &mut Pool<R, A>, leaf: u64) -> Result<(),
     ensures cause { IsErrOf result ArmFault.Shelf → AreaRose A.faults pool.old pool.new }
     ensures carries { (x : State) → Represents R.Rack A.Area pool.old x
         → CarriesOut R.Rack A.Area pool.new x (SwitchDoes x leaf true result) }
+    ensures arms { LeafIs leaf true result pool.new.metaslabs.shards.items }
 {
     switch(pool, leaf, true)
 }
@@ -43,6 +45,7 @@ pub fn online<R: Rack, A: Area>(pool: &mut Pool<R, A>, leaf: u64) -> Result<(), 
     ensures cause { IsErrOf result ArmFault.Shelf → AreaRose A.faults pool.old pool.new }
     ensures carries { (x : State) → Represents R.Rack A.Area pool.old x
         → CarriesOut R.Rack A.Area pool.new x (SwitchDoes x leaf false result) }
+    ensures arms { LeafIs leaf false result pool.new.metaslabs.shards.items }
 {
     switch(pool, leaf, false)
 }
@@ -56,6 +59,7 @@ fn switch<R: Rack, A: Area>(pool: &mut Pool<R, A>, leaf: u64, offline: bool) -> 
     ensures cause { IsErrOf result ArmFault.Shelf → AreaRose A.faults pool.old pool.new }
     ensures carries { (x : State) → Represents R.Rack A.Area pool.old x
         → CarriesOut R.Rack A.Area pool.new x (SwitchDoes x leaf offline result) }
+    ensures arms { LeafIs leaf offline result pool.new.metaslabs.shards.items }
 {
     if let Err(fault) = pool.finish() {
         return Err(arm_fault(fault));
@@ -72,19 +76,6 @@ fn switch<R: Rack, A: Area>(pool: &mut Pool<R, A>, leaf: u64, offline: bool) -> 
         }
         Err(ReserveFault::Worn { .. }) => Err(ArmFault::Worn),
         Err(ReserveFault::NoMemory) => Err(ArmFault::NoMemory),
-    }
-}
-
-/// Why a group that was closing couldn't be committed first. That group isn't the last.
-fn arm_fault(fault: SyncFault) -> ArmFault
-    requires { (fault ≡ SyncFault.Last) → ⊥ }
-    ensures { IsFor fault result }
-{
-    match fault {
-        SyncFault::Worn => ArmFault::Worn,
-        SyncFault::Last => unreachable!(),
-        SyncFault::Shelf => ArmFault::Shelf,
-        SyncFault::NoMemory => ArmFault::NoMemory,
     }
 }
 

@@ -77,7 +77,7 @@ fn raise<R: Rack, A: Area>(pool: &mut Pool<R, A>) -> Result<u64, SyncFault>
 }
 
 /// Why no group was committed, where events couldn't be reserved.
-fn stopped(fault: ReserveFault) -> SyncFault
+pub(crate) fn stopped(fault: ReserveFault) -> SyncFault
     ensures ends { end_of {T = ℕ} (Err result) ≡ end_of_reserving (Err fault) }
     ensures not_shelf { result ≡ SyncFault.Shelf → ⊥ }
 {

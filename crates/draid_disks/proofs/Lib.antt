@@ -1,4 +1,4 @@
-mod Alike
+pub mod Alike
 mod Attached
 mod Births
 mod Checked
@@ -10,7 +10,7 @@ mod Left
 mod Marked
 mod Moving
 mod Plain
-mod Refused
+pub mod Refused
 mod Renewed
 mod RenewedOne
 mod Replanned

@@ -3,7 +3,7 @@ ghost use Rattle.draid_slots.specs.Faults.{MayDetach};
 ghost use Rattle.draid_slots.specs.Table as table;
 ghost use Rattle.draid_slots.specs.Table.{IsThere, arms_of, is_logged};
 ghost use Rattle.draid_shard.specs.declared.shard.Shard.{Shard};
-ghost use Rattle.draid_disks.specs.Checks.{AreAlike, Each, IsGoingRefused, IsLowestPass, LeastUpto, NoPass, beside, lesser, missed_over};
+ghost use Rattle.draid_disks.specs.Checks.{AreAlike, Each, HasWholeOver, IsGoingRefused, IsLowestPass, LeastUpto, NoPass, beside, lesser, missed_over};
 ghost use Rattle.draid_disks.specs.Replanning.{MayReplan};
 
 use crate::attaching::can_replan;
@@ -126,6 +126,8 @@ pub fn detach_fault<R: Rack, A: Area>(
     requires alike { AreAlike slots.now shards.now }
     ensures some { IfSome result (IsGoingRefused slots.now shards.now at) }
     ensures none { IfNone result (Each (λ (shard : Shard R A). (shard.pass ≡ None) × MayDetach shard.slots at) shards.now) }
+    // One arm beside it has missed nothing in any of them.
+    ensures whole { IfNone result (HasWholeOver shards.now at (length (arms_of slots.now at.slot))) }
 {
     if let Some((metaslab, number)) = lowest_pass(shards) {
         return Some(SlotFault::PassRunning { metaslab, number });

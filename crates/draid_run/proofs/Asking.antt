@@ -1,8 +1,8 @@
 -- What a line comes to that asks something of the pool that is open.
-use Rattle.std.proofs.Common.{[], ◌≡◌, IfOk, ℕ, List, Option, Some, None, Result, Ok, Err, ap, refl, sym, subst, Vec, Global}
+use Rattle.std.proofs.Common.{[], ◌≡◌, IfOk, ℕ, Bool, List, Option, Some, None, Result, Ok, Err, ap, refl, sym, subst, Vec, Global}
 use Rattle.draid_rack.specs.declared.Rack as racks
 use Rattle.draid_area.specs.declared.Area as areas
-use Rattle.draid_script.specs.Line.{Command, CreatePool, ReadObject, FreeObject, SumObjects, TakeOffline, TakeOnline, DamageSector, ShowStatus, UpgradePool, command_in}
+use Rattle.draid_script.specs.Line.{Command, CreatePool, ReadObject, FreeObject, SumObjects, DamageSector, AttachSpare, ShowStatus, DetachArm, UpgradePool, command_in}
 use Rattle.draid_script.specs.declared.line.Line.{Line}
 use Rattle.draid_script.specs.declared.line.Line.TheVariants as variant
 use Rattle.draid_script.specs.declared.line.PoolKeys.{PoolKeys}
@@ -18,7 +18,9 @@ use Rattle.draid_pool.specs.declared.pool.Pool.{Pool}
 use Rattle.draid_run.specs.Desks.{AnswerDoes, IsDesk, Turned, asked_in}
 use Rattle.draid_run.specs.Making.{CreateIs}
 use Rattle.draid_names.specs.declared.fault.Failed.{Failed}
-use Rattle.draid_changes.specs.Says.{OfflineSays, OnlineSays}
+use Rattle.draid_changes.specs.DetachSays.{DetachSays}
+use Rattle.draid_script.specs.declared.line.ArmArgument.{ArmArgument}
+use Rattle.draid_changes.specs.Says.{SpareSays, SwitchSays}
 use Rattle.draid_changes.specs.UpgradeSays.{UpgradeSays}
 use Rattle.draid_store.specs.Says.{DamageSays, FreeSays, ReadSays, SumSays}
 use Rattle.draid_status.specs.Says.{StatusSays}
@@ -27,7 +29,7 @@ use Rattle.draid_run.specs.Serve.{AnswerIs, AskIs, IsSaid}
 use Rattle.draid_run.specs.Shelves.{MayFind, OnShelf}
 use Rattle.draid_run.specs.declared.answer.Stop.{Stop}
 use Rattle.draid_run.specs.declared.answer.Stop.TheVariants as stop
-use Rattle.draid_run.proofs.Said.{damage_does, free_does, offline_does, online_does, read_does, status_does, sum_does, upgrade_does}
+use Rattle.draid_run.proofs.Said.{damage_does, detach_does, free_does, read_does, spare_does, status_does, sum_does, switch_does, switch_line, upgrade_does}
 use Rattle.draid_run.proofs.Steps.{ask_breaks, by_ask, by_create}
 
 module _ {R A : Type 0} (rack : racks.Ghosts R) (area : areas.Ghosts A) (choices : Choices) (entry now : OnShelf) (pool : Option (Pool R A)) (x : Desk) (is : IsDesk rack area entry now pool x) (command : Command)
@@ -76,38 +78,40 @@ pub asks_nothing : (line : Line) → ((object : ℕ) (bytes : Vec ℕ Global) �
     → ((leaf : ℕ) → line ≡ variant.Offline leaf → ⊥)
     → ((leaf : ℕ) → line ≡ variant.Online leaf → ⊥)
     → ((leaf : ℕ) (sector : ℕ) → line ≡ variant.Damage leaf sector → ⊥)
+    → ((slot : ℕ) (spare : ℕ) → line ≡ variant.Spare slot spare → ⊥)
     → ((form : StatusFormat) → line ≡ variant.Status form → ⊥)
+    → ((arm : ArmArgument) → line ≡ variant.Detach arm → ⊥)
     → (line ≡ variant.Upgrade → ⊥)
     → asked_in (command_in line) ≡ None
-asks_nothing variant.Nothing write fill read free sum offline online damage status upgrade = refl
-asks_nothing (variant.Create spec children keys) write fill read free sum offline online damage status upgrade = refl
-asks_nothing variant.Import write fill read free sum offline online damage status upgrade = refl
-asks_nothing variant.Export write fill read free sum offline online damage status upgrade = refl
-asks_nothing variant.Sync write fill read free sum offline online damage status upgrade = refl
-asks_nothing variant.Cancel write fill read free sum offline online damage status upgrade = refl
-asks_nothing variant.Crash write fill read free sum offline online damage status upgrade = refl
-asks_nothing (variant.Write object bytes) write fill read free sum offline online damage status upgrade = absurd (write object bytes refl)
-asks_nothing (variant.Fill first count len seed) write fill read free sum offline online damage status upgrade = absurd (fill first count len seed refl)
-asks_nothing (variant.Read object) write fill read free sum offline online damage status upgrade = absurd (read object refl)
-asks_nothing (variant.Free object) write fill read free sum offline online damage status upgrade = absurd (free object refl)
-asks_nothing (variant.Sum first count) write fill read free sum offline online damage status upgrade = absurd (sum first count refl)
-asks_nothing (variant.Offline leaf) write fill read free sum offline online damage status upgrade = absurd (offline leaf refl)
-asks_nothing (variant.Online leaf) write fill read free sum offline online damage status upgrade = absurd (online leaf refl)
-asks_nothing (variant.Damage leaf sector) write fill read free sum offline online damage status upgrade = absurd (damage leaf sector refl)
-asks_nothing (variant.Spare slot spare) write fill read free sum offline online damage status upgrade = refl
-asks_nothing (variant.Replace slot sectors) write fill read free sum offline online damage status upgrade = refl
-asks_nothing (variant.Detach arm) write fill read free sum offline online damage status upgrade = refl
-asks_nothing (variant.Rebuild limit) write fill read free sum offline online damage status upgrade = refl
-asks_nothing (variant.Scrub limit) write fill read free sum offline online damage status upgrade = refl
-asks_nothing (variant.Rebalance slot) write fill read free sum offline online damage status upgrade = refl
-asks_nothing (variant.Status form) write fill read free sum offline online damage status upgrade = absurd (status form refl)
-asks_nothing (variant.Lanes count) write fill read free sum offline online damage status upgrade = refl
-asks_nothing variant.Upgrade write fill read free sum offline online damage status upgrade = absurd (upgrade refl)
-asks_nothing (variant.Agent least) write fill read free sum offline online damage status upgrade = refl
-asks_nothing variant.AgentLog write fill read free sum offline online damage status upgrade = refl
-asks_nothing variant.Checkpoint write fill read free sum offline online damage status upgrade = refl
-asks_nothing variant.Rewind write fill read free sum offline online damage status upgrade = refl
-asks_nothing variant.Discard write fill read free sum offline online damage status upgrade = refl
+asks_nothing variant.Nothing write fill read free sum offline online damage spare status detach upgrade = refl
+asks_nothing (variant.Create spec children keys) write fill read free sum offline online damage spare status detach upgrade = refl
+asks_nothing variant.Import write fill read free sum offline online damage spare status detach upgrade = refl
+asks_nothing variant.Export write fill read free sum offline online damage spare status detach upgrade = refl
+asks_nothing variant.Sync write fill read free sum offline online damage spare status detach upgrade = refl
+asks_nothing variant.Cancel write fill read free sum offline online damage spare status detach upgrade = refl
+asks_nothing variant.Crash write fill read free sum offline online damage spare status detach upgrade = refl
+asks_nothing (variant.Write object bytes) write fill read free sum offline online damage spare status detach upgrade = absurd (write object bytes refl)
+asks_nothing (variant.Fill first count len seed) write fill read free sum offline online damage spare status detach upgrade = absurd (fill first count len seed refl)
+asks_nothing (variant.Read object) write fill read free sum offline online damage spare status detach upgrade = absurd (read object refl)
+asks_nothing (variant.Free object) write fill read free sum offline online damage spare status detach upgrade = absurd (free object refl)
+asks_nothing (variant.Sum first count) write fill read free sum offline online damage spare status detach upgrade = absurd (sum first count refl)
+asks_nothing (variant.Offline leaf) write fill read free sum offline online damage spare status detach upgrade = absurd (offline leaf refl)
+asks_nothing (variant.Online leaf) write fill read free sum offline online damage spare status detach upgrade = absurd (online leaf refl)
+asks_nothing (variant.Damage leaf sector) write fill read free sum offline online damage spare status detach upgrade = absurd (damage leaf sector refl)
+asks_nothing (variant.Spare slot number) write fill read free sum offline online damage spare status detach upgrade = absurd (spare slot number refl)
+asks_nothing (variant.Replace slot sectors) write fill read free sum offline online damage spare status detach upgrade = refl
+asks_nothing (variant.Detach arm) write fill read free sum offline online damage spare status detach upgrade = absurd (detach arm refl)
+asks_nothing (variant.Rebuild limit) write fill read free sum offline online damage spare status detach upgrade = refl
+asks_nothing (variant.Scrub limit) write fill read free sum offline online damage spare status detach upgrade = refl
+asks_nothing (variant.Rebalance slot) write fill read free sum offline online damage spare status detach upgrade = refl
+asks_nothing (variant.Status form) write fill read free sum offline online damage spare status detach upgrade = absurd (status form refl)
+asks_nothing (variant.Lanes count) write fill read free sum offline online damage spare status detach upgrade = refl
+asks_nothing variant.Upgrade write fill read free sum offline online damage spare status detach upgrade = absurd (upgrade refl)
+asks_nothing (variant.Agent least) write fill read free sum offline online damage spare status detach upgrade = refl
+asks_nothing variant.AgentLog write fill read free sum offline online damage spare status detach upgrade = refl
+asks_nothing variant.Checkpoint write fill read free sum offline online damage spare status detach upgrade = refl
+asks_nothing variant.Rewind write fill read free sum offline online damage spare status detach upgrade = refl
+asks_nothing variant.Discard write fill read free sum offline online damage spare status detach upgrade = refl
 
 -- and nothing of the shelf: its command is beyond what is built
 pub is_unbuilt : (line : Line) → (line ≡ variant.Nothing → ⊥)
@@ -132,9 +136,9 @@ is_unbuilt (variant.Sum first count) nothing create opens export sync crash none
 is_unbuilt (variant.Offline leaf) nothing create opens export sync crash none = absurd (cc none)
 is_unbuilt (variant.Online leaf) nothing create opens export sync crash none = absurd (cc none)
 is_unbuilt (variant.Damage leaf sector) nothing create opens export sync crash none = absurd (cc none)
-is_unbuilt (variant.Spare slot spare) nothing create opens export sync crash none = tt
+is_unbuilt (variant.Spare slot spare) nothing create opens export sync crash none = absurd (cc none)
 is_unbuilt (variant.Replace slot sectors) nothing create opens export sync crash none = tt
-is_unbuilt (variant.Detach arm) nothing create opens export sync crash none = tt
+is_unbuilt (variant.Detach arm) nothing create opens export sync crash none = absurd (cc none)
 is_unbuilt (variant.Rebuild limit) nothing create opens export sync crash none = tt
 is_unbuilt (variant.Scrub limit) nothing create opens export sync crash none = tt
 is_unbuilt (variant.Rebalance slot) nothing create opens export sync crash none = tt
@@ -161,11 +165,15 @@ module _ {R A : Type 0} (rack : racks.Ghosts R) (area : areas.Ghosts A) (choices
     represents = c.represents;
   }
 
-  pub replied_offline : (leaf : ℕ) (said : Result Reply Failed) → line ≡ variant.Offline leaf → CarriesOut rack area pool x (OfflineSays leaf said x) → CarriesOut rack area pool x (AnswerDoes x choices (command_in line) said)
-  replied_offline leaf said is c = carried (TakeOffline leaf) (OfflineSays leaf said x) said (ap command_in is) (λ holds store. offline_does x choices said holds store leaf) c
+  pub replied_switch : (leaf : ℕ) (offline : Bool) (said : Result Reply Failed) → command_in line ≡ switch_line leaf offline → CarriesOut rack area pool x (SwitchSays leaf offline said x)
+      → CarriesOut rack area pool x (AnswerDoes x choices (command_in line) said)
+  replied_switch leaf offline said is c = carried (switch_line leaf offline) (SwitchSays leaf offline said x) said is (λ holds store. switch_does x choices said holds store leaf offline) c
 
-  pub replied_online : (leaf : ℕ) (said : Result Reply Failed) → line ≡ variant.Online leaf → CarriesOut rack area pool x (OnlineSays leaf said x) → CarriesOut rack area pool x (AnswerDoes x choices (command_in line) said)
-  replied_online leaf said is c = carried (TakeOnline leaf) (OnlineSays leaf said x) said (ap command_in is) (λ holds store. online_does x choices said holds store leaf) c
+  pub replied_spare : (slot spare : ℕ) (said : Result Reply Failed) → line ≡ variant.Spare slot spare → CarriesOut rack area pool x (SpareSays slot spare said x) → CarriesOut rack area pool x (AnswerDoes x choices (command_in line) said)
+  replied_spare slot spare said is c = carried (AttachSpare slot spare) (SpareSays slot spare said x) said (ap command_in is) (λ holds store. spare_does x choices said holds store slot spare) c
+
+  pub replied_detach : (arm : ArmArgument) (said : Result Reply Failed) → line ≡ variant.Detach arm → CarriesOut rack area pool x (DetachSays arm said x) → CarriesOut rack area pool x (AnswerDoes x choices (command_in line) said)
+  replied_detach arm said is c = carried (DetachArm arm) (DetachSays arm said x) said (ap command_in is) (λ holds store. detach_does x choices said holds store arm) c
 
   pub replied_upgrade : (said : Result Reply Failed) → line ≡ variant.Upgrade → CarriesOut rack area pool x (UpgradeSays said x) → CarriesOut rack area pool x (AnswerDoes x choices (command_in line) said)
   replied_upgrade said is c = carried UpgradePool (UpgradeSays said x) said (ap command_in is) (λ holds store. upgrade_does x choices said holds store) c

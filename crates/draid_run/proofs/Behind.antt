@@ -1,7 +1,7 @@
 -- Which replies leave the pool open.
 use Rattle.std.proofs.Common.{◌≡◌, refl, Some}
 use Rattle.std.specs.Prelude.{⊤}
-use Rattle.draid_script.specs.Line.{Command, SyncPool, WriteObject, FillObjects, ReadObject, FreeObject, SumObjects, TakeOffline, TakeOnline, DamageSector, ShowStatus, UpgradePool}
+use Rattle.draid_script.specs.Line.{Command, SyncPool, WriteObject, FillObjects, ReadObject, FreeObject, SumObjects, TakeOffline, TakeOnline, DamageSector, AttachSpare, ShowStatus, DetachArm, UpgradePool}
 use Rattle.draid_script.specs.declared.name.CommandName.{CommandName}
 use Rattle.draid_reply.specs.declared.reply.Reply.{Reply}
 use Rattle.draid_reply.specs.declared.reply.Reply.TheVariants.{Crashed, Exported}
@@ -57,9 +57,15 @@ asked_keeps (TakeOffline leaf) called reply asked is = tt
 asked_keeps (DamageSector leaf sector) called (Exported group) asked is = absurd is
 asked_keeps (DamageSector leaf sector) called Crashed asked is = absurd is
 asked_keeps (DamageSector leaf sector) called reply asked is = tt
+asked_keeps (AttachSpare slot spare) called (Exported group) asked is = absurd is
+asked_keeps (AttachSpare slot spare) called Crashed asked is = absurd is
+asked_keeps (AttachSpare slot spare) called reply asked is = tt
 asked_keeps (ShowStatus form) called (Exported group) asked is = absurd is
 asked_keeps (ShowStatus form) called Crashed asked is = absurd is
 asked_keeps (ShowStatus form) called reply asked is = tt
+asked_keeps (DetachArm arm) called (Exported group) asked is = absurd is
+asked_keeps (DetachArm arm) called Crashed asked is = absurd is
+asked_keeps (DetachArm arm) called reply asked is = tt
 asked_keeps UpgradePool called (Exported group) asked is = absurd is
 asked_keeps UpgradePool called Crashed asked is = absurd is
 asked_keeps UpgradePool called reply asked is = tt

@@ -1,15 +1,16 @@
 -- What the replies of commands say, in the words of a session.
-use Rattle.std.proofs.Common.{◌≡◌, inl, ℕ, true, false, List, Option, Result, Ok, Err, refl, subst, sym}
+use Rattle.std.proofs.Common.{◌≡◌, inl, ℕ, Bool, true, false, List, Result, Ok, Err, refl, subst, sym}
 use Rattle.std.specs.declared.vec.Vec.{Vec}
 use Rattle.std.specs.declared.alloc.Global.{Global}
 use Rattle.draid_names.specs.declared.fault.NoMemory.{NoMemory as Starved}
 use Rattle.draid_names.specs.declared.refusal.ObjectFault.{ObjectFault}
 use Rattle.draid_names.specs.declared.refusal.ObjectFault.TheVariants as object
-use Rattle.draid_script.specs.Line.{DamageSector, FreeObject, ReadObject, ShowStatus, SumObjects, TakeOffline, TakeOnline, UpgradePool}
+use Rattle.draid_script.specs.Line.{AttachSpare, Command, DamageSector, FreeObject, ReadObject, ShowStatus, SumObjects, TakeOffline, TakeOnline, DetachArm, UpgradePool}
+use Rattle.draid_script.specs.declared.name.CommandName.{CommandName}
 use Rattle.draid_script.specs.declared.name.CommandName.TheVariants as name
 use Rattle.draid_script.specs.declared.line.StatusFormat.{StatusFormat}
 use Rattle.draid_reply.specs.declared.reply.Reply.{Reply}
-use Rattle.draid_reply.specs.declared.reply.Reply.TheVariants.{Last, NoMemory, OfflineDone, OfflineRefused, OfflineWorn, OnlineDone, OnlineRefused, OnlineWorn, UpgradeAlready, Upgraded, Worn}
+use Rattle.draid_reply.specs.declared.reply.Reply.TheVariants.{DetachLast, DetachRefused, DetachWorn, Detached, Last, NoMemory, OfflineDone, OfflineRefused, OfflineWorn, OnlineDone, OnlineRefused, OnlineWorn, SpareRefused, SpareWorn, UpgradeAlready, Upgraded, Worn}
 use Rattle.draid_session.specs.Choices.{Choices}
 use Rattle.draid_session.specs.Holds.{Hold}
 use Rattle.draid_session.specs.State.{State, Store}
@@ -17,8 +18,14 @@ use Rattle.draid_names.specs.declared.fault.Failed.{Failed}
 use Rattle.draid_names.specs.declared.refusal.SlotFault.{SlotFault}
 use Rattle.draid_names.specs.declared.refusal.SlotFault.TheVariants as slot
 use Rattle.draid_session.specs.Arms as arms
-use Rattle.draid_changes.specs.Answers.{SwitchDoes}
-use Rattle.draid_changes.specs.Says.{IsOfflineReply, IsOnlineReply, OfflineSays, OnlineSays}
+use Rattle.draid_changes.specs.Answers.{SpareDoes, SwitchDoes}
+use Rattle.draid_changes.specs.DetachSays.{DetachSays, IsDetachReply}
+use Rattle.draid_changes.specs.Detaching.{DetachDoes}
+use Rattle.draid_changes.specs.declared.detaching.DetachFault.{DetachFault}
+use Rattle.draid_changes.specs.declared.detaching.DetachFault.TheVariants as detaching
+use Rattle.draid_script.specs.declared.line.ArmArgument.{ArmArgument}
+use Rattle.draid_session.specs.Arms.{arm_of}
+use Rattle.draid_changes.specs.Says.{IsReplyBy, IsSpared, SpareSays, SwitchSays}
 use Rattle.draid_changes.specs.UpgradeSays.{IsUpgradeReply, UpgradeSays}
 use Rattle.draid_changes.specs.Upgrading.{UpgradeDoes}
 use Rattle.draid_changes.specs.declared.upgrading.UpgradeFault.{UpgradeFault}
@@ -26,7 +33,7 @@ use Rattle.draid_changes.specs.declared.upgrading.UpgradeFault.TheVariants as up
 use Rattle.draid_pool.specs.declared.fault.SyncFault.TheVariants as sync
 use Rattle.draid_changes.specs.declared.fault.ArmFault.{ArmFault}
 use Rattle.draid_changes.specs.declared.fault.ArmFault.TheVariants as arm
-use Rattle.draid_run.specs.Desks.{AnswerDoes}
+use Rattle.draid_run.specs.Desks.{AnswerDoes, BreaksBy}
 use Rattle.draid_store.specs.Answers.{DamageDoes, FreeDoes, ReadDoes, SumDoes}
 use Rattle.draid_store.specs.declared.fault.DamageFault.{DamageFault}
 use Rattle.draid_store.specs.declared.fault.DamageFault.TheVariants as damaged
@@ -47,42 +54,49 @@ no_leaf x leaf holds (slot.TooSmall need have) refused = absurd refused.broken
 no_leaf x leaf holds (slot.Full arms) refused = absurd refused.broken
 no_leaf x leaf holds slot.Last refused = absurd refused.broken
 
-module _ (x : State) (choices : Choices) (said : Result Reply Failed) (holds : List Hold) (store : Store) (leaf : ℕ) where
-  pub offline_does : OfflineSays leaf said x holds store → AnswerDoes x choices (TakeOffline leaf) said holds store
-  offline_does says = by says.0 says.1 says.2
+module _ {T : Type 0} (x : State) (choices : Choices) (said : Result Reply Failed) (holds : List Hold) (store : Store) (command : Command) (called : CommandName) (IsDone : T → Reply → Type 0) (refused : SlotFault → Reply) (worn : Reply)
+    (Did : Result T ArmFault → Type 0) where
+  -- a reply is that of an answer, and what the answer says was done is what the command does by that reply
+  pub answer_does : ((it : T) (reply : Reply) → IsDone it reply → Did (Ok it) → ReplyDoes x choices command reply holds store) → ((why : SlotFault) → Did (Err (arm.Slot why)) → ReplyDoes x choices command (refused why) holds store)
+      → (Did (Err arm.Worn) → ReplyDoes x choices command worn holds store) → (Did (Err arm.NoMemory) → ReplyDoes x choices command (NoMemory called) holds store) → (Did (Err arm.Shelf) → BreaksBy x command holds store)
+      → (answer : Result T ArmFault) → IsReplyBy called IsDone refused worn answer said → Did answer → AnswerDoes x choices command said holds store
+  answer_does done barred is_worn starved broke answer is did = by answer is did
     where
-      replied : (reply : Reply) → said ≡ Ok reply → ReplyDoes x choices (TakeOffline leaf) reply holds store → AnswerDoes x choices (TakeOffline leaf) said holds store
-      replied reply is does = subst (λ s. AnswerDoes x choices (TakeOffline leaf) s holds store) (sym is) does
+      replied : (reply : Reply) → said ≡ Ok reply → ReplyDoes x choices command reply holds store → AnswerDoes x choices command said holds store
+      replied reply is does = subst (λ s. AnswerDoes x choices command s holds store) (sym is) does
 
-      broke : (given : Result Reply Failed) → IsOfflineReply leaf (Err arm.Shelf) given → SwitchDoes x leaf true (Err arm.Shelf) holds store → AnswerDoes x choices (TakeOffline leaf) given holds store
-      broke (Ok reply) is does = absurd is
-      broke (Err failed) is does = does
+      broken : (given : Result Reply Failed) → IsReplyBy called IsDone refused worn (Err arm.Shelf) given → Did (Err arm.Shelf) → AnswerDoes x choices command given holds store
+      broken (Ok reply) is did = absurd is
+      broken (Err failed) is did = broke did
 
-      by : (answer : Result Unit ArmFault) → IsOfflineReply leaf answer said → SwitchDoes x leaf true answer holds store → AnswerDoes x choices (TakeOffline leaf) said holds store
-      by (Ok done) is does = replied (OfflineDone leaf) is (refl, does.0, does.1)
-      by (Err (arm.Slot why)) is does = replied (OfflineRefused leaf) is (refl, does.0, no_leaf x leaf holds why does.1)
-      by (Err arm.Worn) is does = replied (OfflineWorn leaf) is (refl, does.0, does.1)
-      by (Err arm.NoMemory) is does = replied (NoMemory name.Offline) is does
-      by (Err arm.Shelf) is does = broke said is does
+      by : (answer : Result T ArmFault) → IsReplyBy called IsDone refused worn answer said → Did answer → AnswerDoes x choices command said holds store
+      by (Ok it) is did = replied is.0 is.1 (done it is.0 is.2 did)
+      by (Err (arm.Slot why)) is did = replied (refused why) is (barred why did)
+      by (Err arm.Worn) is did = replied worn is (is_worn did)
+      by (Err arm.NoMemory) is did = replied (NoMemory called) is (starved did)
+      by (Err arm.Shelf) is did = broken said is did
 
-  pub online_does : OnlineSays leaf said x holds store → AnswerDoes x choices (TakeOnline leaf) said holds store
-  online_does says = by says.0 says.1 says.2
-    where
-      replied : (reply : Reply) → said ≡ Ok reply → ReplyDoes x choices (TakeOnline leaf) reply holds store → AnswerDoes x choices (TakeOnline leaf) said holds store
-      replied reply is does = subst (λ s. AnswerDoes x choices (TakeOnline leaf) s holds store) (sym is) does
-
-      broke : (given : Result Reply Failed) → IsOnlineReply leaf (Err arm.Shelf) given → SwitchDoes x leaf false (Err arm.Shelf) holds store → AnswerDoes x choices (TakeOnline leaf) given holds store
-      broke (Ok reply) is does = absurd is
-      broke (Err failed) is does = does
-
-      by : (answer : Result Unit ArmFault) → IsOnlineReply leaf answer said → SwitchDoes x leaf false answer holds store → AnswerDoes x choices (TakeOnline leaf) said holds store
-      by (Ok done) is does = replied (OnlineDone leaf) is (refl, does.0, does.1)
-      by (Err (arm.Slot why)) is does = replied (OnlineRefused leaf) is (refl, does.0, no_leaf x leaf holds why does.1)
-      by (Err arm.Worn) is does = replied (OnlineWorn leaf) is (refl, does.0, does.1)
-      by (Err arm.NoMemory) is does = replied (NoMemory name.Online) is does
-      by (Err arm.Shelf) is does = broke said is does
+abbrev pub switch_line : ℕ → Bool → Command
+switch_line leaf true = TakeOffline leaf
+switch_line leaf false = TakeOnline leaf
 
 module _ (x : State) (choices : Choices) (said : Result Reply Failed) (holds : List Hold) (store : Store) where
+  pub switch_does : (leaf : ℕ) (offline : Bool) → SwitchSays leaf offline said x holds store → AnswerDoes x choices (switch_line leaf offline) said holds store
+  switch_does leaf true says =
+      answer_does x choices said holds store (TakeOffline leaf) name.Offline (λ done reply. reply ≡ OfflineDone leaf) (λ why. OfflineRefused leaf) (OfflineWorn leaf) (λ answer. SwitchDoes x leaf true answer holds store)
+      (λ it reply is did. subst (λ r. ReplyDoes x choices (TakeOffline leaf) r holds store) (sym is) (refl, did.0, did.1)) (λ why did. (refl, did.0, no_leaf x leaf holds why did.1)) (λ did. (refl, did.0, did.1)) (λ did. did) (λ did. did)
+      says.0 says.1 says.2
+  switch_does leaf false says =
+      answer_does x choices said holds store (TakeOnline leaf) name.Online (λ done reply. reply ≡ OnlineDone leaf) (λ why. OnlineRefused leaf) (OnlineWorn leaf) (λ answer. SwitchDoes x leaf false answer holds store)
+      (λ it reply is did. subst (λ r. ReplyDoes x choices (TakeOnline leaf) r holds store) (sym is) (refl, did.0, did.1)) (λ why did. (refl, did.0, no_leaf x leaf holds why did.1)) (λ did. (refl, did.0, did.1)) (λ did. did) (λ did. did)
+      says.0 says.1 says.2
+
+  pub spare_does : (slot spare : ℕ) → SpareSays slot spare said x holds store → AnswerDoes x choices (AttachSpare slot spare) said holds store
+  spare_does slot spare says =
+      answer_does x choices said holds store (AttachSpare slot spare) name.Spare (λ done reply. IsSpared x.geometry.spec slot spare reply) (λ why. SpareRefused slot why) (SpareWorn slot) (λ answer. SpareDoes x slot spare answer holds store)
+      (λ it reply is did. subst (λ r. ReplyDoes x choices (AttachSpare slot spare) r holds store) (sym is.1) (refl, is.2, did.0, did.1)) (λ why did. (refl, did.0, did.1)) (λ did. (refl, did.0, did.1)) (λ did. did) (λ did. did)
+      says.0 says.1 says.2
+
   pub upgrade_does : UpgradeSays said x holds store → AnswerDoes x choices UpgradePool said holds store
   upgrade_does says = by says.0 says.1 says.2
     where
@@ -100,6 +114,25 @@ module _ (x : State) (choices : Choices) (said : Result Reply Failed) (holds : L
       by (Err (upgrading.Sync sync.Last)) is does = replied (Last name.Upgrade) is does
       by (Err (upgrading.Sync sync.NoMemory)) is does = replied (NoMemory name.Upgrade) is (does.0, inl does.1)
       by (Err (upgrading.Sync sync.Shelf)) is does = broke said is does
+
+module _ (x : State) (choices : Choices) (said : Result Reply Failed) (holds : List Hold) (store : Store) (arm : ArmArgument) where
+  pub detach_does : DetachSays arm said x holds store → AnswerDoes x choices (DetachArm arm) said holds store
+  detach_does says = by says.0 says.1 says.2
+    where
+      replied : (reply : Reply) → said ≡ Ok reply → ReplyDoes x choices (DetachArm arm) reply holds store → AnswerDoes x choices (DetachArm arm) said holds store
+      replied reply is does = subst (λ s. AnswerDoes x choices (DetachArm arm) s holds store) (sym is) does
+
+      broke : (given : Result Reply Failed) → IsDetachReply arm (Err (detaching.Sync sync.Shelf)) given → DetachDoes x (arm_of arm) (Err (detaching.Sync sync.Shelf)) holds store → AnswerDoes x choices (DetachArm arm) given holds store
+      broke (Ok reply) is does = absurd is
+      broke (Err failed) is does = does
+
+      by : (answer : Result ℕ DetachFault) → IsDetachReply arm answer said → DetachDoes x (arm_of arm) answer holds store → AnswerDoes x choices (DetachArm arm) said holds store
+      by (Ok group) is does = replied (Detached arm group) is (refl, does.0, does.1)
+      by (Err (detaching.Slot why)) is does = replied (DetachRefused arm why) is (refl, does.0, does.1)
+      by (Err (detaching.Sync sync.Worn)) is does = replied (DetachWorn arm) is (refl, does.0, does.1)
+      by (Err (detaching.Sync sync.Last)) is does = replied (DetachLast arm) is (refl, does.0, does.1)
+      by (Err (detaching.Sync sync.NoMemory)) is does = replied (NoMemory name.Detach) is (does.0, inl does.1)
+      by (Err (detaching.Sync sync.Shelf)) is does = broke said is does
 
 module _ (x : State) (choices : Choices) (reply : Reply) (holds : List Hold) (store : Store) where
   pub read_does : (o : ℕ) → ReadSays o reply x holds store → ReplyDoes x choices (ReadObject o) reply holds store

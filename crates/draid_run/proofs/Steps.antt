@@ -23,6 +23,7 @@ use Rattle.draid_pool.specs.declared.pool.Pool.{Pool}
 use Rattle.draid_pool.specs.Failing.{AreaFails}
 use Rattle.draid_pool.specs.Pointers.{SamePointers}
 use Rattle.draid_pool.proofs.Taught.{still_known}
+use Rattle.draid_changes.specs.Behind.{ArmsBehind}
 use Rattle.draid_run.specs.Desks.{BreaksBy, Broken, IsDesk, IsPool, PoolBroke, PoolDid, Turned, asked_in}
 use Rattle.draid_run.proofs.Broke.{broken_shows}
 use Rattle.draid_pool.specs.Knows.{Teaches}
@@ -50,10 +51,10 @@ still_out x y now holds follows out store = record { held = out.held; checks = o
 module _ {R A : Type 0} (rack : racks.Ghosts R) (area : areas.Ghosts A) (choices : Choices) (command : Command) (called : CommandName) (reply : Reply) where
   -- a command was carried out on the pool that is open
   pub did_open : (desk : Option (Pool R A)) (pool new : Pool R A) → desk ≡ Some pool → IsWhole rack area new → IsReplyTo command reply
-      → Teaches command reply pool new
+      → Teaches command reply pool new → ArmsBehind command reply new.metaslabs.shards.items
       → ((x : State) → Represents rack area pool x → CarriesOut rack area new x (ReplyDoes x choices command reply))
       → (x : Desk) → IsPool rack area desk x → PoolDid rack area choices command called x reply (Some new)
-  did_open desk pool new is whole fits teaches step x = subst (λ d. IsPool rack area d x → PoolDid rack area choices command called x reply (Some new)) (sym is) (by x) where
+  did_open desk pool new is whole fits teaches arms step x = subst (λ d. IsPool rack area d x → PoolDid rack area choices command called x reply (Some new)) (sym is) (by x) where
     by : (x : Desk) → IsPool rack area (Some pool) x → PoolDid rack area choices command called x reply (Some new)
     by Untouched stands = absurd stands
     by Bare stands = absurd stands
@@ -61,7 +62,7 @@ module _ {R A : Type 0} (rack : racks.Ghosts R) (area : areas.Ghosts A) (choices
     by (Shut crash y) stands = absurd stands
     by Unknown stands = absurd stands
     by (Open y) stands = (whole, fits, step y stands.1)
-    by (Foreign known) stands = (whole, fits, teaches known stands.1)
+    by (Foreign known) stands = (whole, fits, teaches known stands.1, arms)
 
   -- no pool is open, and the reply says so
   pub did_shut : (desk new : Option (Pool R A)) → desk ≡ None → new ≡ None → reply ≡ NoPool called → (x : Desk) → IsPool rack area desk x → PoolDid rack area choices command called x reply new
@@ -120,7 +121,9 @@ module _ (choices : Choices) (finds : Finding → Type 0) where
   shut_says (TakeOffline leaf) called is x = (called, is, refl, refl)
   shut_says (TakeOnline leaf) called is x = (called, is, refl, refl)
   shut_says (DamageSector leaf sector) called is x = (called, is, refl, refl)
+  shut_says (AttachSpare slot spare) called is x = (called, is, refl, refl)
   shut_says (ShowStatus form) called is x = (called, is, refl, refl)
+  shut_says (DetachArm arm) called is x = (called, is, refl, refl)
   shut_says UpgradePool called is x = (called, is, refl, refl)
   shut_says command called is x = absurd (cc is)
 
@@ -204,9 +207,11 @@ module _ {R A : Type 0} (rack : racks.Ghosts R) (area : areas.Ghosts A) (choices
       (refl, by_desk choices (MayFind rack area entry) rack area (TakeOffline leaf) (NoPool called) x stands (shut_says choices (MayFind rack area entry) (TakeOffline leaf) called is x)))
   by_ask (TakeOnline leaf) called is = turned_by (TakeOnline leaf) called is (λ y z c same. (refl, (z, c, same))) (λ old new fits learns same. (refl, (fits, new, learns, same))) (λ x stands.
       (refl, by_desk choices (MayFind rack area entry) rack area (TakeOnline leaf) (NoPool called) x stands (shut_says choices (MayFind rack area entry) (TakeOnline leaf) called is x)))
-  by_ask (AttachSpare slot spare) called is = absurd (cc is)
+  by_ask (AttachSpare slot spare) called is = turned_by (AttachSpare slot spare) called is (λ y z c same. (refl, (z, c, same))) (λ old new fits learns same. (refl, (fits, new, learns, same))) (λ x stands.
+      (refl, by_desk choices (MayFind rack area entry) rack area (AttachSpare slot spare) (NoPool called) x stands (shut_says choices (MayFind rack area entry) (AttachSpare slot spare) called is x)))
   by_ask (ReplaceDisk slot sectors) called is = absurd (cc is)
-  by_ask (DetachArm arm) called is = absurd (cc is)
+  by_ask (DetachArm arm) called is = turned_by (DetachArm arm) called is (λ y z c same. (refl, (z, c, same))) (λ old new fits learns same. (refl, (fits, new, learns, same))) (λ x stands.
+      (refl, by_desk choices (MayFind rack area entry) rack area (DetachArm arm) (NoPool called) x stands (shut_says choices (MayFind rack area entry) (DetachArm arm) called is x)))
   by_ask (RebuildPool limit) called is = absurd (cc is)
   by_ask (ScrubPool limit) called is = absurd (cc is)
   by_ask (RebalanceSlot slot) called is = absurd (cc is)

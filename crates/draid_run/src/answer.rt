@@ -157,7 +157,9 @@ fn asked(line: &Line) -> Option<CommandName>
         Line::Offline { .. } => Some(CommandName::Offline),
         Line::Online { .. } => Some(CommandName::Online),
         Line::Damage { .. } => Some(CommandName::Damage),
+        Line::Spare { .. } => Some(CommandName::Spare),
         Line::Status { .. } => Some(CommandName::Status),
+        Line::Detach { .. } => Some(CommandName::Detach),
         Line::Upgrade => Some(CommandName::Upgrade),
         _ => None,
     }

@@ -95,6 +95,8 @@ loop-metaslab-preserved g c =
             reserved = (let used = c.events_in-events.ensures in let same = same_need c.args.need shard after e.pass in omega (arith, reserved, used, same));
             room = e.room;
             slots = arms_kept shard.slots after.slots e.arms;
+            logs = e.arms;
+            sound = e.sound;
             pass = e.pass;
             last = e.last;
             groups = e.keeps.groups;

@@ -1,7 +1,4 @@
-use Rattle.std.proofs.Common.{◌≡◌, ◌<◌, Some, Err, ap, refl, subst, length, slice_index_or}
-use Rattle.std.specs.Prelude.{slice_get}
-use Rattle.std.proofs.lemmas.Option.{slice_get_within}
-use Rattle.draid_shard.specs.declared.shard.Shard.{Shard}
+use Rattle.std.proofs.Common.{Err, ap, refl, subst}
 use Rattle.draid_session.specs.Arms as arms
 use Rattle.draid_session.specs.Phases.{Starved, WasWorn}
 use Rattle.draid_session.specs.State.{State}
@@ -11,13 +8,12 @@ use Rattle.draid_pool.specs.Syncing.{Phase}
 use Rattle.draid_pool.specs.declared.pool.Pool.{Pool}
 use Rattle.draid_pool.proofs.Refusing.{not_both}
 use Rattle.draid_pool.proofs.Rises.{areas_on}
-use Rattle.draid_pool.proofs.SyncSteps.{borrowed_at}
-use Rattle.draid_pool.proofs.WholeGroups.{first_shard}
 use Rattle.draid_changes.specs.Walks.{Switches, end_of_reserving, switch_event}
 use Rattle.draid_changes.specs.declared.fault.ArmFault.TheVariants as armed
 use Rattle.draid_changes.specs.declared.need.Need.TheVariants as needs
-use Rattle.draid_changes.proofs.Begun.{err_same, shelf_first, starved_no_way, unfinished, worn_no_way}
+use Rattle.draid_changes.proofs.Begun.{err_same, first_borrowed, shelf_first, starved_no_way, unfinished, worn_no_way}
 use Rattle.draid_changes.proofs.Calls.{may_switch, switch_done, switch_refused, switch_stopped, switched_whole}
+use Rattle.draid_changes.proofs.Leaves.{all_switched, leaf_unfinished, none_has}
 use Rattle.draid_changes.proofs.Events.{areas_changed, idle_reserved}
 use Rattle.draid_changes.proofs.switching.switch.Goals as goal
 
@@ -33,16 +29,11 @@ returns-in-Err-clause-carries g c = λ x is.
 
 -- ---- the first metaslab
 
--- it was borrowed
-there : {R A : Type 0} (mid : Pool R A) (first : Shard R A) → 0 < length mid.metaslabs.shards.items → first ≡ slice_index_or mid.metaslabs.shards.items 0 first → slice_get mid.metaslabs.shards.items 0 ≡ Some first
-there mid first some is = borrowed_at mid.metaslabs.shards.items 0 first some is
-
 pub returns-then-not-is_arm-clause-carries : goal.returns-then-not-is_arm-clause-carries
 returns-then-not-is_arm-clause-carries g c = λ x is.
     (let mid = c.finish.new.self in
     let first = c.index.result.now in
-    let one = first_shard g.R.Rack g.A.Area mid c.in_default.ensures.whole in
-    let at = there mid first (slice_get_within mid.metaslabs.shards.items 0 one.0 one.1) c.index.ensures in
+    let at = first_borrowed g.R.Rack g.A.Area mid first c.in_default.ensures.whole c.index.ensures in
     switch_refused g.R.Rack g.A.Area mid x c.args.leaf first (c.in_default.ensures.carries x is) at (λ own. not_both c.is_arm.result (c.is_arm.ensures.arm.1 own) c.if-not-is_arm.true))
 
 -- ---- all metaslabs
@@ -51,8 +42,7 @@ pub switch_all-requires : goal.switch_all-requires
 switch_all-requires g c =
     let mid = c.finish.new.self in
     let first = c.index.result.now in
-    let one = first_shard g.R.Rack g.A.Area mid c.in_default.ensures.whole in
-    let at = there mid first (slice_get_within mid.metaslabs.shards.items 0 one.0 one.1) c.index.ensures in
+    let at = first_borrowed g.R.Rack g.A.Area mid first c.in_default.ensures.whole c.index.ensures in
     record {
       ready = may_switch g.R.Rack g.A.Area mid c.reserve_all.new.pool c.args.leaf first c.in_default.ensures.whole c.in-Ok.ensures.whole at c.is_arm.ensures.sound
           (c.is_arm.ensures.arm.0 c.if-not-is_arm.false) c.in-Ok.ensures.reserves;
@@ -81,8 +71,7 @@ returns-in-Ok-clause-carries g c = λ x is.
     let late = c.reserve_all.new.pool in
     let new : Pool g.row.R.Denot g.row.A.Denot = record late { metaslabs = record { shards = c.switch_all.new.shards } } in
     let first = c.index.result.now in
-    let one = first_shard g.R.Rack g.A.Area mid c.in_default.ensures.whole in
-    let at = there mid first (slice_get_within mid.metaslabs.shards.items 0 one.0 one.1) c.index.ensures in
+    let at = first_borrowed g.R.Rack g.A.Area mid first c.in_default.ensures.whole c.index.ensures in
     switch_done g.R.Rack g.A.Area mid late new x c.args.leaf c.args.offline first (c.in_default.ensures.carries x is) at (c.is_arm.ensures.arm.0 c.if-not-is_arm.false) c.in-Ok.ensures.carries
     (idle_reserved g.R.Rack g.A.Area needs.Event mid late c.in_default.ensures.idle c.in-Ok.ensures.reserves) c.switch_all.ensures.switches
     (record { geometry = refl; uber = refl; objects = refl; seq = refl; floor = refl }))
@@ -97,8 +86,7 @@ returns-in-Err-Worn-clause-carries g c = λ x is.
     (let mid = c.finish.new.self in
     let late = c.reserve_all.new.pool in
     let first = c.index.result.now in
-    let one = first_shard g.R.Rack g.A.Area mid c.in_default.ensures.whole in
-    let at = there mid first (slice_get_within mid.metaslabs.shards.items 0 one.0 one.1) c.index.ensures in
+    let at = first_borrowed g.R.Rack g.A.Area mid first c.in_default.ensures.whole c.index.ensures in
     switch_stopped g.R.Rack g.A.Area mid late x c.args.leaf c.args.offline armed.Worn WasWorn first (c.in_default.ensures.carries x is) at (c.is_arm.ensures.arm.0 c.if-not-is_arm.false) worn_no_way refl
     (subst (λ f. (y : State) → Represents g.R.Rack g.A.Area mid y → CarriesOut g.R.Rack g.A.Area late y (Phase y (arms.ReservePhase y.geometry y.perms (λ v. 1)) (end_of_reserving (Err f)))) c.in-Err-Worn.field-0-is
     c.in-Err-Worn.ensures.carries))
@@ -111,8 +99,29 @@ returns-in-Err-NoMemory-clause-carries g c = λ x is.
     (let mid = c.finish.new.self in
     let late = c.reserve_all.new.pool in
     let first = c.index.result.now in
-    let one = first_shard g.R.Rack g.A.Area mid c.in_default.ensures.whole in
-    let at = there mid first (slice_get_within mid.metaslabs.shards.items 0 one.0 one.1) c.index.ensures in
+    let at = first_borrowed g.R.Rack g.A.Area mid first c.in_default.ensures.whole c.index.ensures in
     switch_stopped g.R.Rack g.A.Area mid late x c.args.leaf c.args.offline armed.NoMemory Starved first (c.in_default.ensures.carries x is) at (c.is_arm.ensures.arm.0 c.if-not-is_arm.false) starved_no_way refl
     (subst (λ f. (y : State) → Represents g.R.Rack g.A.Area mid y → CarriesOut g.R.Rack g.A.Area late y (Phase y (arms.ReservePhase y.geometry y.perms (λ v. 1)) (end_of_reserving (Err f)))) c.in-Err-NoMemory.field-0-is
     c.in-Err-NoMemory.ensures.carries))
+
+-- ---- what becomes of the leaf's arms
+
+pub returns-in-Err-clause-arms : goal.returns-in-Err-clause-arms
+returns-in-Err-clause-arms g c = leaf_unfinished g.R.Rack g.A.Area c.args.leaf c.args.offline c.in-Err.fault c.arm_fault.result c.finish.new.self.metaslabs.shards.items c.arm_fault.ensures
+
+pub returns-then-not-is_arm-clause-arms : goal.returns-then-not-is_arm-clause-arms
+returns-then-not-is_arm-clause-arms g c =
+    let mid = c.finish.new.self in
+    let first = c.index.result.now in
+    let at = first_borrowed g.R.Rack g.A.Area mid first c.in_default.ensures.whole c.index.ensures in
+    (refl, none_has g.R.Rack g.A.Area mid c.args.leaf first c.in_default.ensures.whole at (λ own. not_both c.is_arm.result (c.is_arm.ensures.arm.1 own) c.if-not-is_arm.true))
+
+pub returns-in-Ok-clause-arms : goal.returns-in-Ok-clause-arms
+returns-in-Ok-clause-arms g c =
+    let mid = c.finish.new.self in
+    let late = c.reserve_all.new.pool in
+    let first = c.index.result.now in
+    let at = first_borrowed g.R.Rack g.A.Area mid first c.in_default.ensures.whole c.index.ensures in
+    all_switched g.R.Rack g.A.Area c.args.leaf c.args.offline late.metaslabs.shards.items c.switch_all.new.shards.items
+    (may_switch g.R.Rack g.A.Area mid late c.args.leaf first c.in_default.ensures.whole c.in-Ok.ensures.whole at c.is_arm.ensures.sound (c.is_arm.ensures.arm.0 c.if-not-is_arm.false) c.in-Ok.ensures.reserves)
+    c.switch_all.ensures.switches

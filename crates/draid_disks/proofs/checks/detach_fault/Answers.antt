@@ -17,3 +17,6 @@ returns-in-Some-eq0-clause-none g c =
     let slots = c.args.slots.now in
     let leaf : HasLeafBeside slots c.args.at = ap (λ arms. has_leaf (remove arms c.args.at.arm)) (sym c.arms.ensures.arms) ∙ sym c.has_leaf_beside.ensures ∙ c.if-not-has_leaf_beside.false in
     each_goes slots c.args.shards.now c.args.at c.requires.slot c.requires.alike c.requires.there leaf c.in_default.ensures.none (c.in-Some-eq0.ensures.1 c.in-Some-eq0.field-0-test)
+
+pub returns-in-Some-eq0-clause-whole : goal.returns-in-Some-eq0-clause-whole
+returns-in-Some-eq0-clause-whole g c = c.in-Some-eq0.ensures.1 c.in-Some-eq0.field-0-test

@@ -26,9 +26,12 @@ returns-in-Damage c = sym (ap (λ (l : Line). asked_in (command_in l)) c.in-Dama
 pub returns-in-Status : goal.returns-in-Status
 returns-in-Status c = sym (ap (λ (l : Line). asked_in (command_in l)) c.in-Status.is)
 
+pub returns-in-Detach : goal.returns-in-Detach
+returns-in-Detach c = sym (ap (λ (l : Line). asked_in (command_in l)) c.in-Detach.is)
+
 pub returns-in-Upgrade : goal.returns-in-Upgrade
 returns-in-Upgrade c = sym (ap (λ (l : Line). asked_in (command_in l)) c.in-Upgrade.is)
 
 pub returns-in_default : goal.returns-in_default
 returns-in_default c =
-    sym (asks_nothing c.args.line.now c.in_default.not-Write c.in_default.not-Fill c.in_default.not-Read c.in_default.not-Free c.in_default.not-Sum c.in_default.not-Offline c.in_default.not-Online c.in_default.not-Damage c.in_default.not-Status c.in_default.not-Upgrade)
+    sym (asks_nothing c.args.line.now c.in_default.not-Write c.in_default.not-Fill c.in_default.not-Read c.in_default.not-Free c.in_default.not-Sum c.in_default.not-Offline c.in_default.not-Online c.in_default.not-Damage c.in_default.not-Spare c.in_default.not-Status c.in_default.not-Detach c.in_default.not-Upgrade)

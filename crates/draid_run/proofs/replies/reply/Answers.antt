@@ -1,13 +1,14 @@
-use Rattle.std.proofs.Common.{◌∙◌, IfOk, ap, refl, subst, sym}
+use Rattle.std.proofs.Common.{◌∙◌, true, false, IfOk, ap, refl, subst, sym}
 use Rattle.std.specs.Fn.{FnReturnsAt}
 use Rattle.draid_session.specs.Choices.{choices_by}
-use Rattle.draid_script.specs.Line.{FillObjects, IsInRange, TakeOffline, TakeOnline, UpgradePool, WriteObject, command_in}
+use Rattle.draid_script.specs.Line.{AttachSpare, FillObjects, IsInRange, TakeOffline, TakeOnline, DetachArm, UpgradePool, WriteObject, command_in}
 use Rattle.draid_session.specs.Replies.{IsReplyTo}
 use Rattle.draid_pool.specs.Knows.{Teaches}
 use Rattle.draid_pool.proofs.Rises.{rose_fails}
 use Rattle.draid_pool.proofs.Taught.{teaches_nothing}
 use Rattle.draid_session.specs.Session.{MayBreak}
-use Rattle.draid_run.proofs.Asking.{asks_nothing, each_reply, replied_as, replied_damage, replied_free, replied_offline, replied_online, replied_read, replied_status, replied_sum, replied_upgrade}
+use Rattle.draid_changes.specs.Behind.{ArmsBehind}
+use Rattle.draid_run.proofs.Asking.{asks_nothing, each_reply, replied_as, replied_damage, replied_detach, replied_free, replied_read, replied_spare, replied_status, replied_sum, replied_switch, replied_upgrade}
 use Rattle.draid_run.proofs.replies.reply.Goals as goal
 
 pub returns-in-Write : goal.returns-in-Write
@@ -15,6 +16,7 @@ returns-in-Write g c = record {
   whole = c.reply_to_write.ensures.whole;
   fits = subst (λ k. IsReplyTo k c.reply_to_write.result) (sym (ap command_in c.in-Write.is ∙ ap (WriteObject c.in-Write.object) (sym c.deref.ensures.value))) c.reply_to_write.ensures.fits;
   knows = subst (λ k. Teaches k c.reply_to_write.result c.args.pool.now c.reply_to_write.new.pool) (sym (ap command_in c.in-Write.is ∙ ap (WriteObject c.in-Write.object) (sym c.deref.ensures.value))) c.reply_to_write.ensures.knows;
+  arms = subst (λ k. ArmsBehind k c.reply_to_write.result c.reply_to_write.new.pool.metaslabs.shards.items) (sym (ap command_in c.in-Write.is ∙ ap (WriteObject c.in-Write.object) (sym c.deref.ensures.value))) tt;
   breaks = λ failed. absurd (cc failed);
   step = λ x rep. replied_as g.R.Rack g.A.Area (choices_by (FnReturnsAt g.F.Fn c.args.chooser.now)) c.args.line.now x c.reply_to_write.new.pool c.reply_to_write.result (WriteObject c.in-Write.object c.deref.result.now)
       (ap command_in c.in-Write.is ∙ ap (WriteObject c.in-Write.object) (sym c.deref.ensures.value)) (c.reply_to_write.ensures.step x rep);
@@ -25,6 +27,7 @@ returns-in-Fill g c = record {
   whole = c.fill.ensures.whole;
   fits = subst (λ k. IsReplyTo k c.fill.result) (sym (ap command_in c.in-Fill.is)) c.fill.ensures.fits;
   knows = subst (λ k. Teaches k c.fill.result c.args.pool.now c.fill.new.pool) (sym (ap command_in c.in-Fill.is)) c.fill.ensures.knows;
+  arms = subst (λ k. ArmsBehind k c.fill.result c.fill.new.pool.metaslabs.shards.items) (sym (ap command_in c.in-Fill.is)) tt;
   breaks = λ failed. absurd (cc failed);
   step = λ x rep. replied_as g.R.Rack g.A.Area (choices_by (FnReturnsAt g.F.Fn c.args.chooser.now)) c.args.line.now x c.fill.new.pool c.fill.result (FillObjects c.in-Fill.first c.in-Fill.count c.in-Fill.len c.in-Fill.seed)
       (ap command_in c.in-Fill.is) (c.fill.ensures.step x rep);
@@ -35,6 +38,7 @@ returns-in-Free g c = record {
   whole = c.reply_to_free.ensures.whole;
   fits = subst (λ k. IsReplyTo k c.reply_to_free.result) (sym (ap command_in c.in-Free.is)) c.reply_to_free.ensures.fits;
   knows = subst (λ k. Teaches k c.reply_to_free.result c.args.pool.now c.reply_to_free.new.pool) (sym (ap command_in c.in-Free.is)) c.reply_to_free.ensures.knows;
+  arms = subst (λ k. ArmsBehind k c.reply_to_free.result c.reply_to_free.new.pool.metaslabs.shards.items) (sym (ap command_in c.in-Free.is)) tt;
   breaks = λ failed. absurd (cc failed);
   step = λ x rep. replied_free g.R.Rack g.A.Area (choices_by (FnReturnsAt g.F.Fn c.args.chooser.now)) c.args.line.now x c.reply_to_free.new.pool c.reply_to_free.result c.in-Free.object c.in-Free.is (c.reply_to_free.ensures.step x rep);
 }
@@ -44,6 +48,7 @@ returns-in-Read g c = record {
   whole = c.reply_to_read.ensures.whole;
   fits = subst (λ k. IsReplyTo k c.reply_to_read.result) (sym (ap command_in c.in-Read.is)) c.reply_to_read.ensures.fits;
   knows = subst (λ k. Teaches k c.reply_to_read.result c.args.pool.now c.reply_to_read.new.pool) (sym (ap command_in c.in-Read.is)) c.reply_to_read.ensures.knows;
+  arms = subst (λ k. ArmsBehind k c.reply_to_read.result c.reply_to_read.new.pool.metaslabs.shards.items) (sym (ap command_in c.in-Read.is)) tt;
   breaks = λ failed. absurd (cc failed);
   step = λ x rep. replied_read g.R.Rack g.A.Area (choices_by (FnReturnsAt g.F.Fn c.args.chooser.now)) c.args.line.now x c.reply_to_read.new.pool c.reply_to_read.result c.in-Read.object c.in-Read.is (c.reply_to_read.ensures.step x rep);
 }
@@ -53,6 +58,7 @@ returns-in-Sum g c = record {
   whole = c.reply_to_sum.ensures.whole;
   fits = subst (λ k. IsReplyTo k c.reply_to_sum.result) (sym (ap command_in c.in-Sum.is)) c.reply_to_sum.ensures.fits;
   knows = subst (λ k. Teaches k c.reply_to_sum.result c.args.pool.now c.reply_to_sum.new.pool) (sym (ap command_in c.in-Sum.is)) c.reply_to_sum.ensures.knows;
+  arms = subst (λ k. ArmsBehind k c.reply_to_sum.result c.reply_to_sum.new.pool.metaslabs.shards.items) (sym (ap command_in c.in-Sum.is)) tt;
   breaks = λ failed. absurd (cc failed);
   step = λ x rep. replied_sum g.R.Rack g.A.Area (choices_by (FnReturnsAt g.F.Fn c.args.chooser.now)) c.args.line.now x c.reply_to_sum.new.pool c.reply_to_sum.result c.in-Sum.first c.in-Sum.count c.in-Sum.is (c.reply_to_sum.ensures.step x rep);
 }
@@ -66,8 +72,9 @@ returns-in-Offline g c =
       fits = subst (λ k. IfOk c.reply_to_offline.result (IsReplyTo k)) (sym is) e.fits;
       knows = subst (λ k. IfOk c.reply_to_offline.result (λ reply. Teaches k reply c.args.pool.now c.reply_to_offline.new.pool)) (sym is)
           (each_reply c.reply_to_offline.result (λ reply. Teaches (TakeOffline c.in-Offline.leaf) reply c.args.pool.now c.reply_to_offline.new.pool) (λ reply. teaches_nothing (TakeOffline c.in-Offline.leaf) reply (λ known. refl) c.args.pool.now c.reply_to_offline.new.pool e.same));
+      arms = subst (λ k. IfOk c.reply_to_offline.result (λ reply. ArmsBehind k reply c.reply_to_offline.new.pool.metaslabs.shards.items)) (sym is) e.arms;
       breaks = λ failed. (subst MayBreak (sym is) tt, rose_fails g.A.Area.faults c.args.pool.now c.reply_to_offline.new.pool (e.cause failed), e.same);
-      step = λ x rep. replied_offline g.R.Rack g.A.Area (choices_by (FnReturnsAt g.F.Fn c.args.chooser.now)) c.args.line.now x c.reply_to_offline.new.pool c.in-Offline.leaf c.reply_to_offline.result c.in-Offline.is (e.step x rep);
+      step = λ x rep. replied_switch g.R.Rack g.A.Area (choices_by (FnReturnsAt g.F.Fn c.args.chooser.now)) c.args.line.now x c.reply_to_offline.new.pool c.in-Offline.leaf true c.reply_to_offline.result is (e.step x rep);
     }
 
 pub returns-in-Online : goal.returns-in-Online
@@ -79,8 +86,40 @@ returns-in-Online g c =
       fits = subst (λ k. IfOk c.reply_to_online.result (IsReplyTo k)) (sym is) e.fits;
       knows = subst (λ k. IfOk c.reply_to_online.result (λ reply. Teaches k reply c.args.pool.now c.reply_to_online.new.pool)) (sym is)
           (each_reply c.reply_to_online.result (λ reply. Teaches (TakeOnline c.in-Online.leaf) reply c.args.pool.now c.reply_to_online.new.pool) (λ reply. teaches_nothing (TakeOnline c.in-Online.leaf) reply (λ known. refl) c.args.pool.now c.reply_to_online.new.pool e.same));
+      arms = subst (λ k. IfOk c.reply_to_online.result (λ reply. ArmsBehind k reply c.reply_to_online.new.pool.metaslabs.shards.items)) (sym is) e.arms;
       breaks = λ failed. (subst MayBreak (sym is) tt, rose_fails g.A.Area.faults c.args.pool.now c.reply_to_online.new.pool (e.cause failed), e.same);
-      step = λ x rep. replied_online g.R.Rack g.A.Area (choices_by (FnReturnsAt g.F.Fn c.args.chooser.now)) c.args.line.now x c.reply_to_online.new.pool c.in-Online.leaf c.reply_to_online.result c.in-Online.is (e.step x rep);
+      step = λ x rep. replied_switch g.R.Rack g.A.Area (choices_by (FnReturnsAt g.F.Fn c.args.chooser.now)) c.args.line.now x c.reply_to_online.new.pool c.in-Online.leaf false c.reply_to_online.result is (e.step x rep);
+    }
+
+pub returns-in-Spare : goal.returns-in-Spare
+returns-in-Spare g c =
+    let e = c.reply_to_spare.ensures in
+    let is = ap command_in c.in-Spare.is in
+    record {
+      whole = e.whole;
+      fits = subst (λ k. IfOk c.reply_to_spare.result (IsReplyTo k)) (sym is) e.fits;
+      knows = subst (λ k. IfOk c.reply_to_spare.result (λ reply. Teaches k reply c.args.pool.now c.reply_to_spare.new.pool)) (sym is)
+          (each_reply c.reply_to_spare.result (λ reply. Teaches (AttachSpare c.in-Spare.slot c.in-Spare.spare) reply c.args.pool.now c.reply_to_spare.new.pool)
+          (λ reply. teaches_nothing (AttachSpare c.in-Spare.slot c.in-Spare.spare) reply (λ known. refl) c.args.pool.now c.reply_to_spare.new.pool e.same));
+      arms = subst (λ k. IfOk c.reply_to_spare.result (λ reply. ArmsBehind k reply c.reply_to_spare.new.pool.metaslabs.shards.items)) (sym is) e.arms;
+      breaks = λ failed. (subst MayBreak (sym is) tt, rose_fails g.A.Area.faults c.args.pool.now c.reply_to_spare.new.pool (e.cause failed), e.same);
+      step = λ x rep. replied_spare g.R.Rack g.A.Area (choices_by (FnReturnsAt g.F.Fn c.args.chooser.now)) c.args.line.now x c.reply_to_spare.new.pool c.in-Spare.slot c.in-Spare.spare c.reply_to_spare.result c.in-Spare.is (e.step x rep);
+    }
+
+pub returns-in-Detach : goal.returns-in-Detach
+returns-in-Detach g c =
+    let e = c.reply_to_detach.ensures in
+    let is = ap command_in c.in-Detach.is in
+    record {
+      whole = e.whole;
+      fits = subst (λ k. IfOk c.reply_to_detach.result (IsReplyTo k)) (sym is) e.fits;
+      knows = subst (λ k. IfOk c.reply_to_detach.result (λ reply. Teaches k reply c.args.pool.now c.reply_to_detach.new.pool)) (sym is)
+          (each_reply c.reply_to_detach.result (λ reply. Teaches (DetachArm c.in-Detach.arm) reply c.args.pool.now c.reply_to_detach.new.pool)
+          (λ reply. teaches_nothing (DetachArm c.in-Detach.arm) reply (λ known. refl) c.args.pool.now c.reply_to_detach.new.pool e.same));
+      arms = subst (λ k. IfOk c.reply_to_detach.result (λ reply. ArmsBehind k reply c.reply_to_detach.new.pool.metaslabs.shards.items)) (sym is)
+          (each_reply c.reply_to_detach.result (λ reply. ArmsBehind (DetachArm c.in-Detach.arm) reply c.reply_to_detach.new.pool.metaslabs.shards.items) (λ reply. tt));
+      breaks = λ failed. (subst MayBreak (sym is) tt, rose_fails g.A.Area.faults c.args.pool.now c.reply_to_detach.new.pool (e.cause failed), e.same);
+      step = λ x rep. replied_detach g.R.Rack g.A.Area (choices_by (FnReturnsAt g.F.Fn c.args.chooser.now)) c.args.line.now x c.reply_to_detach.new.pool c.in-Detach.arm c.reply_to_detach.result c.in-Detach.is (e.step x rep);
     }
 
 pub returns-in-Upgrade : goal.returns-in-Upgrade
@@ -92,6 +131,8 @@ returns-in-Upgrade g c =
       fits = subst (λ k. IfOk c.reply_to_upgrade.result (IsReplyTo k)) (sym is) e.fits;
       knows = subst (λ k. IfOk c.reply_to_upgrade.result (λ reply. Teaches k reply c.args.pool.now c.reply_to_upgrade.new.pool)) (sym is)
           (each_reply c.reply_to_upgrade.result (λ reply. Teaches UpgradePool reply c.args.pool.now c.reply_to_upgrade.new.pool) (λ reply. teaches_nothing UpgradePool reply (λ known. refl) c.args.pool.now c.reply_to_upgrade.new.pool e.same));
+      arms = subst (λ k. IfOk c.reply_to_upgrade.result (λ reply. ArmsBehind k reply c.reply_to_upgrade.new.pool.metaslabs.shards.items)) (sym is)
+          (each_reply c.reply_to_upgrade.result (λ reply. ArmsBehind UpgradePool reply c.reply_to_upgrade.new.pool.metaslabs.shards.items) (λ reply. tt));
       breaks = λ failed. (subst MayBreak (sym is) tt, rose_fails g.A.Area.faults c.args.pool.now c.reply_to_upgrade.new.pool (e.cause failed), e.same);
       step = λ x rep. replied_upgrade g.R.Rack g.A.Area (choices_by (FnReturnsAt g.F.Fn c.args.chooser.now)) c.args.line.now x c.reply_to_upgrade.new.pool c.reply_to_upgrade.result c.in-Upgrade.is (e.step x rep);
     }
@@ -101,6 +142,7 @@ returns-in-Damage g c = record {
   whole = c.reply_to_damage.ensures.whole;
   fits = subst (λ k. IsReplyTo k c.reply_to_damage.result) (sym (ap command_in c.in-Damage.is)) c.reply_to_damage.ensures.fits;
   knows = subst (λ k. Teaches k c.reply_to_damage.result c.args.pool.now c.reply_to_damage.new.pool) (sym (ap command_in c.in-Damage.is)) c.reply_to_damage.ensures.knows;
+  arms = subst (λ k. ArmsBehind k c.reply_to_damage.result c.reply_to_damage.new.pool.metaslabs.shards.items) (sym (ap command_in c.in-Damage.is)) tt;
   breaks = λ failed. absurd (cc failed);
   step = λ x rep. replied_damage g.R.Rack g.A.Area (choices_by (FnReturnsAt g.F.Fn c.args.chooser.now)) c.args.line.now x c.reply_to_damage.new.pool c.reply_to_damage.result c.in-Damage.leaf c.in-Damage.sector c.in-Damage.is (c.reply_to_damage.ensures.step x rep);
 }
@@ -110,13 +152,14 @@ returns-in-Status g c = record {
   whole = c.requires.whole;
   fits = subst (λ k. IsReplyTo k c.reply_to_status.result) (sym (ap command_in c.in-Status.is)) c.reply_to_status.ensures.fits;
   knows = subst (λ k. Teaches k c.reply_to_status.result c.args.pool.now c.args.pool.now) (sym (ap command_in c.in-Status.is)) c.reply_to_status.ensures.knows;
+  arms = subst (λ k. ArmsBehind k c.reply_to_status.result c.args.pool.now.metaslabs.shards.items) (sym (ap command_in c.in-Status.is)) tt;
   breaks = λ failed. absurd (cc failed);
   step = λ x rep. replied_status g.R.Rack g.A.Area (choices_by (FnReturnsAt g.F.Fn c.args.chooser.now)) c.args.line.now x c.args.pool.now c.reply_to_status.result c.in-Status.format c.in-Status.is (c.reply_to_status.ensures.step x rep);
 }
 
 pub unreachable-requires : goal.unreachable-requires
 unreachable-requires g c =
-    c.requires.asks (asks_nothing c.args.line.now c.in_default.not-Write c.in_default.not-Fill c.in_default.not-Read c.in_default.not-Free c.in_default.not-Sum c.in_default.not-Offline c.in_default.not-Online c.in_default.not-Damage c.in_default.not-Status c.in_default.not-Upgrade)
+    c.requires.asks (asks_nothing c.args.line.now c.in_default.not-Write c.in_default.not-Fill c.in_default.not-Read c.in_default.not-Free c.in_default.not-Sum c.in_default.not-Offline c.in_default.not-Online c.in_default.not-Damage c.in_default.not-Spare c.in_default.not-Status c.in_default.not-Detach c.in_default.not-Upgrade)
 
 pub reply_to_write-requires-clause-range : goal.reply_to_write-requires-clause-range
 reply_to_write-requires-clause-range g c = subst IsInRange (ap command_in c.in-Write.is ∙ ap (WriteObject c.in-Write.object) (sym c.deref.ensures.value)) c.requires.range
@@ -160,5 +203,11 @@ reply_to_offline-requires g c = record { whole = c.requires.whole }
 pub reply_to_online-requires : goal.reply_to_online-requires
 reply_to_online-requires g c = record { whole = c.requires.whole }
 
+pub reply_to_spare-requires : goal.reply_to_spare-requires
+reply_to_spare-requires g c = record { whole = c.requires.whole }
+
 pub reply_to_upgrade-requires : goal.reply_to_upgrade-requires
 reply_to_upgrade-requires g c = record { whole = c.requires.whole }
+
+pub reply_to_detach-requires : goal.reply_to_detach-requires
+reply_to_detach-requires g c = record { whole = c.requires.whole }

@@ -1,0 +1,44 @@
+use Rattle.std.proofs.Common.{◌∙◌, [], Ok, Err, ap, inr, refl, subst, sym}
+use Rattle.draid_spec.specs.Name.{spare_name_of}
+use Rattle.draid_spec.specs.declared.layout.Geometry.{Geometry}
+use Rattle.draid_changes.specs.Answers.{SpareDoes}
+use Rattle.draid_changes.specs.Behind.{SpareIs}
+use Rattle.draid_changes.specs.declared.fault.ArmFault.TheVariants as fault
+use Rattle.draid_pool.proofs.Steps.{by_answer, carried}
+use Rattle.draid_changes.proofs.replies.reply_to_spare.Goals as goal
+
+pub returns-in_default-clause-step : goal.returns-in_default-clause-step
+returns-in_default-clause-step g c = λ x is. carried g.R.Rack g.A.Area c.args.pool.now x [] x _ refl is (Err fault.NoMemory, refl, (refl, inr tt))
+
+pub returns-in-Ok-spare-clause-step : goal.returns-in-Ok-spare-clause-step
+returns-in-Ok-spare-clause-step g c = λ x is.
+    (let called = c.in-Ok.ensures ∙ ap (λ (g : Geometry). spare_name_of g.spec c.args.number) (sym is.stands.geometry) in
+    by_answer g.R.Rack g.A.Area (λ r. SpareDoes x c.args.slot c.args.number r) _ x c.spare.new.pool c.spare.result (Ok tt) (c.in-Ok-spare.is) (λ holds store w. (Ok tt, (_, refl, (c.in-Ok.name, refl, called)), w)) (c.spare.ensures.carries x is))
+
+pub returns-in-Err-Slot-clause-step : goal.returns-in-Err-Slot-clause-step
+returns-in-Err-Slot-clause-step g c = λ x is.
+    by_answer g.R.Rack g.A.Area (λ r. SpareDoes x c.args.slot c.args.number r) _ x c.spare.new.pool c.spare.result (Err (fault.Slot c.in-Err-Slot.why)) (c.in-Err-Slot.is ∙ ap Err (c.in-Err-Slot.field-0-is ∙ ap (λ why. fault.Slot why) c.in-Err-Slot.why-is))
+    (λ holds store w. (Err (fault.Slot c.in-Err-Slot.why), refl, w)) (c.spare.ensures.carries x is)
+
+pub returns-in-Err-Worn-clause-step : goal.returns-in-Err-Worn-clause-step
+returns-in-Err-Worn-clause-step g c = λ x is.
+    by_answer g.R.Rack g.A.Area (λ r. SpareDoes x c.args.slot c.args.number r) _ x c.spare.new.pool c.spare.result (Err fault.Worn) (c.in-Err-Worn.is ∙ ap Err c.in-Err-Worn.field-0-is) (λ holds store w. (Err fault.Worn, refl, w)) (c.spare.ensures.carries x is)
+
+pub returns-in-Err-NoMemory-clause-step : goal.returns-in-Err-NoMemory-clause-step
+returns-in-Err-NoMemory-clause-step g c = λ x is.
+    by_answer g.R.Rack g.A.Area (λ r. SpareDoes x c.args.slot c.args.number r) _ x c.spare.new.pool c.spare.result (Err fault.NoMemory) (c.in-Err-NoMemory.is ∙ ap Err c.in-Err-NoMemory.field-0-is) (λ holds store w. (Err fault.NoMemory, refl, w)) (c.spare.ensures.carries x is)
+
+pub returns-clause-cause : goal.returns-clause-cause
+returns-clause-cause g c = λ failed. c.spare.ensures.cause (c.in-Err-Shelf.is ∙ ap Err c.in-Err-Shelf.field-0-is)
+
+pub returns-clause-step : goal.returns-clause-step
+returns-clause-step g c = λ x is.
+    by_answer g.R.Rack g.A.Area (λ r. SpareDoes x c.args.slot c.args.number r) _ x c.spare.new.pool c.spare.result (Err fault.Shelf) (c.in-Err-Shelf.is ∙ ap Err c.in-Err-Shelf.field-0-is) (λ holds store w. (Err fault.Shelf, tt, w)) (c.spare.ensures.carries x is)
+
+pub returns-in-Ok-spare-clause-arms : goal.returns-in-Ok-spare-clause-arms
+returns-in-Ok-spare-clause-arms g c = subst (λ r. SpareIs c.args.slot c.args.number r c.spare.new.pool.metaslabs.shards.items) c.in-Ok-spare.is c.spare.ensures.arms
+
+pub returns-in-Err-Slot-clause-arms : goal.returns-in-Err-Slot-clause-arms
+returns-in-Err-Slot-clause-arms g c =
+    subst (λ r. SpareIs c.args.slot c.args.number r c.spare.new.pool.metaslabs.shards.items)
+    (c.in-Err-Slot.is ∙ ap Err (c.in-Err-Slot.field-0-is ∙ ap (λ why. fault.Slot why) c.in-Err-Slot.why-is)) c.spare.ensures.arms

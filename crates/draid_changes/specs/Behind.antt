@@ -1,0 +1,70 @@
+-- What the arms of a pool's metaslabs are behind a command on them, whatever is known of the pool.
+use Rattle.std.specs.Prelude.{◌≡◌, ◌<◌, ⊤, ℕ, Bool, true, false, List, Some, Result, Ok, Err, slice_get}
+use Rattle.draid_names.specs.declared.arm.Arm.{Arm}
+use Rattle.draid_names.specs.declared.arm.ArmAt.{ArmAt}
+use Rattle.draid_names.specs.declared.arm.ArmKind.TheVariants as kind
+use Rattle.draid_names.specs.declared.refusal.SlotFault.{SlotFault}
+use Rattle.draid_names.specs.declared.refusal.SlotFault.TheVariants as slot
+use Rattle.draid_script.specs.Line.{AttachSpare, Command, TakeOffline, TakeOnline}
+use Rattle.draid_reply.specs.declared.reply.Reply.{Reply}
+use Rattle.draid_reply.specs.declared.reply.Reply.TheVariants.{OfflineDone, OfflineRefused, OnlineDone, OnlineRefused, Spared, SpareRefused}
+use Rattle.draid_slots.specs.Table.{IsArmOf, SlotTable, arm_at}
+use Rattle.draid_shard.specs.declared.shard.Shard.{Shard}
+use Rattle.draid_disks.specs.Checks.{Each}
+use Rattle.draid_disks.specs.Disks.{IsLeafArm, arm_called}
+use Rattle.draid_changes.specs.Attaching.{IsBarred}
+use Rattle.draid_changes.specs.declared.fault.ArmFault.{ArmFault}
+use Rattle.draid_changes.specs.declared.fault.ArmFault.TheVariants as fault
+
+-- a leaf is an arm of one of the slots that there are
+abbrev pub HasLeaf : SlotTable → ℕ → Type 0
+HasLeaf slots leaf = (at : ArmAt) × (at.slot < slots.geometry.spec.children) × IsArmOf kind.Leaf leaf (arm_at slots at)
+
+-- it is one, and each arm of that leaf is offline, or none of them is
+pub record IsSwitched (slots : SlotTable) (leaf : ℕ) (offline : Bool) : Type 0 where
+  pub there : IsLeafArm slots leaf
+  pub switched : (at : ArmAt) (arm : Arm) → arm_at slots at ≡ Some arm → arm.kind ≡ kind.Leaf → arm.number ≡ leaf → arm.offline ≡ offline
+
+-- so in all metaslabs, or it is an arm in none of them
+abbrev pub AllSwitched : {R A : Type 0} → ℕ → Bool → List (Shard R A) → Type 0
+AllSwitched {R} {A} leaf offline shards = Each (λ (shard : Shard R A). IsSwitched shard.slots leaf offline) shards
+
+abbrev pub NoneHas : {R A : Type 0} → ℕ → List (Shard R A) → Type 0
+NoneHas {R} {A} leaf shards = Each (λ (shard : Shard R A). HasLeaf shard.slots leaf → ⊥) shards
+
+-- by the answer of the call that takes it offline or online
+abbrev pub LeafIs : {R A : Type 0} → ℕ → Bool → Result Unit ArmFault → List (Shard R A) → Type 0
+LeafIs leaf offline (Ok done) shards = AllSwitched leaf offline shards
+LeafIs leaf offline (Err (fault.Slot why)) shards = (why ≡ slot.NoSuch) × NoneHas leaf shards
+LeafIs leaf offline (Err fault.Worn) shards = ⊤
+LeafIs leaf offline (Err fault.Shelf) shards = ⊤
+LeafIs leaf offline (Err fault.NoMemory) shards = ⊤
+
+-- ---- a spare
+
+-- a spare is an arm of a slot in all metaslabs
+abbrev pub AllHaveSpare : {R A : Type 0} → ℕ → ℕ → List (Shard R A) → Type 0
+AllHaveSpare {R} {A} slot spare shards = Each (λ (shard : Shard R A). (arm : ℕ) × IsArmOf kind.Spare spare (arm_at shard.slots (record { slot = slot; arm = arm }))) shards
+
+-- or this rule forbids it, by the slots of the first metaslab and by the passes of all
+abbrev pub SpareIsBarred : {R A : Type 0} → ℕ → ℕ → SlotFault → List (Shard R A) → Type 0
+SpareIsBarred {R} {A} slot spare why shards = (first : Shard R A) × (slice_get shards 0 ≡ Some first) × IsBarred first.slots shards slot (arm_called kind.Spare spare) why
+
+-- by the answer of the call that attaches it
+abbrev pub SpareIs : {R A : Type 0} → ℕ → ℕ → Result Unit ArmFault → List (Shard R A) → Type 0
+SpareIs slot spare (Ok done) shards = AllHaveSpare slot spare shards
+SpareIs slot spare (Err (fault.Slot why)) shards = SpareIsBarred slot spare why shards
+SpareIs slot spare (Err fault.Worn) shards = ⊤
+SpareIs slot spare (Err fault.Shelf) shards = ⊤
+SpareIs slot spare (Err fault.NoMemory) shards = ⊤
+
+-- ---- by a command and its reply
+
+abbrev pub ArmsBehind : {R A : Type 0} → Command → Reply → List (Shard R A) → Type 0
+ArmsBehind (TakeOffline leaf) (OfflineDone l) shards = AllSwitched leaf true shards
+ArmsBehind (TakeOffline leaf) (OfflineRefused l) shards = NoneHas leaf shards
+ArmsBehind (TakeOnline leaf) (OnlineDone l) shards = AllSwitched leaf false shards
+ArmsBehind (TakeOnline leaf) (OnlineRefused l) shards = NoneHas leaf shards
+ArmsBehind (AttachSpare slot spare) (Spared s called) shards = AllHaveSpare slot spare shards
+ArmsBehind (AttachSpare slot spare) (SpareRefused s why) shards = SpareIsBarred slot spare why shards
+ArmsBehind command reply shards = ⊤
