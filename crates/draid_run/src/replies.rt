@@ -20,7 +20,9 @@ ghost use Rattle.draid_changes.specs.Behind.{ArmsBehind};
 ghost use Rattle.draid_changes.specs.Says.{SpareSays, SwitchSays};
 
 use draid_area::Area;
-use draid_changes::{reply_to_detach, reply_to_offline, reply_to_online, reply_to_spare, reply_to_upgrade};
+use draid_changes::{
+    reply_to_detach, reply_to_offline, reply_to_online, reply_to_spare, reply_to_upgrade,
+};
 use draid_choose::Chooser;
 use draid_names::{Failed, Room};
 use draid_pool::Pool;
