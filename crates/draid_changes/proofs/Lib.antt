@@ -4,7 +4,10 @@ pub mod Calls
 pub mod Coming
 pub mod Events
 pub mod Leaves
+pub mod Made
+pub mod Numbered
 pub mod Phases
+pub mod Replaced
 pub mod Reserved
 pub mod Barred
 pub mod Spared

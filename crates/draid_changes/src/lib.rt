@@ -1,11 +1,13 @@
 //! Changes of a pool's arms, each made in all of its metaslabs or in none: leaves go offline
-//! and come back, and spares come to slots.
+//! and come back, and spares and new disks come to slots.
 
 #![tactic(auto)]
 
 mod attaching;
 mod fault;
+mod making;
 mod need;
+mod replacing;
 mod replies;
 mod reserving;
 mod rules;
@@ -13,6 +15,7 @@ mod sparing;
 mod switching;
 
 pub use fault::ArmFault;
-pub use replies::{reply_to_offline, reply_to_online, reply_to_spare};
+pub use replacing::replace;
+pub use replies::{reply_to_offline, reply_to_online, reply_to_replace, reply_to_spare};
 pub use sparing::spare;
 pub use switching::{offline, online};

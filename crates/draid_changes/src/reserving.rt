@@ -34,6 +34,7 @@ pub(crate) fn reserve_all<R: Rack, A: Area>(
     requires whole { IsWhole R.Rack A.Area pool.old }
     ensures whole { IsWhole R.Rack A.Area pool.new }
     ensures objects { pool.new.own.objects ≡ pool.old.own.objects }
+    ensures uber { pool.new.uber ≡ pool.old.uber }
     ensures later { AreasLater A.faults pool.old pool.new }
     ensures reserves { OnOk result (ChangedBelow (Reserves need) (length pool.old.metaslabs.shards.items) pool.old.metaslabs.shards.items pool.new.metaslabs.shards.items) }
     ensures carries { (x : State) → Represents R.Rack A.Area pool.old x

@@ -26,6 +26,7 @@ loop-metaslab-init g c = record {
   carries = λ x is. came_none g.R.Rack g.A.Area (arms.Reserves x.geometry x.perms (events_at c.args.need)) c.args.pool.now x is;
   reserves = changed_none (Reserves c.args.need) c.args.pool.now.metaslabs.shards.items;
   objects = refl;
+  uber = refl;
   later = areas_still g.A.Area.faults c.args.pool.now;
   many = refl;
 }
@@ -60,6 +61,7 @@ returns-in-Err g c =
       whole = whole_on g.R.Rack g.A.Area l.metaslab l.pool new shard after i.whole set e.valid
           (record { part = e.none.part; entries = e.keeps.entries; committed = e.keeps.groups.committed; slots = arms_kept shard.slots after.slots e.arms });
       objects = i.objects;
+      uber = i.uber;
       later = areas_on g.A.Area.faults c.args.pool.now l.pool new i.later (areas_set g.R.Rack g.A.Area l.metaslab l.pool new shard after set (records_same g.A.Area.faults shard after e.kit.areas));
       reserves = tt;
       carries = λ x is. (let all = i.whole.many in
@@ -100,6 +102,7 @@ loop-metaslab-preserved g c =
             kit = e.kit;
           });
       objects = i.objects;
+      uber = i.uber;
       later = areas_on g.A.Area.faults c.args.pool.now l.pool new i.later (areas_set g.R.Rack g.A.Area l.metaslab l.pool new shard after set (records_same g.A.Area.faults shard after e.kit.areas));
       many = length-set l.pool.metaslabs.shards.items l.metaslab after ∙ i.many;
     }
@@ -116,6 +119,7 @@ returns g c =
     record {
       whole = i.whole;
       objects = i.objects;
+      uber = i.uber;
       later = i.later;
       reserves = record {
         many = i.reserves.many;

@@ -14,6 +14,7 @@ invariant-loop-metaslab g l = record {
   carries : (x : State) → Represents g.R.Rack g.A.Area l.initial.pool x → Came g.R.Rack g.A.Area (arms.Reserves x.geometry x.perms (events_at l.need)) l.metaslab 0 l.pool x;
   reserves : ChangedBelow (Reserves l.need) l.metaslab l.initial.pool.metaslabs.shards.items l.pool.metaslabs.shards.items;
   objects : l.pool.own.objects ≡ l.initial.pool.own.objects;
+  uber : l.pool.uber ≡ l.initial.pool.uber;
   later : AreasLater g.A.Area.faults l.initial.pool l.pool;
   many : length l.pool.metaslabs.shards.items ≡ length l.initial.pool.metaslabs.shards.items;
 }
