@@ -1,5 +1,5 @@
 -- Whether an arm may come to a slot: what the slots of the first metaslab say, and the passes of all, in the words of what is seen.
-use Rattle.std.proofs.Common.{◌≡◌, ◌==◌, ◌||◌, ◌&&◌, ◌<◌, ◌≤◌, ◌+◌, ◌∙◌, ◌⊎◌, inl, inr, [], ◌∷◌, ℕ, Bool, true, false, List, Option, Some, None, Contains, arith, refl, sym, ap, subst, length, map}
+use Rattle.std.proofs.Common.{◌≡◌, ◌==◌, ◌||◌, ◌&&◌, ◌<◌, ◌≤◌, ◌*◌, ◌+◌, ◌∙◌, ◌⊎◌, inl, inr, [], ◌∷◌, ℕ, Bool, true, false, List, Option, Some, None, Contains, arith, refl, sym, ap, subst, length, map}
 use Rattle.std.specs.Prelude.{IfSome, option_map, slice_get}
 use Rattle.std.specs.List.{list_any}
 use Rattle.std.proofs.lemmas.Bool.{cases_lt}
@@ -15,6 +15,8 @@ use Rattle.draid_names.specs.declared.refusal.SlotFault.{SlotFault}
 use Rattle.draid_names.specs.declared.refusal.SlotFault.TheVariants as fault
 use Rattle.draid_rack.specs.declared.Rack as racks
 use Rattle.draid_area.specs.declared.Area as areas
+use Rattle.std.proofs.Math.Nat.{mul_assoc}
+use Rattle.draid_spec.specs.Geometry.{child_sectors}
 use Rattle.draid_spec.specs.declared.layout.Geometry.{Geometry}
 use Rattle.draid_perm.specs.declared.perms.Perms.{Perms}
 use Rattle.draid_machine.specs.declared.names.ArmName.{ArmName}
@@ -48,8 +50,8 @@ use Rattle.draid_pool.specs.declared.pool.Pool.{Pool}
 use Rattle.draid_pool.proofs.Lifted.{HasMetaslab, metaslab_of}
 use Rattle.draid_pool.proofs.Lists.{present}
 use Rattle.draid_pool.proofs.Looking.{none_seen, not_none, seen_there}
-use Rattle.draid_changes.specs.Attaching.{AllReplan, IsBarred, MayComeAll}
-use Rattle.draid_changes.proofs.Begun.{first_of, first_seen, seen_first}
+use Rattle.draid_changes.specs.Attaching.{AllReplan, IsBarred, IsReplaceBarred, IsTooSmall, MayComeAll, MayReplace}
+use Rattle.draid_changes.proofs.Begun.{first_of, first_seen, seen_first, uber_of}
 
 -- ---- lists
 
@@ -259,3 +261,52 @@ module _ {R A : Type 0} (rack : racks.Ghosts R) (area : areas.Ghosts A) where
       spare_may slot spare u (fault.LogNotEmpty groups) m broken = broken
       spare_may slot spare u (fault.PassRunning metaslab number) m broken = broken
       spare_may slot spare u (fault.TooSmall need have) m broken = broken
+
+      -- ---- a new disk
+
+      needed_is : arms.needed y.geometry y.perms ≡ child_sectors first.slots.geometry
+      needed_is =
+          (sym (mul_assoc y.geometry.props.metaslabs (y.geometry.props.slices * y.geometry.rows) y.geometry.props.height)
+          ∙ ap (λ n. n * y.geometry.props.height) (sym (mul_assoc y.geometry.props.metaslabs y.geometry.props.slices y.geometry.rows)))
+          ∙ ap (λ (g : Geometry). child_sectors g) (sym layout_same)
+
+      small : (sectors : Option ℕ) → arms.IsSmall y.geometry y.perms sectors → IsTooSmall first.slots sectors
+      small None is = is
+      small (Some have) is = (let same = needed_is in omega (arith, is, same))
+
+      unplaced : (slot leaf : ℕ) → (IsKnown first.slots slot (arm_called kind.Leaf leaf) → ⊥) → y.geometry.spec.children ≤ slot
+      unplaced slot leaf not_known = elim (cases_lt slot y.geometry.spec.children) [
+        | inr past ↦ past
+        | inl low ↦ absurd (not_known (record { slot_there = subst (λ (g : Geometry). slot < g.spec.children) (sym layout_same) low; spare_there = λ is. absurd (cc) }))
+      ]
+
+      pub disk_barred : (slot leaf : ℕ) (sectors : Option ℕ) (why : SlotFault) → leaf ≡ y.next_leaf → IsReplaceBarred first.slots mid.metaslabs.shards.items slot leaf sectors why
+          → arms.BreaksDisk y.geometry y.perms slot sectors views (uber_of y) why
+      disk_barred slot leaf sectors fault.NoSuch next is = unplaced slot leaf is
+      disk_barred slot leaf sectors (fault.SpareBusy by) next is = is
+      disk_barred slot leaf sectors (fault.Full arms) next is = (child slot is.0.slot_there, full slot is.2, three slot arms is.2 is.3)
+      disk_barred slot leaf sectors fault.Last next is = (
+        child slot is.0.known.slot_there,
+        some_room slot is.0.some_room,
+        λ own. is.1 (small sectors own),
+        elim is.2 [ inl past ↦ inl (omega (arith, past, next)) | inr barred ↦ inr (none_left barred) ],
+      )
+      disk_barred slot leaf sectors fault.LastArm next is = is
+      disk_barred slot leaf sectors (fault.LogNotEmpty groups) next is = is
+      disk_barred slot leaf sectors (fault.PassRunning metaslab number) next is = is
+      disk_barred slot leaf sectors (fault.TooSmall need have) next is = (child slot is.0.known.slot_there, some_room slot is.0.some_room, is.1.0, is.1.1 ∙ sym needed_is, is.1.2)
+
+      pub disk_may : (slot leaf : ℕ) (sectors : Option ℕ) (why : SlotFault) → leaf ≡ y.next_leaf → MayReplace first.slots mid.metaslabs.shards.items slot leaf sectors
+          → arms.BreaksDisk y.geometry y.perms slot sectors views (uber_of y) why → ⊥
+      disk_may slot leaf sectors fault.NoSuch next m broken = (let low = child slot m.come.may.known.slot_there in omega (arith, low, broken))
+      disk_may slot leaf sectors (fault.SpareBusy by) next m broken = broken
+      disk_may slot leaf sectors (fault.Full arms) next m broken = some_room slot m.come.may.some_room broken.1
+      disk_may slot leaf sectors fault.Last next m broken = elim broken.3 [
+        | inl past ↦ (let low = m.number in omega (arith, past, low, next))
+        | inr left ↦ some_left m.come.again left
+      ]
+      disk_may slot leaf sectors fault.LastArm next m broken = broken
+      disk_may slot leaf sectors (fault.LogNotEmpty groups) next m broken = broken
+      disk_may slot leaf sectors (fault.PassRunning metaslab number) next m broken = broken
+      disk_may slot leaf sectors (fault.TooSmall need have) next m broken =
+          m.large (subst (IsTooSmall first.slots) (sym broken.2) (let same = needed_is in let need_is = broken.3 in let less = broken.4 in omega (arith, same, need_is, less)))

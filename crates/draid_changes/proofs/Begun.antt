@@ -42,11 +42,17 @@ shelf_first sync.Last fault is own = absurd is
 shelf_first sync.Shelf fault is own = refl
 shelf_first sync.NoMemory fault is own = absurd (let both : armed.NoMemory ≡ armed.Shelf = sym is ∙ own in cc)
 
+pub err_of : (T : Type 0) (a b : ArmFault) → IsErrOf {T = T} (Err a) b → a ≡ b
+err_of T a b is = cc
+
 pub err_same : {T : Type 0} (a b : ArmFault) → IsErrOf {T = T} (Err a) b → a ≡ b
 err_same a b is = cc
 
 pub worn_no_way : WasWorn ≢ Went
 worn_no_way is = cc
+
+pub broke_no_way : Broke ≢ Went
+broke_no_way is = cc
 
 pub starved_no_way : Starved ≢ Went
 starved_no_way is = cc

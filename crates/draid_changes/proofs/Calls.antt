@@ -50,7 +50,7 @@ use Rattle.draid_changes.proofs.Walk.{changed_at}
 use Rattle.draid_changes.proofs.Whole.{SameOwn, switched_leaf, switched_share, whole_changed}
 
 -- a leaf of a name
-leaf_of_name : (k : ArmKind) (n leaf : ℕ) → named k n ≡ Leaf leaf → (k ≡ kind.Leaf) × (n ≡ leaf)
+pub leaf_of_name : (k : ArmKind) (n leaf : ℕ) → named k n ≡ Leaf leaf → (k ≡ kind.Leaf) × (n ≡ leaf)
 leaf_of_name kind.Leaf n leaf is = (refl, (let same : n ≡ leaf = cc in same))
 leaf_of_name kind.Spare n leaf is = absurd (cc)
 

@@ -1,5 +1,5 @@
 -- An arm comes to a slot of each metaslab of a pool: where it may come to the first it may come to all, and the pool stays whole.
-use Rattle.std.proofs.Common.{◌≡◌, ◌<◌, ◌++◌, ◌∙◌, ◌||◌, ◌⊎◌, ◌==◌, ◌&&◌, inl, inr, [], ◌∷◌, ℕ, zero, suc, Bool, true, false, List, Option, Some, None, arith, refl, sym, ap, subst, length, map, slice_index_or}
+use Rattle.std.proofs.Common.{◌≡◌, ◌<◌, ◌≤◌, ◌++◌, ◌∙◌, ◌||◌, ◌⊎◌, ◌==◌, ◌&&◌, inl, inr, [], ◌∷◌, ℕ, zero, suc, Bool, true, false, List, Option, Some, None, arith, refl, sym, ap, subst, length, map, slice_index_or}
 use Rattle.std.specs.Prelude.{option_map, slice_get}
 use Rattle.std.specs.List.{list_any}
 use Rattle.std.proofs.lemmas.Bool.{cases_eq, cases_lt}
@@ -15,6 +15,7 @@ use Rattle.draid_rack.specs.declared.Rack as racks
 use Rattle.draid_area.specs.declared.Area as areas
 use Rattle.draid_machine.proofs.Small.{absurd_test, none_some, some_injective}
 use Rattle.draid_pass.specs.declared.pass.Pass.{Pass}
+use Rattle.draid_entries.specs.History.{reserved_of}
 use Rattle.draid_slots.specs.Faults.{MayAttach}
 use Rattle.draid_slots.specs.Table.{IsArmOf, IsTable, SlotTable, arm_at, arms_of, has_spare, is_leaf_kind, is_spare_of, was_spare_of}
 use Rattle.draid_slots.specs.declared.slot.Detached.{Detached}
@@ -22,12 +23,14 @@ use Rattle.draid_shard.specs.Alike.{KeepsArms, ShareArms}
 use Rattle.draid_shard.specs.Fits.{IsLeaf, is_rebuild}
 use Rattle.draid_shard.specs.Part.{Part}
 use Rattle.draid_shard.specs.declared.shard.Shard.{Shard}
-use Rattle.draid_disks.specs.Disks.{HasAttached, IsNewLeaf, SamePass, arm_called, plain, plain_arms}
+use Rattle.draid_disks.specs.Disks.{HasArmRoom, HasAttached, IsNewLeaf, SamePass, arm_called, plain, plain_arms}
+use Rattle.draid_disks.specs.Replanning.{MayReplan, attach_events}
 use Rattle.draid_disks.proofs.Alike.{plains_same, share_attached}
 use Rattle.draid_uber.specs.Uber.{next_leaf_of}
 use Rattle.draid_pool.specs.Whole.{IsWhole}
 use Rattle.draid_pool.specs.declared.pool.Pool.{Pool}
 use Rattle.draid_changes.specs.Attaching.{Attaches, MayCome, MayComeAll}
+use Rattle.draid_changes.specs.Making.{Makes}
 use Rattle.draid_changes.specs.Walks.{ChangedBelow, Reserves}
 use Rattle.draid_changes.specs.declared.need.Need.TheVariants as needs
 use Rattle.draid_changes.proofs.Walk.{changed_at}
@@ -165,6 +168,37 @@ module _ {R A : Type 0} (rack : racks.Ghosts R) (area : areas.Ghosts A) where
             let last = was.2.last in let group = was.2.groups.open_group_is in let under = low.0 in let below = low.1 in
             (omega (arith, under, last), omega (arith, below, group)));
       }
+
+  -- and so behind the making of a leaf, of the next number
+  pub may_come_made : (mid late made : Pool R A) (slot leaf : ℕ) (first : Shard R A) → IsWhole rack area mid → IsWhole rack area late → IsWhole rack area made → slice_get mid.metaslabs.shards.items 0 ≡ Some first
+      → MayComeAll first.slots mid.metaslabs.shards.items slot (arm_called kind.Leaf leaf)
+      → ChangedBelow (Reserves needs.Attachment) (length mid.metaslabs.shards.items) mid.metaslabs.shards.items late.metaslabs.shards.items
+      → ChangedBelow (Makes rack leaf) (length late.metaslabs.shards.items) late.metaslabs.shards.items made.metaslabs.shards.items → next_leaf_of made.uber ≡ leaf
+      → (m : ℕ) (z : Shard R A) → slice_get made.metaslabs.shards.items m ≡ Some z → MayCome rack slot kind.Leaf leaf z
+  may_come_made mid late made slot leaf first w v n there may reserved makes next m z at =
+      let was = changed_at (Makes rack leaf) late.metaslabs.shards.items made.metaslabs.shards.items makes m z at in
+      let before = changed_at (Reserves needs.Attachment) mid.metaslabs.shards.items late.metaslabs.shards.items reserved m was.0 was.1 in
+      may_of was.0 before.0 was.1 before.1 before.2 was.2
+    where
+      may_of : (old before : Shard R A) → slice_get late.metaslabs.shards.items m ≡ Some old → slice_get mid.metaslabs.shards.items m ≡ Some before → Reserves needs.Attachment before old → Makes rack leaf old z → MayCome rack slot kind.Leaf leaf z
+      may_of old before at_old at_before r made_is =
+          let inside = slice_get_within mid.metaslabs.shards.items 0 first there in
+          let one = reserved.below 0 first inside there in
+          let again = may.again m before at_before in
+          let part : MayAttach old.slots slot (arm_called kind.Leaf leaf)
+          = may_shared one.0.slots old.slots slot (arm_called kind.Leaf leaf) (slots_layout late m old v at_old ∙ sym (slots_layout late 0 one.0 v one.1)) (v.alike 0 m one.0 old one.1 at_old) r.sound
+          (may_kept first.slots one.0.slots slot (arm_called kind.Leaf leaf) one.2.slots may.may) in
+          record {
+            valid = (n.shards m z at).valid;
+            reserved = subst (λ (s : Shard R A). attach_events s.pass ≤ reserved_of s.history) (sym made_is.rest) r.reserved;
+            room = subst (λ (s : Shard R A). HasArmRoom s) (sym made_is.rest) (record { slots = r.room.slots; targets = r.room.targets });
+            leaf = record { unused = λ is own. (let low = (n.shards m z at).leaves leaf own in omega (arith, low, next)); made = λ is. made_is.made };
+            may = subst (λ (s : Shard R A). MayAttach s.slots slot (arm_called kind.Leaf leaf)) (sym made_is.rest) part;
+            again = subst (λ (s : Shard R A). MayReplan s.pass s.last_pass s.open_group) (sym made_is.rest)
+                (λ rebuild. (let low = again (sym (same_rebuild before.pass old.pass r.pass) ∙ rebuild) in
+                let last = r.last in let group = r.groups.open_group_is in let under = low.0 in let below = low.1 in
+                (omega (arith, under, last), omega (arith, below, group))));
+          }
 
   -- ---- the pool stays whole
 

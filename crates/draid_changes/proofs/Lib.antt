@@ -9,8 +9,11 @@ pub mod Forbids
 pub mod Leaves
 pub mod Leaving
 pub mod Left
+pub mod Made
+pub mod Numbered
 pub mod Phases
 pub mod Raised
+pub mod Replaced
 pub mod Reserved
 pub mod Spared
 pub mod Staying

@@ -1,5 +1,5 @@
 -- What the calls that change a pool's arms say, by their answers.
-use Rattle.std.specs.Prelude.{◌≡◌, ◌⊎◌, ℕ, Bool, List, Result, Ok, Err}
+use Rattle.std.specs.Prelude.{◌≡◌, ◌⊎◌, ℕ, Bool, List, Option, Result, Ok, Err}
 use Rattle.draid_names.specs.declared.refusal.SlotFault.{SlotFault}
 use Rattle.draid_session.specs.Arms as arms
 use Rattle.draid_session.specs.Holds.{Hold, UberView, View}
@@ -45,3 +45,8 @@ SwitchDoes x leaf offline = ChangeDoes x (arms.NoLeaf x.geometry x.perms leaf) (
 -- a slot gets a spare in all metaslabs, or in none
 abbrev pub SpareDoes : State → ℕ → ℕ → Result Unit ArmFault → List Hold → Store → Type 0
 SpareDoes x slot spare = ChangeDoes x (arms.BreaksSpare x.geometry x.perms slot spare) (arms.AttachesSpare x.geometry x.perms slot spare)
+
+-- a slot gets a new disk in all metaslabs, as a leaf of this number, or in none
+abbrev pub ReplaceDoes : State → ℕ → Option ℕ → Result ℕ ArmFault → List Hold → Store → Type 0
+ReplaceDoes x slot sectors (Ok leaf) holds new = (new ≡ x.store) × arms.TakesDisk x.geometry x.perms slot sectors leaf holds Went
+ReplaceDoes x slot sectors (Err why) holds new = (leaf : ℕ) × ChangeStops x (arms.BreaksDisk x.geometry x.perms slot sectors) (arms.AttachesDisk x.geometry x.perms slot leaf) why holds new

@@ -1,9 +1,12 @@
 -- How an arm comes to a slot of each metaslab.
-use Rattle.std.specs.Prelude.{◌≤◌, ℕ, List}
+use Rattle.std.specs.Prelude.{◌≡◌, ◌<◌, ◌≤◌, ◌⊎◌, ℕ, List, Option, Some, None}
 use Rattle.draid_names.specs.declared.arm.Arm.{Arm}
 use Rattle.draid_names.specs.declared.arm.ArmKind.{ArmKind}
+use Rattle.draid_names.specs.declared.arm.ArmKind.TheVariants as kind
+use Rattle.draid_names.specs.declared.numbers.TheConstants.{LAST_NUMBER}
 use Rattle.draid_names.specs.declared.refusal.SlotFault.{SlotFault}
 use Rattle.draid_names.specs.declared.refusal.SlotFault.TheVariants as fault
+use Rattle.draid_spec.specs.Geometry.{child_sectors}
 use Rattle.draid_rack.specs.declared.Rack.{Ghosts}
 use Rattle.draid_machine.specs.declared.event.Event.TheVariants.{Attach}
 use Rattle.draid_machine.specs.Names.{named}
@@ -57,3 +60,31 @@ IsBarred slots shards slot arm fault.NoSuch = IsAttachRefused slots slot arm fau
 IsBarred slots shards slot arm (fault.SpareBusy by) = IsAttachRefused slots slot arm (fault.SpareBusy by)
 IsBarred slots shards slot arm (fault.Full arms) = IsAttachRefused slots slot arm (fault.Full arms)
 IsBarred slots shards slot arm why = ⊥
+
+-- ---- a new disk
+
+-- a disk of so many sectors is smaller than a child of the layout
+abbrev pub IsTooSmall : SlotTable → Option ℕ → Type 0
+IsTooSmall slots None = ⊥
+IsTooSmall slots (Some have) = have < child_sectors slots.geometry
+
+-- the fault of such a disk
+abbrev pub IsSmallFor : SlotTable → Option ℕ → SlotFault → Type 0
+IsSmallFor slots sectors (fault.TooSmall need have) = (sectors ≡ Some have) × (need ≡ child_sectors slots.geometry) × (have < need)
+IsSmallFor slots sectors why = ⊥
+
+-- no rule forbids it as a leaf of this number
+pub record MayReplace {R A : Type 0} (slots : SlotTable) (shards : List (Shard R A)) (slot leaf : ℕ) (sectors : Option ℕ) : Type 0 where
+  pub come : MayComeAll slots shards slot (arm_called kind.Leaf leaf)
+  pub large : IsTooSmall slots sectors → ⊥
+  pub number : leaf < LAST_NUMBER
+
+-- the first rule that does
+abbrev pub IsReplaceBarred : {R A : Type 0} → SlotTable → List (Shard R A) → ℕ → ℕ → Option ℕ → SlotFault → Type 0
+IsReplaceBarred slots shards slot leaf sectors fault.Last =
+    MayAttach slots slot (arm_called kind.Leaf leaf) × (IsTooSmall slots sectors → ⊥) × ((LAST_NUMBER ≤ leaf) ⊎ (AllReplan shards → ⊥))
+IsReplaceBarred slots shards slot leaf sectors fault.NoSuch = IsAttachRefused slots slot (arm_called kind.Leaf leaf) fault.NoSuch
+IsReplaceBarred slots shards slot leaf sectors (fault.Full arms) = IsAttachRefused slots slot (arm_called kind.Leaf leaf) (fault.Full arms)
+IsReplaceBarred slots shards slot leaf sectors (fault.TooSmall need have) =
+    MayAttach slots slot (arm_called kind.Leaf leaf) × IsSmallFor slots sectors (fault.TooSmall need have)
+IsReplaceBarred slots shards slot leaf sectors why = ⊥

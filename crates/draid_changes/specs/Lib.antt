@@ -3,6 +3,7 @@ pub mod Attaching
 pub mod Behind
 pub mod DetachSays
 pub mod Detaching
+pub mod Making
 pub mod Says
 pub mod UpgradeSays
 pub mod Upgrading

@@ -1,5 +1,5 @@
 -- What the replies of the commands on arms say, by the answers of the pool's calls. There is none where a device failed.
-use Rattle.std.specs.Prelude.{⊤, ◌≡◌, ℕ, Bool, true, false, List, Result, Ok, Err, string_bytes}
+use Rattle.std.specs.Prelude.{⊤, ◌≡◌, ℕ, Bool, true, false, List, Option, Result, Ok, Err, string_bytes}
 use Rattle.std.specs.declared.alloc.Global.{Global}
 use Rattle.std.specs.declared.string.String.{String}
 use Rattle.draid_names.specs.declared.fault.Failed.{Failed}
@@ -9,10 +9,10 @@ use Rattle.draid_script.specs.declared.name.CommandName.TheVariants as name
 use Rattle.draid_spec.specs.Name.{spare_name_of}
 use Rattle.draid_spec.specs.declared.spec.Spec.{Spec}
 use Rattle.draid_reply.specs.declared.reply.Reply.{Reply}
-use Rattle.draid_reply.specs.declared.reply.Reply.TheVariants.{NoMemory, OfflineDone, OfflineRefused, OfflineWorn, OnlineDone, OnlineRefused, OnlineWorn, Spared, SpareRefused, SpareWorn}
+use Rattle.draid_reply.specs.declared.reply.Reply.TheVariants.{NoMemory, OfflineDone, OfflineRefused, OfflineWorn, OnlineDone, OnlineRefused, OnlineWorn, Spared, SpareRefused, SpareWorn, Replaced, ReplaceRefused, ReplaceWorn}
 use Rattle.draid_session.specs.Holds.{Hold}
 use Rattle.draid_session.specs.State.{State, Store}
-use Rattle.draid_changes.specs.Answers.{SpareDoes, SwitchDoes}
+use Rattle.draid_changes.specs.Answers.{ReplaceDoes, SpareDoes, SwitchDoes}
 use Rattle.draid_changes.specs.declared.fault.ArmFault.{ArmFault}
 use Rattle.draid_changes.specs.declared.fault.ArmFault.TheVariants as fault
 
@@ -46,3 +46,11 @@ IsSpareReply spec slot spare = IsReplyBy name.Spare (λ done reply. IsSpared spe
 
 abbrev pub SpareSays : ℕ → ℕ → Result Reply Failed → State → List Hold → Store → Type 0
 SpareSays slot spare said x holds store = (answer : Result Unit ArmFault) × IsSpareReply x.geometry.spec slot spare answer said × SpareDoes x slot spare answer holds store
+
+-- ---- replace
+
+abbrev pub IsReplaceReply : ℕ → Result ℕ ArmFault → Result Reply Failed → Type 0
+IsReplaceReply slot = IsReplyBy name.Replace (λ leaf reply. reply ≡ Replaced slot leaf) (λ why. ReplaceRefused slot why) (ReplaceWorn slot)
+
+abbrev pub ReplaceSays : ℕ → Option ℕ → Result Reply Failed → State → List Hold → Store → Type 0
+ReplaceSays slot sectors said x holds store = (answer : Result ℕ ArmFault) × IsReplaceReply slot answer said × ReplaceDoes x slot sectors answer holds store

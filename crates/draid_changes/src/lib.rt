@@ -1,5 +1,5 @@
 //! Changes of a pool's arms, each made in all of its metaslabs or in none: leaves go offline and come back, spares
-//! come to slots, and arms leave them. And that of its version.
+//! and new disks come to slots, and arms leave them. And that of its version.
 
 #![tactic(auto)]
 
@@ -7,7 +7,9 @@ mod attaching;
 mod detach_reply;
 mod detaching;
 mod fault;
+mod making;
 mod need;
+mod replacing;
 mod replies;
 mod reserving;
 mod rules;
@@ -19,7 +21,8 @@ mod upgrading;
 pub use detach_reply::reply_to_detach;
 pub use detaching::{DetachFault, detach};
 pub use fault::ArmFault;
-pub use replies::{reply_to_offline, reply_to_online, reply_to_spare};
+pub use replacing::replace;
+pub use replies::{reply_to_offline, reply_to_online, reply_to_replace, reply_to_spare};
 pub use sparing::spare;
 pub use switching::{offline, online};
 pub use upgrade_reply::reply_to_upgrade;

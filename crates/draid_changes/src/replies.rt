@@ -1,17 +1,18 @@
 //! What the commands on the arms of a pool reply. Where a device failed there is no reply.
-ghost use Rattle.std.specs.Prelude.{IfOk, IsErr, false, true};
-ghost use Rattle.draid_script.specs.Line.{AttachSpare, TakeOffline, TakeOnline};
+ghost use Rattle.std.specs.Prelude.{◌⊎◌, IfOk, IsErr, false, true};
+ghost use Rattle.draid_script.specs.Line.{AttachSpare, ReplaceDisk, TakeOffline, TakeOnline};
 ghost use Rattle.draid_session.specs.Replies.{IsReplyTo};
 ghost use Rattle.draid_session.specs.State.{State};
 ghost use Rattle.draid_pool.specs.Carries.{CarriesOut};
-ghost use Rattle.draid_pool.specs.Failing.{AreaRose, AreasLater};
+ghost use Rattle.draid_pool.specs.Failing.{AreaRose, AreasLater, RackFails};
 ghost use Rattle.draid_pool.specs.Pointers.{SamePointers};
 ghost use Rattle.draid_pool.specs.Pools.{Represents};
 ghost use Rattle.draid_pool.specs.Whole.{IsWhole};
 ghost use Rattle.draid_changes.specs.Behind.{ArmsBehind};
-ghost use Rattle.draid_changes.specs.Says.{SpareSays, SwitchSays};
+ghost use Rattle.draid_changes.specs.Says.{ReplaceSays, SpareSays, SwitchSays};
 
 use crate::fault::ArmFault;
+use crate::replacing::replace;
 use crate::sparing::spare;
 use crate::switching::{offline, online};
 use draid_area::Area;
@@ -98,6 +99,32 @@ pub fn reply_to_spare<R: Rack, A: Area>(
         Err(ArmFault::Worn) => Ok(Reply::SpareWorn { slot }),
         Err(ArmFault::NoMemory) => Ok(Reply::NoMemory {
             command: CommandName::Spare,
+        }),
+        Err(ArmFault::Shelf) => Err(Failed),
+    }
+}
+
+/// Gives a slot a new disk, of so many sectors where that is said.
+pub fn reply_to_replace<R: Rack, A: Area>(
+    pool: &mut Pool<R, A>,
+    slot: u32,
+    sectors: Option<u64>,
+) -> Result<Reply, Failed>
+    requires whole { IsWhole R.Rack A.Area pool.old }
+    ensures whole { IsWhole R.Rack A.Area pool.new }
+    ensures same { SamePointers pool.old pool.new }
+    ensures later { AreasLater A.faults pool.old pool.new }
+    ensures cause { IsErr result → AreaRose A.faults pool.old pool.new ⊎ RackFails R.faults pool.new }
+    ensures fits { IfOk result (IsReplyTo (ReplaceDisk slot sectors)) }
+    ensures step { (x : State) → Represents R.Rack A.Area pool.old x
+        → CarriesOut R.Rack A.Area pool.new x (ReplaceSays slot sectors result x) }
+{
+    match replace(pool, slot, sectors) {
+        Ok(leaf) => Ok(Reply::Replaced { slot, leaf }),
+        Err(ArmFault::Slot { why }) => Ok(Reply::ReplaceRefused { slot, why }),
+        Err(ArmFault::Worn) => Ok(Reply::ReplaceWorn { slot }),
+        Err(ArmFault::NoMemory) => Ok(Reply::NoMemory {
+            command: CommandName::Replace,
         }),
         Err(ArmFault::Shelf) => Err(Failed),
     }

@@ -2,7 +2,7 @@
 use Rattle.std.proofs.Common.{[], ◌≡◌, IfOk, ℕ, Bool, List, Option, Some, None, Result, Ok, Err, ap, refl, sym, subst, Vec, Global}
 use Rattle.draid_rack.specs.declared.Rack as racks
 use Rattle.draid_area.specs.declared.Area as areas
-use Rattle.draid_script.specs.Line.{Command, CreatePool, ReadObject, FreeObject, SumObjects, DamageSector, AttachSpare, ShowStatus, DetachArm, UpgradePool, command_in}
+use Rattle.draid_script.specs.Line.{Command, CreatePool, ReadObject, FreeObject, SumObjects, DamageSector, AttachSpare, ShowStatus, DetachArm, UpgradePool, command_in, ReplaceDisk}
 use Rattle.draid_script.specs.declared.line.Line.{Line}
 use Rattle.draid_script.specs.declared.line.Line.TheVariants as variant
 use Rattle.draid_script.specs.declared.line.PoolKeys.{PoolKeys}
@@ -20,7 +20,7 @@ use Rattle.draid_run.specs.Making.{CreateIs}
 use Rattle.draid_names.specs.declared.fault.Failed.{Failed}
 use Rattle.draid_changes.specs.DetachSays.{DetachSays}
 use Rattle.draid_script.specs.declared.line.ArmArgument.{ArmArgument}
-use Rattle.draid_changes.specs.Says.{SpareSays, SwitchSays}
+use Rattle.draid_changes.specs.Says.{SpareSays, SwitchSays, ReplaceSays}
 use Rattle.draid_changes.specs.UpgradeSays.{UpgradeSays}
 use Rattle.draid_store.specs.Says.{DamageSays, FreeSays, ReadSays, SumSays}
 use Rattle.draid_status.specs.Says.{StatusSays}
@@ -29,7 +29,7 @@ use Rattle.draid_run.specs.Serve.{AnswerIs, AskIs, IsSaid}
 use Rattle.draid_run.specs.Shelves.{MayFind, OnShelf}
 use Rattle.draid_run.specs.declared.answer.Stop.{Stop}
 use Rattle.draid_run.specs.declared.answer.Stop.TheVariants as stop
-use Rattle.draid_run.proofs.Said.{damage_does, detach_does, free_does, read_does, spare_does, status_does, sum_does, switch_does, switch_line, upgrade_does}
+use Rattle.draid_run.proofs.Said.{damage_does, detach_does, free_does, read_does, spare_does, status_does, sum_does, switch_does, switch_line, upgrade_does, replace_does}
 use Rattle.draid_run.proofs.Steps.{ask_breaks, by_ask, by_create}
 
 module _ {R A : Type 0} (rack : racks.Ghosts R) (area : areas.Ghosts A) (choices : Choices) (entry now : OnShelf) (pool : Option (Pool R A)) (x : Desk) (is : IsDesk rack area entry now pool x) (command : Command)
@@ -79,39 +79,40 @@ pub asks_nothing : (line : Line) → ((object : ℕ) (bytes : Vec ℕ Global) �
     → ((leaf : ℕ) → line ≡ variant.Online leaf → ⊥)
     → ((leaf : ℕ) (sector : ℕ) → line ≡ variant.Damage leaf sector → ⊥)
     → ((slot : ℕ) (spare : ℕ) → line ≡ variant.Spare slot spare → ⊥)
+    → ((slot : ℕ) (sectors : Option ℕ) → line ≡ variant.Replace slot sectors → ⊥)
     → ((form : StatusFormat) → line ≡ variant.Status form → ⊥)
     → ((arm : ArmArgument) → line ≡ variant.Detach arm → ⊥)
     → (line ≡ variant.Upgrade → ⊥)
     → asked_in (command_in line) ≡ None
-asks_nothing variant.Nothing write fill read free sum offline online damage spare status detach upgrade = refl
-asks_nothing (variant.Create spec children keys) write fill read free sum offline online damage spare status detach upgrade = refl
-asks_nothing variant.Import write fill read free sum offline online damage spare status detach upgrade = refl
-asks_nothing variant.Export write fill read free sum offline online damage spare status detach upgrade = refl
-asks_nothing variant.Sync write fill read free sum offline online damage spare status detach upgrade = refl
-asks_nothing variant.Cancel write fill read free sum offline online damage spare status detach upgrade = refl
-asks_nothing variant.Crash write fill read free sum offline online damage spare status detach upgrade = refl
-asks_nothing (variant.Write object bytes) write fill read free sum offline online damage spare status detach upgrade = absurd (write object bytes refl)
-asks_nothing (variant.Fill first count len seed) write fill read free sum offline online damage spare status detach upgrade = absurd (fill first count len seed refl)
-asks_nothing (variant.Read object) write fill read free sum offline online damage spare status detach upgrade = absurd (read object refl)
-asks_nothing (variant.Free object) write fill read free sum offline online damage spare status detach upgrade = absurd (free object refl)
-asks_nothing (variant.Sum first count) write fill read free sum offline online damage spare status detach upgrade = absurd (sum first count refl)
-asks_nothing (variant.Offline leaf) write fill read free sum offline online damage spare status detach upgrade = absurd (offline leaf refl)
-asks_nothing (variant.Online leaf) write fill read free sum offline online damage spare status detach upgrade = absurd (online leaf refl)
-asks_nothing (variant.Damage leaf sector) write fill read free sum offline online damage spare status detach upgrade = absurd (damage leaf sector refl)
-asks_nothing (variant.Spare slot number) write fill read free sum offline online damage spare status detach upgrade = absurd (spare slot number refl)
-asks_nothing (variant.Replace slot sectors) write fill read free sum offline online damage spare status detach upgrade = refl
-asks_nothing (variant.Detach arm) write fill read free sum offline online damage spare status detach upgrade = absurd (detach arm refl)
-asks_nothing (variant.Rebuild limit) write fill read free sum offline online damage spare status detach upgrade = refl
-asks_nothing (variant.Scrub limit) write fill read free sum offline online damage spare status detach upgrade = refl
-asks_nothing (variant.Rebalance slot) write fill read free sum offline online damage spare status detach upgrade = refl
-asks_nothing (variant.Status form) write fill read free sum offline online damage spare status detach upgrade = absurd (status form refl)
-asks_nothing (variant.Lanes count) write fill read free sum offline online damage spare status detach upgrade = refl
-asks_nothing variant.Upgrade write fill read free sum offline online damage spare status detach upgrade = absurd (upgrade refl)
-asks_nothing (variant.Agent least) write fill read free sum offline online damage spare status detach upgrade = refl
-asks_nothing variant.AgentLog write fill read free sum offline online damage spare status detach upgrade = refl
-asks_nothing variant.Checkpoint write fill read free sum offline online damage spare status detach upgrade = refl
-asks_nothing variant.Rewind write fill read free sum offline online damage spare status detach upgrade = refl
-asks_nothing variant.Discard write fill read free sum offline online damage spare status detach upgrade = refl
+asks_nothing variant.Nothing write fill read free sum offline online damage spare replace status detach upgrade = refl
+asks_nothing (variant.Create spec children keys) write fill read free sum offline online damage spare replace status detach upgrade = refl
+asks_nothing variant.Import write fill read free sum offline online damage spare replace status detach upgrade = refl
+asks_nothing variant.Export write fill read free sum offline online damage spare replace status detach upgrade = refl
+asks_nothing variant.Sync write fill read free sum offline online damage spare replace status detach upgrade = refl
+asks_nothing variant.Cancel write fill read free sum offline online damage spare replace status detach upgrade = refl
+asks_nothing variant.Crash write fill read free sum offline online damage spare replace status detach upgrade = refl
+asks_nothing (variant.Write object bytes) write fill read free sum offline online damage spare replace status detach upgrade = absurd (write object bytes refl)
+asks_nothing (variant.Fill first count len seed) write fill read free sum offline online damage spare replace status detach upgrade = absurd (fill first count len seed refl)
+asks_nothing (variant.Read object) write fill read free sum offline online damage spare replace status detach upgrade = absurd (read object refl)
+asks_nothing (variant.Free object) write fill read free sum offline online damage spare replace status detach upgrade = absurd (free object refl)
+asks_nothing (variant.Sum first count) write fill read free sum offline online damage spare replace status detach upgrade = absurd (sum first count refl)
+asks_nothing (variant.Offline leaf) write fill read free sum offline online damage spare replace status detach upgrade = absurd (offline leaf refl)
+asks_nothing (variant.Online leaf) write fill read free sum offline online damage spare replace status detach upgrade = absurd (online leaf refl)
+asks_nothing (variant.Damage leaf sector) write fill read free sum offline online damage spare replace status detach upgrade = absurd (damage leaf sector refl)
+asks_nothing (variant.Spare slot number) write fill read free sum offline online damage spare replace status detach upgrade = absurd (spare slot number refl)
+asks_nothing (variant.Replace slot sectors) write fill read free sum offline online damage spare replace status detach upgrade = absurd (replace slot sectors refl)
+asks_nothing (variant.Detach arm) write fill read free sum offline online damage spare replace status detach upgrade = absurd (detach arm refl)
+asks_nothing (variant.Rebuild limit) write fill read free sum offline online damage spare replace status detach upgrade = refl
+asks_nothing (variant.Scrub limit) write fill read free sum offline online damage spare replace status detach upgrade = refl
+asks_nothing (variant.Rebalance slot) write fill read free sum offline online damage spare replace status detach upgrade = refl
+asks_nothing (variant.Status form) write fill read free sum offline online damage spare replace status detach upgrade = absurd (status form refl)
+asks_nothing (variant.Lanes count) write fill read free sum offline online damage spare replace status detach upgrade = refl
+asks_nothing variant.Upgrade write fill read free sum offline online damage spare replace status detach upgrade = absurd (upgrade refl)
+asks_nothing (variant.Agent least) write fill read free sum offline online damage spare replace status detach upgrade = refl
+asks_nothing variant.AgentLog write fill read free sum offline online damage spare replace status detach upgrade = refl
+asks_nothing variant.Checkpoint write fill read free sum offline online damage spare replace status detach upgrade = refl
+asks_nothing variant.Rewind write fill read free sum offline online damage spare replace status detach upgrade = refl
+asks_nothing variant.Discard write fill read free sum offline online damage spare replace status detach upgrade = refl
 
 -- and nothing of the shelf: its command is beyond what is built
 pub is_unbuilt : (line : Line) → (line ≡ variant.Nothing → ⊥)
@@ -137,7 +138,7 @@ is_unbuilt (variant.Offline leaf) nothing create opens export sync crash none = 
 is_unbuilt (variant.Online leaf) nothing create opens export sync crash none = absurd (cc none)
 is_unbuilt (variant.Damage leaf sector) nothing create opens export sync crash none = absurd (cc none)
 is_unbuilt (variant.Spare slot spare) nothing create opens export sync crash none = absurd (cc none)
-is_unbuilt (variant.Replace slot sectors) nothing create opens export sync crash none = tt
+is_unbuilt (variant.Replace slot sectors) nothing create opens export sync crash none = absurd (cc none)
 is_unbuilt (variant.Detach arm) nothing create opens export sync crash none = absurd (cc none)
 is_unbuilt (variant.Rebuild limit) nothing create opens export sync crash none = tt
 is_unbuilt (variant.Scrub limit) nothing create opens export sync crash none = tt
@@ -168,6 +169,10 @@ module _ {R A : Type 0} (rack : racks.Ghosts R) (area : areas.Ghosts A) (choices
   pub replied_switch : (leaf : ℕ) (offline : Bool) (said : Result Reply Failed) → command_in line ≡ switch_line leaf offline → CarriesOut rack area pool x (SwitchSays leaf offline said x)
       → CarriesOut rack area pool x (AnswerDoes x choices (command_in line) said)
   replied_switch leaf offline said is c = carried (switch_line leaf offline) (SwitchSays leaf offline said x) said is (λ holds store. switch_does x choices said holds store leaf offline) c
+
+  pub replied_replace : (slot : ℕ) (sectors : Option ℕ) (said : Result Reply Failed) → line ≡ variant.Replace slot sectors → CarriesOut rack area pool x (ReplaceSays slot sectors said x)
+      → CarriesOut rack area pool x (AnswerDoes x choices (command_in line) said)
+  replied_replace slot sectors said is c = carried (ReplaceDisk slot sectors) (ReplaceSays slot sectors said x) said (ap command_in is) (λ holds store. replace_does x choices said holds store slot sectors) c
 
   pub replied_spare : (slot spare : ℕ) (said : Result Reply Failed) → line ≡ variant.Spare slot spare → CarriesOut rack area pool x (SpareSays slot spare said x) → CarriesOut rack area pool x (AnswerDoes x choices (command_in line) said)
   replied_spare slot spare said is c = carried (AttachSpare slot spare) (SpareSays slot spare said x) said (ap command_in is) (λ holds store. spare_does x choices said holds store slot spare) c

@@ -1,7 +1,7 @@
 -- Which replies leave the pool open.
 use Rattle.std.proofs.Common.{◌≡◌, refl, Some}
 use Rattle.std.specs.Prelude.{⊤}
-use Rattle.draid_script.specs.Line.{Command, SyncPool, WriteObject, FillObjects, ReadObject, FreeObject, SumObjects, TakeOffline, TakeOnline, DamageSector, AttachSpare, ShowStatus, DetachArm, UpgradePool}
+use Rattle.draid_script.specs.Line.{Command, SyncPool, WriteObject, FillObjects, ReadObject, FreeObject, SumObjects, TakeOffline, TakeOnline, DamageSector, AttachSpare, ShowStatus, DetachArm, UpgradePool, ReplaceDisk}
 use Rattle.draid_script.specs.declared.name.CommandName.{CommandName}
 use Rattle.draid_reply.specs.declared.reply.Reply.{Reply}
 use Rattle.draid_reply.specs.declared.reply.Reply.TheVariants.{Crashed, Exported}
@@ -60,6 +60,9 @@ asked_keeps (DamageSector leaf sector) called reply asked is = tt
 asked_keeps (AttachSpare slot spare) called (Exported group) asked is = absurd is
 asked_keeps (AttachSpare slot spare) called Crashed asked is = absurd is
 asked_keeps (AttachSpare slot spare) called reply asked is = tt
+asked_keeps (ReplaceDisk slot sectors) called (Exported group) asked is = absurd is
+asked_keeps (ReplaceDisk slot sectors) called Crashed asked is = absurd is
+asked_keeps (ReplaceDisk slot sectors) called reply asked is = tt
 asked_keeps (ShowStatus form) called (Exported group) asked is = absurd is
 asked_keeps (ShowStatus form) called Crashed asked is = absurd is
 asked_keeps (ShowStatus form) called reply asked is = tt

@@ -1,16 +1,16 @@
 -- What the replies of commands say, in the words of a session.
-use Rattle.std.proofs.Common.{◌≡◌, inl, ℕ, Bool, true, false, List, Result, Ok, Err, refl, subst, sym}
+use Rattle.std.proofs.Common.{◌≡◌, inl, ℕ, Bool, true, false, List, Result, Ok, Err, refl, subst, sym, Option, inr}
 use Rattle.std.specs.declared.vec.Vec.{Vec}
 use Rattle.std.specs.declared.alloc.Global.{Global}
 use Rattle.draid_names.specs.declared.fault.NoMemory.{NoMemory as Starved}
 use Rattle.draid_names.specs.declared.refusal.ObjectFault.{ObjectFault}
 use Rattle.draid_names.specs.declared.refusal.ObjectFault.TheVariants as object
-use Rattle.draid_script.specs.Line.{AttachSpare, Command, DamageSector, FreeObject, ReadObject, ShowStatus, SumObjects, TakeOffline, TakeOnline, DetachArm, UpgradePool}
+use Rattle.draid_script.specs.Line.{AttachSpare, Command, DamageSector, FreeObject, ReadObject, ShowStatus, SumObjects, TakeOffline, TakeOnline, DetachArm, UpgradePool, ReplaceDisk}
 use Rattle.draid_script.specs.declared.name.CommandName.{CommandName}
 use Rattle.draid_script.specs.declared.name.CommandName.TheVariants as name
 use Rattle.draid_script.specs.declared.line.StatusFormat.{StatusFormat}
 use Rattle.draid_reply.specs.declared.reply.Reply.{Reply}
-use Rattle.draid_reply.specs.declared.reply.Reply.TheVariants.{DetachLast, DetachRefused, DetachWorn, Detached, Last, NoMemory, OfflineDone, OfflineRefused, OfflineWorn, OnlineDone, OnlineRefused, OnlineWorn, SpareRefused, SpareWorn, UpgradeAlready, Upgraded, Worn}
+use Rattle.draid_reply.specs.declared.reply.Reply.TheVariants.{DetachLast, DetachRefused, DetachWorn, Detached, Last, NoMemory, OfflineDone, OfflineRefused, OfflineWorn, OnlineDone, OnlineRefused, OnlineWorn, SpareRefused, SpareWorn, UpgradeAlready, Upgraded, Worn, Replaced, ReplaceRefused, ReplaceWorn}
 use Rattle.draid_session.specs.Choices.{Choices}
 use Rattle.draid_session.specs.Holds.{Hold}
 use Rattle.draid_session.specs.State.{State, Store}
@@ -18,14 +18,14 @@ use Rattle.draid_names.specs.declared.fault.Failed.{Failed}
 use Rattle.draid_names.specs.declared.refusal.SlotFault.{SlotFault}
 use Rattle.draid_names.specs.declared.refusal.SlotFault.TheVariants as slot
 use Rattle.draid_session.specs.Arms as arms
-use Rattle.draid_changes.specs.Answers.{SpareDoes, SwitchDoes}
+use Rattle.draid_changes.specs.Answers.{SpareDoes, SwitchDoes, ReplaceDoes}
 use Rattle.draid_changes.specs.DetachSays.{DetachSays, IsDetachReply}
 use Rattle.draid_changes.specs.Detaching.{DetachDoes}
 use Rattle.draid_changes.specs.declared.detaching.DetachFault.{DetachFault}
 use Rattle.draid_changes.specs.declared.detaching.DetachFault.TheVariants as detaching
 use Rattle.draid_script.specs.declared.line.ArmArgument.{ArmArgument}
 use Rattle.draid_session.specs.Arms.{arm_of}
-use Rattle.draid_changes.specs.Says.{IsReplyBy, IsSpared, SpareSays, SwitchSays}
+use Rattle.draid_changes.specs.Says.{IsReplyBy, IsSpared, SpareSays, SwitchSays, ReplaceSays}
 use Rattle.draid_changes.specs.UpgradeSays.{IsUpgradeReply, UpgradeSays}
 use Rattle.draid_changes.specs.Upgrading.{UpgradeDoes}
 use Rattle.draid_changes.specs.declared.upgrading.UpgradeFault.{UpgradeFault}
@@ -89,6 +89,13 @@ module _ (x : State) (choices : Choices) (said : Result Reply Failed) (holds : L
   switch_does leaf false says =
       answer_does x choices said holds store (TakeOnline leaf) name.Online (λ done reply. reply ≡ OnlineDone leaf) (λ why. OnlineRefused leaf) (OnlineWorn leaf) (λ answer. SwitchDoes x leaf false answer holds store)
       (λ it reply is did. subst (λ r. ReplyDoes x choices (TakeOnline leaf) r holds store) (sym is) (refl, did.0, did.1)) (λ why did. (refl, did.0, no_leaf x leaf holds why did.1)) (λ did. (refl, did.0, did.1)) (λ did. did) (λ did. did)
+      says.0 says.1 says.2
+
+  pub replace_does : (slot : ℕ) (sectors : Option ℕ) → ReplaceSays slot sectors said x holds store → AnswerDoes x choices (ReplaceDisk slot sectors) said holds store
+  replace_does slot sectors says =
+      answer_does x choices said holds store (ReplaceDisk slot sectors) name.Replace (λ leaf reply. reply ≡ Replaced slot leaf) (λ why. ReplaceRefused slot why) (ReplaceWorn slot) (λ answer. ReplaceDoes x slot sectors answer holds store)
+      (λ leaf reply is did. subst (λ r. ReplyDoes x choices (ReplaceDisk slot sectors) r holds store) (sym is) (refl, did.0, did.1)) (λ why did. (refl, did.1.0, did.1.1)) (λ did. (refl, did.1.0, (did.0, did.1.1)))
+      (λ did. (did.1.0, (elim did.1.1 [ inl taken ↦ inl (did.0, taken) | inr looks ↦ inr looks ]))) (λ did. (did.1.0, (did.0, did.1.1)))
       says.0 says.1 says.2
 
   pub spare_does : (slot spare : ℕ) → SpareSays slot spare said x holds store → AnswerDoes x choices (AttachSpare slot spare) said holds store

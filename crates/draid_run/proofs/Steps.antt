@@ -1,5 +1,5 @@
 -- What the calls of a pool did, in the words of a session.
-use Rattle.std.proofs.Common.{◌≡◌, ◌∙◌, inl, ℕ, List, [], Option, Some, None, Ok, refl, subst, sym}
+use Rattle.std.proofs.Common.{◌≡◌, ◌⊎◌, ◌∙◌, ℕ, List, [], Option, Some, None, Ok, refl, subst, sym}
 use Rattle.draid_rack.specs.declared.Rack as racks
 use Rattle.draid_area.specs.declared.Area as areas
 use Rattle.draid_script.specs.Line.{Command, Silent, CreatePool, ImportPool, ExportPool, SyncPool, CancelPasses, CrashPool, WriteObject, FillObjects, ReadObject, FreeObject, SumObjects, TakeOffline, TakeOnline, DamageSector, AttachSpare, ReplaceDisk, DetachArm, RebuildPool, ScrubPool, RebalanceSlot, ShowStatus, OpenLanes, UpgradePool, RunAgent, ShowJournal, TakeCheckpoint, RewindPool, DiscardCheckpoint}
@@ -8,6 +8,7 @@ use Rattle.draid_script.specs.declared.name.CommandName.{CommandName}
 use Rattle.draid_reply.specs.declared.reply.Reply.{Reply}
 use Rattle.draid_reply.specs.declared.reply.Reply.TheVariants.{NoPool}
 use Rattle.draid_session.specs.Said.{alone}
+use Rattle.draid_session.specs.Certain.{MakesLeaves}
 use Rattle.draid_session.specs.Choices.{Choices}
 use Rattle.draid_session.specs.Follows.{Follows}
 use Rattle.draid_session.specs.Holds.{Hold}
@@ -20,7 +21,7 @@ use Rattle.draid_pool.specs.Carries.{CarriesOut, ReplyDoes}
 use Rattle.draid_pool.specs.Pools.{Represents}
 use Rattle.draid_pool.specs.Whole.{IsWhole}
 use Rattle.draid_pool.specs.declared.pool.Pool.{Pool}
-use Rattle.draid_pool.specs.Failing.{AreaFails}
+use Rattle.draid_pool.specs.Failing.{AreaFails, RackFails}
 use Rattle.draid_pool.specs.Pointers.{SamePointers}
 use Rattle.draid_pool.proofs.Taught.{still_known}
 use Rattle.draid_changes.specs.Behind.{ArmsBehind}
@@ -78,7 +79,7 @@ module _ {R A : Type 0} (rack : racks.Ghosts R) (area : areas.Ghosts A) (choices
 
 -- a device of the pool failed in a command
 pub broke_open : {R A : Type 0} (rack : racks.Ghosts R) (area : areas.Ghosts A) (command : Command) (desk : Option (Pool R A)) (pool new : Pool R A) → desk ≡ Some pool → IsWhole rack area new
-    → MayBreak command × AreaFails area.faults new × SamePointers pool new → ((x : State) → Represents rack area pool x → CarriesOut rack area new x (BreaksBy x command)) → (x : Desk) → IsPool rack area desk x → PoolBroke rack area command x (Some new)
+    → MayBreak command × (AreaFails area.faults new ⊎ (MakesLeaves command × RackFails rack.faults new)) × SamePointers pool new → ((x : State) → Represents rack area pool x → CarriesOut rack area new x (BreaksBy x command)) → (x : Desk) → IsPool rack area desk x → PoolBroke rack area command x (Some new)
 broke_open rack area command desk pool new is whole breaks step x = subst (λ d. IsPool rack area d x → PoolBroke rack area command x (Some new)) (sym is) (by x)
   where
     by : (x : Desk) → IsPool rack area (Some pool) x → PoolBroke rack area command x (Some new)
@@ -99,7 +100,7 @@ ask_breaks rack area entry before now command (Made tells count geometry) desk n
 ask_breaks rack area entry before now command (Shut crash y) desk new is did = absurd did
 ask_breaks rack area entry before now command Unknown desk new is did = absurd did
 ask_breaks rack area entry before now command (Foreign known) desk None is did = absurd did
-ask_breaks rack area entry before now command (Foreign known) desk (Some new) is did = record { new = Foreign known; desk = record { stands = (did.0, did.3); shelf = tt }; breaks = (did.1, refl); cause = inl did.2 }
+ask_breaks rack area entry before now command (Foreign known) desk (Some new) is did = record { new = Foreign known; desk = record { stands = (did.0, did.3); shelf = tt }; breaks = (did.1, refl); cause = did.2 }
 ask_breaks rack area entry before now command (Open y) desk None is did = absurd did
 ask_breaks rack area entry before now command (Open y) desk (Some new) is did =
     let c = did.1 in
@@ -122,6 +123,7 @@ module _ (choices : Choices) (finds : Finding → Type 0) where
   shut_says (TakeOnline leaf) called is x = (called, is, refl, refl)
   shut_says (DamageSector leaf sector) called is x = (called, is, refl, refl)
   shut_says (AttachSpare slot spare) called is x = (called, is, refl, refl)
+  shut_says (ReplaceDisk slot sectors) called is x = (called, is, refl, refl)
   shut_says (ShowStatus form) called is x = (called, is, refl, refl)
   shut_says (DetachArm arm) called is x = (called, is, refl, refl)
   shut_says UpgradePool called is x = (called, is, refl, refl)
@@ -209,7 +211,8 @@ module _ {R A : Type 0} (rack : racks.Ghosts R) (area : areas.Ghosts A) (choices
       (refl, by_desk choices (MayFind rack area entry) rack area (TakeOnline leaf) (NoPool called) x stands (shut_says choices (MayFind rack area entry) (TakeOnline leaf) called is x)))
   by_ask (AttachSpare slot spare) called is = turned_by (AttachSpare slot spare) called is (λ y z c same. (refl, (z, c, same))) (λ old new fits learns same. (refl, (fits, new, learns, same))) (λ x stands.
       (refl, by_desk choices (MayFind rack area entry) rack area (AttachSpare slot spare) (NoPool called) x stands (shut_says choices (MayFind rack area entry) (AttachSpare slot spare) called is x)))
-  by_ask (ReplaceDisk slot sectors) called is = absurd (cc is)
+  by_ask (ReplaceDisk slot sectors) called is = turned_by (ReplaceDisk slot sectors) called is (λ y z c same. (refl, (z, c, same))) (λ old new fits learns same. (refl, (fits, new, learns, same))) (λ x stands.
+      (refl, by_desk choices (MayFind rack area entry) rack area (ReplaceDisk slot sectors) (NoPool called) x stands (shut_says choices (MayFind rack area entry) (ReplaceDisk slot sectors) called is x)))
   by_ask (DetachArm arm) called is = turned_by (DetachArm arm) called is (λ y z c same. (refl, (z, c, same))) (λ old new fits learns same. (refl, (fits, new, learns, same))) (λ x stands.
       (refl, by_desk choices (MayFind rack area entry) rack area (DetachArm arm) (NoPool called) x stands (shut_says choices (MayFind rack area entry) (DetachArm arm) called is x)))
   by_ask (RebuildPool limit) called is = absurd (cc is)

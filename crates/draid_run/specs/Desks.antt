@@ -1,15 +1,16 @@
 -- For which desk the pool and the shelf stand between lines, and what a command comes to.
-use Rattle.std.specs.Prelude.{◌≡◌, ⊤, List, Option, Some, None, Result, Ok, Err}
+use Rattle.std.specs.Prelude.{◌≡◌, ◌⊎◌, ⊤, List, Option, Some, None, Result, Ok, Err}
 use Rattle.draid_names.specs.declared.fault.Failed.{Failed}
 use Rattle.draid_rack.specs.declared.Rack as racks
 use Rattle.draid_area.specs.declared.Area as areas
-use Rattle.draid_script.specs.Line.{Command, WriteObject, ReadObject, FillObjects, FreeObject, SumObjects, TakeOffline, TakeOnline, DamageSector, AttachSpare, ShowStatus, DetachArm, UpgradePool}
+use Rattle.draid_script.specs.Line.{Command, WriteObject, ReadObject, FillObjects, FreeObject, SumObjects, TakeOffline, TakeOnline, DamageSector, AttachSpare, ShowStatus, DetachArm, UpgradePool, ReplaceDisk}
 use Rattle.draid_script.specs.declared.fault.LineFault.{LineFault}
 use Rattle.draid_script.specs.declared.name.CommandName.{CommandName}
 use Rattle.draid_script.specs.declared.name.CommandName.TheVariants as name
 use Rattle.draid_reply.specs.declared.reply.Reply.{Reply}
 use Rattle.draid_reply.specs.declared.reply.Reply.TheVariants.{NoPool}
 use Rattle.draid_session.specs.Said.{Said}
+use Rattle.draid_session.specs.Certain.{MakesLeaves}
 use Rattle.draid_session.specs.Choices.{Choices}
 use Rattle.draid_session.specs.Does as session
 use Rattle.draid_session.specs.Holds.{Hold}
@@ -17,6 +18,7 @@ use Rattle.draid_session.specs.State.{State, Store}
 use Rattle.draid_session.specs.Replies.{IsReplyTo}
 use Rattle.draid_session.specs.Session.{Desk, Open, Foreign, Breaks, Cause, MayBreak, RecordFails, ShelfFails, TurnsBy, left_of}
 use Rattle.draid_pool.specs.Carries.{CarriesOut, ReplyDoes}
+use Rattle.draid_pool.specs.Failing.{RackFails}
 use Rattle.draid_pool.specs.Pools.{Represents}
 use Rattle.draid_pool.specs.Whole.{IsWhole}
 use Rattle.draid_pool.specs.declared.pool.Pool.{Pool}
@@ -70,7 +72,8 @@ AnswerDoes x choices command (Err failed) holds store = BreaksBy x command holds
 -- What such a command came to that a failing device of the open pool ended: the pool stands for the state to which it came so far, or its objects are as they were known.
 abbrev pub PoolBroke : {R A : Type 0} → racks.Ghosts R → areas.Ghosts A → Command → Desk → Option (Pool R A) → Type 0
 PoolBroke rack area command (Open x) (Some pool) = IsWhole rack area pool × CarriesOut rack area pool x (BreaksBy x command)
-PoolBroke rack area command (Foreign known) (Some pool) = IsWhole rack area pool × MayBreak command × PoolFails area (Some pool) × KnowsPointers pool known
+PoolBroke rack area command (Foreign known) (Some pool) =
+    IsWhole rack area pool × MayBreak command × (PoolFails area (Some pool) ⊎ (MakesLeaves command × RackFails rack.faults pool)) × KnowsPointers pool known
 PoolBroke rack area command desk pool = ⊥
 
 -- the name of a command that is carried out on the pool that is open, and leaves it open
@@ -84,6 +87,7 @@ asked_in (TakeOffline leaf) = Some name.Offline
 asked_in (TakeOnline leaf) = Some name.Online
 asked_in (DamageSector leaf sector) = Some name.Damage
 asked_in (AttachSpare slot spare) = Some name.Spare
+asked_in (ReplaceDisk slot sectors) = Some name.Replace
 asked_in (ShowStatus form) = Some name.Status
 asked_in (DetachArm arm) = Some name.Detach
 asked_in UpgradePool = Some name.Upgrade

@@ -158,6 +158,7 @@ fn asked(line: &Line) -> Option<CommandName>
         Line::Online { .. } => Some(CommandName::Online),
         Line::Damage { .. } => Some(CommandName::Damage),
         Line::Spare { .. } => Some(CommandName::Spare),
+        Line::Replace { .. } => Some(CommandName::Replace),
         Line::Status { .. } => Some(CommandName::Status),
         Line::Detach { .. } => Some(CommandName::Detach),
         Line::Upgrade => Some(CommandName::Upgrade),

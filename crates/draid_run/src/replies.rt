@@ -1,8 +1,9 @@
 //! What the commands of an open pool reply.
-ghost use Rattle.std.specs.Prelude.{◌≡◌, None, IfOk, IsErr};
+ghost use Rattle.std.specs.Prelude.{◌≡◌, ◌⊎◌, None, IfOk, IsErr};
 ghost use Rattle.std.specs.Fn.{FnReturnsAt};
 ghost use Rattle.draid_choose.specs.Rooms.{IsChooser};
-ghost use Rattle.draid_script.specs.Line.{AttachSpare, TakeOffline, TakeOnline, DamageSector, FreeObject, IsInRange, ReadObject, ShowStatus, SumObjects, WriteObject, command_in};
+ghost use Rattle.draid_script.specs.Line.{AttachSpare, ReplaceDisk, TakeOffline, TakeOnline, DamageSector, FreeObject, IsInRange, ReadObject, ShowStatus, SumObjects, WriteObject, command_in};
+ghost use Rattle.draid_session.specs.Certain.{MakesLeaves};
 ghost use Rattle.draid_session.specs.Choices.{choices_by};
 ghost use Rattle.draid_session.specs.Replies.{IsReplyTo};
 ghost use Rattle.draid_session.specs.Session.{MayBreak};
@@ -10,18 +11,19 @@ ghost use Rattle.draid_session.specs.State.{State};
 ghost use Rattle.draid_pool.specs.Carries.{CarriesOut};
 ghost use Rattle.draid_pool.specs.Pools.{Represents};
 ghost use Rattle.draid_pool.specs.Whole.{IsWhole};
-ghost use Rattle.draid_pool.specs.Failing.{AreaFails};
+ghost use Rattle.draid_pool.specs.Failing.{AreaFails, RackFails};
 ghost use Rattle.draid_pool.specs.Pointers.{SamePointers};
 ghost use Rattle.draid_run.specs.Desks.{AnswerDoes, asked_in};
 ghost use Rattle.draid_pool.specs.Knows.{Teaches};
 ghost use Rattle.draid_store.specs.Says.{DamageSays, FreeSays, ReadSays, SumSays};
 ghost use Rattle.draid_status.specs.Says.{StatusSays};
 ghost use Rattle.draid_changes.specs.Behind.{ArmsBehind};
-ghost use Rattle.draid_changes.specs.Says.{SpareSays, SwitchSays};
+ghost use Rattle.draid_changes.specs.Says.{ReplaceSays, SpareSays, SwitchSays};
 
 use draid_area::Area;
 use draid_changes::{
-    reply_to_detach, reply_to_offline, reply_to_online, reply_to_spare, reply_to_upgrade,
+    reply_to_detach, reply_to_offline, reply_to_online, reply_to_replace, reply_to_spare,
+    reply_to_upgrade,
 };
 use draid_choose::Chooser;
 use draid_names::{Failed, Room};
@@ -52,7 +54,7 @@ pub(crate) fn reply<R: Rack, A: Area, F: Fn(&[Room]) -> Option<u32>>(
     ensures fits { IfOk result (IsReplyTo (command_in line.now)) }
     ensures knows { IfOk result (λ reply. Teaches (command_in line.now) reply pool.old pool.new) }
     ensures arms { IfOk result (λ reply. ArmsBehind (command_in line.now) reply pool.new.metaslabs.shards.items) }
-    ensures breaks { IsErr result → MayBreak (command_in line.now) × AreaFails A.faults pool.new × SamePointers pool.old pool.new }
+    ensures breaks { IsErr result → MayBreak (command_in line.now) × (AreaFails A.faults pool.new ⊎ (MakesLeaves (command_in line.now) × RackFails R.faults pool.new)) × SamePointers pool.old pool.new }
     ensures step { (x : State) → Represents R.Rack A.Area pool.old x
         → CarriesOut R.Rack A.Area pool.new x (AnswerDoes x (choices_by (FnReturnsAt F.Fn chooser.now)) (command_in line.now) result) }
 {
@@ -70,6 +72,7 @@ pub(crate) fn reply<R: Rack, A: Area, F: Fn(&[Room]) -> Option<u32>>(
         Line::Offline { leaf } => reply_to_offline(pool, *leaf),
         Line::Online { leaf } => reply_to_online(pool, *leaf),
         Line::Damage { leaf, sector } => Ok(reply_to_damage(pool, *leaf, *sector)),
+        Line::Replace { slot, sectors } => reply_to_replace(pool, *slot, *sectors),
         Line::Spare { slot, spare } => reply_to_spare(alloc, pool, *slot, *spare),
         Line::Status { format } => Ok(reply_to_status(alloc, pool, *format)),
         Line::Detach { arm } => reply_to_detach(pool, *arm),

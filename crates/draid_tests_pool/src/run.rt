@@ -160,7 +160,7 @@ const FOUND: &str =
 
 /// Lines, the calls that fail, the status and what is printed. A block of one stripe is written by three calls of the rack and
 /// read by three. Earlier bytes stay where a write misses too many columns, and no object behind one without bytes is summed.
-static FAILING: [(&str, Failing, Status, &str); 20] = [
+static FAILING: [(&str, Failing, Status, &str); 21] = [
     (ONE, Failing { rack: &[0], ..NONE }, Status::Done, SOLVED),
     (ONE, Failing { rack: &[1], ..NONE }, Status::Done, SOLVED),
     (ONE, Failing { rack: &[2], ..NONE }, Status::Done, SOLVED),
@@ -219,6 +219,13 @@ static FAILING: [(&str, Failing, Status, &str); 20] = [
         },
         Status::Done,
         "create draid1:2d:3c:0s-0 stripes=32\nwrite 1 ok\nwrite 2 ok\nwrite 3 ok\nsum 2 unreadable absent=2 tried=0\n",
+    ),
+    // A leaf is offline, and of the other two one fails: its column and that of the first landed nowhere.
+    (
+        "offline 0\nwrite 7 aa\nread 7\nwrite 7 bb\nread 7\n",
+        Failing { rack: &[0], ..NONE },
+        Status::Done,
+        "create draid1:2d:3c:0s-0 stripes=32\noffline 0 ok\nwrite 7 missed columns=2\nread 7 no object\nwrite 7 ok\nread 7 1 bb\n",
     ),
     // Devices are made, and then the area of the uberblock and the devices of the one metaslab are taken.
     (
@@ -311,6 +318,35 @@ fn calls_that_fail_are_told(rt: HostRuntime) {
             "{row}"
         );
     }
+}
+
+static MAKING: &str =
+    "create draid1:2d:3c:0s 3 sector=512 height=8 metaslabs=3 slices=1\nreplace 0\n";
+
+static NOT_MADE: &str = "create draid1:2d:3c:0s-0 stripes=24\nshelf fault\n";
+
+static LATER: &str = "import\nstatus\nreplace 0\ndetach 3\n";
+
+static MADE_LATER: &str = "import draid1:2d:3c:0s-0 group=1 objects=0\npool draid1:2d:3c:0s-0 group=1 open=2 objects=0\nslot 0 leaf 0 online logged=0\nslot 1 leaf 1 online logged=0\nslot 2 leaf 2 online logged=0\nmetaslab 0 free=8 blocks=0 none\nmetaslab 1 free=8 blocks=0 none\nmetaslab 2 free=8 blocks=0 none\nend\nreplace 0 leaf=3 ok\ndetach 3 ok group=2\n";
+
+/// Whether a run ends in which the second metaslab can't get the leaf of a new disk, and a later run finds the pool as it
+/// was, and gives the disk the number that the first one didn't use up.
+fn is_made_later<R: AllocGlobal + Threads + Sync>(rt: &R) -> Option<bool> {
+    let mut shelf = MemoryShelf::new(rt.alloc(), CrashRule::New);
+    shelf.fail(Place::Rack(1), Vec::from_slice(rt.alloc(), &[0]).ok()?);
+    let mut first = sink_of(rt.alloc(), &NONE).ok()?;
+    let mut second = sink_of(rt.alloc(), &NONE).ok()?;
+    let line = "session";
+    let ended = run_script(rt, line, MAKING.as_bytes(), &[], &mut shelf, &mut first)?;
+    let done = run_script(rt, line, LATER.as_bytes(), &[], &mut shelf, &mut second)?;
+    let statuses = ended == Status::ShelfFault && done == Status::Done;
+    let held = first.held() == NOT_MADE.as_bytes() && second.held() == MADE_LATER.as_bytes();
+    Some(statuses && held)
+}
+
+#[test]
+fn a_leaf_that_cant_be_made_is_made_later(rt: HostRuntime) {
+    assert!(rt; is_made_later(&rt) == Some(true));
 }
 
 /// How often areas are called by a create and two syncs. A record is written and flushed. A commit of the uberblock flushes

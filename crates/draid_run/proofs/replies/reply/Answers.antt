@@ -1,14 +1,15 @@
-use Rattle.std.proofs.Common.{◌∙◌, true, false, IfOk, ap, refl, subst, sym}
+use Rattle.std.proofs.Common.{◌∙◌, inl, inr, true, false, IfOk, ap, refl, subst, sym}
 use Rattle.std.specs.Fn.{FnReturnsAt}
 use Rattle.draid_session.specs.Choices.{choices_by}
-use Rattle.draid_script.specs.Line.{AttachSpare, FillObjects, IsInRange, TakeOffline, TakeOnline, DetachArm, UpgradePool, WriteObject, command_in}
+use Rattle.draid_script.specs.Line.{AttachSpare, FillObjects, IsInRange, TakeOffline, TakeOnline, DetachArm, UpgradePool, WriteObject, command_in, ReplaceDisk}
 use Rattle.draid_session.specs.Replies.{IsReplyTo}
 use Rattle.draid_pool.specs.Knows.{Teaches}
 use Rattle.draid_pool.proofs.Rises.{rose_fails}
 use Rattle.draid_pool.proofs.Taught.{teaches_nothing}
+use Rattle.draid_session.specs.Certain.{MakesLeaves}
 use Rattle.draid_session.specs.Session.{MayBreak}
 use Rattle.draid_changes.specs.Behind.{ArmsBehind}
-use Rattle.draid_run.proofs.Asking.{asks_nothing, each_reply, replied_as, replied_damage, replied_detach, replied_free, replied_read, replied_spare, replied_status, replied_sum, replied_switch, replied_upgrade}
+use Rattle.draid_run.proofs.Asking.{asks_nothing, each_reply, replied_as, replied_damage, replied_detach, replied_free, replied_read, replied_spare, replied_status, replied_sum, replied_switch, replied_upgrade, replied_replace}
 use Rattle.draid_run.proofs.replies.reply.Goals as goal
 
 pub returns-in-Write : goal.returns-in-Write
@@ -73,7 +74,7 @@ returns-in-Offline g c =
       knows = subst (λ k. IfOk c.reply_to_offline.result (λ reply. Teaches k reply c.args.pool.now c.reply_to_offline.new.pool)) (sym is)
           (each_reply c.reply_to_offline.result (λ reply. Teaches (TakeOffline c.in-Offline.leaf) reply c.args.pool.now c.reply_to_offline.new.pool) (λ reply. teaches_nothing (TakeOffline c.in-Offline.leaf) reply (λ known. refl) c.args.pool.now c.reply_to_offline.new.pool e.same));
       arms = subst (λ k. IfOk c.reply_to_offline.result (λ reply. ArmsBehind k reply c.reply_to_offline.new.pool.metaslabs.shards.items)) (sym is) e.arms;
-      breaks = λ failed. (subst MayBreak (sym is) tt, rose_fails g.A.Area.faults c.args.pool.now c.reply_to_offline.new.pool (e.cause failed), e.same);
+      breaks = λ failed. (subst MayBreak (sym is) tt, inl (rose_fails g.A.Area.faults c.args.pool.now c.reply_to_offline.new.pool (e.cause failed)), e.same);
       step = λ x rep. replied_switch g.R.Rack g.A.Area (choices_by (FnReturnsAt g.F.Fn c.args.chooser.now)) c.args.line.now x c.reply_to_offline.new.pool c.in-Offline.leaf true c.reply_to_offline.result is (e.step x rep);
     }
 
@@ -87,7 +88,7 @@ returns-in-Online g c =
       knows = subst (λ k. IfOk c.reply_to_online.result (λ reply. Teaches k reply c.args.pool.now c.reply_to_online.new.pool)) (sym is)
           (each_reply c.reply_to_online.result (λ reply. Teaches (TakeOnline c.in-Online.leaf) reply c.args.pool.now c.reply_to_online.new.pool) (λ reply. teaches_nothing (TakeOnline c.in-Online.leaf) reply (λ known. refl) c.args.pool.now c.reply_to_online.new.pool e.same));
       arms = subst (λ k. IfOk c.reply_to_online.result (λ reply. ArmsBehind k reply c.reply_to_online.new.pool.metaslabs.shards.items)) (sym is) e.arms;
-      breaks = λ failed. (subst MayBreak (sym is) tt, rose_fails g.A.Area.faults c.args.pool.now c.reply_to_online.new.pool (e.cause failed), e.same);
+      breaks = λ failed. (subst MayBreak (sym is) tt, inl (rose_fails g.A.Area.faults c.args.pool.now c.reply_to_online.new.pool (e.cause failed)), e.same);
       step = λ x rep. replied_switch g.R.Rack g.A.Area (choices_by (FnReturnsAt g.F.Fn c.args.chooser.now)) c.args.line.now x c.reply_to_online.new.pool c.in-Online.leaf false c.reply_to_online.result is (e.step x rep);
     }
 
@@ -102,8 +103,31 @@ returns-in-Spare g c =
           (each_reply c.reply_to_spare.result (λ reply. Teaches (AttachSpare c.in-Spare.slot c.in-Spare.spare) reply c.args.pool.now c.reply_to_spare.new.pool)
           (λ reply. teaches_nothing (AttachSpare c.in-Spare.slot c.in-Spare.spare) reply (λ known. refl) c.args.pool.now c.reply_to_spare.new.pool e.same));
       arms = subst (λ k. IfOk c.reply_to_spare.result (λ reply. ArmsBehind k reply c.reply_to_spare.new.pool.metaslabs.shards.items)) (sym is) e.arms;
-      breaks = λ failed. (subst MayBreak (sym is) tt, rose_fails g.A.Area.faults c.args.pool.now c.reply_to_spare.new.pool (e.cause failed), e.same);
+      breaks = λ failed. (subst MayBreak (sym is) tt, inl (rose_fails g.A.Area.faults c.args.pool.now c.reply_to_spare.new.pool (e.cause failed)), e.same);
       step = λ x rep. replied_spare g.R.Rack g.A.Area (choices_by (FnReturnsAt g.F.Fn c.args.chooser.now)) c.args.line.now x c.reply_to_spare.new.pool c.in-Spare.slot c.in-Spare.spare c.reply_to_spare.result c.in-Spare.is (e.step x rep);
+    }
+
+pub returns-in-Replace : goal.returns-in-Replace
+returns-in-Replace g c =
+    let e = c.reply_to_replace.ensures in
+    let is = ap command_in c.in-Replace.is in
+    record {
+      whole = e.whole;
+      fits = subst (λ k. IfOk c.reply_to_replace.result (IsReplyTo k)) (sym is) e.fits;
+      knows = subst (λ k. IfOk c.reply_to_replace.result (λ reply. Teaches k reply c.args.pool.now c.reply_to_replace.new.pool)) (sym is)
+          (each_reply c.reply_to_replace.result (λ reply. Teaches (ReplaceDisk c.in-Replace.slot c.in-Replace.sectors) reply c.args.pool.now c.reply_to_replace.new.pool)
+          (λ reply. teaches_nothing (ReplaceDisk c.in-Replace.slot c.in-Replace.sectors) reply (λ known. refl) c.args.pool.now c.reply_to_replace.new.pool e.same));
+      arms = subst (λ k. IfOk c.reply_to_replace.result (λ reply. ArmsBehind k reply c.reply_to_replace.new.pool.metaslabs.shards.items)) (sym is)
+          (each_reply c.reply_to_replace.result (λ reply. ArmsBehind (ReplaceDisk c.in-Replace.slot c.in-Replace.sectors) reply c.reply_to_replace.new.pool.metaslabs.shards.items) (λ reply. tt));
+      breaks = λ failed. (
+        subst MayBreak (sym is) tt,
+        (elim (e.cause failed) [
+          | inl rose ↦ inl (rose_fails g.A.Area.faults c.args.pool.now c.reply_to_replace.new.pool rose)
+          | inr fails ↦ inr (subst MakesLeaves (sym is) tt, fails)
+        ]),
+        e.same,
+      );
+      step = λ x rep. replied_replace g.R.Rack g.A.Area (choices_by (FnReturnsAt g.F.Fn c.args.chooser.now)) c.args.line.now x c.reply_to_replace.new.pool c.in-Replace.slot c.in-Replace.sectors c.reply_to_replace.result c.in-Replace.is (e.step x rep);
     }
 
 pub returns-in-Detach : goal.returns-in-Detach
@@ -118,7 +142,7 @@ returns-in-Detach g c =
           (λ reply. teaches_nothing (DetachArm c.in-Detach.arm) reply (λ known. refl) c.args.pool.now c.reply_to_detach.new.pool e.same));
       arms = subst (λ k. IfOk c.reply_to_detach.result (λ reply. ArmsBehind k reply c.reply_to_detach.new.pool.metaslabs.shards.items)) (sym is)
           (each_reply c.reply_to_detach.result (λ reply. ArmsBehind (DetachArm c.in-Detach.arm) reply c.reply_to_detach.new.pool.metaslabs.shards.items) (λ reply. tt));
-      breaks = λ failed. (subst MayBreak (sym is) tt, rose_fails g.A.Area.faults c.args.pool.now c.reply_to_detach.new.pool (e.cause failed), e.same);
+      breaks = λ failed. (subst MayBreak (sym is) tt, inl (rose_fails g.A.Area.faults c.args.pool.now c.reply_to_detach.new.pool (e.cause failed)), e.same);
       step = λ x rep. replied_detach g.R.Rack g.A.Area (choices_by (FnReturnsAt g.F.Fn c.args.chooser.now)) c.args.line.now x c.reply_to_detach.new.pool c.in-Detach.arm c.reply_to_detach.result c.in-Detach.is (e.step x rep);
     }
 
@@ -133,7 +157,7 @@ returns-in-Upgrade g c =
           (each_reply c.reply_to_upgrade.result (λ reply. Teaches UpgradePool reply c.args.pool.now c.reply_to_upgrade.new.pool) (λ reply. teaches_nothing UpgradePool reply (λ known. refl) c.args.pool.now c.reply_to_upgrade.new.pool e.same));
       arms = subst (λ k. IfOk c.reply_to_upgrade.result (λ reply. ArmsBehind k reply c.reply_to_upgrade.new.pool.metaslabs.shards.items)) (sym is)
           (each_reply c.reply_to_upgrade.result (λ reply. ArmsBehind UpgradePool reply c.reply_to_upgrade.new.pool.metaslabs.shards.items) (λ reply. tt));
-      breaks = λ failed. (subst MayBreak (sym is) tt, rose_fails g.A.Area.faults c.args.pool.now c.reply_to_upgrade.new.pool (e.cause failed), e.same);
+      breaks = λ failed. (subst MayBreak (sym is) tt, inl (rose_fails g.A.Area.faults c.args.pool.now c.reply_to_upgrade.new.pool (e.cause failed)), e.same);
       step = λ x rep. replied_upgrade g.R.Rack g.A.Area (choices_by (FnReturnsAt g.F.Fn c.args.chooser.now)) c.args.line.now x c.reply_to_upgrade.new.pool c.reply_to_upgrade.result c.in-Upgrade.is (e.step x rep);
     }
 
@@ -159,7 +183,7 @@ returns-in-Status g c = record {
 
 pub unreachable-requires : goal.unreachable-requires
 unreachable-requires g c =
-    c.requires.asks (asks_nothing c.args.line.now c.in_default.not-Write c.in_default.not-Fill c.in_default.not-Read c.in_default.not-Free c.in_default.not-Sum c.in_default.not-Offline c.in_default.not-Online c.in_default.not-Damage c.in_default.not-Spare c.in_default.not-Status c.in_default.not-Detach c.in_default.not-Upgrade)
+    c.requires.asks (asks_nothing c.args.line.now c.in_default.not-Write c.in_default.not-Fill c.in_default.not-Read c.in_default.not-Free c.in_default.not-Sum c.in_default.not-Offline c.in_default.not-Online c.in_default.not-Damage c.in_default.not-Spare c.in_default.not-Replace c.in_default.not-Status c.in_default.not-Detach c.in_default.not-Upgrade)
 
 pub reply_to_write-requires-clause-range : goal.reply_to_write-requires-clause-range
 reply_to_write-requires-clause-range g c = subst IsInRange (ap command_in c.in-Write.is ∙ ap (WriteObject c.in-Write.object) (sym c.deref.ensures.value)) c.requires.range
@@ -202,6 +226,9 @@ reply_to_offline-requires g c = record { whole = c.requires.whole }
 
 pub reply_to_online-requires : goal.reply_to_online-requires
 reply_to_online-requires g c = record { whole = c.requires.whole }
+
+pub reply_to_replace-requires : goal.reply_to_replace-requires
+reply_to_replace-requires g c = record { whole = c.requires.whole }
 
 pub reply_to_spare-requires : goal.reply_to_spare-requires
 reply_to_spare-requires g c = record { whole = c.requires.whole }
