@@ -327,7 +327,8 @@ static NOT_MADE: &str = "create draid1:2d:3c:0s-0 stripes=24\nshelf fault\n";
 
 static LATER: &str = "import\nstatus\nreplace 0\ndetach 3\n";
 
-static MADE_LATER: &str = "import draid1:2d:3c:0s-0 group=1 objects=0\npool draid1:2d:3c:0s-0 group=1 open=2 objects=0\nslot 0 leaf 0 online logged=0\nslot 1 leaf 1 online logged=0\nslot 2 leaf 2 online logged=0\nmetaslab 0 free=8 blocks=0 none\nmetaslab 1 free=8 blocks=0 none\nmetaslab 2 free=8 blocks=0 none\nend\nreplace 0 leaf=3 ok\ndetach 3 ok group=2\n";
+static MADE_LATER: &str =
+    "import draid1:2d:3c:0s-0 group=1 objects=0\npool draid1:2d:3c:0s-0 group=1 open=2 objects=0\nslot 0 leaf 0 online logged=0\nslot 1 leaf 1 online logged=0\nslot 2 leaf 2 online logged=0\nmetaslab 0 free=8 blocks=0 none\nmetaslab 1 free=8 blocks=0 none\nmetaslab 2 free=8 blocks=0 none\nend\nreplace 0 leaf=3 ok\ndetach 3 ok group=2\n";
 
 /// Whether a run ends in which the second metaslab can't get the leaf of a new disk, and a later run finds the pool as it
 /// was, and gives the disk the number that the first one didn't use up.
