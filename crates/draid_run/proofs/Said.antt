@@ -5,7 +5,7 @@ use Rattle.std.specs.declared.alloc.Global.{Global}
 use Rattle.draid_names.specs.declared.fault.NoMemory.{NoMemory as Starved}
 use Rattle.draid_names.specs.declared.refusal.ObjectFault.{ObjectFault}
 use Rattle.draid_names.specs.declared.refusal.ObjectFault.TheVariants as object
-use Rattle.draid_script.specs.Line.{AttachSpare, Command, DamageSector, FreeObject, ReadObject, ShowStatus, SumObjects, TakeOffline, TakeOnline, DetachArm, UpgradePool, ReplaceDisk}
+use Rattle.draid_script.specs.Line.{AttachSpare, Command, DamageSector, FreeObject, ReadObject, ShowStatus, SumObjects, TakeOffline, TakeOnline, DetachArm, UpgradePool, ReplaceDisk, CancelPasses}
 use Rattle.draid_script.specs.declared.name.CommandName.{CommandName}
 use Rattle.draid_script.specs.declared.name.CommandName.TheVariants as name
 use Rattle.draid_script.specs.declared.line.StatusFormat.{StatusFormat}
@@ -34,6 +34,7 @@ use Rattle.draid_pool.specs.declared.fault.SyncFault.TheVariants as sync
 use Rattle.draid_changes.specs.declared.fault.ArmFault.{ArmFault}
 use Rattle.draid_changes.specs.declared.fault.ArmFault.TheVariants as arm
 use Rattle.draid_run.specs.Desks.{AnswerDoes, BreaksBy}
+use Rattle.draid_visits.specs.Says.{CancelSays}
 use Rattle.draid_store.specs.Answers.{DamageDoes, FreeDoes, ReadDoes, SumDoes}
 use Rattle.draid_store.specs.declared.fault.DamageFault.{DamageFault}
 use Rattle.draid_store.specs.declared.fault.DamageFault.TheVariants as damaged
@@ -162,6 +163,9 @@ module _ (x : State) (choices : Choices) (reply : Reply) (holds : List Hold) (st
     by : (answer : Result (List ℕ) SumFault) → SumDoes x first count answer holds store → ReplyDoes x choices (SumObjects first count) (sum_reply first count answer) holds store
     by (Ok digest) does = (refl, refl, does.0, does.1)
     by (Err fault) does = does
+
+  pub cancel_does : CancelSays reply x holds store → ReplyDoes x choices CancelPasses reply holds store
+  cancel_does said = subst (λ r. ReplyDoes x choices CancelPasses r holds store) (sym said.1) said.2
 
   pub damage_does : (leaf sector : ℕ) → DamageSays leaf sector reply x holds store → ReplyDoes x choices (DamageSector leaf sector) reply holds store
   damage_does leaf sector said = subst (λ r. ReplyDoes x choices (DamageSector leaf sector) r holds store) (sym said.1) (by said.0 said.2) where

@@ -127,6 +127,7 @@ module _ (choices : Choices) (finds : Finding → Type 0) where
   shut_says (ShowStatus form) called is x = (called, is, refl, refl)
   shut_says (DetachArm arm) called is x = (called, is, refl, refl)
   shut_says UpgradePool called is x = (called, is, refl, refl)
+  shut_says CancelPasses called is x = (called, is, refl, refl)
   shut_says command called is x = absurd (cc is)
 
   by_desk : {R A : Type 0} (rack : racks.Ghosts R) (area : areas.Ghosts A) (command : Command) (reply : Reply) (x : Desk) → IsPool rack area None x → session.ShutTurns finds x command reply x
@@ -203,7 +204,8 @@ module _ {R A : Type 0} (rack : racks.Ghosts R) (area : areas.Ghosts A) (choices
   by_ask ImportPool called is = absurd (cc is)
   by_ask ExportPool called is = absurd (cc is)
   by_ask SyncPool called is = absurd (cc is)
-  by_ask CancelPasses called is = absurd (cc is)
+  by_ask CancelPasses called is = turned_by CancelPasses called is (λ y z c same. (refl, (z, c, same))) (λ old new fits learns same. (refl, (fits, new, learns, same))) (λ x stands.
+      (refl, by_desk choices (MayFind rack area entry) rack area CancelPasses (NoPool called) x stands (shut_says choices (MayFind rack area entry) CancelPasses called is x)))
   by_ask CrashPool called is = absurd (cc is)
   by_ask (TakeOffline leaf) called is = turned_by (TakeOffline leaf) called is (λ y z c same. (refl, (z, c, same))) (λ old new fits learns same. (refl, (fits, new, learns, same))) (λ x stands.
       (refl, by_desk choices (MayFind rack area entry) rack area (TakeOffline leaf) (NoPool called) x stands (shut_says choices (MayFind rack area entry) (TakeOffline leaf) called is x)))

@@ -35,6 +35,7 @@ use draid_status::reply_to_status;
 use draid_store::{
     fill, reply_to_damage, reply_to_free, reply_to_read, reply_to_sum, reply_to_write,
 };
+use draid_visits::reply_to_cancel;
 use std::alloc::Global;
 use std::thread::Threads;
 
@@ -71,6 +72,7 @@ pub(crate) fn reply<R: Rack, A: Area, F: Fn(&[Room]) -> Option<u32>>(
         Line::Sum { first, count } => Ok(reply_to_sum(rt, pool, *first, *count)),
         Line::Offline { leaf } => reply_to_offline(pool, *leaf),
         Line::Online { leaf } => reply_to_online(pool, *leaf),
+        Line::Cancel => Ok(reply_to_cancel(pool)),
         Line::Damage { leaf, sector } => Ok(reply_to_damage(pool, *leaf, *sector)),
         Line::Replace { slot, sectors } => reply_to_replace(pool, *slot, *sectors),
         Line::Spare { slot, spare } => reply_to_spare(alloc, pool, *slot, *spare),

@@ -1,8 +1,9 @@
-//! Changes of the arms of a metaslab, one after another.
+//! Changes of the arms of a metaslab, one after another, also while a pass is there.
 
-ghost use Rattle.std.specs.Prelude.{◌≡◌, ◌<◌, Some, IfOk, IfSome, true};
+ghost use Rattle.std.specs.Prelude.{◌≡◌, ◌<◌, Some, IfOk, IfSome, IsSome, IsSomeAnd, true};
 ghost use Rattle.draid_entries.specs.History.{reserved_of};
 ghost use Rattle.draid_disks.specs.Disks.{HasArmRoom};
+ghost use Rattle.draid_passing.specs.Passing.{IsPlanned};
 ghost use Rattle.draid_rack.specs.Rack.{HasJust};
 ghost use Rattle.draid_spec.specs.Geometry.{IsGeometry, metaslab_sectors};
 ghost use Rattle.draid_shard.specs.Fits.{Valid};
@@ -16,7 +17,8 @@ use draid_create::create_metaslab;
 use draid_disks::{attach, detach, make_leaf, offline, online, reserve};
 use draid_import::reopen;
 use draid_machine::ArmName;
-use draid_names::{Arm, ArmAt, ArmKind, SlotFault};
+use draid_names::{Arm, ArmAt, ArmKind, PassKind, SlotFault};
+use draid_passing::{PlanFault, cancel, plan, ready};
 use draid_perm::Perms;
 use draid_pool::into_kit;
 use draid_rack::Rack;
@@ -54,6 +56,12 @@ enum Step {
     Detach(u32, u32, ArmName),
     /// The open group is committed.
     Sync,
+    /// A pass is planned, with this number or refused so.
+    Plan(PassKind, Result<u64, PlanFault>),
+    /// A rebuild that waits runs, or waits on.
+    Ready(bool),
+    /// The pass is ended.
+    Cancel,
 }
 
 /// Why a step is refused; None where it is done.
@@ -75,7 +83,44 @@ fn does<R: Rack, A: Area>(shard: &mut Shard<R, A>, step: Step) -> Option<Fault>
             sync(shard);
             Some(None)
         }
+        Step::Plan(kind, wanted) if plan(shard, kind) == wanted => Some(None),
+        Step::Plan(_, _) => None,
+        Step::Ready(runs) => readies(shard, runs),
+        Step::Cancel => cancels(shard),
     }
+}
+
+/// Whether a rebuild waits until it may run.
+fn is_planned<R: Rack, A: Area>(shard: &Shard<R, A>) -> bool
+    ensures { result ≡ true → IsSomeAnd shard.now.pass IsPlanned }
+{
+    match &shard.pass {
+        Some(pass) => matches!(pass.kind, PassKind::Rebuild) && !pass.running,
+        None => false,
+    }
+}
+
+/// Lets a rebuild that waits run, if it may.
+fn readies<R: Rack, A: Area>(shard: &mut Shard<R, A>, runs: bool) -> Option<Fault>
+    requires valid { Valid R.Rack shard.old }
+    ensures valid { Valid R.Rack shard.new }
+{
+    if !is_planned(shard) || ready(shard).is_ok() != runs {
+        return None;
+    }
+    Some(None)
+}
+
+/// Ends the pass.
+fn cancels<R: Rack, A: Area>(shard: &mut Shard<R, A>) -> Option<Fault>
+    requires valid { Valid R.Rack shard.old }
+    ensures valid { Valid R.Rack shard.new }
+{
+    if shard.pass.is_none() {
+        return None;
+    }
+    cancel(shard);
+    Some(None)
 }
 
 /// Makes a leaf.
@@ -297,7 +342,7 @@ type Row = (&'static str, &'static [(Step, Fault)], &'static [Told]);
 
 // In the one slice the columns stand on the slots 4, 2 and 3, spare 0 at slot 0 and spare 1 at slot 1. The open group is 2, and
 // one more behind each commit; an arm that comes missed all groups up to it.
-static ROWS: [Row; 9] = [
+static ROWS: [Row; 12] = [
     (
         "a spare comes",
         &[(Step::Spare(1, 0), None)],
@@ -390,6 +435,57 @@ static ROWS: [Row; 9] = [
             (3, 0, ArmKind::Leaf, 3, true, false, 0),
             (1, 0, ArmKind::Leaf, 1, false, false, 0),
         ],
+    ),
+    (
+        "a rebuild waits for the group behind which its last one comes",
+        &[
+            (Step::Plan(PassKind::Rebuild, Err(PlanFault::Nothing)), None),
+            (Step::Spare(2, 0), None),
+            (Step::Plan(PassKind::Rebuild, Ok(1)), None),
+            (
+                Step::Plan(PassKind::Rebuild, Err(PlanFault::PassRunning { number: 1 })),
+                None,
+            ),
+            (Step::Ready(false), None),
+            (Step::Sync, None),
+            (Step::Ready(true), None),
+            (Step::Cancel, None),
+        ],
+        &[(2, 1, ArmKind::Spare, 0, false, true, 3)],
+    ),
+    (
+        "a rebuild that waits is planned again as a spare comes",
+        &[
+            (Step::Spare(2, 0), None),
+            (Step::Plan(PassKind::Rebuild, Ok(1)), None),
+            (Step::Spare(3, 1), None),
+            (
+                Step::Plan(PassKind::Heal, Err(PlanFault::PassRunning { number: 2 })),
+                None,
+            ),
+            (Step::Cancel, None),
+            (Step::Sync, None),
+        ],
+        &[
+            (2, 1, ArmKind::Spare, 0, false, true, 3),
+            (3, 1, ArmKind::Spare, 1, false, true, 3),
+        ],
+    ),
+    (
+        "a scrub runs at once, and stays as a spare comes",
+        &[
+            (Step::Plan(PassKind::Heal, Ok(1)), None),
+            (Step::Spare(2, 0), None),
+            (
+                Step::Plan(PassKind::Heal, Err(PlanFault::PassRunning { number: 1 })),
+                None,
+            ),
+            (Step::Cancel, None),
+            (Step::Plan(PassKind::Rebuild, Ok(2)), None),
+            (Step::Cancel, None),
+            (Step::Sync, None),
+        ],
+        &[(2, 1, ArmKind::Spare, 0, false, true, 3)],
     ),
 ];
 

@@ -1,7 +1,7 @@
 use Rattle.std.proofs.Common.{◌∙◌, inl, inr, true, false, IfOk, ap, refl, subst, sym}
 use Rattle.std.specs.Fn.{FnReturnsAt}
 use Rattle.draid_session.specs.Choices.{choices_by}
-use Rattle.draid_script.specs.Line.{AttachSpare, FillObjects, IsInRange, TakeOffline, TakeOnline, DetachArm, UpgradePool, WriteObject, command_in, ReplaceDisk}
+use Rattle.draid_script.specs.Line.{AttachSpare, FillObjects, IsInRange, TakeOffline, TakeOnline, DetachArm, UpgradePool, WriteObject, command_in, ReplaceDisk, CancelPasses}
 use Rattle.draid_session.specs.Replies.{IsReplyTo}
 use Rattle.draid_pool.specs.Knows.{Teaches}
 use Rattle.draid_pool.proofs.Rises.{rose_fails}
@@ -9,7 +9,7 @@ use Rattle.draid_pool.proofs.Taught.{teaches_nothing}
 use Rattle.draid_session.specs.Certain.{MakesLeaves}
 use Rattle.draid_session.specs.Session.{MayBreak}
 use Rattle.draid_changes.specs.Behind.{ArmsBehind}
-use Rattle.draid_run.proofs.Asking.{asks_nothing, each_reply, replied_as, replied_damage, replied_detach, replied_free, replied_read, replied_spare, replied_status, replied_sum, replied_switch, replied_upgrade, replied_replace}
+use Rattle.draid_run.proofs.Asking.{asks_nothing, each_reply, replied_as, replied_damage, replied_detach, replied_free, replied_read, replied_spare, replied_status, replied_sum, replied_switch, replied_upgrade, replied_replace, replied_cancel}
 use Rattle.draid_run.proofs.replies.reply.Goals as goal
 
 pub returns-in-Write : goal.returns-in-Write
@@ -161,6 +161,17 @@ returns-in-Upgrade g c =
       step = λ x rep. replied_upgrade g.R.Rack g.A.Area (choices_by (FnReturnsAt g.F.Fn c.args.chooser.now)) c.args.line.now x c.reply_to_upgrade.new.pool c.reply_to_upgrade.result c.in-Upgrade.is (e.step x rep);
     }
 
+pub returns-in-Cancel : goal.returns-in-Cancel
+returns-in-Cancel g c = record {
+  whole = c.reply_to_cancel.ensures.whole;
+  fits = subst (λ k. IsReplyTo k c.reply_to_cancel.result) (sym (ap command_in c.in-Cancel.is)) c.reply_to_cancel.ensures.fits;
+  knows = subst (λ k. Teaches k c.reply_to_cancel.result c.args.pool.now c.reply_to_cancel.new.pool) (sym (ap command_in c.in-Cancel.is))
+      (teaches_nothing CancelPasses c.reply_to_cancel.result (λ known. refl) c.args.pool.now c.reply_to_cancel.new.pool c.reply_to_cancel.ensures.same);
+  arms = subst (λ k. ArmsBehind k c.reply_to_cancel.result c.reply_to_cancel.new.pool.metaslabs.shards.items) (sym (ap command_in c.in-Cancel.is)) tt;
+  breaks = λ failed. absurd (cc failed);
+  step = λ x rep. replied_cancel g.R.Rack g.A.Area (choices_by (FnReturnsAt g.F.Fn c.args.chooser.now)) c.args.line.now x c.reply_to_cancel.new.pool c.reply_to_cancel.result c.in-Cancel.is (c.reply_to_cancel.ensures.step x rep);
+}
+
 pub returns-in-Damage : goal.returns-in-Damage
 returns-in-Damage g c = record {
   whole = c.reply_to_damage.ensures.whole;
@@ -183,7 +194,7 @@ returns-in-Status g c = record {
 
 pub unreachable-requires : goal.unreachable-requires
 unreachable-requires g c =
-    c.requires.asks (asks_nothing c.args.line.now c.in_default.not-Write c.in_default.not-Fill c.in_default.not-Read c.in_default.not-Free c.in_default.not-Sum c.in_default.not-Offline c.in_default.not-Online c.in_default.not-Damage c.in_default.not-Spare c.in_default.not-Replace c.in_default.not-Status c.in_default.not-Detach c.in_default.not-Upgrade)
+    c.requires.asks (asks_nothing c.args.line.now c.in_default.not-Write c.in_default.not-Fill c.in_default.not-Read c.in_default.not-Free c.in_default.not-Sum c.in_default.not-Offline c.in_default.not-Online c.in_default.not-Damage c.in_default.not-Spare c.in_default.not-Replace c.in_default.not-Status c.in_default.not-Detach c.in_default.not-Upgrade c.in_default.not-Cancel)
 
 pub reply_to_write-requires-clause-range : goal.reply_to_write-requires-clause-range
 reply_to_write-requires-clause-range g c = subst IsInRange (ap command_in c.in-Write.is ∙ ap (WriteObject c.in-Write.object) (sym c.deref.ensures.value)) c.requires.range
@@ -214,6 +225,9 @@ reply_to_free-requires g c = record { whole = c.requires.whole }
 
 pub reply_to_read-requires : goal.reply_to_read-requires
 reply_to_read-requires g c = record { whole = c.requires.whole }
+
+pub reply_to_cancel-requires : goal.reply_to_cancel-requires
+reply_to_cancel-requires g c = record { whole = c.requires.whole }
 
 pub reply_to_damage-requires : goal.reply_to_damage-requires
 reply_to_damage-requires g c = record { whole = c.requires.whole }
