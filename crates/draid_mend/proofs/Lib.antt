@@ -1,0 +1,15 @@
+mod Columned
+mod Facts
+mod Freed
+mod Lacking
+mod Landed
+mod Lends
+mod Loaned
+mod Named
+mod Mends
+mod Read
+mod Solved
+mod Sourced
+mod Standing
+mod Targeted
+mod Units
