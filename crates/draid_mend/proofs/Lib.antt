@@ -5,6 +5,7 @@ mod Lacking
 mod Landed
 mod Lends
 mod Loaned
+mod Missed
 mod Named
 mod Mends
 mod Read

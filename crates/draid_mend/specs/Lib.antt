@@ -2,6 +2,7 @@ pub mod Landing
 pub mod Lending
 pub mod Loans
 pub mod Mending
+pub mod Missing
 pub mod Reading
 pub mod Solving
 pub mod Sources

@@ -22,6 +22,6 @@ pub use lending::{Readings, read_stripe};
 pub use loans::{LendFault, Lent, lend};
 pub use mending::{Mended, mend_column};
 pub use reading::{Taken, read_into, read_source};
-pub use solving::solve_missing;
+pub use solving::{solve, solve_missing};
 pub use sources::source_arm;
 pub use targets::mend_targets;
