@@ -1,4 +1,5 @@
 mod Columned
+mod Counted
 mod Facts
 mod Freed
 mod Lacking

@@ -20,6 +20,9 @@ ghost use Rattle.draid_slots.specs.Changes.{IsOf};
 ghost use Rattle.draid_slots.specs.States.{HasSlots, names_at};
 ghost use Rattle.draid_slots.specs.Table.{SlotTable};
 ghost use Rattle.draid_shard.specs.Part.{IsPart, IsRun, Part, layout_in};
+ghost use Rattle.draid_shard.specs.Loans.{loan_in};
+ghost use Rattle.draid_shard.specs.declared.loan.KeptLoan.{KeptLoan};
+ghost use Rattle.draid_mend.specs.Missing.{missing_of};
 ghost use Rattle.draid_names.specs.declared.arm.ArmAt.{ArmAt};
 ghost use Rattle.draid_shard.specs.Rows.{AreApart};
 ghost use Rattle.draid_mend.specs.Lending.{Lends, chosen_in, loan_of};
@@ -118,4 +121,10 @@ pub fn targets_are_no_sources()
     ensures { (part : Part) (slots : SlotTable) (w : machine.State) (p : machine.Pass) (key : Key) (h : Held) (targets : List ArmAt)
         → IsPart part → IsReached (layout_in part) w → HasSlots slots w.core → w.core.pass ≡ Some p → p.kind ≡ Rebuild
         → w.core.held key ≡ Some h → p.targets ≡ names_at slots targets → AreThere slots targets → HasNoSource slots targets }
+{}
+
+/// Law: the columns of a loan that are listed as missing are those without a source, and as many as the machine counts.
+pub fn missing_columns_are_listed()
+    ensures missing { (l : machine.Layout) (kept : KeptLoan) → l.columns ≡ length kept.chosen.items → AreMissing l (loan_in kept) (missing_of kept) }
+    ensures many { (l : machine.Layout) (kept : KeptLoan) → l.columns ≡ length kept.chosen.items → unsourced l (loan_in kept) ≡ length (missing_of kept) }
 {}

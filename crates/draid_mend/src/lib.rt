@@ -15,8 +15,9 @@ mod targets;
 
 pub use landing::land_columns;
 pub use laws::{
-    loans_begin_right, solved_columns_are_right, sources_taint, stripes_are_landed,
-    stripes_are_lent, stripes_are_mended, stripes_land_apart, targets_are_no_sources,
+    loans_begin_right, missing_columns_are_listed, solved_columns_are_right, sources_taint,
+    stripes_are_landed, stripes_are_lent, stripes_are_mended, stripes_land_apart,
+    targets_are_no_sources,
 };
 pub use lending::{Readings, read_stripe};
 pub use loans::{LendFault, Lent, lend};
