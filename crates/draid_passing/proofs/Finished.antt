@@ -1,5 +1,5 @@
 -- A pass ends: what the shard is then, and for which states it stands.
-use Rattle.std.proofs.Common.{◌≡◌, ◌==◌, ◌+◌, ◌<◌, ◌≤◌, ◌^◌, ◌&&◌, not, ◌∙◌, ℕ, zero, suc, Bool, true, false, List, Option, Some, None, IfSome, Vec, Global, option_map, arith, refl, sym, ap, ap₂, subst, inl, inr, length, min, nat_le, if◌then◌else◌}
+use Rattle.std.proofs.Common.{◌≡◌, ◌==◌, ◌+◌, ◌<◌, ◌≤◌, ◌^◌, ◌&&◌, not, ◌∙◌, ℕ, zero, suc, Bool, true, false, List, Option, Some, None, Vec, Global, option_map, arith, refl, sym, ap, ap₂, subst, inl, inr, length, min, nat_le, if◌then◌else◌}
 use Rattle.std.specs.Prelude.{Contains, slice_index_or}
 use Rattle.std.specs.List.{list_any}
 use Rattle.std.proofs.lemmas.Bool.{cases_lt}
@@ -24,8 +24,7 @@ use Rattle.draid_slots.specs.States.{name_of}
 use Rattle.draid_slots.specs.Table.{IsThere, SlotTable, arm_at, arms_of, is_leaf_kind, is_logged, room_at}
 use Rattle.draid_shard.specs.Alike.{ShareArms}
 use Rattle.draid_shard.specs.Fits.{AreGroups, IsLeaf, NamesOnce, Tables, Valid, birth_groups, changes_for_end, lacking, oldest_open, owed_for_pass}
-use Rattle.draid_shard.specs.Loans.{IsKept}
-use Rattle.draid_shard.specs.declared.loan.KeptLoan.{KeptLoan}
+use Rattle.draid_shard.specs.Loans.{owed_for_loan}
 use Rattle.draid_shard.specs.declared.shard.Shard.{Shard}
 use Rattle.draid_passing.specs.Ending.{last_good}
 use Rattle.draid_passing.proofs.Rooms.{lacking_most}
@@ -140,11 +139,11 @@ good_low pass committed low = by pass.kind
 module _ {R A : Type 0} (rack : Ghosts R) (old : Shard R A) (v : Valid rack old) (pass : Pass) (there : old.pass ≡ Some pass) (good : Pass) (kind_is : good.kind ≡ pass.kind) (good_is : good.max ≤ last_good pass old.committed)
     (r : R) (shape : rack.shape r ≡ rack.shape old.rack) (slots : SlotTable) (excises : Excises old.slots slots (is_good good) good.max) (space : Stripes) (flushed : Vec ℕ Global) (history : History) where
   abbrev pub after : Shard R A
-  after = record old { rack = r; slots = slots; space = space; pass = None; flushed = flushed; history = history }
+  after = record old { rack = r; slots = slots; space = space; pass = None; kept = None; flushed = flushed; history = history }
 
-  pub done_valid : old.kept ≡ None → space ≡ record old.space { disabled = false } → owed_of history + owed_for_pass old.pass ≡ owed_of old.history → reserved_of history ≡ reserved_of old.history
+  pub done_valid : space ≡ record old.space { disabled = false } → owed_of history + (owed_for_pass old.pass + owed_for_loan old.kept) ≡ owed_of old.history → reserved_of history ≡ reserved_of old.history
       → stored_of old.history ≤ stored_of history → Valid rack after
-  done_valid none space_is owed reserved stored = record {
+  done_valid space_is owed reserved stored = record {
     part = v.part;
     version = v.version;
     asked = v.asked;
@@ -159,7 +158,7 @@ module _ {R A : Type 0} (rack : Ghosts R) (old : Shard R A) (v : Valid rack old)
     };
     once = once_good old.slots slots (is_good good) good.max excises v.once;
     pass = tt;
-    kept = subst (λ (o : Option KeptLoan). IfSome o (IsKept old.geometry None)) (sym none) tt;
+    kept = tt;
     serial = (let low = v.serial in omega (arith, low, stored));
     flushed = tt;
     logs = λ at is. enough at is pass.kind refl;

@@ -4,6 +4,7 @@ mod Does
 mod Finished
 mod Flushed
 mod Following
+mod Lacking
 mod Planned
 mod Readied
 mod Rooms

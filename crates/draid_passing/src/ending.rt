@@ -1,4 +1,5 @@
-ghost use Rattle.std.specs.Prelude.{◌≡◌, ◌*◌, ◌≤◌, [], All, IsSomeAnd, None, true, vec_capacity};
+ghost use Rattle.std.specs.Prelude.{◌≡◌, ◌*◌, ◌≤◌, [], All, IfSome, IsSomeAnd, None, true, vec_capacity};
+ghost use Rattle.draid_names.specs.declared.pass_kind.PassKind.TheVariants.{Heal};
 ghost use Rattle.draid_pass.specs.declared.pass.Pass.{Pass};
 ghost use Rattle.draid_shard.specs.Alike.{ShareArms};
 ghost use Rattle.draid_shard.specs.Calls.{SameAreas, SameReserve};
@@ -8,7 +9,7 @@ ghost use Rattle.draid_slots.specs.Table.{IsThere};
 ghost use Rattle.draid_passing.specs.Ending.{Ends, FirmsBy, HasNothingLeft, IsEnded, last_good};
 
 use crate::flushing::flush_targets;
-use crate::owing::owed_for_pass;
+use crate::owing::{owed_for_loan, owed_for_pass};
 use draid_area::Area;
 use draid_machine::Event;
 use draid_marks::silent_marks;
@@ -33,7 +34,7 @@ pub fn done<R: Rack, A: Area>(shard: &mut Shard<R, A>) -> Ended
     requires valid { Valid R.Rack shard.old }
     requires running { IsSomeAnd shard.old.pass (λ (p : Pass). p.running ≡ true) }
     requires left { HasNothingLeft shard.old }
-    requires none { shard.old.kept ≡ None }
+    requires none { IfSome shard.old.pass (λ (p : Pass). p.kind ≡ Heal → shard.old.kept ≡ None) }
     ensures valid { Valid R.Rack shard.new }
     ensures areas { SameAreas shard.old shard.new }
     ensures ends { Ends R.Rack shard.old shard.new result }
@@ -42,7 +43,7 @@ pub fn done<R: Rack, A: Area>(shard: &mut Shard<R, A>) -> Ended
     ensures over { shard.new.pass ≡ None }
     ensures reserve { SameReserve shard.old shard.new }
 {
-    let used = owed_for_pass(&shard.pass);
+    let used = owed_for_pass(&shard.pass) + owed_for_loan(&shard.kept);
     let Some(mut pass) = shard.pass.take() else {
         unreachable!()
     };
@@ -52,6 +53,7 @@ pub fn done<R: Rack, A: Area>(shard: &mut Shard<R, A>) -> Ended
     pass.max = last_good(&pass, shard.committed);
     let ended = ended_by(&pass);
     end(&mut shard.slots, &pass);
+    shard.kept = None;
     shard.space.enable();
     shard.history.add(Event::Done { failed }, used);
     ended

@@ -1,4 +1,5 @@
-use Rattle.std.proofs.Common.{◌≡◌, ◌∙◌, ℕ, Option, Some, arith, refl, subst, sym}
+use Rattle.std.proofs.Common.{◌≡◌, ◌∙◌, ℕ, IfSome, Option, None, Some, arith, refl, subst, sym}
+use Rattle.draid_names.specs.declared.pass_kind.PassKind.TheVariants.{Heal}
 use Rattle.draid_machine.specs.After.{done_state, ended_pass}
 use Rattle.draid_pass.specs.declared.pass.Pass.{Pass}
 use Rattle.draid_slots.specs.States.{pass_in}
@@ -17,6 +18,10 @@ use Rattle.draid_passing.proofs.ending.done.Goals.{After-drop-pass}
 -- the pass that there was
 there : (g : given.Over) (c : After-drop-pass g) → c.args.shard.now.pass ≡ Some c.in-Some.pass
 there g c = sym c.take.ensures.value ∙ c.in-Some.is
+
+-- a scrub has no loan
+idle : (g : given.Over) (c : After-drop-pass g) → c.in-Some.pass.kind ≡ Heal → c.args.shard.now.kept ≡ None
+idle g c = subst (λ o. IfSome o (λ (p : Pass). p.kind ≡ Heal → c.args.shard.now.kept ≡ None)) (there g c) c.requires.none
 
 -- as it ends
 abbrev ended_pass_of : (g : given.Over) (c : After-drop-pass g) → Pass
@@ -40,12 +45,12 @@ returns-clause-valid g c =
     let pass = c.in-Some.pass in
     let mid = c.firm_targets.new.pass in
     let firms = c.firm_targets.ensures.firms in
-    subst (λ (o : Option Pass). Valid g.R.Rack (record old { rack = c.firm_targets.new.rack; slots = c.end.new.slots; space = c.enable.new.self; pass = o; flushed = c.replace-failed.new.dest; history = c.add.new.self }))
+    subst (λ (o : Option Pass). Valid g.R.Rack (record old { rack = c.firm_targets.new.rack; slots = c.end.new.slots; space = c.enable.new.self; pass = o; kept = None; flushed = c.replace-failed.new.dest; history = c.add.new.self }))
     (sym c.take.ensures.after)
     (done_valid g.R.Rack old v pass (there g c) (ended_pass_of g c) (mid_kind g.R.Rack old v pass mid (there g c) c.firm_targets.new.rack c.firm_targets.new.failed firms)
     (good_same g.R.Rack old v pass mid (there g c) c.firm_targets.new.rack c.firm_targets.new.failed firms) c.firm_targets.new.rack
     (shape_stays g.R.Rack old v pass mid (there g c) c.firm_targets.new.rack c.firm_targets.new.failed firms) c.end.new.slots (excises g c) c.enable.new.self c.replace-failed.new.dest c.add.new.self
-    c.requires.none c.enable.ensures (let owed = e.owed in let used = c.owed_for_pass-used.ensures in omega (arith, owed, used)) e.reserved (stored_more old.history c.add.new.self _ e.stored))
+    c.enable.ensures (let owed = e.owed in let used = c.owed_for_pass.ensures in let loan = c.owed_for_loan.ensures in omega (arith, owed, used, loan)) e.reserved (stored_more old.history c.add.new.self _ e.stored))
 
 pub returns-clause-ends : goal.returns-clause-ends
 returns-clause-ends g c =
@@ -57,7 +62,7 @@ returns-clause-ends g c =
     let failed = c.firm_targets.new.failed in
     let firms = c.firm_targets.ensures.firms in
     let is = there g c in
-    subst (λ (o : Option Pass). Ends g.R.Rack old (record old { rack = r; slots = c.end.new.slots; space = c.enable.new.self; pass = o; flushed = c.replace-failed.new.dest; history = c.add.new.self }) c.ended_by-ended.result)
+    subst (λ (o : Option Pass). Ends g.R.Rack old (record old { rack = r; slots = c.end.new.slots; space = c.enable.new.self; pass = o; kept = None; flushed = c.replace-failed.new.dest; history = c.add.new.self }) c.ended_by-ended.result)
     (sym c.take.ensures.after) (record {
       failed = failed;
       does = record {
@@ -65,8 +70,8 @@ returns-clause-ends g c =
         stored = c.add.ensures.stored;
         leads = λ w reached at. record {
           state = done_state w (ended_pass (layout_by old) w.core (pass_in old.slots pass) failed.items);
-          step = done_step g.R.Rack old v pass mid is r failed firms w reached at c.requires.running c.requires.left c.requires.none;
-          is_in = done_in g.R.Rack old v pass mid is r failed firms c.end.new.slots (state g c) c.enable.new.self c.replace-failed.new.dest c.add.new.self c.requires.none w reached at;
+          step = done_step g.R.Rack old v pass mid is r failed firms w reached at c.requires.running c.requires.left (idle g c);
+          is_in = done_in g.R.Rack old v pass mid is r failed firms c.end.new.slots (state g c) c.enable.new.self c.replace-failed.new.dest c.add.new.self c.requires.left (idle g c) w reached at;
         };
       };
       acts = λ pieces w after step reached at. done_acts g.R.Rack old v pass mid is r failed firms w reached at step.p step.pass;

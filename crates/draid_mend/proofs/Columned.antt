@@ -1,0 +1,220 @@
+-- One more column of a stripe lands.
+use Rattle.std.proofs.Common.{arith, ◌≡◌, ◌==◌, ◌+◌, ◌<◌, ◌≤◌, ◌*◌, ◌∙◌, ◌&&◌, ℕ, zero, suc, Bool, true, false, List, [], ◌∷◌, Option, Some, None, refl, sym, ap, subst, inl, inr, length, slice_get}
+use Rattle.std.proofs.Math.Nat.{mul-le-mul_right}
+use Rattle.std.proofs.lemmas.Bool.{cases_lt}
+use Rattle.draid_spec.specs.Geometry.{slice_at}
+use Rattle.draid_names.specs.declared.arm.ArmAt.{ArmAt}
+use Rattle.draid_names.specs.declared.arm.At.{At}
+use Rattle.draid_names.specs.declared.pointer.Pointer.{Pointer}
+use Rattle.draid_machine.specs.Arms.{passes}
+use Rattle.draid_machine.specs.Names.{has_number}
+use Rattle.draid_machine.proofs.Small.{absurd_test, bool_cases, either_true, is_equal}
+use Rattle.draid_parity.specs.Columns.{column_at}
+use Rattle.draid_rack.specs.Rack.{OnBothTold, Told}
+use Rattle.draid_rack.proofs.Moments.{leaves_more, leaves_on, leaves_self}
+use Rattle.draid_slots.specs.Table.{SlotTable}
+use Rattle.draid_shard.specs.Part.{Part, layout_in}
+use Rattle.draid_shard.specs.Rows.{IsRowsOf, answers_on, leaf_on}
+use Rattle.draid_shard.specs.States.{part_of}
+use Rattle.draid_shard.specs.declared.places.ColumnRows.{ColumnRows}
+use Rattle.draid_shard.specs.declared.shard.Shard.{Shard}
+use Rattle.draid_mend.specs.Mending.{at_sector}
+use Rattle.draid_mend.specs.Stripes.{AreColumnsApart, FailsColumns, KeepsColumn, LandsBelow, landed_below, own_or_all, rows_at, sources_below, sources_for}
+use Rattle.draid_mend.specs.Targets.{AreFree, AreThere, FailsBelow, KeepsAt, MendsBelow, StandsMended, is_mended_on, mended_below}
+use Rattle.draid_mend.specs.declared.reading.Taken.{Taken}
+use Rattle.draid_mend.specs.declared.reading.Taken.TheVariants.{Nowhere, Failed, From}
+use Rattle.draid_mend.proofs.Targeted.{or_left, or_right, taints_stay}
+
+-- the rows that a shard finds are these
+pub rows_are : (part : Part) (pointer : Pointer) (c : ℕ) (rows : ColumnRows) → IsRowsOf part pointer c rows → rows ≡ rows_at part pointer c
+rows_are part pointer c rows of = λ i. record {
+  slot = of.slot_is i;
+  slice = (of.slice_is ∙ ap (slice_at part.geometry) of.first_is) i;
+  first = of.first_is i;
+  count = of.count_is i;
+  size = of.size_is i;
+  birth = of.birth_is i;
+}
+
+-- ---- a sector of the row on a target is on a target's leaf
+pub and_left : (a b : Bool) → (a && b) ≡ true → a ≡ true
+and_left true b e = refl
+and_left false b e = e
+
+pub and_right : (a b : Bool) → (a && b) ≡ true → b ≡ true
+and_right true b e = e
+and_right false b e = absurd_test false e refl
+
+pub finds : (slots : SlotTable) (rows : ColumnRows) (targets : List ArmAt) (count leaf sector : ℕ) → mended_below slots rows targets count leaf sector ≡ true → KeepsAt slots rows targets count leaf
+finds slots rows targets zero leaf sector is = absurd_test false is refl
+finds slots rows targets (suc n) leaf sector is =
+    elim (either_true (mended_below slots rows targets n leaf sector) (is_mended_on slots rows (slice_get targets n) leaf sector) is) [
+      | inl before ↦ more (finds slots rows targets n leaf sector before)
+      | inr here ↦ by (slice_get targets n) refl here
+    ]
+  where
+    more : KeepsAt slots rows targets n leaf → KeepsAt slots rows targets (suc n) leaf
+    more h = record { k = h.k; at = h.at; below = (let less = h.below in omega (arith, less)); there = h.there; slot = h.slot; answers = h.answers; lies = h.lies }
+
+    on : (o : Option ℕ) → passes o (λ m. at_sector m rows.first leaf sector) ≡ true → o ≡ Some leaf
+    on None it = absurd_test false it refl
+    on (Some m) it = ap Some (sym (is_equal leaf m (and_left (leaf == m) (sector == rows.first) it)))
+
+    by : (o : Option ArmAt) → slice_get targets n ≡ o → is_mended_on slots rows o leaf sector ≡ true → KeepsAt slots rows targets (suc n) leaf
+    by None e it = absurd_test false it refl
+    by (Some at) e it =
+        let rest = and_right (at.slot == rows.slot) (answers_on slots rows at.arm && passes (leaf_on slots rows at.arm) (λ m. at_sector m rows.first leaf sector)) it in
+        record {
+          k = n;
+          at = at;
+          below = omega arith;
+          there = e;
+          slot = is_equal at.slot rows.slot (and_left (at.slot == rows.slot) (answers_on slots rows at.arm && passes (leaf_on slots rows at.arm) (λ m. at_sector m rows.first leaf sector)) it);
+          answers = and_left (answers_on slots rows at.arm) (passes (leaf_on slots rows at.arm) (λ m. at_sector m rows.first leaf sector)) rest;
+          lies = on (leaf_on slots rows at.arm) (and_right (answers_on slots rows at.arm) (passes (leaf_on slots rows at.arm) (λ m. at_sector m rows.first leaf sector)) rest);
+        }
+
+module _ (part : Part) (slots : SlotTable) (pointer : Pointer) (targets : List ArmAt) (columns : List (List ℕ)) (taken : List Taken) (n : ℕ) (low : n < part.geometry.g) (before failed : List ℕ) where
+  abbrev rows : ColumnRows
+  rows = rows_at part pointer n
+
+  abbrev named : ℕ → ℕ → ℕ → Bool
+  named count = landed_below part slots pointer targets count
+
+  abbrev here : ℕ → ℕ → Bool
+  here = mended_below slots rows targets (length targets)
+
+  left : (l s : ℕ) → named (suc n) l s ≡ false → named n l s ≡ false
+  left l s e = or_left (named n l s) (here l s) e
+
+  right : (l s : ℕ) → named (suc n) l s ≡ false → here l s ≡ false
+  right l s e = or_right (named n l s) (here l s) e
+
+  module _ (mends_fail : FailsBelow slots rows targets (length targets) before failed) where
+    not_before : (leaf : ℕ) → has_number failed leaf ≡ false → has_number before leaf ≡ false
+    not_before leaf sound = elim (bool_cases (has_number before leaf)) [
+      | inl had ↦ absurd_test (has_number failed leaf) (mends_fail.kept leaf had) sound
+      | inr out ↦ out
+    ]
+
+    lands_more : (x y z : Told) → MendsBelow slots rows targets (length targets) (column_at columns n) (sources_for part pointer taken n) failed y z → LandsBelow part slots pointer targets n columns taken before x y
+        → LandsBelow part slots pointer targets (suc n) columns taken failed x z
+    lands_more x y z m was = record {
+      leaves = leaves_on (named (suc n)) x y z (leaves_more (named n) (named (suc n)) x y left was.leaves) (leaves_more here (named (suc n)) y z right m.leaves);
+      each = λ apart free c leaf less keeps sound. elim (cases_lt c n) [
+        | inl lower ↦ earlier apart free c leaf lower keeps sound
+        | inr high ↦ (let same : n ≡ c = omega (arith, high, less) in latest apart free c leaf same keeps sound)
+      ];
+    } where
+      earlier : AreColumnsApart part slots pointer targets → ((c : ℕ) → c < suc n → AreFree (named (suc n)) (sources_for part pointer taken c)) → (c leaf : ℕ) → c < n → KeepsColumn part slots pointer targets c leaf
+          → has_number failed leaf ≡ false → StandsMended leaf ((layout_in part).sector_of pointer.first c) (column_at columns c) (sources_for part pointer taken c) x z
+      earlier apart free c leaf lower keeps sound =
+          let s : ℕ = (layout_in part).sector_of pointer.first c in
+          let it = was.each apart (λ d less k a is. left a.leaf a.sector (free d (omega (arith, less)) k a is)) c leaf lower keeps (not_before leaf sound) in
+          let out : here leaf s ≡ false = elim (bool_cases (here leaf s)) [
+            | inl on ↦ absurd (let e = apart c n leaf (omega (arith, lower, low)) low keeps (finds slots rows targets (length targets) leaf s on) in omega (arith, e, lower))
+            | inr off ↦ off
+          ] in
+          record { stands = m.leaves.only.reads leaf s out ∙ it.stands; harmed = m.leaves.harm leaf s out ∙ it.harmed }
+
+      latest : AreColumnsApart part slots pointer targets → ((c : ℕ) → c < suc n → AreFree (named (suc n)) (sources_for part pointer taken c)) → (c leaf : ℕ) → n ≡ c → KeepsColumn part slots pointer targets c leaf
+          → has_number failed leaf ≡ false → StandsMended leaf ((layout_in part).sector_of pointer.first c) (column_at columns c) (sources_for part pointer taken c) x z
+      latest apart free c leaf same keeps sound =
+          let of : KeepsColumn part slots pointer targets n leaf = subst (λ c. KeepsColumn part slots pointer targets c leaf) (sym same) keeps in
+          let own : AreFree (named (suc n)) (sources_for part pointer taken n) = free n (omega arith) in
+          let it = m.each (λ k a is. right a.leaf a.sector (own k a is)) leaf of sound in
+          subst (λ c. StandsMended leaf ((layout_in part).sector_of pointer.first c) (column_at columns c) (sources_for part pointer taken c) x z) same
+          (record { stands = it.stands; harmed = it.harmed ∙ taints_stay (named n) (sources_for part pointer taken n) x y (λ k a is. left a.leaf a.sector (own k a is)) was.leaves })
+
+    told_more : (s t u : Option Told) → OnBothTold t u (MendsBelow slots rows targets (length targets) (column_at columns n) (sources_for part pointer taken n) failed) → OnBothTold s t (LandsBelow part slots pointer targets n columns taken before)
+        → OnBothTold s u (LandsBelow part slots pointer targets (suc n) columns taken failed)
+    told_more None None None m e = m
+    told_more None None (Some z) m e = absurd (cc)
+    told_more None (Some y) u m e = absurd (cc)
+    told_more (Some x) None u m e = absurd e
+    told_more (Some x) (Some y) None m e = absurd m
+    told_more (Some x) (Some y) (Some z) m e = lands_more x y z m e
+
+    fails_more : (first : List ℕ) → FailsColumns part slots pointer targets n first before → FailsColumns part slots pointer targets (suc n) first failed
+    fails_more first was = record {
+      kept = λ leaf has. mends_fail.kept leaf (was.kept leaf has);
+      fail = λ leaf has out. elim (bool_cases (has_number before leaf)) [
+        | inl had ↦ (let z = was.fail leaf had out in (z.0, (let less = z.1 in omega (arith, less)), z.2))
+        | inr late ↦ (n, omega arith, mends_fail.fail leaf has late)
+      ];
+    }
+
+-- with the rows, the column and the sources that the call had
+module _ (part : Part) (slots : SlotTable) (pointer : Pointer) (targets : List ArmAt) (columns : List (List ℕ)) (taken : List Taken) (n : ℕ) (low : n < part.geometry.g) (before failed : List ℕ) (rows : ColumnRows) (of : IsRowsOf part pointer n rows)
+    (fails : FailsBelow slots rows targets (length targets) before failed) where
+  fails_here : FailsBelow slots (rows_at part pointer n) targets (length targets) before failed
+  fails_here = subst (λ rows. FailsBelow slots rows targets (length targets) before failed) (rows_are part pointer n rows of) fails
+
+  pub lands_next : (column : List ℕ) (sources : List At) (s t u : Option Told) → column ≡ column_at columns n → sources ≡ sources_for part pointer taken n → OnBothTold t u (MendsBelow slots rows targets (length targets) column sources failed)
+      → OnBothTold s t (LandsBelow part slots pointer targets n columns taken before) → OnBothTold s u (LandsBelow part slots pointer targets (n + 1) columns taken failed)
+  lands_next column sources s t u column_is sources_are m was =
+      let up : suc n ≡ n + 1 = omega arith in
+      subst (λ k. OnBothTold s u (LandsBelow part slots pointer targets k columns taken failed)) up
+      (told_more part slots pointer targets columns taken n low before failed fails_here s t u
+      (subst (λ rows. OnBothTold t u (MendsBelow slots rows targets (length targets) (column_at columns n) (sources_for part pointer taken n) failed)) (rows_are part pointer n rows of)
+      (subst (λ column. OnBothTold t u (MendsBelow slots rows targets (length targets) column (sources_for part pointer taken n) failed)) column_is
+      (subst (λ sources. OnBothTold t u (MendsBelow slots rows targets (length targets) column sources failed)) sources_are m))) was)
+
+  pub fails_next : (first : List ℕ) → FailsColumns part slots pointer targets n first before → FailsColumns part slots pointer targets (n + 1) first failed
+  fails_next first was =
+      let up : suc n ≡ n + 1 = omega arith in
+      subst (λ k. FailsColumns part slots pointer targets k first failed) up (fails_more part slots pointer targets columns taken n low before failed fails_here first was)
+
+-- ---- no column yet
+pub lands_none : (part : Part) (slots : SlotTable) (pointer : Pointer) (targets : List ArmAt) (columns : List (List ℕ)) (taken : List Taken) (failed : List ℕ) (o : Option Told) → OnBothTold o o (LandsBelow part slots pointer targets 0 columns taken failed)
+lands_none part slots pointer targets columns taken failed None = refl
+lands_none part slots pointer targets columns taken failed (Some x) = record {
+  leaves = leaves_self (landed_below part slots pointer targets 0) x;
+  each = λ apart free c leaf less keeps sound. absurd (omega (arith, less));
+}
+
+pub no_fail : (part : Part) (slots : SlotTable) (pointer : Pointer) (targets : List ArmAt) (failed : List ℕ) → FailsColumns part slots pointer targets 0 failed failed
+no_fail part slots pointer targets failed = record { kept = λ leaf has. has; fail = λ leaf has out. absurd_test (has_number failed leaf) has out }
+
+-- ---- of what a column is made
+pub own_source : (part : Part) (pointer : Pointer) (taken : List Taken) (c arm leaf first : ℕ) → slice_get taken c ≡ Some (From arm leaf) → first ≡ (layout_in part).sector_of pointer.first c
+    → (record { leaf = leaf; sector = first } ∷ []) ≡ sources_for part pointer taken c
+own_source part pointer taken c arm leaf first there is = at is ∙ sym (ap (own_or_all part pointer taken c) there)
+  where
+    at : first ≡ (layout_in part).sector_of pointer.first c → (record { leaf = leaf; sector = first } ∷ []) ≡ own_or_all part pointer taken c (Some (From arm leaf))
+    at is = λ i. record { leaf = leaf; sector = is i } ∷ []
+
+pub all_sources : (part : Part) (pointer : Pointer) (taken : List Taken) (c : ℕ) (t : Taken) → slice_get taken c ≡ Some t → ((arm leaf : ℕ) → t ≡ From arm leaf → ⊥) → sources_below part pointer taken part.geometry.g ≡ sources_for part pointer taken c
+all_sources part pointer taken c Nowhere there other = sym (ap (own_or_all part pointer taken c) there)
+all_sources part pointer taken c (Failed leaf) there other = sym (ap (own_or_all part pointer taken c) there)
+all_sources part pointer taken c (From arm leaf) there other = absurd (other arm leaf refl)
+
+-- ---- a shard that differs in its rack alone
+pub there_in : {R A : Type 0} (old new : Shard R A) (targets : List ArmAt) → new ≡ record old { rack = new.rack } → AreThere old.slots targets → AreThere new.slots targets
+there_in old new targets after was = subst (λ s. AreThere s.slots targets) (sym after) was
+
+pub all_in : {R A : Type 0} (old new : Shard R A) (pointer : Pointer) (taken : List Taken) (all : List At) → new ≡ record old { rack = new.rack } → all ≡ sources_below (part_of old) pointer taken old.geometry.g
+    → all ≡ sources_below (part_of new) pointer taken new.geometry.g
+all_in old new pointer taken all after was = subst (λ s. all ≡ sources_below (part_of s) pointer taken s.geometry.g) (sym after) was
+
+pub lands_back : {R A : Type 0} (old new : Shard R A) (pointer : Pointer) (targets : List ArmAt) (columns : List (List ℕ)) (taken : List Taken) (n m : ℕ) (f g : List ℕ) (t u : Option Told) → new ≡ record old { rack = new.rack }
+    → ((start : Option Told) → OnBothTold start t (LandsBelow (part_of new) new.slots pointer targets n columns taken f) → OnBothTold start u (LandsBelow (part_of new) new.slots pointer targets m columns taken g))
+    → (start : Option Told) → OnBothTold start t (LandsBelow (part_of old) old.slots pointer targets n columns taken f) → OnBothTold start u (LandsBelow (part_of old) old.slots pointer targets m columns taken g)
+lands_back old new pointer targets columns taken n m f g t u after e =
+    subst (λ s. (start : Option Told) → OnBothTold start t (LandsBelow (part_of s) s.slots pointer targets n columns taken f) → OnBothTold start u (LandsBelow (part_of s) s.slots pointer targets m columns taken g)) after e
+
+pub fails_back : {R A : Type 0} (old new : Shard R A) (pointer : Pointer) (targets : List ArmAt) (n m : ℕ) (f g : List ℕ) → new ≡ record old { rack = new.rack }
+    → ((first : List ℕ) → FailsColumns (part_of new) new.slots pointer targets n first f → FailsColumns (part_of new) new.slots pointer targets m first g)
+    → (first : List ℕ) → FailsColumns (part_of old) old.slots pointer targets n first f → FailsColumns (part_of old) old.slots pointer targets m first g
+fails_back old new pointer targets n m f g after e =
+    subst (λ s. (first : List ℕ) → FailsColumns (part_of s) s.slots pointer targets n first f → FailsColumns (part_of s) s.slots pointer targets m first g) after e
+
+-- ---- room
+pub room_next : (before cap len targets column columns : ℕ) → before + columns * targets ≤ cap → len ≤ before + column * targets → column < columns → len + targets ≤ cap
+room_next before cap len targets column columns room few less =
+    let up : (column + 1) * targets ≤ columns * targets = mul-le-mul_right targets (omega (arith, less)) in
+    let next : (column + 1) * targets ≡ column * targets + targets = grind arith in
+    omega (arith, up, next, room, few)
+
+pub few_next : (before len new targets column : ℕ) → len ≤ before + column * targets → new ≤ len + targets → new ≤ before + (column + 1) * targets
+few_next before len new targets column few more = let next : (column + 1) * targets ≡ column * targets + targets = grind arith in omega (arith, next, few, more)

@@ -1,0 +1,17 @@
+mod Columned
+mod Counted
+mod Facts
+mod Freed
+mod Lacking
+mod Landed
+mod Lends
+mod Loaned
+mod Missed
+mod Named
+mod Mends
+mod Read
+mod Solved
+mod Sourced
+mod Standing
+mod Targeted
+mod Units

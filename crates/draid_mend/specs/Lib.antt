@@ -1,0 +1,11 @@
+pub mod Landing
+pub mod Lending
+pub mod Loans
+pub mod Mending
+pub mod Missing
+pub mod Reading
+pub mod Solving
+pub mod Sources
+pub mod Stands
+pub mod Stripes
+pub mod Targets

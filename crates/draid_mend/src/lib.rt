@@ -1,0 +1,28 @@
+//! Rebuilds of a metaslab: the stripes of a pass are lent, their missing columns solved, and landed on the pass's targets.
+
+#![tactic(auto)]
+
+mod landing;
+mod laws;
+mod lending;
+mod loans;
+mod mending;
+mod naming;
+mod reading;
+mod solving;
+mod sources;
+mod targets;
+
+pub use landing::land_columns;
+pub use laws::{
+    loans_begin_right, missing_columns_are_listed, solved_columns_are_right, sources_taint,
+    stripes_are_landed, stripes_are_lent, stripes_are_mended, stripes_land_apart,
+    targets_are_no_sources,
+};
+pub use lending::{Readings, read_stripe};
+pub use loans::{LendFault, Lent, lend};
+pub use mending::{Mended, mend_column};
+pub use reading::{Taken, read_into, read_source};
+pub use solving::{solve, solve_missing};
+pub use sources::source_arm;
+pub use targets::mend_targets;

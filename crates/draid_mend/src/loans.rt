@@ -1,0 +1,248 @@
+//! A rebuild's next stripe is lent: it is read, and kept as the loan that counts.
+ghost use Rattle.std.specs.Prelude.{◌≡◌, ◌*◌, ◌<◌, ◌≤◌, ◌+◌, ◌^◌, [], ℕ, IsSomeAnd, Err, Ok, IfErr, IfOk, IfSome, IfNone, OnErr, OnOk, Some, None, length, vec_capacity};
+ghost use Rattle.draid_entries.specs.History.{AskIs, IsAsked, KeepsOwed, left_for_groups};
+ghost use Rattle.draid_machine.specs.State as machine;
+ghost use Rattle.draid_machine.specs.Step.{IsTaken};
+ghost use Rattle.draid_pass.specs.declared.pass.Pass.{Pass};
+ghost use Rattle.draid_spec.specs.Geometry.{IsGeometry};
+ghost use Rattle.draid_spec.specs.declared.layout.Geometry.{Geometry};
+ghost use Rattle.draid_shard.specs.Alike.{KeepsArms};
+ghost use Rattle.draid_shard.specs.Calls.{SameAreas, SameReserve};
+ghost use Rattle.draid_shard.specs.Changes.{DoesNothing, KeepsBlocks};
+ghost use Rattle.draid_shard.specs.Fits.{Valid};
+ghost use Rattle.draid_shard.specs.Rooms.{IsWornFor};
+ghost use Rattle.draid_shard.specs.States.{IsIn};
+ghost use Rattle.draid_mend.specs.Loans.{HasLendRoom, HasNothingLeft, IsLendRefused, IsPlaceOf, IsRunningRebuild, IsTargetsOf, IsUnit, LendsUnit, lend_events, unit_at};
+
+use crate::lending::{Readings, read_stripe};
+use crate::naming::name_sources;
+use draid_area::Area;
+use draid_entries::{Entry, ReserveFault};
+use draid_machine::Event;
+use draid_names::{NoMemory, Pointer};
+use draid_parity::Stripe;
+use draid_pass::Pass;
+use draid_rack::Rack;
+use draid_shard::{KeptLoan, Shard, Source};
+use draid_spec::Geometry;
+use std::alloc::Global;
+
+/// What a lend comes to: a stripe was lent, or none is left.
+#[derive(Clone, Copy, PartialEq, Eq)]
+pub enum Lent {
+    Unit,
+    End,
+}
+
+/// Why a stripe isn't lent.
+#[derive(Clone, Copy, PartialEq, Eq)]
+pub enum LendFault {
+    /// The limit leaves too few events; so many are stored or owed.
+    Worn { events: u64 },
+    NoMemory,
+}
+
+/// What a lend takes memory for: the columns, from where each is taken, and the leaves that fail, now and as it lands.
+#[derive(Drop)]
+struct LendRoom {
+    lent: Readings,
+    chosen: Vec<Option<Source>>,
+    failed: Vec<u64>,
+}
+
+/// Lends the next stripe that a block has, at the place where a rebuild stands or behind it: each column is read from its
+/// source. The loan that counted doesn't any more.
+pub fn lend<R: Rack, A: Area>(shard: &mut Shard<R, A>) -> Result<Lent, LendFault>
+    requires valid { Valid R.Rack shard.old }
+    requires running { IsSomeAnd shard.old.pass IsRunningRebuild }
+    ensures valid { Valid R.Rack shard.new }
+    ensures areas { SameAreas shard.old shard.new }
+    ensures told { R.told shard.new.rack ≡ R.told shard.old.rack }
+    ensures unit { result ≡ Ok Lent.Unit → LendsUnit R.Rack shard.old shard.new }
+    ensures end { result ≡ Ok Lent.End → HasNothingLeft shard.old × (shard.new ≡ shard.old) }
+    ensures refused { IfErr result (IsLendRefused shard.old) }
+    ensures none { OnErr result (DoesNothing shard.old shard.new) }
+    ensures keeps { KeepsBlocks shard.old shard.new }
+    ensures arms { KeepsArms shard.old.slots shard.new.slots }
+    ensures reserve { SameReserve shard.old shard.new }
+{
+    match next_unit(shard) {
+        None => Ok(Lent::End),
+        Some((entry, stripe)) => lend_next(shard, entry, stripe),
+    }
+}
+
+/// Lends a stripe of a block, if there is room.
+fn lend_next<R: Rack, A: Area>(
+    shard: &mut Shard<R, A>,
+    entry: Entry,
+    stripe: u64,
+) -> Result<Lent, LendFault>
+    requires valid { Valid R.Rack shard.old }
+    requires running { IsSomeAnd shard.old.pass IsRunningRebuild }
+    requires unit { IsUnit shard.old entry stripe }
+    ensures valid { Valid R.Rack shard.new }
+    ensures areas { SameAreas shard.old shard.new }
+    ensures told { R.told shard.new.rack ≡ R.told shard.old.rack }
+    ensures is { IfOk result (λ lent. lent ≡ Lent.Unit) }
+    ensures unit { OnOk result (LendsUnit R.Rack shard.old shard.new) }
+    ensures refused { IfErr result (IsLendRefused shard.old) }
+    ensures none { OnErr result (DoesNothing shard.old shard.new) }
+    ensures keeps { KeepsBlocks shard.old shard.new }
+    ensures arms { KeepsArms shard.old.slots shard.new.slots }
+    ensures reserve { SameReserve shard.old shard.new }
+{
+    match make_room(shard) {
+        Ok(room) => {
+            lend_unit(shard, entry, stripe, room);
+            Ok(Lent::Unit)
+        }
+        Err(ReserveFault::Worn { events }) => Err(LendFault::Worn { events }),
+        Err(ReserveFault::NoMemory) => Err(LendFault::NoMemory),
+    }
+}
+
+/// The first stripe that a block or an open write has, where the pass stands or behind it, with what has it.
+fn next_unit<R: Rack, A: Area>(shard: &Shard<R, A>) -> Option<(Entry, u64)>
+    requires valid { Valid R.Rack shard.now }
+    ensures some { IfSome result (λ unit. IsUnit shard.now unit.0 unit.1) }
+    ensures none { (w : machine.State) → IsIn shard.now w → (p : Pass) → shard.now.pass ≡ Some p
+        → IfNone result ((x : ℕ) → p.at ≤ x → IsTaken w.core x → ⊥) }
+{
+    let stripe = shard.next_taken(place_of(&shard.pass))?;
+    let entry = shard.entries.last_upto(stripe)?;
+    Some((entry, stripe))
+}
+
+/// The stripe at which a pass stands.
+fn place_of(pass: &Option<Pass>) -> u64
+    ensures { IsPlaceOf pass.now result }
+{
+    match pass {
+        Some(pass) => pass.at,
+        None => 0,
+    }
+}
+
+/// How many targets it has.
+fn targets_of(pass: &Option<Pass>) -> usize
+    ensures { IsTargetsOf pass.now result }
+{
+    match pass {
+        Some(pass) => pass.targets.len(),
+        None => 0,
+    }
+}
+
+/// How many events a lend asks for: its own, and its landing's where none is owed yet.
+fn events_of(kept: &Option<KeptLoan>) -> u64
+    ensures { result ≡ lend_events kept.now }
+{
+    match kept {
+        None => 2,
+        Some(_) => 1,
+    }
+}
+
+/// Makes the room in memory that a lend and its landing want.
+fn make_room<R: Rack, A: Area>(shard: &mut Shard<R, A>) -> Result<LendRoom, ReserveFault>
+    requires valid { Valid R.Rack shard.old }
+    ensures valid { Valid R.Rack shard.new }
+    ensures only { shard.new ≡ record shard.old { history = shard.new.history } }
+    ensures history { KeepsOwed shard.old.history shard.new.history }
+    ensures none { DoesNothing shard.old shard.new }
+    ensures not_worn { OnOk result (IsWornFor shard.old (lend_events shard.old.kept) → ⊥) }
+    ensures asked { OnOk result (IsAsked shard.new.history (lend_events shard.old.kept)) }
+    ensures room { IfOk result (λ room. IfSome shard.old.pass (λ p. HasLendRoom shard.old.geometry (length p.targets.items) room)) }
+    ensures refused { IfErr result (λ why. AskIs shard.old.history (lend_events shard.old.kept) left_for_groups (Err why)) }
+{
+    shard.history.ask(events_of(&shard.kept))?;
+    match room_for(shard.alloc, &shard.geometry, targets_of(&shard.pass)) {
+        Ok(room) => Ok(room),
+        Err(NoMemory) => Err(ReserveFault::NoMemory),
+    }
+}
+
+/// The room that a lend of a stripe wants in memory, for so many targets.
+fn room_for(alloc: Global, geometry: &Geometry, targets: usize) -> Result<LendRoom, NoMemory>
+    requires geometry { IsGeometry geometry.now }
+    ensures { IfOk result (HasLendRoom geometry.now targets) }
+{
+    let g = geometry.g as usize;
+    let Some(calls) = targets.checked_mul(g) else {
+        return Err(NoMemory);
+    };
+    let columns = Stripe::new(
+        alloc,
+        geometry.spec.parity,
+        geometry.spec.ndata,
+        geometry.props.sector,
+    )?;
+    let taken = Vec::with_capacity(alloc, g)?;
+    let faults = Vec::with_capacity(alloc, g)?;
+    let chosen = Vec::with_capacity(alloc, g)?;
+    let failed = Vec::with_capacity(alloc, calls)?;
+    Ok(LendRoom {
+        lent: Readings {
+            columns,
+            taken,
+            failed: faults,
+        },
+        chosen,
+        failed,
+    })
+}
+
+/// Lends a stripe of a block, for which there is room.
+fn lend_unit<R: Rack, A: Area>(shard: &mut Shard<R, A>, entry: Entry, stripe: u64, room: LendRoom)
+    requires valid { Valid R.Rack shard.old }
+    requires running { IsSomeAnd shard.old.pass IsRunningRebuild }
+    requires unit { IsUnit shard.old entry stripe }
+    requires asked { IsAsked shard.old.history (lend_events shard.old.kept) }
+    requires room { IfSome shard.old.pass (λ p. HasLendRoom shard.old.geometry (length p.targets.items) room) }
+    ensures valid { Valid R.Rack shard.new }
+    ensures areas { SameAreas shard.old shard.new }
+    ensures told { R.told shard.new.rack ≡ R.told shard.old.rack }
+    ensures unit { LendsUnit R.Rack shard.old shard.new }
+    ensures keeps { KeepsBlocks shard.old shard.new }
+    ensures arms { KeepsArms shard.old.slots shard.new.slots }
+    ensures reserve { SameReserve shard.old shard.new }
+{
+    let LendRoom {
+        mut lent,
+        mut chosen,
+        failed,
+    } = room;
+    let unit = unit_of(&entry.pointer, stripe);
+    let events = events_of(&shard.kept);
+    read_stripe(shard, &unit, &mut lent);
+    name_sources(shard, &unit, &lent.taken, &mut chosen);
+    let Readings {
+        columns,
+        failed: faults,
+        ..
+    } = lent;
+    shard.serial += 1;
+    shard.kept = Some(KeptLoan {
+        serial: shard.serial,
+        stripe,
+        pointer: entry.pointer,
+        chosen,
+        columns,
+        failed,
+    });
+    shard
+        .history
+        .add_asked(Event::Lend { failed: faults }, events);
+}
+
+/// One stripe of a block.
+fn unit_of(pointer: &Pointer, stripe: u64) -> Pointer
+    ensures { result ≡ unit_at pointer.now stripe }
+{
+    Pointer {
+        first: stripe,
+        stripes: 1,
+        ..*pointer
+    }
+}
