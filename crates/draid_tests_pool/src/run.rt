@@ -320,34 +320,58 @@ fn calls_that_fail_are_told(rt: HostRuntime) {
     }
 }
 
-static MAKING: &str =
-    "create draid1:2d:3c:0s 3 sector=512 height=8 metaslabs=3 slices=1\nreplace 0\n";
+/// A session that a call of a device ends, and one behind it on the same shelf.
+struct Restart {
+    place: Place,
+    call: u64,
+    session: &'static str,
+    printed: &'static str,
+    later: &'static str,
+    found: &'static str,
+}
 
-static NOT_MADE: &str = "create draid1:2d:3c:0s-0 stripes=24\nshelf fault\n";
+/// The second metaslab can't get the leaf of a new disk: the pool is found as it was, and the disk gets the number that the
+/// first one didn't use up. The devices of the second metaslab can't be had as a pool is imported of which a leaf was
+/// detached: it is found by the next import, and without the leaf.
+static RESTARTS: [Restart; 2] = [
+    Restart {
+        place: Place::Rack(1),
+        call: 0,
+        session: "create draid1:2d:3c:0s 3 sector=512 height=8 metaslabs=3 slices=1\nreplace 0\n",
+        printed: "create draid1:2d:3c:0s-0 stripes=24\nshelf fault\n",
+        later: "import\nstatus\nreplace 0\ndetach 3\n",
+        found: "import draid1:2d:3c:0s-0 group=1 objects=0\npool draid1:2d:3c:0s-0 group=1 open=2 objects=0\nslot 0 leaf 0 online logged=0\nslot 1 leaf 1 online logged=0\nslot 2 leaf 2 online logged=0\nmetaslab 0 free=8 blocks=0 none\nmetaslab 1 free=8 blocks=0 none\nmetaslab 2 free=8 blocks=0 none\nend\nreplace 0 leaf=3 ok\ndetach 3 ok group=2\n",
+    },
+    Restart {
+        place: Place::Own,
+        call: 7,
+        session: "create draid1:2d:3c:0s 3 sector=512 height=8 metaslabs=3 slices=1\nreplace 0\nwrite 7 aa\ndetach 3\nexport\nimport\n",
+        printed: "create draid1:2d:3c:0s-0 stripes=24\nreplace 0 leaf=3 ok\nwrite 7 ok\ndetach 3 ok group=2\nexport group=2\nshelf fault\n",
+        later: "import\nread 7\noffline 3\nreplace 0\n",
+        found: "import draid1:2d:3c:0s-0 group=2 objects=1\nread 7 1 aa\noffline 3 refused 1\nreplace 0 leaf=4 ok\n",
+    },
+];
 
-static LATER: &str = "import\nstatus\nreplace 0\ndetach 3\n";
-
-static MADE_LATER: &str =
-    "import draid1:2d:3c:0s-0 group=1 objects=0\npool draid1:2d:3c:0s-0 group=1 open=2 objects=0\nslot 0 leaf 0 online logged=0\nslot 1 leaf 1 online logged=0\nslot 2 leaf 2 online logged=0\nmetaslab 0 free=8 blocks=0 none\nmetaslab 1 free=8 blocks=0 none\nmetaslab 2 free=8 blocks=0 none\nend\nreplace 0 leaf=3 ok\ndetach 3 ok group=2\n";
-
-/// Whether a run ends in which the second metaslab can't get the leaf of a new disk, and a later run finds the pool as it
-/// was, and gives the disk the number that the first one didn't use up.
-fn is_made_later<R: AllocGlobal + Threads + Sync>(rt: &R) -> Option<bool> {
+/// Whether the first session ends for its device, and the next one is whole.
+fn is_found_later<R: AllocGlobal + Threads + Sync>(rt: &R, restart: &Restart) -> Option<bool> {
     let mut shelf = MemoryShelf::new(rt.alloc(), CrashRule::New);
-    shelf.fail(Place::Rack(1), Vec::from_slice(rt.alloc(), &[0]).ok()?);
+    let calls = Vec::from_slice(rt.alloc(), &[restart.call]).ok()?;
+    shelf.fail(restart.place, calls);
     let mut first = sink_of(rt.alloc(), &NONE).ok()?;
     let mut second = sink_of(rt.alloc(), &NONE).ok()?;
-    let line = "session";
-    let ended = run_script(rt, line, MAKING.as_bytes(), &[], &mut shelf, &mut first)?;
-    let done = run_script(rt, line, LATER.as_bytes(), &[], &mut shelf, &mut second)?;
+    let (session, later) = (restart.session.as_bytes(), restart.later.as_bytes());
+    let ended = run_script(rt, "session", session, &[], &mut shelf, &mut first)?;
+    let done = run_script(rt, "session", later, &[], &mut shelf, &mut second)?;
     let statuses = ended == Status::ShelfFault && done == Status::Done;
-    let held = first.held() == NOT_MADE.as_bytes() && second.held() == MADE_LATER.as_bytes();
-    Some(statuses && held)
+    let printed = first.held() == restart.printed.as_bytes();
+    Some(statuses && printed && second.held() == restart.found.as_bytes())
 }
 
 #[test]
-fn a_leaf_that_cant_be_made_is_made_later(rt: HostRuntime) {
-    assert!(rt; is_made_later(&rt) == Some(true));
+fn a_later_session_goes_on(rt: HostRuntime) {
+    for row in 0..RESTARTS.len() {
+        assert!(rt; is_found_later(&rt, &RESTARTS[row]) == Some(true), "{row}");
+    }
 }
 
 /// How often areas are called by a create and two syncs. A record is written and flushed. A commit of the uberblock flushes
