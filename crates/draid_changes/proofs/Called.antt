@@ -1,16 +1,15 @@
 -- Where the arm of a name is.
-use Rattle.std.proofs.Common.{◌≡◌, ◌<◌, ◌≤◌, ◌∙◌, inl, inr, [], ℕ, Option, Some, None, IfNone, arith, refl, sym, ap, length}
+use Rattle.std.proofs.Common.{◌≡◌, ◌<◌, ◌∙◌, inl, inr, [], ℕ, Option, Some, None, IfNone, arith, refl, sym, ap, length}
 use Rattle.std.specs.Prelude.{slice_get}
 use Rattle.std.proofs.lemmas.Bool.{cases_lt}
 use Rattle.std.proofs.lemmas.List.{get_or_past}
-use Rattle.draid_names.specs.declared.arm.Arm.{Arm}
 use Rattle.draid_names.specs.declared.arm.ArmAt.{ArmAt}
 use Rattle.draid_names.specs.declared.arm.ArmKind.{ArmKind}
 use Rattle.draid_machine.specs.declared.names.ArmName.{ArmName}
 use Rattle.draid_machine.specs.Names.{named}
 use Rattle.draid_machine.proofs.Small.{none_some}
 use Rattle.draid_slots.specs.States.{name_of}
-use Rattle.draid_slots.specs.Table.{IsArmOf, IsTable, SlotTable, arm_at, arms_of}
+use Rattle.draid_slots.specs.Table.{IsArmOf, IsTable, SlotTable, arm_at}
 use Rattle.draid_disks.specs.Disks.{IsNamed}
 use Rattle.draid_pool.proofs.Arms.{same_names}
 

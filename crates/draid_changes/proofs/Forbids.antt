@@ -1,5 +1,5 @@
 -- Which rules keep an arm in its slot, by the shards of a pool and by what is seen of it.
-use Rattle.std.proofs.Common.{◌≡◌, ◌≢◌, ◌<◌, ◌≤◌, ◌+◌, ◌∙◌, [], ◌∷◌, inl, inr, ℕ, zero, suc, Bool, true, false, List, Option, Some, None, arith, refl, sym, ap, subst, length, remove, slice_index_or}
+use Rattle.std.proofs.Common.{◌≡◌, ◌<◌, ◌+◌, ◌∙◌, [], ◌∷◌, inl, inr, ℕ, zero, suc, true, false, List, Option, Some, None, arith, refl, sym, ap, subst, length, remove, slice_index_or}
 use Rattle.std.specs.Prelude.{option_map, slice_get, sum_by}
 use Rattle.std.proofs.lemmas.List.Sums.{sum_by-cons}
 use Rattle.std.proofs.lemmas.Option.{slice_get_within}
@@ -13,7 +13,7 @@ use Rattle.draid_machine.specs.State as machine
 use Rattle.draid_machine.proofs.Fitted.{every_fit}
 use Rattle.draid_machine.proofs.Small.{bool_cases, name_true, none_some}
 use Rattle.draid_segments.specs.Segments.{Pieces}
-use Rattle.draid_slots.specs.States.{HasSlots, name_of, pass_in}
+use Rattle.draid_slots.specs.States.{name_of, pass_in}
 use Rattle.draid_slots.specs.Table.{SlotTable, arm_at, arms_of, count_at, has_leaf}
 use Rattle.draid_shard.specs.Alike.{HaveSameArms, IsSameArm}
 use Rattle.draid_shard.specs.Fits.{NamesOnce}
@@ -22,14 +22,13 @@ use Rattle.draid_shard.specs.States.{layout_by, part_of}
 use Rattle.draid_shard.specs.declared.shard.Shard.{Shard}
 use Rattle.draid_shard.proofs.Answering.{name_found, name_listed}
 use Rattle.draid_shard.proofs.Homes.{lays}
-use Rattle.draid_disks.specs.Checks as checks
 use Rattle.draid_pass.specs.declared.pass.Pass.{Pass}
 use Rattle.draid_disks.specs.Disks.{IsNamed, SamePass}
 use Rattle.draid_changes.specs.Detaching.{MayGo}
 use Rattle.draid_changes.specs.Walks.{Reserves}
 use Rattle.draid_changes.specs.declared.need.Need.TheVariants as needs
 use Rattle.draid_session.specs.Arms as arms
-use Rattle.draid_session.specs.Holds.{View, view_of}
+use Rattle.draid_session.specs.Holds.{view_of}
 use Rattle.draid_session.specs.Phases.{NoneOf}
 use Rattle.draid_session.specs.State.{Metaslab, State}
 use Rattle.draid_session.specs.Status.{groups_of, logged_in}

@@ -1,6 +1,6 @@
 -- An arm leaves its slot in all metaslabs of a pool, and a sync comes.
-use Rattle.std.proofs.Common.{◌≡◌, ◌<◌, ◌+◌, ◌++◌, ◌∙◌, ◌&&◌, ◌==◌, [], ◌∷◌, inl, inr, ◌⊎◌, ℕ, zero, suc, Bool, true, false, List, Option, Some, None, Result, Ok, Err, arith, refl, sym, ap, subst, length, map, remove}
-use Rattle.std.specs.Prelude.{option_map, slice_get}
+use Rattle.std.proofs.Common.{◌≡◌, ◌<◌, ◌+◌, ◌++◌, ◌∙◌, ◌&&◌, ◌==◌, [], ◌∷◌, inl, inr, ◌⊎◌, ℕ, zero, suc, Bool, true, false, List, Some, Result, Ok, Err, arith, refl, sym, ap, subst, length, map, remove}
+use Rattle.std.specs.Prelude.{slice_get}
 use Rattle.std.specs.List.{list_any}
 use Rattle.std.proofs.lemmas.Bool.{cases_eq}
 use Rattle.std.proofs.lemmas.List.{length-map}
@@ -17,14 +17,10 @@ use Rattle.draid_perm.specs.declared.perms.Perms.{Perms}
 use Rattle.draid_machine.specs.declared.event.Event.TheVariants.{Detach}
 use Rattle.draid_machine.specs.declared.names.ArmName.{ArmName}
 use Rattle.draid_machine.proofs.Small.{absurd_test, both_true, either_true, is_equal, true_left, true_right}
-use Rattle.draid_segments.specs.Segments.{Pieces}
-use Rattle.draid_slots.specs.Table.{SlotTable, arm_at, arms_of, is_leaf_kind, is_leaving}
+use Rattle.draid_slots.specs.Table.{SlotTable, arms_of, is_leaf_kind}
 use Rattle.draid_slots.specs.declared.slot.Detached.{Detached}
-use Rattle.draid_shard.specs.Alike.{ShareArms}
-use Rattle.draid_shard.specs.Calls.{SameAreas}
 use Rattle.draid_shard.specs.Fits.{AreGroups, IsLeaf}
 use Rattle.draid_shard.specs.Part.{Part}
-use Rattle.draid_shard.specs.States.{part_of}
 use Rattle.draid_shard.specs.declared.shard.Shard.{Shard}
 use Rattle.draid_disks.specs.Disks.{HasDetached, IsNamed, plain, plain_arms}
 use Rattle.draid_disks.proofs.Alike.{share_detached}
@@ -34,13 +30,11 @@ use Rattle.draid_session.specs.Arms as arms
 use Rattle.draid_session.specs.Groups as groups
 use Rattle.draid_session.specs.Holds.{Hold, UberView, View}
 use Rattle.draid_session.specs.Phases.{Chain, End, Went}
-use Rattle.draid_session.specs.State.{Metaslab, State, Store}
+use Rattle.draid_session.specs.State.{State, Store}
 use Rattle.draid_pool.specs.Carries.{CarriesOut}
 use Rattle.draid_pool.specs.Failing.{AreasLater}
-use Rattle.draid_pool.specs.Importable.{IsAlike}
-use Rattle.draid_pool.specs.Metaslabs.{IsMetaslab}
 use Rattle.draid_pool.specs.Pools.{Represents, part_in}
-use Rattle.draid_pool.specs.Syncing.{AreIdle, Phase, SyncDoes, Turns, end_of}
+use Rattle.draid_pool.specs.Syncing.{AreIdle, Phase, SyncDoes, end_of}
 use Rattle.draid_pool.specs.Views.{seen_at}
 use Rattle.draid_pool.specs.Whole.{IsWhole}
 use Rattle.draid_pool.specs.declared.fault.SyncFault.{SyncFault}
@@ -63,7 +57,7 @@ use Rattle.draid_changes.proofs.Left.{leave_turns, left_shared}
 use Rattle.draid_changes.proofs.Raised.{Any, IsGroup, Reserving, Syncing, not_last, not_through, sync_stops}
 use Rattle.draid_changes.proofs.Staying.{was_at}
 use Rattle.draid_changes.proofs.Forbids.{goes_still}
-use Rattle.draid_changes.proofs.Walk.{IsChanged, changed_at}
+use Rattle.draid_changes.proofs.Walk.{changed_at}
 use Rattle.draid_changes.proofs.Whole.{SameOwn, whole_changed}
 
 -- ---- tables

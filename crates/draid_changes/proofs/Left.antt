@@ -1,5 +1,5 @@
 -- An arm leaves its slot in a metaslab of a pool.
-use Rattle.std.proofs.Common.{◌≡◌, ◌∙◌, inl, inr, ℕ, Bool, true, false, List, Option, Some, None, IsSome, filter, not, refl, sym, ap, subst, if◌then◌else◌, ◌==◌}
+use Rattle.std.proofs.Common.{◌≡◌, ◌∙◌, inl, inr, ℕ, Bool, true, false, List, Some, None, IsSome, filter, not, refl, sym, ap, subst, if◌then◌else◌, ◌==◌}
 use Rattle.std.specs.Prelude.{option_map}
 use Rattle.draid_names.specs.declared.arm.ArmAt.{ArmAt}
 use Rattle.draid_rack.specs.declared.Rack as racks
@@ -7,7 +7,7 @@ use Rattle.draid_area.specs.declared.Area as areas
 use Rattle.draid_machine.specs.declared.event.Event.TheVariants.{Detach}
 use Rattle.draid_machine.specs.declared.names.ArmName.{ArmName}
 use Rattle.draid_machine.specs.declared.names.ArmName.TheVariants.{Leaf}
-use Rattle.draid_machine.specs.After.{detach_state, detached_core, map_arm, renew_if, seal_arm, set_order}
+use Rattle.draid_machine.specs.After.{detach_state, detached_core, renew_if, seal_arm, set_order}
 use Rattle.draid_machine.specs.Arms.{has_moved}
 use Rattle.draid_machine.specs.Images.{IsImage}
 use Rattle.draid_machine.specs.Names.{name_eq}

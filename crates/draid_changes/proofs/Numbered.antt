@@ -30,6 +30,7 @@ use Rattle.draid_pool.specs.Whole.{IsWhole}
 use Rattle.draid_pool.specs.declared.pool.Pool.{Pool}
 use Rattle.draid_pool.proofs.Lifted.{HasMetaslab, metaslab_of}
 use Rattle.draid_pool.proofs.Steps.{carried}
+use Rattle.draid_pool.proofs.Versions.{layout_again}
 use Rattle.draid_pool.proofs.Stood.{IsOneOf, Rest, Stood, represents_of, stood_of}
 use Rattle.draid_changes.proofs.Begun.{uber_of}
 use Rattle.draid_changes.proofs.Events.{unsealed}
@@ -60,8 +61,7 @@ module _ {R A : Type 0} (rack : racks.Ghosts R) (area : areas.Ghosts A) (late : 
     });
     alike = w.alike;
     uber = set.valid;
-    uber_layout = set.layout ∙ w.uber_layout;
-    uber_version = set.version ∙ w.uber_version;
+    uber_layout = layout_again (ubers.layout_of late.uber) (ubers.layout_of u) late.geometry late.geometry set.layout refl w.uber_layout;
     objects = λ o q at. (let of = w.objects o q at in record { object_is = of.object_is; shard = of.shard; there = of.there; live = of.live });
     floor = subst (λ k. late.own.floor ≤ group_of k + 2) (sym set.kept) w.floor;
     low = w.low;

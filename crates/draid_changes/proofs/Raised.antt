@@ -1,5 +1,5 @@
 -- A pool is upgraded: what is closing is finished, and then version 2 is there already, or it is asked for and committed.
-use Rattle.std.proofs.Common.{◌≡◌, ◌≢◌, ◌+◌, ◌++◌, ◌∙◌, [], ◌∷◌, inl, inr, ◌⊎◌, ℕ, List, Option, Some, Ok, Err, Result, arith, refl, sym, ap, subst, append_assoc}
+use Rattle.std.proofs.Common.{◌≡◌, ◌≢◌, ◌++◌, ◌∙◌, [], ◌∷◌, inl, inr, ◌⊎◌, ℕ, List, Some, Ok, Err, arith, refl, sym, ap, subst, append_assoc}
 use Rattle.std.specs.Prelude.{slice_get}
 use Rattle.draid_rack.specs.declared.Rack as racks
 use Rattle.draid_area.specs.declared.Area as areas
@@ -31,7 +31,6 @@ use Rattle.draid_pool.proofs.SyncCalls.{end_same, then_phase}
 use Rattle.draid_pool.proofs.SyncSteps.{not_went}
 use Rattle.draid_changes.specs.Upgrading.{RaiseDoes, UpgradeDoes}
 use Rattle.draid_changes.specs.Walks.{end_of_reserving}
-use Rattle.draid_changes.specs.declared.upgrading.UpgradeFault.{UpgradeFault}
 use Rattle.draid_changes.specs.declared.upgrading.UpgradeFault.TheVariants as fault
 use Rattle.draid_changes.proofs.Begun.{Finished, PhaseIs, begun, first_of, first_seen, follow, seen_first, uber_of}
 

@@ -1,5 +1,5 @@
 -- Which rule an arm breaks first that is to leave its slot, in the words of a session.
-use Rattle.std.proofs.Common.{◌≡◌, ◌≢◌, ◌<◌, ◌≤◌, ◌+◌, ◌-◌, ◌∙◌, [], ◌∷◌, inl, inr, ◌⊎◌, ◌||◌, ℕ, zero, suc, Bool, true, false, List, Option, Some, None, arith, refl, sym, ap, subst, length, remove, slice_index_or}
+use Rattle.std.proofs.Common.{◌≡◌, ◌≢◌, ◌<◌, ◌≤◌, ◌+◌, ◌-◌, ◌∙◌, [], ◌∷◌, inl, inr, ℕ, zero, suc, Bool, true, false, List, Some, None, arith, refl, sym, ap, subst, length, remove, slice_index_or}
 use Rattle.std.specs.Prelude.{option_map, slice_get, sum_by, ◌^◌, if◌then◌else◌}
 use Rattle.std.specs.List.{list_any}
 use Rattle.std.proofs.lemmas.Bool.{cases_lt}
@@ -18,7 +18,6 @@ use Rattle.draid_machine.specs.declared.names.ArmName.{ArmName}
 use Rattle.draid_machine.specs.declared.names.ArmName.TheVariants.{Leaf}
 use Rattle.draid_machine.specs.Names.{name_eq, named}
 use Rattle.draid_ranges.specs.Numbers.{count_below}
-use Rattle.draid_machine.specs.State as machine
 use Rattle.draid_machine.proofs.Small.{absurd_test, either_true, name_refl, true_left, true_right}
 use Rattle.draid_slots.specs.Faults.{HasLeafBeside}
 use Rattle.draid_slots.specs.States.{name_of, pass_in}
@@ -38,7 +37,6 @@ use Rattle.draid_pool.specs.Whole.{IsWhole}
 use Rattle.draid_pool.specs.declared.pool.Pool.{Pool}
 use Rattle.draid_pool.proofs.Lifted.{HasMetaslab, metaslab_of}
 use Rattle.draid_pool.proofs.Lists.{present, some_of}
-use Rattle.draid_changes.specs.Detaching.{MayGo}
 use Rattle.draid_changes.proofs.Begun.{first_seen, seen_first}
 use Rattle.draid_changes.proofs.Forbids.{arm_here, arm_there, logged_there, lowest_seen, name_same, no_pass, none_lowest, none_seen, other_name, slot_inside, sums_seen}
 

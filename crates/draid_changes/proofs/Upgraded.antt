@@ -1,5 +1,5 @@
 -- Version 2 is asked for in all metaslabs of a pool and of its uberblock.
-use Rattle.std.proofs.Common.{◌≡◌, ◌≢◌, ◌+◌, ◌++◌, ◌∙◌, [], ◌∷◌, inl, inr, ℕ, true, false, List, Option, Some, None, arith, refl, sym, ap, subst, length, if◌then◌else◌}
+use Rattle.std.proofs.Common.{◌≡◌, ◌+◌, ◌++◌, ◌∙◌, [], ◌∷◌, inl, inr, ℕ, true, false, List, Option, Some, None, arith, refl, sym, ap, subst, length}
 use Rattle.std.specs.Prelude.{nat_eq, slice_get}
 use Rattle.std.specs.HashMap.{get}
 use Rattle.std.proofs.lemmas.List.Elements.{All-weaker}
@@ -13,17 +13,14 @@ use Rattle.draid_machine.specs.State as machine
 use Rattle.draid_machine.specs.Step.{UpgradeStep}
 use Rattle.draid_machine.proofs.Small.{bool_cases, none_some}
 use Rattle.draid_segments.specs.Segments.{Pieces}
-use Rattle.draid_shard.specs.Fits.{Valid}
-use Rattle.draid_shard.specs.Part.{Part, layout_in}
-use Rattle.draid_shard.specs.States.{layout_by}
+use Rattle.draid_shard.specs.Part.{Part}
 use Rattle.draid_shard.specs.declared.shard.Shard.{Shard}
 use Rattle.draid_uber.specs.Slots.{StandsTold}
 use Rattle.draid_uber.specs.Uber as ubers
 use Rattle.draid_uber.specs.Uber.{area_of, kept_of, layout_of, next_leaf_of, version_of}
 use Rattle.draid_uber.specs.declared.uber.Uber.{Uber}
 use Rattle.draid_session.specs.Arms as arms
-use Rattle.draid_session.specs.Follows.{CountsRise}
-use Rattle.draid_session.specs.Holds.{AsksVersion, Did, Hold, OnUber, UberView}
+use Rattle.draid_session.specs.Holds.{AsksVersion, Did, OnUber, UberView}
 use Rattle.draid_session.specs.Phases.{Chain, Went}
 use Rattle.draid_session.specs.State.{Metaslab, State}
 use Rattle.draid_session.specs.Versions.{Asks}
@@ -33,8 +30,7 @@ use Rattle.draid_pool.specs.Metaslabs.{IsMetaslab}
 use Rattle.draid_pool.specs.Pools.{Represents, part_in}
 use Rattle.draid_pool.specs.Records.{LeavesAreBelow}
 use Rattle.draid_pool.specs.Syncing.{AreIdle, Phase, Turns}
-use Rattle.draid_pool.specs.Ubers.{IsPending, IsUber, UberStands, kept_in}
-use Rattle.draid_pool.specs.Whole.{IsWhole}
+use Rattle.draid_pool.specs.Ubers.{IsPending, IsUber, kept_in}
 use Rattle.draid_pool.specs.declared.pool.Pool.{Pool}
 use Rattle.draid_pool.proofs.Dids.{Done, did_with, records_same}
 use Rattle.draid_pool.proofs.Lifted.{metaslab_of}
@@ -42,12 +38,11 @@ use Rattle.draid_pool.proofs.Lists.{present}
 use Rattle.draid_pool.proofs.Steps.{carried, follows_on}
 use Rattle.draid_pool.proofs.Stood.{IsOneOf, Rest, Stood, represents_of, stood_of}
 use Rattle.draid_pool.proofs.Turns.{state_sound}
-use Rattle.draid_changes.specs.Upgrading.{MayUpgrade, Upgrades, UpgradesIn}
+use Rattle.draid_changes.specs.Upgrading.{Upgrades, UpgradesIn}
 use Rattle.draid_changes.specs.Walks.{ChangedBelow}
 use Rattle.draid_changes.proofs.Events.{unsealed}
 use Rattle.draid_changes.proofs.Switched.{counts_stay}
 use Rattle.draid_changes.proofs.Walk.{ChangesAll, IsChanged, changes_all}
-use Rattle.draid_changes.proofs.Whole.{SameOwn}
 
 -- ---- a metaslab
 

@@ -1,8 +1,6 @@
 -- A whole pool stays whole as version 2 is asked for.
-use Rattle.std.proofs.Common.{◌≡◌, ◌<◌, ◌+◌, ◌∙◌, inl, inr, ℕ, Option, Some, arith, refl, sym, ap, subst, length}
-use Rattle.std.specs.Prelude.{nat_eq, slice_get}
-use Rattle.std.specs.HashMap.{get}
-use Rattle.draid_names.specs.declared.pointer.Pointer.{Pointer}
+use Rattle.std.proofs.Common.{◌≡◌, ◌∙◌, inl, inr, ℕ, Some, arith, refl, sym, ap, subst, length}
+use Rattle.std.specs.Prelude.{slice_get}
 use Rattle.draid_rack.specs.declared.Rack as racks
 use Rattle.draid_area.specs.declared.Area as areas
 use Rattle.draid_shard.specs.Alike.{KeepsArms}
@@ -10,10 +8,10 @@ use Rattle.draid_shard.specs.Calls.{SameAreas}
 use Rattle.draid_shard.specs.declared.shard.Shard.{Shard}
 use Rattle.draid_shard.proofs.Changed.{same_arms, same_entries}
 use Rattle.draid_uber.specs.Slots.{group_of}
-use Rattle.draid_uber.specs.Uber.{area_of, layout_of, next_leaf_of}
+use Rattle.draid_uber.specs.Uber.{layout_of}
 use Rattle.draid_pool.specs.Failing.{AreasLater}
 use Rattle.draid_pool.specs.Syncing.{AreIdle}
-use Rattle.draid_pool.specs.Whole.{IsPointer, IsWhole}
+use Rattle.draid_pool.specs.Whole.{IsWhole}
 use Rattle.draid_pool.specs.declared.pool.Pool.{Pool}
 use Rattle.draid_pool.proofs.Arms.{all_kept, leaf_kept}
 use Rattle.draid_pool.proofs.Lists.{some_of}

@@ -18,7 +18,7 @@ use Rattle.draid_disks.specs.Disks.{HasArmRoom, HasDetached, IsNamed, Uses}
 use Rattle.draid_session.specs.Arms as arms
 use Rattle.draid_session.specs.Groups as groups
 use Rattle.draid_session.specs.Holds.{Hold}
-use Rattle.draid_session.specs.Phases.{Chain, End, Went}
+use Rattle.draid_session.specs.Phases.{Chain, End}
 use Rattle.draid_session.specs.State.{State, Store}
 use Rattle.draid_pool.specs.Syncing.{end_of}
 use Rattle.draid_pool.specs.declared.fault.SyncFault.{SyncFault}

@@ -1,4 +1,4 @@
-use Rattle.std.proofs.Common.{◌∙◌, ℕ, Result, Ok, Err, ap, refl, subst}
+use Rattle.std.proofs.Common.{◌∙◌, Ok, Err, ap, refl}
 use Rattle.draid_session.specs.Arms.{arm_of}
 use Rattle.draid_pool.specs.declared.fault.SyncFault.TheVariants as sync
 use Rattle.draid_pool.proofs.Steps.{by_answer}

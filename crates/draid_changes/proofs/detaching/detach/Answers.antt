@@ -1,4 +1,4 @@
-use Rattle.std.proofs.Common.{◌≡◌, ℕ, Err, ap, refl}
+use Rattle.std.proofs.Common.{ℕ, Err, ap, refl}
 use Rattle.std.specs.Prelude.{IsErrOf}
 use Rattle.draid_pool.specs.declared.fault.SyncFault.{SyncFault}
 use Rattle.draid_pool.specs.declared.fault.SyncFault.TheVariants as sync
