@@ -1,5 +1,5 @@
 -- What offline and online leave of a leaf's arms in each metaslab.
-use Rattle.std.proofs.Common.{◌≡◌, ◌==◌, ◌∙◌, ℕ, Bool, List, Some, Err, arith, sym, ap, subst, length, slice_get, if◌then◌else◌}
+use Rattle.std.proofs.Common.{◌≡◌, ◌==◌, ◌∙◌, ℕ, Bool, List, Option, Some, Err, arith, sym, ap, subst, length, slice_get, if◌then◌else◌}
 use Rattle.std.specs.Prelude.{option_map}
 use Rattle.std.proofs.lemmas.Option.{slice_get_within}
 use Rattle.draid_names.specs.declared.arm.Arm.{Arm}
@@ -18,7 +18,7 @@ use Rattle.draid_pool.specs.declared.fault.SyncFault.TheVariants as sync
 use Rattle.draid_pool.specs.declared.pool.Pool.{Pool}
 use Rattle.draid_pool.proofs.Lists.{present}
 use Rattle.draid_changes.specs.Answers.{IsFor}
-use Rattle.draid_changes.specs.Behind.{AllSwitched, HasLeaf, IsSwitched, LeafIs, NoneHas, SpareIs}
+use Rattle.draid_changes.specs.Behind.{AllSwitched, DiskIs, HasLeaf, IsSwitched, LeafIs, NoneHas, SpareIs}
 use Rattle.draid_changes.specs.Walks.{ChangedBelow, MaySwitch, Switches}
 use Rattle.draid_changes.specs.declared.fault.ArmFault.{ArmFault}
 use Rattle.draid_changes.proofs.Walk.{changed_at}
@@ -61,6 +61,12 @@ module _ {R A : Type 0} (rack : racks.Ghosts R) (area : areas.Ghosts A) where
   spare_unfinished slot spare sync.Last fault shards is = absurd is
   spare_unfinished slot spare sync.Shelf fault shards is = subst (λ f. SpareIs slot spare (Err f) shards) (sym is) tt
   spare_unfinished slot spare sync.NoMemory fault shards is = subst (λ f. SpareIs slot spare (Err f) shards) (sym is) tt
+
+  pub disk_unfinished : (slot : ℕ) (sectors : Option ℕ) (why : SyncFault) (fault : ArmFault) (shards : List (Shard R A)) → IsFor why fault → DiskIs slot sectors (Err fault) shards
+  disk_unfinished slot sectors sync.Worn fault shards is = subst (λ f. DiskIs slot sectors (Err f) shards) (sym is) tt
+  disk_unfinished slot sectors sync.Last fault shards is = absurd is
+  disk_unfinished slot sectors sync.Shelf fault shards is = subst (λ f. DiskIs slot sectors (Err f) shards) (sym is) tt
+  disk_unfinished slot sectors sync.NoMemory fault shards is = subst (λ f. DiskIs slot sectors (Err f) shards) (sym is) tt
 
   -- what is no arm of the first metaslab is none of any
   pub none_has : (pool : Pool R A) (leaf : ℕ) (first : Shard R A) → IsWhole rack area pool → slice_get pool.metaslabs.shards.items 0 ≡ Some first → (IsLeafArm first.slots leaf → ⊥) → NoneHas leaf pool.metaslabs.shards.items

@@ -1,18 +1,18 @@
 -- What the arms of a pool's metaslabs are behind a command on them, whatever is known of the pool.
-use Rattle.std.specs.Prelude.{◌≡◌, ◌<◌, ⊤, ℕ, Bool, true, false, List, Some, Result, Ok, Err, slice_get}
+use Rattle.std.specs.Prelude.{◌≡◌, ◌<◌, ⊤, ℕ, Bool, true, false, List, Option, Some, Result, Ok, Err, slice_get}
 use Rattle.draid_names.specs.declared.arm.Arm.{Arm}
 use Rattle.draid_names.specs.declared.arm.ArmAt.{ArmAt}
 use Rattle.draid_names.specs.declared.arm.ArmKind.TheVariants as kind
 use Rattle.draid_names.specs.declared.refusal.SlotFault.{SlotFault}
 use Rattle.draid_names.specs.declared.refusal.SlotFault.TheVariants as slot
-use Rattle.draid_script.specs.Line.{AttachSpare, Command, TakeOffline, TakeOnline}
+use Rattle.draid_script.specs.Line.{AttachSpare, Command, ReplaceDisk, TakeOffline, TakeOnline}
 use Rattle.draid_reply.specs.declared.reply.Reply.{Reply}
-use Rattle.draid_reply.specs.declared.reply.Reply.TheVariants.{OfflineDone, OfflineRefused, OnlineDone, OnlineRefused, Spared, SpareRefused}
+use Rattle.draid_reply.specs.declared.reply.Reply.TheVariants.{OfflineDone, OfflineRefused, OnlineDone, OnlineRefused, Spared, SpareRefused, Replaced, ReplaceRefused}
 use Rattle.draid_slots.specs.Table.{IsArmOf, SlotTable, arm_at}
 use Rattle.draid_shard.specs.declared.shard.Shard.{Shard}
 use Rattle.draid_disks.specs.Checks.{Each}
 use Rattle.draid_disks.specs.Disks.{IsLeafArm, arm_called}
-use Rattle.draid_changes.specs.Attaching.{IsBarred}
+use Rattle.draid_changes.specs.Attaching.{IsBarred, IsReplaceBarred}
 use Rattle.draid_changes.specs.declared.fault.ArmFault.{ArmFault}
 use Rattle.draid_changes.specs.declared.fault.ArmFault.TheVariants as fault
 
@@ -58,6 +58,24 @@ SpareIs slot spare (Err fault.Worn) shards = ⊤
 SpareIs slot spare (Err fault.Shelf) shards = ⊤
 SpareIs slot spare (Err fault.NoMemory) shards = ⊤
 
+-- ---- a new disk
+
+-- a leaf is an arm of a slot in all metaslabs
+abbrev pub AllHaveLeaf : {R A : Type 0} → ℕ → ℕ → List (Shard R A) → Type 0
+AllHaveLeaf {R} {A} slot leaf shards = Each (λ (shard : Shard R A). (arm : ℕ) × IsArmOf kind.Leaf leaf (arm_at shard.slots (record { slot = slot; arm = arm }))) shards
+
+-- or this rule forbids the disk, as a leaf of the next number
+abbrev pub DiskIsBarred : {R A : Type 0} → ℕ → Option ℕ → SlotFault → List (Shard R A) → Type 0
+DiskIsBarred {R} {A} slot sectors why shards = (leaf : ℕ) × (first : Shard R A) × (slice_get shards 0 ≡ Some first) × IsReplaceBarred first.slots shards slot leaf sectors why
+
+-- by the answer of the call that attaches it
+abbrev pub DiskIs : {R A : Type 0} → ℕ → Option ℕ → Result ℕ ArmFault → List (Shard R A) → Type 0
+DiskIs slot sectors (Ok leaf) shards = AllHaveLeaf slot leaf shards
+DiskIs slot sectors (Err (fault.Slot why)) shards = DiskIsBarred slot sectors why shards
+DiskIs slot sectors (Err fault.Worn) shards = ⊤
+DiskIs slot sectors (Err fault.Shelf) shards = ⊤
+DiskIs slot sectors (Err fault.NoMemory) shards = ⊤
+
 -- ---- by a command and its reply
 
 abbrev pub ArmsBehind : {R A : Type 0} → Command → Reply → List (Shard R A) → Type 0
@@ -67,4 +85,6 @@ ArmsBehind (TakeOnline leaf) (OnlineDone l) shards = AllSwitched leaf false shar
 ArmsBehind (TakeOnline leaf) (OnlineRefused l) shards = NoneHas leaf shards
 ArmsBehind (AttachSpare slot spare) (Spared s called) shards = AllHaveSpare slot spare shards
 ArmsBehind (AttachSpare slot spare) (SpareRefused s why) shards = SpareIsBarred slot spare why shards
+ArmsBehind (ReplaceDisk slot sectors) (Replaced s leaf) shards = AllHaveLeaf slot leaf shards
+ArmsBehind (ReplaceDisk slot sectors) (ReplaceRefused s why) shards = DiskIsBarred slot sectors why shards
 ArmsBehind command reply shards = ⊤

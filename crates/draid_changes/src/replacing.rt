@@ -6,6 +6,7 @@ ghost use Rattle.draid_pool.specs.Pointers.{SamePointers};
 ghost use Rattle.draid_pool.specs.Pools.{Represents};
 ghost use Rattle.draid_pool.specs.Whole.{IsWhole};
 ghost use Rattle.draid_changes.specs.Answers.{ReplaceDoes};
+ghost use Rattle.draid_changes.specs.Behind.{DiskIs};
 
 use crate::attaching::attach_all;
 use crate::fault::{ArmFault, arm_fault};
@@ -33,6 +34,7 @@ pub fn replace<R: Rack, A: Area>(
     ensures cause { IsErrOf result ArmFault.Shelf → AreaRose A.faults pool.old pool.new ⊎ RackFails R.faults pool.new }
     ensures carries { (x : State) → Represents R.Rack A.Area pool.old x
         → CarriesOut R.Rack A.Area pool.new x (ReplaceDoes x slot sectors result) }
+    ensures arms { DiskIs slot sectors result pool.new.metaslabs.shards.items }
 {
     if let Err(fault) = pool.finish() {
         return Err(arm_fault(fault));

@@ -118,6 +118,7 @@ pub fn reply_to_replace<R: Rack, A: Area>(
     ensures fits { IfOk result (IsReplyTo (ReplaceDisk slot sectors)) }
     ensures step { (x : State) → Represents R.Rack A.Area pool.old x
         → CarriesOut R.Rack A.Area pool.new x (ReplaceSays slot sectors result x) }
+    ensures arms { IfOk result (λ reply. ArmsBehind (ReplaceDisk slot sectors) reply pool.new.metaslabs.shards.items) }
 {
     match replace(pool, slot, sectors) {
         Ok(leaf) => Ok(Reply::Replaced { slot, leaf }),

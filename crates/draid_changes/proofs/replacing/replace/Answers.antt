@@ -22,8 +22,9 @@ use Rattle.draid_changes.specs.Walks.{end_of_reserving, events_at}
 use Rattle.draid_changes.specs.declared.fault.ArmFault.TheVariants as armed
 use Rattle.draid_changes.specs.declared.need.Need.TheVariants as needs
 use Rattle.draid_changes.proofs.Begun.{broke_no_way, err_of, first_borrowed, shelf_first, starved_no_way, unfinished, worn_no_way}
-use Rattle.draid_changes.proofs.Coming.{attached_whole, may_come_made}
+use Rattle.draid_changes.proofs.Coming.{attached_whole, came_to_all, may_come_made}
 use Rattle.draid_changes.proofs.Events.{areas_changed, idle_reserved}
+use Rattle.draid_changes.proofs.Leaves.{disk_unfinished}
 use Rattle.draid_changes.proofs.Numbered.{SetsLeaf, areas_numbered, numbered_whole}
 use Rattle.draid_changes.proofs.Replaced.{DiskBreaks, DiskComes, disk_done, disk_refused, disk_unmade, disk_unreserved, idle_made}
 use Rattle.draid_changes.proofs.replacing.replace.Goals as goal
@@ -191,3 +192,22 @@ returns-in-Ok-make_all-clause-carries g c = λ x is.
     disk_done g.R.Rack g.A.Area mid x c.args.slot leaf c.args.sectors first (c.in_default.ensures.carries x is) at c.next_leaf-leaf.ensures own late c.in-Ok.ensures.carries made u new one.0 c.in-Ok-make_all.ensures.carries one.1
     (idle_made g.R.Rack g.A.Area leaf late made (idle_reserved g.R.Rack g.A.Area needs.Attachment mid late c.in_default.ensures.idle c.in-Ok.ensures.reserves) c.in-Ok-make_all.ensures.makes) set c.attach_all.ensures.attaches
     (record { geometry = refl; uber = refl; objects = refl; seq = refl; floor = refl }))
+
+-- ---- what becomes of the slot
+
+pub returns-in-Err-clause-arms : goal.returns-in-Err-clause-arms
+returns-in-Err-clause-arms g c = disk_unfinished g.R.Rack g.A.Area c.args.slot c.args.sectors c.in-Err.fault c.arm_fault.result c.finish.new.self.metaslabs.shards.items c.arm_fault.ensures
+
+pub returns-in-Err-may_replace-clause-arms : goal.returns-in-Err-may_replace-clause-arms
+returns-in-Err-may_replace-clause-arms g c =
+    let mid = c.finish.new.self in
+    let first = c.index.result.now in (
+      c.next_leaf-leaf.result,
+      first,
+      first_borrowed g.R.Rack g.A.Area mid first c.in_default.ensures.whole c.index.ensures,
+      barred mid first c.deref.result.now c.args.slot c.next_leaf-leaf.result c.args.sectors c.may_replace.result c.in-Err-may_replace.why c.may_replace.ensures.refused c.in-Err-may_replace.is c.deref.ensures.value,
+    )
+
+pub returns-in-Ok-make_all-clause-arms : goal.returns-in-Ok-make_all-clause-arms
+returns-in-Ok-make_all-clause-arms g c =
+    came_to_all g.R.Rack g.A.Area c.args.slot kind.Leaf c.next_leaf-leaf.result c.make_all.new.pool.metaslabs.shards.items c.attach_all.new.shards.items c.attach_all.ensures.attaches

@@ -117,8 +117,7 @@ returns-in-Replace g c =
       knows = subst (λ k. IfOk c.reply_to_replace.result (λ reply. Teaches k reply c.args.pool.now c.reply_to_replace.new.pool)) (sym is)
           (each_reply c.reply_to_replace.result (λ reply. Teaches (ReplaceDisk c.in-Replace.slot c.in-Replace.sectors) reply c.args.pool.now c.reply_to_replace.new.pool)
           (λ reply. teaches_nothing (ReplaceDisk c.in-Replace.slot c.in-Replace.sectors) reply (λ known. refl) c.args.pool.now c.reply_to_replace.new.pool e.same));
-      arms = subst (λ k. IfOk c.reply_to_replace.result (λ reply. ArmsBehind k reply c.reply_to_replace.new.pool.metaslabs.shards.items)) (sym is)
-          (each_reply c.reply_to_replace.result (λ reply. ArmsBehind (ReplaceDisk c.in-Replace.slot c.in-Replace.sectors) reply c.reply_to_replace.new.pool.metaslabs.shards.items) (λ reply. tt));
+      arms = subst (λ k. IfOk c.reply_to_replace.result (λ reply. ArmsBehind k reply c.reply_to_replace.new.pool.metaslabs.shards.items)) (sym is) e.arms;
       breaks = λ failed. (
         subst MayBreak (sym is) tt,
         (elim (e.cause failed) [
