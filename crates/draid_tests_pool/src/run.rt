@@ -320,10 +320,10 @@ fn calls_that_fail_are_told(rt: HostRuntime) {
     }
 }
 
-/// A session that a call of a device ends, and one behind it on the same shelf.
+/// A session that a call of the shelf, or of the rack of the second metaslab, ends, and one behind it on the same shelf.
 struct Restart {
-    place: Place,
-    call: u64,
+    shelf: &'static [u64],
+    rack: &'static [u64],
     session: &'static str,
     printed: &'static str,
     later: &'static str,
@@ -335,16 +335,16 @@ struct Restart {
 /// detached: it is found by the next import, and without the leaf.
 static RESTARTS: [Restart; 2] = [
     Restart {
-        place: Place::Rack(1),
-        call: 0,
+        shelf: &[],
+        rack: &[0],
         session: "create draid1:2d:3c:0s 3 sector=512 height=8 metaslabs=3 slices=1\nreplace 0\n",
         printed: "create draid1:2d:3c:0s-0 stripes=24\nshelf fault\n",
         later: "import\nstatus\nreplace 0\ndetach 3\n",
         found: "import draid1:2d:3c:0s-0 group=1 objects=0\npool draid1:2d:3c:0s-0 group=1 open=2 objects=0\nslot 0 leaf 0 online logged=0\nslot 1 leaf 1 online logged=0\nslot 2 leaf 2 online logged=0\nmetaslab 0 free=8 blocks=0 none\nmetaslab 1 free=8 blocks=0 none\nmetaslab 2 free=8 blocks=0 none\nend\nreplace 0 leaf=3 ok\ndetach 3 ok group=2\n",
     },
     Restart {
-        place: Place::Own,
-        call: 7,
+        shelf: &[7],
+        rack: &[],
         session: "create draid1:2d:3c:0s 3 sector=512 height=8 metaslabs=3 slices=1\nreplace 0\nwrite 7 aa\ndetach 3\nexport\nimport\n",
         printed: "create draid1:2d:3c:0s-0 stripes=24\nreplace 0 leaf=3 ok\nwrite 7 ok\ndetach 3 ok group=2\nexport group=2\nshelf fault\n",
         later: "import\nread 7\noffline 3\nreplace 0\n",
@@ -355,8 +355,10 @@ static RESTARTS: [Restart; 2] = [
 /// Whether the first session ends for its device, and the next one is whole.
 fn is_found_later<R: AllocGlobal + Threads + Sync>(rt: &R, restart: &Restart) -> Option<bool> {
     let mut shelf = MemoryShelf::new(rt.alloc(), CrashRule::New);
-    let calls = Vec::from_slice(rt.alloc(), &[restart.call]).ok()?;
-    shelf.fail(restart.place, calls);
+    let calls = Vec::from_slice(rt.alloc(), restart.shelf).ok()?;
+    shelf.fail(Place::Own, calls);
+    let calls = Vec::from_slice(rt.alloc(), restart.rack).ok()?;
+    shelf.fail(Place::Rack(1), calls);
     let mut first = sink_of(rt.alloc(), &NONE).ok()?;
     let mut second = sink_of(rt.alloc(), &NONE).ok()?;
     let (session, later) = (restart.session.as_bytes(), restart.later.as_bytes());
