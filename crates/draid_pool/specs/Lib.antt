@@ -4,6 +4,7 @@ pub mod Committing
 pub mod Drifts
 pub mod Failing
 pub mod Follows
+pub mod Grouping
 pub mod Groups
 pub mod Holding
 pub mod Importable

@@ -35,7 +35,7 @@ use draid_rack::Rack;
 use draid_shard::Shard;
 
 /// Closes a group in a shard where it isn't closing already.
-fn close_in<R: Rack, A: Area>(shard: &mut Shard<R, A>, group: u64) -> Result<(), SyncFault>
+pub fn close_in<R: Rack, A: Area>(shard: &mut Shard<R, A>, group: u64) -> Result<(), SyncFault>
     requires valid { Valid R.Rack shard.old }
     requires next { group ≡ shard.old.committed + 1 }
     ensures valid { Valid R.Rack shard.new }
