@@ -16,6 +16,7 @@ pub mod Finds
 pub mod Following
 pub mod Freed
 pub mod Glances
+pub mod GroupHold
 pub mod GroupKeeps
 pub mod HeldBy
 pub mod Hiding
