@@ -1,5 +1,5 @@
 -- What a pool stands for behind holds by its only thread that leave groups and arms: from what the thread knows then, and from what the pool stood for.
-use Rattle.std.proofs.Common.{◌≡◌, ◌<◌, ◌≤◌, ◌+◌, ◌∙◌, inl, inr, arith, ℕ, suc, Bool, true, false, List, [], ◌∷◌, Some, None, refl, sym, ap, subst, slice_set, length}
+use Rattle.std.proofs.Common.{◌≡◌, ◌<◌, ◌≤◌, ◌+◌, ◌∙◌, inl, inr, arith, ℕ, suc, Bool, true, false, List, [], ◌∷◌, Option, Some, None, refl, sym, ap, subst, slice_set, length}
 use Rattle.std.specs.Prelude.{slice_get, nat_lt, if◌then◌else◌, ⊤}
 use Rattle.std.proofs.lemmas.Bool.{cases_eq}
 use Rattle.std.proofs.lemmas.List.{length-set}
@@ -29,7 +29,7 @@ use Rattle.draid_pool.specs.Metaslabs.{IsMetaslab}
 use Rattle.draid_pool.specs.Objects.{HoldsObjects, IsLastAt, blocks_of}
 use Rattle.draid_pool.specs.Pools.{Represents, Stands, part_in}
 use Rattle.draid_pool.specs.Shards.{KeepsImages}
-use Rattle.draid_pool.specs.Threads.{AllStay, CarriesBy, IsWholeBy, Knows}
+use Rattle.draid_pool.specs.Threads.{AllStay, AllStayThere, CarriesBy, IsWholeBy, Knows}
 use Rattle.draid_pool.specs.Whole.{IsWhole}
 use Rattle.draid_pool.specs.declared.pool.Pool.{Pool}
 use Rattle.draid_pool.proofs.Alone.{carries_alone}
@@ -141,12 +141,12 @@ module _ {R A : Type 0} (rack : racks.Ghosts R) (area : areas.Ghosts A) where
   same_long (x ∷ xs) [] there gone = absurd (let z = there 0 x refl in let e : None ≡ Some z.0 = z.1 in cc)
   same_long (x ∷ xs) (y ∷ ys) there gone = ap suc (same_long xs ys (λ m. there (suc m)) (λ m. gone (suc m)))
 
-  module _ (pool new : Pool R A) (w : IsWhole rack area pool) (geometry : new.geometry ≡ pool.geometry) (uber : new.uber ≡ pool.uber) (stay : AllStay all (left_in pool) (left_in new)) where
+  module _ (pool new : Pool R A) (w : IsWhole rack area pool) (geometry : new.geometry ≡ pool.geometry) (uber : new.uber ≡ pool.uber) (stay : AllStayThere all (left_in pool) (left_in new)) where
     many_left : length new.metaslabs.shards.items ≡ length pool.metaslabs.shards.items
     many_left = same_long pool.metaslabs.shards.items new.metaslabs.shards.items (λ m shard at. (let z = stay.each m shard at in (z.0, z.1))) stay.absent
 
-    pub whole_left : IsWholeBy rack all (left_in new) (table_in new) new.own.seq new.own.floor → IsWhole rack area new
-    whole_left by = record {
+    pub whole_there : IsWholeBy rack all (left_in new) (table_in new) new.own.seq new.own.floor → IsWhole rack area new
+    whole_there by = record {
       perms = w.perms;
       layout = subst (λ g. IsLayout g w.perms) (sym geometry) w.layout;
       many = many_left ∙ (w.many ∙ ap (λ (g : Geometry). g.props.metaslabs) (sym geometry));
@@ -161,9 +161,9 @@ module _ {R A : Type 0} (rack : racks.Ghosts R) (area : areas.Ghosts A) where
             part = ap (λ (s : Shard R A). part_of s) (sym same) ∙ (z.2.part ∙ (is.part ∙ ap (λ (g : Geometry). record { geometry = g; perms = w.perms; number = m }) (sym geometry)));
             numbered = λ key h. held.numbered key h refl;
             settled = λ key h. held.settled key h refl;
-            committed = ap (λ (s : Shard R A). s.committed) (sym same) ∙ ((z.2.groups refl).groups.committed ∙ (is.committed ∙ ap (λ u. group_of (kept_of u)) (sym uber)));
+            committed = ap (λ (s : Shard R A). s.committed) (sym same) ∙ (z.2.committed refl ∙ (is.committed ∙ ap (λ u. group_of (kept_of u)) (sym uber)));
             leaves = λ leaf own. subst (λ u. leaf < ubers.next_leaf_of u) (sym uber)
-                (is.leaves leaf (leaf_kept was.0.slots z.0.slots leaf (z.2.groups refl).arms (subst (λ (s : Shard R A). IsLeaf s.slots leaf) (sym same) own)));
+                (is.leaves leaf (leaf_kept was.0.slots z.0.slots leaf (z.2.arms refl) (subst (λ (s : Shard R A). IsLeaf s.slots leaf) (sym same) own)));
           }
           );
       alike = all_kept pool.metaslabs.shards.items new.metaslabs.shards.items kept w.alike;
@@ -179,7 +179,7 @@ module _ {R A : Type 0} (rack : racks.Ghosts R) (area : areas.Ghosts A) where
             let was = present pool.metaslabs.shards.items k (let inside = slice_get_within new.metaslabs.shards.items k s at in let many = many_left in omega (arith, inside, many)) in
             let z = stay.each k was.0 was.1 in
             let same : z.0 ≡ s = some_of (left_in new k) z.0 s z.1 at in
-            record { before = was.0; there = was.1; slots = subst (λ (q : Shard R A). KeepsArms was.0.slots q.slots) same (z.2.groups refl).arms }
+            record { before = was.0; there = was.1; slots = subst (λ (q : Shard R A). KeepsArms was.0.slots q.slots) same (z.2.arms refl) }
 
         floor : new.own.floor ≤ group_of (kept_of new.uber) + 2
         floor =
@@ -188,10 +188,21 @@ module _ {R A : Type 0} (rack : racks.Ghosts R) (area : areas.Ghosts A) where
             let was = present pool.metaslabs.shards.items 0 (omega (arith, some, many)) in
             let z = stay.each 0 was.0 was.1 in
             let next = by.next 0 z.0 refl z.1 in
-            let same = (z.2.groups refl).groups.committed in
+            let same = z.2.committed refl in
             let is = (w.shards 0 was.0 was.1).committed in
             let group = ap (λ u. group_of (kept_of u)) uber in
             omega (arith, next, same, is, group)
+
+  -- metaslabs whose groups are as they were
+  stay_there : (last now : ℕ → Option (Shard R A)) → AllStay all last now → AllStayThere all last now
+  stay_there last now stay = record {
+    each = λ m shard at. (let z = stay.each m shard at in (z.0, z.1, record { part = z.2.part; committed = λ own. (z.2.groups own).groups.committed; arms = λ own. (z.2.groups own).arms }));
+    absent = stay.absent;
+  }
+
+  pub whole_left : (pool new : Pool R A) → IsWhole rack area pool → new.geometry ≡ pool.geometry → new.uber ≡ pool.uber → AllStay all (left_in pool) (left_in new) → IsWholeBy rack all (left_in new) (table_in new) new.own.seq new.own.floor
+      → IsWhole rack area new
+  whole_left pool new w geometry uber stay by = whole_there pool new w geometry uber (stay_there (left_in pool) (left_in new) stay) by
 
   -- ---- states
 

@@ -14,6 +14,7 @@ use Rattle.draid_segments.specs.Segments.{Pieces}
 use Rattle.draid_entries.specs.Entries.{held_in}
 use Rattle.draid_objects.specs.Blocks.{Blocks}
 use Rattle.draid_objects.specs.Changes.{Change, Write, object_of, write_of}
+use Rattle.draid_shard.specs.Alike.{KeepsArms}
 use Rattle.draid_shard.specs.Looks.{IsLive}
 use Rattle.draid_shard.specs.Fits.{Valid}
 use Rattle.draid_shard.specs.Part.{Part, layout_in}
@@ -128,6 +129,17 @@ pub record Stays {R A : Type 0} (owns : ℕ → Bool) (old new : Shard R A) : Ty
 -- so is each, and none comes or goes
 pub record AllStay {R A : Type 0} (owns : ℕ → Bool) (last now : ℕ → Option (Shard R A)) : Type 0 where
   pub each : (m : ℕ) (shard : Shard R A) → last m ≡ Some shard → (after : Shard R A) × (now m ≡ Some after) × Stays owns shard after
+  pub absent : (m : ℕ) → last m ≡ None → now m ≡ None
+
+-- a metaslab has the same part as before, and the same committed group and arms where they are the thread's own; its open group may be another one
+pub record StaysThere {R A : Type 0} (owns : ℕ → Bool) (old new : Shard R A) : Type 0 where
+  pub part : part_of new ≡ part_of old
+  pub committed : owns groups_number ≡ true → new.committed ≡ old.committed
+  pub arms : owns groups_number ≡ true → KeepsArms old.slots new.slots
+
+-- so has each, and none comes or goes
+pub record AllStayThere {R A : Type 0} (owns : ℕ → Bool) (last now : ℕ → Option (Shard R A)) : Type 0 where
+  pub each : (m : ℕ) (shard : Shard R A) → last m ≡ Some shard → (after : Shard R A) × (now m ≡ Some after) × StaysThere owns shard after
   pub absent : (m : ℕ) → last m ≡ None → now m ≡ None
 
 -- ---- states
