@@ -74,7 +74,7 @@ fn begin<R: Rack, A: Area>(
 }
 
 /// Does a write, or gives it up behind its first column; whether it is begun.
-fn write<R: Rack, A: Area>(
+pub fn write<R: Rack, A: Area>(
     alloc: Global,
     shard: &mut Shard<R, A>,
     seq: u64,

@@ -3,6 +3,7 @@
 ghost use Rattle.std.specs.Prelude.{◌≡◌, ◌<◌, Some, IfOk, IfSome, IsSome, IsSomeAnd, true};
 ghost use Rattle.draid_entries.specs.History.{reserved_of};
 ghost use Rattle.draid_disks.specs.Disks.{HasArmRoom};
+ghost use Rattle.draid_mend.specs.Loans.{IsRunningRebuild};
 ghost use Rattle.draid_passing.specs.Passing.{IsPlanned};
 ghost use Rattle.draid_rack.specs.Rack.{HasJust};
 ghost use Rattle.draid_spec.specs.Geometry.{IsGeometry, metaslab_sectors};
@@ -10,6 +11,7 @@ ghost use Rattle.draid_shard.specs.Fits.{Valid};
 ghost use Rattle.draid_slots.specs.States.{name_of};
 ghost use Rattle.draid_slots.specs.Table.{arm_at};
 
+use crate::calls::write;
 use crate::devices::kit;
 use crate::groups::sync;
 use draid_area::Area;
@@ -17,8 +19,9 @@ use draid_create::create_metaslab;
 use draid_disks::{attach, detach, make_leaf, offline, online, reserve};
 use draid_import::reopen;
 use draid_machine::ArmName;
+use draid_mend::{Lent, lend, solve};
 use draid_names::{Arm, ArmAt, ArmKind, PassKind, SlotFault};
-use draid_passing::{PlanFault, cancel, plan, ready};
+use draid_passing::{PlanFault, cancel, done, plan, ready};
 use draid_perm::Perms;
 use draid_pool::into_kit;
 use draid_rack::Rack;
@@ -60,8 +63,14 @@ enum Step {
     Plan(PassKind, Result<u64, PlanFault>),
     /// A rebuild that waits runs, or waits on.
     Ready(bool),
-    /// The pass is ended.
+    /// The pass is cancelled.
     Cancel,
+    /// A block is written.
+    Write,
+    /// The next stripe is lent, of which these columns have a source, and the others are solved.
+    Lend([bool; 3]),
+    /// Nothing is left to lend, and the pass makes so many logs good.
+    End(u64),
 }
 
 /// Why a step is refused; None where it is done.
@@ -87,6 +96,10 @@ fn does<R: Rack, A: Area>(shard: &mut Shard<R, A>, step: Step) -> Option<Fault>
         Step::Plan(_, _) => None,
         Step::Ready(runs) => readies(shard, runs),
         Step::Cancel => cancels(shard),
+        Step::Write if write(shard.alloc, shard, 1, 0, true) => Some(None),
+        Step::Write => None,
+        Step::Lend(sources) => lends(shard, sources),
+        Step::End(excised) => ends(shard, excised),
     }
 }
 
@@ -121,6 +134,69 @@ fn cancels<R: Rack, A: Area>(shard: &mut Shard<R, A>) -> Option<Fault>
     }
     cancel(shard);
     Some(None)
+}
+
+/// Whether a rebuild runs.
+fn is_running<R: Rack, A: Area>(shard: &Shard<R, A>) -> bool
+    ensures { result ≡ true → IsSomeAnd shard.now.pass IsRunningRebuild }
+{
+    match &shard.pass {
+        Some(pass) => matches!(pass.kind, PassKind::Rebuild) && pass.running,
+        None => false,
+    }
+}
+
+/// Whether the loan has a source for just these columns.
+fn has_sources<R: Rack, A: Area>(shard: &Shard<R, A>, sources: [bool; 3]) -> bool {
+    let Some(kept) = &shard.kept else {
+        return false;
+    };
+    for column in 0..3 {
+        if matches!(kept.chosen.get(column), Some(Some(_))) != sources[column] {
+            return false;
+        }
+    }
+    true
+}
+
+/// Whether the loan has the columns of the block.
+fn has_columns<R: Rack, A: Area>(shard: &Shard<R, A>) -> bool
+    requires valid { Valid R.Rack shard.now }
+{
+    match &shard.kept {
+        Some(kept) if shard.geometry.g == 3 => {
+            let first = |column: u32| kept.columns.column(column).first() == Some(&b'h');
+            first(0) && first(1) && !first(2)
+        }
+        _ => false,
+    }
+}
+
+/// Lends the next stripe of a rebuild that runs, and solves it.
+fn lends<R: Rack, A: Area>(shard: &mut Shard<R, A>, sources: [bool; 3]) -> Option<Fault>
+    requires valid { Valid R.Rack shard.old }
+    ensures valid { Valid R.Rack shard.new }
+{
+    if !is_running(shard) || lend(shard) != Ok(Lent::Unit) || !has_sources(shard, sources) {
+        return None;
+    }
+    solve(shard);
+    if has_columns(shard) { Some(None) } else { None }
+}
+
+/// Ends a rebuild that runs, of which nothing is left to lend.
+fn ends<R: Rack, A: Area>(shard: &mut Shard<R, A>, excised: u64) -> Option<Fault>
+    requires valid { Valid R.Rack shard.old }
+    ensures valid { Valid R.Rack shard.new }
+{
+    if !is_running(shard) || lend(shard) != Ok(Lent::End) {
+        return None;
+    }
+    let ended = done(shard);
+    if ended.errors == 0 && ended.excised == excised {
+        return Some(None);
+    }
+    None
 }
 
 /// Makes a leaf.
@@ -342,7 +418,7 @@ type Row = (&'static str, &'static [(Step, Fault)], &'static [Told]);
 
 // In the one slice the columns stand on the slots 4, 2 and 3, spare 0 at slot 0 and spare 1 at slot 1. The open group is 2, and
 // one more behind each commit; an arm that comes missed all groups up to it.
-static ROWS: [Row; 12] = [
+static ROWS: [Row; 14] = [
     (
         "a spare comes",
         &[(Step::Spare(1, 0), None)],
@@ -486,6 +562,32 @@ static ROWS: [Row; 12] = [
             (Step::Sync, None),
         ],
         &[(2, 1, ArmKind::Spare, 0, false, true, 3)],
+    ),
+    (
+        "a rebuild of which nothing is left makes its log good",
+        &[
+            (Step::Spare(2, 0), None),
+            (Step::Plan(PassKind::Rebuild, Ok(1)), None),
+            (Step::Sync, None),
+            (Step::Ready(true), None),
+            (Step::End(1), None),
+        ],
+        &[(2, 1, ArmKind::Spare, 0, false, false, 0)],
+    ),
+    (
+        "a stripe is lent from each source, and its other column is solved",
+        &[
+            (Step::Write, None),
+            (Step::Spare(3, 0), None),
+            (Step::Plan(PassKind::Rebuild, Ok(1)), None),
+            (Step::Sync, None),
+            (Step::Ready(true), None),
+            (Step::Lend([true; 3]), None),
+            (Step::Offline(2), None),
+            (Step::Lend([true, false, true]), None),
+            (Step::Cancel, None),
+        ],
+        &[(3, 1, ArmKind::Spare, 0, false, true, 3)],
     ),
 ];
 
