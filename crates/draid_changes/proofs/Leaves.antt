@@ -62,11 +62,11 @@ module _ {R A : Type 0} (rack : racks.Ghosts R) (area : areas.Ghosts A) where
   spare_unfinished slot spare sync.Shelf fault shards is = subst (λ f. SpareIs slot spare (Err f) shards) (sym is) tt
   spare_unfinished slot spare sync.NoMemory fault shards is = subst (λ f. SpareIs slot spare (Err f) shards) (sym is) tt
 
-  pub disk_unfinished : (slot : ℕ) (sectors : Option ℕ) (why : SyncFault) (fault : ArmFault) (shards : List (Shard R A)) → IsFor why fault → DiskIs slot sectors (Err fault) shards
-  disk_unfinished slot sectors sync.Worn fault shards is = subst (λ f. DiskIs slot sectors (Err f) shards) (sym is) tt
-  disk_unfinished slot sectors sync.Last fault shards is = absurd is
-  disk_unfinished slot sectors sync.Shelf fault shards is = subst (λ f. DiskIs slot sectors (Err f) shards) (sym is) tt
-  disk_unfinished slot sectors sync.NoMemory fault shards is = subst (λ f. DiskIs slot sectors (Err f) shards) (sym is) tt
+  pub disk_unfinished : (slot : ℕ) (sectors : Option ℕ) (why : SyncFault) (fault : ArmFault) (pool : Pool R A) → IsFor why fault → DiskIs slot sectors (Err fault) pool
+  disk_unfinished slot sectors sync.Worn fault pool is = subst (λ f. DiskIs slot sectors (Err f) pool) (sym is) tt
+  disk_unfinished slot sectors sync.Last fault pool is = absurd is
+  disk_unfinished slot sectors sync.Shelf fault pool is = subst (λ f. DiskIs slot sectors (Err f) pool) (sym is) tt
+  disk_unfinished slot sectors sync.NoMemory fault pool is = subst (λ f. DiskIs slot sectors (Err f) pool) (sym is) tt
 
   -- what is no arm of the first metaslab is none of any
   pub none_has : (pool : Pool R A) (leaf : ℕ) (first : Shard R A) → IsWhole rack area pool → slice_get pool.metaslabs.shards.items 0 ≡ Some first → (IsLeafArm first.slots leaf → ⊥) → NoneHas leaf pool.metaslabs.shards.items

@@ -1,5 +1,5 @@
 -- What the arms of a pool's metaslabs are behind a command on them, whatever is known of the pool.
-use Rattle.std.specs.Prelude.{◌≡◌, ◌<◌, ⊤, ℕ, Bool, true, false, List, Option, Some, Result, Ok, Err, slice_get}
+use Rattle.std.specs.Prelude.{◌≡◌, ◌<◌, ◌+◌, ⊤, ℕ, Bool, true, false, List, Option, Some, Result, Ok, Err, slice_get}
 use Rattle.draid_names.specs.declared.arm.Arm.{Arm}
 use Rattle.draid_names.specs.declared.arm.ArmAt.{ArmAt}
 use Rattle.draid_names.specs.declared.arm.ArmKind.TheVariants as kind
@@ -10,6 +10,8 @@ use Rattle.draid_reply.specs.declared.reply.Reply.{Reply}
 use Rattle.draid_reply.specs.declared.reply.Reply.TheVariants.{OfflineDone, OfflineRefused, OnlineDone, OnlineRefused, Spared, SpareRefused, Replaced, ReplaceRefused}
 use Rattle.draid_slots.specs.Table.{IsArmOf, SlotTable, arm_at}
 use Rattle.draid_shard.specs.declared.shard.Shard.{Shard}
+use Rattle.draid_uber.specs.Uber.{next_leaf_of}
+use Rattle.draid_pool.specs.declared.pool.Pool.{Pool}
 use Rattle.draid_disks.specs.Checks.{Each}
 use Rattle.draid_disks.specs.Disks.{IsLeafArm, arm_called}
 use Rattle.draid_changes.specs.Attaching.{IsBarred, IsReplaceBarred}
@@ -64,27 +66,28 @@ SpareIs slot spare (Err fault.NoMemory) shards = ⊤
 abbrev pub AllHaveLeaf : {R A : Type 0} → ℕ → ℕ → List (Shard R A) → Type 0
 AllHaveLeaf {R} {A} slot leaf shards = Each (λ (shard : Shard R A). (arm : ℕ) × IsArmOf kind.Leaf leaf (arm_at shard.slots (record { slot = slot; arm = arm }))) shards
 
--- or this rule forbids the disk, as a leaf of the next number
-abbrev pub DiskIsBarred : {R A : Type 0} → ℕ → Option ℕ → SlotFault → List (Shard R A) → Type 0
-DiskIsBarred {R} {A} slot sectors why shards = (leaf : ℕ) × (first : Shard R A) × (slice_get shards 0 ≡ Some first) × IsReplaceBarred first.slots shards slot leaf sectors why
+-- or this rule forbids the disk, as a leaf of the pool's next number
+abbrev pub DiskIsBarred : {R A : Type 0} → ℕ → Option ℕ → SlotFault → Pool R A → Type 0
+DiskIsBarred {R} {A} slot sectors why pool =
+    (first : Shard R A) × (slice_get pool.metaslabs.shards.items 0 ≡ Some first) × IsReplaceBarred first.slots pool.metaslabs.shards.items slot (next_leaf_of pool.uber) sectors why
 
--- by the answer of the call that attaches it
-abbrev pub DiskIs : {R A : Type 0} → ℕ → Option ℕ → Result ℕ ArmFault → List (Shard R A) → Type 0
-DiskIs slot sectors (Ok leaf) shards = AllHaveLeaf slot leaf shards
-DiskIs slot sectors (Err (fault.Slot why)) shards = DiskIsBarred slot sectors why shards
-DiskIs slot sectors (Err fault.Worn) shards = ⊤
-DiskIs slot sectors (Err fault.Shelf) shards = ⊤
-DiskIs slot sectors (Err fault.NoMemory) shards = ⊤
+-- by the answer of the call that attaches it: the leaf's number was the next one, and is used up
+abbrev pub DiskIs : {R A : Type 0} → ℕ → Option ℕ → Result ℕ ArmFault → Pool R A → Type 0
+DiskIs slot sectors (Ok leaf) pool = AllHaveLeaf slot leaf pool.metaslabs.shards.items × (next_leaf_of pool.uber ≡ leaf + 1)
+DiskIs slot sectors (Err (fault.Slot why)) pool = DiskIsBarred slot sectors why pool
+DiskIs slot sectors (Err fault.Worn) pool = ⊤
+DiskIs slot sectors (Err fault.Shelf) pool = ⊤
+DiskIs slot sectors (Err fault.NoMemory) pool = ⊤
 
 -- ---- by a command and its reply
 
-abbrev pub ArmsBehind : {R A : Type 0} → Command → Reply → List (Shard R A) → Type 0
-ArmsBehind (TakeOffline leaf) (OfflineDone l) shards = AllSwitched leaf true shards
-ArmsBehind (TakeOffline leaf) (OfflineRefused l) shards = NoneHas leaf shards
-ArmsBehind (TakeOnline leaf) (OnlineDone l) shards = AllSwitched leaf false shards
-ArmsBehind (TakeOnline leaf) (OnlineRefused l) shards = NoneHas leaf shards
-ArmsBehind (AttachSpare slot spare) (Spared s called) shards = AllHaveSpare slot spare shards
-ArmsBehind (AttachSpare slot spare) (SpareRefused s why) shards = SpareIsBarred slot spare why shards
-ArmsBehind (ReplaceDisk slot sectors) (Replaced s leaf) shards = AllHaveLeaf slot leaf shards
-ArmsBehind (ReplaceDisk slot sectors) (ReplaceRefused s why) shards = DiskIsBarred slot sectors why shards
-ArmsBehind command reply shards = ⊤
+abbrev pub ArmsBehind : {R A : Type 0} → Command → Reply → Pool R A → Type 0
+ArmsBehind (TakeOffline leaf) (OfflineDone l) pool = AllSwitched leaf true pool.metaslabs.shards.items
+ArmsBehind (TakeOffline leaf) (OfflineRefused l) pool = NoneHas leaf pool.metaslabs.shards.items
+ArmsBehind (TakeOnline leaf) (OnlineDone l) pool = AllSwitched leaf false pool.metaslabs.shards.items
+ArmsBehind (TakeOnline leaf) (OnlineRefused l) pool = NoneHas leaf pool.metaslabs.shards.items
+ArmsBehind (AttachSpare slot spare) (Spared s called) pool = AllHaveSpare slot spare pool.metaslabs.shards.items
+ArmsBehind (AttachSpare slot spare) (SpareRefused s why) pool = SpareIsBarred slot spare why pool.metaslabs.shards.items
+ArmsBehind (ReplaceDisk slot sectors) (Replaced s leaf) pool = AllHaveLeaf slot leaf pool.metaslabs.shards.items × (next_leaf_of pool.uber ≡ leaf + 1)
+ArmsBehind (ReplaceDisk slot sectors) (ReplaceRefused s why) pool = DiskIsBarred slot sectors why pool
+ArmsBehind command reply pool = ⊤

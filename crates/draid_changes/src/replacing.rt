@@ -34,7 +34,7 @@ pub fn replace<R: Rack, A: Area>(
     ensures cause { IsErrOf result ArmFault.Shelf → AreaRose A.faults pool.old pool.new ⊎ RackFails R.faults pool.new }
     ensures carries { (x : State) → Represents R.Rack A.Area pool.old x
         → CarriesOut R.Rack A.Area pool.new x (ReplaceDoes x slot sectors result) }
-    ensures arms { DiskIs slot sectors result pool.new.metaslabs.shards.items }
+    ensures arms { DiskIs slot sectors result pool.new }
 {
     if let Err(fault) = pool.finish() {
         return Err(arm_fault(fault));

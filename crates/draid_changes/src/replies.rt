@@ -34,7 +34,7 @@ pub fn reply_to_offline<R: Rack, A: Area>(pool: &mut Pool<R, A>, leaf: u64) -> R
     ensures fits { IfOk result (IsReplyTo (TakeOffline leaf)) }
     ensures step { (x : State) → Represents R.Rack A.Area pool.old x
         → CarriesOut R.Rack A.Area pool.new x (SwitchSays leaf true result x) }
-    ensures arms { IfOk result (λ reply. ArmsBehind (TakeOffline leaf) reply pool.new.metaslabs.shards.items) }
+    ensures arms { IfOk result (λ reply. ArmsBehind (TakeOffline leaf) reply pool.new) }
 {
     match offline(pool, leaf) {
         Ok(()) => Ok(Reply::OfflineDone { leaf }),
@@ -57,7 +57,7 @@ pub fn reply_to_online<R: Rack, A: Area>(pool: &mut Pool<R, A>, leaf: u64) -> Re
     ensures fits { IfOk result (IsReplyTo (TakeOnline leaf)) }
     ensures step { (x : State) → Represents R.Rack A.Area pool.old x
         → CarriesOut R.Rack A.Area pool.new x (SwitchSays leaf false result x) }
-    ensures arms { IfOk result (λ reply. ArmsBehind (TakeOnline leaf) reply pool.new.metaslabs.shards.items) }
+    ensures arms { IfOk result (λ reply. ArmsBehind (TakeOnline leaf) reply pool.new) }
 {
     match online(pool, leaf) {
         Ok(()) => Ok(Reply::OnlineDone { leaf }),
@@ -85,7 +85,7 @@ pub fn reply_to_spare<R: Rack, A: Area>(
     ensures fits { IfOk result (IsReplyTo (AttachSpare slot number)) }
     ensures step { (x : State) → Represents R.Rack A.Area pool.old x
         → CarriesOut R.Rack A.Area pool.new x (SpareSays slot number result x) }
-    ensures arms { IfOk result (λ reply. ArmsBehind (AttachSpare slot number) reply pool.new.metaslabs.shards.items) }
+    ensures arms { IfOk result (λ reply. ArmsBehind (AttachSpare slot number) reply pool.new) }
 {
     // (before the spare comes: a want of memory may not follow that)
     let Ok(name) = spare_name(alloc, pool.geometry.spec, number) else {
@@ -118,7 +118,7 @@ pub fn reply_to_replace<R: Rack, A: Area>(
     ensures fits { IfOk result (IsReplyTo (ReplaceDisk slot sectors)) }
     ensures step { (x : State) → Represents R.Rack A.Area pool.old x
         → CarriesOut R.Rack A.Area pool.new x (ReplaceSays slot sectors result x) }
-    ensures arms { IfOk result (λ reply. ArmsBehind (ReplaceDisk slot sectors) reply pool.new.metaslabs.shards.items) }
+    ensures arms { IfOk result (λ reply. ArmsBehind (ReplaceDisk slot sectors) reply pool.new) }
 {
     match replace(pool, slot, sectors) {
         Ok(leaf) => Ok(Reply::Replaced { slot, leaf }),

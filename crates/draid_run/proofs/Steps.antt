@@ -52,7 +52,7 @@ still_out x y now holds follows out store = record { held = out.held; checks = o
 module _ {R A : Type 0} (rack : racks.Ghosts R) (area : areas.Ghosts A) (choices : Choices) (command : Command) (called : CommandName) (reply : Reply) where
   -- a command was carried out on the pool that is open
   pub did_open : (desk : Option (Pool R A)) (pool new : Pool R A) → desk ≡ Some pool → IsWhole rack area new → IsReplyTo command reply
-      → Teaches command reply pool new → ArmsBehind command reply new.metaslabs.shards.items
+      → Teaches command reply pool new → ArmsBehind command reply new
       → ((x : State) → Represents rack area pool x → CarriesOut rack area new x (ReplyDoes x choices command reply))
       → (x : Desk) → IsPool rack area desk x → PoolDid rack area choices command called x reply (Some new)
   did_open desk pool new is whole fits teaches arms step x = subst (λ d. IsPool rack area d x → PoolDid rack area choices command called x reply (Some new)) (sym is) (by x) where

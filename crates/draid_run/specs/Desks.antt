@@ -61,7 +61,7 @@ PoolDid rack area choices command called (Open x) reply None = ⊥
 PoolDid rack area choices command called (Foreign known) reply None = ⊥
 PoolDid rack area choices command called (Open x) reply (Some pool) = IsWhole rack area pool × IsReplyTo command reply × CarriesOut rack area pool x (ReplyDoes x choices command reply)
 PoolDid rack area choices command called (Foreign known) reply (Some pool) =
-    IsWhole rack area pool × IsReplyTo command reply × KnowsBehind command reply known pool × ArmsBehind command reply pool.metaslabs.shards.items
+    IsWhole rack area pool × IsReplyTo command reply × KnowsBehind command reply known pool × ArmsBehind command reply pool
 PoolDid rack area choices command called desk reply pool = (reply ≡ NoPool called) × (pool ≡ None)
 
 -- what a command did to the open pool, by its reply, or where it has none

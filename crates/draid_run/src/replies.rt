@@ -54,7 +54,7 @@ pub(crate) fn reply<R: Rack, A: Area, F: Fn(&[Room]) -> Option<u32>>(
     ensures whole { IsWhole R.Rack A.Area pool.new }
     ensures fits { IfOk result (IsReplyTo (command_in line.now)) }
     ensures knows { IfOk result (λ reply. Teaches (command_in line.now) reply pool.old pool.new) }
-    ensures arms { IfOk result (λ reply. ArmsBehind (command_in line.now) reply pool.new.metaslabs.shards.items) }
+    ensures arms { IfOk result (λ reply. ArmsBehind (command_in line.now) reply pool.new) }
     ensures breaks { IsErr result → MayBreak (command_in line.now) × (AreaFails A.faults pool.new ⊎ (MakesLeaves (command_in line.now) × RackFails R.faults pool.new)) × SamePointers pool.old pool.new }
     ensures step { (x : State) → Represents R.Rack A.Area pool.old x
         → CarriesOut R.Rack A.Area pool.new x (AnswerDoes x (choices_by (FnReturnsAt F.Fn chooser.now)) (command_in line.now) result) }

@@ -196,18 +196,21 @@ returns-in-Ok-make_all-clause-carries g c = λ x is.
 -- ---- what becomes of the slot
 
 pub returns-in-Err-clause-arms : goal.returns-in-Err-clause-arms
-returns-in-Err-clause-arms g c = disk_unfinished g.R.Rack g.A.Area c.args.slot c.args.sectors c.in-Err.fault c.arm_fault.result c.finish.new.self.metaslabs.shards.items c.arm_fault.ensures
+returns-in-Err-clause-arms g c = disk_unfinished g.R.Rack g.A.Area c.args.slot c.args.sectors c.in-Err.fault c.arm_fault.result c.finish.new.self c.arm_fault.ensures
 
 pub returns-in-Err-may_replace-clause-arms : goal.returns-in-Err-may_replace-clause-arms
 returns-in-Err-may_replace-clause-arms g c =
     let mid = c.finish.new.self in
-    let first = c.index.result.now in (
-      c.next_leaf-leaf.result,
+    let first = c.index.result.now in
+    let why = c.in-Err-may_replace.why in (
       first,
       first_borrowed g.R.Rack g.A.Area mid first c.in_default.ensures.whole c.index.ensures,
-      barred mid first c.deref.result.now c.args.slot c.next_leaf-leaf.result c.args.sectors c.may_replace.result c.in-Err-may_replace.why c.may_replace.ensures.refused c.in-Err-may_replace.is c.deref.ensures.value,
+      subst (λ leaf. IsReplaceBarred first.slots mid.metaslabs.shards.items c.args.slot leaf c.args.sectors why) c.next_leaf-leaf.ensures
+          (barred mid first c.deref.result.now c.args.slot c.next_leaf-leaf.result c.args.sectors c.may_replace.result why c.may_replace.ensures.refused c.in-Err-may_replace.is c.deref.ensures.value),
     )
 
 pub returns-in-Ok-make_all-clause-arms : goal.returns-in-Ok-make_all-clause-arms
-returns-in-Ok-make_all-clause-arms g c =
-    came_to_all g.R.Rack g.A.Area c.args.slot kind.Leaf c.next_leaf-leaf.result c.make_all.new.pool.metaslabs.shards.items c.attach_all.new.shards.items c.attach_all.ensures.attaches
+returns-in-Ok-make_all-clause-arms g c = (
+  came_to_all g.R.Rack g.A.Area c.args.slot kind.Leaf c.next_leaf-leaf.result c.make_all.new.pool.metaslabs.shards.items c.attach_all.new.shards.items c.attach_all.ensures.attaches,
+  c.set_next_leaf.ensures.leaf,
+)

@@ -30,9 +30,9 @@ returns-in-Err-Shelf-clause-step g c = λ x is.
     by_answer g.R.Rack g.A.Area (λ r. ReplaceDoes x c.args.slot c.args.sectors r) _ x c.replace.new.pool c.replace.result (Err fault.Shelf) (c.in-Err-Shelf.is ∙ ap Err c.in-Err-Shelf.field-0-is) (λ holds store w. (Err fault.Shelf, tt, w)) (c.replace.ensures.carries x is)
 
 pub returns-in-Ok-clause-arms : goal.returns-in-Ok-clause-arms
-returns-in-Ok-clause-arms g c = subst (λ r. DiskIs c.args.slot c.args.sectors r c.replace.new.pool.metaslabs.shards.items) c.in-Ok.is c.replace.ensures.arms
+returns-in-Ok-clause-arms g c = subst (λ r. DiskIs c.args.slot c.args.sectors r c.replace.new.pool) c.in-Ok.is c.replace.ensures.arms
 
 pub returns-in-Err-Slot-clause-arms : goal.returns-in-Err-Slot-clause-arms
 returns-in-Err-Slot-clause-arms g c =
-    subst (λ r. DiskIs c.args.slot c.args.sectors r c.replace.new.pool.metaslabs.shards.items)
+    subst (λ r. DiskIs c.args.slot c.args.sectors r c.replace.new.pool)
     (c.in-Err-Slot.is ∙ ap Err (c.in-Err-Slot.field-0-is ∙ ap (λ why. fault.Slot why) c.in-Err-Slot.why-is)) c.replace.ensures.arms

@@ -17,7 +17,7 @@ returns-in-Write g c = record {
   whole = c.reply_to_write.ensures.whole;
   fits = subst (λ k. IsReplyTo k c.reply_to_write.result) (sym (ap command_in c.in-Write.is ∙ ap (WriteObject c.in-Write.object) (sym c.deref.ensures.value))) c.reply_to_write.ensures.fits;
   knows = subst (λ k. Teaches k c.reply_to_write.result c.args.pool.now c.reply_to_write.new.pool) (sym (ap command_in c.in-Write.is ∙ ap (WriteObject c.in-Write.object) (sym c.deref.ensures.value))) c.reply_to_write.ensures.knows;
-  arms = subst (λ k. ArmsBehind k c.reply_to_write.result c.reply_to_write.new.pool.metaslabs.shards.items) (sym (ap command_in c.in-Write.is ∙ ap (WriteObject c.in-Write.object) (sym c.deref.ensures.value))) tt;
+  arms = subst (λ k. ArmsBehind k c.reply_to_write.result c.reply_to_write.new.pool) (sym (ap command_in c.in-Write.is ∙ ap (WriteObject c.in-Write.object) (sym c.deref.ensures.value))) tt;
   breaks = λ failed. absurd (cc failed);
   step = λ x rep. replied_as g.R.Rack g.A.Area (choices_by (FnReturnsAt g.F.Fn c.args.chooser.now)) c.args.line.now x c.reply_to_write.new.pool c.reply_to_write.result (WriteObject c.in-Write.object c.deref.result.now)
       (ap command_in c.in-Write.is ∙ ap (WriteObject c.in-Write.object) (sym c.deref.ensures.value)) (c.reply_to_write.ensures.step x rep);
@@ -28,7 +28,7 @@ returns-in-Fill g c = record {
   whole = c.fill.ensures.whole;
   fits = subst (λ k. IsReplyTo k c.fill.result) (sym (ap command_in c.in-Fill.is)) c.fill.ensures.fits;
   knows = subst (λ k. Teaches k c.fill.result c.args.pool.now c.fill.new.pool) (sym (ap command_in c.in-Fill.is)) c.fill.ensures.knows;
-  arms = subst (λ k. ArmsBehind k c.fill.result c.fill.new.pool.metaslabs.shards.items) (sym (ap command_in c.in-Fill.is)) tt;
+  arms = subst (λ k. ArmsBehind k c.fill.result c.fill.new.pool) (sym (ap command_in c.in-Fill.is)) tt;
   breaks = λ failed. absurd (cc failed);
   step = λ x rep. replied_as g.R.Rack g.A.Area (choices_by (FnReturnsAt g.F.Fn c.args.chooser.now)) c.args.line.now x c.fill.new.pool c.fill.result (FillObjects c.in-Fill.first c.in-Fill.count c.in-Fill.len c.in-Fill.seed)
       (ap command_in c.in-Fill.is) (c.fill.ensures.step x rep);
@@ -39,7 +39,7 @@ returns-in-Free g c = record {
   whole = c.reply_to_free.ensures.whole;
   fits = subst (λ k. IsReplyTo k c.reply_to_free.result) (sym (ap command_in c.in-Free.is)) c.reply_to_free.ensures.fits;
   knows = subst (λ k. Teaches k c.reply_to_free.result c.args.pool.now c.reply_to_free.new.pool) (sym (ap command_in c.in-Free.is)) c.reply_to_free.ensures.knows;
-  arms = subst (λ k. ArmsBehind k c.reply_to_free.result c.reply_to_free.new.pool.metaslabs.shards.items) (sym (ap command_in c.in-Free.is)) tt;
+  arms = subst (λ k. ArmsBehind k c.reply_to_free.result c.reply_to_free.new.pool) (sym (ap command_in c.in-Free.is)) tt;
   breaks = λ failed. absurd (cc failed);
   step = λ x rep. replied_free g.R.Rack g.A.Area (choices_by (FnReturnsAt g.F.Fn c.args.chooser.now)) c.args.line.now x c.reply_to_free.new.pool c.reply_to_free.result c.in-Free.object c.in-Free.is (c.reply_to_free.ensures.step x rep);
 }
@@ -49,7 +49,7 @@ returns-in-Read g c = record {
   whole = c.reply_to_read.ensures.whole;
   fits = subst (λ k. IsReplyTo k c.reply_to_read.result) (sym (ap command_in c.in-Read.is)) c.reply_to_read.ensures.fits;
   knows = subst (λ k. Teaches k c.reply_to_read.result c.args.pool.now c.reply_to_read.new.pool) (sym (ap command_in c.in-Read.is)) c.reply_to_read.ensures.knows;
-  arms = subst (λ k. ArmsBehind k c.reply_to_read.result c.reply_to_read.new.pool.metaslabs.shards.items) (sym (ap command_in c.in-Read.is)) tt;
+  arms = subst (λ k. ArmsBehind k c.reply_to_read.result c.reply_to_read.new.pool) (sym (ap command_in c.in-Read.is)) tt;
   breaks = λ failed. absurd (cc failed);
   step = λ x rep. replied_read g.R.Rack g.A.Area (choices_by (FnReturnsAt g.F.Fn c.args.chooser.now)) c.args.line.now x c.reply_to_read.new.pool c.reply_to_read.result c.in-Read.object c.in-Read.is (c.reply_to_read.ensures.step x rep);
 }
@@ -59,7 +59,7 @@ returns-in-Sum g c = record {
   whole = c.reply_to_sum.ensures.whole;
   fits = subst (λ k. IsReplyTo k c.reply_to_sum.result) (sym (ap command_in c.in-Sum.is)) c.reply_to_sum.ensures.fits;
   knows = subst (λ k. Teaches k c.reply_to_sum.result c.args.pool.now c.reply_to_sum.new.pool) (sym (ap command_in c.in-Sum.is)) c.reply_to_sum.ensures.knows;
-  arms = subst (λ k. ArmsBehind k c.reply_to_sum.result c.reply_to_sum.new.pool.metaslabs.shards.items) (sym (ap command_in c.in-Sum.is)) tt;
+  arms = subst (λ k. ArmsBehind k c.reply_to_sum.result c.reply_to_sum.new.pool) (sym (ap command_in c.in-Sum.is)) tt;
   breaks = λ failed. absurd (cc failed);
   step = λ x rep. replied_sum g.R.Rack g.A.Area (choices_by (FnReturnsAt g.F.Fn c.args.chooser.now)) c.args.line.now x c.reply_to_sum.new.pool c.reply_to_sum.result c.in-Sum.first c.in-Sum.count c.in-Sum.is (c.reply_to_sum.ensures.step x rep);
 }
@@ -73,7 +73,7 @@ returns-in-Offline g c =
       fits = subst (λ k. IfOk c.reply_to_offline.result (IsReplyTo k)) (sym is) e.fits;
       knows = subst (λ k. IfOk c.reply_to_offline.result (λ reply. Teaches k reply c.args.pool.now c.reply_to_offline.new.pool)) (sym is)
           (each_reply c.reply_to_offline.result (λ reply. Teaches (TakeOffline c.in-Offline.leaf) reply c.args.pool.now c.reply_to_offline.new.pool) (λ reply. teaches_nothing (TakeOffline c.in-Offline.leaf) reply (λ known. refl) c.args.pool.now c.reply_to_offline.new.pool e.same));
-      arms = subst (λ k. IfOk c.reply_to_offline.result (λ reply. ArmsBehind k reply c.reply_to_offline.new.pool.metaslabs.shards.items)) (sym is) e.arms;
+      arms = subst (λ k. IfOk c.reply_to_offline.result (λ reply. ArmsBehind k reply c.reply_to_offline.new.pool)) (sym is) e.arms;
       breaks = λ failed. (subst MayBreak (sym is) tt, inl (rose_fails g.A.Area.faults c.args.pool.now c.reply_to_offline.new.pool (e.cause failed)), e.same);
       step = λ x rep. replied_switch g.R.Rack g.A.Area (choices_by (FnReturnsAt g.F.Fn c.args.chooser.now)) c.args.line.now x c.reply_to_offline.new.pool c.in-Offline.leaf true c.reply_to_offline.result is (e.step x rep);
     }
@@ -87,7 +87,7 @@ returns-in-Online g c =
       fits = subst (λ k. IfOk c.reply_to_online.result (IsReplyTo k)) (sym is) e.fits;
       knows = subst (λ k. IfOk c.reply_to_online.result (λ reply. Teaches k reply c.args.pool.now c.reply_to_online.new.pool)) (sym is)
           (each_reply c.reply_to_online.result (λ reply. Teaches (TakeOnline c.in-Online.leaf) reply c.args.pool.now c.reply_to_online.new.pool) (λ reply. teaches_nothing (TakeOnline c.in-Online.leaf) reply (λ known. refl) c.args.pool.now c.reply_to_online.new.pool e.same));
-      arms = subst (λ k. IfOk c.reply_to_online.result (λ reply. ArmsBehind k reply c.reply_to_online.new.pool.metaslabs.shards.items)) (sym is) e.arms;
+      arms = subst (λ k. IfOk c.reply_to_online.result (λ reply. ArmsBehind k reply c.reply_to_online.new.pool)) (sym is) e.arms;
       breaks = λ failed. (subst MayBreak (sym is) tt, inl (rose_fails g.A.Area.faults c.args.pool.now c.reply_to_online.new.pool (e.cause failed)), e.same);
       step = λ x rep. replied_switch g.R.Rack g.A.Area (choices_by (FnReturnsAt g.F.Fn c.args.chooser.now)) c.args.line.now x c.reply_to_online.new.pool c.in-Online.leaf false c.reply_to_online.result is (e.step x rep);
     }
@@ -102,7 +102,7 @@ returns-in-Spare g c =
       knows = subst (λ k. IfOk c.reply_to_spare.result (λ reply. Teaches k reply c.args.pool.now c.reply_to_spare.new.pool)) (sym is)
           (each_reply c.reply_to_spare.result (λ reply. Teaches (AttachSpare c.in-Spare.slot c.in-Spare.spare) reply c.args.pool.now c.reply_to_spare.new.pool)
           (λ reply. teaches_nothing (AttachSpare c.in-Spare.slot c.in-Spare.spare) reply (λ known. refl) c.args.pool.now c.reply_to_spare.new.pool e.same));
-      arms = subst (λ k. IfOk c.reply_to_spare.result (λ reply. ArmsBehind k reply c.reply_to_spare.new.pool.metaslabs.shards.items)) (sym is) e.arms;
+      arms = subst (λ k. IfOk c.reply_to_spare.result (λ reply. ArmsBehind k reply c.reply_to_spare.new.pool)) (sym is) e.arms;
       breaks = λ failed. (subst MayBreak (sym is) tt, inl (rose_fails g.A.Area.faults c.args.pool.now c.reply_to_spare.new.pool (e.cause failed)), e.same);
       step = λ x rep. replied_spare g.R.Rack g.A.Area (choices_by (FnReturnsAt g.F.Fn c.args.chooser.now)) c.args.line.now x c.reply_to_spare.new.pool c.in-Spare.slot c.in-Spare.spare c.reply_to_spare.result c.in-Spare.is (e.step x rep);
     }
@@ -117,7 +117,7 @@ returns-in-Replace g c =
       knows = subst (λ k. IfOk c.reply_to_replace.result (λ reply. Teaches k reply c.args.pool.now c.reply_to_replace.new.pool)) (sym is)
           (each_reply c.reply_to_replace.result (λ reply. Teaches (ReplaceDisk c.in-Replace.slot c.in-Replace.sectors) reply c.args.pool.now c.reply_to_replace.new.pool)
           (λ reply. teaches_nothing (ReplaceDisk c.in-Replace.slot c.in-Replace.sectors) reply (λ known. refl) c.args.pool.now c.reply_to_replace.new.pool e.same));
-      arms = subst (λ k. IfOk c.reply_to_replace.result (λ reply. ArmsBehind k reply c.reply_to_replace.new.pool.metaslabs.shards.items)) (sym is) e.arms;
+      arms = subst (λ k. IfOk c.reply_to_replace.result (λ reply. ArmsBehind k reply c.reply_to_replace.new.pool)) (sym is) e.arms;
       breaks = λ failed. (
         subst MayBreak (sym is) tt,
         (elim (e.cause failed) [
@@ -139,8 +139,8 @@ returns-in-Detach g c =
       knows = subst (λ k. IfOk c.reply_to_detach.result (λ reply. Teaches k reply c.args.pool.now c.reply_to_detach.new.pool)) (sym is)
           (each_reply c.reply_to_detach.result (λ reply. Teaches (DetachArm c.in-Detach.arm) reply c.args.pool.now c.reply_to_detach.new.pool)
           (λ reply. teaches_nothing (DetachArm c.in-Detach.arm) reply (λ known. refl) c.args.pool.now c.reply_to_detach.new.pool e.same));
-      arms = subst (λ k. IfOk c.reply_to_detach.result (λ reply. ArmsBehind k reply c.reply_to_detach.new.pool.metaslabs.shards.items)) (sym is)
-          (each_reply c.reply_to_detach.result (λ reply. ArmsBehind (DetachArm c.in-Detach.arm) reply c.reply_to_detach.new.pool.metaslabs.shards.items) (λ reply. tt));
+      arms = subst (λ k. IfOk c.reply_to_detach.result (λ reply. ArmsBehind k reply c.reply_to_detach.new.pool)) (sym is)
+          (each_reply c.reply_to_detach.result (λ reply. ArmsBehind (DetachArm c.in-Detach.arm) reply c.reply_to_detach.new.pool) (λ reply. tt));
       breaks = λ failed. (subst MayBreak (sym is) tt, inl (rose_fails g.A.Area.faults c.args.pool.now c.reply_to_detach.new.pool (e.cause failed)), e.same);
       step = λ x rep. replied_detach g.R.Rack g.A.Area (choices_by (FnReturnsAt g.F.Fn c.args.chooser.now)) c.args.line.now x c.reply_to_detach.new.pool c.in-Detach.arm c.reply_to_detach.result c.in-Detach.is (e.step x rep);
     }
@@ -154,8 +154,8 @@ returns-in-Upgrade g c =
       fits = subst (λ k. IfOk c.reply_to_upgrade.result (IsReplyTo k)) (sym is) e.fits;
       knows = subst (λ k. IfOk c.reply_to_upgrade.result (λ reply. Teaches k reply c.args.pool.now c.reply_to_upgrade.new.pool)) (sym is)
           (each_reply c.reply_to_upgrade.result (λ reply. Teaches UpgradePool reply c.args.pool.now c.reply_to_upgrade.new.pool) (λ reply. teaches_nothing UpgradePool reply (λ known. refl) c.args.pool.now c.reply_to_upgrade.new.pool e.same));
-      arms = subst (λ k. IfOk c.reply_to_upgrade.result (λ reply. ArmsBehind k reply c.reply_to_upgrade.new.pool.metaslabs.shards.items)) (sym is)
-          (each_reply c.reply_to_upgrade.result (λ reply. ArmsBehind UpgradePool reply c.reply_to_upgrade.new.pool.metaslabs.shards.items) (λ reply. tt));
+      arms = subst (λ k. IfOk c.reply_to_upgrade.result (λ reply. ArmsBehind k reply c.reply_to_upgrade.new.pool)) (sym is)
+          (each_reply c.reply_to_upgrade.result (λ reply. ArmsBehind UpgradePool reply c.reply_to_upgrade.new.pool) (λ reply. tt));
       breaks = λ failed. (subst MayBreak (sym is) tt, inl (rose_fails g.A.Area.faults c.args.pool.now c.reply_to_upgrade.new.pool (e.cause failed)), e.same);
       step = λ x rep. replied_upgrade g.R.Rack g.A.Area (choices_by (FnReturnsAt g.F.Fn c.args.chooser.now)) c.args.line.now x c.reply_to_upgrade.new.pool c.reply_to_upgrade.result c.in-Upgrade.is (e.step x rep);
     }
@@ -166,7 +166,7 @@ returns-in-Cancel g c = record {
   fits = subst (λ k. IsReplyTo k c.reply_to_cancel.result) (sym (ap command_in c.in-Cancel.is)) c.reply_to_cancel.ensures.fits;
   knows = subst (λ k. Teaches k c.reply_to_cancel.result c.args.pool.now c.reply_to_cancel.new.pool) (sym (ap command_in c.in-Cancel.is))
       (teaches_nothing CancelPasses c.reply_to_cancel.result (λ known. refl) c.args.pool.now c.reply_to_cancel.new.pool c.reply_to_cancel.ensures.same);
-  arms = subst (λ k. ArmsBehind k c.reply_to_cancel.result c.reply_to_cancel.new.pool.metaslabs.shards.items) (sym (ap command_in c.in-Cancel.is)) tt;
+  arms = subst (λ k. ArmsBehind k c.reply_to_cancel.result c.reply_to_cancel.new.pool) (sym (ap command_in c.in-Cancel.is)) tt;
   breaks = λ failed. absurd (cc failed);
   step = λ x rep. replied_cancel g.R.Rack g.A.Area (choices_by (FnReturnsAt g.F.Fn c.args.chooser.now)) c.args.line.now x c.reply_to_cancel.new.pool c.reply_to_cancel.result c.in-Cancel.is (c.reply_to_cancel.ensures.step x rep);
 }
@@ -176,7 +176,7 @@ returns-in-Damage g c = record {
   whole = c.reply_to_damage.ensures.whole;
   fits = subst (λ k. IsReplyTo k c.reply_to_damage.result) (sym (ap command_in c.in-Damage.is)) c.reply_to_damage.ensures.fits;
   knows = subst (λ k. Teaches k c.reply_to_damage.result c.args.pool.now c.reply_to_damage.new.pool) (sym (ap command_in c.in-Damage.is)) c.reply_to_damage.ensures.knows;
-  arms = subst (λ k. ArmsBehind k c.reply_to_damage.result c.reply_to_damage.new.pool.metaslabs.shards.items) (sym (ap command_in c.in-Damage.is)) tt;
+  arms = subst (λ k. ArmsBehind k c.reply_to_damage.result c.reply_to_damage.new.pool) (sym (ap command_in c.in-Damage.is)) tt;
   breaks = λ failed. absurd (cc failed);
   step = λ x rep. replied_damage g.R.Rack g.A.Area (choices_by (FnReturnsAt g.F.Fn c.args.chooser.now)) c.args.line.now x c.reply_to_damage.new.pool c.reply_to_damage.result c.in-Damage.leaf c.in-Damage.sector c.in-Damage.is (c.reply_to_damage.ensures.step x rep);
 }
@@ -186,7 +186,7 @@ returns-in-Status g c = record {
   whole = c.requires.whole;
   fits = subst (λ k. IsReplyTo k c.reply_to_status.result) (sym (ap command_in c.in-Status.is)) c.reply_to_status.ensures.fits;
   knows = subst (λ k. Teaches k c.reply_to_status.result c.args.pool.now c.args.pool.now) (sym (ap command_in c.in-Status.is)) c.reply_to_status.ensures.knows;
-  arms = subst (λ k. ArmsBehind k c.reply_to_status.result c.args.pool.now.metaslabs.shards.items) (sym (ap command_in c.in-Status.is)) tt;
+  arms = subst (λ k. ArmsBehind k c.reply_to_status.result c.args.pool.now) (sym (ap command_in c.in-Status.is)) tt;
   breaks = λ failed. absurd (cc failed);
   step = λ x rep. replied_status g.R.Rack g.A.Area (choices_by (FnReturnsAt g.F.Fn c.args.chooser.now)) c.args.line.now x c.args.pool.now c.reply_to_status.result c.in-Status.format c.in-Status.is (c.reply_to_status.ensures.step x rep);
 }
