@@ -1,5 +1,5 @@
 -- What the arms of a pool's metaslabs are behind a command on them, whatever is known of the pool.
-use Rattle.std.specs.Prelude.{◌≡◌, ◌<◌, ◌+◌, ⊤, ℕ, Bool, true, false, List, Option, Some, Result, Ok, Err, slice_get}
+use Rattle.std.specs.Prelude.{◌≡◌, ◌<◌, ◌+◌, ◌⊎◌, ⊤, ℕ, Bool, true, false, List, Option, Some, Result, Ok, Err, slice_get}
 use Rattle.draid_names.specs.declared.arm.Arm.{Arm}
 use Rattle.draid_names.specs.declared.arm.ArmAt.{ArmAt}
 use Rattle.draid_names.specs.declared.arm.ArmKind.TheVariants as kind
@@ -12,9 +12,14 @@ use Rattle.draid_slots.specs.Table.{IsArmOf, SlotTable, arm_at}
 use Rattle.draid_shard.specs.declared.shard.Shard.{Shard}
 use Rattle.draid_uber.specs.Uber.{next_leaf_of}
 use Rattle.draid_pool.specs.declared.pool.Pool.{Pool}
-use Rattle.draid_disks.specs.Checks.{Each}
-use Rattle.draid_disks.specs.Disks.{IsLeafArm, arm_called}
+use Rattle.draid_machine.specs.declared.names.ArmName.{ArmName}
+use Rattle.draid_disks.specs.Checks.{Each, IsGoingRefused}
+use Rattle.draid_disks.specs.Disks.{IsLeafArm, IsNamed, arm_called}
 use Rattle.draid_changes.specs.Attaching.{IsBarred, IsReplaceBarred}
+use Rattle.draid_changes.specs.declared.detaching.DetachFault.{DetachFault}
+use Rattle.draid_changes.specs.declared.detaching.DetachFault.TheVariants as going
+use Rattle.draid_changes.specs.declared.upgrading.UpgradeFault.{UpgradeFault}
+use Rattle.draid_changes.specs.declared.upgrading.UpgradeFault.TheVariants as raising
 use Rattle.draid_changes.specs.declared.fault.ArmFault.{ArmFault}
 use Rattle.draid_changes.specs.declared.fault.ArmFault.TheVariants as fault
 
@@ -78,6 +83,26 @@ DiskIs slot sectors (Err (fault.Slot why)) pool = DiskIsBarred slot sectors why 
 DiskIs slot sectors (Err fault.Worn) pool = ⊤
 DiskIs slot sectors (Err fault.Shelf) pool = ⊤
 DiskIs slot sectors (Err fault.NoMemory) pool = ⊤
+
+-- ---- an arm that goes, and version 2
+
+-- this rule forbids that an arm goes: it is in no slot of the first metaslab, or what is there may not go
+abbrev pub GoingIsBarred : {R A : Type 0} → ArmName → SlotFault → Pool R A → Type 0
+GoingIsBarred {R} {A} arm why pool =
+    (first : Shard R A) × (slice_get pool.metaslabs.shards.items 0 ≡ Some first)
+    × (((why ≡ slot.NoSuch) × ((at : ArmAt) → IsNamed first.slots at arm → ⊥)) ⊎ ((at : ArmAt) × IsNamed first.slots at arm × IsGoingRefused first.slots pool.metaslabs.shards.items at why))
+
+-- by the answer of the call that detaches it
+abbrev pub GoingIs : {R A : Type 0} → ArmName → Result ℕ DetachFault → Pool R A → Type 0
+GoingIs arm (Ok group) pool = ⊤
+GoingIs arm (Err (going.Slot why)) pool = GoingIsBarred arm why pool
+GoingIs arm (Err (going.Sync why)) pool = ⊤
+
+-- the first metaslab asks for version 2 already, where the call that upgrades says so
+abbrev pub UpgradeIs : {R A : Type 0} → Result ℕ UpgradeFault → Pool R A → Type 0
+UpgradeIs (Ok group) pool = ⊤
+UpgradeIs {R} {A} (Err raising.Already) pool = (first : Shard R A) × (slice_get pool.metaslabs.shards.items 0 ≡ Some first) × (first.asked ≡ 2)
+UpgradeIs (Err (raising.Sync why)) pool = ⊤
 
 -- ---- by a command and its reply
 

@@ -11,6 +11,7 @@ ghost use Rattle.draid_pool.specs.Pools.{Represents};
 ghost use Rattle.draid_pool.specs.Syncing.{AreIdle};
 ghost use Rattle.draid_pool.specs.Views.{seen_at};
 ghost use Rattle.draid_pool.specs.Whole.{IsWhole};
+ghost use Rattle.draid_changes.specs.Behind.{GoingIs, GoingIsBarred};
 ghost use Rattle.draid_changes.specs.Detaching.{DetachDoes, LeaveDoes, Leaves, MayGo, MayLeave};
 ghost use Rattle.draid_changes.specs.Walks.{ChangedBelow};
 
@@ -44,6 +45,7 @@ pub fn detach<R: Rack, A: Area>(pool: &mut Pool<R, A>, arm: ArmName) -> Result<u
     ensures cause { IsErrOf result (DetachFault.Sync SyncFault.Shelf) → AreaRose A.faults pool.old pool.new }
     ensures carries { (x : State) → Represents R.Rack A.Area pool.old x
         → CarriesOut R.Rack A.Area pool.new x (DetachDoes x arm result) }
+    ensures arms { GoingIs arm result pool.new }
 {
     if let Err(why) = pool.finish() {
         return Err(DetachFault::Sync { why });
@@ -68,6 +70,7 @@ fn place_to_leave<R: Rack, A: Area>(pool: &Pool<R, A>, arm: ArmName) -> Result<A
         → arms.BreaksDetach x.geometry x.perms arm (seen_at 0 x.metaslabs) u why → ⊥) }
     ensures broken { IfErr result (λ why. (x : State) (u : UberView) → Represents R.Rack A.Area pool.now x
         → arms.BreaksDetach x.geometry x.perms arm (seen_at 0 x.metaslabs) u why) }
+    ensures refused { IfErr result (λ why. GoingIsBarred arm why pool.now) }
 {
     let shards = &pool.metaslabs.shards;
     let slots = &shards[0].slots;

@@ -13,6 +13,7 @@ ghost use Rattle.draid_pool.specs.Pools.{Represents};
 ghost use Rattle.draid_pool.specs.Syncing.{AreIdle, Phase, end_of};
 ghost use Rattle.draid_pool.specs.Whole.{IsWhole};
 ghost use Rattle.draid_uber.specs.Uber.{version_of};
+ghost use Rattle.draid_changes.specs.Behind.{UpgradeIs};
 ghost use Rattle.draid_changes.specs.Upgrading.{MayUpgrade, RaiseDoes, UpgradeDoes, UpgradesIn};
 ghost use Rattle.draid_changes.specs.Walks.{ChangedBelow, end_of_reserving};
 
@@ -42,6 +43,7 @@ pub fn upgrade<R: Rack, A: Area>(pool: &mut Pool<R, A>) -> Result<u64, UpgradeFa
     ensures cause { IsErrOf result (UpgradeFault.Sync SyncFault.Shelf) → AreaRose A.faults pool.old pool.new }
     ensures carries { (x : State) → Represents R.Rack A.Area pool.old x
         → CarriesOut R.Rack A.Area pool.new x (UpgradeDoes x result) }
+    ensures asked { UpgradeIs result pool.new }
 {
     if let Err(why) = pool.finish() {
         return Err(UpgradeFault::Sync { why });

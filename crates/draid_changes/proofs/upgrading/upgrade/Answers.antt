@@ -10,12 +10,9 @@ use Rattle.draid_pool.proofs.SyncSteps.{borrowed_at}
 use Rattle.draid_pool.proofs.Wholes.{same_pointers}
 use Rattle.draid_pool.proofs.WholeGroups.{first_shard}
 use Rattle.draid_changes.specs.declared.upgrading.UpgradeFault.TheVariants as fault
+use Rattle.draid_changes.proofs.Begun.{first_borrowed}
 use Rattle.draid_changes.proofs.Raised.{uber_one, upgrade_already, upgrade_done, upgrade_stopped, upgrade_unfinished}
 use Rattle.draid_changes.proofs.upgrading.upgrade.Goals as goal
-
--- the first metaslab was borrowed
-there : {R A : Type 0} (mid : Pool R A) (first : Shard R A) → 0 < length mid.metaslabs.shards.items → first ≡ slice_index_or mid.metaslabs.shards.items 0 first → slice_get mid.metaslabs.shards.items 0 ≡ Some first
-there mid first some is = borrowed_at mid.metaslabs.shards.items 0 first some is
 
 -- why a group wasn't committed
 why_same : {T U : Type 0} (why : SyncFault) → IsErrOf {T = T} (Err (fault.Sync why)) (fault.Sync sync.Shelf) → IsErrOf {T = U} (Err why) sync.Shelf
@@ -34,9 +31,14 @@ pub returns-then-index-eq2-clause-carries : goal.returns-then-index-eq2-clause-c
 returns-then-index-eq2-clause-carries g c = λ x is.
     (let mid = c.finish.new.self in
     let first = c.index.result.now in
-    let one = first_shard g.R.Rack g.A.Area mid c.in_default.ensures.whole in
-    let at = there mid first (slice_get_within mid.metaslabs.shards.items 0 one.0 one.1) c.index.ensures in
+    let at = first_borrowed g.R.Rack g.A.Area mid first c.in_default.ensures.whole c.index.ensures in
     upgrade_already g.R.Rack g.A.Area mid x first (c.in_default.ensures.carries x is) at c.if-index-eq2.true)
+
+pub returns-then-index-eq2-clause-asked : goal.returns-then-index-eq2-clause-asked
+returns-then-index-eq2-clause-asked g c =
+    let mid = c.finish.new.self in
+    let first = c.index.result.now in
+    (first, first_borrowed g.R.Rack g.A.Area mid first c.in_default.ensures.whole c.index.ensures, c.if-index-eq2.true)
 
 pub returns-in-Ok : goal.returns-in-Ok
 returns-in-Ok g c =
@@ -44,13 +46,13 @@ returns-in-Ok g c =
     let mid = c.finish.new.self in
     let new = c.raise.new.pool in
     let first = c.index.result.now in
-    let one = first_shard g.R.Rack g.A.Area mid c.in_default.ensures.whole in
-    let at = there mid first (slice_get_within mid.metaslabs.shards.items 0 one.0 one.1) c.index.ensures in
+    let at = first_borrowed g.R.Rack g.A.Area mid first c.in_default.ensures.whole c.index.ensures in
     record {
       whole = c.in-Ok.ensures.whole;
       same = λ object. c.in-Ok.ensures.same object ∙ same_pointers old mid c.in_default.ensures.objects object;
       later = areas_on g.A.Area.faults old mid new c.in_default.ensures.later c.in-Ok.ensures.later;
       cause = λ is. absurd (cc is);
+      asked = tt;
       carries = λ x is. upgrade_done g.R.Rack g.A.Area mid new x first (c.in_default.ensures.carries x is) at c.if-index-eq2.false c.in-Ok.group
           (λ y r. c.in-Ok.ensures.carries y r (uber_one g.R.Rack g.A.Area mid y first r at c.if-index-eq2.false));
     }
@@ -61,14 +63,14 @@ returns-in-Err-raise g c =
     let mid = c.finish.new.self in
     let new = c.raise.new.pool in
     let first = c.index.result.now in
-    let one = first_shard g.R.Rack g.A.Area mid c.in_default.ensures.whole in
-    let at = there mid first (slice_get_within mid.metaslabs.shards.items 0 one.0 one.1) c.index.ensures in
+    let at = first_borrowed g.R.Rack g.A.Area mid first c.in_default.ensures.whole c.index.ensures in
     let e = c.in-Err-raise.ensures in
     record {
       whole = e.whole;
       same = λ object. e.same object ∙ same_pointers old mid c.in_default.ensures.objects object;
       later = areas_on g.A.Area.faults old mid new c.in_default.ensures.later e.later;
       cause = λ is. rose_then g.A.Area.faults old mid new c.in_default.ensures.later (e.cause (why_same {T = ℕ} {U = ℕ} c.in-Err-raise.why is));
+      asked = tt;
       carries = λ x is. upgrade_stopped g.R.Rack g.A.Area mid new x first (c.in_default.ensures.carries x is) at c.if-index-eq2.false c.in-Err-raise.why
           (λ y r. e.carries y r (uber_one g.R.Rack g.A.Area mid y first r at c.if-index-eq2.false));
     }
