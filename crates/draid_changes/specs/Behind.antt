@@ -5,12 +5,13 @@ use Rattle.draid_names.specs.declared.arm.ArmAt.{ArmAt}
 use Rattle.draid_names.specs.declared.arm.ArmKind.TheVariants as kind
 use Rattle.draid_names.specs.declared.refusal.SlotFault.{SlotFault}
 use Rattle.draid_names.specs.declared.refusal.SlotFault.TheVariants as slot
-use Rattle.draid_script.specs.Line.{AttachSpare, Command, ReplaceDisk, TakeOffline, TakeOnline}
+use Rattle.draid_script.specs.Line.{AttachSpare, Command, DetachArm, ReplaceDisk, TakeOffline, TakeOnline, UpgradePool}
 use Rattle.draid_reply.specs.declared.reply.Reply.{Reply}
-use Rattle.draid_reply.specs.declared.reply.Reply.TheVariants.{OfflineDone, OfflineRefused, OnlineDone, OnlineRefused, Spared, SpareRefused, Replaced, ReplaceRefused}
+use Rattle.draid_reply.specs.declared.reply.Reply.TheVariants.{OfflineDone, OfflineRefused, OnlineDone, OnlineRefused, Spared, SpareRefused, Replaced, ReplaceRefused, DetachRefused, UpgradeAlready}
 use Rattle.draid_slots.specs.Table.{IsArmOf, SlotTable, arm_at}
 use Rattle.draid_shard.specs.declared.shard.Shard.{Shard}
 use Rattle.draid_uber.specs.Uber.{next_leaf_of}
+use Rattle.draid_session.specs.Arms.{arm_of}
 use Rattle.draid_pool.specs.declared.pool.Pool.{Pool}
 use Rattle.draid_machine.specs.declared.names.ArmName.{ArmName}
 use Rattle.draid_disks.specs.Checks.{Each, IsGoingRefused}
@@ -98,10 +99,14 @@ GoingIs arm (Ok group) pool = ⊤
 GoingIs arm (Err (going.Slot why)) pool = GoingIsBarred arm why pool
 GoingIs arm (Err (going.Sync why)) pool = ⊤
 
--- the first metaslab asks for version 2 already, where the call that upgrades says so
+-- the first metaslab asks for version 2
+abbrev pub AsksForTwo : {R A : Type 0} → Pool R A → Type 0
+AsksForTwo {R} {A} pool = (first : Shard R A) × (slice_get pool.metaslabs.shards.items 0 ≡ Some first) × (first.asked ≡ 2)
+
+-- by the answer of the call that asks for it
 abbrev pub UpgradeIs : {R A : Type 0} → Result ℕ UpgradeFault → Pool R A → Type 0
 UpgradeIs (Ok group) pool = ⊤
-UpgradeIs {R} {A} (Err raising.Already) pool = (first : Shard R A) × (slice_get pool.metaslabs.shards.items 0 ≡ Some first) × (first.asked ≡ 2)
+UpgradeIs (Err raising.Already) pool = AsksForTwo pool
 UpgradeIs (Err (raising.Sync why)) pool = ⊤
 
 -- ---- by a command and its reply
@@ -115,4 +120,6 @@ ArmsBehind (AttachSpare slot spare) (Spared s called) pool = AllHaveSpare slot s
 ArmsBehind (AttachSpare slot spare) (SpareRefused s why) pool = SpareIsBarred slot spare why pool.metaslabs.shards.items
 ArmsBehind (ReplaceDisk slot sectors) (Replaced s leaf) pool = AllHaveLeaf slot leaf pool.metaslabs.shards.items × (next_leaf_of pool.uber ≡ leaf + 1)
 ArmsBehind (ReplaceDisk slot sectors) (ReplaceRefused s why) pool = DiskIsBarred slot sectors why pool
+ArmsBehind (DetachArm arm) (DetachRefused a why) pool = GoingIsBarred (arm_of arm) why pool
+ArmsBehind UpgradePool UpgradeAlready pool = AsksForTwo pool
 ArmsBehind command reply pool = ⊤

@@ -8,6 +8,7 @@ ghost use Rattle.draid_pool.specs.Failing.{AreaRose, AreasLater};
 ghost use Rattle.draid_pool.specs.Pointers.{SamePointers};
 ghost use Rattle.draid_pool.specs.Pools.{Represents};
 ghost use Rattle.draid_pool.specs.Whole.{IsWhole};
+ghost use Rattle.draid_changes.specs.Behind.{ArmsBehind};
 ghost use Rattle.draid_changes.specs.DetachSays.{DetachSays};
 
 use crate::detaching::{DetachFault, detach};
@@ -32,6 +33,7 @@ pub fn reply_to_detach<R: Rack, A: Area>(
     ensures fits { IfOk result (IsReplyTo (DetachArm arm)) }
     ensures step { (x : State) → Represents R.Rack A.Area pool.old x
         → CarriesOut R.Rack A.Area pool.new x (DetachSays arm result x) }
+    ensures arms { IfOk result (λ reply. ArmsBehind (DetachArm arm) reply pool.new) }
 {
     match detach(pool, named(arm)) {
         Ok(group) => Ok(Reply::Detached { arm, group }),

@@ -7,6 +7,7 @@ ghost use Rattle.draid_pool.specs.Failing.{AreaRose, AreasLater};
 ghost use Rattle.draid_pool.specs.Pointers.{SamePointers};
 ghost use Rattle.draid_pool.specs.Pools.{Represents};
 ghost use Rattle.draid_pool.specs.Whole.{IsWhole};
+ghost use Rattle.draid_changes.specs.Behind.{ArmsBehind};
 ghost use Rattle.draid_changes.specs.UpgradeSays.{UpgradeSays};
 
 use crate::upgrading::{UpgradeFault, upgrade};
@@ -27,6 +28,7 @@ pub fn reply_to_upgrade<R: Rack, A: Area>(pool: &mut Pool<R, A>) -> Result<Reply
     ensures fits { IfOk result (IsReplyTo UpgradePool) }
     ensures step { (x : State) → Represents R.Rack A.Area pool.old x
         → CarriesOut R.Rack A.Area pool.new x (UpgradeSays result x) }
+    ensures arms { IfOk result (λ reply. ArmsBehind UpgradePool reply pool.new) }
 {
     let command = CommandName::Upgrade;
     match upgrade(pool) {

@@ -1,7 +1,8 @@
-use Rattle.std.proofs.Common.{◌∙◌, Ok, Err, ap, refl}
+use Rattle.std.proofs.Common.{◌∙◌, Ok, Err, ap, refl, subst}
 use Rattle.draid_session.specs.Arms.{arm_of}
 use Rattle.draid_pool.specs.declared.fault.SyncFault.TheVariants as sync
 use Rattle.draid_pool.proofs.Steps.{by_answer}
+use Rattle.draid_changes.specs.Behind.{GoingIs, GoingIsBarred}
 use Rattle.draid_changes.specs.Detaching.{DetachDoes}
 use Rattle.draid_changes.specs.declared.detaching.DetachFault.TheVariants as fault
 use Rattle.draid_changes.proofs.Leaving.{carries_as}
@@ -39,3 +40,9 @@ returns-in-Shelf-clause-step g c = λ x is.
 
 pub returns-in-Shelf-clause-cause : goal.returns-in-Shelf-clause-cause
 returns-in-Shelf-clause-cause g c = λ failed. c.detach.ensures.cause (c.in-Err-Sync.is ∙ ap Err (c.in-Err-Sync.field-0-is ∙ ap fault.Sync c.in-Shelf.is))
+
+pub returns-in-Err-Slot-clause-arms : goal.returns-in-Err-Slot-clause-arms
+returns-in-Err-Slot-clause-arms g c =
+    let why = c.in-Err-Slot.why in
+    let pool = c.detach.new.pool in
+    subst (λ name. GoingIsBarred name why pool) c.named.ensures (subst (λ r. GoingIs c.named.result r pool) (c.in-Err-Slot.is ∙ ap Err c.in-Err-Slot.field-0-is) c.detach.ensures.arms)

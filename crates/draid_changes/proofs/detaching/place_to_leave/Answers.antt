@@ -1,12 +1,9 @@
-use Rattle.std.proofs.Common.{◌≡◌, ◌∙◌, ◌<◌, ℕ, arith, ap, inl, inr, refl, sym, subst, Some, length, slice_index_or}
+use Rattle.std.proofs.Common.{◌≡◌, ◌∙◌, ℕ, arith, ap, inl, inr, refl, sym, subst, Some, length}
 use Rattle.std.specs.Prelude.{slice_get}
 use Rattle.std.proofs.lemmas.Option.{slice_get_within}
 use Rattle.draid_slots.specs.Table.{arms_of}
 use Rattle.draid_disks.specs.Checks.{HasWholeOver, IsGoingRefused}
 use Rattle.draid_shard.specs.declared.shard.Shard.{Shard}
-use Rattle.draid_pool.specs.declared.pool.Pool.{Pool}
-use Rattle.draid_pool.proofs.SyncSteps.{borrowed_at}
-use Rattle.draid_pool.proofs.WholeGroups.{first_shard}
 use Rattle.draid_changes.proofs.Begun.{first_borrowed}
 use Rattle.draid_changes.proofs.Staying.{going_broken, none_broken, none_named, stands}
 use Rattle.draid_changes.proofs.Forbids.{named_shared}

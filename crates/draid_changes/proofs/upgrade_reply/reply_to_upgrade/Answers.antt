@@ -1,6 +1,7 @@
-use Rattle.std.proofs.Common.{◌∙◌, Ok, Err, ap, refl}
+use Rattle.std.proofs.Common.{◌∙◌, Ok, Err, ap, refl, subst}
 use Rattle.draid_pool.specs.declared.fault.SyncFault.TheVariants as sync
 use Rattle.draid_pool.proofs.Steps.{by_answer}
+use Rattle.draid_changes.specs.Behind.{UpgradeIs}
 use Rattle.draid_changes.specs.Upgrading.{UpgradeDoes}
 use Rattle.draid_changes.specs.declared.upgrading.UpgradeFault.TheVariants as fault
 use Rattle.draid_changes.proofs.upgrade_reply.reply_to_upgrade.Goals as goal
@@ -35,3 +36,6 @@ pub returns-in-Shelf-clause-step : goal.returns-in-Shelf-clause-step
 returns-in-Shelf-clause-step g c = λ x is.
     by_answer g.R.Rack g.A.Area (UpgradeDoes x) _ x c.upgrade.new.pool c.upgrade.result (Err (fault.Sync sync.Shelf)) (c.in-Err-Sync.is ∙ ap Err (c.in-Err-Sync.field-0-is ∙ ap fault.Sync c.in-Shelf.is))
     (λ holds store w. (Err (fault.Sync sync.Shelf), tt, w)) (c.upgrade.ensures.carries x is)
+
+pub returns-in-Err-Already-clause-arms : goal.returns-in-Err-Already-clause-arms
+returns-in-Err-Already-clause-arms g c = subst (λ r. UpgradeIs r c.upgrade.new.pool) (c.in-Err-Already.is ∙ ap Err c.in-Err-Already.field-0-is) c.upgrade.ensures.asked

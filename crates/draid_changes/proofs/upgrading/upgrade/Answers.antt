@@ -1,14 +1,9 @@
-use Rattle.std.proofs.Common.{◌≡◌, ◌<◌, ◌∙◌, ℕ, Some, Err, ap, refl, length, slice_index_or}
-use Rattle.std.specs.Prelude.{IsErrOf, slice_get}
-use Rattle.std.proofs.lemmas.Option.{slice_get_within}
-use Rattle.draid_shard.specs.declared.shard.Shard.{Shard}
+use Rattle.std.proofs.Common.{◌∙◌, ℕ, Err, ap, refl}
+use Rattle.std.specs.Prelude.{IsErrOf}
 use Rattle.draid_pool.specs.declared.fault.SyncFault.{SyncFault}
 use Rattle.draid_pool.specs.declared.fault.SyncFault.TheVariants as sync
-use Rattle.draid_pool.specs.declared.pool.Pool.{Pool}
 use Rattle.draid_pool.proofs.Rises.{areas_on, rose_then}
-use Rattle.draid_pool.proofs.SyncSteps.{borrowed_at}
 use Rattle.draid_pool.proofs.Wholes.{same_pointers}
-use Rattle.draid_pool.proofs.WholeGroups.{first_shard}
 use Rattle.draid_changes.specs.declared.upgrading.UpgradeFault.TheVariants as fault
 use Rattle.draid_changes.proofs.Begun.{first_borrowed}
 use Rattle.draid_changes.proofs.Raised.{uber_one, upgrade_already, upgrade_done, upgrade_stopped, upgrade_unfinished}

@@ -139,8 +139,7 @@ returns-in-Detach g c =
       knows = subst (λ k. IfOk c.reply_to_detach.result (λ reply. Teaches k reply c.args.pool.now c.reply_to_detach.new.pool)) (sym is)
           (each_reply c.reply_to_detach.result (λ reply. Teaches (DetachArm c.in-Detach.arm) reply c.args.pool.now c.reply_to_detach.new.pool)
           (λ reply. teaches_nothing (DetachArm c.in-Detach.arm) reply (λ known. refl) c.args.pool.now c.reply_to_detach.new.pool e.same));
-      arms = subst (λ k. IfOk c.reply_to_detach.result (λ reply. ArmsBehind k reply c.reply_to_detach.new.pool)) (sym is)
-          (each_reply c.reply_to_detach.result (λ reply. ArmsBehind (DetachArm c.in-Detach.arm) reply c.reply_to_detach.new.pool) (λ reply. tt));
+      arms = subst (λ k. IfOk c.reply_to_detach.result (λ reply. ArmsBehind k reply c.reply_to_detach.new.pool)) (sym is) e.arms;
       breaks = λ failed. (subst MayBreak (sym is) tt, inl (rose_fails g.A.Area.faults c.args.pool.now c.reply_to_detach.new.pool (e.cause failed)), e.same);
       step = λ x rep. replied_detach g.R.Rack g.A.Area (choices_by (FnReturnsAt g.F.Fn c.args.chooser.now)) c.args.line.now x c.reply_to_detach.new.pool c.in-Detach.arm c.reply_to_detach.result c.in-Detach.is (e.step x rep);
     }
@@ -154,8 +153,7 @@ returns-in-Upgrade g c =
       fits = subst (λ k. IfOk c.reply_to_upgrade.result (IsReplyTo k)) (sym is) e.fits;
       knows = subst (λ k. IfOk c.reply_to_upgrade.result (λ reply. Teaches k reply c.args.pool.now c.reply_to_upgrade.new.pool)) (sym is)
           (each_reply c.reply_to_upgrade.result (λ reply. Teaches UpgradePool reply c.args.pool.now c.reply_to_upgrade.new.pool) (λ reply. teaches_nothing UpgradePool reply (λ known. refl) c.args.pool.now c.reply_to_upgrade.new.pool e.same));
-      arms = subst (λ k. IfOk c.reply_to_upgrade.result (λ reply. ArmsBehind k reply c.reply_to_upgrade.new.pool)) (sym is)
-          (each_reply c.reply_to_upgrade.result (λ reply. ArmsBehind UpgradePool reply c.reply_to_upgrade.new.pool) (λ reply. tt));
+      arms = subst (λ k. IfOk c.reply_to_upgrade.result (λ reply. ArmsBehind k reply c.reply_to_upgrade.new.pool)) (sym is) e.arms;
       breaks = λ failed. (subst MayBreak (sym is) tt, inl (rose_fails g.A.Area.faults c.args.pool.now c.reply_to_upgrade.new.pool (e.cause failed)), e.same);
       step = λ x rep. replied_upgrade g.R.Rack g.A.Area (choices_by (FnReturnsAt g.F.Fn c.args.chooser.now)) c.args.line.now x c.reply_to_upgrade.new.pool c.reply_to_upgrade.result c.in-Upgrade.is (e.step x rep);
     }
