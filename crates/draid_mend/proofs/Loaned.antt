@@ -29,6 +29,7 @@ use Rattle.draid_entries.specs.Maps.{held_at, key_of}
 use Rattle.draid_pass.specs.declared.pass.Pass.{Pass}
 use Rattle.draid_slots.specs.States.{name_of, pass_in}
 use Rattle.draid_slots.specs.Table.{SlotTable, arm_at}
+use Rattle.draid_shard.specs.Left.{HasNothingLeft}
 use Rattle.draid_shard.specs.Fits.{HasLeaves, Valid}
 use Rattle.draid_shard.specs.Loans.{IsKept, chosen_at, loan_in, owed_for_loan}
 use Rattle.draid_shard.specs.Part.{IsRun, Part, layout_in}
@@ -43,7 +44,7 @@ use Rattle.draid_shard.proofs.Standing.{has_layout}
 use Rattle.draid_mend.specs.Lending.{chosen_in, loan_of, taken_of, to_list}
 use Rattle.draid_spec.specs.declared.layout.Geometry.{Geometry}
 use Rattle.draid_mend.specs.declared.loans.LendRoom.{LendRoom}
-use Rattle.draid_mend.specs.Loans.{HasLendRoom, HasNothingLeft, IsRunningRebuild, IsUnit, LendsUnit, NamesSources, lend_events, source_in, unit_at}
+use Rattle.draid_mend.specs.Loans.{HasLendRoom, IsRunningRebuild, IsUnit, LendsUnit, NamesSources, lend_events, source_in, unit_at}
 use Rattle.draid_mend.specs.Reading.{ReadsStripe}
 use Rattle.draid_mend.specs.Solving.{IsOneSector}
 use Rattle.draid_mend.specs.declared.reading.Taken.{Taken}

@@ -5,11 +5,7 @@ use Rattle.draid_names.specs.declared.arm.Arm.{Arm}
 use Rattle.draid_names.specs.declared.pass_kind.PassKind.TheVariants.{Rebuild}
 use Rattle.draid_names.specs.declared.pointer.Pointer.{Pointer}
 use Rattle.draid_machine.specs.declared.event.Event.TheVariants.{Lend}
-use Rattle.draid_machine.specs.declared.names.Held.{Held}
-use Rattle.draid_machine.specs.declared.names.Key.{Key}
-use Rattle.draid_machine.specs.Names.{takes}
 use Rattle.draid_machine.specs.State as machine
-use Rattle.draid_machine.specs.Step.{is_lent}
 use Rattle.draid_entries.specs.History.{owed_of, stored_of}
 use Rattle.draid_entries.specs.declared.entry.Entry.{Entry}
 use Rattle.draid_spec.specs.declared.layout.Geometry.{Geometry}
@@ -38,12 +34,6 @@ use Rattle.draid_mend.specs.declared.reading.Taken.TheVariants.{Nowhere, Failed,
 pub record IsRunningRebuild (pass : Pass) : Type 0 where
   pub rebuild : pass.kind ≡ Rebuild
   pub running : pass.running ≡ true
-
--- the pass has lent all that it may lend
-abbrev pub HasNothingLeft : {R A : Type 0} → Shard R A → Type 0
-HasNothingLeft shard =
-    (w : machine.State) → IsIn shard w → (p : machine.Pass) → w.core.pass ≡ Some p
-    → (k : Key) (h : Held) (x : ℕ) → w.core.held k ≡ Some h → is_lent p h ≡ true → takes h x ≡ true → x < p.next
 
 -- an entry has the stripe, which is the first taken one where the pass stands or behind it
 pub record IsUnit {R A : Type 0} (shard : Shard R A) (entry : Entry) (stripe : ℕ) : Type 0 where

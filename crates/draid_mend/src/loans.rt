@@ -10,9 +10,10 @@ ghost use Rattle.draid_shard.specs.Alike.{KeepsArms};
 ghost use Rattle.draid_shard.specs.Calls.{SameAreas, SameReserve};
 ghost use Rattle.draid_shard.specs.Changes.{DoesNothing, KeepsBlocks};
 ghost use Rattle.draid_shard.specs.Fits.{Valid};
+ghost use Rattle.draid_shard.specs.Left.{HasNothingLeft};
 ghost use Rattle.draid_shard.specs.Rooms.{IsWornFor};
 ghost use Rattle.draid_shard.specs.States.{IsIn};
-ghost use Rattle.draid_mend.specs.Loans.{HasLendRoom, HasNothingLeft, IsLendRefused, IsPlaceOf, IsRunningRebuild, IsTargetsOf, IsUnit, LendsUnit, lend_events, unit_at};
+ghost use Rattle.draid_mend.specs.Loans.{HasLendRoom, IsLendRefused, IsPlaceOf, IsRunningRebuild, IsTargetsOf, IsUnit, LendsUnit, lend_events, unit_at};
 
 use crate::lending::{Readings, read_stripe};
 use crate::naming::name_sources;

@@ -42,7 +42,8 @@ use Rattle.draid_shard.specs.Loans.{loan_in}
 use Rattle.draid_shard.specs.States.{IsIn, layout_by, part_of}
 use Rattle.draid_shard.specs.declared.shard.Shard.{Shard}
 use Rattle.draid_shard.proofs.Homes.{lays}
-use Rattle.draid_passing.specs.Ending.{FirmsBy, HasNothingLeft, IsEnded, last_good}
+use Rattle.draid_passing.specs.Ending.{FirmsBy, IsEnded, last_good}
+use Rattle.draid_shard.specs.Left.{HasNothingLeft}
 use Rattle.draid_passing.specs.Flushing.{due_leaves}
 use Rattle.draid_passing.specs.declared.ending.Ended.{Ended}
 use Rattle.draid_passing.proofs.Bearing.{among_all, answers_due, bears_name, due_answers, name_bears, names_many}

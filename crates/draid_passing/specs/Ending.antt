@@ -1,5 +1,5 @@
 -- How a pass ends.
-use Rattle.std.specs.Prelude.{◌≡◌, ◌==◌, ◌<◌, ℕ, Bool, true, List, [], Some, Vec, length, min, if◌then◌else◌}
+use Rattle.std.specs.Prelude.{◌≡◌, ◌==◌, ℕ, Bool, List, [], Some, Vec, length, min, if◌then◌else◌}
 use Rattle.std.specs.declared.alloc.Global.{Global}
 use Rattle.draid_names.specs.declared.numbers.TheConstants.{LAST_NUMBER}
 use Rattle.draid_names.specs.declared.pass_kind.PassKind.{PassKind}
@@ -9,13 +9,9 @@ use Rattle.draid_rack.specs.declared.Rack.{Ghosts}
 use Rattle.draid_columns.specs.Flushes as flushes
 use Rattle.draid_columns.specs.Flushes.{FlushesBut}
 use Rattle.draid_machine.specs.declared.event.Event.TheVariants.{Done}
-use Rattle.draid_machine.specs.declared.names.Held.{Held}
-use Rattle.draid_machine.specs.declared.names.Key.{Key}
 use Rattle.draid_machine.specs.After.{ended_pass}
 use Rattle.draid_machine.specs.Created.{IsReached}
-use Rattle.draid_machine.specs.Names.{takes}
 use Rattle.draid_machine.specs.State as machine
-use Rattle.draid_machine.specs.Step.{is_lent}
 use Rattle.draid_marks.specs.Silent.{AreSilent}
 use Rattle.draid_pass.specs.declared.pass.Pass.{Pass}
 use Rattle.draid_plans.specs.Ends.{Loses, LosesAll}
@@ -26,12 +22,6 @@ use Rattle.draid_shard.specs.States.{Does, IsIn, layout_by}
 use Rattle.draid_shard.specs.declared.shard.Shard.{Shard}
 use Rattle.draid_passing.specs.Flushing.{due_leaves}
 use Rattle.draid_passing.specs.declared.ending.Ended.{Ended}
-
--- the pass has lent all that it may lend
-abbrev pub HasNothingLeft : {R A : Type 0} → Shard R A → Type 0
-HasNothingLeft shard =
-    (w : machine.State) → IsIn shard w → (p : machine.Pass) → w.core.pass ≡ Some p
-    → (k : Key) (h : Held) (x : ℕ) → w.core.held k ≡ Some h → is_lent p h ≡ true → takes h x ≡ true → x < p.next
 
 -- what it answers of a pass: its errors, and without any how many targets it has
 abbrev pub IsEnded : Pass → Ended → Type 0

@@ -5,8 +5,9 @@ ghost use Rattle.draid_shard.specs.Alike.{ShareArms};
 ghost use Rattle.draid_shard.specs.Calls.{SameAreas, SameReserve};
 ghost use Rattle.draid_shard.specs.Changes.{KeepsBlocks};
 ghost use Rattle.draid_shard.specs.Fits.{HasLeaves, Valid};
+ghost use Rattle.draid_shard.specs.Left.{HasNothingLeft};
 ghost use Rattle.draid_slots.specs.Table.{IsThere};
-ghost use Rattle.draid_passing.specs.Ending.{Ends, FirmsBy, HasNothingLeft, IsEnded, last_good};
+ghost use Rattle.draid_passing.specs.Ending.{Ends, FirmsBy, IsEnded, last_good};
 
 use crate::flushing::flush_targets;
 use crate::owing::{owed_for_loan, owed_for_pass};

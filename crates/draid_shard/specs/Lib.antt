@@ -3,6 +3,7 @@ pub mod Calls
 pub mod Changes
 pub mod Columns
 pub mod Fits
+pub mod Left
 pub mod Loans
 pub mod Looks
 pub mod Part
