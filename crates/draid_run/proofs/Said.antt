@@ -36,8 +36,8 @@ use Rattle.draid_changes.specs.declared.fault.ArmFault.TheVariants as arm
 use Rattle.draid_run.specs.Desks.{AnswerDoes, BreaksBy}
 use Rattle.draid_visits.specs.Rebuilding.{RebuildDoes}
 use Rattle.draid_visits.specs.Says.{CancelSays, IsRebuildReply, RebuildSays}
-use Rattle.draid_visits.specs.declared.fault.MendFault.{MendFault}
-use Rattle.draid_visits.specs.declared.fault.MendFault.TheVariants as mending
+use Rattle.draid_visits.specs.declared.rebuilding.MendFault.{MendFault}
+use Rattle.draid_visits.specs.declared.rebuilding.MendFault.TheVariants as mending
 use Rattle.draid_visits.specs.declared.rebuilding.Mended.{Mended}
 use Rattle.draid_store.specs.Answers.{DamageDoes, FreeDoes, ReadDoes, SumDoes}
 use Rattle.draid_store.specs.declared.fault.DamageFault.{DamageFault}
