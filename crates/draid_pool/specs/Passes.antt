@@ -1,5 +1,5 @@
 -- What a sync keeps of the pass of each metaslab.
-use Rattle.std.specs.Prelude.{◌≡◌, ⊤, ⊥, Option, Some, None}
+use Rattle.std.specs.Prelude.{◌≡◌, ⊤, Option, Some, None}
 use Rattle.draid_pass.specs.declared.pass.Pass.{Pass}
 use Rattle.draid_shard.specs.declared.shard.Shard.{Shard}
 use Rattle.draid_pool.specs.Keeping.{KeepsEach}
