@@ -1,4 +1,4 @@
-use Rattle.std.proofs.Common.{◌+◌, ℕ, arith, refl}
+use Rattle.std.proofs.Common.{ℕ, arith, refl}
 use Rattle.draid_pool.specs.declared.fault.SyncFault.TheVariants as sync
 use Rattle.draid_pool.proofs.Keeping.{all_arms_by, all_asked_by, all_stay, passes_by, racks_by}
 use Rattle.draid_pool.proofs.Rises.{err_on, areas_still}
