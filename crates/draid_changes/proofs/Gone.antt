@@ -1,14 +1,13 @@
 -- What an arm that goes and version 2 leave behind the sync that comes.
-use Rattle.std.proofs.Common.{◌≡◌, ◌≢◌, ◌≤◌, ◌∙◌, inl, inr, ℕ, List, [], ◌∷◌, Some, arith, ap, here, length, subst, sym}
+use Rattle.std.proofs.Common.{◌≡◌, ◌⊎◌, ◌∙◌, inl, inr, ℕ, List, [], Some, arith, ap, length, subst, sym}
 use Rattle.std.specs.Prelude.{Contains, slice_get, slice_index_or}
-use Rattle.std.proofs.lemmas.List.Elements.{Contains-append_right}
+use Rattle.std.proofs.lemmas.List.Elements.{Contains-push}
 use Rattle.std.proofs.lemmas.Option.{slice_get_within}
 use Rattle.draid_names.specs.declared.arm.Arm.{Arm}
 use Rattle.draid_names.specs.declared.arm.ArmAt.{ArmAt}
 use Rattle.draid_rack.specs.declared.Rack as racks
 use Rattle.draid_machine.specs.declared.names.ArmName.{ArmName}
 use Rattle.draid_slots.specs.declared.slot.Detached.{Detached}
-use Rattle.draid_shard.specs.Fits.{Valid}
 use Rattle.draid_shard.specs.declared.shard.Shard.{Shard}
 use Rattle.draid_disks.specs.Checks.{Each}
 use Rattle.draid_disks.specs.Disks.{IsNamed}
@@ -27,7 +26,7 @@ module _ {R A : Type 0} (rack : racks.Ghosts R) where
   none_left at n old new s was other is =
       let gone : Detached = record { kind = was.0.kind; number = was.0.number; slot = at.slot; group = old.open_group; offline = was.0.offline } in
       s.valid.once.apart other is.0 gone is.1
-      (subst (λ (list : List Detached). Contains list gone) (sym (s.slots.gone was.0 was.1)) (Contains-append_right old.slots.detached (gone ∷ []) gone here)) (is.2 ∙ sym was.2)
+      (subst (λ (list : List Detached). Contains list gone) (sym (s.slots.gone was.0 was.1)) (Contains-push old.slots.detached gone)) (is.2 ∙ sym was.2)
 
   pub all_left : (at : ArmAt) (n : ArmName) (late mid : Pool R A) → ChangedBelow (Leaves rack at n) (length late.metaslabs.shards.items) late.metaslabs.shards.items mid.metaslabs.shards.items
       → ((m : ℕ) (z : Shard R A) → slice_get late.metaslabs.shards.items m ≡ Some z → MayLeave rack at n z) → IsGone n mid
