@@ -10,6 +10,7 @@ mod Landed
 mod Lends
 mod Loaned
 mod Missed
+mod Missing
 mod Named
 mod Mends
 mod Read
