@@ -1,12 +1,15 @@
 mod Aims
 mod Chained
 mod Columned
+mod Comes
 mod Counted
 mod Facts
 mod Freed
 mod Lacking
 mod Laid
 mod Landed
+mod Landings
+mod Lands
 mod Lends
 mod Loaned
 mod Missed

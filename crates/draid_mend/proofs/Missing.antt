@@ -103,10 +103,13 @@ module _ (part : Part) (slots : SlotTable) (pointer : Pointer) (failed : List �
         let mark : is_marked (set marks rows.slot r) slot arm ≡ is_marked marks slot arm = ap (λ (list : List Bool). slice_index_or list arm false) (get_or-set_other marks rows.slot slot r [] (λ e. other e)) in
         elim (was slot arm there) [
           | inl z ↦ inl (z.0, (let less = z.1 in omega (arith, less)), z.2, mark ∙ z.3)
-          | inr z ↦ inr ((λ c less same. elim (cases_lt c n) [
+          | inr z ↦ inr (
+            (λ c less same. elim (cases_lt c n) [
               | inl before ↦ z.0 c before same
               | inr past ↦ other (sym same ∙ ap slot_at (let e : c ≡ n = omega (arith, past, less) in e) ∙ sym of.slot_is)
-            ]), mark ∙ z.1)
+            ]),
+            mark ∙ z.1,
+          )
         ])
   ]
 
@@ -128,7 +131,7 @@ module _ (part : Part) (slots : SlotTable) (pointer : Pointer) (failed : List �
         let here : arm_at slots (arm_no (rows_at part pointer c) at.arm) ≡ Some a = ap (arm_at slots) (λ i. record { slot = same i; arm = at.arm }) ∙ there in
         let column : has_column l w.core (name_of a) pointer.first ≡ true
         = any_at part.geometry.g (λ d. has_name (w.core.order (slot_at d)) (name_of a)) c low
-            (listed part is slots of w reached has pointer run c low (rows_at part pointer c) (own_rows c) at.arm (name_of a) (ap (option_map name_of) here)) in
+        (listed part is slots of w reached has pointer run c low (rows_at part pointer c) (own_rows c) at.arm (name_of a) (ap (option_map name_of) here)) in
         sym (ap (λ b. b && (not (arms.answers l w.core (name_of a) pointer.first) || arms.fails l w.core failed (name_of a) pointer.first)) column
         ∙ ap₂ (λ b o. not b || passes o (has_number failed)) (answers_is part is slots of w reached has pointer run c low (rows_at part pointer c) (own_rows c) at.arm a here)
         (leaf_at_is part is slots of w reached has pointer run c low (rows_at part pointer c) (own_rows c) at.arm a here))

@@ -28,7 +28,7 @@ loop-column-preserved g c =
     let v = c.requires.laid in
     let count = i.count in
     let fits = fits_rows (part_of c.args.shard.now) v.part c.args.shard.now.slots v.slots (g.R.Rack.shape c.args.shard.now.rack) c.args.pointer.now c.requires.run c.loop-column.column c.loop-column-test.true c.rows_of-rows.result
-        c.rows_of-rows.ensures v.leaves in
+    c.rows_of-rows.ensures v.leaves in
     let below = subst (λ (geometry : Geometry). c.rows_of-rows.result.slot < geometry.spec.children) v.slots.geometry_is fits.slot_below in
     let most = v.part.layout.geometry_is.spec.most_children in
     let inside : c.rows_of-rows.result.slot < length c.loop-column.marks = omega (arith, count, below, most) in
