@@ -1,5 +1,5 @@
 -- What a landing comes to: the shard behind it, and its event.
-use Rattle.std.proofs.Common.{◌≡◌, ◌+◌, ◌<◌, ◌≤◌, ◌++◌, ◌∙◌, ℕ, List, [], ◌∷◌, Option, None, Some, arith, refl, sym, ap, subst, inl, inr, length}
+use Rattle.std.proofs.Common.{◌≡◌, ◌+◌, ◌<◌, ◌++◌, ◌∙◌, ℕ, List, [], ◌∷◌, Option, None, Some, arith, refl, sym, ap, subst, inl, inr, length}
 use Rattle.std.proofs.lemmas.Bool.{cases_lt}
 use Rattle.draid_rack.specs.Rack.{OnBothTold, OnTold}
 use Rattle.draid_rack.specs.declared.Rack.{Ghosts}

@@ -1,15 +1,12 @@
 -- A landing is the state machine's, and the rack does what that says.
-use Rattle.std.proofs.Common.{◌≡◌, ◌+◌, ◌-◌, ◌<◌, ◌≤◌, ◌++◌, ◌∙◌, ℕ, Bool, true, false, nat_lt, List, [], ◌∷◌, Option, None, Some, IfSome, Vec, Global, arith, refl, sym, ap, subst, inl, inr, length, if◌then◌else◌}
-use Rattle.std.specs.Prelude.{All, count_by, option_map}
-use Rattle.std.proofs.lemmas.Bool.{cases_lt}
+use Rattle.std.proofs.Common.{◌≡◌, ◌+◌, ◌-◌, ◌<◌, ◌≤◌, ◌∙◌, ℕ, Bool, true, false, nat_lt, List, [], Option, None, Some, IfSome, arith, refl, sym, ap, subst, length, if◌then◌else◌}
+use Rattle.std.specs.Prelude.{count_by, option_map}
 use Rattle.std.proofs.lemmas.Bool.Decides.{nat_tests}
 use Rattle.draid_rack.specs.Rack.{OnBothTold, OnTold, Told}
 use Rattle.draid_rack.specs.declared.Rack.{Ghosts}
-use Rattle.draid_machine.specs.declared.event.Event.{Event}
-use Rattle.draid_machine.specs.declared.event.Event.TheVariants.{LandStripe}
 use Rattle.draid_machine.specs.declared.names.ArmName.{ArmName}
 use Rattle.draid_machine.specs.declared.names.Held.{Held}
-use Rattle.draid_machine.specs.After.{land_stripe_state, lose_targets, lost_errors, mend_state, misses_stripe, pass_over, unsourced}
+use Rattle.draid_machine.specs.After.{lose_targets, lost_errors, mend_state, misses_stripe, pass_over, unsourced}
 use Rattle.draid_machine.specs.Created.{IsReached}
 use Rattle.draid_machine.specs.Names.{has_number}
 use Rattle.draid_machine.specs.Sound.{LoanFits}
@@ -19,13 +16,12 @@ use Rattle.draid_machine.proofs.Rows.{reached_sound}
 use Rattle.draid_machine.proofs.Small.{absurd_test, both_true, is_below, is_low, some_same}
 use Rattle.draid_segments.specs.Acts.{LandsStripe}
 use Rattle.draid_segments.specs.Segments.{Pieces}
-use Rattle.draid_entries.specs.Maps.{held_at, key_of}
+use Rattle.draid_entries.specs.Maps.{key_of}
 use Rattle.draid_pass.specs.declared.pass.Pass.{Pass}
 use Rattle.draid_slots.specs.States.{HoldsPass, pass_in}
-use Rattle.draid_slots.specs.Table.{IsThere}
 use Rattle.draid_shard.specs.Fits.{Valid}
 use Rattle.draid_shard.specs.Loans.{IsKept, loan_in}
-use Rattle.draid_shard.specs.Part.{IsRun, Part}
+use Rattle.draid_shard.specs.Part.{IsRun}
 use Rattle.draid_shard.specs.States.{IsIn, layout_by, part_of}
 use Rattle.draid_shard.specs.declared.loan.KeptLoan.{KeptLoan}
 use Rattle.draid_shard.specs.declared.shard.Shard.{Shard}

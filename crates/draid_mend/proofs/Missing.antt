@@ -1,7 +1,7 @@
 -- The arms of a stripe's slots that miss it.
-use Rattle.std.proofs.Common.{◌≡◌, ◌==◌, ◌+◌, ◌<◌, ◌≤◌, ◌||◌, ◌&&◌, not, ◌∙◌, ℕ, zero, suc, Bool, true, false, List, [], ◌∷◌, Option, Some, None, refl, replicate, arith, sym, ap, ap₂, subst, inl, inr, length, set}
+use Rattle.std.proofs.Common.{◌≡◌, ◌==◌, ◌+◌, ◌<◌, ◌||◌, ◌&&◌, not, ◌∙◌, ℕ, zero, suc, Bool, true, false, List, [], ◌∷◌, Some, refl, replicate, arith, sym, ap, ap₂, subst, inl, inr, length, set}
 use Rattle.std.specs.List.{list_any}
-use Rattle.std.specs.Prelude.{IsSomeAnd, option_map, slice_index_or}
+use Rattle.std.specs.Prelude.{option_map, slice_index_or}
 use Rattle.std.proofs.lemmas.Bool.{cases_eq, cases_lt}
 use Rattle.std.proofs.lemmas.Grind.{get_or-set_at}
 use Rattle.std.proofs.lemmas.List.{get_or-set_other}
@@ -17,14 +17,13 @@ use Rattle.draid_machine.specs.Created.{IsReached}
 use Rattle.draid_machine.specs.Images.{Owned}
 use Rattle.draid_machine.specs.Names.{has_name, has_number}
 use Rattle.draid_machine.specs.State as machine
-use Rattle.draid_machine.specs.declared.names.ArmName.{ArmName}
 use Rattle.draid_machine.proofs.Losing.{every_segment}
 use Rattle.draid_machine.proofs.Small.{any_at, bool_cases}
 use Rattle.draid_plans.specs.Targets.{AreMarked}
 use Rattle.draid_slots.specs.Changes.{IsOf}
 use Rattle.draid_slots.specs.Marks.{is_marked}
 use Rattle.draid_slots.specs.States.{HasSlots, name_of}
-use Rattle.draid_slots.specs.Table.{SlotTable, IsThere, arm_at, arms_of}
+use Rattle.draid_slots.specs.Table.{SlotTable, arm_at, arms_of}
 use Rattle.draid_shard.specs.Part.{IsPart, IsRun, Part, layout_in}
 use Rattle.draid_shard.specs.Rows.{FitsRows, IsRowsOf, answers_on, arm_no, leaf_on}
 use Rattle.draid_shard.specs.declared.places.ColumnRows.{ColumnRows}

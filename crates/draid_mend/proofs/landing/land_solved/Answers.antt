@@ -1,4 +1,4 @@
-use Rattle.std.proofs.Common.{◌≡◌, ℕ, List, [], Option, subst, sym}
+use Rattle.std.proofs.Common.{ℕ, List, [], Option, subst, sym}
 use Rattle.draid_names.specs.declared.arm.ArmAt.{ArmAt}
 use Rattle.draid_names.specs.declared.pointer.Pointer.{Pointer}
 use Rattle.draid_rack.specs.Rack.{OnBothTold}
@@ -6,7 +6,6 @@ use Rattle.draid_shard.specs.Calls.{CountsFailed}
 use Rattle.draid_shard.specs.States.{part_of}
 use Rattle.draid_shard.specs.declared.loan.Source.{Source}
 use Rattle.draid_shard.proofs.Counts.{counts_none}
-use Rattle.draid_mend.specs.Loans.{unit_at}
 use Rattle.draid_mend.specs.Losing.{AreMissed}
 use Rattle.draid_mend.specs.Stripes.{FailsColumns, LandsBelow}
 use Rattle.draid_mend.proofs.landing.land_solved.Goals as goal
