@@ -133,6 +133,10 @@ impl<R: Rack, A: Area> Pool<R, A> {
         ensures whole { IsWhole R.Rack A.Area self.new }
         ensures same { SamePointers self.old self.new }
         ensures later { AreasLater A.faults self.old self.new }
+        ensures passes { KeepsPasses self.old self.new }
+        ensures racks { RacksLater R.faults self.old self.new }
+        ensures arms { AllArmsStay self.old self.new }
+        ensures asked { AllAskedStay self.old self.new }
         ensures cause { IsErrOf result SyncFault.Shelf → AreaRose A.faults self.old self.new }
         ensures carries { (x : State) → Represents R.Rack A.Area self.old x
             → CarriesOut R.Rack A.Area self.new x (ExportDoes x result) }
