@@ -1,0 +1,32 @@
+//! One metaslab as a rebuild of a pool comes to it: its pass begins, is made to run, lends a stripe, and ends.
+ghost use Rattle.std.specs.Prelude.{◌≡◌, ◌≤◌, ◌↔◌, ◌⊎◌, ℕ, Bool, None, Ok, OnErr, OnOk, IfErr, IfOk, IfSome, IsSome, IsSomeAnd, IsTrue, false, true};
+ghost use Rattle.draid_names.specs.declared.numbers.TheConstants.{LAST_NUMBER};
+ghost use Rattle.draid_names.specs.declared.pass_kind.PassKind.TheVariants.{Rebuild};
+ghost use Rattle.draid_spec.specs.Geometry.{metaslab_stripes};
+ghost use Rattle.draid_machine.specs.State as machine;
+ghost use Rattle.draid_machine.specs.Step.{IsTaken};
+ghost use Rattle.draid_segments.specs.Segments.{Pieces};
+ghost use Rattle.draid_pass.specs.declared.pass.Pass.{Pass};
+ghost use Rattle.draid_shard.specs.Calls.{SameAreas};
+ghost use Rattle.draid_shard.specs.Fits.{Valid};
+ghost use Rattle.draid_shard.specs.Left.{HasNothingLeft};
+ghost use Rattle.draid_shard.specs.Part.{Part};
+ghost use Rattle.draid_passing.specs.Passing.{IsPlanRefused};
+ghost use Rattle.draid_mend.specs.Loans.{IsRunningRebuild};
+ghost use Rattle.draid_session.specs.Holds.{view_of};
+ghost use Rattle.draid_session.specs.Passes as passes;
+ghost use Rattle.draid_session.specs.State.{Metaslab};
+ghost use Rattle.draid_pool.specs.Metaslabs.{IsMetaslab};
+ghost use Rattle.draid_pool.specs.Shards.{Goes, SameBlocks};
+ghost use Rattle.draid_pool.specs.Syncing.{KeepsTable};
+ghost use Rattle.draid_visits.specs.Steps.{HasContents, IsRebuiltIn, MovesOn, NextIs, ReadyIs, SharesTable, StartIs};
+
+use draid_area::Area;
+use draid_mend::{LendFault, Lent, land, lend, solve};
+use draid_names::{LAST_NUMBER, PassKind};
+use draid_pass::Pass;
+use draid_passing::{PlanFault, done, plan, ready};
+use draid_plans::has_target;
+use draid_rack::Rack;
+use draid_shard::Shard;
+use draid_slots::Marks;
