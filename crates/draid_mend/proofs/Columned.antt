@@ -1,5 +1,6 @@
 -- One more column of a stripe lands.
 use Rattle.std.proofs.Common.{arith, ◌≡◌, ◌==◌, ◌+◌, ◌<◌, ◌≤◌, ◌*◌, ◌∙◌, ◌&&◌, ℕ, zero, suc, Bool, true, false, List, [], ◌∷◌, Option, Some, None, refl, sym, ap, subst, inl, inr, length, slice_get}
+use Rattle.std.specs.Prelude.{slice_index_or}
 use Rattle.std.proofs.Math.Nat.{mul-le-mul_right}
 use Rattle.std.proofs.lemmas.Bool.{cases_lt}
 use Rattle.draid_spec.specs.Geometry.{slice_at}
@@ -16,13 +17,12 @@ use Rattle.draid_slots.specs.Table.{SlotTable}
 use Rattle.draid_shard.specs.Part.{Part, layout_in}
 use Rattle.draid_shard.specs.Rows.{IsRowsOf, answers_on, leaf_on}
 use Rattle.draid_shard.specs.States.{part_of}
+use Rattle.draid_shard.specs.declared.loan.Source.{Source}
 use Rattle.draid_shard.specs.declared.places.ColumnRows.{ColumnRows}
 use Rattle.draid_shard.specs.declared.shard.Shard.{Shard}
 use Rattle.draid_mend.specs.Mending.{at_sector}
 use Rattle.draid_mend.specs.Stripes.{AreColumnsApart, FailsColumns, KeepsColumn, LandsBelow, landed_below, own_or_all, rows_at, sources_below, sources_for}
 use Rattle.draid_mend.specs.Targets.{AreFree, AreThere, FailsBelow, KeepsAt, MendsBelow, StandsMended, is_mended_on, mended_below}
-use Rattle.draid_mend.specs.declared.reading.Taken.{Taken}
-use Rattle.draid_mend.specs.declared.reading.Taken.TheVariants.{Nowhere, Failed, From}
 use Rattle.draid_mend.proofs.Targeted.{or_left, or_right, taints_stay}
 
 -- the rows that a shard finds are these
@@ -74,7 +74,7 @@ finds slots rows targets (suc n) leaf sector is =
           lies = on (leaf_on slots rows at.arm) (and_right (answers_on slots rows at.arm) (passes (leaf_on slots rows at.arm) (λ m. at_sector m rows.first leaf sector)) rest);
         }
 
-module _ (part : Part) (slots : SlotTable) (pointer : Pointer) (targets : List ArmAt) (columns : List (List ℕ)) (taken : List Taken) (n : ℕ) (low : n < part.geometry.g) (before failed : List ℕ) where
+module _ (part : Part) (slots : SlotTable) (pointer : Pointer) (targets : List ArmAt) (columns : List (List ℕ)) (chosen : List (Option Source)) (n : ℕ) (low : n < part.geometry.g) (before failed : List ℕ) where
   abbrev rows : ColumnRows
   rows = rows_at part pointer n
 
@@ -97,8 +97,8 @@ module _ (part : Part) (slots : SlotTable) (pointer : Pointer) (targets : List A
       | inr out ↦ out
     ]
 
-    lands_more : (x y z : Told) → MendsBelow slots rows targets (length targets) (column_at columns n) (sources_for part pointer taken n) failed y z → LandsBelow part slots pointer targets n columns taken before x y
-        → LandsBelow part slots pointer targets (suc n) columns taken failed x z
+    lands_more : (x y z : Told) → MendsBelow slots rows targets (length targets) (column_at columns n) (sources_for part pointer chosen n) failed y z → LandsBelow part slots pointer targets n columns chosen before x y
+        → LandsBelow part slots pointer targets (suc n) columns chosen failed x z
     lands_more x y z m was = record {
       leaves = leaves_on (named (suc n)) x y z (leaves_more (named n) (named (suc n)) x y left was.leaves) (leaves_more here (named (suc n)) y z right m.leaves);
       each = λ apart free c leaf less keeps sound. elim (cases_lt c n) [
@@ -106,8 +106,8 @@ module _ (part : Part) (slots : SlotTable) (pointer : Pointer) (targets : List A
         | inr high ↦ (let same : n ≡ c = omega (arith, high, less) in latest apart free c leaf same keeps sound)
       ];
     } where
-      earlier : AreColumnsApart part slots pointer targets → ((c : ℕ) → c < suc n → AreFree (named (suc n)) (sources_for part pointer taken c)) → (c leaf : ℕ) → c < n → KeepsColumn part slots pointer targets c leaf
-          → has_number failed leaf ≡ false → StandsMended leaf ((layout_in part).sector_of pointer.first c) (column_at columns c) (sources_for part pointer taken c) x z
+      earlier : AreColumnsApart part slots pointer targets → ((c : ℕ) → c < suc n → AreFree (named (suc n)) (sources_for part pointer chosen c)) → (c leaf : ℕ) → c < n → KeepsColumn part slots pointer targets c leaf
+          → has_number failed leaf ≡ false → StandsMended leaf ((layout_in part).sector_of pointer.first c) (column_at columns c) (sources_for part pointer chosen c) x z
       earlier apart free c leaf lower keeps sound =
           let s : ℕ = (layout_in part).sector_of pointer.first c in
           let it = was.each apart (λ d less k a is. left a.leaf a.sector (free d (omega (arith, less)) k a is)) c leaf lower keeps (not_before leaf sound) in
@@ -117,17 +117,17 @@ module _ (part : Part) (slots : SlotTable) (pointer : Pointer) (targets : List A
           ] in
           record { stands = m.leaves.only.reads leaf s out ∙ it.stands; harmed = m.leaves.harm leaf s out ∙ it.harmed }
 
-      latest : AreColumnsApart part slots pointer targets → ((c : ℕ) → c < suc n → AreFree (named (suc n)) (sources_for part pointer taken c)) → (c leaf : ℕ) → n ≡ c → KeepsColumn part slots pointer targets c leaf
-          → has_number failed leaf ≡ false → StandsMended leaf ((layout_in part).sector_of pointer.first c) (column_at columns c) (sources_for part pointer taken c) x z
+      latest : AreColumnsApart part slots pointer targets → ((c : ℕ) → c < suc n → AreFree (named (suc n)) (sources_for part pointer chosen c)) → (c leaf : ℕ) → n ≡ c → KeepsColumn part slots pointer targets c leaf
+          → has_number failed leaf ≡ false → StandsMended leaf ((layout_in part).sector_of pointer.first c) (column_at columns c) (sources_for part pointer chosen c) x z
       latest apart free c leaf same keeps sound =
           let of : KeepsColumn part slots pointer targets n leaf = subst (λ c. KeepsColumn part slots pointer targets c leaf) (sym same) keeps in
-          let own : AreFree (named (suc n)) (sources_for part pointer taken n) = free n (omega arith) in
+          let own : AreFree (named (suc n)) (sources_for part pointer chosen n) = free n (omega arith) in
           let it = m.each (λ k a is. right a.leaf a.sector (own k a is)) leaf of sound in
-          subst (λ c. StandsMended leaf ((layout_in part).sector_of pointer.first c) (column_at columns c) (sources_for part pointer taken c) x z) same
-          (record { stands = it.stands; harmed = it.harmed ∙ taints_stay (named n) (sources_for part pointer taken n) x y (λ k a is. left a.leaf a.sector (own k a is)) was.leaves })
+          subst (λ c. StandsMended leaf ((layout_in part).sector_of pointer.first c) (column_at columns c) (sources_for part pointer chosen c) x z) same
+          (record { stands = it.stands; harmed = it.harmed ∙ taints_stay (named n) (sources_for part pointer chosen n) x y (λ k a is. left a.leaf a.sector (own k a is)) was.leaves })
 
-    told_more : (s t u : Option Told) → OnBothTold t u (MendsBelow slots rows targets (length targets) (column_at columns n) (sources_for part pointer taken n) failed) → OnBothTold s t (LandsBelow part slots pointer targets n columns taken before)
-        → OnBothTold s u (LandsBelow part slots pointer targets (suc n) columns taken failed)
+    told_more : (s t u : Option Told) → OnBothTold t u (MendsBelow slots rows targets (length targets) (column_at columns n) (sources_for part pointer chosen n) failed) → OnBothTold s t (LandsBelow part slots pointer targets n columns chosen before)
+        → OnBothTold s u (LandsBelow part slots pointer targets (suc n) columns chosen failed)
     told_more None None None m e = m
     told_more None None (Some z) m e = absurd (cc)
     told_more None (Some y) u m e = absurd (cc)
@@ -145,30 +145,30 @@ module _ (part : Part) (slots : SlotTable) (pointer : Pointer) (targets : List A
     }
 
 -- with the rows, the column and the sources that the call had
-module _ (part : Part) (slots : SlotTable) (pointer : Pointer) (targets : List ArmAt) (columns : List (List ℕ)) (taken : List Taken) (n : ℕ) (low : n < part.geometry.g) (before failed : List ℕ) (rows : ColumnRows) (of : IsRowsOf part pointer n rows)
+module _ (part : Part) (slots : SlotTable) (pointer : Pointer) (targets : List ArmAt) (columns : List (List ℕ)) (chosen : List (Option Source)) (n : ℕ) (low : n < part.geometry.g) (before failed : List ℕ) (rows : ColumnRows) (of : IsRowsOf part pointer n rows)
     (fails : FailsBelow slots rows targets (length targets) before failed) where
   fails_here : FailsBelow slots (rows_at part pointer n) targets (length targets) before failed
   fails_here = subst (λ rows. FailsBelow slots rows targets (length targets) before failed) (rows_are part pointer n rows of) fails
 
-  pub lands_next : (column : List ℕ) (sources : List At) (s t u : Option Told) → column ≡ column_at columns n → sources ≡ sources_for part pointer taken n → OnBothTold t u (MendsBelow slots rows targets (length targets) column sources failed)
-      → OnBothTold s t (LandsBelow part slots pointer targets n columns taken before) → OnBothTold s u (LandsBelow part slots pointer targets (n + 1) columns taken failed)
+  pub lands_next : (column : List ℕ) (sources : List At) (s t u : Option Told) → column ≡ column_at columns n → sources ≡ sources_for part pointer chosen n → OnBothTold t u (MendsBelow slots rows targets (length targets) column sources failed)
+      → OnBothTold s t (LandsBelow part slots pointer targets n columns chosen before) → OnBothTold s u (LandsBelow part slots pointer targets (n + 1) columns chosen failed)
   lands_next column sources s t u column_is sources_are m was =
       let up : suc n ≡ n + 1 = omega arith in
-      subst (λ k. OnBothTold s u (LandsBelow part slots pointer targets k columns taken failed)) up
-      (told_more part slots pointer targets columns taken n low before failed fails_here s t u
-      (subst (λ rows. OnBothTold t u (MendsBelow slots rows targets (length targets) (column_at columns n) (sources_for part pointer taken n) failed)) (rows_are part pointer n rows of)
-      (subst (λ column. OnBothTold t u (MendsBelow slots rows targets (length targets) column (sources_for part pointer taken n) failed)) column_is
+      subst (λ k. OnBothTold s u (LandsBelow part slots pointer targets k columns chosen failed)) up
+      (told_more part slots pointer targets columns chosen n low before failed fails_here s t u
+      (subst (λ rows. OnBothTold t u (MendsBelow slots rows targets (length targets) (column_at columns n) (sources_for part pointer chosen n) failed)) (rows_are part pointer n rows of)
+      (subst (λ column. OnBothTold t u (MendsBelow slots rows targets (length targets) column (sources_for part pointer chosen n) failed)) column_is
       (subst (λ sources. OnBothTold t u (MendsBelow slots rows targets (length targets) column sources failed)) sources_are m))) was)
 
   pub fails_next : (first : List ℕ) → FailsColumns part slots pointer targets n first before → FailsColumns part slots pointer targets (n + 1) first failed
   fails_next first was =
       let up : suc n ≡ n + 1 = omega arith in
-      subst (λ k. FailsColumns part slots pointer targets k first failed) up (fails_more part slots pointer targets columns taken n low before failed fails_here first was)
+      subst (λ k. FailsColumns part slots pointer targets k first failed) up (fails_more part slots pointer targets columns chosen n low before failed fails_here first was)
 
 -- ---- no column yet
-pub lands_none : (part : Part) (slots : SlotTable) (pointer : Pointer) (targets : List ArmAt) (columns : List (List ℕ)) (taken : List Taken) (failed : List ℕ) (o : Option Told) → OnBothTold o o (LandsBelow part slots pointer targets 0 columns taken failed)
-lands_none part slots pointer targets columns taken failed None = refl
-lands_none part slots pointer targets columns taken failed (Some x) = record {
+pub lands_none : (part : Part) (slots : SlotTable) (pointer : Pointer) (targets : List ArmAt) (columns : List (List ℕ)) (chosen : List (Option Source)) (failed : List ℕ) (o : Option Told) → OnBothTold o o (LandsBelow part slots pointer targets 0 columns chosen failed)
+lands_none part slots pointer targets columns chosen failed None = refl
+lands_none part slots pointer targets columns chosen failed (Some x) = record {
   leaves = leaves_self (landed_below part slots pointer targets 0) x;
   each = λ apart free c leaf less keeps sound. absurd (omega (arith, less));
 }
@@ -177,31 +177,26 @@ pub no_fail : (part : Part) (slots : SlotTable) (pointer : Pointer) (targets : L
 no_fail part slots pointer targets failed = record { kept = λ leaf has. has; fail = λ leaf has out. absurd_test (has_number failed leaf) has out }
 
 -- ---- of what a column is made
-pub own_source : (part : Part) (pointer : Pointer) (taken : List Taken) (c arm leaf first : ℕ) → slice_get taken c ≡ Some (From arm leaf) → first ≡ (layout_in part).sector_of pointer.first c
-    → (record { leaf = leaf; sector = first } ∷ []) ≡ sources_for part pointer taken c
-own_source part pointer taken c arm leaf first there is = at is ∙ sym (ap (own_or_all part pointer taken c) there)
-  where
-    at : first ≡ (layout_in part).sector_of pointer.first c → (record { leaf = leaf; sector = first } ∷ []) ≡ own_or_all part pointer taken c (Some (From arm leaf))
-    at is = λ i. record { leaf = leaf; sector = is i } ∷ []
+pub own_source : (part : Part) (pointer : Pointer) (chosen : List (Option Source)) (c first : ℕ) (source : Source) → slice_index_or chosen c None ≡ Some source → first ≡ (layout_in part).sector_of pointer.first c
+    → (record { leaf = source.leaf; sector = first } ∷ []) ≡ sources_for part pointer chosen c
+own_source part pointer chosen c first source there is = (λ i. record { leaf = source.leaf; sector = is i } ∷ []) ∙ sym (ap (own_or_all part pointer chosen c) there)
 
-pub all_sources : (part : Part) (pointer : Pointer) (taken : List Taken) (c : ℕ) (t : Taken) → slice_get taken c ≡ Some t → ((arm leaf : ℕ) → t ≡ From arm leaf → ⊥) → sources_below part pointer taken part.geometry.g ≡ sources_for part pointer taken c
-all_sources part pointer taken c Nowhere there other = sym (ap (own_or_all part pointer taken c) there)
-all_sources part pointer taken c (Failed leaf) there other = sym (ap (own_or_all part pointer taken c) there)
-all_sources part pointer taken c (From arm leaf) there other = absurd (other arm leaf refl)
+pub all_sources : (part : Part) (pointer : Pointer) (chosen : List (Option Source)) (c : ℕ) → slice_index_or chosen c None ≡ None → sources_below part pointer chosen part.geometry.g ≡ sources_for part pointer chosen c
+all_sources part pointer chosen c none = sym (ap (own_or_all part pointer chosen c) none)
 
 -- ---- a shard that differs in its rack alone
 pub there_in : {R A : Type 0} (old new : Shard R A) (targets : List ArmAt) → new ≡ record old { rack = new.rack } → AreThere old.slots targets → AreThere new.slots targets
 there_in old new targets after was = subst (λ s. AreThere s.slots targets) (sym after) was
 
-pub all_in : {R A : Type 0} (old new : Shard R A) (pointer : Pointer) (taken : List Taken) (all : List At) → new ≡ record old { rack = new.rack } → all ≡ sources_below (part_of old) pointer taken old.geometry.g
-    → all ≡ sources_below (part_of new) pointer taken new.geometry.g
-all_in old new pointer taken all after was = subst (λ s. all ≡ sources_below (part_of s) pointer taken s.geometry.g) (sym after) was
+pub all_in : {R A : Type 0} (old new : Shard R A) (pointer : Pointer) (chosen : List (Option Source)) (all : List At) → new ≡ record old { rack = new.rack } → all ≡ sources_below (part_of old) pointer chosen old.geometry.g
+    → all ≡ sources_below (part_of new) pointer chosen new.geometry.g
+all_in old new pointer chosen all after was = subst (λ s. all ≡ sources_below (part_of s) pointer chosen s.geometry.g) (sym after) was
 
-pub lands_back : {R A : Type 0} (old new : Shard R A) (pointer : Pointer) (targets : List ArmAt) (columns : List (List ℕ)) (taken : List Taken) (n m : ℕ) (f g : List ℕ) (t u : Option Told) → new ≡ record old { rack = new.rack }
-    → ((start : Option Told) → OnBothTold start t (LandsBelow (part_of new) new.slots pointer targets n columns taken f) → OnBothTold start u (LandsBelow (part_of new) new.slots pointer targets m columns taken g))
-    → (start : Option Told) → OnBothTold start t (LandsBelow (part_of old) old.slots pointer targets n columns taken f) → OnBothTold start u (LandsBelow (part_of old) old.slots pointer targets m columns taken g)
-lands_back old new pointer targets columns taken n m f g t u after e =
-    subst (λ s. (start : Option Told) → OnBothTold start t (LandsBelow (part_of s) s.slots pointer targets n columns taken f) → OnBothTold start u (LandsBelow (part_of s) s.slots pointer targets m columns taken g)) after e
+pub lands_back : {R A : Type 0} (old new : Shard R A) (pointer : Pointer) (targets : List ArmAt) (columns : List (List ℕ)) (chosen : List (Option Source)) (n m : ℕ) (f g : List ℕ) (t u : Option Told) → new ≡ record old { rack = new.rack }
+    → ((start : Option Told) → OnBothTold start t (LandsBelow (part_of new) new.slots pointer targets n columns chosen f) → OnBothTold start u (LandsBelow (part_of new) new.slots pointer targets m columns chosen g))
+    → (start : Option Told) → OnBothTold start t (LandsBelow (part_of old) old.slots pointer targets n columns chosen f) → OnBothTold start u (LandsBelow (part_of old) old.slots pointer targets m columns chosen g)
+lands_back old new pointer targets columns chosen n m f g t u after e =
+    subst (λ s. (start : Option Told) → OnBothTold start t (LandsBelow (part_of s) s.slots pointer targets n columns chosen f) → OnBothTold start u (LandsBelow (part_of s) s.slots pointer targets m columns chosen g)) after e
 
 pub fails_back : {R A : Type 0} (old new : Shard R A) (pointer : Pointer) (targets : List ArmAt) (n m : ℕ) (f g : List ℕ) → new ≡ record old { rack = new.rack }
     → ((first : List ℕ) → FailsColumns (part_of new) new.slots pointer targets n first f → FailsColumns (part_of new) new.slots pointer targets m first g)

@@ -40,14 +40,14 @@ use Rattle.draid_mend.specs.declared.reading.Taken.TheVariants.{Nowhere, Failed,
 use Rattle.draid_mend.proofs.Columned.{rows_are}
 use Rattle.draid_mend.proofs.Lends.{step}
 
-all_of : (size : ℕ) (bytes : List ℕ) → length bytes ≡ size → take size (drop (0 * size) bytes) ≡ bytes
+pub all_of : (size : ℕ) (bytes : List ℕ) → length bytes ≡ size → take size (drop (0 * size) bytes) ≡ bytes
 all_of size bytes long = let none : 0 * size ≡ 0 = grind arith in subst (λ k. take size (drop k bytes) ≡ bytes) (sym none) (subst (λ n. take n bytes ≡ bytes) long (take-length bytes))
 
 module _ (part : Part) (slots : SlotTable) (w : machine.State) (p : machine.Pass) (key : Key) (h : Held) (pointer : Pointer) (x : Told) (read : StripeValue) (taken : List Taken) (failed : Vec ℕ Global) (pieces : Pieces)
     (is : IsPart part) (of : IsOf slots part.geometry part.perms part.number) (reached : IsReached (layout_in part) w) (has : HasSlots slots w.core)
     (pass : w.core.pass ≡ Some p) (kind : p.kind ≡ Rebuild) (running : p.running ≡ true) (next : IsNext w.core p key h pointer.first) (one : pointer.stripes ≡ 1)
     (run : IsRun part.geometry pointer.first pointer.stripes) (was : ReadsStripe part slots pointer part.geometry.g (Some x) read.columns taken failed.items)
-    (long : (c : ℕ) → c < part.geometry.g → length (column_at read.columns c) ≡ part.geometry.props.sector) (holds : Holds (layout_in part) pieces w x) where
+    (holds : Holds (layout_in part) pieces w x) where
   abbrev l : machine.Layout
   l = layout_in part
 
@@ -94,5 +94,5 @@ module _ (part : Part) (slots : SlotTable) (w : machine.State) (p : machine.Pass
           = ap (λ f. x.reads leaf (l.sector_of f c)) (sym row_is) ∙ holds.reads segment h is_sure (ap (λ f. x.harmed leaf (l.sector_of f c)) row_is ∙ harmless) in
           let first : l.sector_of pointer.first c + 0 ≡ l.sector_of pointer.first c = omega arith in
           let bytes : x.reads leaf (l.sector_of pointer.first c) ≡ Some (column_at read.columns c)
-          = ap (x.reads leaf) (sym first) ∙ stand zero (omega (arith, one)) ∙ ap Some (all_of part.geometry.props.sector (column_at read.columns c) (long c column)) in
+          = ap (x.reads leaf) (sym first) ∙ stand zero (omega (arith, one)) ∙ ap Some (all_of part.geometry.props.sector (column_at read.columns c) t.long) in
           some_same (x.reads leaf (l.sector_of pointer.first c)) (column_at read.columns c) (pieces n.key c s.row) bytes holds_it

@@ -15,7 +15,7 @@ use Rattle.draid_shard.specs.Part.{IsPart, Part, layout_in}
 use Rattle.draid_shard.proofs.Homes.{lays}
 use Rattle.draid_mend.specs.Stripes.{HasNoSource}
 use Rattle.draid_mend.specs.Targets.{AreThere}
-use Rattle.draid_mend.proofs.Standing.{name_in}
+use Rattle.draid_mend.proofs.Aims.{name_in}
 
 there_is : (xs : List Arm) (k : ℕ) → k < length xs → (a : Arm) × (slice_get xs k ≡ Some a)
 there_is [] k less = absurd (omega (arith, less))

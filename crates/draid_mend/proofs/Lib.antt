@@ -1,8 +1,11 @@
+mod Aims
+mod Chained
 mod Columned
 mod Counted
 mod Facts
 mod Freed
 mod Lacking
+mod Laid
 mod Landed
 mod Lends
 mod Loaned

@@ -6,7 +6,7 @@ use Rattle.std.proofs.lemmas.Bool.{cases_lt}
 use Rattle.std.proofs.lemmas.Bool.Decides.{nat_tests}
 use Rattle.std.proofs.Math.Nat.{mod-lt}
 use Rattle.draid_names.specs.declared.arm.Arm.{Arm}
-use Rattle.draid_spec.specs.Geometry.{metaslab_stripes}
+use Rattle.draid_spec.specs.Geometry.{IsGeometry, metaslab_stripes}
 use Rattle.draid_names.specs.declared.pass_kind.PassKind.TheVariants.{Rebuild}
 use Rattle.draid_names.specs.declared.pointer.Pointer.{Pointer}
 use Rattle.draid_rack.specs.declared.Rack.{Ghosts}
@@ -40,6 +40,7 @@ use Rattle.draid_shard.specs.declared.shard.Shard.{Shard}
 use Rattle.draid_shard.specs.Calls.{CountsFailed}
 use Rattle.draid_shard.proofs.Held.{key_leads}
 use Rattle.draid_shard.proofs.Kept.{history_in}
+use Rattle.draid_shard.proofs.Shown.{state_shown}
 use Rattle.draid_shard.proofs.Standing.{has_layout}
 use Rattle.draid_mend.specs.Lending.{chosen_in, loan_of, taken_of, to_list}
 use Rattle.draid_spec.specs.declared.layout.Geometry.{Geometry}
@@ -141,6 +142,13 @@ module _ {R A : Type 0} (old : Shard R A) (r : R) (kept : KeptLoan) (history : H
     owed = (let was = v.owed in let two = owes_too old.kept in omega (arith, was, owed, reserved, two));
   }
 
+pub one_run : (geometry : Geometry) → IsGeometry geometry → (stripe : ℕ) → stripe < metaslab_stripes geometry → IsRun geometry stripe 1
+one_run geometry is stripe less =
+    let least = is.props.least_height in
+    let some : 0 < geometry.props.height = omega (arith, least) in
+    let low = mod-lt stripe some in
+    record { some = omega arith; inside = omega (arith, less); group = omega (arith, low) }
+
 module _ {R A : Type 0} (rack : Ghosts R) (old : Shard R A) (v : Valid rack old) (entry : Entry) (stripe : ℕ) (unit : IsUnit old entry stripe) where
   pub unit_inside : stripe < metaslab_stripes old.geometry
   unit_inside =
@@ -150,12 +158,11 @@ module _ {R A : Type 0} (rack : Ghosts R) (old : Shard R A) (v : Valid rack old)
       omega (arith, inside, to)
 
   pub unit_run : IsRun old.geometry stripe 1
-  unit_run =
-      let less = unit_inside in
-      let least = v.part.layout.geometry_is.props.least_height in
-      let some : 0 < old.geometry.props.height = omega (arith, least) in
-      let low = mod-lt stripe some in
-      record { some = omega arith; inside = omega (arith, less); group = omega (arith, low) }
+  unit_run = one_run old.geometry v.part.layout.geometry_is stripe unit_inside
+
+  -- the pass stands at it, or before it
+  pub unit_behind : (pass : Pass) → old.pass ≡ Some pass → pass.at ≤ stripe
+  unit_behind pass there = let z = state_shown rack old v in (unit.next z.0 z.1 pass there).behind
 
 -- ---- the event
 
@@ -309,6 +316,7 @@ module _ {R A : Type 0} (rack : Ghosts R) (old b : Shard R A) (v : Valid rack ol
     kept = kept_now;
     kept_is = refl;
     serial = refl;
+    behind = subst (λ o. IfSome o (λ (p : Pass). p.at ≤ stripe)) (sym h.there) (unit_behind rack old v entry stripe unit h.pass h.there);
     read = record { taken = taken; faults = faults.items; reads = reads_at; chosen = named_at };
   })
 
@@ -350,6 +358,7 @@ module _ {R A : Type 0} (old : Shard R A) (history : History) where
     kept = z.kept;
     kept_is = z.kept_is;
     serial = z.serial;
+    behind = z.behind;
     read = z.read;
   }
 

@@ -37,7 +37,8 @@ get_upto (y ∷ ys) zero x is = omega arith
 get_upto (y ∷ ys) (suc k) x is = let less = get_upto ys k x is in omega (arith, less)
 
 module _ (part : Part) (slots : SlotTable) (pointer : Pointer) (n : ℕ) (told : Option Told) (old new : List (List ℕ)) (taken : List Taken) (failed : List ℕ) (rows : ColumnRows) (of : IsRowsOf part pointer n rows) (now : Taken)
-    (was : ReadsStripe part slots pointer n told old taken failed) (takes : Takes slots rows now told (column_at new n)) (others : (k : ℕ) → k ≢ n → column_at new k ≡ column_at old k) where
+    (was : ReadsStripe part slots pointer n told old taken failed) (takes : Takes slots rows now told (column_at new n)) (others : (k : ℕ) → k ≢ n → column_at new k ≡ column_at old k)
+    (long : length (column_at new n) ≡ part.geometry.props.sector) where
   abbrev longer_list : List Taken
   longer_list = taken ++ now ∷ []
 
@@ -54,7 +55,7 @@ module _ (part : Part) (slots : SlotTable) (pointer : Pointer) (n : ℕ) (told :
   here k is = get_last taken now k (let e = was.many in omega (arith, e, is))
 
   taken_at : TakesAt part slots pointer n now told (column_at new n)
-  taken_at = record { rows = rows; of = of; takes = takes }
+  taken_at = record { rows = rows; of = of; takes = takes; long = long }
 
   each : (c : ℕ) (t : Taken) → slice_get longer_list c ≡ Some t → TakesAt part slots pointer c t told (column_at new c)
   each c t at = elim (cases_lt c n) [

@@ -1,6 +1,6 @@
 -- A stripe that landed on its targets was mended as the state machine says.
 use Rattle.std.proofs.Common.{arith, ◌≡◌, ◌==◌, ◌+◌, ◌/◌, ◌<◌, ◌≤◌, ◌∙◌, ◌&&◌, ◌++◌, ℕ, zero, suc, true, false, nat_lt, List, [], ◌∷◌, Option, Some, None, IsSome, refl, sym, ap, ap₂, subst, inl, inr, length, slice_get}
-use Rattle.std.specs.Prelude.{if◌then◌else◌, is_none, option_map}
+use Rattle.std.specs.Prelude.{if◌then◌else◌, is_none, option_map, slice_index_or}
 use Rattle.draid_names.specs.declared.arm.Arm.{Arm}
 use Rattle.draid_names.specs.declared.arm.ArmAt.{ArmAt}
 use Rattle.draid_names.specs.declared.pointer.Pointer.{Pointer}
@@ -32,69 +32,20 @@ use Rattle.draid_slots.specs.States.{HasSlots, name_of, names_at}
 use Rattle.draid_slots.specs.Table.{SlotTable, arm_at, arms_of}
 use Rattle.draid_shard.specs.Part.{IsPart, IsRun, Part, layout_in}
 use Rattle.draid_shard.specs.Rows.{AreApart, IsRowsOf, answers_on, arm_no, leaf_on}
+use Rattle.draid_shard.specs.Loans.{chosen_at}
+use Rattle.draid_shard.specs.declared.loan.Source.{Source}
 use Rattle.draid_shard.specs.declared.places.ColumnRows.{ColumnRows}
 use Rattle.draid_shard.proofs.Answering.{answers_is, kept_arm, leaf_at_is, listed, name_listed, once_apart, spare_low}
 use Rattle.draid_shard.proofs.Homes.{lays, same_group}
-use Rattle.draid_mend.specs.Landing.{sector_of_arm, sector_on, sectors_below, sources_of}
-use Rattle.draid_mend.specs.Lending.{chosen_in, taken_of}
+use Rattle.draid_mend.specs.Landing.{AreApartSources, sector_of_arm, sector_on, sectors_below, sources_of}
 use Rattle.draid_mend.specs.Mending.{at_sector}
-use Rattle.draid_mend.specs.Reading.{IsSourceOn, ReadsStripe}
 use Rattle.draid_mend.specs.Stands.{IsSolved, IsStripeOf}
-use Rattle.draid_mend.specs.Stripes.{AreColumnsApart, FailsColumns, HasNoSource, KeepsColumn, LandsBelow, landed_below, own_or_all, rows_at, source_at, sources_below, sources_for}
+use Rattle.draid_mend.specs.Stripes.{AreColumnsApart, FailsColumns, KeepsColumn, LandsBelow, landed_below, own_or_all, rows_at, source_at, sources_below, sources_for}
 use Rattle.draid_mend.specs.Targets.{AreFree, StandsMended, is_mended_on, mended_below}
-use Rattle.draid_mend.specs.declared.reading.Taken.{Taken}
-use Rattle.draid_mend.specs.declared.reading.Taken.TheVariants.{Nowhere, Failed, From}
-use Rattle.draid_mend.proofs.Columned.{and_right, finds, rows_are}
+use Rattle.draid_mend.proofs.Aims.{IsNamedAt, name_at, name_in}
+use Rattle.draid_mend.proofs.Columned.{and_right, finds}
 use Rattle.draid_mend.proofs.Freed.{any_found, columns_land_apart, sources_are_free}
 use Rattle.draid_mend.proofs.Landed.{right, taints_are}
-
--- ---- the names of targets
-head : (rest : List ArmName) → Option Arm → List ArmName
-head rest None = rest
-head rest (Some a) = name_of a ∷ rest
-
-record IsNamedAt (slots : SlotTable) (targets : List ArmAt) (n : ArmName) : Type 0 where
-  pub k : ℕ
-  pub at : ArmAt
-  pub a : Arm
-  pub listed : slice_get targets k ≡ Some at
-  pub there : arm_at slots at ≡ Some a
-  pub name : name_of a ≡ n
-
-module _ (slots : SlotTable) where
-  names_are : (t : ArmAt) (ts : List ArmAt) → names_at slots (t ∷ ts) ≡ head (names_at slots ts) (arm_at slots t)
-  unfolding head
-  names_are t ts = by (arm_at slots t) where
-    by : (o : Option Arm) → (elim o as (λ o. List ArmName) [ None ↦ names_at slots ts | Some arm ↦ name_of arm ∷ names_at slots ts ]) ≡ head (names_at slots ts) o
-    by None = refl
-    by (Some a) = refl
-
-  later : (t : ArmAt) (ts : List ArmAt) (n : ArmName) → IsNamedAt slots ts n → IsNamedAt slots (t ∷ ts) n
-  later t ts n z = record { k = suc z.k; at = z.at; a = z.a; listed = z.listed; there = z.there; name = z.name }
-
-  name_at : (ts : List ArmAt) (n : ArmName) → has_name (names_at slots ts) n ≡ true → IsNamedAt slots ts n
-  unfolding head
-  name_at [] n is = absurd_test false is refl
-  name_at (t ∷ ts) n is = by (name_at ts n) (arm_at slots t) refl (sym (ap (λ ns. has_name ns n) (names_are t ts)) ∙ is)
-    where
-      by : (has_name (names_at slots ts) n ≡ true → IsNamedAt slots ts n) → (o : Option Arm) → arm_at slots t ≡ o → has_name (head (names_at slots ts) o) n ≡ true → IsNamedAt slots (t ∷ ts) n
-      by rest None e is = later t ts n (rest is)
-      by rest (Some a) e is = elim (either_true (name_eq (name_of a) n) (has_name (names_at slots ts) n) is) [
-        | inl here ↦ record { k = zero; at = t; a = a; listed = refl; there = e; name = name_true (name_of a) n here }
-        | inr more ↦ later t ts n (rest more)
-      ]
-
-  pub name_in : (ts : List ArmAt) (k : ℕ) (at : ArmAt) (a : Arm) → slice_get ts k ≡ Some at → arm_at slots at ≡ Some a → has_name (names_at slots ts) (name_of a) ≡ true
-  unfolding head
-  name_in [] k at a is there = absurd (cc)
-  name_in (t ∷ ts) zero at a is there =
-      let e : arm_at slots t ≡ Some a = ap (arm_at slots) (some_same (Some t) t at refl is) ∙ there in
-      ap (λ ns. has_name ns (name_of a)) (names_are t ts) ∙ subst (λ o. has_name (head (names_at slots ts) o) (name_of a) ≡ true) (sym e) (true_left (name_eq (name_of a) (name_of a)) (has_name (names_at slots ts) (name_of a)) (name_refl (name_of a)))
-  name_in (t ∷ ts) (suc k) at a is there = ap (λ ns. has_name ns (name_of a)) (names_are t ts) ∙ by (arm_at slots t) (name_in ts k at a is there)
-    where
-      by : (o : Option Arm) → has_name (names_at slots ts) (name_of a) ≡ true → has_name (head (names_at slots ts) o) (name_of a) ≡ true
-      by None e = e
-      by (Some b) e = true_right (name_eq (name_of b) (name_of a)) (has_name (names_at slots ts) (name_of a)) e
 
 -- ---- sectors
 on_leaf : (o : Option ℕ) (leaf : ℕ) → passes o (λ m. m == leaf) ≡ true → o ≡ Some leaf
@@ -180,8 +131,7 @@ module _ (part : Part) (is : IsPart part) (slots : SlotTable) (of : IsOf slots p
         (inr (there_at j leaf x.0 x.1 on)) (inr (there_at k leaf y.0 y.1 other)) (lies_at (name_of x.0) leaf) (lies_at (name_of y.0) leaf) in
         names_apart j k (name_of y.0) (ap (option_map name_of) x.1 ∙ ap (λ (s : Segment). Some s.arm) one) (ap (option_map name_of) y.1)
 
-  module _ (p : machine.Pass) (n : machine.Loan) (targets : List ArmAt) (taken : List Taken) (targets_are : p.targets ≡ names_at slots targets) (key_is : n.key ≡ key) (stripe_is : n.stripe ≡ pointer.first)
-      (chosen : (c : ℕ) → n.chosen c ≡ chosen_in part slots pointer taken c) where
+  module _ (p : machine.Pass) (n : machine.Loan) (targets : List ArmAt) (targets_are : p.targets ≡ names_at slots targets) (key_is : n.key ≡ key) (stripe_is : n.stripe ≡ pointer.first) where
     -- a segment that the machine mends is on a target
     record IsOnTarget (s : Segment) : Type 0 where
       pub column : s.column < part.geometry.g
@@ -295,61 +245,46 @@ module _ (part : Part) (is : IsPart part) (slots : SlotTable) (of : IsOf slots p
     }
 
     -- ---- of what a column is made
-    module _ (told : Option Told) (columns : List (List ℕ)) (faults : List ℕ) (was : ReadsStripe part slots pointer part.geometry.g told columns taken faults) where
-      source_same : (c : ℕ) → c < part.geometry.g → (t : Option Taken) → slice_get taken c ≡ t → sector_of_arm l w.core n c (taken_of slots (l.slot_of pointer.first c) t) ≡ source_at part pointer c t
+    module _ (chosen : List (Option Source)) (named : (c : ℕ) → n.chosen c ≡ chosen_at chosen c) (pass : w.core.pass ≡ Some p) (apart : AreApartSources part w pointer.first chosen) where
+      source_same : (c : ℕ) → c < part.geometry.g → (o : Option Source) → slice_index_or chosen c None ≡ o → sector_of_arm l w.core n c (option_map (λ (source : Source). source.arm) o) ≡ source_at part pointer c o
       source_same c low None e = refl
-      source_same c low (Some Nowhere) e = refl
-      source_same c low (Some (Failed leaf)) e = refl
-      source_same c low (Some (From arm leaf)) e =
-          let t = was.each c (From arm leaf) e in
-          let source : IsSourceOn slots (rows_at part pointer c) arm leaf = subst (λ rows. IsSourceOn slots rows arm leaf) (rows_are part pointer c t.rows t.of) t.takes.0 in
-          let z = kept_arm slots (rows_at part pointer c) arm leaf source.on in
-          ap (λ o. sector_of_arm l w.core n c (option_map name_of o)) z.1
-          ∙ ap (λ x. sector_on (leaf_at l w.core.order (name_of z.0) x) (l.sector_of x c)) stripe_is
-          ∙ ap (λ o. sector_on o (l.sector_of pointer.first c)) (lies_row c low arm leaf z.0 z.1 source.on)
+      source_same c low (Some source) e =
+          ap (λ x. sector_on (leaf_at l w.core.order source.arm x) (l.sector_of x c)) stripe_is
+          ∙ ap (λ o. sector_on o (l.sector_of pointer.first c)) (apart c source low e).lies
 
-      one_same : (c : ℕ) → c < part.geometry.g → sector_of_arm l w.core n c (n.chosen c) ≡ source_at part pointer c (slice_get taken c)
-      one_same c low = ap (sector_of_arm l w.core n c) (chosen c) ∙ source_same c low (slice_get taken c) refl
+      one_same : (c : ℕ) → c < part.geometry.g → sector_of_arm l w.core n c (n.chosen c) ≡ source_at part pointer c (slice_index_or chosen c None)
+      one_same c low = ap (sector_of_arm l w.core n c) (named c) ∙ source_same c low (slice_index_or chosen c None) refl
 
-      below_same : (count : ℕ) → count ≤ part.geometry.g → sectors_below l w.core n count ≡ sources_below part pointer taken count
+      below_same : (count : ℕ) → count ≤ part.geometry.g → sectors_below l w.core n count ≡ sources_below part pointer chosen count
       below_same zero low = refl
       below_same (suc c) low = ap₂ (λ a b. a ++ b) (below_same c (omega (arith, low))) (one_same c (omega (arith, low)))
 
-      sources_same : (c : ℕ) → c < part.geometry.g → sources_of l w.core n c ≡ sources_for part pointer taken c
-      sources_same c low = at (slice_get taken c) refl
+      sources_same : (c : ℕ) → c < part.geometry.g → sources_of l w.core n c ≡ sources_for part pointer chosen c
+      sources_same c low = at (slice_index_or chosen c None) refl
         where
-          from : (t : Option Taken) → slice_get taken c ≡ t → taken_of slots (l.slot_of pointer.first c) t ≡ None → own_or_all part pointer taken c t ≡ sources_below part pointer taken part.geometry.g → sources_of l w.core n c ≡ sources_for part pointer taken c
-          from t e none all =
-              ap (λ o. if is_none o then sectors_below l w.core n part.geometry.g else sector_of_arm l w.core n c o) (chosen c ∙ ap (taken_of slots (l.slot_of pointer.first c)) e ∙ none)
-              ∙ below_same part.geometry.g (omega arith) ∙ sym all ∙ sym (ap (own_or_all part pointer taken c) e)
-
-          at : (t : Option Taken) → slice_get taken c ≡ t → sources_of l w.core n c ≡ sources_for part pointer taken c
-          at None e = from None e refl refl
-          at (Some Nowhere) e = from (Some Nowhere) e refl refl
-          at (Some (Failed leaf)) e = from (Some (Failed leaf)) e refl refl
-          at (Some (From arm leaf)) e =
-              let t = was.each c (From arm leaf) e in
-              let source : IsSourceOn slots (rows_at part pointer c) arm leaf = subst (λ rows. IsSourceOn slots rows arm leaf) (rows_are part pointer c t.rows t.of) t.takes.0 in
-              let z = kept_arm slots (rows_at part pointer c) arm leaf source.on in
-              let some : n.chosen c ≡ Some (name_of z.0) = chosen c ∙ ap (taken_of slots (l.slot_of pointer.first c)) e ∙ ap (option_map name_of) z.1 in
-              ap (λ o. if is_none o then sectors_below l w.core n part.geometry.g else sector_of_arm l w.core n c (n.chosen c)) some
-              ∙ one_same c low ∙ ap (source_at part pointer c) e ∙ sym (ap (own_or_all part pointer taken c) e)
+          at : (o : Option Source) → slice_index_or chosen c None ≡ o → sources_of l w.core n c ≡ sources_for part pointer chosen c
+          at None e =
+              ap (λ o. if is_none o then sectors_below l w.core n part.geometry.g else sector_of_arm l w.core n c o) (named c ∙ ap (option_map (λ (source : Source). source.arm)) e)
+              ∙ below_same part.geometry.g (omega arith) ∙ sym (ap (own_or_all part pointer chosen c) e)
+          at (Some source) e =
+              ap (λ o. if is_none o then sectors_below l w.core n part.geometry.g else sector_of_arm l w.core n c (n.chosen c)) (named c ∙ ap (option_map (λ (source : Source). source.arm)) e)
+              ∙ one_same c low ∙ ap (source_at part pointer c) e ∙ sym (ap (own_or_all part pointer chosen c) e)
 
       -- ---- the landing
-      module _ (x y : Told) (failed : List ℕ) (pieces : Pieces) (read solved : StripeValue) (missing : List ℕ) (lacking : HasNoSource slots targets)
-          (lands : LandsBelow part slots pointer targets part.geometry.g solved.columns taken failed x y) (right_is : IsSolved part w n h pieces read solved missing x) where
+      module _ (x y : Told) (failed : List ℕ) (pieces : Pieces) (read solved : StripeValue) (missing : List ℕ) (lands : LandsBelow part slots pointer targets part.geometry.g solved.columns chosen failed x y)
+          (right_is : IsSolved part w n h pieces read solved missing x) where
         columns_apart_are : AreColumnsApart part slots pointer targets
-        columns_apart_are = columns_land_apart part is slots of w reached has pointer run targets told columns taken faults was lacking apart_row
+        columns_apart_are = columns_land_apart part is slots of w reached has pointer run targets
 
-        are_free : (c : ℕ) → c < part.geometry.g → AreFree (landed_below part slots pointer targets part.geometry.g) (sources_for part pointer taken c)
-        are_free = sources_are_free part is slots of w reached has pointer run targets told columns taken faults was lacking apart_row
+        are_free : (c : ℕ) → c < part.geometry.g → AreFree (landed_below part slots pointer targets part.geometry.g) (sources_for part pointer chosen c)
+        are_free = sources_are_free part is slots of w reached has pointer run targets chosen p pass targets_are apart apart_row
 
         fine : (s : Segment) → IsOnTarget s → fails l w.core failed s.arm n.stripe ≡ false → has_number failed s.leaf ≡ false
         fine s o sound =
             subst (λ m. passes m (has_number failed) ≡ false) o.leaf (subst (λ f. passes (leaf_at l w.core.order s.arm f) (has_number failed) ≡ false) stripe_is sound)
 
         stands : (s : Segment) → IsOnTarget s → fails l w.core failed s.arm n.stripe ≡ false
-            → StandsMended s.leaf (l.sector_of pointer.first s.column) (column_at solved.columns s.column) (sources_for part pointer taken s.column) x y
+            → StandsMended s.leaf (l.sector_of pointer.first s.column) (column_at solved.columns s.column) (sources_for part pointer chosen s.column) x y
         stands s o sound = lands.each columns_apart_are are_free s.column s.leaf o.column o.keeps (fine s o sound)
 
         reads_there : (s : Segment) → IsOnTarget s → fails l w.core failed s.arm n.stripe ≡ false → reads_at l h s y ≡ Some (column_at solved.columns s.column)

@@ -1,6 +1,8 @@
 pub mod Landing
+pub mod Lands
 pub mod Lending
 pub mod Loans
+pub mod Losing
 pub mod Mending
 pub mod Missing
 pub mod Reading

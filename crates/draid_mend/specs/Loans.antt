@@ -1,5 +1,5 @@
 -- The loan of a rebuild's stripe.
-use Rattle.std.specs.Prelude.{◌≡◌, ◌<◌, ◌≤◌, ◌+◌, ◌*◌, ⊤, ℕ, true, [], List, Option, None, Some, Vec, option_map, length, slice_get, slice_index_or, vec_capacity}
+use Rattle.std.specs.Prelude.{◌≡◌, ◌<◌, ◌≤◌, ◌+◌, ◌*◌, ⊤, ℕ, true, [], IfSome, List, Option, None, Some, Vec, option_map, length, slice_get, slice_index_or, vec_capacity}
 use Rattle.std.specs.declared.alloc.Global.{Global}
 use Rattle.draid_names.specs.declared.arm.Arm.{Arm}
 use Rattle.draid_names.specs.declared.pass_kind.PassKind.TheVariants.{Rebuild}
@@ -108,4 +108,5 @@ pub record LendsUnit {R A : Type 0} (rack : Ghosts R) (old new : Shard R A) : Ty
   pub kept : KeptLoan
   pub kept_is : new.kept ≡ Some kept
   pub serial : kept.serial ≡ old.serial + 1
+  pub behind : IfSome old.pass (λ pass. pass.at ≤ kept.stripe)
   pub read : IsReadFrom (part_of old) old.slots (rack.told old.rack) kept

@@ -32,11 +32,12 @@ pub record CountsTaken (taken : Taken) (old new : Option ℕ → ℕ) : Type 0 w
   pub later : (who : Option ℕ) → old who ≤ new who
   pub cause : (leaf : ℕ) → taken ≡ Failed leaf → Rose (old (Some leaf)) (new (Some leaf))
 
--- the rows of a column were taken so
+-- one sector of a column was taken so
 pub record TakesAt (part : Part) (slots : SlotTable) (pointer : Pointer) (c : ℕ) (taken : Taken) (told : Option Told) (bytes : List ℕ) : Type 0 where
   pub rows : ColumnRows
   pub of : IsRowsOf part pointer c rows
   pub takes : Takes slots rows taken told bytes
+  pub long : length bytes ≡ part.geometry.props.sector
 
 -- The first so many columns of a stripe were read, each from its source, and just the leaves are listed on which calls failed.
 pub record ReadsStripe (part : Part) (slots : SlotTable) (pointer : Pointer) (count : ℕ) (told : Option Told) (columns : List (List ℕ)) (taken : List Taken) (failed : List ℕ) : Type 0 where

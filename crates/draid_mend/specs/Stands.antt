@@ -1,6 +1,5 @@
 -- A rebuild's stripe landed as the state machine says.
-use Rattle.std.specs.Prelude.{◌≡◌, ◌+◌, ◌<◌, ℕ, List, Option, Some}
-use Rattle.draid_names.specs.declared.arm.ArmAt.{ArmAt}
+use Rattle.std.specs.Prelude.{◌≡◌, ◌+◌, ◌<◌, ℕ, List, Some}
 use Rattle.draid_names.specs.declared.pointer.Pointer.{Pointer}
 use Rattle.draid_machine.specs.State as machine
 use Rattle.draid_machine.specs.declared.names.Held.{Held}
@@ -8,13 +7,9 @@ use Rattle.draid_machine.specs.declared.names.Key.{Key}
 use Rattle.draid_parity.specs.Columns.{StripeValue}
 use Rattle.draid_rack.specs.Rack.{Told}
 use Rattle.draid_segments.specs.Segments.{Pieces}
-use Rattle.draid_slots.specs.Table.{SlotTable}
 use Rattle.draid_shard.specs.Part.{IsRun, Part, layout_in}
 use Rattle.draid_mend.specs.Landing.{AreMissing, LoanStands}
-use Rattle.draid_mend.specs.Reading.{ReadsStripe}
 use Rattle.draid_mend.specs.Solving.{HasContent, SolvesRow}
-use Rattle.draid_mend.specs.Stripes.{HasNoSource, LandsBelow}
-use Rattle.draid_mend.specs.declared.reading.Taken.{Taken}
 
 -- a stripe of a block that is held, within the block
 pub record IsStripeOf (part : Part) (w : machine.State) (key : Key) (h : Held) (row : ℕ) (pointer : Pointer) : Type 0 where
@@ -23,12 +18,6 @@ pub record IsStripeOf (part : Part) (w : machine.State) (key : Key) (h : Held) (
   pub inside : row < h.stripes
   pub first : h.first + row ≡ pointer.first
   pub run : IsRun part.geometry pointer.first pointer.stripes
-
--- All columns of the stripe were read, its missing ones solved, and what was solved was written to the targets.
-pub record LandsAll (part : Part) (slots : SlotTable) (pointer : Pointer) (targets : List ArmAt) (taken : List Taken) (lent : Option Told) (faults failed : List ℕ) (read solved : StripeValue) (x y : Told) : Type 0 where
-  pub reads : ReadsStripe part slots pointer part.geometry.g lent read.columns taken faults
-  pub lacking : HasNoSource slots targets
-  pub lands : LandsBelow part slots pointer targets part.geometry.g solved.columns taken failed x y
 
 -- the columns are right: the loan fact holds of what was read, and the missing ones were solved
 pub record IsSolved (part : Part) (w : machine.State) (n : machine.Loan) (h : Held) (pieces : Pieces) (read solved : StripeValue) (missing : List ℕ) (x : Told) : Type 0 where

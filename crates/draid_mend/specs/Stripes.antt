@@ -1,5 +1,5 @@
 -- What lands of all columns of a stripe.
-use Rattle.std.specs.Prelude.{◌≡◌, ◌<◌, ◌++◌, ◌∷◌, [], ℕ, zero, suc, Bool, true, false, List, Option, Some, None, length, slice_get}
+use Rattle.std.specs.Prelude.{◌≡◌, ◌<◌, ◌++◌, ◌∷◌, [], ℕ, zero, suc, Bool, true, false, List, Option, Some, None, length, slice_get, slice_index_or}
 use Rattle.draid_spec.specs.Geometry.{slice_at}
 use Rattle.draid_names.specs.declared.arm.ArmAt.{ArmAt}
 use Rattle.draid_names.specs.declared.arm.At.{At}
@@ -10,10 +10,9 @@ use Rattle.draid_rack.specs.Moments.{Leaves}
 use Rattle.draid_rack.specs.Rack.{Told}
 use Rattle.draid_slots.specs.Table.{SlotTable, is_logged}
 use Rattle.draid_shard.specs.Part.{Part, layout_in}
+use Rattle.draid_shard.specs.declared.loan.Source.{Source}
 use Rattle.draid_shard.specs.declared.places.ColumnRows.{ColumnRows}
 use Rattle.draid_mend.specs.Targets.{AreFree, KeepsAt, StandsMended, mended_below}
-use Rattle.draid_mend.specs.declared.reading.Taken.{Taken}
-use Rattle.draid_mend.specs.declared.reading.Taken.TheVariants.{Nowhere, Failed, From}
 
 -- the rows of a column
 abbrev pub rows_at : Part → Pointer → ℕ → ColumnRows
@@ -28,25 +27,21 @@ rows_at part pointer c = record {
 
 -- ---- of what a column is made
 
-abbrev pub source_at : Part → Pointer → ℕ → Option Taken → List At
+abbrev pub source_at : Part → Pointer → ℕ → Option Source → List At
 source_at part pointer c None = []
-source_at part pointer c (Some Nowhere) = []
-source_at part pointer c (Some (Failed leaf)) = []
-source_at part pointer c (Some (From arm leaf)) = record { leaf = leaf; sector = (layout_in part).sector_of pointer.first c } ∷ []
+source_at part pointer c (Some source) = record { leaf = source.leaf; sector = (layout_in part).sector_of pointer.first c } ∷ []
 
-abbrev pub sources_below : Part → Pointer → List Taken → ℕ → List At
-sources_below part pointer taken zero = []
-sources_below part pointer taken (suc c) = sources_below part pointer taken c ++ source_at part pointer c (slice_get taken c)
+abbrev pub sources_below : Part → Pointer → List (Option Source) → ℕ → List At
+sources_below part pointer chosen zero = []
+sources_below part pointer chosen (suc c) = sources_below part pointer chosen c ++ source_at part pointer c (slice_index_or chosen c None)
 
 -- its own source, or where it has none all that were read
-abbrev pub own_or_all : Part → Pointer → List Taken → ℕ → Option Taken → List At
-own_or_all part pointer taken c None = sources_below part pointer taken part.geometry.g
-own_or_all part pointer taken c (Some Nowhere) = sources_below part pointer taken part.geometry.g
-own_or_all part pointer taken c (Some (Failed leaf)) = sources_below part pointer taken part.geometry.g
-own_or_all part pointer taken c (Some (From arm leaf)) = source_at part pointer c (Some (From arm leaf))
+abbrev pub own_or_all : Part → Pointer → List (Option Source) → ℕ → Option Source → List At
+own_or_all part pointer chosen c None = sources_below part pointer chosen part.geometry.g
+own_or_all part pointer chosen c (Some source) = source_at part pointer c (Some source)
 
-abbrev pub sources_for : Part → Pointer → List Taken → ℕ → List At
-sources_for part pointer taken c = own_or_all part pointer taken c (slice_get taken c)
+abbrev pub sources_for : Part → Pointer → List (Option Source) → ℕ → List At
+sources_for part pointer chosen c = own_or_all part pointer chosen c (slice_index_or chosen c None)
 
 -- each target lacks a group, so that it is no source
 abbrev pub HasNoSource : SlotTable → List ArmAt → Type 0
@@ -68,10 +63,10 @@ module _ (part : Part) (slots : SlotTable) (pointer : Pointer) (targets : List A
 
   -- The columns were mended on their targets: each stands on each target on whose leaf no call failed, harmed just where one of its sources was. Nothing
   -- else changed.
-  pub record LandsBelow (count : ℕ) (columns : List (List ℕ)) (taken : List Taken) (failed : List ℕ) (x y : Told) : Type 0 where
+  pub record LandsBelow (count : ℕ) (columns : List (List ℕ)) (chosen : List (Option Source)) (failed : List ℕ) (x y : Told) : Type 0 where
     pub leaves : Leaves (landed_below count) x y
-    pub each : AreColumnsApart → ((c : ℕ) → c < count → AreFree (landed_below count) (sources_for part pointer taken c)) → (c leaf : ℕ) → c < count → KeepsColumn c leaf
-        → has_number failed leaf ≡ false → StandsMended leaf ((layout_in part).sector_of pointer.first c) (column_at columns c) (sources_for part pointer taken c) x y
+    pub each : AreColumnsApart → ((c : ℕ) → c < count → AreFree (landed_below count) (sources_for part pointer chosen c)) → (c leaf : ℕ) → c < count → KeepsColumn c leaf
+        → has_number failed leaf ≡ false → StandsMended leaf ((layout_in part).sector_of pointer.first c) (column_at columns c) (sources_for part pointer chosen c) x y
 
   -- the list of failed leaves gains just leaves of such targets
   pub record FailsColumns (count : ℕ) (before failed : List ℕ) : Type 0 where

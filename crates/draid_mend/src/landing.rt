@@ -1,110 +1,99 @@
-//! The columns of a stripe that was lent and solved land on the pass's targets.
-ghost use Rattle.std.specs.Prelude.{◌≡◌, ◌+◌, ◌*◌, ◌≤◌, ◌<◌, ℕ, List, Option, length, vec_capacity, vec_len};
-ghost use Rattle.draid_parity.specs.Columns.{IsStripe};
-ghost use Rattle.draid_rack.specs.Rack.{OnBothTold, Told};
-ghost use Rattle.draid_shard.specs.Calls.{CountsFailed};
+//! A rebuild's loan comes back: its stripe lands on the targets of the pass.
+ghost use Rattle.std.specs.Prelude.{◌≡◌, ◌+◌, ◌≤◌, ◌<◌, [], All, IsSome, IsSomeAnd, None, length};
+ghost use Rattle.draid_machine.specs.After.{capped};
+ghost use Rattle.draid_shard.specs.Calls.{SameAreas, SameReserve};
+ghost use Rattle.draid_shard.specs.Changes.{KeepsBlocks};
 ghost use Rattle.draid_shard.specs.Fits.{Valid};
-ghost use Rattle.draid_shard.specs.Part.{IsRun};
-ghost use Rattle.draid_shard.specs.States.{part_of};
-ghost use Rattle.draid_mend.specs.Reading.{HasRoomFor};
-ghost use Rattle.draid_mend.specs.Stripes.{FailsColumns, LandsBelow, sources_below};
-ghost use Rattle.draid_mend.specs.Targets.{AreThere};
+ghost use Rattle.draid_slots.specs.Table.{IsThere};
+ghost use Rattle.draid_mend.specs.Lands.{IsLaid, IsSolvable, LandsKept, LandsSolved, LandsUnit, MayLand, MovesOver};
+ghost use Rattle.draid_mend.specs.Loans.{IsRunningRebuild};
 
-use crate::lending::Readings;
-use crate::reading::Taken;
-use crate::targets::mend_targets;
+use crate::columns::land_columns;
+use crate::loans::unit_of;
+use crate::losing::missed_marks;
+use crate::solving::count_missing;
 use draid_area::Area;
-use draid_names::{ArmAt, At, Pointer};
+use draid_machine::Event;
+use draid_names::LAST_NUMBER;
+use draid_pass::Pass;
+use draid_plans::lose_marked;
 use draid_rack::Rack;
-use draid_shard::Shard;
+use draid_shard::{KeptLoan, Shard};
 
-/// Writes each column to the targets of its slot that answer, and notes the leaves on which calls failed. A column that was
-/// taken from a source is made of that, and any other of all that were.
-pub fn land_columns<R: Rack, A: Area>(
-    shard: &mut Shard<R, A>,
-    pointer: &Pointer,
-    targets: &[ArmAt],
-    lent: &Readings,
-    all: &[At],
-    failed: &mut Vec<u64>,
-)
+/// Writes the stripe that is lent to the targets of the pass: each column to the targets of its slot that answer. A target that
+/// doesn't answer, or on whose leaf a call failed, is lost, an error each. Where more columns are missing than the parity solves
+/// nothing is written, and one error is counted.
+pub fn land<R: Rack, A: Area>(shard: &mut Shard<R, A>)
     requires valid { Valid R.Rack shard.old }
-    requires run { IsRun shard.old.geometry pointer.now.first pointer.now.stripes }
-    requires one { pointer.now.stripes ≡ 1 }
-    requires there { AreThere shard.old.slots targets.now }
-    requires shape { HasRoomFor shard.old.geometry lent.now }
-    requires whole { IsStripe lent.now.columns }
-    requires taken { length lent.now.taken.items ≡ shard.old.geometry.g }
-    requires all { all.now ≡ sources_below (part_of shard.old) pointer.now lent.now.taken.items shard.old.geometry.g }
-    requires room { vec_len failed.old + shard.old.geometry.g * length targets.now ≤ vec_capacity failed.old }
-    ensures rack { shard.new ≡ record shard.old { rack = shard.new.rack } }
-    ensures shape { R.shape shard.new.rack ≡ R.shape shard.old.rack }
-    ensures lands { OnBothTold (R.told shard.old.rack) (R.told shard.new.rack)
-        (LandsBelow (part_of shard.old) shard.old.slots pointer.now targets.now shard.old.geometry.g lent.now.columns.columns lent.now.taken.items failed.new.items) }
-    ensures fails { FailsColumns (part_of shard.old) shard.old.slots pointer.now targets.now shard.old.geometry.g failed.old.items failed.new.items }
-    ensures counts { (first : Option ℕ → ℕ) → CountsFailed failed.old.items first (R.faults shard.old.rack) → CountsFailed failed.new.items first (R.faults shard.new.rack) }
+    requires running { IsSomeAnd shard.old.pass IsRunningRebuild }
+    requires kept { IsSome shard.old.kept }
+    ensures valid { Valid R.Rack shard.new }
+    ensures areas { SameAreas shard.old shard.new }
+    ensures lands { LandsUnit R.Rack shard.old shard.new }
+    ensures keeps { KeepsBlocks shard.old shard.new }
+    ensures slots { shard.new.slots ≡ shard.old.slots }
+    ensures moves { MovesOver shard.old.kept shard.old.pass shard.new.pass }
+    ensures none { shard.new.kept ≡ None }
+    ensures reserve { SameReserve shard.old shard.new }
 {
-    for column in 0..shard.geometry.g {
-        land_next(shard, pointer, targets, lent, all, column, failed);
-    }
+    let Some(mut pass) = shard.pass.take() else {
+        unreachable!()
+    };
+    let Some(mut kept) = shard.kept.take() else {
+        unreachable!()
+    };
+    land_kept(shard, &mut pass, &mut kept);
+    pass.at = kept.stripe + 1;
+    let event = Event::LandStripe {
+        pass: pass.number,
+        serial: kept.serial,
+        failed: kept.failed,
+    };
+    shard.pass = Some(pass);
+    shard.history.add(event, 1);
 }
 
-/// Writes the next one.
-fn land_next<R: Rack, A: Area>(
-    shard: &mut Shard<R, A>,
-    pointer: &Pointer,
-    targets: &[ArmAt],
-    lent: &Readings,
-    all: &[At],
-    column: u32,
-    failed: &mut Vec<u64>,
-)
-    requires valid { Valid R.Rack shard.old }
-    requires run { IsRun shard.old.geometry pointer.now.first pointer.now.stripes }
-    requires one { pointer.now.stripes ≡ 1 }
-    requires there { AreThere shard.old.slots targets.now }
-    requires shape { HasRoomFor shard.old.geometry lent.now }
-    requires whole { IsStripe lent.now.columns }
-    requires taken { length lent.now.taken.items ≡ shard.old.geometry.g }
-    requires all { all.now ≡ sources_below (part_of shard.old) pointer.now lent.now.taken.items shard.old.geometry.g }
-    requires less { column < shard.old.geometry.g }
-    requires room { vec_len failed.old + length targets.now ≤ vec_capacity failed.old }
-    ensures rack { shard.new ≡ record shard.old { rack = shard.new.rack } }
-    ensures shape { R.shape shard.new.rack ≡ R.shape shard.old.rack }
-    ensures lands { (start : Option Told)
-        → OnBothTold start (R.told shard.old.rack) (LandsBelow (part_of shard.old) shard.old.slots pointer.now targets.now column lent.now.columns.columns lent.now.taken.items failed.old.items)
-        → OnBothTold start (R.told shard.new.rack) (LandsBelow (part_of shard.old) shard.old.slots pointer.now targets.now (column + 1) lent.now.columns.columns lent.now.taken.items failed.new.items) }
-    ensures fails { (first : List ℕ) → FailsColumns (part_of shard.old) shard.old.slots pointer.now targets.now column first failed.old.items
-        → FailsColumns (part_of shard.old) shard.old.slots pointer.now targets.now (column + 1) first failed.new.items }
-    ensures counts { (first : Option ℕ → ℕ) → CountsFailed failed.old.items first (R.faults shard.old.rack) → CountsFailed failed.new.items first (R.faults shard.new.rack) }
-    ensures room { vec_capacity failed.new ≡ vec_capacity failed.old }
-    ensures few { length failed.new.items ≤ length failed.old.items + length targets.now }
+/// Writes what is kept of a loan, unless too many of its columns are missing.
+fn land_kept<R: Rack, A: Area>(shard: &mut Shard<R, A>, pass: &mut Pass, kept: &mut KeptLoan)
+    requires laid { IsLaid R.Rack shard.old }
+    requires there { All (IsThere shard.old.slots) pass.old.targets.items }
+    requires may { MayLand shard.old.geometry pass.old kept.old }
+    ensures lands { LandsKept R.Rack shard.old shard.new pass.old pass.new kept.old kept.new }
 {
-    let rows = shard.rows_of(pointer, column);
-    let bytes = lent.columns.column(column);
-    if let Taken::From { leaf, .. } = lent.taken[column as usize] {
-        let own = At {
-            leaf,
-            sector: rows.first,
-        };
-        mend_targets(
-            &mut shard.rack,
-            &shard.slots,
-            targets,
-            rows,
-            bytes,
-            &[own],
-            failed,
-        );
+    kept.failed.clear();
+    let missing = count_missing(&kept.chosen, shard.geometry.g);
+    if missing > shard.geometry.spec.parity as usize {
+        pass.errors = one_more(pass.errors);
         return;
     }
-    mend_targets(
-        &mut shard.rack,
-        &shard.slots,
-        targets,
-        rows,
-        bytes,
-        all,
-        failed,
+    land_solved(shard, pass, kept);
+}
+
+/// Writes it, and the pass loses the targets that miss it.
+fn land_solved<R: Rack, A: Area>(shard: &mut Shard<R, A>, pass: &mut Pass, kept: &mut KeptLoan)
+    requires laid { IsLaid R.Rack shard.old }
+    requires there { All (IsThere shard.old.slots) pass.old.targets.items }
+    requires may { MayLand shard.old.geometry pass.old kept.old }
+    requires none { kept.old.failed.items ≡ [] }
+    ensures rest { kept.new ≡ record kept.old { failed = kept.new.failed } }
+    ensures lands { LandsSolved R.Rack shard.old shard.new pass.old pass.new kept.old kept.new.failed.items }
+{
+    let unit = unit_of(&kept.pointer, kept.stripe);
+    land_columns(
+        shard,
+        &unit,
+        &pass.targets,
+        &kept.chosen,
+        &kept.columns,
+        &mut kept.failed,
     );
+    let marks = missed_marks(shard, &unit, &kept.failed);
+    lose_marked(pass, &marks);
+}
+
+/// One error more. Their number stands still at the last.
+fn one_more(errors: u64) -> u64
+    ensures { result ≡ capped (errors + 1) }
+{
+    errors.saturating_add(1).min(LAST_NUMBER)
 }

@@ -2,10 +2,12 @@
 
 #![tactic(auto)]
 
+mod columns;
 mod landing;
 mod laws;
 mod lending;
 mod loans;
+mod losing;
 mod mending;
 mod naming;
 mod reading;
@@ -13,10 +15,10 @@ mod solving;
 mod sources;
 mod targets;
 
-pub use landing::land_columns;
+pub use landing::land;
 pub use laws::{
-    loans_begin_right, missing_columns_are_listed, solved_columns_are_right, sources_taint,
-    stripes_are_landed, stripes_are_lent, stripes_are_mended, stripes_land_apart,
+    loans_begin_right, missing_columns_are_listed, solved_columns_are_right, solved_loans_stand,
+    sources_taint, stripes_are_landed, stripes_are_lent, stripes_are_mended, stripes_land_apart,
     targets_are_no_sources,
 };
 pub use lending::{Readings, read_stripe};

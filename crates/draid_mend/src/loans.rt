@@ -238,7 +238,7 @@ fn lend_unit<R: Rack, A: Area>(shard: &mut Shard<R, A>, entry: Entry, stripe: u6
 }
 
 /// One stripe of a block.
-fn unit_of(pointer: &Pointer, stripe: u64) -> Pointer
+pub(crate) fn unit_of(pointer: &Pointer, stripe: u64) -> Pointer
     ensures { result ≡ unit_at pointer.now stripe }
 {
     Pointer {

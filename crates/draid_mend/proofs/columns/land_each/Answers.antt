@@ -4,17 +4,18 @@ use Rattle.draid_rack.specs.Rack.{OnBothTold}
 use Rattle.draid_spec.specs.declared.layout.Geometry.{Geometry}
 use Rattle.draid_shard.specs.Part.{IsRun}
 use Rattle.draid_shard.specs.States.{part_of}
-use Rattle.draid_shard.proofs.WithRack.{geometry_in, rack_twice, valid_rack}
-use Rattle.draid_mend.specs.Reading.{HasRoomFor}
+use Rattle.draid_shard.proofs.WithRack.{geometry_in, rack_twice}
+use Rattle.draid_mend.specs.Solving.{IsOneSector}
 use Rattle.draid_mend.specs.Stripes.{FailsColumns, LandsBelow}
 use Rattle.draid_mend.proofs.Columned.{all_in, fails_back, few_next, lands_back, lands_none, no_fail, room_next, there_in}
-use Rattle.draid_mend.proofs.landing.land_columns.Goals as goal
+use Rattle.draid_mend.proofs.Laid.{laid_rack}
+use Rattle.draid_mend.proofs.columns.land_each.Goals as goal
 
 pub loop-column-init : goal.loop-column-init
 loop-column-init g c = record {
   whole = refl;
   shape = refl;
-  lands = lands_none (part_of c.args.shard.now) c.args.shard.now.slots c.args.pointer.now c.args.targets.now c.args.lent.now.columns.columns c.args.lent.now.taken.items c.args.failed.now.items (g.R.Rack.told c.args.shard.now.rack);
+  lands = lands_none (part_of c.args.shard.now) c.args.shard.now.slots c.args.pointer.now c.args.targets.now c.args.columns.now.columns c.args.chosen.now c.args.failed.now.items (g.R.Rack.told c.args.shard.now.rack);
   fails = no_fail (part_of c.args.shard.now) c.args.shard.now.slots c.args.pointer.now c.args.targets.now c.args.failed.now.items;
   counts = λ first was. was;
   room = refl;
@@ -26,14 +27,13 @@ land_next-requires g c =
     let i = c.loop-column.invariant in
     let same = geometry_in c.args.shard.now c.loop-column.shard i.whole in
     record {
-      valid = valid_rack g.R.Rack c.args.shard.now c.loop-column.shard i.whole i.shape c.requires.valid;
+      laid = laid_rack g.R.Rack c.args.shard.now c.loop-column.shard i.whole i.shape c.requires.laid;
       run = subst (λ (geometry : Geometry). IsRun geometry c.args.pointer.now.first c.args.pointer.now.stripes) (sym same) c.requires.run;
       one = c.requires.one;
       there = there_in c.args.shard.now c.loop-column.shard c.args.targets.now i.whole c.requires.there;
-      shape = subst (λ (geometry : Geometry). HasRoomFor geometry c.args.lent.now) (sym same) c.requires.shape;
-      whole = c.requires.whole;
-      taken = subst (λ (geometry : Geometry). length c.args.lent.now.taken.items ≡ geometry.g) (sym same) c.requires.taken;
-      all = all_in c.args.shard.now c.loop-column.shard c.args.pointer.now c.args.lent.now.taken.items c.args.all.now i.whole c.requires.all;
+      shape = subst (λ (geometry : Geometry). IsOneSector geometry c.args.columns.now) (sym same) c.requires.shape;
+      chosen = subst (λ (geometry : Geometry). length c.args.chosen.now ≡ geometry.g) (sym same) c.requires.chosen;
+      all = all_in c.args.shard.now c.loop-column.shard c.args.pointer.now c.args.chosen.now c.args.all.now i.whole c.requires.all;
       less = subst (λ (geometry : Geometry). c.loop-column.column < geometry.g) (sym same) c.loop-column-test.true;
       room = (let room = i.room in let had = c.requires.room in let few = i.few in let ok = c.loop-column.failed.ok.0 in let first = c.args.failed.now.ok.0 in
           let need : length c.loop-column.failed.items + length c.args.targets.now ≤ vec_capacity c.args.failed.now
@@ -49,7 +49,7 @@ loop-column-preserved g c =
     record {
       whole = rack_twice c.args.shard.now c.loop-column.shard c.land_next.new.shard i.whole e.rack;
       shape = e.shape ∙ i.shape;
-      lands = lands_back c.args.shard.now c.loop-column.shard c.args.pointer.now c.args.targets.now c.args.lent.now.columns.columns c.args.lent.now.taken.items c.loop-column.column (c.loop-column.column + 1) c.loop-column.failed.items
+      lands = lands_back c.args.shard.now c.loop-column.shard c.args.pointer.now c.args.targets.now c.args.columns.now.columns c.args.chosen.now c.loop-column.column (c.loop-column.column + 1) c.loop-column.failed.items
           c.land_next.new.failed.items (g.R.Rack.told c.loop-column.shard.rack) (g.R.Rack.told c.land_next.new.shard.rack) i.whole e.lands (g.R.Rack.told c.args.shard.now.rack) i.lands;
       fails = fails_back c.args.shard.now c.loop-column.shard c.args.pointer.now c.args.targets.now c.loop-column.column (c.loop-column.column + 1) c.loop-column.failed.items c.land_next.new.failed.items i.whole e.fails
           c.args.failed.now.items i.fails;
@@ -68,7 +68,7 @@ returns g c =
       rack = i.whole;
       shape = i.shape;
       lands = subst (λ n. OnBothTold (g.R.Rack.told c.args.shard.now.rack) (g.R.Rack.told c.loop-column.shard.rack)
-          (LandsBelow (part_of c.args.shard.now) c.args.shard.now.slots c.args.pointer.now c.args.targets.now n c.args.lent.now.columns.columns c.args.lent.now.taken.items c.loop-column.failed.items)) all i.lands;
+          (LandsBelow (part_of c.args.shard.now) c.args.shard.now.slots c.args.pointer.now c.args.targets.now n c.args.columns.now.columns c.args.chosen.now c.loop-column.failed.items)) all i.lands;
       fails = subst (λ n. FailsColumns (part_of c.args.shard.now) c.args.shard.now.slots c.args.pointer.now c.args.targets.now n c.args.failed.now.items c.loop-column.failed.items) all i.fails;
       counts = i.counts;
     }
