@@ -1,6 +1,6 @@
 -- One metaslab of a pool where a rebuild has nothing left to lend, or has something left that isn't lent.
 use Rattle.std.proofs.Common.{◌≡◌, ◌<◌, ◌≤◌, ◌∙◌, inl, inr, ℕ, Bool, true, false, List, [], ◌∷◌, Option, Some, None, arith, refl, sym, ap, subst, min, if◌then◌else◌}
-use Rattle.std.specs.Prelude.{IfNone, IsSomeAnd, is_some, not, option_map}
+use Rattle.std.specs.Prelude.{◌&&◌, ◌||◌, ⊤, IfNone, IsSomeAnd, is_some, nat_le, not, option_map}
 use Rattle.std.proofs.lemmas.Bool.{cases_lt, true≢false}
 use Rattle.draid_names.specs.declared.numbers.TheConstants.{LAST_NUMBER}
 use Rattle.draid_names.specs.declared.pass_kind.PassKind.{PassKind}
@@ -12,7 +12,7 @@ use Rattle.draid_machine.specs.declared.names.Held.{Held}
 use Rattle.draid_machine.specs.declared.names.Key.{Key}
 use Rattle.draid_machine.specs.After.{ended_pass, lose_some}
 use Rattle.draid_machine.specs.Arms.{is_silent, lies_on}
-use Rattle.draid_machine.specs.Names.{is_heal, takes}
+use Rattle.draid_machine.specs.Names.{is_block, is_heal, takes}
 use Rattle.draid_machine.specs.State as machine
 use Rattle.draid_machine.specs.Step.{IsNext, IsTaken, is_lent}
 use Rattle.draid_machine.proofs.Small.{some_same}
@@ -74,9 +74,8 @@ if_none_is None P is holds = holds
 if_none_is (Some x) P is holds = absurd (true≢false is)
 
 -- a rebuild lends whatever is taken
-lends_all : (k : PassKind) (b : Bool) → k ≡ Rebuild → (if not (is_heal k) then true else b) ≡ true
-lends_all Rebuild b is = refl
-lends_all Heal b is = absurd (cc)
+lends_all : (p : machine.Pass) (h : Held) → p.kind ≡ Rebuild → is_lent p h ≡ true
+lends_all p h kind = ap (λ k. not (is_heal k) || (is_block h.stage && nat_le h.birth p.max)) kind
 
 module _ {R A : Type 0} (rack : racks.Ghosts R) (area : areas.Ghosts A) (part : Part) (pieces : Pieces) (shard : Shard R A) (x : Metaslab) (is : IsMetaslab rack area part pieces shard x) where
   pub view : View
@@ -113,7 +112,7 @@ module _ {R A : Type 0} (rack : racks.Ghosts R) (area : areas.Ghosts A) (part : 
 
   -- ---- something is left
 
-  has_more : (p : Pass) → shard.pass ≡ Some p → p.kind ≡ Rebuild → HasTakenLeft shard → passes.HasMore part.geometry part.perms (view_of part.number x)
+  has_more : (p : Pass) → shard.pass ≡ Some p → p.kind ≡ Rebuild → HasTakenLeft shard → passes.HasMore (view_of part.number x)
   has_more p there kind left =
       let z = left x.world is.stands.is_in p there in
       record {
@@ -124,7 +123,7 @@ module _ {R A : Type 0} (rack : racks.Ghosts R) (area : areas.Ghosts A) (part : 
         pass = pass_told rack area part pieces shard x is p there;
         next = record {
           found = z.1.taken.found;
-          lent = lends_all p.kind _ kind;
+          lent = lends_all (pass_in shard.slots p) z.1.taken.held kind;
           taken = z.1.taken.taken;
           from = z.1.behind;
           first = λ k i y found lent takes from less. z.1.first y from less (record { key = k; held = i; found = found; taken = takes });

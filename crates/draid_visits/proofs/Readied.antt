@@ -31,11 +31,11 @@ module _ {R A : Type 0} (rack : racks.Ghosts R) (area : areas.Ghosts A) (part : 
   abbrev Readies : Shard R A → Bool → Type 0
   Readies new r = Goes rack area part pieces x new (λ holds y. ReadyIs part r holds × SameBlocks x y)
 
-  running_told : (o : Option Pass) → x.world.core.pass ≡ option_map (pass_in shard.slots) o → IsSomeAnd o (λ (p : Pass). p.running ≡ true) → passes.IsRunning part.geometry part.perms (view_of part.number x)
+  running_told : (o : Option Pass) → x.world.core.pass ≡ option_map (pass_in shard.slots) o → IsSomeAnd o (λ (p : Pass). p.running ≡ true) → passes.IsRunning (view_of part.number x)
   running_told None told runs = absurd runs
   running_told (Some p) told runs = (pass_in shard.slots p, told, runs)
 
-  told_running : (o : Option Pass) → x.world.core.pass ≡ option_map (pass_in shard.slots) o → passes.IsRunning part.geometry part.perms (view_of part.number x) → IsSomeAnd o (λ (p : Pass). p.running ≡ true)
+  told_running : (o : Option Pass) → x.world.core.pass ≡ option_map (pass_in shard.slots) o → passes.IsRunning (view_of part.number x) → IsSomeAnd o (λ (p : Pass). p.running ≡ true)
   told_running None told has = absurd (let e = sym told ∙ has.1 in cc)
   told_running (Some p) told has = ap (λ (q : machine.Pass). q.running) (one (pass_in shard.slots p) has.0 (sym told ∙ has.1)) ∙ has.2
     where

@@ -1,22 +1,17 @@
 -- A pool is whole yet where one of its metaslabs kept its blocks, and its arms but for whether a pass has made them good.
-use Rattle.std.proofs.Common.{◌≡◌, ◌<◌, ◌==◌, ◌&&◌, ◌∙◌, true, inl, inr, ℕ, List, [], Some, None, arith, refl, sym, ap, subst, length, slice_set}
+use Rattle.std.proofs.Common.{◌≡◌, ◌∙◌, inl, inr, ℕ, List, Some, arith, refl, sym, ap, subst, length, slice_set}
 use Rattle.std.specs.Prelude.{nat_eq, slice_get}
 use Rattle.std.specs.HashMap.{get}
-use Rattle.std.specs.List.{list_any}
-use Rattle.std.proofs.lemmas.Bool.{cases_eq, cases_lt}
-use Rattle.std.proofs.lemmas.List.{get_or_past, length-set}
-use Rattle.std.proofs.lemmas.Option.{slice_get_within}
+use Rattle.std.proofs.lemmas.Bool.{cases_eq}
+use Rattle.std.proofs.lemmas.List.{length-set}
 use Rattle.draid_names.specs.declared.pointer.Pointer.{Pointer}
 use Rattle.draid_rack.specs.declared.Rack as racks
 use Rattle.draid_area.specs.declared.Area as areas
 use Rattle.draid_map.specs.Place.{IsLayout}
 use Rattle.draid_spec.specs.declared.layout.Geometry.{Geometry}
-use Rattle.draid_machine.specs.Names.{is_block}
-use Rattle.draid_machine.proofs.Small.{none_some}
-use Rattle.draid_slots.specs.Table.{IsTable, SlotTable, arms_of, is_leaf_kind}
-use Rattle.draid_slots.specs.declared.slot.Detached.{Detached}
+use Rattle.draid_slots.specs.Table.{SlotTable}
 use Rattle.draid_shard.specs.Alike.{ShareArms}
-use Rattle.draid_shard.specs.Fits.{IsLeaf, Valid}
+use Rattle.draid_shard.specs.Fits.{Valid}
 use Rattle.draid_shard.specs.Looks.{IsLive}
 use Rattle.draid_shard.specs.declared.shard.Shard.{Shard}
 use Rattle.draid_uber.specs.Slots.{group_of}
@@ -26,28 +21,11 @@ use Rattle.draid_pool.specs.Whole.{IsPointer, IsShardOf, IsWhole}
 use Rattle.draid_pool.specs.declared.pool.Pool.{Pool}
 use Rattle.draid_pool.proofs.Arms.{have_from}
 use Rattle.draid_pool.proofs.Lifted.{SetsShard}
-use Rattle.draid_pool.proofs.Lists.{get_set_other, get_set_same, present, some_of}
+use Rattle.draid_pool.proofs.Lists.{get_set_other, get_set_same, some_of}
 use Rattle.draid_pool.proofs.Versions.{same_uber_layout}
 use Rattle.draid_visits.specs.Steps.{SharesTable}
 
 -- ---- arms
-
--- a leaf of arms that are the same is one that there was
-pub leaf_before : (old new : SlotTable) (leaf : ℕ) → IsTable new → ShareArms old new → IsLeaf new leaf → IsLeaf old leaf
-leaf_before old new leaf sound share (inl (at, (arm, (there, kind_is, number)))) =
-    let slots = share.arms.slots at.slot (let count = share.arms.children in omega (arith, inside, count)) in
-    let long = slice_get_within (arms_of new at.slot) at.arm arm there in
-    let many = slots.many in
-    let z = present (arms_of old at.slot) at.arm (omega (arith, long, many)) in
-    let same = slots.each at.arm z.0 arm z.1 there in
-    inl (at, z.0, z.1, same.kind_is ∙ kind_is, same.number_is ∙ number)
-  where
-    inside : at.slot < new.geometry.spec.children
-    inside = elim (cases_lt at.slot (length new.arms)) [
-      | inl less ↦ (let count = sound.slots.children in omega (arith, less, count))
-      | inr past ↦ absurd (none_some None arm refl (ap (λ arms. slice_get arms at.arm) (sym (get_or_past new.arms at.slot [] past)) ∙ there))
-    ]
-leaf_before old new leaf sound share (inr gone) = inr (subst (λ (list : List Detached). list_any (λ (d : Detached). is_leaf_kind d.kind && (d.number == leaf)) list ≡ true) share.detached gone)
 
 -- those that share the arms of one share one another's
 share_from : (first a b : SlotTable) → ShareArms first a → ShareArms first b → ShareArms a b
@@ -77,7 +55,7 @@ module _ {R A : Type 0} (rack : racks.Ghosts R) (area : areas.Ghosts A) (m : ℕ
   at_here = ap (λ zs. slice_get zs m) set.sets ∙ get_set_same pool.metaslabs.shards.items m shard after set.there
 
   at_other : (k : ℕ) → (k ≡ m → ⊥) → slice_get new.metaslabs.shards.items k ≡ slice_get pool.metaslabs.shards.items k
-  at_other k other = ap (λ zs. slice_get zs k) set.sets ∙ get_set_other pool.metaslabs.shards.items m k after (λ same. other (sym same))
+  at_other k other = ap (λ zs. slice_get zs k) set.sets ∙ get_set_other pool.metaslabs.shards.items m k after other
 
   own : IsShardOf rack w.perms new m after
   own =

@@ -1,6 +1,6 @@
 -- One metaslab of a pool where a rebuild goes on, or is planned.
 use Rattle.std.proofs.Common.{◌≡◌, ◌≢◌, ◌≤◌, ◌⊎◌, ◌↔◌, ◌∙◌, inl, inr, ℕ, Bool, true, false, List, [], ◌∷◌, Option, Some, None, arith, refl, sym, ap, subst, min}
-use Rattle.std.specs.Prelude.{IfSome, IsSomeAnd, Ok, Err, option_map}
+use Rattle.std.specs.Prelude.{Result, Ok, Err, option_map}
 use Rattle.draid_names.specs.declared.numbers.TheConstants.{LAST_NUMBER}
 use Rattle.draid_names.specs.declared.pass_kind.PassKind.{PassKind}
 use Rattle.draid_names.specs.declared.pass_kind.PassKind.TheVariants.{Rebuild}
@@ -76,7 +76,7 @@ module _ {R A : Type 0} (rack : racks.Ghosts R) (area : areas.Ghosts A) (part : 
 
   -- ---- it goes on
 
-  abbrev Starts : Shard R A → _ → Type 0
+  abbrev Starts : Shard R A → Result ℕ PlanFault → Type 0
   Starts new r = Goes rack area part pieces x new (λ holds y. StartIs part r holds × SameBlocks x y)
 
   pub goes_on : (p : Pass) → shard.pass ≡ Some p → p.kind ≡ Rebuild → Starts shard (Ok (min p.at (metaslab_stripes shard.geometry)))

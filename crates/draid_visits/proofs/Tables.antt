@@ -4,9 +4,10 @@ use Rattle.std.specs.Prelude.{slice_get, slice_index_or}
 use Rattle.draid_names.specs.declared.arm.Arm.{Arm}
 use Rattle.draid_entries.specs.Entries.{SameEntries}
 use Rattle.draid_entries.specs.declared.entries.Entries.{Entries}
-use Rattle.draid_slots.specs.Table.{IsTable, SlotTable}
+use Rattle.draid_slots.specs.Table.{SlotTable}
 use Rattle.draid_shard.specs.Alike.{AreSameArms, KeepsArms, ShareArms}
 use Rattle.draid_shard.specs.Changes.{KeepsBlocks}
+use Rattle.draid_shard.specs.Fits.{IsLeaf}
 use Rattle.draid_shard.specs.States.{part_of}
 use Rattle.draid_shard.specs.declared.loan.KeptLoan.{KeptLoan}
 use Rattle.draid_shard.specs.declared.shard.Shard.{Shard}
@@ -15,7 +16,6 @@ use Rattle.draid_pool.specs.Syncing.{KeepsTable}
 use Rattle.draid_pool.proofs.Arms.{leaf_kept}
 use Rattle.draid_pool.proofs.Lists.{some_of}
 use Rattle.draid_visits.specs.Steps.{SharesTable}
-use Rattle.draid_visits.proofs.SharedWhole.{leaf_before}
 
 -- what stays
 pub table_kept : {R A : Type 0} (old new : Shard R A) → part_of new ≡ part_of old → KeepsBlocks old new → KeepsArms old.slots new.slots → KeepsTable old new
@@ -74,11 +74,11 @@ shares_table old new table = record {
   leaves = λ leaf is. leaf_kept old.slots new.slots leaf table.slots is;
 }
 
-pub shares_arms : {R A : Type 0} (old new : Shard R A) → IsTable new.slots → part_of new ≡ part_of old → KeepsBlocks old new → ShareArms old.slots new.slots → SharesTable old new
-shares_arms old new sound part keeps arms = record {
+pub shares_arms : {R A : Type 0} (old new : Shard R A) → part_of new ≡ part_of old → KeepsBlocks old new → ShareArms old.slots new.slots → ((leaf : ℕ) → IsLeaf new.slots leaf → IsLeaf old.slots leaf) → SharesTable old new
+shares_arms old new part keeps arms leaves = record {
   part = part;
   entries = keeps.entries;
   committed = keeps.groups.committed;
   slots = arms;
-  leaves = λ leaf is. leaf_before old.slots new.slots leaf sound arms is;
+  leaves = leaves;
 }

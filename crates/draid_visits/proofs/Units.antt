@@ -111,7 +111,7 @@ module _ {R A : Type 0} (rack : racks.Ghosts R) (area : areas.Ghosts A) (old len
   first : dids.Done rack area part pieces lent (Lend unit.failed) x
   first = rebuild_did rack area part pieces old lent (Lend unit.failed) x is lent_valid unit.does (unit.acts pieces) lent_reserve (raised rack area unit.failed.items old lent lent_areas unit.counts) tt
 
-  y : Metaslab
+  abbrev y : Metaslab
   y = first.reached
 
   mid : IsMetaslab rack area part pieces solved y

@@ -1,5 +1,4 @@
-use Rattle.std.proofs.Common.{◌≡◌, rules, subst, sym}
-use Rattle.draid_slots.specs.Table.{IsTable}
+use Rattle.std.proofs.Common.{◌≡◌, subst, sym}
 use Rattle.draid_session.specs.Passes as passes
 use Rattle.draid_pool.specs.Shards.{Goes, SameBlocks}
 use Rattle.draid_visits.proofs.Over.{over, running_of}
@@ -7,10 +6,7 @@ use Rattle.draid_visits.proofs.Tables.{shares_arms}
 use Rattle.draid_visits.proofs.steps.end_in.Goals as goal
 
 pub returns-clause-table : goal.returns-clause-table
-returns-clause-table g c =
-    let e = c.done.ensures in
-    let sound : IsTable c.done.new.shard.slots = search rules in
-    shares_arms c.args.shard.now c.done.new.shard sound e.ends.does.part e.keeps e.arms
+returns-clause-table g c = (let e = c.done.ensures in shares_arms c.args.shard.now c.done.new.shard e.ends.does.part e.keeps e.arms e.leaves)
 
 pub returns-clause-goes : goal.returns-clause-goes
 returns-clause-goes g c = λ part pieces x is.
