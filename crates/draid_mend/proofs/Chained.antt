@@ -1,5 +1,5 @@
 -- What was lent of a stripe is right in the state that the lend led to.
-use Rattle.std.proofs.Common.{◌≡◌, ◌+◌, ◌<◌, ◌≤◌, ◌∙◌, ℕ, zero, true, false, List, Option, Some, None, IfSome, arith, refl, sym, ap, subst, inl, inr, length, slice_get}
+use Rattle.std.proofs.Common.{◌≡◌, ◌+◌, ◌<◌, ◌∙◌, ℕ, zero, true, false, List, Option, Some, None, IfSome, arith, refl, sym, ap, subst, inl, inr, length, slice_get}
 use Rattle.std.specs.Prelude.{IsSomeAnd, option_map, slice_index_or}
 use Rattle.draid_names.specs.declared.arm.Arm.{Arm}
 use Rattle.draid_names.specs.declared.arm.ArmAt.{ArmAt}
@@ -13,14 +13,12 @@ use Rattle.draid_machine.specs.Names.{has_name}
 use Rattle.draid_machine.specs.State as machine
 use Rattle.draid_machine.specs.Step.{LendStep, Step}
 use Rattle.draid_machine.specs.declared.event.Event.TheVariants.{Lend}
-use Rattle.draid_machine.specs.declared.names.ArmName.{ArmName}
 use Rattle.draid_machine.specs.declared.names.Held.{Held}
 use Rattle.draid_machine.specs.declared.names.Key.{Key}
 use Rattle.draid_machine.specs.declared.names.Segment.{Segment}
 use Rattle.draid_machine.proofs.Lent.{every_loan}
 use Rattle.draid_machine.proofs.Small.{absurd_test, bool_cases, some_same}
 use Rattle.draid_parity.specs.Columns.{StripeValue, column_at}
-use Rattle.draid_pass.specs.declared.pass.Pass.{Pass}
 use Rattle.draid_rack.specs.Rack.{OnTold, Told}
 use Rattle.draid_rack.specs.declared.Rack.{Ghosts}
 use Rattle.draid_columns.specs.Columns.{RowsStand}

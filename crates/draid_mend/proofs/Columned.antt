@@ -1,7 +1,8 @@
 -- One more column of a stripe lands.
-use Rattle.std.proofs.Common.{arith, ◌≡◌, ◌==◌, ◌+◌, ◌<◌, ◌≤◌, ◌*◌, ◌∙◌, ◌&&◌, ℕ, zero, suc, Bool, true, false, List, [], ◌∷◌, Option, Some, None, refl, sym, ap, subst, inl, inr, length, slice_get}
+use Rattle.std.proofs.Common.{arith, ◌≡◌, ◌==◌, ◌+◌, ◌<◌, ◌≤◌, ◌*◌, ◌∙◌, ◌&&◌, ◌++◌, ℕ, zero, suc, Bool, true, false, List, [], ◌∷◌, Option, Some, None, refl, sym, ap, subst, inl, inr, length, set, slice_get, take}
 use Rattle.std.specs.Prelude.{slice_index_or}
 use Rattle.std.proofs.Math.Nat.{mul-le-mul_right}
+use Rattle.std.proofs.lemmas.List.{take_more_set}
 use Rattle.std.proofs.lemmas.Bool.{cases_lt}
 use Rattle.draid_spec.specs.Geometry.{slice_at}
 use Rattle.draid_names.specs.declared.arm.ArmAt.{ArmAt}
@@ -21,7 +22,7 @@ use Rattle.draid_shard.specs.declared.loan.Source.{Source}
 use Rattle.draid_shard.specs.declared.places.ColumnRows.{ColumnRows}
 use Rattle.draid_shard.specs.declared.shard.Shard.{Shard}
 use Rattle.draid_mend.specs.Mending.{at_sector}
-use Rattle.draid_mend.specs.Stripes.{AreColumnsApart, FailsColumns, KeepsColumn, LandsBelow, landed_below, own_or_all, rows_at, sources_below, sources_for}
+use Rattle.draid_mend.specs.Stripes.{AreColumnsApart, FailsColumns, KeepsColumn, LandsBelow, landed_below, own_or_all, rows_at, source_at, sources_below, sources_for}
 use Rattle.draid_mend.specs.Targets.{AreFree, AreThere, FailsBelow, KeepsAt, MendsBelow, StandsMended, is_mended_on, mended_below}
 use Rattle.draid_mend.proofs.Targeted.{or_left, or_right, taints_stay}
 
@@ -183,6 +184,29 @@ own_source part pointer chosen c first source there is = (λ i. record { leaf = 
 
 pub all_sources : (part : Part) (pointer : Pointer) (chosen : List (Option Source)) (c : ℕ) → slice_index_or chosen c None ≡ None → sources_below part pointer chosen part.geometry.g ≡ sources_for part pointer chosen c
 all_sources part pointer chosen c none = sym (ap (own_or_all part pointer chosen c) none)
+
+append_none : (xs : List At) → xs ++ [] ≡ xs
+append_none [] = refl
+append_none (x ∷ xs) = ap (λ ys. x ∷ ys) (append_none xs)
+
+-- one more source is listed, or none
+module _ (part : Part) (pointer : Pointer) (chosen : List (Option Source)) (n count : ℕ) (list : List At) (was : take count list ≡ sources_below part pointer chosen n) where
+  pub source_more : (new : List At) (now first : ℕ) (source : Source) → slice_index_or chosen n None ≡ Some source → count < length list → new ≡ set list count (record { leaf = source.leaf; sector = first }) → now ≡ count + 1
+      → first ≡ (layout_in part).sector_of pointer.first n → take now new ≡ sources_below part pointer chosen (n + 1)
+  source_more new now first source is inside new_is now_is first_is =
+      let up : suc n ≡ n + 1 = omega arith in
+      subst (λ k. take now new ≡ sources_below part pointer chosen k) up
+      (subst (λ k. take k new ≡ sources_below part pointer chosen (suc n)) (sym now_is)
+      (ap (take (count + 1)) new_is ∙ take_more_set list count (record { leaf = source.leaf; sector = first }) inside
+      ∙ ap (λ xs. xs ++ (record { leaf = source.leaf; sector = first }) ∷ []) was ∙ ap (λ s. sources_below part pointer chosen n ++ (record { leaf = source.leaf; sector = s }) ∷ []) first_is
+      ∙ sym (ap (λ o. sources_below part pointer chosen n ++ source_at part pointer n o) is)))
+
+  pub source_none : (new : List At) (now : ℕ) → slice_index_or chosen n None ≡ None → new ≡ list → now ≡ count → take now new ≡ sources_below part pointer chosen (n + 1)
+  source_none new now is new_is now_is =
+      let up : suc n ≡ n + 1 = omega arith in
+      subst (λ k. take now new ≡ sources_below part pointer chosen k) up
+      (ap (take now) new_is ∙ ap (λ k. take k list) now_is ∙ was ∙ sym (append_none (sources_below part pointer chosen n))
+      ∙ sym (ap (λ o. sources_below part pointer chosen n ++ source_at part pointer n o) is))
 
 -- ---- a shard that differs in its rack alone
 pub there_in : {R A : Type 0} (old new : Shard R A) (targets : List ArmAt) → new ≡ record old { rack = new.rack } → AreThere old.slots targets → AreThere new.slots targets

@@ -1,5 +1,5 @@
 -- The loan fact holds of what was read.
-use Rattle.std.proofs.Common.{arith, ◌≡◌, ◌+◌, ◌*◌, ◌<◌, ◌∙◌, ℕ, zero, true, false, List, Option, Some, None, refl, sym, ap, subst, take, drop, length, slice_get}
+use Rattle.std.proofs.Common.{arith, ◌≡◌, ◌+◌, ◌*◌, ◌∙◌, ℕ, zero, true, false, List, Option, Some, None, refl, sym, ap, subst, take, drop, length, slice_get}
 use Rattle.std.specs.Prelude.{option_map}
 use Rattle.std.specs.declared.vec.Vec.{Vec}
 use Rattle.std.specs.declared.alloc.Global.{Global}

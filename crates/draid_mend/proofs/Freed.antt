@@ -13,9 +13,8 @@ use Rattle.draid_machine.proofs.Small.{absurd_test, bool_cases, either_true, som
 use Rattle.draid_slots.specs.Changes.{IsOf}
 use Rattle.draid_slots.specs.States.{HasSlots, name_of, names_at}
 use Rattle.draid_slots.specs.Table.{SlotTable, arm_at}
-use Rattle.draid_names.specs.declared.arm.Arm.{Arm}
 use Rattle.draid_shard.specs.Part.{IsPart, IsRun, Part, layout_in}
-use Rattle.draid_shard.specs.Rows.{AreApart, IsRowsOf, arm_no, leaf_on}
+use Rattle.draid_shard.specs.Rows.{AreApart, IsRowsOf, leaf_on}
 use Rattle.draid_shard.specs.declared.loan.Source.{Source}
 use Rattle.draid_shard.proofs.Answering.{kept_arm, leaf_at_is, listed, listed_arm, named_arm}
 use Rattle.draid_shard.proofs.Finding.{columns_apart}

@@ -1,5 +1,5 @@
 -- A shard whose slots are those of its metaslab, and whose rack has their leaves.
-use Rattle.std.proofs.Common.{◌≡◌, ap, subst, sym}
+use Rattle.std.proofs.Common.{◌≡◌, subst, sym}
 use Rattle.draid_rack.specs.declared.Rack.{Ghosts}
 use Rattle.draid_shard.specs.Fits.{HasLeaves, Valid}
 use Rattle.draid_shard.specs.declared.shard.Shard.{Shard}

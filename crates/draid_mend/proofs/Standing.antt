@@ -13,7 +13,7 @@ use Rattle.draid_machine.specs.Claims.{is_at_held, is_on}
 use Rattle.draid_machine.specs.Created.{IsReached}
 use Rattle.draid_machine.specs.Fitting.{Fitting, IsOnce}
 use Rattle.draid_machine.specs.Images.{LiesAt, Owned}
-use Rattle.draid_machine.specs.Names.{has_name, has_number, key_eq, name_eq}
+use Rattle.draid_machine.specs.Names.{has_name, has_number, key_eq}
 use Rattle.draid_machine.specs.State as machine
 use Rattle.draid_machine.specs.declared.names.ArmName.{ArmName}
 use Rattle.draid_machine.specs.declared.names.Held.{Held}
@@ -22,7 +22,7 @@ use Rattle.draid_machine.specs.declared.names.Segment.{Segment}
 use Rattle.draid_machine.proofs.Fitted.{every_fit}
 use Rattle.draid_machine.proofs.Losing.{every_segment}
 use Rattle.draid_machine.proofs.Places.{every_place}
-use Rattle.draid_machine.proofs.Small.{absurd_test, any_at, below, both_true, either_true, equal, four_true, is_below, is_equal, key_refl, key_true, name_refl, name_true, some_same, true_both, true_four, true_left, true_right}
+use Rattle.draid_machine.proofs.Small.{absurd_test, any_at, below, both_true, either_true, equal, four_true, is_below, is_equal, key_refl, key_true, true_both, true_four}
 use Rattle.draid_parity.specs.Columns.{StripeValue, column_at}
 use Rattle.draid_rack.specs.Rack.{Told, taints}
 use Rattle.draid_segments.specs.Acts.{LiesThere, MendsStripe, is_source_harmed}

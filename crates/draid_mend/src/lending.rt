@@ -15,14 +15,14 @@ use draid_shard::Shard;
 
 /// What was read of a stripe: its columns, from where each was taken, and the leaves on which calls failed.
 #[derive(Drop)]
-pub struct Readings {
+pub(crate) struct Readings {
     pub columns: Stripe,
     pub taken: Vec<Taken>,
     pub failed: Vec<u64>,
 }
 
 /// Reads all columns of a stripe, each from its source.
-pub fn read_stripe<R: Rack, A: Area>(
+pub(crate) fn read_stripe<R: Rack, A: Area>(
     shard: &mut Shard<R, A>,
     pointer: &Pointer,
     lent: &mut Readings,

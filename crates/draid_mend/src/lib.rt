@@ -21,10 +21,5 @@ pub use laws::{
     sources_taint, stripes_are_landed, stripes_are_lent, stripes_are_mended, stripes_land_apart,
     targets_are_no_sources,
 };
-pub use lending::{Readings, read_stripe};
 pub use loans::{LendFault, Lent, lend};
-pub use mending::{Mended, mend_column};
-pub use reading::{Taken, read_into, read_source};
-pub use solving::{solve, solve_missing};
-pub use sources::source_arm;
-pub use targets::mend_targets;
+pub use solving::solve;

@@ -1,6 +1,6 @@
 //! The arms of a stripe's slots that miss it as it lands.
-ghost use Rattle.std.specs.Prelude.{◌≡◌, ◌<◌, ℕ, false, length, slice_index_or};
-ghost use Rattle.draid_machine.specs.Names.{has_number};
+ghost use Rattle.std.specs.Prelude.{◌≡◌, ◌==◌, ◌<◌, ℕ, false, length, slice_index_or};
+ghost use Rattle.std.specs.List.{list_any};
 ghost use Rattle.draid_shard.specs.Part.{IsRun};
 ghost use Rattle.draid_shard.specs.Rows.{arm_no};
 ghost use Rattle.draid_shard.specs.States.{part_of};
@@ -66,7 +66,7 @@ fn misses(slots: &Slots, rows: ColumnRows, arm: u32, failed: &[u64]) -> bool
 
 /// Whether a list has a leaf.
 fn is_among(leaves: &[u64], leaf: u64) -> bool
-    ensures { result ≡ has_number leaves.now leaf }
+    ensures { result ≡ list_any (λ other. other == leaf) leaves.now }
 {
     leaves.iter().any(|other| *other == leaf)
 }

@@ -13,7 +13,7 @@ use draid_slots::Slots;
 
 /// Writes one sector of a column, made of these sources, to the targets of its slot that answer, and notes the leaves on
 /// which calls failed.
-pub fn mend_targets<R: Rack>(
+pub(crate) fn mend_targets<R: Rack>(
     rack: &mut R,
     slots: &Slots,
     targets: &[ArmAt],
