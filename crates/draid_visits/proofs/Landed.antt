@@ -1,5 +1,5 @@
 -- The landing of a loan in a pool's metaslab, where the rack did what its event says in the state that the shard stands for.
-use Rattle.std.proofs.Common.{◌≡◌, ◌+◌, ◌++◌, ◌∙◌, [], ◌∷◌, ℕ, List, Option, Some, None, arith, refl, sym, ap, subst}
+use Rattle.std.proofs.Common.{◌++◌, ◌∙◌, [], ◌∷◌, Option, Some, None, arith, refl, sym, ap, subst}
 use Rattle.draid_rack.specs.Rack.{OnBothTold, OnTold, Told}
 use Rattle.draid_rack.specs.declared.Rack as racks
 use Rattle.draid_area.specs.declared.Area as areas
@@ -18,7 +18,7 @@ use Rattle.draid_shard.specs.Stands.{StandsFor}
 use Rattle.draid_shard.specs.States.{Does, Leads, layout_by, part_of}
 use Rattle.draid_shard.specs.declared.shard.Shard.{Shard}
 use Rattle.draid_shard.proofs.Standing.{has_layout, reached_more}
-use Rattle.draid_session.specs.Follows.{CountsRise, HarmBoth, HarmBy, failed_in, uses}
+use Rattle.draid_session.specs.Follows.{CountsRise, HarmBoth, HarmBy, failed_in}
 use Rattle.draid_session.specs.State.{Metaslab}
 use Rattle.draid_pool.specs.Metaslabs.{IsMetaslab, counts_of, harm_of}
 use Rattle.draid_pool.proofs.Dids as dids

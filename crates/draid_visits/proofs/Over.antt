@@ -1,20 +1,18 @@
 -- One metaslab of a pool where a rebuild has nothing left to lend, or has something left that isn't lent.
-use Rattle.std.proofs.Common.{◌≡◌, ◌<◌, ◌≤◌, ◌∙◌, inl, inr, ℕ, Bool, true, false, List, [], ◌∷◌, Option, Some, None, arith, refl, sym, ap, subst, min, if◌then◌else◌}
-use Rattle.std.specs.Prelude.{◌&&◌, ◌||◌, ⊤, IfNone, IsSomeAnd, is_some, nat_le, not, option_map}
+use Rattle.std.proofs.Common.{◌≡◌, ◌≤◌, ◌∙◌, inl, inr, ℕ, Bool, true, false, List, [], ◌∷◌, Option, Some, None, arith, refl, sym, ap, subst, min, if◌then◌else◌}
+use Rattle.std.specs.Prelude.{◌&&◌, ◌||◌, ⊤, IfNone, IsSomeAnd, Result, Ok, is_some, nat_le, not, option_map}
 use Rattle.std.proofs.lemmas.Bool.{cases_lt, true≢false}
 use Rattle.draid_names.specs.declared.numbers.TheConstants.{LAST_NUMBER}
-use Rattle.draid_names.specs.declared.pass_kind.PassKind.{PassKind}
-use Rattle.draid_names.specs.declared.pass_kind.PassKind.TheVariants.{Rebuild, Heal}
+use Rattle.draid_names.specs.declared.pass_kind.PassKind.TheVariants.{Rebuild}
 use Rattle.draid_rack.specs.declared.Rack as racks
 use Rattle.draid_area.specs.declared.Area as areas
 use Rattle.draid_machine.specs.declared.event.Event.TheVariants.{Done}
 use Rattle.draid_machine.specs.declared.names.Held.{Held}
-use Rattle.draid_machine.specs.declared.names.Key.{Key}
 use Rattle.draid_machine.specs.After.{ended_pass, lose_some}
 use Rattle.draid_machine.specs.Arms.{is_silent, lies_on}
-use Rattle.draid_machine.specs.Names.{is_block, is_heal, takes}
+use Rattle.draid_machine.specs.Names.{is_block, is_heal}
 use Rattle.draid_machine.specs.State as machine
-use Rattle.draid_machine.specs.Step.{IsNext, IsTaken, is_lent}
+use Rattle.draid_machine.specs.Step.{IsTaken, is_lent}
 use Rattle.draid_machine.proofs.Small.{some_same}
 use Rattle.draid_segments.specs.Segments.{Pieces}
 use Rattle.draid_entries.specs.History.{left_for_groups}
@@ -24,16 +22,17 @@ use Rattle.draid_shard.specs.Calls.{SameAreas, SameKit, SameReserve}
 use Rattle.draid_shard.specs.Fits.{Valid}
 use Rattle.draid_shard.specs.Left.{HasNothingLeft}
 use Rattle.draid_shard.specs.Loans.{loan_in}
-use Rattle.draid_shard.specs.Looks.{IsNextTaken}
 use Rattle.draid_shard.specs.Part.{Part, layout_in}
 use Rattle.draid_shard.specs.Rooms.{IsWornFor}
-use Rattle.draid_shard.specs.States.{DoesNone, IsIn, layout_by}
+use Rattle.draid_shard.specs.States.{DoesNone, IsIn}
 use Rattle.draid_shard.specs.declared.loan.KeptLoan.{KeptLoan}
 use Rattle.draid_shard.specs.declared.shard.Shard.{Shard}
 use Rattle.draid_passing.specs.Ending.{Ends}
 use Rattle.draid_passing.specs.declared.ending.Ended.{Ended}
-use Rattle.draid_mend.specs.Loans.{HasUnit, IsRunningRebuild, lend_events}
-use Rattle.draid_session.specs.Holds.{Did, Hold, Looked, On, View, view_of}
+use Rattle.draid_mend.specs.Loans.{HasUnit, IsLendRefused, IsRunningRebuild, lend_events}
+use Rattle.draid_mend.specs.declared.loans.LendFault.{LendFault}
+use Rattle.draid_mend.specs.declared.loans.LendFault.TheVariants as fault
+use Rattle.draid_session.specs.Holds.{Looked, On, View, view_of}
 use Rattle.draid_session.specs.Passes as passes
 use Rattle.draid_session.specs.State.{Metaslab}
 use Rattle.draid_pool.specs.Metaslabs.{IsMetaslab}
@@ -42,6 +41,7 @@ use Rattle.draid_pool.proofs.Dids as dids
 use Rattle.draid_pool.proofs.Dids.{none_here}
 use Rattle.draid_pool.proofs.OneHold.{looked, passes_is, worn_is}
 use Rattle.draid_visits.specs.Steps.{HasTakenLeft, NextIs}
+use Rattle.draid_visits.specs.declared.steps.Next.{Next}
 use Rattle.draid_visits.specs.declared.steps.Next.TheVariants as next
 use Rattle.draid_visits.proofs.PassSteps.{raised, rebuild_did, rebuild_goes}
 use Rattle.draid_visits.proofs.Started.{fits, pass_told, same_world}
@@ -55,6 +55,12 @@ pub record Running (o : Option Pass) : Type 0 where
 pub running_of : (o : Option Pass) → IsSomeAnd o IsRunningRebuild → Running o
 running_of None is = absurd is
 running_of (Some p) is = record { pass = p; there = refl; is = is }
+
+pub ok_as : {T E : Type 0} (r : Result T E) (a b : T) → r ≡ Ok a → a ≡ b → r ≡ Ok b
+ok_as r a b is same = subst (λ z. r ≡ Ok z) same is
+
+pub worn_as : {R A : Type 0} (shard : Shard R A) (why : LendFault) (events : ℕ) → IsLendRefused shard why → why ≡ fault.Worn events → IsWornFor shard (lend_events shard.kept)
+worn_as shard why events refused is = (subst (IsLendRefused shard) is refused).0
 
 pub unit_left : {R A : Type 0} (shard : Shard R A) → HasUnit shard → HasTakenLeft shard
 unit_left shard unit w is p there = (unit.stripe, unit.is.next w is p there)
@@ -88,9 +94,9 @@ module _ {R A : Type 0} (rack : racks.Ghosts R) (area : areas.Ghosts A) (part : 
   low_errors l p failed true low = low
   low_errors l p failed false low = omega arith
 
-  pub over : (new : Shard R A) (ended : Ended) (p : Pass) → shard.pass ≡ Some p → Ends rack shard new ended → Valid rack new → SameAreas shard new → SameReserve shard new
-      → Goes rack area part pieces x new (λ holds y. passes.EndsPass part.geometry part.perms part.number (min ended.errors LAST_NUMBER) holds × SameBlocks x y)
-  over new ended p there ends valid same reserve =
+  pub over : (new : Shard R A) (ended : Ended) (count : ℕ) (p : Pass) → count ≡ min ended.errors LAST_NUMBER → shard.pass ≡ Some p → Ends rack shard new ended → Valid rack new → SameAreas shard new → SameReserve shard new
+      → Goes rack area part pieces x new (λ holds y. passes.EndsPass part.geometry part.perms part.number count holds × SameBlocks x y)
+  over new ended count p counted there ends valid same reserve =
       let q : machine.Pass = pass_in shard.slots p in
       let told : x.world.core.pass ≡ Some q = pass_told rack area part pieces shard x is p there in
       let errors : ended.errors ≡ (ended_pass (layout_in part) x.world.core q ends.failed.items).errors
@@ -99,7 +105,7 @@ module _ {R A : Type 0} (rack : racks.Ghosts R) (area : areas.Ghosts A) (part : 
       = low_errors (layout_in part) q ends.failed.items (is_heal q.kind) ((fits rack area part pieces shard x is).core.pass q told).errors in
       let d : dids.Done rack area part pieces new (Done ends.failed) x
       = rebuild_did rack area part pieces shard new (Done ends.failed) x is valid ends.does (ends.acts pieces) reserve (raised rack area ends.failed.items shard new same ends.counts) tt in
-      rebuild_goes rack area part pieces new (Done ends.failed) x (λ holds. passes.EndsPass part.geometry part.perms part.number (min ended.errors LAST_NUMBER) holds) tt d (record {
+      rebuild_goes rack area part pieces new (Done ends.failed) x (λ holds. passes.EndsPass part.geometry part.perms part.number count holds) tt d (record {
         v = view_of part.number x;
         p = q;
         failed = ends.failed;
@@ -107,7 +113,7 @@ module _ {R A : Type 0} (rack : racks.Ghosts R) (area : areas.Ghosts A) (part : 
         are = refl;
         there = refl;
         pass = told;
-        errors_are = omega (arith, errors, low);
+        errors_are = omega (arith, errors, low, counted);
       })
 
   -- ---- something is left
@@ -167,3 +173,8 @@ module _ {R A : Type 0} (rack : racks.Ghosts R) (area : areas.Ghosts A) (part : 
     pub starved : IsSomeAnd shard.pass IsRunningRebuild → HasTakenLeft shard → Goes rack area part pieces x new (λ holds y. NextIs part false next.NoMemory holds × SameBlocks x y)
     starved running left =
         looked rack area part pieces new x (λ holds y. NextIs part false next.NoMemory holds × SameBlocks x y) here ((refl, keeps_back (λ v. ⊤) running left tt), same_world x)
+
+-- as it is known whether the limit is used up
+pub used_so : {R A : Type 0} (rack : racks.Ghosts R) (area : areas.Ghosts A) (part : Part) (pieces : Pieces) (x : Metaslab) (new : Shard R A) (used known : Bool) (what : Next) → used ≡ known
+    → Goes rack area part pieces x new (λ holds y. NextIs part known what holds × SameBlocks x y) → Goes rack area part pieces x new (λ holds y. NextIs part used what holds × SameBlocks x y)
+used_so rack area part pieces x new used known what is goes = subst (λ b. Goes rack area part pieces x new (λ holds y. NextIs part b what holds × SameBlocks x y)) (sym is) goes

@@ -1,8 +1,6 @@
 -- One metaslab of a pool where a rebuild goes on, or is planned.
-use Rattle.std.proofs.Common.{◌≡◌, ◌≢◌, ◌≤◌, ◌⊎◌, ◌↔◌, ◌∙◌, inl, inr, ℕ, Bool, true, false, List, [], ◌∷◌, Option, Some, None, arith, refl, sym, ap, subst, min}
+use Rattle.std.proofs.Common.{◌≡◌, ◌≤◌, ◌∙◌, inl, inr, ℕ, [], ◌∷◌, Option, Some, None, arith, refl, sym, ap, subst, min}
 use Rattle.std.specs.Prelude.{Result, Ok, Err, option_map}
-use Rattle.draid_names.specs.declared.numbers.TheConstants.{LAST_NUMBER}
-use Rattle.draid_names.specs.declared.pass_kind.PassKind.{PassKind}
 use Rattle.draid_names.specs.declared.pass_kind.PassKind.TheVariants.{Rebuild}
 use Rattle.draid_rack.specs.declared.Rack as racks
 use Rattle.draid_area.specs.declared.Area as areas
@@ -15,10 +13,10 @@ use Rattle.draid_machine.proofs.Fitted.{every_fit}
 use Rattle.draid_segments.specs.Segments.{Pieces}
 use Rattle.draid_entries.specs.History.{left_for_groups}
 use Rattle.draid_pass.specs.declared.pass.Pass.{Pass}
+use Rattle.draid_slots.specs.States.{pass_in}
 use Rattle.draid_layouts.specs.Layout.{layout_of}
 use Rattle.draid_plans.specs.Layout.{layout_with}
 use Rattle.draid_plans.proofs.States.{none_there}
-use Rattle.draid_slots.specs.States.{pass_in}
 use Rattle.draid_shard.specs.Calls.{ActsOn, SameKit, SameReserve}
 use Rattle.draid_shard.specs.Fits.{Valid}
 use Rattle.draid_shard.specs.Part.{Part, layout_in}
@@ -29,7 +27,7 @@ use Rattle.draid_shard.proofs.Homes.{lays}
 use Rattle.draid_passing.specs.Passing.{IsLast, IsPlanRefused, LacksTarget, plan_events}
 use Rattle.draid_passing.specs.declared.fault.PlanFault.{PlanFault}
 use Rattle.draid_passing.specs.declared.fault.PlanFault.TheVariants as plan
-use Rattle.draid_session.specs.Holds.{Did, Hold, Looked, On, view_of}
+use Rattle.draid_session.specs.Holds.{Looked, On, view_of}
 use Rattle.draid_session.specs.Passes as passes
 use Rattle.draid_session.specs.Phases.{End, Starved, WasLast, WasWorn}
 use Rattle.draid_session.specs.State.{Metaslab}
@@ -79,9 +77,9 @@ module _ {R A : Type 0} (rack : racks.Ghosts R) (area : areas.Ghosts A) (part : 
   abbrev Starts : Shard R A → Result ℕ PlanFault → Type 0
   Starts new r = Goes rack area part pieces x new (λ holds y. StartIs part r holds × SameBlocks x y)
 
-  pub goes_on : (p : Pass) → shard.pass ≡ Some p → p.kind ≡ Rebuild → Starts shard (Ok (min p.at (metaslab_stripes shard.geometry)))
-  goes_on p there kind =
-      looked rack area part pieces shard x (λ holds y. StartIs part (Ok (min p.at (metaslab_stripes shard.geometry))) holds × SameBlocks x y) is (
+  pub goes_on : (p : Pass) (at stripes : ℕ) → shard.pass ≡ Some p → p.kind ≡ Rebuild → at ≡ min p.at stripes → stripes ≡ metaslab_stripes shard.geometry → Starts shard (Ok at)
+  goes_on p at stripes there kind is_at many =
+      looked rack area part pieces shard x (λ holds y. StartIs part (Ok at) holds × SameBlocks x y) is (
         inl (record {
           v = view_of part.number x;
           p = pass_in shard.slots p;
@@ -89,7 +87,7 @@ module _ {R A : Type 0} (rack : racks.Ghosts R) (area : areas.Ghosts A) (part : 
           there = refl;
           pass = pass_told p there;
           kind_is = kind;
-          at_is = (let low = place_low p there in omega (arith, low));
+          at_is = (let low = place_low p there in omega (arith, low, is_at, many));
         }),
         same_world x,
       )

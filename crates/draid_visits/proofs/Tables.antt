@@ -18,14 +18,11 @@ use Rattle.draid_pool.proofs.Lists.{some_of}
 use Rattle.draid_visits.specs.Steps.{SharesTable}
 
 -- what stays
-pub table_kept : {R A : Type 0} (old new : Shard R A) → part_of new ≡ part_of old → KeepsBlocks old new → KeepsArms old.slots new.slots → KeepsTable old new
+table_kept : {R A : Type 0} (old new : Shard R A) → part_of new ≡ part_of old → KeepsBlocks old new → KeepsArms old.slots new.slots → KeepsTable old new
 table_kept old new part keeps arms = record { part = part; entries = keeps.entries; committed = keeps.groups.committed; slots = arms }
 
-pub table_same : {R A : Type 0} (shard : Shard R A) → KeepsTable shard shard
-table_same shard = record { part = refl; entries = record { at = λ first. refl; held = λ key. refl; count = refl; owed = λ columns. refl }; committed = refl; slots = same_arms shard.slots }
-
 -- another loan
-pub table_loan : {R A : Type 0} (shard : Shard R A) (kept : Option KeptLoan) → KeepsTable shard (record shard { kept = kept })
+table_loan : {R A : Type 0} (shard : Shard R A) (kept : Option KeptLoan) → KeepsTable shard (record shard { kept = kept })
 table_loan shard kept = record { part = refl; entries = record { at = λ first. refl; held = λ key. refl; count = refl; owed = λ columns. refl }; committed = refl; slots = same_arms shard.slots }
 
 entries_then : (a b c : Entries) → SameEntries a b → SameEntries b c → SameEntries a c
@@ -37,7 +34,7 @@ entries_then a b c one two = record {
 }
 
 -- one call behind another
-pub table_then : {R A : Type 0} (a b c : Shard R A) → KeepsTable a b → KeepsTable b c → KeepsTable a c
+table_then : {R A : Type 0} (a b c : Shard R A) → KeepsTable a b → KeepsTable b c → KeepsTable a c
 table_then a b c one two = record {
   part = two.part ∙ one.part;
   entries = entries_then a.entries b.entries c.entries one.entries two.entries;
@@ -65,7 +62,7 @@ shares_kept old new kept = record {
           (let e = one ps k p q a b in record { kind_is = ap (λ (z : Arm). z.kind) e; number_is = ap (λ (z : Arm). z.number) e; offline_is = ap (λ (z : Arm). z.offline) e });
     }
 
-pub shares_table : {R A : Type 0} (old new : Shard R A) → KeepsTable old new → SharesTable old new
+shares_table : {R A : Type 0} (old new : Shard R A) → KeepsTable old new → SharesTable old new
 shares_table old new table = record {
   part = table.part;
   entries = table.entries;
@@ -82,3 +79,12 @@ shares_arms old new part keeps arms leaves = record {
   slots = arms;
   leaves = leaves;
 }
+
+-- a stripe was lent, solved and landed
+pub table_landed : {R A : Type 0} (old lent solved new : Shard R A) → part_of lent ≡ part_of old → KeepsBlocks old lent → KeepsArms old.slots lent.slots → solved ≡ record lent { kept = solved.kept } → part_of new ≡ part_of solved
+    → KeepsBlocks solved new → new.slots ≡ solved.slots → SharesTable old new
+table_landed old lent solved new part keeps arms only then_part then_keeps slots =
+    shares_table old new
+    (table_then old lent new (table_kept old lent part keeps arms)
+    (table_then lent solved new (subst (KeepsTable lent) (sym only) (table_loan lent solved.kept))
+    (table_kept solved new then_part then_keeps (subst (KeepsArms solved.slots) (sym slots) (same_arms solved.slots)))))

@@ -1,17 +1,13 @@
 -- A stripe of a rebuild is lent in a metaslab of a pool, solved, and lands.
-use Rattle.std.proofs.Common.{◌≡◌, ◌<◌, ◌≤◌, ◌+◌, ◌∙◌, ℕ, false, List, [], ◌∷◌, Option, Some, None, arith, refl, sym, ap, subst}
+use Rattle.std.proofs.Common.{◌≡◌, ◌<◌, ◌≤◌, ◌∙◌, false, [], ◌∷◌, Option, Some, None, arith, refl, sym, ap, subst}
 use Rattle.std.specs.Prelude.{IfSome, IsSome, IsSomeAnd}
-use Rattle.draid_rack.specs.Rack.{OnBothTold, OnTold}
+use Rattle.draid_rack.specs.Rack.{OnTold}
 use Rattle.draid_rack.specs.declared.Rack as racks
 use Rattle.draid_area.specs.declared.Area as areas
 use Rattle.draid_spec.specs.declared.layout.Geometry.{Geometry}
 use Rattle.draid_spec.specs.Geometry.{metaslab_stripes}
 use Rattle.draid_parity.specs.Columns.{StripeValue}
-use Rattle.draid_machine.specs.declared.event.Event.{Event}
 use Rattle.draid_machine.specs.declared.event.Event.TheVariants.{LandStripe, Lend}
-use Rattle.draid_machine.specs.Created.{IsReached}
-use Rattle.draid_machine.specs.State as machine
-use Rattle.draid_segments.specs.Acts as segments
 use Rattle.draid_segments.specs.Segments.{Pieces}
 use Rattle.draid_entries.specs.History.{limit_in, reserved_of}
 use Rattle.draid_pass.specs.declared.pass.Pass.{Pass}
@@ -28,7 +24,7 @@ use Rattle.draid_mend.specs.Lands.{GoesOnBehind, IsSolvable, KeptStands, MovesOv
 use Rattle.draid_mend.specs.Loans.{IsRunningRebuild, LendsUnit, lend_events}
 use Rattle.draid_mend.specs.Missing.{SolvesLoan}
 use Rattle.draid_mend.proofs.Chained.{loan_is_right}
-use Rattle.draid_session.specs.Holds.{Did, Hold, On, view_of}
+use Rattle.draid_session.specs.Holds.{Did, On, view_of}
 use Rattle.draid_session.specs.State.{Metaslab}
 use Rattle.draid_pool.specs.Metaslabs.{IsMetaslab}
 use Rattle.draid_pool.specs.Shards.{Goes, SameBlocks}
@@ -38,7 +34,7 @@ use Rattle.draid_pool.proofs.Imaged.{keeps_then}
 use Rattle.draid_visits.specs.Steps.{HasContents, MovesOn, NextIs}
 use Rattle.draid_visits.specs.declared.steps.Next.TheVariants as next
 use Rattle.draid_visits.proofs.Landed.{landed_at}
-use Rattle.draid_visits.proofs.Over.{Running, running_of, told_worn}
+use Rattle.draid_visits.proofs.Over.{running_of, told_worn}
 use Rattle.draid_visits.proofs.PassSteps.{raised, rebuild_did, rebuild_leaves}
 
 -- ---- where the pass stands then
@@ -102,12 +98,6 @@ module _ {R A : Type 0} (rack : racks.Ghosts R) (area : areas.Ghosts A) (old len
     (solved_valid : Valid rack solved) (only : solved ≡ record lent { kept = solved.kept }) (none : DoesNone lent solved) (solves : SolvesLoan lent.geometry lent.kept solved.kept)
     (new_valid : Valid rack new) (new_areas : SameAreas solved new) (landed : lands.LandsUnit rack solved new) (new_reserve : SameReserve solved new)
     (part : Part) (pieces : Pieces) (x : Metaslab) (is : IsMetaslab rack area part pieces old x) (contents : HasContents part pieces x) where
-  lent_event : Event
-  lent_event = Lend unit.failed
-
-  landed_event : Event
-  landed_event = LandStripe landed.pass.number landed.kept.serial landed.failed
-
   first : dids.Done rack area part pieces lent (Lend unit.failed) x
   first = rebuild_did rack area part pieces old lent (Lend unit.failed) x is lent_valid unit.does (unit.acts pieces) lent_reserve (raised rack area unit.failed.items old lent lent_areas unit.counts) tt
 

@@ -1,5 +1,5 @@
 -- What becomes of one metaslab as a rebuild of a pool comes to it, hold by hold.
-use Rattle.std.specs.Prelude.{◌≡◌, ◌<◌, ◌≤◌, ◌⊎◌, ⊤, ℕ, Bool, true, false, List, [], ◌∷◌, Option, None, Some, IsSomeAnd, Result, Ok, Err}
+use Rattle.std.specs.Prelude.{◌≡◌, ◌<◌, ◌≤◌, ◌⊎◌, ⊤, ℕ, Bool, true, false, List, [], Some, IsSomeAnd, Result, Ok, Err}
 use Rattle.draid_names.specs.declared.pass_kind.PassKind.TheVariants.{Rebuild}
 use Rattle.draid_spec.specs.Geometry.{metaslab_stripes}
 use Rattle.draid_machine.specs.State as machine

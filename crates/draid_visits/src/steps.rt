@@ -1,10 +1,8 @@
 //! One metaslab as a rebuild of a pool comes to it: its pass begins, is made to run, lends a stripe, and ends.
-ghost use Rattle.std.specs.Prelude.{◌≡◌, ◌≤◌, ◌↔◌, ◌⊎◌, ℕ, Bool, None, Ok, OnErr, OnOk, IfErr, IfOk, IfSome, IsSome, IsSomeAnd, IsTrue, false, true};
+ghost use Rattle.std.specs.Prelude.{◌≡◌, ◌≤◌, ◌↔◌, ◌⊎◌, ℕ, None, Ok, OnErr, OnOk, IfErr, IfOk, IfSome, IsSomeAnd, IsTrue, false, true};
 ghost use Rattle.draid_names.specs.declared.numbers.TheConstants.{LAST_NUMBER};
 ghost use Rattle.draid_names.specs.declared.pass_kind.PassKind.TheVariants.{Rebuild};
 ghost use Rattle.draid_spec.specs.Geometry.{metaslab_stripes};
-ghost use Rattle.draid_machine.specs.State as machine;
-ghost use Rattle.draid_machine.specs.Step.{IsTaken};
 ghost use Rattle.draid_segments.specs.Segments.{Pieces};
 ghost use Rattle.draid_pass.specs.declared.pass.Pass.{Pass};
 ghost use Rattle.draid_shard.specs.Calls.{SameAreas};

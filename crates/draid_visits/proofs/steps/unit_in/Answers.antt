@@ -1,37 +1,29 @@
-use Rattle.std.proofs.Common.{◌≡◌, subst, sym}
-use Rattle.std.specs.Prelude.{Ok}
-use Rattle.draid_shard.specs.Alike.{KeepsArms}
-use Rattle.draid_shard.proofs.Changed.{same_arms}
-use Rattle.draid_mend.specs.Loans.{IsLendRefused}
+use Rattle.std.proofs.Common.{subst, sym}
+use Rattle.draid_mend.specs.declared.loans.Lent.TheVariants.{End, Unit}
 use Rattle.draid_pool.specs.Metaslabs.{IsMetaslab}
-use Rattle.draid_pool.specs.Syncing.{KeepsTable}
-use Rattle.draid_visits.proofs.Over.{starved, unit_left, worn}
-use Rattle.draid_visits.proofs.Tables.{shares_table, table_kept, table_loan, table_then}
+use Rattle.draid_visits.proofs.Over.{ok_as, starved, unit_left, worn, worn_as}
+use Rattle.draid_visits.proofs.Tables.{table_landed}
 use Rattle.draid_visits.proofs.Units.{moves_on, unit_goes}
 use Rattle.draid_visits.proofs.steps.unit_in.Goals as goal
 
 pub returns-in-Ok-Unit-clause-table : goal.returns-in-Ok-Unit-clause-table
 returns-in-Ok-Unit-clause-table g c =
-    let old = c.args.shard.now in
-    let lent = c.lend.new.shard in
-    let solved = c.solve.new.shard in
-    let new = c.land.new.shard in
-    let unit = c.lend.ensures.unit (subst (λ l. c.lend.result ≡ Ok l) c.in-Ok-Unit.field-0-is c.in-Ok-Unit.is) in
+    let l = c.lend.ensures in
+    let unit = l.unit (ok_as c.lend.result c.in-Ok-Unit.field-0 Unit c.in-Ok-Unit.is c.in-Ok-Unit.field-0-is) in
     let e = c.land.ensures in
-    shares_table old new
-    (table_then old lent new (table_kept old lent unit.does.part c.lend.ensures.keeps c.lend.ensures.arms)
-    (table_then lent solved new (subst (KeepsTable lent) (sym c.solve.ensures.only) (table_loan lent solved.kept))
-    (table_kept solved new e.lands.does.part e.keeps (subst (KeepsArms solved.slots) (sym e.slots) (same_arms solved.slots)))))
+    table_landed c.args.shard.now c.lend.new.shard c.solve.new.shard c.land.new.shard unit.does.part l.keeps l.arms c.solve.ensures.only e.lands.does.part e.keeps e.slots
 
 pub returns-in-Ok-Unit-clause-landed : goal.returns-in-Ok-Unit-clause-landed
 returns-in-Ok-Unit-clause-landed g c = λ same.
-    (let unit = c.lend.ensures.unit (subst (λ l. c.lend.result ≡ Ok l) c.in-Ok-Unit.field-0-is c.in-Ok-Unit.is) in
+    (let l = c.lend.ensures in
+    let unit = l.unit (ok_as c.lend.result c.in-Ok-Unit.field-0 Unit c.in-Ok-Unit.is c.in-Ok-Unit.field-0-is) in
+    let s = c.solve.ensures in
     let e = c.land.ensures in
-    moves_on g.R.Rack c.args.shard.now c.lend.new.shard c.solve.new.shard c.land.new.shard c.requires.running unit c.lend.ensures.pass c.lend.ensures.valid c.solve.ensures.only c.solve.ensures.solves e.lands.does.part e.moves)
+    moves_on g.R.Rack c.args.shard.now c.lend.new.shard c.solve.new.shard c.land.new.shard c.requires.running unit l.pass l.valid s.only s.solves e.lands.does.part e.moves)
 
 pub returns-in-Ok-Unit-clause-goes : goal.returns-in-Ok-Unit-clause-goes
 returns-in-Ok-Unit-clause-goes g c = λ part pieces x at contents.
-    (let is = subst (λ l. c.lend.result ≡ Ok l) c.in-Ok-Unit.field-0-is c.in-Ok-Unit.is in
+    (let is = ok_as c.lend.result c.in-Ok-Unit.field-0 Unit c.in-Ok-Unit.is c.in-Ok-Unit.field-0-is in
     let l = c.lend.ensures in
     let s = c.solve.ensures in
     let e = c.land.ensures in
@@ -40,14 +32,15 @@ returns-in-Ok-Unit-clause-goes g c = λ part pieces x at contents.
 
 pub returns-in-Ok-End-clause-goes : goal.returns-in-Ok-End-clause-goes
 returns-in-Ok-End-clause-goes g c = λ part pieces x at contents.
-    (let end = c.lend.ensures.end (subst (λ l. c.lend.result ≡ Ok l) c.in-Ok-End.field-0-is c.in-Ok-End.is) in
+    (let end = c.lend.ensures.end (ok_as c.lend.result c.in-Ok-End.field-0 End c.in-Ok-End.is c.in-Ok-End.field-0-is) in
     c.end_in.ensures.goes part pieces x (subst (λ s. IsMetaslab g.R.Rack g.A.Area part pieces s x) (sym end.1) at))
 
 pub returns-in-Err-Worn-clause-goes : goal.returns-in-Err-Worn-clause-goes
 returns-in-Err-Worn-clause-goes g c = λ part pieces x at contents.
     (let old = c.args.shard.now in
-    let e = c.in-Err-Worn.ensures in
-    worn g.R.Rack g.A.Area part pieces old x at c.lend.new.shard e.valid e.none.none e.kit e.reserve c.requires.running (unit_left old e.more) (subst (IsLendRefused old) c.in-Err-Worn.field-0-is e.refused).0)
+    let why = c.in-Err-Worn in
+    let e = why.ensures in
+    worn g.R.Rack g.A.Area part pieces old x at c.lend.new.shard e.valid e.none.none e.kit e.reserve c.requires.running (unit_left old e.more) (worn_as old why.field-0 why.field-0-0 e.refused why.field-0-is))
 
 pub returns-in-Err-NoMemory-clause-goes : goal.returns-in-Err-NoMemory-clause-goes
 returns-in-Err-NoMemory-clause-goes g c = λ part pieces x at contents.
