@@ -1,4 +1,4 @@
-use Rattle.std.proofs.Common.{Result, ◌≡◌, ℕ, List, Err, ap, refl, subst, sym, length}
+use Rattle.std.proofs.Common.{Result, ◌≡◌, ◌∙◌, ℕ, List, Err, ap, refl, subst, sym, length}
 use Rattle.std.specs.Prelude.{IfErr}
 use Rattle.draid_names.specs.declared.arm.Arm.{Arm}
 use Rattle.draid_names.specs.declared.arm.ArmKind.TheVariants as kind
@@ -14,6 +14,7 @@ use Rattle.draid_pool.specs.Pools.{Represents}
 use Rattle.draid_pool.specs.Syncing.{Phase}
 use Rattle.draid_pool.specs.declared.pool.Pool.{Pool}
 use Rattle.draid_pool.proofs.Rises.{areas_on}
+use Rattle.draid_pool.proofs.Wholes.{same_pointers}
 use Rattle.draid_changes.specs.Attaching.{Attaches, IsBarred, MayCome, MayComeAll}
 use Rattle.draid_changes.specs.Walks.{ChangedBelow, end_of_reserving, events_at}
 use Rattle.draid_changes.specs.declared.fault.ArmFault.TheVariants as armed
@@ -27,13 +28,17 @@ use Rattle.draid_changes.proofs.sparing.spare.Goals as goal
 
 -- ---- a closing group couldn't be committed first
 
-pub returns-in-Err-clause-cause : goal.returns-in-Err-clause-cause
-returns-in-Err-clause-cause g c =
-    λ is. c.in-Err.ensures.cause (ap Err (shelf_first c.in-Err.fault c.arm_fault.result c.arm_fault.ensures (err_same c.arm_fault.result _ is)))
-
-pub returns-in-Err-clause-carries : goal.returns-in-Err-clause-carries
-returns-in-Err-clause-carries g c = λ x is.
-    unfinished g.R.Rack g.A.Area (SpareBreaks c.args.slot c.args.spare) (SpareComes c.args.slot c.args.spare) c.finish.new.self x c.in-Err.fault c.arm_fault.result c.arm_fault.ensures (c.in-Err.ensures.carries x is)
+pub returns-in-Err : goal.returns-in-Err
+returns-in-Err g c =
+    record {
+      whole = c.in-Err.ensures.whole;
+      same = same_pointers c.args.pool.now c.finish.new.self c.in-Err.ensures.objects;
+      later = c.in-Err.ensures.later;
+      cause = λ is. c.in-Err.ensures.cause (ap Err (shelf_first c.in-Err.fault c.arm_fault.result c.arm_fault.ensures (err_same c.arm_fault.result _ is)));
+      carries = λ x is.
+          unfinished g.R.Rack g.A.Area (SpareBreaks c.args.slot c.args.spare) (SpareComes c.args.slot c.args.spare) c.finish.new.self x c.in-Err.fault c.arm_fault.result c.arm_fault.ensures (c.in-Err.ensures.carries x is);
+      arms = spare_unfinished g.R.Rack g.A.Area c.args.slot c.args.spare c.in-Err.fault c.arm_fault.result c.finish.new.self.metaslabs.shards.items c.arm_fault.ensures;
+    }
 
 -- ---- the rules
 
@@ -44,13 +49,27 @@ barred mid first shards slot spare arm result why refused is same called =
     subst (λ a. IsBarred first.slots mid.metaslabs.shards.items slot a why) called
     (subst (λ zs. IsBarred first.slots zs slot arm why) same (subst (λ r. IfErr r (IsBarred first.slots shards slot arm)) is refused))
 
-pub returns-in-Err-may_come-clause-carries : goal.returns-in-Err-may_come-clause-carries
-returns-in-Err-may_come-clause-carries g c = λ x is.
-    (let mid = c.finish.new.self in
-    let first = c.index.result.now in
-    let at = first_borrowed g.R.Rack g.A.Area mid first c.in_default.ensures.whole c.index.ensures in
-    spare_refused g.R.Rack g.A.Area mid x c.args.slot c.args.spare first (c.in_default.ensures.carries x is) at c.in-Err-may_come.why
-    (barred mid first c.deref.result.now c.args.slot c.args.spare c.spare_arm-arm.result c.may_come.result c.in-Err-may_come.why c.may_come.ensures.refused c.in-Err-may_come.is c.deref.ensures.value c.spare_arm-arm.ensures))
+pub returns-in-Err-may_come : goal.returns-in-Err-may_come
+returns-in-Err-may_come g c =
+    record {
+      whole = c.in_default.ensures.whole;
+      same = same_pointers c.args.pool.now c.finish.new.self c.in_default.ensures.objects;
+      later = c.in_default.ensures.later;
+      cause = λ is. absurd (cc is);
+      carries = λ x is.
+          (let mid = c.finish.new.self in
+          let first = c.index.result.now in
+          let at = first_borrowed g.R.Rack g.A.Area mid first c.in_default.ensures.whole c.index.ensures in
+          spare_refused g.R.Rack g.A.Area mid x c.args.slot c.args.spare first (c.in_default.ensures.carries x is) at c.in-Err-may_come.why
+          (barred mid first c.deref.result.now c.args.slot c.args.spare c.spare_arm-arm.result c.may_come.result c.in-Err-may_come.why c.may_come.ensures.refused c.in-Err-may_come.is c.deref.ensures.value c.spare_arm-arm.ensures));
+      arms = (let mid = c.finish.new.self in
+          let first = c.index.result.now in (
+            first,
+            first_borrowed g.R.Rack g.A.Area mid first c.in_default.ensures.whole c.index.ensures,
+            barred mid first c.deref.result.now c.args.slot c.args.spare c.spare_arm-arm.result c.may_come.result c.in-Err-may_come.why
+                c.may_come.ensures.refused c.in-Err-may_come.is c.deref.ensures.value c.spare_arm-arm.ensures,
+          ));
+    }
 
 -- no rule forbids the spare
 may : {R A : Type 0} (mid : Pool R A) (first : Shard R A) (shards : List (Shard R A)) (slot spare : ℕ) (arm : Arm) → MayComeAll first.slots shards slot arm → shards ≡ mid.metaslabs.shards.items → arm ≡ arm_called kind.Spare spare
@@ -76,85 +95,81 @@ attach_all-requires g c =
           (may_come g.R.Rack g.A.Area mid late c.args.slot kind.Spare c.args.spare first c.in_default.ensures.whole c.in-Ok.ensures.whole at own c.in-Ok.ensures.reserves (λ k z here. no_leaf g.R.Rack z c.args.spare) m shard there);
     }
 
-pub returns-in-Ok-clause-whole : goal.returns-in-Ok-clause-whole
-returns-in-Ok-clause-whole g c =
-    let late = c.reserve_all.new.pool in
-    let new : Pool g.row.R.Denot g.row.A.Denot = record late { metaslabs = record { shards = c.attach_all.new.shards } } in
-    attached_whole g.R.Rack g.A.Area c.args.slot kind.Spare c.args.spare late new c.in-Ok.ensures.whole
-    (got g.R.Rack late.metaslabs.shards.items new.metaslabs.shards.items c.args.slot c.args.spare c.spare_arm-arm.result c.spare_arm-arm.ensures c.attach_all.ensures.attaches)
-    (record { geometry = refl; uber = refl; objects = refl; seq = refl; floor = refl }) (λ is. absurd (cc))
-
-pub returns-in-Ok-clause-later : goal.returns-in-Ok-clause-later
-returns-in-Ok-clause-later g c =
-    let faults = g.A.Area.faults in
-    let old = c.args.pool.now in
-    let mid = c.finish.new.self in
-    let late = c.reserve_all.new.pool in
-    let new : Pool g.row.R.Denot g.row.A.Denot = record late { metaslabs = record { shards = c.attach_all.new.shards } } in
-    areas_on faults old late new (areas_on faults old mid late c.in_default.ensures.later c.in-Ok.ensures.later)
-    (areas_changed g.R.Rack g.A.Area (Attaches g.R.Rack c.args.slot c.spare_arm-arm.result.kind c.spare_arm-arm.result.number) late new c.attach_all.ensures.attaches
-    (record { geometry = refl; uber = refl; objects = refl; seq = refl; floor = refl }) (λ a b s. s.kit.areas))
-
-pub returns-in-Ok-clause-carries : goal.returns-in-Ok-clause-carries
-returns-in-Ok-clause-carries g c = λ x is.
-    (let mid = c.finish.new.self in
-    let late = c.reserve_all.new.pool in
-    let new : Pool g.row.R.Denot g.row.A.Denot = record late { metaslabs = record { shards = c.attach_all.new.shards } } in
-    let first = c.index.result.now in
-    let at = first_borrowed g.R.Rack g.A.Area mid first c.in_default.ensures.whole c.index.ensures in
-    let own = may mid first c.deref.result.now c.args.slot c.args.spare c.spare_arm-arm.result c.in_default-may_come.ensures.may c.deref.ensures.value c.spare_arm-arm.ensures in
-    spare_done g.R.Rack g.A.Area mid x c.args.slot c.args.spare first (c.in_default.ensures.carries x is) at own late new c.in-Ok.ensures.carries
-    (idle_reserved g.R.Rack g.A.Area needs.Attachment mid late c.in_default.ensures.idle c.in-Ok.ensures.reserves)
-    (got g.R.Rack late.metaslabs.shards.items new.metaslabs.shards.items c.args.slot c.args.spare c.spare_arm-arm.result c.spare_arm-arm.ensures c.attach_all.ensures.attaches)
-    (record { geometry = refl; uber = refl; objects = refl; seq = refl; floor = refl }))
+pub returns-in-Ok : goal.returns-in-Ok
+returns-in-Ok g c =
+    record {
+      whole = (let late = c.reserve_all.new.pool in
+          let new : Pool g.row.R.Denot g.row.A.Denot = record late { metaslabs = record { shards = c.attach_all.new.shards } } in
+          attached_whole g.R.Rack g.A.Area c.args.slot kind.Spare c.args.spare late new c.in-Ok.ensures.whole
+          (got g.R.Rack late.metaslabs.shards.items new.metaslabs.shards.items c.args.slot c.args.spare c.spare_arm-arm.result c.spare_arm-arm.ensures c.attach_all.ensures.attaches)
+          (record { geometry = refl; uber = refl; objects = refl; seq = refl; floor = refl }) (λ is. absurd (cc)));
+      same = same_pointers c.args.pool.now c.reserve_all.new.pool (c.in-Ok.ensures.objects ∙ c.in_default.ensures.objects);
+      later = (let faults = g.A.Area.faults in
+          let old = c.args.pool.now in
+          let mid = c.finish.new.self in
+          let late = c.reserve_all.new.pool in
+          let new : Pool g.row.R.Denot g.row.A.Denot = record late { metaslabs = record { shards = c.attach_all.new.shards } } in
+          areas_on faults old late new (areas_on faults old mid late c.in_default.ensures.later c.in-Ok.ensures.later)
+          (areas_changed g.R.Rack g.A.Area (Attaches g.R.Rack c.args.slot c.spare_arm-arm.result.kind c.spare_arm-arm.result.number) late new c.attach_all.ensures.attaches
+          (record { geometry = refl; uber = refl; objects = refl; seq = refl; floor = refl }) (λ a b s. s.kit.areas)));
+      cause = λ is. absurd (cc is);
+      carries = λ x is.
+          (let mid = c.finish.new.self in
+          let late = c.reserve_all.new.pool in
+          let new : Pool g.row.R.Denot g.row.A.Denot = record late { metaslabs = record { shards = c.attach_all.new.shards } } in
+          let first = c.index.result.now in
+          let at = first_borrowed g.R.Rack g.A.Area mid first c.in_default.ensures.whole c.index.ensures in
+          let own = may mid first c.deref.result.now c.args.slot c.args.spare c.spare_arm-arm.result c.in_default-may_come.ensures.may c.deref.ensures.value c.spare_arm-arm.ensures in
+          spare_done g.R.Rack g.A.Area mid x c.args.slot c.args.spare first (c.in_default.ensures.carries x is) at own late new c.in-Ok.ensures.carries
+          (idle_reserved g.R.Rack g.A.Area needs.Attachment mid late c.in_default.ensures.idle c.in-Ok.ensures.reserves)
+          (got g.R.Rack late.metaslabs.shards.items new.metaslabs.shards.items c.args.slot c.args.spare c.spare_arm-arm.result c.spare_arm-arm.ensures c.attach_all.ensures.attaches)
+          (record { geometry = refl; uber = refl; objects = refl; seq = refl; floor = refl }));
+      arms = (let late = c.reserve_all.new.pool in
+          came_to_all g.R.Rack g.A.Area c.args.slot kind.Spare c.args.spare late.metaslabs.shards.items c.attach_all.new.shards.items
+          (got g.R.Rack late.metaslabs.shards.items c.attach_all.new.shards.items c.args.slot c.args.spare c.spare_arm-arm.result c.spare_arm-arm.ensures c.attach_all.ensures.attaches));
+    }
 
 -- ---- events couldn't be reserved
 
-pub returns-in-Err-Worn-clause-later : goal.returns-in-Err-Worn-clause-later
-returns-in-Err-Worn-clause-later g c = areas_on g.A.Area.faults c.args.pool.now c.finish.new.self c.reserve_all.new.pool c.in_default.ensures.later c.in-Err-Worn.ensures.later
+pub returns-in-Err-Worn : goal.returns-in-Err-Worn
+returns-in-Err-Worn g c =
+    record {
+      whole = c.in-Err-Worn.ensures.whole;
+      same = same_pointers c.args.pool.now c.reserve_all.new.pool (c.in-Err-Worn.ensures.objects ∙ c.in_default.ensures.objects);
+      later = areas_on g.A.Area.faults c.args.pool.now c.finish.new.self c.reserve_all.new.pool c.in_default.ensures.later c.in-Err-Worn.ensures.later;
+      cause = λ is. absurd (cc is);
+      carries = λ x is.
+          (let mid = c.finish.new.self in
+          let late = c.reserve_all.new.pool in
+          let first = c.index.result.now in
+          let at = first_borrowed g.R.Rack g.A.Area mid first c.in_default.ensures.whole c.index.ensures in
+          let own = may mid first c.deref.result.now c.args.slot c.args.spare c.spare_arm-arm.result c.in_default-may_come.ensures.may c.deref.ensures.value c.spare_arm-arm.ensures in
+          spare_stopped g.R.Rack g.A.Area mid x c.args.slot c.args.spare first (c.in_default.ensures.carries x is) at own late armed.Worn WasWorn worn_no_way refl
+          (subst (λ f. (y : State) → Represents g.R.Rack g.A.Area mid y → CarriesOut g.R.Rack g.A.Area late y (Phase y (arms.ReservePhase y.geometry y.perms (events_at needs.Attachment)) (end_of_reserving (Err f)))) c.in-Err-Worn.field-0-is
+          c.in-Err-Worn.ensures.carries));
+      arms = tt;
+    }
 
-pub returns-in-Err-Worn-clause-carries : goal.returns-in-Err-Worn-clause-carries
-returns-in-Err-Worn-clause-carries g c = λ x is.
-    (let mid = c.finish.new.self in
-    let late = c.reserve_all.new.pool in
-    let first = c.index.result.now in
-    let at = first_borrowed g.R.Rack g.A.Area mid first c.in_default.ensures.whole c.index.ensures in
-    let own = may mid first c.deref.result.now c.args.slot c.args.spare c.spare_arm-arm.result c.in_default-may_come.ensures.may c.deref.ensures.value c.spare_arm-arm.ensures in
-    spare_stopped g.R.Rack g.A.Area mid x c.args.slot c.args.spare first (c.in_default.ensures.carries x is) at own late armed.Worn WasWorn worn_no_way refl
-    (subst (λ f. (y : State) → Represents g.R.Rack g.A.Area mid y → CarriesOut g.R.Rack g.A.Area late y (Phase y (arms.ReservePhase y.geometry y.perms (events_at needs.Attachment)) (end_of_reserving (Err f)))) c.in-Err-Worn.field-0-is
-    c.in-Err-Worn.ensures.carries))
-
-pub returns-in-Err-NoMemory-clause-later : goal.returns-in-Err-NoMemory-clause-later
-returns-in-Err-NoMemory-clause-later g c = areas_on g.A.Area.faults c.args.pool.now c.finish.new.self c.reserve_all.new.pool c.in_default.ensures.later c.in-Err-NoMemory.ensures.later
-
-pub returns-in-Err-NoMemory-clause-carries : goal.returns-in-Err-NoMemory-clause-carries
-returns-in-Err-NoMemory-clause-carries g c = λ x is.
-    (let mid = c.finish.new.self in
-    let late = c.reserve_all.new.pool in
-    let first = c.index.result.now in
-    let at = first_borrowed g.R.Rack g.A.Area mid first c.in_default.ensures.whole c.index.ensures in
-    let own = may mid first c.deref.result.now c.args.slot c.args.spare c.spare_arm-arm.result c.in_default-may_come.ensures.may c.deref.ensures.value c.spare_arm-arm.ensures in
-    spare_stopped g.R.Rack g.A.Area mid x c.args.slot c.args.spare first (c.in_default.ensures.carries x is) at own late armed.NoMemory Starved starved_no_way refl
-    (subst (λ f. (y : State) → Represents g.R.Rack g.A.Area mid y → CarriesOut g.R.Rack g.A.Area late y (Phase y (arms.ReservePhase y.geometry y.perms (events_at needs.Attachment)) (end_of_reserving (Err f)))) c.in-Err-NoMemory.field-0-is
-    c.in-Err-NoMemory.ensures.carries))
+pub returns-in-Err-NoMemory : goal.returns-in-Err-NoMemory
+returns-in-Err-NoMemory g c =
+    record {
+      whole = c.in-Err-NoMemory.ensures.whole;
+      same = same_pointers c.args.pool.now c.reserve_all.new.pool (c.in-Err-NoMemory.ensures.objects ∙ c.in_default.ensures.objects);
+      later = areas_on g.A.Area.faults c.args.pool.now c.finish.new.self c.reserve_all.new.pool c.in_default.ensures.later c.in-Err-NoMemory.ensures.later;
+      cause = λ is. absurd (cc is);
+      carries = λ x is.
+          (let mid = c.finish.new.self in
+          let late = c.reserve_all.new.pool in
+          let first = c.index.result.now in
+          let at = first_borrowed g.R.Rack g.A.Area mid first c.in_default.ensures.whole c.index.ensures in
+          let own = may mid first c.deref.result.now c.args.slot c.args.spare c.spare_arm-arm.result c.in_default-may_come.ensures.may c.deref.ensures.value c.spare_arm-arm.ensures in
+          spare_stopped g.R.Rack g.A.Area mid x c.args.slot c.args.spare first (c.in_default.ensures.carries x is) at own late armed.NoMemory Starved starved_no_way refl
+          (subst (λ f. (y : State) → Represents g.R.Rack g.A.Area mid y → CarriesOut g.R.Rack g.A.Area late y (Phase y (arms.ReservePhase y.geometry y.perms (events_at needs.Attachment)) (end_of_reserving (Err f)))) c.in-Err-NoMemory.field-0-is
+          c.in-Err-NoMemory.ensures.carries));
+      arms = tt;
+    }
 
 -- ---- what becomes of the slot
 
-pub returns-in-Err-clause-arms : goal.returns-in-Err-clause-arms
-returns-in-Err-clause-arms g c = spare_unfinished g.R.Rack g.A.Area c.args.slot c.args.spare c.in-Err.fault c.arm_fault.result c.finish.new.self.metaslabs.shards.items c.arm_fault.ensures
-
-pub returns-in-Err-may_come-clause-arms : goal.returns-in-Err-may_come-clause-arms
-returns-in-Err-may_come-clause-arms g c =
-    let mid = c.finish.new.self in
-    let first = c.index.result.now in (
-      first,
-      first_borrowed g.R.Rack g.A.Area mid first c.in_default.ensures.whole c.index.ensures,
-      barred mid first c.deref.result.now c.args.slot c.args.spare c.spare_arm-arm.result c.may_come.result c.in-Err-may_come.why
-          c.may_come.ensures.refused c.in-Err-may_come.is c.deref.ensures.value c.spare_arm-arm.ensures,
-    )
-
-pub returns-in-Ok-clause-arms : goal.returns-in-Ok-clause-arms
-returns-in-Ok-clause-arms g c =
-    let late = c.reserve_all.new.pool in
-    came_to_all g.R.Rack g.A.Area c.args.slot kind.Spare c.args.spare late.metaslabs.shards.items c.attach_all.new.shards.items
-    (got g.R.Rack late.metaslabs.shards.items c.attach_all.new.shards.items c.args.slot c.args.spare c.spare_arm-arm.result c.spare_arm-arm.ensures c.attach_all.ensures.attaches)
+pub reserve_all-requires : goal.reserve_all-requires
+reserve_all-requires g c = record { whole = c.in_default.ensures.whole }
