@@ -66,7 +66,7 @@ fn has_rebuild(pass: &Option<Pass>) -> bool
     }
 }
 
-/// A rebuild of this metaslab goes on, or is planned; the answer is where it stands.
+/// A rebuild of this metaslab goes on, or is planned; the answer is where it stands, which is within the metaslab.
 pub(crate) fn start_in<R: Rack, A: Area>(shard: &mut Shard<R, A>) -> Result<u64, PlanFault>
     requires valid { Valid R.Rack shard.old }
     requires alone { IfSome shard.old.pass (λ (p : Pass). p.kind ≡ Rebuild) }
@@ -220,7 +220,7 @@ fn has_more<R: Rack, A: Area>(shard: &Shard<R, A>) -> bool
     }
 }
 
-/// The rebuild ends, of which nothing is left; the answer is how many errors it has.
+/// The rebuild ends, of which nothing is left; the answer is how many errors it has, a number of 48 bits.
 fn end_in<R: Rack, A: Area>(shard: &mut Shard<R, A>) -> u64
     requires valid { Valid R.Rack shard.old }
     requires running { IsSomeAnd shard.old.pass IsRunningRebuild }
