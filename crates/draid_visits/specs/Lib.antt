@@ -1,2 +1,7 @@
+pub mod Behind
 pub mod Cancelling
+pub mod KeepingStub
+pub mod Rebuilding
 pub mod Says
+pub mod Steps
+pub mod Visiting
