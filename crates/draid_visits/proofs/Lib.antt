@@ -1,1 +1,11 @@
+pub mod AllVisits
 pub mod Cancelled
+pub mod Contents
+pub mod Found
+pub mod Kept
+pub mod Leading
+pub mod Lending
+pub mod Rebuilt
+pub mod SharedStub
+pub mod Visited
+pub mod Waiting

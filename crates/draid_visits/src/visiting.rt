@@ -1,5 +1,5 @@
 //! The visit of one metaslab by a rebuild of a pool: its pass begins, waits until it runs, lends, and ends.
-ghost use Rattle.std.specs.Prelude.{◌≡◌, ◌<◌, ◌≤◌, ◌+◌, ⊥, ℕ, Err, IfOk, IsErrOf, IsSomeAnd, None, OnOk, Option, Some, length};
+ghost use Rattle.std.specs.Prelude.{◌≡◌, ◌<◌, ◌≤◌, ◌+◌, ◌*◌, ⊥, ℕ, IfOk, IsErrOf, IsSomeAnd, None, OnOk, Option, Some, length};
 ghost use Rattle.draid_names.specs.declared.pass_kind.PassKind.TheVariants.{Rebuild};
 ghost use Rattle.draid_spec.specs.Geometry.{metaslab_stripes};
 ghost use Rattle.draid_pass.specs.declared.pass.Pass.{Pass};
@@ -13,7 +13,7 @@ ghost use Rattle.draid_pool.specs.Pools.{Represents};
 ghost use Rattle.draid_pool.specs.Syncing.{Phase, end_of};
 ghost use Rattle.draid_pool.specs.Whole.{IsWhole};
 ghost use Rattle.draid_visits.specs.Steps.{IsRebuiltIn};
-ghost use Rattle.draid_visits.specs.Visiting.{BeganAt, BeginIs, IsAt, IsLeft, IsLow, IsNoScrub, KeepsOthers, LeavesAt, LendIs, PausesAt, VisitIs};
+ghost use Rattle.draid_visits.specs.Visiting.{BeganAt, BeginIs, HasBegun, IsAt, IsLeft, IsLow, IsNoScrub, KeepsOthers, LeavesAt, LendIs, PausesAt, RunIs, VisitIs};
 
 use crate::progress::{Progress, Visit};
 use crate::steps::{Next, next_in, ready_in, start_in};
@@ -105,14 +105,15 @@ fn run<R: Rack, A: Area>(
     ensures paused { PausesAt result progress.new }
     ensures others { KeepsOthers metaslab pool.old pool.new }
     ensures leaves { LeavesAt result pool.new metaslab }
-    ensures began { IsSome progress.new.from }
+    ensures began { HasBegun result progress.new }
     ensures carries { (x : State) → Represents R.Rack A.Area pool.old x
         → CarriesOut R.Rack A.Area pool.new x (λ holds store. (store ≡ x.store) × RunIs x.geometry x.perms metaslab stripe progress.old result progress.new holds) }
 {
+    let from = stripe_of(pool, metaslab, stripe);
     if let Err(why) = run_in(pool, metaslab) {
         return Visit::Stopped { why };
     }
-    progress.begin(stripe_of(pool, metaslab, stripe));
+    progress.begin(from);
     lend_all(pool, metaslab, progress)
 }
 
@@ -136,13 +137,14 @@ fn run_in<R: Rack, A: Area>(pool: &mut Pool<R, A>, metaslab: usize) -> Result<()
     ensures later { AreasLater A.faults pool.old pool.new }
     ensures cause { IsErrOf result SyncFault.Shelf → AreaRose A.faults pool.old pool.new }
     ensures others { KeepsOthers metaslab pool.old pool.new }
-    ensures geometry { pool.new.geometry ≡ pool.old.geometry }
     ensures running { OnOk result (IsAt pool.new metaslab (λ shard. IsSomeAnd shard.pass IsRunningRebuild)) }
     ensures carries { (x : State) → Represents R.Rack A.Area pool.old x
         → CarriesOut R.Rack A.Area pool.new x (Phase x (passes.ReadyPhase x.geometry x.perms Rebuild metaslab) (end_of result)) }
 {
     while !ready_in(&mut pool.metaslabs.shards[metaslab]) {
-        sync(pool)?;
+        if let Err(why) = sync(pool) {
+            return Err(why);
+        }
     }
     Ok(())
 }
