@@ -60,7 +60,7 @@ module _ {R A : Type 0} (rack : racks.Ghosts R) (area : areas.Ghosts A) where
   -- ---- all of them
 
   -- the shard of a metaslab
-  there_in : (pool : Pool R A) (x : State) (r : Represents rack area pool x) (m : ℕ) (y : Metaslab) → slice_get x.metaslabs m ≡ Some y → (shard : Shard R A) × (slice_get pool.metaslabs.shards.items m ≡ Some shard)
+  pub there_in : (pool : Pool R A) (x : State) (r : Represents rack area pool x) (m : ℕ) (y : Metaslab) → slice_get x.metaslabs m ≡ Some y → (shard : Shard R A) × (slice_get pool.metaslabs.shards.items m ≡ Some shard)
   there_in pool x r m y at =
       present pool.metaslabs.shards.items m (let inside = slice_get_within x.metaslabs m y at in let many = r.stands.shards in omega (arith, inside, many))
 

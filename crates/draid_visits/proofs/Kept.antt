@@ -1,5 +1,5 @@
 -- The passes of a pool's metaslabs as one of them changes, or as a group is committed.
-use Rattle.std.proofs.Common.{◌≡◌, ◌<◌, ◌≤◌, ◌+◌, ◌∙◌, inl, inr, ℕ, List, Option, Some, None, arith, refl, sym, ap, subst, length, slice_set}
+use Rattle.std.proofs.Common.{◌≡◌, ◌<◌, ◌≤◌, ◌+◌, ◌-◌, ◌∙◌, inl, inr, ℕ, List, Option, Some, None, arith, refl, sym, ap, subst, length, slice_set}
 use Rattle.std.specs.Prelude.{IsSomeAnd, slice_get}
 use Rattle.std.proofs.lemmas.Bool.{cases_eq}
 use Rattle.std.proofs.lemmas.Option.{slice_get_within}
@@ -7,6 +7,7 @@ use Rattle.draid_rack.specs.declared.Rack as racks
 use Rattle.draid_area.specs.declared.Area as areas
 use Rattle.draid_names.specs.declared.numbers.TheConstants.{LAST_NUMBER}
 use Rattle.draid_names.specs.declared.pass_kind.PassKind.TheVariants.{Rebuild}
+use Rattle.draid_spec.specs.Geometry.{metaslab_stripes}
 use Rattle.draid_pass.specs.declared.pass.Pass.{Pass}
 use Rattle.draid_shard.specs.declared.shard.Shard.{Shard}
 use Rattle.draid_mend.specs.Loans.{IsRunningRebuild}
@@ -92,3 +93,17 @@ module _ {R A : Type 0} (rack : racks.Ghosts R) (area : areas.Ghosts A) where
       let low = own.valid.low in
       let same = own.committed in
       omega (arith, high, low, same)
+
+-- ---- how much is left
+
+abbrev pub place_of : Option Pass → ℕ
+place_of None = 0
+place_of (Some p) = p.«at»
+
+abbrev pub place_in : {R A : Type 0} → Option (Shard R A) → ℕ
+place_in None = 0
+place_in (Some shard) = place_of shard.pass
+
+-- the stripes from where the pass of a metaslab stands
+abbrev pub stripes_left : {R A : Type 0} → Pool R A → ℕ → ℕ
+stripes_left pool m = metaslab_stripes pool.geometry - place_in (slice_get pool.metaslabs.shards.items m)

@@ -2,9 +2,11 @@ pub mod AllVisits
 pub mod Cancelled
 pub mod Contents
 pub mod Found
+pub mod Idle
 pub mod Kept
 pub mod Leading
 pub mod Lending
+pub mod Marking
 pub mod Rebuilt
 pub mod SharedStub
 pub mod Visited

@@ -115,14 +115,14 @@ fn answer(end: Visit, progress: Progress) -> Result<Mended, MendFault>
     ensures { IsAnswer end progress result }
 {
     match end {
-        Visit::Over => Ok(mended(progress, false)),
-        Visit::Paused => Ok(mended(progress, true)),
+        Visit::Over => Ok(done(progress, false)),
+        Visit::Paused => Ok(done(progress, true)),
         Visit::Stopped { why } => Err(fault_of(why)),
     }
 }
 
 /// What was done, where a pass went on.
-fn mended(progress: Progress, paused: bool) -> Mended
+fn done(progress: Progress, paused: bool) -> Mended
     requires { IsSome progress.from }
     ensures { IsMended progress paused result }
 {
