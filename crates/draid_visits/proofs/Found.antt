@@ -1,5 +1,5 @@
 -- What a rebuild of a pool finds as it looks at all metaslabs.
-use Rattle.std.proofs.Common.{◌≡◌, ◌<◌, ◌+◌, ◌++◌, ◌∙◌, [], ◌∷◌, inl, inr, ℕ, zero, suc, Bool, true, false, List, Option, Some, None, arith, refl, sym, ap, subst, length}
+use Rattle.std.proofs.Common.{◌≡◌, ◌<◌, ◌≤◌, ◌+◌, ◌++◌, ◌∙◌, [], ◌∷◌, inl, inr, ℕ, zero, suc, Bool, true, false, List, Option, Some, None, arith, refl, sym, ap, subst, length}
 use Rattle.std.specs.Prelude.{◌↔◌, IfSome, IsSomeAnd, IsTrue, option_map, slice_get, slice_index_or}
 use Rattle.std.proofs.lemmas.Bool.{true≢false}
 use Rattle.std.proofs.lemmas.Option.{slice_get_within}
@@ -23,9 +23,13 @@ use Rattle.draid_pool.specs.Views.{seen_at}
 use Rattle.draid_pool.specs.declared.pool.Pool.{Pool}
 use Rattle.draid_pool.proofs.Lists.{present, some_of}
 use Rattle.draid_pool.proofs.Looking.{none_seen, not_none, seen_there}
+use Rattle.draid_pool.proofs.SyncSteps.{Below, below_all, below_more}
 use Rattle.draid_visits.specs.Rebuilding.{HasScrub, IsLowestScrub}
 use Rattle.draid_visits.specs.Steps.{IsRebuiltIn}
 use Rattle.draid_visits.specs.Visiting.{AreAll, HasMark, IsNoScrub, SeesMarks, SeesNone}
+
+none_before : (m : ℕ) → m ≡ 0 + m
+none_before m = omega arith
 
 -- ---- one metaslab
 
@@ -48,10 +52,24 @@ no_pass {R} {A} shard none rebuilt = by shard.pass none (λ is. rebuilt (inl is)
     by None none rebuild = refl
     by (Some p) none rebuild = absurd (rebuild none)
 
+-- the first so many have none
+abbrev pub NoScrubBelow : {R A : Type 0} → List (Shard R A) → ℕ → Type 0
+NoScrubBelow {R} {A} shards m = Below (λ (shard : Shard R A). IsNoScrub shard) shards m
+
+pub scrub_there : {R A : Type 0} (pool : Pool R A) (m number : ℕ) (shard : Shard R A) → slice_get pool.metaslabs.shards.items m ≡ Some shard → HasScrub number shard → NoScrubBelow pool.metaslabs.shards.items m
+    → IsLowestScrub m number pool
+scrub_there pool m number shard there has below = record { shard = shard; there = there; has = has; lower = λ k n other less at own. no_scrub other n (below k other less at) own }
+
+pub scrub_more : {R A : Type 0} (shards : List (Shard R A)) (m : ℕ) (shard : Shard R A) → slice_get shards m ≡ Some shard → IsNoScrub shard → NoScrubBelow shards m → NoScrubBelow shards (m + 1)
+scrub_more {R} {A} shards m shard there none below = below_more (λ (s : Shard R A). IsNoScrub s) shards m shard there none below
+
+pub no_scrubs : {R A : Type 0} (pool : Pool R A) (m : ℕ) → length pool.metaslabs.shards.items ≤ m → NoScrubBelow pool.metaslabs.shards.items m → AreAll pool IsNoScrub
+no_scrubs {R} {A} pool m end below = below_all (λ (s : Shard R A). IsNoScrub s) pool.metaslabs.shards.items m end below
+
 module _ {R A : Type 0} (rack : racks.Ghosts R) (area : areas.Ghosts A) where
   -- by its state
   pub scrub_unseen : (x : State) (m : ℕ) (shard : Shard R A) (y : Metaslab) (pieces : _) → IsMetaslab rack area (part_in x m) pieces shard y → IsNoScrub shard → (n : ℕ) → passes.HasPassOf Heal (view_of n y) → ⊥
-  scrub_unseen x m shard y pieces is none n (p, (at, kind_is)) = by shard.pass none (sym is.stands.is_in.pass ∙ at)
+  scrub_unseen x m shard y pieces is none n (p, at, kind_is) = by shard.pass none (sym is.stands.is_in.pass ∙ at)
     where
       by : (o : Option Pass) → IfSome o (λ (q : Pass). q.kind ≡ Rebuild) → option_map (pass_in shard.slots) o ≡ Some p → ⊥
       by None none is = absurd (cc)
@@ -98,7 +116,7 @@ module _ {R A : Type 0} (rack : racks.Ghosts R) (area : areas.Ghosts A) where
       lower j s.0 u less s.1 at has))
     where
       lower : (j : ℕ) (s : Shard R A) (u : Metaslab) → j < metaslab → slice_get pool.metaslabs.shards.items j ≡ Some s → slice_get x.metaslabs j ≡ Some u → passes.HasPassOf Heal (view_of (0 + j) u) → ⊥
-      lower j s u less there at (p, (pass, kind_is)) = by s.pass refl (sym (r.stands.each j s u there at).stands.is_in.pass ∙ pass)
+      lower j s u less there at (p, pass, kind_is) = by s.pass refl (sym (r.stands.each j s u there at).stands.is_in.pass ∙ pass)
         where
           by : (o : Option Pass) → s.pass ≡ o → option_map (pass_in s.slots) o ≡ Some p → ⊥
           by None own is = absurd (cc)
@@ -111,8 +129,8 @@ module _ {R A : Type 0} (rack : racks.Ghosts R) (area : areas.Ghosts A) where
   pub some_rebuilt : (pool : Pool R A) (x : State) (marks : List Bool) → Represents rack area pool x → SeesMarks x marks → HasMark pool marks → NoneOf (passes.IsRebuilt x.geometry x.perms) (seen_at 0 x.metaslabs) → ⊥
   some_rebuilt pool x marks r sees has none =
       let z = seen_in pool x r has.metaslab has.inside in
-      not_none (passes.IsRebuilt x.geometry x.perms) (seen_at 0 x.metaslabs) (view_of (0 + has.metaslab) z.0) (seen_there 0 has.metaslab x.metaslabs z.0 z.1) ((sees has.metaslab z.0 z.1).0 has.is) none
+      not_none (passes.IsRebuilt x.geometry x.perms) (seen_at 0 x.metaslabs) (view_of (0 + has.metaslab) z.0) (seen_there 0 has.metaslab x.metaslabs z.0 z.1) (subst (λ k. passes.IsRebuilt x.geometry x.perms (view_of k z.0)) (none_before has.metaslab) ((sees has.metaslab z.0 z.1).0 has.is)) none
 
 -- none is
 pub all_unseen : (x : State) → SeesNone x → NoneOf (passes.IsRebuilt x.geometry x.perms) (seen_at 0 x.metaslabs)
-all_unseen x none = none_seen (passes.IsRebuilt x.geometry x.perms) 0 x.metaslabs (λ k y at is. none k y at is)
+all_unseen x none = none_seen (passes.IsRebuilt x.geometry x.perms) 0 x.metaslabs (λ k y at is. none k y at (subst (λ j. passes.IsRebuilt x.geometry x.perms (view_of j y)) (sym (none_before k)) is))

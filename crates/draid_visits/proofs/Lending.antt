@@ -53,10 +53,10 @@ kept_back g p m holds how says k so = record { v = k.v; are = k.are; there = k.t
 
 -- the test of what is left
 pub used : (b : Bool) (left : Option ℕ) → IsTrue b ↔ (left ≡ Some 0) → b ≡ true → passes.IsUsedUp left
-used b left is yes = is.0 yes
+used b left is set = is.0 set
 
 pub unused : (b : Bool) (left : Option ℕ) → IsTrue b ↔ (left ≡ Some 0) → b ≡ false → passes.IsUsedUp left → ⊥
-unused b left is no up = true≢false (sym (is.1 up) ∙ no)
+unused b left is unset up = true≢false (sym (is.1 up) ∙ unset)
 
 module _ {R A : Type 0} (rack : racks.Ghosts R) (area : areas.Ghosts A) (m : ℕ) (old : Progress) where
   abbrev pub Lending : Progress → Pool R A → State → Type 0

@@ -55,8 +55,8 @@ module _ {R A : Type 0} (rack : racks.Ghosts R) (area : areas.Ghosts A) where
   -- all are marked, or not
   pub are_marks : (pool : Pool R A) (marks : List Bool) → ((k : ℕ) (shard : Shard R A) → slice_get pool.metaslabs.shards.items k ≡ Some shard → Marked shard (slice_index_or marks k false)) → AreMarks pool marks
   are_marks pool marks all k shard there = record {
-    some = λ yes. (all k shard there).is.0 yes;
-    none = λ no rebuilt. true≢false (sym ((all k shard there).is.1 rebuilt) ∙ no);
+    some = λ set. (all k shard there).is.0 set;
+    none = λ unset rebuilt. true≢false (sym ((all k shard there).is.1 rebuilt) ∙ unset);
   }
 
   pub sees_marks : (pool : Pool R A) (marks : List Bool) → ((k : ℕ) (shard : Shard R A) → slice_get pool.metaslabs.shards.items k ≡ Some shard → Marked shard (slice_index_or marks k false))

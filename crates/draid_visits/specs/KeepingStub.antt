@@ -1,5 +1,5 @@
 -- What a call keeps of each metaslab of a pool, whatever is known of it.
-use Rattle.std.specs.Prelude.{◌≡◌, ⊤, ⊥, ℕ, Option, None, Some, length, slice_get}
+use Rattle.std.specs.Prelude.{◌≡◌, ⊤, ℕ, Option, None, Some, length, slice_get}
 use Rattle.draid_pass.specs.declared.pass.Pass.{Pass}
 use Rattle.draid_shard.specs.declared.shard.Shard.{Shard}
 use Rattle.draid_pool.specs.declared.pool.Pool.{Pool}

@@ -1,5 +1,5 @@
 //! The metaslabs that a rebuild of a pool visits.
-ghost use Rattle.std.specs.Prelude.{◌≡◌, ⊥, ℕ, IfNone, IfSome, length};
+ghost use Rattle.std.specs.Prelude.{◌≡◌, ℕ, IfNone, IfSome, length};
 ghost use Rattle.draid_session.specs.State.{State};
 ghost use Rattle.draid_pool.specs.Pools.{Represents};
 ghost use Rattle.draid_pool.specs.Whole.{IsWhole};

@@ -1,5 +1,5 @@
 //! The visit of one metaslab by a rebuild of a pool: its pass begins, waits until it runs, lends, and ends.
-ghost use Rattle.std.specs.Prelude.{◌≡◌, ◌<◌, ◌≤◌, ◌+◌, ◌*◌, ⊥, ℕ, IfOk, IsErrOf, IsSomeAnd, None, OnOk, Option, Some, length};
+ghost use Rattle.std.specs.Prelude.{◌≡◌, ◌<◌, ◌≤◌, ◌+◌, ◌*◌, ℕ, IfOk, IsErrOf, IsSomeAnd, None, OnOk, Option, Some, length};
 ghost use Rattle.draid_names.specs.declared.pass_kind.PassKind.TheVariants.{Rebuild};
 ghost use Rattle.draid_spec.specs.Geometry.{metaslab_stripes};
 ghost use Rattle.draid_pass.specs.declared.pass.Pass.{Pass};
