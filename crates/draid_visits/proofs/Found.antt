@@ -110,10 +110,11 @@ module _ {R A : Type 0} (rack : racks.Ghosts R) (area : areas.Ghosts A) where
   sees_lowest pool x metaslab number r low =
       let z = seen_in pool x r metaslab (slice_get_within pool.metaslabs.shards.items metaslab low.shard low.there) in
       let is : IsMetaslab rack area (part_in x metaslab) (r.stands.pieces metaslab) low.shard z.0 = r.stands.each metaslab low.shard z.0 low.there z.1 in
-      lowest_seen 0 metaslab number x.metaslabs z.0 (pass_in low.shard.slots low.has.pass) z.1 (is.stands.is_in.pass ∙ ap (option_map (pass_in low.shard.slots)) low.has.has) low.has.kind_is low.has.number_is
+      subst (λ k. passes.IsLowestPassOf Heal (seen_at 0 x.metaslabs) k number) (sym (none_before metaslab))
+      (lowest_seen 0 metaslab number x.metaslabs z.0 (pass_in low.shard.slots low.has.pass) z.1 (is.stands.is_in.pass ∙ ap (option_map (pass_in low.shard.slots)) low.has.has) low.has.kind_is low.has.number_is
       (λ j u less at has.
       (let s = there_in pool x r j u at in
-      lower j s.0 u less s.1 at has))
+      lower j s.0 u less s.1 at has)))
     where
       lower : (j : ℕ) (s : Shard R A) (u : Metaslab) → j < metaslab → slice_get pool.metaslabs.shards.items j ≡ Some s → slice_get x.metaslabs j ≡ Some u → passes.HasPassOf Heal (view_of (0 + j) u) → ⊥
       lower j s u less there at (p, pass, kind_is) = by s.pass refl (sym (r.stands.each j s u there at).stands.is_in.pass ∙ pass)

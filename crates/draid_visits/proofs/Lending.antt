@@ -18,7 +18,10 @@ use Rattle.draid_visits.specs.Visiting.{LendIs, tally_of}
 use Rattle.draid_visits.specs.declared.progress.Progress.{Progress}
 use Rattle.draid_visits.specs.declared.progress.Visit.{Visit}
 use Rattle.draid_visits.specs.declared.progress.Visit.TheVariants as visit
-use Rattle.draid_visits.proofs.Leading.{Does, Leads, Steps, leads_end, leads_none, leads_on}
+use Rattle.draid_visits.specs.Steps.{NextIs}
+use Rattle.draid_visits.specs.declared.steps.Next.{Next}
+use Rattle.draid_visits.specs.declared.steps.Next.TheVariants as next
+use Rattle.draid_visits.proofs.Leading.{Does, Leads, Says, Steps, leads_end, leads_on}
 
 -- how loans end: with what outcome, what is left of the limit, and what was done
 pub record Ending : Type 0 where
@@ -62,48 +65,51 @@ module _ {R A : Type 0} (rack : racks.Ghosts R) (area : areas.Ghosts A) (m : ℕ
   abbrev pub Lending : Progress → Pool R A → State → Type 0
   Lending at pool x = Leads rack area {I = Ending} (SomeLends x.geometry x.perms m old) (SomeLends x.geometry x.perms m at) pool x
 
+  -- what comes next in the metaslab
+  abbrev pub NextSays : Bool → Next → Says
+  NextSays up result g p holds = NextIs (record { geometry = g; perms = p; number = m }) up result holds
+
   -- one more
-  pub lends_more : (mid new : Pool R A) (x : State) (at now : Progress) → Lending at mid x → (passes.IsUsedUp at.left → ⊥) → now ≡ counted at
-      → Steps rack area mid new (λ g p holds. passes.LendsOne g p Rebuild m 0 holds []) → Lending now new x
-  lends_more mid new x at now l some counts step =
+  pub lends_more : (mid new : Pool R A) (x : State) (at now : Progress) (up : Bool) → IsTrue up ↔ (at.left ≡ Some 0) → Lending at mid x → now ≡ counted at → Steps rack area mid new (NextSays up next.Landed) → Lending now new x
+  lends_more mid new x at now up test l counts step =
       subst (λ (q : Progress). Lending q new x) (sym counts)
-      (leads_on rack area (SomeLends x.geometry x.perms m old) (SomeLends x.geometry x.perms m at) (SomeLends x.geometry x.perms m (counted at)) (λ g p holds. passes.LendsOne g p Rebuild m 0 holds []) mid new x l step
-      (λ e front rest. lent_then x.geometry x.perms m at e front rest some))
+      (leads_on rack area (SomeLends x.geometry x.perms m old) (SomeLends x.geometry x.perms m at) (SomeLends x.geometry x.perms m (counted at)) (NextSays up next.Landed) mid new x l step
+      (λ e front rest d. lent_then x.geometry x.perms m at e front rest (unused up at.left test d.0) d.1))
 
   -- the pass ended
-  pub lends_end : (mid new : Pool R A) (x : State) (at now : Progress) (errors : ℕ) → Lending at mid x → now ≡ record at { errors = at.errors + errors }
-      → Steps rack area mid new (λ g p holds. passes.EndsPass g p m errors holds) → CarriesOut rack area new x (Does x (LendIs x.geometry x.perms m old visit.Over now))
-  lends_end mid new x at now errors l ended step =
-      leads_end rack area (SomeLends x.geometry x.perms m old) (SomeLends x.geometry x.perms m at) (λ g p holds. passes.EndsPass g p m errors holds) mid new x
-      (record { o = passes.Ended; after = now.left; tally = tally_of now }) l step
-      (λ holds ends. (0, ((errors, ends, ap tally_of ended), ap (λ (q : Progress). q.left) ended)))
+  pub lends_end : (mid new : Pool R A) (x : State) (at : Progress) (errors : ℕ) (up : Bool) → Lending at mid x → Steps rack area mid new (NextSays up (next.Ended errors))
+      → CarriesOut rack area new x (Does x (LendIs x.geometry x.perms m old visit.Over (record at { errors = at.errors + errors })))
+  lends_end mid new x at errors up l step =
+      leads_end rack area (SomeLends x.geometry x.perms m old) (SomeLends x.geometry x.perms m at) (NextSays up (next.Ended errors)) mid new x
+      (record { o = passes.Ended; after = at.left; tally = passes.has_ended errors (tally_of at) }) l step
+      (λ holds ends. (0, ((errors, ends, refl), refl)))
 
   -- the limit is used up
-  pub lends_paused : (mid new : Pool R A) (x : State) (at : Progress) → Lending at mid x → passes.IsUsedUp at.left → Steps rack area mid new (λ g p holds. passes.KeepsBack g p m holds (λ v. ⊤))
+  pub lends_paused : (mid new : Pool R A) (x : State) (at : Progress) (up : Bool) → IsTrue up ↔ (at.left ≡ Some 0) → Lending at mid x → Steps rack area mid new (NextSays up next.Paused)
       → CarriesOut rack area new x (Does x (LendIs x.geometry x.perms m old visit.Paused at))
-  lends_paused mid new x at l up step =
-      leads_end rack area (SomeLends x.geometry x.perms m old) (SomeLends x.geometry x.perms m at) (λ g p holds. passes.KeepsBack g p m holds (λ v. ⊤)) mid new x
+  lends_paused mid new x at up test l step =
+      leads_end rack area (SomeLends x.geometry x.perms m old) (SomeLends x.geometry x.perms m at) (NextSays up next.Paused) mid new x
       (record { o = passes.Paused; after = at.left; tally = tally_of at }) l step
-      (λ holds k. (0, ((kept_back x.geometry x.perms m holds (λ v. ⊤) (λ v. passes.IsUsedUp at.left) k (λ v any. up), refl), refl)))
+      (λ holds d. (0, ((kept_back x.geometry x.perms m holds (λ v. ⊤) (λ v. passes.IsUsedUp at.left) d.1 (λ v any. used up at.left test d.0), refl), refl)))
 
   -- it was stopped
-  pub lends_worn : (mid new : Pool R A) (x : State) (at now : Progress) → Lending at mid x → (passes.IsUsedUp at.left → ⊥)
-      → Steps rack area mid new (λ g p holds. passes.KeepsBack g p m holds (passes.LendIsWorn g p)) → CarriesOut rack area new x (Does x (LendIs x.geometry x.perms m old (visit.Stopped sync.Worn) now))
-  lends_worn mid new x at now l some step =
-      so (leads_end rack area (SomeLends x.geometry x.perms m old) (SomeLends x.geometry x.perms m at) (λ g p holds. passes.KeepsBack g p m holds (passes.LendIsWorn g p)) mid new x
+  pub lends_worn : (mid new : Pool R A) (x : State) (at now : Progress) (up : Bool) → IsTrue up ↔ (at.left ≡ Some 0) → Lending at mid x → Steps rack area mid new (NextSays up next.Worn)
+      → CarriesOut rack area new x (Does x (LendIs x.geometry x.perms m old (visit.Stopped sync.Worn) now))
+  lends_worn mid new x at now up test l step =
+      so (leads_end rack area (SomeLends x.geometry x.perms m old) (SomeLends x.geometry x.perms m at) (NextSays up next.Worn) mid new x
       (record { o = passes.Stopped WasWorn; after = at.left; tally = tally_of at }) l step
-      (λ holds k. (0, ((kept_back x.geometry x.perms m holds (passes.LendIsWorn x.geometry x.perms) (λ v. (passes.IsUsedUp at.left → ⊥) × passes.LendIsWorn x.geometry x.perms v) k (λ v worn. (some, worn)), refl), refl))))
+      (λ holds d. (0, ((kept_back x.geometry x.perms m holds (passes.LendIsWorn x.geometry x.perms) (λ v. (passes.IsUsedUp at.left → ⊥) × passes.LendIsWorn x.geometry x.perms v) d.1 (λ v worn. (unused up at.left test d.0, worn)), refl), refl))))
     where
       so : CarriesOut rack area new x (Does x (SomeLends x.geometry x.perms m old (record { o = passes.Stopped WasWorn; after = at.left; tally = tally_of at })))
           → CarriesOut rack area new x (Does x (LendIs x.geometry x.perms m old (visit.Stopped sync.Worn) now))
       so c = record { holds = c.holds; reached = c.reached; store = c.store; follows = c.follows; done = (c.done.0, (c.done.1.0, at.left, tally_of at, c.done.1.1)); represents = c.represents }
 
-  pub lends_starved : (mid new : Pool R A) (x : State) (at now : Progress) → Lending at mid x → (passes.IsUsedUp at.left → ⊥)
-      → Steps rack area mid new (λ g p holds. passes.KeepsBack g p m holds (λ v. ⊤)) → CarriesOut rack area new x (Does x (LendIs x.geometry x.perms m old (visit.Stopped sync.NoMemory) now))
-  lends_starved mid new x at now l some step =
-      so (leads_end rack area (SomeLends x.geometry x.perms m old) (SomeLends x.geometry x.perms m at) (λ g p holds. passes.KeepsBack g p m holds (λ v. ⊤)) mid new x
+  pub lends_starved : (mid new : Pool R A) (x : State) (at now : Progress) (up : Bool) → IsTrue up ↔ (at.left ≡ Some 0) → Lending at mid x → Steps rack area mid new (NextSays up next.NoMemory)
+      → CarriesOut rack area new x (Does x (LendIs x.geometry x.perms m old (visit.Stopped sync.NoMemory) now))
+  lends_starved mid new x at now up test l step =
+      so (leads_end rack area (SomeLends x.geometry x.perms m old) (SomeLends x.geometry x.perms m at) (NextSays up next.NoMemory) mid new x
       (record { o = passes.Stopped Starved; after = at.left; tally = tally_of at }) l step
-      (λ holds k. (0, ((inl (kept_back x.geometry x.perms m holds (λ v. ⊤) (λ v. passes.IsUsedUp at.left → ⊥) k (λ v any. some)), refl), refl))))
+      (λ holds d. (0, ((inl (kept_back x.geometry x.perms m holds (λ v. ⊤) (λ v. passes.IsUsedUp at.left → ⊥) d.1 (λ v any. unused up at.left test d.0)), refl), refl))))
     where
       so : CarriesOut rack area new x (Does x (SomeLends x.geometry x.perms m old (record { o = passes.Stopped Starved; after = at.left; tally = tally_of at })))
           → CarriesOut rack area new x (Does x (LendIs x.geometry x.perms m old (visit.Stopped sync.NoMemory) now))

@@ -40,12 +40,12 @@ begins limit = record { left = limit; from = None; stripes = 0; errors = 0 }
 -- what is left of it says what was lent
 within_paused : (limit : Option ℕ) (p : Progress) → IsLeft limit p → p.left ≡ Some 0 → IsWithin limit p.stripes true
 within_paused None p left up = absurd (let no : None ≡ Some 0 = sym left ∙ up in cc)
-within_paused (Some n) p (k, (own, all)) up =
+within_paused (Some n) p (k, own, all) up =
     (let none : k ≡ 0 = (let same : Some k ≡ Some 0 = sym own ∙ up in cc) in omega (arith, none, all))
 
 within_over : (limit : Option ℕ) (p : Progress) → IsLeft limit p → IsWithin limit p.stripes false
 within_over None p left = refl
-within_over (Some n) p (k, (own, all)) = omega (arith, all)
+within_over (Some n) p (k, own, all) = omega (arith, all)
 
 pub is_within : (limit : Option ℕ) (end : Visit) (p : Progress) (it : Mended) → IsLeft limit p → PausesAt end p → IsAnswer end p (Ok it) → IsWithin limit it.stripes it.paused
 is_within limit visit.Over p it left pauses is =
@@ -172,12 +172,12 @@ module _ {R A : Type 0} (rack : racks.Ghosts R) (area : areas.Ghosts A) where
 
     answers : (end : Visit) (p : Progress) (result : Result Mended MendFault) → IsAnswer end p result → (holds : List Hold) (store : Store) → VisitsDo x (begins limit) end p holds store
         → RebuildDoes x limit result (looks_at 0 x.metaslabs ++ holds) store
-    answers visit.Over p (Ok it) is holds store (kept, (t, tells, visits)) = (kept, mended_so p it false t holds is tells visits)
+    answers visit.Over p (Ok it) is holds store (kept, t, tells, visits) = (kept, mended_so p it false t holds is tells visits)
     answers visit.Over p (Err why) is holds store does = absurd is
-    answers visit.Paused p (Ok it) is holds store (kept, (t, tells, visits)) = (kept, mended_so p it true t holds is tells visits)
+    answers visit.Paused p (Ok it) is holds store (kept, t, tells, visits) = (kept, mended_so p it true t holds is tells visits)
     answers visit.Paused p (Err why) is holds store does = absurd is
     answers (visit.Stopped why) p (Ok it) is holds store does = absurd is
-    answers (visit.Stopped why) p (Err cause) is holds store (kept, (t, tells, visits)) =
+    answers (visit.Stopped why) p (Err cause) is holds store (kept, t, tells, visits) =
         subst (λ c. RebuildDoes x limit (Err c) (looks_at 0 x.metaslabs ++ holds) store) (sym is) (stopped_so why t holds store kept visits)
 
     pub answered : (end : Visit) (p : Progress) (result : Result Mended MendFault) → IsAnswer end p result → CarriesOut rack area new x (VisitsDo x (begins limit) end p) → CarriesOut rack area new x (RebuildDoes x limit result)

@@ -141,12 +141,15 @@ fn run_in<R: Rack, A: Area>(pool: &mut Pool<R, A>, metaslab: usize) -> Result<()
     ensures carries { (x : State) → Represents R.Rack A.Area pool.old x
         → CarriesOut R.Rack A.Area pool.new x (Phase x (passes.ReadyPhase x.geometry x.perms Rebuild metaslab) (end_of result)) }
 {
-    while !ready_in(&mut pool.metaslabs.shards[metaslab]) {
-        if let Err(why) = sync(pool) {
-            return Err(why);
+    loop {
+        if ready_in(&mut pool.metaslabs.shards[metaslab]) {
+            return Ok(());
+        }
+        match sync(pool) {
+            Ok(_) => {}
+            Err(why) => return Err(why),
         }
     }
-    Ok(())
 }
 
 /// Lends stripes of a metaslab where a rebuild runs, until nothing is left and it ends, or no more may be lent.

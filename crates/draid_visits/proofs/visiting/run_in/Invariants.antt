@@ -12,8 +12,8 @@ use Rattle.draid_visits.specs.Visiting.{IsAt, KeepsOthers}
 use Rattle.draid_visits.proofs.Waiting.{Waiting}
 use Rattle.draid_visits.proofs.visiting.run_in.Given as goal
 
-abbrev pub invariant-loop-pool : goal.invariant-loop-pool
-invariant-loop-pool g l = record {
+abbrev pub invariant-loop-metaslab : goal.invariant-loop-metaslab
+invariant-loop-metaslab g l = record {
   whole : IsWhole g.R.Rack g.A.Area l.pool;
   many : length l.pool.metaslabs.shards.items ≡ length l.initial.pool.metaslabs.shards.items;
   rebuild : IsAt l.pool l.metaslab (λ shard. IsSomeAnd shard.pass (λ (pass : Pass). pass.kind ≡ Rebuild));
@@ -23,5 +23,5 @@ invariant-loop-pool g l = record {
   carries : (x : State) → Represents g.R.Rack g.A.Area l.initial.pool x → Waiting g.R.Rack g.A.Area l.metaslab l.pool x;
 }
 
-abbrev pub decreases-loop-pool : goal.decreases-loop-pool
-decreases-loop-pool g l = LAST_NUMBER - group_in l.pool
+abbrev pub decreases-loop-metaslab : goal.decreases-loop-metaslab
+decreases-loop-metaslab g l = LAST_NUMBER - group_in l.pool
