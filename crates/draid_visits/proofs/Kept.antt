@@ -162,7 +162,7 @@ errors_fit m was errors low bound less = (let all = low.errors in omega (arith, 
 
 pub left_same : (limit : Option ℕ) (was now : Progress) → now.left ≡ was.left → now.stripes ≡ was.stripes → IsLeft limit was → IsLeft limit now
 left_same None was now left stripes is = left ∙ is
-left_same (Some n) was now left stripes (k, own, all) = (k, (left ∙ own, ap (λ s. s + k) stripes ∙ all))
+left_same (Some n) was now left stripes (k, own, all) = (k, left ∙ own, ap (λ s. s + k) stripes ∙ all)
 
 pub left_counted : (limit : Option ℕ) (was now : Progress) → (was.left ≡ Some 0 → ⊥) → now ≡ counted was → IsLeft limit was → IsLeft limit now
 left_counted limit was now some is left = subst (IsLeft limit) (sym is) (by limit left)
@@ -170,7 +170,7 @@ left_counted limit was now some is left = subst (IsLeft limit) (sym is) (by limi
     by : (o : Option ℕ) → IsLeft o was → IsLeft o (counted was)
     by None none = ap passes.one_less none
     by (Some n) (zero, own, all) = absurd (some own)
-    by (Some n) (suc k, own, all) = (k, (ap passes.one_less own ∙ one_back k, omega (arith, all)))
+    by (Some n) (suc k, own, all) = (k, ap passes.one_less own ∙ one_back k, omega (arith, all))
       where
         one_back : (j : ℕ) → Some (suc j - 1) ≡ Some j
         one_back j = ap (λ i. Some i) (let same : suc j - 1 ≡ j = omega arith in same)

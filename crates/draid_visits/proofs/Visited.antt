@@ -1,9 +1,15 @@
 -- The visit of one metaslab: its pass begins, is made to run, and lends.
-use Rattle.std.proofs.Common.{◌≡◌, ◌≢◌, ◌+◌, ◌*◌, ◌++◌, ◌∙◌, inl, inr, ℕ, List, Option, Some, None, Result, Ok, Err, refl, sym, ap, subst}
+use Rattle.std.proofs.Common.{◌≡◌, ◌<◌, ◌≤◌, ◌+◌, ◌*◌, ◌^◌, ◌++◌, ◌∙◌, inl, inr, ℕ, List, Option, Some, None, arith, mul-le-mul, refl, sym, ap, subst}
+use Rattle.std.specs.Prelude.{IsSome, IsSomeAnd}
 use Rattle.std.proofs.lemmas.List.{append_assoc}
 use Rattle.draid_rack.specs.declared.Rack as racks
 use Rattle.draid_area.specs.declared.Area as areas
 use Rattle.draid_names.specs.declared.pass_kind.PassKind.TheVariants.{Rebuild}
+use Rattle.draid_machine.proofs.Small.{none_some}
+use Rattle.draid_pass.specs.declared.pass.Pass.{Pass}
+use Rattle.draid_passing.specs.Passing.{IsPlanRefused}
+use Rattle.draid_passing.specs.declared.fault.PlanFault.TheVariants as plan
+use Rattle.draid_shard.specs.declared.shard.Shard.{Shard}
 use Rattle.draid_perm.specs.declared.perms.Perms.{Perms}
 use Rattle.draid_spec.specs.declared.layout.Geometry.{Geometry}
 use Rattle.draid_spec.specs.Geometry.{metaslab_stripes}
@@ -16,10 +22,13 @@ use Rattle.draid_pool.specs.declared.fault.SyncFault.{SyncFault}
 use Rattle.draid_pool.specs.declared.fault.SyncFault.TheVariants as sync
 use Rattle.draid_pool.specs.declared.pool.Pool.{Pool}
 use Rattle.draid_pool.proofs.SyncSteps.{not_went}
-use Rattle.draid_visits.specs.Visiting.{BeginIs, LendIs, RunIs, Runs, VisitIs, end_by, outcome_by, tally_of}
+use Rattle.draid_visits.specs.Steps.{IsRebuiltIn}
+use Rattle.draid_visits.specs.Visiting.{BeganAt, BeginIs, HasBegun, IsLeft, IsLow, LendIs, RunIs, Runs, VisitIs, end_by, outcome_by, tally_of}
 use Rattle.draid_visits.specs.declared.progress.Progress.{Progress}
 use Rattle.draid_visits.specs.declared.progress.Visit.{Visit}
 use Rattle.draid_visits.specs.declared.progress.Visit.TheVariants as visit
+use Rattle.draid_visits.specs.declared.visiting.Begun.TheVariants as start
+use Rattle.draid_visits.proofs.Kept.{left_same}
 use Rattle.draid_visits.proofs.Leading.{Steps, steps_as, steps_then}
 
 -- a pass went on at a stripe of the pool
@@ -96,17 +105,62 @@ module _ {R A : Type 0} (rack : racks.Ghosts R) (area : areas.Ghosts A) (m : ℕ
   ran_none old new place was now why step =
       steps_as rack area (λ g p holds. passes.ReadyPhase g p Rebuild m holds (end_by why)) (λ g p holds. RunIs g p m place was (visit.Stopped why) now holds) old new step (λ g p holds ready. inr ready)
 
-  pub visited_on : (old mid new : Pool R A) (place : ℕ) (was now : Progress) (result : Visit) → Steps rack area old mid (λ g p holds. BeginIs g p m (Ok (Some place)) holds)
+  pub visited_on : (old mid new : Pool R A) (place : ℕ) (was now : Progress) (result : Visit) → Steps rack area old mid (λ g p holds. BeginIs g p m (start.At place) holds)
       → Steps rack area mid new (λ g p holds. RunIs g p m place was result now holds) → Steps rack area old new (λ g p holds. VisitIs g p m was result now holds)
   visited_on old mid new place was now result first second =
-      steps_then rack area (λ g p holds. BeginIs g p m (Ok (Some place)) holds) (λ g p holds. RunIs g p m place was result now holds) (λ g p holds. VisitIs g p m was result now holds) old mid new first second
+      steps_then rack area (λ g p holds. BeginIs g p m (start.At place) holds) (λ g p holds. RunIs g p m place was result now holds) (λ g p holds. VisitIs g p m was result now holds) old mid new first second
       (λ x front back r starts runs. visit_so x.geometry x.perms m place was now result front back starts runs)
 
-  pub visited_none : (old new : Pool R A) (was : Progress) → Steps rack area old new (λ g p holds. BeginIs g p m (Ok None) holds) → Steps rack area old new (λ g p holds. VisitIs g p m was visit.Over was holds)
+  pub visited_none : (old new : Pool R A) (was : Progress) → Steps rack area old new (λ g p holds. BeginIs g p m start.Nothing holds) → Steps rack area old new (λ g p holds. VisitIs g p m was visit.Over was holds)
   visited_none old new was step =
-      steps_as rack area (λ g p holds. BeginIs g p m (Ok None) holds) (λ g p holds. VisitIs g p m was visit.Over was holds) old new step (λ g p holds passed. inr (refl, passed))
+      steps_as rack area (λ g p holds. BeginIs g p m start.Nothing holds) (λ g p holds. VisitIs g p m was visit.Over was holds) old new step (λ g p holds passed. inr (refl, passed))
 
-  pub visit_stops : (old new : Pool R A) (was now : Progress) (why : SyncFault) → Steps rack area old new (λ g p holds. BeginIs g p m (Err why) holds)
+  pub visit_stops : (old new : Pool R A) (was now : Progress) (why : SyncFault) → Steps rack area old new (λ g p holds. BeginIs g p m (start.Stopped why) holds)
       → Steps rack area old new (λ g p holds. VisitIs g p m was (visit.Stopped why) now holds)
   visit_stops old new was now why step =
-      steps_as rack area (λ g p holds. BeginIs g p m (Err why) holds) (λ g p holds. VisitIs g p m was (visit.Stopped why) now holds) old new step (λ g p holds none. inr (stops_at g p m holds why none))
+      steps_as rack area (λ g p holds. BeginIs g p m (start.Stopped why) holds) (λ g p holds. VisitIs g p m was (visit.Stopped why) now holds) old new step (λ g p holds none. inr (stops_at g p m holds why none))
+
+-- ---- what was done so far
+
+pub low_begun : (m stripe : ℕ) (was now : Progress) → now ≡ begun stripe was → IsLow m was → IsLow m now
+low_begun m stripe was now is low = subst (IsLow m) (sym is) (record { stripes = low.stripes; errors = low.errors })
+
+pub left_begun : (limit : Option ℕ) (stripe : ℕ) (was now : Progress) → now ≡ begun stripe was → IsLeft limit was → IsLeft limit now
+left_begun limit stripe was now is left = subst (IsLeft limit) (sym is) (left_same limit was (begun stripe was) refl refl left)
+
+first_some : (o : Option ℕ) (n : ℕ) → IsSome (passes.first_from o n)
+first_some None n = tt
+first_some (Some k) n = tt
+
+pub begun_so : (result : Visit) (stripe : ℕ) (was now new : Progress) → now ≡ begun stripe was → new.from ≡ now.from → HasBegun result new
+begun_so visit.Over stripe was now new is same = subst IsSome (sym (same ∙ ap (λ (q : Progress). q.from) is)) (first_some was.from stripe)
+begun_so visit.Paused stripe was now new is same = subst IsSome (sym (same ∙ ap (λ (q : Progress). q.from) is)) (first_some was.from stripe)
+begun_so (visit.Stopped why) stripe was now new is same = tt
+
+pub began_so : {R A : Type 0} (result : Visit) (pool : Pool R A) (m : ℕ) (old new : Progress) → HasBegun result new → BeganAt pool m old result new
+began_so visit.Over pool m old new has = inl has
+began_so visit.Paused pool m old new has = has
+began_so (visit.Stopped why) pool m old new has = tt
+
+-- a visit that a device stopped
+pub shelf_so : (why : SyncFault) → visit.Stopped why ≡ visit.Stopped sync.Shelf → why ≡ sync.Shelf
+shelf_so sync.Worn is = absurd (cc is)
+shelf_so sync.Last is = absurd (cc is)
+shelf_so sync.Shelf is = refl
+shelf_so sync.NoMemory is = absurd (cc is)
+
+-- ---- one metaslab, as its pass begins
+
+pub lacks_so : {R A : Type 0} (shard : Shard R A) → IsPlanRefused shard Rebuild plan.Nothing → IsRebuiltIn shard → ⊥
+lacks_so shard refused (inl rebuild) = subst (λ o. IsSomeAnd o (λ (p : Pass). p.kind ≡ Rebuild)) refused.0 rebuild
+lacks_so shard refused (inr has) = has refused.1
+
+pub not_running : {R A : Type 0} (shard : Shard R A) (number : ℕ) → IsPlanRefused shard Rebuild (plan.PassRunning number) → shard.pass ≡ None → ⊥
+not_running shard number refused none = none_some shard.pass refused.0 none refused.1
+
+-- ---- numbers
+
+pub stripe_fits : (m most n stripe : ℕ) → m < 64 → n ≡ most → most ≤ 2 ^ 28 → stripe ≤ most → m * n + stripe < 2 ^ 64
+stripe_fits m most n stripe few same bound inside =
+    let all : m * n ≤ 64 * 2 ^ 28 = mul-le-mul (let less : m ≤ 64 = omega (arith, few) in less) (let low : n ≤ 2 ^ 28 = omega (arith, same, bound) in low) in
+    omega (arith, all, bound, inside)

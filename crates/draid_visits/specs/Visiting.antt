@@ -1,8 +1,9 @@
 -- The visit of one metaslab by a rebuild of a pool, and how visits follow one another.
-use Rattle.std.specs.Prelude.{◌≡◌, ◌≢◌, ◌<◌, ◌≤◌, ◌+◌, ◌++◌, ◌*◌, ◌^◌, ◌↔◌, ◌⊎◌, ⊤, ℕ, Bool, true, false, List, Option, None, Some, Result, Ok, Err, IfSome, IsSome, IsTrue, length, slice_get, slice_index_or}
+use Rattle.std.specs.Prelude.{◌≡◌, ◌≢◌, ◌<◌, ◌≤◌, ◌+◌, ◌++◌, ◌*◌, ◌^◌, ◌↔◌, ◌⊎◌, ⊤, ℕ, Bool, true, false, List, Option, None, Some, Err, IfSome, IsSome, IsSomeAnd, IsTrue, length, slice_get, slice_index_or}
 use Rattle.draid_names.specs.declared.pass_kind.PassKind.TheVariants.{Rebuild}
 use Rattle.draid_perm.specs.declared.perms.Perms.{Perms}
 use Rattle.draid_spec.specs.declared.layout.Geometry.{Geometry}
+use Rattle.draid_spec.specs.Geometry.{metaslab_stripes}
 use Rattle.draid_pass.specs.declared.pass.Pass.{Pass}
 use Rattle.draid_shard.specs.declared.shard.Shard.{Shard}
 use Rattle.draid_mend.specs.Loans.{IsRunningRebuild}
@@ -13,12 +14,15 @@ use Rattle.draid_session.specs.State.{Metaslab, State, Store}
 use Rattle.draid_pool.specs.Syncing.{Phase, end_of}
 use Rattle.draid_pool.specs.Views.{seen_at}
 use Rattle.draid_pool.specs.declared.fault.SyncFault.{SyncFault}
+use Rattle.draid_pool.specs.declared.fault.SyncFault.TheVariants as sync
 use Rattle.draid_pool.specs.declared.pool.Pool.{Pool}
 use Rattle.draid_visits.specs.KeepingStub.{KeepsPass}
 use Rattle.draid_visits.specs.Steps.{IsRebuiltIn}
 use Rattle.draid_visits.specs.declared.progress.Progress.{Progress}
 use Rattle.draid_visits.specs.declared.progress.Visit.{Visit}
 use Rattle.draid_visits.specs.declared.progress.Visit.TheVariants as visit
+use Rattle.draid_visits.specs.declared.visiting.Begun.{Begun}
+use Rattle.draid_visits.specs.declared.visiting.Begun.TheVariants as begun
 
 -- ---- what was done so far
 
@@ -65,10 +69,16 @@ outcome_by visit.Paused = passes.Paused
 outcome_by (visit.Stopped why) = passes.Stopped (end_by why)
 
 -- A pass goes on or is planned at a stripe, or none is, since there is no target; or why it can't be.
-abbrev pub BeginIs : Geometry → Perms → ℕ → Result (Option ℕ) SyncFault → List Hold → Type 0
-BeginIs geometry perms m (Ok (Some place)) holds = passes.Starts geometry perms Rebuild m place holds Went
-BeginIs geometry perms m (Ok None) holds = passes.PassesOver geometry perms m holds
-BeginIs geometry perms m (Err why) holds = passes.PlansNone geometry perms Rebuild m holds (end_by why)
+abbrev pub BeginIs : Geometry → Perms → ℕ → Begun → List Hold → Type 0
+BeginIs geometry perms m (begun.At stripe) holds = passes.Starts geometry perms Rebuild m stripe holds Went
+BeginIs geometry perms m begun.Nothing holds = passes.PassesOver geometry perms m holds
+BeginIs geometry perms m (begun.Stopped why) holds = passes.PlansNone geometry perms Rebuild m holds (end_by why)
+
+-- the metaslab has a rebuild then, or it had none and no target
+abbrev pub BeginsAt : {R A : Type 0} → Begun → Pool R A → Pool R A → ℕ → Type 0
+BeginsAt (begun.At stripe) old new m = (stripe ≤ metaslab_stripes old.geometry) × IsAt new m (λ shard. IsSomeAnd shard.pass (λ (pass : Pass). pass.kind ≡ Rebuild))
+BeginsAt begun.Nothing old new m = IsAt new m (λ shard. shard.pass ≡ None) × IsAt old m (λ shard. IsRebuiltIn shard → ⊥)
+BeginsAt (begun.Stopped why) old new m = why ≡ sync.Shelf → ⊥
 
 -- stripes are lent until the pass ends, or until something stops that
 abbrev pub LendIs : Geometry → Perms → ℕ → Progress → Visit → Progress → List Hold → Type 0

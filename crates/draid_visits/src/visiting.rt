@@ -1,5 +1,5 @@
 //! The visit of one metaslab by a rebuild of a pool: its pass begins, waits until it runs, lends, and ends.
-ghost use Rattle.std.specs.Prelude.{◌≡◌, ◌<◌, ◌≤◌, ◌+◌, ◌*◌, ℕ, IfOk, IsErrOf, IsSomeAnd, None, OnOk, Option, Some, length};
+ghost use Rattle.std.specs.Prelude.{◌≡◌, ◌<◌, ◌≤◌, ◌+◌, ◌*◌, ℕ, IsErrOf, IsSomeAnd, None, OnOk, Option, Some, length};
 ghost use Rattle.draid_names.specs.declared.pass_kind.PassKind.TheVariants.{Rebuild};
 ghost use Rattle.draid_spec.specs.Geometry.{metaslab_stripes};
 ghost use Rattle.draid_pass.specs.declared.pass.Pass.{Pass};
@@ -13,7 +13,7 @@ ghost use Rattle.draid_pool.specs.Pools.{Represents};
 ghost use Rattle.draid_pool.specs.Syncing.{Phase, end_of};
 ghost use Rattle.draid_pool.specs.Whole.{IsWhole};
 ghost use Rattle.draid_visits.specs.Steps.{IsRebuiltIn};
-ghost use Rattle.draid_visits.specs.Visiting.{BeganAt, BeginIs, HasBegun, IsAt, IsLeft, IsLow, IsNoScrub, KeepsOthers, LeavesAt, LendIs, PausesAt, RunIs, VisitIs};
+ghost use Rattle.draid_visits.specs.Visiting.{BeganAt, BeginIs, BeginsAt, HasBegun, IsAt, IsLeft, IsLow, IsNoScrub, KeepsOthers, LeavesAt, LendIs, PausesAt, RunIs, VisitIs};
 
 use crate::progress::{Progress, Visit};
 use crate::steps::{Next, next_in, ready_in, start_in};
@@ -47,40 +47,49 @@ pub(crate) fn visit<R: Rack, A: Area>(
         → CarriesOut R.Rack A.Area pool.new x (λ holds store. (store ≡ x.store) × VisitIs x.geometry x.perms metaslab progress.old result progress.new holds) }
 {
     match begin_in(pool, metaslab) {
-        Ok(Some(stripe)) => run(pool, metaslab, stripe, progress),
-        Ok(None) => Visit::Over,
-        Err(why) => Visit::Stopped { why },
+        Begun::At { stripe } => run(pool, metaslab, stripe, progress),
+        Begun::Nothing => Visit::Over,
+        Begun::Stopped { why } => Visit::Stopped { why },
     }
 }
 
-/// Has a rebuild of a metaslab go on, or plans one; the answer is the stripe of the metaslab where it stands, or none
-/// where it would have no target.
-fn begin_in<R: Rack, A: Area>(
-    pool: &mut Pool<R, A>,
-    metaslab: usize,
-) -> Result<Option<u64>, SyncFault>
+/// How the pass of a metaslab began.
+#[derive(Clone, Copy)]
+enum Begun {
+    /// It stands at this stripe of the metaslab.
+    At { stripe: u64 },
+    /// There is none, since it would have no target.
+    Nothing,
+    /// None could be planned.
+    Stopped { why: SyncFault },
+}
+
+/// Has a rebuild of a metaslab go on, or plans one.
+fn begin_in<R: Rack, A: Area>(pool: &mut Pool<R, A>, metaslab: usize) -> Begun
     requires whole { IsWhole R.Rack A.Area pool.old }
     requires there { metaslab < length pool.old.metaslabs.shards.items }
     requires alone { IsAt pool.old metaslab IsNoScrub }
     ensures whole { IsWhole R.Rack A.Area pool.new }
     ensures same { SamePointers pool.old pool.new }
     ensures later { AreasLater A.faults pool.old pool.new }
-    ensures not_shelf { IsErrOf result SyncFault.Shelf → ⊥ }
     ensures others { KeepsOthers metaslab pool.old pool.new }
-    ensures low { IfOk result (λ found. (stripe : ℕ) → found ≡ Some stripe → stripe ≤ metaslab_stripes pool.old.geometry) }
-    ensures pass { IfOk result (λ found. (stripe : ℕ) → found ≡ Some stripe → IsAt pool.new metaslab (λ shard. IsSomeAnd shard.pass (λ (pass : Pass). pass.kind ≡ Rebuild))) }
-    ensures none { IfOk result (λ found. found ≡ None → IsAt pool.new metaslab (λ shard. shard.pass ≡ None)) }
-    ensures lacks { IfOk result (λ found. found ≡ None → IsAt pool.old metaslab (λ shard. IsRebuiltIn shard → ⊥)) }
+    ensures begins { BeginsAt result pool.old pool.new metaslab }
     ensures carries { (x : State) → Represents R.Rack A.Area pool.old x
         → CarriesOut R.Rack A.Area pool.new x (λ holds store. (store ≡ x.store) × BeginIs x.geometry x.perms metaslab result holds) }
 {
     match start_in(&mut pool.metaslabs.shards[metaslab]) {
-        Ok(stripe) => Ok(Some(stripe)),
-        Err(PlanFault::Nothing) => Ok(None),
+        Ok(stripe) => Begun::At { stripe },
+        Err(PlanFault::Nothing) => Begun::Nothing,
         Err(PlanFault::PassRunning { .. }) => unreachable!(),
-        Err(PlanFault::Worn { .. }) => Err(SyncFault::Worn),
-        Err(PlanFault::Last) => Err(SyncFault::Last),
-        Err(PlanFault::NoMemory) => Err(SyncFault::NoMemory),
+        Err(PlanFault::Worn { .. }) => Begun::Stopped {
+            why: SyncFault::Worn,
+        },
+        Err(PlanFault::Last) => Begun::Stopped {
+            why: SyncFault::Last,
+        },
+        Err(PlanFault::NoMemory) => Begun::Stopped {
+            why: SyncFault::NoMemory,
+        },
     }
 }
 
@@ -94,7 +103,7 @@ fn run<R: Rack, A: Area>(
     requires whole { IsWhole R.Rack A.Area pool.old }
     requires there { metaslab < length pool.old.metaslabs.shards.items }
     requires rebuild { IsAt pool.old metaslab (λ shard. IsSomeAnd shard.pass (λ (pass : Pass). pass.kind ≡ Rebuild)) }
-    requires stripe { stripe ≤ metaslab_stripes pool.old.geometry }
+    requires inside { stripe ≤ metaslab_stripes pool.old.geometry }
     requires low { IsLow metaslab progress.old }
     ensures whole { IsWhole R.Rack A.Area pool.new }
     ensures same { SamePointers pool.old pool.new }
