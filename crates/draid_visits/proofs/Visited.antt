@@ -129,8 +129,8 @@ pub left_begun : (limit : Option ℕ) (stripe : ℕ) (was now : Progress) → no
 left_begun limit stripe was now is left = subst (IsLeft limit) (sym is) (left_same limit was (begun stripe was) refl refl left)
 
 first_some : (o : Option ℕ) (n : ℕ) → IsSome (passes.first_from o n)
-first_some None n = tt
-first_some (Some k) n = tt
+first_some None n = refl
+first_some (Some k) n = refl
 
 pub begun_so : (result : Visit) (stripe : ℕ) (was now new : Progress) → now ≡ begun stripe was → new.from ≡ now.from → HasBegun result new
 begun_so visit.Over stripe was now new is same = subst IsSome (sym (same ∙ ap (λ (q : Progress). q.from) is)) (first_some was.from stripe)

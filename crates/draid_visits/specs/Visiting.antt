@@ -76,7 +76,7 @@ BeginIs geometry perms m (begun.Stopped why) holds = passes.PlansNone geometry p
 
 -- the metaslab has a rebuild then, or it had none and no target
 abbrev pub BeginsAt : {R A : Type 0} → Begun → Pool R A → Pool R A → ℕ → Type 0
-BeginsAt (begun.At stripe) old new m = (stripe ≤ metaslab_stripes old.geometry) × IsAt new m (λ shard. IsSomeAnd shard.pass (λ (pass : Pass). pass.kind ≡ Rebuild))
+BeginsAt (begun.At stripe) old new m = (stripe ≤ metaslab_stripes new.geometry) × IsAt new m (λ shard. IsSomeAnd shard.pass (λ (pass : Pass). pass.kind ≡ Rebuild))
 BeginsAt begun.Nothing old new m = IsAt new m (λ shard. shard.pass ≡ None) × IsAt old m (λ shard. IsRebuiltIn shard → ⊥)
 BeginsAt (begun.Stopped why) old new m = why ≡ sync.Shelf → ⊥
 
