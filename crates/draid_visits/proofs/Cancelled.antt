@@ -1,6 +1,6 @@
 -- One metaslab of a pool as its pass is cancelled, or as it has none.
-use Rattle.std.proofs.Common.{◌≡◌, ◌+◌, ◌++◌, ◌∙◌, [], ◌∷◌, ℕ, suc, Some, None, arith, refl, sym, ap, subst}
-use Rattle.std.specs.Prelude.{option_map}
+use Rattle.std.proofs.Common.{◌≡◌, ◌≤◌, ◌+◌, ◌++◌, ◌∙◌, [], ◌∷◌, ℕ, suc, List, Some, None, arith, refl, sym, ap, subst, length, slice_set}
+use Rattle.std.specs.Prelude.{option_map, slice_get}
 use Rattle.draid_rack.specs.declared.Rack as racks
 use Rattle.draid_area.specs.declared.Area as areas
 use Rattle.draid_spec.specs.declared.layout.Geometry.{Geometry}
@@ -28,9 +28,10 @@ use Rattle.draid_pool.specs.Syncing.{KeepsCommitted, Turns}
 use Rattle.draid_pool.specs.declared.pool.Pool.{Pool}
 use Rattle.draid_pool.proofs.Lifted.{SetsShard}
 use Rattle.draid_pool.proofs.Steps.{carried, follows_on, own_of, same_layout}
-use Rattle.draid_pool.proofs.SyncSteps.{Came, OneMore, turned}
+use Rattle.draid_pool.proofs.SyncSteps.{Below, Came, OneMore, below_all, below_set, turned}
 use Rattle.draid_pool.proofs.Walks.{Walked, walk_went, walked_more}
 use Rattle.draid_visits.specs.Cancelling.{CancelDoes}
+use Rattle.draid_visits.specs.Visiting.{NoPasses}
 use Rattle.draid_pool.proofs.Dids.{Done, did_with, records_same}
 use Rattle.draid_pool.proofs.Finds.{looks}
 
@@ -89,6 +90,16 @@ module _ {R A : Type 0} (rack : racks.Ghosts R) (area : areas.Ghosts A) (part : 
       is_none = is.stands.is_in.pass ∙ ap (option_map (pass_in shard.slots)) none
 
 -- ---- all metaslabs
+
+-- the first so many have no pass
+abbrev pub EndedBelow : {R A : Type 0} → List (Shard R A) → ℕ → Type 0
+EndedBelow {R} {A} shards m = Below (λ (shard : Shard R A). shard.pass ≡ None) shards m
+
+pub ended_more : {R A : Type 0} (shards : List (Shard R A)) (m : ℕ) (shard shard' : Shard R A) → slice_get shards m ≡ Some shard → shard'.pass ≡ None → EndedBelow shards m → EndedBelow (slice_set shards m shard') (m + 1)
+ended_more {R} {A} shards m shard shard' there none below = below_set (λ (s : Shard R A). s.pass ≡ None) shards m shard shard' there none below
+
+pub all_ended : {R A : Type 0} (pool : Pool R A) (m : ℕ) → length pool.metaslabs.shards.items ≤ m → EndedBelow pool.metaslabs.shards.items m → NoPasses pool
+all_ended {R} {A} pool m end below = below_all (λ (s : Shard R A). s.pass ≡ None) pool.metaslabs.shards.items m end below
 
 module _ {R A : Type 0} (rack : racks.Ghosts R) (area : areas.Ghosts A) where
   -- the next one has its hold

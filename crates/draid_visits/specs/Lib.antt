@@ -1,3 +1,6 @@
+pub mod Behind
 pub mod Cancelling
+pub mod Rebuilding
 pub mod Says
 pub mod Steps
+pub mod Visiting

@@ -1,4 +1,4 @@
-ghost use Rattle.std.specs.Prelude.{◌≡◌, ◌≤◌};
+ghost use Rattle.std.specs.Prelude.{◌≡◌, ◌≤◌, None};
 ghost use Rattle.draid_segments.specs.Segments.{Pieces};
 ghost use Rattle.draid_shard.specs.Calls.{SameAreas};
 ghost use Rattle.draid_shard.specs.Fits.{Valid};
@@ -13,6 +13,7 @@ ghost use Rattle.draid_pool.specs.Pools.{Represents};
 ghost use Rattle.draid_pool.specs.Syncing.{KeepsCommitted, KeepsTable, Turns};
 ghost use Rattle.draid_pool.specs.Whole.{IsWhole};
 ghost use Rattle.draid_visits.specs.Cancelling.{CancelDoes};
+ghost use Rattle.draid_visits.specs.Visiting.{NoPasses};
 
 use draid_area::Area;
 use draid_pool::Pool;
@@ -26,6 +27,7 @@ pub fn cancel<R: Rack, A: Area>(pool: &mut Pool<R, A>) -> u32
     ensures same { SamePointers pool.old pool.new }
     ensures later { AreasLater A.faults pool.old pool.new }
     ensures carries { (x : State) → Represents R.Rack A.Area pool.old x → CarriesOut R.Rack A.Area pool.new x (CancelDoes x result) }
+    ensures passes { NoPasses pool.new }
 {
     let mut ended = 0;
     for metaslab in 0..pool.metaslabs.shards.len() {
@@ -41,6 +43,7 @@ fn cancel_in<R: Rack, A: Area>(shard: &mut Shard<R, A>) -> u32
     ensures table { KeepsTable shard.old shard.new }
     ensures areas { SameAreas shard.old shard.new }
     ensures low { result ≤ 1 }
+    ensures none { shard.new.pass ≡ None }
     ensures turns { (part : Part) (pieces : Pieces) (x : Metaslab) → IsMetaslab R.Rack A.Area part pieces shard.old x
         → Turns R.Rack A.Area part pieces x shard.new (λ hold y. CancelsAt part.geometry part.perms part.number hold result × KeepsCommitted x.world y.world) }
 {

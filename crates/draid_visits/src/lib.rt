@@ -1,10 +1,17 @@
-//! Passes over a pool's metaslabs, one after another: a cancel ends those that there are.
+//! Passes over a pool's metaslabs, one after another: a rebuild visits those that need it, and a cancel ends the passes
+//! that there are.
 
 #![tactic(auto)]
 
 mod cancelling;
+mod marks;
+mod progress;
+mod rebuilding;
 mod replies;
 mod steps;
+mod syncs;
+mod visiting;
 
 pub use cancelling::cancel;
-pub use replies::reply_to_cancel;
+pub use rebuilding::{MendFault, Mended, rebuild};
+pub use replies::{reply_to_cancel, reply_to_rebuild};

@@ -1,20 +1,24 @@
 //! What the commands on the passes of a pool reply.
-ghost use Rattle.std.specs.Prelude.{◌≡◌};
-ghost use Rattle.draid_script.specs.Line.{CancelPasses};
+ghost use Rattle.std.specs.Prelude.{IfOk, IsErr, Option, ℕ};
+ghost use Rattle.draid_script.specs.Line.{CancelPasses, RebuildPool};
 ghost use Rattle.draid_session.specs.Replies.{IsReplyTo};
 ghost use Rattle.draid_session.specs.State.{State};
 ghost use Rattle.draid_pool.specs.Carries.{CarriesOut};
-ghost use Rattle.draid_pool.specs.Failing.{AreasLater};
+ghost use Rattle.draid_pool.specs.Failing.{AreaRose, AreasLater};
 ghost use Rattle.draid_pool.specs.Pointers.{SamePointers};
 ghost use Rattle.draid_pool.specs.Pools.{Represents};
 ghost use Rattle.draid_pool.specs.Whole.{IsWhole};
-ghost use Rattle.draid_visits.specs.Says.{CancelSays};
+ghost use Rattle.draid_visits.specs.Behind.{PassesBehind};
+ghost use Rattle.draid_visits.specs.Says.{CancelSays, RebuildSays};
 
 use crate::cancelling::cancel;
+use crate::rebuilding::{MendFault, rebuild};
 use draid_area::Area;
+use draid_names::Failed;
 use draid_pool::Pool;
 use draid_rack::Rack;
 use draid_reply::Reply;
+use draid_script::CommandName;
 
 /// Ends all passes.
 pub fn reply_to_cancel<R: Rack, A: Area>(pool: &mut Pool<R, A>) -> Reply
@@ -24,7 +28,44 @@ pub fn reply_to_cancel<R: Rack, A: Area>(pool: &mut Pool<R, A>) -> Reply
     ensures later { AreasLater A.faults pool.old pool.new }
     ensures fits { IsReplyTo CancelPasses result }
     ensures step { (x : State) → Represents R.Rack A.Area pool.old x → CarriesOut R.Rack A.Area pool.new x (CancelSays result x) }
+    ensures passes { PassesBehind CancelPasses result pool.new }
 {
     let passes = cancel(pool);
     Reply::Cancelled { passes }
+}
+
+/// Rebuilds what needs it, and lends at most so many stripes.
+pub fn reply_to_rebuild<R: Rack, A: Area>(
+    pool: &mut Pool<R, A>,
+    limit: Option<u64>,
+) -> Result<Reply, Failed>
+    requires whole { IsWhole R.Rack A.Area pool.old }
+    ensures whole { IsWhole R.Rack A.Area pool.new }
+    ensures same { SamePointers pool.old pool.new }
+    ensures later { AreasLater A.faults pool.old pool.new }
+    ensures cause { IsErr result → AreaRose A.faults pool.old pool.new }
+    ensures fits { IfOk result (IsReplyTo (RebuildPool limit)) }
+    ensures step { (x : State) → Represents R.Rack A.Area pool.old x
+        → CarriesOut R.Rack A.Area pool.new x (RebuildSays limit result x) }
+    ensures passes { IfOk result (λ reply. PassesBehind (RebuildPool limit) reply pool.new) }
+{
+    let command = CommandName::Rebuild;
+    match rebuild(pool, limit) {
+        Ok(it) => Ok(Reply::Rebuilt {
+            from: it.from,
+            stripes: it.stripes,
+            errors: it.errors,
+            paused: it.paused,
+        }),
+        Err(MendFault::Nothing) => Ok(Reply::RebuildNothing),
+        Err(MendFault::PassThere { metaslab, number }) => Ok(Reply::PassThere {
+            command,
+            metaslab,
+            number,
+        }),
+        Err(MendFault::Worn) => Ok(Reply::Worn { command }),
+        Err(MendFault::Last) => Ok(Reply::Last { command }),
+        Err(MendFault::NoMemory) => Ok(Reply::NoMemory { command }),
+        Err(MendFault::Shelf) => Err(Failed),
+    }
 }

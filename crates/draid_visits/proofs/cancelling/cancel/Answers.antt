@@ -5,7 +5,7 @@ use Rattle.draid_pool.proofs.Lifted.{sets_shard, with_shard}
 use Rattle.draid_pool.proofs.Rises.{areas_on, areas_set, areas_still, records_same}
 use Rattle.draid_pool.proofs.SyncSteps.{borrowed_at, came_none, whole_on}
 use Rattle.draid_pool.proofs.Wholes.{few_whole, whole_valid}
-use Rattle.draid_visits.proofs.Cancelled.{all_cancelled, cancel_more}
+use Rattle.draid_visits.proofs.Cancelled.{all_cancelled, all_ended, cancel_more, ended_more}
 use Rattle.draid_visits.proofs.cancelling.cancel.Goals as goal
 
 pub loop-metaslab-init : goal.loop-metaslab-init
@@ -15,6 +15,7 @@ loop-metaslab-init g c = record {
   low = omega arith;
   same = λ object. refl;
   later = areas_still g.A.Area.faults c.args.pool.now;
+  below = λ k shard less at. absurd (omega (arith, less));
   many = refl;
 }
 
@@ -62,6 +63,7 @@ loop-metaslab-preserved g c =
       low = omega (arith, low, own);
       same = i.same;
       later = areas_on g.A.Area.faults c.args.pool.now l.pool new i.later (areas_set g.R.Rack g.A.Area l.metaslab l.pool new shard after set (records_same g.A.Area.faults shard after e.areas));
+      below = ended_more l.pool.metaslabs.shards.items l.metaslab shard after there e.none i.below;
       many = length-set l.pool.metaslabs.shards.items l.metaslab after ∙ i.many;
     }
 
@@ -80,4 +82,5 @@ returns g c =
       carries = λ x is. (let all = i.whole.many in
           let upto = l.auto.metaslab-end in
           all_cancelled g.R.Rack g.A.Area l.metaslab l.ended l.pool x (i.carries x is) (omega (arith, end, len, vec, many, all, upto)));
+      passes = all_ended l.pool l.metaslab (let upto = l.auto.metaslab-end in omega (arith, end, len, vec, many, upto)) i.below;
     }

@@ -6,6 +6,7 @@ use Rattle.draid_pool.specs.Pointers.{SamePointers}
 use Rattle.draid_pool.specs.Pools.{Represents}
 use Rattle.draid_pool.specs.Whole.{IsWhole}
 use Rattle.draid_pool.proofs.SyncSteps.{Came}
+use Rattle.draid_visits.proofs.Cancelled.{EndedBelow}
 use Rattle.draid_visits.proofs.cancelling.cancel.Given as goal
 
 abbrev pub invariant-loop-metaslab : goal.invariant-loop-metaslab
@@ -15,5 +16,6 @@ invariant-loop-metaslab g l = record {
   low : l.ended ≤ l.metaslab;
   same : SamePointers l.initial.pool l.pool;
   later : AreasLater g.A.Area.faults l.initial.pool l.pool;
+  below : EndedBelow l.pool.metaslabs.shards.items l.metaslab;
   many : length l.pool.metaslabs.shards.items ≡ length l.initial.pool.metaslabs.shards.items;
 }

@@ -17,5 +17,6 @@ returns g c =
       };
       areas = e.kit.areas;
       low = omega (arith);
+      none = e.none;
       turns = λ part pieces x is. pass_ended g.R.Rack g.A.Area part pieces x c.args.shard.now c.cancel.new.shard is e.valid e.event (e.acts pieces) e.kit e.reserve;
     }

@@ -1,0 +1,78 @@
+-- The metaslabs behind which a rebuild of a pool leaves no pass.
+use Rattle.std.proofs.Common.{◌≡◌, ◌<◌, ◌≤◌, ◌+◌, ◌⊎◌, ◌∙◌, inl, inr, ℕ, Bool, true, false, List, Option, Some, None, arith, refl, sym, ap, subst, length, slice_index_or}
+use Rattle.std.specs.Prelude.{IfSome, slice_get}
+use Rattle.std.proofs.lemmas.Bool.{cases_eq, true≢false}
+use Rattle.std.proofs.lemmas.Option.{slice_get_within}
+use Rattle.draid_names.specs.declared.pass_kind.PassKind.TheVariants.{Rebuild}
+use Rattle.draid_pass.specs.declared.pass.Pass.{Pass}
+use Rattle.draid_shard.specs.declared.shard.Shard.{Shard}
+use Rattle.draid_pool.specs.declared.pool.Pool.{Pool}
+use Rattle.draid_pool.proofs.Lists.{present, some_of}
+use Rattle.draid_pool.specs.Passes.{KeepsPass}
+use Rattle.draid_visits.specs.Visiting.{AreAll, AreMarks, IsAt, IsNoScrub, KeepsOthers}
+use Rattle.draid_visits.proofs.Found.{no_pass}
+use Rattle.draid_visits.proofs.Kept.{none_kept}
+
+-- none of the first so many is marked
+abbrev pub NoneUpto : List Bool → ℕ → Type 0
+NoneUpto marks m = (k : ℕ) → k < m → slice_index_or marks k false ≡ false
+
+-- none of the first so many has a pass, nor one that isn't marked
+abbrev pub IsIdleUpto : {R A : Type 0} → List Bool → ℕ → Pool R A → Type 0
+IsIdleUpto {R} {A} marks m pool = (k : ℕ) (shard : Shard R A) → slice_get pool.metaslabs.shards.items k ≡ Some shard → (k < m) ⊎ (slice_index_or marks k false ≡ false) → shard.pass ≡ None
+
+pub none_more : (marks : List Bool) (m : ℕ) → NoneUpto marks m → slice_index_or marks m false ≡ false → NoneUpto marks (m + 1)
+none_more marks m none here k less = elim (cases_eq k m) [
+  | inl same ↦ ap (λ j. slice_index_or marks j false) same ∙ here
+  | inr other ↦ none k (omega (arith, less, other))
+]
+
+module _ {R A : Type 0} where
+  pub idle_first : (marks : List Bool) (pool : Pool R A) → AreAll pool IsNoScrub → AreMarks pool marks → IsIdleUpto marks 0 pool
+  idle_first marks pool alone are k shard there (inl less) = absurd (omega (arith, less))
+  idle_first marks pool alone are k shard there (inr none) = no_pass shard (alone k shard there) ((are k shard there).none none)
+
+  -- it isn't marked
+  pub idle_passed : (marks : List Bool) (m : ℕ) (pool : Pool R A) → slice_index_or marks m false ≡ false → IsIdleUpto marks m pool → IsIdleUpto marks (m + 1) pool
+  idle_passed marks m pool none idle k shard there (inr own) = idle k shard there (inr own)
+  idle_passed marks m pool none idle k shard there (inl less) = elim (cases_eq k m) [
+    | inl same ↦ idle k shard there (inr (ap (λ j. slice_index_or marks j false) same ∙ none))
+    | inr other ↦ idle k shard there (inl (omega (arith, less, other)))
+  ]
+
+  before_in : (old new : Pool R A) (k : ℕ) (shard : Shard R A) → length new.metaslabs.shards.items ≡ length old.metaslabs.shards.items → slice_get new.metaslabs.shards.items k ≡ Some shard
+      → (before : Shard R A) × (slice_get old.metaslabs.shards.items k ≡ Some before)
+  before_in old new k shard many there = present old.metaslabs.shards.items k (let inside = slice_get_within new.metaslabs.shards.items k shard there in omega (arith, inside, many))
+
+  -- its visit is over
+  pub idle_visited : (marks : List Bool) (m : ℕ) (old new : Pool R A) → length new.metaslabs.shards.items ≡ length old.metaslabs.shards.items → KeepsOthers m old new → IsAt new m (λ shard. shard.pass ≡ None)
+      → IsIdleUpto marks m old → IsIdleUpto marks (m + 1) new
+  idle_visited marks m old new many others none idle k shard there which = elim (cases_eq k m) [
+    | inl same ↦ none shard (subst (λ j. slice_get new.metaslabs.shards.items j ≡ Some shard) same there)
+    | inr other ↦
+        let z = before_in old new k shard many there in
+        none_kept z.0.pass shard.pass (others k z.0 shard (λ same. omega (arith, same, other)) z.1 there) (idle k z.0 z.1 (earlier which other))
+  ]
+    where
+      earlier : (k < m + 1) ⊎ (slice_index_or marks k false ≡ false) → _ → (k < m) ⊎ (slice_index_or marks k false ≡ false)
+      earlier (inl less) other = inl (omega (arith, less, other))
+      earlier (inr own) other = inr own
+
+  -- none of the others has a scrub then
+  scrub_kept : (a b : Option Pass) → KeepsPass a b → IfSome a (λ (p : Pass). p.kind ≡ Rebuild) → IfSome b (λ (p : Pass). p.kind ≡ Rebuild)
+  scrub_kept None None keeps none = none
+  scrub_kept None (Some q) keeps none = absurd keeps
+  scrub_kept (Some p) None keeps none = tt
+  scrub_kept (Some p) (Some q) keeps none = keeps.kind_is ∙ none
+
+  no_pass_no_scrub : (shard : Shard R A) → shard.pass ≡ None → IsNoScrub shard
+  no_pass_no_scrub shard none = subst (λ o. IfSome o (λ (p : Pass). p.kind ≡ Rebuild)) (sym none) tt
+
+  pub alone_visited : (m : ℕ) (old new : Pool R A) → length new.metaslabs.shards.items ≡ length old.metaslabs.shards.items → KeepsOthers m old new → IsAt new m (λ shard. shard.pass ≡ None)
+      → AreAll old IsNoScrub → AreAll new IsNoScrub
+  alone_visited m old new many others none alone k shard there = elim (cases_eq k m) [
+    | inl same ↦ no_pass_no_scrub shard (none shard (subst (λ j. slice_get new.metaslabs.shards.items j ≡ Some shard) same there))
+    | inr other ↦
+        let z = before_in old new k shard many there in
+        scrub_kept z.0.pass shard.pass (others k z.0 shard (λ same. omega (arith, same, other)) z.1 there) (alone k z.0 z.1)
+  ]

@@ -1,0 +1,184 @@
+-- The answers of a rebuild of a pool.
+use Rattle.std.proofs.Common.{◌≡◌, ◌≢◌, ◌+◌, ◌++◌, ◌∙◌, [], ◌∷◌, inl, inr, ℕ, Bool, true, false, List, Option, Some, None, Result, Ok, Err, arith, refl, sym, ap, subst, length}
+use Rattle.std.specs.Prelude.{◌≤◌, slice_get}
+use Rattle.std.proofs.lemmas.List.{append_nil}
+use Rattle.draid_rack.specs.declared.Rack as racks
+use Rattle.draid_area.specs.declared.Area as areas
+use Rattle.draid_names.specs.declared.pass_kind.PassKind.TheVariants.{Heal, Rebuild}
+use Rattle.draid_session.specs.Follows.{Follows}
+use Rattle.draid_session.specs.Holds.{Hold, View}
+use Rattle.draid_session.specs.Looks.{Looks, LooksFrom}
+use Rattle.draid_session.specs.Passes as passes
+use Rattle.draid_session.specs.Phases.{End, NoneOf}
+use Rattle.draid_session.specs.Replies.{IsWithin}
+use Rattle.draid_session.specs.State.{State, Store}
+use Rattle.draid_pool.specs.Carries.{CarriesOut}
+use Rattle.draid_pool.specs.Pools.{Represents}
+use Rattle.draid_pool.specs.Views.{seen_at}
+use Rattle.draid_pool.specs.declared.fault.SyncFault.{SyncFault}
+use Rattle.draid_pool.specs.declared.fault.SyncFault.TheVariants as sync
+use Rattle.draid_pool.specs.declared.pool.Pool.{Pool}
+use Rattle.draid_pool.proofs.Looking.{changes_none, looked, looks_at}
+use Rattle.draid_pool.proofs.Steps.{follows_on}
+use Rattle.draid_pool.proofs.SyncSteps.{not_went}
+use Rattle.draid_visits.specs.Rebuilding.{IsAnswer, IsLowestScrub, IsMended, RebuildDoes, RebuildIs, RunsWhere, stopped_by}
+use Rattle.draid_visits.specs.Visiting.{AreAll, HasMark, IsLeft, IsNoScrub, Leaves, PausesAt, SeesMarks, SeesNone, Tells, VisitsDo, end_by, outcome_by, tally_of}
+use Rattle.draid_visits.specs.declared.progress.Progress.{Progress}
+use Rattle.draid_visits.specs.declared.progress.Visit.{Visit}
+use Rattle.draid_visits.specs.declared.progress.Visit.TheVariants as visit
+use Rattle.draid_visits.specs.declared.rebuilding.MendFault.{MendFault}
+use Rattle.draid_visits.specs.declared.rebuilding.MendFault.TheVariants as fault
+use Rattle.draid_visits.specs.declared.rebuilding.Mended.{Mended}
+use Rattle.draid_visits.proofs.Found.{all_unseen, none_scrubs, sees_lowest, some_rebuilt}
+
+-- nothing was done yet
+abbrev pub begins : Option ℕ → Progress
+begins limit = record { left = limit; from = None; stripes = 0; errors = 0 }
+
+-- ---- within the limit
+
+-- what is left of it says what was lent
+within_paused : (limit : Option ℕ) (p : Progress) → IsLeft limit p → p.left ≡ Some 0 → IsWithin limit p.stripes true
+within_paused None p left up = absurd (let no : None ≡ Some 0 = sym left ∙ up in cc)
+within_paused (Some n) p (k, own, all) up =
+    (let none : k ≡ 0 = (let same : Some k ≡ Some 0 = sym own ∙ up in cc) in omega (arith, none, all))
+
+within_over : (limit : Option ℕ) (p : Progress) → IsLeft limit p → IsWithin limit p.stripes false
+within_over None p left = refl
+within_over (Some n) p (k, own, all) = omega (arith, all)
+
+pub is_within : (limit : Option ℕ) (end : Visit) (p : Progress) (it : Mended) → IsLeft limit p → PausesAt end p → IsAnswer end p (Ok it) → IsWithin limit it.stripes it.paused
+is_within limit visit.Over p it left pauses is =
+    subst (λ b. IsWithin limit it.stripes b) (sym is.paused_is) (subst (λ n. IsWithin limit n false) (sym is.stripes) (within_over limit p left))
+is_within limit visit.Paused p it left pauses is =
+    subst (λ b. IsWithin limit it.stripes b) (sym is.paused_is) (subst (λ n. IsWithin limit n true) (sym is.stripes) (within_paused limit p left pauses))
+is_within limit (visit.Stopped why) p it left pauses is = absurd is
+
+-- ---- the passes behind it
+
+pub passes_behind : {R A : Type 0} (end : Visit) (p : Progress) (result : Result Mended MendFault) (old new : Pool R A) → IsAnswer end p result → Leaves end new → RebuildIs result old new
+passes_behind visit.Over p (Ok it) old new is leaves = subst (λ b. RunsWhere b new) (sym is.paused_is) leaves
+passes_behind visit.Over p (Err why) old new is leaves = absurd is
+passes_behind visit.Paused p (Ok it) old new is leaves = subst (λ b. RunsWhere b new) (sym is.paused_is) leaves
+passes_behind visit.Paused p (Err why) old new is leaves = absurd is
+passes_behind (visit.Stopped why) p (Ok it) old new is leaves = absurd is
+passes_behind {R} {A} (visit.Stopped why) p (Err cause) old new is leaves = subst (λ c. RebuildIs (Err c) old new) (sym is) (by why)
+  where
+    by : (w : SyncFault) → RebuildIs (Err (stopped_by w)) old new
+    by sync.Worn = tt
+    by sync.Last = tt
+    by sync.Shelf = tt
+    by sync.NoMemory = tt
+
+-- only a device that failed ends it so
+pub stopped_shelf : (end : Visit) (p : Progress) (result : Result Mended MendFault) → IsAnswer end p result → result ≡ Err fault.Shelf → end ≡ visit.Stopped sync.Shelf
+stopped_shelf visit.Over p (Ok it) is shelf = absurd (cc)
+stopped_shelf visit.Over p (Err why) is shelf = absurd is
+stopped_shelf visit.Paused p (Ok it) is shelf = absurd (cc)
+stopped_shelf visit.Paused p (Err why) is shelf = absurd is
+stopped_shelf (visit.Stopped why) p (Ok it) is shelf = absurd is
+stopped_shelf (visit.Stopped sync.Worn) p (Err cause) is shelf = absurd (let same : cause ≡ fault.Shelf = cc in let no = sym is ∙ same in cc)
+stopped_shelf (visit.Stopped sync.Last) p (Err cause) is shelf = absurd (let same : cause ≡ fault.Shelf = cc in let no = sym is ∙ same in cc)
+stopped_shelf (visit.Stopped sync.Shelf) p (Err cause) is shelf = refl
+stopped_shelf (visit.Stopped sync.NoMemory) p (Err cause) is shelf = absurd (let same : cause ≡ fault.Shelf = cc in let no = sym is ∙ same in cc)
+
+module _ {R A : Type 0} (rack : racks.Ghosts R) (area : areas.Ghosts A) where
+  -- ---- all metaslabs are looked at
+
+  seen_all : (pool : Pool R A) (x : State) → Represents rack area pool x → Looks x.geometry.props.metaslabs (looks_at 0 x.metaslabs) (seen_at 0 x.metaslabs)
+  seen_all pool x r = subst (λ n. LooksFrom 0 n (looks_at 0 x.metaslabs) (seen_at 0 x.metaslabs)) r.stands.many (looked 0 x.metaslabs)
+
+  finds : (pool : Pool R A) (x : State) (rest : List Hold) → Represents rack area pool x → AreAll pool IsNoScrub
+      → passes.FindsNoOther x.geometry x.perms Rebuild (looks_at 0 x.metaslabs ++ rest) (seen_at 0 x.metaslabs) rest
+  finds pool x rest r alone = record { looks = looks_at 0 x.metaslabs; are = refl; looked = seen_all pool x r; alone = none_scrubs rack area pool x r alone }
+
+  -- a scrub was found
+  pub found_scrub : (pool : Pool R A) (x : State) (limit : Option ℕ) (metaslab number : ℕ) → Represents rack area pool x → IsLowestScrub metaslab number pool
+      → CarriesOut rack area pool x (RebuildDoes x limit (Err (fault.PassThere metaslab number)))
+  found_scrub pool x limit metaslab number r low = record {
+    holds = looks_at 0 x.metaslabs;
+    reached = x;
+    store = x.store;
+    follows = changes_none x [] x.metaslabs 0 refl refl;
+    done = (refl, record { views = seen_at 0 x.metaslabs; looked = seen_all pool x r; lowest = sees_lowest rack area pool x metaslab number r low });
+    represents = r;
+  }
+
+  -- there is nothing to do
+  none_visited : (x : State) (limit : Option ℕ) (views : List View) → NoneOf (passes.IsRebuilt x.geometry x.perms) views
+      → passes.VisitsAll x.geometry x.perms Rebuild (passes.IsRebuilt x.geometry x.perms) views limit passes.nothing_yet [] passes.Ended passes.nothing_yet
+  none_visited x limit [] none = (refl, refl, refl)
+  none_visited x limit (v ∷ views) none = inl (none.0, none_visited x limit views none.1)
+
+  pub found_nothing : (pool : Pool R A) (x : State) (limit : Option ℕ) → Represents rack area pool x → AreAll pool IsNoScrub → SeesNone x → CarriesOut rack area pool x (RebuildDoes x limit (Err fault.Nothing))
+  found_nothing pool x limit r alone none = record {
+    holds = looks_at 0 x.metaslabs ++ [];
+    reached = x;
+    store = x.store;
+    follows = follows_on (looks_at 0 x.metaslabs) [] x x x (changes_none x [] x.metaslabs 0 refl refl) refl;
+    done = (
+      refl,
+      record {
+        views = seen_at 0 x.metaslabs;
+        rest = [];
+        t = passes.nothing_yet;
+        finds = finds pool x [] r alone;
+        visits = none_visited x limit (seen_at 0 x.metaslabs) (all_unseen x none);
+        none = refl;
+      },
+    );
+    represents = r;
+  }
+
+  -- ---- and some are visited
+
+  module _ (pool new : Pool R A) (x : State) (limit : Option ℕ) (marks : List Bool) (r : Represents rack area pool x) (alone : AreAll pool IsNoScrub) (sees : SeesMarks x marks) (has : HasMark pool marks) where
+    rebuilds : (holds : List Hold) (o : passes.Outcome) (t : passes.Tally)
+        → passes.VisitsAll x.geometry x.perms Rebuild (passes.IsRebuilt x.geometry x.perms) (seen_at 0 x.metaslabs) limit passes.nothing_yet holds o t
+        → passes.Rebuilds x.geometry x.perms limit (looks_at 0 x.metaslabs ++ holds) o t
+    rebuilds holds o t visits = record { views = seen_at 0 x.metaslabs; rest = holds; finds = finds pool x holds r alone; some = some_rebuilt rack area pool x marks r sees has; visits = visits }
+
+    -- looks come before it
+    behind_looks : (does : List Hold → Store → Type 0) (says : List Hold → Store → Type 0) → ((holds : List Hold) (store : Store) → does holds store → says (looks_at 0 x.metaslabs ++ holds) store)
+        → CarriesOut rack area new x does → CarriesOut rack area new x says
+    behind_looks does says how c = record {
+      holds = looks_at 0 x.metaslabs ++ c.holds;
+      reached = c.reached;
+      store = c.store;
+      follows = follows_on (looks_at 0 x.metaslabs) c.holds x x c.reached (changes_none x [] x.metaslabs 0 refl refl) c.follows;
+      done = how c.holds c.store c.done;
+      represents = c.represents;
+    }
+
+    -- it came to an end, or paused
+    mended_so : (p : Progress) (it : Mended) (paused : Bool) (t : passes.Tally) (holds : List Hold) → IsMended p paused it → t ≡ tally_of p
+        → passes.VisitsAll x.geometry x.perms Rebuild (passes.IsRebuilt x.geometry x.perms) (seen_at 0 x.metaslabs) limit passes.nothing_yet holds (passes.outcome_of paused) t
+        → passes.RebuildReplies x.geometry x.perms limit it.from it.stripes it.errors it.paused (looks_at 0 x.metaslabs ++ holds)
+    mended_so p it paused t holds is tells visits = (
+      t,
+      subst (λ b. passes.Rebuilds x.geometry x.perms limit (looks_at 0 x.metaslabs ++ holds) (passes.outcome_of b) t) (sym is.paused_is) (rebuilds holds (passes.outcome_of paused) t visits),
+      ap (λ (u : passes.Tally). u.from) tells ∙ is.from,
+      ap (λ (u : passes.Tally). u.units) tells ∙ sym is.stripes,
+      ap (λ (u : passes.Tally). u.errors) tells ∙ sym is.errors,
+    )
+
+    stopped_so : (why : SyncFault) (t : passes.Tally) (holds : List Hold) (store : Store) → store ≡ x.store
+        → passes.VisitsAll x.geometry x.perms Rebuild (passes.IsRebuilt x.geometry x.perms) (seen_at 0 x.metaslabs) limit passes.nothing_yet holds (passes.Stopped (end_by why)) t
+        → RebuildDoes x limit (Err (stopped_by why)) (looks_at 0 x.metaslabs ++ holds) store
+    stopped_so sync.Worn t holds store kept visits = (kept, (t, not_went Unit sync.Worn, rebuilds holds (passes.Stopped (end_by sync.Worn)) t visits))
+    stopped_so sync.Last t holds store kept visits = (kept, (t, not_went Unit sync.Last, rebuilds holds (passes.Stopped (end_by sync.Last)) t visits))
+    stopped_so sync.Shelf t holds store kept visits = (kept, (t, not_went Unit sync.Shelf, rebuilds holds (passes.Stopped (end_by sync.Shelf)) t visits))
+    stopped_so sync.NoMemory t holds store kept visits = (kept, inl (t, not_went Unit sync.NoMemory, rebuilds holds (passes.Stopped (end_by sync.NoMemory)) t visits))
+
+    answers : (end : Visit) (p : Progress) (result : Result Mended MendFault) → IsAnswer end p result → (holds : List Hold) (store : Store) → VisitsDo x (begins limit) end p holds store
+        → RebuildDoes x limit result (looks_at 0 x.metaslabs ++ holds) store
+    answers visit.Over p (Ok it) is holds store (kept, t, tells, visits) = (kept, mended_so p it false t holds is tells visits)
+    answers visit.Over p (Err why) is holds store does = absurd is
+    answers visit.Paused p (Ok it) is holds store (kept, t, tells, visits) = (kept, mended_so p it true t holds is tells visits)
+    answers visit.Paused p (Err why) is holds store does = absurd is
+    answers (visit.Stopped why) p (Ok it) is holds store does = absurd is
+    answers (visit.Stopped why) p (Err cause) is holds store (kept, t, tells, visits) =
+        subst (λ c. RebuildDoes x limit (Err c) (looks_at 0 x.metaslabs ++ holds) store) (sym is) (stopped_so why t holds store kept visits)
+
+    pub answered : (end : Visit) (p : Progress) (result : Result Mended MendFault) → IsAnswer end p result → CarriesOut rack area new x (VisitsDo x (begins limit) end p) → CarriesOut rack area new x (RebuildDoes x limit result)
+    answered end p result is c = behind_looks (VisitsDo x (begins limit) end p) (RebuildDoes x limit result) (answers end p result is) c

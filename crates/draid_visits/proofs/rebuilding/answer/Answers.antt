@@ -1,0 +1,4 @@
+use Rattle.draid_visits.proofs.rebuilding.answer.Goals as goal
+
+pub bogus : goal.bogus
+bogus c = ?

@@ -1,0 +1,59 @@
+//! What a rebuild of a pool did so far.
+ghost use Rattle.std.specs.Prelude.{◌≡◌, ◌≢◌, ◌<◌, ◌+◌, ◌^◌, ◌↔◌, IsTrue, Some};
+ghost use Rattle.draid_session.specs.Passes as passes;
+
+use draid_pool::SyncFault;
+
+/// What a rebuild of a pool may do yet, and what it did.
+#[derive(Clone, Copy)]
+pub(crate) struct Progress {
+    /// How many more stripes it may lend, where it has a limit.
+    pub left: Option<u64>,
+    /// The pool's stripe at which its first pass went on.
+    pub from: Option<u64>,
+    /// The stripes that it lent.
+    pub stripes: u64,
+    /// The errors of the passes that it ended.
+    pub errors: u64,
+}
+
+/// How the visit of a metaslab ended.
+#[derive(Clone, Copy)]
+pub(crate) enum Visit {
+    /// Its pass ended, or there was nothing to do.
+    Over,
+    /// Something is left, and the limit is used up.
+    Paused,
+    /// It was stopped.
+    Stopped { why: SyncFault },
+}
+
+impl Progress {
+    /// A pass goes on at a stripe of the pool.
+    pub fn begin(&mut self, stripe: u64)
+        ensures { self.new ≡ record self.old { from = passes.first_from self.old.from stripe } }
+    {
+        if self.from.is_none() {
+            self.from = Some(stripe);
+        }
+    }
+
+    /// Whether no further stripe may be lent.
+    pub fn is_used_up(&self) -> bool
+        ensures { IsTrue result ↔ (self.now.left ≡ Some 0) }
+    {
+        self.left == Some(0)
+    }
+
+    /// A stripe was lent.
+    pub fn count(&mut self)
+        requires some { self.old.left ≢ Some 0 }
+        requires low { self.old.stripes + 1 < 2 ^ 64 }
+        ensures { self.new ≡ record self.old { left = passes.one_less self.old.left; stripes = self.old.stripes + 1 } }
+    {
+        if let Some(left) = self.left {
+            self.left = Some(left - 1);
+        }
+        self.stripes += 1;
+    }
+}
