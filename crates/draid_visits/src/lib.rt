@@ -9,7 +9,6 @@ mod progress;
 mod rebuilding;
 mod replies;
 mod steps;
-mod syncs;
 mod visiting;
 
 pub use cancelling::cancel;

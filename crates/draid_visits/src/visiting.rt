@@ -17,7 +17,6 @@ ghost use Rattle.draid_visits.specs.Visiting.{BeganAt, BeginIs, BeginsAt, HasBeg
 
 use crate::progress::{Progress, Visit};
 use crate::steps::{Next, next_in, ready_in, start_in};
-use crate::syncs::sync;
 use draid_area::Area;
 use draid_passing::PlanFault;
 use draid_pool::{Pool, SyncFault};
@@ -154,7 +153,7 @@ fn run_in<R: Rack, A: Area>(pool: &mut Pool<R, A>, metaslab: usize) -> Result<()
         if ready_in(&mut pool.metaslabs.shards[metaslab]) {
             return Ok(());
         }
-        match sync(pool) {
+        match pool.sync() {
             Ok(_) => {}
             Err(why) => return Err(why),
         }

@@ -68,7 +68,7 @@ returns-in-Err g c =
     let old = c.args.pool.now in
     let later = areas_on g.A.Area.faults old l.pool mid i.later (areas_set g.R.Rack g.A.Area m l.pool mid shard after set (records_same g.A.Area.faults shard after e.areas)) in
     let others = others_on m old l.pool mid i.many i.others (others_set g.R.Rack g.A.Area m l.pool mid shard after set) in
-    let new = c.sync.new.pool in
+    let new = c.sync.new.self in
     let f = c.in-Err.ensures in
     record {
       whole = f.whole;
@@ -114,7 +114,7 @@ loop-metaslab-preserved g c =
     let old = c.args.pool.now in
     let later = areas_on g.A.Area.faults old l.pool mid i.later (areas_set g.R.Rack g.A.Area m l.pool mid shard after set (records_same g.A.Area.faults shard after e.areas)) in
     let others = others_on m old l.pool mid i.many i.others (others_set g.R.Rack g.A.Area m l.pool mid shard after set) in
-    let new = c.sync.new.pool in
+    let new = c.sync.new.self in
     let f = c.in-Ok.ensures in
     let long = length-set l.pool.metaslabs.shards.items m after ∙ i.many in
     record {
