@@ -35,6 +35,7 @@ views_more m zero (z ∷ ys) y there =
     let none : m + 0 ≡ m = omega arith in
     ap (λ v. v ∷ seen_at (m + 1) ys) (ap (λ n. view_of n z) (sym none) ∙ ap (view_of (m + 0)) same)
 views_more m (suc k) (z ∷ ys) y there = views_more (m + 1) k ys y there ∙ ap (λ n. view_of n y ∷ drop (k + 1) (seen_at (m + 1) ys)) (let same : m + 1 + k ≡ m + suc k = omega arith in same)
+    ∙ ap (λ n. view_of (m + suc k) y ∷ drop n (seen_at m (z ∷ ys))) (let same : suc (k + 1) ≡ suc k + 1 = omega arith in same)
 
 pub views_end : (m k : ℕ) (ys : List Metaslab) → length ys ≤ k → drop k (seen_at m ys) ≡ []
 unfolding seen_at
@@ -128,14 +129,14 @@ module _ {R A : Type 0} (rack : racks.Ghosts R) (area : areas.Ghosts A) (old : P
         let c = stepped in
         record { holds = c.holds; reached = c.reached; store = c.store; follows = c.follows; done = (c.done.0, (c.done.1.0, tt, c.done.1.1)); represents = c.represents }
       where
-        Any : State → ℕ → Progress → Unit → List Hold → Type 0
+        Any : State → ℕ → Progress → Bool → List Hold → Type 0
         Any z k q one holds = (t : passes.Tally) × FromOn z q k (record { o = passes.Stopped (end_by why); tally = t }) holds
 
-        any : Leads rack area {I = Unit} (Any x 0 old) (Any x m at) mid x
+        any : Leads rack area {I = Bool} (Any x 0 old) (Any x m at) mid x
         any = record { holds = l.holds; reached = l.reached; follows = l.follows; leads = λ one rest is. (is.0, l.leads (record { o = passes.Stopped (end_by why); tally = is.0 }) rest is.1); represents = l.represents }
 
-        stepped : CarriesOut rack area new x (Does x (Any x 0 old tt))
-        stepped = leads_end rack area (Any x 0 old) (Any x m at) (λ g p holds. VisitIs g p m at (visit.Stopped why) now holds) mid new x tt any step
+        stepped : CarriesOut rack area new x (Does x (Any x 0 old true))
+        stepped = leads_end rack area (Any x 0 old) (Any x m at) (λ g p holds. VisitIs g p m at (visit.Stopped why) now holds) mid new x true any step
             (λ holds visits. stops_there x m y there rebuilt at now why holds visits)
 
   pub visiting_ends : (m : ℕ) (pool : Pool R A) (x : State) (at : Progress) → Visiting at m pool x → length x.metaslabs ≤ m → CarriesOut rack area pool x (VisitsDo x old visit.Over at)

@@ -27,6 +27,13 @@ none_more marks m none here k less = elim (cases_eq k m) [
   | inr other ↦ none k (omega (arith, less, other))
 ]
 
+-- what isn't a scrub stays none
+scrub_kept : (a b : Option Pass) → KeepsPass a b → IfSome a (λ (p : Pass). p.kind ≡ Rebuild) → IfSome b (λ (p : Pass). p.kind ≡ Rebuild)
+scrub_kept None None keeps none = none
+scrub_kept None (Some q) keeps none = absurd keeps
+scrub_kept (Some p) None keeps none = tt
+scrub_kept (Some p) (Some q) keeps none = keeps.kind_is ∙ none
+
 module _ {R A : Type 0} where
   pub idle_first : (marks : List Bool) (pool : Pool R A) → AreAll pool IsNoScrub → AreMarks pool marks → IsIdleUpto marks 0 pool
   idle_first marks pool alone are k shard there (inl less) = absurd (omega (arith, less))
@@ -51,20 +58,14 @@ module _ {R A : Type 0} where
     | inl same ↦ none shard (subst (λ j. slice_get new.metaslabs.shards.items j ≡ Some shard) same there)
     | inr other ↦
         let z = before_in old new k shard many there in
-        none_kept z.0.pass shard.pass (others k z.0 shard (λ same. omega (arith, same, other)) z.1 there) (idle k z.0 z.1 (earlier which other))
+        none_kept z.0.pass shard.pass (others k z.0 shard (λ same. omega (arith, same, other)) z.1 there) (idle k z.0 z.1 (earlier which (λ same. omega (arith, same, other))))
   ]
     where
-      earlier : (k < m + 1) ⊎ (slice_index_or marks k false ≡ false) → _ → (k < m) ⊎ (slice_index_or marks k false ≡ false)
-      earlier (inl less) other = inl (omega (arith, less, other))
-      earlier (inr own) other = inr own
+      earlier : (k < m + 1) ⊎ (slice_index_or marks k false ≡ false) → (k ≡ m → ⊥) → (k < m) ⊎ (slice_index_or marks k false ≡ false)
+      earlier (inl less) apart = elim (cases_eq k m) [ inl same ↦ absurd (apart same) | inr other ↦ inl (omega (arith, less, other)) ]
+      earlier (inr own) apart = inr own
 
   -- none of the others has a scrub then
-  scrub_kept : (a b : Option Pass) → KeepsPass a b → IfSome a (λ (p : Pass). p.kind ≡ Rebuild) → IfSome b (λ (p : Pass). p.kind ≡ Rebuild)
-  scrub_kept None None keeps none = none
-  scrub_kept None (Some q) keeps none = absurd keeps
-  scrub_kept (Some p) None keeps none = tt
-  scrub_kept (Some p) (Some q) keeps none = keeps.kind_is ∙ none
-
   no_pass_no_scrub : (shard : Shard R A) → shard.pass ≡ None → IsNoScrub shard
   no_pass_no_scrub shard none = subst (λ o. IfSome o (λ (p : Pass). p.kind ≡ Rebuild)) (sym none) tt
 

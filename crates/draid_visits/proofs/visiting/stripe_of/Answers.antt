@@ -15,4 +15,5 @@ pub overflow_add-result : goal.overflow_add-result
 overflow_add-result g c =
     let inside = c.requires.there in
     let most = few_whole g.R.Rack g.A.Area c.args.pool.now c.requires.whole in
-    stripe_fits c.args.metaslab _ c.metaslab_stripes.result c.args.stripe (omega (arith, inside, most)) c.metaslab_stripes.ensures.value (few_stripes c.args.pool.now.geometry c.requires.whole.layout.geometry_is) c.requires.inside
+    let fits = stripe_fits c.args.metaslab _ c.metaslab_stripes.result c.args.stripe (omega (arith, inside, most)) c.metaslab_stripes.ensures.value (few_stripes c.args.pool.now.geometry c.requires.whole.layout.geometry_is) c.requires.inside in
+    omega (arith, fits)
