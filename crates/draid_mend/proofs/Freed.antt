@@ -14,7 +14,7 @@ use Rattle.draid_slots.specs.Changes.{IsOf}
 use Rattle.draid_slots.specs.States.{HasSlots, name_of, names_at}
 use Rattle.draid_slots.specs.Table.{SlotTable, arm_at}
 use Rattle.draid_shard.specs.Part.{IsPart, IsRun, Part, layout_in}
-use Rattle.draid_shard.specs.Rows.{AreApart, IsRowsOf, leaf_on}
+use Rattle.draid_shard.specs.Rows.{AreApart, IsRowsOf, arm_no, leaf_on}
 use Rattle.draid_shard.specs.declared.loan.Source.{Source}
 use Rattle.draid_shard.proofs.Answering.{kept_arm, leaf_at_is, listed, listed_arm, named_arm}
 use Rattle.draid_shard.proofs.Finding.{columns_apart}
@@ -112,7 +112,8 @@ module _ (part : Part) (is : IsPart part) (slots : SlotTable) (of : IsOf slots p
         let own : leaf_on slots (rows_at part pointer s.d) k.0 ≡ Some a.leaf
         = sym (leaf_at_is part is slots of w reached has pointer run s.d s.low (rows_at part pointer s.d) (own_rows s.d) k.0 b.0 b.1) ∙ ap (λ m. leaf_at l w.core.order m pointer.first) b.2 ∙ lies in
         let arm : target.at.arm ≡ k.0 = (rows s.d s.low).leaves target.at.arm k.0 a.leaf target.lies own in
-        let there : arm_at slots target.at ≡ Some b.0 = ap (arm_at slots) (λ i. record { slot = target.slot i; arm = arm i }) ∙ b.1 in
+        let place : target.at ≡ arm_no (rows_at part pointer s.d) k.0 = λ i. record { slot = target.slot i; arm = arm i } in
+        let there : arm_at slots target.at ≡ Some b.0 = ap (arm_at slots) place ∙ b.1 in
         absurd_test (has_name p.targets s.source.arm)
         (subst (λ ns. has_name ns s.source.arm ≡ true) (sym targets_are) (subst (λ m. has_name (names_at slots targets) m ≡ true) b.2 (name_in slots targets target.k target.at b.0 target.there there))) (source.apart p pass)
 

@@ -19,7 +19,7 @@ use draid_create::create_metaslab;
 use draid_disks::{attach, detach, make_leaf, offline, online, reserve};
 use draid_import::reopen;
 use draid_machine::ArmName;
-use draid_mend::{Lent, lend, solve};
+use draid_mend::{Lent, land, lend, solve};
 use draid_names::{Arm, ArmAt, ArmKind, PassKind, SlotFault};
 use draid_passing::{PlanFault, cancel, done, plan, ready};
 use draid_perm::Perms;
@@ -47,7 +47,7 @@ fn layout() -> Result<Geometry, SpecFault>
 
 /// What is done to the arms.
 #[derive(Clone, Copy)]
-enum Step {
+pub enum Step {
     /// A leaf is made.
     Make(u64),
     Offline(u64),
@@ -69,12 +69,14 @@ enum Step {
     Write,
     /// The next stripe is lent, of which these columns have a source, and the others are solved.
     Lend([bool; 3]),
-    /// Nothing is left to lend, and the pass makes so many logs good.
-    End(u64),
+    /// It lands; the pass has so many errors and targets then.
+    Land(u64, usize),
+    /// Nothing is left to lend; the pass has so many errors, and makes so many logs good.
+    End(u64, u64),
 }
 
 /// Why a step is refused; None where it is done.
-type Fault = Option<SlotFault>;
+pub type Fault = Option<SlotFault>;
 
 /// Does a step. None where what it is about isn't there, or memory wants.
 fn does<R: Rack, A: Area>(shard: &mut Shard<R, A>, step: Step) -> Option<Fault>
@@ -99,7 +101,8 @@ fn does<R: Rack, A: Area>(shard: &mut Shard<R, A>, step: Step) -> Option<Fault>
         Step::Write if write(shard.alloc, shard, 1, 0, true) => Some(None),
         Step::Write => None,
         Step::Lend(sources) => lends(shard, sources),
-        Step::End(excised) => ends(shard, excised),
+        Step::Land(errors, targets) => lands(shard, errors, targets),
+        Step::End(errors, excised) => ends(shard, errors, excised),
     }
 }
 
@@ -181,11 +184,31 @@ fn lends<R: Rack, A: Area>(shard: &mut Shard<R, A>, sources: [bool; 3]) -> Optio
         return None;
     }
     solve(shard);
-    if has_columns(shard) { Some(None) } else { None }
+    let missing = sources.iter().filter(|there| !**there).count();
+    if missing > 1 || has_columns(shard) {
+        Some(None)
+    } else {
+        None
+    }
+}
+
+/// Lands what a rebuild that runs has lent.
+fn lands<R: Rack, A: Area>(shard: &mut Shard<R, A>, errors: u64, targets: usize) -> Option<Fault>
+    requires valid { Valid R.Rack shard.old }
+    ensures valid { Valid R.Rack shard.new }
+{
+    if !is_running(shard) || shard.kept.is_none() {
+        return None;
+    }
+    land(shard);
+    match &shard.pass {
+        Some(pass) if pass.errors == errors && pass.targets.len() == targets => Some(None),
+        _ => None,
+    }
 }
 
 /// Ends a rebuild that runs, of which nothing is left to lend.
-fn ends<R: Rack, A: Area>(shard: &mut Shard<R, A>, excised: u64) -> Option<Fault>
+fn ends<R: Rack, A: Area>(shard: &mut Shard<R, A>, errors: u64, excised: u64) -> Option<Fault>
     requires valid { Valid R.Rack shard.old }
     ensures valid { Valid R.Rack shard.new }
 {
@@ -193,7 +216,7 @@ fn ends<R: Rack, A: Area>(shard: &mut Shard<R, A>, excised: u64) -> Option<Fault
         return None;
     }
     let ended = done(shard);
-    if ended.errors == 0 && ended.excised == excised {
+    if ended.errors == errors && ended.excised == excised {
         return Some(None);
     }
     None
@@ -301,7 +324,7 @@ fn loses_named<R: Rack, A: Area>(shard: &mut Shard<R, A>, at: ArmAt, name: ArmNa
 
 /// What is told of an arm: its slot and place, what it is, whether it is offline, whether it is fresh, and how many groups it
 /// missed.
-type Told = (u32, u32, ArmKind, u64, bool, bool, u64);
+pub type Told = (u32, u32, ArmKind, u64, bool, bool, u64);
 
 /// Whether it is told.
 fn tells<R: Rack, A: Area>(shard: &Shard<R, A>, told: Told) -> bool
@@ -392,8 +415,8 @@ fn passes_over<R: Rack, A: Area>(
     }
 }
 
-/// The same over devices in memory.
-fn passes(alloc: Global, steps: &[(Step, Fault)], told: &[Told]) -> bool {
+/// The same over devices in memory. The calls of the rack with these numbers fail.
+pub fn passes(alloc: Global, failing: &[u64], steps: &[(Step, Fault)], told: &[Told]) -> bool {
     let Ok(layout) = layout() else {
         return false;
     };
@@ -403,7 +426,7 @@ fn passes(alloc: Global, steps: &[(Step, Fault)], told: &[Told]) -> bool {
         layout.spec.children,
         0,
         &[],
-        [&[], &[], &[]],
+        [failing, &[], &[]],
     ) {
         Ok(kit) => passes_over(alloc, layout, kit, steps, told),
         Err(_) => false,
@@ -570,7 +593,7 @@ static ROWS: [Row; 14] = [
             (Step::Plan(PassKind::Rebuild, Ok(1)), None),
             (Step::Sync, None),
             (Step::Ready(true), None),
-            (Step::End(1), None),
+            (Step::End(0, 1), None),
         ],
         &[(2, 1, ArmKind::Spare, 0, false, false, 0)],
     ),
@@ -594,6 +617,6 @@ static ROWS: [Row; 14] = [
 #[test]
 fn arms_come_and_go(rt: HostRuntime) {
     for (shown, steps, told) in ROWS.iter() {
-        assert!(rt; passes(rt.alloc(), steps, told), "{shown}");
+        assert!(rt; passes(rt.alloc(), &[], steps, told), "{shown}");
     }
 }

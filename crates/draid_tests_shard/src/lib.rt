@@ -18,6 +18,8 @@ mod entries;
 #[cfg(test)]
 mod groups;
 #[cfg(test)]
+mod rebuilds;
+#[cfg(test)]
 mod reopening;
 #[cfg(test)]
 mod replay;
