@@ -1,6 +1,6 @@
 -- The metaslabs behind which a rebuild of a pool leaves no pass.
 use Rattle.std.proofs.Common.{◌≡◌, ◌<◌, ◌≤◌, ◌+◌, ◌⊎◌, ◌∙◌, inl, inr, ℕ, Bool, true, false, List, Option, Some, None, arith, refl, sym, ap, subst, length, slice_index_or}
-use Rattle.std.specs.Prelude.{IfSome, slice_get}
+use Rattle.std.specs.Prelude.{IfSome, IsSome, slice_get}
 use Rattle.std.proofs.lemmas.Bool.{cases_eq, true≢false}
 use Rattle.std.proofs.lemmas.Option.{slice_get_within}
 use Rattle.draid_names.specs.declared.pass_kind.PassKind.TheVariants.{Rebuild}
@@ -9,7 +9,10 @@ use Rattle.draid_shard.specs.declared.shard.Shard.{Shard}
 use Rattle.draid_pool.specs.declared.pool.Pool.{Pool}
 use Rattle.draid_pool.proofs.Lists.{present, some_of}
 use Rattle.draid_pool.specs.Passes.{KeepsPass}
-use Rattle.draid_visits.specs.Visiting.{AreAll, AreMarks, IsAt, IsNoScrub, KeepsOthers}
+use Rattle.draid_mend.specs.Loans.{IsRunningRebuild}
+use Rattle.draid_visits.specs.Visiting.{AreAll, AreMarks, BeganAt, HasMark, IsAt, IsNoScrub, KeepsOthers, NoPasses, RunsRebuild}
+use Rattle.draid_visits.specs.declared.progress.Progress.{Progress}
+use Rattle.draid_visits.specs.declared.progress.Visit.TheVariants as visit
 use Rattle.draid_visits.proofs.Found.{no_pass}
 use Rattle.draid_visits.proofs.Kept.{none_kept}
 
@@ -68,6 +71,31 @@ module _ {R A : Type 0} where
   -- none of the others has a scrub then
   no_pass_no_scrub : (shard : Shard R A) → shard.pass ≡ None → IsNoScrub shard
   no_pass_no_scrub shard none = subst (λ o. IfSome o (λ (p : Pass). p.kind ≡ Rebuild)) (sym none) tt
+
+  -- one that paused runs
+  pub runs_there : (pool : Pool R A) (m : ℕ) → m < length pool.metaslabs.shards.items → IsAt pool m (λ shard. (pass : Pass) × (shard.pass ≡ Some pass) × IsRunningRebuild pass) → RunsRebuild pool
+  runs_there pool m inside runs =
+      let z = present pool.metaslabs.shards.items m inside in
+      let own = runs z.0 z.1 in
+      record { metaslab = m; shard = z.0; there = z.1; pass = own.0; has = own.1; runs = own.2 }
+
+  -- none has one in the end
+  pub idle_all : (marks : List Bool) (m : ℕ) (pool : Pool R A) → length pool.metaslabs.shards.items ≤ m → IsIdleUpto marks m pool → NoPasses pool
+  idle_all marks m pool end idle k shard there = idle k shard there (inl (let inside = slice_get_within pool.metaslabs.shards.items k shard there in omega (arith, inside, end)))
+
+  -- one was marked
+  pub began_all : (marks : List Bool) (m : ℕ) (old pool : Pool R A) (p : Progress) → length old.metaslabs.shards.items ≤ m → HasMark old marks → IsSome p.from ⊎ ((pool ≡ old) × NoneUpto marks m) → IsSome p.from
+  began_all marks m old pool p end has (inl some) = some
+  began_all marks m old pool p end has (inr none) = absurd (true≢false (sym has.is ∙ none.1 has.metaslab (let inside = has.inside in omega (arith, inside, end))))
+
+  -- the first that is marked begins
+  pub began_more : (marks : List Bool) (m : ℕ) (old pool : Pool R A) (was now : Progress) → m < length old.metaslabs.shards.items → AreMarks old marks → slice_index_or marks m false ≡ true
+      → IsSome was.from ⊎ ((pool ≡ old) × NoneUpto marks m) → BeganAt pool m was visit.Over now → (IsSome was.from → IsSome now.from) → IsSome now.from
+  began_more marks m old pool was now inside are mark before (inl some) on = some
+  began_more marks m old pool was now inside are mark (inl some) (inr none) on = on some
+  began_more marks m old pool was now inside are mark (inr same) (inr none) on =
+      let z = present old.metaslabs.shards.items m inside in
+      absurd (none.1 z.0 (ap (λ (q : Pool R A). slice_get q.metaslabs.shards.items m) same.0 ∙ z.1) ((are m z.0 z.1).some mark))
 
   pub alone_visited : (m : ℕ) (old new : Pool R A) → length new.metaslabs.shards.items ≡ length old.metaslabs.shards.items → KeepsOthers m old new → IsAt new m (λ shard. shard.pass ≡ None)
       → AreAll old IsNoScrub → AreAll new IsNoScrub

@@ -132,6 +132,9 @@ first_some : (o : Option ℕ) (n : ℕ) → IsSome (passes.first_from o n)
 first_some None n = refl
 first_some (Some k) n = refl
 
+pub stays_begun : (stripe : ℕ) (was now new : Progress) → now ≡ begun stripe was → new.from ≡ now.from → IsSome new.from
+stays_begun stripe was now new is same = subst IsSome (sym (same ∙ ap (λ (q : Progress). q.from) is)) (first_some was.from stripe)
+
 pub begun_so : (result : Visit) (stripe : ℕ) (was now new : Progress) → now ≡ begun stripe was → new.from ≡ now.from → HasBegun result new
 begun_so visit.Over stripe was now new is same = subst IsSome (sym (same ∙ ap (λ (q : Progress). q.from) is)) (first_some was.from stripe)
 begun_so visit.Paused stripe was now new is same = subst IsSome (sym (same ∙ ap (λ (q : Progress). q.from) is)) (first_some was.from stripe)

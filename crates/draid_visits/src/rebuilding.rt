@@ -98,12 +98,13 @@ fn visit_all<R: Rack, A: Area>(
         → CarriesOut R.Rack A.Area pool.new x (VisitsDo x progress.old result progress.new) }
 {
     for metaslab in 0..pool.metaslabs.shards.len() {
-        if marks[metaslab] {
-            match visit(pool, metaslab, progress) {
-                Visit::Over => {}
-                Visit::Paused => return Visit::Paused,
-                Visit::Stopped { why } => return Visit::Stopped { why },
-            }
+        if !marks[metaslab] {
+            continue;
+        }
+        match visit(pool, metaslab, progress) {
+            Visit::Over => {}
+            Visit::Paused => return Visit::Paused,
+            Visit::Stopped { why } => return Visit::Stopped { why },
         }
     }
     Visit::Over

@@ -1,5 +1,5 @@
 //! The visit of one metaslab by a rebuild of a pool: its pass begins, waits until it runs, lends, and ends.
-ghost use Rattle.std.specs.Prelude.{◌≡◌, ◌<◌, ◌≤◌, ◌+◌, ◌*◌, ℕ, IsErrOf, IsSomeAnd, None, OnOk, Option, Some, length};
+ghost use Rattle.std.specs.Prelude.{◌≡◌, ◌<◌, ◌≤◌, ◌+◌, ◌*◌, ℕ, IsErrOf, IsSome, IsSomeAnd, OnOk, Option, Some, length};
 ghost use Rattle.draid_names.specs.declared.pass_kind.PassKind.TheVariants.{Rebuild};
 ghost use Rattle.draid_spec.specs.Geometry.{metaslab_stripes};
 ghost use Rattle.draid_pass.specs.declared.pass.Pass.{Pass};
@@ -42,6 +42,7 @@ pub(crate) fn visit<R: Rack, A: Area>(
     ensures others { KeepsOthers metaslab pool.old pool.new }
     ensures leaves { LeavesAt result pool.new metaslab }
     ensures began { BeganAt pool.old metaslab progress.old result progress.new }
+    ensures from { IsSome progress.old.from → IsSome progress.new.from }
     ensures carries { (x : State) → Represents R.Rack A.Area pool.old x
         → CarriesOut R.Rack A.Area pool.new x (λ holds store. (store ≡ x.store) × VisitIs x.geometry x.perms metaslab progress.old result progress.new holds) }
 {
@@ -114,6 +115,7 @@ fn run<R: Rack, A: Area>(
     ensures others { KeepsOthers metaslab pool.old pool.new }
     ensures leaves { LeavesAt result pool.new metaslab }
     ensures began { HasBegun result progress.new }
+    ensures from { IsSome progress.old.from → IsSome progress.new.from }
     ensures carries { (x : State) → Represents R.Rack A.Area pool.old x
         → CarriesOut R.Rack A.Area pool.new x (λ holds store. (store ≡ x.store) × RunIs x.geometry x.perms metaslab stripe progress.old result progress.new holds) }
 {

@@ -1,7 +1,8 @@
-use Rattle.std.proofs.Common.{◌≡◌, ◌∙◌, arith, inl, inr, refl}
+use Rattle.std.proofs.Common.{◌≡◌, ◌<◌, ◌≤◌, ◌∙◌, arith, inl, inr, length, refl}
 use Rattle.draid_pool.proofs.Rises.{areas_on, areas_still, rose_then}
 use Rattle.draid_visits.proofs.AllVisits.{FromOn, visiting_by, visiting_ends, visiting_on, visiting_pauses, visiting_stops}
-use Rattle.draid_visits.proofs.Idle.{alone_visited, idle_first, idle_passed, idle_visited, none_more}
+use Rattle.draid_visits.proofs.Idle.{alone_visited, began_all, began_more, idle_all, idle_first, idle_passed, idle_visited, none_more, runs_there}
+use Rattle.draid_visits.proofs.Found.{seen_in}
 use Rattle.draid_visits.proofs.Leading.{leads_none}
 use Rattle.draid_visits.proofs.rebuilding.visit_all.Goals as goal
 
@@ -32,13 +33,108 @@ visit-requires g c =
     record { whole = i.whole; there = omega (arith, below, len, vec, many); alone = λ shard there. i.alone m shard there; low = i.low }
 
 pub returns-in-Paused : goal.returns-in-Paused
-returns-in-Paused g c = ?
+returns-in-Paused g c =
+    let l = c.loop-metaslab in
+    let i = l.invariant in
+    let m = l.metaslab in
+    let old = c.args.pool.now in
+    let below = c.loop-metaslab-test.true in
+    let len = c.len-metaslab-end.ensures in
+    let vec = old.metaslabs.shards.ok.0 in
+    let many = i.many in
+    let new = c.visit.new.pool in
+    let now = c.visit.new.progress in
+    let inside = (let less : m < length old.metaslabs.shards.items = omega (arith, below, len, vec) in less) in
+    let e = c.in-Paused.ensures in
+    let long = e.later.many in
+    record {
+      whole = e.whole;
+      same = λ object. e.same object ∙ i.same object;
+      later = areas_on g.A.Area.faults old l.pool new i.later e.later;
+      cause = λ is. absurd (cc is);
+      left = λ limit is. e.left limit (i.left limit is);
+      paused = e.paused;
+      began = e.began;
+      leaves = runs_there new m (omega (arith, inside, many, long)) e.leaves;
+      carries = λ x is sees. (let y = seen_in g.R.Rack g.A.Area old x is m inside in
+          visiting_pauses g.R.Rack g.A.Area c.args.progress.now m l.pool new x y.0 y.1 ((sees m y.0 y.1).0 c.if-not-marks-metaslab.false) l.progress now (i.carries x is sees) e.carries);
+    }
 
 pub returns-in-Stopped : goal.returns-in-Stopped
-returns-in-Stopped g c = ?
+returns-in-Stopped g c =
+    let l = c.loop-metaslab in
+    let i = l.invariant in
+    let m = l.metaslab in
+    let old = c.args.pool.now in
+    let below = c.loop-metaslab-test.true in
+    let len = c.len-metaslab-end.ensures in
+    let vec = old.metaslabs.shards.ok.0 in
+    let many = i.many in
+    let new = c.visit.new.pool in
+    let now = c.visit.new.progress in
+    let inside = (let less : m < length old.metaslabs.shards.items = omega (arith, below, len, vec) in less) in
+    let e = c.in-Stopped.ensures in
+    record {
+      whole = e.whole;
+      same = λ object. e.same object ∙ i.same object;
+      later = areas_on g.A.Area.faults old l.pool new i.later e.later;
+      cause = λ is. rose_then g.A.Area.faults old l.pool new i.later (e.cause is);
+      left = λ limit is. e.left limit (i.left limit is);
+      paused = tt;
+      began = tt;
+      leaves = tt;
+      carries = λ x is sees. (let y = seen_in g.R.Rack g.A.Area old x is m inside in
+          visiting_stops g.R.Rack g.A.Area c.args.progress.now m l.pool new x y.0 y.1 ((sees m y.0 y.1).0 c.if-not-marks-metaslab.false) l.progress now c.in-Stopped.why (i.carries x is sees) e.carries);
+    }
 
-pub lm : goal.loop-metaslab-p
-lm g c = ?
+pub returns : goal.returns
+returns g c =
+    let l = c.loop-metaslab in
+    let i = l.invariant in
+    let m = l.metaslab in
+    let old = c.args.pool.now in
+    let end = c.loop-metaslab-test.false in
+    let len = c.len-metaslab-end.ensures in
+    let vec = old.metaslabs.shards.ok.0 in
+    let many = i.many in
+    let all = (let upto : length old.metaslabs.shards.items ≤ m = omega (arith, end, len, vec) in upto) in
+    record {
+      whole = i.whole;
+      same = i.same;
+      later = i.later;
+      cause = λ is. absurd (cc is);
+      left = i.left;
+      paused = tt;
+      began = began_all c.args.marks.now m old l.pool l.progress all c.requires.some i.began;
+      leaves = idle_all c.args.marks.now m l.pool (omega (arith, all, many)) i.idle;
+      carries = λ x is sees. visiting_ends g.R.Rack g.A.Area c.args.progress.now m l.pool x l.progress (i.carries x is sees) (let seen = is.stands.shards in omega (arith, all, seen));
+    }
 
-pub rm : goal.returns-
-rm g c = ?
+pub loop-metaslab-preserved-in-Over : goal.loop-metaslab-preserved-in-Over
+loop-metaslab-preserved-in-Over g c =
+    let l = c.loop-metaslab in
+    let i = l.invariant in
+    let m = l.metaslab in
+    let old = c.args.pool.now in
+    let below = c.loop-metaslab-test.true in
+    let len = c.len-metaslab-end.ensures in
+    let vec = old.metaslabs.shards.ok.0 in
+    let many = i.many in
+    let new = c.visit.new.pool in
+    let now = c.visit.new.progress in
+    let inside = (let less : m < length old.metaslabs.shards.items = omega (arith, below, len, vec) in less) in
+    let e = c.in-Over.ensures in
+    let mark = c.if-not-marks-metaslab.false in
+    record {
+      whole = e.whole;
+      alone = alone_visited m l.pool new e.later.many e.others e.leaves i.alone;
+      same = λ object. e.same object ∙ i.same object;
+      later = areas_on g.A.Area.faults old l.pool new i.later e.later;
+      many = e.later.many ∙ i.many;
+      low = e.low;
+      left = λ limit is. e.left limit (i.left limit is);
+      began = inl (began_more c.args.marks.now m old l.pool l.progress now inside c.requires.marks mark i.began e.began e.from);
+      idle = idle_visited c.args.marks.now m l.pool new e.later.many e.others e.leaves i.idle;
+      carries = λ x is sees. (let y = seen_in g.R.Rack g.A.Area old x is m inside in
+          visiting_on g.R.Rack g.A.Area c.args.progress.now m l.pool new x y.0 y.1 ((sees m y.0 y.1).0 mark) l.progress now (i.carries x is sees) e.carries);
+    }

@@ -1,7 +1,7 @@
 use Rattle.std.proofs.Common.{◌≡◌, ◌∙◌, Err, arith, ap, subst}
 use Rattle.draid_pool.proofs.Rises.{areas_on}
 use Rattle.draid_visits.proofs.Kept.{low_upto, others_on}
-use Rattle.draid_visits.proofs.Visited.{begun_so, left_begun, low_begun, ran, ran_none, shelf_so}
+use Rattle.draid_visits.proofs.Visited.{begun_so, left_begun, stays_begun, low_begun, ran, ran_none, shelf_so}
 use Rattle.draid_visits.proofs.visiting.run.Goals as goal
 
 pub stripe_of-from-requires : goal.stripe_of-from-requires
@@ -26,6 +26,7 @@ returns-in-Err g c =
       others = f.others;
       leaves = tt;
       began = tt;
+      from = λ some. some;
       carries = ran_none g.R.Rack g.A.Area m c.args.pool.now c.run_in.new.pool c.args.stripe was was c.in-Err.why f.carries;
     }
 
@@ -62,6 +63,7 @@ returns g c =
       paused = f.paused;
       others = others_on m old mid new d.later.many d.others f.others;
       leaves = f.leaves;
+      from = λ some. stays_begun c.stripe_of-from.result was at now c.begin.ensures f.from;
       began = begun_so c.lend_all.result c.stripe_of-from.result was at now c.begin.ensures f.from;
       carries = ran g.R.Rack g.A.Area m old mid new c.args.stripe c.stripe_of-from.result was at now c.lend_all.result c.stripe_of-from.ensures c.begin.ensures d.carries f.carries;
     }

@@ -38,6 +38,7 @@ returns-in-At g c =
       paused = f.paused;
       others = others_on m old mid new e.later.many e.others f.others;
       leaves = f.leaves;
+      from = f.from;
       began = began_so c.run.result old m c.args.progress.now c.run.new.progress f.began;
       carries = visited_on g.R.Rack g.A.Area m old mid new c.in-At.stripe c.args.progress.now c.run.new.progress c.run.result e.carries f.carries;
     }
@@ -58,6 +59,7 @@ returns-in-Nothing g c =
       paused = tt;
       others = e.others;
       leaves = e.begins.0;
+      from = λ some. some;
       began = inr (refl, e.begins.1);
       carries = visited_none g.R.Rack g.A.Area m old new c.args.progress.now e.carries;
     }
@@ -78,6 +80,7 @@ returns-in-Stopped g c =
       paused = tt;
       others = e.others;
       leaves = tt;
+      from = λ some. some;
       began = tt;
       carries = visit_stops g.R.Rack g.A.Area m old new c.args.progress.now c.args.progress.now c.in-Stopped.why e.carries;
     }
