@@ -97,6 +97,12 @@ module _ {R A : Type 0} where
       let z = present old.metaslabs.shards.items m inside in
       absurd (none.1 z.0 (ap (λ (q : Pool R A). slice_get q.metaslabs.shards.items m) same.0 ∙ z.1) ((are m z.0 z.1).some mark))
 
+  -- this one isn't
+  pub began_passed : (marks : List Bool) (m : ℕ) (old pool : Pool R A) (p : Progress) → slice_index_or marks m false ≡ false → IsSome p.from ⊎ ((pool ≡ old) × NoneUpto marks m)
+      → IsSome p.from ⊎ ((pool ≡ old) × NoneUpto marks (m + 1))
+  began_passed marks m old pool p none (inl some) = inl some
+  began_passed marks m old pool p none (inr before) = inr (before.0, none_more marks m before.1 none)
+
   pub alone_visited : (m : ℕ) (old new : Pool R A) → length new.metaslabs.shards.items ≡ length old.metaslabs.shards.items → KeepsOthers m old new → IsAt new m (λ shard. shard.pass ≡ None)
       → AreAll old IsNoScrub → AreAll new IsNoScrub
   alone_visited m old new many others none alone k shard there = elim (cases_eq k m) [

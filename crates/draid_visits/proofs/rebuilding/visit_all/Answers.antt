@@ -1,7 +1,9 @@
-use Rattle.std.proofs.Common.{◌≡◌, ◌<◌, ◌≤◌, ◌∙◌, arith, inl, inr, length, refl}
+use Rattle.std.proofs.Common.{◌≡◌, ◌<◌, ◌≤◌, ◌∙◌, arith, inl, inr, length, refl, sym}
+use Rattle.std.proofs.lemmas.Bool.{true≢false}
 use Rattle.draid_pool.proofs.Rises.{areas_on, areas_still, rose_then}
 use Rattle.draid_visits.proofs.AllVisits.{FromOn, visiting_by, visiting_ends, visiting_on, visiting_pauses, visiting_stops}
-use Rattle.draid_visits.proofs.Idle.{alone_visited, began_all, began_more, idle_all, idle_first, idle_passed, idle_visited, none_more, runs_there}
+use Rattle.draid_visits.proofs.Idle.{alone_visited, began_all, began_more, began_passed, idle_all, idle_first, idle_passed, idle_visited, runs_there}
+use Rattle.draid_visits.proofs.Kept.{low_upto}
 use Rattle.draid_visits.proofs.Found.{seen_in}
 use Rattle.draid_visits.proofs.Leading.{leads_none}
 use Rattle.draid_visits.proofs.rebuilding.visit_all.Goals as goal
@@ -110,8 +112,8 @@ returns g c =
       carries = λ x is sees. visiting_ends g.R.Rack g.A.Area c.args.progress.now m l.pool x l.progress (i.carries x is sees) (let seen = is.stands.shards in omega (arith, all, seen));
     }
 
-pub loop-metaslab-preserved-in-Over : goal.loop-metaslab-preserved-in-Over
-loop-metaslab-preserved-in-Over g c =
+pub loop-metaslab-preserved : goal.loop-metaslab-preserved
+loop-metaslab-preserved g c =
     let l = c.loop-metaslab in
     let i = l.invariant in
     let m = l.metaslab in
@@ -137,4 +139,29 @@ loop-metaslab-preserved-in-Over g c =
       idle = idle_visited c.args.marks.now m l.pool new e.later.many e.others e.leaves i.idle;
       carries = λ x is sees. (let y = seen_in g.R.Rack g.A.Area old x is m inside in
           visiting_on g.R.Rack g.A.Area c.args.progress.now m l.pool new x y.0 y.1 ((sees m y.0 y.1).0 mark) l.progress now (i.carries x is sees) e.carries);
+    }
+
+pub loop-metaslab-preserved-then-not-marks-metaslab : goal.loop-metaslab-preserved-then-not-marks-metaslab
+loop-metaslab-preserved-then-not-marks-metaslab g c =
+    let l = c.loop-metaslab in
+    let i = l.invariant in
+    let m = l.metaslab in
+    let old = c.args.pool.now in
+    let below = c.loop-metaslab-test.true in
+    let len = c.len-metaslab-end.ensures in
+    let vec = old.metaslabs.shards.ok.0 in
+    let none = c.if-not-marks-metaslab.true in
+    let inside = (let less : m < length old.metaslabs.shards.items = omega (arith, below, len, vec) in less) in
+    record {
+      whole = i.whole;
+      alone = i.alone;
+      same = i.same;
+      later = i.later;
+      many = i.many;
+      low = low_upto m l.progress i.low;
+      left = i.left;
+      began = began_passed c.args.marks.now m old l.pool l.progress none i.began;
+      idle = idle_passed c.args.marks.now m l.pool none i.idle;
+      carries = λ x is sees. (let y = seen_in g.R.Rack g.A.Area old x is m inside in
+          visiting_by g.R.Rack g.A.Area c.args.progress.now m l.pool x y.0 l.progress y.1 (λ rebuilt. true≢false (sym ((sees m y.0 y.1).1 rebuilt) ∙ none)) (i.carries x is sees));
     }
