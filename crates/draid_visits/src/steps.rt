@@ -75,6 +75,7 @@ pub(crate) fn start_in<R: Rack, A: Area>(shard: &mut Shard<R, A>) -> Result<u64,
     ensures areas { SameAreas shard.old shard.new }
     ensures pass { OnOk result (IsSomeAnd shard.new.pass (λ (p : Pass). p.kind ≡ Rebuild)) }
     ensures none { OnErr result (shard.new.pass ≡ None) }
+    ensures idle { OnErr result (shard.old.pass ≡ None) }
     ensures refused { IfErr result (IsPlanRefused shard.old Rebuild) }
     ensures low { IfOk result (λ at. at ≤ metaslab_stripes shard.old.geometry) }
     ensures goes { (part : Part) (pieces : Pieces) (x : Metaslab) → IsMetaslab R.Rack A.Area part pieces shard.old x
