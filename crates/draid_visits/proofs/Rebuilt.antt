@@ -1,7 +1,6 @@
 -- The answers of a rebuild of a pool.
 use Rattle.std.proofs.Common.{◌≡◌, ◌≢◌, ◌+◌, ◌++◌, ◌∙◌, [], ◌∷◌, inl, inr, ℕ, Bool, true, false, List, Option, Some, None, Result, Ok, Err, arith, refl, sym, ap, subst, length}
-use Rattle.std.specs.Prelude.{◌≤◌, slice_get}
-use Rattle.std.proofs.lemmas.List.{append_nil}
+use Rattle.std.specs.Prelude.{◌≤◌, IfOk, slice_get}
 use Rattle.draid_rack.specs.declared.Rack as racks
 use Rattle.draid_area.specs.declared.Area as areas
 use Rattle.draid_names.specs.declared.pass_kind.PassKind.TheVariants.{Heal, Rebuild}
@@ -21,7 +20,8 @@ use Rattle.draid_pool.specs.declared.pool.Pool.{Pool}
 use Rattle.draid_pool.proofs.Looking.{changes_none, looked, looks_at}
 use Rattle.draid_pool.proofs.Steps.{follows_on}
 use Rattle.draid_pool.proofs.SyncSteps.{not_went}
-use Rattle.draid_visits.specs.Rebuilding.{IsAnswer, IsLowestScrub, IsMended, RebuildDoes, RebuildIs, RunsWhere, stopped_by}
+use Rattle.draid_visits.specs.Steps.{IsRebuiltIn}
+use Rattle.draid_visits.specs.Rebuilding.{IsAnswer, IsLowestScrub, IsMended, NothingToRebuild, RebuildDoes, RebuildIs, RunsWhere, stopped_by}
 use Rattle.draid_visits.specs.Visiting.{AreAll, HasMark, IsLeft, IsNoScrub, Leaves, PausesAt, SeesMarks, SeesNone, Tells, VisitsDo, end_by, outcome_by, tally_of}
 use Rattle.draid_visits.specs.declared.progress.Progress.{Progress}
 use Rattle.draid_visits.specs.declared.progress.Visit.{Visit}
@@ -29,13 +29,18 @@ use Rattle.draid_visits.specs.declared.progress.Visit.TheVariants as visit
 use Rattle.draid_visits.specs.declared.rebuilding.MendFault.{MendFault}
 use Rattle.draid_visits.specs.declared.rebuilding.MendFault.TheVariants as fault
 use Rattle.draid_visits.specs.declared.rebuilding.Mended.{Mended}
-use Rattle.draid_visits.proofs.Found.{all_unseen, none_scrubs, sees_lowest, some_rebuilt}
+use Rattle.draid_visits.proofs.Found.{all_unseen, no_pass, none_scrubs, sees_lowest, some_rebuilt}
 
 -- nothing was done yet
 abbrev pub begins : Option ℕ → Progress
 begins limit = record { left = limit; from = None; stripes = 0; errors = 0 }
 
 -- ---- within the limit
+
+-- nothing of it is used at first
+pub left_first : (limit : Option ℕ) → IsLeft limit (begins limit)
+left_first None = refl
+left_first (Some n) = (n, refl, omega arith)
 
 -- what is left of it says what was lent
 within_paused : (limit : Option ℕ) (p : Progress) → IsLeft limit p → p.left ≡ Some 0 → IsWithin limit p.stripes true
@@ -53,6 +58,10 @@ is_within limit visit.Over p it left pauses is =
 is_within limit visit.Paused p it left pauses is =
     subst (λ b. IsWithin limit it.stripes b) (sym is.paused_is) (subst (λ n. IsWithin limit n true) (sym is.stripes) (within_paused limit p left pauses))
 is_within limit (visit.Stopped why) p it left pauses is = absurd is
+
+pub within_limit : (limit : Option ℕ) (end : Visit) (p : Progress) (result : Result Mended MendFault) → IsLeft limit p → PausesAt end p → IsAnswer end p result → IfOk result (λ it. IsWithin limit it.stripes it.paused)
+within_limit limit end p (Ok it) left pauses is = is_within limit end p it left pauses is
+within_limit limit end p (Err why) left pauses is = tt
 
 -- ---- the passes behind it
 
@@ -172,13 +181,17 @@ module _ {R A : Type 0} (rack : racks.Ghosts R) (area : areas.Ghosts A) where
 
     answers : (end : Visit) (p : Progress) (result : Result Mended MendFault) → IsAnswer end p result → (holds : List Hold) (store : Store) → VisitsDo x (begins limit) end p holds store
         → RebuildDoes x limit result (looks_at 0 x.metaslabs ++ holds) store
-    answers visit.Over p (Ok it) is holds store (kept, t, tells, visits) = (kept, mended_so p it false t holds is tells visits)
+    answers visit.Over p (Ok it) is holds store (kept, (t, tells, visits)) = (kept, mended_so p it false t holds is tells visits)
     answers visit.Over p (Err why) is holds store does = absurd is
-    answers visit.Paused p (Ok it) is holds store (kept, t, tells, visits) = (kept, mended_so p it true t holds is tells visits)
+    answers visit.Paused p (Ok it) is holds store (kept, (t, tells, visits)) = (kept, mended_so p it true t holds is tells visits)
     answers visit.Paused p (Err why) is holds store does = absurd is
     answers (visit.Stopped why) p (Ok it) is holds store does = absurd is
-    answers (visit.Stopped why) p (Err cause) is holds store (kept, t, tells, visits) =
+    answers (visit.Stopped why) p (Err cause) is holds store (kept, (t, tells, visits)) =
         subst (λ c. RebuildDoes x limit (Err c) (looks_at 0 x.metaslabs ++ holds) store) (sym is) (stopped_so why t holds store kept visits)
 
     pub answered : (end : Visit) (p : Progress) (result : Result Mended MendFault) → IsAnswer end p result → CarriesOut rack area new x (VisitsDo x (begins limit) end p) → CarriesOut rack area new x (RebuildDoes x limit result)
     answered end p result is c = behind_looks (VisitsDo x (begins limit) end p) (RebuildDoes x limit result) (answers end p result is) c
+
+-- where none is rebuilt none has a pass
+pub nothing_there : {R A : Type 0} (pool : Pool R A) → AreAll pool IsNoScrub → AreAll pool (λ shard. IsRebuiltIn shard → ⊥) → NothingToRebuild pool
+nothing_there pool alone none = record { idle = λ m shard there. no_pass shard (alone m shard there) (none m shard there); none = none }
