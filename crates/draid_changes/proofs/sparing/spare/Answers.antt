@@ -173,3 +173,6 @@ returns-in-Err-NoMemory g c =
 
 pub reserve_all-requires : goal.reserve_all-requires
 reserve_all-requires g c = record { whole = c.in_default.ensures.whole }
+
+pub finish-requires : goal.finish-requires
+finish-requires g c = record { whole = c.requires.whole }
