@@ -1,7 +1,5 @@
-use Rattle.std.proofs.Common.{◌≡◌, ◌∙◌, ℕ, Err, ap}
-use Rattle.std.specs.Prelude.{IsErrOf}
+use Rattle.std.proofs.Common.{◌∙◌, ℕ, ap}
 use Rattle.draid_uber.specs.Uber.{version_of}
-use Rattle.draid_pool.specs.declared.fault.SyncFault.{SyncFault}
 use Rattle.draid_pool.specs.declared.fault.SyncFault.TheVariants as sync
 use Rattle.draid_pool.specs.declared.fault.Synced.{Synced}
 use Rattle.draid_pool.proofs.Refusing.{no_refusal}
@@ -10,13 +8,9 @@ use Rattle.draid_pool.proofs.Wholes.{same_pointers}
 use Rattle.draid_changes.specs.declared.need.Need.TheVariants as needs
 use Rattle.draid_changes.proofs.Events.{idle_reserved}
 use Rattle.draid_changes.proofs.Gone.{two_on}
-use Rattle.draid_changes.proofs.Raised.{raise_done, raise_refused, raise_stopped}
+use Rattle.draid_changes.proofs.Raised.{err_is, raise_done, raise_refused, raise_stopped}
 use Rattle.draid_changes.proofs.UpgradedWhole.{may_upgrade}
 use Rattle.draid_changes.proofs.upgrading.raise.Goals as goal
-
--- the fault of a refusal
-err_is : (why : SyncFault) → IsErrOf {T = ℕ} (Err why) sync.Shelf → why ≡ sync.Shelf
-err_is why is = cc
 
 pub returns-in-Err : goal.returns-in-Err
 returns-in-Err g c =
