@@ -1,6 +1,6 @@
 -- A pool is upgraded: what is closing is finished, and then version 2 is there already, or it is asked for and committed.
 use Rattle.std.proofs.Common.{◌≡◌, ◌≢◌, ◌++◌, ◌∙◌, [], ◌∷◌, inl, inr, ◌⊎◌, ℕ, List, Some, Ok, Err, arith, refl, sym, ap, subst, append_assoc}
-use Rattle.std.specs.Prelude.{slice_get}
+use Rattle.std.specs.Prelude.{IsErrOf, slice_get}
 use Rattle.draid_rack.specs.declared.Rack as racks
 use Rattle.draid_area.specs.declared.Area as areas
 use Rattle.draid_spec.specs.declared.layout.Geometry.{Geometry}
@@ -81,6 +81,10 @@ not_last sync.NoMemory none is = absurd (cc)
 pub not_through : (why : ReserveFault) → end_of_reserving (Err why) ≢ Went
 not_through (reserve.Worn events) is = absurd (cc)
 not_through reserve.NoMemory is = absurd (cc)
+
+-- the fault of a refusal
+pub err_is : (why : SyncFault) → IsErrOf {T = ℕ} (Err why) sync.Shelf → why ≡ sync.Shelf
+err_is why is = cc
 
 pub sync_stops : (x : State) (why : SyncFault) (holds : List Hold) (store : Store) → SyncDoes x (Err why) holds store → (store ≡ x.store) × groups.SyncStops x.geometry x.perms holds (end_of {T = ℕ} (Err why))
 sync_stops x sync.Worn holds store does = does

@@ -64,3 +64,9 @@ returns-in-Err-leave g c =
           detach_stopped g.R.Rack g.A.Area c.finish.new.self c.leave.new.pool x c.args.arm c.in-Ok.at (c.in_default.ensures.carries x is) c.in-Ok.ensures.stands c.in-Ok.ensures.none c.in-Err-leave.why c.in-Err-leave.ensures.carries;
       arms = tt;
     }
+
+pub finish-requires : goal.finish-requires
+finish-requires g c = record { whole = c.requires.whole }
+
+pub place_to_leave-requires : goal.place_to_leave-requires
+place_to_leave-requires g c = record { whole = c.in_default.ensures.whole }

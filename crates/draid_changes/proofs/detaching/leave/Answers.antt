@@ -1,6 +1,4 @@
-use Rattle.std.proofs.Common.{◌≡◌, ◌∙◌, ℕ, Err, refl}
-use Rattle.std.specs.Prelude.{IsErrOf}
-use Rattle.draid_pool.specs.declared.fault.SyncFault.{SyncFault}
+use Rattle.std.proofs.Common.{◌∙◌, ℕ, refl}
 use Rattle.draid_pool.specs.declared.fault.SyncFault.TheVariants as sync
 use Rattle.draid_pool.specs.declared.fault.Synced.{Synced}
 use Rattle.draid_pool.specs.declared.pool.Pool.{Pool}
@@ -10,11 +8,8 @@ use Rattle.draid_changes.specs.declared.need.Need.TheVariants as needs
 use Rattle.draid_changes.proofs.Events.{idle_reserved}
 use Rattle.draid_changes.proofs.Gone.{all_left, gone_on}
 use Rattle.draid_changes.proofs.Leaving.{areas_left, leave_done, leave_refused, leave_stopped, leaves_done, left_whole, may_leave}
+use Rattle.draid_changes.proofs.Raised.{err_is}
 use Rattle.draid_changes.proofs.detaching.leave.Goals as goal
-
--- the fault of a refusal
-err_is : (why : SyncFault) → IsErrOf {T = ℕ} (Err why) sync.Shelf → why ≡ sync.Shelf
-err_is why is = cc
 
 pub returns-in-Err : goal.returns-in-Err
 returns-in-Err g c =

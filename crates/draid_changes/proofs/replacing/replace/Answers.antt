@@ -245,3 +245,15 @@ make_all-requires g c = record {
   whole = c.in-Ok.ensures.whole;
   unused = (let same = ap next_leaf_of c.in-Ok.ensures.uber in let is = c.next_leaf-leaf.ensures in omega (arith, same, is));
 }
+
+pub finish-requires : goal.finish-requires
+finish-requires g c = record { whole = c.requires.whole }
+
+pub set_next_leaf-requires-clause-valid : goal.set_next_leaf-requires-clause-valid
+set_next_leaf-requires-clause-valid g c = c.in-Ok-make_all.ensures.whole.uber
+
+pub set_next_leaf-requires-clause-above : goal.set_next_leaf-requires-clause-above
+set_next_leaf-requires-clause-above g c = (let was = ap next_leaf_of (c.in-Ok-make_all.ensures.uber ∙ c.in-Ok.ensures.uber) ∙ sym c.next_leaf-leaf.ensures in omega (arith, was))
+
+pub set_next_leaf-requires-clause-below : goal.set_next_leaf-requires-clause-below
+set_next_leaf-requires-clause-below g c = (let low = c.in_default-may_replace.ensures.may.number in omega (arith, low))

@@ -169,7 +169,10 @@ returns-in-Err-NoMemory g c =
       arms = tt;
     }
 
--- ---- what becomes of the slot
+-- ---- what the calls ask for
 
 pub reserve_all-requires : goal.reserve_all-requires
 reserve_all-requires g c = record { whole = c.in_default.ensures.whole }
+
+pub finish-requires : goal.finish-requires
+finish-requires g c = record { whole = c.requires.whole }

@@ -8,12 +8,20 @@ use Rattle.draid_pool.proofs.Wholes.{same_pointers}
 use Rattle.draid_changes.specs.declared.need.Need.TheVariants as needs
 use Rattle.draid_changes.proofs.Events.{idle_reserved}
 use Rattle.draid_changes.proofs.Gone.{two_on}
-use Rattle.draid_changes.proofs.Raised.{raise_done, raise_refused, raise_stopped}
+use Rattle.draid_changes.proofs.Raised.{err_is, raise_done, raise_refused, raise_stopped}
 use Rattle.draid_changes.proofs.UpgradedWhole.{may_upgrade}
 use Rattle.draid_changes.proofs.upgrading.raise.Goals as goal
 
-pub returns-in-Err-clause-carries : goal.returns-in-Err-clause-carries
-returns-in-Err-clause-carries g c = λ x is one. raise_refused g.R.Rack g.A.Area c.reserve_all.new.pool x c.in-Err.fault c.stopped.result c.stopped.ensures.ends (c.in-Err.ensures.carries x is)
+pub returns-in-Err : goal.returns-in-Err
+returns-in-Err g c =
+    record {
+      whole = c.in-Err.ensures.whole;
+      same = same_pointers c.args.pool.now c.reserve_all.new.pool c.in-Err.ensures.objects;
+      later = c.in-Err.ensures.later;
+      cause = λ is. absurd (c.stopped.ensures.not_shelf (err_is c.stopped.result is));
+      carries = λ x is one. raise_refused g.R.Rack g.A.Area c.reserve_all.new.pool x c.in-Err.fault c.stopped.result c.stopped.ensures.ends (c.in-Err.ensures.carries x is);
+      versions = tt;
+    }
 
 pub ask-requires-clause-ready : goal.ask-requires-clause-ready
 ask-requires-clause-ready g c =

@@ -16,24 +16,33 @@ why_same sync.Last is = absurd (cc is)
 why_same sync.Shelf is = refl
 why_same sync.NoMemory is = absurd (cc is)
 
-pub returns-in-Err-clause-cause : goal.returns-in-Err-clause-cause
-returns-in-Err-clause-cause g c = λ is. c.in-Err.ensures.cause (why_same {T = ℕ} {U = Unit} c.in-Err.why is)
+pub returns-in-Err : goal.returns-in-Err
+returns-in-Err g c =
+    record {
+      whole = c.in-Err.ensures.whole;
+      same = same_pointers c.args.pool.now c.finish.new.self c.in-Err.ensures.objects;
+      later = c.in-Err.ensures.later;
+      cause = λ is. c.in-Err.ensures.cause (why_same {T = ℕ} {U = Unit} c.in-Err.why is);
+      carries = λ x is. upgrade_unfinished g.R.Rack g.A.Area c.finish.new.self x c.in-Err.why (λ last. c.in-Err.ensures.not_last (ap Err last)) (c.in-Err.ensures.carries x is);
+      asked = tt;
+    }
 
-pub returns-in-Err-clause-carries : goal.returns-in-Err-clause-carries
-returns-in-Err-clause-carries g c = λ x is. upgrade_unfinished g.R.Rack g.A.Area c.finish.new.self x c.in-Err.why (λ last. c.in-Err.ensures.not_last (ap Err last)) (c.in-Err.ensures.carries x is)
-
-pub returns-then-index-eq2-clause-carries : goal.returns-then-index-eq2-clause-carries
-returns-then-index-eq2-clause-carries g c = λ x is.
-    (let mid = c.finish.new.self in
-    let first = c.index.result.now in
-    let at = first_borrowed g.R.Rack g.A.Area mid first c.in_default.ensures.whole c.index.ensures in
-    upgrade_already g.R.Rack g.A.Area mid x first (c.in_default.ensures.carries x is) at c.if-index-eq2.true)
-
-pub returns-then-index-eq2-clause-asked : goal.returns-then-index-eq2-clause-asked
-returns-then-index-eq2-clause-asked g c =
-    let mid = c.finish.new.self in
-    let first = c.index.result.now in
-    (first, first_borrowed g.R.Rack g.A.Area mid first c.in_default.ensures.whole c.index.ensures, c.if-index-eq2.true)
+pub returns-then-index-eq2 : goal.returns-then-index-eq2
+returns-then-index-eq2 g c =
+    record {
+      whole = c.in_default.ensures.whole;
+      same = same_pointers c.args.pool.now c.finish.new.self c.in_default.ensures.objects;
+      later = c.in_default.ensures.later;
+      cause = λ is. absurd (cc is);
+      carries = λ x is.
+          (let mid = c.finish.new.self in
+          let first = c.index.result.now in
+          let at = first_borrowed g.R.Rack g.A.Area mid first c.in_default.ensures.whole c.index.ensures in
+          upgrade_already g.R.Rack g.A.Area mid x first (c.in_default.ensures.carries x is) at c.if-index-eq2.true);
+      asked = (let mid = c.finish.new.self in
+          let first = c.index.result.now in
+          (first, first_borrowed g.R.Rack g.A.Area mid first c.in_default.ensures.whole c.index.ensures, c.if-index-eq2.true));
+    }
 
 pub returns-in-Ok : goal.returns-in-Ok
 returns-in-Ok g c =
