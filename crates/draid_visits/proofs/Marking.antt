@@ -1,7 +1,9 @@
 -- The metaslabs that a rebuild of a pool marks.
-use Rattle.std.proofs.Common.{◌≡◌, ◌<◌, ◌≤◌, ◌+◌, ◌⊎◌, ◌∙◌, inl, inr, ℕ, zero, suc, [], ◌∷◌, Bool, true, false, List, Option, Some, None, arith, refl, sym, ap, subst, length, slice_index_or, slice_set}
-use Rattle.std.specs.Prelude.{◌↔◌, IsTrue, slice_get}
+use Rattle.std.proofs.Common.{◌≡◌, ◌<◌, ◌≤◌, ◌+◌, ◌∙◌, inl, inr, ℕ, zero, suc, [], ◌∷◌, Bool, true, false, List, Some, arith, refl, sym, ap, subst, length, replicate, slice_index_or, slice_set}
+use Rattle.std.specs.Prelude.{◌↔◌, slice_get}
 use Rattle.std.proofs.lemmas.Bool.{cases_eq, true≢false}
+use Rattle.std.proofs.lemmas.List.{length-set}
+use Rattle.std.proofs.lemmas.Option.{slice_get_within}
 use Rattle.draid_rack.specs.declared.Rack as racks
 use Rattle.draid_area.specs.declared.Area as areas
 use Rattle.draid_segments.specs.Segments.{Pieces}
@@ -13,10 +15,16 @@ use Rattle.draid_session.specs.State.{Metaslab, State}
 use Rattle.draid_pool.specs.Metaslabs.{IsMetaslab}
 use Rattle.draid_pool.specs.Pools.{Represents, part_in}
 use Rattle.draid_pool.specs.declared.pool.Pool.{Pool}
-use Rattle.draid_pool.proofs.Lists.{present, some_of}
+use Rattle.draid_pool.proofs.Lists.{some_of}
 use Rattle.draid_visits.specs.Steps.{IsRebuiltIn}
-use Rattle.draid_visits.specs.Visiting.{AreMarks, HasMark, IsMark, SeesMarks, SeesNone}
+use Rattle.draid_visits.specs.Visiting.{AreAll, AreMarks, SeesMarks, SeesNone}
 use Rattle.draid_visits.proofs.Found.{there_in}
+
+-- none is marked at first
+pub unmarked : (n k : ℕ) → slice_index_or (replicate n false) k false ≡ false
+unmarked zero k = refl
+unmarked (suc n) zero = refl
+unmarked (suc n) (suc k) = unmarked n k
 
 -- one was marked, and all are as before
 pub mark_here : (marks : List Bool) (m : ℕ) → m < length marks → slice_index_or (slice_set marks m true) m false ≡ true
@@ -40,6 +48,9 @@ module _ {R A : Type 0} (rack : racks.Ghosts R) (area : areas.Ghosts A) where
   abbrev pub MarkedUpto : Pool R A → List Bool → ℕ → Type 0
   MarkedUpto pool marks m = (k : ℕ) (shard : Shard R A) → k < m → slice_get pool.metaslabs.shards.items k ≡ Some shard → Marked shard (slice_index_or marks k false)
 
+  abbrev pub MarkedAll : Pool R A → List Bool → Type 0
+  MarkedAll pool marks = (k : ℕ) (shard : Shard R A) → slice_get pool.metaslabs.shards.items k ≡ Some shard → Marked shard (slice_index_or marks k false)
+
   pub marked_more : (pool : Pool R A) (marks : List Bool) (m : ℕ) (shard : Shard R A) → slice_get pool.metaslabs.shards.items m ≡ Some shard → Marked shard (slice_index_or marks m false) → MarkedUpto pool marks m
       → MarkedUpto pool marks (m + 1)
   marked_more pool marks m shard there own below k z less at = elim (cases_eq k m) [
@@ -52,15 +63,56 @@ module _ {R A : Type 0} (rack : racks.Ghosts R) (area : areas.Ghosts A) where
   pub marked_set : (pool : Pool R A) (marks : List Bool) (m : ℕ) → MarkedUpto pool marks m → MarkedUpto pool (slice_set marks m true) m
   marked_set pool marks m below k z less at = subst (Marked z) (sym (mark_elsewhere marks m k (λ same. omega (arith, less, same)))) (below k z less at)
 
+  -- what the marks say once the first so many were looked at
+  pub record Marks (pool : Pool R A) (marks : List Bool) (some : Bool) (m : ℕ) : Type 0 where
+    pub long : length marks ≡ 64
+    pub marked : MarkedUpto pool marks m
+    pub above : (k : ℕ) → m ≤ k → slice_index_or marks k false ≡ false
+    pub none : some ≡ false → (k : ℕ) → slice_index_or marks k false ≡ false
+    pub one : some ≡ true → (k : ℕ) × (k < m) × (slice_index_or marks k false ≡ true)
+
+  pub marks_set : (pool : Pool R A) (marks : List Bool) (some : Bool) (m : ℕ) (shard : Shard R A) → slice_get pool.metaslabs.shards.items m ≡ Some shard → Marked shard true → m < 64 → Marks pool marks some m
+      → Marks pool (slice_set marks m true) true (m + 1)
+  marks_set pool marks some m shard there own inside i =
+      let here = mark_here marks m (let long = i.long in omega (arith, long, inside)) in
+      record {
+        long = length-set marks m true ∙ i.long;
+        marked = marked_more pool (slice_set marks m true) m shard there (subst (Marked shard) (sym here) own) (marked_set pool marks m i.marked);
+        above = λ k low. mark_elsewhere marks m k (λ same. omega (arith, low, same)) ∙ i.above k (omega (arith, low));
+        none = λ is. absurd (true≢false is);
+        one = λ is. (m, omega arith, here);
+      }
+
+  pub marks_kept : (pool : Pool R A) (marks : List Bool) (some : Bool) (m : ℕ) (shard : Shard R A) → slice_get pool.metaslabs.shards.items m ≡ Some shard → Marked shard false → Marks pool marks some m
+      → Marks pool marks some (m + 1)
+  marks_kept pool marks some m shard there own i = record {
+    long = i.long;
+    marked = marked_more pool marks m shard there (subst (Marked shard) (sym (i.above m (omega arith))) own) i.marked;
+    above = λ k low. i.above k (omega (arith, low));
+    none = i.none;
+    one = λ is. (let z = i.one is in let less = z.1 in (z.0, omega (arith, less), z.2));
+  }
+
+  -- all were looked at
+  pub marked_all : (pool : Pool R A) (marks : List Bool) (m : ℕ) → length pool.metaslabs.shards.items ≤ m → MarkedUpto pool marks m → MarkedAll pool marks
+  marked_all pool marks m end below k shard there = below k shard (let inside = slice_get_within pool.metaslabs.shards.items k shard there in omega (arith, inside, end)) there
+
   -- all are marked, or not
-  pub are_marks : (pool : Pool R A) (marks : List Bool) → ((k : ℕ) (shard : Shard R A) → slice_get pool.metaslabs.shards.items k ≡ Some shard → Marked shard (slice_index_or marks k false)) → AreMarks pool marks
+  pub are_marks : (pool : Pool R A) (marks : List Bool) → MarkedAll pool marks → AreMarks pool marks
   are_marks pool marks all k shard there = record {
     some = λ set. (all k shard there).is.0 set;
     none = λ unset rebuilt. true≢false (sym ((all k shard there).is.1 rebuilt) ∙ unset);
   }
 
-  pub sees_marks : (pool : Pool R A) (marks : List Bool) → ((k : ℕ) (shard : Shard R A) → slice_get pool.metaslabs.shards.items k ≡ Some shard → Marked shard (slice_index_or marks k false))
+  pub sees_marks : (pool : Pool R A) (marks : List Bool) → MarkedAll pool marks
       → (x : State) → Represents rack area pool x → SeesMarks x marks
   sees_marks pool marks all x r k y at =
       let z = there_in rack area pool x r k y at in
       (all k z.0 z.1).seen (part_in x k) (r.stands.pieces k) y (r.stands.each k z.0 y z.1 at)
+
+  -- none is
+  pub none_rebuilt : (pool : Pool R A) (marks : List Bool) → MarkedAll pool marks → ((k : ℕ) → slice_index_or marks k false ≡ false) → AreAll pool (λ shard. IsRebuiltIn shard → ⊥)
+  none_rebuilt pool marks all none k shard there rebuilt = true≢false (sym ((all k shard there).is.1 rebuilt) ∙ none k)
+
+  pub sees_none : (pool : Pool R A) (marks : List Bool) → MarkedAll pool marks → ((k : ℕ) → slice_index_or marks k false ≡ false) → (x : State) → Represents rack area pool x → SeesNone x
+  sees_none pool marks all none x r k y at rebuilt = true≢false (sym ((sees_marks pool marks all x r k y at).1 rebuilt) ∙ none k)
