@@ -5,7 +5,8 @@ use draid_shelf::{CrashRule, MemoryShelf, Place, Shelf};
 use std::thread::Threads;
 
 /// A leaf is offline, its slot got a spare, and a group has both; then the spare is rebuilt, over another group.
-static REBUILT: &str = "create draid1:2d:4c:1s 4 sector=512 height=8 metaslabs=1 slices=2 seed=2\nfill 1 5 1024 1\noffline 0\nspare 0 0\nsync\nrebuild 3\nsync\nrebuild\n";
+static REBUILT: &str =
+    "create draid1:2d:4c:1s 4 sector=512 height=8 metaslabs=1 slices=2 seed=2\nfill 1 5 1024 1\noffline 0\nspare 0 0\nsync\nrebuild 3\nsync\nrebuild\n";
 
 /// The rebuild goes on to its end, and then another leaf goes.
 static LATER: &str = "import\nrebuild\noffline 1\nsum 1 5\n";
@@ -89,7 +90,8 @@ fn stopped_rebuilds_go_on(rt: HostRuntime) {
 // ---- calls that fail
 
 /// The same pool without a stop; the sum is taken with all other leaves, and with one of them gone.
-static FAILING: &str = "create draid1:2d:4c:1s 4 sector=512 height=8 metaslabs=1 slices=2 seed=2\nfill 1 5 1024 1\noffline 0\nspare 0 0\nrebuild 3\nsync\nrebuild\nsum 1 5\noffline 1\nsum 1 5\n";
+static FAILING: &str =
+    "create draid1:2d:4c:1s 4 sector=512 height=8 metaslabs=1 slices=2 seed=2\nfill 1 5 1024 1\noffline 0\nspare 0 0\nrebuild 3\nsync\nrebuild\nsum 1 5\noffline 1\nsum 1 5\n";
 
 /// What is printed behind the rebuild, up to the other leaf.
 static READ: &str =
@@ -101,6 +103,7 @@ static CLEAN: &str =
 
 /// The first calls of the rack write the blocks; the last one is behind the rebuild.
 const WRITES: u64 = 15;
+
 const CALLS: u64 = 100;
 
 /// Whether one text stands in another.
