@@ -101,10 +101,10 @@ static READ: &str =
 static CLEAN: &str =
     " errors=0 done\nsum 1 5 86d0ba4eedd376d0aabe0cbf2e8e70483259ee7b66af72aa9a3062dcc56c7a51\noffline 1 ok\nsum 1 5 86d0ba4eedd376d0aabe0cbf2e8e70483259ee7b66af72aa9a3062dcc56c7a51\n";
 
-/// The first calls of the rack write the blocks; the last one is behind the rebuild.
+/// So many calls of the rack write the blocks, and so many come before the other leaf goes.
 const WRITES: u64 = 15;
 
-const CALLS: u64 = 100;
+const CALLS: u64 = 53;
 
 /// Whether one text stands in another.
 fn stands_in(part: &[u8], whole: &[u8]) -> bool {
