@@ -93,22 +93,30 @@ fn stopped_rebuilds_go_on(rt: HostRuntime) {
 static FAILING: &str =
     "create draid1:2d:4c:1s 4 sector=512 height=8 metaslabs=1 slices=2 seed=2\nfill 1 5 1024 1\noffline 0\nspare 0 0\nrebuild 3\nsync\nrebuild\nsum 1 5\noffline 1\nsum 1 5\n";
 
-/// What is printed behind the rebuild, up to the other leaf.
-static READ: &str =
-    "\nsum 1 5 86d0ba4eedd376d0aabe0cbf2e8e70483259ee7b66af72aa9a3062dcc56c7a51\noffline 1 ok\n";
-
-/// What is printed of it where it has no errors.
-static CLEAN: &str =
-    " errors=0 done\nsum 1 5 86d0ba4eedd376d0aabe0cbf2e8e70483259ee7b66af72aa9a3062dcc56c7a51\noffline 1 ok\nsum 1 5 86d0ba4eedd376d0aabe0cbf2e8e70483259ee7b66af72aa9a3062dcc56c7a51\n";
+/// The sum of what was written.
+static SUM: &str = "sum 1 5 86d0ba4eedd376d0aabe0cbf2e8e70483259ee7b66af72aa9a3062dcc56c7a51";
 
 /// So many calls of the rack write the blocks, and so many come before the other leaf goes.
 const WRITES: u64 = 15;
 
 const CALLS: u64 = 53;
 
-/// Whether one text stands in another.
-fn stands_in(part: &[u8], whole: &[u8]) -> bool {
-    whole.windows(part.len()).any(|at| at == part)
+/// Whether the rebuild ended without errors.
+fn is_clean(printed: &[u8]) -> bool {
+    printed
+        .split(|byte: &u8| *byte == b'\n')
+        .any(|line| line.ends_with(b" errors=0 done"))
+}
+
+/// How often the sum was that of what was written.
+fn right_sums(printed: &[u8]) -> usize {
+    let mut sums = 0usize;
+    for line in printed.split(|byte: &u8| *byte == b'\n') {
+        if line == SUM.as_bytes() {
+            sums = sums.saturating_add(1);
+        }
+    }
+    sums
 }
 
 /// Whether the objects are there still, though this call of the rack fails: with all other leaves, and where the rebuild
@@ -119,9 +127,8 @@ fn survives<R: AllocGlobal + Threads + Sync>(rt: &R, call: u64) -> Option<bool> 
     let calls = Vec::from_slice(rt.alloc(), &[call]).ok()?;
     shelf.fail(Place::Rack(0), calls);
     run_lines(rt, &mut shelf, FAILING, &mut printed)?;
-    let held = printed.held();
-    let clean = !stands_in(b" errors=0 done\n", held) || held.ends_with(CLEAN.as_bytes());
-    Some(clean && stands_in(READ.as_bytes(), held))
+    let least = if is_clean(printed.held()) { 2 } else { 1 };
+    Some(right_sums(printed.held()) >= least)
 }
 
 #[test]
