@@ -1,5 +1,5 @@
 -- An event comes in each metaslab of a pool, for which events are reserved there.
-use Rattle.std.proofs.Common.{◌≡◌, ◌+◌, ◌∙◌, ℕ, false, Option, Some, None, arith, refl, sym, ap, subst, length}
+use Rattle.std.proofs.Common.{◌≡◌, ◌≤◌, ◌+◌, ◌∙◌, ℕ, false, Option, Some, None, arith, refl, sym, ap, subst, length}
 use Rattle.std.specs.Prelude.{is_some, nat_eq, slice_get}
 use Rattle.std.specs.HashMap.{get}
 use Rattle.draid_rack.specs.declared.Rack as racks
@@ -16,8 +16,10 @@ use Rattle.draid_session.specs.Arms as arms
 use Rattle.draid_session.specs.Phases.{Went}
 use Rattle.draid_session.specs.State.{Metaslab, State}
 use Rattle.draid_pool.specs.Carries.{CarriesOut}
-use Rattle.draid_pool.specs.Failing.{AreasLater}
+use Rattle.draid_pool.specs.Failing.{AreasLater, RacksLater}
+use Rattle.draid_pool.specs.Groups as sealing
 use Rattle.draid_pool.specs.Importable.{HasPoolVersions, IsAlike, Shared}
+use Rattle.draid_pool.specs.Keeping.{KeepsEach}
 use Rattle.draid_pool.specs.Metaslabs.{IsMetaslab}
 use Rattle.draid_pool.specs.Pools.{Represents, part_in}
 use Rattle.draid_pool.specs.Syncing.{AreIdle, Phase, Turns}
@@ -31,6 +33,23 @@ use Rattle.draid_changes.specs.declared.need.Need.{Need}
 use Rattle.draid_changes.specs.Walks.{ChangedBelow, Reserves}
 use Rattle.draid_changes.proofs.Walk.{ChangesAll, IsChanged, changed_at, changes_all}
 use Rattle.draid_changes.proofs.Whole.{SameOwn}
+
+-- what each change keeps is kept in all metaslabs
+pub each_changed : {R A : Type 0} (Changes keeps : Shard R A → Shard R A → Type 0) (pool new : Pool R A) → ChangedBelow Changes (length pool.metaslabs.shards.items) pool.metaslabs.shards.items new.metaslabs.shards.items
+    → ((old now : Shard R A) → Changes old now → keeps old now) → KeepsEach keeps pool new
+each_changed Changes keeps pool new changes by = record {
+  many = changes.many;
+  each = λ m before after at here.
+      (let was = changed_at Changes pool.metaslabs.shards.items new.metaslabs.shards.items changes m after here in
+      subst (λ s. keeps s after) (some_of (slice_get pool.metaslabs.shards.items m) was.0 before was.1 at) (by was.0 after was.2));
+}
+
+-- no rack was called
+pub racks_changed : {R A : Type 0} (faults : R → Option ℕ → ℕ) (Changes : Shard R A → Shard R A → Type 0) (pool new : Pool R A)
+    → ChangedBelow Changes (length pool.metaslabs.shards.items) pool.metaslabs.shards.items new.metaslabs.shards.items → ((old now : Shard R A) → Changes old now → now.rack ≡ old.rack) → RacksLater faults pool new
+racks_changed faults Changes pool new changes same =
+    each_changed Changes (λ before after. faults before.rack None ≤ faults after.rack None) pool new changes
+    (λ old now s. (let is = ap (λ r. faults r None) (same old now s) in omega (arith, is)))
 
 module _ {R A : Type 0} (rack : racks.Ghosts R) (area : areas.Ghosts A) where
   -- a metaslab without a closing group has no sealed one
@@ -82,7 +101,5 @@ module _ {R A : Type 0} (rack : racks.Ghosts R) (area : areas.Ghosts A) where
     areas_changed same = record {
       uber = (let same = ap (λ u. area.faults (area_of u)) set.uber in omega (arith, same));
       many = changes.many;
-      shards = λ m before after at here.
-          (let was = changed_at Changes pool.metaslabs.shards.items new.metaslabs.shards.items changes m after here in
-          records_same area.faults before after (subst (λ (s : Shard R A). SameAreas s after) (some_of (slice_get pool.metaslabs.shards.items m) was.0 before was.1 at) (same was.0 after was.2)));
+      shards = (each_changed Changes (sealing.AreasLater area.faults) pool new changes (λ old now s. records_same area.faults old now (same old now s))).each;
     }

@@ -6,6 +6,7 @@ pub mod Calls
 pub mod Coming
 pub mod Events
 pub mod Forbids
+pub mod Gone
 pub mod Leaves
 pub mod Leaving
 pub mod Left

@@ -1,7 +1,8 @@
 -- One metaslab of a pool as a leaf is made there, which is no arm yet.
-use Rattle.std.proofs.Common.{◌≡◌, ◌≢◌, ◌==◌, ◌&&◌, ◌∙◌, inl, inr, [], ℕ, Bool, true, false, Option, Some, None, Result, Err, arith, refl, sym, ap, subst}
+use Rattle.std.proofs.Common.{◌≡◌, ◌≢◌, ◌==◌, ◌≤◌, ◌&&◌, ◌∙◌, inl, inr, [], ℕ, Bool, true, false, Option, Some, None, Result, Err, arith, refl, sym, ap, subst}
 use Rattle.std.specs.Prelude.{OnErr, OnOk, option_map}
 use Rattle.std.proofs.lemmas.Bool.{cases_eq}
+use Rattle.std.proofs.lemmas.Option.{slice_get_within}
 use Rattle.draid_names.specs.Faults.{Rose}
 use Rattle.draid_names.specs.declared.fault.DeviceFault.{DeviceFault}
 use Rattle.draid_names.specs.declared.fault.DeviceFault.TheVariants as device
@@ -32,10 +33,14 @@ use Rattle.draid_session.specs.Follows.{CountsRise, HarmBoth}
 use Rattle.draid_session.specs.Holds.{Looked, MadeLeaf, RackFailed}
 use Rattle.draid_session.specs.Phases.{Went}
 use Rattle.draid_session.specs.State.{Counts, Metaslab}
+use Rattle.draid_pool.specs.Failing.{RackFails, RacksLater}
 use Rattle.draid_pool.specs.Metaslabs.{IsMetaslab, counts_of, harm_of}
 use Rattle.draid_pool.specs.Syncing.{KeepsCommitted, Turns}
+use Rattle.draid_pool.specs.declared.pool.Pool.{Pool}
 use Rattle.draid_pool.proofs.Dids.{records_same}
-use Rattle.draid_changes.specs.Making.{end_of_making}
+use Rattle.draid_pool.proofs.Lists.{present}
+use Rattle.draid_pool.proofs.Rises.{rose_some}
+use Rattle.draid_changes.specs.Making.{RackRose, end_of_making}
 use Rattle.draid_changes.proofs.Calls.{leaf_of_name}
 use Rattle.draid_changes.proofs.Reserved.{kept_here}
 
@@ -43,6 +48,23 @@ use Rattle.draid_changes.proofs.Reserved.{kept_here}
 pub not_made : (why : DeviceFault) → end_of_making (Err why) ≢ Went
 not_made device.Failed is = absurd (cc)
 not_made device.NoMemory is = absurd (cc)
+
+-- ---- the count of a rack as a whole
+
+-- none fell, and behind that one rose
+pub rack_rose_then : {R A : Type 0} (faults : R → Option ℕ → ℕ) (old mid new : Pool R A) → RacksLater faults old mid → RackRose faults mid new → RackRose faults old new
+rack_rose_then faults old mid new later rose =
+    let inside = slice_get_within mid.metaslabs.shards.items rose.0 rose.1 rose.3 in
+    let many = later.many in
+    let was = present old.metaslabs.shards.items rose.0 (omega (arith, inside, many)) in
+    (rose.0, was.0, rose.2, was.1, rose.4, rose_behind (faults was.0.rack None) (faults rose.1.rack None) (faults rose.2.rack None) (later.each rose.0 was.0 rose.1 was.1 rose.3) rose.5)
+  where
+    rose_behind : (a b c : ℕ) → a ≤ b → Rose b c → Rose a c
+    rose_behind a b c low up = omega (arith, low, up)
+
+-- one that rose isn't 0
+pub rack_fails : {R A : Type 0} (faults : R → Option ℕ → ℕ) (old new : Pool R A) → RackRose faults old new → RackFails faults new
+rack_fails faults old new rose = (rose.0, rose.2, rose.4, rose_some (faults rose.1.rack None) (faults rose.2.rack None) rose.5)
 
 -- harm elsewhere is as it was
 harm_both : (leaf : ℕ) (o p : Option Told) → LeavesTold (λ l s. l == leaf) o p → HarmBoth (harm_of o) (harm_of p) (λ old new. (other sector : ℕ) → other ≢ leaf → new other sector ≡ old other sector)

@@ -1,5 +1,5 @@
 -- All metaslabs of a pool are changed, one after another, each in one hold.
-use Rattle.std.proofs.Common.{◌≡◌, ◌<◌, ◌≤◌, ◌+◌, ◌++◌, ◌⊎◌, ◌∙◌, [], ◌∷◌, inl, inr, ℕ, zero, suc, List, Option, Some, arith, refl, sym, ap, subst, slice_set, length}
+use Rattle.std.proofs.Common.{◌≡◌, ◌<◌, ◌≤◌, ◌+◌, ◌++◌, ◌⊎◌, ◌∙◌, [], ◌∷◌, inl, inr, ℕ, zero, suc, List, Option, Some, arith, refl, sym, ap, subst, slice_index_or, slice_set, length}
 use Rattle.std.specs.Prelude.{slice_get}
 use Rattle.std.proofs.lemmas.Bool.{cases_eq}
 use Rattle.std.proofs.lemmas.List.{length-set}
@@ -25,6 +25,7 @@ use Rattle.draid_pool.proofs.Lists.{get_set_other, get_set_same, present, some_o
 use Rattle.draid_pool.proofs.Moved.{with_metaslab}
 use Rattle.draid_pool.proofs.Steps.{follows_on}
 use Rattle.draid_pool.proofs.Stood.{IsOneOf, Moves, Stood, stood_moved}
+use Rattle.draid_pool.proofs.SyncSteps.{borrowed_at}
 use Rattle.draid_pool.proofs.Walks.{Walked, walk_each, walked_more}
 use Rattle.draid_changes.specs.Walks.{ChangedBelow}
 
@@ -48,6 +49,19 @@ changed_more Changes m old now x y b there changes = record {
 
 pub changed_none : {S : Type 0} (Changes : S → S → Type 0) (old : List S) → ChangedBelow Changes 0 old old
 changed_none Changes old = record { many = refl; below = λ k x less at. absurd (omega (arith, less)); others = λ k from. refl }
+
+-- what was borrowed at the place that a walk has come to was there before
+pub was_borrowed : {S : Type 0} (Changes : S → S → Type 0) (m : ℕ) (old now : List S) (x : S) → ChangedBelow Changes m old now → m < length old → x ≡ slice_index_or now m x → slice_get old m ≡ Some x
+was_borrowed Changes m old now x b below is = (let many = b.many in sym (b.others m (omega arith)) ∙ borrowed_at now m x (omega (arith, below, many)) is)
+
+-- and it is changed
+pub walk_more : {S : Type 0} (Changes : S → S → Type 0) (m : ℕ) (old now : List S) (x y : S) → ChangedBelow Changes m old now → m < length old → x ≡ slice_index_or now m x → Changes x y
+    → ChangedBelow Changes (m + 1) old (slice_set now m y)
+walk_more Changes m old now x y b below is changes = (let many = b.many in changed_more Changes m old now x y b (borrowed_at now m x (omega (arith, below, many)) is) changes)
+
+-- it has come to the end
+pub walk_ends : {S : Type 0} (Changes : S → S → Type 0) (m : ℕ) (old now : List S) → ChangedBelow Changes m old now → m ≡ length old → ChangedBelow Changes (length old) old now
+walk_ends Changes m old now b all = subst (λ n. ChangedBelow Changes n old now) all b
 
 -- what stood at a place before
 pub changed_at : {S : Type 0} (Changes : S → S → Type 0) (old new : List S) → ChangedBelow Changes (length old) old new → (k : ℕ) (y : S) → slice_get new k ≡ Some y

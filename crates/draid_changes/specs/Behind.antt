@@ -7,7 +7,7 @@ use Rattle.draid_names.specs.declared.refusal.SlotFault.{SlotFault}
 use Rattle.draid_names.specs.declared.refusal.SlotFault.TheVariants as slot
 use Rattle.draid_script.specs.Line.{AttachSpare, Command, DetachArm, ReplaceDisk, TakeOffline, TakeOnline, UpgradePool}
 use Rattle.draid_reply.specs.declared.reply.Reply.{Reply}
-use Rattle.draid_reply.specs.declared.reply.Reply.TheVariants.{OfflineDone, OfflineRefused, OnlineDone, OnlineRefused, Spared, SpareRefused, Replaced, ReplaceRefused, DetachRefused, UpgradeAlready}
+use Rattle.draid_reply.specs.declared.reply.Reply.TheVariants.{OfflineDone, OfflineRefused, OnlineDone, OnlineRefused, Spared, SpareRefused, Replaced, ReplaceRefused, Detached, DetachRefused, Upgraded, UpgradeAlready}
 use Rattle.draid_slots.specs.Table.{IsArmOf, SlotTable, arm_at}
 use Rattle.draid_shard.specs.declared.shard.Shard.{Shard}
 use Rattle.draid_uber.specs.Uber.{next_leaf_of}
@@ -93,9 +93,13 @@ GoingIsBarred {R} {A} arm why pool =
     (first : Shard R A) × (slice_get pool.metaslabs.shards.items 0 ≡ Some first)
     × (((why ≡ slot.NoSuch) × ((at : ArmAt) → IsNamed first.slots at arm → ⊥)) ⊎ ((at : ArmAt) × IsNamed first.slots at arm × IsGoingRefused first.slots pool.metaslabs.shards.items at why))
 
+-- it is an arm in no metaslab
+abbrev pub IsGone : {R A : Type 0} → ArmName → Pool R A → Type 0
+IsGone {R} {A} arm pool = Each (λ (shard : Shard R A). (at : ArmAt) → IsNamed shard.slots at arm → ⊥) pool.metaslabs.shards.items
+
 -- by the answer of the call that detaches it
 abbrev pub GoingIs : {R A : Type 0} → ArmName → Result ℕ DetachFault → Pool R A → Type 0
-GoingIs arm (Ok group) pool = ⊤
+GoingIs arm (Ok group) pool = IsGone arm pool
 GoingIs arm (Err (going.Slot why)) pool = GoingIsBarred arm why pool
 GoingIs arm (Err (going.Sync why)) pool = ⊤
 
@@ -103,9 +107,13 @@ GoingIs arm (Err (going.Sync why)) pool = ⊤
 abbrev pub AsksForTwo : {R A : Type 0} → Pool R A → Type 0
 AsksForTwo {R} {A} pool = (first : Shard R A) × (slice_get pool.metaslabs.shards.items 0 ≡ Some first) × (first.asked ≡ 2)
 
+-- each metaslab has it
+abbrev pub AllHaveTwo : {R A : Type 0} → Pool R A → Type 0
+AllHaveTwo {R} {A} pool = Each (λ (shard : Shard R A). shard.version ≡ 2) pool.metaslabs.shards.items
+
 -- by the answer of the call that asks for it
 abbrev pub UpgradeIs : {R A : Type 0} → Result ℕ UpgradeFault → Pool R A → Type 0
-UpgradeIs (Ok group) pool = ⊤
+UpgradeIs (Ok group) pool = AllHaveTwo pool
 UpgradeIs (Err raising.Already) pool = AsksForTwo pool
 UpgradeIs (Err (raising.Sync why)) pool = ⊤
 
@@ -120,6 +128,8 @@ ArmsBehind (AttachSpare slot spare) (Spared s called) pool = AllHaveSpare slot s
 ArmsBehind (AttachSpare slot spare) (SpareRefused s why) pool = SpareIsBarred slot spare why pool.metaslabs.shards.items
 ArmsBehind (ReplaceDisk slot sectors) (Replaced s leaf) pool = AllHaveLeaf slot leaf pool.metaslabs.shards.items × (next_leaf_of pool.uber ≡ leaf + 1)
 ArmsBehind (ReplaceDisk slot sectors) (ReplaceRefused s why) pool = DiskIsBarred slot sectors why pool
+ArmsBehind (DetachArm arm) (Detached a group) pool = IsGone (arm_of arm) pool
 ArmsBehind (DetachArm arm) (DetachRefused a why) pool = GoingIsBarred (arm_of arm) why pool
+ArmsBehind UpgradePool (Upgraded group) pool = AllHaveTwo pool
 ArmsBehind UpgradePool UpgradeAlready pool = AsksForTwo pool
 ArmsBehind command reply pool = ⊤

@@ -35,6 +35,7 @@ pub record Upgrades {R A : Type 0} (rack : Ghosts R) (old new : Shard R A) : Typ
   pub acts : (pieces : Pieces) → ActsOn rack old new event.Upgrade pieces
   pub keeps : KeepsBlocks old new
   pub slots : KeepsArms old.slots new.slots
+  pub asked : new.asked ≡ 2
   pub reserve : Uses old.history new.history 1
 
 -- it is asked for there: only just, or it was already

@@ -1,4 +1,4 @@
-ghost use Rattle.std.specs.Prelude.{◌≡◌, ◌<◌, Err, IfErr, IfNone, IfOk, IfSome, IsErrOf, None, Some, length, slice_get, ℕ};
+ghost use Rattle.std.specs.Prelude.{◌≡◌, ◌<◌, Err, IfErr, IfNone, IfOk, IfSome, IsErrOf, None, OnOk, Some, length, slice_get, ℕ};
 ghost use Rattle.draid_shard.specs.declared.shard.Shard.{Shard};
 ghost use Rattle.draid_disks.specs.Disks.{IsNamed};
 ghost use Rattle.draid_session.specs.Arms as arms;
@@ -11,7 +11,7 @@ ghost use Rattle.draid_pool.specs.Pools.{Represents};
 ghost use Rattle.draid_pool.specs.Syncing.{AreIdle};
 ghost use Rattle.draid_pool.specs.Views.{seen_at};
 ghost use Rattle.draid_pool.specs.Whole.{IsWhole};
-ghost use Rattle.draid_changes.specs.Behind.{GoingIs, GoingIsBarred};
+ghost use Rattle.draid_changes.specs.Behind.{GoingIs, GoingIsBarred, IsGone};
 ghost use Rattle.draid_changes.specs.Detaching.{DetachDoes, LeaveDoes, Leaves, MayGo, MayLeave};
 ghost use Rattle.draid_changes.specs.Walks.{ChangedBelow};
 
@@ -118,6 +118,7 @@ fn leave<R: Rack, A: Area>(pool: &mut Pool<R, A>, at: ArmAt, arm: ArmName) -> Re
     ensures cause { IsErrOf result SyncFault.Shelf → AreaRose A.faults pool.old pool.new }
     ensures carries { (x : State) → Represents R.Rack A.Area pool.old x
         → CarriesOut R.Rack A.Area pool.new x (LeaveDoes x at.slot arm result) }
+    ensures gone { OnOk result (IsGone arm pool.new) }
 {
     if let Err(fault) = reserve_all(pool, Need::Event) {
         return Err(stopped(fault));

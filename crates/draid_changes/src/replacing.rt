@@ -1,12 +1,13 @@
 ghost use Rattle.std.specs.Prelude.{◌≡◌, ◌⊎◌, IsErrOf};
 ghost use Rattle.draid_session.specs.State.{State};
 ghost use Rattle.draid_pool.specs.Carries.{CarriesOut};
-ghost use Rattle.draid_pool.specs.Failing.{AreaRose, AreasLater, RackFails};
+ghost use Rattle.draid_pool.specs.Failing.{AreaRose, AreasLater};
 ghost use Rattle.draid_pool.specs.Pointers.{SamePointers};
 ghost use Rattle.draid_pool.specs.Pools.{Represents};
 ghost use Rattle.draid_pool.specs.Whole.{IsWhole};
 ghost use Rattle.draid_changes.specs.Answers.{ReplaceDoes};
 ghost use Rattle.draid_changes.specs.Behind.{DiskIs};
+ghost use Rattle.draid_changes.specs.Making.{RackRose};
 
 use crate::attaching::attach_all;
 use crate::fault::{ArmFault, arm_fault};
@@ -31,7 +32,7 @@ pub fn replace<R: Rack, A: Area>(
     ensures whole { IsWhole R.Rack A.Area pool.new }
     ensures same { SamePointers pool.old pool.new }
     ensures later { AreasLater A.faults pool.old pool.new }
-    ensures cause { IsErrOf result ArmFault.Shelf → AreaRose A.faults pool.old pool.new ⊎ RackFails R.faults pool.new }
+    ensures cause { IsErrOf result ArmFault.Shelf → AreaRose A.faults pool.old pool.new ⊎ RackRose R.faults pool.old pool.new }
     ensures carries { (x : State) → Represents R.Rack A.Area pool.old x
         → CarriesOut R.Rack A.Area pool.new x (ReplaceDoes x slot sectors result) }
     ensures arms { DiskIs slot sectors result pool.new }

@@ -1,7 +1,8 @@
-ghost use Rattle.std.specs.Prelude.{◌≡◌, Err, IsErrOf, None, Some, length, slice_get, ℕ};
+ghost use Rattle.std.specs.Prelude.{◌≡◌, Err, IsErrOf, None, OnOk, Some, length, slice_get, ℕ};
 ghost use Rattle.draid_entries.specs.declared.history.ReserveFault.{ReserveFault};
 ghost use Rattle.draid_machine.specs.declared.event.Event.TheVariants as event;
 ghost use Rattle.draid_shard.specs.declared.shard.Shard.{Shard};
+ghost use Rattle.draid_disks.specs.Checks.{Each};
 ghost use Rattle.draid_session.specs.Arms.{EventPhase};
 ghost use Rattle.draid_session.specs.Phases.{Chain, Went};
 ghost use Rattle.draid_session.specs.State.{State};
@@ -13,7 +14,7 @@ ghost use Rattle.draid_pool.specs.Pools.{Represents};
 ghost use Rattle.draid_pool.specs.Syncing.{AreIdle, Phase, end_of};
 ghost use Rattle.draid_pool.specs.Whole.{IsWhole};
 ghost use Rattle.draid_uber.specs.Uber.{version_of};
-ghost use Rattle.draid_changes.specs.Behind.{UpgradeIs};
+ghost use Rattle.draid_changes.specs.Behind.{AllHaveTwo, UpgradeIs};
 ghost use Rattle.draid_changes.specs.Upgrading.{MayUpgrade, RaiseDoes, UpgradeDoes, UpgradesIn};
 ghost use Rattle.draid_changes.specs.Walks.{ChangedBelow, end_of_reserving};
 
@@ -67,6 +68,7 @@ fn raise<R: Rack, A: Area>(pool: &mut Pool<R, A>) -> Result<u64, SyncFault>
     ensures cause { IsErrOf result SyncFault.Shelf → AreaRose A.faults pool.old pool.new }
     ensures carries { (x : State) → Represents R.Rack A.Area pool.old x → version_of pool.old.uber ≡ 1
         → CarriesOut R.Rack A.Area pool.new x (RaiseDoes x result) }
+    ensures versions { OnOk result (AllHaveTwo pool.new) }
 {
     if let Err(fault) = reserve_all(pool, Need::Event) {
         return Err(stopped(fault));
@@ -98,6 +100,7 @@ fn ask<R: Rack, A: Area>(pool: &mut Pool<R, A>)
     ensures later { AreasLater A.faults pool.old pool.new }
     ensures carries { (x : State) → Represents R.Rack A.Area pool.old x → version_of pool.old.uber ≡ 1
         → CarriesOut R.Rack A.Area pool.new x (Phase x (Chain (EventPhase x.geometry x.perms event.Upgrade) Asks) Went) }
+    ensures asked { Each (λ (shard : Shard R A). shard.asked ≡ 2) pool.new.metaslabs.shards.items }
 {
     ask_all(&mut pool.metaslabs.shards);
     pool.uber.upgrade();

@@ -1,5 +1,5 @@
 mod Aims
-mod Chained
+pub mod Chained
 mod Columned
 mod Comes
 mod Counted

@@ -40,6 +40,12 @@ pub record IsUnit {R A : Type 0} (shard : Shard R A) (entry : Entry) (stripe : �
   pub over : IsOver shard.entries stripe entry
   pub next : (w : machine.State) → IsIn shard w → (p : Pass) → shard.pass ≡ Some p → IsNextTaken w.core p.at stripe
 
+-- an entry has such a stripe
+pub record HasUnit {R A : Type 0} (shard : Shard R A) : Type 0 where
+  pub entry : Entry
+  pub stripe : ℕ
+  pub is : IsUnit shard entry stripe
+
 -- where a pass stands, and how many targets it has
 abbrev pub IsPlaceOf : Option Pass → ℕ → Type 0
 IsPlaceOf None place = ⊤

@@ -5,13 +5,13 @@ ghost use Rattle.draid_machine.specs.State as machine;
 ghost use Rattle.draid_machine.specs.Step.{IsTaken};
 ghost use Rattle.draid_pass.specs.declared.pass.Pass.{Pass};
 ghost use Rattle.draid_shard.specs.Alike.{KeepsArms};
-ghost use Rattle.draid_shard.specs.Calls.{SameAreas, SameReserve};
+ghost use Rattle.draid_shard.specs.Calls.{SameAreas, SameKit, SameReserve};
 ghost use Rattle.draid_shard.specs.Changes.{DoesNothing, KeepsBlocks};
 ghost use Rattle.draid_shard.specs.Fits.{Valid};
 ghost use Rattle.draid_shard.specs.Left.{HasNothingLeft};
 ghost use Rattle.draid_shard.specs.Rooms.{IsWornFor};
 ghost use Rattle.draid_shard.specs.States.{IsIn};
-ghost use Rattle.draid_mend.specs.Loans.{HasLendRoom, IsLendRefused, IsPlaceOf, IsRunningRebuild, IsTargetsOf, IsUnit, LendsUnit, lend_events, unit_at};
+ghost use Rattle.draid_mend.specs.Loans.{HasLendRoom, HasUnit, IsLendRefused, IsPlaceOf, IsRunningRebuild, IsTargetsOf, IsUnit, LendsUnit, lend_events, unit_at};
 
 use crate::lending::{Readings, read_stripe};
 use crate::naming::name_sources;
@@ -48,8 +48,12 @@ pub fn lend<R: Rack, A: Area>(shard: &mut Shard<R, A>) -> Result<Lent, LendFault
     ensures areas { SameAreas shard.old shard.new }
     ensures told { R.told shard.new.rack ≡ R.told shard.old.rack }
     ensures unit { result ≡ Ok Lent.Unit → LendsUnit R.Rack shard.old shard.new }
+    ensures not_worn { result ≡ Ok Lent.Unit → IsWornFor shard.old (lend_events shard.old.kept) → ⊥ }
+    ensures pass { shard.new.pass ≡ shard.old.pass }
     ensures end { result ≡ Ok Lent.End → HasNothingLeft shard.old × (shard.new ≡ shard.old) }
     ensures refused { IfErr result (IsLendRefused shard.old) }
+    ensures more { OnErr result (HasUnit shard.old) }
+    ensures kit { OnErr result (SameKit shard.old shard.new) }
     ensures none { OnErr result (DoesNothing shard.old shard.new) }
     ensures keeps { KeepsBlocks shard.old shard.new }
     ensures arms { KeepsArms shard.old.slots shard.new.slots }
@@ -75,7 +79,10 @@ fn lend_next<R: Rack, A: Area>(
     ensures told { R.told shard.new.rack ≡ R.told shard.old.rack }
     ensures is { IfOk result (λ lent. lent ≡ Lent.Unit) }
     ensures unit { OnOk result (LendsUnit R.Rack shard.old shard.new) }
+    ensures not_worn { OnOk result (IsWornFor shard.old (lend_events shard.old.kept) → ⊥) }
+    ensures pass { shard.new.pass ≡ shard.old.pass }
     ensures refused { IfErr result (IsLendRefused shard.old) }
+    ensures kit { OnErr result (SameKit shard.old shard.new) }
     ensures none { OnErr result (DoesNothing shard.old shard.new) }
     ensures keeps { KeepsBlocks shard.old shard.new }
     ensures arms { KeepsArms shard.old.slots shard.new.slots }
@@ -165,6 +172,7 @@ fn lend_unit<R: Rack, A: Area>(shard: &mut Shard<R, A>, entry: Entry, stripe: u6
     ensures areas { SameAreas shard.old shard.new }
     ensures told { R.told shard.new.rack ≡ R.told shard.old.rack }
     ensures unit { LendsUnit R.Rack shard.old shard.new }
+    ensures pass { shard.new.pass ≡ shard.old.pass }
     ensures keeps { KeepsBlocks shard.old shard.new }
     ensures arms { KeepsArms shard.old.slots shard.new.slots }
     ensures reserve { SameReserve shard.old shard.new }

@@ -1,10 +1,10 @@
-ghost use Rattle.std.specs.Prelude.{◌≡◌, ◌*◌, ◌≤◌, [], All, IfSome, IsSomeAnd, None, true, vec_capacity};
+ghost use Rattle.std.specs.Prelude.{◌≡◌, ◌*◌, ◌≤◌, [], ℕ, All, IfSome, IsSomeAnd, None, true, vec_capacity};
 ghost use Rattle.draid_names.specs.declared.pass_kind.PassKind.TheVariants.{Heal};
 ghost use Rattle.draid_pass.specs.declared.pass.Pass.{Pass};
 ghost use Rattle.draid_shard.specs.Alike.{ShareArms};
 ghost use Rattle.draid_shard.specs.Calls.{SameAreas, SameReserve};
 ghost use Rattle.draid_shard.specs.Changes.{KeepsBlocks};
-ghost use Rattle.draid_shard.specs.Fits.{HasLeaves, Valid};
+ghost use Rattle.draid_shard.specs.Fits.{HasLeaves, IsLeaf, Valid};
 ghost use Rattle.draid_shard.specs.Left.{HasNothingLeft};
 ghost use Rattle.draid_slots.specs.Table.{IsThere};
 ghost use Rattle.draid_passing.specs.Ending.{Ends, FirmsBy, IsEnded, last_good};
@@ -41,6 +41,7 @@ pub fn done<R: Rack, A: Area>(shard: &mut Shard<R, A>) -> Ended
     ensures ends { Ends R.Rack shard.old shard.new result }
     ensures keeps { KeepsBlocks shard.old shard.new }
     ensures arms { ShareArms shard.old.slots shard.new.slots }
+    ensures leaves { (leaf : ℕ) → IsLeaf shard.new.slots leaf → IsLeaf shard.old.slots leaf }
     ensures over { shard.new.pass ≡ None }
     ensures reserve { SameReserve shard.old shard.new }
 {

@@ -1,8 +1,9 @@
-ghost use Rattle.std.specs.Prelude.{◌≡◌, ◌*◌, ◌<◌, ◌≤◌, ◌+◌, ◌^◌, ◌||◌, ◌↔◌, not, None, Err, IfErr, IfOk, IsTrue, OnErr, OnOk, length, vec_capacity};
+ghost use Rattle.std.specs.Prelude.{◌≡◌, ◌*◌, ◌<◌, ◌≤◌, ◌+◌, ◌^◌, ◌||◌, ◌↔◌, not, None, Err, IfErr, IfOk, IsSomeAnd, IsTrue, OnErr, OnOk, length, vec_capacity};
 ghost use Rattle.draid_names.specs.declared.numbers.TheConstants.{LAST_NUMBER};
 ghost use Rattle.draid_machine.specs.declared.event.Event.TheVariants.{Plan};
 ghost use Rattle.draid_machine.specs.Names.{is_heal};
 ghost use Rattle.draid_entries.specs.History.{AskIs, IsAsked, KeepsOwed, left_for_groups};
+ghost use Rattle.draid_pass.specs.declared.pass.Pass.{Pass};
 ghost use Rattle.draid_segments.specs.Segments.{Pieces};
 ghost use Rattle.draid_slots.specs.Changes.{HasRoom, Keeps};
 ghost use Rattle.draid_shard.specs.Alike.{KeepsArms};
@@ -56,8 +57,10 @@ pub fn plan<R: Rack, A: Area>(shard: &mut Shard<R, A>, kind: PassKind) -> Result
     ensures keeps { KeepsBlocks shard.old shard.new }
     ensures arms { KeepsArms shard.old.slots shard.new.slots }
     ensures reserve { SameReserve shard.old shard.new }
+    ensures pass { OnOk result (IsSomeAnd shard.new.pass (λ (p : Pass). p.kind ≡ kind)) }
     ensures refused { IfErr result (IsPlanRefused shard.old kind) }
     ensures none { OnErr result (DoesNothing shard.old shard.new) }
+    ensures same { OnErr result (shard.new.pass ≡ shard.old.pass) }
 {
     if let Some(pass) = &shard.pass {
         return Err(PlanFault::PassRunning {
@@ -138,6 +141,7 @@ fn plan_with<R: Rack, A: Area>(shard: &mut Shard<R, A>, kind: PassKind, lists: L
     ensures event { Does shard.old shard.new (Plan kind) }
     ensures acts { (pieces : Pieces) → ActsOn R.Rack shard.old shard.new (Plan kind) pieces }
     ensures number { result ≡ shard.old.last_pass + 1 }
+    ensures pass { IsSomeAnd shard.new.pass (λ (p : Pass). p.kind ≡ kind) }
     ensures keeps { KeepsBlocks shard.old shard.new }
     ensures arms { KeepsArms shard.old.slots shard.new.slots }
     ensures reserve { SameReserve shard.old shard.new }

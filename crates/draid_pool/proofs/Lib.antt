@@ -24,6 +24,7 @@ pub mod ImageLeaves
 pub mod Imaged
 pub mod Importables
 pub mod Joining
+pub mod Keeping
 pub mod LeavesFlushed
 pub mod Lifted
 pub mod ListedOnce

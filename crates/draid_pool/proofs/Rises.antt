@@ -1,7 +1,6 @@
 -- Counts of failed calls on the areas of a pool: none falls, and one rises.
-use Rattle.std.proofs.Common.{◌≡◌, ◌==◌, ◌%◌, ◌≤◌, ◌∙◌, inl, inr, ℕ, Bool, true, false, Some, arith, refl, sym, ap, subst, length, if◌then◌else◌, ◌<◌, Err}
+use Rattle.std.proofs.Common.{◌≡◌, ◌==◌, ◌%◌, ◌≤◌, ◌∙◌, inl, inr, ℕ, Bool, true, false, Some, arith, refl, sym, ap, length, if◌then◌else◌, ◌<◌, Err}
 use Rattle.std.specs.Prelude.{slice_get, IsErrOf}
-use Rattle.std.proofs.lemmas.Bool.{cases_eq}
 use Rattle.std.proofs.lemmas.List.{length-set}
 use Rattle.std.proofs.lemmas.Option.{slice_get_within}
 use Rattle.draid_names.specs.Faults.{Rose}
@@ -15,8 +14,9 @@ use Rattle.draid_uber.specs.Uber.{area_of}
 use Rattle.draid_pool.specs.Failing.{AreaFails, AreaRose, AreasLater, RecordsRose}
 use Rattle.draid_pool.specs.Syncing.{CommitsBelow}
 use Rattle.draid_pool.specs.declared.pool.Pool.{Pool}
+use Rattle.draid_pool.proofs.Keeping.{each_committed, each_on, each_same, each_set}
 use Rattle.draid_pool.proofs.Lifted.{SetsShard}
-use Rattle.draid_pool.proofs.Lists.{get_set_other, get_set_same, present, some_of}
+use Rattle.draid_pool.proofs.Lists.{get_set_same, present}
 use Rattle.draid_pool.specs.declared.fault.SyncFault.{SyncFault}
 
 -- a count that rose isn't 0
@@ -65,7 +65,7 @@ module _ {R A : Type 0} (faults : A → ℕ) where
   areas_still pool = record {
     uber = omega arith;
     many = refl;
-    shards = λ m before after at is. subst (λ z. sealing.AreasLater faults before z) (some_of (slice_get pool.metaslabs.shards.items m) before after at is) (records_still before);
+    shards = (each_same (sealing.AreasLater faults) records_still pool pool refl).each;
   }
 
   -- the metaslab at a place, in a pool with as many
@@ -77,9 +77,7 @@ module _ {R A : Type 0} (faults : A → ℕ) where
   areas_on old mid new first second = record {
     uber = (let a = first.uber in let b = second.uber in omega (arith, a, b));
     many = second.many ∙ first.many;
-    shards = λ m before after at is.
-        let z = there_in old mid m before first.many at in
-        records_on before z.0 after (first.shards m before z.0 at z.1) (second.shards m z.0 after z.1 is);
+    shards = (each_on (sealing.AreasLater faults) records_on old mid new (record { many = first.many; each = first.shards }) (record { many = second.many; each = second.shards })).each;
   }
 
   -- no count fell, and behind that one rose
@@ -107,8 +105,7 @@ module _ {R A : Type 0} (faults : A → ℕ) where
   areas_named old new later same = record {
     uber = later;
     many = ap (λ zs. length zs) same;
-    shards = λ m before after at is.
-        subst (λ z. sealing.AreasLater faults before z) (some_of (slice_get old.metaslabs.shards.items m) before after at (ap (λ zs. slice_get zs m) (sym same) ∙ is)) (records_still before);
+    shards = (each_same (sealing.AreasLater faults) records_still old new same).each;
   }
 
   -- a count that rose isn't 0
@@ -132,16 +129,7 @@ module _ {R A : Type 0} (rack : racks.Ghosts R) (area : areas.Ghosts A) where
   areas_set m old new shard shard' set later = record {
     uber = (let is = ap (λ u. area.faults (area_of u)) set.uber in omega (arith, is));
     many = ap (λ zs. length zs) set.sets ∙ length-set old.metaslabs.shards.items m shard';
-    shards = λ k before after at is. elim (cases_eq k m) [
-      | inl same ↦
-          let was : shard ≡ before = some_of (slice_get old.metaslabs.shards.items m) shard before set.there (subst (λ j. slice_get old.metaslabs.shards.items j ≡ Some before) same at) in
-          let now : shard' ≡ after = some_of (slice_get new.metaslabs.shards.items m) shard' after (ap (λ zs. slice_get zs m) set.sets ∙ get_set_same old.metaslabs.shards.items m shard shard' set.there)
-          (subst (λ j. slice_get new.metaslabs.shards.items j ≡ Some after) same is) in
-          subst (λ z. sealing.AreasLater area.faults z after) was (subst (λ z. sealing.AreasLater area.faults shard z) now later)
-      | inr other ↦
-          let stays : slice_get new.metaslabs.shards.items k ≡ slice_get old.metaslabs.shards.items k = ap (λ zs. slice_get zs k) set.sets ∙ get_set_other old.metaslabs.shards.items m k shard' (λ same. omega (arith, same, other)) in
-          subst (λ z. sealing.AreasLater area.faults before z) (some_of (slice_get old.metaslabs.shards.items k) before after at (sym stays ∙ is)) (records_still area.faults before)
-    ];
+    shards = (each_set (sealing.AreasLater area.faults) (records_still area.faults) rack area m old new shard shard' set later).each;
   }
 
   -- and the count of one of its areas rose
@@ -155,7 +143,5 @@ module _ {R A : Type 0} (rack : racks.Ghosts R) (area : areas.Ghosts A) where
   areas_committed old new group later commits = record {
     uber = later;
     many = commits.many;
-    shards = λ m before after at is.
-        let z = commits.below m before (slice_get_within old.metaslabs.shards.items m before at) at in
-        subst (λ y. sealing.AreasLater area.faults before y) (some_of (slice_get new.metaslabs.shards.items m) z.0 after z.1 is) (records_same area.faults before z.0 z.2.areas);
+    shards = (each_committed (sealing.AreasLater area.faults) rack group old new (λ before after c. records_same area.faults before after c.areas) commits).each;
   }

@@ -2,6 +2,7 @@
 use Rattle.std.specs.Prelude.{◌≡◌, ◌<◌, ◌≤◌, ◌+◌, ◌⊎◌, ℕ, Option, Some, None, length, slice_get}
 use Rattle.draid_names.specs.Faults.{Rose}
 use Rattle.draid_pool.specs.Groups as sealing
+use Rattle.draid_pool.specs.Keeping.{KeepsEach}
 use Rattle.draid_shard.specs.declared.shard.Shard.{Shard}
 use Rattle.draid_uber.specs.Uber.{area_of}
 use Rattle.draid_pool.specs.declared.pool.Pool.{Pool}
@@ -31,3 +32,7 @@ abbrev pub AreaRose : {R A : Type 0} → (A → ℕ) → Pool R A → Pool R A �
 AreaRose {R = R} {A = A} faults old new =
     Rose (faults (area_of old.uber)) (faults (area_of new.uber))
     ⊎ ((m : ℕ) × (before : Shard R A) × (after : Shard R A) × (slice_get old.metaslabs.shards.items m ≡ Some before) × (slice_get new.metaslabs.shards.items m ≡ Some after) × RecordsRose faults before after)
+
+-- no count of failed calls on the rack of a metaslab as a whole falls
+abbrev pub RacksLater : {R A : Type 0} → (R → Option ℕ → ℕ) → Pool R A → Pool R A → Type 0
+RacksLater {R} {A} faults old new = KeepsEach (λ (before : Shard R A) after. faults before.rack None ≤ faults after.rack None) old new

@@ -7,10 +7,12 @@ pub mod Follows
 pub mod Groups
 pub mod Holding
 pub mod Importable
+pub mod Keeping
 pub mod Knows
 pub mod Looking
 pub mod Metaslabs
 pub mod Objects
+pub mod Passes
 pub mod Pointers
 pub mod Pools
 pub mod Records

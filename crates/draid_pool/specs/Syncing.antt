@@ -22,11 +22,14 @@ use Rattle.draid_shard.specs.Part.{Part, layout_in}
 use Rattle.draid_shard.specs.States.{Does, part_of, stored_in}
 use Rattle.draid_shard.specs.declared.shard.Shard.{Shard}
 use Rattle.draid_pool.specs.Importable.{IsAlike, Shared}
+use Rattle.draid_pool.specs.Keeping.{ArmsStay, KeepsEach}
 use Rattle.draid_pool.specs.Metaslabs.{IsMetaslab}
+use Rattle.draid_pool.specs.Passes.{KeepsPass}
 use Rattle.draid_pool.specs.Records.{LeavesAreBelow}
 use Rattle.draid_pool.specs.declared.fault.SyncFault.{SyncFault}
 use Rattle.draid_pool.specs.declared.fault.SyncFault.TheVariants as sync
 use Rattle.draid_pool.specs.declared.fault.Synced.{Synced}
+use Rattle.draid_pool.specs.declared.pool.Pool.{Pool}
 
 -- how a phase ended, by its answer
 abbrev pub end_of : {T : Type 0} → Result T SyncFault → End
@@ -88,6 +91,17 @@ pub record KeepsTable {R A : Type 0} (old new : Shard R A) : Type 0 where
   pub committed : new.committed ≡ old.committed
   pub slots : KeepsArms old.slots new.slots
 
+-- its pass, its arms and the version that it asks for are as they were, and the count of its rack as a whole didn't fall
+pub record KeepsShard {R A : Type 0} (faults : R → Option ℕ → ℕ) (old new : Shard R A) : Type 0 where
+  pub pass : KeepsPass old.pass new.pass
+  pub rack : faults old.rack None ≤ faults new.rack None
+  pub arms : ArmsStay old.slots new.slots
+  pub asked : new.asked ≡ old.asked
+
+-- so in each metaslab
+abbrev pub KeepsShards : {R A : Type 0} → (R → Option ℕ → ℕ) → Pool R A → Pool R A → Type 0
+KeepsShards faults old new = KeepsEach (KeepsShard faults) old new
+
 -- a metaslab's group was closed, or why it wasn't
 abbrev pub CloseIs : Part → ℕ → Result Unit SyncFault → Hold → Type 0
 CloseIs part group (Ok done) hold = groups.Closes part.geometry part.perms group part.number hold 0
@@ -108,6 +122,8 @@ pub record Commits {R A : Type 0} (rack : racks.Ghosts R) (group : ℕ) (old new
   pub leaves : DropsDetached rack old new group
   pub slots : CommitsSlots old.slots new.slots group
   pub reserve : SameReserve old new
+  pub stays : KeepsShard rack.faults old new
+  pub version : new.version ≡ new.asked
 
 -- ---- all metaslabs
 

@@ -9,6 +9,7 @@ ghost use Rattle.draid_shard.specs.Fits.{Valid};
 ghost use Rattle.draid_shard.specs.States.{Does};
 ghost use Rattle.draid_pool.specs.Changes.{ClosesGroup};
 ghost use Rattle.draid_pool.specs.Groups.{CloseRefused, group_events};
+ghost use Rattle.draid_pool.specs.Syncing.{KeepsShard};
 
 use crate::fault::CloseFault;
 use draid_area::Area;
@@ -43,6 +44,7 @@ pub fn close_group<R: Rack, A: Area>(shard: &mut Shard<R, A>, group: u64) -> Res
     ensures slots { KeepsArms shard.old.slots shard.new.slots }
     ensures refused { IfErr result (CloseRefused shard.old group) }
     ensures reserve { SameReserve shard.old shard.new }
+    ensures stays { KeepsShard R.faults shard.old shard.new }
 {
     match shard.history.ask_for_group(GROUP_EVENTS) {
         Ok(()) => {}

@@ -16,6 +16,7 @@ ghost use Rattle.draid_shard.specs.States.{Does};
 ghost use Rattle.draid_pool.specs.Changes.{CommitsGroup};
 ghost use Rattle.draid_pool.specs.Committing.{DropsFreed, DropsListed, DropsOne, DropsSome, KeepsLoan, StaysLeaf, is_freed_entry, later_than};
 ghost use Rattle.draid_pool.specs.Groups.{DropsDetached};
+ghost use Rattle.draid_pool.specs.Syncing.{KeepsShard};
 
 use draid_area::Area;
 use draid_entries::{Entries, Entry, History};
@@ -39,6 +40,8 @@ pub fn commit<R: Rack, A: Area>(shard: &mut Shard<R, A>, group: u64)
     ensures leaves { DropsDetached R.Rack shard.old shard.new group }
     ensures slots { Commits shard.old.slots shard.new.slots group }
     ensures reserve { SameReserve shard.old shard.new }
+    ensures stays { KeepsShard R.faults shard.old shard.new }
+    ensures version { shard.new.version ≡ shard.new.asked }
 {
     let freed = lends_freed(shard, group);
     drop_if(freed, &mut shard.kept, &mut shard.history);

@@ -11,6 +11,7 @@ ghost use Rattle.draid_shard.specs.States.{IsIn};
 ghost use Rattle.draid_pool.specs.Changes.{SealsGroup};
 ghost use Rattle.draid_pool.specs.Groups.{AreasLater, KeepsOtherArea, OpenUpto, Seals, Unsealed};
 ghost use Rattle.draid_pool.specs.Sealing.{AreFlushed, FlushedBelow, IsOnline, IsPlan};
+ghost use Rattle.draid_pool.specs.Syncing.{KeepsShard};
 
 use crate::fault::{SealFault, Sealed};
 use crate::records::{record_of, write_to};
@@ -50,6 +51,7 @@ pub fn seal<R: Rack, A: Area>(shard: &mut Shard<R, A>, group: u64) -> Result<Sea
     ensures slots { KeepsArms shard.old.slots shard.new.slots }
     ensures later { AreasLater A.faults shard.old shard.new }
     ensures reserve { SameReserve shard.old shard.new }
+    ensures stays { KeepsShard R.faults shard.old shard.new }
 {
     let tickets = tickets_upto(&shard.entries, group);
     if tickets > 0 {
@@ -81,6 +83,7 @@ fn seal_by<R: Rack, A: Area>(
     ensures slots { KeepsArms shard.old.slots shard.new.slots }
     ensures later { AreasLater A.faults shard.old shard.new }
     ensures reserve { SameReserve shard.old shard.new }
+    ensures stays { KeepsShard R.faults shard.old shard.new }
 {
     let Plan {
         mut made,

@@ -1,6 +1,6 @@
 //! Groups of a pool: one is closed in all metaslabs and sealed in all, then the uberblock names it, and then it is
 //! committed in all.
-ghost use Rattle.std.specs.Prelude.{◌≡◌, ◌≤◌, ◌+◌, ◌↔◌, true, All, Some, IfOk, IsErrOf, IsTrue, OnOk, length};
+ghost use Rattle.std.specs.Prelude.{◌≡◌, ◌<◌, ◌≤◌, ◌+◌, ◌↔◌, true, All, Some, IfOk, IsErrOf, IsTrue, OnErr, OnOk, length};
 ghost use Rattle.draid_names.specs.declared.numbers.TheConstants.{LAST_NUMBER, NUMBERS};
 ghost use Rattle.draid_machine.specs.Names.{is_block};
 ghost use Rattle.draid_machine.specs.declared.names.Held.{Held};
@@ -15,12 +15,14 @@ ghost use Rattle.draid_session.specs.Phases.{Chain};
 ghost use Rattle.draid_session.specs.State.{Metaslab, State};
 ghost use Rattle.draid_uber.specs.Slots.{group_of};
 ghost use Rattle.draid_uber.specs.Uber.{kept_of};
-ghost use Rattle.draid_pool.specs.Syncing.{ExportDoes, SyncDoes, AreClosing, AreIdle, AreSealed, CloseIs, CommitsBelow, FoundClosing, FoundUnsynced, HasUnsynced, GroupDoes, KeepsCommitted, KeepsTable, Phase, SealDoes, SealIs, Turns, end_of};
+ghost use Rattle.draid_pool.specs.Syncing.{ExportDoes, SyncDoes, AreClosing, AreIdle, AreSealed, CloseIs, CommitsBelow, FoundClosing, FoundUnsynced, HasUnsynced, GroupDoes, KeepsCommitted, KeepsShard, KeepsShards, KeepsTable, Phase, SealDoes, SealIs, Turns, end_of};
 ghost use Rattle.draid_pool.specs.Carries.{CarriesOut};
-ghost use Rattle.draid_pool.specs.Failing.{AreaRose, AreasLater, RecordsRose};
+ghost use Rattle.draid_pool.specs.Failing.{AreaRose, AreasLater, RacksLater, RecordsRose};
+ghost use Rattle.draid_pool.specs.Keeping.{AllArmsStay, AllAskedStay, AllHaveAsked};
 ghost use Rattle.draid_pool.specs.Metaslabs.{IsMetaslab};
+ghost use Rattle.draid_pool.specs.Passes.{KeepsPasses};
 ghost use Rattle.draid_pool.specs.Pointers.{SamePointers};
-ghost use Rattle.draid_pool.specs.Pools.{Represents};
+ghost use Rattle.draid_pool.specs.Pools.{Represents, group_in};
 ghost use Rattle.draid_pool.specs.Whole.{IsWhole};
 
 use crate::closing::close_group;
@@ -40,6 +42,7 @@ fn close_in<R: Rack, A: Area>(shard: &mut Shard<R, A>, group: u64) -> Result<(),
     requires next { group ≡ shard.old.committed + 1 }
     ensures valid { Valid R.Rack shard.new }
     ensures table { KeepsTable shard.old shard.new }
+    ensures stays { KeepsShard R.faults shard.old shard.new }
     ensures closing { OnOk result (shard.new.closing ≡ Some group) }
     ensures later { sealing.AreasLater A.faults shard.old shard.new }
     ensures not_shelf { IsErrOf result SyncFault.Shelf → ⊥ }
@@ -65,6 +68,7 @@ fn seal_in<R: Rack, A: Area>(shard: &mut Shard<R, A>, group: u64) -> Result<u64,
     requires settled { (key : Key) (h : Held) → held_in shard.old.entries key ≡ Some h → is_block h.stage ≡ true }
     ensures valid { Valid R.Rack shard.new }
     ensures table { KeepsTable shard.old shard.new }
+    ensures stays { KeepsShard R.faults shard.old shard.new }
     ensures sealed { OnOk result ((shard.new.closing ≡ Some group) × (shard.new.sealed ≡ true)) }
     ensures low { IfOk result (λ thin. thin ≤ NUMBERS) }
     ensures later { sealing.AreasLater A.faults shard.old shard.new }
@@ -102,6 +106,12 @@ impl<R: Rack, A: Area> Pool<R, A> {
         ensures whole { IsWhole R.Rack A.Area self.new }
         ensures same { SamePointers self.old self.new }
         ensures later { AreasLater A.faults self.old self.new }
+        ensures passes { KeepsPasses self.old self.new }
+        ensures racks { RacksLater R.faults self.old self.new }
+        ensures arms { AllArmsStay self.old self.new }
+        ensures asked { AllAskedStay self.old self.new }
+        ensures versions { OnOk result (AllHaveAsked self.new) }
+        ensures rises { OnOk result (group_in self.old < group_in self.new) }
         ensures cause { IsErrOf result SyncFault.Shelf → AreaRose A.faults self.old self.new }
         ensures carries { (x : State) → Represents R.Rack A.Area self.old x
             → CarriesOut R.Rack A.Area self.new x (SyncDoes x result) }
@@ -123,6 +133,10 @@ impl<R: Rack, A: Area> Pool<R, A> {
         ensures whole { IsWhole R.Rack A.Area self.new }
         ensures same { SamePointers self.old self.new }
         ensures later { AreasLater A.faults self.old self.new }
+        ensures passes { KeepsPasses self.old self.new }
+        ensures racks { RacksLater R.faults self.old self.new }
+        ensures arms { AllArmsStay self.old self.new }
+        ensures asked { AllAskedStay self.old self.new }
         ensures cause { IsErrOf result SyncFault.Shelf → AreaRose A.faults self.old self.new }
         ensures carries { (x : State) → Represents R.Rack A.Area self.old x
             → CarriesOut R.Rack A.Area self.new x (ExportDoes x result) }
@@ -142,6 +156,11 @@ impl<R: Rack, A: Area> Pool<R, A> {
         ensures whole { IsWhole R.Rack A.Area self.new }
         ensures objects { self.new.own.objects ≡ self.old.own.objects }
         ensures later { AreasLater A.faults self.old self.new }
+        ensures passes { KeepsPasses self.old self.new }
+        ensures racks { RacksLater R.faults self.old self.new }
+        ensures arms { AllArmsStay self.old self.new }
+        ensures asked { AllAskedStay self.old self.new }
+        ensures grows { group_in self.old ≤ group_in self.new }
         ensures cause { IsErrOf result SyncFault.Shelf → AreaRose A.faults self.old self.new }
         // A group that closes has a number below the last.
         ensures not_last { IsErrOf result SyncFault.Last → ⊥ }
@@ -177,9 +196,13 @@ impl<R: Rack, A: Area> Pool<R, A> {
         ensures whole { IsWhole R.Rack A.Area self.new }
         ensures objects { self.new.own.objects ≡ self.old.own.objects }
         ensures later { AreasLater A.faults self.old self.new }
+        ensures stays { KeepsShards R.faults self.old self.new }
         ensures cause { IsErrOf result SyncFault.Shelf → AreaRose A.faults self.old self.new }
         ensures last { IsErrOf result SyncFault.Last → group ≡ LAST_NUMBER }
         ensures idle { OnOk result (AreIdle self.new.metaslabs.shards.items) }
+        ensures versions { OnOk result (AllHaveAsked self.new) }
+        ensures named { OnOk result (group_in self.new ≡ group) }
+        ensures unnamed { OnErr result (group_in self.new ≡ group_in self.old) }
         ensures carries { (x : State) → Represents R.Rack A.Area self.old x
             → CarriesOut R.Rack A.Area self.new x (GroupDoes x group result) }
     {
@@ -203,6 +226,7 @@ impl<R: Rack, A: Area> Pool<R, A> {
         ensures whole { IsWhole R.Rack A.Area self.new }
         ensures objects { self.new.own.objects ≡ self.old.own.objects }
         ensures later { AreasLater A.faults self.old self.new }
+        ensures stays { KeepsShards R.faults self.old self.new }
         ensures cause { IsErrOf result SyncFault.Shelf → AreaRose A.faults self.old self.new }
         ensures last { IsErrOf result SyncFault.Last → group ≡ LAST_NUMBER }
         ensures carries { (x : State) → Represents R.Rack A.Area self.old x
@@ -226,6 +250,7 @@ impl<R: Rack, A: Area> Pool<R, A> {
         ensures whole { IsWhole R.Rack A.Area self.new }
         ensures objects { self.new.own.objects ≡ self.old.own.objects }
         ensures later { AreasLater A.faults self.old self.new }
+        ensures stays { KeepsShards R.faults self.old self.new }
         ensures cause { IsErrOf result SyncFault.Shelf → AreaRose A.faults self.old self.new }
         ensures not_last { IsErrOf result SyncFault.Last → ⊥ }
         ensures carries { (x : State) → Represents R.Rack A.Area self.old x
@@ -251,9 +276,13 @@ impl<R: Rack, A: Area> Pool<R, A> {
         ensures whole { IsWhole R.Rack A.Area self.new }
         ensures objects { self.new.own.objects ≡ self.old.own.objects }
         ensures later { AreasLater A.faults self.old self.new }
+        ensures stays { KeepsShards R.faults self.old self.new }
         ensures cause { IsErrOf result SyncFault.Shelf → AreaRose A.faults self.old self.new }
         ensures not_last { IsErrOf result SyncFault.Last → ⊥ }
         ensures idle { OnOk result (AreIdle self.new.metaslabs.shards.items) }
+        ensures versions { OnOk result (AllHaveAsked self.new) }
+        ensures named { OnOk result (group_in self.new ≡ group) }
+        ensures unnamed { OnErr result (group_in self.new ≡ group_in self.old) }
         ensures carries { (x : State) → Represents R.Rack A.Area self.old x
             → CarriesOut R.Rack A.Area self.new x (Phase x
             (Chain (groups.Names x.geometry x.perms group) (groups.CommitPhase x.geometry x.perms group)) (end_of result)) }

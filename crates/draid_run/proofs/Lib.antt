@@ -9,6 +9,7 @@ pub mod GivenBack
 pub mod Grouping
 pub mod Importings
 pub mod Known
+pub mod Legal
 pub mod Makings
 pub mod Next
 pub mod Printing

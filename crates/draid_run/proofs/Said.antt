@@ -5,12 +5,12 @@ use Rattle.std.specs.declared.alloc.Global.{Global}
 use Rattle.draid_names.specs.declared.fault.NoMemory.{NoMemory as Starved}
 use Rattle.draid_names.specs.declared.refusal.ObjectFault.{ObjectFault}
 use Rattle.draid_names.specs.declared.refusal.ObjectFault.TheVariants as object
-use Rattle.draid_script.specs.Line.{AttachSpare, Command, DamageSector, FreeObject, ReadObject, ShowStatus, SumObjects, TakeOffline, TakeOnline, DetachArm, UpgradePool, ReplaceDisk, CancelPasses}
+use Rattle.draid_script.specs.Line.{AttachSpare, Command, DamageSector, FreeObject, ReadObject, ShowStatus, SumObjects, TakeOffline, TakeOnline, DetachArm, UpgradePool, RebuildPool, ReplaceDisk, CancelPasses}
 use Rattle.draid_script.specs.declared.name.CommandName.{CommandName}
 use Rattle.draid_script.specs.declared.name.CommandName.TheVariants as name
 use Rattle.draid_script.specs.declared.line.StatusFormat.{StatusFormat}
 use Rattle.draid_reply.specs.declared.reply.Reply.{Reply}
-use Rattle.draid_reply.specs.declared.reply.Reply.TheVariants.{DetachLast, DetachRefused, DetachWorn, Detached, Last, NoMemory, OfflineDone, OfflineRefused, OfflineWorn, OnlineDone, OnlineRefused, OnlineWorn, SpareRefused, SpareWorn, UpgradeAlready, Upgraded, Worn, Replaced, ReplaceRefused, ReplaceWorn}
+use Rattle.draid_reply.specs.declared.reply.Reply.TheVariants.{DetachLast, DetachRefused, DetachWorn, Detached, Last, NoMemory, OfflineDone, OfflineRefused, OfflineWorn, OnlineDone, OnlineRefused, OnlineWorn, SpareRefused, SpareWorn, UpgradeAlready, Upgraded, Worn, Replaced, ReplaceRefused, ReplaceWorn, PassThere, Rebuilt, RebuildNothing}
 use Rattle.draid_session.specs.Choices.{Choices}
 use Rattle.draid_session.specs.Holds.{Hold}
 use Rattle.draid_session.specs.State.{State, Store}
@@ -34,7 +34,11 @@ use Rattle.draid_pool.specs.declared.fault.SyncFault.TheVariants as sync
 use Rattle.draid_changes.specs.declared.fault.ArmFault.{ArmFault}
 use Rattle.draid_changes.specs.declared.fault.ArmFault.TheVariants as arm
 use Rattle.draid_run.specs.Desks.{AnswerDoes, BreaksBy}
-use Rattle.draid_visits.specs.Says.{CancelSays}
+use Rattle.draid_visits.specs.Rebuilding.{RebuildDoes}
+use Rattle.draid_visits.specs.Says.{CancelSays, IsRebuildReply, RebuildSays}
+use Rattle.draid_visits.specs.declared.rebuilding.MendFault.{MendFault}
+use Rattle.draid_visits.specs.declared.rebuilding.MendFault.TheVariants as mending
+use Rattle.draid_visits.specs.declared.rebuilding.Mended.{Mended}
 use Rattle.draid_store.specs.Answers.{DamageDoes, FreeDoes, ReadDoes, SumDoes}
 use Rattle.draid_store.specs.declared.fault.DamageFault.{DamageFault}
 use Rattle.draid_store.specs.declared.fault.DamageFault.TheVariants as damaged
@@ -104,6 +108,25 @@ module _ (x : State) (choices : Choices) (said : Result Reply Failed) (holds : L
       answer_does x choices said holds store (AttachSpare slot spare) name.Spare (λ done reply. IsSpared x.geometry.spec slot spare reply) (λ why. SpareRefused slot why) (SpareWorn slot) (λ answer. SpareDoes x slot spare answer holds store)
       (λ it reply is did. subst (λ r. ReplyDoes x choices (AttachSpare slot spare) r holds store) (sym is.1) (refl, is.2, did.0, did.1)) (λ why did. (refl, did.0, did.1)) (λ did. (refl, did.0, did.1)) (λ did. did) (λ did. did)
       says.0 says.1 says.2
+
+  pub rebuild_does : (limit : Option ℕ) → RebuildSays limit said x holds store → AnswerDoes x choices (RebuildPool limit) said holds store
+  rebuild_does limit says = by says.0 says.1 says.2
+    where
+      replied : (reply : Reply) → said ≡ Ok reply → ReplyDoes x choices (RebuildPool limit) reply holds store → AnswerDoes x choices (RebuildPool limit) said holds store
+      replied reply is does = subst (λ s. AnswerDoes x choices (RebuildPool limit) s holds store) (sym is) does
+
+      broke : (given : Result Reply Failed) → IsRebuildReply (Err mending.Shelf) given → RebuildDoes x limit (Err mending.Shelf) holds store → AnswerDoes x choices (RebuildPool limit) given holds store
+      broke (Ok reply) is does = absurd is
+      broke (Err failed) is does = does
+
+      by : (answer : Result Mended MendFault) → IsRebuildReply answer said → RebuildDoes x limit answer holds store → AnswerDoes x choices (RebuildPool limit) said holds store
+      by (Ok it) is does = replied (Rebuilt it.from it.stripes it.errors it.paused) is does
+      by (Err mending.Nothing) is does = replied RebuildNothing is does
+      by (Err (mending.PassThere metaslab number)) is does = replied (PassThere name.Rebuild metaslab number) is does
+      by (Err mending.Worn) is does = replied (Worn name.Rebuild) is does
+      by (Err mending.Last) is does = replied (Last name.Rebuild) is does
+      by (Err mending.NoMemory) is does = replied (NoMemory name.Rebuild) is does
+      by (Err mending.Shelf) is does = broke said is does
 
   pub upgrade_does : UpgradeSays said x holds store → AnswerDoes x choices UpgradePool said holds store
   upgrade_does says = by says.0 says.1 says.2

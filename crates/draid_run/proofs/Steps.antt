@@ -25,6 +25,7 @@ use Rattle.draid_pool.specs.Failing.{AreaFails, RackFails}
 use Rattle.draid_pool.specs.Pointers.{SamePointers}
 use Rattle.draid_pool.proofs.Taught.{still_known}
 use Rattle.draid_changes.specs.Behind.{ArmsBehind}
+use Rattle.draid_visits.specs.Behind.{PassesBehind}
 use Rattle.draid_run.specs.Desks.{BreaksBy, Broken, IsDesk, IsPool, PoolBroke, PoolDid, Turned, asked_in}
 use Rattle.draid_run.proofs.Broke.{broken_shows}
 use Rattle.draid_pool.specs.Knows.{Teaches}
@@ -52,10 +53,10 @@ still_out x y now holds follows out store = record { held = out.held; checks = o
 module _ {R A : Type 0} (rack : racks.Ghosts R) (area : areas.Ghosts A) (choices : Choices) (command : Command) (called : CommandName) (reply : Reply) where
   -- a command was carried out on the pool that is open
   pub did_open : (desk : Option (Pool R A)) (pool new : Pool R A) → desk ≡ Some pool → IsWhole rack area new → IsReplyTo command reply
-      → Teaches command reply pool new → ArmsBehind command reply new
+      → Teaches command reply pool new → ArmsBehind command reply new → PassesBehind command reply new
       → ((x : State) → Represents rack area pool x → CarriesOut rack area new x (ReplyDoes x choices command reply))
       → (x : Desk) → IsPool rack area desk x → PoolDid rack area choices command called x reply (Some new)
-  did_open desk pool new is whole fits teaches arms step x = subst (λ d. IsPool rack area d x → PoolDid rack area choices command called x reply (Some new)) (sym is) (by x) where
+  did_open desk pool new is whole fits teaches arms passes step x = subst (λ d. IsPool rack area d x → PoolDid rack area choices command called x reply (Some new)) (sym is) (by x) where
     by : (x : Desk) → IsPool rack area (Some pool) x → PoolDid rack area choices command called x reply (Some new)
     by Untouched stands = absurd stands
     by Bare stands = absurd stands
@@ -63,7 +64,7 @@ module _ {R A : Type 0} (rack : racks.Ghosts R) (area : areas.Ghosts A) (choices
     by (Shut crash y) stands = absurd stands
     by Unknown stands = absurd stands
     by (Open y) stands = (whole, fits, step y stands.1)
-    by (Foreign known) stands = (whole, fits, teaches known stands.1, arms)
+    by (Foreign known) stands = (whole, fits, teaches known stands.1, arms, passes)
 
   -- no pool is open, and the reply says so
   pub did_shut : (desk new : Option (Pool R A)) → desk ≡ None → new ≡ None → reply ≡ NoPool called → (x : Desk) → IsPool rack area desk x → PoolDid rack area choices command called x reply new
@@ -127,6 +128,7 @@ module _ (choices : Choices) (finds : Finding → Type 0) where
   shut_says (ShowStatus form) called is x = (called, is, refl, refl)
   shut_says (DetachArm arm) called is x = (called, is, refl, refl)
   shut_says UpgradePool called is x = (called, is, refl, refl)
+  shut_says (RebuildPool limit) called is x = (called, is, refl, refl)
   shut_says CancelPasses called is x = (called, is, refl, refl)
   shut_says command called is x = absurd (cc is)
 
@@ -217,7 +219,8 @@ module _ {R A : Type 0} (rack : racks.Ghosts R) (area : areas.Ghosts A) (choices
       (refl, by_desk choices (MayFind rack area entry) rack area (ReplaceDisk slot sectors) (NoPool called) x stands (shut_says choices (MayFind rack area entry) (ReplaceDisk slot sectors) called is x)))
   by_ask (DetachArm arm) called is = turned_by (DetachArm arm) called is (λ y z c same. (refl, (z, c, same))) (λ old new fits learns same. (refl, (fits, new, learns, same))) (λ x stands.
       (refl, by_desk choices (MayFind rack area entry) rack area (DetachArm arm) (NoPool called) x stands (shut_says choices (MayFind rack area entry) (DetachArm arm) called is x)))
-  by_ask (RebuildPool limit) called is = absurd (cc is)
+  by_ask (RebuildPool limit) called is = turned_by (RebuildPool limit) called is (λ y z c same. (refl, (z, c, same))) (λ old new fits learns same. (refl, (fits, new, learns, same))) (λ x stands.
+      (refl, by_desk choices (MayFind rack area entry) rack area (RebuildPool limit) (NoPool called) x stands (shut_says choices (MayFind rack area entry) (RebuildPool limit) called is x)))
   by_ask (ScrubPool limit) called is = absurd (cc is)
   by_ask (RebalanceSlot slot) called is = absurd (cc is)
   by_ask (OpenLanes count) called is = absurd (cc is)

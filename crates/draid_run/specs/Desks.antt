@@ -3,7 +3,7 @@ use Rattle.std.specs.Prelude.{◌≡◌, ◌⊎◌, ⊤, List, Option, Some, Non
 use Rattle.draid_names.specs.declared.fault.Failed.{Failed}
 use Rattle.draid_rack.specs.declared.Rack as racks
 use Rattle.draid_area.specs.declared.Area as areas
-use Rattle.draid_script.specs.Line.{Command, WriteObject, ReadObject, FillObjects, FreeObject, SumObjects, TakeOffline, TakeOnline, DamageSector, AttachSpare, ShowStatus, DetachArm, UpgradePool, ReplaceDisk, CancelPasses}
+use Rattle.draid_script.specs.Line.{Command, WriteObject, ReadObject, FillObjects, FreeObject, SumObjects, TakeOffline, TakeOnline, DamageSector, AttachSpare, ShowStatus, DetachArm, UpgradePool, RebuildPool, ReplaceDisk, CancelPasses}
 use Rattle.draid_script.specs.declared.fault.LineFault.{LineFault}
 use Rattle.draid_script.specs.declared.name.CommandName.{CommandName}
 use Rattle.draid_script.specs.declared.name.CommandName.TheVariants as name
@@ -24,6 +24,7 @@ use Rattle.draid_pool.specs.Whole.{IsWhole}
 use Rattle.draid_pool.specs.declared.pool.Pool.{Pool}
 use Rattle.draid_pool.specs.Knows.{KnowsBehind, KnowsPointers}
 use Rattle.draid_changes.specs.Behind.{ArmsBehind}
+use Rattle.draid_visits.specs.Behind.{PassesBehind}
 use Rattle.draid_run.specs.Shelves.{FailsIn, FaultIn, HasFailed, HasFault, HoldsDesk, IsClosed, IsOut, MayFind, OnShelf, PoolFails, RackFailedOn, RackFault}
 
 -- ---- desks
@@ -55,13 +56,13 @@ abbrev pub BreaksBy : State → Command → List Hold → Store → Type 0
 BreaksBy x command holds store = session.Broken x.geometry x.perms command x.store holds store
 
 -- What a command that leaves the shelf alone came to: it was carried out on the open pool and has a reply that it may have, or its reply is that it wants one. Of a pool
--- of which no state is known it says what became of its objects and of its arms.
+-- of which no state is known it says what became of its objects, of its arms and of its passes.
 abbrev pub PoolDid : {R A : Type 0} → racks.Ghosts R → areas.Ghosts A → Choices → Command → CommandName → Desk → Reply → Option (Pool R A) → Type 0
 PoolDid rack area choices command called (Open x) reply None = ⊥
 PoolDid rack area choices command called (Foreign known) reply None = ⊥
 PoolDid rack area choices command called (Open x) reply (Some pool) = IsWhole rack area pool × IsReplyTo command reply × CarriesOut rack area pool x (ReplyDoes x choices command reply)
 PoolDid rack area choices command called (Foreign known) reply (Some pool) =
-    IsWhole rack area pool × IsReplyTo command reply × KnowsBehind command reply known pool × ArmsBehind command reply pool
+    IsWhole rack area pool × IsReplyTo command reply × KnowsBehind command reply known pool × ArmsBehind command reply pool × PassesBehind command reply pool
 PoolDid rack area choices command called desk reply pool = (reply ≡ NoPool called) × (pool ≡ None)
 
 -- what a command did to the open pool, by its reply, or where it has none
@@ -91,6 +92,7 @@ asked_in (ReplaceDisk slot sectors) = Some name.Replace
 asked_in (ShowStatus form) = Some name.Status
 asked_in (DetachArm arm) = Some name.Detach
 asked_in UpgradePool = Some name.Upgrade
+asked_in (RebuildPool limit) = Some name.Rebuild
 asked_in CancelPasses = Some name.Cancel
 asked_in command = None
 

@@ -156,6 +156,7 @@ fn asked(line: &Line) -> Option<CommandName>
         Line::Sum { .. } => Some(CommandName::Sum),
         Line::Offline { .. } => Some(CommandName::Offline),
         Line::Online { .. } => Some(CommandName::Online),
+        Line::Rebuild { .. } => Some(CommandName::Rebuild),
         Line::Cancel => Some(CommandName::Cancel),
         Line::Damage { .. } => Some(CommandName::Damage),
         Line::Spare { .. } => Some(CommandName::Spare),

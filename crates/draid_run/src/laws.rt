@@ -6,6 +6,7 @@ ghost use Rattle.draid_script.specs.Grammar.{line_of};
 ghost use Rattle.draid_script.specs.Line.{CrashPool, ImportPool};
 ghost use Rattle.draid_shelf.specs.Memory.{HoldsNothing};
 ghost use Rattle.draid_session.specs.Choices.{choices_by};
+ghost use Rattle.draid_session.specs.Present.{DeskReached};
 ghost use Rattle.draid_session.specs.Said.{Said, alone};
 ghost use Rattle.draid_session.specs.Session.{Bare, Desk, KnowsShelf};
 ghost use Rattle.draid_run.specs.Ending.{CanRun, EndsWell, IsUndisturbed};
@@ -18,6 +19,7 @@ use draid_area::Area;
 use draid_names::Room;
 use draid_rack::Rack;
 use draid_shelf::{MemoryShelf, Shelf};
+use std::alloc::Global;
 
 /// Law: where the words ask for a session, each line of the input can be run, no device fails and memory isn't
 /// wanting, a run ends with its input, with status 0. Else a record has a fault, where the shelf's pool isn't known or
@@ -59,6 +61,19 @@ pub fn crashed_pools_are_found_again<R: Rack, A: Area, F: Fn(&[Room]) -> Option<
         → it.session.lines ≡ front ++ (crash ∷ import ∷ back)
         → it.session.replies ≡ said ++ (alone Reply.Crashed ∷ alone (Reply.Imported called group objects) ∷ behind)
         → FindsAgain (choices_by (FnReturnsAt F.Fn chooser.now)) (MayFind R.Rack A.Area entry) first front said group objects back behind it.session.mid }
+{}
+
+/// Law: legal histories give the states of the metaslabs of the pool that a run has open or gave back, behind its lines and
+/// at the beginning of the next run, where they do at its beginning; and so they do where no session knew its pool then.
+pub fn runs_stay_legal<R: Rack, A: Area, F: Fn(&[Room]) -> Option<u32>>(
+    alloc: Global,
+    rack: &R,
+    area: &A,
+    chooser: &F,
+)
+    ensures { (words : List (List ℕ)) (status : Status) (input old new : Option (List ℕ)) (entry now : OnShelf) (first : Desk) (crash : Bool)
+        → (it : RunsFrom R.Rack A.Area (choices_by (FnReturnsAt F.Fn chooser.now)) words status input old new entry now first)
+        → DeskReached first → DeskReached it.session.mid × DeskReached (next_desk crash it.last) }
 {}
 
 /// Law: a new shelf in memory tells that it has no pool.

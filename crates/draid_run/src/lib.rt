@@ -18,7 +18,7 @@ pub use books::runs_keep_the_book;
 pub use kept::known_objects_are_read;
 pub use laws::{
     crashed_pools_are_found_again, new_shelves_have_no_pool, runs_follow_one_another,
-    undisturbed_runs_are_done,
+    runs_stay_legal, undisturbed_runs_are_done,
 };
 pub use status::Status;
 pub use top::run;

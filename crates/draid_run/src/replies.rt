@@ -2,7 +2,7 @@
 ghost use Rattle.std.specs.Prelude.{◌≡◌, ◌⊎◌, None, IfOk, IsErr};
 ghost use Rattle.std.specs.Fn.{FnReturnsAt};
 ghost use Rattle.draid_choose.specs.Rooms.{IsChooser};
-ghost use Rattle.draid_script.specs.Line.{AttachSpare, ReplaceDisk, TakeOffline, TakeOnline, DamageSector, FreeObject, IsInRange, ReadObject, ShowStatus, SumObjects, WriteObject, command_in};
+ghost use Rattle.draid_script.specs.Line.{AttachSpare, RebuildPool, ReplaceDisk, TakeOffline, TakeOnline, DamageSector, FreeObject, IsInRange, ReadObject, ShowStatus, SumObjects, WriteObject, command_in};
 ghost use Rattle.draid_session.specs.Certain.{MakesLeaves};
 ghost use Rattle.draid_session.specs.Choices.{choices_by};
 ghost use Rattle.draid_session.specs.Replies.{IsReplyTo};
@@ -18,6 +18,7 @@ ghost use Rattle.draid_pool.specs.Knows.{Teaches};
 ghost use Rattle.draid_store.specs.Says.{DamageSays, FreeSays, ReadSays, SumSays};
 ghost use Rattle.draid_status.specs.Says.{StatusSays};
 ghost use Rattle.draid_changes.specs.Behind.{ArmsBehind};
+ghost use Rattle.draid_visits.specs.Behind.{PassesBehind};
 ghost use Rattle.draid_changes.specs.Says.{ReplaceSays, SpareSays, SwitchSays};
 
 use draid_area::Area;
@@ -35,7 +36,7 @@ use draid_status::reply_to_status;
 use draid_store::{
     fill, reply_to_damage, reply_to_free, reply_to_read, reply_to_sum, reply_to_write,
 };
-use draid_visits::reply_to_cancel;
+use draid_visits::{reply_to_cancel, reply_to_rebuild};
 use std::alloc::Global;
 use std::thread::Threads;
 
@@ -55,6 +56,7 @@ pub(crate) fn reply<R: Rack, A: Area, F: Fn(&[Room]) -> Option<u32>>(
     ensures fits { IfOk result (IsReplyTo (command_in line.now)) }
     ensures knows { IfOk result (λ reply. Teaches (command_in line.now) reply pool.old pool.new) }
     ensures arms { IfOk result (λ reply. ArmsBehind (command_in line.now) reply pool.new) }
+    ensures passes { IfOk result (λ reply. PassesBehind (command_in line.now) reply pool.new) }
     ensures breaks { IsErr result → MayBreak (command_in line.now) × (AreaFails A.faults pool.new ⊎ (MakesLeaves (command_in line.now) × RackFails R.faults pool.new)) × SamePointers pool.old pool.new }
     ensures step { (x : State) → Represents R.Rack A.Area pool.old x
         → CarriesOut R.Rack A.Area pool.new x (AnswerDoes x (choices_by (FnReturnsAt F.Fn chooser.now)) (command_in line.now) result) }
@@ -72,6 +74,7 @@ pub(crate) fn reply<R: Rack, A: Area, F: Fn(&[Room]) -> Option<u32>>(
         Line::Sum { first, count } => Ok(reply_to_sum(rt, pool, *first, *count)),
         Line::Offline { leaf } => reply_to_offline(pool, *leaf),
         Line::Online { leaf } => reply_to_online(pool, *leaf),
+        Line::Rebuild { limit } => reply_to_rebuild(pool, *limit),
         Line::Cancel => Ok(reply_to_cancel(pool)),
         Line::Damage { leaf, sector } => Ok(reply_to_damage(pool, *leaf, *sector)),
         Line::Replace { slot, sectors } => reply_to_replace(pool, *slot, *sectors),

@@ -16,7 +16,10 @@ pub mod Passing
 pub mod Phased
 pub mod Placed
 pub mod Placing
+pub mod Present
 pub mod Raising
+pub mod Reaching
+pub mod Resuming
 pub mod Rooms
 pub mod Saying
 pub mod Shelved

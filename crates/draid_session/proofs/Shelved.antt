@@ -33,7 +33,7 @@ low_there (y ∷ xs) (suc k) low = low_there xs k (omega (arith, low))
 
 -- ---- a group is found
 
-found_there : (x mid : State) (group : ℕ) → Finds x group mid → (k : ℕ) (z : Metaslab) → slice_get mid.metaslabs k ≡ Some z
+pub found_there : (x mid : State) (group : ℕ) → Finds x group mid → (k : ℕ) (z : Metaslab) → slice_get mid.metaslabs k ≡ Some z
     → (y : Metaslab) × (slice_get x.metaslabs k ≡ Some y) × Reopens x.geometry x.perms group k y z
 found_there x mid group f k z there =
     let low : k < length mid.metaslabs = there_low mid.metaslabs k z there in

@@ -16,8 +16,10 @@ pub mod Making
 pub mod Opening
 pub mod Passes
 pub mod Phases
+pub mod Present
 pub mod Reads
 pub mod Replies
+pub mod Resuming
 pub mod Rooms
 pub mod Said
 pub mod Session

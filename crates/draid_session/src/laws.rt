@@ -1,9 +1,10 @@
-ghost use Rattle.std.specs.Prelude.{◌≡◌, ◌<◌, ℕ, Bool, false, true, List, Option, Some, String};
+ghost use Rattle.std.specs.Prelude.{◌≡◌, ◌<◌, ℕ, Bool, false, true, List, Option, Some, String, slice_get};
 ghost use Rattle.std.specs.Fn.{FnReturnsAt};
 ghost use Rattle.std.specs.declared.alloc.Global.{Global as Heap};
 ghost use Rattle.std.specs.declared.vec.Vec.{Vec};
 ghost use Rattle.draid_spec.specs.declared.layout.Geometry.{Geometry};
 ghost use Rattle.draid_perm.specs.declared.perms.Perms.{Perms};
+ghost use Rattle.draid_machine.specs.State as machine;
 ghost use Rattle.draid_objects.specs.Changes.{Write, write_of};
 ghost use Rattle.draid_reply.specs.declared.reply.Reply.{Reply};
 ghost use Rattle.draid_script.specs.Line.{Command, CrashPool, FreeObject, ImportPool, ReadObject, RebuildPool, SyncPool, WriteObject};
@@ -16,15 +17,19 @@ ghost use Rattle.draid_session.specs.Holds.{Hold, View, layout_at};
 ghost use Rattle.draid_session.specs.Keeping.{Keeps};
 ghost use Rattle.draid_session.specs.Lanes.{IsMerged, TogetherAt};
 ghost use Rattle.draid_session.specs.Looks.{AllOf, Looks};
+ghost use Rattle.draid_session.specs.Opening.{Imports};
+ghost use Rattle.draid_session.specs.Present.{AreReached, DeskReached, LeavesPresent};
 ghost use Rattle.draid_session.specs.Reads.{ReadsAs};
+ghost use Rattle.draid_session.specs.Resuming.{IsFirstRebuilt, TakesUpPass, stands_at};
 ghost use Rattle.draid_session.specs.Rooms.{FitsNowhere, stripes_for};
 ghost use Rattle.draid_session.specs.Said.{Said};
 ghost use Rattle.draid_session.specs.Session.{Agrees, Bare, Breaks, BreaksOpen, CarriesOut, Cause, Desk, IsAnything, Made, RecordFails, Runs, left_of};
-ghost use Rattle.draid_session.specs.State.{State};
+ghost use Rattle.draid_session.specs.State.{Metaslab, State};
 ghost use Rattle.draid_session.specs.Undisturbed.{HaveNoErrors, IsUndisturbed, WentWell};
 ghost use Rattle.draid_session.specs.Writes.{HasNoSpace};
 
 use draid_names::Room;
+use std::alloc::Global;
 
 /// Law: where a block finds no space, each metaslab was looked at, and one that takes blocks has no run that it fits.
 pub fn no_space_means_no_room()
@@ -129,4 +134,28 @@ pub fn undisturbed_rebuilds_are_whole<F: Fn(&[Room]) -> Option<u32>>(chooser: &F
     ensures targets { (limit : Option ℕ) (reply : Reply) (old new : State)
         → (it : CarriesOut (choices_by (FnReturnsAt F.Fn chooser.now)) (RebuildPool limit) reply old new)
         → HaveNoErrors old → AllOf (IsUndisturbed old.geometry old.perms) it.holds → AllOf WentWell it.holds }
+{}
+
+/// Law: in a session a group leaves the log of an arm only once each segment of a block that was born in it is present
+/// there. So it is in each hold of a command, where legal histories give the states of the metaslabs that it finds; and
+/// they give those that it leaves, so that this is so behind each line.
+pub fn groups_leave_logs_once_present<F: Fn(&[Room]) -> Option<u32>>(alloc: Global, chooser: &F)
+    ensures answered { (command : Command) (reply : Reply) (old new : State) → (it : CarriesOut (choices_by (FnReturnsAt F.Fn chooser.now)) command reply old new)
+        → AreReached old → AllOf (LeavesPresent old.geometry old.perms) it.holds × AreReached new }
+    ensures broken { (command : Command) (old new : State) → (it : BreaksOpen command old new)
+        → AreReached old → AllOf (LeavesPresent old.geometry old.perms) it.holds × AreReached new }
+    ensures lines { (tells : Bool) (lines : List (List ℕ)) (replies : List (List Said)) (old new : Desk)
+        → Runs (choices_by (FnReturnsAt F.Fn chooser.now)) IsAnything tells old lines replies new → DeskReached old → DeskReached new }
+    ensures breaks { (cause : Cause) (old new : Desk) (command : Command) → Breaks cause old command new → DeskReached old → DeskReached new }
+    ensures left { (desk : Desk) → DeskReached desk → DeskReached (left_of desk) }
+{}
+
+/// Law: an import takes up the pass of each image that it opens, with its targets, its last group, and the stripe where it
+/// stood. And the first rebuild that a command comes to goes on where it stands.
+pub fn rebuilds_go_on<F: Fn(&[Room]) -> Option<u32>>(chooser: &F)
+    ensures imported { (old new : State) (group m : ℕ) (y z : Metaslab) → Imports old group new
+        → slice_get old.metaslabs m ≡ Some y → slice_get new.metaslabs m ≡ Some z → TakesUpPass group y z }
+    ensures rebuilt { (limit : Option ℕ) (from stripes errors : ℕ) (paused : Bool) (old new : State) (m : ℕ) (y : Metaslab) (p : machine.Pass)
+        → CarriesOut (choices_by (FnReturnsAt F.Fn chooser.now)) (RebuildPool limit) (Reply.Rebuilt from stripes errors paused) old new
+        → IsFirstRebuilt old m y p → from ≡ stands_at old m p }
 {}

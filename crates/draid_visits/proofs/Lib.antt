@@ -1,1 +1,9 @@
 pub mod Cancelled
+pub mod Landed
+pub mod Over
+pub mod PassSteps
+pub mod Readied
+pub mod SharedWhole
+pub mod Started
+pub mod Tables
+pub mod Units

@@ -4,6 +4,7 @@
 
 mod cancelling;
 mod replies;
+mod steps;
 
 pub use cancelling::cancel;
 pub use replies::reply_to_cancel;

@@ -2,7 +2,7 @@ use Rattle.std.proofs.Common.{◌∙◌, Ok, Err, ap, refl, subst}
 use Rattle.draid_session.specs.Arms.{arm_of}
 use Rattle.draid_pool.specs.declared.fault.SyncFault.TheVariants as sync
 use Rattle.draid_pool.proofs.Steps.{by_answer}
-use Rattle.draid_changes.specs.Behind.{GoingIs, GoingIsBarred}
+use Rattle.draid_changes.specs.Behind.{GoingIs, GoingIsBarred, IsGone}
 use Rattle.draid_changes.specs.Detaching.{DetachDoes}
 use Rattle.draid_changes.specs.declared.detaching.DetachFault.TheVariants as fault
 use Rattle.draid_changes.proofs.Leaving.{carries_as}
@@ -46,3 +46,8 @@ returns-in-Err-Slot-clause-arms g c =
     let why = c.in-Err-Slot.why in
     let pool = c.detach.new.pool in
     subst (λ name. GoingIsBarred name why pool) c.named.ensures (subst (λ r. GoingIs c.named.result r pool) (c.in-Err-Slot.is ∙ ap Err c.in-Err-Slot.field-0-is) c.detach.ensures.arms)
+
+pub returns-in-Ok-clause-arms : goal.returns-in-Ok-clause-arms
+returns-in-Ok-clause-arms g c =
+    let pool = c.detach.new.pool in
+    subst (λ name. IsGone name pool) c.named.ensures (subst (λ r. GoingIs c.named.result r pool) c.in-Ok.is c.detach.ensures.arms)

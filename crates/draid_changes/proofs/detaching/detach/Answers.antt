@@ -34,6 +34,9 @@ pub returns-in-Ok-leave-clause-carries : goal.returns-in-Ok-leave-clause-carries
 returns-in-Ok-leave-clause-carries g c = λ x is.
     detach_done g.R.Rack g.A.Area c.finish.new.self c.leave.new.pool x c.args.arm c.in-Ok.at (c.in_default.ensures.carries x is) c.in-Ok.ensures.stands c.in-Ok.ensures.none c.in-Ok-leave.group c.in-Ok-leave.ensures.carries
 
+pub returns-in-Ok-leave-clause-arms : goal.returns-in-Ok-leave-clause-arms
+returns-in-Ok-leave-clause-arms g c = c.in-Ok-leave.ensures.gone
+
 pub returns-in-Err-leave-clause-later : goal.returns-in-Err-leave-clause-later
 returns-in-Err-leave-clause-later g c = areas_on g.A.Area.faults c.args.pool.now c.finish.new.self c.leave.new.pool c.in_default.ensures.later c.in-Err-leave.ensures.later
 

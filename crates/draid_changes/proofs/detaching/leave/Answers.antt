@@ -5,6 +5,7 @@ use Rattle.draid_pool.specs.declared.pool.Pool.{Pool}
 use Rattle.draid_pool.proofs.Rises.{areas_on, err_on, rose_then}
 use Rattle.draid_changes.specs.declared.need.Need.TheVariants as needs
 use Rattle.draid_changes.proofs.Events.{idle_reserved}
+use Rattle.draid_changes.proofs.Gone.{all_left, gone_on}
 use Rattle.draid_changes.proofs.Leaving.{areas_left, leave_done, leave_refused, leave_stopped, leaves_done, left_whole, may_leave}
 use Rattle.draid_changes.proofs.detaching.leave.Goals as goal
 
@@ -49,6 +50,16 @@ returns-in-Ok-clause-carries g c = λ x is.
     leave_done g.R.Rack g.A.Area late mid c.sync.new.self x c.args.at.slot c.args.arm (e.carries x is)
     (λ y r. leaves_done g.R.Rack g.A.Area c.args.at c.args.arm late mid c.detach_all.ensures.leaves (record { geometry = refl; uber = refl; objects = refl; seq = refl; floor = refl }) y r idle)
     c.in-Ok.synced c.in-Ok.ensures.carries)
+
+pub returns-in-Ok-clause-gone : goal.returns-in-Ok-clause-gone
+returns-in-Ok-clause-gone g c =
+    let old = c.args.pool.now in
+    let late = c.reserve_all.new.pool in
+    let mid : Pool g.row.R.Denot g.row.A.Denot = record late { metaslabs = record { shards = c.detach_all.new.shards } } in
+    let e = c.in_default.ensures in
+    gone_on mid c.sync.new.self c.args.arm c.in-Ok.ensures.arms
+    (all_left g.R.Rack c.args.at c.args.arm late mid c.detach_all.ensures.leaves
+    (may_leave g.R.Rack g.A.Area old late c.args.at c.args.arm e.whole (idle_reserved g.R.Rack g.A.Area needs.Event old late c.requires.idle e.reserves) c.requires.may e.reserves))
 
 pub returns-in-Err-sync-clause-later : goal.returns-in-Err-sync-clause-later
 returns-in-Err-sync-clause-later g c =

@@ -8,23 +8,24 @@ use Rattle.draid_session.specs.Arms as arms
 use Rattle.draid_session.specs.Phases.{Broke, Starved, WasWorn}
 use Rattle.draid_session.specs.State.{State}
 use Rattle.draid_pool.specs.Carries.{CarriesOut}
-use Rattle.draid_pool.specs.Failing.{RackFails}
 use Rattle.draid_pool.specs.Pools.{Represents}
 use Rattle.draid_pool.specs.Syncing.{Phase}
 use Rattle.draid_pool.specs.declared.pool.Pool.{Pool}
-use Rattle.draid_pool.proofs.Rises.{areas_on, rose_some}
+use Rattle.draid_pool.proofs.Keeping.{racks_on}
+use Rattle.draid_pool.proofs.Rises.{areas_on}
 use Rattle.draid_pool.proofs.Steps.{carries_so}
 use Rattle.draid_pool.proofs.WholeGroups.{first_shard}
 use Rattle.draid_changes.specs.Answers.{ChangeStops, ReplaceDoes}
 use Rattle.draid_changes.specs.Attaching.{Attaches, IsReplaceBarred, MayReplace}
-use Rattle.draid_changes.specs.Making.{RackRose, end_of_making}
-use Rattle.draid_changes.specs.Walks.{end_of_reserving, events_at}
+use Rattle.draid_changes.specs.Making.{end_of_making}
+use Rattle.draid_changes.specs.Walks.{Reserves, end_of_reserving, events_at}
 use Rattle.draid_changes.specs.declared.fault.ArmFault.TheVariants as armed
 use Rattle.draid_changes.specs.declared.need.Need.TheVariants as needs
 use Rattle.draid_changes.proofs.Begun.{broke_no_way, err_of, first_borrowed, shelf_first, starved_no_way, unfinished, worn_no_way}
 use Rattle.draid_changes.proofs.Coming.{attached_whole, came_to_all, may_come_made}
-use Rattle.draid_changes.proofs.Events.{areas_changed, idle_reserved}
+use Rattle.draid_changes.proofs.Events.{areas_changed, idle_reserved, racks_changed}
 use Rattle.draid_changes.proofs.Leaves.{disk_unfinished}
+use Rattle.draid_changes.proofs.Made.{rack_rose_then}
 use Rattle.draid_changes.proofs.Numbered.{SetsLeaf, areas_numbered, numbered_whole}
 use Rattle.draid_changes.proofs.Replaced.{DiskBreaks, DiskComes, disk_done, disk_refused, disk_unmade, disk_unreserved, idle_made}
 use Rattle.draid_changes.proofs.replacing.replace.Goals as goal
@@ -99,12 +100,15 @@ returns-in-Err-Failed-clause-later g c =
     areas_on g.A.Area.faults c.args.pool.now c.reserve_all.new.pool c.make_all.new.pool
     (areas_on g.A.Area.faults c.args.pool.now c.finish.new.self c.reserve_all.new.pool c.in_default.ensures.later c.in-Ok.ensures.later) c.in-Err-Failed.ensures.later
 
--- a count that rose isn't 0
-rack_fails : {R A : Type 0} (faults : R → Option ℕ → ℕ) (old new : Pool R A) → RackRose faults old new → RackFails faults new
-rack_fails faults old new rose = (rose.0, rose.2, rose.4, rose_some (faults rose.1.rack None) (faults rose.2.rack None) rose.5)
-
 pub returns-in-Err-Failed-clause-cause : goal.returns-in-Err-Failed-clause-cause
-returns-in-Err-Failed-clause-cause g c = λ is. inr (rack_fails g.R.Rack.faults c.reserve_all.new.pool c.make_all.new.pool (c.make_all.ensures.cause (c.in-Err-Failed.is ∙ ap Err c.in-Err-Failed.field-0-is)))
+returns-in-Err-Failed-clause-cause g c = λ is.
+    (let faults = g.R.Rack.faults in
+    let old = c.args.pool.now in
+    let mid = c.finish.new.self in
+    let late = c.reserve_all.new.pool in
+    inr (rack_rose_then faults old late c.make_all.new.pool
+    (racks_on faults old mid late c.in_default.ensures.racks (racks_changed faults (Reserves needs.Attachment) mid late c.in-Ok.ensures.reserves (λ before after r. r.kit.rack)))
+    (c.make_all.ensures.cause (c.in-Err-Failed.is ∙ ap Err c.in-Err-Failed.field-0-is))))
 
 pub returns-in-Err-Failed-clause-carries : goal.returns-in-Err-Failed-clause-carries
 returns-in-Err-Failed-clause-carries g c = λ x is.

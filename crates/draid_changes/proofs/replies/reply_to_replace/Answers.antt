@@ -1,8 +1,9 @@
-use Rattle.std.proofs.Common.{◌∙◌, Ok, Err, ap, refl, subst}
+use Rattle.std.proofs.Common.{◌∙◌, inl, inr, Ok, Err, ap, refl, subst}
 use Rattle.draid_changes.specs.Answers.{ReplaceDoes}
 use Rattle.draid_changes.specs.Behind.{DiskIs}
 use Rattle.draid_changes.specs.declared.fault.ArmFault.TheVariants as fault
 use Rattle.draid_pool.proofs.Steps.{by_answer}
+use Rattle.draid_changes.proofs.Made.{rack_fails}
 use Rattle.draid_changes.proofs.replies.reply_to_replace.Goals as goal
 
 pub returns-in-Ok-clause-step : goal.returns-in-Ok-clause-step
@@ -23,7 +24,10 @@ returns-in-Err-NoMemory-clause-step g c = λ x is.
     by_answer g.R.Rack g.A.Area (λ r. ReplaceDoes x c.args.slot c.args.sectors r) _ x c.replace.new.pool c.replace.result (Err fault.NoMemory) (c.in-Err-NoMemory.is ∙ ap Err c.in-Err-NoMemory.field-0-is) (λ holds store w. (Err fault.NoMemory, refl, w)) (c.replace.ensures.carries x is)
 
 pub returns-in-Err-Shelf-clause-cause : goal.returns-in-Err-Shelf-clause-cause
-returns-in-Err-Shelf-clause-cause g c = λ failed. c.replace.ensures.cause (c.in-Err-Shelf.is ∙ ap Err c.in-Err-Shelf.field-0-is)
+returns-in-Err-Shelf-clause-cause g c = λ failed. elim (c.replace.ensures.cause (c.in-Err-Shelf.is ∙ ap Err c.in-Err-Shelf.field-0-is)) [
+  | inl area ↦ inl area
+  | inr rack ↦ inr (rack_fails g.R.Rack.faults c.args.pool.now c.replace.new.pool rack)
+]
 
 pub returns-in-Err-Shelf-clause-step : goal.returns-in-Err-Shelf-clause-step
 returns-in-Err-Shelf-clause-step g c = λ x is.

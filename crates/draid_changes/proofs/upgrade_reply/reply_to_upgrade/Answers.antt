@@ -39,3 +39,6 @@ returns-in-Shelf-clause-step g c = λ x is.
 
 pub returns-in-Err-Already-clause-arms : goal.returns-in-Err-Already-clause-arms
 returns-in-Err-Already-clause-arms g c = subst (λ r. UpgradeIs r c.upgrade.new.pool) (c.in-Err-Already.is ∙ ap Err c.in-Err-Already.field-0-is) c.upgrade.ensures.asked
+
+pub returns-in-Ok-clause-arms : goal.returns-in-Ok-clause-arms
+returns-in-Ok-clause-arms g c = subst (λ r. UpgradeIs r c.upgrade.new.pool) c.in-Ok.is c.upgrade.ensures.asked

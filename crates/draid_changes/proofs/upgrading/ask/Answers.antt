@@ -1,5 +1,6 @@
 use Rattle.std.proofs.Common.{refl}
 use Rattle.draid_pool.specs.declared.pool.Pool.{Pool}
+use Rattle.draid_changes.proofs.Gone.{all_asked}
 use Rattle.draid_changes.proofs.Upgraded.{AsksPool, asked_done}
 use Rattle.draid_changes.proofs.UpgradedWhole.{areas_asked, whole_asked}
 use Rattle.draid_changes.proofs.upgrading.ask.Goals as goal
@@ -25,5 +26,6 @@ returns g c =
       whole = whole_asked g.R.Rack g.A.Area old new asks c.requires.whole;
       objects = refl;
       later = areas_asked g.R.Rack g.A.Area old new asks;
+      asked = all_asked g.R.Rack old new c.ask_all.ensures.upgrades;
       carries = λ x is one. asked_done g.R.Rack g.A.Area old new x is one (λ m shard there. (c.requires.ready m shard there).idle) asks;
     }

@@ -1,7 +1,6 @@
-use Rattle.std.proofs.Common.{◌∙◌, arith, sym}
-use Rattle.draid_pool.proofs.SyncSteps.{borrowed_at}
+use Rattle.std.proofs.Common.{arith}
 use Rattle.draid_changes.specs.Upgrading.{UpgradesIn}
-use Rattle.draid_changes.proofs.Walk.{changed_more, changed_none}
+use Rattle.draid_changes.proofs.Walk.{changed_none, walk_ends, walk_more, was_borrowed}
 use Rattle.draid_changes.proofs.upgrading.ask_all.Goals as goal
 
 pub loop-metaslab-init : goal.loop-metaslab-init
@@ -10,37 +9,25 @@ loop-metaslab-init g c = changed_none (UpgradesIn g.R.Rack) c.args.shards.now.it
 pub ask_in-requires : goal.ask_in-requires
 ask_in-requires g c =
     let l = c.loop-metaslab in
-    let b = l.invariant in
     let below = c.loop-metaslab-test.true in
     let len = c.len-metaslab-end.ensures in
     let vec = c.args.shards.now.ok.0 in
-    let many = b.many in
-    let there = borrowed_at l.shards.items l.metaslab c.index_mut.result.now (omega (arith, below, len, vec, many)) c.index_mut.ensures.value in
-    c.requires.ready l.metaslab c.index_mut.result.now (sym (b.others l.metaslab (omega arith)) ∙ there)
+    let shard = c.index_mut.result.now in
+    c.requires.ready l.metaslab shard (was_borrowed (UpgradesIn g.R.Rack) l.metaslab c.args.shards.now.items l.shards.items shard l.invariant (omega (arith, below, len, vec)) c.index_mut.ensures.value)
 
 pub loop-metaslab-preserved : goal.loop-metaslab-preserved
 loop-metaslab-preserved g c =
     let l = c.loop-metaslab in
-    let b = l.invariant in
     let below = c.loop-metaslab-test.true in
     let len = c.len-metaslab-end.ensures in
     let vec = c.args.shards.now.ok.0 in
-    let many = b.many in
-    let there = borrowed_at l.shards.items l.metaslab c.index_mut.result.now (omega (arith, below, len, vec, many)) c.index_mut.ensures.value in
-    changed_more (UpgradesIn g.R.Rack) l.metaslab c.args.shards.now.items l.shards.items c.index_mut.result.now c.ask_in.new.shard b there c.ask_in.ensures
+    walk_more (UpgradesIn g.R.Rack) l.metaslab c.args.shards.now.items l.shards.items c.index_mut.result.now c.ask_in.new.shard l.invariant (omega (arith, below, len, vec)) c.index_mut.ensures.value c.ask_in.ensures
 
 pub returns : goal.returns
 returns g c =
     let l = c.loop-metaslab in
-    let b = l.invariant in
     let past = c.loop-metaslab-test.false in
     let most = l.auto.metaslab-end in
     let len = c.len-metaslab-end.ensures in
     let vec = c.args.shards.now.ok.0 in
-    record {
-      upgrades = record {
-        many = b.many;
-        below = λ k shard less. b.below k shard (omega (arith, less, past, len, vec));
-        others = λ k from. b.others k (omega (arith, from, most, len, vec));
-      };
-    }
+    record { upgrades = walk_ends (UpgradesIn g.R.Rack) l.metaslab c.args.shards.now.items l.shards.items l.invariant (omega (arith, past, most, len, vec)) }

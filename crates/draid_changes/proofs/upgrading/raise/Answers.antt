@@ -7,6 +7,7 @@ use Rattle.draid_pool.proofs.Rises.{areas_on, err_on, rose_then}
 use Rattle.draid_pool.proofs.Wholes.{same_pointers}
 use Rattle.draid_changes.specs.declared.need.Need.TheVariants as needs
 use Rattle.draid_changes.proofs.Events.{idle_reserved}
+use Rattle.draid_changes.proofs.Gone.{two_on}
 use Rattle.draid_changes.proofs.Raised.{raise_done, raise_refused, raise_stopped}
 use Rattle.draid_changes.proofs.UpgradedWhole.{may_upgrade}
 use Rattle.draid_changes.proofs.upgrading.raise.Goals as goal
@@ -32,6 +33,7 @@ returns-in-Ok g c =
       same = λ object. c.in-Ok.ensures.same object ∙ same_pointers old mid (c.ask.ensures.objects ∙ c.in_default.ensures.objects) object;
       later = areas_on faults old mid c.sync.new.self (areas_on faults old late mid c.in_default.ensures.later c.ask.ensures.later) c.in-Ok.ensures.later;
       cause = λ is. absurd (no_refusal is);
+      versions = two_on mid c.sync.new.self c.in-Ok.ensures.asked c.in-Ok.ensures.versions c.ask.ensures.asked;
       carries = λ x is one. raise_done g.R.Rack g.A.Area late mid c.sync.new.self x (c.in_default.ensures.carries x is)
           (λ y r. c.ask.ensures.carries y r (ap version_of c.in_default.ensures.uber ∙ one)) c.in-Ok.synced c.in-Ok.ensures.carries;
     }
@@ -49,6 +51,7 @@ returns-in-Err-sync g c =
       same = λ object. e.same object ∙ same_pointers old mid (c.ask.ensures.objects ∙ c.in_default.ensures.objects) object;
       later = areas_on faults old mid c.sync.new.self before e.later;
       cause = λ is. rose_then faults old mid c.sync.new.self before (e.cause (err_on ℕ Synced c.in-Err-sync.why sync.Shelf is));
+      versions = tt;
       carries = λ x is one. raise_stopped g.R.Rack g.A.Area late mid c.sync.new.self x (c.in_default.ensures.carries x is)
           (λ y r. c.ask.ensures.carries y r (ap version_of c.in_default.ensures.uber ∙ one)) c.in-Err-sync.why e.carries;
     }

@@ -47,7 +47,7 @@ returns-in-Ok g c =
       same = λ object. c.in-Ok.ensures.same object ∙ same_pointers old mid c.in_default.ensures.objects object;
       later = areas_on g.A.Area.faults old mid new c.in_default.ensures.later c.in-Ok.ensures.later;
       cause = λ is. absurd (cc is);
-      asked = tt;
+      asked = c.in-Ok.ensures.versions;
       carries = λ x is. upgrade_done g.R.Rack g.A.Area mid new x first (c.in_default.ensures.carries x is) at c.if-index-eq2.false c.in-Ok.group
           (λ y r. c.in-Ok.ensures.carries y r (uber_one g.R.Rack g.A.Area mid y first r at c.if-index-eq2.false));
     }

@@ -10,7 +10,7 @@ use Rattle.draid_plans.specs.Ends.{EndsAll, is_good}
 use Rattle.draid_plans.specs.Logs.{Excises}
 use Rattle.draid_passing.specs.Ending.{Ends, last_good}
 use Rattle.draid_passing.proofs.Does.{counts_are, done_acts, done_in, done_step, errors_are, excised_are, good_same, mid_kind, mid_there, shape_stays}
-use Rattle.draid_passing.proofs.Finished.{arms_shared, done_valid}
+use Rattle.draid_passing.proofs.Finished.{arms_shared, done_valid, leaf_before}
 use Rattle.draid_passing.proofs.ending.done.Given as given
 use Rattle.draid_passing.proofs.ending.done.Goals as goal
 use Rattle.draid_passing.proofs.ending.done.Goals.{After-drop-pass}
@@ -82,3 +82,6 @@ returns-clause-ends g c =
 
 pub returns-clause-arms : goal.returns-clause-arms
 returns-clause-arms g c = arms_shared c.args.shard.now.slots c.end.new.slots (is_good (ended_pass_of g c)) (ended_pass_of g c).max (excises g c)
+
+pub returns-clause-leaves : goal.returns-clause-leaves
+returns-clause-leaves g c = leaf_before c.args.shard.now.slots c.end.new.slots (is_good (ended_pass_of g c)) (ended_pass_of g c).max (excises g c)

@@ -5,6 +5,7 @@ use Rattle.draid_shard.proofs.Kept.{stored_more}
 use Rattle.draid_shard.proofs.Changed.{arms_kept, same_arms, same_entries}
 use Rattle.draid_pool.proofs.Closed.{asked_nothing, asked_valid, closed_valid, closes, kept_in, kept_valid}
 use Rattle.draid_entries.specs.History.{AskIs}
+use Rattle.draid_pool.proofs.Keeping.{stays_by}
 use Rattle.draid_pool.proofs.closing.close_group.Goals as goal
 
 pub add_asked-requires : goal.add_asked-requires
@@ -22,6 +23,7 @@ returns-in-Err-Worn g c =
       slots = same_arms c.args.shard.now.slots;
       refused = subst (λ e. AskIs c.args.shard.now.history 3 0 (Err e)) c.in-Err-Worn.field-0-is c.in-Err-Worn.ensures.answer;
       reserve = record { reserved = c.ask_for_group.ensures.same.reserved; limit = c.ask_for_group.ensures.same.limit };
+      stays = stays_by g.R.Rack.faults c.args.shard.now _ refl refl (same_arms c.args.shard.now.slots) refl;
     }
 
 pub returns-in-Err-NoMemory : goal.returns-in-Err-NoMemory
@@ -36,6 +38,7 @@ returns-in-Err-NoMemory g c =
       slots = same_arms c.args.shard.now.slots;
       refused = tt;
       reserve = record { reserved = c.ask_for_group.ensures.same.reserved; limit = c.ask_for_group.ensures.same.limit };
+      stays = stays_by g.R.Rack.faults c.args.shard.now _ refl refl (same_arms c.args.shard.now.slots) refl;
     }
 
 pub returns-in_default : goal.returns-in_default
@@ -58,6 +61,7 @@ returns-in_default g c =
       slots = arms_kept c.args.shard.now.slots c.reserve.new.self c.in_default.ensures.kept;
       refused = tt;
       reserve = record { reserved = c.ask_for_group.ensures.same.reserved; limit = c.ask_for_group.ensures.same.limit };
+      stays = stays_by g.R.Rack.faults c.args.shard.now _ refl refl (arms_kept c.args.shard.now.slots c.reserve.new.self c.in_default.ensures.kept) refl;
     }
 
 pub returns-then-group-eq-LAST_NUMBER : goal.returns-then-group-eq-LAST_NUMBER
@@ -72,6 +76,7 @@ returns-then-group-eq-LAST_NUMBER g c =
       slots = same_arms c.args.shard.now.slots;
       refused = (c.in-Ok.ensures.answer, c.if-group-eq-LAST_NUMBER.true);
       reserve = record { reserved = c.ask_for_group.ensures.same.reserved; limit = c.ask_for_group.ensures.same.limit };
+      stays = stays_by g.R.Rack.faults c.args.shard.now _ refl refl (same_arms c.args.shard.now.slots) refl;
     }
 
 pub returns : goal.returns
@@ -99,4 +104,5 @@ returns g c =
       slots = arms_kept c.args.shard.now.slots c.reserve.new.self c.in-Ok-reserve.ensures.kept;
       refused = tt;
       reserve = record { reserved = c.add_asked.ensures.reserved ∙ c.in-Ok.ensures.same.reserved; limit = c.add_asked.ensures.limit ∙ c.in-Ok.ensures.same.limit };
+      stays = stays_by g.R.Rack.faults c.args.shard.now _ refl refl (arms_kept c.args.shard.now.slots c.reserve.new.self c.in-Ok-reserve.ensures.kept) refl;
     }

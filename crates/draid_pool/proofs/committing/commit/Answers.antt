@@ -1,8 +1,10 @@
-use Rattle.std.proofs.Common.{◌∙◌, ◌++◌, ◌∷◌, [], List, ap, arith, length, refl}
+use Rattle.std.proofs.Common.{◌∙◌, ◌++◌, ◌∷◌, [], List, None, ap, arith, length, refl}
 use Rattle.draid_machine.specs.declared.event.Event.{Event}
 use Rattle.draid_machine.specs.declared.event.Event.TheVariants.{Commit}
+use Rattle.draid_machine.proofs.Small.{none_some}
 use Rattle.draid_shard.proofs.Kept.{fitting, stored_more}
 use Rattle.draid_pool.proofs.Committed.{commit_acts, commit_drops, commit_leads, commit_valid, owes_one}
+use Rattle.draid_pool.proofs.Keeping.{pass_still}
 use Rattle.draid_pool.proofs.committing.commit.Goals as goal
 
 pub release_freed-requires : goal.release_freed-requires
@@ -30,6 +32,13 @@ returns g c =
           c.release_freed.ensures.drops c.commit.ensures c.drop_detached.ensures;
       slots = c.commit.ensures;
       reserve = record { reserved = c.add.ensures.reserved ∙ c.drop_if.ensures.reserved; limit = c.add.ensures.limit ∙ c.drop_if.ensures.limit };
+      stays = record {
+        pass = pass_still c.args.shard.now.pass;
+        rack = c.drop_detached.ensures.drops.counts None (λ leaf is. absurd (none_some None leaf refl is));
+        arms = record { same = c.commit.ensures.same; arms_stay = c.commit.ensures.arms_stay };
+        asked = refl;
+      };
+      version = refl;
     }
 
 pub drop_if-requires : goal.drop_if-requires

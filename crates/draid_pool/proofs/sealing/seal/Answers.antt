@@ -2,6 +2,7 @@ use Rattle.std.proofs.Common.{◌≡◌, arith, refl, rules, subst}
 use Rattle.draid_shard.proofs.Changed.{same_arms, same_entries}
 use Rattle.draid_pool.specs.Groups.{OpenUpto}
 use Rattle.draid_pool.proofs.Counting.{begin_low, none_open, open_upto}
+use Rattle.draid_pool.proofs.Keeping.{stays_still}
 use Rattle.draid_pool.proofs.sealing.seal.Goals as goal
 
 pub tickets_upto-tickets-requires : goal.tickets_upto-tickets-requires
@@ -38,6 +39,7 @@ returns-then-tickets-gt0 g c =
       slots = same_arms c.args.shard.now.slots;
       later = record { even = omega arith; odd = omega arith };
       reserve = record { reserved = refl; limit = refl };
+      stays = stays_still g.R.Rack.faults c.args.shard.now;
     }
 
 pub returns-in-Err : goal.returns-in-Err
@@ -52,6 +54,7 @@ returns-in-Err g c =
       slots = same_arms c.args.shard.now.slots;
       later = record { even = omega arith; odd = omega arith };
       reserve = record { reserved = refl; limit = refl };
+      stays = stays_still g.R.Rack.faults c.args.shard.now;
     }
 
 pub returns-in-Ok : goal.returns-in-Ok
@@ -66,4 +69,5 @@ returns-in-Ok g c =
       slots = c.seal_by.ensures.slots;
       later = c.seal_by.ensures.later;
       reserve = c.seal_by.ensures.reserve;
+      stays = c.seal_by.ensures.stays;
     }

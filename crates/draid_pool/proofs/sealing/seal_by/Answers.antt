@@ -1,5 +1,5 @@
 use Rattle.std.specs.Prelude.{vec_capacity}
-use Rattle.std.proofs.Common.{Err, length, ◌≡◌, ◌≤◌, ◌+◌, ◌^◌, ◌∙◌, ℕ, true, IsSome, List, Some, Vec, Global, All, ap, refl, sym, subst}
+use Rattle.std.proofs.Common.{Err, length, ◌≡◌, ◌≤◌, ◌+◌, ◌^◌, ◌∙◌, ℕ, true, IsSome, List, None, Some, Vec, Global, All, ap, refl, sym, subst}
 use Rattle.draid_names.specs.declared.pointer.Pointer.{Pointer}
 use Rattle.draid_area.specs.Area as content
 use Rattle.draid_rack.specs.Rack.{OnBothTold}
@@ -30,6 +30,7 @@ use Rattle.draid_shard.proofs.Standing.{reached_more}
 use Rattle.draid_pool.specs.Groups.{ListsOnce}
 use Rattle.draid_pool.specs.Sealing.{area_by}
 use Rattle.draid_pool.proofs.Counting.{begin_inside}
+use Rattle.draid_pool.proofs.Keeping.{pass_lost, pass_still}
 use Rattle.draid_pool.proofs.Ranging.{blocks_low}
 use Rattle.draid_pool.proofs.SealRecords.{Settles, has_record, no_writes, writes}
 use Rattle.draid_pool.proofs.SealSteps.{birth_high, birth_low, flushes_acts, flushes_leave, layout_same, marked_sound, on_told, one_after, seal_step, sealed_in, sealed_valid}
@@ -184,6 +185,12 @@ returns g c =
       slots = record { same = (table g at_add).same; arms_stay = (table g at_add).arms_stay; detached_stay = (table g at_add).detached_stay };
       later = record { even = c.write_to.ensures.even_later; odd = c.write_to.ensures.odd_later };
       reserve = record { reserved = c.add.ensures.reserved; limit = c.add.ensures.limit };
+      stays = record {
+        pass = pass_lost c.mark_silent.new.marks.items old.pass c.lose_targets.new.pass (loses g at_add);
+        rack = cause.later None;
+        arms = record { same = (table g at_add).same; arms_stay = (table g at_add).arms_stay };
+        asked = refl;
+      };
     }
 
 -- ---- a seal that is refused
@@ -204,6 +211,12 @@ returns-in-Err-Failed g c = record {
   slots = same_arms c.args.shard.now.slots;
   later = record { even = c.write_to.ensures.even_later; odd = c.write_to.ensures.odd_later };
   reserve = record { reserved = refl; limit = refl };
+  stays = record {
+    pass = pass_still c.args.shard.now.pass;
+    rack = c.flush_leaves.ensures.cause.later None;
+    arms = record { same = (same_arms c.args.shard.now.slots).same; arms_stay = refl };
+    asked = refl;
+  };
 }
 
 pub returns-in-Err-NoMemory : goal.returns-in-Err-NoMemory
@@ -223,6 +236,12 @@ returns-in-Err-NoMemory g c = record {
   slots = same_arms c.args.shard.now.slots;
   later = record { even = c.write_to.ensures.even_later; odd = c.write_to.ensures.odd_later };
   reserve = record { reserved = refl; limit = refl };
+  stays = record {
+    pass = pass_still c.args.shard.now.pass;
+    rack = c.flush_leaves.ensures.cause.later None;
+    arms = record { same = (same_arms c.args.shard.now.slots).same; arms_stay = refl };
+    asked = refl;
+  };
 }
 
 -- ---- what the other clauses and calls ask for

@@ -16,7 +16,7 @@ loop-metaslab-preserved g c =
     let many = b.many in
     let there = borrowed_at l.shards.items l.metaslab c.index_mut.result.now (omega (arith, below, len, vec, many)) c.index_mut.ensures.value in
     below_more g.R.Rack c.args.group l.metaslab c.args.shards.now.items l.shards.items c.index_mut.result.now c.commit.new.shard b there
-    (record { valid = e.valid; areas = e.areas; does = e.event; commits = e.commits; acts = e.acts; leaves = e.leaves; slots = e.slots; reserve = e.reserve })
+    (record { valid = e.valid; areas = e.areas; does = e.event; commits = e.commits; acts = e.acts; leaves = e.leaves; slots = e.slots; reserve = e.reserve; stays = e.stays; version = e.version })
 
 pub loop-metaslab-init : goal.loop-metaslab-init
 loop-metaslab-init g c = record { many = refl; below = λ k shard less there. absurd (omega (arith, less)); others = λ k past. refl }

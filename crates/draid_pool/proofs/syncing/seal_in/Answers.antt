@@ -6,6 +6,7 @@ use Rattle.draid_shard.specs.States.{IsIn}
 use Rattle.draid_pool.specs.declared.fault.SyncFault.TheVariants as sync
 use Rattle.draid_shard.proofs.Changed.{same_arms}
 use Rattle.draid_shard.proofs.Shown.{state_shown}
+use Rattle.draid_pool.proofs.Keeping.{stays_still}
 use Rattle.draid_pool.proofs.Rises.{records_rose, records_still}
 use Rattle.draid_pool.proofs.Turns.{no_tickets, not_sealed, seal_fault, sealed, stays_sealed}
 use Rattle.draid_pool.proofs.Refusing.{memory_no_last, memory_no_shelf, no_refusal, shelf_no_last}
@@ -25,6 +26,7 @@ returns-in-Ok g c =
     record {
       valid = c.in-Ok.ensures.valid;
       table = record { part = c.in-Ok.ensures.sealed.does.part; entries = c.in-Ok.ensures.seals.entries; committed = c.in-Ok.ensures.seals.committed; slots = c.in-Ok.ensures.slots };
+      stays = c.in-Ok.ensures.stays;
       sealed = (c.in-Ok.ensures.seals.closing ∙ c.requires.closing, c.in-Ok.ensures.seals.sealed);
       low = c.in-Ok.ensures.sealed.low;
       later = c.in-Ok.ensures.later;
@@ -39,6 +41,7 @@ returns-in-Err-Area g c =
     record {
       valid = c.in-Err-Area.ensures.valid;
       table = record { part = c.in-Err-Area.ensures.refused.none.part; entries = c.in-Err-Area.ensures.keeps.entries; committed = c.in-Err-Area.ensures.keeps.groups.committed; slots = c.in-Err-Area.ensures.slots };
+      stays = c.in-Err-Area.ensures.stays;
       sealed = tt;
       low = tt;
       later = c.in-Err-Area.ensures.later;
@@ -57,6 +60,7 @@ returns-in-Err-NoMemory g c =
     record {
       valid = c.in-Err-NoMemory.ensures.valid;
       table = record { part = c.in-Err-NoMemory.ensures.refused.none.part; entries = c.in-Err-NoMemory.ensures.keeps.entries; committed = c.in-Err-NoMemory.ensures.keeps.groups.committed; slots = c.in-Err-NoMemory.ensures.slots };
+      stays = c.in-Err-NoMemory.ensures.stays;
       sealed = tt;
       low = tt;
       later = c.in-Err-NoMemory.ensures.later;
@@ -75,6 +79,7 @@ returns-then-sealed g c =
     record {
       valid = c.requires.valid;
       table = record { part = refl; entries = record { at = λ first. refl; held = λ key. refl; count = refl; owed = λ columns. refl }; committed = refl; slots = same_arms c.args.shard.now.slots };
+      stays = stays_still g.R.Rack.faults c.args.shard.now;
       sealed = (c.requires.closing, sym c.sealed.ensures ∙ c.if-sealed.true);
       low = omega arith;
       later = records_still g.A.Area.faults c.args.shard.now;

@@ -14,7 +14,7 @@ returns-in-Ok g c = record {
   did = λ x stands. (
     c.in-Some.command,
     sym c.asked.ensures ∙ c.in-Some.is,
-    did_open g.R.Rack g.A.Area (choices_by (FnReturnsAt g.F.Fn c.args.chooser.now)) (command_in c.args.line.now) c.in-Some.command c.in-Ok.reply c.args.pool.now c.in-Some-pool.pool c.reply.new.pool c.in-Some-pool.is c.in-Ok.ensures.whole c.in-Ok.ensures.fits c.in-Ok.ensures.knows c.in-Ok.ensures.arms c.in-Ok.ensures.step x stands,
+    did_open g.R.Rack g.A.Area (choices_by (FnReturnsAt g.F.Fn c.args.chooser.now)) (command_in c.args.line.now) c.in-Some.command c.in-Ok.reply c.args.pool.now c.in-Some-pool.pool c.reply.new.pool c.in-Some-pool.is c.in-Ok.ensures.whole c.in-Ok.ensures.fits c.in-Ok.ensures.knows c.in-Ok.ensures.arms c.in-Ok.ensures.passes c.in-Ok.ensures.step x stands,
   );
 }
 

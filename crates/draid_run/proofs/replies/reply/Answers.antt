@@ -1,7 +1,7 @@
 use Rattle.std.proofs.Common.{◌∙◌, inl, inr, true, false, IfOk, ap, refl, subst, sym}
 use Rattle.std.specs.Fn.{FnReturnsAt}
 use Rattle.draid_session.specs.Choices.{choices_by}
-use Rattle.draid_script.specs.Line.{AttachSpare, FillObjects, IsInRange, TakeOffline, TakeOnline, DetachArm, UpgradePool, WriteObject, command_in, ReplaceDisk, CancelPasses}
+use Rattle.draid_script.specs.Line.{AttachSpare, FillObjects, IsInRange, TakeOffline, TakeOnline, DetachArm, UpgradePool, WriteObject, command_in, RebuildPool, ReplaceDisk, CancelPasses}
 use Rattle.draid_session.specs.Replies.{IsReplyTo}
 use Rattle.draid_pool.specs.Knows.{Teaches}
 use Rattle.draid_pool.proofs.Rises.{rose_fails}
@@ -9,7 +9,8 @@ use Rattle.draid_pool.proofs.Taught.{teaches_nothing}
 use Rattle.draid_session.specs.Certain.{MakesLeaves}
 use Rattle.draid_session.specs.Session.{MayBreak}
 use Rattle.draid_changes.specs.Behind.{ArmsBehind}
-use Rattle.draid_run.proofs.Asking.{asks_nothing, each_reply, replied_as, replied_damage, replied_detach, replied_free, replied_read, replied_spare, replied_status, replied_sum, replied_switch, replied_upgrade, replied_replace, replied_cancel}
+use Rattle.draid_visits.specs.Behind.{PassesBehind}
+use Rattle.draid_run.proofs.Asking.{asks_nothing, each_reply, replied_as, replied_damage, replied_detach, replied_free, replied_read, replied_spare, replied_status, replied_sum, replied_switch, replied_upgrade, replied_replace, replied_cancel, replied_rebuild}
 use Rattle.draid_run.proofs.replies.reply.Goals as goal
 
 pub returns-in-Write : goal.returns-in-Write
@@ -18,6 +19,7 @@ returns-in-Write g c = record {
   fits = subst (λ k. IsReplyTo k c.reply_to_write.result) (sym (ap command_in c.in-Write.is ∙ ap (WriteObject c.in-Write.object) (sym c.deref.ensures.value))) c.reply_to_write.ensures.fits;
   knows = subst (λ k. Teaches k c.reply_to_write.result c.args.pool.now c.reply_to_write.new.pool) (sym (ap command_in c.in-Write.is ∙ ap (WriteObject c.in-Write.object) (sym c.deref.ensures.value))) c.reply_to_write.ensures.knows;
   arms = subst (λ k. ArmsBehind k c.reply_to_write.result c.reply_to_write.new.pool) (sym (ap command_in c.in-Write.is ∙ ap (WriteObject c.in-Write.object) (sym c.deref.ensures.value))) tt;
+  passes = subst (λ k. PassesBehind k c.reply_to_write.result c.reply_to_write.new.pool) (sym (ap command_in c.in-Write.is ∙ ap (WriteObject c.in-Write.object) (sym c.deref.ensures.value))) tt;
   breaks = λ failed. absurd (cc failed);
   step = λ x rep. replied_as g.R.Rack g.A.Area (choices_by (FnReturnsAt g.F.Fn c.args.chooser.now)) c.args.line.now x c.reply_to_write.new.pool c.reply_to_write.result (WriteObject c.in-Write.object c.deref.result.now)
       (ap command_in c.in-Write.is ∙ ap (WriteObject c.in-Write.object) (sym c.deref.ensures.value)) (c.reply_to_write.ensures.step x rep);
@@ -29,6 +31,7 @@ returns-in-Fill g c = record {
   fits = subst (λ k. IsReplyTo k c.fill.result) (sym (ap command_in c.in-Fill.is)) c.fill.ensures.fits;
   knows = subst (λ k. Teaches k c.fill.result c.args.pool.now c.fill.new.pool) (sym (ap command_in c.in-Fill.is)) c.fill.ensures.knows;
   arms = subst (λ k. ArmsBehind k c.fill.result c.fill.new.pool) (sym (ap command_in c.in-Fill.is)) tt;
+  passes = subst (λ k. PassesBehind k c.fill.result c.fill.new.pool) (sym (ap command_in c.in-Fill.is)) tt;
   breaks = λ failed. absurd (cc failed);
   step = λ x rep. replied_as g.R.Rack g.A.Area (choices_by (FnReturnsAt g.F.Fn c.args.chooser.now)) c.args.line.now x c.fill.new.pool c.fill.result (FillObjects c.in-Fill.first c.in-Fill.count c.in-Fill.len c.in-Fill.seed)
       (ap command_in c.in-Fill.is) (c.fill.ensures.step x rep);
@@ -40,6 +43,7 @@ returns-in-Free g c = record {
   fits = subst (λ k. IsReplyTo k c.reply_to_free.result) (sym (ap command_in c.in-Free.is)) c.reply_to_free.ensures.fits;
   knows = subst (λ k. Teaches k c.reply_to_free.result c.args.pool.now c.reply_to_free.new.pool) (sym (ap command_in c.in-Free.is)) c.reply_to_free.ensures.knows;
   arms = subst (λ k. ArmsBehind k c.reply_to_free.result c.reply_to_free.new.pool) (sym (ap command_in c.in-Free.is)) tt;
+  passes = subst (λ k. PassesBehind k c.reply_to_free.result c.reply_to_free.new.pool) (sym (ap command_in c.in-Free.is)) tt;
   breaks = λ failed. absurd (cc failed);
   step = λ x rep. replied_free g.R.Rack g.A.Area (choices_by (FnReturnsAt g.F.Fn c.args.chooser.now)) c.args.line.now x c.reply_to_free.new.pool c.reply_to_free.result c.in-Free.object c.in-Free.is (c.reply_to_free.ensures.step x rep);
 }
@@ -50,6 +54,7 @@ returns-in-Read g c = record {
   fits = subst (λ k. IsReplyTo k c.reply_to_read.result) (sym (ap command_in c.in-Read.is)) c.reply_to_read.ensures.fits;
   knows = subst (λ k. Teaches k c.reply_to_read.result c.args.pool.now c.reply_to_read.new.pool) (sym (ap command_in c.in-Read.is)) c.reply_to_read.ensures.knows;
   arms = subst (λ k. ArmsBehind k c.reply_to_read.result c.reply_to_read.new.pool) (sym (ap command_in c.in-Read.is)) tt;
+  passes = subst (λ k. PassesBehind k c.reply_to_read.result c.reply_to_read.new.pool) (sym (ap command_in c.in-Read.is)) tt;
   breaks = λ failed. absurd (cc failed);
   step = λ x rep. replied_read g.R.Rack g.A.Area (choices_by (FnReturnsAt g.F.Fn c.args.chooser.now)) c.args.line.now x c.reply_to_read.new.pool c.reply_to_read.result c.in-Read.object c.in-Read.is (c.reply_to_read.ensures.step x rep);
 }
@@ -60,6 +65,7 @@ returns-in-Sum g c = record {
   fits = subst (λ k. IsReplyTo k c.reply_to_sum.result) (sym (ap command_in c.in-Sum.is)) c.reply_to_sum.ensures.fits;
   knows = subst (λ k. Teaches k c.reply_to_sum.result c.args.pool.now c.reply_to_sum.new.pool) (sym (ap command_in c.in-Sum.is)) c.reply_to_sum.ensures.knows;
   arms = subst (λ k. ArmsBehind k c.reply_to_sum.result c.reply_to_sum.new.pool) (sym (ap command_in c.in-Sum.is)) tt;
+  passes = subst (λ k. PassesBehind k c.reply_to_sum.result c.reply_to_sum.new.pool) (sym (ap command_in c.in-Sum.is)) tt;
   breaks = λ failed. absurd (cc failed);
   step = λ x rep. replied_sum g.R.Rack g.A.Area (choices_by (FnReturnsAt g.F.Fn c.args.chooser.now)) c.args.line.now x c.reply_to_sum.new.pool c.reply_to_sum.result c.in-Sum.first c.in-Sum.count c.in-Sum.is (c.reply_to_sum.ensures.step x rep);
 }
@@ -74,6 +80,7 @@ returns-in-Offline g c =
       knows = subst (λ k. IfOk c.reply_to_offline.result (λ reply. Teaches k reply c.args.pool.now c.reply_to_offline.new.pool)) (sym is)
           (each_reply c.reply_to_offline.result (λ reply. Teaches (TakeOffline c.in-Offline.leaf) reply c.args.pool.now c.reply_to_offline.new.pool) (λ reply. teaches_nothing (TakeOffline c.in-Offline.leaf) reply (λ known. refl) c.args.pool.now c.reply_to_offline.new.pool e.same));
       arms = subst (λ k. IfOk c.reply_to_offline.result (λ reply. ArmsBehind k reply c.reply_to_offline.new.pool)) (sym is) e.arms;
+      passes = subst (λ k. IfOk c.reply_to_offline.result (λ reply. PassesBehind k reply c.reply_to_offline.new.pool)) (sym is) (each_reply c.reply_to_offline.result (λ reply. PassesBehind (TakeOffline c.in-Offline.leaf) reply c.reply_to_offline.new.pool) (λ reply. tt));
       breaks = λ failed. (subst MayBreak (sym is) tt, inl (rose_fails g.A.Area.faults c.args.pool.now c.reply_to_offline.new.pool (e.cause failed)), e.same);
       step = λ x rep. replied_switch g.R.Rack g.A.Area (choices_by (FnReturnsAt g.F.Fn c.args.chooser.now)) c.args.line.now x c.reply_to_offline.new.pool c.in-Offline.leaf true c.reply_to_offline.result is (e.step x rep);
     }
@@ -88,6 +95,7 @@ returns-in-Online g c =
       knows = subst (λ k. IfOk c.reply_to_online.result (λ reply. Teaches k reply c.args.pool.now c.reply_to_online.new.pool)) (sym is)
           (each_reply c.reply_to_online.result (λ reply. Teaches (TakeOnline c.in-Online.leaf) reply c.args.pool.now c.reply_to_online.new.pool) (λ reply. teaches_nothing (TakeOnline c.in-Online.leaf) reply (λ known. refl) c.args.pool.now c.reply_to_online.new.pool e.same));
       arms = subst (λ k. IfOk c.reply_to_online.result (λ reply. ArmsBehind k reply c.reply_to_online.new.pool)) (sym is) e.arms;
+      passes = subst (λ k. IfOk c.reply_to_online.result (λ reply. PassesBehind k reply c.reply_to_online.new.pool)) (sym is) (each_reply c.reply_to_online.result (λ reply. PassesBehind (TakeOnline c.in-Online.leaf) reply c.reply_to_online.new.pool) (λ reply. tt));
       breaks = λ failed. (subst MayBreak (sym is) tt, inl (rose_fails g.A.Area.faults c.args.pool.now c.reply_to_online.new.pool (e.cause failed)), e.same);
       step = λ x rep. replied_switch g.R.Rack g.A.Area (choices_by (FnReturnsAt g.F.Fn c.args.chooser.now)) c.args.line.now x c.reply_to_online.new.pool c.in-Online.leaf false c.reply_to_online.result is (e.step x rep);
     }
@@ -103,6 +111,7 @@ returns-in-Spare g c =
           (each_reply c.reply_to_spare.result (λ reply. Teaches (AttachSpare c.in-Spare.slot c.in-Spare.spare) reply c.args.pool.now c.reply_to_spare.new.pool)
           (λ reply. teaches_nothing (AttachSpare c.in-Spare.slot c.in-Spare.spare) reply (λ known. refl) c.args.pool.now c.reply_to_spare.new.pool e.same));
       arms = subst (λ k. IfOk c.reply_to_spare.result (λ reply. ArmsBehind k reply c.reply_to_spare.new.pool)) (sym is) e.arms;
+      passes = subst (λ k. IfOk c.reply_to_spare.result (λ reply. PassesBehind k reply c.reply_to_spare.new.pool)) (sym is) (each_reply c.reply_to_spare.result (λ reply. PassesBehind (AttachSpare c.in-Spare.slot c.in-Spare.spare) reply c.reply_to_spare.new.pool) (λ reply. tt));
       breaks = λ failed. (subst MayBreak (sym is) tt, inl (rose_fails g.A.Area.faults c.args.pool.now c.reply_to_spare.new.pool (e.cause failed)), e.same);
       step = λ x rep. replied_spare g.R.Rack g.A.Area (choices_by (FnReturnsAt g.F.Fn c.args.chooser.now)) c.args.line.now x c.reply_to_spare.new.pool c.in-Spare.slot c.in-Spare.spare c.reply_to_spare.result c.in-Spare.is (e.step x rep);
     }
@@ -118,6 +127,7 @@ returns-in-Replace g c =
           (each_reply c.reply_to_replace.result (λ reply. Teaches (ReplaceDisk c.in-Replace.slot c.in-Replace.sectors) reply c.args.pool.now c.reply_to_replace.new.pool)
           (λ reply. teaches_nothing (ReplaceDisk c.in-Replace.slot c.in-Replace.sectors) reply (λ known. refl) c.args.pool.now c.reply_to_replace.new.pool e.same));
       arms = subst (λ k. IfOk c.reply_to_replace.result (λ reply. ArmsBehind k reply c.reply_to_replace.new.pool)) (sym is) e.arms;
+      passes = subst (λ k. IfOk c.reply_to_replace.result (λ reply. PassesBehind k reply c.reply_to_replace.new.pool)) (sym is) (each_reply c.reply_to_replace.result (λ reply. PassesBehind (ReplaceDisk c.in-Replace.slot c.in-Replace.sectors) reply c.reply_to_replace.new.pool) (λ reply. tt));
       breaks = λ failed. (
         subst MayBreak (sym is) tt,
         (elim (e.cause failed) [
@@ -140,6 +150,7 @@ returns-in-Detach g c =
           (each_reply c.reply_to_detach.result (λ reply. Teaches (DetachArm c.in-Detach.arm) reply c.args.pool.now c.reply_to_detach.new.pool)
           (λ reply. teaches_nothing (DetachArm c.in-Detach.arm) reply (λ known. refl) c.args.pool.now c.reply_to_detach.new.pool e.same));
       arms = subst (λ k. IfOk c.reply_to_detach.result (λ reply. ArmsBehind k reply c.reply_to_detach.new.pool)) (sym is) e.arms;
+      passes = subst (λ k. IfOk c.reply_to_detach.result (λ reply. PassesBehind k reply c.reply_to_detach.new.pool)) (sym is) (each_reply c.reply_to_detach.result (λ reply. PassesBehind (DetachArm c.in-Detach.arm) reply c.reply_to_detach.new.pool) (λ reply. tt));
       breaks = λ failed. (subst MayBreak (sym is) tt, inl (rose_fails g.A.Area.faults c.args.pool.now c.reply_to_detach.new.pool (e.cause failed)), e.same);
       step = λ x rep. replied_detach g.R.Rack g.A.Area (choices_by (FnReturnsAt g.F.Fn c.args.chooser.now)) c.args.line.now x c.reply_to_detach.new.pool c.in-Detach.arm c.reply_to_detach.result c.in-Detach.is (e.step x rep);
     }
@@ -154,8 +165,26 @@ returns-in-Upgrade g c =
       knows = subst (λ k. IfOk c.reply_to_upgrade.result (λ reply. Teaches k reply c.args.pool.now c.reply_to_upgrade.new.pool)) (sym is)
           (each_reply c.reply_to_upgrade.result (λ reply. Teaches UpgradePool reply c.args.pool.now c.reply_to_upgrade.new.pool) (λ reply. teaches_nothing UpgradePool reply (λ known. refl) c.args.pool.now c.reply_to_upgrade.new.pool e.same));
       arms = subst (λ k. IfOk c.reply_to_upgrade.result (λ reply. ArmsBehind k reply c.reply_to_upgrade.new.pool)) (sym is) e.arms;
+      passes = subst (λ k. IfOk c.reply_to_upgrade.result (λ reply. PassesBehind k reply c.reply_to_upgrade.new.pool)) (sym is) (each_reply c.reply_to_upgrade.result (λ reply. PassesBehind UpgradePool reply c.reply_to_upgrade.new.pool) (λ reply. tt));
       breaks = λ failed. (subst MayBreak (sym is) tt, inl (rose_fails g.A.Area.faults c.args.pool.now c.reply_to_upgrade.new.pool (e.cause failed)), e.same);
       step = λ x rep. replied_upgrade g.R.Rack g.A.Area (choices_by (FnReturnsAt g.F.Fn c.args.chooser.now)) c.args.line.now x c.reply_to_upgrade.new.pool c.reply_to_upgrade.result c.in-Upgrade.is (e.step x rep);
+    }
+
+pub returns-in-Rebuild : goal.returns-in-Rebuild
+returns-in-Rebuild g c =
+    let e = c.reply_to_rebuild.ensures in
+    let is = ap command_in c.in-Rebuild.is in
+    record {
+      whole = e.whole;
+      fits = subst (λ k. IfOk c.reply_to_rebuild.result (IsReplyTo k)) (sym is) e.fits;
+      knows = subst (λ k. IfOk c.reply_to_rebuild.result (λ reply. Teaches k reply c.args.pool.now c.reply_to_rebuild.new.pool)) (sym is)
+          (each_reply c.reply_to_rebuild.result (λ reply. Teaches (RebuildPool c.in-Rebuild.limit) reply c.args.pool.now c.reply_to_rebuild.new.pool)
+          (λ reply. teaches_nothing (RebuildPool c.in-Rebuild.limit) reply (λ known. refl) c.args.pool.now c.reply_to_rebuild.new.pool e.same));
+      arms = subst (λ k. IfOk c.reply_to_rebuild.result (λ reply. ArmsBehind k reply c.reply_to_rebuild.new.pool)) (sym is)
+          (each_reply c.reply_to_rebuild.result (λ reply. ArmsBehind (RebuildPool c.in-Rebuild.limit) reply c.reply_to_rebuild.new.pool) (λ reply. tt));
+      passes = subst (λ k. IfOk c.reply_to_rebuild.result (λ reply. PassesBehind k reply c.reply_to_rebuild.new.pool)) (sym is) e.passes;
+      breaks = λ failed. (subst MayBreak (sym is) tt, inl (rose_fails g.A.Area.faults c.args.pool.now c.reply_to_rebuild.new.pool (e.cause failed)), e.same);
+      step = λ x rep. replied_rebuild g.R.Rack g.A.Area (choices_by (FnReturnsAt g.F.Fn c.args.chooser.now)) c.args.line.now x c.reply_to_rebuild.new.pool c.in-Rebuild.limit c.reply_to_rebuild.result c.in-Rebuild.is (e.step x rep);
     }
 
 pub returns-in-Cancel : goal.returns-in-Cancel
@@ -165,6 +194,7 @@ returns-in-Cancel g c = record {
   knows = subst (λ k. Teaches k c.reply_to_cancel.result c.args.pool.now c.reply_to_cancel.new.pool) (sym (ap command_in c.in-Cancel.is))
       (teaches_nothing CancelPasses c.reply_to_cancel.result (λ known. refl) c.args.pool.now c.reply_to_cancel.new.pool c.reply_to_cancel.ensures.same);
   arms = subst (λ k. ArmsBehind k c.reply_to_cancel.result c.reply_to_cancel.new.pool) (sym (ap command_in c.in-Cancel.is)) tt;
+  passes = subst (λ k. PassesBehind k c.reply_to_cancel.result c.reply_to_cancel.new.pool) (sym (ap command_in c.in-Cancel.is)) c.reply_to_cancel.ensures.passes;
   breaks = λ failed. absurd (cc failed);
   step = λ x rep. replied_cancel g.R.Rack g.A.Area (choices_by (FnReturnsAt g.F.Fn c.args.chooser.now)) c.args.line.now x c.reply_to_cancel.new.pool c.reply_to_cancel.result c.in-Cancel.is (c.reply_to_cancel.ensures.step x rep);
 }
@@ -175,6 +205,7 @@ returns-in-Damage g c = record {
   fits = subst (λ k. IsReplyTo k c.reply_to_damage.result) (sym (ap command_in c.in-Damage.is)) c.reply_to_damage.ensures.fits;
   knows = subst (λ k. Teaches k c.reply_to_damage.result c.args.pool.now c.reply_to_damage.new.pool) (sym (ap command_in c.in-Damage.is)) c.reply_to_damage.ensures.knows;
   arms = subst (λ k. ArmsBehind k c.reply_to_damage.result c.reply_to_damage.new.pool) (sym (ap command_in c.in-Damage.is)) tt;
+  passes = subst (λ k. PassesBehind k c.reply_to_damage.result c.reply_to_damage.new.pool) (sym (ap command_in c.in-Damage.is)) tt;
   breaks = λ failed. absurd (cc failed);
   step = λ x rep. replied_damage g.R.Rack g.A.Area (choices_by (FnReturnsAt g.F.Fn c.args.chooser.now)) c.args.line.now x c.reply_to_damage.new.pool c.reply_to_damage.result c.in-Damage.leaf c.in-Damage.sector c.in-Damage.is (c.reply_to_damage.ensures.step x rep);
 }
@@ -185,13 +216,14 @@ returns-in-Status g c = record {
   fits = subst (λ k. IsReplyTo k c.reply_to_status.result) (sym (ap command_in c.in-Status.is)) c.reply_to_status.ensures.fits;
   knows = subst (λ k. Teaches k c.reply_to_status.result c.args.pool.now c.args.pool.now) (sym (ap command_in c.in-Status.is)) c.reply_to_status.ensures.knows;
   arms = subst (λ k. ArmsBehind k c.reply_to_status.result c.args.pool.now) (sym (ap command_in c.in-Status.is)) tt;
+  passes = subst (λ k. PassesBehind k c.reply_to_status.result c.args.pool.now) (sym (ap command_in c.in-Status.is)) tt;
   breaks = λ failed. absurd (cc failed);
   step = λ x rep. replied_status g.R.Rack g.A.Area (choices_by (FnReturnsAt g.F.Fn c.args.chooser.now)) c.args.line.now x c.args.pool.now c.reply_to_status.result c.in-Status.format c.in-Status.is (c.reply_to_status.ensures.step x rep);
 }
 
 pub unreachable-requires : goal.unreachable-requires
 unreachable-requires g c =
-    c.requires.asks (asks_nothing c.args.line.now c.in_default.not-Write c.in_default.not-Fill c.in_default.not-Read c.in_default.not-Free c.in_default.not-Sum c.in_default.not-Offline c.in_default.not-Online c.in_default.not-Damage c.in_default.not-Spare c.in_default.not-Replace c.in_default.not-Status c.in_default.not-Detach c.in_default.not-Upgrade c.in_default.not-Cancel)
+    c.requires.asks (asks_nothing c.args.line.now c.in_default.not-Write c.in_default.not-Fill c.in_default.not-Read c.in_default.not-Free c.in_default.not-Sum c.in_default.not-Offline c.in_default.not-Online c.in_default.not-Damage c.in_default.not-Spare c.in_default.not-Replace c.in_default.not-Status c.in_default.not-Detach c.in_default.not-Upgrade c.in_default.not-Rebuild c.in_default.not-Cancel)
 
 pub reply_to_write-requires-clause-range : goal.reply_to_write-requires-clause-range
 reply_to_write-requires-clause-range g c = subst IsInRange (ap command_in c.in-Write.is ∙ ap (WriteObject c.in-Write.object) (sym c.deref.ensures.value)) c.requires.range
@@ -222,6 +254,9 @@ reply_to_free-requires g c = record { whole = c.requires.whole }
 
 pub reply_to_read-requires : goal.reply_to_read-requires
 reply_to_read-requires g c = record { whole = c.requires.whole }
+
+pub reply_to_rebuild-requires : goal.reply_to_rebuild-requires
+reply_to_rebuild-requires g c = record { whole = c.requires.whole }
 
 pub reply_to_cancel-requires : goal.reply_to_cancel-requires
 reply_to_cancel-requires g c = record { whole = c.requires.whole }

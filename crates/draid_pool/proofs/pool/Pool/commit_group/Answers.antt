@@ -2,6 +2,7 @@ use Rattle.draid_uber.specs.Uber.{kept_of}
 use Rattle.draid_uber.specs.Slots.{group_of}
 use Rattle.std.proofs.Common.{ℕ, ◌+◌, ◌∙◌, ap, sym}
 use Rattle.draid_pool.specs.declared.fault.SyncFault.TheVariants as sync
+use Rattle.draid_pool.proofs.Keeping.{all_on}
 use Rattle.draid_pool.proofs.Rises.{err_on, areas_on, rose_then}
 use Rattle.draid_pool.proofs.SyncCalls.{group_done, group_unclosed, group_unnamed, group_unsealed}
 use Rattle.draid_pool.proofs.Refusing.{no_refusal}
@@ -13,6 +14,10 @@ returns-in-Err g c =
       whole = c.close_all.ensures.whole;
       objects = c.close_all.ensures.objects;
       later = c.close_all.ensures.later;
+      stays = c.close_all.ensures.stays;
+      versions = tt;
+      named = tt;
+      unnamed = ap (λ u. group_of (kept_of u)) c.close_all.ensures.uber;
       cause = λ is. c.in-Err.ensures.cause (err_on ℕ Unit c.in-Err.fault sync.Shelf is);
       last = λ is. c.in-Err.ensures.last (err_on ℕ Unit c.in-Err.fault sync.Last is);
       idle = tt;
@@ -25,6 +30,10 @@ returns-in-Err-seal_all g c =
       whole = c.seal_all.ensures.whole;
       objects = c.seal_all.ensures.objects ∙ c.close_all.ensures.objects;
       later = areas_on g.A.Area.faults c.args.self.now c.close_all.new.self c.seal_all.new.self c.close_all.ensures.later c.seal_all.ensures.later;
+      stays = all_on g.R.Rack.faults c.args.self.now c.close_all.new.self c.seal_all.new.self c.close_all.ensures.stays c.seal_all.ensures.stays;
+      versions = tt;
+      named = tt;
+      unnamed = ap (λ u. group_of (kept_of u)) (c.seal_all.ensures.uber ∙ c.close_all.ensures.uber);
       cause = λ is. rose_then g.A.Area.faults c.args.self.now c.close_all.new.self c.seal_all.new.self c.close_all.ensures.later (c.in-Err-seal_all.ensures.cause is);
       last = λ is. absurd (c.in-Err-seal_all.ensures.not_last is);
       idle = tt;
@@ -38,6 +47,11 @@ returns-in-Ok-commit_sealed g c =
       objects = c.commit_sealed.ensures.objects ∙ (c.seal_all.ensures.objects ∙ c.close_all.ensures.objects);
       later = areas_on g.A.Area.faults c.args.self.now c.seal_all.new.self c.commit_sealed.new.self
           (areas_on g.A.Area.faults c.args.self.now c.close_all.new.self c.seal_all.new.self c.close_all.ensures.later c.seal_all.ensures.later) c.commit_sealed.ensures.later;
+      stays = all_on g.R.Rack.faults c.args.self.now c.seal_all.new.self c.commit_sealed.new.self
+          (all_on g.R.Rack.faults c.args.self.now c.close_all.new.self c.seal_all.new.self c.close_all.ensures.stays c.seal_all.ensures.stays) c.commit_sealed.ensures.stays;
+      versions = c.in-Ok-commit_sealed.ensures.versions;
+      named = c.in-Ok-commit_sealed.ensures.named;
+      unnamed = tt;
       cause = λ is. absurd (no_refusal is);
       last = λ is. absurd (no_refusal is);
       idle = c.in-Ok-commit_sealed.ensures.idle;
@@ -52,6 +66,11 @@ returns-in-Err-commit_sealed g c =
       objects = c.commit_sealed.ensures.objects ∙ (c.seal_all.ensures.objects ∙ c.close_all.ensures.objects);
       later = areas_on g.A.Area.faults c.args.self.now c.seal_all.new.self c.commit_sealed.new.self
           (areas_on g.A.Area.faults c.args.self.now c.close_all.new.self c.seal_all.new.self c.close_all.ensures.later c.seal_all.ensures.later) c.commit_sealed.ensures.later;
+      stays = all_on g.R.Rack.faults c.args.self.now c.seal_all.new.self c.commit_sealed.new.self
+          (all_on g.R.Rack.faults c.args.self.now c.close_all.new.self c.seal_all.new.self c.close_all.ensures.stays c.seal_all.ensures.stays) c.commit_sealed.ensures.stays;
+      versions = tt;
+      named = tt;
+      unnamed = c.in-Err-commit_sealed.ensures.unnamed ∙ ap (λ u. group_of (kept_of u)) (c.seal_all.ensures.uber ∙ c.close_all.ensures.uber);
       cause = λ is. rose_then g.A.Area.faults c.args.self.now c.seal_all.new.self c.commit_sealed.new.self (areas_on g.A.Area.faults c.args.self.now c.close_all.new.self c.seal_all.new.self c.close_all.ensures.later c.seal_all.ensures.later)
           (c.in-Err-commit_sealed.ensures.cause (err_on ℕ Unit c.in-Err-commit_sealed.fault sync.Shelf is));
       last = λ is. absurd (c.in-Err-commit_sealed.ensures.not_last (err_on ℕ Unit c.in-Err-commit_sealed.fault sync.Last is));

@@ -1,5 +1,7 @@
 use Rattle.std.proofs.Common.{Err, ap, inl, refl}
+use Rattle.draid_uber.specs.Slots.{group_of}
 use Rattle.draid_pool.specs.declared.pool.Pool.{Pool}
+use Rattle.draid_pool.proofs.Keeping.{all_committed, all_stay, asked_committed}
 use Rattle.draid_pool.proofs.Naming.{Names, Refuses}
 use Rattle.draid_pool.proofs.Rises.{areas_committed, areas_named}
 use Rattle.draid_pool.proofs.SyncCalls.{named_sealed, refused_failed, refused_starved}
@@ -25,6 +27,10 @@ returns-in-Ok g c =
       whole = whole_committed g.R.Rack g.A.Area old new c.args.group c.requires.whole named c.commit_all.ensures.commits c.requires.next refl refl refl refl;
       objects = refl;
       later = areas_committed g.R.Rack g.A.Area old new c.args.group c.in-Ok.ensures.cause.later c.commit_all.ensures.commits;
+      stays = all_committed g.R.Rack c.args.group old new c.commit_all.ensures.commits;
+      versions = asked_committed g.R.Rack c.args.group old new c.commit_all.ensures.commits;
+      named = ap group_of e.kept;
+      unnamed = tt;
       cause = λ is. absurd (no_refusal is);
       not_last = λ is. no_refusal is;
       idle = idle_committed g.R.Rack g.A.Area c.args.group old.metaslabs.shards.items new.metaslabs.shards.items c.commit_all.ensures.commits;
@@ -42,6 +48,10 @@ returns-in-Err-Failed g c =
       whole = whole_refused g.R.Rack g.A.Area old new c.args.group c.requires.whole refused refl refl refl refl refl;
       objects = refl;
       later = areas_named g.A.Area.faults old new c.in-Err-Failed.ensures.cause.later refl;
+      stays = all_stay g.R.Rack.faults old new refl;
+      versions = tt;
+      named = tt;
+      unnamed = ap group_of e.same;
       cause = λ is. inl (e.cause.cause (ap Err c.in-Err-Failed.field-0-is));
       not_last = λ is. shelf_no_last is;
       idle = tt;
@@ -59,6 +69,10 @@ returns-in-Err-NoMemory g c =
       whole = whole_refused g.R.Rack g.A.Area old new c.args.group c.requires.whole refused refl refl refl refl refl;
       objects = refl;
       later = areas_named g.A.Area.faults old new c.in-Err-NoMemory.ensures.cause.later refl;
+      stays = all_stay g.R.Rack.faults old new refl;
+      versions = tt;
+      named = tt;
+      unnamed = ap group_of e.same;
       cause = λ is. absurd (memory_no_shelf is);
       not_last = λ is. memory_no_last is;
       idle = tt;

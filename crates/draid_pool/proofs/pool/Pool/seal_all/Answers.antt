@@ -2,6 +2,7 @@ use Rattle.std.proofs.Common.{◌≡◌, ◌∙◌, Some, true, arith, refl}
 use Rattle.std.proofs.lemmas.List.{length-set}
 use Rattle.draid_session.specs.Groups as groups
 use Rattle.draid_shard.specs.declared.shard.Shard.{Shard}
+use Rattle.draid_pool.proofs.Keeping.{all_set_on, all_stay}
 use Rattle.draid_pool.proofs.Lifted.{sets_shard, with_shard}
 use Rattle.draid_pool.proofs.Rises.{areas_on, areas_set, areas_still, rose_set, rose_then}
 use Rattle.draid_pool.proofs.SyncSteps.{all_set, below_all, below_set, borrowed_at, came_none, seal_all_stops, seal_all_went, seal_more, whole_on}
@@ -19,6 +20,7 @@ loop-metaslab-init g c = record {
   uber = refl;
   objects = refl;
   later = areas_still g.A.Area.faults c.args.self.now;
+  stays = all_stay g.R.Rack.faults c.args.self.now c.args.self.now refl;
   many = refl;
 }
 
@@ -56,6 +58,7 @@ returns-in-Err g c =
           whole_on g.R.Rack g.A.Area l.metaslab l.self new shard after i.whole set e.valid e.table);
       later = (let e = c.seal_in.ensures in
           areas_on g.A.Area.faults c.args.self.now l.self new i.later (areas_set g.R.Rack g.A.Area l.metaslab l.self new shard after set e.later));
+      stays = all_set_on g.R.Rack g.A.Area l.metaslab c.args.self.now l.self new shard after i.stays set c.seal_in.ensures.stays;
       cause = λ is. rose_then g.A.Area.faults c.args.self.now l.self new i.later (rose_set g.R.Rack g.A.Area l.metaslab l.self new shard after set (c.in-Err.ensures.cause is));
       not_last = λ is. c.in-Err.ensures.not_last is;
       carries = λ x is. (let e = c.in-Err.ensures in
@@ -102,6 +105,7 @@ loop-metaslab-preserved g c =
       uber = i.uber;
       objects = i.objects;
       later = areas_on g.A.Area.faults c.args.self.now l.self new i.later (areas_set g.R.Rack g.A.Area l.metaslab l.self new shard after set e.later);
+      stays = all_set_on g.R.Rack g.A.Area l.metaslab c.args.self.now l.self new shard after i.stays set e.stays;
       many = length-set l.self.metaslabs.shards.items l.metaslab after ∙ i.many;
     }
 
@@ -116,6 +120,7 @@ returns g c =
     record {
       whole = c.loop-metaslab.invariant.whole;
       later = c.loop-metaslab.invariant.later;
+      stays = c.loop-metaslab.invariant.stays;
       cause = λ is. absurd (no_refusal is);
       not_last = λ is. no_refusal is;
       carries = λ x is. (let all = i.whole.many in

@@ -4,7 +4,7 @@ use Rattle.draid_session.specs.Groups as groups
 use Rattle.draid_session.specs.State.{State}
 use Rattle.draid_pool.specs.Failing.{AreasLater}
 use Rattle.draid_pool.specs.Pools.{Represents}
-use Rattle.draid_pool.specs.Syncing.{AreClosing}
+use Rattle.draid_pool.specs.Syncing.{AreClosing, KeepsShards}
 use Rattle.draid_pool.specs.Whole.{IsWhole}
 use Rattle.draid_pool.proofs.SyncSteps.{Came, SealedBelow}
 use Rattle.draid_pool.proofs.pool.Pool.seal_all.Given as goal
@@ -19,5 +19,6 @@ invariant-loop-metaslab g l = record {
   uber : l.self.uber ≡ l.initial.self.uber;
   objects : l.self.own.objects ≡ l.initial.self.own.objects;
   later : AreasLater g.A.Area.faults l.initial.self l.self;
+  stays : KeepsShards g.R.Rack.faults l.initial.self l.self;
   many : length l.self.metaslabs.shards.items ≡ length l.initial.self.metaslabs.shards.items;
 }

@@ -1,0 +1,169 @@
+-- One metaslab of a pool where a rebuild has nothing left to lend, or has something left that isn't lent.
+use Rattle.std.proofs.Common.{◌≡◌, ◌<◌, ◌≤◌, ◌∙◌, inl, inr, ℕ, Bool, true, false, List, [], ◌∷◌, Option, Some, None, arith, refl, sym, ap, subst, min, if◌then◌else◌}
+use Rattle.std.specs.Prelude.{◌&&◌, ◌||◌, ⊤, IfNone, IsSomeAnd, is_some, nat_le, not, option_map}
+use Rattle.std.proofs.lemmas.Bool.{cases_lt, true≢false}
+use Rattle.draid_names.specs.declared.numbers.TheConstants.{LAST_NUMBER}
+use Rattle.draid_names.specs.declared.pass_kind.PassKind.{PassKind}
+use Rattle.draid_names.specs.declared.pass_kind.PassKind.TheVariants.{Rebuild, Heal}
+use Rattle.draid_rack.specs.declared.Rack as racks
+use Rattle.draid_area.specs.declared.Area as areas
+use Rattle.draid_machine.specs.declared.event.Event.TheVariants.{Done}
+use Rattle.draid_machine.specs.declared.names.Held.{Held}
+use Rattle.draid_machine.specs.declared.names.Key.{Key}
+use Rattle.draid_machine.specs.After.{ended_pass, lose_some}
+use Rattle.draid_machine.specs.Arms.{is_silent, lies_on}
+use Rattle.draid_machine.specs.Names.{is_block, is_heal, takes}
+use Rattle.draid_machine.specs.State as machine
+use Rattle.draid_machine.specs.Step.{IsNext, IsTaken, is_lent}
+use Rattle.draid_machine.proofs.Small.{some_same}
+use Rattle.draid_segments.specs.Segments.{Pieces}
+use Rattle.draid_entries.specs.History.{left_for_groups}
+use Rattle.draid_pass.specs.declared.pass.Pass.{Pass}
+use Rattle.draid_slots.specs.States.{pass_in}
+use Rattle.draid_shard.specs.Calls.{SameAreas, SameKit, SameReserve}
+use Rattle.draid_shard.specs.Fits.{Valid}
+use Rattle.draid_shard.specs.Left.{HasNothingLeft}
+use Rattle.draid_shard.specs.Loans.{loan_in}
+use Rattle.draid_shard.specs.Looks.{IsNextTaken}
+use Rattle.draid_shard.specs.Part.{Part, layout_in}
+use Rattle.draid_shard.specs.Rooms.{IsWornFor}
+use Rattle.draid_shard.specs.States.{DoesNone, IsIn, layout_by}
+use Rattle.draid_shard.specs.declared.loan.KeptLoan.{KeptLoan}
+use Rattle.draid_shard.specs.declared.shard.Shard.{Shard}
+use Rattle.draid_passing.specs.Ending.{Ends}
+use Rattle.draid_passing.specs.declared.ending.Ended.{Ended}
+use Rattle.draid_mend.specs.Loans.{HasUnit, IsRunningRebuild, lend_events}
+use Rattle.draid_session.specs.Holds.{Did, Hold, Looked, On, View, view_of}
+use Rattle.draid_session.specs.Passes as passes
+use Rattle.draid_session.specs.State.{Metaslab}
+use Rattle.draid_pool.specs.Metaslabs.{IsMetaslab}
+use Rattle.draid_pool.specs.Shards.{Goes, SameBlocks}
+use Rattle.draid_pool.proofs.Dids as dids
+use Rattle.draid_pool.proofs.Dids.{none_here}
+use Rattle.draid_pool.proofs.OneHold.{looked, passes_is, worn_is}
+use Rattle.draid_visits.specs.Steps.{HasTakenLeft, NextIs}
+use Rattle.draid_visits.specs.declared.steps.Next.TheVariants as next
+use Rattle.draid_visits.proofs.PassSteps.{raised, rebuild_did, rebuild_goes}
+use Rattle.draid_visits.proofs.Started.{fits, pass_told, same_world}
+
+-- the rebuild that runs
+pub record Running (o : Option Pass) : Type 0 where
+  pub pass : Pass
+  pub there : o ≡ Some pass
+  pub is : IsRunningRebuild pass
+
+pub running_of : (o : Option Pass) → IsSomeAnd o IsRunningRebuild → Running o
+running_of None is = absurd is
+running_of (Some p) is = record { pass = p; there = refl; is = is }
+
+pub unit_left : {R A : Type 0} (shard : Shard R A) → HasUnit shard → HasTakenLeft shard
+unit_left shard unit w is p there = (unit.stripe, unit.is.next w is p there)
+
+-- where none is taken from its place on nothing is left
+pub none_left : {R A : Type 0} (shard : Shard R A) (p : Pass) → shard.pass ≡ Some p → ((w : machine.State) → IsIn shard w → (x : ℕ) → p.at ≤ x → IsTaken w.core x → ⊥) → HasNothingLeft shard
+none_left shard p there none w is q told k h x found lent taken =
+    let own : pass_in shard.slots p ≡ q = some_same w.core.pass (pass_in shard.slots p) q (is.pass ∙ ap (option_map (pass_in shard.slots)) there) told in
+    let at : p.at ≡ q.next = ap (λ (z : machine.Pass). z.next) own in
+    elim (cases_lt x q.next) [
+      | inl less ↦ less
+      | inr past ↦ absurd (none w is x (omega (arith, at, past)) (record { key = k; held = h; found = found; taken = taken }))
+    ]
+
+pub if_none_is : (o : Option ℕ) (P : Type 0) → is_some o ≡ false → IfNone o P → P
+if_none_is None P is holds = holds
+if_none_is (Some x) P is holds = absurd (true≢false is)
+
+-- a rebuild lends whatever is taken
+lends_all : (p : machine.Pass) (h : Held) → p.kind ≡ Rebuild → is_lent p h ≡ true
+lends_all p h kind = ap (λ k. not (is_heal k) || (is_block h.stage && nat_le h.birth p.max)) kind
+
+module _ {R A : Type 0} (rack : racks.Ghosts R) (area : areas.Ghosts A) (part : Part) (pieces : Pieces) (shard : Shard R A) (x : Metaslab) (is : IsMetaslab rack area part pieces shard x) where
+  pub view : View
+  view = view_of part.number x
+
+  -- ---- it ends
+
+  low_errors : (l : machine.Layout) (p : machine.Pass) (failed : List ℕ) (heal : Bool) → p.errors ≤ LAST_NUMBER
+      → (if heal then p else lose_some (lies_on l x.world.core (is_silent x.world.core failed)) p).errors ≤ LAST_NUMBER
+  low_errors l p failed true low = low
+  low_errors l p failed false low = omega arith
+
+  pub over : (new : Shard R A) (ended : Ended) (p : Pass) → shard.pass ≡ Some p → Ends rack shard new ended → Valid rack new → SameAreas shard new → SameReserve shard new
+      → Goes rack area part pieces x new (λ holds y. passes.EndsPass part.geometry part.perms part.number (min ended.errors LAST_NUMBER) holds × SameBlocks x y)
+  over new ended p there ends valid same reserve =
+      let q : machine.Pass = pass_in shard.slots p in
+      let told : x.world.core.pass ≡ Some q = pass_told rack area part pieces shard x is p there in
+      let errors : ended.errors ≡ (ended_pass (layout_in part) x.world.core q ends.failed.items).errors
+      = subst (λ part. ended.errors ≡ (ended_pass (layout_in part) x.world.core q ends.failed.items).errors) is.part_is (ends.errors x.world q is.stands.reached is.stands.is_in told) in
+      let low : (ended_pass (layout_in part) x.world.core q ends.failed.items).errors ≤ LAST_NUMBER
+      = low_errors (layout_in part) q ends.failed.items (is_heal q.kind) ((fits rack area part pieces shard x is).core.pass q told).errors in
+      let d : dids.Done rack area part pieces new (Done ends.failed) x
+      = rebuild_did rack area part pieces shard new (Done ends.failed) x is valid ends.does (ends.acts pieces) reserve (raised rack area ends.failed.items shard new same ends.counts) tt in
+      rebuild_goes rack area part pieces new (Done ends.failed) x (λ holds. passes.EndsPass part.geometry part.perms part.number (min ended.errors LAST_NUMBER) holds) tt d (record {
+        v = view_of part.number x;
+        p = q;
+        failed = ends.failed;
+        after = d.reached.world;
+        are = refl;
+        there = refl;
+        pass = told;
+        errors_are = omega (arith, errors, low);
+      })
+
+  -- ---- something is left
+
+  has_more : (p : Pass) → shard.pass ≡ Some p → p.kind ≡ Rebuild → HasTakenLeft shard → passes.HasMore (view_of part.number x)
+  has_more p there kind left =
+      let z = left x.world is.stands.is_in p there in
+      record {
+        p = pass_in shard.slots p;
+        key = z.1.taken.key;
+        h = z.1.taken.held;
+        stripe = z.0;
+        pass = pass_told rack area part pieces shard x is p there;
+        next = record {
+          found = z.1.taken.found;
+          lent = lends_all (pass_in shard.slots p) z.1.taken.held kind;
+          taken = z.1.taken.taken;
+          from = z.1.behind;
+          first = λ k i y found lent takes from less. z.1.first y from less (record { key = k; held = i; found = found; taken = takes });
+        };
+      }
+
+  keeps_back : (why : View → Type 0) → IsSomeAnd shard.pass IsRunningRebuild → HasTakenLeft shard → why (view_of part.number x)
+      → passes.KeepsBack part.geometry part.perms part.number (On (view_of part.number x) Looked ∷ []) why
+  keeps_back why running left so =
+      let z = running_of shard.pass running in
+      record { v = view_of part.number x; are = refl; there = refl; more = has_more z.pass z.there z.is.rebuild left; why = so }
+
+  -- no more is to be lent
+  pub paused : IsSomeAnd shard.pass IsRunningRebuild → HasTakenLeft shard → Goes rack area part pieces x shard (λ holds y. NextIs part true next.Paused holds × SameBlocks x y)
+  paused running left =
+      looked rack area part pieces shard x (λ holds y. NextIs part true next.Paused holds × SameBlocks x y) is ((refl, keeps_back (λ v. ⊤) running left tt), same_world x)
+
+  asks_told : (o : Option KeptLoan) → x.world.loan ≡ option_map loan_in o → passes.lend_asks x.world.loan ≡ lend_events o
+  asks_told None told = ap passes.lend_asks told
+  asks_told (Some kept) told = ap passes.lend_asks told
+
+  pub worn_told : IsWornFor shard (lend_events shard.kept) → passes.LendIsWorn part.geometry part.perms (view_of part.number x)
+  worn_told worn =
+      worn_is rack area part pieces shard x (passes.lend_asks x.world.loan) left_for_groups is (subst (IsWornFor shard) (sym (asks_told shard.kept is.stands.is_in.loan)) worn)
+
+  pub told_worn : passes.LendIsWorn part.geometry part.perms (view_of part.number x) → IsWornFor shard (lend_events shard.kept)
+  told_worn worn =
+      subst (IsWornFor shard) (asks_told shard.kept is.stands.is_in.loan) (passes_is rack area part pieces shard x (passes.lend_asks x.world.loan) left_for_groups is worn)
+
+  module _ (new : Shard R A) (valid : Valid rack new) (same : DoesNone shard new) (kit : SameKit shard new) (reserve : SameReserve shard new) where
+    here : IsMetaslab rack area part pieces new x
+    here = none_here rack area part pieces shard new x is valid same kit.rack kit.areas reserve.limit reserve.reserved
+
+    -- the limit leaves too few events
+    pub worn : IsSomeAnd shard.pass IsRunningRebuild → HasTakenLeft shard → IsWornFor shard (lend_events shard.kept) → Goes rack area part pieces x new (λ holds y. NextIs part false next.Worn holds × SameBlocks x y)
+    worn running left is_worn =
+        looked rack area part pieces new x (λ holds y. NextIs part false next.Worn holds × SameBlocks x y) here
+        ((refl, keeps_back (passes.LendIsWorn part.geometry part.perms) running left (worn_told is_worn)), same_world x)
+
+    -- memory was wanting
+    pub starved : IsSomeAnd shard.pass IsRunningRebuild → HasTakenLeft shard → Goes rack area part pieces x new (λ holds y. NextIs part false next.NoMemory holds × SameBlocks x y)
+    starved running left =
+        looked rack area part pieces new x (λ holds y. NextIs part false next.NoMemory holds × SameBlocks x y) here ((refl, keeps_back (λ v. ⊤) running left tt), same_world x)

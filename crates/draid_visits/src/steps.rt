@@ -1,0 +1,239 @@
+//! One metaslab as a rebuild of a pool comes to it: its pass begins, is made to run, lends a stripe, and ends.
+ghost use Rattle.std.specs.Prelude.{◌≡◌, ◌≤◌, ◌↔◌, ◌⊎◌, ℕ, Bool, None, Ok, OnErr, OnOk, IfErr, IfOk, IfSome, IsSome, IsSomeAnd, IsTrue, false, true};
+ghost use Rattle.draid_names.specs.declared.numbers.TheConstants.{LAST_NUMBER};
+ghost use Rattle.draid_names.specs.declared.pass_kind.PassKind.TheVariants.{Rebuild};
+ghost use Rattle.draid_spec.specs.Geometry.{metaslab_stripes};
+ghost use Rattle.draid_machine.specs.State as machine;
+ghost use Rattle.draid_machine.specs.Step.{IsTaken};
+ghost use Rattle.draid_segments.specs.Segments.{Pieces};
+ghost use Rattle.draid_pass.specs.declared.pass.Pass.{Pass};
+ghost use Rattle.draid_shard.specs.Calls.{SameAreas};
+ghost use Rattle.draid_shard.specs.Fits.{Valid};
+ghost use Rattle.draid_shard.specs.Left.{HasNothingLeft};
+ghost use Rattle.draid_shard.specs.Part.{Part};
+ghost use Rattle.draid_passing.specs.Passing.{IsPlanRefused};
+ghost use Rattle.draid_mend.specs.Loans.{IsRunningRebuild};
+ghost use Rattle.draid_session.specs.Holds.{view_of};
+ghost use Rattle.draid_session.specs.Passes as passes;
+ghost use Rattle.draid_session.specs.State.{Metaslab};
+ghost use Rattle.draid_pool.specs.Metaslabs.{IsMetaslab};
+ghost use Rattle.draid_pool.specs.Shards.{Goes, SameBlocks};
+ghost use Rattle.draid_pool.specs.Syncing.{KeepsTable};
+ghost use Rattle.draid_visits.specs.Steps.{HasContents, HasTakenLeft, IsRebuiltIn, MovesOn, NextIs, ReadyIs, SharesTable, StartIs};
+
+use draid_area::Area;
+use draid_mend::{LendFault, Lent, land, lend, solve};
+use draid_names::{LAST_NUMBER, PassKind};
+use draid_pass::Pass;
+use draid_passing::{PlanFault, done, plan, ready};
+use draid_plans::has_target;
+use draid_rack::Rack;
+use draid_shard::Shard;
+use draid_slots::Marks;
+
+/// A rebuild takes its targets whichever arms are marked.
+const NO_MARKS: [Marks; 64] = [[false; 3]; 64];
+
+/// What comes next in a metaslab where a rebuild runs.
+pub(crate) enum Next {
+    /// A stripe was lent, and landed.
+    Landed,
+    /// Nothing was left, and the pass ended with so many errors.
+    Ended { errors: u64 },
+    /// Something is left, and no more is to be lent.
+    Paused,
+    /// Something is left; the limit leaves too few events.
+    Worn,
+    /// Something is left; memory is wanting.
+    NoMemory,
+}
+
+/// Whether a rebuild of the pool visits this metaslab: it has one, or an arm that one would make good.
+pub(crate) fn is_rebuilt<R: Rack, A: Area>(shard: &Shard<R, A>) -> bool
+    requires valid { Valid R.Rack shard.now }
+    ensures is { IsTrue result ↔ IsRebuiltIn shard.now }
+    ensures seen { (part : Part) (pieces : Pieces) (x : Metaslab) → IsMetaslab R.Rack A.Area part pieces shard.now x
+        → IsTrue result ↔ passes.IsRebuilt part.geometry part.perms (view_of part.number x) }
+{
+    has_rebuild(&shard.pass) || has_target(&shard.slots, &NO_MARKS, PassKind::Rebuild)
+}
+
+/// Whether there is a rebuild.
+fn has_rebuild(pass: &Option<Pass>) -> bool
+    ensures { IsTrue result ↔ IsSomeAnd pass.now (λ (p : Pass). p.kind ≡ Rebuild) }
+{
+    match pass {
+        Some(pass) => matches!(pass.kind, PassKind::Rebuild),
+        None => false,
+    }
+}
+
+/// A rebuild of this metaslab goes on, or is planned; the answer is where it stands.
+pub(crate) fn start_in<R: Rack, A: Area>(shard: &mut Shard<R, A>) -> Result<u64, PlanFault>
+    requires valid { Valid R.Rack shard.old }
+    requires alone { IfSome shard.old.pass (λ (p : Pass). p.kind ≡ Rebuild) }
+    ensures valid { Valid R.Rack shard.new }
+    ensures table { KeepsTable shard.old shard.new }
+    ensures areas { SameAreas shard.old shard.new }
+    ensures pass { OnOk result (IsSomeAnd shard.new.pass (λ (p : Pass). p.kind ≡ Rebuild)) }
+    ensures none { OnErr result (shard.new.pass ≡ None) }
+    ensures refused { IfErr result (IsPlanRefused shard.old Rebuild) }
+    ensures low { IfOk result (λ at. at ≤ metaslab_stripes shard.old.geometry) }
+    ensures goes { (part : Part) (pieces : Pieces) (x : Metaslab) → IsMetaslab R.Rack A.Area part pieces shard.old x
+        → Goes R.Rack A.Area part pieces x shard.new (λ holds y. StartIs part result holds × SameBlocks x y) }
+{
+    if let Some(pass) = &shard.pass {
+        return Ok(pass.at.min(shard.geometry.metaslab_stripes()));
+    }
+    plan_in(shard)
+}
+
+/// A rebuild is planned, where there is no pass.
+fn plan_in<R: Rack, A: Area>(shard: &mut Shard<R, A>) -> Result<u64, PlanFault>
+    requires valid { Valid R.Rack shard.old }
+    requires none { shard.old.pass ≡ None }
+    ensures valid { Valid R.Rack shard.new }
+    ensures table { KeepsTable shard.old shard.new }
+    ensures areas { SameAreas shard.old shard.new }
+    ensures pass { OnOk result (IsSomeAnd shard.new.pass (λ (p : Pass). p.kind ≡ Rebuild)) }
+    ensures none { OnErr result (shard.new.pass ≡ None) }
+    ensures refused { IfErr result (IsPlanRefused shard.old Rebuild) }
+    ensures first { IfOk result (λ at. at ≡ 0) }
+    ensures goes { (part : Part) (pieces : Pieces) (x : Metaslab) → IsMetaslab R.Rack A.Area part pieces shard.old x
+        → Goes R.Rack A.Area part pieces x shard.new (λ holds y. StartIs part result holds × SameBlocks x y) }
+{
+    match plan(shard, PassKind::Rebuild) {
+        Ok(_) => Ok(0),
+        Err(fault) => Err(fault),
+    }
+}
+
+/// Whether the rebuild runs, or begins to.
+pub(crate) fn ready_in<R: Rack, A: Area>(shard: &mut Shard<R, A>) -> bool
+    requires valid { Valid R.Rack shard.old }
+    requires rebuild { IsSomeAnd shard.old.pass (λ (p : Pass). p.kind ≡ Rebuild) }
+    ensures valid { Valid R.Rack shard.new }
+    ensures table { KeepsTable shard.old shard.new }
+    ensures areas { SameAreas shard.old shard.new }
+    ensures runs { result ≡ true → IsSomeAnd shard.new.pass IsRunningRebuild }
+    ensures waits { result ≡ false → shard.new ≡ shard.old }
+    ensures goes { (part : Part) (pieces : Pieces) (x : Metaslab) → IsMetaslab R.Rack A.Area part pieces shard.old x
+        → Goes R.Rack A.Area part pieces x shard.new (λ holds y. ReadyIs part result holds × SameBlocks x y) }
+{
+    if is_running(&shard.pass) {
+        return true;
+    }
+    ready(shard).is_ok()
+}
+
+/// Whether a pass runs.
+fn is_running(pass: &Option<Pass>) -> bool
+    ensures { IsTrue result ↔ IsSomeAnd pass.now (λ (p : Pass). p.running ≡ true) }
+{
+    match pass {
+        Some(pass) => pass.running,
+        None => false,
+    }
+}
+
+/// Lends the next stripe and lands it, unless no more is to be lent; or ends the pass, where nothing is left.
+pub(crate) fn next_in<R: Rack, A: Area>(shard: &mut Shard<R, A>, used_up: bool) -> Next
+    requires valid { Valid R.Rack shard.old }
+    requires running { IsSomeAnd shard.old.pass IsRunningRebuild }
+    ensures valid { Valid R.Rack shard.new }
+    ensures table { SharesTable shard.old shard.new }
+    ensures areas { SameAreas shard.old shard.new }
+    ensures landed { result ≡ Next.Landed → (used_up ≡ false) × MovesOn shard.old shard.new }
+    ensures ended { (errors : ℕ) → result ≡ Next.Ended errors → shard.new.pass ≡ None }
+    ensures low { (errors : ℕ) → result ≡ Next.Ended errors → errors ≤ LAST_NUMBER }
+    ensures paused { result ≡ Next.Paused → used_up ≡ true }
+    ensures stays_paused { result ≡ Next.Paused → shard.new.pass ≡ shard.old.pass }
+    ensures stays_worn { result ≡ Next.Worn → shard.new.pass ≡ shard.old.pass }
+    ensures stays_starved { result ≡ Next.NoMemory → shard.new.pass ≡ shard.old.pass }
+    ensures goes { (part : Part) (pieces : Pieces) (x : Metaslab) → IsMetaslab R.Rack A.Area part pieces shard.old x → HasContents part pieces x
+        → Goes R.Rack A.Area part pieces x shard.new (λ holds y. NextIs part used_up result holds × SameBlocks x y) }
+{
+    if used_up {
+        return rest_in(shard);
+    }
+    unit_in(shard)
+}
+
+/// Lends the next stripe and lands it; or ends the pass, where nothing is left.
+fn unit_in<R: Rack, A: Area>(shard: &mut Shard<R, A>) -> Next
+    requires valid { Valid R.Rack shard.old }
+    requires running { IsSomeAnd shard.old.pass IsRunningRebuild }
+    ensures valid { Valid R.Rack shard.new }
+    ensures table { SharesTable shard.old shard.new }
+    ensures areas { SameAreas shard.old shard.new }
+    ensures landed { result ≡ Next.Landed → MovesOn shard.old shard.new }
+    ensures ended { (errors : ℕ) → result ≡ Next.Ended errors → (shard.new.pass ≡ None) × (errors ≤ LAST_NUMBER) }
+    ensures worn { result ≡ Next.Worn → shard.new.pass ≡ shard.old.pass }
+    ensures starved { result ≡ Next.NoMemory → shard.new.pass ≡ shard.old.pass }
+    ensures never { result ≡ Next.Paused → ⊥ }
+    ensures goes { (part : Part) (pieces : Pieces) (x : Metaslab) → IsMetaslab R.Rack A.Area part pieces shard.old x → HasContents part pieces x
+        → Goes R.Rack A.Area part pieces x shard.new (λ holds y. NextIs part false result holds × SameBlocks x y) }
+{
+    match lend(shard) {
+        Ok(Lent::Unit) => {
+            solve(shard);
+            land(shard);
+            Next::Landed
+        }
+        Ok(Lent::End) => Next::Ended {
+            errors: end_in(shard),
+        },
+        Err(LendFault::Worn { .. }) => Next::Worn,
+        Err(LendFault::NoMemory) => Next::NoMemory,
+    }
+}
+
+/// What is to come where no more is to be lent: the pass ends, where nothing is left.
+fn rest_in<R: Rack, A: Area>(shard: &mut Shard<R, A>) -> Next
+    requires valid { Valid R.Rack shard.old }
+    requires running { IsSomeAnd shard.old.pass IsRunningRebuild }
+    ensures valid { Valid R.Rack shard.new }
+    ensures table { SharesTable shard.old shard.new }
+    ensures areas { SameAreas shard.old shard.new }
+    ensures paused { result ≡ Next.Paused → shard.new.pass ≡ shard.old.pass }
+    ensures ended { (errors : ℕ) → result ≡ Next.Ended errors → (shard.new.pass ≡ None) × (errors ≤ LAST_NUMBER) }
+    ensures others { (result ≡ Next.Paused) ⊎ ((errors : ℕ) × (result ≡ Next.Ended errors)) }
+    ensures goes { (part : Part) (pieces : Pieces) (x : Metaslab) → IsMetaslab R.Rack A.Area part pieces shard.old x
+        → Goes R.Rack A.Area part pieces x shard.new (λ holds y. NextIs part true result holds × SameBlocks x y) }
+{
+    if has_more(shard) {
+        return Next::Paused;
+    }
+    Next::Ended {
+        errors: end_in(shard),
+    }
+}
+
+/// Whether a rebuild has something left to lend.
+fn has_more<R: Rack, A: Area>(shard: &Shard<R, A>) -> bool
+    requires valid { Valid R.Rack shard.now }
+    requires running { IsSomeAnd shard.now.pass IsRunningRebuild }
+    ensures more { result ≡ true → HasTakenLeft shard.now }
+    ensures none { result ≡ false → HasNothingLeft shard.now }
+{
+    match &shard.pass {
+        Some(pass) => shard.next_taken(pass.at).is_some(),
+        None => false,
+    }
+}
+
+/// The rebuild ends, of which nothing is left; the answer is how many errors it has.
+fn end_in<R: Rack, A: Area>(shard: &mut Shard<R, A>) -> u64
+    requires valid { Valid R.Rack shard.old }
+    requires running { IsSomeAnd shard.old.pass IsRunningRebuild }
+    requires left { HasNothingLeft shard.old }
+    ensures valid { Valid R.Rack shard.new }
+    ensures table { SharesTable shard.old shard.new }
+    ensures areas { SameAreas shard.old shard.new }
+    ensures over { shard.new.pass ≡ None }
+    ensures low { result ≤ LAST_NUMBER }
+    ensures goes { (part : Part) (pieces : Pieces) (x : Metaslab) → IsMetaslab R.Rack A.Area part pieces shard.old x
+        → Goes R.Rack A.Area part pieces x shard.new (λ holds y. passes.EndsPass part.geometry part.perms part.number result holds × SameBlocks x y) }
+{
+    done(shard).errors.min(LAST_NUMBER)
+}
