@@ -39,12 +39,11 @@ use Rattle.draid_shard.specs.declared.loan.Source.{Source}
 use Rattle.draid_shard.specs.declared.shard.Shard.{Shard}
 use Rattle.draid_shard.specs.Calls.{CountsFailed}
 use Rattle.draid_shard.proofs.Held.{key_leads}
-use Rattle.draid_shard.proofs.Kept.{history_in}
 use Rattle.draid_shard.proofs.Shown.{state_shown}
 use Rattle.draid_shard.proofs.Standing.{has_layout}
 use Rattle.draid_mend.specs.Lending.{chosen_in, loan_of, taken_of, to_list}
 use Rattle.draid_spec.specs.declared.layout.Geometry.{Geometry}
-use Rattle.draid_mend.specs.declared.loans.LendRoom.{LendRoom}
+use Rattle.draid_mend.specs.declared.rooms.LendRoom.{LendRoom}
 use Rattle.draid_mend.specs.Loans.{HasLendRoom, IsRunningRebuild, IsUnit, LendsUnit, NamesSources, lend_events, source_in, unit_at}
 use Rattle.draid_mend.specs.Reading.{ReadsStripe}
 use Rattle.draid_mend.specs.Solving.{IsOneSector}
@@ -322,9 +321,25 @@ module _ {R A : Type 0} (rack : Ghosts R) (old b : Shard R A) (v : Valid rack ol
 
 -- ---- room was made first
 
-module _ {R A : Type 0} (old : Shard R A) (history : History) where
+module _ {R A : Type 0} (old : Shard R A) (idle : Option KeptLoan) (history : History) where
   abbrev pub asked : Shard R A
-  asked = record old { history = history }
+  asked = record old { idle = idle; history = history }
+
+  asked_in : (w : machine.State) → IsIn old w → IsIn asked w
+  asked_in w is = record {
+    held = is.held;
+    slots = record { order = is.slots.order; arms = is.slots.arms; detached = is.slots.detached; only = is.slots.only };
+    pass = is.pass;
+    last = is.last;
+    open_group_is = is.open_group_is;
+    closing = is.closing;
+    sealed = is.sealed;
+    committed = is.committed;
+    version = is.version;
+    asked = is.asked;
+    serial = is.serial;
+    loan = is.loan;
+  }
 
   pub back_in : (w : machine.State) → IsIn asked w → IsIn old w
   back_in w is = record {
@@ -351,9 +366,9 @@ module _ {R A : Type 0} (old : Shard R A) (history : History) where
     does = record {
       part = z.does.part;
       stored = z.does.stored ∙ ap (λ (events : List Event). events ++ Lend z.failed ∷ []) same;
-      leads = λ w reached is. z.does.leads w reached (history_in old history w is);
+      leads = λ w reached is. z.does.leads w reached (asked_in w is);
     };
-    acts = λ pieces w after step reached is. z.acts pieces w after step reached (history_in old history w is);
+    acts = λ pieces w after step reached is. z.acts pieces w after step reached (asked_in w is);
     counts = z.counts;
     kept = z.kept;
     kept_is = z.kept_is;

@@ -6,6 +6,7 @@ pub mod Losing
 pub mod Mending
 pub mod Missing
 pub mod Reading
+pub mod Rooms
 pub mod Solving
 pub mod Sources
 pub mod Stands

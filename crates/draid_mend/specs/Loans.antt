@@ -10,7 +10,7 @@ use Rattle.draid_entries.specs.History.{owed_of, stored_of}
 use Rattle.draid_entries.specs.declared.entry.Entry.{Entry}
 use Rattle.draid_spec.specs.declared.layout.Geometry.{Geometry}
 use Rattle.draid_shard.specs.Looks.{IsNextTaken, IsOver}
-use Rattle.draid_mend.specs.declared.loans.LendRoom.{LendRoom}
+use Rattle.draid_mend.specs.declared.rooms.LendRoom.{LendRoom}
 use Rattle.draid_pass.specs.declared.pass.Pass.{Pass}
 use Rattle.draid_rack.specs.Rack.{Told}
 use Rattle.draid_rack.specs.declared.Rack.{Ghosts}

@@ -19,6 +19,7 @@ use draid_pass::Pass;
 use draid_plans::lose_marked;
 use draid_rack::Rack;
 use draid_shard::{KeptLoan, Shard};
+use std::alloc::Global;
 
 /// Writes the stripe that is lent to the targets of the pass: each column to the targets of its slot that answer. A target that
 /// doesn't answer, or on whose leaf a call failed, is lost, an error each. Where more columns are missing than the parity solves
@@ -47,9 +48,10 @@ pub fn land<R: Rack, A: Area>(shard: &mut Shard<R, A>)
     let event = Event::LandStripe {
         pass: pass.number,
         serial: kept.serial,
-        failed: kept.failed,
+        failed: taken_out(&mut kept.failed, shard.alloc),
     };
     shard.pass = Some(pass);
+    shard.idle = Some(kept);
     shard.history.add(event, 1);
 }
 
@@ -96,4 +98,14 @@ fn one_more(errors: u64) -> u64
     ensures { result ≡ capped (errors + 1) }
 {
     errors.saturating_add(1).min(LAST_NUMBER)
+}
+
+/// Takes out what is listed. The room of an empty list stays.
+fn taken_out(list: &mut Vec<u64>, alloc: Global) -> Vec<u64>
+    ensures { result.items ≡ list.old.items }
+{
+    if list.is_empty() {
+        return Vec::new(alloc);
+    }
+    std::mem::replace(list, Vec::new(alloc))
 }

@@ -11,6 +11,7 @@ mod losing;
 mod mending;
 mod naming;
 mod reading;
+mod rooms;
 mod solving;
 mod sources;
 mod targets;

@@ -4,8 +4,6 @@ ghost use Rattle.draid_entries.specs.History.{AskIs, IsAsked, KeepsOwed, left_fo
 ghost use Rattle.draid_machine.specs.State as machine;
 ghost use Rattle.draid_machine.specs.Step.{IsTaken};
 ghost use Rattle.draid_pass.specs.declared.pass.Pass.{Pass};
-ghost use Rattle.draid_spec.specs.Geometry.{IsGeometry};
-ghost use Rattle.draid_spec.specs.declared.layout.Geometry.{Geometry};
 ghost use Rattle.draid_shard.specs.Alike.{KeepsArms};
 ghost use Rattle.draid_shard.specs.Calls.{SameAreas, SameKit, SameReserve};
 ghost use Rattle.draid_shard.specs.Changes.{DoesNothing, KeepsBlocks};
@@ -17,16 +15,14 @@ ghost use Rattle.draid_mend.specs.Loans.{HasLendRoom, HasUnit, IsLendRefused, Is
 
 use crate::lending::{Readings, read_stripe};
 use crate::naming::name_sources;
+use crate::rooms::{LendRoom, room_for};
 use draid_area::Area;
 use draid_entries::{Entry, ReserveFault};
 use draid_machine::Event;
 use draid_names::{NoMemory, Pointer};
-use draid_parity::Stripe;
 use draid_pass::Pass;
 use draid_rack::Rack;
-use draid_shard::{KeptLoan, Shard, Source};
-use draid_spec::Geometry;
-use std::alloc::Global;
+use draid_shard::{KeptLoan, Shard};
 
 /// What a lend comes to: a stripe was lent, or none is left.
 #[derive(Clone, Copy, PartialEq, Eq)]
@@ -41,14 +37,6 @@ pub enum LendFault {
     /// The limit leaves too few events; so many are stored or owed.
     Worn { events: u64 },
     NoMemory,
-}
-
-/// What a lend takes memory for: the columns, from where each is taken, and the leaves that fail, now and as it lands.
-#[derive(Drop)]
-struct LendRoom {
-    lent: Readings,
-    chosen: Vec<Option<Source>>,
-    failed: Vec<u64>,
 }
 
 /// Lends the next stripe that a block has, at the place where a rebuild stands or behind it: each column is read from its
@@ -152,11 +140,11 @@ fn events_of(kept: &Option<KeptLoan>) -> u64
     }
 }
 
-/// Makes the room in memory that a lend and its landing want.
+/// Makes the room in memory that a lend and its landing want, of that of the last loan where this fits.
 fn make_room<R: Rack, A: Area>(shard: &mut Shard<R, A>) -> Result<LendRoom, ReserveFault>
     requires valid { Valid R.Rack shard.old }
     ensures valid { Valid R.Rack shard.new }
-    ensures only { shard.new ≡ record shard.old { history = shard.new.history } }
+    ensures only { shard.new ≡ record shard.old { idle = shard.new.idle; history = shard.new.history } }
     ensures history { KeepsOwed shard.old.history shard.new.history }
     ensures none { DoesNothing shard.old shard.new }
     ensures not_worn { OnOk result (IsWornFor shard.old (lend_events shard.old.kept) → ⊥) }
@@ -165,40 +153,12 @@ fn make_room<R: Rack, A: Area>(shard: &mut Shard<R, A>) -> Result<LendRoom, Rese
     ensures refused { IfErr result (λ why. AskIs shard.old.history (lend_events shard.old.kept) left_for_groups (Err why)) }
 {
     shard.history.ask(events_of(&shard.kept))?;
-    match room_for(shard.alloc, &shard.geometry, targets_of(&shard.pass)) {
+    let targets = targets_of(&shard.pass);
+    let idle = shard.idle.take();
+    match room_for(shard.alloc, &shard.geometry, targets, idle) {
         Ok(room) => Ok(room),
         Err(NoMemory) => Err(ReserveFault::NoMemory),
     }
-}
-
-/// The room that a lend of a stripe wants in memory, for so many targets.
-fn room_for(alloc: Global, geometry: &Geometry, targets: usize) -> Result<LendRoom, NoMemory>
-    requires geometry { IsGeometry geometry.now }
-    ensures { IfOk result (HasLendRoom geometry.now targets) }
-{
-    let g = geometry.g as usize;
-    let Some(calls) = targets.checked_mul(g) else {
-        return Err(NoMemory);
-    };
-    let columns = Stripe::new(
-        alloc,
-        geometry.spec.parity,
-        geometry.spec.ndata,
-        geometry.props.sector,
-    )?;
-    let taken = Vec::with_capacity(alloc, g)?;
-    let faults = Vec::with_capacity(alloc, g)?;
-    let chosen = Vec::with_capacity(alloc, g)?;
-    let failed = Vec::with_capacity(alloc, calls)?;
-    Ok(LendRoom {
-        lent: Readings {
-            columns,
-            taken,
-            failed: faults,
-        },
-        chosen,
-        failed,
-    })
 }
 
 /// Lends a stripe of a block, for which there is room.

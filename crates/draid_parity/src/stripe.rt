@@ -1,5 +1,5 @@
 //! A stripe: its parity columns and its data columns.
-ghost use Rattle.std.specs.Prelude.{◌≡◌, ℕ, ◌+◌, ◌<◌, ◌≤◌, All, IfOk, List, length};
+ghost use Rattle.std.specs.Prelude.{◌≡◌, ◌↔◌, ℕ, ◌+◌, ◌<◌, ◌≤◌, All, IfOk, IsTrue, List, length};
 ghost use Rattle.std.specs.Borrow.{sem};
 ghost use Rattle.std.specs.List.Sorted.{IsStrictlyIncreasing};
 ghost use Rattle.draid_parity.specs.Columns.{Completes, IsEncoded, IsSolution, IsStripe, SolvesColumns, StripeValue, column_at, zero_stripe};
@@ -51,6 +51,14 @@ impl Stripe {
             len,
             columns,
         })
+    }
+
+    /// Whether it has so many parity and data columns, of so many bytes each.
+    pub fn is_of(&self, parity: u32, ndata: u32, len: u32) -> bool
+        ensures shape { IsTrue result ↔ (self.now.parity ≡ parity) × (self.now.ndata ≡ ndata) × (self.now.len ≡ len) }
+        ensures stripe { IsStripe self.now }
+    {
+        self.parity == parity && self.ndata == ndata && self.len == len
     }
 
     /// Column `i`.
