@@ -7,7 +7,7 @@ use Rattle.draid_names.specs.declared.numbers.TheConstants.{LONGEST_BLOCK}
 use Rattle.sha2.specs.Sha256.{sha256}
 use Rattle.draid_parity.specs.Columns.{IsSolution, column_at}
 use Rattle.draid_block.specs.Columns.{Cut, stripes_of}
-use Rattle.draid_block.specs.Blocks.{AreColumns, IsContent, bytes_of, column_len, stripe_of}
+use Rattle.draid_block.specs.Blocks.{AreColumns, BlockValue, IsContent, bytes_of, column_len, stripe_of}
 use Rattle.draid_block.specs.Order.{solve_order}
 use Rattle.draid_block.specs.declared.solve.Fetched.{Fetched}
 use Rattle.draid_block.specs.declared.solve.SolveFault.{SolveFault}
@@ -100,6 +100,18 @@ pub record HasDigest (fetched : Fetched) (bytes : List ℕ) : Type 0 where
 abbrev pub AnswersDigest : Fetched → Result (Vec ℕ Global) SolveFault → Type 0
 AnswersDigest fetched (Ok bytes) = HasDigest fetched bytes.items
 AnswersDigest fetched (Err fault) = Unit {0}
+
+-- a block whose bytes are the answer
+pub record IsRestoredOf (cut : Cut) (fetched : Fetched) (block : BlockValue) : Type 0 where
+  pub cut_is : block.cut ≡ cut
+  pub first : IsFirst (GivesOf cut fetched block.bytes) (FailsOf cut fetched) (sets_of cut fetched)
+  pub digest : HasDigest fetched block.bytes
+
+-- the block that has the answer, or none
+abbrev pub RestoresBlock : Cut → Fetched → Result BlockValue SolveFault → Type 0
+RestoresBlock cut fetched (Ok block) = IsRestoredOf cut fetched block
+RestoresBlock cut fetched (Err (Unreadable absent tried)) = HasNoAnswer cut fetched absent tried
+RestoresBlock cut fetched (Err NoMemory) = Unit {0}
 
 -- the answer isn't that the block is unreadable
 abbrev pub IsAnswered : Result (Vec ℕ Global) SolveFault → Type 0

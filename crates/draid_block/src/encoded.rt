@@ -74,6 +74,23 @@ impl Encoded {
         ensures bytes { IfOk result (λ e. e.bytes ≡ bytes.now) }
         ensures cut { IfOk result (λ e. e.cut ≡ cut_of geometry.now) }
     {
+        Encoded::with_digest(alloc, geometry, bytes, Sha256::digest(bytes))
+    }
+
+    /// The same of a block whose digest is known.
+    pub fn with_digest(
+        alloc: Global,
+        geometry: &Geometry,
+        bytes: &[u8],
+        digest: [u8; 32],
+    ) -> Result<Encoded, NoMemory>
+        requires geometry { IsGeometry geometry.now }
+        requires some { 1 ≤ length bytes.now }
+        requires short { length bytes.now ≤ LONGEST_BLOCK }
+        requires digest { digest ≡ sha256 bytes.now }
+        ensures bytes { IfOk result (λ e. e.bytes ≡ bytes.now) }
+        ensures cut { IfOk result (λ e. e.cut ≡ cut_of geometry.now) }
+    {
         let len = bytes.len() as u32;
         let mut stripe = Stripe::new(
             alloc,
@@ -88,7 +105,7 @@ impl Encoded {
             sector: geometry.props.sector,
             stripes: stripes_for(geometry, len),
             len,
-            digest: Sha256::digest(bytes),
+            digest,
         })
     }
 

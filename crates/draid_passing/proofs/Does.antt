@@ -168,7 +168,7 @@ module _ {R A : Type 0} (rack : Ghosts R) (old : Shard R A) (v : Valid rack old)
                 let no : is_heal pass.kind ≡ false = ap is_heal kind in
                 let lent : is_lent p fits.h ≡ true = grind (arith, nat_tests, no) in
                 let same : p.next ≡ fits.p.next = ap (λ (x : machine.Pass). x.next) (some_same w.core.pass p fits.p pass_there fits.pass) in
-                let less = left w at p pass_there (loan_in kept).key fits.h kept.stripe fits.found lent fits.taken in
+                let less = left w at p pass_there (loan_in kept).key fits.h (loan_in kept).stripe fits.found lent fits.taken in
                 let from = fits.from in
                 omega (arith, same, less, from)
 

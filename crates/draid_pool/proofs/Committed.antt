@@ -145,13 +145,13 @@ owes_one closing sealed group closing_is sealed_is = ap (λ o. owed_for_group o 
 
 -- the entry over its stripe is its block's
 pub keeps_some : {R A : Type 0} (rack : Ghosts R) (shard : Shard R A) → Valid rack shard → (kept : KeptLoan) → shard.kept ≡ Some kept → (e : Entry)
-    → ((d : Entry) → IsOver shard.entries kept.stripe d → d ≡ e) → (group : ℕ) (freed : Bool) → freed ≡ is_freed_by group e.stage → KeepsLoan shard group freed
+    → ((d : Entry) → IsOver shard.entries (loan_in kept).stripe d → d ≡ e) → (group : ℕ) (freed : Bool) → freed ≡ is_freed_by group e.stage → KeepsLoan shard group freed
 keeps_some rack shard v kept is e only group freed freed_is w reached at =
     let lent : w.loan ≡ Some (loan_in kept) = at.loan ∙ ap (option_map loan_in) is in
     let fits = (reached_sound (layout_by shard) (lays (part_of shard) v.part) w reached).loan (loan_in kept) lent in
-    let over = held_over shard w at (key_of kept.pointer) fits.h kept.stripe fits.found fits.taken in
+    let over = held_over shard w at (loan_in kept).key fits.h (loan_in kept).stripe fits.found fits.taken in
     let same : fits.h ≡ held_at e = sym over.is ∙ ap held_at (only over.e over.over) in
-    let gone : is_freed_block group (w.core.held (key_of kept.pointer)) ≡ freed = ap (is_freed_block group) (fits.found ∙ ap Some same) ∙ sym freed_is in
+    let gone : is_freed_block group (w.core.held (loan_in kept).key) ≡ freed = ap (is_freed_block group) (fits.found ∙ ap Some same) ∙ sym freed_is in
     ap (keep_loan (λ k. is_freed_block group (w.core.held k))) lent ∙ ap (λ b. keep_if (not b) (loan_in kept)) gone ∙ by freed ∙ ap (λ o. option_map loan_in (if freed then None else o)) (sym is)
   where
     by : (b : Bool) → keep_if (not b) (loan_in kept) ≡ option_map loan_in (if b then None else Some kept)
@@ -159,12 +159,12 @@ keeps_some rack shard v kept is e only group freed freed_is w reached at =
     by false = refl
 
 -- without one no loan counts
-pub keeps_absent : {R A : Type 0} (rack : Ghosts R) (shard : Shard R A) → Valid rack shard → (kept : KeptLoan) → shard.kept ≡ Some kept → ((d : Entry) → IsOver shard.entries kept.stripe d → ⊥) → (group : ℕ)
+pub keeps_absent : {R A : Type 0} (rack : Ghosts R) (shard : Shard R A) → Valid rack shard → (kept : KeptLoan) → shard.kept ≡ Some kept → ((d : Entry) → IsOver shard.entries (loan_in kept).stripe d → ⊥) → (group : ℕ)
     → KeepsLoan shard group false
 keeps_absent rack shard v kept is none group w reached at =
     let lent : w.loan ≡ Some (loan_in kept) = at.loan ∙ ap (option_map loan_in) is in
     let fits = (reached_sound (layout_by shard) (lays (part_of shard) v.part) w reached).loan (loan_in kept) lent in
-    let over = held_over shard w at (key_of kept.pointer) fits.h kept.stripe fits.found fits.taken in
+    let over = held_over shard w at (loan_in kept).key fits.h (loan_in kept).stripe fits.found fits.taken in
     absurd (none over.e over.over)
 
 pub keeps_none : {R A : Type 0} (shard : Shard R A) (group : ℕ) → shard.kept ≡ None → KeepsLoan shard group false

@@ -63,7 +63,7 @@ fn lends_freed<R: Rack, A: Area>(shard: &Shard<R, A>, group: u64) -> bool
     let Some(kept) = &shard.kept else {
         return false;
     };
-    match shard.entries.last_upto(kept.stripe) {
+    match shard.entries.last_upto(kept.stripe()) {
         Some(entry) => is_freed_by(entry.stage, group),
         None => false,
     }

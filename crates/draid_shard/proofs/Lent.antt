@@ -6,8 +6,11 @@ use Rattle.draid_spec.specs.declared.layout.Geometry.{Geometry}
 use Rattle.draid_machine.proofs.Small.{none_some, some_injective}
 use Rattle.draid_pass.specs.declared.pass.Pass.{Pass}
 use Rattle.draid_shard.specs.Fits.{birth_groups, changes_for_end, is_rebuild}
-use Rattle.draid_shard.specs.Loans.{HasFlushRoom, IsKept}
+use Rattle.draid_shard.specs.Loans.{HasFlushRoom, IsKept, IsLentBlock, IsLentStripe}
 use Rattle.draid_shard.specs.declared.loan.KeptLoan.{KeptLoan}
+use Rattle.draid_shard.specs.declared.loan.KeptLoan.TheVariants.{Block, Stripe}
+use Rattle.draid_shard.specs.declared.loan.LentBlock.{LentBlock}
+use Rattle.draid_shard.specs.declared.loan.LentStripe.{LentStripe}
 
 times_less : (g a b : ℕ) → a ≤ b → g * a ≤ g * b
 times_less zero a b le = omega arith
@@ -20,10 +23,10 @@ StillLends None (Some q) = ⊥
 StillLends (Some p) None = ⊥
 StillLends (Some p) (Some q) = (q.kind ≡ p.kind) × (length q.targets.items ≤ length p.targets.items)
 
-kept_by : (geometry : Geometry) (old new : Option Pass) (kept : KeptLoan) → StillLends old new → IsKept geometry old kept → IsKept geometry new kept
-kept_by geometry None new kept still is = absurd (none_some None is.lender refl is.there)
-kept_by geometry (Some p) None kept still is = absurd still
-kept_by geometry (Some p) (Some q) kept still is =
+stripe_by : (geometry : Geometry) (old new : Option Pass) (lent : LentStripe) → StillLends old new → IsLentStripe geometry old lent → IsLentStripe geometry new lent
+stripe_by geometry None new lent still is = absurd (none_some None is.lender refl is.there)
+stripe_by geometry (Some p) None lent still is = absurd still
+stripe_by geometry (Some p) (Some q) lent still is =
     let same : p ≡ is.lender = some_injective p is.lender is.there in
     let room = is.room in
     let count : length is.lender.targets.items ≡ length p.targets.items = ap (λ (x : Pass). length x.targets.items) (sym same) in
@@ -32,12 +35,31 @@ kept_by geometry (Some p) (Some q) kept still is =
     record {
       lender = q;
       there = refl;
+      kind = still.0 ∙ ap (λ (x : Pass). x.kind) same ∙ is.kind;
       inside = is.inside;
       chosen = is.chosen;
       columns = is.columns;
-      sector = λ e. is.sector (ap (λ (x : Pass). x.kind) (sym same) ∙ sym still.0 ∙ e);
+      sector = is.sector;
       room = omega (arith, less, room);
     }
+
+block_by : (geometry : Geometry) (old new : Option Pass) (lent : LentBlock) → StillLends old new → IsLentBlock geometry old lent → IsLentBlock geometry new lent
+block_by geometry None new lent still is = absurd (none_some None is.lender refl is.there)
+block_by geometry (Some p) None lent still is = absurd still
+block_by geometry (Some p) (Some q) lent still is = record {
+  lender = q;
+  there = refl;
+  kind = still.0 ∙ ap (λ (x : Pass). x.kind) (some_injective p is.lender is.there) ∙ is.kind;
+  run = is.run;
+  chosen = is.chosen;
+  fetched = is.fetched;
+  restored = is.restored;
+  room = is.room;
+}
+
+kept_by : (geometry : Geometry) (old new : Option Pass) (kept : KeptLoan) → StillLends old new → IsKept geometry old kept → IsKept geometry new kept
+kept_by geometry old new (Stripe lent) still is = stripe_by geometry old new lent still is
+kept_by geometry old new (Block lent) still is = block_by geometry old new lent still is
 
 pub kept_still : (geometry : Geometry) (old new : Option Pass) (kept : Option KeptLoan) → StillLends old new → IfSome kept (IsKept geometry old) → IfSome kept (IsKept geometry new)
 kept_still geometry old new None still is = tt
@@ -56,4 +78,5 @@ changes_still old new closing same = ap (λ (b : Bool). if b then birth_groups c
 -- without a pass no loan counts
 pub no_loan : (geometry : Geometry) (pass : Option Pass) (kept : Option KeptLoan) → pass ≡ None → IfSome kept (IsKept geometry pass) → kept ≡ None
 no_loan geometry pass None none is = refl
-no_loan geometry pass (Some kept) none is = absurd (none_some pass is.lender none is.there)
+no_loan geometry pass (Some (Stripe lent)) none is = absurd (none_some pass is.lender none is.there)
+no_loan geometry pass (Some (Block lent)) none is = absurd (none_some pass is.lender none is.there)
