@@ -11,11 +11,7 @@ use draid_spec::Geometry;
 use std::alloc::Global;
 
 /// All columns of the block that `solve_block` finds. Its digest isn't computed again.
-pub fn restore(
-    alloc: Global,
-    geometry: &Geometry,
-    fetched: &Fetched,
-) -> Result<Encoded, SolveFault>
+pub fn restore(alloc: Global, geometry: &Geometry, fetched: &Fetched) -> Result<Encoded, SolveFault>
     requires geometry { IsGeometry geometry.now }
     requires fetched { IsFetched (cut_of geometry.now) fetched.now }
     ensures restores { RestoresBlock (cut_of geometry.now) fetched.now result }
