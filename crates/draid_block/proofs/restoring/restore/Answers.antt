@@ -1,4 +1,4 @@
-use Rattle.std.proofs.Common.{◌≡◌, ℕ, Result, Err, Vec, Global, refl, subst}
+use Rattle.std.proofs.Common.{◌≡◌, ℕ, Result, Err, refl, subst}
 use Rattle.draid_block.specs.Solving.{IsAnswered}
 use Rattle.draid_block.specs.declared.solve.SolveFault.{SolveFault}
 use Rattle.draid_block.specs.declared.solve.SolveFault.TheVariants.{Unreadable}
