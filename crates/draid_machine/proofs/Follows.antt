@@ -1,16 +1,17 @@
 -- What came from another state with nothing new: the same runs and births, logs no shorter, fewer blocks, arms and targets.
-use Rattle.std.proofs.Common.{◌≡◌, ◌+◌, ◌/◌, ◌<◌, ◌≤◌, ◌&&◌, ◌==◌, ℕ, Bool, true, false, nat_le, nat_lt, Option, Some, None, refl, sym, ◌∙◌, ap, subst, inl, inr, arith}
+use Rattle.std.proofs.Common.{◌≡◌, ◌+◌, ◌/◌, ◌<◌, ◌≤◌, ◌&&◌, ◌||◌, ◌==◌, not, ℕ, Bool, true, false, nat_le, nat_lt, Option, Some, None, refl, sym, ◌∙◌, ap, subst, inl, inr, arith}
 use Rattle.std.proofs.lemmas.Bool.{true≢false}
 use Rattle.std.proofs.lemmas.Bool.Decides.{nat_tests}
 use Rattle.draid_machine.specs.declared.names.Key.{Key}
 use Rattle.draid_machine.specs.declared.names.ArmName.{ArmName}
 use Rattle.draid_machine.specs.declared.names.Held.{Held}
 use Rattle.draid_machine.specs.declared.names.Segment.{Segment}
-use Rattle.draid_machine.specs.Names.{has_name, is_block, is_put, takes}
+use Rattle.draid_machine.specs.Names.{has_name, is_block, is_heal, is_put, takes}
 use Rattle.draid_machine.specs.State.{Layout, IsLayout, Arm, Pass, Core, Loan}
 use Rattle.draid_machine.specs.Arms.{lies}
 use Rattle.draid_machine.specs.Claims.{passed}
 use Rattle.draid_machine.specs.Sound.{IsClaimed, CoreSound, LoanFits}
+use Rattle.draid_machine.specs.Step.{is_lent}
 use Rattle.draid_machine.proofs.Small.{some_same, true_both, bool_cases, absurd_test}
 
 -- the same block or ticket
@@ -194,6 +195,7 @@ module _ (l : Layout) (q q' : Core) (f : Keeps q q') where
         found = h'.1;
         block = b.2.block ∙ ap (λ (h : Held). is_block h.stage) same_h ∙ z.block;
         taken = takes_on b.0 h'.0 n.stripe b.2 (subst (λ h. takes h n.stripe ≡ true) (sym same_h) z.taken);
+        lent = (λ i. not (is_heal (y.2.kind i)) || (b.2.block i && nat_le (b.2.birth i) (y.2.max i))) ∙ ap (λ (p : Pass). is_lent p b.0) same_p ∙ ap (is_lent z.p) same_h ∙ z.lent;
         from = subst (λ m. m ≤ n.stripe) (sym (y.2.next ∙ ap (λ (p : Pass). p.next) same_p)) z.from;
         clear = λ k i x hk block max tx from below.
             let d = f.held k i hk in

@@ -196,6 +196,7 @@ module _ (l : Layout) (lay : IsLayout l) where
         found = next.found;
         block = lent_block w.committed (w.open_group + 1) w.core p n.key h s.core pass running next.found next.lent;
         taken = next.taken;
+        lent = next.lent;
         from = next.from;
         clear = λ k i x e block max t from below. next.first k i x e (is_lent_block p i block max) t from below;
       }))

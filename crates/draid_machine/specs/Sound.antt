@@ -8,6 +8,7 @@ use Rattle.draid_machine.specs.declared.names.Segment.{Segment}
 use Rattle.draid_machine.specs.Names.{has_name, is_block, is_put, takes}
 use Rattle.draid_machine.specs.State.{Layout, Arm, Pass, Core, Loan, Image, State}
 use Rattle.draid_machine.specs.Claims.{IsOn, passed}
+use Rattle.draid_machine.specs.Step.{is_lent}
 
 -- ---- log soundness
 
@@ -65,6 +66,7 @@ pub record LoanFits (q : Core) (n : Loan) : Type 0 where
   pub found : q.held n.key ≡ Some h
   pub block : is_block h.stage ≡ true
   pub taken : takes h n.stripe ≡ true
+  pub lent : is_lent p h ≡ true
   pub from : p.next ≤ n.stripe
   pub clear : (k : Key) (i : Held) (x : ℕ) → q.held k ≡ Some i → is_block i.stage ≡ true → i.birth ≤ p.max → takes i x ≡ true → p.next ≤ x → x < n.stripe → ⊥
 

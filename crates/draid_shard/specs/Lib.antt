@@ -4,6 +4,7 @@ pub mod Changes
 pub mod Columns
 pub mod Fits
 pub mod Left
+pub mod Lends
 pub mod Loans
 pub mod Looks
 pub mod Part

@@ -19,7 +19,9 @@ pub use blocks::release;
 pub use dropping::drop_loan;
 pub use fault::Shut;
 pub use laws::{calls_keep_what_stands, valid_shards_have_states, worn_is_what_is_owed};
-pub use loan::{KeptLoan, LandingRoom, LentBlock, LentStripe, ReadArm, Source, Spot};
+pub use loan::{
+    KeptLoan, LandingRoom, LendFault, Lent, LentBlock, LentStripe, ReadArm, Source, Spot,
+};
 pub use logs::miss;
 pub use places::ColumnRows;
 pub use shard::Shard;

@@ -101,3 +101,18 @@ impl KeptLoan {
         }
     }
 }
+
+/// What a lend comes to: a stripe or a block was lent, or none is left.
+#[derive(Clone, Copy, PartialEq, Eq)]
+pub enum Lent {
+    Unit,
+    End,
+}
+
+/// Why none is lent, though one is left.
+#[derive(Clone, Copy, PartialEq, Eq)]
+pub enum LendFault {
+    /// The limit leaves too few events; so many are stored or owed.
+    Worn { events: u64 },
+    NoMemory,
+}
