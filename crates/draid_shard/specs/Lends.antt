@@ -1,5 +1,5 @@
 -- What a lend asks for, and why none is lent.
-use Rattle.std.specs.Prelude.{◌≡◌, ◌+◌, ⊤, ◌×◌, ℕ, Option, None, Some}
+use Rattle.std.specs.Prelude.{◌≡◌, ◌+◌, ⊤, ℕ, Option, None, Some}
 use Rattle.draid_entries.specs.History.{owed_of, stored_of}
 use Rattle.draid_shard.specs.Rooms.{IsWornFor}
 use Rattle.draid_shard.specs.declared.loan.KeptLoan.{KeptLoan}
