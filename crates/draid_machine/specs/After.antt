@@ -1,4 +1,4 @@
-use Rattle.std.specs.Prelude.{◌==◌, ◌+◌, ◌||◌, ◌&&◌, not, ℕ, Bool, true, false, nat_le, nat_lt, List, [], ◌∷◌, ◌++◌, Option, Some, None, filter, length, min, count_by, is_none, is_some, if◌then◌else◌}
+use Rattle.std.specs.Prelude.{◌==◌, ◌+◌, ◌||◌, ◌&&◌, not, ℕ, zero, suc, Bool, true, false, nat_le, nat_lt, List, [], ◌∷◌, ◌++◌, Option, Some, None, filter, length, min, count_by, is_none, is_some, if◌then◌else◌}
 use Rattle.draid_names.specs.declared.numbers.TheConstants.{LAST_NUMBER}
 use Rattle.draid_names.specs.declared.pass_kind.PassKind.{PassKind}
 use Rattle.draid_names.specs.declared.pass_kind.PassKind.TheVariants.{Rebuild, Heal}
@@ -334,6 +334,11 @@ was_written (d ∷ ds) column n row = ((d.column == column) && name_eq d.arm n &
 abbrev pub has_landed : List Patched → ℕ → ArmName → ℕ → Bool
 has_landed [] column n row = false
 has_landed (d ∷ ds) column n row = ((d.column == column) && name_eq d.arm n && has_number d.landed.items row) || has_landed ds column n row
+
+-- the columns that were rewritten: those of which a row landed, counted by arm
+abbrev pub rewritten : Layout → Core → Held → List Patched → ℕ → ℕ
+rewritten l q h patched zero = 0
+rewritten l q h patched (suc c) = rewritten l q h patched c + count_by (λ n. any_below h.stripes (has_landed patched c n)) (q.order (l.slot_of h.first c))
 
 abbrev pub is_written : Layout → Core → Loan → Held → List Patched → Segment → Bool
 is_written l q n h patched s = key_eq n.key s.key && is_on l q.order s h && was_written patched s.column s.arm s.row

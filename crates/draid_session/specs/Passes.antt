@@ -1,6 +1,5 @@
 -- What a rebuild, a scrub and a cancel do, metaslab after metaslab, by their holds.
 use Rattle.std.specs.Prelude.{◌≡◌, ◌≢◌, ◌+◌, ◌*◌, ◌-◌, ◌≤◌, ◌⊎◌, ⊤, ℕ, zero, suc, Bool, true, false, List, [], ◌∷◌, ◌++◌, Option, Some, None}
-use Rattle.std.specs.List.{count_by}
 use Rattle.std.specs.declared.vec.Vec.{Vec}
 use Rattle.std.specs.declared.alloc.Global.{Global}
 use Rattle.draid_names.specs.declared.numbers.TheConstants.{LAST_NUMBER}
@@ -11,12 +10,10 @@ use Rattle.draid_spec.specs.Geometry.{metaslab_stripes}
 use Rattle.draid_perm.specs.declared.perms.Perms.{Perms}
 use Rattle.draid_machine.specs.declared.event.Event.{Event}
 use Rattle.draid_machine.specs.declared.event.Event.TheVariants as event
-use Rattle.draid_machine.specs.declared.event.Patched.{Patched}
 use Rattle.draid_machine.specs.declared.names.Held.{Held}
 use Rattle.draid_machine.specs.declared.names.Key.{Key}
-use Rattle.draid_machine.specs.After.{ended_pass, has_landed}
+use Rattle.draid_machine.specs.After.{ended_pass, rewritten}
 use Rattle.draid_machine.specs.Arms.{targets_of}
-use Rattle.draid_machine.specs.Names.{any_below}
 use Rattle.draid_machine.specs.State as machine
 use Rattle.draid_machine.specs.Step.{IsNext, ReadyStep}
 use Rattle.draid_session.specs.Groups.{Syncs}
@@ -116,11 +113,6 @@ lend_asks (Some n) = 1
 -- a pass that is planned asks for its event and two more
 abbrev pub plan_asks : ℕ
 plan_asks = 3
-
--- ---- the columns that a scrub's landing rewrote: those of which a row landed, counted by arm
-abbrev pub rewritten : machine.Layout → machine.Core → Held → List Patched → ℕ → ℕ
-rewritten l q h patched zero = 0
-rewritten l q h patched (suc c) = rewritten l q h patched c + count_by (λ n. any_below h.stripes (has_landed patched c n)) (q.order (l.slot_of h.first c))
 
 module _ (geometry : Geometry) (perms : Perms) where
   abbrev pub layout_on : View → machine.Layout

@@ -1,6 +1,7 @@
 -- What a lend asks for, and why none is lent.
 use Rattle.std.specs.Prelude.{◌≡◌, ◌+◌, ⊤, ℕ, Option, None, Some}
 use Rattle.draid_entries.specs.History.{owed_of, stored_of}
+use Rattle.draid_pass.specs.declared.pass.Pass.{Pass}
 use Rattle.draid_shard.specs.Rooms.{IsWornFor}
 use Rattle.draid_shard.specs.declared.loan.KeptLoan.{KeptLoan}
 use Rattle.draid_shard.specs.declared.loan.LendFault.{LendFault}
@@ -16,3 +17,11 @@ lend_events (Some kept) = 1
 abbrev pub IsLendRefused : {R A : Type 0} → Shard R A → LendFault → Type 0
 IsLendRefused shard (Worn events) = IsWornFor shard (lend_events shard.kept) × (events ≡ stored_of shard.history + owed_of shard.history)
 IsLendRefused shard NoMemory = ⊤
+
+-- a pass goes on at a stripe, with the targets that it has left
+pub record GoesOnAt (stripe : ℕ) (old new : Pass) : Type 0 where
+  pub number : new.number ≡ old.number
+  pub kind : new.kind ≡ old.kind
+  pub max : new.max ≡ old.max
+  pub running : new.running ≡ old.running
+  pub at : new.at ≡ stripe

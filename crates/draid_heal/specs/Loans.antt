@@ -1,0 +1,83 @@
+-- The loan of a scrub's block.
+use Rattle.std.specs.Prelude.{◌≡◌, ◌<◌, ◌+◌, ◌↔◌, ⊤, ⊥, ℕ, true, IfSome, List, Option, None, Some, Vec, slice_get, slice_index_or}
+use Rattle.std.specs.declared.alloc.Global.{Global}
+use Rattle.draid_names.specs.declared.pass_kind.PassKind.TheVariants.{Heal}
+use Rattle.draid_columns.specs.Columns.{RowsStand}
+use Rattle.draid_machine.specs.Names.{is_block}
+use Rattle.draid_machine.specs.declared.event.Event.TheVariants.{Lend}
+use Rattle.draid_machine.specs.declared.names.ArmName.{ArmName}
+use Rattle.draid_machine.specs.declared.names.Key.{Key}
+use Rattle.draid_machine.specs.declared.names.Held.{Held}
+use Rattle.draid_machine.specs.declared.names.Stage.{Stage}
+use Rattle.draid_machine.specs.State as machine
+use Rattle.draid_machine.specs.Step.{IsNext}
+use Rattle.draid_entries.specs.Entries.{entry_at}
+use Rattle.draid_entries.specs.Maps.{staged}
+use Rattle.draid_entries.specs.declared.entries.Entries.{Entries}
+use Rattle.draid_pass.specs.declared.pass.Pass.{Pass}
+use Rattle.draid_rack.specs.Rack.{OnTold, Told}
+use Rattle.draid_rack.specs.declared.Rack.{Ghosts}
+use Rattle.draid_slots.specs.Table.{SlotTable}
+use Rattle.draid_shard.specs.Calls.{ActsOn, CountsFailed}
+use Rattle.draid_shard.specs.Part.{Part}
+use Rattle.draid_shard.specs.Rows.{leaf_on, name_on, rows_on}
+use Rattle.draid_shard.specs.States.{Does, IsIn, part_of}
+use Rattle.draid_shard.specs.declared.loan.KeptLoan.{KeptLoan}
+use Rattle.draid_shard.specs.declared.loan.KeptLoan.TheVariants.{Block, Stripe}
+use Rattle.draid_shard.specs.declared.loan.LentBlock.{LentBlock}
+use Rattle.draid_shard.specs.declared.shard.Shard.{Shard}
+use Rattle.draid_heal.specs.Spots.{rows_at}
+
+-- a scrub that runs
+pub record IsRunningScrub (pass : Pass) : Type 0 where
+  pub scrub : pass.kind ≡ Heal
+  pub running : pass.running ≡ true
+
+-- of the pass there is a block left to lend, in each state for which the shard stands
+pub record IsLeftFor (w : machine.State) : Type 0 where
+  pub p : machine.Pass
+  pub key : Key
+  pub h : Held
+  pub stripe : ℕ
+  pub pass : w.core.pass ≡ Some p
+  pub next : IsNext w.core p key h stripe
+
+abbrev pub HasBlockLeft : {R A : Type 0} → Shard R A → Type 0
+HasBlockLeft shard = (w : machine.State) → IsIn shard w → IsLeftFor w
+
+-- ---- the block that is lent
+
+-- it is in the table, live or freed
+pub record IsBlockHere (entries : Entries) (lent : LentBlock) : Type 0 where
+  pub stage : Stage
+  pub there : entry_at entries lent.pointer.first ≡ Some (staged stage lent.pointer)
+  pub block : is_block stage ≡ true
+
+abbrev pub IsHere : Entries → KeptLoan → Type 0
+IsHere entries (Stripe lent) = ⊥
+IsHere entries (Block lent) = IsBlockHere entries lent
+
+-- there is one, of a block in the table
+abbrev pub IsLentHere : {R A : Type 0} → Shard R A → Type 0
+IsLentHere shard = (kept : KeptLoan) × (shard.kept ≡ Some kept) × IsHere shard.entries kept
+
+-- The reading of a column that counts is what its arm told, while the rack told this; where no arm counts there is none.
+pub record ReadsLent (part : Part) (slots : SlotTable) (told : Option Told) (lent : LentBlock) : Type 0 where
+  pub none : (c : ℕ) → c < part.geometry.g → (slice_get lent.columns.items c ≡ Some None) ↔ (slice_index_or lent.chosen.items c None ≡ None)
+  pub reads : (c : ℕ) (n : ArmName) (bytes : Vec ℕ Global) → c < part.geometry.g → slice_index_or lent.chosen.items c None ≡ Some n → slice_get lent.columns.items c ≡ Some (Some bytes)
+      → (k : ℕ) × (leaf : ℕ) × (name_on slots (rows_at part lent.pointer c) k ≡ Some n) × (leaf_on slots (rows_at part lent.pointer c) k ≡ Some leaf)
+      × OnTold told (λ x. RowsStand (rows_on (rows_at part lent.pointer c) leaf) x.reads bytes.items lent.pointer.stripes)
+
+-- A block was lent: the event, the leaves on which calls failed, and what is kept.
+pub record LendsBlock {R A : Type 0} (rack : Ghosts R) (old new : Shard R A) : Type 0 where
+  pub failed : Vec ℕ Global
+  pub does : Does old new (Lend failed)
+  pub acts : (pieces : Rattle.draid_segments.specs.Segments.Pieces) → ActsOn rack old new (Lend failed) pieces
+  pub counts : CountsFailed failed.items (rack.faults old.rack) (rack.faults new.rack)
+  pub lent : LentBlock
+  pub lent_is : new.kept ≡ Some (Block lent)
+  pub here : IsBlockHere new.entries lent
+  pub serial : lent.serial ≡ old.serial + 1
+  pub behind : IfSome old.pass (λ pass. pass.at < lent.pointer.first + lent.pointer.stripes)
+  pub unsolved : lent.restored ≡ None
+  pub reads : ReadsLent (part_of old) old.slots (rack.told old.rack) lent
