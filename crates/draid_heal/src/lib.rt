@@ -11,6 +11,7 @@ mod row;
 mod rows;
 mod settle;
 mod solving;
+mod spots;
 
 pub use landing::land;
 pub use loans::lend;
