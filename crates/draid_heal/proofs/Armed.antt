@@ -12,8 +12,9 @@ use Rattle.draid_parity.specs.Columns.{column_at}
 use Rattle.draid_rack.specs.Moments.{ChangesOnly}
 use Rattle.draid_rack.specs.Rack.{Told, flushes}
 use Rattle.draid_rack.proofs.Moments.{only_flushes, only_more, only_on, only_self}
-use Rattle.draid_heal.specs.Arms.{AreLeavesApart, AreRooms, FlushedOn, HealsArm, HealsArms, IsRoom, ListsArm, ListsArms, StandsArm, WroteAt, failed_if, landed_if, rows_for}
+use Rattle.draid_heal.specs.Arms.{AreLeavesApart, AreRooms, FlushedOn, HealsArm, HealsArms, ListsArm, ListsArms, StandsArm, WroteAt, failed_if, landed_if, rows_for}
 use Rattle.draid_heal.specs.Rows.{FailsOn, HealsRows, ListsRows, in_those}
+use Rattle.draid_shard.specs.Loans.{IsRowRoom}
 use Rattle.draid_shard.specs.declared.loan.Spot.{Spot}
 use Rattle.draid_heal.proofs.Healing.{either_false, fails_one, fewer, last_has}
 
@@ -85,7 +86,7 @@ get_upto [] k x is = absurd (cc)
 get_upto (y ∷ ys) zero x is = omega arith
 get_upto (y ∷ ys) (suc k) x is = let less = get_upto ys k x is in omega (arith, less)
 
-pub rooms_last : (n : ℕ) (all init : List Patched) (x : Patched) → AreRooms n all → all ≡ init ++ x ∷ [] → IsRoom n x
+pub rooms_last : (n : ℕ) (all init : List Patched) (x : Patched) → AreRooms n all → all ≡ init ++ x ∷ [] → IsRowRoom n x
 rooms_last n all init x are is = are (length init) x (ap (λ l. slice_get l (length init)) is ∙ get_last init x (length init) refl)
 
 pub rooms_init : (n : ℕ) (all init : List Patched) (x : Patched) → AreRooms n all → all ≡ init ++ x ∷ [] → AreRooms n init
