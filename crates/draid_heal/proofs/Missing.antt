@@ -1,4 +1,4 @@
--- The arms of a stripe's slots that miss it.
+-- The arms of a block's slots that miss it.
 use Rattle.std.proofs.Common.{◌≡◌, ◌==◌, ◌+◌, ◌<◌, ◌||◌, ◌&&◌, not, ◌∙◌, ℕ, zero, suc, Bool, true, false, List, [], ◌∷◌, Some, refl, replicate, arith, sym, ap, ap₂, subst, inl, inr, length, set}
 use Rattle.std.specs.List.{list_any}
 use Rattle.std.specs.Prelude.{option_map, slice_index_or}
@@ -15,10 +15,11 @@ use Rattle.draid_machine.specs.Arms as arms
 use Rattle.draid_machine.specs.Arms.{has_column, passes}
 use Rattle.draid_machine.specs.Created.{IsReached}
 use Rattle.draid_machine.specs.Images.{Owned}
-use Rattle.draid_machine.specs.Names.{has_name, has_number}
+use Rattle.draid_machine.specs.Names.{any_below, has_name, has_number}
 use Rattle.draid_machine.specs.State as machine
 use Rattle.draid_machine.proofs.Losing.{every_segment}
-use Rattle.draid_machine.proofs.Small.{any_at, bool_cases}
+use Rattle.draid_machine.proofs.Small.{absurd_test, any_at, bool_cases, either_true}
+use Rattle.draid_spec.specs.Geometry.{slice_at}
 use Rattle.draid_plans.specs.Targets.{AreMarked}
 use Rattle.draid_slots.specs.Changes.{IsOf}
 use Rattle.draid_slots.specs.Marks.{is_marked}
@@ -31,21 +32,36 @@ use Rattle.draid_shard.proofs.Answering.{answers_is, leaf_at_is, listed, name_li
 use Rattle.draid_shard.proofs.Homes.{lays}
 use Rattle.draid_heal.specs.Losing.{AreMissed, IsMarkedBy, IsRowIn, is_missed_on}
 use Rattle.draid_heal.specs.Spots.{rows_at}
-use Rattle.draid_heal.proofs.Columned.{rows_are}
-use Rattle.draid_heal.proofs.Freed.{any_found}
+
+pub any_found : (n : ℕ) (p : ℕ → Bool) → any_below n p ≡ true → (c : ℕ) × (c < n) × (p c ≡ true)
+any_found zero p is = absurd_test false is refl
+any_found (suc n) p is = elim (either_true (any_below n p) (p n) is) [
+  | inl before ↦ (let z = any_found n p before in (z.0, (let less = z.1 in omega (arith, less)), z.2))
+  | inr here ↦ (n, omega arith, here)
+]
+
+pub rows_are : (part : Part) (pointer : Pointer) (c : ℕ) (rows : ColumnRows) → IsRowsOf part pointer c rows → rows ≡ rows_at part pointer c
+rows_are part pointer c rows of = λ i. record {
+  slot = of.slot_is i;
+  slice = (of.slice_is ∙ ap (slice_at part.geometry) of.first_is) i;
+  first = of.first_is i;
+  count = of.count_is i;
+  size = of.size_is i;
+  birth = of.birth_is i;
+}
 
 -- ---- one arm
 
-number_any : (xs : List ℕ) (x : ℕ) → list_any (λ y. y == x) xs ≡ has_number xs x
+pub number_any : (xs : List ℕ) (x : ℕ) → list_any (λ y. y == x) xs ≡ has_number xs x
 number_any [] x = refl
 number_any (y ∷ ys) x = ap (λ b. (y == x) || b) (number_any ys x)
 
 pub missed_silent : (slots : SlotTable) (rows : ColumnRows) (failed : List ℕ) (k : ℕ) → answers_on slots rows k ≡ false → true ≡ is_missed_on slots rows failed k
 missed_silent slots rows failed k silent = sym (ap (λ b. not b || passes (leaf_on slots rows k) (has_number failed)) silent)
 
-pub missed_named : (slots : SlotTable) (rows : ColumnRows) (failed : List ℕ) (k leaf : ℕ) → answers_on slots rows k ≡ true → leaf_on slots rows k ≡ Some leaf → list_any (λ y. y == leaf) failed ≡ is_missed_on slots rows failed k
+pub missed_named : (slots : SlotTable) (rows : ColumnRows) (failed : List ℕ) (k leaf : ℕ) → answers_on slots rows k ≡ true → leaf_on slots rows k ≡ Some leaf → has_number failed leaf ≡ is_missed_on slots rows failed k
 missed_named slots rows failed k leaf answers lies =
-    number_any failed leaf ∙ sym (ap₂ (λ b o. not b || passes o (has_number failed)) answers lies)
+    sym (ap₂ (λ b o. not b || passes o (has_number failed)) answers lies)
 
 pub row_in : (shape : Shape) (slots : SlotTable) (rows : ColumnRows) → FitsRows shape slots rows → IsRowIn slots rows
 row_in shape slots rows fits = record {
@@ -112,7 +128,7 @@ module _ (part : Part) (slots : SlotTable) (pointer : Pointer) (failed : List �
         ])
   ]
 
-  -- and in each state these are those that miss the stripe
+  -- and in each state these are those that miss the block
   module _ (is : IsPart part) (of : IsOf slots part.geometry part.perms part.number) (w : machine.State) (reached : IsReached (layout_in part) w) (has : HasSlots slots w.core)
       (run : IsRun part.geometry pointer.first pointer.stripes) where
     abbrev l : machine.Layout

@@ -1,10 +1,11 @@
 //! The arms of a restored block, one after another.
 ghost use Rattle.std.specs.Prelude.{◌≡◌, ◌+◌, ◌*◌, ◌≤◌, ◌<◌, ◌^◌, ◌++◌, ◌∷◌, [], ℕ, List, Option, IsSome, length, vec_capacity, vec_len};
 ghost use Rattle.draid_block.specs.Blocks.{column_len};
-ghost use Rattle.draid_columns.specs.Columns.{HasRows, TellsBoth};
+ghost use Rattle.draid_columns.specs.Columns.{HasRows};
 ghost use Rattle.draid_parity.specs.Columns.{column_at};
 ghost use Rattle.draid_shard.specs.Calls.{CountsFailed};
 ghost use Rattle.draid_shard.specs.Loans.{IsRowRoom};
+ghost use Rattle.draid_rack.specs.Rack.{OnBothTold};
 ghost use Rattle.draid_heal.specs.Arms.{AreRooms, FitSpots, FitsRoom, FlushedOn, HealsArm, HealsArms, IsRoomOf, ListsArms, Puts, failed_if, landed_if, rows_for};
 ghost use Rattle.draid_heal.specs.Rows.{FailsOn, ListsRows};
 
@@ -60,7 +61,7 @@ fn heal_arm<R: Rack>(
     requires into { length into.old ≡ rows.size }
     requires room { IsRowRoom rows.count part.old }
     requires failed { vec_len failed.old + (2 * rows.count + 1) ≤ vec_capacity failed.old }
-    ensures heals { TellsBoth (R.told rack.old) (R.told rack.new) (HealsArm rows column.now part.new.written.items part.new.landed.items failed.new.items) }
+    ensures heals { OnBothTold (R.told rack.old) (R.told rack.new) (HealsArm rows column.now part.new.written.items part.new.landed.items failed.new.items) }
     ensures lists { ListsRows rows clean rows.count part.new.written.items part.new.landed.items failed.new.items }
     ensures fails { FailsOn rows.leaf failed.old.items failed.new.items }
     ensures counts { (first : Option ℕ → ℕ) → CountsFailed failed.old.items first (R.faults rack.old) → CountsFailed failed.new.items first (R.faults rack.new) }
@@ -103,7 +104,7 @@ pub(crate) fn heal_arms<R: Rack>(
     requires few { extent.count < 2 ^ 32 }
     requires long { column_len block.now.cut (length block.now.bytes) ≡ extent.count * extent.size }
     requires room { FitsRoom extent.count extent.size room.old }
-    ensures heals { TellsBoth (R.told rack.old) (R.told rack.new) (HealsArms extent.count extent.size room.old.spots.items room.new.patched.items block.now.columns (length room.old.spots.items) room.new.failed.items) }
+    ensures heals { OnBothTold (R.told rack.old) (R.told rack.new) (HealsArms extent.count extent.size room.old.spots.items room.new.patched.items block.now.columns (length room.old.spots.items) room.new.failed.items) }
     ensures lists { ListsArms extent.count extent.size room.old.spots.items room.new.patched.items (length room.old.spots.items) room.new.failed.items }
     ensures counts { CountsFailed room.new.failed.items (R.faults rack.old) (R.faults rack.new) }
     ensures shape { R.shape rack.new ≡ R.shape rack.old }

@@ -1,8 +1,8 @@
 //! A restored block lands.
 ghost use Rattle.std.specs.Prelude.{◌≡◌, ◌+◌, ◌*◌, ◌<◌, ◌^◌, length, true, false};
 ghost use Rattle.draid_block.specs.Blocks.{column_len};
-ghost use Rattle.draid_columns.specs.Columns.{TellsBoth};
 ghost use Rattle.draid_shard.specs.Calls.{CountsFailed};
+ghost use Rattle.draid_rack.specs.Rack.{OnBothTold};
 ghost use Rattle.draid_heal.specs.Arms.{FitSpots, FitsRoom, ListsArms};
 ghost use Rattle.draid_heal.specs.Settle.{AreFine};
 ghost use Rattle.draid_heal.specs.Stands.{LandsRows};
@@ -26,7 +26,7 @@ pub(crate) fn land_block<R: Rack>(
     requires few { extent.count < 2 ^ 32 }
     requires long { column_len block.now.cut (length block.now.bytes) ≡ extent.count * extent.size }
     requires room { FitsRoom extent.count extent.size room.old }
-    ensures lands { TellsBoth (R.told rack.old) (R.told rack.new) (LandsRows extent.count extent.size room.old.spots.items room.new.patched.items block.now.columns room.new.failed.items result) }
+    ensures lands { OnBothTold (R.told rack.old) (R.told rack.new) (LandsRows extent.count extent.size room.old.spots.items room.new.patched.items block.now.columns room.new.failed.items result) }
     ensures lists { ListsArms extent.count extent.size room.old.spots.items room.new.patched.items (length room.old.spots.items) room.new.failed.items }
     ensures yes { result ≡ true → (answered ≡ true) × AreFine room.old.spots.items room.new.failed.items }
     ensures no { result ≡ false → (answered ≡ true) → AreFine room.old.spots.items room.new.failed.items → ⊥ }
@@ -46,5 +46,8 @@ fn is_whole(answered: bool, spots: &[Spot], failed: &[u64]) -> bool
     ensures yes { result ≡ true → (answered ≡ true) × AreFine spots.now failed.now }
     ensures no { result ≡ false → (answered ≡ true) → AreFine spots.now failed.now → ⊥ }
 {
-    answered && are_fine(spots, failed)
+    if !answered {
+        return false;
+    }
+    are_fine(spots, failed)
 }

@@ -4,14 +4,8 @@
 
 mod arms;
 mod block;
-mod landing;
 mod laws;
-mod loans;
+mod losing;
 mod row;
 mod rows;
 mod settle;
-mod solving;
-
-pub use landing::land;
-pub use loans::lend;
-pub use solving::solve;

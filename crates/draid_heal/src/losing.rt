@@ -65,7 +65,7 @@ fn misses(slots: &Slots, rows: ColumnRows, arm: u32, failed: &[u64]) -> bool
 }
 
 /// Whether a list has a leaf.
-fn is_among(leaves: &[u64], leaf: u64) -> bool
+pub(crate) fn is_among(leaves: &[u64], leaf: u64) -> bool
     ensures { result ≡ list_any (λ other. other == leaf) leaves.now }
 {
     leaves.iter().any(|other| *other == leaf)

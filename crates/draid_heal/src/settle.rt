@@ -1,27 +1,29 @@
 //! A whole landing ends the harm of what it put right.
-ghost use Rattle.std.specs.Prelude.{◌≡◌, ◌+◌, ◌*◌, ◌≤◌, ◌<◌, ◌^◌, ℕ, Bool, List, Option, Some, length, slice_get, true, false};
-ghost use Rattle.draid_columns.specs.Columns.{HasRows, TellsBoth};
+ghost use Rattle.std.specs.Prelude.{◌≡◌, ◌==◌, ◌+◌, ◌*◌, ◌≤◌, ◌<◌, ◌^◌, ℕ, Bool, List, Option, Some, length, slice_get, true, false};
+ghost use Rattle.draid_columns.specs.Columns.{HasRows};
+ghost use Rattle.std.specs.List.{list_any};
 ghost use Rattle.draid_machine.specs.Names.{has_number};
-ghost use Rattle.draid_rack.specs.Rack.{OnTold, Told};
+ghost use Rattle.draid_rack.specs.Rack.{OnBothTold, OnTold, Told};
 ghost use Rattle.draid_heal.specs.Arms.{rows_for};
 ghost use Rattle.draid_heal.specs.Settle.{AreFine, FirmArms, SettlesUpto};
 ghost use Rattle.draid_heal.specs.Stands.{SettlesArms, is_settled_row};
 
 use crate::arms::Extent;
+use crate::losing::is_among;
 use draid_machine::Patched;
 use draid_rack::Rack;
 use draid_shard::Spot;
 
-/// Whether a list of leaves has one.
+/// Whether a call failed on a leaf.
 fn has_failed(failed: &[u64], leaf: u64) -> bool
     ensures { result ≡ has_number failed.now leaf }
 {
-    failed.iter().any(|other| *other == leaf)
+    is_among(failed, leaf)
 }
 
 /// Whether a list of rows has one.
 fn has_row(rows: &[u32], row: u32) -> bool
-    ensures { result ≡ has_number rows.now row }
+    ensures { result ≡ list_any (λ other. other == row) rows.now }
 {
     rows.iter().any(|other| *other == row)
 }
@@ -46,7 +48,7 @@ pub(crate) fn settle_arms<R: Rack>(rack: &mut R, spots: &[Spot], patched: &[Patc
     requires few { extent.count < 2 ^ 32 }
     requires same { length patched.now ≡ length spots.now }
     requires firm { OnTold (R.told rack.old) (FirmArms extent.count spots.now patched.now) }
-    ensures settles { TellsBoth (R.told rack.old) (R.told rack.new) (SettlesArms extent.count spots.now patched.now true) }
+    ensures settles { OnBothTold (R.told rack.old) (R.told rack.new) (SettlesArms extent.count spots.now patched.now true) }
     ensures shape { R.shape rack.new ≡ R.shape rack.old }
     ensures later { (who : Option ℕ) → R.faults rack.old who ≤ R.faults rack.new who }
 {
@@ -62,7 +64,7 @@ fn settle_arm<R: Rack>(rack: &mut R, spots: &[Spot], patched: &[Patched], extent
     requires same { length patched.now ≡ length spots.now }
     requires less { i < length spots.now }
     requires firm { OnTold (R.told rack.old) (FirmArms extent.count spots.now patched.now) }
-    ensures settles { (start : Option Told) → TellsBoth start (R.told rack.old) (SettlesUpto extent.count spots.now patched.now i 0) → TellsBoth start (R.told rack.new) (SettlesUpto extent.count spots.now patched.now (i + 1) 0) }
+    ensures settles { (start : Option Told) → OnBothTold start (R.told rack.old) (SettlesUpto extent.count spots.now patched.now i 0) → OnBothTold start (R.told rack.new) (SettlesUpto extent.count spots.now patched.now (i + 1) 0) }
     ensures firm { OnTold (R.told rack.new) (FirmArms extent.count spots.now patched.now) }
     ensures shape { R.shape rack.new ≡ R.shape rack.old }
     ensures later { (who : Option ℕ) → R.faults rack.old who ≤ R.faults rack.new who }
@@ -87,7 +89,7 @@ fn settle_row<R: Rack>(
     requires less { i < length spots.now }
     requires row { row < extent.count }
     requires firm { OnTold (R.told rack.old) (FirmArms extent.count spots.now patched.now) }
-    ensures settles { (start : Option Told) → TellsBoth start (R.told rack.old) (SettlesUpto extent.count spots.now patched.now i row) → TellsBoth start (R.told rack.new) (SettlesUpto extent.count spots.now patched.now i (row + 1)) }
+    ensures settles { (start : Option Told) → OnBothTold start (R.told rack.old) (SettlesUpto extent.count spots.now patched.now i row) → OnBothTold start (R.told rack.new) (SettlesUpto extent.count spots.now patched.now i (row + 1)) }
     ensures firm { OnTold (R.told rack.new) (FirmArms extent.count spots.now patched.now) }
     ensures shape { R.shape rack.new ≡ R.shape rack.old }
     ensures later { (who : Option ℕ) → R.faults rack.old who ≤ R.faults rack.new who }
