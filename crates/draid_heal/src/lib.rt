@@ -7,6 +7,7 @@ mod block;
 mod landing;
 mod laws;
 mod loans;
+mod losing;
 mod row;
 mod rows;
 mod settle;
