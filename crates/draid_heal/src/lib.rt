@@ -4,8 +4,10 @@
 
 mod arms;
 mod block;
+mod kept;
 mod laws;
 mod losing;
 mod row;
 mod rows;
 mod settle;
+mod spots;

@@ -25,5 +25,5 @@ pub(crate) fn list_spots<R: Rack, A: Area>(
     ensures answered { IsTrue result ↔ CleanAnswer (part_of shard.now) shard.now.slots pointer.now }
     ensures capacity { vec_capacity spots.new ≡ vec_capacity spots.old }
 {
-    todo!()
+    unreachable!()
 }
