@@ -1,8 +1,8 @@
 -- The parts of which a row landed are as many as the arms that the state machine says were rewritten.
-use Rattle.std.proofs.Common.{arith, ◌≡◌, ◌==◌, ◌+◌, ◌<◌, ◌≤◌, ◌⊎◌, ◌&&◌, ◌||◌, ◌∙◌, ℕ, zero, suc, Bool, true, false, List, [], ◌∷◌, Option, Some, refl, sym, ap, ap₂, subst, inl, inr, length, slice_get, if◌then◌else◌}
+use Rattle.std.proofs.Common.{arith, ◌≡◌, ◌==◌, ◌+◌, ◌<◌, ◌≤◌, ◌⊎◌, ◌&&◌, ◌||◌, not, ◌∙◌, ℕ, zero, suc, Bool, true, false, List, [], ◌∷◌, Option, Some, refl, sym, ap, ap₂, subst, inl, inr, length, slice_get, get_or, take, if◌then◌else◌}
 use Rattle.std.specs.Prelude.{cond, count_by}
 use Rattle.std.proofs.lemmas.Bool.{cases_lt}
-use Rattle.std.proofs.lemmas.List.Sums.{sum_by-append}
+use Rattle.std.proofs.lemmas.List.Sums.{count_by_more_no, count_by_more_yes, sum_by-append}
 use Rattle.draid_machine.specs.After.{has_landed, rewritten}
 use Rattle.draid_machine.specs.Fitting.{IsOnce}
 use Rattle.draid_machine.specs.Names.{any_below, has_name, has_number, name_eq}
@@ -56,6 +56,16 @@ one_more p q n b same own none (x ∷ xs) once =
         let u : one_if (p x) ≡ one_if (q x) = ap one_if (same x e) in
         let w : part_if (name_eq x n || has_name xs n) b ≡ part_if (has_name xs n) b = ap (λ t. part_if (t || has_name xs n) b) (other_name n x e) in
         omega (arith, u, w, ih)
+
+differs : (a b : ℕ) → (a ≡ b → ⊥) → (a == b) ≡ false
+differs a b out = elim (bool_cases (a == b)) [
+  | inl is ↦ absurd (out (is_equal a b is))
+  | inr e ↦ e
+]
+
+pub has_rows_is : (rows : List ℕ) → not (length rows == 0) ≡ has_rows rows
+has_rows_is [] = refl
+has_rows_is (r ∷ rows) = ap not (differs (length (r ∷ rows)) 0 (λ e. omega (arith, e)))
 
 -- ---- rows below a bound
 any_none : (n : ℕ) (f : ℕ → Bool) → ((r : ℕ) → f r ≡ false) → any_below n f ≡ false
@@ -130,12 +140,6 @@ module _ (l : machine.Layout) (q : machine.Core) (h : Held) (once : (slot : ℕ)
         own : any_below h.stripes (has_landed (d ∷ ds) d.column d.arm) ≡ is_rewritten d
         own = ap (any_below h.stripes) (λ i r. same r i) ∙ any_rows d.landed.items h.stripes (λ r has. are.rows 0 d r refl has)
 
-    differs : (a b : ℕ) → (a ≡ b → ⊥) → (a == b) ≡ false
-    differs a b out = elim (bool_cases (a == b)) [
-      | inl is ↦ absurd (out (is_equal a b is))
-      | inr e ↦ e
-    ]
-
     before : (n : ℕ) → n ≤ d.column → rewritten l q h (d ∷ ds) n ≡ rewritten l q h ds n
     before zero low = refl
     before (suc c) low = ap₂ (λ a b. a + b) (before c (omega (arith, low))) (other_column c (differs d.column c (λ e. omega (arith, e, low))))
@@ -161,3 +165,12 @@ module _ (l : machine.Layout) (q : machine.Core) (h : Held) (once : (slot : ℕ)
   rewritten_same a b same zero = refl
   rewritten_same a b same (suc c) =
       ap₂ (λ x y. x + y) (rewritten_same a b same c) (λ i. count_by (λ n. any_below h.stripes (λ r. same c n r i)) (order c))
+
+-- ---- they are counted
+pub one_counted : (parts : List Patched) (i : ℕ) (part : Patched) → i < length parts → part ≡ get_or parts i part → is_rewritten part ≡ true
+    → count_by is_rewritten (take (i + 1) parts) ≡ count_by is_rewritten (take i parts) + 1
+one_counted parts i part less is e = count_by_more_yes is_rewritten parts i part less (ap is_rewritten (sym is) ∙ e)
+
+pub none_counted : (parts : List Patched) (i : ℕ) (part : Patched) → i < length parts → part ≡ get_or parts i part → is_rewritten part ≡ false
+    → count_by is_rewritten (take (i + 1) parts) ≡ count_by is_rewritten (take i parts)
+none_counted parts i part less is e = count_by_more_no is_rewritten parts i part less (ap is_rewritten (sym is) ∙ e)

@@ -5,7 +5,7 @@ ghost use Rattle.draid_machine.specs.After.{capped};
 ghost use Rattle.draid_slots.specs.Table.{IsTable};
 ghost use Rattle.draid_shard.specs.Loans.{IsLandingRoom, IsLentBlock};
 ghost use Rattle.draid_shard.specs.Part.{IsRun};
-ghost use Rattle.draid_heal.specs.Lands.{LandsOr, LandsRestored, is_noted, is_rewritten};
+ghost use Rattle.draid_heal.specs.Lands.{LandsOr, LandsRestored, has_rows, is_noted, is_rewritten};
 ghost use Rattle.draid_heal.specs.Spots.{IsLaid};
 
 use crate::arms::Extent;
@@ -85,7 +85,7 @@ fn count_rewritten(parts: &[Patched]) -> u64
 {
     let mut count = 0;
     for part in parts {
-        if !part.landed.is_empty() {
+        if is_rewritten(part) {
             count += 1;
         }
     }
@@ -96,7 +96,29 @@ fn count_rewritten(parts: &[Patched]) -> u64
 fn keep_noted(parts: &mut Vec<Patched>)
     ensures { parts.new.items ≡ filter is_noted parts.old.items }
 {
-    parts.retain(|part| !part.written.is_empty());
+    parts.retain(|part| is_noted(part));
+}
+
+/// Whether a row was written on an arm.
+fn is_noted(part: &Patched) -> bool
+    ensures { result ≡ is_noted part.now }
+{
+    has_rows(&part.written)
+}
+
+/// Whether a row landed on one.
+fn is_rewritten(part: &Patched) -> bool
+    ensures { result ≡ is_rewritten part.now }
+{
+    has_rows(&part.landed)
+}
+
+/// Whether a list has any.
+#[tactic(auto, using(crate::proofs::Rewritten::has_rows_is))]
+fn has_rows(rows: &[u32]) -> bool
+    ensures { result ≡ has_rows rows.now }
+{
+    !rows.is_empty()
 }
 
 /// So many errors more. Their number stands still at the last.

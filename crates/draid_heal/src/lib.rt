@@ -4,16 +4,10 @@
 
 mod arms;
 mod block;
-mod landing;
+mod kept;
 mod laws;
-mod loans;
 mod losing;
 mod row;
 mod rows;
 mod settle;
-mod solving;
 mod spots;
-
-pub use landing::land;
-pub use loans::lend;
-pub use solving::solve;
