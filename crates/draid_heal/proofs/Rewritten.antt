@@ -93,7 +93,7 @@ module _ (l : machine.Layout) (q : machine.Core) (h : Held) (once : (slot : ℕ)
   abbrev counted : List Patched → ℕ → ℕ
   counted parts c = count_by (λ n. any_below h.stripes (has_landed parts c n)) (order c)
 
-  none_rewritten : (n : ℕ) → rewritten l q h [] n ≡ 0
+  pub none_rewritten : (n : ℕ) → rewritten l q h [] n ≡ 0
   none_rewritten zero = refl
   none_rewritten (suc c) = ap₂ (λ a b. a + b) (none_rewritten c) (by (order c))
     where

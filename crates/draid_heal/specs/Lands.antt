@@ -32,6 +32,11 @@ use Rattle.draid_heal.specs.Settle.{AreFine}
 use Rattle.draid_heal.specs.Spots.{CleanAnswer, SpotsOf}
 use Rattle.draid_heal.specs.Stands.{LandsRows}
 
+-- the loan is a block's
+abbrev pub IsBlockLoan : KeptLoan → Type 0
+IsBlockLoan (Stripe lent) = ⊥
+IsBlockLoan (Block lent) = Unit {0}
+
 -- ---- what is noted of an arm
 
 abbrev pub has_rows : List ℕ → Bool

@@ -5,6 +5,7 @@
 mod arms;
 mod block;
 mod kept;
+mod landing;
 mod laws;
 mod losing;
 mod row;
