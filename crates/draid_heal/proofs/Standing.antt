@@ -57,7 +57,7 @@ written_part (d ∷ ds) c n r at = elim (either_true ((d.column == c) && name_eq
   | inr other ↦ next_part d ds (λ p. p.written.items) c n r (written_part ds c n r other)
 ]
 
-landed_part : (patched : List Patched) (c : ℕ) (n : ArmName) (r : ℕ) → has_landed patched c n r ≡ true → IsPart patched (λ p. p.landed.items) c n r
+pub landed_part : (patched : List Patched) (c : ℕ) (n : ArmName) (r : ℕ) → has_landed patched c n r ≡ true → IsPart patched (λ p. p.landed.items) c n r
 landed_part [] c n r at = absurd (cc)
 landed_part (d ∷ ds) c n r at = elim (either_true ((d.column == c) && name_eq d.arm n && has_number d.landed.items r) (has_landed ds c n r) at) [
   | inl own ↦ this_part d ds (λ p. p.landed.items) c n r own
@@ -85,7 +85,7 @@ part_landed (d ∷ ds) zero part r at has = let same : d ≡ part = some_same (S
 part_landed (d ∷ ds) (suc k) part r at has =
     true_right ((d.column == part.column) && name_eq d.arm part.arm && has_number d.landed.items r) (has_landed ds part.column part.arm r) (part_landed ds k part r at has)
 
-there_is : {A : Type 0} (xs : List A) (k : ℕ) → k < length xs → (a : A) × (slice_get xs k ≡ Some a)
+pub there_is : {A : Type 0} (xs : List A) (k : ℕ) → k < length xs → (a : A) × (slice_get xs k ≡ Some a)
 there_is [] k less = absurd (omega (arith, less))
 there_is (y ∷ ys) zero less = (y, refl)
 there_is (y ∷ ys) (suc k) less = there_is ys k (omega (arith, less))
