@@ -1,5 +1,5 @@
 -- What a landing comes to: the shard behind it, and its event.
-use Rattle.std.proofs.Common.{arith, ◌≡◌, ◌+◌, ◌++◌, ◌∷◌, not, ◌∙◌, [], ℕ, Bool, true, false, List, Option, None, Some, Vec, Global, refl, sym, ap, subst, length}
+use Rattle.std.proofs.Common.{◌≡◌, ◌+◌, ◌++◌, ◌∷◌, not, ◌∙◌, [], ℕ, Bool, true, false, List, Option, None, Some, Vec, Global, refl, sym, ap, subst, length}
 use Rattle.std.specs.Prelude.{IfSome, IsSomeAnd, is_none, is_some}
 use Rattle.draid_block.specs.Blocks.{BlockValue}
 use Rattle.draid_rack.specs.Rack.{OnBothTold}
@@ -25,7 +25,6 @@ use Rattle.draid_shard.specs.Calls.{CountsFailed}
 use Rattle.draid_shard.specs.Changes.{KeepsBlocks}
 use Rattle.draid_shard.specs.Columns.{ArePieces}
 use Rattle.draid_shard.specs.Fits.{Valid}
-use Rattle.draid_shard.specs.Lends.{GoesOnAt}
 use Rattle.draid_shard.specs.Loans.{block_loan}
 use Rattle.draid_shard.specs.States.{IsIn, Leads, layout_by, part_of}
 use Rattle.draid_shard.specs.declared.loan.KeptLoan.{KeptLoan}
@@ -139,7 +138,7 @@ module _ {R A : Type 0} (rack : Ghosts R) (old : Shard R A) (v : Valid rack old)
       acts = λ pieces w after step reached is writes. subst (λ b. (step : Step (layout_by old) w (LandBlock pass.number lent.serial gone parts b) after)
           → OnBothTold (rack.told old.rack) (rack.told new.rack) (Acts (layout_by old) w (LandBlock pass.number lent.serial gone parts b) after step pieces)) (sym readable)
           (restored_acts rack old v pass there runs lent kept_there here w reached is o k new left block.columns patched failed repaired s pieces
-            (subst (λ (o : Option BlockValue). IfSome o (λ (b : BlockValue). ArePieces old.geometry.props.sector old.geometry.g lent.pointer.stripes b.columns (key_of lent.pointer) pieces)) is_restored writes) after) step;
+          (subst (λ (o : Option BlockValue). IfSome o (λ (b : BlockValue). ArePieces old.geometry.props.sector old.geometry.g lent.pointer.stripes b.columns (key_of lent.pointer) pieces)) is_restored writes) after) step;
       told = λ w reached is. told_is rack old v pass there runs lent kept_there here w reached is o k new left block.columns patched failed repaired s;
     }
 

@@ -7,8 +7,14 @@ mod block;
 mod kept;
 mod landing;
 mod laws;
+mod loans;
 mod losing;
 mod row;
 mod rows;
 mod settle;
+mod solving;
 mod spots;
+
+pub use landing::land;
+pub use loans::lend;
+pub use solving::solve;

@@ -1,6 +1,5 @@
 use Rattle.std.proofs.Common.{◌≡◌, ◌+◌, ◌∙◌, ℕ, Option, ap, ap₂, subst, sym}
 use Rattle.std.specs.Prelude.{IfSome, IsSomeAnd, is_none}
-use Rattle.draid_block.specs.Blocks.{BlockValue}
 use Rattle.draid_pass.specs.declared.pass.Pass.{Pass}
 use Rattle.draid_shard.specs.Loans.{IsKept, IsLentBlock}
 use Rattle.draid_shard.specs.declared.loan.KeptLoan.{KeptLoan}
@@ -35,8 +34,8 @@ returns-clause-valid g c =
     = ap₂ (λ (a b : ℕ). a + b) (ap (λ (x : LentBlock). x.pointer.first) rest) (c.from.ensures ∙ ap (λ (x : LentBlock). x.pointer.stripes) rest) in
     let base = record c.args.shard.now { pass = c.take.new.self; kept = c.take-2.new.self } in
     let lands = subst (λ ds. LandsOr g.R.Rack base c.land_kept-rewritten.new.shard c.in-Some.pass c.land_kept-rewritten.new.pass c.block_in-lent.result.pointer c.block_in-lent.result.restored ds c.numbers_in.result.items c.land_kept-rewritten.result) (sym c.parts_in.ensures)
-        (subst (λ xs. LandsOr g.R.Rack base c.land_kept-rewritten.new.shard c.in-Some.pass c.land_kept-rewritten.new.pass c.block_in-lent.result.pointer c.block_in-lent.result.restored c.land_kept-rewritten.new.lent.room.patched.items xs c.land_kept-rewritten.result) (sym c.numbers_in.ensures)
-        c.land_kept-rewritten.ensures.lands) in
+    (subst (λ xs. LandsOr g.R.Rack base c.land_kept-rewritten.new.shard c.in-Some.pass c.land_kept-rewritten.new.pass c.block_in-lent.result.pointer c.block_in-lent.result.restored c.land_kept-rewritten.new.lent.room.patched.items xs c.land_kept-rewritten.result) (sym c.numbers_in.ensures)
+    c.land_kept-rewritten.ensures.lands) in
     let e = c.add.ensures in
     final_valid g.R.Rack c.args.shard.now c.requires.valid c.in-Some.pass there (subst (λ (o : Option Pass). IsSomeAnd o IsRunningScrub) there c.requires.running) c.block_in-lent.result kept
     (here_is c.args.shard.now c.block_in-lent.result kept c.requires.here) c.take.new.self c.take-2.new.self c.take-2.ensures.after c.land_kept-rewritten.new.shard c.land_kept-rewritten.new.pass c.numbers_in.result c.parts_in.result
@@ -52,8 +51,8 @@ returns-clause-lands g c =
     = ap₂ (λ (a b : ℕ). a + b) (ap (λ (x : LentBlock). x.pointer.first) rest) (c.from.ensures ∙ ap (λ (x : LentBlock). x.pointer.stripes) rest) in
     let base = record c.args.shard.now { pass = c.take.new.self; kept = c.take-2.new.self } in
     let lands = subst (λ ds. LandsOr g.R.Rack base c.land_kept-rewritten.new.shard c.in-Some.pass c.land_kept-rewritten.new.pass c.block_in-lent.result.pointer c.block_in-lent.result.restored ds c.numbers_in.result.items c.land_kept-rewritten.result) (sym c.parts_in.ensures)
-        (subst (λ xs. LandsOr g.R.Rack base c.land_kept-rewritten.new.shard c.in-Some.pass c.land_kept-rewritten.new.pass c.block_in-lent.result.pointer c.block_in-lent.result.restored c.land_kept-rewritten.new.lent.room.patched.items xs c.land_kept-rewritten.result) (sym c.numbers_in.ensures)
-        c.land_kept-rewritten.ensures.lands) in
+    (subst (λ xs. LandsOr g.R.Rack base c.land_kept-rewritten.new.shard c.in-Some.pass c.land_kept-rewritten.new.pass c.block_in-lent.result.pointer c.block_in-lent.result.restored c.land_kept-rewritten.new.lent.room.patched.items xs c.land_kept-rewritten.result) (sym c.numbers_in.ensures)
+    c.land_kept-rewritten.ensures.lands) in
     final_lands g.R.Rack c.args.shard.now c.requires.valid c.in-Some.pass there (subst (λ (o : Option Pass). IsSomeAnd o IsRunningScrub) there c.requires.running) c.block_in-lent.result kept
     (here_is c.args.shard.now c.block_in-lent.result kept c.requires.here) c.take.new.self c.take-2.new.self c.take-2.ensures.after c.land_kept-rewritten.new.shard c.land_kept-rewritten.new.pass c.numbers_in.result c.parts_in.result
     c.land_kept-rewritten.result at at_is c.add.new.self lands
@@ -69,8 +68,8 @@ returns-clause-keeps g c =
     = ap₂ (λ (a b : ℕ). a + b) (ap (λ (x : LentBlock). x.pointer.first) rest) (c.from.ensures ∙ ap (λ (x : LentBlock). x.pointer.stripes) rest) in
     let base = record c.args.shard.now { pass = c.take.new.self; kept = c.take-2.new.self } in
     let lands = subst (λ ds. LandsOr g.R.Rack base c.land_kept-rewritten.new.shard c.in-Some.pass c.land_kept-rewritten.new.pass c.block_in-lent.result.pointer c.block_in-lent.result.restored ds c.numbers_in.result.items c.land_kept-rewritten.result) (sym c.parts_in.ensures)
-        (subst (λ xs. LandsOr g.R.Rack base c.land_kept-rewritten.new.shard c.in-Some.pass c.land_kept-rewritten.new.pass c.block_in-lent.result.pointer c.block_in-lent.result.restored c.land_kept-rewritten.new.lent.room.patched.items xs c.land_kept-rewritten.result) (sym c.numbers_in.ensures)
-        c.land_kept-rewritten.ensures.lands) in
+    (subst (λ xs. LandsOr g.R.Rack base c.land_kept-rewritten.new.shard c.in-Some.pass c.land_kept-rewritten.new.pass c.block_in-lent.result.pointer c.block_in-lent.result.restored c.land_kept-rewritten.new.lent.room.patched.items xs c.land_kept-rewritten.result) (sym c.numbers_in.ensures)
+    c.land_kept-rewritten.ensures.lands) in
     final_keeps g.R.Rack c.args.shard.now c.requires.valid c.in-Some.pass there (subst (λ (o : Option Pass). IsSomeAnd o IsRunningScrub) there c.requires.running) c.block_in-lent.result kept
     (here_is c.args.shard.now c.block_in-lent.result kept c.requires.here) c.take.new.self c.take-2.new.self c.take-2.ensures.after c.land_kept-rewritten.new.shard c.land_kept-rewritten.new.pass c.numbers_in.result c.parts_in.result
     c.land_kept-rewritten.result at at_is c.add.new.self lands
@@ -85,8 +84,8 @@ returns-clause-moves g c =
     = ap₂ (λ (a b : ℕ). a + b) (ap (λ (x : LentBlock). x.pointer.first) rest) (c.from.ensures ∙ ap (λ (x : LentBlock). x.pointer.stripes) rest) in
     let base = record c.args.shard.now { pass = c.take.new.self; kept = c.take-2.new.self } in
     let lands = subst (λ ds. LandsOr g.R.Rack base c.land_kept-rewritten.new.shard c.in-Some.pass c.land_kept-rewritten.new.pass c.block_in-lent.result.pointer c.block_in-lent.result.restored ds c.numbers_in.result.items c.land_kept-rewritten.result) (sym c.parts_in.ensures)
-        (subst (λ xs. LandsOr g.R.Rack base c.land_kept-rewritten.new.shard c.in-Some.pass c.land_kept-rewritten.new.pass c.block_in-lent.result.pointer c.block_in-lent.result.restored c.land_kept-rewritten.new.lent.room.patched.items xs c.land_kept-rewritten.result) (sym c.numbers_in.ensures)
-        c.land_kept-rewritten.ensures.lands) in
+    (subst (λ xs. LandsOr g.R.Rack base c.land_kept-rewritten.new.shard c.in-Some.pass c.land_kept-rewritten.new.pass c.block_in-lent.result.pointer c.block_in-lent.result.restored c.land_kept-rewritten.new.lent.room.patched.items xs c.land_kept-rewritten.result) (sym c.numbers_in.ensures)
+    c.land_kept-rewritten.ensures.lands) in
     final_moves g.R.Rack c.args.shard.now c.requires.valid c.in-Some.pass there (subst (λ (o : Option Pass). IsSomeAnd o IsRunningScrub) there c.requires.running) c.block_in-lent.result kept
     (here_is c.args.shard.now c.block_in-lent.result kept c.requires.here) c.take.new.self c.take-2.new.self c.take-2.ensures.after c.land_kept-rewritten.new.shard c.land_kept-rewritten.new.pass c.numbers_in.result c.parts_in.result
     c.land_kept-rewritten.result at at_is c.add.new.self lands
@@ -101,8 +100,8 @@ returns-clause-none g c =
     = ap₂ (λ (a b : ℕ). a + b) (ap (λ (x : LentBlock). x.pointer.first) rest) (c.from.ensures ∙ ap (λ (x : LentBlock). x.pointer.stripes) rest) in
     let base = record c.args.shard.now { pass = c.take.new.self; kept = c.take-2.new.self } in
     let lands = subst (λ ds. LandsOr g.R.Rack base c.land_kept-rewritten.new.shard c.in-Some.pass c.land_kept-rewritten.new.pass c.block_in-lent.result.pointer c.block_in-lent.result.restored ds c.numbers_in.result.items c.land_kept-rewritten.result) (sym c.parts_in.ensures)
-        (subst (λ xs. LandsOr g.R.Rack base c.land_kept-rewritten.new.shard c.in-Some.pass c.land_kept-rewritten.new.pass c.block_in-lent.result.pointer c.block_in-lent.result.restored c.land_kept-rewritten.new.lent.room.patched.items xs c.land_kept-rewritten.result) (sym c.numbers_in.ensures)
-        c.land_kept-rewritten.ensures.lands) in
+    (subst (λ xs. LandsOr g.R.Rack base c.land_kept-rewritten.new.shard c.in-Some.pass c.land_kept-rewritten.new.pass c.block_in-lent.result.pointer c.block_in-lent.result.restored c.land_kept-rewritten.new.lent.room.patched.items xs c.land_kept-rewritten.result) (sym c.numbers_in.ensures)
+    c.land_kept-rewritten.ensures.lands) in
     final_none g.R.Rack c.args.shard.now c.requires.valid c.in-Some.pass there (subst (λ (o : Option Pass). IsSomeAnd o IsRunningScrub) there c.requires.running) c.block_in-lent.result kept
     (here_is c.args.shard.now c.block_in-lent.result kept c.requires.here) c.take.new.self c.take-2.new.self c.take-2.ensures.after c.land_kept-rewritten.new.shard c.land_kept-rewritten.new.pass c.numbers_in.result c.parts_in.result
     c.land_kept-rewritten.result at at_is c.add.new.self lands
