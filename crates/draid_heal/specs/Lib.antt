@@ -2,6 +2,7 @@ pub mod Arms
 pub mod Lands
 pub mod Loans
 pub mod Losing
+pub mod Reading
 pub mod Restoring
 pub mod Row
 pub mod Rows

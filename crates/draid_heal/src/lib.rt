@@ -4,10 +4,12 @@
 
 mod arms;
 mod block;
+mod choosing;
 mod landing;
 mod laws;
 mod loans;
 mod losing;
+mod reading;
 mod row;
 mod rows;
 mod settle;
