@@ -101,10 +101,10 @@ module _ (count : ℕ) (spots : List Spot) (patched : List Patched) where
         | inr here ↦ elim (cases_lt r row) [
           | inl earlier ↦ calm s.leaf (s.first + r) (was.ended k r s p at at_part low is (inr (here.0, earlier)))
           | inr high ↦ (let up = here.1 in let same : row ≡ r = omega (arith, high, up) in
-                let spot_is : spot ≡ s = some_same (slice_get spots k) spot s (ap (slice_get spots) here.0 ∙ there) at in
-                let part_is : part ≡ p = some_same (slice_get patched k) part p (ap (slice_get patched) here.0 ∙ noted) at_part in
-                let was_is : is_settled_row spot part row ≡ true = subst (λ (s : Spot). is_settled_row s part row ≡ true) (sym spot_is) (subst (λ (p : Patched). is_settled_row s p row ≡ true) (sym part_is) (subst (λ r. is_settled_row s p r ≡ true) (sym same) is)) in
-                subst (λ (s : Spot). z.harmed s.leaf (s.first + r) ≡ false) spot_is (subst (λ r. z.harmed spot.leaf (spot.first + r) ≡ false) same (own was_is)))
+              let spot_is : spot ≡ s = some_same (slice_get spots k) spot s (ap (slice_get spots) here.0 ∙ there) at in
+              let part_is : part ≡ p = some_same (slice_get patched k) part p (ap (slice_get patched) here.0 ∙ noted) at_part in
+              let was_is : is_settled_row spot part row ≡ true = subst (λ (s : Spot). is_settled_row s part row ≡ true) (sym spot_is) (subst (λ (p : Patched). is_settled_row s p row ≡ true) (sym part_is) (subst (λ r. is_settled_row s p r ≡ true) (sym same) is)) in
+              subst (λ (s : Spot). z.harmed s.leaf (s.first + r) ≡ false) spot_is (subst (λ r. z.harmed spot.leaf (spot.first + r) ≡ false) same (own was_is)))
         ]
       ];
     }

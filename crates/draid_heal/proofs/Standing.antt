@@ -266,9 +266,9 @@ module _ (l : machine.Layout) (q : machine.Core) (h : Held) (size : ℕ) (spots 
       settled : (s : Segment) → whole ≡ true → is_settled l q n h patched s ≡ true → harmed_at l h s z ≡ false
       settled s w at = elim (either_true (is_on_clean l q n h s) (has_healed l q n h patched s) at) [
         | inl clean ↦ (let c = cleaned s w clean in harm_then s c.at c.on
-              (settles.ended w c.at.k s.row c.at.spot c.at.part c.at.there c.at.noted c.on.row (true_left c.at.spot.clean (has_number c.at.part.landed.items s.row) c.clean)))
+            (settles.ended w c.at.k s.row c.at.spot c.at.part c.at.there c.at.noted c.on.row (true_left c.at.spot.clean (has_number c.at.part.landed.items s.row) c.clean)))
         | inr landed ↦ (let c = landing s landed in harm_then s c.part.at c.on
-              (settles.ended w c.part.at.k s.row c.part.at.spot c.part.at.part c.part.at.there c.part.at.noted c.on.row (true_right c.part.at.spot.clean (has_number c.part.at.part.landed.items s.row) c.part.has)))
+            (settles.ended w c.part.at.k s.row c.part.at.spot c.part.at.part c.part.at.there c.part.at.noted c.on.row (true_right c.part.at.spot.clean (has_number c.part.at.part.landed.items s.row) c.part.has)))
       ]
 
       lies_it : (leaf sector : ℕ) → heals.named leaf sector ≡ true → LiesThere l h (is_written l q n h patched) leaf sector
@@ -298,9 +298,9 @@ module _ (l : machine.Layout) (q : machine.Core) (h : Held) (size : ℕ) (spots 
           let noted : Noted at.spot.column at.spot.arm = record { k = at.k; spot = at.spot; part = at.part; there = at.there; noted = at.noted; column_is = refl; arm_is = refl } in
           let is : is_settled l q n h patched s ≡ true = elim (either_true at.spot.clean (has_number at.part.landed.items at.r) at.is) [
             | inl clean ↦ true_left (is_on_clean l q n h s) (has_healed l q n h patched s) (true_three (key_eq n.key n.key) (is_on l q.order s h) (is_clean q h.birth at.spot.arm) (key_refl n.key)
-                  on (sym spot.clean ∙ clean))
+                on (sym spot.clean ∙ clean))
             | inr landed ↦ true_right (is_on_clean l q n h s) (has_healed l q n h patched s) (true_three (key_eq n.key n.key) (is_on l q.order s h) (has_landed patched at.spot.column at.spot.arm at.r) (key_refl n.key)
-                  on (landed_it at.spot.column at.spot.arm at.r noted landed))
+                on (landed_it at.spot.column at.spot.arm at.r noted landed))
           ] in
           record {
             s = s;
@@ -333,5 +333,14 @@ pub lands : (l : machine.Layout) (w : machine.State) (p : machine.Pass) (n : mac
     → Counts w pass serial p n h → p.kind ≡ Heal → AreSpots l w.core h spots → (whole ≡ true → IsWhole l w.core h failed) → (whole ≡ false → IsWhole l w.core h failed → ⊥)
     → ListsArms h.stripes size spots patched (length spots) failed → LandBlockStep l w pass serial failed patched false (land_block_state l w p n h failed patched false whole)
 lands l w p n h pass serial size spots patched failed whole counts kind are is_whole not_whole lists = record {
-  p = p; n = n; h = h; whole = whole; counts = counts; heal = kind; lands = patches l w.core h size spots patched failed are lists; is_whole = is_whole; not_whole = not_whole; made = refl;
+  p = p;
+  n = n;
+  h = h;
+  whole = whole;
+  counts = counts;
+  heal = kind;
+  lands = patches l w.core h size spots patched failed are lists;
+  is_whole = is_whole;
+  not_whole = not_whole;
+  made = refl;
 }
