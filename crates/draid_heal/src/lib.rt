@@ -4,11 +4,14 @@
 
 mod arms;
 mod block;
+mod choosing;
 mod kept;
 mod landing;
 mod laws;
 mod loans;
 mod losing;
+mod reading;
+mod rooms;
 mod row;
 mod rows;
 mod settle;

@@ -15,7 +15,7 @@ use draid_rack::Rack;
 use draid_shard::Spot;
 
 /// Whether a call failed on a leaf.
-fn has_failed(failed: &[u64], leaf: u64) -> bool
+pub(crate) fn has_failed(failed: &[u64], leaf: u64) -> bool
     ensures { result ≡ has_number failed.now leaf }
 {
     is_among(failed, leaf)
