@@ -4,6 +4,7 @@ pub mod Loans
 pub mod Losing
 pub mod Reading
 pub mod Restoring
+pub mod Rooms
 pub mod Row
 pub mod Rows
 pub mod Settle

@@ -10,6 +10,7 @@ mod laws;
 mod loans;
 mod losing;
 mod reading;
+mod rooms;
 mod row;
 mod rows;
 mod settle;

@@ -30,20 +30,20 @@ returns-then-not-is_reading-clause-reads g c =
 pub unreachable-requires : goal.unreachable-requires
 unreachable-requires g c =
     let z = own_buffer c.args.extent.count c.args.extent.size c.args.spots.now c.requires.spots.apart (g.R.Rack.told c.args.rack.now) c.args.i _ (slice_get-get_or c.args.spots.now c.args.i _ c.requires.less)
-        c.args.lent.now.columns.items c.args.lent.now.failed.items c.requires.before true (sym c.is_reading.ensures ∙ c.if-not-is_reading.false) in
+    c.args.lent.now.columns.items c.args.lent.now.failed.items c.requires.before true (sym c.is_reading.ensures ∙ c.if-not-is_reading.false) in
     c.in_default.not-Some z.0 (some_same _ c.take_column.result (Some z.0) c.take_column.ensures.taken z.1)
 
 pub read_noted-done-requires-clause-long : goal.read_noted-done-requires-clause-long
 read_noted-done-requires-clause-long g c =
     let z = own_buffer c.args.extent.count c.args.extent.size c.args.spots.now c.requires.spots.apart (g.R.Rack.told c.args.rack.now) c.args.i _ (slice_get-get_or c.args.spots.now c.args.i _ c.requires.less)
-        c.args.lent.now.columns.items c.args.lent.now.failed.items c.requires.before true (sym c.is_reading.ensures ∙ c.if-not-is_reading.false) in
+    c.args.lent.now.columns.items c.args.lent.now.failed.items c.requires.before true (sym c.is_reading.ensures ∙ c.if-not-is_reading.false) in
     buffer_long (c.args.extent.count * c.args.extent.size) _ c.take_column.result c.in-Some.bytes z c.take_column.ensures.taken c.in-Some.is ∙ ap (λ (rows : Rows). rows.count * rows.size) (sym c.rows_of-rows.ensures)
 
 pub returns-clause-reads : goal.returns-clause-reads
 returns-clause-reads g c =
     let e = c.read_noted-done.ensures in
     let z = own_buffer c.args.extent.count c.args.extent.size c.args.spots.now c.requires.spots.apart (g.R.Rack.told c.args.rack.now) c.args.i _ (slice_get-get_or c.args.spots.now c.args.i _ c.requires.less)
-        c.args.lent.now.columns.items c.args.lent.now.failed.items c.requires.before true (sym c.is_reading.ensures ∙ c.if-not-is_reading.false) in
+    c.args.lent.now.columns.items c.args.lent.now.failed.items c.requires.before true (sym c.is_reading.ensures ∙ c.if-not-is_reading.false) in
     let long = buffer_long (c.args.extent.count * c.args.extent.size) _ c.take_column.result c.in-Some.bytes z c.take_column.ensures.taken c.in-Some.is in
     reads_own c.args.extent.count c.args.extent.size c.args.spots.now c.requires.spots.apart (g.R.Rack.told c.args.rack.now) c.args.i _ (slice_get-get_or c.args.spots.now c.args.i _ c.requires.less)
     c.args.lent.now.columns.items c.args.lent.now.failed.items c.requires.before c.read_noted-done.result (sym c.is_reading.ensures ∙ c.if-not-is_reading.false)
