@@ -5,6 +5,7 @@
 mod arms;
 mod block;
 mod choosing;
+mod kept;
 mod landing;
 mod laws;
 mod loans;
