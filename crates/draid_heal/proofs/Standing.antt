@@ -2,13 +2,12 @@
 use Rattle.std.proofs.Common.{arith, ◌≡◌, ◌==◌, ◌+◌, ◌-◌, ◌<◌, ◌≤◌, ◌&&◌, ◌∷◌, ◌∙◌, [], ℕ, zero, suc, Bool, true, false, List, Some, refl, sym, ap, subst, inl, inr, length, slice_get}
 use Rattle.std.specs.Prelude.{nat_le, nat_lt}
 use Rattle.draid_columns.specs.Columns.{row_of}
-use Rattle.draid_names.specs.declared.pass_kind.PassKind.TheVariants.{Heal}
-use Rattle.draid_machine.specs.After.{has_healed, has_landed, is_written, land_block_state, was_written}
+use Rattle.draid_machine.specs.After.{has_healed, has_landed, is_written, was_written}
 use Rattle.draid_machine.specs.Arms.{answers, fails, is_clean, leaf_answers, leaf_at, lies, passes}
 use Rattle.draid_machine.specs.Claims.{is_on}
 use Rattle.draid_machine.specs.Names.{has_name, has_number, key_eq, name_eq}
 use Rattle.draid_machine.specs.State as machine
-use Rattle.draid_machine.specs.Step.{Counts, IsWhole, LandBlockStep, Patches}
+use Rattle.draid_machine.specs.Step.{IsWhole, Patches}
 use Rattle.draid_machine.specs.declared.event.Patched.{Patched}
 use Rattle.draid_machine.specs.declared.names.ArmName.{ArmName}
 use Rattle.draid_machine.specs.declared.names.Held.{Held}
@@ -326,19 +325,3 @@ module _ (l : machine.Layout) (q : machine.Core) (h : Held) (size : ℕ) (spots 
         clean_reads = λ s w at. let c = cleaned s w at in reads_then s c.at c.key c.on ((stands s.column s.arm c.at).reads s.row c.on.row c.fine);
         settled_harm = settled;
       }
-
-pub lands : (l : machine.Layout) (w : machine.State) (p : machine.Pass) (n : machine.Loan) (h : Held) (pass serial size : ℕ) (spots : List Spot) (patched : List Patched) (failed : List ℕ) (whole : Bool)
-    → Counts w pass serial p n h → p.kind ≡ Heal → AreSpots l w.core h spots → (whole ≡ true → IsWhole l w.core h failed) → (whole ≡ false → IsWhole l w.core h failed → ⊥)
-    → ListsArms h.stripes size spots patched (length spots) failed → LandBlockStep l w pass serial failed patched false (land_block_state l w p n h failed patched false whole)
-lands l w p n h pass serial size spots patched failed whole counts kind are is_whole not_whole lists = record {
-  p = p;
-  n = n;
-  h = h;
-  whole = whole;
-  counts = counts;
-  heal = kind;
-  lands = patches l w.core h size spots patched failed are lists;
-  is_whole = is_whole;
-  not_whole = not_whole;
-  made = refl;
-}

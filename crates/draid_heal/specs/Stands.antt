@@ -68,6 +68,3 @@ pub record LandsRows (count size : ℕ) (spots : List Spot) (patched : List Patc
   pub y : Told
   pub heals : HealsArms count size spots patched columns (length spots) failed x y
   pub settles : SettlesArms count spots patched whole y z
-
-abbrev pub LandsBlock : ℕ → Held → List Spot → List Patched → List (List ℕ) → List ℕ → Bool → Told → Told → Type 0
-LandsBlock size h spots patched columns failed whole x z = LandsRows h.stripes size spots patched columns failed whole x z

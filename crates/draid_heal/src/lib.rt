@@ -7,7 +7,6 @@ mod block;
 mod choosing;
 mod kept;
 mod landing;
-mod laws;
 mod loans;
 mod losing;
 mod reading;
