@@ -147,12 +147,7 @@ fn make_room<R: Rack, A: Area>(
 }
 
 /// Lends a block, for which there is room.
-fn lend_block<R: Rack, A: Area>(
-    shard: &mut Shard<R, A>,
-    entry: Entry,
-    stripe: u64,
-    room: LendRoom,
-)
+fn lend_block<R: Rack, A: Area>(shard: &mut Shard<R, A>, entry: Entry, stripe: u64, room: LendRoom)
     requires valid { Valid R.Rack shard.old }
     requires running { IsSomeAnd shard.old.pass IsRunningScrub }
     requires unit { IsUnit shard.old entry stripe }
@@ -177,7 +172,9 @@ fn lend_block<R: Rack, A: Area>(
     let extent = extent_of(&shard.slots, &pointer);
     read_spots(&mut shard.rack, &room.spots, extent, &mut lent);
     let Readings {
-        columns, failed, ..
+        columns,
+        failed,
+        ..
     } = lent;
     name_chosen(&room.spots, &failed, shard.geometry.g, &mut chosen);
     name_read(&room.spots, &failed, &mut read);

@@ -22,12 +22,7 @@ pub(crate) struct Readings {
 }
 
 /// Reads each arm of a block that answers.
-pub(crate) fn read_spots<R: Rack>(
-    rack: &mut R,
-    spots: &[Spot],
-    extent: Extent,
-    lent: &mut Readings,
-)
+pub(crate) fn read_spots<R: Rack>(rack: &mut R, spots: &[Spot], extent: Extent, lent: &mut Readings)
     requires spots { FitSpots (R.shape rack.old) extent.count extent.size (length lent.old.columns.items) spots.now }
     requires rest { ReadsSpots extent.count extent.size spots.now 0 (R.told rack.old) lent.old.columns.items lent.old.failed.items }
     requires none { lent.old.failed.items ≡ [] }
@@ -45,13 +40,7 @@ pub(crate) fn read_spots<R: Rack>(
 }
 
 /// Reads the next one.
-fn read_next<R: Rack>(
-    rack: &mut R,
-    spots: &[Spot],
-    i: usize,
-    extent: Extent,
-    lent: &mut Readings,
-)
+fn read_next<R: Rack>(rack: &mut R, spots: &[Spot], i: usize, extent: Extent, lent: &mut Readings)
     requires spots { FitSpots (R.shape rack.old) extent.count extent.size (length lent.old.columns.items) spots.now }
     requires less { i < length spots.now }
     requires before { ReadsSpots extent.count extent.size spots.now i (R.told rack.old) lent.old.columns.items lent.old.failed.items }
@@ -92,12 +81,7 @@ fn rows_of(spot: Spot, extent: Extent) -> Rows
 }
 
 /// Reads rows into a buffer, and notes their leaf where a call fails. Whether none did.
-fn read_noted<R: Rack>(
-    rack: &mut R,
-    rows: Rows,
-    bytes: &mut Vec<u8>,
-    failed: &mut Vec<u64>,
-) -> bool
+fn read_noted<R: Rack>(rack: &mut R, rows: Rows, bytes: &mut Vec<u8>, failed: &mut Vec<u64>) -> bool
     requires there { HasRows (R.shape rack.old) rows }
     requires long { length bytes.old.items ≡ rows.count * rows.size }
     requires room { vec_len failed.old < vec_capacity failed.old }

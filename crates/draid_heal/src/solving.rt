@@ -1,14 +1,14 @@
 //! The block that a scrub has lent is restored from its readings.
-ghost use Rattle.std.specs.Prelude.{◌≡◌, ℕ, IsSome, List, None, OnErr, OnOk};
+ghost use Rattle.std.specs.Prelude.{◌≡◌, ℕ, IfSome, IsSome, List, None, OnErr, OnOk};
 ghost use Rattle.draid_block.specs.Blocks.{cut_of};
 ghost use Rattle.draid_block.specs.Solving.{IsFetched, IsReadable};
 ghost use Rattle.draid_shard.specs.Fits.{Valid};
 ghost use Rattle.draid_shard.specs.States.{DoesNone};
 ghost use Rattle.draid_spec.specs.Geometry.{IsGeometry};
-ghost use Rattle.draid_heal.specs.Restoring.{AnswersBlock, RestoresLoan, StaysLent, fetched_of};
+ghost use Rattle.draid_heal.specs.Restoring.{AnswersBlock, HasColumnsOf, RestoresLoan, StaysLent, fetched_of};
 
 use draid_area::Area;
-use draid_block::{Fetched, SolveFault, restore};
+use draid_block::{Encoded, Fetched, SolveFault, restore};
 use draid_names::NoMemory;
 use draid_rack::Rack;
 use draid_shard::{KeptLoan, LentBlock, Shard};
@@ -45,6 +45,7 @@ fn restore_lent(alloc: Global, geometry: &Geometry, lent: &mut LentBlock) -> Res
     ensures rest { lent.new ≡ record lent.old { restored = lent.new.restored } }
     ensures answers { OnOk result (AnswersBlock geometry.now (fetched_of lent.old) lent.new.restored) }
     ensures readable { OnOk result ((w bad : List ℕ) → IsReadable (cut_of geometry.now) (fetched_of lent.old) w bad → IsSome lent.new.restored) }
+    ensures cut { OnOk result (IfSome lent.new.restored HasColumnsOf) }
     ensures none { OnErr result (lent.new.restored ≡ None) }
 {
     let fetched = Fetched {
@@ -57,6 +58,7 @@ fn restore_lent(alloc: Global, geometry: &Geometry, lent: &mut LentBlock) -> Res
     lent.restored = None;
     match restored {
         Ok(block) => {
+            tell_columns(&block);
             lent.restored = Some(block);
             Ok(())
         }
@@ -65,4 +67,11 @@ fn restore_lent(alloc: Global, geometry: &Geometry, lent: &mut LentBlock) -> Res
             SolveFault::NoMemory => Err(NoMemory),
         },
     }
+}
+
+/// The columns of a restored block are those of its bytes.
+fn tell_columns(block: &Encoded)
+    ensures { HasColumnsOf block.now }
+{
+    block.digest();
 }

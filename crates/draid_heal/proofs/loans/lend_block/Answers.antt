@@ -56,11 +56,11 @@ returns-clause-valid g c =
     let added = c.add_asked.ensures in
     let size : c.extent_of-extent.result.size ≡ shard.geometry.props.sector = x.size ∙ ap (λ (y : Geometry). y.props.sector) c.requires.valid.slots.geometry_is in
     let reads : ReadsSpots stripes shard.geometry.props.sector spots (length spots) told columns.items failed.items =
-        subst (λ n. ReadsSpots stripes n spots (length spots) told columns.items failed.items) size
-        (subst (λ n. ReadsSpots n c.extent_of-extent.result.size spots (length spots) told columns.items failed.items) x.count
-        (subst (λ (list : List Spot). ReadsSpots c.extent_of-extent.result.count c.extent_of-extent.result.size list (length list) told columns.items failed.items) c.deref.ensures.value e.reads)) in
+    subst (λ n. ReadsSpots stripes n spots (length spots) told columns.items failed.items) size
+    (subst (λ n. ReadsSpots n c.extent_of-extent.result.size spots (length spots) told columns.items failed.items) x.count
+    (subst (λ (list : List Spot). ReadsSpots c.extent_of-extent.result.count c.extent_of-extent.result.size list (length list) told columns.items failed.items) c.deref.ensures.value e.reads)) in
     let counted_is : c.count_errors.new.pass ≡ option_map (counted (length failed.items)) shard.pass =
-        c.count_errors.ensures ∙ ap (λ n. option_map (counted n) shard.pass) (let long = c.len.ensures in let ok = failed.ok.0 in let same : c.len.result ≡ length failed.items = omega (arith, long, ok) in same) in
+    c.count_errors.ensures ∙ ap (λ n. option_map (counted n) shard.pass) (let long = c.len.ensures in let ok = failed.ok.0 in let same : c.len.result ≡ length failed.items = omega (arith, long, ok) in same) in
     subst (λ (o : Option Pass). Valid g.R.Rack (record shard {
       rack = c.read_spots.new.rack;
       serial = shard.serial + 1;
@@ -87,11 +87,11 @@ returns-clause-unit g c =
     let added = c.add_asked.ensures in
     let size : c.extent_of-extent.result.size ≡ shard.geometry.props.sector = x.size ∙ ap (λ (y : Geometry). y.props.sector) c.requires.valid.slots.geometry_is in
     let reads : ReadsSpots stripes shard.geometry.props.sector spots (length spots) told columns.items failed.items =
-        subst (λ n. ReadsSpots stripes n spots (length spots) told columns.items failed.items) size
-        (subst (λ n. ReadsSpots n c.extent_of-extent.result.size spots (length spots) told columns.items failed.items) x.count
-        (subst (λ (list : List Spot). ReadsSpots c.extent_of-extent.result.count c.extent_of-extent.result.size list (length list) told columns.items failed.items) c.deref.ensures.value e.reads)) in
+    subst (λ n. ReadsSpots stripes n spots (length spots) told columns.items failed.items) size
+    (subst (λ n. ReadsSpots n c.extent_of-extent.result.size spots (length spots) told columns.items failed.items) x.count
+    (subst (λ (list : List Spot). ReadsSpots c.extent_of-extent.result.count c.extent_of-extent.result.size list (length list) told columns.items failed.items) c.deref.ensures.value e.reads)) in
     let counted_is : c.count_errors.new.pass ≡ option_map (counted (length failed.items)) shard.pass =
-        c.count_errors.ensures ∙ ap (λ n. option_map (counted n) shard.pass) (let long = c.len.ensures in let ok = failed.ok.0 in let same : c.len.result ≡ length failed.items = omega (arith, long, ok) in same) in
+    c.count_errors.ensures ∙ ap (λ n. option_map (counted n) shard.pass) (let long = c.len.ensures in let ok = failed.ok.0 in let same : c.len.result ≡ length failed.items = omega (arith, long, ok) in same) in
     subst (λ (o : Option Pass). LendsBlock g.R.Rack shard (record shard {
       rack = c.read_spots.new.rack;
       serial = shard.serial + 1;
