@@ -1,5 +1,5 @@
 -- No two arms of a block that answer lie on one leaf, by the slots alone.
-use Rattle.std.proofs.Common.{arith, ◌≡◌, ◌+◌, ◌*◌, ◌<◌, ◌≤◌, ◌⊎◌, ◌∙◌, ℕ, zero, suc, Bool, true, false, List, [], ◌∷◌, Option, Some, None, refl, sym, ap, subst, inl, inr, length, slice_get, if◌then◌else◌}
+use Rattle.std.proofs.Common.{arith, ◌≡◌, ◌+◌, ◌*◌, ◌<◌, ◌≤◌, ◌⊎◌, ◌∙◌, ℕ, zero, suc, List, [], ◌∷◌, Option, Some, None, refl, sym, ap, subst, inl, inr, length, slice_get, if◌then◌else◌}
 use Rattle.std.specs.Prelude.{option_map, slice_index_or}
 use Rattle.std.proofs.lemmas.Bool.{cases_lt}
 use Rattle.std.proofs.lemmas.Option.{slice_get-get_or, slice_get_within}
@@ -16,16 +16,14 @@ use Rattle.draid_chain.specs.Chain.{holder_in}
 use Rattle.draid_chain.proofs.Holders.{holder_no_column, holders_same}
 use Rattle.draid_layouts.specs.Layout.{pool_stripe, slice_in}
 use Rattle.draid_machine.specs.Names.{named}
-use Rattle.draid_machine.specs.declared.names.ArmName.{ArmName}
-use Rattle.draid_machine.specs.declared.names.ArmName.TheVariants.{Leaf}
-use Rattle.draid_machine.proofs.Small.{none_some, some_same}
+use Rattle.draid_machine.proofs.Small.{some_same}
 use Rattle.draid_slots.specs.Changes.{IsOf}
-use Rattle.draid_slots.specs.Reading.{first_leaf, holder, holder_of, pool_slice, spare_slot}
+use Rattle.draid_slots.specs.Reading.{first_leaf, holder_of, pool_slice, spare_slot}
 use Rattle.draid_slots.specs.States.{name_of}
 use Rattle.draid_slots.specs.Table.{IsTable, SlotTable, arm_at, arms_of, first_spare, first_spares, is_leaf_kind, is_spare_kind}
 use Rattle.draid_shard.specs.Fits.{NamesOnce}
 use Rattle.draid_shard.specs.Part.{IsPart, Part, layout_in}
-use Rattle.draid_shard.specs.Rows.{arm_no, leaf_on}
+use Rattle.draid_shard.specs.Rows.{arm_no}
 use Rattle.draid_shard.specs.declared.loan.Spot.{Spot}
 use Rattle.draid_shard.proofs.Homes.{child_below, has_column, slice_follows}
 use Rattle.draid_heal.specs.Arms.{AreLeavesApart}
@@ -205,5 +203,5 @@ module _ (part : Part) (is : IsPart part) (slots : SlotTable) (of : IsOf slots p
       let y = right.each j b there in
       let place = places a.column x.k b.column y.k b.leaf x.column y.column (subst (LiesIn a.column x.k) same (lies_in a x)) (lies_in b y) in
       let arm : x.arm ≡ y.arm = some_same (arm_at slots (arm_no (rows_at part pointer b.column) y.k)) x.arm y.arm
-          (sym (λ n. arm_at slots (arm_no (rows_at part pointer (place.0 n)) (place.1 n))) ∙ x.there) y.there in
+      (sym (λ n. arm_at slots (arm_no (rows_at part pointer (place.0 n)) (place.1 n))) ∙ x.there) y.there in
       right.once i j a b at there place.0 (sym x.arm_is ∙ ap name_of arm ∙ y.arm_is)

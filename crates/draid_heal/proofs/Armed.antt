@@ -1,11 +1,10 @@
 -- A restored block's column was put right on one more arm.
-use Rattle.std.proofs.Common.{arith, ◌≡◌, ◌==◌, ◌+◌, ◌*◌, ◌<◌, ◌≤◌, ◌&&◌, ◌||◌, ◌++◌, ◌∷◌, ◌∙◌, ◌⊎◌, [], ℕ, zero, suc, Bool, true, false, List, Option, Some, None, refl, sym, ap, subst, inl, inr, length, slice_get, Vec, Global}
+use Rattle.std.proofs.Common.{arith, ◌≡◌, ◌+◌, ◌*◌, ◌<◌, ◌≤◌, ◌||◌, ◌++◌, ◌∷◌, ◌∙◌, [], ℕ, zero, suc, Bool, true, false, List, Option, Some, None, refl, sym, ap, subst, inl, inr, length, slice_get, Vec, Global}
 use Rattle.std.specs.Prelude.{slice_index_or, vec_len}
 use Rattle.std.proofs.lemmas.Option.{slice_get-get_or}
 use Rattle.std.proofs.lemmas.Bool.{cases_lt}
 use Rattle.std.proofs.lemmas.Bool.Decides.{nat_tests}
 use Rattle.std.proofs.lemmas.List.{length-append}
-use Rattle.draid_columns.specs.Columns.{row_of}
 use Rattle.draid_columns.specs.declared.rows.Rows.{Rows}
 use Rattle.draid_machine.specs.Names.{has_number}
 use Rattle.draid_machine.specs.declared.event.Patched.{Patched}
@@ -18,7 +17,7 @@ use Rattle.draid_heal.specs.Arms.{AreLeavesApart, AreRooms, FlushedOn, HealsArm,
 use Rattle.draid_heal.specs.Rows.{FailsOn, HealsRows, ListsRows, in_those}
 use Rattle.draid_shard.specs.Loans.{IsRowRoom}
 use Rattle.draid_shard.specs.declared.loan.Spot.{Spot}
-use Rattle.draid_heal.proofs.Healing.{either_false, fails_one, fewer, last_has}
+use Rattle.draid_heal.proofs.Healing.{either_false, fails_one, last_has}
 
 -- ---- an arm and its flush
 own_leaf : (leaf s : ℕ) (y : Told) → (flushes leaf y).soft leaf s ≡ false
@@ -137,9 +136,14 @@ module _ (count size : ℕ) (spots : List Spot) (patched : List Patched) (column
     lies : (m s : ℕ) → named m s ≡ true → WroteAt count size spots (patched ++ part ∷ []) (i + 1) m s
     lies m s at = elim (either_true (was.named m s) (in_those rows part.written.items m s) at) [
       | inl old ↦ (let w = was.lies m s old in record {
-          k = w.k; spot = w.spot; part = w.part; below = (let less = w.below in omega (arith, less)); there = w.there;
-          noted = earlier w.k w.below ∙ w.noted; written = w.written;
-        })
+        k = w.k;
+        spot = w.spot;
+        part = w.part;
+        below = (let less = w.below in omega (arith, less));
+        there = w.there;
+        noted = earlier w.k w.below ∙ w.noted;
+        written = w.written;
+      })
       | inr own ↦ record { k = i; spot = spot; part = part; below = omega arith; there = there; noted = here i refl; written = own }
     ]
 
@@ -147,12 +151,12 @@ module _ (count size : ℕ) (spots : List Spot) (patched : List Patched) (column
         → StandsArm (rows_for count size s) (column_at columns s.column) p.landed.items more z
     stands k s p less at noted = elim (cases_lt k i) [
       | inl lower ↦ stands_on (rows_for count size s) rows (column_at columns s.column) p.landed.items failed (column_at columns spot.column) part.written.items part.landed.items more y z
-            (λ same. let e = apart k i s spot at there same in absurd (omega (arith, lower, e))) (was.stands k s p lower at (sym (earlier k lower) ∙ noted)) heals fails
+          (λ same. let e = apart k i s spot at there same in absurd (omega (arith, lower, e))) (was.stands k s p lower at (sym (earlier k lower) ∙ noted)) heals fails
       | inr high ↦ (let same : k ≡ i = omega (arith, high, less) in
-            let spot_is : spot ≡ s = some_same (slice_get spots k) spot s (ap (slice_get spots) same ∙ there) at in
-            let part_is : part ≡ p = some_same (slice_get (patched ++ part ∷ []) k) part p (here k same) noted in
-            subst (λ (s : Spot). StandsArm (rows_for count size s) (column_at columns s.column) p.landed.items more z) spot_is
-            (subst (λ (p : Patched). StandsArm rows (column_at columns spot.column) p.landed.items more z) part_is heals.stands))
+          let spot_is : spot ≡ s = some_same (slice_get spots k) spot s (ap (slice_get spots) same ∙ there) at in
+          let part_is : part ≡ p = some_same (slice_get (patched ++ part ∷ []) k) part p (here k same) noted in
+          subst (λ (s : Spot). StandsArm (rows_for count size s) (column_at columns s.column) p.landed.items more z) spot_is
+          (subst (λ (p : Patched). StandsArm rows (column_at columns spot.column) p.landed.items more z) part_is heals.stands))
     ]
 
     arms_more : HealsArms count size spots (patched ++ part ∷ []) columns (i + 1) more x z
@@ -187,11 +191,11 @@ module _ (count size : ℕ) (spots : List Spot) (patched : List Patched) (column
     each = λ k s p at noted. elim (cases_lt k i) [
       | inl lower ↦ kept_lists (rows_for count size s) s p (was.each k s p at (sym (earlier k lower) ∙ noted))
       | inr high ↦ (let less = get_upto (patched ++ part ∷ []) k p noted in
-            let e : length (patched ++ part ∷ []) ≡ length patched + 1 = length-append patched (part ∷ []) in
-            let same : k ≡ i = omega (arith, high, less, e, many) in
-            let spot_is : spot ≡ s = some_same (slice_get spots k) spot s (ap (slice_get spots) same ∙ there) at in
-            let part_is : part ≡ p = some_same (slice_get (patched ++ part ∷ []) k) part p (here k same) noted in
-            subst (λ (s : Spot). ListsArm (rows_for count size s) s p more) spot_is (subst (λ (p : Patched). ListsArm rows spot p more) part_is own))
+          let e : length (patched ++ part ∷ []) ≡ length patched + 1 = length-append patched (part ∷ []) in
+          let same : k ≡ i = omega (arith, high, less, e, many) in
+          let spot_is : spot ≡ s = some_same (slice_get spots k) spot s (ap (slice_get spots) same ∙ there) at in
+          let part_is : part ≡ p = some_same (slice_get (patched ++ part ∷ []) k) part p (here k same) noted in
+          subst (λ (s : Spot). ListsArm (rows_for count size s) s p more) spot_is (subst (λ (p : Patched). ListsArm rows spot p more) part_is own))
     ];
     fail = λ leaf at. elim (bool_cases (has_number failed leaf)) [
       | inl old ↦ was.fail leaf old

@@ -1,5 +1,5 @@
 -- What a landing comes to: the shard behind it, and its event.
-use Rattle.std.proofs.Common.{arith, ◌≡◌, ◌+◌, ◌++◌, ◌∷◌, not, ◌∙◌, [], ℕ, Bool, true, false, List, Option, None, Some, Vec, Global, refl, sym, ap, subst, length}
+use Rattle.std.proofs.Common.{◌≡◌, ◌+◌, ◌++◌, ◌∷◌, not, ◌∙◌, [], ℕ, Bool, true, false, List, Option, None, Some, Vec, Global, refl, sym, ap, ap₂, subst, length}
 use Rattle.std.specs.Prelude.{IfSome, IsSomeAnd, is_none, is_some}
 use Rattle.draid_block.specs.Blocks.{BlockValue}
 use Rattle.draid_rack.specs.Rack.{OnBothTold}
@@ -25,7 +25,6 @@ use Rattle.draid_shard.specs.Calls.{CountsFailed}
 use Rattle.draid_shard.specs.Changes.{KeepsBlocks}
 use Rattle.draid_shard.specs.Columns.{ArePieces}
 use Rattle.draid_shard.specs.Fits.{Valid}
-use Rattle.draid_shard.specs.Lends.{GoesOnAt}
 use Rattle.draid_shard.specs.Loans.{block_loan}
 use Rattle.draid_shard.specs.States.{IsIn, Leads, layout_by, part_of}
 use Rattle.draid_shard.specs.declared.loan.KeptLoan.{KeptLoan}
@@ -139,7 +138,7 @@ module _ {R A : Type 0} (rack : Ghosts R) (old : Shard R A) (v : Valid rack old)
       acts = λ pieces w after step reached is writes. subst (λ b. (step : Step (layout_by old) w (LandBlock pass.number lent.serial gone parts b) after)
           → OnBothTold (rack.told old.rack) (rack.told new.rack) (Acts (layout_by old) w (LandBlock pass.number lent.serial gone parts b) after step pieces)) (sym readable)
           (restored_acts rack old v pass there runs lent kept_there here w reached is o k new left block.columns patched failed repaired s pieces
-            (subst (λ (o : Option BlockValue). IfSome o (λ (b : BlockValue). ArePieces old.geometry.props.sector old.geometry.g lent.pointer.stripes b.columns (key_of lent.pointer) pieces)) is_restored writes) after) step;
+          (subst (λ (o : Option BlockValue). IfSome o (λ (b : BlockValue). ArePieces old.geometry.props.sector old.geometry.g lent.pointer.stripes b.columns (key_of lent.pointer) pieces)) is_restored writes) after) step;
       told = λ w reached is. told_is rack old v pass there runs lent kept_there here w reached is o k new left block.columns patched failed repaired s;
     }
 
@@ -216,6 +215,22 @@ is_block old kept same z = subst (λ o. IsSomeAnd o IsBlockLoan) (sym (same ∙ 
     by (Stripe lent) here = absurd here
     by (Block lent) here = tt
 
-pub none_is : (r : Bool) (o : Option BlockValue) → is_some o ≡ not r → r ≡ is_none o
-none_is true o e = sym (ap not e)
-none_is false o e = sym (ap not e)
+-- what was kept of it changed in its room alone
+module _ (lent back : LentBlock) (rest : back ≡ record lent { room = back.room }) where
+  pub at_is_behind : (count : ℕ) → count ≡ back.pointer.stripes → back.pointer.first + count ≡ lent.pointer.first + lent.pointer.stripes
+  at_is_behind count is = ap₂ (λ (a b : ℕ). a + b) (ap (λ (x : LentBlock). x.pointer.first) rest) (is ∙ ap (λ (x : LentBlock). x.pointer.stripes) rest)
+
+  pub serial_is_kept : back.serial ≡ lent.serial
+  serial_is_kept = ap (λ (x : LentBlock). x.serial) rest
+
+  pub unread_is : (r : Bool) → is_some back.restored ≡ not r → r ≡ is_none lent.restored
+  unread_is r e = by r back.restored e ∙ ap (λ (x : LentBlock). is_none x.restored) rest
+    where
+      by : (r : Bool) (o : Option BlockValue) → is_some o ≡ not r → r ≡ is_none o
+      by true o e = sym (ap not e)
+      by false o e = sym (ap not e)
+
+  pub lands_listed : {R A : Type 0} (rack : Ghosts R) (base new : Shard R A) (pass left : Pass) (repaired : ℕ) (leaves gone : List ℕ) (listed parts : List Patched)
+      → LandsOr rack base new pass left lent.pointer lent.restored listed leaves repaired → gone ≡ leaves → parts ≡ listed → LandsOr rack base new pass left lent.pointer lent.restored parts gone repaired
+  lands_listed rack base new pass left repaired leaves gone listed parts lands xs ds =
+      subst (λ ds. LandsOr rack base new pass left lent.pointer lent.restored ds gone repaired) (sym ds) (subst (λ xs. LandsOr rack base new pass left lent.pointer lent.restored listed xs repaired) (sym xs) lands)

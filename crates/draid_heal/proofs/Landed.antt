@@ -1,5 +1,5 @@
 -- A restored block landed on all its arms.
-use Rattle.std.proofs.Common.{◌≡◌, ◌+◌, ◌∙◌, ◌||◌, ℕ, Bool, true, false, List, Option, Some, None, refl, sym, subst, inl, inr, length}
+use Rattle.std.proofs.Common.{◌+◌, ℕ, true, false, List, Option, Some, None, sym, subst, inl, inr, length}
 use Rattle.draid_machine.specs.Names.{has_number}
 use Rattle.draid_machine.specs.declared.event.Patched.{Patched}
 use Rattle.draid_machine.proofs.Small.{either_true}

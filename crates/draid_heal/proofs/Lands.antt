@@ -1,9 +1,6 @@
 -- A landing is the state machine's, and the rack does what that says.
-use Rattle.std.proofs.Common.{arith, ◌≡◌, ◌+◌, ◌<◌, ◌≤◌, ◌∙◌, ℕ, Bool, true, false, List, [], Option, None, Some, IfSome, refl, sym, ap, subst, inl, inr, length, slice_get, filter}
-use Rattle.std.specs.Prelude.{count_by, min, option_map}
-use Rattle.draid_block.specs.Blocks.{BlockValue}
-use Rattle.draid_names.specs.declared.numbers.TheConstants.{LAST_NUMBER}
-use Rattle.draid_names.specs.declared.pass_kind.PassKind.TheVariants.{Heal}
+use Rattle.std.proofs.Common.{arith, ◌≡◌, ◌+◌, ◌<◌, ◌∙◌, ℕ, Bool, true, false, List, [], Option, None, Some, IfSome, refl, sym, ap, subst, length, slice_get, filter}
+use Rattle.std.specs.Prelude.{option_map}
 use Rattle.draid_rack.specs.Rack.{OnBothTold, Told}
 use Rattle.draid_rack.specs.declared.Rack.{Ghosts}
 use Rattle.draid_machine.specs.declared.event.Patched.{Patched}
@@ -12,11 +9,11 @@ use Rattle.draid_machine.specs.declared.names.Held.{Held}
 use Rattle.draid_machine.specs.After.{capped, land_block_state, lose_targets, lost_errors, misses_block, pass_over, rewritten}
 use Rattle.draid_machine.specs.Arms.{leaf_at}
 use Rattle.draid_machine.specs.Created.{IsReached}
-use Rattle.draid_machine.specs.Names.{has_name, has_number}
+use Rattle.draid_machine.specs.Names.{has_name}
 use Rattle.draid_machine.specs.State as machine
 use Rattle.draid_machine.specs.Step.{Counts, IsWhole, LandBlockStep, Patches}
 use Rattle.draid_machine.proofs.Fitted.{every_fit}
-use Rattle.draid_machine.proofs.Small.{absurd_test, some_same}
+use Rattle.draid_machine.proofs.Small.{some_same}
 use Rattle.draid_segments.specs.Acts.{HealsBlock, LandsReadable}
 use Rattle.draid_segments.specs.Segments.{Pieces}
 use Rattle.draid_entries.specs.Maps.{held_at, key_of, staged}
@@ -34,7 +31,7 @@ use Rattle.draid_shard.specs.declared.shard.Shard.{Shard}
 use Rattle.draid_shard.proofs.Held.{key_leads}
 use Rattle.draid_shard.proofs.Homes.{lays}
 use Rattle.draid_heal.specs.Arms.{ListsArm, rows_for}
-use Rattle.draid_heal.specs.Lands.{LandsRestored, is_noted, is_rewritten}
+use Rattle.draid_heal.specs.Lands.{LandsRestored, is_noted}
 use Rattle.draid_heal.specs.Loans.{IsBlockHere, IsRunningScrub}
 use Rattle.draid_heal.specs.Stands.{AreSpots, IsSpot, LandsRows}
 use Rattle.draid_heal.proofs.Armed.{get_upto}
@@ -179,7 +176,7 @@ module _ {R A : Type 0} (rack : Ghosts R) (old : Shard R A) (v : Valid rack old)
           of_step (λ m i. (b : Bool) → (b ≡ true → IsWhole l w.core i failed) → (b ≡ false → IsWhole l w.core i failed → ⊥) → OnBothTold (rack.told old.rack) (rack.told new.rack) (LandsReadable false l w.core m i failed patched b pieces))
           failed patched false after step
           (λ b yes no. subst (λ b. OnBothTold (rack.told old.rack) (rack.told new.rack) (LandsReadable false l w.core n h failed patched b pieces)) (same_decision lands.whole b is_whole not_whole yes no)
-            (by (rack.told old.rack) (rack.told new.rack) lands.lands))
+          (by (rack.told old.rack) (rack.told new.rack) lands.lands))
           step.whole step.is_whole step.not_whole
         where
           heals : (x y : Told) → LandsRows lent.pointer.stripes size lands.spots lands.parts columns failed lands.whole x y → HealsBlock l w.core n h failed patched lands.whole pieces x y

@@ -1,5 +1,5 @@
 -- The parts of which nothing was written go: what was written and what landed stays.
-use Rattle.std.proofs.Common.{◌≡◌, ◌==◌, ◌||◌, ◌&&◌, ◌⊎◌, ◌∙◌, ℕ, zero, suc, Bool, true, false, List, [], ◌∷◌, Option, Some, refl, sym, ap, ap₂, subst, inl, inr, filter, slice_get}
+use Rattle.std.proofs.Common.{◌≡◌, ◌==◌, ◌||◌, ◌&&◌, ◌∙◌, ℕ, suc, Bool, true, false, List, [], ◌∷◌, Some, refl, sym, ap, subst, inl, inr, filter, slice_get}
 use Rattle.std.specs.Prelude.{cond}
 use Rattle.draid_machine.specs.After.{has_healed, has_landed, is_written, was_written}
 use Rattle.draid_machine.specs.Claims.{is_on}

@@ -1,8 +1,7 @@
 -- A row more was settled.
-use Rattle.std.proofs.Common.{length, drop, get_or, ◌==◌, arith, ◌≡◌, ◌+◌, ◌<◌, ◌≤◌, ◌⊎◌, ◌∙◌, ◌||◌, ℕ, Bool, true, false, List, Option, Some, None, MatchOption, option_map, refl, sym, subst, ap, inl, inr, slice_get}
+use Rattle.std.proofs.Common.{length, drop, get_or, ◌==◌, arith, ◌≡◌, ◌+◌, ◌<◌, ◌⊎◌, ◌∙◌, ◌||◌, ℕ, Bool, true, false, List, Option, Some, None, option_map, refl, sym, subst, ap, inl, inr, slice_get}
 use Rattle.std.proofs.lemmas.Bool.{cases_lt}
 use Rattle.std.proofs.lemmas.Bool.Decides.{nat_tests}
-use Rattle.draid_columns.specs.Columns.{HasRows}
 use Rattle.draid_machine.specs.declared.event.Patched.{Patched}
 use Rattle.std.proofs.lemmas.List.{at_drop_more}
 use Rattle.draid_machine.specs.Names.{has_number}
@@ -10,7 +9,6 @@ use Rattle.draid_machine.proofs.Small.{absurd_test, equal, some_same}
 use Rattle.draid_rack.specs.Moments.{ChangesOnly}
 use Rattle.draid_rack.specs.Rack.{OnBothTold, OnTold, Told, settles}
 use Rattle.draid_rack.proofs.Moments.{only_on, only_self, only_settles}
-use Rattle.draid_heal.specs.Arms.{rows_for}
 use Rattle.draid_heal.specs.Settle.{FirmArms, SettlesUpto}
 use Rattle.draid_heal.specs.Stands.{SettledAt, SettlesArms, is_settled_row}
 use Rattle.draid_shard.specs.declared.loan.Spot.{Spot}
@@ -101,10 +99,10 @@ module _ (count : ℕ) (spots : List Spot) (patched : List Patched) where
         | inr here ↦ elim (cases_lt r row) [
           | inl earlier ↦ calm s.leaf (s.first + r) (was.ended k r s p at at_part low is (inr (here.0, earlier)))
           | inr high ↦ (let up = here.1 in let same : row ≡ r = omega (arith, high, up) in
-                let spot_is : spot ≡ s = some_same (slice_get spots k) spot s (ap (slice_get spots) here.0 ∙ there) at in
-                let part_is : part ≡ p = some_same (slice_get patched k) part p (ap (slice_get patched) here.0 ∙ noted) at_part in
-                let was_is : is_settled_row spot part row ≡ true = subst (λ (s : Spot). is_settled_row s part row ≡ true) (sym spot_is) (subst (λ (p : Patched). is_settled_row s p row ≡ true) (sym part_is) (subst (λ r. is_settled_row s p r ≡ true) (sym same) is)) in
-                subst (λ (s : Spot). z.harmed s.leaf (s.first + r) ≡ false) spot_is (subst (λ r. z.harmed spot.leaf (spot.first + r) ≡ false) same (own was_is)))
+              let spot_is : spot ≡ s = some_same (slice_get spots k) spot s (ap (slice_get spots) here.0 ∙ there) at in
+              let part_is : part ≡ p = some_same (slice_get patched k) part p (ap (slice_get patched) here.0 ∙ noted) at_part in
+              let was_is : is_settled_row spot part row ≡ true = subst (λ (s : Spot). is_settled_row s part row ≡ true) (sym spot_is) (subst (λ (p : Patched). is_settled_row s p row ≡ true) (sym part_is) (subst (λ r. is_settled_row s p r ≡ true) (sym same) is)) in
+              subst (λ (s : Spot). z.harmed s.leaf (s.first + r) ≡ false) spot_is (subst (λ r. z.harmed spot.leaf (spot.first + r) ≡ false) same (own was_is)))
         ]
       ];
     }

@@ -1,5 +1,5 @@
 -- A landing is whole just where each arm that is clean for the block answered, and no call on one failed.
-use Rattle.std.proofs.Common.{◌≡◌, ◌<◌, not, ◌∙◌, ℕ, true, false, List, Option, Some, refl, sym, ap, subst, slice_get}
+use Rattle.std.proofs.Common.{◌≡◌, not, ◌∙◌, ℕ, true, List, sym, ap}
 use Rattle.std.specs.Prelude.{option_map}
 use Rattle.draid_names.specs.declared.pointer.Pointer.{Pointer}
 use Rattle.draid_machine.specs.Arms as arms
@@ -8,14 +8,13 @@ use Rattle.draid_machine.specs.Created.{IsReached}
 use Rattle.draid_machine.specs.Names.{has_name, has_number}
 use Rattle.draid_machine.specs.State as machine
 use Rattle.draid_machine.specs.Step.{IsWhole}
-use Rattle.draid_machine.specs.declared.names.ArmName.{ArmName}
 use Rattle.draid_machine.specs.declared.names.Held.{Held}
 use Rattle.draid_machine.specs.declared.names.Stage.{Stage}
 use Rattle.draid_machine.proofs.Small.{not_true}
-use Rattle.draid_entries.specs.Maps.{held_at, key_of, staged}
+use Rattle.draid_entries.specs.Maps.{held_at, staged}
 use Rattle.draid_slots.specs.Changes.{IsOf}
 use Rattle.draid_slots.specs.States.{HasSlots, name_of}
-use Rattle.draid_slots.specs.Table.{SlotTable, arm_at, arms_of, is_logged}
+use Rattle.draid_slots.specs.Table.{SlotTable, arms_of, is_logged}
 use Rattle.draid_shard.specs.Part.{IsPart, IsRun, Part, layout_in}
 use Rattle.draid_shard.specs.Rows.{answers_on, arm_no}
 use Rattle.draid_shard.specs.declared.loan.Spot.{Spot}

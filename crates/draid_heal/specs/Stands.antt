@@ -1,5 +1,5 @@
 -- A restored block landed as the state machine says.
-use Rattle.std.specs.Prelude.{◌≡◌, ◌+◌, ◌<◌, ◌||◌, ◌⊎◌, ℕ, Bool, true, false, List, Option, Some, length, slice_get}
+use Rattle.std.specs.Prelude.{◌≡◌, ◌+◌, ◌<◌, ◌||◌, ◌⊎◌, ℕ, Bool, true, false, List, Some, length, slice_get}
 use Rattle.draid_machine.specs.Arms.{answers, is_clean, leaf_answers, leaf_at}
 use Rattle.draid_machine.specs.Names.{has_name, has_number}
 use Rattle.draid_machine.specs.State as machine
@@ -8,7 +8,7 @@ use Rattle.draid_machine.specs.declared.names.ArmName.{ArmName}
 use Rattle.draid_machine.specs.declared.names.Held.{Held}
 use Rattle.draid_rack.specs.Moments.{ChangesOnly}
 use Rattle.draid_rack.specs.Rack.{Told}
-use Rattle.draid_heal.specs.Arms.{AreLeavesApart, HealsArms, ListsArms}
+use Rattle.draid_heal.specs.Arms.{AreLeavesApart, HealsArms}
 use Rattle.draid_shard.specs.declared.loan.Spot.{Spot}
 
 -- an arm of a block that answers, where the block's column begins there
@@ -68,6 +68,3 @@ pub record LandsRows (count size : ℕ) (spots : List Spot) (patched : List Patc
   pub y : Told
   pub heals : HealsArms count size spots patched columns (length spots) failed x y
   pub settles : SettlesArms count spots patched whole y z
-
-abbrev pub LandsBlock : ℕ → Held → List Spot → List Patched → List (List ℕ) → List ℕ → Bool → Told → Told → Type 0
-LandsBlock size h spots patched columns failed whole x z = LandsRows h.stripes size spots patched columns failed whole x z

@@ -68,7 +68,7 @@ fn land_restored<R: Rack, A: Area>(
 }
 
 /// How many rows a column of a pointer's block has, and the length of one.
-fn extent_of(slots: &Slots, pointer: &Pointer) -> Extent
+pub(crate) fn extent_of(slots: &Slots, pointer: &Pointer) -> Extent
     ensures count { result.count ≡ pointer.now.stripes }
     ensures size { result.size ≡ slots.now.geometry.props.sector }
     ensures sound { IsTable slots.now }
@@ -122,7 +122,7 @@ fn has_rows(rows: &[u32]) -> bool
 }
 
 /// So many errors more. Their number stands still at the last.
-fn more_errors(errors: u64, more: u64) -> u64
+pub(crate) fn more_errors(errors: u64, more: u64) -> u64
     ensures { result ≡ capped (errors + more) }
 {
     errors.saturating_add(more).min(LAST_NUMBER)

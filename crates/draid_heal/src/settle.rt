@@ -15,7 +15,7 @@ use draid_rack::Rack;
 use draid_shard::Spot;
 
 /// Whether a call failed on a leaf.
-fn has_failed(failed: &[u64], leaf: u64) -> bool
+pub(crate) fn has_failed(failed: &[u64], leaf: u64) -> bool
     ensures { result ≡ has_number failed.now leaf }
 {
     is_among(failed, leaf)
@@ -43,7 +43,12 @@ pub(crate) fn are_fine(spots: &[Spot], failed: &[u64]) -> bool
 }
 
 /// Ends the harm of the rows on clean arms, and of what landed on the others.
-pub(crate) fn settle_arms<R: Rack>(rack: &mut R, spots: &[Spot], patched: &[Patched], extent: Extent)
+pub(crate) fn settle_arms<R: Rack>(
+    rack: &mut R,
+    spots: &[Spot],
+    patched: &[Patched],
+    extent: Extent,
+)
     requires there { (k : ℕ) (spot : Spot) → slice_get spots.now k ≡ Some spot → HasRows (R.shape rack.old) (rows_for extent.count extent.size spot) }
     requires few { extent.count < 2 ^ 32 }
     requires same { length patched.now ≡ length spots.now }

@@ -1,13 +1,8 @@
-use Rattle.std.proofs.Common.{arith, ◌≡◌, ◌+◌, ◌*◌, ◌<◌, ◌≤◌, ◌∙◌, ◌++◌, ◌∷◌, [], ℕ, List, Option, Some, refl, false, sym, subst, length, slice_get}
-use Rattle.std.specs.Prelude.{slice_index_or}
-use Rattle.std.proofs.lemmas.Option.{slice_get-get_or}
-use Rattle.draid_columns.specs.Columns.{HasRows}
+use Rattle.std.proofs.Common.{arith, ◌≡◌, ◌+◌, ◌*◌, ◌∙◌, refl, subst, length}
 use Rattle.draid_columns.proofs.Written.{rows_kept}
-use Rattle.draid_machine.specs.declared.names.ArmName.TheVariants.{Leaf}
 use Rattle.draid_shard.proofs.Counts.{counts_none}
 use Rattle.draid_rack.specs.Rack.{OnBothTold}
 use Rattle.draid_heal.specs.Arms.{HealsArms, ListsArms, rows_for}
-use Rattle.draid_shard.specs.declared.loan.Spot.{Spot}
 use Rattle.draid_heal.proofs.Armed.{spot_there, arms_lists, arms_none, arms_told, lists_none, more_calls}
 use Rattle.draid_heal.proofs.arms.heal_arms.Goals as goal
 

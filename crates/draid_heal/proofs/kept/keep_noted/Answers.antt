@@ -1,6 +1,5 @@
-use Rattle.std.proofs.Common.{◌≡◌, ◌∙◌, Bool, refl, rules, filter}
+use Rattle.std.proofs.Common.{rules}
 use Rattle.std.proofs.lemmas.Fn.{filter_same}
-use Rattle.draid_machine.specs.declared.event.Patched.{Patched}
 use Rattle.draid_heal.specs.Lands.{is_noted}
 use Rattle.draid_heal.proofs.kept.keep_noted.Goals as goal
 

@@ -1,4 +1,4 @@
-use Rattle.std.proofs.Common.{◌≡◌, Option, refl, sym, subst}
+use Rattle.std.proofs.Common.{Option, refl, sym, subst}
 use Rattle.std.specs.Prelude.{IfSome}
 use Rattle.draid_block.specs.Blocks.{BlockValue}
 use Rattle.draid_shard.specs.Loans.{IsRestoredBlock}

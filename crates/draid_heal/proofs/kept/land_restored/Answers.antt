@@ -1,10 +1,9 @@
-use Rattle.std.proofs.Common.{arith, ◌≡◌, ◌+◌, ◌∙◌, ℕ, List, refl, sym, ap, subst, length, true}
+use Rattle.std.proofs.Common.{arith, ◌≡◌, ◌+◌, ◌∙◌, ℕ, List, refl, sym, ap, subst, length}
 use Rattle.std.specs.Prelude.{count_by}
 use Rattle.draid_rack.specs.Rack.{OnBothTold}
 use Rattle.draid_spec.specs.declared.layout.Geometry.{Geometry}
 use Rattle.draid_machine.specs.declared.event.Patched.{Patched}
 use Rattle.draid_machine.specs.After.{capped}
-use Rattle.draid_shard.specs.Loans.{IsLandingRoom}
 use Rattle.draid_shard.specs.States.{part_of}
 use Rattle.draid_heal.specs.Arms.{FitSpots, FitsRoom, ListsArms}
 use Rattle.draid_heal.specs.Lands.{is_rewritten}

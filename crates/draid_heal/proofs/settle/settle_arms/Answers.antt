@@ -1,9 +1,6 @@
-use Rattle.std.proofs.Common.{arith, ◌≡◌, ◌<◌, ◌∙◌, ℕ, Some, sym, length, slice_get, subst, refl}
-use Rattle.draid_columns.specs.Columns.{HasRows}
+use Rattle.std.proofs.Common.{arith, ◌∙◌, refl}
 use Rattle.draid_columns.proofs.Written.{rows_kept}
-use Rattle.draid_rack.specs.Rack.{OnBothTold}
 use Rattle.draid_heal.specs.Arms.{rows_for}
-use Rattle.draid_shard.specs.declared.loan.Spot.{Spot}
 use Rattle.draid_heal.proofs.Armed.{get_upto}
 use Rattle.draid_heal.proofs.Settled.{all_settled, none_settled}
 use Rattle.draid_heal.proofs.settle.settle_arms.Goals as goal
