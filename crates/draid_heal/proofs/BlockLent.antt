@@ -1,13 +1,10 @@
 -- A scrub's block is kept as the loan that counts: what the shard is then, and for which states it stands.
-use Rattle.std.proofs.Common.{◌≡◌, ◌↔◌, ◌++◌, ◌∷◌, ◌+◌, ◌*◌, ◌<◌, ◌≤◌, ◌∙◌, ℕ, [], List, Option, None, Some, IfSome, Bool, true, false, arith, refl, sym, ap, subst, inl, inr, length, option_map, slice_get, if◌then◌else◌}
+use Rattle.std.proofs.Common.{◌≡◌, ◌↔◌, ◌++◌, ◌∷◌, ◌+◌, ◌*◌, ◌<◌, ◌≤◌, ◌∙◌, ℕ, [], List, Option, None, Some, IfSome, Bool, true, false, arith, refl, sym, ap, subst, length, option_map, slice_get, if◌then◌else◌}
 use Rattle.std.proofs.lemmas.Bool.Decides.{nat_tests}
 use Rattle.std.specs.Prelude.{IsSomeAnd, Vec, slice_index_or, vec_capacity}
 use Rattle.std.specs.declared.alloc.Global.{Global}
 use Rattle.std.proofs.lemmas.List.{length-append}
-use Rattle.std.proofs.lemmas.Bool.{cases_lt}
 use Rattle.std.proofs.lemmas.Option.{slice_get_within}
-use Rattle.draid_names.specs.declared.pass_kind.PassKind.TheVariants.{Heal}
-use Rattle.draid_names.specs.declared.pointer.Pointer.{Pointer}
 use Rattle.draid_rack.specs.declared.Rack.{Ghosts}
 use Rattle.draid_rack.specs.Rack.{OnBothTold, OnTold, Told}
 use Rattle.draid_columns.specs.Columns.{RowsStand}
@@ -32,7 +29,7 @@ use Rattle.draid_slots.specs.States.{HoldsPass, name_of, pass_in}
 use Rattle.draid_shard.specs.Calls.{CountsFailed}
 use Rattle.draid_shard.specs.Fits.{HasLeaves, LogsHaveRoom, Valid, birth_groups, changes_for_end, is_rebuild, oldest_open, owed_for_pass}
 use Rattle.draid_shard.specs.Lends.{lend_events}
-use Rattle.draid_shard.specs.Loans.{HasFlushRoom, IsLandingRoom, IsLentBlock, block_loan, loan_in, owed_for_loan}
+use Rattle.draid_shard.specs.Loans.{HasFlushRoom, IsLandingRoom, IsLentBlock, block_loan, owed_for_loan}
 use Rattle.draid_shard.specs.Part.{IsRun}
 use Rattle.draid_shard.specs.Rows.{leaf_on, name_on, rows_on}
 use Rattle.draid_shard.proofs.Held.{key_leads}
@@ -45,7 +42,7 @@ use Rattle.draid_shard.specs.declared.loan.LentBlock.{LentBlock}
 use Rattle.draid_shard.specs.declared.loan.ReadArm.{ReadArm}
 use Rattle.draid_shard.specs.declared.loan.Spot.{Spot}
 use Rattle.draid_shard.specs.declared.shard.Shard.{Shard}
-use Rattle.draid_heal.specs.Loans.{IsBlockHere, IsRunningScrub, IsUnit, LendsBlock, ReadsLent, counted}
+use Rattle.draid_heal.specs.Loans.{IsBlockHere, IsRunningScrub, IsUnit, LendsBlock, counted}
 use Rattle.draid_heal.specs.Reading.{IsRead, ReadsSpots, chosen_of, read_of, reading_of, unless_failed}
 use Rattle.draid_heal.specs.Arms.{rows_for}
 use Rattle.draid_heal.specs.Spots.{SpotOn, SpotsOf, rows_at, spots_below}

@@ -1,5 +1,5 @@
 -- Room for one more arm, and for the readings.
-use Rattle.std.proofs.Common.{arith, ◌+◌, ◌*◌, ◌<◌, ◌≤◌, Option, ◌≡◌, ◌++◌, ◌∷◌, ◌∙◌, [], ℕ, zero, suc, List, Some, refl, subst, sym, ap, inl, inr, slice_get}
+use Rattle.std.proofs.Common.{arith, ◌*◌, ◌<◌, Option, ◌≡◌, ◌++◌, ◌∷◌, ◌∙◌, [], ℕ, zero, suc, List, Some, refl, subst, sym, ap, inl, inr, slice_get}
 use Rattle.draid_machine.specs.declared.event.Patched.{Patched}
 use Rattle.draid_machine.specs.Names.{has_number}
 use Rattle.draid_machine.proofs.Small.{absurd_test, some_same}

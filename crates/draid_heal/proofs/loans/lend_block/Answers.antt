@@ -1,4 +1,4 @@
-use Rattle.std.proofs.Common.{◌≡◌, ◌+◌, ◌*◌, ◌∙◌, ℕ, List, Option, Some, ap, arith, length, option_map, refl, subst, sym}
+use Rattle.std.proofs.Common.{◌≡◌, ◌+◌, ◌*◌, ◌∙◌, List, Option, Some, ap, arith, length, option_map, refl, subst, sym}
 use Rattle.draid_spec.specs.declared.layout.Geometry.{Geometry}
 use Rattle.draid_machine.specs.declared.event.Event.TheVariants.{Lend}
 use Rattle.draid_entries.specs.History.{owed_of}
