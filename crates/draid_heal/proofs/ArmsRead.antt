@@ -1,12 +1,12 @@
 -- One more arm of a block was read.
-use Rattle.std.proofs.Common.{◌≡◌, ◌==◌, ◌+◌, ◌*◌, ◌<◌, ◌≤◌, ◌++◌, ◌∷◌, ◌||◌, ◌∙◌, [], ℕ, zero, suc, Bool, true, false, List, Option, None, Some, arith, refl, sym, ap, subst, inl, inr, length, option_map, slice_get, if◌then◌else◌}
+use Rattle.std.proofs.Common.{◌≡◌, ◌==◌, ◌+◌, ◌*◌, ◌<◌, ◌++◌, ◌∷◌, ◌||◌, ◌∙◌, [], ℕ, zero, suc, Bool, true, false, List, Option, None, Some, arith, refl, sym, ap, subst, inl, inr, length, option_map, slice_get, if◌then◌else◌}
 use Rattle.std.specs.Prelude.{Vec, find, unwrap_or}
 use Rattle.std.specs.Option.{option_or}
 use Rattle.std.specs.declared.alloc.Global.{Global}
 use Rattle.std.proofs.lemmas.Bool.{cases_eq}
 use Rattle.draid_columns.specs.Columns.{RowsStand}
 use Rattle.draid_machine.specs.Names.{has_number}
-use Rattle.draid_machine.proofs.Small.{absurd_test, bool_cases, both_true, either_true, equal, is_equal, none_some, some_same, true_left, true_right}
+use Rattle.draid_machine.proofs.Small.{absurd_test, bool_cases, both_true, either_true, equal, is_equal, none_some, some_same, true_right}
 use Rattle.draid_rack.specs.Rack.{OnTold, Told}
 use Rattle.draid_shard.specs.declared.loan.Spot.{Spot}
 use Rattle.draid_shard.proofs.Counts.{number_more}

@@ -12,13 +12,13 @@ use Rattle.draid_machine.specs.After.{lend_state}
 use Rattle.draid_machine.specs.Arms as arms
 use Rattle.draid_machine.specs.Arms.{else_some, fails, is_clean, leaf_answers, leaf_at, logged, passes}
 use Rattle.draid_machine.specs.Created.{IsReached}
-use Rattle.draid_machine.specs.Names.{has_name, has_number, is_heal}
+use Rattle.draid_machine.specs.Names.{has_number, is_heal}
 use Rattle.draid_machine.specs.State as machine
 use Rattle.draid_machine.specs.Step as step
 use Rattle.draid_machine.specs.Step.{IsChosen, IsNext, LendStep, ReadsThere}
 use Rattle.draid_machine.specs.declared.names.ArmName.{ArmName}
 use Rattle.draid_machine.specs.declared.names.Stage.{Stage}
-use Rattle.draid_machine.proofs.Small.{absurd_test, equal, is_equal, some_same}
+use Rattle.draid_machine.proofs.Small.{absurd_test, equal, is_equal}
 use Rattle.draid_entries.specs.Maps.{held_at, key_of, staged}
 use Rattle.draid_slots.specs.Changes.{IsOf}
 use Rattle.draid_slots.specs.Reading.{holder, is_online}
@@ -32,13 +32,13 @@ use Rattle.draid_shard.specs.declared.loan.LentBlock.{LentBlock}
 use Rattle.draid_shard.specs.declared.loan.ReadArm.{ReadArm}
 use Rattle.draid_shard.specs.declared.loan.Spot.{Spot}
 use Rattle.draid_shard.specs.declared.places.ColumnRows.{ColumnRows}
-use Rattle.draid_shard.proofs.Answering.{answers_is, leaf_at_is, order_is, row_leaf}
+use Rattle.draid_shard.proofs.Answering.{answers_is, leaf_at_is, order_is}
 use Rattle.draid_heal.specs.Reading.{chosen_of, is_clean_of, is_of, read_of, reading_of, unless_failed}
-use Rattle.draid_heal.specs.Spots.{SpotsOf, rows_at, spot_if, spots_below, spots_from, spots_in}
-use Rattle.draid_heal.specs.Stands.{AreSpots, IsSpot}
+use Rattle.draid_heal.specs.Spots.{rows_at, spot_if, spots_below, spots_from, spots_in}
+use Rattle.draid_heal.specs.Stands.{AreSpots}
 use Rattle.draid_heal.proofs.ArmsRead.{reading_there}
 use Rattle.draid_heal.proofs.Straight.{straight}
-use Rattle.draid_heal.proofs.Listed.{StandFrom, columns_low, comes, spot_at, stand_behind, stand_here}
+use Rattle.draid_heal.proofs.Listed.{StandFrom, comes, spot_at, stand_behind, stand_here}
 
 -- ---- lists
 filter_append : {X : Type 0} (p : X → Bool) (xs ys : List X) → filter p (xs ++ ys) ≡ filter p xs ++ filter p ys

@@ -1,5 +1,5 @@
 -- The block of a loan was restored: the shard stands as before.
-use Rattle.std.proofs.Common.{◌≡◌, ◌+◌, ◌∙◌, ℕ, Option, None, Some, Result, IfSome, OnErr, OnOk, arith, refl, sym, ap, subst, length, option_map}
+use Rattle.std.proofs.Common.{◌≡◌, ◌∙◌, ℕ, Option, None, Some, Result, IfSome, OnErr, OnOk, arith, refl, sym, ap, subst, option_map}
 use Rattle.std.specs.Prelude.{Err, Ok}
 use Rattle.draid_names.specs.declared.fault.NoMemory.{NoMemory}
 use Rattle.draid_spec.specs.declared.layout.Geometry.{Geometry}
@@ -8,12 +8,9 @@ use Rattle.draid_block.specs.Solving.{IsFetched}
 use Rattle.draid_block.specs.declared.solve.SolveFault.{SolveFault}
 use Rattle.draid_block.specs.declared.solve.SolveFault.TheVariants.{Unreadable}
 use Rattle.draid_rack.specs.declared.Rack.{Ghosts}
-use Rattle.draid_machine.specs.State as machine
-use Rattle.draid_machine.proofs.Small.{some_same}
 use Rattle.draid_shard.specs.Fits.{Valid}
 use Rattle.draid_shard.specs.Loans.{IsKept, IsLentBlock, IsRestoredBlock, block_loan, loan_in, owed_for_loan}
-use Rattle.draid_shard.specs.States.{DoesNone, IsIn}
-use Rattle.draid_shard.specs.declared.loan.KeptLoan.{KeptLoan}
+use Rattle.draid_shard.specs.States.{DoesNone}
 use Rattle.draid_shard.specs.declared.loan.KeptLoan.TheVariants.{Block}
 use Rattle.draid_shard.specs.declared.loan.LentBlock.{LentBlock}
 use Rattle.draid_shard.specs.declared.shard.Shard.{Shard}

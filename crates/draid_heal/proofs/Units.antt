@@ -1,9 +1,8 @@
 -- The next block that is lent, and the entry that has it.
-use Rattle.std.proofs.Common.{◌≡◌, ◌<◌, ◌≤◌, ◌+◌, ◌∙◌, ℕ, true, Option, None, Some, IfNone, arith, refl, sym, ap, subst, inl, inr, max, option_map}
+use Rattle.std.proofs.Common.{◌≡◌, ◌<◌, ◌≤◌, ◌+◌, ◌∙◌, ℕ, true, Option, None, Some, arith, refl, sym, ap, subst, inl, inr, max, option_map}
 use Rattle.std.specs.Prelude.{IsSomeAnd}
 use Rattle.std.proofs.lemmas.Bool.{cases_lt}
 use Rattle.std.proofs.lemmas.Bool.Decides.{nat_tests}
-use Rattle.draid_names.specs.declared.pass_kind.PassKind.TheVariants.{Heal}
 use Rattle.draid_names.specs.declared.pointer.Pointer.{Pointer}
 use Rattle.draid_rack.specs.declared.Rack.{Ghosts}
 use Rattle.draid_machine.specs.Names.{is_block, is_heal, takes}
@@ -25,7 +24,7 @@ use Rattle.draid_shard.specs.declared.shard.Shard.{Shard}
 use Rattle.draid_shard.proofs.Held.{held_entry}
 use Rattle.draid_shard.proofs.Over.{next_of_scrub}
 use Rattle.draid_shard.proofs.Shown.{state_shown}
-use Rattle.draid_heal.specs.Loans.{HasBlockLeft, IsLeftFor, IsNextAt, IsPlaceOf, IsRunningScrub, IsUnit}
+use Rattle.draid_heal.specs.Loans.{HasBlockLeft, IsNextAt, IsPlaceOf, IsRunningScrub, IsUnit}
 
 -- the scrub that runs
 pub record HasScrub {R A : Type 0} (shard : Shard R A) : Type 0 where

@@ -1,5 +1,5 @@
 -- What a scrub reads of a block: each arm that answers; and the reading of each column that counts.
-use Rattle.std.specs.Prelude.{◌≡◌, ◌==◌, ◌*◌, ◌<◌, ◌≤◌, ◌&&◌, not, ℕ, Bool, true, false, List, Option, None, Some, Vec, filter, find, length, map, option_map, slice_get, vec_capacity, if◌then◌else◌}
+use Rattle.std.specs.Prelude.{◌≡◌, ◌==◌, ◌*◌, ◌<◌, ◌≤◌, ◌&&◌, not, ℕ, Bool, true, false, List, Option, None, Some, Vec, filter, find, length, map, slice_get, if◌then◌else◌}
 use Rattle.std.specs.Option.{option_or}
 use Rattle.std.specs.declared.alloc.Global.{Global}
 use Rattle.draid_rack.specs.Rack.{OnTold, Told}

@@ -1,5 +1,5 @@
 -- The room for a lend of a block.
-use Rattle.std.specs.Prelude.{◌≡◌, ◌*◌, ◌<◌, ◌≤◌, [], ℕ, List, Option, None, Some, Vec, length, slice_get, vec_capacity}
+use Rattle.std.specs.Prelude.{◌≡◌, ◌*◌, ◌≤◌, [], ℕ, List, Option, None, Some, Vec, length, slice_get, vec_capacity}
 use Rattle.std.specs.declared.alloc.Global.{Global}
 use Rattle.draid_names.specs.declared.pointer.Pointer.{Pointer}
 use Rattle.draid_slots.specs.Table.{SlotTable}

@@ -1,11 +1,10 @@
-use Rattle.std.proofs.Common.{◌≡◌, ◌*◌, ◌<◌, ◌∙◌, ℕ, None, Some, Option, ap, length, slice_get, subst, sym, true, false, not}
+use Rattle.std.proofs.Common.{◌*◌, ◌∙◌, None, Some, ap, subst, sym, true}
 use Rattle.std.proofs.lemmas.Option.{slice_get-get_or}
 use Rattle.draid_columns.specs.Columns.{HasRows, RowsStand}
 use Rattle.draid_columns.specs.declared.rows.Rows.{Rows}
-use Rattle.draid_machine.proofs.Small.{none_some, some_same}
+use Rattle.draid_machine.proofs.Small.{some_same}
 use Rattle.draid_rack.specs.Rack.{OnTold}
-use Rattle.draid_shard.specs.declared.loan.Spot.{Spot}
-use Rattle.draid_heal.specs.Arms.{failed_if, rows_for}
+use Rattle.draid_heal.specs.Arms.{failed_if}
 use Rattle.draid_heal.specs.Reading.{column_if}
 use Rattle.draid_heal.proofs.ArmsRead.{buffer_long, own_buffer, reads_other, reads_own, sets_twice}
 use Rattle.draid_heal.proofs.reading.read_next.Goals as goal

@@ -1,4 +1,4 @@
-use Rattle.std.specs.Prelude.{◌≡◌, ◌≤◌, vec_capacity}
+use Rattle.std.specs.Prelude.{◌≤◌, vec_capacity}
 use Rattle.draid_heal.specs.Rooms.{HasColumns}
 use Rattle.draid_heal.proofs.rooms.columns_for.Given as goal
 

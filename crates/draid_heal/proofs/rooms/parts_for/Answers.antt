@@ -1,4 +1,4 @@
-use Rattle.std.proofs.Common.{◌≡◌, ◌+◌, ◌≤◌, ◌++◌, ◌∷◌, [], ap, arith, length}
+use Rattle.std.proofs.Common.{◌∷◌, [], ap, arith, length}
 use Rattle.std.proofs.lemmas.List.{length-append}
 use Rattle.draid_heal.proofs.Roomy.{rooms_pushed}
 use Rattle.draid_heal.proofs.rooms.parts_for.Goals as goal

@@ -1,6 +1,5 @@
-use Rattle.std.proofs.Common.{◌≡◌, ◌∙◌, ap, subst, sym}
-use Rattle.std.specs.Prelude.{Err, Vec}
-use Rattle.std.specs.declared.alloc.Global.{Global}
+use Rattle.std.proofs.Common.{◌≡◌, subst, sym}
+use Rattle.std.specs.Prelude.{Err}
 use Rattle.draid_block.specs.Blocks.{cut_of}
 use Rattle.draid_block.specs.Solving.{IsReadable}
 use Rattle.draid_block.specs.declared.solve.SolveFault.TheVariants.{Unreadable}

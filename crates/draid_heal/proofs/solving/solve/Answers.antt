@@ -1,5 +1,4 @@
 use Rattle.std.proofs.Common.{◌∙◌, Some, ap, sym}
-use Rattle.draid_shard.specs.declared.loan.KeptLoan.TheVariants.{Block}
 use Rattle.draid_heal.proofs.Solved.{restored_fits, solved_none, solved_valid}
 use Rattle.draid_heal.proofs.solving.solve.Goals as goal
 
