@@ -1,6 +1,7 @@
 pub mod Arms
 pub mod Lands
 pub mod Loans
+pub mod Losing
 pub mod Restoring
 pub mod Row
 pub mod Rows

@@ -7,10 +7,12 @@ mod block;
 mod landing;
 mod laws;
 mod loans;
+mod losing;
 mod row;
 mod rows;
 mod settle;
 mod solving;
+mod spots;
 
 pub use landing::land;
 pub use loans::lend;

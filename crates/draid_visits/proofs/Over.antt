@@ -21,17 +21,18 @@ use Rattle.draid_slots.specs.States.{pass_in}
 use Rattle.draid_shard.specs.Calls.{SameAreas, SameKit, SameReserve}
 use Rattle.draid_shard.specs.Fits.{Valid}
 use Rattle.draid_shard.specs.Left.{HasNothingLeft}
+use Rattle.draid_shard.specs.Lends.{IsLendRefused, lend_events}
 use Rattle.draid_shard.specs.Loans.{loan_in}
 use Rattle.draid_shard.specs.Part.{Part, layout_in}
 use Rattle.draid_shard.specs.Rooms.{IsWornFor}
 use Rattle.draid_shard.specs.States.{DoesNone, IsIn}
 use Rattle.draid_shard.specs.declared.loan.KeptLoan.{KeptLoan}
+use Rattle.draid_shard.specs.declared.loan.LendFault.{LendFault}
+use Rattle.draid_shard.specs.declared.loan.LendFault.TheVariants as fault
 use Rattle.draid_shard.specs.declared.shard.Shard.{Shard}
 use Rattle.draid_passing.specs.Ending.{Ends}
 use Rattle.draid_passing.specs.declared.ending.Ended.{Ended}
-use Rattle.draid_mend.specs.Loans.{HasUnit, IsLendRefused, IsRunningRebuild, lend_events}
-use Rattle.draid_mend.specs.declared.loans.LendFault.{LendFault}
-use Rattle.draid_mend.specs.declared.loans.LendFault.TheVariants as fault
+use Rattle.draid_mend.specs.Loans.{HasUnit, IsRunningRebuild}
 use Rattle.draid_session.specs.Holds.{Looked, On, View, view_of}
 use Rattle.draid_session.specs.Passes as passes
 use Rattle.draid_session.specs.State.{Metaslab}

@@ -20,13 +20,13 @@ ghost use Rattle.draid_pool.specs.Syncing.{KeepsTable};
 ghost use Rattle.draid_visits.specs.Steps.{HasContents, HasTakenLeft, IsRebuiltIn, MovesOn, NextIs, ReadyIs, SharesTable, StartIs};
 
 use draid_area::Area;
-use draid_mend::{LendFault, Lent, land, lend, solve};
+use draid_mend::{land, lend, solve};
 use draid_names::{LAST_NUMBER, PassKind};
 use draid_pass::Pass;
 use draid_passing::{PlanFault, done, plan, ready};
 use draid_plans::has_target;
 use draid_rack::Rack;
-use draid_shard::Shard;
+use draid_shard::{LendFault, Lent, Shard};
 use draid_slots::Marks;
 
 /// A rebuild takes its targets whichever arms are marked.

@@ -1,5 +1,5 @@
 use Rattle.std.proofs.Common.{subst, sym}
-use Rattle.draid_mend.specs.declared.loans.Lent.TheVariants.{End, Unit}
+use Rattle.draid_shard.specs.declared.loan.Lent.TheVariants.{End, Unit}
 use Rattle.draid_pool.specs.Metaslabs.{IsMetaslab}
 use Rattle.draid_visits.proofs.Over.{ok_as, starved, unit_left, worn, worn_as}
 use Rattle.draid_visits.proofs.Tables.{table_landed}
