@@ -17,6 +17,8 @@ mod report;
 #[cfg(test)]
 mod run;
 #[cfg(test)]
+mod scrubs;
+#[cfg(test)]
 mod session;
 #[cfg(test)]
 mod turn;

@@ -16,7 +16,7 @@ static WHOLE: &str =
     " errors=0 done\noffline 1 ok\nsum 1 5 86d0ba4eedd376d0aabe0cbf2e8e70483259ee7b66af72aa9a3062dcc56c7a51\n";
 
 /// Runs lines on a shelf, and puts what they print into a sink.
-fn run_lines<R: AllocGlobal + Threads + Sync>(
+pub fn run_lines<R: AllocGlobal + Threads + Sync>(
     rt: &R,
     shelf: &mut MemoryShelf,
     lines: &str,
@@ -72,7 +72,7 @@ fn loses_nothing<R: AllocGlobal + Threads + Sync>(rt: &R, rule: CrashRule) -> bo
     stops_at(rt, rule, STOPS) == Some(Status::Done)
 }
 
-static RULES: [CrashRule; 4] = [
+pub static RULES: [CrashRule; 4] = [
     CrashRule::Old,
     CrashRule::New,
     CrashRule::Torn,
@@ -108,15 +108,15 @@ fn is_clean(printed: &[u8]) -> bool {
         .any(|line| line.ends_with(b" errors=0 done"))
 }
 
-/// How often the sum was that of what was written.
-fn right_sums(printed: &[u8]) -> usize {
-    let mut sums = 0usize;
+/// How often a line was printed.
+pub fn count_lines(printed: &[u8], text: &str) -> usize {
+    let mut lines = 0usize;
     for line in printed.split(|byte: &u8| *byte == b'\n') {
-        if line == SUM.as_bytes() {
-            sums = sums.saturating_add(1);
+        if line == text.as_bytes() {
+            lines = lines.saturating_add(1);
         }
     }
-    sums
+    lines
 }
 
 /// Whether the objects are there still, though this call of the rack fails: with all other leaves, and where the rebuild
@@ -128,7 +128,7 @@ fn survives<R: AllocGlobal + Threads + Sync>(rt: &R, call: u64) -> Option<bool> 
     shelf.fail(Place::Rack(0), calls);
     run_lines(rt, &mut shelf, FAILING, &mut printed)?;
     let least = if is_clean(printed.held()) { 2 } else { 1 };
-    Some(right_sums(printed.held()) >= least)
+    Some(count_lines(printed.held(), SUM) >= least)
 }
 
 #[test]
