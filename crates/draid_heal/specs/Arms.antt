@@ -1,12 +1,12 @@
 -- How the columns of a restored block fare on its arms.
 use Rattle.std.specs.Prelude.{◌≡◌, ◌+◌, ◌<◌, ◌≤◌, ◌++◌, ◌∷◌, [], ℕ, Bool, true, false, List, Option, Some, length, option_map, slice_get, vec_capacity, if◌then◌else◌}
-use Rattle.draid_columns.specs.Columns.{TellsBoth, row_of}
+use Rattle.draid_columns.specs.Columns.{row_of}
 use Rattle.draid_columns.specs.declared.rows.Rows.{Rows}
 use Rattle.draid_machine.specs.Names.{has_number}
 use Rattle.draid_machine.specs.declared.event.Patched.{Patched}
 use Rattle.draid_parity.specs.Columns.{column_at}
 use Rattle.draid_rack.specs.Moments.{ChangesOnly}
-use Rattle.draid_rack.specs.Rack.{Told, flushes}
+use Rattle.draid_rack.specs.Rack.{OnBothTold, Told, flushes}
 use Rattle.draid_heal.specs.Rows.{FailsOn, ListsRows, in_those}
 use Rattle.draid_shard.specs.declared.loan.Spot.{Spot}
 
@@ -69,7 +69,7 @@ pub record ListsArm (rows : Rows) (spot : Spot) (part : Patched) (failed : List 
 
 -- an arm was put right
 pub record Puts (rows : Rows) (spot : Spot) (part : Patched) (column before failed : List ℕ) (old new : Option Told) : Type 0 where
-  pub heals : TellsBoth old new (HealsArm rows column part.written.items part.landed.items failed)
+  pub heals : OnBothTold old new (HealsArm rows column part.written.items part.landed.items failed)
   pub lists : ListsArm rows spot part failed
   pub fails : FailsOn rows.leaf before failed
 

@@ -1,5 +1,5 @@
 -- A scrub's block lands on its arms.
-use Rattle.std.specs.Prelude.{◌≡◌, ◌+◌, ⊥, ℕ, IfSome, Option, Some, None, Vec, is_none}
+use Rattle.std.specs.Prelude.{◌≡◌, ◌+◌, ℕ, IfSome, Option, Some, None, Vec, is_none}
 use Rattle.std.specs.declared.alloc.Global.{Global}
 use Rattle.draid_block.specs.Blocks.{BlockValue}
 use Rattle.draid_machine.specs.After.{rewritten}

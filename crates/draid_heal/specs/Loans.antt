@@ -1,8 +1,9 @@
 -- The loan of a scrub's block.
-use Rattle.std.specs.Prelude.{◌≡◌, ◌<◌, ◌+◌, ◌↔◌, ⊤, ⊥, ℕ, true, IfSome, List, Option, None, Some, Vec, slice_get, slice_index_or}
+use Rattle.std.specs.Prelude.{◌≡◌, ◌<◌, ◌+◌, ◌↔◌, ℕ, true, IfSome, Option, None, Some, Vec, length, option_map, slice_get, slice_index_or}
 use Rattle.std.specs.declared.alloc.Global.{Global}
 use Rattle.draid_names.specs.declared.pass_kind.PassKind.TheVariants.{Heal}
 use Rattle.draid_columns.specs.Columns.{RowsStand}
+use Rattle.draid_machine.specs.After.{capped}
 use Rattle.draid_machine.specs.Names.{is_block}
 use Rattle.draid_machine.specs.declared.event.Event.TheVariants.{Lend}
 use Rattle.draid_machine.specs.declared.names.ArmName.{ArmName}
@@ -17,6 +18,7 @@ use Rattle.draid_entries.specs.declared.entries.Entries.{Entries}
 use Rattle.draid_pass.specs.declared.pass.Pass.{Pass}
 use Rattle.draid_rack.specs.Rack.{OnTold, Told}
 use Rattle.draid_rack.specs.declared.Rack.{Ghosts}
+use Rattle.draid_segments.specs.Segments.{Pieces}
 use Rattle.draid_slots.specs.Table.{SlotTable}
 use Rattle.draid_shard.specs.Calls.{ActsOn, CountsFailed}
 use Rattle.draid_shard.specs.Part.{Part}
@@ -68,12 +70,17 @@ pub record ReadsLent (part : Part) (slots : SlotTable) (told : Option Told) (len
       → (k : ℕ) × (leaf : ℕ) × (name_on slots (rows_at part lent.pointer c) k ≡ Some n) × (leaf_on slots (rows_at part lent.pointer c) k ≡ Some leaf)
       × OnTold told (λ x. RowsStand (rows_on (rows_at part lent.pointer c) leaf) x.reads bytes.items lent.pointer.stripes)
 
--- A block was lent: the event, the leaves on which calls failed, and what is kept.
+-- the pass counts so many errors more
+abbrev pub counted : ℕ → Pass → Pass
+counted more pass = record pass { errors = capped (pass.errors + more) }
+
+-- A block was lent: the event, the leaves on which calls failed, each an error of the pass, and what is kept.
 pub record LendsBlock {R A : Type 0} (rack : Ghosts R) (old new : Shard R A) : Type 0 where
   pub failed : Vec ℕ Global
   pub does : Does old new (Lend failed)
-  pub acts : (pieces : Rattle.draid_segments.specs.Segments.Pieces) → ActsOn rack old new (Lend failed) pieces
+  pub acts : (pieces : Pieces) → ActsOn rack old new (Lend failed) pieces
   pub counts : CountsFailed failed.items (rack.faults old.rack) (rack.faults new.rack)
+  pub pass : new.pass ≡ option_map (counted (length failed.items)) old.pass
   pub lent : LentBlock
   pub lent_is : new.kept ≡ Some (Block lent)
   pub here : IsBlockHere new.entries lent

@@ -1,5 +1,5 @@
 -- The block of a loan is restored.
-use Rattle.std.specs.Prelude.{◌≡◌, ⊤, ⊥, ℕ, List, Option, None, Some, Result, Ok, Err, IsSome}
+use Rattle.std.specs.Prelude.{◌≡◌, ℕ, List, Option, None, Some, Result, Ok, Err, IsSome}
 use Rattle.draid_spec.specs.declared.layout.Geometry.{Geometry}
 use Rattle.draid_block.specs.Blocks.{BlockValue, cut_of}
 use Rattle.draid_block.specs.Solving.{IsReadable, RestoresBlock}

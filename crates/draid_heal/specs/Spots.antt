@@ -1,22 +1,34 @@
 -- Just the arms of a pointer's block that answer, by the slots.
-use Rattle.std.specs.Prelude.{◌≡◌, ◌<◌, not, ℕ, true, List, Option, Some, length, slice_get}
+use Rattle.std.specs.Prelude.{◌≡◌, ◌<◌, ◌+◌, ◌++◌, ◌∷◌, [], not, ℕ, zero, suc, Bool, true, false, List, Option, None, Some, if◌then◌else◌, length, slice_get}
 use Rattle.draid_names.specs.declared.arm.Arm.{Arm}
 use Rattle.draid_names.specs.declared.pointer.Pointer.{Pointer}
+use Rattle.draid_spec.specs.Geometry.{slice_at}
+use Rattle.draid_rack.specs.declared.Rack.{Ghosts}
 use Rattle.draid_machine.specs.declared.names.ArmName.{ArmName}
-use Rattle.draid_slots.specs.Reading.{slice_of}
+use Rattle.draid_slots.specs.Changes.{IsOf}
+use Rattle.draid_slots.specs.Reading.{holder}
 use Rattle.draid_slots.specs.States.{name_of}
-use Rattle.draid_slots.specs.Table.{SlotTable, arm_at, arms_of, is_logged}
-use Rattle.draid_shard.specs.Part.{Part, layout_in}
+use Rattle.draid_slots.specs.Table.{IsThere, SlotTable, arm_at, arms_of, is_logged}
+use Rattle.draid_shard.specs.Fits.{HasLeaves}
+use Rattle.draid_shard.specs.Part.{IsPart, Part, layout_in}
 use Rattle.draid_shard.specs.Rows.{answers_on, arm_no, leaf_on, name_on}
-use Rattle.draid_shard.specs.declared.places.ColumnRows.{ColumnRows}
-use Rattle.draid_heal.specs.Stands.{HasSpot}
+use Rattle.draid_shard.specs.States.{part_of}
 use Rattle.draid_shard.specs.declared.loan.Spot.{Spot}
+use Rattle.draid_shard.specs.declared.places.ColumnRows.{ColumnRows}
+use Rattle.draid_shard.specs.declared.shard.Shard.{Shard}
+use Rattle.draid_heal.specs.Stands.{HasSpot}
+
+-- the slots are those of the metaslab, and the rack has their leaves
+pub record IsLaid {R A : Type 0} (rack : Ghosts R) (shard : Shard R A) : Type 0 where
+  pub part : IsPart (part_of shard)
+  pub slots : IsOf shard.slots shard.geometry shard.perms shard.number
+  pub leaves : HasLeaves (rack.shape shard.rack) shard.geometry shard.slots
 
 -- the rows of a column
 abbrev pub rows_at : Part → Pointer → ℕ → ColumnRows
 rows_at part pointer c = record {
   slot = (layout_in part).slot_of pointer.first c;
-  slice = slice_of part.geometry ((layout_in part).sector_of pointer.first c);
+  slice = slice_at part.geometry ((layout_in part).sector_of pointer.first c);
   first = (layout_in part).sector_of pointer.first c;
   count = pointer.stripes;
   size = part.geometry.props.sector;
@@ -24,6 +36,7 @@ rows_at part pointer c = record {
 }
 
 module _ (part : Part) (slots : SlotTable) (pointer : Pointer) where
+  -- an arm of a column's slot answers, and keeps the column there
   pub record SpotOn (spot : Spot) : Type 0 where
     pub k : ℕ
     pub arm : Arm
@@ -35,7 +48,36 @@ module _ (part : Part) (slots : SlotTable) (pointer : Pointer) where
     pub clean : spot.clean ≡ not (is_logged slots (arm_no (rows_at part pointer spot.column) k) pointer.birth)
     pub first : spot.first ≡ (layout_in part).sector_of pointer.first spot.column
 
+  -- just such arms, each once
   pub record SpotsOf (spots : List Spot) : Type 0 where
     pub each : (j : ℕ) (spot : Spot) → slice_get spots j ≡ Some spot → SpotOn spot
     pub all : (c k : ℕ) (n : ArmName) → c < part.geometry.g → name_on slots (rows_at part pointer c) k ≡ Some n → answers_on slots (rows_at part pointer c) k ≡ true → HasSpot spots c n
     pub once : (i j : ℕ) (a b : Spot) → slice_get spots i ≡ Some a → slice_get spots j ≡ Some b → a.column ≡ b.column → a.arm ≡ b.arm → i ≡ j
+
+  -- each arm that is clean for the block answers
+  abbrev pub CleanAnswer : Type 0
+  CleanAnswer =
+      (c k : ℕ) → c < part.geometry.g → IsThere slots (arm_no (rows_at part pointer c) k) → is_logged slots (arm_no (rows_at part pointer c) k) pointer.birth ≡ false
+      → answers_on slots (rows_at part pointer c) k ≡ true
+
+-- ---- in their order
+
+-- an arm of a column's slot, where it answers
+abbrev pub spot_if : ColumnRows → ℕ → Bool → Bool → Arm → Option Arm → List Spot
+spot_if rows c answers clean arm None = []
+spot_if rows c answers clean arm (Some leaf) = if answers then record { column = c; arm = name_of arm; leaf = leaf.number; first = rows.first; clean = clean } ∷ [] else []
+
+-- those that answer of these arms, which stand in a column's slot from a place on
+abbrev pub spots_from : SlotTable → ColumnRows → ℕ → ℕ → List Arm → List Spot
+spots_from slots rows c k [] = []
+spots_from slots rows c k (arm ∷ arms) =
+    spot_if rows c (answers_on slots rows k) (not (is_logged slots (arm_no rows k) rows.birth)) arm (holder slots (arm_no rows k) rows.slice) ++ spots_from slots rows c (k + 1) arms
+
+-- those of a column, in the order of its slot
+abbrev pub spots_in : SlotTable → ColumnRows → ℕ → List Spot
+spots_in slots rows c = spots_from slots rows c 0 (arms_of slots rows.slot)
+
+-- those of the first so many columns, one column after another
+abbrev pub spots_below : Part → SlotTable → Pointer → ℕ → List Spot
+spots_below part slots pointer zero = []
+spots_below part slots pointer (suc c) = spots_below part slots pointer c ++ spots_in slots (rows_at part pointer c) c

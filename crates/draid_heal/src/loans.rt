@@ -23,7 +23,7 @@ pub fn lend<R: Rack, A: Area>(shard: &mut Shard<R, A>) -> Result<Lent, LendFault
     ensures told { R.told shard.new.rack ≡ R.told shard.old.rack }
     ensures unit { result ≡ Ok Lent.Unit → LendsBlock R.Rack shard.old shard.new }
     ensures not_worn { result ≡ Ok Lent.Unit → IsWornFor shard.old (lend_events shard.old.kept) → ⊥ }
-    ensures pass { shard.new.pass ≡ shard.old.pass }
+    ensures pass { OnErr result (shard.new.pass ≡ shard.old.pass) }
     ensures end { result ≡ Ok Lent.End → HasNothingLeft shard.old × (shard.new ≡ shard.old) }
     ensures refused { IfErr result (IsLendRefused shard.old) }
     ensures more { OnErr result (HasBlockLeft shard.old) }

@@ -21,10 +21,9 @@ use Rattle.draid_machine.specs.State as machine
 use Rattle.draid_machine.specs.Step.{DoneStep, FlushesThere}
 use Rattle.draid_machine.proofs.Fitted.{every_fit}
 use Rattle.draid_machine.proofs.Rows.{reached_sound}
-use Rattle.draid_machine.proofs.Small.{absurd_test, none_some, some_same}
+use Rattle.draid_machine.proofs.Small.{absurd_test, some_same}
 use Rattle.draid_machine.specs.Sound.{LoanFits}
 use Rattle.draid_shard.specs.declared.loan.KeptLoan.{KeptLoan}
-use Rattle.std.proofs.lemmas.Bool.Decides.{nat_tests}
 use Rattle.draid_entries.specs.declared.history.History.{History}
 use Rattle.draid_marks.specs.Layout.{layout_with}
 use Rattle.draid_marks.proofs.Silence.{same_number}
@@ -151,34 +150,33 @@ module _ {R A : Type 0} (rack : Ghosts R) (old : Shard R A) (v : Valid rack old)
     pub ended_is : pass_in old.slots good ≡ ended_pass l w.core p failed.items
     ended_is = ended_by pass.kind refl firms
 
-    -- no loan counts: that of a rebuild would be left to lend
-    pub loan_none : HasNothingLeft old → (pass.kind ≡ Heal → old.kept ≡ None) → w.loan ≡ None
-    loan_none left heal = by old.kept refl
+    -- no loan counts: what it lent would be left to lend
+    pub loan_none : HasNothingLeft old → w.loan ≡ None
+    loan_none left = by old.kept refl
       where
         by : (o : Option KeptLoan) → old.kept ≡ o → w.loan ≡ None
         by None e = at.loan ∙ ap (option_map loan_in) e
-        by (Some kept) e = absurd (clash pass.kind refl)
+        by (Some kept) e = absurd clash
           where
             fits : LoanFits w.core (loan_in kept)
             fits = (reached_sound l (lays (part_of old) v.part) w reached).loan (loan_in kept) (at.loan ∙ ap (option_map loan_in) e)
 
-            clash : (k : PassKind) → pass.kind ≡ k → ⊥
-            clash Heal kind = none_some old.kept kept (heal kind) e
-            clash Rebuild kind =
-                let no : is_heal pass.kind ≡ false = ap is_heal kind in
-                let lent : is_lent p fits.h ≡ true = grind (arith, nat_tests, no) in
-                let same : p.next ≡ fits.p.next = ap (λ (x : machine.Pass). x.next) (some_same w.core.pass p fits.p pass_there fits.pass) in
+            clash : ⊥
+            clash =
+                let same : fits.p ≡ p = some_same w.core.pass fits.p p fits.pass pass_there in
+                let lent : is_lent p fits.h ≡ true = ap (λ (x : machine.Pass). is_lent x fits.h) (sym same) ∙ fits.lent in
                 let less = left w at p pass_there (loan_in kept).key fits.h (loan_in kept).stripe fits.found lent fits.taken in
+                let next : fits.p.next ≡ p.next = ap (λ (x : machine.Pass). x.next) same in
                 let from = fits.from in
-                omega (arith, same, less, from)
+                omega (arith, next, less, from)
 
-    pub done_step : IsSomeAnd old.pass (λ (x : Pass). x.running ≡ true) → HasNothingLeft old → (pass.kind ≡ Heal → old.kept ≡ None) → DoneStep l w failed.items (done_state w (ended_pass l w.core p failed.items))
-    done_step runs left none = record {
+    pub done_step : IsSomeAnd old.pass (λ (x : Pass). x.running ≡ true) → HasNothingLeft old → DoneStep l w failed.items (done_state w (ended_pass l w.core p failed.items))
+    done_step runs left = record {
       p = p;
       pass = pass_there;
       running = subst (λ o. IsSomeAnd o (λ (x : Pass). x.running ≡ true)) there runs;
       finished = left w at p pass_there;
-      idle = loan_none left none;
+      idle = loan_none left;
       fail = fails_there pass.kind refl firms;
       made = refl;
     }
@@ -260,7 +258,7 @@ module _ {R A : Type 0} (rack : Ghosts R) (old : Shard R A) (v : Valid rack old)
       by Heal f = subst (λ xs. calls.CountsFailed xs (rack.faults old.rack) (rack.faults r)) (sym f.1)
           (subst (λ s. calls.CountsFailed [] (rack.faults old.rack) (rack.faults s)) (sym f.2) (counts_still (rack.faults old.rack)))
 
-  module _ (slots : SlotTable) (state : EndsAll old.slots slots good) (space : Stripes) (flushed : Vec ℕ Global) (history : History) (left : HasNothingLeft old) (none : pass.kind ≡ Heal → old.kept ≡ None) where
+  module _ (slots : SlotTable) (state : EndsAll old.slots slots good) (space : Stripes) (flushed : Vec ℕ Global) (history : History) (left : HasNothingLeft old) where
     pub done_in : (w : machine.State) (reached : IsReached (layout_by old) w) (at : IsIn old w)
         → IsIn (record old { rack = r; slots = slots; space = space; pass = None; kept = None; flushed = flushed; history = history }) (done_state w (ended_pass (layout_by old) w.core (pass_in old.slots pass) failed.items))
     done_in w reached at = record {
@@ -275,5 +273,5 @@ module _ {R A : Type 0} (rack : Ghosts R) (old : Shard R A) (v : Valid rack old)
       version = at.version;
       asked = at.asked;
       serial = at.serial;
-      loan = loan_none w reached at left none;
+      loan = loan_none w reached at left;
     }

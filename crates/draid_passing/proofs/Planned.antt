@@ -40,7 +40,7 @@ use Rattle.draid_shard.specs.States.{IsIn, layout_by, part_of}
 use Rattle.draid_shard.specs.declared.loan.KeptLoan.{KeptLoan}
 use Rattle.draid_shard.specs.declared.shard.Shard.{Shard}
 use Rattle.draid_shard.proofs.Homes.{lays}
-use Rattle.draid_shard.proofs.Lent.{no_loan}
+use Rattle.draid_shard.proofs.Lenders.{no_loan}
 use Rattle.draid_shard.proofs.Once.{once_kept}
 use Rattle.draid_shard.proofs.Staging.{leaf_was}
 use Rattle.draid_passing.specs.Passing.{IsLast, IsMaxFor, LacksTarget}

@@ -20,7 +20,7 @@ use Rattle.draid_shard.specs.Fits.{LogsHaveRoom, Valid, birth_groups, is_rebuild
 use Rattle.draid_shard.specs.Looks.{HasTickets, IsGreatestBirth}
 use Rattle.draid_shard.specs.States.{IsIn}
 use Rattle.draid_shard.specs.declared.shard.Shard.{Shard}
-use Rattle.draid_shard.proofs.Lent.{StillLends, changes_still, flush_still, kept_still}
+use Rattle.draid_shard.proofs.Lenders.{StillLends, changes_still, flush_still, kept_still}
 use Rattle.draid_passing.specs.Passing.{IsMaxOf, IsPlanned}
 
 abbrev pub run : Option Pass → Option Pass

@@ -1,5 +1,4 @@
-ghost use Rattle.std.specs.Prelude.{◌≡◌, ◌*◌, ◌≤◌, [], ℕ, All, IfSome, IsSomeAnd, None, true, vec_capacity};
-ghost use Rattle.draid_names.specs.declared.pass_kind.PassKind.TheVariants.{Heal};
+ghost use Rattle.std.specs.Prelude.{◌≡◌, ◌*◌, ◌≤◌, [], ℕ, All, IsSomeAnd, None, true, vec_capacity};
 ghost use Rattle.draid_pass.specs.declared.pass.Pass.{Pass};
 ghost use Rattle.draid_shard.specs.Alike.{ShareArms};
 ghost use Rattle.draid_shard.specs.Calls.{SameAreas, SameReserve};
@@ -35,7 +34,6 @@ pub fn done<R: Rack, A: Area>(shard: &mut Shard<R, A>) -> Ended
     requires valid { Valid R.Rack shard.old }
     requires running { IsSomeAnd shard.old.pass (λ (p : Pass). p.running ≡ true) }
     requires left { HasNothingLeft shard.old }
-    requires none { IfSome shard.old.pass (λ (p : Pass). p.kind ≡ Heal → shard.old.kept ≡ None) }
     ensures valid { Valid R.Rack shard.new }
     ensures areas { SameAreas shard.old shard.new }
     ensures ends { Ends R.Rack shard.old shard.new result }

@@ -45,7 +45,7 @@ use Rattle.draid_shard.specs.Part.{Part, layout_in}
 use Rattle.draid_shard.specs.Rows.{LogsBirth}
 use Rattle.draid_shard.specs.States.{IsIn, layout_by, part_of}
 use Rattle.draid_shard.specs.declared.shard.Shard.{Shard}
-use Rattle.draid_shard.proofs.Lent.{StillLends, changes_still, flush_still, kept_still}
+use Rattle.draid_shard.proofs.Lenders.{StillLends, changes_still, flush_still, kept_still}
 use Rattle.draid_shard.proofs.Once.{once_kept}
 use Rattle.draid_shard.proofs.SamePass.{pass_same}
 use Rattle.draid_shard.proofs.Staging.{leaves_left, logs_left, same_of}

@@ -12,7 +12,7 @@ pub mod Holders
 pub mod Homes
 pub mod Kept
 pub mod Leaves
-pub mod Lent
+pub mod Lenders
 pub mod Listing
 pub mod Once
 pub mod Over

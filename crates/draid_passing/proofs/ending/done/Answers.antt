@@ -1,5 +1,4 @@
-use Rattle.std.proofs.Common.{◌≡◌, ◌∙◌, ℕ, IfSome, Option, None, Some, arith, refl, subst, sym}
-use Rattle.draid_names.specs.declared.pass_kind.PassKind.TheVariants.{Heal}
+use Rattle.std.proofs.Common.{◌≡◌, ◌∙◌, ℕ, Option, None, Some, arith, refl, subst, sym}
 use Rattle.draid_machine.specs.After.{done_state, ended_pass}
 use Rattle.draid_pass.specs.declared.pass.Pass.{Pass}
 use Rattle.draid_slots.specs.States.{pass_in}
@@ -18,10 +17,6 @@ use Rattle.draid_passing.proofs.ending.done.Goals.{After-drop-pass}
 -- the pass that there was
 there : (g : given.Over) (c : After-drop-pass g) → c.args.shard.now.pass ≡ Some c.in-Some.pass
 there g c = sym c.take.ensures.value ∙ c.in-Some.is
-
--- a scrub has no loan
-idle : (g : given.Over) (c : After-drop-pass g) → c.in-Some.pass.kind ≡ Heal → c.args.shard.now.kept ≡ None
-idle g c = subst (λ o. IfSome o (λ (p : Pass). p.kind ≡ Heal → c.args.shard.now.kept ≡ None)) (there g c) c.requires.none
 
 -- as it ends
 abbrev ended_pass_of : (g : given.Over) (c : After-drop-pass g) → Pass
@@ -70,8 +65,8 @@ returns-clause-ends g c =
         stored = c.add.ensures.stored;
         leads = λ w reached at. record {
           state = done_state w (ended_pass (layout_by old) w.core (pass_in old.slots pass) failed.items);
-          step = done_step g.R.Rack old v pass mid is r failed firms w reached at c.requires.running c.requires.left (idle g c);
-          is_in = done_in g.R.Rack old v pass mid is r failed firms c.end.new.slots (state g c) c.enable.new.self c.replace-failed.new.dest c.add.new.self c.requires.left (idle g c) w reached at;
+          step = done_step g.R.Rack old v pass mid is r failed firms w reached at c.requires.running c.requires.left;
+          is_in = done_in g.R.Rack old v pass mid is r failed firms c.end.new.slots (state g c) c.enable.new.self c.replace-failed.new.dest c.add.new.self c.requires.left w reached at;
         };
       };
       acts = λ pieces w after step reached at. done_acts g.R.Rack old v pass mid is r failed firms w reached at step.p step.pass;

@@ -1,7 +1,5 @@
 -- The loan that a shard keeps, and the rooms of its pass, where another pass takes the place of the old one.
-use Rattle.std.proofs.Common.{◌≡◌, ◌*◌, ◌+◌, ◌≤◌, ◌∙◌, ℕ, zero, suc, Bool, true, false, Option, Some, None, IfSome, arith, refl, sym, ap, length, if◌then◌else◌}
-use Rattle.draid_names.specs.declared.pass_kind.PassKind.{PassKind}
-use Rattle.draid_names.specs.declared.pass_kind.PassKind.TheVariants.{Rebuild, Heal}
+use Rattle.std.proofs.Common.{◌≡◌, ◌*◌, ◌≤◌, ◌∙◌, ℕ, zero, suc, Bool, Option, Some, None, IfSome, arith, refl, sym, ap, length, if◌then◌else◌}
 use Rattle.draid_spec.specs.declared.layout.Geometry.{Geometry}
 use Rattle.draid_machine.proofs.Small.{none_some, some_injective}
 use Rattle.draid_pass.specs.declared.pass.Pass.{Pass}
