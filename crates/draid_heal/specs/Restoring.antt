@@ -1,7 +1,8 @@
 -- The block of a loan is restored.
-use Rattle.std.specs.Prelude.{◌≡◌, ℕ, List, Option, None, Some, Result, Ok, Err, IsSome}
+use Rattle.std.specs.Prelude.{◌≡◌, ℕ, List, Option, None, Some, Result, Ok, Err, IfSome, IsSome, slice_index}
 use Rattle.draid_spec.specs.declared.layout.Geometry.{Geometry}
-use Rattle.draid_block.specs.Blocks.{BlockValue, cut_of}
+use Rattle.draid_gf.specs.Field.{IsByte}
+use Rattle.draid_block.specs.Blocks.{AreColumns, BlockValue, cut_of}
 use Rattle.draid_block.specs.Solving.{IsReadable, RestoresBlock}
 use Rattle.draid_block.specs.declared.solve.Fetched.{Fetched}
 use Rattle.draid_block.specs.declared.solve.SolveFault.{SolveFault}
@@ -19,11 +20,17 @@ abbrev pub AnswersBlock : Geometry → Fetched → Option BlockValue → Type 0
 AnswersBlock geometry fetched (Some block) = RestoresBlock (cut_of geometry) fetched (Ok block)
 AnswersBlock geometry fetched None = (absent : ℕ) × (tried : ℕ) × RestoresBlock (cut_of geometry) fetched (Err (Unreadable absent tried))
 
+-- the block's bytes are bytes, and its columns are theirs
+pub record HasColumnsOf (block : BlockValue) : Type 0 where
+  pub bytes : (j : ℕ) → IsByte (slice_index block.bytes j)
+  pub are : AreColumns block.cut block.bytes block.columns
+
 -- The block was restored of what was read, or none was; with few enough bad columns it was.
 pub record RestoresLent (geometry : Geometry) (lent : LentBlock) (new : Option KeptLoan) : Type 0 where
   pub block : Option BlockValue
   pub is : new ≡ Some (Block (record lent { restored = block }))
   pub answers : AnswersBlock geometry (fetched_of lent) block
+  pub cut : IfSome block HasColumnsOf
   pub readable : (w bad : List ℕ) → IsReadable (cut_of geometry) (fetched_of lent) w bad → IsSome block
 
 -- so that of the loan that counts; that of a rebuild stays
