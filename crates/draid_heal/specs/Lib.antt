@@ -1,9 +1,5 @@
-pub mod Arms
 pub mod Lands
 pub mod Loans
 pub mod Restoring
-pub mod Row
-pub mod Rows
-pub mod Settle
 pub mod Spots
 pub mod Stands
