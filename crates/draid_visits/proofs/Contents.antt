@@ -38,7 +38,7 @@ content_by geometry held key write pieces has own len long = record {
 
 module _ {R A : Type 0} (rack : racks.Ghosts R) (area : areas.Ghosts A) where
   -- as many stripes as its bytes take
-  held_long : (part : Part) (pieces : Pieces) (shard : Shard R A) (y : Metaslab) (key : Key) (held : Held) → IsMetaslab rack area part pieces shard y → y.world.core.held key ≡ Some held
+  pub held_long : (part : Part) (pieces : Pieces) (shard : Shard R A) (y : Metaslab) (key : Key) (held : Held) → IsMetaslab rack area part pieces shard y → y.world.core.held key ≡ Some held
       → held.stripes ≡ stripes_of (cut_of part.geometry) held.len
   held_long part pieces shard y key held is at =
       let e : HasEntry shard.entries key held = held_entry shard.entries key held (sym (is.stands.is_in.held key) ∙ at) in

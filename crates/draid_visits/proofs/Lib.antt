@@ -1,12 +1,15 @@
 pub mod AllVisits
+pub mod Blocks
 pub mod Cancelled
 pub mod Contents
 pub mod Found
+pub mod Healed
 pub mod Idle
 pub mod Kept
 pub mod Landed
 pub mod Leading
 pub mod Lending
+pub mod Lifting
 pub mod Marking
 pub mod Over
 pub mod PassSteps
