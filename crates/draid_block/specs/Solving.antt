@@ -1,10 +1,11 @@
 -- The answer for the columns that were read of a block.
-use Rattle.std.specs.Prelude.{◌≡◌, ◌≤◌, ◌<◌, ◌+◌, ℕ, zero, suc, List, [], ◌∷◌, ◌++◌, All, Contains, length, map, Option, Some, None, Result, Ok, Err, is_none, slice_get, slice_index_or, option_map, unwrap_or, if◌then◌else◌}
+use Rattle.std.specs.Prelude.{◌≡◌, ◌≤◌, ◌<◌, ◌+◌, ℕ, zero, suc, List, [], ◌∷◌, ◌++◌, All, Contains, length, map, Option, Some, None, Result, Ok, Err, is_none, slice_get, slice_index_or, option_map, unwrap_or, if◌then◌else◌, slice_index}
 use Rattle.std.specs.List.Sorted.{IsStrictlyIncreasing}
 use Rattle.std.specs.declared.vec.Vec.{Vec}
 use Rattle.std.specs.declared.alloc.Global.{Global}
 use Rattle.draid_names.specs.declared.numbers.TheConstants.{LONGEST_BLOCK}
 use Rattle.sha2.specs.Sha256.{sha256}
+use Rattle.draid_gf.specs.Field.{IsByte}
 use Rattle.draid_parity.specs.Columns.{IsSolution, column_at}
 use Rattle.draid_block.specs.Columns.{Cut, stripes_of}
 use Rattle.draid_block.specs.Blocks.{AreColumns, BlockValue, IsContent, bytes_of, column_len, stripe_of}
@@ -106,6 +107,8 @@ pub record IsRestoredOf (cut : Cut) (fetched : Fetched) (block : BlockValue) : T
   pub cut_is : block.cut ≡ cut
   pub first : IsFirst (GivesOf cut fetched block.bytes) (FailsOf cut fetched) (sets_of cut fetched)
   pub digest : HasDigest fetched block.bytes
+  pub bytes : (j : ℕ) → IsByte (slice_index block.bytes j)
+  pub columns : AreColumns block.cut block.bytes block.columns
 
 -- the block that has the answer, or none
 abbrev pub RestoresBlock : Cut → Fetched → Result BlockValue SolveFault → Type 0

@@ -90,6 +90,7 @@ impl Encoded {
         requires digest { digest ≡ sha256 bytes.now }
         ensures bytes { IfOk result (λ e. e.bytes ≡ bytes.now) }
         ensures cut { IfOk result (λ e. e.cut ≡ cut_of geometry.now) }
+        ensures columns { IfOk result (λ e. AreColumns e.cut e.bytes e.columns) }
     {
         let len = bytes.len() as u32;
         let mut stripe = Stripe::new(

@@ -29,12 +29,13 @@ use Rattle.draid_slots.specs.States.{HasSlots, HoldsPass, name_of, names_at, pas
 use Rattle.draid_slots.specs.Table.{SlotTable, arm_at, is_logged}
 use Rattle.draid_spec.specs.declared.layout.Geometry.{Geometry}
 use Rattle.draid_shard.specs.Fits.{NamesOnce, Valid}
-use Rattle.draid_shard.specs.Loans.{IsKept, loan_in}
+use Rattle.draid_shard.specs.Loans.{IsKept, IsLentStripe, loan_in, stripe_loan}
 use Rattle.draid_shard.specs.Part.{IsPart, IsRun, Part, layout_in}
 use Rattle.draid_shard.specs.Rows.{IsRowsOf, arm_no, rows_on}
 use Rattle.draid_shard.specs.Stands.{StandsFor}
 use Rattle.draid_shard.specs.States.{IsIn, part_of}
-use Rattle.draid_shard.specs.declared.loan.KeptLoan.{KeptLoan}
+use Rattle.draid_shard.specs.declared.loan.KeptLoan.TheVariants.{Stripe}
+use Rattle.draid_shard.specs.declared.loan.LentStripe.{LentStripe}
 use Rattle.draid_shard.specs.declared.loan.Source.{Source}
 use Rattle.draid_shard.specs.declared.places.ColumnRows.{ColumnRows}
 use Rattle.draid_shard.specs.declared.shard.Shard.{Shard}
@@ -141,12 +142,12 @@ module _ (part : Part) (slots : SlotTable) (pointer : Pointer) (told : Option To
 -- ---- the loan fact
 
 module _ (part : Part) (slots : SlotTable) (w : machine.State) (is : IsPart part) (of : IsOf slots part.geometry part.perms part.number) (reached : IsReached (layout_in part) w) (has : HasSlots slots w.core)
-    (p : machine.Pass) (n : machine.Loan) (failed : List ℕ) (h : Held) (k : KeptLoan) (pieces : Pieces) (x : Told) (run : IsRun part.geometry k.stripe 1) (kind : p.kind ≡ Rebuild)
-    (found : w.core.held (key_of k.pointer) ≡ Some h) (reads : LoanReads (layout_in part) (lend_state w p n failed) (loan_in k)) (read : IsReadFrom part slots (Some x) k) (holds : Holds (layout_in part) pieces w x) where
+    (p : machine.Pass) (n : machine.Loan) (failed : List ℕ) (h : Held) (k : LentStripe) (pieces : Pieces) (x : Told) (run : IsRun part.geometry k.stripe 1) (kind : p.kind ≡ Rebuild)
+    (found : w.core.held (key_of k.pointer) ≡ Some h) (reads : LoanReads (layout_in part) (lend_state w p n failed) (stripe_loan k)) (read : IsReadFrom part slots (Some x) k) (holds : Holds (layout_in part) pieces w x) where
   abbrev l : machine.Layout
   l = layout_in part
 
-  pub lent_stands : LoanStands l (lend_state w p n failed) (loan_in k) h pieces k.columns x
+  pub lent_stands : LoanStands l (lend_state w p n failed) (stripe_loan k) h pieces k.columns x
   lent_stands c m s column chosen key_is row_is calm sure = by (slice_index_or k.chosen.items c None) refl chosen
     where
       by : (o : Option Source) → slice_index_or k.chosen.items c None ≡ o → option_map (λ (source : Source). source.arm) o ≡ Some m → column_at k.columns.columns c ≡ pieces (key_of k.pointer) c s.row
@@ -180,7 +181,7 @@ module _ {R A : Type 0} (rack : Ghosts R) (old lent : Shard R A) (w v : machine.
   abbrev part : Part
   part = part_of old
 
-  abbrev k : KeptLoan
+  abbrev k : LentStripe
   k = unit.kept
 
   rebuild : HasRebuild old
@@ -192,11 +193,11 @@ module _ {R A : Type 0} (rack : Ghosts R) (old lent : Shard R A) (w v : machine.
   kind : step.p.kind ≡ Rebuild
   kind = ap (λ (p : machine.Pass). p.kind) pass_is ∙ rebuild.runs.rebuild
 
-  loan_there : v.loan ≡ Some (loan_in k)
+  loan_there : v.loan ≡ Some (stripe_loan k)
   loan_there = is_in.loan ∙ ap (option_map loan_in) unit.kept_is
 
-  loan_is : step.n ≡ loan_in k
-  loan_is = some_same v.loan step.n (loan_in k) (ap (λ (s : machine.State). s.loan) step.made) loan_there
+  loan_is : step.n ≡ stripe_loan k
+  loan_is = some_same v.loan step.n (stripe_loan k) (ap (λ (s : machine.State). s.loan) step.made) loan_there
 
   found : w.core.held (key_of k.pointer) ≡ Some step.h
   found = subst (λ (n : machine.Loan). w.core.held n.key ≡ Some step.h) loan_is step.next.found
@@ -204,30 +205,25 @@ module _ {R A : Type 0} (rack : Ghosts R) (old lent : Shard R A) (w v : machine.
   same_part : part_of lent ≡ part
   same_part = unit.does.part
 
-  is_kept : IsKept lent.geometry lent.pass k
+  is_kept : IsLentStripe lent.geometry lent.pass k
   is_kept = subst (λ o. IfSome o (IsKept lent.geometry lent.pass)) unit.kept_is later.kept
 
-  kept_at : (geometry : Geometry) → lent.geometry ≡ geometry → IsKept geometry lent.pass k
-  kept_at geometry same = subst (λ g. IsKept g lent.pass k) same is_kept
+  kept_at : (geometry : Geometry) → lent.geometry ≡ geometry → IsLentStripe geometry lent.pass k
+  kept_at geometry same = subst (λ g. IsLentStripe g lent.pass k) same is_kept
 
-  z : IsKept old.geometry lent.pass k
+  z : IsLentStripe old.geometry lent.pass k
   z = kept_at old.geometry (ap (λ (p : Part). p.geometry) same_part)
-
-  lender_kind : z.lender.kind ≡ Rebuild
-  lender_kind =
-      let q : v.core.pass ≡ Some (pass_in lent.slots z.lender) = is_in.pass ∙ ap (option_map (pass_in lent.slots)) z.there in
-      ap (λ (p : machine.Pass). p.kind) (some_same v.core.pass (pass_in lent.slots z.lender) _ q (ap (λ (s : machine.State). s.core.pass) step.made)) ∙ kind
 
   run : IsRun old.geometry k.stripe 1
   run = one_run old.geometry is.part.layout.geometry_is k.stripe z.inside
 
-  reads : LoanReads (layout_in part) (lend_state w step.p step.n unit.failed.items) (loan_in k)
+  reads : LoanReads (layout_in part) (lend_state w step.p step.n unit.failed.items) (stripe_loan k)
   reads =
       let reached : IsReached (layout_in part) v = reached_more (layout_in part) w v (Lend unit.failed) stands.reached step in
-      subst (λ s. LoanReads (layout_in part) s (loan_in k)) step.made (every_loan (layout_in part) v (loan_in k) (lays part is.part) reached loan_there)
+      subst (λ s. LoanReads (layout_in part) s (stripe_loan k)) step.made (every_loan (layout_in part) v (stripe_loan k) (lays part is.part) reached loan_there)
 
   module _ (solved : StripeValue) (solves : SolvesKept k solved) (few : IsSolvable old.geometry k) where
-    abbrev after : KeptLoan
+    abbrev after : LentStripe
     after = record k { columns = solved }
 
     on_told : (o : Option Told) → rack.told old.rack ≡ o → OnTold o (Backed (layout_in part) pieces w) → OnTold o (KeptStands part (lend_state w step.p step.n unit.failed.items) after pieces)
@@ -239,7 +235,7 @@ module _ {R A : Type 0} (rack : Ghosts R) (old lent : Shard R A) (w v : machine.
       read = k.columns;
       stands = lent_stands part old.slots w is.part is.slots stands.reached stands.is_in.slots step.p step.n unit.failed.items step.h k pieces x run kind found reads from backed.holds;
       solves = solves.few (let less = few in let same = z.columns.parity in omega (arith, less, same)) old.geometry is.part.layout.geometry_is
-          (record { parity = z.columns.parity; ndata = z.columns.ndata; len = z.sector lender_kind });
+          (record { parity = z.columns.parity; ndata = z.columns.ndata; len = z.sector });
       sources = λ c source low at. apart c source low at;
     } where
       from : IsReadFrom part old.slots (Some x) k
@@ -267,15 +263,18 @@ module _ {R A : Type 0} (rack : Ghosts R) (old lent : Shard R A) (w v : machine.
     pub stands_after : OnTold (rack.told old.rack) (KeptStands part v after pieces)
     stands_after = subst (λ s. OnTold (rack.told old.rack) (KeptStands part s after pieces)) (sym step.made) (on_told (rack.told old.rack) refl stands.segments)
 
-pub loan_is_right : {R A : Type 0} (rack : Ghosts R) (part : Part) (old lent solved : Shard R A) (w v : machine.State) (pieces : Pieces) (kept : KeptLoan) (unit : LendsUnit rack old lent)
+stripe_same : (a b : LentStripe) → Stripe a ≡ Stripe b → a ≡ b
+stripe_same a b same = cc
+
+pub loan_is_right : {R A : Type 0} (rack : Ghosts R) (part : Part) (old lent solved : Shard R A) (w v : machine.State) (pieces : Pieces) (kept : LentStripe) (unit : LendsUnit rack old lent)
     → part_of old ≡ part → Valid rack old → Valid rack lent → IsSomeAnd old.pass IsRunningRebuild → StandsFor rack old w pieces
     → ((k : Key) (h : Held) → w.core.held k ≡ Some h → HasContent part.geometry h.stripes k pieces)
     → rack.told lent.rack ≡ rack.told old.rack → Step (layout_in part) w (Lend unit.failed) v → IsIn lent v
     → SolvesLoan old.geometry lent.kept solved.kept → solved ≡ record lent { kept = solved.kept }
-    → solved.kept ≡ Some kept → IsSolvable part.geometry kept → OnTold (rack.told solved.rack) (KeptStands part v kept pieces)
+    → solved.kept ≡ Some (Stripe kept) → IsSolvable part.geometry kept → OnTold (rack.told solved.rack) (KeptStands part v kept pieces)
 loan_is_right {R} {A} rack part old lent solved w v pieces kept unit part_is is later running stands contents told step is_in solves only kept_is few =
     let s = subst (λ o. SolvesLoan old.geometry o solved.kept) unit.kept_is solves in
-    let it : (record unit.kept { columns = s.0 }) ≡ kept = some_same solved.kept (record unit.kept { columns = s.0 }) kept s.1 kept_is in
+    let it : (record unit.kept { columns = s.0 }) ≡ kept = stripe_same (record unit.kept { columns = s.0 }) kept (some_same solved.kept (Stripe (record unit.kept { columns = s.0 })) (Stripe kept) s.1 kept_is) in
     let same : rack.told solved.rack ≡ rack.told old.rack = ap (λ (x : Shard R A). rack.told x.rack) only ∙ told in
     let enough : IsSolvable old.geometry (record unit.kept { columns = s.0 })
     = subst (λ (p : Part). IsSolvable p.geometry (record unit.kept { columns = s.0 })) (sym part_is) (subst (IsSolvable part.geometry) (sym it) few) in

@@ -18,9 +18,11 @@ use Rattle.draid_slots.specs.States.{HoldsPass, pass_in}
 use Rattle.draid_shard.specs.Calls.{CountsFailed}
 use Rattle.draid_shard.specs.Changes.{KeepsBlocks}
 use Rattle.draid_shard.specs.Fits.{Valid}
-use Rattle.draid_shard.specs.Loans.{loan_in}
+use Rattle.draid_shard.specs.Loans.{stripe_loan}
 use Rattle.draid_shard.specs.States.{IsIn, Leads, layout_by, part_of}
 use Rattle.draid_shard.specs.declared.loan.KeptLoan.{KeptLoan}
+use Rattle.draid_shard.specs.declared.loan.KeptLoan.TheVariants.{Stripe}
+use Rattle.draid_shard.specs.declared.loan.LentStripe.{LentStripe}
 use Rattle.draid_shard.specs.declared.shard.Shard.{Shard}
 use Rattle.draid_shard.proofs.Changed.{same_entries}
 use Rattle.draid_shard.proofs.Counts.{counts_none}
@@ -31,9 +33,9 @@ use Rattle.draid_mend.specs.Missing.{missing_of}
 use Rattle.draid_mend.proofs.Landings.{counted_holds, landed, landed_in, landed_valid, left_holds}
 use Rattle.draid_mend.proofs.Lands.{h, left_is, over_acts, over_step, pass_held, solved_acts, solved_step}
 
-module _ {R A : Type 0} (rack : Ghosts R) (old : Shard R A) (v : Valid rack old) (pass : Pass) (there : old.pass ≡ Some pass) (runs : IsRunningRebuild pass) (kept : KeptLoan) (kept_there : old.kept ≡ Some kept)
-    (o : Option Pass) (k : Option KeptLoan) (none : k ≡ None) (new : Shard R A) (left : Pass) (back : KeptLoan) (lands : LandsKept rack (record old { pass = o; kept = k }) new pass left kept back) (gone : Vec ℕ Global) (gone_is : gone.items ≡ back.failed.items)
-    (idle : Option KeptLoan) (history : History) where
+module _ {R A : Type 0} (rack : Ghosts R) (old : Shard R A) (v : Valid rack old) (pass : Pass) (there : old.pass ≡ Some pass) (runs : IsRunningRebuild pass) (kept : LentStripe) (kept_there : old.kept ≡ Some (Stripe kept))
+    (o : Option Pass) (k : Option KeptLoan) (none : k ≡ None) (new : Shard R A) (left : Pass) (back : LentStripe) (lands : LandsKept rack (record old { pass = o; kept = k }) new pass left kept back) (gone : Vec ℕ Global) (gone_is : gone.items ≡ back.failed.items)
+    (idle : Option LentStripe) (history : History) where
   abbrev base : Shard R A
   base = record old { pass = o; kept = k }
 
@@ -94,7 +96,7 @@ module _ {R A : Type 0} (rack : Ghosts R) (old : Shard R A) (v : Valid rack old)
   ]
 
   back_stripe : back.stripe ≡ kept.stripe
-  back_stripe = ap (λ (x : KeptLoan). x.stripe) lands.rest
+  back_stripe = ap (λ (x : LentStripe). x.stripe) lands.rest
 
   final_is : final ≡ landed old pass q there kept kept_there new.rack idle history
   final_is =
@@ -129,7 +131,7 @@ module _ {R A : Type 0} (rack : Ghosts R) (old : Shard R A) (v : Valid rack old)
 
     solved : IsSolvable old.geometry kept → LandsSolved rack base new pass left kept failed → Leads (layout_by old) w (LandStripe pass.number kept.serial gone) (landed old pass q there kept kept_there new.rack idle history)
     solved few s = record {
-      state = mend_state (layout_by old) w (pass_in old.slots pass) (loan_in kept) (h rack old v pass there runs kept kept_there w reached at) failed;
+      state = mend_state (layout_by old) w (pass_in old.slots pass) (stripe_loan kept) (h rack old v pass there runs kept kept_there w reached at) failed;
       step = solved_step rack old v pass there runs kept kept_there w reached at few o k new left failed s;
       is_in = landed_in old pass q there kept kept_there new.rack idle history w _ _ _ at
           (ap (λ (m : machine.Pass). record m { next = kept.stripe + 1 }) (left_is rack old v pass there runs kept kept_there w reached at few o k new left failed s));
@@ -145,7 +147,7 @@ module _ {R A : Type 0} (rack : Ghosts R) (old : Shard R A) (v : Valid rack old)
   ]
 
   event_is : LandStripe left.number back.serial gone ≡ LandStripe pass.number kept.serial gone
-  event_is = λ i. LandStripe (is.number i) (ap (λ (x : KeptLoan). x.serial) lands.rest i) gone
+  event_is = λ i. LandStripe (is.number i) (ap (λ (x : LentStripe). x.serial) lands.rest i) gone
 
   pub final_lands : events_of history ≡ events_of new.history ++ LandStripe left.number back.serial gone ∷ [] → LandsUnit rack old final
   final_lands stored = subst (LandsUnit rack old) (sym final_is) (record {

@@ -7,8 +7,8 @@ use Rattle.draid_machine.specs.After.{unsourced}
 use Rattle.draid_machine.specs.Names.{count_below}
 use Rattle.draid_machine.specs.State as machine
 use Rattle.draid_machine.proofs.Small.{absurd_test, none_some}
-use Rattle.draid_shard.specs.Loans.{chosen_at, loan_in}
-use Rattle.draid_shard.specs.declared.loan.KeptLoan.{KeptLoan}
+use Rattle.draid_shard.specs.Loans.{chosen_at, stripe_loan}
+use Rattle.draid_shard.specs.declared.loan.LentStripe.{LentStripe}
 use Rattle.draid_shard.specs.declared.loan.Source.{Source}
 use Rattle.draid_mend.specs.Landing.{AreMissing}
 use Rattle.draid_mend.specs.Missing.{missing_in, missing_of}
@@ -66,12 +66,12 @@ module _ (chosen : List (Option Source)) where
       ap (λ (b : Bool). if b then count_below n (λ c. is_none (chosen_at chosen c)) + 1 else count_below n (λ c. is_none (chosen_at chosen c))) (same_none (at n))
       ∙ ap (λ (k : ℕ). if is_none (at n) then k + 1 else k) (many n) ∙ count_by n (is_none (at n))
 
-module _ (l : machine.Layout) (kept : KeptLoan) (columns : l.columns ≡ length kept.chosen.items) where
-  pub are_missing : AreMissing l (loan_in kept) (missing_of kept)
+module _ (l : machine.Layout) (kept : LentStripe) (columns : l.columns ≡ length kept.chosen.items) where
+  pub are_missing : AreMissing l (stripe_loan kept) (missing_of kept)
   are_missing c less = (
     λ there. named_nothing (slice_index_or kept.chosen.items c None) (none_contained kept.chosen.items (length kept.chosen.items) c there),
     λ none. contains_none kept.chosen.items (length kept.chosen.items) c (omega (arith, less, columns)) (nothing_named (slice_index_or kept.chosen.items c None) none),
   )
 
-  pub are_many : unsourced l (loan_in kept) ≡ length (missing_of kept)
+  pub are_many : unsourced l (stripe_loan kept) ≡ length (missing_of kept)
   are_many = ap (λ n. count_below n (λ c. is_none (chosen_at kept.chosen.items c))) columns ∙ many kept.chosen.items (length kept.chosen.items)

@@ -16,7 +16,8 @@ use Rattle.draid_slots.specs.Table.{IsThere, SlotTable}
 use Rattle.draid_shard.specs.Fits.{HasLeaves, LogsHaveRoom, Valid, birth_groups, is_rebuild, oldest_open, owed_for_pass}
 use Rattle.draid_shard.specs.Loans.{HasFlushRoom, owed_for_loan}
 use Rattle.draid_shard.specs.States.{IsIn}
-use Rattle.draid_shard.specs.declared.loan.KeptLoan.{KeptLoan}
+use Rattle.draid_shard.specs.declared.loan.KeptLoan.TheVariants.{Stripe}
+use Rattle.draid_shard.specs.declared.loan.LentStripe.{LentStripe}
 use Rattle.draid_shard.specs.declared.shard.Shard.{Shard}
 
 -- ---- the pass
@@ -41,7 +42,7 @@ counted_holds slots last at errors before held = record {
 
 -- ---- the shard
 
-module _ {R A : Type 0} (old : Shard R A) (pass q : Pass) (there : old.pass ≡ Some pass) (kept : KeptLoan) (kept_there : old.kept ≡ Some kept) (r : R) (idle : Option KeptLoan) (history : History) where
+module _ {R A : Type 0} (old : Shard R A) (pass q : Pass) (there : old.pass ≡ Some pass) (kept : LentStripe) (kept_there : old.kept ≡ Some (Stripe kept)) (r : R) (idle : Option LentStripe) (history : History) where
   abbrev pub landed : Shard R A
   landed = record old { rack = r; pass = Some q; kept = None; idle = idle; history = history }
 

@@ -20,10 +20,12 @@ use Rattle.draid_entries.specs.Maps.{key_of}
 use Rattle.draid_pass.specs.declared.pass.Pass.{Pass}
 use Rattle.draid_slots.specs.States.{HoldsPass, pass_in}
 use Rattle.draid_shard.specs.Fits.{Valid}
-use Rattle.draid_shard.specs.Loans.{IsKept, loan_in}
+use Rattle.draid_shard.specs.Loans.{IsKept, IsLentStripe, loan_in, stripe_loan}
 use Rattle.draid_shard.specs.Part.{IsRun}
 use Rattle.draid_shard.specs.States.{IsIn, layout_by, part_of}
 use Rattle.draid_shard.specs.declared.loan.KeptLoan.{KeptLoan}
+use Rattle.draid_shard.specs.declared.loan.KeptLoan.TheVariants.{Stripe}
+use Rattle.draid_shard.specs.declared.loan.LentStripe.{LentStripe}
 use Rattle.draid_shard.specs.declared.shard.Shard.{Shard}
 use Rattle.draid_shard.proofs.Held.{HasEntry, held_entry}
 use Rattle.draid_shard.proofs.Homes.{lays}
@@ -40,7 +42,7 @@ use Rattle.draid_mend.proofs.Loaned.{one_run}
 use Rattle.draid_mend.proofs.Missing.{are_marked}
 use Rattle.draid_mend.proofs.Standing.{land_step, mends}
 
-module _ {R A : Type 0} (rack : Ghosts R) (old : Shard R A) (v : Valid rack old) (pass : Pass) (there : old.pass ≡ Some pass) (runs : IsRunningRebuild pass) (kept : KeptLoan) (kept_there : old.kept ≡ Some kept) where
+module _ {R A : Type 0} (rack : Ghosts R) (old : Shard R A) (v : Valid rack old) (pass : Pass) (there : old.pass ≡ Some pass) (runs : IsRunningRebuild pass) (kept : LentStripe) (kept_there : old.kept ≡ Some (Stripe kept)) where
   abbrev l : machine.Layout
   l = layout_by old
 
@@ -48,9 +50,9 @@ module _ {R A : Type 0} (rack : Ghosts R) (old : Shard R A) (v : Valid rack old)
   p = pass_in old.slots pass
 
   abbrev n : machine.Loan
-  n = loan_in kept
+  n = stripe_loan kept
 
-  is_kept : IsKept old.geometry old.pass kept
+  is_kept : IsLentStripe old.geometry old.pass kept
   is_kept = subst (λ o. IfSome o (IsKept old.geometry old.pass)) kept_there v.kept
 
   pub pass_held : HoldsPass old.slots old.last_pass pass

@@ -30,11 +30,14 @@ use Rattle.draid_pass.specs.declared.pass.Pass.{Pass}
 use Rattle.draid_slots.specs.States.{name_of, pass_in}
 use Rattle.draid_slots.specs.Table.{SlotTable, arm_at}
 use Rattle.draid_shard.specs.Left.{HasNothingLeft}
+use Rattle.draid_shard.specs.Lends.{lend_events}
 use Rattle.draid_shard.specs.Fits.{HasLeaves, Valid}
-use Rattle.draid_shard.specs.Loans.{IsKept, chosen_at, loan_in, owed_for_loan}
+use Rattle.draid_shard.specs.Loans.{IsLentStripe, chosen_at, owed_for_loan, stripe_loan}
 use Rattle.draid_shard.specs.Part.{IsRun, Part, layout_in}
 use Rattle.draid_shard.specs.States.{Does, IsIn, layout_by, part_of}
 use Rattle.draid_shard.specs.declared.loan.KeptLoan.{KeptLoan}
+use Rattle.draid_shard.specs.declared.loan.KeptLoan.TheVariants.{Stripe}
+use Rattle.draid_shard.specs.declared.loan.LentStripe.{LentStripe}
 use Rattle.draid_shard.specs.declared.loan.Source.{Source}
 use Rattle.draid_shard.specs.declared.shard.Shard.{Shard}
 use Rattle.draid_shard.specs.Calls.{CountsFailed}
@@ -44,7 +47,7 @@ use Rattle.draid_shard.proofs.Standing.{has_layout}
 use Rattle.draid_mend.specs.Lending.{chosen_in, loan_of, taken_of, to_list}
 use Rattle.draid_spec.specs.declared.layout.Geometry.{Geometry}
 use Rattle.draid_mend.specs.declared.rooms.LendRoom.{LendRoom}
-use Rattle.draid_mend.specs.Loans.{HasLendRoom, IsRunningRebuild, IsUnit, LendsUnit, NamesSources, lend_events, source_in, unit_at}
+use Rattle.draid_mend.specs.Loans.{HasLendRoom, IsRunningRebuild, IsUnit, LendsUnit, NamesSources, source_in, unit_at}
 use Rattle.draid_mend.specs.Reading.{ReadsStripe}
 use Rattle.draid_mend.specs.Solving.{IsOneSector}
 use Rattle.draid_mend.specs.declared.reading.Taken.{Taken}
@@ -108,15 +111,15 @@ module _ {R A : Type 0} (shard : Shard R A) (entry : Entry) (stripe : ℕ) (unit
 
 -- ---- the shard
 
-module _ {R A : Type 0} (old : Shard R A) (r : R) (kept : KeptLoan) (history : History) where
+module _ {R A : Type 0} (old : Shard R A) (r : R) (kept : LentStripe) (history : History) where
   abbrev pub lent : Shard R A
-  lent = record old { rack = r; serial = old.serial + 1; kept = Some kept; history = history }
+  lent = record old { rack = r; serial = old.serial + 1; kept = Some (Stripe kept); history = history }
 
   owes_too : (o : Option KeptLoan) → owed_for_loan o + lend_events o ≡ 2
   owes_too None = refl
   owes_too (Some k) = refl
 
-  pub lent_valid : (rack : Ghosts R) → Valid rack old → rack.shape r ≡ rack.shape old.rack → IsKept old.geometry old.pass kept → owed_of history + 1 ≡ owed_of old.history + lend_events old.kept
+  pub lent_valid : (rack : Ghosts R) → Valid rack old → rack.shape r ≡ rack.shape old.rack → IsLentStripe old.geometry old.pass kept → owed_of history + 1 ≡ owed_of old.history + lend_events old.kept
       → reserved_of history ≡ reserved_of old.history → stored_of old.history + 1 ≤ stored_of history → Valid rack lent
   lent_valid rack v shape is owed reserved stored = record {
     part = v.part;
@@ -165,24 +168,25 @@ module _ {R A : Type 0} (rack : Ghosts R) (old : Shard R A) (v : Valid rack old)
 
 -- ---- the event
 
-abbrev pub kept_of : ℕ → ℕ → Pointer → Vec (Option Source) Global → StripeValue → Vec ℕ Global → KeptLoan
+abbrev pub kept_of : ℕ → ℕ → Pointer → Vec (Option Source) Global → StripeValue → Vec ℕ Global → LentStripe
 kept_of serial stripe pointer chosen columns room = record { serial = serial; stripe = stripe; pointer = pointer; chosen = chosen; columns = columns; failed = room }
 
 module _ {R A : Type 0} (rack : Ghosts R) (old : Shard R A) (v : Valid rack old) (entry : Entry) (stripe : ℕ) (unit : IsUnit old entry stripe)
     (pass : Pass) (there : old.pass ≡ Some pass) (runs : IsRunningRebuild pass) (r : R) (chosen : Vec (Option Source) Global) (columns : StripeValue) (room : Vec ℕ Global) (history : History)
     (taken : List Taken) (faults : Vec ℕ Global) (reads : ReadsStripe (part_of old) old.slots (unit_at entry.pointer stripe) old.geometry.g (rack.told old.rack) columns.columns taken faults.items)
     (named : NamesSources (part_of old) old.slots (unit_at entry.pointer stripe) taken old.geometry.g chosen.items) where
-  abbrev kept : KeptLoan
+  abbrev kept : LentStripe
   kept = kept_of (old.serial + 1) stripe entry.pointer chosen columns room
 
-  pub kept_is : (columns_are : IsOneSector old.geometry columns) → old.geometry.g * length pass.targets.items ≤ vec_capacity room → IsKept old.geometry old.pass kept
+  pub kept_is : (columns_are : IsOneSector old.geometry columns) → old.geometry.g * length pass.targets.items ≤ vec_capacity room → IsLentStripe old.geometry old.pass kept
   kept_is are enough = record {
     lender = pass;
     there = there;
+    kind = runs.rebuild;
     inside = unit_inside rack old v entry stripe unit;
     chosen = named.many;
     columns = record { parity = are.parity; ndata = are.ndata };
-    sector = λ e. are.len;
+    sector = are.len;
     room = enough;
   }
 
@@ -212,7 +216,7 @@ module _ {R A : Type 0} (rack : Ghosts R) (old : Shard R A) (v : Valid rack old)
     abbrev names : (c : ℕ) → chosen_in (part_of old) old.slots (unit_at entry.pointer stripe) taken c ≡ chosen_at chosen.items c
     names c = chosen_is (part_of old) old.slots (unit_at entry.pointer stripe) taken old.geometry.g chosen.items named reads.many c
 
-    loan_is : loan ≡ loan_in kept
+    loan_is : loan ≡ stripe_loan kept
     loan_is = λ i. record {
       key = key_of entry.pointer;
       stripe = stripe;
@@ -281,14 +285,14 @@ module _ {R A : Type 0} (rack : Ghosts R) (old b : Shard R A) (v : Valid rack ol
   named_at = subst (λ u. NamesSources (part_of old) old.slots u taken old.geometry.g chosen.items) u_is
       (subst (λ (s : Shard R A). NamesSources (part_of s) s.slots u taken s.geometry.g chosen.items) after named)
 
-  abbrev kept_now : KeptLoan
+  abbrev kept_now : LentStripe
   kept_now = kept_of (old.serial + 1) stripe entry.pointer chosen columns room
 
   abbrev pub final : Shard R A
-  final = record b { serial = b.serial + 1; kept = Some (kept_of (b.serial + 1) stripe entry.pointer chosen columns room); history = history }
+  final = record b { serial = b.serial + 1; kept = Some (Stripe (kept_of (b.serial + 1) stripe entry.pointer chosen columns room)); history = history }
 
   final_is : final ≡ lent old b.rack kept_now history
-  final_is = ap (λ (s : Shard R A). record s { serial = s.serial + 1; kept = Some (kept_of (s.serial + 1) stripe entry.pointer chosen columns room); history = history }) after
+  final_is = ap (λ (s : Shard R A). record s { serial = s.serial + 1; kept = Some (Stripe (kept_of (s.serial + 1) stripe entry.pointer chosen columns room)); history = history }) after
 
   same_history : b.history ≡ old.history
   same_history = ap (λ (s : Shard R A). s.history) after
@@ -321,7 +325,7 @@ module _ {R A : Type 0} (rack : Ghosts R) (old b : Shard R A) (v : Valid rack ol
 
 -- ---- room was made first
 
-module _ {R A : Type 0} (old : Shard R A) (idle : Option KeptLoan) (history : History) where
+module _ {R A : Type 0} (old : Shard R A) (idle : Option LentStripe) (history : History) where
   abbrev pub asked : Shard R A
   asked = record old { idle = idle; history = history }
 

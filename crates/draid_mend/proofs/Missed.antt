@@ -6,8 +6,9 @@ use Rattle.std.proofs.lemmas.List.Elements.{All-nil, All-push}
 use Rattle.draid_rack.specs.declared.Rack.{Ghosts}
 use Rattle.draid_block.proofs.Sets.{ascending-push}
 use Rattle.draid_shard.specs.Fits.{Valid}
-use Rattle.draid_shard.specs.Loans.{IsKept, owed_for_loan}
-use Rattle.draid_shard.specs.declared.loan.KeptLoan.{KeptLoan}
+use Rattle.draid_shard.specs.Loans.{IsKept, IsLentStripe, owed_for_loan}
+use Rattle.draid_shard.specs.declared.loan.KeptLoan.TheVariants.{Stripe}
+use Rattle.draid_shard.specs.declared.loan.LentStripe.{LentStripe}
 use Rattle.draid_shard.specs.declared.loan.Source.{Source}
 use Rattle.draid_shard.specs.declared.shard.Shard.{Shard}
 use Rattle.draid_mend.specs.Missing.{missing_in}
@@ -30,23 +31,24 @@ module _ (chosen : List (Option Source)) where
   missing_ascends (suc c) = ascend_by c (is_none (slice_index_or chosen c None)) (missing_ascends c)
 
 -- a loan whose columns changed alone, and not in their number and length
-module _ {R A : Type 0} (rack : Ghosts R) (old : Shard R A) (v : Valid rack old) (kept new : KeptLoan) (there : old.kept ≡ Some kept) (rest : new ≡ record kept { columns = new.columns })
+module _ {R A : Type 0} (rack : Ghosts R) (old : Shard R A) (v : Valid rack old) (kept new : LentStripe) (there : old.kept ≡ Some (Stripe kept)) (rest : new ≡ record kept { columns = new.columns })
     (parity : new.columns.parity ≡ kept.columns.parity) (ndata : new.columns.ndata ≡ kept.columns.ndata) (len : new.columns.len ≡ kept.columns.len) where
-  is : IsKept old.geometry old.pass kept
+  is : IsLentStripe old.geometry old.pass kept
   is = subst (λ o. IfSome o (IsKept old.geometry old.pass)) there v.kept
 
-  still : IsKept old.geometry old.pass (record kept { columns = new.columns })
+  still : IsLentStripe old.geometry old.pass (record kept { columns = new.columns })
   still = record {
     lender = is.lender;
     there = is.there;
+    kind = is.kind;
     inside = is.inside;
     chosen = is.chosen;
     columns = record { parity = parity ∙ is.columns.parity; ndata = ndata ∙ is.columns.ndata };
-    sector = λ e. len ∙ is.sector e;
+    sector = len ∙ is.sector;
     room = is.room;
   }
 
-  pub solved_valid : Valid rack (record old { kept = Some new })
+  pub solved_valid : Valid rack (record old { kept = Some (Stripe new) })
   solved_valid = record {
     part = v.part;
     version = v.version;
@@ -58,7 +60,7 @@ module _ {R A : Type 0} (rack : Ghosts R) (old : Shard R A) (v : Valid rack old)
     slots = v.slots;
     once = v.once;
     pass = v.pass;
-    kept = subst (IsKept old.geometry old.pass) (sym rest) still;
+    kept = subst (IsLentStripe old.geometry old.pass) (sym rest) still;
     serial = v.serial;
     flushed = v.flushed;
     logs = v.logs;

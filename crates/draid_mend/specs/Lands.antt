@@ -20,10 +20,13 @@ use Rattle.draid_plans.specs.Ends.{Loses, LosesAll}
 use Rattle.draid_entries.specs.Maps.{key_of}
 use Rattle.draid_shard.specs.Calls.{CountsFailed}
 use Rattle.draid_shard.specs.Fits.{HasLeaves}
-use Rattle.draid_shard.specs.Loans.{loan_in}
+use Rattle.draid_shard.specs.Lends.{GoesOnAt}
+use Rattle.draid_shard.specs.Loans.{stripe_loan}
 use Rattle.draid_shard.specs.Part.{IsPart, Part, layout_in}
 use Rattle.draid_shard.specs.States.{Does, IsIn, layout_by, part_of}
 use Rattle.draid_shard.specs.declared.loan.KeptLoan.{KeptLoan}
+use Rattle.draid_shard.specs.declared.loan.KeptLoan.TheVariants.{Block, Stripe}
+use Rattle.draid_shard.specs.declared.loan.LentStripe.{LentStripe}
 use Rattle.draid_shard.specs.declared.shard.Shard.{Shard}
 use Rattle.draid_mend.specs.Landing.{AreApartSources, LoanStands}
 use Rattle.draid_mend.specs.Loans.{unit_at}
@@ -33,17 +36,17 @@ use Rattle.draid_mend.specs.Solving.{HasContent, IsOneSector, SolvesRow}
 use Rattle.draid_mend.specs.Stripes.{FailsColumns, LandsBelow}
 
 -- no more columns of a loan are missing than the parity solves
-abbrev pub IsSolvable : Geometry → KeptLoan → Type 0
+abbrev pub IsSolvable : Geometry → LentStripe → Type 0
 IsSolvable geometry kept = length (missing_of kept) ≤ geometry.spec.parity
 
 -- What is kept of a loan is right in a state: the loan fact holds of what was read, the missing columns were solved of that, and its block has
 -- content.
-pub record KeptStands (part : Part) (w : machine.State) (kept : KeptLoan) (pieces : Pieces) (x : Told) : Type 0 where
+pub record KeptStands (part : Part) (w : machine.State) (kept : LentStripe) (pieces : Pieces) (x : Told) : Type 0 where
   pub h : Held
   pub found : w.core.held (key_of kept.pointer) ≡ Some h
   pub content : HasContent part.geometry h.stripes (key_of kept.pointer) pieces
   pub read : StripeValue
-  pub stands : LoanStands (layout_in part) w (loan_in kept) h pieces read x
+  pub stands : LoanStands (layout_in part) w (stripe_loan kept) h pieces read x
   pub solves : SolvesRow part.geometry (missing_of kept) read kept.columns
   pub sources : AreApartSources part w kept.stripe kept.chosen.items
 
@@ -52,8 +55,8 @@ pub record KeptStands (part : Part) (w : machine.State) (kept : KeptLoan) (piece
 pub record LandsUnit {R A : Type 0} (rack : Ghosts R) (old new : Shard R A) : Type 0 where
   pub pass : Pass
   pub pass_is : old.pass ≡ Some pass
-  pub kept : KeptLoan
-  pub kept_is : old.kept ≡ Some kept
+  pub kept : LentStripe
+  pub kept_is : old.kept ≡ Some (Stripe kept)
   pub failed : Vec ℕ Global
   pub does : Does old new (LandStripe pass.number kept.serial failed)
   pub acts : (pieces : Pieces) (w after : machine.State) (step : Step (layout_by old) w (LandStripe pass.number kept.serial failed) after)
@@ -62,20 +65,13 @@ pub record LandsUnit {R A : Type 0} (rack : Ghosts R) (old new : Shard R A) : Ty
       → OnBothTold (rack.told old.rack) (rack.told new.rack) (Acts (layout_by old) w (LandStripe pass.number kept.serial failed) after step pieces)
   pub counts : CountsFailed failed.items (rack.faults old.rack) (rack.faults new.rack)
 
--- a pass goes on behind a stripe
-pub record GoesOnBehind (stripe : ℕ) (old new : Pass) : Type 0 where
-  pub number : new.number ≡ old.number
-  pub kind : new.kind ≡ old.kind
-  pub max : new.max ≡ old.max
-  pub running : new.running ≡ old.running
-  pub at : new.at ≡ stripe + 1
-
--- the pass that there is goes on behind the stripe of the loan that there was
+-- the pass that there is goes on behind the stripe of the loan that there was, which is a rebuild's
 abbrev pub MovesOver : Option KeptLoan → Option Pass → Option Pass → Type 0
 MovesOver None old new = new ≡ old
-MovesOver (Some kept) None new = new ≡ None
-MovesOver (Some kept) (Some old) None = ⊥
-MovesOver (Some kept) (Some old) (Some new) = GoesOnBehind kept.stripe old new
+MovesOver (Some (Block lent)) old new = ⊥
+MovesOver (Some (Stripe kept)) None new = new ≡ None
+MovesOver (Some (Stripe kept)) (Some old) None = ⊥
+MovesOver (Some (Stripe kept)) (Some old) (Some new) = GoesOnAt (kept.stripe + 1) old new
 
 -- ---- the parts of a landing
 
@@ -86,14 +82,14 @@ pub record IsLaid {R A : Type 0} (rack : Ghosts R) (shard : Shard R A) : Type 0 
   pub leaves : HasLeaves (rack.shape shard.rack) shard.geometry shard.slots
 
 -- what is kept is of a stripe of the metaslab, and has room for each call that may fail
-pub record MayLand (geometry : Geometry) (pass : Pass) (kept : KeptLoan) : Type 0 where
+pub record MayLand (geometry : Geometry) (pass : Pass) (kept : LentStripe) : Type 0 where
   pub inside : kept.stripe < metaslab_stripes geometry
   pub chosen : length kept.chosen.items ≡ geometry.g
   pub columns : IsOneSector geometry kept.columns
   pub room : geometry.g * length pass.targets.items ≤ vec_capacity kept.failed
 
 -- The columns landed, these leaves failed, and the pass lost the targets that miss the stripe.
-pub record LandsSolved {R A : Type 0} (rack : Ghosts R) (old new : Shard R A) (pass left : Pass) (kept : KeptLoan) (failed : List ℕ) : Type 0 where
+pub record LandsSolved {R A : Type 0} (rack : Ghosts R) (old new : Shard R A) (pass left : Pass) (kept : LentStripe) (failed : List ℕ) : Type 0 where
   pub only : new ≡ record old { rack = new.rack }
   pub shape : rack.shape new.rack ≡ rack.shape old.rack
   pub counts : CountsFailed failed (rack.faults old.rack) (rack.faults new.rack)
@@ -112,7 +108,7 @@ pub record PassesOver {R A : Type 0} (old new : Shard R A) (pass left : Pass) (f
   pub counted : left ≡ record pass { errors = capped (pass.errors + 1) }
 
 -- the one where the parity solves the columns that are missing, and else the other
-pub record LandsKept {R A : Type 0} (rack : Ghosts R) (old new : Shard R A) (pass left : Pass) (kept landed : KeptLoan) : Type 0 where
+pub record LandsKept {R A : Type 0} (rack : Ghosts R) (old new : Shard R A) (pass left : Pass) (kept landed : LentStripe) : Type 0 where
   pub rest : landed ≡ record kept { failed = landed.failed }
   pub few : IsSolvable old.geometry kept → LandsSolved rack old new pass left kept landed.failed.items
   pub many : old.geometry.spec.parity < length (missing_of kept) → PassesOver old new pass left landed.failed.items

@@ -6,7 +6,6 @@ use Rattle.draid_names.specs.declared.pass_kind.PassKind.TheVariants.{Rebuild}
 use Rattle.draid_names.specs.declared.pointer.Pointer.{Pointer}
 use Rattle.draid_machine.specs.declared.event.Event.TheVariants.{Lend}
 use Rattle.draid_machine.specs.State as machine
-use Rattle.draid_entries.specs.History.{owed_of, stored_of}
 use Rattle.draid_entries.specs.declared.entry.Entry.{Entry}
 use Rattle.draid_spec.specs.declared.layout.Geometry.{Geometry}
 use Rattle.draid_shard.specs.Looks.{IsNextTaken, IsOver}
@@ -19,14 +18,12 @@ use Rattle.draid_slots.specs.Table.{IsThere, SlotTable, arm_at}
 use Rattle.draid_segments.specs.Segments.{Pieces}
 use Rattle.draid_shard.specs.Calls.{ActsOn, CountsFailed}
 use Rattle.draid_shard.specs.Part.{Part, layout_in}
-use Rattle.draid_shard.specs.Rooms.{IsWornFor}
 use Rattle.draid_shard.specs.States.{Does, IsIn, part_of}
-use Rattle.draid_shard.specs.declared.loan.KeptLoan.{KeptLoan}
+use Rattle.draid_shard.specs.declared.loan.KeptLoan.TheVariants.{Stripe}
+use Rattle.draid_shard.specs.declared.loan.LentStripe.{LentStripe}
 use Rattle.draid_shard.specs.declared.loan.Source.{Source}
 use Rattle.draid_shard.specs.declared.shard.Shard.{Shard}
 use Rattle.draid_mend.specs.Reading.{HasRoomFor, ReadsStripe}
-use Rattle.draid_mend.specs.declared.loans.LendFault.{LendFault}
-use Rattle.draid_mend.specs.declared.loans.LendFault.TheVariants.{Worn, NoMemory}
 use Rattle.draid_mend.specs.declared.reading.Taken.{Taken}
 use Rattle.draid_mend.specs.declared.reading.Taken.TheVariants.{Nowhere, Failed, From}
 
@@ -63,16 +60,6 @@ pub record HasLendRoom (geometry : Geometry) (targets : ℕ) (room : LendRoom) :
   pub named : room.chosen.items ≡ []
   pub failed : geometry.g * targets ≤ vec_capacity room.failed
 
--- a lend asks for its own event, and for the landing's where none is owed yet
-abbrev pub lend_events : Option KeptLoan → ℕ
-lend_events None = 2
-lend_events (Some kept) = 1
-
--- why none is lent, though something is left
-abbrev pub IsLendRefused : {R A : Type 0} → Shard R A → LendFault → Type 0
-IsLendRefused shard (Worn events) = IsWornFor shard (lend_events shard.kept) × (events ≡ stored_of shard.history + owed_of shard.history)
-IsLendRefused shard NoMemory = ⊤
-
 -- ---- from where the columns were taken
 
 -- one stripe of a block
@@ -99,7 +86,7 @@ AreTaken part slots pointer taken =
 -- ---- what is kept of a stripe
 
 -- each of its columns was read from its source, where it has one whose call didn't fail, while the rack told this
-pub record IsReadFrom (part : Part) (slots : SlotTable) (told : Option Told) (kept : KeptLoan) : Type 0 where
+pub record IsReadFrom (part : Part) (slots : SlotTable) (told : Option Told) (kept : LentStripe) : Type 0 where
   pub taken : List Taken
   pub faults : List ℕ
   pub reads : ReadsStripe part slots (unit_at kept.pointer kept.stripe) part.geometry.g told kept.columns.columns taken faults
@@ -111,8 +98,8 @@ pub record LendsUnit {R A : Type 0} (rack : Ghosts R) (old new : Shard R A) : Ty
   pub does : Does old new (Lend failed)
   pub acts : (pieces : Pieces) → ActsOn rack old new (Lend failed) pieces
   pub counts : CountsFailed failed.items (rack.faults old.rack) (rack.faults new.rack)
-  pub kept : KeptLoan
-  pub kept_is : new.kept ≡ Some kept
+  pub kept : LentStripe
+  pub kept_is : new.kept ≡ Some (Stripe kept)
   pub serial : kept.serial ≡ old.serial + 1
   pub behind : IfSome old.pass (λ pass. pass.at ≤ kept.stripe)
   pub read : IsReadFrom (part_of old) old.slots (rack.told old.rack) kept

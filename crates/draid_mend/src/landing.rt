@@ -18,7 +18,7 @@ use draid_names::LAST_NUMBER;
 use draid_pass::Pass;
 use draid_plans::lose_marked;
 use draid_rack::Rack;
-use draid_shard::{KeptLoan, Shard};
+use draid_shard::{KeptLoan, LentStripe, Shard};
 use std::alloc::Global;
 
 /// Writes the stripe that is lent to the targets of the pass: each column to the targets of its slot that answer. A target that
@@ -40,7 +40,7 @@ pub fn land<R: Rack, A: Area>(shard: &mut Shard<R, A>)
     let Some(mut pass) = shard.pass.take() else {
         unreachable!()
     };
-    let Some(mut kept) = shard.kept.take() else {
+    let Some(KeptLoan::Stripe(mut kept)) = shard.kept.take() else {
         unreachable!()
     };
     land_kept(shard, &mut pass, &mut kept);
@@ -56,7 +56,7 @@ pub fn land<R: Rack, A: Area>(shard: &mut Shard<R, A>)
 }
 
 /// Writes what is kept of a loan, unless too many of its columns are missing.
-fn land_kept<R: Rack, A: Area>(shard: &mut Shard<R, A>, pass: &mut Pass, kept: &mut KeptLoan)
+fn land_kept<R: Rack, A: Area>(shard: &mut Shard<R, A>, pass: &mut Pass, kept: &mut LentStripe)
     requires laid { IsLaid R.Rack shard.old }
     requires there { All (IsThere shard.old.slots) pass.old.targets.items }
     requires may { MayLand shard.old.geometry pass.old kept.old }
@@ -72,7 +72,7 @@ fn land_kept<R: Rack, A: Area>(shard: &mut Shard<R, A>, pass: &mut Pass, kept: &
 }
 
 /// Writes it, and the pass loses the targets that miss it.
-fn land_solved<R: Rack, A: Area>(shard: &mut Shard<R, A>, pass: &mut Pass, kept: &mut KeptLoan)
+fn land_solved<R: Rack, A: Area>(shard: &mut Shard<R, A>, pass: &mut Pass, kept: &mut LentStripe)
     requires laid { IsLaid R.Rack shard.old }
     requires there { All (IsThere shard.old.slots) pass.old.targets.items }
     requires may { MayLand shard.old.geometry pass.old kept.old }

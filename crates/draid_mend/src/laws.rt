@@ -23,10 +23,11 @@ ghost use Rattle.draid_slots.specs.States.{HasSlots, names_at};
 ghost use Rattle.draid_slots.specs.Table.{SlotTable};
 ghost use Rattle.draid_shard.specs.Part.{IsPart, IsRun, Part, layout_in};
 ghost use Rattle.draid_shard.specs.Fits.{Valid};
-ghost use Rattle.draid_shard.specs.Loans.{chosen_at, loan_in};
+ghost use Rattle.draid_shard.specs.Loans.{chosen_at, stripe_loan};
 ghost use Rattle.draid_shard.specs.Stands.{StandsFor};
 ghost use Rattle.draid_shard.specs.States.{IsIn, part_of};
-ghost use Rattle.draid_shard.specs.declared.loan.KeptLoan.{KeptLoan};
+ghost use Rattle.draid_shard.specs.declared.loan.KeptLoan.TheVariants.{Stripe};
+ghost use Rattle.draid_shard.specs.declared.loan.LentStripe.{LentStripe};
 ghost use Rattle.draid_shard.specs.declared.loan.Source.{Source};
 ghost use Rattle.draid_shard.specs.declared.shard.Shard.{Shard};
 ghost use Rattle.draid_mend.specs.Missing.{SolvesLoan, missing_of};
@@ -130,16 +131,16 @@ pub fn targets_are_no_sources()
 
 /// Law: the columns of a loan that are listed as missing are those without a source, and as many as the machine counts.
 pub fn missing_columns_are_listed()
-    ensures missing { (l : machine.Layout) (kept : KeptLoan) → l.columns ≡ length kept.chosen.items → AreMissing l (loan_in kept) (missing_of kept) }
-    ensures many { (l : machine.Layout) (kept : KeptLoan) → l.columns ≡ length kept.chosen.items → unsourced l (loan_in kept) ≡ length (missing_of kept) }
+    ensures missing { (l : machine.Layout) (kept : LentStripe) → l.columns ≡ length kept.chosen.items → AreMissing l (stripe_loan kept) (missing_of kept) }
+    ensures many { (l : machine.Layout) (kept : LentStripe) → l.columns ≡ length kept.chosen.items → unsourced l (stripe_loan kept) ≡ length (missing_of kept) }
 {}
 
 /// Law: what was lent of a stripe, and solved, is right in the state that the lend led to, so that it may land.
 pub fn solved_loans_stand<R: Rack, A: Area>()
-    ensures { (part : Part) (old lent solved : Shard R A) (w v : machine.State) (pieces : Pieces) (kept : KeptLoan) (unit : LendsUnit R.Rack old lent)
+    ensures { (part : Part) (old lent solved : Shard R A) (w v : machine.State) (pieces : Pieces) (kept : LentStripe) (unit : LendsUnit R.Rack old lent)
         → part_of old ≡ part → Valid R.Rack old → Valid R.Rack lent → IsSomeAnd old.pass IsRunningRebuild → StandsFor R.Rack old w pieces
         → ((k : Key) (h : Held) → w.core.held k ≡ Some h → HasContent part.geometry h.stripes k pieces)
         → R.told lent.rack ≡ R.told old.rack → Step (layout_in part) w (Lend unit.failed) v → IsIn lent v
         → SolvesLoan old.geometry lent.kept solved.kept → solved ≡ record lent { kept = solved.kept }
-        → solved.kept ≡ Some kept → IsSolvable part.geometry kept → OnTold (R.told solved.rack) (KeptStands part v kept pieces) }
+        → solved.kept ≡ Some (Stripe kept) → IsSolvable part.geometry kept → OnTold (R.told solved.rack) (KeptStands part v kept pieces) }
 {}

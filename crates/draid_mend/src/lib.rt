@@ -22,5 +22,5 @@ pub use laws::{
     sources_taint, stripes_are_landed, stripes_are_lent, stripes_are_mended, stripes_land_apart,
     targets_are_no_sources,
 };
-pub use loans::{LendFault, Lent, lend};
+pub use loans::lend;
 pub use solving::solve;

@@ -9,9 +9,10 @@ ghost use Rattle.draid_shard.specs.Calls.{SameAreas, SameKit, SameReserve};
 ghost use Rattle.draid_shard.specs.Changes.{DoesNothing, KeepsBlocks};
 ghost use Rattle.draid_shard.specs.Fits.{Valid};
 ghost use Rattle.draid_shard.specs.Left.{HasNothingLeft};
+ghost use Rattle.draid_shard.specs.Lends.{IsLendRefused, lend_events};
 ghost use Rattle.draid_shard.specs.Rooms.{IsWornFor};
 ghost use Rattle.draid_shard.specs.States.{IsIn};
-ghost use Rattle.draid_mend.specs.Loans.{HasLendRoom, HasUnit, IsLendRefused, IsPlaceOf, IsRunningRebuild, IsTargetsOf, IsUnit, LendsUnit, lend_events, unit_at};
+ghost use Rattle.draid_mend.specs.Loans.{HasLendRoom, HasUnit, IsPlaceOf, IsRunningRebuild, IsTargetsOf, IsUnit, LendsUnit, unit_at};
 
 use crate::lending::{Readings, read_stripe};
 use crate::naming::name_sources;
@@ -22,22 +23,7 @@ use draid_machine::Event;
 use draid_names::{NoMemory, Pointer};
 use draid_pass::Pass;
 use draid_rack::Rack;
-use draid_shard::{KeptLoan, Shard};
-
-/// What a lend comes to: a stripe was lent, or none is left.
-#[derive(Clone, Copy, PartialEq, Eq)]
-pub enum Lent {
-    Unit,
-    End,
-}
-
-/// Why a stripe isn't lent.
-#[derive(Clone, Copy, PartialEq, Eq)]
-pub enum LendFault {
-    /// The limit leaves too few events; so many are stored or owed.
-    Worn { events: u64 },
-    NoMemory,
-}
+use draid_shard::{KeptLoan, LendFault, Lent, LentStripe, Shard};
 
 /// Lends the next stripe that a block has, at the place where a rebuild stands or behind it: each column is read from its
 /// source. The loan that counted doesn't any more.
@@ -192,14 +178,14 @@ fn lend_unit<R: Rack, A: Area>(shard: &mut Shard<R, A>, entry: Entry, stripe: u6
         ..
     } = lent;
     shard.serial += 1;
-    shard.kept = Some(KeptLoan {
+    shard.kept = Some(KeptLoan::Stripe(LentStripe {
         serial: shard.serial,
         stripe,
         pointer: entry.pointer,
         chosen,
         columns,
         failed,
-    });
+    }));
     shard
         .history
         .add_asked(Event::Lend { failed: faults }, events);

@@ -7,7 +7,7 @@ ghost use Rattle.draid_mend.specs.Rooms.{HasColumnsFor};
 use crate::lending::Readings;
 use draid_names::NoMemory;
 use draid_parity::Stripe;
-use draid_shard::{KeptLoan, Source};
+use draid_shard::{LentStripe, Source};
 use draid_spec::Geometry;
 use std::alloc::Global;
 
@@ -32,7 +32,7 @@ pub(crate) fn room_for(
     alloc: Global,
     geometry: &Geometry,
     targets: usize,
-    idle: Option<KeptLoan>,
+    idle: Option<LentStripe>,
 ) -> Result<LendRoom, NoMemory>
     requires geometry { IsGeometry geometry.now }
     ensures { IfOk result (HasLendRoom geometry.now targets) }
@@ -64,7 +64,11 @@ pub(crate) fn room_for(
 }
 
 /// The parts that an earlier loan left, if its columns are those of a stripe of the layout, and else new ones.
-fn parts_for(alloc: Global, geometry: &Geometry, idle: Option<KeptLoan>) -> Result<Parts, NoMemory>
+fn parts_for(
+    alloc: Global,
+    geometry: &Geometry,
+    idle: Option<LentStripe>,
+) -> Result<Parts, NoMemory>
     requires geometry { IsGeometry geometry.now }
     ensures { IfOk result (λ parts. HasColumnsFor geometry.now parts.columns) }
 {

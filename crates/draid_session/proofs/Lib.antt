@@ -2,6 +2,7 @@ pub mod Beside
 pub mod Again
 pub mod Answering
 pub mod Arming
+pub mod Balancing
 pub mod Calm
 pub mod Certain
 pub mod Changing

@@ -74,7 +74,7 @@ module _ (geometry : Geometry) (perms : Perms) where
   start_calm : (kind : PassKind) (m at : ℕ) (holds : List Hold) (end : End) → passes.PlansNone geometry perms kind m holds end → AllOf IsCalmHold holds
   start_calm kind m at holds end p = look_calm p.v holds p.are
 
-  starts_calm : (kind : PassKind) (m at : ℕ) → IsPhase IsCalmHold (passes.Starts geometry perms kind m at)
+  pub starts_calm : (kind : PassKind) (m at : ℕ) → IsPhase IsCalmHold (passes.Starts geometry perms kind m at)
   starts_calm kind m at holds Went (inl g) = look_calm g.v holds g.are
   starts_calm kind m at holds Went (inr p) = subst (AllOf IsCalmHold) (sym p.1.are) (tt, tt)
   starts_calm kind m at holds WasWorn p = start_calm kind m at holds WasWorn p
@@ -108,7 +108,7 @@ module _ (geometry : Geometry) (perms : Perms) where
   last_calm m left t holds (Stopped WasLast) new l = absurd l
   last_calm m left t holds (Stopped Broke) new l = absurd l
 
-  lends_calm : (kind : PassKind) (m n : ℕ) (left : Option ℕ) (t : Tally) (holds : List Hold) (o : Outcome) (after : Option ℕ) (new : Tally)
+  pub lends_calm : (kind : PassKind) (m n : ℕ) (left : Option ℕ) (t : Tally) (holds : List Hold) (o : Outcome) (after : Option ℕ) (new : Tally)
       → passes.Lends geometry perms kind m n left t holds o after new → AllOf IsCalmHold holds
   lends_calm kind m zero left t holds o after new l = last_calm m left t holds o new l.0
   lends_calm kind m (suc n) left t holds o after new (rest, repaired, some, one, more) =
@@ -261,7 +261,7 @@ module _ (geometry : Geometry) (perms : Perms) where
         (looks_from_calm 0 geometry.props.metaslabs r.finds.looks r.views r.finds.looked)
         (visits_none Rebuild (passes.IsRebuilt geometry perms) r.views limit passes.nothing_yet r.rest r.t r.visits r.none))) follows
 
-    other_keeps : (kind : PassKind) (holds : List Hold) (metaslab number : ℕ) → passes.FindsOther geometry perms kind holds metaslab number → Follows holds x z → KeepsOpen z store b
+    pub other_keeps : (kind : PassKind) (holds : List Hold) (metaslab number : ℕ) → passes.FindsOther geometry perms kind holds metaslab number → Follows holds x z → KeepsOpen z store b
     other_keeps kind holds metaslab number f follows = calm_keeps holds (looks_from_calm 0 geometry.props.metaslabs holds f.views f.looked) follows
 
     cancel_calm : (m : ℕ) (hold : Hold) (ended : ℕ) → passes.CancelsAt geometry perms m hold ended → IsCalmHold hold

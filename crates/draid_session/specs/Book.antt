@@ -5,7 +5,7 @@ use Rattle.sha2.specs.Sha256.{sha256}
 use Rattle.draid_names.specs.declared.refusal.ObjectFault.{ObjectFault}
 use Rattle.draid_names.specs.declared.refusal.ObjectFault.TheVariants as fault
 use Rattle.draid_script.specs.Grammar.{line_of}
-use Rattle.draid_script.specs.Line.{Command, Silent, CreatePool, ImportPool, ExportPool, SyncPool, CancelPasses, CrashPool, WriteObject, FillObjects, ReadObject, FreeObject, SumObjects, TakeOffline, TakeOnline, DamageSector, AttachSpare, ReplaceDisk, DetachArm, RebuildPool, ScrubPool, ShowStatus, UpgradePool}
+use Rattle.draid_script.specs.Line.{Command, Silent, CreatePool, ImportPool, ExportPool, SyncPool, CancelPasses, CrashPool, WriteObject, FillObjects, ReadObject, FreeObject, SumObjects, TakeOffline, TakeOnline, DamageSector, AttachSpare, ReplaceDisk, DetachArm, RebuildPool, ScrubPool, RebalanceSlot, ShowStatus, UpgradePool}
 use Rattle.draid_script.specs.declared.fault.LineFault.{LineFault}
 use Rattle.draid_script.specs.declared.line.StatusFormat.{StatusFormat}
 use Rattle.draid_script.specs.declared.line.StatusFormat.TheVariants as format
@@ -14,7 +14,7 @@ use Rattle.draid_report.specs.Text.{text_of}
 use Rattle.draid_report.specs.Tree.{json_of}
 use Rattle.draid_report.specs.declared.view.View.{View}
 use Rattle.draid_reply.specs.declared.reply.Reply.{Reply}
-use Rattle.draid_reply.specs.declared.reply.Reply.TheVariants.{NoPool, PoolOpen, NoMemory, Worn, Last, PassThere, Created, CreateRefused, Imported, Exported, Crashed, Synced, Written, NoSpace, Missed, WriteLast, Filled, FillRefused, Contents, NoObject, Unreadable, ReadWorn, Summed, SumRefused, Freed, FreeNoObject, Damaged, DamageRefused, DamageFailed, DamageWorn, OfflineDone, OfflineRefused, OfflineWorn, OnlineDone, OnlineRefused, OnlineWorn, Spared, SpareRefused, SpareWorn, Replaced, ReplaceRefused, ReplaceWorn, Detached, DetachRefused, DetachWorn, DetachLast, Rebuilt, RebuildNothing, Scrubbed, Cancelled, Status, Upgraded, UpgradeAlready}
+use Rattle.draid_reply.specs.declared.reply.Reply.TheVariants.{NoPool, PoolOpen, NoMemory, Worn, Last, PassThere, Created, CreateRefused, Imported, Exported, Crashed, Synced, Written, NoSpace, Missed, WriteLast, Filled, FillRefused, Contents, NoObject, Unreadable, ReadWorn, Summed, SumRefused, Freed, FreeNoObject, Damaged, DamageRefused, DamageFailed, DamageWorn, OfflineDone, OfflineRefused, OfflineWorn, OnlineDone, OnlineRefused, OnlineWorn, Spared, SpareRefused, SpareWorn, Replaced, ReplaceRefused, ReplaceWorn, Detached, DetachRefused, DetachWorn, DetachLast, Rebuilt, RebuildNothing, Scrubbed, Rebalanced, RebalanceRefused, RebalanceWorn, RebalanceLast, Cancelled, Status, Upgraded, UpgradeAlready}
 use Rattle.draid_session.specs.Said.{Said}
 use Rattle.draid_session.specs.Making.{content_of}
 use Rattle.draid_session.specs.Reads.{ReadsAs}
@@ -173,8 +173,8 @@ pub record IsStatusOf (old : Book) (format : StatusFormat) (text : List ℕ) : T
 abbrev pub MayHaveSynced : Book → Book → Type 0
 MayHaveSynced old new = (untold : ℕ) × (old.untold ≤ untold) × (new ≡ record old { untold = untold })
 
--- What a command does where a pool is open. One that changes arms or the version, and a pass, changes no object; a detachment and an upgrade end with a sync, a rebuild may commit
--- groups of which it doesn't tell, and the others name no group.
+-- What a command does where a pool is open. One that changes arms or the version, and a pass, changes no object; a detachment and an upgrade end with a sync, a rebuild and a
+-- rebalance may commit groups of which they don't tell, and the others name no group.
 abbrev pub OpenAnswers : Book → Command → Reply → Book → Type 0
 OpenAnswers old (WriteObject object bytes) (Written o) new = (o ≡ object) × (new ≡ changed object (Some bytes) old)
 OpenAnswers old (WriteObject object bytes) (NoSpace o run disabled full worn) new = (o ≡ object) × (new ≡ old)
@@ -244,6 +244,13 @@ OpenAnswers old (ScrubPool limit) (Worn name.Scrub) new = new ≡ old
 OpenAnswers old (ScrubPool limit) (Last name.Scrub) new = new ≡ old
 OpenAnswers old (ScrubPool limit) (NoMemory name.Scrub) new = new ≡ old
 OpenAnswers old CancelPasses (Cancelled passes) new = new ≡ old
+OpenAnswers old (RebalanceSlot slot) (Rebalanced s blocks repaired errors None) new = (s ≡ slot) × (new ≡ doubtful old)
+OpenAnswers old (RebalanceSlot slot) (Rebalanced s blocks repaired errors (Some group)) new =
+    (s ≡ slot) × NamesNext (doubtful old) group × (new ≡ synced group (doubtful old))
+OpenAnswers old (RebalanceSlot slot) (RebalanceRefused s why) new = (s ≡ slot) × (new ≡ old)
+OpenAnswers old (RebalanceSlot slot) (RebalanceWorn s) new = (s ≡ slot) × MayHaveSynced old new
+OpenAnswers old (RebalanceSlot slot) (RebalanceLast s) new = (s ≡ slot) × MayHaveSynced old new
+OpenAnswers old (RebalanceSlot slot) (NoMemory name.Rebalance) new = MayHaveSynced old new
 OpenAnswers old UpgradePool (Upgraded group) new = NamesNext old group × (new ≡ synced group old)
 OpenAnswers old UpgradePool UpgradeAlready new = new ≡ old
 OpenAnswers old UpgradePool (Worn name.Upgrade) new = new ≡ doubtful old
@@ -301,6 +308,7 @@ OpenBreaks old (AttachSpare slot spare) new = new ≡ old
 OpenBreaks old (ReplaceDisk slot sectors) new = new ≡ old
 OpenBreaks old (DetachArm arm) new = new ≡ doubtful old
 OpenBreaks old (RebuildPool limit) new = MayHaveSynced old new
+OpenBreaks old (RebalanceSlot slot) new = MayHaveSynced old new
 OpenBreaks old UpgradePool new = new ≡ doubtful old
 OpenBreaks old command new = ⊥
 

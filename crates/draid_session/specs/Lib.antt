@@ -1,4 +1,5 @@
 pub mod Arms
+pub mod Balance
 pub mod Book
 pub mod Certain
 pub mod Choices

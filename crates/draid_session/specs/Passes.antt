@@ -18,7 +18,7 @@ use Rattle.draid_machine.specs.State as machine
 use Rattle.draid_machine.specs.Step.{IsNext, ReadyStep}
 use Rattle.draid_session.specs.Groups.{Syncs}
 use Rattle.draid_session.specs.Holds.{View, Looked, Did, Hold, On, layout_at}
-use Rattle.draid_session.specs.Looks.{CountIs, Looks, OnlyLooks}
+use Rattle.draid_session.specs.Looks.{Looks, OnlyLooks}
 use Rattle.draid_session.specs.Phases.{End, Went, WasWorn, WasLast, Starved, Chain, NoneOf, Walk}
 use Rattle.draid_session.specs.Worn.{IsWorn}
 

@@ -40,3 +40,6 @@ returns-clause-bytes c =
     let P = λ (s : StripeValue). (block_value c.args.geometry.now.props.sector (length c.args.bytes.now) s).bytes ≡ c.args.bytes.now in
     subst P (sym (shape c))
     (bytes_are (cut_of c.args.geometry.now) c.args.bytes.now c.encode.new.self.columns g.spec.some_data (some_sector c.args.geometry.now g) (columns_are c))
+
+pub returns-clause-columns : goal.returns-clause-columns
+returns-clause-columns c = (invariant_of-result c).columns
