@@ -1,6 +1,7 @@
 -- A stripe of a rebuild is lent in a metaslab of a pool, solved, and lands.
-use Rattle.std.proofs.Common.{◌≡◌, ◌<◌, ◌≤◌, ◌∙◌, false, [], ◌∷◌, Option, Some, None, arith, refl, sym, ap, subst}
+use Rattle.std.proofs.Common.{◌≡◌, ◌<◌, ◌≤◌, ◌+◌, ◌∙◌, false, [], ◌∷◌, Option, Some, None, arith, refl, sym, ap, subst}
 use Rattle.std.specs.Prelude.{IfSome, IsSome, IsSomeAnd}
+use Rattle.draid_names.specs.declared.pass_kind.PassKind.TheVariants.{Rebuild}
 use Rattle.draid_rack.specs.Rack.{OnTold}
 use Rattle.draid_rack.specs.declared.Rack as racks
 use Rattle.draid_area.specs.declared.Area as areas
@@ -13,15 +14,18 @@ use Rattle.draid_entries.specs.History.{limit_in, reserved_of}
 use Rattle.draid_pass.specs.declared.pass.Pass.{Pass}
 use Rattle.draid_shard.specs.Calls.{SameAreas, SameReserve}
 use Rattle.draid_shard.specs.Fits.{Valid}
-use Rattle.draid_shard.specs.Loans.{IsKept}
+use Rattle.draid_shard.specs.Lends.{GoesOnAt, lend_events}
+use Rattle.draid_shard.specs.Loans.{IsKept, IsLentStripe}
 use Rattle.draid_shard.specs.Part.{Part, layout_in}
 use Rattle.draid_shard.specs.Rooms.{IsWornFor}
 use Rattle.draid_shard.specs.States.{DoesNone, part_of}
 use Rattle.draid_shard.specs.declared.loan.KeptLoan.{KeptLoan}
+use Rattle.draid_shard.specs.declared.loan.KeptLoan.TheVariants.{Block, Stripe}
+use Rattle.draid_shard.specs.declared.loan.LentStripe.{LentStripe}
 use Rattle.draid_shard.specs.declared.shard.Shard.{Shard}
 use Rattle.draid_mend.specs.Lands as lands
-use Rattle.draid_mend.specs.Lands.{GoesOnBehind, IsSolvable, KeptStands, MovesOver}
-use Rattle.draid_mend.specs.Loans.{IsRunningRebuild, LendsUnit, lend_events}
+use Rattle.draid_mend.specs.Lands.{IsSolvable, KeptStands, MovesOver}
+use Rattle.draid_mend.specs.Loans.{IsRunningRebuild, LendsUnit}
 use Rattle.draid_mend.specs.Missing.{SolvesLoan}
 use Rattle.draid_mend.proofs.Chained.{loan_is_right}
 use Rattle.draid_session.specs.Holds.{Did, On, view_of}
@@ -34,20 +38,31 @@ use Rattle.draid_pool.proofs.Imaged.{keeps_then}
 use Rattle.draid_visits.specs.Steps.{HasContents, MovesOn, NextIs}
 use Rattle.draid_visits.specs.declared.steps.Next.TheVariants as next
 use Rattle.draid_visits.proofs.Landed.{landed_at}
-use Rattle.draid_visits.proofs.Over.{running_of, told_worn}
+use Rattle.draid_visits.proofs.Over.{told_worn}
 use Rattle.draid_visits.proofs.PassSteps.{raised, rebuild_did, rebuild_leaves}
 
 -- ---- where the pass stands then
 
+-- the rebuild that runs
+record Running (o : Option Pass) : Type 0 where
+  pub pass : Pass
+  pub there : o ≡ Some pass
+  pub is : IsRunningRebuild pass
+
+running_of : (o : Option Pass) → IsSomeAnd o IsRunningRebuild → Running o
+running_of None is = absurd is
+running_of (Some p) is = record { pass = p; there = refl; is = is }
+
 -- what is kept of a loan is there still when it is solved
-pub solved_kept : (geometry : Geometry) (o new : Option KeptLoan) (k : KeptLoan) → o ≡ Some k → SolvesLoan geometry o new → (solved : StripeValue) × (new ≡ Some (record k { columns = solved }))
+pub solved_kept : (geometry : Geometry) (o new : Option KeptLoan) (k : LentStripe) → o ≡ Some (Stripe k) → SolvesLoan geometry o new → (solved : StripeValue) × (new ≡ Some (Stripe (record k { columns = solved })))
 solved_kept geometry None new k is solves = absurd (cc)
-solved_kept geometry (Some j) new k is solves = (solves.0, solves.1 ∙ ap (λ (z : KeptLoan). Some (record z { columns = solves.0 })) (one j k is))
+solved_kept geometry (Some (Block j)) new k is solves = absurd (cc)
+solved_kept geometry (Some (Stripe j)) new k is solves = (solves.0, solves.1 ∙ ap (λ (z : LentStripe). Some (Stripe (record z { columns = solves.0 }))) (one j k is))
   where
-    one : (a b : KeptLoan) → Some a ≡ Some b → a ≡ b
+    one : (a b : LentStripe) → Some (Stripe a) ≡ Some (Stripe b) → a ≡ b
     one a b e = cc
 
-moved : (o : Option KeptLoan) (k : KeptLoan) (a b : Option Pass) (p : Pass) → o ≡ Some k → a ≡ Some p → MovesOver o a b → (q : Pass) × (b ≡ Some q) × GoesOnBehind k.stripe p q
+moved : (o : Option KeptLoan) (k : LentStripe) (a b : Option Pass) (p : Pass) → o ≡ Some (Stripe k) → a ≡ Some p → MovesOver o a b → (q : Pass) × (b ≡ Some q) × GoesOnAt (k.stripe + 1) p q
 moved o k a None p loan was moves = absurd (subst (λ z. MovesOver z (Some p) None) loan (subst (λ z. MovesOver o z None) was moves))
 moved o k a (Some q) p loan was moves = (q, refl, subst (λ z. MovesOver z (Some p) (Some q)) loan (subst (λ z. MovesOver o z (Some q)) was moves))
 
@@ -56,7 +71,7 @@ module _ {R A : Type 0} (rack : racks.Ghosts R) (old lent solved new : Shard R A
   pub solved_runs : IsSomeAnd solved.pass IsRunningRebuild
   solved_runs = subst (λ (s : Shard R A). IsSomeAnd s.pass IsRunningRebuild) (sym only) (subst (λ o. IsSomeAnd o IsRunningRebuild) (sym stays) running)
 
-  pub solved_there : (columns : StripeValue) × (solved.kept ≡ Some (record unit.kept { columns = columns }))
+  pub solved_there : (columns : StripeValue) × (solved.kept ≡ Some (Stripe (record unit.kept { columns = columns })))
   solved_there = solved_kept lent.geometry lent.kept solved.kept unit.kept unit.kept_is solves
 
   pub solved_some : IsSome solved.kept
@@ -65,13 +80,13 @@ module _ {R A : Type 0} (rack : racks.Ghosts R) (old lent solved new : Shard R A
   inside : unit.kept.stripe < metaslab_stripes lent.geometry
   inside = (kept_in lent.kept unit.kept unit.kept_is lent_valid.kept).inside
     where
-      kept_in : (o : Option KeptLoan) (k : KeptLoan) → o ≡ Some k → IfSome o (IsKept lent.geometry lent.pass) → IsKept lent.geometry lent.pass k
+      kept_in : (o : Option KeptLoan) (k : LentStripe) → o ≡ Some (Stripe k) → IfSome o (IsKept lent.geometry lent.pass) → IsLentStripe lent.geometry lent.pass k
       kept_in o k is has = subst (λ z. IfSome z (IsKept lent.geometry lent.pass)) is has
 
   behind : (p : Pass) → old.pass ≡ Some p → p.at ≤ unit.kept.stripe
   behind p there = subst (λ o. IfSome o (λ (z : Pass). z.at ≤ unit.kept.stripe)) there unit.behind
 
-  pub moves_on : part_of new ≡ part_of solved → MovesOver solved.kept solved.pass new.pass → MovesOn old new
+  pub moves_on : part_of new ≡ part_of solved → MovesOver solved.kept solved.pass new.pass → MovesOn Rebuild old new
   moves_on part moves =
       let z = running_of old.pass running in
       let there : solved.pass ≡ Some z.pass = ap (λ (s : Shard R A). s.pass) only ∙ (stays ∙ z.there) in
@@ -85,7 +100,7 @@ module _ {R A : Type 0} (rack : racks.Ghosts R) (old lent solved new : Shard R A
         pass = q.0;
         old_pass = z.there;
         new_pass = q.1;
-        runs = record { rebuild = q.2.kind ∙ z.is.rebuild; running = q.2.running ∙ z.is.running };
+        runs = record { kind_is = q.2.kind ∙ z.is.rebuild; running = q.2.running ∙ z.is.running };
         behind = omega (arith, at, low);
         inside = subst (λ g. q.0.at ≤ metaslab_stripes g) (sym same) (omega (arith, at, high));
       }
@@ -123,7 +138,7 @@ module _ {R A : Type 0} (rack : racks.Ghosts R) (area : areas.Ghosts A) (old len
       landed_at rack area part pieces solved new (LandStripe landed.pass.number landed.kept.serial landed.failed) y mid new_valid landed.does new_reserve
       (raised rack area landed.failed.items solved new new_areas landed.counts) tt (λ after step. landed.acts pieces y.world after step mid.stands.reached mid.stands.is_in right_here)
 
-  pub unit_goes : Goes rack area part pieces x new (λ holds v. NextIs part false next.Landed holds × SameBlocks x v)
+  pub unit_goes : Goes rack area part pieces x new (λ holds v. NextIs part Rebuild false (next.Landed 0) holds × SameBlocks x v)
   unit_goes =
       let one = rebuild_leaves (layout_in part) x.world y.world (Lend unit.failed) first.step tt in
       let two = rebuild_leaves (layout_in part) y.world second.reached.world (LandStripe landed.pass.number landed.kept.serial landed.failed) second.step tt in
