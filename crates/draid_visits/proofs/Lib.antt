@@ -3,7 +3,6 @@ pub mod Blocks
 pub mod Cancelled
 pub mod Contents
 pub mod Found
-pub mod Healed
 pub mod Idle
 pub mod Kept
 pub mod Landed

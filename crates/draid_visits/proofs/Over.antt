@@ -86,10 +86,14 @@ lends_blocks p h kind block born =
     le_true a b less = grind (arith, nat_tests, less)
 
 lent_block : (p : machine.Pass) (h : Held) → p.kind ≡ Heal → is_lent p h ≡ true → (is_block h.stage ≡ true) × (h.birth ≤ p.max)
-lent_block p h kind lent = by (is_block h.stage) (nat_le h.birth p.max) refl refl (sym (ap (λ k. not (is_heal k) || (is_block h.stage && nat_le h.birth p.max)) kind) ∙ lent)
+lent_block p h kind lent = by (is_block h.stage) refl (sym (ap (λ k. not (is_heal k) || (is_block h.stage && nat_le h.birth p.max)) kind) ∙ lent)
   where
-    by : (b c : Bool) → is_block h.stage ≡ b → nat_le h.birth p.max ≡ c → (is_block h.stage && nat_le h.birth p.max) ≡ true → (is_block h.stage ≡ true) × (h.birth ≤ p.max)
-    by b c block born both = (grind (both), grind (arith, nat_tests, both))
+    less : (a b : ℕ) → nat_le a b ≡ true → a ≤ b
+    less a b is = grind (arith, nat_tests, is)
+
+    by : (b : Bool) → is_block h.stage ≡ b → (b && nat_le h.birth p.max) ≡ true → (is_block h.stage ≡ true) × (h.birth ≤ p.max)
+    by true is both = (is, less h.birth p.max both)
+    by false is both = absurd (true≢false (sym both))
 
 module _ {R A : Type 0} (shard : Shard R A) (p : Pass) (there : shard.pass ≡ Some p) where
   told : (w : machine.State) → IsIn shard w → w.core.pass ≡ Some (pass_in shard.slots p)
