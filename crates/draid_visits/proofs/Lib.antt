@@ -14,6 +14,7 @@ pub mod Over
 pub mod PassSteps
 pub mod Readied
 pub mod Rebuilt
+pub mod Scrubbed
 pub mod SharedWhole
 pub mod Started
 pub mod Tables

@@ -38,8 +38,8 @@ use Rattle.draid_shard.specs.declared.loan.LendFault.TheVariants as fault
 use Rattle.draid_shard.specs.declared.shard.Shard.{Shard}
 use Rattle.draid_passing.specs.Ending.{Ends}
 use Rattle.draid_passing.specs.declared.ending.Ended.{Ended}
-use Rattle.draid_mend.specs.Loans.{HasUnit}
-use Rattle.draid_heal.specs.Loans.{HasBlockLeft, IsLeftFor}
+use Rattle.draid_mend.specs.Loans.{HasUnit, IsRunningRebuild}
+use Rattle.draid_heal.specs.Loans.{HasBlockLeft, IsLeftFor, IsRunningScrub}
 use Rattle.draid_session.specs.Holds.{Looked, On, View, view_of}
 use Rattle.draid_session.specs.Passes as passes
 use Rattle.draid_session.specs.State.{Metaslab}
@@ -49,7 +49,7 @@ use Rattle.draid_pool.proofs.Dids as dids
 use Rattle.draid_pool.proofs.Dids.{none_here}
 use Rattle.draid_pool.proofs.OneHold.{looked, passes_is, worn_is}
 use Rattle.draid_visits.specs.Pieces.{GoesTo}
-use Rattle.draid_visits.specs.Steps.{NextIs}
+use Rattle.draid_visits.specs.Steps.{IsRunningOf, NextIs}
 use Rattle.draid_visits.specs.declared.steps.Next.{Next}
 use Rattle.draid_visits.specs.declared.steps.Next.TheVariants as next
 use Rattle.draid_visits.proofs.PassSteps.{raised, rebuild_did, rebuild_goes}
@@ -64,6 +64,18 @@ pub record Running (o : Option Pass) : Type 0 where
 pub running_of : (o : Option Pass) → IsSomeAnd o (λ (p : Pass). p.running ≡ true) → Running o
 running_of None is = absurd is
 running_of (Some p) is = record { pass = p; there = refl; runs = is }
+
+pub runs_of : (kind : PassKind) (o : Option Pass) → IsSomeAnd o (IsRunningOf kind) → IsSomeAnd o (λ (p : Pass). p.running ≡ true)
+runs_of kind None is = absurd is
+runs_of kind (Some p) is = is.running
+
+pub runs_rebuild : (o : Option Pass) → IsSomeAnd o (IsRunningOf Rebuild) → IsSomeAnd o IsRunningRebuild
+runs_rebuild None is = absurd is
+runs_rebuild (Some p) is = record { rebuild = is.kind_is; running = is.running }
+
+pub runs_scrub : (o : Option Pass) → IsSomeAnd o (IsRunningOf Heal) → IsSomeAnd o IsRunningScrub
+runs_scrub None is = absurd is
+runs_scrub (Some p) is = record { scrub = is.kind_is; running = is.running }
 
 pub ok_as : {T E : Type 0} (r : Result T E) (a b : T) → r ≡ Ok a → a ≡ b → r ≡ Ok b
 ok_as r a b is same = subst (λ z. r ≡ Ok z) same is

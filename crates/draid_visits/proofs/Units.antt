@@ -44,14 +44,18 @@ use Rattle.draid_visits.proofs.PassSteps.{raised, rebuild_did, rebuild_leaves}
 -- ---- where the pass stands then
 
 -- the rebuild that runs
-record Running (o : Option Pass) : Type 0 where
+pub record Running (o : Option Pass) : Type 0 where
   pub pass : Pass
   pub there : o ≡ Some pass
   pub is : IsRunningRebuild pass
 
-running_of : (o : Option Pass) → IsSomeAnd o IsRunningRebuild → Running o
+pub running_of : (o : Option Pass) → IsSomeAnd o IsRunningRebuild → Running o
 running_of None is = absurd is
 running_of (Some p) is = record { pass = p; there = refl; is = is }
+
+-- no column is rewritten
+pub landed_none : (repaired : ℕ) → next.Landed 0 ≡ next.Landed repaired → repaired ≡ 0
+landed_none repaired is = cc
 
 -- what is kept of a loan is there still when it is solved
 pub solved_kept : (geometry : Geometry) (o new : Option KeptLoan) (k : LentStripe) → o ≡ Some (Stripe k) → SolvesLoan geometry o new → (solved : StripeValue) × (new ≡ Some (Stripe (record k { columns = solved })))

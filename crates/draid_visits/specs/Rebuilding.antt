@@ -1,5 +1,5 @@
 -- What a rebuild and a scrub do to a pool, and what they leave.
-use Rattle.std.specs.Prelude.{◌≡◌, ◌<◌, ⊤, ℕ, ⊥, Bool, true, false, List, Option, Some, Result, Ok, Err, slice_get}
+use Rattle.std.specs.Prelude.{◌≡◌, ◌<◌, ◌⊎◌, ⊤, ℕ, ⊥, Bool, true, false, List, Option, Some, Result, Ok, Err, slice_get}
 use Rattle.draid_names.specs.declared.pass_kind.PassKind.{PassKind}
 use Rattle.draid_names.specs.declared.pass_kind.PassKind.TheVariants.{Heal, Rebuild}
 use Rattle.draid_pass.specs.declared.pass.Pass.{Pass}
@@ -12,7 +12,7 @@ use Rattle.draid_pool.specs.declared.fault.SyncFault.{SyncFault}
 use Rattle.draid_pool.specs.declared.fault.SyncFault.TheVariants as sync
 use Rattle.draid_pool.specs.declared.pool.Pool.{Pool}
 use Rattle.draid_visits.specs.Steps.{IsRebuiltIn}
-use Rattle.draid_visits.specs.Visiting.{AreAll, NoPasses, RunsPass}
+use Rattle.draid_visits.specs.Visiting.{AreAll, IsOnly, NoPasses, RunsPass}
 use Rattle.draid_visits.specs.declared.progress.Progress.{Progress}
 use Rattle.draid_visits.specs.declared.progress.Visit.{Visit}
 use Rattle.draid_visits.specs.declared.progress.Visit.TheVariants as visit
@@ -77,6 +77,10 @@ pub record IsLowestPass {R A : Type 0} (kind : PassKind) (metaslab number : ℕ)
   pub there : slice_get pool.metaslabs.shards.items metaslab ≡ Some shard
   pub has : HasPass kind number shard
   pub lower : (m n : ℕ) (other : Shard R A) → m < metaslab → slice_get pool.metaslabs.shards.items m ≡ Some other → HasPass kind n other → ⊥
+
+-- the first metaslab that a scrub visits: the lowest with a scrub, or where none has one the first of all
+abbrev pub IsFirstScrub : {R A : Type 0} → ℕ → Pool R A → Type 0
+IsFirstScrub first pool = ((number : ℕ) × IsLowestPass Heal first number pool) ⊎ ((first ≡ 0) × AreAll pool (IsOnly Rebuild))
 
 -- a pass that paused runs in a metaslab; behind one that didn't none has a pass
 abbrev pub RunsWhere : {R A : Type 0} → PassKind → Bool → Pool R A → Type 0

@@ -4,7 +4,7 @@ ghost use Rattle.draid_session.specs.Passes as passes;
 ghost use Rattle.draid_session.specs.State.{State};
 ghost use Rattle.draid_pool.specs.Pools.{Represents};
 ghost use Rattle.draid_pool.specs.Whole.{IsWhole};
-ghost use Rattle.draid_visits.specs.Rebuilding.{HasPass, IsLowestPass};
+ghost use Rattle.draid_visits.specs.Rebuilding.{HasPass, IsFirstScrub, IsLowestPass};
 ghost use Rattle.draid_visits.specs.Steps.{IsRebuiltIn};
 ghost use Rattle.draid_visits.specs.Visiting.{AreAll, AreMarks, HasMark, IsOnly, SeesMarks, SeesNone};
 
@@ -41,6 +41,17 @@ fn number_of<R: Rack, A: Area>(shard: &Shard<R, A>, kind: PassKind) -> Option<u6
             _ => None,
         },
         None => None,
+    }
+}
+
+/// The first metaslab that a scrub visits: the lowest with a scrub, or the first of all.
+pub(crate) fn first_scrub<R: Rack, A: Area>(pool: &Pool<R, A>) -> u32
+    requires whole { IsWhole R.Rack A.Area pool.now }
+    ensures { IsFirstScrub result pool.now }
+{
+    match pass_in(pool, PassKind::Heal) {
+        Some((metaslab, _)) => metaslab,
+        None => 0,
     }
 }
 

@@ -11,7 +11,7 @@ ghost use Rattle.draid_pool.specs.Whole.{IsWhole};
 ghost use Rattle.draid_visits.specs.Rebuilding.{IsAnswer, IsMended, RebuildDoes, RebuildIs, ScrubDoes, ScrubIs, stopped_by};
 ghost use Rattle.draid_visits.specs.Visiting.{AreAll, AreToVisit, HasBegun, HasMark, IsLeft, IsLow, IsOnly, Leaves, PausesAt, VisitsDo};
 
-use crate::marks::{marks_from, pass_in, visited};
+use crate::marks::{first_scrub, marks_from, pass_in, visited};
 use crate::progress::{Progress, Visit};
 use crate::visiting::visit;
 use draid_area::Area;
@@ -89,11 +89,7 @@ pub fn scrub<R: Rack, A: Area>(
     if let Some((metaslab, number)) = pass_in(pool, PassKind::Rebuild) {
         return Err(MendFault::PassThere { metaslab, number });
     }
-    let first = match pass_in(pool, PassKind::Heal) {
-        Some((metaslab, _)) => metaslab,
-        None => 0,
-    };
-    let marks = marks_from(first);
+    let marks = marks_from(first_scrub(pool));
     let mut progress = Progress::within(limit);
     let end = visit_all(pool, PassKind::Heal, &marks, &mut progress);
     answer(end, progress)

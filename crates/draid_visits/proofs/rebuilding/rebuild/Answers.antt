@@ -1,5 +1,5 @@
 use Rattle.std.proofs.Common.{refl}
-use Rattle.draid_visits.proofs.Rebuilt.{answered, found_nothing, found_scrub, left_first, nothing_there, within_limit}
+use Rattle.draid_visits.proofs.Rebuilt.{answered, found_nothing, found_scrub, left_first, nothing_there, to_rebuild, within_limit}
 use Rattle.draid_visits.proofs.rebuilding.rebuild.Goals as goal
 
 pub returns-in-Some-clause-carries : goal.returns-in-Some-clause-carries
@@ -20,4 +20,4 @@ pub returns-clause-carries : goal.returns-clause-carries
 returns-clause-carries g c x is =
     let sees = c.in-Some-visited.ensures.seen x is in
     answered g.R.Rack g.A.Area c.args.pool.now c.visit_all-end.new.pool x c.args.limit c.in-Some-visited.marks is c.in_default.ensures.none sees c.in-Some-visited.ensures.some
-    c.visit_all-end.result c.visit_all-end.new.progress c.answer.result c.answer.ensures (c.visit_all-end.ensures.carries x is sees)
+    c.visit_all-end.result c.visit_all-end.new.progress c.answer.result c.answer.ensures (c.visit_all-end.ensures.carries x is)

@@ -10,7 +10,7 @@ use Rattle.draid_pool.specs.Pools.{Represents, group_in}
 use Rattle.draid_pool.specs.Whole.{IsWhole}
 use Rattle.draid_visits.specs.Visiting.{IsAt, KeepsOthers}
 use Rattle.draid_visits.proofs.Waiting.{Waiting}
-use Rattle.draid_visits.proofs.visiting.run_in.Given as goal
+use Rattle.draid_visits.proofs.visiting.run_rebuild.Given as goal
 
 abbrev pub invariant-loop-metaslab : goal.invariant-loop-metaslab
 invariant-loop-metaslab g l = record {

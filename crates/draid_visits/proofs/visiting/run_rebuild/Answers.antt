@@ -2,7 +2,6 @@ use Rattle.std.proofs.Common.{◌≡◌, ◌∙◌, true, false, arith, refl, sy
 use Rattle.std.specs.Prelude.{IsSomeAnd}
 use Rattle.std.proofs.lemmas.List.{length-set}
 use Rattle.draid_pass.specs.declared.pass.Pass.{Pass}
-use Rattle.draid_mend.specs.Loans.{IsRunningRebuild}
 use Rattle.draid_names.specs.declared.pass_kind.PassKind.TheVariants.{Rebuild}
 use Rattle.draid_session.specs.Passes as passes
 use Rattle.draid_pool.specs.declared.fault.SyncFault.TheVariants as sync
@@ -11,11 +10,11 @@ use Rattle.draid_pool.proofs.Lifted.{sets_shard, with_shard}
 use Rattle.draid_pool.proofs.Rises.{areas_on, areas_set, areas_still, err_on, records_same, rose_then}
 use Rattle.draid_pool.proofs.SyncSteps.{borrowed_at, whole_on}
 use Rattle.draid_pool.proofs.Wholes.{whole_valid}
-use Rattle.draid_visits.specs.Steps.{ReadyIs}
+use Rattle.draid_visits.specs.Steps.{IsRunningOf, ReadyIs}
 use Rattle.draid_visits.proofs.Kept.{at_set, at_synced, group_low, others_on, others_same, others_set, others_synced, set_there}
 use Rattle.draid_visits.proofs.Leading.{leads_none, steps_in}
 use Rattle.draid_visits.proofs.Waiting.{Readying, it_runs, it_stops, it_syncs, it_waits}
-use Rattle.draid_visits.proofs.visiting.run_in.Goals as goal
+use Rattle.draid_visits.proofs.visiting.run_rebuild.Goals as goal
 
 pub loop-metaslab-init : goal.loop-metaslab-init
 loop-metaslab-init g c = record {
@@ -151,6 +150,6 @@ returns-then-ready_in g c =
       later = later;
       cause = λ is. absurd (cc is);
       others = others;
-      running = at_set g.R.Rack g.A.Area (λ z. IsSomeAnd z.pass IsRunningRebuild) m l.pool mid shard after set (e.runs refl);
+      running = at_set g.R.Rack g.A.Area (λ z. IsSomeAnd z.pass (IsRunningOf Rebuild)) m l.pool mid shard after set (e.runs refl);
       carries = λ x is. it_runs g.R.Rack g.A.Area m l.pool mid x (i.carries x is) (steps_in g.R.Rack g.A.Area m l.pool mid shard after (λ part holds. ReadyIs part true holds) set (λ part pieces y own has. e.goes part pieces y own));
     }
