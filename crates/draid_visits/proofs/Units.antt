@@ -1,5 +1,5 @@
 -- A stripe of a rebuild is lent in a metaslab of a pool, solved, and lands.
-use Rattle.std.proofs.Common.{◌≡◌, ◌<◌, ◌≤◌, ◌+◌, ◌∙◌, false, [], ◌∷◌, Option, Some, None, arith, refl, sym, ap, subst}
+use Rattle.std.proofs.Common.{◌≡◌, ◌<◌, ◌≤◌, ◌+◌, ◌∙◌, false, [], ◌∷◌, ℕ, Option, Some, None, arith, refl, sym, ap, subst}
 use Rattle.std.specs.Prelude.{IfSome, IsSome, IsSomeAnd}
 use Rattle.draid_names.specs.declared.pass_kind.PassKind.TheVariants.{Rebuild}
 use Rattle.draid_rack.specs.Rack.{OnTold}
