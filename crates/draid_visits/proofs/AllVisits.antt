@@ -74,7 +74,7 @@ module _ (x : State) (kind : PassKind) (marks : List Bool) (m : ℕ) (y : Metasl
     over_then at now e front rest (inl visits) is =
         subst (Of x kind marks at e (front ++ rest)) (sym views) (inr (rebuilt, inr (inr (inl (front, rest, now.left, tally_of now, refl, visits, is)))))
     over_then at now e front rest (inr passed) is =
-        subst (Of x kind marks at e (front ++ rest)) (sym views) (inr (rebuilt, inr (inr (inr (front, rest, refl, refl, passed.1, subst (λ (q : Progress). FromOn x kind marks q (m + 1) e rest) passed.0 is)))))
+        subst (Of x kind marks at e (front ++ rest)) (sym views) (inr (rebuilt, inr (inr (inr (front, rest, refl, passed.1, passed.2, subst (λ (q : Progress). FromOn x kind marks q (m + 1) e rest) passed.0 is)))))
 
     pub pauses_there : (at now : Progress) (holds : List Hold) → VisitIs x.geometry x.perms kind m at visit.Paused now holds → FromOn x kind marks at m (record { o = passes.Paused; tally = tally_of now }) holds
     pauses_there at now holds visits =

@@ -1,6 +1,7 @@
 -- A block of a scrub is lent in a metaslab of a pool, restored, and lands.
-use Rattle.std.proofs.Common.{◌≡◌, ◌<◌, ◌≤◌, ◌+◌, ◌⊎◌, ◌∙◌, inl, inr, [], ◌∷◌, ℕ, Bool, true, false, List, Option, Some, None, arith, refl, sym, ap, subst, length, if◌then◌else◌}
-use Rattle.std.specs.Prelude.{IfSome, IsSomeAnd, is_none, option_map, slice_index}
+use Rattle.std.proofs.Common.{◌≡◌, ◌<◌, ◌≤◌, ◌+◌, ◌*◌, ◌^◌, ◌⊎◌, ◌∙◌, inl, inr, [], ◌∷◌, ℕ, Bool, true, false, List, Option, Some, None, arith, refl, sym, ap, subst, length, if◌then◌else◌}
+use Rattle.std.specs.Prelude.{IfSome, IsSomeAnd, OnOk, Result, Ok, Err, is_err, is_none, option_map, slice_index}
+use Rattle.std.proofs.lemmas.Bool.{true≢false}
 use Rattle.sha2.specs.Sha256.{sha256}
 use Rattle.draid_gf.specs.Field.{IsByte}
 use Rattle.draid_names.specs.declared.pass_kind.PassKind.TheVariants.{Heal}
@@ -30,7 +31,7 @@ use Rattle.draid_shard.specs.Calls.{SameAreas, SameReserve}
 use Rattle.draid_shard.specs.Columns.{ArePieces, row_bytes}
 use Rattle.draid_shard.specs.Fits.{Valid}
 use Rattle.draid_shard.specs.Lends.{GoesOnAt, lend_events}
-use Rattle.draid_shard.specs.Loans.{IsKept, IsLentBlock, block_loan, loan_in}
+use Rattle.draid_shard.specs.Loans.{IsKept, IsLentBlock, block_loan, loan_in, most_arms}
 use Rattle.draid_shard.specs.Part.{Part, layout_in}
 use Rattle.draid_shard.specs.Rooms.{IsWornFor}
 use Rattle.draid_shard.specs.States.{DoesNone, layout_by, part_of}
@@ -56,7 +57,23 @@ use Rattle.draid_visits.specs.Steps.{MovesOn, NextIs}
 use Rattle.draid_visits.specs.declared.steps.Next.TheVariants as next
 use Rattle.draid_visits.proofs.Landed.{Lands, landed_to}
 use Rattle.draid_visits.proofs.Over.{told_worn}
-use Rattle.draid_visits.proofs.PassSteps.{block_leaves, pieces_either, raised, rebuild_did, rebuild_leaves}
+use Rattle.draid_visits.proofs.PassSteps.{Leaves, block_leaves, pieces_either, raised, rebuild_did, rebuild_leaves}
+
+pub on_ok : {T E : Type 0} (r : Result T E) (P : Type 0) → is_err r ≡ false → OnOk r P → P
+on_ok (Ok x) P is holds = holds
+on_ok (Err e) P is holds = absurd (true≢false is)
+
+pub landed_is : (told repaired : ℕ) → next.Landed told ≡ next.Landed repaired → repaired ≡ told
+landed_is told repaired is = cc
+
+-- on no more than three arms of each column
+pub few_rewritten : {R A : Type 0} (rack : racks.Ghosts R) (shard : Shard R A) (repaired told : ℕ) → repaired ≡ told → Valid rack shard → told ≤ most_arms * shard.geometry.g → repaired ≤ 2 ^ 8
+few_rewritten rack shard repaired told same valid few =
+    let geometry = valid.part.layout.geometry_is in
+    let width = geometry.width in
+    let disks = geometry.disks in
+    let most = geometry.spec.most_children in
+    omega (arith, same, few, width, disks, most)
 
 -- ---- what is kept
 
@@ -203,7 +220,7 @@ module _ {R A : Type 0} (rack : racks.Ghosts R) (area : areas.Ghosts A) (old len
       none_here rack area part pieces lent solved y first.is solved_valid none (ap (λ (s : Shard R A). s.rack) only)
       (record { even = ap (λ (s : Shard R A). s.even) only; odd = ap (λ (s : Shard R A). s.odd) only }) (ap (λ (s : Shard R A). limit_in s.history) only) (ap (λ (s : Shard R A). reserved_of s.history) only)
 
-  one_leaves : _
+  one_leaves : Leaves x.world y.world
   one_leaves = rebuild_leaves (layout_in part) x.world y.world (Lend unit.failed) first.step tt
 
   -- memory was wanting for its bytes
@@ -250,9 +267,6 @@ module _ {R A : Type 0} (rack : racks.Ghosts R) (area : areas.Ghosts A) (old len
         subst (λ (l : LentBlock). IsRight part.geometry l.pointer block) (sym same_lent)
         (subst (λ g. IsRight g unit.lent.pointer block) geometry_is (right_of lent.geometry unit.lent solved.kept r block (sym (ap (λ (l : LentBlock). l.restored) same_lent) ∙ at)))
 
-    own : Key
-    own = key_of landed.lent.pointer
-
     abbrev e : Event
     e = LandBlock landed.pass.number landed.lent.serial landed.failed landed.patched (is_none landed.lent.restored)
 
@@ -265,7 +279,7 @@ module _ {R A : Type 0} (rack : racks.Ghosts R) (area : areas.Ghosts A) (old len
     loan_there : y.world.loan ≡ Some (block_loan landed.lent)
     loan_there = mid.stands.is_in.loan ∙ ap (option_map loan_in) landed.lent_is
 
-    written : Pieces
+    abbrev written : Pieces
     written = written_of part.geometry.props.sector (key_of landed.lent.pointer) landed.lent.restored pieces
 
     restored_there : WritesRestored solved landed.lent written
@@ -284,7 +298,7 @@ module _ {R A : Type 0} (rack : racks.Ghosts R) (area : areas.Ghosts A) (old len
         (λ v step. (block_leaves (layout_by solved) y.world v landed.pass.number landed.lent.serial landed.failed landed.patched (is_none landed.lent.restored) step).images)
         (λ after step. landed.acts written y.world after step mid.stands.reached mid.stands.is_in restored_there) others
 
-    two_leaves : _
+    two_leaves : Leaves y.world second.done.reached.world
     two_leaves = block_leaves (layout_in part) y.world second.done.reached.world landed.pass.number landed.lent.serial landed.failed landed.patched (is_none landed.lent.restored) second.done.step
 
     contents : SameContents part x pieces second.later

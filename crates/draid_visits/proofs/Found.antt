@@ -67,6 +67,16 @@ only_more {R} {A} kind shards m shard there none below = below_more (λ (s : Sha
 pub only_all : {R A : Type 0} (kind : PassKind) (pool : Pool R A) (m : ℕ) → length pool.metaslabs.shards.items ≤ m → OnlyBelow kind pool.metaslabs.shards.items m → AreAll pool (IsOnly kind)
 only_all {R} {A} kind pool m end below = below_all (λ (s : Shard R A). IsOnly kind s) pool.metaslabs.shards.items m end below
 
+module _ {R A : Type 0} (rack : racks.Ghosts R) (area : areas.Ghosts A) where
+  -- the shard of a metaslab
+  pub there_in : (pool : Pool R A) (x : State) (r : Represents rack area pool x) (m : ℕ) (y : Metaslab) → slice_get x.metaslabs m ≡ Some y → (shard : Shard R A) × (slice_get pool.metaslabs.shards.items m ≡ Some shard)
+  there_in pool x r m y at =
+      present pool.metaslabs.shards.items m (let inside = slice_get_within x.metaslabs m y at in let many = r.stands.shards in omega (arith, inside, many))
+
+  -- and the metaslab of a shard
+  pub seen_in : (pool : Pool R A) (x : State) (r : Represents rack area pool x) (m : ℕ) → m < length pool.metaslabs.shards.items → (y : Metaslab) × (slice_get x.metaslabs m ≡ Some y)
+  seen_in pool x r m inside = present x.metaslabs m (let many = r.stands.shards in omega (arith, inside, many))
+
 module _ {R A : Type 0} (rack : racks.Ghosts R) (area : areas.Ghosts A) (kind : PassKind) where
   -- by its state
   pub kind_unseen : (x : State) (m : ℕ) (shard : Shard R A) (y : Metaslab) (pieces : _) → IsMetaslab rack area (part_in x m) pieces shard y → IsOnly (passes.other_kind kind) shard → (n : ℕ)
@@ -77,22 +87,11 @@ module _ {R A : Type 0} (rack : racks.Ghosts R) (area : areas.Ghosts A) (kind : 
       by None none is = absurd (cc)
       by (Some q) none is = other_kinds kind (sym none ∙ (ap (λ (r : machine.Pass). r.kind) (some_injective (pass_in shard.slots q) p is) ∙ kind_is))
 
-  -- ---- all of them
-
-  -- the shard of a metaslab
-  pub there_in : (pool : Pool R A) (x : State) (r : Represents rack area pool x) (m : ℕ) (y : Metaslab) → slice_get x.metaslabs m ≡ Some y → (shard : Shard R A) × (slice_get pool.metaslabs.shards.items m ≡ Some shard)
-  there_in pool x r m y at =
-      present pool.metaslabs.shards.items m (let inside = slice_get_within x.metaslabs m y at in let many = r.stands.shards in omega (arith, inside, many))
-
-  -- and the metaslab of a shard
-  pub seen_in : (pool : Pool R A) (x : State) (r : Represents rack area pool x) (m : ℕ) → m < length pool.metaslabs.shards.items → (y : Metaslab) × (slice_get x.metaslabs m ≡ Some y)
-  seen_in pool x r m inside = present x.metaslabs m (let many = r.stands.shards in omega (arith, inside, many))
-
   pub none_seen_of : (pool : Pool R A) (x : State) → Represents rack area pool x → AreAll pool (IsOnly (passes.other_kind kind)) → NoneOf (passes.HasPassOf kind) (seen_at 0 x.metaslabs)
   none_seen_of pool x r alone =
       none_seen (passes.HasPassOf kind) 0 x.metaslabs
       (λ k y at has.
-      (let z = there_in pool x r k y at in
+      (let z = there_in rack area pool x r k y at in
       kind_unseen x k z.0 y (r.stands.pieces k) (r.stands.each k z.0 y z.1 at) (alone k z.0 z.1) (0 + k) has))
 
   -- the lowest is seen
@@ -112,7 +111,7 @@ module _ {R A : Type 0} (rack : racks.Ghosts R) (area : areas.Ghosts A) (kind : 
   pub lower_unseen : (pool : Pool R A) (x : State) (metaslab number : ℕ) → Represents rack area pool x → IsLowestPass kind metaslab number pool → (j : ℕ) (u : Metaslab) → j < metaslab → slice_get x.metaslabs j ≡ Some u
       → passes.HasPassOf kind (view_of (0 + j) u) → ⊥
   lower_unseen pool x metaslab number r low j u less at (p, pass, kind_is) =
-      let z = there_in pool x r j u at in
+      let z = there_in rack area pool x r j u at in
       by z.0 z.1 z.0.pass refl (sym (r.stands.each j z.0 u z.1 at).stands.is_in.pass ∙ pass)
     where
       by : (s : Shard R A) → slice_get pool.metaslabs.shards.items j ≡ Some s → (o : Option Pass) → s.pass ≡ o → option_map (pass_in s.slots) s.pass ≡ Some p → ⊥
@@ -123,7 +122,7 @@ module _ {R A : Type 0} (rack : racks.Ghosts R) (area : areas.Ghosts A) (kind : 
 
   pub sees_lowest : (pool : Pool R A) (x : State) (metaslab number : ℕ) → Represents rack area pool x → IsLowestPass kind metaslab number pool → passes.IsLowestPassOf kind (seen_at 0 x.metaslabs) metaslab number
   sees_lowest pool x metaslab number r low =
-      let z = seen_in pool x r metaslab (slice_get_within pool.metaslabs.shards.items metaslab low.shard low.there) in
+      let z = seen_in rack area pool x r metaslab (slice_get_within pool.metaslabs.shards.items metaslab low.shard low.there) in
       let is : IsMetaslab rack area (part_in x metaslab) (r.stands.pieces metaslab) low.shard z.0 = r.stands.each metaslab low.shard z.0 low.there z.1 in
       subst (λ k. passes.IsLowestPassOf kind (seen_at 0 x.metaslabs) k number) (sym (none_before metaslab))
       (lowest_seen 0 metaslab number x.metaslabs z.0 (pass_in low.shard.slots low.has.pass) z.1 (is.stands.is_in.pass ∙ ap (option_map (pass_in low.shard.slots)) low.has.has) low.has.kind_is low.has.number_is
@@ -135,7 +134,7 @@ module _ {R A : Type 0} (rack : racks.Ghosts R) (area : areas.Ghosts A) where
   -- one is rebuilt
   pub some_rebuilt : (pool : Pool R A) (x : State) (marks : List Bool) → Represents rack area pool x → SeesMarks x marks → HasMark pool marks → NoneOf (passes.IsRebuilt x.geometry x.perms) (seen_at 0 x.metaslabs) → ⊥
   some_rebuilt pool x marks r sees has none =
-      let z = seen_in rack area Rebuild pool x r has.metaslab has.inside in
+      let z = seen_in rack area pool x r has.metaslab has.inside in
       not_none (passes.IsRebuilt x.geometry x.perms) (seen_at 0 x.metaslabs) (view_of (0 + has.metaslab) z.0) (seen_there 0 has.metaslab x.metaslabs z.0 z.1) (subst (λ k. passes.IsRebuilt x.geometry x.perms (view_of k z.0)) (none_before has.metaslab) ((sees has.metaslab z.0 z.1).0 has.is)) none
 
 -- none is

@@ -1,9 +1,11 @@
 -- Holds of one metaslab of a pool that leave what it holds as it was, where its blocks may have other pieces of the same length and digest then.
-use Rattle.std.proofs.Common.{◌≡◌, ◌∙◌, inl, inr, ℕ, List, Option, Some, arith, refl, sym, ap, subst, slice_set, length}
+use Rattle.std.proofs.Common.{◌≡◌, ◌∙◌, inl, inr, ℕ, List, Option, Some, None, arith, refl, sym, ap, subst, slice_set, length}
 use Rattle.std.specs.Prelude.{◌⊎◌, nat_eq, slice_get}
 use Rattle.std.specs.HashMap.{get}
 use Rattle.std.proofs.lemmas.Bool.{cases_eq}
 use Rattle.sha2.specs.Sha256.{sha256}
+use Rattle.draid_names.specs.declared.pointer.Pointer.{Pointer}
+use Rattle.draid_entries.specs.Maps as entries
 use Rattle.draid_rack.specs.declared.Rack as racks
 use Rattle.draid_area.specs.declared.Area as areas
 use Rattle.draid_spec.specs.declared.layout.Geometry.{Geometry}
@@ -26,8 +28,8 @@ use Rattle.draid_pool.specs.Objects.{HasPieces, HoldsObjects, IsLastAt, PointsTo
 use Rattle.draid_pool.specs.Pools.{Represents, part_in}
 use Rattle.draid_pool.specs.Shards.{Goes, KeepsImages, SameBlocks}
 use Rattle.draid_pool.specs.declared.pool.Pool.{Pool}
-use Rattle.draid_pool.proofs.Lifted.{SetsShard, points_on}
-use Rattle.draid_pool.proofs.Moved.{Turned, blocks_at, follows_one, same_blocks, stands_turned, turn, turn_here, turn_other, with_metaslab}
+use Rattle.draid_pool.proofs.Lifted.{SetsShard}
+use Rattle.draid_pool.proofs.Moved.{Turned, pointer_on, blocks_at, follows_one, same_blocks, stands_turned, turn, turn_here, turn_other, with_metaslab}
 use Rattle.draid_pool.proofs.Owning.{pieces_on}
 use Rattle.draid_visits.specs.Pieces.{GoesTo, HasBytes, SameContents}
 use Rattle.draid_visits.proofs.Contents.{held_long}
@@ -62,6 +64,14 @@ module _ {R A : Type 0} (rack : racks.Ghosts R) (area : areas.Ghosts A) where
 
   module _ (m : ℕ) (pool new : Pool R A) (shard shard' : Shard R A) (x : State) (y : Metaslab) (r : Represents rack area pool x) (set : SetsShard rack area m pool new shard shard')
       (at : slice_get x.metaslabs m ≡ Some y) (later : Pieces) (contents : SameContents (part_in x m) y (r.stands.pieces m) later) where
+    points_on : (y' : Metaslab) (p : Option Pointer) (w : Option Write) → Turned rack area m pool new shard shard' x y y' later → y'.world.core.held ≡ y.world.core.held
+        → PointsTo pool.metaslabs.shards.items p w → PointsTo new.metaslabs.shards.items p w
+    points_on y' None None t same is = tt
+    points_on y' None (Some w) t same is = absurd is
+    points_on y' (Some p) None t same is = absurd is
+    points_on y' (Some p) (Some w) t same is =
+        pointer_on rack area m pool new shard shard' (λ object. get nat_eq pool.own.objects object) x y y' later p w r.stands t (λ here. ap (λ held. held (entries.key_of p)) same) is
+
     abbrev turned : ℕ → Pieces
     turned = turn m later r.stands.pieces
 
@@ -102,7 +112,7 @@ module _ {R A : Type 0} (rack : racks.Ghosts R) (area : areas.Ghosts A) where
           stands = stands_turned rack area m pool new shard shard' (λ object. get nat_eq pool.own.objects object) (λ object. get nat_eq new.own.objects object) x y y' later x.store s t holds
               s.groups.next s.groups.last
               (λ object. subst (λ objects. PointsTo new.metaslabs.shards.items (get nat_eq objects object) (write_of x.store.changes object)) (sym set.objects)
-              (points_on rack area m pool new shard shard' x y y' later (get nat_eq pool.own.objects object) (write_of x.store.changes object) s t same.held (s.objects object)))
+              (points_on y' (get nat_eq pool.own.objects object) (write_of x.store.changes object) t same.held (s.objects object)))
               (s.seq ∙ sym set.seq) (s.floor ∙ sym set.floor);
           only = subst (λ (b : Blocks). (n : ℕ) (k : Key) (h : Held) → b n k ≡ Some h → h.stage ≡ Live → IsLastAt n k (write_of x.store.changes k.object)) (sym blocks) r.only;
         }

@@ -1,6 +1,6 @@
 -- One metaslab of a pool where a pass has nothing left to lend, or has something left that isn't lent.
 use Rattle.std.proofs.Common.{◌≡◌, ◌≤◌, ◌∙◌, inl, inr, ℕ, Bool, true, false, List, [], ◌∷◌, Option, Some, None, arith, refl, sym, ap, subst, min, if◌then◌else◌}
-use Rattle.std.specs.Prelude.{◌&&◌, ◌||◌, ⊤, IfNone, IsSomeAnd, Result, Ok, is_some, nat_le, not, option_map}
+use Rattle.std.specs.Prelude.{◌&&◌, ◌||◌, ⊤, IfNone, IfSome, IsSomeAnd, Result, Ok, is_some, nat_le, not, option_map}
 use Rattle.std.proofs.lemmas.Bool.{cases_lt, true≢false}
 use Rattle.std.proofs.lemmas.Bool.Decides.{nat_tests}
 use Rattle.draid_names.specs.declared.pointer.Pointer.{Pointer}
@@ -179,6 +179,10 @@ module _ {R A : Type 0} (shard : Shard R A) (p : Pass) (there : shard.pass ≡ S
 
 pub unit_left : {R A : Type 0} (shard : Shard R A) (p : Pass) → shard.pass ≡ Some p → p.kind ≡ Rebuild → HasUnit shard → HasBlockLeft shard
 unit_left shard p there kind unit = taken_left shard p there kind (λ w is. (unit.stripe, unit.is.next w is p there))
+
+pub if_some_is : {T : Type 0} (o : Option T) (P : T → Type 0) → is_some o ≡ true → IfSome o P → (x : T) × P x
+if_some_is None P is holds = absurd (true≢false (sym is))
+if_some_is (Some x) P is holds = (x, holds)
 
 pub if_none_is : (o : Option ℕ) (P : Type 0) → is_some o ≡ false → IfNone o P → P
 if_none_is None P is holds = holds

@@ -19,13 +19,14 @@ use Rattle.draid_session.specs.State.{Metaslab, State, Store}
 use Rattle.draid_pool.specs.Carries.{CarriesOut}
 use Rattle.draid_pool.specs.Pools.{Represents}
 use Rattle.draid_pool.specs.Views.{seen_at}
+use Rattle.draid_pool.specs.Whole.{IsWhole}
 use Rattle.draid_pool.specs.declared.fault.SyncFault.{SyncFault}
 use Rattle.draid_pool.specs.declared.fault.SyncFault.TheVariants as sync
 use Rattle.draid_pool.specs.declared.pool.Pool.{Pool}
 use Rattle.draid_pool.proofs.Looking.{looks_at}
 use Rattle.draid_pool.proofs.SyncSteps.{not_went}
 use Rattle.draid_visits.specs.Rebuilding.{IsAnswer, IsFirstScrub, IsLowestPass, IsMended, RunsWhere, ScrubDoes, ScrubIs, stopped_by}
-use Rattle.draid_visits.specs.Visiting.{AreAll, AreToVisit, HasMark, IsMarked, IsOnly, Leaves, VisitsDo, end_by, nothing_within, tally_of}
+use Rattle.draid_visits.specs.Visiting.{AreAll, AreToVisit, HasMark, IsLow, IsMarked, IsOnly, Leaves, VisitsDo, end_by, nothing_within, tally_of}
 use Rattle.draid_visits.specs.declared.progress.Progress.{Progress}
 use Rattle.draid_visits.specs.declared.progress.Visit.{Visit}
 use Rattle.draid_visits.specs.declared.progress.Visit.TheVariants as visit
@@ -35,6 +36,13 @@ use Rattle.draid_visits.specs.declared.rebuilding.Mended.{Mended}
 use Rattle.draid_visits.proofs.AllVisits.{views_more}
 use Rattle.draid_visits.proofs.Found.{lower_unseen, none_before, none_seen_of, seen_in}
 use Rattle.draid_visits.proofs.Rebuilt.{agree_seen, behind_looks, finds, found_other, visits_as}
+
+pub never_shelf : Heal ≡ Rebuild → ⊥
+never_shelf is = absurd (cc)
+
+-- nothing was done yet
+pub low_first : (limit : Option ℕ) → IsLow 0 (nothing_within limit)
+low_first limit = record { stripes = omega arith; repaired = omega arith; errors = omega arith }
 
 no_rebuild : Heal ≡ Rebuild → ⊥
 no_rebuild is = absurd (cc)
@@ -112,6 +120,12 @@ scrubs_behind {R} {A} (visit.Stopped why) p (Err cause) old new is shelf leaves 
     by sync.NoMemory not = tt
 
 module _ {R A : Type 0} (rack : racks.Ghosts R) (area : areas.Ghosts A) where
+  pub few_metaslabs : (pool : Pool R A) → IsWhole rack area pool → length pool.metaslabs.shards.items ≤ 64
+  few_metaslabs pool w = (let many = w.many in let most = w.layout.geometry_is.props.most_metaslabs in omega (arith, many, most))
+
+  pub some_metaslab : (pool : Pool R A) → IsWhole rack area pool → 1 ≤ length pool.metaslabs.shards.items
+  some_metaslab pool w = (let many = w.many in let least = w.layout.geometry_is.props.some_metaslabs in omega (arith, many, least))
+
   -- a rebuild was found
   pub found_rebuild : (pool : Pool R A) (x : State) (limit : Option ℕ) (metaslab number : ℕ) → Represents rack area pool x → IsLowestPass Rebuild metaslab number pool
       → CarriesOut rack area pool x (ScrubDoes x limit (Err (fault.PassThere metaslab number)))
@@ -125,7 +139,7 @@ module _ {R A : Type 0} (rack : racks.Ghosts R) (area : areas.Ghosts A) where
         by : IsFirstScrub first pool → passes.FromFirst x.geometry x.perms (seen_at 0 x.metaslabs) (drop first (seen_at 0 x.metaslabs))
         by (inr (zero_is, only)) = inl (none_seen_of rack area Heal pool x r only, ap (λ n. drop n (seen_at 0 x.metaslabs)) zero_is)
         by (inl (number, low)) =
-            let z = seen_in rack area Heal pool x r first (slice_get_within pool.metaslabs.shards.items first low.shard low.there) in
+            let z = seen_in rack area pool x r first (slice_get_within pool.metaslabs.shards.items first low.shard low.there) in
             let more : drop first (seen_at 0 x.metaslabs) ≡ view_of first z.0 ∷ drop (first + 1) (seen_at 0 x.metaslabs)
             = views_more 0 first x.metaslabs z.0 z.1 ∙ ap (λ n. view_of n z.0 ∷ drop (first + 1) (seen_at 0 x.metaslabs)) (let same : 0 + first ≡ first = omega arith in same) in
             inr (

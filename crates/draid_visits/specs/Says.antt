@@ -1,5 +1,5 @@
 -- What the replies of the commands on passes say, by the answers of the pool's calls.
-use Rattle.std.specs.Prelude.{◌≡◌, ⊤, ⊥, ℕ, List, Option, Result, Ok, Err}
+use Rattle.std.specs.Prelude.{◌≡◌, ⊤, ℕ, List, Option, Result, Ok, Err}
 use Rattle.draid_names.specs.declared.fault.Failed.{Failed}
 use Rattle.draid_script.specs.declared.name.CommandName.TheVariants as name
 use Rattle.draid_reply.specs.declared.reply.Reply.{Reply}

@@ -9,7 +9,7 @@ mod progress;
 mod rebuilding;
 mod replies;
 mod steps;
-mod units;
+mod unit;
 mod visiting;
 
 pub use cancelling::cancel;

@@ -1,5 +1,6 @@
 //! The metaslabs that a rebuild or a scrub of a pool visits.
 ghost use Rattle.std.specs.Prelude.{◌≡◌, ◌≤◌, ◌<◌, ◌↔◌, ℕ, IfNone, IfSome, IsTrue, length, slice_index_or, true, false};
+ghost use Rattle.draid_names.specs.declared.pass_kind.PassKind.TheVariants.{Heal, Rebuild};
 ghost use Rattle.draid_session.specs.Passes as passes;
 ghost use Rattle.draid_session.specs.State.{State};
 ghost use Rattle.draid_pool.specs.Pools.{Represents};
@@ -34,11 +35,35 @@ fn number_of<R: Rack, A: Area>(shard: &Shard<R, A>, kind: PassKind) -> Option<u6
     ensures found { IfSome result (λ number. HasPass kind number shard.now) }
     ensures none { IfNone result (IsOnly (passes.other_kind kind) shard.now) }
 {
+    match kind {
+        PassKind::Rebuild => rebuild_of(shard),
+        PassKind::Heal => scrub_of(shard),
+    }
+}
+
+/// The number of its rebuild.
+fn rebuild_of<R: Rack, A: Area>(shard: &Shard<R, A>) -> Option<u64>
+    ensures found { IfSome result (λ number. HasPass Rebuild number shard.now) }
+    ensures none { IfNone result (IsOnly Heal shard.now) }
+{
     match &shard.pass {
-        Some(pass) => match (pass.kind, kind) {
-            (PassKind::Rebuild, PassKind::Rebuild) => Some(pass.number),
-            (PassKind::Heal, PassKind::Heal) => Some(pass.number),
-            _ => None,
+        Some(pass) => match pass.kind {
+            PassKind::Rebuild => Some(pass.number),
+            PassKind::Heal => None,
+        },
+        None => None,
+    }
+}
+
+/// The number of its scrub.
+fn scrub_of<R: Rack, A: Area>(shard: &Shard<R, A>) -> Option<u64>
+    ensures found { IfSome result (λ number. HasPass Heal number shard.now) }
+    ensures none { IfNone result (IsOnly Rebuild shard.now) }
+{
+    match &shard.pass {
+        Some(pass) => match pass.kind {
+            PassKind::Rebuild => None,
+            PassKind::Heal => Some(pass.number),
         },
         None => None,
     }

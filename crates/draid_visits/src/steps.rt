@@ -1,5 +1,5 @@
 //! One metaslab as a rebuild or a scrub of a pool comes to it: its pass begins, is made to run, and ends.
-ghost use Rattle.std.specs.Prelude.{◌≡◌, ◌≤◌, ◌↔◌, ◌⊎◌, ℕ, None, Ok, OnErr, OnOk, IfErr, IfOk, IfSome, IsSomeAnd, IsTrue, false, true};
+ghost use Rattle.std.specs.Prelude.{◌≡◌, ◌≤◌, ◌^◌, ◌↔◌, ◌⊎◌, ℕ, None, Ok, OnErr, OnOk, IfErr, IfOk, IfSome, IsSomeAnd, IsTrue, false, true};
 ghost use Rattle.draid_names.specs.declared.numbers.TheConstants.{LAST_NUMBER};
 ghost use Rattle.draid_names.specs.declared.pass_kind.PassKind.TheVariants.{Rebuild};
 ghost use Rattle.draid_spec.specs.Geometry.{metaslab_stripes};
@@ -20,7 +20,7 @@ ghost use Rattle.draid_pool.specs.Syncing.{KeepsTable};
 ghost use Rattle.draid_visits.specs.Pieces.{GoesTo};
 ghost use Rattle.draid_visits.specs.Steps.{HasContents, IsRebuiltIn, IsRunningOf, MovesOn, NextIs, ReadyIs, SharesTable, StartIs};
 
-use crate::units::unit_in;
+use crate::unit::unit_in;
 use draid_area::Area;
 use draid_names::{LAST_NUMBER, PassKind};
 use draid_pass::Pass;

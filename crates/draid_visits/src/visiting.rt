@@ -1,5 +1,5 @@
 //! The visit of one metaslab by a rebuild or a scrub of a pool: its pass begins, is made to run, lends, and ends.
-ghost use Rattle.std.specs.Prelude.{◌≡◌, ◌<◌, ◌≤◌, ◌+◌, ◌*◌, ⊥, ℕ, IsErrOf, IsSome, IsSomeAnd, OnErr, OnOk, Option, Some, length};
+ghost use Rattle.std.specs.Prelude.{◌≡◌, ◌<◌, ◌≤◌, ◌+◌, ◌*◌, ℕ, IsErrOf, IsSome, IsSomeAnd, OnErr, OnOk, Option, Some, length};
 ghost use Rattle.draid_names.specs.declared.pass_kind.PassKind.TheVariants.{Heal, Rebuild};
 ghost use Rattle.draid_spec.specs.Geometry.{metaslab_stripes};
 ghost use Rattle.draid_pass.specs.declared.pass.Pass.{Pass};
@@ -228,7 +228,7 @@ fn lend_all<R: Rack, A: Area>(
     ensures carries { (x : State) → Represents R.Rack A.Area pool.old x
         → CarriesOut R.Rack A.Area pool.new x (λ holds store. (store ≡ x.store) × LendIs x.geometry x.perms kind metaslab progress.old result progress.new holds) }
 {
-    loop {
+    'units: loop {
         let used_up = progress.is_used_up();
         match next_in(&mut pool.metaslabs.shards[metaslab], kind, used_up) {
             Next::Landed { repaired } => progress.count(repaired),

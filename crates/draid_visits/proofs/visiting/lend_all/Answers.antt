@@ -16,8 +16,8 @@ use Rattle.draid_visits.proofs.Lending.{SomeLends, lends_end, lends_more, lends_
 use Rattle.draid_visits.proofs.SharedWhole.{whole_shared}
 use Rattle.draid_visits.proofs.visiting.lend_all.Goals as goal
 
-pub loop-progress-init : goal.loop-progress-init
-loop-progress-init g c = record {
+pub loop-units-init : goal.loop-units-init
+loop-units-init g c = record {
   whole = c.requires.whole;
   many = refl;
   geometry = refl;
@@ -35,7 +35,7 @@ loop-progress-init g c = record {
 
 pub next_in-requires : goal.next_in-requires
 next_in-requires g c =
-    let l = c.loop-progress in
+    let l = c.loop-units in
     let shard = c.index_mut.result.now in
     let inside = c.requires.there in
     let many = l.invariant.many in
@@ -44,19 +44,19 @@ next_in-requires g c =
 
 pub count-requires : goal.count-requires
 count-requires g c =
-    let i = c.loop-progress.invariant in
+    let i = c.loop-units.invariant in
     let inside = c.requires.there in
     let most = few_whole g.R.Rack g.A.Area c.args.pool.now c.requires.whole in
     record {
-      some = unused c.is_used_up-used_up.result c.loop-progress.progress.left c.is_used_up-used_up.ensures (c.in-Landed.ensures.landed c.in-Landed.repaired refl).0;
-      low = room_for c.args.metaslab c.args.progress.now c.loop-progress.progress _ _ c.requires.low i.few (few_stripes c.args.pool.now.geometry c.requires.whole.layout.geometry_is) (omega (arith, inside, most));
-      rewritten = rewritten_fits c.args.metaslab c.args.progress.now c.loop-progress.progress _ _ c.in-Landed.repaired c.requires.low i.few (few_stripes c.args.pool.now.geometry c.requires.whole.layout.geometry_is) (omega (arith, inside, most)) i.rewritten
+      some = unused c.is_used_up-used_up.result c.loop-units.progress.left c.is_used_up-used_up.ensures (c.in-Landed.ensures.landed c.in-Landed.repaired refl).0;
+      low = room_for c.args.metaslab c.args.progress.now c.loop-units.progress _ _ c.requires.low i.few (few_stripes c.args.pool.now.geometry c.requires.whole.layout.geometry_is) (omega (arith, inside, most));
+      rewritten = rewritten_fits c.args.metaslab c.args.progress.now c.loop-units.progress _ _ c.in-Landed.repaired c.requires.low i.few (few_stripes c.args.pool.now.geometry c.requires.whole.layout.geometry_is) (omega (arith, inside, most)) i.rewritten
           (c.in-Landed.ensures.landed c.in-Landed.repaired refl).2;
     }
 
-pub loop-progress-smaller : goal.loop-progress-smaller
-loop-progress-smaller g c =
-    let l = c.loop-progress in
+pub loop-units-smaller : goal.loop-units-smaller
+loop-units-smaller g c =
+    let l = c.loop-units in
     let m = c.args.metaslab in
     let shard = c.index_mut.result.now in
     let inside = c.requires.there in
@@ -70,9 +70,9 @@ loop-progress-smaller g c =
     let fewer = fewer_left g.R.Rack g.A.Area c.args.kind m l.pool new shard after set whole (e.landed c.in-Landed.repaired refl).1 in
     omega (arith, fewer)
 
-pub loop-progress-preserved : goal.loop-progress-preserved
-loop-progress-preserved g c =
-    let l = c.loop-progress in
+pub loop-units-preserved : goal.loop-units-preserved
+loop-units-preserved g c =
+    let l = c.loop-units in
     let i = l.invariant in
     let m = c.args.metaslab in
     let shard = c.index_mut.result.now in
@@ -114,12 +114,12 @@ overflow_add-progress g c =
     let most = few_whole g.R.Rack g.A.Area c.args.pool.now c.requires.whole in
     let low = c.in-Ended.ensures.low c.in-Ended.errors refl in
     let fits = errors_fit c.args.metaslab c.args.progress.now c.in-Ended.errors c.requires.low low (omega (arith, inside, most)) in
-    let same = c.loop-progress.invariant.errors in
+    let same = c.loop-units.invariant.errors in
     omega (arith, fits, same)
 
 pub returns-in-Ended : goal.returns-in-Ended
 returns-in-Ended g c =
-    let l = c.loop-progress in
+    let l = c.loop-units in
     let i = l.invariant in
     let m = c.args.metaslab in
     let shard = c.index_mut.result.now in
@@ -152,7 +152,7 @@ returns-in-Ended g c =
 
 pub returns-in-Paused : goal.returns-in-Paused
 returns-in-Paused g c =
-    let l = c.loop-progress in
+    let l = c.loop-units in
     let i = l.invariant in
     let m = c.args.metaslab in
     let shard = c.index_mut.result.now in
@@ -183,7 +183,7 @@ returns-in-Paused g c =
 
 pub returns-in-Worn : goal.returns-in-Worn
 returns-in-Worn g c =
-    let l = c.loop-progress in
+    let l = c.loop-units in
     let i = l.invariant in
     let m = c.args.metaslab in
     let shard = c.index_mut.result.now in
@@ -213,7 +213,7 @@ returns-in-Worn g c =
 
 pub returns-in-NoMemory : goal.returns-in-NoMemory
 returns-in-NoMemory g c =
-    let l = c.loop-progress in
+    let l = c.loop-units in
     let i = l.invariant in
     let m = c.args.metaslab in
     let shard = c.index_mut.result.now in

@@ -12,8 +12,8 @@ use Rattle.draid_visits.proofs.Kept.{stripes_left}
 use Rattle.draid_visits.proofs.Lending.{Lending}
 use Rattle.draid_visits.proofs.visiting.lend_all.Given as goal
 
-abbrev pub invariant-loop-progress : goal.invariant-loop-progress
-invariant-loop-progress g l = record {
+abbrev pub invariant-loop-units : goal.invariant-loop-units
+invariant-loop-units g l = record {
   whole : IsWhole g.R.Rack g.A.Area l.pool;
   many : length l.pool.metaslabs.shards.items ≡ length l.initial.pool.metaslabs.shards.items;
   geometry : l.pool.geometry ≡ l.initial.pool.geometry;
@@ -29,5 +29,5 @@ invariant-loop-progress g l = record {
   carries : (x : State) → Represents g.R.Rack g.A.Area l.initial.pool x → Lending g.R.Rack g.A.Area l.kind l.metaslab l.initial.progress l.progress l.pool x;
 }
 
-abbrev pub decreases-loop-progress : goal.decreases-loop-progress
-decreases-loop-progress g l = stripes_left l.pool l.metaslab
+abbrev pub decreases-loop-units : goal.decreases-loop-units
+decreases-loop-units g l = stripes_left l.pool l.metaslab

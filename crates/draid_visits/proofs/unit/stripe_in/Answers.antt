@@ -5,7 +5,7 @@ use Rattle.draid_pool.specs.Metaslabs.{IsMetaslab}
 use Rattle.draid_visits.proofs.Over.{ok_as, starved, unit_left, worn, worn_as}
 use Rattle.draid_visits.proofs.Tables.{table_landed}
 use Rattle.draid_visits.proofs.Units.{landed_none, moves_on, running_of, unit_goes}
-use Rattle.draid_visits.proofs.units.stripe_in.Goals as goal
+use Rattle.draid_visits.proofs.unit.stripe_in.Goals as goal
 
 pub returns-in-Ok-Unit-clause-table : goal.returns-in-Ok-Unit-clause-table
 returns-in-Ok-Unit-clause-table g c =

@@ -1,5 +1,5 @@
 //! A stripe of a rebuild or a block of a scrub in one metaslab: it is lent, solved, and lands.
-ghost use Rattle.std.specs.Prelude.{◌≡◌, ◌≤◌, ◌^◌, ⊥, ℕ, IsSomeAnd, false};
+ghost use Rattle.std.specs.Prelude.{◌≡◌, ◌≤◌, ◌^◌, ℕ, IsSomeAnd, false};
 ghost use Rattle.draid_names.specs.declared.numbers.TheConstants.{LAST_NUMBER};
 ghost use Rattle.draid_names.specs.declared.pass_kind.PassKind.TheVariants.{Heal, Rebuild};
 ghost use Rattle.draid_segments.specs.Segments.{Pieces};
@@ -19,9 +19,6 @@ use draid_area::Area;
 use draid_names::PassKind;
 use draid_rack::Rack;
 use draid_shard::{LendFault, Lent, Shard};
-
-/// More columns of a block than are rewritten on any arm.
-const MOST_REWRITTEN: u64 = 256;
 
 /// Lends the next stripe or block and lands it; or ends the pass, where nothing is left.
 pub(crate) fn unit_in<R: Rack, A: Area>(shard: &mut Shard<R, A>, kind: PassKind) -> Next
@@ -88,7 +85,7 @@ fn block_in<R: Rack, A: Area>(shard: &mut Shard<R, A>) -> Next
                 return Next::NoMemory;
             }
             Next::Landed {
-                repaired: draid_heal::land(shard).min(MOST_REWRITTEN),
+                repaired: draid_heal::land(shard),
             }
         }
         Ok(Lent::End) => Next::Ended {
