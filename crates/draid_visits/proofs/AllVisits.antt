@@ -1,14 +1,10 @@
 -- Visits of a pool's metaslabs, one after another.
-use Rattle.std.proofs.Common.{◌≡◌, ◌≢◌, ◌<◌, ◌≤◌, ◌+◌, ◌++◌, ◌∙◌, [], ◌∷◌, inl, inr, ℕ, zero, suc, Bool, true, false, List, Option, Some, None, arith, drop, refl, sym, ap, subst, length}
-use Rattle.std.specs.Prelude.{◌↔◌, IsTrue, slice_get, slice_index_or}
-use Rattle.std.proofs.lemmas.Bool.{true≢false}
+use Rattle.std.proofs.Common.{◌≡◌, ◌≢◌, ◌≤◌, ◌+◌, ◌++◌, ◌∙◌, [], ◌∷◌, inl, inr, ℕ, zero, suc, Bool, true, List, Some, arith, drop, refl, sym, ap, subst, length}
+use Rattle.std.specs.Prelude.{slice_get}
 use Rattle.draid_rack.specs.declared.Rack as racks
 use Rattle.draid_area.specs.declared.Area as areas
 use Rattle.draid_machine.proofs.Small.{none_some}
 use Rattle.draid_names.specs.declared.pass_kind.PassKind.{PassKind}
-use Rattle.draid_perm.specs.declared.perms.Perms.{Perms}
-use Rattle.draid_spec.specs.declared.layout.Geometry.{Geometry}
-use Rattle.draid_shard.specs.declared.shard.Shard.{Shard}
 use Rattle.draid_session.specs.Holds.{Hold, View, view_of}
 use Rattle.draid_session.specs.Passes as passes
 use Rattle.draid_session.specs.Phases.{End}
@@ -20,9 +16,8 @@ use Rattle.draid_pool.specs.declared.pool.Pool.{Pool}
 use Rattle.draid_pool.proofs.Lists.{some_of}
 use Rattle.draid_visits.specs.Visiting.{IsMarked, VisitIs, VisitsDo, end_by, tally_of}
 use Rattle.draid_visits.specs.declared.progress.Progress.{Progress}
-use Rattle.draid_visits.specs.declared.progress.Visit.{Visit}
 use Rattle.draid_visits.specs.declared.progress.Visit.TheVariants as visit
-use Rattle.draid_visits.proofs.Leading.{Does, Leads, Steps, leads_done, leads_end, leads_none, leads_on}
+use Rattle.draid_visits.proofs.Leading.{Does, Leads, Steps, leads_done, leads_end, leads_on}
 
 -- ---- what was seen
 

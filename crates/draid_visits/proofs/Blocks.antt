@@ -23,7 +23,6 @@ use Rattle.draid_machine.specs.Step.{Step}
 use Rattle.draid_machine.proofs.Small.{key_refl, key_true, some_same}
 use Rattle.draid_segments.specs.Acts as segments
 use Rattle.draid_segments.specs.Segments.{Pieces}
-use Rattle.draid_entries.specs.Entries.{held_in}
 use Rattle.draid_entries.specs.History.{limit_in, reserved_of}
 use Rattle.draid_entries.specs.Maps.{held_at, key_of, staged}
 use Rattle.draid_pass.specs.declared.pass.Pass.{Pass}
@@ -36,16 +35,15 @@ use Rattle.draid_shard.specs.Part.{Part, layout_in}
 use Rattle.draid_shard.specs.Rooms.{IsWornFor}
 use Rattle.draid_shard.specs.States.{DoesNone, layout_by, part_of}
 use Rattle.draid_shard.specs.declared.loan.KeptLoan.{KeptLoan}
-use Rattle.draid_shard.specs.declared.loan.KeptLoan.TheVariants.{Block, Stripe}
+use Rattle.draid_shard.specs.declared.loan.KeptLoan.TheVariants.{Block}
 use Rattle.draid_shard.specs.declared.loan.LentBlock.{LentBlock}
 use Rattle.draid_shard.specs.declared.shard.Shard.{Shard}
 use Rattle.draid_shard.proofs.Held.{key_leads}
 use Rattle.draid_heal.specs.Lands as lands
 use Rattle.draid_heal.specs.Lands.{MovesBehind, WritesRestored}
 use Rattle.draid_heal.specs.Loans.{IsBlockHere, IsLentHere, IsRunningScrub, LendsBlock, counted}
-use Rattle.draid_heal.specs.Restoring.{AnswersBlock, HasColumnsOf, RestoresLent, RestoresLoan, StaysLent, fetched_of}
+use Rattle.draid_heal.specs.Restoring.{AnswersBlock, HasColumnsOf, RestoresLent, RestoresLoan, fetched_of}
 use Rattle.draid_session.specs.Holds.{Did, On, view_of}
-use Rattle.draid_session.specs.Passes as passes
 use Rattle.draid_session.specs.State.{Metaslab}
 use Rattle.draid_pool.specs.Metaslabs.{IsMetaslab}
 use Rattle.draid_pool.specs.Shards.{Goes, SameBlocks}

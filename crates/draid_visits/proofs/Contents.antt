@@ -1,5 +1,5 @@
 -- The blocks of a pool's metaslab have content: each is some write's.
-use Rattle.std.proofs.Common.{◌≡◌, ◌∙◌, ℕ, List, Some, refl, sym, ap, subst, length}
+use Rattle.std.proofs.Common.{◌≡◌, ◌∙◌, ℕ, Some, sym, ap, subst, length}
 use Rattle.std.specs.Prelude.{option_map, slice_get}
 use Rattle.draid_rack.specs.declared.Rack as racks
 use Rattle.draid_area.specs.declared.Area as areas
@@ -10,7 +10,7 @@ use Rattle.draid_machine.specs.declared.names.Held.{Held}
 use Rattle.draid_machine.specs.declared.names.Key.{Key}
 use Rattle.draid_segments.specs.Segments.{Pieces}
 use Rattle.draid_objects.specs.Blocks.{table_of}
-use Rattle.draid_objects.specs.Changes.{Write, key_of, write_by}
+use Rattle.draid_objects.specs.Changes.{Write, key_of}
 use Rattle.draid_objects.proofs.Finding.{write_key}
 use Rattle.draid_shard.specs.Columns.{ArePieces}
 use Rattle.draid_shard.specs.Part.{Part}

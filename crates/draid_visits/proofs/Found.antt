@@ -1,7 +1,6 @@
 -- What a rebuild or a scrub of a pool finds as it looks at all metaslabs.
-use Rattle.std.proofs.Common.{◌≡◌, ◌<◌, ◌≤◌, ◌+◌, ◌++◌, ◌∙◌, [], ◌∷◌, inl, inr, ℕ, zero, suc, Bool, true, false, List, Option, Some, None, arith, refl, sym, ap, subst, length}
-use Rattle.std.specs.Prelude.{◌↔◌, IfSome, IsSomeAnd, IsTrue, option_map, slice_get, slice_index_or}
-use Rattle.std.proofs.lemmas.Bool.{true≢false}
+use Rattle.std.proofs.Common.{◌≡◌, ◌<◌, ◌≤◌, ◌+◌, ◌∙◌, [], ◌∷◌, inl, inr, ℕ, zero, suc, Bool, List, Option, Some, None, arith, refl, sym, ap, subst, length}
+use Rattle.std.specs.Prelude.{IfSome, IsSomeAnd, option_map, slice_get}
 use Rattle.std.proofs.lemmas.Option.{slice_get_within}
 use Rattle.draid_rack.specs.declared.Rack as racks
 use Rattle.draid_area.specs.declared.Area as areas
@@ -11,9 +10,8 @@ use Rattle.draid_names.specs.declared.pass_kind.PassKind.{PassKind}
 use Rattle.draid_names.specs.declared.pass_kind.PassKind.TheVariants.{Heal, Rebuild}
 use Rattle.draid_pass.specs.declared.pass.Pass.{Pass}
 use Rattle.draid_slots.specs.States.{pass_in}
-use Rattle.draid_slots.specs.Table.{SlotTable}
 use Rattle.draid_shard.specs.declared.shard.Shard.{Shard}
-use Rattle.draid_session.specs.Holds.{View, view_of}
+use Rattle.draid_session.specs.Holds.{view_of}
 use Rattle.draid_session.specs.Passes as passes
 use Rattle.draid_session.specs.Phases.{NoneOf}
 use Rattle.draid_session.specs.State.{Metaslab, State}

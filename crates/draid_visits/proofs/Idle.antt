@@ -1,5 +1,5 @@
 -- The metaslabs behind which a rebuild or a scrub of a pool leaves no pass.
-use Rattle.std.proofs.Common.{◌≡◌, ◌<◌, ◌≤◌, ◌+◌, ◌⊎◌, ◌∙◌, inl, inr, ℕ, Bool, true, false, List, Option, Some, None, arith, refl, sym, ap, subst, length, slice_index_or}
+use Rattle.std.proofs.Common.{◌≡◌, ◌<◌, ◌≤◌, ◌+◌, ◌⊎◌, ◌∙◌, inl, inr, ℕ, Bool, true, false, List, Option, Some, None, arith, sym, ap, subst, length, slice_index_or}
 use Rattle.std.specs.Prelude.{IfSome, IsSome, slice_get}
 use Rattle.std.proofs.lemmas.Bool.{cases_eq, true≢false}
 use Rattle.std.proofs.lemmas.Option.{slice_get_within}
@@ -7,7 +7,7 @@ use Rattle.draid_names.specs.declared.pass_kind.PassKind.{PassKind}
 use Rattle.draid_pass.specs.declared.pass.Pass.{Pass}
 use Rattle.draid_shard.specs.declared.shard.Shard.{Shard}
 use Rattle.draid_pool.specs.declared.pool.Pool.{Pool}
-use Rattle.draid_pool.proofs.Lists.{present, some_of}
+use Rattle.draid_pool.proofs.Lists.{present}
 use Rattle.draid_pool.specs.Passes.{KeepsPass}
 use Rattle.draid_visits.specs.Steps.{IsRunningOf}
 use Rattle.draid_visits.specs.Visiting.{AreAll, AreToVisit, BeganAt, HasMark, IsAt, IsOnly, KeepsOthers, NoPasses, RunsPass}

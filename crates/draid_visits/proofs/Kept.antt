@@ -1,7 +1,6 @@
 -- The passes of a pool's metaslabs as one of them changes, or as a group is committed.
-use Rattle.std.proofs.Common.{◌≡◌, ◌<◌, ◌≤◌, ◌+◌, ◌-◌, ◌^◌, ◌∙◌, inl, inr, ℕ, zero, suc, List, Option, Some, None, arith, refl, sym, ap, subst, length, slice_set, ◌*◌}
+use Rattle.std.proofs.Common.{◌≡◌, ◌<◌, ◌≤◌, ◌+◌, ◌-◌, ◌^◌, ◌∙◌, ℕ, zero, suc, Option, Some, None, arith, refl, sym, ap, subst, length, ◌*◌}
 use Rattle.std.specs.Prelude.{IsSomeAnd, slice_get}
-use Rattle.std.proofs.lemmas.Bool.{cases_eq}
 use Rattle.std.proofs.lemmas.Option.{slice_get_within}
 use Rattle.draid_rack.specs.declared.Rack as racks
 use Rattle.draid_area.specs.declared.Area as areas
@@ -19,7 +18,7 @@ use Rattle.draid_pool.specs.declared.pool.Pool.{Pool}
 use Rattle.draid_pool.proofs.Lifted.{SetsShard}
 use Rattle.draid_pool.proofs.Lists.{get_set_other, get_set_same, present, some_of}
 use Rattle.draid_pool.proofs.Wholes.{open_high, whole_geometry}
-use Rattle.draid_pool.specs.Passes.{IsSamePass, KeepsPass, KeepsPasses}
+use Rattle.draid_pool.specs.Passes.{KeepsPass, KeepsPasses}
 use Rattle.draid_visits.specs.Steps.{IsRunningOf, MovesOn}
 use Rattle.draid_visits.specs.Visiting.{IsAt, IsLeft, IsLow, KeepsOthers}
 use Rattle.draid_visits.specs.declared.progress.Progress.{Progress}

@@ -1,5 +1,5 @@
 -- The stripes or blocks that a pass lends in one metaslab, one after another.
-use Rattle.std.proofs.Common.{◌≡◌, ◌+◌, ◌++◌, ◌∙◌, ◌⊎◌, [], ◌∷◌, inl, inr, ℕ, suc, Bool, true, false, List, Option, Some, None, refl, sym, ap, subst}
+use Rattle.std.proofs.Common.{◌≡◌, ◌+◌, ◌++◌, ◌∙◌, ◌⊎◌, [], inl, inr, ℕ, suc, Bool, true, false, List, Option, Some, None, refl, sym, ap, subst}
 use Rattle.std.specs.Prelude.{◌↔◌, ⊤, IsTrue}
 use Rattle.std.proofs.lemmas.Bool.{true≢false}
 use Rattle.draid_rack.specs.declared.Rack as racks
@@ -16,7 +16,6 @@ use Rattle.draid_pool.specs.declared.fault.SyncFault.TheVariants as sync
 use Rattle.draid_pool.specs.declared.pool.Pool.{Pool}
 use Rattle.draid_visits.specs.Visiting.{LendIs, tally_of}
 use Rattle.draid_visits.specs.declared.progress.Progress.{Progress}
-use Rattle.draid_visits.specs.declared.progress.Visit.{Visit}
 use Rattle.draid_visits.specs.declared.progress.Visit.TheVariants as visit
 use Rattle.draid_visits.specs.Steps.{NextIs}
 use Rattle.draid_visits.specs.declared.steps.Next.{Next}

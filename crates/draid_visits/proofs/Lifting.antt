@@ -1,6 +1,6 @@
 -- Holds of one metaslab of a pool that leave what it holds as it was, where its blocks may have other pieces of the same length and digest then.
 use Rattle.std.proofs.Common.{◌≡◌, ◌∙◌, inl, inr, ℕ, List, Option, Some, None, arith, refl, sym, ap, subst, slice_set, length}
-use Rattle.std.specs.Prelude.{◌⊎◌, nat_eq, slice_get}
+use Rattle.std.specs.Prelude.{nat_eq, slice_get}
 use Rattle.std.specs.HashMap.{get}
 use Rattle.std.proofs.lemmas.Bool.{cases_eq}
 use Rattle.sha2.specs.Sha256.{sha256}

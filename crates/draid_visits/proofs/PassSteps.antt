@@ -8,7 +8,7 @@ use Rattle.draid_machine.specs.declared.event.Patched.{Patched}
 use Rattle.draid_machine.specs.declared.event.Event.TheVariants.{Plan, Ready, Lend, LandStripe, LandBlock, Done}
 use Rattle.draid_machine.specs.declared.names.ArmName.TheVariants.{Leaf}
 use Rattle.draid_machine.specs.declared.names.Held.{Held}
-use Rattle.draid_machine.specs.After.{heal_state, land_block_state, map_arm, mend_state, pass_over, unsourced}
+use Rattle.draid_machine.specs.After.{land_block_state, map_arm, mend_state, pass_over, unsourced}
 use Rattle.draid_machine.specs.State as machine
 use Rattle.draid_machine.specs.Step.{Step}
 use Rattle.draid_segments.specs.Acts as segments

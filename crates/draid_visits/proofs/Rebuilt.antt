@@ -1,17 +1,16 @@
 -- The answers of a rebuild of a pool, and what those of a scrub share.
-use Rattle.std.proofs.Common.{◌≡◌, ◌≢◌, ◌+◌, ◌++◌, ◌∙◌, [], ◌∷◌, inl, inr, ℕ, suc, Bool, true, false, List, Option, Some, None, Result, Ok, Err, arith, refl, sym, ap, subst, length}
-use Rattle.std.specs.Prelude.{◌≤◌, ◌↔◌, ⊤, IfOk, slice_get}
+use Rattle.std.proofs.Common.{◌≡◌, ◌+◌, ◌++◌, ◌∙◌, [], ◌∷◌, inl, inr, ℕ, suc, Bool, true, false, List, Option, Some, None, Result, Ok, Err, arith, refl, sym, ap, subst}
+use Rattle.std.specs.Prelude.{◌↔◌, ⊤, IfOk, slice_get}
 use Rattle.draid_rack.specs.declared.Rack as racks
 use Rattle.draid_area.specs.declared.Area as areas
 use Rattle.draid_names.specs.declared.pass_kind.PassKind.{PassKind}
 use Rattle.draid_names.specs.declared.pass_kind.PassKind.TheVariants.{Heal, Rebuild}
-use Rattle.draid_session.specs.Follows.{Follows}
 use Rattle.draid_perm.specs.declared.perms.Perms.{Perms}
 use Rattle.draid_spec.specs.declared.layout.Geometry.{Geometry}
 use Rattle.draid_session.specs.Holds.{Hold, View, view_of}
 use Rattle.draid_session.specs.Looks.{Looks, LooksFrom}
 use Rattle.draid_session.specs.Passes as passes
-use Rattle.draid_session.specs.Phases.{End, NoneOf}
+use Rattle.draid_session.specs.Phases.{NoneOf}
 use Rattle.draid_session.specs.Replies.{IsWithin}
 use Rattle.draid_session.specs.State.{Metaslab, State, Store}
 use Rattle.draid_pool.specs.Carries.{CarriesOut}
@@ -25,7 +24,7 @@ use Rattle.draid_pool.proofs.Steps.{follows_on}
 use Rattle.draid_pool.proofs.SyncSteps.{not_went}
 use Rattle.draid_visits.specs.Steps.{IsRebuiltIn}
 use Rattle.draid_visits.specs.Rebuilding.{IsAnswer, IsLowestPass, IsMended, NothingToRebuild, RebuildDoes, RebuildIs, RunsWhere, stopped_by}
-use Rattle.draid_visits.specs.Visiting.{AreAll, AreToVisit, AreMarks, HasMark, IsLeft, IsMarked, IsOnly, Leaves, PausesAt, SeesMarks, SeesNone, Tells, VisitsDo, end_by, nothing_within, outcome_by, tally_of}
+use Rattle.draid_visits.specs.Visiting.{AreAll, AreToVisit, AreMarks, HasMark, IsLeft, IsMarked, IsOnly, Leaves, PausesAt, SeesMarks, SeesNone, VisitsDo, end_by, nothing_within, tally_of}
 use Rattle.draid_visits.specs.declared.progress.Progress.{Progress}
 use Rattle.draid_visits.specs.declared.progress.Visit.{Visit}
 use Rattle.draid_visits.specs.declared.progress.Visit.TheVariants as visit

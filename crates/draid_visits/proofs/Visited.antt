@@ -16,15 +16,13 @@ use Rattle.draid_spec.specs.declared.layout.Geometry.{Geometry}
 use Rattle.draid_spec.specs.Geometry.{metaslab_stripes}
 use Rattle.draid_session.specs.Holds.{Hold}
 use Rattle.draid_session.specs.Passes as passes
-use Rattle.draid_session.specs.Phases.{Chain, End, Went}
-use Rattle.draid_session.specs.State.{State}
-use Rattle.draid_pool.specs.Pools.{Represents}
+use Rattle.draid_session.specs.Phases.{End, Went}
 use Rattle.draid_pool.specs.declared.fault.SyncFault.{SyncFault}
 use Rattle.draid_pool.specs.declared.fault.SyncFault.TheVariants as sync
 use Rattle.draid_pool.specs.declared.pool.Pool.{Pool}
 use Rattle.draid_pool.proofs.SyncSteps.{not_went}
 use Rattle.draid_visits.specs.Steps.{IsRebuiltIn}
-use Rattle.draid_visits.specs.Visiting.{BeganAt, BeginIs, HasBegun, IsLeft, IsLow, LendIs, RunIs, Runs, VisitIs, end_by, outcome_by, tally_of}
+use Rattle.draid_visits.specs.Visiting.{BeganAt, BeginIs, HasBegun, IsLeft, IsLow, LendIs, RunIs, Runs, VisitIs, end_by, tally_of}
 use Rattle.draid_visits.specs.declared.progress.Progress.{Progress}
 use Rattle.draid_visits.specs.declared.progress.Visit.{Visit}
 use Rattle.draid_visits.specs.declared.progress.Visit.TheVariants as visit

@@ -1,5 +1,5 @@
 -- A rebuild that waits: groups are committed until it runs.
-use Rattle.std.proofs.Common.{◌≡◌, ◌≢◌, ◌+◌, ◌++◌, [], ◌∷◌, inl, inr, ℕ, suc, List, Ok, Err, refl, ap}
+use Rattle.std.proofs.Common.{◌++◌, [], inl, inr, ℕ, suc, List, Ok, Err, refl, ap}
 use Rattle.std.specs.Prelude.{OnErr, Result}
 use Rattle.draid_rack.specs.declared.Rack as racks
 use Rattle.draid_area.specs.declared.Area as areas
@@ -7,7 +7,7 @@ use Rattle.draid_names.specs.declared.pass_kind.PassKind.TheVariants.{Heal, Rebu
 use Rattle.draid_perm.specs.declared.perms.Perms.{Perms}
 use Rattle.draid_spec.specs.declared.layout.Geometry.{Geometry}
 use Rattle.draid_session.specs.Groups as groups
-use Rattle.draid_session.specs.Holds.{Hold, Looked, On}
+use Rattle.draid_session.specs.Holds.{Hold}
 use Rattle.draid_session.specs.Passes as passes
 use Rattle.draid_session.specs.Phases.{Chain, End, Went}
 use Rattle.draid_session.specs.State.{State}
@@ -19,7 +19,6 @@ use Rattle.draid_pool.specs.declared.fault.SyncFault.TheVariants as sync
 use Rattle.draid_pool.specs.declared.fault.Synced.{Synced}
 use Rattle.draid_pool.specs.declared.pool.Pool.{Pool}
 use Rattle.draid_pool.proofs.Lifted.{carries_none}
-use Rattle.draid_pool.proofs.SyncSteps.{not_went}
 use Rattle.draid_visits.specs.Visiting.{end_by}
 use Rattle.draid_visits.proofs.Leading.{Does, Leads, Says, Steps, leads_end, leads_on}
 

@@ -1,5 +1,5 @@
 -- The visit of one metaslab by a rebuild or a scrub of a pool, and how visits follow one another.
-use Rattle.std.specs.Prelude.{◌≡◌, ◌≢◌, ◌<◌, ◌≤◌, ◌+◌, ◌++◌, ◌*◌, ◌^◌, ◌↔◌, ◌⊎◌, ⊤, ℕ, Bool, true, false, List, Option, None, Some, Err, IfSome, IsSome, IsSomeAnd, IsTrue, length, slice_get, slice_index_or}
+use Rattle.std.specs.Prelude.{◌≡◌, ◌<◌, ◌≤◌, ◌+◌, ◌++◌, ◌*◌, ◌^◌, ◌↔◌, ◌⊎◌, ⊤, ℕ, Bool, true, false, List, Option, None, Some, Err, IfSome, IsSome, IsSomeAnd, IsTrue, length, slice_get, slice_index_or}
 use Rattle.draid_names.specs.declared.pass_kind.PassKind.{PassKind}
 use Rattle.draid_names.specs.declared.pass_kind.PassKind.TheVariants.{Rebuild}
 use Rattle.draid_perm.specs.declared.perms.Perms.{Perms}
@@ -11,7 +11,7 @@ use Rattle.draid_session.specs.Holds.{Hold, View, view_of}
 use Rattle.draid_session.specs.Passes as passes
 use Rattle.draid_session.specs.Phases.{End, Went}
 use Rattle.draid_session.specs.State.{Metaslab, State, Store}
-use Rattle.draid_pool.specs.Syncing.{Phase, end_of}
+use Rattle.draid_pool.specs.Syncing.{end_of}
 use Rattle.draid_pool.specs.Views.{seen_at}
 use Rattle.draid_pool.specs.declared.fault.SyncFault.{SyncFault}
 use Rattle.draid_pool.specs.declared.fault.SyncFault.TheVariants as sync

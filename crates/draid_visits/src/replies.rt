@@ -97,6 +97,7 @@ pub fn reply_to_scrub<R: Rack, A: Area>(pool: &mut Pool<R, A>, limit: Option<u64
         Err(MendFault::Worn) => Reply::Worn { command },
         Err(MendFault::Last) => Reply::Last { command },
         Err(MendFault::NoMemory) => Reply::NoMemory { command },
-        Err(MendFault::Nothing | MendFault::Shelf) => unreachable!(),
+        Err(MendFault::Nothing) => unreachable!(),
+        Err(MendFault::Shelf) => unreachable!(),
     }
 }

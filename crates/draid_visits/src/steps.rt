@@ -68,7 +68,10 @@ fn has_rebuild(pass: &Option<Pass>) -> bool
 }
 
 /// A pass of this metaslab goes on, or is planned; the answer is where it stands, which is within the metaslab.
-pub(crate) fn start_in<R: Rack, A: Area>(shard: &mut Shard<R, A>, kind: PassKind) -> Result<u64, PlanFault>
+pub(crate) fn start_in<R: Rack, A: Area>(
+    shard: &mut Shard<R, A>,
+    kind: PassKind,
+) -> Result<u64, PlanFault>
     requires valid { Valid R.Rack shard.old }
     requires alone { IfSome shard.old.pass (λ (p : Pass). p.kind ≡ kind) }
     ensures valid { Valid R.Rack shard.new }
@@ -137,7 +140,11 @@ pub(crate) fn is_running(pass: &Option<Pass>) -> bool
 }
 
 /// Lends the next stripe or block and lands it, unless no more is to be lent; or ends the pass, where nothing is left.
-pub(crate) fn next_in<R: Rack, A: Area>(shard: &mut Shard<R, A>, kind: PassKind, used_up: bool) -> Next
+pub(crate) fn next_in<R: Rack, A: Area>(
+    shard: &mut Shard<R, A>,
+    kind: PassKind,
+    used_up: bool,
+) -> Next
     requires valid { Valid R.Rack shard.old }
     requires running { IsSomeAnd shard.old.pass (IsRunningOf kind) }
     ensures valid { Valid R.Rack shard.new }

@@ -1,4 +1,3 @@
-use Rattle.std.proofs.Common.{◌≡◌}
 use Rattle.draid_session.specs.Passes as passes
 use Rattle.draid_visits.proofs.Found.{OnlyBelow}
 use Rattle.draid_visits.proofs.marks.pass_in.Given as goal

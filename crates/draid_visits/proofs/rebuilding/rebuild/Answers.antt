@@ -1,4 +1,4 @@
-use Rattle.std.proofs.Common.{arith, refl, subst, sym}
+use Rattle.std.proofs.Common.{refl, subst, sym}
 use Rattle.draid_names.specs.declared.pass_kind.PassKind.TheVariants.{Rebuild}
 use Rattle.draid_pool.specs.Carries.{CarriesOut}
 use Rattle.draid_visits.specs.Visiting.{IsLeft, IsLow, VisitsDo}

@@ -1,4 +1,4 @@
-use Rattle.std.proofs.Common.{◌≡◌, arith, subst, sym}
+use Rattle.std.proofs.Common.{subst, sym}
 use Rattle.draid_names.specs.declared.pass_kind.PassKind.TheVariants.{Heal}
 use Rattle.draid_pool.specs.Carries.{CarriesOut}
 use Rattle.draid_visits.specs.Visiting.{IsLeft, IsLow, VisitsDo}
@@ -18,8 +18,8 @@ visit_all-end-requires g c =
     record {
       whole = c.requires.whole;
       alone = c.in_default.ensures.none;
-      marks = to_scrub pool marks c.first_scrub-marks.result are few c.in_default.ensures.none c.first_scrub-marks.ensures;
-      some = one_to_scrub pool marks c.first_scrub-marks.result are (some_metaslab g.R.Rack g.A.Area pool c.requires.whole) few c.first_scrub-marks.ensures;
+      marks = to_scrub pool marks c.first_scrub.result are few c.in_default.ensures.none c.first_scrub.ensures;
+      some = one_to_scrub pool marks c.first_scrub.result are (some_metaslab g.R.Rack g.A.Area pool c.requires.whole) few c.first_scrub.ensures;
       long = c.marks_from-marks.ensures.long;
       low = subst (IsLow 0) (sym c.within-progress.ensures) (low_first c.args.limit);
     }
@@ -33,8 +33,8 @@ pub returns-clause-carries : goal.returns-clause-carries
 returns-clause-carries g c x is =
     let pool = c.args.pool.now in
     let marks = c.marks_from-marks.result in
-    scrub_answered g.R.Rack g.A.Area pool c.visit_all-end.new.pool x c.args.limit marks c.first_scrub-marks.result c.marks_from-marks.ensures.marks (few_metaslabs g.R.Rack g.A.Area pool c.requires.whole) is
-    c.in_default.ensures.none c.first_scrub-marks.ensures c.visit_all-end.result c.visit_all-end.new.progress c.answer.result (λ shelf. never_shelf (c.visit_all-end.ensures.cause shelf).0) c.answer.ensures
+    scrub_answered g.R.Rack g.A.Area pool c.visit_all-end.new.pool x c.args.limit marks c.first_scrub.result c.marks_from-marks.ensures.marks (few_metaslabs g.R.Rack g.A.Area pool c.requires.whole) is
+    c.in_default.ensures.none c.first_scrub.ensures c.visit_all-end.result c.visit_all-end.new.progress c.answer.result (λ shelf. never_shelf (c.visit_all-end.ensures.cause shelf).0) c.answer.ensures
     (subst (λ q. CarriesOut g.R.Rack g.A.Area c.visit_all-end.new.pool x (VisitsDo x Heal marks q c.visit_all-end.result c.visit_all-end.new.progress)) c.within-progress.ensures (c.visit_all-end.ensures.carries x is))
 
 pub returns-clause-passes : goal.returns-clause-passes

@@ -1,4 +1,4 @@
-use Rattle.std.proofs.Common.{◌≡◌, ◌<◌, ◌≤◌, ◌∙◌, arith, inl, inr, length, refl, sym}
+use Rattle.std.proofs.Common.{◌<◌, ◌≤◌, ◌∙◌, arith, inl, inr, length, refl, sym}
 use Rattle.std.proofs.lemmas.Bool.{true≢false}
 use Rattle.draid_pool.proofs.Rises.{areas_on, areas_still, rose_then}
 use Rattle.draid_visits.proofs.AllVisits.{FromOn, visiting_by, visiting_ends, visiting_on, visiting_pauses, visiting_stops}

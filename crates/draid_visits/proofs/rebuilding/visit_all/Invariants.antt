@@ -1,6 +1,5 @@
-use Rattle.std.proofs.Common.{◌≡◌, ◌<◌, ◌⊎◌, ℕ, false, Option, Some, None, length, slice_index_or}
-use Rattle.std.specs.Prelude.{IsSome, slice_get}
-use Rattle.draid_shard.specs.declared.shard.Shard.{Shard}
+use Rattle.std.proofs.Common.{◌≡◌, ◌⊎◌, ℕ, Option, length}
+use Rattle.std.specs.Prelude.{IsSome}
 use Rattle.draid_session.specs.State.{State}
 use Rattle.draid_pool.specs.Failing.{AreasLater}
 use Rattle.draid_pool.specs.Pointers.{SamePointers}

@@ -26,6 +26,3 @@ pub returns-in-Err-NoMemory-clause-step : goal.returns-in-Err-NoMemory-clause-st
 returns-in-Err-NoMemory-clause-step g c = λ x is.
     by_answer g.R.Rack g.A.Area (ScrubDoes x c.args.limit) _ x c.scrub.new.pool c.scrub.result (Err fault.NoMemory) (c.in-Err-NoMemory.is ∙ ap Err c.in-Err-NoMemory.field-0-is)
     (λ holds store w. (Err fault.NoMemory, refl, w)) (c.scrub.ensures.carries x is)
-
-pub unreachable-requires : goal.unreachable-requires
-unreachable-requires g c = ?

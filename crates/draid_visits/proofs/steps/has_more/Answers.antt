@@ -1,4 +1,4 @@
-use Rattle.std.proofs.Common.{◌≡◌, ◌≤◌, ◌∙◌, ℕ, subst, sym}
+use Rattle.std.proofs.Common.{◌≤◌, ◌∙◌, ℕ, subst, sym}
 use Rattle.std.specs.Prelude.{IsSomeAnd}
 use Rattle.draid_machine.specs.Step.{IsTaken}
 use Rattle.draid_shard.specs.Looks.{IsNextBlock, IsNextTaken}

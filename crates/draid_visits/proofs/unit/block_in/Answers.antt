@@ -44,8 +44,7 @@ returns-else-is_err-clause-landed g c = λ repaired same.
     (let l = c.lend.ensures in
     let s = c.solve.ensures in
     let unit = l.unit (ok_as c.lend.result c.in-Ok-Unit.field-0 Unit c.in-Ok-Unit.is c.in-Ok-Unit.field-0-is) in
-    let e = c.land.ensures in
-    (
+    let e = c.land.ensures in (
       moves_on g.R.Rack c.args.shard.now c.lend.new.shard c.solve.new.shard c.land.new.shard c.requires.running unit l.valid s.only (on_ok c.solve.result _ (sym c.is_err.ensures.value ∙ c.if-is_err.false) s.solves) e.lands.does.part e.moves,
       few_rewritten g.R.Rack c.solve.new.shard repaired c.land.result (landed_is c.land.result repaired same) s.valid e.few,
     ))

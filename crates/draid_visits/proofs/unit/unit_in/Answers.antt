@@ -1,4 +1,4 @@
-use Rattle.std.proofs.Common.{◌≡◌, arith, false, subst, sym}
+use Rattle.std.proofs.Common.{arith, false, subst, sym}
 use Rattle.draid_names.specs.declared.pass_kind.PassKind.TheVariants.{Rebuild}
 use Rattle.draid_pool.specs.Shards.{SameBlocks}
 use Rattle.draid_visits.specs.Pieces.{GoesTo}

@@ -1,4 +1,4 @@
-use Rattle.std.proofs.Common.{◌≡◌, ◌≤◌, ◌+◌, ◌*◌, ◌^◌, ◌∙◌, ℕ, None, Some, arith, refl, sym, ap, subst}
+use Rattle.std.proofs.Common.{◌≡◌, ◌+◌, ◌∙◌, None, Some, arith, refl, ap}
 use Rattle.std.specs.Prelude.{IsSomeAnd}
 use Rattle.std.proofs.lemmas.List.{length-set}
 use Rattle.draid_marks.proofs.Places.{few_stripes}
@@ -8,7 +8,6 @@ use Rattle.draid_pool.proofs.Rises.{areas_on, areas_set, areas_still, records_sa
 use Rattle.draid_pool.proofs.SyncSteps.{borrowed_at}
 use Rattle.draid_pool.proofs.Wholes.{few_whole, whole_valid}
 use Rattle.draid_visits.specs.Steps.{IsRunningOf, NextIs}
-use Rattle.draid_visits.specs.declared.progress.Progress.{Progress}
 use Rattle.draid_visits.specs.declared.steps.Next.TheVariants as next
 use Rattle.draid_visits.proofs.Kept.{at_set, errors_fit, fewer_left, left_counted, left_same, low_after, others_on, others_same, others_set, rewritten_fits, rewritten_more, room_for, runs_kept, runs_on, start_few}
 use Rattle.draid_visits.proofs.Leading.{leads_none, steps_to}
@@ -16,8 +15,8 @@ use Rattle.draid_visits.proofs.Lending.{SomeLends, lends_end, lends_more, lends_
 use Rattle.draid_visits.proofs.SharedWhole.{whole_shared}
 use Rattle.draid_visits.proofs.visiting.lend_all.Goals as goal
 
-pub loop-units-init : goal.loop-units-init
-loop-units-init g c = record {
+pub units-init : goal.units-init
+units-init g c = record {
   whole = c.requires.whole;
   many = refl;
   geometry = refl;
@@ -35,7 +34,7 @@ loop-units-init g c = record {
 
 pub next_in-requires : goal.next_in-requires
 next_in-requires g c =
-    let l = c.loop-units in
+    let l = c.units in
     let shard = c.index_mut.result.now in
     let inside = c.requires.there in
     let many = l.invariant.many in
@@ -44,19 +43,19 @@ next_in-requires g c =
 
 pub count-requires : goal.count-requires
 count-requires g c =
-    let i = c.loop-units.invariant in
+    let i = c.units.invariant in
     let inside = c.requires.there in
     let most = few_whole g.R.Rack g.A.Area c.args.pool.now c.requires.whole in
     record {
-      some = unused c.is_used_up-used_up.result c.loop-units.progress.left c.is_used_up-used_up.ensures (c.in-Landed.ensures.landed c.in-Landed.repaired refl).0;
-      low = room_for c.args.metaslab c.args.progress.now c.loop-units.progress _ _ c.requires.low i.few (few_stripes c.args.pool.now.geometry c.requires.whole.layout.geometry_is) (omega (arith, inside, most));
-      rewritten = rewritten_fits c.args.metaslab c.args.progress.now c.loop-units.progress _ _ c.in-Landed.repaired c.requires.low i.few (few_stripes c.args.pool.now.geometry c.requires.whole.layout.geometry_is) (omega (arith, inside, most)) i.rewritten
+      some = unused c.is_used_up-used_up.result c.units.progress.left c.is_used_up-used_up.ensures (c.in-Landed.ensures.landed c.in-Landed.repaired refl).0;
+      low = room_for c.args.metaslab c.args.progress.now c.units.progress _ _ c.requires.low i.few (few_stripes c.args.pool.now.geometry c.requires.whole.layout.geometry_is) (omega (arith, inside, most));
+      rewritten = rewritten_fits c.args.metaslab c.args.progress.now c.units.progress _ _ c.in-Landed.repaired c.requires.low i.few (few_stripes c.args.pool.now.geometry c.requires.whole.layout.geometry_is) (omega (arith, inside, most)) i.rewritten
           (c.in-Landed.ensures.landed c.in-Landed.repaired refl).2;
     }
 
-pub loop-units-smaller : goal.loop-units-smaller
-loop-units-smaller g c =
-    let l = c.loop-units in
+pub units-smaller : goal.units-smaller
+units-smaller g c =
+    let l = c.units in
     let m = c.args.metaslab in
     let shard = c.index_mut.result.now in
     let inside = c.requires.there in
@@ -70,9 +69,9 @@ loop-units-smaller g c =
     let fewer = fewer_left g.R.Rack g.A.Area c.args.kind m l.pool new shard after set whole (e.landed c.in-Landed.repaired refl).1 in
     omega (arith, fewer)
 
-pub loop-units-preserved : goal.loop-units-preserved
-loop-units-preserved g c =
-    let l = c.loop-units in
+pub units-preserved : goal.units-preserved
+units-preserved g c =
+    let l = c.units in
     let i = l.invariant in
     let m = c.args.metaslab in
     let shard = c.index_mut.result.now in
@@ -100,7 +99,9 @@ loop-units-preserved g c =
           let more = ap (λ p. p.stripes) c.count.ensures in
           omega (arith, fewer, few, more));
       rewritten = (let more = rewritten_more l.progress.stripes l.progress.repaired c.in-Landed.repaired i.rewritten (e.landed c.in-Landed.repaired refl).2 in
-          subst (λ (p : Progress). p.repaired ≤ p.stripes * 2 ^ 8) (sym c.count.ensures) more);
+          let units = ap (λ p. p.stripes) c.count.ensures in
+          let all = ap (λ p. p.repaired) c.count.ensures in
+          omega (arith, more, units, all));
       errors = ap (λ p. p.errors) c.count.ensures ∙ i.errors;
       from = ap (λ p. p.from) c.count.ensures ∙ i.from;
       left = λ limit is. left_counted limit c.in-Landed.repaired l.progress now some c.count.ensures (i.left limit is);
@@ -114,12 +115,12 @@ overflow_add-progress g c =
     let most = few_whole g.R.Rack g.A.Area c.args.pool.now c.requires.whole in
     let low = c.in-Ended.ensures.low c.in-Ended.errors refl in
     let fits = errors_fit c.args.metaslab c.args.progress.now c.in-Ended.errors c.requires.low low (omega (arith, inside, most)) in
-    let same = c.loop-units.invariant.errors in
+    let same = c.units.invariant.errors in
     omega (arith, fits, same)
 
 pub returns-in-Ended : goal.returns-in-Ended
 returns-in-Ended g c =
-    let l = c.loop-units in
+    let l = c.units in
     let i = l.invariant in
     let m = c.args.metaslab in
     let shard = c.index_mut.result.now in
@@ -152,7 +153,7 @@ returns-in-Ended g c =
 
 pub returns-in-Paused : goal.returns-in-Paused
 returns-in-Paused g c =
-    let l = c.loop-units in
+    let l = c.units in
     let i = l.invariant in
     let m = c.args.metaslab in
     let shard = c.index_mut.result.now in
@@ -183,7 +184,7 @@ returns-in-Paused g c =
 
 pub returns-in-Worn : goal.returns-in-Worn
 returns-in-Worn g c =
-    let l = c.loop-units in
+    let l = c.units in
     let i = l.invariant in
     let m = c.args.metaslab in
     let shard = c.index_mut.result.now in
@@ -213,7 +214,7 @@ returns-in-Worn g c =
 
 pub returns-in-NoMemory : goal.returns-in-NoMemory
 returns-in-NoMemory g c =
-    let l = c.loop-units in
+    let l = c.units in
     let i = l.invariant in
     let m = c.args.metaslab in
     let shard = c.index_mut.result.now in

@@ -1,5 +1,5 @@
-use Rattle.std.proofs.Common.{◌≡◌, ◌≤◌, ◌+◌, ◌*◌, ◌^◌, ◌-◌, ℕ, Option, length}
-use Rattle.std.specs.Prelude.{IsSomeAnd, slice_get}
+use Rattle.std.proofs.Common.{◌≡◌, ◌≤◌, ◌+◌, ◌*◌, ◌^◌, ℕ, Option, length}
+use Rattle.std.specs.Prelude.{IsSomeAnd}
 use Rattle.draid_spec.specs.Geometry.{metaslab_stripes}
 use Rattle.draid_session.specs.State.{State}
 use Rattle.draid_pool.specs.Failing.{AreasLater}
@@ -12,8 +12,8 @@ use Rattle.draid_visits.proofs.Kept.{stripes_left}
 use Rattle.draid_visits.proofs.Lending.{Lending}
 use Rattle.draid_visits.proofs.visiting.lend_all.Given as goal
 
-abbrev pub invariant-loop-units : goal.invariant-loop-units
-invariant-loop-units g l = record {
+abbrev pub invariant-units : goal.invariant-units
+invariant-units g l = record {
   whole : IsWhole g.R.Rack g.A.Area l.pool;
   many : length l.pool.metaslabs.shards.items ≡ length l.initial.pool.metaslabs.shards.items;
   geometry : l.pool.geometry ≡ l.initial.pool.geometry;
@@ -29,5 +29,5 @@ invariant-loop-units g l = record {
   carries : (x : State) → Represents g.R.Rack g.A.Area l.initial.pool x → Lending g.R.Rack g.A.Area l.kind l.metaslab l.initial.progress l.progress l.pool x;
 }
 
-abbrev pub decreases-loop-units : goal.decreases-loop-units
-decreases-loop-units g l = stripes_left l.pool l.metaslab
+abbrev pub decreases-units : goal.decreases-units
+decreases-units g l = stripes_left l.pool l.metaslab

@@ -1,4 +1,4 @@
-use Rattle.std.proofs.Common.{◌≡◌, ◌∙◌, Err, arith, ap, subst}
+use Rattle.std.proofs.Common.{◌∙◌, Err, arith, ap}
 use Rattle.draid_pool.proofs.Rises.{areas_on}
 use Rattle.draid_visits.proofs.Kept.{low_upto, others_on}
 use Rattle.draid_visits.proofs.Visited.{begun_so, left_begun, stays_begun, low_begun, ran, ran_none, shelf_so}

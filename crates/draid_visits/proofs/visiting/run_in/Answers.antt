@@ -1,4 +1,4 @@
-use Rattle.std.proofs.Common.{◌≡◌, refl, subst, sym}
+use Rattle.std.proofs.Common.{refl, subst, sym}
 use Rattle.std.specs.Prelude.{IsSomeAnd, OnOk}
 use Rattle.draid_session.specs.Passes as passes
 use Rattle.draid_pool.specs.Carries.{CarriesOut}

@@ -3,7 +3,6 @@ use Rattle.std.specs.Prelude.{IsSomeAnd}
 use Rattle.std.proofs.lemmas.List.{length-set}
 use Rattle.draid_pass.specs.declared.pass.Pass.{Pass}
 use Rattle.draid_names.specs.declared.pass_kind.PassKind.TheVariants.{Rebuild}
-use Rattle.draid_session.specs.Passes as passes
 use Rattle.draid_pool.specs.declared.fault.SyncFault.TheVariants as sync
 use Rattle.draid_pool.specs.declared.fault.Synced.{Synced}
 use Rattle.draid_pool.proofs.Lifted.{sets_shard, with_shard}
@@ -11,7 +10,7 @@ use Rattle.draid_pool.proofs.Rises.{areas_on, areas_set, areas_still, err_on, re
 use Rattle.draid_pool.proofs.SyncSteps.{borrowed_at, whole_on}
 use Rattle.draid_pool.proofs.Wholes.{whole_valid}
 use Rattle.draid_visits.specs.Steps.{IsRunningOf, ReadyIs}
-use Rattle.draid_visits.proofs.Kept.{at_set, at_synced, group_low, others_on, others_same, others_set, others_synced, set_there}
+use Rattle.draid_visits.proofs.Kept.{at_set, at_synced, group_low, others_on, others_same, others_set, others_synced}
 use Rattle.draid_visits.proofs.Leading.{leads_none, steps_in}
 use Rattle.draid_visits.proofs.Waiting.{Readying, it_runs, it_stops, it_syncs, it_waits}
 use Rattle.draid_visits.proofs.visiting.run_rebuild.Goals as goal

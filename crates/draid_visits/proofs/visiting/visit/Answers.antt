@@ -1,4 +1,4 @@
-use Rattle.std.proofs.Common.{◌≡◌, ◌∙◌, arith, inr, refl}
+use Rattle.std.proofs.Common.{◌∙◌, arith, inr, refl}
 use Rattle.draid_pool.proofs.Rises.{areas_on, rose_then}
 use Rattle.draid_visits.proofs.Kept.{low_upto, others_on}
 use Rattle.draid_visits.proofs.Visited.{began_so, shelf_so, visit_stops, visited_none, visited_on}
