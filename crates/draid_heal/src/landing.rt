@@ -1,9 +1,8 @@
 //! A scrub's loan comes back: the block lands on its arms that answer.
-ghost use Rattle.std.specs.Prelude.{◌≡◌, ◌≤◌, ◌*◌, IsSomeAnd, None};
+ghost use Rattle.std.specs.Prelude.{◌≡◌, IsSomeAnd, None};
 ghost use Rattle.draid_shard.specs.Calls.{SameAreas, SameReserve};
 ghost use Rattle.draid_shard.specs.Changes.{KeepsBlocks};
 ghost use Rattle.draid_shard.specs.Fits.{Valid};
-ghost use Rattle.draid_shard.specs.Loans.{most_arms};
 ghost use Rattle.draid_heal.specs.Lands.{LandsUnit, MovesBehind};
 ghost use Rattle.draid_heal.specs.Loans.{IsLentHere, IsRunningScrub};
 
@@ -21,7 +20,6 @@ pub fn land<R: Rack, A: Area>(shard: &mut Shard<R, A>) -> u64
     requires here { IsLentHere shard.old }
     ensures valid { Valid R.Rack shard.new }
     ensures areas { SameAreas shard.old shard.new }
-    ensures few { result ≤ most_arms * shard.old.geometry.g }
     ensures lands { LandsUnit R.Rack shard.old shard.new result }
     ensures keeps { KeepsBlocks shard.old shard.new }
     ensures slots { shard.new.slots ≡ shard.old.slots }

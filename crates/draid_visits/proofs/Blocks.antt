@@ -1,7 +1,8 @@
 -- A block of a scrub is lent in a metaslab of a pool, restored, and lands.
-use Rattle.std.proofs.Common.{◌≡◌, ◌<◌, ◌≤◌, ◌+◌, ◌*◌, ◌^◌, ◌⊎◌, ◌∙◌, inl, inr, [], ◌∷◌, ℕ, Bool, true, false, List, Option, Some, None, arith, refl, sym, ap, subst, length, if◌then◌else◌}
+use Rattle.std.proofs.Common.{◌≡◌, ◌<◌, ◌≤◌, ◌+◌, ◌*◌, ◌^◌, ◌⊎◌, ◌∙◌, inl, inr, [], ◌∷◌, ℕ, Bool, true, false, List, Option, Some, None, arith, refl, sym, ap, subst, length, if◌then◌else◌, min, suc, zero}
 use Rattle.std.specs.Prelude.{IfSome, IsSomeAnd, OnOk, Result, Ok, Err, is_err, is_none, option_map, slice_index}
 use Rattle.std.proofs.lemmas.Bool.{true≢false}
+use Rattle.std.proofs.lemmas.List.Sums.{count_by-le-length}
 use Rattle.sha2.specs.Sha256.{sha256}
 use Rattle.draid_gf.specs.Field.{IsByte}
 use Rattle.draid_names.specs.declared.pass_kind.PassKind.TheVariants.{Heal}
@@ -9,15 +10,17 @@ use Rattle.draid_names.specs.declared.pointer.Pointer.{Pointer}
 use Rattle.draid_rack.specs.declared.Rack as racks
 use Rattle.draid_area.specs.declared.Area as areas
 use Rattle.draid_spec.specs.declared.layout.Geometry.{Geometry}
-use Rattle.draid_spec.specs.Geometry.{metaslab_stripes}
+use Rattle.draid_spec.specs.Geometry.{IsGeometry, metaslab_stripes}
 use Rattle.draid_parity.specs.Columns.{column_at}
 use Rattle.draid_block.specs.Blocks.{AreColumns, BlockValue, cut_of}
 use Rattle.draid_machine.specs.declared.event.Event.{Event}
 use Rattle.draid_machine.specs.declared.event.Event.TheVariants.{LandBlock, Lend}
 use Rattle.draid_machine.specs.declared.names.Held.{Held}
 use Rattle.draid_machine.specs.declared.names.Key.{Key}
-use Rattle.draid_machine.specs.Names.{key_eq}
-use Rattle.draid_machine.specs.After.{rewritten}
+use Rattle.draid_machine.specs.declared.names.ArmName.{ArmName}
+use Rattle.draid_machine.specs.declared.event.Patched.{Patched}
+use Rattle.draid_machine.specs.Names.{any_below, key_eq}
+use Rattle.draid_machine.specs.After.{has_landed, rewritten}
 use Rattle.draid_machine.specs.State as machine
 use Rattle.draid_machine.specs.Step.{Step}
 use Rattle.draid_machine.proofs.Small.{key_refl, key_true, some_same}
@@ -30,7 +33,7 @@ use Rattle.draid_shard.specs.Calls.{SameAreas, SameReserve}
 use Rattle.draid_shard.specs.Columns.{ArePieces, row_bytes}
 use Rattle.draid_shard.specs.Fits.{Valid}
 use Rattle.draid_shard.specs.Lends.{GoesOnAt, lend_events}
-use Rattle.draid_shard.specs.Loans.{IsKept, IsLentBlock, block_loan, loan_in, most_arms}
+use Rattle.draid_shard.specs.Loans.{IsKept, IsLentBlock, block_loan, loan_in}
 use Rattle.draid_shard.specs.Part.{Part, layout_in}
 use Rattle.draid_shard.specs.Rooms.{IsWornFor}
 use Rattle.draid_shard.specs.States.{DoesNone, layout_by, part_of}
@@ -55,6 +58,7 @@ use Rattle.draid_visits.specs.Steps.{MovesOn, NextIs}
 use Rattle.draid_visits.specs.declared.steps.Next.TheVariants as next
 use Rattle.draid_visits.proofs.Landed.{Lands, landed_to}
 use Rattle.draid_visits.proofs.Over.{told_worn}
+use Rattle.draid_visits.proofs.Started.{fits}
 use Rattle.draid_visits.proofs.PassSteps.{Leaves, block_leaves, pieces_either, raised, rebuild_did, rebuild_leaves}
 
 pub on_ok : {T E : Type 0} (r : Result T E) (P : Type 0) → is_err r ≡ false → OnOk r P → P
@@ -64,14 +68,20 @@ on_ok (Err e) P is holds = absurd (true≢false is)
 pub landed_is : (told repaired : ℕ) → next.Landed told ≡ next.Landed repaired → repaired ≡ told
 landed_is told repaired is = cc
 
--- on no more than three arms of each column
-pub few_rewritten : {R A : Type 0} (rack : racks.Ghosts R) (shard : Shard R A) (repaired told : ℕ) → repaired ≡ told → Valid rack shard → told ≤ most_arms * shard.geometry.g → repaired ≤ 2 ^ 8
-few_rewritten rack shard repaired told same valid few =
-    let geometry = valid.part.layout.geometry_is in
-    let width = geometry.width in
-    let disks = geometry.disks in
-    let most = geometry.spec.most_children in
-    omega (arith, same, few, width, disks, most)
+pub few_rewritten : (repaired told least : ℕ) → repaired ≡ least → least ≡ min told (2 ^ 8) → repaired ≤ 2 ^ 8
+few_rewritten repaired told least same is = omega (arith, same, is)
+
+-- each column is on three arms at most
+rewritten_low : (l : machine.Layout) (q : machine.Core) (h : Held) (patched : List Patched) (n : ℕ) → ((c : ℕ) → length (q.order c) ≤ 3) → rewritten l q h patched n ≤ n * 3
+rewritten_low l q h patched zero three = omega arith
+rewritten_low l q h patched (suc c) three =
+    let below = rewritten_low l q h patched c three in
+    let here = count_by-le-length (λ (m : ArmName). any_below h.stripes (has_landed patched c m)) (q.order (l.slot_of h.first c)) in
+    let few = three (l.slot_of h.first c) in
+    omega (arith, below, here, few)
+
+few_columns : (geometry : Geometry) → IsGeometry geometry → geometry.g ≤ 64
+few_columns geometry is = (let width = is.width in let disks = is.disks in let most = is.spec.most_children in omega (arith, width, disks, most))
 
 -- ---- what is kept
 
@@ -246,7 +256,7 @@ module _ {R A : Type 0} (rack : racks.Ghosts R) (area : areas.Ghosts A) (old len
     is = mid;
   }
 
-  module _ (new : Shard R A) (solves : RestoresLoan lent.geometry lent.kept solved.kept) (repaired : ℕ) (new_valid : Valid rack new) (new_areas : SameAreas solved new) (landed : lands.LandsUnit rack solved new repaired)
+  module _ (new : Shard R A) (solves : RestoresLoan lent.geometry lent.kept solved.kept) (told repaired : ℕ) (least : repaired ≡ min told (2 ^ 8)) (new_valid : Valid rack new) (new_areas : SameAreas solved new) (landed : lands.LandsUnit rack solved new told)
       (new_reserve : SameReserve solved new) where
     r : RestoresLent lent.geometry unit.lent solved.kept
     r = restored_of lent.geometry lent.kept solved.kept unit.lent unit.lent_is solves
@@ -312,6 +322,19 @@ module _ {R A : Type 0} (rack : racks.Ghosts R) (area : areas.Ghosts A) (old len
           landed.lent.restored refl)
     ]
 
+    -- the landing rewrote so many
+    all_told : repaired ≡ rewritten (layout_in part) y.world.core (held_at (staged unit.here.stage landed.lent.pointer)) landed.patched.items part.geometry.g
+    all_told =
+        let h = held_at (staged unit.here.stage landed.lent.pointer) in
+        let own : told ≡ rewritten (layout_in part) y.world.core h landed.patched.items part.geometry.g
+        = subst (λ (p : Part). told ≡ rewritten (layout_in p) y.world.core h landed.patched.items p.geometry.g) mid.part_is (landed.told y.world h mid.stands.reached mid.stands.is_in held_there) in
+        let low = rewritten_low (layout_in part) y.world.core h landed.patched.items part.geometry.g (fits rack area part pieces solved y mid).core.order.three in
+        let few = few_columns part.geometry (subst (λ (p : Part). IsGeometry p.geometry) mid.part_is mid.valid.part.layout.geometry_is) in
+        least_is told repaired (rewritten (layout_in part) y.world.core h landed.patched.items part.geometry.g) part.geometry.g least own low few
+      where
+        least_is : (a b n g : ℕ) → b ≡ min a (2 ^ 8) → a ≡ n → n ≤ g * 3 → g ≤ 64 → b ≡ n
+        least_is a b n g least own low few = omega (arith, least, own, low, few)
+
     pub block_goes : GoesTo rack area part pieces x new (λ holds v. NextIs part Heal false (next.Landed repaired) holds × SameBlocks x v)
     block_goes = record {
       holds = On (view_of part.number x) (Did (Lend unit.failed) y.world) ∷ (On (view_of part.number y) (Did e second.done.reached.world) ∷ []);
@@ -342,8 +365,7 @@ module _ {R A : Type 0} (rack : racks.Ghosts R) (area : areas.Ghosts A) (old len
               held_at (staged unit.here.stage landed.lent.pointer),
               loan_there,
               held_there,
-              subst (λ (p : Part). repaired ≡ rewritten (layout_in p) y.world.core (held_at (staged unit.here.stage landed.lent.pointer)) landed.patched.items p.geometry.g) mid.part_is
-                  (landed.told y.world (held_at (staged unit.here.stage landed.lent.pointer)) mid.stands.reached mid.stands.is_in held_there),
+              all_told,
             );
           },
         ),

@@ -20,6 +20,9 @@ use draid_names::PassKind;
 use draid_rack::Rack;
 use draid_shard::{LendFault, Lent, Shard};
 
+/// A landing rewrites no more columns: there are at most 64, on three arms each.
+const MOST_REWRITTEN: u64 = 256;
+
 /// Lends the next stripe or block and lands it; or ends the pass, where nothing is left.
 pub(crate) fn unit_in<R: Rack, A: Area>(shard: &mut Shard<R, A>, kind: PassKind) -> Next
     requires valid { Valid R.Rack shard.old }
@@ -85,7 +88,7 @@ fn block_in<R: Rack, A: Area>(shard: &mut Shard<R, A>) -> Next
                 return Next::NoMemory;
             }
             Next::Landed {
-                repaired: draid_heal::land(shard),
+                repaired: draid_heal::land(shard).min(MOST_REWRITTEN),
             }
         }
         Ok(Lent::End) => Next::Ended {

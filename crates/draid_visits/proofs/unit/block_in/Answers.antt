@@ -46,7 +46,7 @@ returns-else-is_err-clause-landed g c = λ repaired same.
     let unit = l.unit (ok_as c.lend.result c.in-Ok-Unit.field-0 Unit c.in-Ok-Unit.is c.in-Ok-Unit.field-0-is) in
     let e = c.land.ensures in (
       moves_on g.R.Rack c.args.shard.now c.lend.new.shard c.solve.new.shard c.land.new.shard c.requires.running unit l.valid s.only (on_ok c.solve.result _ (sym c.is_err.ensures.value ∙ c.if-is_err.false) s.solves) e.lands.does.part e.moves,
-      few_rewritten g.R.Rack c.solve.new.shard repaired c.land.result (landed_is c.land.result repaired same) s.valid e.few,
+      few_rewritten repaired c.land.result c.min.result (landed_is c.min.result repaired same) c.min.ensures,
     ))
 
 pub returns-else-is_err-clause-goes : goal.returns-else-is_err-clause-goes
@@ -56,7 +56,7 @@ returns-else-is_err-clause-goes g c = λ part pieces x at.
     let s = c.solve.ensures in
     let e = c.land.ensures in
     block_goes g.R.Rack g.A.Area c.args.shard.now c.lend.new.shard c.solve.new.shard (l.unit is) l.valid l.areas l.reserve (l.not_worn is) s.valid s.only s.none part pieces x at c.land.new.shard
-    (on_ok c.solve.result _ (sym c.is_err.ensures.value ∙ c.if-is_err.false) s.solves) c.land.result e.valid e.areas e.lands e.reserve)
+    (on_ok c.solve.result _ (sym c.is_err.ensures.value ∙ c.if-is_err.false) s.solves) c.land.result c.min.result c.min.ensures e.valid e.areas e.lands e.reserve)
 
 pub returns-in-Ok-End-clause-goes : goal.returns-in-Ok-End-clause-goes
 returns-in-Ok-End-clause-goes g c = λ part pieces x at.
