@@ -1,5 +1,5 @@
 -- A scrub's block lands on its arms.
-use Rattle.std.specs.Prelude.{◌≡◌, ◌+◌, ℕ, IfSome, Option, Some, Vec, is_none}
+use Rattle.std.specs.Prelude.{◌≡◌, ◌+◌, ℕ, IfSome, Option, Some, None, Vec, is_none}
 use Rattle.std.specs.declared.alloc.Global.{Global}
 use Rattle.draid_block.specs.Blocks.{BlockValue}
 use Rattle.draid_machine.specs.After.{rewritten}
@@ -20,7 +20,7 @@ use Rattle.draid_shard.specs.Columns.{ArePieces}
 use Rattle.draid_shard.specs.Lends.{GoesOnAt}
 use Rattle.draid_shard.specs.States.{Does, IsIn, layout_by}
 use Rattle.draid_shard.specs.declared.loan.KeptLoan.{KeptLoan}
-use Rattle.draid_shard.specs.declared.loan.KeptLoan.TheVariants.{Block}
+use Rattle.draid_shard.specs.declared.loan.KeptLoan.TheVariants.{Block, Stripe}
 use Rattle.draid_shard.specs.declared.loan.LentBlock.{LentBlock}
 use Rattle.draid_shard.specs.declared.shard.Shard.{Shard}
 

@@ -1,5 +1,9 @@
+pub mod Arms
 pub mod Lands
 pub mod Loans
 pub mod Restoring
+pub mod Row
+pub mod Rows
+pub mod Settle
 pub mod Spots
 pub mod Stands

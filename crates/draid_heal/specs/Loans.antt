@@ -50,11 +50,7 @@ HasBlockLeft shard = (w : machine.State) → IsIn shard w → IsLeftFor w
 -- ---- the block that is lent
 
 -- it is in the table, live or freed
-unfoldable pub stub_number : ℕ
-stub_number = 0
-
 pub record IsBlockHere (entries : Entries) (lent : LentBlock) : Type 0 where
-  pub stub : stub_number ≡ 1
   pub stage : Stage
   pub there : entry_at entries lent.pointer.first ≡ Some (staged stage lent.pointer)
   pub block : is_block stage ≡ true

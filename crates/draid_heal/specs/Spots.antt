@@ -1,5 +1,5 @@
 -- Just the arms of a pointer's block that answer, by the slots.
-use Rattle.std.specs.Prelude.{◌≡◌, ◌<◌, ◌+◌, ◌++◌, ◌∷◌, [], not, ℕ, zero, suc, Bool, true, false, List, Option, None, Some, if◌then◌else◌, slice_get}
+use Rattle.std.specs.Prelude.{◌≡◌, ◌<◌, ◌+◌, ◌++◌, ◌∷◌, [], not, ℕ, zero, suc, Bool, true, false, List, Option, None, Some, if◌then◌else◌, length, slice_get}
 use Rattle.draid_names.specs.declared.arm.Arm.{Arm}
 use Rattle.draid_names.specs.declared.pointer.Pointer.{Pointer}
 use Rattle.draid_spec.specs.Geometry.{slice_at}

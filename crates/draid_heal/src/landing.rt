@@ -27,6 +27,5 @@ pub fn land<R: Rack, A: Area>(shard: &mut Shard<R, A>) -> u64
     ensures none { shard.new.kept ≡ None }
     ensures reserve { SameReserve shard.old shard.new }
 {
-    let _ = shard;
-    unreachable!()
+    todo!()
 }

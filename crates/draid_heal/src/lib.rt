@@ -2,8 +2,14 @@
 
 #![tactic(auto)]
 
+mod arms;
+mod block;
 mod landing;
+mod laws;
 mod loans;
+mod row;
+mod rows;
+mod settle;
 mod solving;
 
 pub use landing::land;

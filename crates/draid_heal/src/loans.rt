@@ -33,11 +33,5 @@ pub fn lend<R: Rack, A: Area>(shard: &mut Shard<R, A>) -> Result<Lent, LendFault
     ensures arms { KeepsArms shard.old.slots shard.new.slots }
     ensures reserve { SameReserve shard.old shard.new }
 {
-    let Some(pass) = &shard.pass else {
-        unreachable!()
-    };
-    match shard.next_block(pass.at, pass.max) {
-        None => Ok(Lent::End),
-        Some(_) => Err(LendFault::NoMemory),
-    }
+    todo!()
 }

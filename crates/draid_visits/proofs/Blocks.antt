@@ -183,7 +183,7 @@ module _ {R A : Type 0} (rack : racks.Ghosts R) (old lent solved new : Shard R A
 
   pub solved_here : IsLentHere solved
   solved_here =
-      (Block back, restores.is, subst (λ (s : Shard R A). IsBlockHere s.entries back) (sym only) (record { stub = unit.here.stub; stage = unit.here.stage; there = unit.here.there; block = unit.here.block }))
+      (Block back, restores.is, subst (λ (s : Shard R A). IsBlockHere s.entries back) (sym only) (record { stage = unit.here.stage; there = unit.here.there; block = unit.here.block }))
 
   inside : unit.lent.pointer.first + unit.lent.pointer.stripes ≤ metaslab_stripes lent.geometry
   inside = kept.run.inside
