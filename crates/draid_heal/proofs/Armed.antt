@@ -1,21 +1,23 @@
 -- A restored block's column was put right on one more arm.
-use Rattle.std.proofs.Common.{arith, ◌≡◌, ◌==◌, ◌+◌, ◌*◌, ◌<◌, ◌≤◌, ◌&&◌, ◌||◌, ◌++◌, ◌∷◌, ◌∙◌, ◌⊎◌, [], ℕ, zero, suc, Bool, true, false, List, Option, Some, None, refl, sym, ap, subst, inl, inr, length, slice_get}
+use Rattle.std.proofs.Common.{arith, ◌≡◌, ◌+◌, ◌*◌, ◌<◌, ◌≤◌, ◌||◌, ◌++◌, ◌∷◌, ◌∙◌, [], ℕ, zero, suc, Bool, true, false, List, Option, Some, None, refl, sym, ap, subst, inl, inr, length, slice_get, Vec, Global}
+use Rattle.std.specs.Prelude.{slice_index_or, vec_len}
+use Rattle.std.proofs.lemmas.Option.{slice_get-get_or}
 use Rattle.std.proofs.lemmas.Bool.{cases_lt}
 use Rattle.std.proofs.lemmas.Bool.Decides.{nat_tests}
 use Rattle.std.proofs.lemmas.List.{length-append}
-use Rattle.draid_columns.specs.Columns.{TellsBoth, row_of}
 use Rattle.draid_columns.specs.declared.rows.Rows.{Rows}
 use Rattle.draid_machine.specs.Names.{has_number}
 use Rattle.draid_machine.specs.declared.event.Patched.{Patched}
 use Rattle.draid_machine.proofs.Small.{absurd_test, bool_cases, either_true, some_same}
 use Rattle.draid_parity.specs.Columns.{column_at}
 use Rattle.draid_rack.specs.Moments.{ChangesOnly}
-use Rattle.draid_rack.specs.Rack.{Told, flushes}
+use Rattle.draid_rack.specs.Rack.{OnBothTold, Told, flushes}
 use Rattle.draid_rack.proofs.Moments.{only_flushes, only_more, only_on, only_self}
-use Rattle.draid_heal.specs.Arms.{AreLeavesApart, AreRooms, FlushedOn, HealsArm, HealsArms, IsRoom, ListsArm, ListsArms, StandsArm, WroteAt, failed_if, landed_if, rows_for}
+use Rattle.draid_heal.specs.Arms.{AreLeavesApart, AreRooms, FlushedOn, HealsArm, HealsArms, ListsArm, ListsArms, StandsArm, WroteAt, failed_if, landed_if, rows_for}
 use Rattle.draid_heal.specs.Rows.{FailsOn, HealsRows, ListsRows, in_those}
+use Rattle.draid_shard.specs.Loans.{IsRowRoom}
 use Rattle.draid_shard.specs.declared.loan.Spot.{Spot}
-use Rattle.draid_heal.proofs.Healing.{either_false, fails_one, fewer, last_has}
+use Rattle.draid_heal.proofs.Healing.{either_false, fails_one, last_has}
 
 -- ---- an arm and its flush
 own_leaf : (leaf s : ℕ) (y : Told) → (flushes leaf y).soft leaf s ≡ false
@@ -46,14 +48,14 @@ module _ (rows : Rows) (column written landed failed : List ℕ) where
     };
   }
 
-  pub arm_heals : (done : Bool) (o p q : Option Told) → TellsBoth o p (HealsRows rows column rows.count written landed failed) → FlushedOn rows.leaf done p q
-      → TellsBoth o q (HealsArm rows column written (landed_if done landed) (failed_if done rows.leaf failed))
+  pub arm_heals : (done : Bool) (o p q : Option Told) → OnBothTold o p (HealsRows rows column rows.count written landed failed) → FlushedOn rows.leaf done p q
+      → OnBothTold o q (HealsArm rows column written (landed_if done landed) (failed_if done rows.leaf failed))
   arm_heals true None None q was is = is
   arm_heals false None None q was is = is
   arm_heals done None (Some y) q was is = absurd (cc)
   arm_heals done (Some x) None q was is = absurd was
-  arm_heals true (Some x) (Some y) q was is = subst (λ q. TellsBoth (Some x) q (HealsArm rows column written landed failed)) (sym is) (flushed x y was)
-  arm_heals false (Some x) (Some y) q was is = subst (λ q. TellsBoth (Some x) q (HealsArm rows column written [] (failed ++ rows.leaf ∷ []))) (sym is) (unflushed x y was)
+  arm_heals true (Some x) (Some y) q was is = subst (λ q. OnBothTold (Some x) q (HealsArm rows column written landed failed)) (sym is) (flushed x y was)
+  arm_heals false (Some x) (Some y) q was is = subst (λ q. OnBothTold (Some x) q (HealsArm rows column written [] (failed ++ rows.leaf ∷ []))) (sym is) (unflushed x y was)
 
 pub arm_lists : (rows : Rows) (clean : Bool) (n : ℕ) (written landed failed : List ℕ) (done : Bool) → ListsRows rows clean n written landed failed
     → ListsRows rows clean n written (landed_if done landed) (failed_if done rows.leaf failed)
@@ -85,7 +87,7 @@ get_upto [] k x is = absurd (cc)
 get_upto (y ∷ ys) zero x is = omega arith
 get_upto (y ∷ ys) (suc k) x is = let less = get_upto ys k x is in omega (arith, less)
 
-pub rooms_last : (n : ℕ) (all init : List Patched) (x : Patched) → AreRooms n all → all ≡ init ++ x ∷ [] → IsRoom n x
+pub rooms_last : (n : ℕ) (all init : List Patched) (x : Patched) → AreRooms n all → all ≡ init ++ x ∷ [] → IsRowRoom n x
 rooms_last n all init x are is = are (length init) x (ap (λ l. slice_get l (length init)) is ∙ get_last init x (length init) refl)
 
 pub rooms_init : (n : ℕ) (all init : List Patched) (x : Patched) → AreRooms n all → all ≡ init ++ x ∷ [] → AreRooms n init
@@ -134,9 +136,14 @@ module _ (count size : ℕ) (spots : List Spot) (patched : List Patched) (column
     lies : (m s : ℕ) → named m s ≡ true → WroteAt count size spots (patched ++ part ∷ []) (i + 1) m s
     lies m s at = elim (either_true (was.named m s) (in_those rows part.written.items m s) at) [
       | inl old ↦ (let w = was.lies m s old in record {
-          k = w.k; spot = w.spot; part = w.part; below = (let less = w.below in omega (arith, less)); there = w.there;
-          noted = earlier w.k w.below ∙ w.noted; written = w.written;
-        })
+        k = w.k;
+        spot = w.spot;
+        part = w.part;
+        below = (let less = w.below in omega (arith, less));
+        there = w.there;
+        noted = earlier w.k w.below ∙ w.noted;
+        written = w.written;
+      })
       | inr own ↦ record { k = i; spot = spot; part = part; below = omega arith; there = there; noted = here i refl; written = own }
     ]
 
@@ -144,12 +151,12 @@ module _ (count size : ℕ) (spots : List Spot) (patched : List Patched) (column
         → StandsArm (rows_for count size s) (column_at columns s.column) p.landed.items more z
     stands k s p less at noted = elim (cases_lt k i) [
       | inl lower ↦ stands_on (rows_for count size s) rows (column_at columns s.column) p.landed.items failed (column_at columns spot.column) part.written.items part.landed.items more y z
-            (λ same. let e = apart k i s spot at there same in absurd (omega (arith, lower, e))) (was.stands k s p lower at (sym (earlier k lower) ∙ noted)) heals fails
+          (λ same. let e = apart k i s spot at there same in absurd (omega (arith, lower, e))) (was.stands k s p lower at (sym (earlier k lower) ∙ noted)) heals fails
       | inr high ↦ (let same : k ≡ i = omega (arith, high, less) in
-            let spot_is : spot ≡ s = some_same (slice_get spots k) spot s (ap (slice_get spots) same ∙ there) at in
-            let part_is : part ≡ p = some_same (slice_get (patched ++ part ∷ []) k) part p (here k same) noted in
-            subst (λ (s : Spot). StandsArm (rows_for count size s) (column_at columns s.column) p.landed.items more z) spot_is
-            (subst (λ (p : Patched). StandsArm rows (column_at columns spot.column) p.landed.items more z) part_is heals.stands))
+          let spot_is : spot ≡ s = some_same (slice_get spots k) spot s (ap (slice_get spots) same ∙ there) at in
+          let part_is : part ≡ p = some_same (slice_get (patched ++ part ∷ []) k) part p (here k same) noted in
+          subst (λ (s : Spot). StandsArm (rows_for count size s) (column_at columns s.column) p.landed.items more z) spot_is
+          (subst (λ (p : Patched). StandsArm rows (column_at columns spot.column) p.landed.items more z) part_is heals.stands))
     ]
 
     arms_more : HealsArms count size spots (patched ++ part ∷ []) columns (i + 1) more x z
@@ -163,8 +170,8 @@ module _ (count size : ℕ) (spots : List Spot) (patched : List Patched) (column
       stands = stands;
     }
 
-  pub arms_told : (o p q : Option Told) → TellsBoth o p (HealsArms count size spots patched columns i failed) → TellsBoth p q (HealsArm rows (column_at columns spot.column) part.written.items part.landed.items more)
-      → TellsBoth o q (HealsArms count size spots (patched ++ part ∷ []) columns (i + 1) more)
+  pub arms_told : (o p q : Option Told) → OnBothTold o p (HealsArms count size spots patched columns i failed) → OnBothTold p q (HealsArm rows (column_at columns spot.column) part.written.items part.landed.items more)
+      → OnBothTold o q (HealsArms count size spots (patched ++ part ∷ []) columns (i + 1) more)
   arms_told None None q was heals = heals
   arms_told None (Some y) q was heals = absurd (cc)
   arms_told (Some x) None q was heals = absurd was
@@ -184,11 +191,11 @@ module _ (count size : ℕ) (spots : List Spot) (patched : List Patched) (column
     each = λ k s p at noted. elim (cases_lt k i) [
       | inl lower ↦ kept_lists (rows_for count size s) s p (was.each k s p at (sym (earlier k lower) ∙ noted))
       | inr high ↦ (let less = get_upto (patched ++ part ∷ []) k p noted in
-            let e : length (patched ++ part ∷ []) ≡ length patched + 1 = length-append patched (part ∷ []) in
-            let same : k ≡ i = omega (arith, high, less, e, many) in
-            let spot_is : spot ≡ s = some_same (slice_get spots k) spot s (ap (slice_get spots) same ∙ there) at in
-            let part_is : part ≡ p = some_same (slice_get (patched ++ part ∷ []) k) part p (here k same) noted in
-            subst (λ (s : Spot). ListsArm (rows_for count size s) s p more) spot_is (subst (λ (p : Patched). ListsArm rows spot p more) part_is own))
+          let e : length (patched ++ part ∷ []) ≡ length patched + 1 = length-append patched (part ∷ []) in
+          let same : k ≡ i = omega (arith, high, less, e, many) in
+          let spot_is : spot ≡ s = some_same (slice_get spots k) spot s (ap (slice_get spots) same ∙ there) at in
+          let part_is : part ≡ p = some_same (slice_get (patched ++ part ∷ []) k) part p (here k same) noted in
+          subst (λ (s : Spot). ListsArm (rows_for count size s) s p more) spot_is (subst (λ (p : Patched). ListsArm rows spot p more) part_is own))
     ];
     fail = λ leaf at. elim (bool_cases (has_number failed leaf)) [
       | inl old ↦ was.fail leaf old
@@ -206,7 +213,7 @@ no_arms count size spots patched columns failed x = record {
   stands = λ k s p less at noted. absurd (omega (arith, less));
 }
 
-pub arms_none : (count size : ℕ) (spots : List Spot) (patched : List Patched) (columns : List (List ℕ)) (failed : List ℕ) (o : Option Told) → TellsBoth o o (HealsArms count size spots patched columns 0 failed)
+pub arms_none : (count size : ℕ) (spots : List Spot) (patched : List Patched) (columns : List (List ℕ)) (failed : List ℕ) (o : Option Told) → OnBothTold o o (HealsArms count size spots patched columns 0 failed)
 arms_none count size spots patched columns failed None = refl
 arms_none count size spots patched columns failed (Some x) = no_arms count size spots patched columns failed x
 
@@ -219,3 +226,10 @@ lists_none count size spots = record {
 
 pub more_calls : (i m a b : ℕ) → a ≤ i * m → b ≤ a + m → b ≤ (i + 1) * m
 more_calls i m a b was now = let e : (i + 1) * m ≡ i * m + m = grind arith in omega (arith, was, now, e)
+
+-- the spot that is looked at
+pub spot_there : (old now : Vec Spot Global) (i n : ℕ) (spot : Spot) → now ≡ old → n ≡ vec_len old → i < n → spot ≡ slice_index_or now.items i spot → slice_get old.items i ≡ Some spot
+spot_there old now i n spot same len less is =
+    let e : length now.items ≡ length old.items = ap (λ (v : Vec Spot Global). length v.items) same in
+    let inside : i < length now.items = omega (arith, len, less, e) in
+    sym (ap (λ (v : Vec Spot Global). slice_get v.items i) same) ∙ slice_get-get_or now.items i spot inside ∙ ap Some (sym is)

@@ -1,16 +1,14 @@
 -- A row more was settled.
-use Rattle.std.proofs.Common.{length, drop, get_or, ◌==◌, arith, ◌≡◌, ◌+◌, ◌<◌, ◌≤◌, ◌⊎◌, ◌∙◌, ◌||◌, ℕ, Bool, true, false, List, Option, Some, None, MatchOption, option_map, refl, sym, subst, ap, inl, inr, slice_get}
+use Rattle.std.proofs.Common.{length, drop, get_or, ◌==◌, arith, ◌≡◌, ◌+◌, ◌<◌, ◌⊎◌, ◌∙◌, ◌||◌, ℕ, Bool, true, false, List, Option, Some, None, option_map, refl, sym, subst, ap, inl, inr, slice_get}
 use Rattle.std.proofs.lemmas.Bool.{cases_lt}
 use Rattle.std.proofs.lemmas.Bool.Decides.{nat_tests}
-use Rattle.draid_columns.specs.Columns.{HasRows, TellsBoth}
 use Rattle.draid_machine.specs.declared.event.Patched.{Patched}
 use Rattle.std.proofs.lemmas.List.{at_drop_more}
 use Rattle.draid_machine.specs.Names.{has_number}
 use Rattle.draid_machine.proofs.Small.{absurd_test, equal, some_same}
 use Rattle.draid_rack.specs.Moments.{ChangesOnly}
-use Rattle.draid_rack.specs.Rack.{OnTold, Told, settles}
+use Rattle.draid_rack.specs.Rack.{OnBothTold, OnTold, Told, settles}
 use Rattle.draid_rack.proofs.Moments.{only_on, only_self, only_settles}
-use Rattle.draid_heal.specs.Arms.{rows_for}
 use Rattle.draid_heal.specs.Settle.{FirmArms, SettlesUpto}
 use Rattle.draid_heal.specs.Stands.{SettledAt, SettlesArms, is_settled_row}
 use Rattle.draid_shard.specs.declared.loan.Spot.{Spot}
@@ -41,7 +39,7 @@ harm_cases leaf sector m s z = elim (cases_lt leaf m) [
 ]
 
 module _ (count : ℕ) (spots : List Spot) (patched : List Patched) where
-  pub none_settled : (o : Option Told) → TellsBoth o o (SettlesUpto count spots patched 0 0)
+  pub none_settled : (o : Option Told) → OnBothTold o o (SettlesUpto count spots patched 0 0)
   none_settled None = refl
   none_settled (Some x) = record {
     only = only_self nowhere x;
@@ -53,7 +51,7 @@ module _ (count : ℕ) (spots : List Spot) (patched : List Patched) where
   }
 
   -- all rows of an arm, so the next one
-  pub arm_settled : (i : ℕ) (o p : Option Told) → TellsBoth o p (SettlesUpto count spots patched i count) → TellsBoth o p (SettlesUpto count spots patched (i + 1) 0)
+  pub arm_settled : (i : ℕ) (o p : Option Told) → OnBothTold o p (SettlesUpto count spots patched i count) → OnBothTold o p (SettlesUpto count spots patched (i + 1) 0)
   arm_settled i None p h = h
   arm_settled i (Some x) None h = h
   arm_settled i (Some x) (Some y) h = record {
@@ -68,7 +66,7 @@ module _ (count : ℕ) (spots : List Spot) (patched : List Patched) where
     ]);
   }
 
-  pub all_settled : (n : ℕ) (o p : Option Told) → ((k : ℕ) (spot : Spot) → slice_get spots k ≡ Some spot → k < n) → TellsBoth o p (SettlesUpto count spots patched n 0) → TellsBoth o p (SettlesArms count spots patched true)
+  pub all_settled : (n : ℕ) (o p : Option Told) → ((k : ℕ) (spot : Spot) → slice_get spots k ≡ Some spot → k < n) → OnBothTold o p (SettlesUpto count spots patched n 0) → OnBothTold o p (SettlesArms count spots patched true)
   all_settled n None p below h = h
   all_settled n (Some x) None below h = h
   all_settled n (Some x) (Some y) below h = record {
@@ -101,26 +99,26 @@ module _ (count : ℕ) (spots : List Spot) (patched : List Patched) where
         | inr here ↦ elim (cases_lt r row) [
           | inl earlier ↦ calm s.leaf (s.first + r) (was.ended k r s p at at_part low is (inr (here.0, earlier)))
           | inr high ↦ (let up = here.1 in let same : row ≡ r = omega (arith, high, up) in
-                let spot_is : spot ≡ s = some_same (slice_get spots k) spot s (ap (slice_get spots) here.0 ∙ there) at in
-                let part_is : part ≡ p = some_same (slice_get patched k) part p (ap (slice_get patched) here.0 ∙ noted) at_part in
-                let was_is : is_settled_row spot part row ≡ true = subst (λ (s : Spot). is_settled_row s part row ≡ true) (sym spot_is) (subst (λ (p : Patched). is_settled_row s p row ≡ true) (sym part_is) (subst (λ r. is_settled_row s p r ≡ true) (sym same) is)) in
-                subst (λ (s : Spot). z.harmed s.leaf (s.first + r) ≡ false) spot_is (subst (λ r. z.harmed spot.leaf (spot.first + r) ≡ false) same (own was_is)))
+              let spot_is : spot ≡ s = some_same (slice_get spots k) spot s (ap (slice_get spots) here.0 ∙ there) at in
+              let part_is : part ≡ p = some_same (slice_get patched k) part p (ap (slice_get patched) here.0 ∙ noted) at_part in
+              let was_is : is_settled_row spot part row ≡ true = subst (λ (s : Spot). is_settled_row s part row ≡ true) (sym spot_is) (subst (λ (p : Patched). is_settled_row s p row ≡ true) (sym part_is) (subst (λ r. is_settled_row s p r ≡ true) (sym same) is)) in
+              subst (λ (s : Spot). z.harmed s.leaf (s.first + r) ≡ false) spot_is (subst (λ r. z.harmed spot.leaf (spot.first + r) ≡ false) same (own was_is)))
         ]
       ];
     }
 
-    pub row_settled : is_settled_row spot part row ≡ true → (start p q : Option Told) → q ≡ option_map (settles spot.leaf (spot.first + row)) p → TellsBoth start p (SettlesUpto count spots patched i row)
-        → TellsBoth start q (SettlesUpto count spots patched i (row + 1))
+    pub row_settled : is_settled_row spot part row ≡ true → (start p q : Option Told) → q ≡ option_map (settles spot.leaf (spot.first + row)) p → OnBothTold start p (SettlesUpto count spots patched i row)
+        → OnBothTold start q (SettlesUpto count spots patched i (row + 1))
     row_settled is None p q e h = e ∙ ap (option_map (settles spot.leaf (spot.first + row))) h
     row_settled is (Some x) None q e h = absurd h
-    row_settled is (Some x) (Some y) q e h = subst (λ q. TellsBoth (Some x) q (SettlesUpto count spots patched i (row + 1))) (sym e)
+    row_settled is (Some x) (Some y) q e h = subst (λ q. OnBothTold (Some x) q (SettlesUpto count spots patched i (row + 1))) (sym e)
         (ended_more x y (settles spot.leaf (spot.first + row) y) h (only_settles nowhere spot.leaf (spot.first + row) y)
         (λ m s. elim (harm_cases spot.leaf (spot.first + row) m s y) [
           | inl same ↦ inl same
           | inr at ↦ inr (record { k = i; r = row; spot = spot; part = part; there = there; noted = noted; row = less; is = is; leaf_is = at.0; sector_is = at.1 })
         ]) (λ m s. still_calm spot.leaf (spot.first + row) m s y) (λ was. own_harm spot.leaf (spot.first + row) y))
 
-    pub row_left : is_settled_row spot part row ≡ false → (start p : Option Told) → TellsBoth start p (SettlesUpto count spots patched i row) → TellsBoth start p (SettlesUpto count spots patched i (row + 1))
+    pub row_left : is_settled_row spot part row ≡ false → (start p : Option Told) → OnBothTold start p (SettlesUpto count spots patched i row) → OnBothTold start p (SettlesUpto count spots patched i (row + 1))
     row_left is None p h = h
     row_left is (Some x) None h = h
     row_left is (Some x) (Some y) h = ended_more x y y h (only_self nowhere y) (λ m s. inl refl) (λ m s calm. calm) (λ was. absurd_test (is_settled_row spot part row) was is)

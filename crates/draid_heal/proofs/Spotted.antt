@@ -1,15 +1,12 @@
 -- The arms of a block that answer, by the slots, are so by the state machine.
-use Rattle.std.proofs.Common.{◌≡◌, ◌<◌, ◌∙◌, not, ℕ, true, List, Option, Some, refl, sym, ap, subst, slice_get}
+use Rattle.std.proofs.Common.{◌≡◌, ◌∙◌, not, ℕ, true, List, Some, refl, sym, ap, subst, slice_get}
 use Rattle.std.specs.Prelude.{option_map}
-use Rattle.draid_names.specs.declared.arm.Arm.{Arm}
 use Rattle.draid_names.specs.declared.pointer.Pointer.{Pointer}
 use Rattle.draid_machine.specs.Arms as arms
 use Rattle.draid_machine.specs.Arms.{is_clean, leaf_answers, leaf_at, logged, passes}
 use Rattle.draid_machine.specs.Created.{IsReached}
 use Rattle.draid_machine.specs.Names.{has_name}
 use Rattle.draid_machine.specs.State as machine
-use Rattle.draid_machine.specs.declared.names.ArmName.{ArmName}
-use Rattle.draid_machine.specs.declared.names.Held.{Held}
 use Rattle.draid_machine.specs.declared.names.Stage.{Stage}
 use Rattle.draid_machine.proofs.Small.{some_same}
 use Rattle.draid_entries.specs.Maps.{held_at, key_of, staged}

@@ -1,5 +1,5 @@
 -- A restored block landed as the state machine says.
-use Rattle.std.proofs.Common.{arith, ◌≡◌, ◌==◌, ◌+◌, ◌-◌, ◌<◌, ◌≤◌, ◌&&◌, ◌||◌, ◌∷◌, ◌∙◌, ◌⊎◌, [], ℕ, zero, suc, Bool, true, false, List, Option, Some, None, refl, sym, ap, subst, inl, inr, length, slice_get}
+use Rattle.std.proofs.Common.{arith, ◌≡◌, ◌==◌, ◌+◌, ◌-◌, ◌<◌, ◌≤◌, ◌&&◌, ◌∷◌, ◌∙◌, [], ℕ, zero, suc, Bool, true, false, List, Some, refl, sym, ap, subst, inl, inr, length, slice_get}
 use Rattle.std.specs.Prelude.{nat_le, nat_lt}
 use Rattle.draid_columns.specs.Columns.{row_of}
 use Rattle.draid_names.specs.declared.pass_kind.PassKind.TheVariants.{Heal}
@@ -8,22 +8,20 @@ use Rattle.draid_machine.specs.Arms.{answers, fails, is_clean, leaf_answers, lea
 use Rattle.draid_machine.specs.Claims.{is_on}
 use Rattle.draid_machine.specs.Names.{has_name, has_number, key_eq, name_eq}
 use Rattle.draid_machine.specs.State as machine
-use Rattle.draid_machine.specs.Step.{Counts, HealsThere, IsWhole, LandBlockStep, Patches}
+use Rattle.draid_machine.specs.Step.{Counts, IsWhole, LandBlockStep, Patches}
 use Rattle.draid_machine.specs.declared.event.Patched.{Patched}
 use Rattle.draid_machine.specs.declared.names.ArmName.{ArmName}
 use Rattle.draid_machine.specs.declared.names.Held.{Held}
 use Rattle.draid_machine.specs.declared.names.Segment.{Segment}
 use Rattle.draid_machine.proofs.Small.{below, both_true, either_true, equal, four_true, is_below, is_equal, is_low, key_refl, key_true, name_refl, name_true, some_same, true_both, true_four, true_left, true_right}
 use Rattle.draid_parity.specs.Columns.{column_at}
-use Rattle.draid_rack.specs.Moments.{ChangesOnly}
 use Rattle.draid_rack.specs.Rack.{Told}
 use Rattle.draid_rack.proofs.Moments.{only_more, only_on}
 use Rattle.draid_segments.specs.Acts.{HealsBlock, LiesThere, is_on_clean, is_settled}
 use Rattle.draid_segments.specs.Segments.{Pieces, harmed_at, piece_of, reads_at, sector_at, soft_at}
 use Rattle.draid_shard.specs.Columns.{ArePieces}
 use Rattle.draid_heal.specs.Arms.{HealsArms, ListsArm, ListsArms, StandsArm, rows_for}
-use Rattle.draid_heal.specs.Rows.{in_those}
-use Rattle.draid_heal.specs.Stands.{AreSpots, HasSpot, IsSpot, IsStraight, LandsBlock, SettledAt, SettlesArms, is_settled_row}
+use Rattle.draid_heal.specs.Stands.{AreSpots, HasSpot, IsSpot, IsStraight, SettledAt, SettlesArms}
 use Rattle.draid_shard.specs.declared.loan.Spot.{Spot}
 use Rattle.draid_heal.proofs.Armed.{get_upto, still_firm}
 
@@ -57,7 +55,7 @@ written_part (d ∷ ds) c n r at = elim (either_true ((d.column == c) && name_eq
   | inr other ↦ next_part d ds (λ p. p.written.items) c n r (written_part ds c n r other)
 ]
 
-landed_part : (patched : List Patched) (c : ℕ) (n : ArmName) (r : ℕ) → has_landed patched c n r ≡ true → IsPart patched (λ p. p.landed.items) c n r
+pub landed_part : (patched : List Patched) (c : ℕ) (n : ArmName) (r : ℕ) → has_landed patched c n r ≡ true → IsPart patched (λ p. p.landed.items) c n r
 landed_part [] c n r at = absurd (cc)
 landed_part (d ∷ ds) c n r at = elim (either_true ((d.column == c) && name_eq d.arm n && has_number d.landed.items r) (has_landed ds c n r) at) [
   | inl own ↦ this_part d ds (λ p. p.landed.items) c n r own
@@ -85,7 +83,7 @@ part_landed (d ∷ ds) zero part r at has = let same : d ≡ part = some_same (S
 part_landed (d ∷ ds) (suc k) part r at has =
     true_right ((d.column == part.column) && name_eq d.arm part.arm && has_number d.landed.items r) (has_landed ds part.column part.arm r) (part_landed ds k part r at has)
 
-there_is : {A : Type 0} (xs : List A) (k : ℕ) → k < length xs → (a : A) × (slice_get xs k ≡ Some a)
+pub there_is : {A : Type 0} (xs : List A) (k : ℕ) → k < length xs → (a : A) × (slice_get xs k ≡ Some a)
 there_is [] k less = absurd (omega (arith, less))
 there_is (y ∷ ys) zero less = (y, refl)
 there_is (y ∷ ys) (suc k) less = there_is ys k (omega (arith, less))
@@ -266,9 +264,9 @@ module _ (l : machine.Layout) (q : machine.Core) (h : Held) (size : ℕ) (spots 
       settled : (s : Segment) → whole ≡ true → is_settled l q n h patched s ≡ true → harmed_at l h s z ≡ false
       settled s w at = elim (either_true (is_on_clean l q n h s) (has_healed l q n h patched s) at) [
         | inl clean ↦ (let c = cleaned s w clean in harm_then s c.at c.on
-              (settles.ended w c.at.k s.row c.at.spot c.at.part c.at.there c.at.noted c.on.row (true_left c.at.spot.clean (has_number c.at.part.landed.items s.row) c.clean)))
+            (settles.ended w c.at.k s.row c.at.spot c.at.part c.at.there c.at.noted c.on.row (true_left c.at.spot.clean (has_number c.at.part.landed.items s.row) c.clean)))
         | inr landed ↦ (let c = landing s landed in harm_then s c.part.at c.on
-              (settles.ended w c.part.at.k s.row c.part.at.spot c.part.at.part c.part.at.there c.part.at.noted c.on.row (true_right c.part.at.spot.clean (has_number c.part.at.part.landed.items s.row) c.part.has)))
+            (settles.ended w c.part.at.k s.row c.part.at.spot c.part.at.part c.part.at.there c.part.at.noted c.on.row (true_right c.part.at.spot.clean (has_number c.part.at.part.landed.items s.row) c.part.has)))
       ]
 
       lies_it : (leaf sector : ℕ) → heals.named leaf sector ≡ true → LiesThere l h (is_written l q n h patched) leaf sector
@@ -298,9 +296,9 @@ module _ (l : machine.Layout) (q : machine.Core) (h : Held) (size : ℕ) (spots 
           let noted : Noted at.spot.column at.spot.arm = record { k = at.k; spot = at.spot; part = at.part; there = at.there; noted = at.noted; column_is = refl; arm_is = refl } in
           let is : is_settled l q n h patched s ≡ true = elim (either_true at.spot.clean (has_number at.part.landed.items at.r) at.is) [
             | inl clean ↦ true_left (is_on_clean l q n h s) (has_healed l q n h patched s) (true_three (key_eq n.key n.key) (is_on l q.order s h) (is_clean q h.birth at.spot.arm) (key_refl n.key)
-                  on (sym spot.clean ∙ clean))
+                on (sym spot.clean ∙ clean))
             | inr landed ↦ true_right (is_on_clean l q n h s) (has_healed l q n h patched s) (true_three (key_eq n.key n.key) (is_on l q.order s h) (has_landed patched at.spot.column at.spot.arm at.r) (key_refl n.key)
-                  on (landed_it at.spot.column at.spot.arm at.r noted landed))
+                on (landed_it at.spot.column at.spot.arm at.r noted landed))
           ] in
           record {
             s = s;
@@ -333,5 +331,14 @@ pub lands : (l : machine.Layout) (w : machine.State) (p : machine.Pass) (n : mac
     → Counts w pass serial p n h → p.kind ≡ Heal → AreSpots l w.core h spots → (whole ≡ true → IsWhole l w.core h failed) → (whole ≡ false → IsWhole l w.core h failed → ⊥)
     → ListsArms h.stripes size spots patched (length spots) failed → LandBlockStep l w pass serial failed patched false (land_block_state l w p n h failed patched false whole)
 lands l w p n h pass serial size spots patched failed whole counts kind are is_whole not_whole lists = record {
-  p = p; n = n; h = h; whole = whole; counts = counts; heal = kind; lands = patches l w.core h size spots patched failed are lists; is_whole = is_whole; not_whole = not_whole; made = refl;
+  p = p;
+  n = n;
+  h = h;
+  whole = whole;
+  counts = counts;
+  heal = kind;
+  lands = patches l w.core h size spots patched failed are lists;
+  is_whole = is_whole;
+  not_whole = not_whole;
+  made = refl;
 }

@@ -1,13 +1,15 @@
 -- How the columns of a restored block fare on its arms.
-use Rattle.std.specs.Prelude.{◌≡◌, ◌+◌, ◌<◌, ◌≤◌, ◌++◌, ◌∷◌, [], ℕ, Bool, true, false, List, Option, Some, length, option_map, slice_get, vec_capacity, if◌then◌else◌}
-use Rattle.draid_columns.specs.Columns.{row_of}
+use Rattle.std.specs.Prelude.{◌≡◌, ◌+◌, ◌*◌, ◌<◌, ◌≤◌, ◌++◌, ◌∷◌, [], ℕ, Bool, true, false, List, Option, Some, length, option_map, slice_get, vec_capacity, if◌then◌else◌}
+use Rattle.draid_columns.specs.Columns.{HasRows, row_of}
 use Rattle.draid_columns.specs.declared.rows.Rows.{Rows}
 use Rattle.draid_machine.specs.Names.{has_number}
 use Rattle.draid_machine.specs.declared.event.Patched.{Patched}
 use Rattle.draid_parity.specs.Columns.{column_at}
 use Rattle.draid_rack.specs.Moments.{ChangesOnly}
-use Rattle.draid_rack.specs.Rack.{OnBothTold, Told, flushes}
+use Rattle.draid_rack.specs.Rack.{OnBothTold, Shape, Told, flushes}
 use Rattle.draid_heal.specs.Rows.{FailsOn, ListsRows, in_those}
+use Rattle.draid_shard.specs.Loans.{IsRowRoom}
+use Rattle.draid_shard.specs.declared.loan.LandingRoom.{LandingRoom}
 use Rattle.draid_shard.specs.declared.loan.Spot.{Spot}
 
 -- ---- one arm
@@ -37,20 +39,14 @@ pub record HealsArm (rows : Rows) (column written landed failed : List ℕ) (x y
 
 -- ---- rooms
 
--- room for what is noted of so many rows
-pub record IsRoom (count : ℕ) (part : Patched) : Type 0 where
-  pub unwritten : part.written.items ≡ []
-  pub unlanded : part.landed.items ≡ []
-  pub written_room : count ≤ vec_capacity part.written
-  pub landed_room : count ≤ vec_capacity part.landed
-
+-- the same, for an arm
 pub record IsRoomOf (count : ℕ) (spot : Spot) (part : Patched) : Type 0 where
-  pub is : IsRoom count part
+  pub is : IsRowRoom count part
   pub column_is : part.column ≡ spot.column
   pub arm_is : part.arm ≡ spot.arm
 
 abbrev pub AreRooms : ℕ → List Patched → Type 0
-AreRooms count parts = (k : ℕ) (part : Patched) → slice_get parts k ≡ Some part → IsRoom count part
+AreRooms count parts = (k : ℕ) (part : Patched) → slice_get parts k ≡ Some part → IsRowRoom count part
 
 -- ---- the first so many arms
 
@@ -60,6 +56,22 @@ rows_for count size spot = record { leaf = spot.leaf; first = spot.first; count 
 -- no two lie on one leaf
 abbrev pub AreLeavesApart : List Spot → Type 0
 AreLeavesApart spots = (j k : ℕ) (a b : Spot) → slice_get spots j ≡ Some a → slice_get spots k ≡ Some b → a.leaf ≡ b.leaf → j ≡ k
+
+-- each is of a column of the block, its leaf has the rows, and no two lie on one leaf
+pub record FitSpots (shape : Shape) (count size columns : ℕ) (spots : List Spot) : Type 0 where
+  pub there : (k : ℕ) (spot : Spot) → slice_get spots k ≡ Some spot → HasRows shape (rows_for count size spot)
+  pub column : (k : ℕ) (spot : Spot) → slice_get spots k ≡ Some spot → spot.column < columns
+  pub apart : AreLeavesApart spots
+
+-- room for a landing on the arms that are listed: on each a call of a row may fail in reading and in writing, and the flush
+pub record FitsRoom (count size : ℕ) (room : LandingRoom) : Type 0 where
+  pub sector : length room.sector.items ≡ size
+  pub parts : AreRooms count room.parts.items
+  pub enough : length room.spots.items ≤ length room.parts.items
+  pub empty : room.patched.items ≡ []
+  pub patched : length room.spots.items ≤ vec_capacity room.patched
+  pub none : room.failed.items ≡ []
+  pub failed : length room.spots.items * (2 * count + 1) ≤ vec_capacity room.failed
 
 -- what is noted of an arm
 pub record ListsArm (rows : Rows) (spot : Spot) (part : Patched) (failed : List ℕ) : Type 0 where

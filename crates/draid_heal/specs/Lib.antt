@@ -1,7 +1,10 @@
 pub mod Arms
 pub mod Lands
 pub mod Loans
+pub mod Losing
+pub mod Reading
 pub mod Restoring
+pub mod Rooms
 pub mod Row
 pub mod Rows
 pub mod Settle

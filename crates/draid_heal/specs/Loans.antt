@@ -1,5 +1,5 @@
 -- The loan of a scrub's block.
-use Rattle.std.specs.Prelude.{◌≡◌, ◌<◌, ◌+◌, ◌↔◌, ℕ, true, IfSome, Option, None, Some, Vec, length, option_map, slice_get, slice_index_or}
+use Rattle.std.specs.Prelude.{◌≡◌, ◌<◌, ◌≤◌, ◌+◌, ◌↔◌, ℕ, true, IfSome, Option, None, Some, Vec, length, option_map, slice_get, slice_index_or}
 use Rattle.std.specs.declared.alloc.Global.{Global}
 use Rattle.draid_names.specs.declared.pass_kind.PassKind.TheVariants.{Heal}
 use Rattle.draid_columns.specs.Columns.{RowsStand}
@@ -13,7 +13,8 @@ use Rattle.draid_machine.specs.declared.names.Stage.{Stage}
 use Rattle.draid_machine.specs.State as machine
 use Rattle.draid_machine.specs.Step.{IsNext}
 use Rattle.draid_entries.specs.Entries.{entry_at}
-use Rattle.draid_entries.specs.Maps.{staged}
+use Rattle.draid_entries.specs.Maps.{held_at, key_of, staged}
+use Rattle.draid_entries.specs.declared.entry.Entry.{Entry}
 use Rattle.draid_entries.specs.declared.entries.Entries.{Entries}
 use Rattle.draid_pass.specs.declared.pass.Pass.{Pass}
 use Rattle.draid_rack.specs.Rack.{OnTold, Told}
@@ -21,6 +22,7 @@ use Rattle.draid_rack.specs.declared.Rack.{Ghosts}
 use Rattle.draid_segments.specs.Segments.{Pieces}
 use Rattle.draid_slots.specs.Table.{SlotTable}
 use Rattle.draid_shard.specs.Calls.{ActsOn, CountsFailed}
+use Rattle.draid_shard.specs.Looks.{Reaches}
 use Rattle.draid_shard.specs.Part.{Part}
 use Rattle.draid_shard.specs.Rows.{leaf_on, name_on, rows_on}
 use Rattle.draid_shard.specs.States.{Does, IsIn, part_of}
@@ -46,6 +48,21 @@ pub record IsLeftFor (w : machine.State) : Type 0 where
 
 abbrev pub HasBlockLeft : {R A : Type 0} → Shard R A → Type 0
 HasBlockLeft shard = (w : machine.State) → IsIn shard w → IsLeftFor w
+
+-- an entry has the first stripe that a block has which was born up to a group, where the stripe is one or behind it
+pub record IsNextAt (q : machine.Core) (from upto : ℕ) (entry : Entry) (stripe : ℕ) : Type 0 where
+  pub reaches : Reaches q from upto (key_of entry.pointer) (held_at entry) stripe
+  pub first : (k : Key) (h : Held) (x : ℕ) → Reaches q from upto k h x → stripe ≤ x
+
+-- it has the first stripe that the pass may lend
+pub record IsUnit {R A : Type 0} (shard : Shard R A) (entry : Entry) (stripe : ℕ) : Type 0 where
+  pub there : entry_at shard.entries entry.pointer.first ≡ Some entry
+  pub next : (w : machine.State) → IsIn shard w → (p : Pass) → shard.pass ≡ Some p → IsNextAt w.core p.at p.max entry stripe
+
+-- where a pass stands, and the last group that it makes good
+abbrev pub IsPlaceOf : Option Pass → ℕ → ℕ → Type 0
+IsPlaceOf None at max = Unit {0}
+IsPlaceOf (Some pass) at max = (at ≡ pass.at) × (max ≡ pass.max)
 
 -- ---- the block that is lent
 

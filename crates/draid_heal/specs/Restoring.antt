@@ -1,12 +1,11 @@
 -- The block of a loan is restored.
-use Rattle.std.specs.Prelude.{◌≡◌, ℕ, List, Option, None, Some, Result, Ok, Err, IfSome, IsSome, slice_index}
+use Rattle.std.specs.Prelude.{◌≡◌, ℕ, List, Option, None, Some, Ok, Err, IfSome, IsSome, slice_index}
 use Rattle.draid_spec.specs.declared.layout.Geometry.{Geometry}
 use Rattle.draid_gf.specs.Field.{IsByte}
 use Rattle.draid_block.specs.Blocks.{AreColumns, BlockValue, cut_of}
 use Rattle.draid_block.specs.Solving.{IsReadable, RestoresBlock}
 use Rattle.draid_block.specs.declared.solve.Fetched.{Fetched}
-use Rattle.draid_block.specs.declared.solve.SolveFault.{SolveFault}
-use Rattle.draid_block.specs.declared.solve.SolveFault.TheVariants.{NoMemory, Unreadable}
+use Rattle.draid_block.specs.declared.solve.SolveFault.TheVariants.{Unreadable}
 use Rattle.draid_shard.specs.declared.loan.KeptLoan.{KeptLoan}
 use Rattle.draid_shard.specs.declared.loan.KeptLoan.TheVariants.{Block, Stripe}
 use Rattle.draid_shard.specs.declared.loan.LentBlock.{LentBlock}

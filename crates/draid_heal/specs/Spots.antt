@@ -1,15 +1,15 @@
 -- Just the arms of a pointer's block that answer, by the slots.
-use Rattle.std.specs.Prelude.{◌≡◌, ◌<◌, ◌+◌, ◌++◌, ◌∷◌, [], not, ℕ, zero, suc, Bool, true, false, List, Option, None, Some, if◌then◌else◌, length, slice_get}
+use Rattle.std.specs.Prelude.{◌≡◌, ◌<◌, ◌+◌, ◌++◌, ◌∷◌, [], not, ℕ, zero, suc, Bool, true, false, List, Option, None, Some, if◌then◌else◌, slice_get}
 use Rattle.draid_names.specs.declared.arm.Arm.{Arm}
 use Rattle.draid_names.specs.declared.pointer.Pointer.{Pointer}
-use Rattle.draid_spec.specs.Geometry.{slice_at}
+use Rattle.draid_spec.specs.Geometry.{metaslab_sectors, slice_at}
 use Rattle.draid_rack.specs.declared.Rack.{Ghosts}
 use Rattle.draid_machine.specs.declared.names.ArmName.{ArmName}
 use Rattle.draid_slots.specs.Changes.{IsOf}
 use Rattle.draid_slots.specs.Reading.{holder}
 use Rattle.draid_slots.specs.States.{name_of}
 use Rattle.draid_slots.specs.Table.{IsThere, SlotTable, arm_at, arms_of, is_logged}
-use Rattle.draid_shard.specs.Fits.{HasLeaves}
+use Rattle.draid_shard.specs.Fits.{HasLeaves, NamesOnce}
 use Rattle.draid_shard.specs.Part.{IsPart, Part, layout_in}
 use Rattle.draid_shard.specs.Rows.{answers_on, arm_no, leaf_on, name_on}
 use Rattle.draid_shard.specs.States.{part_of}
@@ -18,10 +18,11 @@ use Rattle.draid_shard.specs.declared.places.ColumnRows.{ColumnRows}
 use Rattle.draid_shard.specs.declared.shard.Shard.{Shard}
 use Rattle.draid_heal.specs.Stands.{HasSpot}
 
--- the slots are those of the metaslab, and the rack has their leaves
+-- the slots are those of the metaslab, no two arms have one name, and the rack has their leaves
 pub record IsLaid {R A : Type 0} (rack : Ghosts R) (shard : Shard R A) : Type 0 where
   pub part : IsPart (part_of shard)
   pub slots : IsOf shard.slots shard.geometry shard.perms shard.number
+  pub once : NamesOnce shard.slots
   pub leaves : HasLeaves (rack.shape shard.rack) shard.geometry shard.slots
 
 -- the rows of a column
@@ -54,11 +55,32 @@ module _ (part : Part) (slots : SlotTable) (pointer : Pointer) where
     pub all : (c k : ℕ) (n : ArmName) → c < part.geometry.g → name_on slots (rows_at part pointer c) k ≡ Some n → answers_on slots (rows_at part pointer c) k ≡ true → HasSpot spots c n
     pub once : (i j : ℕ) (a b : Spot) → slice_get spots i ≡ Some a → slice_get spots j ≡ Some b → a.column ≡ b.column → a.arm ≡ b.arm → i ≡ j
 
-  -- each arm that is clean for the block answers
-  abbrev pub CleanAnswer : Type 0
-  CleanAnswer =
-      (c k : ℕ) → c < part.geometry.g → IsThere slots (arm_no (rows_at part pointer c) k) → is_logged slots (arm_no (rows_at part pointer c) k) pointer.birth ≡ false
+  -- each arm of the first so many columns that is clean for the block answers
+  abbrev pub CleanBelow : ℕ → Type 0
+  CleanBelow count =
+      (c k : ℕ) → c < count → IsThere slots (arm_no (rows_at part pointer c) k) → is_logged slots (arm_no (rows_at part pointer c) k) pointer.birth ≡ false
       → answers_on slots (rows_at part pointer c) k ≡ true
+
+  -- so of all
+  abbrev pub CleanAnswer : Type 0
+  CleanAnswer = CleanBelow part.geometry.g
+
+-- ---- one column
+
+-- its rows lie on a slot of the metaslab
+pub record LiesIn (slots : SlotTable) (rows : ColumnRows) : Type 0 where
+  pub slot : rows.slot < slots.geometry.spec.children
+  pub slice : rows.slice < slots.geometry.props.slices
+  pub first : rows.first < metaslab_sectors slots.geometry
+  pub slice_is : rows.slice ≡ slice_at slots.geometry rows.first
+
+-- an arm that is clean for its block answers
+abbrev pub AnswersClean : SlotTable → ColumnRows → ℕ → Type 0
+AnswersClean slots rows k = is_logged slots (arm_no rows k) rows.birth ≡ false → answers_on slots rows k ≡ true
+
+-- so each of the first so many arms
+abbrev pub CleanAmong : SlotTable → ColumnRows → ℕ → Type 0
+CleanAmong slots rows count = (k : ℕ) → k < count → AnswersClean slots rows k
 
 -- ---- in their order
 

@@ -1,5 +1,5 @@
 -- A restored block landed as the state machine says.
-use Rattle.std.specs.Prelude.{◌≡◌, ◌+◌, ◌<◌, ◌||◌, ◌⊎◌, ℕ, Bool, true, false, List, Option, Some, length, slice_get}
+use Rattle.std.specs.Prelude.{◌≡◌, ◌+◌, ◌<◌, ◌||◌, ◌⊎◌, ℕ, Bool, true, false, List, Some, length, slice_get}
 use Rattle.draid_machine.specs.Arms.{answers, is_clean, leaf_answers, leaf_at}
 use Rattle.draid_machine.specs.Names.{has_name, has_number}
 use Rattle.draid_machine.specs.State as machine
@@ -8,7 +8,7 @@ use Rattle.draid_machine.specs.declared.names.ArmName.{ArmName}
 use Rattle.draid_machine.specs.declared.names.Held.{Held}
 use Rattle.draid_rack.specs.Moments.{ChangesOnly}
 use Rattle.draid_rack.specs.Rack.{Told}
-use Rattle.draid_heal.specs.Arms.{AreLeavesApart, HealsArms, ListsArms}
+use Rattle.draid_heal.specs.Arms.{AreLeavesApart, HealsArms}
 use Rattle.draid_shard.specs.declared.loan.Spot.{Spot}
 
 -- an arm of a block that answers, where the block's column begins there

@@ -1,18 +1,27 @@
 //! The arms of a restored block, one after another.
-ghost use Rattle.std.specs.Prelude.{◌≡◌, ◌+◌, ◌*◌, ◌≤◌, ◌<◌, ◌^◌, ◌++◌, ◌∷◌, [], ℕ, List, Option, IsSome, length, vec_capacity, vec_len, slice_get, Some};
-ghost use Rattle.draid_columns.specs.Columns.{HasRows, TellsBoth};
-ghost use Rattle.draid_parity.specs.Columns.{IsStripe, column_at};
+ghost use Rattle.std.specs.Prelude.{◌≡◌, ◌+◌, ◌*◌, ◌≤◌, ◌<◌, ◌^◌, ◌++◌, ◌∷◌, [], ℕ, List, Option, IsSome, length, vec_capacity, vec_len};
+ghost use Rattle.draid_block.specs.Blocks.{column_len};
+ghost use Rattle.draid_columns.specs.Columns.{HasRows};
+ghost use Rattle.draid_parity.specs.Columns.{column_at};
 ghost use Rattle.draid_shard.specs.Calls.{CountsFailed};
-ghost use Rattle.draid_heal.specs.Arms.{AreLeavesApart, AreRooms, FlushedOn, HealsArm, HealsArms, IsRoom, IsRoomOf, ListsArms, Puts, failed_if, landed_if, rows_for};
+ghost use Rattle.draid_shard.specs.Loans.{IsRowRoom};
+ghost use Rattle.draid_rack.specs.Rack.{OnBothTold};
+ghost use Rattle.draid_heal.specs.Arms.{AreRooms, FitSpots, FitsRoom, FlushedOn, HealsArm, HealsArms, IsRoomOf, ListsArms, Puts, failed_if, landed_if, rows_for};
 ghost use Rattle.draid_heal.specs.Rows.{FailsOn, ListsRows};
 
-
 use crate::rows::heal_rows;
+use draid_block::Encoded;
 use draid_columns::Rows;
-use draid_machine::{ArmName, Patched};
-use draid_parity::Stripe;
+use draid_machine::Patched;
 use draid_rack::Rack;
-use draid_shard::Spot;
+use draid_shard::{LandingRoom, Spot};
+
+/// How many rows each column of a block has, and the length of one.
+#[derive(Clone, Copy)]
+pub(crate) struct Extent {
+    pub count: u64,
+    pub size: usize,
+}
 
 /// Flushes the leaf of an arm. Where that fails nothing landed there.
 fn flush_arm<R: Rack>(rack: &mut R, leaf: u64, part: &mut Patched, failed: &mut Vec<u64>) -> bool
@@ -37,7 +46,7 @@ fn flush_arm<R: Rack>(rack: &mut R, leaf: u64, part: &mut Patched, failed: &mut 
 }
 
 /// Puts the rows of a column right on an arm, and flushes its leaf.
-pub fn heal_arm<R: Rack>(
+fn heal_arm<R: Rack>(
     rack: &mut R,
     rows: Rows,
     clean: bool,
@@ -50,9 +59,9 @@ pub fn heal_arm<R: Rack>(
     requires few { rows.count < 2 ^ 32 }
     requires long { length column.now ≡ rows.count * rows.size }
     requires into { length into.old ≡ rows.size }
-    requires room { IsRoom rows.count part.old }
+    requires room { IsRowRoom rows.count part.old }
     requires failed { vec_len failed.old + (2 * rows.count + 1) ≤ vec_capacity failed.old }
-    ensures heals { TellsBoth (R.told rack.old) (R.told rack.new) (HealsArm rows column.now part.new.written.items part.new.landed.items failed.new.items) }
+    ensures heals { OnBothTold (R.told rack.old) (R.told rack.new) (HealsArm rows column.now part.new.written.items part.new.landed.items failed.new.items) }
     ensures lists { ListsRows rows clean rows.count part.new.written.items part.new.landed.items failed.new.items }
     ensures fails { FailsOn rows.leaf failed.old.items failed.new.items }
     ensures counts { (first : Option ℕ → ℕ) → CountsFailed failed.old.items first (R.faults rack.old) → CountsFailed failed.new.items first (R.faults rack.new) }
@@ -74,10 +83,10 @@ fn take_room(rooms: &mut Vec<Patched>, count: u64, spot: Spot) -> Patched
     ensures rooms { AreRooms count rooms.new.items }
     ensures len { vec_len rooms.new + 1 ≡ vec_len rooms.old }
 {
+    let _ = count;
     let Some(mut part) = rooms.pop() else {
         unreachable!()
     };
-    let _count = count;
     part.column = spot.column;
     part.arm = spot.arm;
     part
@@ -85,37 +94,25 @@ fn take_room(rooms: &mut Vec<Patched>, count: u64, spot: Spot) -> Patched
 
 /// Puts the columns of a restored block right on its arms that answer, and notes for each what was written, what landed,
 /// and each call that failed.
-pub fn heal_arms<R: Rack>(
+pub(crate) fn heal_arms<R: Rack>(
     rack: &mut R,
-    spots: &[Spot],
-    columns: &Stripe,
-    count: u64,
-    size: usize,
-    into: &mut [u8],
-    rooms: &mut Vec<Patched>,
-    patched: &mut Vec<Patched>,
-    failed: &mut Vec<u64>,
+    block: &Encoded,
+    extent: Extent,
+    room: &mut LandingRoom,
 )
-    requires there { (k : ℕ) (spot : Spot) → slice_get spots.now k ≡ Some spot → HasRows (R.shape rack.old) (rows_for count size spot) }
-    requires column { (k : ℕ) (spot : Spot) → slice_get spots.now k ≡ Some spot → spot.column < columns.now.parity + columns.now.ndata }
-    requires apart { AreLeavesApart spots.now }
-    requires few { count < 2 ^ 32 }
-    requires whole { IsStripe columns.now }
-    requires long { columns.now.len ≡ count * size }
-    requires into { length into.old ≡ size }
-    requires rooms { AreRooms count rooms.old.items }
-    requires enough { length spots.now ≤ vec_len rooms.old }
-    requires none { (patched.old.items ≡ []) × (failed.old.items ≡ []) }
-    requires patched { length spots.now ≤ vec_capacity patched.old }
-    requires failed { length spots.now * (2 * count + 1) ≤ vec_capacity failed.old }
-    ensures heals { TellsBoth (R.told rack.old) (R.told rack.new) (HealsArms count size spots.now patched.new.items columns.now.columns (length spots.now) failed.new.items) }
-    ensures lists { ListsArms count size spots.now patched.new.items (length spots.now) failed.new.items }
-    ensures counts { CountsFailed failed.new.items (R.faults rack.old) (R.faults rack.new) }
+    requires spots { FitSpots (R.shape rack.old) extent.count extent.size (block.now.cut.parity + block.now.cut.ndata) room.old.spots.items }
+    requires few { extent.count < 2 ^ 32 }
+    requires long { column_len block.now.cut (length block.now.bytes) ≡ extent.count * extent.size }
+    requires room { FitsRoom extent.count extent.size room.old }
+    ensures heals { OnBothTold (R.told rack.old) (R.told rack.new) (HealsArms extent.count extent.size room.old.spots.items room.new.patched.items block.now.columns (length room.old.spots.items) room.new.failed.items) }
+    ensures lists { ListsArms extent.count extent.size room.old.spots.items room.new.patched.items (length room.old.spots.items) room.new.failed.items }
+    ensures counts { CountsFailed room.new.failed.items (R.faults rack.old) (R.faults rack.new) }
     ensures shape { R.shape rack.new ≡ R.shape rack.old }
+    ensures spots { room.new.spots ≡ room.old.spots }
 {
-    for i in 0..spots.len() {
-        let spot = spots[i];
-        heal_next(rack, spot, columns, count, size, into, rooms, patched, failed);
+    for i in 0..room.spots.len() {
+        let spot = room.spots[i];
+        heal_next(rack, spot, block, extent, room);
     }
 }
 
@@ -123,47 +120,45 @@ pub fn heal_arms<R: Rack>(
 fn heal_next<R: Rack>(
     rack: &mut R,
     spot: Spot,
-    columns: &Stripe,
-    count: u64,
-    size: usize,
-    into: &mut [u8],
-    rooms: &mut Vec<Patched>,
-    patched: &mut Vec<Patched>,
-    failed: &mut Vec<u64>,
+    block: &Encoded,
+    extent: Extent,
+    room: &mut LandingRoom,
 )
-    requires there { HasRows (R.shape rack.old) (rows_for count size spot) }
-    requires column { spot.column < columns.now.parity + columns.now.ndata }
-    requires few { count < 2 ^ 32 }
-    requires long { columns.now.len ≡ count * size }
-    requires into { length into.old ≡ size }
-    requires rooms { AreRooms count rooms.old.items }
-    requires some { 0 < vec_len rooms.old }
-    requires patched { vec_len patched.old < vec_capacity patched.old }
-    requires failed { vec_len failed.old + (2 * count + 1) ≤ vec_capacity failed.old }
-    ensures puts { (part : Patched) × (patched.new.items ≡ patched.old.items ++ part ∷ []) × Puts (rows_for count size spot) spot part (column_at columns.now.columns spot.column) failed.old.items failed.new.items (R.told rack.old) (R.told rack.new) }
-    ensures counts { (first : Option ℕ → ℕ) → CountsFailed failed.old.items first (R.faults rack.old) → CountsFailed failed.new.items first (R.faults rack.new) }
+    requires there { HasRows (R.shape rack.old) (rows_for extent.count extent.size spot) }
+    requires column { spot.column < block.now.cut.parity + block.now.cut.ndata }
+    requires few { extent.count < 2 ^ 32 }
+    requires long { column_len block.now.cut (length block.now.bytes) ≡ extent.count * extent.size }
+    requires into { length room.old.sector.items ≡ extent.size }
+    requires rooms { AreRooms extent.count room.old.parts.items }
+    requires some { 0 < vec_len room.old.parts }
+    requires patched { vec_len room.old.patched < vec_capacity room.old.patched }
+    requires failed { vec_len room.old.failed + (2 * extent.count + 1) ≤ vec_capacity room.old.failed }
+    ensures puts { (part : Patched) × (room.new.patched.items ≡ room.old.patched.items ++ part ∷ []) × Puts (rows_for extent.count extent.size spot) spot part (column_at block.now.columns spot.column) room.old.failed.items room.new.failed.items (R.told rack.old) (R.told rack.new) }
+    ensures counts { (first : Option ℕ → ℕ) → CountsFailed room.old.failed.items first (R.faults rack.old) → CountsFailed room.new.failed.items first (R.faults rack.new) }
     ensures shape { R.shape rack.new ≡ R.shape rack.old }
-    ensures into { length into.new ≡ length into.old }
-    ensures rooms { AreRooms count rooms.new.items }
-    ensures left { vec_len rooms.new + 1 ≡ vec_len rooms.old }
-    ensures room { (vec_capacity failed.new ≡ vec_capacity failed.old) × (vec_capacity patched.new ≡ vec_capacity patched.old) }
-    ensures few { length failed.new.items ≤ length failed.old.items + (2 * count + 1) }
+    ensures spots { room.new.spots ≡ room.old.spots }
+    ensures into { length room.new.sector.items ≡ length room.old.sector.items }
+    ensures rooms { AreRooms extent.count room.new.parts.items }
+    ensures left { vec_len room.new.parts + 1 ≡ vec_len room.old.parts }
+    ensures room { (vec_capacity room.new.failed ≡ vec_capacity room.old.failed) × (vec_capacity room.new.patched ≡ vec_capacity room.old.patched) }
+    ensures few { length room.new.failed.items ≤ length room.old.failed.items + (2 * extent.count + 1) }
 {
-    let mut part = take_room(rooms, count, spot);
+    let mut part = take_room(&mut room.parts, extent.count, spot);
     let rows = Rows {
         leaf: spot.leaf,
         first: spot.first,
-        count,
-        size,
+        count: extent.count,
+        size: extent.size,
     };
+    let column = block.column(spot.column);
     heal_arm(
         rack,
         rows,
         spot.clean,
-        columns.column(spot.column),
-        into,
+        column,
+        &mut room.sector,
         &mut part,
-        failed,
+        &mut room.failed,
     );
-    patched.push_reserved(part);
+    room.patched.push_reserved(part);
 }

@@ -1,14 +1,18 @@
 //! A scrub's loan comes back: the block lands on its arms that answer.
-ghost use Rattle.std.specs.Prelude.{◌≡◌, IsSomeAnd, None};
+ghost use Rattle.std.specs.Prelude.{◌≡◌, IsSomeAnd, None, Option, Some};
 ghost use Rattle.draid_shard.specs.Calls.{SameAreas, SameReserve};
 ghost use Rattle.draid_shard.specs.Changes.{KeepsBlocks};
 ghost use Rattle.draid_shard.specs.Fits.{Valid};
-ghost use Rattle.draid_heal.specs.Lands.{LandsUnit, MovesBehind};
+ghost use Rattle.draid_shard.specs.declared.loan.KeptLoan.TheVariants.{Block};
+ghost use Rattle.draid_heal.specs.Lands.{IsBlockLoan, LandsUnit, MovesBehind};
 ghost use Rattle.draid_heal.specs.Loans.{IsLentHere, IsRunningScrub};
 
+use crate::kept::land_kept;
 use draid_area::Area;
+use draid_machine::{Event, Patched};
 use draid_rack::Rack;
-use draid_shard::Shard;
+use draid_shard::{KeptLoan, LentBlock, Shard};
+use std::alloc::Global;
 
 /// Puts the block that is lent right on each of its arms that answers, and flushes their leaves: sectors that read otherwise
 /// are written, and on an arm that isn't clean all. Where all arms that are clean for the block answered, and no call on one failed,
@@ -27,5 +31,52 @@ pub fn land<R: Rack, A: Area>(shard: &mut Shard<R, A>) -> u64
     ensures none { shard.new.kept ≡ None }
     ensures reserve { SameReserve shard.old shard.new }
 {
-    todo!()
+    let Some(mut pass) = shard.pass.take() else {
+        unreachable!()
+    };
+    let mut lent = block_in(shard.kept.take());
+    let rewritten = land_kept(shard, &mut pass, &mut lent);
+    pass.at = lent.pointer.first + u64::from(lent.pointer.stripes);
+    let event = Event::LandBlock {
+        pass: pass.number,
+        serial: lent.serial,
+        failed: numbers_in(&mut lent.room.failed, shard.alloc),
+        patched: parts_in(&mut lent.room.patched, shard.alloc),
+        unreadable: lent.restored.is_none(),
+    };
+    shard.pass = Some(pass);
+    shard.history.add(event, 1);
+    rewritten
+}
+
+/// The block of a loan.
+fn block_in(kept: Option<KeptLoan>) -> LentBlock
+    requires { IsSomeAnd kept IsBlockLoan }
+    ensures { kept ≡ Some (Block result) }
+{
+    match kept {
+        Some(KeptLoan::Block(lent)) => lent,
+        Some(KeptLoan::Stripe(_)) => unreachable!(),
+        None => unreachable!(),
+    }
+}
+
+/// Takes out what is listed. The room of an empty list stays.
+fn numbers_in(list: &mut Vec<u64>, alloc: Global) -> Vec<u64>
+    ensures { result.items ≡ list.old.items }
+{
+    if list.is_empty() {
+        return Vec::new(alloc);
+    }
+    std::mem::replace(list, Vec::new(alloc))
+}
+
+/// The same, of the arms that are noted.
+fn parts_in(list: &mut Vec<Patched>, alloc: Global) -> Vec<Patched>
+    ensures { result.items ≡ list.old.items }
+{
+    if list.is_empty() {
+        return Vec::new(alloc);
+    }
+    std::mem::replace(list, Vec::new(alloc))
 }

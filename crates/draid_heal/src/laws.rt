@@ -15,7 +15,6 @@ ghost use Rattle.draid_machine.specs.declared.names.Stage.{Stage};
 ghost use Rattle.draid_slots.specs.Changes.{IsOf};
 ghost use Rattle.draid_slots.specs.States.{HasSlots};
 ghost use Rattle.draid_slots.specs.Table.{SlotTable};
-
 ghost use Rattle.draid_entries.specs.Maps.{held_at, key_of, staged};
 ghost use Rattle.draid_heal.specs.Spots.{SpotsOf};
 ghost use Rattle.draid_heal.specs.Arms.{ListsArms};

@@ -4,13 +4,19 @@
 
 mod arms;
 mod block;
+mod choosing;
+mod kept;
 mod landing;
 mod laws;
 mod loans;
+mod losing;
+mod reading;
+mod rooms;
 mod row;
 mod rows;
 mod settle;
 mod solving;
+mod spots;
 
 pub use landing::land;
 pub use loans::lend;

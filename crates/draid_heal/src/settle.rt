@@ -1,42 +1,35 @@
 //! A whole landing ends the harm of what it put right.
-ghost use Rattle.std.specs.Prelude.{◌≡◌, ◌+◌, ◌*◌, ◌≤◌, ◌<◌, ◌^◌, ℕ, Bool, List, Option, Some, length, slice_get, true, false};
-ghost use Rattle.draid_columns.specs.Columns.{HasRows, TellsBoth};
+ghost use Rattle.std.specs.Prelude.{◌≡◌, ◌==◌, ◌+◌, ◌*◌, ◌≤◌, ◌<◌, ◌^◌, ℕ, Bool, List, Option, Some, length, slice_get, true, false};
+ghost use Rattle.draid_columns.specs.Columns.{HasRows};
+ghost use Rattle.std.specs.List.{list_any};
 ghost use Rattle.draid_machine.specs.Names.{has_number};
-ghost use Rattle.draid_rack.specs.Rack.{OnTold, Told};
+ghost use Rattle.draid_rack.specs.Rack.{OnBothTold, OnTold, Told};
 ghost use Rattle.draid_heal.specs.Arms.{rows_for};
 ghost use Rattle.draid_heal.specs.Settle.{AreFine, FirmArms, SettlesUpto};
 ghost use Rattle.draid_heal.specs.Stands.{SettlesArms, is_settled_row};
 
+use crate::arms::Extent;
+use crate::losing::is_among;
 use draid_machine::Patched;
 use draid_rack::Rack;
 use draid_shard::Spot;
 
-/// Whether a list of leaves has one.
-fn has_failed(failed: &[u64], leaf: u64) -> bool
+/// Whether a call failed on a leaf.
+pub(crate) fn has_failed(failed: &[u64], leaf: u64) -> bool
     ensures { result ≡ has_number failed.now leaf }
 {
-    for other in failed {
-        if *other == leaf {
-            return true;
-        }
-    }
-    false
+    is_among(failed, leaf)
 }
 
 /// Whether a list of rows has one.
 fn has_row(rows: &[u32], row: u32) -> bool
-    ensures { result ≡ has_number rows.now row }
+    ensures { result ≡ list_any (λ other. other == row) rows.now }
 {
-    for other in rows {
-        if *other == row {
-            return true;
-        }
-    }
-    false
+    rows.iter().any(|other| *other == row)
 }
 
 /// Whether no call failed on the leaf of a clean arm.
-pub fn are_fine(spots: &[Spot], failed: &[u64]) -> bool
+pub(crate) fn are_fine(spots: &[Spot], failed: &[u64]) -> bool
     ensures yes { result ≡ true → AreFine spots.now failed.now }
     ensures no { result ≡ false → AreFine spots.now failed.now → ⊥ }
 {
@@ -50,34 +43,39 @@ pub fn are_fine(spots: &[Spot], failed: &[u64]) -> bool
 }
 
 /// Ends the harm of the rows on clean arms, and of what landed on the others.
-pub fn settle_arms<R: Rack>(rack: &mut R, spots: &[Spot], patched: &[Patched], count: u64, size: usize)
-    requires there { (k : ℕ) (spot : Spot) → slice_get spots.now k ≡ Some spot → HasRows (R.shape rack.old) (rows_for count size spot) }
-    requires few { count < 2 ^ 32 }
+pub(crate) fn settle_arms<R: Rack>(
+    rack: &mut R,
+    spots: &[Spot],
+    patched: &[Patched],
+    extent: Extent,
+)
+    requires there { (k : ℕ) (spot : Spot) → slice_get spots.now k ≡ Some spot → HasRows (R.shape rack.old) (rows_for extent.count extent.size spot) }
+    requires few { extent.count < 2 ^ 32 }
     requires same { length patched.now ≡ length spots.now }
-    requires firm { OnTold (R.told rack.old) (FirmArms count spots.now patched.now) }
-    ensures settles { TellsBoth (R.told rack.old) (R.told rack.new) (SettlesArms count spots.now patched.now true) }
+    requires firm { OnTold (R.told rack.old) (FirmArms extent.count spots.now patched.now) }
+    ensures settles { OnBothTold (R.told rack.old) (R.told rack.new) (SettlesArms extent.count spots.now patched.now true) }
     ensures shape { R.shape rack.new ≡ R.shape rack.old }
     ensures later { (who : Option ℕ) → R.faults rack.old who ≤ R.faults rack.new who }
 {
     for i in 0..spots.len() {
-        settle_arm(rack, spots, patched, count, size, i);
+        settle_arm(rack, spots, patched, extent, i);
     }
 }
 
 /// On one arm.
-fn settle_arm<R: Rack>(rack: &mut R, spots: &[Spot], patched: &[Patched], count: u64, size: usize, i: usize)
-    requires there { (k : ℕ) (spot : Spot) → slice_get spots.now k ≡ Some spot → HasRows (R.shape rack.old) (rows_for count size spot) }
-    requires few { count < 2 ^ 32 }
+fn settle_arm<R: Rack>(rack: &mut R, spots: &[Spot], patched: &[Patched], extent: Extent, i: usize)
+    requires there { (k : ℕ) (spot : Spot) → slice_get spots.now k ≡ Some spot → HasRows (R.shape rack.old) (rows_for extent.count extent.size spot) }
+    requires few { extent.count < 2 ^ 32 }
     requires same { length patched.now ≡ length spots.now }
     requires less { i < length spots.now }
-    requires firm { OnTold (R.told rack.old) (FirmArms count spots.now patched.now) }
-    ensures settles { (start : Option Told) → TellsBoth start (R.told rack.old) (SettlesUpto count spots.now patched.now i 0) → TellsBoth start (R.told rack.new) (SettlesUpto count spots.now patched.now (i + 1) 0) }
-    ensures firm { OnTold (R.told rack.new) (FirmArms count spots.now patched.now) }
+    requires firm { OnTold (R.told rack.old) (FirmArms extent.count spots.now patched.now) }
+    ensures settles { (start : Option Told) → OnBothTold start (R.told rack.old) (SettlesUpto extent.count spots.now patched.now i 0) → OnBothTold start (R.told rack.new) (SettlesUpto extent.count spots.now patched.now (i + 1) 0) }
+    ensures firm { OnTold (R.told rack.new) (FirmArms extent.count spots.now patched.now) }
     ensures shape { R.shape rack.new ≡ R.shape rack.old }
     ensures later { (who : Option ℕ) → R.faults rack.old who ≤ R.faults rack.new who }
 {
-    for row in 0..count {
-        settle_row(rack, spots, patched, count, size, i, row);
+    for row in 0..extent.count {
+        settle_row(rack, spots, patched, extent, i, row);
     }
 }
 
@@ -86,19 +84,18 @@ fn settle_row<R: Rack>(
     rack: &mut R,
     spots: &[Spot],
     patched: &[Patched],
-    count: u64,
-    size: usize,
+    extent: Extent,
     i: usize,
     row: u64,
 )
-    requires there { (k : ℕ) (spot : Spot) → slice_get spots.now k ≡ Some spot → HasRows (R.shape rack.old) (rows_for count size spot) }
-    requires few { count < 2 ^ 32 }
+    requires there { (k : ℕ) (spot : Spot) → slice_get spots.now k ≡ Some spot → HasRows (R.shape rack.old) (rows_for extent.count extent.size spot) }
+    requires few { extent.count < 2 ^ 32 }
     requires same { length patched.now ≡ length spots.now }
     requires less { i < length spots.now }
-    requires row { row < count }
-    requires firm { OnTold (R.told rack.old) (FirmArms count spots.now patched.now) }
-    ensures settles { (start : Option Told) → TellsBoth start (R.told rack.old) (SettlesUpto count spots.now patched.now i row) → TellsBoth start (R.told rack.new) (SettlesUpto count spots.now patched.now i (row + 1)) }
-    ensures firm { OnTold (R.told rack.new) (FirmArms count spots.now patched.now) }
+    requires row { row < extent.count }
+    requires firm { OnTold (R.told rack.old) (FirmArms extent.count spots.now patched.now) }
+    ensures settles { (start : Option Told) → OnBothTold start (R.told rack.old) (SettlesUpto extent.count spots.now patched.now i row) → OnBothTold start (R.told rack.new) (SettlesUpto extent.count spots.now patched.now i (row + 1)) }
+    ensures firm { OnTold (R.told rack.new) (FirmArms extent.count spots.now patched.now) }
     ensures shape { R.shape rack.new ≡ R.shape rack.old }
     ensures later { (who : Option ℕ) → R.faults rack.old who ≤ R.faults rack.new who }
 {
@@ -113,6 +110,5 @@ fn settle_row<R: Rack>(
 fn is_settled(spot: Spot, part: &Patched, row: u32) -> bool
     ensures { result ≡ is_settled_row spot part.now row }
 {
-    let landed = has_row(&part.landed, row);
-    spot.clean || landed
+    spot.clean || has_row(&part.landed, row)
 }
