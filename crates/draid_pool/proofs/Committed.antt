@@ -33,7 +33,7 @@ use Rattle.draid_slots.specs.Table.{SlotTable, arm_at, is_leaf_kind, is_logged, 
 use Rattle.draid_slots.specs.States.{HasArm, HasSlots, IsGone, WasArm, arm_in, name_of}
 use Rattle.draid_machine.specs.Names.{is_freed_by, named}
 use Rattle.draid_machine.proofs.Rows.{reached_sound}
-use Rattle.draid_entries.specs.Maps.{held_at, key_of}
+use Rattle.draid_entries.specs.Maps.{held_at}
 use Rattle.draid_shard.specs.Looks.{IsOver}
 use Rattle.draid_shard.proofs.Over.{held_over}
 use Rattle.draid_shard.specs.Calls.{ActsOn}

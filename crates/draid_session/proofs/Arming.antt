@@ -150,28 +150,24 @@ module _ (geometry : Geometry) (perms : Perms) where
     pub went : end ≡ Went → NamesNext b group × KeepsOpen z store (synced group b)
     pub stopped : (end ≡ Went → ⊥) → KeepsOpen z store (doubtful b)
 
-  -- Room for what goes is reserved, it goes, and a sync follows.
-  pub going_fit : (need : View → ℕ) (P : List Hold → End → Type 0) → IsCalmPhase P → ((holds : List Hold) (end : End) → P holds end → end ≡ Went) → (group thin : ℕ) (holds : List Hold) (end : End)
-      (x z : State) (store : Store) (b : Book) → Chain (arms.ReservePhase geometry perms need) (Chain P (groups.Syncs geometry perms group thin)) holds end
-      → Follows holds x z → x.geometry ≡ geometry → KeepsOpen x store b → EndsAsSync group end z store b
-  going_fit need P calm through group thin holds end x z store b (inr w) follows of fit =
-      let calm = calm_follows holds x z (reserve_calm need holds end w.1) follows in
-      record { went = λ went. absurd (w.0 went); stopped = λ stopped. fit_doubt z store b (calm_fit x z store b calm fit) }
-  going_fit need P calm through group thin holds end x z store b (inl (front, back, are, reserve, inr w)) follows of fit =
-      record { went = λ went. absurd (w.0 went); stopped = λ stopped. absurd (stopped (through back end w.1)) }
-  going_fit need P calm through group thin holds end x z store b (inl (front, back, are, reserve, inl (middle, last, same, comes, syncs))) follows of fit =
-      let one = follows_split front back x z (subst (λ hs. Follows hs x z) are follows) in
-      let two = follows_split middle last one.0 z (subst (λ hs. Follows hs one.0 z) same one.2) in
-      let a = calm_follows front x one.0 (reserve_calm need front Went reserve) one.1 in
-      let b' = calm_follows middle one.0 two.0 (calm middle Went comes) two.1 in
-      let d = syncs_fit geometry perms group thin last end two.0 z store b syncs two.2 (b'.geometry ∙ (a.geometry ∙ of))
-      (calm_fit one.0 two.0 store b b' (calm_fit x one.0 store b a fit)) in
-      record { went = d.0; stopped = d.1 }
-
   leaves_fit : (arm : ArmName) (group : ℕ) (views : List View) (holds : List Hold) (end : End) (x z : State) (store : Store) (b : Book) → arms.Leaves geometry perms arm group views holds end
       → Follows holds x z → x.geometry ≡ geometry → KeepsOpen x store b → EndsAsSync group end z store b
-  leaves_fit arm group views holds end x z store b l =
-      going_fit (arms.one_event geometry perms) (arms.EventPhase geometry perms (event.Detach l.slot arm)) (event_calm (event.Detach l.slot arm) tt) (λ hs e p. p.1) group l.thin holds end x z store b l.goes
+  leaves_fit arm group views holds end x z store b l follows of fit = by l.goes
+    where
+      by : Chain (arms.ReservePhase geometry perms (arms.one_event geometry perms)) (Chain (arms.EventPhase geometry perms (event.Detach l.slot arm)) (groups.Syncs geometry perms group l.thin)) holds end
+          → EndsAsSync group end z store b
+      by (inr w) =
+          let calm = calm_follows holds x z (reserve_calm (arms.one_event geometry perms) holds end w.1) follows in
+          record { went = λ went. absurd (w.0 went); stopped = λ stopped. fit_doubt z store b (calm_fit x z store b calm fit) }
+      by (inl (front, back, are, reserve, inr w)) = record { went = λ went. absurd (w.0 went); stopped = λ stopped. absurd (stopped w.1.1) }
+      by (inl (front, back, are, reserve, inl (middle, last, same, comes, syncs))) =
+          let one = follows_split front back x z (subst (λ hs. Follows hs x z) are follows) in
+          let two = follows_split middle last one.0 z (subst (λ hs. Follows hs one.0 z) same one.2) in
+          let a = calm_follows front x one.0 (reserve_calm (arms.one_event geometry perms) front Went reserve) one.1 in
+          let b' = calm_follows middle one.0 two.0 (event_calm (event.Detach l.slot arm) tt middle Went comes) two.1 in
+          let d = syncs_fit geometry perms group l.thin last end two.0 z store b syncs two.2 (b'.geometry ∙ (a.geometry ∙ of))
+          (calm_fit one.0 two.0 store b b' (calm_fit x one.0 store b a fit)) in
+          record { went = d.0; stopped = d.1 }
 
   loses_fit : (arm : ArmName) (group : ℕ) (holds : List Hold) (end : End) (x z : State) (store : Store) (b : Book) → arms.LosesArm geometry perms arm group holds end
       → Follows holds x z → x.geometry ≡ geometry → KeepsOpen x store b → EndsAsSync group end z store b

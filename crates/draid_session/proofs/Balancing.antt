@@ -1,5 +1,5 @@
 -- What a rebalance does to an open pool and to its book.
-use Rattle.std.proofs.Common.{◌≡◌, ◌≢◌, ◌∙◌, ◌+◌, ◌≤◌, ◌⊎◌, ℕ, List, [], ◌∷◌, Option, Some, None, inl, inr, refl, sym, subst, arith, length}
+use Rattle.std.proofs.Common.{◌≡◌, ◌≢◌, ◌∙◌, ◌+◌, ◌≤◌, ◌⊎◌, ℕ, List, [], ◌∷◌, Option, Some, None, inl, inr, refl, sym, subst, arith}
 use Rattle.draid_names.specs.declared.pass_kind.PassKind.TheVariants.{Heal, Rebuild}
 use Rattle.draid_names.specs.declared.refusal.SlotFault.TheVariants as slot_fault
 use Rattle.draid_spec.specs.declared.layout.Geometry.{Geometry}
@@ -23,16 +23,16 @@ use Rattle.draid_session.specs.Looks.{AllOf}
 use Rattle.draid_session.specs.Making.{content_of}
 use Rattle.draid_session.specs.Passes as passes
 use Rattle.draid_session.specs.Passes.{Ended, Outcome, Stopped, Tally}
-use Rattle.draid_session.specs.Phases.{End, Starved, WasLast, WasWorn, Went}
+use Rattle.draid_session.specs.Phases.{Chain, End, Starved, WasLast, WasWorn, Went}
 use Rattle.draid_session.specs.State.{State, Store}
 use Rattle.draid_session.proofs.Answering.{Books}
-use Rattle.draid_session.proofs.Arming.{EndsAsSync, IsCalmPhase, event_calm, going_fit, looked, with_book}
+use Rattle.draid_session.proofs.Arming.{EndsAsSync, IsCalmPhase, event_calm, looked, reserve_calm, with_book}
 use Rattle.draid_session.proofs.Calm.{CalmTo, IsCalmHold, calm_both, calm_follows}
 use Rattle.draid_session.proofs.Changing.{calm_fit, looks_from_calm}
 use Rattle.draid_session.proofs.Looked.{follows_split}
 use Rattle.draid_session.proofs.Passing.{lends_calm, other_keeps, starts_calm}
 use Rattle.draid_session.proofs.Phased.{chain_all}
-use Rattle.draid_session.proofs.Syncing.{syncs_untold}
+use Rattle.draid_session.proofs.Syncing.{fit_doubt, syncs_fit, syncs_untold}
 
 rebuilds_no_scrub : Heal ≡ Rebuild → ⊥
 rebuilds_no_scrub same = absurd (cc)
@@ -71,12 +71,20 @@ module _ (geometry : Geometry) (perms : Perms) where
   go_calm : (slot : ℕ) (others : List ArmName) → IsCalmPhase (balance.GoAll geometry perms slot others)
   go_calm slot [] holds end g = subst (AllOf IsCalmHold) (sym g.0) tt
   go_calm slot (n ∷ ns) holds end g =
-      chain_all IsCalmHold (arms.EventPhase geometry perms (event.Detach slot n)) (balance.GoAll geometry perms slot ns) (event_calm geometry perms (event.Detach slot n) tt) (go_calm slot ns) holds end g
+      chain_all IsCalmHold (arms.ReservePhase geometry perms (arms.one_event geometry perms)) (Chain (arms.EventPhase geometry perms (event.Detach slot n)) (balance.GoAll geometry perms slot ns))
+      (reserve_calm geometry perms (arms.one_event geometry perms))
+      (chain_all IsCalmHold (arms.EventPhase geometry perms (event.Detach slot n)) (balance.GoAll geometry perms slot ns) (event_calm geometry perms (event.Detach slot n) tt) (go_calm slot ns)) holds end g
 
-  go_through : (slot : ℕ) (others : List ArmName) (holds : List Hold) (end : End) → balance.GoAll geometry perms slot others holds end → end ≡ Went
-  go_through slot [] holds end g = g.1
-  go_through slot (n ∷ ns) holds end (inl (front, back, are, first, more)) = go_through slot ns back end more
-  go_through slot (n ∷ ns) holds end (inr w) = w.1.1
+  goes_fit : (slot : ℕ) (others : List ArmName) (group thin : ℕ) (holds : List Hold) (end : End) (x z : State) (store : Store) (b : Book) → balance.Goes geometry perms slot others group thin holds end
+      → Follows holds x z → x.geometry ≡ geometry → KeepsOpen x store b → EndsAsSync geometry perms group end z store b
+  goes_fit slot others group thin holds end x z store b (inr w) follows of fit =
+      let calm = calm_follows holds x z (go_calm slot others holds end w.1) follows in
+      record { went = λ went. absurd (w.0 went); stopped = λ stopped. fit_doubt z store b (calm_fit x z store b calm fit) }
+  goes_fit slot others group thin holds end x z store b (inl (front, back, are, go, syncs)) follows of fit =
+      let parts = follows_split front back x z (subst (λ hs. Follows hs x z) are follows) in
+      let calm = calm_follows front x parts.0 (go_calm slot others front Went go) parts.1 in
+      let d = syncs_fit geometry perms group thin back end parts.0 z store b syncs parts.2 (calm.geometry ∙ of) (calm_fit x parts.0 store b calm fit) in
+      record { went = d.0; stopped = d.1 }
 
   -- ---- what is left of a book
 
@@ -125,7 +133,7 @@ module _ (geometry : Geometry) (perms : Perms) where
       by (inl (none, rest, is)) = subst (λ r. BalanceLeaves r z store b) (sym is) (stays rest)
       by (inr (others, group, thin, end, may, goes, ends)) =
           went_leaves group end result z store b
-          (going_fit geometry perms (λ v. length others) (balance.GoAll geometry perms slot others) (go_calm slot others) (go_through slot others) group thin a.rest end parts.0 z store b goes parts.2 (calm.geometry ∙ of) seen) ends
+          (goes_fit slot others group thin a.rest end parts.0 z store b goes parts.2 (calm.geometry ∙ of) seen) ends
 
   scrubs_leave : (slot : ℕ) (holds : List Hold) (t : Tally) (result : Balance) (x z : State) (store : Store) (b : Book) → balance.ScrubsThen geometry perms slot holds t result
       → Follows holds x z → x.geometry ≡ geometry → KeepsOpen x store b → BalanceLeaves result z store b

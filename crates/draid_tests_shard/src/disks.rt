@@ -19,13 +19,13 @@ use draid_create::create_metaslab;
 use draid_disks::{attach, detach, make_leaf, offline, online, reserve};
 use draid_import::reopen;
 use draid_machine::ArmName;
-use draid_mend::{Lent, land, lend, solve};
+use draid_mend::{land, lend, solve};
 use draid_names::{Arm, ArmAt, ArmKind, PassKind, SlotFault};
 use draid_passing::{PlanFault, cancel, done, plan, ready};
 use draid_perm::Perms;
 use draid_pool::into_kit;
 use draid_rack::Rack;
-use draid_shard::Shard;
+use draid_shard::{KeptLoan, Lent, Shard};
 use draid_shelf::Kit;
 use draid_spec::{Geometry, Props, SpecFault, geometry, parse_spec};
 use std::alloc::Global;
@@ -151,7 +151,7 @@ fn is_running<R: Rack, A: Area>(shard: &Shard<R, A>) -> bool
 
 /// Whether the loan has a source for just these columns.
 fn has_sources<R: Rack, A: Area>(shard: &Shard<R, A>, sources: [bool; 3]) -> bool {
-    let Some(kept) = &shard.kept else {
+    let Some(KeptLoan::Stripe(kept)) = &shard.kept else {
         return false;
     };
     for column in 0..3 {
@@ -167,7 +167,7 @@ fn has_columns<R: Rack, A: Area>(shard: &Shard<R, A>) -> bool
     requires valid { Valid R.Rack shard.now }
 {
     match &shard.kept {
-        Some(kept) if shard.geometry.g == 3 => {
+        Some(KeptLoan::Stripe(kept)) if shard.geometry.g == 3 => {
             let first = |column: u32| kept.columns.column(column).first() == Some(&b'h');
             first(0) && first(1) && !first(2)
         }
