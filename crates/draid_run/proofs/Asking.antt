@@ -2,7 +2,7 @@
 use Rattle.std.proofs.Common.{[], ◌≡◌, IfOk, ℕ, Bool, List, Option, Some, None, Result, Ok, Err, ap, refl, sym, subst, Vec, Global}
 use Rattle.draid_rack.specs.declared.Rack as racks
 use Rattle.draid_area.specs.declared.Area as areas
-use Rattle.draid_script.specs.Line.{Command, CreatePool, ReadObject, FreeObject, SumObjects, DamageSector, AttachSpare, ShowStatus, DetachArm, UpgradePool, command_in, RebuildPool, ReplaceDisk, CancelPasses}
+use Rattle.draid_script.specs.Line.{Command, CreatePool, ReadObject, FreeObject, SumObjects, DamageSector, AttachSpare, ShowStatus, DetachArm, UpgradePool, command_in, RebuildPool, ScrubPool, ReplaceDisk, CancelPasses}
 use Rattle.draid_script.specs.declared.line.Line.{Line}
 use Rattle.draid_script.specs.declared.line.Line.TheVariants as variant
 use Rattle.draid_script.specs.declared.line.PoolKeys.{PoolKeys}
@@ -24,13 +24,13 @@ use Rattle.draid_changes.specs.Says.{SpareSays, SwitchSays, ReplaceSays}
 use Rattle.draid_changes.specs.UpgradeSays.{UpgradeSays}
 use Rattle.draid_store.specs.Says.{DamageSays, FreeSays, ReadSays, SumSays}
 use Rattle.draid_status.specs.Says.{StatusSays}
-use Rattle.draid_visits.specs.Says.{CancelSays, RebuildSays}
+use Rattle.draid_visits.specs.Says.{CancelSays, RebuildSays, ScrubSays}
 use Rattle.draid_run.specs.Script.{IsUnbuilt}
 use Rattle.draid_run.specs.Serve.{AnswerIs, AskIs, IsSaid}
 use Rattle.draid_run.specs.Shelves.{MayFind, OnShelf}
 use Rattle.draid_run.specs.declared.answer.Stop.{Stop}
 use Rattle.draid_run.specs.declared.answer.Stop.TheVariants as stop
-use Rattle.draid_run.proofs.Said.{cancel_does, rebuild_does, damage_does, detach_does, free_does, read_does, spare_does, status_does, sum_does, switch_does, switch_line, upgrade_does, replace_does}
+use Rattle.draid_run.proofs.Said.{cancel_does, rebuild_does, scrub_does, damage_does, detach_does, free_does, read_does, spare_does, status_does, sum_does, switch_does, switch_line, upgrade_does, replace_does}
 use Rattle.draid_run.proofs.Steps.{ask_breaks, by_ask, by_create}
 
 module _ {R A : Type 0} (rack : racks.Ghosts R) (area : areas.Ghosts A) (choices : Choices) (entry now : OnShelf) (pool : Option (Pool R A)) (x : Desk) (is : IsDesk rack area entry now pool x) (command : Command)
@@ -85,37 +85,38 @@ pub asks_nothing : (line : Line) → ((object : ℕ) (bytes : Vec ℕ Global) �
     → ((arm : ArmArgument) → line ≡ variant.Detach arm → ⊥)
     → (line ≡ variant.Upgrade → ⊥)
     → ((limit : Option ℕ) → line ≡ variant.Rebuild limit → ⊥)
+    → ((limit : Option ℕ) → line ≡ variant.Scrub limit → ⊥)
     → (line ≡ variant.Cancel → ⊥)
     → asked_in (command_in line) ≡ None
-asks_nothing variant.Nothing write fill read free sum offline online damage spare replace status detach upgrade rebuild cancel = refl
-asks_nothing (variant.Create spec children keys) write fill read free sum offline online damage spare replace status detach upgrade rebuild cancel = refl
-asks_nothing variant.Import write fill read free sum offline online damage spare replace status detach upgrade rebuild cancel = refl
-asks_nothing variant.Export write fill read free sum offline online damage spare replace status detach upgrade rebuild cancel = refl
-asks_nothing variant.Sync write fill read free sum offline online damage spare replace status detach upgrade rebuild cancel = refl
-asks_nothing variant.Cancel write fill read free sum offline online damage spare replace status detach upgrade rebuild cancel = absurd (cancel refl)
-asks_nothing variant.Crash write fill read free sum offline online damage spare replace status detach upgrade rebuild cancel = refl
-asks_nothing (variant.Write object bytes) write fill read free sum offline online damage spare replace status detach upgrade rebuild cancel = absurd (write object bytes refl)
-asks_nothing (variant.Fill first count len seed) write fill read free sum offline online damage spare replace status detach upgrade rebuild cancel = absurd (fill first count len seed refl)
-asks_nothing (variant.Read object) write fill read free sum offline online damage spare replace status detach upgrade rebuild cancel = absurd (read object refl)
-asks_nothing (variant.Free object) write fill read free sum offline online damage spare replace status detach upgrade rebuild cancel = absurd (free object refl)
-asks_nothing (variant.Sum first count) write fill read free sum offline online damage spare replace status detach upgrade rebuild cancel = absurd (sum first count refl)
-asks_nothing (variant.Offline leaf) write fill read free sum offline online damage spare replace status detach upgrade rebuild cancel = absurd (offline leaf refl)
-asks_nothing (variant.Online leaf) write fill read free sum offline online damage spare replace status detach upgrade rebuild cancel = absurd (online leaf refl)
-asks_nothing (variant.Damage leaf sector) write fill read free sum offline online damage spare replace status detach upgrade rebuild cancel = absurd (damage leaf sector refl)
-asks_nothing (variant.Spare slot number) write fill read free sum offline online damage spare replace status detach upgrade rebuild cancel = absurd (spare slot number refl)
-asks_nothing (variant.Replace slot sectors) write fill read free sum offline online damage spare replace status detach upgrade rebuild cancel = absurd (replace slot sectors refl)
-asks_nothing (variant.Detach arm) write fill read free sum offline online damage spare replace status detach upgrade rebuild cancel = absurd (detach arm refl)
-asks_nothing (variant.Rebuild limit) write fill read free sum offline online damage spare replace status detach upgrade rebuild cancel = absurd (rebuild limit refl)
-asks_nothing (variant.Scrub limit) write fill read free sum offline online damage spare replace status detach upgrade rebuild cancel = refl
-asks_nothing (variant.Rebalance slot) write fill read free sum offline online damage spare replace status detach upgrade rebuild cancel = refl
-asks_nothing (variant.Status form) write fill read free sum offline online damage spare replace status detach upgrade rebuild cancel = absurd (status form refl)
-asks_nothing (variant.Lanes count) write fill read free sum offline online damage spare replace status detach upgrade rebuild cancel = refl
-asks_nothing variant.Upgrade write fill read free sum offline online damage spare replace status detach upgrade rebuild cancel = absurd (upgrade refl)
-asks_nothing (variant.Agent least) write fill read free sum offline online damage spare replace status detach upgrade rebuild cancel = refl
-asks_nothing variant.AgentLog write fill read free sum offline online damage spare replace status detach upgrade rebuild cancel = refl
-asks_nothing variant.Checkpoint write fill read free sum offline online damage spare replace status detach upgrade rebuild cancel = refl
-asks_nothing variant.Rewind write fill read free sum offline online damage spare replace status detach upgrade rebuild cancel = refl
-asks_nothing variant.Discard write fill read free sum offline online damage spare replace status detach upgrade rebuild cancel = refl
+asks_nothing variant.Nothing write fill read free sum offline online damage spare replace status detach upgrade rebuild scrub cancel = refl
+asks_nothing (variant.Create spec children keys) write fill read free sum offline online damage spare replace status detach upgrade rebuild scrub cancel = refl
+asks_nothing variant.Import write fill read free sum offline online damage spare replace status detach upgrade rebuild scrub cancel = refl
+asks_nothing variant.Export write fill read free sum offline online damage spare replace status detach upgrade rebuild scrub cancel = refl
+asks_nothing variant.Sync write fill read free sum offline online damage spare replace status detach upgrade rebuild scrub cancel = refl
+asks_nothing variant.Cancel write fill read free sum offline online damage spare replace status detach upgrade rebuild scrub cancel = absurd (cancel refl)
+asks_nothing variant.Crash write fill read free sum offline online damage spare replace status detach upgrade rebuild scrub cancel = refl
+asks_nothing (variant.Write object bytes) write fill read free sum offline online damage spare replace status detach upgrade rebuild scrub cancel = absurd (write object bytes refl)
+asks_nothing (variant.Fill first count len seed) write fill read free sum offline online damage spare replace status detach upgrade rebuild scrub cancel = absurd (fill first count len seed refl)
+asks_nothing (variant.Read object) write fill read free sum offline online damage spare replace status detach upgrade rebuild scrub cancel = absurd (read object refl)
+asks_nothing (variant.Free object) write fill read free sum offline online damage spare replace status detach upgrade rebuild scrub cancel = absurd (free object refl)
+asks_nothing (variant.Sum first count) write fill read free sum offline online damage spare replace status detach upgrade rebuild scrub cancel = absurd (sum first count refl)
+asks_nothing (variant.Offline leaf) write fill read free sum offline online damage spare replace status detach upgrade rebuild scrub cancel = absurd (offline leaf refl)
+asks_nothing (variant.Online leaf) write fill read free sum offline online damage spare replace status detach upgrade rebuild scrub cancel = absurd (online leaf refl)
+asks_nothing (variant.Damage leaf sector) write fill read free sum offline online damage spare replace status detach upgrade rebuild scrub cancel = absurd (damage leaf sector refl)
+asks_nothing (variant.Spare slot number) write fill read free sum offline online damage spare replace status detach upgrade rebuild scrub cancel = absurd (spare slot number refl)
+asks_nothing (variant.Replace slot sectors) write fill read free sum offline online damage spare replace status detach upgrade rebuild scrub cancel = absurd (replace slot sectors refl)
+asks_nothing (variant.Detach arm) write fill read free sum offline online damage spare replace status detach upgrade rebuild scrub cancel = absurd (detach arm refl)
+asks_nothing (variant.Rebuild limit) write fill read free sum offline online damage spare replace status detach upgrade rebuild scrub cancel = absurd (rebuild limit refl)
+asks_nothing (variant.Scrub limit) write fill read free sum offline online damage spare replace status detach upgrade rebuild scrub cancel = absurd (scrub limit refl)
+asks_nothing (variant.Rebalance slot) write fill read free sum offline online damage spare replace status detach upgrade rebuild scrub cancel = refl
+asks_nothing (variant.Status form) write fill read free sum offline online damage spare replace status detach upgrade rebuild scrub cancel = absurd (status form refl)
+asks_nothing (variant.Lanes count) write fill read free sum offline online damage spare replace status detach upgrade rebuild scrub cancel = refl
+asks_nothing variant.Upgrade write fill read free sum offline online damage spare replace status detach upgrade rebuild scrub cancel = absurd (upgrade refl)
+asks_nothing (variant.Agent least) write fill read free sum offline online damage spare replace status detach upgrade rebuild scrub cancel = refl
+asks_nothing variant.AgentLog write fill read free sum offline online damage spare replace status detach upgrade rebuild scrub cancel = refl
+asks_nothing variant.Checkpoint write fill read free sum offline online damage spare replace status detach upgrade rebuild scrub cancel = refl
+asks_nothing variant.Rewind write fill read free sum offline online damage spare replace status detach upgrade rebuild scrub cancel = refl
+asks_nothing variant.Discard write fill read free sum offline online damage spare replace status detach upgrade rebuild scrub cancel = refl
 
 -- and nothing of the shelf: its command is beyond what is built
 pub is_unbuilt : (line : Line) → (line ≡ variant.Nothing → ⊥)
@@ -144,7 +145,7 @@ is_unbuilt (variant.Spare slot spare) nothing create opens export sync crash non
 is_unbuilt (variant.Replace slot sectors) nothing create opens export sync crash none = absurd (cc none)
 is_unbuilt (variant.Detach arm) nothing create opens export sync crash none = absurd (cc none)
 is_unbuilt (variant.Rebuild limit) nothing create opens export sync crash none = absurd (cc none)
-is_unbuilt (variant.Scrub limit) nothing create opens export sync crash none = tt
+is_unbuilt (variant.Scrub limit) nothing create opens export sync crash none = absurd (cc none)
 is_unbuilt (variant.Rebalance slot) nothing create opens export sync crash none = tt
 is_unbuilt (variant.Status form) nothing create opens export sync crash none = absurd (cc none)
 is_unbuilt (variant.Lanes count) nothing create opens export sync crash none = tt
@@ -216,6 +217,9 @@ module _ {R A : Type 0} (rack : racks.Ghosts R) (area : areas.Ghosts A) (choices
 
   pub replied_cancel : line ≡ variant.Cancel → CarriesOut rack area pool x (CancelSays reply x) → CarriesOut rack area pool x (ReplyDoes x choices (command_in line) reply)
   replied_cancel is = replied_by CancelPasses (CancelSays reply x) (ap command_in is) (λ holds store. cancel_does x choices reply holds store)
+
+  pub replied_scrub : (limit : Option ℕ) → line ≡ variant.Scrub limit → CarriesOut rack area pool x (ScrubSays limit reply x) → CarriesOut rack area pool x (ReplyDoes x choices (command_in line) reply)
+  replied_scrub limit is = replied_by (ScrubPool limit) (ScrubSays limit reply x) (ap command_in is) (λ holds store. scrub_does x choices reply holds store limit)
 
   pub replied_damage : (leaf sector : ℕ) → line ≡ variant.Damage leaf sector → CarriesOut rack area pool x (DamageSays leaf sector reply x) → CarriesOut rack area pool x (ReplyDoes x choices (command_in line) reply)
   replied_damage leaf sector is = replied_by (DamageSector leaf sector) (DamageSays leaf sector reply x) (ap command_in is) (λ holds store. damage_does x choices reply holds store leaf sector)

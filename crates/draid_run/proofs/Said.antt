@@ -5,12 +5,12 @@ use Rattle.std.specs.declared.alloc.Global.{Global}
 use Rattle.draid_names.specs.declared.fault.NoMemory.{NoMemory as Starved}
 use Rattle.draid_names.specs.declared.refusal.ObjectFault.{ObjectFault}
 use Rattle.draid_names.specs.declared.refusal.ObjectFault.TheVariants as object
-use Rattle.draid_script.specs.Line.{AttachSpare, Command, DamageSector, FreeObject, ReadObject, ShowStatus, SumObjects, TakeOffline, TakeOnline, DetachArm, UpgradePool, RebuildPool, ReplaceDisk, CancelPasses}
+use Rattle.draid_script.specs.Line.{AttachSpare, Command, DamageSector, FreeObject, ReadObject, ShowStatus, SumObjects, TakeOffline, TakeOnline, DetachArm, UpgradePool, RebuildPool, ScrubPool, ReplaceDisk, CancelPasses}
 use Rattle.draid_script.specs.declared.name.CommandName.{CommandName}
 use Rattle.draid_script.specs.declared.name.CommandName.TheVariants as name
 use Rattle.draid_script.specs.declared.line.StatusFormat.{StatusFormat}
 use Rattle.draid_reply.specs.declared.reply.Reply.{Reply}
-use Rattle.draid_reply.specs.declared.reply.Reply.TheVariants.{DetachLast, DetachRefused, DetachWorn, Detached, Last, NoMemory, OfflineDone, OfflineRefused, OfflineWorn, OnlineDone, OnlineRefused, OnlineWorn, SpareRefused, SpareWorn, UpgradeAlready, Upgraded, Worn, Replaced, ReplaceRefused, ReplaceWorn, PassThere, Rebuilt, RebuildNothing}
+use Rattle.draid_reply.specs.declared.reply.Reply.TheVariants.{DetachLast, DetachRefused, DetachWorn, Detached, Last, NoMemory, OfflineDone, OfflineRefused, OfflineWorn, OnlineDone, OnlineRefused, OnlineWorn, SpareRefused, SpareWorn, UpgradeAlready, Upgraded, Worn, Replaced, ReplaceRefused, ReplaceWorn, PassThere, Rebuilt, RebuildNothing, Scrubbed}
 use Rattle.draid_session.specs.Choices.{Choices}
 use Rattle.draid_session.specs.Holds.{Hold}
 use Rattle.draid_session.specs.State.{State, Store}
@@ -34,8 +34,8 @@ use Rattle.draid_pool.specs.declared.fault.SyncFault.TheVariants as sync
 use Rattle.draid_changes.specs.declared.fault.ArmFault.{ArmFault}
 use Rattle.draid_changes.specs.declared.fault.ArmFault.TheVariants as arm
 use Rattle.draid_run.specs.Desks.{AnswerDoes, BreaksBy}
-use Rattle.draid_visits.specs.Rebuilding.{RebuildDoes}
-use Rattle.draid_visits.specs.Says.{CancelSays, IsRebuildReply, RebuildSays}
+use Rattle.draid_visits.specs.Rebuilding.{RebuildDoes, ScrubDoes}
+use Rattle.draid_visits.specs.Says.{CancelSays, IsRebuildReply, IsScrubReply, RebuildSays, ScrubSays}
 use Rattle.draid_visits.specs.declared.rebuilding.MendFault.{MendFault}
 use Rattle.draid_visits.specs.declared.rebuilding.MendFault.TheVariants as mending
 use Rattle.draid_visits.specs.declared.rebuilding.Mended.{Mended}
@@ -120,7 +120,7 @@ module _ (x : State) (choices : Choices) (said : Result Reply Failed) (holds : L
       broke (Err failed) is does = does
 
       by : (answer : Result Mended MendFault) → IsRebuildReply answer said → RebuildDoes x limit answer holds store → AnswerDoes x choices (RebuildPool limit) said holds store
-      by (Ok it) is does = replied (Rebuilt it.from it.stripes it.errors it.paused) is does
+      by (Ok it) is does = replied (Rebuilt it.from it.units it.errors it.paused) is does
       by (Err mending.Nothing) is does = replied RebuildNothing is does
       by (Err (mending.PassThere metaslab number)) is does = replied (PassThere name.Rebuild metaslab number) is does
       by (Err mending.Worn) is does = replied (Worn name.Rebuild) is does
@@ -189,6 +189,21 @@ module _ (x : State) (choices : Choices) (reply : Reply) (holds : List Hold) (st
 
   pub cancel_does : CancelSays reply x holds store → ReplyDoes x choices CancelPasses reply holds store
   cancel_does said = subst (λ r. ReplyDoes x choices CancelPasses r holds store) (sym said.1) said.2
+
+  pub scrub_does : (limit : Option ℕ) → ScrubSays limit reply x holds store → ReplyDoes x choices (ScrubPool limit) reply holds store
+  scrub_does limit says = by says.0 says.1 says.2
+    where
+      replied : (other : Reply) → reply ≡ other → ReplyDoes x choices (ScrubPool limit) other holds store → ReplyDoes x choices (ScrubPool limit) reply holds store
+      replied other is does = subst (λ r. ReplyDoes x choices (ScrubPool limit) r holds store) (sym is) does
+
+      by : (answer : Result Mended MendFault) → IsScrubReply answer reply → ScrubDoes x limit answer holds store → ReplyDoes x choices (ScrubPool limit) reply holds store
+      by (Ok it) is does = replied (Scrubbed it.from it.units it.repaired it.errors it.paused) is does
+      by (Err mending.Nothing) is does = absurd is
+      by (Err (mending.PassThere metaslab number)) is does = replied (PassThere name.Scrub metaslab number) is does
+      by (Err mending.Worn) is does = replied (Worn name.Scrub) is does
+      by (Err mending.Last) is does = replied (Last name.Scrub) is does
+      by (Err mending.NoMemory) is does = replied (NoMemory name.Scrub) is does
+      by (Err mending.Shelf) is does = absurd is
 
   pub damage_does : (leaf sector : ℕ) → DamageSays leaf sector reply x holds store → ReplyDoes x choices (DamageSector leaf sector) reply holds store
   damage_does leaf sector said = subst (λ r. ReplyDoes x choices (DamageSector leaf sector) r holds store) (sym said.1) (by said.0 said.2) where

@@ -157,6 +157,7 @@ fn asked(line: &Line) -> Option<CommandName>
         Line::Offline { .. } => Some(CommandName::Offline),
         Line::Online { .. } => Some(CommandName::Online),
         Line::Rebuild { .. } => Some(CommandName::Rebuild),
+        Line::Scrub { .. } => Some(CommandName::Scrub),
         Line::Cancel => Some(CommandName::Cancel),
         Line::Damage { .. } => Some(CommandName::Damage),
         Line::Spare { .. } => Some(CommandName::Spare),

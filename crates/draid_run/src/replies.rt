@@ -2,7 +2,7 @@
 ghost use Rattle.std.specs.Prelude.{◌≡◌, ◌⊎◌, None, IfOk, IsErr};
 ghost use Rattle.std.specs.Fn.{FnReturnsAt};
 ghost use Rattle.draid_choose.specs.Rooms.{IsChooser};
-ghost use Rattle.draid_script.specs.Line.{AttachSpare, RebuildPool, ReplaceDisk, TakeOffline, TakeOnline, DamageSector, FreeObject, IsInRange, ReadObject, ShowStatus, SumObjects, WriteObject, command_in};
+ghost use Rattle.draid_script.specs.Line.{AttachSpare, RebuildPool, ScrubPool, ReplaceDisk, TakeOffline, TakeOnline, DamageSector, FreeObject, IsInRange, ReadObject, ShowStatus, SumObjects, WriteObject, command_in};
 ghost use Rattle.draid_session.specs.Certain.{MakesLeaves};
 ghost use Rattle.draid_session.specs.Choices.{choices_by};
 ghost use Rattle.draid_session.specs.Replies.{IsReplyTo};
@@ -36,7 +36,7 @@ use draid_status::reply_to_status;
 use draid_store::{
     fill, reply_to_damage, reply_to_free, reply_to_read, reply_to_sum, reply_to_write,
 };
-use draid_visits::{reply_to_cancel, reply_to_rebuild};
+use draid_visits::{reply_to_cancel, reply_to_rebuild, reply_to_scrub};
 use std::alloc::Global;
 use std::thread::Threads;
 
@@ -75,6 +75,7 @@ pub(crate) fn reply<R: Rack, A: Area, F: Fn(&[Room]) -> Option<u32>>(
         Line::Offline { leaf } => reply_to_offline(pool, *leaf),
         Line::Online { leaf } => reply_to_online(pool, *leaf),
         Line::Rebuild { limit } => reply_to_rebuild(pool, *limit),
+        Line::Scrub { limit } => Ok(reply_to_scrub(pool, *limit)),
         Line::Cancel => Ok(reply_to_cancel(pool)),
         Line::Damage { leaf, sector } => Ok(reply_to_damage(pool, *leaf, *sector)),
         Line::Replace { slot, sectors } => reply_to_replace(pool, *slot, *sectors),

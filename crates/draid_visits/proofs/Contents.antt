@@ -1,5 +1,5 @@
 -- The blocks of a pool's metaslab have content: each is some write's.
-use Rattle.std.proofs.Common.{◌≡◌, ◌∙◌, ℕ, List, Some, refl, sym, ap, subst, length}
+use Rattle.std.proofs.Common.{◌≡◌, ◌∙◌, ℕ, Some, sym, ap, subst, length}
 use Rattle.std.specs.Prelude.{option_map, slice_get}
 use Rattle.draid_rack.specs.declared.Rack as racks
 use Rattle.draid_area.specs.declared.Area as areas
@@ -10,7 +10,7 @@ use Rattle.draid_machine.specs.declared.names.Held.{Held}
 use Rattle.draid_machine.specs.declared.names.Key.{Key}
 use Rattle.draid_segments.specs.Segments.{Pieces}
 use Rattle.draid_objects.specs.Blocks.{table_of}
-use Rattle.draid_objects.specs.Changes.{Write, key_of, write_by}
+use Rattle.draid_objects.specs.Changes.{Write, key_of}
 use Rattle.draid_objects.proofs.Finding.{write_key}
 use Rattle.draid_shard.specs.Columns.{ArePieces}
 use Rattle.draid_shard.specs.Part.{Part}
@@ -38,7 +38,7 @@ content_by geometry held key write pieces has own len long = record {
 
 module _ {R A : Type 0} (rack : racks.Ghosts R) (area : areas.Ghosts A) where
   -- as many stripes as its bytes take
-  held_long : (part : Part) (pieces : Pieces) (shard : Shard R A) (y : Metaslab) (key : Key) (held : Held) → IsMetaslab rack area part pieces shard y → y.world.core.held key ≡ Some held
+  pub held_long : (part : Part) (pieces : Pieces) (shard : Shard R A) (y : Metaslab) (key : Key) (held : Held) → IsMetaslab rack area part pieces shard y → y.world.core.held key ≡ Some held
       → held.stripes ≡ stripes_of (cut_of part.geometry) held.len
   held_long part pieces shard y key held is at =
       let e : HasEntry shard.entries key held = held_entry shard.entries key held (sym (is.stands.is_in.held key) ∙ at) in

@@ -1,19 +1,18 @@
--- The metaslabs behind which a rebuild of a pool leaves no pass.
-use Rattle.std.proofs.Common.{◌≡◌, ◌<◌, ◌≤◌, ◌+◌, ◌⊎◌, ◌∙◌, inl, inr, ℕ, Bool, true, false, List, Option, Some, None, arith, refl, sym, ap, subst, length, slice_index_or}
+-- The metaslabs behind which a rebuild or a scrub of a pool leaves no pass.
+use Rattle.std.proofs.Common.{◌≡◌, ◌<◌, ◌≤◌, ◌+◌, ◌⊎◌, ◌∙◌, inl, inr, ℕ, Bool, true, false, List, Option, Some, None, arith, sym, ap, subst, length, slice_index_or}
 use Rattle.std.specs.Prelude.{IfSome, IsSome, slice_get}
 use Rattle.std.proofs.lemmas.Bool.{cases_eq, true≢false}
 use Rattle.std.proofs.lemmas.Option.{slice_get_within}
-use Rattle.draid_names.specs.declared.pass_kind.PassKind.TheVariants.{Rebuild}
+use Rattle.draid_names.specs.declared.pass_kind.PassKind.{PassKind}
 use Rattle.draid_pass.specs.declared.pass.Pass.{Pass}
 use Rattle.draid_shard.specs.declared.shard.Shard.{Shard}
 use Rattle.draid_pool.specs.declared.pool.Pool.{Pool}
-use Rattle.draid_pool.proofs.Lists.{present, some_of}
+use Rattle.draid_pool.proofs.Lists.{present}
 use Rattle.draid_pool.specs.Passes.{KeepsPass}
-use Rattle.draid_mend.specs.Loans.{IsRunningRebuild}
-use Rattle.draid_visits.specs.Visiting.{AreAll, AreMarks, BeganAt, HasMark, IsAt, IsNoScrub, KeepsOthers, NoPasses, RunsRebuild}
+use Rattle.draid_visits.specs.Steps.{IsRunningOf}
+use Rattle.draid_visits.specs.Visiting.{AreAll, AreToVisit, BeganAt, HasMark, IsAt, IsOnly, KeepsOthers, NoPasses, RunsPass}
 use Rattle.draid_visits.specs.declared.progress.Progress.{Progress}
 use Rattle.draid_visits.specs.declared.progress.Visit.TheVariants as visit
-use Rattle.draid_visits.proofs.Found.{no_pass}
 use Rattle.draid_visits.proofs.Kept.{none_kept}
 
 -- none of the first so many is marked
@@ -30,17 +29,17 @@ none_more marks m none here k less = elim (cases_eq k m) [
   | inr other ↦ none k (omega (arith, less, other))
 ]
 
--- what isn't a scrub stays none
-scrub_kept : (a b : Option Pass) → KeepsPass a b → IfSome a (λ (p : Pass). p.kind ≡ Rebuild) → IfSome b (λ (p : Pass). p.kind ≡ Rebuild)
-scrub_kept None None keeps none = none
-scrub_kept None (Some q) keeps none = absurd keeps
-scrub_kept (Some p) None keeps none = tt
-scrub_kept (Some p) (Some q) keeps none = keeps.kind_is ∙ none
+-- a pass stays of its kind
+kind_kept : (kind : PassKind) (a b : Option Pass) → KeepsPass a b → IfSome a (λ (p : Pass). p.kind ≡ kind) → IfSome b (λ (p : Pass). p.kind ≡ kind)
+kind_kept kind None None keeps none = none
+kind_kept kind None (Some q) keeps none = absurd keeps
+kind_kept kind (Some p) None keeps none = tt
+kind_kept kind (Some p) (Some q) keeps none = keeps.kind_is ∙ none
 
 module _ {R A : Type 0} where
-  pub idle_first : (marks : List Bool) (pool : Pool R A) → AreAll pool IsNoScrub → AreMarks pool marks → IsIdleUpto marks 0 pool
-  idle_first marks pool alone are k shard there (inl less) = absurd (omega (arith, less))
-  idle_first marks pool alone are k shard there (inr none) = no_pass shard (alone k shard there) ((are k shard there).none none)
+  pub idle_first : (kind : PassKind) (marks : List Bool) (pool : Pool R A) → AreToVisit kind pool marks → IsIdleUpto marks 0 pool
+  idle_first kind marks pool are k shard there (inl less) = absurd (omega (arith, less))
+  idle_first kind marks pool are k shard there (inr none) = (are k shard there).none none
 
   -- it isn't marked
   pub idle_passed : (marks : List Bool) (m : ℕ) (pool : Pool R A) → slice_index_or marks m false ≡ false → IsIdleUpto marks m pool → IsIdleUpto marks (m + 1) pool
@@ -68,13 +67,13 @@ module _ {R A : Type 0} where
       earlier (inl less) apart = elim (cases_eq k m) [ inl same ↦ absurd (apart same) | inr other ↦ inl (omega (arith, less, other)) ]
       earlier (inr own) apart = inr own
 
-  -- none of the others has a scrub then
-  no_pass_no_scrub : (shard : Shard R A) → shard.pass ≡ None → IsNoScrub shard
-  no_pass_no_scrub shard none = subst (λ o. IfSome o (λ (p : Pass). p.kind ≡ Rebuild)) (sym none) tt
+  -- and none a pass of another kind
+  no_pass_only : (kind : PassKind) (shard : Shard R A) → shard.pass ≡ None → IsOnly kind shard
+  no_pass_only kind shard none = subst (λ o. IfSome o (λ (p : Pass). p.kind ≡ kind)) (sym none) tt
 
   -- one that paused runs
-  pub runs_there : (pool : Pool R A) (m : ℕ) → m < length pool.metaslabs.shards.items → IsAt pool m (λ shard. (pass : Pass) × (shard.pass ≡ Some pass) × IsRunningRebuild pass) → RunsRebuild pool
-  runs_there pool m inside runs =
+  pub runs_there : (kind : PassKind) (pool : Pool R A) (m : ℕ) → m < length pool.metaslabs.shards.items → IsAt pool m (λ shard. (pass : Pass) × (shard.pass ≡ Some pass) × IsRunningOf kind pass) → RunsPass kind pool
+  runs_there kind pool m inside runs =
       let z = present pool.metaslabs.shards.items m inside in
       let own = runs z.0 z.1 in
       record { metaslab = m; shard = z.0; there = z.1; pass = own.0; has = own.1; runs = own.2 }
@@ -89,13 +88,13 @@ module _ {R A : Type 0} where
   began_all marks m old pool p end has (inr none) = absurd (true≢false (sym has.is ∙ none.1 has.metaslab (let inside = has.inside in omega (arith, inside, end))))
 
   -- the first that is marked begins
-  pub began_more : (marks : List Bool) (m : ℕ) (old pool : Pool R A) (was now : Progress) → m < length old.metaslabs.shards.items → AreMarks old marks → slice_index_or marks m false ≡ true
-      → IsSome was.from ⊎ ((pool ≡ old) × NoneUpto marks m) → BeganAt pool m was visit.Over now → (IsSome was.from → IsSome now.from) → IsSome now.from
-  began_more marks m old pool was now inside are mark before (inl some) on = some
-  began_more marks m old pool was now inside are mark (inl some) (inr none) on = on some
-  began_more marks m old pool was now inside are mark (inr same) (inr none) on =
+  pub began_more : (kind : PassKind) (marks : List Bool) (m : ℕ) (old pool : Pool R A) (was now : Progress) → m < length old.metaslabs.shards.items → AreToVisit kind old marks → slice_index_or marks m false ≡ true
+      → IsSome was.from ⊎ ((pool ≡ old) × NoneUpto marks m) → BeganAt kind pool m was visit.Over now → (IsSome was.from → IsSome now.from) → IsSome now.from
+  began_more kind marks m old pool was now inside are mark before (inl some) on = some
+  began_more kind marks m old pool was now inside are mark (inl some) (inr none) on = on some
+  began_more kind marks m old pool was now inside are mark (inr same) (inr none) on =
       let z = present old.metaslabs.shards.items m inside in
-      absurd (none.1 z.0 (ap (λ (q : Pool R A). slice_get q.metaslabs.shards.items m) same.0 ∙ z.1) ((are m z.0 z.1).some mark))
+      absurd (none.2 z.0 (ap (λ (q : Pool R A). slice_get q.metaslabs.shards.items m) same.0 ∙ z.1) ((are m z.0 z.1).some mark none.1))
 
   -- this one isn't
   pub began_passed : (marks : List Bool) (m : ℕ) (old pool : Pool R A) (p : Progress) → slice_index_or marks m false ≡ false → IsSome p.from ⊎ ((pool ≡ old) × NoneUpto marks m)
@@ -103,11 +102,11 @@ module _ {R A : Type 0} where
   began_passed marks m old pool p none (inl some) = inl some
   began_passed marks m old pool p none (inr before) = inr (before.0, none_more marks m before.1 none)
 
-  pub alone_visited : (m : ℕ) (old new : Pool R A) → length new.metaslabs.shards.items ≡ length old.metaslabs.shards.items → KeepsOthers m old new → IsAt new m (λ shard. shard.pass ≡ None)
-      → AreAll old IsNoScrub → AreAll new IsNoScrub
-  alone_visited m old new many others none alone k shard there = elim (cases_eq k m) [
-    | inl same ↦ no_pass_no_scrub shard (none shard (subst (λ j. slice_get new.metaslabs.shards.items j ≡ Some shard) same there))
+  pub alone_visited : (kind : PassKind) (m : ℕ) (old new : Pool R A) → length new.metaslabs.shards.items ≡ length old.metaslabs.shards.items → KeepsOthers m old new → IsAt new m (λ shard. shard.pass ≡ None)
+      → AreAll old (IsOnly kind) → AreAll new (IsOnly kind)
+  alone_visited kind m old new many others none alone k shard there = elim (cases_eq k m) [
+    | inl same ↦ no_pass_only kind shard (none shard (subst (λ j. slice_get new.metaslabs.shards.items j ≡ Some shard) same there))
     | inr other ↦
         let z = before_in old new k shard many there in
-        scrub_kept z.0.pass shard.pass (others k z.0 shard (λ same. omega (arith, same, other)) z.1 there) (alone k z.0 z.1)
+        kind_kept kind z.0.pass shard.pass (others k z.0 shard (λ same. omega (arith, same, other)) z.1 there) (alone k z.0 z.1)
   ]

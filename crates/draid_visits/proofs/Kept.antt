@@ -1,17 +1,16 @@
 -- The passes of a pool's metaslabs as one of them changes, or as a group is committed.
-use Rattle.std.proofs.Common.{◌≡◌, ◌<◌, ◌≤◌, ◌+◌, ◌-◌, ◌^◌, ◌∙◌, inl, inr, ℕ, zero, suc, List, Option, Some, None, arith, refl, sym, ap, subst, length, slice_set}
+use Rattle.std.proofs.Common.{◌≡◌, ◌<◌, ◌≤◌, ◌+◌, ◌-◌, ◌^◌, ◌∙◌, ℕ, zero, suc, Option, Some, None, arith, refl, sym, ap, subst, length, ◌*◌}
 use Rattle.std.specs.Prelude.{IsSomeAnd, slice_get}
-use Rattle.std.proofs.lemmas.Bool.{cases_eq}
 use Rattle.std.proofs.lemmas.Option.{slice_get_within}
 use Rattle.draid_rack.specs.declared.Rack as racks
 use Rattle.draid_area.specs.declared.Area as areas
 use Rattle.draid_names.specs.declared.numbers.TheConstants.{LAST_NUMBER}
+use Rattle.draid_names.specs.declared.pass_kind.PassKind.{PassKind}
 use Rattle.draid_names.specs.declared.pass_kind.PassKind.TheVariants.{Rebuild}
 use Rattle.draid_spec.specs.declared.layout.Geometry.{Geometry}
 use Rattle.draid_spec.specs.Geometry.{metaslab_stripes}
 use Rattle.draid_pass.specs.declared.pass.Pass.{Pass}
 use Rattle.draid_shard.specs.declared.shard.Shard.{Shard}
-use Rattle.draid_mend.specs.Loans.{IsRunningRebuild}
 use Rattle.draid_session.specs.Passes as passes
 use Rattle.draid_pool.specs.Pools.{group_in}
 use Rattle.draid_pool.specs.Whole.{IsWhole}
@@ -19,8 +18,8 @@ use Rattle.draid_pool.specs.declared.pool.Pool.{Pool}
 use Rattle.draid_pool.proofs.Lifted.{SetsShard}
 use Rattle.draid_pool.proofs.Lists.{get_set_other, get_set_same, present, some_of}
 use Rattle.draid_pool.proofs.Wholes.{open_high, whole_geometry}
-use Rattle.draid_pool.specs.Passes.{IsSamePass, KeepsPass, KeepsPasses}
-use Rattle.draid_visits.specs.Steps.{MovesOn}
+use Rattle.draid_pool.specs.Passes.{KeepsPass, KeepsPasses}
+use Rattle.draid_visits.specs.Steps.{IsRunningOf, MovesOn}
 use Rattle.draid_visits.specs.Visiting.{IsAt, IsLeft, IsLow, KeepsOthers}
 use Rattle.draid_visits.specs.declared.progress.Progress.{Progress}
 use Rattle.draid_visits.proofs.Lending.{counted}
@@ -119,14 +118,14 @@ start_few pool m p = less_all (metaslab_stripes pool.geometry) (place_in (slice_
     less_all : (most a n : ℕ) → n + (most - a) ≤ n + most
     less_all most a n = omega arith
 
--- the rebuild runs still
-pub runs_on : {R A : Type 0} (old new : Shard R A) → MovesOn old new → IsSomeAnd new.pass IsRunningRebuild
-runs_on old new moves = subst (λ o. IsSomeAnd o IsRunningRebuild) (sym moves.new_pass) moves.runs
+-- the pass runs still
+pub runs_on : {R A : Type 0} (kind : PassKind) (old new : Shard R A) → MovesOn kind old new → IsSomeAnd new.pass (IsRunningOf kind)
+runs_on kind old new moves = subst (λ o. IsSomeAnd o (IsRunningOf kind)) (sym moves.new_pass) moves.runs
 
-pub runs_kept : {R A : Type 0} (old new : Shard R A) → new.pass ≡ old.pass → IsSomeAnd old.pass IsRunningRebuild → (pass : Pass) × (new.pass ≡ Some pass) × IsRunningRebuild pass
-runs_kept old new same runs = by new.pass refl (subst (λ o. IsSomeAnd o IsRunningRebuild) (sym same) runs)
+pub runs_kept : {R A : Type 0} (kind : PassKind) (old new : Shard R A) → new.pass ≡ old.pass → IsSomeAnd old.pass (IsRunningOf kind) → (pass : Pass) × (new.pass ≡ Some pass) × IsRunningOf kind pass
+runs_kept kind old new same runs = by new.pass refl (subst (λ o. IsSomeAnd o (IsRunningOf kind)) (sym same) runs)
   where
-    by : (o : Option Pass) → new.pass ≡ o → IsSomeAnd o IsRunningRebuild → (pass : Pass) × (new.pass ≡ Some pass) × IsRunningRebuild pass
+    by : (o : Option Pass) → new.pass ≡ o → IsSomeAnd o (IsRunningOf kind) → (pass : Pass) × (new.pass ≡ Some pass) × IsRunningOf kind pass
     by None is runs = absurd runs
     by (Some p) is runs = (p, is, runs)
 
@@ -134,9 +133,9 @@ less_left : (most a b : ℕ) → a < b → b ≤ most → most - b + 1 ≤ most 
 less_left most a b less inside = omega (arith, less, inside)
 
 module _ {R A : Type 0} (rack : racks.Ghosts R) (area : areas.Ghosts A) where
-  -- a stripe landed
-  pub fewer_left : (m : ℕ) (old new : Pool R A) (shard shard' : Shard R A) → SetsShard rack area m old new shard shard' → IsWhole rack area new → MovesOn shard shard' → stripes_left new m + 1 ≤ stripes_left old m
-  fewer_left m old new shard shard' set w moves =
+  -- a stripe or a block landed
+  pub fewer_left : (kind : PassKind) (m : ℕ) (old new : Pool R A) (shard shard' : Shard R A) → SetsShard rack area m old new shard shard' → IsWhole rack area new → MovesOn kind shard shard' → stripes_left new m + 1 ≤ stripes_left old m
+  fewer_left kind m old new shard shard' set w moves =
       let there = set_there rack area m old new shard shard' set in
       let before : place_in (slice_get old.metaslabs.shards.items m) ≡ moves.was.«at» = ap place_in set.there ∙ ap place_of moves.old_pass in
       let after : place_in (slice_get new.metaslabs.shards.items m) ≡ moves.pass.«at» = ap place_in there ∙ ap place_of moves.new_pass in
@@ -147,15 +146,22 @@ module _ {R A : Type 0} (rack : racks.Ghosts R) (area : areas.Ghosts A) where
 
 -- ---- what was done so far
 
-pub low_after : (m : ℕ) (was now : Progress) (left most : ℕ) → IsLow m was → now.stripes + left ≤ was.stripes + most → most ≤ 2 ^ 28 → now.errors ≤ was.errors + LAST_NUMBER → IsLow (m + 1) now
-low_after m was now left most low few bound errors =
-    record { stripes = (let all = low.stripes in omega (arith, all, few, bound)); errors = (let all = low.errors in omega (arith, all, errors)) }
+pub low_after : (m : ℕ) (was now : Progress) (left most : ℕ) → IsLow m was → now.stripes + left ≤ was.stripes + most → most ≤ 2 ^ 28 → now.repaired ≤ now.stripes * 2 ^ 8 → now.errors ≤ was.errors + LAST_NUMBER → IsLow (m + 1) now
+low_after m was now left most low few bound rewritten errors =
+    record { stripes = (let all = low.stripes in omega (arith, all, few, bound)); repaired = rewritten; errors = (let all = low.errors in omega (arith, all, errors)) }
 
 pub low_upto : (m : ℕ) (now : Progress) → IsLow m now → IsLow (m + 1) now
-low_upto m now low = record { stripes = (let all = low.stripes in omega (arith, all)); errors = (let all = low.errors in omega (arith, all)) }
+low_upto m now low = record { stripes = (let all = low.stripes in omega (arith, all)); repaired = low.repaired; errors = (let all = low.errors in omega (arith, all)) }
 
 pub room_for : (m : ℕ) (was now : Progress) (left most : ℕ) → IsLow m was → now.stripes + left ≤ was.stripes + most → most ≤ 2 ^ 28 → m < 64 → now.stripes + 1 < 2 ^ 64
 room_for m was now left most low few bound less = (let all = low.stripes in omega (arith, all, few, bound, less))
+
+pub rewritten_fits : (m : ℕ) (was now : Progress) (left most repaired : ℕ) → IsLow m was → now.stripes + left ≤ was.stripes + most → most ≤ 2 ^ 28 → m < 64 → now.repaired ≤ now.stripes * 2 ^ 8 → repaired ≤ 2 ^ 8
+    → now.repaired + repaired < 2 ^ 64
+rewritten_fits m was now left most repaired low few bound less upto one = (let all = low.stripes in omega (arith, all, few, bound, less, upto, one))
+
+pub rewritten_more : (stripes before repaired : ℕ) → before ≤ stripes * 2 ^ 8 → repaired ≤ 2 ^ 8 → before + repaired ≤ (stripes + 1) * 2 ^ 8
+rewritten_more stripes before repaired upto one = omega (arith, upto, one)
 
 pub errors_fit : (m : ℕ) (was : Progress) (errors : ℕ) → IsLow m was → errors ≤ LAST_NUMBER → m < 64 → was.errors + errors < 2 ^ 64
 errors_fit m was errors low bound less = (let all = low.errors in omega (arith, all, bound, less))
@@ -164,10 +170,10 @@ pub left_same : (limit : Option ℕ) (was now : Progress) → now.left ≡ was.l
 left_same None was now left stripes is = left ∙ is
 left_same (Some n) was now left stripes (k, own, all) = (k, left ∙ own, ap (λ s. s + k) stripes ∙ all)
 
-pub left_counted : (limit : Option ℕ) (was now : Progress) → (was.left ≡ Some 0 → ⊥) → now ≡ counted was → IsLeft limit was → IsLeft limit now
-left_counted limit was now some is left = subst (IsLeft limit) (sym is) (by limit left)
+pub left_counted : (limit : Option ℕ) (repaired : ℕ) (was now : Progress) → (was.left ≡ Some 0 → ⊥) → now ≡ counted repaired was → IsLeft limit was → IsLeft limit now
+left_counted limit repaired was now some is left = subst (IsLeft limit) (sym is) (by limit left)
   where
-    by : (o : Option ℕ) → IsLeft o was → IsLeft o (counted was)
+    by : (o : Option ℕ) → IsLeft o was → IsLeft o (counted repaired was)
     by None none = ap passes.one_less none
     by (Some n) (zero, own, all) = absurd (some own)
     by (Some n) (suc k, own, all) = (k, ap passes.one_less own ∙ one_back k, omega (arith, all))

@@ -1,5 +1,5 @@
 -- The landing of a loan in a pool's metaslab, where the rack did what its event says in the state that the shard stands for.
-use Rattle.std.proofs.Common.{◌++◌, ◌∙◌, [], ◌∷◌, Option, Some, None, arith, refl, sym, ap, subst}
+use Rattle.std.proofs.Common.{◌≡◌, ◌++◌, ◌∙◌, [], ◌∷◌, Option, Some, None, arith, refl, sym, ap, subst}
 use Rattle.draid_rack.specs.Rack.{OnBothTold, OnTold, Told}
 use Rattle.draid_rack.specs.declared.Rack as racks
 use Rattle.draid_area.specs.declared.Area as areas
@@ -18,9 +18,10 @@ use Rattle.draid_shard.specs.Stands.{StandsFor}
 use Rattle.draid_shard.specs.States.{Does, Leads, layout_by, part_of}
 use Rattle.draid_shard.specs.declared.shard.Shard.{Shard}
 use Rattle.draid_shard.proofs.Standing.{has_layout, reached_more}
-use Rattle.draid_session.specs.Follows.{CountsRise, HarmBoth, HarmBy, failed_in}
+use Rattle.draid_session.specs.Follows.{CountsRise, HarmBoth, HarmBy, failed_in, uses}
 use Rattle.draid_session.specs.State.{Metaslab}
 use Rattle.draid_pool.specs.Metaslabs.{IsMetaslab, counts_of, harm_of}
+use Rattle.draid_pool.specs.Shards.{KeepsImages}
 use Rattle.draid_pool.proofs.Dids as dids
 use Rattle.draid_pool.proofs.Dids.{Raises, records_same, run_push}
 use Rattle.draid_pool.proofs.Imaged.{records_kept}
@@ -48,26 +49,38 @@ harm_by l w v e step pieces (Some x) (Some y) h = record {
 
 module _ {R A : Type 0} (rack : racks.Ghosts R) (area : areas.Ghosts A) where
   -- what the rack did in a state
-  abbrev ActsAt : Shard R A → Shard R A → Event → machine.State → Pieces → Type 0
-  ActsAt old new e w pieces =
-      (after : machine.State) (step : Step (layout_by old) w e after) → OnBothTold (rack.told old.rack) (rack.told new.rack) (segments.Acts (layout_by old) w e after step pieces)
+  abbrev pub ActsAt : Shard R A → Shard R A → Event → machine.State → Pieces → Type 0
+  ActsAt old new e w written =
+      (after : machine.State) (step : Step (layout_by old) w e after) → OnBothTold (rack.told old.rack) (rack.told new.rack) (segments.Acts (layout_by old) w e after step written)
 
-  stands_on : (pieces : Pieces) (old new : Shard R A) (e : Event) (w : machine.State) → StandsFor rack old w pieces → Valid rack old → IsOfRebuild e → (does : Does old new e) (next : Leads (layout_by old) w e new) → ActsAt old new e w pieces
-      → StandsFor rack new next.state pieces
-  stands_on pieces old new e w stands valid of does next acts =
+  -- it wrote the pieces of the blocks that there are, but for that of a scrub
+  abbrev pub WritesAt : Shard R A → Event → machine.State → Pieces → Pieces → Type 0
+  WritesAt old e w pieces written = (after : machine.State) (step : Step (layout_by old) w e after) → segments.WritesPieces (layout_by old) w e after step pieces written
+
+  -- the metaslab behind it, with the pieces that its blocks have then
+  pub record Lands (part : Part) (pieces written : Pieces) (new : Shard R A) (e : Event) (x : Metaslab) : Type 0 where
+    pub later : Pieces
+    pub after : machine.State
+    pub step : Step (layout_in part) x.world e after
+    pub is : later ≡ segments.pieces_after (layout_in part) x.world e after step pieces written
+    pub done : dids.Done rack area part later new e x
+
+  stands_on : (pieces written : Pieces) (old new : Shard R A) (e : Event) (w : machine.State) → StandsFor rack old w pieces → Valid rack old → (does : Does old new e) (next : Leads (layout_by old) w e new) → ActsAt old new e w written
+      → WritesAt old e w pieces written → StandsFor rack new next.state (segments.pieces_after (layout_by old) w e next.state next.step pieces written)
+  stands_on pieces written old new e w stands valid does next acts writes =
       let l = layout_by old in
       record {
         is_in = next.is_in;
         reached = subst (λ part. IsReached (layout_in part) next.state) (sym does.part) (reached_more l w next.state e stands.reached next.step);
-        segments = subst (λ part. OnTold (rack.told new.rack) (Backed (layout_in part) pieces next.state)) (sym does.part)
-            (told_on (rack.told old.rack) (rack.told new.rack) (segments.Acts l w e next.state next.step pieces) (Backed l pieces w) (Backed l pieces next.state)
-            (λ a b act backed. subst (λ q. Backed l q next.state b) (same_pieces l w next.state e next.step pieces of)
-            (event_backed l (has_layout (part_of old) valid.part) w stands.reached pieces a b pieces backed e next.state next.step act (λ key none. refl))) (acts next.state next.step) stands.segments);
+        segments = subst (λ part. OnTold (rack.told new.rack) (Backed (layout_in part) (segments.pieces_after l w e next.state next.step pieces written) next.state)) (sym does.part)
+            (told_on (rack.told old.rack) (rack.told new.rack) (segments.Acts l w e next.state next.step written) (Backed l pieces w) (Backed l (segments.pieces_after l w e next.state next.step pieces written) next.state)
+            (λ a b act backed. event_backed l (has_layout (part_of old) valid.part) w stands.reached written a b pieces backed e next.state next.step act (writes next.state next.step)) (acts next.state next.step) stands.segments);
       }
 
-  landed_here : (pieces : Pieces) (old new : Shard R A) (e : Event) (x : Metaslab) → IsMetaslab rack area (part_of old) pieces old x → Valid rack new → Does old new e → SameReserve old new
-      → Raises rack area (failed_in e) old new → IsOfRebuild e → ActsAt old new e x.world pieces → dids.Done rack area (part_of old) pieces new e x
-  landed_here pieces old new e x is valid does reserve raises of acts =
+  landed_here : (pieces written : Pieces) (old new : Shard R A) (e : Event) (x : Metaslab) → IsMetaslab rack area (part_of old) pieces old x → Valid rack new → Does old new e → SameReserve old new
+      → Raises rack area (failed_in e) old new → uses x.world e ≡ 0 → ((v : machine.State) → Step (layout_by old) x.world e v → KeepsImages x.world v) → ActsAt old new e x.world written
+      → WritesAt old e x.world pieces written → Lands (part_of old) pieces written new e x
+  landed_here pieces written old new e x is valid does reserve raises none keeps acts writes =
       let l = layout_by old in
       let next : Leads l x.world e new = does.leads x.world is.stands.reached is.stands.is_in in
       let v = next.state in
@@ -80,34 +93,48 @@ module _ {R A : Type 0} (rack : racks.Ghosts R) (area : areas.Ghosts A) where
         harm = harm_of (rack.told new.rack);
       } in
       record {
-        reached = reached;
+        later = segments.pieces_after l x.world e v next.step pieces written;
+        after = v;
         step = next.step;
-        acts = record {
-          opened = refl;
-          stored = refl;
-          legal = next.step;
-          world = refl;
-          reserved = (let same = reserve.reserved in let none = no_uses x.world e of in let was = is.reserved in omega (arith, same, none, was));
-          counts = subst (λ n. CountsRise x.world v (failed_in e) n (counts_of rack area new)) (sym is.counts) (rises rack area (failed_in e) old new x.world v raises);
-          harm = subst (λ h. HarmBoth h (harm_of (rack.told new.rack)) (HarmBy l x.world e v)) (sym is.harm) (harm_by l x.world v e next.step pieces (rack.told old.rack) (rack.told new.rack) (acts v next.step));
-        };
-        is = record {
-          valid = valid;
-          part_is = does.part;
-          stands = stands_on pieces old new e x.world is.stands is.valid of does next acts;
-          run = run_push l x.opened x.world v x.events e is.run next.step;
-          events = ap (λ es. es ++ e ∷ []) is.events ∙ sym does.stored;
-          limit = reserve.limit ∙ is.limit;
-          reserved = refl;
-          counts = refl;
-          harm = refl;
-          records = records_kept (part_of old) x.world v (area.told new.even) (area.told new.odd) (rebuild_leaves l x.world v e next.step of).images
-              (records_same rack area (part_of old) x.world old new raises.areas_are is.records);
+        is = refl;
+        done = record {
+          reached = reached;
+          step = next.step;
+          acts = record {
+            opened = refl;
+            stored = refl;
+            legal = next.step;
+            world = refl;
+            reserved = (let same = reserve.reserved in let was = is.reserved in omega (arith, same, none, was));
+            counts = subst (λ n. CountsRise x.world v (failed_in e) n (counts_of rack area new)) (sym is.counts) (rises rack area (failed_in e) old new x.world v raises);
+            harm = subst (λ h. HarmBoth h (harm_of (rack.told new.rack)) (HarmBy l x.world e v)) (sym is.harm) (harm_by l x.world v e next.step written (rack.told old.rack) (rack.told new.rack) (acts v next.step));
+          };
+          is = record {
+            valid = valid;
+            part_is = does.part;
+            stands = stands_on pieces written old new e x.world is.stands is.valid does next acts writes;
+            run = run_push l x.opened x.world v x.events e is.run next.step;
+            events = ap (λ es. es ++ e ∷ []) is.events ∙ sym does.stored;
+            limit = reserve.limit ∙ is.limit;
+            reserved = refl;
+            counts = refl;
+            harm = refl;
+            records = records_kept (part_of old) x.world v (area.told new.even) (area.told new.odd) (keeps v next.step) (records_same rack area (part_of old) x.world old new raises.areas_are is.records);
+          };
         };
       }
 
-  -- the metaslab behind such an event
+  -- the metaslab behind a landing
+  pub landed_to : (part : Part) (pieces written : Pieces) (old new : Shard R A) (e : Event) (x : Metaslab) → IsMetaslab rack area part pieces old x → Valid rack new → Does old new e → SameReserve old new
+      → Raises rack area (failed_in e) old new → uses x.world e ≡ 0 → ((v : machine.State) → Step (layout_by old) x.world e v → KeepsImages x.world v) → ActsAt old new e x.world written
+      → WritesAt old e x.world pieces written → Lands part pieces written new e x
+  landed_to part pieces written old new e x is valid does reserve raises none keeps acts writes =
+      subst (λ p. IsMetaslab rack area p pieces old x → Lands p pieces written new e x) is.part_is (λ here. landed_here pieces written old new e x here valid does reserve raises none keeps acts writes) is
+
+  -- one that leaves the pieces
   pub landed_at : (part : Part) (pieces : Pieces) (old new : Shard R A) (e : Event) (x : Metaslab) → IsMetaslab rack area part pieces old x → Valid rack new → Does old new e → SameReserve old new
       → Raises rack area (failed_in e) old new → IsOfRebuild e → ActsAt old new e x.world pieces → dids.Done rack area part pieces new e x
   landed_at part pieces old new e x is valid does reserve raises of acts =
-      subst (λ p. IsMetaslab rack area p pieces old x → dids.Done rack area p pieces new e x) is.part_is (λ here. landed_here pieces old new e x here valid does reserve raises of acts) is
+      let z : Lands part pieces pieces new e x
+      = landed_to part pieces pieces old new e x is valid does reserve raises (no_uses x.world e of) (λ v step. (rebuild_leaves (layout_by old) x.world v e step of).images) acts (λ after step key other. refl) in
+      subst (λ q. dids.Done rack area part q new e x) (z.is ∙ same_pieces (layout_in part) x.world z.after e z.step pieces of) z.done

@@ -1,6 +1,5 @@
 -- How the holds of a command's steps follow one another, and what they come to.
-use Rattle.std.proofs.Common.{◌≡◌, ◌++◌, [], ℕ, List, Some, refl, sym, subst}
-use Rattle.std.specs.Prelude.{slice_get}
+use Rattle.std.proofs.Common.{◌≡◌, ◌++◌, [], ℕ, List, refl, sym, subst}
 use Rattle.std.proofs.lemmas.List.{append_assoc}
 use Rattle.draid_rack.specs.declared.Rack as racks
 use Rattle.draid_area.specs.declared.Area as areas
@@ -17,10 +16,12 @@ use Rattle.draid_pool.specs.Metaslabs.{IsMetaslab}
 use Rattle.draid_pool.specs.Pools.{Represents, part_in}
 use Rattle.draid_pool.specs.Shards.{Goes, SameBlocks}
 use Rattle.draid_pool.specs.declared.pool.Pool.{Pool}
-use Rattle.draid_pool.proofs.Lifted.{HasMetaslab, SetsShard, carries, metaslab_of}
+use Rattle.draid_pool.proofs.Lifted.{HasMetaslab, SetsShard, metaslab_of}
 use Rattle.draid_pool.proofs.Steps.{carried, follows_on, own_of, same_layout, settled}
+use Rattle.draid_visits.specs.Pieces.{GoesTo}
 use Rattle.draid_visits.specs.Steps.{HasContents}
 use Rattle.draid_visits.proofs.Contents.{contents_of}
+use Rattle.draid_visits.proofs.Lifting.{carries_to, goes_to}
 
 -- what is said of some holds, by what the pool's layout is
 abbrev pub Says : Type 1
@@ -91,11 +92,18 @@ module _ {R A : Type 0} (rack : racks.Ghosts R) (area : areas.Ghosts A) where
       let c : CarriesOut rack area new x (Does x (S x.geometry x.perms)) = step x r in
       record { holds = c.holds; reached = c.reached; store = c.store; follows = c.follows; done = (c.done.0, how x.geometry x.perms c.holds c.done.1); represents = c.represents }
 
-  -- a call of one metaslab
+  -- a call of one metaslab, behind which its blocks may have other pieces
+  pub steps_to : (m : ℕ) (old new : Pool R A) (shard shard' : Shard R A) (S : Part → List Hold → Type 0) → SetsShard rack area m old new shard shard'
+      → ((part : Part) (pieces : Pieces) (y : Metaslab) → IsMetaslab rack area part pieces shard y → HasContents part pieces y
+      → GoesTo rack area part pieces y shard' (λ holds z. S part holds × SameBlocks y z)) → Steps old new (λ g p holds. S (record { geometry = g; perms = p; number = m }) holds)
+  steps_to m old new shard shard' S set goes x r =
+      let z : HasMetaslab rack area old x r.stands m shard = metaslab_of rack area old x r.stands m shard set.there in
+      carries_to rack area m old new shard shard' x z.y (λ holds v. S (part_in x m) holds × SameBlocks z.y v) (Does x (S (part_in x m))) r set z.at
+      (goes (part_in x m) (r.stands.pieces m) z.y z.is (contents_of rack area old x r m shard z.y z.at z.is)) (λ holds v d. (d.1, (refl, d.0)))
+
+  -- and one that leaves them
   pub steps_in : (m : ℕ) (old new : Pool R A) (shard shard' : Shard R A) (S : Part → List Hold → Type 0) → SetsShard rack area m old new shard shard'
       → ((part : Part) (pieces : Pieces) (y : Metaslab) → IsMetaslab rack area part pieces shard y → HasContents part pieces y
       → Goes rack area part pieces y shard' (λ holds z. S part holds × SameBlocks y z)) → Steps old new (λ g p holds. S (record { geometry = g; perms = p; number = m }) holds)
-  steps_in m old new shard shard' S set goes x r =
-      let z : HasMetaslab rack area old x r.stands m shard = metaslab_of rack area old x r.stands m shard set.there in
-      carries rack area m old new shard shard' x z.y (λ holds v. S (part_in x m) holds × SameBlocks z.y v) (Does x (S (part_in x m))) r set z.at
-      (goes (part_in x m) (r.stands.pieces m) z.y z.is (contents_of rack area old x r m shard z.y z.at z.is)) (λ holds v d. (d.1, (refl, d.0)))
+  steps_in m old new shard shard' S set goes =
+      steps_to m old new shard shard' S set (λ part pieces y is has. goes_to rack area part pieces y shard' (λ holds z. S part holds × SameBlocks y z) (goes part pieces y is has))

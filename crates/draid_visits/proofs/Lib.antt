@@ -1,4 +1,5 @@
 pub mod AllVisits
+pub mod Blocks
 pub mod Cancelled
 pub mod Contents
 pub mod Found
@@ -7,11 +8,13 @@ pub mod Kept
 pub mod Landed
 pub mod Leading
 pub mod Lending
+pub mod Lifting
 pub mod Marking
 pub mod Over
 pub mod PassSteps
 pub mod Readied
 pub mod Rebuilt
+pub mod Scrubbed
 pub mod SharedWhole
 pub mod Started
 pub mod Tables

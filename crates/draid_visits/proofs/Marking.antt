@@ -39,6 +39,20 @@ mark_elsewhere (b ∷ marks) zero (suc k) other = refl
 mark_elsewhere (b ∷ marks) (suc m) zero other = refl
 mark_elsewhere (b ∷ marks) (suc m) (suc k) other = mark_elsewhere marks m k (λ same. other (ap suc same))
 
+-- those from a number on
+pub from_marked : (marks : List Bool) (first m : ℕ) → m < length marks → ((k : ℕ) → k < 64 → first ≤ k → k < m → slice_index_or marks k false ≡ true)
+    → (k : ℕ) → k < 64 → first ≤ k → k < m + 1 → slice_index_or (slice_set marks m true) k false ≡ true
+from_marked marks first m inside marked k low from below = elim (cases_eq k m) [
+  | inl same ↦ subst (λ j. slice_index_or (slice_set marks m true) j false ≡ true) (sym same) (mark_here marks m inside)
+  | inr other ↦ mark_elsewhere marks m k (λ same. omega (arith, same, other)) ∙ marked k low from (omega (arith, below, other))
+]
+
+pub from_only : (marks : List Bool) (first m : ℕ) → first ≤ m → ((k : ℕ) → slice_index_or marks k false ≡ true → first ≤ k) → (k : ℕ) → slice_index_or (slice_set marks m true) k false ≡ true → first ≤ k
+from_only marks first m from only k is = elim (cases_eq k m) [
+  | inl same ↦ omega (arith, same, from)
+  | inr other ↦ only k (sym (mark_elsewhere marks m k (λ same. omega (arith, same, other))) ∙ is)
+]
+
 module _ {R A : Type 0} (rack : racks.Ghosts R) (area : areas.Ghosts A) where
   -- a mark says whether a metaslab is rebuilt, also by its states
   pub record Marked (shard : Shard R A) (mark : Bool) : Type 0 where

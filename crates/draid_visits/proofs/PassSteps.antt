@@ -1,13 +1,14 @@
--- What the events of a rebuild leave of a metaslab.
-use Rattle.std.proofs.Common.{◌≡◌, ◌+◌, [], ◌∷◌, ℕ, Bool, true, false, List, Option, Some, None, IsSome, arith, refl, sym, ap, subst, if◌then◌else◌}
+-- What the events of a pass leave of a metaslab.
+use Rattle.std.proofs.Common.{◌≡◌, ◌+◌, ◌⊎◌, inl, inr, [], ◌∷◌, ℕ, Bool, true, false, List, Option, Some, None, IsSome, arith, refl, sym, ap, subst, if◌then◌else◌}
 use Rattle.std.specs.Prelude.{⊤, nat_lt}
 use Rattle.draid_rack.specs.declared.Rack as racks
 use Rattle.draid_area.specs.declared.Area as areas
 use Rattle.draid_machine.specs.declared.event.Event.{Event}
-use Rattle.draid_machine.specs.declared.event.Event.TheVariants.{Plan, Ready, Lend, LandStripe, Done}
+use Rattle.draid_machine.specs.declared.event.Patched.{Patched}
+use Rattle.draid_machine.specs.declared.event.Event.TheVariants.{Plan, Ready, Lend, LandStripe, LandBlock, Done}
 use Rattle.draid_machine.specs.declared.names.ArmName.TheVariants.{Leaf}
 use Rattle.draid_machine.specs.declared.names.Held.{Held}
-use Rattle.draid_machine.specs.After.{map_arm, mend_state, pass_over, unsourced}
+use Rattle.draid_machine.specs.After.{land_block_state, map_arm, mend_state, pass_over, unsourced}
 use Rattle.draid_machine.specs.State as machine
 use Rattle.draid_machine.specs.Step.{Step}
 use Rattle.draid_segments.specs.Acts as segments
@@ -27,7 +28,7 @@ use Rattle.draid_pool.proofs.Dids as dids
 use Rattle.draid_pool.proofs.Dids.{Raises, did_with, records_same}
 use Rattle.draid_pool.proofs.Imaged.{records_kept}
 
--- the events of a rebuild
+-- the events of a pass that leave the blocks' pieces
 abbrev pub IsOfRebuild : Event → Type 0
 IsOfRebuild (Plan kind) = ⊤
 IsOfRebuild Ready = ⊤
@@ -102,6 +103,33 @@ rebuild_leaves l w v (Done failed) step is =
       committed = refl;
     })
 rebuild_leaves l w v e step is = absurd is
+
+heal_leaves : (l : machine.Layout) (w : machine.State) (p : machine.Pass) (n : machine.Loan) (h : Held) (failed : List ℕ) (patched : List Patched) (unreadable whole : Bool)
+    → Leaves w (land_block_state l w p n h failed patched unreadable whole)
+heal_leaves l w p n h failed patched true whole = record {
+  images = record { image = refl; sealed = refl; leaves = λ leaf some. some; asked = refl; arms = record { order = λ slot. refl; arms = λ n. refl } };
+  held = refl;
+  committed = refl;
+}
+heal_leaves l w p n h failed patched false whole = record {
+  images = record { image = refl; sealed = refl; leaves = λ leaf some. some; asked = refl; arms = record { order = λ slot. refl; arms = λ n. refl } };
+  held = refl;
+  committed = refl;
+}
+
+-- and so a scrub's landing
+pub block_leaves : (l : machine.Layout) (w v : machine.State) (pass serial : ℕ) (failed : _) (patched : _) (unreadable : Bool) → Step l w (LandBlock pass serial failed patched unreadable) v → Leaves w v
+block_leaves l w v pass serial failed patched unreadable step = made_leaves w v _ step.made (heal_leaves l w step.p step.n step.h failed.items patched.items unreadable step.whole)
+
+-- its pieces are those that there were, or those that are written
+pub pieces_either : (l : machine.Layout) (w v : machine.State) (pass serial : ℕ) (failed : _) (patched : _) (unreadable : Bool) (step : Step l w (LandBlock pass serial failed patched unreadable) v) (pieces written : Pieces)
+    → (segments.pieces_after l w (LandBlock pass serial failed patched unreadable) v step pieces written ≡ pieces) ⊎ (segments.pieces_after l w (LandBlock pass serial failed patched unreadable) v step pieces written ≡ written)
+pieces_either l w v pass serial failed patched true step pieces written = inl refl
+pieces_either l w v pass serial failed patched false step pieces written = by step.whole
+  where
+    by : (b : Bool) → ((if b then written else pieces) ≡ pieces) ⊎ ((if b then written else pieces) ≡ written)
+    by true = inr refl
+    by false = inl refl
 
 pub no_uses : (w : machine.State) (e : Event) → IsOfRebuild e → uses w e ≡ 0
 no_uses w (Plan kind) is = refl

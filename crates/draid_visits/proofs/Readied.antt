@@ -1,18 +1,22 @@
--- One metaslab of a pool where a rebuild is to run.
+-- One metaslab of a pool where a pass is to run.
 use Rattle.std.proofs.Common.{◌≡◌, ◌∙◌, inl, inr, Bool, true, false, Option, Some, None, refl, sym, ap, subst}
 use Rattle.std.specs.Prelude.{IsSomeAnd, OnErr, OnOk, Result, Ok, Err, is_ok, option_map}
+use Rattle.draid_names.specs.declared.pass_kind.PassKind.TheVariants.{Heal}
 use Rattle.draid_rack.specs.declared.Rack as racks
 use Rattle.draid_area.specs.declared.Area as areas
 use Rattle.draid_machine.specs.declared.event.Event.TheVariants.{Ready}
+use Rattle.draid_machine.specs.Sound.{Sound}
 use Rattle.draid_machine.specs.State as machine
+use Rattle.draid_machine.proofs.Rows.{reached_sound}
 use Rattle.draid_segments.specs.Segments.{Pieces}
 use Rattle.draid_pass.specs.declared.pass.Pass.{Pass}
 use Rattle.draid_slots.specs.States.{pass_in}
 use Rattle.draid_shard.specs.Calls.{ActsOn, SameKit, SameReserve}
 use Rattle.draid_shard.specs.Fits.{Valid}
 use Rattle.draid_shard.specs.Part.{Part}
-use Rattle.draid_shard.specs.States.{Does}
+use Rattle.draid_shard.specs.States.{Does, layout_by, part_of}
 use Rattle.draid_shard.specs.declared.shard.Shard.{Shard}
+use Rattle.draid_shard.proofs.Standing.{has_layout}
 use Rattle.draid_passing.specs.Passing.{MustWait}
 use Rattle.draid_passing.specs.declared.fault.NotYet.{NotYet}
 use Rattle.draid_session.specs.Holds.{view_of}
@@ -23,7 +27,7 @@ use Rattle.draid_pool.specs.Shards.{Goes, SameBlocks}
 use Rattle.draid_pool.proofs.Dids as dids
 use Rattle.draid_pool.proofs.Dids.{raises_none}
 use Rattle.draid_pool.proofs.OneHold.{looked}
-use Rattle.draid_visits.specs.Steps.{ReadyIs}
+use Rattle.draid_visits.specs.Steps.{IsRunningOf, ReadyIs}
 use Rattle.draid_visits.proofs.PassSteps.{rebuild_did, rebuild_goes}
 use Rattle.draid_visits.proofs.Started.{same_world}
 
@@ -41,6 +45,24 @@ module _ {R A : Type 0} (rack : racks.Ghosts R) (area : areas.Ghosts A) (part : 
     where
       one : (a b : machine.Pass) → Some a ≡ Some b → a ≡ b
       one a b e = cc
+
+  sound : Sound (layout_by shard) x.world
+  sound = reached_sound (layout_by shard) (has_layout (part_of shard) is.valid.part) x.world is.stands.reached
+
+  -- a scrub does
+  pub heal_runs : IsSomeAnd shard.pass (λ (p : Pass). p.kind ≡ Heal) → IsSomeAnd shard.pass (λ (p : Pass). p.running ≡ true)
+  heal_runs heal = by shard.pass is.stands.is_in.pass heal
+    where
+      never : (p : Pass) → x.world.core.pass ≡ Some (pass_in shard.slots p) → p.kind ≡ Heal → p.running ≡ false → p.running ≡ true
+      never p told kind waits = absurd (let same = sym kind ∙ (sound.core.planned (pass_in shard.slots p) told waits).0 in cc)
+
+      one : (p : Pass) (b : Bool) → p.running ≡ b → x.world.core.pass ≡ Some (pass_in shard.slots p) → p.kind ≡ Heal → p.running ≡ true
+      one p true runs told kind = runs
+      one p false waits told kind = never p told kind waits
+
+      by : (o : Option Pass) → x.world.core.pass ≡ option_map (pass_in shard.slots) o → IsSomeAnd o (λ (p : Pass). p.kind ≡ Heal) → IsSomeAnd o (λ (p : Pass). p.running ≡ true)
+      by None told heal = absurd heal
+      by (Some p) told heal = one p p.running refl told heal
 
   -- it runs already
   pub runs_here : IsSomeAnd shard.pass (λ (p : Pass). p.running ≡ true) → Readies shard true
@@ -73,3 +95,8 @@ module _ {R A : Type 0} (rack : racks.Ghosts R) (area : areas.Ghosts A) (part : 
       → OnOk r ((pieces : Pieces) → ActsOn rack shard new Ready pieces) → SameKit shard new → SameReserve shard new → OnErr r (MustWait shard) → OnErr r (new ≡ shard) → Readies new b
   ready_goes new (Ok done) b told not valid does acts kit reserve must same = subst (Readies new) (sym told) (readied new valid does (acts pieces) kit reserve)
   ready_goes new (Err why) b told not valid does acts kit reserve must same = subst (Readies new) (sym told) (subst (λ s. Readies s false) (sym same) (waits_here not must))
+
+-- a scrub that is there and runs
+pub runs_of_heal : (o : Option Pass) → IsSomeAnd o (λ (p : Pass). p.kind ≡ Heal) → IsSomeAnd o (λ (p : Pass). p.running ≡ true) → IsSomeAnd o (IsRunningOf Heal)
+runs_of_heal None heal runs = absurd heal
+runs_of_heal (Some p) heal runs = record { kind_is = heal; running = runs }

@@ -1,7 +1,8 @@
--- One metaslab of a pool where a rebuild goes on, or is planned.
+-- One metaslab of a pool where a pass goes on, or is planned.
 use Rattle.std.proofs.Common.{◌≡◌, ◌≤◌, ◌∙◌, inl, inr, ℕ, [], ◌∷◌, Option, Some, None, arith, refl, sym, ap, subst, min}
 use Rattle.std.specs.Prelude.{Result, Ok, Err, option_map}
-use Rattle.draid_names.specs.declared.pass_kind.PassKind.TheVariants.{Rebuild}
+use Rattle.draid_names.specs.declared.pass_kind.PassKind.{PassKind}
+use Rattle.draid_names.specs.declared.pass_kind.PassKind.TheVariants.{Heal, Rebuild}
 use Rattle.draid_rack.specs.declared.Rack as racks
 use Rattle.draid_area.specs.declared.Area as areas
 use Rattle.draid_spec.specs.Geometry.{metaslab_stripes}
@@ -74,19 +75,19 @@ module _ {R A : Type 0} (rack : racks.Ghosts R) (area : areas.Ghosts A) (part : 
 
   -- ---- it goes on
 
-  abbrev Starts : Shard R A → Result ℕ PlanFault → Type 0
-  Starts new r = Goes rack area part pieces x new (λ holds y. StartIs part r holds × SameBlocks x y)
+  abbrev Starts : PassKind → Shard R A → Result ℕ PlanFault → Type 0
+  Starts kind new r = Goes rack area part pieces x new (λ holds y. StartIs part kind r holds × SameBlocks x y)
 
-  pub goes_on : (p : Pass) (at stripes : ℕ) → shard.pass ≡ Some p → p.kind ≡ Rebuild → at ≡ min p.at stripes → stripes ≡ metaslab_stripes shard.geometry → Starts shard (Ok at)
-  goes_on p at stripes there kind is_at many =
-      looked rack area part pieces shard x (λ holds y. StartIs part (Ok at) holds × SameBlocks x y) is (
+  pub goes_on : (kind : PassKind) (p : Pass) (at stripes : ℕ) → shard.pass ≡ Some p → p.kind ≡ kind → at ≡ min p.at stripes → stripes ≡ metaslab_stripes shard.geometry → Starts kind shard (Ok at)
+  goes_on kind p at stripes there is_kind is_at many =
+      looked rack area part pieces shard x (λ holds y. StartIs part kind (Ok at) holds × SameBlocks x y) is (
         inl (record {
           v = view_of part.number x;
           p = pass_in shard.slots p;
           are = refl;
           there = refl;
           pass = pass_told p there;
-          kind_is = kind;
+          kind_is = is_kind;
           at_is = (let low = place_low p there in omega (arith, low, is_at, many));
         }),
         same_world x,
@@ -100,37 +101,42 @@ module _ {R A : Type 0} (rack : racks.Ghosts R) (area : areas.Ghosts A) (part : 
   told_worn : passes.PlanIsWorn part.geometry part.perms (view_of part.number x) → IsWornFor shard plan_events
   told_worn worn = passes_is rack area part pieces shard x passes.plan_asks left_for_groups is worn
 
-  pub planned : (new : Shard R A) → Valid rack new → Does shard new (Plan Rebuild) → ActsOn rack shard new (Plan Rebuild) pieces → SameKit shard new → SameReserve shard new → (IsWornFor shard plan_events → ⊥) → Starts new (Ok 0)
-  planned new valid does acts kit reserve not_worn =
-      let d : dids.Done rack area part pieces new (Plan Rebuild) x
-      = rebuild_did rack area part pieces shard new (Plan Rebuild) x is valid does acts reserve (raises_none rack area shard new kit) tt in
-      rebuild_goes rack area part pieces new (Plan Rebuild) x (StartIs part (Ok 0)) tt d
+  pub planned : (kind : PassKind) (new : Shard R A) → Valid rack new → Does shard new (Plan kind) → ActsOn rack shard new (Plan kind) pieces → SameKit shard new → SameReserve shard new → (IsWornFor shard plan_events → ⊥) → Starts kind new (Ok 0)
+  planned kind new valid does acts kit reserve not_worn =
+      let d : dids.Done rack area part pieces new (Plan kind) x
+      = rebuild_did rack area part pieces shard new (Plan kind) x is valid does acts reserve (raises_none rack area shard new kit) tt in
+      rebuild_goes rack area part pieces new (Plan kind) x (StartIs part kind (Ok 0)) tt d
       (inr (refl, record { v = view_of part.number x; after = d.reached.world; are = refl; there = refl; not_worn = λ worn. not_worn (told_worn worn) }))
 
   -- ---- it isn't
 
-  cant_number : IsLast shard Rebuild → passes.CantNumber Rebuild (view_of part.number x)
-  cant_number (inl last) = inl (let same = is.stands.is_in.last in omega (arith, last, same))
-  cant_number (inr last) = inr (let same = is.stands.is_in.open_group_is in let end = last.1 in omega (arith, end, same))
+  cant_number : (kind : PassKind) → IsLast shard kind → passes.CantNumber kind (view_of part.number x)
+  cant_number Rebuild (inl last) = inl (let same = is.stands.is_in.last in omega (arith, last, same))
+  cant_number Rebuild (inr last) = inr (let same = is.stands.is_in.open_group_is in let end = last.1 in omega (arith, end, same))
+  cant_number Heal (inl last) = (let same = is.stands.is_in.last in omega (arith, last, same))
+  cant_number Heal (inr last) = absurd (let no = last.0 in cc)
 
-  plans_none : (end : End) → shard.pass ≡ None → passes.PlanStops part.geometry part.perms Rebuild (view_of part.number x) end
-      → passes.PlansNone part.geometry part.perms Rebuild part.number (On (view_of part.number x) Looked ∷ []) end
-  plans_none end none stops = record { v = view_of part.number x; are = refl; there = refl; idle = none_told_here none; stops = stops }
+  plans_none : (kind : PassKind) (end : End) → shard.pass ≡ None → passes.PlanStops part.geometry part.perms kind (view_of part.number x) end
+      → passes.PlansNone part.geometry part.perms kind part.number (On (view_of part.number x) Looked ∷ []) end
+  plans_none kind end none stops = record { v = view_of part.number x; are = refl; there = refl; idle = none_told_here none; stops = stops }
 
-  not_planned : (fault : PlanFault) → shard.pass ≡ None → IsPlanRefused shard Rebuild fault → StartIs part (Err fault) (On (view_of part.number x) Looked ∷ [])
-  not_planned (plan.PassRunning number) none why = absurd (let e = sym none ∙ why.1 in cc)
-  not_planned plan.Nothing none why = record {
-    v = view_of part.number x;
-    are = refl;
-    there = refl;
-    idle = none_told_here none;
-    none = λ some. some (targets_none why.1);
-  }
-  not_planned (plan.Worn events) none why = plans_none WasWorn none (worn_told why.2)
-  not_planned plan.Last none why = plans_none WasLast none (λ worn. why.2 (told_worn worn), cant_number why.3)
-  not_planned plan.NoMemory none why = plans_none Starved none tt
+  not_planned : (kind : PassKind) (fault : PlanFault) → shard.pass ≡ None → IsPlanRefused shard kind fault → StartIs part kind (Err fault) (On (view_of part.number x) Looked ∷ [])
+  not_planned kind (plan.PassRunning number) none why = absurd (let e = sym none ∙ why.1 in cc)
+  not_planned kind plan.Nothing none why = (
+    why.1.0,
+    record {
+      v = view_of part.number x;
+      are = refl;
+      there = refl;
+      idle = none_told_here none;
+      none = λ some. some (targets_none (refl, why.1.1));
+    },
+  )
+  not_planned kind (plan.Worn events) none why = plans_none kind WasWorn none (worn_told why.2)
+  not_planned kind plan.Last none why = plans_none kind WasLast none (λ worn. why.2 (told_worn worn), cant_number kind why.3)
+  not_planned kind plan.NoMemory none why = plans_none kind Starved none tt
 
-  pub refused : (new : Shard R A) (fault : PlanFault) → shard.pass ≡ None → IsPlanRefused shard Rebuild fault → Valid rack new → DoesNone shard new → SameKit shard new → SameReserve shard new → Starts new (Err fault)
-  refused new fault none why valid same kit reserve =
-      looked rack area part pieces new x (λ holds y. StartIs part (Err fault) holds × SameBlocks x y)
-      (none_here rack area part pieces shard new x is valid same kit.rack kit.areas reserve.limit reserve.reserved) (not_planned fault none why, same_world x)
+  pub refused : (kind : PassKind) (new : Shard R A) (fault : PlanFault) → shard.pass ≡ None → IsPlanRefused shard kind fault → Valid rack new → DoesNone shard new → SameKit shard new → SameReserve shard new → Starts kind new (Err fault)
+  refused kind new fault none why valid same kit reserve =
+      looked rack area part pieces new x (λ holds y. StartIs part kind (Err fault) holds × SameBlocks x y)
+      (none_here rack area part pieces shard new x is valid same kit.rack kit.areas reserve.limit reserve.reserved) (not_planned kind fault none why, same_world x)

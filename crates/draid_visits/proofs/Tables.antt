@@ -88,3 +88,8 @@ table_landed old lent solved new part keeps arms only then_part then_keeps slots
     (table_then old lent new (table_kept old lent part keeps arms)
     (table_then lent solved new (subst (KeepsTable lent) (sym only) (table_loan lent solved.kept))
     (table_kept solved new then_part then_keeps (subst (KeepsArms solved.slots) (sym slots) (same_arms solved.slots)))))
+
+-- a block was lent, and not restored
+pub table_stays : {R A : Type 0} (old lent solved : Shard R A) → part_of lent ≡ part_of old → KeepsBlocks old lent → KeepsArms old.slots lent.slots → solved ≡ record lent { kept = solved.kept } → SharesTable old solved
+table_stays old lent solved part keeps arms only =
+    shares_table old solved (table_then old lent solved (table_kept old lent part keeps arms) (subst (KeepsTable lent) (sym only) (table_loan lent solved.kept)))

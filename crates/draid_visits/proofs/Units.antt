@@ -1,6 +1,7 @@
 -- A stripe of a rebuild is lent in a metaslab of a pool, solved, and lands.
-use Rattle.std.proofs.Common.{◌≡◌, ◌+◌, ◌<◌, ◌≤◌, ◌∙◌, false, [], ◌∷◌, Option, Some, None, arith, refl, sym, ap, subst}
+use Rattle.std.proofs.Common.{◌≡◌, ◌<◌, ◌≤◌, ◌+◌, ◌∙◌, false, [], ◌∷◌, ℕ, Option, Some, None, arith, refl, sym, ap, subst}
 use Rattle.std.specs.Prelude.{IfSome, IsSome, IsSomeAnd}
+use Rattle.draid_names.specs.declared.pass_kind.PassKind.TheVariants.{Rebuild}
 use Rattle.draid_rack.specs.Rack.{OnTold}
 use Rattle.draid_rack.specs.declared.Rack as racks
 use Rattle.draid_area.specs.declared.Area as areas
@@ -37,10 +38,24 @@ use Rattle.draid_pool.proofs.Imaged.{keeps_then}
 use Rattle.draid_visits.specs.Steps.{HasContents, MovesOn, NextIs}
 use Rattle.draid_visits.specs.declared.steps.Next.TheVariants as next
 use Rattle.draid_visits.proofs.Landed.{landed_at}
-use Rattle.draid_visits.proofs.Over.{running_of, told_worn}
+use Rattle.draid_visits.proofs.Over.{told_worn}
 use Rattle.draid_visits.proofs.PassSteps.{raised, rebuild_did, rebuild_leaves}
 
 -- ---- where the pass stands then
+
+-- the rebuild that runs
+pub record Running (o : Option Pass) : Type 0 where
+  pub pass : Pass
+  pub there : o ≡ Some pass
+  pub is : IsRunningRebuild pass
+
+pub running_of : (o : Option Pass) → IsSomeAnd o IsRunningRebuild → Running o
+running_of None is = absurd is
+running_of (Some p) is = record { pass = p; there = refl; is = is }
+
+-- no column is rewritten
+pub landed_none : (repaired : ℕ) → next.Landed 0 ≡ next.Landed repaired → repaired ≡ 0
+landed_none repaired is = cc
 
 -- what is kept of a loan is there still when it is solved
 pub solved_kept : (geometry : Geometry) (o new : Option KeptLoan) (k : LentStripe) → o ≡ Some (Stripe k) → SolvesLoan geometry o new → (solved : StripeValue) × (new ≡ Some (Stripe (record k { columns = solved })))
@@ -75,7 +90,7 @@ module _ {R A : Type 0} (rack : racks.Ghosts R) (old lent solved new : Shard R A
   behind : (p : Pass) → old.pass ≡ Some p → p.at ≤ unit.kept.stripe
   behind p there = subst (λ o. IfSome o (λ (z : Pass). z.at ≤ unit.kept.stripe)) there unit.behind
 
-  pub moves_on : part_of new ≡ part_of solved → MovesOver solved.kept solved.pass new.pass → MovesOn old new
+  pub moves_on : part_of new ≡ part_of solved → MovesOver solved.kept solved.pass new.pass → MovesOn Rebuild old new
   moves_on part moves =
       let z = running_of old.pass running in
       let there : solved.pass ≡ Some z.pass = ap (λ (s : Shard R A). s.pass) only ∙ (stays ∙ z.there) in
@@ -89,7 +104,7 @@ module _ {R A : Type 0} (rack : racks.Ghosts R) (old lent solved new : Shard R A
         pass = q.0;
         old_pass = z.there;
         new_pass = q.1;
-        runs = record { rebuild = q.2.kind ∙ z.is.rebuild; running = q.2.running ∙ z.is.running };
+        runs = record { kind_is = q.2.kind ∙ z.is.rebuild; running = q.2.running ∙ z.is.running };
         behind = omega (arith, at, low);
         inside = subst (λ g. q.0.at ≤ metaslab_stripes g) (sym same) (omega (arith, at, high));
       }
@@ -127,7 +142,7 @@ module _ {R A : Type 0} (rack : racks.Ghosts R) (area : areas.Ghosts A) (old len
       landed_at rack area part pieces solved new (LandStripe landed.pass.number landed.kept.serial landed.failed) y mid new_valid landed.does new_reserve
       (raised rack area landed.failed.items solved new new_areas landed.counts) tt (λ after step. landed.acts pieces y.world after step mid.stands.reached mid.stands.is_in right_here)
 
-  pub unit_goes : Goes rack area part pieces x new (λ holds v. NextIs part false next.Landed holds × SameBlocks x v)
+  pub unit_goes : Goes rack area part pieces x new (λ holds v. NextIs part Rebuild false (next.Landed 0) holds × SameBlocks x v)
   unit_goes =
       let one = rebuild_leaves (layout_in part) x.world y.world (Lend unit.failed) first.step tt in
       let two = rebuild_leaves (layout_in part) y.world second.reached.world (LandStripe landed.pass.number landed.kept.serial landed.failed) second.step tt in

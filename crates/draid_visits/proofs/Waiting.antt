@@ -1,12 +1,13 @@
 -- A rebuild that waits: groups are committed until it runs.
-use Rattle.std.proofs.Common.{◌≡◌, ◌≢◌, ◌+◌, ◌++◌, [], ◌∷◌, inl, inr, ℕ, suc, List, Ok, Err, refl, ap}
+use Rattle.std.proofs.Common.{◌++◌, [], inl, inr, ℕ, suc, List, Ok, Err, refl, ap}
+use Rattle.std.specs.Prelude.{OnErr, Result}
 use Rattle.draid_rack.specs.declared.Rack as racks
 use Rattle.draid_area.specs.declared.Area as areas
-use Rattle.draid_names.specs.declared.pass_kind.PassKind.TheVariants.{Rebuild}
+use Rattle.draid_names.specs.declared.pass_kind.PassKind.TheVariants.{Heal, Rebuild}
 use Rattle.draid_perm.specs.declared.perms.Perms.{Perms}
 use Rattle.draid_spec.specs.declared.layout.Geometry.{Geometry}
 use Rattle.draid_session.specs.Groups as groups
-use Rattle.draid_session.specs.Holds.{Hold, Looked, On}
+use Rattle.draid_session.specs.Holds.{Hold}
 use Rattle.draid_session.specs.Passes as passes
 use Rattle.draid_session.specs.Phases.{Chain, End, Went}
 use Rattle.draid_session.specs.State.{State}
@@ -17,7 +18,7 @@ use Rattle.draid_pool.specs.declared.fault.SyncFault.{SyncFault}
 use Rattle.draid_pool.specs.declared.fault.SyncFault.TheVariants as sync
 use Rattle.draid_pool.specs.declared.fault.Synced.{Synced}
 use Rattle.draid_pool.specs.declared.pool.Pool.{Pool}
-use Rattle.draid_pool.proofs.SyncSteps.{not_went}
+use Rattle.draid_pool.proofs.Lifted.{carries_none}
 use Rattle.draid_visits.specs.Visiting.{end_by}
 use Rattle.draid_visits.proofs.Leading.{Does, Leads, Says, Steps, leads_end, leads_on}
 
@@ -86,3 +87,9 @@ module _ {R A : Type 0} (rack : racks.Ghosts R) (area : areas.Ghosts A) (m : ℕ
       → CarriesOut rack area new x (Phase x (passes.ReadyPhase x.geometry x.perms Rebuild m) Went)
   it_runs mid new x l step =
       leads_end rack area (Readying x.geometry x.perms m) (Readying x.geometry x.perms m) (λ g p holds. passes.RunsNow g p m holds) mid new x Went l step (λ holds runs. (0, (refl, runs)))
+
+  -- a scrub runs as it is
+  pub scrub_ready : (pool : Pool R A) (r : Result Unit SyncFault) → OnErr r ((x : State) → Represents rack area pool x → ⊥) → (x : State) → Represents rack area pool x
+      → CarriesOut rack area pool x (Phase x (passes.ReadyPhase x.geometry x.perms Heal m) (end_of r))
+  scrub_ready pool (Ok done) never x is = carries_none rack area pool x (Phase x (passes.ReadyPhase x.geometry x.perms Heal m) Went) is (refl, (refl, refl))
+  scrub_ready pool (Err why) never x is = absurd (never x is)

@@ -1,8 +1,8 @@
--- What becomes of one metaslab as a rebuild of a pool comes to it, hold by hold.
-use Rattle.std.specs.Prelude.{◌≡◌, ◌<◌, ◌≤◌, ◌⊎◌, ⊤, ℕ, Bool, true, false, List, [], Some, IsSomeAnd, Result, Ok, Err}
+-- What becomes of one metaslab as a rebuild or a scrub of a pool comes to it, hold by hold.
+use Rattle.std.specs.Prelude.{◌≡◌, ◌<◌, ◌≤◌, ◌⊎◌, ⊤, ℕ, Bool, true, false, List, [], None, Some, IsSomeAnd, Result, Ok, Err}
+use Rattle.draid_names.specs.declared.pass_kind.PassKind.{PassKind}
 use Rattle.draid_names.specs.declared.pass_kind.PassKind.TheVariants.{Rebuild}
 use Rattle.draid_spec.specs.Geometry.{metaslab_stripes}
-use Rattle.draid_machine.specs.State as machine
 use Rattle.draid_machine.specs.declared.names.Held.{Held}
 use Rattle.draid_machine.specs.declared.names.Key.{Key}
 use Rattle.draid_entries.specs.Entries.{SameEntries}
@@ -10,14 +10,12 @@ use Rattle.draid_pass.specs.declared.pass.Pass.{Pass}
 use Rattle.draid_segments.specs.Segments.{Pieces}
 use Rattle.draid_shard.specs.Alike.{ShareArms}
 use Rattle.draid_shard.specs.Fits.{IsLeaf}
-use Rattle.draid_shard.specs.Looks.{IsNextTaken}
 use Rattle.draid_shard.specs.Part.{Part}
-use Rattle.draid_shard.specs.States.{IsIn, part_of}
+use Rattle.draid_shard.specs.States.{part_of}
 use Rattle.draid_shard.specs.declared.shard.Shard.{Shard}
 use Rattle.draid_passing.specs.Passing.{LacksTarget}
 use Rattle.draid_passing.specs.declared.fault.PlanFault.{PlanFault}
 use Rattle.draid_passing.specs.declared.fault.PlanFault.TheVariants as plan
-use Rattle.draid_mend.specs.Loans.{IsRunningRebuild}
 use Rattle.draid_mend.specs.Solving.{HasContent}
 use Rattle.draid_session.specs.Holds.{Hold}
 use Rattle.draid_session.specs.Passes as passes
@@ -40,43 +38,45 @@ pub record SharesTable {R A : Type 0} (old new : Shard R A) : Type 0 where
   pub slots : ShareArms old.slots new.slots
   pub leaves : (leaf : ℕ) → IsLeaf new.slots leaf → IsLeaf old.slots leaf
 
--- a block or an open write has a stripe where the pass stands, or behind it
-abbrev pub HasTakenLeft : {R A : Type 0} → Shard R A → Type 0
-HasTakenLeft shard = (w : machine.State) → IsIn shard w → (p : Pass) → shard.pass ≡ Some p → (x : ℕ) × IsNextTaken w.core p.at x
+-- a pass of a kind that runs
+pub record IsRunningOf (kind : PassKind) (pass : Pass) : Type 0 where
+  pub kind_is : pass.kind ≡ kind
+  pub running : pass.running ≡ true
 
--- the rebuild runs still, and stands behind where it stood, within the metaslab
-pub record MovesOn {R A : Type 0} (old new : Shard R A) : Type 0 where
+-- the pass runs still, and stands behind where it stood, within the metaslab
+pub record MovesOn {R A : Type 0} (kind : PassKind) (old new : Shard R A) : Type 0 where
   pub was : Pass
   pub pass : Pass
   pub old_pass : old.pass ≡ Some was
   pub new_pass : new.pass ≡ Some pass
-  pub runs : IsRunningRebuild pass
+  pub runs : IsRunningOf kind pass
   pub behind : was.at < pass.at
   pub inside : pass.at ≤ metaslab_stripes new.geometry
 
 -- ---- holds
 
 -- a pass goes on or is planned, or why none is
-abbrev pub StartIs : Part → Result ℕ PlanFault → List Hold → Type 0
-StartIs part (Ok at) holds = passes.Starts part.geometry part.perms Rebuild part.number at holds Went
-StartIs part (Err plan.Nothing) holds = passes.PassesOver part.geometry part.perms part.number holds
-StartIs part (Err (plan.PassRunning number)) holds = ⊥
-StartIs part (Err (plan.Worn events)) holds = passes.PlansNone part.geometry part.perms Rebuild part.number holds WasWorn
-StartIs part (Err plan.Last) holds = passes.PlansNone part.geometry part.perms Rebuild part.number holds WasLast
-StartIs part (Err plan.NoMemory) holds = passes.PlansNone part.geometry part.perms Rebuild part.number holds Starved
+abbrev pub StartIs : Part → PassKind → Result ℕ PlanFault → List Hold → Type 0
+StartIs part kind (Ok at) holds = passes.Starts part.geometry part.perms kind part.number at holds Went
+StartIs part kind (Err plan.Nothing) holds = (kind ≡ Rebuild) × passes.PassesOver part.geometry part.perms part.number holds
+StartIs part kind (Err (plan.PassRunning number)) holds = ⊥
+StartIs part kind (Err (plan.Worn events)) holds = passes.PlansNone part.geometry part.perms kind part.number holds WasWorn
+StartIs part kind (Err plan.Last) holds = passes.PlansNone part.geometry part.perms kind part.number holds WasLast
+StartIs part kind (Err plan.NoMemory) holds = passes.PlansNone part.geometry part.perms kind part.number holds Starved
 
--- it runs already or begins to, or it may not run yet
+-- a rebuild runs already or begins to, or it may not run yet
 abbrev pub ReadyIs : Part → Bool → List Hold → Type 0
 ReadyIs part true holds = passes.RunsNow part.geometry part.perms part.number holds
 ReadyIs part false holds = passes.Waits part.geometry part.perms part.number holds []
 
--- a stripe was lent and landed, the pass ended, or something is left that isn't lent
-abbrev pub NextIs : Part → Bool → Next → List Hold → Type 0
-NextIs part used next.Landed holds = (used ≡ false) × passes.LendsOne part.geometry part.perms Rebuild part.number 0 holds []
-NextIs part used (next.Ended errors) holds = passes.EndsPass part.geometry part.perms part.number errors holds
-NextIs part used next.Paused holds = (used ≡ true) × passes.KeepsBack part.geometry part.perms part.number holds (λ v. ⊤)
-NextIs part used next.Worn holds = (used ≡ false) × passes.KeepsBack part.geometry part.perms part.number holds (passes.LendIsWorn part.geometry part.perms)
-NextIs part used next.NoMemory holds = (used ≡ false) × passes.KeepsBack part.geometry part.perms part.number holds (λ v. ⊤)
+-- A stripe or a block was lent and landed, the pass ended, or something is left that isn't lent. Of a block that was lent memory may be wanting then.
+abbrev pub NextIs : Part → PassKind → Bool → Next → List Hold → Type 0
+NextIs part kind used (next.Landed repaired) holds = (used ≡ false) × passes.LendsOne part.geometry part.perms kind part.number repaired holds []
+NextIs part kind used (next.Ended errors) holds = passes.EndsPass part.geometry part.perms part.number errors holds
+NextIs part kind used next.Paused holds = (used ≡ true) × passes.KeepsBack part.geometry part.perms part.number holds (λ v. ⊤)
+NextIs part kind used next.Worn holds = (used ≡ false) × passes.KeepsBack part.geometry part.perms part.number holds (passes.LendIsWorn part.geometry part.perms)
+NextIs part kind used next.NoMemory holds =
+    (used ≡ false) × (passes.KeepsBack part.geometry part.perms part.number holds (λ v. ⊤) ⊎ passes.StaysOut part.geometry part.perms part.number None holds)
 
 -- each held block has content
 abbrev pub HasContents : Part → Pieces → Metaslab → Type 0

@@ -1,5 +1,5 @@
-//! Passes over a pool's metaslabs, one after another: a rebuild visits those that need it, and a cancel ends the passes
-//! that there are.
+//! Passes over a pool's metaslabs, one after another: a rebuild visits those that need it, a scrub those from the first that
+//! has one on, and a cancel ends the passes that there are.
 
 #![tactic(auto)]
 
@@ -9,8 +9,9 @@ mod progress;
 mod rebuilding;
 mod replies;
 mod steps;
+mod unit;
 mod visiting;
 
 pub use cancelling::cancel;
-pub use rebuilding::{MendFault, Mended, rebuild};
-pub use replies::{reply_to_cancel, reply_to_rebuild};
+pub use rebuilding::{MendFault, Mended, rebuild, scrub};
+pub use replies::{reply_to_cancel, reply_to_rebuild, reply_to_scrub};

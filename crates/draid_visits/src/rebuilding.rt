@@ -1,5 +1,6 @@
-//! A rebuild of a pool: the metaslabs that need it are visited, one after another.
+//! A rebuild and a scrub of a pool: metaslabs are visited, one after another.
 ghost use Rattle.std.specs.Prelude.{◌≡◌, ℕ, IfOk, IsErrOf, IsSome, Option, length};
+ghost use Rattle.draid_names.specs.declared.pass_kind.PassKind.TheVariants.{Rebuild};
 ghost use Rattle.draid_session.specs.Replies.{IsWithin};
 ghost use Rattle.draid_session.specs.State.{State};
 ghost use Rattle.draid_pool.specs.Carries.{CarriesOut};
@@ -7,32 +8,34 @@ ghost use Rattle.draid_pool.specs.Failing.{AreaRose, AreasLater};
 ghost use Rattle.draid_pool.specs.Pointers.{SamePointers};
 ghost use Rattle.draid_pool.specs.Pools.{Represents};
 ghost use Rattle.draid_pool.specs.Whole.{IsWhole};
-ghost use Rattle.draid_visits.specs.Rebuilding.{IsAnswer, IsMended, RebuildDoes, RebuildIs, stopped_by};
-ghost use Rattle.draid_visits.specs.Visiting.{AreAll, AreMarks, HasBegun, HasMark, IsLeft, IsLow, IsNoScrub, Leaves, PausesAt, SeesMarks, VisitsDo};
+ghost use Rattle.draid_visits.specs.Rebuilding.{IsAnswer, IsMended, RebuildDoes, RebuildIs, ScrubDoes, ScrubIs, stopped_by};
+ghost use Rattle.draid_visits.specs.Visiting.{AreAll, AreToVisit, HasBegun, HasMark, IsLeft, IsLow, IsOnly, Leaves, PausesAt, VisitsDo};
 
-use crate::marks::{scrub_in, visited};
+use crate::marks::{first_scrub, marks_from, pass_in, visited};
 use crate::progress::{Progress, Visit};
 use crate::visiting::visit;
 use draid_area::Area;
+use draid_names::PassKind;
 use draid_pool::{Pool, SyncFault};
 use draid_rack::Rack;
 
-/// What a rebuild did: the pool's stripe at which its first pass went on, the stripes that it lent, the errors of the
-/// passes that it ended, and whether it stopped at its limit.
+/// What a rebuild or a scrub did: the pool's stripe at which its first pass went on, the stripes or blocks that it lent, the
+/// columns that it rewrote, counted by arm, the errors of the passes that it ended, and whether it stopped at its limit.
 #[derive(Clone, Copy)]
 pub struct Mended {
     pub from: u64,
-    pub stripes: u64,
+    pub units: u64,
+    pub repaired: u64,
     pub errors: u64,
     pub paused: bool,
 }
 
-/// Why a pool wasn't rebuilt, or not to its end.
+/// Why a pool wasn't rebuilt or scrubbed, or not to its end.
 #[derive(Clone, Copy)]
 pub enum MendFault {
     /// No metaslab has a rebuild, nor an arm that one would make good.
     Nothing,
-    /// This is the lowest metaslab with a scrub, and the scrub's number.
+    /// This is the lowest metaslab with a pass of the other kind, and the pass's number.
     PassThere { metaslab: u32, number: u64 },
     /// A metaslab has too many events.
     Worn,
@@ -53,55 +56,74 @@ pub fn rebuild<R: Rack, A: Area>(
     ensures same { SamePointers pool.old pool.new }
     ensures later { AreasLater A.faults pool.old pool.new }
     ensures cause { IsErrOf result MendFault.Shelf → AreaRose A.faults pool.old pool.new }
-    ensures within { IfOk result (λ it. IsWithin limit it.stripes it.paused) }
+    ensures within { IfOk result (λ it. IsWithin limit it.units it.paused) }
     ensures carries { (x : State) → Represents R.Rack A.Area pool.old x
         → CarriesOut R.Rack A.Area pool.new x (RebuildDoes x limit result) }
     ensures passes { RebuildIs result pool.old pool.new }
 {
-    if let Some((metaslab, number)) = scrub_in(pool) {
+    if let Some((metaslab, number)) = pass_in(pool, PassKind::Heal) {
         return Err(MendFault::PassThere { metaslab, number });
     }
     let Some(marks) = visited(pool) else {
         return Err(MendFault::Nothing);
     };
-    let mut progress = Progress {
-        left: limit,
-        from: None,
-        stripes: 0,
-        errors: 0,
-    };
-    let end = visit_all(pool, &marks, &mut progress);
+    let mut progress = Progress::within(limit);
+    let end = visit_all(pool, PassKind::Rebuild, &marks, &mut progress);
+    answer(end, progress)
+}
+
+/// Scrubs the metaslabs from the first that has a scrub on, or all, one after another, and lends at most so many blocks.
+pub fn scrub<R: Rack, A: Area>(
+    pool: &mut Pool<R, A>,
+    limit: Option<u64>,
+) -> Result<Mended, MendFault>
+    requires whole { IsWhole R.Rack A.Area pool.old }
+    ensures whole { IsWhole R.Rack A.Area pool.new }
+    ensures same { SamePointers pool.old pool.new }
+    ensures later { AreasLater A.faults pool.old pool.new }
+    ensures within { IfOk result (λ it. IsWithin limit it.units it.paused) }
+    ensures carries { (x : State) → Represents R.Rack A.Area pool.old x
+        → CarriesOut R.Rack A.Area pool.new x (ScrubDoes x limit result) }
+    ensures passes { ScrubIs result pool.old pool.new }
+{
+    if let Some((metaslab, number)) = pass_in(pool, PassKind::Rebuild) {
+        return Err(MendFault::PassThere { metaslab, number });
+    }
+    let marks = marks_from(first_scrub(pool));
+    let mut progress = Progress::within(limit);
+    let end = visit_all(pool, PassKind::Heal, &marks, &mut progress);
     answer(end, progress)
 }
 
 /// Visits the metaslabs that are marked, one after another.
 fn visit_all<R: Rack, A: Area>(
     pool: &mut Pool<R, A>,
+    kind: PassKind,
     marks: &[bool; 64],
     progress: &mut Progress,
 ) -> Visit
     requires whole { IsWhole R.Rack A.Area pool.old }
-    requires alone { AreAll pool.old IsNoScrub }
-    requires marks { AreMarks pool.old marks.now }
+    requires alone { AreAll pool.old (IsOnly kind) }
+    requires marks { AreToVisit kind pool.old marks.now }
     requires some { HasMark pool.old marks.now }
     requires long { length marks.now ≡ 64 }
     requires low { IsLow 0 progress.old }
     ensures whole { IsWhole R.Rack A.Area pool.new }
     ensures same { SamePointers pool.old pool.new }
     ensures later { AreasLater A.faults pool.old pool.new }
-    ensures cause { result ≡ Visit.Stopped SyncFault.Shelf → AreaRose A.faults pool.old pool.new }
+    ensures cause { result ≡ Visit.Stopped SyncFault.Shelf → (kind ≡ Rebuild) × AreaRose A.faults pool.old pool.new }
     ensures left { (limit : Option ℕ) → IsLeft limit progress.old → IsLeft limit progress.new }
     ensures paused { PausesAt result progress.new }
     ensures began { HasBegun result progress.new }
-    ensures leaves { Leaves result pool.new }
-    ensures carries { (x : State) → Represents R.Rack A.Area pool.old x → SeesMarks x marks.now
-        → CarriesOut R.Rack A.Area pool.new x (VisitsDo x progress.old result progress.new) }
+    ensures leaves { Leaves kind result pool.new }
+    ensures carries { (x : State) → Represents R.Rack A.Area pool.old x
+        → CarriesOut R.Rack A.Area pool.new x (VisitsDo x kind marks.now progress.old result progress.new) }
 {
     for metaslab in 0..pool.metaslabs.shards.len() {
         if !marks[metaslab] {
             continue;
         }
-        match visit(pool, metaslab, progress) {
+        match visit(pool, kind, metaslab, progress) {
             Visit::Over => {}
             Visit::Paused => return Visit::Paused,
             Visit::Stopped { why } => return Visit::Stopped { why },
@@ -110,7 +132,7 @@ fn visit_all<R: Rack, A: Area>(
     Visit::Over
 }
 
-/// The answer of a rebuild whose visits came to this end.
+/// The answer of a rebuild or a scrub whose visits came to this end.
 fn answer(end: Visit, progress: Progress) -> Result<Mended, MendFault>
     requires { HasBegun end progress }
     ensures { IsAnswer end progress result }
@@ -132,13 +154,14 @@ fn done(progress: Progress, paused: bool) -> Mended
     };
     Mended {
         from,
-        stripes: progress.stripes,
+        units: progress.stripes,
+        repaired: progress.repaired,
         errors: progress.errors,
         paused,
     }
 }
 
-/// Why a rebuild was stopped.
+/// Why a rebuild or a scrub was stopped.
 fn fault_of(why: SyncFault) -> MendFault
     ensures { result ≡ stopped_by why }
 {

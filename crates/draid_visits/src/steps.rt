@@ -1,5 +1,5 @@
-//! One metaslab as a rebuild of a pool comes to it: its pass begins, is made to run, lends a stripe, and ends.
-ghost use Rattle.std.specs.Prelude.{◌≡◌, ◌≤◌, ◌↔◌, ◌⊎◌, ℕ, None, Ok, OnErr, OnOk, IfErr, IfOk, IfSome, IsSomeAnd, IsTrue, false, true};
+//! One metaslab as a rebuild or a scrub of a pool comes to it: its pass begins, is made to run, and ends.
+ghost use Rattle.std.specs.Prelude.{◌≡◌, ◌≤◌, ◌^◌, ◌↔◌, ◌⊎◌, ℕ, None, Ok, OnErr, OnOk, IfErr, IfOk, IfSome, IsSomeAnd, IsTrue, false, true};
 ghost use Rattle.draid_names.specs.declared.numbers.TheConstants.{LAST_NUMBER};
 ghost use Rattle.draid_names.specs.declared.pass_kind.PassKind.TheVariants.{Rebuild};
 ghost use Rattle.draid_spec.specs.Geometry.{metaslab_stripes};
@@ -10,39 +10,40 @@ ghost use Rattle.draid_shard.specs.Fits.{Valid};
 ghost use Rattle.draid_shard.specs.Left.{HasNothingLeft};
 ghost use Rattle.draid_shard.specs.Part.{Part};
 ghost use Rattle.draid_passing.specs.Passing.{IsPlanRefused};
-ghost use Rattle.draid_mend.specs.Loans.{IsRunningRebuild};
+ghost use Rattle.draid_heal.specs.Loans.{HasBlockLeft};
 ghost use Rattle.draid_session.specs.Holds.{view_of};
 ghost use Rattle.draid_session.specs.Passes as passes;
 ghost use Rattle.draid_session.specs.State.{Metaslab};
 ghost use Rattle.draid_pool.specs.Metaslabs.{IsMetaslab};
 ghost use Rattle.draid_pool.specs.Shards.{Goes, SameBlocks};
 ghost use Rattle.draid_pool.specs.Syncing.{KeepsTable};
-ghost use Rattle.draid_visits.specs.Steps.{HasContents, HasTakenLeft, IsRebuiltIn, MovesOn, NextIs, ReadyIs, SharesTable, StartIs};
+ghost use Rattle.draid_visits.specs.Pieces.{GoesTo};
+ghost use Rattle.draid_visits.specs.Steps.{HasContents, IsRebuiltIn, IsRunningOf, MovesOn, NextIs, ReadyIs, SharesTable, StartIs};
 
+use crate::unit::unit_in;
 use draid_area::Area;
-use draid_mend::{land, lend, solve};
 use draid_names::{LAST_NUMBER, PassKind};
 use draid_pass::Pass;
 use draid_passing::{PlanFault, done, plan, ready};
 use draid_plans::has_target;
 use draid_rack::Rack;
-use draid_shard::{LendFault, Lent, Shard};
+use draid_shard::Shard;
 use draid_slots::Marks;
 
 /// A rebuild takes its targets whichever arms are marked.
 const NO_MARKS: [Marks; 64] = [[false; 3]; 64];
 
-/// What comes next in a metaslab where a rebuild runs.
+/// What comes next in a metaslab where a pass runs.
 pub(crate) enum Next {
-    /// A stripe was lent, and landed.
-    Landed,
+    /// A stripe or a block was lent, and landed; so many columns were rewritten, counted by arm.
+    Landed { repaired: u64 },
     /// Nothing was left, and the pass ended with so many errors.
     Ended { errors: u64 },
     /// Something is left, and no more is to be lent.
     Paused,
     /// Something is left; the limit leaves too few events.
     Worn,
-    /// Something is left; memory is wanting.
+    /// Something is left, or a block was lent; memory is wanting.
     NoMemory,
 }
 
@@ -66,42 +67,45 @@ fn has_rebuild(pass: &Option<Pass>) -> bool
     }
 }
 
-/// A rebuild of this metaslab goes on, or is planned; the answer is where it stands, which is within the metaslab.
-pub(crate) fn start_in<R: Rack, A: Area>(shard: &mut Shard<R, A>) -> Result<u64, PlanFault>
+/// A pass of this metaslab goes on, or is planned; the answer is where it stands, which is within the metaslab.
+pub(crate) fn start_in<R: Rack, A: Area>(
+    shard: &mut Shard<R, A>,
+    kind: PassKind,
+) -> Result<u64, PlanFault>
     requires valid { Valid R.Rack shard.old }
-    requires alone { IfSome shard.old.pass (λ (p : Pass). p.kind ≡ Rebuild) }
+    requires alone { IfSome shard.old.pass (λ (p : Pass). p.kind ≡ kind) }
     ensures valid { Valid R.Rack shard.new }
     ensures table { KeepsTable shard.old shard.new }
     ensures areas { SameAreas shard.old shard.new }
-    ensures pass { OnOk result (IsSomeAnd shard.new.pass (λ (p : Pass). p.kind ≡ Rebuild)) }
+    ensures pass { OnOk result (IsSomeAnd shard.new.pass (λ (p : Pass). p.kind ≡ kind)) }
     ensures none { OnErr result (shard.new.pass ≡ None) }
     ensures idle { OnErr result (shard.old.pass ≡ None) }
-    ensures refused { IfErr result (IsPlanRefused shard.old Rebuild) }
+    ensures refused { IfErr result (IsPlanRefused shard.old kind) }
     ensures low { IfOk result (λ at. at ≤ metaslab_stripes shard.old.geometry) }
     ensures goes { (part : Part) (pieces : Pieces) (x : Metaslab) → IsMetaslab R.Rack A.Area part pieces shard.old x
-        → Goes R.Rack A.Area part pieces x shard.new (λ holds y. StartIs part result holds × SameBlocks x y) }
+        → Goes R.Rack A.Area part pieces x shard.new (λ holds y. StartIs part kind result holds × SameBlocks x y) }
 {
     if let Some(pass) = &shard.pass {
         return Ok(pass.at.min(shard.geometry.metaslab_stripes()));
     }
-    plan_in(shard)
+    plan_in(shard, kind)
 }
 
-/// A rebuild is planned, where there is no pass.
-fn plan_in<R: Rack, A: Area>(shard: &mut Shard<R, A>) -> Result<u64, PlanFault>
+/// A pass is planned, where there is none.
+fn plan_in<R: Rack, A: Area>(shard: &mut Shard<R, A>, kind: PassKind) -> Result<u64, PlanFault>
     requires valid { Valid R.Rack shard.old }
     requires none { shard.old.pass ≡ None }
     ensures valid { Valid R.Rack shard.new }
     ensures table { KeepsTable shard.old shard.new }
     ensures areas { SameAreas shard.old shard.new }
-    ensures pass { OnOk result (IsSomeAnd shard.new.pass (λ (p : Pass). p.kind ≡ Rebuild)) }
+    ensures pass { OnOk result (IsSomeAnd shard.new.pass (λ (p : Pass). p.kind ≡ kind)) }
     ensures none { OnErr result (shard.new.pass ≡ None) }
-    ensures refused { IfErr result (IsPlanRefused shard.old Rebuild) }
+    ensures refused { IfErr result (IsPlanRefused shard.old kind) }
     ensures first { IfOk result (λ at. at ≡ 0) }
     ensures goes { (part : Part) (pieces : Pieces) (x : Metaslab) → IsMetaslab R.Rack A.Area part pieces shard.old x
-        → Goes R.Rack A.Area part pieces x shard.new (λ holds y. StartIs part result holds × SameBlocks x y) }
+        → Goes R.Rack A.Area part pieces x shard.new (λ holds y. StartIs part kind result holds × SameBlocks x y) }
 {
-    match plan(shard, PassKind::Rebuild) {
+    match plan(shard, kind) {
         Ok(_) => Ok(0),
         Err(fault) => Err(fault),
     }
@@ -114,7 +118,7 @@ pub(crate) fn ready_in<R: Rack, A: Area>(shard: &mut Shard<R, A>) -> bool
     ensures valid { Valid R.Rack shard.new }
     ensures table { KeepsTable shard.old shard.new }
     ensures areas { SameAreas shard.old shard.new }
-    ensures runs { result ≡ true → IsSomeAnd shard.new.pass IsRunningRebuild }
+    ensures runs { result ≡ true → IsSomeAnd shard.new.pass (IsRunningOf Rebuild) }
     ensures waits { result ≡ false → shard.new ≡ shard.old }
     ensures goes { (part : Part) (pieces : Pieces) (x : Metaslab) → IsMetaslab R.Rack A.Area part pieces shard.old x
         → Goes R.Rack A.Area part pieces x shard.new (λ holds y. ReadyIs part result holds × SameBlocks x y) }
@@ -126,7 +130,7 @@ pub(crate) fn ready_in<R: Rack, A: Area>(shard: &mut Shard<R, A>) -> bool
 }
 
 /// Whether a pass runs.
-fn is_running(pass: &Option<Pass>) -> bool
+pub(crate) fn is_running(pass: &Option<Pass>) -> bool
     ensures { IsTrue result ↔ IsSomeAnd pass.now (λ (p : Pass). p.running ≡ true) }
 {
     match pass {
@@ -135,62 +139,35 @@ fn is_running(pass: &Option<Pass>) -> bool
     }
 }
 
-/// Lends the next stripe and lands it, unless no more is to be lent; or ends the pass, where nothing is left.
-pub(crate) fn next_in<R: Rack, A: Area>(shard: &mut Shard<R, A>, used_up: bool) -> Next
+/// Lends the next stripe or block and lands it, unless no more is to be lent; or ends the pass, where nothing is left.
+pub(crate) fn next_in<R: Rack, A: Area>(
+    shard: &mut Shard<R, A>,
+    kind: PassKind,
+    used_up: bool,
+) -> Next
     requires valid { Valid R.Rack shard.old }
-    requires running { IsSomeAnd shard.old.pass IsRunningRebuild }
+    requires running { IsSomeAnd shard.old.pass (IsRunningOf kind) }
     ensures valid { Valid R.Rack shard.new }
     ensures table { SharesTable shard.old shard.new }
     ensures areas { SameAreas shard.old shard.new }
-    ensures landed { result ≡ Next.Landed → (used_up ≡ false) × MovesOn shard.old shard.new }
+    ensures landed { (repaired : ℕ) → result ≡ Next.Landed repaired → (used_up ≡ false) × MovesOn kind shard.old shard.new × (repaired ≤ 2 ^ 8) }
     ensures ended { (errors : ℕ) → result ≡ Next.Ended errors → shard.new.pass ≡ None }
     ensures low { (errors : ℕ) → result ≡ Next.Ended errors → errors ≤ LAST_NUMBER }
     ensures paused { result ≡ Next.Paused → used_up ≡ true }
-    ensures stays_paused { result ≡ Next.Paused → shard.new.pass ≡ shard.old.pass }
-    ensures stays_worn { result ≡ Next.Worn → shard.new.pass ≡ shard.old.pass }
-    ensures stays_starved { result ≡ Next.NoMemory → shard.new.pass ≡ shard.old.pass }
+    ensures stays { result ≡ Next.Paused → shard.new.pass ≡ shard.old.pass }
     ensures goes { (part : Part) (pieces : Pieces) (x : Metaslab) → IsMetaslab R.Rack A.Area part pieces shard.old x → HasContents part pieces x
-        → Goes R.Rack A.Area part pieces x shard.new (λ holds y. NextIs part used_up result holds × SameBlocks x y) }
+        → GoesTo R.Rack A.Area part pieces x shard.new (λ holds y. NextIs part kind used_up result holds × SameBlocks x y) }
 {
     if used_up {
-        return rest_in(shard);
+        return rest_in(shard, kind);
     }
-    unit_in(shard)
-}
-
-/// Lends the next stripe and lands it; or ends the pass, where nothing is left.
-fn unit_in<R: Rack, A: Area>(shard: &mut Shard<R, A>) -> Next
-    requires valid { Valid R.Rack shard.old }
-    requires running { IsSomeAnd shard.old.pass IsRunningRebuild }
-    ensures valid { Valid R.Rack shard.new }
-    ensures table { SharesTable shard.old shard.new }
-    ensures areas { SameAreas shard.old shard.new }
-    ensures landed { result ≡ Next.Landed → MovesOn shard.old shard.new }
-    ensures ended { (errors : ℕ) → result ≡ Next.Ended errors → (shard.new.pass ≡ None) × (errors ≤ LAST_NUMBER) }
-    ensures worn { result ≡ Next.Worn → shard.new.pass ≡ shard.old.pass }
-    ensures starved { result ≡ Next.NoMemory → shard.new.pass ≡ shard.old.pass }
-    ensures never { result ≡ Next.Paused → ⊥ }
-    ensures goes { (part : Part) (pieces : Pieces) (x : Metaslab) → IsMetaslab R.Rack A.Area part pieces shard.old x → HasContents part pieces x
-        → Goes R.Rack A.Area part pieces x shard.new (λ holds y. NextIs part false result holds × SameBlocks x y) }
-{
-    match lend(shard) {
-        Ok(Lent::Unit) => {
-            solve(shard);
-            land(shard);
-            Next::Landed
-        }
-        Ok(Lent::End) => Next::Ended {
-            errors: end_in(shard),
-        },
-        Err(LendFault::Worn { .. }) => Next::Worn,
-        Err(LendFault::NoMemory) => Next::NoMemory,
-    }
+    unit_in(shard, kind)
 }
 
 /// What is to come where no more is to be lent: the pass ends, where nothing is left.
-fn rest_in<R: Rack, A: Area>(shard: &mut Shard<R, A>) -> Next
+fn rest_in<R: Rack, A: Area>(shard: &mut Shard<R, A>, kind: PassKind) -> Next
     requires valid { Valid R.Rack shard.old }
-    requires running { IsSomeAnd shard.old.pass IsRunningRebuild }
+    requires running { IsSomeAnd shard.old.pass (IsRunningOf kind) }
     ensures valid { Valid R.Rack shard.new }
     ensures table { SharesTable shard.old shard.new }
     ensures areas { SameAreas shard.old shard.new }
@@ -198,9 +175,9 @@ fn rest_in<R: Rack, A: Area>(shard: &mut Shard<R, A>) -> Next
     ensures ended { (errors : ℕ) → result ≡ Next.Ended errors → (shard.new.pass ≡ None) × (errors ≤ LAST_NUMBER) }
     ensures others { (result ≡ Next.Paused) ⊎ ((errors : ℕ) × (result ≡ Next.Ended errors)) }
     ensures goes { (part : Part) (pieces : Pieces) (x : Metaslab) → IsMetaslab R.Rack A.Area part pieces shard.old x
-        → Goes R.Rack A.Area part pieces x shard.new (λ holds y. NextIs part true result holds × SameBlocks x y) }
+        → Goes R.Rack A.Area part pieces x shard.new (λ holds y. NextIs part kind true result holds × SameBlocks x y) }
 {
-    if has_more(shard) {
+    if has_more(shard, kind) {
         return Next::Paused;
     }
     Next::Ended {
@@ -208,23 +185,26 @@ fn rest_in<R: Rack, A: Area>(shard: &mut Shard<R, A>) -> Next
     }
 }
 
-/// Whether a rebuild has something left to lend.
-fn has_more<R: Rack, A: Area>(shard: &Shard<R, A>) -> bool
+/// Whether a pass has something left to lend.
+fn has_more<R: Rack, A: Area>(shard: &Shard<R, A>, kind: PassKind) -> bool
     requires valid { Valid R.Rack shard.now }
-    requires running { IsSomeAnd shard.now.pass IsRunningRebuild }
-    ensures more { result ≡ true → HasTakenLeft shard.now }
+    requires running { IsSomeAnd shard.now.pass (IsRunningOf kind) }
+    ensures more { result ≡ true → HasBlockLeft shard.now }
     ensures none { result ≡ false → HasNothingLeft shard.now }
 {
     match &shard.pass {
-        Some(pass) => shard.next_taken(pass.at).is_some(),
+        Some(pass) => match kind {
+            PassKind::Rebuild => shard.next_taken(pass.at).is_some(),
+            PassKind::Heal => shard.next_block(pass.at, pass.max).is_some(),
+        },
         None => false,
     }
 }
 
-/// The rebuild ends, of which nothing is left; the answer is how many errors it has, a number of 48 bits.
-fn end_in<R: Rack, A: Area>(shard: &mut Shard<R, A>) -> u64
+/// The pass ends, of which nothing is left; the answer is how many errors it has, a number of 48 bits.
+pub(crate) fn end_in<R: Rack, A: Area>(shard: &mut Shard<R, A>) -> u64
     requires valid { Valid R.Rack shard.old }
-    requires running { IsSomeAnd shard.old.pass IsRunningRebuild }
+    requires running { IsSomeAnd shard.old.pass (λ (p : Pass). p.running ≡ true) }
     requires left { HasNothingLeft shard.old }
     ensures valid { Valid R.Rack shard.new }
     ensures table { SharesTable shard.old shard.new }

@@ -1,7 +1,7 @@
 use Rattle.std.proofs.Common.{◌∙◌, inl, inr, true, false, IfOk, ap, refl, subst, sym}
 use Rattle.std.specs.Fn.{FnReturnsAt}
 use Rattle.draid_session.specs.Choices.{choices_by}
-use Rattle.draid_script.specs.Line.{AttachSpare, FillObjects, IsInRange, TakeOffline, TakeOnline, DetachArm, UpgradePool, WriteObject, command_in, RebuildPool, ReplaceDisk, CancelPasses}
+use Rattle.draid_script.specs.Line.{AttachSpare, FillObjects, IsInRange, TakeOffline, TakeOnline, DetachArm, UpgradePool, WriteObject, command_in, RebuildPool, ScrubPool, ReplaceDisk, CancelPasses}
 use Rattle.draid_session.specs.Replies.{IsReplyTo}
 use Rattle.draid_pool.specs.Knows.{Teaches}
 use Rattle.draid_pool.proofs.Rises.{rose_fails}
@@ -10,7 +10,7 @@ use Rattle.draid_session.specs.Certain.{MakesLeaves}
 use Rattle.draid_session.specs.Session.{MayBreak}
 use Rattle.draid_changes.specs.Behind.{ArmsBehind}
 use Rattle.draid_visits.specs.Behind.{PassesBehind}
-use Rattle.draid_run.proofs.Asking.{asks_nothing, each_reply, replied_as, replied_damage, replied_detach, replied_free, replied_read, replied_spare, replied_status, replied_sum, replied_switch, replied_upgrade, replied_replace, replied_cancel, replied_rebuild}
+use Rattle.draid_run.proofs.Asking.{asks_nothing, each_reply, replied_as, replied_damage, replied_detach, replied_free, replied_read, replied_spare, replied_status, replied_sum, replied_switch, replied_upgrade, replied_replace, replied_cancel, replied_rebuild, replied_scrub}
 use Rattle.draid_run.proofs.replies.reply.Goals as goal
 
 pub returns-in-Write : goal.returns-in-Write
@@ -187,6 +187,18 @@ returns-in-Rebuild g c =
       step = λ x rep. replied_rebuild g.R.Rack g.A.Area (choices_by (FnReturnsAt g.F.Fn c.args.chooser.now)) c.args.line.now x c.reply_to_rebuild.new.pool c.in-Rebuild.limit c.reply_to_rebuild.result c.in-Rebuild.is (e.step x rep);
     }
 
+pub returns-in-Scrub : goal.returns-in-Scrub
+returns-in-Scrub g c = record {
+  whole = c.reply_to_scrub.ensures.whole;
+  fits = subst (λ k. IsReplyTo k c.reply_to_scrub.result) (sym (ap command_in c.in-Scrub.is)) c.reply_to_scrub.ensures.fits;
+  knows = subst (λ k. Teaches k c.reply_to_scrub.result c.args.pool.now c.reply_to_scrub.new.pool) (sym (ap command_in c.in-Scrub.is))
+      (teaches_nothing (ScrubPool c.in-Scrub.limit) c.reply_to_scrub.result (λ known. refl) c.args.pool.now c.reply_to_scrub.new.pool c.reply_to_scrub.ensures.same);
+  arms = subst (λ k. ArmsBehind k c.reply_to_scrub.result c.reply_to_scrub.new.pool) (sym (ap command_in c.in-Scrub.is)) tt;
+  passes = subst (λ k. PassesBehind k c.reply_to_scrub.result c.reply_to_scrub.new.pool) (sym (ap command_in c.in-Scrub.is)) c.reply_to_scrub.ensures.passes;
+  breaks = λ failed. absurd (cc failed);
+  step = λ x rep. replied_scrub g.R.Rack g.A.Area (choices_by (FnReturnsAt g.F.Fn c.args.chooser.now)) c.args.line.now x c.reply_to_scrub.new.pool c.reply_to_scrub.result c.in-Scrub.limit c.in-Scrub.is (c.reply_to_scrub.ensures.step x rep);
+}
+
 pub returns-in-Cancel : goal.returns-in-Cancel
 returns-in-Cancel g c = record {
   whole = c.reply_to_cancel.ensures.whole;
@@ -223,7 +235,7 @@ returns-in-Status g c = record {
 
 pub unreachable-requires : goal.unreachable-requires
 unreachable-requires g c =
-    c.requires.asks (asks_nothing c.args.line.now c.in_default.not-Write c.in_default.not-Fill c.in_default.not-Read c.in_default.not-Free c.in_default.not-Sum c.in_default.not-Offline c.in_default.not-Online c.in_default.not-Damage c.in_default.not-Spare c.in_default.not-Replace c.in_default.not-Status c.in_default.not-Detach c.in_default.not-Upgrade c.in_default.not-Rebuild c.in_default.not-Cancel)
+    c.requires.asks (asks_nothing c.args.line.now c.in_default.not-Write c.in_default.not-Fill c.in_default.not-Read c.in_default.not-Free c.in_default.not-Sum c.in_default.not-Offline c.in_default.not-Online c.in_default.not-Damage c.in_default.not-Spare c.in_default.not-Replace c.in_default.not-Status c.in_default.not-Detach c.in_default.not-Upgrade c.in_default.not-Rebuild c.in_default.not-Scrub c.in_default.not-Cancel)
 
 pub reply_to_write-requires-clause-range : goal.reply_to_write-requires-clause-range
 reply_to_write-requires-clause-range g c = subst IsInRange (ap command_in c.in-Write.is ∙ ap (WriteObject c.in-Write.object) (sym c.deref.ensures.value)) c.requires.range
@@ -257,6 +269,9 @@ reply_to_read-requires g c = record { whole = c.requires.whole }
 
 pub reply_to_rebuild-requires : goal.reply_to_rebuild-requires
 reply_to_rebuild-requires g c = record { whole = c.requires.whole }
+
+pub reply_to_scrub-requires : goal.reply_to_scrub-requires
+reply_to_scrub-requires g c = record { whole = c.requires.whole }
 
 pub reply_to_cancel-requires : goal.reply_to_cancel-requires
 reply_to_cancel-requires g c = record { whole = c.requires.whole }

@@ -1,4 +1,4 @@
-use Rattle.std.proofs.Common.{◌≡◌, ◌<◌, ◌≤◌, ◌∙◌, arith, inl, inr, length, refl, sym}
+use Rattle.std.proofs.Common.{◌<◌, ◌≤◌, ◌∙◌, arith, inl, inr, length, refl, sym}
 use Rattle.std.proofs.lemmas.Bool.{true≢false}
 use Rattle.draid_pool.proofs.Rises.{areas_on, areas_still, rose_then}
 use Rattle.draid_visits.proofs.AllVisits.{FromOn, visiting_by, visiting_ends, visiting_on, visiting_pauses, visiting_stops}
@@ -18,8 +18,8 @@ loop-metaslab-init g c = record {
   low = c.requires.low;
   left = λ limit is. is;
   began = inr (refl, λ k less. absurd (omega (arith, less)));
-  idle = idle_first c.args.marks.now c.args.pool.now c.requires.alone c.requires.marks;
-  carries = λ x is sees. leads_none g.R.Rack g.A.Area (FromOn x c.args.progress.now 0) c.args.pool.now x is;
+  idle = idle_first c.args.kind c.args.marks.now c.args.pool.now c.requires.marks;
+  carries = λ x is. leads_none g.R.Rack g.A.Area (FromOn x c.args.kind c.args.marks.now c.args.progress.now 0) c.args.pool.now x is;
 }
 
 pub visit-requires : goal.visit-requires
@@ -57,9 +57,9 @@ returns-in-Paused g c =
       left = λ limit is. e.left limit (i.left limit is);
       paused = e.paused;
       began = e.began;
-      leaves = runs_there new m (omega (arith, inside, many, long)) e.leaves;
-      carries = λ x is sees. (let y = seen_in g.R.Rack g.A.Area old x is m inside in
-          visiting_pauses g.R.Rack g.A.Area c.args.progress.now m l.pool new x y.0 y.1 ((sees m y.0 y.1).0 c.if-not-marks-metaslab.false) l.progress now (i.carries x is sees) e.carries);
+      leaves = runs_there c.args.kind new m (omega (arith, inside, many, long)) e.leaves;
+      carries = λ x is. (let y = seen_in g.R.Rack g.A.Area old x is m inside in
+          visiting_pauses g.R.Rack g.A.Area c.args.kind c.args.marks.now c.args.progress.now m l.pool new x y.0 y.1 c.if-not-marks-metaslab.false l.progress now (i.carries x is) e.carries);
     }
 
 pub returns-in-Stopped : goal.returns-in-Stopped
@@ -80,13 +80,13 @@ returns-in-Stopped g c =
       whole = e.whole;
       same = λ object. e.same object ∙ i.same object;
       later = areas_on g.A.Area.faults old l.pool new i.later e.later;
-      cause = λ is. rose_then g.A.Area.faults old l.pool new i.later (e.cause is);
+      cause = λ is. (let f = e.cause is in (f.0, rose_then g.A.Area.faults old l.pool new i.later f.1));
       left = λ limit is. e.left limit (i.left limit is);
       paused = tt;
       began = tt;
       leaves = tt;
-      carries = λ x is sees. (let y = seen_in g.R.Rack g.A.Area old x is m inside in
-          visiting_stops g.R.Rack g.A.Area c.args.progress.now m l.pool new x y.0 y.1 ((sees m y.0 y.1).0 c.if-not-marks-metaslab.false) l.progress now c.in-Stopped.why (i.carries x is sees) e.carries);
+      carries = λ x is. (let y = seen_in g.R.Rack g.A.Area old x is m inside in
+          visiting_stops g.R.Rack g.A.Area c.args.kind c.args.marks.now c.args.progress.now m l.pool new x y.0 y.1 c.if-not-marks-metaslab.false l.progress now c.in-Stopped.why (i.carries x is) e.carries);
     }
 
 pub returns : goal.returns
@@ -109,7 +109,7 @@ returns g c =
       paused = tt;
       began = began_all c.args.marks.now m old l.pool l.progress all c.requires.some i.began;
       leaves = idle_all c.args.marks.now m l.pool (omega (arith, all, many)) i.idle;
-      carries = λ x is sees. visiting_ends g.R.Rack g.A.Area c.args.progress.now m l.pool x l.progress (i.carries x is sees) (let seen = is.stands.shards in omega (arith, all, seen));
+      carries = λ x is. visiting_ends g.R.Rack g.A.Area c.args.kind c.args.marks.now c.args.progress.now m l.pool x l.progress (i.carries x is) (let seen = is.stands.shards in omega (arith, all, seen));
     }
 
 pub loop-metaslab-preserved : goal.loop-metaslab-preserved
@@ -129,16 +129,16 @@ loop-metaslab-preserved g c =
     let mark = c.if-not-marks-metaslab.false in
     record {
       whole = e.whole;
-      alone = alone_visited m l.pool new e.later.many e.others e.leaves i.alone;
+      alone = alone_visited c.args.kind m l.pool new e.later.many e.others e.leaves i.alone;
       same = λ object. e.same object ∙ i.same object;
       later = areas_on g.A.Area.faults old l.pool new i.later e.later;
       many = e.later.many ∙ i.many;
       low = e.low;
       left = λ limit is. e.left limit (i.left limit is);
-      began = inl (began_more c.args.marks.now m old l.pool l.progress now inside c.requires.marks mark i.began e.began e.from);
+      began = inl (began_more c.args.kind c.args.marks.now m old l.pool l.progress now inside c.requires.marks mark i.began e.began e.from);
       idle = idle_visited c.args.marks.now m l.pool new e.later.many e.others e.leaves i.idle;
-      carries = λ x is sees. (let y = seen_in g.R.Rack g.A.Area old x is m inside in
-          visiting_on g.R.Rack g.A.Area c.args.progress.now m l.pool new x y.0 y.1 ((sees m y.0 y.1).0 mark) l.progress now (i.carries x is sees) e.carries);
+      carries = λ x is. (let y = seen_in g.R.Rack g.A.Area old x is m inside in
+          visiting_on g.R.Rack g.A.Area c.args.kind c.args.marks.now c.args.progress.now m l.pool new x y.0 y.1 mark l.progress now (i.carries x is) e.carries);
     }
 
 pub loop-metaslab-preserved-then-not-marks-metaslab : goal.loop-metaslab-preserved-then-not-marks-metaslab
@@ -162,6 +162,6 @@ loop-metaslab-preserved-then-not-marks-metaslab g c =
       left = i.left;
       began = began_passed c.args.marks.now m old l.pool l.progress none i.began;
       idle = idle_passed c.args.marks.now m l.pool none i.idle;
-      carries = λ x is sees. (let y = seen_in g.R.Rack g.A.Area old x is m inside in
-          visiting_by g.R.Rack g.A.Area c.args.progress.now m l.pool x y.0 l.progress y.1 (λ rebuilt. true≢false (sym ((sees m y.0 y.1).1 rebuilt) ∙ none)) (i.carries x is sees));
+      carries = λ x is. (let y = seen_in g.R.Rack g.A.Area old x is m inside in
+          visiting_by g.R.Rack g.A.Area c.args.kind c.args.marks.now c.args.progress.now m l.pool x y.0 l.progress y.1 (λ marked. true≢false (sym marked ∙ none)) (i.carries x is));
     }

@@ -1,12 +1,11 @@
-use Rattle.std.proofs.Common.{◌≡◌, ◌<◌, ◌⊎◌, ℕ, false, Option, Some, None, length, slice_index_or}
-use Rattle.std.specs.Prelude.{IsSome, slice_get}
-use Rattle.draid_shard.specs.declared.shard.Shard.{Shard}
+use Rattle.std.proofs.Common.{◌≡◌, ◌⊎◌, ℕ, Option, length}
+use Rattle.std.specs.Prelude.{IsSome}
 use Rattle.draid_session.specs.State.{State}
 use Rattle.draid_pool.specs.Failing.{AreasLater}
 use Rattle.draid_pool.specs.Pointers.{SamePointers}
 use Rattle.draid_pool.specs.Pools.{Represents}
 use Rattle.draid_pool.specs.Whole.{IsWhole}
-use Rattle.draid_visits.specs.Visiting.{AreAll, IsLeft, IsLow, IsNoScrub, SeesMarks}
+use Rattle.draid_visits.specs.Visiting.{AreAll, IsLeft, IsLow, IsOnly}
 use Rattle.draid_visits.proofs.AllVisits.{Visiting}
 use Rattle.draid_visits.proofs.Idle.{IsIdleUpto, NoneUpto}
 use Rattle.draid_visits.proofs.rebuilding.visit_all.Given as goal
@@ -14,7 +13,7 @@ use Rattle.draid_visits.proofs.rebuilding.visit_all.Given as goal
 abbrev pub invariant-loop-metaslab : goal.invariant-loop-metaslab
 invariant-loop-metaslab g l = record {
   whole : IsWhole g.R.Rack g.A.Area l.pool;
-  alone : AreAll l.pool IsNoScrub;
+  alone : AreAll l.pool (IsOnly l.kind);
   same : SamePointers l.initial.pool l.pool;
   later : AreasLater g.A.Area.faults l.initial.pool l.pool;
   many : length l.pool.metaslabs.shards.items ≡ length l.initial.pool.metaslabs.shards.items;
@@ -22,5 +21,5 @@ invariant-loop-metaslab g l = record {
   left : (limit : Option ℕ) → IsLeft limit l.initial.progress → IsLeft limit l.progress;
   began : IsSome l.progress.from ⊎ ((l.pool ≡ l.initial.pool) × NoneUpto l.marks l.metaslab);
   idle : IsIdleUpto l.marks l.metaslab l.pool;
-  carries : (x : State) → Represents g.R.Rack g.A.Area l.initial.pool x → SeesMarks x l.marks → Visiting g.R.Rack g.A.Area l.initial.progress l.progress l.metaslab l.pool x;
+  carries : (x : State) → Represents g.R.Rack g.A.Area l.initial.pool x → Visiting g.R.Rack g.A.Area l.kind l.marks l.initial.progress l.progress l.metaslab l.pool x;
 }

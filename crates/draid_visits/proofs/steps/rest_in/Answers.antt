@@ -1,5 +1,8 @@
-use Rattle.draid_visits.proofs.Over.{paused}
+use Rattle.draid_visits.proofs.Over.{paused, runs_of}
 use Rattle.draid_visits.proofs.steps.rest_in.Goals as goal
 
+pub end_in-requires : goal.end_in-requires
+end_in-requires g c = record { valid = c.requires.valid; running = runs_of c.args.kind c.args.shard.now.pass c.requires.running; left = c.has_more.ensures.none c.if-has_more.false }
+
 pub returns-then-has_more-clause-goes : goal.returns-then-has_more-clause-goes
-returns-then-has_more-clause-goes g c = λ part pieces x is. paused g.R.Rack g.A.Area part pieces c.args.shard.now x is c.requires.running (c.has_more.ensures.more c.if-has_more.true)
+returns-then-has_more-clause-goes g c = λ part pieces x is. paused g.R.Rack g.A.Area part pieces c.args.shard.now x is c.args.kind (c.has_more.ensures.more c.if-has_more.true)

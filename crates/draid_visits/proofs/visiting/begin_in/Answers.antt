@@ -1,6 +1,5 @@
 use Rattle.std.proofs.Common.{◌≡◌, ◌≤◌, None, Ok, Err, refl, subst}
 use Rattle.std.specs.Prelude.{IsSomeAnd, slice_get}
-use Rattle.draid_names.specs.declared.pass_kind.PassKind.TheVariants.{Rebuild}
 use Rattle.draid_pass.specs.declared.pass.Pass.{Pass}
 use Rattle.draid_passing.specs.Passing.{IsPlanRefused}
 use Rattle.draid_spec.specs.Geometry.{metaslab_stripes}
@@ -28,7 +27,7 @@ start_in-requires g c =
 pub unreachable-requires : goal.unreachable-requires
 unreachable-requires g c =
     let e = c.in-Err-PassRunning.ensures in
-    not_running c.index_mut.result.now c.in-Err-PassRunning.field-0-0 (subst (IsPlanRefused c.index_mut.result.now Rebuild) c.in-Err-PassRunning.field-0-is e.refused) e.idle
+    not_running c.args.kind c.index_mut.result.now c.in-Err-PassRunning.field-0-0 (subst (IsPlanRefused c.index_mut.result.now c.args.kind) c.in-Err-PassRunning.field-0-is e.refused) e.idle
 
 pub returns-in-Ok : goal.returns-in-Ok
 returns-in-Ok g c =
@@ -47,9 +46,9 @@ returns-in-Ok g c =
       others = others_set g.R.Rack g.A.Area m pool new shard after set;
       begins = (
         subst (λ geometry. c.in-Ok.stripe ≤ metaslab_stripes geometry) (whole_geometry g.R.Rack g.A.Area pool m shard c.requires.whole there) e.low,
-        at_set g.R.Rack g.A.Area (λ z. IsSomeAnd z.pass (λ (pass : Pass). pass.kind ≡ Rebuild)) m pool new shard after set e.pass,
+        at_set g.R.Rack g.A.Area (λ z. IsSomeAnd z.pass (λ (pass : Pass). pass.kind ≡ c.args.kind)) m pool new shard after set e.pass,
       );
-      carries = λ x is. steps_in g.R.Rack g.A.Area m pool new shard after (λ part holds. StartIs part (Ok c.in-Ok.stripe) holds) set (λ part pieces y own has. e.goes part pieces y own) x is;
+      carries = λ x is. steps_in g.R.Rack g.A.Area m pool new shard after (λ part holds. StartIs part c.args.kind (Ok c.in-Ok.stripe) holds) set (λ part pieces y own has. e.goes part pieces y own) x is;
     }
 
 pub returns-in-Err-Nothing : goal.returns-in-Err-Nothing
@@ -69,11 +68,12 @@ returns-in-Err-Nothing g c =
       others = others_set g.R.Rack g.A.Area m pool new shard after set;
       begins = (
         at_set g.R.Rack g.A.Area (λ z. z.pass ≡ None) m pool new shard after set e.none,
-        λ z at. subst (λ s. IsRebuiltIn s → ⊥) (some_of (slice_get pool.metaslabs.shards.items m) shard z there at) (lacks_so shard (subst (IsPlanRefused shard Rebuild) c.in-Err-Nothing.field-0-is e.refused)),
+        (subst (IsPlanRefused shard c.args.kind) c.in-Err-Nothing.field-0-is e.refused).1.0,
+        λ z at. subst (λ s. IsRebuiltIn s → ⊥) (some_of (slice_get pool.metaslabs.shards.items m) shard z there at) (lacks_so c.args.kind shard (subst (IsPlanRefused shard c.args.kind) c.in-Err-Nothing.field-0-is e.refused)),
       );
-      carries = λ x is. steps_as g.R.Rack g.A.Area (λ geometry perms holds. StartIs (record { geometry = geometry; perms = perms; number = m }) (Err c.in-Err-Nothing.field-0) holds) (λ geometry perms holds. BeginIs geometry perms m start.Nothing holds) pool new
-          (steps_in g.R.Rack g.A.Area m pool new shard after (λ part holds. StartIs part (Err c.in-Err-Nothing.field-0) holds) set (λ part pieces y own has. e.goes part pieces y own))
-          (λ geometry perms holds said. subst (λ why. StartIs (record { geometry = geometry; perms = perms; number = m }) (Err why) holds) c.in-Err-Nothing.field-0-is said) x is;
+      carries = λ x is. steps_as g.R.Rack g.A.Area (λ geometry perms holds. StartIs (record { geometry = geometry; perms = perms; number = m }) c.args.kind (Err c.in-Err-Nothing.field-0) holds) (λ geometry perms holds. BeginIs geometry perms c.args.kind m start.Nothing holds) pool new
+          (steps_in g.R.Rack g.A.Area m pool new shard after (λ part holds. StartIs part c.args.kind (Err c.in-Err-Nothing.field-0) holds) set (λ part pieces y own has. e.goes part pieces y own))
+          (λ geometry perms holds said. subst (λ why. StartIs (record { geometry = geometry; perms = perms; number = m }) c.args.kind (Err why) holds) c.in-Err-Nothing.field-0-is said) x is;
     }
 
 pub returns-in-Err-Worn : goal.returns-in-Err-Worn
@@ -92,9 +92,9 @@ returns-in-Err-Worn g c =
       later = areas_set g.R.Rack g.A.Area m pool new shard after set (records_same g.A.Area.faults shard after e.areas);
       others = others_set g.R.Rack g.A.Area m pool new shard after set;
       begins = λ is. absurd (cc is);
-      carries = λ x is. steps_as g.R.Rack g.A.Area (λ geometry perms holds. StartIs (record { geometry = geometry; perms = perms; number = m }) (Err c.in-Err-Worn.field-0) holds) (λ geometry perms holds. BeginIs geometry perms m (start.Stopped sync.Worn) holds) pool new
-          (steps_in g.R.Rack g.A.Area m pool new shard after (λ part holds. StartIs part (Err c.in-Err-Worn.field-0) holds) set (λ part pieces y own has. e.goes part pieces y own))
-          (λ geometry perms holds said. subst (λ why. StartIs (record { geometry = geometry; perms = perms; number = m }) (Err why) holds) c.in-Err-Worn.field-0-is said) x is;
+      carries = λ x is. steps_as g.R.Rack g.A.Area (λ geometry perms holds. StartIs (record { geometry = geometry; perms = perms; number = m }) c.args.kind (Err c.in-Err-Worn.field-0) holds) (λ geometry perms holds. BeginIs geometry perms c.args.kind m (start.Stopped sync.Worn) holds) pool new
+          (steps_in g.R.Rack g.A.Area m pool new shard after (λ part holds. StartIs part c.args.kind (Err c.in-Err-Worn.field-0) holds) set (λ part pieces y own has. e.goes part pieces y own))
+          (λ geometry perms holds said. subst (λ why. StartIs (record { geometry = geometry; perms = perms; number = m }) c.args.kind (Err why) holds) c.in-Err-Worn.field-0-is said) x is;
     }
 
 pub returns-in-Err-Last : goal.returns-in-Err-Last
@@ -113,9 +113,9 @@ returns-in-Err-Last g c =
       later = areas_set g.R.Rack g.A.Area m pool new shard after set (records_same g.A.Area.faults shard after e.areas);
       others = others_set g.R.Rack g.A.Area m pool new shard after set;
       begins = λ is. absurd (cc is);
-      carries = λ x is. steps_as g.R.Rack g.A.Area (λ geometry perms holds. StartIs (record { geometry = geometry; perms = perms; number = m }) (Err c.in-Err-Last.field-0) holds) (λ geometry perms holds. BeginIs geometry perms m (start.Stopped sync.Last) holds) pool new
-          (steps_in g.R.Rack g.A.Area m pool new shard after (λ part holds. StartIs part (Err c.in-Err-Last.field-0) holds) set (λ part pieces y own has. e.goes part pieces y own))
-          (λ geometry perms holds said. subst (λ why. StartIs (record { geometry = geometry; perms = perms; number = m }) (Err why) holds) c.in-Err-Last.field-0-is said) x is;
+      carries = λ x is. steps_as g.R.Rack g.A.Area (λ geometry perms holds. StartIs (record { geometry = geometry; perms = perms; number = m }) c.args.kind (Err c.in-Err-Last.field-0) holds) (λ geometry perms holds. BeginIs geometry perms c.args.kind m (start.Stopped sync.Last) holds) pool new
+          (steps_in g.R.Rack g.A.Area m pool new shard after (λ part holds. StartIs part c.args.kind (Err c.in-Err-Last.field-0) holds) set (λ part pieces y own has. e.goes part pieces y own))
+          (λ geometry perms holds said. subst (λ why. StartIs (record { geometry = geometry; perms = perms; number = m }) c.args.kind (Err why) holds) c.in-Err-Last.field-0-is said) x is;
     }
 
 pub returns-in-Err-NoMemory : goal.returns-in-Err-NoMemory
@@ -134,7 +134,7 @@ returns-in-Err-NoMemory g c =
       later = areas_set g.R.Rack g.A.Area m pool new shard after set (records_same g.A.Area.faults shard after e.areas);
       others = others_set g.R.Rack g.A.Area m pool new shard after set;
       begins = λ is. absurd (cc is);
-      carries = λ x is. steps_as g.R.Rack g.A.Area (λ geometry perms holds. StartIs (record { geometry = geometry; perms = perms; number = m }) (Err c.in-Err-NoMemory.field-0) holds) (λ geometry perms holds. BeginIs geometry perms m (start.Stopped sync.NoMemory) holds) pool new
-          (steps_in g.R.Rack g.A.Area m pool new shard after (λ part holds. StartIs part (Err c.in-Err-NoMemory.field-0) holds) set (λ part pieces y own has. e.goes part pieces y own))
-          (λ geometry perms holds said. subst (λ why. StartIs (record { geometry = geometry; perms = perms; number = m }) (Err why) holds) c.in-Err-NoMemory.field-0-is said) x is;
+      carries = λ x is. steps_as g.R.Rack g.A.Area (λ geometry perms holds. StartIs (record { geometry = geometry; perms = perms; number = m }) c.args.kind (Err c.in-Err-NoMemory.field-0) holds) (λ geometry perms holds. BeginIs geometry perms c.args.kind m (start.Stopped sync.NoMemory) holds) pool new
+          (steps_in g.R.Rack g.A.Area m pool new shard after (λ part holds. StartIs part c.args.kind (Err c.in-Err-NoMemory.field-0) holds) set (λ part pieces y own has. e.goes part pieces y own))
+          (λ geometry perms holds said. subst (λ why. StartIs (record { geometry = geometry; perms = perms; number = m }) c.args.kind (Err why) holds) c.in-Err-NoMemory.field-0-is said) x is;
     }

@@ -1,4 +1,4 @@
-use Rattle.std.proofs.Common.{◌≡◌, ◌∙◌, Err, arith, ap, subst}
+use Rattle.std.proofs.Common.{◌∙◌, Err, arith, ap}
 use Rattle.draid_pool.proofs.Rises.{areas_on}
 use Rattle.draid_visits.proofs.Kept.{low_upto, others_on}
 use Rattle.draid_visits.proofs.Visited.{begun_so, left_begun, stays_begun, low_begun, ran, ran_none, shelf_so}
@@ -8,7 +8,7 @@ pub stripe_of-from-requires : goal.stripe_of-from-requires
 stripe_of-from-requires g c = record { whole = c.requires.whole; there = c.requires.there; inside = c.requires.inside }
 
 pub run_in-requires : goal.run_in-requires
-run_in-requires g c = record { whole = c.requires.whole; there = c.requires.there; rebuild = c.requires.rebuild }
+run_in-requires g c = record { whole = c.requires.whole; there = c.requires.there; pass = c.requires.pass }
 
 pub returns-in-Err : goal.returns-in-Err
 returns-in-Err g c =
@@ -27,7 +27,7 @@ returns-in-Err g c =
       leaves = tt;
       began = tt;
       from = λ some. some;
-      carries = ran_none g.R.Rack g.A.Area m c.args.pool.now c.run_in.new.pool c.args.stripe was was c.in-Err.why f.carries;
+      carries = ran_none g.R.Rack g.A.Area c.args.kind m c.args.pool.now c.run_in.new.pool c.args.stripe was was c.in-Err.why f.carries;
     }
 
 pub lend_all-requires : goal.lend_all-requires
@@ -65,5 +65,5 @@ returns g c =
       leaves = f.leaves;
       from = λ some. stays_begun c.stripe_of-from.result was at now c.begin.ensures f.from;
       began = begun_so c.lend_all.result c.stripe_of-from.result was at now c.begin.ensures f.from;
-      carries = ran g.R.Rack g.A.Area m old mid new c.args.stripe c.stripe_of-from.result was at now c.lend_all.result c.stripe_of-from.ensures c.begin.ensures d.carries f.carries;
+      carries = ran g.R.Rack g.A.Area c.args.kind m old mid new c.args.stripe c.stripe_of-from.result was at now c.lend_all.result c.stripe_of-from.ensures c.begin.ensures d.carries f.carries;
     }

@@ -1,4 +1,4 @@
-use Rattle.std.proofs.Common.{◌≡◌, ◌∙◌, arith, inr, refl}
+use Rattle.std.proofs.Common.{◌∙◌, arith, inr, refl}
 use Rattle.draid_pool.proofs.Rises.{areas_on, rose_then}
 use Rattle.draid_visits.proofs.Kept.{low_upto, others_on}
 use Rattle.draid_visits.proofs.Visited.{began_so, shelf_so, visit_stops, visited_none, visited_on}
@@ -15,7 +15,7 @@ run-requires g c =
       there = (let inside = c.requires.there in
           let many = e.later.many in
           omega (arith, inside, many));
-      rebuild = e.begins.1;
+      pass = e.begins.1;
       inside = e.begins.0;
       low = c.requires.low;
     }
@@ -32,15 +32,15 @@ returns-in-At g c =
       whole = f.whole;
       same = λ object. f.same object ∙ e.same object;
       later = areas_on g.A.Area.faults old mid new e.later f.later;
-      cause = λ is. rose_then g.A.Area.faults old mid new e.later (f.cause is);
+      cause = λ is. (let f = f.cause is in (f.0, rose_then g.A.Area.faults old mid new e.later f.1));
       low = f.low;
       left = f.left;
       paused = f.paused;
       others = others_on m old mid new e.later.many e.others f.others;
       leaves = f.leaves;
       from = f.from;
-      began = began_so c.run.result old m c.args.progress.now c.run.new.progress f.began;
-      carries = visited_on g.R.Rack g.A.Area m old mid new c.in-At.stripe c.args.progress.now c.run.new.progress c.run.result e.carries f.carries;
+      began = began_so c.args.kind c.run.result old m c.args.progress.now c.run.new.progress f.began;
+      carries = visited_on g.R.Rack g.A.Area c.args.kind m old mid new c.in-At.stripe c.args.progress.now c.run.new.progress c.run.result e.carries f.carries;
     }
 
 pub returns-in-Nothing : goal.returns-in-Nothing
@@ -60,8 +60,8 @@ returns-in-Nothing g c =
       others = e.others;
       leaves = e.begins.0;
       from = λ some. some;
-      began = inr (refl, e.begins.1);
-      carries = visited_none g.R.Rack g.A.Area m old new c.args.progress.now e.carries;
+      began = inr (refl, e.begins.1, e.begins.2);
+      carries = visited_none g.R.Rack g.A.Area c.args.kind m old new c.args.progress.now e.carries;
     }
 
 pub returns-in-Stopped : goal.returns-in-Stopped
@@ -82,5 +82,5 @@ returns-in-Stopped g c =
       leaves = tt;
       from = λ some. some;
       began = tt;
-      carries = visit_stops g.R.Rack g.A.Area m old new c.args.progress.now c.args.progress.now c.in-Stopped.why e.carries;
+      carries = visit_stops g.R.Rack g.A.Area c.args.kind m old new c.args.progress.now c.args.progress.now c.in-Stopped.why e.carries;
     }

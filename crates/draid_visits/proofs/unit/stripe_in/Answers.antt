@@ -1,10 +1,11 @@
 use Rattle.std.proofs.Common.{subst, sym}
+use Rattle.draid_names.specs.declared.pass_kind.PassKind.TheVariants.{Rebuild}
 use Rattle.draid_shard.specs.declared.loan.Lent.TheVariants.{End, Unit}
 use Rattle.draid_pool.specs.Metaslabs.{IsMetaslab}
 use Rattle.draid_visits.proofs.Over.{ok_as, starved, unit_left, worn, worn_as}
 use Rattle.draid_visits.proofs.Tables.{table_landed}
-use Rattle.draid_visits.proofs.Units.{moves_on, unit_goes}
-use Rattle.draid_visits.proofs.steps.unit_in.Goals as goal
+use Rattle.draid_visits.proofs.Units.{landed_none, moves_on, running_of, unit_goes}
+use Rattle.draid_visits.proofs.unit.stripe_in.Goals as goal
 
 pub returns-in-Ok-Unit-clause-table : goal.returns-in-Ok-Unit-clause-table
 returns-in-Ok-Unit-clause-table g c =
@@ -14,12 +15,12 @@ returns-in-Ok-Unit-clause-table g c =
     table_landed c.args.shard.now c.lend.new.shard c.solve.new.shard c.land.new.shard unit.does.part l.keeps l.arms c.solve.ensures.only e.lands.does.part e.keeps e.slots
 
 pub returns-in-Ok-Unit-clause-landed : goal.returns-in-Ok-Unit-clause-landed
-returns-in-Ok-Unit-clause-landed g c = λ same.
+returns-in-Ok-Unit-clause-landed g c = λ repaired same.
     (let l = c.lend.ensures in
     let unit = l.unit (ok_as c.lend.result c.in-Ok-Unit.field-0 Unit c.in-Ok-Unit.is c.in-Ok-Unit.field-0-is) in
     let s = c.solve.ensures in
     let e = c.land.ensures in
-    moves_on g.R.Rack c.args.shard.now c.lend.new.shard c.solve.new.shard c.land.new.shard c.requires.running unit l.pass l.valid s.only s.solves e.lands.does.part e.moves)
+    (moves_on g.R.Rack c.args.shard.now c.lend.new.shard c.solve.new.shard c.land.new.shard c.requires.running unit l.pass l.valid s.only s.solves e.lands.does.part e.moves, landed_none repaired same))
 
 pub returns-in-Ok-Unit-clause-goes : goal.returns-in-Ok-Unit-clause-goes
 returns-in-Ok-Unit-clause-goes g c = λ part pieces x at contents.
@@ -38,12 +39,14 @@ returns-in-Ok-End-clause-goes g c = λ part pieces x at contents.
 pub returns-in-Err-Worn-clause-goes : goal.returns-in-Err-Worn-clause-goes
 returns-in-Err-Worn-clause-goes g c = λ part pieces x at contents.
     (let old = c.args.shard.now in
+    let z = running_of old.pass c.requires.running in
     let why = c.in-Err-Worn in
     let e = why.ensures in
-    worn g.R.Rack g.A.Area part pieces old x at c.lend.new.shard e.valid e.none.none e.kit e.reserve c.requires.running (unit_left old e.more) (worn_as old why.field-0 why.field-0-0 e.refused why.field-0-is))
+    worn g.R.Rack g.A.Area part pieces old x at c.lend.new.shard e.valid e.none.none e.kit e.reserve Rebuild (unit_left old z.pass z.there z.is.rebuild e.more) (worn_as old why.field-0 why.field-0-0 e.refused why.field-0-is))
 
 pub returns-in-Err-NoMemory-clause-goes : goal.returns-in-Err-NoMemory-clause-goes
 returns-in-Err-NoMemory-clause-goes g c = λ part pieces x at contents.
     (let old = c.args.shard.now in
+    let z = running_of old.pass c.requires.running in
     let e = c.in-Err-NoMemory.ensures in
-    starved g.R.Rack g.A.Area part pieces old x at c.lend.new.shard e.valid e.none.none e.kit e.reserve c.requires.running (unit_left old e.more))
+    starved g.R.Rack g.A.Area part pieces old x at c.lend.new.shard e.valid e.none.none e.kit e.reserve Rebuild (unit_left old z.pass z.there z.is.rebuild e.more))

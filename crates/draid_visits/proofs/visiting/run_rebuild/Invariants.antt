@@ -1,4 +1,4 @@
-use Rattle.std.proofs.Common.{◌≡◌, ◌<◌, ◌-◌, ℕ, length}
+use Rattle.std.proofs.Common.{◌≡◌, ◌-◌, length}
 use Rattle.std.specs.Prelude.{IsSomeAnd}
 use Rattle.draid_names.specs.declared.numbers.TheConstants.{LAST_NUMBER}
 use Rattle.draid_names.specs.declared.pass_kind.PassKind.TheVariants.{Rebuild}
@@ -10,7 +10,7 @@ use Rattle.draid_pool.specs.Pools.{Represents, group_in}
 use Rattle.draid_pool.specs.Whole.{IsWhole}
 use Rattle.draid_visits.specs.Visiting.{IsAt, KeepsOthers}
 use Rattle.draid_visits.proofs.Waiting.{Waiting}
-use Rattle.draid_visits.proofs.visiting.run_in.Given as goal
+use Rattle.draid_visits.proofs.visiting.run_rebuild.Given as goal
 
 abbrev pub invariant-loop-metaslab : goal.invariant-loop-metaslab
 invariant-loop-metaslab g l = record {
