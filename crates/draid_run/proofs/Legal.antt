@@ -1,5 +1,5 @@
 -- Legal histories give the states of a pool's metaslabs at the end of a run, where they did at its beginning.
-use Rattle.std.proofs.Common.{◌≡◌, ℕ, Bool, true, false, List, Option, Some, None, Global, sym, subst}
+use Rattle.std.proofs.Common.{ℕ, Bool, true, false, List, Option, Some, None, Global, sym, subst}
 use Rattle.draid_session.specs.Present.{DeskReached}
 use Rattle.draid_session.specs.Session.{Bare, Cause, Desk, Foreign, Made, Open, RecordFails, ShelfFails, Shut, Unknown, Untouched}
 use Rattle.draid_session.proofs.Reaching.{breaks_reached}
