@@ -82,9 +82,8 @@ const BEHIND: u64 = 29;
 
 /// Whether the scrub told of an error.
 fn has_errors(printed: &[u8]) -> bool {
-    printed
-        .split(|byte: &u8| *byte == b'\n')
-        .any(|line| line.starts_with(b"scrub ") && !line.ends_with(b" errors=0 done"))
+    printed.split(|byte: &u8| *byte == b'\n').any(|line| line.starts_with(b"scrub ")
+        && !line.ends_with(b" errors=0 done"))
 }
 
 /// Whether the object is read still, though this call of the first scrub fails, and the scrub tells of it.
