@@ -19,6 +19,7 @@ loop-metaslab-init g c = record {
   left = λ limit is. is;
   began = inr (refl, λ k less. absurd (omega (arith, less)));
   idle = idle_first c.args.kind c.args.marks.now c.args.pool.now c.requires.marks;
+  closing = λ heal is. is;
   carries = λ x is. leads_none g.R.Rack g.A.Area (FromOn x c.args.kind c.args.marks.now c.args.progress.now 0) c.args.pool.now x is;
 }
 
@@ -58,6 +59,7 @@ returns-in-Paused g c =
       paused = e.paused;
       began = e.began;
       leaves = runs_there c.args.kind new m (omega (arith, inside, many, long)) e.leaves;
+      idle = λ heal is. e.idle heal (i.closing heal is);
       carries = λ x is. (let y = seen_in g.R.Rack g.A.Area old x is m inside in
           visiting_pauses g.R.Rack g.A.Area c.args.kind c.args.marks.now c.args.progress.now m l.pool new x y.0 y.1 c.if-not-marks-metaslab.false l.progress now (i.carries x is) e.carries);
     }
@@ -85,6 +87,7 @@ returns-in-Stopped g c =
       paused = tt;
       began = tt;
       leaves = tt;
+      idle = λ heal is. e.idle heal (i.closing heal is);
       carries = λ x is. (let y = seen_in g.R.Rack g.A.Area old x is m inside in
           visiting_stops g.R.Rack g.A.Area c.args.kind c.args.marks.now c.args.progress.now m l.pool new x y.0 y.1 c.if-not-marks-metaslab.false l.progress now c.in-Stopped.why (i.carries x is) e.carries);
     }
@@ -109,6 +112,7 @@ returns g c =
       paused = tt;
       began = began_all c.args.marks.now m old l.pool l.progress all c.requires.some i.began;
       leaves = idle_all c.args.marks.now m l.pool (omega (arith, all, many)) i.idle;
+      idle = i.closing;
       carries = λ x is. visiting_ends g.R.Rack g.A.Area c.args.kind c.args.marks.now c.args.progress.now m l.pool x l.progress (i.carries x is) (let seen = is.stands.shards in omega (arith, all, seen));
     }
 
@@ -137,6 +141,7 @@ loop-metaslab-preserved g c =
       left = λ limit is. e.left limit (i.left limit is);
       began = inl (began_more c.args.kind c.args.marks.now m old l.pool l.progress now inside c.requires.marks mark i.began e.began e.from);
       idle = idle_visited c.args.marks.now m l.pool new e.later.many e.others e.leaves i.idle;
+      closing = λ heal is. e.idle heal (i.closing heal is);
       carries = λ x is. (let y = seen_in g.R.Rack g.A.Area old x is m inside in
           visiting_on g.R.Rack g.A.Area c.args.kind c.args.marks.now c.args.progress.now m l.pool new x y.0 y.1 mark l.progress now (i.carries x is) e.carries);
     }
@@ -162,6 +167,7 @@ loop-metaslab-preserved-then-not-marks-metaslab g c =
       left = i.left;
       began = began_passed c.args.marks.now m old l.pool l.progress none i.began;
       idle = idle_passed c.args.marks.now m l.pool none i.idle;
+      closing = i.closing;
       carries = λ x is. (let y = seen_in g.R.Rack g.A.Area old x is m inside in
           visiting_by g.R.Rack g.A.Area c.args.kind c.args.marks.now c.args.progress.now m l.pool x y.0 l.progress y.1 (λ marked. true≢false (sym marked ∙ none)) (i.carries x is));
     }
