@@ -19,6 +19,7 @@ use Rattle.draid_pool.proofs.Lifted.{SetsShard}
 use Rattle.draid_pool.proofs.Lists.{get_set_other, get_set_same, present, some_of}
 use Rattle.draid_pool.proofs.SyncSteps.{all_set}
 use Rattle.draid_pool.proofs.Wholes.{open_high, whole_geometry}
+use Rattle.draid_pool.specs.Keeping.{AllArmsStay}
 use Rattle.draid_pool.specs.Passes.{KeepsPass, KeepsPasses}
 use Rattle.draid_pool.specs.Syncing.{AreIdle}
 use Rattle.draid_visits.specs.Steps.{IsRunningOf, MovesOn}
@@ -95,6 +96,18 @@ module _ {R A : Type 0} (rack : racks.Ghosts R) (area : areas.Ghosts A) where
 
   pub at_set : (P : Shard R A → Type 0) (m : ℕ) (old new : Pool R A) (shard shard' : Shard R A) → SetsShard rack area m old new shard shard' → P shard' → IsAt new m P
   at_set P m old new shard shard' set is z at = subst P (some_of (slice_get new.metaslabs.shards.items m) shard' z (set_there m old new shard shard' set) at) is
+
+  -- a sync leaves the layout
+  pub geometry_synced : (old new : Pool R A) → IsWhole rack area old → IsWhole rack area new → AllArmsStay old new → new.geometry ≡ old.geometry
+  geometry_synced old new w v stay =
+      let many = w.many in
+      let some = w.layout.geometry_is.props.some_metaslabs in
+      let long = stay.many in
+      let a : (s : Shard R A) × (slice_get old.metaslabs.shards.items 0 ≡ Some s) = present old.metaslabs.shards.items 0 (omega (arith, many, some)) in
+      let b : (s : Shard R A) × (slice_get new.metaslabs.shards.items 0 ≡ Some s) = present new.metaslabs.shards.items 0 (omega (arith, many, some, long)) in
+      let before : a.0.slots.geometry ≡ old.geometry = (w.shards 0 a.0 a.1).valid.slots.geometry_is ∙ whole_geometry rack area old 0 a.0 w a.1 in
+      let after : b.0.slots.geometry ≡ new.geometry = (v.shards 0 b.0 b.1).valid.slots.geometry_is ∙ whole_geometry rack area new 0 b.0 v b.1 in
+      sym after ∙ ((stay.each 0 a.0 b.0 a.1 b.1).same.geometry_is ∙ before)
 
   -- there is a number for the group behind the committed one
   pub group_low : (pool : Pool R A) (m : ℕ) (shard : Shard R A) → IsWhole rack area pool → slice_get pool.metaslabs.shards.items m ≡ Some shard → group_in pool + 1 ≤ LAST_NUMBER

@@ -81,6 +81,7 @@ pub fn scrub<R: Rack, A: Area>(
     requires whole { IsWhole R.Rack A.Area pool.old }
     ensures whole { IsWhole R.Rack A.Area pool.new }
     ensures same { SamePointers pool.old pool.new }
+    ensures geometry { pool.new.geometry ≡ pool.old.geometry }
     ensures later { AreasLater A.faults pool.old pool.new }
     ensures within { IfOk result (λ it. IsWithin limit it.units it.paused) }
     ensures carries { (x : State) → Represents R.Rack A.Area pool.old x
@@ -113,6 +114,7 @@ fn visit_all<R: Rack, A: Area>(
     requires low { IsLow 0 progress.old }
     ensures whole { IsWhole R.Rack A.Area pool.new }
     ensures same { SamePointers pool.old pool.new }
+    ensures geometry { pool.new.geometry ≡ pool.old.geometry }
     ensures later { AreasLater A.faults pool.old pool.new }
     ensures cause { result ≡ Visit.Stopped SyncFault.Shelf → (kind ≡ Rebuild) × AreaRose A.faults pool.old pool.new }
     ensures left { (limit : Option ℕ) → IsLeft limit progress.old → IsLeft limit progress.new }

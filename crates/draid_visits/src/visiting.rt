@@ -35,6 +35,7 @@ pub(crate) fn visit<R: Rack, A: Area>(
     requires low { IsLow metaslab progress.old }
     ensures whole { IsWhole R.Rack A.Area pool.new }
     ensures same { SamePointers pool.old pool.new }
+    ensures geometry { pool.new.geometry ≡ pool.old.geometry }
     ensures later { AreasLater A.faults pool.old pool.new }
     ensures cause { result ≡ Visit.Stopped SyncFault.Shelf → (kind ≡ Rebuild) × AreaRose A.faults pool.old pool.new }
     ensures low { IsLow (metaslab + 1) progress.new }
@@ -73,6 +74,7 @@ fn begin_in<R: Rack, A: Area>(pool: &mut Pool<R, A>, kind: PassKind, metaslab: u
     requires alone { IsAt pool.old metaslab (IsOnly kind) }
     ensures whole { IsWhole R.Rack A.Area pool.new }
     ensures same { SamePointers pool.old pool.new }
+    ensures geometry { pool.new.geometry ≡ pool.old.geometry }
     ensures later { AreasLater A.faults pool.old pool.new }
     ensures others { KeepsOthers metaslab pool.old pool.new }
     ensures idle { AreIdle pool.old.metaslabs.shards.items → AreIdle pool.new.metaslabs.shards.items }
@@ -111,6 +113,7 @@ fn run<R: Rack, A: Area>(
     requires low { IsLow metaslab progress.old }
     ensures whole { IsWhole R.Rack A.Area pool.new }
     ensures same { SamePointers pool.old pool.new }
+    ensures geometry { pool.new.geometry ≡ pool.old.geometry }
     ensures later { AreasLater A.faults pool.old pool.new }
     ensures cause { result ≡ Visit.Stopped SyncFault.Shelf → (kind ≡ Rebuild) × AreaRose A.faults pool.old pool.new }
     ensures low { IsLow (metaslab + 1) progress.new }
@@ -153,6 +156,7 @@ fn run_in<R: Rack, A: Area>(
     requires pass { IsAt pool.old metaslab (λ shard. IsSomeAnd shard.pass (λ (pass : Pass). pass.kind ≡ kind)) }
     ensures whole { IsWhole R.Rack A.Area pool.new }
     ensures same { SamePointers pool.old pool.new }
+    ensures geometry { pool.new.geometry ≡ pool.old.geometry }
     ensures later { AreasLater A.faults pool.old pool.new }
     ensures cause { IsErrOf result SyncFault.Shelf → (kind ≡ Rebuild) × AreaRose A.faults pool.old pool.new }
     ensures others { KeepsOthers metaslab pool.old pool.new }
@@ -174,6 +178,7 @@ fn run_rebuild<R: Rack, A: Area>(pool: &mut Pool<R, A>, metaslab: usize) -> Resu
     requires rebuild { IsAt pool.old metaslab (λ shard. IsSomeAnd shard.pass (λ (pass : Pass). pass.kind ≡ Rebuild)) }
     ensures whole { IsWhole R.Rack A.Area pool.new }
     ensures same { SamePointers pool.old pool.new }
+    ensures geometry { pool.new.geometry ≡ pool.old.geometry }
     ensures later { AreasLater A.faults pool.old pool.new }
     ensures cause { IsErrOf result SyncFault.Shelf → AreaRose A.faults pool.old pool.new }
     ensures others { KeepsOthers metaslab pool.old pool.new }
@@ -221,6 +226,7 @@ fn lend_all<R: Rack, A: Area>(
     requires low { IsLow metaslab progress.old }
     ensures whole { IsWhole R.Rack A.Area pool.new }
     ensures same { SamePointers pool.old pool.new }
+    ensures geometry { pool.new.geometry ≡ pool.old.geometry }
     ensures later { AreasLater A.faults pool.old pool.new }
     ensures not_shelf { result ≡ Visit.Stopped SyncFault.Shelf → ⊥ }
     ensures low { IsLow (metaslab + 1) progress.new }

@@ -13,6 +13,7 @@ loop-metaslab-init g c = record {
   whole = c.requires.whole;
   alone = c.requires.alone;
   same = λ object. refl;
+  geometry = refl;
   later = areas_still g.A.Area.faults c.args.pool.now;
   many = refl;
   low = c.requires.low;
@@ -53,6 +54,7 @@ returns-in-Paused g c =
     record {
       whole = e.whole;
       same = λ object. e.same object ∙ i.same object;
+      geometry = e.geometry ∙ i.geometry;
       later = areas_on g.A.Area.faults old l.pool new i.later e.later;
       cause = λ is. absurd (cc is);
       left = λ limit is. e.left limit (i.left limit is);
@@ -81,6 +83,7 @@ returns-in-Stopped g c =
     record {
       whole = e.whole;
       same = λ object. e.same object ∙ i.same object;
+      geometry = e.geometry ∙ i.geometry;
       later = areas_on g.A.Area.faults old l.pool new i.later e.later;
       cause = λ is. (let f = e.cause is in (f.0, rose_then g.A.Area.faults old l.pool new i.later f.1));
       left = λ limit is. e.left limit (i.left limit is);
@@ -106,6 +109,7 @@ returns g c =
     record {
       whole = i.whole;
       same = i.same;
+      geometry = i.geometry;
       later = i.later;
       cause = λ is. absurd (cc is);
       left = i.left;
@@ -135,6 +139,7 @@ loop-metaslab-preserved g c =
       whole = e.whole;
       alone = alone_visited c.args.kind m l.pool new e.later.many e.others e.leaves i.alone;
       same = λ object. e.same object ∙ i.same object;
+      geometry = e.geometry ∙ i.geometry;
       later = areas_on g.A.Area.faults old l.pool new i.later e.later;
       many = e.later.many ∙ i.many;
       low = e.low;
@@ -161,6 +166,7 @@ loop-metaslab-preserved-then-not-marks-metaslab g c =
       whole = i.whole;
       alone = i.alone;
       same = i.same;
+      geometry = i.geometry;
       later = i.later;
       many = i.many;
       low = low_upto m l.progress i.low;

@@ -17,6 +17,7 @@ invariant-loop-metaslab g l = record {
   whole : IsWhole g.R.Rack g.A.Area l.pool;
   alone : AreAll l.pool (IsOnly l.kind);
   same : SamePointers l.initial.pool l.pool;
+  geometry : l.pool.geometry ≡ l.initial.pool.geometry;
   later : AreasLater g.A.Area.faults l.initial.pool l.pool;
   many : length l.pool.metaslabs.shards.items ≡ length l.initial.pool.metaslabs.shards.items;
   low : IsLow l.metaslab l.progress;

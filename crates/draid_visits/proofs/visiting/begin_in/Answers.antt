@@ -42,6 +42,7 @@ returns-in-Ok g c =
     record {
       whole = whole_on g.R.Rack g.A.Area m pool new shard after c.requires.whole set e.valid e.table;
       same = λ object. refl;
+      geometry = set.geometry;
       later = areas_set g.R.Rack g.A.Area m pool new shard after set (records_same g.A.Area.faults shard after e.areas);
       others = others_set g.R.Rack g.A.Area m pool new shard after set;
       idle = idle_set g.R.Rack g.A.Area m pool new shard after set e.closing;
@@ -65,6 +66,7 @@ returns-in-Err-Nothing g c =
     record {
       whole = whole_on g.R.Rack g.A.Area m pool new shard after c.requires.whole set e.valid e.table;
       same = λ object. refl;
+      geometry = set.geometry;
       later = areas_set g.R.Rack g.A.Area m pool new shard after set (records_same g.A.Area.faults shard after e.areas);
       others = others_set g.R.Rack g.A.Area m pool new shard after set;
       idle = idle_set g.R.Rack g.A.Area m pool new shard after set e.closing;
@@ -91,6 +93,7 @@ returns-in-Err-Worn g c =
     record {
       whole = whole_on g.R.Rack g.A.Area m pool new shard after c.requires.whole set e.valid e.table;
       same = λ object. refl;
+      geometry = set.geometry;
       later = areas_set g.R.Rack g.A.Area m pool new shard after set (records_same g.A.Area.faults shard after e.areas);
       others = others_set g.R.Rack g.A.Area m pool new shard after set;
       idle = idle_set g.R.Rack g.A.Area m pool new shard after set e.closing;
@@ -113,6 +116,7 @@ returns-in-Err-Last g c =
     record {
       whole = whole_on g.R.Rack g.A.Area m pool new shard after c.requires.whole set e.valid e.table;
       same = λ object. refl;
+      geometry = set.geometry;
       later = areas_set g.R.Rack g.A.Area m pool new shard after set (records_same g.A.Area.faults shard after e.areas);
       others = others_set g.R.Rack g.A.Area m pool new shard after set;
       idle = idle_set g.R.Rack g.A.Area m pool new shard after set e.closing;
@@ -135,6 +139,7 @@ returns-in-Err-NoMemory g c =
     record {
       whole = whole_on g.R.Rack g.A.Area m pool new shard after c.requires.whole set e.valid e.table;
       same = λ object. refl;
+      geometry = set.geometry;
       later = areas_set g.R.Rack g.A.Area m pool new shard after set (records_same g.A.Area.faults shard after e.areas);
       others = others_set g.R.Rack g.A.Area m pool new shard after set;
       idle = idle_set g.R.Rack g.A.Area m pool new shard after set e.closing;

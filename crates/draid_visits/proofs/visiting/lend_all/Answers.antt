@@ -139,6 +139,7 @@ returns-in-Ended g c =
     record {
       whole = whole_shared g.R.Rack g.A.Area m l.pool new shard after i.whole set e.valid e.table;
       same = i.same;
+      geometry = i.geometry;
       later = areas_on g.A.Area.faults c.args.pool.now l.pool new i.later (areas_set g.R.Rack g.A.Area m l.pool new shard after set (records_same g.A.Area.faults shard after e.areas));
       not_shelf = λ is. absurd (cc is);
       low = (let most = e.low n refl in
@@ -172,6 +173,7 @@ returns-in-Paused g c =
     record {
       whole = whole_shared g.R.Rack g.A.Area m l.pool new shard after i.whole set e.valid e.table;
       same = i.same;
+      geometry = i.geometry;
       later = areas_on g.A.Area.faults c.args.pool.now l.pool new i.later (areas_set g.R.Rack g.A.Area m l.pool new shard after set (records_same g.A.Area.faults shard after e.areas));
       not_shelf = λ is. absurd (cc is);
       low = (let errors = i.errors in
@@ -203,6 +205,7 @@ returns-in-Worn g c =
     record {
       whole = whole_shared g.R.Rack g.A.Area m l.pool new shard after i.whole set e.valid e.table;
       same = i.same;
+      geometry = i.geometry;
       later = areas_on g.A.Area.faults c.args.pool.now l.pool new i.later (areas_set g.R.Rack g.A.Area m l.pool new shard after set (records_same g.A.Area.faults shard after e.areas));
       not_shelf = λ is. absurd (cc is);
       low = (let errors = i.errors in
@@ -234,6 +237,7 @@ returns-in-NoMemory g c =
     record {
       whole = whole_shared g.R.Rack g.A.Area m l.pool new shard after i.whole set e.valid e.table;
       same = i.same;
+      geometry = i.geometry;
       later = areas_on g.A.Area.faults c.args.pool.now l.pool new i.later (areas_set g.R.Rack g.A.Area m l.pool new shard after set (records_same g.A.Area.faults shard after e.areas));
       not_shelf = λ is. absurd (cc is);
       low = (let errors = i.errors in

@@ -18,6 +18,7 @@ returns-in-Err g c =
     record {
       whole = f.whole;
       same = f.same;
+      geometry = f.geometry;
       later = f.later;
       cause = λ is. f.cause (ap Err (shelf_so c.in-Err.why is));
       low = low_upto m was c.requires.low;
@@ -57,6 +58,7 @@ returns g c =
     record {
       whole = f.whole;
       same = λ object. f.same object ∙ d.same object;
+      geometry = f.geometry ∙ d.geometry;
       later = areas_on g.A.Area.faults old mid new d.later f.later;
       cause = λ is. absurd (f.not_shelf is);
       low = f.low;

@@ -21,6 +21,7 @@ returns-in-Rebuild g c =
     record {
       whole = e.whole;
       same = e.same;
+      geometry = e.geometry;
       later = e.later;
       cause = λ is. (kind, e.cause is);
       others = e.others;
@@ -39,6 +40,7 @@ returns-in-Heal g c =
     record {
       whole = c.requires.whole;
       same = λ object. refl;
+      geometry = refl;
       later = areas_still g.A.Area.faults pool;
       cause = λ is. absurd (e.not_shelf is);
       others = others_same m pool;

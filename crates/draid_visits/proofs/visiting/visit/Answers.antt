@@ -31,6 +31,7 @@ returns-in-At g c =
     record {
       whole = f.whole;
       same = λ object. f.same object ∙ e.same object;
+      geometry = f.geometry ∙ e.geometry;
       later = areas_on g.A.Area.faults old mid new e.later f.later;
       cause = λ is. (let f = f.cause is in (f.0, rose_then g.A.Area.faults old mid new e.later f.1));
       low = f.low;
@@ -53,6 +54,7 @@ returns-in-Nothing g c =
     record {
       whole = e.whole;
       same = e.same;
+      geometry = e.geometry;
       later = e.later;
       cause = λ is. absurd (cc is);
       low = low_upto m c.args.progress.now c.requires.low;
@@ -75,6 +77,7 @@ returns-in-Stopped g c =
     record {
       whole = e.whole;
       same = e.same;
+      geometry = e.geometry;
       later = e.later;
       cause = λ is. absurd (e.begins (shelf_so c.in-Stopped.why is));
       low = low_upto m c.args.progress.now c.requires.low;
