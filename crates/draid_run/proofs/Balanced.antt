@@ -1,6 +1,6 @@
 -- A rebalance of a slot: a sync, a scrub, and what becomes of the other arms, one behind the other.
 use Rattle.std.proofs.Common.{◌≡◌, ◌<◌, ◌≤◌, ◌++◌, ◌∙◌, [], inl, inr, ℕ, false, List, Option, Some, None, Result, Ok, Err, arith, refl, sym, ap, subst}
-use Rattle.std.specs.Prelude.{slice_get}
+use Rattle.std.specs.Prelude.{IsErrOf, slice_get}
 use Rattle.std.proofs.lemmas.Option.{slice_get_within}
 use Rattle.draid_rack.specs.declared.Rack as racks
 use Rattle.draid_area.specs.declared.Area as areas
@@ -192,3 +192,10 @@ pub slot_behind : {R A : Type 0} (slot : ℕ) (it : Mended) (group : Option ℕ)
     → ArmsBehind (RebalanceSlot slot) (replies.Rebalanced slot it.units it.repaired it.errors group) new
 slot_behind slot it (Some group) old new are = are
 slot_behind slot it None old new are = subst (λ pool. ArmsBehind (RebalanceSlot slot) (replies.Rebalanced slot it.units it.repaired it.errors None) pool) (sym are.0) are.1
+
+-- what stopped it
+pub halt_of : (why : SyncFault) → IsErrOf {T = Rebalanced} (Err (fault.Stopped why)) (fault.Stopped sync.Shelf) → why ≡ sync.Shelf
+halt_of sync.Worn is = absurd (cc is)
+halt_of sync.Last is = absurd (cc is)
+halt_of sync.Shelf is = refl
+halt_of sync.NoMemory is = absurd (cc is)
