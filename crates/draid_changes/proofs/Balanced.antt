@@ -1,5 +1,5 @@
 -- All metaslabs of a pool are looked at, and the other arms of a slot go, or all stay.
-use Rattle.std.proofs.Common.{◌≡◌, ◌≢◌, ◌<◌, ◌++◌, ◌∙◌, [], ◌∷◌, inl, inr, ℕ, zero, suc, true, List, Option, Some, None, Ok, Err, arith, refl, sym, ap, subst, length}
+use Rattle.std.proofs.Common.{◌≡◌, ◌≢◌, ◌<◌, ◌+◌, ◌++◌, ◌∙◌, [], ◌∷◌, inl, inr, ℕ, zero, suc, true, List, Option, Some, None, Ok, Err, arith, refl, sym, ap, subst, length}
 use Rattle.std.specs.Prelude.{slice_get, slice_index_or}
 use Rattle.std.proofs.lemmas.Option.{slice_get_within}
 use Rattle.draid_names.specs.declared.arm.Arm.{Arm}
@@ -46,7 +46,7 @@ use Rattle.draid_changes.proofs.Others.{has_them, last_named, lose_none, loses, 
 all_seen : (P : machine.State → Type 0) (n : ℕ) (ys : List Metaslab) → ((m : ℕ) (y : Metaslab) → slice_get ys m ≡ Some y → P y.world) → AllOf (λ v. P v.world) (seen_at n ys)
 unfolding seen_at
 all_seen P n [] each = tt
-all_seen P n (y ∷ ys) each = (each 0 y refl, all_seen P (suc n) ys (λ m z at. each (suc m) z at))
+all_seen P n (y ∷ ys) each = (each 0 y refl, all_seen P (n + 1) ys (λ m z at. each (suc m) z at))
 
 seen_all : (P : machine.State → Type 0) (n : ℕ) (ys : List Metaslab) → AllOf (λ v. P v.world) (seen_at n ys) → (m : ℕ) (y : Metaslab) → slice_get ys m ≡ Some y → P y.world
 unfolding seen_at
