@@ -1,5 +1,5 @@
 -- All metaslabs of a pool are looked at, and the other arms of a slot go, or all stay.
-use Rattle.std.proofs.Common.{◌≡◌, ◌≢◌, ◌<◌, ◌++◌, ◌∙◌, [], ◌∷◌, inl, inr, ℕ, zero, suc, true, List, Option, Some, None, Ok, Err, arith, refl, sym, ap, subst, length}
+use Rattle.std.proofs.Common.{◌≡◌, ◌≢◌, ◌<◌, ◌+◌, ◌++◌, ◌∙◌, [], ◌∷◌, inl, inr, ℕ, zero, suc, true, List, Option, Some, None, Ok, Err, arith, refl, sym, ap, subst, length}
 use Rattle.std.specs.Prelude.{slice_get, slice_index_or}
 use Rattle.std.proofs.lemmas.Option.{slice_get_within}
 use Rattle.draid_names.specs.declared.arm.Arm.{Arm}
@@ -37,7 +37,7 @@ use Rattle.draid_pool.proofs.Looking.{changes_none, looked, looks_at}
 use Rattle.draid_pool.proofs.Steps.{carried, follows_on, settled}
 use Rattle.draid_pool.proofs.SyncSteps.{not_went}
 use Rattle.draid_pool.proofs.WholeGroups.{first_shard}
-use Rattle.draid_changes.specs.Balancing.{AllAlone, AllMayLose, GoDoes, HasNoPass, HasOthers, OthersDo, SomeGo}
+use Rattle.draid_changes.specs.Balancing.{AllAlone, AllMayLose, GoDoes, HasNoPass, HasOthers, OthersDo, SomeGo, StayTogether}
 use Rattle.draid_changes.proofs.Begun.{first_seen, seen_first}
 use Rattle.draid_changes.proofs.Others.{has_them, last_named, lose_none, loses, names_alike, number_of, some_of_them}
 
@@ -46,7 +46,7 @@ use Rattle.draid_changes.proofs.Others.{has_them, last_named, lose_none, loses, 
 all_seen : (P : machine.State → Type 0) (n : ℕ) (ys : List Metaslab) → ((m : ℕ) (y : Metaslab) → slice_get ys m ≡ Some y → P y.world) → AllOf (λ v. P v.world) (seen_at n ys)
 unfolding seen_at
 all_seen P n [] each = tt
-all_seen P n (y ∷ ys) each = (each 0 y refl, all_seen P (suc n) ys (λ m z at. each (suc m) z at))
+all_seen P n (y ∷ ys) each = (each 0 y refl, all_seen P (n + 1) ys (λ m z at. each (suc m) z at))
 
 seen_all : (P : machine.State → Type 0) (n : ℕ) (ys : List Metaslab) → AllOf (λ v. P v.world) (seen_at n ys) → (m : ℕ) (y : Metaslab) → slice_get ys m ≡ Some y → P y.world
 unfolding seen_at
@@ -135,8 +135,13 @@ module _ {R A : Type 0} (rack : racks.Ghosts R) (area : areas.Ghosts A) (pool : 
         let names = names_alike (arms_of first.0.slots slot) (arms_of shard.slots slot) ((w.alike 0 m first.0 shard first.1 there).arms.slots slot (low_there 0 first.0 first.1)) ∙ (sym (z.is.stands.is_in.slots.order slot) ∙ order) in
         let l = last_named (arms_of shard.slots slot) others may.last names in
         let has = subst (λ q. y.y.world.core.arm q ≡ Some (arm_in shard.slots (record { slot = slot; arm = length others }) l.0)) l.2 (y.is.stands.is_in.slots.arms (record { slot = slot; arm = length others }) l.0 l.1) in
-        has_them rack slot others may.last shard.slots names may.some may.leaf
+        has_them slot others may.last shard.slots names may.some may.leaf
         (λ g. ap (λ o. logged o g) (sym has) ∙ seen_all (λ (v : machine.State). HasEmptyLog v.core may.last) 0 x.metaslabs may.empty m y.y y.at g)
+
+    -- none may go where there was an error, or a metaslab keeps them
+    pub none_may_go : (errors : ℕ) → StayTogether slot errors pool → (others : List ArmName) → balance.MayGo slot errors (seen_at 0 x.metaslabs) others → ⊥
+    none_may_go errors (inl some) others may = some may.calm
+    none_may_go errors (inr (m, shard, there, none)) others may = none (only_then errors others may m shard there)
 
     -- ---- what becomes of them
 
@@ -145,14 +150,12 @@ module _ {R A : Type 0} (rack : racks.Ghosts R) (area : areas.Ghosts A) (pool : 
     looking = subst (λ n. LooksFrom 0 n (looks_at 0 x.metaslabs) (seen_at 0 x.metaslabs)) r.stands.many (looked 0 x.metaslabs)
 
     pub all_stay : (errors : ℕ) → ((others : List ArmName) → balance.MayGo slot errors (seen_at 0 x.metaslabs) others → ⊥) → CarriesOut rack area pool x (OthersDo x slot errors (Ok None))
-    unfolding looking
     all_stay errors none =
         carried rack area pool x (looks_at 0 x.metaslabs ++ []) x (OthersDo x slot errors (Ok None)) (follows_on (looks_at 0 x.metaslabs) [] x x x (changes_none x [] x.metaslabs 0 refl refl) refl) r
         (refl, record { views = seen_at 0 x.metaslabs; looks = looks_at 0 x.metaslabs; rest = []; are = refl; looked = looking; does = inl (none, refl, refl) })
 
     module _ (new : Pool R A) (errors : ℕ) (n : ArmName) (others : List ArmName) (last : ArmName) (calm : errors ≡ 0) (all : AllMayLose slot (n ∷ others) last pool) where
       pub all_go : (group : ℕ) → CarriesOut rack area new x (GoDoes x slot (n ∷ others) (Ok group)) → CarriesOut rack area new x (OthersDo x slot errors (Ok (Some group)))
-      unfolding looking
       all_go group c =
           carried rack area new x (looks_at 0 x.metaslabs ++ c.holds) c.reached (OthersDo x slot errors (Ok (Some group))) (follows_on (looks_at 0 x.metaslabs) c.holds x x c.reached (changes_none x [] x.metaslabs 0 refl refl) c.follows)
           (settled rack area new x (GoDoes x slot (n ∷ others) (Ok group)) c c.done.0) (
@@ -168,7 +171,6 @@ module _ {R A : Type 0} (rack : racks.Ghosts R) (area : areas.Ghosts A) (pool : 
           )
 
       pub some_stop : (why : SyncFault) → CarriesOut rack area new x (GoDoes x slot (n ∷ others) (Err why)) → CarriesOut rack area new x (OthersDo x slot errors (Err why))
-      unfolding looking
       some_stop why c =
           carried rack area new x (looks_at 0 x.metaslabs ++ c.holds) c.reached (OthersDo x slot errors (Err why)) (follows_on (looks_at 0 x.metaslabs) c.holds x x c.reached (changes_none x [] x.metaslabs 0 refl refl) c.follows)
           (settled rack area new x (GoDoes x slot (n ∷ others) (Err why)) c c.done.0) (

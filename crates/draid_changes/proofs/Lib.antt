@@ -8,6 +8,7 @@ pub mod Coming
 pub mod Events
 pub mod Forbids
 pub mod Gone
+pub mod HasThem
 pub mod Leaves
 pub mod Leaving
 pub mod Left

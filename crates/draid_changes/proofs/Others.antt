@@ -32,7 +32,7 @@ use Rattle.draid_changes.proofs.Staying.{any_at, is_leaf_arm}
 
 -- ---- lists of names
 
-head_or : ArmName → List ArmName → ArmName
+abbrev head_or : ArmName → List ArmName → ArmName
 head_or n [] = n
 head_or n (m ∷ ms) = m
 
@@ -99,7 +99,7 @@ leaf_named a last called is = leaf_kind a.kind a.number (subst (λ n. is_leaf n 
 pub named_leaf : (a : Arm) (last : ArmName) → name_of a ≡ last → a.kind ≡ kind.Leaf → is_leaf last ≡ true
 named_leaf a last called is = subst (λ n. is_leaf n ≡ true) called (ap (λ (k : ArmKind). is_leaf (named k a.number)) is)
 
-pub number_of : ArmName → ℕ
+abbrev pub number_of : ArmName → ℕ
 number_of (Leaf leaf) = leaf
 number_of (Spare spare) = spare
 
@@ -110,6 +110,27 @@ place_behind slot k =
     let here : ((slot == slot) && nat_le 0 k) ≡ true = true_both (slot == slot) (nat_le 0 k) (equal slot slot refl) (grind (arith, nat_tests)) in
     let on : k + 1 ≡ suc k = omega arith in
     ap (λ b. record { slot = slot; arm = k + (if b then 1 else 0) }) here ∙ ap (λ j. record { slot = slot; arm = j }) on
+
+-- the last place, by the names
+last_is : (slot : ℕ) (slots : SlotTable) (others : List ArmName) (last : ArmName) → map name_of (arms_of slots slot) ≡ others ++ last ∷ [] → last_place slots slot ≡ record { slot = slot; arm = length others }
+last_is slot slots others last is = (let long = as_many (arms_of slots slot) others last is in ap (λ j. record { slot = slot; arm = j }) (let on : length (arms_of slots slot) - 1 ≡ length others = omega (arith, long) in on))
+
+pub has_them : (slot : ℕ) (others : List ArmName) (last : ArmName) (slots : SlotTable) → map name_of (arms_of slots slot) ≡ others ++ last ∷ [] → others ≢ [] → is_leaf last ≡ true
+    → ((group : ℕ) → is_logged slots (record { slot = slot; arm = length others }) group ≡ false) → HasOthers slots slot
+has_them slot others last slots names some leaf empty = record {
+  others = (let long = as_many (arms_of slots slot) others last names in let more = not_none others some in omega (arith, long, more));
+  leaf = (l.0.number, (l.0, subst (λ (p : ArmAt). arm_at slots p ≡ Some l.0) (sym here) l.1, leaf_named l.0 last l.2 leaf, refl));
+  empty = λ group. ap (λ (p : ArmAt). is_logged slots p group) here ∙ empty group;
+} where
+  here : last_place slots slot ≡ record { slot = slot; arm = length others }
+  here = last_is slot slots others last names
+
+  l : (a : Arm) × (slice_get (arms_of slots slot) (length others) ≡ Some a) × (name_of a ≡ last)
+  l = last_named (arms_of slots slot) others last names
+
+  not_none : (ns : List ArmName) → ns ≢ [] → 0 < length ns
+  not_none [] some = absurd (some refl)
+  not_none (n ∷ ns) some = omega arith
 
 -- ---- one metaslab
 
@@ -176,10 +197,6 @@ module _ {R A : Type 0} (rack : racks.Ghosts R) (slot : ℕ) where
 
   -- ---- by what is asked of the slots of each metaslab
 
-  -- the last place, by the names
-  last_is : (slots : SlotTable) (others : List ArmName) (last : ArmName) → map name_of (arms_of slots slot) ≡ others ++ last ∷ [] → last_place slots slot ≡ record { slot = slot; arm = length others }
-  last_is slots others last is = (let long = as_many (arms_of slots slot) others last is in ap (λ j. record { slot = slot; arm = j }) (let on : length (arms_of slots slot) - 1 ≡ length others = omega (arith, long) in on))
-
   pub loses : (n : ArmName) (others : List ArmName) (last : ArmName) (first shard : Shard R A) → map name_of (arms_of first.slots slot) ≡ n ∷ (others ++ last ∷ []) → HaveSameArms first.slots shard.slots
       → slot < first.slots.geometry.spec.children → shard.pass ≡ None → HasOthers shard.slots slot → MayLoseOthers slot (n ∷ others) last shard
   loses n others last first shard names same low pass has = record {
@@ -196,24 +213,7 @@ module _ {R A : Type 0} (rack : racks.Ghosts R) (slot : ℕ) where
     place = record { slot = slot; arm = suc (length others) }
 
     here : last_place shard.slots slot ≡ place
-    here = last_is shard.slots (n ∷ others) last own
+    here = last_is slot shard.slots (n ∷ others) last own
 
     l : (a : Arm) × (slice_get (arms_of shard.slots slot) (suc (length others)) ≡ Some a) × (name_of a ≡ last)
     l = last_named (arms_of shard.slots slot) (n ∷ others) last own
-
-  pub has_them : (others : List ArmName) (last : ArmName) (slots : SlotTable) → map name_of (arms_of slots slot) ≡ others ++ last ∷ [] → others ≢ [] → is_leaf last ≡ true
-      → ((group : ℕ) → is_logged slots (record { slot = slot; arm = length others }) group ≡ false) → HasOthers slots slot
-  has_them others last slots names some leaf empty = record {
-    others = (let long = as_many (arms_of slots slot) others last names in let more = not_none others some in omega (arith, long, more));
-    leaf = (l.0.number, l.0, subst (λ (p : ArmAt). arm_at slots p ≡ Some l.0) (sym here) l.1, leaf_named l.0 last l.2 leaf, refl);
-    empty = λ group. ap (λ (p : ArmAt). is_logged slots p group) here ∙ empty group;
-  } where
-    here : last_place slots slot ≡ record { slot = slot; arm = length others }
-    here = last_is slots others last names
-
-    l : (a : Arm) × (slice_get (arms_of slots slot) (length others) ≡ Some a) × (name_of a ≡ last)
-    l = last_named (arms_of slots slot) others last names
-
-    not_none : (ns : List ArmName) → ns ≢ [] → 0 < length ns
-    not_none [] some = absurd (some refl)
-    not_none (n ∷ ns) some = omega arith

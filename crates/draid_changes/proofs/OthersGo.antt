@@ -1,6 +1,7 @@
 -- The other arms of a slot go from it in all metaslabs of a pool, one after another.
 use Rattle.std.proofs.Common.{◌≡◌, ◌≢◌, ◌<◌, ◌+◌, ◌++◌, ◌∙◌, [], ◌∷◌, inl, inr, ℕ, List, Some, Ok, Err, arith, refl, sym, ap, subst, length, append_assoc}
-use Rattle.std.specs.Prelude.{slice_get}
+use Rattle.std.specs.Prelude.{IsErrOf, slice_get}
+use Rattle.draid_names.specs.declared.arm.Arm.{Arm}
 use Rattle.draid_rack.specs.declared.Rack as racks
 use Rattle.draid_area.specs.declared.Area as areas
 use Rattle.draid_spec.specs.declared.layout.Geometry.{Geometry}
@@ -25,17 +26,19 @@ use Rattle.draid_pool.specs.Pools.{Represents}
 use Rattle.draid_pool.specs.Syncing.{AreIdle, Phase, SyncDoes, end_of}
 use Rattle.draid_pool.specs.Whole.{IsWhole}
 use Rattle.draid_pool.specs.declared.fault.SyncFault.{SyncFault}
+use Rattle.draid_pool.specs.declared.fault.SyncFault.TheVariants as sync
 use Rattle.draid_pool.specs.declared.fault.Synced.{Synced}
 use Rattle.draid_pool.specs.declared.pool.Pool.{Pool}
 use Rattle.draid_pool.proofs.Steps.{carried, carries_so, follows_on, own_of, same_layout, settled}
 use Rattle.draid_pool.proofs.SyncCalls.{end_same, then_phase}
 use Rattle.draid_pool.proofs.SyncSteps.{not_went}
-use Rattle.draid_changes.specs.Balancing.{AllMayLose, GoDoes, MayLoseOthers, OneGoes, SomeGo}
-use Rattle.draid_changes.specs.Detaching.{Leaves}
+use Rattle.draid_changes.specs.Balancing.{AllMayLose, GoDoes, HasNoPass, OneGoes, SomeGo}
+use Rattle.draid_changes.specs.Detaching.{Leaves, MayGo, MayLeave}
 use Rattle.draid_changes.specs.Walks.{ChangedBelow, Reserves, end_of_reserving}
 use Rattle.draid_changes.specs.declared.need.Need.TheVariants as needs
-use Rattle.draid_changes.proofs.Leaving.{leaves_done}
-use Rattle.draid_changes.proofs.Others.{first_named, lose_left, lose_reserved}
+use Rattle.draid_changes.proofs.Events.{idle_reserved}
+use Rattle.draid_changes.proofs.Leaving.{leaves_done, may_leave}
+use Rattle.draid_changes.proofs.Others.{as_many, first_named, lose_left, lose_reserved, may_go}
 use Rattle.draid_changes.proofs.Raised.{Any, IsGroup, Reserving, Syncing, not_through, sync_stops}
 use Rattle.draid_changes.proofs.Walk.{changed_at}
 use Rattle.draid_changes.proofs.Whole.{SameOwn}
@@ -66,6 +69,9 @@ gathered : (Is : ℕ → ℕ → Type 0) (some : (group : ℕ) × (thin : ℕ) �
 gathered Is some g p slot others holds end (inr (stopped, gone)) = (some.0, some.1, some.2, inr (stopped, gone))
 gathered Is some g p slot others holds end (inl (front, back, are, gone, synced)) = (synced.0, synced.1, synced.2, inl (front, back, are, gone, synced.3))
 
+pub unit_err : (why : SyncFault) → IsErrOf {T = Unit} (Err why) sync.Shelf → why ≡ sync.Shelf
+unit_err why is = cc
+
 -- ---- one arm
 
 module _ {R A : Type 0} (rack : racks.Ghosts R) (area : areas.Ghosts A) (slot : ℕ) where
@@ -93,13 +99,52 @@ module _ {R A : Type 0} (rack : racks.Ghosts R) (area : areas.Ghosts A) (slot : 
       sym f.2 ∙ (ap (λ a. name_of a) (some_same (slice_get xs 0) f.0 called.0 f.1 called.1) ∙ called.2)
 
   -- one goes, for which events are reserved
-  pub first_goes : (n arm : ArmName) (late mid : Pool R A) (x : State) → n ≡ arm → CarriesOut rack area late x (Phase x (Reserving x.geometry x.perms) Went)
+  one_goes : (n arm : ArmName) (late mid : Pool R A) (x : State) → n ≡ arm → CarriesOut rack area late x (Phase x (Reserving x.geometry x.perms) Went)
       → ChangedBelow (Leaves rack (record { slot = slot; arm = 0 }) arm) (length late.metaslabs.shards.items) late.metaslabs.shards.items mid.metaslabs.shards.items → SameOwn late mid
       → AreIdle late.metaslabs.shards.items → CarriesOut rack area mid x (Phase x (OneGoes x.geometry x.perms slot n) Went)
-  first_goes n arm late mid x same reserved leaves set idle =
+  one_goes n arm late mid x same reserved leaves set idle =
       subst (λ k. CarriesOut rack area mid x (Phase x (OneGoes x.geometry x.perms slot k) Went)) (sym same)
       (then_phase rack area late mid x Reserving (λ g p. arms.EventPhase g p (Detach slot arm)) Went reserved
       (λ y r. leaves_done rack area (record { slot = slot; arm = 0 }) arm late mid leaves set y r idle))
+
+  -- as many arms as there are names
+  pub counted : (others : List ArmName) (last : ArmName) (pool : Pool R A) (first : Shard R A) (xs : List Arm) → slice_get pool.metaslabs.shards.items 0 ≡ Some first → AllMayLose slot others last pool
+      → xs ≡ arms_of first.slots slot → length xs ≡ length others + 1
+  counted others last pool first xs start all same = ap length same ∙ as_many (arms_of first.slots slot) others last (all 0 first start).names
+
+  -- what the going of the arm that stands first needs, and leaves
+  module _ (old late mid : Pool R A) (arm : ArmName) (first : Shard R A) (start : slice_get late.metaslabs.shards.items 0 ≡ Some first) (w : IsWhole rack area late)
+      (reserves : ChangedBelow (Reserves needs.Event) (length old.metaslabs.shards.items) old.metaslabs.shards.items late.metaslabs.shards.items) (called : IsNamed first.slots (record { slot = slot; arm = 0 }) arm) where
+    first_name : (n : ArmName) (others : List ArmName) (last : ArmName) → AllMayLose slot (n ∷ others) last old → n ≡ arm
+    first_name n others last all = name_is n others last arm late first start (all_reserved (n ∷ others) last old late reserves all) called
+
+    pub all_may_leave : AreIdle old.metaslabs.shards.items → SomeGo slot old → (m : ℕ) (z : Shard R A) → slice_get late.metaslabs.shards.items m ≡ Some z → MayLeave rack (record { slot = slot; arm = 0 }) arm z
+    all_may_leave idle (n, others, last, all) =
+        may_leave rack area old late (record { slot = slot; arm = 0 }) arm w (idle_reserved rack area needs.Event old late idle reserves)
+        (λ m shard there. subst (λ k. MayGo (record { slot = slot; arm = 0 }) k shard) (first_name n others last all) (may_go rack slot n others last shard (all m shard there))) reserves
+
+    module _ (leaves : ChangedBelow (Leaves rack (record { slot = slot; arm = 0 }) arm) (length late.metaslabs.shards.items) late.metaslabs.shards.items mid.metaslabs.shards.items) where
+      pub left_passes : HasNoPass late → HasNoPass mid
+      left_passes none m z there =
+          let was = changed_at (Leaves rack (record { slot = slot; arm = 0 }) arm) late.metaslabs.shards.items mid.metaslabs.shards.items leaves m z there in
+          was.2.pass ∙ none m was.0 was.1
+
+      pub left_idle : AreIdle old.metaslabs.shards.items → AreIdle mid.metaslabs.shards.items
+      left_idle idle m z there =
+          let was = changed_at (Leaves rack (record { slot = slot; arm = 0 }) arm) late.metaslabs.shards.items mid.metaslabs.shards.items leaves m z there in
+          was.2.keeps.groups.closing ∙ idle_reserved rack area needs.Event old late idle reserves m was.0 was.1
+
+      pub left_ready : (n : ArmName) (others : List ArmName) (last : ArmName) → AllMayLose slot (n ∷ others) last old → AllMayLose slot others last mid
+      left_ready n others last all =
+          all_lost n others last late mid w
+          (subst (λ k. ChangedBelow (Leaves rack (record { slot = slot; arm = 0 }) k) (length late.metaslabs.shards.items) late.metaslabs.shards.items mid.metaslabs.shards.items) (sym (first_name n others last all)) leaves)
+          (all_reserved (n ∷ others) last old late reserves all)
+
+      -- it goes
+      pub first_goes : SameOwn late mid → AreIdle old.metaslabs.shards.items → (x : State) (n : ArmName) (others : List ArmName) (last : ArmName) → AllMayLose slot (n ∷ others) last old
+          → CarriesOut rack area late x (Phase x (Reserving x.geometry x.perms) Went) → CarriesOut rack area mid x (Phase x (OneGoes x.geometry x.perms slot n) Went)
+      first_goes set idle x n others last all reserved =
+          one_goes n arm late mid x (first_name n others last all) reserved leaves set (idle_reserved rack area needs.Event old late idle reserves)
 
   -- events couldn't be reserved
   pub first_stays : (n : ArmName) (late : Pool R A) (x : State) (first : ReserveFault) (why : SyncFault) → end_of {T = ℕ} (Err why) ≡ end_of_reserving (Err first)

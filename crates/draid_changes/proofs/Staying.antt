@@ -79,7 +79,7 @@ was_at xs j i b there inside =
       | inr past ↦ (i + 1, slice_get-get_or xs (i + 1) b (omega (arith, within, less)) ∙ ap Some (sym (get_or-remove_above xs j b i past inside) ∙ own), λ same. omega (arith, same, past))
     ]
 
-none_counted : (test : ℕ → Bool) (n : ℕ) → ((k : ℕ) → test k ≡ false) → count_below test n ≡ 0
+pub none_counted : (test : ℕ → Bool) (n : ℕ) → ((k : ℕ) → test k ≡ false) → count_below test n ≡ 0
 unfolding count_below
 none_counted test zero none = refl
 none_counted test (suc n) none = (let rest = none_counted test n none in let here = ap {B = ℕ} (λ b. if b then 1 else 0) (none n) in omega (arith, rest, here))

@@ -1,8 +1,8 @@
-ghost use Rattle.std.specs.Prelude.{◌≡◌, ◌↔◌, ◌<◌, ◌^◌, ◌∷◌, [], ℕ, List, IsErr, IsErrOf, IsTrue, OnOk};
+ghost use Rattle.std.specs.Prelude.{◌≡◌, ◌↔◌, ◌<◌, ◌^◌, ◌∷◌, [], ℕ, List, false, IsErrOf, IsTrue, OnOk, Some, slice_get};
 ghost use Rattle.draid_names.specs.declared.arm.ArmKind.TheVariants.{Spare};
 ghost use Rattle.draid_machine.specs.declared.names.ArmName.{ArmName};
 ghost use Rattle.draid_slots.specs.States as slots_of;
-ghost use Rattle.draid_slots.specs.Table.{IsThere};
+ghost use Rattle.draid_slots.specs.Table.{IsTable, IsThere};
 ghost use Rattle.draid_shard.specs.declared.shard.Shard.{Shard};
 ghost use Rattle.draid_disks.specs.Checks.{Each};
 ghost use Rattle.draid_disks.specs.Disks.{IsNamed};
@@ -14,7 +14,7 @@ ghost use Rattle.draid_pool.specs.Pointers.{SamePointers};
 ghost use Rattle.draid_pool.specs.Pools.{Represents};
 ghost use Rattle.draid_pool.specs.Syncing.{AreIdle, Phase, end_of};
 ghost use Rattle.draid_pool.specs.Whole.{IsWhole};
-ghost use Rattle.draid_changes.specs.Balancing.{AllMayLose, GoDoes, HasNoPass, HasOthers, OneGoes, OthersAre, OthersDo, SomeGo};
+ghost use Rattle.draid_changes.specs.Balancing.{AllAlone, AllMayLose, GoDoes, HasNoPass, HasOthers, OneGoes, OthersAre, OthersDo, SomeGo};
 
 use crate::detaching::detach_all;
 use crate::need::Need;
@@ -61,7 +61,8 @@ pub fn detach_others<R: Rack, A: Area>(
 /// Whether the last arm of a slot is a leaf with an empty log in each of some metaslabs, and has others beside it.
 fn all_have_others<R: Rack, A: Area>(shards: &[Shard<R, A>], slot: u32) -> bool
     requires { Each (λ (shard : Shard R A). slot < shard.slots.geometry.spec.children) shards.now }
-    ensures { IsTrue result ↔ Each (λ (shard : Shard R A). HasOthers shard.slots slot) shards.now }
+    ensures all { IsTrue result → Each (λ (shard : Shard R A). HasOthers shard.slots slot) shards.now }
+    ensures none { result ≡ false → (m : ℕ) × (shard : Shard R A) × (slice_get shards.now m ≡ Some shard) × (HasOthers shard.slots slot → ⊥) }
 {
     for shard in shards {
         if !has_others(&shard.slots, slot) {
@@ -81,14 +82,14 @@ fn has_others(slots: &Slots, slot: u32) -> bool
         return false;
     }
     let last = arms.len() - 1;
-    if matches!(arms[last].kind, ArmKind::Spare) {
-        return false;
-    }
     let at = ArmAt {
         slot,
         arm: last as u32,
     };
-    slots.log(at).count() == 0
+    match arms[last].kind {
+        ArmKind::Leaf => slots.log(at).count() == 0,
+        ArmKind::Spare => false,
+    }
 }
 
 /// Takes all arms of a slot but the last out of it in all metaslabs, where nothing keeps them there, and commits the group
@@ -155,17 +156,17 @@ fn detach_first<R: Rack, A: Area>(pool: &mut Pool<R, A>, slot: u32) -> Result<()
         → CarriesOut R.Rack A.Area pool.new x (Phase x (OneGoes x.geometry x.perms slot n) (end_of result)) }
     ensures gone { OnOk result ((n : ArmName) (others : List ArmName) (last : ArmName) → AllMayLose slot (n ∷ others) last pool.old → AllMayLose slot others last pool.new) }
 {
-    let arm = first_arm(&pool.metaslabs.shards[0].slots, slot);
     if let Err(fault) = reserve_all(pool, Need::Event) {
         return Err(stopped(fault));
     }
-    let at = ArmAt { slot, arm: 0 };
-    detach_all(&mut pool.metaslabs.shards, at, arm);
+    let arm = first_arm(&pool.metaslabs.shards[0].slots, slot);
+    detach_all(&mut pool.metaslabs.shards, ArmAt { slot, arm: 0 }, arm);
     Ok(())
 }
 
 /// The first arm of a slot.
 fn first_arm(slots: &Slots, slot: u32) -> ArmName
+    requires sound { IsTable slots.now }
     requires slot { slot < slots.now.geometry.spec.children }
     requires there { IsThere slots.now (record { slot = slot; arm = 0 }) }
     ensures { IsNamed slots.now (record { slot = slot; arm = 0 }) result }

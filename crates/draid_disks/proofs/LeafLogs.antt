@@ -7,7 +7,7 @@ use Rattle.draid_names.specs.declared.arm.ArmKind.{ArmKind}
 use Rattle.draid_names.specs.declared.arm.ArmKind.TheVariants as kind
 use Rattle.draid_ranges.specs.Runs.{is_between}
 use Rattle.draid_machine.proofs.Small.{none_some, some_injective}
-use Rattle.draid_slots.specs.Changes.{Detaches, behind}
+use Rattle.draid_slots.specs.Changes.{Detaches}
 use Rattle.draid_slots.specs.Table.{SlotTable, arm_at, is_logged, is_spare_kind}
 use Rattle.draid_disks.specs.Disks.{KeepsLeafLogs}
 use Rattle.draid_disks.specs.Renewing.{Renews, is_renewed, is_renewed_at, renewed_arm}
