@@ -112,6 +112,7 @@ impl<R: Rack, A: Area> Pool<R, A> {
         ensures asked { AllAskedStay self.old self.new }
         ensures versions { OnOk result (AllHaveAsked self.new) }
         ensures rises { OnOk result (group_in self.old < group_in self.new) }
+        ensures idle { OnOk result (AreIdle self.new.metaslabs.shards.items) }
         ensures cause { IsErrOf result SyncFault.Shelf → AreaRose A.faults self.old self.new }
         ensures carries { (x : State) → Represents R.Rack A.Area self.old x
             → CarriesOut R.Rack A.Area self.new x (SyncDoes x result) }

@@ -30,11 +30,12 @@ use Rattle.draid_visits.specs.declared.steps.Next.TheVariants as next
 abbrev pub IsRebuiltIn : {R A : Type 0} → Shard R A → Type 0
 IsRebuiltIn shard = IsSomeAnd shard.pass (λ (p : Pass). p.kind ≡ Rebuild) ⊎ (LacksTarget shard.slots Rebuild → ⊥)
 
--- All blocks, tickets and the committed group are as they were, and so are the arms, but for whether a pass has made them good. No leaf came.
+-- All blocks, tickets, the committed group and the closing one are as they were, and so are the arms, but for whether a pass has made them good. No leaf came.
 pub record SharesTable {R A : Type 0} (old new : Shard R A) : Type 0 where
   pub part : part_of new ≡ part_of old
   pub entries : SameEntries old.entries new.entries
   pub committed : new.committed ≡ old.committed
+  pub closing : new.closing ≡ old.closing
   pub slots : ShareArms old.slots new.slots
   pub leaves : (leaf : ℕ) → IsLeaf new.slots leaf → IsLeaf old.slots leaf
 

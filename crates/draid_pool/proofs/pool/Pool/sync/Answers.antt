@@ -27,6 +27,7 @@ returns-in-Err g c =
       asked = c.in-Err.ensures.asked;
       versions = tt;
       rises = tt;
+      idle = tt;
       cause = λ is. c.in-Err.ensures.cause (err_on Synced Unit c.in-Err.fault sync.Shelf is);
       carries = λ x is. sync_unfinished g.R.Rack g.A.Area c.finish.new.self x c.in-Err.fault (c.in-Err.ensures.carries x is);
     }
@@ -46,6 +47,7 @@ returns-in-Ok g c =
           let named = c.in-Ok.ensures.named in
           let was = c.committed-group.ensures in
           omega (arith, grows, named, was));
+      idle = c.in-Ok.ensures.idle;
       cause = λ is. absurd (no_refusal is);
       carries = λ x is. sync_done g.R.Rack g.A.Area c.finish.new.self c.commit_group.new.self x (c.committed-group.result + 1) c.in-Ok.thin (c.in_default.ensures.carries x is)
           (ap (λ n. n + 1) c.committed-group.ensures) c.in-Ok.ensures.carries;
@@ -63,6 +65,7 @@ returns-in-Err-commit_group g c =
       asked = all_asked_on c.args.self.now c.finish.new.self c.commit_group.new.self c.in_default.ensures.asked (all_asked_by g.R.Rack.faults c.finish.new.self c.commit_group.new.self c.in-Err-commit_group.ensures.stays);
       versions = tt;
       rises = tt;
+      idle = tt;
       cause = λ is. rose_then g.A.Area.faults c.args.self.now c.finish.new.self c.commit_group.new.self c.in_default.ensures.later (c.in-Err-commit_group.ensures.cause (err_on Synced ℕ c.in-Err-commit_group.fault sync.Shelf is));
       carries = λ x is. sync_stops g.R.Rack g.A.Area c.finish.new.self c.commit_group.new.self x (c.committed-group.result + 1) c.in-Err-commit_group.fault (c.in_default.ensures.carries x is)
           (ap (λ n. n + 1) c.committed-group.ensures) c.in-Err-commit_group.ensures.carries;
