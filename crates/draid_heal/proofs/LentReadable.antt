@@ -3,7 +3,6 @@ use Rattle.std.proofs.Common.{arith, ◌≡◌, ◌↔◌, ◌⊎◌, ◌+◌, �
 use Rattle.std.specs.Prelude.{IfSome, slice_index_or}
 use Rattle.std.proofs.lemmas.Bool.Decides.{nat_tests}
 use Rattle.std.proofs.lemmas.Option.{slice_get_within}
-use Rattle.draid_names.specs.declared.arm.Arm.{Arm}
 use Rattle.draid_names.specs.declared.pass_kind.PassKind.TheVariants.{Heal}
 use Rattle.draid_names.specs.declared.pointer.Pointer.{Pointer}
 use Rattle.draid_spec.specs.declared.layout.Geometry.{Geometry}
@@ -17,7 +16,7 @@ use Rattle.draid_machine.specs.declared.names.ArmName.{ArmName}
 use Rattle.draid_machine.specs.declared.names.Held.{Held}
 use Rattle.draid_machine.specs.Arms.{fails, leaf_at, passes, reading}
 use Rattle.draid_machine.specs.Created.{IsReached}
-use Rattle.draid_machine.specs.Names.{has_number, is_block, is_heal, takes}
+use Rattle.draid_machine.specs.Names.{has_number, is_heal, takes}
 use Rattle.draid_machine.specs.State as machine
 use Rattle.draid_machine.specs.Step.{IsChosen, LendStep, unless_failed}
 use Rattle.draid_machine.proofs.Small.{absurd_test, none_some, some_same}
@@ -27,12 +26,12 @@ use Rattle.draid_readable.specs.Fetched.{AreFetched, IsFetchedOf}
 use Rattle.draid_readable.proofs.Readable as read
 use Rattle.draid_entries.specs.Maps.{held_at, key_of, staged}
 use Rattle.draid_pass.specs.declared.pass.Pass.{Pass}
-use Rattle.draid_slots.specs.States.{name_of, pass_in}
+use Rattle.draid_slots.specs.States.{pass_in}
 use Rattle.draid_shard.specs.Columns.{ArePieces, row_bytes}
 use Rattle.draid_shard.specs.Fits.{Valid}
 use Rattle.draid_shard.specs.Loans.{IsKept, IsLentBlock, block_loan, loan_in}
-use Rattle.draid_shard.specs.Part.{IsRun, Part, layout_in}
-use Rattle.draid_shard.specs.Rows.{IsRowsOf, leaf_on, name_on, rows_on}
+use Rattle.draid_shard.specs.Part.{IsRun, Part}
+use Rattle.draid_shard.specs.Rows.{IsRowsOf, rows_on}
 use Rattle.draid_shard.specs.Stands.{StandsFor}
 use Rattle.draid_shard.specs.States.{IsIn, Leads, layout_by, part_of}
 use Rattle.draid_shard.specs.declared.loan.LentBlock.{LentBlock}

@@ -8,8 +8,6 @@ use Rattle.draid_area.specs.declared.Area as areas
 use Rattle.draid_spec.specs.declared.layout.Geometry.{Geometry}
 use Rattle.draid_block.specs.Blocks.{BlockValue, cut_of}
 use Rattle.draid_block.specs.Solving.{IsReadable}
-use Rattle.draid_machine.specs.declared.event.Event.TheVariants.{LandBlock}
-use Rattle.draid_machine.specs.declared.event.Patched.{Patched}
 use Rattle.draid_machine.specs.declared.names.Held.{Held}
 use Rattle.draid_machine.specs.State as machine
 use Rattle.draid_segments.specs.Reads.{MoreBad}
