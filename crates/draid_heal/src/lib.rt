@@ -7,6 +7,7 @@ mod block;
 mod choosing;
 mod kept;
 mod landing;
+mod laws;
 mod loans;
 mod losing;
 mod reading;
@@ -18,5 +19,6 @@ mod solving;
 mod spots;
 
 pub use landing::land;
+pub use laws::lent_blocks_are_readable;
 pub use loans::lend;
 pub use solving::solve;
