@@ -16,6 +16,9 @@ pub mod Finds
 pub mod Following
 pub mod Freed
 pub mod Glances
+pub mod GroupClosed
+pub mod GroupKeeps
+pub mod GroupSealed
 pub mod HeldBy
 pub mod Hiding
 pub mod HoldStep
@@ -51,6 +54,7 @@ pub mod Returned
 pub mod Rises
 pub mod Rooms
 pub mod Roomy
+pub mod RoundSteps
 pub mod SealRecords
 pub mod SealSteps
 pub mod ShardSteps

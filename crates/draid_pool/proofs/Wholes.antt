@@ -104,6 +104,9 @@ module _ {R A : Type 0} (rack : racks.Ghosts R) (area : areas.Ghosts A) where
   pub few_whole : (pool : Pool R A) → IsWhole rack area pool → length pool.metaslabs.shards.items ≤ 64
   few_whole pool w = (let many = w.many in let most = w.layout.geometry_is.props.most_metaslabs in omega (arith, many, most))
 
+  pub few_geometry : (pool : Pool R A) → IsWhole rack area pool → pool.geometry.props.metaslabs ≤ 64
+  few_geometry pool w = w.layout.geometry_is.props.most_metaslabs
+
   -- the room of a shard is that of a state
   pub whole_room : (pool : Pool R A) (m len : ℕ) (own shard : Shard R A) → IsWhole rack area pool → slice_get pool.metaslabs.shards.items m ≡ Some shard → shard ≡ own
       → ((w : machine.State) → IsIn own w → HasRoom (stripes_of (cut_of pool.geometry) len) own w) → (w : machine.State) × IsIn shard w × HasRoom (stripes_of (cut_of shard.geometry) len) shard w

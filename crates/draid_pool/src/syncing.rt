@@ -25,79 +25,13 @@ ghost use Rattle.draid_pool.specs.Pointers.{SamePointers};
 ghost use Rattle.draid_pool.specs.Pools.{Represents, group_in};
 ghost use Rattle.draid_pool.specs.Whole.{IsWhole};
 
-use crate::closing::close_group;
-use crate::committing::commit;
-use crate::fault::{CloseFault, SealFault, SyncFault, Synced};
+use crate::fault::{SyncFault, Synced};
 use crate::pool::Pool;
-use crate::sealing::seal;
+use crate::rounds::{close_each, commit_each, seal_each};
 use crate::unsynced::is_unsynced;
 use draid_area::Area;
 use draid_names::DeviceFault;
 use draid_rack::Rack;
-use draid_shard::Shard;
-
-/// Closes a group in a shard where it isn't closing already.
-fn close_in<R: Rack, A: Area>(shard: &mut Shard<R, A>, group: u64) -> Result<(), SyncFault>
-    requires valid { Valid R.Rack shard.old }
-    requires next { group ≡ shard.old.committed + 1 }
-    ensures valid { Valid R.Rack shard.new }
-    ensures table { KeepsTable shard.old shard.new }
-    ensures stays { KeepsShard R.faults shard.old shard.new }
-    ensures closing { OnOk result (shard.new.closing ≡ Some group) }
-    ensures later { sealing.AreasLater A.faults shard.old shard.new }
-    ensures not_shelf { IsErrOf result SyncFault.Shelf → ⊥ }
-    ensures last { IsErrOf result SyncFault.Last → group ≡ LAST_NUMBER }
-    ensures closes { (part : Part) (pieces : Pieces) (x : Metaslab) → IsMetaslab R.Rack A.Area part pieces shard.old x
-        → Turns R.Rack A.Area part pieces x shard.new (λ hold y. CloseIs part group result hold × KeepsCommitted x.world y.world) }
-{
-    if shard.closing().is_some() {
-        return Ok(());
-    }
-    match close_group(shard, group) {
-        Ok(()) => Ok(()),
-        Err(CloseFault::Worn { .. }) => Err(SyncFault::Worn),
-        Err(CloseFault::Last) => Err(SyncFault::Last),
-        Err(CloseFault::NoMemory) => Err(SyncFault::NoMemory),
-    }
-}
-
-/// Seals a group in a shard where it isn't sealed already, and counts the blocks that are thin.
-fn seal_in<R: Rack, A: Area>(shard: &mut Shard<R, A>, group: u64) -> Result<u64, SyncFault>
-    requires valid { Valid R.Rack shard.old }
-    requires closing { shard.old.closing ≡ Some group }
-    requires settled { (key : Key) (h : Held) → held_in shard.old.entries key ≡ Some h → is_block h.stage ≡ true }
-    ensures valid { Valid R.Rack shard.new }
-    ensures table { KeepsTable shard.old shard.new }
-    ensures stays { KeepsShard R.faults shard.old shard.new }
-    ensures sealed { OnOk result ((shard.new.closing ≡ Some group) × (shard.new.sealed ≡ true)) }
-    ensures low { IfOk result (λ thin. thin ≤ NUMBERS) }
-    ensures later { sealing.AreasLater A.faults shard.old shard.new }
-    ensures cause { IsErrOf result SyncFault.Shelf → RecordsRose A.faults shard.old shard.new }
-    ensures not_last { IsErrOf result SyncFault.Last → ⊥ }
-    ensures seals { (part : Part) (pieces : Pieces) (x : Metaslab) → IsMetaslab R.Rack A.Area part pieces shard.old x
-        → Turns R.Rack A.Area part pieces x shard.new (λ hold y. SealIs part group result hold × KeepsCommitted x.world y.world) }
-{
-    if shard.sealed() {
-        return Ok(0);
-    }
-    match seal(shard, group) {
-        Ok(sealed) => Ok(sealed.thin),
-        Err(SealFault::NotYet { .. }) => unreachable!(),
-        Err(SealFault::Area) => Err(SyncFault::Shelf),
-        Err(SealFault::NoMemory) => Err(SyncFault::NoMemory),
-    }
-}
-
-/// Commits a group in each shard, where it is sealed.
-fn commit_all<R: Rack, A: Area>(shards: &mut Vec<Shard<R, A>>, group: u64)
-    requires valid { All (Valid R.Rack) shards.old.items }
-    requires sealed { AreSealed shards.old.items group }
-    ensures commits { CommitsBelow R.Rack group (length shards.old.items) shards.old.items shards.new.items }
-{
-    for metaslab in 0..shards.len() {
-        commit(&mut shards[metaslab], group);
-    }
-}
 
 impl<R: Rack, A: Area> Pool<R, A> {
     /// Commits the group that is open. One that is closing is finished first. A sync that was stopped may be made again.
@@ -234,13 +168,7 @@ impl<R: Rack, A: Area> Pool<R, A> {
         ensures closing { OnOk result (AreClosing self.new.metaslabs.shards.items group) }
         ensures uber { self.new.uber ≡ self.old.uber }
     {
-        for metaslab in 0..self.metaslabs.shards.len() {
-            match close_in(&mut self.metaslabs.shards[metaslab], group) {
-                Ok(()) => {}
-                Err(fault) => return Err(fault),
-            }
-        }
-        Ok(())
+        close_each(&mut self.metaslabs, self.geometry.props.metaslabs, group)
     }
 
     /// Seals a group in each metaslab where it isn't sealed already, and counts the blocks that are thin.
@@ -258,14 +186,10 @@ impl<R: Rack, A: Area> Pool<R, A> {
         ensures sealed { OnOk result (AreSealed self.new.metaslabs.shards.items group) }
         ensures uber { self.new.uber ≡ self.old.uber }
     {
-        let mut thin = 0;
-        for metaslab in 0..self.metaslabs.shards.len() {
-            match seal_in(&mut self.metaslabs.shards[metaslab], group) {
-                Ok(sealed) => thin += sealed,
-                Err(fault) => return Err(fault),
-            }
+        match seal_each(&mut self.metaslabs, self.geometry.props.metaslabs, group) {
+            Some(result) => result,
+            None => unreachable!(),
         }
-        Ok(thin)
     }
 
     /// Has the uberblock name a group that is sealed in each metaslab, and commits it there.
@@ -289,7 +213,7 @@ impl<R: Rack, A: Area> Pool<R, A> {
     {
         match self.uber.commit(group) {
             Ok(()) => {
-                commit_all(&mut self.metaslabs.shards, group);
+                commit_each(&mut self.metaslabs, self.geometry.props.metaslabs, group);
                 Ok(())
             }
             Err(DeviceFault::Failed) => Err(SyncFault::Shelf),
