@@ -27,9 +27,7 @@ pub fn close_each<R: Rack, A: Area, M: Metaslabs<R, A>>(
 {
     for metaslab in 0..count {
         let op = metaslabs.hold(metaslab, CloseOp { group, out: None });
-        let Some(closed) = op.out else {
-            unreachable!()
-        };
+        let Some(closed) = op.out else { unreachable!() };
         match closed {
             Ok(()) => {}
             Err(fault) => return Err(fault),

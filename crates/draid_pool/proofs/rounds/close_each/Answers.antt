@@ -23,7 +23,7 @@ hold-op-requires-clause-may g c =
     }
 
 pub unreachable-requires : goal.unreachable-requires
-unreachable-requires g c = (let h = c.hold-op.ensures.held in did_not (λ result. ClosesIn g.R.Rack g.A.Area c.args.group h.before result h.after) c.hold-op.result.out h.related c.in-None.is)
+unreachable-requires g c = (let h = c.hold-op.ensures.held in did_not (λ result. ClosesIn g.R.Rack g.A.Area c.args.group h.before result h.after) c.hold-op.result.out h.related c.in_default.is)
 
 pub loop-metaslab-preserved : goal.loop-metaslab-preserved
 loop-metaslab-preserved g c =

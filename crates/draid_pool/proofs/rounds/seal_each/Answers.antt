@@ -77,12 +77,12 @@ returns-in-Err g c =
       };
     }
 
-pub returns-in-None : goal.returns-in-None
-returns-in-None g c =
+pub returns-in_default : goal.returns-in_default
+returns-in_default g c =
     let l = c.loop-metaslab in
     let i = l.invariant in
     let h = c.hold-op.ensures.held in
-    let did : WaitsForWrites c.args.group h.before h.after = may_not (WaitsForWrites c.args.group h.before h.after) (λ result. SealsBy g.R.Rack g.A.Area c.args.group h.before result h.after) c.hold-op.result.out h.related c.in-None.is in
+    let did : WaitsForWrites c.args.group h.before h.after = may_not (WaitsForWrites c.args.group h.before h.after) (λ result. SealsBy g.R.Rack g.A.Area c.args.group h.before result h.after) c.hold-op.result.out h.related c.in_default.is in
     record {
       fits = c.hold-op.ensures.fits;
       locks = c.hold-op.ensures.locks ∙ i.locks;
