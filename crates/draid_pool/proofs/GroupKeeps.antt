@@ -124,3 +124,6 @@ module _ {R A : Type 0} (rack : racks.Ghosts R) (area : areas.Ghosts A) where
 
   pub sealed_commits : (group thin : ℕ) (x y : Shard R A) → SealsBy rack area group x (Ok thin) y → CommitsNext rack group y
   sealed_commits group thin x y s = record { valid = s.valid; closing = s.sealed.0; sealed = s.sealed.1 }
+
+  pub committed_next : (group : ℕ) (x y : Shard R A) → Commits rack group x y → ClosesNext rack (group + 1) y
+  committed_next group x y c = record { valid = c.valid; next = (let is = c.commits.committed in omega (arith, is)) }

@@ -45,6 +45,7 @@ pub mod OnePass
 pub mod OwnedKnows
 pub mod OwnedStands
 pub mod Owning
+pub mod PhaseSteps
 pub mod Places
 pub mod QuietWhole
 pub mod Ranging

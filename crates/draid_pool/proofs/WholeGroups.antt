@@ -29,7 +29,7 @@ use Rattle.draid_pool.specs.Whole.{IsPointer, IsShardOf, IsWhole}
 use Rattle.draid_pool.specs.declared.pool.Pool.{Pool}
 use Rattle.draid_pool.proofs.Arms.{leaf_left, share_left}
 use Rattle.draid_pool.proofs.Lists.{present, some_of}
-use Rattle.draid_pool.proofs.Naming.{Names, Refuses}
+use Rattle.draid_pool.specs.Ubers.{Names, Refuses}
 use Rattle.draid_pool.proofs.Versions.{layout_again}
 
 module _ {R A : Type 0} (rack : racks.Ghosts R) (area : areas.Ghosts A) where

@@ -1,8 +1,9 @@
 -- What a sync does to one metaslab in a hold, and to all of them in rounds.
-use Rattle.std.specs.Prelude.{◌≡◌, ◌+◌, ◌<◌, ◌≤◌, ℕ, Bool, Option, Some, None, true, Result, Ok, Err, IfOk, OnOk, IsErrOf, MatchOption}
+use Rattle.std.specs.Prelude.{◌≡◌, ◌+◌, ◌<◌, ◌≤◌, ◌⊎◌, ℕ, Bool, Option, Some, None, true, Result, Ok, Err, IfOk, OnOk, IsErrOf, MatchOption}
 use Rattle.draid_rack.specs.declared.Rack as racks
 use Rattle.draid_area.specs.declared.Area as areas
 use Rattle.draid_names.specs.declared.numbers.TheConstants.{LAST_NUMBER, NUMBERS}
+use Rattle.draid_names.specs.Faults.{Rose}
 use Rattle.draid_machine.specs.State as machine
 use Rattle.draid_segments.specs.Segments.{Pieces}
 use Rattle.draid_session.specs.State.{Metaslab}
@@ -15,8 +16,13 @@ use Rattle.draid_pool.specs.Groups.{AreasLater, OpenUpto}
 use Rattle.draid_pool.specs.Metaslabs.{IsMetaslab}
 use Rattle.draid_pool.specs.Rounds.{HeldEach, StoppedBy}
 use Rattle.draid_pool.specs.Syncing.{CloseIs, Commits, KeepsCommitted, KeepsShard, KeepsTable, SealIs, Turns}
+use Rattle.draid_pool.specs.Ubers.{Names, Refuses}
 use Rattle.draid_pool.specs.declared.fault.SyncFault.{SyncFault}
 use Rattle.draid_pool.specs.declared.fault.SyncFault.TheVariants as sync
+use Rattle.draid_pool.specs.declared.fault.Synced.{Synced}
+use Rattle.draid_uber.specs.Slots.{group_of}
+use Rattle.draid_uber.specs.Uber.{area_of, kept_of}
+use Rattle.draid_uber.specs.declared.uber.Uber.{Uber}
 
 -- ---- one metaslab
 
@@ -86,3 +92,59 @@ module _ {R A S : Type 0} (rack : racks.Ghosts R) (area : areas.Ghosts A) (last 
   -- it is committed in each
   abbrev pub CommitsEach : S → S → Type 0
   CommitsEach a b = HeldEach rack area last went shared owns (λ none x y. Commits rack group x y) count a 0 b
+
+-- ---- the uberblock
+
+-- it names the group, or is refused it
+abbrev pub UberNames : {A : Type 0} → areas.Ghosts A → ℕ → Uber A → Result Unit SyncFault → Uber A → Type 0
+UberNames area group u (Ok done) v = Names area u v group × (area.faults (area_of u) ≤ area.faults (area_of v))
+UberNames area group u (Err sync.Shelf) v = Refuses area u v group × (area.faults (area_of u) ≤ area.faults (area_of v)) × Rose (area.faults (area_of u)) (area.faults (area_of v))
+UberNames area group u (Err sync.NoMemory) v = Refuses area u v group × (area.faults (area_of u) ≤ area.faults (area_of v))
+UberNames area group u (Err sync.Worn) v = ⊥
+UberNames area group u (Err sync.Last) v = ⊥
+
+-- ---- a group
+
+module _ {R A S : Type 0} (rack : racks.Ghosts R) (area : areas.Ghosts A) (last : S → ℕ → Option (Shard R A)) (went : S → ℕ → Shard R A → Shard R A → S → Type 0) (shared : Bool) (owns : ℕ → Bool) (group count : ℕ) where
+  -- It is committed, and so many of its blocks are thin: it was closed in each metaslab and sealed in each, the uberblock names it, and it was committed in each. Or it
+  -- was stopped, and where; or open writes in a metaslab are in the way.
+  abbrev pub CommitsIn : S → Uber A → Option (Result ℕ SyncFault) → S → Uber A → Type 0
+  CommitsIn a u (Some (Ok thin)) b v =
+      (mid : S) × (late : S) × ClosesEach rack area last went shared owns group count a (Ok tt) mid × SealsEach rack area last went shared owns group count mid (Some (Ok thin)) late × UberNames area group u (Ok tt) v
+      × CommitsEach rack area last went shared owns group count late b
+  CommitsIn a u (Some (Err why)) b v =
+      (ClosesEach rack area last went shared owns group count a (Err why) b × (v ≡ u))
+      ⊎ (((mid : S) × ClosesEach rack area last went shared owns group count a (Ok tt) mid × SealsEach rack area last went shared owns group count mid (Some (Err why)) b × (v ≡ u))
+      ⊎ ((mid : S) × (thin : ℕ) × ClosesEach rack area last went shared owns group count a (Ok tt) mid × SealsEach rack area last went shared owns group count mid (Some (Ok thin)) b × UberNames area group u (Err why) v))
+  CommitsIn a u None b v = (mid : S) × ClosesEach rack area last went shared owns group count a (Ok tt) mid × SealsEach rack area last went shared owns group count mid None b × (v ≡ u)
+
+-- ---- a sync
+
+-- a metaslab was looked at for the group that is closing there
+abbrev pub SeesClosing : {R A : Type 0} → Option ℕ → Shard R A → Shard R A → Type 0
+SeesClosing closing old new = (new ≡ old) × (old.closing ≡ closing)
+
+module _ {R A S : Type 0} (rack : racks.Ghosts R) (area : areas.Ghosts A) (last : S → ℕ → Option (Shard R A)) (went : S → ℕ → Shard R A → Shard R A → S → Type 0) (shared : Bool) (owns : ℕ → Bool) (count : ℕ) where
+  -- the first metaslab in which a group is closing has this one, or none has one
+  abbrev pub FindsClosing : S → Option ℕ → S → Type 0
+  FindsClosing a (Some group) b = StoppedBy rack area last went shared owns (λ none x y. SeesClosing None x y) (λ x y. SeesClosing (Some group) x y) count a b
+  FindsClosing a None b = HeldEach rack area last went shared owns (λ none x y. SeesClosing None x y) count a 0 b
+
+  -- a group that was closing is committed, if there was one, or was stopped
+  abbrev pub FinishesIn : S → Uber A → Option (Result Unit SyncFault) → S → Uber A → Type 0
+  FinishesIn a u (Some (Ok done)) b v =
+      (FindsClosing a None b × (v ≡ u))
+      ⊎ ((group : ℕ) × (thin : ℕ) × (mid : S) × FindsClosing a (Some group) mid × CommitsIn rack area last went shared owns group count mid u (Some (Ok thin)) b v)
+  FinishesIn a u (Some (Err why)) b v = (group : ℕ) × (mid : S) × FindsClosing a (Some group) mid × CommitsIn rack area last went shared owns group count mid u (Some (Err why)) b v
+  FinishesIn a u None b v = (group : ℕ) × (mid : S) × FindsClosing a (Some group) mid × CommitsIn rack area last went shared owns group count mid u None b v
+
+  -- and then the next one
+  abbrev pub SyncsIn : S → Uber A → Option (Result Synced SyncFault) → S → Uber A → Type 0
+  SyncsIn a u (Some (Ok it)) b v =
+      (mid : S) × (w : Uber A) × FinishesIn a u (Some (Ok tt)) mid w × (it.group ≡ group_of (kept_of w) + 1) × CommitsIn rack area last went shared owns it.group count mid w (Some (Ok it.thin)) b v
+  SyncsIn a u (Some (Err why)) b v =
+      FinishesIn a u (Some (Err why)) b v
+      ⊎ ((mid : S) × (w : Uber A) × (group : ℕ) × FinishesIn a u (Some (Ok tt)) mid w × (group ≡ group_of (kept_of w) + 1) × CommitsIn rack area last went shared owns group count mid w (Some (Err why)) b v)
+  SyncsIn a u None b v =
+      FinishesIn a u None b v
+      ⊎ ((mid : S) × (w : Uber A) × (group : ℕ) × FinishesIn a u (Some (Ok tt)) mid w × (group ≡ group_of (kept_of w) + 1) × CommitsIn rack area last went shared owns group count mid w None b v)

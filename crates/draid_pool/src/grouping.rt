@@ -128,3 +128,29 @@ impl<R: Rack, A: Area> Act<Shard<R, A>> for CommitOp {
         commit(shard, self.group);
     }
 }
+
+/// A look at which group is closing in a metaslab.
+#[derive(Drop)]
+pub struct ClosingOp {
+    pub out: Option<u64>,
+}
+
+impl<R: Rack, A: Area> Act<Shard<R, A>> for ClosingOp {
+    ghost use Rattle.std.specs.Prelude.{None};
+    ghost use Rattle.draid_shard.specs.Fits.{Valid};
+    ghost use Rattle.draid_pool.specs.Grouping.{SeesClosing};
+
+    ghost needs = { λ _ s. Valid R.Rack s };
+
+    ghost relates = { λ o s o' s'. SeesClosing o'.out s s' };
+
+    ghost concerns = { λ _. None };
+
+    fn concerned(&self) -> Option<u64> {
+        None
+    }
+
+    fn act(&mut self, shard: &mut Shard<R, A>) {
+        self.out = shard.closing();
+    }
+}

@@ -1,5 +1,5 @@
 //! What a sync does to all metaslabs, which it holds one at a time, in ascending order.
-ghost use Rattle.std.specs.Prelude.{◌≡◌, ◌≤◌, true, IfSome, OnOk};
+ghost use Rattle.std.specs.Prelude.{◌≡◌, ◌≤◌, ◌+◌, true, IfSome, OnOk};
 ghost use Rattle.draid_pool.specs.Drifts.{groups_number};
 ghost use Rattle.draid_pool.specs.Grouping.{ClosesEach, ClosesNext, CommitsEach, CommitsNext, SealsEach, SealsNext};
 ghost use Rattle.draid_pool.specs.Rounds.{EachIs};
@@ -11,7 +11,7 @@ use draid_area::Area;
 use draid_rack::Rack;
 
 /// Closes a group in each of so many metaslabs, where it isn't closing already.
-pub fn close_each<R: Rack, A: Area, M: Metaslabs<R, A>>(
+pub(crate) fn close_each<R: Rack, A: Area, M: Metaslabs<R, A>>(
     metaslabs: &mut M,
     count: u32,
     group: u64,
@@ -38,7 +38,7 @@ pub fn close_each<R: Rack, A: Area, M: Metaslabs<R, A>>(
 
 /// Seals a group in each of so many metaslabs, where it isn't sealed already, and counts the blocks that are thin. Nothing
 /// where open writes of others are in the way, so that it is to be tried again.
-pub fn seal_each<R: Rack, A: Area, M: Metaslabs<R, A>>(
+pub(crate) fn seal_each<R: Rack, A: Area, M: Metaslabs<R, A>>(
     metaslabs: &mut M,
     count: u32,
     group: u64,
@@ -68,13 +68,14 @@ pub fn seal_each<R: Rack, A: Area, M: Metaslabs<R, A>>(
 }
 
 /// Commits a group in each of so many metaslabs, where it is sealed.
-pub fn commit_each<R: Rack, A: Area, M: Metaslabs<R, A>>(metaslabs: &mut M, count: u32, group: u64)
+pub(crate) fn commit_each<R: Rack, A: Area, M: Metaslabs<R, A>>(metaslabs: &mut M, count: u32, group: u64)
     requires fits { M.fits metaslabs.old }
     requires own { M.owns metaslabs.old groups_number ≡ true }
     requires next { EachIs count (CommitsNext R.Rack group) (M.last metaslabs.old) }
     ensures fits { M.fits metaslabs.new }
     ensures locks { M.locks metaslabs.new ≡ M.locks metaslabs.old }
     ensures owns { M.owns metaslabs.new ≡ M.owns metaslabs.old }
+    ensures ready { EachIs count (ClosesNext R.Rack (group + 1)) (M.last metaslabs.new) }
     ensures commits { CommitsEach R.Rack A.Area M.last M.went M.shared (M.owns metaslabs.old) group count metaslabs.old metaslabs.new }
 {
     for metaslab in 0..count {

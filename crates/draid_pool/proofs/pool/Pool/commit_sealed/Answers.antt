@@ -4,7 +4,7 @@ use Rattle.draid_pool.specs.declared.pool.Pool.{Pool}
 use Rattle.draid_pool.specs.Syncing.{CommitsBelow}
 use Rattle.draid_pool.proofs.GroupSealed.{commits_each, committed_upto}
 use Rattle.draid_pool.proofs.Keeping.{all_committed, all_stay, asked_committed}
-use Rattle.draid_pool.proofs.Naming.{Names, Refuses}
+use Rattle.draid_pool.specs.Ubers.{Names, Refuses}
 use Rattle.draid_pool.proofs.Rises.{areas_committed, areas_named}
 use Rattle.draid_pool.proofs.SyncCalls.{named_sealed, refused_failed, refused_starved}
 use Rattle.draid_pool.proofs.WholeGroups.{idle_committed, sealed_next, whole_committed, whole_refused}
