@@ -1,7 +1,6 @@
 -- A group that the only thread of a pool closes in all metaslabs.
-use Rattle.std.proofs.Common.{◌≡◌, ◌<◌, ◌+◌, ◌∙◌, ℕ, zero, suc, Bool, true, false, Option, Some, None, Ok, Err, arith, refl, sym, ap, subst, slice_set, length}
+use Rattle.std.proofs.Common.{◌≡◌, ◌+◌, ℕ, zero, suc, false, Option, Some, Ok, Err, arith, refl, sym, subst, slice_set}
 use Rattle.std.specs.Prelude.{slice_get, Result, IsErrOf, OnOk}
-use Rattle.std.proofs.lemmas.List.{length-set}
 use Rattle.draid_names.specs.declared.numbers.TheConstants.{LAST_NUMBER}
 use Rattle.draid_rack.specs.declared.Rack as racks
 use Rattle.draid_area.specs.declared.Area as areas

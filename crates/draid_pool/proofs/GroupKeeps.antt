@@ -17,7 +17,7 @@ use Rattle.draid_shard.specs.States.{part_of}
 use Rattle.draid_shard.specs.declared.shard.Shard.{Shard}
 use Rattle.draid_pool.specs.Committing.{DropsFreed}
 use Rattle.draid_pool.specs.Drifts.{Drifts, GoesOn, KeepsOf, KeepsTo, StateStep, groups_number, is_other}
-use Rattle.draid_pool.specs.Grouping.{ClosesIn, ClosesNext, CommitsNext, SealsBy, SealsIn, SealsNext, WaitsForWrites}
+use Rattle.draid_pool.specs.Grouping.{ClosesIn, ClosesNext, CommitsNext, SealsBy, SealsIn, SealsNext}
 use Rattle.draid_pool.specs.Syncing.{Commits, KeepsTable, Turns}
 use Rattle.draid_pool.specs.declared.fault.SyncFault.{SyncFault}
 use Rattle.draid_pool.proofs.Drifting.{keeps_self}

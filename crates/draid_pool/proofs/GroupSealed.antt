@@ -1,6 +1,6 @@
 -- A group that the only thread of a pool seals in all metaslabs, and that is committed in all.
-use Rattle.std.proofs.Common.{◌≡◌, ◌<◌, ◌+◌, ◌∙◌, ℕ, zero, suc, Bool, true, false, Option, Some, None, Ok, Err, List, arith, refl, sym, ap, subst, slice_set, length}
-use Rattle.std.specs.Prelude.{slice_get, Result, IsErrOf, OnOk}
+use Rattle.std.proofs.Common.{◌≡◌, ◌+◌, ℕ, zero, suc, true, false, Some, None, Ok, Err, arith, refl, sym, subst}
+use Rattle.std.specs.Prelude.{Result, IsErrOf, OnOk}
 use Rattle.draid_rack.specs.declared.Rack as racks
 use Rattle.draid_area.specs.declared.Area as areas
 use Rattle.draid_shard.specs.declared.shard.Shard.{Shard}
@@ -9,17 +9,17 @@ use Rattle.draid_session.specs.Groups as groups
 use Rattle.draid_session.specs.State.{State}
 use Rattle.draid_pool.specs.Carries.{CarriesOut}
 use Rattle.draid_pool.specs.Failing.{AreaRose, AreasLater}
-use Rattle.draid_pool.specs.Grouping.{CommitsNext, SealsBy, SealsEach, SealsNext, WaitsForWrites}
+use Rattle.draid_pool.specs.Grouping.{SealsBy, SealsEach}
 use Rattle.draid_pool.specs.Pools.{Represents}
-use Rattle.draid_pool.specs.Rounds.{EachIs, HeldEach, HeldOnce}
-use Rattle.draid_pool.specs.Syncing.{AreClosing, AreSealed, Commits, CommitsBelow, KeepsShards, SealDoes}
+use Rattle.draid_pool.specs.Rounds.{HeldEach}
+use Rattle.draid_pool.specs.Syncing.{AreSealed, Commits, CommitsBelow, KeepsShards, SealDoes}
 use Rattle.draid_pool.specs.Whole.{IsWhole}
 use Rattle.draid_pool.specs.declared.fault.SyncFault.{SyncFault}
 use Rattle.draid_pool.specs.declared.fault.SyncFault.TheVariants as sync
 use Rattle.draid_pool.specs.declared.owned.Owned.{Owned}
 use Rattle.draid_pool.specs.declared.pool.Pool.{Pool}
 use Rattle.draid_pool.proofs.Commits.{below_more}
-use Rattle.draid_pool.proofs.GroupClosed.{each_whole, left_by, next_on, once_sets, went_by, with_owned}
+use Rattle.draid_pool.proofs.GroupClosed.{left_by, next_on, once_sets, went_by, with_owned}
 use Rattle.draid_pool.proofs.Keeping.{all_set_on, all_stay}
 use Rattle.draid_pool.proofs.Lifted.{SetsShard}
 use Rattle.draid_pool.proofs.OwnedKnows.{all}
@@ -29,13 +29,6 @@ use Rattle.draid_pool.proofs.SyncSteps.{Came, SealedBelow, below_all, below_set,
 use Rattle.draid_pool.proofs.Turns.{no_tickets}
 
 module _ {R A : Type 0} (rack : racks.Ghosts R) (area : areas.Ghosts A) where
-  pub seals_each : (pool : Pool R A) (group : ℕ) → IsWhole rack area pool → AreClosing pool.metaslabs.shards.items group → EachIs pool.geometry.props.metaslabs (SealsNext rack group) (left_by pool.metaslabs)
-  seals_each pool group w closing = each_whole rack area pool (SealsNext rack group) w (λ m shard there. record { valid = (w.shards m shard there).valid; closing = closing m shard there })
-
-  pub commits_each : (pool : Pool R A) (group : ℕ) → IsWhole rack area pool → AreSealed pool.metaslabs.shards.items group → EachIs pool.geometry.props.metaslabs (CommitsNext rack group) (left_by pool.metaslabs)
-  commits_each pool group w sealed =
-      each_whole rack area pool (CommitsNext rack group) w (λ m shard there. (let is = sealed m shard there in record { valid = (w.shards m shard there).valid; closing = is.0; sealed = is.1 }))
-
   -- the first so many metaslabs seal it
   record SealingAt (pool now : Pool R A) (group m thin : ℕ) : Type 0 where
     pub whole : IsWhole rack area now

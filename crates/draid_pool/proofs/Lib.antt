@@ -17,6 +17,7 @@ pub mod Following
 pub mod Freed
 pub mod Glances
 pub mod GroupClosed
+pub mod GroupDone
 pub mod GroupKeeps
 pub mod GroupSealed
 pub mod HeldBy
@@ -63,6 +64,7 @@ pub mod Since
 pub mod Steps
 pub mod Stood
 pub mod SyncCalls
+pub mod SyncDone
 pub mod SyncSteps
 pub mod Takings
 pub mod Taught

@@ -4,7 +4,7 @@ use Rattle.draid_names.specs.declared.numbers.TheConstants.{LAST_NUMBER}
 use Rattle.draid_rack.specs.declared.Rack as racks
 use Rattle.draid_area.specs.declared.Area as areas
 use Rattle.draid_record.specs.declared.uber.UberBody.{UberBody}
-use Rattle.draid_shard.specs.Fits.{AreGroups, Valid}
+use Rattle.draid_shard.specs.Fits.{AreGroups}
 use Rattle.draid_shard.specs.declared.shard.Shard.{Shard}
 use Rattle.draid_uber.specs.Held.{IsNext}
 use Rattle.draid_uber.specs.Slots.{group_of}

@@ -1,5 +1,5 @@
 -- Rounds over metaslabs grow at their end, as a loop makes them.
-use Rattle.std.proofs.Common.{◌≡◌, ◌==◌, ◌≤◌, ◌<◌, ◌+◌, ◌∙◌, ℕ, suc, Bool, true, Option, Some, None, MatchOption, arith, refl, sym, ap, subst, if◌then◌else◌, eq-eqb, ne_eqb}
+use Rattle.std.proofs.Common.{◌≡◌, ◌==◌, ◌≤◌, ◌+◌, ◌∙◌, ℕ, suc, Bool, true, Option, Some, None, MatchOption, arith, refl, ap, subst, if◌then◌else◌, eq-eqb, ne_eqb}
 use mathlib.Core.Logic.{dite}
 use native.Mathlib.Decide.{ℕ_discrete}
 use Rattle.draid_rack.specs.declared.Rack as racks

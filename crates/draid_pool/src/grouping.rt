@@ -49,7 +49,7 @@ fn seal_in<R: Rack, A: Area>(shard: &mut Shard<R, A>, group: u64) -> Option<Resu
 
 /// The closing of a group in a metaslab where it isn't closing already.
 #[derive(Drop)]
-pub struct CloseOp {
+pub(crate) struct CloseOp {
     pub group: u64,
     pub out: Option<Result<(), SyncFault>>,
 }
@@ -76,7 +76,7 @@ impl<R: Rack, A: Area> Act<Shard<R, A>> for CloseOp {
 
 /// The sealing of a group in a metaslab where it isn't sealed already.
 #[derive(Drop)]
-pub struct SealOp {
+pub(crate) struct SealOp {
     pub group: u64,
     /// How many blocks are thin, or nothing where open writes are in the way.
     pub out: Option<Result<u64, SyncFault>>,
@@ -104,7 +104,7 @@ impl<R: Rack, A: Area> Act<Shard<R, A>> for SealOp {
 
 /// The commit of a group in a metaslab where it is sealed.
 #[derive(Drop)]
-pub struct CommitOp {
+pub(crate) struct CommitOp {
     pub group: u64,
 }
 
@@ -131,7 +131,7 @@ impl<R: Rack, A: Area> Act<Shard<R, A>> for CommitOp {
 
 /// A look at which group is closing in a metaslab.
 #[derive(Drop)]
-pub struct ClosingOp {
+pub(crate) struct ClosingOp {
     pub out: Option<u64>,
 }
 

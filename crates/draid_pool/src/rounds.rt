@@ -68,7 +68,11 @@ pub(crate) fn seal_each<R: Rack, A: Area, M: Metaslabs<R, A>>(
 }
 
 /// Commits a group in each of so many metaslabs, where it is sealed.
-pub(crate) fn commit_each<R: Rack, A: Area, M: Metaslabs<R, A>>(metaslabs: &mut M, count: u32, group: u64)
+pub(crate) fn commit_each<R: Rack, A: Area, M: Metaslabs<R, A>>(
+    metaslabs: &mut M,
+    count: u32,
+    group: u64,
+)
     requires fits { M.fits metaslabs.old }
     requires own { M.owns metaslabs.old groups_number ≡ true }
     requires next { EachIs count (CommitsNext R.Rack group) (M.last metaslabs.old) }

@@ -1,4 +1,4 @@
-use Rattle.std.proofs.Common.{◌≡◌, ◌∙◌, ℕ, None, Some, arith, refl, sym, ap, subst}
+use Rattle.std.proofs.Common.{◌∙◌, None, Some, arith, refl, sym, ap, subst}
 use Rattle.draid_shard.specs.Fits.{Valid}
 use Rattle.draid_pool.specs.Drifts.{groups_number}
 use Rattle.draid_pool.specs.Grouping.{SeesClosing}

@@ -1,4 +1,4 @@
-use Rattle.std.proofs.Common.{◌≡◌, ◌+◌, ◌∙◌, ℕ, Bool, true, None, Some, Ok, Err, inl, inr, ap, refl, subst, sym}
+use Rattle.std.proofs.Common.{◌+◌, ◌∙◌, ℕ, Bool, None, Some, Ok, Err, inl, inr, ap, refl, subst, sym}
 use Rattle.std.specs.Prelude.{OnOk}
 use Rattle.draid_uber.specs.Slots.{group_of}
 use Rattle.draid_uber.specs.Uber.{kept_of}
@@ -52,8 +52,13 @@ returns-in-Ok g c =
       owns = f.owns ∙ e.owns;
       valid = f.valid;
       ready = subst (λ it. OnOk it (EachIs c.args.count (ClosesNext g.R.Rack (group_of (kept_of c.commit_group.new.uber) + 1)) (g.M.Metaslabs.last c.commit_group.new.metaslabs))) c.in-Ok.is c.in-Some-commit_group.ensures.ready;
-      finishes = inr (c.in-Some.group, c.in-Ok.field-0, c.find_closing.new.metaslabs, c.in-Some.ensures.found,
-          (subst (λ owns. CommitsIn g.R.Rack g.A.Area g.M.Metaslabs.last g.M.Metaslabs.went g.M.Metaslabs.shared owns c.in-Some.group c.args.count c.find_closing.new.metaslabs c.args.uber.now (Some (Ok c.in-Ok.field-0)) c.commit_group.new.metaslabs c.commit_group.new.uber) e.owns (subst (λ it. CommitsIn g.R.Rack g.A.Area g.M.Metaslabs.last g.M.Metaslabs.went g.M.Metaslabs.shared (g.M.Metaslabs.owns c.find_closing.new.metaslabs) c.in-Some.group c.args.count c.find_closing.new.metaslabs c.args.uber.now (Some it) c.commit_group.new.metaslabs c.commit_group.new.uber) c.in-Ok.is c.in-Some-commit_group.ensures.commits)));
+      finishes = inr (
+        c.in-Some.group,
+        c.in-Ok.field-0,
+        c.find_closing.new.metaslabs,
+        c.in-Some.ensures.found,
+        (subst (λ owns. CommitsIn g.R.Rack g.A.Area g.M.Metaslabs.last g.M.Metaslabs.went g.M.Metaslabs.shared owns c.in-Some.group c.args.count c.find_closing.new.metaslabs c.args.uber.now (Some (Ok c.in-Ok.field-0)) c.commit_group.new.metaslabs c.commit_group.new.uber) e.owns (subst (λ it. CommitsIn g.R.Rack g.A.Area g.M.Metaslabs.last g.M.Metaslabs.went g.M.Metaslabs.shared (g.M.Metaslabs.owns c.find_closing.new.metaslabs) c.in-Some.group c.args.count c.find_closing.new.metaslabs c.args.uber.now (Some it) c.commit_group.new.metaslabs c.commit_group.new.uber) c.in-Ok.is c.in-Some-commit_group.ensures.commits)),
+      );
     }
 
 pub returns-in-Err : goal.returns-in-Err
@@ -66,6 +71,10 @@ returns-in-Err g c =
       owns = f.owns ∙ e.owns;
       valid = f.valid;
       ready = tt;
-      finishes = (c.in-Some.group, c.find_closing.new.metaslabs, c.in-Some.ensures.found,
-          (subst (λ owns. CommitsIn g.R.Rack g.A.Area g.M.Metaslabs.last g.M.Metaslabs.went g.M.Metaslabs.shared owns c.in-Some.group c.args.count c.find_closing.new.metaslabs c.args.uber.now (Some (Err c.in-Err.fault)) c.commit_group.new.metaslabs c.commit_group.new.uber) e.owns (subst (λ it. CommitsIn g.R.Rack g.A.Area g.M.Metaslabs.last g.M.Metaslabs.went g.M.Metaslabs.shared (g.M.Metaslabs.owns c.find_closing.new.metaslabs) c.in-Some.group c.args.count c.find_closing.new.metaslabs c.args.uber.now (Some it) c.commit_group.new.metaslabs c.commit_group.new.uber) c.in-Err.is c.in-Some-commit_group.ensures.commits)));
+      finishes = (
+        c.in-Some.group,
+        c.find_closing.new.metaslabs,
+        c.in-Some.ensures.found,
+        (subst (λ owns. CommitsIn g.R.Rack g.A.Area g.M.Metaslabs.last g.M.Metaslabs.went g.M.Metaslabs.shared owns c.in-Some.group c.args.count c.find_closing.new.metaslabs c.args.uber.now (Some (Err c.in-Err.fault)) c.commit_group.new.metaslabs c.commit_group.new.uber) e.owns (subst (λ it. CommitsIn g.R.Rack g.A.Area g.M.Metaslabs.last g.M.Metaslabs.went g.M.Metaslabs.shared (g.M.Metaslabs.owns c.find_closing.new.metaslabs) c.in-Some.group c.args.count c.find_closing.new.metaslabs c.args.uber.now (Some it) c.commit_group.new.metaslabs c.commit_group.new.uber) c.in-Err.is c.in-Some-commit_group.ensures.commits)),
+      );
     }

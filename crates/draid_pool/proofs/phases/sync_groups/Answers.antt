@@ -1,4 +1,4 @@
-use Rattle.std.proofs.Common.{◌≡◌, ◌+◌, ◌∙◌, ℕ, Bool, true, None, Some, Ok, Err, inl, inr, arith, ap, refl, subst, sym}
+use Rattle.std.proofs.Common.{◌+◌, ◌∙◌, ℕ, Bool, None, Some, Ok, Err, inl, inr, arith, ap, subst, sym}
 use Rattle.std.specs.Prelude.{OnOk}
 use Rattle.draid_uber.specs.Slots.{group_of}
 use Rattle.draid_uber.specs.Uber.{kept_of}
@@ -49,8 +49,14 @@ returns-in_default-commit_group g c =
       locks = f.locks ∙ e.locks;
       owns = f.owns ∙ e.owns;
       valid = f.valid;
-      syncs = inr (c.finish_group.new.metaslabs, c.finish_group.new.uber, c.committed-group.result + 1, (subst (λ it. FinishesIn g.R.Rack g.A.Area g.M.Metaslabs.last g.M.Metaslabs.went g.M.Metaslabs.shared (g.M.Metaslabs.owns c.args.metaslabs.now) c.args.count c.args.metaslabs.now c.args.uber.now (Some it) c.finish_group.new.metaslabs c.finish_group.new.uber) c.in-Ok.is c.in-Some.ensures.finishes), ap (λ n. n + 1) c.committed-group.ensures,
-          (subst (λ owns. CommitsIn g.R.Rack g.A.Area g.M.Metaslabs.last g.M.Metaslabs.went g.M.Metaslabs.shared owns (c.committed-group.result + 1) c.args.count c.finish_group.new.metaslabs c.finish_group.new.uber None c.commit_group.new.metaslabs c.commit_group.new.uber) e.owns c.in_default-commit_group.ensures.commits));
+      syncs = inr (
+        c.finish_group.new.metaslabs,
+        c.finish_group.new.uber,
+        c.committed-group.result + 1,
+        (subst (λ it. FinishesIn g.R.Rack g.A.Area g.M.Metaslabs.last g.M.Metaslabs.went g.M.Metaslabs.shared (g.M.Metaslabs.owns c.args.metaslabs.now) c.args.count c.args.metaslabs.now c.args.uber.now (Some it) c.finish_group.new.metaslabs c.finish_group.new.uber) c.in-Ok.is c.in-Some.ensures.finishes),
+        ap (λ n. n + 1) c.committed-group.ensures,
+        (subst (λ owns. CommitsIn g.R.Rack g.A.Area g.M.Metaslabs.last g.M.Metaslabs.went g.M.Metaslabs.shared owns (c.committed-group.result + 1) c.args.count c.finish_group.new.metaslabs c.finish_group.new.uber None c.commit_group.new.metaslabs c.commit_group.new.uber) e.owns c.in_default-commit_group.ensures.commits),
+      );
     }
 
 pub returns-in-Ok-came : goal.returns-in-Ok-came
@@ -62,8 +68,13 @@ returns-in-Ok-came g c =
       locks = f.locks ∙ e.locks;
       owns = f.owns ∙ e.owns;
       valid = f.valid;
-      syncs = (c.finish_group.new.metaslabs, c.finish_group.new.uber, (subst (λ it. FinishesIn g.R.Rack g.A.Area g.M.Metaslabs.last g.M.Metaslabs.went g.M.Metaslabs.shared (g.M.Metaslabs.owns c.args.metaslabs.now) c.args.count c.args.metaslabs.now c.args.uber.now (Some it) c.finish_group.new.metaslabs c.finish_group.new.uber) c.in-Ok.is c.in-Some.ensures.finishes), ap (λ n. n + 1) c.committed-group.ensures,
-          (subst (λ owns. CommitsIn g.R.Rack g.A.Area g.M.Metaslabs.last g.M.Metaslabs.went g.M.Metaslabs.shared owns (c.committed-group.result + 1) c.args.count c.finish_group.new.metaslabs c.finish_group.new.uber (Some (Ok c.in-Ok-came.thin)) c.commit_group.new.metaslabs c.commit_group.new.uber) e.owns (subst (λ it. CommitsIn g.R.Rack g.A.Area g.M.Metaslabs.last g.M.Metaslabs.went g.M.Metaslabs.shared (g.M.Metaslabs.owns c.finish_group.new.metaslabs) (c.committed-group.result + 1) c.args.count c.finish_group.new.metaslabs c.finish_group.new.uber (Some it) c.commit_group.new.metaslabs c.commit_group.new.uber) c.in-Ok-came.is c.in-Some-commit_group.ensures.commits)));
+      syncs = (
+        c.finish_group.new.metaslabs,
+        c.finish_group.new.uber,
+        (subst (λ it. FinishesIn g.R.Rack g.A.Area g.M.Metaslabs.last g.M.Metaslabs.went g.M.Metaslabs.shared (g.M.Metaslabs.owns c.args.metaslabs.now) c.args.count c.args.metaslabs.now c.args.uber.now (Some it) c.finish_group.new.metaslabs c.finish_group.new.uber) c.in-Ok.is c.in-Some.ensures.finishes),
+        ap (λ n. n + 1) c.committed-group.ensures,
+        (subst (λ owns. CommitsIn g.R.Rack g.A.Area g.M.Metaslabs.last g.M.Metaslabs.went g.M.Metaslabs.shared owns (c.committed-group.result + 1) c.args.count c.finish_group.new.metaslabs c.finish_group.new.uber (Some (Ok c.in-Ok-came.thin)) c.commit_group.new.metaslabs c.commit_group.new.uber) e.owns (subst (λ it. CommitsIn g.R.Rack g.A.Area g.M.Metaslabs.last g.M.Metaslabs.went g.M.Metaslabs.shared (g.M.Metaslabs.owns c.finish_group.new.metaslabs) (c.committed-group.result + 1) c.args.count c.finish_group.new.metaslabs c.finish_group.new.uber (Some it) c.commit_group.new.metaslabs c.commit_group.new.uber) c.in-Ok-came.is c.in-Some-commit_group.ensures.commits)),
+      );
     }
 
 pub returns-in-Err-came : goal.returns-in-Err-came
@@ -75,6 +86,12 @@ returns-in-Err-came g c =
       locks = f.locks ∙ e.locks;
       owns = f.owns ∙ e.owns;
       valid = f.valid;
-      syncs = inr (c.finish_group.new.metaslabs, c.finish_group.new.uber, c.committed-group.result + 1, (subst (λ it. FinishesIn g.R.Rack g.A.Area g.M.Metaslabs.last g.M.Metaslabs.went g.M.Metaslabs.shared (g.M.Metaslabs.owns c.args.metaslabs.now) c.args.count c.args.metaslabs.now c.args.uber.now (Some it) c.finish_group.new.metaslabs c.finish_group.new.uber) c.in-Ok.is c.in-Some.ensures.finishes), ap (λ n. n + 1) c.committed-group.ensures,
-          (subst (λ owns. CommitsIn g.R.Rack g.A.Area g.M.Metaslabs.last g.M.Metaslabs.went g.M.Metaslabs.shared owns (c.committed-group.result + 1) c.args.count c.finish_group.new.metaslabs c.finish_group.new.uber (Some (Err c.in-Err-came.fault)) c.commit_group.new.metaslabs c.commit_group.new.uber) e.owns (subst (λ it. CommitsIn g.R.Rack g.A.Area g.M.Metaslabs.last g.M.Metaslabs.went g.M.Metaslabs.shared (g.M.Metaslabs.owns c.finish_group.new.metaslabs) (c.committed-group.result + 1) c.args.count c.finish_group.new.metaslabs c.finish_group.new.uber (Some it) c.commit_group.new.metaslabs c.commit_group.new.uber) c.in-Err-came.is c.in-Some-commit_group.ensures.commits)));
+      syncs = inr (
+        c.finish_group.new.metaslabs,
+        c.finish_group.new.uber,
+        c.committed-group.result + 1,
+        (subst (λ it. FinishesIn g.R.Rack g.A.Area g.M.Metaslabs.last g.M.Metaslabs.went g.M.Metaslabs.shared (g.M.Metaslabs.owns c.args.metaslabs.now) c.args.count c.args.metaslabs.now c.args.uber.now (Some it) c.finish_group.new.metaslabs c.finish_group.new.uber) c.in-Ok.is c.in-Some.ensures.finishes),
+        ap (λ n. n + 1) c.committed-group.ensures,
+        (subst (λ owns. CommitsIn g.R.Rack g.A.Area g.M.Metaslabs.last g.M.Metaslabs.went g.M.Metaslabs.shared owns (c.committed-group.result + 1) c.args.count c.finish_group.new.metaslabs c.finish_group.new.uber (Some (Err c.in-Err-came.fault)) c.commit_group.new.metaslabs c.commit_group.new.uber) e.owns (subst (λ it. CommitsIn g.R.Rack g.A.Area g.M.Metaslabs.last g.M.Metaslabs.went g.M.Metaslabs.shared (g.M.Metaslabs.owns c.finish_group.new.metaslabs) (c.committed-group.result + 1) c.args.count c.finish_group.new.metaslabs c.finish_group.new.uber (Some it) c.commit_group.new.metaslabs c.commit_group.new.uber) c.in-Err-came.is c.in-Some-commit_group.ensures.commits)),
+      );
     }

@@ -1,4 +1,4 @@
-use Rattle.std.proofs.Common.{◌≡◌, ◌∙◌, true, Ok, Err, arith, refl, sym, ap, subst}
+use Rattle.std.proofs.Common.{◌∙◌, Ok, Err, arith, refl, ap, subst}
 use Rattle.draid_pool.specs.Drifts.{groups_number}
 use Rattle.draid_pool.specs.Grouping.{ClosesIn, ClosesNext, SealsNext}
 use Rattle.draid_pool.proofs.GroupKeeps.{close_keeps, close_ready, closed_again, closed_seals}

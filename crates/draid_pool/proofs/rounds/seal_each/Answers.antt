@@ -1,4 +1,4 @@
-use Rattle.std.proofs.Common.{◌≡◌, ◌∙◌, true, Ok, Err, arith, refl, sym, ap, subst}
+use Rattle.std.proofs.Common.{◌∙◌, Ok, Err, arith, refl, ap, subst}
 use Rattle.draid_pool.specs.Drifts.{groups_number}
 use Rattle.draid_pool.specs.Grouping.{CommitsNext, SealsBy, SealsNext, WaitsForWrites}
 use Rattle.draid_pool.proofs.GroupKeeps.{seal_keeps, seal_ready, sealed_again, sealed_commits}
