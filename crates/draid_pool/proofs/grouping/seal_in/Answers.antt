@@ -1,25 +1,28 @@
 use Rattle.std.proofs.Common.{◌<◌, ◌∙◌, ap, arith, refl, subst, sym}
 use Rattle.draid_machine.specs.State as machine
 use Rattle.draid_names.specs.Faults.{Rose}
-use Rattle.draid_pool.specs.Groups.{OpenUpto, SealIsRefused, area_in}
+use Rattle.draid_pool.specs.Groups.{OpenUpto, SealIsRefused, StaysIfWaiting, area_in}
 use Rattle.draid_shard.specs.States.{IsIn}
 use Rattle.draid_pool.specs.declared.fault.SyncFault.TheVariants as sync
 use Rattle.draid_shard.proofs.Changed.{same_arms}
-use Rattle.draid_shard.proofs.Shown.{state_shown}
 use Rattle.draid_pool.proofs.Keeping.{stays_still}
 use Rattle.draid_pool.proofs.Rises.{records_rose, records_still}
-use Rattle.draid_pool.proofs.Turns.{no_tickets, not_sealed, seal_fault, sealed, stays_sealed}
+use Rattle.draid_pool.proofs.Turns.{not_sealed, seal_fault, sealed, stays_sealed}
 use Rattle.draid_pool.proofs.Refusing.{memory_no_last, memory_no_shelf, no_refusal, shelf_no_last}
-use Rattle.draid_pool.proofs.syncing.seal_in.Goals as goal
+use Rattle.draid_pool.proofs.grouping.seal_in.Goals as goal
 
-pub unreachable-requires : goal.unreachable-requires
-unreachable-requires g c =
+pub returns-in-Err-NotYet : goal.returns-in-Err-NotYet
+returns-in-Err-NotYet g c =
     let t = c.in-Err-NotYet.field-0-0 in
     let e = c.in-Err-NotYet.ensures in
     let why : (0 < t) × ((w : machine.State) → IsIn c.args.shard.now w → OpenUpto w c.args.group t)
     = subst (SealIsRefused g.A.Area.faults c.args.shard.now c.seal.new.shard c.args.group) c.in-Err-NotYet.field-0-is e.refused.why in
-    let z = state_shown g.R.Rack c.args.shard.now c.requires.valid in
-    no_tickets g.R.Rack g.A.Area c.args.shard.now z.0 c.args.group t z.1 c.requires.settled (why.1 z.0 z.1) why.0
+    record {
+      same = subst (StaysIfWaiting c.args.shard.now c.seal.new.shard) c.in-Err-NotYet.field-0-is e.waits;
+      tickets = t;
+      some = why.0;
+      open_ = why.1;
+    }
 
 pub returns-in-Ok : goal.returns-in-Ok
 returns-in-Ok g c =

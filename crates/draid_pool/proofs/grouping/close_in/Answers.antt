@@ -6,7 +6,7 @@ use Rattle.draid_pool.proofs.Keeping.{stays_still}
 use Rattle.draid_pool.proofs.Rises.{records_same, records_still}
 use Rattle.draid_pool.proofs.Turns.{close_fault, closed, closing_here, closing_next, idle_by, last_group, not_closed, open_next}
 use Rattle.draid_pool.proofs.Refusing.{last_no_shelf, memory_no_last, memory_no_shelf, no_refusal, worn_no_last, worn_no_shelf}
-use Rattle.draid_pool.proofs.syncing.close_in.Goals as goal
+use Rattle.draid_pool.proofs.grouping.close_in.Goals as goal
 
 pub returns-in-Ok : goal.returns-in-Ok
 returns-in-Ok g c =
