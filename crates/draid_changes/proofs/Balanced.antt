@@ -76,12 +76,15 @@ all_alone rack slot last pool may = (number_of last, λ m z there. lose_none rac
 
 -- a sync leaves it
 pub alone_on : {R A : Type 0} (slot : ℕ) (mid new : Pool R A) → AllArmsStay mid new → AllAlone slot mid → AllAlone slot new
-alone_on slot mid new stay (leaf, alone) = (leaf, λ m z there.
-    (let inside = slice_get_within new.metaslabs.shards.items m z there in
-    let many = stay.many in
-    let was = present mid.metaslabs.shards.items m (omega (arith, inside, many)) in
-    let one = alone m was.0 was.1 in
-    (one.0, ap (λ (arms : List (List Arm)). slice_index_or arms slot []) (stay.each m was.0 z was.1 there).arms_stay ∙ one.1, one.2, one.3)))
+alone_on slot mid new stay (leaf, alone) = (
+  leaf,
+  λ m z there.
+      (let inside = slice_get_within new.metaslabs.shards.items m z there in
+      let many = stay.many in
+      let was = present mid.metaslabs.shards.items m (omega (arith, inside, many)) in
+      let one = alone m was.0 was.1 in
+      (one.0, ap (λ (arms : List (List Arm)). slice_index_or arms slot []) (stay.each m was.0 z was.1 there).arms_stay ∙ one.1, one.2, one.3)),
+)
 
 -- ---- the pool
 
@@ -95,9 +98,13 @@ module _ {R A : Type 0} (rack : racks.Ghosts R) (area : areas.Ghosts A) (pool : 
   pub some_may_go : HasNoPass pool → Each (λ (shard : Shard R A). HasOthers shard.slots slot) pool.metaslabs.shards.items → SomeGo slot pool
   some_may_go none each =
       let first = first_shard rack area pool w in
-      let z = some_of_them (arms_of first.0.slots slot) (each 0 first.0 first.1).others in
-      (z.0, z.1, z.2, λ m shard there.
-      loses rack slot z.0 z.1 z.2 first.0 shard z.3 (w.alike 0 m first.0 shard first.1 there).arms (low_there 0 first.0 first.1) (none m shard there) (each m shard there))
+      let z = some_of_them (arms_of first.0.slots slot) (each 0 first.0 first.1).others in (
+        z.0,
+        z.1,
+        z.2,
+        λ m shard there.
+            loses rack slot z.0 z.1 z.2 first.0 shard z.3 (w.alike 0 m first.0 shard first.1 there).arms (low_there 0 first.0 first.1) (none m shard there) (each m shard there),
+      )
 
   module _ (x : State) (r : Represents rack area pool x) where
     -- and so it is seen

@@ -45,7 +45,7 @@ pub returns-in-Ok : goal.returns-in-Ok
 returns-in-Ok g c =
     let pool = c.args.pool.now in
     let go : SomeGo c.args.slot pool = some_may_go g.R.Rack g.A.Area pool c.requires.whole c.args.slot c.requires.slot c.requires.passes
-        (λ m shard there. c.all_have_others.ensures.all c.if-not-all_have_others.false m shard (ap (λ shards. slice_get shards m) c.deref.ensures.value ∙ there)) in
+    (λ m shard there. c.all_have_others.ensures.all c.if-not-all_have_others.false m shard (ap (λ shards. slice_get shards m) c.deref.ensures.value ∙ there)) in
     let none = c.if-errors-gt0.false in
     let calm : c.args.errors ≡ 0 = omega (arith, none) in
     let e = c.in-Ok.ensures in
@@ -65,7 +65,7 @@ pub returns-in-Err : goal.returns-in-Err
 returns-in-Err g c =
     let pool = c.args.pool.now in
     let go : SomeGo c.args.slot pool = some_may_go g.R.Rack g.A.Area pool c.requires.whole c.args.slot c.requires.slot c.requires.passes
-        (λ m shard there. c.all_have_others.ensures.all c.if-not-all_have_others.false m shard (ap (λ shards. slice_get shards m) c.deref.ensures.value ∙ there)) in
+    (λ m shard there. c.all_have_others.ensures.all c.if-not-all_have_others.false m shard (ap (λ shards. slice_get shards m) c.deref.ensures.value ∙ there)) in
     let none = c.if-errors-gt0.false in
     let calm : c.args.errors ≡ 0 = omega (arith, none) in
     let e = c.in-Err.ensures in
