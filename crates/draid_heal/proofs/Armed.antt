@@ -13,9 +13,11 @@ use Rattle.draid_parity.specs.Columns.{column_at}
 use Rattle.draid_rack.specs.Moments.{ChangesOnly}
 use Rattle.draid_rack.specs.Rack.{OnBothTold, Told, flushes}
 use Rattle.draid_rack.proofs.Moments.{only_flushes, only_more, only_on, only_self}
-use Rattle.draid_heal.specs.Arms.{AreLeavesApart, AreRooms, FlushedOn, HealsArm, HealsArms, ListsArm, ListsArms, StandsArm, WroteAt, failed_if, landed_if, rows_for}
+use Rattle.draid_shard.specs.Spots.{AreLeavesApart, rows_for}
+use Rattle.draid_shard.specs.Loans.{AreRooms, IsRowRoom}
+use Rattle.draid_heal.specs.Arms.{FlushedOn, HealsArm, HealsArms, ListsArm, ListsArms, StandsArm, WroteAt, landed_if}
+use Rattle.draid_shard.specs.Losing.{failed_if}
 use Rattle.draid_heal.specs.Rows.{FailsOn, HealsRows, ListsRows, in_those}
-use Rattle.draid_shard.specs.Loans.{IsRowRoom}
 use Rattle.draid_shard.specs.declared.loan.Spot.{Spot}
 use Rattle.draid_heal.proofs.Healing.{either_false, fails_one, last_has}
 

@@ -36,7 +36,7 @@ use Rattle.draid_shard.proofs.Counts.{counts_none}
 use Rattle.draid_shard.proofs.Homes.{lays}
 use Rattle.draid_shard.proofs.Kept.{stored_more}
 use Rattle.draid_heal.specs.Lands.{IsBlockLoan, LandsOr, LandsRestored, LandsUnit, MovesBehind, PassesOver, WritesRestored}
-use Rattle.draid_heal.specs.Loans.{IsBlockHere, IsHere, IsLentHere, IsRunningScrub}
+use Rattle.draid_shard.specs.Scrubs.{IsBlockHere, IsHere, IsLentHere, IsRunningScrub}
 use Rattle.draid_heal.proofs.Landings.{counted_holds, landed, landed_in, landed_valid, left_holds}
 use Rattle.draid_heal.proofs.Lands.{found, h, left_is, over_acts, over_step, pass_held, restored_acts, restored_step, told_is}
 use Rattle.draid_heal.proofs.Rewritten.{none_rewritten}

@@ -30,18 +30,19 @@ use Rattle.draid_shard.specs.declared.loan.Spot.{Spot}
 use Rattle.draid_shard.specs.declared.shard.Shard.{Shard}
 use Rattle.draid_shard.proofs.Held.{key_leads}
 use Rattle.draid_shard.proofs.Homes.{lays}
-use Rattle.draid_heal.specs.Arms.{ListsArm, rows_for}
+use Rattle.draid_heal.specs.Arms.{ListsArm}
+use Rattle.draid_shard.specs.Spots.{AreSpots, IsSpot, rows_for}
 use Rattle.draid_heal.specs.Lands.{LandsRestored, is_noted}
-use Rattle.draid_heal.specs.Loans.{IsBlockHere, IsRunningScrub}
-use Rattle.draid_heal.specs.Stands.{AreSpots, IsSpot, LandsRows}
+use Rattle.draid_shard.specs.Scrubs.{IsBlockHere, IsRunningScrub}
+use Rattle.draid_heal.specs.Stands.{LandsRows}
 use Rattle.draid_heal.proofs.Armed.{get_upto}
 use Rattle.draid_heal.proofs.Decided.{same_decision, whole_decided}
 use Rattle.draid_heal.proofs.Missing.{are_marked}
 use Rattle.draid_heal.proofs.Noted.{WereWritten, healed_stays, landed_stays, patches_stay}
 use Rattle.draid_heal.proofs.Rewritten.{AreParts, rewritten_is, rewritten_same}
-use Rattle.draid_heal.proofs.Spotted.{spotted}
+use Rattle.draid_shard.proofs.Spotted.{spotted}
 use Rattle.draid_heal.proofs.Standing.{healed, patches, there_is}
-use Rattle.draid_heal.proofs.Straight.{straight}
+use Rattle.draid_shard.proofs.Straight.{straight}
 use Rattle.draid_heal.proofs.Whole.{clean_of, fine_of, whole_of}
 
 capped_twice : (a b : ℕ) → capped (a + b) ≡ capped (capped (a + 0) + b)

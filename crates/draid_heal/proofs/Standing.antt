@@ -19,8 +19,9 @@ use Rattle.draid_rack.proofs.Moments.{only_more, only_on}
 use Rattle.draid_segments.specs.Acts.{HealsBlock, LiesThere, is_on_clean, is_settled}
 use Rattle.draid_segments.specs.Segments.{Pieces, harmed_at, piece_of, reads_at, sector_at, soft_at}
 use Rattle.draid_shard.specs.Columns.{ArePieces}
-use Rattle.draid_heal.specs.Arms.{HealsArms, ListsArm, ListsArms, StandsArm, rows_for}
-use Rattle.draid_heal.specs.Stands.{AreSpots, HasSpot, IsSpot, IsStraight, SettledAt, SettlesArms}
+use Rattle.draid_heal.specs.Arms.{HealsArms, ListsArm, ListsArms, StandsArm}
+use Rattle.draid_shard.specs.Spots.{AreSpots, HasSpot, IsSpot, IsStraight, rows_for}
+use Rattle.draid_heal.specs.Stands.{SettledAt, SettlesArms}
 use Rattle.draid_shard.specs.declared.loan.Spot.{Spot}
 use Rattle.draid_heal.proofs.Armed.{get_upto, still_firm}
 

@@ -20,9 +20,8 @@ use Rattle.draid_shard.specs.Rows.{answers_on, arm_no}
 use Rattle.draid_shard.specs.declared.loan.Spot.{Spot}
 use Rattle.draid_shard.proofs.Answering.{answers_is, listed, listed_arm, named_arm}
 use Rattle.draid_heal.specs.Settle.{AreFine}
-use Rattle.draid_heal.specs.Spots.{CleanAnswer, SpotsOf, rows_at}
-use Rattle.draid_heal.specs.Stands.{AreSpots}
-use Rattle.draid_heal.proofs.Fitting.{own_rows}
+use Rattle.draid_shard.specs.Spots.{AreSpots, CleanAnswer, SpotsOf, rows_at}
+use Rattle.draid_shard.proofs.Fitting.{own_rows}
 use Rattle.draid_heal.proofs.Standing.{there_is}
 
 pub fine_of : (l : machine.Layout) (q : machine.Core) (h : Held) (spots : List Spot) (failed : List ℕ) → AreSpots l q h spots → IsWhole l q h failed → AreFine spots failed

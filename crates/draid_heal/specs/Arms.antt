@@ -1,14 +1,15 @@
 -- How the columns of a restored block fare on its arms.
-use Rattle.std.specs.Prelude.{◌≡◌, ◌+◌, ◌*◌, ◌<◌, ◌≤◌, ◌++◌, ◌∷◌, [], ℕ, Bool, true, false, List, Option, Some, length, option_map, slice_get, vec_capacity, if◌then◌else◌}
-use Rattle.draid_columns.specs.Columns.{HasRows, row_of}
+use Rattle.std.specs.Prelude.{◌≡◌, ◌+◌, ◌*◌, ◌<◌, ◌≤◌, [], ℕ, Bool, true, false, List, Option, Some, length, option_map, slice_get, vec_capacity, if◌then◌else◌}
+use Rattle.draid_columns.specs.Columns.{row_of}
 use Rattle.draid_columns.specs.declared.rows.Rows.{Rows}
 use Rattle.draid_machine.specs.Names.{has_number}
 use Rattle.draid_machine.specs.declared.event.Patched.{Patched}
 use Rattle.draid_parity.specs.Columns.{column_at}
 use Rattle.draid_rack.specs.Moments.{ChangesOnly}
-use Rattle.draid_rack.specs.Rack.{OnBothTold, Shape, Told, flushes}
+use Rattle.draid_rack.specs.Rack.{OnBothTold, Told, flushes}
 use Rattle.draid_heal.specs.Rows.{FailsOn, ListsRows, in_those}
-use Rattle.draid_shard.specs.Loans.{IsRowRoom}
+use Rattle.draid_shard.specs.Loans.{AreRooms, IsRowRoom}
+use Rattle.draid_shard.specs.Spots.{rows_for}
 use Rattle.draid_shard.specs.declared.loan.LandingRoom.{LandingRoom}
 use Rattle.draid_shard.specs.declared.loan.Spot.{Spot}
 
@@ -19,9 +20,6 @@ FlushedOn leaf false old new = new ≡ old
 
 abbrev pub landed_if : Bool → List ℕ → List ℕ
 landed_if done landed = if done then landed else []
-
-abbrev pub failed_if : Bool → ℕ → List ℕ → List ℕ
-failed_if done leaf failed = if done then failed else failed ++ leaf ∷ []
 
 -- how the rows of a column stand on an arm: its leaf is flushed where no call on it failed, what landed isn't soft and reads as the column's, and so does
 -- each row where no call failed
@@ -45,23 +43,7 @@ pub record IsRoomOf (count : ℕ) (spot : Spot) (part : Patched) : Type 0 where
   pub column_is : part.column ≡ spot.column
   pub arm_is : part.arm ≡ spot.arm
 
-abbrev pub AreRooms : ℕ → List Patched → Type 0
-AreRooms count parts = (k : ℕ) (part : Patched) → slice_get parts k ≡ Some part → IsRowRoom count part
-
 -- ---- the first so many arms
-
-abbrev pub rows_for : ℕ → ℕ → Spot → Rows
-rows_for count size spot = record { leaf = spot.leaf; first = spot.first; count = count; size = size }
-
--- no two lie on one leaf
-abbrev pub AreLeavesApart : List Spot → Type 0
-AreLeavesApart spots = (j k : ℕ) (a b : Spot) → slice_get spots j ≡ Some a → slice_get spots k ≡ Some b → a.leaf ≡ b.leaf → j ≡ k
-
--- each is of a column of the block, its leaf has the rows, and no two lie on one leaf
-pub record FitSpots (shape : Shape) (count size columns : ℕ) (spots : List Spot) : Type 0 where
-  pub there : (k : ℕ) (spot : Spot) → slice_get spots k ≡ Some spot → HasRows shape (rows_for count size spot)
-  pub column : (k : ℕ) (spot : Spot) → slice_get spots k ≡ Some spot → spot.column < columns
-  pub apart : AreLeavesApart spots
 
 -- room for a landing on the arms that are listed: on each a call of a row may fail in reading and in writing, and the flush
 pub record FitsRoom (count size : ℕ) (room : LandingRoom) : Type 0 where

@@ -26,10 +26,10 @@ use Rattle.draid_shard.specs.declared.loan.KeptLoan.TheVariants.{Block, Stripe}
 use Rattle.draid_shard.specs.declared.loan.LentBlock.{LentBlock}
 use Rattle.draid_shard.specs.declared.loan.Spot.{Spot}
 use Rattle.draid_shard.specs.declared.shard.Shard.{Shard}
-use Rattle.draid_heal.specs.Arms.{AreLeavesApart, ListsArms}
-use Rattle.draid_heal.specs.Losing.{AreMissed}
+use Rattle.draid_shard.specs.Spots.{AreLeavesApart, CleanAnswer, SpotsOf}
+use Rattle.draid_heal.specs.Arms.{ListsArms}
+use Rattle.draid_shard.specs.Losing.{AreMissed}
 use Rattle.draid_heal.specs.Settle.{AreFine}
-use Rattle.draid_heal.specs.Spots.{CleanAnswer, SpotsOf}
 use Rattle.draid_heal.specs.Stands.{LandsRows}
 
 -- the loan is a block's

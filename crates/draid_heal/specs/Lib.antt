@@ -1,12 +1,6 @@
 pub mod Arms
 pub mod Lands
-pub mod Loans
-pub mod Losing
-pub mod Reading
-pub mod Restoring
-pub mod Rooms
 pub mod Row
 pub mod Rows
 pub mod Settle
-pub mod Spots
 pub mod Stands

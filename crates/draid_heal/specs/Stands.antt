@@ -1,43 +1,11 @@
 -- A restored block landed as the state machine says.
 use Rattle.std.specs.Prelude.{◌≡◌, ◌+◌, ◌<◌, ◌||◌, ◌⊎◌, ℕ, Bool, true, false, List, Some, length, slice_get}
-use Rattle.draid_machine.specs.Arms.{answers, is_clean, leaf_answers, leaf_at}
-use Rattle.draid_machine.specs.Names.{has_name, has_number}
-use Rattle.draid_machine.specs.State as machine
+use Rattle.draid_machine.specs.Names.{has_number}
 use Rattle.draid_machine.specs.declared.event.Patched.{Patched}
-use Rattle.draid_machine.specs.declared.names.ArmName.{ArmName}
-use Rattle.draid_machine.specs.declared.names.Held.{Held}
 use Rattle.draid_rack.specs.Moments.{ChangesOnly}
 use Rattle.draid_rack.specs.Rack.{Told}
-use Rattle.draid_heal.specs.Arms.{AreLeavesApart, HealsArms}
+use Rattle.draid_heal.specs.Arms.{HealsArms}
 use Rattle.draid_shard.specs.declared.loan.Spot.{Spot}
-
--- an arm of a block that answers, where the block's column begins there
-pub record IsSpot (l : machine.Layout) (q : machine.Core) (h : Held) (spot : Spot) : Type 0 where
-  pub column : spot.column < l.columns
-  pub listed : has_name (q.order (l.slot_of h.first spot.column)) spot.arm ≡ true
-  pub lies : leaf_at l q.order spot.arm h.first ≡ Some spot.leaf
-  pub answers : leaf_answers q spot.leaf ≡ true
-  pub clean : spot.clean ≡ is_clean q h.birth spot.arm
-  pub first : spot.first ≡ l.sector_of h.first spot.column
-
--- an arm is among them
-pub record HasSpot (spots : List Spot) (c : ℕ) (n : ArmName) : Type 0 where
-  pub k : ℕ
-  pub spot : Spot
-  pub there : slice_get spots k ≡ Some spot
-  pub column_is : spot.column ≡ c
-  pub arm_is : spot.arm ≡ n
-
--- just the arms of the block that answer, no two on one leaf
-pub record AreSpots (l : machine.Layout) (q : machine.Core) (h : Held) (spots : List Spot) : Type 0 where
-  pub each : (k : ℕ) (spot : Spot) → slice_get spots k ≡ Some spot → IsSpot l q h spot
-  pub all : (c : ℕ) (n : ArmName) → c < l.columns → has_name (q.order (l.slot_of h.first c)) n ≡ true → answers l q n h.first ≡ true → HasSpot spots c n
-  pub apart : AreLeavesApart spots
-
--- the rows of a block follow one another on each leaf
-pub record IsStraight (l : machine.Layout) (q : machine.Core) (h : Held) : Type 0 where
-  pub sectors : (c row : ℕ) → row < h.stripes → l.sector_of (h.first + row) c ≡ l.sector_of h.first c + row
-  pub leaves : (n : ArmName) (row : ℕ) → row < h.stripes → leaf_at l q.order n (h.first + row) ≡ leaf_at l q.order n h.first
 
 -- ---- what a whole landing settles
 

@@ -4,9 +4,11 @@ ghost use Rattle.draid_block.specs.Blocks.{column_len};
 ghost use Rattle.draid_columns.specs.Columns.{HasRows};
 ghost use Rattle.draid_parity.specs.Columns.{column_at};
 ghost use Rattle.draid_shard.specs.Calls.{CountsFailed};
-ghost use Rattle.draid_shard.specs.Loans.{IsRowRoom};
+ghost use Rattle.draid_shard.specs.Loans.{AreRooms, IsRowRoom};
 ghost use Rattle.draid_rack.specs.Rack.{OnBothTold};
-ghost use Rattle.draid_heal.specs.Arms.{AreRooms, FitSpots, FitsRoom, FlushedOn, HealsArm, HealsArms, IsRoomOf, ListsArms, Puts, failed_if, landed_if, rows_for};
+ghost use Rattle.draid_shard.specs.Spots.{FitSpots, rows_for};
+ghost use Rattle.draid_heal.specs.Arms.{FitsRoom, FlushedOn, HealsArm, HealsArms, IsRoomOf, ListsArms, Puts, landed_if};
+ghost use Rattle.draid_shard.specs.Losing.{failed_if};
 ghost use Rattle.draid_heal.specs.Rows.{FailsOn, ListsRows};
 
 use crate::rows::heal_rows;
@@ -14,14 +16,7 @@ use draid_block::Encoded;
 use draid_columns::Rows;
 use draid_machine::Patched;
 use draid_rack::Rack;
-use draid_shard::{LandingRoom, Spot};
-
-/// How many rows each column of a block has, and the length of one.
-#[derive(Clone, Copy)]
-pub(crate) struct Extent {
-    pub count: u64,
-    pub size: usize,
-}
+use draid_shard::{Extent, LandingRoom, Spot};
 
 /// Flushes the leaf of an arm. Where that fails nothing landed there.
 fn flush_arm<R: Rack>(rack: &mut R, leaf: u64, part: &mut Patched, failed: &mut Vec<u64>) -> bool

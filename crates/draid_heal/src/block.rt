@@ -3,15 +3,16 @@ ghost use Rattle.std.specs.Prelude.{◌≡◌, ◌+◌, ◌*◌, ◌<◌, ◌^�
 ghost use Rattle.draid_block.specs.Blocks.{column_len};
 ghost use Rattle.draid_shard.specs.Calls.{CountsFailed};
 ghost use Rattle.draid_rack.specs.Rack.{OnBothTold};
-ghost use Rattle.draid_heal.specs.Arms.{FitSpots, FitsRoom, ListsArms};
+ghost use Rattle.draid_shard.specs.Spots.{FitSpots};
+ghost use Rattle.draid_heal.specs.Arms.{FitsRoom, ListsArms};
 ghost use Rattle.draid_heal.specs.Settle.{AreFine};
 ghost use Rattle.draid_heal.specs.Stands.{LandsRows};
 
-use crate::arms::{Extent, heal_arms};
+use crate::arms::heal_arms;
 use crate::settle::{are_fine, settle_arms};
 use draid_block::Encoded;
 use draid_rack::Rack;
-use draid_shard::{LandingRoom, Spot};
+use draid_shard::{Extent, LandingRoom, Spot};
 
 /// Puts the columns of a restored block right on its arms that answer. Where each of its clean arms does, and no call on one
 /// failed, the landing is whole, and the harm of all this ends.

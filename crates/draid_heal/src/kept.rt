@@ -1,26 +1,22 @@
 //! What is kept of a scrub's loan lands.
 ghost use Rattle.std.specs.Prelude.{◌≡◌, ◌+◌, ◌*◌, Some, count_by, filter, length};
 ghost use Rattle.draid_block.specs.Blocks.{column_len, cut_of};
-ghost use Rattle.draid_machine.specs.After.{capped};
-ghost use Rattle.draid_slots.specs.Table.{IsTable};
 ghost use Rattle.draid_shard.specs.Loans.{IsLandingRoom, IsLentBlock};
 ghost use Rattle.draid_shard.specs.Part.{IsRun};
 ghost use Rattle.draid_heal.specs.Lands.{LandsOr, LandsRestored, has_rows, is_noted, is_rewritten};
-ghost use Rattle.draid_heal.specs.Spots.{IsLaid};
+ghost use Rattle.draid_shard.specs.Spots.{IsLaid};
 
-use crate::arms::Extent;
 use crate::block::land_block;
-use crate::losing::missed_marks;
-use crate::spots::list_spots;
 use draid_area::Area;
 use draid_block::Encoded;
 use draid_machine::Patched;
-use draid_names::{LAST_NUMBER, Pointer};
+use draid_names::Pointer;
 use draid_pass::Pass;
 use draid_plans::lose_marked;
 use draid_rack::Rack;
-use draid_shard::{LandingRoom, LentBlock, Shard};
-use draid_slots::Slots;
+use draid_shard::{
+    LandingRoom, LentBlock, Shard, extent_of, list_spots, missed_marks, more_errors,
+};
 
 /// Lands the block that is kept of a loan. Where it couldn't be restored nothing is written, and one error is counted. The
 /// answer is on how many arms a sector landed.
@@ -67,18 +63,6 @@ fn land_restored<R: Rack, A: Area>(
     rewritten
 }
 
-/// How many rows a column of a pointer's block has, and the length of one.
-pub(crate) fn extent_of(slots: &Slots, pointer: &Pointer) -> Extent
-    ensures count { result.count ≡ pointer.now.stripes }
-    ensures size { result.size ≡ slots.now.geometry.props.sector }
-    ensures sound { IsTable slots.now }
-{
-    Extent {
-        count: u64::from(pointer.stripes),
-        size: slots.geometry().props.sector as usize,
-    }
-}
-
 /// On how many arms a row landed.
 fn count_rewritten(parts: &[Patched]) -> u64
     ensures { result ≡ count_by is_rewritten parts.now }
@@ -119,11 +103,4 @@ fn has_rows(rows: &[u32]) -> bool
     ensures { result ≡ has_rows rows.now }
 {
     !rows.is_empty()
-}
-
-/// So many errors more. Their number stands still at the last.
-pub(crate) fn more_errors(errors: u64, more: u64) -> u64
-    ensures { result ≡ capped (errors + more) }
-{
-    errors.saturating_add(more).min(LAST_NUMBER)
 }

@@ -5,7 +5,7 @@ ghost use Rattle.draid_shard.specs.Changes.{KeepsBlocks};
 ghost use Rattle.draid_shard.specs.Fits.{Valid};
 ghost use Rattle.draid_shard.specs.declared.loan.KeptLoan.TheVariants.{Block};
 ghost use Rattle.draid_heal.specs.Lands.{IsBlockLoan, LandsUnit, MovesBehind};
-ghost use Rattle.draid_heal.specs.Loans.{IsLentHere, IsRunningScrub};
+ghost use Rattle.draid_shard.specs.Scrubs.{IsLentHere, IsRunningScrub};
 
 use crate::kept::land_kept;
 use draid_area::Area;

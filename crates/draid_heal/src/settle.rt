@@ -4,22 +4,13 @@ ghost use Rattle.draid_columns.specs.Columns.{HasRows};
 ghost use Rattle.std.specs.List.{list_any};
 ghost use Rattle.draid_machine.specs.Names.{has_number};
 ghost use Rattle.draid_rack.specs.Rack.{OnBothTold, OnTold, Told};
-ghost use Rattle.draid_heal.specs.Arms.{rows_for};
+ghost use Rattle.draid_shard.specs.Spots.{rows_for};
 ghost use Rattle.draid_heal.specs.Settle.{AreFine, FirmArms, SettlesUpto};
 ghost use Rattle.draid_heal.specs.Stands.{SettlesArms, is_settled_row};
 
-use crate::arms::Extent;
-use crate::losing::is_among;
 use draid_machine::Patched;
 use draid_rack::Rack;
-use draid_shard::Spot;
-
-/// Whether a call failed on a leaf.
-pub(crate) fn has_failed(failed: &[u64], leaf: u64) -> bool
-    ensures { result ≡ has_number failed.now leaf }
-{
-    is_among(failed, leaf)
-}
+use draid_shard::{Extent, Spot, has_failed};
 
 /// Whether a list of rows has one.
 fn has_row(rows: &[u32], row: u32) -> bool

@@ -1,11 +1,13 @@
 pub mod Among
 pub mod Answering
+pub mod Apart
 pub mod Births
 pub mod Changed
 pub mod Counted
 pub mod Counts
 pub mod Finding
 pub mod Fitted
+pub mod Fitting
 pub mod FreeRuns
 pub mod Held
 pub mod Holders
@@ -13,7 +15,9 @@ pub mod Homes
 pub mod Kept
 pub mod Leaves
 pub mod Lenders
+pub mod Listed
 pub mod Listing
+pub mod Missing
 pub mod Once
 pub mod Over
 pub mod OwedAll
@@ -21,7 +25,9 @@ pub mod Passing
 pub mod SamePass
 pub mod Shown
 pub mod Sizes
+pub mod Spotted
 pub mod Staging
 pub mod Standing
+pub mod Straight
 pub mod Tables
 pub mod WithRack

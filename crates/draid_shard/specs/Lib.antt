@@ -7,8 +7,11 @@ pub mod Left
 pub mod Lends
 pub mod Loans
 pub mod Looks
+pub mod Losing
 pub mod Part
 pub mod Rooms
 pub mod Rows
+pub mod Scrubs
+pub mod Spots
 pub mod Stands
 pub mod States

@@ -89,12 +89,16 @@ pub record IsRowRoom (rows : ℕ) (part : Patched) : Type 0 where
   pub written_room : rows ≤ vec_capacity part.written
   pub landed_room : rows ≤ vec_capacity part.landed
 
+-- so of each
+abbrev pub AreRooms : ℕ → List Patched → Type 0
+AreRooms count parts = (k : ℕ) (part : Patched) → slice_get parts k ≡ Some part → IsRowRoom count part
+
 -- room for a landing on all arms of all columns: on each a call of a row may fail in reading and in writing, and the flush
 pub record IsLandingRoom (geometry : Geometry) (rows : ℕ) (room : LandingRoom) : Type 0 where
   pub spots : most_arms * geometry.g ≤ vec_capacity room.spots
   pub sector : length room.sector.items ≡ geometry.props.sector
   pub enough : most_arms * geometry.g ≤ length room.parts.items
-  pub parts : (k : ℕ) (part : Patched) → slice_get room.parts.items k ≡ Some part → IsRowRoom rows part
+  pub parts : AreRooms rows room.parts.items
   pub empty : room.patched.items ≡ []
   pub patched : most_arms * geometry.g ≤ vec_capacity room.patched
   pub none : room.failed.items ≡ []

@@ -5,23 +5,29 @@
 
 mod blocks;
 mod dropping;
+mod errors;
 mod fault;
 mod groups;
 mod laws;
 mod loan;
 mod logs;
 mod looks;
+mod losing;
 mod places;
 mod rooms;
 mod shard;
+mod spots;
 
 pub use blocks::release;
 pub use dropping::drop_loan;
+pub use errors::more_errors;
 pub use fault::Shut;
 pub use laws::{calls_keep_what_stands, valid_shards_have_states, worn_is_what_is_owed};
 pub use loan::{
     KeptLoan, LandingRoom, LendFault, Lent, LentBlock, LentStripe, ReadArm, Source, Spot,
 };
 pub use logs::miss;
-pub use places::ColumnRows;
+pub use losing::{has_failed, missed_marks};
+pub use places::{ColumnRows, Extent, extent_of};
 pub use shard::Shard;
+pub use spots::list_spots;

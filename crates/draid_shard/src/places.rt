@@ -4,6 +4,7 @@ ghost use Rattle.draid_spec.specs.Geometry.{metaslab_stripes};
 ghost use Rattle.draid_shard.specs.Part.{IsPart, IsRun, layout_in};
 ghost use Rattle.draid_shard.specs.Rows.{IsRowsOf, rows_on};
 ghost use Rattle.draid_shard.specs.States.{part_of};
+ghost use Rattle.draid_slots.specs.Table.{IsTable};
 
 use crate::shard::Shard;
 use draid_area::Area;
@@ -12,6 +13,7 @@ use draid_map::{Place, place};
 use draid_names::Pointer;
 use draid_perm::Perms;
 use draid_rack::Rack;
+use draid_slots::Slots;
 use draid_spec::Geometry;
 
 /// The rows of a column of a block: the slot that has them, their slice, the sector of the first and their number,
@@ -24,6 +26,13 @@ pub struct ColumnRows {
     pub count: u64,
     pub size: usize,
     pub birth: u64,
+}
+
+/// How many rows each column of a block has, and the length of one.
+#[derive(Clone, Copy)]
+pub struct Extent {
+    pub count: u64,
+    pub size: usize,
 }
 
 impl ColumnRows {
@@ -90,5 +99,17 @@ impl<R: Rack, A: Area> Shard<R, A> {
             size: self.geometry.props.sector as usize,
             birth: pointer.birth,
         }
+    }
+}
+
+/// How many rows a column of a pointer's block has, and the length of one.
+pub fn extent_of(slots: &Slots, pointer: &Pointer) -> Extent
+    ensures count { result.count ≡ pointer.now.stripes }
+    ensures size { result.size ≡ slots.now.geometry.props.sector }
+    ensures sound { IsTable slots.now }
+{
+    Extent {
+        count: u64::from(pointer.stripes),
+        size: slots.geometry().props.sector as usize,
     }
 }

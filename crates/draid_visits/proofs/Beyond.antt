@@ -19,9 +19,9 @@ use Rattle.draid_shard.specs.Part.{Part, layout_in}
 use Rattle.draid_shard.specs.States.{part_of}
 use Rattle.draid_shard.specs.declared.loan.KeptLoan.{KeptLoan}
 use Rattle.draid_shard.specs.declared.shard.Shard.{Shard}
-use Rattle.draid_heal.specs.Loans.{LendsBlock}
-use Rattle.draid_heal.specs.Restoring.{RestoresLent, fetched_of}
-use Rattle.draid_heal.proofs.LentReadable.{held_is, readable}
+use Rattle.draid_restore.specs.Loans.{LendsBlock}
+use Rattle.draid_restore.specs.Restoring.{RestoresLent, fetched_of}
+use Rattle.draid_restore.proofs.LentReadable.{held_is, readable}
 use Rattle.draid_session.specs.Holds.{view_of}
 use Rattle.draid_session.specs.Passes as passes
 use Rattle.draid_session.specs.State.{Metaslab}

@@ -44,8 +44,9 @@ use Rattle.draid_shard.specs.declared.shard.Shard.{Shard}
 use Rattle.draid_shard.proofs.Held.{key_leads}
 use Rattle.draid_heal.specs.Lands as lands
 use Rattle.draid_heal.specs.Lands.{MovesBehind, WritesRestored}
-use Rattle.draid_heal.specs.Loans.{IsBlockHere, IsLentHere, IsRunningScrub, LendsBlock, counted}
-use Rattle.draid_heal.specs.Restoring.{AnswersBlock, HasColumnsOf, RestoresLent, RestoresLoan, fetched_of}
+use Rattle.draid_shard.specs.Scrubs.{IsBlockHere, IsLentHere, IsRunningScrub}
+use Rattle.draid_restore.specs.Loans.{LendsBlock, counted}
+use Rattle.draid_restore.specs.Restoring.{AnswersBlock, HasColumnsOf, RestoresLent, RestoresLoan, fetched_of}
 use Rattle.draid_session.specs.Holds.{Did, On, view_of}
 use Rattle.draid_session.specs.Passes as passes
 use Rattle.draid_session.specs.State.{Metaslab}

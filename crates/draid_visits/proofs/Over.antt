@@ -39,7 +39,8 @@ use Rattle.draid_shard.specs.declared.shard.Shard.{Shard}
 use Rattle.draid_passing.specs.Ending.{Ends}
 use Rattle.draid_passing.specs.declared.ending.Ended.{Ended}
 use Rattle.draid_mend.specs.Loans.{HasUnit, IsRunningRebuild}
-use Rattle.draid_heal.specs.Loans.{HasBlockLeft, IsRunningScrub}
+use Rattle.draid_restore.specs.Loans.{HasBlockLeft}
+use Rattle.draid_shard.specs.Scrubs.{IsRunningScrub}
 use Rattle.draid_session.specs.Holds.{Looked, On, View, view_of}
 use Rattle.draid_session.specs.Passes as passes
 use Rattle.draid_session.specs.State.{Metaslab}

@@ -10,7 +10,7 @@ ghost use Rattle.draid_shard.specs.Fits.{Valid};
 ghost use Rattle.draid_shard.specs.Left.{HasNothingLeft};
 ghost use Rattle.draid_shard.specs.Part.{Part};
 ghost use Rattle.draid_passing.specs.Passing.{IsPlanRefused};
-ghost use Rattle.draid_heal.specs.Loans.{HasBlockLeft};
+ghost use Rattle.draid_restore.specs.Loans.{HasBlockLeft};
 ghost use Rattle.draid_session.specs.Holds.{view_of};
 ghost use Rattle.draid_session.specs.Passes as passes;
 ghost use Rattle.draid_session.specs.State.{Metaslab};

@@ -7,7 +7,7 @@ ghost use Rattle.draid_shard.specs.Calls.{SameAreas};
 ghost use Rattle.draid_shard.specs.Fits.{Valid};
 ghost use Rattle.draid_shard.specs.Part.{Part};
 ghost use Rattle.draid_mend.specs.Loans.{IsRunningRebuild};
-ghost use Rattle.draid_heal.specs.Loans.{IsRunningScrub};
+ghost use Rattle.draid_shard.specs.Scrubs.{IsRunningScrub};
 ghost use Rattle.draid_session.specs.State.{Metaslab};
 ghost use Rattle.draid_pool.specs.Metaslabs.{IsMetaslab};
 ghost use Rattle.draid_pool.specs.Shards.{Goes, SameBlocks};
@@ -82,9 +82,9 @@ fn block_in<R: Rack, A: Area>(shard: &mut Shard<R, A>) -> Next
     ensures goes { (part : Part) (pieces : Pieces) (x : Metaslab) → IsMetaslab R.Rack A.Area part pieces shard.old x → HasContents part pieces x
         → GoesTo R.Rack A.Area part pieces x shard.new (λ holds y. NextIs part Heal false result holds × SameBlocks x y) }
 {
-    match draid_heal::lend(shard) {
+    match draid_restore::lend(shard) {
         Ok(Lent::Unit) => {
-            if draid_heal::solve(shard).is_err() {
+            if draid_restore::solve(shard).is_err() {
                 return Next::NoMemory;
             }
             Next::Landed {

@@ -2,7 +2,8 @@ use Rattle.std.proofs.Common.{arith, ◌≡◌, ◌+◌, ◌*◌, ◌∙◌, ref
 use Rattle.draid_columns.proofs.Written.{rows_kept}
 use Rattle.draid_shard.proofs.Counts.{counts_none}
 use Rattle.draid_rack.specs.Rack.{OnBothTold}
-use Rattle.draid_heal.specs.Arms.{HealsArms, ListsArms, rows_for}
+use Rattle.draid_heal.specs.Arms.{HealsArms, ListsArms}
+use Rattle.draid_shard.specs.Spots.{rows_for}
 use Rattle.draid_heal.proofs.Armed.{spot_there, arms_lists, arms_none, arms_told, lists_none, more_calls}
 use Rattle.draid_heal.proofs.arms.heal_arms.Goals as goal
 

@@ -5,12 +5,14 @@ use Rattle.draid_spec.specs.declared.layout.Geometry.{Geometry}
 use Rattle.draid_machine.specs.declared.event.Patched.{Patched}
 use Rattle.draid_machine.specs.After.{capped}
 use Rattle.draid_shard.specs.States.{part_of}
-use Rattle.draid_heal.specs.Arms.{FitSpots, FitsRoom, ListsArms}
+use Rattle.draid_shard.specs.Spots.{FitSpots}
+use Rattle.draid_heal.specs.Arms.{FitsRoom, ListsArms}
 use Rattle.draid_heal.specs.Lands.{is_rewritten}
-use Rattle.draid_heal.specs.Losing.{AreMissed}
+use Rattle.draid_shard.specs.Losing.{AreMissed}
 use Rattle.draid_heal.specs.Stands.{LandsRows}
-use Rattle.draid_heal.proofs.Apart.{spots_apart}
-use Rattle.draid_heal.proofs.Fitting.{columns_are, fit_spots, fits_room}
+use Rattle.draid_shard.proofs.Apart.{spots_apart}
+use Rattle.draid_heal.proofs.Fitting.{columns_are, fits_room}
+use Rattle.draid_shard.proofs.Fitting.{fit_spots}
 use Rattle.draid_heal.proofs.kept.land_restored.Goals as goal
 
 pub land_block-requires-clause-spots : goal.land_block-requires-clause-spots

@@ -3,7 +3,7 @@ use Rattle.std.specs.Prelude.{IfSome, IsSomeAnd}
 use Rattle.draid_pass.specs.declared.pass.Pass.{Pass}
 use Rattle.draid_shard.specs.Loans.{IsKept, IsLentBlock}
 use Rattle.draid_shard.specs.declared.loan.KeptLoan.{KeptLoan}
-use Rattle.draid_heal.specs.Loans.{IsRunningScrub}
+use Rattle.draid_shard.specs.Scrubs.{IsRunningScrub}
 use Rattle.draid_heal.proofs.Comes.{at_is_behind, final_keeps, final_lands, final_moves, final_none, final_valid, here_is, is_block, lands_listed, serial_is_kept, unread_is}
 use Rattle.draid_heal.proofs.landing.land.Goals as goal
 

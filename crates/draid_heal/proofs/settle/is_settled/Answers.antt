@@ -1,6 +1,6 @@
 use Rattle.std.proofs.Common.{◌≡◌, ◌||◌, ◌∙◌, ap, sym, List, ℕ}
 use Rattle.draid_machine.specs.Names.{has_number}
-use Rattle.draid_heal.proofs.Missing.{number_any}
+use Rattle.draid_shard.proofs.Missing.{number_any}
 use Rattle.draid_heal.proofs.settle.is_settled.Goals as goal
 
 pub returns-else-spot : goal.returns-else-spot

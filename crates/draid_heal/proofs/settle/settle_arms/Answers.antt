@@ -1,6 +1,6 @@
 use Rattle.std.proofs.Common.{arith, ◌∙◌, refl}
 use Rattle.draid_columns.proofs.Written.{rows_kept}
-use Rattle.draid_heal.specs.Arms.{rows_for}
+use Rattle.draid_shard.specs.Spots.{rows_for}
 use Rattle.draid_heal.proofs.Armed.{get_upto}
 use Rattle.draid_heal.proofs.Settled.{all_settled, none_settled}
 use Rattle.draid_heal.proofs.settle.settle_arms.Goals as goal

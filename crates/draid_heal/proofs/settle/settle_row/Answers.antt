@@ -3,7 +3,7 @@ use Rattle.std.specs.Prelude.{slice_index_or}
 use Rattle.std.proofs.lemmas.Option.{slice_get-get_or}
 use Rattle.draid_columns.proofs.Written.{row_fits}
 use Rattle.draid_machine.specs.declared.names.ArmName.TheVariants.{Leaf}
-use Rattle.draid_heal.specs.Arms.{rows_for}
+use Rattle.draid_shard.specs.Spots.{rows_for}
 use Rattle.draid_shard.specs.declared.loan.Spot.{Spot}
 use Rattle.draid_heal.proofs.Settled.{one_firm, row_left, row_settled, still_firm}
 use Rattle.draid_heal.proofs.settle.settle_row.Goals as goal

@@ -1,9 +1,0 @@
-use Rattle.std.specs.Prelude.{◌≤◌, vec_capacity}
-use Rattle.draid_heal.specs.Rooms.{HasColumns}
-use Rattle.draid_heal.proofs.rooms.columns_for.Given as goal
-
-abbrev pub invariant-loop-column : goal.invariant-loop-column
-invariant-loop-column l = record {
-  each : HasColumns l.spots l.bytes l.column l.buffers.items;
-  room : l.columns ≤ vec_capacity l.buffers;
-}

@@ -1,0 +1,4 @@
+pub mod Loans
+pub mod Reading
+pub mod Restoring
+pub mod Rooms
