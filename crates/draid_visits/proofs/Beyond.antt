@@ -1,5 +1,5 @@
 -- A block of a scrub that no columns restored had more bad columns than there are parity columns as it was lent, where its metaslab tells harm.
-use Rattle.std.proofs.Common.{◌≡◌, ◌⊎◌, ◌∙◌, ℕ, Bool, true, false, List, Option, Some, None, inl, inr, refl, sym, ap, subst}
+use Rattle.std.proofs.Common.{◌≡◌, ◌⊎◌, ◌∙◌, ℕ, Bool, true, List, Option, Some, None, inl, inr, refl, sym, ap, subst}
 use Rattle.std.specs.Prelude.{⊤, IsSome, MatchOption, is_none, option_map}
 use Rattle.std.proofs.lemmas.Bool.{true≢false}
 use Rattle.draid_rack.specs.Rack.{OnTold, Told}
