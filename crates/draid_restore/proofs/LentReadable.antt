@@ -42,7 +42,8 @@ use Rattle.draid_shard.proofs.Held.{key_leads}
 use Rattle.draid_shard.proofs.Homes.{geometry_is, lays}
 use Rattle.draid_restore.specs.Loans.{LendsBlock, counted}
 use Rattle.draid_restore.specs.Restoring.{fetched_of}
-use Rattle.draid_shard.specs.Spots.{IsStraight, rows_at}
+use Rattle.draid_shard.specs.Spots.{rows_at}
+use Rattle.draid_shard.specs.Spots.{IsStraight}
 use Rattle.draid_shard.proofs.Straight.{straight}
 
 -- what no leaf failed for is the arm itself
