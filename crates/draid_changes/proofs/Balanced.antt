@@ -1,27 +1,24 @@
 -- All metaslabs of a pool are looked at, and the other arms of a slot go, or all stay.
-use Rattle.std.proofs.Common.{◌≡◌, ◌≢◌, ◌<◌, ◌+◌, ◌++◌, ◌∙◌, [], ◌∷◌, inl, inr, ℕ, zero, suc, true, List, Option, Some, None, Ok, Err, arith, refl, sym, ap, subst, length}
+use Rattle.std.proofs.Common.{◌≡◌, ◌<◌, ◌+◌, ◌++◌, ◌∙◌, [], ◌∷◌, inl, inr, ℕ, zero, suc, List, Option, Some, None, Ok, Err, arith, refl, sym, ap, subst, length}
 use Rattle.std.specs.Prelude.{slice_get, slice_index_or}
 use Rattle.std.proofs.lemmas.Option.{slice_get_within}
 use Rattle.draid_names.specs.declared.arm.Arm.{Arm}
 use Rattle.draid_rack.specs.declared.Rack as racks
 use Rattle.draid_area.specs.declared.Area as areas
-use Rattle.draid_spec.specs.declared.layout.Geometry.{Geometry}
 use Rattle.draid_machine.specs.Arms.{HasEmptyLog, logged}
 use Rattle.draid_machine.specs.State as machine
 use Rattle.draid_machine.specs.declared.names.ArmName.{ArmName}
-use Rattle.draid_machine.proofs.Small.{none_some, some_same}
-use Rattle.draid_slots.specs.States.{arm_in, name_of}
-use Rattle.draid_slots.specs.Table.{arms_of, is_logged}
+use Rattle.draid_machine.proofs.Small.{none_some}
+use Rattle.draid_slots.specs.States.{arm_in}
+use Rattle.draid_slots.specs.Table.{arms_of}
 use Rattle.draid_pass.specs.declared.pass.Pass.{Pass}
 use Rattle.draid_shard.specs.Part.{Part}
 use Rattle.draid_shard.specs.declared.shard.Shard.{Shard}
 use Rattle.draid_disks.specs.Checks.{Each}
-use Rattle.draid_session.specs.Arms as arms
 use Rattle.draid_session.specs.Balance as balance
-use Rattle.draid_session.specs.Holds.{Hold, view_of}
 use Rattle.draid_session.specs.Looks.{AllOf, LooksFrom}
 use Rattle.draid_session.specs.Phases.{Went}
-use Rattle.draid_session.specs.State.{Metaslab, State, Store}
+use Rattle.draid_session.specs.State.{Metaslab, State}
 use Rattle.draid_pool.specs.Carries.{CarriesOut}
 use Rattle.draid_pool.specs.Keeping.{AllArmsStay}
 use Rattle.draid_pool.specs.Passes.{KeepsPass, KeepsPasses}
