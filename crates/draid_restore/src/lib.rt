@@ -3,7 +3,9 @@
 #![tactic(auto)]
 
 mod choosing;
+mod idle;
 mod loans;
+mod parts;
 mod reading;
 mod rooms;
 mod solving;
