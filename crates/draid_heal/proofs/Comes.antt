@@ -43,7 +43,7 @@ use Rattle.draid_heal.proofs.Rewritten.{none_rewritten}
 
 module _ {R A : Type 0} (rack : Ghosts R) (old : Shard R A) (v : Valid rack old) (pass : Pass) (there : old.pass ≡ Some pass) (runs : IsRunningScrub pass) (lent : LentBlock) (kept_there : old.kept ≡ Some (Block lent))
     (here : IsBlockHere old.entries lent) (o : Option Pass) (k : Option KeptLoan) (none : k ≡ None) (new : Shard R A) (left : Pass) (gone : Vec ℕ Global) (parts : Vec Patched Global) (repaired at : ℕ)
-    (at_is : at ≡ lent.pointer.first + lent.pointer.stripes) (history : History) where
+    (at_is : at ≡ lent.pointer.first + lent.pointer.stripes) (idle : Option KeptLoan) (history : History) where
   abbrev base : Shard R A
   base = record old { pass = o; kept = k }
 
@@ -58,10 +58,10 @@ module _ {R A : Type 0} (rack : Ghosts R) (old : Shard R A) (v : Valid rack old)
   q = record left { at = lent.pointer.first + lent.pointer.stripes }
 
   abbrev pub final : Shard R A
-  final = record new { pass = Some (record left { at = at }); history = history }
+  final = record new { pass = Some (record left { at = at }); idle = idle; history = history }
 
   abbrev goal_shard : Shard R A
-  goal_shard = landed old pass q there (Block lent) kept_there new.rack history
+  goal_shard = landed old pass q there (Block lent) kept_there new.rack idle history
 
   -- what both ways have
   record IsLanding : Type 0 where
@@ -98,7 +98,7 @@ module _ {R A : Type 0} (rack : Ghosts R) (old : Shard R A) (v : Valid rack old)
       leads = λ w reached is. subst (λ b. Leads (layout_by old) w (LandBlock pass.number lent.serial gone parts b) goal_shard) (sym unreadable) (record {
         state = pass_over w (pass_in old.slots pass) 1 (lent.pointer.first + lent.pointer.stripes);
         step = over_step rack old v pass there runs lent kept_there here w reached is failed patched s.none s.empty;
-        is_in = landed_in old pass q there (Block lent) kept_there new.rack history w _ w.present w.aside is
+        is_in = landed_in old pass q there (Block lent) kept_there new.rack idle history w _ w.present w.aside is
             (ap (λ (x : Pass). pass_in old.slots (record x { at = lent.pointer.first + lent.pointer.stripes })) (sym s.counted));
       });
       acts = λ pieces w after step reached is writes. subst (λ b. (step : Step (layout_by old) w (LandBlock pass.number lent.serial gone parts b) after)
@@ -132,7 +132,7 @@ module _ {R A : Type 0} (rack : Ghosts R) (old : Shard R A) (v : Valid rack old)
       leads = λ w reached is. subst (λ b. Leads (layout_by old) w (LandBlock pass.number lent.serial gone parts b) goal_shard) (sym readable) (record {
         state = land_block_state (layout_by old) w (pass_in old.slots pass) (block_loan lent) (h rack old v pass there runs lent kept_there here) failed patched false s.whole;
         step = restored_step rack old v pass there runs lent kept_there here w reached is o k new left block.columns patched failed repaired s;
-        is_in = landed_in old pass q there (Block lent) kept_there new.rack history w _ _ _ is
+        is_in = landed_in old pass q there (Block lent) kept_there new.rack idle history w _ _ _ is
             (ap (λ (m : machine.Pass). record m { next = lent.pointer.first + lent.pointer.stripes }) (left_is rack old v pass there runs lent kept_there here w reached is o k new left block.columns patched failed repaired s));
       });
       acts = λ pieces w after step reached is writes. subst (λ b. (step : Step (layout_by old) w (LandBlock pass.number lent.serial gone parts b) after)
@@ -152,8 +152,8 @@ module _ {R A : Type 0} (rack : Ghosts R) (old : Shard R A) (v : Valid rack old)
 
     final_is : final ≡ goal_shard
     final_is =
-        ap (λ (x : Shard R A). record x { pass = Some (record left { at = at }); history = history }) is.only
-        ∙ (λ i. record old { rack = new.rack; pass = Some (record left { at = at_is i }); kept = none i; history = history })
+        ap (λ (x : Shard R A). record x { pass = Some (record left { at = at }); idle = idle; history = history }) is.only
+        ∙ (λ i. record old { rack = new.rack; pass = Some (record left { at = at_is i }); kept = none i; idle = idle; history = history })
 
     same_history : new.history ≡ old.history
     same_history = ap (λ (x : Shard R A). x.history) is.only
@@ -178,7 +178,7 @@ module _ {R A : Type 0} (rack : Ghosts R) (old : Shard R A) (v : Valid rack old)
 
     pub final_valid : (event : Event) → owed_of history + 1 ≡ owed_of new.history → reserved_of history ≡ reserved_of new.history → events_of history ≡ events_of new.history ++ event ∷ [] → Valid rack final
     final_valid event owed reserved stored = subst (Valid rack) (sym final_is)
-        (landed_valid old pass q there (Block lent) kept_there new.rack history rack v is.kind is.running is.shape is.holds (owed ∙ ap owed_of same_history) (reserved ∙ ap reserved_of same_history)
+        (landed_valid old pass q there (Block lent) kept_there new.rack idle history rack v is.kind is.running is.shape is.holds (owed ∙ ap owed_of same_history) (reserved ∙ ap reserved_of same_history)
         (stored_more old.history history event (stored ∙ ap (λ (x : History). events_of x ++ event ∷ []) same_history)))
 
     event_is : (serial : ℕ) (b : Bool) → serial ≡ lent.serial → b ≡ is_none lent.restored → LandBlock left.number serial gone parts b ≡ LandBlock pass.number lent.serial gone parts (is_none lent.restored)

@@ -1,5 +1,5 @@
 -- The shard behind a landing: it is valid, and for which states it stands.
-use Rattle.std.proofs.Common.{◌≡◌, ◌+◌, ◌≤◌, ◌∙◌, not, ℕ, Bool, true, false, List, None, Some, arith, refl, sym, ap, subst, if◌then◌else◌}
+use Rattle.std.proofs.Common.{◌≡◌, ◌+◌, ◌≤◌, ◌∙◌, not, ℕ, Bool, true, false, List, Option, None, Some, arith, refl, sym, ap, subst, if◌then◌else◌}
 use Rattle.std.specs.Prelude.{All, vec_capacity}
 use Rattle.std.proofs.lemmas.List.Elements.{All-filter}
 use Rattle.draid_names.specs.declared.pass_kind.PassKind.TheVariants.{Rebuild, Heal}
@@ -41,9 +41,9 @@ counted_holds slots last at errors before held = record {
 
 -- ---- the shard
 
-module _ {R A : Type 0} (old : Shard R A) (pass q : Pass) (there : old.pass ≡ Some pass) (kept : KeptLoan) (kept_there : old.kept ≡ Some kept) (r : R) (history : History) where
+module _ {R A : Type 0} (old : Shard R A) (pass q : Pass) (there : old.pass ≡ Some pass) (kept : KeptLoan) (kept_there : old.kept ≡ Some kept) (r : R) (idle : Option KeptLoan) (history : History) where
   abbrev pub landed : Shard R A
-  landed = record old { rack = r; pass = Some q; kept = None; history = history }
+  landed = record old { rack = r; pass = Some q; kept = None; idle = idle; history = history }
 
   pub landed_valid : (rack : Ghosts R) → Valid rack old → q.kind ≡ pass.kind → q.running ≡ pass.running → rack.shape r ≡ rack.shape old.rack → HoldsPass old.slots old.last_pass q
       → owed_of history + 1 ≡ owed_of old.history → reserved_of history ≡ reserved_of old.history → stored_of old.history ≤ stored_of history → Valid rack landed

@@ -1,5 +1,6 @@
 -- The parts of which nothing was written go: what was written and what landed stays.
-use Rattle.std.proofs.Common.{◌≡◌, ◌==◌, ◌||◌, ◌&&◌, ◌∙◌, ℕ, suc, Bool, true, false, List, [], ◌∷◌, Some, refl, sym, ap, subst, inl, inr, filter, slice_get}
+use Rattle.std.proofs.Common.{◌≡◌, ◌==◌, ◌||◌, ◌&&◌, ◌∙◌, ℕ, suc, Bool, true, false, List, [], ◌∷◌, Some, refl, sym, ap, subst, inl, inr, filter, slice_get, if◌then◌else◌}
+use Rattle.std.specs.List.{list_any}
 use Rattle.std.specs.Prelude.{cond}
 use Rattle.draid_machine.specs.After.{has_healed, has_landed, is_written, was_written}
 use Rattle.draid_machine.specs.Claims.{is_on}
@@ -15,6 +16,15 @@ use Rattle.draid_rack.specs.Rack.{Told}
 use Rattle.draid_segments.specs.Acts.{HealsBlock, LiesThere, is_on_clean, is_settled}
 use Rattle.draid_segments.specs.Segments.{Pieces}
 use Rattle.draid_heal.specs.Lands.{has_rows, is_noted}
+
+-- where nothing was written of any none stays
+pub none_noted : (parts : List Patched) → list_any is_noted parts ≡ false → filter is_noted parts ≡ []
+none_noted [] none = refl
+none_noted (d ∷ ds) none = by (is_noted d) none (none_noted ds)
+  where
+    by : (b : Bool) → (b || list_any is_noted ds) ≡ false → (list_any is_noted ds ≡ false → filter is_noted ds ≡ []) → (if b then d ∷ filter is_noted ds else filter is_noted ds) ≡ []
+    by true e later = absurd_test true refl e
+    by false e later = later e
 
 -- what landed of a part was written
 abbrev pub WereWritten : List Patched → Type 0

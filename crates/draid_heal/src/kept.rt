@@ -1,5 +1,6 @@
 //! What is kept of a scrub's loan lands.
 ghost use Rattle.std.specs.Prelude.{◌≡◌, ◌+◌, ◌*◌, Some, count_by, filter, length};
+ghost use Rattle.std.specs.List.{list_any};
 ghost use Rattle.draid_block.specs.Blocks.{column_len, cut_of};
 ghost use Rattle.draid_shard.specs.Loans.{IsLandingRoom, IsLentBlock};
 ghost use Rattle.draid_shard.specs.Part.{IsRun};
@@ -56,7 +57,7 @@ fn land_restored<R: Rack, A: Area>(
     let extent = extent_of(&shard.slots, pointer);
     land_block(&mut shard.rack, answered, block, extent, room);
     let rewritten = count_rewritten(&room.patched);
-    keep_noted(&mut room.patched);
+    keep_noted(&mut room.patched, &mut room.parts);
     let marks = missed_marks(shard, pointer, &room.failed);
     lose_marked(pass, &marks);
     pass.errors = more_errors(pass.errors, room.failed.len() as u64);
@@ -76,11 +77,24 @@ fn count_rewritten(parts: &[Patched]) -> u64
     count
 }
 
-/// Takes out the arms on which no row was written.
-fn keep_noted(parts: &mut Vec<Patched>)
-    ensures { parts.new.items ≡ filter is_noted parts.old.items }
+/// Takes out the arms on which no row was written. Where none stays the room of all goes to the other parts.
+fn keep_noted(patched: &mut Vec<Patched>, parts: &mut Vec<Patched>)
+    ensures { patched.new.items ≡ filter is_noted patched.old.items }
 {
-    parts.retain(|part| is_noted(part));
+    if has_noted(patched) {
+        patched.retain(|part| is_noted(part));
+        return;
+    }
+    // (they fit where they were taken from)
+    let _fits = parts.append(patched).is_ok();
+    patched.clear();
+}
+
+/// Whether a row was written on one of them.
+fn has_noted(parts: &[Patched]) -> bool
+    ensures { result ≡ list_any is_noted parts.now }
+{
+    parts.iter().any(|part| is_noted(part))
 }
 
 /// Whether a row was written on an arm.

@@ -9,10 +9,9 @@ ghost use Rattle.draid_shard.specs.Scrubs.{IsLentHere, IsRunningScrub};
 
 use crate::kept::land_kept;
 use draid_area::Area;
-use draid_machine::{Event, Patched};
+use draid_machine::Event;
 use draid_rack::Rack;
-use draid_shard::{KeptLoan, LentBlock, Shard};
-use std::alloc::Global;
+use draid_shard::{KeptLoan, LentBlock, Shard, taken_out};
 
 /// Puts the block that is lent right on each of its arms that answers, and flushes their leaves: sectors that read otherwise
 /// are written, and on an arm that isn't clean all. Where all arms that are clean for the block answered, and no call on one failed,
@@ -40,11 +39,12 @@ pub fn land<R: Rack, A: Area>(shard: &mut Shard<R, A>) -> u64
     let event = Event::LandBlock {
         pass: pass.number,
         serial: lent.serial,
-        failed: numbers_in(&mut lent.room.failed, shard.alloc),
-        patched: parts_in(&mut lent.room.patched, shard.alloc),
+        failed: taken_out(&mut lent.room.failed, shard.alloc),
+        patched: taken_out(&mut lent.room.patched, shard.alloc),
         unreadable: lent.restored.is_none(),
     };
     shard.pass = Some(pass);
+    shard.idle = Some(KeptLoan::Block(lent));
     shard.history.add(event, 1);
     rewritten
 }
@@ -59,24 +59,4 @@ fn block_in(kept: Option<KeptLoan>) -> LentBlock
         Some(KeptLoan::Stripe(_)) => unreachable!(),
         None => unreachable!(),
     }
-}
-
-/// Takes out what is listed. The room of an empty list stays.
-fn numbers_in(list: &mut Vec<u64>, alloc: Global) -> Vec<u64>
-    ensures { result.items ≡ list.old.items }
-{
-    if list.is_empty() {
-        return Vec::new(alloc);
-    }
-    std::mem::replace(list, Vec::new(alloc))
-}
-
-/// The same, of the arms that are noted.
-fn parts_in(list: &mut Vec<Patched>, alloc: Global) -> Vec<Patched>
-    ensures { result.items ≡ list.old.items }
-{
-    if list.is_empty() {
-        return Vec::new(alloc);
-    }
-    std::mem::replace(list, Vec::new(alloc))
 }

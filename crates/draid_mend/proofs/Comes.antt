@@ -35,7 +35,7 @@ use Rattle.draid_mend.proofs.Lands.{h, left_is, over_acts, over_step, pass_held,
 
 module _ {R A : Type 0} (rack : Ghosts R) (old : Shard R A) (v : Valid rack old) (pass : Pass) (there : old.pass ≡ Some pass) (runs : IsRunningRebuild pass) (kept : LentStripe) (kept_there : old.kept ≡ Some (Stripe kept))
     (o : Option Pass) (k : Option KeptLoan) (none : k ≡ None) (new : Shard R A) (left : Pass) (back : LentStripe) (lands : LandsKept rack (record old { pass = o; kept = k }) new pass left kept back) (gone : Vec ℕ Global) (gone_is : gone.items ≡ back.failed.items)
-    (idle : Option LentStripe) (history : History) where
+    (idle : Option KeptLoan) (history : History) where
   abbrev base : Shard R A
   base = record old { pass = o; kept = k }
 

@@ -42,7 +42,7 @@ counted_holds slots last at errors before held = record {
 
 -- ---- the shard
 
-module _ {R A : Type 0} (old : Shard R A) (pass q : Pass) (there : old.pass ≡ Some pass) (kept : LentStripe) (kept_there : old.kept ≡ Some (Stripe kept)) (r : R) (idle : Option LentStripe) (history : History) where
+module _ {R A : Type 0} (old : Shard R A) (pass q : Pass) (there : old.pass ≡ Some pass) (kept : LentStripe) (kept_there : old.kept ≡ Some (Stripe kept)) (r : R) (idle : Option KeptLoan) (history : History) where
   abbrev pub landed : Shard R A
   landed = record old { rack = r; pass = Some q; kept = None; idle = idle; history = history }
 

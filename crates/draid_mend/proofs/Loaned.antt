@@ -325,7 +325,7 @@ module _ {R A : Type 0} (rack : Ghosts R) (old b : Shard R A) (v : Valid rack ol
 
 -- ---- room was made first
 
-module _ {R A : Type 0} (old : Shard R A) (idle : Option LentStripe) (history : History) where
+module _ {R A : Type 0} (old : Shard R A) (idle : Option KeptLoan) (history : History) where
   abbrev pub asked : Shard R A
   asked = record old { idle = idle; history = history }
 

@@ -18,8 +18,7 @@ use draid_names::LAST_NUMBER;
 use draid_pass::Pass;
 use draid_plans::lose_marked;
 use draid_rack::Rack;
-use draid_shard::{KeptLoan, LentStripe, Shard};
-use std::alloc::Global;
+use draid_shard::{KeptLoan, LentStripe, Shard, taken_out};
 
 /// Writes the stripe that is lent to the targets of the pass: each column to the targets of its slot that answer. A target that
 /// doesn't answer, or on whose leaf a call failed, is lost, an error each. Where more columns are missing than the parity solves
@@ -51,7 +50,7 @@ pub fn land<R: Rack, A: Area>(shard: &mut Shard<R, A>)
         failed: taken_out(&mut kept.failed, shard.alloc),
     };
     shard.pass = Some(pass);
-    shard.idle = Some(kept);
+    shard.idle = Some(KeptLoan::Stripe(kept));
     shard.history.add(event, 1);
 }
 
@@ -98,14 +97,4 @@ fn one_more(errors: u64) -> u64
     ensures { result ≡ capped (errors + 1) }
 {
     errors.saturating_add(1).min(LAST_NUMBER)
-}
-
-/// Takes out what is listed. The room of an empty list stays.
-fn taken_out(list: &mut Vec<u64>, alloc: Global) -> Vec<u64>
-    ensures { result.items ≡ list.old.items }
-{
-    if list.is_empty() {
-        return Vec::new(alloc);
-    }
-    std::mem::replace(list, Vec::new(alloc))
 }

@@ -7,7 +7,7 @@ ghost use Rattle.draid_mend.specs.Rooms.{HasColumnsFor};
 use crate::lending::Readings;
 use draid_names::NoMemory;
 use draid_parity::Stripe;
-use draid_shard::{LentStripe, Source};
+use draid_shard::{KeptLoan, Source};
 use draid_spec::Geometry;
 use std::alloc::Global;
 
@@ -32,7 +32,7 @@ pub(crate) fn room_for(
     alloc: Global,
     geometry: &Geometry,
     targets: usize,
-    idle: Option<LentStripe>,
+    idle: Option<KeptLoan>,
 ) -> Result<LendRoom, NoMemory>
     requires geometry { IsGeometry geometry.now }
     ensures { IfOk result (HasLendRoom geometry.now targets) }
@@ -67,13 +67,13 @@ pub(crate) fn room_for(
 fn parts_for(
     alloc: Global,
     geometry: &Geometry,
-    idle: Option<LentStripe>,
+    idle: Option<KeptLoan>,
 ) -> Result<Parts, NoMemory>
     requires geometry { IsGeometry geometry.now }
     ensures { IfOk result (λ parts. HasColumnsFor geometry.now parts.columns) }
 {
     let (parity, ndata) = (geometry.spec.parity, geometry.spec.ndata);
-    if let Some(kept) = idle {
+    if let Some(KeptLoan::Stripe(kept)) = idle {
         if kept.columns.is_of(parity, ndata, geometry.props.sector) {
             return Ok(Parts {
                 columns: kept.columns,

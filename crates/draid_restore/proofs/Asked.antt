@@ -1,5 +1,5 @@
 -- Room was made in a shard's history: it has the same block to lend, and what was lent of it was lent of the shard before.
-use Rattle.std.proofs.Common.{◌≡◌, ◌++◌, ◌∷◌, ◌∙◌, [], ℕ, List, ap}
+use Rattle.std.proofs.Common.{◌≡◌, ◌++◌, ◌∷◌, ◌∙◌, [], ℕ, List, Option, ap}
 use Rattle.draid_rack.specs.declared.Rack.{Ghosts}
 use Rattle.draid_machine.specs.State as machine
 use Rattle.draid_machine.specs.declared.event.Event.{Event}
@@ -8,12 +8,13 @@ use Rattle.draid_entries.specs.declared.entry.Entry.{Entry}
 use Rattle.draid_entries.specs.declared.history.History.{History}
 use Rattle.draid_entries.specs.History.{events_of}
 use Rattle.draid_shard.specs.States.{IsIn}
+use Rattle.draid_shard.specs.declared.loan.KeptLoan.{KeptLoan}
 use Rattle.draid_shard.specs.declared.shard.Shard.{Shard}
 use Rattle.draid_restore.specs.Loans.{IsUnit, LendsBlock}
 
-module _ {R A : Type 0} (old : Shard R A) (history : History) where
+module _ {R A : Type 0} (old : Shard R A) (idle : Option KeptLoan) (history : History) where
   abbrev pub asked : Shard R A
-  asked = record old { history = history }
+  asked = record old { idle = idle; history = history }
 
   asked_in : (w : machine.State) → IsIn old w → IsIn asked w
   asked_in w is = record {

@@ -40,6 +40,7 @@ use Rattle.draid_shard.specs.declared.loan.KeptLoan.TheVariants.{Block}
 use Rattle.draid_shard.specs.declared.loan.LandingRoom.{LandingRoom}
 use Rattle.draid_shard.specs.declared.loan.LentBlock.{LentBlock}
 use Rattle.draid_shard.specs.declared.loan.ReadArm.{ReadArm}
+use Rattle.draid_shard.specs.declared.loan.ReadingRoom.{ReadingRoom}
 use Rattle.draid_shard.specs.declared.loan.Spot.{Spot}
 use Rattle.draid_shard.specs.declared.shard.Shard.{Shard}
 use Rattle.draid_shard.specs.Scrubs.{IsBlockHere, IsRunningScrub}
@@ -84,13 +85,13 @@ module _ {R A : Type 0} (rack : Ghosts R) (old : Shard R A) (v : Valid rack old)
     (spots : List Spot) (spots_are : SpotsOf (part_of old) old.slots entry.pointer spots) (listed : spots ≡ spots_below (part_of old) old.slots entry.pointer old.geometry.g)
     (failed : Vec ℕ Global) (read : Vec ReadArm Global) (read_is : read.items ≡ read_of spots failed.items) (chosen : Vec (Option ArmName) Global) (many : length chosen.items ≡ old.geometry.g)
     (chosen_is : (c : ℕ) → c < old.geometry.g → slice_index_or chosen.items c None ≡ chosen_of spots failed.items c) (columns : Vec (Option (Vec ℕ Global)) Global) (all : length columns.items ≡ old.geometry.g)
-    (room : LandingRoom) (landing : IsLandingRoom old.geometry entry.pointer.stripes room)
+    (room : LandingRoom) (landing : IsLandingRoom old.geometry entry.pointer.stripes room) (aside : ReadingRoom)
     (reads : ReadsSpots entry.pointer.stripes old.geometry.props.sector spots (length spots) (rack.told old.rack) columns.items failed.items) (r : R) (history : History) where
   abbrev scrub : HasScrub old
   scrub = scrub_of old running
 
   abbrev lent : LentBlock
-  lent = lent_of (old.serial + 1) stripe entry.pointer read chosen columns room
+  lent = lent_of (old.serial + 1) stripe entry.pointer read chosen columns room aside
 
   abbrev pub after : Shard R A
   after = record old { rack = r; serial = old.serial + 1; pass = option_map (counted (length failed.items)) old.pass; kept = Some (Block lent); history = history }
@@ -203,7 +204,7 @@ module _ {R A : Type 0} (rack : Ghosts R) (old : Shard R A) (v : Valid rack old)
     step = lend_step (part_of old) old.slots w entry.pointer entry.stage spots v.part v.slots reached is.slots (unit_run rack old v entry stripe unit) listed
         (spotted (part_of old) old.slots w entry.pointer entry.stage spots v.part v.slots reached is.slots (unit_run rack old v entry stripe unit) held_is spots_are)
         p (is.pass ∙ ap (option_map (pass_in old.slots)) scrub.there) scrub.runs.scrub scrub.runs.running stripe (is_next old entry stripe unit running w is) failed.items (old.serial + 1) (ap (λ n. n + 1) (sym is.serial))
-        read read_is chosen many chosen_is columns room reads.fail
+        read read_is chosen many chosen_is columns room aside reads.fail
 
     done_in : IsIn done state
     done_in = record {

@@ -30,6 +30,7 @@ use Rattle.draid_shard.specs.Rows.{IsRowsOf, answers_on, arm_no, leaf_on}
 use Rattle.draid_shard.specs.declared.loan.LandingRoom.{LandingRoom}
 use Rattle.draid_shard.specs.declared.loan.LentBlock.{LentBlock}
 use Rattle.draid_shard.specs.declared.loan.ReadArm.{ReadArm}
+use Rattle.draid_shard.specs.declared.loan.ReadingRoom.{ReadingRoom}
 use Rattle.draid_shard.specs.declared.loan.Spot.{Spot}
 use Rattle.draid_shard.specs.declared.places.ColumnRows.{ColumnRows}
 use Rattle.draid_shard.proofs.Answering.{answers_is, leaf_at_is, order_is}
@@ -251,9 +252,9 @@ else_mapped None b = refl
 else_mapped (Some x) b = refl
 
 -- what a lend keeps of a block
-abbrev pub lent_of : ℕ → ℕ → Pointer → Vec ReadArm Global → Vec (Option ArmName) Global → Vec (Option (Vec ℕ Global)) Global → LandingRoom → LentBlock
-lent_of serial stripe pointer read chosen columns room =
-    record { serial = serial; stripe = stripe; pointer = pointer; read = read; chosen = chosen; columns = columns; restored = None; room = room }
+abbrev pub lent_of : ℕ → ℕ → Pointer → Vec ReadArm Global → Vec (Option ArmName) Global → Vec (Option (Vec ℕ Global)) Global → LandingRoom → ReadingRoom → LentBlock
+lent_of serial stripe pointer read chosen columns room aside =
+    record { serial = serial; stripe = stripe; pointer = pointer; read = read; chosen = chosen; columns = columns; restored = None; room = room; aside = aside }
 
 module _ (part : Part) (slots : SlotTable) (w : machine.State) (pointer : Pointer) (stage : Stage) (spots : List Spot) (is : IsPart part) (of : IsOf slots part.geometry part.perms part.number)
     (reached : IsReached (layout_in part) w) (has : HasSlots slots w.core) (run : IsRun part.geometry pointer.first pointer.stripes)
@@ -261,7 +262,7 @@ module _ (part : Part) (slots : SlotTable) (w : machine.State) (pointer : Pointe
     (p : machine.Pass) (pass : w.core.pass ≡ Some p) (kind : p.kind ≡ Heal) (running : p.running ≡ true) (stripe : ℕ) (next : IsNext w.core p (key_of pointer) (held_at (staged stage pointer)) stripe)
     (failed : List ℕ) (serial : ℕ) (serial_is : serial ≡ w.serial + 1) (read : Vec ReadArm Global) (read_is : read.items ≡ read_of spots failed) (chosen : Vec (Option ArmName) Global)
     (many : length chosen.items ≡ part.geometry.g) (chosen_is : (c : ℕ) → c < part.geometry.g → slice_index_or chosen.items c None ≡ chosen_of spots failed c)
-    (columns : Vec (Option (Vec ℕ Global)) Global) (room : LandingRoom)
+    (columns : Vec (Option (Vec ℕ Global)) Global) (room : LandingRoom) (aside : ReadingRoom)
     (fail : (leaf : ℕ) → has_number failed leaf ≡ true → (k : ℕ) × (spot : Spot) × (k < length spots) × (slice_get spots k ≡ Some spot) × (spot.leaf ≡ leaf)) where
   abbrev l : machine.Layout
   l = layout_in part
@@ -270,7 +271,7 @@ module _ (part : Part) (slots : SlotTable) (w : machine.State) (pointer : Pointe
   q = w.core
 
   abbrev loan : machine.Loan
-  loan = block_loan (lent_of serial stripe pointer read chosen columns room)
+  loan = block_loan (lent_of serial stripe pointer read chosen columns room aside)
 
   heal : is_heal p.kind ≡ true
   heal = ap is_heal kind

@@ -3,8 +3,10 @@
 #![tactic(auto)]
 
 mod choosing;
+mod idle;
 mod laws;
 mod loans;
+mod parts;
 mod reading;
 mod rooms;
 mod solving;

@@ -28,7 +28,9 @@ use draid_machine::Event;
 use draid_names::{NoMemory, Pointer};
 use draid_pass::Pass;
 use draid_rack::Rack;
-use draid_shard::{KeptLoan, LendFault, Lent, LentBlock, Shard, extent_of, more_errors};
+use draid_shard::{
+    KeptLoan, LendFault, Lent, LentBlock, ReadingRoom, Shard, extent_of, more_errors, taken_out,
+};
 
 /// Lends the next block, live or freed, that was born up to the last group of a scrub and has a stripe where the scrub stands
 /// or behind it: each of its arms that answers is read. The loan that counted doesn't any more.
@@ -123,7 +125,8 @@ fn events_of(kept: &Option<KeptLoan>) -> u64
     }
 }
 
-/// Makes the room in memory that a lend and its landing want. It lists the arms of the block that answer.
+/// Makes the room in memory that a lend and its landing want, of that of the last loan where this is long enough. It lists
+/// the arms of the block that answer.
 fn make_room<R: Rack, A: Area>(
     shard: &mut Shard<R, A>,
     pointer: &Pointer,
@@ -131,7 +134,7 @@ fn make_room<R: Rack, A: Area>(
     requires valid { Valid R.Rack shard.old }
     requires run { IsRun shard.old.geometry pointer.now.first pointer.now.stripes }
     ensures valid { Valid R.Rack shard.new }
-    ensures only { shard.new ≡ record shard.old { history = shard.new.history } }
+    ensures only { shard.new ≡ record shard.old { idle = shard.new.idle; history = shard.new.history } }
     ensures history { KeepsOwed shard.old.history shard.new.history }
     ensures none { DoesNothing shard.old shard.new }
     ensures not_worn { OnOk result (IsWornFor shard.old (lend_events shard.old.kept) → ⊥) }
@@ -140,7 +143,8 @@ fn make_room<R: Rack, A: Area>(
     ensures refused { IfErr result (λ why. AskIs shard.old.history (lend_events shard.old.kept) left_for_groups (Err why)) }
 {
     shard.history.ask(events_of(&shard.kept))?;
-    match room_for(shard, pointer) {
+    let idle = shard.idle.take();
+    match room_for(shard, pointer, idle) {
         Ok(room) => Ok(room),
         Err(NoMemory) => Err(ReserveFault::NoMemory),
     }
@@ -173,12 +177,16 @@ fn lend_block<R: Rack, A: Area>(shard: &mut Shard<R, A>, entry: Entry, stripe: u
     read_spots(&mut shard.rack, &room.spots, extent, &mut lent);
     let Readings {
         columns,
-        failed,
-        ..
+        spare,
+        buffers,
+        mut failed,
     } = lent;
     name_chosen(&room.spots, &failed, shard.geometry.g, &mut chosen);
     name_read(&room.spots, &failed, &mut read);
     count_errors(&mut shard.pass, failed.len());
+    let event = Event::Lend {
+        failed: taken_out(&mut failed, shard.alloc),
+    };
     shard.serial += 1;
     shard.kept = Some(KeptLoan::Block(LentBlock {
         serial: shard.serial,
@@ -189,8 +197,13 @@ fn lend_block<R: Rack, A: Area>(shard: &mut Shard<R, A>, entry: Entry, stripe: u
         columns,
         restored: None,
         room,
+        aside: ReadingRoom {
+            spare,
+            buffers,
+            failed,
+        },
     }));
-    shard.history.add_asked(Event::Lend { failed }, events);
+    shard.history.add_asked(event, events);
 }
 
 /// The pass counts so many errors more.

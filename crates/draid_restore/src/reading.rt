@@ -13,11 +13,13 @@ use draid_columns::{Rows, read_rows};
 use draid_rack::Rack;
 use draid_shard::{Extent, Spot};
 
-/// The readings of a block that count, a buffer for the others, and the leaves on which calls failed.
+/// The readings of a block that count, a buffer for the others, buffers that no column uses, and the leaves on which calls
+/// failed.
 #[derive(Drop)]
 pub(crate) struct Readings {
     pub columns: Vec<Option<Vec<u8>>>,
     pub spare: Vec<u8>,
+    pub buffers: Vec<Vec<u8>>,
     pub failed: Vec<u64>,
 }
 

@@ -5,6 +5,7 @@ use draid_block::Encoded;
 use draid_machine::{ArmName, Patched};
 use draid_names::Pointer;
 use draid_parity::Stripe;
+use std::alloc::Global;
 
 /// An arm from which a column was taken, and the leaf on which it keeps that.
 #[derive(Clone, Copy)]
@@ -55,6 +56,8 @@ pub struct LentBlock {
     pub restored: Option<Encoded>,
     /// Room for the landing.
     pub room: LandingRoom,
+    /// What the reading left, for the next loan.
+    pub aside: ReadingRoom,
 }
 
 /// An arm from which a column was read.
@@ -73,6 +76,17 @@ pub struct Spot {
     pub leaf: u64,
     pub first: u64,
     pub clean: bool,
+}
+
+/// What the reading of a block wants of memory besides what is kept of it.
+#[derive(Drop)]
+pub struct ReadingRoom {
+    /// A buffer for readings that don't count.
+    pub spare: Vec<u8>,
+    /// Buffers that no column uses.
+    pub buffers: Vec<Vec<u8>>,
+    /// Room for the leaves on which calls fail.
+    pub failed: Vec<u64>,
 }
 
 /// What the landing of a block wants of memory.
@@ -100,6 +114,16 @@ impl KeptLoan {
             KeptLoan::Block(lent) => lent.stripe,
         }
     }
+}
+
+/// Takes out what is listed. The room of an empty list stays.
+pub fn taken_out<T: Drop>(list: &mut Vec<T>, alloc: Global) -> Vec<T>
+    ensures { result.items ≡ list.old.items }
+{
+    if list.is_empty() {
+        return Vec::new(alloc);
+    }
+    std::mem::replace(list, Vec::new(alloc))
 }
 
 /// What a lend comes to: a stripe or a block was lent, or none is left.

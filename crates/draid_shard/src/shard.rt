@@ -1,4 +1,4 @@
-use crate::loan::{KeptLoan, LentStripe};
+use crate::loan::KeptLoan;
 use draid_area::Area;
 use draid_entries::{Entries, History};
 use draid_metaslab::Space;
@@ -28,8 +28,8 @@ pub struct Shard<R: Rack, A: Area> {
     pub serial: u64,
     /// The loan that counts.
     pub kept: Option<KeptLoan>,
-    /// The room of a rebuild's last loan, to be used again.
-    pub idle: Option<LentStripe>,
+    /// The last loan that landed, whose room is used again.
+    pub idle: Option<KeptLoan>,
     /// Room for the leaves on which the end of a pass fails.
     pub flushed: Vec<u64>,
     /// What was done since the opening.

@@ -1,5 +1,5 @@
 use Rattle.std.proofs.Common.{◌+◌, ◌∙◌, Option, subst, sym}
-use Rattle.std.specs.Prelude.{IfSome, IsSomeAnd}
+use Rattle.std.specs.Prelude.{IfSome, IsSomeAnd, None}
 use Rattle.draid_pass.specs.declared.pass.Pass.{Pass}
 use Rattle.draid_shard.specs.Loans.{IsKept, IsLentBlock}
 use Rattle.draid_shard.specs.declared.loan.KeptLoan.{KeptLoan}
@@ -31,12 +31,12 @@ returns-clause-valid g c =
     let rest = c.land_kept-rewritten.ensures.rest in
     let at_is = at_is_behind lent back rest c.from.result c.from.ensures in
     let base = record c.args.shard.now { pass = c.take.new.self; kept = c.take-2.new.self } in
-    let lands = lands_listed lent back rest g.R.Rack base c.land_kept-rewritten.new.shard c.in-Some.pass c.land_kept-rewritten.new.pass c.land_kept-rewritten.result back.room.failed.items c.numbers_in.result.items
-    back.room.patched.items c.parts_in.result.items c.land_kept-rewritten.ensures.lands c.numbers_in.ensures c.parts_in.ensures in
+    let lands = lands_listed lent back rest g.R.Rack base c.land_kept-rewritten.new.shard c.in-Some.pass c.land_kept-rewritten.new.pass c.land_kept-rewritten.result back.room.failed.items c.taken_out.result.items
+    back.room.patched.items c.taken_out-2.result.items c.land_kept-rewritten.ensures.lands c.taken_out.ensures c.taken_out-2.ensures in
     let e = c.add.ensures in
     final_valid g.R.Rack c.args.shard.now c.requires.valid c.in-Some.pass there (subst (λ (o : Option Pass). IsSomeAnd o IsRunningScrub) there c.requires.running) lent kept
-    (here_is c.args.shard.now lent kept c.requires.here) c.take.new.self c.take-2.new.self c.take-2.ensures.after c.land_kept-rewritten.new.shard c.land_kept-rewritten.new.pass c.numbers_in.result c.parts_in.result
-    c.land_kept-rewritten.result (back.pointer.first + c.from.result) at_is c.add.new.self lands _ e.owed e.reserved e.stored
+    (here_is c.args.shard.now lent kept c.requires.here) c.take.new.self c.take-2.new.self c.take-2.ensures.after c.land_kept-rewritten.new.shard c.land_kept-rewritten.new.pass c.taken_out.result c.taken_out-2.result
+    c.land_kept-rewritten.result (back.pointer.first + c.from.result) at_is _ c.add.new.self lands _ e.owed e.reserved e.stored
 
 pub returns-clause-lands : goal.returns-clause-lands
 returns-clause-lands g c =
@@ -47,11 +47,11 @@ returns-clause-lands g c =
     let rest = c.land_kept-rewritten.ensures.rest in
     let at_is = at_is_behind lent back rest c.from.result c.from.ensures in
     let base = record c.args.shard.now { pass = c.take.new.self; kept = c.take-2.new.self } in
-    let lands = lands_listed lent back rest g.R.Rack base c.land_kept-rewritten.new.shard c.in-Some.pass c.land_kept-rewritten.new.pass c.land_kept-rewritten.result back.room.failed.items c.numbers_in.result.items
-    back.room.patched.items c.parts_in.result.items c.land_kept-rewritten.ensures.lands c.numbers_in.ensures c.parts_in.ensures in
+    let lands = lands_listed lent back rest g.R.Rack base c.land_kept-rewritten.new.shard c.in-Some.pass c.land_kept-rewritten.new.pass c.land_kept-rewritten.result back.room.failed.items c.taken_out.result.items
+    back.room.patched.items c.taken_out-2.result.items c.land_kept-rewritten.ensures.lands c.taken_out.ensures c.taken_out-2.ensures in
     final_lands g.R.Rack c.args.shard.now c.requires.valid c.in-Some.pass there (subst (λ (o : Option Pass). IsSomeAnd o IsRunningScrub) there c.requires.running) lent kept
-    (here_is c.args.shard.now lent kept c.requires.here) c.take.new.self c.take-2.new.self c.take-2.ensures.after c.land_kept-rewritten.new.shard c.land_kept-rewritten.new.pass c.numbers_in.result c.parts_in.result
-    c.land_kept-rewritten.result (back.pointer.first + c.from.result) at_is c.add.new.self lands
+    (here_is c.args.shard.now lent kept c.requires.here) c.take.new.self c.take-2.new.self c.take-2.ensures.after c.land_kept-rewritten.new.shard c.land_kept-rewritten.new.pass c.taken_out.result c.taken_out-2.result
+    c.land_kept-rewritten.result (back.pointer.first + c.from.result) at_is _ c.add.new.self lands
     back.serial c.is_none.result (serial_is_kept lent back rest) (unread_is lent back rest c.is_none.result c.is_none.ensures) c.add.ensures.stored
 
 pub returns-clause-keeps : goal.returns-clause-keeps
@@ -63,11 +63,11 @@ returns-clause-keeps g c =
     let rest = c.land_kept-rewritten.ensures.rest in
     let at_is = at_is_behind lent back rest c.from.result c.from.ensures in
     let base = record c.args.shard.now { pass = c.take.new.self; kept = c.take-2.new.self } in
-    let lands = lands_listed lent back rest g.R.Rack base c.land_kept-rewritten.new.shard c.in-Some.pass c.land_kept-rewritten.new.pass c.land_kept-rewritten.result back.room.failed.items c.numbers_in.result.items
-    back.room.patched.items c.parts_in.result.items c.land_kept-rewritten.ensures.lands c.numbers_in.ensures c.parts_in.ensures in
+    let lands = lands_listed lent back rest g.R.Rack base c.land_kept-rewritten.new.shard c.in-Some.pass c.land_kept-rewritten.new.pass c.land_kept-rewritten.result back.room.failed.items c.taken_out.result.items
+    back.room.patched.items c.taken_out-2.result.items c.land_kept-rewritten.ensures.lands c.taken_out.ensures c.taken_out-2.ensures in
     final_keeps g.R.Rack c.args.shard.now c.requires.valid c.in-Some.pass there (subst (λ (o : Option Pass). IsSomeAnd o IsRunningScrub) there c.requires.running) lent kept
-    (here_is c.args.shard.now lent kept c.requires.here) c.take.new.self c.take-2.new.self c.take-2.ensures.after c.land_kept-rewritten.new.shard c.land_kept-rewritten.new.pass c.numbers_in.result c.parts_in.result
-    c.land_kept-rewritten.result (back.pointer.first + c.from.result) at_is c.add.new.self lands
+    (here_is c.args.shard.now lent kept c.requires.here) c.take.new.self c.take-2.new.self c.take-2.ensures.after c.land_kept-rewritten.new.shard c.land_kept-rewritten.new.pass c.taken_out.result c.taken_out-2.result
+    c.land_kept-rewritten.result (back.pointer.first + c.from.result) at_is _ c.add.new.self lands
 
 pub returns-clause-moves : goal.returns-clause-moves
 returns-clause-moves g c =
@@ -78,11 +78,11 @@ returns-clause-moves g c =
     let rest = c.land_kept-rewritten.ensures.rest in
     let at_is = at_is_behind lent back rest c.from.result c.from.ensures in
     let base = record c.args.shard.now { pass = c.take.new.self; kept = c.take-2.new.self } in
-    let lands = lands_listed lent back rest g.R.Rack base c.land_kept-rewritten.new.shard c.in-Some.pass c.land_kept-rewritten.new.pass c.land_kept-rewritten.result back.room.failed.items c.numbers_in.result.items
-    back.room.patched.items c.parts_in.result.items c.land_kept-rewritten.ensures.lands c.numbers_in.ensures c.parts_in.ensures in
+    let lands = lands_listed lent back rest g.R.Rack base c.land_kept-rewritten.new.shard c.in-Some.pass c.land_kept-rewritten.new.pass c.land_kept-rewritten.result back.room.failed.items c.taken_out.result.items
+    back.room.patched.items c.taken_out-2.result.items c.land_kept-rewritten.ensures.lands c.taken_out.ensures c.taken_out-2.ensures in
     final_moves g.R.Rack c.args.shard.now c.requires.valid c.in-Some.pass there (subst (λ (o : Option Pass). IsSomeAnd o IsRunningScrub) there c.requires.running) lent kept
-    (here_is c.args.shard.now lent kept c.requires.here) c.take.new.self c.take-2.new.self c.take-2.ensures.after c.land_kept-rewritten.new.shard c.land_kept-rewritten.new.pass c.numbers_in.result c.parts_in.result
-    c.land_kept-rewritten.result (back.pointer.first + c.from.result) at_is c.add.new.self lands
+    (here_is c.args.shard.now lent kept c.requires.here) c.take.new.self c.take-2.new.self c.take-2.ensures.after c.land_kept-rewritten.new.shard c.land_kept-rewritten.new.pass c.taken_out.result c.taken_out-2.result
+    c.land_kept-rewritten.result (back.pointer.first + c.from.result) at_is None c.add.new.self lands
 
 pub returns-clause-none : goal.returns-clause-none
 returns-clause-none g c =
@@ -93,8 +93,8 @@ returns-clause-none g c =
     let rest = c.land_kept-rewritten.ensures.rest in
     let at_is = at_is_behind lent back rest c.from.result c.from.ensures in
     let base = record c.args.shard.now { pass = c.take.new.self; kept = c.take-2.new.self } in
-    let lands = lands_listed lent back rest g.R.Rack base c.land_kept-rewritten.new.shard c.in-Some.pass c.land_kept-rewritten.new.pass c.land_kept-rewritten.result back.room.failed.items c.numbers_in.result.items
-    back.room.patched.items c.parts_in.result.items c.land_kept-rewritten.ensures.lands c.numbers_in.ensures c.parts_in.ensures in
+    let lands = lands_listed lent back rest g.R.Rack base c.land_kept-rewritten.new.shard c.in-Some.pass c.land_kept-rewritten.new.pass c.land_kept-rewritten.result back.room.failed.items c.taken_out.result.items
+    back.room.patched.items c.taken_out-2.result.items c.land_kept-rewritten.ensures.lands c.taken_out.ensures c.taken_out-2.ensures in
     final_none g.R.Rack c.args.shard.now c.requires.valid c.in-Some.pass there (subst (λ (o : Option Pass). IsSomeAnd o IsRunningScrub) there c.requires.running) lent kept
-    (here_is c.args.shard.now lent kept c.requires.here) c.take.new.self c.take-2.new.self c.take-2.ensures.after c.land_kept-rewritten.new.shard c.land_kept-rewritten.new.pass c.numbers_in.result c.parts_in.result
-    c.land_kept-rewritten.result (back.pointer.first + c.from.result) at_is c.add.new.self lands
+    (here_is c.args.shard.now lent kept c.requires.here) c.take.new.self c.take-2.new.self c.take-2.ensures.after c.land_kept-rewritten.new.shard c.land_kept-rewritten.new.pass c.taken_out.result c.taken_out-2.result
+    c.land_kept-rewritten.result (back.pointer.first + c.from.result) at_is None c.add.new.self lands

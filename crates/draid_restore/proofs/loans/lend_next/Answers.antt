@@ -10,11 +10,11 @@ make_room-requires-clause-run g c = unit_run g.R.Rack c.args.shard.now c.require
 
 pub lend_block-requires-clause-unit : goal.lend_block-requires-clause-unit
 lend_block-requires-clause-unit g c =
-    subst (λ s. IsUnit s c.args.entry c.args.stripe) (sym c.in-Ok.ensures.only) (asked_unit c.args.shard.now c.make_room.new.shard.history c.args.entry c.args.stripe c.requires.unit)
+    subst (λ s. IsUnit s c.args.entry c.args.stripe) (sym c.in-Ok.ensures.only) (asked_unit c.args.shard.now c.make_room.new.shard.idle c.make_room.new.shard.history c.args.entry c.args.stripe c.requires.unit)
 
 pub returns-in-Ok-clause-unit : goal.returns-in-Ok-clause-unit
 returns-in-Ok-clause-unit g c =
-    asked_lends c.args.shard.now c.make_room.new.shard.history g.R.Rack c.lend_block.new.shard c.in-Ok.ensures.history.events
+    asked_lends c.args.shard.now c.make_room.new.shard.idle c.make_room.new.shard.history g.R.Rack c.lend_block.new.shard c.in-Ok.ensures.history.events
     (subst (λ s. LendsBlock g.R.Rack s c.lend_block.new.shard) c.in-Ok.ensures.only c.lend_block.ensures.unit)
 
 pub returns-in-Ok-clause-more : goal.returns-in-Ok-clause-more

@@ -4,6 +4,6 @@ use Rattle.draid_restore.proofs.rooms.columns_for.Given as goal
 
 abbrev pub invariant-loop-column : goal.invariant-loop-column
 invariant-loop-column l = record {
-  each : HasColumns l.spots l.bytes l.column l.buffers.items;
-  room : l.columns ≤ vec_capacity l.buffers;
+  each : HasColumns l.spots l.bytes l.column l.listed.items;
+  room : l.columns ≤ vec_capacity l.listed;
 }
