@@ -64,11 +64,7 @@ pub(crate) fn room_for(
 }
 
 /// The parts that an earlier loan left, if its columns are those of a stripe of the layout, and else new ones.
-fn parts_for(
-    alloc: Global,
-    geometry: &Geometry,
-    idle: Option<KeptLoan>,
-) -> Result<Parts, NoMemory>
+fn parts_for(alloc: Global, geometry: &Geometry, idle: Option<KeptLoan>) -> Result<Parts, NoMemory>
     requires geometry { IsGeometry geometry.now }
     ensures { IfOk result (λ parts. HasColumnsFor geometry.now parts.columns) }
 {
