@@ -1,11 +1,25 @@
 ghost use Rattle.std.specs.Prelude.{◌≡◌};
+ghost use Rattle.std.specs.List.{list_any};
 ghost use Rattle.draid_session.specs.Groups as groups;
+ghost use Rattle.draid_shard.specs.States.{stored_in};
 
+use draid_area::Area;
 use draid_machine::Event;
+use draid_rack::Rack;
+use draid_shard::Shard;
+
+/// Whether one of the shards stores something that no sync has made safe.
+pub(crate) fn any_unsynced<R: Rack, A: Area>(shards: &[Shard<R, A>]) -> bool
+    ensures { result ≡ list_any (λ shard. groups.is_unsynced shard.committed (stored_in shard)) shards.now }
+{
+    shards
+        .iter()
+        .any(|shard| is_unsynced(shard.committed(), shard.events()))
+}
 
 /// Whether some events of a metaslab have something that no sync has made safe, where this group is committed: behind
 /// the group's closing an event other than its sealing and its commit, or any event where there is no commit.
-pub(crate) fn is_unsynced(committed: u64, events: &[Event]) -> bool
+fn is_unsynced(committed: u64, events: &[Event]) -> bool
     ensures { result ≡ groups.is_unsynced committed events.now }
 {
     let mut closed = false;
