@@ -47,19 +47,12 @@ fn is_commit(event: &Event) -> bool
 fn is_close_of(committed: u64, event: &Event) -> bool
     ensures { result ≡ groups.is_close_of committed event.now }
 {
-    match event {
-        Event::Close { group } => *group == committed,
-        _ => false,
-    }
+    matches!(event, Event::Close { group } if *group == committed)
 }
 
 /// Whether an event is the sealing or the commit of this group.
 fn ends_group(committed: u64, event: &Event) -> bool
     ensures { result ≡ groups.ends_group committed event.now }
 {
-    match event {
-        Event::Seal { group, .. } => *group == committed,
-        Event::Commit { group } => *group == committed,
-        _ => false,
-    }
+    matches!(event, Event::Seal { group, .. } | Event::Commit { group } if *group == committed)
 }
