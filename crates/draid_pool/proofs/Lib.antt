@@ -59,6 +59,7 @@ pub mod Roomy
 pub mod RoundSteps
 pub mod SealRecords
 pub mod SealSteps
+pub mod Searches
 pub mod ShardSteps
 pub mod Since
 pub mod Steps

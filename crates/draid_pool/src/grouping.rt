@@ -1,5 +1,4 @@
 //! What a sync does to one metaslab in a hold.
-ghost use Rattle.draid_shard.specs.Fits.{Valid};
 ghost use Rattle.draid_pool.specs.Grouping.{ClosesIn, ClosesNext, SealsIn, SealsNext};
 
 use crate::closing::close_group;

@@ -5,7 +5,6 @@ ghost use Rattle.draid_shard.specs.Fits.{Valid};
 ghost use Rattle.draid_uber.specs.Held.{IsNext};
 ghost use Rattle.draid_uber.specs.Slots.{group_of};
 ghost use Rattle.draid_uber.specs.Uber as ubers;
-ghost use Rattle.draid_uber.specs.Uber.{kept_of};
 ghost use Rattle.draid_pool.specs.Drifts.{groups_number};
 ghost use Rattle.draid_pool.specs.Grouping.{ClosesNext, CommitsIn, FindsClosing, FinishesIn, SyncsIn, UberNames};
 ghost use Rattle.draid_pool.specs.Rounds.{EachIs};
@@ -31,7 +30,7 @@ pub fn sync_groups<R: Rack, A: Area, M: Metaslabs<R, A>>(
     requires few { count ≤ 64 }
     requires own { M.owns metaslabs.old groups_number ≡ true }
     requires valid { ubers.Valid A.size uber.old }
-    requires ready { EachIs count (ClosesNext R.Rack (group_of (kept_of uber.old) + 1)) (M.last metaslabs.old) }
+    requires ready { EachIs count (ClosesNext R.Rack (group_of (ubers.kept_of uber.old) + 1)) (M.last metaslabs.old) }
     ensures fits { M.fits metaslabs.new }
     ensures locks { M.locks metaslabs.new ≡ M.locks metaslabs.old }
     ensures owns { M.owns metaslabs.new ≡ M.owns metaslabs.old }
@@ -66,12 +65,12 @@ pub fn finish_group<R: Rack, A: Area, M: Metaslabs<R, A>>(
     requires few { count ≤ 64 }
     requires own { M.owns metaslabs.old groups_number ≡ true }
     requires valid { ubers.Valid A.size uber.old }
-    requires ready { EachIs count (ClosesNext R.Rack (group_of (kept_of uber.old) + 1)) (M.last metaslabs.old) }
+    requires ready { EachIs count (ClosesNext R.Rack (group_of (ubers.kept_of uber.old) + 1)) (M.last metaslabs.old) }
     ensures fits { M.fits metaslabs.new }
     ensures locks { M.locks metaslabs.new ≡ M.locks metaslabs.old }
     ensures owns { M.owns metaslabs.new ≡ M.owns metaslabs.old }
     ensures valid { ubers.Valid A.size uber.new }
-    ensures ready { IfSome result (λ it. OnOk it (EachIs count (ClosesNext R.Rack (group_of (kept_of uber.new) + 1)) (M.last metaslabs.new))) }
+    ensures ready { IfSome result (λ it. OnOk it (EachIs count (ClosesNext R.Rack (group_of (ubers.kept_of uber.new) + 1)) (M.last metaslabs.new))) }
     ensures finishes { FinishesIn R.Rack A.Area M.last M.went M.shared (M.owns metaslabs.old) count metaslabs.old uber.old result metaslabs.new uber.new }
 {
     let Some(group) = find_closing(metaslabs, count) else {
@@ -119,13 +118,13 @@ fn commit_group<R: Rack, A: Area, M: Metaslabs<R, A>>(
     requires few { count ≤ 64 }
     requires own { M.owns metaslabs.old groups_number ≡ true }
     requires valid { ubers.Valid A.size uber.old }
-    requires next { group ≡ group_of (kept_of uber.old) + 1 }
+    requires next { group ≡ group_of (ubers.kept_of uber.old) + 1 }
     requires ready { EachIs count (ClosesNext R.Rack group) (M.last metaslabs.old) }
     ensures fits { M.fits metaslabs.new }
     ensures locks { M.locks metaslabs.new ≡ M.locks metaslabs.old }
     ensures owns { M.owns metaslabs.new ≡ M.owns metaslabs.old }
     ensures valid { ubers.Valid A.size uber.new }
-    ensures ready { IfSome result (λ it. OnOk it (EachIs count (ClosesNext R.Rack (group_of (kept_of uber.new) + 1)) (M.last metaslabs.new))) }
+    ensures ready { IfSome result (λ it. OnOk it (EachIs count (ClosesNext R.Rack (group_of (ubers.kept_of uber.new) + 1)) (M.last metaslabs.new))) }
     ensures commits { CommitsIn R.Rack A.Area M.last M.went M.shared (M.owns metaslabs.old) group count metaslabs.old uber.old result metaslabs.new uber.new }
 {
     if let Err(fault) = close_each(metaslabs, count, group) {
@@ -147,7 +146,7 @@ fn commit_group<R: Rack, A: Area, M: Metaslabs<R, A>>(
 
 /// Has the uberblock name a group, the one behind the committed one.
 fn name_group<A: Area>(uber: &mut Uber<A>, group: u64) -> Result<(), SyncFault>
-    requires next { IsNext (kept_of uber.old) group }
+    requires next { IsNext (ubers.kept_of uber.old) group }
     requires valid { ubers.Valid A.size uber.old }
     ensures valid { ubers.Valid A.size uber.new }
     ensures names { UberNames A.Area group uber.old result uber.new }

@@ -14,7 +14,7 @@ ghost use Rattle.draid_pool.specs.Whole.{IsWhole};
 use crate::fault::{SyncFault, Synced};
 use crate::phases::{finish_group, sync_groups};
 use crate::pool::Pool;
-use crate::unsynced::is_unsynced;
+use crate::unsynced::any_unsynced;
 use draid_area::Area;
 use draid_rack::Rack;
 
@@ -36,11 +36,8 @@ impl<R: Rack, A: Area> Pool<R, A> {
         ensures carries { (x : State) → Represents R.Rack A.Area self.old x
             → CarriesOut R.Rack A.Area self.new x (SyncDoes x result) }
     {
-        match sync_groups(
-            &mut self.metaslabs,
-            &mut self.uber,
-            self.geometry.props.metaslabs,
-        ) {
+        let count = self.geometry.props.metaslabs;
+        match sync_groups(&mut self.metaslabs, &mut self.uber, count) {
             Some(result) => result,
             None => unreachable!(),
         }
@@ -88,11 +85,8 @@ impl<R: Rack, A: Area> Pool<R, A> {
         ensures carries { (x : State) → Represents R.Rack A.Area self.old x
             → CarriesOut R.Rack A.Area self.new x (Phase x (groups.Finishes x.geometry x.perms) (end_of result)) }
     {
-        match finish_group(
-            &mut self.metaslabs,
-            &mut self.uber,
-            self.geometry.props.metaslabs,
-        ) {
+        let count = self.geometry.props.metaslabs;
+        match finish_group(&mut self.metaslabs, &mut self.uber, count) {
             Some(result) => result,
             None => unreachable!(),
         }
@@ -103,11 +97,6 @@ impl<R: Rack, A: Area> Pool<R, A> {
         ensures found { FoundUnsynced self.now.metaslabs.shards.items result }
         ensures unsynced { (x : State) → Represents R.Rack A.Area self.now x → IsTrue result ↔ HasUnsynced x }
     {
-        for shard in &self.metaslabs.shards {
-            if is_unsynced(shard.committed(), shard.events()) {
-                return true;
-            }
-        }
-        false
+        any_unsynced(&self.metaslabs.shards)
     }
 }
