@@ -164,6 +164,10 @@ module _ {R A : Type 0} (faults : R → Option ℕ → ℕ) where
   pub racks_on : (old mid new : Pool R A) → RacksLater faults old mid → RacksLater faults mid new → RacksLater faults old new
   racks_on old mid new first second = each_on (λ (before : Shard R A) after. faults before.rack None ≤ faults after.rack None) (λ a b c low high. omega (arith, low, high)) old mid new first second
 
+module _ {R A : Type 0} where
+  pub passes_on : (old mid new : Pool R A) → KeepsPasses old mid → KeepsPasses mid new → KeepsPasses old new
+  passes_on old mid new first second = each_on (λ (before : Shard R A) after. KeepsPass before.pass after.pass) (λ a b c. pass_on a.pass b.pass c.pass) old mid new first second
+
 module _ {R A : Type 0} (rack : racks.Ghosts R) where
   pub all_set_on : (area : areas.Ghosts A) (m : ℕ) (old mid new : Pool R A) (shard shard' : Shard R A) → KeepsShards rack.faults old mid → SetsShard rack area m mid new shard shard' → KeepsShard rack.faults shard shard'
       → KeepsShards rack.faults old new

@@ -83,6 +83,14 @@ not_went T sync.Last is = absurd (cc)
 not_went T sync.Shelf is = absurd (cc)
 not_went T sync.NoMemory is = absurd (cc)
 
+-- all are so, and another one too
+pub all_set : {S : Type 0} (P : S → Type 0) (shards : List S) (m : ℕ) (shard shard' : S) → slice_get shards m ≡ Some shard → P shard' → ((k : ℕ) (z : S) → slice_get shards k ≡ Some z → P z)
+    → (k : ℕ) (z : S) → slice_get (slice_set shards m shard') k ≡ Some z → P z
+all_set P shards m shard shard' there is all k z at = elim (cases_eq k m) [
+  | inl same ↦ subst P (some_of (slice_get (slice_set shards m shard') m) shard' z (get_set_same shards m shard shard' there) (subst (λ j. slice_get (slice_set shards m shard') j ≡ Some z) same at)) is
+  | inr other ↦ all k z (sym (get_set_other shards m k shard' (λ same. omega (arith, same, other))) ∙ at)
+]
+
 module _ {R A : Type 0} (rack : racks.Ghosts R) (area : areas.Ghosts A) where
   -- one shard of a whole pool is another one that kept its blocks
   pub whole_on : (m : ℕ) (pool new : Pool R A) (shard shard' : Shard R A) → IsWhole rack area pool → SetsShard rack area m pool new shard shard' → Valid rack shard' → KeepsTable shard shard' → IsWhole rack area new
