@@ -1,27 +1,24 @@
 -- All metaslabs of a pool are looked at, and the other arms of a slot go, or all stay.
-use Rattle.std.proofs.Common.{◌≡◌, ◌≢◌, ◌<◌, ◌+◌, ◌++◌, ◌∙◌, [], ◌∷◌, inl, inr, ℕ, zero, suc, true, List, Option, Some, None, Ok, Err, arith, refl, sym, ap, subst, length}
+use Rattle.std.proofs.Common.{◌≡◌, ◌<◌, ◌+◌, ◌++◌, ◌∙◌, [], ◌∷◌, inl, inr, ℕ, zero, suc, List, Option, Some, None, Ok, Err, arith, refl, sym, ap, subst, length}
 use Rattle.std.specs.Prelude.{slice_get, slice_index_or}
 use Rattle.std.proofs.lemmas.Option.{slice_get_within}
 use Rattle.draid_names.specs.declared.arm.Arm.{Arm}
 use Rattle.draid_rack.specs.declared.Rack as racks
 use Rattle.draid_area.specs.declared.Area as areas
-use Rattle.draid_spec.specs.declared.layout.Geometry.{Geometry}
 use Rattle.draid_machine.specs.Arms.{HasEmptyLog, logged}
 use Rattle.draid_machine.specs.State as machine
 use Rattle.draid_machine.specs.declared.names.ArmName.{ArmName}
-use Rattle.draid_machine.proofs.Small.{none_some, some_same}
-use Rattle.draid_slots.specs.States.{arm_in, name_of}
-use Rattle.draid_slots.specs.Table.{arms_of, is_logged}
+use Rattle.draid_machine.proofs.Small.{none_some}
+use Rattle.draid_slots.specs.States.{arm_in}
+use Rattle.draid_slots.specs.Table.{arms_of}
 use Rattle.draid_pass.specs.declared.pass.Pass.{Pass}
 use Rattle.draid_shard.specs.Part.{Part}
 use Rattle.draid_shard.specs.declared.shard.Shard.{Shard}
 use Rattle.draid_disks.specs.Checks.{Each}
-use Rattle.draid_session.specs.Arms as arms
 use Rattle.draid_session.specs.Balance as balance
-use Rattle.draid_session.specs.Holds.{Hold, view_of}
 use Rattle.draid_session.specs.Looks.{AllOf, LooksFrom}
 use Rattle.draid_session.specs.Phases.{Went}
-use Rattle.draid_session.specs.State.{Metaslab, State, Store}
+use Rattle.draid_session.specs.State.{Metaslab, State}
 use Rattle.draid_pool.specs.Carries.{CarriesOut}
 use Rattle.draid_pool.specs.Keeping.{AllArmsStay}
 use Rattle.draid_pool.specs.Passes.{KeepsPass, KeepsPasses}
@@ -76,12 +73,15 @@ all_alone rack slot last pool may = (number_of last, λ m z there. lose_none rac
 
 -- a sync leaves it
 pub alone_on : {R A : Type 0} (slot : ℕ) (mid new : Pool R A) → AllArmsStay mid new → AllAlone slot mid → AllAlone slot new
-alone_on slot mid new stay (leaf, alone) = (leaf, λ m z there.
-    (let inside = slice_get_within new.metaslabs.shards.items m z there in
-    let many = stay.many in
-    let was = present mid.metaslabs.shards.items m (omega (arith, inside, many)) in
-    let one = alone m was.0 was.1 in
-    (one.0, ap (λ (arms : List (List Arm)). slice_index_or arms slot []) (stay.each m was.0 z was.1 there).arms_stay ∙ one.1, one.2, one.3)))
+alone_on slot mid new stay (leaf, alone) = (
+  leaf,
+  λ m z there.
+      (let inside = slice_get_within new.metaslabs.shards.items m z there in
+      let many = stay.many in
+      let was = present mid.metaslabs.shards.items m (omega (arith, inside, many)) in
+      let one = alone m was.0 was.1 in
+      (one.0, ap (λ (arms : List (List Arm)). slice_index_or arms slot []) (stay.each m was.0 z was.1 there).arms_stay ∙ one.1, one.2, one.3)),
+)
 
 -- ---- the pool
 
@@ -95,9 +95,13 @@ module _ {R A : Type 0} (rack : racks.Ghosts R) (area : areas.Ghosts A) (pool : 
   pub some_may_go : HasNoPass pool → Each (λ (shard : Shard R A). HasOthers shard.slots slot) pool.metaslabs.shards.items → SomeGo slot pool
   some_may_go none each =
       let first = first_shard rack area pool w in
-      let z = some_of_them (arms_of first.0.slots slot) (each 0 first.0 first.1).others in
-      (z.0, z.1, z.2, λ m shard there.
-      loses rack slot z.0 z.1 z.2 first.0 shard z.3 (w.alike 0 m first.0 shard first.1 there).arms (low_there 0 first.0 first.1) (none m shard there) (each m shard there))
+      let z = some_of_them (arms_of first.0.slots slot) (each 0 first.0 first.1).others in (
+        z.0,
+        z.1,
+        z.2,
+        λ m shard there.
+            loses rack slot z.0 z.1 z.2 first.0 shard z.3 (w.alike 0 m first.0 shard first.1 there).arms (low_there 0 first.0 first.1) (none m shard there) (each m shard there),
+      )
 
   module _ (x : State) (r : Represents rack area pool x) where
     -- and so it is seen

@@ -1,13 +1,13 @@
 -- Whether the last arm of a slot is a leaf that missed nothing, and has others beside it: as it is looked up.
-use Rattle.std.proofs.Common.{◌≡◌, ◌<◌, ◌≤◌, ◌+◌, ◌-◌, ◌^◌, ◌∙◌, inl, inr, ℕ, Bool, true, false, List, Some, arith, refl, sym, ap, subst, length, [], ◌==◌}
+use Rattle.std.proofs.Common.{◌≡◌, ◌<◌, ◌≤◌, ◌+◌, ◌-◌, ◌^◌, ◌∙◌, inl, inr, ℕ, true, false, List, Some, arith, refl, sym, ap, subst, length, [], ◌==◌}
 use Rattle.std.specs.Prelude.{slice_get, slice_index_or, All, IsTrue, ◌↔◌}
 use Rattle.std.proofs.lemmas.Bool.{cases_lt}
 use Rattle.std.proofs.lemmas.Option.{slice_get-get_or, slice_get_within}
 use Rattle.draid_names.specs.declared.arm.Arm.{Arm}
 use Rattle.draid_names.specs.declared.arm.ArmKind.TheVariants as kind
 use Rattle.draid_machine.specs.declared.names.ArmName.{ArmName}
-use Rattle.draid_machine.proofs.Small.{absurd_test, bool_cases, equal, is_equal, some_same}
-use Rattle.draid_ranges.specs.Numbers.{Numbers, count_below, has}
+use Rattle.draid_machine.proofs.Small.{equal, is_equal, some_same}
+use Rattle.draid_ranges.specs.Numbers.{Numbers, has}
 use Rattle.draid_slots.specs.States.{name_of}
 use Rattle.draid_slots.specs.Table.{IsTable, SlotTable, arm_at, arms_of, count_of, is_spare_kind, log_at}
 use Rattle.draid_slots.proofs.Refusals.{none_below}

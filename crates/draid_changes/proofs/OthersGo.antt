@@ -17,10 +17,9 @@ use Rattle.draid_disks.specs.Disks.{IsNamed}
 use Rattle.draid_session.specs.Arms as arms
 use Rattle.draid_session.specs.Balance as balance
 use Rattle.draid_session.specs.Follows.{Follows}
-use Rattle.draid_session.specs.Groups as groups
 use Rattle.draid_session.specs.Holds.{Hold}
 use Rattle.draid_session.specs.Phases.{Chain, End, Went}
-use Rattle.draid_session.specs.State.{State, Store}
+use Rattle.draid_session.specs.State.{State}
 use Rattle.draid_pool.specs.Carries.{CarriesOut}
 use Rattle.draid_pool.specs.Pools.{Represents}
 use Rattle.draid_pool.specs.Syncing.{AreIdle, Phase, SyncDoes, end_of}

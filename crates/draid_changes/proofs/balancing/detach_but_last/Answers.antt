@@ -1,5 +1,4 @@
-use Rattle.std.proofs.Common.{◌≡◌, ◌<◌, ◌+◌, ◌∷◌, ◌∙◌, Err, arith, length, refl}
-use Rattle.std.specs.Prelude.{slice_get}
+use Rattle.std.proofs.Common.{◌∷◌, ◌∙◌, Err, arith, refl}
 use Rattle.draid_pool.specs.Syncing.{end_of}
 use Rattle.draid_pool.proofs.Rises.{areas_on, areas_still}
 use Rattle.draid_pool.proofs.SyncSteps.{not_went}

@@ -1,4 +1,4 @@
-use Rattle.std.proofs.Common.{◌≡◌, ◌∷◌, arith, length, refl}
+use Rattle.std.proofs.Common.{◌∷◌, arith, refl}
 use Rattle.draid_pool.specs.declared.pool.Pool.{Pool}
 use Rattle.draid_pool.proofs.Rises.{areas_on}
 use Rattle.draid_changes.specs.Walks.{Reserves}

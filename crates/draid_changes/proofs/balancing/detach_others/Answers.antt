@@ -1,6 +1,5 @@
-use Rattle.std.proofs.Common.{◌≡◌, ◌∙◌, ◌∷◌, inl, inr, ℕ, Option, Some, ap, arith, refl, sym}
+use Rattle.std.proofs.Common.{◌≡◌, ◌∙◌, ◌∷◌, inl, inr, ℕ, Option, ap, arith, refl, sym}
 use Rattle.std.specs.Prelude.{slice_get}
-use Rattle.draid_shard.specs.declared.shard.Shard.{Shard}
 use Rattle.draid_pool.specs.declared.fault.SyncFault.TheVariants as sync
 use Rattle.draid_pool.proofs.Rises.{areas_still, err_on}
 use Rattle.draid_changes.specs.Balancing.{SomeGo, StayTogether}
@@ -45,7 +44,7 @@ pub returns-in-Ok : goal.returns-in-Ok
 returns-in-Ok g c =
     let pool = c.args.pool.now in
     let go : SomeGo c.args.slot pool = some_may_go g.R.Rack g.A.Area pool c.requires.whole c.args.slot c.requires.slot c.requires.passes
-        (λ m shard there. c.all_have_others.ensures.all c.if-not-all_have_others.false m shard (ap (λ shards. slice_get shards m) c.deref.ensures.value ∙ there)) in
+    (λ m shard there. c.all_have_others.ensures.all c.if-not-all_have_others.false m shard (ap (λ shards. slice_get shards m) c.deref.ensures.value ∙ there)) in
     let none = c.if-errors-gt0.false in
     let calm : c.args.errors ≡ 0 = omega (arith, none) in
     let e = c.in-Ok.ensures in
@@ -65,7 +64,7 @@ pub returns-in-Err : goal.returns-in-Err
 returns-in-Err g c =
     let pool = c.args.pool.now in
     let go : SomeGo c.args.slot pool = some_may_go g.R.Rack g.A.Area pool c.requires.whole c.args.slot c.requires.slot c.requires.passes
-        (λ m shard there. c.all_have_others.ensures.all c.if-not-all_have_others.false m shard (ap (λ shards. slice_get shards m) c.deref.ensures.value ∙ there)) in
+    (λ m shard there. c.all_have_others.ensures.all c.if-not-all_have_others.false m shard (ap (λ shards. slice_get shards m) c.deref.ensures.value ∙ there)) in
     let none = c.if-errors-gt0.false in
     let calm : c.args.errors ≡ 0 = omega (arith, none) in
     let e = c.in-Err.ensures in

@@ -1,4 +1,4 @@
-use Rattle.std.proofs.Common.{arith, length, ap, false}
+use Rattle.std.proofs.Common.{arith, false}
 use Rattle.std.specs.Prelude.{IsTrue}
 use Rattle.draid_names.specs.declared.arm.ArmKind.TheVariants as kind
 use Rattle.draid_changes.proofs.HasThem.{leaf_looked, spare_looked}
