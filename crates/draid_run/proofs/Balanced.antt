@@ -16,7 +16,6 @@ use Rattle.draid_session.specs.Holds.{Hold}
 use Rattle.draid_session.specs.Passes as passes
 use Rattle.draid_session.specs.Phases.{Starved, WasLast, WasWorn, Broke, Went}
 use Rattle.draid_session.specs.State.{State, Store}
-use Rattle.draid_shard.specs.declared.shard.Shard.{Shard}
 use Rattle.draid_pool.specs.Carries.{CarriesOut}
 use Rattle.draid_pool.specs.Passes.{KeepsPasses}
 use Rattle.draid_pool.specs.Pools.{Represents}
@@ -78,10 +77,10 @@ module _ (g : Geometry) (p : Perms) (slot : ℕ) where
 -- the scrub was stopped
 scrub_halts : (x : State) (slot : ℕ) (why : SyncFault) (holds : List Hold) (store : Store) → ScrubDoes x None (Err (stopped_by why)) holds store
     → Does x (PartIs (balance.ScrubsThen x.geometry x.perms slot) (Err why)) holds store
-scrub_halts x slot sync.Worn holds store d = (d.0, (d.1, inr (WasWorn, d.2, d.3, refl)))
-scrub_halts x slot sync.Last holds store d = (d.0, (d.1, inr (WasLast, d.2, d.3, refl)))
+scrub_halts x slot sync.Worn holds store d = (d.0, (d.1.0, inr (WasWorn, d.1.1, d.1.2, refl)))
+scrub_halts x slot sync.Last holds store d = (d.0, (d.1.0, inr (WasLast, d.1.1, d.1.2, refl)))
 scrub_halts x slot sync.Shelf holds store d = absurd d
-scrub_halts x slot sync.NoMemory holds store d = (d.0, (d.1, inr (Starved, d.2, d.3, refl)))
+scrub_halts x slot sync.NoMemory holds store d = (d.0, (d.1.0, inr (Starved, d.1.1, d.1.2, refl)))
 
 -- and so was the sync
 sync_halts : (x : State) (slot : ℕ) (why : SyncFault) (holds : List Hold) (store : Store) → SyncDoes x (Err why) holds store
@@ -142,7 +141,7 @@ module _ {R A : Type 0} (rack : racks.Ghosts R) (area : areas.Ghosts A) (slot : 
     slot_is = subst (λ (g : Geometry). slot < g.spec.children) (sym r.stands.geometry) low
 
     pub rebuild_there : (metaslab number : ℕ) → IsLowestPass Rebuild metaslab number pool → CarriesOut rack area pool x (RebalanceDoes x slot (Err (fault.PassRunning metaslab number)))
-    rebuild_there metaslab number lowest = found_other rack area Heal pool x metaslab number (RebalanceDoes x slot (Err (fault.PassRunning metaslab number))) r lowest (λ found. (refl, slot_is, found))
+    rebuild_there metaslab number lowest = found_other rack area Heal pool x metaslab number (RebalanceDoes x slot (Err (fault.PassRunning metaslab number))) r lowest (λ found. (refl, (slot_is, found)))
 
     module _ (alone : AreAll pool (IsOnly Heal)) where
       rebalances : (holds : List Hold) (t : passes.Tally) (b : Balance) → balance.SyncsThen x.geometry x.perms slot holds t b → balance.Rebalances x.geometry x.perms slot (looks_at 0 x.metaslabs ++ holds) t b
@@ -183,9 +182,9 @@ ends_whole it pool whole behind = subst (λ b. RunsWhere Heal b pool) whole behi
 
 -- no sync brings a rebuild
 pub only_synced : {R A : Type 0} (old new : Pool R A) → KeepsPasses old new → AreAll old (IsOnly Heal) → AreAll new (IsOnly Heal)
-only_synced {R} {A} old new keeps alone m shard is =
+only_synced old new keeps alone m shard is =
     let many = keeps.many in
-    let z : (s : Shard R A) × (slice_get old.metaslabs.shards.items m ≡ Some s) = present old.metaslabs.shards.items m (let inside = slice_get_within new.metaslabs.shards.items m shard is in omega (arith, inside, many)) in
+    let z = present old.metaslabs.shards.items m (let inside = slice_get_within new.metaslabs.shards.items m shard is in omega (arith, inside, many)) in
     kind_kept Heal z.0.pass shard.pass (keeps.each m z.0 shard z.1 is) (alone m z.0 z.1)
 
 pub slot_behind : {R A : Type 0} (slot : ℕ) (it : Mended) (group : Option ℕ) (old new : Pool R A) → OthersAre slot it.errors (Ok group) old new
