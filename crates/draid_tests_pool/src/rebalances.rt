@@ -85,11 +85,9 @@ const BEHIND: u64 = 60;
 
 /// Whether the arms of the slot stayed for an error.
 fn stay_for_errors(printed: &[u8]) -> bool {
-    printed
-        .split(|byte: &u8| *byte == b'\n')
-        .any(|line| line.starts_with(b"rebalance 0 ")
-            && line.ends_with(b" kept")
-            && !line.ends_with(b" errors=0 kept"))
+    printed.split(|byte: &u8| *byte == b'\n').any(|line| line.starts_with(b"rebalance 0 ")
+        && line.ends_with(b" kept")
+        && !line.ends_with(b" errors=0 kept"))
 }
 
 /// Whether the arms of the slot stay and all is read, though this call of the scrub fails.
