@@ -19,7 +19,7 @@ static KEPT: &str = "rebalance 0 blocks=6 repaired=0 errors=0 kept";
 static LATER: &str = "import\nsum 1 6\nrebalance 0\nsum 1 6\noffline 1\nsum 1 6\n";
 
 /// So many calls of the devices the session makes.
-const STOPS: u64 = 210;
+const STOPS: u64 = 255;
 
 /// Whether a reply names the group that has the blocks.
 fn has_group(printed: &[u8]) -> bool {
@@ -79,9 +79,9 @@ static FAILING: &str =
     "create draid1:2d:3c:0s 3 sector=512 height=8 metaslabs=1 slices=2\nfill 1 6 1024 1\nsync\nreplace 0\nrebalance 0\nsum 1 6\noffline 1\nsum 1 6\n";
 
 /// So many calls of the rack come before the scrub, and before the sum behind it.
-const BEFORE: u64 = 30;
+const BEFORE: u64 = 26;
 
-const BEHIND: u64 = 60;
+const BEHIND: u64 = 104;
 
 /// Whether the arms of the slot stayed for an error.
 fn stay_for_errors(printed: &[u8]) -> bool {
