@@ -16,6 +16,7 @@ use Rattle.draid_slots.specs.Table.{IsThere, SlotTable}
 use Rattle.draid_shard.specs.Fits.{HasLeaves, LogsHaveRoom, Valid, birth_groups, is_rebuild, oldest_open, owed_for_pass}
 use Rattle.draid_shard.specs.Loans.{HasFlushRoom, owed_for_loan}
 use Rattle.draid_shard.specs.States.{IsIn}
+use Rattle.draid_shard.specs.declared.loan.KeptLoan.{KeptLoan}
 use Rattle.draid_shard.specs.declared.loan.KeptLoan.TheVariants.{Stripe}
 use Rattle.draid_shard.specs.declared.loan.LentStripe.{LentStripe}
 use Rattle.draid_shard.specs.declared.shard.Shard.{Shard}

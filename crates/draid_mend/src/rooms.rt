@@ -7,7 +7,7 @@ ghost use Rattle.draid_mend.specs.Rooms.{HasColumnsFor};
 use crate::lending::Readings;
 use draid_names::NoMemory;
 use draid_parity::Stripe;
-use draid_shard::{KeptLoan, Source};
+use draid_shard::{KeptLoan, LentStripe, Source};
 use draid_spec::Geometry;
 use std::alloc::Global;
 
@@ -45,7 +45,7 @@ pub(crate) fn room_for(
         columns,
         mut chosen,
         mut failed,
-    } = parts_for(alloc, geometry, idle)?;
+    } = parts_for(alloc, geometry, stripe_in(idle))?;
     chosen.clear();
     chosen.reserve(g)?;
     failed.clear();
@@ -63,17 +63,26 @@ pub(crate) fn room_for(
     })
 }
 
+/// An earlier loan, if it was a stripe's.
+fn stripe_in(idle: Option<KeptLoan>) -> Option<LentStripe> {
+    match idle {
+        Some(KeptLoan::Stripe(kept)) => Some(kept),
+        Some(KeptLoan::Block(_other)) => None,
+        None => None,
+    }
+}
+
 /// The parts that an earlier loan left, if its columns are those of a stripe of the layout, and else new ones.
 fn parts_for(
     alloc: Global,
     geometry: &Geometry,
-    idle: Option<KeptLoan>,
+    idle: Option<LentStripe>,
 ) -> Result<Parts, NoMemory>
     requires geometry { IsGeometry geometry.now }
     ensures { IfOk result (λ parts. HasColumnsFor geometry.now parts.columns) }
 {
     let (parity, ndata) = (geometry.spec.parity, geometry.spec.ndata);
-    if let Some(KeptLoan::Stripe(kept)) = idle {
+    if let Some(kept) = idle {
         if kept.columns.is_of(parity, ndata, geometry.props.sector) {
             return Ok(Parts {
                 columns: kept.columns,

@@ -95,8 +95,7 @@ fn readings_for(
 fn take_buffers(
     columns: &mut Vec<Option<Vec<u8>>>,
     buffers: &mut Vec<Vec<u8>>,
-) -> Result<(), NoMemory>
-{
+) -> Result<(), NoMemory> {
     for i in 0..columns.len() {
         if let Some(buffer) = columns[i].take() {
             buffers.push(buffer)?;

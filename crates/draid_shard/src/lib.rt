@@ -24,8 +24,8 @@ pub use errors::more_errors;
 pub use fault::Shut;
 pub use laws::{calls_keep_what_stands, valid_shards_have_states, worn_is_what_is_owed};
 pub use loan::{
-    KeptLoan, LandingRoom, LendFault, Lent, LentBlock, LentStripe, ReadArm, ReadingRoom, Source, Spot,
-    taken_out,
+    KeptLoan, LandingRoom, LendFault, Lent, LentBlock, LentStripe, ReadArm, ReadingRoom, Source,
+    Spot, taken_out,
 };
 pub use logs::miss;
 pub use losing::{has_failed, missed_marks};
