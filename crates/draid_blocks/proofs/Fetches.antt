@@ -27,7 +27,8 @@ use Rattle.draid_entries.specs.History.{events_of, owed_of, reserved_of, stored_
 use Rattle.draid_entries.specs.Maps.{held_at, key_of, staged}
 use Rattle.draid_slots.specs.Changes.{IsOf}
 use Rattle.draid_slots.specs.Table.{SlotTable}
-use Rattle.draid_blocks.specs.Fetching.{AreFetched, Fetches}
+use Rattle.draid_readable.specs.Fetched.{AreFetched}
+use Rattle.draid_blocks.specs.Fetching.{Fetches}
 use Rattle.draid_shard.specs.Calls.{CountsFailed}
 use Rattle.draid_shard.specs.Looks.{IsLive}
 use Rattle.draid_shard.specs.Alike.{KeepsArms}

@@ -1,25 +1,21 @@
 -- What the fetching of a block says.
-use Rattle.std.specs.Prelude.{◌≡◌, ◌<◌, ◌+◌, ◌↔◌, ⊤, ℕ, List, Option, Some, None, slice_get}
+use Rattle.std.specs.Prelude.{◌≡◌, ◌+◌, ⊤, ℕ, Some}
 use Rattle.std.specs.declared.vec.Vec.{Vec}
 use Rattle.std.specs.declared.alloc.Global.{Global}
 use Rattle.draid_names.specs.declared.pointer.Pointer.{Pointer}
 use Rattle.draid_block.specs.Blocks.{cut_of}
 use Rattle.draid_block.specs.Solving.{IsFetched}
 use Rattle.draid_block.specs.declared.solve.Fetched.{Fetched}
-use Rattle.draid_rack.specs.Rack.{OnTold, Told}
 use Rattle.draid_rack.specs.declared.Rack.{Ghosts}
 use Rattle.draid_machine.specs.declared.event.Event.TheVariants as event
-use Rattle.draid_machine.specs.declared.names.ArmName.{ArmName}
 use Rattle.draid_machine.specs.declared.names.Held.{Held}
-use Rattle.draid_machine.specs.Arms.{leaf_at, reading}
 use Rattle.draid_machine.specs.Created.{IsReached}
 use Rattle.draid_machine.specs.State as machine
-use Rattle.draid_segments.specs.Reads.{IsAbsent}
+use Rattle.draid_readable.specs.Fetched.{AreFetched}
 use Rattle.draid_entries.specs.History.{owed_of, stored_of}
 use Rattle.draid_entries.specs.Maps.{key_of}
 use Rattle.draid_shard.specs.Alike.{KeepsArms}
 use Rattle.draid_shard.specs.Changes.{KeepsBlocks}
-use Rattle.draid_shard.specs.Columns.{row_bytes}
 use Rattle.draid_shard.specs.States.{Does, IsIn, layout_by}
 use Rattle.draid_blocks.specs.declared.fault.FetchFault.{FetchFault}
 use Rattle.draid_blocks.specs.declared.fault.FetchFault.TheVariants as fetch
@@ -27,12 +23,6 @@ use Rattle.draid_shard.specs.declared.shard.Shard.{Shard}
 use Rattle.draid_shard.specs.Calls.{CountsFailed}
 use Rattle.draid_shard.specs.Looks.{IsLive}
 use Rattle.draid_shard.specs.Rooms.{IsWornFor}
-
--- what a state says of the columns that were fetched: just those are absent that it says are, and each of the others is what the arm reads that it names
-pub record AreFetched (l : machine.Layout) (w : machine.State) (h : Held) (size : ℕ) (failed : List ℕ) (columns : List (Option (Vec ℕ Global))) (told : Option Told) : Type 0 where
-  pub absent : (c : ℕ) → c < l.columns → ((slice_get columns c ≡ Some None) ↔ IsAbsent l w.core h failed c)
-  pub reads : (c row leaf : ℕ) (n : ArmName) (bytes : Vec ℕ Global) → slice_get columns c ≡ Some (Some bytes) → reading l w.core h c ≡ Some n → row < h.stripes
-      → leaf_at l w.core.order n (h.first + row) ≡ Some leaf → OnTold told (λ x. x.reads leaf (l.sector_of (h.first + row) c) ≡ Some (row_bytes size bytes.items row))
 
 -- A live block was fetched.
 pub record Fetches {R A : Type 0} (rack : Ghosts R) (old new : Shard R A) (pointer : Pointer) (fetched : Fetched) : Type 0 where

@@ -102,7 +102,7 @@ other_name slots at other a b once there here apart = elim (bool_cases (name_eq 
   | inr differs ↦ differs
 ]
 
-same_nothing : (old now : Option Pass) → SamePass old now → old ≡ None → now ≡ None
+pub same_nothing : (old now : Option Pass) → SamePass old now → old ≡ None → now ≡ None
 same_nothing None None same is = refl
 same_nothing None (Some new) same is = absurd same
 same_nothing (Some pass) None same is = refl

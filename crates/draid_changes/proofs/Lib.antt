@@ -1,4 +1,5 @@
 pub mod Attached
+pub mod Balanced
 pub mod Barred
 pub mod Begun
 pub mod Called
@@ -7,11 +8,14 @@ pub mod Coming
 pub mod Events
 pub mod Forbids
 pub mod Gone
+pub mod HasThem
 pub mod Leaves
 pub mod Leaving
 pub mod Left
 pub mod Made
 pub mod Numbered
+pub mod Others
+pub mod OthersGo
 pub mod Phases
 pub mod Raised
 pub mod Replaced

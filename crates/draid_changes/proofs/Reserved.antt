@@ -27,8 +27,12 @@ use Rattle.draid_session.specs.Phases.{Went}
 use Rattle.draid_session.specs.State.{Metaslab}
 use Rattle.draid_session.specs.Worn.{ReservesWorn}
 use Rattle.draid_pool.specs.Metaslabs.{IsMetaslab}
+use Rattle.draid_pool.specs.Passes.{KeepsPass, KeepsPasses}
 use Rattle.draid_pool.specs.Syncing.{KeepsCommitted, Turns}
+use Rattle.draid_pool.specs.declared.pool.Pool.{Pool}
 use Rattle.draid_pool.proofs.Dids.{none_here}
+use Rattle.draid_pool.proofs.Keeping.{each_same, each_set, pass_still, passes_on}
+use Rattle.draid_pool.proofs.Lifted.{SetsShard}
 use Rattle.draid_pool.proofs.OneHold.{passes_is, reserved_here, reserves, rests, with_reserved, worn_is}
 use Rattle.draid_changes.specs.declared.need.Need.{Need}
 use Rattle.draid_changes.specs.declared.need.Need.TheVariants as needs
@@ -61,6 +65,22 @@ same_attach (Some p) (Some q) same = λ i. attach_events (Some (record q { kind 
 pub same_need : {R A : Type 0} (need : Need) (old new : Shard R A) → SamePass old.pass new.pass → events_in need new ≡ events_in need old
 same_need needs.Event old new same = refl
 same_need needs.Attachment old new same = same_attach old.pass new.pass same
+
+-- ---- passes
+
+pass_kept : (old new : Option Pass) → SamePass old new → KeepsPass old new
+pass_kept None None same = tt
+pass_kept None (Some new) same = absurd same
+pass_kept (Some old) None same = absurd same
+pass_kept (Some old) (Some new) same = record { number_is = same.number_is; kind_is = same.kind_is; max_is = same.max_is; at_is = same.place_is; running_is = same.running_is }
+
+pub passes_still : {R A : Type 0} (pool : Pool R A) → KeepsPasses pool pool
+passes_still {R} {A} pool = each_same (λ (before : Shard R A) after. KeepsPass before.pass after.pass) (λ shard. pass_still shard.pass) pool pool refl
+
+pub passes_set : {R A : Type 0} (rack : racks.Ghosts R) (area : areas.Ghosts A) (m : ℕ) (old mid new : Pool R A) (shard after : Shard R A) → KeepsPasses old mid → SetsShard rack area m mid new shard after → SamePass shard.pass after.pass
+    → KeepsPasses old new
+passes_set {R} {A} rack area m old mid new shard after kept set same =
+    passes_on old mid new kept (each_set (λ (before : Shard R A) now. KeepsPass before.pass now.pass) (λ z. pass_still z.pass) rack area m mid new shard after set (pass_kept shard.pass after.pass same))
 
 module _ {R A : Type 0} (rack : racks.Ghosts R) (area : areas.Ghosts A) where
   -- what the call says of a shard

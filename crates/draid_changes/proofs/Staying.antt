@@ -42,7 +42,7 @@ use Rattle.draid_changes.proofs.Forbids.{arm_here, arm_there, logged_there, lowe
 
 -- ---- lists
 
-any_at : (p : Arm → Bool) (xs : List Arm) (k : ℕ) (b : Arm) → slice_get xs k ≡ Some b → p b ≡ true → list_any p xs ≡ true
+pub any_at : (p : Arm → Bool) (xs : List Arm) (k : ℕ) (b : Arm) → slice_get xs k ≡ Some b → p b ≡ true → list_any p xs ≡ true
 any_at p [] k b there is = absurd (cc)
 any_at p (x ∷ xs) zero b there is = true_left (p x) (list_any p xs) (subst (λ a. p a ≡ true) (sym (some_of (Some x) x b refl there)) is)
 any_at p (x ∷ xs) (suc k) b there is = true_right (p x) (list_any p xs) (any_at p xs k b there is)
@@ -79,7 +79,7 @@ was_at xs j i b there inside =
       | inr past ↦ (i + 1, slice_get-get_or xs (i + 1) b (omega (arith, within, less)) ∙ ap Some (sym (get_or-remove_above xs j b i past inside) ∙ own), λ same. omega (arith, same, past))
     ]
 
-none_counted : (test : ℕ → Bool) (n : ℕ) → ((k : ℕ) → test k ≡ false) → count_below test n ≡ 0
+pub none_counted : (test : ℕ → Bool) (n : ℕ) → ((k : ℕ) → test k ≡ false) → count_below test n ≡ 0
 unfolding count_below
 none_counted test zero none = refl
 none_counted test (suc n) none = (let rest = none_counted test n none in let here = ap {B = ℕ} (λ b. if b then 1 else 0) (none n) in omega (arith, rest, here))
@@ -92,7 +92,7 @@ leaf_is : (k : ArmKind) (number leaf : ℕ) → named k number ≡ Leaf leaf →
 leaf_is kind.Leaf number leaf is = refl
 leaf_is kind.Spare number leaf is = absurd (cc)
 
-is_leaf_arm : (b : Arm) → b.kind ≡ kind.Leaf → is_leaf b ≡ true
+pub is_leaf_arm : (b : Arm) → b.kind ≡ kind.Leaf → is_leaf b ≡ true
 is_leaf_arm b is = ap (λ k. is_leaf (record b { kind = k })) is
 
 leaf_of : (k : ArmKind) (number : ℕ) (offline fresh : Bool) → is_leaf (record { kind = k; number = number; offline = offline; fresh = fresh }) ≡ true → named k number ≡ Leaf number

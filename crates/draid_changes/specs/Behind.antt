@@ -1,13 +1,13 @@
 -- What the arms of a pool's metaslabs are behind a command on them, whatever is known of the pool.
-use Rattle.std.specs.Prelude.{◌≡◌, ◌<◌, ◌+◌, ◌⊎◌, ⊤, ℕ, Bool, true, false, List, Option, Some, Result, Ok, Err, slice_get}
+use Rattle.std.specs.Prelude.{◌≡◌, ◌<◌, ◌+◌, ◌⊎◌, ⊤, ℕ, Bool, true, false, List, Option, Some, None, Result, Ok, Err, slice_get}
 use Rattle.draid_names.specs.declared.arm.Arm.{Arm}
 use Rattle.draid_names.specs.declared.arm.ArmAt.{ArmAt}
 use Rattle.draid_names.specs.declared.arm.ArmKind.TheVariants as kind
 use Rattle.draid_names.specs.declared.refusal.SlotFault.{SlotFault}
 use Rattle.draid_names.specs.declared.refusal.SlotFault.TheVariants as slot
-use Rattle.draid_script.specs.Line.{AttachSpare, Command, DetachArm, ReplaceDisk, TakeOffline, TakeOnline, UpgradePool}
+use Rattle.draid_script.specs.Line.{AttachSpare, Command, DetachArm, RebalanceSlot, ReplaceDisk, TakeOffline, TakeOnline, UpgradePool}
 use Rattle.draid_reply.specs.declared.reply.Reply.{Reply}
-use Rattle.draid_reply.specs.declared.reply.Reply.TheVariants.{OfflineDone, OfflineRefused, OnlineDone, OnlineRefused, Spared, SpareRefused, Replaced, ReplaceRefused, Detached, DetachRefused, Upgraded, UpgradeAlready}
+use Rattle.draid_reply.specs.declared.reply.Reply.TheVariants.{OfflineDone, OfflineRefused, OnlineDone, OnlineRefused, Spared, SpareRefused, Replaced, ReplaceRefused, Detached, DetachRefused, Rebalanced, Upgraded, UpgradeAlready}
 use Rattle.draid_slots.specs.Table.{IsArmOf, SlotTable, arm_at}
 use Rattle.draid_shard.specs.declared.shard.Shard.{Shard}
 use Rattle.draid_uber.specs.Uber.{next_leaf_of}
@@ -17,6 +17,7 @@ use Rattle.draid_machine.specs.declared.names.ArmName.{ArmName}
 use Rattle.draid_disks.specs.Checks.{Each, IsGoingRefused}
 use Rattle.draid_disks.specs.Disks.{IsLeafArm, IsNamed, arm_called}
 use Rattle.draid_changes.specs.Attaching.{IsBarred, IsReplaceBarred}
+use Rattle.draid_changes.specs.Balancing.{AllAlone, StayTogether}
 use Rattle.draid_changes.specs.declared.detaching.DetachFault.{DetachFault}
 use Rattle.draid_changes.specs.declared.detaching.DetachFault.TheVariants as going
 use Rattle.draid_changes.specs.declared.upgrading.UpgradeFault.{UpgradeFault}
@@ -130,6 +131,8 @@ ArmsBehind (ReplaceDisk slot sectors) (Replaced s leaf) pool = AllHaveLeaf slot 
 ArmsBehind (ReplaceDisk slot sectors) (ReplaceRefused s why) pool = DiskIsBarred slot sectors why pool
 ArmsBehind (DetachArm arm) (Detached a group) pool = IsGone (arm_of arm) pool
 ArmsBehind (DetachArm arm) (DetachRefused a why) pool = GoingIsBarred (arm_of arm) why pool
+ArmsBehind (RebalanceSlot slot) (Rebalanced s blocks repaired errors (Some group)) pool = AllAlone slot pool
+ArmsBehind (RebalanceSlot slot) (Rebalanced s blocks repaired errors None) pool = StayTogether slot errors pool
 ArmsBehind UpgradePool (Upgraded group) pool = AllHaveTwo pool
 ArmsBehind UpgradePool UpgradeAlready pool = AsksForTwo pool
 ArmsBehind command reply pool = ⊤

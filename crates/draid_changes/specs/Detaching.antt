@@ -14,7 +14,7 @@ use Rattle.draid_shard.specs.Changes.{KeepsBlocks}
 use Rattle.draid_shard.specs.Fits.{Valid}
 use Rattle.draid_shard.specs.States.{Does}
 use Rattle.draid_shard.specs.declared.shard.Shard.{Shard}
-use Rattle.draid_disks.specs.Disks.{HasArmRoom, HasDetached, IsNamed, Uses}
+use Rattle.draid_disks.specs.Disks.{HasArmRoom, HasDetached, IsNamed, KeepsLeafLogs, Uses}
 use Rattle.draid_session.specs.Arms as arms
 use Rattle.draid_session.specs.Groups as groups
 use Rattle.draid_session.specs.Holds.{Hold}
@@ -50,6 +50,8 @@ pub record Leaves {R A : Type 0} (rack : Ghosts R) (at : ArmAt) (name : ArmName)
   pub acts : (pieces : Pieces) → ActsOn rack old new (event.Detach at.slot name) pieces
   pub keeps : KeepsBlocks old new
   pub slots : HasDetached old.slots new.slots at old.open_group
+  pub logs : KeepsLeafLogs old.slots new.slots at
+  pub pass : new.pass ≡ old.pass
   pub reserve : Uses old.history new.history 1
 
 -- ---- the pool

@@ -1,5 +1,6 @@
 pub mod Answers
 pub mod Attaching
+pub mod Balancing
 pub mod Behind
 pub mod DetachSays
 pub mod Detaching

@@ -131,7 +131,7 @@ fn leave<R: Rack, A: Area>(pool: &mut Pool<R, A>, at: ArmAt, arm: ArmName) -> Re
 }
 
 /// Takes an arm out of its slot in each metaslab, where no rule forbids it.
-fn detach_all<R: Rack, A: Area>(shards: &mut Vec<Shard<R, A>>, at: ArmAt, arm: ArmName)
+pub(crate) fn detach_all<R: Rack, A: Area>(shards: &mut Vec<Shard<R, A>>, at: ArmAt, arm: ArmName)
     requires ready { (m : ℕ) (shard : Shard R A) → slice_get shards.old.items m ≡ Some shard → MayLeave R.Rack at arm shard }
     ensures leaves { ChangedBelow (Leaves R.Rack at arm) (length shards.old.items) shards.old.items shards.new.items }
 {

@@ -4,6 +4,7 @@
 #![tactic(auto)]
 
 mod attaching;
+mod balancing;
 mod detach_reply;
 mod detaching;
 mod fault;
@@ -18,6 +19,7 @@ mod switching;
 mod upgrade_reply;
 mod upgrading;
 
+pub use balancing::detach_others;
 pub use detach_reply::reply_to_detach;
 pub use detaching::{DetachFault, detach};
 pub use fault::ArmFault;

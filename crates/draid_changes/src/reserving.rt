@@ -3,6 +3,7 @@ ghost use Rattle.draid_session.specs.Arms.{ReservePhase};
 ghost use Rattle.draid_session.specs.State.{State};
 ghost use Rattle.draid_pool.specs.Carries.{CarriesOut};
 ghost use Rattle.draid_pool.specs.Failing.{AreasLater};
+ghost use Rattle.draid_pool.specs.Passes.{KeepsPasses};
 ghost use Rattle.draid_pool.specs.Pools.{Represents};
 ghost use Rattle.draid_pool.specs.Syncing.{Phase};
 ghost use Rattle.draid_pool.specs.Whole.{IsWhole};
@@ -36,6 +37,7 @@ pub(crate) fn reserve_all<R: Rack, A: Area>(
     ensures objects { pool.new.own.objects ≡ pool.old.own.objects }
     ensures uber { pool.new.uber ≡ pool.old.uber }
     ensures later { AreasLater A.faults pool.old pool.new }
+    ensures passes { KeepsPasses pool.old pool.new }
     ensures reserves { OnOk result (ChangedBelow (Reserves need) (length pool.old.metaslabs.shards.items) pool.old.metaslabs.shards.items pool.new.metaslabs.shards.items) }
     ensures carries { (x : State) → Represents R.Rack A.Area pool.old x
         → CarriesOut R.Rack A.Area pool.new x (Phase x (ReservePhase x.geometry x.perms (events_at need)) (end_of_reserving result)) }

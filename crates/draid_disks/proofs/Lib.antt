@@ -6,6 +6,7 @@ mod Comes
 mod Goes
 mod Going
 mod Kept
+mod LeafLogs
 mod Left
 mod Marked
 mod Moving

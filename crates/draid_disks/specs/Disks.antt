@@ -15,9 +15,9 @@ use Rattle.draid_entries.specs.declared.history.ReserveFault.TheVariants.{NoMemo
 use Rattle.draid_entries.specs.History.{IsReserved, limit_in, reserved_of}
 use Rattle.draid_pass.specs.declared.pass.Pass.{Pass}
 use Rattle.draid_plans.specs.Targets.{HasTargetRoom}
-use Rattle.draid_slots.specs.Changes.{HasRoom}
+use Rattle.draid_slots.specs.Changes.{HasRoom, behind}
 use Rattle.draid_slots.specs.Faults.{IsAttachRefused, MayAttach}
-use Rattle.draid_slots.specs.Table.{IsArmOf, SlotTable, arm_at, arms_of}
+use Rattle.draid_slots.specs.Table.{IsArmOf, SlotTable, arm_at, arms_of, is_logged}
 use Rattle.draid_slots.specs.States.{name_of}
 use Rattle.draid_shard.specs.Fits.{IsLeaf}
 use Rattle.draid_shard.specs.declared.shard.Shard.{Shard}
@@ -77,6 +77,10 @@ pub record HasDetached (old new : SlotTable) (at : ArmAt) (group : ℕ) : Type 0
   pub others : (other : ℕ) → other ≢ at.slot → plain_arms new other ≡ plain_arms old other
   pub gone : (arm : Arm) → arm_at old at ≡ Some arm
       → new.detached ≡ old.detached ++ record { kind = arm.kind; number = arm.number; slot = at.slot; group = group; offline = arm.offline } ∷ []
+
+-- each leaf that is an arm then has the log that it had, by the place where it stood before the arm at one went
+abbrev pub KeepsLeafLogs : SlotTable → SlotTable → ArmAt → Type 0
+KeepsLeafLogs old new at = (other : ArmAt) (number : ℕ) → IsArmOf kind.Leaf number (arm_at new other) → (group : ℕ) → is_logged new other group ≡ is_logged old (behind at other) group
 
 -- a pass is as it was, but for the room of its list of targets
 pub record IsSamePass (old new : Pass) : Type 0 where

@@ -7,7 +7,7 @@ ghost use Rattle.draid_shard.specs.Changes.{KeepsBlocks};
 ghost use Rattle.draid_shard.specs.Fits.{Valid};
 ghost use Rattle.draid_shard.specs.States.{Does};
 ghost use Rattle.draid_slots.specs.Faults.{IsDetachRefused};
-ghost use Rattle.draid_disks.specs.Disks.{HasArmRoom, HasDetached, IsNamed, Uses};
+ghost use Rattle.draid_disks.specs.Disks.{HasArmRoom, HasDetached, IsNamed, KeepsLeafLogs, Uses};
 
 use crate::attaching::last_missed;
 use crate::renewing::renew;
@@ -34,6 +34,8 @@ pub fn detach<R: Rack, A: Area>(
     ensures acts { OnOk result ((pieces : Pieces) → ActsOn R.Rack shard.old shard.new (Detach at.slot arm) pieces) }
     ensures reserve { OnOk result (Uses shard.old.history shard.new.history 1) }
     ensures arms { OnOk result (HasDetached shard.old.slots shard.new.slots at shard.old.open_group) }
+    ensures logs { OnOk result (KeepsLeafLogs shard.old.slots shard.new.slots at) }
+    ensures pass { shard.new.pass ≡ shard.old.pass }
     ensures keeps { KeepsBlocks shard.old shard.new }
     ensures refused { IfErr result (IsDetachRefused shard.old.slots at) }
     ensures same { OnErr result (shard.new ≡ shard.old) }

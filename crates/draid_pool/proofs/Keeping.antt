@@ -168,12 +168,6 @@ module _ {R A : Type 0} where
   pub passes_on : (old mid new : Pool R A) → KeepsPasses old mid → KeepsPasses mid new → KeepsPasses old new
   passes_on old mid new first second = each_on (λ (before : Shard R A) after. KeepsPass before.pass after.pass) (λ a b c. pass_on a.pass b.pass c.pass) old mid new first second
 
-  pub all_arms_on : (old mid new : Pool R A) → AllArmsStay old mid → AllArmsStay mid new → AllArmsStay old new
-  all_arms_on old mid new first second = each_on (λ (before : Shard R A) after. ArmsStay before.slots after.slots) (λ a b c. arms_on a.slots b.slots c.slots) old mid new first second
-
-  pub all_asked_on : (old mid new : Pool R A) → AllAskedStay old mid → AllAskedStay mid new → AllAskedStay old new
-  all_asked_on old mid new first second = each_on (λ (before : Shard R A) after. after.asked ≡ before.asked) (λ a b c one two. two ∙ one) old mid new first second
-
 module _ {R A : Type 0} (rack : racks.Ghosts R) where
   pub all_set_on : (area : areas.Ghosts A) (m : ℕ) (old mid new : Pool R A) (shard shard' : Shard R A) → KeepsShards rack.faults old mid → SetsShard rack area m mid new shard shard' → KeepsShard rack.faults shard shard'
       → KeepsShards rack.faults old new

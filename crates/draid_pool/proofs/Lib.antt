@@ -16,6 +16,10 @@ pub mod Finds
 pub mod Following
 pub mod Freed
 pub mod Glances
+pub mod GroupClosed
+pub mod GroupDone
+pub mod GroupKeeps
+pub mod GroupSealed
 pub mod HeldBy
 pub mod Hiding
 pub mod HoldStep
@@ -42,6 +46,7 @@ pub mod OnePass
 pub mod OwnedKnows
 pub mod OwnedStands
 pub mod Owning
+pub mod PhaseSteps
 pub mod Places
 pub mod QuietWhole
 pub mod Ranging
@@ -51,13 +56,16 @@ pub mod Returned
 pub mod Rises
 pub mod Rooms
 pub mod Roomy
+pub mod RoundSteps
 pub mod SealRecords
 pub mod SealSteps
+pub mod Searches
 pub mod ShardSteps
 pub mod Since
 pub mod Steps
 pub mod Stood
 pub mod SyncCalls
+pub mod SyncDone
 pub mod SyncSteps
 pub mod Takings
 pub mod Taught

@@ -7,7 +7,6 @@ use Rattle.sha2.specs.Sha256.{sha256}
 use Rattle.draid_names.specs.declared.pointer.Pointer.{Pointer}
 use Rattle.draid_rack.specs.declared.Rack as racks
 use Rattle.draid_area.specs.declared.Area as areas
-use Rattle.draid_record.specs.declared.uber.UberBody.{UberBody}
 use Rattle.draid_machine.specs.State as machine
 use Rattle.draid_machine.proofs.Small.{absurd_test, bool_cases, is_equal, some_injective}
 use Rattle.draid_objects.proofs.Keeping.{commit_kept}
@@ -21,30 +20,12 @@ use Rattle.draid_pool.specs.Objects.{blocks_of}
 use Rattle.draid_pool.specs.Pools.{part_in}
 use Rattle.draid_pool.specs.Records.{HasImage}
 use Rattle.draid_pool.specs.Syncing.{AreSealed}
-use Rattle.draid_pool.specs.Ubers.{IsPending, IsUber, body_of, kept_in}
+use Rattle.draid_pool.specs.Ubers.{IsPending, IsUber, Names, Refuses, body_of, kept_in}
 use Rattle.draid_pool.proofs.Lists.{present}
 use Rattle.draid_pool.proofs.Stood.{Stood}
 use Rattle.draid_pool.proofs.Turns.{state_sound}
 
 -- ---- the uberblock
-
--- what a commit of a group did to it
-pub record Names {A : Type 0} (area : areas.Ghosts A) (old new : Uber A) (group : ℕ) : Type 0 where
-  pub valid : Valid area.size new
-  pub stands : (pending : List UberBody) → StandsTold (kept_of old) pending (area.told (area_of old)) → StandsTold (Some (next_of old group)) [] (area.told (area_of new))
-  pub kept : kept_of new ≡ Some (next_of old group)
-  pub layout : layout_of new ≡ ubers.layout_in (layout_of old) (version_of old)
-  pub version : version_of new ≡ version_of old
-  pub next_leaf : next_leaf_of new ≡ next_leaf_of old
-
--- and one that was refused
-pub record Refuses {A : Type 0} (area : areas.Ghosts A) (old new : Uber A) (group : ℕ) : Type 0 where
-  pub valid : Valid area.size new
-  pub stands : (pending : List UberBody) → StandsTold (kept_of old) pending (area.told (area_of old)) → StandsTold (kept_of old) (next_of old group ∷ pending) (area.told (area_of new))
-  pub kept : kept_of new ≡ kept_of old
-  pub layout : layout_of new ≡ layout_of old
-  pub version : version_of new ≡ version_of old
-  pub next_leaf : next_leaf_of new ≡ next_leaf_of old
 
 -- a state behind them
 abbrev pub named_state : State → ℕ → ℕ → State

@@ -37,7 +37,7 @@ use Rattle.draid_pool.proofs.Since.{nothing_more, since_self, since_then}
 rests_since : (l : machine.Layout) (x y : Metaslab) → HasNoEvent x y → Since l x y
 rests_since l x y r = record { opened = r.opened; more = []; stored = r.events ∙ nothing_more x.events; run = r.world }
 
-acts_since : (l : machine.Layout) (act : Act) (x y : Metaslab) → MetaslabActs l act x y → Since l x y
+pub acts_since : (l : machine.Layout) (act : Act) (x y : Metaslab) → MetaslabActs l act x y → Since l x y
 acts_since l Looked x y a = rests_since l x y a.0
 acts_since l (Did e w) x y a = record { opened = a.opened; more = e ∷ []; stored = a.stored; run = (w, a.legal, a.world) }
 acts_since l (Reserved n) x y a = rests_since l x y a.0

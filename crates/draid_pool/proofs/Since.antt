@@ -1,5 +1,5 @@
 -- What comes behind a metaslab, by events.
-use Rattle.std.proofs.Common.{◌≡◌, ◌++◌, ◌∙◌, [], ◌∷◌, ℕ, Bool, true, List, refl, ap, subst}
+use Rattle.std.proofs.Common.{◌≡◌, ◌++◌, ◌∙◌, [], ◌∷◌, ℕ, Bool, List, refl, ap, subst}
 use Rattle.draid_rack.specs.declared.Rack as racks
 use Rattle.draid_area.specs.declared.Area as areas
 use Rattle.draid_machine.specs.declared.event.Event.{Event}
@@ -36,19 +36,3 @@ since_then l x y z a b = record {
 module _ {R A : Type 0} (rack : racks.Ghosts R) (area : areas.Ghosts A) where
   pub state_self : (of : ℕ → Bool) (shard : Shard R A) → StateStep rack area of shard shard
   state_self of shard part pieces x is = record { reached = x; now = pieces; is = is; since = since_self (layout_in part) x; same = λ k mine. refl }
-
-  pub state_then : (of : ℕ → Bool) (a b c : Shard R A) → StateStep rack area of a b → StateStep rack area of b c → StateStep rack area of a c
-  state_then of a b c f g part pieces x is =
-      let one = f part pieces x is in
-      let rest = g part one.now one.reached one.is in
-      record {
-        reached = rest.reached;
-        now = rest.now;
-        is = rest.is;
-        since = since_then (layout_in part) x one.reached rest.reached one.since rest.since;
-        same = λ k mine. rest.same k mine ∙ one.same k mine;
-      }
-
-  pub state_some : (of some : ℕ → Bool) (a b : Shard R A) → ((n : ℕ) → some n ≡ true → of n ≡ true) → StateStep rack area of a b → StateStep rack area some a b
-  state_some of some a b inside f part pieces x is =
-      let z = f part pieces x is in record { reached = z.reached; now = z.now; is = z.is; since = z.since; same = λ k mine. z.same k (inside k.object mine) }

@@ -46,9 +46,6 @@ follows_on [] back x y z a b = subst (λ s. Follows back s z) a b
 follows_on (hold ∷ front) back x y z a b = (a.0, a.1, follows_on front back a.0 y z a.2 b)
 
 module _ {R A : Type 0} (rack : racks.Ghosts R) (area : areas.Ghosts A) where
-  pub pool_layout : (pool : Pool R A) (x : State) (does : List Hold → Store → Type 0) → (c : CarriesOut rack area pool x does) → pool.geometry ≡ x.geometry
-  pool_layout pool x does c = sym c.represents.stands.geometry ∙ (same_layout c.holds x c.reached c.follows).geometry
-
   -- what was done is something else as well
   pub carries_so : (pool : Pool R A) (x : State) (does says : List Hold → Store → Type 0) → CarriesOut rack area pool x does → ((holds : List Hold) (store : Store) → does holds store → says holds store)
       → CarriesOut rack area pool x says

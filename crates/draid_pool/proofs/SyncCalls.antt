@@ -24,7 +24,7 @@ use Rattle.draid_pool.specs.Syncing.{ExportDoes, SyncDoes, AreSealed, CommitsBel
 use Rattle.draid_pool.specs.Carries.{CarriesOut}
 use Rattle.draid_pool.specs.Importable.{keep_shared}
 use Rattle.draid_pool.specs.Pools.{Represents}
-use Rattle.draid_pool.specs.Ubers.{body_of}
+use Rattle.draid_pool.specs.Ubers.{Names, Refuses, body_of}
 use Rattle.draid_pool.specs.declared.fault.SyncFault.{SyncFault}
 use Rattle.draid_pool.specs.declared.fault.SyncFault.TheVariants as sync
 use Rattle.draid_pool.specs.declared.fault.Synced.{Synced}
@@ -35,7 +35,7 @@ use Rattle.draid_pool.proofs.Lifted.{HasMetaslab, metaslab_of}
 use Rattle.draid_pool.proofs.Lists.{present}
 use Rattle.draid_pool.proofs.Looking.{changes_none, looked, looks_at, none_seen, not_none, seen_there}
 use Rattle.draid_pool.proofs.Moved.{uber_stays}
-use Rattle.draid_pool.proofs.Naming.{Names, Refuses, named_state, refused_state, stood_named, stood_refused, uber_named, uber_refused}
+use Rattle.draid_pool.proofs.Naming.{named_state, refused_state, stood_named, stood_refused, uber_named, uber_refused}
 use Rattle.draid_pool.proofs.Steps.{carried, carries_so, follows_on, own_of, same_layout, settled}
 use Rattle.draid_pool.proofs.Stood.{CommittedBelow, IsOneOf, Rest, Stood, represents_of, stood_of}
 use Rattle.draid_pool.proofs.SyncSteps.{not_went}

@@ -1,5 +1,5 @@
 -- The closing and the sealing of a group in all metaslabs of a pool, one after another.
-use Rattle.std.proofs.Common.{◌≡◌, ◌≢◌, ◌<◌, ◌≤◌, ◌+◌, ◌++◌, ◌∙◌, [], ◌∷◌, inl, inr, ℕ, suc, true, false, List, Some, None, Ok, Err, arith, refl, sym, ap, subst, slice_index_or, slice_set, length}
+use Rattle.std.proofs.Common.{◌≡◌, ◌≢◌, ◌<◌, ◌≤◌, ◌+◌, ◌++◌, ◌∙◌, [], ◌∷◌, inl, inr, ℕ, suc, true, List, Some, None, Ok, Err, arith, refl, sym, ap, subst, slice_index_or, slice_set, length}
 use Rattle.std.specs.Prelude.{nat_eq, slice_get}
 use Rattle.std.specs.HashMap.{get}
 use Rattle.std.proofs.lemmas.Bool.{cases_eq}
@@ -10,7 +10,6 @@ use Rattle.draid_spec.specs.declared.layout.Geometry.{Geometry}
 use Rattle.draid_segments.specs.Segments.{Pieces}
 use Rattle.draid_shard.specs.Fits.{Valid}
 use Rattle.draid_shard.specs.Part.{Part}
-use Rattle.draid_shard.specs.States.{stored_in}
 use Rattle.draid_shard.specs.declared.shard.Shard.{Shard}
 use Rattle.draid_session.specs.Follows as follows
 use Rattle.draid_session.specs.Follows.{Follows}
@@ -48,9 +47,6 @@ SealedBelow {R} {A} shards group m = Below (λ (shard : Shard R A). (shard.closi
 
 abbrev pub IdleBelow : {R A : Type 0} → List (Shard R A) → ℕ → Type 0
 IdleBelow {R} {A} shards m = Below (λ (shard : Shard R A). shard.closing ≡ None) shards m
-
-abbrev pub SyncedBelow : {R A : Type 0} → List (Shard R A) → ℕ → Type 0
-SyncedBelow {R} {A} shards m = Below (λ (shard : Shard R A). groups.is_unsynced shard.committed (stored_in shard) ≡ false) shards m
 
 -- what was borrowed stands there
 pub borrowed_at : {S : Type 0} (shards : List S) (m : ℕ) (shard : S) → m < length shards → shard ≡ slice_index_or shards m shard → slice_get shards m ≡ Some shard

@@ -1,5 +1,6 @@
 -- A seal is refused behind its flushes: only devices changed.
-use Rattle.std.proofs.Common.{◌≡◌, refl, sym, subst}
+use Rattle.std.proofs.Common.{◌≡◌, Ok, Err, refl, sym, subst}
+use Rattle.std.specs.Prelude.{IfErr, Result}
 use Rattle.draid_rack.specs.declared.Rack.{Ghosts}
 use Rattle.draid_machine.specs.State as machine
 use Rattle.draid_shard.specs.Changes.{KeepsBlocks}
@@ -7,6 +8,16 @@ use Rattle.draid_shard.specs.Fits.{HasLeaves, Valid}
 use Rattle.draid_shard.specs.States.{DoesNone, IsIn}
 use Rattle.draid_shard.specs.declared.shard.Shard.{Shard}
 use Rattle.draid_shard.proofs.Changed.{same_entries}
+use Rattle.draid_pool.specs.Groups.{NeverWaits, StaysIfWaiting}
+use Rattle.draid_pool.specs.declared.fault.SealFault.{SealFault}
+use Rattle.draid_pool.specs.declared.fault.SealFault.TheVariants as seal
+
+-- what never waits stays if it waits
+pub waits_never : {T R A : Type 0} (old new : Shard R A) (result : Result T SealFault) → IfErr result NeverWaits → IfErr result (StaysIfWaiting old new)
+waits_never old new (Ok it) never = tt
+waits_never old new (Err (seal.NotYet tickets)) never = absurd never
+waits_never old new (Err seal.Area) never = tt
+waits_never old new (Err seal.NoMemory) never = tt
 
 module _ {R A : Type 0} (old : Shard R A) (rack : R) (even odd : A) where
   abbrev new : Shard R A

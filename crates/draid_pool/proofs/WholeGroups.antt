@@ -1,5 +1,5 @@
 -- A whole pool stays whole as its uberblock names a group, or is refused it.
-use Rattle.std.proofs.Common.{◌≡◌, ◌≤◌, ◌+◌, ◌∙◌, ℕ, Bool, List, Option, Some, None, arith, sym, ap, subst, length, if◌then◌else◌}
+use Rattle.std.proofs.Common.{◌≡◌, ◌+◌, ◌∙◌, ℕ, List, Some, None, arith, sym, ap, subst, length, if◌then◌else◌}
 use Rattle.std.specs.Prelude.{nat_eq, slice_get}
 use Rattle.std.specs.HashMap.{get}
 use Rattle.std.proofs.lemmas.Option.{slice_get_within}
@@ -20,46 +20,21 @@ use Rattle.draid_slots.specs.Changes.{Commits as CommitsSlots}
 use Rattle.draid_shard.specs.Alike.{ShareArms}
 use Rattle.draid_shard.specs.Fits.{AreGroups}
 use Rattle.draid_shard.specs.declared.shard.Shard.{Shard}
-use Rattle.draid_uber.specs.Held.{IsNext}
 use Rattle.draid_uber.specs.Slots.{group_of}
 use Rattle.draid_uber.specs.Uber as ubers
 use Rattle.draid_uber.specs.Uber.{kept_of}
-use Rattle.draid_pool.specs.Syncing.{AreIdle, AreSealed, Commits, CommitsBelow}
+use Rattle.draid_pool.specs.Syncing.{AreIdle, Commits, CommitsBelow}
 use Rattle.draid_pool.specs.Whole.{IsPointer, IsShardOf, IsWhole}
 use Rattle.draid_pool.specs.declared.pool.Pool.{Pool}
 use Rattle.draid_pool.proofs.Arms.{leaf_left, share_left}
 use Rattle.draid_pool.proofs.Lists.{present, some_of}
-use Rattle.draid_pool.proofs.Naming.{Names, Refuses}
+use Rattle.draid_pool.specs.Ubers.{Names, Refuses}
 use Rattle.draid_pool.proofs.Versions.{layout_again}
 
 module _ {R A : Type 0} (rack : racks.Ghosts R) (area : areas.Ghosts A) where
   -- a pool has a metaslab
   pub first_shard : (pool : Pool R A) → IsWhole rack area pool → (shard : Shard R A) × (slice_get pool.metaslabs.shards.items 0 ≡ Some shard)
   first_shard pool w = present pool.metaslabs.shards.items 0 (let many = w.many in let some = w.layout.geometry_is.props.some_metaslabs in omega (arith, many, some))
-
-  next_low : (open_group : ℕ) (closing : Option ℕ) (committed : ℕ) (sealed : Bool) → AreGroups open_group closing committed sealed → committed + 1 ≤ open_group
-  next_low open_group None committed sealed is = (let next = is.0 in omega (arith, next))
-  next_low open_group (Some t) committed sealed is = (let next = is.0 in let behind = is.1 in omega (arith, next, behind))
-
-  -- there is a number for the group behind the committed one
-  pub whole_next : (pool : Pool R A) → IsWhole rack area pool → group_of (kept_of pool.uber) + 1 ≤ LAST_NUMBER
-  whole_next pool w =
-      let z = first_shard pool w in
-      let is = w.shards 0 z.0 z.1 in
-      let next = next_low z.0.open_group z.0.closing z.0.committed z.0.sealed is.valid.groups in
-      let low = is.valid.low in
-      let committed = is.committed in
-      omega (arith, next, low, committed)
-
-  -- and one behind that where it is sealed
-  pub sealed_next : (pool : Pool R A) (group : ℕ) → IsWhole rack area pool → AreSealed pool.metaslabs.shards.items group → group ≡ group_of (kept_of pool.uber) + 1 → IsNext (kept_of pool.uber) group
-  sealed_next pool group w sealed next =
-      let z = first_shard pool w in
-      let is = w.shards 0 z.0 z.1 in
-      let groups : (z.0.open_group ≡ group + 1) × (group ≡ z.0.committed + 1) = subst (λ o. AreGroups z.0.open_group o z.0.committed z.0.sealed) (sealed 0 z.0 z.1).0 is.valid.groups in
-      let behind = groups.0 in
-      let low = is.valid.low in
-      record { behind = omega (arith, next); below = omega (arith, behind, low) }
 
   -- a group that closes is the one behind the committed one
   pub closing_next : (pool : Pool R A) (m group : ℕ) (shard : Shard R A) → IsWhole rack area pool → slice_get pool.metaslabs.shards.items m ≡ Some shard → shard.closing ≡ Some group

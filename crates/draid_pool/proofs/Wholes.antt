@@ -10,14 +10,11 @@ use Rattle.draid_names.specs.declared.pointer.Pointer.{Pointer}
 use Rattle.draid_rack.specs.declared.Rack as racks
 use Rattle.draid_area.specs.declared.Area as areas
 use Rattle.draid_spec.specs.declared.layout.Geometry.{Geometry}
-use Rattle.draid_block.specs.Blocks.{cut_of}
-use Rattle.draid_block.specs.Columns.{stripes_of}
 use Rattle.draid_perm.specs.declared.perms.Perms.{Perms}
 use Rattle.draid_map.specs.Place.{IsLayout}
 use Rattle.draid_machine.specs.declared.names.Held.{Held}
 use Rattle.draid_machine.specs.declared.names.Key.{Key}
 use Rattle.draid_machine.specs.declared.names.Stage.TheVariants.{Live}
-use Rattle.draid_machine.specs.State as machine
 use Rattle.draid_machine.specs.Names.{is_block}
 use Rattle.draid_machine.proofs.Small.{is_equal, some_injective}
 use Rattle.draid_entries.specs.declared.entry.Entry.{Entry}
@@ -28,14 +25,12 @@ use Rattle.draid_shard.specs.Looks.{IsLive}
 use Rattle.draid_shard.specs.Changes.{KeepsBlocks, SetsBlock}
 use Rattle.draid_shard.specs.Fits.{Valid, AreGroups}
 use Rattle.draid_shard.specs.Part.{Part}
-use Rattle.draid_shard.specs.States.{IsIn, part_of}
+use Rattle.draid_shard.specs.States.{part_of}
 use Rattle.draid_shard.specs.declared.shard.Shard.{Shard}
 use Rattle.draid_shard.proofs.Changed.{same_arms}
-use Rattle.draid_shard.proofs.Shown.{state_shown}
 use Rattle.draid_uber.specs.Slots.{group_of}
 use Rattle.draid_uber.specs.Uber as ubers
 use Rattle.draid_uber.specs.Uber.{kept_of}
-use Rattle.draid_pool.specs.Shards.{HasRoom}
 use Rattle.draid_pool.specs.Whole.{IsPointer, IsShardOf, IsWhole}
 use Rattle.draid_pool.specs.declared.pool.Pool.{Pool}
 use Rattle.draid_pool.proofs.Arms.{Kept, all_kept, leaf_kept}
@@ -104,16 +99,8 @@ module _ {R A : Type 0} (rack : racks.Ghosts R) (area : areas.Ghosts A) where
   pub few_whole : (pool : Pool R A) → IsWhole rack area pool → length pool.metaslabs.shards.items ≤ 64
   few_whole pool w = (let many = w.many in let most = w.layout.geometry_is.props.most_metaslabs in omega (arith, many, most))
 
-  -- the room of a shard is that of a state
-  pub whole_room : (pool : Pool R A) (m len : ℕ) (own shard : Shard R A) → IsWhole rack area pool → slice_get pool.metaslabs.shards.items m ≡ Some shard → shard ≡ own
-      → ((w : machine.State) → IsIn own w → HasRoom (stripes_of (cut_of pool.geometry) len) own w) → (w : machine.State) × IsIn shard w × HasRoom (stripes_of (cut_of shard.geometry) len) shard w
-  whole_room pool m len own shard w there same room =
-      let z = state_shown rack shard (whole_valid pool m shard w there) in (
-        z.0,
-        z.1,
-        subst (λ (geometry : Geometry). HasRoom (stripes_of (cut_of geometry) len) shard z.0) (sym (whole_geometry pool m shard w there))
-            (subst (λ (s : Shard R A). (v : machine.State) → IsIn s v → HasRoom (stripes_of (cut_of pool.geometry) len) s v) (sym same) room z.0 z.1),
-      )
+  pub few_geometry : (pool : Pool R A) → IsWhole rack area pool → pool.geometry.props.metaslabs ≤ 64
+  few_geometry pool w = w.layout.geometry_is.props.most_metaslabs
 
   -- ---- one shard is another
 

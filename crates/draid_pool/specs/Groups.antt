@@ -99,6 +99,18 @@ SealIsRefused faults old new group seal.Area =
     ((w : machine.State) → IsIn old w → OpenUpto w group 0) × Rose (faults (area_in old group)) (faults (area_in new group))
 SealIsRefused faults old new group seal.NoMemory = ⊤
 
+-- one that waits for open writes changed nothing
+abbrev pub StaysIfWaiting : {R A : Type 0} → Shard R A → Shard R A → SealFault → Type 0
+StaysIfWaiting old new (seal.NotYet tickets) = new ≡ old
+StaysIfWaiting old new seal.Area = ⊤
+StaysIfWaiting old new seal.NoMemory = ⊤
+
+-- it waits for none
+abbrev pub NeverWaits : SealFault → Type 0
+NeverWaits (seal.NotYet tickets) = ⊥
+NeverWaits seal.Area = ⊤
+NeverWaits seal.NoMemory = ⊤
+
 -- A refused seal may have flushed leaves, and written to the group's area.
 pub record Unsealed {R A : Type 0} (rack : Ghosts R) (faults : A → ℕ) (old new : Shard R A) (group : ℕ) (fault : SealFault) : Type 0 where
   pub none : DoesNone old new

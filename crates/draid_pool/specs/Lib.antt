@@ -4,6 +4,7 @@ pub mod Committing
 pub mod Drifts
 pub mod Failing
 pub mod Follows
+pub mod Grouping
 pub mod Groups
 pub mod Holding
 pub mod Importable
@@ -17,6 +18,7 @@ pub mod Pointers
 pub mod Pools
 pub mod Records
 pub mod Returning
+pub mod Rounds
 pub mod Sealing
 pub mod Shards
 pub mod Syncing

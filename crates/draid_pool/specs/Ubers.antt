@@ -1,12 +1,12 @@
 -- What the uberblock of an open pool has, and what an import finds there after a crash.
-use Rattle.std.specs.Prelude.{◌≡◌, ◌==◌, ◌+◌, ℕ, true, List, Option, Some, None, All, if◌then◌else◌}
+use Rattle.std.specs.Prelude.{◌≡◌, ◌==◌, ◌+◌, ℕ, true, List, [], ◌∷◌, Option, Some, None, All, if◌then◌else◌}
 use Rattle.draid_area.specs.Area.{Content}
 use Rattle.draid_area.specs.declared.Area as areas
 use Rattle.draid_record.specs.declared.uber.UberBody.{UberBody}
 use Rattle.draid_spec.specs.declared.layout.Geometry.{Geometry}
 use Rattle.draid_uber.specs.declared.uber.Uber.{Uber}
 use Rattle.draid_uber.specs.Slots.{StandsTold}
-use Rattle.draid_uber.specs.Uber.{Valid, area_of, kept_of, layout_of, next_leaf_of, version_of}
+use Rattle.draid_uber.specs.Uber.{Valid, area_of, kept_of, layout_in, layout_of, next_leaf_of, next_of, version_of}
 use Rattle.draid_session.specs.Opening.{layout_at_version}
 use Rattle.draid_session.specs.State.{State}
 
@@ -37,3 +37,23 @@ pub record IsUber {A : Type 0} (area : areas.Ghosts A) (uber : Uber A) (x : Stat
   pub next_leaf : next_leaf_of uber ≡ x.next_leaf
   pub count : x.uber_count ≡ area.faults (area_of uber)
   pub stands : UberStands x (area.told (area_of uber))
+
+-- ---- commits
+
+-- what a commit of a group did to it
+pub record Names {A : Type 0} (area : areas.Ghosts A) (old new : Uber A) (group : ℕ) : Type 0 where
+  pub valid : Valid area.size new
+  pub stands : (pending : List UberBody) → StandsTold (kept_of old) pending (area.told (area_of old)) → StandsTold (Some (next_of old group)) [] (area.told (area_of new))
+  pub kept : kept_of new ≡ Some (next_of old group)
+  pub layout : layout_of new ≡ layout_in (layout_of old) (version_of old)
+  pub version : version_of new ≡ version_of old
+  pub next_leaf : next_leaf_of new ≡ next_leaf_of old
+
+-- and one that was refused
+pub record Refuses {A : Type 0} (area : areas.Ghosts A) (old new : Uber A) (group : ℕ) : Type 0 where
+  pub valid : Valid area.size new
+  pub stands : (pending : List UberBody) → StandsTold (kept_of old) pending (area.told (area_of old)) → StandsTold (kept_of old) (next_of old group ∷ pending) (area.told (area_of new))
+  pub kept : kept_of new ≡ kept_of old
+  pub layout : layout_of new ≡ layout_of old
+  pub version : version_of new ≡ version_of old
+  pub next_leaf : next_leaf_of new ≡ next_leaf_of old

@@ -9,7 +9,7 @@ ghost use Rattle.draid_shard.specs.Changes.{KeepsBlocks};
 ghost use Rattle.draid_shard.specs.Fits.{TicketsAreNew, Valid};
 ghost use Rattle.draid_shard.specs.States.{IsIn};
 ghost use Rattle.draid_pool.specs.Changes.{SealsGroup};
-ghost use Rattle.draid_pool.specs.Groups.{AreasLater, KeepsOtherArea, OpenUpto, Seals, Unsealed};
+ghost use Rattle.draid_pool.specs.Groups.{AreasLater, KeepsOtherArea, NeverWaits, OpenUpto, Seals, StaysIfWaiting, Unsealed};
 ghost use Rattle.draid_pool.specs.Sealing.{AreFlushed, FlushedBelow, IsOnline, IsPlan};
 ghost use Rattle.draid_pool.specs.Syncing.{KeepsShard};
 
@@ -52,6 +52,7 @@ pub fn seal<R: Rack, A: Area>(shard: &mut Shard<R, A>, group: u64) -> Result<Sea
     ensures later { AreasLater A.faults shard.old shard.new }
     ensures reserve { SameReserve shard.old shard.new }
     ensures stays { KeepsShard R.faults shard.old shard.new }
+    ensures waits { IfErr result (StaysIfWaiting shard.old shard.new) }
 {
     let tickets = tickets_upto(&shard.entries, group);
     if tickets > 0 {
@@ -84,6 +85,7 @@ fn seal_by<R: Rack, A: Area>(
     ensures later { AreasLater A.faults shard.old shard.new }
     ensures reserve { SameReserve shard.old shard.new }
     ensures stays { KeepsShard R.faults shard.old shard.new }
+    ensures waits { IfErr result NeverWaits }
 {
     let Plan {
         mut made,

@@ -1,103 +1,22 @@
-//! Groups of a pool: one is closed in all metaslabs and sealed in all, then the uberblock names it, and then it is
-//! committed in all.
-ghost use Rattle.std.specs.Prelude.{◌≡◌, ◌<◌, ◌≤◌, ◌+◌, ◌↔◌, true, All, Some, IfOk, IsErrOf, IsTrue, OnErr, OnOk, length};
-ghost use Rattle.draid_names.specs.declared.numbers.TheConstants.{LAST_NUMBER, NUMBERS};
-ghost use Rattle.draid_machine.specs.Names.{is_block};
-ghost use Rattle.draid_machine.specs.declared.names.Held.{Held};
-ghost use Rattle.draid_machine.specs.declared.names.Key.{Key};
-ghost use Rattle.draid_segments.specs.Segments.{Pieces};
-ghost use Rattle.draid_entries.specs.Entries.{held_in};
-ghost use Rattle.draid_pool.specs.Groups as sealing;
-ghost use Rattle.draid_shard.specs.Fits.{Valid};
-ghost use Rattle.draid_shard.specs.Part.{Part};
+//! Groups of a pool, whose metaslabs and uberblock nobody else holds.
+ghost use Rattle.std.specs.Prelude.{◌≡◌, ◌<◌, ◌≤◌, ◌↔◌, true, Some, IsErrOf, IsTrue, OnOk};
 ghost use Rattle.draid_session.specs.Groups as groups;
-ghost use Rattle.draid_session.specs.Phases.{Chain};
-ghost use Rattle.draid_session.specs.State.{Metaslab, State};
-ghost use Rattle.draid_uber.specs.Slots.{group_of};
-ghost use Rattle.draid_uber.specs.Uber.{kept_of};
-ghost use Rattle.draid_pool.specs.Syncing.{ExportDoes, SyncDoes, AreClosing, AreIdle, AreSealed, CloseIs, CommitsBelow, FoundClosing, FoundUnsynced, HasUnsynced, GroupDoes, KeepsCommitted, KeepsShard, KeepsShards, KeepsTable, Phase, SealDoes, SealIs, Turns, end_of};
+ghost use Rattle.draid_session.specs.State.{State};
+ghost use Rattle.draid_pool.specs.Syncing.{ExportDoes, SyncDoes, AreIdle, FoundUnsynced, HasUnsynced, Phase, end_of};
 ghost use Rattle.draid_pool.specs.Carries.{CarriesOut};
-ghost use Rattle.draid_pool.specs.Failing.{AreaRose, AreasLater, RacksLater, RecordsRose};
+ghost use Rattle.draid_pool.specs.Failing.{AreaRose, AreasLater, RacksLater};
 ghost use Rattle.draid_pool.specs.Keeping.{AllArmsStay, AllAskedStay, AllHaveAsked};
-ghost use Rattle.draid_pool.specs.Metaslabs.{IsMetaslab};
 ghost use Rattle.draid_pool.specs.Passes.{KeepsPasses};
 ghost use Rattle.draid_pool.specs.Pointers.{SamePointers};
 ghost use Rattle.draid_pool.specs.Pools.{Represents, group_in};
 ghost use Rattle.draid_pool.specs.Whole.{IsWhole};
 
-use crate::closing::close_group;
-use crate::committing::commit;
-use crate::fault::{CloseFault, SealFault, SyncFault, Synced};
+use crate::fault::{SyncFault, Synced};
+use crate::phases::{finish_group, sync_groups};
 use crate::pool::Pool;
-use crate::sealing::seal;
-use crate::unsynced::is_unsynced;
+use crate::unsynced::any_unsynced;
 use draid_area::Area;
-use draid_names::DeviceFault;
 use draid_rack::Rack;
-use draid_shard::Shard;
-
-/// Closes a group in a shard where it isn't closing already.
-fn close_in<R: Rack, A: Area>(shard: &mut Shard<R, A>, group: u64) -> Result<(), SyncFault>
-    requires valid { Valid R.Rack shard.old }
-    requires next { group ≡ shard.old.committed + 1 }
-    ensures valid { Valid R.Rack shard.new }
-    ensures table { KeepsTable shard.old shard.new }
-    ensures stays { KeepsShard R.faults shard.old shard.new }
-    ensures closing { OnOk result (shard.new.closing ≡ Some group) }
-    ensures later { sealing.AreasLater A.faults shard.old shard.new }
-    ensures not_shelf { IsErrOf result SyncFault.Shelf → ⊥ }
-    ensures last { IsErrOf result SyncFault.Last → group ≡ LAST_NUMBER }
-    ensures closes { (part : Part) (pieces : Pieces) (x : Metaslab) → IsMetaslab R.Rack A.Area part pieces shard.old x
-        → Turns R.Rack A.Area part pieces x shard.new (λ hold y. CloseIs part group result hold × KeepsCommitted x.world y.world) }
-{
-    if shard.closing().is_some() {
-        return Ok(());
-    }
-    match close_group(shard, group) {
-        Ok(()) => Ok(()),
-        Err(CloseFault::Worn { .. }) => Err(SyncFault::Worn),
-        Err(CloseFault::Last) => Err(SyncFault::Last),
-        Err(CloseFault::NoMemory) => Err(SyncFault::NoMemory),
-    }
-}
-
-/// Seals a group in a shard where it isn't sealed already, and counts the blocks that are thin.
-fn seal_in<R: Rack, A: Area>(shard: &mut Shard<R, A>, group: u64) -> Result<u64, SyncFault>
-    requires valid { Valid R.Rack shard.old }
-    requires closing { shard.old.closing ≡ Some group }
-    requires settled { (key : Key) (h : Held) → held_in shard.old.entries key ≡ Some h → is_block h.stage ≡ true }
-    ensures valid { Valid R.Rack shard.new }
-    ensures table { KeepsTable shard.old shard.new }
-    ensures stays { KeepsShard R.faults shard.old shard.new }
-    ensures sealed { OnOk result ((shard.new.closing ≡ Some group) × (shard.new.sealed ≡ true)) }
-    ensures low { IfOk result (λ thin. thin ≤ NUMBERS) }
-    ensures later { sealing.AreasLater A.faults shard.old shard.new }
-    ensures cause { IsErrOf result SyncFault.Shelf → RecordsRose A.faults shard.old shard.new }
-    ensures not_last { IsErrOf result SyncFault.Last → ⊥ }
-    ensures seals { (part : Part) (pieces : Pieces) (x : Metaslab) → IsMetaslab R.Rack A.Area part pieces shard.old x
-        → Turns R.Rack A.Area part pieces x shard.new (λ hold y. SealIs part group result hold × KeepsCommitted x.world y.world) }
-{
-    if shard.sealed() {
-        return Ok(0);
-    }
-    match seal(shard, group) {
-        Ok(sealed) => Ok(sealed.thin),
-        Err(SealFault::NotYet { .. }) => unreachable!(),
-        Err(SealFault::Area) => Err(SyncFault::Shelf),
-        Err(SealFault::NoMemory) => Err(SyncFault::NoMemory),
-    }
-}
-
-/// Commits a group in each shard, where it is sealed.
-fn commit_all<R: Rack, A: Area>(shards: &mut Vec<Shard<R, A>>, group: u64)
-    requires valid { All (Valid R.Rack) shards.old.items }
-    requires sealed { AreSealed shards.old.items group }
-    ensures commits { CommitsBelow R.Rack group (length shards.old.items) shards.old.items shards.new.items }
-{
-    for metaslab in 0..shards.len() {
-        commit(&mut shards[metaslab], group);
-    }
-}
 
 impl<R: Rack, A: Area> Pool<R, A> {
     /// Commits the group that is open. One that is closing is finished first. A sync that was stopped may be made again.
@@ -112,17 +31,15 @@ impl<R: Rack, A: Area> Pool<R, A> {
         ensures asked { AllAskedStay self.old self.new }
         ensures versions { OnOk result (AllHaveAsked self.new) }
         ensures rises { OnOk result (group_in self.old < group_in self.new) }
+        ensures idle { OnOk result (AreIdle self.new.metaslabs.shards.items) }
         ensures cause { IsErrOf result SyncFault.Shelf → AreaRose A.faults self.old self.new }
         ensures carries { (x : State) → Represents R.Rack A.Area self.old x
             → CarriesOut R.Rack A.Area self.new x (SyncDoes x result) }
     {
-        if let Err(fault) = self.finish() {
-            return Err(fault);
-        }
-        let group = self.uber.committed() + 1;
-        match self.commit_group(group) {
-            Ok(thin) => Ok(Synced { group, thin }),
-            Err(fault) => Err(fault),
+        let count = self.geometry.props.metaslabs;
+        match sync_groups(&mut self.metaslabs, &mut self.uber, count) {
+            Some(result) => result,
+            None => unreachable!(),
         }
     }
 
@@ -168,132 +85,10 @@ impl<R: Rack, A: Area> Pool<R, A> {
         ensures carries { (x : State) → Represents R.Rack A.Area self.old x
             → CarriesOut R.Rack A.Area self.new x (Phase x (groups.Finishes x.geometry x.perms) (end_of result)) }
     {
-        match self.closing() {
-            Some(group) => match self.commit_group(group) {
-                Ok(_) => Ok(()),
-                Err(fault) => Err(fault),
-            },
-            None => Ok(()),
-        }
-    }
-
-    /// The group that is closing in a metaslab.
-    fn closing(&self) -> Option<u64>
-        ensures found { FoundClosing self.now.metaslabs.shards.items result }
-    {
-        for shard in &self.metaslabs.shards {
-            if let Some(group) = shard.closing() {
-                return Some(group);
-            }
-        }
-        None
-    }
-
-    /// Commits a group, the one behind the committed one, from where it stands in each metaslab.
-    fn commit_group(&mut self, group: u64) -> Result<u64, SyncFault>
-        requires whole { IsWhole R.Rack A.Area self.old }
-        requires next { group ≡ group_of (kept_of self.old.uber) + 1 }
-        ensures whole { IsWhole R.Rack A.Area self.new }
-        ensures objects { self.new.own.objects ≡ self.old.own.objects }
-        ensures later { AreasLater A.faults self.old self.new }
-        ensures stays { KeepsShards R.faults self.old self.new }
-        ensures cause { IsErrOf result SyncFault.Shelf → AreaRose A.faults self.old self.new }
-        ensures last { IsErrOf result SyncFault.Last → group ≡ LAST_NUMBER }
-        ensures idle { OnOk result (AreIdle self.new.metaslabs.shards.items) }
-        ensures versions { OnOk result (AllHaveAsked self.new) }
-        ensures named { OnOk result (group_in self.new ≡ group) }
-        ensures unnamed { OnErr result (group_in self.new ≡ group_in self.old) }
-        ensures carries { (x : State) → Represents R.Rack A.Area self.old x
-            → CarriesOut R.Rack A.Area self.new x (GroupDoes x group result) }
-    {
-        if let Err(fault) = self.close_all(group) {
-            return Err(fault);
-        }
-        let thin = match self.seal_all(group) {
-            Ok(thin) => thin,
-            Err(fault) => return Err(fault),
-        };
-        match self.commit_sealed(group) {
-            Ok(()) => Ok(thin),
-            Err(fault) => Err(fault),
-        }
-    }
-
-    /// Closes a group in each metaslab where it isn't closing already.
-    fn close_all(&mut self, group: u64) -> Result<(), SyncFault>
-        requires whole { IsWhole R.Rack A.Area self.old }
-        requires next { group ≡ group_of (kept_of self.old.uber) + 1 }
-        ensures whole { IsWhole R.Rack A.Area self.new }
-        ensures objects { self.new.own.objects ≡ self.old.own.objects }
-        ensures later { AreasLater A.faults self.old self.new }
-        ensures stays { KeepsShards R.faults self.old self.new }
-        ensures cause { IsErrOf result SyncFault.Shelf → AreaRose A.faults self.old self.new }
-        ensures last { IsErrOf result SyncFault.Last → group ≡ LAST_NUMBER }
-        ensures carries { (x : State) → Represents R.Rack A.Area self.old x
-            → CarriesOut R.Rack A.Area self.new x (Phase x (groups.ClosePhase x.geometry x.perms group) (end_of result)) }
-        ensures closing { OnOk result (AreClosing self.new.metaslabs.shards.items group) }
-        ensures uber { self.new.uber ≡ self.old.uber }
-    {
-        for metaslab in 0..self.metaslabs.shards.len() {
-            match close_in(&mut self.metaslabs.shards[metaslab], group) {
-                Ok(()) => {}
-                Err(fault) => return Err(fault),
-            }
-        }
-        Ok(())
-    }
-
-    /// Seals a group in each metaslab where it isn't sealed already, and counts the blocks that are thin.
-    fn seal_all(&mut self, group: u64) -> Result<u64, SyncFault>
-        requires whole { IsWhole R.Rack A.Area self.old }
-        requires closing { AreClosing self.old.metaslabs.shards.items group }
-        ensures whole { IsWhole R.Rack A.Area self.new }
-        ensures objects { self.new.own.objects ≡ self.old.own.objects }
-        ensures later { AreasLater A.faults self.old self.new }
-        ensures stays { KeepsShards R.faults self.old self.new }
-        ensures cause { IsErrOf result SyncFault.Shelf → AreaRose A.faults self.old self.new }
-        ensures not_last { IsErrOf result SyncFault.Last → ⊥ }
-        ensures carries { (x : State) → Represents R.Rack A.Area self.old x
-            → CarriesOut R.Rack A.Area self.new x (SealDoes x group result) }
-        ensures sealed { OnOk result (AreSealed self.new.metaslabs.shards.items group) }
-        ensures uber { self.new.uber ≡ self.old.uber }
-    {
-        let mut thin = 0;
-        for metaslab in 0..self.metaslabs.shards.len() {
-            match seal_in(&mut self.metaslabs.shards[metaslab], group) {
-                Ok(sealed) => thin += sealed,
-                Err(fault) => return Err(fault),
-            }
-        }
-        Ok(thin)
-    }
-
-    /// Has the uberblock name a group that is sealed in each metaslab, and commits it there.
-    fn commit_sealed(&mut self, group: u64) -> Result<(), SyncFault>
-        requires whole { IsWhole R.Rack A.Area self.old }
-        requires next { group ≡ group_of (kept_of self.old.uber) + 1 }
-        requires sealed { AreSealed self.old.metaslabs.shards.items group }
-        ensures whole { IsWhole R.Rack A.Area self.new }
-        ensures objects { self.new.own.objects ≡ self.old.own.objects }
-        ensures later { AreasLater A.faults self.old self.new }
-        ensures stays { KeepsShards R.faults self.old self.new }
-        ensures cause { IsErrOf result SyncFault.Shelf → AreaRose A.faults self.old self.new }
-        ensures not_last { IsErrOf result SyncFault.Last → ⊥ }
-        ensures idle { OnOk result (AreIdle self.new.metaslabs.shards.items) }
-        ensures versions { OnOk result (AllHaveAsked self.new) }
-        ensures named { OnOk result (group_in self.new ≡ group) }
-        ensures unnamed { OnErr result (group_in self.new ≡ group_in self.old) }
-        ensures carries { (x : State) → Represents R.Rack A.Area self.old x
-            → CarriesOut R.Rack A.Area self.new x (Phase x
-            (Chain (groups.Names x.geometry x.perms group) (groups.CommitPhase x.geometry x.perms group)) (end_of result)) }
-    {
-        match self.uber.commit(group) {
-            Ok(()) => {
-                commit_all(&mut self.metaslabs.shards, group);
-                Ok(())
-            }
-            Err(DeviceFault::Failed) => Err(SyncFault::Shelf),
-            Err(DeviceFault::NoMemory) => Err(SyncFault::NoMemory),
+        let count = self.geometry.props.metaslabs;
+        match finish_group(&mut self.metaslabs, &mut self.uber, count) {
+            Some(result) => result,
+            None => unreachable!(),
         }
     }
 
@@ -302,11 +97,6 @@ impl<R: Rack, A: Area> Pool<R, A> {
         ensures found { FoundUnsynced self.now.metaslabs.shards.items result }
         ensures unsynced { (x : State) → Represents R.Rack A.Area self.now x → IsTrue result ↔ HasUnsynced x }
     {
-        for shard in &self.metaslabs.shards {
-            if is_unsynced(shard.committed(), shard.events()) {
-                return true;
-            }
-        }
-        false
+        any_unsynced(&self.metaslabs.shards)
     }
 }

@@ -1,11 +1,25 @@
 ghost use Rattle.std.specs.Prelude.{◌≡◌};
+ghost use Rattle.std.specs.List.{list_any};
 ghost use Rattle.draid_session.specs.Groups as groups;
+ghost use Rattle.draid_shard.specs.States.{stored_in};
 
+use draid_area::Area;
 use draid_machine::Event;
+use draid_rack::Rack;
+use draid_shard::Shard;
+
+/// Whether one of the shards stores something that no sync has made safe.
+pub(crate) fn any_unsynced<R: Rack, A: Area>(shards: &[Shard<R, A>]) -> bool
+    ensures { result ≡ list_any (λ shard. groups.is_unsynced shard.committed (stored_in shard)) shards.now }
+{
+    shards
+        .iter()
+        .any(|shard| is_unsynced(shard.committed(), shard.events()))
+}
 
 /// Whether some events of a metaslab have something that no sync has made safe, where this group is committed: behind
 /// the group's closing an event other than its sealing and its commit, or any event where there is no commit.
-pub(crate) fn is_unsynced(committed: u64, events: &[Event]) -> bool
+fn is_unsynced(committed: u64, events: &[Event]) -> bool
     ensures { result ≡ groups.is_unsynced committed events.now }
 {
     let mut closed = false;
@@ -33,19 +47,12 @@ fn is_commit(event: &Event) -> bool
 fn is_close_of(committed: u64, event: &Event) -> bool
     ensures { result ≡ groups.is_close_of committed event.now }
 {
-    match event {
-        Event::Close { group } => *group == committed,
-        _ => false,
-    }
+    matches!(event, Event::Close { group } if *group == committed)
 }
 
 /// Whether an event is the sealing or the commit of this group.
 fn ends_group(committed: u64, event: &Event) -> bool
     ensures { result ≡ groups.ends_group committed event.now }
 {
-    match event {
-        Event::Seal { group, .. } => *group == committed,
-        Event::Commit { group } => *group == committed,
-        _ => false,
-    }
+    matches!(event, Event::Seal { group, .. } | Event::Commit { group } if *group == committed)
 }

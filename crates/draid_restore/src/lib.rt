@@ -4,11 +4,13 @@
 
 mod choosing;
 mod idle;
+mod laws;
 mod loans;
 mod parts;
 mod reading;
 mod rooms;
 mod solving;
 
+pub use laws::lent_blocks_are_readable;
 pub use loans::lend;
 pub use solving::solve;

@@ -2,7 +2,7 @@
 use Rattle.std.proofs.Common.{[], ◌≡◌, IfOk, ℕ, Bool, List, Option, Some, None, Result, Ok, Err, ap, refl, sym, subst, Vec, Global}
 use Rattle.draid_rack.specs.declared.Rack as racks
 use Rattle.draid_area.specs.declared.Area as areas
-use Rattle.draid_script.specs.Line.{Command, CreatePool, ReadObject, FreeObject, SumObjects, DamageSector, AttachSpare, ShowStatus, DetachArm, UpgradePool, command_in, RebuildPool, ScrubPool, ReplaceDisk, CancelPasses}
+use Rattle.draid_script.specs.Line.{Command, CreatePool, ReadObject, FreeObject, SumObjects, DamageSector, AttachSpare, ShowStatus, DetachArm, UpgradePool, command_in, RebuildPool, ScrubPool, RebalanceSlot, ReplaceDisk, CancelPasses}
 use Rattle.draid_script.specs.declared.line.Line.{Line}
 use Rattle.draid_script.specs.declared.line.Line.TheVariants as variant
 use Rattle.draid_script.specs.declared.line.PoolKeys.{PoolKeys}
@@ -25,12 +25,13 @@ use Rattle.draid_changes.specs.UpgradeSays.{UpgradeSays}
 use Rattle.draid_store.specs.Says.{DamageSays, FreeSays, ReadSays, SumSays}
 use Rattle.draid_status.specs.Says.{StatusSays}
 use Rattle.draid_visits.specs.Says.{CancelSays, RebuildSays, ScrubSays}
+use Rattle.draid_run.specs.Rebalancing.{RebalanceSays}
 use Rattle.draid_run.specs.Script.{IsUnbuilt}
 use Rattle.draid_run.specs.Serve.{AnswerIs, AskIs, IsSaid}
 use Rattle.draid_run.specs.Shelves.{MayFind, OnShelf}
 use Rattle.draid_run.specs.declared.answer.Stop.{Stop}
 use Rattle.draid_run.specs.declared.answer.Stop.TheVariants as stop
-use Rattle.draid_run.proofs.Said.{cancel_does, rebuild_does, scrub_does, damage_does, detach_does, free_does, read_does, spare_does, status_does, sum_does, switch_does, switch_line, upgrade_does, replace_does}
+use Rattle.draid_run.proofs.Said.{cancel_does, rebalance_does, rebuild_does, scrub_does, damage_does, detach_does, free_does, read_does, spare_does, status_does, sum_does, switch_does, switch_line, upgrade_does, replace_does}
 use Rattle.draid_run.proofs.Steps.{ask_breaks, by_ask, by_create}
 
 module _ {R A : Type 0} (rack : racks.Ghosts R) (area : areas.Ghosts A) (choices : Choices) (entry now : OnShelf) (pool : Option (Pool R A)) (x : Desk) (is : IsDesk rack area entry now pool x) (command : Command)
@@ -87,36 +88,37 @@ pub asks_nothing : (line : Line) → ((object : ℕ) (bytes : Vec ℕ Global) �
     → ((limit : Option ℕ) → line ≡ variant.Rebuild limit → ⊥)
     → ((limit : Option ℕ) → line ≡ variant.Scrub limit → ⊥)
     → (line ≡ variant.Cancel → ⊥)
+    → ((slot : ℕ) → line ≡ variant.Rebalance slot → ⊥)
     → asked_in (command_in line) ≡ None
-asks_nothing variant.Nothing write fill read free sum offline online damage spare replace status detach upgrade rebuild scrub cancel = refl
-asks_nothing (variant.Create spec children keys) write fill read free sum offline online damage spare replace status detach upgrade rebuild scrub cancel = refl
-asks_nothing variant.Import write fill read free sum offline online damage spare replace status detach upgrade rebuild scrub cancel = refl
-asks_nothing variant.Export write fill read free sum offline online damage spare replace status detach upgrade rebuild scrub cancel = refl
-asks_nothing variant.Sync write fill read free sum offline online damage spare replace status detach upgrade rebuild scrub cancel = refl
-asks_nothing variant.Cancel write fill read free sum offline online damage spare replace status detach upgrade rebuild scrub cancel = absurd (cancel refl)
-asks_nothing variant.Crash write fill read free sum offline online damage spare replace status detach upgrade rebuild scrub cancel = refl
-asks_nothing (variant.Write object bytes) write fill read free sum offline online damage spare replace status detach upgrade rebuild scrub cancel = absurd (write object bytes refl)
-asks_nothing (variant.Fill first count len seed) write fill read free sum offline online damage spare replace status detach upgrade rebuild scrub cancel = absurd (fill first count len seed refl)
-asks_nothing (variant.Read object) write fill read free sum offline online damage spare replace status detach upgrade rebuild scrub cancel = absurd (read object refl)
-asks_nothing (variant.Free object) write fill read free sum offline online damage spare replace status detach upgrade rebuild scrub cancel = absurd (free object refl)
-asks_nothing (variant.Sum first count) write fill read free sum offline online damage spare replace status detach upgrade rebuild scrub cancel = absurd (sum first count refl)
-asks_nothing (variant.Offline leaf) write fill read free sum offline online damage spare replace status detach upgrade rebuild scrub cancel = absurd (offline leaf refl)
-asks_nothing (variant.Online leaf) write fill read free sum offline online damage spare replace status detach upgrade rebuild scrub cancel = absurd (online leaf refl)
-asks_nothing (variant.Damage leaf sector) write fill read free sum offline online damage spare replace status detach upgrade rebuild scrub cancel = absurd (damage leaf sector refl)
-asks_nothing (variant.Spare slot number) write fill read free sum offline online damage spare replace status detach upgrade rebuild scrub cancel = absurd (spare slot number refl)
-asks_nothing (variant.Replace slot sectors) write fill read free sum offline online damage spare replace status detach upgrade rebuild scrub cancel = absurd (replace slot sectors refl)
-asks_nothing (variant.Detach arm) write fill read free sum offline online damage spare replace status detach upgrade rebuild scrub cancel = absurd (detach arm refl)
-asks_nothing (variant.Rebuild limit) write fill read free sum offline online damage spare replace status detach upgrade rebuild scrub cancel = absurd (rebuild limit refl)
-asks_nothing (variant.Scrub limit) write fill read free sum offline online damage spare replace status detach upgrade rebuild scrub cancel = absurd (scrub limit refl)
-asks_nothing (variant.Rebalance slot) write fill read free sum offline online damage spare replace status detach upgrade rebuild scrub cancel = refl
-asks_nothing (variant.Status form) write fill read free sum offline online damage spare replace status detach upgrade rebuild scrub cancel = absurd (status form refl)
-asks_nothing (variant.Lanes count) write fill read free sum offline online damage spare replace status detach upgrade rebuild scrub cancel = refl
-asks_nothing variant.Upgrade write fill read free sum offline online damage spare replace status detach upgrade rebuild scrub cancel = absurd (upgrade refl)
-asks_nothing (variant.Agent least) write fill read free sum offline online damage spare replace status detach upgrade rebuild scrub cancel = refl
-asks_nothing variant.AgentLog write fill read free sum offline online damage spare replace status detach upgrade rebuild scrub cancel = refl
-asks_nothing variant.Checkpoint write fill read free sum offline online damage spare replace status detach upgrade rebuild scrub cancel = refl
-asks_nothing variant.Rewind write fill read free sum offline online damage spare replace status detach upgrade rebuild scrub cancel = refl
-asks_nothing variant.Discard write fill read free sum offline online damage spare replace status detach upgrade rebuild scrub cancel = refl
+asks_nothing variant.Nothing write fill read free sum offline online damage spare replace status detach upgrade rebuild scrub cancel rebalance = refl
+asks_nothing (variant.Create spec children keys) write fill read free sum offline online damage spare replace status detach upgrade rebuild scrub cancel rebalance = refl
+asks_nothing variant.Import write fill read free sum offline online damage spare replace status detach upgrade rebuild scrub cancel rebalance = refl
+asks_nothing variant.Export write fill read free sum offline online damage spare replace status detach upgrade rebuild scrub cancel rebalance = refl
+asks_nothing variant.Sync write fill read free sum offline online damage spare replace status detach upgrade rebuild scrub cancel rebalance = refl
+asks_nothing variant.Cancel write fill read free sum offline online damage spare replace status detach upgrade rebuild scrub cancel rebalance = absurd (cancel refl)
+asks_nothing variant.Crash write fill read free sum offline online damage spare replace status detach upgrade rebuild scrub cancel rebalance = refl
+asks_nothing (variant.Write object bytes) write fill read free sum offline online damage spare replace status detach upgrade rebuild scrub cancel rebalance = absurd (write object bytes refl)
+asks_nothing (variant.Fill first count len seed) write fill read free sum offline online damage spare replace status detach upgrade rebuild scrub cancel rebalance = absurd (fill first count len seed refl)
+asks_nothing (variant.Read object) write fill read free sum offline online damage spare replace status detach upgrade rebuild scrub cancel rebalance = absurd (read object refl)
+asks_nothing (variant.Free object) write fill read free sum offline online damage spare replace status detach upgrade rebuild scrub cancel rebalance = absurd (free object refl)
+asks_nothing (variant.Sum first count) write fill read free sum offline online damage spare replace status detach upgrade rebuild scrub cancel rebalance = absurd (sum first count refl)
+asks_nothing (variant.Offline leaf) write fill read free sum offline online damage spare replace status detach upgrade rebuild scrub cancel rebalance = absurd (offline leaf refl)
+asks_nothing (variant.Online leaf) write fill read free sum offline online damage spare replace status detach upgrade rebuild scrub cancel rebalance = absurd (online leaf refl)
+asks_nothing (variant.Damage leaf sector) write fill read free sum offline online damage spare replace status detach upgrade rebuild scrub cancel rebalance = absurd (damage leaf sector refl)
+asks_nothing (variant.Spare slot number) write fill read free sum offline online damage spare replace status detach upgrade rebuild scrub cancel rebalance = absurd (spare slot number refl)
+asks_nothing (variant.Replace slot sectors) write fill read free sum offline online damage spare replace status detach upgrade rebuild scrub cancel rebalance = absurd (replace slot sectors refl)
+asks_nothing (variant.Detach arm) write fill read free sum offline online damage spare replace status detach upgrade rebuild scrub cancel rebalance = absurd (detach arm refl)
+asks_nothing (variant.Rebuild limit) write fill read free sum offline online damage spare replace status detach upgrade rebuild scrub cancel rebalance = absurd (rebuild limit refl)
+asks_nothing (variant.Scrub limit) write fill read free sum offline online damage spare replace status detach upgrade rebuild scrub cancel rebalance = absurd (scrub limit refl)
+asks_nothing (variant.Rebalance slot) write fill read free sum offline online damage spare replace status detach upgrade rebuild scrub cancel rebalance = absurd (rebalance slot refl)
+asks_nothing (variant.Status form) write fill read free sum offline online damage spare replace status detach upgrade rebuild scrub cancel rebalance = absurd (status form refl)
+asks_nothing (variant.Lanes count) write fill read free sum offline online damage spare replace status detach upgrade rebuild scrub cancel rebalance = refl
+asks_nothing variant.Upgrade write fill read free sum offline online damage spare replace status detach upgrade rebuild scrub cancel rebalance = absurd (upgrade refl)
+asks_nothing (variant.Agent least) write fill read free sum offline online damage spare replace status detach upgrade rebuild scrub cancel rebalance = refl
+asks_nothing variant.AgentLog write fill read free sum offline online damage spare replace status detach upgrade rebuild scrub cancel rebalance = refl
+asks_nothing variant.Checkpoint write fill read free sum offline online damage spare replace status detach upgrade rebuild scrub cancel rebalance = refl
+asks_nothing variant.Rewind write fill read free sum offline online damage spare replace status detach upgrade rebuild scrub cancel rebalance = refl
+asks_nothing variant.Discard write fill read free sum offline online damage spare replace status detach upgrade rebuild scrub cancel rebalance = refl
 
 -- and nothing of the shelf: its command is beyond what is built
 pub is_unbuilt : (line : Line) → (line ≡ variant.Nothing → ⊥)
@@ -146,7 +148,7 @@ is_unbuilt (variant.Replace slot sectors) nothing create opens export sync crash
 is_unbuilt (variant.Detach arm) nothing create opens export sync crash none = absurd (cc none)
 is_unbuilt (variant.Rebuild limit) nothing create opens export sync crash none = absurd (cc none)
 is_unbuilt (variant.Scrub limit) nothing create opens export sync crash none = absurd (cc none)
-is_unbuilt (variant.Rebalance slot) nothing create opens export sync crash none = tt
+is_unbuilt (variant.Rebalance slot) nothing create opens export sync crash none = absurd (cc none)
 is_unbuilt (variant.Status form) nothing create opens export sync crash none = absurd (cc none)
 is_unbuilt (variant.Lanes count) nothing create opens export sync crash none = tt
 is_unbuilt variant.Upgrade nothing create opens export sync crash none = absurd (cc none)
@@ -187,6 +189,10 @@ module _ {R A : Type 0} (rack : racks.Ghosts R) (area : areas.Ghosts A) (choices
   pub replied_rebuild : (limit : Option ℕ) (said : Result Reply Failed) → line ≡ variant.Rebuild limit → CarriesOut rack area pool x (RebuildSays limit said x)
       → CarriesOut rack area pool x (AnswerDoes x choices (command_in line) said)
   replied_rebuild limit said is c = carried (RebuildPool limit) (RebuildSays limit said x) said (ap command_in is) (λ holds store. rebuild_does x choices said holds store limit) c
+
+  pub replied_rebalance : (slot : ℕ) (said : Result Reply Failed) → line ≡ variant.Rebalance slot → CarriesOut rack area pool x (RebalanceSays slot said x)
+      → CarriesOut rack area pool x (AnswerDoes x choices (command_in line) said)
+  replied_rebalance slot said is c = carried (RebalanceSlot slot) (RebalanceSays slot said x) said (ap command_in is) (λ holds store. rebalance_does x choices said holds store slot) c
 
   pub replied_upgrade : (said : Result Reply Failed) → line ≡ variant.Upgrade → CarriesOut rack area pool x (UpgradeSays said x) → CarriesOut rack area pool x (AnswerDoes x choices (command_in line) said)
   replied_upgrade said is c = carried UpgradePool (UpgradeSays said x) said (ap command_in is) (λ holds store. upgrade_does x choices said holds store) c

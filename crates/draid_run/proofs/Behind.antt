@@ -1,7 +1,7 @@
 -- Which replies leave the pool open.
 use Rattle.std.proofs.Common.{◌≡◌, refl, Some}
 use Rattle.std.specs.Prelude.{⊤}
-use Rattle.draid_script.specs.Line.{Command, SyncPool, WriteObject, FillObjects, ReadObject, FreeObject, SumObjects, TakeOffline, TakeOnline, DamageSector, AttachSpare, ShowStatus, DetachArm, UpgradePool, RebuildPool, ScrubPool, ReplaceDisk, CancelPasses}
+use Rattle.draid_script.specs.Line.{Command, SyncPool, WriteObject, FillObjects, ReadObject, FreeObject, SumObjects, TakeOffline, TakeOnline, DamageSector, AttachSpare, ShowStatus, DetachArm, UpgradePool, RebuildPool, ScrubPool, RebalanceSlot, ReplaceDisk, CancelPasses}
 use Rattle.draid_script.specs.declared.name.CommandName.{CommandName}
 use Rattle.draid_reply.specs.declared.reply.Reply.{Reply}
 use Rattle.draid_reply.specs.declared.reply.Reply.TheVariants.{Crashed, Exported}
@@ -75,6 +75,9 @@ asked_keeps (RebuildPool limit) called reply asked is = tt
 asked_keeps (ScrubPool limit) called (Exported group) asked is = absurd is
 asked_keeps (ScrubPool limit) called Crashed asked is = absurd is
 asked_keeps (ScrubPool limit) called reply asked is = tt
+asked_keeps (RebalanceSlot slot) called (Exported group) asked is = absurd is
+asked_keeps (RebalanceSlot slot) called Crashed asked is = absurd is
+asked_keeps (RebalanceSlot slot) called reply asked is = tt
 asked_keeps CancelPasses called (Exported group) asked is = absurd is
 asked_keeps CancelPasses called Crashed asked is = absurd is
 asked_keeps CancelPasses called reply asked is = tt

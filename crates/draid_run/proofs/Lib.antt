@@ -1,4 +1,5 @@
 pub mod Asking
+pub mod Balanced
 pub mod Behind
 pub mod Booked
 pub mod Broke

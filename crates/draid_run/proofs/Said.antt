@@ -5,12 +5,12 @@ use Rattle.std.specs.declared.alloc.Global.{Global}
 use Rattle.draid_names.specs.declared.fault.NoMemory.{NoMemory as Starved}
 use Rattle.draid_names.specs.declared.refusal.ObjectFault.{ObjectFault}
 use Rattle.draid_names.specs.declared.refusal.ObjectFault.TheVariants as object
-use Rattle.draid_script.specs.Line.{AttachSpare, Command, DamageSector, FreeObject, ReadObject, ShowStatus, SumObjects, TakeOffline, TakeOnline, DetachArm, UpgradePool, RebuildPool, ScrubPool, ReplaceDisk, CancelPasses}
+use Rattle.draid_script.specs.Line.{AttachSpare, Command, DamageSector, FreeObject, ReadObject, ShowStatus, SumObjects, TakeOffline, TakeOnline, DetachArm, UpgradePool, RebuildPool, ScrubPool, RebalanceSlot, ReplaceDisk, CancelPasses}
 use Rattle.draid_script.specs.declared.name.CommandName.{CommandName}
 use Rattle.draid_script.specs.declared.name.CommandName.TheVariants as name
 use Rattle.draid_script.specs.declared.line.StatusFormat.{StatusFormat}
 use Rattle.draid_reply.specs.declared.reply.Reply.{Reply}
-use Rattle.draid_reply.specs.declared.reply.Reply.TheVariants.{DetachLast, DetachRefused, DetachWorn, Detached, Last, NoMemory, OfflineDone, OfflineRefused, OfflineWorn, OnlineDone, OnlineRefused, OnlineWorn, SpareRefused, SpareWorn, UpgradeAlready, Upgraded, Worn, Replaced, ReplaceRefused, ReplaceWorn, PassThere, Rebuilt, RebuildNothing, Scrubbed}
+use Rattle.draid_reply.specs.declared.reply.Reply.TheVariants.{DetachLast, DetachRefused, DetachWorn, Detached, Last, NoMemory, OfflineDone, OfflineRefused, OfflineWorn, OnlineDone, OnlineRefused, OnlineWorn, SpareRefused, SpareWorn, UpgradeAlready, Upgraded, Worn, Replaced, ReplaceRefused, ReplaceWorn, PassThere, Rebalanced, RebalanceLast, RebalanceRefused, RebalanceWorn, Rebuilt, RebuildNothing, Scrubbed}
 use Rattle.draid_session.specs.Choices.{Choices}
 use Rattle.draid_session.specs.Holds.{Hold}
 use Rattle.draid_session.specs.State.{State, Store}
@@ -34,6 +34,10 @@ use Rattle.draid_pool.specs.declared.fault.SyncFault.TheVariants as sync
 use Rattle.draid_changes.specs.declared.fault.ArmFault.{ArmFault}
 use Rattle.draid_changes.specs.declared.fault.ArmFault.TheVariants as arm
 use Rattle.draid_run.specs.Desks.{AnswerDoes, BreaksBy}
+use Rattle.draid_run.specs.Rebalancing.{IsRebalanceReply, RebalanceDoes, RebalanceSays}
+use Rattle.draid_run.specs.declared.rebalancing.RebalanceFault.{RebalanceFault}
+use Rattle.draid_run.specs.declared.rebalancing.RebalanceFault.TheVariants as balancing
+use Rattle.draid_run.specs.declared.rebalancing.Rebalanced.{Rebalanced as Balanced}
 use Rattle.draid_visits.specs.Rebuilding.{RebuildDoes, ScrubDoes}
 use Rattle.draid_visits.specs.Says.{CancelSays, IsRebuildReply, IsScrubReply, RebuildSays, ScrubSays}
 use Rattle.draid_visits.specs.declared.rebuilding.MendFault.{MendFault}
@@ -128,6 +132,26 @@ module _ (x : State) (choices : Choices) (said : Result Reply Failed) (holds : L
       by (Err mending.NoMemory) is does = replied (NoMemory name.Rebuild) is does
       by (Err mending.Shelf) is does = broke said is does
 
+  pub rebalance_does : (child : ℕ) → RebalanceSays child said x holds store → AnswerDoes x choices (RebalanceSlot child) said holds store
+  rebalance_does child says = by says.0 says.1 says.2
+    where
+      replied : (reply : Reply) → said ≡ Ok reply → ReplyDoes x choices (RebalanceSlot child) reply holds store → AnswerDoes x choices (RebalanceSlot child) said holds store
+      replied reply is does = subst (λ s. AnswerDoes x choices (RebalanceSlot child) s holds store) (sym is) does
+
+      broke : (given : Result Reply Failed) → IsRebalanceReply child (Err (balancing.Stopped sync.Shelf)) given → RebalanceDoes x child (Err (balancing.Stopped sync.Shelf)) holds store
+          → AnswerDoes x choices (RebalanceSlot child) given holds store
+      broke (Ok reply) is does = absurd is
+      broke (Err failed) is does = does
+
+      by : (answer : Result Balanced RebalanceFault) → IsRebalanceReply child answer said → RebalanceDoes x child answer holds store → AnswerDoes x choices (RebalanceSlot child) said holds store
+      by (Ok it) is does = replied (Rebalanced child it.blocks it.repaired it.errors it.group) is (refl, does.0, does.1)
+      by (Err balancing.NoSuch) is does = replied (RebalanceRefused child slot.NoSuch) is (refl, does.0, does.1, does.2)
+      by (Err (balancing.PassRunning metaslab number)) is does = replied (RebalanceRefused child (slot.PassRunning metaslab number)) is (refl, does.0, does.1)
+      by (Err (balancing.Stopped sync.Worn)) is does = replied (RebalanceWorn child) is (refl, does.0, does.1)
+      by (Err (balancing.Stopped sync.Last)) is does = replied (RebalanceLast child) is (refl, does.0, does.1)
+      by (Err (balancing.Stopped sync.NoMemory)) is does = replied (NoMemory name.Rebalance) is (does.0, inl does.1)
+      by (Err (balancing.Stopped sync.Shelf)) is does = broke said is does
+
   pub upgrade_does : UpgradeSays said x holds store → AnswerDoes x choices UpgradePool said holds store
   upgrade_does says = by says.0 says.1 says.2
     where
@@ -202,7 +226,7 @@ module _ (x : State) (choices : Choices) (reply : Reply) (holds : List Hold) (st
       by (Err (mending.PassThere metaslab number)) is does = replied (PassThere name.Scrub metaslab number) is does
       by (Err mending.Worn) is does = replied (Worn name.Scrub) is does
       by (Err mending.Last) is does = replied (Last name.Scrub) is does
-      by (Err mending.NoMemory) is does = replied (NoMemory name.Scrub) is does
+      by (Err mending.NoMemory) is does = replied (NoMemory name.Scrub) is (does.0, inl does.1)
       by (Err mending.Shelf) is does = absurd is
 
   pub damage_does : (leaf sector : ℕ) → DamageSays leaf sector reply x holds store → ReplyDoes x choices (DamageSector leaf sector) reply holds store

@@ -130,6 +130,7 @@ module _ (choices : Choices) (finds : Finding → Type 0) where
   shut_says UpgradePool called is x = (called, is, refl, refl)
   shut_says (RebuildPool limit) called is x = (called, is, refl, refl)
   shut_says (ScrubPool limit) called is x = (called, is, refl, refl)
+  shut_says (RebalanceSlot slot) called is x = (called, is, refl, refl)
   shut_says CancelPasses called is x = (called, is, refl, refl)
   shut_says command called is x = absurd (cc is)
 
@@ -224,7 +225,8 @@ module _ {R A : Type 0} (rack : racks.Ghosts R) (area : areas.Ghosts A) (choices
       (refl, by_desk choices (MayFind rack area entry) rack area (RebuildPool limit) (NoPool called) x stands (shut_says choices (MayFind rack area entry) (RebuildPool limit) called is x)))
   by_ask (ScrubPool limit) called is = turned_by (ScrubPool limit) called is (λ y z c same. (refl, (z, c, same))) (λ old new fits learns same. (refl, (fits, new, learns, same))) (λ x stands.
       (refl, by_desk choices (MayFind rack area entry) rack area (ScrubPool limit) (NoPool called) x stands (shut_says choices (MayFind rack area entry) (ScrubPool limit) called is x)))
-  by_ask (RebalanceSlot slot) called is = absurd (cc is)
+  by_ask (RebalanceSlot slot) called is = turned_by (RebalanceSlot slot) called is (λ y z c same. (refl, (z, c, same))) (λ old new fits learns same. (refl, (fits, new, learns, same))) (λ x stands.
+      (refl, by_desk choices (MayFind rack area entry) rack area (RebalanceSlot slot) (NoPool called) x stands (shut_says choices (MayFind rack area entry) (RebalanceSlot slot) called is x)))
   by_ask (OpenLanes count) called is = absurd (cc is)
   by_ask UpgradePool called is = turned_by UpgradePool called is (λ y z c same. (refl, (z, c, same))) (λ old new fits learns same. (refl, (fits, new, learns, same))) (λ x stands.
       (refl, by_desk choices (MayFind rack area entry) rack area UpgradePool (NoPool called) x stands (shut_says choices (MayFind rack area entry) UpgradePool called is x)))

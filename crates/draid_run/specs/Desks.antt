@@ -3,7 +3,7 @@ use Rattle.std.specs.Prelude.{◌≡◌, ◌⊎◌, ⊤, List, Option, Some, Non
 use Rattle.draid_names.specs.declared.fault.Failed.{Failed}
 use Rattle.draid_rack.specs.declared.Rack as racks
 use Rattle.draid_area.specs.declared.Area as areas
-use Rattle.draid_script.specs.Line.{Command, WriteObject, ReadObject, FillObjects, FreeObject, SumObjects, TakeOffline, TakeOnline, DamageSector, AttachSpare, ShowStatus, DetachArm, UpgradePool, RebuildPool, ScrubPool, ReplaceDisk, CancelPasses}
+use Rattle.draid_script.specs.Line.{Command, WriteObject, ReadObject, FillObjects, FreeObject, SumObjects, TakeOffline, TakeOnline, DamageSector, AttachSpare, ShowStatus, DetachArm, UpgradePool, RebuildPool, ScrubPool, RebalanceSlot, ReplaceDisk, CancelPasses}
 use Rattle.draid_script.specs.declared.fault.LineFault.{LineFault}
 use Rattle.draid_script.specs.declared.name.CommandName.{CommandName}
 use Rattle.draid_script.specs.declared.name.CommandName.TheVariants as name
@@ -94,6 +94,7 @@ asked_in (DetachArm arm) = Some name.Detach
 asked_in UpgradePool = Some name.Upgrade
 asked_in (RebuildPool limit) = Some name.Rebuild
 asked_in (ScrubPool limit) = Some name.Scrub
+asked_in (RebalanceSlot slot) = Some name.Rebalance
 asked_in CancelPasses = Some name.Cancel
 asked_in command = None
 

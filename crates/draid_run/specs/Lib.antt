@@ -5,6 +5,7 @@ pub mod Groups
 pub mod Importing
 pub mod Making
 pub mod Next
+pub mod Rebalancing
 pub mod Script
 pub mod Serve
 pub mod Shelves

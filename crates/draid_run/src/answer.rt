@@ -158,6 +158,7 @@ fn asked(line: &Line) -> Option<CommandName>
         Line::Online { .. } => Some(CommandName::Online),
         Line::Rebuild { .. } => Some(CommandName::Rebuild),
         Line::Scrub { .. } => Some(CommandName::Scrub),
+        Line::Rebalance { .. } => Some(CommandName::Rebalance),
         Line::Cancel => Some(CommandName::Cancel),
         Line::Damage { .. } => Some(CommandName::Damage),
         Line::Spare { .. } => Some(CommandName::Spare),

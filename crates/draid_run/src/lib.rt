@@ -8,6 +8,7 @@ mod groups;
 mod importing;
 mod kept;
 mod laws;
+mod rebalancing;
 mod replies;
 mod serve;
 mod status;

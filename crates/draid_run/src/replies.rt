@@ -21,6 +21,7 @@ ghost use Rattle.draid_changes.specs.Behind.{ArmsBehind};
 ghost use Rattle.draid_visits.specs.Behind.{PassesBehind};
 ghost use Rattle.draid_changes.specs.Says.{ReplaceSays, SpareSays, SwitchSays};
 
+use crate::rebalancing::reply_to_rebalance;
 use draid_area::Area;
 use draid_changes::{
     reply_to_detach, reply_to_offline, reply_to_online, reply_to_replace, reply_to_spare,
@@ -76,6 +77,7 @@ pub(crate) fn reply<R: Rack, A: Area, F: Fn(&[Room]) -> Option<u32>>(
         Line::Online { leaf } => reply_to_online(pool, *leaf),
         Line::Rebuild { limit } => reply_to_rebuild(pool, *limit),
         Line::Scrub { limit } => Ok(reply_to_scrub(pool, *limit)),
+        Line::Rebalance { slot } => reply_to_rebalance(pool, *slot),
         Line::Cancel => Ok(reply_to_cancel(pool)),
         Line::Damage { leaf, sector } => Ok(reply_to_damage(pool, *leaf, *sector)),
         Line::Replace { slot, sectors } => reply_to_replace(pool, *slot, *sectors),

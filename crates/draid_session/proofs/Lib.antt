@@ -9,6 +9,7 @@ pub mod Changing
 pub mod Failed
 pub mod Following
 pub mod Grouping
+pub mod Healthy
 pub mod Lists
 pub mod Looked
 pub mod NoPool

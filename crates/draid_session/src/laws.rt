@@ -7,7 +7,7 @@ ghost use Rattle.draid_perm.specs.declared.perms.Perms.{Perms};
 ghost use Rattle.draid_machine.specs.State as machine;
 ghost use Rattle.draid_objects.specs.Changes.{Write, write_of};
 ghost use Rattle.draid_reply.specs.declared.reply.Reply.{Reply};
-ghost use Rattle.draid_script.specs.Line.{Command, CrashPool, FreeObject, ImportPool, ReadObject, RebuildPool, SyncPool, WriteObject};
+ghost use Rattle.draid_script.specs.Line.{Command, CrashPool, FreeObject, ImportPool, ReadObject, RebuildPool, ScrubPool, SyncPool, WriteObject};
 ghost use Rattle.draid_session.specs.Book.{Answers, AnswersAll, Book, BreaksBook, HasHad, blank, closed};
 ghost use Rattle.draid_session.specs.Certain.{AllAnswer, EndsFailed, FailsNoPut, HasPlace, MaySync, ReadsLast, StaysReadable, SyncsNext, WritesOnce};
 ghost use Rattle.draid_session.specs.Choices.{choices_by};
@@ -25,7 +25,7 @@ ghost use Rattle.draid_session.specs.Rooms.{FitsNowhere, stripes_for};
 ghost use Rattle.draid_session.specs.Said.{Said};
 ghost use Rattle.draid_session.specs.Session.{Agrees, Bare, Breaks, BreaksOpen, CarriesOut, Cause, Desk, IsAnything, Made, RecordFails, Runs, left_of};
 ghost use Rattle.draid_session.specs.State.{Metaslab, State};
-ghost use Rattle.draid_session.specs.Undisturbed.{HaveNoErrors, IsUndisturbed, WentWell};
+ghost use Rattle.draid_session.specs.Undisturbed.{HaveNoErrors, IsCalmInScrub, IsUndisturbed, WentWell};
 ghost use Rattle.draid_session.specs.Writes.{HasNoSpace};
 
 use draid_names::Room;
@@ -134,6 +134,18 @@ pub fn undisturbed_rebuilds_are_whole<F: Fn(&[Room]) -> Option<u32>>(chooser: &F
     ensures targets { (limit : Option ℕ) (reply : Reply) (old new : State)
         → (it : CarriesOut (choices_by (FnReturnsAt F.Fn chooser.now)) (RebuildPool limit) reply old new)
         → HaveNoErrors old → AllOf (IsUndisturbed old.geometry old.perms) it.holds → AllOf WentWell it.holds }
+{}
+
+/// Law: a scrub counts no error, loses no target and makes each good, where no call fails, each leaf on which a target
+/// lies answers, no pass had an error when it came, and where by the harm that was told each block that it lends has at most
+/// as many bad columns as there are parity columns.
+pub fn undisturbed_scrubs_are_whole<F: Fn(&[Room]) -> Option<u32>>(chooser: &F)
+    ensures errors { (limit : Option ℕ) (from blocks repaired errors : ℕ) (paused : Bool) (old new : State)
+        → (it : CarriesOut (choices_by (FnReturnsAt F.Fn chooser.now)) (ScrubPool limit) (Reply.Scrubbed from blocks repaired errors paused) old new)
+        → HaveNoErrors old → AllOf (IsCalmInScrub old.geometry old.perms) it.holds → errors ≡ 0 }
+    ensures targets { (limit : Option ℕ) (reply : Reply) (old new : State)
+        → (it : CarriesOut (choices_by (FnReturnsAt F.Fn chooser.now)) (ScrubPool limit) reply old new)
+        → HaveNoErrors old → AllOf (IsCalmInScrub old.geometry old.perms) it.holds → AllOf WentWell it.holds }
 {}
 
 /// Law: in a session a group leaves the log of an arm only once each segment of a block that was born in it is present

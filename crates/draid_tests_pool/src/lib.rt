@@ -11,6 +11,8 @@ mod import;
 #[cfg(test)]
 mod log;
 #[cfg(test)]
+mod rebalances;
+#[cfg(test)]
 mod rebuilds;
 #[cfg(test)]
 mod report;

@@ -14,7 +14,7 @@ static SCRUBBED: &str =
 static LATER: &str = "import\nsum 1 6\nscrub\nscrub\nsum 1 6\noffline 3\noffline 4\nsum 1 6\n";
 
 /// The sum of what was written.
-static SUM: &str = "sum 1 6 60cfd07acc1649250908be42f3d90f124a28800914b008675011f5bb48eb19e5";
+pub static SUM: &str = "sum 1 6 60cfd07acc1649250908be42f3d90f124a28800914b008675011f5bb48eb19e5";
 
 /// So many calls of the devices the session makes.
 const STOPS: u64 = 160;

@@ -48,6 +48,7 @@ use Rattle.draid_shard.specs.Scrubs.{IsBlockHere, IsLentHere, IsRunningScrub}
 use Rattle.draid_restore.specs.Loans.{LendsBlock, counted}
 use Rattle.draid_restore.specs.Restoring.{AnswersBlock, HasColumnsOf, RestoresLent, RestoresLoan, fetched_of}
 use Rattle.draid_session.specs.Holds.{Did, On, view_of}
+use Rattle.draid_session.specs.Passes as passes
 use Rattle.draid_session.specs.State.{Metaslab}
 use Rattle.draid_pool.specs.Metaslabs.{IsMetaslab}
 use Rattle.draid_pool.specs.Shards.{Goes, SameBlocks}
@@ -55,8 +56,9 @@ use Rattle.draid_pool.proofs.Dids as dids
 use Rattle.draid_pool.proofs.Dids.{none_here}
 use Rattle.draid_pool.proofs.Imaged.{keeps_then}
 use Rattle.draid_visits.specs.Pieces.{GoesTo, HasBytes, SameContents}
-use Rattle.draid_visits.specs.Steps.{MovesOn, NextIs}
+use Rattle.draid_visits.specs.Steps.{HasContents, MovesOn, NextIs}
 use Rattle.draid_visits.specs.declared.steps.Next.TheVariants as next
+use Rattle.draid_visits.proofs.Beyond.{beyond, no_block}
 use Rattle.draid_visits.proofs.Landed.{Lands, landed_to}
 use Rattle.draid_visits.proofs.Over.{told_worn}
 use Rattle.draid_visits.proofs.Started.{fits}
@@ -257,7 +259,7 @@ module _ {R A : Type 0} (rack : racks.Ghosts R) (area : areas.Ghosts A) (old len
     is = mid;
   }
 
-  module _ (new : Shard R A) (solves : RestoresLoan lent.geometry lent.kept solved.kept) (told repaired : ℕ) (least : repaired ≡ min told (2 ^ 8)) (new_valid : Valid rack new) (new_areas : SameAreas solved new) (landed : lands.LandsUnit rack solved new told)
+  module _ (contents_are : HasContents part pieces x) (new : Shard R A) (solves : RestoresLoan lent.geometry lent.kept solved.kept) (told repaired : ℕ) (least : repaired ≡ min told (2 ^ 8)) (new_valid : Valid rack new) (new_areas : SameAreas solved new) (landed : lands.LandsUnit rack solved new told)
       (new_reserve : SameReserve solved new) where
     r : RestoresLent lent.geometry unit.lent solved.kept
     r = restored_of lent.geometry lent.kept solved.kept unit.lent unit.lent_is solves
@@ -336,6 +338,16 @@ module _ {R A : Type 0} (rack : racks.Ghosts R) (area : areas.Ghosts A) (old len
         least_is : (a b n g : ℕ) → b ≡ min a (2 ^ 8) → a ≡ n → n ≤ g * 3 → g ≤ 64 → b ≡ n
         least_is a b n g least own low few = omega (arith, least, own, low, few)
 
+    -- an unreadable block was beyond repair as it was lent
+    why : passes.LendsBeyond part.geometry part.perms (view_of part.number x) unit.failed y.world e
+    why = by (is_none landed.lent.restored) refl
+      where
+        by : (b : Bool) → is_none landed.lent.restored ≡ b
+            → passes.LendsBeyond part.geometry part.perms (view_of part.number x) unit.failed y.world (LandBlock landed.pass.number landed.lent.serial landed.failed landed.patched b)
+        by false there = tt
+        by true gone =
+            beyond rack area old lent unit lent_valid solved.kept r (no_block r.block (sym (ap (λ (l : LentBlock). is_none l.restored) same_lent) ∙ gone)) part pieces x is contents_are y.world first.is.stands.is_in.loan
+
     pub block_goes : GoesTo rack area part pieces x new (λ holds v. NextIs part Heal false (next.Landed repaired) holds × SameBlocks x v)
     block_goes = record {
       holds = On (view_of part.number x) (Did (Lend unit.failed) y.world) ∷ (On (view_of part.number y) (Did e second.done.reached.world) ∷ []);
@@ -368,6 +380,7 @@ module _ {R A : Type 0} (rack : racks.Ghosts R) (area : areas.Ghosts A) (old len
               held_there,
               all_told,
             );
+            why = why;
           },
         ),
         record { held = two_leaves.held ∙ one_leaves.held; committed = two_leaves.committed ∙ one_leaves.committed },

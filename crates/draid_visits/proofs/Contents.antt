@@ -1,7 +1,8 @@
--- The blocks of a pool's metaslab have content: each is some write's.
+-- The blocks of a pool's metaslab have bytes: each is some write's.
 use Rattle.std.proofs.Common.{◌≡◌, ◌∙◌, ℕ, Some, sym, ap, subst, length}
 use Rattle.std.specs.Prelude.{option_map, slice_get}
 use Rattle.draid_rack.specs.declared.Rack as racks
+use Rattle.sha2.specs.Sha256.{sha256}
 use Rattle.draid_area.specs.declared.Area as areas
 use Rattle.draid_block.specs.Blocks.{cut_of}
 use Rattle.draid_block.specs.Columns.{stripes_of}
@@ -22,18 +23,31 @@ use Rattle.draid_pool.specs.Metaslabs.{IsMetaslab}
 use Rattle.draid_pool.specs.Objects.{HasPieces, blocks_of}
 use Rattle.draid_pool.specs.Pools.{Represents, part_in}
 use Rattle.draid_pool.specs.declared.pool.Pool.{Pool}
+use Rattle.draid_visits.specs.Pieces.{HasBytes}
 use Rattle.draid_visits.specs.Steps.{HasContents}
 
-content_by : (geometry : Geometry) (held : Held) (key : Key) (write : Write) (pieces : Pieces) → HasPieces geometry write pieces → key_of write ≡ key → held.len ≡ length write.bytes
-    → held.stripes ≡ stripes_of (cut_of geometry) held.len → HasContent geometry held.stripes key pieces
-content_by geometry held key write pieces has own len long = record {
+bytes_by : (geometry : Geometry) (held : Held) (key : Key) (write : Write) (pieces : Pieces) → HasPieces geometry write pieces → key_of write ≡ key → held.len ≡ length write.bytes
+    → held.digest ≡ sha256 write.bytes → held.stripes ≡ stripes_of (cut_of geometry) held.len → HasBytes geometry held key pieces
+bytes_by geometry held key write pieces has own len digest long = record {
+  content = has.content;
+  len = has.len ∙ sym len;
+  digest = has.digest ∙ sym digest;
+  bytes = has.bytes;
+  columns = has.columns;
+  are = has.are;
+  rows = subst (λ k. ArePieces geometry.props.sector geometry.g held.stripes has.columns k pieces) own
+      (subst (λ n. ArePieces geometry.props.sector geometry.g n has.columns (key_of write) pieces) (sym (long ∙ ap (stripes_of (cut_of geometry)) len)) has.rows);
+}
+
+-- so they have content
+content_by : (geometry : Geometry) (held : Held) (key : Key) (pieces : Pieces) → HasBytes geometry held key pieces → held.stripes ≡ stripes_of (cut_of geometry) held.len → HasContent geometry held.stripes key pieces
+content_by geometry held key pieces has long = record {
   bytes = has.content;
   columns = has.columns;
   are = has.are;
   each = has.bytes;
-  rows = subst (λ k. ArePieces geometry.props.sector geometry.g held.stripes has.columns k pieces) own
-      (subst (λ n. ArePieces geometry.props.sector geometry.g n has.columns (key_of write) pieces) (sym (long ∙ ap (stripes_of (cut_of geometry)) len)) has.rows);
-  long = long ∙ ap (stripes_of (cut_of geometry)) (len ∙ sym has.len);
+  rows = has.rows;
+  long = long ∙ ap (stripes_of (cut_of geometry)) (sym has.len);
 }
 
 module _ {R A : Type 0} (rack : racks.Ghosts R) (area : areas.Ghosts A) where
@@ -45,10 +59,14 @@ module _ {R A : Type 0} (rack : racks.Ghosts R) (area : areas.Ghosts A) where
       let block = (is.valid.tables.placed held.first e.e e.there).is_block in
       subst (λ (h : Held). h.stripes ≡ stripes_of (cut_of part.geometry) h.len) e.held_is (subst (λ (p : Part). e.e.pointer.stripes ≡ stripes_of (cut_of p.geometry) e.e.pointer.len) is.part_is block.stripes)
 
+  pub content_of : (part : Part) (pieces : Pieces) (shard : Shard R A) (y : Metaslab) (key : Key) (held : Held) → IsMetaslab rack area part pieces shard y → HasContents part pieces y → y.world.core.held key ≡ Some held
+      → HasContent part.geometry held.stripes key pieces
+  content_of part pieces shard y key held is contents at = content_by part.geometry held key pieces (contents key held at) (held_long part pieces shard y key held is at)
+
   pub contents_of : (pool : Pool R A) (x : State) (r : Represents rack area pool x) (m : ℕ) (shard : Shard R A) (y : Metaslab) → slice_get x.metaslabs m ≡ Some y
       → IsMetaslab rack area (part_in x m) (r.stands.pieces m) shard y → HasContents (part_in x m) (r.stands.pieces m) y
   contents_of pool x r m shard y there is key held at =
       let here : blocks_of x.metaslabs m key ≡ Some held = ap (λ o. table_of (option_map (λ (z : Metaslab). z.world) o) key) there ∙ at in
       let own = r.stands.holds.stores.only m key held here (r.stands.holds.settled m key held here) in
-      content_by x.geometry held key own.0 (r.stands.pieces m) (r.stands.holds.bytes m key held own.0 here own.1) (write_key x.store.changes key own.0 own.1) own.3.len
+      bytes_by x.geometry held key own.0 (r.stands.pieces m) (r.stands.holds.bytes m key held own.0 here own.1) (write_key x.store.changes key own.0 own.1) own.3.len own.3.digest_is
       (held_long (part_in x m) (r.stands.pieces m) shard y key held is at)

@@ -30,7 +30,7 @@ none_more marks m none here k less = elim (cases_eq k m) [
 ]
 
 -- a pass stays of its kind
-kind_kept : (kind : PassKind) (a b : Option Pass) → KeepsPass a b → IfSome a (λ (p : Pass). p.kind ≡ kind) → IfSome b (λ (p : Pass). p.kind ≡ kind)
+pub kind_kept : (kind : PassKind) (a b : Option Pass) → KeepsPass a b → IfSome a (λ (p : Pass). p.kind ≡ kind) → IfSome b (λ (p : Pass). p.kind ≡ kind)
 kind_kept kind None None keeps none = none
 kind_kept kind None (Some q) keeps none = absurd keeps
 kind_kept kind (Some p) None keeps none = tt

@@ -1,5 +1,5 @@
 -- The passes of a pool's metaslabs as one of them changes, or as a group is committed.
-use Rattle.std.proofs.Common.{◌≡◌, ◌<◌, ◌≤◌, ◌+◌, ◌-◌, ◌^◌, ◌∙◌, ℕ, zero, suc, Option, Some, None, arith, refl, sym, ap, subst, length, ◌*◌}
+use Rattle.std.proofs.Common.{◌≡◌, ◌<◌, ◌≤◌, ◌+◌, ◌-◌, ◌^◌, ◌∙◌, ℕ, zero, suc, List, Option, Some, None, arith, refl, sym, ap, subst, length, ◌*◌}
 use Rattle.std.specs.Prelude.{IsSomeAnd, slice_get}
 use Rattle.std.proofs.lemmas.Option.{slice_get_within}
 use Rattle.draid_rack.specs.declared.Rack as racks
@@ -17,8 +17,11 @@ use Rattle.draid_pool.specs.Whole.{IsWhole}
 use Rattle.draid_pool.specs.declared.pool.Pool.{Pool}
 use Rattle.draid_pool.proofs.Lifted.{SetsShard}
 use Rattle.draid_pool.proofs.Lists.{get_set_other, get_set_same, present, some_of}
+use Rattle.draid_pool.proofs.SyncSteps.{all_set}
 use Rattle.draid_pool.proofs.Wholes.{open_high, whole_geometry}
+use Rattle.draid_pool.specs.Keeping.{AllArmsStay}
 use Rattle.draid_pool.specs.Passes.{KeepsPass, KeepsPasses}
+use Rattle.draid_pool.specs.Syncing.{AreIdle}
 use Rattle.draid_visits.specs.Steps.{IsRunningOf, MovesOn}
 use Rattle.draid_visits.specs.Visiting.{IsAt, IsLeft, IsLow, KeepsOthers}
 use Rattle.draid_visits.specs.declared.progress.Progress.{Progress}
@@ -83,11 +86,28 @@ module _ {R A : Type 0} (rack : racks.Ghosts R) (area : areas.Ghosts A) where
       subst (λ (s : Shard R A). KeepsPass before.pass s.pass)
       (some_of (slice_get new.metaslabs.shards.items k) before after (ap (λ zs. slice_get zs k) set.sets ∙ (get_set_other old.metaslabs.shards.items m k shard' other ∙ at)) is) (pass_same before.pass)
 
+  -- no group comes to close where a metaslab's closing one is as it was
+  pub idle_set : (m : ℕ) (old new : Pool R A) (shard shard' : Shard R A) → SetsShard rack area m old new shard shard' → shard'.closing ≡ shard.closing → AreIdle old.metaslabs.shards.items → AreIdle new.metaslabs.shards.items
+  idle_set m old new shard shard' set same idle =
+      subst (λ (zs : List (Shard R A)). AreIdle zs) (sym set.sets) (all_set (λ (z : Shard R A). z.closing ≡ None) old.metaslabs.shards.items m shard shard' set.there (same ∙ idle m shard set.there) idle)
+
   pub set_there : (m : ℕ) (old new : Pool R A) (shard shard' : Shard R A) → SetsShard rack area m old new shard shard' → slice_get new.metaslabs.shards.items m ≡ Some shard'
   set_there m old new shard shard' set = ap (λ zs. slice_get zs m) set.sets ∙ get_set_same old.metaslabs.shards.items m shard shard' set.there
 
   pub at_set : (P : Shard R A → Type 0) (m : ℕ) (old new : Pool R A) (shard shard' : Shard R A) → SetsShard rack area m old new shard shard' → P shard' → IsAt new m P
   at_set P m old new shard shard' set is z at = subst P (some_of (slice_get new.metaslabs.shards.items m) shard' z (set_there m old new shard shard' set) at) is
+
+  -- a sync leaves the layout
+  pub geometry_synced : (old new : Pool R A) → IsWhole rack area old → IsWhole rack area new → AllArmsStay old new → new.geometry ≡ old.geometry
+  geometry_synced old new w v stay =
+      let many = w.many in
+      let some = w.layout.geometry_is.props.some_metaslabs in
+      let long = stay.many in
+      let a : (s : Shard R A) × (slice_get old.metaslabs.shards.items 0 ≡ Some s) = present old.metaslabs.shards.items 0 (omega (arith, many, some)) in
+      let b : (s : Shard R A) × (slice_get new.metaslabs.shards.items 0 ≡ Some s) = present new.metaslabs.shards.items 0 (omega (arith, many, some, long)) in
+      let before : a.0.slots.geometry ≡ old.geometry = (w.shards 0 a.0 a.1).valid.slots.geometry_is ∙ whole_geometry rack area old 0 a.0 w a.1 in
+      let after : b.0.slots.geometry ≡ new.geometry = (v.shards 0 b.0 b.1).valid.slots.geometry_is ∙ whole_geometry rack area new 0 b.0 v b.1 in
+      sym after ∙ ((stay.each 0 a.0 b.0 a.1 b.1).same.geometry_is ∙ before)
 
   -- there is a number for the group behind the committed one
   pub group_low : (pool : Pool R A) (m : ℕ) (shard : Shard R A) → IsWhole rack area pool → slice_get pool.metaslabs.shards.items m ≡ Some shard → group_in pool + 1 ≤ LAST_NUMBER

@@ -1,4 +1,5 @@
 pub mod AllVisits
+pub mod Beyond
 pub mod Blocks
 pub mod Cancelled
 pub mod Contents

@@ -186,7 +186,7 @@ module _ {R A : Type 0} (rack : racks.Ghosts R) (area : areas.Ghosts A) where
     stopped_so sync.Worn t holds store shelf kept visits = (kept, (t, not_went Unit sync.Worn, scrubs holds (passes.Stopped (end_by sync.Worn)) t visits))
     stopped_so sync.Last t holds store shelf kept visits = (kept, (t, not_went Unit sync.Last, scrubs holds (passes.Stopped (end_by sync.Last)) t visits))
     stopped_so sync.Shelf t holds store shelf kept visits = absurd (shelf refl)
-    stopped_so sync.NoMemory t holds store shelf kept visits = (kept, inl (t, not_went Unit sync.NoMemory, scrubs holds (passes.Stopped (end_by sync.NoMemory)) t visits))
+    stopped_so sync.NoMemory t holds store shelf kept visits = (kept, (t, not_went Unit sync.NoMemory, scrubs holds (passes.Stopped (end_by sync.NoMemory)) t visits))
 
     answers : (end : Visit) (p : Progress) (result : Result Mended MendFault) → (end ≡ visit.Stopped sync.Shelf → ⊥) → IsAnswer end p result → (holds : List Hold) (store : Store)
         → VisitsDo x Heal marks (nothing_within limit) end p holds store → ScrubDoes x limit result (looks_at 0 x.metaslabs ++ holds) store

@@ -25,6 +25,9 @@ table_kept old new part keeps arms = record { part = part; entries = keeps.entri
 table_loan : {R A : Type 0} (shard : Shard R A) (kept : Option KeptLoan) → KeepsTable shard (record shard { kept = kept })
 table_loan shard kept = record { part = refl; entries = record { at = λ first. refl; held = λ key. refl; count = refl; owed = λ columns. refl }; committed = refl; slots = same_arms shard.slots }
 
+closing_loan : {R A : Type 0} (old new : Shard R A) → new ≡ record old { kept = new.kept } → new.closing ≡ old.closing
+closing_loan {R} {A} old new only = ap (λ (z : Shard R A). z.closing) only
+
 entries_then : (a b c : Entries) → SameEntries a b → SameEntries b c → SameEntries a c
 entries_then a b c one two = record {
   at = λ first. two.at first ∙ one.at first;
@@ -62,11 +65,12 @@ shares_kept old new kept = record {
           (let e = one ps k p q a b in record { kind_is = ap (λ (z : Arm). z.kind) e; number_is = ap (λ (z : Arm). z.number) e; offline_is = ap (λ (z : Arm). z.offline) e });
     }
 
-shares_table : {R A : Type 0} (old new : Shard R A) → KeepsTable old new → SharesTable old new
-shares_table old new table = record {
+shares_table : {R A : Type 0} (old new : Shard R A) → new.closing ≡ old.closing → KeepsTable old new → SharesTable old new
+shares_table old new closing table = record {
   part = table.part;
   entries = table.entries;
   committed = table.committed;
+  closing = closing;
   slots = shares_kept old.slots new.slots table.slots;
   leaves = λ leaf is. leaf_kept old.slots new.slots leaf table.slots is;
 }
@@ -76,6 +80,7 @@ shares_arms old new part keeps arms leaves = record {
   part = part;
   entries = keeps.entries;
   committed = keeps.groups.committed;
+  closing = keeps.groups.closing;
   slots = arms;
   leaves = leaves;
 }
@@ -84,7 +89,7 @@ shares_arms old new part keeps arms leaves = record {
 pub table_landed : {R A : Type 0} (old lent solved new : Shard R A) → part_of lent ≡ part_of old → KeepsBlocks old lent → KeepsArms old.slots lent.slots → solved ≡ record lent { kept = solved.kept } → part_of new ≡ part_of solved
     → KeepsBlocks solved new → new.slots ≡ solved.slots → SharesTable old new
 table_landed old lent solved new part keeps arms only then_part then_keeps slots =
-    shares_table old new
+    shares_table old new (then_keeps.groups.closing ∙ (closing_loan lent solved only ∙ keeps.groups.closing))
     (table_then old lent new (table_kept old lent part keeps arms)
     (table_then lent solved new (subst (KeepsTable lent) (sym only) (table_loan lent solved.kept))
     (table_kept solved new then_part then_keeps (subst (KeepsArms solved.slots) (sym slots) (same_arms solved.slots)))))
@@ -92,4 +97,4 @@ table_landed old lent solved new part keeps arms only then_part then_keeps slots
 -- a block was lent, and not restored
 pub table_stays : {R A : Type 0} (old lent solved : Shard R A) → part_of lent ≡ part_of old → KeepsBlocks old lent → KeepsArms old.slots lent.slots → solved ≡ record lent { kept = solved.kept } → SharesTable old solved
 table_stays old lent solved part keeps arms only =
-    shares_table old solved (table_then old lent solved (table_kept old lent part keeps arms) (subst (KeepsTable lent) (sym only) (table_loan lent solved.kept)))
+    shares_table old solved (closing_loan lent solved only ∙ keeps.groups.closing) (table_then old lent solved (table_kept old lent part keeps arms) (subst (KeepsTable lent) (sym only) (table_loan lent solved.kept)))

@@ -37,6 +37,7 @@ use Rattle.draid_pool.proofs.Dids.{none_here}
 use Rattle.draid_pool.proofs.Imaged.{keeps_then}
 use Rattle.draid_visits.specs.Steps.{HasContents, MovesOn, NextIs}
 use Rattle.draid_visits.specs.declared.steps.Next.TheVariants as next
+use Rattle.draid_visits.proofs.Contents.{content_of}
 use Rattle.draid_visits.proofs.Landed.{landed_at}
 use Rattle.draid_visits.proofs.Over.{told_worn}
 use Rattle.draid_visits.proofs.PassSteps.{raised, rebuild_did, rebuild_leaves}
@@ -132,7 +133,7 @@ module _ {R A : Type 0} (rack : racks.Ghosts R) (area : areas.Ghosts A) (old len
   solves_old = subst (λ g. SolvesLoan g lent.kept solved.kept) (ap (λ (p : Part). p.geometry) unit.does.part) solves
 
   right : IsSolvable part.geometry landed.kept → OnTold (rack.told solved.rack) (KeptStands part y.world landed.kept pieces)
-  right = loan_is_right rack part old lent solved x.world y.world pieces landed.kept unit is.part_is is.valid lent_valid running is.stands contents told first.step first.is.stands.is_in solves_old only landed.kept_is
+  right = loan_is_right rack part old lent solved x.world y.world pieces landed.kept unit is.part_is is.valid lent_valid running is.stands (λ k h at. content_of rack area part pieces old x k h is contents at) told first.step first.is.stands.is_in solves_old only landed.kept_is
 
   right_here : IsSolvable solved.geometry landed.kept → OnTold (rack.told solved.rack) (KeptStands (part_of solved) y.world landed.kept pieces)
   right_here = subst (λ p. IsSolvable p.geometry landed.kept → OnTold (rack.told solved.rack) (KeptStands p y.world landed.kept pieces)) (sym mid.part_is) right
@@ -171,6 +172,7 @@ module _ {R A : Type 0} (rack : racks.Ghosts R) (area : areas.Ghosts A) (old len
               there = (refl, refl);
               not_worn = λ worn. not_worn (told_worn rack area part pieces old x is worn);
               lands = refl;
+              why = tt;
             },
           ),
           record { held = two.held ∙ one.held; committed = two.committed ∙ one.committed },

@@ -6,7 +6,7 @@ use Rattle.draid_pass.specs.declared.pass.Pass.{Pass}
 use Rattle.draid_shard.specs.declared.shard.Shard.{Shard}
 use Rattle.draid_session.specs.Holds.{Hold}
 use Rattle.draid_session.specs.Passes as passes
-use Rattle.draid_session.specs.Phases.{Broke, WasLast, WasWorn}
+use Rattle.draid_session.specs.Phases.{Broke, Starved, WasLast, WasWorn}
 use Rattle.draid_session.specs.State.{State, Store}
 use Rattle.draid_pool.specs.declared.fault.SyncFault.{SyncFault}
 use Rattle.draid_pool.specs.declared.fault.SyncFault.TheVariants as sync
@@ -38,7 +38,7 @@ ScrubDoes x limit (Err (fault.PassThere metaslab number)) holds new = (new ≡ x
 ScrubDoes x limit (Err fault.Worn) holds new = (new ≡ x.store) × passes.ScrubStops x.geometry x.perms limit holds WasWorn
 ScrubDoes x limit (Err fault.Last) holds new = (new ≡ x.store) × passes.ScrubStops x.geometry x.perms limit holds WasLast
 ScrubDoes x limit (Err fault.Shelf) holds new = ⊥
-ScrubDoes x limit (Err fault.NoMemory) holds new = (new ≡ x.store) × passes.ScrubStarves x.geometry x.perms limit holds
+ScrubDoes x limit (Err fault.NoMemory) holds new = (new ≡ x.store) × passes.ScrubStops x.geometry x.perms limit holds Starved
 
 -- ---- the answer
 

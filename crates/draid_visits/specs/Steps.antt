@@ -16,11 +16,11 @@ use Rattle.draid_shard.specs.declared.shard.Shard.{Shard}
 use Rattle.draid_passing.specs.Passing.{LacksTarget}
 use Rattle.draid_passing.specs.declared.fault.PlanFault.{PlanFault}
 use Rattle.draid_passing.specs.declared.fault.PlanFault.TheVariants as plan
-use Rattle.draid_mend.specs.Solving.{HasContent}
 use Rattle.draid_session.specs.Holds.{Hold}
 use Rattle.draid_session.specs.Passes as passes
 use Rattle.draid_session.specs.Phases.{Went, WasWorn, WasLast, Starved}
 use Rattle.draid_session.specs.State.{Metaslab}
+use Rattle.draid_visits.specs.Pieces.{HasBytes}
 use Rattle.draid_visits.specs.declared.steps.Next.{Next}
 use Rattle.draid_visits.specs.declared.steps.Next.TheVariants as next
 
@@ -30,11 +30,12 @@ use Rattle.draid_visits.specs.declared.steps.Next.TheVariants as next
 abbrev pub IsRebuiltIn : {R A : Type 0} → Shard R A → Type 0
 IsRebuiltIn shard = IsSomeAnd shard.pass (λ (p : Pass). p.kind ≡ Rebuild) ⊎ (LacksTarget shard.slots Rebuild → ⊥)
 
--- All blocks, tickets and the committed group are as they were, and so are the arms, but for whether a pass has made them good. No leaf came.
+-- All blocks, tickets, the committed group and the closing one are as they were, and so are the arms, but for whether a pass has made them good. No leaf came.
 pub record SharesTable {R A : Type 0} (old new : Shard R A) : Type 0 where
   pub part : part_of new ≡ part_of old
   pub entries : SameEntries old.entries new.entries
   pub committed : new.committed ≡ old.committed
+  pub closing : new.closing ≡ old.closing
   pub slots : ShareArms old.slots new.slots
   pub leaves : (leaf : ℕ) → IsLeaf new.slots leaf → IsLeaf old.slots leaf
 
@@ -78,6 +79,6 @@ NextIs part kind used next.Worn holds = (used ≡ false) × passes.KeepsBack par
 NextIs part kind used next.NoMemory holds =
     (used ≡ false) × (passes.KeepsBack part.geometry part.perms part.number holds (λ v. ⊤) ⊎ passes.StaysOut part.geometry part.perms part.number None holds)
 
--- each held block has content
+-- the pieces of each held block are those of bytes that have its length and digest
 abbrev pub HasContents : Part → Pieces → Metaslab → Type 0
-HasContents part pieces x = (k : Key) (h : Held) → x.world.core.held k ≡ Some h → HasContent part.geometry h.stripes k pieces
+HasContents part pieces x = (k : Key) (h : Held) → x.world.core.held k ≡ Some h → HasBytes part.geometry h k pieces

@@ -13,5 +13,6 @@ mod unit;
 mod visiting;
 
 pub use cancelling::cancel;
+pub use marks::pass_in;
 pub use rebuilding::{MendFault, Mended, rebuild, scrub};
 pub use replies::{reply_to_cancel, reply_to_rebuild, reply_to_scrub};

@@ -17,7 +17,7 @@ use draid_rack::Rack;
 use draid_shard::Shard;
 
 /// The lowest metaslab with a pass of a kind, and the pass's number.
-pub(crate) fn pass_in<R: Rack, A: Area>(pool: &Pool<R, A>, kind: PassKind) -> Option<(u32, u64)>
+pub fn pass_in<R: Rack, A: Area>(pool: &Pool<R, A>, kind: PassKind) -> Option<(u32, u64)>
     requires whole { IsWhole R.Rack A.Area pool.now }
     ensures found { IfSome result (λ it. IsLowestPass kind it.0 it.1 pool.now) }
     ensures none { IfNone result (AreAll pool.now (IsOnly (passes.other_kind kind))) }

@@ -1,12 +1,13 @@
 //! A rebuild and a scrub of a pool: metaslabs are visited, one after another.
 ghost use Rattle.std.specs.Prelude.{◌≡◌, ℕ, IfOk, IsErrOf, IsSome, Option, length};
-ghost use Rattle.draid_names.specs.declared.pass_kind.PassKind.TheVariants.{Rebuild};
+ghost use Rattle.draid_names.specs.declared.pass_kind.PassKind.TheVariants.{Heal, Rebuild};
 ghost use Rattle.draid_session.specs.Replies.{IsWithin};
 ghost use Rattle.draid_session.specs.State.{State};
 ghost use Rattle.draid_pool.specs.Carries.{CarriesOut};
 ghost use Rattle.draid_pool.specs.Failing.{AreaRose, AreasLater};
 ghost use Rattle.draid_pool.specs.Pointers.{SamePointers};
 ghost use Rattle.draid_pool.specs.Pools.{Represents};
+ghost use Rattle.draid_pool.specs.Syncing.{AreIdle};
 ghost use Rattle.draid_pool.specs.Whole.{IsWhole};
 ghost use Rattle.draid_visits.specs.Rebuilding.{IsAnswer, IsMended, RebuildDoes, RebuildIs, ScrubDoes, ScrubIs, stopped_by};
 ghost use Rattle.draid_visits.specs.Visiting.{AreAll, AreToVisit, HasBegun, HasMark, IsLeft, IsLow, IsOnly, Leaves, PausesAt, VisitsDo};
@@ -80,11 +81,14 @@ pub fn scrub<R: Rack, A: Area>(
     requires whole { IsWhole R.Rack A.Area pool.old }
     ensures whole { IsWhole R.Rack A.Area pool.new }
     ensures same { SamePointers pool.old pool.new }
+    ensures geometry { pool.new.geometry ≡ pool.old.geometry }
     ensures later { AreasLater A.faults pool.old pool.new }
     ensures within { IfOk result (λ it. IsWithin limit it.units it.paused) }
     ensures carries { (x : State) → Represents R.Rack A.Area pool.old x
         → CarriesOut R.Rack A.Area pool.new x (ScrubDoes x limit result) }
     ensures passes { ScrubIs result pool.old pool.new }
+    // No group comes to close behind it.
+    ensures idle { AreIdle pool.old.metaslabs.shards.items → AreIdle pool.new.metaslabs.shards.items }
 {
     if let Some((metaslab, number)) = pass_in(pool, PassKind::Rebuild) {
         return Err(MendFault::PassThere { metaslab, number });
@@ -110,12 +114,14 @@ fn visit_all<R: Rack, A: Area>(
     requires low { IsLow 0 progress.old }
     ensures whole { IsWhole R.Rack A.Area pool.new }
     ensures same { SamePointers pool.old pool.new }
+    ensures geometry { pool.new.geometry ≡ pool.old.geometry }
     ensures later { AreasLater A.faults pool.old pool.new }
     ensures cause { result ≡ Visit.Stopped SyncFault.Shelf → (kind ≡ Rebuild) × AreaRose A.faults pool.old pool.new }
     ensures left { (limit : Option ℕ) → IsLeft limit progress.old → IsLeft limit progress.new }
     ensures paused { PausesAt result progress.new }
     ensures began { HasBegun result progress.new }
     ensures leaves { Leaves kind result pool.new }
+    ensures idle { kind ≡ Heal → AreIdle pool.old.metaslabs.shards.items → AreIdle pool.new.metaslabs.shards.items }
     ensures carries { (x : State) → Represents R.Rack A.Area pool.old x
         → CarriesOut R.Rack A.Area pool.new x (VisitsDo x kind marks.now progress.old result progress.new) }
 {

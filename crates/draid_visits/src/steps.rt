@@ -76,6 +76,7 @@ pub(crate) fn start_in<R: Rack, A: Area>(
     requires alone { IfSome shard.old.pass (λ (p : Pass). p.kind ≡ kind) }
     ensures valid { Valid R.Rack shard.new }
     ensures table { KeepsTable shard.old shard.new }
+    ensures closing { shard.new.closing ≡ shard.old.closing }
     ensures areas { SameAreas shard.old shard.new }
     ensures pass { OnOk result (IsSomeAnd shard.new.pass (λ (p : Pass). p.kind ≡ kind)) }
     ensures none { OnErr result (shard.new.pass ≡ None) }
@@ -97,6 +98,7 @@ fn plan_in<R: Rack, A: Area>(shard: &mut Shard<R, A>, kind: PassKind) -> Result<
     requires none { shard.old.pass ≡ None }
     ensures valid { Valid R.Rack shard.new }
     ensures table { KeepsTable shard.old shard.new }
+    ensures closing { shard.new.closing ≡ shard.old.closing }
     ensures areas { SameAreas shard.old shard.new }
     ensures pass { OnOk result (IsSomeAnd shard.new.pass (λ (p : Pass). p.kind ≡ kind)) }
     ensures none { OnErr result (shard.new.pass ≡ None) }

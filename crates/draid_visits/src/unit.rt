@@ -79,7 +79,7 @@ fn block_in<R: Rack, A: Area>(shard: &mut Shard<R, A>) -> Next
     ensures landed { (repaired : ℕ) → result ≡ Next.Landed repaired → MovesOn Heal shard.old shard.new × (repaired ≤ 2 ^ 8) }
     ensures ended { (errors : ℕ) → result ≡ Next.Ended errors → (shard.new.pass ≡ None) × (errors ≤ LAST_NUMBER) }
     ensures never { result ≡ Next.Paused → ⊥ }
-    ensures goes { (part : Part) (pieces : Pieces) (x : Metaslab) → IsMetaslab R.Rack A.Area part pieces shard.old x
+    ensures goes { (part : Part) (pieces : Pieces) (x : Metaslab) → IsMetaslab R.Rack A.Area part pieces shard.old x → HasContents part pieces x
         → GoesTo R.Rack A.Area part pieces x shard.new (λ holds y. NextIs part Heal false result holds × SameBlocks x y) }
 {
     match draid_restore::lend(shard) {

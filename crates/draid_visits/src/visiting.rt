@@ -9,7 +9,7 @@ ghost use Rattle.draid_pool.specs.Carries.{CarriesOut};
 ghost use Rattle.draid_pool.specs.Failing.{AreaRose, AreasLater};
 ghost use Rattle.draid_pool.specs.Pointers.{SamePointers};
 ghost use Rattle.draid_pool.specs.Pools.{Represents};
-ghost use Rattle.draid_pool.specs.Syncing.{Phase, end_of};
+ghost use Rattle.draid_pool.specs.Syncing.{AreIdle, Phase, end_of};
 ghost use Rattle.draid_pool.specs.Whole.{IsWhole};
 ghost use Rattle.draid_visits.specs.Steps.{IsRunningOf};
 ghost use Rattle.draid_visits.specs.Visiting.{BeganAt, BeginIs, BeginsAt, HasBegun, IsAt, IsLeft, IsLow, IsOnly, KeepsOthers, LeavesAt, LendIs, PausesAt, RunIs, VisitIs};
@@ -35,12 +35,14 @@ pub(crate) fn visit<R: Rack, A: Area>(
     requires low { IsLow metaslab progress.old }
     ensures whole { IsWhole R.Rack A.Area pool.new }
     ensures same { SamePointers pool.old pool.new }
+    ensures geometry { pool.new.geometry ≡ pool.old.geometry }
     ensures later { AreasLater A.faults pool.old pool.new }
     ensures cause { result ≡ Visit.Stopped SyncFault.Shelf → (kind ≡ Rebuild) × AreaRose A.faults pool.old pool.new }
     ensures low { IsLow (metaslab + 1) progress.new }
     ensures left { (limit : Option ℕ) → IsLeft limit progress.old → IsLeft limit progress.new }
     ensures paused { PausesAt result progress.new }
     ensures others { KeepsOthers metaslab pool.old pool.new }
+    ensures idle { kind ≡ Heal → AreIdle pool.old.metaslabs.shards.items → AreIdle pool.new.metaslabs.shards.items }
     ensures leaves { LeavesAt kind result pool.new metaslab }
     ensures began { BeganAt kind pool.old metaslab progress.old result progress.new }
     ensures from { IsSome progress.old.from → IsSome progress.new.from }
@@ -72,8 +74,10 @@ fn begin_in<R: Rack, A: Area>(pool: &mut Pool<R, A>, kind: PassKind, metaslab: u
     requires alone { IsAt pool.old metaslab (IsOnly kind) }
     ensures whole { IsWhole R.Rack A.Area pool.new }
     ensures same { SamePointers pool.old pool.new }
+    ensures geometry { pool.new.geometry ≡ pool.old.geometry }
     ensures later { AreasLater A.faults pool.old pool.new }
     ensures others { KeepsOthers metaslab pool.old pool.new }
+    ensures idle { AreIdle pool.old.metaslabs.shards.items → AreIdle pool.new.metaslabs.shards.items }
     ensures begins { BeginsAt kind result pool.old pool.new metaslab }
     ensures carries { (x : State) → Represents R.Rack A.Area pool.old x
         → CarriesOut R.Rack A.Area pool.new x (λ holds store. (store ≡ x.store) × BeginIs x.geometry x.perms kind metaslab result holds) }
@@ -109,12 +113,14 @@ fn run<R: Rack, A: Area>(
     requires low { IsLow metaslab progress.old }
     ensures whole { IsWhole R.Rack A.Area pool.new }
     ensures same { SamePointers pool.old pool.new }
+    ensures geometry { pool.new.geometry ≡ pool.old.geometry }
     ensures later { AreasLater A.faults pool.old pool.new }
     ensures cause { result ≡ Visit.Stopped SyncFault.Shelf → (kind ≡ Rebuild) × AreaRose A.faults pool.old pool.new }
     ensures low { IsLow (metaslab + 1) progress.new }
     ensures left { (limit : Option ℕ) → IsLeft limit progress.old → IsLeft limit progress.new }
     ensures paused { PausesAt result progress.new }
     ensures others { KeepsOthers metaslab pool.old pool.new }
+    ensures idle { kind ≡ Heal → AreIdle pool.old.metaslabs.shards.items → AreIdle pool.new.metaslabs.shards.items }
     ensures leaves { LeavesAt kind result pool.new metaslab }
     ensures began { HasBegun result progress.new }
     ensures from { IsSome progress.old.from → IsSome progress.new.from }
@@ -150,9 +156,11 @@ fn run_in<R: Rack, A: Area>(
     requires pass { IsAt pool.old metaslab (λ shard. IsSomeAnd shard.pass (λ (pass : Pass). pass.kind ≡ kind)) }
     ensures whole { IsWhole R.Rack A.Area pool.new }
     ensures same { SamePointers pool.old pool.new }
+    ensures geometry { pool.new.geometry ≡ pool.old.geometry }
     ensures later { AreasLater A.faults pool.old pool.new }
     ensures cause { IsErrOf result SyncFault.Shelf → (kind ≡ Rebuild) × AreaRose A.faults pool.old pool.new }
     ensures others { KeepsOthers metaslab pool.old pool.new }
+    ensures idle { kind ≡ Heal → AreIdle pool.old.metaslabs.shards.items → AreIdle pool.new.metaslabs.shards.items }
     ensures running { OnOk result (IsAt pool.new metaslab (λ shard. IsSomeAnd shard.pass (IsRunningOf kind))) }
     ensures carries { (x : State) → Represents R.Rack A.Area pool.old x
         → CarriesOut R.Rack A.Area pool.new x (Phase x (passes.ReadyPhase x.geometry x.perms kind metaslab) (end_of result)) }
@@ -170,6 +178,7 @@ fn run_rebuild<R: Rack, A: Area>(pool: &mut Pool<R, A>, metaslab: usize) -> Resu
     requires rebuild { IsAt pool.old metaslab (λ shard. IsSomeAnd shard.pass (λ (pass : Pass). pass.kind ≡ Rebuild)) }
     ensures whole { IsWhole R.Rack A.Area pool.new }
     ensures same { SamePointers pool.old pool.new }
+    ensures geometry { pool.new.geometry ≡ pool.old.geometry }
     ensures later { AreasLater A.faults pool.old pool.new }
     ensures cause { IsErrOf result SyncFault.Shelf → AreaRose A.faults pool.old pool.new }
     ensures others { KeepsOthers metaslab pool.old pool.new }
@@ -217,6 +226,7 @@ fn lend_all<R: Rack, A: Area>(
     requires low { IsLow metaslab progress.old }
     ensures whole { IsWhole R.Rack A.Area pool.new }
     ensures same { SamePointers pool.old pool.new }
+    ensures geometry { pool.new.geometry ≡ pool.old.geometry }
     ensures later { AreasLater A.faults pool.old pool.new }
     ensures not_shelf { result ≡ Visit.Stopped SyncFault.Shelf → ⊥ }
     ensures low { IsLow (metaslab + 1) progress.new }
@@ -224,6 +234,7 @@ fn lend_all<R: Rack, A: Area>(
     ensures from { progress.new.from ≡ progress.old.from }
     ensures paused { PausesAt result progress.new }
     ensures others { KeepsOthers metaslab pool.old pool.new }
+    ensures idle { AreIdle pool.old.metaslabs.shards.items → AreIdle pool.new.metaslabs.shards.items }
     ensures leaves { LeavesAt kind result pool.new metaslab }
     ensures carries { (x : State) → Represents R.Rack A.Area pool.old x
         → CarriesOut R.Rack A.Area pool.new x (λ holds store. (store ≡ x.store) × LendIs x.geometry x.perms kind metaslab progress.old result progress.new holds) }

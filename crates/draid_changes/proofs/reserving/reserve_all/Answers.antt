@@ -12,7 +12,7 @@ use Rattle.draid_pool.proofs.Wholes.{whole_valid}
 use Rattle.draid_changes.specs.declared.need.Need.{Need}
 use Rattle.draid_changes.specs.Walks.{Reserves, end_of_reserving, events_at, events_in}
 use Rattle.draid_changes.proofs.Phases.{phase_more, phase_stops, phase_went}
-use Rattle.draid_changes.proofs.Reserved.{AsksFor, asks_for, not_through, reserve_stops, reserve_turns, same_need}
+use Rattle.draid_changes.proofs.Reserved.{AsksFor, asks_for, not_through, passes_set, passes_still, reserve_stops, reserve_turns, same_need}
 use Rattle.draid_changes.proofs.Walk.{changed_more, changed_none}
 use Rattle.draid_changes.proofs.reserving.reserve_all.Goals as goal
 
@@ -27,6 +27,7 @@ loop-metaslab-init g c = record {
   reserves = changed_none (Reserves c.args.need) c.args.pool.now.metaslabs.shards.items;
   objects = refl;
   uber = refl;
+  passes = passes_still c.args.pool.now;
   later = areas_still g.A.Area.faults c.args.pool.now;
   many = refl;
 }
@@ -62,6 +63,7 @@ returns-in-Err g c =
           (record { part = e.none.part; entries = e.keeps.entries; committed = e.keeps.groups.committed; slots = arms_kept shard.slots after.slots e.arms });
       objects = i.objects;
       uber = i.uber;
+      passes = passes_set g.R.Rack g.A.Area l.metaslab c.args.pool.now l.pool new shard after i.passes set e.pass;
       later = areas_on g.A.Area.faults c.args.pool.now l.pool new i.later (areas_set g.R.Rack g.A.Area l.metaslab l.pool new shard after set (records_same g.A.Area.faults shard after e.kit.areas));
       reserves = tt;
       carries = λ x is. (let all = i.whole.many in
@@ -104,6 +106,7 @@ loop-metaslab-preserved g c =
           });
       objects = i.objects;
       uber = i.uber;
+      passes = passes_set g.R.Rack g.A.Area l.metaslab c.args.pool.now l.pool new shard after i.passes set e.pass;
       later = areas_on g.A.Area.faults c.args.pool.now l.pool new i.later (areas_set g.R.Rack g.A.Area l.metaslab l.pool new shard after set (records_same g.A.Area.faults shard after e.kit.areas));
       many = length-set l.pool.metaslabs.shards.items l.metaslab after ∙ i.many;
     }
@@ -121,6 +124,7 @@ returns g c =
       whole = i.whole;
       objects = i.objects;
       uber = i.uber;
+      passes = i.passes;
       later = i.later;
       reserves = record {
         many = i.reserves.many;

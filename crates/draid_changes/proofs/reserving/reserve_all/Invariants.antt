@@ -2,6 +2,7 @@ use Rattle.std.proofs.Common.{◌≡◌, length}
 use Rattle.draid_session.specs.Arms as arms
 use Rattle.draid_session.specs.State.{State}
 use Rattle.draid_pool.specs.Failing.{AreasLater}
+use Rattle.draid_pool.specs.Passes.{KeepsPasses}
 use Rattle.draid_pool.specs.Pools.{Represents}
 use Rattle.draid_pool.specs.Whole.{IsWhole}
 use Rattle.draid_pool.proofs.SyncSteps.{Came}
@@ -15,6 +16,7 @@ invariant-loop-metaslab g l = record {
   reserves : ChangedBelow (Reserves l.need) l.metaslab l.initial.pool.metaslabs.shards.items l.pool.metaslabs.shards.items;
   objects : l.pool.own.objects ≡ l.initial.pool.own.objects;
   uber : l.pool.uber ≡ l.initial.pool.uber;
+  passes : KeepsPasses l.initial.pool l.pool;
   later : AreasLater g.A.Area.faults l.initial.pool l.pool;
   many : length l.pool.metaslabs.shards.items ≡ length l.initial.pool.metaslabs.shards.items;
 }

@@ -5,6 +5,7 @@ use Rattle.draid_shard.proofs.Kept.{stored_more}
 use Rattle.draid_shard.specs.States.{Does, stored_in}
 use Rattle.draid_disks.specs.Renewing.{moved_below}
 use Rattle.draid_disks.proofs.Goes.{after_shard, goes_in, goes_step, goes_valid, once_mid, room_mid, state}
+use Rattle.draid_disks.proofs.LeafLogs.{leaf_logs}
 use Rattle.draid_disks.proofs.Plain.{plain_detached}
 use Rattle.draid_disks.proofs.detaching.detach.Goals as goal
 
@@ -45,3 +46,8 @@ pub returns-clause-arms : goal.returns-clause-arms
 returns-clause-arms g c =
     plain_detached c.args.shard.now.slots c.detach.new.self c.renew.new.slots c.renew.new.slots (moved_below c.in_ok-moved.moved c.args.shard.now.geometry.spec.spares) c.last_missed-upto.result c.renew.ensures refl refl
     c.args.at c.args.shard.now.open_group c.in_ok-moved.ensures.detached
+
+pub returns-clause-logs : goal.returns-clause-logs
+returns-clause-logs g c =
+    leaf_logs c.args.shard.now.slots c.detach.new.self c.renew.new.slots (moved_below c.in_ok-moved.moved c.args.shard.now.geometry.spec.spares) c.last_missed-upto.result c.args.at c.args.shard.now.open_group
+    c.renew.ensures c.in_ok-moved.ensures.detached

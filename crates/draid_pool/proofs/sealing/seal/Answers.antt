@@ -3,6 +3,7 @@ use Rattle.draid_shard.proofs.Changed.{same_arms, same_entries}
 use Rattle.draid_pool.specs.Groups.{OpenUpto}
 use Rattle.draid_pool.proofs.Counting.{begin_low, none_open, open_upto}
 use Rattle.draid_pool.proofs.Keeping.{stays_still}
+use Rattle.draid_pool.proofs.Unsealed.{waits_never}
 use Rattle.draid_pool.proofs.sealing.seal.Goals as goal
 
 pub tickets_upto-tickets-requires : goal.tickets_upto-tickets-requires
@@ -40,6 +41,7 @@ returns-then-tickets-gt0 g c =
       later = record { even = omega arith; odd = omega arith };
       reserve = record { reserved = refl; limit = refl };
       stays = stays_still g.R.Rack.faults c.args.shard.now;
+      waits = refl;
     }
 
 pub returns-in-Err : goal.returns-in-Err
@@ -55,6 +57,7 @@ returns-in-Err g c =
       later = record { even = omega arith; odd = omega arith };
       reserve = record { reserved = refl; limit = refl };
       stays = stays_still g.R.Rack.faults c.args.shard.now;
+      waits = tt;
     }
 
 pub returns-in-Ok : goal.returns-in-Ok
@@ -70,4 +73,5 @@ returns-in-Ok g c =
       later = c.seal_by.ensures.later;
       reserve = c.seal_by.ensures.reserve;
       stays = c.seal_by.ensures.stays;
+      waits = waits_never c.args.shard.now c.seal_by.new.shard c.seal_by.result c.seal_by.ensures.waits;
     }

@@ -191,6 +191,7 @@ returns g c =
         arms = record { same = (table g at_add).same; arms_stay = (table g at_add).arms_stay };
         asked = refl;
       };
+      waits = tt;
     }
 
 -- ---- a seal that is refused
@@ -217,6 +218,7 @@ returns-in-Err-Failed g c = record {
     arms = record { same = (same_arms c.args.shard.now.slots).same; arms_stay = refl };
     asked = refl;
   };
+  waits = tt;
 }
 
 pub returns-in-Err-NoMemory : goal.returns-in-Err-NoMemory
@@ -242,6 +244,7 @@ returns-in-Err-NoMemory g c = record {
     arms = record { same = (same_arms c.args.shard.now.slots).same; arms_stay = refl };
     asked = refl;
   };
+  waits = tt;
 }
 
 -- ---- what the other clauses and calls ask for

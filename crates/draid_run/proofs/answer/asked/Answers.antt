@@ -38,9 +38,12 @@ returns-in-Rebuild c = sym (ap (λ (l : Line). asked_in (command_in l)) c.in-Reb
 pub returns-in-Scrub : goal.returns-in-Scrub
 returns-in-Scrub c = sym (ap (λ (l : Line). asked_in (command_in l)) c.in-Scrub.is)
 
+pub returns-in-Rebalance : goal.returns-in-Rebalance
+returns-in-Rebalance c = sym (ap (λ (l : Line). asked_in (command_in l)) c.in-Rebalance.is)
+
 pub returns-in-Cancel : goal.returns-in-Cancel
 returns-in-Cancel c = sym (ap (λ (l : Line). asked_in (command_in l)) c.in-Cancel.is)
 
 pub returns-in_default : goal.returns-in_default
 returns-in_default c =
-    sym (asks_nothing c.args.line.now c.in_default.not-Write c.in_default.not-Fill c.in_default.not-Read c.in_default.not-Free c.in_default.not-Sum c.in_default.not-Offline c.in_default.not-Online c.in_default.not-Damage c.in_default.not-Spare c.in_default.not-Replace c.in_default.not-Status c.in_default.not-Detach c.in_default.not-Upgrade c.in_default.not-Rebuild c.in_default.not-Scrub c.in_default.not-Cancel)
+    sym (asks_nothing c.args.line.now c.in_default.not-Write c.in_default.not-Fill c.in_default.not-Read c.in_default.not-Free c.in_default.not-Sum c.in_default.not-Offline c.in_default.not-Online c.in_default.not-Damage c.in_default.not-Spare c.in_default.not-Replace c.in_default.not-Status c.in_default.not-Detach c.in_default.not-Upgrade c.in_default.not-Rebuild c.in_default.not-Scrub c.in_default.not-Cancel c.in_default.not-Rebalance)

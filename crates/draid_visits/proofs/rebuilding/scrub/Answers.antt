@@ -1,4 +1,4 @@
-use Rattle.std.proofs.Common.{subst, sym}
+use Rattle.std.proofs.Common.{refl, subst, sym}
 use Rattle.draid_names.specs.declared.pass_kind.PassKind.TheVariants.{Heal}
 use Rattle.draid_pool.specs.Carries.{CarriesOut}
 use Rattle.draid_visits.specs.Visiting.{IsLeft, IsLow, VisitsDo}
@@ -40,3 +40,6 @@ returns-clause-carries g c x is =
 pub returns-clause-passes : goal.returns-clause-passes
 returns-clause-passes g c =
     scrubs_behind c.visit_all-end.result c.visit_all-end.new.progress c.answer.result c.args.pool.now c.visit_all-end.new.pool c.answer.ensures (λ shelf. never_shelf (c.visit_all-end.ensures.cause shelf).0) c.visit_all-end.ensures.leaves
+
+pub returns-clause-idle : goal.returns-clause-idle
+returns-clause-idle g c = c.visit_all-end.ensures.idle refl

@@ -13,12 +13,14 @@ loop-metaslab-init g c = record {
   whole = c.requires.whole;
   alone = c.requires.alone;
   same = λ object. refl;
+  geometry = refl;
   later = areas_still g.A.Area.faults c.args.pool.now;
   many = refl;
   low = c.requires.low;
   left = λ limit is. is;
   began = inr (refl, λ k less. absurd (omega (arith, less)));
   idle = idle_first c.args.kind c.args.marks.now c.args.pool.now c.requires.marks;
+  closing = λ heal is. is;
   carries = λ x is. leads_none g.R.Rack g.A.Area (FromOn x c.args.kind c.args.marks.now c.args.progress.now 0) c.args.pool.now x is;
 }
 
@@ -52,12 +54,14 @@ returns-in-Paused g c =
     record {
       whole = e.whole;
       same = λ object. e.same object ∙ i.same object;
+      geometry = e.geometry ∙ i.geometry;
       later = areas_on g.A.Area.faults old l.pool new i.later e.later;
       cause = λ is. absurd (cc is);
       left = λ limit is. e.left limit (i.left limit is);
       paused = e.paused;
       began = e.began;
       leaves = runs_there c.args.kind new m (omega (arith, inside, many, long)) e.leaves;
+      idle = λ heal is. e.idle heal (i.closing heal is);
       carries = λ x is. (let y = seen_in g.R.Rack g.A.Area old x is m inside in
           visiting_pauses g.R.Rack g.A.Area c.args.kind c.args.marks.now c.args.progress.now m l.pool new x y.0 y.1 c.if-not-marks-metaslab.false l.progress now (i.carries x is) e.carries);
     }
@@ -79,12 +83,14 @@ returns-in-Stopped g c =
     record {
       whole = e.whole;
       same = λ object. e.same object ∙ i.same object;
+      geometry = e.geometry ∙ i.geometry;
       later = areas_on g.A.Area.faults old l.pool new i.later e.later;
       cause = λ is. (let f = e.cause is in (f.0, rose_then g.A.Area.faults old l.pool new i.later f.1));
       left = λ limit is. e.left limit (i.left limit is);
       paused = tt;
       began = tt;
       leaves = tt;
+      idle = λ heal is. e.idle heal (i.closing heal is);
       carries = λ x is. (let y = seen_in g.R.Rack g.A.Area old x is m inside in
           visiting_stops g.R.Rack g.A.Area c.args.kind c.args.marks.now c.args.progress.now m l.pool new x y.0 y.1 c.if-not-marks-metaslab.false l.progress now c.in-Stopped.why (i.carries x is) e.carries);
     }
@@ -103,12 +109,14 @@ returns g c =
     record {
       whole = i.whole;
       same = i.same;
+      geometry = i.geometry;
       later = i.later;
       cause = λ is. absurd (cc is);
       left = i.left;
       paused = tt;
       began = began_all c.args.marks.now m old l.pool l.progress all c.requires.some i.began;
       leaves = idle_all c.args.marks.now m l.pool (omega (arith, all, many)) i.idle;
+      idle = i.closing;
       carries = λ x is. visiting_ends g.R.Rack g.A.Area c.args.kind c.args.marks.now c.args.progress.now m l.pool x l.progress (i.carries x is) (let seen = is.stands.shards in omega (arith, all, seen));
     }
 
@@ -131,12 +139,14 @@ loop-metaslab-preserved g c =
       whole = e.whole;
       alone = alone_visited c.args.kind m l.pool new e.later.many e.others e.leaves i.alone;
       same = λ object. e.same object ∙ i.same object;
+      geometry = e.geometry ∙ i.geometry;
       later = areas_on g.A.Area.faults old l.pool new i.later e.later;
       many = e.later.many ∙ i.many;
       low = e.low;
       left = λ limit is. e.left limit (i.left limit is);
       began = inl (began_more c.args.kind c.args.marks.now m old l.pool l.progress now inside c.requires.marks mark i.began e.began e.from);
       idle = idle_visited c.args.marks.now m l.pool new e.later.many e.others e.leaves i.idle;
+      closing = λ heal is. e.idle heal (i.closing heal is);
       carries = λ x is. (let y = seen_in g.R.Rack g.A.Area old x is m inside in
           visiting_on g.R.Rack g.A.Area c.args.kind c.args.marks.now c.args.progress.now m l.pool new x y.0 y.1 mark l.progress now (i.carries x is) e.carries);
     }
@@ -156,12 +166,14 @@ loop-metaslab-preserved-then-not-marks-metaslab g c =
       whole = i.whole;
       alone = i.alone;
       same = i.same;
+      geometry = i.geometry;
       later = i.later;
       many = i.many;
       low = low_upto m l.progress i.low;
       left = i.left;
       began = began_passed c.args.marks.now m old l.pool l.progress none i.began;
       idle = idle_passed c.args.marks.now m l.pool none i.idle;
+      closing = i.closing;
       carries = λ x is. (let y = seen_in g.R.Rack g.A.Area old x is m inside in
           visiting_by g.R.Rack g.A.Area c.args.kind c.args.marks.now c.args.progress.now m l.pool x y.0 l.progress y.1 (λ marked. true≢false (sym marked ∙ none)) (i.carries x is));
     }

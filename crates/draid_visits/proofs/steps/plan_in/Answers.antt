@@ -1,9 +1,15 @@
 use Rattle.draid_visits.proofs.Started.{planned, refused}
 use Rattle.draid_visits.proofs.steps.plan_in.Goals as goal
 
+pub returns-in-Ok-clause-closing : goal.returns-in-Ok-clause-closing
+returns-in-Ok-clause-closing g c = c.plan.ensures.keeps.groups.closing
+
 pub returns-in-Ok-clause-goes : goal.returns-in-Ok-clause-goes
 returns-in-Ok-clause-goes g c = λ part pieces x is.
     (let e = c.in-Ok.ensures in planned g.R.Rack g.A.Area part pieces c.args.shard.now x is c.args.kind c.plan.new.shard e.valid e.event (e.acts pieces) e.kit e.reserve e.not_worn)
+
+pub returns-in-Err-clause-closing : goal.returns-in-Err-clause-closing
+returns-in-Err-clause-closing g c = c.plan.ensures.keeps.groups.closing
 
 pub returns-in-Err-clause-goes : goal.returns-in-Err-clause-goes
 returns-in-Err-clause-goes g c = λ part pieces x is.

@@ -18,7 +18,7 @@ returns-then-is_err-clause-table g c =
     table_stays c.args.shard.now c.lend.new.shard c.solve.new.shard unit.does.part l.keeps l.arms c.solve.ensures.only
 
 pub returns-then-is_err-clause-goes : goal.returns-then-is_err-clause-goes
-returns-then-is_err-clause-goes g c = λ part pieces x at.
+returns-then-is_err-clause-goes g c = λ part pieces x at contents.
     (let is = ok_as c.lend.result c.in-Ok-Unit.field-0 Unit c.in-Ok-Unit.is c.in-Ok-Unit.field-0-is in
     let l = c.lend.ensures in
     let s = c.solve.ensures in
@@ -50,22 +50,22 @@ returns-else-is_err-clause-landed g c = λ repaired same.
     ))
 
 pub returns-else-is_err-clause-goes : goal.returns-else-is_err-clause-goes
-returns-else-is_err-clause-goes g c = λ part pieces x at.
+returns-else-is_err-clause-goes g c = λ part pieces x at contents.
     (let is = ok_as c.lend.result c.in-Ok-Unit.field-0 Unit c.in-Ok-Unit.is c.in-Ok-Unit.field-0-is in
     let l = c.lend.ensures in
     let s = c.solve.ensures in
     let e = c.land.ensures in
-    block_goes g.R.Rack g.A.Area c.args.shard.now c.lend.new.shard c.solve.new.shard (l.unit is) l.valid l.areas l.reserve (l.not_worn is) s.valid s.only s.none part pieces x at c.land.new.shard
+    block_goes g.R.Rack g.A.Area c.args.shard.now c.lend.new.shard c.solve.new.shard (l.unit is) l.valid l.areas l.reserve (l.not_worn is) s.valid s.only s.none part pieces x at contents c.land.new.shard
     (on_ok c.solve.result _ (sym c.is_err.ensures.value ∙ c.if-is_err.false) s.solves) c.land.result c.min.result c.min.ensures e.valid e.areas e.lands e.reserve)
 
 pub returns-in-Ok-End-clause-goes : goal.returns-in-Ok-End-clause-goes
-returns-in-Ok-End-clause-goes g c = λ part pieces x at.
+returns-in-Ok-End-clause-goes g c = λ part pieces x at contents.
     (let end = c.lend.ensures.end (ok_as c.lend.result c.in-Ok-End.field-0 End c.in-Ok-End.is c.in-Ok-End.field-0-is) in
     goes_to g.R.Rack g.A.Area part pieces x c.end_in.new.shard (λ holds y. NextIs part Heal false (next.Ended c.end_in.result) holds × SameBlocks x y)
     (c.end_in.ensures.goes part pieces x (subst (λ s. IsMetaslab g.R.Rack g.A.Area part pieces s x) (sym end.1) at)))
 
 pub returns-in-Err-Worn-clause-goes : goal.returns-in-Err-Worn-clause-goes
-returns-in-Err-Worn-clause-goes g c = λ part pieces x at.
+returns-in-Err-Worn-clause-goes g c = λ part pieces x at contents.
     (let old = c.args.shard.now in
     let why = c.in-Err-Worn in
     let e = why.ensures in
@@ -73,7 +73,7 @@ returns-in-Err-Worn-clause-goes g c = λ part pieces x at.
     (worn g.R.Rack g.A.Area part pieces old x at c.lend.new.shard e.valid e.none.none e.kit e.reserve Heal e.more (worn_as old why.field-0 why.field-0-0 e.refused why.field-0-is)))
 
 pub returns-in-Err-NoMemory-clause-goes : goal.returns-in-Err-NoMemory-clause-goes
-returns-in-Err-NoMemory-clause-goes g c = λ part pieces x at.
+returns-in-Err-NoMemory-clause-goes g c = λ part pieces x at contents.
     (let old = c.args.shard.now in
     let e = c.in-Err-NoMemory.ensures in
     goes_to g.R.Rack g.A.Area part pieces x c.lend.new.shard (λ holds y. NextIs part Heal false next.NoMemory holds × SameBlocks x y)

@@ -12,7 +12,7 @@ use Rattle.draid_pool.specs.declared.fault.SyncFault.TheVariants as sync
 use Rattle.draid_visits.specs.Steps.{IsRebuiltIn, StartIs}
 use Rattle.draid_visits.specs.Visiting.{BeginIs}
 use Rattle.draid_visits.specs.declared.visiting.Begun.TheVariants as start
-use Rattle.draid_visits.proofs.Kept.{at_set, others_set}
+use Rattle.draid_visits.proofs.Kept.{at_set, idle_set, others_set}
 use Rattle.draid_visits.proofs.Leading.{steps_as, steps_in}
 use Rattle.draid_visits.proofs.Visited.{lacks_so, not_running}
 use Rattle.draid_visits.proofs.visiting.begin_in.Goals as goal
@@ -42,8 +42,10 @@ returns-in-Ok g c =
     record {
       whole = whole_on g.R.Rack g.A.Area m pool new shard after c.requires.whole set e.valid e.table;
       same = λ object. refl;
+      geometry = set.geometry;
       later = areas_set g.R.Rack g.A.Area m pool new shard after set (records_same g.A.Area.faults shard after e.areas);
       others = others_set g.R.Rack g.A.Area m pool new shard after set;
+      idle = idle_set g.R.Rack g.A.Area m pool new shard after set e.closing;
       begins = (
         subst (λ geometry. c.in-Ok.stripe ≤ metaslab_stripes geometry) (whole_geometry g.R.Rack g.A.Area pool m shard c.requires.whole there) e.low,
         at_set g.R.Rack g.A.Area (λ z. IsSomeAnd z.pass (λ (pass : Pass). pass.kind ≡ c.args.kind)) m pool new shard after set e.pass,
@@ -64,8 +66,10 @@ returns-in-Err-Nothing g c =
     record {
       whole = whole_on g.R.Rack g.A.Area m pool new shard after c.requires.whole set e.valid e.table;
       same = λ object. refl;
+      geometry = set.geometry;
       later = areas_set g.R.Rack g.A.Area m pool new shard after set (records_same g.A.Area.faults shard after e.areas);
       others = others_set g.R.Rack g.A.Area m pool new shard after set;
+      idle = idle_set g.R.Rack g.A.Area m pool new shard after set e.closing;
       begins = (
         at_set g.R.Rack g.A.Area (λ z. z.pass ≡ None) m pool new shard after set e.none,
         (subst (IsPlanRefused shard c.args.kind) c.in-Err-Nothing.field-0-is e.refused).1.0,
@@ -89,8 +93,10 @@ returns-in-Err-Worn g c =
     record {
       whole = whole_on g.R.Rack g.A.Area m pool new shard after c.requires.whole set e.valid e.table;
       same = λ object. refl;
+      geometry = set.geometry;
       later = areas_set g.R.Rack g.A.Area m pool new shard after set (records_same g.A.Area.faults shard after e.areas);
       others = others_set g.R.Rack g.A.Area m pool new shard after set;
+      idle = idle_set g.R.Rack g.A.Area m pool new shard after set e.closing;
       begins = λ is. absurd (cc is);
       carries = λ x is. steps_as g.R.Rack g.A.Area (λ geometry perms holds. StartIs (record { geometry = geometry; perms = perms; number = m }) c.args.kind (Err c.in-Err-Worn.field-0) holds) (λ geometry perms holds. BeginIs geometry perms c.args.kind m (start.Stopped sync.Worn) holds) pool new
           (steps_in g.R.Rack g.A.Area m pool new shard after (λ part holds. StartIs part c.args.kind (Err c.in-Err-Worn.field-0) holds) set (λ part pieces y own has. e.goes part pieces y own))
@@ -110,8 +116,10 @@ returns-in-Err-Last g c =
     record {
       whole = whole_on g.R.Rack g.A.Area m pool new shard after c.requires.whole set e.valid e.table;
       same = λ object. refl;
+      geometry = set.geometry;
       later = areas_set g.R.Rack g.A.Area m pool new shard after set (records_same g.A.Area.faults shard after e.areas);
       others = others_set g.R.Rack g.A.Area m pool new shard after set;
+      idle = idle_set g.R.Rack g.A.Area m pool new shard after set e.closing;
       begins = λ is. absurd (cc is);
       carries = λ x is. steps_as g.R.Rack g.A.Area (λ geometry perms holds. StartIs (record { geometry = geometry; perms = perms; number = m }) c.args.kind (Err c.in-Err-Last.field-0) holds) (λ geometry perms holds. BeginIs geometry perms c.args.kind m (start.Stopped sync.Last) holds) pool new
           (steps_in g.R.Rack g.A.Area m pool new shard after (λ part holds. StartIs part c.args.kind (Err c.in-Err-Last.field-0) holds) set (λ part pieces y own has. e.goes part pieces y own))
@@ -131,8 +139,10 @@ returns-in-Err-NoMemory g c =
     record {
       whole = whole_on g.R.Rack g.A.Area m pool new shard after c.requires.whole set e.valid e.table;
       same = λ object. refl;
+      geometry = set.geometry;
       later = areas_set g.R.Rack g.A.Area m pool new shard after set (records_same g.A.Area.faults shard after e.areas);
       others = others_set g.R.Rack g.A.Area m pool new shard after set;
+      idle = idle_set g.R.Rack g.A.Area m pool new shard after set e.closing;
       begins = λ is. absurd (cc is);
       carries = λ x is. steps_as g.R.Rack g.A.Area (λ geometry perms holds. StartIs (record { geometry = geometry; perms = perms; number = m }) c.args.kind (Err c.in-Err-NoMemory.field-0) holds) (λ geometry perms holds. BeginIs geometry perms c.args.kind m (start.Stopped sync.NoMemory) holds) pool new
           (steps_in g.R.Rack g.A.Area m pool new shard after (λ part holds. StartIs part c.args.kind (Err c.in-Err-NoMemory.field-0) holds) set (λ part pieces y own has. e.goes part pieces y own))

@@ -9,7 +9,7 @@ use Rattle.draid_pool.proofs.SyncSteps.{borrowed_at}
 use Rattle.draid_pool.proofs.Wholes.{few_whole, whole_valid}
 use Rattle.draid_visits.specs.Steps.{IsRunningOf, NextIs}
 use Rattle.draid_visits.specs.declared.steps.Next.TheVariants as next
-use Rattle.draid_visits.proofs.Kept.{at_set, errors_fit, fewer_left, left_counted, left_same, low_after, others_on, others_same, others_set, rewritten_fits, rewritten_more, room_for, runs_kept, runs_on, start_few}
+use Rattle.draid_visits.proofs.Kept.{at_set, errors_fit, fewer_left, idle_set, left_counted, left_same, low_after, others_on, others_same, others_set, rewritten_fits, rewritten_more, room_for, runs_kept, runs_on, start_few}
 use Rattle.draid_visits.proofs.Leading.{leads_none, steps_to}
 use Rattle.draid_visits.proofs.Lending.{SomeLends, lends_end, lends_more, lends_paused, lends_starved, lends_worn, unused, used}
 use Rattle.draid_visits.proofs.SharedWhole.{whole_shared}
@@ -24,6 +24,7 @@ units-init g c = record {
   same = λ object. refl;
   later = areas_still g.A.Area.faults c.args.pool.now;
   others = others_same c.args.metaslab c.args.pool.now;
+  idle = λ is. is;
   few = start_few c.args.pool.now c.args.metaslab c.args.progress.now;
   rewritten = c.requires.low.repaired;
   errors = refl;
@@ -94,6 +95,7 @@ units-preserved g c =
       same = i.same;
       later = areas_on g.A.Area.faults c.args.pool.now l.pool new i.later (areas_set g.R.Rack g.A.Area m l.pool new shard after set (records_same g.A.Area.faults shard after e.areas));
       others = others_on m c.args.pool.now l.pool new i.many i.others (others_set g.R.Rack g.A.Area m l.pool new shard after set);
+      idle = λ is. idle_set g.R.Rack g.A.Area m l.pool new shard after set e.table.closing (i.idle is);
       few = (let fewer = fewer_left g.R.Rack g.A.Area c.args.kind m l.pool new shard after set whole (e.landed c.in-Landed.repaired refl).1 in
           let few = i.few in
           let more = ap (λ p. p.stripes) c.count.ensures in
@@ -137,6 +139,7 @@ returns-in-Ended g c =
     record {
       whole = whole_shared g.R.Rack g.A.Area m l.pool new shard after i.whole set e.valid e.table;
       same = i.same;
+      geometry = i.geometry;
       later = areas_on g.A.Area.faults c.args.pool.now l.pool new i.later (areas_set g.R.Rack g.A.Area m l.pool new shard after set (records_same g.A.Area.faults shard after e.areas));
       not_shelf = λ is. absurd (cc is);
       low = (let most = e.low n refl in
@@ -146,6 +149,7 @@ returns-in-Ended g c =
       from = i.from;
       paused = tt;
       others = others_on m c.args.pool.now l.pool new i.many i.others (others_set g.R.Rack g.A.Area m l.pool new shard after set);
+      idle = λ is. idle_set g.R.Rack g.A.Area m l.pool new shard after set e.table.closing (i.idle is);
       leaves = at_set g.R.Rack g.A.Area (λ z. z.pass ≡ None) m l.pool new shard after set (e.ended n refl);
       carries = λ x is. lends_end g.R.Rack g.A.Area c.args.kind m c.args.progress.now l.pool new x l.progress n up (i.carries x is)
           (steps_to g.R.Rack g.A.Area m l.pool new shard after (λ part holds. NextIs part c.args.kind up (next.Ended n) holds) set e.goes);
@@ -169,6 +173,7 @@ returns-in-Paused g c =
     record {
       whole = whole_shared g.R.Rack g.A.Area m l.pool new shard after i.whole set e.valid e.table;
       same = i.same;
+      geometry = i.geometry;
       later = areas_on g.A.Area.faults c.args.pool.now l.pool new i.later (areas_set g.R.Rack g.A.Area m l.pool new shard after set (records_same g.A.Area.faults shard after e.areas));
       not_shelf = λ is. absurd (cc is);
       low = (let errors = i.errors in
@@ -177,6 +182,7 @@ returns-in-Paused g c =
       from = i.from;
       paused = set_up;
       others = others_on m c.args.pool.now l.pool new i.many i.others (others_set g.R.Rack g.A.Area m l.pool new shard after set);
+      idle = λ is. idle_set g.R.Rack g.A.Area m l.pool new shard after set e.table.closing (i.idle is);
       leaves = at_set g.R.Rack g.A.Area (λ z. (pass : Pass) × (z.pass ≡ Some pass) × IsRunningOf c.args.kind pass) m l.pool new shard after set (runs_kept c.args.kind shard after (e.stays refl) (i.running shard there));
       carries = λ x is. lends_paused g.R.Rack g.A.Area c.args.kind m c.args.progress.now l.pool new x l.progress up c.is_used_up-used_up.ensures (i.carries x is)
           (steps_to g.R.Rack g.A.Area m l.pool new shard after (λ part holds. NextIs part c.args.kind up next.Paused holds) set e.goes);
@@ -199,6 +205,7 @@ returns-in-Worn g c =
     record {
       whole = whole_shared g.R.Rack g.A.Area m l.pool new shard after i.whole set e.valid e.table;
       same = i.same;
+      geometry = i.geometry;
       later = areas_on g.A.Area.faults c.args.pool.now l.pool new i.later (areas_set g.R.Rack g.A.Area m l.pool new shard after set (records_same g.A.Area.faults shard after e.areas));
       not_shelf = λ is. absurd (cc is);
       low = (let errors = i.errors in
@@ -207,6 +214,7 @@ returns-in-Worn g c =
       from = i.from;
       paused = tt;
       others = others_on m c.args.pool.now l.pool new i.many i.others (others_set g.R.Rack g.A.Area m l.pool new shard after set);
+      idle = λ is. idle_set g.R.Rack g.A.Area m l.pool new shard after set e.table.closing (i.idle is);
       leaves = tt;
       carries = λ x is. lends_worn g.R.Rack g.A.Area c.args.kind m c.args.progress.now l.pool new x l.progress l.progress up c.is_used_up-used_up.ensures (i.carries x is)
           (steps_to g.R.Rack g.A.Area m l.pool new shard after (λ part holds. NextIs part c.args.kind up next.Worn holds) set e.goes);
@@ -229,6 +237,7 @@ returns-in-NoMemory g c =
     record {
       whole = whole_shared g.R.Rack g.A.Area m l.pool new shard after i.whole set e.valid e.table;
       same = i.same;
+      geometry = i.geometry;
       later = areas_on g.A.Area.faults c.args.pool.now l.pool new i.later (areas_set g.R.Rack g.A.Area m l.pool new shard after set (records_same g.A.Area.faults shard after e.areas));
       not_shelf = λ is. absurd (cc is);
       low = (let errors = i.errors in
@@ -237,6 +246,7 @@ returns-in-NoMemory g c =
       from = i.from;
       paused = tt;
       others = others_on m c.args.pool.now l.pool new i.many i.others (others_set g.R.Rack g.A.Area m l.pool new shard after set);
+      idle = λ is. idle_set g.R.Rack g.A.Area m l.pool new shard after set e.table.closing (i.idle is);
       leaves = tt;
       carries = λ x is. lends_starved g.R.Rack g.A.Area c.args.kind m c.args.progress.now l.pool new x l.progress l.progress up c.is_used_up-used_up.ensures (i.carries x is)
           (steps_to g.R.Rack g.A.Area m l.pool new shard after (λ part holds. NextIs part c.args.kind up next.NoMemory holds) set e.goes);

@@ -5,6 +5,7 @@ use Rattle.draid_session.specs.State.{State}
 use Rattle.draid_pool.specs.Failing.{AreasLater}
 use Rattle.draid_pool.specs.Pointers.{SamePointers}
 use Rattle.draid_pool.specs.Pools.{Represents}
+use Rattle.draid_pool.specs.Syncing.{AreIdle}
 use Rattle.draid_pool.specs.Whole.{IsWhole}
 use Rattle.draid_visits.specs.Steps.{IsRunningOf}
 use Rattle.draid_visits.specs.Visiting.{IsAt, IsLeft, KeepsOthers}
@@ -21,6 +22,7 @@ invariant-units g l = record {
   same : SamePointers l.initial.pool l.pool;
   later : AreasLater g.A.Area.faults l.initial.pool l.pool;
   others : KeepsOthers l.metaslab l.initial.pool l.pool;
+  idle : AreIdle l.initial.pool.metaslabs.shards.items → AreIdle l.pool.metaslabs.shards.items;
   few : l.progress.stripes + stripes_left l.pool l.metaslab ≤ l.initial.progress.stripes + metaslab_stripes l.initial.pool.geometry;
   rewritten : l.progress.repaired ≤ l.progress.stripes * 2 ^ 8;
   errors : l.progress.errors ≡ l.initial.progress.errors;

@@ -10,7 +10,7 @@ use Rattle.draid_pool.proofs.Rises.{areas_on, areas_set, areas_still, err_on, re
 use Rattle.draid_pool.proofs.SyncSteps.{borrowed_at, whole_on}
 use Rattle.draid_pool.proofs.Wholes.{whole_valid}
 use Rattle.draid_visits.specs.Steps.{IsRunningOf, ReadyIs}
-use Rattle.draid_visits.proofs.Kept.{at_set, at_synced, group_low, others_on, others_same, others_set, others_synced}
+use Rattle.draid_visits.proofs.Kept.{at_set, at_synced, geometry_synced, group_low, others_on, others_same, others_set, others_synced}
 use Rattle.draid_visits.proofs.Leading.{leads_none, steps_in}
 use Rattle.draid_visits.proofs.Waiting.{Readying, it_runs, it_stops, it_syncs, it_waits}
 use Rattle.draid_visits.proofs.visiting.run_rebuild.Goals as goal
@@ -21,6 +21,7 @@ loop-metaslab-init g c = record {
   many = refl;
   rebuild = c.requires.rebuild;
   same = λ object. refl;
+  geometry = refl;
   later = areas_still g.A.Area.faults c.args.pool.now;
   others = others_same c.args.metaslab c.args.pool.now;
   carries = λ x is. leads_none g.R.Rack g.A.Area (Readying x.geometry x.perms c.args.metaslab) c.args.pool.now x is;
@@ -71,6 +72,7 @@ returns-in-Err g c =
     record {
       whole = f.whole;
       same = λ object. f.same object ∙ i.same object;
+      geometry = geometry_synced g.R.Rack g.A.Area mid new (whole_on g.R.Rack g.A.Area m l.pool mid shard after i.whole set e.valid e.table) f.whole f.arms ∙ i.geometry;
       later = areas_on g.A.Area.faults old mid new later f.later;
       cause = λ is. rose_then g.A.Area.faults old mid new later (f.cause (err_on Unit Synced c.in-Err.why sync.Shelf is));
       others = others_on m old mid new (length-set l.pool.metaslabs.shards.items m after ∙ i.many) others (others_synced m mid new f.passes);
@@ -121,6 +123,7 @@ loop-metaslab-preserved g c =
       rebuild = at_synced m mid new f.passes (at_set g.R.Rack g.A.Area (λ z. IsSomeAnd z.pass (λ (pass : Pass). pass.kind ≡ Rebuild)) m l.pool mid shard after set
           (subst (λ z. IsSomeAnd z.pass (λ (pass : Pass). pass.kind ≡ Rebuild)) (sym (e.waits refl)) (i.rebuild shard there)));
       same = λ object. f.same object ∙ i.same object;
+      geometry = geometry_synced g.R.Rack g.A.Area mid new (whole_on g.R.Rack g.A.Area m l.pool mid shard after i.whole set e.valid e.table) f.whole f.arms ∙ i.geometry;
       later = areas_on g.A.Area.faults old mid new later f.later;
       others = others_on m old mid new long others (others_synced m mid new f.passes);
       carries = λ x is. it_syncs g.R.Rack g.A.Area m mid new x c.in-Ok.field-0
@@ -146,6 +149,7 @@ returns-then-ready_in g c =
     record {
       whole = whole_on g.R.Rack g.A.Area m l.pool mid shard after i.whole set e.valid e.table;
       same = i.same;
+      geometry = i.geometry;
       later = later;
       cause = λ is. absurd (cc is);
       others = others;

@@ -18,6 +18,7 @@ invariant-loop-metaslab g l = record {
   many : length l.pool.metaslabs.shards.items ≡ length l.initial.pool.metaslabs.shards.items;
   rebuild : IsAt l.pool l.metaslab (λ shard. IsSomeAnd shard.pass (λ (pass : Pass). pass.kind ≡ Rebuild));
   same : SamePointers l.initial.pool l.pool;
+  geometry : l.pool.geometry ≡ l.initial.pool.geometry;
   later : AreasLater g.A.Area.faults l.initial.pool l.pool;
   others : KeepsOthers l.metaslab l.initial.pool l.pool;
   carries : (x : State) → Represents g.R.Rack g.A.Area l.initial.pool x → Waiting g.R.Rack g.A.Area l.metaslab l.pool x;

@@ -31,12 +31,14 @@ returns-in-At g c =
     record {
       whole = f.whole;
       same = λ object. f.same object ∙ e.same object;
+      geometry = f.geometry ∙ e.geometry;
       later = areas_on g.A.Area.faults old mid new e.later f.later;
       cause = λ is. (let f = f.cause is in (f.0, rose_then g.A.Area.faults old mid new e.later f.1));
       low = f.low;
       left = f.left;
       paused = f.paused;
       others = others_on m old mid new e.later.many e.others f.others;
+      idle = λ heal is. f.idle heal (e.idle is);
       leaves = f.leaves;
       from = f.from;
       began = began_so c.args.kind c.run.result old m c.args.progress.now c.run.new.progress f.began;
@@ -52,12 +54,14 @@ returns-in-Nothing g c =
     record {
       whole = e.whole;
       same = e.same;
+      geometry = e.geometry;
       later = e.later;
       cause = λ is. absurd (cc is);
       low = low_upto m c.args.progress.now c.requires.low;
       left = λ limit is. is;
       paused = tt;
       others = e.others;
+      idle = λ heal. e.idle;
       leaves = e.begins.0;
       from = λ some. some;
       began = inr (refl, e.begins.1, e.begins.2);
@@ -73,12 +77,14 @@ returns-in-Stopped g c =
     record {
       whole = e.whole;
       same = e.same;
+      geometry = e.geometry;
       later = e.later;
       cause = λ is. absurd (e.begins (shelf_so c.in-Stopped.why is));
       low = low_upto m c.args.progress.now c.requires.low;
       left = λ limit is. is;
       paused = tt;
       others = e.others;
+      idle = λ heal. e.idle;
       leaves = tt;
       from = λ some. some;
       began = tt;

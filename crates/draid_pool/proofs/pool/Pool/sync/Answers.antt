@@ -1,69 +1,45 @@
-use Rattle.std.proofs.Common.{◌+◌, ◌∙◌, ℕ, arith, ap}
-use Rattle.draid_pool.specs.declared.fault.SyncFault.TheVariants as sync
-use Rattle.draid_pool.specs.declared.fault.Synced.{Synced}
-use Rattle.draid_pool.proofs.Keeping.{all_arms_by, all_arms_on, all_asked_by, all_asked_on, passes_by, passes_on, racks_by, racks_on}
-use Rattle.draid_pool.proofs.Rises.{err_on, areas_on, rose_then}
-use Rattle.draid_pool.proofs.Wholes.{same_pointers}
-use Rattle.draid_pool.proofs.SyncCalls.{sync_done, sync_stops, sync_unfinished}
-use Rattle.draid_pool.proofs.WholeGroups.{whole_next}
-use Rattle.draid_pool.proofs.Refusing.{no_refusal}
+use Rattle.std.proofs.Common.{◌+◌, arith, refl}
+use Rattle.draid_uber.specs.Slots.{group_of}
+use Rattle.draid_uber.specs.Uber.{kept_of}
+use Rattle.draid_pool.proofs.GroupClosed.{closes_each}
+use Rattle.draid_pool.proofs.GroupDone.{with_both}
+use Rattle.draid_pool.proofs.Keeping.{all_arms_by, all_asked_by, passes_by, racks_by}
+use Rattle.draid_pool.proofs.SyncDone.{sync_all, sync_waits}
+use Rattle.draid_pool.proofs.Wholes.{few_geometry, same_pointers}
 use Rattle.draid_pool.proofs.pool.Pool.sync.Goals as goal
 
-pub overflow_add-group : goal.overflow_add-group
-overflow_add-group g c =
-    let next = whole_next g.R.Rack g.A.Area c.finish.new.self c.in_default.ensures.whole in
-    let is = c.committed-group.ensures in
-    omega (arith, next, is)
-
-pub returns-in-Err : goal.returns-in-Err
-returns-in-Err g c =
+pub sync_groups-requires : goal.sync_groups-requires
+sync_groups-requires g c =
+    let pool = c.args.self.now in
+    let w = c.requires.whole in
     record {
-      whole = c.in-Err.ensures.whole;
-      same = same_pointers c.args.self.now c.finish.new.self c.in-Err.ensures.objects;
-      later = c.in-Err.ensures.later;
-      passes = c.in-Err.ensures.passes;
-      racks = c.in-Err.ensures.racks;
-      arms = c.in-Err.ensures.arms;
-      asked = c.in-Err.ensures.asked;
-      versions = tt;
-      rises = tt;
-      cause = λ is. c.in-Err.ensures.cause (err_on Synced Unit c.in-Err.fault sync.Shelf is);
-      carries = λ x is. sync_unfinished g.R.Rack g.A.Area c.finish.new.self x c.in-Err.fault (c.in-Err.ensures.carries x is);
+      fits = tt;
+      some = (let some = w.layout.geometry_is.props.some_metaslabs in omega (arith, some));
+      few = few_geometry g.R.Rack g.A.Area pool w;
+      own = refl;
+      valid = w.uber;
+      ready = closes_each g.R.Rack g.A.Area pool (group_of (kept_of pool.uber) + 1) w refl;
     }
 
-pub returns-in-Ok : goal.returns-in-Ok
-returns-in-Ok g c =
-    record {
-      whole = c.in-Ok.ensures.whole;
-      same = same_pointers c.args.self.now c.commit_group.new.self (c.in-Ok.ensures.objects ∙ c.in_default.ensures.objects);
-      later = areas_on g.A.Area.faults c.args.self.now c.finish.new.self c.commit_group.new.self c.in_default.ensures.later c.in-Ok.ensures.later;
-      passes = passes_on c.args.self.now c.finish.new.self c.commit_group.new.self c.in_default.ensures.passes (passes_by g.R.Rack.faults c.finish.new.self c.commit_group.new.self c.in-Ok.ensures.stays);
-      racks = racks_on g.R.Rack.faults c.args.self.now c.finish.new.self c.commit_group.new.self c.in_default.ensures.racks (racks_by g.R.Rack.faults c.finish.new.self c.commit_group.new.self c.in-Ok.ensures.stays);
-      arms = all_arms_on c.args.self.now c.finish.new.self c.commit_group.new.self c.in_default.ensures.arms (all_arms_by g.R.Rack.faults c.finish.new.self c.commit_group.new.self c.in-Ok.ensures.stays);
-      asked = all_asked_on c.args.self.now c.finish.new.self c.commit_group.new.self c.in_default.ensures.asked (all_asked_by g.R.Rack.faults c.finish.new.self c.commit_group.new.self c.in-Ok.ensures.stays);
-      versions = c.in-Ok.ensures.versions;
-      rises = (let grows = c.in_default.ensures.grows in
-          let named = c.in-Ok.ensures.named in
-          let was = c.committed-group.ensures in
-          omega (arith, grows, named, was));
-      cause = λ is. absurd (no_refusal is);
-      carries = λ x is. sync_done g.R.Rack g.A.Area c.finish.new.self c.commit_group.new.self x (c.committed-group.result + 1) c.in-Ok.thin (c.in_default.ensures.carries x is)
-          (ap (λ n. n + 1) c.committed-group.ensures) c.in-Ok.ensures.carries;
-    }
+pub unreachable-requires : goal.unreachable-requires
+unreachable-requires g c = sync_waits g.R.Rack g.A.Area c.args.self.now c.requires.whole c.sync_groups.new.metaslabs c.sync_groups.new.uber c.in-None.ensures.syncs
 
-pub returns-in-Err-commit_group : goal.returns-in-Err-commit_group
-returns-in-Err-commit_group g c =
+pub returns : goal.returns
+returns g c =
+    let old = c.args.self.now in
+    let new = with_both g.R.Rack g.A.Area old c.sync_groups.new.metaslabs c.sync_groups.new.uber in
+    let z = sync_all g.R.Rack g.A.Area old c.requires.whole c.in-Some.result c.sync_groups.new.metaslabs c.sync_groups.new.uber c.in-Some.ensures.syncs in
     record {
-      whole = c.in-Err-commit_group.ensures.whole;
-      same = same_pointers c.args.self.now c.commit_group.new.self (c.in-Err-commit_group.ensures.objects ∙ c.in_default.ensures.objects);
-      later = areas_on g.A.Area.faults c.args.self.now c.finish.new.self c.commit_group.new.self c.in_default.ensures.later c.in-Err-commit_group.ensures.later;
-      passes = passes_on c.args.self.now c.finish.new.self c.commit_group.new.self c.in_default.ensures.passes (passes_by g.R.Rack.faults c.finish.new.self c.commit_group.new.self c.in-Err-commit_group.ensures.stays);
-      racks = racks_on g.R.Rack.faults c.args.self.now c.finish.new.self c.commit_group.new.self c.in_default.ensures.racks (racks_by g.R.Rack.faults c.finish.new.self c.commit_group.new.self c.in-Err-commit_group.ensures.stays);
-      arms = all_arms_on c.args.self.now c.finish.new.self c.commit_group.new.self c.in_default.ensures.arms (all_arms_by g.R.Rack.faults c.finish.new.self c.commit_group.new.self c.in-Err-commit_group.ensures.stays);
-      asked = all_asked_on c.args.self.now c.finish.new.self c.commit_group.new.self c.in_default.ensures.asked (all_asked_by g.R.Rack.faults c.finish.new.self c.commit_group.new.self c.in-Err-commit_group.ensures.stays);
-      versions = tt;
-      rises = tt;
-      cause = λ is. rose_then g.A.Area.faults c.args.self.now c.finish.new.self c.commit_group.new.self c.in_default.ensures.later (c.in-Err-commit_group.ensures.cause (err_on Synced ℕ c.in-Err-commit_group.fault sync.Shelf is));
-      carries = λ x is. sync_stops g.R.Rack g.A.Area c.finish.new.self c.commit_group.new.self x (c.committed-group.result + 1) c.in-Err-commit_group.fault (c.in_default.ensures.carries x is)
-          (ap (λ n. n + 1) c.committed-group.ensures) c.in-Err-commit_group.ensures.carries;
+      whole = z.whole;
+      same = same_pointers old new refl;
+      later = z.later;
+      passes = passes_by g.R.Rack.faults old new z.stays;
+      racks = racks_by g.R.Rack.faults old new z.stays;
+      arms = all_arms_by g.R.Rack.faults old new z.stays;
+      asked = all_asked_by g.R.Rack.faults old new z.stays;
+      versions = z.versions;
+      rises = z.rises;
+      idle = z.idle;
+      cause = z.cause;
+      carries = z.carries;
     }
