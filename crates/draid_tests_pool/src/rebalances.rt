@@ -1,25 +1,25 @@
 use crate::rebuilds::{RULES, count_lines, run_lines};
-use crate::scrubs::SUM;
+use crate::scrubs::{BLOCK, SUM};
 use draid_lines::MemorySink;
 use draid_shelf::{CrashRule, MemoryShelf, Place, Shelf};
 use std::thread::Threads;
 
 /// A slot gets a new disk, and is rebalanced twice.
 static REBALANCED: &str =
-    "create draid1:2d:3c:0s 3 sector=512 height=8 metaslabs=2 slices=2\nfill 1 6 1024 1\nsync\nreplace 0\nrebalance 0\nrebalance 0\nsum 1 6\n";
+    "create draid1:2d:3c:0s 3 sector=512 height=8 metaslabs=2 slices=1\nfill 7 1 1024 1\nsync\nreplace 0\nrebalance 0\nrebalance 0\nsum 7 1\n";
 
 /// What it replies: the old disk goes, and then there is no other.
-static DETACHED: &str = "rebalance 0 blocks=6 repaired=6 errors=0 detached group=4";
+static DETACHED: &str = "rebalance 0 blocks=1 repaired=1 errors=0 detached group=4";
 
-static KEPT: &str = "rebalance 0 blocks=6 repaired=0 errors=0 kept";
+static KEPT: &str = "rebalance 0 blocks=1 repaired=0 errors=0 kept";
 
 // ---- stops
 
 /// A later session rebalances again, and takes the sum at once, behind that, and with another leaf gone.
-static LATER: &str = "import\nsum 1 6\nrebalance 0\nsum 1 6\noffline 1\nsum 1 6\n";
+static LATER: &str = "import\nsum 7 1\nrebalance 0\nsum 7 1\noffline 1\nsum 7 1\n";
 
 /// So many calls of the devices the session makes.
-const STOPS: u64 = 255;
+const STOPS: u64 = 116;
 
 /// Whether a reply names the group that has the blocks.
 fn has_group(printed: &[u8]) -> bool {
@@ -30,7 +30,7 @@ fn has_group(printed: &[u8]) -> bool {
 fn is_whole<R: AllocGlobal + Threads + Sync>(rt: &R, shelf: &mut MemoryShelf) -> Option<bool> {
     let mut found = MemorySink::new(rt.alloc(), Vec::new(rt.alloc()));
     run_lines(rt, shelf, LATER, &mut found)?;
-    Some(count_lines(found.held(), SUM) == 3)
+    Some(count_lines(found.held(), BLOCK) == 3)
 }
 
 /// What the session prints on devices that stop behind so many calls and then crash, where nothing is lost.
@@ -60,7 +60,7 @@ fn loses_nothing<R: AllocGlobal + Threads + Sync>(rt: &R, rule: CrashRule) -> Op
     Some(
         count_lines(printed.held(), DETACHED) == 1
             && count_lines(printed.held(), KEPT) == 1
-            && count_lines(printed.held(), SUM) == 1,
+            && count_lines(printed.held(), BLOCK) == 1,
     )
 }
 

@@ -73,7 +73,7 @@ fn stopped_scrubs_lose_nothing(rt: HostRuntime) {
 static FAILING: &str =
     "create draid1:2d:3c:0s 3 sector=512 height=8 metaslabs=1 slices=4\nfill 7 1 1024 1\nsync\noffline 0\nreplace 0\ndamage 1 0\nrebuild\nonline 0\nscrub\nsum 7 1\nscrub\nsum 7 1\n";
 
-static BLOCK: &str = "sum 7 1 11dc50489e5b304718cc29201b4ed4b10f93b5f6689721014e88198665d7c3dd";
+pub static BLOCK: &str = "sum 7 1 11dc50489e5b304718cc29201b4ed4b10f93b5f6689721014e88198665d7c3dd";
 
 /// So many calls of the rack come before the first scrub, and before the sum behind it.
 const BEFORE: u64 = 15;
