@@ -44,7 +44,3 @@ module _ {R A : Type 0} (rack : racks.Ghosts R) where
     -- the group that is closing there is the next one
     pub found_next : (group : ℕ) → before.closing ≡ Some group → group ≡ next
     found_next group closing = (let behind = closing_behind rack area before group drifts.valid closing in let is = found_ready.next in omega (arith, behind, is))
-
-    -- a look changes nothing
-    pub seen_ready : (now : ℕ → Option (Shard R A)) (after : Shard R A) → ((k : ℕ) → now k ≡ (if k == m then Some after else last k)) → after ≡ before → EachIs count (ClosesNext rack next) now
-    seen_ready now after sets same = each_stays (ClosesNext rack next) last now m after sets (subst (ClosesNext rack next) (sym same) found_ready) count each
