@@ -1,5 +1,5 @@
 -- What the phases of a sync over metaslabs ask of each other.
-use Rattle.std.proofs.Common.{◌≡◌, ◌==◌, ◌<◌, ◌≤◌, ◌+◌, ◌∙◌, ℕ, Bool, true, Option, Some, arith, sym, subst, if◌then◌else◌}
+use Rattle.std.proofs.Common.{◌≡◌, ◌<◌, ◌≤◌, ◌+◌, ◌∙◌, ℕ, Bool, true, Option, Some, arith, sym, subst}
 use Rattle.draid_names.specs.declared.numbers.TheConstants.{LAST_NUMBER}
 use Rattle.draid_rack.specs.declared.Rack as racks
 use Rattle.draid_area.specs.declared.Area as areas
@@ -13,7 +13,6 @@ use Rattle.draid_pool.specs.Grouping.{ClosesNext, CommitsNext}
 use Rattle.draid_pool.specs.Rounds.{EachIs}
 use Rattle.draid_pool.proofs.GroupKeeps.{close_ready, closing_behind}
 use Rattle.draid_pool.proofs.Holding.{some_same}
-use Rattle.draid_pool.proofs.RoundSteps.{each_stays}
 use Rattle.draid_pool.proofs.Wholes.{open_high}
 
 module _ {R A : Type 0} (rack : racks.Ghosts R) where

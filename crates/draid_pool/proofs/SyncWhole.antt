@@ -1,5 +1,5 @@
 -- What a thread needs of its metaslabs it has behind a sync that it made.
-use Rattle.std.proofs.Common.{◌≡◌, ◌==◌, ◌<◌, ◌≤◌, ◌+◌, ◌∙◌, ◌⊎◌, inl, inr, ℕ, zero, suc, Bool, true, Option, Some, None, Ok, Err, arith, refl, sym, ap, subst, if◌then◌else◌, eq-eqb, ne_eqb}
+use Rattle.std.proofs.Common.{◌≡◌, ◌<◌, ◌≤◌, ◌+◌, ◌∙◌, ◌⊎◌, inl, inr, ℕ, zero, suc, Bool, true, Option, Some, None, Ok, Err, arith, refl, sym, ap, subst, if◌then◌else◌, eq-eqb, ne_eqb}
 use mathlib.Core.Logic.{dite}
 use native.Mathlib.Decide.{ℕ_discrete}
 use Rattle.std.specs.Prelude.{Result}
@@ -16,8 +16,8 @@ use Rattle.draid_uber.specs.Slots.{group_of}
 use Rattle.draid_uber.specs.Uber.{kept_of}
 use Rattle.draid_uber.specs.declared.uber.Uber.{Uber}
 use Rattle.draid_pool.specs.Committing.{DropsFreed}
-use Rattle.draid_pool.specs.Drifts.{Drifts, KeepsOf, groups_number}
-use Rattle.draid_pool.specs.Grouping.{ClosesEach, ClosesIn, ClosesNext, CommitsEach, CommitsIn, FindsClosing, FinishesIn, SealsBy, SealsEach, SeesClosing, SyncsIn, UberNames, WaitsForWrites}
+use Rattle.draid_pool.specs.Drifts.{KeepsOf, groups_number}
+use Rattle.draid_pool.specs.Grouping.{ClosesEach, ClosesIn, ClosesNext, CommitsIn, FindsClosing, FinishesIn, SealsBy, SealsEach, SeesClosing, SyncsIn, UberNames, WaitsForWrites}
 use Rattle.draid_pool.specs.Rounds.{EachIs, HeldEach, HeldOnce, NoneBeyond, StoppedBy}
 use Rattle.draid_pool.specs.Syncing.{Commits, KeepsTable}
 use Rattle.draid_pool.specs.Threads.{HasPointer, IsHeldBy, IsWholeBy, all_of}
@@ -133,8 +133,7 @@ module _ {R A S : Type 0} (rack : racks.Ghosts R) (area : areas.Ghosts A) (last 
   commit_round : (group n sum : ℕ) (a b : S) → n ≤ count → HeldEach rack area last went shared owns (λ none x y. Commits rack group x y) n a sum b → Stays a → Stays b × EachIs n (ClosesNext rack (group + 1)) (last b)
   commit_round group zero sum a b below each left = (subst (λ s. Stays s) (sym each.0) left, (λ m less. absurd (omega (arith, less))))
   commit_round group (suc n) sum a b below (mid, some, more, each, once, adds) left =
-      let z = commit_round group n some a mid (omega (arith, below)) each left in
-      (
+      let z = commit_round group n some a mid (omega (arith, below)) each left in (
         on (λ x y. Commits rack group x y) mid n b (omega (arith, below)) once (commit_keeps_own rack area owns group once.before once.after once.did) z.0,
         subst (λ k. EachIs k (ClosesNext rack (group + 1)) (last b)) (let same : n + 1 ≡ suc n = omega arith in same)
             (each_more (ClosesNext rack (group + 1)) (last mid) (last b) n once.after once.is (committed_next rack area group once.before once.after once.did) z.1),
@@ -191,8 +190,7 @@ module _ {R A S : Type 0} (rack : racks.Ghosts R) (area : areas.Ghosts A) (last 
   finds_next next group a b s g =
       let below = s.below in
       let h = s.stop in
-      let mid = quiet_round (λ none x y. SeesClosing None x y) (λ n. looks_quiet None) s.place s.sum next a s.mid (omega (arith, below)) s.front g in
-      (
+      let mid = quiet_round (λ none x y. SeesClosing None x y) (λ n. looks_quiet None) s.place s.sum next a s.mid (omega (arith, below)) s.front g in (
         quiet_stop (λ none x y. SeesClosing None x y) (λ n. looks_quiet None) (λ x y. SeesClosing (Some group) x y) (looks_quiet (Some group)) next a b s g,
         found_next rack area shared owns own count (last s.mid) s.place s.below h.shard h.before h.there h.drifts next mid.ready group h.did.1,
       )
@@ -229,7 +227,7 @@ module _ {R A S : Type 0} (rack : racks.Ghosts R) (area : areas.Ghosts A) (last 
 -- ---- what is whole
 
 module _ {R A S : Type 0} (rack : racks.Ghosts R) (area : areas.Ghosts A) (last : S → ℕ → Option (Shard R A)) (went : S → ℕ → Shard R A → Shard R A → S → Type 0) (shared : Bool) (owns : ℕ → Bool) (own : owns groups_number ≡ true) (count : ℕ)
-  (table : ℕ → Option Pointer) (seq floor : ℕ) (some : 0 < count) (a b : S) (u v : Uber A) (ready : EachIs count (ClosesNext rack (group_of (kept_of u) + 1)) (last a)) (beyond : NoneBeyond count (last a))
+    (table : ℕ → Option Pointer) (seq floor : ℕ) (some : 0 < count) (a b : S) (u v : Uber A) (ready : EachIs count (ClosesNext rack (group_of (kept_of u) + 1)) (last a)) (beyond : NoneBeyond count (last a))
     (whole : IsWholeBy rack owns (last a) table seq floor) where
   begins : HasGroup rack area last went shared owns own count (HasLeft rack area last went shared owns count table seq) (left_on rack area last went shared owns count table seq) a (group_of (kept_of u) + 1)
   begins = record { left = record { shards = whole.shards; placed = whole.placed; pointers = whole.pointers; beyond = beyond }; ready = ready }

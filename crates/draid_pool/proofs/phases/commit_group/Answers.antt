@@ -24,7 +24,6 @@ returns-in_default-seal_each g c =
       locks = f.locks ∙ e.locks;
       owns = f.owns ∙ e.owns;
       valid = c.requires.valid;
-     
       commits = (
         c.close_each.new.metaslabs,
         c.in_default.ensures.closes,
@@ -42,7 +41,6 @@ returns-in-Err-sealed g c =
       locks = f.locks ∙ e.locks;
       owns = f.owns ∙ e.owns;
       valid = c.requires.valid;
-     
       commits = inr (inl (
         c.close_each.new.metaslabs,
         c.in_default.ensures.closes,
@@ -69,7 +67,6 @@ returns-in-Err-name_group g c =
       locks = f.locks ∙ e.locks;
       owns = f.owns ∙ e.owns;
       valid = c.name_group.ensures.valid;
-     
       commits = inr (inr (
         c.close_each.new.metaslabs,
         c.in-Ok.thin,

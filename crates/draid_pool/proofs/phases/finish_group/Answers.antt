@@ -1,4 +1,4 @@
-use Rattle.std.proofs.Common.{◌≡◌, ◌+◌, ◌∙◌, ℕ, Bool, true, None, Some, Ok, Err, inl, inr, ap, refl, subst, sym}
+use Rattle.std.proofs.Common.{◌∙◌, ℕ, Bool, None, Some, Ok, Err, inl, inr, ap, refl, subst, sym}
 use Rattle.draid_pool.specs.Drifts.{groups_number}
 use Rattle.draid_pool.specs.Grouping.{ClosesNext, CommitsIn, FinishesIn}
 use Rattle.draid_pool.specs.Rounds.{EachIs}
