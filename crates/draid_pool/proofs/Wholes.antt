@@ -1,9 +1,10 @@
 -- What a whole pool has, and that it stays whole as one of its shards is another one of the same metaslab.
-use Rattle.std.proofs.Common.{◌≡◌, ◌==◌, ◌<◌, ◌≤◌, ◌+◌, ◌∙◌, inl, inr, cond, ℕ, Bool, true, false, Option, Some, None, arith, refl, sym, ap, subst, slice_set, length, if◌then◌else◌, nat_eq}
-use Rattle.std.specs.Prelude.{nat_eq, slice_get, cond}
+use Rattle.std.proofs.Common.{◌≡◌, ◌==◌, ◌<◌, ◌≤◌, ◌+◌, ◌∙◌, inl, inr, cond, ℕ, Bool, true, false, Option, Some, None, arith, refl, sym, ap, subst, slice_index_or, slice_set, length, if◌then◌else◌, nat_eq}
+use Rattle.std.specs.Prelude.{nat_eq, slice_get, All, cond}
 use Rattle.std.specs.HashMap.{get}
 use Rattle.std.proofs.lemmas.Bool.{cases_eq}
 use Rattle.std.proofs.lemmas.List.{length-set}
+use Rattle.std.proofs.lemmas.Option.{slice_get-get_or}
 use Rattle.draid_names.specs.declared.numbers.TheConstants.{LAST_NUMBER}
 use Rattle.draid_names.specs.declared.pointer.Pointer.{Pointer}
 use Rattle.draid_rack.specs.declared.Rack as racks
@@ -91,6 +92,9 @@ module _ {R A : Type 0} (rack : racks.Ghosts R) (area : areas.Ghosts A) where
 
   pub whole_geometry : (pool : Pool R A) (m : ℕ) (shard : Shard R A) → IsWhole rack area pool → slice_get pool.metaslabs.shards.items m ≡ Some shard → shard.geometry ≡ pool.geometry
   whole_geometry pool m shard w there = ap (λ (p : Part). p.geometry) (w.shards m shard there).part
+
+  pub all_whole : (pool : Pool R A) → IsWhole rack area pool → All (Valid rack) pool.metaslabs.shards.items
+  all_whole pool w k d below = whole_valid pool k (slice_index_or pool.metaslabs.shards.items k d) w (slice_get-get_or pool.metaslabs.shards.items k d below)
 
   pub few_whole : (pool : Pool R A) → IsWhole rack area pool → length pool.metaslabs.shards.items ≤ 64
   few_whole pool w = (let many = w.many in let most = w.layout.geometry_is.props.most_metaslabs in omega (arith, many, most))
