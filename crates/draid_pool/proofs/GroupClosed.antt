@@ -1,6 +1,7 @@
 -- A group that the only thread of a pool closes in all metaslabs.
 use Rattle.std.proofs.Common.{◌≡◌, ◌+◌, ℕ, zero, suc, false, Option, Some, Ok, Err, arith, refl, sym, subst, slice_set}
 use Rattle.std.specs.Prelude.{slice_get, Result, IsErrOf, OnOk}
+use Rattle.std.proofs.lemmas.Option.{slice_get_past}
 use Rattle.draid_names.specs.declared.numbers.TheConstants.{LAST_NUMBER}
 use Rattle.draid_rack.specs.declared.Rack as racks
 use Rattle.draid_area.specs.declared.Area as areas
@@ -11,7 +12,7 @@ use Rattle.draid_pool.specs.Carries.{CarriesOut}
 use Rattle.draid_pool.specs.Failing.{AreaRose, AreasLater}
 use Rattle.draid_pool.specs.Grouping.{ClosesEach, ClosesIn, ClosesNext}
 use Rattle.draid_pool.specs.Pools.{Represents}
-use Rattle.draid_pool.specs.Rounds.{EachIs, HeldEach, HeldOnce}
+use Rattle.draid_pool.specs.Rounds.{EachIs, HeldEach, HeldOnce, NoneBeyond}
 use Rattle.draid_pool.specs.Syncing.{AreClosing, KeepsShards, Phase, end_of}
 use Rattle.draid_pool.specs.Whole.{IsWhole}
 use Rattle.draid_pool.specs.declared.fault.SyncFault.{SyncFault}
@@ -58,6 +59,10 @@ module _ {R A : Type 0} (rack : racks.Ghosts R) (area : areas.Ghosts A) where
   pub closes_each : (pool : Pool R A) (group : ℕ) → IsWhole rack area pool → group ≡ group_of (kept_of pool.uber) + 1 → EachIs pool.geometry.props.metaslabs (ClosesNext rack group) (left_by pool.metaslabs)
   closes_each pool group w next =
       each_whole pool (ClosesNext rack group) w (λ m shard there. (let is = w.shards m shard there in record { valid = is.valid; next = (let committed = is.committed in omega (arith, committed, next)) }))
+
+  -- it has no more
+  pub none_beyond : (pool : Pool R A) → IsWhole rack area pool → NoneBeyond pool.geometry.props.metaslabs (left_by pool.metaslabs)
+  none_beyond pool w m from = slice_get_past pool.metaslabs.shards.items m (let many = w.many in omega (arith, many, from))
 
   -- the first so many metaslabs close it
   pub record ClosingAt (pool now : Pool R A) (group m : ℕ) : Type 0 where

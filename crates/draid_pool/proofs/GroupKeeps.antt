@@ -30,7 +30,7 @@ not_kept : {P : Type 0} → is_other (Some groups_number) groups_number ≡ true
 not_kept is = absurd (true≢false (sym is))
 
 -- what a commit drops was freed up to its group
-drops_keeps : (of : ℕ → Bool) (group : ℕ) (old new : Entries) → DropsFreed group old new → KeepsOf of group old new
+pub drops_keeps : (of : ℕ → Bool) (group : ℕ) (old new : Entries) → DropsFreed group old new → KeepsOf of group old new
 drops_keeps of group old new drops = record {
   each = λ key own. elim (bool_cases (is_freed_block group (held_in old key))) [
     | inl freed ↦ inr (freed, drops.held key ∙ ap (λ b. if b then None else held_in old key) freed)

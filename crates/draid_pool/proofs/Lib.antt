@@ -67,6 +67,7 @@ pub mod Stood
 pub mod SyncCalls
 pub mod SyncDone
 pub mod SyncSteps
+pub mod SyncWhole
 pub mod Takings
 pub mod Taught
 pub mod Turns

@@ -1,5 +1,5 @@
 -- What the phases of a sync over metaslabs ask of each other.
-use Rattle.std.proofs.Common.{◌≡◌, ◌==◌, ◌<◌, ◌≤◌, ◌+◌, ◌∙◌, ℕ, Bool, true, Option, Some, arith, sym, subst, if◌then◌else◌}
+use Rattle.std.proofs.Common.{◌≡◌, ◌<◌, ◌≤◌, ◌+◌, ◌∙◌, ℕ, Bool, true, Option, Some, arith, sym, subst}
 use Rattle.draid_names.specs.declared.numbers.TheConstants.{LAST_NUMBER}
 use Rattle.draid_rack.specs.declared.Rack as racks
 use Rattle.draid_area.specs.declared.Area as areas
@@ -13,7 +13,6 @@ use Rattle.draid_pool.specs.Grouping.{ClosesNext, CommitsNext}
 use Rattle.draid_pool.specs.Rounds.{EachIs}
 use Rattle.draid_pool.proofs.GroupKeeps.{close_ready, closing_behind}
 use Rattle.draid_pool.proofs.Holding.{some_same}
-use Rattle.draid_pool.proofs.RoundSteps.{each_stays}
 use Rattle.draid_pool.proofs.Wholes.{open_high}
 
 module _ {R A : Type 0} (rack : racks.Ghosts R) where
@@ -44,7 +43,3 @@ module _ {R A : Type 0} (rack : racks.Ghosts R) where
     -- the group that is closing there is the next one
     pub found_next : (group : ℕ) → before.closing ≡ Some group → group ≡ next
     found_next group closing = (let behind = closing_behind rack area before group drifts.valid closing in let is = found_ready.next in omega (arith, behind, is))
-
-    -- a look changes nothing
-    pub seen_ready : (now : ℕ → Option (Shard R A)) (after : Shard R A) → ((k : ℕ) → now k ≡ (if k == m then Some after else last k)) → after ≡ before → EachIs count (ClosesNext rack next) now
-    seen_ready now after sets same = each_stays (ClosesNext rack next) last now m after sets (subst (ClosesNext rack next) (sym same) found_ready) count each

@@ -1,5 +1,5 @@
 -- Rounds over metaslabs: one hold of each of the first so many, in ascending order, and others may hold them in between.
-use Rattle.std.specs.Prelude.{◌≡◌, ◌==◌, ◌<◌, ◌+◌, ℕ, zero, suc, Bool, Option, Some, if◌then◌else◌}
+use Rattle.std.specs.Prelude.{◌≡◌, ◌==◌, ◌<◌, ◌≤◌, ◌+◌, ℕ, zero, suc, Bool, Option, Some, None, if◌then◌else◌}
 use Rattle.draid_rack.specs.declared.Rack as racks
 use Rattle.draid_area.specs.declared.Area as areas
 use Rattle.draid_shard.specs.declared.shard.Shard.{Shard}
@@ -8,6 +8,10 @@ use Rattle.draid_pool.specs.Drifts.{Drifts}
 -- each of the first so many metaslabs is so, as it was left
 abbrev pub EachIs : {R A : Type 0} → ℕ → (Shard R A → Type 0) → (ℕ → Option (Shard R A)) → Type 0
 EachIs {R} {A} count is last = (m : ℕ) → m < count → (shard : Shard R A) × (last m ≡ Some shard) × is shard
+
+-- a thread has none beyond the first so many
+abbrev pub NoneBeyond : {R A : Type 0} → ℕ → (ℕ → Option (Shard R A)) → Type 0
+NoneBeyond count last = (m : ℕ) → count ≤ m → last m ≡ None
 
 module _ {R A S : Type 0} (rack : racks.Ghosts R) (area : areas.Ghosts A) (last : S → ℕ → Option (Shard R A)) (went : S → ℕ → Shard R A → Shard R A → S → Type 0) (shared : Bool) (owns : ℕ → Bool) where
   -- A metaslab was held: behind what others did since it was left, this was done to it, and so it was left. The others are as they were left.

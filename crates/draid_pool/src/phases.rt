@@ -1,13 +1,14 @@
 //! Groups of metaslabs that are held one at a time: one is closed in all and sealed in all, then the uberblock names it,
 //! and then it is committed in all. Who has the uberblock has the groups, so that nobody else changes these.
-ghost use Rattle.std.specs.Prelude.{◌≡◌, ◌≤◌, ◌<◌, ◌+◌, ℕ, true, IfSome, OnOk};
+ghost use Rattle.std.specs.Prelude.{◌≡◌, ◌≤◌, ◌<◌, ◌+◌, true};
 ghost use Rattle.draid_shard.specs.Fits.{Valid};
 ghost use Rattle.draid_uber.specs.Held.{IsNext};
 ghost use Rattle.draid_uber.specs.Slots.{group_of};
 ghost use Rattle.draid_uber.specs.Uber as ubers;
 ghost use Rattle.draid_pool.specs.Drifts.{groups_number};
 ghost use Rattle.draid_pool.specs.Grouping.{ClosesNext, CommitsIn, FindsClosing, FinishesIn, SyncsIn, UberNames};
-ghost use Rattle.draid_pool.specs.Rounds.{EachIs};
+ghost use Rattle.draid_pool.specs.Rounds.{EachIs, NoneBeyond};
+ghost use Rattle.draid_pool.specs.Threads.{KeepsWhole, all_of};
 
 use crate::fault::{SyncFault, Synced};
 use crate::grouping::ClosingOp;
@@ -31,10 +32,14 @@ pub fn sync_groups<R: Rack, A: Area, M: Metaslabs<R, A>>(
     requires own { M.owns metaslabs.old groups_number ≡ true }
     requires valid { ubers.Valid A.size uber.old }
     requires ready { EachIs count (ClosesNext R.Rack (group_of (ubers.kept_of uber.old) + 1)) (M.last metaslabs.old) }
+    requires beyond { NoneBeyond count (M.last metaslabs.old) }
     ensures fits { M.fits metaslabs.new }
     ensures locks { M.locks metaslabs.new ≡ M.locks metaslabs.old }
     ensures owns { M.owns metaslabs.new ≡ M.owns metaslabs.old }
     ensures valid { ubers.Valid A.size uber.new }
+    ensures ready { EachIs count (ClosesNext R.Rack (group_of (ubers.kept_of uber.new) + 1)) (M.last metaslabs.new) }
+    ensures beyond { NoneBeyond count (M.last metaslabs.new) }
+    ensures whole { KeepsWhole R.Rack (M.owns metaslabs.old) (all_of (M.owns metaslabs.old)) (M.last metaslabs.old) (M.last metaslabs.new) }
     ensures syncs { SyncsIn R.Rack A.Area M.last M.went M.shared (M.owns metaslabs.old) count metaslabs.old uber.old result metaslabs.new uber.new }
 {
     let Some(finished) = finish_group(metaslabs, uber, count) else {
@@ -66,11 +71,14 @@ pub fn finish_group<R: Rack, A: Area, M: Metaslabs<R, A>>(
     requires own { M.owns metaslabs.old groups_number ≡ true }
     requires valid { ubers.Valid A.size uber.old }
     requires ready { EachIs count (ClosesNext R.Rack (group_of (ubers.kept_of uber.old) + 1)) (M.last metaslabs.old) }
+    requires beyond { NoneBeyond count (M.last metaslabs.old) }
     ensures fits { M.fits metaslabs.new }
     ensures locks { M.locks metaslabs.new ≡ M.locks metaslabs.old }
     ensures owns { M.owns metaslabs.new ≡ M.owns metaslabs.old }
     ensures valid { ubers.Valid A.size uber.new }
-    ensures ready { IfSome result (λ it. OnOk it (EachIs count (ClosesNext R.Rack (group_of (ubers.kept_of uber.new) + 1)) (M.last metaslabs.new))) }
+    ensures ready { EachIs count (ClosesNext R.Rack (group_of (ubers.kept_of uber.new) + 1)) (M.last metaslabs.new) }
+    ensures beyond { NoneBeyond count (M.last metaslabs.new) }
+    ensures whole { KeepsWhole R.Rack (M.owns metaslabs.old) (all_of (M.owns metaslabs.old)) (M.last metaslabs.old) (M.last metaslabs.new) }
     ensures finishes { FinishesIn R.Rack A.Area M.last M.went M.shared (M.owns metaslabs.old) count metaslabs.old uber.old result metaslabs.new uber.new }
 {
     let Some(group) = find_closing(metaslabs, count) else {
@@ -88,13 +96,10 @@ pub fn finish_group<R: Rack, A: Area, M: Metaslabs<R, A>>(
 /// The group that is closing in the first of so many metaslabs that has one.
 fn find_closing<R: Rack, A: Area, M: Metaslabs<R, A>>(metaslabs: &mut M, count: u32) -> Option<u64>
     requires fits { M.fits metaslabs.old }
-    requires own { M.owns metaslabs.old groups_number ≡ true }
     requires each { EachIs count (Valid R.Rack) (M.last metaslabs.old) }
     ensures fits { M.fits metaslabs.new }
     ensures locks { M.locks metaslabs.new ≡ M.locks metaslabs.old }
     ensures owns { M.owns metaslabs.new ≡ M.owns metaslabs.old }
-    ensures ready { (next : ℕ) → EachIs count (ClosesNext R.Rack next) (M.last metaslabs.old) → EachIs count (ClosesNext R.Rack next) (M.last metaslabs.new) }
-    ensures next { IfSome result (λ group. (next : ℕ) → EachIs count (ClosesNext R.Rack next) (M.last metaslabs.old) → group ≡ next) }
     ensures found { FindsClosing R.Rack A.Area M.last M.went M.shared (M.owns metaslabs.old) count metaslabs.old result metaslabs.new }
 {
     for metaslab in 0..count {
@@ -124,7 +129,6 @@ fn commit_group<R: Rack, A: Area, M: Metaslabs<R, A>>(
     ensures locks { M.locks metaslabs.new ≡ M.locks metaslabs.old }
     ensures owns { M.owns metaslabs.new ≡ M.owns metaslabs.old }
     ensures valid { ubers.Valid A.size uber.new }
-    ensures ready { IfSome result (λ it. OnOk it (EachIs count (ClosesNext R.Rack (group_of (ubers.kept_of uber.new) + 1)) (M.last metaslabs.new))) }
     ensures commits { CommitsIn R.Rack A.Area M.last M.went M.shared (M.owns metaslabs.old) group count metaslabs.old uber.old result metaslabs.new uber.new }
 {
     if let Err(fault) = close_each(metaslabs, count, group) {

@@ -89,20 +89,10 @@ fn one_more(count: u32, shut: Option<Shut>, why: Shut) -> u32
     requires { count < 64 }
     ensures { CountsOne shut why count result }
 {
-    if is_shut_by(shut, why) {
+    if shut == Some(why) {
         return count + 1;
     }
     count
-}
-
-/// Whether this is the reason.
-fn is_shut_by(shut: Option<Shut>, why: Shut) -> bool
-    ensures { IsTrue result ↔ (shut ≡ Some why) }
-{
-    match shut {
-        Some(shut) => shut == why,
-        None => false,
-    }
 }
 
 /// Looks at each of so many metaslabs, in a hold each, for the room that they have for a block of so many stripes.

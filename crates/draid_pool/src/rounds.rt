@@ -1,5 +1,5 @@
 //! What a sync does to all metaslabs, which it holds one at a time, in ascending order.
-ghost use Rattle.std.specs.Prelude.{◌≡◌, ◌≤◌, ◌+◌, true, IfSome, OnOk};
+ghost use Rattle.std.specs.Prelude.{◌≡◌, ◌≤◌, true, IfSome, OnOk};
 ghost use Rattle.draid_pool.specs.Drifts.{groups_number};
 ghost use Rattle.draid_pool.specs.Grouping.{ClosesEach, ClosesNext, CommitsEach, CommitsNext, SealsEach, SealsNext};
 ghost use Rattle.draid_pool.specs.Rounds.{EachIs};
@@ -79,7 +79,6 @@ pub(crate) fn commit_each<R: Rack, A: Area, M: Metaslabs<R, A>>(
     ensures fits { M.fits metaslabs.new }
     ensures locks { M.locks metaslabs.new ≡ M.locks metaslabs.old }
     ensures owns { M.owns metaslabs.new ≡ M.owns metaslabs.old }
-    ensures ready { EachIs count (ClosesNext R.Rack (group + 1)) (M.last metaslabs.new) }
     ensures commits { CommitsEach R.Rack A.Area M.last M.went M.shared (M.owns metaslabs.old) group count metaslabs.old metaslabs.new }
 {
     for metaslab in 0..count {

@@ -1,8 +1,7 @@
-use Rattle.std.proofs.Common.{◌+◌, ◌∙◌, ℕ, Bool, None, Some, Ok, Err, inl, inr, ap, refl, subst, sym}
+use Rattle.std.proofs.Common.{◌∙◌, ℕ, Bool, None, Some, Ok, Err, inl, inr, ap, refl, subst}
 use Rattle.std.specs.Prelude.{OnOk}
-use Rattle.draid_uber.specs.Slots.{group_of}
 use Rattle.draid_pool.specs.Drifts.{groups_number}
-use Rattle.draid_pool.specs.Grouping.{ClosesNext, CommitsEach, CommitsNext, SealsEach}
+use Rattle.draid_pool.specs.Grouping.{CommitsEach, CommitsNext, SealsEach}
 use Rattle.draid_pool.specs.Rounds.{EachIs}
 use Rattle.draid_pool.proofs.PhaseSteps.{sealed_is_next}
 use Rattle.draid_pool.proofs.phases.commit_group.Goals as goal
@@ -14,7 +13,7 @@ pub seal_each-requires : goal.seal_each-requires
 seal_each-requires g c = record { fits = c.close_each.ensures.fits; few = c.requires.few; own = ap (λ (owns : ℕ → Bool). owns groups_number) c.close_each.ensures.owns ∙ c.requires.own; next = c.in_default.ensures.next }
 
 pub returns-in-Err : goal.returns-in-Err
-returns-in-Err g c = (let e = c.close_each.ensures in record { fits = e.fits; locks = e.locks; owns = e.owns; valid = c.requires.valid; ready = tt; commits = inl (c.in-Err.ensures.closes, refl) })
+returns-in-Err g c = (let e = c.close_each.ensures in record { fits = e.fits; locks = e.locks; owns = e.owns; valid = c.requires.valid; commits = inl (c.in-Err.ensures.closes, refl) })
 
 pub returns-in_default-seal_each : goal.returns-in_default-seal_each
 returns-in_default-seal_each g c =
@@ -25,7 +24,6 @@ returns-in_default-seal_each g c =
       locks = f.locks ∙ e.locks;
       owns = f.owns ∙ e.owns;
       valid = c.requires.valid;
-      ready = tt;
       commits = (
         c.close_each.new.metaslabs,
         c.in_default.ensures.closes,
@@ -43,7 +41,6 @@ returns-in-Err-sealed g c =
       locks = f.locks ∙ e.locks;
       owns = f.owns ∙ e.owns;
       valid = c.requires.valid;
-      ready = tt;
       commits = inr (inl (
         c.close_each.new.metaslabs,
         c.in_default.ensures.closes,
@@ -70,7 +67,6 @@ returns-in-Err-name_group g c =
       locks = f.locks ∙ e.locks;
       owns = f.owns ∙ e.owns;
       valid = c.name_group.ensures.valid;
-      ready = tt;
       commits = inr (inr (
         c.close_each.new.metaslabs,
         c.in-Ok.thin,
@@ -102,7 +98,6 @@ returns g c =
       locks = h.locks ∙ (f.locks ∙ e.locks);
       owns = h.owns ∙ (f.owns ∙ e.owns);
       valid = c.name_group.ensures.valid;
-      ready = subst (λ n. EachIs c.args.count (ClosesNext g.R.Rack (n + 1)) (g.M.Metaslabs.last c.commit_each.new.metaslabs)) (sym (ap group_of names.0.kept)) h.ready;
       commits = (
         c.close_each.new.metaslabs,
         c.seal_each.new.metaslabs,

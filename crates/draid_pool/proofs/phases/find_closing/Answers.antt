@@ -1,14 +1,12 @@
-use Rattle.std.proofs.Common.{◌∙◌, None, Some, arith, refl, sym, ap, subst}
+use Rattle.std.proofs.Common.{◌∙◌, None, Some, arith, refl, sym, subst}
 use Rattle.draid_shard.specs.Fits.{Valid}
-use Rattle.draid_pool.specs.Drifts.{groups_number}
 use Rattle.draid_pool.specs.Grouping.{SeesClosing}
 use Rattle.draid_pool.proofs.LookKeeps.{same_keeps}
-use Rattle.draid_pool.proofs.PhaseSteps.{found_next, seen_ready}
 use Rattle.draid_pool.proofs.RoundSteps.{each_stays, held_by, round_all, round_more}
 use Rattle.draid_pool.proofs.phases.find_closing.Goals as goal
 
 pub loop-metaslab-init : goal.loop-metaslab-init
-loop-metaslab-init g c = record { fits = c.requires.fits; locks = refl; owns = refl; valid = c.requires.each; ready = λ next each. each; each = (refl, refl) }
+loop-metaslab-init g c = record { fits = c.requires.fits; locks = refl; owns = refl; valid = c.requires.each; each = (refl, refl) }
 
 pub hold-op-requires-clause-may : goal.hold-op-requires-clause-may
 hold-op-requires-clause-may g c =
@@ -20,14 +18,12 @@ loop-metaslab-preserved g c =
     let l = c.loop-metaslab in
     let i = l.invariant in
     let h = c.hold-op.ensures.held in
-    let own = ap (λ owns. owns groups_number) i.owns ∙ c.requires.own in
     let did : SeesClosing None h.before h.after = subst (λ out. SeesClosing out h.before h.after) c.in_default.is h.related in
     record {
       fits = c.hold-op.ensures.fits;
       locks = c.hold-op.ensures.locks ∙ i.locks;
       owns = c.hold-op.ensures.owns ∙ i.owns;
       valid = each_stays (Valid g.R.Rack) (g.M.Metaslabs.last l.metaslabs) (g.M.Metaslabs.last c.hold-op.new.self) l.metaslab h.after h.is (subst (Valid g.R.Rack) (sym did.0) h.drifts.valid) c.args.count i.valid;
-      ready = λ next each. seen_ready g.R.Rack g.A.Area g.M.Metaslabs.shared (g.M.Metaslabs.owns l.metaslabs) own c.args.count (g.M.Metaslabs.last l.metaslabs) l.metaslab c.loop-metaslab-test.true h.shard h.before h.there h.drifts next (i.ready next each) (g.M.Metaslabs.last c.hold-op.new.self) h.after h.is did.0;
       each = round_more g.R.Rack g.A.Area g.M.Metaslabs.last g.M.Metaslabs.went g.M.Metaslabs.shared (g.M.Metaslabs.owns c.args.metaslabs.now) (λ none x y. SeesClosing None x y) l.metaslab 0 0 c.args.metaslabs.now l.metaslabs c.hold-op.new.self i.each
           (held_by g.R.Rack g.A.Area g.M.Metaslabs.last g.M.Metaslabs.went g.M.Metaslabs.shared (g.M.Metaslabs.owns l.metaslabs) (g.M.Metaslabs.owns c.args.metaslabs.now) i.owns (λ x y. SeesClosing None x y) l.metaslabs l.metaslab c.hold-op.new.self h.shard h.before h.after h.there h.drifts h.is h.went did);
     }
@@ -37,14 +33,11 @@ returns-in-Some g c =
     let l = c.loop-metaslab in
     let i = l.invariant in
     let h = c.hold-op.ensures.held in
-    let own = ap (λ owns. owns groups_number) i.owns ∙ c.requires.own in
     let did : SeesClosing (Some c.in-Some.group) h.before h.after = subst (λ out. SeesClosing out h.before h.after) c.in-Some.is h.related in
     record {
       fits = c.hold-op.ensures.fits;
       locks = c.hold-op.ensures.locks ∙ i.locks;
       owns = c.hold-op.ensures.owns ∙ i.owns;
-      ready = λ next each. seen_ready g.R.Rack g.A.Area g.M.Metaslabs.shared (g.M.Metaslabs.owns l.metaslabs) own c.args.count (g.M.Metaslabs.last l.metaslabs) l.metaslab c.loop-metaslab-test.true h.shard h.before h.there h.drifts next (i.ready next each) (g.M.Metaslabs.last c.hold-op.new.self) h.after h.is did.0;
-      next = λ next each. found_next g.R.Rack g.A.Area g.M.Metaslabs.shared (g.M.Metaslabs.owns l.metaslabs) own c.args.count (g.M.Metaslabs.last l.metaslabs) l.metaslab c.loop-metaslab-test.true h.shard h.before h.there h.drifts next (i.ready next each) c.in-Some.group did.1;
       found = record {
         place = l.metaslab;
         below = c.loop-metaslab-test.true;
@@ -65,7 +58,5 @@ returns g c =
       fits = i.fits;
       locks = i.locks;
       owns = i.owns;
-      ready = i.ready;
-      next = tt;
       found = round_all g.R.Rack g.A.Area g.M.Metaslabs.last g.M.Metaslabs.went g.M.Metaslabs.shared (g.M.Metaslabs.owns c.args.metaslabs.now) (λ none x y. SeesClosing None x y) l.metaslab c.args.count 0 c.args.metaslabs.now l.metaslabs (omega (arith, low)) (omega (arith, end)) i.each;
     }

@@ -1,6 +1,6 @@
-use Rattle.std.proofs.Common.{◌≡◌, ℕ, None}
+use Rattle.std.proofs.Common.{◌≡◌, None}
 use Rattle.draid_shard.specs.Fits.{Valid}
-use Rattle.draid_pool.specs.Grouping.{ClosesNext, SeesClosing}
+use Rattle.draid_pool.specs.Grouping.{SeesClosing}
 use Rattle.draid_pool.specs.Rounds.{EachIs, HeldEach}
 use Rattle.draid_pool.proofs.phases.find_closing.Given as goal
 
@@ -10,6 +10,5 @@ invariant-loop-metaslab g l = record {
   locks : g.M.Metaslabs.locks l.metaslabs ≡ g.M.Metaslabs.locks l.initial.metaslabs;
   owns : g.M.Metaslabs.owns l.metaslabs ≡ g.M.Metaslabs.owns l.initial.metaslabs;
   valid : EachIs l.count (Valid g.R.Rack) (g.M.Metaslabs.last l.metaslabs);
-  ready : (next : ℕ) → EachIs l.count (ClosesNext g.R.Rack next) (g.M.Metaslabs.last l.initial.metaslabs) → EachIs l.count (ClosesNext g.R.Rack next) (g.M.Metaslabs.last l.metaslabs);
   each : HeldEach g.R.Rack g.A.Area g.M.Metaslabs.last g.M.Metaslabs.went g.M.Metaslabs.shared (g.M.Metaslabs.owns l.initial.metaslabs) (λ none x y. SeesClosing None x y) l.metaslab l.initial.metaslabs 0 l.metaslabs;
 }

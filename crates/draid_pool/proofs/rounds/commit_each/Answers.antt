@@ -1,13 +1,12 @@
-use Rattle.std.proofs.Common.{◌+◌, ◌∙◌, arith, refl, ap}
+use Rattle.std.proofs.Common.{◌∙◌, arith, refl, ap}
 use Rattle.draid_pool.specs.Drifts.{groups_number}
-use Rattle.draid_pool.specs.Grouping.{ClosesNext}
 use Rattle.draid_pool.specs.Syncing.{Commits}
-use Rattle.draid_pool.proofs.GroupKeeps.{commit_keeps, commit_ready, committed_next}
-use Rattle.draid_pool.proofs.RoundSteps.{beyond, concerns_own, each_all, each_more, held_by, round_all, round_more}
+use Rattle.draid_pool.proofs.GroupKeeps.{commit_keeps, commit_ready}
+use Rattle.draid_pool.proofs.RoundSteps.{beyond, concerns_own, held_by, round_all, round_more}
 use Rattle.draid_pool.proofs.rounds.commit_each.Goals as goal
 
 pub loop-metaslab-init : goal.loop-metaslab-init
-loop-metaslab-init g c = record { fits = c.requires.fits; locks = refl; owns = refl; rest = λ k from. refl; ready = λ m less. absurd (omega (arith, less)); each = (refl, refl) }
+loop-metaslab-init g c = record { fits = c.requires.fits; locks = refl; owns = refl; rest = λ k from. refl; each = (refl, refl) }
 
 pub hold-requires-clause-may : goal.hold-requires-clause-may
 hold-requires-clause-may g c =
@@ -33,7 +32,6 @@ loop-metaslab-preserved g c =
       locks = c.hold.ensures.locks ∙ i.locks;
       owns = c.hold.ensures.owns ∙ i.owns;
       rest = λ k from. beyond (g.M.Metaslabs.last c.args.metaslabs.now) (g.M.Metaslabs.last l.metaslabs) (g.M.Metaslabs.last c.hold.new.self) l.metaslab h.after h.is i.rest k from;
-      ready = each_more (ClosesNext g.R.Rack (c.args.group + 1)) (g.M.Metaslabs.last l.metaslabs) (g.M.Metaslabs.last c.hold.new.self) l.metaslab h.after h.is (committed_next g.R.Rack g.A.Area c.args.group h.before h.after h.related) i.ready;
       each = round_more g.R.Rack g.A.Area g.M.Metaslabs.last g.M.Metaslabs.went g.M.Metaslabs.shared (g.M.Metaslabs.owns c.args.metaslabs.now) (λ none x y. Commits g.R.Rack c.args.group x y) l.metaslab 0 0 c.args.metaslabs.now l.metaslabs c.hold.new.self i.each
           (held_by g.R.Rack g.A.Area g.M.Metaslabs.last g.M.Metaslabs.went g.M.Metaslabs.shared (g.M.Metaslabs.owns l.metaslabs) (g.M.Metaslabs.owns c.args.metaslabs.now) i.owns (λ x y. Commits g.R.Rack c.args.group x y) l.metaslabs l.metaslab c.hold.new.self h.shard h.before h.after h.there h.drifts h.is h.went h.related);
     }
@@ -48,6 +46,5 @@ returns g c =
       fits = i.fits;
       locks = i.locks;
       owns = i.owns;
-      ready = each_all (ClosesNext g.R.Rack (c.args.group + 1)) (g.M.Metaslabs.last l.metaslabs) l.metaslab c.args.count (omega (arith, end)) i.ready;
       commits = round_all g.R.Rack g.A.Area g.M.Metaslabs.last g.M.Metaslabs.went g.M.Metaslabs.shared (g.M.Metaslabs.owns c.args.metaslabs.now) (λ none x y. Commits g.R.Rack c.args.group x y) l.metaslab c.args.count 0 c.args.metaslabs.now l.metaslabs (omega (arith, low)) (omega (arith, end)) i.each;
     }

@@ -1,7 +1,6 @@
-use Rattle.std.proofs.Common.{◌≡◌, ◌≤◌, ◌+◌, ℕ}
+use Rattle.std.proofs.Common.{◌≡◌, ◌≤◌, ℕ}
 use Rattle.draid_pool.specs.Syncing.{Commits}
-use Rattle.draid_pool.specs.Grouping.{ClosesNext}
-use Rattle.draid_pool.specs.Rounds.{EachIs, HeldEach}
+use Rattle.draid_pool.specs.Rounds.{HeldEach}
 use Rattle.draid_pool.proofs.rounds.commit_each.Given as goal
 
 abbrev pub invariant-loop-metaslab : goal.invariant-loop-metaslab
@@ -10,6 +9,5 @@ invariant-loop-metaslab g l = record {
   locks : g.M.Metaslabs.locks l.metaslabs ≡ g.M.Metaslabs.locks l.initial.metaslabs;
   owns : g.M.Metaslabs.owns l.metaslabs ≡ g.M.Metaslabs.owns l.initial.metaslabs;
   rest : (k : ℕ) → l.metaslab ≤ k → g.M.Metaslabs.last l.metaslabs k ≡ g.M.Metaslabs.last l.initial.metaslabs k;
-  ready : EachIs l.metaslab (ClosesNext g.R.Rack (l.group + 1)) (g.M.Metaslabs.last l.metaslabs);
   each : HeldEach g.R.Rack g.A.Area g.M.Metaslabs.last g.M.Metaslabs.went g.M.Metaslabs.shared (g.M.Metaslabs.owns l.initial.metaslabs) (λ none x y. Commits g.R.Rack l.group x y) l.metaslab l.initial.metaslabs 0 l.metaslabs;
 }

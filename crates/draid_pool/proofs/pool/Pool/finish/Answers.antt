@@ -1,7 +1,7 @@
 use Rattle.std.proofs.Common.{◌+◌, arith, refl}
 use Rattle.draid_uber.specs.Slots.{group_of}
 use Rattle.draid_uber.specs.Uber.{kept_of}
-use Rattle.draid_pool.proofs.GroupClosed.{closes_each}
+use Rattle.draid_pool.proofs.GroupClosed.{closes_each, none_beyond}
 use Rattle.draid_pool.proofs.GroupDone.{with_both}
 use Rattle.draid_pool.proofs.Keeping.{all_arms_by, all_asked_by, passes_by, racks_by}
 use Rattle.draid_pool.proofs.SyncDone.{finish_all, finish_waits}
@@ -19,6 +19,7 @@ finish_group-requires g c =
       own = refl;
       valid = w.uber;
       ready = closes_each g.R.Rack g.A.Area pool (group_of (kept_of pool.uber) + 1) w refl;
+      beyond = none_beyond g.R.Rack g.A.Area pool w;
     }
 
 pub unreachable-requires : goal.unreachable-requires
