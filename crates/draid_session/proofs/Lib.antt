@@ -8,11 +8,13 @@ pub mod Certain
 pub mod Changing
 pub mod Failed
 pub mod Following
+pub mod Grouped
 pub mod Grouping
 pub mod Healthy
 pub mod Lists
 pub mod Looked
 pub mod NoPool
+pub mod Nearing
 pub mod Noted
 pub mod Passing
 pub mod Phased
@@ -29,5 +31,6 @@ pub mod Synced
 pub mod Syncing
 pub mod Turning
 pub mod Undisturbed
+pub mod Waiting
 pub mod WithPool
 pub mod Written

@@ -28,5 +28,6 @@ pub mod State
 pub mod Status
 pub mod Undisturbed
 pub mod Versions
+pub mod Waiting
 pub mod Worn
 pub mod Writes

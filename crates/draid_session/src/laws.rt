@@ -2,6 +2,7 @@ ghost use Rattle.std.specs.Prelude.{◌≡◌, ◌<◌, ℕ, Bool, false, true, 
 ghost use Rattle.std.specs.Fn.{FnReturnsAt};
 ghost use Rattle.std.specs.declared.alloc.Global.{Global as Heap};
 ghost use Rattle.std.specs.declared.vec.Vec.{Vec};
+ghost use Rattle.draid_names.specs.declared.pass_kind.PassKind.TheVariants.{Rebuild};
 ghost use Rattle.draid_spec.specs.declared.layout.Geometry.{Geometry};
 ghost use Rattle.draid_perm.specs.declared.perms.Perms.{Perms};
 ghost use Rattle.draid_machine.specs.State as machine;
@@ -18,6 +19,8 @@ ghost use Rattle.draid_session.specs.Keeping.{Keeps};
 ghost use Rattle.draid_session.specs.Lanes.{IsMerged, TogetherAt};
 ghost use Rattle.draid_session.specs.Looks.{AllOf, Looks};
 ghost use Rattle.draid_session.specs.Opening.{Imports};
+ghost use Rattle.draid_session.specs.Passes.{ReadyPhase};
+ghost use Rattle.draid_session.specs.Phases.{End};
 ghost use Rattle.draid_session.specs.Present.{AreReached, DeskReached, LeavesPresent};
 ghost use Rattle.draid_session.specs.Reads.{ReadsAs};
 ghost use Rattle.draid_session.specs.Resuming.{IsFirstRebuilt, TakesUpPass, stands_at};
@@ -26,6 +29,7 @@ ghost use Rattle.draid_session.specs.Said.{Said};
 ghost use Rattle.draid_session.specs.Session.{Agrees, Bare, Breaks, BreaksOpen, CarriesOut, Cause, Desk, IsAnything, Made, RecordFails, Runs, left_of};
 ghost use Rattle.draid_session.specs.State.{Metaslab, State};
 ghost use Rattle.draid_session.specs.Undisturbed.{HaveNoErrors, IsCalmInScrub, IsUndisturbed, WentWell};
+ghost use Rattle.draid_session.specs.Waiting.{HasRebuild, WaitsForThree};
 ghost use Rattle.draid_session.specs.Writes.{HasNoSpace};
 
 use draid_names::Room;
@@ -170,4 +174,11 @@ pub fn rebuilds_go_on<F: Fn(&[Room]) -> Option<u32>>(chooser: &F)
     ensures rebuilt { (limit : Option ℕ) (from stripes errors : ℕ) (paused : Bool) (old new : State) (m : ℕ) (y : Metaslab) (p : machine.Pass)
         → CarriesOut (choices_by (FnReturnsAt F.Fn chooser.now)) (RebuildPool limit) (Reply.Rebuilt from stripes errors paused) old new
         → IsFirstRebuilt old m y p → from ≡ stands_at old m p }
+{}
+
+/// Law: a rebuild that is planned runs behind at most three syncs, or one of these is stopped, where no write is under way in
+/// its metaslab and a legal history gives the state of that.
+pub fn rebuilds_wait_for_three_syncs()
+    ensures { (old new : State) (m : ℕ) (holds : List Hold) (end : End) → AreReached old → m < old.geometry.props.metaslabs → HasRebuild old m
+        → ReadyPhase old.geometry old.perms Rebuild m holds end → Follows holds old new → WaitsForThree old m holds end }
 {}
