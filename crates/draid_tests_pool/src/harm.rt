@@ -1,9 +1,9 @@
-use crate::session::run_script;
 use draid_area::{Area, MemoryArea};
 use draid_lines::MemorySink;
 use draid_rack::Rack;
 use draid_shelf::{CrashRule, METASLABS, MemoryShelf, Shelf};
 use draid_spec::{Geometry, Props, SpecFault, geometry, parse_spec};
+use draid_tests_session::run_script;
 use std::alloc::{AllocError, Global};
 use std::thread::Threads;
 

@@ -1,7 +1,7 @@
-use crate::session::run_script;
 use draid_lines::MemorySink;
 use draid_run::Status;
 use draid_shelf::{CrashRule, MemoryShelf, Shelf};
+use draid_tests_session::run_script;
 use std::thread::Threads;
 
 /// Runs a script on a shelf, and gives the status.

@@ -1,12 +1,12 @@
 ghost use Rattle.std.specs.Prelude.{◌≤◌, length};
 ghost use Rattle.draid_choose.specs.Rooms.{Picks, most_rooms};
 
-use crate::session::{run_chosen, run_script, source_of};
 use draid_choose::Chooser;
 use draid_lines::MemorySink;
 use draid_names::Room;
 use draid_run::Status;
 use draid_shelf::{CrashRule, MemoryShelf, Place};
+use draid_tests_session::{run_chosen, run_script, source_of};
 use std::alloc::{AllocError, Global};
 use std::thread::Threads;
 

@@ -1,14 +1,6 @@
+use draid_tests_session::words_of;
 use draid_words::{Mode, WordsFault, read_words};
-use std::alloc::{AllocError, Global};
-
-/// The words of a line.
-fn words_of(alloc: Global, line: &str) -> Result<Vec<String>, AllocError> {
-    let mut words = Vec::new(alloc);
-    for word in line.split(' ') {
-        words.push(String::from_str(alloc, word)?)?;
-    }
-    Ok(words)
-}
+use std::alloc::Global;
 
 /// What a line asks for.
 #[derive(Clone, Copy)]

@@ -2,8 +2,8 @@ use Rattle.std.proofs.Common.{◌≡◌, ◌∙◌, ◌≤◌, ap, sym, subst, a
 use Rattle.draid_turn.specs.Lists.{one_if}
 use Rattle.draid_turn.specs.Numbers.{all_numbers, holds}
 use Rattle.draid_holds.specs.Passes.{AreOf, KeepsOne, holders, shares}
-use Rattle.draid_tests_pool.proofs.Apart.{all_held, keeps_two, new_are_of, new_holders, two_fit}
-use Rattle.draid_tests_pool.proofs.turn.split_and_join.Goals as goal
+use Rattle.draid_tests_lock.proofs.Apart.{all_held, keeps_two, new_are_of, new_holders, two_fit}
+use Rattle.draid_tests_lock.proofs.turn.split_and_join.Goals as goal
 
 pub split_each-passes-requires-clause-apart : goal.split_each-passes-requires-clause-apart
 split_each-passes-requires-clause-apart g c n =

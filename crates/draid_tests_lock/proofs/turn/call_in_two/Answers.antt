@@ -2,11 +2,11 @@ use Rattle.std.proofs.Common.{List, [], ◌∷◌, subst, sym}
 use Rattle.draid_turn.specs.declared.past.Past.{Past}
 use Rattle.draid_turn.specs.Calls.{Caller}
 use Rattle.draid_holds.specs.Calls.{AllMayCall}
-use Rattle.draid_tests_pool.specs.declared.log.Log.{Log}
-use Rattle.draid_tests_pool.specs.declared.log.Put.{Put}
-use Rattle.draid_tests_pool.proofs.Moves.{Grows, NeedsNothing, Puts, may_put, no_number}
-use Rattle.draid_tests_pool.proofs.TwoTurns.{two_may}
-use Rattle.draid_tests_pool.proofs.turn.call_in_two.Goals as goal
+use Rattle.draid_tests_lock.specs.declared.log.Log.{Log}
+use Rattle.draid_tests_lock.specs.declared.log.Put.{Put}
+use Rattle.draid_tests_lock.proofs.Moves.{Grows, NeedsNothing, Puts, may_put, no_number}
+use Rattle.draid_tests_lock.proofs.TwoTurns.{two_may}
+use Rattle.draid_tests_lock.proofs.turn.call_in_two.Goals as goal
 
 pub make_calls-requires : goal.make_calls-requires
 make_calls-requires g c =

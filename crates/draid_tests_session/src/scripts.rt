@@ -9,8 +9,8 @@ use draid_shelf::MemoryShelf;
 use std::alloc::{AllocError, Global};
 use std::thread::Threads;
 
-/// The words of a command line.
-fn words_of(alloc: Global, line: &str) -> Result<Vec<String>, AllocError> {
+/// The words of a command line, with a blank between each two.
+pub fn words_of(alloc: Global, line: &str) -> Result<Vec<String>, AllocError> {
     let mut words = Vec::new(alloc);
     for word in line.split(' ') {
         words.push(String::from_str(alloc, word)?)?;

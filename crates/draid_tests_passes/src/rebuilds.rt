@@ -1,7 +1,7 @@
-use crate::session::run_script;
 use draid_lines::MemorySink;
 use draid_run::Status;
 use draid_shelf::{CrashRule, MemoryShelf, Place, Shelf};
+use draid_tests_session::run_script;
 use std::thread::Threads;
 
 /// A leaf is offline, its slot got a spare, and a group has both; then the spare is rebuilt, over another group.

@@ -1,5 +1,0 @@
-use Rattle.draid_tests_pool.proofs.OwnNumbers.{Owning}
-use Rattle.draid_tests_pool.proofs.turn.own_numbers.Given as goal
-
-abbrev pub invariant-loop-lane : goal.invariant-loop-lane
-invariant-loop-lane l = Owning l.lane l.lists.items
