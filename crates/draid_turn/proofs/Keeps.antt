@@ -9,8 +9,8 @@ use lib.Seq.{set-get_or}
 use prog.Atomic.{either}
 use Rattle.atomic_table.specs.Table.{State, Me, step, keeps, takes, gives, stepped, opening, Allows, Splits, Joins, rest}
 use Rattle.atomic_table.proofs.Lists.{set_again, set_else}
-use Rattle.draid_turn.specs.declared.view.Stage.TheVariants.{Idle, Waiting, Holding}
-use Rattle.draid_turn.specs.declared.view.View.{View}
+use Rattle.draid_turn.specs.declared.view.SeatStage.TheVariants.{Idle, Waiting, Holding}
+use Rattle.draid_turn.specs.declared.view.SeatView.{SeatView}
 use Rattle.draid_turn.specs.declared.span.Span.{Span}
 use Rattle.draid_turn.specs.declared.past.Past.{Past}
 use Rattle.draid_turn.specs.Calls.{Follows}
@@ -31,7 +31,7 @@ first_few n = let e = all_within n in omega (arith, e)
 
 module _ {T E : Type 0} (fact : List E → T → Type 0) (number : E → Option ℕ) where
   abbrev V : Type 0
-  V = View E
+  V = SeatView E
 
   abbrev St : Type 0
   St = State (Option T) V
@@ -246,7 +246,7 @@ value_of d (Some x) = x
 
 module _ {T E : Type 0} (fact : List E → T → Type 0) (number : E → Option ℕ) where
   -- what was in the slot is the value that the step told of
-  pub has_taken : (old mid new : Me (Option T) (View E)) (ticket : ℕ) (slot : Option T) (x : T) → Takes fact number old ticket mid → old.1 ≡ [] → mid.1 ≡ (0, slot) ∷ rest mid.1
+  pub has_taken : (old mid new : Me (Option T) (SeatView E)) (ticket : ℕ) (slot : Option T) (x : T) → Takes fact number old ticket mid → old.1 ≡ [] → mid.1 ≡ (0, slot) ∷ rest mid.1
       → new ≡ (mid.0, (0, None) ∷ rest mid.1) → slot ≡ Some x → HasTaken fact number old ticket new x
   has_taken old mid new ticket slot x took empty out is there =
       let carried : mid.1 ≡ (0, Some took.value) ∷ [] = took.slot_is ∙ ap (λ l. (0, Some took.value) ∷ l) empty in

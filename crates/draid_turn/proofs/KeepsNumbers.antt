@@ -6,7 +6,7 @@ use mathlib.Core.Option.{some, some-ne-none}
 use mathlib.Core.Bool.{true≢false}
 use lib.ListN.{get_elem?}
 use Rattle.atomic_table.proofs.Lists.{set_else}
-use Rattle.draid_turn.specs.declared.view.View.{View}
+use Rattle.draid_turn.specs.declared.view.SeatView.{SeatView}
 use Rattle.draid_turn.specs.declared.span.Span.{Span}
 use Rattle.draid_turn.specs.Lists.{Each, StartsWith, longer, merge, one_if, one_within}
 use Rattle.draid_turn.specs.Numbers.{HoldsAll, HoldsNone, HoldsOther, HoldsSome, IsForeign, IsOwn, holds, number_limit, without}
@@ -31,7 +31,7 @@ part_false false b e = refl
 
 module _ {E : Type 0} (number : E → Option ℕ) where
   abbrev V : Type 0
-  V = View E
+  V = SeatView E
 
   abbrev Unseen : List E → V → Type 0
   Unseen log d = (rest : List E) → log ≡ d.seen ++ rest → All (IsForeign number d.numbers) rest

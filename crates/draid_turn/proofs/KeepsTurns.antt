@@ -7,16 +7,16 @@ use lib.ListN.{get_elem?}
 use lib.Seq.{set-get_or}
 use Rattle.atomic_table.specs.Table.{State, keeps, takes, gives, stepped, opening}
 use Rattle.atomic_table.proofs.Lists.{at_longer, set_here, set_else}
-use Rattle.draid_turn.specs.declared.view.Stage.{Stage}
-use Rattle.draid_turn.specs.declared.view.Stage.TheVariants.{Idle, Waiting, Holding}
-use Rattle.draid_turn.specs.declared.view.View.{View}
+use Rattle.draid_turn.specs.declared.view.SeatStage.{SeatStage}
+use Rattle.draid_turn.specs.declared.view.SeatStage.TheVariants.{Idle, Waiting, Holding}
+use Rattle.draid_turn.specs.declared.view.SeatView.{SeatView}
 use Rattle.draid_turn.specs.Lists.{Each, StartsWith, one_if, one_within}
 use Rattle.draid_turn.specs.Rule.{AtHome, Away, HoldsNothing, IsServed, TurnsInOrder, has_ticket, is_ticket}
 use Rattle.draid_turn.specs.Views.{served_view, holding_view, told_view, waiting_view}
 use Rattle.draid_turn.proofs.Beginnings.{starts_further, starts_self}
 use Rattle.draid_turn.proofs.Sums.{count_at, count_one, count_push, count_set, count_two, each_push, each_set, one_if_same, within_bounds, within_down, within_empty, within_most, within_up}
 
-abbrev pub ticket_of : Stage → ℕ
+abbrev pub ticket_of : SeatStage → ℕ
 ticket_of Idle = 0
 ticket_of (Waiting t) = t
 ticket_of (Holding t) = t
@@ -26,20 +26,20 @@ there_inside [] i a e = absurd (some-ne-none a (sym e))
 there_inside (x ∷ xs) zero a e = omega arith
 there_inside (x ∷ xs) (suc i) a e = let h = there_inside xs i a e in omega arith
 
-served_else : (old new : ℕ) (s : Stage) → HoldsNothing s → IsServed old s → IsServed new s
+served_else : (old new : ℕ) (s : SeatStage) → HoldsNothing s → IsServed old s → IsServed new s
 served_else old new Idle h i = tt
 served_else old new (Waiting t) h i = tt
 served_else old new (Holding t) h i = absurd h
 
 -- who has its turn has the ticket that is served
-at_turn : (n : ℕ) (s : Stage) → IsServed n s → HoldsNothing s ⊎ (one_if (is_ticket n s) ≡ 1)
+at_turn : (n : ℕ) (s : SeatStage) → IsServed n s → HoldsNothing s ⊎ (one_if (is_ticket n s) ≡ 1)
 at_turn n Idle h = inl tt
 at_turn n (Waiting t) h = inl tt
 at_turn n (Holding t) h = inr (ap (λ k. one_if (nat_eq k n)) h ∙ one_if_same n)
 
 module _ {T E : Type 0} (fact : List E → T → Type 0) where
   abbrev V : Type 0
-  V = View E
+  V = SeatView E
 
   abbrev St : Type 0
   St = State (Option T) V
@@ -126,7 +126,7 @@ module _ {T E : Type 0} (fact : List E → T → Type 0) where
   idle_holding : (b : ℕ) → Idle ≡ Holding b → ⊥
   idle_holding b e = cc
 
-  not_holding : (t : ℕ) (s : Stage) → s ≡ Holding t → HoldsNothing s → ⊥
+  not_holding : (t : ℕ) (s : SeatStage) → s ≡ Holding t → HoldsNothing s → ⊥
   not_holding t s is h = subst HoldsNothing is h
 
   -- who has its turn has the value, and has seen all of its events
@@ -327,7 +327,7 @@ module _ {T E : Type 0} (fact : List E → T → Type 0) where
         };
       }
     where
-      none_served : (z : Stage) → HoldsNothing z → IsServed (serves s) z
+      none_served : (z : SeatStage) → HoldsNothing z → IsServed (serves s) z
       none_served Idle h = tt
       none_served (Waiting n) h = tt
       none_served (Holding n) h = absurd h

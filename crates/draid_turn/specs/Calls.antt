@@ -3,7 +3,7 @@ use Rattle.std.specs.Prelude.{◌≡◌, ◌++◌, ◌∷◌, ℕ, true, List, [
 use Rattle.atomic_table.specs.Seated.{TableId}
 use Rattle.atomic_table.specs.Table.{Me}
 use Rattle.draid_turn.specs.declared.past.Past.{Past}
-use Rattle.draid_turn.specs.declared.view.View.{View}
+use Rattle.draid_turn.specs.declared.view.SeatView.{SeatView}
 use Rattle.draid_turn.specs.declared.span.Span.{Span}
 use Rattle.draid_turn.specs.History.{Stood, number_of}
 use Rattle.draid_turn.specs.Lists.{places}
@@ -26,11 +26,11 @@ pub record Lock (T : Type 0) : Type 0 where
 abbrev pub newcomer : {E : Type 0} → TableId → List E → List Span → Caller E
 newcomer table seen numbers = record { table = table; seen = seen; own = []; numbers = numbers }
 
-abbrev pub caller_of : {E : Type 0} → TableId → View E → Caller E
+abbrev pub caller_of : {E : Type 0} → TableId → SeatView E → Caller E
 caller_of table view = record { table = table; seen = view.seen; own = view.own; numbers = view.numbers }
 
 -- a seat between two calls: it has no ticket, holds no value, knows that it has seen what it heard, and has a number
-pub record IsBetweenCalls {T E : Type 0} (me : Me T (View E)) : Type 0 where
+pub record IsBetweenCalls {T E : Type 0} (me : Me T (SeatView E)) : Type 0 where
   pub idle : me ≡ (idle_view me.0.seen me.0.own me.0.numbers, [])
   pub some : HoldsSome me.0.numbers
 

@@ -1,34 +1,34 @@
 -- What each kind of step tells the caller that makes it.
 use Rattle.std.specs.Prelude.{◌≡◌, ◌∷◌, ℕ, List, [], Option, Some, None, length}
 use Rattle.atomic_table.specs.Table.{Me, Step, rest}
-use Rattle.draid_turn.specs.declared.view.Stage.TheVariants.{Waiting}
-use Rattle.draid_turn.specs.declared.view.View.{View}
+use Rattle.draid_turn.specs.declared.view.SeatStage.TheVariants.{Waiting}
+use Rattle.draid_turn.specs.declared.view.SeatView.{SeatView}
 use Rattle.draid_turn.specs.Calls.{Follows}
 use Rattle.draid_turn.specs.Lists.{StartsWith, places}
 use Rattle.draid_turn.specs.Numbers.{HoldsAll}
 use Rattle.draid_turn.specs.Views.{holding_view, learned_view, served_view, told_view, waiting_view}
 
 module _ {T E : Type 0} where
-  abbrev pub looked : Step (Option T) → Me (Option T) (View E) → ℕ → Me (Option T) (View E) → Type 0
+  abbrev pub looked : Step (Option T) → Me (Option T) (SeatView E) → ℕ → Me (Option T) (SeatView E) → Type 0
   looked step old found new = new ≡ old
 
   -- where the word was as expected, it is the seat's ticket
-  abbrev pub drew : Step (Option T) → Me (Option T) (View E) → ℕ → Me (Option T) (View E) → Type 0
+  abbrev pub drew : Step (Option T) → Me (Option T) (SeatView E) → ℕ → Me (Option T) (SeatView E) → Type 0
   drew step old found new = (new.1 ≡ old.1) × (found ≡ step.first → new.0 ≡ waiting_view found old.0) × ((found ≡ step.first → ⊥) → new.0 ≡ old.0)
 
   -- the history has so much more
-  abbrev pub told : List E → Step (Option T) → Me (Option T) (View E) → ℕ → Me (Option T) (View E) → Type 0
+  abbrev pub told : List E → Step (Option T) → Me (Option T) (SeatView E) → ℕ → Me (Option T) (SeatView E) → Type 0
   told added step old found new = new ≡ (told_view added old.0, old.1)
 
-  abbrev pub served : Step (Option T) → Me (Option T) (View E) → ℕ → Me (Option T) (View E) → Type 0
+  abbrev pub served : Step (Option T) → Me (Option T) (SeatView E) → ℕ → Me (Option T) (SeatView E) → Type 0
   served step old found new = new ≡ (served_view old.0, rest old.1)
 
-  abbrev pub learned : Step (Option T) → Me (Option T) (View E) → ℕ → Me (Option T) (View E) → Type 0
+  abbrev pub learned : Step (Option T) → Me (Option T) (SeatView E) → ℕ → Me (Option T) (SeatView E) → Type 0
   learned step old found new = (new ≡ (learned_view old.0, old.1)) × StartsWith old.0.seen old.0.heard
 
 module _ {T E : Type 0} (fact : List E → T → Type 0) (number : E → Option ℕ) where
   -- the seat's ticket is served, and it has the value
-  pub record Takes (old : Me (Option T) (View E)) (ticket : ℕ) (new : Me (Option T) (View E)) : Type 0 where
+  pub record Takes (old : Me (Option T) (SeatView E)) (ticket : ℕ) (new : Me (Option T) (SeatView E)) : Type 0 where
     pub value : T
     pub log : List E
     pub kept : fact log value
@@ -38,11 +38,11 @@ module _ {T E : Type 0} (fact : List E → T → Type 0) (number : E → Option 
     pub slot_is : new.1 ≡ (0, Some value) ∷ old.1
 
   -- where the word is the seat's ticket, it has the value; else nothing changes
-  abbrev pub took : Step (Option T) → Me (Option T) (View E) → ℕ → Me (Option T) (View E) → Type 0
+  abbrev pub took : Step (Option T) → Me (Option T) (SeatView E) → ℕ → Me (Option T) (SeatView E) → Type 0
   took step old found new = (ticket : ℕ) → old.0.stage ≡ Waiting ticket → (ticket ≡ found → Takes old ticket new) × ((ticket ≡ found → ⊥) → new ≡ old)
 
   -- the seat has its turn, and the value is in the caller's hands
-  pub record HasTaken (old : Me (Option T) (View E)) (ticket : ℕ) (new : Me (Option T) (View E)) (value : T) : Type 0 where
+  pub record HasTaken (old : Me (Option T) (SeatView E)) (ticket : ℕ) (new : Me (Option T) (SeatView E)) (value : T) : Type 0 where
     pub log : List E
     pub me : new ≡ (holding_view ticket log old.0, (0, None) ∷ [])
     pub kept : fact log value

@@ -1,30 +1,30 @@
 -- What a seat knows, and what it knows after each kind of step.
 use Rattle.std.specs.Prelude.{◌++◌, ℕ, List, [], length}
-use Rattle.draid_turn.specs.declared.view.Stage.TheVariants.{Idle, Waiting, Holding}
-use Rattle.draid_turn.specs.declared.view.View.{View}
+use Rattle.draid_turn.specs.declared.view.SeatStage.TheVariants.{Idle, Waiting, Holding}
+use Rattle.draid_turn.specs.declared.view.SeatView.{SeatView}
 use Rattle.draid_turn.specs.declared.span.Span.{Span}
 use Rattle.draid_turn.specs.Lists.{longer, merge, places, shorter}
 use Rattle.draid_turn.specs.Numbers.{all_numbers, without}
 
 module _ {E : Type 0} where
   -- a seat between two calls
-  abbrev pub idle_view : List E → List ℕ → List Span → View E
+  abbrev pub idle_view : List E → List ℕ → List Span → SeatView E
   idle_view seen own numbers = record { stage = Idle; seen = seen; heard = []; own = own; numbers = numbers }
 
   -- the first seat of a table
-  abbrev pub first_view : View E
+  abbrev pub first_view : SeatView E
   first_view = idle_view [] [] all_numbers
 
   -- the seat drew a ticket
-  abbrev pub waiting_view : ℕ → View E → View E
+  abbrev pub waiting_view : ℕ → SeatView E → SeatView E
   waiting_view ticket view = record { stage = Waiting ticket; seen = view.seen; heard = view.heard; own = view.own; numbers = view.numbers }
 
   -- it has its turn and the value, and has seen the whole history
-  abbrev pub holding_view : ℕ → List E → View E → View E
+  abbrev pub holding_view : ℕ → List E → SeatView E → SeatView E
   holding_view ticket log view = record { stage = Holding ticket; seen = log; heard = view.heard; own = view.own; numbers = view.numbers }
 
   -- it added to the history, and what it added is its own
-  abbrev pub told_view : List E → View E → View E
+  abbrev pub told_view : List E → SeatView E → SeatView E
   told_view added view = record {
     stage = view.stage;
     seen = view.seen ++ added;
@@ -34,18 +34,18 @@ module _ {E : Type 0} where
   }
 
   -- it has given the value back
-  abbrev pub served_view : View E → View E
+  abbrev pub served_view : SeatView E → SeatView E
   served_view view = record { stage = Idle; seen = view.seen; heard = view.heard; own = view.own; numbers = view.numbers }
 
   -- a seat that gave numbers up, and the new seat that has them
-  abbrev pub giver_view : List Span → View E → View E
+  abbrev pub giver_view : List Span → SeatView E → SeatView E
   giver_view given view = record { stage = view.stage; seen = view.seen; heard = view.heard; own = view.own; numbers = without view.numbers given }
 
-  abbrev pub new_view : List Span → View E → View E
+  abbrev pub new_view : List Span → SeatView E → SeatView E
   new_view given view = idle_view view.seen [] given
 
   -- two seats as one, and the other one, which is spent
-  abbrev pub united_view : View E → View E → View E
+  abbrev pub united_view : SeatView E → SeatView E → SeatView E
   united_view view other = record {
     stage = Idle;
     seen = longer view.seen other.seen;
@@ -54,9 +54,9 @@ module _ {E : Type 0} where
     numbers = view.numbers ++ other.numbers;
   }
 
-  abbrev pub spent_view : View E
+  abbrev pub spent_view : SeatView E
   spent_view = idle_view [] [] []
 
   -- it knows that it has seen what it heard
-  abbrev pub learned_view : View E → View E
+  abbrev pub learned_view : SeatView E → SeatView E
   learned_view view = record { stage = view.stage; seen = view.seen; heard = []; own = view.own; numbers = view.numbers }

@@ -1,6 +1,6 @@
 use crate::past::Past;
 use crate::stand::Stand;
-use crate::view::View;
+use crate::view::SeatView;
 use atomic_table::Seat;
 use std::marker::Model;
 
@@ -8,7 +8,7 @@ use std::marker::Model;
 /// holds, of which there is at least one.
 #[derive(Drop)]
 pub struct Pass<T: Stand> {
-    pub(crate) seat: Seat<Option<T>, View<Past<T>>>,
+    pub(crate) seat: Seat<Option<T>, SeatView<Past<T>>>,
     // A seat has no bytes, and an element of a list has to have some.
     pub(crate) size: u8,
 }

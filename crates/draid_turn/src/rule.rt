@@ -5,7 +5,7 @@ ghost use Rattle.draid_turn.specs.declared.span.Span.{Span};
 use crate::past::Past;
 use crate::span::Span;
 use crate::stand::Stand;
-use crate::view::View;
+use crate::view::SeatView;
 use atomic_table::{Join, Play, Split, TableRule};
 use std::marker::{Brand, PhantomData};
 use std::snapshot::Snapshot;
@@ -14,7 +14,7 @@ use std::snapshot::Snapshot;
 /// the value.
 pub(crate) struct Served;
 
-impl<T: Stand> TableRule<Option<T>, View<Past<T>>, Snapshot<T>> for Served {
+impl<T: Stand> TableRule<Option<T>, SeatView<Past<T>>, Snapshot<T>> for Served {
     ghost use Rattle.draid_turn.specs.History.{Stood, number_of};
     ghost use Rattle.draid_turn.specs.Rule.{Rule};
     ghost use Rattle.draid_turn.specs.Views.{first_view};
@@ -54,7 +54,7 @@ impl Given for Brand {
 /// A load of the next ticket, which tells nothing.
 pub(crate) struct Look;
 
-impl<E, T> Play<Option<T>, View<E>> for Look {
+impl<E, T> Play<Option<T>, SeatView<E>> for Look {
     ghost use Rattle.draid_turn.specs.Steps.{looked};
 
     ghost then = { looked };
@@ -63,7 +63,7 @@ impl<E, T> Play<Option<T>, View<E>> for Look {
 /// Draws a ticket.
 pub(crate) struct Draw;
 
-impl<E, T> Play<Option<T>, View<E>> for Draw {
+impl<E, T> Play<Option<T>, SeatView<E>> for Draw {
     ghost use Rattle.draid_turn.specs.Steps.{drew};
 
     ghost then = { drew };
@@ -74,7 +74,7 @@ pub(crate) struct Take<I> {
     of: PhantomData<I>,
 }
 
-impl<T, I: Kept<T>> Play<Option<T>, View<Past<T>>> for Take<I> {
+impl<T, I: Kept<T>> Play<Option<T>, SeatView<Past<T>>> for Take<I> {
     ghost use Rattle.draid_turn.specs.History.{number_of};
     ghost use Rattle.draid_turn.specs.Steps.{took};
 
@@ -86,7 +86,7 @@ pub(crate) struct Tell<J> {
     of: PhantomData<J>,
 }
 
-impl<E, T, J: Added<E>> Play<Option<T>, View<E>> for Tell<J> {
+impl<E, T, J: Added<E>> Play<Option<T>, SeatView<E>> for Tell<J> {
     ghost use Rattle.draid_turn.specs.Steps.{told};
 
     ghost then = { told J.added };
@@ -95,7 +95,7 @@ impl<E, T, J: Added<E>> Play<Option<T>, View<E>> for Tell<J> {
 /// Gives the value back, and serves the next ticket.
 pub(crate) struct Serve;
 
-impl<E, T> Play<Option<T>, View<E>> for Serve {
+impl<E, T> Play<Option<T>, SeatView<E>> for Serve {
     ghost use Rattle.draid_turn.specs.Steps.{served};
 
     ghost then = { served };
@@ -106,7 +106,7 @@ pub(crate) struct Share<J> {
     of: PhantomData<J>,
 }
 
-impl<E, J: Given> Split<View<E>> for Share<J> {
+impl<E, J: Given> Split<SeatView<E>> for Share<J> {
     ghost use Rattle.draid_turn.specs.Views.{giver_view, new_view};
 
     ghost left = { giver_view J.given };
@@ -117,7 +117,7 @@ impl<E, J: Given> Split<View<E>> for Share<J> {
 /// Makes two seats one.
 pub(crate) struct Unite;
 
-impl<E> Join<View<E>> for Unite {
+impl<E> Join<SeatView<E>> for Unite {
     ghost use Rattle.draid_turn.specs.Views.{spent_view, united_view};
 
     ghost both = { united_view };
@@ -128,7 +128,7 @@ impl<E> Join<View<E>> for Unite {
 /// A load that tells a seat that it has seen what it heard.
 pub(crate) struct Learn;
 
-impl<E, T> Play<Option<T>, View<E>> for Learn {
+impl<E, T> Play<Option<T>, SeatView<E>> for Learn {
     ghost use Rattle.draid_turn.specs.Steps.{learned};
 
     ghost then = { learned };

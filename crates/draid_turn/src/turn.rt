@@ -10,7 +10,7 @@ use crate::past::Past;
 use crate::rule::{Added, Draw, Given, Kept, Learn, Look, Serve, Served, Share, Take, Tell, Unite};
 use crate::span::Span;
 use crate::stand::{Act, Stand};
-use crate::view::View;
+use crate::view::SeatView;
 use atomic_table::{Seat, Table};
 use std::alloc::Global;
 use std::marker::{Brand, Model};
@@ -27,7 +27,7 @@ pub struct Refused<T> {
 /// A value under a lock that is served in the order of tickets.
 #[derive(Drop)]
 pub struct Turn<T: Stand> {
-    table: Table<Option<T>, View<Past<T>>, Snapshot<T>, Served, Global>,
+    table: Table<Option<T>, SeatView<Past<T>>, Snapshot<T>, Served, Global>,
 }
 
 impl<T: Stand> Model for Turn<T> {
@@ -42,7 +42,7 @@ impl<T: Stand> Model for Turn<T> {
 }
 
 impl<T: Stand> Turn<T> {
-    ghost use Rattle.draid_turn.specs.declared.view.Stage.TheVariants.{Idle, Waiting};
+    ghost use Rattle.draid_turn.specs.declared.view.SeatStage.TheVariants.{Idle, Waiting};
     ghost use Rattle.draid_turn.specs.Rule.{IsHolding};
     ghost use Rattle.draid_turn.specs.Steps.{HasTaken};
     ghost use Rattle.draid_turn.specs.Views.{giver_view, new_view, served_view, told_view, waiting_view};
@@ -128,7 +128,7 @@ impl<T: Stand> Turn<T> {
     }
 
     /// Draws a ticket. Where the last number was drawn it waits without end.
-    fn draw<R: Wait>(&self, rt: &R, seat: &mut Seat<Option<T>, View<Past<T>>>) -> u64
+    fn draw<R: Wait>(&self, rt: &R, seat: &mut Seat<Option<T>, SeatView<Past<T>>>) -> u64
         requires own { seat.old.table_id ≡ self.now.table }
         requires idle { (seat.old.me.0.stage ≡ Idle) × (seat.old.me.1 ≡ []) }
         ensures own { seat.new.table_id ≡ seat.old.table_id }
@@ -154,7 +154,7 @@ impl<T: Stand> Turn<T> {
     fn take_in_turn<I: Kept<T>, R: Wait>(
         &self,
         rt: &R,
-        seat: &mut Seat<Option<T>, View<Past<T>>>,
+        seat: &mut Seat<Option<T>, SeatView<Past<T>>>,
         ticket: u64,
     ) -> T
         requires kept { (log : List (Past T)) (x : T) → Stood T.step self.now.first log x → I.kept log x }
@@ -176,7 +176,7 @@ impl<T: Stand> Turn<T> {
     /// Adds to the history how the value is left.
     fn tell<J: Added<Past<T>>>(
         &self,
-        seat: &mut Seat<Option<T>, View<Past<T>>>,
+        seat: &mut Seat<Option<T>, SeatView<Past<T>>>,
         value: &T,
         concerned: Option<u64>,
     )
@@ -192,7 +192,7 @@ impl<T: Stand> Turn<T> {
     }
 
     /// Gives the value back, and serves the next ticket.
-    fn give_back(&self, seat: &mut Seat<Option<T>, View<Past<T>>>, value: T)
+    fn give_back(&self, seat: &mut Seat<Option<T>, SeatView<Past<T>>>, value: T)
         requires own { seat.old.table_id ≡ self.now.table }
         requires holding { IsHolding seat.old.me.0.stage × (seat.old.me.1 ≡ (0, None) ∷ []) }
         requires stood { Stood T.step self.now.first seat.old.me.0.seen value }
@@ -207,9 +207,9 @@ impl<T: Stand> Turn<T> {
     /// A new seat, which has some of the numbers.
     fn share<J: Given>(
         &self,
-        seat: &mut Seat<Option<T>, View<Past<T>>>,
+        seat: &mut Seat<Option<T>, SeatView<Past<T>>>,
         numbers: &[Span],
-    ) -> Seat<Option<T>, View<Past<T>>>
+    ) -> Seat<Option<T>, SeatView<Past<T>>>
         requires given { J.given ≡ numbers.now }
         requires own { seat.old.table_id ≡ self.now.table }
         requires held { (n : ℕ) → holds n numbers.now ≡ true → holds n seat.old.me.0.numbers ≡ true }

@@ -5,12 +5,12 @@ use Rattle.draid_turn.specs.History.{Stood, number_of}
 use Rattle.draid_turn.specs.Steps.{HasTaken, Takes}
 use Rattle.std.specs.Option.{IsSome}
 use Rattle.draid_turn.proofs.Keeps.{has_taken, slot_value, takes_keep}
-use Rattle.draid_turn.specs.declared.view.Stage.TheVariants.{Waiting}
-use Rattle.draid_turn.specs.declared.view.View.{View}
+use Rattle.draid_turn.specs.declared.view.SeatStage.TheVariants.{Waiting}
+use Rattle.draid_turn.specs.declared.view.SeatView.{SeatView}
 use Rattle.draid_turn.proofs.turn.Turn.take_in_turn.Given.{Over}
 use Rattle.draid_turn.proofs.turn.Turn.take_in_turn.Goals as goal
 
-taken : (g : Over) (start old mid new : Me (Option g.row.T.Denot) (View (Past g.row.T.Denot))) (ticket served : ℕ) (slot : Option g.row.T.Denot) (x : g.row.T.Denot)
+taken : (g : Over) (start old mid new : Me (Option g.row.T.Denot) (SeatView (Past g.row.T.Denot))) (ticket served : ℕ) (slot : Option g.row.T.Denot) (x : g.row.T.Denot)
     → ((t : ℕ) → old.0.stage ≡ Waiting t → (t ≡ served → Takes g.I.Kept.kept number_of old t mid) × ((t ≡ served → ⊥) → mid ≡ old))
     → old ≡ start → (start.0.stage ≡ Waiting ticket) × (start.1 ≡ []) → served ≡ ticket → mid.1 ≡ (0, slot) ∷ rest mid.1 → new ≡ (mid.0, (0, None) ∷ rest mid.1) → slot ≡ Some x
     → HasTaken g.I.Kept.kept number_of start ticket new x
