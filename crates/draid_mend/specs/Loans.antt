@@ -14,7 +14,7 @@ use Rattle.draid_pass.specs.declared.pass.Pass.{Pass}
 use Rattle.draid_rack.specs.Rack.{Told}
 use Rattle.draid_rack.specs.declared.Rack.{Ghosts}
 use Rattle.draid_slots.specs.States.{name_of}
-use Rattle.draid_slots.specs.Table.{IsThere, SlotTable, arm_at}
+use Rattle.draid_slots.specs.Table.{SlotTable, arm_at}
 use Rattle.draid_segments.specs.Segments.{Pieces}
 use Rattle.draid_shard.specs.Calls.{ActsOn, CountsFailed}
 use Rattle.draid_shard.specs.Part.{Part, layout_in}
@@ -77,11 +77,6 @@ source_in slots slot (Some (From arm leaf)) = option_map (λ (a : Arm). record {
 pub record NamesSources (part : Part) (slots : SlotTable) (pointer : Pointer) (taken : List Taken) (count : ℕ) (chosen : List (Option Source)) : Type 0 where
   pub many : length chosen ≡ count
   pub each : (c : ℕ) → c < count → slice_index_or chosen c None ≡ source_in slots ((layout_in part).slot_of pointer.first c) (slice_get taken c)
-
--- the arms from which columns were taken are there
-abbrev pub AreTaken : Part → SlotTable → Pointer → List Taken → Type 0
-AreTaken part slots pointer taken =
-    (c arm leaf : ℕ) → slice_get taken c ≡ Some (From arm leaf) → IsThere slots (record { slot = (layout_in part).slot_of pointer.first c; arm = arm })
 
 -- ---- what is kept of a stripe
 
