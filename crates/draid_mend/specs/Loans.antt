@@ -55,9 +55,7 @@ IsTargetsOf (Some pass) count = count ≡ length pass.targets.items
 -- room for a stripe, and for its landing on so many targets
 pub record HasLendRoom (geometry : Geometry) (targets : ℕ) (room : LendRoom) : Type 0 where
   pub lent : HasRoomFor geometry room.lent
-  pub empty : (room.lent.taken.items ≡ []) × (room.lent.failed.items ≡ [])
-  pub chosen : geometry.g ≤ vec_capacity room.chosen
-  pub named : room.chosen.items ≡ []
+  pub empty : (room.lent.chosen.items ≡ []) × (room.lent.failed.items ≡ [])
   pub failed : geometry.g * targets ≤ vec_capacity room.failed
 
 -- ---- from where the columns were taken
@@ -77,6 +75,12 @@ source_in slots slot (Some (From arm leaf)) = option_map (λ (a : Arm). record {
 pub record NamesSources (part : Part) (slots : SlotTable) (pointer : Pointer) (taken : List Taken) (count : ℕ) (chosen : List (Option Source)) : Type 0 where
   pub many : length chosen ≡ count
   pub each : (c : ℕ) → c < count → slice_index_or chosen c None ≡ source_in slots ((layout_in part).slot_of pointer.first c) (slice_get taken c)
+
+-- the first so many columns were read, each from its source, and so named
+pub record ReadsNamed (part : Part) (slots : SlotTable) (pointer : Pointer) (count : ℕ) (told : Option Told) (columns : List (List ℕ)) (failed : List ℕ) (chosen : List (Option Source)) : Type 0 where
+  pub taken : List Taken
+  pub reads : ReadsStripe part slots pointer count told columns taken failed
+  pub names : NamesSources part slots pointer taken count chosen
 
 -- ---- what is kept of a stripe
 

@@ -183,18 +183,14 @@ fn lend_unit<R: Rack, A: Area>(shard: &mut Shard<R, A>, entry: Entry, stripe: u6
     ensures arms { KeepsArms shard.old.slots shard.new.slots }
     ensures reserve { SameReserve shard.old shard.new }
 {
-    let LendRoom {
-        mut lent,
-        mut chosen,
-        failed,
-    } = room;
+    let LendRoom { mut lent, failed } = room;
     let unit = unit_of(&entry.pointer, stripe);
     let events = events_of(&shard.kept);
-    read_stripe(shard, &unit, &mut lent, &mut chosen);
+    read_stripe(shard, &unit, &mut lent);
     let Readings {
         columns,
+        chosen,
         failed: faults,
-        ..
     } = lent;
     shard.serial += 1;
     shard.kept = Some(KeptLoan::Stripe(LentStripe {

@@ -1,5 +1,5 @@
 //! The arms of a stripe's slots that miss it as it lands.
-ghost use Rattle.std.specs.Prelude.{◌≡◌, ◌==◌, ◌<◌, ℕ, false, true, length, slice_index_or};
+ghost use Rattle.std.specs.Prelude.{◌≡◌, ◌==◌, ◌<◌, [], ℕ, false, true, length, slice_index_or};
 ghost use Rattle.std.specs.List.{list_any};
 ghost use Rattle.draid_shard.specs.Part.{IsRun};
 ghost use Rattle.draid_shard.specs.Rows.{arm_no};
@@ -34,12 +34,20 @@ pub(crate) fn lose_missed<R: Rack, A: Area>(
     requires answered { answered ≡ true → AnswerBelow (part_of shard.now) shard.now.slots pointer.now pass.old.targets.items shard.now.geometry.g }
     ensures { LosesMissed (part_of shard.now) shard.now.slots pointer.now failed.now shard.now.geometry.g pass.old pass.new }
 {
-    if answered && failed.is_empty() {
+    if is_whole(answered, failed) {
         lose_marked(pass, &[]);
         return;
     }
     let marks = missed_marks(shard, pointer, failed);
     lose_marked(pass, &marks);
+}
+
+/// Whether all targets answered and no call failed.
+fn is_whole(answered: bool, failed: &[u64]) -> bool
+    ensures answered { result ≡ true → answered ≡ true }
+    ensures none { result ≡ true → failed.now ≡ [] }
+{
+    answered && failed.is_empty()
 }
 
 /// Marks the arms of the slots of a stripe's columns that don't answer there, or keep it on a leaf on which a call failed. It

@@ -16,9 +16,9 @@ pub returns-clause-valid : goal.returns-clause-valid
 returns-clause-valid g c =
     let r = c.read_stripe.ensures in
     let e = c.add_asked.ensures in
-    final_valid g.R.Rack c.args.shard.now c.read_stripe.new.shard c.requires.valid r.rack c.args.entry c.args.stripe c.requires.unit c.requires.running c.unit_of-unit.result c.unit_of-unit.ensures c.read_stripe.new.chosen
-    c.read_stripe.new.lent.columns c.args.room.failed c.add_asked.new.self c.read_stripe.new.lent.taken.items c.read_stripe.new.lent.failed r.reads
-    (subst (λ s. NamesSources (part_of s) s.slots c.unit_of-unit.result c.read_stripe.new.lent.taken.items s.geometry.g c.read_stripe.new.chosen.items) (sym r.rack) r.names)
+    final_valid g.R.Rack c.args.shard.now c.read_stripe.new.shard c.requires.valid r.rack c.args.entry c.args.stripe c.requires.unit c.requires.running c.unit_of-unit.result c.unit_of-unit.ensures c.read_stripe.new.lent.chosen
+    c.read_stripe.new.lent.columns c.args.room.failed c.add_asked.new.self r.reads.taken c.read_stripe.new.lent.failed r.reads.reads
+    (subst (λ s. NamesSources (part_of s) s.slots c.unit_of-unit.result r.reads.taken s.geometry.g c.read_stripe.new.lent.chosen.items) (sym r.rack) r.reads.names)
     (Lend c.read_stripe.new.lent.failed) r.shape (record { parity = r.room.parity; ndata = r.room.ndata; len = r.room.len }) (enough_room c.args.shard.now.geometry c.args.shard.now.pass c.args.room c.requires.room)
     (e.owed ∙ ap (λ n. owed_of c.read_stripe.new.shard.history + n) c.events_of-events.ensures) e.reserved e.stored
 
@@ -26,7 +26,7 @@ pub returns-clause-unit : goal.returns-clause-unit
 returns-clause-unit g c =
     let r = c.read_stripe.ensures in
     let e = c.add_asked.ensures in
-    final_lends g.R.Rack c.args.shard.now c.read_stripe.new.shard c.requires.valid r.rack c.args.entry c.args.stripe c.requires.unit c.requires.running c.unit_of-unit.result c.unit_of-unit.ensures c.read_stripe.new.chosen
-    c.read_stripe.new.lent.columns c.args.room.failed c.add_asked.new.self c.read_stripe.new.lent.taken.items c.read_stripe.new.lent.failed r.reads
-    (subst (λ s. NamesSources (part_of s) s.slots c.unit_of-unit.result c.read_stripe.new.lent.taken.items s.geometry.g c.read_stripe.new.chosen.items) (sym r.rack) r.names)
+    final_lends g.R.Rack c.args.shard.now c.read_stripe.new.shard c.requires.valid r.rack c.args.entry c.args.stripe c.requires.unit c.requires.running c.unit_of-unit.result c.unit_of-unit.ensures c.read_stripe.new.lent.chosen
+    c.read_stripe.new.lent.columns c.args.room.failed c.add_asked.new.self r.reads.taken c.read_stripe.new.lent.failed r.reads.reads
+    (subst (λ s. NamesSources (part_of s) s.slots c.unit_of-unit.result r.reads.taken s.geometry.g c.read_stripe.new.lent.chosen.items) (sym r.rack) r.reads.names)
     r.told r.counts e.stored
