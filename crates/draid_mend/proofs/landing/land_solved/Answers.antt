@@ -13,7 +13,7 @@ use Rattle.draid_mend.proofs.landing.land_solved.Goals as goal
 pub lose_missed-requires-clause-answered : goal.lose_missed-requires-clause-answered
 lose_missed-requires-clause-answered g c is =
     let old = c.args.shard.now in
-    let e = c.land_columns.ensures in
+    let e = c.land_columns-answered.ensures in
     subst (λ s. AnswerBelow (part_of s) s.slots c.unit_of-unit.result c.args.pass.now.targets.items s.geometry.g) (sym e.rack)
     (subst (λ (ts : List ArmAt). AnswerBelow (part_of old) old.slots c.unit_of-unit.result ts old.geometry.g) c.deref.ensures.value (e.answered is))
 
@@ -22,9 +22,9 @@ returns-clause-lands g c =
     let old = c.args.shard.now in
     let kept = c.args.kept.now in
     let unit = c.unit_of-unit.ensures in
-    let e = c.land_columns.ensures in
-    let new = c.land_columns.new.shard in
-    let failed = c.land_columns.new.failed.items in
+    let e = c.land_columns-answered.ensures in
+    let new = c.land_columns-answered.new.shard in
+    let failed = c.land_columns-answered.new.failed.items in
     record {
       only = e.rack;
       shape = e.shape;
