@@ -1,4 +1,4 @@
-use Rattle.std.proofs.Common.{◌∙◌, [], ◌∷◌, List, refl, sym}
+use Rattle.std.proofs.Common.{◌∙◌, [], ◌∷◌, List, sym}
 use Rattle.draid_names.specs.declared.arm.At.{At}
 use Rattle.draid_shard.specs.States.{part_of}
 use Rattle.draid_shard.proofs.Fitted.{fits_rows}
