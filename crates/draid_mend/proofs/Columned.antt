@@ -22,9 +22,9 @@ use Rattle.draid_shard.specs.declared.loan.Source.{Source}
 use Rattle.draid_shard.specs.declared.places.ColumnRows.{ColumnRows}
 use Rattle.draid_shard.specs.declared.shard.Shard.{Shard}
 use Rattle.draid_mend.specs.Mending.{at_sector}
-use Rattle.draid_mend.specs.Stripes.{AreColumnsApart, FailsColumns, KeepsColumn, LandsBelow, landed_below, own_or_all, rows_at, source_at, sources_below, sources_for}
-use Rattle.draid_mend.specs.Targets.{AreFree, AreThere, FailsBelow, KeepsAt, MendsBelow, StandsMended, is_mended_on, mended_below}
-use Rattle.draid_mend.proofs.Targeted.{or_left, or_right, taints_stay}
+use Rattle.draid_mend.specs.Stripes.{AnswerBelow, AreColumnsApart, FailsColumns, KeepsColumn, LandsBelow, landed_below, own_or_all, rows_at, source_at, sources_below, sources_for}
+use Rattle.draid_mend.specs.Targets.{AllAnswer, AreFree, AreThere, FailsBelow, KeepsAt, MendsBelow, StandsMended, is_mended_on, mended_below}
+use Rattle.draid_mend.proofs.Targeted.{fails_elsewhere, mends_elsewhere, or_left, or_right, taints_stay}
 
 -- the rows that a shard finds are these
 pub rows_are : (part : Part) (pointer : Pointer) (c : ℕ) (rows : ColumnRows) → IsRowsOf part pointer c rows → rows ≡ rows_at part pointer c
@@ -166,6 +166,31 @@ module _ (part : Part) (slots : SlotTable) (pointer : Pointer) (targets : List A
       let up : suc n ≡ n + 1 = omega arith in
       subst (λ k. FailsColumns part slots pointer targets k first failed) up (fails_more part slots pointer targets columns chosen n low before failed fails_here first was)
 
+-- ---- no target is an arm of the next column's slot
+module _ (part : Part) (slots : SlotTable) (pointer : Pointer) (targets : List ArmAt) (n : ℕ) (rows : ColumnRows) (of : IsRowsOf part pointer n rows) (other : (k : ℕ) (at : ArmAt) → slice_get targets k ≡ Some at → at.slot ≡ rows.slot → ⊥) where
+  pub lands_past : (columns : List (List ℕ)) (chosen : List (Option Source)) (failed : List ℕ) → n < part.geometry.g → (s t : Option Told) → OnBothTold s t (LandsBelow part slots pointer targets n columns chosen failed)
+      → OnBothTold s t (LandsBelow part slots pointer targets (n + 1) columns chosen failed)
+  lands_past columns chosen failed low s t was =
+      lands_next part slots pointer targets columns chosen n low failed failed rows of (fails_elsewhere slots rows targets (length targets) failed) (column_at columns n) (sources_for part pointer chosen n) s t t refl refl
+      (mends_elsewhere slots rows targets (column_at columns n) (sources_for part pointer chosen n) failed t other (length targets) (omega arith)) was
+
+  pub fails_past : (first failed : List ℕ) → FailsColumns part slots pointer targets n first failed → FailsColumns part slots pointer targets (n + 1) first failed
+  fails_past first failed was = record { kept = was.kept; fail = λ leaf has out. (let z = was.fail leaf has out in let less = z.1 in (z.0, omega (arith, less), z.2)) }
+
+  pub none_answers : AllAnswer slots rows targets (length targets)
+  none_answers k at less here same = absurd (other k at here same)
+
+-- the targets of one column's slot more answer
+pub answer_next : (part : Part) (slots : SlotTable) (pointer : Pointer) (targets : List ArmAt) (n : ℕ) (rows : ColumnRows) → IsRowsOf part pointer n rows → AllAnswer slots rows targets (length targets)
+    → AnswerBelow part slots pointer targets n → AnswerBelow part slots pointer targets (n + 1)
+answer_next part slots pointer targets n rows of now was c less = elim (cases_lt c n) [
+  | inl before ↦ was c before
+  | inr past ↦ (
+      let here : n ≡ c = omega (arith, past, less) in
+      subst (λ k. AllAnswer slots (rows_at part pointer k) targets (length targets)) here (subst (λ r. AllAnswer slots r targets (length targets)) (rows_are part pointer n rows of) now)
+      )
+]
+
 -- ---- no column yet
 pub lands_none : (part : Part) (slots : SlotTable) (pointer : Pointer) (targets : List ArmAt) (columns : List (List ℕ)) (chosen : List (Option Source)) (failed : List ℕ) (o : Option Told) → OnBothTold o o (LandsBelow part slots pointer targets 0 columns chosen failed)
 lands_none part slots pointer targets columns chosen failed None = refl
@@ -212,10 +237,6 @@ module _ (part : Part) (pointer : Pointer) (chosen : List (Option Source)) (n co
 pub there_in : {R A : Type 0} (old new : Shard R A) (targets : List ArmAt) → new ≡ record old { rack = new.rack } → AreThere old.slots targets → AreThere new.slots targets
 there_in old new targets after was = subst (λ s. AreThere s.slots targets) (sym after) was
 
-pub all_in : {R A : Type 0} (old new : Shard R A) (pointer : Pointer) (chosen : List (Option Source)) (all : List At) → new ≡ record old { rack = new.rack } → all ≡ sources_below (part_of old) pointer chosen old.geometry.g
-    → all ≡ sources_below (part_of new) pointer chosen new.geometry.g
-all_in old new pointer chosen all after was = subst (λ s. all ≡ sources_below (part_of s) pointer chosen s.geometry.g) (sym after) was
-
 pub lands_back : {R A : Type 0} (old new : Shard R A) (pointer : Pointer) (targets : List ArmAt) (columns : List (List ℕ)) (chosen : List (Option Source)) (n m : ℕ) (f g : List ℕ) (t u : Option Told) → new ≡ record old { rack = new.rack }
     → ((start : Option Told) → OnBothTold start t (LandsBelow (part_of new) new.slots pointer targets n columns chosen f) → OnBothTold start u (LandsBelow (part_of new) new.slots pointer targets m columns chosen g))
     → (start : Option Told) → OnBothTold start t (LandsBelow (part_of old) old.slots pointer targets n columns chosen f) → OnBothTold start u (LandsBelow (part_of old) old.slots pointer targets m columns chosen g)
@@ -237,3 +258,8 @@ room_next before cap len targets column columns room few less =
 
 pub few_next : (before len new targets column : ℕ) → len ≤ before + column * targets → new ≤ len + targets → new ≤ before + (column + 1) * targets
 few_next before len new targets column few more = let next : (column + 1) * targets ≡ column * targets + targets = grind arith in omega (arith, next, few, more)
+
+pub answer_back : {R A : Type 0} (old new : Shard R A) (pointer : Pointer) (targets : List ArmAt) (n m : ℕ) → new ≡ record old { rack = new.rack }
+    → (AnswerBelow (part_of new) new.slots pointer targets n → AnswerBelow (part_of new) new.slots pointer targets m)
+    → AnswerBelow (part_of old) old.slots pointer targets n → AnswerBelow (part_of old) old.slots pointer targets m
+answer_back old new pointer targets n m after e = subst (λ s. AnswerBelow (part_of s) s.slots pointer targets n → AnswerBelow (part_of s) s.slots pointer targets m) after e

@@ -70,10 +70,10 @@ module _ {R A : Type 0} (rack : Ghosts R) (old : Shard R A) (v : Valid rack old)
     only = s.only;
     shape = s.shape;
     counts = s.counts;
-    number = s.loses.number_stays;
-    kind = s.loses.kind_stays;
-    running = s.loses.running_stays;
-    holds = left_holds old.slots old.last_pass (kept.stripe + 1) s.marks pass left (pass_held rack old v pass there runs kept kept_there) s.loses;
+    number = s.loses.loses.number_stays;
+    kind = s.loses.loses.kind_stays;
+    running = s.loses.loses.running_stays;
+    holds = left_holds old.slots old.last_pass (kept.stripe + 1) s.loses.marks pass left (pass_held rack old v pass there runs kept kept_there) s.loses.loses;
   }
 
   of_over : PassesOver base new pass left failed → IsLanding

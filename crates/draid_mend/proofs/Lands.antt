@@ -39,6 +39,7 @@ use Rattle.draid_mend.specs.Stands.{IsStripeOf}
 use Rattle.draid_mend.specs.Stripes.{LandsBelow}
 use Rattle.draid_mend.proofs.Counted.{are_many, are_missing}
 use Rattle.draid_mend.proofs.Loaned.{one_run}
+use Rattle.draid_mend.proofs.Lost.{lost_among}
 use Rattle.draid_mend.proofs.Missing.{are_marked}
 use Rattle.draid_mend.proofs.Standing.{land_step, mends}
 
@@ -148,8 +149,8 @@ module _ {R A : Type 0} (rack : Ghosts R) (old : Shard R A) (v : Valid rack old)
       -- the pass lost the targets that the machine's does
       pub left_is : lose_targets bad (count_by bad p.targets) p ≡ pass_in old.slots left
       left_is =
-          let marked = are_marked (part_of old) old.slots (unit_at kept.pointer kept.stripe) failed v.part v.slots w reached at.slots stripe_of.run lands.marks lands.missed in
-          sym (lands.loses_all old.slots bad marked pass_held.current.targets ∙ ap (λ k. lose_targets bad (lost_errors k bad p.targets) p) runs.rebuild)
+          let marked = are_marked (part_of old) old.slots (unit_at kept.pointer kept.stripe) failed v.part v.slots w reached at.slots stripe_of.run pass.targets.items lands.loses.marks lands.loses.missed in
+          sym (lost_among old.slots bad lands.loses.marks pass left lands.loses.loses marked pass_held.current.targets ∙ ap (λ k. lose_targets bad (lost_errors k bad p.targets) p) runs.rebuild)
 
       pub solved_acts : (pieces : Pieces) → OnTold (rack.told old.rack) (KeptStands (part_of old) w kept pieces) → (after : machine.State) (step : LandStripeStep l w pass.number kept.serial failed after)
           → OnBothTold (rack.told old.rack) (rack.told new.rack) (LandsStripe (nat_lt l.parity (unsourced l step.n)) l w step.p step.n step.h failed pieces)

@@ -12,6 +12,7 @@ mod Landings
 mod Lands
 mod Lends
 mod Loaned
+mod Lost
 mod Missed
 mod Missing
 mod Named

@@ -1,5 +1,5 @@
 -- The arms of a stripe's slots that miss it.
-use Rattle.std.proofs.Common.{◌≡◌, ◌==◌, ◌+◌, ◌<◌, ◌||◌, ◌&&◌, not, ◌∙◌, ℕ, zero, suc, Bool, true, false, List, [], ◌∷◌, Some, refl, replicate, arith, sym, ap, ap₂, subst, inl, inr, length, set}
+use Rattle.std.proofs.Common.{◌≡◌, ◌⊎◌, ◌==◌, ◌+◌, ◌<◌, ◌||◌, ◌&&◌, not, ◌∙◌, ℕ, zero, suc, Bool, true, false, List, [], ◌∷◌, Option, None, Some, refl, replicate, arith, sym, ap, ap₂, subst, inl, inr, length, set}
 use Rattle.std.specs.List.{list_any}
 use Rattle.std.specs.Prelude.{option_map, slice_index_or}
 use Rattle.std.proofs.lemmas.Bool.{cases_eq, cases_lt}
@@ -19,7 +19,6 @@ use Rattle.draid_machine.specs.Names.{has_name, has_number}
 use Rattle.draid_machine.specs.State as machine
 use Rattle.draid_machine.proofs.Losing.{every_segment}
 use Rattle.draid_machine.proofs.Small.{any_at, bool_cases}
-use Rattle.draid_plans.specs.Targets.{AreMarked}
 use Rattle.draid_slots.specs.Changes.{IsOf}
 use Rattle.draid_slots.specs.Marks.{is_marked}
 use Rattle.draid_slots.specs.States.{HasSlots, name_of}
@@ -29,10 +28,11 @@ use Rattle.draid_shard.specs.Rows.{FitsRows, IsRowsOf, answers_on, arm_no, leaf_
 use Rattle.draid_shard.specs.declared.places.ColumnRows.{ColumnRows}
 use Rattle.draid_shard.proofs.Answering.{answers_is, leaf_at_is, listed, name_listed}
 use Rattle.draid_shard.proofs.Homes.{lays}
-use Rattle.draid_mend.specs.Losing.{AreMissed, IsMarkedBy, IsRowIn, is_missed_on}
-use Rattle.draid_mend.specs.Stripes.{rows_at}
+use Rattle.draid_mend.specs.Losing.{AreMissed, AreMissedAmong, IsMarkedBy, IsRowIn, is_missed_on}
+use Rattle.draid_mend.specs.Stripes.{AnswerBelow, rows_at}
 use Rattle.draid_mend.proofs.Columned.{rows_are}
 use Rattle.draid_mend.proofs.Freed.{any_found}
+use Rattle.draid_mend.proofs.Lost.{MarkedAmong}
 
 -- ---- one arm
 
@@ -112,6 +112,38 @@ module _ (part : Part) (slots : SlotTable) (pointer : Pointer) (failed : List �
         ])
   ]
 
+  -- where none is looked for but the targets, those are marked
+  pub among : (targets : List ArmAt) (marks : List (List Bool)) (n : ℕ) → AreMissed part slots pointer failed n marks → AreMissedAmong part slots pointer failed n targets marks
+  among targets marks n missed k at here there = missed at.slot at.arm there
+
+  -- a column is on a slot, or none is
+  column_on : (slot n : ℕ) → ((c : ℕ) × (c < n) × (slot_at c ≡ slot)) ⊎ ((c : ℕ) → c < n → slot_at c ≡ slot → ⊥)
+  column_on slot zero = inr (λ c less same. omega (arith, less))
+  column_on slot (suc n) = elim (cases_eq (slot_at n) slot) [
+    | inl here ↦ inl (n, omega arith, here)
+    | inr other ↦ elim (column_on slot n) [
+      | inl z ↦ inl (z.0, (let less = z.1 in omega (arith, less)), z.2)
+      | inr none ↦ inr (λ c less same. elim (cases_lt c n) [
+        | inl before ↦ none c before same
+        | inr past ↦ other (ap slot_at (let e : n ≡ c = omega (arith, past, less) in e) ∙ same)
+      ])
+    ]
+  ]
+
+  not_missed : (rows : ColumnRows) (arm : ℕ) → failed ≡ [] → answers_on slots rows arm ≡ true → false ≡ is_missed_on slots rows failed arm
+  not_missed rows arm none answers = sym (ap₂ (λ b xs. not b || passes (leaf_on slots rows arm) (has_number xs)) answers none ∙ by (leaf_on slots rows arm))
+    where
+      by : (o : Option ℕ) → (not true || passes o (has_number [])) ≡ false
+      by None = refl
+      by (Some leaf) = refl
+
+  -- where each target answers and no call failed, none is to be marked
+  pub none_missed : (targets : List ArmAt) (n : ℕ) → failed ≡ [] → AnswerBelow part slots pointer targets n → AreMissedAmong part slots pointer failed n targets []
+  none_missed targets n none answer k at here there = elim (column_on at.slot n) [
+    | inl z ↦ inl (z.0, z.1, z.2, not_missed (rows_at part pointer z.0) at.arm none (answer z.0 z.1 k at (slice_get_within targets k at here) here (sym z.2)))
+    | inr off ↦ inr (off, refl)
+  ]
+
   -- and in each state these are those that miss the stripe
   module _ (is : IsPart part) (of : IsOf slots part.geometry part.perms part.number) (w : machine.State) (reached : IsReached (layout_in part) w) (has : HasSlots slots w.core)
       (run : IsRun part.geometry pointer.first pointer.stripes) where
@@ -145,8 +177,8 @@ module _ (part : Part) (slots : SlotTable) (pointer : Pointer) (failed : List �
       | inr off ↦ sym (ap (λ b. b && (not (arms.answers l w.core (name_of a) pointer.first) || arms.fails l w.core failed (name_of a) pointer.first)) off)
     ]
 
-    pub are_marked : (marks : List (List Bool)) → AreMissed part slots pointer failed part.geometry.g marks → AreMarked slots marks (misses_stripe l w.core pointer.first failed)
-    are_marked marks missed at a there = elim (missed at.slot at.arm (slice_get_within (arms_of slots at.slot) at.arm a there)) [
+    pub are_marked : (targets : List ArmAt) (marks : List (List Bool)) → AreMissedAmong part slots pointer failed part.geometry.g targets marks → MarkedAmong slots targets marks (misses_stripe l w.core pointer.first failed)
+    are_marked targets marks missed k at a here there = elim (missed k at here (slice_get_within (arms_of slots at.slot) at.arm a there)) [
       | inl z ↦ z.3 ∙ marked_at at a there z.0 z.1 z.2
       | inr z ↦ z.1 ∙ unmarked_at at a there z.0
     ]

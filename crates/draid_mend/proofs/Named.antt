@@ -7,10 +7,12 @@ use Rattle.draid_rack.specs.Rack.{Told}
 use Rattle.draid_slots.specs.Table.{SlotTable, IsThere}
 use Rattle.draid_shard.specs.Part.{Part, layout_in}
 use Rattle.draid_shard.specs.declared.loan.Source.{Source}
-use Rattle.draid_mend.specs.Loans.{AreTaken, NamesSources, source_in}
-use Rattle.draid_mend.specs.Reading.{ReadsStripe}
+use Rattle.draid_shard.specs.declared.places.ColumnRows.{ColumnRows}
+use Rattle.draid_mend.specs.Loans.{NamesSources, source_in}
+use Rattle.draid_mend.specs.Reading.{Takes}
+use Rattle.draid_mend.proofs.Read.{get_before, get_last}
 use Rattle.draid_mend.specs.declared.reading.Taken.{Taken}
-use Rattle.draid_mend.specs.declared.reading.Taken.TheVariants.{From, Nowhere}
+use Rattle.draid_mend.specs.declared.reading.Taken.TheVariants.{From}
 
 index_push : {X : Type 0} (xs : List X) (x d : X) (k : ℕ) → k < length xs → slice_index_or (xs ++ x ∷ []) k d ≡ slice_index_or xs k d
 index_push [] x d k less = absurd (omega (arith, less))
@@ -42,14 +44,18 @@ module _ (part : Part) (slots : SlotTable) (pointer : Pointer) (taken : List Tak
         ];
       })
 
-  -- what was read was read on arms that are there
-  pub are_taken : (count : ℕ) (told : Option Told) (columns : List (List ℕ)) (failed : List ℕ) → ReadsStripe part slots pointer count told columns taken failed → AreTaken part slots pointer taken
-  are_taken count told columns failed reads c arm leaf at =
-      let it = reads.each c (From arm leaf) at in
-      subst (λ slot. IsThere slots (record { slot = slot; arm = arm })) it.of.slot_is it.takes.0.is.within
+-- one column more was taken, and named
+pub names_next : (part : Part) (slots : SlotTable) (pointer : Pointer) (taken : List Taken) (count : ℕ) → length taken ≡ count → (chosen new : List (Option Source)) (source : Option Source) (now : Taken)
+    → NamesSources part slots pointer taken count chosen → new ≡ chosen ++ source ∷ [] → source ≡ source_in slots ((layout_in part).slot_of pointer.first count) (Some now) → (longer : List Taken) → longer ≡ taken ++ now ∷ []
+    → NamesSources part slots pointer longer (count + 1) new
+names_next part slots pointer taken count many chosen new source now was is named longer longer_is =
+    subst (λ ts. NamesSources part slots pointer ts (count + 1) new) (sym longer_is)
+    (names_more part slots pointer (taken ++ now ∷ []) count chosen new source
+    (record {
+      many = was.many;
+      each = λ c less. was.each c less ∙ ap (source_in slots ((layout_in part).slot_of pointer.first c)) (sym (get_before taken now c (omega (arith, less, many))));
+    }) is (named ∙ ap (source_in slots ((layout_in part).slot_of pointer.first count)) (sym (get_last taken now count (sym many)))))
 
--- how one place of a list is read
-pub taken_index : (xs : List Taken) (k : ℕ) → k < length xs → slice_get xs k ≡ Some (slice_index_or xs k Nowhere)
-taken_index [] k less = absurd (omega (arith, less))
-taken_index (x ∷ xs) zero less = refl
-taken_index (x ∷ xs) (suc k) less = taken_index xs k (omega (arith, less))
+-- an arm from which a column was taken is there
+pub taken_there : (slots : SlotTable) (rows : ColumnRows) (taken : Taken) (told : Option Told) (bytes : List ℕ) → Takes slots rows taken told bytes → (arm leaf : ℕ) → taken ≡ From arm leaf → IsThere slots (record { slot = rows.slot; arm = arm })
+taken_there slots rows taken told bytes takes arm leaf is = (subst (λ t. Takes slots rows t told bytes) is takes).0.is.within

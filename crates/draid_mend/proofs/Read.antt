@@ -21,12 +21,12 @@ use Rattle.draid_mend.specs.declared.reading.Taken.{Taken}
 use Rattle.draid_mend.specs.declared.reading.Taken.TheVariants.{Nowhere, Failed, From}
 
 -- ---- a list with one more
-get_before : {A : Type 0} (xs : List A) (x : A) (k : ℕ) → k < length xs → slice_get (xs ++ x ∷ []) k ≡ slice_get xs k
+pub get_before : {A : Type 0} (xs : List A) (x : A) (k : ℕ) → k < length xs → slice_get (xs ++ x ∷ []) k ≡ slice_get xs k
 get_before [] x k less = absurd (omega (arith, less))
 get_before (y ∷ ys) x zero less = refl
 get_before (y ∷ ys) x (suc k) less = get_before ys x k (omega (arith, less))
 
-get_last : {A : Type 0} (xs : List A) (x : A) (k : ℕ) → k ≡ length xs → slice_get (xs ++ x ∷ []) k ≡ Some x
+pub get_last : {A : Type 0} (xs : List A) (x : A) (k : ℕ) → k ≡ length xs → slice_get (xs ++ x ∷ []) k ≡ Some x
 get_last [] x k is = ap (slice_get (x ∷ [])) is
 get_last (y ∷ ys) x zero is = absurd (omega (arith, is))
 get_last (y ∷ ys) x (suc k) is = get_last ys x k (omega (arith, is))

@@ -3,6 +3,9 @@ use Rattle.std.proofs.Common.{arith, ◌≡◌, ◌==◌, ◌+◌, ◌<◌, ◌�
 use Rattle.std.proofs.lemmas.Bool.{cases_lt}
 use Rattle.std.proofs.lemmas.Bool.Decides.{nat_tests}
 use Rattle.std.proofs.lemmas.List.{length-append}
+use Rattle.std.proofs.lemmas.Option.{slice_get-get_or}
+use Rattle.std.specs.List.{list_any}
+use Rattle.std.specs.Prelude.{slice_index_or}
 use Rattle.draid_names.specs.declared.arm.ArmAt.{ArmAt}
 use Rattle.draid_names.specs.declared.arm.At.{At}
 use Rattle.draid_machine.specs.Arms.{passes}
@@ -17,7 +20,7 @@ use Rattle.draid_shard.specs.Rows.{answers_on, leaf_on}
 use Rattle.draid_shard.specs.declared.places.ColumnRows.{ColumnRows}
 use Rattle.draid_shard.proofs.Counts.{counts_kept, counts_more, number_more}
 use Rattle.draid_mend.specs.Mending.{CountsMended, MendsOn, MendsSector, at_sector}
-use Rattle.draid_mend.specs.Targets.{AreFree, FailsBelow, KeepsAt, MendsBelow, StandsMended, failed_by, is_mended_on, mended_below}
+use Rattle.draid_mend.specs.Targets.{AllAnswer, AreFree, FailsBelow, KeepsAt, MendsBelow, StandsMended, failed_by, has_answered, is_mended_on, mended_below}
 use Rattle.draid_mend.specs.declared.mending.Mended.{Mended}
 use Rattle.draid_mend.specs.declared.mending.Mended.TheVariants.{Silent, Failed, Done}
 
@@ -173,8 +176,46 @@ mends_none slots rows targets column sources failed (Some x) = record {
   each = λ free leaf h sound. absurd (let less = h.below in omega (arith, less));
 }
 
+-- no target is an arm of the slot
+pub mends_elsewhere : (slots : SlotTable) (rows : ColumnRows) (targets : List ArmAt) (column : List ℕ) (sources : List At) (failed : List ℕ) (o : Option Told) → ((k : ℕ) (at : ArmAt) → slice_get targets k ≡ Some at → at.slot ≡ rows.slot → ⊥)
+    → (n : ℕ) → n ≤ length targets → OnBothTold o o (MendsBelow slots rows targets n column sources failed)
+mends_elsewhere slots rows targets column sources failed o other zero upto = mends_none slots rows targets column sources failed o
+mends_elsewhere slots rows targets column sources failed o other (suc n) upto =
+    let none : ArmAt = record { slot = 0; arm = 0 } in
+    let at : ArmAt = slice_index_or targets n none in
+    let there : slice_get targets n ≡ Some at = slice_get-get_or targets n none (omega (arith, upto)) in
+    other_slot slots rows targets n at there column sources failed o o (other n at there) (mends_elsewhere slots rows targets column sources failed o other n (omega (arith, upto)))
+
 pub fails_none : (slots : SlotTable) (rows : ColumnRows) (targets : List ArmAt) (failed : List ℕ) → FailsBelow slots rows targets 0 failed failed
 fails_none slots rows targets failed = record { kept = λ leaf has. has; fail = λ leaf has out. absurd_test (has_number failed leaf) has out }
+
+pub fails_elsewhere : (slots : SlotTable) (rows : ColumnRows) (targets : List ArmAt) (n : ℕ) (failed : List ℕ) → FailsBelow slots rows targets n failed failed
+fails_elsewhere slots rows targets n failed = record { kept = λ leaf has. has; fail = λ leaf has out. absurd_test (has_number failed leaf) has out }
+
+-- a test that finds no target on a slot
+pub none_on : (slot : ℕ) (targets : List ArmAt) → list_any (λ (at : ArmAt). at.slot == slot) targets ≡ false → (k : ℕ) (at : ArmAt) → slice_get targets k ≡ Some at → at.slot ≡ slot → ⊥
+none_on slot [] none k at here same = absurd (cc)
+none_on slot (t ∷ ts) none zero at here same =
+    absurd_test (t.slot == slot) (equal t.slot slot (ap (λ (a : ArmAt). a.slot) (some_same (Some t) t at refl here) ∙ same)) (or_left (t.slot == slot) (list_any (λ (at : ArmAt). at.slot == slot) ts) none)
+none_on slot (t ∷ ts) none (suc k) at here same = none_on slot ts (or_right (t.slot == slot) (list_any (λ (at : ArmAt). at.slot == slot) ts) none) k at here same
+
+-- ---- the targets that answer
+module _ (slots : SlotTable) (rows : ColumnRows) (targets : List ArmAt) (n : ℕ) (at : ArmAt) (there : slice_get targets n ≡ Some at) where
+  -- one target more answers, or is no arm of the slot
+  pub answer_more : (at.slot ≡ rows.slot → answers_on slots rows at.arm ≡ true) → AllAnswer slots rows targets n → AllAnswer slots rows targets (n + 1)
+  answer_more here was k other less listed same = elim (cases_lt k n) [
+    | inl before ↦ was k other before listed same
+    | inr past ↦ (
+        let it : at ≡ other = some_same (slice_get targets n) at other there (ap (slice_get targets) (let e : n ≡ k = omega (arith, past, less) in e) ∙ listed) in
+        subst (λ (a : ArmAt). answers_on slots rows a.arm ≡ true) it (here (ap (λ (a : ArmAt). a.slot) it ∙ same))
+        )
+  ]
+
+  -- what became of a landing says whether the arm answered
+  pub mended_answers : (column : List ℕ) (sources : List At) (w : Mended) (t u : Option Told) → MendsOn slots rows at.arm column sources w t u → has_answered w ≡ true → answers_on slots rows at.arm ≡ true
+  mended_answers column sources Silent t u l is = absurd_test false is refl
+  mended_answers column sources (Failed m) t u l is = l.0
+  mended_answers column sources (Done m) t u l is = l.0
 
 pub counts_mended : (w : Mended) (failed : List ℕ) (first old new : Option ℕ → ℕ) → CountsMended w old new → CountsFailed failed first old → CountsFailed (failed_by w failed) first new
 counts_mended Silent failed first old new on was = counts_kept failed first old new was on.later

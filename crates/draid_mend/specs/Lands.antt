@@ -1,5 +1,5 @@
 -- A rebuild's stripe lands on the targets of its pass.
-use Rattle.std.specs.Prelude.{◌≡◌, ◌+◌, ◌*◌, ◌<◌, ◌≤◌, [], ℕ, Bool, List, Option, Some, None, Vec, length, vec_capacity}
+use Rattle.std.specs.Prelude.{◌≡◌, ◌+◌, ◌*◌, ◌<◌, ◌≤◌, [], ℕ, List, Option, Some, None, Vec, length, vec_capacity}
 use Rattle.std.specs.declared.alloc.Global.{Global}
 use Rattle.draid_machine.specs.declared.event.Event.TheVariants.{LandStripe}
 use Rattle.draid_machine.specs.declared.names.Held.{Held}
@@ -16,7 +16,6 @@ use Rattle.draid_segments.specs.Segments.{Pieces}
 use Rattle.draid_spec.specs.Geometry.{metaslab_stripes}
 use Rattle.draid_spec.specs.declared.layout.Geometry.{Geometry}
 use Rattle.draid_slots.specs.Changes.{IsOf}
-use Rattle.draid_plans.specs.Ends.{Loses, LosesAll}
 use Rattle.draid_entries.specs.Maps.{key_of}
 use Rattle.draid_shard.specs.Calls.{CountsFailed}
 use Rattle.draid_shard.specs.Fits.{HasLeaves}
@@ -30,7 +29,7 @@ use Rattle.draid_shard.specs.declared.loan.LentStripe.{LentStripe}
 use Rattle.draid_shard.specs.declared.shard.Shard.{Shard}
 use Rattle.draid_mend.specs.Landing.{AreApartSources, LoanStands}
 use Rattle.draid_mend.specs.Loans.{unit_at}
-use Rattle.draid_mend.specs.Losing.{AreMissed}
+use Rattle.draid_mend.specs.Losing.{LosesMissed}
 use Rattle.draid_mend.specs.Missing.{missing_of}
 use Rattle.draid_mend.specs.Solving.{HasContent, IsOneSector, SolvesRow}
 use Rattle.draid_mend.specs.Stripes.{FailsColumns, LandsBelow}
@@ -96,10 +95,7 @@ pub record LandsSolved {R A : Type 0} (rack : Ghosts R) (old new : Shard R A) (p
   pub lands : OnBothTold (rack.told old.rack) (rack.told new.rack)
       (LandsBelow (part_of old) old.slots (unit_at kept.pointer kept.stripe) pass.targets.items old.geometry.g kept.columns.columns kept.chosen.items failed)
   pub fails : FailsColumns (part_of old) old.slots (unit_at kept.pointer kept.stripe) pass.targets.items old.geometry.g [] failed
-  pub marks : List (List Bool)
-  pub missed : AreMissed (part_of old) old.slots (unit_at kept.pointer kept.stripe) failed old.geometry.g marks
-  pub loses : Loses marks pass left
-  pub loses_all : LosesAll marks pass left
+  pub loses : LosesMissed (part_of old) old.slots (unit_at kept.pointer kept.stripe) failed old.geometry.g pass left
 
 -- nothing was written, and one error was counted
 pub record PassesOver {R A : Type 0} (old new : Shard R A) (pass left : Pass) (failed : List ℕ) : Type 0 where

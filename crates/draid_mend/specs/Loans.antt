@@ -14,7 +14,7 @@ use Rattle.draid_pass.specs.declared.pass.Pass.{Pass}
 use Rattle.draid_rack.specs.Rack.{Told}
 use Rattle.draid_rack.specs.declared.Rack.{Ghosts}
 use Rattle.draid_slots.specs.States.{name_of}
-use Rattle.draid_slots.specs.Table.{IsThere, SlotTable, arm_at}
+use Rattle.draid_slots.specs.Table.{SlotTable, arm_at}
 use Rattle.draid_segments.specs.Segments.{Pieces}
 use Rattle.draid_shard.specs.Calls.{ActsOn, CountsFailed}
 use Rattle.draid_shard.specs.Part.{Part, layout_in}
@@ -55,9 +55,7 @@ IsTargetsOf (Some pass) count = count ≡ length pass.targets.items
 -- room for a stripe, and for its landing on so many targets
 pub record HasLendRoom (geometry : Geometry) (targets : ℕ) (room : LendRoom) : Type 0 where
   pub lent : HasRoomFor geometry room.lent
-  pub empty : (room.lent.taken.items ≡ []) × (room.lent.failed.items ≡ [])
-  pub chosen : geometry.g ≤ vec_capacity room.chosen
-  pub named : room.chosen.items ≡ []
+  pub empty : (room.lent.chosen.items ≡ []) × (room.lent.failed.items ≡ [])
   pub failed : geometry.g * targets ≤ vec_capacity room.failed
 
 -- ---- from where the columns were taken
@@ -78,10 +76,11 @@ pub record NamesSources (part : Part) (slots : SlotTable) (pointer : Pointer) (t
   pub many : length chosen ≡ count
   pub each : (c : ℕ) → c < count → slice_index_or chosen c None ≡ source_in slots ((layout_in part).slot_of pointer.first c) (slice_get taken c)
 
--- the arms from which columns were taken are there
-abbrev pub AreTaken : Part → SlotTable → Pointer → List Taken → Type 0
-AreTaken part slots pointer taken =
-    (c arm leaf : ℕ) → slice_get taken c ≡ Some (From arm leaf) → IsThere slots (record { slot = (layout_in part).slot_of pointer.first c; arm = arm })
+-- the first so many columns were read, each from its source, and so named
+pub record ReadsNamed (part : Part) (slots : SlotTable) (pointer : Pointer) (count : ℕ) (told : Option Told) (columns : List (List ℕ)) (failed : List ℕ) (chosen : List (Option Source)) : Type 0 where
+  pub taken : List Taken
+  pub reads : ReadsStripe part slots pointer count told columns taken failed
+  pub names : NamesSources part slots pointer taken count chosen
 
 -- ---- what is kept of a stripe
 

@@ -1,9 +1,12 @@
 -- Which arms miss a stripe as it lands.
-use Rattle.std.specs.Prelude.{◌≡◌, ◌<◌, ◌⊎◌, ◌||◌, not, ℕ, Bool, false, List, length}
+use Rattle.std.specs.Prelude.{◌≡◌, ◌<◌, ◌⊎◌, ◌||◌, not, ℕ, Bool, false, List, Some, length, slice_get}
 use Rattle.draid_spec.specs.Geometry.{metaslab_sectors, slice_at}
+use Rattle.draid_names.specs.declared.arm.ArmAt.{ArmAt}
 use Rattle.draid_names.specs.declared.pointer.Pointer.{Pointer}
 use Rattle.draid_machine.specs.Arms.{passes}
 use Rattle.draid_machine.specs.Names.{has_number}
+use Rattle.draid_pass.specs.declared.pass.Pass.{Pass}
+use Rattle.draid_plans.specs.Ends.{Loses}
 use Rattle.draid_slots.specs.Marks.{is_marked}
 use Rattle.draid_slots.specs.Table.{SlotTable, arms_of}
 use Rattle.draid_shard.specs.Part.{Part, layout_in}
@@ -32,3 +35,13 @@ module _ (part : Part) (slots : SlotTable) (pointer : Pointer) (failed : List �
   -- so each arm
   abbrev pub AreMissed : List (List Bool) → Type 0
   AreMissed marks = (slot arm : ℕ) → arm < length (arms_of slots slot) → IsMarkedBy slot arm (is_marked marks slot arm)
+
+  -- so each arm among these targets
+  abbrev pub AreMissedAmong : List ArmAt → List (List Bool) → Type 0
+  AreMissedAmong targets marks = (k : ℕ) (at : ArmAt) → slice_get targets k ≡ Some at → at.arm < length (arms_of slots at.slot) → IsMarkedBy at.slot at.arm (is_marked marks at.slot at.arm)
+
+  -- a pass lost those of its targets that miss the columns
+  pub record LosesMissed (old new : Pass) : Type 0 where
+    pub marks : List (List Bool)
+    pub missed : AreMissedAmong old.targets.items marks
+    pub loses : Loses marks old new

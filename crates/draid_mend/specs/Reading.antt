@@ -53,11 +53,11 @@ failed_with Nowhere failed = failed
 failed_with (Failed leaf) failed = failed ++ leaf ∷ []
 failed_with (From arm leaf) failed = failed
 
--- room for one sector of each column of a layout, for from where they are taken, and for the leaves that fail
+-- room for one sector of each column of a layout, for the arms from which they are taken, and for the leaves that fail
 pub record HasRoomFor (geometry : Geometry) (lent : Readings) : Type 0 where
   pub parity : lent.columns.parity ≡ geometry.spec.parity
   pub ndata : lent.columns.ndata ≡ geometry.spec.ndata
   pub len : lent.columns.len ≡ geometry.props.sector
   pub count : length lent.columns.columns ≡ geometry.spec.parity + geometry.spec.ndata
-  pub taken : geometry.g ≤ vec_capacity lent.taken
+  pub chosen : geometry.g ≤ vec_capacity lent.chosen
   pub failed : geometry.g ≤ vec_capacity lent.failed

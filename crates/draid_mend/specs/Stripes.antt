@@ -12,7 +12,7 @@ use Rattle.draid_slots.specs.Table.{SlotTable, is_logged}
 use Rattle.draid_shard.specs.Part.{Part, layout_in}
 use Rattle.draid_shard.specs.declared.loan.Source.{Source}
 use Rattle.draid_shard.specs.declared.places.ColumnRows.{ColumnRows}
-use Rattle.draid_mend.specs.Targets.{AreFree, KeepsAt, StandsMended, mended_below}
+use Rattle.draid_mend.specs.Targets.{AllAnswer, AreFree, KeepsAt, StandsMended, mended_below}
 
 -- the rows of a column
 abbrev pub rows_at : Part → Pointer → ℕ → ColumnRows
@@ -72,3 +72,7 @@ module _ (part : Part) (slots : SlotTable) (pointer : Pointer) (targets : List A
   pub record FailsColumns (count : ℕ) (before failed : List ℕ) : Type 0 where
     pub kept : (leaf : ℕ) → has_number before leaf ≡ true → has_number failed leaf ≡ true
     pub fail : (leaf : ℕ) → has_number failed leaf ≡ true → has_number before leaf ≡ false → (c : ℕ) × (c < count) × KeepsColumn c leaf
+
+  -- each target of the slots of the first so many columns answers
+  abbrev pub AnswerBelow : ℕ → Type 0
+  AnswerBelow count = (c : ℕ) → c < count → AllAnswer slots (rows_at part pointer c) targets (length targets)

@@ -62,3 +62,13 @@ abbrev pub failed_by : Mended → List ℕ → List ℕ
 failed_by Silent failed = failed
 failed_by (Failed leaf) failed = failed ++ leaf ∷ []
 failed_by (Done leaf) failed = failed
+
+-- whether an arm answered to which a column was to land
+abbrev pub has_answered : Mended → Bool
+has_answered Silent = false
+has_answered (Failed leaf) = true
+has_answered (Done leaf) = true
+
+-- each of the first so many targets that is an arm of the column's slot answers
+abbrev pub AllAnswer : SlotTable → ColumnRows → List ArmAt → ℕ → Type 0
+AllAnswer slots rows targets count = (k : ℕ) (at : ArmAt) → k < count → slice_get targets k ≡ Some at → at.slot ≡ rows.slot → answers_on slots rows at.arm ≡ true

@@ -10,13 +10,12 @@ ghost use Rattle.draid_mend.specs.Loans.{IsRunningRebuild};
 
 use crate::columns::land_columns;
 use crate::loans::unit_of;
-use crate::losing::missed_marks;
+use crate::losing::lose_missed;
 use crate::solving::count_missing;
 use draid_area::Area;
 use draid_machine::Event;
 use draid_names::LAST_NUMBER;
 use draid_pass::Pass;
-use draid_plans::lose_marked;
 use draid_rack::Rack;
 use draid_shard::{KeptLoan, LentStripe, Shard, taken_out};
 
@@ -80,7 +79,7 @@ fn land_solved<R: Rack, A: Area>(shard: &mut Shard<R, A>, pass: &mut Pass, kept:
     ensures lands { LandsSolved R.Rack shard.old shard.new pass.old pass.new kept.old kept.new.failed.items }
 {
     let unit = unit_of(&kept.pointer, kept.stripe);
-    land_columns(
+    let answered = land_columns(
         shard,
         &unit,
         &pass.targets,
@@ -88,8 +87,7 @@ fn land_solved<R: Rack, A: Area>(shard: &mut Shard<R, A>, pass: &mut Pass, kept:
         &kept.columns,
         &mut kept.failed,
     );
-    let marks = missed_marks(shard, &unit, &kept.failed);
-    lose_marked(pass, &marks);
+    lose_missed(shard, pass, &unit, &kept.failed, answered);
 }
 
 /// One error more. Their number stands still at the last.

@@ -8,14 +8,15 @@ ghost use Rattle.draid_shard.specs.Alike.{KeepsArms};
 ghost use Rattle.draid_shard.specs.Calls.{SameAreas, SameKit, SameReserve};
 ghost use Rattle.draid_shard.specs.Changes.{DoesNothing, KeepsBlocks};
 ghost use Rattle.draid_shard.specs.Fits.{Valid};
+ghost use Rattle.draid_entries.specs.declared.entry.Entry.{Entry};
 ghost use Rattle.draid_shard.specs.Left.{HasNothingLeft};
+ghost use Rattle.draid_shard.specs.Looks.{IsOver};
 ghost use Rattle.draid_shard.specs.Lends.{IsLendRefused, lend_events};
 ghost use Rattle.draid_shard.specs.Rooms.{IsWornFor};
 ghost use Rattle.draid_shard.specs.States.{IsIn};
 ghost use Rattle.draid_mend.specs.Loans.{HasLendRoom, HasUnit, IsPlaceOf, IsRunningRebuild, IsTargetsOf, IsUnit, LendsUnit, unit_at};
 
 use crate::lending::{Readings, read_stripe};
-use crate::naming::name_sources;
 use crate::rooms::{LendRoom, room_for};
 use draid_area::Area;
 use draid_entries::{Entry, ReserveFault};
@@ -91,9 +92,28 @@ fn next_unit<R: Rack, A: Area>(shard: &Shard<R, A>) -> Option<(Entry, u64)>
     ensures none { (w : machine.State) → IsIn shard.now w → (p : Pass) → shard.now.pass ≡ Some p
         → IfNone result ((x : ℕ) → p.at ≤ x → IsTaken w.core x → ⊥) }
 {
-    let stripe = shard.next_taken(place_of(&shard.pass))?;
+    let from = place_of(&shard.pass);
+    match entry_over(shard, from) {
+        Some(entry) => Some((entry, from)),
+        None => {
+            let entry = shard.entries.first_from(from)?;
+            Some((entry, entry.pointer.first))
+        }
+    }
+}
+
+/// The block or open write that has a stripe.
+fn entry_over<R: Rack, A: Area>(shard: &Shard<R, A>, stripe: u64) -> Option<Entry>
+    requires valid { Valid R.Rack shard.now }
+    ensures some { IfSome result (IsOver shard.now.entries stripe) }
+    ensures none { IfNone result ((other : Entry) → IsOver shard.now.entries stripe other → ⊥) }
+{
     let entry = shard.entries.last_upto(stripe)?;
-    Some((entry, stripe))
+    if stripe - entry.pointer.first < u64::from(entry.pointer.stripes) {
+        Some(entry)
+    } else {
+        None
+    }
 }
 
 /// The stripe at which a pass stands.
@@ -163,19 +183,14 @@ fn lend_unit<R: Rack, A: Area>(shard: &mut Shard<R, A>, entry: Entry, stripe: u6
     ensures arms { KeepsArms shard.old.slots shard.new.slots }
     ensures reserve { SameReserve shard.old shard.new }
 {
-    let LendRoom {
-        mut lent,
-        mut chosen,
-        failed,
-    } = room;
+    let LendRoom { mut lent, failed } = room;
     let unit = unit_of(&entry.pointer, stripe);
     let events = events_of(&shard.kept);
     read_stripe(shard, &unit, &mut lent);
-    name_sources(shard, &unit, &lent.taken, &mut chosen);
     let Readings {
         columns,
+        chosen,
         failed: faults,
-        ..
     } = lent;
     shard.serial += 1;
     shard.kept = Some(KeptLoan::Stripe(LentStripe {

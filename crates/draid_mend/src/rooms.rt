@@ -15,7 +15,6 @@ use std::alloc::Global;
 #[derive(Drop)]
 pub(crate) struct LendRoom {
     pub lent: Readings,
-    pub chosen: Vec<Option<Source>>,
     pub failed: Vec<u64>,
 }
 
@@ -50,15 +49,13 @@ pub(crate) fn room_for(
     chosen.reserve(g)?;
     failed.clear();
     failed.reserve(calls)?;
-    let taken = Vec::with_capacity(alloc, g)?;
     let faults = Vec::with_capacity(alloc, g)?;
     Ok(LendRoom {
         lent: Readings {
             columns,
-            taken,
+            chosen,
             failed: faults,
         },
-        chosen,
         failed,
     })
 }

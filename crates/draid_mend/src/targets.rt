@@ -1,9 +1,9 @@
 //! A column of a stripe lands on the targets of its slot.
-ghost use Rattle.std.specs.Prelude.{◌≡◌, ◌+◌, ◌≤◌, ◌<◌, ℕ, List, Option, length, vec_capacity, vec_len};
+ghost use Rattle.std.specs.Prelude.{◌≡◌, ◌+◌, ◌≤◌, ◌<◌, ℕ, List, Option, length, true, vec_capacity, vec_len};
 ghost use Rattle.draid_rack.specs.Rack.{OnBothTold, Told};
 ghost use Rattle.draid_shard.specs.Calls.{CountsFailed};
 ghost use Rattle.draid_shard.specs.Rows.{FitsRows};
-ghost use Rattle.draid_mend.specs.Targets.{AreThere, FailsBelow, MendsBelow, failed_by};
+ghost use Rattle.draid_mend.specs.Targets.{AllAnswer, AreThere, FailsBelow, MendsBelow, failed_by, has_answered};
 
 use crate::mending::{Mended, mend_column};
 use draid_names::{ArmAt, At};
@@ -12,7 +12,7 @@ use draid_shard::ColumnRows;
 use draid_slots::Slots;
 
 /// Writes one sector of a column, made of these sources, to the targets of its slot that answer, and notes the leaves on
-/// which calls failed.
+/// which calls failed. Only where each of these targets answers it says so.
 pub(crate) fn mend_targets<R: Rack>(
     rack: &mut R,
     slots: &Slots,
@@ -21,7 +21,7 @@ pub(crate) fn mend_targets<R: Rack>(
     column: &[u8],
     sources: &[At],
     failed: &mut Vec<u64>,
-)
+) -> bool
     requires fits { FitsRows (R.shape rack.old) slots.now rows }
     requires there { AreThere slots.now targets.now }
     requires one { rows.count ≡ 1 }
@@ -33,10 +33,13 @@ pub(crate) fn mend_targets<R: Rack>(
     ensures shape { R.shape rack.new ≡ R.shape rack.old }
     ensures room { vec_capacity failed.new ≡ vec_capacity failed.old }
     ensures few { length failed.new.items ≤ length failed.old.items + length targets.now }
+    ensures answered { result ≡ true → AllAnswer slots.now rows targets.now (length targets.now) }
 {
+    let mut answered = true;
     for i in 0..targets.len() {
-        mend_next(rack, slots, targets, i, rows, column, sources, failed);
+        answered = mend_next(rack, slots, targets, i, rows, column, sources, failed) && answered;
     }
+    answered
 }
 
 /// Writes it to the next one, if that is a target of its slot.
@@ -49,7 +52,7 @@ fn mend_next<R: Rack>(
     column: &[u8],
     sources: &[At],
     failed: &mut Vec<u64>,
-)
+) -> bool
     requires fits { FitsRows (R.shape rack.old) slots.now rows }
     requires there { AreThere slots.now targets.now }
     requires one { rows.count ≡ 1 }
@@ -63,13 +66,25 @@ fn mend_next<R: Rack>(
     ensures shape { R.shape rack.new ≡ R.shape rack.old }
     ensures room { vec_capacity failed.new ≡ vec_capacity failed.old }
     ensures few { length failed.new.items ≤ length failed.old.items + 1 }
+    ensures answered { result ≡ true → AllAnswer slots.now rows targets.now i → AllAnswer slots.now rows targets.now (i + 1) }
 {
     let at = targets[i];
     if at.slot != rows.slot {
-        return;
+        return true;
     }
     let mended = mend_column(rack, slots, rows, at.arm, column, sources);
     note(failed, mended);
+    has_answered(mended)
+}
+
+/// Whether the arm answered.
+fn has_answered(mended: Mended) -> bool
+    ensures { result ≡ has_answered mended }
+{
+    match mended {
+        Mended::Silent => false,
+        Mended::Failed { .. } | Mended::Done { .. } => true,
+    }
 }
 
 /// Notes what became of a landing.

@@ -1,9 +1,26 @@
-use Rattle.std.proofs.Common.{◌∙◌, [], ◌∷◌, List, refl, sym}
+use Rattle.std.proofs.Common.{◌∙◌, [], ◌∷◌, List, sym}
 use Rattle.draid_names.specs.declared.arm.At.{At}
 use Rattle.draid_shard.specs.States.{part_of}
 use Rattle.draid_shard.proofs.Fitted.{fits_rows}
-use Rattle.draid_mend.proofs.Columned.{all_sources, fails_next, lands_next, own_source}
+use Rattle.draid_mend.proofs.Columned.{all_sources, answer_next, fails_next, fails_past, lands_next, lands_past, none_answers, own_source}
+use Rattle.draid_mend.proofs.Targeted.{none_on}
 use Rattle.draid_mend.proofs.columns.land_next.Goals as goal
+
+pub returns-then-not-has_target-clause-lands : goal.returns-then-not-has_target-clause-lands
+returns-then-not-has_target-clause-lands g c start was =
+    lands_past (part_of c.args.shard.now) c.args.shard.now.slots c.args.pointer.now c.args.targets.now c.args.column c.rows_of-rows.result c.rows_of-rows.ensures
+    (none_on c.rows_of-rows.result.slot c.args.targets.now (sym c.has_target.ensures ∙ c.if-not-has_target.true)) c.args.columns.now.columns c.args.chosen.now c.args.failed.now.items c.requires.less start (g.R.Rack.told c.args.shard.now.rack) was
+
+pub returns-then-not-has_target-clause-fails : goal.returns-then-not-has_target-clause-fails
+returns-then-not-has_target-clause-fails g c first was =
+    fails_past (part_of c.args.shard.now) c.args.shard.now.slots c.args.pointer.now c.args.targets.now c.args.column c.rows_of-rows.result c.rows_of-rows.ensures
+    (none_on c.rows_of-rows.result.slot c.args.targets.now (sym c.has_target.ensures ∙ c.if-not-has_target.true)) first c.args.failed.now.items was
+
+pub returns-then-not-has_target-clause-answered : goal.returns-then-not-has_target-clause-answered
+returns-then-not-has_target-clause-answered g c is was =
+    answer_next (part_of c.args.shard.now) c.args.shard.now.slots c.args.pointer.now c.args.targets.now c.args.column c.rows_of-rows.result c.rows_of-rows.ensures
+    (none_answers (part_of c.args.shard.now) c.args.shard.now.slots c.args.pointer.now c.args.targets.now c.args.column c.rows_of-rows.result c.rows_of-rows.ensures
+    (none_on c.rows_of-rows.result.slot c.args.targets.now (sym c.has_target.ensures ∙ c.if-not-has_target.true))) was
 
 pub mend_targets-requires-clause-fits : goal.mend_targets-requires-clause-fits
 mend_targets-requires-clause-fits g c =
@@ -23,10 +40,17 @@ returns-in-Some-clause-fails g c first was =
     fails_next (part_of c.args.shard.now) c.args.shard.now.slots c.args.pointer.now c.args.targets.now c.args.columns.now.columns c.args.chosen.now c.args.column c.requires.less c.args.failed.now.items c.mend_targets.new.failed.items
     c.rows_of-rows.result c.rows_of-rows.ensures c.mend_targets.ensures.fails first was
 
-pub mend_targets-requires-2 : goal.mend_targets-requires-2
-mend_targets-requires-2 g c =
+pub returns-in-Some-clause-answered : goal.returns-in-Some-clause-answered
+returns-in-Some-clause-answered g c is was =
+    answer_next (part_of c.args.shard.now) c.args.shard.now.slots c.args.pointer.now c.args.targets.now c.args.column c.rows_of-rows.result c.rows_of-rows.ensures (c.mend_targets.ensures.answered is) was
+
+pub land_missing-requires : goal.land_missing-requires
+land_missing-requires g c =
     let v = c.requires.laid in
     record {
+      part = v.part;
+      run = c.requires.run;
+      chosen = c.requires.chosen;
       fits = fits_rows (part_of c.args.shard.now) v.part c.args.shard.now.slots v.slots (g.R.Rack.shape c.args.shard.now.rack) c.args.pointer.now c.requires.run c.args.column c.requires.less c.rows_of-rows.result c.rows_of-rows.ensures v.leaves;
       there = c.requires.there;
       one = c.rows_of-rows.ensures.count_is ∙ c.requires.one;
@@ -37,15 +61,17 @@ mend_targets-requires-2 g c =
 pub returns : goal.returns
 returns g c =
     let chosen = c.args.chosen.now in
+    let e = c.land_missing.ensures in
     record {
-      rack = refl;
-      shape = c.mend_targets-2.ensures.shape;
+      rack = e.rack;
+      shape = e.shape;
       lands = λ start was. lands_next (part_of c.args.shard.now) c.args.shard.now.slots c.args.pointer.now c.args.targets.now c.args.columns.now.columns chosen c.args.column c.requires.less c.args.failed.now.items
-          c.mend_targets-2.new.failed.items c.rows_of-rows.result c.rows_of-rows.ensures c.mend_targets-2.ensures.fails c.column-bytes.result.now c.args.all.now start (g.R.Rack.told c.args.shard.now.rack)
-          (g.R.Rack.told c.mend_targets-2.new.rack) c.column-bytes.ensures.value (c.requires.all ∙ all_sources (part_of c.args.shard.now) c.args.pointer.now chosen c.args.column c.in_default.is) c.mend_targets-2.ensures.mends was;
+          c.land_missing.new.failed.items c.rows_of-rows.result c.rows_of-rows.ensures e.fails c.column-bytes.result.now _ start (g.R.Rack.told c.args.shard.now.rack)
+          (g.R.Rack.told c.land_missing.new.shard.rack) c.column-bytes.ensures.value (all_sources (part_of c.args.shard.now) c.args.pointer.now chosen c.args.column c.in_default.is) e.mends was;
       fails = λ first was. fails_next (part_of c.args.shard.now) c.args.shard.now.slots c.args.pointer.now c.args.targets.now c.args.columns.now.columns chosen c.args.column c.requires.less c.args.failed.now.items
-          c.mend_targets-2.new.failed.items c.rows_of-rows.result c.rows_of-rows.ensures c.mend_targets-2.ensures.fails first was;
-      counts = c.mend_targets-2.ensures.counts;
-      room = c.mend_targets-2.ensures.room;
-      few = c.mend_targets-2.ensures.few;
+          c.land_missing.new.failed.items c.rows_of-rows.result c.rows_of-rows.ensures e.fails first was;
+      counts = e.counts;
+      room = e.room;
+      few = e.few;
+      answered = λ is was. answer_next (part_of c.args.shard.now) c.args.shard.now.slots c.args.pointer.now c.args.targets.now c.args.column c.rows_of-rows.result c.rows_of-rows.ensures (e.answered is) was;
     }

@@ -6,18 +6,25 @@ use Rattle.draid_shard.specs.Calls.{CountsFailed}
 use Rattle.draid_shard.specs.States.{part_of}
 use Rattle.draid_shard.specs.declared.loan.Source.{Source}
 use Rattle.draid_shard.proofs.Counts.{counts_none}
-use Rattle.draid_mend.specs.Losing.{AreMissed}
-use Rattle.draid_mend.specs.Stripes.{FailsColumns, LandsBelow}
+use Rattle.draid_mend.specs.Losing.{LosesMissed}
+use Rattle.draid_mend.specs.Stripes.{AnswerBelow, FailsColumns, LandsBelow}
 use Rattle.draid_mend.proofs.landing.land_solved.Goals as goal
+
+pub lose_missed-requires-clause-answered : goal.lose_missed-requires-clause-answered
+lose_missed-requires-clause-answered g c is =
+    let old = c.args.shard.now in
+    let e = c.land_columns-answered.ensures in
+    subst (λ s. AnswerBelow (part_of s) s.slots c.unit_of-unit.result c.args.pass.now.targets.items s.geometry.g) (sym e.rack)
+    (subst (λ (ts : List ArmAt). AnswerBelow (part_of old) old.slots c.unit_of-unit.result ts old.geometry.g) c.deref.ensures.value (e.answered is))
 
 pub returns-clause-lands : goal.returns-clause-lands
 returns-clause-lands g c =
     let old = c.args.shard.now in
     let kept = c.args.kept.now in
     let unit = c.unit_of-unit.ensures in
-    let e = c.land_columns.ensures in
-    let new = c.land_columns.new.shard in
-    let failed = c.land_columns.new.failed.items in
+    let e = c.land_columns-answered.ensures in
+    let new = c.land_columns-answered.new.shard in
+    let failed = c.land_columns-answered.new.failed.items in
     record {
       only = e.rack;
       shape = e.shape;
@@ -29,10 +36,7 @@ returns-clause-lands g c =
       fails = subst (λ (u : Pointer). FailsColumns (part_of old) old.slots u c.args.pass.now.targets.items old.geometry.g [] failed) unit
           (subst (λ (ts : List ArmAt). FailsColumns (part_of old) old.slots c.unit_of-unit.result ts old.geometry.g [] failed) c.deref.ensures.value
           (subst (λ (xs : List ℕ). FailsColumns (part_of old) old.slots c.unit_of-unit.result c.deref.result.now old.geometry.g xs failed) c.requires.none e.fails));
-      marks = c.missed_marks-marks.result;
-      missed = subst (λ (u : Pointer). AreMissed (part_of old) old.slots u failed old.geometry.g c.missed_marks-marks.result) unit
-          (subst (λ (xs : List ℕ). AreMissed (part_of old) old.slots c.unit_of-unit.result xs old.geometry.g c.missed_marks-marks.result) c.deref-3.ensures.value
-          (subst (λ s. AreMissed (part_of s) s.slots c.unit_of-unit.result c.deref-3.result.now s.geometry.g c.missed_marks-marks.result) e.rack c.missed_marks-marks.ensures));
-      loses = c.lose_marked.ensures.lost;
-      loses_all = c.lose_marked.ensures.state;
+      loses = subst (λ (u : Pointer). LosesMissed (part_of old) old.slots u failed old.geometry.g c.args.pass.now c.lose_missed.new.pass) unit
+          (subst (λ (xs : List ℕ). LosesMissed (part_of old) old.slots c.unit_of-unit.result xs old.geometry.g c.args.pass.now c.lose_missed.new.pass) c.deref-3.ensures.value
+          (subst (λ s. LosesMissed (part_of s) s.slots c.unit_of-unit.result c.deref-3.result.now s.geometry.g c.args.pass.now c.lose_missed.new.pass) e.rack c.lose_missed.ensures));
     }

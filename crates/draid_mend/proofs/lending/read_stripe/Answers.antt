@@ -1,11 +1,13 @@
-use Rattle.std.proofs.Common.{◌≡◌, ◌+◌, ◌<◌, ◌∙◌, arith, refl, sym, subst}
+use Rattle.std.proofs.Common.{◌≡◌, ◌+◌, ◌<◌, ◌∙◌, [], arith, refl, sym, subst}
 use Rattle.draid_spec.specs.declared.layout.Geometry.{Geometry}
 use Rattle.draid_shard.specs.Calls.{CountsFailed}
 use Rattle.draid_shard.specs.Part.{IsRun}
 use Rattle.draid_shard.specs.States.{part_of}
 use Rattle.draid_shard.proofs.WithRack.{geometry_in, rack_twice, valid_rack}
 use Rattle.draid_shard.proofs.Counts.{counts_none}
-use Rattle.draid_mend.specs.Reading.{HasRoomFor, ReadsStripe}
+use Rattle.draid_mend.specs.Loans.{NamesSources, ReadsNamed}
+use Rattle.draid_mend.specs.Reading.{HasRoomFor}
+use Rattle.draid_mend.proofs.Named.{names_none}
 use Rattle.draid_mend.proofs.Read.{reads_none, stripe_back, stripe_in}
 use Rattle.draid_mend.proofs.lending.read_stripe.Goals as goal
 
@@ -14,7 +16,11 @@ loop-column-init g c = record {
   whole = refl;
   told = refl;
   shape = refl;
-  read = reads_none (part_of c.args.shard.now) c.args.shard.now.slots c.args.pointer.now (g.R.Rack.told c.args.shard.now.rack) c.args.lent.now.columns.columns c.args.lent.now.taken.items c.args.lent.now.failed.items c.requires.empty.0 c.requires.empty.1;
+  read = record {
+    taken = [];
+    reads = reads_none (part_of c.args.shard.now) c.args.shard.now.slots c.args.pointer.now (g.R.Rack.told c.args.shard.now.rack) c.args.lent.now.columns.columns [] c.args.lent.now.failed.items refl c.requires.empty.1;
+    names = names_none (part_of c.args.shard.now) c.args.shard.now.slots c.args.pointer.now [] c.args.lent.now.chosen.items c.requires.empty.0;
+  };
   room = c.requires.room;
   counts = subst (λ failed. CountsFailed failed (g.R.Rack.faults c.args.shard.now.rack) (g.R.Rack.faults c.args.shard.now.rack)) (sym c.requires.empty.1) (counts_none (g.R.Rack.faults c.args.shard.now.rack));
 }
@@ -28,7 +34,11 @@ read_next-requires g c =
       run = subst (λ (geometry : Geometry). IsRun geometry c.args.pointer.now.first c.args.pointer.now.stripes) (sym same) c.requires.run;
       one = c.requires.one;
       less = subst (λ (geometry : Geometry). c.loop-column.column < geometry.g) (sym same) c.loop-column-test.true;
-      before = stripe_in g.R.Rack c.args.shard.now c.loop-column.shard c.args.pointer.now c.loop-column.column c.loop-column.lent.columns.columns c.loop-column.lent.taken.items c.loop-column.lent.failed.items i.whole i.told i.read;
+      before = record {
+        taken = i.read.taken;
+        reads = stripe_in g.R.Rack c.args.shard.now c.loop-column.shard c.args.pointer.now c.loop-column.column c.loop-column.lent.columns.columns i.read.taken c.loop-column.lent.failed.items i.whole i.told i.read.reads;
+        names = subst (λ s. NamesSources (part_of s) s.slots c.args.pointer.now i.read.taken c.loop-column.column c.loop-column.lent.chosen.items) (sym i.whole) i.read.names;
+      };
       room = subst (λ (geometry : Geometry). HasRoomFor geometry c.loop-column.lent) (sym same) i.room;
     }
 
@@ -40,7 +50,11 @@ loop-column-preserved g c =
       whole = rack_twice c.args.shard.now c.loop-column.shard c.read_next.new.shard i.whole e.rack;
       told = e.told ∙ i.told;
       shape = e.shape ∙ i.shape;
-      read = stripe_back g.R.Rack c.args.shard.now c.loop-column.shard c.args.pointer.now (c.loop-column.column + 1) c.read_next.new.lent.columns.columns c.read_next.new.lent.taken.items c.read_next.new.lent.failed.items i.whole i.told e.read;
+      read = record {
+        taken = e.read.taken;
+        reads = stripe_back g.R.Rack c.args.shard.now c.loop-column.shard c.args.pointer.now (c.loop-column.column + 1) c.read_next.new.lent.columns.columns e.read.taken c.read_next.new.lent.failed.items i.whole i.told e.read.reads;
+        names = subst (λ s. NamesSources (part_of s) s.slots c.args.pointer.now e.read.taken (c.loop-column.column + 1) c.read_next.new.lent.chosen.items) i.whole e.read.names;
+      };
       room = subst (λ (geometry : Geometry). HasRoomFor geometry c.read_next.new.lent) (geometry_in c.args.shard.now c.loop-column.shard i.whole) e.room;
       counts = e.counts (g.R.Rack.faults c.args.shard.now.rack) i.counts;
     }
@@ -50,7 +64,7 @@ returns-clause-reads g c =
     let past = c.loop-column-test.false in
     let upto = c.loop-column.auto.column-end in
     let all : c.loop-column.column ≡ c.args.shard.now.geometry.g = omega (arith, past, upto) in
-    subst (λ n. ReadsStripe (part_of c.args.shard.now) c.args.shard.now.slots c.args.pointer.now n (g.R.Rack.told c.args.shard.now.rack) c.loop-column.lent.columns.columns c.loop-column.lent.taken.items c.loop-column.lent.failed.items)
+    subst (λ n. ReadsNamed (part_of c.args.shard.now) c.args.shard.now.slots c.args.pointer.now n (g.R.Rack.told c.args.shard.now.rack) c.loop-column.lent.columns.columns c.loop-column.lent.failed.items c.loop-column.lent.chosen.items)
     all c.loop-column.invariant.read
 
 pub returns-clause-rack : goal.returns-clause-rack

@@ -4,39 +4,21 @@ use Rattle.draid_names.specs.declared.pointer.Pointer.{Pointer}
 use Rattle.draid_entries.specs.History.{owed_of}
 use Rattle.draid_shard.specs.Part.{IsRun}
 use Rattle.draid_shard.specs.States.{part_of}
-use Rattle.draid_shard.proofs.WithRack.{valid_rack}
-use Rattle.draid_mend.specs.Loans.{AreTaken, NamesSources}
+use Rattle.draid_mend.specs.Loans.{NamesSources}
 use Rattle.draid_mend.proofs.Loaned.{enough_room, final_lends, final_valid, unit_run}
-use Rattle.draid_mend.proofs.Named.{are_taken}
 use Rattle.draid_mend.proofs.loans.lend_unit.Goals as goal
 
 pub read_stripe-requires-clause-run : goal.read_stripe-requires-clause-run
 read_stripe-requires-clause-run g c =
     subst (λ (u : Pointer). IsRun c.args.shard.now.geometry u.first u.stripes) (sym c.unit_of-unit.ensures) (unit_run g.R.Rack c.args.shard.now c.requires.valid c.args.entry c.args.stripe c.requires.unit)
 
-pub name_sources-requires-clause-valid : goal.name_sources-requires-clause-valid
-name_sources-requires-clause-valid g c = valid_rack g.R.Rack c.args.shard.now c.read_stripe.new.shard c.read_stripe.ensures.rack c.read_stripe.ensures.shape c.requires.valid
-
-pub name_sources-requires-clause-run : goal.name_sources-requires-clause-run
-name_sources-requires-clause-run g c =
-    subst (λ s. IsRun s.geometry c.unit_of-unit.result.first c.unit_of-unit.result.stripes) (sym c.read_stripe.ensures.rack)
-    (subst (λ (u : Pointer). IsRun c.args.shard.now.geometry u.first u.stripes) (sym c.unit_of-unit.ensures) (unit_run g.R.Rack c.args.shard.now c.requires.valid c.args.entry c.args.stripe c.requires.unit))
-
-pub name_sources-requires-clause-there : goal.name_sources-requires-clause-there
-name_sources-requires-clause-there g c =
-    let r = c.read_stripe.ensures in
-    subst (λ s. AreTaken (part_of s) s.slots c.unit_of-unit.result c.deref.result.now) (sym r.rack)
-    (subst (AreTaken (part_of c.args.shard.now) c.args.shard.now.slots c.unit_of-unit.result) (sym c.deref.ensures.value)
-    (are_taken (part_of c.args.shard.now) c.args.shard.now.slots c.unit_of-unit.result c.read_stripe.new.lent.taken.items c.args.shard.now.geometry.g (g.R.Rack.told c.args.shard.now.rack) c.read_stripe.new.lent.columns.columns
-    c.read_stripe.new.lent.failed.items r.reads))
-
 pub returns-clause-valid : goal.returns-clause-valid
 returns-clause-valid g c =
     let r = c.read_stripe.ensures in
     let e = c.add_asked.ensures in
-    final_valid g.R.Rack c.args.shard.now c.read_stripe.new.shard c.requires.valid r.rack c.args.entry c.args.stripe c.requires.unit c.requires.running c.unit_of-unit.result c.unit_of-unit.ensures c.name_sources.new.chosen
-    c.read_stripe.new.lent.columns c.args.room.failed c.add_asked.new.self c.read_stripe.new.lent.taken.items c.read_stripe.new.lent.failed r.reads
-    (subst (λ taken. NamesSources (part_of c.read_stripe.new.shard) c.read_stripe.new.shard.slots c.unit_of-unit.result taken c.read_stripe.new.shard.geometry.g c.name_sources.new.chosen.items) c.deref.ensures.value c.name_sources.ensures)
+    final_valid g.R.Rack c.args.shard.now c.read_stripe.new.shard c.requires.valid r.rack c.args.entry c.args.stripe c.requires.unit c.requires.running c.unit_of-unit.result c.unit_of-unit.ensures c.read_stripe.new.lent.chosen
+    c.read_stripe.new.lent.columns c.args.room.failed c.add_asked.new.self r.reads.taken c.read_stripe.new.lent.failed r.reads.reads
+    (subst (λ s. NamesSources (part_of s) s.slots c.unit_of-unit.result r.reads.taken s.geometry.g c.read_stripe.new.lent.chosen.items) (sym r.rack) r.reads.names)
     (Lend c.read_stripe.new.lent.failed) r.shape (record { parity = r.room.parity; ndata = r.room.ndata; len = r.room.len }) (enough_room c.args.shard.now.geometry c.args.shard.now.pass c.args.room c.requires.room)
     (e.owed ∙ ap (λ n. owed_of c.read_stripe.new.shard.history + n) c.events_of-events.ensures) e.reserved e.stored
 
@@ -44,7 +26,7 @@ pub returns-clause-unit : goal.returns-clause-unit
 returns-clause-unit g c =
     let r = c.read_stripe.ensures in
     let e = c.add_asked.ensures in
-    final_lends g.R.Rack c.args.shard.now c.read_stripe.new.shard c.requires.valid r.rack c.args.entry c.args.stripe c.requires.unit c.requires.running c.unit_of-unit.result c.unit_of-unit.ensures c.name_sources.new.chosen
-    c.read_stripe.new.lent.columns c.args.room.failed c.add_asked.new.self c.read_stripe.new.lent.taken.items c.read_stripe.new.lent.failed r.reads
-    (subst (λ taken. NamesSources (part_of c.read_stripe.new.shard) c.read_stripe.new.shard.slots c.unit_of-unit.result taken c.read_stripe.new.shard.geometry.g c.name_sources.new.chosen.items) c.deref.ensures.value c.name_sources.ensures)
+    final_lends g.R.Rack c.args.shard.now c.read_stripe.new.shard c.requires.valid r.rack c.args.entry c.args.stripe c.requires.unit c.requires.running c.unit_of-unit.result c.unit_of-unit.ensures c.read_stripe.new.lent.chosen
+    c.read_stripe.new.lent.columns c.args.room.failed c.add_asked.new.self r.reads.taken c.read_stripe.new.lent.failed r.reads.reads
+    (subst (λ s. NamesSources (part_of s) s.slots c.unit_of-unit.result r.reads.taken s.geometry.g c.read_stripe.new.lent.chosen.items) (sym r.rack) r.reads.names)
     r.told r.counts e.stored

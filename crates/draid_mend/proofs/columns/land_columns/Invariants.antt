@@ -1,10 +1,10 @@
-use Rattle.std.proofs.Common.{◌≡◌, ◌+◌, ◌*◌, ◌≤◌, ℕ, Option, length}
+use Rattle.std.proofs.Common.{◌≡◌, ◌+◌, ◌*◌, ◌≤◌, ℕ, Option, length, true}
 use Rattle.std.specs.Prelude.{vec_capacity}
 use Rattle.draid_rack.specs.Rack.{OnBothTold}
 use Rattle.draid_shard.specs.Calls.{CountsFailed}
 use Rattle.draid_shard.specs.States.{part_of}
-use Rattle.draid_mend.specs.Stripes.{FailsColumns, LandsBelow}
-use Rattle.draid_mend.proofs.columns.land_each.Given as goal
+use Rattle.draid_mend.specs.Stripes.{AnswerBelow, FailsColumns, LandsBelow}
+use Rattle.draid_mend.proofs.columns.land_columns.Given as goal
 
 abbrev pub invariant-loop-column : goal.invariant-loop-column
 invariant-loop-column g l = let rack = g.R.Rack in record {
@@ -15,5 +15,6 @@ invariant-loop-column g l = let rack = g.R.Rack in record {
   fails : FailsColumns (part_of l.initial.shard) l.initial.shard.slots l.pointer l.targets l.column l.initial.failed.items l.failed.items;
   counts : (first : Option ℕ → ℕ) → CountsFailed l.initial.failed.items first (rack.faults l.initial.shard.rack) → CountsFailed l.failed.items first (rack.faults l.shard.rack);
   room : vec_capacity l.failed ≡ vec_capacity l.initial.failed;
+  answered : l.answered ≡ true → AnswerBelow (part_of l.initial.shard) l.initial.shard.slots l.pointer l.targets l.column;
   few : length l.failed.items ≤ length l.initial.failed.items + l.column * length l.targets;
 }
