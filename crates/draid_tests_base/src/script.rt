@@ -6,7 +6,9 @@ use std::fmt::Debug;
 fn said<T: Debug + Drop>(alloc: Global, read: Result<T, ParseFault>) -> Result<String, AllocError> {
     match read {
         Ok(line) => format!(in alloc; "{line:?}"),
-        Err(ParseFault::Line(fault)) => format!(in alloc; "kind {} at {}", fault.kind, fault.at),
+        Err(ParseFault::Line(fault)) => {
+            format!(in alloc; "kind {} at {}", fault.kind.number(), fault.at)
+        }
         Err(ParseFault::NoMemory) => Err(AllocError),
     }
 }
