@@ -4,6 +4,10 @@ use draid_record::RecordFaultKind;
 #[derive(Clone, Copy)]
 pub enum FoundFault {
     /// What begins at byte `at` of a metaslab's record doesn't go with the records before it.
-    Record { metaslab: u32, at: u64, kind: RecordFaultKind },
+    Record {
+        metaslab: u32,
+        at: u64,
+        kind: RecordFaultKind,
+    },
     NoMemory,
 }

@@ -151,7 +151,11 @@ fn fields(alloc: Global, bytes: &[u8], len: usize, limits: &Limits) -> Result<Re
         Ok([]) => Ok(record),
         Ok(bytes) => {
             let left = bytes.len();
-            Err(Fault { left, kind: RecordFaultKind::Trailing }.within(len))
+            Err(Fault {
+                left,
+                kind: RecordFaultKind::Trailing,
+            }
+            .within(len))
         }
         Err(fault) => Err(fault.within(len)),
     }

@@ -83,12 +83,7 @@ impl Status {
 }
 
 /// The line that is printed last where a line of the script can't be run.
-fn line_refused(
-    alloc: Global,
-    line: u64,
-    why: LineRefusal,
-    at: u64,
-) -> Result<String, AllocError>
+fn line_refused(alloc: Global, line: u64, why: LineRefusal, at: u64) -> Result<String, AllocError>
     ensures { IfOk result (λ text. string_bytes text ≡ last_text (Status.Line line why at)) }
 {
     let number = why.number();

@@ -3,21 +3,28 @@ ghost use Rattle.draid_script.specs.declared.fault.ParseFault.TheVariants.{NoMem
 
 use draid_names::NoMemory;
 use std::alloc::{AllocError, AllocFailed};
+use thiserror::Error;
 
 /// What is wrong with a line, with its number in brackets.
-#[derive(Clone, Copy, PartialEq, Eq)]
+#[derive(Clone, Copy, Debug, PartialEq, Eq, Error)]
 pub enum LineFaultKind {
     /// The first word is that of no command (1).
+    #[error("unknown command")]
     Unknown,
     /// There are too few or too many words (2).
+    #[error("wrong number of words")]
     Count,
     /// A word is no number, no `key=value` or no name (3).
+    #[error("no number, no setting or no name")]
     Number,
     /// A word is no hex (4).
+    #[error("no hex")]
     Hex,
     /// A number is out of its range (5).
+    #[error("number out of range")]
     Range,
     /// The line may not stand there (6).
+    #[error("not allowed here")]
     Lane,
 }
 
@@ -40,7 +47,8 @@ impl LineFaultKind {
 }
 
 /// Why a text is no line.
-#[derive(Clone, Copy)]
+#[derive(Clone, Copy, Debug, Error)]
+#[error("{kind} at byte {at}")]
 pub struct LineFault {
     pub kind: LineFaultKind,
     /// The place in the line, from 0 on: of the first byte of the word; for a wrong count the line's length; for a word
@@ -49,11 +57,13 @@ pub struct LineFault {
 }
 
 /// Why no line was read.
-#[derive(Clone, Copy)]
+#[derive(Clone, Copy, Debug, Error)]
 pub enum ParseFault {
     /// The first fault of the line.
+    #[error(transparent)]
     Line(LineFault),
     /// Want of memory.
+    #[error("no memory")]
     NoMemory,
 }
 

@@ -102,7 +102,11 @@ fn layout() -> Result<Geometry, SpecFault>
 }
 
 /// Whether it is read with these bytes, or has the fault at this byte, of this kind.
-fn is_read(alloc: Global, changes: &[(usize, u8)], told: Result<(), (u64, RecordFaultKind)>) -> bool {
+fn is_read(
+    alloc: Global,
+    changes: &[(usize, u8)],
+    told: Result<(), (u64, RecordFaultKind)>,
+) -> bool {
     let Ok(layout) = layout() else {
         return false;
     };

@@ -5,7 +5,8 @@ use draid_dtl::Log;
 use draid_names::{Arm, ArmKind, NoMemory};
 use draid_record::RecordFaultKind::{Cut, Range, Trailing};
 use draid_record::{
-    Record, RecordFault, RecordFaultKind, UberBody, read_record, read_uber, write_record, write_uber,
+    Record, RecordFault, RecordFaultKind, UberBody, read_record, read_uber, write_record,
+    write_uber,
 };
 use draid_spec::{Geometry, Props, Spec, SpecFault, geometry, parse_spec};
 use std::alloc::Global;
@@ -118,7 +119,12 @@ fn read_bytes(alloc: Global, bytes: Bytes, layout: &Geometry) -> Result<bool, Re
 }
 
 /// Whether it is this by a layout of this version, or the fault at this byte, of this kind.
-fn is_read(alloc: Global, bytes: Bytes, version: u32, told: Result<bool, (u64, RecordFaultKind)>) -> bool {
+fn is_read(
+    alloc: Global,
+    bytes: Bytes,
+    version: u32,
+    told: Result<bool, (u64, RecordFaultKind)>,
+) -> bool {
     let wanted = match told {
         Ok(whole) => Ok(whole),
         Err((at, kind)) => Err(RecordFault::Bad { at, kind }),
@@ -208,7 +214,11 @@ pub(crate) fn uber_with(changes: &[(usize, u8)]) -> [u8; 51] {
 }
 
 /// Whether this is told of the uberblock with these bytes in a slot, or the fault at this byte, of this kind.
-fn is_told(changes: &[(usize, u8)], slot: u32, told: Result<UberBody, (u64, RecordFaultKind)>) -> bool {
+fn is_told(
+    changes: &[(usize, u8)],
+    slot: u32,
+    told: Result<UberBody, (u64, RecordFaultKind)>,
+) -> bool {
     let wanted = match told {
         Ok(body) => Ok(body),
         Err((at, kind)) => Err(RecordFault::Bad { at, kind }),
@@ -246,7 +256,11 @@ const WIDE: UberBody = UberBody {
 };
 
 /// Bytes of the uberblock that are other ones, its slot, and what is told then: in version 1, and then in version 2.
-static UBERS: [(&[(usize, u8)], u32, Result<UberBody, (u64, RecordFaultKind)>); 7] = [
+static UBERS: [(
+    &[(usize, u8)],
+    u32,
+    Result<UberBody, (u64, RecordFaultKind)>,
+); 7] = [
     (&[], 1, Ok(NEW)),
     (&[], 0, Err((7, Range))),
     (&[(17, 33)], 1, Err((17, Range))),

@@ -226,7 +226,10 @@ static TOLD: [(usize, usize, &[(usize, u8)], Result<u64, UberFault>); 6] = [
         1024,
         512,
         &[(17, 33)],
-        Err(UberFault::Record { at: 17, kind: Range }),
+        Err(UberFault::Record {
+            at: 17,
+            kind: Range,
+        }),
     ),
     (1024, 512, &[(0, 0)], Err(UberFault::Empty)),
     (1023, 512, &[], Err(UberFault::Empty)),

@@ -236,28 +236,40 @@ static ROWS: [Row; 27] = [
         0,
         0,
         false,
-        Err(OpenFault::Record { at: 10, kind: Range }),
+        Err(OpenFault::Record {
+            at: 10,
+            kind: Range,
+        }),
     ),
     (
         Bytes::Changed(21, 4),
         0,
         0,
         false,
-        Err(OpenFault::Record { at: 20, kind: Range }),
+        Err(OpenFault::Record {
+            at: 20,
+            kind: Range,
+        }),
     ),
     (
         Bytes::Changed(31, 4),
         0,
         0,
         false,
-        Err(OpenFault::Record { at: 24, kind: Range }),
+        Err(OpenFault::Record {
+            at: 24,
+            kind: Range,
+        }),
     ),
     (
         Bytes::Changed(46, 0),
         0,
         0,
         false,
-        Err(OpenFault::Record { at: 39, kind: Range }),
+        Err(OpenFault::Record {
+            at: 39,
+            kind: Range,
+        }),
     ),
     (
         Bytes::Changed(79, 1),
@@ -335,7 +347,10 @@ static ROWS: [Row; 27] = [
         3,
         0,
         false,
-        Err(OpenFault::Record { at: 172, kind: Twice }),
+        Err(OpenFault::Record {
+            at: 172,
+            kind: Twice,
+        }),
     ),
     (
         Bytes::Blocks(1),
