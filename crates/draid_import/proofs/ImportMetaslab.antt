@@ -132,7 +132,7 @@ sure_by : (a b c : Bool) → ((a || b) && c) ≡ false → c ≡ true → a ≡ 
 sure_by true b c sure claim = (let h = sym claim ∙ sure in absurd (cc))
 sure_by false b c sure claim = refl
 
-was_arm : (f : machine.Arm → machine.Arm) (o : Option machine.Arm) → IsSome (map_arm f o) → IsSome o
+pub was_arm : (f : machine.Arm → machine.Arm) (o : Option machine.Arm) → IsSome (map_arm f o) → IsSome o
 was_arm f None some = some
 was_arm f (Some a) some = refl
 
