@@ -5,6 +5,8 @@ use Rattle.std.specs.HashSet.{HashSet, contains, keys}
 use Rattle.std.specs.List.{list_any}
 use Rattle.std.proofs.lemmas.Bool.{cases_eq, cases_lt, false≢true}
 use Rattle.std.proofs.lemmas.Bool.Decides.{nat_tests}
+use Rattle.draid_record.specs.declared.fault.RecordFaultKind.{RecordFaultKind}
+use Rattle.draid_record.specs.declared.fault.RecordFaultKind.TheVariants as why
 use Rattle.draid_names.specs.declared.pointer.Pointer.{Pointer}
 use Rattle.draid_machine.specs.declared.names.Held.{Held as Block}
 use Rattle.draid_machine.specs.declared.names.Key.{Key}
@@ -231,7 +233,7 @@ module _ {R A : Type 0} (shard : Shard R A) where
 
   -- no block below it has the object and number of a block: another metaslab's has
   pub noted_twice : {T : Type 0} (from : ℕ) (p : Pointer) (old mid : Key → Bool) (place : ℕ) → IsNextHeld shard from p → place ≡ place_in shard from → NotesBelow shard from old mid → mid (key_of p) ≡ true
-      → (metaslab at kind : ℕ) → IsErrOf {T = T} (Err (fault.Record shard.number place 5)) (fault.Record metaslab at kind) → IsNotedTwice shard old (Some metaslab) at kind
+      → (metaslab at : ℕ) (kind : RecordFaultKind) → IsErrOf {T = T} (Err (fault.Record shard.number place why.Twice)) (fault.Record metaslab at kind) → IsNotedTwice shard old (Some metaslab) at kind
   noted_twice {T} from p old mid place next place_is n there metaslab «at» kind err = by ((n.just (key_of p)).0 there)
     where
       own : Some metaslab ≡ Some shard.number
@@ -269,7 +271,7 @@ module _ {R A : Type 0} (shard : Shard R A) where
 -- ---- all metaslabs
 
 -- a fault is one whatever the answer would have been
-pub starved : {T : Type 0} (metaslab place kind : ℕ) → IsErrOf {T = T} (Err fault.NoMemory) (fault.Record metaslab place kind) → ⊥
+pub starved : {T : Type 0} (metaslab place : ℕ) (kind : RecordFaultKind) → IsErrOf {T = T} (Err fault.NoMemory) (fault.Record metaslab place kind) → ⊥
 starved metaslab place kind is = cc
 
 pub no_fault : {T : Type 0} {x : T} {why : FoundFault} → IsErrOf (Ok x) why → ⊥
@@ -335,7 +337,7 @@ module _ {R A : Type 0} (shards : List (Shard R A)) where
       ]
 
   -- a metaslab's block is noted already
-  pub block_twice : (rack : racks.Ghosts R) (n : ℕ) (one shard : Shard R A) (noted : Key → Bool) (metaslab : Option ℕ) (place kind : ℕ) → slice_get shards 0 ≡ Some one → slice_get shards n ≡ Some shard
+  pub block_twice : (rack : racks.Ghosts R) (n : ℕ) (one shard : Shard R A) (noted : Key → Bool) (metaslab : Option ℕ) (place : ℕ) (kind : RecordFaultKind) → slice_get shards 0 ≡ Some one → slice_get shards n ≡ Some shard
       → HaveSameArms one.slots shard.slots → AreReady rack shards → NotesEarlier shards n noted → AreTogether shards n → IsNotedTwice shard noted metaslab place kind → AreApart shards metaslab place kind
   block_twice rack n one shard noted metaslab place kind begins at same ready before together t =
       let h = (before t.key).0 t.twice in
@@ -360,7 +362,7 @@ module _ {R A : Type 0} (shards : List (Shard R A)) where
 
   -- or it has other arms than the first one
   pub other_arms : {T : Type 0} (rack : racks.Ghosts R) (n : ℕ) (first shard : Shard R A) → slice_get shards 0 ≡ Some first → slice_get shards n ≡ Some shard → AreReady rack shards
-      → (HaveSameArms first.slots shard.slots → ⊥) → AreTogether shards n → (metaslab place kind : ℕ) → IsErrOf {T = T} (Err (fault.Record shard.number 20 4)) (fault.Record metaslab place kind)
+      → (HaveSameArms first.slots shard.slots → ⊥) → AreTogether shards n → (metaslab place : ℕ) (kind : RecordFaultKind) → IsErrOf {T = T} (Err (fault.Record shard.number 20 why.Arms)) (fault.Record metaslab place kind)
       → AreApart shards (Some metaslab) place kind
   other_arms {T} rack n first shard begins at ready differ together metaslab place kind err = inl (record {
     m = n;

@@ -1,6 +1,8 @@
 -- What the records of all metaslabs of one pool have in common, and which fault it is where they haven't.
 use Rattle.std.specs.Prelude.{◌≡◌, ◌<◌, ◌+◌, ◌-◌, ◌*◌, ◌^◌, ◌&&◌, ◌⊎◌, ◌↔◌, ℕ, zero, suc, Bool, true, false, List, Option, Some, if◌then◌else◌, is_some, min, nat_eq, slice_get}
 use Rattle.std.specs.HashSet.{HashSet, contains}
+use Rattle.draid_record.specs.declared.fault.RecordFaultKind.{RecordFaultKind}
+use Rattle.draid_record.specs.declared.fault.RecordFaultKind.TheVariants as why
 use Rattle.draid_names.specs.declared.pointer.Pointer.{Pointer}
 use Rattle.draid_machine.specs.declared.names.Key.{Key}
 use Rattle.draid_entries.specs.declared.entry.Entry.{Entry}
@@ -65,9 +67,9 @@ pub record AreTogether {R A : Type 0} (shards : List (Shard R A)) (n : ℕ) : Ty
 -- ---- faults
 
 -- a block of this metaslab is the first that has the object and the number of one that was noted
-pub record IsNotedTwice {R A : Type 0} (shard : Shard R A) (noted : Key → Bool) (metaslab : Option ℕ) (place kind : ℕ) : Type 0 where
+pub record IsNotedTwice {R A : Type 0} (shard : Shard R A) (noted : Key → Bool) (metaslab : Option ℕ) (place : ℕ) (kind : RecordFaultKind) : Type 0 where
   pub metaslab_is : metaslab ≡ Some shard.number
-  pub kind_is : kind ≡ 5
+  pub kind_is : kind ≡ why.Twice
   pub key : Key
   pub block : HasBlock shard key
   pub place_is : place ≡ place_in shard block.first
@@ -75,11 +77,11 @@ pub record IsNotedTwice {R A : Type 0} (shard : Shard R A) (noted : Key → Bool
   pub lowest : (first : ℕ) (e : Entry) → first < block.first → entry_at shard.entries first ≡ Some e → noted (key_of e.pointer) ≡ false
 
 -- a metaslab is the first that has other arms than the first one, and those below it are together
-pub record HasOtherArms {R A : Type 0} (shards : List (Shard R A)) (metaslab : Option ℕ) (place kind : ℕ) : Type 0 where
+pub record HasOtherArms {R A : Type 0} (shards : List (Shard R A)) (metaslab : Option ℕ) (place : ℕ) (kind : RecordFaultKind) : Type 0 where
   pub m : ℕ
   pub metaslab_is : metaslab ≡ Some m
   pub place_is : place ≡ SLOT_COUNT_AT
-  pub kind_is : kind ≡ 4
+  pub kind_is : kind ≡ why.Arms
   pub first : Shard R A
   pub begins : slice_get shards 0 ≡ Some first
   pub shard : Shard R A
@@ -89,10 +91,10 @@ pub record HasOtherArms {R A : Type 0} (shards : List (Shard R A)) (metaslab : O
 
 -- A metaslab has a block of the object and the number that a block of an earlier one has, and none that begins at a lower stripe. It has the arms of the first one,
 -- and those below it are together.
-pub record HasBlockTwice {R A : Type 0} (shards : List (Shard R A)) (metaslab : Option ℕ) (place kind : ℕ) : Type 0 where
+pub record HasBlockTwice {R A : Type 0} (shards : List (Shard R A)) (metaslab : Option ℕ) (place : ℕ) (kind : RecordFaultKind) : Type 0 where
   pub m : ℕ
   pub metaslab_is : metaslab ≡ Some m
-  pub kind_is : kind ≡ 5
+  pub kind_is : kind ≡ why.Twice
   pub shard : Shard R A
   pub there : slice_get shards m ≡ Some shard
   pub earlier : ℕ
@@ -108,5 +110,5 @@ pub record HasBlockTwice {R A : Type 0} (shards : List (Shard R A)) (metaslab : 
   pub together : AreTogether shards m
 
 -- which fault metaslabs have first whose records were read whole
-abbrev pub AreApart : {R A : Type 0} → List (Shard R A) → Option ℕ → (place kind : ℕ) → Type 0
+abbrev pub AreApart : {R A : Type 0} → List (Shard R A) → Option ℕ → ℕ → RecordFaultKind → Type 0
 AreApart shards metaslab place kind = HasOtherArms shards metaslab place kind ⊎ HasBlockTwice shards metaslab place kind

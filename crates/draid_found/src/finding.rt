@@ -1,5 +1,6 @@
 ghost use Rattle.std.specs.Prelude.{◌≡◌, ◌<◌, ◌⊎◌, ℕ, Some, IfOk, IsErrOf, IsTrue, OnOk, false, length, nat_eq, true};
 ghost use Rattle.std.specs.HashMap.{get};
+ghost use Rattle.draid_record.specs.declared.fault.RecordFaultKind.{RecordFaultKind};
 ghost use Rattle.draid_names.specs.declared.pointer.Pointer.{Pointer};
 ghost use Rattle.draid_entries.specs.Maps.{key_of};
 ghost use Rattle.draid_shard.specs.Fits.{Valid};
@@ -11,7 +12,7 @@ use crate::fault::FoundFault;
 use draid_area::Area;
 use draid_names::{NoMemory, Pointer};
 use draid_rack::Rack;
-use draid_record::{BLOCK_BYTES, SLOT_COUNT_AT};
+use draid_record::{BLOCK_BYTES, RecordFaultKind, SLOT_COUNT_AT};
 use draid_shard::Shard;
 use std::alloc::Global;
 use std::collections::{HashMap, HashSet};
@@ -72,7 +73,7 @@ impl Found {
         ensures keys { OnOk result (NotesJustOf shard.now (noted_in self.old.keys) (noted_in self.new.keys)) }
         ensures fresh { OnOk result (IsUnnoted shard.now (noted_in self.old.keys)) }
         // The block for which it is refused is the first that was noted before.
-        ensures again { (metaslab place kind : ℕ) → IsErrOf result (FoundFault.Record metaslab place kind) → IsNotedTwice shard.now (noted_in self.old.keys) (Some metaslab) place kind }
+        ensures again { (metaslab place : ℕ) (kind : RecordFaultKind) → IsErrOf result (FoundFault.Record metaslab place kind) → IsNotedTwice shard.now (noted_in self.old.keys) (Some metaslab) place kind }
     {
         let mut from = 0;
         let mut at = shard.blocks_at();
@@ -83,7 +84,7 @@ impl Found {
                     return Err(FoundFault::Record {
                         metaslab: shard.number,
                         at,
-                        kind: 5,
+                        kind: RecordFaultKind::Twice,
                     });
                 }
                 Err(NoMemory) => return Err(FoundFault::NoMemory),
@@ -104,7 +105,7 @@ pub fn find_blocks<R: Rack, A: Area>(
     ensures found { IfOk result (λ found. AreFound shards.now (get nat_eq found.newest) found.seq) }
     ensures together { OnOk result (AreTogether shards.now (length shards.now)) }
     // A record for which it is refused has the first fault.
-    ensures faulty { (metaslab place kind : ℕ) → IsErrOf result (FoundFault.Record metaslab place kind) → AreApart shards.now (Some metaslab) place kind }
+    ensures faulty { (metaslab place : ℕ) (kind : RecordFaultKind) → IsErrOf result (FoundFault.Record metaslab place kind) → AreApart shards.now (Some metaslab) place kind }
 {
     let mut found = Found {
         newest: HashMap::new(alloc),
@@ -116,7 +117,7 @@ pub fn find_blocks<R: Rack, A: Area>(
             return Err(FoundFault::Record {
                 metaslab: shard.number,
                 at: SLOT_COUNT_AT,
-                kind: 4,
+                kind: RecordFaultKind::Arms,
             });
         }
         match found.note_all(shard) {

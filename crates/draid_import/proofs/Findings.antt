@@ -3,6 +3,7 @@ use Rattle.std.proofs.Common.{arith, ◌≡◌, ◌==◌, ◌%◌, ◌<◌, ◌�
 use Rattle.std.specs.Prelude.{IsSome, IsSomeAnd, MatchOption, nat_eq, option_map, slice_get}
 use Rattle.std.specs.HashMap.{get}
 use Rattle.std.proofs.lemmas.Bool.{cases_lt}
+use Rattle.draid_record.specs.declared.fault.RecordFaultKind.{RecordFaultKind}
 use Rattle.draid_area.specs.Area.{Content, flushes}
 use Rattle.draid_area.specs.declared.Area as areas
 use Rattle.draid_rack.specs.Rack.{Shape, Told, OnBothTold}
@@ -46,7 +47,7 @@ over_entry rack area limit group next o mid leaves yet_leaves counts yet shards 
     (subst (λ (k : ℕ → KitCounts). OpensAllOver rack area limit group next mid yet_leaves k shards) (ext yet counts same) over))
 
 pub unread_entry : {R A : Type 0} (rack : racks.Ghosts R) (area : areas.Ghosts A) (geometry : Geometry) (group next : ℕ) (o mid : Option Held) (leaves yet_leaves : ℕ → Option Shape) (counts yet : ℕ → KitCounts)
-    (metaslab : Option ℕ) (place kind : ℕ) → mid ≡ takes_uber o → ((m : ℕ) → yet_leaves m ≡ leaves m) → ((m : ℕ) → yet m ≡ counts m) → OneIsUnread rack area geometry group next mid yet_leaves yet metaslab place kind
+    (metaslab : Option ℕ) (place : ℕ) (kind : RecordFaultKind) → mid ≡ takes_uber o → ((m : ℕ) → yet_leaves m ≡ leaves m) → ((m : ℕ) → yet m ≡ counts m) → OneIsUnread rack area geometry group next mid yet_leaves yet metaslab place kind
     → OneIsUnread rack area geometry group next (takes_uber o) leaves counts metaslab place kind
 unread_entry rack area geometry group next o mid leaves yet_leaves counts yet metaslab place kind taken same_leaves same one =
     subst (λ (h : Option Held). OneIsUnread rack area geometry group next h leaves counts metaslab place kind) taken

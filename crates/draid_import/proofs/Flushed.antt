@@ -1,6 +1,7 @@
 -- An import finds the same on a shelf whether or not the area of the uberblock was flushed before.
 use Rattle.std.proofs.Common.{◌≡◌, ◌⊎◌, inl, inr, ℕ, List, Option, Some, None, Ok, Err, subst}
 use Rattle.std.specs.Prelude.{IsSomeAnd, option_map}
+use Rattle.draid_record.specs.declared.fault.RecordFaultKind.{RecordFaultKind}
 use Rattle.draid_area.specs.Area.{Content, OnTold, flushes}
 use Rattle.draid_area.specs.declared.Area as areas
 use Rattle.draid_rack.specs.Rack.{Shape}
@@ -51,7 +52,7 @@ taken_same : (x y : Held) → SameButFlushed x y → takes_uber (Some y) ≡ tak
 taken_same x y same = λ i. Some (record { uber = None; checks = same.checks i; kits = ext y.kits x.kits same.kits i })
 
 module _ {R A : Type 0} (rack : racks.Ghosts R) (area : areas.Ghosts A) (x y : Held) (leaves : ℕ → Option Shape) (counts : ℕ → KitCounts) (same : SameButFlushed x y) where
-  pub fault_before : (metaslab : Option ℕ) (place kind : ℕ) → RecordIsBad rack area (Some y) leaves counts metaslab place kind → RecordIsBad rack area (Some x) leaves counts metaslab place kind
+  pub fault_before : (metaslab : Option ℕ) (place : ℕ) (kind : RecordFaultKind) → RecordIsBad rack area (Some y) leaves counts metaslab place kind → RecordIsBad rack area (Some x) leaves counts metaslab place kind
   fault_before metaslab place kind (inl bad) =
       inl (record { metaslab_is = bad.metaslab_is; bad = bytes_same (λ bytes. chosen_of bytes ≡ Some (Err (Bad place kind))) x.uber y.uber same.uber bad.bad })
   fault_before metaslab place kind (inr bad) =

@@ -1,6 +1,7 @@
 -- The fault of a record for which an import is refused.
 use Rattle.std.proofs.Common.{◌≡◌, ◌∙◌, ℕ, Bool, false, List, Option, Some, None, Result, Ok, Err, refl, sym, ap, subst}
 use Rattle.std.specs.Prelude.{⊤, ◌↔◌, IsErrOf, IsSome, IsSomeAnd, IsTrue, MatchOption, option_map}
+use Rattle.draid_record.specs.declared.fault.RecordFaultKind.{RecordFaultKind}
 use Rattle.draid_names.specs.declared.fault.DeviceFault.{DeviceFault}
 use Rattle.draid_names.specs.declared.fault.DeviceFault.TheVariants as device
 use Rattle.draid_rack.specs.Rack.{Shape}
@@ -41,7 +42,7 @@ pub passed_on : {T U : Type 0} (r : Result T ImportFault) (y f w : ImportFault) 
 passed_on {T} r y f w is same err = (let it : f ≡ w = sym same ∙ err_is {T = T} y w (sym is ∙ err) in ap Err it)
 
 -- metaslabs that aren't those of one pool
-pub found_apart : {R A T : Type 0} (shards : List (Shard R A)) (m place kind : ℕ) → AreApart shards (Some m) place kind → (metaslab : Option ℕ) (p k : ℕ)
+pub found_apart : {R A T : Type 0} (shards : List (Shard R A)) (m place : ℕ) (kind : RecordFaultKind) → AreApart shards (Some m) place kind → (metaslab : Option ℕ) (p : ℕ) (k : RecordFaultKind)
     → IsErrOf {T = T} (Err (fault.Record (Some m) place kind)) (fault.Record metaslab p k) → AreApart shards metaslab p k
 found_apart shards m place kind apart metaslab p k err =
     let own : Some m ≡ metaslab = cc in
@@ -50,7 +51,7 @@ found_apart shards m place kind apart metaslab p k err =
     subst (λ x. AreApart shards x p k) own (subst (λ n. AreApart shards (Some m) n k) p_is (subst (λ n. AreApart shards (Some m) place n) k_is apart))
 
 -- a call on the shelf that gave nothing isn't a record's fault
-pub shelf_no_record : (why : DeviceFault) (metaslab : Option ℕ) (place kind : ℕ) → shelf_fault_of why ≡ fault.Record metaslab place kind → ⊥
+pub shelf_no_record : (why : DeviceFault) (metaslab : Option ℕ) (place : ℕ) (kind : RecordFaultKind) → shelf_fault_of why ≡ fault.Record metaslab place kind → ⊥
 shelf_no_record device.Failed metaslab place kind is = cc
 shelf_no_record device.NoMemory metaslab place kind is = cc
 
@@ -118,7 +119,7 @@ tells_body area taken uber o content valid same held needs finds = by (kept_of u
       next_leaf = same.1;
     }
 
-pub uber_bad : {T : Type 0} (taken : T) (o : Option Held) (content : Option Content) (why : UberFault) (metaslab : Option ℕ) (place kind : ℕ) → OnHeld o (λ x. content ≡ x.uber) → NeedsUber (Ok taken) o → OnTold content (λ c. FindsFault why (chosen_of c.bytes))
+pub uber_bad : {T : Type 0} (taken : T) (o : Option Held) (content : Option Content) (why : UberFault) (metaslab : Option ℕ) (place : ℕ) (kind : RecordFaultKind) → OnHeld o (λ x. content ≡ x.uber) → NeedsUber (Ok taken) o → OnTold content (λ c. FindsFault why (chosen_of c.bytes))
     → uber_fault_of why ≡ fault.Record metaslab place kind → UberIsBad o metaslab place kind
 uber_bad taken o content uber_why.Area metaslab place kind held needs finds is = absurd (cc)
 uber_bad taken o content uber_why.NoMemory metaslab place kind held needs finds is = absurd (cc)
@@ -137,7 +138,7 @@ uber_bad taken o content (uber_why.Record p k) metaslab place kind held needs fi
 
 module _ {R A : Type 0} (rack : racks.Ghosts R) (area : areas.Ghosts A) (geometry : Geometry) (group next m : ℕ) where
   -- one that wasn't opened
-  pub unread : (o : Option Held) (known : Option Shape) (counts : KitCounts) (old new : Kit R A) (why : OpenFault) (metaslab : Option ℕ) (place kind : ℕ) → IsKitOf rack area m o known counts old
+  pub unread : (o : Option Held) (known : Option Shape) (counts : KitCounts) (old new : Kit R A) (why : OpenFault) (metaslab : Option ℕ) (place : ℕ) (kind : RecordFaultKind) → IsKitOf rack area m o known counts old
       → OpenIsRefused rack area.faults area.told geometry m old new group next why → open_fault_of m why ≡ fault.Record metaslab place kind
       → IsUnread rack area geometry group next m o known counts metaslab place kind
   unread o known counts old new open_why.Area metaslab place kind taken refused is = absurd (cc)
@@ -156,7 +157,7 @@ module _ {R A : Type 0} (rack : racks.Ghosts R) (area : areas.Ghosts A) (geometr
       }
 
   -- what was held for it was so from the beginning
-  pub unread_first : (old mid : Option Held) (known yet : Option Shape) (before middle : KitCounts) (metaslab : Option ℕ) (place kind : ℕ) → TakesFirst m old mid → yet ≡ known → middle ≡ before
+  pub unread_first : (old mid : Option Held) (known yet : Option Shape) (before middle : KitCounts) (metaslab : Option ℕ) (place : ℕ) (kind : RecordFaultKind) → TakesFirst m old mid → yet ≡ known → middle ≡ before
       → IsUnread rack area geometry group next m mid yet middle metaslab place kind → IsUnread rack area geometry group next m old known before metaslab place kind
   unread_first old mid known yet before middle metaslab place kind takes same_leaves same u =
       let t = u.taken in

@@ -37,7 +37,7 @@ use Rattle.draid_pool.specs.Importable.{IsFindable}
 use Rattle.draid_pool.specs.Objects.{HasGroups, HasPieces, HoldsObjects, blocks_of}
 use Rattle.draid_pool.specs.Pools.{part_in}
 use Rattle.draid_pool.specs.Records.{HasImage, HasImages, HasLeafNumbers, LeavesAreBelow}
-use Rattle.draid_import.proofs.ImportMetaslab.{FindsImage}
+use Rattle.draid_import.proofs.ImportMetaslab.{FindsImage, was_arm}
 use Rattle.draid_import.proofs.ImportVersion.{image_version}
 use Rattle.draid_pool.proofs.Lists.{present, some_of}
 use Rattle.draid_pool.proofs.Moved.{blocks_at}
@@ -56,10 +56,6 @@ held_there ys m k h is = by (slice_get ys m) refl is
     by : (o : Option Metaslab) → slice_get ys m ≡ o → table_of (option_map (λ (y : Metaslab). y.world) o) k ≡ Some h → (y : Metaslab) × (slice_get ys m ≡ Some y) × (y.world.core.held k ≡ Some h)
     by None at held = absurd (cc)
     by (Some y) at held = (y, at, held)
-
-was_arm : (f : machine.Arm → machine.Arm) (o : Option machine.Arm) → IsSome (map_arm f o) → IsSome o
-was_arm f None some = some
-was_arm f (Some a) some = refl
 
 -- ---- numbers of leaves
 

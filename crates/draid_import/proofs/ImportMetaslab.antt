@@ -1,4 +1,5 @@
 -- A metaslab that rests on a shelf, as an import opens it.
+use Rattle.std.proofs.Math.Bool.{or-false}
 use Rattle.std.proofs.Common.{arith, ◌≡◌, ◌≢◌, ◌==◌, ◌%◌, ◌||◌, ◌&&◌, ◌+◌, ◌≤◌, ◌++◌, ◌∙◌, inl, inr, ℕ, Bool, true, false, [], Option, Some, None, Result, Ok, Vec, Global, length, drop, refl, sym, ap, subst, if◌then◌else◌}
 use Rattle.std.specs.Prelude.{IsSome, IsSomeAnd, MatchOption, min, ◌^◌, ◌-◌, ◌⊎◌}
 use Rattle.std.proofs.lemmas.List.{take-append-drop}
@@ -131,11 +132,7 @@ sure_by : (a b c : Bool) → ((a || b) && c) ≡ false → c ≡ true → a ≡ 
 sure_by true b c sure claim = (let h = sym claim ∙ sure in absurd (cc))
 sure_by false b c sure claim = refl
 
-or_false : (b : Bool) → (b || false) ≡ b
-or_false true = refl
-or_false false = refl
-
-was_arm : (f : machine.Arm → machine.Arm) (o : Option machine.Arm) → IsSome (map_arm f o) → IsSome o
+pub was_arm : (f : machine.Arm → machine.Arm) (o : Option machine.Arm) → IsSome (map_arm f o) → IsSome o
 was_arm f None some = some
 was_arm f (Some a) some = refl
 
@@ -279,7 +276,7 @@ module _ (x : State) (m : ℕ) (pieces : Pieces) (y : Metaslab) (kit : KitTold) 
 
     all_firm : Firm (layout_by shard) pieces f.image (λ s. y.world.aside s || has_segment [] s) kit.rack
     all_firm = subst (λ (p : Part). Firm (layout_in p) pieces f.image (λ s. y.world.aside s || has_segment [] s) kit.rack) (sym part_is)
-        (subst (λ d. Firm l pieces f.image d kit.rack) (sym (ext (λ s. y.world.aside s || has_segment [] s) y.world.aside (λ s. or_false (y.world.aside s)))) firm)
+        (subst (λ d. Firm l pieces f.image d kit.rack) (sym (ext (λ s. y.world.aside s || has_segment [] s) y.world.aside (λ s. or-false (y.world.aside s)))) firm)
 
     stands : StandsFor rack shard found_world pieces
     stands = subst (λ (p : Part). StandsFor rack shard (reopen_state (layout_in p) y.world f.image []) pieces) part_is

@@ -3,6 +3,7 @@ use Rattle.std.proofs.Common.{arith, ◌≡◌, ◌∙◌, inl, inr, ℕ, List, 
 use Rattle.std.specs.declared.alloc.Global.{Global}
 use Rattle.std.specs.Prelude.{IsErrOf, slice_get}
 use Rattle.std.proofs.lemmas.Option.{slice_get_within}
+use Rattle.draid_record.specs.declared.fault.RecordFaultKind.{RecordFaultKind}
 use Rattle.draid_area.specs.declared.Area as areas
 use Rattle.draid_rack.specs.Rack.{Shape}
 use Rattle.draid_rack.specs.declared.Rack as racks
@@ -98,7 +99,7 @@ module _ {R A : Type 0} (rack : racks.Ghosts R) (area : areas.Ghosts A) (x : Sta
       ∙ (p.opens.is.stands.is_in.held key ∙ (ap (held_in shard.entries) (sym h.key_is) ∙ key_leads shard.entries h.first h.e h.there)))
 
   -- so that their records are those of one pool
-  pub not_apart : (metaslab : Option ℕ) (place kind : ℕ) → AreApart shards metaslab place kind → ⊥
+  pub not_apart : (metaslab : Option ℕ) (place : ℕ) (kind : RecordFaultKind) → AreApart shards metaslab place kind → ⊥
   not_apart metaslab place kind (inl h) = h.differ (all_same 0 h.m h.first h.shard h.begins h.there)
   not_apart metaslab place kind (inr h) =
       let one = found_once x b.body.group pieces (sealed_at b.body.group (blocks_of x.metaslabs)) there.held.objects (λ m k. refl) h.m h.earlier h.key (held_at h.block.e) (held_at h.twice.e)
@@ -111,7 +112,7 @@ pub no_fault_apart : {R A T : Type 0} (alloc : Global) (rack : racks.Ghosts R) (
     (shards : List (Shard R A)) (f : ImportFault) → RestsThere x pieces o leaves counts count → IsFoundUber area uber → IsRecovered area o count uber
     → ((k : ℕ) → now k ≡ counts k) → mid ≡ takes_uber o → AreReopened rack (layout_of uber) (group_of (kept_of uber)) shards
     → OpensAllOver rack area (limit_of (layout_of uber)) (group_of (kept_of uber)) (next_leaf_of uber) mid known now shards
-    → ((metaslab : Option ℕ) (place kind : ℕ) → IsErrOf {T = T} (Err f) (fault.Record metaslab place kind) → AreApart shards metaslab place kind) → NoRecord {T = T} (Err f)
+    → ((metaslab : Option ℕ) (place : ℕ) (kind : RecordFaultKind) → IsErrOf {T = T} (Err f) (fault.Record metaslab place kind) → AreApart shards metaslab place kind) → NoRecord {T = T} (Err f)
 no_fault_apart alloc rack area x pieces None mid leaves known counts now count uber shards f there found r counted taken re over faulty metaslab place kind err = absurd there.held
 no_fault_apart alloc rack area x pieces (Some held) mid leaves known counts now count uber shards f there found r counted taken re over faulty metaslab place kind err =
     let f = body_found area x pieces held leaves counts count uber there found r in

@@ -1,5 +1,5 @@
 -- No name stands twice among the arms of a metaslab's slots and those whose detachment isn't committed.
-use Rattle.std.proofs.Common.{◌≡◌, ◌==◌, ◌<◌, ◌||◌, ◌&&◌, ◌∙◌, not, nat_lt, ℕ, zero, suc, Bool, true, false, List, [], ◌∷◌, ◌++◌, Some, length, map, arith, refl, sym, ap, subst, inl, inr, slice_get}
+use Rattle.std.proofs.Common.{◌≡◌, ◌==◌, ◌<◌, ◌||◌, ◌&&◌, ◌∙◌, not, nat_lt, ℕ, zero, suc, Bool, true, false, List, [], ◌∷◌, ◌++◌, Some, length, map, arith, refl, sym, ap, subst, inl, inr, slice_get, eq-eqb}
 use Rattle.std.specs.Prelude.{Contains, slice_index_or}
 use Rattle.std.specs.List.{list_any}
 use Rattle.std.proofs.lemmas.Bool.{cases_lt, true≢false}
@@ -42,15 +42,12 @@ own_kind : (k : ArmKind) → is_kind k k ≡ true
 own_kind Leaf = refl
 own_kind Spare = refl
 
-own_number : (m n : ℕ) → m ≡ n → (m == n) ≡ true
-own_number m n same = grind (arith, nat_tests, same)
-
 abbrev is_of : ArmTold → ArmTold → Bool
 is_of u told = is_kind told.0.kind u.0.kind && (told.0.number == u.0.number)
 
 is_other : (t u : ArmTold) → t.0.kind ≡ u.0.kind → t.0.number ≡ u.0.number → is_of u t ≡ true
 is_other t u kind number =
-    true_both (is_kind t.0.kind u.0.kind) (t.0.number == u.0.number) (subst (λ k. is_kind t.0.kind k ≡ true) kind (own_kind t.0.kind)) (own_number t.0.number u.0.number number)
+    true_both (is_kind t.0.kind u.0.kind) (t.0.number == u.0.number) (subst (λ k. is_kind t.0.kind k ≡ true) kind (own_kind t.0.kind)) (eq-eqb t.0.number u.0.number number)
 
 -- no arm of the name stands before an arm of a slot
 none_before : (limits : Limits) (before : List (List ArmTold)) (count : ℕ) (here list : List ArmTold) (k : ℕ) (u : ArmTold) → AreArms limits before count here list → slice_get list k ≡ Some u

@@ -3,6 +3,7 @@ use Rattle.std.proofs.Common.{arith, ◌≡◌, ◌==◌, ◌%◌, ◌+◌, ◌*
 use Rattle.std.specs.Prelude.{Contains, IsSome, IsSomeAnd, is_some, min, slice_get}
 use Rattle.std.proofs.lemmas.Bool.{cases_eq, cases_lt}
 use Rattle.std.proofs.lemmas.Option.{slice_get_within}
+use Rattle.draid_record.specs.declared.fault.RecordFaultKind.{RecordFaultKind}
 use Rattle.draid_names.specs.declared.arm.Arm.{Arm}
 use Rattle.draid_names.specs.declared.pointer.Pointer.{Pointer}
 use Rattle.draid_area.specs.Area.{Content, OnTold}
@@ -67,7 +68,7 @@ ok_same a b same = cc
 ok_err : (a : UberBody) (f : RecordFault) → whole a ≡ faulty f → ⊥
 ok_err a f same = cc
 
-bad_same : (p k q l : ℕ) → faulty (Bad p k) ≡ faulty (Bad q l) → (p ≡ q) × (k ≡ l)
+bad_same : (p : ℕ) (k : RecordFaultKind) (q : ℕ) (l : RecordFaultKind) → faulty (Bad p k) ≡ faulty (Bad q l) → (p ≡ q) × (k ≡ l)
 bad_same p k q l same = (cc, cc)
 
 none_chosen : (o : Option Content) (p : Result UberBody RecordFault) → OnTold o (λ c. chosen_of c.bytes ≡ None) → IsSomeAnd o (λ c. chosen_of c.bytes ≡ Some p) → ⊥
@@ -196,7 +197,7 @@ module _ {R A : Type 0} (rack : racks.Ghosts R) (area : areas.Ghosts A) (geometr
       let k = kit_is (rack.told h.over.kit.rack) (area.told h.over.kit.even) (area.told h.over.kit.odd) kit (h.over.taken.told ∙ is) in
       of_told (group % 2 == 0) area.told h.over.kit.even h.over.kit.odd kit.even kit.odd (λ c. shard.blocks_at ≡ block_at c.bytes h.over.opens.value.blocks 0) k.even k.odd h.over.opens.blocks
 
-  refused : (m : ℕ) (metaslab : Option ℕ) (place kind : ℕ) → IsUnread rack area geometry group next m (Some y) (leaves m) (counts m) metaslab place kind → Says m (Err (Bad place kind))
+  refused : (m : ℕ) (metaslab : Option ℕ) (place : ℕ) (kind : RecordFaultKind) → IsUnread rack area geometry group next m (Some y) (leaves m) (counts m) metaslab place kind → Says m (Err (Bad place kind))
   refused m metaslab place kind u = record { kit = was.0; is_kit = was.1; shape = there.0; is_shape = there.1; says = read }
     where
       was : (k : KitTold) × (y.kits m ≡ Some k)
@@ -239,7 +240,7 @@ module _ {R A : Type 0} (rack : racks.Ghosts R) (area : areas.Ghosts A) (geometr
     many : length shards ≡ n
     each : (m : ℕ) (shard : Shard R A) → slice_get shards m ≡ Some shard → IsHere m shard
 
-  not_refused : (n m : ℕ) (shards : List (Shard R A)) (metaslab : Option ℕ) (place kind : ℕ) → AreHere n shards → m < n → IsUnread rack area geometry group next m (Some y) (leaves m) (counts m) metaslab place kind → ⊥
+  not_refused : (n m : ℕ) (shards : List (Shard R A)) (metaslab : Option ℕ) (place : ℕ) (kind : RecordFaultKind) → AreHere n shards → m < n → IsUnread rack area geometry group next m (Some y) (leaves m) (counts m) metaslab place kind → ⊥
   not_refused n m shards metaslab place kind are below u =
       let many = are.many in
       let s = present shards m (omega (arith, below, many)) in
@@ -247,7 +248,7 @@ module _ {R A : Type 0} (rack : racks.Ghosts R) (area : areas.Ghosts A) (geometr
       let same = one_says m (Ok h.over.opens.value) (Err (Bad place kind)) (opened m s.0 h) (refused m metaslab place kind u) in
       cc
 
-  one_refused : (m : ℕ) (a b : Option ℕ) (p k q l : ℕ) → IsUnread rack area geometry group next m (Some y) (leaves m) (counts m) a p k → IsUnread rack area geometry group next m (Some y) (leaves m) (counts m) b q l
+  one_refused : (m : ℕ) (a b : Option ℕ) (p : ℕ) (k : RecordFaultKind) (q : ℕ) (l : RecordFaultKind) → IsUnread rack area geometry group next m (Some y) (leaves m) (counts m) a p k → IsUnread rack area geometry group next m (Some y) (leaves m) (counts m) b q l
       → (a ≡ b) × (p ≡ q) × (k ≡ l)
   one_refused m a b p k q l u v =
       let same = one_says m (Err (Bad p k)) (Err (Bad q l)) (refused m a p k u) (refused m b q l v) in
@@ -266,25 +267,25 @@ module _ {R A : Type 0} (rack : racks.Ghosts R) (area : areas.Ghosts A) (geometr
     earlier_too m key h = (let s = twin h.m h.shard h.there in record { m = h.m; below = h.below; shard = s.0; there = s.1; block = block_too h.shard s.0 key s.2 h.block })
 
     -- where those below a number are together, no fault there is one of others that were opened from the same records
-    not_other : (m : ℕ) (metaslab : Option ℕ) (place kind : ℕ) → AreTogether ss m → (o : HasOtherArms ts metaslab place kind) → o.m < m → ⊥
+    not_other : (m : ℕ) (metaslab : Option ℕ) (place : ℕ) (kind : RecordFaultKind) → AreTogether ss m → (o : HasOtherArms ts metaslab place kind) → o.m < m → ⊥
     not_other m metaslab place kind together o below =
         let first = twin 0 o.first o.begins in
         let s = twin o.m o.shard o.there in
         o.differ (arms_too first.0 o.first s.0 o.shard (turned o.first first.0 first.2) (turned o.shard s.0 s.2) (together.alike o.m first.0 s.0 below first.1 s.1))
 
-    not_twice : (m : ℕ) (metaslab : Option ℕ) (place kind : ℕ) → AreTogether ss m → (o : HasBlockTwice ts metaslab place kind) → o.m < m → ⊥
+    not_twice : (m : ℕ) (metaslab : Option ℕ) (place : ℕ) (kind : RecordFaultKind) → AreTogether ss m → (o : HasBlockTwice ts metaslab place kind) → o.m < m → ⊥
     not_twice m metaslab place kind together o below =
         let s = twin o.m o.shard o.there in
         let e = twin o.earlier o.other o.other_there in
         together.once o.m s.0 o.key below s.1 (block_too o.shard s.0 o.key s.2 o.block) (record { m = o.earlier; below = o.before; shard = e.0; there = e.1; block = block_too o.other e.0 o.key e.2 o.twice })
 
-    not_apart : (metaslab : Option ℕ) (place kind : ℕ) → AreTogether ss n → AreApart ts metaslab place kind → ⊥
+    not_apart : (metaslab : Option ℕ) (place : ℕ) (kind : RecordFaultKind) → AreTogether ss n → AreApart ts metaslab place kind → ⊥
     not_apart metaslab place kind together (inl o) = (let within = slice_get_within ts o.m o.shard o.there in let many = too.many in not_other n metaslab place kind together o (omega (arith, within, many)))
     not_apart metaslab place kind together (inr o) = (let within = slice_get_within ts o.m o.shard o.there in let many = too.many in not_twice n metaslab place kind together o (omega (arith, within, many)))
 
   -- the first fault is one
   module _ (n : ℕ) (ss ts : List (Shard R A)) (are : AreHere n ss) (too : AreHere n ts) where
-    other_and_twice : (a b : Option ℕ) (p k q l : ℕ) (o : HasOtherArms ss a p k) (u : HasBlockTwice ts b q l) → ⊥
+    other_and_twice : (a b : Option ℕ) (p : ℕ) (k : RecordFaultKind) (q : ℕ) (l : RecordFaultKind) (o : HasOtherArms ss a p k) (u : HasBlockTwice ts b q l) → ⊥
     other_and_twice a b p k q l o u = elim (cases_lt o.m u.m) [
       | inl less ↦ not_other n ts ss too are u.m a p k u.together o less
       | inr past ↦ elim (cases_eq o.m u.m) [
@@ -297,7 +298,7 @@ module _ {R A : Type 0} (rack : racks.Ghosts R) (area : areas.Ghosts A) (geometr
       ]
     ]
 
-    lower_twice : (a b : Option ℕ) (p k q l : ℕ) (o : HasBlockTwice ss a p k) (u : HasBlockTwice ts b q l) → o.m ≡ u.m → o.block.first < u.block.first → ⊥
+    lower_twice : (a b : Option ℕ) (p : ℕ) (k : RecordFaultKind) (q : ℕ) (l : RecordFaultKind) (o : HasBlockTwice ss a p k) (u : HasBlockTwice ts b q l) → o.m ≡ u.m → o.block.first < u.block.first → ⊥
     lower_twice a b p k q l o u same less =
         let s = twin n ts ss too are o.m o.shard o.there in
         let own : s.0 ≡ u.shard = some_same (slice_get ts u.m) s.0 u.shard (subst (λ m. slice_get ts m ≡ Some s.0) same s.1) u.there in
@@ -312,7 +313,7 @@ module _ {R A : Type 0} (rack : racks.Ghosts R) (area : areas.Ghosts A) (geometr
         })
 
   module _ (n : ℕ) (ss ts : List (Shard R A)) (are : AreHere n ss) (too : AreHere n ts) where
-    one_apart : (a b : Option ℕ) (p k q l : ℕ) → AreApart ss a p k → AreApart ts b q l → (a ≡ b) × (p ≡ q) × (k ≡ l)
+    one_apart : (a b : Option ℕ) (p : ℕ) (k : RecordFaultKind) (q : ℕ) (l : RecordFaultKind) → AreApart ss a p k → AreApart ts b q l → (a ≡ b) × (p ≡ q) × (k ≡ l)
     one_apart a b p k q l (inl o) (inl u) = elim (cases_lt o.m u.m) [
       | inl less ↦ absurd (not_other n ts ss too are u.m a p k u.together o less)
       | inr past ↦ elim (cases_eq o.m u.m) [
@@ -344,10 +345,10 @@ module _ {R A : Type 0} (rack : racks.Ghosts R) (area : areas.Ghosts A) (geometr
 
   -- ---- faults of records
 
-  abbrev Apart : Option ℕ → (place kind : ℕ) → Type 0
+  abbrev Apart : Option ℕ → ℕ → RecordFaultKind → Type 0
   Apart metaslab place kind = AreReadApart rack area geometry group next (Some y) leaves counts metaslab place kind
 
-  abbrev Unread : Option ℕ → (place kind : ℕ) → Type 0
+  abbrev Unread : Option ℕ → ℕ → RecordFaultKind → Type 0
   Unread metaslab place kind = OneIsUnread rack area geometry group next (Some y) leaves counts metaslab place kind
 
   here_is : (m : ℕ) (shard : Shard R A) (perms : Perms) → IsReopened rack (record { geometry = geometry; perms = perms; number = m }) group shard
@@ -362,10 +363,10 @@ module _ {R A : Type 0} (rack : racks.Ghosts R) (area : areas.Ghosts A) (geometr
   all_here : (shards : List (Shard R A)) → AreReopened rack geometry group shards → OpensAllOver rack area (limit_of geometry) group next (Some y) leaves counts shards → AreHere geometry.props.metaslabs shards
   all_here shards are over = record { many = are.many; each = λ m shard there. here_is m shard are.perms (are.each m shard there) (over m shard there) }
 
-  below_here : (a : Option ℕ) (p k : ℕ) (u : Unread a p k) → AreHere u.m u.below
+  below_here : (a : Option ℕ) (p : ℕ) (k : RecordFaultKind) (u : Unread a p k) → AreHere u.m u.below
   below_here a p k u = record { many = u.many; each = λ m shard there. here_is m shard u.perms (u.each m shard there) (u.over m shard there) }
 
-  pub one_fault : (a b : Option ℕ) (p k q l : ℕ) → Unread a p k ⊎ Apart a p k → Unread b q l ⊎ Apart b q l → (a ≡ b) × (p ≡ q) × (k ≡ l)
+  pub one_fault : (a b : Option ℕ) (p : ℕ) (k : RecordFaultKind) (q : ℕ) (l : RecordFaultKind) → Unread a p k ⊎ Apart a p k → Unread b q l ⊎ Apart b q l → (a ≡ b) × (p ≡ q) × (k ≡ l)
   one_fault a b p k q l (inl u) (inl v) = elim (cases_lt u.m v.m) [
     | inl less ↦ absurd (not_refused v.m u.m v.below a p k (below_here b q l v) less u.unread)
     | inr past ↦ elim (cases_eq u.m v.m) [
@@ -378,7 +379,7 @@ module _ {R A : Type 0} (rack : racks.Ghosts R) (area : areas.Ghosts A) (geometr
   one_fault a b p k q l (inr u) (inr v) =
       one_apart geometry.props.metaslabs u.shards v.shards (all_here u.shards u.reopened u.over) (all_here v.shards v.reopened v.over) a b p k q l u.apart v.apart
 
-  pub no_fault : (shards : List (Shard R A)) (a : Option ℕ) (p k : ℕ) → AreReopened rack geometry group shards → OpensAllOver rack area (limit_of geometry) group next (Some y) leaves counts shards
+  pub no_fault : (shards : List (Shard R A)) (a : Option ℕ) (p : ℕ) (k : RecordFaultKind) → AreReopened rack geometry group shards → OpensAllOver rack area (limit_of geometry) group next (Some y) leaves counts shards
       → AreTogether shards (length shards) → Unread a p k ⊎ Apart a p k → ⊥
   no_fault shards a p k are over together (inl u) = not_refused geometry.props.metaslabs u.m shards a p k (all_here shards are over) u.inside u.unread
   no_fault shards a p k are over together (inr v) =
@@ -401,7 +402,7 @@ module _ {R A : Type 0} (rack : racks.Ghosts R) (area : areas.Ghosts A) (geometr
 -- ---- the law
 
 module _ {R A : Type 0} (rack : racks.Ghosts R) (area : areas.Ghosts A) (x : Held) (leaves : ℕ → Option Shape) (counts : ℕ → KitCounts) where
-  pub none_no_fault : (a : Option ℕ) (p k : ℕ) → HoldsNoGroup (Some x) → RecordIsBad rack area (Some x) leaves counts a p k → ⊥
+  pub none_no_fault : (a : Option ℕ) (p : ℕ) (k : RecordFaultKind) → HoldsNoGroup (Some x) → RecordIsBad rack area (Some x) leaves counts a p k → ⊥
   none_no_fault a p k none (inl bad) = none_chosen x.uber (Err (Bad p k)) none bad.bad
   none_no_fault a p k none (inr bad) = none_chosen x.uber (Ok bad.body.body) none bad.body.chosen
 
@@ -410,7 +411,7 @@ module _ {R A : Type 0} (rack : racks.Ghosts R) (area : areas.Ghosts A) (x : Hel
 
   module _ (known : KnowsLeaves x leaves) where
     -- what is said of one uberblock is said of the other
-    turns_bad : (u v : Uber A) (a : Option ℕ) (p k : ℕ) → IsSameUber u v
+    turns_bad : (u v : Uber A) (a : Option ℕ) (p : ℕ) (k : RecordFaultKind) → IsSameUber u v
         → OneIsUnread rack area (layout_of v) (group_of (kept_of v)) (next_leaf_of v) (takes_uber (Some x)) leaves counts a p k ⊎ AreReadApart rack area (layout_of v) (group_of (kept_of v)) (next_leaf_of v) (takes_uber (Some x)) leaves counts a p k
         → OneIsUnread rack area (layout_of u) (group_of (kept_of u)) (next_leaf_of u) (takes_uber (Some x)) leaves counts a p k ⊎ AreReadApart rack area (layout_of u) (group_of (kept_of u)) (next_leaf_of u) (takes_uber (Some x)) leaves counts a p k
     turns_bad u v a p k same bad =
@@ -418,14 +419,14 @@ module _ {R A : Type 0} (rack : racks.Ghosts R) (area : areas.Ghosts A) (x : Hel
         (subst (λ n. OneIsUnread rack area (layout_of v) n (next_leaf_of u) (takes_uber (Some x)) leaves counts a p k ⊎ AreReadApart rack area (layout_of v) n (next_leaf_of u) (takes_uber (Some x)) leaves counts a p k) same.group
         (subst (λ n. OneIsUnread rack area (layout_of v) (group_of (kept_of v)) n (takes_uber (Some x)) leaves counts a p k ⊎ AreReadApart rack area (layout_of v) (group_of (kept_of v)) n (takes_uber (Some x)) leaves counts a p k) same.next bad))
 
-    pub pool_no_fault : (group : ℕ) (name : List ℕ) (objects : ℕ) (a : Option ℕ) (p k : ℕ) → FindsPool rack area (Some x) leaves counts group name objects → RecordIsBad rack area (Some x) leaves counts a p k → ⊥
+    pub pool_no_fault : (group : ℕ) (name : List ℕ) (objects : ℕ) (a : Option ℕ) (p : ℕ) (k : RecordFaultKind) → FindsPool rack area (Some x) leaves counts group name objects → RecordIsBad rack area (Some x) leaves counts a p k → ⊥
     pool_no_fault group name objects a p k f (inl bad) = ok_err f.read.body.body (Bad p k) (one_chosen x.uber (Some (Ok f.read.body.body)) (Some (Err (Bad p k))) f.read.body.chosen bad.bad)
     pool_no_fault group name objects a p k f (inr bad) =
         let r = f.read in
         let same = one_uber area x f.uber bad.uber r.found bad.found r.body bad.body in
         no_fault rack area (layout_of f.uber) (group_of (kept_of f.uber)) (next_leaf_of f.uber) (puts_uber None x) leaves counts known f.shards a p k r.reopened r.over r.together (turns_bad f.uber bad.uber a p k same bad.bad)
 
-    pub same_fault : (a b : Option ℕ) (p k q l : ℕ) → RecordIsBad rack area (Some x) leaves counts a p k → RecordIsBad rack area (Some x) leaves counts b q l → (a ≡ b) × (p ≡ q) × (k ≡ l)
+    pub same_fault : (a b : Option ℕ) (p : ℕ) (k : RecordFaultKind) (q : ℕ) (l : RecordFaultKind) → RecordIsBad rack area (Some x) leaves counts a p k → RecordIsBad rack area (Some x) leaves counts b q l → (a ≡ b) × (p ≡ q) × (k ≡ l)
     same_fault a b p k q l (inl bad) (inl ill) =
         let same = bad_same p k q l (one_chosen x.uber (Some (Err (Bad p k))) (Some (Err (Bad q l))) bad.bad ill.bad) in
         (bad.metaslab_is ∙ sym ill.metaslab_is, same.0, same.1)

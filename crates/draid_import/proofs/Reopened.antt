@@ -1,5 +1,5 @@
 -- The tables of a metaslab that is opened fit together.
-use Rattle.std.proofs.Common.{◌≡◌, ◌==◌, ◌<◌, ◌≤◌, ◌+◌, ◌-◌, ◌*◌, ◌/◌, ◌%◌, ◌||◌, ◌&&◌, inl, inr, not, min, nat_le, nat_lt, ℕ, zero, suc, Bool, true, false, List, [], ◌∷◌, length, map, find, All, Option, Some, None, Ok, cond, refl, sym, ◌∙◌, ap, subst, arith, slice_get, slice_index_or, option_map, if◌then◌else◌}
+use Rattle.std.proofs.Common.{◌≡◌, ◌==◌, ◌<◌, ◌≤◌, ◌+◌, ◌-◌, ◌*◌, ◌/◌, ◌%◌, ◌||◌, ◌&&◌, inl, inr, not, min, nat_le, nat_lt, ℕ, zero, suc, Bool, true, false, List, [], ◌∷◌, length, map, find, All, Option, Some, None, Ok, cond, refl, sym, ◌∙◌, ap, subst, arith, slice_get, slice_index_or, option_map, if◌then◌else◌, eqb-true, eq-eqb}
 use Rattle.std.proofs.Math.Nat.{mod-lt}
 use Rattle.std.proofs.lemmas.Nat.{div-mul-add}
 use Rattle.std.specs.List.{list_any}
@@ -71,15 +71,6 @@ same_stripes geometry metaslab group next len is =
     let sectors = up len geometry.props.sector sound.some_sector in
     sym (ap (λ n. n / geometry.spec.ndata + min 1 (n % geometry.spec.ndata)) sectors ∙ up ((len + geometry.props.sector - 1) / geometry.props.sector) geometry.spec.ndata sound.some_data)
 
-same_number : (a b : ℕ) → (a == b) ≡ true → a ≡ b
-same_number a b is = grind (arith, nat_tests)
-
-not_same : (a b : ℕ) → (a == b) ≡ false → a ≡ b → ⊥
-not_same a b is e = grind (arith, nat_tests, is, e)
-
-itself : (n : ℕ) → (n == n) ≡ true
-itself n = grind (arith, nat_tests)
-
 other : (a b : ℕ) → b < a → (a == b) ≡ false
 other a b less = grind (arith, nat_tests)
 
@@ -91,7 +82,7 @@ from_low limits low k [] b are found = absurd (cc)
 from_low limits low k (c ∷ rest) b are found = by (k == c.first) refl found (from_low limits (c.first + c.stripes) k rest b are.1)
   where
     by : (t : Bool) → (k == c.first) ≡ t → cond t (Some c) (find (begins_at k) rest) ≡ Some b → (find (begins_at k) rest ≡ Some b → c.first + c.stripes ≤ k) → low ≤ k
-    by true is e more = let same = same_number k c.first is in let behind = are.0.behind_low in omega (arith, same, behind)
+    by true is e more = let same = eqb-true k c.first is in let behind = are.0.behind_low in omega (arith, same, behind)
     by false is e more = let above = more e in let behind = are.0.behind_low in omega (arith, above, behind)
 
 -- two that begin at different stripes lie apart
@@ -106,20 +97,20 @@ apart_blocks limits low j k (c ∷ rest) a b are one two less =
 
     by : (s t : Bool) → (j == c.first) ≡ s → (k == c.first) ≡ t → cond s (Some c) (find (begins_at j) rest) ≡ Some a → cond t (Some c) (find (begins_at k) rest) ≡ Some b
         → (find (begins_at j) rest ≡ Some a → find (begins_at k) rest ≡ Some b → j + a.stripes ≤ k) → j + a.stripes ≤ k
-    by true true at also e f more = let x = same_number j c.first at in let y = same_number k c.first also in absurd (omega (arith, less, x, y))
+    by true true at also e f more = let x = eqb-true j c.first at in let y = eqb-true k c.first also in absurd (omega (arith, less, x, y))
     by true false at also e f more =
-        let x = same_number j c.first at in
+        let x = eqb-true j c.first at in
         let y = above k b f in
         let own : c.stripes ≡ a.stripes = ap (λ (p : Pointer). p.stripes) (some_injective c a e) in
         omega (arith, x, y, own)
-    by false true at also e f more = let y = same_number k c.first also in let x = above j a e in absurd (omega (arith, less, x, y))
+    by false true at also e f more = let y = eqb-true k c.first also in let x = above j a e in absurd (omega (arith, less, x, y))
     by false false at also e f more = more e f
 
 -- a block of the list is the one that is found at its first stripe
 pub found_block : (limits : Limits) (low k : ℕ) (blocks : List Pointer) (d : Pointer) → AreBlocks limits low blocks → k < length blocks
     → find (begins_at (slice_index_or blocks k d).first) blocks ≡ Some (slice_index_or blocks k d)
 found_block limits low k [] d are less = absurd (omega (arith, less))
-found_block limits low zero (c ∷ rest) d are less = ap (λ t. cond t (Some c) (find (begins_at c.first) rest)) (itself c.first)
+found_block limits low zero (c ∷ rest) d are less = ap (λ t. cond t (Some c) (find (begins_at c.first) rest)) (eq-eqb c.first c.first refl)
 found_block limits low (suc k) (c ∷ rest) d are less =
     let b : Pointer = slice_index_or rest k d in
     let more = found_block limits (c.first + c.stripes) k rest d are.1 (omega (arith, less)) in
@@ -186,7 +177,7 @@ module _ (geometry : Geometry) (metaslab group next : ℕ) (blocks : List Pointe
       by None found at = absurd (cc)
       by (Some b) found at =
           let place = found_at (begins_at first) blocks b found in
-          record { block = b; found = found; is_it = sym (some_injective (staged Live b) e at); first_is = sym (same_number first b.first place.2); place = place.0; there = place.1 }
+          record { block = b; found = found; is_it = sym (some_injective (staged Live b) e at); first_is = sym (eqb-true first b.first place.2); place = place.0; there = place.1 }
 
   block_fits : (low : ℕ) (b : Pointer) → IsBlock (limits_of geometry metaslab group next) low b → fits.IsBlock geometry (group + 1) b
   block_fits from b block = record {
@@ -196,7 +187,7 @@ module _ (geometry : Geometry) (metaslab group next : ℕ) (blocks : List Pointe
     digest_len = block.digest_len;
     some = block.some_len;
     short = block.most_len;
-    stripes = same_number b.stripes (spec.stripes_of (limits_of geometry metaslab group next) b.len) block.whole ∙ same_stripes geometry metaslab group next b.len is;
+    stripes = eqb-true b.stripes (spec.stripes_of (limits_of geometry metaslab group next) b.len) block.whole ∙ same_stripes geometry metaslab group next b.len is;
     born = (let most = block.most_birth in omega (arith, most));
     low = (let most = block.most_birth in omega (arith, most, low));
   }

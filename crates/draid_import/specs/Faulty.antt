@@ -1,5 +1,6 @@
 -- Which record of what a shelf holds has a fault, where an import is refused for one.
 use Rattle.std.specs.Prelude.{◌≡◌, ◌<◌, ◌⊎◌, ℕ, List, Option, Some, None, Ok, Err, IsSomeAnd, length, slice_get}
+use Rattle.draid_record.specs.declared.fault.RecordFaultKind.{RecordFaultKind}
 use Rattle.draid_rack.specs.Rack.{Shape}
 use Rattle.draid_rack.specs.declared.Rack as racks
 use Rattle.draid_area.specs.Area.{OnTold}
@@ -39,14 +40,14 @@ pub record TellsBody {A : Type 0} (held : Option Held) (uber : Uber A) : Type 0 
   pub next_leaf : next_leaf_of uber ≡ body.next_leaf
 
 -- the uberblock that the shelf holds has this fault, the first of the slot that counts
-pub record UberIsBad (held : Option Held) (metaslab : Option ℕ) (place kind : ℕ) : Type 0 where
+pub record UberIsBad (held : Option Held) (metaslab : Option ℕ) (place : ℕ) (kind : RecordFaultKind) : Type 0 where
   pub metaslab_is : metaslab ≡ None
   pub bad : OnHeld held (λ x. IsSomeAnd x.uber (λ c. chosen_of c.bytes ≡ Some (Err (Bad place kind))))
 
 -- ---- records
 
 -- a metaslab's record of a group has it first, on the devices that the shelf held for the metaslab
-pub record IsUnread {R A : Type 0} (rack : racks.Ghosts R) (area : areas.Ghosts A) (geometry : Geometry) (group next m : ℕ) (held : Option Held) (known : Option Shape) (counts : KitCounts) (metaslab : Option ℕ) (place kind : ℕ) : Type 0 where
+pub record IsUnread {R A : Type 0} (rack : racks.Ghosts R) (area : areas.Ghosts A) (geometry : Geometry) (group next m : ℕ) (held : Option Held) (known : Option Shape) (counts : KitCounts) (metaslab : Option ℕ) (place : ℕ) (kind : RecordFaultKind) : Type 0 where
   pub metaslab_is : metaslab ≡ Some m
   pub kit : Kit R A
   pub taken : IsKitOf rack area m held known counts kit
@@ -56,7 +57,7 @@ pub record IsUnread {R A : Type 0} (rack : racks.Ghosts R) (area : areas.Ghosts 
 
 -- so that of one of the metaslabs, and those below it were opened from theirs
 pub record OneIsUnread {R A : Type 0} (rack : racks.Ghosts R) (area : areas.Ghosts A) (geometry : Geometry) (group next : ℕ) (held : Option Held) (leaves : ℕ → Option Shape) (counts : ℕ → KitCounts)
-    (metaslab : Option ℕ) (place kind : ℕ) : Type 0 where
+    (metaslab : Option ℕ) (place : ℕ) (kind : RecordFaultKind) : Type 0 where
   pub m : ℕ
   pub inside : m < geometry.props.metaslabs
   pub unread : IsUnread rack area geometry group next m held (leaves m) (counts m) metaslab place kind
@@ -68,14 +69,14 @@ pub record OneIsUnread {R A : Type 0} (rack : racks.Ghosts R) (area : areas.Ghos
   pub over : OpensAllOver rack area (limit_of geometry) group next held leaves counts below
 
 -- all records were read, and aren't those of one pool: this is the first fault
-pub record AreReadApart {R A : Type 0} (rack : racks.Ghosts R) (area : areas.Ghosts A) (geometry : Geometry) (group next : ℕ) (held : Option Held) (leaves : ℕ → Option Shape) (counts : ℕ → KitCounts) (metaslab : Option ℕ) (place kind : ℕ) : Type 0 where
+pub record AreReadApart {R A : Type 0} (rack : racks.Ghosts R) (area : areas.Ghosts A) (geometry : Geometry) (group next : ℕ) (held : Option Held) (leaves : ℕ → Option Shape) (counts : ℕ → KitCounts) (metaslab : Option ℕ) (place : ℕ) (kind : RecordFaultKind) : Type 0 where
   pub shards : List (Shard R A)
   pub reopened : AreReopened rack geometry group shards
   pub over : OpensAllOver rack area (limit_of geometry) group next held leaves counts shards
   pub apart : AreApart shards metaslab place kind
 
 -- an uberblock was found, and a record of the group that it names has the fault
-pub record ShardIsBad {R A : Type 0} (rack : racks.Ghosts R) (area : areas.Ghosts A) (held : Option Held) (leaves : ℕ → Option Shape) (counts : ℕ → KitCounts) (metaslab : Option ℕ) (place kind : ℕ) : Type 0 where
+pub record ShardIsBad {R A : Type 0} (rack : racks.Ghosts R) (area : areas.Ghosts A) (held : Option Held) (leaves : ℕ → Option Shape) (counts : ℕ → KitCounts) (metaslab : Option ℕ) (place : ℕ) (kind : RecordFaultKind) : Type 0 where
   pub uber : Uber A
   pub found : IsFoundUber area uber
   pub body : TellsBody held uber
@@ -83,5 +84,5 @@ pub record ShardIsBad {R A : Type 0} (rack : racks.Ghosts R) (area : areas.Ghost
       ⊎ AreReadApart rack area (layout_of uber) (group_of (kept_of uber)) (next_leaf_of uber) (takes_uber held) leaves counts metaslab place kind
 
 -- which record has it: it is the first fault that an import looks for
-abbrev pub RecordIsBad : {R A : Type 0} → racks.Ghosts R → areas.Ghosts A → Option Held → (ℕ → Option Shape) → (ℕ → KitCounts) → Option ℕ → (place kind : ℕ) → Type 0
+abbrev pub RecordIsBad : {R A : Type 0} → racks.Ghosts R → areas.Ghosts A → Option Held → (ℕ → Option Shape) → (ℕ → KitCounts) → Option ℕ → ℕ → RecordFaultKind → Type 0
 RecordIsBad rack area held leaves counts metaslab place kind = UberIsBad held metaslab place kind ⊎ ShardIsBad rack area held leaves counts metaslab place kind

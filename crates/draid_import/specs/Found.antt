@@ -1,5 +1,6 @@
 -- The metaslabs that an import opens, and the blocks that it finds there.
 use Rattle.std.specs.Prelude.{◌≡◌, ◌<◌, ◌≤◌, ◌+◌, ◌⊎◌, ⊤, ℕ, true, List, Option, Some, None, Ok, IsErrOf, IsSome, IsSomeAnd, MatchOption, Result, [], length, option_map, slice_get, slice_set}
+use Rattle.draid_record.specs.declared.fault.RecordFaultKind.{RecordFaultKind}
 use Rattle.draid_names.specs.Faults.{Rose}
 use Rattle.draid_names.specs.declared.fault.DeviceFault.{DeviceFault}
 use Rattle.draid_names.specs.declared.fault.DeviceFault.TheVariants as device
@@ -170,7 +171,7 @@ IsShardFault fault.NoMemory = ⊤
 
 -- the answer isn't that a record has a fault
 abbrev pub NoRecord : {T : Type 0} → Result T ImportFault → Type 0
-NoRecord result = (metaslab : Option ℕ) (place kind : ℕ) → IsErrOf result (fault.Record metaslab place kind) → ⊥
+NoRecord result = (metaslab : Option ℕ) (place : ℕ) (kind : RecordFaultKind) → IsErrOf result (fault.Record metaslab place kind) → ⊥
 
 -- ---- the uberblock
 

@@ -1,5 +1,6 @@
 use draid_area::Area;
 use draid_rack::Rack;
+use draid_record::RecordFaultKind;
 use draid_shelf::Kit;
 
 /// Why no pool was imported.
@@ -7,11 +8,11 @@ use draid_shelf::Kit;
 pub enum ImportFault {
     /// The shelf has no pool, or no gate of its uberblock is open.
     NoPool,
-    /// The first field of a record that is out of its range begins at byte `at`: of a metaslab's record, or of the uberblock's slot.
+    /// What has the first fault begins at byte `at`: of a metaslab's record, or of the uberblock's slot.
     Record {
         metaslab: Option<u32>,
         at: u64,
-        kind: u8,
+        kind: RecordFaultKind,
     },
     /// The shelf failed.
     Shelf,
@@ -30,9 +31,8 @@ pub struct OpenRefused<R: Rack, A: Area> {
 pub enum OpenFault {
     /// A call on the area of the group's record failed.
     Area,
-    /// The first fault of the record, at this byte: a field that is cut (kind 1) or out of its range (kind 2), bytes
-    /// behind the last field (kind 3); else the number of a leaf arm that the rack doesn't have with the metaslab's
-    /// sectors (kind 6); else a block whose object and seq a block before it has (kind 5).
-    Record { at: u64, kind: u8 },
+    /// The first fault of the record, at this byte: that of a field, or bytes behind the last one; else the number of a leaf
+    /// arm that the rack doesn't have with the metaslab's sectors; else a block whose object and seq a block before it has.
+    Record { at: u64, kind: RecordFaultKind },
     NoMemory,
 }

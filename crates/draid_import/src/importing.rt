@@ -2,6 +2,7 @@
 //! record of the group that it names, and of each object the block with the greatest number counts.
 ghost use Rattle.std.specs.Prelude.{◌≡◌, ◌<◌, ◌≤◌, ◌+◌, ◌⊎◌, ◌↔◌, ℕ, None, Some, Err, IfErr, IfOk, IsErrOf, IsSome, IsSomeAnd, IsTrue, OnErr, OnOk, is_some, length, nat_eq, slice_get, Option};
 ghost use Rattle.std.specs.HashMap.{get};
+ghost use Rattle.draid_record.specs.declared.fault.RecordFaultKind.{RecordFaultKind};
 ghost use Rattle.draid_names.specs.Faults.{Rose};
 ghost use Rattle.draid_names.specs.declared.numbers.TheConstants.{LAST_NUMBER};
 ghost use Rattle.draid_area.specs.Area.{IsOfSize, OnTold};
@@ -106,7 +107,7 @@ fn find_uber<H: Shelf>(shelf: &mut H) -> Result<Uber<H::A>, ImportFault>
         → RestsThere x pieces (H.told shelf.old) (H.leaves shelf.old) (H.counts shelf.old) (H.uber_count shelf.old)
         → IfErr result (λ why. ImportIs H.R.Rack H.A.Area x pieces (H.told shelf.new) (H.leaves shelf.new) (H.counts shelf.new) (H.uber_count shelf.new) (Err why)) }
     ensures leaves { (m : ℕ) → H.leaves shelf.new m ≡ H.leaves shelf.old m }
-    ensures faulty { (metaslab : Option ℕ) (place kind : ℕ) → IsErrOf result (ImportFault.Record metaslab place kind) → UberIsBad (H.told shelf.old) metaslab place kind }
+    ensures faulty { (metaslab : Option ℕ) (place : ℕ) (kind : RecordFaultKind) → IsErrOf result (ImportFault.Record metaslab place kind) → UberIsBad (H.told shelf.old) metaslab place kind }
     ensures none { OnHeld (H.told shelf.old) (λ held. held.uber ≡ None → IsErrOf result ImportFault.NoPool
         × IsAsBefore (H.told shelf.old) (H.told shelf.new) (H.counts shelf.old) (H.counts shelf.new)
         (record { uber = H.uber_count shelf.old; checks = H.check_counts shelf.old })
@@ -158,7 +159,7 @@ fn reopen_shard<H: Shelf>(
     ensures leaves { SameOthers number (H.leaves shelf.old) (H.leaves shelf.new) }
     ensures known { OnErr result (KeepsKnown (H.leaves shelf.old number) (H.leaves shelf.new number)) }
     ensures fault { IfErr result IsShardFault }
-    ensures faulty { (metaslab : Option ℕ) (place kind : ℕ) → IsErrOf result (ImportFault.Record metaslab place kind)
+    ensures faulty { (metaslab : Option ℕ) (place : ℕ) (kind : RecordFaultKind) → IsErrOf result (ImportFault.Record metaslab place kind)
         → IsUnread H.R.Rack H.A.Area (layout_of uber.now) (group_of (kept_of uber.now)) (next_leaf_of uber.now) number (H.told shelf.old) (H.leaves shelf.old number) (H.counts shelf.old number) metaslab place kind }
     // No record of a pool that rests on a shelf has a fault.
     ensures opens { (x : State) (pieces : ℕ → Pieces) (held : Option Held) (leaves : ℕ → Option Shape) (counts : ℕ → KitCounts) (count : ℕ)
@@ -211,7 +212,7 @@ fn reopen_shards<H: Shelf>(
     ensures left { OnOk result ((m : ℕ) → (layout_of uber.now).props.metaslabs ≤ m → (H.counts shelf.new m ≡ H.counts shelf.old m) × (H.leaves shelf.new m ≡ H.leaves shelf.old m)) }
     ensures back { OnErr result (LeavesShards H.R.Rack H.A.Area (layout_of uber.now) (group_of (kept_of uber.now)) (next_leaf_of uber.now) (H.told shelf.old) (H.told shelf.new) (H.counts shelf.old) (H.counts shelf.new)
         (H.leaves shelf.old) (H.leaves shelf.new)) }
-    ensures faulty { (metaslab : Option ℕ) (place kind : ℕ) → IsErrOf result (ImportFault.Record metaslab place kind)
+    ensures faulty { (metaslab : Option ℕ) (place : ℕ) (kind : RecordFaultKind) → IsErrOf result (ImportFault.Record metaslab place kind)
         → OneIsUnread H.R.Rack H.A.Area (layout_of uber.now) (group_of (kept_of uber.now)) (next_leaf_of uber.now) (H.told shelf.old) (H.leaves shelf.old) (H.counts shelf.old) metaslab place kind }
     ensures fault { IfErr result IsShardFault }
     ensures held { SameChecks (H.told shelf.old) (H.told shelf.new) }
@@ -244,7 +245,7 @@ fn find_blocks<R: Rack, A: Area>(
     requires ready { AreReady R.Rack shards.now }
     ensures found { IfOk result (λ found. AreFound shards.now (get nat_eq found.newest) found.seq) }
     ensures together { OnOk result (AreTogether shards.now (length shards.now)) }
-    ensures faulty { (metaslab : Option ℕ) (place kind : ℕ) → IsErrOf result (ImportFault.Record metaslab place kind) → AreApart shards.now metaslab place kind }
+    ensures faulty { (metaslab : Option ℕ) (place : ℕ) (kind : RecordFaultKind) → IsErrOf result (ImportFault.Record metaslab place kind) → AreApart shards.now metaslab place kind }
     ensures no_device { IsErrOf result ImportFault.Shelf → ⊥ }
     ensures fault { IfErr result IsShardFault }
 {
@@ -372,7 +373,7 @@ pub fn import<H: Shelf>(alloc: Global, shelf: &mut H) -> Result<Pool<H::R, H::A>
     // The answer by what the shelf held: the pool that was read, no group, or the first fault.
     ensures read { IfOk result (IsReadPool H.R.Rack H.A.Area (H.told shelf.old) (H.leaves shelf.old) (H.counts shelf.old) (H.uber_count shelf.old)) }
     ensures empty { IsErrOf result ImportFault.NoPool → HoldsNoGroup (H.told shelf.old) }
-    ensures faulty { (metaslab : Option ℕ) (place kind : ℕ) → IsErrOf result (ImportFault.Record metaslab place kind)
+    ensures faulty { (metaslab : Option ℕ) (place : ℕ) (kind : RecordFaultKind) → IsErrOf result (ImportFault.Record metaslab place kind)
         → RecordIsBad H.R.Rack H.A.Area (H.told shelf.old) (H.leaves shelf.old) (H.counts shelf.old) metaslab place kind }
     ensures back { OnErr result (LeavesAll H.A.Area (H.told shelf.old) (H.told shelf.new) (H.counts shelf.old) (H.counts shelf.new) (H.uber_count shelf.old) (H.uber_count shelf.new)) }
     ensures tells { OnOk result (is_some (H.told shelf.new) ≡ is_some (H.told shelf.old)) }

@@ -1,4 +1,5 @@
 ghost use Rattle.std.specs.Prelude.{◌≡◌, ℕ, List, Option, Some};
+ghost use Rattle.draid_record.specs.declared.fault.RecordFaultKind.{RecordFaultKind};
 ghost use Rattle.draid_rack.specs.Rack.{Shape};
 ghost use Rattle.draid_shelf.specs.Kits.{Held, KitCounts};
 ghost use Rattle.draid_import.specs.Faulty.{HoldsNoGroup, RecordIsBad};
@@ -12,7 +13,7 @@ use draid_rack::Rack;
 pub fn finds_the_same_before_a_flush<R: Rack, A: Area>()
     ensures none { (x y : Held) → SameButFlushed x y → HoldsNoGroup (Some y) → HoldsNoGroup (Some x) }
     ensures fault { (x y : Held) (leaves : ℕ → Option Shape) (counts : ℕ → KitCounts) (metaslab : Option ℕ)
-        (place kind : ℕ) → SameButFlushed x y → RecordIsBad R.Rack A.Area (Some y) leaves counts metaslab place kind
+        (place : ℕ) (kind : RecordFaultKind) → SameButFlushed x y → RecordIsBad R.Rack A.Area (Some y) leaves counts metaslab place kind
         → RecordIsBad R.Rack A.Area (Some x) leaves counts metaslab place kind }
     ensures pool { (x y : Held) (leaves : ℕ → Option Shape) (counts : ℕ → KitCounts) (group : ℕ) (name : List ℕ)
         (objects : ℕ) → SameButFlushed x y → FindsPool R.Rack A.Area (Some y) leaves counts group name objects
@@ -23,17 +24,17 @@ pub fn finds_the_same_before_a_flush<R: Rack, A: Area>()
 /// pool.
 pub fn imports_find_one_thing<R: Rack, A: Area>()
     ensures none_no_fault { (x : Held) (leaves : ℕ → Option Shape) (counts : ℕ → KitCounts) (metaslab : Option ℕ)
-        (place kind : ℕ) → HoldsNoGroup (Some x)
+        (place : ℕ) (kind : RecordFaultKind) → HoldsNoGroup (Some x)
         → RecordIsBad R.Rack A.Area (Some x) leaves counts metaslab place kind → ⊥ }
     ensures none_no_pool { (x : Held) (leaves : ℕ → Option Shape) (counts : ℕ → KitCounts) (group : ℕ)
         (name : List ℕ) (objects : ℕ) → HoldsNoGroup (Some x)
         → FindsPool R.Rack A.Area (Some x) leaves counts group name objects → ⊥ }
     ensures pool_no_fault { (x : Held) (leaves : ℕ → Option Shape) (counts : ℕ → KitCounts) (group : ℕ)
-        (name : List ℕ) (objects : ℕ) (metaslab : Option ℕ) (place kind : ℕ) → KnowsLeaves x leaves
+        (name : List ℕ) (objects : ℕ) (metaslab : Option ℕ) (place : ℕ) (kind : RecordFaultKind) → KnowsLeaves x leaves
         → FindsPool R.Rack A.Area (Some x) leaves counts group name objects
         → RecordIsBad R.Rack A.Area (Some x) leaves counts metaslab place kind → ⊥ }
     ensures one_fault { (x : Held) (leaves : ℕ → Option Shape) (counts : ℕ → KitCounts) (metaslab also : Option ℕ)
-        (place kind at which : ℕ) → KnowsLeaves x leaves
+        (place : ℕ) (kind : RecordFaultKind) (at : ℕ) (which : RecordFaultKind) → KnowsLeaves x leaves
         → RecordIsBad R.Rack A.Area (Some x) leaves counts metaslab place kind
         → RecordIsBad R.Rack A.Area (Some x) leaves counts also at which
         → (metaslab ≡ also) × (place ≡ at) × (kind ≡ which) }

@@ -1,5 +1,5 @@
 -- What is written is read again, and what a slot spells is in its ranges.
-use Rattle.std.proofs.Common.{arith, ◌≡◌, ◌≤◌, ◌%◌, ◌⊎◌, ℕ, true, List, ◌++◌, length, Ok, ap, subst, sym, ◌∙◌}
+use Rattle.std.proofs.Common.{arith, ◌≡◌, ◌≤◌, ◌%◌, ◌⊎◌, ℕ, true, List, ◌++◌, length, Ok, ap, subst, sym, ◌∙◌, eqb-true, leb-true}
 use Rattle.std.specs.Prelude.{◌==◌, ◌||◌, nat_le}
 use Rattle.std.proofs.lemmas.Bool.Decides.{nat_tests}
 use Rattle.draid_spec.specs.Geometry.{IsVersion}
@@ -29,12 +29,6 @@ children_are v n most = (grind (arith, nat_tests), λ one. grind (arith, nat_tes
 
 sector_is : (n : ℕ) → (n == 512 || n == 4096) ≡ true → (n ≡ 512) ⊎ (n ≡ 4096)
 sector_is n is = grind (arith, nat_tests)
-
-test_le : (a b : ℕ) → nat_le a b ≡ true → a ≤ b
-test_le a b is = grind (arith, nat_tests)
-
-test_same : (a b : ℕ) → (a == b) ≡ true → a ≡ b
-test_same a b is = grind (arith, nat_tests)
 
 -- gate, magic, version, group, parity of the group, parity, data, children, spares, width, sector, its test, height, its
 -- test, metaslabs, slices, layout, seed, next leaf
@@ -73,7 +67,7 @@ uber_ranges slot body bytes is =
         first_children = few.1;
         most_spares = spares.5;
       };
-      wide = test_le _ _ spares.6.0;
+      wide = leb-true _ _ spares.6.0;
       props_are = record {
         sector = sector_is sector.0 sector.6.0;
         power = height.6.0;
@@ -96,4 +90,4 @@ unfolding Spells uber
 uber_slot slot body bytes is =
     let group = is.6.6.6 in
     let leaf = group.6.1.6.6.6.6.1.6.1.6.1.6.6.1.6 in
-    ap (λ (b : UberBody). b.group % 2) leaf.6.1 ∙ test_same (group.0 % 2) slot group.6.0
+    ap (λ (b : UberBody). b.group % 2) leaf.6.1 ∙ eqb-true (group.0 % 2) slot group.6.0

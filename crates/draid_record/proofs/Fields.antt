@@ -1,5 +1,5 @@
 -- What a reader reads of one field.
-use Rattle.std.proofs.Common.{◌≡◌, ◌≤◌, ◌<◌, ◌+◌, ℕ, Bool, true, false, Option, Some, None, List, length, take, drop, Result, Ok, Err, inl, inr, refl, sym, ap, ◌∙◌, arith}
+use Rattle.std.proofs.Common.{◌≡◌, ◌≤◌, ◌<◌, ◌+◌, ℕ, Bool, true, false, Option, Some, None, List, length, take, drop, Result, Ok, Err, inl, inr, refl, sym, ap, ◌∙◌, arith, lt-ltb, le-ltb}
 use Rattle.std.specs.Prelude.{◌&&◌, ◌⊎◌, is_some, nat_le, nat_lt, if◌then◌else◌}
 use Rattle.std.proofs.lemmas.Bool.{false≢true}
 use Rattle.std.proofs.lemmas.Bool.Decides.{nat_tests}
@@ -27,12 +27,6 @@ found_by true fits n left rest is fit = absurd (false≢true (sym is))
 found_by false true n left rest is fit = refl
 found_by false false n left rest is fit = absurd (false≢true fit)
 
-is_short : (a b : ℕ) → a < b → nat_lt a b ≡ true
-is_short a b l = grind (arith, nat_tests)
-
-is_long : (a b : ℕ) → b ≤ a → nat_lt a b ≡ false
-is_long a b l = grind (arith, nat_tests)
-
 is_out : (n low high : ℕ) → (n < low) ⊎ ((low ≤ n) × (high < n)) → (nat_le low n && nat_le n high) ≡ false
 is_out n low high (inl l) = grind (arith, nat_tests)
 is_out n low high (inr (_, l)) = grind (arith, nat_tests)
@@ -43,7 +37,7 @@ is_in n low high a b = grind (arith, nat_tests)
 pub number_cut : (width low high : ℕ) (fault : Option Fault) (bytes : List ℕ) → is_some fault ≡ false → length bytes < width → Reads (state_by fault bytes) (Err (cut (length bytes))) 0 (number width low high)
 unfolding read
 number_cut width low high None bytes ok short =
-    let is : number_at width low high bytes ≡ Err (cut (length bytes)) = cut_by (nat_lt (length bytes) width) (nat_le low (big_number width bytes) && nat_le (big_number width bytes) high) (big_number width bytes) (length bytes) (drop width bytes) (is_short _ _ short) in
+    let is : number_at width low high bytes ≡ Err (cut (length bytes)) = cut_by (nat_lt (length bytes) width) (nat_le low (big_number width bytes) && nat_le (big_number width bytes) high) (big_number width bytes) (length bytes) (drop width bytes) (lt-ltb _ _ short) in
     record { is = ap (λ (r : Result (ℕ × List ℕ) Fault). then_read r (λ n. Ok n)) is }
 number_cut width low high (Some f) bytes ok short = absurd (false≢true (sym ok))
 
@@ -52,7 +46,7 @@ pub number_out : (width low high n : ℕ) (fault : Option Fault) (bytes : List �
 unfolding read
 number_out width low high n None bytes ok long n_is out =
     let fits : (nat_le low (big_number width bytes) && nat_le (big_number width bytes) high) ≡ false = rw (← n_is) (is_out n low high out) in
-    let is : number_at width low high bytes ≡ Err (range (length bytes)) = range_by (nat_lt (length bytes) width) (nat_le low (big_number width bytes) && nat_le (big_number width bytes) high) (big_number width bytes) (length bytes) (drop width bytes) (is_long _ _ long) fits in
+    let is : number_at width low high bytes ≡ Err (range (length bytes)) = range_by (nat_lt (length bytes) width) (nat_le low (big_number width bytes) && nat_le (big_number width bytes) high) (big_number width bytes) (length bytes) (drop width bytes) (le-ltb _ _ long) fits in
     record { is = ap (λ (r : Result (ℕ × List ℕ) Fault). then_read r (λ n. Ok n)) is }
 number_out width low high n (Some f) bytes ok long n_is out = absurd (false≢true (sym ok))
 
@@ -61,7 +55,7 @@ pub number_found : (width low high n : ℕ) (fault : Option Fault) (bytes rest :
 unfolding read
 number_found width low high n None bytes rest ok long n_is above below rest_is =
     let fits : (nat_le low (big_number width bytes) && nat_le (big_number width bytes) high) ≡ true = rw (← n_is) (is_in n low high above below) in
-    let is : number_at width low high bytes ≡ Ok (big_number width bytes, drop width bytes) = found_by (nat_lt (length bytes) width) (nat_le low (big_number width bytes) && nat_le (big_number width bytes) high) (big_number width bytes) (length bytes) (drop width bytes) (is_long _ _ long) fits in
+    let is : number_at width low high bytes ≡ Ok (big_number width bytes, drop width bytes) = found_by (nat_lt (length bytes) width) (nat_le low (big_number width bytes) && nat_le (big_number width bytes) high) (big_number width bytes) (length bytes) (drop width bytes) (le-ltb _ _ long) fits in
     record { is = ap (λ (r : Result (ℕ × List ℕ) Fault). then_read r (λ n. Ok n)) is ∙ ap (λ m. Ok (m, drop width bytes)) (sym n_is) ∙ ap (λ rest. Ok (n, rest)) (sym rest_is) }
 number_found width low high n (Some f) bytes rest ok long n_is above below rest_is = absurd (false≢true (sym ok))
 
@@ -79,7 +73,7 @@ whole_by false left text rest is = refl
 pub text_cut : (width : ℕ) (fault : Option Fault) (bytes value : List ℕ) → is_some fault ≡ false → length bytes < width → Reads (state_by fault bytes) (Err (cut (length bytes))) value (text width)
 unfolding read
 text_cut width None bytes value ok short =
-    let is : bytes_at width bytes ≡ Err (cut (length bytes)) = text_by (nat_lt (length bytes) width) (length bytes) (take width bytes) (drop width bytes) (is_short _ _ short) in
+    let is : bytes_at width bytes ≡ Err (cut (length bytes)) = text_by (nat_lt (length bytes) width) (length bytes) (take width bytes) (drop width bytes) (lt-ltb _ _ short) in
     record { is = ap (λ (r : Result (List ℕ × List ℕ) Fault). then_read r (λ n. Ok n)) is }
 text_cut width (Some f) bytes value ok short = absurd (false≢true (sym ok))
 
@@ -87,7 +81,7 @@ pub text_found : (width : ℕ) (fault : Option Fault) (bytes value rest : List �
     → Reads (state_by fault bytes) (state_by fault rest) value (text width)
 unfolding read
 text_found width None bytes value rest ok long value_is rest_is =
-    let is : bytes_at width bytes ≡ Ok (take width bytes, drop width bytes) = whole_by (nat_lt (length bytes) width) (length bytes) (take width bytes) (drop width bytes) (is_long _ _ long) in
+    let is : bytes_at width bytes ≡ Ok (take width bytes, drop width bytes) = whole_by (nat_lt (length bytes) width) (length bytes) (take width bytes) (drop width bytes) (le-ltb _ _ long) in
     record { is = ap (λ (r : Result (List ℕ × List ℕ) Fault). then_read r (λ n. Ok n)) is ∙ ap (λ (v : List ℕ). Ok (v, drop width bytes)) (sym value_is) ∙ ap (λ (rest : List ℕ). Ok (value, rest)) (sym rest_is) }
 text_found width (Some f) bytes value rest ok long value_is rest_is = absurd (false≢true (sym ok))
 

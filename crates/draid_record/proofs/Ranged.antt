@@ -1,5 +1,5 @@
 -- What is in its ranges is spelled.
-use Rattle.std.proofs.Common.{◌≡◌, ℕ, suc, ◌+◌, ◌-◌, ◌*◌, ◌/◌, ◌%◌, ◌^◌, ◌<◌, ◌≤◌, Bool, true, false, List, [], ◌∷◌, ◌++◌, length, Option, Some, None, refl, sym, ap, ap₂, subst, ◌∙◌, append_assoc, arith}
+use Rattle.std.proofs.Common.{◌≡◌, ℕ, suc, ◌+◌, ◌-◌, ◌*◌, ◌/◌, ◌%◌, ◌^◌, ◌<◌, ◌≤◌, Bool, true, false, List, [], ◌∷◌, ◌++◌, length, Option, Some, None, refl, sym, ap, ap₂, subst, ◌∙◌, append_assoc, arith, eq-eqb}
 use Rattle.std.specs.Prelude.{◌==◌, ◌&&◌, ⊤, cond, not, nat_lt}
 use Rattle.std.specs.List.{flat_map}
 use Rattle.std.proofs.lemmas.Bool.Decides.{nat_tests}
@@ -277,12 +277,9 @@ unfolding Spells
 spaces_spelled runs few are =
     (length runs, flat_map space_bytes runs, refl, few, omega arith, omega arith, many_spelled spec.space_run spec.same_state space_bytes 0 runs (space_spelled runs are))
 
-same_number : (n : ℕ) → (n == n) ≡ true
-same_number n = grind (arith, nat_tests)
-
 same_self : (runs : List Run) → spec.same_runs runs runs ≡ true
 same_self [] = refl
-same_self (r ∷ rs) = ap₂ (λ a b. (a && b) && spec.same_runs rs rs) (same_number r.first) (same_number r.len) ∙ same_self rs
+same_self (r ∷ rs) = ap₂ (λ a b. (a && b) && spec.same_runs rs rs) (eq-eqb r.first r.first refl) (eq-eqb r.len r.len refl) ∙ same_self rs
 
 -- ---- the pass
 

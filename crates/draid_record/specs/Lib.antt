@@ -1,4 +1,5 @@
 pub mod Grammar
+pub mod Kind
 pub mod Reader
 pub mod Reading
 pub mod Record

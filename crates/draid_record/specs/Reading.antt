@@ -3,19 +3,20 @@ use Rattle.std.specs.Prelude.{◌≡◌, ◌+◌, ◌-◌, ◌&&◌, ℕ, nat_le
 use Rattle.byteorder.specs.Endian.{big_number}
 use Rattle.draid_record.specs.declared.fault.Fault.{Fault}
 use Rattle.draid_record.specs.declared.fault.RecordFault.{RecordFault}
+use Rattle.draid_record.specs.declared.fault.RecordFaultKind.TheVariants as why
 use Rattle.draid_record.specs.declared.fault.RecordFault.TheVariants as faults
 use Rattle.draid_record.specs.Grammar.{Grammar, Done, Number, Bytes, Check}
 
 -- a field that is cut, and one that is out of its range, by how many bytes are left from it on
 abbrev pub cut : ℕ → Fault
-cut left = record { left = left; kind = 1 }
+cut left = record { left = left; kind = why.Cut }
 
 abbrev pub range : ℕ → Fault
-range left = record { left = left; kind = 2 }
+range left = record { left = left; kind = why.Range }
 
 -- more bytes than are spelled
 abbrev pub goes_on : ℕ → Fault
-goes_on left = record { left = left; kind = 3 }
+goes_on left = record { left = left; kind = why.Trailing }
 
 -- what is read behind something that was read
 abbrev pub then_read : {A B : Type 0} → Result A Fault → (A → Result B Fault) → Result B Fault

@@ -25,7 +25,7 @@ use Rattle.draid_record.specs.declared.fault.Fault.{Fault}
 use Rattle.draid_record.specs.declared.fault.RecordFault.{RecordFault}
 use Rattle.draid_record.specs.declared.fault.RecordFault.TheVariants as faults
 use Rattle.draid_record.specs.Grammar.{Grammar, Done, ◌>>=◌, Spells, check, many, number, text}
-use Rattle.draid_record.specs.Reading.{placed, read}
+use Rattle.draid_record.specs.Reading.{goes_on, placed, read}
 
 -- ---- logs
 
@@ -324,11 +324,11 @@ limits_of geometry metaslab group next_leaf =
 
 -- ---- the whole record, at the front of its area
 
--- the bytes behind the length are the record's fields and end with them; more is kind 3
+-- the bytes behind the length are the record's fields and end with them; no bytes are left behind them
 abbrev pub ended : ℕ → Result (RecordTold × List ℕ) Fault → Result RecordTold RecordFault
 ended len (Err f) = Err (placed len f)
 ended len (Ok (value, [])) = Ok value
-ended len (Ok (value, byte ∷ left)) = Err (placed len (record { left = suc (length left); kind = 3 }))
+ended len (Ok (value, byte ∷ left)) = Err (placed len (goes_on (suc (length left))))
 
 -- behind its front a record has as many bytes as its length says
 abbrev pub fronted : Limits → ℕ → Result (ℕ × List ℕ) Fault → Result RecordTold RecordFault

@@ -1,12 +1,57 @@
 ghost use Rattle.std.specs.Prelude.{◌≡◌};
 ghost use Rattle.draid_record.specs.Reading.{placed};
 
+use thiserror::Error;
+
+/// What is wrong with a record or an uberblock, with its number in brackets. A reader tells the first three; the others are
+/// those of a record that was read, to the rack and beside the records of other metaslabs.
+#[derive(Clone, Copy, Debug, PartialEq, Eq, Error)]
+pub enum RecordFaultKind {
+    /// Fewer bytes are left than the field is wide (1).
+    #[error("a field that is cut")]
+    Cut,
+    /// The field is out of its range, or a test blames it (2).
+    #[error("a field out of its range")]
+    Range,
+    /// The record's length goes on behind the last field (3).
+    #[error("bytes behind the last field")]
+    Trailing,
+    /// The arms aren't those of the first metaslab (4).
+    #[error("other arms than the first metaslab's")]
+    Arms,
+    /// A block before this one has its object and number (5).
+    #[error("a block that stands twice")]
+    Twice,
+    /// The rack lacks the leaf, or has it with another number of sectors (6).
+    #[error("a leaf that isn't there")]
+    Leaf,
+}
+
+impl RecordFaultKind {
+    ghost use Rattle.draid_record.specs.Kind.{kind_number};
+
+    /// The number by which it is printed.
+    pub fn number(self) -> u8
+        ensures { result ≡ kind_number self }
+    {
+        match self {
+            RecordFaultKind::Cut => 1,
+            RecordFaultKind::Range => 2,
+            RecordFaultKind::Trailing => 3,
+            RecordFaultKind::Arms => 4,
+            RecordFaultKind::Twice => 5,
+            RecordFaultKind::Leaf => 6,
+        }
+    }
+}
+
 /// Why a record or an uberblock wasn't read.
-#[derive(Clone, Copy, PartialEq, Eq)]
+#[derive(Clone, Copy, Debug, PartialEq, Eq, Error)]
 pub enum RecordFault {
-    /// The first field that is cut (kind 1) or out of its range (kind 2) begins at byte `at`; with kind 3 the
-    /// record's length goes on there, behind the last field.
-    Bad { at: u64, kind: u8 },
+    /// The first field that has a fault begins at byte `at`; where bytes are left behind the last field, they begin there.
+    #[error("{kind}, at byte {at}")]
+    Bad { at: u64, kind: RecordFaultKind },
+    #[error("no memory")]
     NoMemory,
 }
 
@@ -14,7 +59,7 @@ pub enum RecordFault {
 #[derive(Clone, Copy)]
 pub(crate) struct Fault {
     pub left: usize,
-    pub kind: u8,
+    pub kind: RecordFaultKind,
 }
 
 impl Fault {

@@ -17,7 +17,7 @@ mod uber;
 mod writer;
 mod writing;
 
-pub use fault::RecordFault;
+pub use fault::{RecordFault, RecordFaultKind};
 pub use law::{
     uberblocks_keep_their_ranges, values_in_range_are_spelled, what_is_spelled_is_in_range,
     what_is_written_is_read,

@@ -4,7 +4,7 @@ ghost use Rattle.draid_record.specs.Grammar as grammar;
 ghost use Rattle.draid_record.specs.Reader.{Reads, Took, state_of};
 ghost use Rattle.draid_record.specs.Reading.{Tells};
 
-use crate::fault::Fault;
+use crate::fault::{Fault, RecordFaultKind};
 use byteorder::{BigEndian, ByteOrder};
 
 /// The bytes that are still to be read, up to the first fault. Behind a fault each number that is read is 0.
@@ -52,12 +52,18 @@ impl<'a> Reader<'a> {
         let bytes = self.bytes;
         let left = bytes.len();
         if left < width {
-            self.fault = Some(Fault { left, kind: 1 });
+            self.fault = Some(Fault {
+                left,
+                kind: RecordFaultKind::Cut,
+            });
             return 0;
         }
         let number = first_number(bytes, width);
         if number < low || high < number {
-            self.fault = Some(Fault { left, kind: 2 });
+            self.fault = Some(Fault {
+                left,
+                kind: RecordFaultKind::Range,
+            });
             return 0;
         }
         self.bytes = bytes.split_at(width).1;
@@ -83,7 +89,10 @@ impl<'a> Reader<'a> {
         }
         let left = self.bytes.len();
         if left < 32 {
-            self.fault = Some(Fault { left, kind: 1 });
+            self.fault = Some(Fault {
+                left,
+                kind: RecordFaultKind::Cut,
+            });
             return digest;
         }
         let (front, rest) = self.bytes.split_at(32);
@@ -101,7 +110,10 @@ impl<'a> Reader<'a> {
             return;
         }
         let left = self.bytes.len() + back;
-        self.fault = Some(Fault { left, kind: 2 });
+        self.fault = Some(Fault {
+            left,
+            kind: RecordFaultKind::Range,
+        });
     }
 }
 

@@ -9,7 +9,7 @@ ghost use Rattle.draid_record.specs.Record.{AreLimits, RecordTold, told_record};
 
 use crate::arm::slots;
 use crate::block::{are_spaces, blocks, spaces};
-use crate::fault::{Fault, RecordFault};
+use crate::fault::{Fault, RecordFault, RecordFaultKind};
 use crate::limits::Limits;
 use crate::pass::pass;
 use crate::reader::Reader;
@@ -151,7 +151,11 @@ fn fields(alloc: Global, bytes: &[u8], len: usize, limits: &Limits) -> Result<Re
         Ok([]) => Ok(record),
         Ok(bytes) => {
             let left = bytes.len();
-            Err(Fault { left, kind: 3 }.within(len))
+            Err(Fault {
+                left,
+                kind: RecordFaultKind::Trailing,
+            }
+            .within(len))
         }
         Err(fault) => Err(fault.within(len)),
     }

@@ -1,6 +1,7 @@
 -- A run that has ended: what was served, and then the last line.
 use Rattle.std.proofs.Common.{refl, sym, subst, ◌≡◌, ◌∙◌, ◌⊎◌, inl, inr, ℕ, List, [], ◌∷◌, Option, Some, None, MatchOption}
 use Rattle.std.specs.Prelude.{⊤}
+use Rattle.draid_record.specs.declared.fault.RecordFaultKind.{RecordFaultKind}
 use Rattle.draid_rack.specs.declared.Rack as racks
 use Rattle.draid_area.specs.declared.Area as areas
 use Rattle.draid_lines.specs.Lines.{lines_of}
@@ -103,7 +104,7 @@ not_fault : (meant : Status) → (meant ≡ Usage) ⊎ (meant ≡ NoMemory) → 
 not_fault meant (inl usage) is = (let e = sym usage ∙ is in cc e)
 not_fault meant (inr none) is = (let e = sym none ∙ is in cc e)
 
-not_bad : (meant : Status) → (meant ≡ Usage) ⊎ (meant ≡ NoMemory) → (metaslab : Option ℕ) (place kind : ℕ) → meant ≡ Record metaslab place kind → ⊥
+not_bad : (meant : Status) → (meant ≡ Usage) ⊎ (meant ≡ NoMemory) → (metaslab : Option ℕ) (place : ℕ) (kind : RecordFaultKind) → meant ≡ Record metaslab place kind → ⊥
 not_bad meant (inl usage) metaslab place kind is = (let e = sym usage ∙ is in cc e)
 not_bad meant (inr none) metaslab place kind is = (let e = sym none ∙ is in cc e)
 

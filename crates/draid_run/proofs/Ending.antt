@@ -18,6 +18,7 @@ use Rattle.draid_run.specs.Ending.{CanRun, EndsWell, IsBuilt, IsUndisturbed, IsU
 use Rattle.draid_run.specs.Script.{BreaksOff, Ends, IsSession, LineFaultIs, Prints, RunsFrom}
 use Rattle.draid_run.specs.Shelves.{OnShelf}
 use Rattle.draid_run.specs.Status.{last_text}
+use Rattle.draid_run.specs.declared.status.LineRefusal.{LineRefusal}
 use Rattle.draid_run.specs.declared.status.Status.{Status}
 use Rattle.draid_run.specs.declared.status.Status.TheVariants.{Done, Usage, Line, SourceFault, SinkFault, NoMemory, TooLong, ShelfFault, Record}
 
@@ -67,9 +68,9 @@ not_long input lines rest can is (inr full) =
     let many = full.0 in
     omega (arith, longer, all, one, few, many)
 
-not_built : (line : Result Command LineFault) (kind at : ℕ) → IsBuilt line → LineFaultIs line kind at → ⊥
-not_built (Ok command) kind at built fault = built fault.0
-not_built (Err why) kind at built fault = built
+not_built : (line : Result Command LineFault) (why : LineRefusal) (at : ℕ) → IsBuilt line → LineFaultIs line why at → ⊥
+not_built (Ok command) why at built fault = built fault.0
+not_built (Err fault) why at built fault = built
 
 -- ---- records
 

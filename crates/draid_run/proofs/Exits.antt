@@ -22,6 +22,8 @@ use Rattle.draid_run.specs.Script.{LineFaultIs}
 use Rattle.draid_run.specs.Shelves.{OnShelf}
 use Rattle.draid_run.specs.declared.answer.Stop.{Stop}
 use Rattle.draid_run.specs.declared.answer.Stop.TheVariants as stop
+use Rattle.draid_run.specs.declared.status.LineRefusal.{LineRefusal}
+use Rattle.draid_run.specs.declared.status.LineRefusal.TheVariants as refusal
 use Rattle.draid_run.specs.declared.status.Status.{Status}
 use Rattle.draid_run.proofs.Known.{appends_none}
 use Rattle.draid_run.specs.declared.status.Status.TheVariants.{Done, Usage, Line, SourceFault, SinkFault, NoMemory, TooLong, ShelfFault, Record}
@@ -78,8 +80,8 @@ module _ (P : Type 0) where
   pub done_cause : Ok tt ≡ stopped SinkFault → P
   done_cause is = absurd (cc is)
 
-  pub line_cause : (number kind at : ℕ) → stopped (Line number kind at) ≡ stopped SinkFault → P
-  line_cause number kind at is = absurd (cc is)
+  pub line_cause : (number : ℕ) (why : LineRefusal) (at : ℕ) → stopped (Line number why at) ≡ stopped SinkFault → P
+  line_cause number why at is = absurd (cc is)
 
   pub memory_cause : stopped NoMemory ≡ stopped SinkFault → P
   memory_cause is = absurd (cc is)
@@ -109,7 +111,7 @@ module _ {R A : Type 0} (rack : racks.Ghosts R) (area : areas.Ghosts A) (choices
 -- a line has no reply, and the run ends
 module _ {R A : Type 0} (rack : racks.Ghosts R) (area : areas.Ghosts A) (choices : Choices) (number : ℕ) (text : List ℕ) (entry before : OnShelf) (pool : Option (Pool R A)) (x : Desk) (now : OnShelf) (pool' : Option (Pool R A)) (held : Option (List ℕ)) (command : Command) (line : line_of text ≡ Ok command) where
   by_stop : (why : Stop) → AnswerIs rack area choices command entry before pool x now pool' (Err why) → LineIs rack area choices number text entry before pool x now pool' held held (Err (status_of number why))
-  by_stop stop.Unbuilt answered = (subst (λ r. LineFaultIs r 7 0) (sym line) (answered.0, refl, refl), answered.1, answered.2, refl, refl)
+  by_stop stop.Unbuilt answered = (subst (λ r. LineFaultIs r refusal.Unbuilt 0) (sym line) (answered.0, refl, refl), answered.1, answered.2, refl, refl)
   by_stop stop.Shelf answered = (refl, record { command = command; line = line; broken = answered })
   by_stop (stop.Record metaslab place kind) answered = (refl, record { command = command; line = line; broken = answered.0 }, answered.1)
 

@@ -2,6 +2,7 @@
 use Rattle.std.proofs.Common.{◌≡◌, ◌≤◌, ◌∙◌, ◌⊎◌, inl, inr, refl, sym, ap, subst, ℕ, List, Bool, true, false, [], ◌∷◌, Option, Some, None, Result, Ok, Err, String, Global}
 use Rattle.std.specs.Prelude.{IfOk, IsErrOf, IsSomeAnd, OnOk, is_some, nat_eq, string_bytes}
 use Rattle.std.specs.HashMap.{get}
+use Rattle.draid_record.specs.declared.fault.RecordFaultKind.{RecordFaultKind}
 use Rattle.draid_rack.specs.declared.Rack as racks
 use Rattle.draid_area.specs.declared.Area as areas
 use Rattle.draid_spec.specs.declared.layout.Geometry.{Geometry}
@@ -181,7 +182,7 @@ none_open None is = refl
 none_open (Some t) is = absurd (cc is)
 
 -- the fault by other names of its place
-pub fault_named : {R A : Type 0} (rack : racks.Ghosts R) (area : areas.Ghosts A) (before : OnShelf) (m m' : Option ℕ) (p p' k k' : ℕ) → m' ≡ m → p' ≡ p → k' ≡ k → HoldsFault rack area before m p k → HoldsFault rack area before m' p' k'
+pub fault_named : {R A : Type 0} (rack : racks.Ghosts R) (area : areas.Ghosts A) (before : OnShelf) (m m' : Option ℕ) (p p' : ℕ) (k k' : RecordFaultKind) → m' ≡ m → p' ≡ p → k' ≡ k → HoldsFault rack area before m p k → HoldsFault rack area before m' p' k'
 fault_named rack area before m m' p p' k k' same_m same_p same_k fault =
     subst (λ z. HoldsFault rack area before z p' k') (sym same_m) (subst (λ z. HoldsFault rack area before m z k') (sym same_p) (subst (λ z. HoldsFault rack area before m p z) (sym same_k) fault))
 
@@ -308,7 +309,7 @@ module _ {R A : Type 0} (rack : racks.Ghosts R) (area : areas.Ghosts A) (entry b
     shelf_failed is (Open y) stands shelf = absurd stands
     shelf_failed is (Foreign known) stands shelf = absurd stands
 
-    pub record_fails : (metaslab : Option ℕ) (place kind : ℕ) → result ≡ Err (fault.Record metaslab place kind) → (x : Desk) → IsPool rack area None x → IsShelf x entry before
+    pub record_fails : (metaslab : Option ℕ) (place : ℕ) (kind : RecordFaultKind) → result ≡ Err (fault.Record metaslab place kind) → (x : Desk) → IsPool rack area None x → IsShelf x entry before
         → Broken rack area RecordFails ImportPool entry before x now None
     record_fails metaslab place kind is Untouched stands shelf = record { new = Unknown; desk = record { stands = tt; shelf = tt }; breaks = refl; cause = tt }
     record_fails metaslab place kind is (Made true failed geometry) stands shelf = absurd (new_none failed geometry (Err (fault.Record metaslab place kind)) is shelf)
@@ -465,7 +466,7 @@ already_open rack area entry now (Some pool) Unknown some is = absurd is.stands
 
 -- none was opened
 module _ {R A : Type 0} (rack : racks.Ghosts R) (area : areas.Ghosts A) (entry before now : OnShelf) (result : Result (Pool R A) ImportFault) (called : Called rack area before now result)
-    (faulty : (metaslab : Option ℕ) (place kind : ℕ) → result ≡ Err (fault.Record metaslab place kind) → HoldsFault rack area before metaslab place kind)
+    (faulty : (metaslab : Option ℕ) (place : ℕ) (kind : RecordFaultKind) → result ≡ Err (fault.Record metaslab place kind) → HoldsFault rack area before metaslab place kind)
     (desk : Option (Pool R A)) (x : Desk) (none : is_some desk ≡ false) (is : IsDesk rack area entry before desk x) where
   abbrev closed : IsPool rack area None x
   closed = shut rack area desk x none is.stands

@@ -1,5 +1,6 @@
 -- What has failed in a command that found no pool open.
 use Rattle.std.proofs.Common.{◌≡◌, ◌<◌, ◌≤◌, inl, inr, arith, refl, ℕ, List, [], Option, Some, Ok}
+use Rattle.draid_record.specs.declared.fault.RecordFaultKind.{RecordFaultKind}
 use Rattle.draid_names.specs.Faults.{Rose}
 use Rattle.draid_rack.specs.declared.Rack as racks
 use Rattle.draid_area.specs.declared.Area as areas
@@ -144,7 +145,7 @@ record_closed (Open x) new command breaks = absurd breaks
 record_closed (Foreign known) new command breaks = absurd breaks
 
 -- and what it says of that record
-pub faulty_shut : {R A : Type 0} (rack : racks.Ghosts R) (area : areas.Ghosts A) (text : List ℕ) (lines : List (List ℕ)) (command : Command) (old new : Desk) (entry before : OnShelf) (metaslab : Option ℕ) (place kind : ℕ)
+pub faulty_shut : {R A : Type 0} (rack : racks.Ghosts R) (area : areas.Ghosts A) (text : List ℕ) (lines : List (List ℕ)) (command : Command) (old new : Desk) (entry before : OnShelf) (metaslab : Option ℕ) (place : ℕ) (kind : RecordFaultKind)
     → line_of text ≡ Ok command → IsShelf old entry before → entry.faults ≤ before.faults → (lines ≡ [] → before ≡ entry) → Breaks RecordFails old command new → HoldsFault rack area before metaslab place kind
     → FaultyShut rack area (Some text) lines old entry metaslab place kind
 faulty_shut rack area text lines command old new entry before metaslab place kind line shelf later first breaks bad = record {

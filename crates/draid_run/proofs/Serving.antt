@@ -4,6 +4,7 @@ use Rattle.std.specs.Prelude.{is_some, ⊤}
 use Rattle.std.specs.Io.KnownBytes.{prepend_known}
 use Rattle.std.proofs.lemmas.Grind.{flat_map-append}
 use Rattle.std.proofs.lemmas.List.{append-nil}
+use Rattle.draid_record.specs.declared.fault.RecordFaultKind.{RecordFaultKind}
 use Rattle.draid_rack.specs.declared.Rack as racks
 use Rattle.draid_area.specs.declared.Area as areas
 use Rattle.draid_lines.proofs.Ends.{lines_none}
@@ -18,6 +19,7 @@ use Rattle.draid_run.specs.Desks.{IsDesk, Turned}
 use Rattle.draid_run.specs.Script.{all_said, Ends, FaultyShut, LineFaultIs, said_text, texts_of}
 use Rattle.draid_run.specs.Serve.{BrokenLine, Cut, LineIs, Printed, Served, Serving, TextIs, Untold}
 use Rattle.draid_run.specs.Shelves.{FaultIn, HasFailed, HasFault, HoldsDesk, HoldsFault, MakesLeavesAt, MakesLeavesBy, MayFind, OnShelf, RackFault, TellsAsBefore}
+use Rattle.draid_run.specs.declared.status.LineRefusal.{LineRefusal}
 use Rattle.draid_run.specs.declared.status.Status.{Status}
 use Rattle.draid_run.specs.declared.status.Status.TheVariants.{Done, Usage, Line, SourceFault, SinkFault, NoMemory, TooLong, ShelfFault, Record}
 use Rattle.draid_run.proofs.Exits.{rose_from}
@@ -277,7 +279,7 @@ module _ {R A : Type 0} (rack : racks.Ghosts R) (area : areas.Ghosts A) (choices
     module _ (input rest rest' start held : Option (List ℕ)) (before : OnShelf) (pool : Option (Pool R A)) (count : ℕ) (line : List ℕ) (behind : WhereKnown rest rest' (λ old new. lines_of old ≡ line ∷ lines_of new))
         (is : Serving rack area choices first input rest start held entry before pool count) (later : entry.faults ≤ before.faults) where
       -- it can't be run
-      unrun : (number kind at : ℕ) → LineFaultIs (line_of line) kind at → number ≡ count + 1 → Served rack area choices first (Line number kind at) input start held entry before pool
+      unrun : (number : ℕ) (why : LineRefusal) (at : ℕ) → LineFaultIs (line_of line) why at → number ≡ count + 1 → Served rack area choices first (Line number why at) input start held entry before pool
       unrun number kind at fault n =
           let counted = is.count_is in
           record {
@@ -398,7 +400,7 @@ module _ {R A : Type 0} (rack : racks.Ghosts R) (area : areas.Ghosts A) (choices
         }
 
         -- a record has a fault
-        faulty : (metaslab : Option ℕ) (place kind : ℕ) → BrokenLine rack area RecordFails line entry before is.reached now pool' → HoldsFault rack area before metaslab place kind
+        faulty : (metaslab : Option ℕ) (place : ℕ) (kind : RecordFaultKind) → BrokenLine rack area RecordFails line entry before is.reached now pool' → HoldsFault rack area before metaslab place kind
             → Served rack area choices first (Record metaslab place kind) input start held entry now pool'
         faulty metaslab place kind at fault = record {
           lines = is.lines;
@@ -419,7 +421,7 @@ module _ {R A : Type 0} (rack : racks.Ghosts R) (area : areas.Ghosts A) (choices
           bad = λ m p k e. shut m p k e;
         }
           where
-            shut : (m : Option ℕ) (p k : ℕ) → Record metaslab place kind ≡ Record m p k → FaultyShut rack area (Some line) is.lines is.reached entry m p k
+            shut : (m : Option ℕ) (p : ℕ) (k : RecordFaultKind) → Record metaslab place kind ≡ Record m p k → FaultyShut rack area (Some line) is.lines is.reached entry m p k
             shut m p k e =
                 let holds : HoldsFault rack area before m p k = subst (λ (s : Status). NamesFault before s) e fault in
                 faulty_shut rack area line is.lines at.command is.reached at.broken.new entry before m p k at.line is.desk.shelf later is.unanswered at.broken.breaks holds

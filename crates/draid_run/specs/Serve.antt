@@ -3,6 +3,7 @@ use Rattle.std.specs.Prelude.{◌≡◌, ◌≤◌, ◌+◌, ◌⊎◌, ⊤, ℕ
 use Rattle.std.specs.Io.KnownBytes.{Appends, prepend_known}
 use Rattle.std.specs.declared.vec.Vec.{Vec}
 use Rattle.std.specs.declared.alloc.Global.{Global}
+use Rattle.draid_record.specs.declared.fault.RecordFaultKind.{RecordFaultKind}
 use Rattle.draid_rack.specs.declared.Rack as racks
 use Rattle.draid_area.specs.declared.Area as areas
 use Rattle.draid_lines.specs.Lines.{Rest, WhereKnown, IsTooLong, lines_of, most_lines}
@@ -20,6 +21,7 @@ use Rattle.draid_run.specs.Script.{all_said, BreaksOff, Ends, FailsShut, FaultyS
 use Rattle.draid_run.specs.Shelves.{HasFault, HoldsFault, IsClosed, MakesLeavesAt, MayFind, OnShelf, RackFault}
 use Rattle.draid_run.specs.declared.answer.Stop.{Stop}
 use Rattle.draid_run.specs.declared.answer.Stop.TheVariants as stop
+use Rattle.draid_run.specs.declared.status.LineRefusal.TheVariants as refusal
 use Rattle.draid_run.specs.declared.status.Status.{Status}
 use Rattle.draid_run.specs.declared.status.Status.TheVariants.{Line, SourceFault, SinkFault, NoMemory, TooLong, ShelfFault, Record}
 
@@ -60,7 +62,7 @@ said_of (Some reply) = alone reply
 
 -- the status of a run that ends at the line of this number
 abbrev pub status_of : ℕ → Stop → Status
-status_of number stop.Unbuilt = Line number 7 0
+status_of number stop.Unbuilt = Line number refusal.Unbuilt 0
 status_of number stop.Shelf = ShelfFault
 status_of number (stop.Record metaslab place kind) = Record metaslab place kind
 
@@ -111,8 +113,8 @@ module _ {R A : Type 0} (rack : racks.Ghosts R) (area : areas.Ghosts A) (choices
   LineIs number text entry before pool old now pool' held held' (Err ShelfFault) = (held' ≡ held) × BrokenLine rack area ShelfFails text entry before old now pool'
   LineIs number text entry before pool old now pool' held held' (Err (Record metaslab place kind)) =
       (held' ≡ held) × BrokenLine rack area RecordFails text entry before old now pool' × HoldsFault rack area before metaslab place kind
-  LineIs number text entry before pool old now pool' held held' (Err (Line line kind at)) =
-      LineFaultIs (line_of text) kind at × (now ≡ before) × (pool' ≡ pool) × (held' ≡ held) × (line ≡ number)
+  LineIs number text entry before pool old now pool' held held' (Err (Line line why at)) =
+      LineFaultIs (line_of text) why at × (now ≡ before) × (pool' ≡ pool) × (held' ≡ held) × (line ≡ number)
   LineIs number text entry before pool old now pool' held held' (Err NoMemory) =
       ((held' ≡ held) × (now ≡ before) × (pool' ≡ pool)) ⊎ Untold text entry old now pool' held held'
   LineIs number text entry before pool old now pool' held held' (Err status) = ⊥
@@ -145,4 +147,4 @@ module _ {R A : Type 0} (rack : racks.Ghosts R) (area : areas.Ghosts A) (choices
     pub prints : GetsReplies ended shown start held
     pub failed : ended ≡ ShelfFault → HasFault area entry now pool last ⊎ (MakesLeavesAt broken × RackFault rack pool last)
     pub since : ended ≡ ShelfFault → IsClosed mid → IsClosed last × FailsShut area broken lines mid entry now
-    pub bad : (metaslab : Option ℕ) (place kind : ℕ) → ended ≡ Record metaslab place kind → FaultyShut rack area broken lines mid entry metaslab place kind
+    pub bad : (metaslab : Option ℕ) (place : ℕ) (kind : RecordFaultKind) → ended ≡ Record metaslab place kind → FaultyShut rack area broken lines mid entry metaslab place kind

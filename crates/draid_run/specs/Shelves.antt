@@ -1,5 +1,6 @@
 -- What a shelf holds between lines and as a run ends.
 use Rattle.std.specs.Prelude.{◌≡◌, ◌<◌, ◌+◌, ◌⊎◌, ◌++◌, ⊤, ℕ, Bool, List, ◌∷◌, Option, Some, None, Result, Ok, Err, IsSomeAnd, MatchOption, is_some, slice_get}
+use Rattle.draid_record.specs.declared.fault.RecordFaultKind.{RecordFaultKind}
 use Rattle.draid_names.specs.Faults.{Rose}
 use Rattle.draid_rack.specs.Rack.{Shape}
 use Rattle.draid_rack.specs.declared.Rack as racks
@@ -185,5 +186,5 @@ FailsIn area ImportPool before now = HasRisen area before.held before.faults now
 FailsIn area command before now = ⊥
 
 -- the uberblock that a shelf held, or a record of a metaslab, has this fault
-abbrev pub HoldsFault : {R A : Type 0} → racks.Ghosts R → areas.Ghosts A → OnShelf → Option ℕ → (place kind : ℕ) → Type 0
+abbrev pub HoldsFault : {R A : Type 0} → racks.Ghosts R → areas.Ghosts A → OnShelf → Option ℕ → ℕ → RecordFaultKind → Type 0
 HoldsFault rack area before metaslab place kind = RecordIsBad rack area before.held before.leaves before.counts metaslab place kind

@@ -1,5 +1,9 @@
 use Rattle.std.specs.Prelude.{ℕ, ⊤, List, [], ◌++◌, Option, Some, None, codes}
 use Rattle.std.specs.Fmt.{decimal}
+use Rattle.draid_record.specs.Kind.{kind_number}
+use Rattle.draid_script.specs.Fault as lines
+use Rattle.draid_run.specs.declared.status.LineRefusal.{LineRefusal}
+use Rattle.draid_run.specs.declared.status.LineRefusal.TheVariants.{Fault, Unbuilt}
 use Rattle.draid_run.specs.declared.status.Status.{Status}
 use Rattle.draid_run.specs.declared.status.Status.TheVariants.{Done, Usage, Line, SourceFault, SinkFault, NoMemory, TooLong, ShelfFault, Record}
 
@@ -7,7 +11,7 @@ use Rattle.draid_run.specs.declared.status.Status.TheVariants.{Done, Usage, Line
 abbrev pub code_of : Status → ℕ
 code_of Done = 0
 code_of Usage = 1
-code_of (Line line kind at) = 2
+code_of (Line line why at) = 2
 code_of SourceFault = 3
 code_of SinkFault = 4
 code_of NoMemory = 5
@@ -17,7 +21,7 @@ code_of (Record metaslab at kind) = 8
 
 -- the status's line names a number
 abbrev pub HasNumber : Status → Type 0
-HasNumber (Line line kind at) = ⊤
+HasNumber (Line line why at) = ⊤
 HasNumber (TooLong line) = ⊤
 HasNumber (Record metaslab at kind) = ⊤
 HasNumber status = ⊥
@@ -30,6 +34,11 @@ fixed_text NoMemory = codes "no memory\n"
 fixed_text ShelfFault = codes "shelf fault\n"
 fixed_text status = []
 
+-- the number by which it is printed why a line isn't run
+abbrev pub refusal_number : LineRefusal → ℕ
+refusal_number (Fault kind) = lines.kind_number kind
+refusal_number Unbuilt = 7
+
 -- which record it is, a metaslab's or that of the uberblock
 abbrev pub record_name : Option ℕ → List ℕ
 record_name None = codes "uber"
@@ -37,7 +46,7 @@ record_name (Some metaslab) = codes "metaslab=" ++ decimal metaslab
 
 -- the line that is printed last, its end included
 abbrev pub last_text : Status → List ℕ
-last_text (Line line kind at) = codes "line " ++ (decimal line ++ (codes " fault=" ++ (decimal kind ++ (codes " at=" ++ (decimal at ++ codes "\n")))))
+last_text (Line line why at) = codes "line " ++ (decimal line ++ (codes " fault=" ++ (decimal (refusal_number why) ++ (codes " at=" ++ (decimal at ++ codes "\n")))))
 last_text (TooLong line) = codes "line " ++ (decimal line ++ codes " too long\n")
-last_text (Record metaslab at kind) = codes "record " ++ (record_name metaslab ++ (codes " at=" ++ (decimal at ++ (codes " kind=" ++ (decimal kind ++ codes "\n")))))
+last_text (Record metaslab at kind) = codes "record " ++ (record_name metaslab ++ (codes " at=" ++ (decimal at ++ (codes " kind=" ++ (decimal (kind_number kind) ++ codes "\n")))))
 last_text status = fixed_text status

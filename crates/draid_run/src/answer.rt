@@ -19,6 +19,7 @@ use draid_create::CreateFault;
 use draid_names::{Failed, Room};
 use draid_pool::Pool;
 use draid_rack::Rack;
+use draid_record::RecordFaultKind;
 use draid_reply::Reply;
 use draid_script::{CommandName, Line, PoolKeys};
 use draid_shelf::Shelf;
@@ -34,12 +35,11 @@ pub(crate) enum Stop {
     Unbuilt,
     /// A call of the shelf, or on an area of the pool, failed.
     Shelf,
-    /// The first field of a record that is out of its range begins at byte `at`: of a metaslab's record, or of the
-    /// uberblock's slot.
+    /// What has the first fault begins at byte `at`: of a metaslab's record, or of the uberblock's slot.
     Record {
         metaslab: Option<u32>,
         at: u64,
-        kind: u8,
+        kind: RecordFaultKind,
     },
 }
 

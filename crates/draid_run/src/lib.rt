@@ -21,5 +21,5 @@ pub use laws::{
     crashed_pools_are_found_again, new_shelves_have_no_pool, runs_follow_one_another,
     runs_stay_legal, undisturbed_runs_are_done,
 };
-pub use status::Status;
+pub use status::{LineRefusal, Status};
 pub use top::run;

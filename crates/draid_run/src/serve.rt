@@ -13,7 +13,7 @@ ghost use Rattle.draid_run.specs.Serve.{LineIs, PrintIs, Served, TextIs, status_
 ghost use Rattle.draid_run.specs.Shelves.{HoldsDesk, OnShelf, on_shelf};
 
 use crate::answer::{Stop, answer};
-use crate::status::Status;
+use crate::status::{LineRefusal, Status};
 use draid_choose::Chooser;
 use draid_lines::{Lines, ReadFault, Sink, Source};
 use draid_names::{Failed, NoMemory, Room};
@@ -34,7 +34,7 @@ fn stopped(number: u64, stop: Stop) -> Status
     match stop {
         Stop::Unbuilt => Status::Line {
             line: number,
-            kind: 7,
+            why: LineRefusal::Unbuilt,
             at: 0,
         },
         Stop::Shelf => Status::ShelfFault,
@@ -93,7 +93,7 @@ fn serve_line<H: Shelf, K: Sink, F: Fn(&[Room]) -> Option<u32>>(
         Ok(line) => serve_command(rt, alloc, shelf, pool, chooser, sink, number, &line),
         Err(ParseFault::Line(LineFault { kind, at })) => Err(Status::Line {
             line: number,
-            kind,
+            why: LineRefusal::Fault(kind),
             at,
         }),
         Err(ParseFault::NoMemory) => Err(Status::NoMemory),

@@ -1,7 +1,32 @@
 ghost use Rattle.std.specs.Prelude.{◌≡◌, Some, None, IfOk, IfSome, IfNone, string_bytes};
 ghost use Rattle.draid_run.specs.Status.{HasNumber, fixed_text, last_text};
 
+use draid_record::RecordFaultKind;
+use draid_script::LineFaultKind;
 use std::alloc::{AllocError, Global};
+
+/// Why a line isn't run, with the number of what isn't a fault of the line in brackets.
+#[derive(Clone, Copy, PartialEq, Eq)]
+pub enum LineRefusal {
+    /// It is outside the grammar.
+    Fault(LineFaultKind),
+    /// Its command isn't built (7).
+    Unbuilt,
+}
+
+impl LineRefusal {
+    ghost use Rattle.draid_run.specs.Status.{refusal_number};
+
+    /// The number by which it is printed.
+    fn number(self) -> u8
+        ensures { result ≡ refusal_number self }
+    {
+        match self {
+            LineRefusal::Fault(kind) => kind.number(),
+            LineRefusal::Unbuilt => 7,
+        }
+    }
+}
 
 /// What a run came to, with the program's exit status in brackets.
 #[derive(Clone, Copy, PartialEq, Eq)]
@@ -10,10 +35,10 @@ pub enum Status {
     Done,
     /// The words don't ask for a session (1).
     Usage,
-    /// This line, counted from 1, is refused by a fault of this kind at this place (2).
+    /// This line, counted from 1, is refused, at this place (2).
     Line {
         line: u64,
-        kind: u8,
+        why: LineRefusal,
         at: u64,
     },
     /// The source failed (3).
@@ -28,12 +53,11 @@ pub enum Status {
     },
     /// A call of the shelf, or on an area of a pool, failed (7).
     ShelfFault,
-    /// The first field of a record that is out of its range begins at byte `at`: of a metaslab's record, or of the
-    /// uberblock's slot (8).
+    /// What has the first fault begins at byte `at`: of a metaslab's record, or of the uberblock's slot (8).
     Record {
         metaslab: Option<u32>,
         at: u64,
-        kind: u8,
+        kind: RecordFaultKind,
     },
 }
 
@@ -59,10 +83,11 @@ impl Status {
 }
 
 /// The line that is printed last where a line of the script can't be run.
-fn line_refused(alloc: Global, line: u64, kind: u8, at: u64) -> Result<String, AllocError>
-    ensures { IfOk result (λ text. string_bytes text ≡ last_text (Status.Line line kind at)) }
+fn line_refused(alloc: Global, line: u64, why: LineRefusal, at: u64) -> Result<String, AllocError>
+    ensures { IfOk result (λ text. string_bytes text ≡ last_text (Status.Line line why at)) }
 {
-    format!(in alloc; "line {line} fault={kind} at={at}\n")
+    let number = why.number();
+    format!(in alloc; "line {line} fault={number} at={at}\n")
 }
 
 /// The line that is printed last where a line of the script is too long.
@@ -72,18 +97,25 @@ fn line_too_long(alloc: Global, line: u64) -> Result<String, AllocError>
     format!(in alloc; "line {line} too long\n")
 }
 
-/// The line that is printed last where a record of a metaslab is out of its range.
-fn metaslab_refused(alloc: Global, metaslab: u32, at: u64, kind: u8) -> Result<String, AllocError>
+/// The line that is printed last where the record of a metaslab has a fault.
+fn metaslab_refused(
+    alloc: Global,
+    metaslab: u32,
+    at: u64,
+    kind: RecordFaultKind,
+) -> Result<String, AllocError>
     ensures { IfOk result (λ text. string_bytes text ≡ last_text (Status.Record (Some metaslab) at kind)) }
 {
-    format!(in alloc; "record metaslab={metaslab} at={at} kind={kind}\n")
+    let number = kind.number();
+    format!(in alloc; "record metaslab={metaslab} at={at} kind={number}\n")
 }
 
-/// The line that is printed last where the uberblock's slot is out of its range.
-fn uber_refused(alloc: Global, at: u64, kind: u8) -> Result<String, AllocError>
+/// The line that is printed last where the uberblock's slot has a fault.
+fn uber_refused(alloc: Global, at: u64, kind: RecordFaultKind) -> Result<String, AllocError>
     ensures { IfOk result (λ text. string_bytes text ≡ last_text (Status.Record None at kind)) }
 {
-    format!(in alloc; "record uber at={at} kind={kind}\n")
+    let number = kind.number();
+    format!(in alloc; "record uber at={at} kind={number}\n")
 }
 
 /// The line that is printed last, its end included, where it names a number.
@@ -93,7 +125,7 @@ pub(crate) fn numbered_line(alloc: Global, status: Status) -> Option<Result<Stri
     ensures none { IfNone result (last_text status ≡ fixed_text status) }
 {
     match status {
-        Status::Line { line, kind, at } => Some(line_refused(alloc, line, kind, at)),
+        Status::Line { line, why, at } => Some(line_refused(alloc, line, why, at)),
         Status::TooLong { line } => Some(line_too_long(alloc, line)),
         Status::Record {
             metaslab: Some(metaslab),

@@ -2,6 +2,7 @@
 use Rattle.std.proofs.Common.{◌≡◌, ℕ, List, Option, Some, None, Result, Err, true, false, Bool, codes, refl, sym, ap, ◌∙◌, if◌then◌else◌}
 use Rattle.std.specs.Str.{bytes_eq}
 use Rattle.draid_script.specs.declared.fault.LineFault.{LineFault}
+use Rattle.draid_script.specs.declared.fault.LineFaultKind.TheVariants as why
 use Rattle.draid_script.specs.declared.keys.Given.{Given}
 use Rattle.draid_script.specs.declared.keys.Key.{Key}
 use Rattle.draid_script.specs.declared.keys.Key.TheVariants.{Sector, Height, Metaslabs, Slices, Seed, Version}
@@ -12,7 +13,7 @@ use Rattle.draid_script.specs.Word.{Placed}
 -- what is given by the key of a name, or of none
 abbrev given_by_key : Given → Placed → Option Key → Result Given LineFault
 given_by_key given word (Some key) = given_value given key (value_in word)
-given_by_key given word None = Err (fault 3 word.at)
+given_by_key given word None = Err (fault why.Number word.at)
 
 -- the same choice, made of the names' tests
 choice : (given : Given) (word : Placed) (a b c d e f : Bool)
@@ -22,7 +23,7 @@ choice : (given : Given) (word : Placed) (a b c d e f : Bool)
     else if d then given_value given Slices (value_in word)
     else if e then given_value given Seed (value_in word)
     else if f then given_value given Version (value_in word)
-    else Err (fault 3 word.at))
+    else Err (fault why.Number word.at))
     ≡ given_by_key given word (if a then Some Sector else if b then Some Height else if c then Some Metaslabs else if d then Some Slices else if e then Some Seed else if f then Some Version else None)
 choice given word true b c d e f = refl
 choice given word false true c d e f = refl
@@ -44,6 +45,6 @@ named_key given word name value key name_is value_is named =
     by_key given word ∙ ap (λ n. given_by_key given word (key_named n)) (sym name_is) ∙ ap (given_by_key given word) (sym named) ∙ ap (given_value given key) (sym value_is)
 
 -- it is refused where it names none
-pub unknown_key : (given : Given) (word : Placed) (name : List ℕ) → name ≡ key_in word → None ≡ key_named name → given_with given word ≡ Err (fault 3 word.at)
+pub unknown_key : (given : Given) (word : Placed) (name : List ℕ) → name ≡ key_in word → None ≡ key_named name → given_with given word ≡ Err (fault why.Number word.at)
 unknown_key given word name name_is named =
     by_key given word ∙ ap (λ n. given_by_key given word (key_named n)) (sym name_is) ∙ ap (given_by_key given word) (sym named)

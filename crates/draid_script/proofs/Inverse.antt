@@ -10,6 +10,7 @@ use Rattle.std.proofs.lemmas.Fmt.{decimal_digit}
 use Rattle.std.proofs.lemmas.Slice.Eq.{bytes_eq-Decides, starts_is}
 use Rattle.std.proofs.lemmas.Bool.Decides.{Decides-eqb}
 use Rattle.draid_script.specs.declared.fault.LineFault.{LineFault}
+use Rattle.draid_script.specs.declared.fault.LineFaultKind.TheVariants as why
 use Rattle.draid_script.specs.declared.line.ArmArgument.{ArmArgument}
 use Rattle.draid_script.specs.declared.line.ArmArgument.TheVariants.{Leaf, Spare}
 use Rattle.draid_script.specs.declared.name.CommandName.{CommandName}
@@ -38,14 +39,14 @@ guard_inv false x y e gives = cc
 
 pub number_inv : (word : Placed) (n : ℕ) → number_at word ≡ Ok n → (word.text ≡ decimal n) × (n < 2 ^ 64)
 number_inv word n gives =
-    let said = decimal_of_number word.text n (or_inv (number_of word.text) (fault 3 word.at) n gives) in
+    let said = decimal_of_number word.text n (or_inv (number_of word.text) (fault why.Number word.at) n gives) in
     (said.1, said.0)
 
 pub in_inv : (low limit : ℕ) (word : Placed) (n : ℕ) → number_in low limit word ≡ Ok n → (word.text ≡ decimal n) × (low ≤ n) × (n < limit)
 in_inv low limit word n gives =
     let read = then_inv (number_at word) (within low limit word.at) n gives in
     let spelled = number_inv word read.0 read.1 in
-    let test = guard_inv (nat_le low read.0 && nat_lt read.0 limit) read.0 n (fault 5 word.at) read.2 in
+    let test = guard_inv (nat_le low read.0 && nat_lt read.0 limit) read.0 n (fault why.Range word.at) read.2 in
     let parts = and_parts (nat_le low read.0) (nat_lt read.0 limit) test.0 in
     (spelled.0 ∙ ap decimal test.1, omega (arith, leb-true low read.0 parts.0, test.1), omega (arith, ltb-true read.0 limit parts.1, test.1))
 
@@ -53,7 +54,7 @@ pub count_inv : (first : ℕ) (word : Placed) (n : ℕ) → count_at first word 
 count_inv first word n gives =
     let read = then_inv (number_in 1 (most_objects + 1) word) _ n gives in
     let spelled = in_inv 1 (most_objects + 1) word read.0 read.1 in
-    let test = guard_inv (nat_le (first + read.0) (2 ^ 32)) read.0 n (fault 5 word.at) read.2 in
+    let test = guard_inv (nat_le (first + read.0) (2 ^ 32)) read.0 n (fault why.Range word.at) read.2 in
     (spelled.0 ∙ ap decimal test.1, omega (arith, spelled.1, test.1), omega (arith, spelled.2, test.1), omega (arith, leb-true (first + read.0) (2 ^ 32) test.0, test.1))
 
 -- the texts of words
@@ -97,7 +98,7 @@ limit_inv end (word ∷ next ∷ words) limit gives = cc
 pub block_inv : (end : ℕ) (word : Placed) (bytes : List ℕ) → block_at end word ≡ Ok bytes → (bytes_of word.text ≡ Some bytes) × (length bytes ≤ LONGEST_BLOCK)
 block_inv end word bytes gives =
     let read = then_inv _ _ bytes gives in
-    let test = guard_inv (nat_le (length read.0) LONGEST_BLOCK) read.0 bytes (fault 5 word.at) read.2 in
+    let test = guard_inv (nat_le (length read.0) LONGEST_BLOCK) read.0 bytes (fault why.Range word.at) read.2 in
     (or_inv (bytes_of word.text) _ read.0 read.1 ∙ ap (λ (b : List ℕ). Some b) test.1, omega (arith, leb-true (length read.0) LONGEST_BLOCK test.0, ap length test.1))
 
 -- the first word of a command

@@ -13,6 +13,7 @@ use Rattle.std.proofs.lemmas.List.{drop_all}
 use Rattle.std.proofs.lemmas.List.Sums.{passes_at_first, split_at_first}
 use Rattle.std.proofs.lemmas.Slice.Eq.{bytes_eq-Decides}
 use Rattle.draid_script.specs.declared.fault.LineFault.{LineFault}
+use Rattle.draid_script.specs.declared.fault.LineFaultKind.TheVariants as why
 use Rattle.draid_script.specs.declared.keys.Given.{Given}
 use Rattle.draid_script.specs.declared.line.PoolKeys.{PoolKeys}
 use Rattle.draid_script.specs.declared.line.StatusFormat.{StatusFormat}
@@ -55,7 +56,7 @@ key_inv : (key : List ℕ) (word : Placed) (next : Given) (earlier : Option ℕ)
     → ((n : ℕ) × (word.text ≡ setting key n) × (n < limit) × (earlier ≡ None) × (next ≡ set (Some n))) ⊎ (other ≡ Ok next)
 key_inv key word next (Some n) set read limit other fits spelled gives =
     elim (cases_Bool (bytes_eq (key_in word) key)) [
-      | inl yes' ↦ let refused : Err (fault 3 word.at) ≡ Ok next = sym (cond-true (bytes_eq (key_in word) key) _ other yes') ∙ gives in cc
+      | inl yes' ↦ let refused : Err (fault why.Number word.at) ≡ Ok next = sym (cond-true (bytes_eq (key_in word) key) _ other yes') ∙ gives in cc
       | inr no' ↦ inr (sym (cond-false (bytes_eq (key_in word) key) _ other no') ∙ gives)
     ]
 key_inv key word next None set read limit other fits spelled gives =
@@ -305,7 +306,7 @@ named_inv name.Rebalance end words command gives =
 named_inv name.Status end [] command gives = same_command name.Status (ShowStatus Text) command _ (λ may. cc) gives (refl, tt)
 named_inv name.Status end (word ∷ []) command gives =
     let read = then_inv (format_at word) _ command gives in
-    let test = guard_inv (bytes_eq word.text (codes "json")) Json read.0 (fault 3 word.at) read.1 in
+    let test = guard_inv (bytes_eq word.text (codes "json")) Json read.0 (fault why.Number word.at) read.1 in
     let json : word.text ≡ codes "json" = (bytes_eq-Decides word.text (codes "json")).0 test.0 in
     let same : Json ≡ read.0 = test.1 in
     let P : StatusFormat → Type 0 = λ f. AreWordsOf (ShowStatus f) (codes "status" ∷ word.text ∷ []) × IsInRange (ShowStatus f) in
@@ -340,10 +341,10 @@ outside_inv : (end : ℕ) (words : List Placed) (command : Command) → outside 
 outside_inv end [] command gives = cc
 outside_inv end (first ∷ words) command gives =
     elim (cases_Bool (is_end_word first)) [
-      | inl ends ↦ let refused : Err (fault 6 first.at) ≡ Ok command = sym (cond-true (is_end_word first) _ _ ends) ∙ gives in cc
+      | inl ends ↦ let refused : Err (fault why.Lane first.at) ≡ Ok command = sym (cond-true (is_end_word first) _ _ ends) ∙ gives in cc
       | inr no' ↦
-          let named = then_inv (name_at first) (λ n. command_of n end words) command (sym (cond-false (is_end_word first) (Err (fault 6 first.at)) _ no') ∙ gives) in
-          let text : first.text ≡ name_text named.0 = name_inv first.text named.0 (or_inv (name_of first.text) (fault 1 first.at) named.0 named.1) in
+          let named = then_inv (name_at first) (λ n. command_of n end words) command (sym (cond-false (is_end_word first) (Err (fault why.Lane first.at)) _ no') ∙ gives) in
+          let text : first.text ≡ name_text named.0 = name_inv first.text named.0 (or_inv (name_of first.text) (fault why.Unknown first.at) named.0 named.1) in
           let P : List ℕ → Type 0 = λ t. AreWordsOf command (t ∷ texts words) × IsInRange command in
           let is = named_inv named.0 end words command named.2 in
           subst P (sym text) (is.0, is.1)
@@ -377,11 +378,11 @@ pub record InSection (lanes : ℕ) (words : List (List ℕ)) (line : LaneCommand
 lane_name_inv : (word : Placed) (n : CommandName) → lane_name_at word ≡ Ok n → (word.text ≡ name_text n) × (is_for_lanes n ≡ true)
 lane_name_inv word n gives =
     elim (cases_Bool (is_end_word word)) [
-      | inl ends ↦ let refused : Err (fault 6 word.at) ≡ Ok n = sym (cond-true (is_end_word word) _ _ ends) ∙ gives in cc
+      | inl ends ↦ let refused : Err (fault why.Lane word.at) ≡ Ok n = sym (cond-true (is_end_word word) _ _ ends) ∙ gives in cc
       | inr no' ↦
-          let named = then_inv (name_at word) (λ m. cond (is_for_lanes m) (Ok m) (Err (fault 6 word.at))) n (sym (cond-false (is_end_word word) (Err (fault 6 word.at)) _ no') ∙ gives) in
-          let text : word.text ≡ name_text named.0 = name_inv word.text named.0 (or_inv (name_of word.text) (fault 1 word.at) named.0 named.1) in
-          let test = guard_inv (is_for_lanes named.0) named.0 n (fault 6 word.at) named.2 in
+          let named = then_inv (name_at word) (λ m. cond (is_for_lanes m) (Ok m) (Err (fault why.Lane word.at))) n (sym (cond-false (is_end_word word) (Err (fault why.Lane word.at)) _ no') ∙ gives) in
+          let text : word.text ≡ name_text named.0 = name_inv word.text named.0 (or_inv (name_of word.text) (fault why.Unknown word.at) named.0 named.1) in
+          let test = guard_inv (is_for_lanes named.0) named.0 n (fault why.Lane word.at) named.2 in
           let P : CommandName → Type 0 = λ m. (word.text ≡ name_text m) × (is_for_lanes m ≡ true) in
           subst P test.1 (text, test.0)
     ]
@@ -389,8 +390,8 @@ lane_name_inv word n gives =
 inside_inv : (lanes end : ℕ) (words : List Placed) (line : LaneCommand) → inside lanes end words ≡ Ok line → InSection lanes (texts words) line
 inside_inv lanes end [] line gives = cc
 inside_inv lanes end (number ∷ []) line gives =
-    let read = then_inv (number_in 0 lanes number) (λ _. Err (fault 2 end)) line gives in
-    let refused : Err (fault 2 end) ≡ Ok line = read.2 in cc
+    let read = then_inv (number_in 0 lanes number) (λ _. Err (fault why.Count end)) line gives in
+    let refused : Err (fault why.Count end) ≡ Ok line = read.2 in cc
 inside_inv lanes end (number ∷ first ∷ words) line gives =
     let lane = then_inv (number_in 0 lanes number) (λ lane. lane_command_of lane end first words) line gives in
     let named = then_inv (lane_name_at first) _ line lane.2 in

@@ -11,6 +11,7 @@ use Rattle.std.proofs.lemmas.List.Elements.{All-append, All-cons, All-weaker}
 use Rattle.std.proofs.lemmas.List.Splits.{join_with_byte-slice_split, length-slice_split}
 use Rattle.std.proofs.lemmas.Str.Parse.{digit_at}
 use Rattle.draid_script.specs.declared.fault.LineFault.{LineFault}
+use Rattle.draid_script.specs.declared.fault.LineFaultKind.TheVariants as why
 use Rattle.draid_script.specs.declared.keys.Given.{Given}
 use Rattle.draid_script.specs.declared.line.ArmArgument.{ArmArgument}
 use Rattle.draid_script.specs.declared.line.ArmArgument.TheVariants.{Leaf, Spare}
@@ -141,24 +142,24 @@ line_by_words text n texts split =
 -- a number in its range
 pub number_in_again : (low limit n at : ℕ) → low ≤ n → n < limit → n < 2 ^ 64 → number_in low limit (record { text = decimal n; at = at }) ≡ Ok n
 number_in_again low limit n at above below small =
-    ap (λ (o : Option ℕ). ok_or o (fault 3 at) >>= within low limit at) (number_again n small)
-    ∙ cond-true (nat_le low n && nat_lt n limit) (Ok n) (Err (fault 5 at)) (and_from (nat_le low n) (nat_lt n limit) (le-leb low n above) (lt-ltb n limit below))
+    ap (λ (o : Option ℕ). ok_or o (fault why.Number at) >>= within low limit at) (number_again n small)
+    ∙ cond-true (nat_le low n && nat_lt n limit) (Ok n) (Err (fault why.Range at)) (and_from (nat_le low n) (nat_lt n limit) (le-leb low n above) (lt-ltb n limit below))
 
 number_at_again : (n at : ℕ) → n < 2 ^ 64 → number_at (record { text = decimal n; at = at }) ≡ Ok n
-number_at_again n at small = ap (λ (o : Option ℕ). ok_or o (fault 3 at)) (number_again n small)
+number_at_again n at small = ap (λ (o : Option ℕ). ok_or o (fault why.Number at)) (number_again n small)
 
 count_again : (first n at : ℕ) → AreObjects first n → count_at first (record { text = decimal n; at = at }) ≡ Ok n
 count_again first n at are =
     then_ok _ n _ (number_in_again 1 (most_objects + 1) n at are.0 (omega (arith, are.1)) (omega (arith, are.1)))
-    ∙ cond-true (nat_le (first + n) (2 ^ 32)) (Ok n) (Err (fault 5 at)) (le-leb (first + n) (2 ^ 32) are.2)
+    ∙ cond-true (nat_le (first + n) (2 ^ 32)) (Ok n) (Err (fault why.Range at)) (le-leb (first + n) (2 ^ 32) are.2)
 
 block_again : (end at : ℕ) (hex bytes : List ℕ) → bytes_of hex ≡ Some bytes → length bytes ≤ LONGEST_BLOCK → block_at end (record { text = hex; at = at }) ≡ Ok bytes
 block_again end at hex bytes spelled short =
     let word : Placed = record { text = hex; at = at } in
-    let bounded = λ (bs : List ℕ). cond (nat_le (length bs) LONGEST_BLOCK) (Ok bs) (Err (fault 5 at)) in
-    then_ok (ok_or (bytes_of hex) (fault 4 (hex_place end word))) bytes bounded
-    (ap (λ (o : Option (List ℕ)). ok_or o (fault 4 (hex_place end word))) spelled)
-    ∙ cond-true (nat_le (length bytes) LONGEST_BLOCK) (Ok bytes) (Err (fault 5 at)) (le-leb (length bytes) LONGEST_BLOCK short)
+    let bounded = λ (bs : List ℕ). cond (nat_le (length bs) LONGEST_BLOCK) (Ok bs) (Err (fault why.Range at)) in
+    then_ok (ok_or (bytes_of hex) (fault why.Hex (hex_place end word))) bytes bounded
+    (ap (λ (o : Option (List ℕ)). ok_or o (fault why.Hex (hex_place end word))) spelled)
+    ∙ cond-true (nat_le (length bytes) LONGEST_BLOCK) (Ok bytes) (Err (fault why.Range at)) (le-leb (length bytes) LONGEST_BLOCK short)
 
 pub one_again : (limit end at n : ℕ) → n < limit → limit ≤ 2 ^ 64 → one_number limit end (placed_from at (decimal n ∷ [])) ≡ Ok n
 one_again limit end at n below small = number_in_again 0 limit n at (omega arith) below (omega arith)

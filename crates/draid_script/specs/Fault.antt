@@ -1,10 +1,21 @@
 use Rattle.std.specs.Prelude.{◌≡◌, ℕ, Result, Ok, Err}
 use Rattle.draid_script.specs.declared.fault.LineFault.{LineFault}
+use Rattle.draid_script.specs.declared.fault.LineFaultKind.{LineFaultKind}
+use Rattle.draid_script.specs.declared.fault.LineFaultKind.TheVariants as why
 use Rattle.draid_script.specs.declared.fault.ParseFault.{ParseFault}
 use Rattle.draid_script.specs.declared.fault.ParseFault.TheVariants as refused
 
+-- the number by which a kind of fault is printed
+abbrev pub kind_number : LineFaultKind → ℕ
+kind_number why.Unknown = 1
+kind_number why.Count = 2
+kind_number why.Number = 3
+kind_number why.Hex = 4
+kind_number why.Range = 5
+kind_number why.Lane = 6
+
 -- a fault of a kind, at a place of the line
-abbrev pub fault : ℕ → ℕ → LineFault
+abbrev pub fault : LineFaultKind → ℕ → LineFault
 fault kind at = record { kind = kind; at = at }
 
 -- the second step, where the first gave a value

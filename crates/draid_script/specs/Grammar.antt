@@ -3,6 +3,7 @@ use Rattle.std.specs.Option.{ok_or}
 use Rattle.std.specs.Str.{bytes_eq}
 use Rattle.draid_names.specs.declared.numbers.TheConstants.{LONGEST_BLOCK, NUMBERS, OBJECTS}
 use Rattle.draid_script.specs.declared.fault.LineFault.{LineFault}
+use Rattle.draid_script.specs.declared.fault.LineFaultKind.TheVariants as why
 use Rattle.draid_script.specs.declared.line.StatusFormat.TheVariants.{Text}
 use Rattle.draid_script.specs.declared.name.CommandName.{CommandName}
 use Rattle.draid_script.specs.declared.name.CommandName.TheVariants as name
@@ -22,17 +23,17 @@ create_of end (spec ∷ children ∷ words) = do
   number ← number_in 0 (2 ^ 32) children
   keys ← keys_at words
   Ok (CreatePool spec.text number keys)
-create_of end _ = Err (fault 2 end)
+create_of end _ = Err (fault why.Count end)
 
 -- a command without further words
 abbrev pub alone : Command → ℕ → List Placed → Result Command LineFault
 alone command end [] = Ok command
-alone command end _ = Err (fault 2 end)
+alone command end _ = Err (fault why.Count end)
 
 -- one number below a limit
 abbrev pub one_number : ℕ → ℕ → List Placed → Result ℕ LineFault
 one_number limit end (word ∷ []) = number_in 0 limit word
-one_number limit end _ = Err (fault 2 end)
+one_number limit end _ = Err (fault why.Count end)
 
 -- two numbers, each below a limit
 abbrev pub two_numbers : ℕ → ℕ → ℕ → List Placed → Result (ℕ × ℕ) LineFault
@@ -40,13 +41,13 @@ two_numbers limit limit' end (word ∷ word' ∷ []) = do
   m ← number_in 0 limit word
   n ← number_in 0 limit' word'
   Ok (m, n)
-two_numbers limit limit' end _ = Err (fault 2 end)
+two_numbers limit limit' end _ = Err (fault why.Count end)
 
 -- at most one number, from 1 to 2^48 - 1
 abbrev pub limit_at : ℕ → List Placed → Result (Option ℕ) LineFault
 limit_at end [] = Ok None
 limit_at end (word ∷ []) = number_in 1 NUMBERS word >>= λ n. Ok (Some n)
-limit_at end _ = Err (fault 2 end)
+limit_at end _ = Err (fault why.Count end)
 
 -- `write O HEX`
 abbrev pub write_of : ℕ → List Placed → Result Command LineFault
@@ -54,7 +55,7 @@ write_of end (object ∷ hex ∷ []) = do
   number ← object_at object
   bytes ← block_at end hex
   Ok (WriteObject number bytes)
-write_of end _ = Err (fault 2 end)
+write_of end _ = Err (fault why.Count end)
 
 -- `fill F C L X`
 abbrev pub fill_of : ℕ → List Placed → Result Command LineFault
@@ -64,7 +65,7 @@ fill_of end (first ∷ count ∷ len ∷ seed ∷ []) = do
   l ← number_in 1 (LONGEST_BLOCK + 1) len
   x ← number_at seed
   Ok (FillObjects f c l x)
-fill_of end _ = Err (fault 2 end)
+fill_of end _ = Err (fault why.Count end)
 
 -- `sum F C`
 abbrev pub sum_of : ℕ → List Placed → Result Command LineFault
@@ -72,7 +73,7 @@ sum_of end (first ∷ count ∷ []) = do
   f ← object_at first
   c ← count_at f count
   Ok (SumObjects f c)
-sum_of end _ = Err (fault 2 end)
+sum_of end _ = Err (fault why.Count end)
 
 -- `replace S [X]`
 abbrev pub replace_of : ℕ → List Placed → Result Command LineFault
@@ -83,14 +84,14 @@ replace_of end (slot ∷ sectors ∷ []) = do
   s ← number_in 0 (2 ^ 32) slot
   n ← number_in 0 NUMBERS sectors
   Ok (ReplaceDisk s (Some n))
-replace_of end _ = Err (fault 2 end)
+replace_of end _ = Err (fault why.Count end)
 
 -- `detach A`
 abbrev pub detach_of : ℕ → List Placed → Result Command LineFault
 detach_of end (word ∷ []) = do
   arm ← arm_at word
   Ok (DetachArm arm)
-detach_of end _ = Err (fault 2 end)
+detach_of end _ = Err (fault why.Count end)
 
 -- `status` and `status json`
 abbrev pub status_of : ℕ → List Placed → Result Command LineFault
@@ -98,21 +99,21 @@ status_of end [] = Ok (ShowStatus Text)
 status_of end (word ∷ []) = do
   format ← format_at word
   Ok (ShowStatus format)
-status_of end _ = Err (fault 2 end)
+status_of end _ = Err (fault why.Count end)
 
 -- `lanes K`
 abbrev pub lanes_of : ℕ → List Placed → Result Command LineFault
 lanes_of end (word ∷ []) = do
   count ← number_in 1 (most_lanes + 1) word
   Ok (OpenLanes count)
-lanes_of end _ = Err (fault 2 end)
+lanes_of end _ = Err (fault why.Count end)
 
 -- `agent N` and `agent log`
 abbrev pub agent_of : ℕ → List Placed → Result Command LineFault
 agent_of end (word ∷ []) =
     if bytes_eq word.text (codes "log") then Ok ShowJournal
     else (number_in 1 (2 ^ 32) word >>= λ least. Ok (RunAgent least))
-agent_of end _ = Err (fault 2 end)
+agent_of end _ = Err (fault why.Count end)
 
 -- `read O`
 abbrev pub read_of : ℕ → List Placed → Result Command LineFault
@@ -180,9 +181,9 @@ command_of name.Checkpoint end words = alone TakeCheckpoint end words
 command_of name.Rewind end words = alone RewindPool end words
 command_of name.Discard end words = alone DiscardCheckpoint end words
 
--- the first word, of kind 1 where it is unknown
+-- the command whose first word it is
 abbrev pub name_at : Placed → Result CommandName LineFault
-name_at word = ok_or (name_of word.text) (fault 1 word.at)
+name_at word = ok_or (name_of word.text) (fault why.Unknown word.at)
 
 -- `end` stands in a section alone
 abbrev pub is_end_word : Placed → Bool
@@ -190,9 +191,9 @@ is_end_word word = bytes_eq word.text (codes "end")
 
 -- a line outside a section, by its words
 abbrev pub outside : ℕ → List Placed → Result Command LineFault
-outside end [] = Err (fault 1 0)
+outside end [] = Err (fault why.Unknown 0)
 outside end (first ∷ words) =
-    if is_end_word first then Err (fault 6 first.at)
+    if is_end_word first then Err (fault why.Lane first.at)
     else (name_at first >>= λ name. command_of name end words)
 
 -- an empty line, and a comment
@@ -204,11 +205,11 @@ is_silent (byte ∷ bytes) = byte == 35
 unfoldable pub line_of : List ℕ → Result Command LineFault
 line_of text = if is_silent text then Ok Silent else outside (length text) (words_of text)
 
--- a command that may stand in a section, of kind 6 where it is none
+-- a command that may stand in a section
 abbrev pub lane_name_at : Placed → Result CommandName LineFault
 lane_name_at word =
-    if is_end_word word then Err (fault 6 word.at)
-    else (name_at word >>= λ name. if is_for_lanes name then Ok name else Err (fault 6 word.at))
+    if is_end_word word then Err (fault why.Lane word.at)
+    else (name_at word >>= λ name. if is_for_lanes name then Ok name else Err (fault why.Lane word.at))
 
 abbrev pub lane_command_of : ℕ → ℕ → Placed → List Placed → Result LaneCommand LineFault
 lane_command_of lane end first words = do
@@ -218,8 +219,8 @@ lane_command_of lane end first words = do
 
 -- a line of a section by its words, of which the first is the lane's number
 abbrev pub inside : ℕ → ℕ → List Placed → Result LaneCommand LineFault
-inside lanes end [] = Err (fault 3 0)
-inside lanes end (number ∷ []) = number_in 0 lanes number >>= λ lane. Err (fault 2 end)
+inside lanes end [] = Err (fault why.Number 0)
+inside lanes end (number ∷ []) = number_in 0 lanes number >>= λ lane. Err (fault why.Count end)
 inside lanes end (number ∷ first ∷ words) = number_in 0 lanes number >>= λ lane. lane_command_of lane end first words
 
 -- what a line of a section of so many lanes asks for, or its first fault

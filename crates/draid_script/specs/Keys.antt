@@ -2,6 +2,7 @@ use Rattle.std.specs.Prelude.{ℕ, ◌==◌, Bool, List, [], ◌∷◌, codes, O
 use Rattle.std.specs.List.{before_first, after_first}
 use Rattle.std.specs.Str.{bytes_eq}
 use Rattle.draid_script.specs.declared.fault.LineFault.{LineFault}
+use Rattle.draid_script.specs.declared.fault.LineFaultKind.TheVariants as why
 use Rattle.draid_script.specs.declared.keys.Given.{Given}
 use Rattle.draid_script.specs.declared.keys.Key.{Key}
 use Rattle.draid_script.specs.declared.keys.Key.TheVariants.{Sector, Height, Metaslabs, Slices, Seed, Version}
@@ -22,7 +23,7 @@ value_in word = record { text = after_first is_equals word.text; at = word.at }
 
 -- the value of a key, read so, where none was given before
 abbrev pub new_value : (Placed → Result ℕ LineFault) → Option ℕ → Placed → Result (Option ℕ) LineFault
-new_value read (Some earlier) value = Err (fault 3 value.at)
+new_value read (Some earlier) value = Err (fault why.Number value.at)
 new_value read None value = read value >>= λ n. Ok (Some n)
 
 -- the key of a name
@@ -45,7 +46,7 @@ given_value given Slices value = new_value short_at given.slices value >>= λ va
 given_value given Seed value = new_value number_at given.seed value >>= λ value. Ok (record given { seed = value })
 given_value given Version value = new_value short_at given.version value >>= λ value. Ok (record given { version = value })
 
--- what is given with one more word `key=value`, of kind 3 where the word has another form or a key that is unknown or was given before
+-- what is given with one more word `key=value`, whose key is known and wasn't given before
 unfoldable pub given_with : Given → Placed → Result Given LineFault
 given_with given word =
     if bytes_eq (key_in word) (codes "sector")
@@ -60,7 +61,7 @@ given_with given word =
     then (new_value number_at given.seed (value_in word) >>= λ value. Ok (record given { seed = value }))
     else if bytes_eq (key_in word) (codes "version")
     then (new_value short_at given.version (value_in word) >>= λ value. Ok (record given { version = value }))
-    else Err (fault 3 word.at)
+    else Err (fault why.Number word.at)
 
 abbrev pub given_by : Given → List Placed → Result Given LineFault
 given_by given [] = Ok given

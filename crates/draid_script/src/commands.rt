@@ -8,7 +8,7 @@ ghost use Rattle.draid_script.specs.Word.{placed};
 use crate::field::{arm, block, count, format, number, number_in, object, short_number};
 use crate::keys::keys;
 use crate::word::Word;
-use crate::{CommandName, Line, LineFault, ParseFault, StatusFormat};
+use crate::{CommandName, Line, LineFaultKind, ParseFault, StatusFormat};
 use draid_names::{LONGEST_BLOCK, NUMBERS, OBJECTS};
 use std::alloc::Global;
 
@@ -80,7 +80,7 @@ fn create(alloc: Global, end: u64, words: &[Word]) -> Result<Line, ParseFault>
                 keys,
             })
         }
-        _ => Err(ParseFault::line(LineFault::COUNT, end)),
+        _ => Err(ParseFault::line(LineFaultKind::Count, end)),
     }
 }
 
@@ -94,7 +94,7 @@ fn write(alloc: Global, end: u64, words: &[Word]) -> Result<Line, ParseFault>
             let bytes = block(alloc, end, hex)?;
             Ok(Line::Write { object, bytes })
         }
-        _ => Err(ParseFault::line(LineFault::COUNT, end)),
+        _ => Err(ParseFault::line(LineFaultKind::Count, end)),
     }
 }
 
@@ -115,7 +115,7 @@ fn fill(end: u64, words: &[Word]) -> Result<Line, ParseFault>
                 seed,
             })
         }
-        _ => Err(ParseFault::line(LineFault::COUNT, end)),
+        _ => Err(ParseFault::line(LineFaultKind::Count, end)),
     }
 }
 
@@ -145,7 +145,7 @@ fn sum(end: u64, words: &[Word]) -> Result<Line, ParseFault>
             let count = count(first, many)?;
             Ok(Line::Sum { first, count })
         }
-        _ => Err(ParseFault::line(LineFault::COUNT, end)),
+        _ => Err(ParseFault::line(LineFaultKind::Count, end)),
     }
 }
 
@@ -204,7 +204,7 @@ fn replace(end: u64, words: &[Word]) -> Result<Line, ParseFault>
                 sectors: Some(sectors),
             })
         }
-        _ => Err(ParseFault::line(LineFault::COUNT, end)),
+        _ => Err(ParseFault::line(LineFaultKind::Count, end)),
     }
 }
 
@@ -217,7 +217,7 @@ fn detach(end: u64, words: &[Word]) -> Result<Line, ParseFault>
             let arm = arm(name)?;
             Ok(Line::Detach { arm })
         }
-        _ => Err(ParseFault::line(LineFault::COUNT, end)),
+        _ => Err(ParseFault::line(LineFaultKind::Count, end)),
     }
 }
 
@@ -257,7 +257,7 @@ fn status(end: u64, words: &[Word]) -> Result<Line, ParseFault>
             let format = format(word)?;
             Ok(Line::Status { format })
         }
-        _ => Err(ParseFault::line(LineFault::COUNT, end)),
+        _ => Err(ParseFault::line(LineFaultKind::Count, end)),
     }
 }
 
@@ -272,7 +272,7 @@ fn lanes(end: u64, words: &[Word]) -> Result<Line, ParseFault>
                 count: count as u32,
             })
         }
-        _ => Err(ParseFault::line(LineFault::COUNT, end)),
+        _ => Err(ParseFault::line(LineFaultKind::Count, end)),
     }
 }
 
@@ -286,7 +286,7 @@ fn agent(end: u64, words: &[Word]) -> Result<Line, ParseFault>
             let least = number_in(word, 1, SLOTS)?;
             Ok(Line::Agent { least })
         }
-        _ => Err(ParseFault::line(LineFault::COUNT, end)),
+        _ => Err(ParseFault::line(LineFaultKind::Count, end)),
     }
 }
 
@@ -298,7 +298,7 @@ fn alone(end: u64, words: &[Word], line: Line) -> Result<Line, ParseFault>
 {
     match words {
         [] => Ok(line),
-        _ => Err(ParseFault::line(LineFault::COUNT, end)),
+        _ => Err(ParseFault::line(LineFaultKind::Count, end)),
     }
 }
 
@@ -309,7 +309,7 @@ fn one_number(limit: u64, end: u64, words: &[Word]) -> Result<u64, ParseFault>
 {
     match words {
         [word] => number_in(word, 0, limit),
-        _ => Err(ParseFault::line(LineFault::COUNT, end)),
+        _ => Err(ParseFault::line(LineFaultKind::Count, end)),
     }
 }
 
@@ -324,7 +324,7 @@ fn two_numbers(limit: u64, limit_2: u64, end: u64, words: &[Word]) -> Result<(u6
             let number_2 = number_in(word_2, 0, limit_2)?;
             Ok((number, number_2))
         }
-        _ => Err(ParseFault::line(LineFault::COUNT, end)),
+        _ => Err(ParseFault::line(LineFaultKind::Count, end)),
     }
 }
 
@@ -339,6 +339,6 @@ fn limit(end: u64, words: &[Word]) -> Result<Option<u64>, ParseFault>
             let limit = number_in(word, 1, NUMBERS)?;
             Ok(Some(limit))
         }
-        _ => Err(ParseFault::line(LineFault::COUNT, end)),
+        _ => Err(ParseFault::line(LineFaultKind::Count, end)),
     }
 }

@@ -3,38 +3,67 @@ ghost use Rattle.draid_script.specs.declared.fault.ParseFault.TheVariants.{NoMem
 
 use draid_names::NoMemory;
 use std::alloc::{AllocError, AllocFailed};
+use thiserror::Error;
+
+/// What is wrong with a line, with its number in brackets.
+#[derive(Clone, Copy, Debug, PartialEq, Eq, Error)]
+pub enum LineFaultKind {
+    /// The first word is that of no command (1).
+    #[error("unknown command")]
+    Unknown,
+    /// There are too few or too many words (2).
+    #[error("wrong number of words")]
+    Count,
+    /// A word is no number, no `key=value` or no name (3).
+    #[error("no number, no setting or no name")]
+    Number,
+    /// A word is no hex (4).
+    #[error("no hex")]
+    Hex,
+    /// A number is out of its range (5).
+    #[error("number out of range")]
+    Range,
+    /// The line may not stand there (6).
+    #[error("not allowed here")]
+    Lane,
+}
+
+impl LineFaultKind {
+    ghost use Rattle.draid_script.specs.Fault.{kind_number};
+
+    /// The number by which it is printed.
+    pub fn number(self) -> u8
+        ensures { result ≡ kind_number self }
+    {
+        match self {
+            LineFaultKind::Unknown => 1,
+            LineFaultKind::Count => 2,
+            LineFaultKind::Number => 3,
+            LineFaultKind::Hex => 4,
+            LineFaultKind::Range => 5,
+            LineFaultKind::Lane => 6,
+        }
+    }
+}
 
 /// Why a text is no line.
-#[derive(Clone, Copy)]
+#[derive(Clone, Copy, Debug, Error)]
+#[error("{kind} at byte {at}")]
 pub struct LineFault {
-    /// 1 for an unknown command, 2 for a wrong count of words, 3 for a word that is no number, no `key=value` or no
-    /// name, 4 for a word that is no hex, 5 for a number out of its range, and 6 for a line that may not stand there.
-    pub kind: u8,
-    /// The place in the line, from 0 on: of the first byte of the word; for kind 2 the line's length; for kind 4 of
-    /// the byte that is no hex digit, else the line's length.
+    pub kind: LineFaultKind,
+    /// The place in the line, from 0 on: of the first byte of the word; for a wrong count the line's length; for a word
+    /// that is no hex that of the byte which is no hex digit, else the line's length.
     pub at: u64,
 }
 
-impl LineFault {
-    pub const UNKNOWN: u8 = 1;
-
-    pub const COUNT: u8 = 2;
-
-    pub const NUMBER: u8 = 3;
-
-    pub const HEX: u8 = 4;
-
-    pub const RANGE: u8 = 5;
-
-    pub const LANE: u8 = 6;
-}
-
 /// Why no line was read.
-#[derive(Clone, Copy)]
+#[derive(Clone, Copy, Debug, Error)]
 pub enum ParseFault {
     /// The first fault of the line.
+    #[error(transparent)]
     Line(LineFault),
     /// Want of memory.
+    #[error("no memory")]
     NoMemory,
 }
 
@@ -43,7 +72,7 @@ impl ParseFault {
     ghost use Rattle.draid_script.specs.Fault.{fault};
 
     /// A fault of the line.
-    pub(crate) fn line(kind: u8, at: u64) -> ParseFault
+    pub(crate) fn line(kind: LineFaultKind, at: u64) -> ParseFault
         ensures { result ≡ Line (fault kind at) }
     {
         ParseFault::Line(LineFault { kind, at })

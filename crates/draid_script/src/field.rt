@@ -6,7 +6,7 @@ ghost use Rattle.draid_script.specs.Word.{placed};
 
 use crate::text::{decimal, hex_bytes, is_hex};
 use crate::word::Word;
-use crate::{ArmArgument, LineFault, ParseFault, StatusFormat};
+use crate::{ArmArgument, LineFaultKind, ParseFault, StatusFormat};
 use draid_names::{LONGEST_BLOCK, NUMBERS, OBJECTS};
 use std::alloc::Global;
 
@@ -23,7 +23,7 @@ pub fn number(word: &Word) -> Result<u64, ParseFault>
 {
     match decimal(word.text) {
         Some(number) => Ok(number),
-        None => Err(ParseFault::line(LineFault::NUMBER, word.at)),
+        None => Err(ParseFault::line(LineFaultKind::Number, word.at)),
     }
 }
 
@@ -36,7 +36,7 @@ pub fn number_in(word: &Word, low: u64, limit: u64) -> Result<u64, ParseFault>
     if low <= number && number < limit {
         Ok(number)
     } else {
-        Err(ParseFault::line(LineFault::RANGE, word.at))
+        Err(ParseFault::line(LineFaultKind::Range, word.at))
     }
 }
 
@@ -66,7 +66,7 @@ pub fn count(first: u64, word: &Word) -> Result<u64, ParseFault>
     if first + count <= OBJECTS {
         Ok(count)
     } else {
-        Err(ParseFault::line(LineFault::RANGE, word.at))
+        Err(ParseFault::line(LineFaultKind::Range, word.at))
     }
 }
 
@@ -77,8 +77,8 @@ pub fn block(alloc: Global, end: u64, word: &Word) -> Result<Vec<u8>, ParseFault
 {
     match hex_bytes(alloc, word.text)? {
         Some(bytes) if bytes.len() as u64 <= LONGEST_BLOCK => Ok(bytes),
-        Some(_) => Err(ParseFault::line(LineFault::RANGE, word.at)),
-        None => Err(ParseFault::line(LineFault::HEX, hex_place(end, word))),
+        Some(_) => Err(ParseFault::line(LineFaultKind::Range, word.at)),
+        None => Err(ParseFault::line(LineFaultKind::Hex, hex_place(end, word))),
     }
 }
 
@@ -119,7 +119,7 @@ fn spare(name: &Word) -> Result<ArmArgument, ParseFault>
             let parity = u32::from(*parity - b'0');
             Ok(ArmArgument::Spare { parity, spare })
         }
-        _ => Err(ParseFault::line(LineFault::NUMBER, name.at)),
+        _ => Err(ParseFault::line(LineFaultKind::Number, name.at)),
     }
 }
 
@@ -130,6 +130,6 @@ pub fn format(word: &Word) -> Result<StatusFormat, ParseFault>
     if word.text == JSON {
         Ok(StatusFormat::Json)
     } else {
-        Err(ParseFault::line(LineFault::NUMBER, word.at))
+        Err(ParseFault::line(LineFaultKind::Number, word.at))
     }
 }

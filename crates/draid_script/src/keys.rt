@@ -8,7 +8,7 @@ ghost use Rattle.draid_script.specs.Word.{placed};
 use crate::field::{number, short_number};
 use crate::text::{first, without_first};
 use crate::word::Word;
-use crate::{LineFault, ParseFault, PoolKeys};
+use crate::{LineFaultKind, ParseFault, PoolKeys};
 
 const SECTOR: &[u8] = b"sector";
 
@@ -52,7 +52,7 @@ impl Given {
         let (name, value) = halves(word);
         match key_named(name) {
             Some(key) => self.with_value(key, &value),
-            None => Err(ParseFault::line(LineFault::NUMBER, word.at)),
+            None => Err(ParseFault::line(LineFaultKind::Number, word.at)),
         }
     }
 
@@ -155,7 +155,7 @@ fn new_short(earlier: Option<u32>, value: &Word) -> Result<Option<u32>, ParseFau
     ensures { Gives (λ new. new) result (new_value short_at earlier (placed value.now)) }
 {
     match earlier {
-        Some(_) => Err(ParseFault::line(LineFault::NUMBER, value.at)),
+        Some(_) => Err(ParseFault::line(LineFaultKind::Number, value.at)),
         None => {
             let number = short_number(value)?;
             Ok(Some(number))
@@ -168,7 +168,7 @@ fn new_number(earlier: Option<u64>, value: &Word) -> Result<Option<u64>, ParseFa
     ensures { Gives (λ new. new) result (new_value number_at earlier (placed value.now)) }
 {
     match earlier {
-        Some(_) => Err(ParseFault::line(LineFault::NUMBER, value.at)),
+        Some(_) => Err(ParseFault::line(LineFaultKind::Number, value.at)),
         None => {
             let number = number(value)?;
             Ok(Some(number))

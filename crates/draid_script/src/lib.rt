@@ -14,7 +14,7 @@ mod text;
 mod word;
 mod words;
 
-pub use fault::{LineFault, ParseFault};
+pub use fault::{LineFault, LineFaultKind, ParseFault};
 pub use laws::{
     lane_lines_are_exact, lane_lines_are_read_again, lines_are_exact, lines_are_read_again,
     numbers_are_decimal, words_are_joined,

@@ -9,7 +9,7 @@ use crate::commands::command;
 use crate::field::number_in;
 use crate::word::Word;
 use crate::words::words;
-use crate::{CommandName, LaneLine, Line, LineFault, ParseFault};
+use crate::{CommandName, LaneLine, Line, LineFaultKind, ParseFault};
 use std::alloc::Global;
 
 const END: &[u8] = b"end";
@@ -59,12 +59,12 @@ fn outside(alloc: Global, end: u64, words: &[Word]) -> Result<Line, ParseFault>
     ensures range { IfOk result (λ line. IsInRange (command_in line)) }
 {
     match words {
-        [first, ..] if first.text == END => Err(ParseFault::line(LineFault::LANE, first.at)),
+        [first, ..] if first.text == END => Err(ParseFault::line(LineFaultKind::Lane, first.at)),
         [first, words @ ..] => {
             let name = name(first)?;
             command(alloc, name, end, words)
         }
-        [] => Err(ParseFault::line(LineFault::UNKNOWN, 0)),
+        [] => Err(ParseFault::line(LineFaultKind::Unknown, 0)),
     }
 }
 
@@ -75,10 +75,10 @@ fn inside(alloc: Global, lanes: u64, end: u64, words: &[Word]) -> Result<LaneLin
     ensures range { IfOk result (λ line. IsLaneLine lanes (lane_command_in line)) }
 {
     match words {
-        [] => Err(ParseFault::line(LineFault::NUMBER, 0)),
+        [] => Err(ParseFault::line(LineFaultKind::Number, 0)),
         [lane] => {
             let _lane = number_in(lane, 0, lanes)?;
-            Err(ParseFault::line(LineFault::COUNT, end))
+            Err(ParseFault::line(LineFaultKind::Count, end))
         }
         [lane, first, words @ ..] => {
             let lane = number_in(lane, 0, lanes)? as u32;
@@ -95,7 +95,7 @@ fn name(word: &Word) -> Result<CommandName, ParseFault>
 {
     match CommandName::of(word.text) {
         Some(name) => Ok(name),
-        None => Err(ParseFault::line(LineFault::UNKNOWN, word.at)),
+        None => Err(ParseFault::line(LineFaultKind::Unknown, word.at)),
     }
 }
 
@@ -104,12 +104,12 @@ fn lane_name(word: &Word) -> Result<CommandName, ParseFault>
     ensures { Gives (λ name. name) result (spec.lane_name_at (placed word.now)) }
 {
     if word.text == END {
-        return Err(ParseFault::line(LineFault::LANE, word.at));
+        return Err(ParseFault::line(LineFaultKind::Lane, word.at));
     }
     let name = name(word)?;
     if name.is_for_lanes() {
         Ok(name)
     } else {
-        Err(ParseFault::line(LineFault::LANE, word.at))
+        Err(ParseFault::line(LineFaultKind::Lane, word.at))
     }
 }

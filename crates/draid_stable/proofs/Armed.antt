@@ -1,5 +1,5 @@
 -- The arms of a record are in their ranges.
-use Rattle.std.proofs.Common.{◌≡◌, ◌==◌, ◌<◌, ◌≤◌, ◌+◌, ◌||◌, ◌&&◌, ◌⊎◌, inl, inr, not, nat_lt, ℕ, zero, suc, Bool, true, false, List, [], ◌∷◌, ◌++◌, append_assoc, length, map, Some, All, refl, sym, ◌∙◌, ap, ap₂, subst, arith, slice_get, slice_index_or}
+use Rattle.std.proofs.Common.{◌≡◌, ◌==◌, ◌<◌, ◌≤◌, ◌+◌, ◌||◌, ◌&&◌, ◌⊎◌, inl, inr, not, nat_lt, ℕ, zero, suc, Bool, true, false, List, [], ◌∷◌, ◌++◌, append_assoc, length, map, Some, All, refl, sym, ◌∙◌, ap, ap₂, subst, arith, slice_get, slice_index_or, eqb-true, lt-ltb}
 use Rattle.std.specs.List.{list_any}
 use Rattle.std.proofs.lemmas.Bool.{true≢false}
 use Rattle.std.proofs.lemmas.Bool.Decides.{nat_tests}
@@ -57,12 +57,6 @@ leaf_code : (k : ArmKind) → is_kind k Leaf ≡ (code_of k == 0)
 leaf_code Leaf = refl
 leaf_code Spare = refl
 
-same_number : (a b : ℕ) → (a == b) ≡ true → a ≡ b
-same_number a b is = grind (arith, nat_tests)
-
-is_less : (a b : ℕ) → a < b → nat_lt a b ≡ true
-is_less a b l = grind (arith, nat_tests)
-
 leaf_any : (list : List ArmTold) → has_leaf list ≡ table.has_leaf (map (λ (told : ArmTold). told.0) list)
 leaf_any [] = refl
 leaf_any (t ∷ ts) = ap₂ (λ a b. a || b) (leaf_kind t.0.kind) (leaf_any ts)
@@ -100,7 +94,7 @@ module _ (limits : Limits) (slots : SlotTable) (sound : IsTable slots) (fit : Ar
       let a : Arm = (slice_index_or (slice_index_or all i []) j d).0 in
       let b : Arm = (slice_index_or (slice_index_or all k []) m e).0 in
       let z = both_true (is_kind a.kind b.kind) (a.number == b.number) same in
-      let name : name_of a ≡ name_of b = ap₂ named (same_kind a.kind b.kind z.0) (same_number a.number b.number z.1) in
+      let name : name_of a ≡ name_of b = ap₂ named (same_kind a.kind b.kind z.0) (eqb-true a.number b.number z.1) in
       let at = fit.once (record { slot = i; arm = j }) (record { slot = k; arm = m }) a b (there_at i j d l) (there_at k m e n) name in
       (ap (λ (p : ArmAt). p.slot) at, ap (λ (p : ArmAt). p.arm) at)
 
@@ -196,13 +190,13 @@ module _ (limits : Limits) (slots : SlotTable) (sound : IsTable slots) (fit : Ar
               last false false is = is
           by (b ∷ bs) s =
               true_left (nat_lt (length here + 1) (length list)) (has_leaf here || (code_of a.0.kind == 0))
-              (is_less (length here + 1) (length list) (let q = ap length s in let r = seam_length here (a ∷ b ∷ bs) in omega (arith, q, r)))
+              (lt-ltb (length here + 1) (length list) (let q = ap length s in let r = seam_length here (a ∷ b ∷ bs) in omega (arith, q, r)))
 
       one_arm : LogFits a → IsArm limits before (length list) here a
       one_arm log = record {
         leaf = keeps_leaf;
         known = true_both (nat_lt a.0.number (limit_of limits a.0.kind)) (not (stands before here a.0.kind a.0.number))
-            (is_less a.0.number (limit_of limits a.0.kind) (number_fits (record { slot = length before; arm = length here }) a.0 own_there slot_is)) (not_true (stands before here a.0.kind a.0.number) is_new);
+            (lt-ltb a.0.number (limit_of limits a.0.kind) (number_fits (record { slot = length before; arm = length here }) a.0 own_there slot_is)) (not_true (stands before here a.0.kind a.0.number) is_new);
         small = fit.small (record { slot = length before; arm = length here }) a.0 own_there;
         flags_are = flags a.0 (fit.online (record { slot = length before; arm = length here }) a.0 own_there);
         few = log.few;

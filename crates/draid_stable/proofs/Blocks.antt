@@ -1,5 +1,5 @@
 -- The blocks of a record are in their ranges.
-use Rattle.std.proofs.Common.{◌≡◌, ◌==◌, ◌≤◌, ◌+◌, ◌-◌, ◌&&◌, not, ℕ, suc, Bool, true, false, List, [], ◌∷◌, length, All, if◌then◌else◌, arith, nat_le}
+use Rattle.std.proofs.Common.{◌≡◌, ◌==◌, ◌≤◌, ◌+◌, ◌-◌, ◌&&◌, not, ℕ, suc, Bool, true, false, List, [], ◌∷◌, length, All, if◌then◌else◌, arith, nat_le, leb-true, eq-eqb}
 use Rattle.std.specs.Bool.{⊤}
 use Rattle.std.proofs.lemmas.Bool.Decides.{nat_tests}
 use Rattle.std.proofs.lemmas.List.Elements.{All-head, All-tail}
@@ -13,12 +13,6 @@ use Rattle.draid_record.specs.declared.limits.Limits.{Limits}
 use Rattle.draid_record.specs.Ranges.{AreBlocks, IsBlock}
 use Rattle.draid_record.specs.Record.{spaces_from, spaces_of, stripes_of}
 use Rattle.draid_stable.specs.Within.{EntriesFit, IsPlaced}
-
-not_above : (a b : ℕ) → nat_le a b ≡ true → a ≤ b
-not_above a b is = grind (arith, nat_tests)
-
-same_number : (a b : ℕ) → a ≡ b → (a == b) ≡ true
-same_number a b is = grind (arith, nat_tests)
 
 -- the first block of a list begins at or behind a stripe
 abbrev HeadFrom : ℕ → List Pointer → Type 0
@@ -42,9 +36,9 @@ module _ (limits : Limits) (entries : Entries) (fit : EntriesFit limits entries)
         stripes_small = p.stripes_small;
         some_len = p.some_len;
         most_len = p.most_len;
-        whole = same_number b.stripes (stripes_of limits b.len) p.whole;
+        whole = eq-eqb b.stripes (stripes_of limits b.len) p.whole;
         some_birth = p.some_birth;
-        most_birth = not_above b.birth limits.group born.1;
+        most_birth = leb-true b.birth limits.group born.1;
         digest_len = p.digest_len;
       }
 

@@ -1,5 +1,5 @@
 -- A block was written in a group just where the group's record lists one that was born in it.
-use Rattle.std.proofs.Common.{◌≡◌, ◌==◌, ◌&&◌, not, ℕ, Bool, true, false, List, [], Option, Some, None, IsSome, refl, sym, ◌∙◌, ap, subst, arith, nat_le, slice_index_or}
+use Rattle.std.proofs.Common.{◌≡◌, ◌==◌, ◌&&◌, not, ℕ, Bool, true, false, List, [], Option, Some, None, IsSome, refl, sym, ◌∙◌, ap, subst, arith, nat_le, slice_index_or, eqb-true, eq-eqb}
 use Rattle.std.specs.List.{list_any}
 use Rattle.std.proofs.lemmas.Bool.{true≢false}
 use Rattle.std.proofs.lemmas.Bool.Decides.{nat_tests}
@@ -49,12 +49,6 @@ kept_back group h block born stays =
     ap (λ b. keep_if b (record h { stage = Live }))
     (true_both (is_block h.stage && nat_le h.birth group) (not (is_freed_by group h.stage)) (true_both (is_block h.stage) (nat_le h.birth group) block born) (ap not stays))
 
-same_birth : (a b : ℕ) → (a == b) ≡ true → a ≡ b
-same_birth a b is = grind (arith, nat_tests)
-
-birth_test : (a b : ℕ) → a ≡ b → (a == b) ≡ true
-birth_test a b is = grind (arith, nat_tests)
-
 birth_low : (a b : ℕ) → a ≡ b → nat_le a b ≡ true
 birth_low a b is = grind (arith, nat_tests)
 
@@ -64,7 +58,7 @@ module _ (entries : Entries) (group : ℕ) (blocks : List Pointer) (lists : List
       let w = any_where (was_born group) blocks none any in
       let b : Pointer = slice_index_or blocks w.0 none in
       let k : Kept group (held_in entries (key_of b)) (held_of b) = kept_from group (held_in entries (key_of b)) (held_of b) (lists.says.each w.0 none w.1) in
-      record { key = key_of b; h = k.h; found = same (key_of b) ∙ k.is; block = k.block; born = k.birth ∙ same_birth b.birth group w.2; stays = k.stays }
+      record { key = key_of b; h = k.h; found = same (key_of b) ∙ k.is; block = k.block; born = k.birth ∙ eqb-true b.birth group w.2; stays = k.stays }
     where
       none : Pointer
       none = record { object = 0; seq = 0; metaslab = 0; first = 0; stripes = 0; len = 0; birth = 0; digest = [] }
@@ -80,7 +74,7 @@ module _ (entries : Entries) (group : ℕ) (blocks : List Pointer) (lists : List
       let named : key_of b ≡ w.key = key_true (key_of b) w.key z.2 in
       let at : Some (held_of b) ≡ Some (record w.h { stage = Live }) = sym (lists.says.each z.0 nothing z.1) ∙ ap (λ k. seal_held group (held_in entries k)) named ∙ sealed in
       let born : b.birth ≡ group = ap (λ (y : Held). y.birth) (some_injective (held_of b) (record w.h { stage = Live }) at) ∙ w.born in
-      true≢false (sym (any_at (was_born group) blocks z.0 nothing z.1 (birth_test b.birth group born)) ∙ none)
+      true≢false (sym (any_at (was_born group) blocks z.0 nothing z.1 (eq-eqb b.birth group born)) ∙ none)
     where
       nothing : Pointer
       nothing = record { object = 0; seq = 0; metaslab = 0; first = 0; stripes = 0; len = 0; birth = 0; digest = [] }

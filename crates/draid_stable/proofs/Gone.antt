@@ -1,5 +1,5 @@
 -- Leaves that are no arms go.
-use Rattle.std.proofs.Common.{◌≡◌, ◌==◌, not, ℕ, Bool, true, false, List, [], Option, Some, None, IfNone, is_some, if◌then◌else◌, refl, sym, ◌∙◌, ap, arith, slice_index_or}
+use Rattle.std.proofs.Common.{◌≡◌, ◌==◌, not, ℕ, Bool, true, false, List, [], Option, Some, None, IfNone, is_some, if◌then◌else◌, refl, sym, ◌∙◌, ap, arith, slice_index_or, eqb-true}
 use Rattle.std.specs.List.{list_any}
 use Rattle.std.proofs.lemmas.Bool.{true≢false}
 use Rattle.std.proofs.lemmas.Bool.Decides.{nat_tests}
@@ -23,16 +23,13 @@ pub not_named : (b : Bool) → b ≡ false → not b ≡ true
 not_named true is = absurd (true≢false is)
 not_named false is = refl
 
-same_number : (a b : ℕ) → (a == b) ≡ true → a ≡ b
-same_number a b is = grind (arith, nat_tests)
-
 leaf_is : (k : ArmKind) → is_leaf_kind k ≡ true → k ≡ Leaf
 leaf_is Leaf is = refl
 leaf_is Spare is = absurd (true≢false (sym is))
 
 -- an arm that is the leaf
 pub the_arm : (leaf : ℕ) (arm : Arm) → is_leaf_of leaf arm ≡ true → (arm.kind ≡ Leaf) × (arm.number ≡ leaf)
-the_arm leaf arm is = let z = both_true (is_leaf_kind arm.kind) (arm.number == leaf) is in (leaf_is arm.kind z.0, same_number arm.number leaf z.1)
+the_arm leaf arm is = let z = both_true (is_leaf_kind arm.kind) (arm.number == leaf) is in (leaf_is arm.kind z.0, eqb-true arm.number leaf z.1)
 
 pub no_arm : (table : SlotTable) (leaf : ℕ) → ((at : ArmAt) → ¬ (IsArmOf Leaf leaf (arm_at table at))) → has_leaf_arm table leaf ≡ false
 no_arm table leaf never = by (has_leaf_arm table leaf) refl
@@ -54,7 +51,7 @@ pub kept_leaf : (arm : ℕ → Bool) (leaves : ℕ → Option ℕ) (leaf other :
 kept_leaf arm leaves leaf other gone is = by (other == leaf) refl
   where
     by : (b : Bool) → (other == leaf) ≡ b → (if b then None else leaves other) ≡ leaves other
-    by true same = absurd (true≢false (sym is ∙ ap arm (same_number other leaf same) ∙ gone))
+    by true same = absurd (true≢false (sym is ∙ ap arm (eqb-true other leaf same) ∙ gone))
     by false same = refl
 
 -- where the leaf that went is no arm

@@ -1,5 +1,5 @@
 -- The arms of a record in its ranges: each is found by its name, and the slots are those of a metaslab.
-use Rattle.std.proofs.Common.{◌≡◌, ◌==◌, ◌<◌, ◌≤◌, ◌+◌, ◌||◌, ◌&&◌, not, nat_lt, ℕ, zero, suc, Bool, true, false, List, [], ◌∷◌, ◌++◌, append_assoc, length, map, find, Some, None, All, cond, refl, sym, ◌∙◌, ap, subst, arith, slice_get, slice_index_or}
+use Rattle.std.proofs.Common.{◌≡◌, ◌==◌, ◌<◌, ◌≤◌, ◌+◌, ◌||◌, ◌&&◌, not, nat_lt, ℕ, zero, suc, Bool, true, false, List, [], ◌∷◌, ◌++◌, append_assoc, length, map, find, Some, None, All, cond, refl, sym, ◌∙◌, ap, subst, arith, slice_get, slice_index_or, eq-eqb, le-ltb, ltb-true}
 use Rattle.std.specs.List.{list_any}
 use Rattle.std.specs.Option.{option_or}
 use Rattle.std.proofs.lemmas.Bool.{true≢false}
@@ -38,11 +38,8 @@ same_kind : (k : ArmKind) → is_kind k k ≡ true
 same_kind Leaf = refl
 same_kind Spare = refl
 
-same_number : (n : ℕ) → (n == n) ≡ true
-same_number n = grind (arith, nat_tests)
-
 is_itself : (t : ArmTold) → is_of t.0.kind t.0.number t ≡ true
-is_itself t = ap (λ b. b && (t.0.number == t.0.number)) (same_kind t.0.kind) ∙ same_number t.0.number
+is_itself t = ap (λ b. b && (t.0.number == t.0.number)) (same_kind t.0.kind) ∙ eq-eqb t.0.number t.0.number refl
 
 either_false : (a b : Bool) → (a || b) ≡ false → (a ≡ false) × (b ≡ false)
 either_false true b is = absurd (true≢false is)
@@ -134,16 +131,13 @@ last_leaf true false code last is = absurd (true≢false last)
 last_leaf false false true last is = refl
 last_leaf false false false last is = absurd (true≢false (sym is))
 
-not_below : (a b : ℕ) → b ≤ a → nat_lt a b ≡ false
-not_below a b le = grind (arith, nat_tests)
-
 some_leaf : (limits : Limits) (before : List (List ArmTold)) (count : ℕ) (here list : List ArmTold) → AreArms limits before count here list → 1 ≤ length list → length here + length list ≡ count
     → has_leaf (here ++ list) ≡ true
 some_leaf limits before count here [] are some is = absurd (omega (arith, some))
 some_leaf limits before count here (a ∷ []) are some is =
     list_any-append (λ (told : ArmTold). is_kind told.0.kind Leaf) here (a ∷ [])
     ∙ ap (λ c. has_leaf here || (c || false)) (sym (leaf_code a.0.kind))
-    ∙ last_leaf (nat_lt (length here + 1) count) (has_leaf here) (code_of a.0.kind == 0) (not_below (length here + 1) count (omega (arith, is))) are.0.leaf
+    ∙ last_leaf (nat_lt (length here + 1) count) (has_leaf here) (code_of a.0.kind == 0) (le-ltb (length here + 1) count (omega (arith, is))) are.0.leaf
 some_leaf limits before count here (a ∷ b ∷ rest) are some is =
     ap has_leaf (sym (append_assoc here (a ∷ []) (b ∷ rest)))
     ∙ some_leaf limits before count (here ++ a ∷ []) (b ∷ rest) are.1 (omega arith) (let n = length-append here (a ∷ []) in omega (arith, n, is))
@@ -156,16 +150,13 @@ leaf_any (t ∷ ts) = λ i. kind t.0.kind i || leaf_any ts i
     kind Leaf = refl
     kind Spare = refl
 
-below : (a b : ℕ) → nat_lt a b ≡ true → a < b
-below a b is = grind (arith, nat_tests)
-
 spare_low : (limits : Limits) (before : List (List ArmTold)) (count : ℕ) (here : List ArmTold) (t : ArmTold) → IsArm limits before count here t → table.is_spare_kind t.0.kind ≡ true → t.0.number < limits.spares
 spare_low limits before count here t is spare =
     by t.0.kind spare (both_true (nat_lt t.0.number (limit_of limits t.0.kind)) (not (stands before here t.0.kind t.0.number)) is.known).0
   where
     by : (k : ArmKind) → table.is_spare_kind k ≡ true → nat_lt t.0.number (limit_of limits k) ≡ true → t.0.number < limits.spares
     by Leaf spare less = absurd (true≢false (sym spare))
-    by Spare spare less = below t.0.number limits.spares less
+    by Spare spare less = ltb-true t.0.number limits.spares less
 
 pooled : (limits : Limits) (before : List (List ArmTold)) (count : ℕ) (here list : List ArmTold) → AreArms limits before count here list
     → All (λ (arm : Arm). table.is_spare_kind arm.kind ≡ true → arm.number < limits.spares) (map (λ (told : ArmTold). told.0) list)

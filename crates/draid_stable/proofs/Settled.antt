@@ -1,4 +1,5 @@
 -- A record that is settled says the image of the state that the sealing leaves.
+use Rattle.std.proofs.Math.Bool.{or-false}
 use Rattle.std.proofs.Common.{◌≡◌, ◌==◌, ◌<◌, ◌+◌, ◌||◌, ◌&&◌, not, ℕ, zero, suc, Bool, true, false, List, [], ◌∷◌, ◌++◌, length, map, filter, count_by, Option, Some, None, IfSome, find, cond, refl, sym, ◌∙◌, ap, subst, arith, slice_get, slice_index_or, option_map}
 use Rattle.std.specs.Bool.{⊤}
 use Rattle.std.specs.List.{flat_map}
@@ -73,9 +74,6 @@ get_is (x ∷ xs) zero d less = refl
 get_is (x ∷ xs) (suc k) d less = get_is xs k d (omega (arith, less))
 
 -- ---- what is told, before and after
-or_none : (b : Bool) → (b || false) ≡ b
-or_none true = refl
-or_none false = refl
 
 module _ (bad : ArmName → Bool) (wrote : Bool) (group : ℕ) where
   -- an arm of which just the log changed: it got the group where something was written and the arm is bad
@@ -257,7 +255,7 @@ module _ (bad : ArmName → Bool) (marks : List (List Bool)) (group : ℕ) where
         (zip_from (λ (x y : Vec (Arm × Numbers) Global). Zipped (Logs bad true group) (told_slot x.items) (told_slot y.items)) olds news m.count one_slot)
 
   no_slot : (slots : List (List ArmTold)) → Zipped (Zipped (Logs bad false group)) slots slots
-  no_slot = zip_same (Zipped (Logs bad false group)) (zip_same (Logs bad false group) (λ told. record { arm = refl; log = λ g. sym (or_none (has_in told.1 g)) }))
+  no_slot = zip_same (Zipped (Logs bad false group)) (zip_same (Logs bad false group) (λ told. record { arm = refl; log = λ g. sym (or-false (has_in told.1 g)) }))
 
 pub settles_image : (old new : Record) (marks : List (List Bool)) (wrote : Bool) → IsReady old → IsSettled old new marks wrote → (l : machine.Layout) (q : machine.Core) (failed : List ℕ)
     → AreMarked (told_slots old.slots.items) marks (lies_on l q (is_silent q failed)) → image_by (told_record old) ≡ image_of old.group old.version q

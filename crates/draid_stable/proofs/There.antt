@@ -1,5 +1,5 @@
 -- The leaves of a record that lacks none: they are in the rack, and are arms of the tables.
-use Rattle.std.proofs.Common.{◌≡◌, ◌==◌, ◌+◌, ◌||◌, ◌&&◌, not, ℕ, zero, suc, Bool, true, false, List, [], ◌∷◌, map, Option, Some, None, Result, Ok, Err, refl, sym, ◌∙◌, ap, subst, arith, slice_get, slice_index_or, option_map, unwrap_or, is_some, IfSome, if◌then◌else◌}
+use Rattle.std.proofs.Common.{◌≡◌, ◌==◌, ◌+◌, ◌||◌, ◌&&◌, not, ℕ, zero, suc, Bool, true, false, List, [], ◌∷◌, map, Option, Some, None, Result, Ok, Err, refl, sym, ◌∙◌, ap, subst, arith, slice_get, slice_index_or, option_map, unwrap_or, is_some, IfSome, if◌then◌else◌, eqb-true, eq-eqb}
 use Rattle.std.specs.List.{list_any}
 use Rattle.std.specs.Option.{option_or}
 use Rattle.std.proofs.lemmas.Bool.{true≢false}
@@ -78,15 +78,12 @@ there_if there place (x ∷ rest) zero k t none at leaf =
 there_if there place (x ∷ rest) (suc s) k t none at leaf =
     there_if there (place + 1 + arms_len x) rest s k t (both_none (lacking_in there (place + 1) x) (lacking_from there (place + 1 + arms_len x) rest) none).1 at leaf
 
-same_number : (a b : ℕ) → (a == b) ≡ true → a ≡ b
-same_number a b is = grind (arith, nat_tests)
-
 pub has_sectors : (shape : Shape) (sectors leaf : ℕ) → has_leaf shape sectors leaf ≡ true → shape.leaves leaf ≡ Some sectors
 has_sectors shape sectors leaf is = by (shape.leaves leaf) is
   where
     by : (o : Option ℕ) → unwrap_or (option_map (λ n. n == sectors) o) false ≡ true → o ≡ Some sectors
     by None is = absurd (true≢false (sym is))
-    by (Some n) is = ap Some (same_number n sectors is)
+    by (Some n) is = ap Some (eqb-true n sectors is)
 
 -- ---- leaves that are arms
 any_in : {X : Type 0} (p : X → Bool) (xss : List (List X)) (s k : ℕ) (x : X) → slice_get (slice_index_or xss s []) k ≡ Some x → p x ≡ true → list_any (λ (xs : List X). list_any p xs) xss ≡ true
@@ -98,11 +95,8 @@ any_in {X} p (xs ∷ xss) (suc s) k x at is = by (list_any p xs) (any_in p xss s
     by true e = refl
     by false e = e
 
-itself : (n : ℕ) → (n == n) ≡ true
-itself n = grind (arith, nat_tests)
-
 is_the_leaf : (leaf : ℕ) (arm : Arm) → arm.kind ≡ kind.Leaf → arm.number ≡ leaf → is_leaf_of leaf arm ≡ true
-is_the_leaf leaf arm k n = ap (λ j. is_leaf_kind j && (arm.number == leaf)) k ∙ ap (λ m. m == leaf) n ∙ itself leaf
+is_the_leaf leaf arm k n = ap (λ j. is_leaf_kind j && (arm.number == leaf)) k ∙ ap (λ m. m == leaf) n ∙ eq-eqb leaf leaf refl
 
 pub arm_named : (table : SlotTable) (at : ArmAt) (arm : Arm) (leaf : ℕ) → arm_at table at ≡ Some arm → arm.kind ≡ kind.Leaf → arm.number ≡ leaf → has_leaf_arm table leaf ≡ true
 arm_named table at arm leaf there k n = any_in (is_leaf_of leaf) table.arms at.slot at.arm arm there (is_the_leaf leaf arm k n)

@@ -1,5 +1,5 @@
 -- The tables of a record that was read without a fault.
-use Rattle.std.proofs.Common.{◌≡◌, ◌==◌, ◌<◌, ◌≤◌, ◌||◌, ◌&&◌, ◌^◌, inl, inr, nat_le, ℕ, zero, suc, Bool, true, false, List, [], ◌∷◌, ◌++◌, length, map, All, Some, None, Ok, IfSome, refl, sym, ◌∙◌, ap, subst, arith, slice_get, slice_index_or, option_map, if◌then◌else◌}
+use Rattle.std.proofs.Common.{◌≡◌, ◌==◌, ◌<◌, ◌≤◌, ◌||◌, ◌&&◌, ◌^◌, inl, inr, nat_le, ℕ, zero, suc, Bool, true, false, List, [], ◌∷◌, ◌++◌, length, map, All, Some, None, Ok, IfSome, refl, sym, ◌∙◌, ap, subst, arith, slice_get, slice_index_or, option_map, if◌then◌else◌, eqb-true}
 use Rattle.std.specs.declared.alloc.Global.{Global}
 use Rattle.std.specs.declared.vec.Vec.{Vec}
 use Rattle.std.proofs.lemmas.Bool.{cases_lt, true≢false}
@@ -81,9 +81,6 @@ spare_is : (k : ArmKind) → table.is_spare_kind k ≡ true → k ≡ Spare
 spare_is Leaf is = absurd (true≢false (sym is))
 spare_is Spare is = refl
 
-same_number : (a b : ℕ) → (a == b) ≡ true → a ≡ b
-same_number a b is = grind (arith, nat_tests)
-
 -- the place of a spare
 spare_at : (all : List (List ArmTold)) (slot spare : ℕ) → table.has_spare (slice_index_or (arms_told all) slot []) spare ≡ true
     → (k : ℕ) × (t : ArmTold) × (slice_get (slice_index_or all slot []) k ≡ Some t) × (t.0.kind ≡ Spare) × (t.0.number ≡ spare)
@@ -96,7 +93,7 @@ spare_at all slot spare has =
     let arm : Arm = slice_index_or list at.0 none in
     let t = from_map first (slice_index_or all slot []) at.0 arm (get_is list at.0 none at.1) in
     let both = both_true (table.is_spare_kind arm.kind) (arm.number == spare) at.2 in
-    (at.0, t.0, t.1, ap (λ (a : Arm). a.kind) t.2 ∙ spare_is arm.kind both.0, ap (λ (a : Arm). a.number) t.2 ∙ same_number arm.number spare both.1)
+    (at.0, t.0, t.1, ap (λ (a : Arm). a.kind) t.2 ∙ spare_is arm.kind both.0, ap (λ (a : Arm). a.number) t.2 ∙ eqb-true arm.number spare both.1)
 
 one_slot : (limits : Limits) (all : List (List ArmTold)) → AreSlots limits [] all → (spare slot other : ℕ) → table.has_spare (slice_index_or (arms_told all) slot []) spare ≡ true
     → table.has_spare (slice_index_or (arms_told all) other []) spare ≡ true → slot ≡ other

@@ -5,6 +5,7 @@ use Rattle.std.specs.Option.{option_or}
 use Rattle.std.specs.declared.alloc.Global.{Global}
 use Rattle.std.specs.declared.vec.Vec.{Vec}
 use Rattle.byteorder.specs.Endian.{big_number}
+use Rattle.draid_record.specs.declared.fault.RecordFaultKind.TheVariants as why
 use Rattle.draid_names.specs.declared.arm.Arm.{Arm}
 use Rattle.draid_names.specs.declared.pointer.Pointer.{Pointer}
 use Rattle.draid_spec.specs.declared.layout.Geometry.{Geometry}
@@ -71,18 +72,18 @@ block_at bytes blocks place = len_of bytes - BLOCK_BYTES * (length blocks - plac
 
 -- a list of blocks has one that stands twice, the first of which is at this place; else memory was wanting
 abbrev pub IsTwice : List ℕ → List Pointer → RecordFault → Type 0
-IsTwice bytes blocks (Bad place kind) = (k : ℕ) × (first_twice blocks ≡ Some k) × (place ≡ block_at bytes blocks k) × (kind ≡ 5)
+IsTwice bytes blocks (Bad place kind) = (k : ℕ) × (first_twice blocks ≡ Some k) × (place ≡ block_at bytes blocks k) × (kind ≡ why.Twice)
 IsTwice bytes blocks NoMemory = ⊤
 
 -- ---- the whole
 
--- Two further faults of a record that was read: a leaf arm that isn't there (kind 6), looked for first, and a block whose object and seq one before it has (kind 5).
+-- Two further faults of a record that was read: a leaf arm that isn't there, looked for first, and a block whose object and seq one before it has.
 abbrev pub once_in : List ℕ → RecordTold → Option ℕ → Result RecordTold RecordFault
-once_in bytes value (Some place) = Err (Bad (block_at bytes value.blocks place) 5)
+once_in bytes value (Some place) = Err (Bad (block_at bytes value.blocks place) why.Twice)
 once_in bytes value None = Ok value
 
 abbrev pub there_in : List ℕ → RecordTold → Option ℕ → Result RecordTold RecordFault
-there_in bytes value (Some place) = Err (Bad place 6)
+there_in bytes value (Some place) = Err (Bad place why.Leaf)
 there_in bytes value None = once_in bytes value (first_twice value.blocks)
 
 abbrev pub fitting : (ℕ → Bool) → List ℕ → Result RecordTold RecordFault → Result RecordTold RecordFault

@@ -22,7 +22,7 @@ use draid_pass::Pass;
 use draid_perm::Perms;
 use draid_rack::Rack;
 use draid_ranges::Run;
-use draid_record::{BLOCK_BYTES, RecordFault, length_of, read_record};
+use draid_record::{BLOCK_BYTES, RecordFault, RecordFaultKind, length_of, read_record};
 use draid_slots::Slots;
 use draid_spec::Geometry;
 use std::alloc::Global;
@@ -110,7 +110,7 @@ fn entries_of(alloc: Global, bytes: &[u8], blocks: &[Pointer]) -> Result<Entries
             let behind = BLOCK_BYTES * blocks.len().saturating_sub(place) as u64;
             Err(RecordFault::Bad {
                 at: length_of(bytes).saturating_sub(behind),
-                kind: 5,
+                kind: RecordFaultKind::Twice,
             })
         }
     }
@@ -164,7 +164,10 @@ pub fn read_tables<R: Rack>(
 {
     let it = read_record(alloc, bytes, &geometry, metaslab, group, next_leaf)?;
     if let Some(at) = lacking(rack, geometry.metaslab_sectors(), &it.slots) {
-        return Err(RecordFault::Bad { at, kind: 6 });
+        return Err(RecordFault::Bad {
+            at,
+            kind: RecordFaultKind::Leaf,
+        });
     }
     let entries = entries_of(alloc, bytes, &it.blocks)?;
     let Ok(space) = space_of(alloc, &geometry, &it.blocks) else {

@@ -6,8 +6,7 @@ use std::fmt::Debug;
 fn said<T: Debug + Drop>(alloc: Global, read: Result<T, ParseFault>) -> Result<String, AllocError> {
     match read {
         Ok(line) => format!(in alloc; "{line:?}"),
-        Err(ParseFault::Line(fault)) => format!(in alloc; "kind {} at {}", fault.kind, fault.at),
-        Err(ParseFault::NoMemory) => Err(AllocError),
+        Err(fault) => format!(in alloc; "{fault}"),
     }
 }
 
@@ -59,37 +58,58 @@ static LINES: [(&str, &str); 56] = [
     ("rewind", "Rewind"),
     ("discard", "Discard"),
     // Refused.
-    ("frob", "kind 1 at 0"),
-    (" read 7", "kind 1 at 0"),
-    ("read", "kind 2 at 4"),
-    ("read  7", "kind 2 at 7"),
-    ("read x", "kind 3 at 5"),
-    ("read 07", "kind 3 at 5"),
-    ("read +7", "kind 3 at 5"),
-    ("read 4294967296", "kind 5 at 5"),
-    ("write 7 6g", "kind 4 at 9"),
-    ("write 7 abc", "kind 4 at 11"),
-    ("write 7 ", "kind 4 at 8"),
-    ("fill 4294967295 2 1 1", "kind 5 at 16"),
-    ("fill 1 65537 x 1", "kind 5 at 7"),
-    ("create s 3 height", "kind 3 at 11"),
-    ("create s 3 seed=1 seed=2", "kind 3 at 18"),
-    ("create s 3 slices=4294967296", "kind 5 at 11"),
-    ("detach draid4-0-0", "kind 3 at 7"),
-    ("detach draid2-0-01", "kind 3 at 7"),
-    ("status xml", "kind 3 at 7"),
-    ("lanes 17", "kind 5 at 6"),
-    ("create s 3 version=4294967296", "kind 5 at 11"),
-    ("create s 3 version=1 version=1", "kind 3 at 21"),
-    ("upgrade 2", "kind 2 at 9"),
-    ("agent", "kind 2 at 5"),
-    ("agent 0", "kind 5 at 6"),
-    ("agent 4294967296", "kind 5 at 6"),
-    ("agent logs", "kind 3 at 6"),
-    ("agent 1 log", "kind 2 at 11"),
-    ("rewind 1", "kind 2 at 8"),
-    ("end", "kind 6 at 0"),
-    ("end x", "kind 6 at 0"),
+    ("frob", "unknown command at byte 0"),
+    (" read 7", "unknown command at byte 0"),
+    ("read", "wrong number of words at byte 4"),
+    ("read  7", "wrong number of words at byte 7"),
+    ("read x", "no number, no setting or no name at byte 5"),
+    ("read 07", "no number, no setting or no name at byte 5"),
+    ("read +7", "no number, no setting or no name at byte 5"),
+    ("read 4294967296", "number out of range at byte 5"),
+    ("write 7 6g", "no hex at byte 9"),
+    ("write 7 abc", "no hex at byte 11"),
+    ("write 7 ", "no hex at byte 8"),
+    ("fill 4294967295 2 1 1", "number out of range at byte 16"),
+    ("fill 1 65537 x 1", "number out of range at byte 7"),
+    (
+        "create s 3 height",
+        "no number, no setting or no name at byte 11",
+    ),
+    (
+        "create s 3 seed=1 seed=2",
+        "no number, no setting or no name at byte 18",
+    ),
+    (
+        "create s 3 slices=4294967296",
+        "number out of range at byte 11",
+    ),
+    (
+        "detach draid4-0-0",
+        "no number, no setting or no name at byte 7",
+    ),
+    (
+        "detach draid2-0-01",
+        "no number, no setting or no name at byte 7",
+    ),
+    ("status xml", "no number, no setting or no name at byte 7"),
+    ("lanes 17", "number out of range at byte 6"),
+    (
+        "create s 3 version=4294967296",
+        "number out of range at byte 11",
+    ),
+    (
+        "create s 3 version=1 version=1",
+        "no number, no setting or no name at byte 21",
+    ),
+    ("upgrade 2", "wrong number of words at byte 9"),
+    ("agent", "wrong number of words at byte 5"),
+    ("agent 0", "number out of range at byte 6"),
+    ("agent 4294967296", "number out of range at byte 6"),
+    ("agent logs", "no number, no setting or no name at byte 6"),
+    ("agent 1 log", "wrong number of words at byte 11"),
+    ("rewind 1", "wrong number of words at byte 8"),
+    ("end", "not allowed here at byte 0"),
+    ("end x", "not allowed here at byte 0"),
 ];
 
 #[test]
@@ -112,7 +132,11 @@ fn writing(alloc: Global, bytes: u32) -> Result<String, AllocError> {
 /// Whether a `write` of more bytes than a block has is refused.
 fn refuses_long_write(alloc: Global) -> bool {
     match writing(alloc, 131_073) {
-        Ok(text) => is_said(alloc, parse_line(alloc, text.as_bytes()), "kind 5 at 8"),
+        Ok(text) => is_said(
+            alloc,
+            parse_line(alloc, text.as_bytes()),
+            "number out of range at byte 8",
+        ),
         Err(_) => false,
     }
 }
@@ -128,19 +152,19 @@ static SECTION_LINES: [(&str, &str); 17] = [
     ("# a", "Nothing"),
     ("end", "End"),
     ("3 read 1", "Lane { lane: 3, line: Read { object: 1 } }"),
-    ("x read 1", "kind 3 at 0"),
-    ("end x", "kind 3 at 0"),
-    ("9 read 1", "kind 5 at 0"),
-    ("0", "kind 2 at 1"),
-    ("0 ", "kind 1 at 2"),
-    ("0 frob", "kind 1 at 2"),
-    ("0 crash", "kind 6 at 2"),
-    ("0 upgrade", "kind 6 at 2"),
-    ("0 agent log", "kind 6 at 2"),
-    ("0 checkpoint 1", "kind 6 at 2"),
-    ("0 end", "kind 6 at 2"),
-    ("0 read", "kind 2 at 6"),
-    ("0 read x", "kind 3 at 7"),
+    ("x read 1", "no number, no setting or no name at byte 0"),
+    ("end x", "no number, no setting or no name at byte 0"),
+    ("9 read 1", "number out of range at byte 0"),
+    ("0", "wrong number of words at byte 1"),
+    ("0 ", "unknown command at byte 2"),
+    ("0 frob", "unknown command at byte 2"),
+    ("0 crash", "not allowed here at byte 2"),
+    ("0 upgrade", "not allowed here at byte 2"),
+    ("0 agent log", "not allowed here at byte 2"),
+    ("0 checkpoint 1", "not allowed here at byte 2"),
+    ("0 end", "not allowed here at byte 2"),
+    ("0 read", "wrong number of words at byte 6"),
+    ("0 read x", "no number, no setting or no name at byte 7"),
 ];
 
 #[test]

@@ -3,7 +3,8 @@ ghost use Rattle.std.specs.Prelude.{IfOk};
 ghost use Rattle.draid_spec.specs.Geometry.{IsGeometry};
 
 use crate::record::PROPS;
-use draid_record::{RecordFault, read_record};
+use draid_record::RecordFaultKind::Range;
+use draid_record::{RecordFault, RecordFaultKind, read_record};
 use draid_spec::{Geometry, SpecFault, geometry, parse_spec};
 use std::alloc::Global;
 
@@ -31,55 +32,55 @@ static RECORD: [u8; 384] = [
 ];
 
 /// Bytes of that record that are other ones, and the first fault then, where there is one.
-static ROWS: [(&[(usize, u8)], Result<(), (u64, u8)>); 42] = [
+static ROWS: [(&[(usize, u8)], Result<(), (u64, RecordFaultKind)>); 42] = [
     // It is read.
     (&[], Ok(())),
     // Arms.
-    (&[(22, 4)], Err((22, 2))),
-    (&[(69, 2)], Err((69, 2))),
-    (&[(145, 1)], Err((145, 2))),
-    (&[(77, 6)], Err((70, 2))),
-    (&[(122, 1)], Err((115, 2))),
-    (&[(153, 4)], Err((146, 2))),
-    (&[(123, 1)], Err((123, 2))),
-    (&[(32, 4)], Err((32, 2))),
+    (&[(22, 4)], Err((22, Range))),
+    (&[(69, 2)], Err((69, Range))),
+    (&[(145, 1)], Err((145, Range))),
+    (&[(77, 6)], Err((70, Range))),
+    (&[(122, 1)], Err((115, Range))),
+    (&[(153, 4)], Err((146, Range))),
+    (&[(123, 1)], Err((123, Range))),
+    (&[(32, 4)], Err((32, Range))),
     // Logs.
-    (&[(44, 0)], Err((37, 2))),
-    (&[(44, 3)], Err((45, 2))),
-    (&[(60, 3)], Err((53, 2))),
-    (&[(54, 1), (60, 0)], Err((53, 2))),
-    (&[(62, 1), (68, 0)], Err((61, 2))),
+    (&[(44, 0)], Err((37, Range))),
+    (&[(44, 3)], Err((45, Range))),
+    (&[(60, 3)], Err((53, Range))),
+    (&[(54, 1), (60, 0)], Err((53, Range))),
+    (&[(62, 1), (68, 0)], Err((61, Range))),
     // The pass.
-    (&[(175, 1), (181, 0)], Err((174, 2))),
-    (&[(182, 3)], Err((182, 2))),
-    (&[(183, 2)], Err((183, 2))),
-    (&[(182, 2), (183, 0)], Err((183, 2))),
-    (&[(191, 0)], Err((184, 2))),
-    (&[(185, 1), (191, 0)], Err((184, 2))),
-    (&[(199, 33)], Err((192, 2))),
-    (&[(201, 1)], Err((200, 2))),
-    (&[(209, 7)], Err((208, 2))),
-    (&[(211, 2)], Err((212, 2))),
-    (&[(211, 1), (214, 0)], Err((213, 2))),
-    (&[(214, 4)], Err((213, 2))),
-    (&[(215, 2)], Err((215, 2))),
-    (&[(214, 0)], Err((215, 2))),
+    (&[(175, 1), (181, 0)], Err((174, Range))),
+    (&[(182, 3)], Err((182, Range))),
+    (&[(183, 2)], Err((183, Range))),
+    (&[(182, 2), (183, 0)], Err((183, Range))),
+    (&[(191, 0)], Err((184, Range))),
+    (&[(185, 1), (191, 0)], Err((184, Range))),
+    (&[(199, 33)], Err((192, Range))),
+    (&[(201, 1)], Err((200, Range))),
+    (&[(209, 7)], Err((208, Range))),
+    (&[(211, 2)], Err((212, Range))),
+    (&[(211, 1), (214, 0)], Err((213, Range))),
+    (&[(214, 4)], Err((213, Range))),
+    (&[(215, 2)], Err((215, Range))),
+    (&[(214, 0)], Err((215, Range))),
     // Runs of stripes.
-    (&[(227, 1)], Err((216, 2))),
-    (&[(235, 5)], Err((216, 2))),
+    (&[(227, 1)], Err((216, Range))),
+    (&[(235, 5)], Err((216, Range))),
     // Blocks.
-    (&[(238, 16), (239, 1)], Err((236, 2))),
-    (&[(243, 1), (247, 0)], Err((240, 2))),
-    (&[(255, 0)], Err((248, 2))),
-    (&[(249, 1), (255, 0)], Err((248, 2))),
-    (&[(335, 0)], Err((328, 2))),
-    (&[(335, 32)], Err((328, 2))),
-    (&[(267, 0)], Err((264, 2))),
-    (&[(339, 2)], Err((336, 2))),
-    (&[(342, 0), (343, 0)], Err((340, 2))),
-    (&[(341, 2), (342, 0), (343, 1)], Err((340, 2))),
-    (&[(351, 0)], Err((344, 2))),
-    (&[(351, 6)], Err((344, 2))),
+    (&[(238, 16), (239, 1)], Err((236, Range))),
+    (&[(243, 1), (247, 0)], Err((240, Range))),
+    (&[(255, 0)], Err((248, Range))),
+    (&[(249, 1), (255, 0)], Err((248, Range))),
+    (&[(335, 0)], Err((328, Range))),
+    (&[(335, 32)], Err((328, Range))),
+    (&[(267, 0)], Err((264, Range))),
+    (&[(339, 2)], Err((336, Range))),
+    (&[(342, 0), (343, 0)], Err((340, Range))),
+    (&[(341, 2), (342, 0), (343, 1)], Err((340, Range))),
+    (&[(351, 0)], Err((344, Range))),
+    (&[(351, 6)], Err((344, Range))),
 ];
 
 /// That record, with other bytes at these places.
@@ -101,7 +102,11 @@ fn layout() -> Result<Geometry, SpecFault>
 }
 
 /// Whether it is read with these bytes, or has the fault at this byte, of this kind.
-fn is_read(alloc: Global, changes: &[(usize, u8)], told: Result<(), (u64, u8)>) -> bool {
+fn is_read(
+    alloc: Global,
+    changes: &[(usize, u8)],
+    told: Result<(), (u64, RecordFaultKind)>,
+) -> bool {
     let Ok(layout) = layout() else {
         return false;
     };

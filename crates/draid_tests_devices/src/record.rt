@@ -3,8 +3,10 @@ ghost use Rattle.draid_spec.specs.Geometry.{IsGeometry};
 
 use draid_dtl::Log;
 use draid_names::{Arm, ArmKind, NoMemory};
+use draid_record::RecordFaultKind::{Cut, Range, Trailing};
 use draid_record::{
-    Record, RecordFault, UberBody, read_record, read_uber, write_record, write_uber,
+    Record, RecordFault, RecordFaultKind, UberBody, read_record, read_uber, write_record,
+    write_uber,
 };
 use draid_spec::{Geometry, Props, Spec, SpecFault, geometry, parse_spec};
 use std::alloc::Global;
@@ -117,7 +119,12 @@ fn read_bytes(alloc: Global, bytes: Bytes, layout: &Geometry) -> Result<bool, Re
 }
 
 /// Whether it is this by a layout of this version, or the fault at this byte, of this kind.
-fn is_read(alloc: Global, bytes: Bytes, version: u32, told: Result<bool, (u64, u8)>) -> bool {
+fn is_read(
+    alloc: Global,
+    bytes: Bytes,
+    version: u32,
+    told: Result<bool, (u64, RecordFaultKind)>,
+) -> bool {
     let wanted = match told {
         Ok(whole) => Ok(whole),
         Err((at, kind)) => Err(RecordFault::Bad { at, kind }),
@@ -128,35 +135,35 @@ fn is_read(alloc: Global, bytes: Bytes, version: u32, told: Result<bool, (u64, u
     }
 }
 
-static ROWS: [(Bytes, u32, Result<bool, (u64, u8)>); 25] = [
+static ROWS: [(Bytes, u32, Result<bool, (u64, RecordFaultKind)>); 25] = [
     (Bytes::Whole, 1, Ok(true)),
     // Faults of ranges.
-    (Bytes::Changed(11, 1), 1, Err((10, 2))),
-    (Bytes::Changed(19, 2), 1, Err((12, 2))),
-    (Bytes::Changed(21, 4), 1, Err((20, 2))),
-    (Bytes::Changed(22, 0), 1, Err((22, 2))),
-    (Bytes::Changed(23, 2), 1, Err((23, 2))),
-    (Bytes::Changed(32, 4), 1, Err((32, 2))),
-    (Bytes::Changed(46, 0), 1, Err((39, 2))),
-    (Bytes::Changed(61, 3), 1, Err((54, 2))),
-    (Bytes::Changed(75, 3), 1, Err((75, 2))),
-    (Bytes::Changed(79, 1), 1, Err((80, 1))),
+    (Bytes::Changed(11, 1), 1, Err((10, Range))),
+    (Bytes::Changed(19, 2), 1, Err((12, Range))),
+    (Bytes::Changed(21, 4), 1, Err((20, Range))),
+    (Bytes::Changed(22, 0), 1, Err((22, Range))),
+    (Bytes::Changed(23, 2), 1, Err((23, Range))),
+    (Bytes::Changed(32, 4), 1, Err((32, Range))),
+    (Bytes::Changed(46, 0), 1, Err((39, Range))),
+    (Bytes::Changed(61, 3), 1, Err((54, Range))),
+    (Bytes::Changed(75, 3), 1, Err((75, Range))),
+    (Bytes::Changed(79, 1), 1, Err((80, Cut))),
     // Faults of lengths.
-    (Bytes::Cut(0), 1, Err((0, 1))),
-    (Bytes::Cut(3), 1, Err((0, 1))),
-    (Bytes::Cut(4), 1, Err((4, 1))),
-    (Bytes::Cut(5), 1, Err((4, 1))),
-    (Bytes::Cut(6), 1, Err((6, 1))),
-    (Bytes::Cut(9), 1, Err((6, 1))),
-    (Bytes::Cut(10), 1, Err((6, 2))),
-    (Bytes::Cut(83), 1, Err((6, 2))),
-    (Bytes::Said(83), 1, Err((80, 1))),
-    (Bytes::Said(12), 1, Err((12, 1))),
-    (Bytes::Said(85), 1, Err((84, 3))),
+    (Bytes::Cut(0), 1, Err((0, Cut))),
+    (Bytes::Cut(3), 1, Err((0, Cut))),
+    (Bytes::Cut(4), 1, Err((4, Cut))),
+    (Bytes::Cut(5), 1, Err((4, Cut))),
+    (Bytes::Cut(6), 1, Err((6, Cut))),
+    (Bytes::Cut(9), 1, Err((6, Cut))),
+    (Bytes::Cut(10), 1, Err((6, Range))),
+    (Bytes::Cut(83), 1, Err((6, Range))),
+    (Bytes::Said(83), 1, Err((80, Cut))),
+    (Bytes::Said(12), 1, Err((12, Cut))),
+    (Bytes::Said(85), 1, Err((84, Trailing))),
     // The version.
     (Bytes::Changed(5, 2), 2, Ok(true)),
-    (Bytes::Changed(5, 1), 2, Err((4, 2))),
-    (Bytes::Changed(5, 2), 1, Err((4, 2))),
+    (Bytes::Changed(5, 1), 2, Err((4, Range))),
+    (Bytes::Changed(5, 2), 1, Err((4, Range))),
 ];
 
 #[test]
@@ -207,7 +214,11 @@ pub(crate) fn uber_with(changes: &[(usize, u8)]) -> [u8; 51] {
 }
 
 /// Whether this is told of the uberblock with these bytes in a slot, or the fault at this byte, of this kind.
-fn is_told(changes: &[(usize, u8)], slot: u32, told: Result<UberBody, (u64, u8)>) -> bool {
+fn is_told(
+    changes: &[(usize, u8)],
+    slot: u32,
+    told: Result<UberBody, (u64, RecordFaultKind)>,
+) -> bool {
     let wanted = match told {
         Ok(body) => Ok(body),
         Err((at, kind)) => Err(RecordFault::Bad { at, kind }),
@@ -245,14 +256,18 @@ const WIDE: UberBody = UberBody {
 };
 
 /// Bytes of the uberblock that are other ones, its slot, and what is told then: in version 1, and then in version 2.
-static UBERS: [(&[(usize, u8)], u32, Result<UberBody, (u64, u8)>); 7] = [
+static UBERS: [(
+    &[(usize, u8)],
+    u32,
+    Result<UberBody, (u64, RecordFaultKind)>,
+); 7] = [
     (&[], 1, Ok(NEW)),
-    (&[], 0, Err((7, 2))),
-    (&[(17, 33)], 1, Err((17, 2))),
-    (&[(6, 33)], 1, Err((5, 2))),
+    (&[], 0, Err((7, Range))),
+    (&[(17, 33)], 1, Err((17, Range))),
+    (&[(6, 33)], 1, Err((5, Range))),
     (&[(6, 2), (17, 64), (50, 64)], 1, Ok(WIDE)),
-    (&[(6, 2), (17, 65), (50, 65)], 1, Err((17, 2))),
-    (&[(6, 2), (17, 64), (50, 63)], 1, Err((43, 2))),
+    (&[(6, 2), (17, 65), (50, 65)], 1, Err((17, Range))),
+    (&[(6, 2), (17, 64), (50, 63)], 1, Err((43, Range))),
 ];
 
 #[test]

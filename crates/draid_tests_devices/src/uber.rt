@@ -8,6 +8,7 @@ use crate::record::{UBER, small_geometry, uber_with};
 use draid_area::{Area, DeviceFault, MemoryArea};
 use draid_faults::{CrashRule, Fuse};
 use draid_names::LAST_NUMBER;
+use draid_record::RecordFaultKind::Range;
 use draid_spec::Geometry;
 use draid_uber::{Uber, UberFault};
 use std::alloc::{AllocError, Global};
@@ -225,12 +226,15 @@ static TOLD: [(usize, usize, &[(usize, u8)], Result<u64, UberFault>); 6] = [
         1024,
         512,
         &[(17, 33)],
-        Err(UberFault::Record { at: 17, kind: 2 }),
+        Err(UberFault::Record {
+            at: 17,
+            kind: Range,
+        }),
     ),
     (1024, 512, &[(0, 0)], Err(UberFault::Empty)),
     (1023, 512, &[], Err(UberFault::Empty)),
     (1024, 0, LAST, Ok(0xffff_ffff_fffe)),
-    (1024, 0, &[], Err(UberFault::Record { at: 7, kind: 2 })),
+    (1024, 0, &[], Err(UberFault::Record { at: 7, kind: Range })),
 ];
 
 #[test]

@@ -10,6 +10,7 @@ use draid_names::DeviceFault;
 use draid_perm::Perms;
 use draid_pool::into_kit;
 use draid_rack::Rack;
+use draid_record::RecordFaultKind::{Cut, Leaf, Range, Twice};
 use draid_shard::Shard;
 use draid_shelf::Kit;
 use draid_spec::Geometry;
@@ -185,49 +186,49 @@ static ROWS: [Row; 27] = [
         0,
         0,
         false,
-        Err(OpenFault::Record { at: 24, kind: 6 }),
+        Err(OpenFault::Record { at: 24, kind: Leaf }),
     ),
     (
         Bytes::Whole,
         1,
         0,
         false,
-        Err(OpenFault::Record { at: 39, kind: 6 }),
+        Err(OpenFault::Record { at: 39, kind: Leaf }),
     ),
     (
         Bytes::Whole,
         2,
         0,
         false,
-        Err(OpenFault::Record { at: 54, kind: 6 }),
+        Err(OpenFault::Record { at: 54, kind: Leaf }),
     ),
     (
         Bytes::Changed(31, 3),
         3,
         0,
         false,
-        Err(OpenFault::Record { at: 24, kind: 6 }),
+        Err(OpenFault::Record { at: 24, kind: Leaf }),
     ),
     (
         Bytes::Changed(46, 3),
         3,
         0,
         false,
-        Err(OpenFault::Record { at: 39, kind: 6 }),
+        Err(OpenFault::Record { at: 39, kind: Leaf }),
     ),
     (
         Bytes::Changed(61, 3),
         3,
         0,
         false,
-        Err(OpenFault::Record { at: 54, kind: 6 }),
+        Err(OpenFault::Record { at: 54, kind: Leaf }),
     ),
     (
         Bytes::Whole,
         3,
         1,
         false,
-        Err(OpenFault::Record { at: 24, kind: 6 }),
+        Err(OpenFault::Record { at: 24, kind: Leaf }),
     ),
     // Faults of fields and of lengths come before those of leaves.
     (
@@ -235,91 +236,103 @@ static ROWS: [Row; 27] = [
         0,
         0,
         false,
-        Err(OpenFault::Record { at: 10, kind: 2 }),
+        Err(OpenFault::Record {
+            at: 10,
+            kind: Range,
+        }),
     ),
     (
         Bytes::Changed(21, 4),
         0,
         0,
         false,
-        Err(OpenFault::Record { at: 20, kind: 2 }),
+        Err(OpenFault::Record {
+            at: 20,
+            kind: Range,
+        }),
     ),
     (
         Bytes::Changed(31, 4),
         0,
         0,
         false,
-        Err(OpenFault::Record { at: 24, kind: 2 }),
+        Err(OpenFault::Record {
+            at: 24,
+            kind: Range,
+        }),
     ),
     (
         Bytes::Changed(46, 0),
         0,
         0,
         false,
-        Err(OpenFault::Record { at: 39, kind: 2 }),
+        Err(OpenFault::Record {
+            at: 39,
+            kind: Range,
+        }),
     ),
     (
         Bytes::Changed(79, 1),
         0,
         0,
         false,
-        Err(OpenFault::Record { at: 80, kind: 1 }),
+        Err(OpenFault::Record { at: 80, kind: Cut }),
     ),
     (
         Bytes::Changed(9, 83),
         0,
         0,
         false,
-        Err(OpenFault::Record { at: 80, kind: 1 }),
+        Err(OpenFault::Record { at: 80, kind: Cut }),
     ),
     (
         Bytes::Changed(9, 85),
         0,
         0,
         false,
-        Err(OpenFault::Record { at: 6, kind: 2 }),
+        Err(OpenFault::Record { at: 6, kind: Range }),
     ),
     (
         Bytes::Cut(0),
         0,
         0,
         false,
-        Err(OpenFault::Record { at: 0, kind: 1 }),
+        Err(OpenFault::Record { at: 0, kind: Cut }),
     ),
     (
         Bytes::Cut(3),
         0,
         0,
         false,
-        Err(OpenFault::Record { at: 0, kind: 1 }),
+        Err(OpenFault::Record { at: 0, kind: Cut }),
     ),
     (
         Bytes::Cut(4),
         0,
         0,
         false,
-        Err(OpenFault::Record { at: 4, kind: 1 }),
+        Err(OpenFault::Record { at: 4, kind: Cut }),
     ),
     (
         Bytes::Cut(9),
         0,
         0,
         false,
-        Err(OpenFault::Record { at: 6, kind: 1 }),
+        Err(OpenFault::Record { at: 6, kind: Cut }),
     ),
     (
         Bytes::Cut(10),
         0,
         0,
         false,
-        Err(OpenFault::Record { at: 6, kind: 2 }),
+        Err(OpenFault::Record { at: 6, kind: Range }),
     ),
     (
         Bytes::Cut(83),
         0,
         0,
         false,
-        Err(OpenFault::Record { at: 6, kind: 2 }),
+        Err(OpenFault::Record { at: 6, kind: Range }),
     ),
     // Blocks take their stripes, and those that stand twice are told last.
     (
@@ -334,14 +347,17 @@ static ROWS: [Row; 27] = [
         3,
         0,
         false,
-        Err(OpenFault::Record { at: 172, kind: 5 }),
+        Err(OpenFault::Record {
+            at: 172,
+            kind: Twice,
+        }),
     ),
     (
         Bytes::Blocks(1),
         2,
         0,
         false,
-        Err(OpenFault::Record { at: 54, kind: 6 }),
+        Err(OpenFault::Record { at: 54, kind: Leaf }),
     ),
     // An area that fails is told.
     (Bytes::Whole, 3, 0, true, Err(OpenFault::Area)),

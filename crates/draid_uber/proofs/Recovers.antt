@@ -2,6 +2,7 @@
 use Rattle.std.proofs.Common.{arith, ◌≡◌, ◌+◌, ◌%◌, ◌≤◌, ℕ, Bool, true, false, nat_lt, List, [], Option, Some, None, Result, Ok, Err, IfOk, OnErr, OnOk, option_map, length, slice_range, refl, sym, ◌∙◌, ap, subst, inl, inr}
 use Rattle.std.proofs.lemmas.Bool.Decides.{nat_tests}
 use Rattle.std.specs.Bool.{⊤}
+use Rattle.draid_record.specs.declared.fault.RecordFaultKind.{RecordFaultKind}
 use Rattle.draid_area.specs.Area.{Content, IsOfSize, OnTold, Reads, flushes}
 use Rattle.draid_area.proofs.Moments.{leaves_all}
 use Rattle.draid_names.specs.declared.fault.DeviceFault.{DeviceFault}
@@ -123,10 +124,10 @@ memory_area e = absurd (cc)
 pub memory_empty : {P : Type 0} → faults.NoMemory ≡ faults.Empty → P
 memory_empty e = absurd (cc)
 
-pub record_area : {P : Type 0} (place kind : ℕ) → faults.Record place kind ≡ faults.Area → P
+pub record_area : {P : Type 0} (place : ℕ) (kind : RecordFaultKind) → faults.Record place kind ≡ faults.Area → P
 record_area place kind e = absurd (cc)
 
-pub record_empty : {P : Type 0} (place kind : ℕ) → faults.Record place kind ≡ faults.Empty → P
+pub record_empty : {P : Type 0} (place : ℕ) (kind : RecordFaultKind) → faults.Record place kind ≡ faults.Empty → P
 record_empty place kind e = absurd (cc)
 
 -- what is said of an area that told no uberblock

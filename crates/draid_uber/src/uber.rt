@@ -12,7 +12,7 @@ use crate::slots::{chosen, layout};
 use crate::steps::{clear, write};
 use draid_area::Area;
 use draid_names::DeviceFault;
-use draid_record::{RecordFault, UberBody};
+use draid_record::{RecordFault, RecordFaultKind, UberBody};
 use draid_spec::Geometry;
 
 /// Why an uberblock area gave no uberblock.
@@ -23,8 +23,8 @@ pub enum UberFault {
     NoMemory,
     /// No gate is open.
     Empty,
-    /// The first field of the chosen slot that is out of its range begins at byte `at` of the slot.
-    Record { at: u64, kind: u8 },
+    /// The first field of the chosen slot that has a fault begins at byte `at` of the slot.
+    Record { at: u64, kind: RecordFaultKind },
 }
 
 /// A refusal, with the area.

@@ -1,5 +1,6 @@
 use Rattle.std.proofs.Common.{◌≡◌, ◌-◌, ◌<◌, ℕ, List, [], ◌∷◌, length, drop, take, map, refl, sym, ap, ◌∙◌, arith, Err}
 use Rattle.draid_script.specs.declared.word.Word.{Word}
+use Rattle.draid_script.specs.declared.fault.LineFaultKind.TheVariants as why
 use Rattle.draid_script.specs.Fault.{fault, ◌>>=◌}
 use Rattle.draid_script.specs.Field.{short_at}
 use Rattle.draid_script.specs.Grammar.{create_of}
@@ -17,7 +18,7 @@ rest words = take (length words - 2) (drop 2 words)
 steps_of : (end : ℕ) (words : List Word) (spec children : Word) → words ≡ spec ∷ children ∷ rest words → create_of end (map placed words) ≡ (short_at (placed children) >>= create_counted spec.text.now (map placed (rest words)))
 steps_of end words spec children are = ap (λ ws. create_of end (map placed ws)) are
 
-too_few : (end : ℕ) (words : List Word) → length words < 2 → create_of end (map placed words) ≡ Err (fault 2 end)
+too_few : (end : ℕ) (words : List Word) → length words < 2 → create_of end (map placed words) ≡ Err (fault why.Count end)
 too_few end [] few = refl
 too_few end (spec ∷ []) few = refl
 too_few end (spec ∷ children ∷ words) few = absurd (omega (arith, few))
