@@ -9,6 +9,7 @@ use Rattle.draid_machine.specs.State as machine
 use Rattle.draid_machine.specs.Step.{Run}
 use Rattle.draid_segments.specs.Segments.{Pieces}
 use Rattle.draid_entries.specs.Entries.{held_in}
+use Rattle.draid_entries.specs.History.{reserved_of}
 use Rattle.draid_entries.specs.declared.entries.Entries.{Entries}
 use Rattle.draid_shard.specs.Alike.{KeepsArms}
 use Rattle.draid_shard.specs.Changes.{SameGroups}
@@ -57,13 +58,14 @@ is_other (Some n) object = if n == object then false else true
 abbrev pub groups_number : ℕ
 groups_number = 4_294_967_312
 
--- the groups are as they were, and so are the arms, which change with them; logs may be others
+-- the groups are as they were, and so are the arms, which change with them, and as many events are reserved; logs may be others
 pub record KeepsGroups {R A : Type 0} (old new : Shard R A) : Type 0 where
   pub groups : SameGroups old new
   pub arms : KeepsArms old.slots new.slots
+  pub reserve : reserved_of new.history ≡ reserved_of old.history
 
--- What every hold keeps to: the metaslab is valid, what it has of objects that the hold doesn't concern is as it was, its groups and arms are as they were unless the hold
--- concerns them, and whatever state it stood for, it stands for one behind it.
+-- What every hold keeps to: the metaslab is valid, what it has of objects that the hold doesn't concern is as it was, its groups and arms are as they were, and as many events reserved, unless
+-- the hold concerns them, and whatever state it stood for, it stands for one behind it.
 pub record KeepsTo {R A : Type 0} (rack : racks.Ghosts R) (area : areas.Ghosts A) (old new : Shard R A) (concerned : Option ℕ) : Type 0 where
   pub valid : Valid rack new
   pub part : part_of new ≡ part_of old
