@@ -2,9 +2,7 @@
 ghost use Rattle.std.specs.Prelude.{◌↔◌, IsTrue};
 ghost use Rattle.draid_slots.specs.Table.{IsTable};
 ghost use Rattle.draid_disks.specs.Disks.{IsLeafArm};
-ghost use Rattle.draid_changes.specs.Switching.{ReservesOne};
 ghost use Rattle.draid_changes.specs.Walks.{MaySwitch, Switches};
-ghost use Rattle.draid_shard.specs.Fits.{Valid};
 
 use draid_area::Area;
 use draid_entries::ReserveFault;
@@ -26,14 +24,6 @@ fn is_arm<R: Rack, A: Area>(shard: &Shard<R, A>, leaf: u64) -> bool
         Some(at) => at.slot < children,
         None => false,
     }
-}
-
-/// Reserves an event in a metaslab, and the memory for a change of its arms.
-fn reserve_in<R: Rack, A: Area>(shard: &mut Shard<R, A>) -> Result<(), ReserveFault>
-    requires { Valid R.Rack shard.old }
-    ensures { ReservesOne R.Rack shard.old result shard.new }
-{
-    draid_disks::reserve(shard, 1)
 }
 
 /// Takes a leaf that is an arm offline or online in a metaslab.
@@ -98,7 +88,7 @@ impl<R: Rack, A: Area> Act<Shard<R, A>> for ReserveOp {
     }
 
     fn act(&mut self, shard: &mut Shard<R, A>) {
-        self.out = Some(reserve_in(shard));
+        self.out = Some(draid_disks::reserve(shard, 1));
     }
 }
 

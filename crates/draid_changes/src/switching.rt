@@ -28,7 +28,7 @@ use draid_pool::{Metaslabs, Pool, finish_group};
 use draid_rack::Rack;
 use draid_uber::Uber;
 
-/// Takes a leaf offline in all metaslabs: from then on nothing is read from it or written to it.
+/// Takes a leaf offline in all metaslabs of a pool: from then on nothing is read from it or written to it.
 pub fn offline<R: Rack, A: Area>(pool: &mut Pool<R, A>, leaf: u64) -> Result<(), ArmFault>
     requires whole { IsWhole R.Rack A.Area pool.old }
     ensures whole { IsWhole R.Rack A.Area pool.new }
@@ -39,10 +39,14 @@ pub fn offline<R: Rack, A: Area>(pool: &mut Pool<R, A>, leaf: u64) -> Result<(),
         → CarriesOut R.Rack A.Area pool.new x (SwitchDoes x leaf true result) }
     ensures arms { LeafIs leaf true result pool.new.metaslabs.shards.items }
 {
-    switch(pool, leaf, true)
+    let count = pool.geometry.props.metaslabs;
+    match offline_leaf(&mut pool.metaslabs, &mut pool.uber, count, leaf) {
+        Some(result) => result,
+        None => unreachable!(),
+    }
 }
 
-/// Takes a leaf online again in all metaslabs. What it missed stays in the logs of its arms.
+/// Takes a leaf online again in all metaslabs of a pool. What it missed stays in the logs of its arms.
 pub fn online<R: Rack, A: Area>(pool: &mut Pool<R, A>, leaf: u64) -> Result<(), ArmFault>
     requires whole { IsWhole R.Rack A.Area pool.old }
     ensures whole { IsWhole R.Rack A.Area pool.new }
@@ -53,22 +57,8 @@ pub fn online<R: Rack, A: Area>(pool: &mut Pool<R, A>, leaf: u64) -> Result<(), 
         → CarriesOut R.Rack A.Area pool.new x (SwitchDoes x leaf false result) }
     ensures arms { LeafIs leaf false result pool.new.metaslabs.shards.items }
 {
-    switch(pool, leaf, false)
-}
-
-/// Takes a leaf offline or online in all metaslabs. A group that is closing is committed first.
-fn switch<R: Rack, A: Area>(pool: &mut Pool<R, A>, leaf: u64, offline: bool) -> Result<(), ArmFault>
-    requires whole { IsWhole R.Rack A.Area pool.old }
-    ensures whole { IsWhole R.Rack A.Area pool.new }
-    ensures same { SamePointers pool.old pool.new }
-    ensures later { AreasLater A.faults pool.old pool.new }
-    ensures cause { IsErrOf result ArmFault.Shelf → AreaRose A.faults pool.old pool.new }
-    ensures carries { (x : State) → Represents R.Rack A.Area pool.old x
-        → CarriesOut R.Rack A.Area pool.new x (SwitchDoes x leaf offline result) }
-    ensures arms { LeafIs leaf offline result pool.new.metaslabs.shards.items }
-{
     let count = pool.geometry.props.metaslabs;
-    match switch_leaf(&mut pool.metaslabs, &mut pool.uber, count, leaf, offline) {
+    match online_leaf(&mut pool.metaslabs, &mut pool.uber, count, leaf) {
         Some(result) => result,
         None => unreachable!(),
     }
