@@ -19,13 +19,14 @@ use Rattle.draid_pool.specs.Drifts.{groups_number}
 use Rattle.draid_pool.specs.Grouping.{ClosesNext, CommitsIn, FinishesIn}
 use Rattle.draid_pool.specs.Rounds.{EachIs, HeldOnce, NoneBeyond}
 use Rattle.draid_pool.specs.Threads.{IsWholeBy}
+use Rattle.draid_pool.specs.declared.fault.SyncFault.{SyncFault}
 use Rattle.draid_pool.specs.declared.fault.SyncFault.TheVariants as sync
 use Rattle.draid_pool.proofs.SyncWhole.{HasGroup, HasLeft, KeepsOwn, begins, beyond_on, ends, left_on, quiet_on, quiet_round, quiet_stop, still_quiet}
-use Rattle.draid_changes.specs.Behind.{HasLeaf}
-use Rattle.draid_changes.specs.Switching.{AllSameArms, HasReserved, LeafIsIn, ReservesEach, ReservesOne, SeesLeaf, SwitchesAll}
+use Rattle.draid_changes.specs.Answers.{IsFor}
+use Rattle.draid_changes.specs.Switching.{AllSameArms, HasReserved, LeafIsIn, ReservesEach, ReservesOne, SeesLeaf, SwitchesAll, SwitchesIn}
 use Rattle.draid_changes.specs.Walks.{MaySwitch, Switches}
 use Rattle.draid_changes.specs.declared.fault.ArmFault.{ArmFault}
-use Rattle.draid_changes.specs.declared.fault.ArmFault.TheVariants as fault
+use Rattle.draid_changes.specs.declared.fault.ArmFault.TheVariants as armed
 use Rattle.draid_changes.proofs.Calls.{leaf_shared, leaf_stays}
 use Rattle.draid_changes.proofs.LeafHolds.{reserve_quiet, switch_quiet}
 use Rattle.draid_changes.proofs.Leaves.{leaf_shared_in}
@@ -67,7 +68,7 @@ module _ {R A S : Type 0} (rack : racks.Ghosts R) (area : areas.Ghosts A) (last 
 
     -- it is an arm of none
     pub in_none : (leaf : ℕ) (offline : Bool) (a b : S) → AllSameArms (last b) → (h : HeldOnce rack area last went shared owns (SeesLeaf leaf false) a 0 b) → last b 0 ≡ Some h.after
-        → EachIs count (Valid rack) (last b) → LeafIsIn count leaf offline (Err (fault.Slot slot.NoSuch)) (last b)
+        → EachIs count (Valid rack) (last b) → LeafIsIn count leaf offline (Err (armed.Slot slot.NoSuch)) (last b)
     in_none leaf offline a b alike h first each = (refl, (λ m less. (let z = each m less in (z.0, z.1, (λ has. not (leaf_shared_in z.0.slots h.after.slots leaf (alike m 0 z.0 h.after z.1 first) has))))))
       where
         not : IsLeafArm h.after.slots leaf → ⊥
@@ -108,3 +109,17 @@ module _ {R A S : Type 0} (rack : racks.Ghosts R) (area : areas.Ghosts A) (last 
       switch_readies =
           let z = switch_has (λ s. NoneBeyond count (last s)) (beyond_on rack area last went shared owns count) some (group_of (kept_of u) + 1) leaf offline a b result switches (record { left = beyond; ready = ready }) in
           (z.ready, z.left)
+
+  -- ---- by the answer
+
+  pub switches_in : (leaf : ℕ) (offline : Bool) (a mid b : S) (u v : Uber A) (result : Result Unit ArmFault) → FinishesIn rack area last went shared owns count a u (Some (Ok tt)) mid v
+      → SwitchesAll rack area last went shared owns count leaf offline mid result b → SwitchesIn rack area last went shared owns count leaf offline a u (Some result) b v
+  switches_in leaf offline a mid b u v (Ok done) finishes switches = (mid, finishes, switches)
+  switches_in leaf offline a mid b u v (Err why) finishes switches = inr (mid, finishes, switches)
+
+-- a closing group couldn't be committed
+pub leaf_unfinished_in : {R A : Type 0} (count leaf : ℕ) (offline : Bool) (why : SyncFault) (fault : ArmFault) (last : ℕ → Option (Shard R A)) → IsFor why fault → LeafIsIn count leaf offline (Err fault) last
+leaf_unfinished_in count leaf offline sync.Worn fault last is = subst (λ f. LeafIsIn count leaf offline (Err f) last) (sym is) tt
+leaf_unfinished_in count leaf offline sync.Last fault last is = absurd is
+leaf_unfinished_in count leaf offline sync.Shelf fault last is = subst (λ f. LeafIsIn count leaf offline (Err f) last) (sym is) tt
+leaf_unfinished_in count leaf offline sync.NoMemory fault last is = subst (λ f. LeafIsIn count leaf offline (Err f) last) (sym is) tt
