@@ -7,12 +7,10 @@ ghost use Rattle.draid_changes.specs.Walks.{MaySwitch, Switches};
 use draid_area::Area;
 use draid_entries::ReserveFault;
 use draid_names::ArmKind;
+use draid_pool::GROUPS;
 use draid_rack::Rack;
 use draid_shard::Shard;
 use draid_turn::Act;
-
-/// The number that a hold concerns which changes the arms of a metaslab, and its groups; it is no object's.
-const GROUPS: u64 = 4_294_967_312;
 
 /// Whether a leaf is an arm of a slot.
 fn is_arm<R: Rack, A: Area>(shard: &Shard<R, A>, leaf: u64) -> bool
