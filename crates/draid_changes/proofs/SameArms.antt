@@ -54,11 +54,11 @@ module _ {R A S : Type 0} (rack : racks.Ghosts R) (area : areas.Ghosts A) (last 
   there_then a b c first second m y at = (let p = second m y at in let q = first m p.0 p.1 in (q.0, q.1, arms_on q.0.slots p.0.slots y.slots q.2 p.2))
 
   module _ (does : Shard R A → Shard R A → Type 0) (a : S) (m : ℕ) (b : S) (h : HeldOnce rack area last went shared owns does a m b) where
-    here : last b m ≡ Some h.after
-    here = h.is m ∙ ap (λ t. if t then Some h.after else last a m) (eq-eqb m m refl)
+    pub once_here : last b m ≡ Some h.after
+    once_here = h.is m ∙ ap (λ t. if t then Some h.after else last a m) (eq-eqb m m refl)
 
-    away : (k : ℕ) → (k ≡ m → ⊥) → last b k ≡ last a k
-    away k not = h.is k ∙ ap (λ t. if t then Some h.after else last a k) (ne_eqb k m not)
+    pub once_other : (k : ℕ) → (k ≡ m → ⊥) → last b k ≡ last a k
+    once_other k not = h.is k ∙ ap (λ t. if t then Some h.after else last a k) (ne_eqb k m not)
 
     pub drift_stays : ArmsStay h.shard.slots h.before.slots
     drift_stays = arms_by h.shard.slots h.before.slots (h.drifts.groups own).arms
@@ -66,15 +66,8 @@ module _ {R A S : Type 0} (rack : racks.Ghosts R) (area : areas.Ghosts A) (last 
     pub once_there : ArmsStay h.before.slots h.after.slots → ArmsAreThere a b
     once_there stay k y at = dite (ℕ_discrete k m)
         (λ same.
-        (h.shard, ap (last a) same ∙ h.there, subst (λ (s : Shard R A). ArmsStay h.shard.slots s.slots) (some_same h.after y (sym here ∙ (ap (last b) (sym same) ∙ at))) (arms_on h.shard.slots h.before.slots h.after.slots drift_stays stay)))
-        (λ not. (y, sym (away k not) ∙ at, still y.slots y.slots refl))
-
-    -- what was there before, and is there
-    pub once_other : (k : ℕ) → (k ≡ m → ⊥) → last b k ≡ last a k
-    once_other = away
-
-    pub once_here : last b m ≡ Some h.after
-    once_here = here
+        (h.shard, ap (last a) same ∙ h.there, subst (λ (s : Shard R A). ArmsStay h.shard.slots s.slots) (some_same h.after y (sym once_here ∙ (ap (last b) (sym same) ∙ at))) (arms_on h.shard.slots h.before.slots h.after.slots drift_stays stay)))
+        (λ not. (y, sym (once_other k not) ∙ at, still y.slots y.slots refl))
 
   module _ (does : ℕ → Shard R A → Shard R A → Type 0) (stays : (n : ℕ) (x y : Shard R A) → does n x y → ArmsStay x.slots y.slots) where
     pub round_there : (n sum : ℕ) (a b : S) → HeldEach rack area last went shared owns does n a sum b → ArmsAreThere a b
@@ -164,15 +157,12 @@ module _ {R A S : Type 0} (rack : racks.Ghosts R) (area : areas.Ghosts A) (last 
           (λ same. (
             once.shard,
             sym (z.others m (omega (arith, same))) ∙ (ap (last mid) same ∙ once.there),
-            subst (WasSwitched once.shard) (some_same once.after y (sym (once_here D mid n b once) ∙ (ap (last b) (sym same) ∙ at))) (record { before = once.before; stays = drift_stays D mid n b once; switches = once.did }),
+            subst (WasSwitched once.shard) (some_same once.after y (sym (once_here (λ x y. Switches rack leaf offline x y) mid n b once) ∙ (ap (last b) (sym same) ∙ at))) (record { before = once.before; stays = drift_stays (λ x y. Switches rack leaf offline x y) mid n b once; switches = once.did }),
           ))
-          (λ not. z.below m y (omega (arith, less, not)) (sym (once_other D mid n b once m not) ∙ at));
-      others = λ m from. once_other D mid n b once m (λ same. omega (arith, same, from)) ∙ z.others m (omega (arith, from));
+          (λ not. z.below m y (omega (arith, less, not)) (sym (once_other (λ x y. Switches rack leaf offline x y) mid n b once m not) ∙ at));
+      others = λ m from. once_other (λ x y. Switches rack leaf offline x y) mid n b once m (λ same. omega (arith, same, from)) ∙ z.others m (omega (arith, from));
     }
       where
-        D : Shard R A → Shard R A → Type 0
-        D x y = Switches rack leaf offline x y
-
         z : AreSwitched n a mid
         z = switched_upto n some a mid each
 

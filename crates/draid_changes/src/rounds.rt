@@ -30,7 +30,9 @@ pub(crate) fn reserve_each<R: Rack, A: Area, M: Metaslabs<R, A>>(
 {
     for metaslab in 0..count {
         let op = metaslabs.hold(metaslab, ReserveOp { out: None });
-        let Some(reserved) = op.out else { unreachable!() };
+        let Some(reserved) = op.out else {
+            unreachable!()
+        };
         match reserved {
             Ok(()) => {}
             Err(fault) => return Err(fault),
