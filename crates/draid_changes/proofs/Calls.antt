@@ -18,7 +18,7 @@ use Rattle.draid_machine.proofs.Small.{none_some}
 use Rattle.draid_segments.specs.Segments.{Pieces}
 use Rattle.draid_slots.specs.States.{name_of}
 use Rattle.draid_slots.specs.Table.{IsTable, SlotTable, arms_of}
-use Rattle.draid_shard.specs.Alike.{KeepsArms, ShareArms}
+use Rattle.draid_shard.specs.Alike.{HaveSameArms, KeepsArms}
 use Rattle.draid_shard.specs.Part.{Part, layout_in}
 use Rattle.draid_shard.specs.States.{layout_by, part_of}
 use Rattle.draid_shard.specs.declared.shard.Shard.{Shard}
@@ -55,9 +55,9 @@ leaf_of_name kind.Leaf n leaf is = (refl, (let same : n ≡ leaf = cc in same))
 leaf_of_name kind.Spare n leaf is = absurd (cc)
 
 -- a leaf that is an arm in a table is one in another that has the same arms
-leaf_shared : (a b : SlotTable) (leaf : ℕ) → IsTable a → ShareArms a b → IsLeafArm a leaf → IsLeafArm b leaf
+pub leaf_shared : (a b : SlotTable) (leaf : ℕ) → IsTable a → HaveSameArms a b → IsLeafArm a leaf → IsLeafArm b leaf
 leaf_shared a b leaf sound share (at, (arm, there, kind_is, number)) =
-    let slots = share.arms.slots at.slot inside in
+    let slots = share.slots at.slot inside in
     let long = slice_get_within (arms_of a at.slot) at.arm arm there in
     let many = slots.many in
     let z = present (arms_of b at.slot) at.arm (omega (arith, long, many)) in
@@ -70,9 +70,9 @@ leaf_shared a b leaf sound share (at, (arm, there, kind_is, number)) =
       | inr past ↦ absurd (none_some None arm refl (ap (λ arms. slice_get arms at.arm) (sym (get_or_past a.arms at.slot [] past)) ∙ there))
     ]
 
-leaf_kept_arm : (old new : SlotTable) (leaf : ℕ) → KeepsArms old new → IsLeafArm old leaf → IsLeafArm new leaf
-leaf_kept_arm old new leaf kept (at, (arm, there, kind_is, number)) =
-    (at, (arm, ap (λ arms. slice_get (slice_index_or arms at.slot []) at.arm) kept.arms_stay ∙ there, kind_is, number))
+pub leaf_stays : (old new : SlotTable) (leaf : ℕ) → new.arms ≡ old.arms → IsLeafArm old leaf → IsLeafArm new leaf
+leaf_stays old new leaf stay (at, (arm, there, kind_is, number)) =
+    (at, (arm, ap (λ arms. slice_get (slice_index_or arms at.slot []) at.arm) stay ∙ there, kind_is, number))
 
 module _ {R A : Type 0} (rack : racks.Ghosts R) (area : areas.Ghosts A) where
   -- a leaf is an arm of the shard just where it is one of its metaslab
@@ -167,7 +167,7 @@ module _ {R A : Type 0} (rack : racks.Ghosts R) (area : areas.Ghosts A) where
       record {
         valid = (v.shards m z at).valid;
         reserved = was.2.reserved;
-        arm = leaf_kept_arm was.0.slots z.slots leaf was.2.slots (leaf_shared first.slots was.0.slots leaf sound (w.alike 0 m first was.0 there was.1) is);
+        arm = leaf_stays was.0.slots z.slots leaf was.2.slots.arms_stay (leaf_shared first.slots was.0.slots leaf sound (w.alike 0 m first was.0 there was.1).arms is);
       }
 
   pub switched_whole : (leaf : ℕ) (offline : Bool) (late new : Pool R A) → IsWhole rack area late → ChangedBelow (Switches rack leaf offline) (length late.metaslabs.shards.items) late.metaslabs.shards.items new.metaslabs.shards.items

@@ -9,7 +9,7 @@ use Rattle.draid_area.specs.declared.Area as areas
 use Rattle.draid_machine.proofs.Small.{equal, true_both}
 use Rattle.draid_slots.specs.Changes.{ChangesArms, switched, switched_arm}
 use Rattle.draid_slots.specs.Table.{SlotTable, arms_of, is_leaf_kind}
-use Rattle.draid_shard.specs.Alike.{ShareArms}
+use Rattle.draid_shard.specs.Alike.{HaveSameArms}
 use Rattle.draid_shard.specs.declared.shard.Shard.{Shard}
 use Rattle.draid_disks.specs.Disks.{IsLeafArm}
 use Rattle.draid_pool.specs.Whole.{IsWhole}
@@ -25,9 +25,9 @@ use Rattle.draid_changes.proofs.Walk.{changed_at}
 use Rattle.draid_changes.proofs.Whole.{same_kind, was_there}
 
 -- a leaf that is an arm of one of the slots that there are is one where the arms are the same
-leaf_shared_in : (a b : SlotTable) (leaf : ℕ) → ShareArms a b → HasLeaf a leaf → IsLeafArm b leaf
+pub leaf_shared_in : (a b : SlotTable) (leaf : ℕ) → HaveSameArms a b → HasLeaf a leaf → IsLeafArm b leaf
 leaf_shared_in a b leaf share (at, low, (arm, there, kind_is, number)) =
-    let slots = share.arms.slots at.slot low in
+    let slots = share.slots at.slot low in
     let long = slice_get_within (arms_of a at.slot) at.arm arm there in
     let many = slots.many in
     let z = present (arms_of b at.slot) at.arm (omega (arith, long, many)) in
@@ -39,7 +39,7 @@ arm_switched : (leaf : ℕ) (offline : Bool) (a : Arm) → a.kind ≡ kind.Leaf 
 arm_switched leaf offline a kind_is number =
     ap (λ (b : Bool). (if b then record a { offline = offline } else a).offline) (true_both (is_leaf_kind a.kind) (a.number == leaf) (ap is_leaf_kind kind_is) (equal a.number leaf number))
 
-is_switched : (old new : SlotTable) (leaf : ℕ) (offline : Bool) → ChangesArms old new (switched leaf offline) → IsLeafArm old leaf → IsSwitched new leaf offline
+pub is_switched : (old new : SlotTable) (leaf : ℕ) (offline : Bool) → ChangesArms old new (switched leaf offline) → IsLeafArm old leaf → IsSwitched new leaf offline
 is_switched old new leaf offline c (at, (arm, there, kind_is, number)) = record {
   there = (at, (switched_arm leaf offline arm, c.arms_are at ∙ ap (option_map (switched leaf offline at)) there, (same_kind leaf offline arm).0 ∙ kind_is, (same_kind leaf offline arm).1 ∙ number));
   switched = λ place b here leaf_kind called.
@@ -70,7 +70,7 @@ module _ {R A : Type 0} (rack : racks.Ghosts R) (area : areas.Ghosts A) where
 
   -- what is no arm of the first metaslab is none of any
   pub none_has : (pool : Pool R A) (leaf : ℕ) (first : Shard R A) → IsWhole rack area pool → slice_get pool.metaslabs.shards.items 0 ≡ Some first → (IsLeafArm first.slots leaf → ⊥) → NoneHas leaf pool.metaslabs.shards.items
-  none_has pool leaf first w there none m z at has = none (leaf_shared_in z.slots first.slots leaf (w.alike m 0 z first at there) has)
+  none_has pool leaf first w there none m z at has = none (leaf_shared_in z.slots first.slots leaf (w.alike m 0 z first at there).arms has)
 
   -- it was switched in each
   pub all_switched : (leaf : ℕ) (offline : Bool) (old new : List (Shard R A)) → ((m : ℕ) (z : Shard R A) → slice_get old m ≡ Some z → MaySwitch rack leaf z) → ChangedBelow (Switches rack leaf offline) (length old) old new

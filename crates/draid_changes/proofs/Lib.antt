@@ -1,3 +1,4 @@
+pub mod ArmSteps
 pub mod Attached
 pub mod Balanced
 pub mod Barred
@@ -9,6 +10,7 @@ pub mod Events
 pub mod Forbids
 pub mod Gone
 pub mod HasThem
+pub mod LeafHolds
 pub mod Leaves
 pub mod Leaving
 pub mod Left
@@ -16,10 +18,12 @@ pub mod Made
 pub mod Numbered
 pub mod Others
 pub mod OthersGo
+pub mod OwnedSwitch
 pub mod Phases
 pub mod Raised
 pub mod Replaced
 pub mod Reserved
+pub mod SameArms
 pub mod Spared
 pub mod Staying
 pub mod Switched

@@ -135,16 +135,21 @@ module _ {R A : Type 0} (rack : racks.Ghosts R) (area : areas.Ghosts A) where
     leaves = λ leaf stays. (let e = ap (λ r. rack.faults r (Some leaf)) kit.rack in omega (arith, e));
   }
 
+  -- the event comes, whatever the groups
+  pub switch_did : (leaf : ℕ) (offline : Bool) (old new : Shard R A) → Switches rack leaf offline old new → (part : Part) (pieces : Pieces) (y : Metaslab) → IsMetaslab rack area part pieces old y
+      → Done rack area part pieces new (switch_event leaf offline) y
+  switch_did leaf offline old new s part pieces y is =
+      did_with rack area part pieces old new (switch_event leaf offline) y is s.valid s.does (s.acts pieces) (λ v step. same_pieces (layout_by old) y.world v leaf offline step pieces) s.reserve.limit
+      (subst (λ n. reserved_of new.history + n ≡ reserved_of old.history) (sym (used_one y.world leaf offline)) s.reserve.reserved)
+      (λ v step is_in. subst (λ f. CountsRise y.world v f (counts_of rack area old) (counts_of rack area new)) (sym (none_failed leaf offline)) (counts_stay old new y.world v s.kit))
+      (λ v step image now. records_same rack area part y.world old new s.kit.areas is.records image (image_was y.world v leaf offline image (step_is (layout_in part) y.world v leaf offline step) now))
+
   pub switch_turns : (x : State) (shared : Shared) (leaf : ℕ) (offline : Bool) (old new : Shard R A) → Switches rack leaf offline old new → (part : Part) (pieces : Pieces) (y : Metaslab)
       → IsMetaslab rack area part pieces old y → y.world.sealed ≡ None → IsAlike shared y.world
       → Turns rack area part pieces y new (λ hold v. arms.Happens part.geometry part.perms (switch_event leaf offline) part.number hold × IsChanged x (switched_shared shared leaf offline) y v)
   switch_turns x shared leaf offline old new s part pieces y is unsealed alike =
       let e : Event = switch_event leaf offline in
-      let d : Done rack area part pieces new e y
-      = did_with rack area part pieces old new e y is s.valid s.does (s.acts pieces) (λ v step. same_pieces (layout_by old) y.world v leaf offline step pieces) s.reserve.limit
-      (subst (λ n. reserved_of new.history + n ≡ reserved_of old.history) (sym (used_one y.world leaf offline)) s.reserve.reserved)
-      (λ v step is_in. subst (λ f. CountsRise y.world v f (counts_of rack area old) (counts_of rack area new)) (sym (none_failed leaf offline)) (counts_stay old new y.world v s.kit))
-      (λ v step image now. records_same rack area part y.world old new s.kit.areas is.records image (image_was y.world v leaf offline image (step_is (layout_in part) y.world v leaf offline step) now)) in
+      let d = switch_did leaf offline old new s part pieces y is in
       record {
         act = Did e d.reached.world;
         reached = d.reached;

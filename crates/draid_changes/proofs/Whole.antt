@@ -17,7 +17,7 @@ use Rattle.draid_entries.specs.Entries.{SameEntries}
 use Rattle.draid_slots.specs.declared.slot.Detached.{Detached}
 use Rattle.draid_slots.specs.Changes.{ChangesArms, switched, switched_arm}
 use Rattle.draid_slots.specs.Table.{SlotTable, arm_at, arms_of, is_leaf_kind, is_leaf_of}
-use Rattle.draid_shard.specs.Alike.{IsSameArm, ShareArms}
+use Rattle.draid_shard.specs.Alike.{HaveSameArms, IsSameArm, ShareArms}
 use Rattle.draid_shard.specs.Fits.{IsLeaf, Valid}
 use Rattle.draid_shard.specs.States.{part_of}
 use Rattle.draid_shard.specs.declared.shard.Shard.{Shard}
@@ -150,18 +150,21 @@ as_long f slot ps qs are = (let one = upto (length ps) refl in let other = under
       | inr least ↦ least
     ]
 
+pub switched_same : (leaf : ℕ) (offline : Bool) (a b a' b' : SlotTable) → ChangesArms a a' (switched leaf offline) → ChangesArms b b' (switched leaf offline) → HaveSameArms a b → HaveSameArms a' b'
+switched_same leaf offline a b a' b' one other s = record {
+  children = ap (λ g. g.spec.children) other.same.geometry_is ∙ (s.children ∙ sym (ap (λ g. g.spec.children) one.same.geometry_is));
+  slots = λ slot below. (let was = s.slots slot (subst (λ g. slot < g.spec.children) one.same.geometry_is below) in record {
+    many = as_long (switched leaf offline) slot (arms_of a slot) (arms_of a' slot) (λ k. one.arms_are (record { slot = slot; arm = k }))
+        ∙ (was.many ∙ sym (as_long (switched leaf offline) slot (arms_of b slot) (arms_of b' slot) (λ k. other.arms_are (record { slot = slot; arm = k }))));
+    each = λ k p q at there.
+        (let x = was_there a a' leaf offline one (record { slot = slot; arm = k }) p at in
+        let y = was_there b b' leaf offline other (record { slot = slot; arm = k }) q there in
+        subst (IsSameArm p) y.2 (subst (λ r. IsSameArm r (switched_arm leaf offline y.0)) x.2 (same_switched leaf offline x.0 y.0 (was.each k x.0 y.0 x.1 y.1))));
+  });
+}
+
 pub switched_share : (leaf : ℕ) (offline : Bool) (a b a' b' : SlotTable) → ChangesArms a a' (switched leaf offline) → ChangesArms b b' (switched leaf offline) → ShareArms a b → ShareArms a' b'
 switched_share leaf offline a b a' b' one other s = record {
-  arms = record {
-    children = ap (λ g. g.spec.children) other.same.geometry_is ∙ (s.arms.children ∙ sym (ap (λ g. g.spec.children) one.same.geometry_is));
-    slots = λ slot below. (let was = s.arms.slots slot (subst (λ g. slot < g.spec.children) one.same.geometry_is below) in record {
-      many = as_long (switched leaf offline) slot (arms_of a slot) (arms_of a' slot) (λ k. one.arms_are (record { slot = slot; arm = k }))
-          ∙ (was.many ∙ sym (as_long (switched leaf offline) slot (arms_of b slot) (arms_of b' slot) (λ k. other.arms_are (record { slot = slot; arm = k }))));
-      each = λ k p q at there.
-          (let x = was_there a a' leaf offline one (record { slot = slot; arm = k }) p at in
-          let y = was_there b b' leaf offline other (record { slot = slot; arm = k }) q there in
-          subst (IsSameArm p) y.2 (subst (λ r. IsSameArm r (switched_arm leaf offline y.0)) x.2 (same_switched leaf offline x.0 y.0 (was.each k x.0 y.0 x.1 y.1))));
-    });
-  };
+  arms = switched_same leaf offline a b a' b' one other s.arms;
   detached = other.detached_stay ∙ (s.detached ∙ sym one.detached_stay);
 }

@@ -6,6 +6,7 @@ pub mod DetachSays
 pub mod Detaching
 pub mod Making
 pub mod Says
+pub mod Switching
 pub mod UpgradeSays
 pub mod Upgrading
 pub mod Walks

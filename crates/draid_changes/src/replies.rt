@@ -4,11 +4,12 @@ ghost use Rattle.draid_script.specs.Line.{AttachSpare, ReplaceDisk, TakeOffline,
 ghost use Rattle.draid_session.specs.Replies.{IsReplyTo};
 ghost use Rattle.draid_session.specs.State.{State};
 ghost use Rattle.draid_pool.specs.Carries.{CarriesOut};
-ghost use Rattle.draid_pool.specs.Failing.{AreaRose, AreasLater, RackFails};
+ghost use Rattle.draid_pool.specs.Failing.{AreaRose, AreasLater};
 ghost use Rattle.draid_pool.specs.Pointers.{SamePointers};
 ghost use Rattle.draid_pool.specs.Pools.{Represents};
 ghost use Rattle.draid_pool.specs.Whole.{IsWhole};
 ghost use Rattle.draid_changes.specs.Behind.{ArmsBehind};
+ghost use Rattle.draid_changes.specs.Making.{RackRose};
 ghost use Rattle.draid_changes.specs.Says.{ReplaceSays, SpareSays, SwitchSays};
 
 use crate::fault::ArmFault;
@@ -114,7 +115,7 @@ pub fn reply_to_replace<R: Rack, A: Area>(
     ensures whole { IsWhole R.Rack A.Area pool.new }
     ensures same { SamePointers pool.old pool.new }
     ensures later { AreasLater A.faults pool.old pool.new }
-    ensures cause { IsErr result → AreaRose A.faults pool.old pool.new ⊎ RackFails R.faults pool.new }
+    ensures cause { IsErr result → AreaRose A.faults pool.old pool.new ⊎ RackRose R.faults pool.old pool.new }
     ensures fits { IfOk result (IsReplyTo (ReplaceDisk slot sectors)) }
     ensures step { (x : State) → Represents R.Rack A.Area pool.old x
         → CarriesOut R.Rack A.Area pool.new x (ReplaceSays slot sectors result x) }

@@ -1,28 +1,34 @@
-ghost use Rattle.std.specs.Prelude.{◌≡◌, ◌↔◌, IsErrOf, IsTrue, Some, false, length, slice_get, true, ℕ};
+//! A leaf that goes offline or comes back in all metaslabs, or in none of them. Who has the uberblock has the arms, so that
+//! nobody else changes these between the holds.
+ghost use Rattle.std.specs.Prelude.{◌≡◌, ◌≤◌, ◌<◌, ◌+◌, IfSome, IsErrOf, false, true};
 ghost use Rattle.draid_session.specs.State.{State};
-ghost use Rattle.draid_slots.specs.Table.{IsTable};
-ghost use Rattle.draid_shard.specs.declared.shard.Shard.{Shard};
-ghost use Rattle.draid_disks.specs.Disks.{IsLeafArm};
+ghost use Rattle.draid_shard.specs.Fits.{Valid};
+ghost use Rattle.draid_uber.specs.Slots.{group_of};
+ghost use Rattle.draid_uber.specs.Uber as ubers;
 ghost use Rattle.draid_pool.specs.Carries.{CarriesOut};
+ghost use Rattle.draid_pool.specs.Drifts.{groups_number};
 ghost use Rattle.draid_pool.specs.Failing.{AreaRose, AreasLater};
+ghost use Rattle.draid_pool.specs.Grouping.{ClosesNext};
 ghost use Rattle.draid_pool.specs.Pointers.{SamePointers};
 ghost use Rattle.draid_pool.specs.Pools.{Represents};
+ghost use Rattle.draid_pool.specs.Rounds.{EachIs, NoneBeyond};
+ghost use Rattle.draid_pool.specs.Threads.{KeepsWhole, all_of};
 ghost use Rattle.draid_pool.specs.Whole.{IsWhole};
 ghost use Rattle.draid_changes.specs.Answers.{SwitchDoes};
 ghost use Rattle.draid_changes.specs.Behind.{LeafIs};
-ghost use Rattle.draid_changes.specs.Walks.{ChangedBelow, MaySwitch, Switches};
+ghost use Rattle.draid_changes.specs.Switching.{AllSameArms, LeafIsIn, SwitchesAll, SwitchesIn};
 
 use crate::fault::{ArmFault, arm_fault};
-use crate::need::Need;
-use crate::reserving::reserve_all;
+use crate::holding::LeafOp;
+use crate::rounds::{reserve_each, switch_each};
 use draid_area::Area;
 use draid_entries::ReserveFault;
-use draid_names::{ArmKind, SlotFault};
-use draid_pool::Pool;
+use draid_names::SlotFault;
+use draid_pool::{Metaslabs, Pool, finish_group};
 use draid_rack::Rack;
-use draid_shard::Shard;
+use draid_uber::Uber;
 
-/// Takes a leaf offline in all metaslabs: from then on nothing is read from it or written to it.
+/// Takes a leaf offline in all metaslabs of a pool: from then on nothing is read from it or written to it.
 pub fn offline<R: Rack, A: Area>(pool: &mut Pool<R, A>, leaf: u64) -> Result<(), ArmFault>
     requires whole { IsWhole R.Rack A.Area pool.old }
     ensures whole { IsWhole R.Rack A.Area pool.new }
@@ -33,10 +39,14 @@ pub fn offline<R: Rack, A: Area>(pool: &mut Pool<R, A>, leaf: u64) -> Result<(),
         → CarriesOut R.Rack A.Area pool.new x (SwitchDoes x leaf true result) }
     ensures arms { LeafIs leaf true result pool.new.metaslabs.shards.items }
 {
-    switch(pool, leaf, true)
+    let count = pool.geometry.props.metaslabs;
+    match offline_leaf(&mut pool.metaslabs, &mut pool.uber, count, leaf) {
+        Some(result) => result,
+        None => unreachable!(),
+    }
 }
 
-/// Takes a leaf online again in all metaslabs. What it missed stays in the logs of its arms.
+/// Takes a leaf online again in all metaslabs of a pool. What it missed stays in the logs of its arms.
 pub fn online<R: Rack, A: Area>(pool: &mut Pool<R, A>, leaf: u64) -> Result<(), ArmFault>
     requires whole { IsWhole R.Rack A.Area pool.old }
     ensures whole { IsWhole R.Rack A.Area pool.new }
@@ -47,68 +57,140 @@ pub fn online<R: Rack, A: Area>(pool: &mut Pool<R, A>, leaf: u64) -> Result<(), 
         → CarriesOut R.Rack A.Area pool.new x (SwitchDoes x leaf false result) }
     ensures arms { LeafIs leaf false result pool.new.metaslabs.shards.items }
 {
-    switch(pool, leaf, false)
+    let count = pool.geometry.props.metaslabs;
+    match online_leaf(&mut pool.metaslabs, &mut pool.uber, count, leaf) {
+        Some(result) => result,
+        None => unreachable!(),
+    }
 }
 
-/// Takes a leaf offline or online in all metaslabs. A group that is closing is committed first.
-fn switch<R: Rack, A: Area>(pool: &mut Pool<R, A>, leaf: u64, offline: bool) -> Result<(), ArmFault>
-    requires whole { IsWhole R.Rack A.Area pool.old }
-    ensures whole { IsWhole R.Rack A.Area pool.new }
-    ensures same { SamePointers pool.old pool.new }
-    ensures later { AreasLater A.faults pool.old pool.new }
-    ensures cause { IsErrOf result ArmFault.Shelf → AreaRose A.faults pool.old pool.new }
-    ensures carries { (x : State) → Represents R.Rack A.Area pool.old x
-        → CarriesOut R.Rack A.Area pool.new x (SwitchDoes x leaf offline result) }
-    ensures arms { LeafIs leaf offline result pool.new.metaslabs.shards.items }
+/// Takes a leaf offline in so many metaslabs, or in none of them. A group that is closing is committed first; where open writes
+/// of others are in its way there is no answer, and it is to be tried again.
+pub fn offline_leaf<R: Rack, A: Area, M: Metaslabs<R, A>>(
+    metaslabs: &mut M,
+    uber: &mut Uber<A>,
+    count: u32,
+    leaf: u64,
+) -> Option<Result<(), ArmFault>>
+    requires fits { M.fits metaslabs.old }
+    requires some { 0 < count }
+    requires few { count ≤ 64 }
+    requires own { M.owns metaslabs.old groups_number ≡ true }
+    requires valid { ubers.Valid A.size uber.old }
+    requires ready { EachIs count (ClosesNext R.Rack (group_of (ubers.kept_of uber.old) + 1)) (M.last metaslabs.old) }
+    requires beyond { NoneBeyond count (M.last metaslabs.old) }
+    requires alike { AllSameArms (M.last metaslabs.old) }
+    ensures fits { M.fits metaslabs.new }
+    ensures locks { M.locks metaslabs.new ≡ M.locks metaslabs.old }
+    ensures owns { M.owns metaslabs.new ≡ M.owns metaslabs.old }
+    ensures valid { ubers.Valid A.size uber.new }
+    ensures ready { EachIs count (ClosesNext R.Rack (group_of (ubers.kept_of uber.new) + 1)) (M.last metaslabs.new) }
+    ensures beyond { NoneBeyond count (M.last metaslabs.new) }
+    ensures alike { AllSameArms (M.last metaslabs.new) }
+    ensures whole { KeepsWhole R.Rack (M.owns metaslabs.old) (all_of (M.owns metaslabs.old)) (M.last metaslabs.old) (M.last metaslabs.new) }
+    ensures leaf { IfSome result (λ answer. LeafIsIn count leaf true answer (M.last metaslabs.new)) }
+    ensures switches { SwitchesIn R.Rack A.Area M.last M.went M.shared (M.owns metaslabs.old) count leaf true metaslabs.old uber.old result metaslabs.new uber.new }
 {
-    if let Err(fault) = pool.finish() {
-        return Err(arm_fault(fault));
+    switch_leaf(metaslabs, uber, count, leaf, true)
+}
+
+/// Takes a leaf online again in so many metaslabs, or in none of them, as it is taken offline.
+pub fn online_leaf<R: Rack, A: Area, M: Metaslabs<R, A>>(
+    metaslabs: &mut M,
+    uber: &mut Uber<A>,
+    count: u32,
+    leaf: u64,
+) -> Option<Result<(), ArmFault>>
+    requires fits { M.fits metaslabs.old }
+    requires some { 0 < count }
+    requires few { count ≤ 64 }
+    requires own { M.owns metaslabs.old groups_number ≡ true }
+    requires valid { ubers.Valid A.size uber.old }
+    requires ready { EachIs count (ClosesNext R.Rack (group_of (ubers.kept_of uber.old) + 1)) (M.last metaslabs.old) }
+    requires beyond { NoneBeyond count (M.last metaslabs.old) }
+    requires alike { AllSameArms (M.last metaslabs.old) }
+    ensures fits { M.fits metaslabs.new }
+    ensures locks { M.locks metaslabs.new ≡ M.locks metaslabs.old }
+    ensures owns { M.owns metaslabs.new ≡ M.owns metaslabs.old }
+    ensures valid { ubers.Valid A.size uber.new }
+    ensures ready { EachIs count (ClosesNext R.Rack (group_of (ubers.kept_of uber.new) + 1)) (M.last metaslabs.new) }
+    ensures beyond { NoneBeyond count (M.last metaslabs.new) }
+    ensures alike { AllSameArms (M.last metaslabs.new) }
+    ensures whole { KeepsWhole R.Rack (M.owns metaslabs.old) (all_of (M.owns metaslabs.old)) (M.last metaslabs.old) (M.last metaslabs.new) }
+    ensures leaf { IfSome result (λ answer. LeafIsIn count leaf false answer (M.last metaslabs.new)) }
+    ensures switches { SwitchesIn R.Rack A.Area M.last M.went M.shared (M.owns metaslabs.old) count leaf false metaslabs.old uber.old result metaslabs.new uber.new }
+{
+    switch_leaf(metaslabs, uber, count, leaf, false)
+}
+
+/// Takes a leaf offline or online in so many metaslabs, or in none of them.
+fn switch_leaf<R: Rack, A: Area, M: Metaslabs<R, A>>(
+    metaslabs: &mut M,
+    uber: &mut Uber<A>,
+    count: u32,
+    leaf: u64,
+    offline: bool,
+) -> Option<Result<(), ArmFault>>
+    requires fits { M.fits metaslabs.old }
+    requires some { 0 < count }
+    requires few { count ≤ 64 }
+    requires own { M.owns metaslabs.old groups_number ≡ true }
+    requires valid { ubers.Valid A.size uber.old }
+    requires ready { EachIs count (ClosesNext R.Rack (group_of (ubers.kept_of uber.old) + 1)) (M.last metaslabs.old) }
+    requires beyond { NoneBeyond count (M.last metaslabs.old) }
+    requires alike { AllSameArms (M.last metaslabs.old) }
+    ensures fits { M.fits metaslabs.new }
+    ensures locks { M.locks metaslabs.new ≡ M.locks metaslabs.old }
+    ensures owns { M.owns metaslabs.new ≡ M.owns metaslabs.old }
+    ensures valid { ubers.Valid A.size uber.new }
+    ensures ready { EachIs count (ClosesNext R.Rack (group_of (ubers.kept_of uber.new) + 1)) (M.last metaslabs.new) }
+    ensures beyond { NoneBeyond count (M.last metaslabs.new) }
+    ensures alike { AllSameArms (M.last metaslabs.new) }
+    ensures whole { KeepsWhole R.Rack (M.owns metaslabs.old) (all_of (M.owns metaslabs.old)) (M.last metaslabs.old) (M.last metaslabs.new) }
+    ensures leaf { IfSome result (λ answer. LeafIsIn count leaf offline answer (M.last metaslabs.new)) }
+    ensures switches { SwitchesIn R.Rack A.Area M.last M.went M.shared (M.owns metaslabs.old) count leaf offline metaslabs.old uber.old result metaslabs.new uber.new }
+{
+    let Some(finished) = finish_group(metaslabs, uber, count) else {
+        return None;
+    };
+    match finished {
+        Ok(()) => {}
+        Err(fault) => return Some(Err(arm_fault(fault))),
     }
-    if !is_arm(&pool.metaslabs.shards[0], leaf) {
+    Some(switch_arm(metaslabs, count, leaf, offline))
+}
+
+/// Takes a leaf offline or online in so many metaslabs, if it is an arm of the first. It is an arm of all then.
+fn switch_arm<R: Rack, A: Area, M: Metaslabs<R, A>>(
+    metaslabs: &mut M,
+    count: u32,
+    leaf: u64,
+    offline: bool,
+) -> Result<(), ArmFault>
+    requires fits { M.fits metaslabs.old }
+    requires some { 0 < count }
+    requires own { M.owns metaslabs.old groups_number ≡ true }
+    requires each { EachIs count (Valid R.Rack) (M.last metaslabs.old) }
+    requires beyond { NoneBeyond count (M.last metaslabs.old) }
+    requires alike { AllSameArms (M.last metaslabs.old) }
+    ensures fits { M.fits metaslabs.new }
+    ensures locks { M.locks metaslabs.new ≡ M.locks metaslabs.old }
+    ensures owns { M.owns metaslabs.new ≡ M.owns metaslabs.old }
+    ensures alike { AllSameArms (M.last metaslabs.new) }
+    ensures leaf { LeafIsIn count leaf offline result (M.last metaslabs.new) }
+    ensures switches { SwitchesAll R.Rack A.Area M.last M.went M.shared (M.owns metaslabs.old) count leaf offline metaslabs.old result metaslabs.new }
+{
+    let op = metaslabs.hold(0, LeafOp { leaf, out: false });
+    if !op.out {
         return Err(ArmFault::Slot {
             why: SlotFault::NoSuch,
         });
     }
-    match reserve_all(pool, Need::Event) {
-        Ok(()) => {
-            switch_all(&mut pool.metaslabs.shards, leaf, offline);
-            Ok(())
-        }
-        Err(ReserveFault::Worn { .. }) => Err(ArmFault::Worn),
-        Err(ReserveFault::NoMemory) => Err(ArmFault::NoMemory),
+    match reserve_each(metaslabs, count) {
+        Ok(()) => {}
+        Err(ReserveFault::Worn { .. }) => return Err(ArmFault::Worn),
+        Err(ReserveFault::NoMemory) => return Err(ArmFault::NoMemory),
     }
-}
-
-/// Whether a leaf is an arm of a slot.
-fn is_arm<R: Rack, A: Area>(shard: &Shard<R, A>, leaf: u64) -> bool
-    ensures arm { IsTrue result ↔ IsLeafArm shard.now.slots leaf }
-    ensures sound { IsTable shard.now.slots }
-{
-    let children = shard.slots.children();
-    match shard.slots.find(ArmKind::Leaf, leaf) {
-        Some(at) => at.slot < children,
-        None => false,
-    }
-}
-
-/// Takes a leaf that is an arm offline or online in each metaslab, for which an event is reserved there.
-fn switch_all<R: Rack, A: Area>(shards: &mut Vec<Shard<R, A>>, leaf: u64, offline: bool)
-    requires ready { (m : ℕ) (shard : Shard R A) → slice_get shards.old.items m ≡ Some shard → MaySwitch R.Rack leaf shard }
-    ensures switches { ChangedBelow (Switches R.Rack leaf offline) (length shards.old.items) shards.old.items shards.new.items }
-{
-    for metaslab in 0..shards.len() {
-        switch_in(&mut shards[metaslab], leaf, offline);
-    }
-}
-
-/// Takes a leaf that is an arm offline or online in a metaslab.
-fn switch_in<R: Rack, A: Area>(shard: &mut Shard<R, A>, leaf: u64, offline: bool)
-    requires { MaySwitch R.Rack leaf shard.old }
-    ensures { Switches R.Rack leaf offline shard.old shard.new }
-{
-    if offline {
-        draid_disks::offline(shard, leaf);
-    } else {
-        draid_disks::online(shard, leaf);
-    }
+    switch_each(metaslabs, count, leaf, offline);
+    Ok(())
 }

@@ -44,7 +44,7 @@ pub keeps_some : (of some : ℕ → Bool) (group : ℕ) (a b : Entries) → ((n 
 keeps_some of some group a b inside x = record { each = λ key own. x.each key (inside key.object own) }
 
 pub groups_kept : {R A : Type 0} (shard : Shard R A) → KeepsGroups shard shard
-groups_kept shard = record { groups = record { open_group_is = refl; closing = refl; sealed = refl; committed = refl }; arms = same_arms shard.slots }
+groups_kept shard = record { groups = record { open_group_is = refl; closing = refl; sealed = refl; committed = refl }; arms = same_arms shard.slots; reserve = refl }
 
 -- what no one else holds is as it was
 pub drifts_not : {R A : Type 0} (rack : racks.Ghosts R) (area : areas.Ghosts A) (owns : ℕ → Bool) (shard : Shard R A) → Valid rack shard → Drifts rack area false owns shard shard

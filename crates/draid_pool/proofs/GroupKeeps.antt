@@ -26,7 +26,7 @@ use Rattle.draid_pool.proofs.Since.{state_self}
 use Rattle.draid_pool.proofs.Turns.{commit_turns}
 
 -- a hold that concerns the groups may change them
-not_kept : {P : Type 0} → is_other (Some groups_number) groups_number ≡ true → P
+pub not_kept : {P : Type 0} → is_other (Some groups_number) groups_number ≡ true → P
 not_kept is = absurd (true≢false (sym is))
 
 -- what a commit drops was freed up to its group

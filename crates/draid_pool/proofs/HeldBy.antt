@@ -92,6 +92,7 @@ groups_then : {R A : Type 0} (a b c : Shard R A) → KeepsGroups a b → KeepsGr
 groups_then a b c x y = record {
   groups = record { open_group_is = y.groups.open_group_is ∙ x.groups.open_group_is; closing = y.groups.closing ∙ x.groups.closing; sealed = y.groups.sealed ∙ x.groups.sealed; committed = y.groups.committed ∙ x.groups.committed };
   arms = arms_then a.slots b.slots c.slots x.arms y.arms;
+  reserve = y.reserve ∙ x.reserve;
 }
 
 module _ {R A : Type 0} (owns : ℕ → Bool) where

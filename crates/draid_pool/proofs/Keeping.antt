@@ -57,7 +57,7 @@ pass_lost marks old new loses = lost_by marks KeepsPass tt
 pub arms_by : (old new : SlotTable) → KeepsArms old new → ArmsStay old new
 arms_by old new kept = record { same = kept.same; arms_stay = kept.arms_stay }
 
-arms_on : (old mid new : SlotTable) → ArmsStay old mid → ArmsStay mid new → ArmsStay old new
+pub arms_on : (old mid new : SlotTable) → ArmsStay old mid → ArmsStay mid new → ArmsStay old new
 arms_on old mid new first second = record {
   same = record {
     geometry_is = second.same.geometry_is ∙ first.same.geometry_is;

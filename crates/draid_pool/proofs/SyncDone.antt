@@ -36,7 +36,7 @@ use Rattle.draid_pool.proofs.Wholes.{whole_table}
 use Rattle.draid_pool.proofs.WholeGroups.{closing_low, closing_next}
 
 -- what stands there is set again
-set_again : {T : Type 0} (xs : List T) (m : ℕ) (x : T) → slice_get xs m ≡ Some x → slice_set xs m x ≡ xs
+pub set_again : {T : Type 0} (xs : List T) (m : ℕ) (x : T) → slice_get xs m ≡ Some x → slice_set xs m x ≡ xs
 set_again [] m x there = absurd (cc)
 set_again (z ∷ xs) zero x there = ap (λ y. y ∷ xs) (some_same x z (sym there))
 set_again (z ∷ xs) (suc m) x there = ap (λ ys. z ∷ ys) (set_again xs m x there)
@@ -48,10 +48,10 @@ module _ {R A : Type 0} (rack : racks.Ghosts R) (area : areas.Ghosts A) where
     at_same : (m : ℕ) (shard : Shard R A) → slice_get o.shards.items m ≡ Some shard → slice_get pool.metaslabs.shards.items m ≡ Some shard
     at_same m shard there = sym (ap (λ zs. slice_get zs m) same) ∙ there
 
-    still_whole : IsWhole rack area pool → IsWhole rack area (with_owned pool o)
+    pub still_whole : IsWhole rack area pool → IsWhole rack area (with_owned pool o)
     still_whole w = whole_table rack area pool (with_owned pool o) w same refl refl refl refl w.objects
 
-    still_stands : (x : State) → Represents rack area pool x → Represents rack area (with_owned pool o) x
+    pub still_stands : (x : State) → Represents rack area pool x → Represents rack area (with_owned pool o) x
     still_stands x r =
         let s = r.stands in
         record {
@@ -77,7 +77,7 @@ module _ {R A : Type 0} (rack : racks.Ghosts R) (area : areas.Ghosts A) where
           only = r.only;
         }
 
-    still_later : AreasLater area.faults pool (with_owned pool o)
+    pub still_later : AreasLater area.faults pool (with_owned pool o)
     still_later = areas_named area.faults pool (with_owned pool o) (omega arith) same
 
     still_kept : KeepsShards rack.faults pool (with_owned pool o)

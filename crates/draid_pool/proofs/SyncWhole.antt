@@ -35,13 +35,13 @@ use Rattle.draid_pool.proofs.ShardSteps.{live_on, pointer_on}
 -- ---- one metaslab
 
 -- what it has of a thread's own objects is as it was
-record KeepsOwn {R A : Type 0} (rack : racks.Ghosts R) (owns : ℕ → Bool) (old new : Shard R A) : Type 0 where
+pub record KeepsOwn {R A : Type 0} (rack : racks.Ghosts R) (owns : ℕ → Bool) (old new : Shard R A) : Type 0 where
   pub valid : Valid rack new
   pub part : part_of new ≡ part_of old
   pub entries : KeepsOf owns new.committed old.entries new.entries
 
 -- and so is the committed group
-record KeepsQuiet {R A : Type 0} (rack : racks.Ghosts R) (owns : ℕ → Bool) (old new : Shard R A) : Type 0 where
+pub record KeepsQuiet {R A : Type 0} (rack : racks.Ghosts R) (owns : ℕ → Bool) (old new : Shard R A) : Type 0 where
   pub keeps : KeepsOwn rack owns old new
   pub committed : new.committed ≡ old.committed
 
@@ -49,7 +49,7 @@ module _ {R A : Type 0} (rack : racks.Ghosts R) (area : areas.Ghosts A) (owns : 
   table_quiet : (old new : Shard R A) → Valid rack new → KeepsTable old new → KeepsQuiet rack owns old new
   table_quiet old new valid table = record { keeps = record { valid = valid; part = table.part; entries = record { each = λ key own. inl (table.entries.held key) } }; committed = table.committed }
 
-  still_quiet : (old new : Shard R A) → Valid rack old → new ≡ old → KeepsQuiet rack owns old new
+  pub still_quiet : (old new : Shard R A) → Valid rack old → new ≡ old → KeepsQuiet rack owns old new
   still_quiet old new valid same = subst (KeepsQuiet rack owns old) (sym same) (record { keeps = record { valid = valid; part = refl; entries = keeps_self owns old.committed old.entries }; committed = refl })
 
   commit_keeps_own : (group : ℕ) (old new : Shard R A) → Commits rack group old new → KeepsOwn rack owns old new
@@ -76,18 +76,18 @@ module _ {R A S : Type 0} (rack : racks.Ghosts R) (area : areas.Ghosts A) (last 
         (λ same. subst (λ j. rest j s) (sym same) (subst (rest m) (some_same h.after s (sym here ∙ (ap (last b) (sym same) ∙ at))) held))
         (λ not. others k s (sym (away k not) ∙ at))
 
-    beyond_on : KeepsOwn rack owns h.before h.after → NoneBeyond count (last a) → NoneBeyond count (last b)
+    pub beyond_on : KeepsOwn rack owns h.before h.after → NoneBeyond count (last a) → NoneBeyond count (last b)
     beyond_on keeps beyond k from = away k (λ same. omega (arith, same, from, below)) ∙ beyond k from
 
   -- what a thread needs of each, whatever the groups
-  record HasLeft (table : ℕ → Option Pointer) (seq : ℕ) (s : S) : Type 0 where
+  pub record HasLeft (table : ℕ → Option Pointer) (seq : ℕ) (s : S) : Type 0 where
     pub shards : (m : ℕ) (shard : Shard R A) → last s m ≡ Some shard → IsHeldBy rack (all_of owns m) seq shard
     pub placed : (m : ℕ) (shard : Shard R A) → last s m ≡ Some shard → shard.number ≡ m
     pub pointers : (object : ℕ) (pointer : Pointer) → table object ≡ Some pointer → HasPointer (last s) rack owns object pointer
     pub beyond : NoneBeyond count (last s)
 
   module _ (table : ℕ → Option Pointer) (seq : ℕ) (does : Shard R A → Shard R A → Type 0) (a : S) (m : ℕ) (b : S) (below : m < count) (h : HeldOnce rack area last went shared owns does a m b) where
-    left_on : KeepsOwn rack owns h.before h.after → HasLeft table seq a → HasLeft table seq b
+    pub left_on : KeepsOwn rack owns h.before h.after → HasLeft table seq a → HasLeft table seq b
     left_on keeps left =
         let was = left.shards m h.shard h.there in
         let found = held_drifts rack (all_of owns m) seq h.shard h.before h.drifts.valid was owns h.before.committed (λ k mine. mine) h.drifts.own in
@@ -104,11 +104,11 @@ module _ {R A S : Type 0} (rack : racks.Ghosts R) (area : areas.Ghosts A) (last 
 module _ {R A S : Type 0} (rack : racks.Ghosts R) (area : areas.Ghosts A) (last : S → ℕ → Option (Shard R A)) (went : S → ℕ → Shard R A → Shard R A → S → Type 0) (shared : Bool) (owns : ℕ → Bool) (own : owns groups_number ≡ true) (count : ℕ) (Stays : S → Type 0)
     (on : (does : Shard R A → Shard R A → Type 0) (a : S) (m : ℕ) (b : S) → m < count → (h : HeldOnce rack area last went shared owns does a m b) → KeepsOwn rack owns h.before h.after → Stays a → Stays b) where
   -- and all metaslabs are ready for one group
-  record HasGroup (s : S) (next : ℕ) : Type 0 where
+  pub record HasGroup (s : S) (next : ℕ) : Type 0 where
     pub left : Stays s
     pub ready : EachIs count (ClosesNext rack next) (last s)
 
-  quiet_on : (does : Shard R A → Shard R A → Type 0) (a : S) (m : ℕ) (b : S) (below : m < count) (h : HeldOnce rack area last went shared owns does a m b) (next : ℕ) → KeepsQuiet rack owns h.before h.after → HasGroup a next → HasGroup b next
+  pub quiet_on : (does : Shard R A → Shard R A → Type 0) (a : S) (m : ℕ) (b : S) (below : m < count) (h : HeldOnce rack area last went shared owns does a m b) (next : ℕ) → KeepsQuiet rack owns h.before h.after → HasGroup a next → HasGroup b next
   quiet_on does a m b below h next quiet g =
       let was = found_ready rack area shared owns own count (last a) m below h.shard h.before h.there h.drifts next g.ready in
       record {
@@ -119,12 +119,12 @@ module _ {R A S : Type 0} (rack : racks.Ghosts R) (area : areas.Ghosts A) (last 
   -- ---- rounds
 
   module _ (does : ℕ → Shard R A → Shard R A → Type 0) (quiet : (n : ℕ) (x y : Shard R A) → Valid rack x → does n x y → KeepsQuiet rack owns x y) where
-    quiet_round : (n sum next : ℕ) (a b : S) → n ≤ count → HeldEach rack area last went shared owns does n a sum b → HasGroup a next → HasGroup b next
+    pub quiet_round : (n sum next : ℕ) (a b : S) → n ≤ count → HeldEach rack area last went shared owns does n a sum b → HasGroup a next → HasGroup b next
     quiet_round zero sum next a b below each g = subst (λ s. HasGroup s next) (sym each.0) g
     quiet_round (suc n) sum next a b below (mid, some, more, each, once, adds) g =
         quiet_on (does more) mid n b (omega (arith, below)) once next (quiet more once.before once.after once.drifts.valid once.did) (quiet_round n some next a mid (omega (arith, below)) each g)
 
-    quiet_stop : (stops : Shard R A → Shard R A → Type 0) → ((x y : Shard R A) → Valid rack x → stops x y → KeepsQuiet rack owns x y) → (next : ℕ) (a b : S) → StoppedBy rack area last went shared owns does stops count a b
+    pub quiet_stop : (stops : Shard R A → Shard R A → Type 0) → ((x y : Shard R A) → Valid rack x → stops x y → KeepsQuiet rack owns x y) → (next : ℕ) (a b : S) → StoppedBy rack area last went shared owns does stops count a b
         → HasGroup a next → HasGroup b next
     quiet_stop stops so next a b s g =
         let below = s.below in
@@ -160,7 +160,7 @@ module _ {R A S : Type 0} (rack : racks.Ghosts R) (area : areas.Ghosts A) (last 
   refused_kept group u v sync.Last names = absurd names
 
   -- behind a group the thread's metaslabs are ready for the one behind that which the uberblock names
-  abbrev HasNext : S → Uber A → ℕ → Type 0
+  abbrev pub HasNext : S → Uber A → ℕ → Type 0
   HasNext s v group = HasGroup s (group_of (kept_of v) + 1) × (group ≤ group_of (kept_of v) + 1)
 
   same_next : (s : S) (u v : Uber A) (group : ℕ) → group ≡ group_of (kept_of u) + 1 → kept_of v ≡ kept_of u → HasGroup s group → HasNext s v group
@@ -229,10 +229,10 @@ module _ {R A S : Type 0} (rack : racks.Ghosts R) (area : areas.Ghosts A) (last 
 module _ {R A S : Type 0} (rack : racks.Ghosts R) (area : areas.Ghosts A) (last : S → ℕ → Option (Shard R A)) (went : S → ℕ → Shard R A → Shard R A → S → Type 0) (shared : Bool) (owns : ℕ → Bool) (own : owns groups_number ≡ true) (count : ℕ)
     (table : ℕ → Option Pointer) (seq floor : ℕ) (some : 0 < count) (a b : S) (u v : Uber A) (ready : EachIs count (ClosesNext rack (group_of (kept_of u) + 1)) (last a)) (beyond : NoneBeyond count (last a))
     (whole : IsWholeBy rack owns (last a) table seq floor) where
-  begins : HasGroup rack area last went shared owns own count (HasLeft rack area last went shared owns count table seq) (left_on rack area last went shared owns count table seq) a (group_of (kept_of u) + 1)
+  pub begins : HasGroup rack area last went shared owns own count (HasLeft rack area last went shared owns count table seq) (left_on rack area last went shared owns count table seq) a (group_of (kept_of u) + 1)
   begins = record { left = record { shards = whole.shards; placed = whole.placed; pointers = whole.pointers; beyond = beyond }; ready = ready }
 
-  ends : HasNext rack area last went shared owns own count (HasLeft rack area last went shared owns count table seq) (left_on rack area last went shared owns count table seq) b v (group_of (kept_of u) + 1) → IsWholeBy rack owns (last b) table seq floor
+  pub ends : HasNext rack area last went shared owns own count (HasLeft rack area last went shared owns count table seq) (left_on rack area last went shared owns count table seq) b v (group_of (kept_of u) + 1) → IsWholeBy rack owns (last b) table seq floor
   ends z = record {
     shards = z.0.left.shards;
     placed = z.0.left.placed;

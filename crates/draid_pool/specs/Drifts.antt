@@ -9,6 +9,7 @@ use Rattle.draid_machine.specs.State as machine
 use Rattle.draid_machine.specs.Step.{Run}
 use Rattle.draid_segments.specs.Segments.{Pieces}
 use Rattle.draid_entries.specs.Entries.{held_in}
+use Rattle.draid_entries.specs.History.{reserved_of}
 use Rattle.draid_entries.specs.declared.entries.Entries.{Entries}
 use Rattle.draid_shard.specs.Alike.{KeepsArms}
 use Rattle.draid_shard.specs.Changes.{SameGroups}
@@ -53,17 +54,18 @@ is_other (Some n) object = if n == object then false else true
 
 -- ---- metaslabs
 
--- the number that a hold concerns which may change the groups or the arms of a metaslab; it is no object's
+-- the number that a hold concerns which may change the groups, the arms or the reserved events of a metaslab; it is no object's
 abbrev pub groups_number : ℕ
 groups_number = 4_294_967_312
 
--- the groups are as they were, and so are the arms, which change with them; logs may be others
+-- the groups are as they were, and so are the arms, which change with them; as many events are reserved; logs may be others
 pub record KeepsGroups {R A : Type 0} (old new : Shard R A) : Type 0 where
   pub groups : SameGroups old new
   pub arms : KeepsArms old.slots new.slots
+  pub reserve : reserved_of new.history ≡ reserved_of old.history
 
--- What every hold keeps to: the metaslab is valid, what it has of objects that the hold doesn't concern is as it was, its groups and arms are as they were unless the hold
--- concerns them, and whatever state it stood for, it stands for one behind it.
+-- What every hold keeps to: the metaslab is valid, what it has of objects that the hold doesn't concern is as it was, its groups, arms and reserved events are as they were unless
+-- the hold concerns them, and whatever state it stood for, it stands for one behind it.
 pub record KeepsTo {R A : Type 0} (rack : racks.Ghosts R) (area : areas.Ghosts A) (old new : Shard R A) (concerned : Option ℕ) : Type 0 where
   pub valid : Valid rack new
   pub part : part_of new ≡ part_of old
@@ -72,7 +74,8 @@ pub record KeepsTo {R A : Type 0} (rack : racks.Ghosts R) (area : areas.Ghosts A
   pub others : KeepsOf (is_other concerned) new.committed old.entries new.entries
   pub state : StateStep rack area (is_other concerned) old new
 
--- what others may have done since, where there are any: what it has of a thread's own objects is as it was, and so are its groups and arms where they are the thread's own
+-- what others may have done since, where there are any: what it has of a thread's own objects is as it was, and so are its groups, arms and reserved events where the groups are
+-- the thread's own
 pub record Drifts {R A : Type 0} (rack : racks.Ghosts R) (area : areas.Ghosts A) (shared : Bool) (owns : ℕ → Bool) (old now : Shard R A) : Type 0 where
   pub valid : Valid rack now
   pub part : part_of now ≡ part_of old

@@ -120,7 +120,7 @@ KeepsWhole rack owns mine last now = (table : ℕ → Option Pointer) (seq floor
 abbrev pub HaveLayout : {R A : Type 0} → Geometry → (ℕ → Option (Shard R A)) → Type 0
 HaveLayout {R} {A} geometry last = (m : ℕ) (shard : Shard R A) → last m ≡ Some shard → shard.geometry ≡ geometry
 
--- a metaslab is the same as before, and so are its groups and arms where they are the thread's own
+-- a metaslab is the same as before, and so are its groups, arms and reserved events where the groups are the thread's own
 pub record Stays {R A : Type 0} (owns : ℕ → Bool) (old new : Shard R A) : Type 0 where
   pub part : part_of new ≡ part_of old
   pub groups : owns groups_number ≡ true → KeepsGroups old new

@@ -10,8 +10,8 @@ use draid_rack::Rack;
 use draid_shard::Shard;
 use draid_turn::Act;
 
-/// The number that a hold concerns which changes the groups of a metaslab; it is no object's.
-const GROUPS: u64 = 4_294_967_312;
+/// The number that a hold concerns which changes the groups of a metaslab, its arms or its reserved events; it is no object's.
+pub const GROUPS: u64 = 4_294_967_312;
 
 /// Closes a group in a shard where it isn't closing already.
 fn close_in<R: Rack, A: Area>(shard: &mut Shard<R, A>, group: u64) -> Result<(), SyncFault>

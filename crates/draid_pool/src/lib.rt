@@ -26,6 +26,7 @@ pub use cell::Cell;
 pub use closing::{BIRTH_GROUPS, close_group};
 pub use committing::commit;
 pub use fault::{CloseFault, SealFault, Sealed, SyncFault, Synced};
+pub use grouping::GROUPS;
 pub use metaslabs::Metaslabs;
 pub use own::Own;
 pub use owned::Owned;

@@ -12,6 +12,7 @@ use Rattle.draid_block.specs.Solving.{IsFetched}
 use Rattle.draid_block.specs.declared.solve.Fetched.{Fetched}
 use Rattle.draid_segments.specs.Segments.{Pieces}
 use Rattle.draid_shard.specs.Alike.{KeepsArms}
+use Rattle.draid_shard.specs.Calls.{SameReserve}
 use Rattle.draid_shard.specs.Changes.{KeepsBlocks}
 use Rattle.draid_shard.specs.Part.{Part, layout_in}
 use Rattle.draid_shard.specs.States.{part_of}
@@ -45,8 +46,15 @@ module _ {R A : Type 0} (rack : racks.Ghosts R) (area : areas.Ghosts A) where
   fetch_arms x y p (Err object.Worn) f = f.did.0.nothing.slots
   fetch_arms x y p (Err object.NoMemory) f = f.did.nothing.slots
 
+  fetch_reserve : (x y : Shard R A) (p : Pointer) (result : Result Fetched ObjectFault) → FetchesShard rack x p result y → SameReserve x y
+  fetch_reserve x y p (Ok fetched) f = f.did.reserve
+  fetch_reserve x y p (Err object.NoObject) f = absurd f.did
+  fetch_reserve x y p (Err (object.Unreadable absent tried)) f = absurd f.did
+  fetch_reserve x y p (Err object.Worn) f = f.did.0.reserve
+  fetch_reserve x y p (Err object.NoMemory) f = f.did.reserve
+
   pub fetch_groups : (x y : Shard R A) (p : Pointer) (result : Result Fetched ObjectFault) → FetchesShard rack x p result y → KeepsGroups x y
-  fetch_groups x y p result f = record { groups = (fetch_blocks x y p result f).groups; arms = fetch_arms x y p result f }
+  fetch_groups x y p result f = record { groups = (fetch_blocks x y p result f).groups; arms = fetch_arms x y p result f; reserve = (fetch_reserve x y p result f).reserved }
 
   -- ---- states
 

@@ -8,6 +8,7 @@ use Rattle.draid_objects.specs.Changes as changes
 use Rattle.draid_objects.specs.Changes.{Write}
 use Rattle.draid_entries.specs.Maps.{key_of, staged}
 use Rattle.draid_entries.specs.declared.entry.Entry.{Entry}
+use Rattle.draid_shard.specs.Calls.{SameReserve}
 use Rattle.draid_shard.specs.Changes.{DoesNothing, SetsBlock}
 use Rattle.draid_shard.specs.declared.shard.Shard.{Shard}
 use Rattle.draid_pool.specs.Drifts.{KeepsGroups, KeepsOf, KeepsTo, StateStep, is_other}
@@ -20,17 +21,17 @@ use Rattle.draid_pool.proofs.Since.{state_self}
 pub same_key : (p : Pointer) (w : Write) → p.object ≡ w.object → p.seq ≡ w.seq → key_of p ≡ changes.key_of w
 same_key p w object seq = λ i. record { object = object i; seq = seq i }
 
--- a block that is set leaves the groups and the arms, and so does what does nothing
-pub sets_groups : {R A : Type 0} (old new : Shard R A) (p : Pointer) (entry : Option Entry) → SetsBlock old new p entry → KeepsGroups old new
-sets_groups old new p entry sets = record { groups = sets.groups; arms = sets.slots }
+-- a block that is set leaves the groups and the arms, and so does what does nothing, where as many events are reserved
+pub sets_groups : {R A : Type 0} (old new : Shard R A) (p : Pointer) (entry : Option Entry) → SetsBlock old new p entry → SameReserve old new → KeepsGroups old new
+sets_groups old new p entry sets reserve = record { groups = sets.groups; arms = sets.slots; reserve = reserve.reserved }
 
-pub nothing_groups : {R A : Type 0} (old new : Shard R A) → DoesNothing old new → KeepsGroups old new
-nothing_groups old new none = record { groups = none.keeps.groups; arms = none.slots }
+pub nothing_groups : {R A : Type 0} (old new : Shard R A) → DoesNothing old new → SameReserve old new → KeepsGroups old new
+nothing_groups old new none reserve = record { groups = none.keeps.groups; arms = none.slots; reserve = reserve.reserved }
 
 module _ {R A : Type 0} (rack : racks.Ghosts R) (area : areas.Ghosts A) where
   pub free_groups : (x y : Shard R A) (p : Pointer) (floor : ℕ) (out : Option ℕ) → FreesShard rack area x p floor out y → KeepsGroups x y
   free_groups x y p floor None f = same_groups x y f.did.same
-  free_groups x y p floor (Some group) f = record { groups = f.did.sets.groups; arms = f.did.sets.slots }
+  free_groups x y p floor (Some group) f = sets_groups x y p (Some (staged (stage.Freed group) p)) f.did.sets f.did.reserve
 
   pub free_keeps : (x y : Shard R A) (p : Pointer) (floor : ℕ) (out : Option ℕ) → FreesShard rack area x p floor out y → KeepsTo rack area x y (Some p.object)
   free_keeps x y p floor out f = by out f.did
@@ -51,7 +52,7 @@ module _ {R A : Type 0} (rack : racks.Ghosts R) (area : areas.Ghosts A) where
         valid = f.valid;
         part = f.part;
         later = (let same = b.sets.groups.committed in omega (arith, same));
-        groups = λ other. record { groups = b.sets.groups; arms = b.sets.slots };
+        groups = λ other. sets_groups x y p (Some (staged (stage.Freed group) p)) b.sets b.reserve;
         others = sets_others y.committed x.entries y.entries p (Some (staged (stage.Freed group) p)) b.sets.entry;
         state = state_goes rack area of x y _ b.frees;
       }

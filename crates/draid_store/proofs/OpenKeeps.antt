@@ -78,7 +78,7 @@ module _ {R A : Type 0} (rack : racks.Ghosts R) (area : areas.Ghosts A) where
             valid = b.valid;
             part = b.part;
             later = (let c = none.keeps.groups.committed in omega (arith, c));
-            groups = λ other. nothing_groups x y none;
+            groups = λ other. nothing_groups x y none b.reserve;
             others = record { each = λ key other. inl (none.keeps.entries.held key) };
             state = λ part pieces u is. record {
               reached = u;

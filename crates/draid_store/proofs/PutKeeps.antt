@@ -21,7 +21,7 @@ put_keeps rack area x y before now block valid areas_are reserve put carries = r
   valid = valid;
   part = put.does.part;
   later = (let same = put.sets.groups.committed in omega (arith, same));
-  groups = λ other. sets_groups x y before.pointer _ put.sets;
+  groups = λ other. sets_groups x y before.pointer _ put.sets reserve;
   others = sets_others y.committed x.entries y.entries before.pointer _ put.sets.entry;
   state = λ part pieces u is.
       let d = put_column rack area x y before now block valid areas_are reserve put carries part pieces u is in

@@ -29,23 +29,23 @@ module _ {R A : Type 0} (rack : racks.Ghosts R) (area : areas.Ghosts A) where
       let d = done part pieces x is in
       record { reached = d.reached; now = pieces; is = d.is; since = record { opened = d.acts.opened; more = e ∷ []; stored = d.acts.stored; run = (d.reached.world, d.step, refl) }; same = λ k mine. refl }
 
-  one_keeps : (x y : Shard R A) (p : Pointer) (entry : Option Entry) (e : Event) → Valid rack y → Does x y e → SetsBlock x y p entry
+  one_keeps : (x y : Shard R A) (p : Pointer) (entry : Option Entry) (e : Event) → Valid rack y → Does x y e → SameReserve x y → SetsBlock x y p entry
       → ((part : Part) (pieces : Pieces) (u : Metaslab) → IsMetaslab rack area part pieces x u → Done rack area part pieces y e u) → KeepsTo rack area x y (Some p.object)
-  one_keeps x y p entry e valid does sets done = record {
+  one_keeps x y p entry e valid does reserve sets done = record {
     valid = valid;
     part = does.part;
     later = (let same = sets.groups.committed in omega (arith, same));
-    groups = λ other. sets_groups x y p entry sets;
+    groups = λ other. sets_groups x y p entry sets reserve;
     others = sets_others y.committed x.entries y.entries p entry sets.entry;
     state = state_done (is_other (Some p.object)) x y e done;
   }
 
   pub begin_keeps : (x y : Shard R A) (p : Pointer) (entry : Option Entry) → Valid rack y → Does x y (begins p) → SameKit x y → SameReserve x y → SetsBlock x y p entry
       → KeepsTo rack area x y (Some p.object)
-  begin_keeps x y p entry valid does kit reserve sets = one_keeps x y p entry (begins p) valid does sets
+  begin_keeps x y p entry valid does kit reserve sets = one_keeps x y p entry (begins p) valid does reserve sets
       (λ part pieces u is. did_quiet rack area part pieces x y (begins p) u is valid does kit reserve (λ w after step s t same. same) (λ v step. refl) refl refl tt)
 
   pub finish_keeps : (x y : Shard R A) (p : Pointer) (entry : Option Entry) → Valid rack y → Does x y (event.Finish (key_of p)) → SameKit x y → SameReserve x y → SetsBlock x y p entry
       → KeepsTo rack area x y (Some p.object)
-  finish_keeps x y p entry valid does kit reserve sets = one_keeps x y p entry (event.Finish (key_of p)) valid does sets
+  finish_keeps x y p entry valid does kit reserve sets = one_keeps x y p entry (event.Finish (key_of p)) valid does reserve sets
       (λ part pieces u is. did_quiet rack area part pieces x y (event.Finish (key_of p)) u is valid does kit reserve (λ w after step s t same. same) (λ v step. refl) refl refl tt)

@@ -53,8 +53,8 @@ module _ {R A : Type 0} (rack : racks.Ghosts R) (area : areas.Ghosts A) (shared 
 
   pub begin_groups : (object seq floor : ℕ) (block : BlockValue) (out : Option (Result Ticket BeginFault)) → BeginsShard rack before object seq floor block out after → KeepsGroups before after
   begin_groups object seq floor block None b = same_groups before after (b.early refl)
-  begin_groups object seq floor block (Some (Ok ticket)) b = sets_groups before after ticket.pointer (Some (begun ticket.pointer)) b.did.1.opens.enters
-  begin_groups object seq floor block (Some (Err fault)) b = nothing_groups before after b.did.1.nothing
+  begin_groups object seq floor block (Some (Ok ticket)) b = sets_groups before after ticket.pointer (Some (begun ticket.pointer)) b.did.1.opens.enters b.reserve
+  begin_groups object seq floor block (Some (Err fault)) b = nothing_groups before after b.did.1.nothing b.reserve
 
   pub begin_stays : (object seq floor : ℕ) (block : BlockValue) (out : Option (Result Ticket BeginFault)) → BeginsShard rack before object seq floor block out after → AllStay owns last new
   begin_stays object seq floor block out b = stay_held owns rack area shared last new m shard before after there drifts b.part (begin_groups object seq floor block out b) is
@@ -115,7 +115,7 @@ module _ {R A : Type 0} (rack : racks.Ghosts R) (area : areas.Ghosts A) (shared 
   -- ---- a column
 
   put_groups : (ticket now : Ticket) (block : BlockValue) → PutsShard rack before ticket block now after → KeepsGroups before after
-  put_groups ticket now block put = sets_groups before after ticket.pointer (Some (staged (stage.Writing now.next now.missed) ticket.pointer)) put.puts.sets
+  put_groups ticket now block put = sets_groups before after ticket.pointer (Some (staged (stage.Writing now.next now.missed) ticket.pointer)) put.puts.sets put.reserve
 
   pub put_stays : (ticket now : Ticket) (block : BlockValue) → PutsShard rack before ticket block now after → AllStay owns last new
   put_stays ticket now block put = stay_held owns rack area shared last new m shard before after there drifts put.puts.does.part (put_groups ticket now block put) is
@@ -140,8 +140,8 @@ module _ {R A : Type 0} (rack : racks.Ghosts R) (area : areas.Ghosts A) (shared 
   -- ---- the end
 
   pub end_groups : (ticket : Ticket) (block : BlockValue) (result : Result Pointer Missed) → FinishesShard rack before ticket block result after → KeepsGroups before after
-  end_groups ticket block (Ok pointer) d = sets_groups before after ticket.pointer (Some (staged stage.Live ticket.pointer)) d.ends.2
-  end_groups ticket block (Err missed) d = sets_groups before after ticket.pointer None d.ends.2
+  end_groups ticket block (Ok pointer) d = sets_groups before after ticket.pointer (Some (staged stage.Live ticket.pointer)) d.ends.2 d.reserve
+  end_groups ticket block (Err missed) d = sets_groups before after ticket.pointer None d.ends.2 d.reserve
 
   pub end_stays : (ticket : Ticket) (block : BlockValue) (result : Result Pointer Missed) → FinishesShard rack before ticket block result after → AllStay owns last new
   end_stays ticket block result d = stay_held owns rack area shared last new m shard before after there drifts d.does.part (end_groups ticket block result d) is

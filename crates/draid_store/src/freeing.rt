@@ -4,6 +4,7 @@ ghost use Rattle.draid_names.specs.declared.numbers.TheConstants.{LAST_NUMBER};
 ghost use Rattle.draid_machine.specs.declared.names.Stage.TheVariants.{Freed};
 ghost use Rattle.draid_segments.specs.Segments.{Pieces};
 ghost use Rattle.draid_entries.specs.Maps.{staged};
+ghost use Rattle.draid_shard.specs.Calls.{SameReserve};
 ghost use Rattle.draid_shard.specs.Looks.{IsLive};
 ghost use Rattle.draid_shard.specs.Changes.{SetsBlock};
 ghost use Rattle.draid_shard.specs.Fits.{Valid};
@@ -47,6 +48,7 @@ pub(crate) fn free_block<R: Rack, A: Area>(
     ensures part { part_of shard.new ≡ part_of shard.old }
     ensures group { result ≡ max shard.old.open_group floor }
     ensures sets { SetsBlock shard.old shard.new pointer.now (Some (staged (Freed result) pointer.now)) }
+    ensures reserve { SameReserve shard.old shard.new }
     ensures frees { (part : Part) (pieces : Pieces) (x : Metaslab) → IsMetaslab R.Rack A.Area part pieces shard.old x
         → Goes R.Rack A.Area part pieces x shard.new (FreesIn part.number pointer.now floor result x) }
 {

@@ -1,9 +1,8 @@
-use Rattle.std.proofs.Common.{◌∙◌, inl, inr, Ok, Err, ap, refl, subst}
+use Rattle.std.proofs.Common.{◌∙◌, Ok, Err, ap, refl, subst}
 use Rattle.draid_changes.specs.Answers.{ReplaceDoes}
 use Rattle.draid_changes.specs.Behind.{DiskIs}
 use Rattle.draid_changes.specs.declared.fault.ArmFault.TheVariants as fault
 use Rattle.draid_pool.proofs.Steps.{by_answer}
-use Rattle.draid_changes.proofs.Made.{rack_fails}
 use Rattle.draid_changes.proofs.replies.reply_to_replace.Goals as goal
 
 pub returns-in-Ok : goal.returns-in-Ok
@@ -66,10 +65,7 @@ returns-in-Err-Shelf g c =
       whole = c.replace.ensures.whole;
       same = c.replace.ensures.same;
       later = c.replace.ensures.later;
-      cause = λ failed. elim (c.replace.ensures.cause (c.in-Err-Shelf.is ∙ ap Err c.in-Err-Shelf.field-0-is)) [
-        | inl area ↦ inl area
-        | inr rack ↦ inr (rack_fails g.R.Rack.faults c.args.pool.now c.replace.new.pool rack)
-      ];
+      cause = λ failed. c.replace.ensures.cause (c.in-Err-Shelf.is ∙ ap Err c.in-Err-Shelf.field-0-is);
       fits = tt;
       step = λ x is.
           by_answer g.R.Rack g.A.Area (λ r. ReplaceDoes x c.args.slot c.args.sectors r) _ x c.replace.new.pool c.replace.result (Err fault.Shelf) (c.in-Err-Shelf.is ∙ ap Err c.in-Err-Shelf.field-0-is) (λ holds store w. (Err fault.Shelf, tt, w)) (c.replace.ensures.carries x is);
