@@ -1,7 +1,7 @@
 use Rattle.std.proofs.Common.{◌≡◌, ◌||◌, ◌&&◌, not, rules}
-use Rattle.draid_pool.proofs.OnePass.{found_more, found_none}
-use Rattle.draid_pool.proofs.unsynced.is_unsynced.Goals as goal
-use Rattle.draid_pool.proofs.unsynced.is_unsynced.Goals.{then-others, else-others+then-closed, else-others+else-closed, then-closed-2, else-closed-2, then-commits, else-commits}
+use Rattle.draid_export.proofs.OnePass.{found_more, found_none}
+use Rattle.draid_export.proofs.unsynced.is_unsynced.Goals as goal
+use Rattle.draid_export.proofs.unsynced.is_unsynced.Goals.{then-others, else-others+then-closed, else-others+else-closed, then-closed-2, else-closed-2, then-commits, else-commits}
 
 pub loop-event-init : goal.loop-event-init
 loop-event-init c = found_none c.args.committed c.args.events.now

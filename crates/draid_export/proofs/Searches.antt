@@ -6,7 +6,7 @@ use Rattle.std.proofs.lemmas.Bool.{true≢false}
 use Rattle.draid_session.specs.Groups as groups
 use Rattle.draid_shard.specs.States.{stored_in}
 use Rattle.draid_shard.specs.declared.shard.Shard.{Shard}
-use Rattle.draid_pool.specs.Syncing.{FoundUnsynced}
+use Rattle.draid_export.specs.Exporting.{FoundUnsynced}
 use Rattle.draid_pool.proofs.Holding.{some_same}
 
 module _ {S : Type 0} (p : S → Bool) where

@@ -1,0 +1,3 @@
+mod Exports
+mod OnePass
+mod Searches
