@@ -1,3 +1,4 @@
 mod Exports
 mod OnePass
+mod Replied
 mod Searches

@@ -28,7 +28,8 @@ use Rattle.draid_visits.specs.Says.{CancelSays, RebuildSays, ScrubSays}
 use Rattle.draid_run.specs.Rebalancing.{RebalanceSays}
 use Rattle.draid_run.specs.Script.{IsUnbuilt}
 use Rattle.draid_run.specs.Serve.{AnswerIs, AskIs, IsSaid}
-use Rattle.draid_run.specs.Shelves.{MayFind, OnShelf}
+use Rattle.draid_pool.specs.Shelves.{OnShelf}
+use Rattle.draid_run.specs.Shelves.{MayFind}
 use Rattle.draid_run.specs.declared.answer.Stop.{Stop}
 use Rattle.draid_run.specs.declared.answer.Stop.TheVariants as stop
 use Rattle.draid_run.proofs.Said.{cancel_does, rebalance_does, rebuild_does, scrub_does, damage_does, detach_does, free_does, read_does, spare_does, status_does, sum_does, switch_does, switch_line, upgrade_does, replace_does}

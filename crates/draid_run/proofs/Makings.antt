@@ -31,8 +31,11 @@ use Rattle.draid_create.specs.declared.fault.CreateFault.{CreateFault}
 use Rattle.draid_create.specs.declared.fault.CreateFault.TheVariants as fault
 use Rattle.draid_pool.specs.declared.pool.Pool.{Pool}
 use Rattle.draid_run.specs.Desks.{Broken, IsDesk, IsPool, IsShelf}
-use Rattle.draid_run.specs.Making.{CreateDid, CreateIs, CreateTurns, MakeIs, PoolIs, UnmadeIs}
-use Rattle.draid_run.specs.Shelves.{HasChecks, HoldsShut, IsClosed, IsSame, OnShelf}
+use Rattle.draid_create.specs.Says.{MakeIs, PoolIs}
+use Rattle.draid_run.specs.Making.{CreateDid, CreateIs, CreateTurns, UnmadeIs}
+use Rattle.draid_create.specs.Says.{IsSame}
+use Rattle.draid_pool.specs.Shelves.{OnShelf}
+use Rattle.draid_run.specs.Shelves.{HasChecks, HoldsShut, IsClosed}
 use Rattle.draid_run.specs.declared.answer.Made as answer
 use Rattle.draid_run.specs.declared.answer.Stop.{Stop}
 use Rattle.draid_run.proofs.GivenBack.{holds_as, importable_as, on_held, told_as}
@@ -45,12 +48,6 @@ by_checks (Ok u) (Ok v) (Ok w) true f l layout is = absurd (cc)
 by_checks (Ok u) (Ok v) (Err e) big f l layout is = absurd (cc)
 by_checks (Ok u) (Err e) c big f l layout is = absurd (cc)
 by_checks (Err e) b c big f l layout is = absurd (cc)
-
-abbrev laid_out : Geometry → Result Geometry SpecFault
-laid_out layout = Ok layout
-
-same_layout : (a b : Geometry) → laid_out a ≡ Ok b → a ≡ b
-same_layout a b is = cc is
 
 same_spec : (spec : Spec) (props : Props) (layout : Geometry) → geometry_of spec props ≡ Ok layout → layout.spec ≡ spec
 same_spec spec props layout is =
@@ -148,32 +145,6 @@ module _ {R A : Type 0} (rack : racks.Ghosts R) (area : areas.Ghosts A) where
       desk = is;
       turns = turns_refused text children keys x why (shut desk x none is.stands) (ap (layout_from keys) read);
     }
-
-  -- what becomes of the devices as none is made
-  module _ (spec : Spec) (props : Props) (before : OnShelf) (desk : Option (Pool R A)) where
-    abbrev unmade : IsSame before before
-    unmade = (record { held = refl; counts = λ m. refl; uber = refl; checks = refl }, λ m. refl)
-
-    pub make_refused : (why : SpecFault) → geometry_of spec props ≡ Err why → desk ≡ None → MakeIs rack area spec props before before desk (Err (fault.Spec why))
-    make_refused why is none = record { pool_is = (is, none); shelf = unmade }
-
-    pub make_unnamed : (geometry : Geometry) → geometry_of spec props ≡ Ok geometry → desk ≡ None → MakeIs rack area spec props before before desk (Err fault.NoMemory)
-    make_unnamed geometry is none = record { pool_is = ((geometry, is), none); shelf = inl unmade }
-
-    module _ (now : OnShelf) where
-      pub make_failed : (why : CreateFault) → opening.CreateIs {R = R} {A = A} rack area spec props now.held now.leaves before.faults now.faults now.counts now.own (Err why)
-          → ShelfIs {P = Pool R A} spec props before.held now.held before.leaves now.leaves before.counts now.counts before.own now.own (Err why) → desk ≡ None → MakeIs rack area spec props before now desk (Err why)
-      make_failed (fault.Spec why) answer shelf none = record { pool_is = (answer, none); shelf = shelf }
-      make_failed fault.Shelf answer shelf none = record { pool_is = (none, answer.0, answer.1, answer.2); shelf = shelf }
-      make_failed fault.NoMemory answer shelf none = record { pool_is = (answer, none); shelf = shelf }
-
-      pub make_opened : (pool : Pool R A) (layout : Geometry) (called : answer.Made) → geometry_of spec props ≡ Ok layout → string_bytes called.name ≡ vdev_name_of spec → called.stripes ≡ pool_stripes layout → IsWhole rack area pool
-          → opening.CreateIs {R = R} {A = A} rack area spec props now.held now.leaves before.faults now.faults now.counts now.own (Ok pool)
-          → ShelfIs {P = Pool R A} spec props before.held now.held before.leaves now.leaves before.counts now.counts before.own now.own (Ok pool) → MakeIs rack area spec props before now (Some pool) (Ok called)
-      make_opened pool layout called is named stripes whole answer shelf = record {
-        pool_is = (whole, record { geometry = answer.0; layout = answer.1; opens = answer.2; name_is = named; stripes_are = stripes ∙ ap pool_stripes (same_layout layout answer.0 (sym is ∙ answer.1)) });
-        shelf = shelf;
-      }
 
   module _ (text : List ℕ) (children : ℕ) (keys : PoolKeys) (entry before now : OnShelf) (spec : Spec) (read : spec_by text children keys.version ≡ Ok spec) where
     turns_made : (x : Desk) (m : answer.Made) (new : State) → IsPool rack area None x → Makes text children keys (string_bytes m.name) m.stripes new

@@ -30,7 +30,8 @@ use Rattle.draid_run.specs.Desks.{BreaksBy, Broken, IsDesk, IsPool, PoolBroke, P
 use Rattle.draid_run.proofs.Broke.{broken_shows}
 use Rattle.draid_pool.specs.Knows.{Teaches}
 use Rattle.draid_run.specs.Making.{CreateDid, CreateTurns}
-use Rattle.draid_run.specs.Shelves.{IsOut, MayFind, OnShelf}
+use Rattle.draid_pool.specs.Shelves.{OnShelf}
+use Rattle.draid_run.specs.Shelves.{IsOut, MayFind}
 use Rattle.draid_run.proofs.Behind.{asked_keeps, open_behind, still_foreign}
 use Rattle.draid_pool.proofs.Following.{same_told}
 

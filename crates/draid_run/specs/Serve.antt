@@ -17,7 +17,8 @@ use Rattle.draid_session.specs.Session.{Cause, Desk, RecordFails, Runs, ShelfFai
 use Rattle.draid_pool.specs.declared.pool.Pool.{Pool}
 use Rattle.draid_run.specs.Desks.{Broken, IsDesk, PoolBroke, PoolDid, Turned, asked_in}
 use Rattle.draid_run.specs.Script.{all_said, BreaksOff, Ends, FailsShut, FaultyShut, GetsReplies, IsUnbuilt, LineFaultIs, Shows, said_text, texts_of}
-use Rattle.draid_run.specs.Shelves.{HasFault, HoldsFault, IsClosed, MakesLeavesAt, MayFind, OnShelf, RackFault}
+use Rattle.draid_pool.specs.Shelves.{OnShelf}
+use Rattle.draid_run.specs.Shelves.{HasFault, HoldsFault, IsClosed, MakesLeavesAt, MayFind, RackFault}
 use Rattle.draid_run.specs.declared.answer.Stop.{Stop}
 use Rattle.draid_run.specs.declared.answer.Stop.TheVariants as stop
 use Rattle.draid_run.specs.declared.status.Status.{Status}

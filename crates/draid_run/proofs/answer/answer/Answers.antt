@@ -5,11 +5,11 @@ use Rattle.draid_session.specs.Said.{alone}
 use Rattle.draid_script.specs.Line.{CreatePool, command_in}
 use Rattle.draid_script.specs.declared.line.Line.{Line}
 use Rattle.draid_run.specs.Desks.{Turned}
-use Rattle.draid_run.specs.Shelves.{on_shelf}
+use Rattle.draid_pool.specs.Shelves.{on_shelf}
 use Rattle.draid_run.specs.Serve.{AnswerIs}
 use Rattle.draid_run.proofs.Asking.{answer_ask, answer_create, is_unbuilt, turned_silent}
 use Rattle.draid_run.proofs.Exits.{same_later}
-use Rattle.draid_run.proofs.Grouping.{answer_export, answer_sync, by_crash}
+use Rattle.draid_run.proofs.Closings.{answer_export, answer_sync, by_crash}
 use Rattle.draid_run.proofs.Importings.{answer_import}
 use Rattle.draid_run.proofs.answer.answer.Goals as goal
 

@@ -29,10 +29,11 @@ use Rattle.draid_pool.specs.declared.fault.SyncFault.TheVariants as sync
 use Rattle.draid_pool.specs.declared.fault.Synced.{Synced as Group}
 use Rattle.draid_pool.specs.declared.pool.Pool.{Pool}
 use Rattle.draid_run.specs.Desks.{Broken, IsDesk, IsPool, IsShelf, Turned}
-use Rattle.draid_run.specs.Groups.{CrashDid, CrashTurns, ExportDid, ExportIs, ExportTurns, Leads, RefusalIs, SyncDid, SyncLeads, SyncShows, desk_left, export_reply, foreign_left, refusal_of, sync_reply}
+use Rattle.draid_run.specs.Closing.{CrashDid, CrashTurns, ExportDid, ExportIs, ExportTurns, Leads, RefusalIs, SyncDid, SyncLeads, SyncShows, desk_left, export_reply, foreign_left, refusal_of, sync_reply}
 use Rattle.draid_pool.specs.Knows.{KnowsPointers}
 use Rattle.draid_run.specs.Serve.{AnswerIs, IsSaid}
-use Rattle.draid_run.specs.Shelves.{AreaHasFailed, IsOut, MayFind, OnShelf, PoolFails, RackHasFailed, TellsAsBefore}
+use Rattle.draid_pool.specs.Shelves.{OnShelf}
+use Rattle.draid_run.specs.Shelves.{AreaHasFailed, IsOut, MayFind, PoolFails, RackHasFailed, TellsAsBefore}
 use Rattle.draid_run.specs.declared.answer.Stop.{Stop}
 use Rattle.draid_run.specs.declared.answer.Stop.TheVariants as stop
 use Rattle.draid_run.proofs.Behind.{open_behind, still_foreign, sync_keeps}

@@ -1,11 +1,11 @@
 use Rattle.std.proofs.Common.{◌∙◌, sym, subst}
 use Rattle.draid_spec.specs.declared.layout.Props.{Props}
-use Rattle.draid_run.specs.Making.{MakeIs}
-use Rattle.draid_run.specs.Shelves.{on_shelf}
+use Rattle.draid_create.specs.Says.{MakeIs}
+use Rattle.draid_pool.specs.Shelves.{on_shelf}
 use Rattle.draid_run.proofs.Exits.{same_later}
 use Rattle.draid_run.proofs.Importings.{none_open}
 use Rattle.draid_run.proofs.Makings.{already_open, create_unmade, made, shut, unreadable}
-use Rattle.draid_run.proofs.answer.create.Goals as goal
+use Rattle.draid_run.proofs.opening.create.Goals as goal
 
 pub returns-in-Ok-make : goal.returns-in-Ok-make
 returns-in-Ok-make g c = record {

@@ -1,9 +1,9 @@
 use Rattle.std.proofs.Common.{◌∙◌, sym}
 use Rattle.draid_pool.proofs.Rises.{rose_fails}
-use Rattle.draid_run.specs.Shelves.{on_shelf}
-use Rattle.draid_run.proofs.Grouping.{export_refused, exported}
+use Rattle.draid_pool.specs.Shelves.{on_shelf}
+use Rattle.draid_run.proofs.Closings.{export_refused, exported}
 use Rattle.draid_run.proofs.Steps.{is_whole}
-use Rattle.draid_run.proofs.groups.export.Goals as goal
+use Rattle.draid_run.proofs.closing.export.Goals as goal
 
 pub sync_for_export-requires : goal.sync_for_export-requires
 sync_for_export-requires g c = record { whole = is_whole g.H.R.Rack g.H.A.Area c.args.pool.now c.in-Some.open (sym c.take.ensures.value ∙ c.in-Some.is) c.requires.desk }

@@ -1,8 +1,8 @@
 use Rattle.std.proofs.Common.{◌∙◌, sym}
-use Rattle.draid_run.specs.Shelves.{on_shelf}
-use Rattle.draid_run.proofs.Exits.{same_later}
-use Rattle.draid_run.proofs.Makings.{make_failed, make_opened, make_refused, make_unnamed}
-use Rattle.draid_run.proofs.answer.make.Goals as goal
+use Rattle.draid_pool.specs.Shelves.{on_shelf}
+use Rattle.draid_create.proofs.Making.{same_later}
+use Rattle.draid_create.proofs.Making.{make_failed, make_opened, make_refused, make_unnamed}
+use Rattle.draid_create.proofs.replies.make.Goals as goal
 
 pub returns-in-Err : goal.returns-in-Err
 returns-in-Err g c = record {

@@ -1,83 +1,38 @@
--- What a sync, an export and a crash come to.
+-- What an export and a crash come to.
 use Rattle.std.specs.Prelude.{◌≡◌, ℕ, true, false, List, Option, Some, None, Result, Ok, Err}
 use Rattle.draid_rack.specs.declared.Rack as racks
 use Rattle.draid_area.specs.declared.Area as areas
-use Rattle.draid_script.specs.Line.{SyncPool}
-use Rattle.draid_script.specs.declared.name.CommandName.{CommandName}
 use Rattle.draid_script.specs.declared.name.CommandName.TheVariants as name
 use Rattle.draid_reply.specs.declared.reply.Reply.{Reply}
-use Rattle.draid_reply.specs.declared.reply.Reply.TheVariants.{Crashed, Exported, Last, NoMemory, NoPool, Synced, Worn}
+use Rattle.draid_reply.specs.declared.reply.Reply.TheVariants.{Crashed, Exported, Last, NoMemory, NoPool, Worn}
 use Rattle.draid_session.specs.Follows.{Follows}
 use Rattle.draid_session.specs.Holds.{Hold}
 use Rattle.draid_session.specs.Known.{Known}
-use Rattle.draid_session.specs.Replies.{IsReplyTo}
 use Rattle.draid_session.specs.Session.{Desk, Open, Shut, Foreign, Unknown}
 use Rattle.draid_session.specs.State.{State, Store}
-use Rattle.draid_pool.specs.Syncing.{ExportDoes, SyncDoes}
-use Rattle.draid_pool.specs.Carries.{CarriesOut}
-use Rattle.draid_pool.specs.Whole.{IsWhole}
+use Rattle.draid_export.specs.Exporting.{ExportDoes}
 use Rattle.draid_pool.specs.declared.fault.SyncFault.{SyncFault}
 use Rattle.draid_pool.specs.declared.fault.SyncFault.TheVariants as sync
-use Rattle.draid_pool.specs.declared.fault.Synced.{Synced as Group}
 use Rattle.draid_pool.specs.declared.pool.Pool.{Pool}
 use Rattle.draid_run.specs.Desks.{IsDesk}
-use Rattle.draid_pool.specs.Knows.{KnowsPointers}
-use Rattle.draid_run.specs.Shelves.{OnShelf, PoolFails}
+use Rattle.draid_pool.specs.Shelves.{OnShelf}
+use Rattle.draid_run.specs.Shelves.{PoolFails}
 use Rattle.draid_run.specs.declared.answer.Stop.{Stop}
 use Rattle.draid_run.specs.declared.answer.Stop.TheVariants as stop
 
--- ---- on the open pool
-
--- the replies of a sync and of what an export does first; a failing device has none
-abbrev pub refusal_of : CommandName → SyncFault → Option Reply
-refusal_of called sync.Worn = Some (Worn called)
-refusal_of called sync.Last = Some (Last called)
-refusal_of called sync.NoMemory = Some (NoMemory called)
-refusal_of called sync.Shelf = None
-
--- it is this
-abbrev pub RefusalIs : CommandName → SyncFault → Result Reply Stop → Type 0
-RefusalIs called why (Ok reply) = refusal_of called why ≡ Some reply
-RefusalIs called why (Err stop.Shelf) = refusal_of called why ≡ None
-RefusalIs called why (Err stop.Unbuilt) = ⊥
-RefusalIs called why (Err (stop.Record metaslab place kind)) = ⊥
-
-abbrev pub sync_reply : Result Group SyncFault → Option Reply
-sync_reply (Ok it) = Some (Synced it.group it.thin)
-sync_reply (Err why) = refusal_of name.Sync why
-
--- the call did what its answer says, which has this reply
-abbrev pub SyncSays : Option Reply → State → List Hold → Store → Type 0
-SyncSays reply x holds store = (answer : Result Group SyncFault) × (sync_reply answer ≡ reply) × SyncDoes x answer holds store
-
--- what a sync came to on the open pool: a reply, or a device failed
-abbrev pub SyncLeads : {R A : Type 0} → racks.Ghosts R → areas.Ghosts A → State → Result Reply Stop → Pool R A → Type 0
-SyncLeads rack area x (Ok reply) pool = CarriesOut rack area pool x (SyncSays (Some reply) x)
-SyncLeads rack area x (Err stop.Shelf) pool = CarriesOut rack area pool x (SyncSays None x)
-SyncLeads rack area x (Err stop.Unbuilt) pool = ⊥
-SyncLeads rack area x (Err (stop.Record metaslab place kind)) pool = ⊥
-
--- a sync of any pool has a reply that it may have, or an area failed
-abbrev pub SyncShows : {R A : Type 0} → areas.Ghosts A → Result Reply Stop → Option (Pool R A) → Type 0
-SyncShows area (Ok reply) pool = IsReplyTo SyncPool reply
-SyncShows area (Err stop.Shelf) pool = PoolFails area pool
-SyncShows area (Err stop.Unbuilt) pool = ⊥
-SyncShows area (Err (stop.Record metaslab place kind)) pool = ⊥
-
--- by whether a pool is open
-abbrev pub SyncDid : {R A : Type 0} → racks.Ghosts R → areas.Ghosts A → Desk → Result Reply Stop → Option (Pool R A) → Type 0
-SyncDid rack area (Open x) result None = ⊥
-SyncDid rack area (Foreign known) result None = ⊥
-SyncDid rack area (Open x) result (Some pool) = IsWhole rack area pool × SyncShows area result (Some pool) × SyncLeads rack area x result pool
-SyncDid rack area (Foreign known) result (Some pool) = IsWhole rack area pool × SyncShows area result (Some pool) × KnowsPointers pool known
-SyncDid rack area desk result pool = (result ≡ Ok (NoPool name.Sync)) × (pool ≡ None)
-
 -- ---- an export, a crash
+
+-- why the sync of an export was refused, in a reply; a failing device has none
+abbrev pub refusal_of : SyncFault → Option Reply
+refusal_of sync.Worn = Some (Worn name.Export)
+refusal_of sync.Last = Some (Last name.Export)
+refusal_of sync.NoMemory = Some (NoMemory name.Export)
+refusal_of sync.Shelf = None
 
 -- the reply of an export: the group that was committed last, or why a sync was refused
 abbrev pub export_reply : Result ℕ SyncFault → Option Reply
 export_reply (Ok group) = Some (Exported group)
-export_reply (Err why) = refusal_of name.Export why
+export_reply (Err why) = refusal_of why
 
 -- it gives the pool back, unless its sync was refused
 abbrev pub desk_left : Result ℕ SyncFault → State → Desk

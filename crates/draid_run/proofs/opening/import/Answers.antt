@@ -2,11 +2,11 @@ use Rattle.std.proofs.Common.{◌∙◌, subst, sym}
 use Rattle.draid_script.specs.declared.name.CommandName.TheVariants as name
 use Rattle.draid_reply.specs.declared.reply.Reply.TheVariants.{NoMemory}
 use Rattle.draid_run.specs.Importing.{ImportDid}
-use Rattle.draid_run.specs.Shelves.{on_shelf}
+use Rattle.draid_pool.specs.Shelves.{on_shelf}
 use Rattle.draid_run.proofs.Exits.{later_same, same_later}
 use Rattle.draid_run.proofs.Importings.{already_open, import_unopened, imported, none_open, unnamed}
 use Rattle.draid_run.proofs.Makings.{shut}
-use Rattle.draid_run.proofs.importing.import.Goals as goal
+use Rattle.draid_run.proofs.opening.import.Goals as goal
 
 pub returns-in_default : goal.returns-in_default
 returns-in_default g c = record {

@@ -1,8 +1,8 @@
 use Rattle.std.proofs.Common.{◌∙◌, sym}
-use Rattle.draid_run.specs.Shelves.{on_shelf}
-use Rattle.draid_run.proofs.Grouping.{crashed}
+use Rattle.draid_pool.specs.Shelves.{on_shelf}
+use Rattle.draid_run.proofs.Closings.{crashed}
 use Rattle.draid_run.proofs.Steps.{is_whole}
-use Rattle.draid_run.proofs.groups.crash.Goals as goal
+use Rattle.draid_run.proofs.closing.crash.Goals as goal
 
 pub close-requires-clause-whole : goal.close-requires-clause-whole
 close-requires-clause-whole g c κs within = is_whole g.H.R.Rack g.H.A.Area c.args.pool.now c.in-Some.open (sym c.take.ensures.value ∙ c.in-Some.is) c.requires.desk
