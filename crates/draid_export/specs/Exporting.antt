@@ -1,5 +1,5 @@
 -- What an export makes safe, and what its reply and that of a crash say.
-use Rattle.std.specs.Prelude.{◌≡◌, ⊤, ℕ, Bool, List, true, false, Option, Some, Result, Ok, Err, slice_get}
+use Rattle.std.specs.Prelude.{◌≡◌, ⊤, ℕ, Bool, List, true, false, Some, Result, Ok, Err, slice_get}
 use Rattle.draid_rack.specs.declared.Rack as racks
 use Rattle.draid_area.specs.declared.Area as areas
 use Rattle.draid_names.specs.declared.fault.Failed.{Failed}
@@ -49,6 +49,14 @@ IsRefusal sync.Last said = said ≡ Ok (replies.Last name.Export)
 IsRefusal sync.NoMemory said = said ≡ Ok (replies.NoMemory name.Export)
 IsRefusal sync.Shelf (Ok reply) = ⊥
 IsRefusal sync.Shelf (Err failed) = ⊤
+
+-- a sync was refused, and the reply says why; or a device failed
+abbrev pub WasRefused : Result Reply Failed → Type 0
+WasRefused said = (why : SyncFault) × IsRefusal why said
+
+-- a reply names a group
+abbrev pub TellsGroup : Reply → Type 0
+TellsGroup said = (group : ℕ) × (said ≡ replies.Exported group)
 
 -- All was made safe, in the committed group that the reply names, and the pool of the state to which that led was given back.
 pub record IsExported (x : State) (before now : OnShelf) (said : Reply) : Type 0 where

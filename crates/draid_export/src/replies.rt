@@ -1,6 +1,6 @@
 //! What the commands reply that give a pool back.
 ghost use Rattle.std.specs.Prelude.{◌≡◌, IfErr, IfOk, IsErr, OnErr};
-ghost use Rattle.draid_script.specs.Line.{CrashPool, ExportPool};
+ghost use Rattle.draid_script.specs.Line.{CrashPool};
 ghost use Rattle.draid_session.specs.Replies.{IsReplyTo};
 ghost use Rattle.draid_session.specs.State.{State};
 ghost use Rattle.draid_pool.specs.Failing.{AreaRose, AreasLater};
@@ -9,7 +9,7 @@ ghost use Rattle.draid_pool.specs.Pools.{Represents};
 ghost use Rattle.draid_pool.specs.Returning.{GivesBack};
 ghost use Rattle.draid_pool.specs.Shelves.{on_shelf};
 ghost use Rattle.draid_pool.specs.Whole.{IsWhole};
-ghost use Rattle.draid_export.specs.Exporting.{ExportIs, IsRefusal};
+ghost use Rattle.draid_export.specs.Exporting.{ExportIs, IsRefusal, TellsGroup, WasRefused};
 
 use crate::syncing::sync_for_export;
 use draid_area::Area;
@@ -30,7 +30,6 @@ pub struct ExportRefused<R: Rack, A: Area> {
 /// What an export replies whose sync was refused.
 fn refusal(why: SyncFault) -> Result<Reply, Failed>
     ensures refusal { IsRefusal why result }
-    ensures fits { IfOk result (IsReplyTo ExportPool) }
     ensures failed { IsErr result → why ≡ SyncFault.Shelf }
 {
     let command = CommandName::Export;
@@ -52,8 +51,8 @@ pub fn reply_to_export<H: Shelf>(
     ensures same { IfErr result (λ refused. SamePointers pool refused.pool) }
     ensures later { IfErr result (λ refused. AreasLater H.A.faults pool refused.pool) }
     ensures cause { IfErr result (λ refused. IsErr refused.reply → AreaRose H.A.faults pool refused.pool) }
-    ensures fits { IfOk result (IsReplyTo ExportPool) }
-    ensures refused { IfErr result (λ refused. IfOk refused.reply (IsReplyTo ExportPool)) }
+    ensures fits { IfOk result TellsGroup }
+    ensures refused { IfErr result (λ refused. WasRefused refused.reply) }
     ensures step { (x : State) → Represents H.R.Rack H.A.Area pool x
         → ExportIs H.R.Rack H.A.Area x (on_shelf H.Shelf shelf.old) (on_shelf H.Shelf shelf.new) result }
     // The shelf is left alone where the pool comes back.

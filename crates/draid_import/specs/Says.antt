@@ -75,9 +75,9 @@ IsUnopened (fault.Record metaslab place kind) said = said ≡ Err (stop.Record m
 
 -- A reply is that of an answer, behind which the shelf held this. The pool that was found is open; or it was given back in want of memory for its name.
 abbrev pub IsImportReply : {R A : Type 0} → racks.Ghosts R → areas.Ghosts A → OnShelf → OnShelf → Option (Pool R A) → Result (Pool R A) ImportFault → Result Reply ImportStop → Type 0
-IsImportReply rack area mid now pool (Ok open) said =
-    ((pool ≡ Some open) × (now ≡ mid) × (reply : Reply) × (said ≡ Ok reply) × IsTold rack area open reply)
-    ⊎ ((pool ≡ None) × (said ≡ Ok (replies.NoMemory name.Import)) × IsBack rack area open mid now)
+IsImportReply rack area mid now pool (Ok found) said =
+    ((pool ≡ Some found) × (now ≡ mid) × (reply : Reply) × (said ≡ Ok reply) × IsTold rack area found reply)
+    ⊎ ((pool ≡ None) × (said ≡ Ok (replies.NoMemory name.Import)) × IsBack rack area found mid now)
 IsImportReply rack area mid now pool (Err why) said = (pool ≡ None) × (now ≡ mid) × IsUnopened why said
 
 -- the call did what its answer says, and the reply is that of the answer

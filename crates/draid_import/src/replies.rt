@@ -1,8 +1,5 @@
 //! What an `import` replies, where no pool is open.
-ghost use Rattle.std.specs.Prelude.{◌≡◌, ◌≤◌, IfOk, None, nat_eq, string_bytes};
-ghost use Rattle.std.specs.HashMap.{get};
-ghost use Rattle.draid_session.specs.Making.{vdev_name_of};
-ghost use Rattle.draid_pool.specs.Pools.{HasNames, group_in};
+ghost use Rattle.std.specs.Prelude.{◌≡◌, ◌≤◌, IfOk, None};
 ghost use Rattle.draid_pool.specs.Shelves.{on_shelf};
 ghost use Rattle.draid_import.specs.Says.{ImportSays, IsTold, IsUnopened};
 

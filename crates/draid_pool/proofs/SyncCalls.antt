@@ -1,6 +1,6 @@
 -- The calls of a sync: a group is committed, and a closing one is finished.
-use Rattle.std.proofs.Common.{◌≡◌, ◌==◌, ◌≤◌, ◌+◌, ◌++◌, ◌∙◌, [], ◌∷◌, inl, inr, ℕ, true, false, List, Option, Some, None, Ok, Err, Contains, arith, refl, sym, ap, subst, length, if◌then◌else◌}
-use Rattle.std.specs.Prelude.{◌↔◌, Bool, nat_eq, slice_get}
+use Rattle.std.proofs.Common.{◌≡◌, ◌==◌, ◌≤◌, ◌+◌, ◌++◌, ◌∙◌, [], ◌∷◌, inl, inr, ℕ, List, Option, Some, None, Ok, Err, Contains, arith, refl, sym, ap, subst, length, if◌then◌else◌}
+use Rattle.std.specs.Prelude.{nat_eq, slice_get}
 use Rattle.std.specs.HashMap.{get}
 use Rattle.std.proofs.lemmas.List.{append-nil}
 use Rattle.std.proofs.lemmas.Option.{slice_get_within}
@@ -10,16 +10,15 @@ use Rattle.draid_rack.specs.declared.Rack as racks
 use Rattle.draid_area.specs.declared.Area as areas
 use Rattle.draid_spec.specs.declared.layout.Geometry.{Geometry}
 use Rattle.draid_perm.specs.declared.perms.Perms.{Perms}
-use Rattle.draid_machine.proofs.Small.{absurd_test, bool_cases, is_equal, none_some}
+use Rattle.draid_machine.proofs.Small.{bool_cases, is_equal, none_some}
 use Rattle.draid_shard.specs.declared.shard.Shard.{Shard}
 use Rattle.draid_uber.specs.Slots.{group_of}
 use Rattle.draid_uber.specs.Uber.{area_of, kept_of}
 use Rattle.draid_session.specs.Groups as groups
 use Rattle.draid_session.specs.Holds.{CommitFailed, CommitStarved, Committed, Hold, LookedUber, OnUber, UberView, view_of}
 use Rattle.draid_session.specs.Looks.{LooksFrom}
-use Rattle.draid_session.specs.Phases.{Broke, Chain, End, NoneOf, Starved, WasLast, WasWorn, Went}
+use Rattle.draid_session.specs.Phases.{Broke, Chain, End, NoneOf, Starved, Went}
 use Rattle.draid_session.specs.State.{State, Store}
-use Rattle.draid_shard.specs.States.{stored_in}
 use Rattle.draid_pool.specs.Syncing.{SyncDoes, AreSealed, CommitsBelow, FoundClosing, GroupDoes, Phase, SealDoes, end_of}
 use Rattle.draid_pool.specs.Carries.{CarriesOut}
 use Rattle.draid_pool.specs.Importable.{keep_shared}
@@ -27,13 +26,12 @@ use Rattle.draid_pool.specs.Pools.{Represents}
 use Rattle.draid_pool.specs.Ubers.{Names, Refuses, body_of}
 use Rattle.draid_pool.specs.declared.fault.SyncFault.{SyncFault}
 use Rattle.draid_pool.specs.declared.fault.SyncFault.TheVariants as sync
-use Rattle.draid_pool.specs.declared.fault.Synced.{Synced}
 use Rattle.draid_pool.specs.declared.pool.Pool.{Pool}
 use Rattle.draid_pool.specs.Views.{seen_at}
 use Rattle.draid_pool.proofs.Commits.{CommitsAll, commits_all}
 use Rattle.draid_pool.proofs.Lifted.{HasMetaslab, metaslab_of}
 use Rattle.draid_pool.proofs.Lists.{present}
-use Rattle.draid_pool.proofs.Looking.{changes_none, looked, looks_at, none_seen, not_none, seen_there}
+use Rattle.draid_pool.proofs.Looking.{changes_none, looked, looks_at, none_seen, seen_there}
 use Rattle.draid_pool.proofs.Moved.{uber_stays}
 use Rattle.draid_pool.proofs.Naming.{named_state, refused_state, stood_named, stood_refused, uber_named, uber_refused}
 use Rattle.draid_pool.proofs.Steps.{carried, carries_so, follows_on, own_of, same_layout, settled}

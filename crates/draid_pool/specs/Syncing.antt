@@ -1,5 +1,5 @@
 -- The parts of a sync.
-use Rattle.std.specs.Prelude.{◌≡◌, ◌<◌, ◌≤◌, ℕ, Bool, List, true, false, Option, Some, None, Result, Ok, Err, length, slice_get}
+use Rattle.std.specs.Prelude.{◌≡◌, ◌<◌, ◌≤◌, ℕ, List, true, Option, Some, None, Result, Ok, Err, length, slice_get}
 use Rattle.draid_rack.specs.declared.Rack as racks
 use Rattle.draid_area.specs.declared.Area as areas
 use Rattle.draid_machine.specs.declared.event.Event.TheVariants as event
@@ -19,7 +19,7 @@ use Rattle.draid_pool.specs.Changes.{CommitsGroup}
 use Rattle.draid_shard.specs.Fits.{Valid}
 use Rattle.draid_pool.specs.Groups.{DropsDetached}
 use Rattle.draid_shard.specs.Part.{Part, layout_in}
-use Rattle.draid_shard.specs.States.{Does, part_of, stored_in}
+use Rattle.draid_shard.specs.States.{Does, part_of}
 use Rattle.draid_shard.specs.declared.shard.Shard.{Shard}
 use Rattle.draid_pool.specs.Importable.{IsAlike, Shared}
 use Rattle.draid_pool.specs.Keeping.{ArmsStay, KeepsEach}

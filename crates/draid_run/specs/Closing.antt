@@ -1,5 +1,6 @@
 -- What an export and a crash come to.
 use Rattle.std.specs.Prelude.{◌≡◌, ℕ, true, false, List, Option, Some, None, Result, Ok, Err}
+use Rattle.draid_names.specs.declared.fault.Failed.{Failed}
 use Rattle.draid_rack.specs.declared.Rack as racks
 use Rattle.draid_area.specs.declared.Area as areas
 use Rattle.draid_script.specs.declared.name.CommandName.TheVariants as name
@@ -33,6 +34,11 @@ refusal_of sync.Shelf = None
 abbrev pub export_reply : Result ℕ SyncFault → Option Reply
 export_reply (Ok group) = Some (Exported group)
 export_reply (Err why) = refusal_of why
+
+-- a reply, if there is one
+abbrev pub reply_in : Result Reply Failed → Option Reply
+reply_in (Ok reply) = Some reply
+reply_in (Err failed) = None
 
 -- it gives the pool back, unless its sync was refused
 abbrev pub desk_left : Result ℕ SyncFault → State → Desk

@@ -40,3 +40,8 @@ ImportIs rack area entry before old now pool (Err (stop.Record metaslab place ki
 abbrev pub stop_of_import : ImportStop → Stop
 stop_of_import import.Shelf = stop.Shelf
 stop_of_import (import.Record metaslab place kind) = stop.Record metaslab place kind
+
+-- an import's reply, or that the run ends
+abbrev pub given_by : Result Reply ImportStop → Result Reply Stop
+given_by (Ok reply) = Ok reply
+given_by (Err why) = Err (stop_of_import why)

@@ -3,6 +3,7 @@ use Rattle.std.specs.Prelude.{◌≡◌, ◌≤◌, ◌+◌, ◌⊎◌, ⊤, ℕ
 use Rattle.std.specs.Io.KnownBytes.{Appends, prepend_known}
 use Rattle.std.specs.declared.vec.Vec.{Vec}
 use Rattle.std.specs.declared.alloc.Global.{Global}
+use Rattle.draid_names.specs.declared.fault.Failed.{Failed}
 use Rattle.draid_rack.specs.declared.Rack as racks
 use Rattle.draid_area.specs.declared.Area as areas
 use Rattle.draid_lines.specs.Lines.{Rest, WhereKnown, IsTooLong, lines_of, most_lines}
@@ -53,6 +54,11 @@ pub record BrokenLine {R A : Type 0} (rack : racks.Ghosts R) (area : areas.Ghost
 abbrev pub IsSaid : Result Reply Stop → Result (Option Reply) Stop → Type 0
 IsSaid (Ok reply) result = result ≡ Ok (Some reply)
 IsSaid (Err stop) result = result ≡ Err stop
+
+-- a reply that was made, or a device that failed in it
+abbrev pub stop_of : Result Reply Failed → Result Reply Stop
+stop_of (Ok reply) = Ok reply
+stop_of (Err failed) = Err stop.Shelf
 
 -- what is said to a line outside a section: one reply, or none
 abbrev pub said_of : Option Reply → List Said

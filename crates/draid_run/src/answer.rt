@@ -6,8 +6,6 @@ ghost use Rattle.draid_choose.specs.Rooms.{IsChooser};
 ghost use Rattle.draid_session.specs.Choices.{choices_by};
 ghost use Rattle.draid_session.specs.Session.{Desk};
 ghost use Rattle.draid_run.specs.Desks.{IsDesk, IsPool, asked_in};
-ghost use Rattle.draid_create.specs.Says.{MakeIs};
-ghost use Rattle.draid_run.specs.Making.{CreateIs, UnmadeIs};
 ghost use Rattle.draid_run.specs.Serve.{AnswerIs, AskIs, IsSaid};
 ghost use Rattle.draid_pool.specs.Shelves.{OnShelf, on_shelf};
 

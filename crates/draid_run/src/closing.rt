@@ -1,5 +1,5 @@
 //! Commands that give the open pool back to the shelf.
-ghost use Rattle.std.specs.Prelude.{◌≡◌, ◌≤◌};
+ghost use Rattle.std.specs.Prelude.{◌≤◌};
 ghost use Rattle.draid_session.specs.Session.{Desk};
 ghost use Rattle.draid_pool.specs.Shelves.{OnShelf, on_shelf};
 ghost use Rattle.draid_run.specs.Closing.{CrashDid, ExportIs};

@@ -9,7 +9,7 @@ returns-in-Ok g c = record {
   same = tt;
   later = tt;
   cause = tt;
-  fits = tt;
+  fits = (c.in-Ok.group, refl);
   refused = tt;
   step = λ x is.
       exported g.H.R.Rack g.H.A.Area c.sync_for_export.new.pool x c.sync_for_export.result (c.sync_for_export.ensures.carries x is) c.in-Ok.group c.in-Ok.is (on_shelf g.H.Shelf c.args.shelf.now) (on_shelf g.H.Shelf c.close.new.shelf)
@@ -26,7 +26,7 @@ returns-in-Err g c = record {
   later = c.sync_for_export.ensures.later;
   cause = λ failed. c.sync_for_export.ensures.cause (c.in-Err.is ∙ ap Err (c.refusal.ensures.failed failed));
   fits = tt;
-  refused = c.refusal.ensures.fits;
+  refused = (c.in-Err.why, c.refusal.ensures.refusal);
   step = λ x is. refused g.H.R.Rack g.H.A.Area c.sync_for_export.new.pool x c.sync_for_export.result (c.sync_for_export.ensures.carries x is) c.in-Err.why c.in-Err.is c.refusal.result c.refusal.ensures.refusal;
   alone = refl;
   checks = refl;
