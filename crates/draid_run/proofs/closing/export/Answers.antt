@@ -1,7 +1,7 @@
 use Rattle.std.proofs.Common.{◌∙◌, subst, sym}
 use Rattle.draid_pool.specs.Shelves.{on_shelf}
 use Rattle.draid_pool.proofs.Rises.{rose_fails}
-use Rattle.draid_run.proofs.Closings.{export_kept, exported}
+use Rattle.draid_run.proofs.Closings.{export_refused, exported}
 use Rattle.draid_run.proofs.Exits.{later_same, same_later}
 use Rattle.draid_run.proofs.Steps.{is_whole}
 use Rattle.draid_run.proofs.closing.export.Goals as goal
