@@ -1,5 +1,5 @@
 //! What the commands reply that give a pool back.
-ghost use Rattle.std.specs.Prelude.{◌≡◌, IfErr, IfOk, IsErr, OnErr};
+ghost use Rattle.std.specs.Prelude.{◌≡◌, IfErr, IfOk, IsErr, OnErr, true};
 ghost use Rattle.draid_script.specs.Line.{CrashPool};
 ghost use Rattle.draid_session.specs.Replies.{IsReplyTo};
 ghost use Rattle.draid_session.specs.State.{State};

@@ -1,5 +1,5 @@
 -- What the reply of an import says, by the answer of the call.
-use Rattle.std.specs.Prelude.{◌≡◌, ◌⊎◌, ℕ, Option, Some, None, Result, Ok, Err, IfOk, IsErrOf, IsSomeAnd, OnOk, is_some, nat_eq, string_bytes}
+use Rattle.std.specs.Prelude.{◌≡◌, ◌⊎◌, ℕ, false, Option, Some, None, Result, Ok, Err, IfOk, IsErrOf, IsSomeAnd, OnOk, is_some, nat_eq, string_bytes}
 use Rattle.std.specs.HashMap.{get}
 use Rattle.std.specs.declared.alloc.Global.{Global}
 use Rattle.std.specs.declared.string.String.{String}
