@@ -210,29 +210,29 @@ module _ {R A : Type 0} (rack : racks.Ghosts R) (area : areas.Ghosts A) (choices
         → Serving rack area choices first input rest start held entry now pool count → WhereKnown rest rest' (λ old new. old ≡ [])
         → Served rack area choices first Done input start held entry now pool
     served_done input rest rest' start held now pool count is end = at_rest input rest start held now pool count is Done refl
-          (known_input input rest' _ _ (λ x z e. e)
-          (known_on input rest rest' _ _ (λ all behind. lines_of all ≡ is.lines)
-          (λ x y z a b. a ∙ ap (λ bytes. is.lines ++ lines_of bytes) b ∙ ap (λ xs. is.lines ++ xs) lines_none ∙ append-nil is.lines) is.known end))
-          refl is.printed (λ e. cc e) (λ metaslab place kind e. cc e)
+        (known_input input rest' _ _ (λ x z e. e)
+        (known_on input rest rest' _ _ (λ all behind. lines_of all ≡ is.lines)
+        (λ x y z a b. a ∙ ap (λ bytes. is.lines ++ lines_of bytes) b ∙ ap (λ xs. is.lines ++ xs) lines_none ∙ append-nil is.lines) is.known end))
+        refl is.printed (λ e. cc e) (λ metaslab place kind e. cc e)
 
     -- the next line could not be read
     pub served_unread : (input start held left left' : Option (List ℕ)) (now : OnShelf) (pool : Option (Pool R A)) (lines lines' : Rest) (status : Status)
         → Serving rack area choices first input (prepend_known lines.held left) start held entry now pool lines.given → TextIs lines lines' left left' (Err status)
         → Served rack area choices first status input start held entry now pool
     served_unread input start held left left' now pool lines lines' SourceFault is text = at_rest input (prepend_known lines.held left) start held now pool lines.given is SourceFault refl
-          (known_input input _ _ _ (λ x y e. (lines_of y, e)) is.known)
-          refl is.printed (λ e. cc e) (λ metaslab place kind e. cc e)
+        (known_input input _ _ _ (λ x y e. (lines_of y, e)) is.known)
+        refl is.printed (λ e. cc e) (λ metaslab place kind e. cc e)
     served_unread input start held left left' now pool lines lines' NoMemory is text = at_rest input (prepend_known lines.held left) start held now pool lines.given is NoMemory refl
-          (known_input input _ _ _ (λ x y e. (lines_of y, e)) is.known)
-          (inl refl) is.printed (λ e. cc e) (λ metaslab place kind e. cc e)
+        (known_input input _ _ _ (λ x y e. (lines_of y, e)) is.known)
+        (inl refl) is.printed (λ e. cc e) (λ metaslab place kind e. cc e)
     served_unread input start held left left' now pool lines lines' (TooLong line) is text =
         let counted = is.count_is in
         let number = text.0 in
         at_rest input (prepend_known lines.held left) start held now pool lines.given is (TooLong line) refl
-          (known_input input _ _ _ (λ x z e. e)
-              (known_on input (prepend_known lines.held left) (prepend_known lines'.held left') _ _ (λ all behind. Ends (TooLong line) None is.lines all)
-              (λ x y z a b. (y, a, rw counted b, omega (arith, counted, number))) is.known text.1))
-          refl is.printed (λ e. cc e) (λ metaslab place kind e. cc e)
+        (known_input input _ _ _ (λ x z e. e)
+        (known_on input (prepend_known lines.held left) (prepend_known lines'.held left') _ _ (λ all behind. Ends (TooLong line) None is.lines all)
+        (λ x y z a b. (y, a, rw counted b, omega (arith, counted, number))) is.known text.1))
+        refl is.printed (λ e. cc e) (λ metaslab place kind e. cc e)
     served_unread input start held left left' now pool lines lines' Done is text = absurd text
     served_unread input start held left left' now pool lines lines' Usage is text = absurd text
     served_unread input start held left left' now pool lines lines' (Line line kind at) is text = absurd text
@@ -249,15 +249,15 @@ module _ {R A : Type 0} (rack : racks.Ghosts R) (area : areas.Ghosts A) (choices
           let counted = is.count_is in
           at_rest input rest start held before pool count is (Line number kind at) refl
           (known_input input rest' _ _ (λ x z e. e)
-                (known_on input rest rest' _ _ (λ all _. Ends (Line number kind at) None is.lines all)
-                (λ x y z a b. (line, lines_of z, a ∙ ap (λ xs. is.lines ++ xs) b, fault, omega (arith, counted, n))) is.known behind))
+          (known_on input rest rest' _ _ (λ all _. Ends (Line number kind at) None is.lines all)
+          (λ x y z a b. (line, lines_of z, a ∙ ap (λ xs. is.lines ++ xs) b, fault, omega (arith, counted, n))) is.known behind))
           refl is.printed (λ e. cc e) (λ metaslab place kind e. cc e)
 
       -- memory was wanting before it was done
       undone : Served rack area choices first NoMemory input start held entry before pool
       undone = at_rest input rest start held before pool count is NoMemory refl
           (known_input input rest' _ _ (λ x z e. (line ∷ lines_of z, e))
-            (known_on input rest rest' _ _ (λ all z. lines_of all ≡ is.lines ++ (line ∷ lines_of z)) (λ x y z a b. a ∙ ap (λ xs. is.lines ++ xs) b) is.known behind))
+          (known_on input rest rest' _ _ (λ all z. lines_of all ≡ is.lines ++ (line ∷ lines_of z)) (λ x y z a b. a ∙ ap (λ xs. is.lines ++ xs) b) is.known behind))
           (inl refl) is.printed (λ e. cc e) (λ metaslab place kind e. cc e)
 
       module _ (now : OnShelf) (pool' : Option (Pool R A)) (tells : TellsAsBefore entry now) where

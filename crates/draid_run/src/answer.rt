@@ -129,9 +129,7 @@ pub(crate) fn answer<H: Shelf, F: Fn(&[Room]) -> Option<u32>>(
             spec,
             children,
             keys,
-        } => said(opening::create(
-            alloc, shelf, pool, spec, *children, *keys,
-        )),
+        } => said(opening::create(alloc, shelf, pool, spec, *children, *keys)),
         Line::Import => said(opening::import(alloc, shelf, pool)),
         Line::Export => said(closing::export(shelf, pool)),
         Line::Crash => Ok(Some(closing::crash(shelf, pool))),
