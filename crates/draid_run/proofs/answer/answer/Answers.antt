@@ -55,9 +55,6 @@ returns-in-Create g c = record {
   later = c.create.ensures.later;
 }
 
-pub sync-requires : goal.sync-requires
-sync-requires g c = record { desk = c.requires.desk }
-
 pub returns-in-Nothing : goal.returns-in-Nothing
 returns-in-Nothing g c = record {
   answer = λ entry x desk.
