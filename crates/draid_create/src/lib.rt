@@ -5,7 +5,9 @@
 mod fault;
 mod metaslab;
 mod opening;
+mod replies;
 
 pub use fault::{CreateFault, MetaslabRefused};
 pub use metaslab::create_metaslab;
 pub use opening::create;
+pub use replies::{Made, reply_to_create};

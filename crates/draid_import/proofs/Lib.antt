@@ -24,4 +24,5 @@ pub mod Once
 pub mod OneAnswer
 pub mod Opened
 pub mod Reopened
+pub mod Replied
 pub mod Unfound

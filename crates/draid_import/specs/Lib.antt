@@ -4,3 +4,4 @@ pub mod Found
 pub mod Imported
 pub mod Importing
 pub mod Reopening
+pub mod Says

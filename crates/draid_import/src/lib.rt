@@ -7,10 +7,12 @@ mod fault;
 mod importing;
 mod laws;
 mod reopening;
+mod replies;
 mod standing;
 
 pub use fault::{ImportFault, OpenFault, OpenRefused};
 pub use importing::import;
 pub use laws::{finds_the_same_before_a_flush, imports_find_one_thing};
 pub use reopening::reopen;
+pub use replies::{ImportStop, reply_to_import};
 pub use standing::opened_shards_stand;

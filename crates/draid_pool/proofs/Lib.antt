@@ -42,7 +42,6 @@ pub mod Looking
 pub mod Moved
 pub mod Naming
 pub mod OneHold
-pub mod OnePass
 pub mod OwnedKnows
 pub mod OwnedStands
 pub mod Owning
@@ -59,7 +58,6 @@ pub mod Roomy
 pub mod RoundSteps
 pub mod SealRecords
 pub mod SealSteps
-pub mod Searches
 pub mod ShardSteps
 pub mod Since
 pub mod Steps

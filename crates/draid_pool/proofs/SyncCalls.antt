@@ -1,6 +1,6 @@
--- The calls of a sync: a group is committed, a closing one is finished, and all is made safe for an export.
-use Rattle.std.proofs.Common.{◌≡◌, ◌==◌, ◌≤◌, ◌+◌, ◌++◌, ◌∙◌, [], ◌∷◌, inl, inr, ℕ, true, false, List, Option, Some, None, Ok, Err, Contains, arith, refl, sym, ap, subst, length, if◌then◌else◌}
-use Rattle.std.specs.Prelude.{◌↔◌, Bool, nat_eq, slice_get}
+-- The calls of a sync: a group is committed, and a closing one is finished.
+use Rattle.std.proofs.Common.{◌≡◌, ◌==◌, ◌≤◌, ◌+◌, ◌++◌, ◌∙◌, [], ◌∷◌, inl, inr, ℕ, List, Option, Some, None, Ok, Err, Contains, arith, refl, sym, ap, subst, length, if◌then◌else◌}
+use Rattle.std.specs.Prelude.{nat_eq, slice_get}
 use Rattle.std.specs.HashMap.{get}
 use Rattle.std.proofs.lemmas.List.{append-nil}
 use Rattle.std.proofs.lemmas.Option.{slice_get_within}
@@ -10,30 +10,28 @@ use Rattle.draid_rack.specs.declared.Rack as racks
 use Rattle.draid_area.specs.declared.Area as areas
 use Rattle.draid_spec.specs.declared.layout.Geometry.{Geometry}
 use Rattle.draid_perm.specs.declared.perms.Perms.{Perms}
-use Rattle.draid_machine.proofs.Small.{absurd_test, bool_cases, is_equal, none_some}
+use Rattle.draid_machine.proofs.Small.{bool_cases, is_equal, none_some}
 use Rattle.draid_shard.specs.declared.shard.Shard.{Shard}
 use Rattle.draid_uber.specs.Slots.{group_of}
 use Rattle.draid_uber.specs.Uber.{area_of, kept_of}
 use Rattle.draid_session.specs.Groups as groups
 use Rattle.draid_session.specs.Holds.{CommitFailed, CommitStarved, Committed, Hold, LookedUber, OnUber, UberView, view_of}
 use Rattle.draid_session.specs.Looks.{LooksFrom}
-use Rattle.draid_session.specs.Phases.{Broke, Chain, End, NoneOf, Starved, WasLast, WasWorn, Went}
+use Rattle.draid_session.specs.Phases.{Broke, Chain, End, NoneOf, Starved, Went}
 use Rattle.draid_session.specs.State.{State, Store}
-use Rattle.draid_shard.specs.States.{stored_in}
-use Rattle.draid_pool.specs.Syncing.{ExportDoes, SyncDoes, AreSealed, CommitsBelow, FoundClosing, FoundUnsynced, GroupDoes, HasUnsynced, Phase, SealDoes, end_of}
+use Rattle.draid_pool.specs.Syncing.{SyncDoes, AreSealed, CommitsBelow, FoundClosing, GroupDoes, Phase, SealDoes, end_of}
 use Rattle.draid_pool.specs.Carries.{CarriesOut}
 use Rattle.draid_pool.specs.Importable.{keep_shared}
 use Rattle.draid_pool.specs.Pools.{Represents}
 use Rattle.draid_pool.specs.Ubers.{Names, Refuses, body_of}
 use Rattle.draid_pool.specs.declared.fault.SyncFault.{SyncFault}
 use Rattle.draid_pool.specs.declared.fault.SyncFault.TheVariants as sync
-use Rattle.draid_pool.specs.declared.fault.Synced.{Synced}
 use Rattle.draid_pool.specs.declared.pool.Pool.{Pool}
 use Rattle.draid_pool.specs.Views.{seen_at}
 use Rattle.draid_pool.proofs.Commits.{CommitsAll, commits_all}
 use Rattle.draid_pool.proofs.Lifted.{HasMetaslab, metaslab_of}
 use Rattle.draid_pool.proofs.Lists.{present}
-use Rattle.draid_pool.proofs.Looking.{changes_none, looked, looks_at, none_seen, not_none, seen_there}
+use Rattle.draid_pool.proofs.Looking.{changes_none, looked, looks_at, none_seen, seen_there}
 use Rattle.draid_pool.proofs.Moved.{uber_stays}
 use Rattle.draid_pool.proofs.Naming.{named_state, refused_state, stood_named, stood_refused, uber_named, uber_refused}
 use Rattle.draid_pool.proofs.Steps.{carried, carries_so, follows_on, own_of, same_layout, settled}
@@ -213,14 +211,14 @@ module _ {R A : Type 0} (rack : racks.Ghosts R) (area : areas.Ghosts A) where
 
   -- ---- finishing
 
-  abbrev looks_of : State → List Hold
+  abbrev pub looks_of : State → List Hold
   looks_of x = looks_at 0 x.metaslabs
 
-  looked_all : (pool : Pool R A) (x : State) → Represents rack area pool x → LooksFrom 0 x.geometry.props.metaslabs (looks_of x) (seen_at 0 x.metaslabs)
+  pub looked_all : (pool : Pool R A) (x : State) → Represents rack area pool x → LooksFrom 0 x.geometry.props.metaslabs (looks_of x) (seen_at 0 x.metaslabs)
   looked_all pool x r = subst (λ n. LooksFrom 0 n (looks_of x) (seen_at 0 x.metaslabs)) r.stands.many (looked 0 x.metaslabs)
 
   -- a metaslab that a shard stands for is seen
-  seen_of : (pool : Pool R A) (x : State) (m : ℕ) (shard : Shard R A) (r : Represents rack area pool x) (there : slice_get pool.metaslabs.shards.items m ≡ Some shard)
+  pub seen_of : (pool : Pool R A) (x : State) (m : ℕ) (shard : Shard R A) (r : Represents rack area pool x) (there : slice_get pool.metaslabs.shards.items m ≡ Some shard)
       → Contains (seen_at 0 x.metaslabs) (view_of (0 + m) (metaslab_of rack area pool x r.stands m shard there).y)
   seen_of pool x m shard r there = (let z = metaslab_of rack area pool x r.stands m shard there in seen_there 0 m x.metaslabs z.y z.at)
 
@@ -306,87 +304,3 @@ module _ {R A : Type 0} (rack : racks.Ghosts R) (area : areas.Ghosts A) where
         | inl z ↦ record { group = group; thin = z.4.0; stopped = not_went ℕ why; syncs = inl (z.0, z.1, z.2, z.3, z.4.1) }
         | inr z ↦ record { group = group; thin = 0; stopped = not_went ℕ why; syncs = inr z }
       ]))
-
-  -- ---- an export
-
-  exports : (pool new : Pool R A) (x : State) (group thin m : ℕ) (shard : Shard R A) (end : End) → Represents rack area pool x → slice_get pool.metaslabs.shards.items m ≡ Some shard
-      → groups.is_unsynced shard.committed (stored_in shard) ≡ true → CarriesOut rack area new x (Phase x (groups.Syncs x.geometry x.perms group thin) end)
-      → CarriesOut rack area new x (Phase x (groups.Exports x.geometry x.perms group) end)
-  exports pool new x group thin m shard end r there unsynced d =
-      let z : HasMetaslab rack area pool x r.stands m shard = metaslab_of rack area pool x r.stands m shard there in
-      let u : UberView = record { committed = x.committed; next_leaf = x.next_leaf } in
-      let own : groups.IsUnsynced (view_of (0 + m) z.y) = ap (λ c. groups.is_unsynced c z.y.events) z.is.stands.is_in.committed ∙ (ap (groups.is_unsynced shard.committed) z.is.events ∙ unsynced) in
-      carried rack area new x (looks_of x ++ OnUber u LookedUber ∷ d.holds) d.reached (Phase x (groups.Exports x.geometry x.perms group) end)
-      (follows_on (looks_of x) (OnUber u LookedUber ∷ d.holds) x x d.reached (changes_none x [] x.metaslabs 0 refl refl) (x, record { sees = refl; acts = refl }, d.follows))
-      (settled rack area new x (Phase x (groups.Syncs x.geometry x.perms group thin) end) d d.done.0) (
-        refl,
-        record {
-          looks = looks_of x;
-          rest = d.holds;
-          views = seen_at 0 x.metaslabs;
-          u = u;
-          are = refl;
-          looked = looked_all pool x r;
-          does = inr ((λ none. not_none groups.IsUnsynced (seen_at 0 x.metaslabs) (view_of (0 + m) z.y) (seen_of pool x m shard r there) own none), (thin, d.done.1));
-        },
-      )
-
-  pub export_none : (pool : Pool R A) (x : State) (group : ℕ) → Represents rack area pool x → FoundUnsynced pool.metaslabs.shards.items false → group ≡ group_of (kept_of pool.uber)
-      → CarriesOut rack area pool x (ExportDoes x (Ok group))
-  export_none pool x group r none is =
-      let u : UberView = record { committed = x.committed; next_leaf = x.next_leaf } in
-      carried rack area pool x (looks_of x ++ OnUber u LookedUber ∷ []) x (ExportDoes x (Ok group))
-      (follows_on (looks_of x) (OnUber u LookedUber ∷ []) x x x (changes_none x [] x.metaslabs 0 refl refl) (x, record { sees = refl; acts = refl }, refl)) r (
-        refl,
-        record {
-          looks = looks_of x;
-          rest = [];
-          views = seen_at 0 x.metaslabs;
-          u = u;
-          are = refl;
-          looked = looked_all pool x r;
-          does = inl (synced, refl, refl, is ∙ pool_group pool x r);
-        },
-      )
-    where
-      synced : NoneOf groups.IsUnsynced (seen_at 0 x.metaslabs)
-      synced = none_seen groups.IsUnsynced 0 x.metaslabs (λ k y at is.
-          (let long = r.stands.shards in let inside = slice_get_within x.metaslabs k y at in
-          let shard = present pool.metaslabs.shards.items k (omega (arith, long, inside)) in
-          let own = r.stands.each k shard.0 y shard.1 at in
-          absurd_test (groups.is_unsynced y.world.committed y.events) is
-          (ap (λ c. groups.is_unsynced c y.events) own.stands.is_in.committed ∙ (ap (groups.is_unsynced shard.0.committed) own.events ∙ none k shard.0 shard.1))))
-
-  -- what is found in the shards is so of each state for which they stand
-  pub unsynced_of : (pool : Pool R A) (x : State) (result : Bool) → Represents rack area pool x → FoundUnsynced pool.metaslabs.shards.items result → (result ≡ true) ↔ HasUnsynced x
-  unsynced_of pool x true r (m, shard, there, unsynced) =
-      let z : HasMetaslab rack area pool x r.stands m shard = metaslab_of rack area pool x r.stands m shard there in
-      ((λ _. (m, z.y, z.at, ap (λ c. groups.is_unsynced c z.y.events) z.is.stands.is_in.committed ∙ (ap (groups.is_unsynced shard.committed) z.is.events ∙ unsynced))), (λ _. refl))
-  unsynced_of pool x false r none = (
-    (λ is. absurd_test false is refl),
-    (λ (k, y, at, unsynced).
-        (let long = r.stands.shards in let inside = slice_get_within x.metaslabs k y at in
-        let shard = present pool.metaslabs.shards.items k (omega (arith, long, inside)) in
-        let own = r.stands.each k shard.0 y shard.1 at in
-        absurd_test (groups.is_unsynced y.world.committed y.events) unsynced
-        (ap (λ c. groups.is_unsynced c y.events) own.stands.is_in.committed ∙ (ap (groups.is_unsynced shard.0.committed) own.events ∙ none k shard.0 shard.1)))),
-  )
-
-  pub export_done : (pool new : Pool R A) (x : State) (it : Synced) → Represents rack area pool x → FoundUnsynced pool.metaslabs.shards.items true → CarriesOut rack area new x (SyncDoes x (Ok it))
-      → CarriesOut rack area new x (ExportDoes x (Ok it.group))
-  export_done pool new x it r found d = exports pool new x it.group it.thin found.0 found.1 Went r found.2 found.3 d
-
-  export_with : (pool new : Pool R A) (x : State) (why : SyncFault) (end : End) (d : CarriesOut rack area new x (λ holds store. (store ≡ x.store) × groups.SyncStops x.geometry x.perms holds end))
-      → Represents rack area pool x → FoundUnsynced pool.metaslabs.shards.items true → CarriesOut rack area new x (λ holds store. (store ≡ x.store) × groups.ExportStops x.geometry x.perms holds end)
-  export_with pool new x why end d r found =
-      let s = d.done.1 in
-      let z = exports pool new x s.group s.thin found.0 found.1 end r found.2 found.3
-      (record { holds = d.holds; reached = d.reached; store = d.store; follows = d.follows; done = (d.done.0, s.syncs); represents = d.represents }) in
-      record { holds = z.holds; reached = z.reached; store = z.store; follows = z.follows; done = (z.done.0, record { group = s.group; stopped = s.stopped; exports = z.done.1 }); represents = z.represents }
-
-  pub export_stops : (pool new : Pool R A) (x : State) (why : SyncFault) → Represents rack area pool x → FoundUnsynced pool.metaslabs.shards.items true → CarriesOut rack area new x (SyncDoes x (Err why))
-      → CarriesOut rack area new x (ExportDoes x (Err why))
-  export_stops pool new x sync.Worn r found d = export_with pool new x sync.Worn WasWorn d r found
-  export_stops pool new x sync.Last r found d = export_with pool new x sync.Last WasLast d r found
-  export_stops pool new x sync.Shelf r found d = export_with pool new x sync.Shelf Broke d r found
-  export_stops pool new x sync.NoMemory r found d = export_with pool new x sync.NoMemory Starved d r found

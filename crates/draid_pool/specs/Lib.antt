@@ -19,8 +19,10 @@ pub mod Pools
 pub mod Records
 pub mod Returning
 pub mod Rounds
+pub mod Says
 pub mod Sealing
 pub mod Shards
+pub mod Shelves
 pub mod Syncing
 pub mod Taking
 pub mod Threads

@@ -1,5 +1,5 @@
 -- The parts of a sync.
-use Rattle.std.specs.Prelude.{◌≡◌, ◌<◌, ◌≤◌, ℕ, Bool, List, true, false, Option, Some, None, Result, Ok, Err, length, slice_get}
+use Rattle.std.specs.Prelude.{◌≡◌, ◌<◌, ◌≤◌, ℕ, List, true, Option, Some, None, Result, Ok, Err, length, slice_get}
 use Rattle.draid_rack.specs.declared.Rack as racks
 use Rattle.draid_area.specs.declared.Area as areas
 use Rattle.draid_machine.specs.declared.event.Event.TheVariants as event
@@ -19,7 +19,7 @@ use Rattle.draid_pool.specs.Changes.{CommitsGroup}
 use Rattle.draid_shard.specs.Fits.{Valid}
 use Rattle.draid_pool.specs.Groups.{DropsDetached}
 use Rattle.draid_shard.specs.Part.{Part, layout_in}
-use Rattle.draid_shard.specs.States.{Does, part_of, stored_in}
+use Rattle.draid_shard.specs.States.{Does, part_of}
 use Rattle.draid_shard.specs.declared.shard.Shard.{Shard}
 use Rattle.draid_pool.specs.Importable.{IsAlike, Shared}
 use Rattle.draid_pool.specs.Keeping.{ArmsStay, KeepsEach}
@@ -138,16 +138,6 @@ abbrev pub FoundClosing : {R A : Type 0} → List (Shard R A) → Option ℕ →
 FoundClosing shards None = AreIdle shards
 FoundClosing {R = R} {A = A} shards (Some group) = (m : ℕ) × (shard : Shard R A) × (slice_get shards m ≡ Some shard) × (shard.closing ≡ Some group)
 
--- one of the shards stores something that no sync has made safe, or none does
-abbrev pub FoundUnsynced : {R A : Type 0} → List (Shard R A) → Bool → Type 0
-FoundUnsynced {R = R} {A = A} shards true =
-    (m : ℕ) × (shard : Shard R A) × (slice_get shards m ≡ Some shard) × (groups.is_unsynced shard.committed (stored_in shard) ≡ true)
-FoundUnsynced {R = R} {A = A} shards false = (m : ℕ) (shard : Shard R A) → slice_get shards m ≡ Some shard → groups.is_unsynced shard.committed (stored_in shard) ≡ false
-
--- a metaslab of a state has something that no sync has made safe
-abbrev pub HasUnsynced : State → Type 0
-HasUnsynced x = (m : ℕ) × (y : Metaslab) × (slice_get x.metaslabs m ≡ Some y) × (groups.is_unsynced y.world.committed y.events ≡ true)
-
 -- a sync, and why it was stopped
 abbrev pub SyncDoes : State → Result Synced SyncFault → List Hold → Store → Type 0
 SyncDoes x (Ok it) holds new = (new ≡ x.store) × groups.Syncs x.geometry x.perms it.group it.thin holds Went
@@ -155,11 +145,3 @@ SyncDoes x (Err sync.Worn) holds new = (new ≡ x.store) × groups.SyncStops x.g
 SyncDoes x (Err sync.Last) holds new = (new ≡ x.store) × groups.SyncStops x.geometry x.perms holds WasLast
 SyncDoes x (Err sync.Shelf) holds new = (new ≡ x.store) × groups.SyncStops x.geometry x.perms holds Broke
 SyncDoes x (Err sync.NoMemory) holds new = (new ≡ x.store) × groups.SyncStops x.geometry x.perms holds Starved
-
--- what an export does before the pool is given back, and why it was stopped; the answer is the committed group
-abbrev pub ExportDoes : State → Result ℕ SyncFault → List Hold → Store → Type 0
-ExportDoes x (Ok group) holds new = (new ≡ x.store) × groups.Exports x.geometry x.perms group holds Went
-ExportDoes x (Err sync.Worn) holds new = (new ≡ x.store) × groups.ExportStops x.geometry x.perms holds WasWorn
-ExportDoes x (Err sync.Last) holds new = (new ≡ x.store) × groups.ExportStops x.geometry x.perms holds WasLast
-ExportDoes x (Err sync.Shelf) holds new = (new ≡ x.store) × groups.ExportStops x.geometry x.perms holds Broke
-ExportDoes x (Err sync.NoMemory) holds new = (new ≡ x.store) × groups.ExportStops x.geometry x.perms holds Starved

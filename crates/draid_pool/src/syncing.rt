@@ -1,8 +1,8 @@
 //! Groups of a pool, whose metaslabs and uberblock nobody else holds.
-ghost use Rattle.std.specs.Prelude.{◌≡◌, ◌<◌, ◌≤◌, ◌↔◌, true, Some, IsErrOf, IsTrue, OnOk};
+ghost use Rattle.std.specs.Prelude.{◌≡◌, ◌<◌, ◌≤◌, IsErrOf, OnOk};
 ghost use Rattle.draid_session.specs.Groups as groups;
 ghost use Rattle.draid_session.specs.State.{State};
-ghost use Rattle.draid_pool.specs.Syncing.{ExportDoes, SyncDoes, AreIdle, FoundUnsynced, HasUnsynced, Phase, end_of};
+ghost use Rattle.draid_pool.specs.Syncing.{SyncDoes, AreIdle, Phase, end_of};
 ghost use Rattle.draid_pool.specs.Carries.{CarriesOut};
 ghost use Rattle.draid_pool.specs.Failing.{AreaRose, AreasLater, RacksLater};
 ghost use Rattle.draid_pool.specs.Keeping.{AllArmsStay, AllAskedStay, AllHaveAsked};
@@ -14,7 +14,6 @@ ghost use Rattle.draid_pool.specs.Whole.{IsWhole};
 use crate::fault::{SyncFault, Synced};
 use crate::phases::{finish_group, sync_groups};
 use crate::pool::Pool;
-use crate::unsynced::any_unsynced;
 use draid_area::Area;
 use draid_rack::Rack;
 
@@ -43,30 +42,6 @@ impl<R: Rack, A: Area> Pool<R, A> {
         }
     }
 
-    /// Makes all that the pool holds safe, as an export wants it: a sync comes where a metaslab isn't synced. The answer
-    /// is the committed group.
-    pub fn sync_for_export(&mut self) -> Result<u64, SyncFault>
-        requires whole { IsWhole R.Rack A.Area self.old }
-        ensures whole { IsWhole R.Rack A.Area self.new }
-        ensures same { SamePointers self.old self.new }
-        ensures later { AreasLater A.faults self.old self.new }
-        ensures passes { KeepsPasses self.old self.new }
-        ensures racks { RacksLater R.faults self.old self.new }
-        ensures arms { AllArmsStay self.old self.new }
-        ensures asked { AllAskedStay self.old self.new }
-        ensures cause { IsErrOf result SyncFault.Shelf → AreaRose A.faults self.old self.new }
-        ensures carries { (x : State) → Represents R.Rack A.Area self.old x
-            → CarriesOut R.Rack A.Area self.new x (ExportDoes x result) }
-    {
-        if !self.unsynced() {
-            return Ok(self.uber.committed());
-        }
-        match self.sync() {
-            Ok(synced) => Ok(synced.group),
-            Err(fault) => Err(fault),
-        }
-    }
-
     /// Commits a group that is closing in a metaslab, if there is one.
     pub fn finish(&mut self) -> Result<(), SyncFault>
         requires whole { IsWhole R.Rack A.Area self.old }
@@ -90,13 +65,5 @@ impl<R: Rack, A: Area> Pool<R, A> {
             Some(result) => result,
             None => unreachable!(),
         }
-    }
-
-    /// Whether a metaslab has something that no sync has made safe: an export makes a sync just there.
-    pub fn unsynced(&self) -> bool
-        ensures found { FoundUnsynced self.now.metaslabs.shards.items result }
-        ensures unsynced { (x : State) → Represents R.Rack A.Area self.now x → IsTrue result ↔ HasUnsynced x }
-    {
-        any_unsynced(&self.metaslabs.shards)
     }
 }

@@ -8,7 +8,7 @@ ghost use Rattle.std.specs.Process.{exit_status};
 ghost use Rattle.draid_choose.specs.Rooms.{IsChooser, Picks, most_rooms};
 ghost use Rattle.draid_run.specs.Script.{RunIs};
 ghost use Rattle.draid_session.specs.Choices.{choices_by};
-ghost use Rattle.draid_run.specs.Shelves.{on_shelf};
+ghost use Rattle.draid_pool.specs.Shelves.{on_shelf};
 ghost use Rattle.draid_run.specs.Status.{code_of};
 
 use draid_choose::{Chooser, first_fit};

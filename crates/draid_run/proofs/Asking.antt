@@ -2,7 +2,7 @@
 use Rattle.std.proofs.Common.{[], ◌≡◌, IfOk, ℕ, Bool, List, Option, Some, None, Result, Ok, Err, ap, refl, sym, subst, Vec, Global}
 use Rattle.draid_rack.specs.declared.Rack as racks
 use Rattle.draid_area.specs.declared.Area as areas
-use Rattle.draid_script.specs.Line.{Command, CreatePool, ReadObject, FreeObject, SumObjects, DamageSector, AttachSpare, ShowStatus, DetachArm, UpgradePool, command_in, RebuildPool, ScrubPool, RebalanceSlot, ReplaceDisk, CancelPasses}
+use Rattle.draid_script.specs.Line.{Command, CreatePool, ReadObject, FreeObject, SumObjects, DamageSector, AttachSpare, ShowStatus, DetachArm, SyncPool, UpgradePool, command_in, RebuildPool, ScrubPool, RebalanceSlot, ReplaceDisk, CancelPasses}
 use Rattle.draid_script.specs.declared.line.Line.{Line}
 use Rattle.draid_script.specs.declared.line.Line.TheVariants as variant
 use Rattle.draid_script.specs.declared.line.PoolKeys.{PoolKeys}
@@ -14,6 +14,7 @@ use Rattle.draid_session.specs.Holds.{Hold}
 use Rattle.draid_session.specs.Session.{Desk, TurnsBy}
 use Rattle.draid_session.specs.State.{State, Store}
 use Rattle.draid_pool.specs.Carries.{CarriesOut, ReplyDoes}
+use Rattle.draid_pool.specs.Says.{SyncSays}
 use Rattle.draid_pool.specs.declared.pool.Pool.{Pool}
 use Rattle.draid_run.specs.Desks.{AnswerDoes, IsDesk, Turned, asked_in}
 use Rattle.draid_run.specs.Making.{CreateIs}
@@ -28,10 +29,11 @@ use Rattle.draid_visits.specs.Says.{CancelSays, RebuildSays, ScrubSays}
 use Rattle.draid_run.specs.Rebalancing.{RebalanceSays}
 use Rattle.draid_run.specs.Script.{IsUnbuilt}
 use Rattle.draid_run.specs.Serve.{AnswerIs, AskIs, IsSaid}
-use Rattle.draid_run.specs.Shelves.{MayFind, OnShelf}
+use Rattle.draid_pool.specs.Shelves.{OnShelf}
+use Rattle.draid_run.specs.Shelves.{MayFind}
 use Rattle.draid_run.specs.declared.answer.Stop.{Stop}
 use Rattle.draid_run.specs.declared.answer.Stop.TheVariants as stop
-use Rattle.draid_run.proofs.Said.{cancel_does, rebalance_does, rebuild_does, scrub_does, damage_does, detach_does, free_does, read_does, spare_does, status_does, sum_does, switch_does, switch_line, upgrade_does, replace_does}
+use Rattle.draid_run.proofs.Said.{cancel_does, rebalance_does, rebuild_does, scrub_does, damage_does, detach_does, free_does, read_does, spare_does, status_does, sum_does, switch_does, switch_line, sync_does, upgrade_does, replace_does}
 use Rattle.draid_run.proofs.Steps.{ask_breaks, by_ask, by_create}
 
 module _ {R A : Type 0} (rack : racks.Ghosts R) (area : areas.Ghosts A) (choices : Choices) (entry now : OnShelf) (pool : Option (Pool R A)) (x : Desk) (is : IsDesk rack area entry now pool x) (command : Command)
@@ -89,74 +91,74 @@ pub asks_nothing : (line : Line) → ((object : ℕ) (bytes : Vec ℕ Global) �
     → ((limit : Option ℕ) → line ≡ variant.Scrub limit → ⊥)
     → (line ≡ variant.Cancel → ⊥)
     → ((slot : ℕ) → line ≡ variant.Rebalance slot → ⊥)
+    → (line ≡ variant.Sync → ⊥)
     → asked_in (command_in line) ≡ None
-asks_nothing variant.Nothing write fill read free sum offline online damage spare replace status detach upgrade rebuild scrub cancel rebalance = refl
-asks_nothing (variant.Create spec children keys) write fill read free sum offline online damage spare replace status detach upgrade rebuild scrub cancel rebalance = refl
-asks_nothing variant.Import write fill read free sum offline online damage spare replace status detach upgrade rebuild scrub cancel rebalance = refl
-asks_nothing variant.Export write fill read free sum offline online damage spare replace status detach upgrade rebuild scrub cancel rebalance = refl
-asks_nothing variant.Sync write fill read free sum offline online damage spare replace status detach upgrade rebuild scrub cancel rebalance = refl
-asks_nothing variant.Cancel write fill read free sum offline online damage spare replace status detach upgrade rebuild scrub cancel rebalance = absurd (cancel refl)
-asks_nothing variant.Crash write fill read free sum offline online damage spare replace status detach upgrade rebuild scrub cancel rebalance = refl
-asks_nothing (variant.Write object bytes) write fill read free sum offline online damage spare replace status detach upgrade rebuild scrub cancel rebalance = absurd (write object bytes refl)
-asks_nothing (variant.Fill first count len seed) write fill read free sum offline online damage spare replace status detach upgrade rebuild scrub cancel rebalance = absurd (fill first count len seed refl)
-asks_nothing (variant.Read object) write fill read free sum offline online damage spare replace status detach upgrade rebuild scrub cancel rebalance = absurd (read object refl)
-asks_nothing (variant.Free object) write fill read free sum offline online damage spare replace status detach upgrade rebuild scrub cancel rebalance = absurd (free object refl)
-asks_nothing (variant.Sum first count) write fill read free sum offline online damage spare replace status detach upgrade rebuild scrub cancel rebalance = absurd (sum first count refl)
-asks_nothing (variant.Offline leaf) write fill read free sum offline online damage spare replace status detach upgrade rebuild scrub cancel rebalance = absurd (offline leaf refl)
-asks_nothing (variant.Online leaf) write fill read free sum offline online damage spare replace status detach upgrade rebuild scrub cancel rebalance = absurd (online leaf refl)
-asks_nothing (variant.Damage leaf sector) write fill read free sum offline online damage spare replace status detach upgrade rebuild scrub cancel rebalance = absurd (damage leaf sector refl)
-asks_nothing (variant.Spare slot number) write fill read free sum offline online damage spare replace status detach upgrade rebuild scrub cancel rebalance = absurd (spare slot number refl)
-asks_nothing (variant.Replace slot sectors) write fill read free sum offline online damage spare replace status detach upgrade rebuild scrub cancel rebalance = absurd (replace slot sectors refl)
-asks_nothing (variant.Detach arm) write fill read free sum offline online damage spare replace status detach upgrade rebuild scrub cancel rebalance = absurd (detach arm refl)
-asks_nothing (variant.Rebuild limit) write fill read free sum offline online damage spare replace status detach upgrade rebuild scrub cancel rebalance = absurd (rebuild limit refl)
-asks_nothing (variant.Scrub limit) write fill read free sum offline online damage spare replace status detach upgrade rebuild scrub cancel rebalance = absurd (scrub limit refl)
-asks_nothing (variant.Rebalance slot) write fill read free sum offline online damage spare replace status detach upgrade rebuild scrub cancel rebalance = absurd (rebalance slot refl)
-asks_nothing (variant.Status form) write fill read free sum offline online damage spare replace status detach upgrade rebuild scrub cancel rebalance = absurd (status form refl)
-asks_nothing (variant.Lanes count) write fill read free sum offline online damage spare replace status detach upgrade rebuild scrub cancel rebalance = refl
-asks_nothing variant.Upgrade write fill read free sum offline online damage spare replace status detach upgrade rebuild scrub cancel rebalance = absurd (upgrade refl)
-asks_nothing (variant.Agent least) write fill read free sum offline online damage spare replace status detach upgrade rebuild scrub cancel rebalance = refl
-asks_nothing variant.AgentLog write fill read free sum offline online damage spare replace status detach upgrade rebuild scrub cancel rebalance = refl
-asks_nothing variant.Checkpoint write fill read free sum offline online damage spare replace status detach upgrade rebuild scrub cancel rebalance = refl
-asks_nothing variant.Rewind write fill read free sum offline online damage spare replace status detach upgrade rebuild scrub cancel rebalance = refl
-asks_nothing variant.Discard write fill read free sum offline online damage spare replace status detach upgrade rebuild scrub cancel rebalance = refl
+asks_nothing variant.Nothing write fill read free sum offline online damage spare replace status detach upgrade rebuild scrub cancel rebalance sync = refl
+asks_nothing (variant.Create spec children keys) write fill read free sum offline online damage spare replace status detach upgrade rebuild scrub cancel rebalance sync = refl
+asks_nothing variant.Import write fill read free sum offline online damage spare replace status detach upgrade rebuild scrub cancel rebalance sync = refl
+asks_nothing variant.Export write fill read free sum offline online damage spare replace status detach upgrade rebuild scrub cancel rebalance sync = refl
+asks_nothing variant.Sync write fill read free sum offline online damage spare replace status detach upgrade rebuild scrub cancel rebalance sync = absurd (sync refl)
+asks_nothing variant.Cancel write fill read free sum offline online damage spare replace status detach upgrade rebuild scrub cancel rebalance sync = absurd (cancel refl)
+asks_nothing variant.Crash write fill read free sum offline online damage spare replace status detach upgrade rebuild scrub cancel rebalance sync = refl
+asks_nothing (variant.Write object bytes) write fill read free sum offline online damage spare replace status detach upgrade rebuild scrub cancel rebalance sync = absurd (write object bytes refl)
+asks_nothing (variant.Fill first count len seed) write fill read free sum offline online damage spare replace status detach upgrade rebuild scrub cancel rebalance sync = absurd (fill first count len seed refl)
+asks_nothing (variant.Read object) write fill read free sum offline online damage spare replace status detach upgrade rebuild scrub cancel rebalance sync = absurd (read object refl)
+asks_nothing (variant.Free object) write fill read free sum offline online damage spare replace status detach upgrade rebuild scrub cancel rebalance sync = absurd (free object refl)
+asks_nothing (variant.Sum first count) write fill read free sum offline online damage spare replace status detach upgrade rebuild scrub cancel rebalance sync = absurd (sum first count refl)
+asks_nothing (variant.Offline leaf) write fill read free sum offline online damage spare replace status detach upgrade rebuild scrub cancel rebalance sync = absurd (offline leaf refl)
+asks_nothing (variant.Online leaf) write fill read free sum offline online damage spare replace status detach upgrade rebuild scrub cancel rebalance sync = absurd (online leaf refl)
+asks_nothing (variant.Damage leaf sector) write fill read free sum offline online damage spare replace status detach upgrade rebuild scrub cancel rebalance sync = absurd (damage leaf sector refl)
+asks_nothing (variant.Spare slot number) write fill read free sum offline online damage spare replace status detach upgrade rebuild scrub cancel rebalance sync = absurd (spare slot number refl)
+asks_nothing (variant.Replace slot sectors) write fill read free sum offline online damage spare replace status detach upgrade rebuild scrub cancel rebalance sync = absurd (replace slot sectors refl)
+asks_nothing (variant.Detach arm) write fill read free sum offline online damage spare replace status detach upgrade rebuild scrub cancel rebalance sync = absurd (detach arm refl)
+asks_nothing (variant.Rebuild limit) write fill read free sum offline online damage spare replace status detach upgrade rebuild scrub cancel rebalance sync = absurd (rebuild limit refl)
+asks_nothing (variant.Scrub limit) write fill read free sum offline online damage spare replace status detach upgrade rebuild scrub cancel rebalance sync = absurd (scrub limit refl)
+asks_nothing (variant.Rebalance slot) write fill read free sum offline online damage spare replace status detach upgrade rebuild scrub cancel rebalance sync = absurd (rebalance slot refl)
+asks_nothing (variant.Status form) write fill read free sum offline online damage spare replace status detach upgrade rebuild scrub cancel rebalance sync = absurd (status form refl)
+asks_nothing (variant.Lanes count) write fill read free sum offline online damage spare replace status detach upgrade rebuild scrub cancel rebalance sync = refl
+asks_nothing variant.Upgrade write fill read free sum offline online damage spare replace status detach upgrade rebuild scrub cancel rebalance sync = absurd (upgrade refl)
+asks_nothing (variant.Agent least) write fill read free sum offline online damage spare replace status detach upgrade rebuild scrub cancel rebalance sync = refl
+asks_nothing variant.AgentLog write fill read free sum offline online damage spare replace status detach upgrade rebuild scrub cancel rebalance sync = refl
+asks_nothing variant.Checkpoint write fill read free sum offline online damage spare replace status detach upgrade rebuild scrub cancel rebalance sync = refl
+asks_nothing variant.Rewind write fill read free sum offline online damage spare replace status detach upgrade rebuild scrub cancel rebalance sync = refl
+asks_nothing variant.Discard write fill read free sum offline online damage spare replace status detach upgrade rebuild scrub cancel rebalance sync = refl
 
 -- and nothing of the shelf: its command is beyond what is built
 pub is_unbuilt : (line : Line) → (line ≡ variant.Nothing → ⊥)
     → ((spec : Vec ℕ Global) (children : ℕ) (keys : PoolKeys) → line ≡ variant.Create spec children keys → ⊥)
     → (line ≡ variant.Import → ⊥)
     → (line ≡ variant.Export → ⊥)
-    → (line ≡ variant.Sync → ⊥)
     → (line ≡ variant.Crash → ⊥)
     → asked_in (command_in line) ≡ None → IsUnbuilt (command_in line)
-is_unbuilt variant.Nothing nothing create opens export sync crash none = absurd (nothing refl)
-is_unbuilt (variant.Create spec children keys) nothing create opens export sync crash none = absurd (create spec children keys refl)
-is_unbuilt variant.Import nothing create opens export sync crash none = absurd (opens refl)
-is_unbuilt variant.Export nothing create opens export sync crash none = absurd (export refl)
-is_unbuilt variant.Sync nothing create opens export sync crash none = absurd (sync refl)
-is_unbuilt variant.Cancel nothing create opens export sync crash none = absurd (cc none)
-is_unbuilt variant.Crash nothing create opens export sync crash none = absurd (crash refl)
-is_unbuilt (variant.Write object bytes) nothing create opens export sync crash none = absurd (cc none)
-is_unbuilt (variant.Fill first count len seed) nothing create opens export sync crash none = absurd (cc none)
-is_unbuilt (variant.Read object) nothing create opens export sync crash none = absurd (cc none)
-is_unbuilt (variant.Free object) nothing create opens export sync crash none = absurd (cc none)
-is_unbuilt (variant.Sum first count) nothing create opens export sync crash none = absurd (cc none)
-is_unbuilt (variant.Offline leaf) nothing create opens export sync crash none = absurd (cc none)
-is_unbuilt (variant.Online leaf) nothing create opens export sync crash none = absurd (cc none)
-is_unbuilt (variant.Damage leaf sector) nothing create opens export sync crash none = absurd (cc none)
-is_unbuilt (variant.Spare slot spare) nothing create opens export sync crash none = absurd (cc none)
-is_unbuilt (variant.Replace slot sectors) nothing create opens export sync crash none = absurd (cc none)
-is_unbuilt (variant.Detach arm) nothing create opens export sync crash none = absurd (cc none)
-is_unbuilt (variant.Rebuild limit) nothing create opens export sync crash none = absurd (cc none)
-is_unbuilt (variant.Scrub limit) nothing create opens export sync crash none = absurd (cc none)
-is_unbuilt (variant.Rebalance slot) nothing create opens export sync crash none = absurd (cc none)
-is_unbuilt (variant.Status form) nothing create opens export sync crash none = absurd (cc none)
-is_unbuilt (variant.Lanes count) nothing create opens export sync crash none = tt
-is_unbuilt variant.Upgrade nothing create opens export sync crash none = absurd (cc none)
-is_unbuilt (variant.Agent least) nothing create opens export sync crash none = tt
-is_unbuilt variant.AgentLog nothing create opens export sync crash none = tt
-is_unbuilt variant.Checkpoint nothing create opens export sync crash none = tt
-is_unbuilt variant.Rewind nothing create opens export sync crash none = tt
-is_unbuilt variant.Discard nothing create opens export sync crash none = tt
+is_unbuilt variant.Nothing nothing create opens export crash none = absurd (nothing refl)
+is_unbuilt (variant.Create spec children keys) nothing create opens export crash none = absurd (create spec children keys refl)
+is_unbuilt variant.Import nothing create opens export crash none = absurd (opens refl)
+is_unbuilt variant.Export nothing create opens export crash none = absurd (export refl)
+is_unbuilt variant.Sync nothing create opens export crash none = absurd (cc none)
+is_unbuilt variant.Cancel nothing create opens export crash none = absurd (cc none)
+is_unbuilt variant.Crash nothing create opens export crash none = absurd (crash refl)
+is_unbuilt (variant.Write object bytes) nothing create opens export crash none = absurd (cc none)
+is_unbuilt (variant.Fill first count len seed) nothing create opens export crash none = absurd (cc none)
+is_unbuilt (variant.Read object) nothing create opens export crash none = absurd (cc none)
+is_unbuilt (variant.Free object) nothing create opens export crash none = absurd (cc none)
+is_unbuilt (variant.Sum first count) nothing create opens export crash none = absurd (cc none)
+is_unbuilt (variant.Offline leaf) nothing create opens export crash none = absurd (cc none)
+is_unbuilt (variant.Online leaf) nothing create opens export crash none = absurd (cc none)
+is_unbuilt (variant.Damage leaf sector) nothing create opens export crash none = absurd (cc none)
+is_unbuilt (variant.Spare slot spare) nothing create opens export crash none = absurd (cc none)
+is_unbuilt (variant.Replace slot sectors) nothing create opens export crash none = absurd (cc none)
+is_unbuilt (variant.Detach arm) nothing create opens export crash none = absurd (cc none)
+is_unbuilt (variant.Rebuild limit) nothing create opens export crash none = absurd (cc none)
+is_unbuilt (variant.Scrub limit) nothing create opens export crash none = absurd (cc none)
+is_unbuilt (variant.Rebalance slot) nothing create opens export crash none = absurd (cc none)
+is_unbuilt (variant.Status form) nothing create opens export crash none = absurd (cc none)
+is_unbuilt (variant.Lanes count) nothing create opens export crash none = tt
+is_unbuilt variant.Upgrade nothing create opens export crash none = absurd (cc none)
+is_unbuilt (variant.Agent least) nothing create opens export crash none = tt
+is_unbuilt variant.AgentLog nothing create opens export crash none = tt
+is_unbuilt variant.Checkpoint nothing create opens export crash none = tt
+is_unbuilt variant.Rewind nothing create opens export crash none = tt
+is_unbuilt variant.Discard nothing create opens export crash none = tt
 
 -- ---- what a pool replies, by the line
 
@@ -193,6 +195,9 @@ module _ {R A : Type 0} (rack : racks.Ghosts R) (area : areas.Ghosts A) (choices
   pub replied_rebalance : (slot : ℕ) (said : Result Reply Failed) → line ≡ variant.Rebalance slot → CarriesOut rack area pool x (RebalanceSays slot said x)
       → CarriesOut rack area pool x (AnswerDoes x choices (command_in line) said)
   replied_rebalance slot said is c = carried (RebalanceSlot slot) (RebalanceSays slot said x) said (ap command_in is) (λ holds store. rebalance_does x choices said holds store slot) c
+
+  pub replied_sync : (said : Result Reply Failed) → line ≡ variant.Sync → CarriesOut rack area pool x (SyncSays said x) → CarriesOut rack area pool x (AnswerDoes x choices (command_in line) said)
+  replied_sync said is c = carried SyncPool (SyncSays said x) said (ap command_in is) (λ holds store. sync_does x choices said holds store) c
 
   pub replied_upgrade : (said : Result Reply Failed) → line ≡ variant.Upgrade → CarriesOut rack area pool x (UpgradeSays said x) → CarriesOut rack area pool x (AnswerDoes x choices (command_in line) said)
   replied_upgrade said is c = carried UpgradePool (UpgradeSays said x) said (ap command_in is) (λ holds store. upgrade_does x choices said holds store) c

@@ -26,11 +26,6 @@ still_foreign (Exported group) known keeps = absurd keeps
 still_foreign Crashed known keeps = absurd keeps
 still_foreign reply known keeps = refl
 
-pub sync_keeps : (reply : Reply) → IsReplyTo SyncPool reply → KeepsOpen reply
-sync_keeps (Exported group) is = absurd is
-sync_keeps Crashed is = absurd is
-sync_keeps reply is = tt
-
 -- a command that is carried out on the open pool gives none back
 pub asked_keeps : (command : Command) (called : CommandName) (reply : Reply) → asked_in command ≡ Some called → IsReplyTo command reply → KeepsOpen reply
 asked_keeps (WriteObject o bytes) called (Exported group) asked is = absurd is
@@ -84,4 +79,7 @@ asked_keeps CancelPasses called reply asked is = tt
 asked_keeps UpgradePool called (Exported group) asked is = absurd is
 asked_keeps UpgradePool called Crashed asked is = absurd is
 asked_keeps UpgradePool called reply asked is = tt
+asked_keeps SyncPool called (Exported group) asked is = absurd is
+asked_keeps SyncPool called Crashed asked is = absurd is
+asked_keeps SyncPool called reply asked is = tt
 asked_keeps command called reply asked is = absurd (cc asked)

@@ -12,7 +12,8 @@ use Rattle.draid_session.proofs.Turning.{breaks_ends, left_keeps, no_record_fail
 use Rattle.draid_run.specs.Books.{AreRuns, BrokeAt, KeepBook, KeepsBook, OneRun}
 use Rattle.draid_run.specs.Next.{next_desk}
 use Rattle.draid_run.specs.Script.{BreaksAt, BreaksOff, RunIs, RunsFrom}
-use Rattle.draid_run.specs.Shelves.{HoldsBare, HoldsDesk, MayFind, OnShelf}
+use Rattle.draid_pool.specs.Shelves.{OnShelf}
+use Rattle.draid_run.specs.Shelves.{HoldsBare, HoldsDesk, MayFind}
 use Rattle.draid_run.specs.declared.status.Status.{Status}
 use Rattle.draid_run.specs.declared.status.Status.TheVariants.{NoMemory, ShelfFault, Record}
 use Rattle.draid_run.proofs.Next.{desk_found, tells_found}

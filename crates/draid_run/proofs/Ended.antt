@@ -12,7 +12,8 @@ use Rattle.draid_pool.specs.declared.pool.Pool.{Pool}
 use Rattle.draid_run.specs.Desks.{IsDesk, LeavesDesk}
 use Rattle.draid_run.specs.Script.{BreaksOff, Ends, EndsWithLine, Fails, FailsShut, GetsReplies, IsSession, Prints, RunsFrom, Shows}
 use Rattle.draid_run.specs.Serve.{Served}
-use Rattle.draid_run.specs.Shelves.{AreaRose, DeviceFailed, HasFailed, HoldsDesk, IsClosed, MakesLeavesAt, MakesLeavesBy, MayMakeLeaves, OnShelf, RackFailedOn, RackRose, TellsAsBefore}
+use Rattle.draid_pool.specs.Shelves.{OnShelf}
+use Rattle.draid_run.specs.Shelves.{AreaRose, DeviceFailed, HasFailed, HoldsDesk, IsClosed, MakesLeavesAt, MakesLeavesBy, MayMakeLeaves, RackFailedOn, RackRose, TellsAsBefore}
 use Rattle.draid_run.specs.Status.{HasNumber, last_text}
 use Rattle.draid_run.specs.declared.status.Status.{Status}
 use Rattle.draid_run.specs.declared.status.Status.TheVariants.{Done, Usage, Line, SourceFault, SinkFault, NoMemory, TooLong, ShelfFault, Record}

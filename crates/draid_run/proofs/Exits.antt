@@ -19,7 +19,7 @@ use Rattle.draid_pool.specs.declared.pool.Pool.{Pool}
 use Rattle.draid_run.specs.Desks.{Turned}
 use Rattle.draid_run.specs.Serve.{AnswerIs, LineIs, PrintIs, status_of}
 use Rattle.draid_run.specs.Script.{LineFaultIs}
-use Rattle.draid_run.specs.Shelves.{OnShelf}
+use Rattle.draid_pool.specs.Shelves.{OnShelf}
 use Rattle.draid_run.specs.declared.answer.Stop.{Stop}
 use Rattle.draid_run.specs.declared.answer.Stop.TheVariants as stop
 use Rattle.draid_run.specs.declared.status.LineRefusal.{LineRefusal}

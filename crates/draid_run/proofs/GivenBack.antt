@@ -16,7 +16,8 @@ use Rattle.draid_pool.specs.Records.{HasLeafNumbers}
 use Rattle.draid_pool.specs.Ubers.{UberStands}
 use Rattle.draid_pool.specs.declared.pool.Pool.{Pool}
 use Rattle.draid_run.specs.Desks.{IsDesk, LeavesDesk}
-use Rattle.draid_run.specs.Shelves.{AreaHasFailed, HasChecks, HoldsShut, IsOut, OnShelf, RackFailedOn, RackHasFailed, TellsAsBefore}
+use Rattle.draid_pool.specs.Shelves.{OnShelf}
+use Rattle.draid_run.specs.Shelves.{AreaHasFailed, HasChecks, HoldsShut, IsOut, RackFailedOn, RackHasFailed, TellsAsBefore}
 
 -- ---- whether the shelf tells makes no other difference to what it holds
 

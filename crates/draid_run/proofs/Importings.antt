@@ -26,7 +26,7 @@ use Rattle.draid_pool.specs.Returning.{GivesBack, HoldsPool, Rests}
 use Rattle.draid_import.specs.Faulty.{HoldsNoGroup}
 use Rattle.draid_import.specs.Findings.{FindsPool, IsReadPool}
 use Rattle.draid_pool.specs.Pools.{HasNames, group_in, Represents}
-use Rattle.draid_import.specs.Found.{HasRisen, SameChecks}
+use Rattle.draid_import.specs.Found.{SameChecks}
 use Rattle.draid_pool.specs.Importable.{IsImportable}
 use Rattle.draid_import.specs.Importing as pools
 use Rattle.draid_import.specs.Importing.{FindsNoPool, ImportsPool, LeavesMade, RestsThere}
@@ -39,14 +39,17 @@ use Rattle.draid_pool.proofs.Lists.{ext}
 use Rattle.draid_import.specs.declared.fault.ImportFault.TheVariants as fault
 use Rattle.draid_pool.specs.declared.pool.Pool.{Pool}
 use Rattle.draid_run.specs.Desks.{Broken, IsDesk, IsPool, IsShelf, Turned}
-use Rattle.draid_run.specs.Importing.{ImportDid, ImportDoes, ImportIs, UnopenedIs}
+use Rattle.draid_import.specs.Says.{ImportGives, ImportSays, IsImportReply, IsTold, IsUnopened}
+use Rattle.draid_import.specs.declared.replies.ImportStop.{ImportStop}
+use Rattle.draid_run.specs.Importing.{ImportDid, ImportDoes, ImportIs, given_by}
 use Rattle.draid_run.specs.Serve.{AnswerIs, IsSaid}
-use Rattle.draid_run.specs.Shelves.{HasChecks, HoldsFault, HoldsNew, HoldsShut, IsOut, IsSame, MayFind, OnShelf, TellsAsBefore}
+use Rattle.draid_create.specs.Says.{IsSame}
+use Rattle.draid_pool.specs.Shelves.{OnShelf}
+use Rattle.draid_run.specs.Shelves.{HasChecks, HoldsFault, HoldsNew, HoldsShut, IsOut, MayFind, TellsAsBefore}
 use Rattle.draid_run.specs.declared.answer.Stop.{Stop}
 use Rattle.draid_run.specs.declared.answer.Stop.TheVariants as stop
 use Rattle.draid_pool.proofs.Following.{same_layout, same_told}
 use Rattle.draid_run.proofs.GivenBack.{on_held, shelf_has}
-use Rattle.draid_run.proofs.Makings.{shut}
 
 -- ---- what was found
 
@@ -188,21 +191,8 @@ fault_named rack area before m m' p p' k k' same_m same_p same_k fault =
 
 -- ---- the call
 
--- what the pool's import came to
-pub record Called {R A : Type 0} (rack : racks.Ghosts R) (area : areas.Ghosts A) (before now : OnShelf) (result : Result (Pool R A) ImportFault) : Type 0 where
-  pub whole : IfOk result (IsWhole rack area)
-  pub none : OnHeld before.held (λ held. held.uber ≡ None → IsErrOf result fault.NoPool × IsAsBefore before.held now.held before.counts now.counts before.own now.own)
-  pub read : IfOk result (IsReadPool rack area before.held before.leaves before.counts before.own.uber)
-  pub empty : IsErrOf result fault.NoPool → HoldsNoGroup before.held
-  pub imports : (x : State) (pieces : ℕ → Pieces) → RestsThere x pieces before.held before.leaves before.counts before.own.uber → pools.ImportIs rack area x pieces now.held now.leaves now.counts now.own.uber result
-  pub tells : OnOk result (is_some now.held ≡ is_some before.held)
-  pub checks_held : SameChecks before.held now.held
-  pub checks : now.own.checks ≡ before.own.checks
-  pub cause : IsErrOf result fault.Shelf → HasRisen area before.held before.faults now.faults before.own.uber now.own.uber before.counts now.counts
-  pub made : (geometry : Geometry) → IsSomeAnd before.held (HoldsMade geometry) → LeavesMade geometry result now.held before.counts now.counts before.own now.own
-
 module _ {R A : Type 0} (rack : racks.Ghosts R) (area : areas.Ghosts A) (entry before now : OnShelf) where
-  module _ (result : Result (Pool R A) ImportFault) (called : Called rack area before now result) where
+  module _ (result : Result (Pool R A) ImportFault) (called : ImportGives rack area before now result) where
     -- a shelf that has no pool gives none
     bare_none : IsSomeAnd before.held (λ held. held.uber ≡ None) → (result ≡ Err fault.NoPool) × IsAsBefore before.held now.held before.counts now.counts before.own now.own
     bare_none = by before.held called.none where
@@ -464,19 +454,35 @@ already_open rack area entry now (Some pool) (Shut crash z) some is = absurd is.
 already_open rack area entry now (Some pool) Bare some is = absurd is.stands
 already_open rack area entry now (Some pool) Unknown some is = absurd is.stands
 
--- none was opened
-module _ {R A : Type 0} (rack : racks.Ghosts R) (area : areas.Ghosts A) (entry before now : OnShelf) (result : Result (Pool R A) ImportFault) (called : Called rack area before now result)
-    (faulty : (metaslab : Option ℕ) (place : ℕ) (kind : RecordFaultKind) → result ≡ Err (fault.Record metaslab place kind) → HoldsFault rack area before metaslab place kind)
-    (desk : Option (Pool R A)) (x : Desk) (none : is_some desk ≡ false) (is : IsDesk rack area entry before desk x) where
-  abbrev closed : IsPool rack area None x
-  closed = shut rack area desk x none is.stands
+-- by the answer of the command
+module _ {R A : Type 0} (rack : racks.Ghosts R) (area : areas.Ghosts A) (entry before : OnShelf) (x : Desk) (stands : IsPool rack area None x) (shelf : IsShelf x entry before) where
+  unopened : (now : OnShelf) (why : ImportFault) → ImportGives rack area before now (Err why) → (said : Result Reply ImportStop) → IsUnopened why said → ImportIs rack area entry before x now None (given_by said)
+  unopened now fault.NoPool called said is = subst (λ s. ImportIs rack area entry before x now None (given_by s)) (sym is) (no_pool rack area entry before now (Err fault.NoPool) called refl x stands shelf)
+  unopened now fault.NoMemory called said is = subst (λ s. ImportIs rack area entry before x now None (given_by s)) (sym is) (no_memory rack area entry before now (Err fault.NoMemory) called refl x stands shelf)
+  unopened now fault.Shelf called said is = subst (λ s. ImportIs rack area entry before x now None (given_by s)) (sym is) (shelf_failed rack area entry before now (Err fault.Shelf) called refl x stands shelf)
+  unopened now (fault.Record metaslab place kind) called said is =
+      subst (λ s. ImportIs rack area entry before x now None (given_by s)) (sym is)
+      (record_fails rack area entry before now (Err (fault.Record metaslab place kind)) called metaslab place kind refl x stands shelf, called.faulty metaslab place kind refl)
 
-  unopened : (why : ImportFault) → result ≡ Err why → (said : Result Reply Stop) → UnopenedIs why said → ImportIs rack area entry before x now None said
-  unopened fault.NoPool at said said_is = subst (λ s. ImportIs rack area entry before x now None s) (sym said_is) (no_pool rack area entry before now result called at x closed is.shelf)
-  unopened fault.NoMemory at said said_is = subst (λ s. ImportIs rack area entry before x now None s) (sym said_is) (no_memory rack area entry before now result called at x closed is.shelf)
-  unopened fault.Shelf at said said_is = subst (λ s. ImportIs rack area entry before x now None s) (sym said_is) (shelf_failed rack area entry before now result called at x closed is.shelf)
-  unopened (fault.Record metaslab place kind) at said said_is =
-      subst (λ s. ImportIs rack area entry before x now None s) (sym said_is) (record_fails rack area entry before now result called metaslab place kind at x closed is.shelf, faulty metaslab place kind at)
+  told : (now : OnShelf) (found : Pool R A) → ImportGives rack area before now (Ok found) → (reply : Reply) → IsTold rack area found reply → ImportDid rack area entry x reply now (Some found)
+  told now found called reply t =
+      subst (λ r. ImportDid rack area entry x r now (Some found)) (sym t.reply_is)
+      (imported rack area entry before now (Ok found) called found refl t.called found.geometry t.group t.objects t.name_is refl t.group_is t.names t.layout t.committed t.counted x stands shelf)
 
-  pub import_unopened : (why : ImportFault) → result ≡ Err why → (said : Result Reply Stop) → UnopenedIs why said → ImportIs rack area entry before x now desk said
-  import_unopened why at said said_is = subst (λ p. ImportIs rack area entry before x now p said) (sym (none_open desk none)) (unopened why at said said_is)
+  module _ (now : OnShelf) (pool : Option (Pool R A)) (said : Result Reply ImportStop) where
+    -- the same of a shelf, of a pool and of a reply that are these
+    named : (n : OnShelf) (p : Option (Pool R A)) (s : Result Reply ImportStop) → now ≡ n → pool ≡ p → said ≡ s → ImportIs rack area entry before x n p (given_by s) → ImportIs rack area entry before x now pool (given_by said)
+    named n p s same_now same_pool same_said is =
+        subst (λ z. ImportIs rack area entry before x z pool (given_by said)) (sym same_now)
+        (subst (λ z. ImportIs rack area entry before x n z (given_by said)) (sym same_pool) (subst (λ z. ImportIs rack area entry before x n p (given_by z)) (sym same_said) is))
+
+    by_answer : (mid : OnShelf) (answer : Result (Pool R A) ImportFault) → ImportGives rack area before mid answer → IsImportReply rack area mid now pool answer said → ImportIs rack area entry before x now pool (given_by said)
+    by_answer mid (Ok found) called is = elim is [
+      | inl one ↦ named mid (Some found) (Ok one.2) one.1 one.0 one.3 (told mid found called one.2 one.4)
+      | inr back ↦ named now None (Ok (NoMemory name.Import)) refl back.0 back.1
+          (unnamed rack area entry before mid (Ok found) called found refl now back.2.back back.2.checks back.2.tells x stands shelf)
+    ]
+    by_answer mid (Err why) called is = named mid None said is.1 is.0 refl (unopened mid why called said is.2)
+
+    pub import_came : ImportSays rack area before now pool said → ImportIs rack area entry before x now pool (given_by said)
+    import_came says = by_answer says.1 says.0 says.2 says.3

@@ -3,11 +3,11 @@ pub mod Balanced
 pub mod Behind
 pub mod Booked
 pub mod Broke
+pub mod Closings
 pub mod Ended
 pub mod Ending
 pub mod Exits
 pub mod GivenBack
-pub mod Grouping
 pub mod Importings
 pub mod Known
 pub mod Legal

@@ -2,6 +2,7 @@
 use Rattle.std.proofs.Common.{◌≡◌, ◌∙◌, ◌⊎◌, inl, inr, ℕ, List, Bool, true, false, Option, Some, None, Result, Ok, Err, if◌then◌else◌, refl, sym, ap, subst}
 use Rattle.std.specs.Prelude.{IsSomeAnd, is_some, nat_lt, string_bytes}
 use Rattle.std.specs.Result.{result_and}
+use Rattle.draid_names.specs.declared.fault.Failed.{Failed}
 use Rattle.draid_rack.specs.Rack.{Shape}
 use Rattle.draid_rack.specs.declared.Rack as racks
 use Rattle.draid_area.specs.declared.Area as areas
@@ -9,7 +10,7 @@ use Rattle.draid_spec.specs.declared.layout.Geometry.{Geometry}
 use Rattle.draid_spec.specs.declared.layout.Props.{Props}
 use Rattle.draid_spec.specs.declared.spec.Spec.{Spec}
 use Rattle.draid_spec.specs.declared.spec.SpecFault.{SpecFault}
-use Rattle.draid_spec.specs.Geometry.{checked_props, checked_version, geometry_of, layout_of, pool_stripes, total_of}
+use Rattle.draid_spec.specs.Geometry.{checked_props, checked_version, geometry_of, layout_of, total_of}
 use Rattle.draid_spec.specs.Spec.{checked_width}
 use Rattle.draid_spec.specs.Text.{spec_by}
 use Rattle.draid_shelf.specs.Kits.{Held, KitCounts, OnHeld}
@@ -26,15 +27,18 @@ use Rattle.draid_pool.specs.Importable.{HasImageLeaves, IsImportable}
 use Rattle.draid_create.specs.Opening as opening
 use Rattle.draid_pool.specs.Taking.{HoldsMade}
 use Rattle.draid_create.specs.Opening.{HoldsUncommitted, IsAway, IsRefused, ShelfIs}
-use Rattle.draid_pool.specs.Whole.{IsWhole}
 use Rattle.draid_create.specs.declared.fault.CreateFault.{CreateFault}
 use Rattle.draid_create.specs.declared.fault.CreateFault.TheVariants as fault
 use Rattle.draid_pool.specs.declared.pool.Pool.{Pool}
 use Rattle.draid_run.specs.Desks.{Broken, IsDesk, IsPool, IsShelf}
-use Rattle.draid_run.specs.Making.{CreateDid, CreateIs, CreateTurns, MakeIs, PoolIs, UnmadeIs}
-use Rattle.draid_run.specs.Shelves.{HasChecks, HoldsShut, IsClosed, IsSame, OnShelf}
-use Rattle.draid_run.specs.declared.answer.Made as answer
-use Rattle.draid_run.specs.declared.answer.Stop.{Stop}
+use Rattle.draid_create.specs.Says.{MakeIs, PoolIs}
+use Rattle.draid_create.specs.Says.{CreateDoes, CreateSays, IsCreateReply}
+use Rattle.draid_run.specs.Making.{CreateDid, CreateIs, CreateTurns}
+use Rattle.draid_create.specs.Says.{IsSame}
+use Rattle.draid_pool.specs.Shelves.{OnShelf}
+use Rattle.draid_run.specs.Shelves.{HasChecks, HoldsShut, IsClosed}
+use Rattle.draid_create.specs.declared.replies.Made as answer
+use Rattle.draid_run.specs.Serve.{stop_of}
 use Rattle.draid_run.proofs.GivenBack.{holds_as, importable_as, on_held, told_as}
 use Rattle.draid_run.proofs.Risen.{cause_closed}
 
@@ -45,12 +49,6 @@ by_checks (Ok u) (Ok v) (Ok w) true f l layout is = absurd (cc)
 by_checks (Ok u) (Ok v) (Err e) big f l layout is = absurd (cc)
 by_checks (Ok u) (Err e) c big f l layout is = absurd (cc)
 by_checks (Err e) b c big f l layout is = absurd (cc)
-
-abbrev laid_out : Geometry → Result Geometry SpecFault
-laid_out layout = Ok layout
-
-same_layout : (a b : Geometry) → laid_out a ≡ Ok b → a ≡ b
-same_layout a b is = cc is
 
 same_spec : (spec : Spec) (props : Props) (layout : Geometry) → geometry_of spec props ≡ Ok layout → layout.spec ≡ spec
 same_spec spec props layout is =
@@ -149,32 +147,6 @@ module _ {R A : Type 0} (rack : racks.Ghosts R) (area : areas.Ghosts A) where
       turns = turns_refused text children keys x why (shut desk x none is.stands) (ap (layout_from keys) read);
     }
 
-  -- what becomes of the devices as none is made
-  module _ (spec : Spec) (props : Props) (before : OnShelf) (desk : Option (Pool R A)) where
-    abbrev unmade : IsSame before before
-    unmade = (record { held = refl; counts = λ m. refl; uber = refl; checks = refl }, λ m. refl)
-
-    pub make_refused : (why : SpecFault) → geometry_of spec props ≡ Err why → desk ≡ None → MakeIs rack area spec props before before desk (Err (fault.Spec why))
-    make_refused why is none = record { pool_is = (is, none); shelf = unmade }
-
-    pub make_unnamed : (geometry : Geometry) → geometry_of spec props ≡ Ok geometry → desk ≡ None → MakeIs rack area spec props before before desk (Err fault.NoMemory)
-    make_unnamed geometry is none = record { pool_is = ((geometry, is), none); shelf = inl unmade }
-
-    module _ (now : OnShelf) where
-      pub make_failed : (why : CreateFault) → opening.CreateIs {R = R} {A = A} rack area spec props now.held now.leaves before.faults now.faults now.counts now.own (Err why)
-          → ShelfIs {P = Pool R A} spec props before.held now.held before.leaves now.leaves before.counts now.counts before.own now.own (Err why) → desk ≡ None → MakeIs rack area spec props before now desk (Err why)
-      make_failed (fault.Spec why) answer shelf none = record { pool_is = (answer, none); shelf = shelf }
-      make_failed fault.Shelf answer shelf none = record { pool_is = (none, answer.0, answer.1, answer.2); shelf = shelf }
-      make_failed fault.NoMemory answer shelf none = record { pool_is = (answer, none); shelf = shelf }
-
-      pub make_opened : (pool : Pool R A) (layout : Geometry) (called : answer.Made) → geometry_of spec props ≡ Ok layout → string_bytes called.name ≡ vdev_name_of spec → called.stripes ≡ pool_stripes layout → IsWhole rack area pool
-          → opening.CreateIs {R = R} {A = A} rack area spec props now.held now.leaves before.faults now.faults now.counts now.own (Ok pool)
-          → ShelfIs {P = Pool R A} spec props before.held now.held before.leaves now.leaves before.counts now.counts before.own now.own (Ok pool) → MakeIs rack area spec props before now (Some pool) (Ok called)
-      make_opened pool layout called is named stripes whole answer shelf = record {
-        pool_is = (whole, record { geometry = answer.0; layout = answer.1; opens = answer.2; name_is = named; stripes_are = stripes ∙ ap pool_stripes (same_layout layout answer.0 (sym is ∙ answer.1)) });
-        shelf = shelf;
-      }
-
   module _ (text : List ℕ) (children : ℕ) (keys : PoolKeys) (entry before now : OnShelf) (spec : Spec) (read : spec_by text children keys.version ≡ Ok spec) where
     turns_made : (x : Desk) (m : answer.Made) (new : State) → IsPool rack area None x → Makes text children keys (string_bytes m.name) m.stripes new
         → CreateTurns text children keys x (Created m.name m.stripes) (Open new)
@@ -232,7 +204,7 @@ module _ {R A : Type 0} (rack : racks.Ghosts R) (area : areas.Ghosts A) where
           });
         }
 
-      refused : (why : SpecFault) → result ≡ Err (fault.Spec why) → CreateDid rack area text children keys entry x (CreateRefused why) now pool
+      pub refused : (why : SpecFault) → result ≡ Err (fault.Spec why) → CreateDid rack area text children keys entry x (CreateRefused why) now pool
       refused why is =
           let o = pools (Err (fault.Spec why)) is in
           let s = shelves (Err (fault.Spec why)) is in
@@ -302,13 +274,13 @@ module _ {R A : Type 0} (rack : racks.Ghosts R) (area : areas.Ghosts A) where
         ]
       ]
 
-      no_memory : result ≡ Err fault.NoMemory → CreateDid rack area text children keys entry x (NoMemory name.Create) now pool
+      pub no_memory : result ≡ Err fault.NoMemory → CreateDid rack area text children keys entry x (NoMemory name.Create) now pool
       no_memory is =
           let o = pools (Err fault.NoMemory) is in
           let n = none_made o.0 o.1 (shelves (Err fault.NoMemory) is) in
           record { new = n.0; desk = n.1; turns = turns_none x n.0 stands n.2 }
 
-      shelf_failed : result ≡ Err fault.Shelf → Broken rack area ShelfFails (CreatePool text children keys) entry before x now pool
+      pub shelf_failed : result ≡ Err fault.Shelf → Broken rack area ShelfFails (CreatePool text children keys) entry before x now pool
       shelf_failed is =
           let o = pools (Err fault.Shelf) is in
           let n = none_made (o.1, o.2) o.0 (shelves (Err fault.Shelf) is) in
@@ -319,8 +291,29 @@ module _ {R A : Type 0} (rack : racks.Ghosts R) (area : areas.Ghosts A) where
             cause = cause_closed rack area (CreatePool text children keys) before now pool x n.0 (is_closed x stands) n.3 (o.1, layout_is (Ok o.1) o.2, o.3);
           }
 
-      -- by why
-      pub create_unmade : (why : CreateFault) → result ≡ Err why → (said : Result Reply Stop) → UnmadeIs why said → CreateIs rack area text children keys entry before x now pool said
-      create_unmade (fault.Spec why) is said said_is = subst (λ s. CreateIs rack area text children keys entry before x now pool s) (sym said_is) (refused why is)
-      create_unmade fault.Shelf is said said_is = subst (λ s. CreateIs rack area text children keys entry before x now pool s) (sym said_is) (shelf_failed is)
-      create_unmade fault.NoMemory is said said_is = subst (λ s. CreateIs rack area text children keys entry before x now pool s) (sym said_is) (no_memory is)
+  -- ---- by the answer of the command
+
+  module _ (text : List ℕ) (children : ℕ) (keys : PoolKeys) (entry before now : OnShelf) (pool : Option (Pool R A)) (x : Desk) (shelf : IsShelf x entry before) (stands : IsPool rack area None x) where
+    abbrev Came : Result Reply Failed → Type 0
+    Came said = CreateIs rack area text children keys entry before x now pool (stop_of said)
+
+    by_answer : (spec : Spec) → spec_by text children keys.version ≡ Ok spec → (answer : Result answer.Made CreateFault) → MakeIs rack area spec (props_of keys) before now pool answer → (said : Result Reply Failed)
+        → IsCreateReply answer said → Came said
+    by_answer spec read (Ok m) makes said replied = subst Came (sym replied) (made text children keys entry before now spec read (Ok m) pool x shelf stands makes m refl)
+    by_answer spec read (Err (fault.Spec why)) makes said replied = subst Came (sym replied) (refused text children keys entry before now spec read (Err (fault.Spec why)) pool x shelf stands makes why refl)
+    by_answer spec read (Err fault.NoMemory) makes said replied = subst Came (sym replied) (no_memory text children keys entry before now spec read (Err fault.NoMemory) pool x shelf stands makes refl)
+    by_answer spec read (Err fault.Shelf) makes (Ok reply) replied = absurd replied
+    by_answer spec read (Err fault.Shelf) makes (Err failed) replied = shelf_failed text children keys entry before now spec read (Err fault.Shelf) pool x shelf stands makes refl
+
+    by_spec : (spec : Result Spec SpecFault) → spec_by text children keys.version ≡ spec → (answer : Result answer.Made CreateFault) → CreateDoes rack area keys before now pool spec answer → (said : Result Reply Failed)
+        → IsCreateReply answer said → Came said
+    by_spec (Ok spec) read answer makes said replied = by_answer spec read answer makes said replied
+    by_spec (Err why) read answer none said replied =
+        let reply : said ≡ Ok (CreateRefused why) = subst (λ a. IsCreateReply a said) none.0 replied in
+        subst Came (sym reply)
+        (subst (λ p. CreateDid rack area text children keys entry x (CreateRefused why) now p) (sym none.1)
+        (subst (λ n. CreateDid rack area text children keys entry x (CreateRefused why) n None) (sym none.2)
+        (unreadable text children keys entry before None x why read refl (record { stands = stands; shelf = shelf }))))
+
+    pub create_came : (said : Result Reply Failed) → CreateSays rack area text children keys before now pool said → Came said
+    create_came said says = by_spec (spec_by text children keys.version) refl says.0 says.2 said says.1

@@ -21,7 +21,9 @@ use Rattle.draid_pool.specs.Taking.{HoldsMade}
 use Rattle.draid_pool.proofs.Returned.{rests_crashed}
 use Rattle.draid_pool.proofs.Importables.{importable_left}
 use Rattle.draid_run.specs.Next.{FindsAgain, HasCrashed, IsFound, next_desk}
-use Rattle.draid_run.specs.Shelves.{HoldsBare, HoldsDesk, HoldsNew, HoldsShut, IsSame, OnShelf, TellsAsBefore}
+use Rattle.draid_create.specs.Says.{IsSame}
+use Rattle.draid_pool.specs.Shelves.{OnShelf}
+use Rattle.draid_run.specs.Shelves.{HoldsBare, HoldsDesk, HoldsNew, HoldsShut, TellsAsBefore}
 use Rattle.draid_run.proofs.Makings.{same_shelf}
 use Rattle.draid_run.proofs.Serving.{as_found}
 

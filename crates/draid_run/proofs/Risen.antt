@@ -12,7 +12,9 @@ use Rattle.draid_import.specs.Found.{HasRisen}
 use Rattle.draid_pool.specs.declared.pool.Pool.{Pool}
 use Rattle.draid_run.specs.Desks.{CauseShows, IsShelf}
 use Rattle.draid_run.specs.Script.{FailsShut, FaultyShut}
-use Rattle.draid_run.specs.Shelves.{FailsIn, FaultIn, HasFailed, HasFault, HoldsDesk, HoldsFault, IsClosed, MakingFailed, OnShelf}
+use Rattle.draid_create.specs.Says.{MakingFailed}
+use Rattle.draid_pool.specs.Shelves.{OnShelf}
+use Rattle.draid_run.specs.Shelves.{FailsIn, FaultIn, HasFailed, HasFault, HoldsDesk, HoldsFault, IsClosed}
 
 rose_some : (before now : ℕ) → Rose before now → 0 < now
 rose_some before now rose = omega (arith, rose)

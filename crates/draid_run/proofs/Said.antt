@@ -5,12 +5,12 @@ use Rattle.std.specs.declared.alloc.Global.{Global}
 use Rattle.draid_names.specs.declared.fault.NoMemory.{NoMemory as Starved}
 use Rattle.draid_names.specs.declared.refusal.ObjectFault.{ObjectFault}
 use Rattle.draid_names.specs.declared.refusal.ObjectFault.TheVariants as object
-use Rattle.draid_script.specs.Line.{AttachSpare, Command, DamageSector, FreeObject, ReadObject, ShowStatus, SumObjects, TakeOffline, TakeOnline, DetachArm, UpgradePool, RebuildPool, ScrubPool, RebalanceSlot, ReplaceDisk, CancelPasses}
+use Rattle.draid_script.specs.Line.{AttachSpare, Command, DamageSector, FreeObject, ReadObject, ShowStatus, SumObjects, TakeOffline, TakeOnline, DetachArm, SyncPool, UpgradePool, RebuildPool, ScrubPool, RebalanceSlot, ReplaceDisk, CancelPasses}
 use Rattle.draid_script.specs.declared.name.CommandName.{CommandName}
 use Rattle.draid_script.specs.declared.name.CommandName.TheVariants as name
 use Rattle.draid_script.specs.declared.line.StatusFormat.{StatusFormat}
 use Rattle.draid_reply.specs.declared.reply.Reply.{Reply}
-use Rattle.draid_reply.specs.declared.reply.Reply.TheVariants.{DetachLast, DetachRefused, DetachWorn, Detached, Last, NoMemory, OfflineDone, OfflineRefused, OfflineWorn, OnlineDone, OnlineRefused, OnlineWorn, SpareRefused, SpareWorn, UpgradeAlready, Upgraded, Worn, Replaced, ReplaceRefused, ReplaceWorn, PassThere, Rebalanced, RebalanceLast, RebalanceRefused, RebalanceWorn, Rebuilt, RebuildNothing, Scrubbed}
+use Rattle.draid_reply.specs.declared.reply.Reply.TheVariants.{DetachLast, DetachRefused, DetachWorn, Detached, Last, NoMemory, OfflineDone, OfflineRefused, OfflineWorn, OnlineDone, OnlineRefused, OnlineWorn, SpareRefused, SpareWorn, UpgradeAlready, Upgraded, Worn, Replaced, ReplaceRefused, ReplaceWorn, PassThere, Rebalanced, RebalanceLast, RebalanceRefused, RebalanceWorn, Rebuilt, RebuildNothing, Scrubbed, Synced}
 use Rattle.draid_session.specs.Choices.{Choices}
 use Rattle.draid_session.specs.Holds.{Hold}
 use Rattle.draid_session.specs.State.{State, Store}
@@ -30,7 +30,11 @@ use Rattle.draid_changes.specs.UpgradeSays.{IsUpgradeReply, UpgradeSays}
 use Rattle.draid_changes.specs.Upgrading.{UpgradeDoes}
 use Rattle.draid_changes.specs.declared.upgrading.UpgradeFault.{UpgradeFault}
 use Rattle.draid_changes.specs.declared.upgrading.UpgradeFault.TheVariants as upgrading
+use Rattle.draid_pool.specs.declared.fault.SyncFault.{SyncFault}
 use Rattle.draid_pool.specs.declared.fault.SyncFault.TheVariants as sync
+use Rattle.draid_pool.specs.declared.fault.Synced.{Synced as Group}
+use Rattle.draid_pool.specs.Says.{IsSyncReply, SyncSays}
+use Rattle.draid_pool.specs.Syncing.{SyncDoes}
 use Rattle.draid_changes.specs.declared.fault.ArmFault.{ArmFault}
 use Rattle.draid_changes.specs.declared.fault.ArmFault.TheVariants as arm
 use Rattle.draid_run.specs.Desks.{AnswerDoes, BreaksBy}
@@ -151,6 +155,23 @@ module _ (x : State) (choices : Choices) (said : Result Reply Failed) (holds : L
       by (Err (balancing.Stopped sync.Last)) is does = replied (RebalanceLast child) is (refl, does.0, does.1)
       by (Err (balancing.Stopped sync.NoMemory)) is does = replied (NoMemory name.Rebalance) is (does.0, inl does.1)
       by (Err (balancing.Stopped sync.Shelf)) is does = broke said is does
+
+  pub sync_does : SyncSays said x holds store → AnswerDoes x choices SyncPool said holds store
+  sync_does says = by says.0 says.1 says.2
+    where
+      replied : (reply : Reply) → said ≡ Ok reply → ReplyDoes x choices SyncPool reply holds store → AnswerDoes x choices SyncPool said holds store
+      replied reply is does = subst (λ s. AnswerDoes x choices SyncPool s holds store) (sym is) does
+
+      broke : (given : Result Reply Failed) → IsSyncReply (Err sync.Shelf) given → SyncDoes x (Err sync.Shelf) holds store → AnswerDoes x choices SyncPool given holds store
+      broke (Ok reply) is does = absurd is
+      broke (Err failed) is does = does
+
+      by : (answer : Result Group SyncFault) → IsSyncReply answer said → SyncDoes x answer holds store → AnswerDoes x choices SyncPool said holds store
+      by (Ok it) is does = replied (Synced it.group it.thin) is does
+      by (Err sync.Worn) is does = replied (Worn name.Sync) is does
+      by (Err sync.Last) is does = replied (Last name.Sync) is does
+      by (Err sync.NoMemory) is does = replied (NoMemory name.Sync) is (does.0, inl does.1)
+      by (Err sync.Shelf) is does = broke said is does
 
   pub upgrade_does : UpgradeSays said x holds store → AnswerDoes x choices UpgradePool said holds store
   upgrade_does says = by says.0 says.1 says.2

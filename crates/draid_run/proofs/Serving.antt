@@ -1,6 +1,6 @@
 -- What the loop over the lines keeps, and what its ends come to.
 use Rattle.std.proofs.Common.{arith, refl, sym, ap, ◌≡◌, ◌∙◌, ◌+◌, ◌≤◌, ◌⊎◌, inl, inr, ℕ, List, [], ◌∷◌, ◌++◌, Option, Some, None, Result, Ok, Err, Vec, Global, subst, append_assoc, length-append}
-use Rattle.std.specs.Prelude.{is_some, ⊤}
+use Rattle.std.specs.Prelude.{MatchOption, is_some, ⊤}
 use Rattle.std.specs.Io.KnownBytes.{prepend_known}
 use Rattle.std.proofs.lemmas.Grind.{flat_map-append}
 use Rattle.std.proofs.lemmas.List.{append-nil}
@@ -16,9 +16,10 @@ use Rattle.draid_session.specs.Choices.{Choices}
 use Rattle.draid_session.specs.Session.{Desk, Untouched, Bare, Made, Open, Shut, Foreign, Unknown, RecordFails, Runs, ShelfFails}
 use Rattle.draid_pool.specs.declared.pool.Pool.{Pool}
 use Rattle.draid_run.specs.Desks.{IsDesk, Turned}
-use Rattle.draid_run.specs.Script.{all_said, Ends, FaultyShut, LineFaultIs, said_text, texts_of}
+use Rattle.draid_run.specs.Script.{all_said, BreaksOff, Ends, FaultyShut, GetsReplies, LineFaultIs, Shows, said_text, texts_of}
 use Rattle.draid_run.specs.Serve.{BrokenLine, Cut, LineIs, Printed, Served, Serving, TextIs, Untold}
-use Rattle.draid_run.specs.Shelves.{FaultIn, HasFailed, HasFault, HoldsDesk, HoldsFault, MakesLeavesAt, MakesLeavesBy, MayFind, OnShelf, RackFault, TellsAsBefore}
+use Rattle.draid_pool.specs.Shelves.{OnShelf}
+use Rattle.draid_run.specs.Shelves.{FaultIn, HasFailed, HasFault, HoldsDesk, HoldsFault, MakesLeavesAt, MakesLeavesBy, MayFind, RackFault, TellsAsBefore}
 use Rattle.draid_run.specs.declared.status.LineRefusal.{LineRefusal}
 use Rattle.draid_run.specs.declared.status.Status.{Status}
 use Rattle.draid_run.specs.declared.status.Status.TheVariants.{Done, Usage, Line, SourceFault, SinkFault, NoMemory, TooLong, ShelfFault, Record}
@@ -184,11 +185,11 @@ module _ {R A : Type 0} (rack : racks.Ghosts R) (area : areas.Ghosts A) (choices
           unanswered = λ none. absurd (not_none is.lines line none);
         }
 
-    -- the input ended
-    pub served_done : (input rest rest' start held : Option (List ℕ)) (now : OnShelf) (pool : Option (Pool R A)) (count : ℕ)
-        → Serving rack area choices first input rest start held entry now pool count → WhereKnown rest rest' (λ old new. old ≡ [])
-        → Served rack area choices first Done input start held entry now pool
-    served_done input rest rest' start held now pool count is end = record {
+    -- The run ends with no line under way, for a cause that is neither a failing shelf nor a record's fault.
+    at_rest : (input rest start held : Option (List ℕ)) (now : OnShelf) (pool : Option (Pool R A)) (count : ℕ) (is : Serving rack area choices first input rest start held entry now pool count) (ended : Status)
+        → BreaksOff ended None is.reached is.reached → MatchOption input ⊤ (Ends ended None is.lines) → Shows ended is.replies (all_said is.replies) → GetsReplies ended (all_said is.replies) start held
+        → (ended ≡ ShelfFault → ⊥) → ((metaslab : Option ℕ) (place : ℕ) (kind : RecordFaultKind) → ended ≡ Record metaslab place kind → ⊥) → Served rack area choices first ended input start held entry now pool
+    at_rest input rest start held now pool count is ended breaks ends shows prints no_shelf no_record = record {
       lines = is.lines;
       replies = is.replies;
       shown = all_said is.replies;
@@ -197,77 +198,43 @@ module _ {R A : Type 0} (rack : racks.Ghosts R) (area : areas.Ghosts A) (choices
       broken = None;
       desk = is.desk;
       runs = is.runs;
-      breaks = refl;
-      ends = known_input input rest' _ _ (λ x z e. e)
-          (known_on input rest rest' _ _ (λ all behind. lines_of all ≡ is.lines)
-          (λ x y z a b. a ∙ ap (λ bytes. is.lines ++ lines_of bytes) b ∙ ap (λ xs. is.lines ++ xs) lines_none ∙ append-nil is.lines) is.known end);
-      shows = refl;
-      prints = is.printed;
-      failed = λ e. absurd (cc e);
-      since = λ e. absurd (cc e);
-      bad = λ metaslab place kind e. absurd (cc e);
+      breaks = breaks;
+      ends = ends;
+      shows = shows;
+      prints = prints;
+      failed = λ e. absurd (no_shelf e);
+      since = λ e. absurd (no_shelf e);
+      bad = λ metaslab place kind e. absurd (no_record metaslab place kind e);
     }
+
+    -- the input ended
+    pub served_done : (input rest rest' start held : Option (List ℕ)) (now : OnShelf) (pool : Option (Pool R A)) (count : ℕ)
+        → Serving rack area choices first input rest start held entry now pool count → WhereKnown rest rest' (λ old new. old ≡ [])
+        → Served rack area choices first Done input start held entry now pool
+    served_done input rest rest' start held now pool count is end = at_rest input rest start held now pool count is Done refl
+        (known_input input rest' _ _ (λ x z e. e)
+        (known_on input rest rest' _ _ (λ all behind. lines_of all ≡ is.lines)
+        (λ x y z a b. a ∙ ap (λ bytes. is.lines ++ lines_of bytes) b ∙ ap (λ xs. is.lines ++ xs) lines_none ∙ append-nil is.lines) is.known end))
+        refl is.printed (λ e. cc e) (λ metaslab place kind e. cc e)
 
     -- the next line could not be read
     pub served_unread : (input start held left left' : Option (List ℕ)) (now : OnShelf) (pool : Option (Pool R A)) (lines lines' : Rest) (status : Status)
         → Serving rack area choices first input (prepend_known lines.held left) start held entry now pool lines.given → TextIs lines lines' left left' (Err status)
         → Served rack area choices first status input start held entry now pool
-    served_unread input start held left left' now pool lines lines' SourceFault is text = record {
-      lines = is.lines;
-      replies = is.replies;
-      shown = all_said is.replies;
-      mid = is.reached;
-      last = is.reached;
-      broken = None;
-      desk = is.desk;
-      runs = is.runs;
-      breaks = refl;
-      ends = known_input input _ _ _ (λ x y e. (lines_of y, e)) is.known;
-      shows = refl;
-      prints = is.printed;
-      failed = λ e. absurd (cc e);
-      since = λ e. absurd (cc e);
-      bad = λ metaslab place kind e. absurd (cc e);
-    }
-    served_unread input start held left left' now pool lines lines' NoMemory is text = record {
-      lines = is.lines;
-      replies = is.replies;
-      shown = all_said is.replies;
-      mid = is.reached;
-      last = is.reached;
-      broken = None;
-      desk = is.desk;
-      runs = is.runs;
-      breaks = refl;
-      ends = known_input input _ _ _ (λ x y e. (lines_of y, e)) is.known;
-      shows = inl refl;
-      prints = is.printed;
-      failed = λ e. absurd (cc e);
-      since = λ e. absurd (cc e);
-      bad = λ metaslab place kind e. absurd (cc e);
-    }
+    served_unread input start held left left' now pool lines lines' SourceFault is text = at_rest input (prepend_known lines.held left) start held now pool lines.given is SourceFault refl
+        (known_input input _ _ _ (λ x y e. (lines_of y, e)) is.known)
+        refl is.printed (λ e. cc e) (λ metaslab place kind e. cc e)
+    served_unread input start held left left' now pool lines lines' NoMemory is text = at_rest input (prepend_known lines.held left) start held now pool lines.given is NoMemory refl
+        (known_input input _ _ _ (λ x y e. (lines_of y, e)) is.known)
+        (inl refl) is.printed (λ e. cc e) (λ metaslab place kind e. cc e)
     served_unread input start held left left' now pool lines lines' (TooLong line) is text =
         let counted = is.count_is in
         let number = text.0 in
-        record {
-          lines = is.lines;
-          replies = is.replies;
-          shown = all_said is.replies;
-          mid = is.reached;
-          last = is.reached;
-          broken = None;
-          desk = is.desk;
-          runs = is.runs;
-          breaks = refl;
-          ends = known_input input _ _ _ (λ x z e. e)
-              (known_on input (prepend_known lines.held left) (prepend_known lines'.held left') _ _ (λ all behind. Ends (TooLong line) None is.lines all)
-              (λ x y z a b. (y, a, rw counted b, omega (arith, counted, number))) is.known text.1);
-          shows = refl;
-          prints = is.printed;
-          failed = λ e. absurd (cc e);
-          since = λ e. absurd (cc e);
-          bad = λ metaslab place kind e. absurd (cc e);
-        }
+        at_rest input (prepend_known lines.held left) start held now pool lines.given is (TooLong line) refl
+        (known_input input _ _ _ (λ x z e. e)
+        (known_on input (prepend_known lines.held left) (prepend_known lines'.held left') _ _ (λ all behind. Ends (TooLong line) None is.lines all)
+        (λ x y z a b. (y, a, rw counted b, omega (arith, counted, number))) is.known text.1))
+        refl is.printed (λ e. cc e) (λ metaslab place kind e. cc e)
     served_unread input start held left left' now pool lines lines' Done is text = absurd text
     served_unread input start held left left' now pool lines lines' Usage is text = absurd text
     served_unread input start held left left' now pool lines lines' (Line line kind at) is text = absurd text
@@ -282,46 +249,18 @@ module _ {R A : Type 0} (rack : racks.Ghosts R) (area : areas.Ghosts A) (choices
       unrun : (number : ℕ) (why : LineRefusal) (at : ℕ) → LineFaultIs (line_of line) why at → number ≡ count + 1 → Served rack area choices first (Line number why at) input start held entry before pool
       unrun number kind at fault n =
           let counted = is.count_is in
-          record {
-            lines = is.lines;
-            replies = is.replies;
-            shown = all_said is.replies;
-            mid = is.reached;
-            last = is.reached;
-            broken = None;
-            desk = is.desk;
-            runs = is.runs;
-            breaks = refl;
-            ends = known_input input rest' _ _ (λ x z e. e)
-                (known_on input rest rest' _ _ (λ all _. Ends (Line number kind at) None is.lines all)
-                (λ x y z a b. (line, lines_of z, a ∙ ap (λ xs. is.lines ++ xs) b, fault, omega (arith, counted, n))) is.known behind);
-            shows = refl;
-            prints = is.printed;
-            failed = λ e. absurd (cc e);
-            since = λ e. absurd (cc e);
-            bad = λ metaslab place kind e. absurd (cc e);
-          }
+          at_rest input rest start held before pool count is (Line number kind at) refl
+          (known_input input rest' _ _ (λ x z e. e)
+          (known_on input rest rest' _ _ (λ all _. Ends (Line number kind at) None is.lines all)
+          (λ x y z a b. (line, lines_of z, a ∙ ap (λ xs. is.lines ++ xs) b, fault, omega (arith, counted, n))) is.known behind))
+          refl is.printed (λ e. cc e) (λ metaslab place kind e. cc e)
 
       -- memory was wanting before it was done
       undone : Served rack area choices first NoMemory input start held entry before pool
-      undone = record {
-        lines = is.lines;
-        replies = is.replies;
-        shown = all_said is.replies;
-        mid = is.reached;
-        last = is.reached;
-        broken = None;
-        desk = is.desk;
-        runs = is.runs;
-        breaks = refl;
-        ends = known_input input rest' _ _ (λ x z e. (line ∷ lines_of z, e))
-            (known_on input rest rest' _ _ (λ all z. lines_of all ≡ is.lines ++ (line ∷ lines_of z)) (λ x y z a b. a ∙ ap (λ xs. is.lines ++ xs) b) is.known behind);
-        shows = inl refl;
-        prints = is.printed;
-        failed = λ e. absurd (cc e);
-        since = λ e. absurd (cc e);
-        bad = λ metaslab place kind e. absurd (cc e);
-      }
+      undone = at_rest input rest start held before pool count is NoMemory refl
+          (known_input input rest' _ _ (λ x z e. (line ∷ lines_of z, e))
+          (known_on input rest rest' _ _ (λ all z. lines_of all ≡ is.lines ++ (line ∷ lines_of z)) (λ x y z a b. a ∙ ap (λ xs. is.lines ++ xs) b) is.known behind))
+          (inl refl) is.printed (λ e. cc e) (λ metaslab place kind e. cc e)
 
       module _ (now : OnShelf) (pool' : Option (Pool R A)) (tells : TellsAsBefore entry now) where
         -- its reply could not be put

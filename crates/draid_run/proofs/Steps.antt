@@ -30,7 +30,8 @@ use Rattle.draid_run.specs.Desks.{BreaksBy, Broken, IsDesk, IsPool, PoolBroke, P
 use Rattle.draid_run.proofs.Broke.{broken_shows}
 use Rattle.draid_pool.specs.Knows.{Teaches}
 use Rattle.draid_run.specs.Making.{CreateDid, CreateTurns}
-use Rattle.draid_run.specs.Shelves.{IsOut, MayFind, OnShelf}
+use Rattle.draid_pool.specs.Shelves.{OnShelf}
+use Rattle.draid_run.specs.Shelves.{IsOut, MayFind}
 use Rattle.draid_run.proofs.Behind.{asked_keeps, open_behind, still_foreign}
 use Rattle.draid_pool.proofs.Following.{same_told}
 
@@ -132,6 +133,7 @@ module _ (choices : Choices) (finds : Finding → Type 0) where
   shut_says (ScrubPool limit) called is x = (called, is, refl, refl)
   shut_says (RebalanceSlot slot) called is x = (called, is, refl, refl)
   shut_says CancelPasses called is x = (called, is, refl, refl)
+  shut_says SyncPool called is x = (called, is, refl, refl)
   shut_says command called is x = absurd (cc is)
 
   by_desk : {R A : Type 0} (rack : racks.Ghosts R) (area : areas.Ghosts A) (command : Command) (reply : Reply) (x : Desk) → IsPool rack area None x → session.ShutTurns finds x command reply x
@@ -207,7 +209,8 @@ module _ {R A : Type 0} (rack : racks.Ghosts R) (area : areas.Ghosts A) (choices
   by_ask (CreatePool text children keys) called is = absurd (cc is)
   by_ask ImportPool called is = absurd (cc is)
   by_ask ExportPool called is = absurd (cc is)
-  by_ask SyncPool called is = absurd (cc is)
+  by_ask SyncPool called is = turned_by SyncPool called is (λ y z c same. (refl, (z, c, same))) (λ old new fits learns same. (refl, (fits, new, learns, same))) (λ x stands.
+      (refl, by_desk choices (MayFind rack area entry) rack area SyncPool (NoPool called) x stands (shut_says choices (MayFind rack area entry) SyncPool called is x)))
   by_ask CancelPasses called is = turned_by CancelPasses called is (λ y z c same. (refl, (z, c, same))) (λ old new fits learns same. (refl, (fits, new, learns, same))) (λ x stands.
       (refl, by_desk choices (MayFind rack area entry) rack area CancelPasses (NoPool called) x stands (shut_says choices (MayFind rack area entry) CancelPasses called is x)))
   by_ask CrashPool called is = absurd (cc is)

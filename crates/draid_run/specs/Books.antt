@@ -7,7 +7,7 @@ use Rattle.draid_session.specs.Choices.{Choices}
 use Rattle.draid_session.specs.Book.{AnswersRun, Book}
 use Rattle.draid_run.specs.Next.{IsFound}
 use Rattle.draid_run.specs.Script.{Ends, IsRefused, IsSession, PrintsAll, RunIs, Shows}
-use Rattle.draid_run.specs.Shelves.{OnShelf}
+use Rattle.draid_pool.specs.Shelves.{OnShelf}
 use Rattle.draid_run.specs.declared.status.Status.{Status}
 use Rattle.draid_run.specs.declared.status.Status.TheVariants.{Usage, ShelfFault, Record}
 

@@ -3,7 +3,7 @@ use Rattle.std.specs.Prelude.{◌≡◌, ◌⊎◌, ⊤, List, Option, Some, Non
 use Rattle.draid_names.specs.declared.fault.Failed.{Failed}
 use Rattle.draid_rack.specs.declared.Rack as racks
 use Rattle.draid_area.specs.declared.Area as areas
-use Rattle.draid_script.specs.Line.{Command, WriteObject, ReadObject, FillObjects, FreeObject, SumObjects, TakeOffline, TakeOnline, DamageSector, AttachSpare, ShowStatus, DetachArm, UpgradePool, RebuildPool, ScrubPool, RebalanceSlot, ReplaceDisk, CancelPasses}
+use Rattle.draid_script.specs.Line.{Command, WriteObject, ReadObject, FillObjects, FreeObject, SumObjects, TakeOffline, TakeOnline, DamageSector, AttachSpare, ShowStatus, DetachArm, UpgradePool, SyncPool, RebuildPool, ScrubPool, RebalanceSlot, ReplaceDisk, CancelPasses}
 use Rattle.draid_script.specs.declared.fault.LineFault.{LineFault}
 use Rattle.draid_script.specs.declared.name.CommandName.{CommandName}
 use Rattle.draid_script.specs.declared.name.CommandName.TheVariants as name
@@ -25,7 +25,8 @@ use Rattle.draid_pool.specs.declared.pool.Pool.{Pool}
 use Rattle.draid_pool.specs.Knows.{KnowsBehind, KnowsPointers}
 use Rattle.draid_changes.specs.Behind.{ArmsBehind}
 use Rattle.draid_visits.specs.Behind.{PassesBehind}
-use Rattle.draid_run.specs.Shelves.{FailsIn, FaultIn, HasFailed, HasFault, HoldsDesk, IsClosed, IsOut, MayFind, OnShelf, PoolFails, RackFailedOn, RackFault}
+use Rattle.draid_pool.specs.Shelves.{OnShelf}
+use Rattle.draid_run.specs.Shelves.{FailsIn, FaultIn, HasFailed, HasFault, HoldsDesk, IsClosed, IsOut, MayFind, PoolFails, RackFailedOn, RackFault}
 
 -- ---- desks
 
@@ -92,6 +93,7 @@ asked_in (ReplaceDisk slot sectors) = Some name.Replace
 asked_in (ShowStatus form) = Some name.Status
 asked_in (DetachArm arm) = Some name.Detach
 asked_in UpgradePool = Some name.Upgrade
+asked_in SyncPool = Some name.Sync
 asked_in (RebuildPool limit) = Some name.Rebuild
 asked_in (ScrubPool limit) = Some name.Scrub
 asked_in (RebalanceSlot slot) = Some name.Rebalance

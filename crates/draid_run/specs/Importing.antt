@@ -5,13 +5,14 @@ use Rattle.draid_area.specs.declared.Area as areas
 use Rattle.draid_script.specs.Line.{ImportPool}
 use Rattle.draid_script.specs.declared.name.CommandName.TheVariants as name
 use Rattle.draid_reply.specs.declared.reply.Reply.{Reply}
-use Rattle.draid_reply.specs.declared.reply.Reply.TheVariants.{NoMemory, NoPool, PoolOpen}
+use Rattle.draid_reply.specs.declared.reply.Reply.TheVariants.{PoolOpen}
 use Rattle.draid_session.specs.Session.{Desk, Open, Foreign, ImportTurns, RecordFails, ShelfFails}
-use Rattle.draid_import.specs.declared.fault.ImportFault.{ImportFault}
-use Rattle.draid_import.specs.declared.fault.ImportFault.TheVariants as fault
+use Rattle.draid_import.specs.declared.replies.ImportStop.{ImportStop}
+use Rattle.draid_import.specs.declared.replies.ImportStop.TheVariants as import
 use Rattle.draid_pool.specs.declared.pool.Pool.{Pool}
 use Rattle.draid_run.specs.Desks.{Broken, IsDesk}
-use Rattle.draid_run.specs.Shelves.{HoldsFault, MayFind, OnShelf}
+use Rattle.draid_pool.specs.Shelves.{OnShelf}
+use Rattle.draid_run.specs.Shelves.{HoldsFault, MayFind}
 use Rattle.draid_run.specs.declared.answer.Stop.{Stop}
 use Rattle.draid_run.specs.declared.answer.Stop.TheVariants as stop
 
@@ -35,9 +36,12 @@ ImportIs rack area entry before old now pool (Err stop.Shelf) = Broken rack area
 ImportIs rack area entry before old now pool (Err (stop.Record metaslab place kind)) =
     Broken rack area RecordFails ImportPool entry before old now pool × HoldsFault rack area before metaslab place kind
 
--- an import that opened no pool, by why
-abbrev pub UnopenedIs : ImportFault → Result Reply Stop → Type 0
-UnopenedIs fault.NoPool result = result ≡ Ok (NoPool name.Import)
-UnopenedIs fault.NoMemory result = result ≡ Ok (NoMemory name.Import)
-UnopenedIs fault.Shelf result = result ≡ Err stop.Shelf
-UnopenedIs (fault.Record metaslab place kind) result = result ≡ Err (stop.Record metaslab place kind)
+-- why a run ends at an import that has no reply
+abbrev pub stop_of_import : ImportStop → Stop
+stop_of_import import.Shelf = stop.Shelf
+stop_of_import (import.Record metaslab place kind) = stop.Record metaslab place kind
+
+-- an import's reply, or that the run ends
+abbrev pub given_by : Result Reply ImportStop → Result Reply Stop
+given_by (Ok reply) = Ok reply
+given_by (Err why) = Err (stop_of_import why)

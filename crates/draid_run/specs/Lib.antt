@@ -1,7 +1,7 @@
 pub mod Books
+pub mod Closing
 pub mod Desks
 pub mod Ending
-pub mod Groups
 pub mod Importing
 pub mod Making
 pub mod Next

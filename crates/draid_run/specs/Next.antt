@@ -6,7 +6,8 @@ use Rattle.draid_session.specs.Choices.{Choices}
 use Rattle.draid_session.specs.Opening.{HasObjects, Imports}
 use Rattle.draid_session.specs.Session.{Desk, Finding, Untouched, Bare, Made, Open, Shut, Foreign, Unknown, Runs}
 use Rattle.draid_session.specs.State.{State}
-use Rattle.draid_run.specs.Shelves.{IsSame, OnShelf}
+use Rattle.draid_create.specs.Says.{IsSame}
+use Rattle.draid_pool.specs.Shelves.{OnShelf}
 
 -- ---- the next run
 

@@ -3,6 +3,7 @@ use Rattle.std.specs.Prelude.{◌≡◌, ◌≤◌, ◌+◌, ◌⊎◌, ⊤, ℕ
 use Rattle.std.specs.Io.KnownBytes.{Appends, prepend_known}
 use Rattle.std.specs.declared.vec.Vec.{Vec}
 use Rattle.std.specs.declared.alloc.Global.{Global}
+use Rattle.draid_names.specs.declared.fault.Failed.{Failed}
 use Rattle.draid_record.specs.declared.fault.RecordFaultKind.{RecordFaultKind}
 use Rattle.draid_rack.specs.declared.Rack as racks
 use Rattle.draid_area.specs.declared.Area as areas
@@ -18,7 +19,8 @@ use Rattle.draid_session.specs.Session.{Cause, Desk, RecordFails, Runs, ShelfFai
 use Rattle.draid_pool.specs.declared.pool.Pool.{Pool}
 use Rattle.draid_run.specs.Desks.{Broken, IsDesk, PoolBroke, PoolDid, Turned, asked_in}
 use Rattle.draid_run.specs.Script.{all_said, BreaksOff, Ends, FailsShut, FaultyShut, GetsReplies, IsUnbuilt, LineFaultIs, Shows, said_text, texts_of}
-use Rattle.draid_run.specs.Shelves.{HasFault, HoldsFault, IsClosed, MakesLeavesAt, MayFind, OnShelf, RackFault}
+use Rattle.draid_pool.specs.Shelves.{OnShelf}
+use Rattle.draid_run.specs.Shelves.{HasFault, HoldsFault, IsClosed, MakesLeavesAt, MayFind, RackFault}
 use Rattle.draid_run.specs.declared.answer.Stop.{Stop}
 use Rattle.draid_run.specs.declared.answer.Stop.TheVariants as stop
 use Rattle.draid_run.specs.declared.status.LineRefusal.TheVariants as refusal
@@ -54,6 +56,11 @@ pub record BrokenLine {R A : Type 0} (rack : racks.Ghosts R) (area : areas.Ghost
 abbrev pub IsSaid : Result Reply Stop → Result (Option Reply) Stop → Type 0
 IsSaid (Ok reply) result = result ≡ Ok (Some reply)
 IsSaid (Err stop) result = result ≡ Err stop
+
+-- a reply that was made, or a device that failed in it
+abbrev pub stop_of : Result Reply Failed → Result Reply Stop
+stop_of (Ok reply) = Ok reply
+stop_of (Err failed) = Err stop.Shelf
 
 -- what is said to a line outside a section: one reply, or none
 abbrev pub said_of : Option Reply → List Said

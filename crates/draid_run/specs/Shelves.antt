@@ -2,7 +2,6 @@
 use Rattle.std.specs.Prelude.{◌≡◌, ◌<◌, ◌+◌, ◌⊎◌, ◌++◌, ⊤, ℕ, Bool, List, ◌∷◌, Option, Some, None, Result, Ok, Err, IsSomeAnd, MatchOption, is_some, slice_get}
 use Rattle.draid_record.specs.declared.fault.RecordFaultKind.{RecordFaultKind}
 use Rattle.draid_names.specs.Faults.{Rose}
-use Rattle.draid_rack.specs.Rack.{Shape}
 use Rattle.draid_rack.specs.declared.Rack as racks
 use Rattle.draid_area.specs.declared.Area as areas
 use Rattle.draid_spec.specs.declared.layout.Geometry.{Geometry}
@@ -10,43 +9,21 @@ use Rattle.draid_lines.specs.Lines.{lines_of}
 use Rattle.draid_script.specs.Grammar.{line_of}
 use Rattle.draid_script.specs.Line.{Command, CreatePool, ImportPool}
 use Rattle.draid_script.specs.declared.fault.LineFault.{LineFault}
-use Rattle.draid_shelf.specs.Kits.{AreNewChecks, Held, KitCounts, OnHeld}
-use Rattle.draid_shelf.specs.declared.Shelf as shelves
+use Rattle.draid_shelf.specs.Kits.{AreNewChecks, Held, OnHeld}
 use Rattle.draid_session.specs.Certain.{MakesLeaves}
 use Rattle.draid_session.specs.Session.{Desk, Finding, Fault, Nothing, Untouched, Bare, Made, Open, Shut, Foreign, Unknown, HasLayout}
 use Rattle.draid_session.specs.Session as finding
 use Rattle.draid_session.specs.State.{Metaslab, State}
-use Rattle.draid_pool.specs.Returning.{HoldsPool, OwnCounts, SameCounts, AreaFailed, RackFailed}
+use Rattle.draid_pool.specs.Returning.{HoldsPool, SameCounts, AreaFailed, RackFailed}
+use Rattle.draid_pool.specs.Shelves.{OnShelf}
 use Rattle.draid_pool.specs.Failing.{AreaFails, RackFails}
 use Rattle.draid_import.specs.Faulty.{HoldsNoGroup, RecordIsBad}
 use Rattle.draid_import.specs.Findings.{FindsPool}
 use Rattle.draid_import.specs.Found.{HasRisen}
 use Rattle.draid_pool.specs.Importable.{IsImportable}
-use Rattle.draid_pool.specs.Taking.{IsAsBefore}
-use Rattle.draid_create.specs.Opening.{NewPoolFailed, NoChecks, SameLeaves, StaysMade}
+use Rattle.draid_create.specs.Opening.{NoChecks, StaysMade}
+use Rattle.draid_create.specs.Says.{IsSame, MakingFailed}
 use Rattle.draid_pool.specs.declared.pool.Pool.{Pool}
-
--- What a shelf tells that it holds, the leaves of each metaslab's rack where they are known, and how often calls have failed: on the devices of each metaslab, on the
--- areas that aren't of a metaslab, and on itself.
-pub record OnShelf : Type 0 where
-  pub held : Option Held
-  pub leaves : ℕ → Option Shape
-  pub counts : ℕ → KitCounts
-  pub own : OwnCounts
-  pub faults : ℕ
-
-abbrev pub on_shelf : {H R A : Type 0} → shelves.Ghosts H R A → H → OnShelf
-on_shelf shelf x = record {
-  held = shelf.told x;
-  leaves = shelf.leaves x;
-  counts = shelf.counts x;
-  own = record { uber = shelf.uber_count x; checks = shelf.check_counts x };
-  faults = shelf.faults x;
-}
-
--- it holds just what it held
-abbrev pub IsSame : OnShelf → OnShelf → Type 0
-IsSame old new = IsAsBefore old.held new.held old.counts new.counts old.own new.own × SameLeaves old.leaves new.leaves
 
 -- the areas of the check records are held, as they were made
 abbrev pub HasChecks : Held → Type 0
@@ -173,10 +150,6 @@ MayMakeLeaves input =
 -- What shows on a shelf of a run that ended since a device failed: an area or the shelf itself has; or, where the input may make leaves, a rack.
 abbrev pub DeviceFailed : Option (List ℕ) → OnShelf → OnShelf → Type 0
 DeviceFailed input entry now = HasFailed entry now ⊎ (MayMakeLeaves input × RackFailedOn now)
-
--- A pool of this layout was to be made, and the shelf failed: its count rose, or it holds the new pool's devices, on an area of which a call has failed.
-abbrev pub MakingFailed : Geometry → OnShelf → OnShelf → Type 0
-MakingFailed geometry before now = Rose before.faults now.faults ⊎ NewPoolFailed geometry now.held now.leaves now.counts now.own
 
 -- What has failed in a command that found no pool open. In an import the shelf's count rose, or that of the uberblock's area, or that of an area of records of a metaslab
 -- that the uberblock names which the shelf held.

@@ -3,28 +3,22 @@ ghost use Rattle.std.specs.Prelude.{◌≡◌, ◌≤◌, None};
 ghost use Rattle.draid_script.specs.Line.{IsInRange, command_in};
 ghost use Rattle.std.specs.Fn.{FnReturnsAt};
 ghost use Rattle.draid_choose.specs.Rooms.{IsChooser};
-ghost use Rattle.draid_spec.specs.Spec.{IsSpec};
 ghost use Rattle.draid_session.specs.Choices.{choices_by};
-ghost use Rattle.draid_session.specs.Making.{props_of};
 ghost use Rattle.draid_session.specs.Session.{Desk};
 ghost use Rattle.draid_run.specs.Desks.{IsDesk, IsPool, asked_in};
-ghost use Rattle.draid_run.specs.Making.{CreateIs, MakeIs, UnmadeIs};
 ghost use Rattle.draid_run.specs.Serve.{AnswerIs, AskIs, IsSaid};
-ghost use Rattle.draid_run.specs.Shelves.{OnShelf, on_shelf};
+ghost use Rattle.draid_pool.specs.Shelves.{OnShelf, on_shelf};
 
-use crate::{groups, importing, replies};
+use crate::{closing, opening, replies};
 use draid_area::Area;
 use draid_choose::Chooser;
-use draid_create::CreateFault;
 use draid_names::{Failed, Room};
 use draid_pool::Pool;
 use draid_rack::Rack;
 use draid_record::RecordFaultKind;
 use draid_reply::Reply;
-use draid_script::{CommandName, Line, PoolKeys};
+use draid_script::{CommandName, Line};
 use draid_shelf::Shelf;
-use draid_spec::{Props, Spec, geometry, parse_spec};
-use draid_status::vdev_name;
 use std::alloc::Global;
 use std::thread::Threads;
 
@@ -41,100 +35,6 @@ pub(crate) enum Stop {
         at: u64,
         kind: RecordFaultKind,
     },
-}
-
-/// The properties that the keys of `create` name.
-fn props(keys: PoolKeys) -> Props
-    ensures { result ≡ props_of keys }
-{
-    Props {
-        sector: keys.sector,
-        height: keys.height,
-        metaslabs: keys.metaslabs,
-        slices: keys.slices,
-        seed: keys.seed,
-        version: keys.version,
-    }
-}
-
-/// What a `create` replies that makes no pool, or that it has no reply.
-fn unmade(fault: CreateFault) -> Result<Reply, Stop>
-    ensures { UnmadeIs fault result }
-{
-    match fault {
-        CreateFault::Spec(why) => Ok(Reply::CreateRefused { why }),
-        CreateFault::Shelf => Err(Stop::Shelf),
-        CreateFault::NoMemory => Ok(Reply::NoMemory {
-            command: CommandName::Create,
-        }),
-    }
-}
-
-/// Opens a new pool, where none is open.
-fn create<H: Shelf>(
-    alloc: Global,
-    shelf: &mut H,
-    pool: &mut Option<Pool<H::R, H::A>>,
-    text: &[u8],
-    children: u32,
-    keys: PoolKeys,
-) -> Result<Reply, Stop>
-    ensures answer { (entry : OnShelf) (x : Desk) → IsDesk H.R.Rack H.A.Area entry (on_shelf H.Shelf shelf.old) pool.old x
-        → CreateIs H.R.Rack H.A.Area text.now children keys entry (on_shelf H.Shelf shelf.old) x (on_shelf H.Shelf shelf.new) pool.new result }
-    ensures later { H.faults shelf.old ≤ H.faults shelf.new }
-{
-    if pool.is_some() {
-        return Ok(Reply::PoolOpen {
-            command: CommandName::Create,
-        });
-    }
-    let spec = match parse_spec(text, children, keys.version) {
-        Ok(spec) => spec,
-        Err(why) => return Ok(Reply::CreateRefused { why }),
-    };
-    match make(alloc, shelf, pool, spec, props(keys)) {
-        Ok(Made { name, stripes }) => Ok(Reply::Created { name, stripes }),
-        Err(fault) => unmade(fault),
-    }
-}
-
-/// A pool that was made: its name, and how many stripes it has.
-#[derive(Drop)]
-struct Made {
-    name: String,
-    stripes: u64,
-}
-
-/// Makes a new pool and opens it, where none is open. Its name comes first, since a pool without one would be in vain.
-fn make<H: Shelf>(
-    alloc: Global,
-    shelf: &mut H,
-    pool: &mut Option<Pool<H::R, H::A>>,
-    spec: Spec,
-    props: Props,
-) -> Result<Made, CreateFault>
-    requires spec { IsSpec props.version spec }
-    requires closed { pool.old ≡ None }
-    ensures makes { MakeIs H.R.Rack H.A.Area spec props (on_shelf H.Shelf shelf.old) (on_shelf H.Shelf shelf.new) pool.new result }
-    ensures later { H.faults shelf.old ≤ H.faults shelf.new }
-{
-    let layout = match geometry(spec, props) {
-        Ok(layout) => layout,
-        Err(why) => return Err(CreateFault::Spec(why)),
-    };
-    let Ok(name) = vdev_name(alloc, spec) else {
-        return Err(CreateFault::NoMemory);
-    };
-    match draid_create::create(alloc, shelf, spec, props) {
-        Ok(open) => {
-            *pool = Some(open);
-            Ok(Made {
-                name,
-                stripes: layout.pool_stripes(),
-            })
-        }
-        Err(fault) => Err(fault),
-    }
 }
 
 /// What a command replies that needs an open pool, where none is open.
@@ -166,6 +66,7 @@ fn asked(line: &Line) -> Option<CommandName>
         Line::Status { .. } => Some(CommandName::Status),
         Line::Detach { .. } => Some(CommandName::Detach),
         Line::Upgrade => Some(CommandName::Upgrade),
+        Line::Sync => Some(CommandName::Sync),
         _ => None,
     }
 }
@@ -228,11 +129,10 @@ pub(crate) fn answer<H: Shelf, F: Fn(&[Room]) -> Option<u32>>(
             spec,
             children,
             keys,
-        } => said(create(alloc, shelf, pool, spec, *children, *keys)),
-        Line::Import => said(importing::import(alloc, shelf, pool)),
-        Line::Sync => said(groups::sync(pool)),
-        Line::Export => said(groups::export(shelf, pool)),
-        Line::Crash => Ok(Some(groups::crash(shelf, pool))),
+        } => said(opening::create(alloc, shelf, pool, spec, *children, *keys)),
+        Line::Import => said(opening::import(alloc, shelf, pool)),
+        Line::Export => said(closing::export(shelf, pool)),
+        Line::Crash => Ok(Some(closing::crash(shelf, pool))),
         _ => said(ask(rt, alloc, pool, chooser, line)),
     }
 }

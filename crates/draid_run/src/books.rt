@@ -6,7 +6,8 @@ ghost use Rattle.draid_session.specs.Keeping.{Keeps};
 ghost use Rattle.draid_session.specs.Session.{Desk};
 ghost use Rattle.draid_run.specs.Books.{AreRuns, KeepBook, KeepsBook, OneRun};
 ghost use Rattle.draid_run.specs.Script.{RunIs};
-ghost use Rattle.draid_run.specs.Shelves.{HoldsBare, HoldsDesk, OnShelf};
+ghost use Rattle.draid_pool.specs.Shelves.{OnShelf};
+ghost use Rattle.draid_run.specs.Shelves.{HoldsBare, HoldsDesk};
 ghost use Rattle.draid_run.specs.declared.status.Status.{Status};
 
 use draid_area::Area;

@@ -11,7 +11,8 @@ ghost use Rattle.draid_session.specs.Reads.{ReadsAs};
 ghost use Rattle.draid_session.specs.Said.{Said, alone};
 ghost use Rattle.draid_session.specs.Session.{Desk, Foreign, Runs};
 ghost use Rattle.draid_run.specs.Spares.{AllSpare};
-ghost use Rattle.draid_run.specs.Shelves.{MayFind, OnShelf};
+ghost use Rattle.draid_pool.specs.Shelves.{OnShelf};
+ghost use Rattle.draid_run.specs.Shelves.{MayFind};
 
 use draid_area::Area;
 use draid_names::Room;

@@ -12,7 +12,8 @@ ghost use Rattle.draid_session.specs.Session.{Bare, Desk, KnowsShelf};
 ghost use Rattle.draid_run.specs.Ending.{CanRun, EndsWell, IsUndisturbed};
 ghost use Rattle.draid_run.specs.Next.{FindsAgain, IsFound, next_desk};
 ghost use Rattle.draid_run.specs.Script.{IsSession, RunsFrom};
-ghost use Rattle.draid_run.specs.Shelves.{HoldsDesk, MayFind, OnShelf, TellsAsBefore, on_shelf};
+ghost use Rattle.draid_pool.specs.Shelves.{OnShelf, on_shelf};
+ghost use Rattle.draid_run.specs.Shelves.{HoldsDesk, MayFind, TellsAsBefore};
 ghost use Rattle.draid_run.specs.declared.status.Status.{Status};
 
 use draid_area::Area;

@@ -4,10 +4,10 @@
 
 mod answer;
 mod books;
-mod groups;
-mod importing;
+mod closing;
 mod kept;
 mod laws;
+mod opening;
 mod rebalancing;
 mod replies;
 mod serve;

@@ -29,7 +29,7 @@ use draid_changes::{
 };
 use draid_choose::Chooser;
 use draid_names::{Failed, Room};
-use draid_pool::Pool;
+use draid_pool::{Pool, reply_to_sync};
 use draid_rack::Rack;
 use draid_reply::Reply;
 use draid_script::Line;
@@ -85,6 +85,7 @@ pub(crate) fn reply<R: Rack, A: Area, F: Fn(&[Room]) -> Option<u32>>(
         Line::Status { format } => Ok(reply_to_status(alloc, pool, *format)),
         Line::Detach { arm } => reply_to_detach(pool, *arm),
         Line::Upgrade => reply_to_upgrade(pool),
+        Line::Sync => reply_to_sync(pool),
         _ => unreachable!(),
     }
 }

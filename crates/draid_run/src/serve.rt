@@ -10,7 +10,8 @@ ghost use Rattle.draid_session.specs.Choices.{choices_by};
 ghost use Rattle.draid_session.specs.Session.{Desk};
 ghost use Rattle.draid_run.specs.Desks.{IsDesk, IsPool};
 ghost use Rattle.draid_run.specs.Serve.{LineIs, PrintIs, Served, TextIs, status_of};
-ghost use Rattle.draid_run.specs.Shelves.{HoldsDesk, OnShelf, on_shelf};
+ghost use Rattle.draid_pool.specs.Shelves.{OnShelf, on_shelf};
+ghost use Rattle.draid_run.specs.Shelves.{HoldsDesk};
 
 use crate::answer::{Stop, answer};
 use crate::status::{LineRefusal, Status};

@@ -6,7 +6,8 @@ ghost use Rattle.draid_session.specs.Choices.{choices_by};
 ghost use Rattle.draid_session.specs.Session.{Desk};
 ghost use Rattle.draid_run.specs.Desks.{IsDesk, IsPool, LeavesDesk};
 ghost use Rattle.draid_run.specs.Script.{EndsWithLine, Prints, RunIs};
-ghost use Rattle.draid_run.specs.Shelves.{DeviceFailed, OnShelf, on_shelf};
+ghost use Rattle.draid_pool.specs.Shelves.{OnShelf, on_shelf};
+ghost use Rattle.draid_run.specs.Shelves.{DeviceFailed};
 
 use crate::serve::serve;
 use crate::status::{Status, fixed_line, numbered_line};

@@ -6,4 +6,4 @@ mod replies;
 mod viewing;
 
 pub use replies::reply_to_status;
-pub use viewing::{vdev_name, view};
+pub use viewing::view;

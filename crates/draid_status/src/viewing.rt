@@ -1,6 +1,5 @@
 //! What `status` tells of an open pool.
-ghost use Rattle.std.specs.Prelude.{◌≡◌, IfOk, string_bytes};
-ghost use Rattle.draid_session.specs.Making.{vdev_name_of};
+ghost use Rattle.std.specs.Prelude.{IfOk};
 ghost use Rattle.draid_session.specs.State.{State};
 ghost use Rattle.draid_session.specs.Status.{IsPoolView};
 ghost use Rattle.draid_pool.specs.Pools.{Represents};
@@ -9,21 +8,10 @@ ghost use Rattle.draid_pool.specs.Whole.{IsWhole};
 
 use draid_area::Area;
 use draid_names::NoMemory;
-use draid_pool::Pool;
+use draid_pool::{Pool, vdev_name};
 use draid_rack::Rack;
 use draid_report::View;
-use draid_spec::{Spec, spec_name};
 use draid_views::{last_open_group, metaslab_views, slot_views};
-use std::alloc::Global;
-
-/// The name of a pool's vdev: its spec in full, and the number of the vdev, which is the only one.
-pub fn vdev_name(alloc: Global, spec: Spec) -> Result<String, NoMemory>
-    ensures { IfOk result (λ name. string_bytes name ≡ vdev_name_of spec) }
-{
-    let mut name = spec_name(alloc, spec)?;
-    name.push_str("-0")?;
-    Ok(name)
-}
 
 /// What `status` tells of the pool.
 pub fn view<R: Rack, A: Area>(pool: &Pool<R, A>) -> Result<View, NoMemory>

@@ -5,21 +5,13 @@ use Rattle.draid_session.specs.Said.{alone}
 use Rattle.draid_script.specs.Line.{CreatePool, command_in}
 use Rattle.draid_script.specs.declared.line.Line.{Line}
 use Rattle.draid_run.specs.Desks.{Turned}
-use Rattle.draid_run.specs.Shelves.{on_shelf}
+use Rattle.draid_pool.specs.Shelves.{on_shelf}
 use Rattle.draid_run.specs.Serve.{AnswerIs}
 use Rattle.draid_run.proofs.Asking.{answer_ask, answer_create, is_unbuilt, turned_silent}
 use Rattle.draid_run.proofs.Exits.{same_later}
-use Rattle.draid_run.proofs.Grouping.{answer_export, answer_sync, by_crash}
+use Rattle.draid_run.proofs.Closings.{answer_export, by_crash}
 use Rattle.draid_run.proofs.Importings.{answer_import}
 use Rattle.draid_run.proofs.answer.answer.Goals as goal
-
-pub returns-in-Sync : goal.returns-in-Sync
-returns-in-Sync g c = record {
-  answer = λ entry x desk.
-      subst (λ (l : Line). AnswerIs g.H.R.Rack g.H.A.Area (choices_by (FnReturnsAt g.F.Fn c.args.chooser.now)) (command_in l) entry (on_shelf g.H.Shelf c.args.shelf.now) c.args.pool.now x (on_shelf g.H.Shelf c.args.shelf.now) c.sync.new.pool c.said-in-Sync.result) (sym c.in-Sync.is)
-      (answer_sync g.H.R.Rack g.H.A.Area (choices_by (FnReturnsAt g.F.Fn c.args.chooser.now)) entry (on_shelf g.H.Shelf c.args.shelf.now) (on_shelf g.H.Shelf c.args.shelf.now) c.args.pool.now x c.sync.new.pool c.sync.result c.said-in-Sync.result c.said-in-Sync.ensures refl desk (c.sync.ensures.did x desk.stands));
-  later = same_later (g.H.Shelf.faults c.args.shelf.now);
-}
 
 pub returns-in-Export : goal.returns-in-Export
 returns-in-Export g c = record {
@@ -49,7 +41,7 @@ pub returns-in_default : goal.returns-in_default
 returns-in_default g c = record {
   answer = λ entry x desk.
       answer_ask g.H.R.Rack g.H.A.Area (choices_by (FnReturnsAt g.F.Fn c.args.chooser.now)) entry (on_shelf g.H.Shelf c.args.shelf.now) c.args.pool.now x desk (command_in c.args.line.now)
-      (is_unbuilt c.args.line.now c.in_default.not-Nothing c.in_default.not-Create c.in_default.not-Import c.in_default.not-Export c.in_default.not-Sync c.in_default.not-Crash)
+      (is_unbuilt c.args.line.now c.in_default.not-Nothing c.in_default.not-Create c.in_default.not-Import c.in_default.not-Export c.in_default.not-Crash)
       c.ask.new.pool c.ask.result c.said-in_default.result c.said-in_default.ensures (c.ask.ensures.did x desk.stands);
   later = same_later (g.H.Shelf.faults c.args.shelf.now);
 }
@@ -62,9 +54,6 @@ returns-in-Create g c = record {
       (answer_create g.H.R.Rack g.H.A.Area (choices_by (FnReturnsAt g.F.Fn c.args.chooser.now)) entry (on_shelf g.H.Shelf c.args.shelf.now) (on_shelf g.H.Shelf c.create.new.shelf) c.args.pool.now x c.create.new.pool c.deref.result.now c.in-Create.children c.in-Create.keys c.create.result c.said.result c.said.ensures (c.create.ensures.answer entry x desk));
   later = c.create.ensures.later;
 }
-
-pub sync-requires : goal.sync-requires
-sync-requires g c = record { desk = c.requires.desk }
 
 pub returns-in-Nothing : goal.returns-in-Nothing
 returns-in-Nothing g c = record {

@@ -32,6 +32,9 @@ returns-in-Detach c = sym (ap (λ (l : Line). asked_in (command_in l)) c.in-Deta
 pub returns-in-Upgrade : goal.returns-in-Upgrade
 returns-in-Upgrade c = sym (ap (λ (l : Line). asked_in (command_in l)) c.in-Upgrade.is)
 
+pub returns-in-Sync : goal.returns-in-Sync
+returns-in-Sync c = sym (ap (λ (l : Line). asked_in (command_in l)) c.in-Sync.is)
+
 pub returns-in-Rebuild : goal.returns-in-Rebuild
 returns-in-Rebuild c = sym (ap (λ (l : Line). asked_in (command_in l)) c.in-Rebuild.is)
 
@@ -46,4 +49,4 @@ returns-in-Cancel c = sym (ap (λ (l : Line). asked_in (command_in l)) c.in-Canc
 
 pub returns-in_default : goal.returns-in_default
 returns-in_default c =
-    sym (asks_nothing c.args.line.now c.in_default.not-Write c.in_default.not-Fill c.in_default.not-Read c.in_default.not-Free c.in_default.not-Sum c.in_default.not-Offline c.in_default.not-Online c.in_default.not-Damage c.in_default.not-Spare c.in_default.not-Replace c.in_default.not-Status c.in_default.not-Detach c.in_default.not-Upgrade c.in_default.not-Rebuild c.in_default.not-Scrub c.in_default.not-Cancel c.in_default.not-Rebalance)
+    sym (asks_nothing c.args.line.now c.in_default.not-Write c.in_default.not-Fill c.in_default.not-Read c.in_default.not-Free c.in_default.not-Sum c.in_default.not-Offline c.in_default.not-Online c.in_default.not-Damage c.in_default.not-Spare c.in_default.not-Replace c.in_default.not-Status c.in_default.not-Detach c.in_default.not-Upgrade c.in_default.not-Rebuild c.in_default.not-Scrub c.in_default.not-Cancel c.in_default.not-Rebalance c.in_default.not-Sync)

@@ -1,7 +1,7 @@
 use Rattle.std.proofs.Common.{◌∙◌, inl, inr, true, false, IfOk, ap, refl, subst, sym}
 use Rattle.std.specs.Fn.{FnReturnsAt}
 use Rattle.draid_session.specs.Choices.{choices_by}
-use Rattle.draid_script.specs.Line.{AttachSpare, FillObjects, IsInRange, TakeOffline, TakeOnline, DetachArm, UpgradePool, WriteObject, command_in, RebuildPool, ScrubPool, RebalanceSlot, ReplaceDisk, CancelPasses}
+use Rattle.draid_script.specs.Line.{AttachSpare, FillObjects, IsInRange, TakeOffline, TakeOnline, DetachArm, SyncPool, UpgradePool, WriteObject, command_in, RebuildPool, ScrubPool, RebalanceSlot, ReplaceDisk, CancelPasses}
 use Rattle.draid_session.specs.Replies.{IsReplyTo}
 use Rattle.draid_pool.specs.Knows.{Teaches}
 use Rattle.draid_pool.proofs.Rises.{rose_fails}
@@ -10,7 +10,7 @@ use Rattle.draid_session.specs.Certain.{MakesLeaves}
 use Rattle.draid_session.specs.Session.{MayBreak}
 use Rattle.draid_changes.specs.Behind.{ArmsBehind}
 use Rattle.draid_visits.specs.Behind.{PassesBehind}
-use Rattle.draid_run.proofs.Asking.{asks_nothing, each_reply, replied_as, replied_damage, replied_detach, replied_free, replied_read, replied_spare, replied_status, replied_sum, replied_switch, replied_upgrade, replied_replace, replied_cancel, replied_rebalance, replied_rebuild, replied_scrub}
+use Rattle.draid_run.proofs.Asking.{asks_nothing, each_reply, replied_as, replied_damage, replied_detach, replied_free, replied_read, replied_spare, replied_status, replied_sync, replied_sum, replied_switch, replied_upgrade, replied_replace, replied_cancel, replied_rebalance, replied_rebuild, replied_scrub}
 use Rattle.draid_run.proofs.replies.reply.Goals as goal
 
 pub returns-in-Write : goal.returns-in-Write
@@ -170,6 +170,21 @@ returns-in-Upgrade g c =
       step = λ x rep. replied_upgrade g.R.Rack g.A.Area (choices_by (FnReturnsAt g.F.Fn c.args.chooser.now)) c.args.line.now x c.reply_to_upgrade.new.pool c.reply_to_upgrade.result c.in-Upgrade.is (e.step x rep);
     }
 
+pub returns-in-Sync : goal.returns-in-Sync
+returns-in-Sync g c =
+    let e = c.reply_to_sync.ensures in
+    let is = ap command_in c.in-Sync.is in
+    record {
+      whole = e.whole;
+      fits = subst (λ k. IfOk c.reply_to_sync.result (IsReplyTo k)) (sym is) e.fits;
+      knows = subst (λ k. IfOk c.reply_to_sync.result (λ reply. Teaches k reply c.args.pool.now c.reply_to_sync.new.pool)) (sym is)
+          (each_reply c.reply_to_sync.result (λ reply. Teaches SyncPool reply c.args.pool.now c.reply_to_sync.new.pool) (λ reply. teaches_nothing SyncPool reply (λ known. refl) c.args.pool.now c.reply_to_sync.new.pool e.same));
+      arms = subst (λ k. IfOk c.reply_to_sync.result (λ reply. ArmsBehind k reply c.reply_to_sync.new.pool)) (sym is) (each_reply c.reply_to_sync.result (λ reply. ArmsBehind SyncPool reply c.reply_to_sync.new.pool) (λ reply. tt));
+      passes = subst (λ k. IfOk c.reply_to_sync.result (λ reply. PassesBehind k reply c.reply_to_sync.new.pool)) (sym is) (each_reply c.reply_to_sync.result (λ reply. PassesBehind SyncPool reply c.reply_to_sync.new.pool) (λ reply. tt));
+      breaks = λ failed. (subst MayBreak (sym is) tt, inl (rose_fails g.A.Area.faults c.args.pool.now c.reply_to_sync.new.pool (e.cause failed)), e.same);
+      step = λ x rep. replied_sync g.R.Rack g.A.Area (choices_by (FnReturnsAt g.F.Fn c.args.chooser.now)) c.args.line.now x c.reply_to_sync.new.pool c.reply_to_sync.result c.in-Sync.is (e.step x rep);
+    }
+
 pub returns-in-Rebuild : goal.returns-in-Rebuild
 returns-in-Rebuild g c =
     let e = c.reply_to_rebuild.ensures in
@@ -251,7 +266,7 @@ returns-in-Status g c = record {
 
 pub unreachable-requires : goal.unreachable-requires
 unreachable-requires g c =
-    c.requires.asks (asks_nothing c.args.line.now c.in_default.not-Write c.in_default.not-Fill c.in_default.not-Read c.in_default.not-Free c.in_default.not-Sum c.in_default.not-Offline c.in_default.not-Online c.in_default.not-Damage c.in_default.not-Spare c.in_default.not-Replace c.in_default.not-Status c.in_default.not-Detach c.in_default.not-Upgrade c.in_default.not-Rebuild c.in_default.not-Scrub c.in_default.not-Cancel c.in_default.not-Rebalance)
+    c.requires.asks (asks_nothing c.args.line.now c.in_default.not-Write c.in_default.not-Fill c.in_default.not-Read c.in_default.not-Free c.in_default.not-Sum c.in_default.not-Offline c.in_default.not-Online c.in_default.not-Damage c.in_default.not-Spare c.in_default.not-Replace c.in_default.not-Status c.in_default.not-Detach c.in_default.not-Upgrade c.in_default.not-Rebuild c.in_default.not-Scrub c.in_default.not-Cancel c.in_default.not-Rebalance c.in_default.not-Sync)
 
 pub reply_to_write-requires-clause-range : goal.reply_to_write-requires-clause-range
 reply_to_write-requires-clause-range g c = subst IsInRange (ap command_in c.in-Write.is ∙ ap (WriteObject c.in-Write.object) (sym c.deref.ensures.value)) c.requires.range
@@ -312,6 +327,9 @@ reply_to_replace-requires g c = record { whole = c.requires.whole }
 
 pub reply_to_spare-requires : goal.reply_to_spare-requires
 reply_to_spare-requires g c = record { whole = c.requires.whole }
+
+pub reply_to_sync-requires : goal.reply_to_sync-requires
+reply_to_sync-requires g c = record { whole = c.requires.whole }
 
 pub reply_to_upgrade-requires : goal.reply_to_upgrade-requires
 reply_to_upgrade-requires g c = record { whole = c.requires.whole }

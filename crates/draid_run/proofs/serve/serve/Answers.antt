@@ -3,7 +3,7 @@ use Rattle.std.specs.Fn.{FnReturnsAt}
 use Rattle.draid_session.specs.Choices.{choices_by}
 use Rattle.draid_lines.specs.Lines.{Rest}
 use Rattle.draid_session.specs.Session.{Untouched}
-use Rattle.draid_run.specs.Shelves.{on_shelf}
+use Rattle.draid_pool.specs.Shelves.{on_shelf}
 use Rattle.draid_run.specs.declared.status.Status.TheVariants.{Done, SinkFault, SourceFault}
 use Rattle.draid_run.proofs.Exits.{blameless, done_usage, later_on, rose_from, same_later}
 use Rattle.draid_run.proofs.Serving.{as_found, few_given, first_number, line_by, line_no_source, line_no_usage, next_number, served_done, served_line, served_unread, serving_more, serving_start, text_by, text_no_sink, text_no_usage, too_many}

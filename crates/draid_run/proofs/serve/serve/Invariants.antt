@@ -5,7 +5,8 @@ use Rattle.draid_session.specs.Choices.{choices_by}
 use Rattle.draid_lines.specs.Lines.{most_lines}
 use Rattle.draid_run.specs.Serve.{Serving}
 use Rattle.draid_session.specs.Session.{Desk}
-use Rattle.draid_run.specs.Shelves.{HoldsDesk, on_shelf}
+use Rattle.draid_pool.specs.Shelves.{on_shelf}
+use Rattle.draid_run.specs.Shelves.{HoldsDesk}
 use Rattle.draid_run.proofs.serve.serve.Given as goal
 
 -- the lines so far were answered, and as many were given

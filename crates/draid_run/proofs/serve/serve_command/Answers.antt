@@ -5,7 +5,7 @@ use Rattle.draid_session.specs.Said.{alone}
 use Rattle.draid_script.specs.Line.{command_in}
 use Rattle.draid_run.specs.Desks.{Turned}
 use Rattle.draid_run.specs.Serve.{AnswerIs}
-use Rattle.draid_run.specs.Shelves.{on_shelf}
+use Rattle.draid_pool.specs.Shelves.{on_shelf}
 use Rattle.draid_run.proofs.Exits.{done_cause, line_stopped, line_told, same_later, stop_cause}
 use Rattle.draid_run.proofs.Known.{appends_none}
 use Rattle.draid_run.proofs.serve.serve_command.Goals as goal

@@ -1,5 +1,5 @@
 use Rattle.std.proofs.Common.{refl}
-use Rattle.draid_run.specs.Shelves.{on_shelf}
+use Rattle.draid_pool.specs.Shelves.{on_shelf}
 use Rattle.draid_run.proofs.GivenBack.{leaves_open, leaves_shut, not_some}
 use Rattle.draid_run.proofs.Steps.{is_whole}
 use Rattle.draid_run.proofs.top.give_back.Goals as goal

@@ -2,7 +2,7 @@ use Rattle.std.proofs.Common.{◌∙◌, ap, refl, Err}
 use Rattle.std.specs.Fn.{FnReturnsAt}
 use Rattle.draid_session.specs.Choices.{choices_by}
 use Rattle.draid_session.specs.Session.{Untouched}
-use Rattle.draid_run.specs.Shelves.{on_shelf}
+use Rattle.draid_pool.specs.Shelves.{on_shelf}
 use Rattle.draid_run.proofs.Ended.{device_failed, run_refused, run_served, run_unread}
 use Rattle.draid_run.specs.declared.status.Status.TheVariants.{NoMemory, ShelfFault, SourceFault, Usage}
 use Rattle.draid_run.proofs.Exits.{blameless, later_on, later_same, same_later, sink_last, sink_since}

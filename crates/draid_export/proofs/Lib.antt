@@ -1,0 +1,4 @@
+mod Exports
+mod OnePass
+mod Replied
+mod Searches

@@ -1,0 +1,53 @@
+use Rattle.std.proofs.Common.{ℕ, refl, subst}
+use Rattle.draid_export.specs.Exporting.{FoundUnsynced}
+use Rattle.draid_pool.specs.declared.fault.SyncFault.TheVariants as sync
+use Rattle.draid_pool.specs.declared.fault.Synced.{Synced}
+use Rattle.draid_pool.proofs.Keeping.{all_arms_by, all_asked_by, all_stay, passes_by, racks_by}
+use Rattle.draid_pool.proofs.Rises.{err_on, areas_still}
+use Rattle.draid_export.proofs.Exports.{export_done, export_none, export_stops}
+use Rattle.draid_pool.proofs.Refusing.{no_refusal}
+use Rattle.draid_export.proofs.syncing.sync_for_export.Goals as goal
+
+pub returns-then-not-has_unsynced : goal.returns-then-not-has_unsynced
+returns-then-not-has_unsynced g c =
+    record {
+      whole = c.requires.whole;
+      same = λ o. refl;
+      later = areas_still g.A.Area.faults c.args.pool.now;
+      passes = passes_by g.R.Rack.faults c.args.pool.now c.args.pool.now (all_stay g.R.Rack.faults c.args.pool.now c.args.pool.now refl);
+      racks = racks_by g.R.Rack.faults c.args.pool.now c.args.pool.now (all_stay g.R.Rack.faults c.args.pool.now c.args.pool.now refl);
+      arms = all_arms_by g.R.Rack.faults c.args.pool.now c.args.pool.now (all_stay g.R.Rack.faults c.args.pool.now c.args.pool.now refl);
+      asked = all_asked_by g.R.Rack.faults c.args.pool.now c.args.pool.now (all_stay g.R.Rack.faults c.args.pool.now c.args.pool.now refl);
+      cause = λ is. absurd (no_refusal is);
+      carries = λ x is. export_none g.R.Rack g.A.Area c.args.pool.now x c.committed.result is (subst (FoundUnsynced c.args.pool.now.metaslabs.shards.items) c.if-not-has_unsynced.true c.has_unsynced.ensures.found) c.committed.ensures;
+    }
+
+pub returns-in-Ok : goal.returns-in-Ok
+returns-in-Ok g c =
+    record {
+      whole = c.in-Ok.ensures.whole;
+      same = c.in-Ok.ensures.same;
+      later = c.in-Ok.ensures.later;
+      passes = c.in-Ok.ensures.passes;
+      racks = c.in-Ok.ensures.racks;
+      arms = c.in-Ok.ensures.arms;
+      asked = c.in-Ok.ensures.asked;
+      cause = λ is. absurd (no_refusal is);
+      carries = λ x is. export_done g.R.Rack g.A.Area c.args.pool.now c.sync.new.self x c.in-Ok.synced is (subst (FoundUnsynced c.args.pool.now.metaslabs.shards.items) c.if-not-has_unsynced.false c.has_unsynced.ensures.found)
+          (c.in-Ok.ensures.carries x is);
+    }
+
+pub returns-in-Err : goal.returns-in-Err
+returns-in-Err g c =
+    record {
+      whole = c.in-Err.ensures.whole;
+      same = c.in-Err.ensures.same;
+      later = c.in-Err.ensures.later;
+      passes = c.in-Err.ensures.passes;
+      racks = c.in-Err.ensures.racks;
+      arms = c.in-Err.ensures.arms;
+      asked = c.in-Err.ensures.asked;
+      cause = λ is. c.in-Err.ensures.cause (err_on ℕ Synced c.in-Err.fault sync.Shelf is);
+      carries = λ x is. export_stops g.R.Rack g.A.Area c.args.pool.now c.sync.new.self x c.in-Err.fault is (subst (FoundUnsynced c.args.pool.now.metaslabs.shards.items) c.if-not-has_unsynced.false c.has_unsynced.ensures.found)
+          (c.in-Err.ensures.carries x is);
+    }

@@ -1,0 +1,31 @@
+use Rattle.std.proofs.Common.{◌∙◌, sym}
+use Rattle.draid_pool.specs.Shelves.{on_shelf}
+use Rattle.draid_run.proofs.Exits.{same_later}
+use Rattle.draid_run.proofs.Importings.{none_open}
+use Rattle.draid_run.proofs.Makings.{already_open, create_came, shut}
+use Rattle.draid_run.proofs.opening.create.Goals as goal
+
+pub returns-then-is_some : goal.returns-then-is_some
+returns-then-is_some g c = record {
+  answer = λ entry x desk. already_open g.H.R.Rack g.H.A.Area c.args.text.now c.args.children c.args.keys entry (on_shelf g.H.Shelf c.args.shelf.now) c.args.pool.now x (sym c.is_some.ensures ∙ c.if-is_some.true) desk;
+  later = same_later (g.H.Shelf.faults c.args.shelf.now);
+}
+
+pub returns-in-Ok : goal.returns-in-Ok
+returns-in-Ok g c = record {
+  answer = λ entry x desk.
+      create_came g.H.R.Rack g.H.A.Area c.args.text.now c.args.children c.args.keys entry (on_shelf g.H.Shelf c.args.shelf.now) (on_shelf g.H.Shelf c.reply_to_create.new.shelf) c.reply_to_create.new.pool x desk.shelf
+      (shut g.H.R.Rack g.H.A.Area c.args.pool.now x (sym c.is_some.ensures ∙ c.if-is_some.false) desk.stands) _ c.in-Ok.ensures.says;
+  later = c.reply_to_create.ensures.later;
+}
+
+pub returns-in-Err : goal.returns-in-Err
+returns-in-Err g c = record {
+  answer = λ entry x desk.
+      create_came g.H.R.Rack g.H.A.Area c.args.text.now c.args.children c.args.keys entry (on_shelf g.H.Shelf c.args.shelf.now) (on_shelf g.H.Shelf c.reply_to_create.new.shelf) c.reply_to_create.new.pool x desk.shelf
+      (shut g.H.R.Rack g.H.A.Area c.args.pool.now x (sym c.is_some.ensures ∙ c.if-is_some.false) desk.stands) _ c.in-Err.ensures.says;
+  later = c.reply_to_create.ensures.later;
+}
+
+pub reply_to_create-requires-clause-closed : goal.reply_to_create-requires-clause-closed
+reply_to_create-requires-clause-closed g c κs within = none_open c.args.pool.now (sym c.is_some.ensures ∙ c.if-is_some.false)
