@@ -1,6 +1,6 @@
 -- The steps of the switching of a leaf over metaslabs, and what a thread has behind them.
-use Rattle.std.proofs.Common.{◌≡◌, ◌<◌, ◌≤◌, ◌+◌, ◌∙◌, inl, inr, ℕ, Bool, true, false, Option, Some, None, Ok, Err, arith, refl, sym, ap, subst}
-use Rattle.std.specs.Prelude.{Result, IsTrue}
+use Rattle.std.proofs.Common.{◌≡◌, ◌<◌, ◌+◌, not, inl, inr, ℕ, Bool, true, false, Option, Some, Ok, Err, arith, refl, sym, subst}
+use Rattle.std.specs.Prelude.{Result}
 use Rattle.std.proofs.lemmas.Bool.{true≢false}
 use Rattle.draid_names.specs.declared.numbers.TheConstants.{LAST_NUMBER}
 use Rattle.draid_names.specs.declared.pointer.Pointer.{Pointer}
@@ -31,6 +31,15 @@ use Rattle.draid_changes.proofs.Calls.{leaf_shared, leaf_stays}
 use Rattle.draid_changes.proofs.LeafHolds.{reserve_quiet, switch_quiet}
 use Rattle.draid_changes.proofs.Leaves.{leaf_shared_in}
 use Rattle.draid_changes.proofs.SameArms.{ArmsAreThere}
+
+-- by a test of it that is turned round
+pub it_isnt : (b : Bool) → not b ≡ true → b ≡ false
+it_isnt true is = sym is
+it_isnt false is = refl
+
+pub it_is : (b : Bool) → not b ≡ false → b ≡ true
+it_is true is = refl
+it_is false is = sym is
 
 module _ {R A S : Type 0} (rack : racks.Ghosts R) (area : areas.Ghosts A) (last : S → ℕ → Option (Shard R A)) (went : S → ℕ → Shard R A → Shard R A → S → Type 0) (shared : Bool) (owns : ℕ → Bool) (count : ℕ) where
   -- ---- a group that closes has a number below the last
@@ -69,10 +78,10 @@ module _ {R A S : Type 0} (rack : racks.Ghosts R) (area : areas.Ghosts A) (last 
     -- it is an arm of none
     pub in_none : (leaf : ℕ) (offline : Bool) (a b : S) → AllSameArms (last b) → (h : HeldOnce rack area last went shared owns (SeesLeaf leaf false) a 0 b) → last b 0 ≡ Some h.after
         → EachIs count (Valid rack) (last b) → LeafIsIn count leaf offline (Err (armed.Slot slot.NoSuch)) (last b)
-    in_none leaf offline a b alike h first each = (refl, (λ m less. (let z = each m less in (z.0, z.1, (λ has. not (leaf_shared_in z.0.slots h.after.slots leaf (alike m 0 z.0 h.after z.1 first) has))))))
+    in_none leaf offline a b alike h first each = (refl, (λ m less. (let z = each m less in (z.0, z.1, (λ has. none (leaf_shared_in z.0.slots h.after.slots leaf (alike m 0 z.0 h.after z.1 first) has))))))
       where
-        not : IsLeafArm h.after.slots leaf → ⊥
-        not is = true≢false (sym (h.did.arm.1 (subst (λ (s : Shard R A). IsLeafArm s.slots leaf) h.did.same is)))
+        none : IsLeafArm h.after.slots leaf → ⊥
+        none is = true≢false (sym (h.did.arm.1 (subst (λ (s : Shard R A). IsLeafArm s.slots leaf) h.did.same is)))
 
     -- ---- what the thread has behind it
 

@@ -18,7 +18,7 @@ use Rattle.draid_machine.proofs.Small.{none_some}
 use Rattle.draid_segments.specs.Segments.{Pieces}
 use Rattle.draid_slots.specs.States.{name_of}
 use Rattle.draid_slots.specs.Table.{IsTable, SlotTable, arms_of}
-use Rattle.draid_shard.specs.Alike.{HaveSameArms, KeepsArms}
+use Rattle.draid_shard.specs.Alike.{HaveSameArms}
 use Rattle.draid_shard.specs.Part.{Part, layout_in}
 use Rattle.draid_shard.specs.States.{layout_by, part_of}
 use Rattle.draid_shard.specs.declared.shard.Shard.{Shard}

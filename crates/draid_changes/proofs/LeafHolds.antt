@@ -1,12 +1,11 @@
 -- What a change of a leaf does to a metaslab keeps to what every hold keeps to, and a thread that alone changes arms may do it.
-use Rattle.std.proofs.Common.{◌≡◌, ◌∙◌, ◌++◌, ◌<◌, arith, inl, ℕ, Bool, true, [], ◌∷◌, Option, Some, None, Ok, Err, MatchOption, refl, sym, ap, subst}
+use Rattle.std.proofs.Common.{◌≡◌, arith, inl, ℕ, Bool, true, [], Option, Some, None, Ok, MatchOption, refl}
 use Rattle.std.specs.Prelude.{Result}
 use Rattle.draid_rack.specs.declared.Rack as racks
 use Rattle.draid_area.specs.declared.Area as areas
 use Rattle.draid_segments.specs.Segments.{Pieces}
 use Rattle.draid_entries.specs.History.{reserved_of}
 use Rattle.draid_entries.specs.declared.history.ReserveFault.{ReserveFault}
-use Rattle.draid_shard.specs.Fits.{Valid}
 use Rattle.draid_shard.specs.Part.{Part, layout_in}
 use Rattle.draid_shard.specs.declared.shard.Shard.{Shard}
 use Rattle.draid_session.specs.Holds.{Did}

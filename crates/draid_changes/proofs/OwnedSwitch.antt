@@ -1,5 +1,5 @@
 -- A leaf that the only thread of a pool takes offline or online in all metaslabs, or that is refused.
-use Rattle.std.proofs.Common.{◌≡◌, ◌+◌, ◌∙◌, inl, inr, ℕ, zero, suc, Bool, true, false, Option, None, Some, Ok, Err, length, slice_set, arith, refl, sym, ap, subst}
+use Rattle.std.proofs.Common.{◌≡◌, ◌+◌, ◌∙◌, inl, inr, ℕ, zero, suc, Bool, true, false, None, Some, Ok, Err, length, slice_set, arith, refl, sym, ap, subst}
 use Rattle.std.specs.Prelude.{Result, IsErrOf, OnOk, slice_get}
 use Rattle.std.proofs.lemmas.Bool.{true≢false}
 use Rattle.draid_names.specs.declared.refusal.SlotFault.TheVariants as slot
@@ -7,13 +7,12 @@ use Rattle.draid_rack.specs.declared.Rack as racks
 use Rattle.draid_area.specs.declared.Area as areas
 use Rattle.draid_entries.specs.declared.history.ReserveFault.{ReserveFault}
 use Rattle.draid_entries.specs.declared.history.ReserveFault.TheVariants as reserve
-use Rattle.draid_slots.specs.Table.{IsTable}
 use Rattle.draid_shard.specs.declared.shard.Shard.{Shard}
 use Rattle.draid_shard.proofs.Changed.{arms_kept}
 use Rattle.draid_disks.specs.Disks.{IsLeafArm}
 use Rattle.draid_session.specs.Arms as arms
 use Rattle.draid_session.specs.Groups as groups
-use Rattle.draid_session.specs.Phases.{Starved, WasWorn, Went}
+use Rattle.draid_session.specs.Phases.{Starved, WasWorn}
 use Rattle.draid_session.specs.State.{State}
 use Rattle.draid_uber.specs.declared.uber.Uber.{Uber}
 use Rattle.draid_pool.specs.Carries.{CarriesOut}
@@ -34,7 +33,7 @@ use Rattle.draid_pool.proofs.SyncDone.{FinishDone, finish_all, finish_waits, set
 use Rattle.draid_pool.proofs.SyncSteps.{Came, came_none, whole_on}
 use Rattle.draid_changes.specs.Answers.{SwitchDoes}
 use Rattle.draid_changes.specs.Behind.{LeafIs}
-use Rattle.draid_changes.specs.Switching.{IsShortOf, ReservesEach, ReservesOne, SeesLeaf, SwitchesEach, SwitchesIn}
+use Rattle.draid_changes.specs.Switching.{IsShortOf, ReservesEach, ReservesOne, SeesLeaf, SwitchesAll, SwitchesEach, SwitchesIn}
 use Rattle.draid_changes.specs.Walks.{ChangedBelow, Reserves, Switches, end_of_reserving, events_at, switch_event}
 use Rattle.draid_changes.specs.declared.fault.ArmFault.{ArmFault}
 use Rattle.draid_changes.specs.declared.fault.ArmFault.TheVariants as armed
@@ -283,21 +282,26 @@ module _ {R A : Type 0} (rack : racks.Ghosts R) (area : areas.Ghosts A) where
         set : SameOwn l new
         set = record { geometry = refl; uber = refl; objects = refl; seq = refl; floor = refl }
 
+    switched_by : (mid b : Owned R A) (v : Uber A) → FinishesIn rack area left_by went_by false all count pool.metaslabs pool.uber (Some (Ok tt)) mid v → (result : Result Unit ArmFault)
+        → SwitchesAll rack area left_by went_by false all count leaf offline mid result b → SwitchDone pool (with_both rack area pool b v) leaf offline result
+    switched_by mid b v finishes (Ok done) (seen, late, look, reserves, switches) = switch mid seen late b v finishes look reserves switches
+    switched_by mid b v finishes (Err why) (inl (look, is)) = subst (λ a. SwitchDone pool (with_both rack area pool b v) leaf offline (Err a)) (sym is) (refuse mid b v finishes look)
+    switched_by mid b v finishes (Err why) (inr (seen, short, look, reserves, is)) = stop mid seen b v short why finishes look reserves is
+
     pub switch_all : (result : Result Unit ArmFault) (b : Owned R A) (v : Uber A) → SwitchesIn rack area left_by went_by false all count leaf offline pool.metaslabs pool.uber (Some result) b v
         → SwitchDone pool (with_both rack area pool b v) leaf offline result
-    switch_all (Ok done) b v (mid, finishes, seen, late, look, reserves, switches) = switch mid seen late b v finishes look reserves switches
-    switch_all (Err why) b v (inl (stop, finishes, is_for)) =
+    switch_all (Ok done) b v (mid, finishes, switches) = switched_by mid b v finishes (Ok done) switches
+    switch_all (Err why) b v (inl (first, finishes, is_for)) =
         let new = with_both rack area pool b v in
-        let f = finish_all rack area pool w (Err stop) b v finishes in
+        let f = finish_all rack area pool w (Err first) b v finishes in
         record {
           whole = f.whole;
           later = f.later;
-          cause = λ is. f.cause (ap Err (shelf_first stop why is_for (err_same why armed.Shelf is)));
-          carries = λ x is. unfinished rack area (λ g p. arms.NoLeaf g p leaf) (λ g p. arms.Switches g p (switch_event leaf offline)) new x stop why is_for (f.carries x is);
-          arms_are = leaf_unfinished rack area leaf offline stop why b.shards.items is_for;
+          cause = λ is. f.cause (ap Err (shelf_first first why is_for (err_same why armed.Shelf is)));
+          carries = λ x is. unfinished rack area (λ g p. arms.NoLeaf g p leaf) (λ g p. arms.Switches g p (switch_event leaf offline)) new x first why is_for (f.carries x is);
+          arms_are = leaf_unfinished rack area leaf offline first why b.shards.items is_for;
         }
-    switch_all (Err why) b v (inr (mid, finishes, inl (look, is))) = subst (λ a. SwitchDone pool (with_both rack area pool b v) leaf offline (Err a)) (sym is) (refuse mid b v finishes look)
-    switch_all (Err why) b v (inr (mid, finishes, inr (seen, short, look, reserves, is))) = stop mid seen b v short why finishes look reserves is
+    switch_all (Err why) b v (inr (mid, finishes, switches)) = switched_by mid b v finishes (Err why) switches
 
     pub switch_waits : (b : Owned R A) (v : Uber A) → SwitchesIn rack area left_by went_by false all count leaf offline pool.metaslabs pool.uber None b v → ⊥
     switch_waits b v finishes = finish_waits rack area pool w b v finishes

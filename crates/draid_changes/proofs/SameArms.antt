@@ -1,5 +1,5 @@
 -- All metaslabs have the same arms through the holds of a thread that alone changes arms.
-use Rattle.std.proofs.Common.{◌≡◌, ◌<◌, ◌≤◌, ◌+◌, ◌∙◌, inl, inr, ℕ, zero, suc, Bool, true, List, [], Option, Some, None, Ok, Err, arith, refl, sym, ap, subst, slice_index_or, if◌then◌else◌, eq-eqb, ne_eqb}
+use Rattle.std.proofs.Common.{◌≡◌, ◌<◌, ◌≤◌, ◌∙◌, inl, inr, ℕ, zero, suc, Bool, true, List, [], Option, Some, None, Ok, Err, arith, refl, sym, ap, subst, slice_index_or, if◌then◌else◌, eq-eqb, ne_eqb}
 use mathlib.Core.Logic.{dite}
 use native.Mathlib.Decide.{ℕ_discrete}
 use Rattle.std.specs.Prelude.{Result}
@@ -11,11 +11,10 @@ use Rattle.draid_machine.proofs.Small.{none_some}
 use Rattle.draid_entries.specs.declared.history.ReserveFault.{ReserveFault}
 use Rattle.draid_slots.specs.Table.{SlotTable, arms_of}
 use Rattle.draid_shard.specs.Alike.{AreSameArms, HaveSameArms}
-use Rattle.draid_shard.specs.Fits.{Valid}
 use Rattle.draid_shard.specs.declared.shard.Shard.{Shard}
 use Rattle.draid_shard.proofs.Changed.{arms_kept, same_arms}
 use Rattle.draid_uber.specs.declared.uber.Uber.{Uber}
-use Rattle.draid_pool.specs.Drifts.{Drifts, groups_number}
+use Rattle.draid_pool.specs.Drifts.{groups_number}
 use Rattle.draid_pool.specs.Grouping.{ClosesEach, ClosesIn, CommitsIn, FindsClosing, FinishesIn, SealsBy, SealsEach, SeesClosing, WaitsForWrites}
 use Rattle.draid_pool.specs.Keeping.{ArmsStay}
 use Rattle.draid_pool.specs.Rounds.{HeldEach, HeldOnce, NoneBeyond, StoppedBy}
@@ -152,19 +151,18 @@ module _ {R A S : Type 0} (rack : racks.Ghosts R) (area : areas.Ghosts A) (last 
 
     switched_upto : (n sum : ℕ) (a b : S) → HeldEach rack area last went shared owns (λ none x y. Switches rack leaf offline x y) n a sum b → AreSwitched n a b
     switched_upto zero sum a b each = record { below = λ m y less at. absurd (omega (arith, less)); others = λ m from. ap (λ s. last s m) each.0 }
-    switched_upto (suc n) sum a b (mid, some, more, each, once, adds) = record {
-      below = λ m y less at. dite (ℕ_discrete m n)
-          (λ same. (
-            once.shard,
-            sym (z.others m (omega (arith, same))) ∙ (ap (last mid) same ∙ once.there),
-            subst (WasSwitched once.shard) (some_same once.after y (sym (once_here (λ x y. Switches rack leaf offline x y) mid n b once) ∙ (ap (last b) (sym same) ∙ at))) (record { before = once.before; stays = drift_stays (λ x y. Switches rack leaf offline x y) mid n b once; switches = once.did }),
-          ))
-          (λ not. z.below m y (omega (arith, less, not)) (sym (once_other (λ x y. Switches rack leaf offline x y) mid n b once m not) ∙ at));
-      others = λ m from. once_other (λ x y. Switches rack leaf offline x y) mid n b once m (λ same. omega (arith, same, from)) ∙ z.others m (omega (arith, from));
-    }
-      where
-        z : AreSwitched n a mid
-        z = switched_upto n some a mid each
+    switched_upto (suc n) sum a b (mid, some, more, each, once, adds) =
+        let z = switched_upto n some a mid each in
+        record {
+          below = λ m y less at. dite (ℕ_discrete m n)
+              (λ same. (
+                once.shard,
+                sym (z.others m (omega (arith, same))) ∙ (ap (last mid) same ∙ once.there),
+                subst (WasSwitched once.shard) (some_same once.after y (sym (once_here (λ x y. Switches rack leaf offline x y) mid n b once) ∙ (ap (last b) (sym same) ∙ at))) (record { before = once.before; stays = drift_stays (λ x y. Switches rack leaf offline x y) mid n b once; switches = once.did }),
+              ))
+              (λ not. z.below m y (omega (arith, less, not)) (sym (once_other (λ x y. Switches rack leaf offline x y) mid n b once m not) ∙ at));
+          others = λ m from. once_other (λ x y. Switches rack leaf offline x y) mid n b once m (λ same. omega (arith, same, from)) ∙ z.others m (omega (arith, from));
+        }
 
     pub switches_alike : (count : ℕ) (a b : S) → NoneBeyond count (last a) → SwitchesEach rack area last went shared owns count leaf offline a b → AllSameArms (last a) → AllSameArms (last b)
     switches_alike count a b beyond each alike m n x y at there =

@@ -14,14 +14,14 @@ use Rattle.draid_shard.specs.Fits.{Valid}
 use Rattle.draid_shard.specs.States.{DoesNone}
 use Rattle.draid_shard.specs.declared.shard.Shard.{Shard}
 use Rattle.draid_slots.specs.Changes.{Keeps}
-use Rattle.draid_slots.specs.Table.{IsTable, SlotTable}
+use Rattle.draid_slots.specs.Table.{IsTable}
 use Rattle.draid_uber.specs.declared.uber.Uber.{Uber}
 use Rattle.draid_pool.specs.Grouping.{FinishesIn}
 use Rattle.draid_pool.specs.Rounds.{EachIs, HeldEach, HeldOnce, StoppedBy}
 use Rattle.draid_pool.specs.declared.fault.SyncFault.{SyncFault}
 use Rattle.draid_changes.specs.Answers.{IsFor}
 use Rattle.draid_changes.specs.Behind.{HasLeaf, IsSwitched}
-use Rattle.draid_changes.specs.Walks.{MaySwitch, Switches}
+use Rattle.draid_changes.specs.Walks.{Switches}
 use Rattle.draid_changes.specs.declared.fault.ArmFault.{ArmFault}
 use Rattle.draid_changes.specs.declared.fault.ArmFault.TheVariants as fault
 

@@ -5,7 +5,7 @@ use Rattle.draid_pool.specs.Drifts.{groups_number}
 use Rattle.draid_pool.proofs.LookKeeps.{same_keeps}
 use Rattle.draid_pool.proofs.RoundSteps.{each_stays, held_by}
 use Rattle.draid_changes.specs.Switching.{ReservesEach, SeesLeaf, SwitchesEach}
-use Rattle.draid_changes.proofs.ArmSteps.{in_none, may_switch_each}
+use Rattle.draid_changes.proofs.ArmSteps.{in_none, it_is, it_isnt, may_switch_each}
 use Rattle.draid_changes.proofs.SameArms.{alike_there, beyond_there, look_there, once_here, reserves_there, switches_alike, there_then}
 use Rattle.draid_changes.proofs.switching.switch_arm.Goals as goal
 
@@ -17,7 +17,7 @@ hold-op-requires-clause-may g c =
 pub returns-then-not-op : goal.returns-then-not-op
 returns-then-not-op g c =
     let h = c.hold-op.ensures.held in
-    let did : SeesLeaf c.args.leaf false h.before h.after = subst (λ out. SeesLeaf c.args.leaf out h.before h.after) c.if-not-op.true h.related in
+    let did : SeesLeaf c.args.leaf false h.before h.after = subst (λ out. SeesLeaf c.args.leaf out h.before h.after) (it_isnt c.hold-op.result.out c.if-not-op.true) h.related in
     let look = held_by g.R.Rack g.A.Area g.M.Metaslabs.last g.M.Metaslabs.went g.M.Metaslabs.shared (g.M.Metaslabs.owns c.args.metaslabs.now) (g.M.Metaslabs.owns c.args.metaslabs.now) refl (SeesLeaf c.args.leaf false) c.args.metaslabs.now 0 c.hold-op.new.self h.shard h.before h.after h.there h.drifts h.is h.went did in
     let go = look_there g.R.Rack g.A.Area g.M.Metaslabs.last g.M.Metaslabs.went g.M.Metaslabs.shared (g.M.Metaslabs.owns c.args.metaslabs.now) c.requires.own c.args.leaf false c.args.metaslabs.now 0 c.hold-op.new.self look in
     let alike = alike_there g.R.Rack g.A.Area g.M.Metaslabs.last g.M.Metaslabs.went g.M.Metaslabs.shared (g.M.Metaslabs.owns c.args.metaslabs.now) c.requires.own c.args.metaslabs.now c.hold-op.new.self go c.requires.alike in
@@ -41,7 +41,7 @@ reserve_each-requires g c =
 pub returns-in-Err-Worn : goal.returns-in-Err-Worn
 returns-in-Err-Worn g c =
     let h = c.hold-op.ensures.held in
-    let did : SeesLeaf c.args.leaf true h.before h.after = subst (λ out. SeesLeaf c.args.leaf out h.before h.after) c.if-not-op.false h.related in
+    let did : SeesLeaf c.args.leaf true h.before h.after = subst (λ out. SeesLeaf c.args.leaf out h.before h.after) (it_is c.hold-op.result.out c.if-not-op.false) h.related in
     let look = held_by g.R.Rack g.A.Area g.M.Metaslabs.last g.M.Metaslabs.went g.M.Metaslabs.shared (g.M.Metaslabs.owns c.args.metaslabs.now) (g.M.Metaslabs.owns c.args.metaslabs.now) refl (SeesLeaf c.args.leaf true) c.args.metaslabs.now 0 c.hold-op.new.self h.shard h.before h.after h.there h.drifts h.is h.went did in
     let go = look_there g.R.Rack g.A.Area g.M.Metaslabs.last g.M.Metaslabs.went g.M.Metaslabs.shared (g.M.Metaslabs.owns c.args.metaslabs.now) c.requires.own c.args.leaf true c.args.metaslabs.now 0 c.hold-op.new.self look in
     let alike = alike_there g.R.Rack g.A.Area g.M.Metaslabs.last g.M.Metaslabs.went g.M.Metaslabs.shared (g.M.Metaslabs.owns c.args.metaslabs.now) c.requires.own c.args.metaslabs.now c.hold-op.new.self go c.requires.alike in
@@ -62,7 +62,7 @@ returns-in-Err-Worn g c =
 pub returns-in-Err-NoMemory : goal.returns-in-Err-NoMemory
 returns-in-Err-NoMemory g c =
     let h = c.hold-op.ensures.held in
-    let did : SeesLeaf c.args.leaf true h.before h.after = subst (λ out. SeesLeaf c.args.leaf out h.before h.after) c.if-not-op.false h.related in
+    let did : SeesLeaf c.args.leaf true h.before h.after = subst (λ out. SeesLeaf c.args.leaf out h.before h.after) (it_is c.hold-op.result.out c.if-not-op.false) h.related in
     let look = held_by g.R.Rack g.A.Area g.M.Metaslabs.last g.M.Metaslabs.went g.M.Metaslabs.shared (g.M.Metaslabs.owns c.args.metaslabs.now) (g.M.Metaslabs.owns c.args.metaslabs.now) refl (SeesLeaf c.args.leaf true) c.args.metaslabs.now 0 c.hold-op.new.self h.shard h.before h.after h.there h.drifts h.is h.went did in
     let go = look_there g.R.Rack g.A.Area g.M.Metaslabs.last g.M.Metaslabs.went g.M.Metaslabs.shared (g.M.Metaslabs.owns c.args.metaslabs.now) c.requires.own c.args.leaf true c.args.metaslabs.now 0 c.hold-op.new.self look in
     let alike = alike_there g.R.Rack g.A.Area g.M.Metaslabs.last g.M.Metaslabs.went g.M.Metaslabs.shared (g.M.Metaslabs.owns c.args.metaslabs.now) c.requires.own c.args.metaslabs.now c.hold-op.new.self go c.requires.alike in
@@ -83,7 +83,7 @@ returns-in-Err-NoMemory g c =
 pub switch_each-requires : goal.switch_each-requires
 switch_each-requires g c =
     let h = c.hold-op.ensures.held in
-    let did : SeesLeaf c.args.leaf true h.before h.after = subst (λ out. SeesLeaf c.args.leaf out h.before h.after) c.if-not-op.false h.related in
+    let did : SeesLeaf c.args.leaf true h.before h.after = subst (λ out. SeesLeaf c.args.leaf out h.before h.after) (it_is c.hold-op.result.out c.if-not-op.false) h.related in
     let look = held_by g.R.Rack g.A.Area g.M.Metaslabs.last g.M.Metaslabs.went g.M.Metaslabs.shared (g.M.Metaslabs.owns c.args.metaslabs.now) (g.M.Metaslabs.owns c.args.metaslabs.now) refl (SeesLeaf c.args.leaf true) c.args.metaslabs.now 0 c.hold-op.new.self h.shard h.before h.after h.there h.drifts h.is h.went did in
     let go = look_there g.R.Rack g.A.Area g.M.Metaslabs.last g.M.Metaslabs.went g.M.Metaslabs.shared (g.M.Metaslabs.owns c.args.metaslabs.now) c.requires.own c.args.leaf true c.args.metaslabs.now 0 c.hold-op.new.self look in
     let alike = alike_there g.R.Rack g.A.Area g.M.Metaslabs.last g.M.Metaslabs.went g.M.Metaslabs.shared (g.M.Metaslabs.owns c.args.metaslabs.now) c.requires.own c.args.metaslabs.now c.hold-op.new.self go c.requires.alike in
@@ -101,7 +101,7 @@ switch_each-requires g c =
 pub returns : goal.returns
 returns g c =
     let h = c.hold-op.ensures.held in
-    let did : SeesLeaf c.args.leaf true h.before h.after = subst (λ out. SeesLeaf c.args.leaf out h.before h.after) c.if-not-op.false h.related in
+    let did : SeesLeaf c.args.leaf true h.before h.after = subst (λ out. SeesLeaf c.args.leaf out h.before h.after) (it_is c.hold-op.result.out c.if-not-op.false) h.related in
     let look = held_by g.R.Rack g.A.Area g.M.Metaslabs.last g.M.Metaslabs.went g.M.Metaslabs.shared (g.M.Metaslabs.owns c.args.metaslabs.now) (g.M.Metaslabs.owns c.args.metaslabs.now) refl (SeesLeaf c.args.leaf true) c.args.metaslabs.now 0 c.hold-op.new.self h.shard h.before h.after h.there h.drifts h.is h.went did in
     let go = look_there g.R.Rack g.A.Area g.M.Metaslabs.last g.M.Metaslabs.went g.M.Metaslabs.shared (g.M.Metaslabs.owns c.args.metaslabs.now) c.requires.own c.args.leaf true c.args.metaslabs.now 0 c.hold-op.new.self look in
     let alike = alike_there g.R.Rack g.A.Area g.M.Metaslabs.last g.M.Metaslabs.went g.M.Metaslabs.shared (g.M.Metaslabs.owns c.args.metaslabs.now) c.requires.own c.args.metaslabs.now c.hold-op.new.self go c.requires.alike in

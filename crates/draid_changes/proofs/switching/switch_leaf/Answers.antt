@@ -1,10 +1,7 @@
-use Rattle.std.proofs.Common.{◌≡◌, ◌∙◌, ℕ, Bool, None, Some, Ok, Err, inl, inr, ap, refl, subst}
-use Rattle.std.specs.Prelude.{Result}
+use Rattle.std.proofs.Common.{◌∙◌, ℕ, Bool, None, Some, Ok, Err, inl, ap, subst}
 use Rattle.draid_pool.specs.Drifts.{groups_number}
 use Rattle.draid_pool.specs.Grouping.{FinishesIn}
-use Rattle.draid_pool.specs.declared.fault.SyncFault.TheVariants as sync
-use Rattle.draid_changes.specs.Switching.{SwitchesAll, SwitchesIn}
-use Rattle.draid_changes.specs.declared.fault.ArmFault.{ArmFault}
+use Rattle.draid_changes.specs.Switching.{SwitchesAll}
 use Rattle.draid_changes.proofs.ArmSteps.{finish_not_last, leaf_unfinished_in, switch_readies, switch_whole, switches_in}
 use Rattle.draid_changes.proofs.SameArms.{alike_there, finish_there}
 use Rattle.draid_changes.proofs.switching.switch_leaf.Goals as goal
