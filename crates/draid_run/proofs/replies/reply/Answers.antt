@@ -9,6 +9,7 @@ use Rattle.draid_pool.proofs.Taught.{teaches_nothing}
 use Rattle.draid_session.specs.Certain.{MakesLeaves}
 use Rattle.draid_session.specs.Session.{MayBreak}
 use Rattle.draid_changes.specs.Behind.{ArmsBehind}
+use Rattle.draid_changes.proofs.Made.{rack_fails}
 use Rattle.draid_visits.specs.Behind.{PassesBehind}
 use Rattle.draid_run.proofs.Asking.{asks_nothing, each_reply, replied_as, replied_damage, replied_detach, replied_free, replied_read, replied_spare, replied_status, replied_sync, replied_sum, replied_switch, replied_upgrade, replied_replace, replied_cancel, replied_rebalance, replied_rebuild, replied_scrub}
 use Rattle.draid_run.proofs.replies.reply.Goals as goal
@@ -132,7 +133,7 @@ returns-in-Replace g c =
         subst MayBreak (sym is) tt,
         (elim (e.cause failed) [
           | inl rose ↦ inl (rose_fails g.A.Area.faults c.args.pool.now c.reply_to_replace.new.pool rose)
-          | inr fails ↦ inr (subst MakesLeaves (sym is) tt, fails)
+          | inr rose ↦ inr (subst MakesLeaves (sym is) tt, rack_fails g.R.Rack.faults c.args.pool.now c.reply_to_replace.new.pool rose)
         ]),
         e.same,
       );
