@@ -1,5 +1,5 @@
 -- An export makes all safe, by a sync where a metaslab has something that isn't.
-use Rattle.std.proofs.Common.{◌≡◌, ◌++◌, ◌∙◌, [], ◌∷◌, inl, inr, ℕ, true, false, Some, Ok, Err, arith, refl, ap}
+use Rattle.std.proofs.Common.{◌≡◌, ◌+◌, ◌++◌, ◌∙◌, [], ◌∷◌, inl, inr, ℕ, true, false, Some, Ok, Err, arith, refl, ap}
 use Rattle.std.specs.Prelude.{◌↔◌, Bool, slice_get}
 use Rattle.std.proofs.lemmas.Option.{slice_get_within}
 use Rattle.draid_rack.specs.declared.Rack as racks

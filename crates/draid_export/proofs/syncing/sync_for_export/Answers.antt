@@ -19,7 +19,7 @@ returns-then-not-has_unsynced g c =
       arms = all_arms_by g.R.Rack.faults c.args.pool.now c.args.pool.now (all_stay g.R.Rack.faults c.args.pool.now c.args.pool.now refl);
       asked = all_asked_by g.R.Rack.faults c.args.pool.now c.args.pool.now (all_stay g.R.Rack.faults c.args.pool.now c.args.pool.now refl);
       cause = λ is. absurd (no_refusal is);
-      carries = λ x is. export_none g.R.Rack g.A.Area c.args.pool.now x c.committed.result is (subst (FoundUnsynced c.args.pool.now.metaslabs.shards.items) c.if-not-has_unsynced.true c.has_unsynced.ensures.found) c.committed.ensures;
+      carries = λ x is. export_none g.R.Rack g.A.Area c.args.pool.now x c.committed.result is (subst (FoundUnsynced c.args.pool.now.metaslabs.shards.items) c.if-not-has_unsynced.true c.has_unsynced.ensures.found) c.committed.ensures.group;
     }
 
 pub returns-in-Ok : goal.returns-in-Ok
