@@ -2,6 +2,7 @@
 use Rattle.std.proofs.Common.{◌≡◌, ◌==◌, ◌%◌, ◌+◌, ◌&&◌, ◌++◌, ◌∙◌, not, ℕ, Bool, true, false, List, [], ◌∷◌, Option, Some, None, Result, Ok, Err, refl, sym, ap, subst, if◌then◌else◌}
 use Rattle.std.specs.Prelude.{IsSome, find, option_map, unwrap_or}
 use Rattle.std.specs.Option.{option_or}
+use Rattle.draid_record.specs.declared.fault.RecordFaultKind.{RecordFaultKind}
 use Rattle.draid_names.specs.declared.arm.ArmKind.{ArmKind}
 use Rattle.draid_names.specs.declared.arm.ArmKind.TheVariants as kind
 use Rattle.draid_area.specs.Area.{Content}
@@ -125,7 +126,7 @@ module _ (x : State) (m : ℕ) (pieces : Pieces) (y : Metaslab) (kit : KitTold) 
           (leaves n (subst (λ (i : machine.Image). IsSome (i.core.arm (Leaf n))) has.says (arm_some (find (has_name (Leaf n)) (all_arms has.value.slots)) some)))
 
   -- so that no fault of it is an answer
-  pub not_refused : (new : Kit R A) (place k : ℕ) → OpenIsRefused rack area.faults area.told x.geometry m old new group next (fault.Record place k) → ⊥
+  pub not_refused : (new : Kit R A) (place : ℕ) (k : RecordFaultKind) → OpenIsRefused rack area.faults area.told x.geometry m old new group next (fault.Record place k) → ⊥
   not_refused new place k r =
       let t = kit_is (rack.told old.rack) (area.told old.even) (area.told old.odd) kit told in
       let bytes : (stable.area_of group kit.even kit.odd).bytes ≡ r.0 = of_told (group % 2 == 0) area.told old.even old.odd kit.even kit.odd (λ (c : Content). c.bytes ≡ r.0) t.even t.odd r.1 in

@@ -2,6 +2,7 @@
 use Rattle.std.proofs.Common.{arith, ◌≡◌, ◌<◌, ◌∙◌, ℕ, Option, Some, None, Err, sym, ap, subst}
 use Rattle.std.specs.Prelude.{IsSomeAnd}
 use Rattle.draid_area.specs.declared.Area as areas
+use Rattle.draid_record.specs.declared.fault.RecordFaultKind.{RecordFaultKind}
 use Rattle.draid_names.specs.declared.fault.DeviceFault.{DeviceFault}
 use Rattle.draid_names.specs.declared.fault.DeviceFault.TheVariants as device
 use Rattle.draid_rack.specs.Rack.{Shape}
@@ -54,7 +55,7 @@ known_leaves (Some s) shape P is h = subst P (sym is) h
 module _ {R A : Type 0} (rack : racks.Ghosts R) (area : areas.Ghosts A) (x : State) (pieces : ℕ → Pieces) (held : Held) (leaves : ℕ → Option Shape) (counts : ℕ → KitCounts) (count : ℕ)
     (there : RestsThere x pieces (Some held) leaves counts count) (uber : Uber A) (found : IsFoundUber area uber) (r : IsRecovered area (Some held) count uber) (b : FoundBody x uber) where
   -- a metaslab's record is opened
-  pub not_unread : (m : ℕ) → m < (layout_of uber).props.metaslabs → (old new : Kit R A) (place k : ℕ) → kit_of (rack.told old.rack) (area.told old.even) (area.told old.odd) ≡ held.kits m
+  pub not_unread : (m : ℕ) → m < (layout_of uber).props.metaslabs → (old new : Kit R A) (place : ℕ) (k : RecordFaultKind) → kit_of (rack.told old.rack) (area.told old.even) (area.told old.odd) ≡ held.kits m
       → IsKnown (leaves m) (rack.shape old.rack)
       → OpenIsRefused rack area.faults area.told (layout_of uber) m old new (group_of (kept_of uber)) (next_leaf_of uber) (open_why.Record place k) → ⊥
   not_unread m below old new place k told known refused =
