@@ -70,7 +70,7 @@ not_long input lines rest can is (inr full) =
 
 not_built : (line : Result Command LineFault) (why : LineRefusal) (at : ℕ) → IsBuilt line → LineFaultIs line why at → ⊥
 not_built (Ok command) why at built fault = built fault.0
-not_built (Err fault) why at built fault = built
+not_built (Err other) why at built fault = built
 
 -- ---- records
 
