@@ -136,8 +136,8 @@ fn chain(
     ChainEnd { holder, links }
 }
 
-/// The slot at the position of a spare.
-fn at_spare(geometry: &Geometry, perms: &Perms, slice: u64, spare: u32) -> u32
+/// The slot at the position of a spare in a slice of the pool.
+pub fn at_spare(geometry: &Geometry, perms: &Perms, slice: u64, spare: u32) -> u32
     requires geometry { IsGeometry geometry.now }
     requires children { children_of perms.now ≡ geometry.now.spec.children }
     requires spare { spare < geometry.now.spec.spares }

@@ -9,21 +9,22 @@ ghost use Rattle.draid_slots.specs.declared.slot.Slot.{Slot};
 ghost use Rattle.draid_slots.specs.Changes.{Attaches, ChangesArms, ChangesLog, Commits, Detaches, HasRoom, IsNew, IsOf, IsRoomier, IsSame, Keeps, SetsLog, freshened, switched};
 ghost use Rattle.draid_slots.specs.Faults.{IsAttachRefused, IsDetachRefused, IsSpareRefused, MayAttach, MayDetach};
 ghost use Rattle.draid_names.specs.Spares.{AreUsed, IsArm};
+ghost use Rattle.draid_chain.specs.Chain as chain;
 ghost use Rattle.draid_chain.specs.Chain.{holder_in};
 ghost use Rattle.draid_chain.specs.Used.{first_in};
 ghost use Rattle.draid_slots.specs.Moves.{ArePlaces, HasMoved, Lies, LiesElsewhere, ArmsWere, has_moved};
-ghost use Rattle.draid_slots.specs.Reading.{IsFirst, IsNone, IsRead, answers, answers_in, holder, is_clean_in, pool_slice};
-ghost use Rattle.draid_slots.specs.Table.{AreKept, AreSlots, IsArmOf, IsPaired, IsTable, IsThere, SlotTable, arm_at, arms_listed, arms_of, has_spare, holds_spare, is_leaving, is_leaving_online, is_logged, log_at, logs_listed, next_rooms, room_at, table_of};
+ghost use Rattle.draid_slots.specs.Reading.{IsFirst, IsNone, IsRead, answers, answers_in, holder, is_clean_in, pool_slice, spare_slot};
+ghost use Rattle.draid_slots.specs.Table.{AreKept, AreSlots, IsArmOf, IsPaired, IsTable, IsThere, SlotTable, arm_at, arms_listed, arms_of, first_spares, has_spare, holds_spare, is_leaving, is_leaving_online, is_logged, log_at, logs_listed, next_rooms, room_at, table_of};
 
 use crate::lists::{
     find_arm, last_slot_of, new_slots, reserve_next, reserve_slots, slot_with, slots_of, switch_all,
 };
 use crate::moved::{MOST_SPARES, Moved, Places, places_of};
 use crate::slot::{
-    Detached, MOST_ARMS, ReadArm, Slot, add_arm, first_leaf, has_leaf_beside, is_leaf, least_count,
-    remove_arm,
+    Detached, MOST_ARMS, ReadArm, Slot, add_arm, first_leaf, first_spare, has_leaf_beside, is_leaf,
+    least_count, remove_arm,
 };
-use draid_chain::{has_column, slice_holder};
+use draid_chain::{at_spare, has_column, slice_holder};
 use draid_dtl::Log;
 use draid_names::{Arm, ArmAt, ArmKind, At, NoMemory, SlotFault};
 use draid_perm::Perms;
@@ -402,9 +403,43 @@ impl Slots {
         if is_leaf(arm) {
             return arm;
         }
-        let places = self.places();
-        let child = self.spare_slot(&places, at.slot, arm.number as u32, slice);
+        let child = self.keeping_slot(at.slot, arm.number as u32, slice);
         first_leaf(&self.slots[child as usize].arms)
+    }
+
+    /// The slot whose first leaf keeps a slice for a spare arm of a slot: that at the spare's position, unless that has a
+    /// spare itself.
+    fn keeping_slot(&self, slot: u32, spare: u32, slice: u64) -> u32
+        requires arm { has_spare (arms_of self.now slot) spare ≡ true }
+        requires spare { spare < self.now.geometry.spec.spares }
+        requires slice { slice < self.now.geometry.props.slices }
+        ensures slot { result ≡ spare_slot self.now slot spare slice }
+        ensures below { result < self.now.geometry.spec.children }
+    {
+        let child = self.spare_child(spare, slice);
+        match self.first_spare_of(child) {
+            None => child,
+            Some(_) => self.spare_slot(&self.places(), slot, spare, slice),
+        }
+    }
+
+    /// The slot at a spare's position of a slice.
+    fn spare_child(&self, spare: u32, slice: u64) -> u32
+        requires spare { spare < self.now.geometry.spec.spares }
+        requires slice { slice < self.now.geometry.props.slices }
+        ensures slot { result ≡ chain.spare_slot self.now.perms (pool_slice self.now slice) spare }
+        ensures below { result < self.now.geometry.spec.children }
+    {
+        let before = u64::from(self.metaslab) * u64::from(self.geometry.props.slices);
+        at_spare(&self.geometry, &self.perms, before + slice, spare)
+    }
+
+    /// The first spare of a slot.
+    fn first_spare_of(&self, slot: u32) -> Option<u32>
+        requires slot { slot < self.now.geometry.spec.children }
+        ensures { result ≡ first_spares self.now slot }
+    {
+        first_spare(&self.slots[slot as usize].arms)
     }
 
     /// The first spare and the first leaf of each slot.

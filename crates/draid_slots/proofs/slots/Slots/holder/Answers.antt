@@ -2,12 +2,10 @@ use Rattle.draid_slots.proofs.Spares.{spares_below}
 use Rattle.std.proofs.Common.{◌≡◌, ◌<◌, ◌-◌, [], true, List, Some, length, map, get_or, arith, sym, ap, ◌∙◌, subst}
 use Rattle.std.specs.Prelude.{cond, vec_len, vec_capacity}
 use Rattle.std.proofs.lemmas.List.{get_or-map, length-map}
-use Rattle.draid_chain.specs.Chain.{holder_in}
-use Rattle.draid_chain.specs.Used.{first_in}
 use Rattle.draid_names.specs.declared.arm.Arm.{Arm}
 use Rattle.draid_slots.specs.declared.slot.Slot.{Slot}
-use Rattle.draid_slots.specs.Reading.{first_leaf, holder, holder_of, pool_slice, spare_slot}
-use Rattle.draid_slots.specs.Table.{IsThere, SlotTable, arms_in, arms_of, first_spares, has_leaf, has_spare, next_rooms, table_of}
+use Rattle.draid_slots.specs.Reading.{first_leaf, holder, holder_of, spare_slot}
+use Rattle.draid_slots.specs.Table.{IsThere, SlotTable, arms_in, arms_of, has_leaf, has_spare, next_rooms, table_of}
 use Rattle.draid_slots.proofs.Settled.{its_own}
 use Rattle.draid_slots.proofs.Tables.{IsPlace, arm_found, its_place, slot_there}
 use Rattle.draid_slots.proofs.slots.Slots.holder.Goals as goal
@@ -46,8 +44,8 @@ returns-then-is_leaf c =
     (ap (holder_of t c.args.at.slot c.args.slice) (arm_found slots c.args.at slot arm place c.index-arm.ensures)
     ∙ ap (λ b. cond b (Some arm) (first_leaf (arms_of t (spare_slot t c.args.at.slot arm.number c.args.slice)))) (sym c.is_leaf.ensures ∙ c.if-is_leaf.true))
 
-pub spare_slot-child-requires-clause-arm : goal.spare_slot-child-requires-clause-arm
-spare_slot-child-requires-clause-arm c =
+pub keeping_slot-child-requires-clause-arm : goal.keeping_slot-child-requires-clause-arm
+keeping_slot-child-requires-clause-arm c =
     let s = c.self.inside in
     let slots = s.slots.items in
     let slot : Slot = c.index.result.now in
@@ -55,8 +53,21 @@ spare_slot-child-requires-clause-arm c =
     let T : SlotTable → Type 0 = λ t. IsThere t c.args.at in
     let H : SlotTable → Type 0 = λ t. has_spare (arms_of t c.args.at.slot) arm.number ≡ true in
     let place : IsPlace slots c.args.at slot = its_place slots c.args.at slot c.self.invariant.paired (subst T (sym c.self.view_is) c.requires.there) c.index.ensures in
-    c.places-places.ensures.arms c.args.at.slot arm.number
-    (subst H c.self.view_is
+    subst H c.self.view_is
+    (ap (λ arms. has_spare arms arm.number) place.arms_are
+    ∙ its_own slot.arms.items c.args.at.arm arm place.arm_within c.index-arm.ensures (sym c.is_leaf.ensures ∙ c.if-is_leaf.false))
+
+pub keeping_slot-child-requires-clause-spare : goal.keeping_slot-child-requires-clause-spare
+keeping_slot-child-requires-clause-spare c =
+    let s = c.self.inside in
+    let slots = s.slots.items in
+    let slot : Slot = c.index.result.now in
+    let arm : Arm = c.index-arm.result.now in
+    let T : SlotTable → Type 0 = λ t. IsThere t c.args.at in
+    let B : SlotTable → Type 0 = λ t. arm.number < t.geometry.spec.spares in
+    let place : IsPlace slots c.args.at slot = its_place slots c.args.at slot c.self.invariant.paired (subst T (sym c.self.view_is) c.requires.there) c.index.ensures in
+    subst B c.self.view_is
+    (spares_below s.geometry (map arms_in slots) s.detached.items c.args.at.slot arm.number c.self.invariant.sound.slots
     (ap (λ arms. has_spare arms arm.number) place.arms_are
     ∙ its_own slot.arms.items c.args.at.arm arm place.arm_within c.index-arm.ensures (sym c.is_leaf.ensures ∙ c.if-is_leaf.false)))
 
@@ -65,13 +76,13 @@ first_leaf-requires c =
     let s = c.self.inside in
     let slots = s.slots.items in
     let sound = c.self.invariant.sound in
-    let N : SlotTable → Type 0 = λ t. c.spare_slot-child.result < t.geometry.spec.children in
-    let below : c.spare_slot-child.result < s.geometry.spec.children = subst N (sym c.self.view_is) c.spare_slot-child.ensures.below in
+    let N : SlotTable → Type 0 = λ t. c.keeping_slot-child.result < t.geometry.spec.children in
+    let below : c.keeping_slot-child.result < s.geometry.spec.children = subst N (sym c.self.view_is) c.keeping_slot-child.ensures.below in
     let many = sound.slots.children in
-    let within : c.spare_slot-child.result < length (map arms_in slots) = omega arith in
-    let is = sound.slots.each c.spare_slot-child.result [] within in
+    let within : c.keeping_slot-child.result < length (map arms_in slots) = omega arith in
+    let is = sound.slots.each c.keeping_slot-child.result [] within in
     let H : List Arm → Type 0 = λ arms. has_leaf arms ≡ true in
-    subst H (get_or-map arms_in slots c.spare_slot-child.result c.index-2.result.now [] (omega (arith, within, length-map slots arms_in)) ∙ ap arms_in (sym c.index-2.ensures) ∙ sym c.deref.ensures.value) is.leaf
+    subst H (get_or-map arms_in slots c.keeping_slot-child.result c.index-2.result.now [] (omega (arith, within, length-map slots arms_in)) ∙ ap arms_in (sym c.index-2.ensures) ∙ sym c.deref.ensures.value) is.leaf
 
 pub returns : goal.returns
 returns c =
@@ -84,17 +95,15 @@ returns c =
     let place : IsPlace slots c.args.at slot = its_place slots c.args.at slot c.self.invariant.paired (subst T (sym c.self.view_is) c.requires.there) c.index.ensures in
     let t : SlotTable = table_of s.geometry s.perms s.metaslab slots s.detached.items (next_rooms s.next.items) (vec_capacity s.detached - vec_len s.detached) in
     let sound = c.self.invariant.sound in
-    let N : SlotTable → Type 0 = λ t. c.spare_slot-child.result < t.geometry.spec.children in
-    let below : c.spare_slot-child.result < s.geometry.spec.children = subst N (sym c.self.view_is) c.spare_slot-child.ensures.below in
+    let N : SlotTable → Type 0 = λ t. c.keeping_slot-child.result < t.geometry.spec.children in
+    let below : c.keeping_slot-child.result < s.geometry.spec.children = subst N (sym c.self.view_is) c.keeping_slot-child.ensures.below in
     let many = sound.slots.children in
-    let within : c.spare_slot-child.result < length (map arms_in slots) = omega arith in
-    let e : first_in c.places-places.result.used ≡ first_spares c.args.self.now = λ j k. c.places-places.ensures.places.used k j in
-    let C : SlotTable → Type 0 = λ t. c.spare_slot-child.result ≡ spare_slot t c.args.at.slot arm.number c.args.slice in
-    let child : c.spare_slot-child.result ≡ spare_slot t c.args.at.slot arm.number c.args.slice =
-    subst C (sym c.self.view_is) (c.spare_slot-child.ensures.slot
-    ∙ ap (λ f. holder_in c.args.self.now.perms c.args.self.now.geometry.spec.spares (pool_slice c.args.self.now c.args.slice) f c.args.at.slot arm.number) e) in
-    let arms : arms_of t c.spare_slot-child.result ≡ c.deref.result.now =
-    get_or-map arms_in slots c.spare_slot-child.result c.index-2.result.now [] (omega (arith, within, length-map slots arms_in)) ∙ ap arms_in (sym c.index-2.ensures) ∙ sym c.deref.ensures.value in
+    let within : c.keeping_slot-child.result < length (map arms_in slots) = omega arith in
+    let C : SlotTable → Type 0 = λ t. c.keeping_slot-child.result ≡ spare_slot t c.args.at.slot arm.number c.args.slice in
+    let child : c.keeping_slot-child.result ≡ spare_slot t c.args.at.slot arm.number c.args.slice =
+    subst C (sym c.self.view_is) c.keeping_slot-child.ensures.slot in
+    let arms : arms_of t c.keeping_slot-child.result ≡ c.deref.result.now =
+    get_or-map arms_in slots c.keeping_slot-child.result c.index-2.result.now [] (omega (arith, within, length-map slots arms_in)) ∙ ap arms_in (sym c.index-2.ensures) ∙ sym c.deref.ensures.value in
     subst H c.self.view_is
     (ap (holder_of t c.args.at.slot c.args.slice) (arm_found slots c.args.at slot arm place c.index-arm.ensures)
     ∙ ap (λ b. cond b (Some arm) (first_leaf (arms_of t (spare_slot t c.args.at.slot arm.number c.args.slice)))) (sym c.is_leaf.ensures ∙ c.if-is_leaf.false)
@@ -102,14 +111,8 @@ returns c =
     ∙ ap first_leaf arms
     ∙ c.first_leaf.ensures)
 
-pub spare_slot-child-requires-clause-used : goal.spare_slot-child-requires-clause-used
-spare_slot-child-requires-clause-used c = c.places-places.ensures.used
-
-pub spare_slot-child-requires-clause-past : goal.spare_slot-child-requires-clause-past
-spare_slot-child-requires-clause-past c = c.places-places.ensures.past
-
-pub spare_slot-child-requires-clause-slice : goal.spare_slot-child-requires-clause-slice
-spare_slot-child-requires-clause-slice c = c.requires.slice
+pub keeping_slot-child-requires-clause-slice : goal.keeping_slot-child-requires-clause-slice
+keeping_slot-child-requires-clause-slice c = c.requires.slice
 
 pub overflow_cast-arm : goal.overflow_cast-arm
 overflow_cast-arm c =
@@ -129,15 +132,15 @@ overflow_cast-arm c =
 pub overflow_cast-child : goal.overflow_cast-child
 overflow_cast-child c =
     let s = c.self.inside in
-    let N : SlotTable → Type 0 = λ t. c.spare_slot-child.result < t.geometry.spec.children in
-    let below : c.spare_slot-child.result < s.geometry.spec.children = subst N (sym c.self.view_is) c.spare_slot-child.ensures.below in
+    let N : SlotTable → Type 0 = λ t. c.keeping_slot-child.result < t.geometry.spec.children in
+    let below : c.keeping_slot-child.result < s.geometry.spec.children = subst N (sym c.self.view_is) c.keeping_slot-child.ensures.below in
     let most = c.self.invariant.sound.layout.geometry_is.spec.most_children in
     omega (arith, below, most)
 
 pub index-requires-2 : goal.index-requires-2
 index-requires-2 c =
     let s = c.self.inside in
-    let N : SlotTable → Type 0 = λ t. c.spare_slot-child.result < t.geometry.spec.children in
-    let below : c.spare_slot-child.result < s.geometry.spec.children = subst N (sym c.self.view_is) c.spare_slot-child.ensures.below in
+    let N : SlotTable → Type 0 = λ t. c.keeping_slot-child.result < t.geometry.spec.children in
+    let below : c.keeping_slot-child.result < s.geometry.spec.children = subst N (sym c.self.view_is) c.keeping_slot-child.ensures.below in
     let many = c.self.invariant.sound.slots.children in
     omega (arith, below, many, length-map s.slots.items arms_in, s.slots.ok.0)
