@@ -1,6 +1,6 @@
 -- The columns that were read of a block are its own but for its bad ones, or more of them are bad than there are parity columns.
 use Rattle.std.proofs.Common.{◌≡◌, ◌⊎◌, ◌+◌, ◌*◌, ◌==◌, ◌<◌, ◌≤◌, ◌||◌, ◌&&◌, ◌∙◌, ◌++◌, [], ◌∷◌, ℕ, zero, suc, List, Bool, true, false, nat_lt, cond, Option, Some, None, Vec, Global, arith, refl, sym, ap, subst, inl, inr, length, take, drop, slice_get, get_or, if◌then◌else◌}
-use Rattle.std.specs.Prelude.{All, Contains, find, is_none}
+use Rattle.std.specs.Prelude.{All, Contains, find, is_none, IsSome}
 use Rattle.std.specs.List.Sorted.{IsStrictlyIncreasing}
 use Rattle.std.proofs.lemmas.Bool.{cases_lt}
 use Rattle.std.proofs.lemmas.List.{append-nil, take_all}
@@ -121,7 +121,7 @@ pub record IsBlocks (l : Layout) (h : Held) (size : ℕ) (key : Key) (pieces : P
   pub all : length columns ≡ l.columns
   pub long : (c : ℕ) (bytes : Vec ℕ Global) → slice_get columns c ≡ Some (Some bytes) → length bytes.items ≡ h.stripes * size
   pub whole_long : (c : ℕ) → c < l.columns → length (column_at whole c) ≡ h.stripes * size
-  pub rows : (c row : ℕ) → c < l.columns → row < h.stripes → pieces key c row ≡ row_bytes size (column_at whole c) row
+  pub rows : (c row : ℕ) → c < l.columns → row < h.stripes → pieces key c row ≡ Some (row_bytes size (column_at whole c) row)
 
 -- all columns are the block's but those of this set
 pub record AreGoodBut (l : Layout) (columns : Columns) (whole : List (List ℕ)) (bad : List ℕ) : Type 0 where
@@ -251,9 +251,10 @@ module _ (l : Layout) (lay : IsLayout l) (w : State) (reached : IsReached l w) (
             row = within;
             lies = subst (λ o. passes o (λ m. m == on.0) ≡ true) (sym lies) (equal on.0 on.0 refl);
           }) live clean in
-          some_same (x.reads on.0 (l.sector_of (h.first + row) c)) (row_bytes size it.column.items row) (pieces key c row) (are.reads c row on.0 it.n it.column it.at it.reads within lies)
-          (backed.holds.reads s h (record { held = held; present = present; sure = calm.1 }) calm.0)
-          ∙ is.rows c row less within
+          let piece : pieces key c row ≡ Some (row_bytes size (column_at whole c) row) = is.rows c row less within in
+          some_same (x.reads on.0 (l.sector_of (h.first + row) c)) (row_bytes size it.column.items row) (row_bytes size (column_at whole c) row)
+          (are.reads c row on.0 it.n it.column it.at it.reads within lies)
+          (backed.holds.reads s h (record { held = held; present = present; sure = calm.1 }) calm.0 (subst (λ o. IsSome o) (sym piece) refl) ∙ piece)
 
   pub good_or_bad : ((bad : List ℕ) × AreGoodBut l columns whole bad) ⊎ MoreBad l w x.harmed key h failed
   good_or_bad = elim (cases_lt l.parity (length (passing is_bad l.columns))) [

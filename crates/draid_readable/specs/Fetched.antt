@@ -22,7 +22,7 @@ pub record AreFetched (l : Layout) (w : State) (h : Held) (size : ℕ) (failed :
   pub reads : (c row leaf : ℕ) (n : ArmName) (bytes : Vec ℕ Global) → slice_get columns c ≡ Some (Some bytes) → reading l w.core h c ≡ Some n → row < h.stripes
       → leaf_at l w.core.order n (h.first + row) ≡ Some leaf → OnTold told (λ x. x.reads leaf (l.sector_of (h.first + row) c) ≡ Some (take size (drop (row * size) bytes.items)))
 
--- The columns that were read are those of a block of a layout. These are its bytes, and its pieces are the rows of their columns.
+-- The columns that were read are those of a block of a layout. These are its bytes, and its pieces are known, the rows of their columns.
 pub record IsFetchedOf (l : Layout) (cut : Cut) (h : Held) (key : Key) (pieces : Pieces) (fetched : Fetched) (bytes : List ℕ) : Type 0 where
   pub width : l.columns ≡ cut.parity + cut.ndata
   pub parity : l.parity ≡ cut.parity
@@ -31,4 +31,4 @@ pub record IsFetchedOf (l : Layout) (cut : Cut) (h : Held) (key : Key) (pieces :
   pub content : IsContent fetched.pointer bytes
   pub columns : List (List ℕ)
   pub are : AreColumns cut bytes columns
-  pub rows : (c row : ℕ) → c < l.columns → row < h.stripes → pieces key c row ≡ take cut.sector (drop (row * cut.sector) (column_at columns c))
+  pub rows : (c row : ℕ) → c < l.columns → row < h.stripes → pieces key c row ≡ Some (take cut.sector (drop (row * cut.sector) (column_at columns c)))

@@ -1,5 +1,5 @@
 -- What a call leaves untouched is as it was.
-use Rattle.std.proofs.Common.{◌≡◌, ◌+◌, ◌⊎◌, ℕ, Bool, true, false, List, Some, IsSome, IsTrue, refl, sym, ◌∙◌, ap, subst, inl, inr}
+use Rattle.std.proofs.Common.{◌≡◌, ◌+◌, ◌⊎◌, ℕ, Bool, true, false, List, Some, IsSome, IsTrue, refl, sym, ◌∙◌, ap, subst, inl, inr, Option}
 use Rattle.draid_machine.specs.declared.names.Held.{Held}
 use Rattle.draid_machine.specs.declared.names.Segment.{Segment}
 use Rattle.draid_machine.specs.State.{Layout, Image, State}
@@ -59,7 +59,7 @@ pub firm_by : (l : Layout) (pieces : Pieces) (img : Image) (doubt : Segment → 
     → ((s : Segment) (h : Held) → IsClaim l img doubt s h → Untouched s.leaf (sector_at l h s) x y) → Firm l pieces img doubt x → Firm l pieces img doubt y
 firm_by l pieces img doubt x y same f = record {
   there = λ s h c. subst (λ o. IsSome o) (sym (same s h c).reads) (f.there s h c);
-  reads = λ s h c calm. (same s h c).reads ∙ f.reads s h c (sym (same s h c).harmed ∙ calm);
+  reads = λ s h c calm known. (same s h c).reads ∙ f.reads s h c (sym (same s h c).harmed ∙ calm) known;
   firm = λ s h c. still (same s h c).soft (f.firm s h c);
 }
 
@@ -76,12 +76,20 @@ firm_doubt l pieces img few more x to f = record {
     of : (s : Segment) (h : Held) → IsClaim l img more s h → IsClaim l img few s h
     of s h c = record { held = c.held; claim = c.claim; sure = to s h c.held c.claim c.sure }
 
--- an image is firm by other pieces that are the same for its blocks
+-- what reads as a piece reads as another, where that is the same once it is known
+pub read_as : (o p q : Option (List ℕ)) → (IsSome q → q ≡ p) → (IsSome p → o ≡ p) → IsSome q → o ≡ q
+read_as o p q same reads known = reads (subst (λ z. IsSome z) (same known) known) ∙ sym (same known)
+
+-- pieces of one key that are the same are the same for each segment
+pub same_piece : (pieces other : Pieces) (s : Segment) → other s.key ≡ pieces s.key → IsSome (piece_of other s) → piece_of other s ≡ piece_of pieces s
+same_piece pieces other s same known = ap (λ (f : ℕ → ℕ → Option (List ℕ)). f s.column s.row) same
+
+-- an image is firm by other pieces that are the same for its blocks, where they are known
 pub firm_pieces : (l : Layout) (pieces other : Pieces) (img : Image) (doubt : Segment → Bool) (x : Told)
-    → ((s : Segment) (h : Held) → IsClaim l img doubt s h → other s.key ≡ pieces s.key) → Firm l pieces img doubt x → Firm l other img doubt x
+    → ((s : Segment) (h : Held) → IsClaim l img doubt s h → IsSome (piece_of other s) → piece_of other s ≡ piece_of pieces s) → Firm l pieces img doubt x → Firm l other img doubt x
 firm_pieces l pieces other img doubt x same f = record {
   there = f.there;
-  reads = λ s h c calm. f.reads s h c calm ∙ ap (λ (g : ℕ → ℕ → List ℕ). Some (g s.column s.row)) (sym (same s h c));
+  reads = λ s h c calm. read_as (reads_at l h s x) (piece_of pieces s) (piece_of other s) (same s h c) (f.reads s h c calm);
   firm = f.firm;
 }
 
@@ -93,19 +101,19 @@ pub record Was (l : Layout) (w : State) (s : Segment) (h : Held) (x y : Told) : 
   pub first : h.first ≡ i.first
   pub same : Untouched s.leaf (sector_at l i s) x y
 
--- it is there, and reads as it is to
+-- it is there, and reads as it is to where that is known
 pub record Reads (l : Layout) (pieces : Pieces) (s : Segment) (h : Held) (y : Told) : Type 0 where
   pub there : IsSome (reads_at l h s y)
-  pub reads : harmed_at l h s y ≡ false → reads_at l h s y ≡ Some (piece_of pieces s)
+  pub reads : harmed_at l h s y ≡ false → IsSome (piece_of pieces s) → reads_at l h s y ≡ piece_of pieces s
 
 was_reads : (l : Layout) (pieces after : Pieces) (w : State) (x y : Told) (s : Segment) (h : Held) → Holds l pieces w x → Was l w s h x y → after s.key ≡ pieces s.key → Reads l after s h y
 was_reads l pieces after w x y s h holds z key =
     let sector = same_sector l h z.i s z.first in
-    let piece : Some (piece_of pieces s) ≡ Some (piece_of after s) = ap (λ (g : ℕ → ℕ → List ℕ). Some (g s.column s.row)) (sym key) in
     record {
       there = subst (λ t. IsSome (y.reads s.leaf t)) sector (subst (λ o. IsSome o) (sym z.same.reads) (holds.there s z.i z.sure));
-      reads = λ calm. subst (λ t. y.reads s.leaf t ≡ Some (piece_of after s)) sector
-          (z.same.reads ∙ holds.reads s z.i z.sure (sym z.same.harmed ∙ subst (λ t. y.harmed s.leaf t ≡ false) (sym sector) calm) ∙ piece);
+      reads = λ calm known. subst (λ t. y.reads s.leaf t ≡ piece_of after s) sector
+          (z.same.reads ∙ read_as (reads_at l z.i s x) (piece_of pieces s) (piece_of after s) (same_piece pieces after s key)
+          (holds.reads s z.i z.sure (sym z.same.harmed ∙ subst (λ t. y.harmed s.leaf t ≡ false) (sym sector) calm)) known);
     }
 
 pub holds_by : (l : Layout) (pieces after : Pieces) (w new : State) (x y : Told) → Holds l pieces w x

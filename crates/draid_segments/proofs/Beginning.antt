@@ -1,5 +1,5 @@
 -- A leaf that comes, and the bytes of what isn't held.
-use Rattle.std.proofs.Common.{◌≡◌, ◌==◌, ℕ, Bool, true, false, List, Option, Some, None, IsSome, refl, sym, ◌∙◌, ap, subst, inl, inr}
+use Rattle.std.proofs.Common.{◌≡◌, ◌==◌, ℕ, Bool, true, false, List, Option, Some, None, IsSome, refl, sym, subst, inl, inr, ◌⊎◌}
 use Rattle.draid_machine.specs.declared.names.Key.{Key}
 use Rattle.draid_machine.specs.declared.names.ArmName.TheVariants.{Leaf}
 use Rattle.draid_machine.specs.declared.names.Held.{Held}
@@ -13,19 +13,19 @@ use Rattle.draid_machine.proofs.Losing.{every_segment}
 use Rattle.draid_machine.proofs.Rows.{reached_sound}
 use Rattle.draid_rack.specs.Rack.{Told}
 use Rattle.draid_rack.specs.Moments.{Leaves}
-use Rattle.draid_segments.specs.Segments.{Backed, Firm, Pieces, Steady, image_group, sector_at}
+use Rattle.draid_segments.specs.Segments.{Backed, Firm, Pieces, Steady, image_group, sector_at, piece_of, reads_at}
 use Rattle.draid_segments.specs.Acts.{nowhere}
 use Rattle.draid_segments.proofs.Apart.{its_block, stands}
-use Rattle.draid_segments.proofs.Backing.{Untouched, firm_by, firm_pieces, holds_by, last_by, steady_by, untouched_by}
+use Rattle.draid_segments.proofs.Backing.{Untouched, firm_by, firm_pieces, holds_by, last_by, steady_by, untouched_by, read_as, same_piece}
 use Rattle.draid_segments.proofs.Lasting.{lasting_present, owned_leaf}
 
 pub created_backed : (l : Layout) (version : ℕ) (pieces : Pieces) (x : Told) → Backed l pieces (created l version) x
 created_backed l version pieces x = record {
-  holds = record { there = λ s h is. absurd (none_some None h refl is.held); reads = λ s h is calm. absurd (none_some None h refl is.held) };
+  holds = record { there = λ s h is. absurd (none_some None h refl is.held); reads = λ s h is calm known. absurd (none_some None h refl is.held) };
   images = λ img is. elim is [
     | inl e ↦ subst (λ (i : Image). Firm l pieces i (λ s. false) x) e (record {
       there = λ s h c. absurd (none_some None h refl c.held);
-      reads = λ s h c calm. absurd (none_some None h refl c.held);
+      reads = λ s h c calm known. absurd (none_some None h refl c.held);
       firm = λ s h c. absurd (none_some None h refl c.held);
     })
     | inr e ↦ absurd (none_some None img refl e)
@@ -83,9 +83,27 @@ module _ (l : Layout) (lay : IsLayout l) (w : State) (reached : IsReached l w) w
   pieces_backed pieces other x same b = record {
     holds = record {
       there = b.holds.there;
-      reads = λ s h is calm. b.holds.reads s h is calm ∙ ap (λ (f : ℕ → ℕ → List ℕ). Some (f s.column s.row)) (sym (same s.key (some_held (w.core.held s.key) h is.held)));
+      reads = λ s h is calm. read_as (reads_at l h s x) (piece_of pieces s) (piece_of other s) (same_piece pieces other s (same s.key (some_held (w.core.held s.key) h is.held)))
+          (b.holds.reads s h is calm);
     };
     images = λ img is. firm_pieces l pieces other img w.aside x
-        (λ s h c. let z = its_block l lay w reached img is s.key h c.held in same s.key (some_held (w.core.held s.key) z.h z.found)) (b.images img is);
+        (λ s h c. let z = its_block l lay w reached img is s.key h c.held in same_piece pieces other s (same s.key (some_held (w.core.held s.key) z.h z.found))) (b.images img is);
     last = b.last;
   }
+
+-- fewer bytes may be known
+less_known : (a b : Option (List ℕ)) → (a ≡ b) ⊎ (a ≡ None) → IsSome a → a ≡ b
+less_known a b (inl same) known = same
+less_known (Some bytes) b (inr none) known = absurd (none_some (Some bytes) bytes none refl)
+less_known None b (inr none) known = absurd (cc)
+
+pub known_backed : (l : Layout) (w : State) (pieces other : Pieces) (x : Told) → ((key : Key) (column row : ℕ) → (other key column row ≡ pieces key column row) ⊎ (other key column row ≡ None))
+    → Backed l pieces w x → Backed l other w x
+known_backed l w pieces other x fewer b = record {
+  holds = record { there = b.holds.there; reads = λ s h is calm. read_as (reads_at l h s x) (piece_of pieces s) (piece_of other s) (same s) (b.holds.reads s h is calm) };
+  images = λ img is. firm_pieces l pieces other img w.aside x (λ s h c. same s) (b.images img is);
+  last = b.last;
+}
+  where
+    same : (s : Segment) → IsSome (piece_of other s) → piece_of other s ≡ piece_of pieces s
+    same s = less_known (piece_of other s) (piece_of pieces s) (fewer s.key s.column s.row)

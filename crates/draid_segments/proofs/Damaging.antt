@@ -71,8 +71,8 @@ module _ (l : Layout) (lay : IsLayout l) (w : State) (reached : IsReached l w) (
   pub damage_firm : (pieces : Pieces) (img : Image) (doubt : Segment → Bool) → Firm l pieces img doubt x → Firm l pieces img doubt y
   damage_firm pieces img doubt f = record {
     there = λ s h c. there s.leaf (sector_at l h s) (f.there s h c);
-    reads = λ s h c calm. elim (either s.leaf (sector_at l h s)) [
-      | inl z ↦ z.reads ∙ f.reads s h c (sym z.harmed ∙ calm)
+    reads = λ s h c calm known. elim (either s.leaf (sector_at l h s)) [
+      | inl z ↦ z.reads ∙ f.reads s h c (sym z.harmed ∙ calm) known
       | inr z ↦ absurd (true≢false (sym z.harmed ∙ calm))
     ];
     firm = λ s h c. still (soft s.leaf (sector_at l h s)) (f.firm s h c);
@@ -82,7 +82,7 @@ module _ (l : Layout) (lay : IsLayout l) (w : State) (reached : IsReached l w) (
   damage_backed pieces b = record {
     holds = holds_by l pieces pieces w w x y b.holds (λ s h is. elim (either s.leaf (sector_at l h s)) [
       | inl z ↦ inl (record { i = h; sure = is; first = refl; same = z }, refl)
-      | inr z ↦ inr (record { there = z.there (b.holds.there s h is); reads = λ calm. absurd (true≢false (sym z.harmed ∙ calm)) })
+      | inr z ↦ inr (record { there = z.there (b.holds.there s h is); reads = λ calm known. absurd (true≢false (sym z.harmed ∙ calm)) })
     ]);
     images = λ img is. damage_firm pieces img w.aside (b.images img is);
     last = last_by l (image_group w) w w x y b.last (λ s h is sure. inl (record { i = h; lasting = is; sure = sure; first = refl; soft = soft s.leaf (sector_at l h s) }));

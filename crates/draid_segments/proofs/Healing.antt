@@ -24,7 +24,7 @@ use Rattle.draid_rack.specs.Rack.{Told}
 use Rattle.draid_segments.specs.Segments.{Backed, Firm, HasScrubbed, IsClaim, IsLasting, IsSure, Pieces, Steady, harmed_at, image_group, piece_of, reads_at, sector_at, soft_at}
 use Rattle.draid_segments.specs.Acts.{HealsBlock, LandsReadable, is_on_clean, is_settled}
 use Rattle.draid_segments.proofs.Apart.{claimed_elsewhere, elsewhere, heal_place, its_block, one_place, stands}
-use Rattle.draid_segments.proofs.Backing.{Lasted, Reads, Untouched, Was, holds_by, last_by, steady_by, steady_same, still}
+use Rattle.draid_segments.proofs.Backing.{Lasted, Reads, Untouched, Was, holds_by, last_by, steady_by, steady_same, still, read_as, same_piece}
 use Rattle.draid_segments.proofs.Lasting.{lasting_present}
 
 -- ---- tests
@@ -149,16 +149,23 @@ module _ (l : Layout) (lay : IsLayout l) (w new : State) (reached : IsReached l 
       })
       (subst (λ o. passes o (has_number failed) ≡ false) at ok)
 
+  -- a segment is there, and reads as its piece where that is known
+  record Stands (pieces : Pieces) (s : Segment) (i : Held) : Type 0 where
+    there : IsSome (reads_at l i s y)
+    reads : IsSome (piece_of pieces s) → reads_at l i s y ≡ piece_of pieces s
+
   -- what a whole landing settles reads as the restored block's, and isn't soft
   module _ (whole : step.whole ≡ true) (s : Segment) (key : key_eq n.key s.key ≡ true) (on : is_on l w.core.order s h ≡ true)
       (good : (is_clean w.core h.birth s.arm || has_healed l w.core n h patched s) ≡ true) where
     held : w.core.held s.key ≡ Some h
     held = subst (λ k. w.core.held k ≡ Some h) (key_true n.key s.key key) step.counts.found
 
-    right_reads : reads_at l h s y ≡ Some (piece_of written s)
+    right_reads : Stands written s h
     right_reads = elim (either_true (is_clean w.core h.birth s.arm) (has_healed l w.core n h patched s) good) [
-      | inl clean ↦ acts.clean_reads s whole (true_both (key_eq n.key s.key && is_on l w.core.order s h) (is_clean w.core h.birth s.arm) (true_both (key_eq n.key s.key) (is_on l w.core.order s h) key on) clean)
-      | inr healed ↦ acts.landed_reads s healed
+      | inl clean ↦
+          let at = true_both (key_eq n.key s.key && is_on l w.core.order s h) (is_clean w.core h.birth s.arm) (true_both (key_eq n.key s.key) (is_on l w.core.order s h) key on) clean in
+          record { there = acts.clean_there s whole at; reads = acts.clean_reads s whole at }
+      | inr healed ↦ record { there = acts.landed_there s healed; reads = acts.landed_reads s healed }
     ]
 
     right_firm : soft_at l h s y ≡ false
@@ -214,14 +221,14 @@ module _ (l : Layout) (lay : IsLayout l) (w new : State) (reached : IsReached l 
     -- a segment that isn't in doubt afterwards: it was in none, and is untouched; or it is settled
     data Fate (s : Segment) : Type 0 where
       Same : w.aside s ≡ false → of s ≡ false → (step.whole ≡ false) ⊎ (key_eq n.key s.key ≡ false) → Fate s
-      Right : key_eq n.key s.key ≡ true → reads_at l h s y ≡ Some (piece_of later s) → soft_at l h s y ≡ false → Fate s
+      Right : key_eq n.key s.key ≡ true → Stands later s h → soft_at l h s y ≡ false → Fate s
 
     fate : (s : Segment) → (w.present s ≡ true) ⊎ (is_on l w.core.order s h ≡ true) → after.aside s ≡ false → Fate s
     fate s there e = elim (bool_cases step.whole) [
       | inr part ↦ let z = aside_part s part e in Same z.0 z.1 (inl part)
       | inl whole ↦ elim (aside_whole s whole e) [
         | inl z ↦ Same z.1 (other_of s z.0) (inr z.0)
-        | inr (inl z) ↦ Right z.0 (right_reads whole s z.0 z.1 z.2 ∙ ap (λ (f : Pieces). Some (piece_of f s)) (sym (later_whole whole))) (right_firm whole s z.0 z.1 z.2)
+        | inr (inl z) ↦ Right z.0 (subst (λ (f : Pieces). Stands f s h) (sym (later_whole whole)) (right_reads whole s z.0 z.1 z.2)) (right_firm whole s z.0 z.1 z.2)
         | inr (inr z) ↦ elim there [
           | inl here ↦ absurd_test (w.present s) here z.2
           | inr on ↦ absurd_test (is_on l w.core.order s h) on z.1
@@ -246,14 +253,14 @@ module _ (l : Layout) (lay : IsLayout l) (w new : State) (reached : IsReached l 
               let here = here_of out why in
               inl (record { i = i; sure = record { held = is.held; present = here; sure = sure }; first = refl; same = untouched s i is.held (inl here) out part }, later_other s.key part)
           | Right key reads firm ↦
-              let e = subst (λ (k : Held). reads_at l k s y ≡ Some (piece_of later s)) (its_held s i key is.held) reads in
-              inr (record { there = subst (λ o. IsSome o) (sym e) refl; reads = λ calm. e })
+              let e = subst (λ (k : Held). Stands later s k) (its_held s i key is.held) reads in
+              inr (record { there = e.there; reads = λ calm. e.reads })
         ]
 
     -- a claimed segment
     record FirmAt (s : Segment) (i : Held) : Type 0 where
       there : IsSome (reads_at l i s y)
-      reads : harmed_at l i s y ≡ false → reads_at l i s y ≡ Some (piece_of later s)
+      reads : harmed_at l i s y ≡ false → IsSome (piece_of later s) → reads_at l i s y ≡ piece_of later s
       firm : soft_at l i s y ≡ false
 
     firm_at : (img : Image) → IsImage w img → (s : Segment) (i : Held) → IsClaim l img after.aside s i → FirmAt s i
@@ -267,16 +274,16 @@ module _ (l : Layout) (lay : IsLayout l) (w new : State) (reached : IsReached l 
               let same : Untouched s.leaf (sector_at l i s) x y = subst (λ (k : Held). Untouched s.leaf (sector_at l k s) x y) (sym z.is) (untouched s z.h z.found (inl here) out part) in
               record {
                 there = subst (λ o. IsSome o) (sym same.reads) (f.there s i old);
-                reads = λ calm. same.reads ∙ f.reads s i old (sym same.harmed ∙ calm) ∙ ap (λ (g : ℕ → ℕ → List ℕ). Some (g s.column s.row)) (sym (later_other s.key part));
+                reads = λ calm known. same.reads ∙ read_as (reads_at l i s x) (piece_of pieces s) (piece_of later s) (same_piece pieces later s (later_other s.key part))
+                    (f.reads s i old (sym same.harmed ∙ calm)) known;
                 firm = still same.soft (f.firm s i old);
               }
           | Right key reads firm ↦
               let one = its_held s z.h key z.found in
-              let now : reads_at l i s y ≡ Some (piece_of later s) = subst (λ (k : Held). reads_at l k s y ≡ Some (piece_of later s)) (sym z.is)
-              (subst (λ (k : Held). reads_at l k s y ≡ Some (piece_of later s)) one reads) in
+              let now = subst (λ (k : Held). Stands later s k) one reads in
               record {
-                there = subst (λ o. IsSome o) (sym now) refl;
-                reads = λ calm. now;
+                there = subst (λ (k : Held). IsSome (reads_at l k s y)) (sym z.is) now.there;
+                reads = λ calm known. subst (λ (k : Held). reads_at l k s y ≡ piece_of later s) (sym z.is) (now.reads known);
                 firm = subst (λ (k : Held). soft_at l k s y ≡ false) (sym z.is) (subst (λ (k : Held). soft_at l k s y ≡ false) one firm);
               }
         ]

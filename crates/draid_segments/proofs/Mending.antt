@@ -17,10 +17,10 @@ use Rattle.draid_machine.proofs.Losing.{every_segment}
 use Rattle.draid_machine.proofs.Rows.{reached_sound}
 use Rattle.draid_machine.proofs.Standing.{every_image}
 use Rattle.draid_rack.specs.Rack.{Told}
-use Rattle.draid_segments.specs.Segments.{Backed, Firm, IsLasting, IsSure, Pieces, Steady, image_group, sector_at}
+use Rattle.draid_segments.specs.Segments.{Backed, Firm, IsLasting, IsSure, Pieces, Steady, image_group, sector_at, piece_of, reads_at}
 use Rattle.draid_segments.specs.Acts.{LandsStripe, MendsStripe}
 use Rattle.draid_segments.proofs.Apart.{claimed_elsewhere, elsewhere, mend_not_claimed, mend_parts, mend_place}
-use Rattle.draid_segments.proofs.Backing.{Lasted, Reads, Was, calm_backed, firm_by, firm_doubt, holds_by, last_by, steady_by, steady_same, untouched_by}
+use Rattle.draid_segments.proofs.Backing.{Lasted, Reads, Was, calm_backed, firm_by, firm_doubt, holds_by, last_by, steady_by, steady_same, untouched_by, read_as, same_piece}
 use Rattle.draid_segments.proofs.Resting.{no_scrub, over_calm}
 
 -- a value by a test
@@ -85,7 +85,8 @@ module _ (l : Layout) (lay : IsLayout l) (w new : State) (reached : IsReached l 
           let one : step.h ≡ h = some_same (w.core.held s.key) step.h h (places s t).0 is.held in
           subst (λ (k : Held). Reads l pieces s k y) one (record {
             there = acts.there s t good;
-            reads = λ calm. acts.reads s t good (sym (acts.harmed s t good) ∙ calm) sure ∙ ap (λ (g : ℕ → ℕ → List ℕ). Some (g s.column s.row)) (same s.key);
+            reads = λ calm. read_as (reads_at l step.h s y) (piece_of written s) (piece_of pieces s) (same_piece written pieces s (sym (same s.key)))
+                (acts.reads s t good (sym (acts.harmed s t good) ∙ calm) sure);
           })
 
       lasted : (s : Segment) (h : Held) → IsLasting l (image_group w) after.core s h → after.aside s ≡ false → Lasted l (image_group w) w s h x y

@@ -1,5 +1,5 @@
 -- A column is put.
-use Rattle.std.proofs.Common.{◌≡◌, ◌==◌, ◌+◌, ◌&&◌, ◌||◌, not, ℕ, Bool, true, false, if◌then◌else◌, List, Option, Some, IsSome, refl, sym, ◌∙◌, ap, subst, inl, inr}
+use Rattle.std.proofs.Common.{◌≡◌, ◌==◌, ◌+◌, ◌&&◌, ◌||◌, not, ℕ, Bool, true, false, if◌then◌else◌, List, Some, refl, sym, ◌∙◌, ap, subst, inl, inr}
 use Rattle.draid_machine.specs.declared.names.Key.{Key}
 use Rattle.draid_machine.specs.declared.names.ArmName.{ArmName}
 use Rattle.draid_machine.specs.declared.names.Stage.TheVariants.{Writing}
@@ -18,10 +18,7 @@ use Rattle.draid_rack.specs.Rack.{Told}
 use Rattle.draid_segments.specs.Segments.{Backed, Firm, IsLasting, IsSure, Pieces, Steady, image_group, piece_of, reads_at, sector_at}
 use Rattle.draid_segments.specs.Acts.{PutsColumn, is_put_to}
 use Rattle.draid_segments.proofs.Apart.{claimed_elsewhere, elsewhere, put_absent, put_place, stands}
-use Rattle.draid_segments.proofs.Backing.{Lasted, Was, firm_by, holds_by, last_by, steady_by, untouched_by}
-
-some_there : {A : Type 0} (o : Option A) (a : A) → o ≡ Some a → IsSome o
-some_there o a e = subst (λ p. IsSome p) (sym e) refl
+use Rattle.draid_segments.proofs.Backing.{Lasted, Was, firm_by, holds_by, last_by, steady_by, untouched_by, Reads, read_as, same_piece}
 
 module _ (l : Layout) (lay : IsLayout l) (w new : State) (reached : IsReached l w) (key : Key) (landed : List ArmName) (failed : List ℕ) (step : PutStep l w key landed failed new)
     (written : Pieces) (x y : Told) (acts : PutsColumn l w.core key step.h step.c landed written x y) where
@@ -61,12 +58,14 @@ module _ (l : Layout) (lay : IsLayout l) (w new : State) (reached : IsReached l 
   after = put_state l w key landed step.h step.c step.m
 
   module _ (pieces : Pieces) (same : (k : Key) → written k ≡ pieces k) (b : Backed l pieces w x) where
-    landed_reads : (s : Segment) (h : Held) → after.core.held s.key ≡ Some h → is_landed l w.core key step.h step.c landed s ≡ true → reads_at l h s y ≡ Some (piece_of pieces s)
+    landed_reads : (s : Segment) (h : Held) → after.core.held s.key ≡ Some h → is_landed l w.core key step.h step.c landed s ≡ true → Reads l pieces s h y
     landed_reads s h held e =
         let z = four_true (key_eq key s.key) (s.column == step.c) (has_name landed s.arm) (is_on l w.core.order s step.h) e in
         let is : later ≡ h = some_injective later h (sym (held_at w.core.held key (Some later)) ∙ subst (λ k. after.core.held k ≡ Some h) (sym (key_true key s.key z.0)) held) in
-        subst (λ (k : Held). reads_at l k s y ≡ Some (piece_of pieces s)) is
-        (acts.landed_reads s e ∙ ap (λ (g : ℕ → ℕ → List ℕ). Some (g s.column s.row)) (same s.key))
+        subst (λ (k : Held). Reads l pieces s k y) is (record {
+          there = acts.landed_there s e;
+          reads = λ calm. read_as (reads_at l step.h s y) (piece_of written s) (piece_of pieces s) (same_piece written pieces s (sym (same s.key))) (acts.landed_reads s e);
+        })
 
     was : (s : Segment) (h : Held) → IsSure after s h → w.present s ≡ true → Was l w s h x y
     was s h is old = elim (held_cases w.core.held key s.key (Some later) h is.held) [
@@ -128,9 +127,7 @@ module _ (l : Layout) (lay : IsLayout l) (w new : State) (reached : IsReached l 
     put_backed = record {
       holds = holds_by l pieces pieces w after x y b.holds (λ s h is. elim (either_true (w.present s) (is_landed l w.core key step.h step.c landed s) is.present) [
         | inl old ↦ inl (was s h is old, refl)
-        | inr fresh ↦
-            let e = landed_reads s h is.held fresh in
-            inr (record { there = some_there (reads_at l h s y) (piece_of pieces s) e; reads = λ calm. e })
+        | inr fresh ↦ inr (landed_reads s h is.held fresh)
       ]);
       images = λ img is. put_firm pieces img w.aside is (b.images img is);
       last = last_by l (image_group w) w after x y b.last (λ s h is sure. inl (lasted s h is sure));

@@ -162,9 +162,9 @@ module _ (l : Layout) (lay : IsLayout l) (w new : State) (t : ℕ) (failed : Vec
     sealed_firm = record {
       there = λ s h c. let of = sealed_held t (w.core.held s.key) h c.held in
           subst (λ (v : Held). IsSome (y.reads s.leaf (sector_at l v s))) (sym of.is) (holds.there s of.h (sure_of s h c of));
-      reads = λ s h c calm. let of = sealed_held t (w.core.held s.key) h c.held in
-          subst (λ (v : Held). y.reads s.leaf (sector_at l v s) ≡ Some (pieces s.key s.column s.row)) (sym of.is)
-          (holds.reads s of.h (sure_of s h c of) (subst (λ (v : Held). y.harmed s.leaf (sector_at l v s) ≡ false) of.is calm));
+      reads = λ s h c calm known. let of = sealed_held t (w.core.held s.key) h c.held in
+          subst (λ (v : Held). y.reads s.leaf (sector_at l v s) ≡ pieces s.key s.column s.row) (sym of.is)
+          (holds.reads s of.h (sure_of s h c of) (subst (λ (v : Held). y.harmed s.leaf (sector_at l v s) ≡ false) of.is calm) known);
       firm = λ s h c.
           let of = sealed_held t (w.core.held s.key) h c.held in
           subst (λ (v : Held). y.soft s.leaf (sector_at l v s) ≡ false) (sym of.is) (claim_firm s h c of (from_claims l img.core s c.claim));

@@ -34,7 +34,7 @@ pub steady_through : (l : Layout) (pieces after : Pieces) (img : Image) (doubt :
     → Firm l after img doubt y → FirmThrough l after img doubt x y
 steady_through l pieces after img doubt x y orderly steady before later low m between = record {
   there = λ s h c. subst (λ o. IsSome o) (sym (at s h c).same) (before.there s h c);
-  reads = λ s h c calm. (at s h c).same ∙ sym (steady.reads s h c) ∙ later.reads s h c (still (at s h c).harmed calm);
+  reads = λ s h c calm known. (at s h c).same ∙ sym (steady.reads s h c) ∙ later.reads s h c (still (at s h c).harmed calm) known;
   firm = λ s h c. still (at s h c).soft (before.firm s h c);
 }
   where

@@ -43,10 +43,12 @@ nowhere leaf sector = false
 abbrev pub is_put_to : Layout → Core → Key → Held → ℕ → Segment → Bool
 is_put_to l q key h c s = key_eq key s.key && (s.column == c) && is_on l q.order s h && answers l q s.arm h.first
 
--- the column was written where it belongs; on the arms on which it landed it stands, and isn't harmed
+-- The column was written where it belongs. On the arms on which it landed it is there, reads as its block's where that is known, and isn't
+-- harmed.
 pub record PutsColumn (l : Layout) (q : Core) (key : Key) (h : Held) (c : ℕ) (landed : List ArmName) (pieces : Pieces) (x y : Told) : Type 0 where
   pub writes : WritesAt l h (is_put_to l q key h c) x y
-  pub landed_reads : (s : Segment) → is_landed l q key h c landed s ≡ true → reads_at l h s y ≡ Some (piece_of pieces s)
+  pub landed_there : (s : Segment) → is_landed l q key h c landed s ≡ true → IsSome (reads_at l h s y)
+  pub landed_reads : (s : Segment) → is_landed l q key h c landed s ≡ true → IsSome (piece_of pieces s) → reads_at l h s y ≡ piece_of pieces s
   pub landed_harm : (s : Segment) → is_landed l q key h c landed s ≡ true → harmed_at l h s y ≡ false
 
 -- ---- damage
@@ -99,13 +101,13 @@ is_source_harmed l q x n s =
     else is_chosen_harmed l q x n s.column (n.chosen s.column)
 
 -- The targets' segments of the stripe were written. Where no call failed each is there, and harmed just where a source was; where no source was
--- harmed or in doubt, it reads as its block's.
+-- harmed or in doubt, it reads as its block's where that is known.
 pub record MendsStripe (l : Layout) (w : State) (p : Pass) (n : Loan) (h : Held) (failed : List ℕ) (pieces : Pieces) (x y : Told) : Type 0 where
   pub writes : WritesAt l h (is_mended l w.core p n h) x y
   pub there : (s : Segment) → is_mended l w.core p n h s ≡ true → fails l w.core failed s.arm n.stripe ≡ false → IsSome (reads_at l h s y)
   pub harmed : (s : Segment) → is_mended l w.core p n h s ≡ true → fails l w.core failed s.arm n.stripe ≡ false → harmed_at l h s y ≡ is_source_harmed l w.core x n s
   pub reads : (s : Segment) → is_mended l w.core p n h s ≡ true → fails l w.core failed s.arm n.stripe ≡ false → is_source_harmed l w.core x n s ≡ false
-      → is_source_aside l w n s ≡ false → reads_at l h s y ≡ Some (piece_of pieces s)
+      → is_source_aside l w n s ≡ false → IsSome (piece_of pieces s) → reads_at l h s y ≡ piece_of pieces s
 
 -- with more columns without a source than the parity nothing is written
 abbrev pub LandsStripe : Bool → Layout → State → Pass → Loan → Held → List ℕ → Pieces → Told → Told → Type 0
@@ -122,8 +124,9 @@ is_on_clean l q n h s = key_eq n.key s.key && is_on l q.order s h && is_clean q 
 abbrev pub is_settled : Layout → Core → Loan → Held → List Patched → Segment → Bool
 is_settled l q n h patched s = is_on_clean l q n h s || has_healed l q n h patched s
 
--- Sectors were patched, which leaves their harm; then the leaves of the block's arms that answer were flushed. What landed reads as the restored
--- block's. A whole landing read or wrote it so on each arm that is clean for the block, too, and ended the harm of all this.
+-- Sectors were patched, which leaves their harm; then the leaves of the block's arms that answer were flushed. What landed is there, and reads as
+-- the restored block's where that is known. A whole landing read or wrote it so on each arm that is clean for the block, too, and ended the harm
+-- of all this.
 pub record HealsBlock (l : Layout) (q : Core) (n : Loan) (h : Held) (failed : List ℕ) (patched : List Patched) (whole : Bool) (pieces : Pieces) (x y : Told) : Type 0 where
   pub named : ℕ → ℕ → Bool
   pub lies : (leaf sector : ℕ) → named leaf sector ≡ true → LiesThere l h (is_written l q n h patched) leaf sector
@@ -131,8 +134,10 @@ pub record HealsBlock (l : Layout) (q : Core) (n : Loan) (h : Held) (failed : Li
   pub harm : (leaf sector : ℕ) → (y.harmed leaf sector ≡ x.harmed leaf sector) ⊎ LiesThere l h (λ s. whole && is_settled l q n h patched s) leaf sector
   pub flushed : (leaf sector : ℕ) → HealsThere l q h leaf → has_number failed leaf ≡ false → y.soft leaf sector ≡ false
   pub landed_firm : (s : Segment) → has_healed l q n h patched s ≡ true → soft_at l h s y ≡ false
-  pub landed_reads : (s : Segment) → has_healed l q n h patched s ≡ true → reads_at l h s y ≡ Some (piece_of pieces s)
-  pub clean_reads : (s : Segment) → whole ≡ true → is_on_clean l q n h s ≡ true → reads_at l h s y ≡ Some (piece_of pieces s)
+  pub landed_there : (s : Segment) → has_healed l q n h patched s ≡ true → IsSome (reads_at l h s y)
+  pub landed_reads : (s : Segment) → has_healed l q n h patched s ≡ true → IsSome (piece_of pieces s) → reads_at l h s y ≡ piece_of pieces s
+  pub clean_there : (s : Segment) → whole ≡ true → is_on_clean l q n h s ≡ true → IsSome (reads_at l h s y)
+  pub clean_reads : (s : Segment) → whole ≡ true → is_on_clean l q n h s ≡ true → IsSome (piece_of pieces s) → reads_at l h s y ≡ piece_of pieces s
   pub settled_harm : (s : Segment) → whole ≡ true → is_settled l q n h patched s ≡ true → harmed_at l h s y ≡ false
 
 -- of an unreadable block nothing is written

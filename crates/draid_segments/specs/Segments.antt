@@ -32,11 +32,11 @@ harmed_at l h s x = x.harmed s.leaf (sector_at l h s)
 abbrev pub since_at : Layout → Held → Segment → Told → ℕ
 since_at l h s x = x.since s.leaf (sector_at l h s)
 
--- the bytes of each block and ticket: by key, column and row
+-- the bytes of each block and ticket that are known: by key, column and row
 abbrev pub Pieces : Type 0
-Pieces = Key → ℕ → ℕ → List ℕ
+Pieces = Key → ℕ → ℕ → Option (List ℕ)
 
-abbrev pub piece_of : Pieces → Segment → List ℕ
+abbrev pub piece_of : Pieces → Segment → Option (List ℕ)
 piece_of pieces s = pieces s.key s.column s.row
 
 -- ---- the state
@@ -47,10 +47,10 @@ pub record IsSure (w : State) (s : Segment) (h : Held) : Type 0 where
   pub present : w.present s ≡ true
   pub sure : w.aside s ≡ false
 
--- each of them is there, and reads as its block's unless it is harmed
+-- each of them is there, and reads as its block's where that is known and it isn't harmed
 pub record Holds (l : Layout) (pieces : Pieces) (w : State) (x : Told) : Type 0 where
   pub there : (s : Segment) (h : Held) → IsSure w s h → IsSome (reads_at l h s x)
-  pub reads : (s : Segment) (h : Held) → IsSure w s h → harmed_at l h s x ≡ false → reads_at l h s x ≡ Some (piece_of pieces s)
+  pub reads : (s : Segment) (h : Held) → IsSure w s h → harmed_at l h s x ≡ false → IsSome (piece_of pieces s) → reads_at l h s x ≡ piece_of pieces s
 
 -- ---- images
 
@@ -60,10 +60,10 @@ pub record IsClaim (l : Layout) (img : Image) (doubt : Segment → Bool) (s : Se
   pub claim : claims l img.core s ≡ true
   pub sure : doubt s ≡ false
 
--- each of them is there, reads as its block's unless it is harmed, and isn't soft
+-- each of them is there, reads as its block's where that is known and it isn't harmed, and isn't soft
 pub record Firm (l : Layout) (pieces : Pieces) (img : Image) (doubt : Segment → Bool) (x : Told) : Type 0 where
   pub there : (s : Segment) (h : Held) → IsClaim l img doubt s h → IsSome (reads_at l h s x)
-  pub reads : (s : Segment) (h : Held) → IsClaim l img doubt s h → harmed_at l h s x ≡ false → reads_at l h s x ≡ Some (piece_of pieces s)
+  pub reads : (s : Segment) (h : Held) → IsClaim l img doubt s h → harmed_at l h s x ≡ false → IsSome (piece_of pieces s) → reads_at l h s x ≡ piece_of pieces s
   pub firm : (s : Segment) (h : Held) → IsClaim l img doubt s h → soft_at l h s x ≡ false
 
 -- so at each moment between two

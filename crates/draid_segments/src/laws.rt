@@ -102,7 +102,7 @@ pub fn writes_lie_apart()
 /// Law: any rack has all that a new metaslab says. A metaslab that is opened from an image which is firm, but
 /// for what is doubtful, has what its state says; leaves that the image doesn't name may go. A leaf may come
 /// that is no arm, and of which no detachment waits for its commit. The bytes of blocks that aren't held are
-/// free.
+/// free, and fewer bytes may be known.
 pub fn segments_begin()
     ensures created { (layout : Layout) (version : ℕ) (pieces : Pieces) (x : Told)
         → Backed layout pieces (created layout version) x }
@@ -119,4 +119,7 @@ pub fn segments_begin()
     ensures pieces { (layout : Layout) (state : State) (pieces other : Pieces) (x : Told) → IsLayout layout
         → IsReached layout state → ((key : Key) → IsSome (state.core.held key) → other key ≡ pieces key)
         → Backed layout pieces state x → Backed layout other state x }
+    ensures known { (layout : Layout) (state : State) (pieces other : Pieces) (x : Told)
+        → ((key : Key) (column row : ℕ) → (other key column row ≡ pieces key column row)
+        ⊎ (other key column row ≡ None)) → Backed layout pieces state x → Backed layout other state x }
 {}

@@ -72,7 +72,7 @@ flushed value x s = record {
 firm_left : (layout : Layout) (pieces : Pieces) (image : Image) (doubt : Segment → Bool) (x y : Told) → rack.IsCrashOutcome x y → Firm layout pieces image doubt x → Firm layout pieces image doubt y
 firm_left layout pieces image doubt x y crash f = record {
   there = λ s h c. subst IsSome (sym (crash.firm s.leaf (sector_at layout h s) (f.firm s h c))) (f.there s h c);
-  reads = λ s h c e. crash.firm s.leaf (sector_at layout h s) (f.firm s h c) ∙ f.reads s h c (sym (crash.harmed s.leaf (sector_at layout h s)) ∙ e);
+  reads = λ s h c e known. crash.firm s.leaf (sector_at layout h s) (f.firm s h c) ∙ f.reads s h c (sym (crash.harmed s.leaf (sector_at layout h s)) ∙ e) known;
   firm = λ s h c. crash.soft s.leaf (sector_at layout h s);
 }
 

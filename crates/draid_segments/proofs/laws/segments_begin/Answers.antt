@@ -1,4 +1,4 @@
-use Rattle.draid_segments.proofs.Beginning.{created_backed, leaf_backed, leaf_steady, pieces_backed}
+use Rattle.draid_segments.proofs.Beginning.{created_backed, known_backed, leaf_backed, leaf_steady, pieces_backed}
 use Rattle.draid_segments.proofs.Leaving.{open_backed}
 use Rattle.draid_segments.proofs.laws.segments_begin.Goals as goal
 
@@ -16,3 +16,6 @@ returns-clause-leaf_steady c = λ l w leaf img x y lay reached none is d. leaf_s
 
 pub returns-clause-pieces : goal.returns-clause-pieces
 returns-clause-pieces c = λ l w pieces other x lay reached same b. pieces_backed l lay w reached pieces other x same b
+
+pub returns-clause-known : goal.returns-clause-known
+returns-clause-known c = known_backed
