@@ -1,5 +1,5 @@
 -- A put is an event: the column landed where the state machine says, and the tables go on.
-use Rattle.std.proofs.Common.{◌≡◌, ◌==◌, ◌+◌, ◌-◌, ◌<◌, ◌≤◌, ◌||◌, ◌&&◌, not, ◌∙◌, ℕ, zero, suc, Bool, true, false, nat_le, nat_lt, List, [], ◌∷◌, Option, Some, None, arith, refl, sym, ap, ap₂, subst, inl, inr, map, length, slice_get}
+use Rattle.std.proofs.Common.{◌≡◌, ◌==◌, ◌+◌, ◌-◌, ◌<◌, ◌≤◌, ◌||◌, ◌&&◌, not, ◌∙◌, ℕ, zero, suc, Bool, true, false, nat_le, nat_lt, List, [], ◌∷◌, Option, Some, None, arith, refl, sym, ap, ap₂, subst, inl, inr, map, length, slice_get, IsSome}
 use Rattle.std.specs.Prelude.{Contains, option_map, slice_index_or}
 use Rattle.std.proofs.lemmas.Bool.{cases_eq}
 use Rattle.std.proofs.lemmas.Bool.Decides.{nat_tests}
@@ -263,13 +263,17 @@ module _ (part : Part) (is : IsPart part) (slots new : SlotTable) (of : IsOf slo
       → Wrote slots rows (length (arms_of slots rows.slot)) bytes landing.landed x y → PutsColumn (layout_in part) w.core (key_of pointer) block c landing.landed pieces x y
   puts_column pieces columns are of_column x y wrote = record {
     writes = record { named = written_below slots rows (length (arms_of slots rows.slot)); lies = lies_there; others = wrote.leaves };
-    landed_reads = λ s at. (let r = landed_row s at in
-        ap (y.reads s.leaf) (row_at s r) ∙ wrote.stand are_apart r.k s.leaf s.arm r.below r.named r.landed r.on s.row (let less = r.row in let count = rows_are.count_is in omega (arith, less, count))
-        ∙ ap Some (ap₂ (λ size column. row_bytes size column s.row) rows_are.size_is of_column
-        ∙ sym (are c s.row column r.row) ∙ (λ i. pieces (sym r.key_is i) (sym r.column_is i) s.row)));
+    landed_there = λ s at. subst (λ o. IsSome o) (sym (landed_reads s (landed_row s at))) refl;
+    landed_reads = λ s at known. (let r = landed_row s at in
+        landed_reads s r ∙ ap Some (ap₂ (λ size column. row_bytes size column s.row) rows_are.size_is of_column)
+        ∙ sym (are c s.row column r.row) ∙ (λ i. pieces (sym r.key_is i) (sym r.column_is i) s.row));
     landed_harm = λ s at. (let r = landed_row s at in
         ap (y.harmed s.leaf) (row_at s r) ∙ wrote.whole are_apart r.k s.leaf s.row s.arm r.below r.named r.landed r.on (let less = r.row in let count = rows_are.count_is in omega (arith, less, count)));
   }
+    where
+      landed_reads : (s : Segment) → IsRow s → y.reads s.leaf ((layout_in part).sector_of (pointer.first + s.row) s.column) ≡ Some (row_bytes rows.size bytes s.row)
+      landed_reads s r =
+          ap (y.reads s.leaf) (row_at s r) ∙ wrote.stand are_apart r.k s.leaf s.arm r.below r.named r.landed r.on s.row (let less = r.row in let count = rows_are.count_is in omega (arith, less, count))
 
   -- what the rack did is what the event's call does
   pub put_acts : (pieces : Pieces) (columns : List (List ℕ)) → ArePieces part.geometry.props.sector part.geometry.g pointer.stripes columns (key_of pointer) pieces → bytes ≡ column_at columns c

@@ -53,6 +53,7 @@ pub fn fetch<R: Rack, A: Area>(
     ensures none { OnErr result (DoesNothing shard.old shard.new) }
     ensures kit { OnErr result (SameKit shard.old shard.new) }
     ensures reserve { SameReserve shard.old shard.new }
+    ensures pass { shard.new.pass ≡ shard.old.pass }
 {
     if !shard.is_live(pointer) {
         return Err(FetchFault::NotLive);
@@ -83,6 +84,7 @@ fn fetch_into<R: Rack, A: Area>(shard: &mut Shard<R, A>, pointer: &Pointer, room
     ensures told { R.told shard.new.rack ≡ R.told shard.old.rack }
     ensures fetches { Fetches R.Rack shard.old shard.new pointer.now result }
     ensures reserve { SameReserve shard.old shard.new }
+    ensures pass { shard.new.pass ≡ shard.old.pass }
 {
     let Room {
         mut columns,

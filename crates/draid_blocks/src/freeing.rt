@@ -32,6 +32,7 @@ pub fn free<R: Rack, A: Area>(
     ensures sets { IfOk result (λ group. SetsBlock shard.old shard.new pointer.now (Some (staged (Freed group) pointer.now))) }
     ensures same { OnErr result (shard.new ≡ shard.old) }
     ensures reserve { SameReserve shard.old shard.new }
+    ensures pass { shard.new.pass ≡ shard.old.pass }
 {
     if !shard.is_live(pointer) {
         return Err(NotLive);

@@ -38,6 +38,7 @@ pub fn put<R: Rack, A: Area>(shard: &mut Shard<R, A>, ticket: &mut Ticket, block
     ensures carries { Carries shard.new ticket.new block.now }
     ensures put { Puts R.Rack shard.old shard.new ticket.old ticket.new block.now }
     ensures reserve { SameReserve shard.old shard.new }
+    ensures pass { shard.new.pass ≡ shard.old.pass }
 {
     let rows = shard.rows_of(&ticket.pointer, ticket.next);
     let column = block.column(ticket.next);

@@ -52,6 +52,7 @@ pub fn begin<R: Rack, A: Area>(
     ensures refused { IfErr result (λ fault. (w : machine.State) → IsIn shard.old w
         → BeginRefused shard.old (stripes_of (cut_of shard.old.geometry) (length block.now.bytes)) w fault) }
     ensures reserve { SameReserve shard.old shard.new }
+    ensures pass { shard.new.pass ≡ shard.old.pass }
 {
     if let Some(pass) = shard.rebuild() {
         return Err(BeginFault::Disabled { pass });
@@ -102,6 +103,7 @@ pub fn finish<R: Rack, A: Area>(shard: &mut Shard<R, A>, ticket: Ticket) -> Resu
     ensures sets { OnOk result (SetsBlock shard.old shard.new ticket.pointer (Some (staged Live ticket.pointer))) }
     ensures gone { OnErr result (SetsBlock shard.old shard.new ticket.pointer None) }
     ensures reserve { SameReserve shard.old shard.new }
+    ensures pass { shard.new.pass ≡ shard.old.pass }
 {
     let pointer = ticket.pointer;
     let key = key_of(&pointer);
@@ -126,6 +128,7 @@ pub fn abort<R: Rack, A: Area>(shard: &mut Shard<R, A>, ticket: Ticket)
     ensures event { Does shard.old shard.new (Abort (key_of ticket.pointer)) }
     ensures gone { SetsBlock shard.old shard.new ticket.pointer None }
     ensures reserve { SameReserve shard.old shard.new }
+    ensures pass { shard.new.pass ≡ shard.old.pass }
 {
     release(&mut shard.space, &mut shard.entries, &ticket.pointer);
     let left = shard.geometry.g.saturating_sub(ticket.next);

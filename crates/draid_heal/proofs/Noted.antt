@@ -100,7 +100,9 @@ module _ (parts : List Patched) (were : WereWritten parts) where
       ];
       flushed = b.flushed;
       landed_firm = λ s at. b.landed_firm s (healed_is s ∙ at);
+      landed_there = λ s at. b.landed_there s (healed_is s ∙ at);
       landed_reads = λ s at. b.landed_reads s (healed_is s ∙ at);
+      clean_there = b.clean_there;
       clean_reads = b.clean_reads;
       settled_harm = λ s is at. b.settled_harm s is (settled_is s ∙ at);
     }

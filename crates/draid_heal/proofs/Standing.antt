@@ -1,6 +1,6 @@
 -- A restored block landed as the state machine says.
-use Rattle.std.proofs.Common.{arith, ◌≡◌, ◌==◌, ◌+◌, ◌-◌, ◌<◌, ◌≤◌, ◌&&◌, ◌∷◌, ◌∙◌, [], ℕ, zero, suc, Bool, true, false, List, Some, refl, sym, ap, subst, inl, inr, length, slice_get}
-use Rattle.std.specs.Prelude.{nat_le, nat_lt}
+use Rattle.std.proofs.Common.{arith, ◌≡◌, ◌==◌, ◌+◌, ◌-◌, ◌<◌, ◌≤◌, ◌&&◌, ◌∷◌, ◌∙◌, [], ℕ, zero, suc, Bool, true, false, List, Option, Some, refl, sym, ap, subst, inl, inr, length, slice_get}
+use Rattle.std.specs.Prelude.{IsSome, nat_le, nat_lt}
 use Rattle.draid_columns.specs.Columns.{row_of}
 use Rattle.draid_machine.specs.After.{has_healed, has_landed, is_written, was_written}
 use Rattle.draid_machine.specs.Arms.{answers, fails, is_clean, leaf_answers, leaf_at, lies, passes}
@@ -219,13 +219,21 @@ module _ (l : machine.Layout) (q : machine.Core) (h : Held) (size : ℕ) (spots 
       firm_then : (m s : ℕ) → y.soft m s ≡ false → z.soft m s ≡ false
       firm_then m s e = still_firm (λ m s. false) y z settles.only m s refl e
 
+      reads_same : (s : Segment) (at : Noted s.column s.arm) → OnIt s at → reads_at l h s z ≡ y.reads at.spot.leaf (at.spot.first + s.row)
+      reads_same s at on = settles.only.reads s.leaf (sector_at l h s) refl ∙ ap (λ m. y.reads m (sector_at l h s)) on.leaf_is ∙ ap (y.reads at.spot.leaf) on.sector_is
+
       -- what stands on a noted arm is the segment's piece
       reads_then : (s : Segment) (at : Noted s.column s.arm) → n.key ≡ s.key → OnIt s at → y.reads at.spot.leaf (at.spot.first + s.row) ≡ Some (row_of (rows_for h.stripes size at.spot) (column_at columns at.spot.column) s.row)
-          → reads_at l h s z ≡ Some (piece_of pieces s)
+          → reads_at l h s z ≡ piece_of pieces s
       reads_then s at key on e =
-          settles.only.reads s.leaf (sector_at l h s) refl ∙ ap (λ m. y.reads m (sector_at l h s)) on.leaf_is ∙ ap (y.reads at.spot.leaf) on.sector_is ∙ e
+          reads_same s at on ∙ e
           ∙ ap (λ c. Some (row_of (rows_for h.stripes size at.spot) (column_at columns c) s.row)) at.column_is
-          ∙ ap Some (sym (right s.column s.row (column_below s.column s.arm at) on.row)) ∙ ap (λ k. Some (pieces k s.column s.row)) key
+          ∙ sym (right s.column s.row (column_below s.column s.arm at) on.row) ∙ ap (λ k. pieces k s.column s.row) key
+
+      -- so something is there
+      reads_some : (s : Segment) (at : Noted s.column s.arm) → OnIt s at → y.reads at.spot.leaf (at.spot.first + s.row) ≡ Some (row_of (rows_for h.stripes size at.spot) (column_at columns at.spot.column) s.row)
+          → IsSome (reads_at l h s z)
+      reads_some s at on e = subst (λ (o : Option (List ℕ)). IsSome o) (sym (reads_same s at on ∙ e)) refl
 
       harm_then : (s : Segment) (at : Noted s.column s.arm) → OnIt s at → z.harmed at.spot.leaf (at.spot.first + s.row) ≡ false → harmed_at l h s z ≡ false
       harm_then s at on e = ap (λ m. z.harmed m (sector_at l h s)) on.leaf_is ∙ ap (z.harmed at.spot.leaf) on.sector_is ∙ e
@@ -322,7 +330,9 @@ module _ (l : machine.Layout) (q : machine.Core) (h : Held) (size : ℕ) (spots 
             let same : at.spot.leaf ≡ leaf = some_same (leaf_at l q.order a.arm h.first) at.spot.leaf leaf (lies_on_it there.column a.arm at) a.lies in
             firm_then leaf sector (subst (λ m. y.soft m sector ≡ false) same ((stands there.column a.arm at).firm (subst (λ m. has_number failed m ≡ false) (sym same) none) sector));
         landed_firm = λ s at. let c = landing s at in soft_then s c.part.at c.on ((stands s.column s.arm c.part.at).landed_firm s.row c.part.has);
-        landed_reads = λ s at. let c = landing s at in reads_then s c.part.at c.key c.on ((stands s.column s.arm c.part.at).landed_reads s.row c.part.has);
-        clean_reads = λ s w at. let c = cleaned s w at in reads_then s c.at c.key c.on ((stands s.column s.arm c.at).reads s.row c.on.row c.fine);
+        landed_there = λ s at. let c = landing s at in reads_some s c.part.at c.on ((stands s.column s.arm c.part.at).landed_reads s.row c.part.has);
+        landed_reads = λ s at known. let c = landing s at in reads_then s c.part.at c.key c.on ((stands s.column s.arm c.part.at).landed_reads s.row c.part.has);
+        clean_there = λ s w at. let c = cleaned s w at in reads_some s c.at c.on ((stands s.column s.arm c.at).reads s.row c.on.row c.fine);
+        clean_reads = λ s w at known. let c = cleaned s w at in reads_then s c.at c.key c.on ((stands s.column s.arm c.at).reads s.row c.on.row c.fine);
         settled_harm = settled;
       }

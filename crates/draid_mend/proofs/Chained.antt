@@ -47,7 +47,7 @@ use Rattle.draid_mend.specs.Lands.{IsSolvable, KeptStands}
 use Rattle.draid_mend.specs.Loans.{IsReadFrom, IsRunningRebuild, LendsUnit, NamesSources, source_in, unit_at}
 use Rattle.draid_mend.specs.Missing.{SolvesKept, SolvesLoan}
 use Rattle.draid_mend.specs.Reading.{IsSourceOn, ReadsStripe}
-use Rattle.draid_mend.specs.Solving.{HasContent}
+use Rattle.draid_mend.specs.Solving.{HasKnownContent}
 use Rattle.draid_mend.specs.Stripes.{HasNoSource, rows_at}
 use Rattle.draid_mend.specs.Targets.{AreThere}
 use Rattle.draid_mend.specs.declared.reading.Taken.{Taken}
@@ -148,9 +148,9 @@ module _ (part : Part) (slots : SlotTable) (w : machine.State) (is : IsPart part
   l = layout_in part
 
   pub lent_stands : LoanStands l (lend_state w p n failed) (stripe_loan k) h pieces k.columns x
-  lent_stands c m s column chosen key_is row_is calm sure = by (slice_index_or k.chosen.items c None) refl chosen
+  lent_stands c m s column chosen key_is row_is calm sure known = by (slice_index_or k.chosen.items c None) refl chosen
     where
-      by : (o : Option Source) → slice_index_or k.chosen.items c None ≡ o → option_map (λ (source : Source). source.arm) o ≡ Some m → column_at k.columns.columns c ≡ pieces (key_of k.pointer) c s.row
+      by : (o : Option Source) → slice_index_or k.chosen.items c None ≡ o → option_map (λ (source : Source). source.arm) o ≡ Some m → Some (column_at k.columns.columns c) ≡ pieces (key_of k.pointer) c s.row
       by None e at = absurd (cc)
       by (Some source) e at =
           let f = source_found part slots (unit_at k.pointer k.stripe) (Some x) k.columns.columns read.taken read.faults k.chosen.items read.reads read.chosen c source column e in
@@ -166,18 +166,18 @@ module _ (part : Part) (slots : SlotTable) (w : machine.State) (is : IsPart part
                 (subst (λ o. passes o (λ leaf. w.aside (record { key = s.key; column = c; arm = m; leaf = leaf; row = s.row })) ≡ false) lies sure);
           } in
           let harmless : x.harmed source.leaf (l.sector_of k.stripe c) ≡ false = subst (λ o. passes o (λ leaf. x.harmed leaf (l.sector_of k.stripe c)) ≡ false) lies calm in
-          let holds_it : x.reads source.leaf (l.sector_of k.stripe c) ≡ Some (pieces (key_of k.pointer) c s.row)
-          = ap (λ f. x.reads source.leaf (l.sector_of f c)) (sym row_is) ∙ holds.reads segment h is_sure (ap (λ f. x.harmed source.leaf (l.sector_of f c)) row_is ∙ harmless) in
+          let holds_it : x.reads source.leaf (l.sector_of k.stripe c) ≡ pieces (key_of k.pointer) c s.row
+          = ap (λ f. x.reads source.leaf (l.sector_of f c)) (sym row_is) ∙ holds.reads segment h is_sure (ap (λ f. x.harmed source.leaf (l.sector_of f c)) row_is ∙ harmless) known in
           let first : l.sector_of k.stripe c + 0 ≡ l.sector_of k.stripe c = omega arith in
           let bytes : x.reads source.leaf (l.sector_of k.stripe c) ≡ Some (column_at k.columns.columns c)
           = ap (x.reads source.leaf) (sym first) ∙ f.stand zero (omega arith) ∙ ap Some (all_of part.geometry.props.sector (column_at k.columns.columns c) f.long) in
-          some_same (x.reads source.leaf (l.sector_of k.stripe c)) (column_at k.columns.columns c) (pieces (key_of k.pointer) c s.row) bytes holds_it
+          sym bytes ∙ holds_it
 
 -- ---- from the lend to the landing
 
 module _ {R A : Type 0} (rack : Ghosts R) (old lent : Shard R A) (w v : machine.State) (pieces : Pieces) (unit : LendsUnit rack old lent) (is : Valid rack old) (later : Valid rack lent)
     (running : IsSomeAnd old.pass IsRunningRebuild) (stands : StandsFor rack old w pieces)
-    (contents : (k : Key) (h : Held) → w.core.held k ≡ Some h → HasContent old.geometry h.stripes k pieces) (step : LendStep (layout_in (part_of old)) w unit.failed.items v) (is_in : IsIn lent v) where
+    (contents : (k : Key) (h : Held) → w.core.held k ≡ Some h → HasKnownContent old.geometry h.stripes k pieces) (step : LendStep (layout_in (part_of old)) w unit.failed.items v) (is_in : IsIn lent v) where
   abbrev part : Part
   part = part_of old
 
@@ -268,7 +268,7 @@ stripe_same a b same = cc
 
 pub loan_is_right : {R A : Type 0} (rack : Ghosts R) (part : Part) (old lent solved : Shard R A) (w v : machine.State) (pieces : Pieces) (kept : LentStripe) (unit : LendsUnit rack old lent)
     → part_of old ≡ part → Valid rack old → Valid rack lent → IsSomeAnd old.pass IsRunningRebuild → StandsFor rack old w pieces
-    → ((k : Key) (h : Held) → w.core.held k ≡ Some h → HasContent part.geometry h.stripes k pieces)
+    → ((k : Key) (h : Held) → w.core.held k ≡ Some h → HasKnownContent part.geometry h.stripes k pieces)
     → rack.told lent.rack ≡ rack.told old.rack → Step (layout_in part) w (Lend unit.failed) v → IsIn lent v
     → SolvesLoan old.geometry lent.kept solved.kept → solved ≡ record lent { kept = solved.kept }
     → solved.kept ≡ Some (Stripe kept) → IsSolvable part.geometry kept → OnTold (rack.told solved.rack) (KeptStands part v kept pieces)
@@ -282,5 +282,5 @@ loan_is_right {R} {A} rack part old lent solved w v pieces kept unit part_is is 
     (subst (λ k. OnTold (rack.told old.rack) (KeptStands part v k pieces)) it
     (subst (λ p. OnTold (rack.told old.rack) (KeptStands p v (record unit.kept { columns = s.0 }) pieces)) part_is
     (stands_after rack old lent w v pieces unit is later running stands
-    (λ k h at. subst (λ (p : Part). HasContent p.geometry h.stripes k pieces) (sym part_is) (contents k h at))
+    (λ k h at. subst (λ (p : Part). HasKnownContent p.geometry h.stripes k pieces) (sym part_is) (contents k h at))
     (subst (λ p. Step (layout_in p) w (Lend unit.failed) v) (sym part_is) step) is_in s.0 s.2 enough)))

@@ -65,9 +65,9 @@ module _ (part : Part) (slots : SlotTable) (w : machine.State) (p : machine.Pass
   own_rows c = record { slot_is = refl; first_is = refl; count_is = refl; size_is = refl; birth_is = refl; slice_is = refl }
 
   pub loan_stands : LoanStands l after n h pieces read x
-  loan_stands c m s column chosen key_is row_is calm sure = by (slice_get taken c) refl chosen
+  loan_stands c m s column chosen key_is row_is calm sure known = by (slice_get taken c) refl chosen
     where
-      by : (t : Option Taken) → slice_get taken c ≡ t → taken_of slots (l.slot_of pointer.first c) t ≡ Some m → column_at read.columns c ≡ pieces n.key c s.row
+      by : (t : Option Taken) → slice_get taken c ≡ t → taken_of slots (l.slot_of pointer.first c) t ≡ Some m → Some (column_at read.columns c) ≡ pieces n.key c s.row
       by None e is = absurd (cc)
       by (Some Nowhere) e is = absurd (cc)
       by (Some (Failed leaf)) e is = absurd (cc)
@@ -90,9 +90,9 @@ module _ (part : Part) (slots : SlotTable) (w : machine.State) (p : machine.Pass
                 (subst (λ o. passes o (λ leaf. w.aside (record { key = s.key; column = c; arm = m; leaf = leaf; row = s.row })) ≡ false) lies sure);
           } in
           let harmless : x.harmed leaf (l.sector_of pointer.first c) ≡ false = subst (λ o. passes o (λ leaf. x.harmed leaf (l.sector_of pointer.first c)) ≡ false) lies calm in
-          let holds_it : x.reads leaf (l.sector_of pointer.first c) ≡ Some (pieces n.key c s.row)
-          = ap (λ f. x.reads leaf (l.sector_of f c)) (sym row_is) ∙ holds.reads segment h is_sure (ap (λ f. x.harmed leaf (l.sector_of f c)) row_is ∙ harmless) in
+          let holds_it : x.reads leaf (l.sector_of pointer.first c) ≡ pieces n.key c s.row
+          = ap (λ f. x.reads leaf (l.sector_of f c)) (sym row_is) ∙ holds.reads segment h is_sure (ap (λ f. x.harmed leaf (l.sector_of f c)) row_is ∙ harmless) known in
           let first : l.sector_of pointer.first c + 0 ≡ l.sector_of pointer.first c = omega arith in
           let bytes : x.reads leaf (l.sector_of pointer.first c) ≡ Some (column_at read.columns c)
           = ap (x.reads leaf) (sym first) ∙ stand zero (omega (arith, one)) ∙ ap Some (all_of part.geometry.props.sector (column_at read.columns c) t.long) in
-          some_same (x.reads leaf (l.sector_of pointer.first c)) (column_at read.columns c) (pieces n.key c s.row) bytes holds_it
+          sym bytes ∙ holds_it

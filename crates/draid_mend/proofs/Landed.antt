@@ -1,6 +1,6 @@
 -- What lands of a stripe.
 use Rattle.std.proofs.Common.{◌≡◌, ◌<◌, ◌||◌, ◌++◌, ◌∙◌, ℕ, zero, suc, Bool, true, false, List, [], ◌∷◌, Option, Some, None, refl, sym, ap, ap₂, subst, inl, inr}
-use Rattle.std.specs.Prelude.{Contains, is_none, if◌then◌else◌}
+use Rattle.std.specs.Prelude.{Contains, IsSome, is_none, if◌then◌else◌}
 use Rattle.draid_names.specs.declared.arm.At.{At}
 use Rattle.draid_machine.specs.After.{is_chosen_aside}
 use Rattle.draid_machine.specs.Arms.{leaf_at, passes}
@@ -16,7 +16,7 @@ use Rattle.draid_segments.specs.Acts.{is_chosen_harmed, is_source_harmed}
 use Rattle.draid_segments.specs.Segments.{Pieces, piece_of}
 use Rattle.draid_spec.specs.declared.layout.Geometry.{Geometry}
 use Rattle.draid_mend.specs.Landing.{AreMissing, IsRight, LoanStands, sector_of_arm, sector_on, sectors_below, sources_of}
-use Rattle.draid_mend.specs.Solving.{HasContent, IsPiece, SolvesRow}
+use Rattle.draid_mend.specs.Solving.{HasContent, HasKnownContent, IsPiece, SolvesRow}
 
 -- ---- sources
 taints_both : (a b : List At) (x : Told) → taints (a ++ b) x ≡ (taints a x || taints b x)
@@ -60,20 +60,26 @@ none_at count p c none less = elim (bool_cases (p c)) [
 ]
 
 pub right : (geometry : Geometry) (l : machine.Layout) (w : machine.State) (n : machine.Loan) (h : Held) (pieces : Pieces) (read solved : StripeValue) (missing : List ℕ) (x : Told) (s : Segment) → l.columns ≡ geometry.g
-    → AreMissing l n missing → LoanStands l w n h pieces read x → SolvesRow geometry missing read solved → HasContent geometry h.stripes n.key pieces → s.row < h.stripes → IsRight l w n h pieces solved x s
-right geometry l w n h pieces read solved missing x s columns are stands solves content row column key stripe harmed aside = by (n.chosen s.column) refl
+    → AreMissing l n missing → LoanStands l w n h pieces read x → SolvesRow geometry missing read solved → HasKnownContent geometry h.stripes n.key pieces → s.row < h.stripes → IsRight l w n h pieces solved x s
+right geometry l w n h pieces read solved missing x s columns are stands solves contents row column key stripe harmed aside known = by (n.chosen s.column) refl
   where
     piece : pieces n.key s.column s.row ≡ piece_of pieces s
     piece = ap (λ k. pieces k s.column s.row) key
 
-    by : (o : Option ArmName) → n.chosen s.column ≡ o → column_at solved.columns s.column ≡ piece_of pieces s
+    content : HasContent geometry h.stripes n.key pieces
+    content = contents s.column s.row (subst (λ (o : Option (List ℕ)). IsSome o) (sym piece) known)
+
+    all_known : (c : ℕ) → c < l.columns → IsSome (pieces n.key c s.row)
+    all_known c less = subst (λ (o : Option (List ℕ)). IsSome o) (sym (content.rows c s.row (subst (λ g. c < g) columns less) row)) refl
+
+    by : (o : Option ArmName) → n.chosen s.column ≡ o → Some (column_at solved.columns s.column) ≡ piece_of pieces s
     by (Some m) is =
         let out : Contains missing s.column → ⊥ = (λ here. let none = (are s.column column).0 here in (let clash : Some m ≡ None = sym is ∙ none in cc)) in
         let calm : is_chosen_harmed l w.core x n s.column (Some m) ≡ false
         = sym (ap (λ o. if is_none o then any_below l.columns (λ c. is_chosen_harmed l w.core x n c (n.chosen c)) else is_chosen_harmed l w.core x n s.column o) is) ∙ harmed in
         let sure : is_chosen_aside l w n s s.column (Some m) ≡ false
         = sym (ap (λ o. if is_none o then any_below l.columns (λ c. is_chosen_aside l w n s c (n.chosen c)) else is_chosen_aside l w n s s.column o) is) ∙ aside in
-        solves.stays s.column out ∙ stands s.column m s column is key stripe calm sure ∙ piece
+        ap Some (solves.stays s.column out) ∙ stands s.column m s column is key stripe calm sure (all_known s.column column) ∙ piece
     by None is =
         let calm : any_below l.columns (λ c. is_chosen_harmed l w.core x n c (n.chosen c)) ≡ false
         = sym (ap (λ o. if is_none o then any_below l.columns (λ c. is_chosen_harmed l w.core x n c (n.chosen c)) else is_chosen_harmed l w.core x n s.column o) is) ∙ harmed in
@@ -90,4 +96,4 @@ right geometry l w n h pieces read solved missing x s columns are stands solves 
             at (Some m) some =
                 stands c m s less some key stripe
                 (sym (ap (is_chosen_harmed l w.core x n c) some) ∙ none_at l.columns (λ c. is_chosen_harmed l w.core x n c (n.chosen c)) c calm less)
-                (sym (ap (is_chosen_aside l w n s c) some) ∙ none_at l.columns (λ c. is_chosen_aside l w n s c (n.chosen c)) c sure less)
+                (sym (ap (is_chosen_aside l w n s c) some) ∙ none_at l.columns (λ c. is_chosen_aside l w n s c (n.chosen c)) c sure less) (all_known c less)

@@ -33,7 +33,7 @@ use Rattle.draid_shard.proofs.Passing.{own_place}
 use Rattle.draid_mend.specs.Lands.{IsSolvable, KeptStands, LandsSolved}
 use Rattle.draid_mend.specs.Loans.{IsRunningRebuild, unit_at}
 use Rattle.draid_mend.specs.Missing.{missing_of}
-use Rattle.draid_mend.specs.Solving.{HasContent}
+use Rattle.draid_mend.specs.Solving.{HasKnownContent}
 use Rattle.draid_mend.specs.Landing.{LoanStands}
 use Rattle.draid_mend.specs.Stands.{IsStripeOf}
 use Rattle.draid_mend.specs.Stripes.{LandsBelow}
@@ -171,5 +171,5 @@ module _ {R A : Type 0} (rack : Ghosts R) (old : Shard R A) (v : Valid rack old)
                 are = are_missing l kept (sym is_kept.chosen);
                 stands = subst (λ i. LoanStands l w n i pieces is.read x) same is.stands;
                 solves = is.solves;
-                content = subst (λ (i : Held). HasContent old.geometry i.stripes (key_of kept.pointer) pieces) same is.content;
+                content = subst (λ (i : Held). HasKnownContent old.geometry i.stripes (key_of kept.pointer) pieces) same is.content;
               })

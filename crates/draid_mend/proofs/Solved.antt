@@ -1,5 +1,5 @@
 -- The columns that are solved from a row of a block are those of the block.
-use Rattle.std.proofs.Common.{◌≡◌, ◌+◌, ◌-◌, ◌*◌, ◌<◌, ◌≤◌, ◌∙◌, ◌++◌, ℕ, List, [], ◌∷◌, arith, refl, sym, ap, subst, take, drop, replicate, get_or, length, inl, inr}
+use Rattle.std.proofs.Common.{◌≡◌, ◌+◌, ◌-◌, ◌*◌, ◌<◌, ◌≤◌, ◌∙◌, ◌++◌, ℕ, List, [], ◌∷◌, Some, arith, refl, sym, ap, subst, take, drop, replicate, get_or, length, inl, inr}
 use Rattle.std.specs.Prelude.{All, Contains, slice_index}
 use Rattle.std.proofs.Math.Nat.{mul-le-mul_right}
 use Rattle.std.proofs.lemmas.Bool.{cases_lt}
@@ -13,6 +13,7 @@ use Rattle.draid_parity.specs.Columns.{Completes, IsStripe, SolvesColumns, Strip
 use Rattle.draid_block.specs.Blocks.{column_len, cut_of}
 use Rattle.draid_block.specs.Columns.{Cut, data_column, sectors_before, sectors_in, stripes_of}
 use Rattle.draid_machine.specs.declared.names.Key.{Key}
+use Rattle.draid_machine.proofs.Small.{some_same}
 use Rattle.draid_segments.specs.Segments.{Pieces}
 use Rattle.draid_shard.specs.Columns.{row_bytes}
 use Rattle.draid_mend.specs.Solving.{HasContent, IsOneSector, IsPiece, SolvesRow, sectors_of}
@@ -96,8 +97,8 @@ module _ (geometry : Geometry) (g : IsGeometry geometry) (missing : List ℕ) (o
     at_row : (i : ℕ) → i < geometry.g → column_at whole i ≡ row_bytes size (column_at h.columns i) row
     at_row i low = column_row size row h.columns i (subst (λ n. i < n) (columns_are ∙ sym many) low)
 
-    piece_is : (i : ℕ) → i < geometry.g → column_at whole i ≡ pieces key i row
-    piece_is i low = at_row i low ∙ sym (h.rows i row low less)
+    piece_is : (i : ℕ) → i < geometry.g → IsPiece pieces key row (record old { columns = whole }) i
+    piece_is i low = ap Some (at_row i low) ∙ sym (h.rows i row low less)
 
     whole_stripe : IsStripe (record old { columns = whole })
     whole_stripe = record {
@@ -130,7 +131,7 @@ module _ (geometry : Geometry) (g : IsGeometry geometry) (missing : List ℕ) (o
           subst (λ (p : ℕ). IsCodeword p (byte_row j whole)) (sym of.parity)
           (subst (IsCodeword geometry.spec.parity) (sym (byte_rows size row j h.columns short)) (h.are.codewords (row * size + j) (inside j short))));
       stays = λ i out. elim (cases_lt i geometry.g) [
-        | inl low ↦ piece_is i low ∙ sym (read i low out)
+        | inl low ↦ some_same (pieces key i row) (column_at whole i) (column_at old.columns i) (sym (piece_is i low)) (sym (read i low out))
         | inr high ↦ past i high
       ];
     } where
@@ -149,7 +150,7 @@ module _ (geometry : Geometry) (g : IsGeometry geometry) (missing : List ℕ) (o
           within a b c k lt kl = let up : (a + 1) * c ≤ b * c = mul-le-mul_right c (omega (arith, lt)) in let next : (a + 1) * c ≡ a * c + c = grind arith in omega (arith, up, next, kl)
 
     pub solved : (c : ℕ) → c < geometry.g → IsPiece pieces key row new c
-    solved c low = ap (λ columns. column_at columns c) (restores whole completes) ∙ piece_is c low
+    solved c low = ap (λ columns. Some (column_at columns c)) (restores whole completes) ∙ piece_is c low
 
   pub solves_row : SolvesRow geometry missing old new
   solves_row = record {

@@ -303,7 +303,7 @@ module _ (part : Part) (is : IsPart part) (slots : SlotTable) (of : IsOf slots p
           };
           there = λ s mended sound. is_there (reads_at l h s y) (column_at solved.columns s.column) (reads_there s (parse s mended) sound);
           harmed = λ s mended sound. harm s (parse s mended) sound;
-          reads = λ s mended sound harmless sure. reads s (parse s mended) sound harmless sure;
+          reads = λ s mended sound harmless sure known. reads s (parse s mended) sound harmless sure known;
         } where
           lies_there : (leaf sector : ℕ) → landed_below part slots pointer targets part.geometry.g leaf sector ≡ true → LiesThere l h (is_mended l w.core p n h) leaf sector
           lies_there leaf sector on =
@@ -322,7 +322,7 @@ module _ (part : Part) (is : IsPart part) (slots : SlotTable) (of : IsOf slots p
               ∙ ap (λ a. taints a x) (sym (sources_same s.column o.column)) ∙ taints_are l w.core n s x
 
           reads : (s : Segment) → IsOnTarget s → fails l w.core failed s.arm n.stripe ≡ false → is_source_harmed l w.core x n s ≡ false → is_source_aside l w n s ≡ false
-              → reads_at l h s y ≡ Some (piece_of pieces s)
-          reads s o sound harmless sure =
+              → IsSome (piece_of pieces s) → reads_at l h s y ≡ piece_of pieces s
+          reads s o sound harmless sure known =
               reads_there s o sound
-              ∙ ap Some (right part.geometry l w n h pieces read solved missing x s refl right_is.are right_is.stands right_is.solves right_is.content o.inside o.column o.key_same (o.row_is ∙ sym stripe_is) harmless sure)
+              ∙ right part.geometry l w n h pieces read solved missing x s refl right_is.are right_is.stands right_is.solves right_is.content o.inside o.column o.key_same (o.row_is ∙ sym stripe_is) harmless sure known

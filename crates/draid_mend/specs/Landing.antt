@@ -1,5 +1,5 @@
 -- What lands of a stripe is its block's, and harmed just where it was made of something harmed.
-use Rattle.std.specs.Prelude.{◌≡◌, ◌+◌, ◌<◌, ◌↔◌, ◌++◌, ◌∷◌, [], ℕ, zero, suc, false, true, List, Option, Some, None, Contains, is_none, slice_index_or, if◌then◌else◌}
+use Rattle.std.specs.Prelude.{◌≡◌, ◌+◌, ◌<◌, ◌↔◌, ◌++◌, ◌∷◌, [], ℕ, zero, suc, false, true, List, Option, Some, None, Contains, IsSome, is_none, slice_index_or, if◌then◌else◌}
 use Rattle.draid_names.specs.declared.arm.At.{At}
 use Rattle.draid_machine.specs.After.{is_chosen_aside, is_source_aside}
 use Rattle.draid_machine.specs.Arms.{leaf_at}
@@ -41,16 +41,17 @@ pub record IsApartSource (part : Part) (w : machine.State) (stripe c : ℕ) (sou
 abbrev pub AreApartSources : Part → machine.State → ℕ → List (Option Source) → Type 0
 AreApartSources part w stripe chosen = (c : ℕ) (source : Source) → c < part.geometry.g → slice_index_or chosen c None ≡ Some source → IsApartSource part w stripe c source
 
--- The loan fact: what was read of a column is its block's piece, unless the sector is harmed or the segment in doubt.
+-- The loan fact: what was read of a column is its block's piece, where that is known, unless the sector is harmed or the segment in doubt.
 abbrev pub LoanStands : machine.Layout → machine.State → machine.Loan → Held → Pieces → StripeValue → Told → Type 0
 LoanStands l w n h pieces read x = (c : ℕ) (m : ArmName) (s : Segment) → c < l.columns → n.chosen c ≡ Some m → n.key ≡ s.key → h.first + s.row ≡ n.stripe
-    → is_chosen_harmed l w.core x n c (Some m) ≡ false → is_chosen_aside l w n s c (Some m) ≡ false → column_at read.columns c ≡ pieces n.key c s.row
+    → is_chosen_harmed l w.core x n c (Some m) ≡ false → is_chosen_aside l w n s c (Some m) ≡ false
+    → IsSome (pieces n.key c s.row) → Some (column_at read.columns c) ≡ pieces n.key c s.row
 
 -- just the columns are missing that weren't taken
 abbrev pub AreMissing : machine.Layout → machine.Loan → List ℕ → Type 0
 AreMissing l n missing = (c : ℕ) → c < l.columns → (Contains missing c ↔ (n.chosen c ≡ None))
 
--- a solved column is the piece of a segment of the stripe, where nothing of which it was made is harmed or in doubt
+-- a solved column is the piece of a segment of the stripe, where that is known and nothing of which it was made is harmed or in doubt
 abbrev pub IsRight : machine.Layout → machine.State → machine.Loan → Held → Pieces → StripeValue → Told → Segment → Type 0
 IsRight l w n h pieces solved x s = s.column < l.columns → n.key ≡ s.key → h.first + s.row ≡ n.stripe → is_source_harmed l w.core x n s ≡ false → is_source_aside l w n s ≡ false
-    → column_at solved.columns s.column ≡ piece_of pieces s
+    → IsSome (piece_of pieces s) → Some (column_at solved.columns s.column) ≡ piece_of pieces s

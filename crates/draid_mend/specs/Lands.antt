@@ -31,19 +31,19 @@ use Rattle.draid_mend.specs.Landing.{AreApartSources, LoanStands}
 use Rattle.draid_mend.specs.Loans.{unit_at}
 use Rattle.draid_mend.specs.Losing.{LosesMissed}
 use Rattle.draid_mend.specs.Missing.{missing_of}
-use Rattle.draid_mend.specs.Solving.{HasContent, IsOneSector, SolvesRow}
+use Rattle.draid_mend.specs.Solving.{HasKnownContent, IsOneSector, SolvesRow}
 use Rattle.draid_mend.specs.Stripes.{FailsColumns, LandsBelow}
 
 -- no more columns of a loan are missing than the parity solves
 abbrev pub IsSolvable : Geometry → LentStripe → Type 0
 IsSolvable geometry kept = length (missing_of kept) ≤ geometry.spec.parity
 
--- What is kept of a loan is right in a state: the loan fact holds of what was read, the missing columns were solved of that, and its block has
--- content.
+-- What is kept of a loan is right in a state: the loan fact holds of what was read, the missing columns were solved of that, and what is known of
+-- its block is its content.
 pub record KeptStands (part : Part) (w : machine.State) (kept : LentStripe) (pieces : Pieces) (x : Told) : Type 0 where
   pub h : Held
   pub found : w.core.held (key_of kept.pointer) ≡ Some h
-  pub content : HasContent part.geometry h.stripes (key_of kept.pointer) pieces
+  pub content : HasKnownContent part.geometry h.stripes (key_of kept.pointer) pieces
   pub read : StripeValue
   pub stands : LoanStands (layout_in part) w (stripe_loan kept) h pieces read x
   pub solves : SolvesRow part.geometry (missing_of kept) read kept.columns

@@ -1,5 +1,5 @@
 -- The columns of a stripe that are solved from those that were read are the block's.
-use Rattle.std.specs.Prelude.{◌≡◌, ◌<◌, ℕ, List, Contains, length, map, slice_index}
+use Rattle.std.specs.Prelude.{◌≡◌, ◌<◌, ℕ, List, Some, Contains, IsSome, length, map, slice_index}
 use Rattle.draid_gf.specs.Field.{IsByte}
 use Rattle.draid_parity.specs.Columns.{StripeValue, column_at}
 use Rattle.draid_block.specs.Blocks.{AreColumns, cut_of}
@@ -22,6 +22,10 @@ pub record HasContent (geometry : Geometry) (stripes : ℕ) (key : Key) (pieces 
   pub rows : ArePieces geometry.props.sector geometry.g stripes columns key pieces
   pub long : stripes ≡ stripes_of (cut_of geometry) (length bytes)
 
+-- where some piece of a key is known, all are, and these are the pieces of some bytes
+abbrev pub HasKnownContent : Geometry → ℕ → Key → Pieces → Type 0
+HasKnownContent geometry stripes key pieces = (c row : ℕ) → IsSome (pieces key c row) → HasContent geometry stripes key pieces
+
 -- a stripe has one sector of each column of a layout
 pub record IsOneSector (geometry : Geometry) (stripe : StripeValue) : Type 0 where
   pub parity : stripe.parity ≡ geometry.spec.parity
@@ -30,7 +34,7 @@ pub record IsOneSector (geometry : Geometry) (stripe : StripeValue) : Type 0 whe
 
 -- a column of a stripe that was read is the block's piece in a row
 abbrev pub IsPiece : Pieces → Key → ℕ → StripeValue → ℕ → Type 0
-IsPiece pieces key row stripe c = column_at stripe.columns c ≡ pieces key c row
+IsPiece pieces key row stripe c = Some (column_at stripe.columns c) ≡ pieces key c row
 
 -- What was solved of a row of a block. A column that was read stays as it was. Where all those that were read are the block's, so are the missing ones.
 pub record SolvesRow (geometry : Geometry) (missing : List ℕ) (old new : StripeValue) : Type 0 where

@@ -9,7 +9,7 @@ use Rattle.draid_rack.specs.Rack.{Told}
 use Rattle.draid_segments.specs.Segments.{Pieces}
 use Rattle.draid_shard.specs.Part.{IsRun, Part, layout_in}
 use Rattle.draid_mend.specs.Landing.{AreMissing, LoanStands}
-use Rattle.draid_mend.specs.Solving.{HasContent, SolvesRow}
+use Rattle.draid_mend.specs.Solving.{HasKnownContent, SolvesRow}
 
 -- a stripe of a block that is held, within the block
 pub record IsStripeOf (part : Part) (w : machine.State) (key : Key) (h : Held) (row : ℕ) (pointer : Pointer) : Type 0 where
@@ -24,4 +24,4 @@ pub record IsSolved (part : Part) (w : machine.State) (n : machine.Loan) (h : He
   pub are : AreMissing (layout_in part) n missing
   pub stands : LoanStands (layout_in part) w n h pieces read x
   pub solves : SolvesRow part.geometry missing read solved
-  pub content : HasContent part.geometry h.stripes n.key pieces
+  pub content : HasKnownContent part.geometry h.stripes n.key pieces

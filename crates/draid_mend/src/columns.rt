@@ -5,7 +5,7 @@ ghost use Rattle.draid_names.specs.declared.arm.ArmAt.{ArmAt};
 ghost use Rattle.draid_rack.specs.Rack.{OnBothTold, Told};
 ghost use Rattle.draid_shard.specs.Calls.{CountsFailed};
 ghost use Rattle.draid_shard.specs.Part.{IsPart, IsRun};
-ghost use Rattle.draid_shard.specs.Rows.{FitsRows};
+ghost use Rattle.draid_shard.specs.Rows.{FitsRows, IsStripePlace};
 ghost use Rattle.draid_shard.specs.States.{part_of};
 ghost use Rattle.draid_mend.specs.Lands.{IsLaid};
 ghost use Rattle.draid_mend.specs.Solving.{IsOneSector};
@@ -17,7 +17,7 @@ use draid_area::Area;
 use draid_names::{ArmAt, At, Pointer};
 use draid_parity::Stripe;
 use draid_rack::Rack;
-use draid_shard::{ColumnRows, Shard, Source};
+use draid_shard::{ColumnRows, Shard, Source, StripePlace};
 
 /// How many columns a stripe may have.
 const MOST_COLUMNS: usize = 64;
@@ -48,9 +48,12 @@ pub(crate) fn land_columns<R: Rack, A: Area>(
     ensures counts { (first : Option ℕ → ℕ) → CountsFailed failed.old.items first (R.faults shard.old.rack) → CountsFailed failed.new.items first (R.faults shard.new.rack) }
     ensures answered { result ≡ true → AnswerBelow (part_of shard.old) shard.old.slots pointer.now targets.now shard.old.geometry.g }
 {
+    let place = shard.stripe_place(pointer);
     let mut answered = true;
     for column in 0..shard.geometry.g {
-        answered = land_next(shard, pointer, targets, chosen, columns, column, failed) && answered;
+        answered = land_next(
+            shard, pointer, &place, targets, chosen, columns, column, failed,
+        ) && answered;
     }
     answered
 }
@@ -59,6 +62,7 @@ pub(crate) fn land_columns<R: Rack, A: Area>(
 fn land_next<R: Rack, A: Area>(
     shard: &mut Shard<R, A>,
     pointer: &Pointer,
+    place: &StripePlace,
     targets: &[ArmAt],
     chosen: &[Option<Source>],
     columns: &Stripe,
@@ -67,6 +71,7 @@ fn land_next<R: Rack, A: Area>(
 ) -> bool
     requires laid { IsLaid R.Rack shard.old }
     requires run { IsRun shard.old.geometry pointer.now.first pointer.now.stripes }
+    requires place { IsStripePlace (part_of shard.old) pointer.now.first place.now }
     requires one { pointer.now.stripes ≡ 1 }
     requires there { AreThere shard.old.slots targets.now }
     requires shape { IsOneSector shard.old.geometry columns.now }
@@ -86,7 +91,7 @@ fn land_next<R: Rack, A: Area>(
     ensures answered { result ≡ true → AnswerBelow (part_of shard.old) shard.old.slots pointer.now targets.now column
         → AnswerBelow (part_of shard.old) shard.old.slots pointer.now targets.now (column + 1) }
 {
-    let rows = shard.rows_of(pointer, column);
+    let rows = shard.rows_at(place, pointer, column);
     if !has_target(targets, rows.slot) {
         return true;
     }
@@ -106,7 +111,7 @@ fn land_next<R: Rack, A: Area>(
             failed,
         );
     }
-    land_missing(shard, pointer, targets, chosen, rows, bytes, failed)
+    land_missing(shard, pointer, place, targets, chosen, rows, bytes, failed)
 }
 
 /// Whether one of the targets is an arm of a slot.
@@ -120,6 +125,7 @@ fn has_target(targets: &[ArmAt], slot: u32) -> bool
 fn land_missing<R: Rack, A: Area>(
     shard: &mut Shard<R, A>,
     pointer: &Pointer,
+    place: &StripePlace,
     targets: &[ArmAt],
     chosen: &[Option<Source>],
     rows: ColumnRows,
@@ -128,6 +134,7 @@ fn land_missing<R: Rack, A: Area>(
 ) -> bool
     requires part { IsPart (part_of shard.old) }
     requires run { IsRun shard.old.geometry pointer.now.first pointer.now.stripes }
+    requires place { IsStripePlace (part_of shard.old) pointer.now.first place.now }
     requires chosen { length chosen.now ≡ shard.old.geometry.g }
     requires fits { FitsRows (R.shape shard.old.rack) shard.old.slots rows }
     requires there { AreThere shard.old.slots targets.now }
@@ -145,7 +152,7 @@ fn land_missing<R: Rack, A: Area>(
     ensures answered { result ≡ true → AllAnswer shard.old.slots rows targets.now (length targets.now) }
 {
     let mut list = [At { leaf: 0, sector: 0 }; MOST_COLUMNS];
-    let count = list_sources(shard, pointer, chosen, &mut list);
+    let count = list_sources(shard, pointer, place, chosen, &mut list);
     mend_targets(
         &mut shard.rack,
         &shard.slots,
@@ -161,11 +168,13 @@ fn land_missing<R: Rack, A: Area>(
 fn list_sources<R: Rack, A: Area>(
     shard: &Shard<R, A>,
     pointer: &Pointer,
+    place: &StripePlace,
     chosen: &[Option<Source>],
     list: &mut [At],
 ) -> usize
     requires part { IsPart (part_of shard.now) }
     requires run { IsRun shard.now.geometry pointer.now.first pointer.now.stripes }
+    requires place { IsStripePlace (part_of shard.now) pointer.now.first place.now }
     requires chosen { length chosen.now ≡ shard.now.geometry.g }
     requires room { shard.now.geometry.g ≤ length list.old }
     ensures long { length list.new ≡ length list.old }
@@ -177,7 +186,7 @@ fn list_sources<R: Rack, A: Area>(
         if let Some(source) = chosen[column as usize] {
             list[count] = At {
                 leaf: source.leaf,
-                sector: shard.rows_of(pointer, column).first,
+                sector: shard.rows_at(place, pointer, column).first,
             };
             count += 1;
         }

@@ -10,7 +10,7 @@ ghost use Rattle.draid_segments.specs.Segments.{Holds, Pieces};
 ghost use Rattle.draid_machine.specs.declared.names.Segment.{Segment};
 ghost use Rattle.draid_mend.specs.Landing.{AreApartSources, AreMissing, IsRight, LoanStands, sources_of};
 ghost use Rattle.draid_mend.specs.Lands.{IsSolvable, KeptStands};
-ghost use Rattle.draid_mend.specs.Solving.{HasContent, SolvesRow};
+ghost use Rattle.draid_mend.specs.Solving.{HasKnownContent, SolvesRow};
 ghost use Rattle.draid_machine.specs.After.{land_stripe_state, lend_state, unsourced};
 ghost use Rattle.draid_machine.specs.Created.{IsReached};
 ghost use Rattle.draid_machine.specs.State as machine;
@@ -62,12 +62,12 @@ pub fn sources_taint()
 {}
 
 /// Law: of a stripe that was solved of what was read, where the loan fact holds of that, each column is its block's piece
-/// where nothing of which it was made is harmed or in doubt.
+/// where that is known and nothing of which it was made is harmed or in doubt.
 pub fn solved_columns_are_right()
     ensures { (geometry : Geometry) (l : machine.Layout) (w : machine.State) (n : machine.Loan) (h : Held) (pieces : Pieces)
         (read solved : StripeValue) (missing : List ℕ) (x : Told) (s : Segment) → l.columns ≡ geometry.g
         → AreMissing l n missing → LoanStands l w n h pieces read x → SolvesRow geometry missing read solved
-        → HasContent geometry h.stripes n.key pieces → s.row < h.stripes → IsRight l w n h pieces solved x s }
+        → HasKnownContent geometry h.stripes n.key pieces → s.row < h.stripes → IsRight l w n h pieces solved x s }
 {}
 
 /// Law: no two columns of a stripe land on one leaf, and none lands on a source, since no source is a target.
@@ -96,8 +96,8 @@ pub fn stripes_are_mended()
         → MendsStripe (layout_in part) w p n h failed pieces x y }
 {}
 
-/// Law: as a rebuild's stripe is lent, the loan fact holds of what was read: each chosen reading is its block's piece, unless
-/// its segment is harmed or in doubt.
+/// Law: as a rebuild's stripe is lent, the loan fact holds of what was read: each chosen reading is its block's piece, where that
+/// is known, unless its segment is harmed or in doubt.
 pub fn loans_begin_right()
     ensures { (part : Part) (slots : SlotTable) (w : machine.State) (p : machine.Pass) (key : Key) (h : Held) (pointer : Pointer) (x : Told)
         (read : StripeValue) (taken : List Taken) (failed : Vec ℕ Global) (pieces : Pieces)
@@ -139,7 +139,7 @@ pub fn missing_columns_are_listed()
 pub fn solved_loans_stand<R: Rack, A: Area>()
     ensures { (part : Part) (old lent solved : Shard R A) (w v : machine.State) (pieces : Pieces) (kept : LentStripe) (unit : LendsUnit R.Rack old lent)
         → part_of old ≡ part → Valid R.Rack old → Valid R.Rack lent → IsSomeAnd old.pass IsRunningRebuild → StandsFor R.Rack old w pieces
-        → ((k : Key) (h : Held) → w.core.held k ≡ Some h → HasContent part.geometry h.stripes k pieces)
+        → ((k : Key) (h : Held) → w.core.held k ≡ Some h → HasKnownContent part.geometry h.stripes k pieces)
         → R.told lent.rack ≡ R.told old.rack → Step (layout_in part) w (Lend unit.failed) v → IsIn lent v
         → SolvesLoan old.geometry lent.kept solved.kept → solved ≡ record lent { kept = solved.kept }
         → solved.kept ≡ Some (Stripe kept) → IsSolvable part.geometry kept → OnTold (R.told solved.rack) (KeptStands part v kept pieces) }

@@ -3,6 +3,7 @@ ghost use Rattle.std.specs.Prelude.{◌≡◌, ◌+◌, ◌++◌, ◌∷◌, ◌
 ghost use Rattle.draid_shard.specs.Calls.{CountsFailed};
 ghost use Rattle.draid_shard.specs.Fits.{Valid};
 ghost use Rattle.draid_shard.specs.Part.{IsRun};
+ghost use Rattle.draid_shard.specs.Rows.{IsStripePlace};
 ghost use Rattle.draid_shard.specs.States.{part_of};
 ghost use Rattle.draid_mend.specs.Loans.{ReadsNamed};
 ghost use Rattle.draid_mend.specs.Reading.{HasRoomFor, failed_with};
@@ -13,7 +14,7 @@ use draid_area::Area;
 use draid_names::Pointer;
 use draid_parity::Stripe;
 use draid_rack::Rack;
-use draid_shard::{Shard, Source};
+use draid_shard::{Shard, Source, StripePlace};
 
 /// What was read of a stripe: its columns, of each the arm from which it was taken, and the leaves on which calls failed.
 #[derive(Drop)]
@@ -41,8 +42,9 @@ pub(crate) fn read_stripe<R: Rack, A: Area>(
     ensures counts { CountsFailed lent.new.failed.items (R.faults shard.old.rack) (R.faults shard.new.rack) }
     ensures room { HasRoomFor shard.old.geometry lent.new }
 {
+    let place = shard.stripe_place(pointer);
     for column in 0..shard.geometry.g {
-        read_next(shard, pointer, column, lent);
+        read_next(shard, pointer, &place, column, lent);
     }
 }
 
@@ -50,11 +52,13 @@ pub(crate) fn read_stripe<R: Rack, A: Area>(
 fn read_next<R: Rack, A: Area>(
     shard: &mut Shard<R, A>,
     pointer: &Pointer,
+    place: &StripePlace,
     column: u32,
     lent: &mut Readings,
 )
     requires valid { Valid R.Rack shard.old }
     requires run { IsRun shard.old.geometry pointer.now.first pointer.now.stripes }
+    requires place { IsStripePlace (part_of shard.old) pointer.now.first place.now }
     requires one { pointer.now.stripes ≡ 1 }
     requires less { column < shard.old.geometry.g }
     requires before { ReadsNamed (part_of shard.old) shard.old.slots pointer.now column (R.told shard.old.rack) lent.old.columns.columns lent.old.failed.items lent.old.chosen.items }
@@ -66,7 +70,7 @@ fn read_next<R: Rack, A: Area>(
     ensures counts { (first : Option ℕ → ℕ) → CountsFailed lent.old.failed.items first (R.faults shard.old.rack) → CountsFailed lent.new.failed.items first (R.faults shard.new.rack) }
     ensures room { HasRoomFor shard.old.geometry lent.new }
 {
-    let rows = shard.rows_of(pointer, column);
+    let rows = shard.rows_at(place, pointer, column);
     let taken = read_into(
         &mut shard.rack,
         &shard.slots,

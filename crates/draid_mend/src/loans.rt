@@ -24,7 +24,7 @@ use draid_machine::Event;
 use draid_names::{NoMemory, Pointer};
 use draid_pass::Pass;
 use draid_rack::Rack;
-use draid_shard::{KeptLoan, LendFault, Lent, LentStripe, Shard};
+use draid_shard::{KeptLoan, LendFault, Lent, LentStripe, Shard, taken_out};
 
 /// Lends the next stripe that a block has, at the place where a rebuild stands or behind it: each column is read from its
 /// source. The loan that counted doesn't any more.
@@ -160,8 +160,7 @@ fn make_room<R: Rack, A: Area>(shard: &mut Shard<R, A>) -> Result<LendRoom, Rese
 {
     shard.history.ask(events_of(&shard.kept))?;
     let targets = targets_of(&shard.pass);
-    let idle = shard.idle.take();
-    match room_for(shard.alloc, &shard.geometry, targets, idle) {
+    match room_for(shard.alloc, &shard.geometry, targets, &mut shard.idle) {
         Ok(room) => Ok(room),
         Err(NoMemory) => Err(ReserveFault::NoMemory),
     }
@@ -190,7 +189,7 @@ fn lend_unit<R: Rack, A: Area>(shard: &mut Shard<R, A>, entry: Entry, stripe: u6
     let Readings {
         columns,
         chosen,
-        failed: faults,
+        failed: mut faults,
     } = lent;
     shard.serial += 1;
     shard.kept = Some(KeptLoan::Stripe(LentStripe {
@@ -201,9 +200,8 @@ fn lend_unit<R: Rack, A: Area>(shard: &mut Shard<R, A>, entry: Entry, stripe: u6
         columns,
         failed,
     }));
-    shard
-        .history
-        .add_asked(Event::Lend { failed: faults }, events);
+    let failed = taken_out(&mut faults, shard.alloc);
+    shard.history.add_asked(Event::Lend { failed }, events);
 }
 
 /// One stripe of a block.

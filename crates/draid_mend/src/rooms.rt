@@ -31,7 +31,7 @@ pub(crate) fn room_for(
     alloc: Global,
     geometry: &Geometry,
     targets: usize,
-    idle: Option<KeptLoan>,
+    idle: &mut Option<KeptLoan>,
 ) -> Result<LendRoom, NoMemory>
     requires geometry { IsGeometry geometry.now }
     ensures { IfOk result (HasLendRoom geometry.now targets) }
@@ -60,9 +60,9 @@ pub(crate) fn room_for(
     })
 }
 
-/// An earlier loan, if it was a stripe's.
-fn stripe_in(idle: Option<KeptLoan>) -> Option<LentStripe> {
-    match idle {
+/// Takes out an earlier loan. None where it wasn't a stripe's.
+fn stripe_in(idle: &mut Option<KeptLoan>) -> Option<LentStripe> {
+    match idle.take() {
         Some(KeptLoan::Stripe(kept)) => Some(kept),
         Some(KeptLoan::Block(_other)) => None,
         None => None,

@@ -2,7 +2,6 @@
 use Rattle.std.proofs.Common.{◌≡◌, ◌+◌, ◌-◌, ◌*◌, ◌/◌, ◌%◌, ◌<◌, ◌≤◌, ◌^◌, ◌∙◌, ℕ, refl, sym, ap, subst, arith, add_comm, mul_comm}
 use Rattle.std.proofs.Math.Nat.{add-mul-div_left, mod-lt, mul-le-mul_right}
 use Rattle.draid_spec.specs.Geometry.{IsGeometry, metaslab_sectors, metaslab_stripes, pool_stripes, slice_at}
-use Rattle.draid_map.specs.declared.sectors.Place.{Place}
 use Rattle.draid_map.specs.Place.{place_of}
 use Rattle.draid_map.proofs.Apart.{has_some}
 use Rattle.draid_map.proofs.Distinct.{index_in, place_slice}
@@ -94,19 +93,14 @@ module _ (part : Part) (is : IsPart part) where
       subst (λ band. sector / band < part.geometry.props.slices) (mul_comm part.geometry.props.height part.geometry.rows)
       (high_below part.geometry.props.height part.geometry.rows sector part.geometry.props.slices some.height some.rows less)
 
-  pub few_sectors : metaslab_sectors part.geometry < 2 ^ 64
-  few_sectors =
+  -- its sectors are few
+  pub low_sectors : metaslab_sectors part.geometry ≤ 67108864
+  low_sectors =
       let total = geometry_is.total in
       let some = geometry_is.props.some_metaslabs in
       let shape : part.geometry.props.metaslabs * part.geometry.props.slices * part.geometry.rows * part.geometry.props.height ≡ part.geometry.props.metaslabs * metaslab_sectors part.geometry = grind arith in
       let one : 1 * metaslab_sectors part.geometry ≤ part.geometry.props.metaslabs * metaslab_sectors part.geometry = mul-le-mul_right (metaslab_sectors part.geometry) some in
       omega (arith, total, shape, one)
 
--- the code's way to a place is the definition's
-pub slot_by : (part : Part) (x c : ℕ) (lies : Place) (number stripes : ℕ) → lies ≡ place_of part.geometry part.perms (number * stripes + x) c → number ≡ part.number → stripes ≡ metaslab_stripes part.geometry
-    → lies.child ≡ (layout_in part).slot_of x c
-slot_by part x c lies number stripes at n s = rw (at, n, s) refl
-
-pub sector_by : (part : Part) (x c : ℕ) (lies : Place) (number stripes sectors : ℕ) → lies ≡ place_of part.geometry part.perms (number * stripes + x) c → number ≡ part.number → stripes ≡ metaslab_stripes part.geometry
-    → sectors ≡ metaslab_sectors part.geometry → lies.sector - number * sectors ≡ (layout_in part).sector_of x c
-sector_by part x c lies number stripes sectors at n s t = rw (at, n, s, t) refl
+  pub few_sectors : metaslab_sectors part.geometry < 2 ^ 64
+  few_sectors = let low = low_sectors in omega (arith, low)

@@ -22,6 +22,7 @@ pub mod Once
 pub mod Over
 pub mod OwedAll
 pub mod Passing
+pub mod Placed
 pub mod SamePass
 pub mod Shown
 pub mod Sizes

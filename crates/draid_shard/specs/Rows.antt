@@ -1,13 +1,14 @@
 -- Where a column of a block belongs: its rows, the arms that have them, and what their logs have of the block.
-use Rattle.std.specs.Prelude.{◌≡◌, ◌==◌, ◌<◌, ◌≤◌, ◌+◌, ◌^◌, ◌||◌, ◌&&◌, not, ℕ, Bool, true, false, Option, Some, option_map, length, if◌then◌else◌}
+use Rattle.std.specs.Prelude.{◌≡◌, ◌==◌, ◌<◌, ◌≤◌, ◌+◌, ◌*◌, ◌/◌, ◌%◌, ◌^◌, ◌||◌, ◌&&◌, not, ℕ, Bool, true, false, Option, Some, option_map, length, if◌then◌else◌}
 use Rattle.draid_names.specs.declared.arm.Arm.{Arm}
 use Rattle.draid_names.specs.declared.arm.ArmAt.{ArmAt}
 use Rattle.draid_names.specs.declared.arm.ArmKind.TheVariants.{Spare}
 use Rattle.draid_names.specs.declared.pointer.Pointer.{Pointer}
-use Rattle.draid_spec.specs.Geometry.{metaslab_sectors, slice_at}
+use Rattle.draid_spec.specs.Geometry.{metaslab_sectors, slice_at, slice_sectors}
 use Rattle.draid_rack.specs.Rack.{Shape}
 use Rattle.draid_columns.specs.declared.rows.Rows.{Rows}
 use Rattle.draid_machine.specs.declared.names.ArmName.{ArmName}
+use Rattle.draid_layouts.specs.Layout.{pool_stripe, slice_in}
 use Rattle.draid_slots.specs.Changes.{IsSame}
 use Rattle.draid_slots.specs.Reading.{IsNone, IsRead, answers, answers_in, holder}
 use Rattle.draid_slots.specs.Table.{IsThere, SlotTable, arm_at, arms_of, is_at, is_logged, room_at}
@@ -16,6 +17,7 @@ use Rattle.draid_shard.specs.Fits.{HasLeaves}
 use Rattle.draid_shard.specs.Part.{Part, layout_in}
 use Rattle.draid_slots.specs.States.{name_of}
 use Rattle.draid_shard.specs.declared.places.ColumnRows.{ColumnRows}
+use Rattle.draid_shard.specs.declared.places.StripePlace.{StripePlace}
 
 -- the rows are those of this column of a pointer's block
 pub record IsRowsOf (part : Part) (pointer : Pointer) (column : ℕ) (rows : ColumnRows) : Type 0 where
@@ -25,6 +27,14 @@ pub record IsRowsOf (part : Part) (pointer : Pointer) (column : ℕ) (rows : Col
   pub size_is : rows.size ≡ part.geometry.props.sector
   pub birth_is : rows.birth ≡ pointer.birth
   pub slice_is : rows.slice ≡ slice_at part.geometry rows.first
+
+-- what the places of the columns of a stripe have in common: its slice in the pool and in the metaslab, the columns of the groups before its own
+-- there, and the sector that it has in the slice's first row
+pub record IsStripePlace (part : Part) (stripe : ℕ) (place : StripePlace) : Type 0 where
+  pub pool_slice_is : place.pool_slice ≡ slice_in part.geometry part.number stripe
+  pub slice_is : place.pool_slice ≡ part.number * part.geometry.props.slices + place.slice
+  pub before_is : place.before ≡ pool_stripe part.geometry part.number stripe / part.geometry.props.height % part.geometry.ngroups * part.geometry.g
+  pub sector_is : place.sector ≡ place.slice * slice_sectors part.geometry + pool_stripe part.geometry part.number stripe % part.geometry.props.height
 
 -- the rows of a column on a leaf
 abbrev pub rows_on : ColumnRows → ℕ → Rows

@@ -29,6 +29,6 @@ pub use loan::{
 };
 pub use logs::miss;
 pub use losing::{has_failed, missed_marks};
-pub use places::{ColumnRows, Extent, extent_of};
+pub use places::{ColumnRows, Extent, StripePlace, extent_of};
 pub use shard::Shard;
 pub use spots::list_spots;

@@ -35,6 +35,7 @@ returns-then-not-is_live g c = record {
   };
   kit = record { rack = refl; areas = record { even = refl; odd = refl } };
   reserve = record { reserved = refl; limit = refl };
+  pass = refl;
 }
 
 pub returns-in-Err-Worn-clause-valid : goal.returns-in-Err-Worn-clause-valid
@@ -68,6 +69,7 @@ returns-in-Err-NoMemory g c = record {
   none = asked_nothing c.args.shard.now c.ask.new.self c.ask.ensures.same;
   kit = record { rack = refl; areas = record { even = refl; odd = refl } };
   reserve = record { reserved = c.ask.ensures.same.reserved; limit = c.ask.ensures.same.limit };
+  pass = refl;
 }
 
 pub returns-in_default : goal.returns-in_default
@@ -83,6 +85,7 @@ returns-in_default g c = record {
   none = asked_nothing c.args.shard.now c.ask.new.self c.ask.ensures.same;
   kit = record { rack = refl; areas = record { even = refl; odd = refl } };
   reserve = record { reserved = c.ask.ensures.same.reserved; limit = c.ask.ensures.same.limit };
+  pass = refl;
 }
 
 pub returns : goal.returns
@@ -101,6 +104,7 @@ returns g c =
       none = tt;
       kit = tt;
       reserve = record { reserved = it.reserve.reserved ∙ same.reserved; limit = it.reserve.limit ∙ same.limit };
+      pass = it.pass;
     }
 
 pub returns-in-Err-Worn-clause-told : goal.returns-in-Err-Worn-clause-told

@@ -56,3 +56,6 @@ returns-clause-reserve g c =
       reserved = stored.reserved ∙ ap (λ (s : Shard g.row.R.Denot g.row.A.Denot). reserved_of s.history) e;
       limit = stored.limit ∙ ap (λ (s : Shard g.row.R.Denot g.row.A.Denot). limit_in s.history) e;
     }
+
+pub returns-clause-pass : goal.returns-clause-pass
+returns-clause-pass g c = ap (λ (s : Shard g.row.R.Denot g.row.A.Denot). s.pass) c.read_columns.ensures.rack

@@ -69,4 +69,5 @@ returns-then-not-is_live g c = record {
   sets = tt;
   same = refl;
   reserve = record { reserved = refl; limit = refl };
+  pass = refl;
 }

@@ -4,6 +4,7 @@ use Rattle.draid_rack.specs.Rack.{OnBothTold}
 use Rattle.draid_machine.proofs.Small.{absurd_test}
 use Rattle.draid_spec.specs.declared.layout.Geometry.{Geometry}
 use Rattle.draid_shard.specs.Part.{IsRun}
+use Rattle.draid_shard.specs.Rows.{IsStripePlace}
 use Rattle.draid_shard.specs.States.{part_of}
 use Rattle.draid_shard.proofs.WithRack.{geometry_in, rack_twice}
 use Rattle.draid_mend.specs.Solving.{IsOneSector}
@@ -32,6 +33,7 @@ land_next-requires g c =
     record {
       laid = laid_rack g.R.Rack c.args.shard.now c.loop-column.shard i.whole i.shape c.requires.laid;
       run = subst (λ (geometry : Geometry). IsRun geometry c.args.pointer.now.first c.args.pointer.now.stripes) (sym same) c.requires.run;
+      place = subst (λ s. IsStripePlace (part_of s) c.args.pointer.now.first c.stripe_place-place.result) (sym i.whole) c.stripe_place-place.ensures;
       one = c.requires.one;
       there = there_in c.args.shard.now c.loop-column.shard c.args.targets.now i.whole c.requires.there;
       shape = subst (λ (geometry : Geometry). IsOneSector geometry c.args.columns.now) (sym same) c.requires.shape;

@@ -8,41 +8,41 @@ use Rattle.draid_mend.proofs.columns.land_next.Goals as goal
 
 pub returns-then-not-has_target-clause-lands : goal.returns-then-not-has_target-clause-lands
 returns-then-not-has_target-clause-lands g c start was =
-    lands_past (part_of c.args.shard.now) c.args.shard.now.slots c.args.pointer.now c.args.targets.now c.args.column c.rows_of-rows.result c.rows_of-rows.ensures
-    (none_on c.rows_of-rows.result.slot c.args.targets.now (sym c.has_target.ensures ∙ c.if-not-has_target.true)) c.args.columns.now.columns c.args.chosen.now c.args.failed.now.items c.requires.less start (g.R.Rack.told c.args.shard.now.rack) was
+    lands_past (part_of c.args.shard.now) c.args.shard.now.slots c.args.pointer.now c.args.targets.now c.args.column c.rows_at-rows.result c.rows_at-rows.ensures
+    (none_on c.rows_at-rows.result.slot c.args.targets.now (sym c.has_target.ensures ∙ c.if-not-has_target.true)) c.args.columns.now.columns c.args.chosen.now c.args.failed.now.items c.requires.less start (g.R.Rack.told c.args.shard.now.rack) was
 
 pub returns-then-not-has_target-clause-fails : goal.returns-then-not-has_target-clause-fails
 returns-then-not-has_target-clause-fails g c first was =
-    fails_past (part_of c.args.shard.now) c.args.shard.now.slots c.args.pointer.now c.args.targets.now c.args.column c.rows_of-rows.result c.rows_of-rows.ensures
-    (none_on c.rows_of-rows.result.slot c.args.targets.now (sym c.has_target.ensures ∙ c.if-not-has_target.true)) first c.args.failed.now.items was
+    fails_past (part_of c.args.shard.now) c.args.shard.now.slots c.args.pointer.now c.args.targets.now c.args.column c.rows_at-rows.result c.rows_at-rows.ensures
+    (none_on c.rows_at-rows.result.slot c.args.targets.now (sym c.has_target.ensures ∙ c.if-not-has_target.true)) first c.args.failed.now.items was
 
 pub returns-then-not-has_target-clause-answered : goal.returns-then-not-has_target-clause-answered
 returns-then-not-has_target-clause-answered g c is was =
-    answer_next (part_of c.args.shard.now) c.args.shard.now.slots c.args.pointer.now c.args.targets.now c.args.column c.rows_of-rows.result c.rows_of-rows.ensures
-    (none_answers (part_of c.args.shard.now) c.args.shard.now.slots c.args.pointer.now c.args.targets.now c.args.column c.rows_of-rows.result c.rows_of-rows.ensures
-    (none_on c.rows_of-rows.result.slot c.args.targets.now (sym c.has_target.ensures ∙ c.if-not-has_target.true))) was
+    answer_next (part_of c.args.shard.now) c.args.shard.now.slots c.args.pointer.now c.args.targets.now c.args.column c.rows_at-rows.result c.rows_at-rows.ensures
+    (none_answers (part_of c.args.shard.now) c.args.shard.now.slots c.args.pointer.now c.args.targets.now c.args.column c.rows_at-rows.result c.rows_at-rows.ensures
+    (none_on c.rows_at-rows.result.slot c.args.targets.now (sym c.has_target.ensures ∙ c.if-not-has_target.true))) was
 
 pub mend_targets-requires-clause-fits : goal.mend_targets-requires-clause-fits
 mend_targets-requires-clause-fits g c =
     let v = c.requires.laid in
-    fits_rows (part_of c.args.shard.now) v.part c.args.shard.now.slots v.slots (g.R.Rack.shape c.args.shard.now.rack) c.args.pointer.now c.requires.run c.args.column c.requires.less c.rows_of-rows.result c.rows_of-rows.ensures v.leaves
+    fits_rows (part_of c.args.shard.now) v.part c.args.shard.now.slots v.slots (g.R.Rack.shape c.args.shard.now.rack) c.args.pointer.now c.requires.run c.args.column c.requires.less c.rows_at-rows.result c.rows_at-rows.ensures v.leaves
 
 pub returns-in-Some-clause-lands : goal.returns-in-Some-clause-lands
 returns-in-Some-clause-lands g c start was =
     let chosen = c.args.chosen.now in
-    let own : List At = record { leaf = c.in-Some.source.leaf; sector = c.rows_of-rows.result.first } ∷ [] in
+    let own : List At = record { leaf = c.in-Some.source.leaf; sector = c.rows_at-rows.result.first } ∷ [] in
     lands_next (part_of c.args.shard.now) c.args.shard.now.slots c.args.pointer.now c.args.targets.now c.args.columns.now.columns chosen c.args.column c.requires.less c.args.failed.now.items c.mend_targets.new.failed.items
-    c.rows_of-rows.result c.rows_of-rows.ensures c.mend_targets.ensures.fails c.column-bytes.result.now own start (g.R.Rack.told c.args.shard.now.rack) (g.R.Rack.told c.mend_targets.new.rack) c.column-bytes.ensures.value
-    (own_source (part_of c.args.shard.now) c.args.pointer.now chosen c.args.column c.rows_of-rows.result.first c.in-Some.source c.in-Some.is c.rows_of-rows.ensures.first_is) c.mend_targets.ensures.mends was
+    c.rows_at-rows.result c.rows_at-rows.ensures c.mend_targets.ensures.fails c.column-bytes.result.now own start (g.R.Rack.told c.args.shard.now.rack) (g.R.Rack.told c.mend_targets.new.rack) c.column-bytes.ensures.value
+    (own_source (part_of c.args.shard.now) c.args.pointer.now chosen c.args.column c.rows_at-rows.result.first c.in-Some.source c.in-Some.is c.rows_at-rows.ensures.first_is) c.mend_targets.ensures.mends was
 
 pub returns-in-Some-clause-fails : goal.returns-in-Some-clause-fails
 returns-in-Some-clause-fails g c first was =
     fails_next (part_of c.args.shard.now) c.args.shard.now.slots c.args.pointer.now c.args.targets.now c.args.columns.now.columns c.args.chosen.now c.args.column c.requires.less c.args.failed.now.items c.mend_targets.new.failed.items
-    c.rows_of-rows.result c.rows_of-rows.ensures c.mend_targets.ensures.fails first was
+    c.rows_at-rows.result c.rows_at-rows.ensures c.mend_targets.ensures.fails first was
 
 pub returns-in-Some-clause-answered : goal.returns-in-Some-clause-answered
 returns-in-Some-clause-answered g c is was =
-    answer_next (part_of c.args.shard.now) c.args.shard.now.slots c.args.pointer.now c.args.targets.now c.args.column c.rows_of-rows.result c.rows_of-rows.ensures (c.mend_targets.ensures.answered is) was
+    answer_next (part_of c.args.shard.now) c.args.shard.now.slots c.args.pointer.now c.args.targets.now c.args.column c.rows_at-rows.result c.rows_at-rows.ensures (c.mend_targets.ensures.answered is) was
 
 pub land_missing-requires : goal.land_missing-requires
 land_missing-requires g c =
@@ -50,11 +50,12 @@ land_missing-requires g c =
     record {
       part = v.part;
       run = c.requires.run;
+      place = c.requires.place;
       chosen = c.requires.chosen;
-      fits = fits_rows (part_of c.args.shard.now) v.part c.args.shard.now.slots v.slots (g.R.Rack.shape c.args.shard.now.rack) c.args.pointer.now c.requires.run c.args.column c.requires.less c.rows_of-rows.result c.rows_of-rows.ensures v.leaves;
+      fits = fits_rows (part_of c.args.shard.now) v.part c.args.shard.now.slots v.slots (g.R.Rack.shape c.args.shard.now.rack) c.args.pointer.now c.requires.run c.args.column c.requires.less c.rows_at-rows.result c.rows_at-rows.ensures v.leaves;
       there = c.requires.there;
-      one = c.rows_of-rows.ensures.count_is ∙ c.requires.one;
-      long = c.column-bytes.ensures.len ∙ c.requires.shape.len ∙ sym c.rows_of-rows.ensures.size_is;
+      one = c.rows_at-rows.ensures.count_is ∙ c.requires.one;
+      long = c.column-bytes.ensures.len ∙ c.requires.shape.len ∙ sym c.rows_at-rows.ensures.size_is;
       room = c.requires.room;
     }
 
@@ -66,12 +67,12 @@ returns g c =
       rack = e.rack;
       shape = e.shape;
       lands = λ start was. lands_next (part_of c.args.shard.now) c.args.shard.now.slots c.args.pointer.now c.args.targets.now c.args.columns.now.columns chosen c.args.column c.requires.less c.args.failed.now.items
-          c.land_missing.new.failed.items c.rows_of-rows.result c.rows_of-rows.ensures e.fails c.column-bytes.result.now _ start (g.R.Rack.told c.args.shard.now.rack)
+          c.land_missing.new.failed.items c.rows_at-rows.result c.rows_at-rows.ensures e.fails c.column-bytes.result.now _ start (g.R.Rack.told c.args.shard.now.rack)
           (g.R.Rack.told c.land_missing.new.shard.rack) c.column-bytes.ensures.value (all_sources (part_of c.args.shard.now) c.args.pointer.now chosen c.args.column c.in_default.is) e.mends was;
       fails = λ first was. fails_next (part_of c.args.shard.now) c.args.shard.now.slots c.args.pointer.now c.args.targets.now c.args.columns.now.columns chosen c.args.column c.requires.less c.args.failed.now.items
-          c.land_missing.new.failed.items c.rows_of-rows.result c.rows_of-rows.ensures e.fails first was;
+          c.land_missing.new.failed.items c.rows_at-rows.result c.rows_at-rows.ensures e.fails first was;
       counts = e.counts;
       room = e.room;
       few = e.few;
-      answered = λ is was. answer_next (part_of c.args.shard.now) c.args.shard.now.slots c.args.pointer.now c.args.targets.now c.args.column c.rows_of-rows.result c.rows_of-rows.ensures (e.answered is) was;
+      answered = λ is was. answer_next (part_of c.args.shard.now) c.args.shard.now.slots c.args.pointer.now c.args.targets.now c.args.column c.rows_at-rows.result c.rows_at-rows.ensures (e.answered is) was;
     }

@@ -21,8 +21,8 @@ loop-column-preserved g c =
           record {
             long = same ∙ long;
             upto = (let is = w.count-is in omega (arith, is, upto));
-            listed = source_more (part_of c.args.shard.now) c.args.pointer.now c.args.chosen.now c.loop-column.column c.loop-column.count list i.listed c.match-chosen-column.list c.match-chosen-column.count w.rows_of.result.first
-                w.in-Some.source w.in-Some.is inside w.list-is w.count-is w.rows_of.ensures.first_is;
+            listed = source_more (part_of c.args.shard.now) c.args.pointer.now c.args.chosen.now c.loop-column.column c.loop-column.count list i.listed c.match-chosen-column.list c.match-chosen-column.count w.rows_at.result.first
+                w.in-Some.source w.in-Some.is inside w.list-is w.count-is w.rows_at.ensures.first_is;
           })
       | in_default w ↦ record {
         long = ap (λ (x : List At). length x) w.list-is ∙ long;

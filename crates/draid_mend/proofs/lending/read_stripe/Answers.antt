@@ -2,6 +2,7 @@ use Rattle.std.proofs.Common.{◌≡◌, ◌+◌, ◌<◌, ◌∙◌, [], arith,
 use Rattle.draid_spec.specs.declared.layout.Geometry.{Geometry}
 use Rattle.draid_shard.specs.Calls.{CountsFailed}
 use Rattle.draid_shard.specs.Part.{IsRun}
+use Rattle.draid_shard.specs.Rows.{IsStripePlace}
 use Rattle.draid_shard.specs.States.{part_of}
 use Rattle.draid_shard.proofs.WithRack.{geometry_in, rack_twice, valid_rack}
 use Rattle.draid_shard.proofs.Counts.{counts_none}
@@ -32,6 +33,7 @@ read_next-requires g c =
     record {
       valid = valid_rack g.R.Rack c.args.shard.now c.loop-column.shard i.whole i.shape c.requires.valid;
       run = subst (λ (geometry : Geometry). IsRun geometry c.args.pointer.now.first c.args.pointer.now.stripes) (sym same) c.requires.run;
+      place = subst (λ s. IsStripePlace (part_of s) c.args.pointer.now.first c.stripe_place-place.result) (sym i.whole) c.stripe_place-place.ensures;
       one = c.requires.one;
       less = subst (λ (geometry : Geometry). c.loop-column.column < geometry.g) (sym same) c.loop-column-test.true;
       before = record {
