@@ -62,6 +62,7 @@ use Rattle.draid_pool.proofs.Arms.{have_same, leaf_named, none_detached}
 use Rattle.draid_pool.proofs.Returned.{Parts, counted_as, holds_pool}
 use Rattle.draid_pool.proofs.Importables.{importable_back}
 use Rattle.draid_pool.proofs.Lists.{ext, some_of}
+use Rattle.draid_machine.proofs.Small.{none_some}
 
 -- what an image at a place is of
 unmapped : {A B : Type 0} (f : A → B) (xs : List A) (m : ℕ) (y : B) → slice_get (map f xs) m ≡ Some y → (x : A) × (slice_get xs m ≡ Some x) × (f x ≡ y)
@@ -127,7 +128,7 @@ module _ {R A : Type 0} (rack : racks.Ghosts R) (area : areas.Ghosts A) where
   }
 
   abbrev none : Pieces
-  none key column row = []
+  none key column row = None
 
   -- ---- the uberblock
 
@@ -178,6 +179,7 @@ module _ {R A : Type 0} (rack : racks.Ghosts R) (area : areas.Ghosts A) where
       harm = refl;
       records = subst (λ (w : machine.State). HasRecords (record { geometry = geometry; perms = opened.perms; number = m }) w (area.told shard.even) (area.told shard.odd))
           (sym (world_is m shard is)) is.records;
+      bytes = λ key h there block. absurd (none_some None h refl there);
     }
 
     is_new : ((m : ℕ) → m < geometry.props.metaslabs → IsUncounted (counts m)) → (m : ℕ) (shard : Shard R A) → m < geometry.props.metaslabs

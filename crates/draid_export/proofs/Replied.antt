@@ -15,6 +15,10 @@ use Rattle.draid_pool.specs.declared.pool.Pool.{Pool}
 use Rattle.draid_pool.proofs.Steps.{by_answer}
 use Rattle.draid_export.specs.Exporting.{ExportDoes, IsExported, IsRefusal, RefusalSays}
 
+-- a reply names one group
+pub exported_group : (a b : ℕ) → Exported a ≡ Exported b → a ≡ b
+exported_group a b same = cc
+
 module _ {R A : Type 0} (rack : racks.Ghosts R) (area : areas.Ghosts A) (new : Pool R A) (x : State) (result : Result ℕ SyncFault) (c : CarriesOut rack area new x (ExportDoes x result)) where
   -- all was made safe, and the pool was given back
   pub exported : (group : ℕ) → result ≡ Ok group → (before now : OnShelf) → ((y : State) → Represents rack area new y → GivesBack y false before.held now.held now.leaves now.counts now.own.uber)

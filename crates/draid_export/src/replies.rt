@@ -1,11 +1,11 @@
 //! What the commands reply that give a pool back.
-ghost use Rattle.std.specs.Prelude.{◌≡◌, IfErr, IfOk, IsErr, OnErr, true};
+ghost use Rattle.std.specs.Prelude.{◌≡◌, ◌≤◌, ℕ, IfErr, IfOk, IsErr, OnErr, true};
 ghost use Rattle.draid_script.specs.Line.{CrashPool};
 ghost use Rattle.draid_session.specs.Replies.{IsReplyTo};
 ghost use Rattle.draid_session.specs.State.{State};
 ghost use Rattle.draid_pool.specs.Failing.{AreaRose, AreasLater};
 ghost use Rattle.draid_pool.specs.Pointers.{SamePointers};
-ghost use Rattle.draid_pool.specs.Pools.{Represents};
+ghost use Rattle.draid_pool.specs.Pools.{Represents, group_in};
 ghost use Rattle.draid_pool.specs.Returning.{GivesBack};
 ghost use Rattle.draid_pool.specs.Shelves.{on_shelf};
 ghost use Rattle.draid_pool.specs.Whole.{IsWhole};
@@ -52,6 +52,8 @@ pub fn reply_to_export<H: Shelf>(
     ensures later { IfErr result (λ refused. AreasLater H.A.faults pool refused.pool) }
     ensures cause { IfErr result (λ refused. IsErr refused.reply → AreaRose H.A.faults pool refused.pool) }
     ensures fits { IfOk result TellsGroup }
+    // The group that it names is the committed one, or one behind it.
+    ensures names { IfOk result (λ said. (group : ℕ) → said ≡ Reply.Exported group → group_in pool ≤ group) }
     ensures refused { IfErr result (λ refused. WasRefused refused.reply) }
     ensures step { (x : State) → Represents H.R.Rack H.A.Area pool x
         → ExportIs H.R.Rack H.A.Area x (on_shelf H.Shelf shelf.old) (on_shelf H.Shelf shelf.new) result }

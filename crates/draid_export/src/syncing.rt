@@ -1,12 +1,12 @@
 //! What an export makes safe before the pool is given back.
-ghost use Rattle.std.specs.Prelude.{◌↔◌, IsErrOf, IsTrue};
+ghost use Rattle.std.specs.Prelude.{◌≡◌, ◌≤◌, ◌↔◌, IfOk, IsErrOf, IsTrue, OnOk};
 ghost use Rattle.draid_session.specs.State.{State};
 ghost use Rattle.draid_pool.specs.Carries.{CarriesOut};
 ghost use Rattle.draid_pool.specs.Failing.{AreaRose, AreasLater, RacksLater};
 ghost use Rattle.draid_pool.specs.Keeping.{AllArmsStay, AllAskedStay};
 ghost use Rattle.draid_pool.specs.Passes.{KeepsPasses};
 ghost use Rattle.draid_pool.specs.Pointers.{SamePointers};
-ghost use Rattle.draid_pool.specs.Pools.{Represents};
+ghost use Rattle.draid_pool.specs.Pools.{Represents, group_in};
 ghost use Rattle.draid_pool.specs.Whole.{IsWhole};
 ghost use Rattle.draid_export.specs.Exporting.{ExportDoes, FoundUnsynced, HasUnsynced};
 
@@ -26,6 +26,8 @@ pub fn sync_for_export<R: Rack, A: Area>(pool: &mut Pool<R, A>) -> Result<u64, S
     ensures racks { RacksLater R.faults pool.old pool.new }
     ensures arms { AllArmsStay pool.old pool.new }
     ensures asked { AllAskedStay pool.old pool.new }
+    ensures names { IfOk result (λ group. group ≡ group_in pool.new) }
+    ensures grows { OnOk result (group_in pool.old ≤ group_in pool.new) }
     ensures cause { IsErrOf result SyncFault.Shelf → AreaRose A.faults pool.old pool.new }
     ensures carries { (x : State) → Represents R.Rack A.Area pool.old x
         → CarriesOut R.Rack A.Area pool.new x (ExportDoes x result) }

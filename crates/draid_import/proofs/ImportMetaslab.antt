@@ -68,6 +68,8 @@ use Rattle.draid_pool.specs.Records.{HasRecords, LeavesAreBelow, area_for}
 use Rattle.draid_pool.proofs.Returned.{KitIs, kit_is}
 use Rattle.draid_pool.proofs.Arms.{same_names}
 use Rattle.draid_pool.proofs.Lists.{ext}
+use Rattle.draid_pool.specs.Bytes.{KnowsBlocks}
+use Rattle.draid_pool.proofs.Bytes.{sealed_known}
 
 -- nothing is in doubt
 abbrev no_doubt : Global → Vec Segment Global
@@ -200,6 +202,10 @@ module _ (x : State) (m : ℕ) (pieces : Pieces) (y : Metaslab) (kit : KitTold) 
   pub found_blocks : (k : Key) → found_world.core.held k ≡ seal_held group (y.world.core.held k)
   found_blocks k = ((every_image l y.world lay f.rests.reached).each f.image f.is).blocks k ∙ ap (λ g. seal_held g (y.world.core.held k)) f.of
 
+  -- of these is known what was
+  found_known : KnowsBlocks x.geometry pieces found_world.core.held
+  found_known = sealed_known x.geometry pieces group y.world.core.held found_world.core.held found_blocks f.rests.bytes
+
   pub found_leaves : LeavesAreBelow next next found_world
   found_leaves = record {
     kept = f.below;
@@ -245,6 +251,7 @@ module _ (x : State) (m : ℕ) (pieces : Pieces) (y : Metaslab) (kit : KitTold) 
     reached = found_reached;
     images = λ image of. subst (λ (i : machine.Image). IsStable (at_version i.version x.geometry) m l pieces i found_world.aside kit) (found_image image of) found_stable;
     harm = f.rests.harm;
+    bytes = found_known;
   }
 
   pub unopened_reopens : (counts : Counts) → CountsRise y.world found_world [] y.counts counts → Reopens x.geometry x.perms group m y (unopened counts)
@@ -304,6 +311,7 @@ module _ (x : State) (m : ℕ) (pieces : Pieces) (y : Metaslab) (kit : KitTold) 
       counts = refl;
       harm = refl;
       records = opened_once once;
+      bytes = found_known;
     }
 
     -- what was read is the image

@@ -80,7 +80,7 @@ module _ (x : State) (pieces : ℕ → Pieces) (held : Held) (rests : Rests x pi
     (stands : UberStands (record x { pending = pending }) (Some u)) where
   on_kit : (o : Option KitTold) (m : ℕ) (y : Metaslab) → IsSomeAnd o (RestsOn x m (pieces m) y) → IsSomeAnd o (RestsOn (record x { pending = pending; uber_count = n }) m (pieces m) y)
   on_kit None m y h = absurd h
-  on_kit (Some kit) m y h = record { reached = h.reached; images = h.images; harm = h.harm }
+  on_kit (Some kit) m y h = record { reached = h.reached; images = h.images; harm = h.harm; bytes = h.bytes }
 
   pub rests_again : Rests (record x { pending = pending; uber_count = n }) pieces (puts_uber (Some u) held)
   rests_again = record {
@@ -192,7 +192,7 @@ module _ (x : State) (pieces : ℕ → Pieces) (held : Held) (rests : Rests x pi
 
     on_mid : (o : Option KitTold) (m : ℕ) (z : Metaslab) → IsSomeAnd o (RestsOn x m (pieces m) z) → IsSomeAnd o (RestsOn mid m (pieces m) z)
     on_mid None m z h = absurd h
-    on_mid (Some kit) m z h = record { reached = h.reached; images = h.images; harm = h.harm }
+    on_mid (Some kit) m z h = record { reached = h.reached; images = h.images; harm = h.harm; bytes = h.bytes }
 
     pair : (m : ℕ) (z : Metaslab) → slice_get shelved.0 m ≡ Some z → (y : Metaslab) × (slice_get x.metaslabs m ≡ Some y) × OnShelf m y z
     pair m z at =

@@ -32,6 +32,7 @@ use Rattle.draid_pool.specs.Returning.{Rests, RestsOn}
 use Rattle.draid_pool.specs.Ubers.{UberStands}
 use Rattle.draid_import.specs.Imported.{IsFoundOf}
 use Rattle.draid_import.specs.Importing.{LeavesPool, RestsThere}
+use Rattle.draid_pool.specs.Bytes.{HasBytes}
 
 -- ---- one version
 
@@ -88,8 +89,16 @@ module _ (x : State) (version : ℕ) where
   uber_at : (content : Content) → UberStands x (Some content) → UberStands at (Some content)
   uber_at content u = record { pending = u.pending; are = u.are; stands = u.stands }
 
+  bytes_at : (h : _) (key : _) (pieces : Pieces) → HasBytes x.geometry h key pieces → HasBytes at.geometry h key pieces
+  bytes_at h key pieces has = record { content = has.content; len = has.len; digest = has.digest; bytes = has.bytes; columns = has.columns; are = has.are; rows = has.rows }
+
   kit_at : (m : ℕ) (pieces : Pieces) (y : Metaslab) (kit : KitTold) → RestsOn x m pieces y kit → RestsOn at m pieces y kit
-  kit_at m pieces y kit r = record { reached = r.reached; images = r.images; harm = r.harm }
+  kit_at m pieces y kit r = record {
+    reached = r.reached;
+    images = r.images;
+    harm = r.harm;
+    bytes = λ key h there block column row some. bytes_at h key pieces (r.bytes key h there block column row some);
+  }
 
   pieces_at : (write : Write) (pieces : Pieces) → HasPieces x.geometry write pieces → HasPieces at.geometry write pieces
   pieces_at write pieces h = record { content = h.content; len = h.len; digest = h.digest; bytes = h.bytes; columns = h.columns; are = h.are; rows = h.rows }

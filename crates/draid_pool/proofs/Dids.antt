@@ -20,9 +20,13 @@ use Rattle.draid_shard.proofs.Standing.{event_stands, none_stands}
 use Rattle.draid_session.specs.Follows.{MetaslabActs, CountsRise, HarmBoth, HarmBy, failed_in, uses}
 use Rattle.draid_session.specs.Holds.{Did}
 use Rattle.draid_session.specs.State.{Metaslab}
+use Rattle.draid_objects.proofs.Moving.{blocks_moved}
+use Rattle.draid_pool.specs.Bytes.{KnowsFinished}
 use Rattle.draid_pool.specs.Metaslabs.{IsMetaslab, counts_of, harm_of}
 use Rattle.draid_pool.specs.Records.{HasRecords}
+use Rattle.draid_pool.proofs.Bytes.{moved_known}
 use Rattle.draid_pool.proofs.Imaged.{LeavesImages, records_kept, step_keeps}
+use Rattle.draid_shard.proofs.Standing.{has_layout}
 
 pub run_push : (l : machine.Layout) (w mid new : machine.State) (es : List Event) (e : Event) → Run l w es mid → Step l mid e new → Run l w (es ++ e ∷ []) new
 run_push l w mid new [] e run step = (new, subst (λ x. Step l x e new) run step, refl)
@@ -75,8 +79,8 @@ module _ {R A : Type 0} (rack : racks.Ghosts R) (area : areas.Ghosts A) where
       → limit_in new.history ≡ limit_in old.history → reserved_of new.history + uses x.world e ≡ reserved_of old.history
       → ((v : machine.State) → Step (layout_by old) x.world e v → IsIn new v → CountsRise x.world v (failed_in e) (counts_of rack area old) (counts_of rack area new))
       → ((v : machine.State) → Step (layout_by old) x.world e v → HasRecords (part_of old) v (area.told new.even) (area.told new.odd))
-      → Done rack area (part_of old) pieces new e x
-  did_here pieces old new e x is valid does acts same limit reserved counts records =
+      → KnowsFinished old.geometry pieces x.world.core.held e → Done rack area (part_of old) pieces new e x
+  did_here pieces old new e x is valid does acts same limit reserved counts records ends =
       let z = event_stands rack old new e x.world pieces pieces is.valid.part does acts is.stands (λ v step key none. refl) in
       let l = layout_by old in
       let reached : Metaslab = record {
@@ -111,6 +115,7 @@ module _ {R A : Type 0} (rack : racks.Ghosts R) (area : areas.Ghosts A) where
           counts = refl;
           harm = refl;
           records = records z.0 z.1;
+          bytes = moved_known old.geometry pieces x.world.core.held z.0.core.held e (blocks_moved l x.world z.0 e (has_layout (part_of old) is.valid.part) is.stands.reached z.1) ends is.bytes;
         };
       }
 
@@ -120,22 +125,23 @@ module _ {R A : Type 0} (rack : racks.Ghosts R) (area : areas.Ghosts A) where
       → limit_in new.history ≡ limit_in old.history → reserved_of new.history + uses x.world e ≡ reserved_of old.history
       → ((v : machine.State) → Step (layout_in part) x.world e v → IsIn new v → CountsRise x.world v (failed_in e) (counts_of rack area old) (counts_of rack area new))
       → ((v : machine.State) → Step (layout_in part) x.world e v → HasRecords part v (area.told new.even) (area.told new.odd))
-      → Done rack area part pieces new e x
+      → KnowsFinished part.geometry pieces x.world.core.held e → Done rack area part pieces new e x
   did_with part pieces old new e x is valid does acts same limit reserved =
-      subst (λ p. IsMetaslab rack area p pieces old x
+      subst (λ (p : Part). IsMetaslab rack area p pieces old x
       → ((v : machine.State) → Step (layout_in p) x.world e v → IsIn new v → CountsRise x.world v (failed_in e) (counts_of rack area old) (counts_of rack area new))
-      → ((v : machine.State) → Step (layout_in p) x.world e v → HasRecords p v (area.told new.even) (area.told new.odd)) → Done rack area p pieces new e x) is.part_is
-      (λ here counts records. did_here pieces old new e x here valid does acts same limit reserved counts records) is
+      → ((v : machine.State) → Step (layout_in p) x.world e v → HasRecords p v (area.told new.even) (area.told new.odd))
+      → KnowsFinished p.geometry pieces x.world.core.held e → Done rack area p pieces new e x) is.part_is
+      (λ here counts records ends. did_here pieces old new e x here valid does acts same limit reserved counts records ends) is
 
   -- one that leaves the images
   pub did : (part : Part) (pieces : Pieces) (old new : Shard R A) (e : Event) (x : Metaslab) → IsMetaslab rack area part pieces old x → Valid rack new → Does old new e → ActsOn rack old new e pieces
       → ((v : machine.State) (step : Step (layout_by old) x.world e v) → segments.pieces_after (layout_by old) x.world e v step pieces pieces ≡ pieces)
       → limit_in new.history ≡ limit_in old.history → reserved_of new.history + uses x.world e ≡ reserved_of old.history → Raises rack area (failed_in e) old new
-      → LeavesImages e → Done rack area part pieces new e x
-  did part pieces old new e x is valid does acts same limit reserved raises leaves =
+      → LeavesImages e → KnowsFinished part.geometry pieces x.world.core.held e → Done rack area part pieces new e x
+  did part pieces old new e x is valid does acts same limit reserved raises leaves ends =
       did_with part pieces old new e x is valid does acts same limit reserved (λ v step is_in. rises (failed_in e) old new x.world v raises)
       (λ v step. records_kept part x.world v (area.told new.even) (area.told new.odd) (step_keeps (layout_in part) x.world v e step leaves)
-      (records_same part x.world old new raises.areas_are is.records))
+      (records_same part x.world old new raises.areas_are is.records)) ends
 
   -- a call that changed nothing of what is told
   pub none_here : (part : Part) (pieces : Pieces) (old new : Shard R A) (x : Metaslab) → IsMetaslab rack area part pieces old x → Valid rack new → DoesNone old new
@@ -152,6 +158,7 @@ module _ {R A : Type 0} (rack : racks.Ghosts R) (area : areas.Ghosts A) where
     counts = is.counts ∙ sym (λ i. record { rack = rack.faults (rack_is i); even = area.faults (areas_are.even i); odd = area.faults (areas_are.odd i) });
     harm = is.harm ∙ ap (λ r. harm_of (rack.told r)) (sym rack_is);
     records = records_same part x.world old new areas_are is.records;
+    bytes = is.bytes;
   }
 
 -- ---- calls of which the rack knows nothing
@@ -172,10 +179,10 @@ pub did_quiet : {R A : Type 0} (rack : racks.Ghosts R) (area : areas.Ghosts A) (
     → IsMetaslab rack area part pieces old x → Valid rack new → Does old new e → SameKit old new → SameReserve old new
     → ((w after : machine.State) (step : Step (layout_by old) w e after) → (a b : Told) → b ≡ a → segments.Acts (layout_by old) w e after step pieces a b)
     → ((v : machine.State) (step : Step (layout_by old) x.world e v) → segments.pieces_after (layout_by old) x.world e v step pieces pieces ≡ pieces)
-    → uses x.world e ≡ 0 → failed_in e ≡ [] → LeavesImages e → Done rack area part pieces new e x
-did_quiet rack area part pieces old new e x is valid does kit reserve quiet same used failed leaves =
+    → uses x.world e ≡ 0 → failed_in e ≡ [] → LeavesImages e → KnowsFinished part.geometry pieces x.world.core.held e → Done rack area part pieces new e x
+did_quiet rack area part pieces old new e x is valid does kit reserve quiet same used failed leaves ends =
     did rack area part pieces old new e x is valid does acts same reserve.limit (let r = reserve.reserved in omega (arith, r, used))
-    (subst (λ f. Raises rack area f old new) (sym failed) (raises_none rack area old new kit)) leaves
+    (subst (λ f. Raises rack area f old new) (sym failed) (raises_none rack area old new kit)) leaves ends
   where
     on : (w after : machine.State) (step : Step (layout_by old) w e after) (o p : Option Told) → p ≡ o → OnBothTold o p (segments.Acts (layout_by old) w e after step pieces)
     on w after step None p is = is

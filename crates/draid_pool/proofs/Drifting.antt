@@ -13,8 +13,10 @@ use Rattle.draid_machine.specs.Names.{is_freed_by}
 use Rattle.draid_machine.proofs.Small.{is_low, low}
 use Rattle.draid_shard.specs.Fits.{Valid}
 use Rattle.draid_shard.specs.declared.shard.Shard.{Shard}
+use Rattle.draid_pass.specs.declared.pass.Pass.{Pass}
 use Rattle.draid_shard.proofs.Changed.{same_arms}
 use Rattle.draid_pool.specs.Drifts.{Drifts, KeepsGroups, KeepsOf}
+use Rattle.draid_pool.specs.Passes.{KeepsPass}
 use Rattle.draid_pool.proofs.Since.{state_self}
 
 pub keeps_self : (of : ℕ → Bool) (group : ℕ) (t : Entries) → KeepsOf of group t t
@@ -46,6 +48,14 @@ keeps_some of some group a b inside x = record { each = λ key own. x.each key (
 pub groups_kept : {R A : Type 0} (shard : Shard R A) → KeepsGroups shard shard
 groups_kept shard = record { groups = record { open_group_is = refl; closing = refl; sealed = refl; committed = refl }; arms = same_arms shard.slots; reserve = refl }
 
+-- a pass that is as it was is the one that it was
+pass_still : (o : Option Pass) → KeepsPass o o
+pass_still None = tt
+pass_still (Some p) = record { number_is = refl; kind_is = refl; max_is = refl; at_is = refl; running_is = refl }
+
+pub same_pass : (old new : Option Pass) → new ≡ old → KeepsPass old new
+same_pass old new same = subst (KeepsPass old) (sym same) (pass_still old)
+
 -- what no one else holds is as it was
 pub drifts_not : {R A : Type 0} (rack : racks.Ghosts R) (area : areas.Ghosts A) (owns : ℕ → Bool) (shard : Shard R A) → Valid rack shard → Drifts rack area false owns shard shard
 drifts_not rack area owns shard v = record {
@@ -53,6 +63,7 @@ drifts_not rack area owns shard v = record {
   part = refl;
   later = (omega arith);
   groups = λ own. groups_kept shard;
+  passes = λ own. pass_still shard.pass;
   own = keeps_self owns shard.committed shard.entries;
   state = state_self rack area owns shard;
   still = λ alone. refl;

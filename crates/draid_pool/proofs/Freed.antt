@@ -25,7 +25,7 @@ pub frees : {R A : Type 0} (rack : racks.Ghosts R) (area : areas.Ghosts A) (old 
     → (part : Part) (pieces : Pieces) (x : Metaslab) → IsMetaslab rack area part pieces old x → Goes rack area part pieces x new (FreesIn part.number pointer floor group x)
 frees rack area old new pointer floor group valid kit reserve group_is does low part pieces x is =
     let z : Done rack area part pieces new (Free (key_of pointer) group) x
-    = did_quiet rack area part pieces old new (Free (key_of pointer) group) x is valid does kit reserve (λ w after step a b same. same) (λ v step. refl) refl refl tt in
+    = did_quiet rack area part pieces old new (Free (key_of pointer) group) x is valid does kit reserve (λ w after step a b same. same) (λ v step. refl) refl refl tt tt in
     record {
       holds = On (view_of part.number x) (Did (Free (key_of pointer) group) z.reached.world) ∷ [];
       reached = z.reached;

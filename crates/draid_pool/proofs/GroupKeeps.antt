@@ -18,9 +18,10 @@ use Rattle.draid_shard.specs.declared.shard.Shard.{Shard}
 use Rattle.draid_pool.specs.Committing.{DropsFreed}
 use Rattle.draid_pool.specs.Drifts.{Drifts, GoesOn, KeepsOf, KeepsTo, StateStep, groups_number, is_other}
 use Rattle.draid_pool.specs.Grouping.{ClosesIn, ClosesNext, CommitsNext, SealsBy, SealsIn, SealsNext}
+use Rattle.draid_pool.specs.Passes.{KeepsPass}
 use Rattle.draid_pool.specs.Syncing.{Commits, KeepsTable, Turns}
 use Rattle.draid_pool.specs.declared.fault.SyncFault.{SyncFault}
-use Rattle.draid_pool.proofs.Drifting.{keeps_self}
+use Rattle.draid_pool.proofs.Drifting.{keeps_self, same_pass}
 use Rattle.draid_pool.proofs.ShardSteps.{acts_since}
 use Rattle.draid_pool.proofs.Since.{state_self}
 use Rattle.draid_pool.proofs.Turns.{commit_turns}
@@ -40,7 +41,7 @@ drops_keeps of group old new drops = record {
 
 module _ {R A : Type 0} (rack : racks.Ghosts R) (area : areas.Ghosts A) where
   -- one hold with the same pieces is a step of the state
-  turns_go : (of : ℕ → Bool) (part : Part) (pieces : Pieces) (x : Metaslab) (new : Shard R A) (does : Hold → Metaslab → Type 0) → Turns rack area part pieces x new does → GoesOn rack area of part pieces x new
+  pub turns_go : (of : ℕ → Bool) (part : Part) (pieces : Pieces) (x : Metaslab) (new : Shard R A) (does : Hold → Metaslab → Type 0) → Turns rack area part pieces x new does → GoesOn rack area of part pieces x new
   turns_go of part pieces x new does t = record {
     reached = t.reached;
     now = pieces;
@@ -49,26 +50,27 @@ module _ {R A : Type 0} (rack : racks.Ghosts R) (area : areas.Ghosts A) where
     same = λ k own. refl;
   }
 
-  -- what is held stays, and so does the committed group
-  table_keeps : (x y : Shard R A) → Valid rack y → KeepsTable x y → StateStep rack area (is_other (Some groups_number)) x y → KeepsTo rack area x y (Some groups_number)
-  table_keeps x y valid table state = record {
+  -- what is held stays, and so do the committed group and the pass
+  table_keeps : (x y : Shard R A) → Valid rack y → KeepsTable x y → KeepsPass x.pass y.pass → StateStep rack area (is_other (Some groups_number)) x y → KeepsTo rack area x y (Some groups_number)
+  table_keeps x y valid table pass state = record {
     valid = valid;
     part = table.part;
     later = (let same = table.committed in omega (arith, same));
     groups = λ is. not_kept is;
+    passes = λ other. pass;
     others = record { each = λ key own. inl (table.entries.held key) };
     state = state;
   }
 
   closes_keep : (x y : Shard R A) (group : ℕ) (result : Result Unit SyncFault) → ClosesIn rack area group x result y → KeepsTo rack area x y (Some groups_number)
-  closes_keep x y group result c = table_keeps x y c.valid c.table (λ part pieces u is. turns_go (is_other (Some groups_number)) part pieces u y _ (c.closes part pieces u is))
+  closes_keep x y group result c = table_keeps x y c.valid c.table c.stays.pass (λ part pieces u is. turns_go (is_other (Some groups_number)) part pieces u y _ (c.closes part pieces u is))
 
   pub close_keeps : (x y : Shard R A) (group : ℕ) (out : Option (Result Unit SyncFault)) → MatchOption out ⊥ (λ result. ClosesIn rack area group x result y) → KeepsTo rack area x y (Some groups_number)
   close_keeps x y group None did = absurd did
   close_keeps x y group (Some result) did = closes_keep x y group result did
 
   seals_keep : (x y : Shard R A) (group : ℕ) (result : Result ℕ SyncFault) → SealsBy rack area group x result y → KeepsTo rack area x y (Some groups_number)
-  seals_keep x y group result s = table_keeps x y s.valid s.table (λ part pieces u is. turns_go (is_other (Some groups_number)) part pieces u y _ (s.seals part pieces u is))
+  seals_keep x y group result s = table_keeps x y s.valid s.table s.stays.pass (λ part pieces u is. turns_go (is_other (Some groups_number)) part pieces u y _ (s.seals part pieces u is))
 
   -- one that changed nothing
   still_keeps : (x y : Shard R A) (n : ℕ) → Valid rack x → y ≡ x → KeepsTo rack area x y (Some groups_number)
@@ -77,6 +79,7 @@ module _ {R A : Type 0} (rack : racks.Ghosts R) (area : areas.Ghosts A) where
     part = ap (λ s. part_of s) same;
     later = (let c = ap (λ (s : Shard R A). s.committed) same in omega (arith, c));
     groups = λ is. not_kept is;
+    passes = λ other. same_pass x.pass y.pass (ap (λ (s : Shard R A). s.pass) same);
     others = subst (λ (s : Shard R A). KeepsOf (is_other (Some groups_number)) s.committed x.entries s.entries) (sym same) (keeps_self (is_other (Some groups_number)) x.committed x.entries);
     state = subst (StateStep rack area (is_other (Some groups_number)) x) (sym same) (state_self rack area (is_other (Some groups_number)) x);
   }
@@ -95,6 +98,7 @@ module _ {R A : Type 0} (rack : racks.Ghosts R) (area : areas.Ghosts A) where
     part = c.does.part;
     later = (let behind = closing_behind x group next.valid next.closing in let is = c.commits.committed in omega (arith, behind, is));
     groups = λ is. not_kept is;
+    passes = λ other. c.stays.pass;
     others = drops_keeps (is_other (Some groups_number)) y.committed x.entries y.entries (subst (λ g. DropsFreed g x.entries y.entries) (sym c.commits.committed) c.commits.entries);
     state = λ part pieces u is. turns_go (is_other (Some groups_number)) part pieces u y _ (commit_turns rack area part pieces x y group u is c);
   }

@@ -2,6 +2,7 @@ pub mod Alike
 pub mod Alone
 pub mod Arms
 pub mod Ascending
+pub mod Bytes
 pub mod Closed
 pub mod Commits
 pub mod Committed
@@ -14,6 +15,7 @@ pub mod Entering
 pub mod Failing
 pub mod Finds
 pub mod Following
+pub mod Forgetting
 pub mod Freed
 pub mod Glances
 pub mod GroupClosed

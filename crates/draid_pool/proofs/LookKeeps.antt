@@ -11,7 +11,7 @@ use Rattle.draid_pool.proofs.Drifting.{keeps_self}
 use Rattle.draid_pool.proofs.Since.{state_self}
 use Rattle.draid_pool.specs.Looking.{SeesShard}
 use Rattle.draid_pool.specs.declared.room.Seen.{Seen}
-use Rattle.draid_pool.proofs.Drifting.{same_groups}
+use Rattle.draid_pool.proofs.Drifting.{same_groups, same_pass}
 
 module _ {R A : Type 0} (rack : racks.Ghosts R) (area : areas.Ghosts A) where
   pub same_keeps : (x y : Shard R A) → Valid rack x → y ≡ x → KeepsTo rack area x y None
@@ -20,6 +20,7 @@ module _ {R A : Type 0} (rack : racks.Ghosts R) (area : areas.Ghosts A) where
     part = ap (λ s. part_of s) same;
     later = (let c = ap (λ (s : Shard R A). s.committed) same in omega (arith, c));
     groups = λ other. same_groups x y same;
+    passes = λ other. same_pass x.pass y.pass (ap (λ (s : Shard R A). s.pass) same);
     others = subst (λ (s : Shard R A). KeepsOf (is_other None) s.committed x.entries s.entries) (sym same) (keeps_self (is_other None) x.committed x.entries);
     state = subst (StateStep rack area (is_other None) x) (sym same) (state_self rack area (is_other None) x);
   }

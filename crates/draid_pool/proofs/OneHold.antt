@@ -60,6 +60,7 @@ module _ {R A : Type 0} (rack : racks.Ghosts R) (area : areas.Ghosts A) where
         counts = is.counts ∙ sym (λ i. record { rack = rack.faults (kit.rack i); even = area.faults (kit.areas.even i); odd = area.faults (kit.areas.odd i) });
         harm = is.harm ∙ ap (λ r. harm_of (rack.told r)) (sym kit.rack);
         records = records_same rack area part x.world old new kit.areas is.records;
+        bytes = is.bytes;
       }
 
   -- ---- what is worn

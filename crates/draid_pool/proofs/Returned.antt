@@ -288,6 +288,7 @@ module _ {R A : Type 0} (rack : racks.Ghosts R) (area : areas.Ghosts A) where
           firm = (backed x m pieces shard y kit is k.rack).images image of;
         };
         harm = some_and y.harm kit.rack.harmed (λ harm. (leaf sector : ℕ) → kit.rack.harmed leaf sector ≡ harm leaf sector) (is.harm ∙ ap harm_of k.rack) (λ leaf sector. refl);
+        bytes = is.bytes;
       }
 
   module _ (shards : List (Shard R A)) (content : Option Content) (x : State) (p : Parts shards content x) where
@@ -368,6 +369,7 @@ module _ (x : State) (pieces : ℕ → Pieces) where
     images = λ image of. stable_left (at_version image.version x.geometry) m (layout_of x.geometry x.perms m) (pieces m) image y.world.aside a b (r.images image of) crash;
     harm = some_map y.harm (λ harm. (leaf sector : ℕ) → a.rack.harmed leaf sector ≡ harm leaf sector) (λ harm. (leaf sector : ℕ) → b.rack.harmed leaf sector ≡ harm leaf sector) r.harm
         (λ harm same leaf sector. crash.rack.harmed leaf sector ∙ same leaf sector);
+    bytes = r.bytes;
   }
 
   pub rests_crashed : (held left : Held) → Rests x pieces held → CrashedHeld held left → Rests x pieces left

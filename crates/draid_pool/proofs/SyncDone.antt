@@ -1,6 +1,6 @@
 -- A sync by the only thread of a pool: a closing group is finished, and the next one is committed.
 use Rattle.std.proofs.Common.{◌≡◌, ◌<◌, ◌≤◌, ◌∙◌, inl, inr, ℕ, zero, suc, false, List, [], ◌∷◌, Option, None, Some, Ok, Err, length, slice_set, arith, refl, sym, ap, subst}
-use Rattle.std.specs.Prelude.{Result, IsErrOf, OnOk, nat_eq, slice_get}
+use Rattle.std.specs.Prelude.{Result, IfOk, IsErrOf, OnOk, nat_eq, slice_get}
 use Rattle.std.specs.HashMap.{get}
 use Rattle.draid_rack.specs.declared.Rack as racks
 use Rattle.draid_area.specs.declared.Area as areas
@@ -185,6 +185,7 @@ module _ {R A : Type 0} (rack : racks.Ghosts R) (area : areas.Ghosts A) where
     pub stays : KeepsShards rack.faults pool new
     pub versions : OnOk result (AllHaveAsked new)
     pub rises : OnOk result (group_in pool < group_in new)
+    pub names : IfOk result (λ (it : Synced). it.group ≡ group_in new)
     pub idle : OnOk result (AreIdle new.metaslabs.shards.items)
     pub cause : IsErrOf result sync.Shelf → AreaRose area.faults pool new
     pub carries : (x : State) → Represents rack area pool x → CarriesOut rack area new x (SyncDoes x result)
@@ -203,6 +204,7 @@ module _ {R A : Type 0} (rack : racks.Ghosts R) (area : areas.Ghosts A) where
           stays = all_on rack.faults pool p new f.stays d.stays;
           versions = d.versions;
           rises = (let grows = f.grows in let named = d.named in omega (arith, grows, named, next));
+          names = sym d.named;
           idle = d.idle;
           cause = λ is. absurd (no_refusal is);
           carries = λ x is. sync_done rack area p new x it.group it.thin (f.carries x is) next d.carries;
@@ -215,6 +217,7 @@ module _ {R A : Type 0} (rack : racks.Ghosts R) (area : areas.Ghosts A) where
           stays = f.stays;
           versions = tt;
           rises = tt;
+          names = tt;
           idle = tt;
           cause = λ is. f.cause (err_on Synced Unit why sync.Shelf is);
           carries = λ x is. sync_unfinished rack area (with_both rack area pool b v) x why (f.carries x is);
@@ -230,6 +233,7 @@ module _ {R A : Type 0} (rack : racks.Ghosts R) (area : areas.Ghosts A) where
           stays = all_on rack.faults pool p new f.stays d.stays;
           versions = tt;
           rises = tt;
+          names = tt;
           idle = tt;
           cause = λ is. rose_then area.faults pool p new f.later (d.cause (err_on Synced ℕ why sync.Shelf is));
           carries = λ x is. sync_stops rack area p new x group why (f.carries x is) next d.carries;

@@ -188,7 +188,7 @@ module _ {R A : Type 0} (rack : racks.Ghosts R) (area : areas.Ghosts A) where
       → SameReserve old new → (history.Passes old.history 3 0 → ⊥) → Turns rack area part pieces x new (λ hold y. CloseIs part group (Ok tt) hold × KeepsCommitted x.world y.world)
   closed part pieces old new group x is valid does kit reserve fits =
       let d : Done rack area part pieces new (event.Close group) x
-      = did_quiet rack area part pieces old new (event.Close group) x is valid does kit reserve (λ w after step a b same. same) (λ v step. refl) refl refl tt in
+      = did_quiet rack area part pieces old new (event.Close group) x is valid does kit reserve (λ w after step a b same. same) (λ v step. refl) refl refl tt tt in
       record {
         act = Did (event.Close group) d.reached.world;
         reached = d.reached;
@@ -243,7 +243,7 @@ module _ {R A : Type 0} (rack : racks.Ghosts R) (area : areas.Ghosts A) where
       let e : Event = event.Seal group s.failed in
       let d : Done rack area (part_of old) pieces new e x
       = did_with rack area (part_of old) pieces old new e x is valid s.does (s.acts pieces) (λ v step. refl) reserve.limit (let r = reserve.reserved in omega (arith, r))
-      (λ v step is_in. record { rack = s.counts.later None; even = later.even; odd = later.odd; leaves = λ leaf stays. s.counts.cause leaf }) (sealed_record pieces old new group thin x is s other) in
+      (λ v step is_in. record { rack = s.counts.later None; even = later.even; odd = later.odd; leaves = λ leaf stays. s.counts.cause leaf }) (sealed_record pieces old new group thin x is s other) tt in
       record {
         act = Did e d.reached.world;
         reached = d.reached;
@@ -310,6 +310,7 @@ module _ {R A : Type 0} (rack : racks.Ghosts R) (area : areas.Ghosts A) where
       counts = refl;
       harm = is.harm ∙ flushed_harm (rack.told old.rack) (rack.told new.rack) u.leaves;
       records = old_record;
+      bytes = is.bytes;
     }
 
     rests_on : (why : SealFault) → Unsealed rack area.faults old new group why → HasNoEvent x reached
@@ -414,7 +415,7 @@ module _ {R A : Type 0} (rack : racks.Ghosts R) (area : areas.Ghosts A) where
         leaves = λ leaf stays. (let more = z.leaves.counts leaf (leaf_in new.slots v.core leaf is_in.slots stays.1) in omega (arith, more));
       }) in
       let d : Done rack area (part_of old) pieces new e x
-      = did_with rack area (part_of old) pieces old new e x is z.valid z.does (z.acts pieces) (λ v step. refl) z.reserve.limit (let r = z.reserve.reserved in omega (arith, r)) counts records in
+      = did_with rack area (part_of old) pieces old new e x is z.valid z.does (z.acts pieces) (λ v step. refl) z.reserve.limit (let r = z.reserve.reserved in omega (arith, r)) counts records tt in
       record {
         act = Did e d.reached.world;
         reached = d.reached;

@@ -19,6 +19,7 @@ use Rattle.draid_shard.specs.States.{part_of}
 use Rattle.draid_shard.specs.declared.shard.Shard.{Shard}
 use Rattle.draid_session.specs.State.{Metaslab}
 use Rattle.draid_pool.specs.Metaslabs.{IsMetaslab}
+use Rattle.draid_pool.specs.Passes.{KeepsPass}
 
 -- ---- states
 
@@ -58,6 +59,10 @@ is_other (Some n) object = if n == object then false else true
 abbrev pub groups_number : ℕ
 groups_number = 4_294_967_312
 
+-- the number that a hold concerns which may change the pass of a metaslab; it is no object's
+abbrev pub passes_number : ℕ
+passes_number = 4_294_967_313
+
 -- the groups are as they were, and so are the arms, which change with them; as many events are reserved; logs may be others
 pub record KeepsGroups {R A : Type 0} (old new : Shard R A) : Type 0 where
   pub groups : SameGroups old new
@@ -65,22 +70,24 @@ pub record KeepsGroups {R A : Type 0} (old new : Shard R A) : Type 0 where
   pub reserve : reserved_of new.history ≡ reserved_of old.history
 
 -- What every hold keeps to: the metaslab is valid, what it has of objects that the hold doesn't concern is as it was, its groups, arms and reserved events are as they were unless
--- the hold concerns them, and whatever state it stood for, it stands for one behind it.
+-- the hold concerns them, its pass is the one that it was unless the hold concerns that, and whatever state it stood for, it stands for one behind it.
 pub record KeepsTo {R A : Type 0} (rack : racks.Ghosts R) (area : areas.Ghosts A) (old new : Shard R A) (concerned : Option ℕ) : Type 0 where
   pub valid : Valid rack new
   pub part : part_of new ≡ part_of old
   pub later : old.committed ≤ new.committed
   pub groups : is_other concerned groups_number ≡ true → KeepsGroups old new
+  pub passes : is_other concerned passes_number ≡ true → KeepsPass old.pass new.pass
   pub others : KeepsOf (is_other concerned) new.committed old.entries new.entries
   pub state : StateStep rack area (is_other concerned) old new
 
 -- what others may have done since, where there are any: what it has of a thread's own objects is as it was, and so are its groups, arms and reserved events where the groups are
--- the thread's own
+-- the thread's own, and its pass where that is
 pub record Drifts {R A : Type 0} (rack : racks.Ghosts R) (area : areas.Ghosts A) (shared : Bool) (owns : ℕ → Bool) (old now : Shard R A) : Type 0 where
   pub valid : Valid rack now
   pub part : part_of now ≡ part_of old
   pub later : old.committed ≤ now.committed
   pub groups : owns groups_number ≡ true → KeepsGroups old now
+  pub passes : owns passes_number ≡ true → KeepsPass old.pass now.pass
   pub own : KeepsOf owns now.committed old.entries now.entries
   pub state : StateStep rack area owns old now
   pub still : shared ≡ false → now ≡ old

@@ -1,3 +1,4 @@
+pub mod Bytes
 pub mod Carries
 pub mod Changes
 pub mod Committing

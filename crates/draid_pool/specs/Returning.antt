@@ -19,6 +19,7 @@ use Rattle.draid_pool.specs.Importable.{IsImportable}
 use Rattle.draid_pool.specs.Objects.{HoldsObjects, blocks_of}
 use Rattle.draid_pool.specs.Records.{HasImages, HasLeafNumbers}
 use Rattle.draid_pool.specs.Ubers.{UberStands}
+use Rattle.draid_pool.specs.Bytes.{KnowsBlocks}
 
 -- ---- kits
 
@@ -40,6 +41,7 @@ pub record RestsOn (x : State) (m : ℕ) (pieces : Pieces) (y : Metaslab) (kit :
   pub images : (image : Image) → IsImage y.world image
       → IsStable (at_version image.version x.geometry) m (layout_of x.geometry x.perms m) pieces image y.world.aside kit
   pub harm : IsSomeAnd y.harm (λ harm. (leaf sector : ℕ) → kit.rack.harmed leaf sector ≡ harm leaf sector)
+  pub bytes : KnowsBlocks x.geometry pieces y.world.core.held
 
 -- All devices of a pool are held, as calls and crashes left them. An import finds one of the groups of its uberblock, of which each metaslab has an image and its
 -- record. The pieces are those of what befell the objects.

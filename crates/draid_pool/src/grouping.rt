@@ -13,6 +13,9 @@ use draid_turn::Act;
 /// The number that a hold concerns which changes the groups of a metaslab, its arms or its reserved events; it is no object's.
 pub const GROUPS: u64 = 4_294_967_312;
 
+/// The number that a hold concerns which changes the pass of a metaslab; it is no object's.
+pub const PASSES: u64 = 4_294_967_313;
+
 /// Closes a group in a shard where it isn't closing already.
 fn close_in<R: Rack, A: Area>(shard: &mut Shard<R, A>, group: u64) -> Result<(), SyncFault>
     requires { ClosesNext R.Rack group shard.old }

@@ -27,7 +27,7 @@ pub use cell::Cell;
 pub use closing::{BIRTH_GROUPS, close_group};
 pub use committing::commit;
 pub use fault::{CloseFault, SealFault, Sealed, SyncFault, Synced};
-pub use grouping::GROUPS;
+pub use grouping::{GROUPS, PASSES};
 pub use metaslabs::Metaslabs;
 pub use own::Own;
 pub use owned::Owned;

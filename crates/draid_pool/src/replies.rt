@@ -1,12 +1,12 @@
 //! What a sync replies.
-ghost use Rattle.std.specs.Prelude.{IfOk, IsErr};
+ghost use Rattle.std.specs.Prelude.{◌≡◌, ℕ, IfOk, IsErr, Ok};
 ghost use Rattle.draid_script.specs.Line.{SyncPool};
 ghost use Rattle.draid_session.specs.Replies.{IsReplyTo};
 ghost use Rattle.draid_session.specs.State.{State};
 ghost use Rattle.draid_pool.specs.Carries.{CarriesOut};
 ghost use Rattle.draid_pool.specs.Failing.{AreaRose, AreasLater};
 ghost use Rattle.draid_pool.specs.Pointers.{SamePointers};
-ghost use Rattle.draid_pool.specs.Pools.{Represents};
+ghost use Rattle.draid_pool.specs.Pools.{Represents, group_in};
 ghost use Rattle.draid_pool.specs.Says.{SyncSays};
 ghost use Rattle.draid_pool.specs.Whole.{IsWhole};
 
@@ -26,6 +26,7 @@ pub fn reply_to_sync<R: Rack, A: Area>(pool: &mut Pool<R, A>) -> Result<Reply, F
     ensures later { AreasLater A.faults pool.old pool.new }
     ensures cause { IsErr result → AreaRose A.faults pool.old pool.new }
     ensures fits { IfOk result (IsReplyTo SyncPool) }
+    ensures names { (group thin : ℕ) → result ≡ Ok (Reply.Synced group thin) → group ≡ group_in pool.new }
     ensures step { (x : State) → Represents R.Rack A.Area pool.old x
         → CarriesOut R.Rack A.Area pool.new x (SyncSays result x) }
 {

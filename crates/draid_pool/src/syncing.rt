@@ -1,5 +1,5 @@
 //! Groups of a pool, whose metaslabs and uberblock nobody else holds.
-ghost use Rattle.std.specs.Prelude.{◌≡◌, ◌<◌, ◌≤◌, IsErrOf, OnOk};
+ghost use Rattle.std.specs.Prelude.{◌≡◌, ◌<◌, ◌≤◌, IfOk, IsErrOf, OnOk};
 ghost use Rattle.draid_session.specs.Groups as groups;
 ghost use Rattle.draid_session.specs.State.{State};
 ghost use Rattle.draid_pool.specs.Syncing.{SyncDoes, AreIdle, Phase, end_of};
@@ -30,6 +30,7 @@ impl<R: Rack, A: Area> Pool<R, A> {
         ensures asked { AllAskedStay self.old self.new }
         ensures versions { OnOk result (AllHaveAsked self.new) }
         ensures rises { OnOk result (group_in self.old < group_in self.new) }
+        ensures names { IfOk result (λ synced. synced.group ≡ group_in self.new) }
         ensures idle { OnOk result (AreIdle self.new.metaslabs.shards.items) }
         ensures cause { IsErrOf result SyncFault.Shelf → AreaRose A.faults self.old self.new }
         ensures carries { (x : State) → Represents R.Rack A.Area self.old x

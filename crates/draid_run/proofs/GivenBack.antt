@@ -38,7 +38,7 @@ module _ (x : State) (b : Bool) where
   uber_as content u = record { pending = u.pending; are = u.are; stands = u.stands }
 
   rests_on : (m : ℕ) (pieces : Pieces) (y : Metaslab) (kit : KitTold) → RestsOn x m pieces y kit → RestsOn told_as m pieces y kit
-  rests_on m pieces y kit r = record { reached = r.reached; images = r.images; harm = r.harm }
+  rests_on m pieces y kit r = record { reached = r.reached; images = r.images; harm = r.harm; bytes = r.bytes }
 
   leaves_as : HasLeafNumbers x → HasLeafNumbers told_as
   leaves_as l = record { order = l.order; each = l.each }

@@ -1,6 +1,7 @@
 -- The column of a block is put where nothing is known of the block's pieces: they are replaced for this column alone.
-use Rattle.std.proofs.Common.{◌≡◌, ◌==◌, ◌<◌, ◌+◌, ◌&&◌, ◌∙◌, ℕ, Bool, true, false, List, Option, Some, None, arith, refl, sym, ap, subst, nat_lt, if◌then◌else◌}
+use Rattle.std.proofs.Common.{◌≡◌, ◌==◌, ◌<◌, ◌+◌, ◌&&◌, ◌∙◌, ℕ, Bool, true, false, List, Option, Some, None, arith, refl, sym, ap, subst, nat_lt, if◌then◌else◌, inl, inr}
 use Rattle.std.proofs.lemmas.Bool.Decides.{nat_tests}
+use Rattle.std.specs.Prelude.{IsSome}
 use Rattle.draid_rack.specs.Rack.{OnTold, Told, OnBothTold}
 use Rattle.draid_rack.specs.declared.Rack as racks
 use Rattle.draid_area.specs.declared.Area as areas
@@ -17,11 +18,11 @@ use Rattle.draid_machine.specs.declared.names.Stage.TheVariants as stage
 use Rattle.draid_machine.specs.After.{is_landed}
 use Rattle.draid_machine.specs.Claims.{is_on}
 use Rattle.draid_machine.specs.Created.{IsReached}
-use Rattle.draid_machine.specs.Names.{has_name, is_put, key_eq}
+use Rattle.draid_machine.specs.Names.{has_name, is_put, key_eq, is_block}
 use Rattle.draid_machine.specs.State as machine
 use Rattle.draid_machine.specs.State.{Core, IsLayout, Layout, State}
 use Rattle.draid_machine.proofs.Losing.{every_segment}
-use Rattle.draid_machine.proofs.Small.{four_true, key_refl, key_true}
+use Rattle.draid_machine.proofs.Small.{four_true, key_refl, key_true, bool_cases}
 use Rattle.draid_segments.specs.Acts.{PutsColumn}
 use Rattle.draid_segments.specs.Segments.{Backed, Pieces, piece_of}
 use Rattle.draid_segments.proofs.Apart.{stands}
@@ -41,21 +42,23 @@ use Rattle.draid_pool.specs.Metaslabs.{IsMetaslab}
 use Rattle.draid_store.specs.Shards.{SamePieces}
 use Rattle.draid_pool.proofs.Dids.{Done, did}
 use Rattle.draid_pool.proofs.Lists.{some_of}
+use Rattle.std.proofs.lemmas.Bool.{true≢false}
+use Rattle.draid_pool.proofs.Bytes.{same_bytes}
 
 -- ---- a column of a key
 
 abbrev pub is_of_column : Key → ℕ → Key → ℕ → Bool
 is_of_column key c k i = key_eq key k && (i == c)
 
--- the pieces of a column of a key are the rows of its bytes
+-- the pieces of a column of a key are known then, and are the rows of its bytes
 abbrev pub column_for : Key → ℕ → ℕ → List (List ℕ) → Pieces → Pieces
-column_for key c size columns pieces k i row = if is_of_column key c k i then row_bytes size (column_at columns i) row else pieces k i row
+column_for key c size columns pieces k i row = if is_of_column key c k i then Some (row_bytes size (column_at columns i) row) else pieces k i row
 
 abbrev pub rows_for : Key → ℕ → List (List ℕ) → Pieces → Pieces
-rows_for key size columns pieces k c row = if key_eq key k then row_bytes size (column_at columns c) row else pieces k c row
+rows_for key size columns pieces k c row = if key_eq key k then Some (row_bytes size (column_at columns c) row) else pieces k c row
 
 rows_are : (key : Key) (size count stripes : ℕ) (columns : List (List ℕ)) (pieces : Pieces) → ArePieces size count stripes columns key (rows_for key size columns pieces)
-rows_are key size count stripes columns pieces c row column inside = ap (λ b. if b then row_bytes size (column_at columns c) row else pieces key c row) (key_refl key)
+rows_are key size count stripes columns pieces c row column inside = ap (λ b. if b then Some (row_bytes size (column_at columns c) row) else pieces key c row) (key_refl key)
 
 same_test : (n : ℕ) → (n == n) ≡ true
 same_test n = grind (arith, nat_tests)
@@ -76,25 +79,25 @@ second_false false b x = refl
 -- others of other keys, and of other columns, are as they were
 pub others_same : (key : Key) (c size : ℕ) (columns : List (List ℕ)) (pieces : Pieces) → SamePieces key pieces (column_for key c size columns pieces)
 others_same key c size columns pieces k other =
-    λ i. λ d. λ row. if first_false (key_eq key k) (d == c) other i then row_bytes size (column_at columns d) row else pieces k d row
+    λ i. λ d. λ row. if first_false (key_eq key k) (d == c) other i then Some (row_bytes size (column_at columns d) row) else pieces k d row
 
 pub before_same : (key : Key) (c size : ℕ) (columns : List (List ℕ)) (pieces : Pieces) (d row : ℕ) → d < c → column_for key c size columns pieces key d row ≡ pieces key d row
 before_same key c size columns pieces d row less =
-    ap (λ b. if b then row_bytes size (column_at columns d) row else pieces key d row) (second_false (key_eq key key) (d == c) (less_differs d c (grind (arith, nat_tests, less))))
+    ap (λ b. if b then Some (row_bytes size (column_at columns d) row) else pieces key d row) (second_false (key_eq key key) (d == c) (less_differs d c (grind (arith, nat_tests, less))))
 
-pub own_column : (key : Key) (c size : ℕ) (columns : List (List ℕ)) (pieces : Pieces) (row : ℕ) → column_for key c size columns pieces key c row ≡ row_bytes size (column_at columns c) row
+pub own_column : (key : Key) (c size : ℕ) (columns : List (List ℕ)) (pieces : Pieces) (row : ℕ) → column_for key c size columns pieces key c row ≡ Some (row_bytes size (column_at columns c) row)
 own_column key c size columns pieces row =
-    ap (λ b. if b then row_bytes size (column_at columns c) row else pieces key c row) (both_tests (key_eq key key) (c == c) (key_refl key) (same_test c))
+    ap (λ b. if b then Some (row_bytes size (column_at columns c) row) else pieces key c row) (both_tests (key_eq key key) (c == c) (key_refl key) (same_test c))
 
 -- column by column they become those of the block
 
 pub one_column_more : (key : Key) (c size stripes : ℕ) (columns : List (List ℕ)) (pieces : Pieces) → ArePieces size c stripes columns key pieces → ArePieces size (c + 1) stripes columns key (column_for key c size columns pieces)
 one_column_more key c size stripes columns pieces are d row column inside = by (d == c) refl
   where
-    by : (b : Bool) → (d == c) ≡ b → column_for key c size columns pieces key d row ≡ row_bytes size (column_at columns d) row
-    by true is = ap (λ b. if b then row_bytes size (column_at columns d) row else pieces key d row) (both_tests (key_eq key key) (d == c) (key_refl key) is)
+    by : (b : Bool) → (d == c) ≡ b → column_for key c size columns pieces key d row ≡ Some (row_bytes size (column_at columns d) row)
+    by true is = ap (λ b. if b then Some (row_bytes size (column_at columns d) row) else pieces key d row) (both_tests (key_eq key key) (d == c) (key_refl key) is)
     by false is =
-        ap (λ b. if b then row_bytes size (column_at columns d) row else pieces key d row) (second_false (key_eq key key) (d == c) is)
+        ap (λ b. if b then Some (row_bytes size (column_at columns d) row) else pieces key d row) (second_false (key_eq key key) (d == c) is)
         ∙ are d row (grind (arith, nat_tests, is, column)) inside
 
 -- ---- the pieces of what isn't present are free
@@ -104,11 +107,12 @@ module _ (l : Layout) (lay : IsLayout l) (w : State) (reached : IsReached l w) w
   present_pieces pieces other x same b = record {
     holds = record {
       there = b.holds.there;
-      reads = λ s h is calm. b.holds.reads s h is calm ∙ ap (λ (bytes : List ℕ). Some bytes) (sym (same s is.present));
+      reads = λ s h is calm known. b.holds.reads s h is calm (subst (λ (o : Option (List ℕ)). IsSome o) (same s is.present) known) ∙ sym (same s is.present);
     };
     images = λ img is. (let f = b.images img is in record {
       there = f.there;
-      reads = λ s h c calm. f.reads s h c calm ∙ ap (λ (bytes : List ℕ). Some bytes) (sym (same s ((stands l lay w reached img is).claimed s c.claim)));
+      reads = λ s h c calm known. (let own = same s ((stands l lay w reached img is).claimed s c.claim) in
+          f.reads s h c calm (subst (λ (o : Option (List ℕ)). IsSome o) own known) ∙ sym own);
       firm = f.firm;
     });
     last = b.last;
@@ -130,7 +134,7 @@ module _ (l : Layout) (lay : IsLayout l) (w : State) (reached : IsReached l w) w
       → Backed l pieces w x → Backed l (column_for key c size columns pieces) w x
   column_backed key h c m size columns pieces x found writing b =
       present_pieces pieces (column_for key c size columns pieces) x
-      (λ s here. ap (λ t. if t then row_bytes size (column_at columns s.column) s.row else pieces s.key s.column s.row) (none_present key h c m found writing s here)) b
+      (λ s here. ap (λ t. if t then Some (row_bytes size (column_at columns s.column) s.row) else pieces s.key s.column s.row) (none_present key h c m found writing s here)) b
 
 -- ---- a put writes pieces of its column alone
 
@@ -150,14 +154,15 @@ puts_by_column : (l : Layout) (q : Core) (key : Key) (h : Held) (c size : ℕ) (
     → PutsColumn l q key h c landed (rows_for key size columns pieces) x y → PutsColumn l q key h c landed (column_for key c size columns pieces) x y
 puts_by_column l q key h c size landed columns pieces x y p = record {
   writes = p.writes;
-  landed_reads = λ s on. p.landed_reads s on ∙ ap (λ (bytes : List ℕ). Some bytes) (same s (landed_tests l q key h c landed s on));
+  landed_there = p.landed_there;
+  landed_reads = λ s on known. (let own = same s (landed_tests l q key h c landed s on) in p.landed_reads s on (subst (λ (o : Option (List ℕ)). IsSome o) (sym own) known) ∙ own);
   landed_harm = p.landed_harm;
 }
   where
     same : (s : Segment) → (key_eq key s.key ≡ true) × ((s.column == c) ≡ true) → piece_of (rows_for key size columns pieces) s ≡ piece_of (column_for key c size columns pieces) s
     same s tests =
-        ap (λ t. if t then row_bytes size (column_at columns s.column) s.row else pieces s.key s.column s.row) tests.0
-        ∙ sym (ap (λ t. if t then row_bytes size (column_at columns s.column) s.row else pieces s.key s.column s.row) (both_tests (key_eq key s.key) (s.column == c) tests.0 tests.1))
+        ap (λ t. if t then Some (row_bytes size (column_at columns s.column) s.row) else pieces s.key s.column s.row) tests.0
+        ∙ sym (ap (λ t. if t then Some (row_bytes size (column_at columns s.column) s.row) else pieces s.key s.column s.row) (both_tests (key_eq key s.key) (s.column == c) tests.0 tests.1))
 
 abbrev put_in : Stage → ℕ
 put_in (stage.Writing put missed) = put
@@ -172,7 +177,7 @@ module _ {R A : Type 0} (rack : racks.Ghosts R) (area : areas.Ghosts A) where
       → Done rack area part (column_for (key_of before.pointer) before.next old.geometry.props.sector block.columns pieces) new (Put (key_of before.pointer) put.landed put.failed) x
   put_column old new before now block valid areas_are reserve put carries part pieces x is =
       did rack area part other old new e x free valid put.does acts (λ v step. refl) reserve.limit (let r = reserve.reserved in omega (arith, r))
-      (record { areas_are = areas_are; later = put.counts.later; cause = put.counts.cause }) tt
+      (record { areas_are = areas_are; later = put.counts.later; cause = put.counts.cause }) tt tt
     where
       key : Key
       key = key_of before.pointer
@@ -213,6 +218,13 @@ module _ {R A : Type 0} (rack : racks.Ghosts R) (area : areas.Ghosts A) where
         counts = is.counts;
         harm = is.harm;
         records = is.records;
+        bytes = λ k h at is_one column row some.
+            let away : key_eq key k ≡ false = elim (bool_cases (key_eq key k)) [
+              | inl one ↦ absurd (let e : true ≡ false = sym is_one ∙ ap (λ (i : Held). is_block i.stage) (some_of (x.world.core.held k) h ticket at (ap x.world.core.held (sym (key_true key k one)) ∙ found x.world is.stands.is_in)) in true≢false e)
+              | inr other_key ↦ other_key
+            ] in
+            let same : other k ≡ pieces k = others_same key before.next size block.columns pieces k away in
+            same_bytes part.geometry h k pieces other same (is.bytes k h at is_one column row (subst (λ (f : ℕ → ℕ → Option (List ℕ)). IsSome (f column row)) same some));
       }
 
       acts : ActsOn rack old new e other

@@ -82,7 +82,7 @@ module _ {R A : Type 0} (rack : racks.Ghosts R) (area : areas.Ghosts A) where
   damages old mid new leaf sector failed r reserved never valid does acts raises used limit part pieces x is =
       let y : Metaslab = with_reserved x (reserved_of mid.history) in
       let here : IsMetaslab rack area part pieces mid y = reserved_here rack area part pieces old mid x is r.valid r.none r.kit r.limit in
-      let z : Done rack area part pieces new (Damage leaf sector failed) y = did rack area part pieces mid new (Damage leaf sector failed) y here valid does (acts pieces) (λ v step. refl) limit used raises tt in
+      let z : Done rack area part pieces new (Damage leaf sector failed) y = did rack area part pieces mid new (Damage leaf sector failed) y here valid does (acts pieces) (λ v step. refl) limit used raises tt tt in
       record {
         holds = On (view_of part.number x) (Reserved 1) ∷ (On (view_of part.number y) (Did (Damage leaf sector failed) z.reached.world) ∷ []);
         reached = z.reached;

@@ -37,6 +37,7 @@ use Rattle.draid_shard.proofs.Held.{key_leads}
 use Rattle.draid_session.specs.Holds.{Did, On, view_of}
 use Rattle.draid_session.specs.Rooms.{stripes_for}
 use Rattle.draid_session.specs.State.{State, Store}
+use Rattle.draid_pool.specs.Bytes.{HasBytes, KnowsBlock}
 use Rattle.draid_pool.specs.Objects.{HasPieces, HoldsObjects, IsLastAt, blocks_of}
 use Rattle.draid_pool.specs.Pools.{part_in}
 use Rattle.draid_pool.proofs.Dids.{Done, did_quiet}
@@ -147,14 +148,28 @@ module _ {R A S : Type 0} (rack : racks.Ghosts R) (area : areas.Ghosts A) (went 
   pieces_then = turn m z.now open_.pieces
 
   module _ (result : _) (fin : FinishesShard rack before ticket block result after) (entry : Option Entry) (sets : SetsBlock before after ticket.pointer entry) where
+    led : held_in before.entries (key_of ticket.pointer) ≡ Some (held_at (staged (stage.Writing ticket.next ticket.missed) ticket.pointer))
+    led = key_leads before.entries ticket.pointer.first (staged (stage.Writing ticket.next ticket.missed) ticket.pointer) fin.carried.is_open
+
+    -- its bytes are known
+    ended_bytes : (h : Held) → z.z.world.core.held (key_of ticket.pointer) ≡ Some h → KnowsBlock x.geometry h (key_of ticket.pointer) z.now
+    ended_bytes h at column row some = subst (λ (i : Held). HasBytes x.geometry i (key_of ticket.pointer) z.now)
+        (some_of (z.z.world.core.held (key_of ticket.pointer)) (held_at (staged (stage.Writing ticket.next ticket.missed) ticket.pointer)) h (z.is.stands.is_in.held (key_of ticket.pointer) ∙ led) at)
+        (record {
+          content = block.bytes;
+          len = fin.carried.content.len;
+          digest = fin.carried.content.digest;
+          bytes = fin.carried.content.bytes;
+          columns = block.columns;
+          are = subst (λ cut. AreColumns cut block.bytes block.columns) (fin.carried.cut ∙ ap (λ (q : Part). cut_of q.geometry) z.is.part_is) fin.carried.columns;
+          rows = λ c r below inside. ap (λ f. f c r) (z.same (key_of ticket.pointer) open_.own) ∙ open_.rows c r (subst (λ n. c < n) (sym (fin.all ∙ ap (λ (q : Part). q.geometry.g) z.is.part_is)) below) inside;
+        })
+
     pub d : Done rack area (part_in x m) z.now after (event.Finish (key_of ticket.pointer)) z.z
-    d = did_quiet rack area (part_in x m) z.now before after (event.Finish (key_of ticket.pointer)) z.z z.is valid fin.does fin.kit fin.reserve (λ w after step s t same. same) (λ v step. refl) refl refl tt
+    d = did_quiet rack area (part_in x m) z.now before after (event.Finish (key_of ticket.pointer)) z.z z.is valid fin.does fin.kit fin.reserve (λ w after step s t same. same) (λ v step. refl) refl refl tt ended_bytes
 
     abbrev x_then : State
     x_then = with_metaslab x m d.reached
-
-    led : held_in before.entries (key_of ticket.pointer) ≡ Some (held_at (staged (stage.Writing ticket.next ticket.missed) ticket.pointer))
-    led = key_leads before.entries ticket.pointer.first (staged (stage.Writing ticket.next ticket.missed) ticket.pointer) fin.carried.is_open
 
     is_ticket : (h : Held) → held_in before.entries (key_of ticket.pointer) ≡ Some h → h.stage ≡ stage.Live → ⊥
     is_ticket h there_h live =
@@ -276,7 +291,7 @@ module _ {R A S : Type 0} (rack : racks.Ghosts R) (area : areas.Ghosts A) (went 
         are = subst (λ cut. AreColumns cut block.bytes block.columns) (fin.carried.cut ∙ ap (λ (q : Part). cut_of q.geometry) z.is.part_is) fin.carried.columns;
         rows = λ c row column inside.
             ap (λ (q : Pieces). q (changes.key_of w) c row) (turn_here m z.now open_.pieces)
-            ∙ subst (λ k. z.now k c row ≡ row_bytes x.geometry.props.sector (column_at block.columns c) row) key_w (ap (λ h. h c row) (z.same (key_of ticket.pointer) open_.own)
+            ∙ subst (λ k. z.now k c row ≡ Some (row_bytes x.geometry.props.sector (column_at block.columns c) row)) key_w (ap (λ h. h c row) (z.same (key_of ticket.pointer) open_.own)
             ∙ open_.rows c row (subst (λ n. c < n) (sym whole) column) (subst (λ n. row < n) (sym stripes) inside));
       }
 

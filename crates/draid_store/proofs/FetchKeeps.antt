@@ -22,6 +22,7 @@ use Rattle.draid_pool.specs.Drifts.{Drifts, GoesOn, KeepsGroups, KeepsTo, is_oth
 use Rattle.draid_pool.specs.Metaslabs.{IsMetaslab}
 use Rattle.draid_pool.specs.Threads.{HasPointer}
 use Rattle.draid_pool.proofs.Dids.{none_here}
+use Rattle.draid_pool.proofs.Drifting.{same_pass}
 use Rattle.draid_pool.proofs.ShardSteps.{follows_since, live_on}
 use Rattle.draid_pool.proofs.Since.{since_self}
 use Rattle.draid_store.specs.Fetching.{FetchesNone, FetchesShard, MayFetchIn}
@@ -81,6 +82,7 @@ module _ {R A : Type 0} (rack : racks.Ghosts R) (area : areas.Ghosts A) where
     part = f.part;
     later = (let same = (fetch_blocks x y p result f).groups.committed in omega (arith, same));
     groups = λ other. fetch_groups x y p result f;
+    passes = λ other. same_pass x.pass y.pass f.pass;
     others = record { each = λ key other. inl ((fetch_blocks x y p result f).entries.held key) };
     state = state_on (is_other None) x y p result f;
   }

@@ -60,7 +60,7 @@ module _ {R A : Type 0} (rack : racks.Ghosts R) (area : areas.Ghosts A) where
       let acts : ActsOn rack old new (Fetch (key_of pointer) f.failed) pieces = λ w after step reached is_in. told_same (rack.told old.rack) (rack.told new.rack) told in
       let z : Done rack area (part_of old) pieces new (Fetch (key_of pointer) f.failed) x
       = did rack area (part_of old) pieces old new (Fetch (key_of pointer) f.failed) x is valid f.does acts (λ v step. refl) reserve.limit (let r = reserve.reserved in omega (arith, r))
-      (record { areas_are = same; later = f.counts.later; cause = f.counts.cause }) tt in
+      (record { areas_are = same; later = f.counts.later; cause = f.counts.cause }) tt tt in
       let stands = is.stands in
       record {
         holds = On (view_of old.number x) (Did (Fetch (key_of pointer) f.failed) z.reached.world) ∷ [];

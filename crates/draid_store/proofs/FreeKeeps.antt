@@ -13,7 +13,7 @@ use Rattle.draid_shard.specs.Changes.{DoesNothing, SetsBlock}
 use Rattle.draid_shard.specs.declared.shard.Shard.{Shard}
 use Rattle.draid_pool.specs.Drifts.{KeepsGroups, KeepsOf, KeepsTo, StateStep, is_other}
 use Rattle.draid_store.specs.Frees.{FreesBlock, FreesShard, IsEarly}
-use Rattle.draid_pool.proofs.Drifting.{keeps_self, same_groups}
+use Rattle.draid_pool.proofs.Drifting.{keeps_self, same_groups, same_pass}
 use Rattle.draid_pool.proofs.ShardSteps.{sets_others, state_goes}
 use Rattle.draid_pool.proofs.Since.{state_self}
 
@@ -45,6 +45,7 @@ module _ {R A : Type 0} (rack : racks.Ghosts R) (area : areas.Ghosts A) where
         part = f.part;
         later = (let same = ap (λ (s : Shard R A). s.committed) e.same in omega (arith, same));
         groups = λ other. same_groups x y e.same;
+        passes = λ other. same_pass x.pass y.pass (ap (λ (s : Shard R A). s.pass) e.same);
         others = subst (λ (s : Shard R A). KeepsOf of s.committed x.entries s.entries) (sym e.same) (keeps_self of x.committed x.entries);
         state = subst (StateStep rack area of x) (sym e.same) (state_self rack area of x);
       }
@@ -53,6 +54,7 @@ module _ {R A : Type 0} (rack : racks.Ghosts R) (area : areas.Ghosts A) where
         part = f.part;
         later = (let same = b.sets.groups.committed in omega (arith, same));
         groups = λ other. sets_groups x y p (Some (staged (stage.Freed group) p)) b.sets b.reserve;
+        passes = λ other. same_pass x.pass y.pass b.pass;
         others = sets_others y.committed x.entries y.entries p (Some (staged (stage.Freed group) p)) b.sets.entry;
         state = state_goes rack area of x y _ b.frees;
       }

@@ -26,7 +26,7 @@ use Rattle.draid_pool.specs.Drifts.{Drifts, KeepsOf, KeepsTo, is_other, StateSte
 use Rattle.draid_store.specs.Writing.{BeginsAs, BeginsShard, FinishesShard, MayBeginIn, MayFinishIn, MayPutIn, PutsShard}
 use Rattle.draid_pool.proofs.Drifting.{keeps_self}
 use Rattle.draid_store.proofs.FreeKeeps.{nothing_groups}
-use Rattle.draid_pool.proofs.Drifting.{same_groups}
+use Rattle.draid_pool.proofs.Drifting.{same_groups, same_pass}
 use Rattle.draid_store.proofs.PutKeeps.{put_keeps}
 use Rattle.draid_store.proofs.QuietKeeps.{begin_keeps, finish_keeps}
 use Rattle.draid_pool.proofs.Since.{since_self, state_self}
@@ -66,12 +66,13 @@ module _ {R A : Type 0} (rack : racks.Ghosts R) (area : areas.Ghosts A) where
             part = b.part;
             later = (let c = ap (λ (s : Shard R A). s.committed) same in omega (arith, c));
             groups = λ other. same_groups x y same;
+            passes = λ other. same_pass x.pass y.pass b.pass;
             others = subst (λ (s : Shard R A). KeepsOf of s.committed x.entries s.entries) (sym same) (keeps_self of x.committed x.entries);
             state = subst (StateStep rack area of x) (sym same) (state_self rack area of x);
           }
       by (Some (Ok ticket)) did early =
           subst (λ n. KeepsTo rack area x y (Some n)) did.1.opens.named.object_is
-          (begin_keeps rack area x y ticket.pointer (Some (begun ticket.pointer)) b.valid did.1.does b.kit b.reserve did.1.opens.enters)
+          (begin_keeps rack area x y ticket.pointer (Some (begun ticket.pointer)) b.valid did.1.does b.kit b.reserve b.pass did.1.opens.enters)
       by (Some (Err fault)) did early =
           let none = did.1.nothing in
           record {
@@ -79,6 +80,7 @@ module _ {R A : Type 0} (rack : racks.Ghosts R) (area : areas.Ghosts A) where
             part = b.part;
             later = (let c = none.keeps.groups.committed in omega (arith, c));
             groups = λ other. nothing_groups x y none b.reserve;
+            passes = λ other. same_pass x.pass y.pass b.pass;
             others = record { each = λ key other. inl (none.keeps.entries.held key) };
             state = λ part pieces u is. record {
               reached = u;
@@ -90,11 +92,11 @@ module _ {R A : Type 0} (rack : racks.Ghosts R) (area : areas.Ghosts A) where
           }
 
   pub puts_keep : (x y : Shard R A) (ticket now : Ticket) (block : BlockValue) → PutsShard rack x ticket block now y → KeepsTo rack area x y (Some ticket.pointer.object)
-  puts_keep x y ticket now block p = put_keeps rack area x y ticket now block p.valid p.areas_are p.reserve p.puts p.carried
+  puts_keep x y ticket now block p = put_keeps rack area x y ticket now block p.valid p.areas_are p.reserve p.pass p.puts p.carried
 
   pub finishes_keep : (x y : Shard R A) (ticket : Ticket) (block : BlockValue) (result : Result Pointer Missed) → FinishesShard rack x ticket block result y → KeepsTo rack area x y (Some ticket.pointer.object)
-  finishes_keep x y ticket block (Ok pointer) d = finish_keeps rack area x y ticket.pointer (Some (staged stage.Live ticket.pointer)) d.valid d.does d.kit d.reserve d.ends.2
-  finishes_keep x y ticket block (Err missed) d = finish_keeps rack area x y ticket.pointer None d.valid d.does d.kit d.reserve d.ends.2
+  finishes_keep x y ticket block (Ok pointer) d = finish_keeps rack area x y ticket.pointer (Some (staged stage.Live ticket.pointer)) d.valid d.does d.kit d.reserve d.pass d.ends.2
+  finishes_keep x y ticket block (Err missed) d = finish_keeps rack area x y ticket.pointer None d.valid d.does d.kit d.reserve d.pass d.ends.2
 
   -- ---- they may be run
 

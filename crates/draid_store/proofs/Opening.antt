@@ -78,7 +78,7 @@ module _ {R A S : Type 0} (rack : racks.Ghosts R) (area : areas.Ghosts A) (went 
     z = f rack area went shared owns a b last new m shard before after there drifts valid is goes mine mine table seq floor knows.pieces x known
 
     d : Done rack area (part_in x m) z.now after (begins ticket.pointer) z.z
-    d = did_quiet rack area (part_in x m) z.now before after (begins ticket.pointer) z.z z.is valid begin.does kit reserve (λ w after step s t same. same) (λ v step. refl) refl refl tt
+    d = did_quiet rack area (part_in x m) z.now before after (begins ticket.pointer) z.z z.is valid begin.does kit reserve (λ w after step s t same. same) (λ v step. refl) refl refl tt tt
 
     not_live : (h : Held) → held_in before.entries (key_of ticket.pointer) ≡ Some h → h.stage ≡ stage.Live → ⊥
     not_live h there_h live = none_some (held_in before.entries (key_of ticket.pointer)) h (ap (held_in before.entries) key_is ∙ begin.unused) there_h

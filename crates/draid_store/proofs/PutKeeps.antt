@@ -1,5 +1,5 @@
 -- A put keeps to what every hold keeps to, on both sides.
-use Rattle.std.proofs.Common.{[], ◌∷◌, Some, arith, refl}
+use Rattle.std.proofs.Common.{◌≡◌, [], ◌∷◌, Some, arith, refl}
 use Rattle.draid_rack.specs.declared.Rack as racks
 use Rattle.draid_area.specs.declared.Area as areas
 use Rattle.draid_block.specs.Blocks.{BlockValue}
@@ -12,16 +12,18 @@ use Rattle.draid_blocks.specs.declared.ticket.Ticket.{Ticket}
 use Rattle.draid_store.proofs.Column.{column_for, others_same, put_column}
 use Rattle.draid_pool.specs.Drifts.{KeepsTo}
 use Rattle.draid_shard.specs.declared.shard.Shard.{Shard}
+use Rattle.draid_pool.proofs.Drifting.{same_pass}
 use Rattle.draid_pool.proofs.ShardSteps.{other_key, sets_others}
 use Rattle.draid_store.proofs.FreeKeeps.{sets_groups}
 
-pub put_keeps : {R A : Type 0} (rack : racks.Ghosts R) (area : areas.Ghosts A) (x y : Shard R A) (before now : Ticket) (block : BlockValue) → Valid rack y → SameAreas x y → SameReserve x y
+pub put_keeps : {R A : Type 0} (rack : racks.Ghosts R) (area : areas.Ghosts A) (x y : Shard R A) (before now : Ticket) (block : BlockValue) → Valid rack y → SameAreas x y → SameReserve x y → y.pass ≡ x.pass
     → Puts rack x y before now block → Carries x before block → KeepsTo rack area x y (Some before.pointer.object)
-put_keeps rack area x y before now block valid areas_are reserve put carries = record {
+put_keeps rack area x y before now block valid areas_are reserve pass put carries = record {
   valid = valid;
   part = put.does.part;
   later = (let same = put.sets.groups.committed in omega (arith, same));
   groups = λ other. sets_groups x y before.pointer _ put.sets reserve;
+  passes = λ other. same_pass x.pass y.pass pass;
   others = sets_others y.committed x.entries y.entries before.pointer _ put.sets.entry;
   state = λ part pieces u is.
       let d = put_column rack area x y before now block valid areas_are reserve put carries part pieces u is in

@@ -1,5 +1,5 @@
 -- The begin and the end of a write keep to what every hold keeps to, on both sides.
-use Rattle.std.proofs.Common.{[], ◌∷◌, ℕ, Bool, Option, Some, arith, refl}
+use Rattle.std.proofs.Common.{◌≡◌, [], ◌∷◌, ℕ, Bool, Option, Some, arith, refl}
 use Rattle.draid_names.specs.declared.pointer.Pointer.{Pointer}
 use Rattle.draid_rack.specs.declared.Rack as racks
 use Rattle.draid_area.specs.declared.Area as areas
@@ -17,9 +17,12 @@ use Rattle.draid_shard.specs.States.{Does}
 use Rattle.draid_shard.specs.declared.shard.Shard.{Shard}
 use Rattle.draid_session.specs.State.{Metaslab}
 use Rattle.draid_pool.specs.Metaslabs.{IsMetaslab}
+use Rattle.draid_pool.proofs.Bytes.{nothing_known}
 use Rattle.draid_pool.proofs.Dids.{Done, did_quiet}
+use Rattle.draid_pool.proofs.Forgetting.{forget, forget_own, forget_same, forgotten}
 use Rattle.draid_pool.specs.Drifts.{KeepsTo, is_other, StateStep}
-use Rattle.draid_pool.proofs.ShardSteps.{sets_others}
+use Rattle.draid_pool.proofs.Drifting.{same_pass}
+use Rattle.draid_pool.proofs.ShardSteps.{other_key, sets_others}
 use Rattle.draid_store.proofs.FreeKeeps.{sets_groups}
 
 module _ {R A : Type 0} (rack : racks.Ghosts R) (area : areas.Ghosts A) where
@@ -29,23 +32,34 @@ module _ {R A : Type 0} (rack : racks.Ghosts R) (area : areas.Ghosts A) where
       let d = done part pieces x is in
       record { reached = d.reached; now = pieces; is = d.is; since = record { opened = d.acts.opened; more = e ∷ []; stored = d.acts.stored; run = (d.reached.world, d.step, refl) }; same = λ k mine. refl }
 
-  one_keeps : (x y : Shard R A) (p : Pointer) (entry : Option Entry) (e : Event) → Valid rack y → Does x y e → SameReserve x y → SetsBlock x y p entry
-      → ((part : Part) (pieces : Pieces) (u : Metaslab) → IsMetaslab rack area part pieces x u → Done rack area part pieces y e u) → KeepsTo rack area x y (Some p.object)
-  one_keeps x y p entry e valid does reserve sets done = record {
+  one_keeps : (x y : Shard R A) (p : Pointer) (entry : Option Entry) (e : Event) → Valid rack y → Does x y e → SameReserve x y → y.pass ≡ x.pass → SetsBlock x y p entry
+      → StateStep rack area (is_other (Some p.object)) x y → KeepsTo rack area x y (Some p.object)
+  one_keeps x y p entry e valid does reserve pass sets state = record {
     valid = valid;
     part = does.part;
     later = (let same = sets.groups.committed in omega (arith, same));
     groups = λ other. sets_groups x y p entry sets reserve;
+    passes = λ other. same_pass x.pass y.pass pass;
     others = sets_others y.committed x.entries y.entries p entry sets.entry;
-    state = state_done (is_other (Some p.object)) x y e done;
+    state = state;
   }
 
-  pub begin_keeps : (x y : Shard R A) (p : Pointer) (entry : Option Entry) → Valid rack y → Does x y (begins p) → SameKit x y → SameReserve x y → SetsBlock x y p entry
+  pub begin_keeps : (x y : Shard R A) (p : Pointer) (entry : Option Entry) → Valid rack y → Does x y (begins p) → SameKit x y → SameReserve x y → y.pass ≡ x.pass → SetsBlock x y p entry
       → KeepsTo rack area x y (Some p.object)
-  begin_keeps x y p entry valid does kit reserve sets = one_keeps x y p entry (begins p) valid does reserve sets
-      (λ part pieces u is. did_quiet rack area part pieces x y (begins p) u is valid does kit reserve (λ w after step s t same. same) (λ v step. refl) refl refl tt)
+  begin_keeps x y p entry valid does kit reserve pass sets = one_keeps x y p entry (begins p) valid does reserve pass sets (state_done (is_other (Some p.object)) x y (begins p)
+      (λ part pieces u is. did_quiet rack area part pieces x y (begins p) u is valid does kit reserve (λ w after step s t same. same) (λ v step. refl) refl refl tt tt))
 
-  pub finish_keeps : (x y : Shard R A) (p : Pointer) (entry : Option Entry) → Valid rack y → Does x y (event.Finish (key_of p)) → SameKit x y → SameReserve x y → SetsBlock x y p entry
+  -- of a block that came nothing is known but by the thread whose object it is of
+  pub finish_keeps : (x y : Shard R A) (p : Pointer) (entry : Option Entry) → Valid rack y → Does x y (event.Finish (key_of p)) → SameKit x y → SameReserve x y → y.pass ≡ x.pass → SetsBlock x y p entry
       → KeepsTo rack area x y (Some p.object)
-  finish_keeps x y p entry valid does kit reserve sets = one_keeps x y p entry (event.Finish (key_of p)) valid does reserve sets
-      (λ part pieces u is. did_quiet rack area part pieces x y (event.Finish (key_of p)) u is valid does kit reserve (λ w after step s t same. same) (λ v step. refl) refl refl tt)
+  finish_keeps x y p entry valid does kit reserve pass sets = one_keeps x y p entry (event.Finish (key_of p)) valid does reserve pass sets (λ part pieces u is.
+      let now = forget (key_of p) pieces in
+      let d = did_quiet rack area part now x y (event.Finish (key_of p)) u (forgotten rack area part (key_of p) pieces x u is) valid does kit reserve (λ w after step s t same. same) (λ v step. refl) refl refl tt
+      (λ h at. nothing_known part.geometry h (key_of p) now (forget_own (key_of p) pieces)) in
+      record {
+        reached = d.reached;
+        now = now;
+        is = d.is;
+        since = record { opened = d.acts.opened; more = event.Finish (key_of p) ∷ []; stored = d.acts.stored; run = (d.reached.world, d.step, refl) };
+        same = λ k mine. forget_same (key_of p) pieces k (other_key p k mine);
+      })

@@ -50,6 +50,7 @@ module _ {R A : Type 0} (rack : racks.Ghosts R) where
   pub record FetchesShard (old : Shard R A) (pointer : Pointer) (result : Result Fetched ObjectFault) (new : Shard R A) : Type 0 where
     pub valid : Valid rack new
     pub part : part_of new ≡ part_of old
+    pub pass : new.pass ≡ old.pass
     pub did : FetchesAs old pointer result new
 
 -- so much is done, and then metaslabs may be looked at

@@ -36,6 +36,7 @@ module _ {R A : Type 0} (rack : racks.Ghosts R) where
       pub upto : floor ≤ old.open_group + 1
       pub sets : SetsBlock old new pointer (Some (staged (Freed group) pointer))
       pub reserve : SameReserve old new
+      pub pass : new.pass ≡ old.pass
       pub frees : (part : Part) (pieces : Pieces) (x : Metaslab) → IsMetaslab rack area part pieces old x → Goes rack area part pieces x new (FreesIn part.number pointer floor group x)
 
     -- it isn't its turn, and nothing changed

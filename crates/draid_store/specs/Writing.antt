@@ -58,6 +58,7 @@ module _ {R A : Type 0} (rack : racks.Ghosts R) where
     pub part : part_of new ≡ part_of old
     pub kit : SameKit old new
     pub reserve : SameReserve old new
+    pub pass : new.pass ≡ old.pass
     pub did : MatchOption out (old.open_group + 1 < floor) (λ result. (floor ≤ old.open_group + 1) × BeginsAs old object seq floor block result new)
     pub early : out ≡ None → new ≡ old
 
@@ -72,6 +73,7 @@ module _ {R A : Type 0} (rack : racks.Ghosts R) where
     pub valid : Valid rack new
     pub areas_are : SameAreas old new
     pub reserve : SameReserve old new
+    pub pass : new.pass ≡ old.pass
     pub carried : Carries old ticket block
     pub carries : Carries new now block
     pub puts : Puts rack old new ticket now block
@@ -92,6 +94,7 @@ module _ {R A : Type 0} (rack : racks.Ghosts R) where
     pub valid : Valid rack new
     pub kit : SameKit old new
     pub reserve : SameReserve old new
+    pub pass : new.pass ≡ old.pass
     pub carried : Carries old ticket block
     pub all : ticket.next ≡ old.geometry.g
     pub does : Does old new (event.Finish (key_of ticket.pointer))

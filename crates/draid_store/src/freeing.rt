@@ -49,6 +49,7 @@ pub(crate) fn free_block<R: Rack, A: Area>(
     ensures group { result ≡ max shard.old.open_group floor }
     ensures sets { SetsBlock shard.old shard.new pointer.now (Some (staged (Freed result) pointer.now)) }
     ensures reserve { SameReserve shard.old shard.new }
+    ensures pass { shard.new.pass ≡ shard.old.pass }
     ensures frees { (part : Part) (pieces : Pieces) (x : Metaslab) → IsMetaslab R.Rack A.Area part pieces shard.old x
         → Goes R.Rack A.Area part pieces x shard.new (FreesIn part.number pointer.now floor result x) }
 {

@@ -1,4 +1,4 @@
-use Rattle.std.proofs.Common.{ℕ, refl, subst}
+use Rattle.std.proofs.Common.{ℕ, arith, refl, subst}
 use Rattle.draid_export.specs.Exporting.{FoundUnsynced}
 use Rattle.draid_pool.specs.declared.fault.SyncFault.TheVariants as sync
 use Rattle.draid_pool.specs.declared.fault.Synced.{Synced}
@@ -18,6 +18,8 @@ returns-then-not-has_unsynced g c =
       racks = racks_by g.R.Rack.faults c.args.pool.now c.args.pool.now (all_stay g.R.Rack.faults c.args.pool.now c.args.pool.now refl);
       arms = all_arms_by g.R.Rack.faults c.args.pool.now c.args.pool.now (all_stay g.R.Rack.faults c.args.pool.now c.args.pool.now refl);
       asked = all_asked_by g.R.Rack.faults c.args.pool.now c.args.pool.now (all_stay g.R.Rack.faults c.args.pool.now c.args.pool.now refl);
+      names = c.committed.ensures.group;
+      grows = (omega arith);
       cause = λ is. absurd (no_refusal is);
       carries = λ x is. export_none g.R.Rack g.A.Area c.args.pool.now x c.committed.result is (subst (FoundUnsynced c.args.pool.now.metaslabs.shards.items) c.if-not-has_unsynced.true c.has_unsynced.ensures.found) c.committed.ensures.group;
     }
@@ -32,6 +34,8 @@ returns-in-Ok g c =
       racks = c.in-Ok.ensures.racks;
       arms = c.in-Ok.ensures.arms;
       asked = c.in-Ok.ensures.asked;
+      names = c.in-Ok.ensures.names;
+      grows = (let rises = c.in-Ok.ensures.rises in omega (arith, rises));
       cause = λ is. absurd (no_refusal is);
       carries = λ x is. export_done g.R.Rack g.A.Area c.args.pool.now c.sync.new.self x c.in-Ok.synced is (subst (FoundUnsynced c.args.pool.now.metaslabs.shards.items) c.if-not-has_unsynced.false c.has_unsynced.ensures.found)
           (c.in-Ok.ensures.carries x is);
@@ -47,6 +51,8 @@ returns-in-Err g c =
       racks = c.in-Err.ensures.racks;
       arms = c.in-Err.ensures.arms;
       asked = c.in-Err.ensures.asked;
+      names = tt;
+      grows = tt;
       cause = λ is. c.in-Err.ensures.cause (err_on ℕ Synced c.in-Err.fault sync.Shelf is);
       carries = λ x is. export_stops g.R.Rack g.A.Area c.args.pool.now c.sync.new.self x c.in-Err.fault is (subst (FoundUnsynced c.args.pool.now.metaslabs.shards.items) c.if-not-has_unsynced.false c.has_unsynced.ensures.found)
           (c.in-Err.ensures.carries x is);

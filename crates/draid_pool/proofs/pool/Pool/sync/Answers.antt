@@ -40,6 +40,7 @@ returns g c =
       asked = all_asked_by g.R.Rack.faults old new z.stays;
       versions = z.versions;
       rises = z.rises;
+      names = z.names;
       idle = z.idle;
       cause = z.cause;
       carries = z.carries;
