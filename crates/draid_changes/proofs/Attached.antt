@@ -222,7 +222,7 @@ module _ {R A : Type 0} (rack : racks.Ghosts R) (area : areas.Ghosts A) where
       (subst (λ (o : Option machine.Pass). reserved_of new.history + replans o ≡ reserved_of old.history) (sym is.stands.is_in.pass)
       (subst (λ events. reserved_of new.history + events ≡ reserved_of old.history) (sym (same_events old.slots old.pass)) s.reserve.reserved))
       (λ v step is_in. counts_stay old new y.world v s.kit)
-      (λ v step image now. records_same rack area part y.world old new s.kit.areas is.records image (image_was (layout_in part) y.world v slot n image step now)) in
+      (λ v step image now. records_same rack area part y.world old new s.kit.areas is.records image (image_was (layout_in part) y.world v slot n image step now)) tt in
       record {
         act = Did (Attach slot n) d.reached.world;
         reached = d.reached;

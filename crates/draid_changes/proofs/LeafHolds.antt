@@ -12,6 +12,7 @@ use Rattle.draid_session.specs.Holds.{Did}
 use Rattle.draid_session.specs.State.{Metaslab}
 use Rattle.draid_pool.specs.Drifts.{Drifts, GoesOn, KeepsTo, groups_number, is_other}
 use Rattle.draid_pool.specs.Metaslabs.{IsMetaslab}
+use Rattle.draid_pool.proofs.Drifting.{same_pass}
 use Rattle.draid_pool.proofs.GroupKeeps.{not_kept}
 use Rattle.draid_pool.proofs.OneHold.{reserved_here, with_reserved}
 use Rattle.draid_pool.proofs.ShardSteps.{acts_since}
@@ -20,6 +21,7 @@ use Rattle.draid_pool.proofs.SyncWhole.{KeepsQuiet}
 use Rattle.draid_changes.specs.Switching.{HasReserved, ReservesOne}
 use Rattle.draid_changes.specs.Walks.{MaySwitch, Switches, switch_event}
 use Rattle.draid_changes.proofs.Calls.{leaf_stays}
+use Rattle.draid_changes.proofs.Reserved.{pass_kept}
 use Rattle.draid_changes.proofs.Switched.{switch_did}
 
 module _ {R A : Type 0} (rack : racks.Ghosts R) (area : areas.Ghosts A) where
@@ -38,6 +40,7 @@ module _ {R A : Type 0} (rack : racks.Ghosts R) (area : areas.Ghosts A) where
     part = r.none.part;
     later = (let same = r.keeps.groups.committed in omega (arith, same));
     groups = λ is. not_kept is;
+    passes = λ other. pass_kept x.pass y.pass r.pass;
     others = record { each = λ key own. inl (r.keeps.entries.held key) };
     state = reserve_goes (is_other (Some groups_number)) x y result r;
   }
@@ -63,6 +66,7 @@ module _ {R A : Type 0} (rack : racks.Ghosts R) (area : areas.Ghosts A) where
     part = s.does.part;
     later = (let same = s.keeps.groups.committed in omega (arith, same));
     groups = λ is. not_kept is;
+    passes = λ other. same_pass x.pass y.pass s.pass;
     others = record { each = λ key own. inl (s.keeps.entries.held key) };
     state = switch_goes_on (is_other (Some groups_number)) leaf offline x y s;
   }

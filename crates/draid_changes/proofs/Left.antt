@@ -138,7 +138,7 @@ module _ {R A : Type 0} (rack : racks.Ghosts R) (area : areas.Ghosts A) where
       let d : Done rack area part pieces new (Detach at.slot n) y
       = did_with rack area part pieces old new (Detach at.slot n) y is s.valid s.does (s.acts pieces) (λ v step. refl) s.reserve.limit s.reserve.reserved
       (λ v step is_in. counts_stay rack area old new y.world v s.kit)
-      (λ v step image now. records_same rack area part y.world old new s.kit.areas is.records image (image_was y.world v at.slot n image (rearranged_by (layout_in part) y.world v at.slot n step) now)) in
+      (λ v step image now. records_same rack area part y.world old new s.kit.areas is.records image (image_was y.world v at.slot n image (rearranged_by (layout_in part) y.world v at.slot n step) now)) tt in
       record {
         act = Did (Detach at.slot n) d.reached.world;
         reached = d.reached;

@@ -140,6 +140,7 @@ module _ {R A : Type 0} (rack : racks.Ghosts R) (area : areas.Ghosts A) where
     counts = refl;
     harm = refl;
     records = records_same rack area part x.world old new m.areas is.records;
+    bytes = is.bytes;
   }
 
   pub left_of : (leaf bytes sectors : ℕ) (result : Result Unit DeviceFault) (o p : Option Told) → OnOk result (p ≡ option_map (adds bytes leaf sectors) o) → OnErr result (p ≡ o) → LeavesTold (λ l s. l == leaf) o p

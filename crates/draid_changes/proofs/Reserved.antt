@@ -68,7 +68,7 @@ same_need needs.Attachment old new same = same_attach old.pass new.pass same
 
 -- ---- passes
 
-pass_kept : (old new : Option Pass) → SamePass old new → KeepsPass old new
+pub pass_kept : (old new : Option Pass) → SamePass old new → KeepsPass old new
 pass_kept None None same = tt
 pass_kept None (Some new) same = absurd same
 pass_kept (Some old) None same = absurd same

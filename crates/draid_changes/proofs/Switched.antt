@@ -29,6 +29,7 @@ use Rattle.draid_pool.specs.Syncing.{Turns}
 use Rattle.draid_pool.proofs.Dids.{Done, did_with, records_same}
 use Rattle.draid_changes.specs.Walks.{Switches, switch_event}
 use Rattle.draid_changes.proofs.Walk.{IsChanged}
+use Rattle.draid_pool.specs.Bytes.{KnowsFinished}
 
 -- ---- states
 
@@ -59,6 +60,10 @@ step_is l w v leaf false step = step
 pub used_one : (w : machine.State) (leaf : ℕ) (offline : Bool) → uses w (switch_event leaf offline) ≡ 1
 used_one w leaf true = refl
 used_one w leaf false = refl
+
+none_ends : (part : Part) (pieces : Pieces) (y : Metaslab) (leaf : ℕ) (offline : Bool) → KnowsFinished part.geometry pieces y.world.core.held (switch_event leaf offline)
+none_ends part pieces y leaf true = tt
+none_ends part pieces y leaf false = tt
 
 none_failed : (leaf : ℕ) (offline : Bool) → failed_in (switch_event leaf offline) ≡ []
 none_failed leaf true = refl
@@ -142,7 +147,7 @@ module _ {R A : Type 0} (rack : racks.Ghosts R) (area : areas.Ghosts A) where
       did_with rack area part pieces old new (switch_event leaf offline) y is s.valid s.does (s.acts pieces) (λ v step. same_pieces (layout_by old) y.world v leaf offline step pieces) s.reserve.limit
       (subst (λ n. reserved_of new.history + n ≡ reserved_of old.history) (sym (used_one y.world leaf offline)) s.reserve.reserved)
       (λ v step is_in. subst (λ f. CountsRise y.world v f (counts_of rack area old) (counts_of rack area new)) (sym (none_failed leaf offline)) (counts_stay old new y.world v s.kit))
-      (λ v step image now. records_same rack area part y.world old new s.kit.areas is.records image (image_was y.world v leaf offline image (step_is (layout_in part) y.world v leaf offline step) now))
+      (λ v step image now. records_same rack area part y.world old new s.kit.areas is.records image (image_was y.world v leaf offline image (step_is (layout_in part) y.world v leaf offline step) now)) (none_ends part pieces y leaf offline)
 
   pub switch_turns : (x : State) (shared : Shared) (leaf : ℕ) (offline : Bool) (old new : Shard R A) → Switches rack leaf offline old new → (part : Part) (pieces : Pieces) (y : Metaslab)
       → IsMetaslab rack area part pieces old y → y.world.sealed ≡ None → IsAlike shared y.world

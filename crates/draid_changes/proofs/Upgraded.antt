@@ -69,7 +69,7 @@ module _ {R A : Type 0} (rack : racks.Ghosts R) (area : areas.Ghosts A) where
       let d : Done rack area part pieces new event.Upgrade y
       = did_with rack area part pieces old new event.Upgrade y is s.valid s.does (s.acts pieces) (λ v step. refl) s.reserve.limit s.reserve.reserved
       (λ v step is_in. counts_stay rack area old new y.world v s.kit)
-      (λ v step image now. records_same rack area part y.world old new s.kit.areas is.records image (subst (λ (w : machine.State). IsImage w image) step.made now)) in
+      (λ v step image now. records_same rack area part y.world old new s.kit.areas is.records image (subst (λ (w : machine.State). IsImage w image) step.made now)) tt in
       record {
         act = Did event.Upgrade d.reached.world;
         reached = d.reached;

@@ -79,3 +79,4 @@ pub record Switches {R A : Type 0} (rack : Ghosts R) (leaf : ℕ) (offline : Boo
   pub keeps : KeepsBlocks old new
   pub slots : ChangesArms old.slots new.slots (switched leaf offline)
   pub reserve : Uses old.history new.history 1
+  pub pass : new.pass ≡ old.pass

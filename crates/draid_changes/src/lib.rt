@@ -28,6 +28,6 @@ pub use fault::ArmFault;
 pub use replacing::replace;
 pub use replies::{reply_to_offline, reply_to_online, reply_to_replace, reply_to_spare};
 pub use sparing::spare;
-pub use switching::{offline, offline_leaf, online, online_leaf};
+pub use switching::{offline, online, switch_leaf};
 pub use upgrade_reply::reply_to_upgrade;
 pub use upgrading::{UpgradeFault, upgrade};

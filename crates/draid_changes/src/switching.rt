@@ -40,7 +40,7 @@ pub fn offline<R: Rack, A: Area>(pool: &mut Pool<R, A>, leaf: u64) -> Result<(),
     ensures arms { LeafIs leaf true result pool.new.metaslabs.shards.items }
 {
     let count = pool.geometry.props.metaslabs;
-    match offline_leaf(&mut pool.metaslabs, &mut pool.uber, count, leaf) {
+    match switch_leaf(&mut pool.metaslabs, &mut pool.uber, count, leaf, true) {
         Some(result) => result,
         None => unreachable!(),
     }
@@ -58,73 +58,16 @@ pub fn online<R: Rack, A: Area>(pool: &mut Pool<R, A>, leaf: u64) -> Result<(), 
     ensures arms { LeafIs leaf false result pool.new.metaslabs.shards.items }
 {
     let count = pool.geometry.props.metaslabs;
-    match online_leaf(&mut pool.metaslabs, &mut pool.uber, count, leaf) {
+    match switch_leaf(&mut pool.metaslabs, &mut pool.uber, count, leaf, false) {
         Some(result) => result,
         None => unreachable!(),
     }
 }
 
-/// Takes a leaf offline in so many metaslabs, or in none of them. A group that is closing is committed first; where open writes
-/// of others are in its way there is no answer, and it is to be tried again.
-pub fn offline_leaf<R: Rack, A: Area, M: Metaslabs<R, A>>(
-    metaslabs: &mut M,
-    uber: &mut Uber<A>,
-    count: u32,
-    leaf: u64,
-) -> Option<Result<(), ArmFault>>
-    requires fits { M.fits metaslabs.old }
-    requires some { 0 < count }
-    requires few { count ≤ 64 }
-    requires own { M.owns metaslabs.old groups_number ≡ true }
-    requires valid { ubers.Valid A.size uber.old }
-    requires ready { EachIs count (ClosesNext R.Rack (group_of (ubers.kept_of uber.old) + 1)) (M.last metaslabs.old) }
-    requires beyond { NoneBeyond count (M.last metaslabs.old) }
-    requires alike { AllSameArms (M.last metaslabs.old) }
-    ensures fits { M.fits metaslabs.new }
-    ensures locks { M.locks metaslabs.new ≡ M.locks metaslabs.old }
-    ensures owns { M.owns metaslabs.new ≡ M.owns metaslabs.old }
-    ensures valid { ubers.Valid A.size uber.new }
-    ensures ready { EachIs count (ClosesNext R.Rack (group_of (ubers.kept_of uber.new) + 1)) (M.last metaslabs.new) }
-    ensures beyond { NoneBeyond count (M.last metaslabs.new) }
-    ensures alike { AllSameArms (M.last metaslabs.new) }
-    ensures whole { KeepsWhole R.Rack (M.owns metaslabs.old) (all_of (M.owns metaslabs.old)) (M.last metaslabs.old) (M.last metaslabs.new) }
-    ensures leaf { IfSome result (λ answer. LeafIsIn count leaf true answer (M.last metaslabs.new)) }
-    ensures switches { SwitchesIn R.Rack A.Area M.last M.went M.shared (M.owns metaslabs.old) count leaf true metaslabs.old uber.old result metaslabs.new uber.new }
-{
-    switch_leaf(metaslabs, uber, count, leaf, true)
-}
-
-/// Takes a leaf online again in so many metaslabs, or in none of them, as it is taken offline.
-pub fn online_leaf<R: Rack, A: Area, M: Metaslabs<R, A>>(
-    metaslabs: &mut M,
-    uber: &mut Uber<A>,
-    count: u32,
-    leaf: u64,
-) -> Option<Result<(), ArmFault>>
-    requires fits { M.fits metaslabs.old }
-    requires some { 0 < count }
-    requires few { count ≤ 64 }
-    requires own { M.owns metaslabs.old groups_number ≡ true }
-    requires valid { ubers.Valid A.size uber.old }
-    requires ready { EachIs count (ClosesNext R.Rack (group_of (ubers.kept_of uber.old) + 1)) (M.last metaslabs.old) }
-    requires beyond { NoneBeyond count (M.last metaslabs.old) }
-    requires alike { AllSameArms (M.last metaslabs.old) }
-    ensures fits { M.fits metaslabs.new }
-    ensures locks { M.locks metaslabs.new ≡ M.locks metaslabs.old }
-    ensures owns { M.owns metaslabs.new ≡ M.owns metaslabs.old }
-    ensures valid { ubers.Valid A.size uber.new }
-    ensures ready { EachIs count (ClosesNext R.Rack (group_of (ubers.kept_of uber.new) + 1)) (M.last metaslabs.new) }
-    ensures beyond { NoneBeyond count (M.last metaslabs.new) }
-    ensures alike { AllSameArms (M.last metaslabs.new) }
-    ensures whole { KeepsWhole R.Rack (M.owns metaslabs.old) (all_of (M.owns metaslabs.old)) (M.last metaslabs.old) (M.last metaslabs.new) }
-    ensures leaf { IfSome result (λ answer. LeafIsIn count leaf false answer (M.last metaslabs.new)) }
-    ensures switches { SwitchesIn R.Rack A.Area M.last M.went M.shared (M.owns metaslabs.old) count leaf false metaslabs.old uber.old result metaslabs.new uber.new }
-{
-    switch_leaf(metaslabs, uber, count, leaf, false)
-}
-
-/// Takes a leaf offline or online in so many metaslabs, or in none of them.
-fn switch_leaf<R: Rack, A: Area, M: Metaslabs<R, A>>(
+/// Takes a leaf offline in so many metaslabs, or back online, or in none of them. A group that is closing is committed first;
+/// where open writes of others are in its way there is no answer, and it is to be tried again. What a leaf missed stays in the
+/// logs of its arms.
+pub fn switch_leaf<R: Rack, A: Area, M: Metaslabs<R, A>>(
     metaslabs: &mut M,
     uber: &mut Uber<A>,
     count: u32,

@@ -7,8 +7,8 @@ use Rattle.draid_pool.proofs.Wholes.{few_geometry, same_pointers}
 use Rattle.draid_changes.proofs.OwnedSwitch.{switch_all, switch_waits}
 use Rattle.draid_changes.proofs.switching.offline.Goals as goal
 
-pub offline_leaf-requires : goal.offline_leaf-requires
-offline_leaf-requires g c =
+pub switch_leaf-requires : goal.switch_leaf-requires
+switch_leaf-requires g c =
     let pool = c.args.pool.now in
     let w = c.requires.whole in
     record {
@@ -23,13 +23,13 @@ offline_leaf-requires g c =
     }
 
 pub unreachable-requires : goal.unreachable-requires
-unreachable-requires g c = switch_waits g.R.Rack g.A.Area c.args.pool.now c.requires.whole c.args.leaf true c.offline_leaf.new.metaslabs c.offline_leaf.new.uber c.in-None.ensures.switches
+unreachable-requires g c = switch_waits g.R.Rack g.A.Area c.args.pool.now c.requires.whole c.args.leaf true c.switch_leaf.new.metaslabs c.switch_leaf.new.uber c.in-None.ensures.switches
 
 pub returns : goal.returns
 returns g c =
     let old = c.args.pool.now in
-    let new = with_both g.R.Rack g.A.Area old c.offline_leaf.new.metaslabs c.offline_leaf.new.uber in
-    let z = switch_all g.R.Rack g.A.Area old c.requires.whole c.args.leaf true c.in-Some.result c.offline_leaf.new.metaslabs c.offline_leaf.new.uber c.in-Some.ensures.switches in
+    let new = with_both g.R.Rack g.A.Area old c.switch_leaf.new.metaslabs c.switch_leaf.new.uber in
+    let z = switch_all g.R.Rack g.A.Area old c.requires.whole c.args.leaf true c.in-Some.result c.switch_leaf.new.metaslabs c.switch_leaf.new.uber c.in-Some.ensures.switches in
     record {
       whole = z.whole;
       same = same_pointers old new refl;

@@ -7,8 +7,8 @@ use Rattle.draid_pool.proofs.Wholes.{few_geometry, same_pointers}
 use Rattle.draid_changes.proofs.OwnedSwitch.{switch_all, switch_waits}
 use Rattle.draid_changes.proofs.switching.online.Goals as goal
 
-pub online_leaf-requires : goal.online_leaf-requires
-online_leaf-requires g c =
+pub switch_leaf-requires : goal.switch_leaf-requires
+switch_leaf-requires g c =
     let pool = c.args.pool.now in
     let w = c.requires.whole in
     record {
@@ -23,13 +23,13 @@ online_leaf-requires g c =
     }
 
 pub unreachable-requires : goal.unreachable-requires
-unreachable-requires g c = switch_waits g.R.Rack g.A.Area c.args.pool.now c.requires.whole c.args.leaf false c.online_leaf.new.metaslabs c.online_leaf.new.uber c.in-None.ensures.switches
+unreachable-requires g c = switch_waits g.R.Rack g.A.Area c.args.pool.now c.requires.whole c.args.leaf false c.switch_leaf.new.metaslabs c.switch_leaf.new.uber c.in-None.ensures.switches
 
 pub returns : goal.returns
 returns g c =
     let old = c.args.pool.now in
-    let new = with_both g.R.Rack g.A.Area old c.online_leaf.new.metaslabs c.online_leaf.new.uber in
-    let z = switch_all g.R.Rack g.A.Area old c.requires.whole c.args.leaf false c.in-Some.result c.online_leaf.new.metaslabs c.online_leaf.new.uber c.in-Some.ensures.switches in
+    let new = with_both g.R.Rack g.A.Area old c.switch_leaf.new.metaslabs c.switch_leaf.new.uber in
+    let z = switch_all g.R.Rack g.A.Area old c.requires.whole c.args.leaf false c.in-Some.result c.switch_leaf.new.metaslabs c.switch_leaf.new.uber c.in-Some.ensures.switches in
     record {
       whole = z.whole;
       same = same_pointers old new refl;
