@@ -1,6 +1,6 @@
 -- A block of a scrub is lent in a metaslab of a pool, restored, and lands.
 use Rattle.std.proofs.Common.{◌≡◌, ◌<◌, ◌≤◌, ◌+◌, ◌*◌, ◌^◌, ◌⊎◌, ◌∙◌, inl, inr, [], ◌∷◌, ℕ, Bool, true, false, List, Option, Some, None, arith, refl, sym, ap, subst, length, if◌then◌else◌, min, suc, zero}
-use Rattle.std.specs.Prelude.{IfSome, IsSomeAnd, OnOk, Result, Ok, Err, is_err, is_none, option_map, slice_index}
+use Rattle.std.specs.Prelude.{IfSome, IsSomeAnd, OnOk, Result, Ok, Err, is_err, is_none, option_map, slice_index, IsSome}
 use Rattle.std.proofs.lemmas.Bool.{true≢false}
 use Rattle.std.proofs.lemmas.List.Sums.{count_by-le-length}
 use Rattle.sha2.specs.Sha256.{sha256}
@@ -55,7 +55,8 @@ use Rattle.draid_pool.specs.Shards.{Goes, SameBlocks}
 use Rattle.draid_pool.proofs.Dids as dids
 use Rattle.draid_pool.proofs.Dids.{none_here}
 use Rattle.draid_pool.proofs.Imaged.{keeps_then}
-use Rattle.draid_visits.specs.Pieces.{GoesTo, HasBytes, SameContents}
+use Rattle.draid_pool.specs.Bytes.{HasBytes, KnowsBlocks}
+use Rattle.draid_visits.specs.Pieces.{GoesTo, SameContents}
 use Rattle.draid_visits.specs.Steps.{HasContents, MovesOn, NextIs}
 use Rattle.draid_visits.specs.declared.steps.Next.TheVariants as next
 use Rattle.draid_visits.proofs.Beyond.{beyond, no_block}
@@ -63,6 +64,7 @@ use Rattle.draid_visits.proofs.Landed.{Lands, landed_to}
 use Rattle.draid_visits.proofs.Over.{told_worn}
 use Rattle.draid_visits.proofs.Started.{fits}
 use Rattle.draid_visits.proofs.PassSteps.{Leaves, block_leaves, pieces_either, raised, rebuild_did, rebuild_leaves}
+use Rattle.draid_pool.proofs.Bytes.{same_bytes}
 
 pub on_ok : {T E : Type 0} (r : Result T E) (P : Type 0) → is_err r ≡ false → OnOk r P → P
 on_ok (Ok x) P is holds = holds
@@ -109,8 +111,8 @@ right_of geometry lent new r block is =
 
 -- ---- the pieces that its landing writes
 
-abbrev rows_of : ℕ → BlockValue → ℕ → ℕ → List ℕ
-rows_of sector block c row = row_bytes sector (column_at block.columns c) row
+abbrev rows_of : ℕ → BlockValue → ℕ → ℕ → Option (List ℕ)
+rows_of sector block c row = Some (row_bytes sector (column_at block.columns c) row)
 
 abbrev written_of : ℕ → Key → Option BlockValue → Pieces → Pieces
 written_of sector own None pieces key = pieces key
@@ -125,7 +127,7 @@ written_other sector own (Some block) pieces key other = ap (λ (b : Bool). if b
 
 writes_rows : (sector g stripes : ℕ) (own : Key) (o : Option BlockValue) (pieces : Pieces) → IfSome o (λ (block : BlockValue). ArePieces sector g stripes block.columns own (written_of sector own o pieces))
 writes_rows sector g stripes own None pieces = tt
-writes_rows sector g stripes own (Some block) pieces = λ c row less low. ap (λ (f : ℕ → ℕ → List ℕ). f c row) (written_own sector own block pieces)
+writes_rows sector g stripes own (Some block) pieces = λ c row less low. ap (λ (f : ℕ → ℕ → Option (List ℕ)). f c row) (written_own sector own block pieces)
 
 -- each block has the pieces that it had, or those of the restored one
 kept_or : (geometry : Geometry) (lent : LentBlock) (pieces : Pieces) (k : Key) (h : Held) → ((block : BlockValue) → lent.restored ≡ Some block → IsRight geometry lent.pointer block)
@@ -303,11 +305,36 @@ module _ {R A : Type 0} (rack : racks.Ghosts R) (area : areas.Ghosts A) (old len
         let n : step.n ≡ block_loan landed.lent = some_same y.world.loan step.n (block_loan landed.lent) step.counts.loan loan_there in
         written_other part.geometry.props.sector (key_of landed.lent.pointer) landed.lent.restored pieces key (subst (λ (z : machine.Loan). key_eq z.key key ≡ false) n other)
 
+    -- what is known of the blocks then
+    known : (v : machine.State) (step : Step (layout_by solved) y.world e v) → KnowsBlocks solved.geometry (segments.pieces_after (layout_by solved) y.world e v step pieces written) v.core.held
+    known v step = subst (λ g. KnowsBlocks g (segments.pieces_after (layout_by solved) y.world e v step pieces written) v.core.held) (sym solved_geometry) on
+      where
+        held_as : v.core.held ≡ y.world.core.held
+        held_as = (block_leaves (layout_by solved) y.world v landed.pass.number landed.lent.serial landed.failed landed.patched (is_none landed.lent.restored) step).held
+
+        of : KnowsBlocks part.geometry written v.core.held
+        of k h at block column row some = elim (kept_or part.geometry landed.lent pieces k h right
+            (λ own_key.
+            (let same : h ≡ held_at (staged unit.here.stage landed.lent.pointer) = some_same (y.world.core.held k) h (held_at (staged unit.here.stage landed.lent.pointer)) (sym (ap (λ f. f k) held_as) ∙ at)
+            (subst (λ j. y.world.core.held j ≡ Some (held_at (staged unit.here.stage landed.lent.pointer))) own_key held_there) in
+            (ap (λ (i : Held). i.len) same, ap (λ (i : Held). i.digest) same, ap (λ (i : Held). i.stripes) same)))
+            landed.lent.restored refl) [
+              | inl same ↦ same_bytes part.geometry h k pieces written same
+                  (mid.bytes k h (sym (ap (λ f. f k) held_as) ∙ at) block column row (subst (λ (f : ℕ → ℕ → Option (List ℕ)). IsSome (f column row)) same some))
+              | inr has ↦ has
+            ]
+
+        on : KnowsBlocks part.geometry (segments.pieces_after (layout_by solved) y.world e v step pieces written) v.core.held
+        on = elim (pieces_either (layout_by solved) y.world v landed.pass.number landed.lent.serial landed.failed landed.patched (is_none landed.lent.restored) step pieces written) [
+          | inl stays ↦ subst (λ q. KnowsBlocks part.geometry q v.core.held) (sym stays) (subst (λ t. KnowsBlocks part.geometry pieces t) (sym held_as) mid.bytes)
+          | inr other ↦ subst (λ q. KnowsBlocks part.geometry q v.core.held) (sym other) of
+        ]
+
     second : Lands rack area part pieces written new e y
     second =
         landed_to rack area part pieces written solved new e y mid new_valid landed.does new_reserve (raised rack area landed.failed.items solved new new_areas landed.counts) refl
         (λ v step. (block_leaves (layout_by solved) y.world v landed.pass.number landed.lent.serial landed.failed landed.patched (is_none landed.lent.restored) step).images)
-        (λ after step. landed.acts written y.world after step mid.stands.reached mid.stands.is_in restored_there) others
+        (λ after step. landed.acts written y.world after step mid.stands.reached mid.stands.is_in restored_there) others known
 
     two_leaves : Leaves y.world second.done.reached.world
     two_leaves = block_leaves (layout_in part) y.world second.done.reached.world landed.pass.number landed.lent.serial landed.failed landed.patched (is_none landed.lent.restored) second.done.step

@@ -73,7 +73,7 @@ module _ {R A : Type 0} (rack : racks.Ghosts R) (area : areas.Ghosts A) (part : 
       let d : Done rack area part pieces new event.Cancel y
       = did_with rack area part pieces old new event.Cancel y is valid does acts (λ v step. refl) reserve.limit (let same = reserve.reserved in omega (arith, same))
       (λ v step is_in. counts_stay old new y.world v kit)
-      (λ v step image now. records_same rack area part y.world old new kit.areas is.records image (subst (λ (s : machine.State). IsImage s image) step.made now)) in
+      (λ v step image now. records_same rack area part y.world old new kit.areas is.records image (subst (λ (s : machine.State). IsImage s image) step.made now)) tt in
       record { act = Did event.Cancel d.reached.world; reached = d.reached; acts = d.acts; done = ((refl, refl), keeps_cancelled y.world d.reached.world d.step); is = d.is }
 
   -- it had none

@@ -1,5 +1,5 @@
 -- The blocks of a pool's metaslab have bytes: each is some write's.
-use Rattle.std.proofs.Common.{◌≡◌, ◌∙◌, ℕ, Some, sym, ap, subst, length}
+use Rattle.std.proofs.Common.{◌≡◌, ◌∙◌, ℕ, Some, sym, ap, subst, length, true}
 use Rattle.std.specs.Prelude.{option_map, slice_get}
 use Rattle.draid_rack.specs.declared.Rack as racks
 use Rattle.sha2.specs.Sha256.{sha256}
@@ -17,14 +17,15 @@ use Rattle.draid_shard.specs.Columns.{ArePieces}
 use Rattle.draid_shard.specs.Part.{Part}
 use Rattle.draid_shard.specs.declared.shard.Shard.{Shard}
 use Rattle.draid_shard.proofs.Held.{HasEntry, held_entry}
-use Rattle.draid_mend.specs.Solving.{HasContent}
+use Rattle.draid_mend.specs.Solving.{HasContent, HasKnownContent}
 use Rattle.draid_session.specs.State.{Metaslab, State}
 use Rattle.draid_pool.specs.Metaslabs.{IsMetaslab}
 use Rattle.draid_pool.specs.Objects.{HasPieces, blocks_of}
 use Rattle.draid_pool.specs.Pools.{Represents, part_in}
 use Rattle.draid_pool.specs.declared.pool.Pool.{Pool}
-use Rattle.draid_visits.specs.Pieces.{HasBytes}
+use Rattle.draid_pool.specs.Bytes.{HasBytes}
 use Rattle.draid_visits.specs.Steps.{HasContents}
+use Rattle.draid_machine.specs.Names.{is_block}
 
 bytes_by : (geometry : Geometry) (held : Held) (key : Key) (write : Write) (pieces : Pieces) → HasPieces geometry write pieces → key_of write ≡ key → held.len ≡ length write.bytes
     → held.digest ≡ sha256 write.bytes → held.stripes ≡ stripes_of (cut_of geometry) held.len → HasBytes geometry held key pieces
@@ -59,9 +60,10 @@ module _ {R A : Type 0} (rack : racks.Ghosts R) (area : areas.Ghosts A) where
       let block = (is.valid.tables.placed held.first e.e e.there).is_block in
       subst (λ (h : Held). h.stripes ≡ stripes_of (cut_of part.geometry) h.len) e.held_is (subst (λ (p : Part). e.e.pointer.stripes ≡ stripes_of (cut_of p.geometry) e.e.pointer.len) is.part_is block.stripes)
 
-  pub content_of : (part : Part) (pieces : Pieces) (shard : Shard R A) (y : Metaslab) (key : Key) (held : Held) → IsMetaslab rack area part pieces shard y → HasContents part pieces y → y.world.core.held key ≡ Some held
-      → HasContent part.geometry held.stripes key pieces
-  content_of part pieces shard y key held is contents at = content_by part.geometry held key pieces (contents key held at) (held_long part pieces shard y key held is at)
+  -- what is known of a block is its content
+  pub known_content : (part : Part) (pieces : Pieces) (shard : Shard R A) (y : Metaslab) (key : Key) (held : Held) → IsMetaslab rack area part pieces shard y → is_block held.stage ≡ true → y.world.core.held key ≡ Some held
+      → HasKnownContent part.geometry held.stripes key pieces
+  known_content part pieces shard y key held is block at c row known = content_by part.geometry held key pieces (is.bytes key held at block c row known) (held_long part pieces shard y key held is at)
 
   pub contents_of : (pool : Pool R A) (x : State) (r : Represents rack area pool x) (m : ℕ) (shard : Shard R A) (y : Metaslab) → slice_get x.metaslabs m ≡ Some y
       → IsMetaslab rack area (part_in x m) (r.stands.pieces m) shard y → HasContents (part_in x m) (r.stands.pieces m) y

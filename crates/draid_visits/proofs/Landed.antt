@@ -20,12 +20,15 @@ use Rattle.draid_shard.specs.declared.shard.Shard.{Shard}
 use Rattle.draid_shard.proofs.Standing.{has_layout, reached_more}
 use Rattle.draid_session.specs.Follows.{CountsRise, HarmBoth, HarmBy, failed_in, uses}
 use Rattle.draid_session.specs.State.{Metaslab}
+use Rattle.draid_objects.proofs.Moving.{blocks_moved}
+use Rattle.draid_pool.specs.Bytes.{KnowsBlocks}
 use Rattle.draid_pool.specs.Metaslabs.{IsMetaslab, counts_of, harm_of}
+use Rattle.draid_pool.proofs.Bytes.{moved_known}
 use Rattle.draid_pool.specs.Shards.{KeepsImages}
 use Rattle.draid_pool.proofs.Dids as dids
 use Rattle.draid_pool.proofs.Dids.{Raises, records_same, run_push}
 use Rattle.draid_pool.proofs.Imaged.{records_kept}
-use Rattle.draid_visits.proofs.PassSteps.{IsOfRebuild, no_uses, rebuild_leaves, rises, same_pieces}
+use Rattle.draid_visits.proofs.PassSteps.{IsOfRebuild, no_uses, none_ends, rebuild_leaves, rises, same_pieces}
 
 -- what is told stays told
 told_on : (o p : Option Told) (P : Told → Told → Type 0) (A B : Told → Type 0) → ((x y : Told) → P x y → A x → B y) → OnBothTold o p P → OnTold o A → OnTold p B
@@ -57,6 +60,11 @@ module _ {R A : Type 0} (rack : racks.Ghosts R) (area : areas.Ghosts A) where
   abbrev pub WritesAt : Shard R A → Event → machine.State → Pieces → Pieces → Type 0
   WritesAt old e w pieces written = (after : machine.State) (step : Step (layout_by old) w e after) → segments.WritesPieces (layout_by old) w e after step pieces written
 
+  -- and what is known of the blocks' bytes then
+  abbrev pub KnowsThen : Shard R A → Event → machine.State → Pieces → Pieces → Type 0
+  KnowsThen old e w pieces written =
+      (after : machine.State) (step : Step (layout_by old) w e after) → KnowsBlocks old.geometry (segments.pieces_after (layout_by old) w e after step pieces written) after.core.held
+
   -- the metaslab behind it, with the pieces that its blocks have then
   pub record Lands (part : Part) (pieces written : Pieces) (new : Shard R A) (e : Event) (x : Metaslab) : Type 0 where
     pub later : Pieces
@@ -79,8 +87,8 @@ module _ {R A : Type 0} (rack : racks.Ghosts R) (area : areas.Ghosts A) where
 
   landed_here : (pieces written : Pieces) (old new : Shard R A) (e : Event) (x : Metaslab) → IsMetaslab rack area (part_of old) pieces old x → Valid rack new → Does old new e → SameReserve old new
       → Raises rack area (failed_in e) old new → uses x.world e ≡ 0 → ((v : machine.State) → Step (layout_by old) x.world e v → KeepsImages x.world v) → ActsAt old new e x.world written
-      → WritesAt old e x.world pieces written → Lands (part_of old) pieces written new e x
-  landed_here pieces written old new e x is valid does reserve raises none keeps acts writes =
+      → WritesAt old e x.world pieces written → KnowsThen old e x.world pieces written → Lands (part_of old) pieces written new e x
+  landed_here pieces written old new e x is valid does reserve raises none keeps acts writes known =
       let l = layout_by old in
       let next : Leads l x.world e new = does.leads x.world is.stands.reached is.stands.is_in in
       let v = next.state in
@@ -120,6 +128,7 @@ module _ {R A : Type 0} (rack : racks.Ghosts R) (area : areas.Ghosts A) where
             counts = refl;
             harm = refl;
             records = records_kept (part_of old) x.world v (area.told new.even) (area.told new.odd) (keeps v next.step) (records_same rack area (part_of old) x.world old new raises.areas_are is.records);
+            bytes = known v next.step;
           };
         };
       }
@@ -127,14 +136,17 @@ module _ {R A : Type 0} (rack : racks.Ghosts R) (area : areas.Ghosts A) where
   -- the metaslab behind a landing
   pub landed_to : (part : Part) (pieces written : Pieces) (old new : Shard R A) (e : Event) (x : Metaslab) → IsMetaslab rack area part pieces old x → Valid rack new → Does old new e → SameReserve old new
       → Raises rack area (failed_in e) old new → uses x.world e ≡ 0 → ((v : machine.State) → Step (layout_by old) x.world e v → KeepsImages x.world v) → ActsAt old new e x.world written
-      → WritesAt old e x.world pieces written → Lands part pieces written new e x
-  landed_to part pieces written old new e x is valid does reserve raises none keeps acts writes =
-      subst (λ p. IsMetaslab rack area p pieces old x → Lands p pieces written new e x) is.part_is (λ here. landed_here pieces written old new e x here valid does reserve raises none keeps acts writes) is
+      → WritesAt old e x.world pieces written → KnowsThen old e x.world pieces written → Lands part pieces written new e x
+  landed_to part pieces written old new e x is valid does reserve raises none keeps acts writes known =
+      subst (λ p. IsMetaslab rack area p pieces old x → Lands p pieces written new e x) is.part_is (λ here. landed_here pieces written old new e x here valid does reserve raises none keeps acts writes known) is
 
   -- one that leaves the pieces
   pub landed_at : (part : Part) (pieces : Pieces) (old new : Shard R A) (e : Event) (x : Metaslab) → IsMetaslab rack area part pieces old x → Valid rack new → Does old new e → SameReserve old new
       → Raises rack area (failed_in e) old new → IsOfRebuild e → ActsAt old new e x.world pieces → dids.Done rack area part pieces new e x
   landed_at part pieces old new e x is valid does reserve raises of acts =
       let z : Lands part pieces pieces new e x
-      = landed_to part pieces pieces old new e x is valid does reserve raises (no_uses x.world e of) (λ v step. (rebuild_leaves (layout_by old) x.world v e step of).images) acts (λ after step key other. refl) in
+      = landed_to part pieces pieces old new e x is valid does reserve raises (no_uses x.world e of) (λ v step. (rebuild_leaves (layout_by old) x.world v e step of).images) acts (λ after step key other. refl) (λ v step.
+      subst (λ q. KnowsBlocks old.geometry q v.core.held) (sym (same_pieces (layout_by old) x.world v e step pieces of))
+      (moved_known old.geometry pieces x.world.core.held v.core.held e (blocks_moved (layout_by old) x.world v e (has_layout (part_of old) is.valid.part) is.stands.reached step) (none_ends old.geometry pieces x.world.core.held e of)
+      (subst (λ (q : Part). KnowsBlocks q.geometry pieces x.world.core.held) (sym is.part_is) is.bytes))) in
       subst (λ q. dids.Done rack area part q new e x) (z.is ∙ same_pieces (layout_in part) x.world z.after e z.step pieces of) z.done

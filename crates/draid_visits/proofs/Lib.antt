@@ -1,6 +1,7 @@
 pub mod AllVisits
 pub mod Beyond
 pub mod Blocks
+pub mod CancelHolds
 pub mod Cancelled
 pub mod Contents
 pub mod Found
@@ -12,6 +13,7 @@ pub mod Lending
 pub mod Lifting
 pub mod Marking
 pub mod Over
+pub mod OwnedCancel
 pub mod PassSteps
 pub mod Readied
 pub mod Rebuilt

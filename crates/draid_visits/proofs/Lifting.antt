@@ -31,7 +31,8 @@ use Rattle.draid_pool.specs.declared.pool.Pool.{Pool}
 use Rattle.draid_pool.proofs.Lifted.{SetsShard}
 use Rattle.draid_pool.proofs.Moved.{Turned, pointer_on, blocks_at, follows_one, same_blocks, stands_turned, turn, turn_here, turn_other, with_metaslab}
 use Rattle.draid_pool.proofs.Owning.{pieces_on}
-use Rattle.draid_visits.specs.Pieces.{GoesTo, HasBytes, SameContents}
+use Rattle.draid_pool.specs.Bytes.{HasBytes}
+use Rattle.draid_visits.specs.Pieces.{GoesTo, SameContents}
 use Rattle.draid_visits.proofs.Contents.{held_long}
 
 -- what a write's block has then

@@ -27,6 +27,9 @@ use Rattle.draid_pool.proofs.Alike.{same_bare}
 use Rattle.draid_pool.proofs.Dids as dids
 use Rattle.draid_pool.proofs.Dids.{Raises, did_with, records_same}
 use Rattle.draid_pool.proofs.Imaged.{records_kept}
+use Rattle.draid_pool.specs.Bytes.{KnowsFinished}
+use Rattle.draid_objects.specs.Blocks.{Table}
+use Rattle.draid_spec.specs.declared.layout.Geometry.{Geometry}
 
 -- the events of a pass that leave the blocks' pieces
 abbrev pub IsOfRebuild : Event → Type 0
@@ -147,6 +150,14 @@ same_pieces l w v (LandStripe pass serial failed) step pieces is = refl
 same_pieces l w v (Done failed) step pieces is = refl
 same_pieces l w v e step pieces is = absurd is
 
+pub none_ends : (geometry : Geometry) (pieces : Pieces) (table : Table) (e : Event) → IsOfRebuild e → KnowsFinished geometry pieces table e
+none_ends geometry pieces table (Plan kind) is = tt
+none_ends geometry pieces table Ready is = tt
+none_ends geometry pieces table (Lend failed) is = tt
+none_ends geometry pieces table (LandStripe pass serial failed) is = tt
+none_ends geometry pieces table (Done failed) is = tt
+none_ends geometry pieces table e is = absurd is
+
 module _ {R A : Type 0} (rack : racks.Ghosts R) (area : areas.Ghosts A) where
   pub raised : (failed : List ℕ) (old new : Shard R A) → SameAreas old new → CountsFailed failed (rack.faults old.rack) (rack.faults new.rack) → Raises rack area failed old new
   raised failed old new same counts = record { areas_are = same; later = counts.later; cause = counts.cause }
@@ -166,7 +177,7 @@ module _ {R A : Type 0} (rack : racks.Ghosts R) (area : areas.Ghosts A) where
       did_with rack area part pieces old new e x is valid does acts (λ v step. same_pieces _ x.world v e step pieces of) reserve.limit
       (let same = reserve.reserved in let none = no_uses x.world e of in omega (arith, same, none)) (λ v step is_in. rises (failed_in e) old new x.world v raises)
       (λ v step. records_kept part x.world v (area.told new.even) (area.told new.odd) (rebuild_leaves (layout_in part) x.world v e step of).images
-      (records_same rack area part x.world old new raises.areas_are is.records))
+      (records_same rack area part x.world old new raises.areas_are is.records)) (none_ends part.geometry pieces x.world.core.held e of)
 
   blocks_stay : (x y : Metaslab) → Leaves x.world y.world → SameBlocks x y
   blocks_stay x y leaves = record { held = leaves.held; committed = leaves.committed }

@@ -1,6 +1,6 @@
 -- A stripe of a rebuild is lent in a metaslab of a pool, solved, and lands.
-use Rattle.std.proofs.Common.{◌≡◌, ◌<◌, ◌≤◌, ◌+◌, ◌∙◌, false, [], ◌∷◌, ℕ, Option, Some, None, arith, refl, sym, ap, subst}
-use Rattle.std.specs.Prelude.{IfSome, IsSome, IsSomeAnd}
+use Rattle.std.proofs.Common.{◌≡◌, ◌<◌, ◌≤◌, ◌+◌, ◌∙◌, false, [], ◌∷◌, ℕ, Option, Some, None, arith, refl, sym, ap, subst, true}
+use Rattle.std.specs.Prelude.{IfSome, IsSome, IsSomeAnd, option_map}
 use Rattle.draid_names.specs.declared.pass_kind.PassKind.TheVariants.{Rebuild}
 use Rattle.draid_rack.specs.Rack.{OnTold}
 use Rattle.draid_rack.specs.declared.Rack as racks
@@ -35,12 +35,17 @@ use Rattle.draid_pool.specs.Shards.{Goes, SameBlocks}
 use Rattle.draid_pool.proofs.Dids as dids
 use Rattle.draid_pool.proofs.Dids.{none_here}
 use Rattle.draid_pool.proofs.Imaged.{keeps_then}
-use Rattle.draid_visits.specs.Steps.{HasContents, MovesOn, NextIs}
+use Rattle.draid_visits.specs.Steps.{MovesOn, NextIs}
 use Rattle.draid_visits.specs.declared.steps.Next.TheVariants as next
-use Rattle.draid_visits.proofs.Contents.{content_of}
+use Rattle.draid_visits.proofs.Contents.{known_content}
 use Rattle.draid_visits.proofs.Landed.{landed_at}
 use Rattle.draid_visits.proofs.Over.{told_worn}
 use Rattle.draid_visits.proofs.PassSteps.{raised, rebuild_did, rebuild_leaves}
+use Rattle.draid_machine.specs.declared.names.Key.{Key}
+use Rattle.draid_machine.specs.declared.names.Held.{Held}
+use Rattle.draid_machine.specs.Names.{is_block}
+use Rattle.draid_slots.specs.States.{pass_in}
+use Rattle.draid_pool.proofs.Turns.{state_sound}
 
 -- ---- where the pass stands then
 
@@ -110,6 +115,14 @@ module _ {R A : Type 0} (rack : racks.Ghosts R) (old lent solved new : Shard R A
         inside = subst (λ g. q.0.at ≤ metaslab_stripes g) (sym same) (omega (arith, at, high));
       }
 
+-- where a rebuild runs no write is under way
+pub no_ticket : {R A : Type 0} (rack : racks.Ghosts R) (area : areas.Ghosts A) (part : Part) (pieces : Pieces) (shard : Shard R A) (y : Metaslab) → IsMetaslab rack area part pieces shard y → IsSomeAnd shard.pass IsRunningRebuild
+    → (key : Key) (held : Held) → y.world.core.held key ≡ Some held → is_block held.stage ≡ true
+no_ticket rack area part pieces shard y is running key held at =
+    let z = running_of shard.pass running in
+    let there : y.world.core.pass ≡ Some (pass_in shard.slots z.pass) = is.stands.is_in.pass ∙ ap (option_map (pass_in shard.slots)) z.there in
+    ((state_sound rack area part pieces shard y is).core.quiet (pass_in shard.slots z.pass) key held there z.is.rebuild z.is.running at).0
+
 -- ---- the metaslab
 
 module _ {R A : Type 0} (rack : racks.Ghosts R) (area : areas.Ghosts A) (old lent solved new : Shard R A) (running : IsSomeAnd old.pass IsRunningRebuild)
@@ -117,7 +130,7 @@ module _ {R A : Type 0} (rack : racks.Ghosts R) (area : areas.Ghosts A) (old len
     (not_worn : IsWornFor old (lend_events old.kept) → ⊥)
     (solved_valid : Valid rack solved) (only : solved ≡ record lent { kept = solved.kept }) (none : DoesNone lent solved) (solves : SolvesLoan lent.geometry lent.kept solved.kept)
     (new_valid : Valid rack new) (new_areas : SameAreas solved new) (landed : lands.LandsUnit rack solved new) (new_reserve : SameReserve solved new)
-    (part : Part) (pieces : Pieces) (x : Metaslab) (is : IsMetaslab rack area part pieces old x) (contents : HasContents part pieces x) where
+    (part : Part) (pieces : Pieces) (x : Metaslab) (is : IsMetaslab rack area part pieces old x) where
   first : dids.Done rack area part pieces lent (Lend unit.failed) x
   first = rebuild_did rack area part pieces old lent (Lend unit.failed) x is lent_valid unit.does (unit.acts pieces) lent_reserve (raised rack area unit.failed.items old lent lent_areas unit.counts) tt
 
@@ -133,7 +146,7 @@ module _ {R A : Type 0} (rack : racks.Ghosts R) (area : areas.Ghosts A) (old len
   solves_old = subst (λ g. SolvesLoan g lent.kept solved.kept) (ap (λ (p : Part). p.geometry) unit.does.part) solves
 
   right : IsSolvable part.geometry landed.kept → OnTold (rack.told solved.rack) (KeptStands part y.world landed.kept pieces)
-  right = loan_is_right rack part old lent solved x.world y.world pieces landed.kept unit is.part_is is.valid lent_valid running is.stands (λ k h at. content_of rack area part pieces old x k h is contents at) told first.step first.is.stands.is_in solves_old only landed.kept_is
+  right = loan_is_right rack part old lent solved x.world y.world pieces landed.kept unit is.part_is is.valid lent_valid running is.stands (λ k h at. known_content rack area part pieces old x k h is (no_ticket rack area part pieces old x is running k h at) at) told first.step first.is.stands.is_in solves_old only landed.kept_is
 
   right_here : IsSolvable solved.geometry landed.kept → OnTold (rack.told solved.rack) (KeptStands (part_of solved) y.world landed.kept pieces)
   right_here = subst (λ p. IsSolvable p.geometry landed.kept → OnTold (rack.told solved.rack) (KeptStands p y.world landed.kept pieces)) (sym mid.part_is) right

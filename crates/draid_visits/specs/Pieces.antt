@@ -14,18 +14,9 @@ use Rattle.draid_shard.specs.Part.{Part, layout_in}
 use Rattle.draid_shard.specs.declared.shard.Shard.{Shard}
 use Rattle.draid_session.specs.Holds.{Hold}
 use Rattle.draid_session.specs.State.{Metaslab}
+use Rattle.draid_pool.specs.Bytes.{HasBytes}
 use Rattle.draid_pool.specs.Metaslabs.{IsMetaslab}
 use Rattle.draid_pool.specs.Shards.{FollowsIn, KeepsImages}
-
--- the pieces of a block are the rows of the columns of bytes that have its length and digest
-pub record HasBytes (geometry : Geometry) (h : Held) (key : Key) (pieces : Pieces) : Type 0 where
-  pub content : List ℕ
-  pub len : length content ≡ h.len
-  pub digest : sha256 content ≡ h.digest
-  pub bytes : (j : ℕ) → IsByte (slice_index content j)
-  pub columns : List (List ℕ)
-  pub are : AreColumns (cut_of geometry) content columns
-  pub rows : ArePieces geometry.props.sector geometry.g h.stripes columns key pieces
 
 -- those of each block stayed, or are of such bytes
 abbrev pub SameContents : Part → Metaslab → Pieces → Pieces → Type 0

@@ -20,7 +20,7 @@ use Rattle.draid_session.specs.Holds.{Hold}
 use Rattle.draid_session.specs.Passes as passes
 use Rattle.draid_session.specs.Phases.{Went, WasWorn, WasLast, Starved}
 use Rattle.draid_session.specs.State.{Metaslab}
-use Rattle.draid_visits.specs.Pieces.{HasBytes}
+use Rattle.draid_pool.specs.Bytes.{HasBytes}
 use Rattle.draid_visits.specs.declared.steps.Next.{Next}
 use Rattle.draid_visits.specs.declared.steps.Next.TheVariants as next
 

@@ -4,6 +4,7 @@
 #![tactic(auto)]
 
 mod cancelling;
+mod holding;
 mod marks;
 mod progress;
 mod rebuilding;
@@ -12,7 +13,7 @@ mod steps;
 mod unit;
 mod visiting;
 
-pub use cancelling::cancel;
+pub use cancelling::{cancel, cancel_each};
 pub use marks::pass_in;
 pub use rebuilding::{MendFault, Mended, rebuild, scrub};
 pub use replies::{reply_to_cancel, reply_to_rebuild, reply_to_scrub};

@@ -52,7 +52,7 @@ fn stripe_in<R: Rack, A: Area>(shard: &mut Shard<R, A>) -> Next
     ensures landed { (repaired : ℕ) → result ≡ Next.Landed repaired → MovesOn Rebuild shard.old shard.new × (repaired ≡ 0) }
     ensures ended { (errors : ℕ) → result ≡ Next.Ended errors → (shard.new.pass ≡ None) × (errors ≤ LAST_NUMBER) }
     ensures never { result ≡ Next.Paused → ⊥ }
-    ensures goes { (part : Part) (pieces : Pieces) (x : Metaslab) → IsMetaslab R.Rack A.Area part pieces shard.old x → HasContents part pieces x
+    ensures goes { (part : Part) (pieces : Pieces) (x : Metaslab) → IsMetaslab R.Rack A.Area part pieces shard.old x
         → Goes R.Rack A.Area part pieces x shard.new (λ holds y. NextIs part Rebuild false result holds × SameBlocks x y) }
 {
     match draid_mend::lend(shard) {

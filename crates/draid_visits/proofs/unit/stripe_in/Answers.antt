@@ -23,21 +23,21 @@ returns-in-Ok-Unit-clause-landed g c = λ repaired same.
     (moves_on g.R.Rack c.args.shard.now c.lend.new.shard c.solve.new.shard c.land.new.shard c.requires.running unit l.pass l.valid s.only s.solves e.lands.does.part e.moves, landed_none repaired same))
 
 pub returns-in-Ok-Unit-clause-goes : goal.returns-in-Ok-Unit-clause-goes
-returns-in-Ok-Unit-clause-goes g c = λ part pieces x at contents.
+returns-in-Ok-Unit-clause-goes g c = λ part pieces x at.
     (let is = ok_as c.lend.result c.in-Ok-Unit.field-0 Unit c.in-Ok-Unit.is c.in-Ok-Unit.field-0-is in
     let l = c.lend.ensures in
     let s = c.solve.ensures in
     let e = c.land.ensures in
     unit_goes g.R.Rack g.A.Area c.args.shard.now c.lend.new.shard c.solve.new.shard c.land.new.shard c.requires.running (l.unit is) l.valid l.areas l.told l.reserve (l.not_worn is) s.valid s.only s.none s.solves e.valid e.areas e.lands
-    e.reserve part pieces x at contents)
+    e.reserve part pieces x at)
 
 pub returns-in-Ok-End-clause-goes : goal.returns-in-Ok-End-clause-goes
-returns-in-Ok-End-clause-goes g c = λ part pieces x at contents.
+returns-in-Ok-End-clause-goes g c = λ part pieces x at.
     (let end = c.lend.ensures.end (ok_as c.lend.result c.in-Ok-End.field-0 End c.in-Ok-End.is c.in-Ok-End.field-0-is) in
     c.end_in.ensures.goes part pieces x (subst (λ s. IsMetaslab g.R.Rack g.A.Area part pieces s x) (sym end.1) at))
 
 pub returns-in-Err-Worn-clause-goes : goal.returns-in-Err-Worn-clause-goes
-returns-in-Err-Worn-clause-goes g c = λ part pieces x at contents.
+returns-in-Err-Worn-clause-goes g c = λ part pieces x at.
     (let old = c.args.shard.now in
     let z = running_of old.pass c.requires.running in
     let why = c.in-Err-Worn in
@@ -45,7 +45,7 @@ returns-in-Err-Worn-clause-goes g c = λ part pieces x at contents.
     worn g.R.Rack g.A.Area part pieces old x at c.lend.new.shard e.valid e.none.none e.kit e.reserve Rebuild (unit_left old z.pass z.there z.is.rebuild e.more) (worn_as old why.field-0 why.field-0-0 e.refused why.field-0-is))
 
 pub returns-in-Err-NoMemory-clause-goes : goal.returns-in-Err-NoMemory-clause-goes
-returns-in-Err-NoMemory-clause-goes g c = λ part pieces x at contents.
+returns-in-Err-NoMemory-clause-goes g c = λ part pieces x at.
     (let old = c.args.shard.now in
     let z = running_of old.pass c.requires.running in
     let e = c.in-Err-NoMemory.ensures in

@@ -15,7 +15,7 @@ returns-in-Rebuild-clause-landed g c = λ repaired is.
 pub returns-in-Rebuild-clause-goes : goal.returns-in-Rebuild-clause-goes
 returns-in-Rebuild-clause-goes g c = λ part pieces x at contents.
     subst (λ k. GoesTo g.R.Rack g.A.Area part pieces x c.stripe_in.new.shard (λ holds y. NextIs part k false c.stripe_in.result holds × SameBlocks x y)) (sym c.in-Rebuild.is)
-    (goes_to g.R.Rack g.A.Area part pieces x c.stripe_in.new.shard (λ holds y. NextIs part Rebuild false c.stripe_in.result holds × SameBlocks x y) (c.stripe_in.ensures.goes part pieces x at contents))
+    (goes_to g.R.Rack g.A.Area part pieces x c.stripe_in.new.shard (λ holds y. NextIs part Rebuild false c.stripe_in.result holds × SameBlocks x y) (c.stripe_in.ensures.goes part pieces x at))
 
 pub returns-in-Heal-clause-landed : goal.returns-in-Heal-clause-landed
 returns-in-Heal-clause-landed g c = λ repaired is.

@@ -1,0 +1,80 @@
+-- What a cancel does to a metaslab in a hold, and that it keeps to what every hold keeps to.
+use Rattle.std.proofs.Common.{◌≡◌, ◌≤◌, ◌∙◌, arith, inl, ℕ, Bool, true, false, Option, None, Some, not, refl, sym, ap, subst}
+use Rattle.std.specs.Prelude.{is_some}
+use Rattle.std.proofs.lemmas.Bool.{true≢false}
+use Rattle.draid_rack.specs.declared.Rack as racks
+use Rattle.draid_area.specs.declared.Area as areas
+use Rattle.draid_machine.specs.declared.event.Event.TheVariants as event
+use Rattle.draid_pass.specs.declared.pass.Pass.{Pass}
+use Rattle.draid_segments.specs.Segments.{Pieces}
+use Rattle.draid_shard.specs.Alike.{KeepsArms}
+use Rattle.draid_shard.specs.Calls.{ActsOn, SameKit, SameReserve}
+use Rattle.draid_shard.specs.Changes.{KeepsBlocks}
+use Rattle.draid_shard.specs.Fits.{Valid}
+use Rattle.draid_shard.specs.States.{Does}
+use Rattle.draid_shard.specs.declared.shard.Shard.{Shard}
+use Rattle.draid_shard.proofs.Changed.{same_arms, same_entries}
+use Rattle.draid_pool.specs.Drifts.{KeepsTo, is_other, passes_number}
+use Rattle.draid_pool.proofs.Drifting.{groups_kept}
+use Rattle.draid_pool.proofs.GroupKeeps.{turns_go}
+use Rattle.draid_visits.specs.Cancelling.{CancelsIn, passes_of}
+use Rattle.draid_visits.proofs.Cancelled.{none_ended, pass_ended}
+
+-- ---- how many passes there are
+
+pub one_at_most : (o : Option Pass) → passes_of o ≤ 1
+one_at_most None = omega arith
+one_at_most (Some pass) = omega arith
+
+pub is_absent : (o : Option Pass) (none : Bool) → is_some o ≡ not none → none ≡ true → o ≡ None
+is_absent None none is true_is = refl
+is_absent (Some pass) none is true_is = absurd (true≢false (is ∙ ap not true_is))
+
+pub is_one : (o : Option Pass) (none : Bool) → is_some o ≡ not none → none ≡ false → 1 ≡ passes_of o
+is_one None none is false_is = absurd (true≢false (sym (is ∙ ap not false_is)))
+is_one (Some pass) none is false_is = refl
+
+-- ---- one hold
+
+-- a hold that concerns the passes may change them
+pub pass_may_go : {P : Type 0} → is_other (Some passes_number) passes_number ≡ true → P
+pass_may_go is = absurd (true≢false (sym is))
+
+module _ {R A : Type 0} (rack : racks.Ghosts R) (area : areas.Ghosts A) where
+  -- there was none
+  pub cancels_none : (x : Shard R A) → Valid rack x → x.pass ≡ None → CancelsIn rack area x 0 x
+  cancels_none x valid none = record {
+    valid = valid;
+    part = refl;
+    blocks = record { entries = same_entries x.entries; groups = record { open_group_is = refl; closing = refl; sealed = refl; committed = refl } };
+    groups = groups_kept x;
+    areas_are = record { even = refl; odd = refl };
+    ended_are = sym (ap passes_of none);
+    none = none;
+    turns = λ part pieces u is. none_ended rack area part pieces u x is none;
+  }
+
+  -- one ended
+  pub cancels_one : (x y : Shard R A) → Valid rack y → Does x y event.Cancel → ((pieces : Pieces) → ActsOn rack x y event.Cancel pieces) → SameKit x y → KeepsBlocks x y → y.slots ≡ x.slots → SameReserve x y → y.pass ≡ None
+      → 1 ≡ passes_of x.pass → CancelsIn rack area x 1 y
+  cancels_one x y valid does acts kit blocks slots reserve none one = record {
+    valid = valid;
+    part = does.part;
+    blocks = blocks;
+    groups = record { groups = blocks.groups; arms = subst (λ s. KeepsArms x.slots s) (sym slots) (same_arms x.slots); reserve = reserve.reserved };
+    areas_are = kit.areas;
+    ended_are = one;
+    none = none;
+    turns = λ part pieces u is. pass_ended rack area part pieces u x y is valid does (acts pieces) kit reserve;
+  }
+
+  pub cancels_keep : (x y : Shard R A) (ended : ℕ) → CancelsIn rack area x ended y → KeepsTo rack area x y (Some passes_number)
+  cancels_keep x y ended c = record {
+    valid = c.valid;
+    part = c.part;
+    later = (let same = c.blocks.groups.committed in omega (arith, same));
+    groups = λ other. c.groups;
+    passes = λ is. pass_may_go is;
+    others = record { each = λ key own. inl (c.blocks.entries.held key) };
+    state = λ part pieces u is. turns_go rack area (is_other (Some passes_number)) part pieces u y _ (c.turns part pieces u is);
+  }
