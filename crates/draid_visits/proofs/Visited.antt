@@ -26,7 +26,7 @@ use Rattle.draid_visits.specs.Visiting.{BeganAt, BeginIs, HasBegun, IsLeft, IsLo
 use Rattle.draid_visits.specs.declared.progress.Progress.{Progress}
 use Rattle.draid_visits.specs.declared.progress.Visit.{Visit}
 use Rattle.draid_visits.specs.declared.progress.Visit.TheVariants as visit
-use Rattle.draid_visits.specs.declared.visiting.Begun.TheVariants as start
+use Rattle.draid_visits.specs.declared.starting.Begun.TheVariants as start
 use Rattle.draid_visits.proofs.Kept.{left_same}
 use Rattle.draid_visits.proofs.Leading.{Steps, steps_as, steps_then}
 

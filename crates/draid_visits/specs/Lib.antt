@@ -1,7 +1,10 @@
 pub mod Behind
 pub mod Cancelling
+pub mod Looks
 pub mod Pieces
+pub mod Readies
 pub mod Rebuilding
 pub mod Says
+pub mod Starts
 pub mod Steps
 pub mod Visiting

@@ -21,8 +21,8 @@ use Rattle.draid_visits.specs.Steps.{IsRebuiltIn, IsRunningOf}
 use Rattle.draid_visits.specs.declared.progress.Progress.{Progress}
 use Rattle.draid_visits.specs.declared.progress.Visit.{Visit}
 use Rattle.draid_visits.specs.declared.progress.Visit.TheVariants as visit
-use Rattle.draid_visits.specs.declared.visiting.Begun.{Begun}
-use Rattle.draid_visits.specs.declared.visiting.Begun.TheVariants as begun
+use Rattle.draid_visits.specs.declared.starting.Begun.{Begun}
+use Rattle.draid_visits.specs.declared.starting.Begun.TheVariants as begun
 
 -- ---- what was done so far
 

@@ -5,15 +5,19 @@
 
 mod cancelling;
 mod holding;
+mod looks;
 mod marks;
 mod progress;
+mod readying;
 mod rebuilding;
 mod replies;
+mod starting;
 mod steps;
 mod unit;
 mod visiting;
 
 pub use cancelling::{cancel, cancel_each};
+pub use looks::{find_marks, find_pass};
 pub use marks::pass_in;
 pub use rebuilding::{MendFault, Mended, rebuild, scrub};
 pub use replies::{reply_to_cancel, reply_to_rebuild, reply_to_scrub};

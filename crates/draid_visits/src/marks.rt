@@ -31,7 +31,7 @@ pub fn pass_in<R: Rack, A: Area>(pool: &Pool<R, A>, kind: PassKind) -> Option<(u
 }
 
 /// The number of a metaslab's pass of a kind.
-fn number_of<R: Rack, A: Area>(shard: &Shard<R, A>, kind: PassKind) -> Option<u64>
+pub(crate) fn number_of<R: Rack, A: Area>(shard: &Shard<R, A>, kind: PassKind) -> Option<u64>
     ensures found { IfSome result (λ number. HasPass kind number shard.now) }
     ensures none { IfNone result (IsOnly (passes.other_kind kind) shard.now) }
 {

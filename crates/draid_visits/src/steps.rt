@@ -6,6 +6,7 @@ ghost use Rattle.draid_spec.specs.Geometry.{metaslab_stripes};
 ghost use Rattle.draid_segments.specs.Segments.{Pieces};
 ghost use Rattle.draid_pass.specs.declared.pass.Pass.{Pass};
 ghost use Rattle.draid_shard.specs.Calls.{SameAreas};
+ghost use Rattle.draid_shard.specs.Changes.{KeepsBlocks};
 ghost use Rattle.draid_shard.specs.Fits.{Valid};
 ghost use Rattle.draid_shard.specs.Left.{HasNothingLeft};
 ghost use Rattle.draid_shard.specs.Part.{Part};
@@ -14,6 +15,7 @@ ghost use Rattle.draid_restore.specs.Loans.{HasBlockLeft};
 ghost use Rattle.draid_session.specs.Holds.{view_of};
 ghost use Rattle.draid_session.specs.Passes as passes;
 ghost use Rattle.draid_session.specs.State.{Metaslab};
+ghost use Rattle.draid_pool.specs.Drifts.{KeepsGroups};
 ghost use Rattle.draid_pool.specs.Metaslabs.{IsMetaslab};
 ghost use Rattle.draid_pool.specs.Shards.{Goes, SameBlocks};
 ghost use Rattle.draid_pool.specs.Syncing.{KeepsTable};
@@ -77,6 +79,8 @@ pub(crate) fn start_in<R: Rack, A: Area>(
     ensures valid { Valid R.Rack shard.new }
     ensures table { KeepsTable shard.old shard.new }
     ensures closing { shard.new.closing ≡ shard.old.closing }
+    ensures keeps { KeepsBlocks shard.old shard.new }
+    ensures groups { KeepsGroups shard.old shard.new }
     ensures areas { SameAreas shard.old shard.new }
     ensures pass { OnOk result (IsSomeAnd shard.new.pass (λ (p : Pass). p.kind ≡ kind)) }
     ensures none { OnErr result (shard.new.pass ≡ None) }
@@ -99,6 +103,8 @@ fn plan_in<R: Rack, A: Area>(shard: &mut Shard<R, A>, kind: PassKind) -> Result<
     ensures valid { Valid R.Rack shard.new }
     ensures table { KeepsTable shard.old shard.new }
     ensures closing { shard.new.closing ≡ shard.old.closing }
+    ensures keeps { KeepsBlocks shard.old shard.new }
+    ensures groups { KeepsGroups shard.old shard.new }
     ensures areas { SameAreas shard.old shard.new }
     ensures pass { OnOk result (IsSomeAnd shard.new.pass (λ (p : Pass). p.kind ≡ kind)) }
     ensures none { OnErr result (shard.new.pass ≡ None) }
@@ -120,6 +126,8 @@ pub(crate) fn ready_in<R: Rack, A: Area>(shard: &mut Shard<R, A>) -> bool
     ensures valid { Valid R.Rack shard.new }
     ensures table { KeepsTable shard.old shard.new }
     ensures areas { SameAreas shard.old shard.new }
+    ensures keeps { KeepsBlocks shard.old shard.new }
+    ensures groups { KeepsGroups shard.old shard.new }
     ensures runs { result ≡ true → IsSomeAnd shard.new.pass (IsRunningOf Rebuild) }
     ensures waits { result ≡ false → shard.new ≡ shard.old }
     ensures goes { (part : Part) (pieces : Pieces) (x : Metaslab) → IsMetaslab R.Rack A.Area part pieces shard.old x

@@ -15,10 +15,11 @@ ghost use Rattle.draid_visits.specs.Steps.{IsRunningOf};
 ghost use Rattle.draid_visits.specs.Visiting.{BeganAt, BeginIs, BeginsAt, HasBegun, IsAt, IsLeft, IsLow, IsOnly, KeepsOthers, LeavesAt, LendIs, PausesAt, RunIs, VisitIs};
 
 use crate::progress::{Progress, Visit};
-use crate::steps::{Next, is_running, next_in, ready_in, start_in};
+use crate::readying::make_ready;
+use crate::starting::{Begun, begin_visit};
+use crate::steps::{Next, is_running, next_in};
 use draid_area::Area;
 use draid_names::PassKind;
-use draid_passing::PlanFault;
 use draid_pool::{Pool, SyncFault};
 use draid_rack::Rack;
 
@@ -56,17 +57,6 @@ pub(crate) fn visit<R: Rack, A: Area>(
     }
 }
 
-/// How the pass of a metaslab began.
-#[derive(Clone, Copy)]
-enum Begun {
-    /// It stands at this stripe of the metaslab.
-    At { stripe: u64 },
-    /// There is none, since a rebuild would have no target.
-    Nothing,
-    /// None could be planned.
-    Stopped { why: SyncFault },
-}
-
 /// Has a pass of a metaslab go on, or plans one.
 fn begin_in<R: Rack, A: Area>(pool: &mut Pool<R, A>, kind: PassKind, metaslab: usize) -> Begun
     requires whole { IsWhole R.Rack A.Area pool.old }
@@ -82,20 +72,7 @@ fn begin_in<R: Rack, A: Area>(pool: &mut Pool<R, A>, kind: PassKind, metaslab: u
     ensures carries { (x : State) → Represents R.Rack A.Area pool.old x
         → CarriesOut R.Rack A.Area pool.new x (λ holds store. (store ≡ x.store) × BeginIs x.geometry x.perms kind metaslab result holds) }
 {
-    match start_in(&mut pool.metaslabs.shards[metaslab], kind) {
-        Ok(stripe) => Begun::At { stripe },
-        Err(PlanFault::Nothing) => Begun::Nothing,
-        Err(PlanFault::PassRunning { .. }) => unreachable!(),
-        Err(PlanFault::Worn { .. }) => Begun::Stopped {
-            why: SyncFault::Worn,
-        },
-        Err(PlanFault::Last) => Begun::Stopped {
-            why: SyncFault::Last,
-        },
-        Err(PlanFault::NoMemory) => Begun::Stopped {
-            why: SyncFault::NoMemory,
-        },
-    }
+    begin_visit(&mut pool.metaslabs, kind, metaslab as u32)
 }
 
 /// Makes a metaslab's pass, which stands at this stripe, run, and lends.
@@ -186,14 +163,10 @@ fn run_rebuild<R: Rack, A: Area>(pool: &mut Pool<R, A>, metaslab: usize) -> Resu
     ensures carries { (x : State) → Represents R.Rack A.Area pool.old x
         → CarriesOut R.Rack A.Area pool.new x (Phase x (passes.ReadyPhase x.geometry x.perms Rebuild metaslab) (end_of result)) }
 {
-    loop {
-        if ready_in(&mut pool.metaslabs.shards[metaslab]) {
-            return Ok(());
-        }
-        match pool.sync() {
-            Ok(_) => {}
-            Err(why) => return Err(why),
-        }
+    let count = pool.geometry.props.metaslabs;
+    match make_ready(&mut pool.metaslabs, &mut pool.uber, count, metaslab as u32) {
+        Some(result) => result,
+        None => unreachable!(),
     }
 }
 
