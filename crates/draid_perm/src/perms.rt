@@ -60,9 +60,8 @@ impl Perms {
         ensures base { result.0 < 16 }
         ensures less { result.1 < self.now.n }
     {
-        let n = u64::from(self.n);
-        let turn = slice % (16 * n);
-        ((turn / n) as usize, (turn % n) as u32)
+        let turn = (slice % u64::from(16 * self.n)) as u32;
+        ((turn / self.n) as usize, turn % self.n)
     }
 }
 
