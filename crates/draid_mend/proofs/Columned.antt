@@ -37,6 +37,9 @@ rows_are part pointer c rows of = λ i. record {
   birth = of.birth_is i;
 }
 
+pub rows_own : (part : Part) (pointer : Pointer) (c : ℕ) → IsRowsOf part pointer c (rows_at part pointer c)
+rows_own part pointer c = record { slot_is = refl; first_is = refl; count_is = refl; size_is = refl; birth_is = refl; slice_is = refl }
+
 -- ---- a sector of the row on a target is on a target's leaf
 pub and_left : (a b : Bool) → (a && b) ≡ true → a ≡ true
 and_left true b e = refl

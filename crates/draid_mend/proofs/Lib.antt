@@ -1,3 +1,4 @@
+mod Aimed
 mod Aims
 pub mod Chained
 mod Columned

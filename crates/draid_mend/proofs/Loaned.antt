@@ -168,15 +168,15 @@ module _ {R A : Type 0} (rack : Ghosts R) (old : Shard R A) (v : Valid rack old)
 
 -- ---- the event
 
-abbrev pub kept_of : ℕ → ℕ → Pointer → Vec (Option Source) Global → StripeValue → Vec ℕ Global → LentStripe
-kept_of serial stripe pointer chosen columns room = record { serial = serial; stripe = stripe; pointer = pointer; chosen = chosen; columns = columns; failed = room }
+abbrev pub kept_of : ℕ → ℕ → Pointer → Vec (Option Source) Global → StripeValue → Vec ℕ Global → Vec ℕ Global → LentStripe
+kept_of serial stripe pointer chosen columns room spare = record { serial = serial; stripe = stripe; pointer = pointer; chosen = chosen; columns = columns; failed = room; faults = spare }
 
 module _ {R A : Type 0} (rack : Ghosts R) (old : Shard R A) (v : Valid rack old) (entry : Entry) (stripe : ℕ) (unit : IsUnit old entry stripe)
-    (pass : Pass) (there : old.pass ≡ Some pass) (runs : IsRunningRebuild pass) (r : R) (chosen : Vec (Option Source) Global) (columns : StripeValue) (room : Vec ℕ Global) (history : History)
+    (pass : Pass) (there : old.pass ≡ Some pass) (runs : IsRunningRebuild pass) (r : R) (chosen : Vec (Option Source) Global) (columns : StripeValue) (room spare : Vec ℕ Global) (history : History)
     (taken : List Taken) (faults : Vec ℕ Global) (reads : ReadsStripe (part_of old) old.slots (unit_at entry.pointer stripe) old.geometry.g (rack.told old.rack) columns.columns taken faults.items)
     (named : NamesSources (part_of old) old.slots (unit_at entry.pointer stripe) taken old.geometry.g chosen.items) where
   abbrev kept : LentStripe
-  kept = kept_of (old.serial + 1) stripe entry.pointer chosen columns room
+  kept = kept_of (old.serial + 1) stripe entry.pointer chosen columns room spare
 
   pub kept_is : (columns_are : IsOneSector old.geometry columns) → old.geometry.g * length pass.targets.items ≤ vec_capacity room → IsLentStripe old.geometry old.pass kept
   kept_is are enough = record {
@@ -272,7 +272,7 @@ rebuild_of shard running = by shard.pass refl running
     by (Some p) at that = record { pass = p; there = at; runs = that }
 
 module _ {R A : Type 0} (rack : Ghosts R) (old b : Shard R A) (v : Valid rack old) (after : b ≡ record old { rack = b.rack }) (entry : Entry) (stripe : ℕ) (unit : IsUnit old entry stripe)
-    (running : IsSomeAnd old.pass IsRunningRebuild) (u : Pointer) (u_is : u ≡ unit_at entry.pointer stripe) (chosen : Vec (Option Source) Global) (columns : StripeValue) (room : Vec ℕ Global)
+    (running : IsSomeAnd old.pass IsRunningRebuild) (u : Pointer) (u_is : u ≡ unit_at entry.pointer stripe) (chosen : Vec (Option Source) Global) (columns : StripeValue) (room spare : Vec ℕ Global)
     (history : History) (taken : List Taken) (faults : Vec ℕ Global) (reads : ReadsStripe (part_of old) old.slots u old.geometry.g (rack.told old.rack) columns.columns taken faults.items)
     (named : NamesSources (part_of b) b.slots u taken b.geometry.g chosen.items) where
   abbrev h : HasRebuild old
@@ -286,13 +286,13 @@ module _ {R A : Type 0} (rack : Ghosts R) (old b : Shard R A) (v : Valid rack ol
       (subst (λ (s : Shard R A). NamesSources (part_of s) s.slots u taken s.geometry.g chosen.items) after named)
 
   abbrev kept_now : LentStripe
-  kept_now = kept_of (old.serial + 1) stripe entry.pointer chosen columns room
+  kept_now = kept_of (old.serial + 1) stripe entry.pointer chosen columns room spare
 
   abbrev pub final : Shard R A
-  final = record b { serial = b.serial + 1; kept = Some (Stripe (kept_of (b.serial + 1) stripe entry.pointer chosen columns room)); history = history }
+  final = record b { serial = b.serial + 1; kept = Some (Stripe (kept_of (b.serial + 1) stripe entry.pointer chosen columns room spare)); history = history }
 
   final_is : final ≡ lent old b.rack kept_now history
-  final_is = ap (λ (s : Shard R A). record s { serial = s.serial + 1; kept = Some (Stripe (kept_of (s.serial + 1) stripe entry.pointer chosen columns room)); history = history }) after
+  final_is = ap (λ (s : Shard R A). record s { serial = s.serial + 1; kept = Some (Stripe (kept_of (s.serial + 1) stripe entry.pointer chosen columns room spare)); history = history }) after
 
   same_history : b.history ≡ old.history
   same_history = ap (λ (s : Shard R A). s.history) after
@@ -305,14 +305,14 @@ module _ {R A : Type 0} (rack : Ghosts R) (old b : Shard R A) (v : Valid rack ol
       let same : length (events_of b.history) ≡ length (events_of old.history) = ap (λ (h : History). length (events_of h)) same_history in
       subst (Valid rack) (sym final_is)
       (lent_valid old b.rack kept_now history rack v shape
-      (kept_is rack old v entry stripe unit h.pass h.there h.runs b.rack chosen columns room history taken faults reads_at named_at one
+      (kept_is rack old v entry stripe unit h.pass h.there h.runs b.rack chosen columns room spare history taken faults reads_at named_at one
       (subst (λ o. IfSome o (λ (p : Pass). old.geometry.g * length p.targets.items ≤ vec_capacity room)) h.there enough))
       (owed ∙ ap (λ (h : History). owed_of h + lend_events old.kept) same_history) (reserved ∙ ap reserved_of same_history) (omega (arith, count, more, same)))
 
   pub final_lends : rack.told b.rack ≡ rack.told old.rack → CountsFailed faults.items (rack.faults old.rack) (rack.faults b.rack) → events_of history ≡ events_of b.history ++ Lend faults ∷ [] → LendsUnit rack old final
   final_lends told counts stored = subst (LendsUnit rack old) (sym final_is) (record {
     failed = faults;
-    does = lent_does rack old v entry stripe unit h.pass h.there h.runs b.rack chosen columns room history taken faults reads_at named_at
+    does = lent_does rack old v entry stripe unit h.pass h.there h.runs b.rack chosen columns room spare history taken faults reads_at named_at
         (stored ∙ ap (λ (h : History). events_of h ++ Lend faults ∷ []) same_history);
     acts = λ pieces w after step reached is. told_same (rack.told old.rack) (rack.told b.rack) told;
     counts = counts;

@@ -4,7 +4,6 @@ use Rattle.std.proofs.lemmas.Bool.{cases_lt}
 use Rattle.std.proofs.lemmas.Bool.Decides.{nat_tests}
 use Rattle.std.proofs.lemmas.List.{length-append}
 use Rattle.std.proofs.lemmas.Option.{slice_get-get_or}
-use Rattle.std.specs.List.{list_any}
 use Rattle.std.specs.Prelude.{slice_index_or}
 use Rattle.draid_names.specs.declared.arm.ArmAt.{ArmAt}
 use Rattle.draid_names.specs.declared.arm.At.{At}
@@ -191,13 +190,6 @@ fails_none slots rows targets failed = record { kept = λ leaf has. has; fail = 
 
 pub fails_elsewhere : (slots : SlotTable) (rows : ColumnRows) (targets : List ArmAt) (n : ℕ) (failed : List ℕ) → FailsBelow slots rows targets n failed failed
 fails_elsewhere slots rows targets n failed = record { kept = λ leaf has. has; fail = λ leaf has out. absurd_test (has_number failed leaf) has out }
-
--- a test that finds no target on a slot
-pub none_on : (slot : ℕ) (targets : List ArmAt) → list_any (λ (at : ArmAt). at.slot == slot) targets ≡ false → (k : ℕ) (at : ArmAt) → slice_get targets k ≡ Some at → at.slot ≡ slot → ⊥
-none_on slot [] none k at here same = absurd (cc)
-none_on slot (t ∷ ts) none zero at here same =
-    absurd_test (t.slot == slot) (equal t.slot slot (ap (λ (a : ArmAt). a.slot) (some_same (Some t) t at refl here) ∙ same)) (or_left (t.slot == slot) (list_any (λ (at : ArmAt). at.slot == slot) ts) none)
-none_on slot (t ∷ ts) none (suc k) at here same = none_on slot ts (or_right (t.slot == slot) (list_any (λ (at : ArmAt). at.slot == slot) ts) none) k at here same
 
 -- ---- the targets that answer
 module _ (slots : SlotTable) (rows : ColumnRows) (targets : List ArmAt) (n : ℕ) (at : ArmAt) (there : slice_get targets n ≡ Some at) where

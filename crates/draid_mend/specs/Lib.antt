@@ -1,3 +1,4 @@
+pub mod Aiming
 pub mod Landing
 pub mod Lands
 pub mod Lending

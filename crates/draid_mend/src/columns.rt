@@ -1,26 +1,23 @@
 //! The columns of a stripe land on the pass's targets.
 ghost use Rattle.std.specs.Prelude.{◌≡◌, ◌==◌, ◌+◌, ◌*◌, ◌≤◌, ◌<◌, ℕ, List, Option, length, take, true, vec_capacity, vec_len};
-ghost use Rattle.std.specs.List.{list_any};
-ghost use Rattle.draid_names.specs.declared.arm.ArmAt.{ArmAt};
 ghost use Rattle.draid_rack.specs.Rack.{OnBothTold, Told};
 ghost use Rattle.draid_shard.specs.Calls.{CountsFailed};
 ghost use Rattle.draid_shard.specs.Part.{IsPart, IsRun};
 ghost use Rattle.draid_shard.specs.Rows.{FitsRows, IsStripePlace};
 ghost use Rattle.draid_shard.specs.States.{part_of};
+ghost use Rattle.draid_mend.specs.Aiming.{AreAimed};
 ghost use Rattle.draid_mend.specs.Lands.{IsLaid};
 ghost use Rattle.draid_mend.specs.Solving.{IsOneSector};
 ghost use Rattle.draid_mend.specs.Stripes.{AnswerBelow, FailsColumns, LandsBelow, sources_below};
 ghost use Rattle.draid_mend.specs.Targets.{AllAnswer, AreThere, FailsBelow, MendsBelow};
 
+use crate::aiming::{MOST_COLUMNS, aimed_columns};
 use crate::targets::mend_targets;
 use draid_area::Area;
 use draid_names::{ArmAt, At, Pointer};
 use draid_parity::Stripe;
 use draid_rack::Rack;
 use draid_shard::{ColumnRows, Shard, Source, StripePlace};
-
-/// How many columns a stripe may have.
-const MOST_COLUMNS: usize = 64;
 
 /// Writes each column of a stripe to the targets of its slot that answer, and notes the leaves on which calls failed. A column
 /// that was taken from a source is made of that, and any other of all that were. Only where each target of the columns' slots
@@ -48,21 +45,21 @@ pub(crate) fn land_columns<R: Rack, A: Area>(
     ensures counts { (first : Option ℕ → ℕ) → CountsFailed failed.old.items first (R.faults shard.old.rack) → CountsFailed failed.new.items first (R.faults shard.new.rack) }
     ensures answered { result ≡ true → AnswerBelow (part_of shard.old) shard.old.slots pointer.now targets.now shard.old.geometry.g }
 {
-    let place = shard.stripe_place(pointer);
+    let aimed = aimed_columns(shard, pointer, targets);
     let mut answered = true;
     for column in 0..shard.geometry.g {
         answered = land_next(
-            shard, pointer, &place, targets, chosen, columns, column, failed,
+            shard, pointer, &aimed, targets, chosen, columns, column, failed,
         ) && answered;
     }
     answered
 }
 
-/// Writes the next one, if a target is of its slot.
+/// Writes the next one, if it is marked: no target is of the slot of another.
 fn land_next<R: Rack, A: Area>(
     shard: &mut Shard<R, A>,
     pointer: &Pointer,
-    place: &StripePlace,
+    aimed: &[bool],
     targets: &[ArmAt],
     chosen: &[Option<Source>],
     columns: &Stripe,
@@ -71,7 +68,8 @@ fn land_next<R: Rack, A: Area>(
 ) -> bool
     requires laid { IsLaid R.Rack shard.old }
     requires run { IsRun shard.old.geometry pointer.now.first pointer.now.stripes }
-    requires place { IsStripePlace (part_of shard.old) pointer.now.first place.now }
+    requires aimed { AreAimed (part_of shard.old) pointer.now.first targets.now (length targets.now) aimed.now }
+    requires marks { shard.old.geometry.g ≤ length aimed.now }
     requires one { pointer.now.stripes ≡ 1 }
     requires there { AreThere shard.old.slots targets.now }
     requires shape { IsOneSector shard.old.geometry columns.now }
@@ -91,10 +89,11 @@ fn land_next<R: Rack, A: Area>(
     ensures answered { result ≡ true → AnswerBelow (part_of shard.old) shard.old.slots pointer.now targets.now column
         → AnswerBelow (part_of shard.old) shard.old.slots pointer.now targets.now (column + 1) }
 {
-    let rows = shard.rows_at(place, pointer, column);
-    if !has_target(targets, rows.slot) {
+    if !aimed[column as usize] {
         return true;
     }
+    let place = shard.stripe_place(pointer);
+    let rows = shard.rows_at(&place, pointer, column);
     let bytes = columns.column(column);
     if let Some(source) = chosen[column as usize] {
         let own = At {
@@ -111,14 +110,7 @@ fn land_next<R: Rack, A: Area>(
             failed,
         );
     }
-    land_missing(shard, pointer, place, targets, chosen, rows, bytes, failed)
-}
-
-/// Whether one of the targets is an arm of a slot.
-fn has_target(targets: &[ArmAt], slot: u32) -> bool
-    ensures { result ≡ list_any (λ (at : ArmAt). at.slot == slot) targets.now }
-{
-    targets.iter().any(|at| at.slot == slot)
+    land_missing(shard, pointer, &place, targets, chosen, rows, bytes, failed)
 }
 
 /// Writes a column that was taken from no source to the targets of its slot: it is made of all sectors that were read.

@@ -2,6 +2,8 @@
 
 #![tactic(auto)]
 
+mod aiming;
+mod arms;
 mod columns;
 mod landing;
 mod laws;

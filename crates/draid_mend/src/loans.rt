@@ -191,6 +191,7 @@ fn lend_unit<R: Rack, A: Area>(shard: &mut Shard<R, A>, entry: Entry, stripe: u6
         chosen,
         failed: mut faults,
     } = lent;
+    let leaves = taken_out(&mut faults, shard.alloc);
     shard.serial += 1;
     shard.kept = Some(KeptLoan::Stripe(LentStripe {
         serial: shard.serial,
@@ -199,9 +200,11 @@ fn lend_unit<R: Rack, A: Area>(shard: &mut Shard<R, A>, entry: Entry, stripe: u6
         chosen,
         columns,
         failed,
+        faults,
     }));
-    let failed = taken_out(&mut faults, shard.alloc);
-    shard.history.add_asked(Event::Lend { failed }, events);
+    shard
+        .history
+        .add_asked(Event::Lend { failed: leaves }, events);
 }
 
 /// One stripe of a block.

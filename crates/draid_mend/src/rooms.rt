@@ -24,6 +24,7 @@ struct Parts {
     columns: Stripe,
     chosen: Vec<Option<Source>>,
     failed: Vec<u64>,
+    faults: Vec<u64>,
 }
 
 /// The room that a lend of a stripe wants, for so many targets: what an earlier loan left where it fits, and else new.
@@ -44,12 +45,14 @@ pub(crate) fn room_for(
         columns,
         mut chosen,
         mut failed,
+        mut faults,
     } = parts_for(alloc, geometry, stripe_in(idle))?;
     chosen.clear();
     chosen.reserve(g)?;
     failed.clear();
     failed.reserve(calls)?;
-    let faults = Vec::with_capacity(alloc, g)?;
+    faults.clear();
+    faults.reserve(g)?;
     Ok(LendRoom {
         lent: Readings {
             columns,
@@ -85,6 +88,7 @@ fn parts_for(
                 columns: kept.columns,
                 chosen: kept.chosen,
                 failed: kept.failed,
+                faults: kept.faults,
             });
         }
     }
@@ -92,5 +96,6 @@ fn parts_for(
         columns: Stripe::new(alloc, parity, ndata, geometry.props.sector)?,
         chosen: Vec::new(alloc),
         failed: Vec::new(alloc),
+        faults: Vec::new(alloc),
     })
 }

@@ -36,6 +36,8 @@ pub struct LentStripe {
     pub columns: Stripe,
     /// Room for the leaves on which the landing fails.
     pub failed: Vec<u64>,
+    /// Room for the leaves on which the reading of a later stripe fails.
+    pub faults: Vec<u64>,
 }
 
 /// A block that a scrub has lent out: what was read of it, and what was restored of that.

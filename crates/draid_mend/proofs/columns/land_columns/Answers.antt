@@ -4,11 +4,12 @@ use Rattle.draid_rack.specs.Rack.{OnBothTold}
 use Rattle.draid_machine.proofs.Small.{absurd_test}
 use Rattle.draid_spec.specs.declared.layout.Geometry.{Geometry}
 use Rattle.draid_shard.specs.Part.{IsRun}
-use Rattle.draid_shard.specs.Rows.{IsStripePlace}
 use Rattle.draid_shard.specs.States.{part_of}
 use Rattle.draid_shard.proofs.WithRack.{geometry_in, rack_twice}
+use Rattle.draid_mend.specs.Aiming.{AreAimed}
 use Rattle.draid_mend.specs.Solving.{IsOneSector}
 use Rattle.draid_mend.specs.Stripes.{AnswerBelow, FailsColumns, LandsBelow}
+use Rattle.draid_mend.proofs.Aimed.{few_columns}
 use Rattle.draid_mend.proofs.Columned.{answer_back, fails_back, few_next, lands_back, lands_none, no_fail, room_next, there_in}
 use Rattle.draid_mend.proofs.Laid.{laid_rack}
 use Rattle.draid_mend.proofs.columns.land_columns.Goals.{then-land_next, else-land_next}
@@ -30,10 +31,12 @@ pub land_next-requires : goal.land_next-requires
 land_next-requires g c =
     let i = c.loop-column.invariant in
     let same = geometry_in c.args.shard.now c.loop-column.shard i.whole in
+    let most = few_columns (part_of c.args.shard.now) c.requires.laid.part in
     record {
       laid = laid_rack g.R.Rack c.args.shard.now c.loop-column.shard i.whole i.shape c.requires.laid;
       run = subst (λ (geometry : Geometry). IsRun geometry c.args.pointer.now.first c.args.pointer.now.stripes) (sym same) c.requires.run;
-      place = subst (λ s. IsStripePlace (part_of s) c.args.pointer.now.first c.stripe_place-place.result) (sym i.whole) c.stripe_place-place.ensures;
+      aimed = subst (λ s. AreAimed (part_of s) c.args.pointer.now.first c.args.targets.now (length c.args.targets.now) c.aimed_columns-aimed.result) (sym i.whole) c.aimed_columns-aimed.ensures.aimed;
+      marks = (let long = c.aimed_columns-aimed.ensures.long in subst (λ (geometry : Geometry). geometry.g ≤ length c.aimed_columns-aimed.result) (sym same) (omega (arith, long, most)));
       one = c.requires.one;
       there = there_in c.args.shard.now c.loop-column.shard c.args.targets.now i.whole c.requires.there;
       shape = subst (λ (geometry : Geometry). IsOneSector geometry c.args.columns.now) (sym same) c.requires.shape;

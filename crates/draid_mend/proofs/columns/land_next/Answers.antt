@@ -2,25 +2,32 @@ use Rattle.std.proofs.Common.{◌∙◌, [], ◌∷◌, List, sym}
 use Rattle.draid_names.specs.declared.arm.At.{At}
 use Rattle.draid_shard.specs.States.{part_of}
 use Rattle.draid_shard.proofs.Fitted.{fits_rows}
-use Rattle.draid_mend.proofs.Columned.{all_sources, answer_next, fails_next, fails_past, lands_next, lands_past, none_answers, own_source}
-use Rattle.draid_mend.proofs.Targeted.{none_on}
+use Rattle.draid_mend.specs.Stripes.{rows_at}
+use Rattle.draid_mend.proofs.Aimed.{unaimed}
+use Rattle.draid_mend.proofs.Columned.{all_sources, answer_next, fails_next, fails_past, lands_next, lands_past, none_answers, own_source, rows_own}
 use Rattle.draid_mend.proofs.columns.land_next.Goals as goal
 
-pub returns-then-not-has_target-clause-lands : goal.returns-then-not-has_target-clause-lands
-returns-then-not-has_target-clause-lands g c start was =
-    lands_past (part_of c.args.shard.now) c.args.shard.now.slots c.args.pointer.now c.args.targets.now c.args.column c.rows_at-rows.result c.rows_at-rows.ensures
-    (none_on c.rows_at-rows.result.slot c.args.targets.now (sym c.has_target.ensures ∙ c.if-not-has_target.true)) c.args.columns.now.columns c.args.chosen.now c.args.failed.now.items c.requires.less start (g.R.Rack.told c.args.shard.now.rack) was
+pub returns-then-not-aimed-column-clause-lands : goal.returns-then-not-aimed-column-clause-lands
+returns-then-not-aimed-column-clause-lands g c start was =
+    let part = part_of c.args.shard.now in
+    lands_past part c.args.shard.now.slots c.args.pointer.now c.args.targets.now c.args.column (rows_at part c.args.pointer.now c.args.column) (rows_own part c.args.pointer.now c.args.column)
+    (unaimed part c.args.pointer.now.first c.args.targets.now c.args.aimed.now c.args.column c.requires.aimed c.requires.less c.if-not-aimed-column.true)
+    c.args.columns.now.columns c.args.chosen.now c.args.failed.now.items c.requires.less start (g.R.Rack.told c.args.shard.now.rack) was
 
-pub returns-then-not-has_target-clause-fails : goal.returns-then-not-has_target-clause-fails
-returns-then-not-has_target-clause-fails g c first was =
-    fails_past (part_of c.args.shard.now) c.args.shard.now.slots c.args.pointer.now c.args.targets.now c.args.column c.rows_at-rows.result c.rows_at-rows.ensures
-    (none_on c.rows_at-rows.result.slot c.args.targets.now (sym c.has_target.ensures ∙ c.if-not-has_target.true)) first c.args.failed.now.items was
+pub returns-then-not-aimed-column-clause-fails : goal.returns-then-not-aimed-column-clause-fails
+returns-then-not-aimed-column-clause-fails g c first was =
+    let part = part_of c.args.shard.now in
+    fails_past part c.args.shard.now.slots c.args.pointer.now c.args.targets.now c.args.column (rows_at part c.args.pointer.now c.args.column) (rows_own part c.args.pointer.now c.args.column)
+    (unaimed part c.args.pointer.now.first c.args.targets.now c.args.aimed.now c.args.column c.requires.aimed c.requires.less c.if-not-aimed-column.true) first c.args.failed.now.items was
 
-pub returns-then-not-has_target-clause-answered : goal.returns-then-not-has_target-clause-answered
-returns-then-not-has_target-clause-answered g c is was =
-    answer_next (part_of c.args.shard.now) c.args.shard.now.slots c.args.pointer.now c.args.targets.now c.args.column c.rows_at-rows.result c.rows_at-rows.ensures
-    (none_answers (part_of c.args.shard.now) c.args.shard.now.slots c.args.pointer.now c.args.targets.now c.args.column c.rows_at-rows.result c.rows_at-rows.ensures
-    (none_on c.rows_at-rows.result.slot c.args.targets.now (sym c.has_target.ensures ∙ c.if-not-has_target.true))) was
+pub returns-then-not-aimed-column-clause-answered : goal.returns-then-not-aimed-column-clause-answered
+returns-then-not-aimed-column-clause-answered g c is was =
+    let part = part_of c.args.shard.now in
+    let rows = rows_at part c.args.pointer.now c.args.column in
+    let own = rows_own part c.args.pointer.now c.args.column in
+    answer_next part c.args.shard.now.slots c.args.pointer.now c.args.targets.now c.args.column rows own
+    (none_answers part c.args.shard.now.slots c.args.pointer.now c.args.targets.now c.args.column rows own
+    (unaimed part c.args.pointer.now.first c.args.targets.now c.args.aimed.now c.args.column c.requires.aimed c.requires.less c.if-not-aimed-column.true)) was
 
 pub mend_targets-requires-clause-fits : goal.mend_targets-requires-clause-fits
 mend_targets-requires-clause-fits g c =
@@ -50,7 +57,7 @@ land_missing-requires g c =
     record {
       part = v.part;
       run = c.requires.run;
-      place = c.requires.place;
+      place = c.stripe_place-place.ensures;
       chosen = c.requires.chosen;
       fits = fits_rows (part_of c.args.shard.now) v.part c.args.shard.now.slots v.slots (g.R.Rack.shape c.args.shard.now.rack) c.args.pointer.now c.requires.run c.args.column c.requires.less c.rows_at-rows.result c.rows_at-rows.ensures v.leaves;
       there = c.requires.there;
