@@ -27,9 +27,8 @@ use Rattle.draid_changes.specs.Switching.{AllSameArms, HasReserved, LeafIsIn, Re
 use Rattle.draid_changes.specs.Walks.{MaySwitch, Switches}
 use Rattle.draid_changes.specs.declared.fault.ArmFault.{ArmFault}
 use Rattle.draid_changes.specs.declared.fault.ArmFault.TheVariants as armed
-use Rattle.draid_changes.proofs.Calls.{leaf_shared, leaf_stays}
 use Rattle.draid_changes.proofs.LeafHolds.{reserve_quiet, switch_quiet}
-use Rattle.draid_changes.proofs.Leaves.{leaf_shared_in}
+use Rattle.draid_changes.proofs.Leaves.{leaf_arm, leaf_inside, leaf_shared}
 use Rattle.draid_changes.proofs.SameArms.{ArmsAreThere}
 
 -- by a test of it that is turned round
@@ -72,13 +71,13 @@ module _ {R A S : Type 0} (rack : racks.Ghosts R) (area : areas.Ghosts A) (last 
         let seen : IsLeafArm h.before.slots leaf = h.did.arm.0 refl in
         let here = subst (λ (s : Shard R A). IsLeafArm s.slots leaf) (sym h.did.same) seen in
         let sound = subst (λ (s : Shard R A). IsTable s.slots) (sym h.did.same) h.did.sound in
-        let there = leaf_shared h.after.slots was.0.slots leaf sound (alike 0 m h.after was.0 first was.1) here in
-        (z.0, z.1, record { valid = z.2.valid; reserved = z.2.reserved; arm = leaf_stays was.0.slots z.0.slots leaf was.2.arms_stay there })
+        let there = leaf_shared h.after.slots was.0.slots leaf (alike 0 m h.after was.0 first was.1) (leaf_inside h.after.slots leaf sound here) in
+        (z.0, z.1, record { valid = z.2.valid; reserved = z.2.reserved; arm = leaf_shared was.0.slots z.0.slots leaf was.2 there })
 
     -- it is an arm of none
     pub in_none : (leaf : ℕ) (offline : Bool) (a b : S) → AllSameArms (last b) → (h : HeldOnce rack area last went shared owns (SeesLeaf leaf false) a 0 b) → last b 0 ≡ Some h.after
         → EachIs count (Valid rack) (last b) → LeafIsIn count leaf offline (Err (armed.Slot slot.NoSuch)) (last b)
-    in_none leaf offline a b alike h first each = (refl, (λ m less. (let z = each m less in (z.0, z.1, (λ has. none (leaf_shared_in z.0.slots h.after.slots leaf (alike m 0 z.0 h.after z.1 first) has))))))
+    in_none leaf offline a b alike h first each = (refl, (λ m less. (let z = each m less in (z.0, z.1, (λ has. none (leaf_arm h.after.slots leaf (leaf_shared z.0.slots h.after.slots leaf (alike m 0 z.0 h.after z.1 first) has)))))))
       where
         none : IsLeafArm h.after.slots leaf → ⊥
         none is = true≢false (sym (h.did.arm.1 (subst (λ (s : Shard R A). IsLeafArm s.slots leaf) h.did.same is)))

@@ -1,9 +1,6 @@
 -- A leaf goes offline in all metaslabs of a pool or comes back, or that is refused.
-use Rattle.std.proofs.Common.{◌≡◌, ◌≢◌, ◌<◌, ◌∙◌, [], inl, inr, ℕ, Bool, true, List, Option, Some, None, Ok, Err, arith, refl, sym, ap, subst, length, slice_index_or}
+use Rattle.std.proofs.Common.{◌≡◌, ◌≢◌, ◌<◌, ◌∙◌, ℕ, Bool, true, List, Option, Some, None, Ok, Err, refl, sym, ap, subst, length}
 use Rattle.std.specs.Prelude.{option_map, slice_get}
-use Rattle.std.proofs.lemmas.Bool.{cases_lt}
-use Rattle.std.proofs.lemmas.List.{get_or_past}
-use Rattle.std.proofs.lemmas.Option.{slice_get_within}
 use Rattle.draid_names.specs.declared.arm.Arm.{Arm}
 use Rattle.draid_names.specs.declared.arm.ArmKind.{ArmKind}
 use Rattle.draid_names.specs.declared.arm.ArmKind.TheVariants as kind
@@ -17,8 +14,7 @@ use Rattle.draid_machine.proofs.Fitted.{every_fit}
 use Rattle.draid_machine.proofs.Small.{none_some}
 use Rattle.draid_segments.specs.Segments.{Pieces}
 use Rattle.draid_slots.specs.States.{name_of}
-use Rattle.draid_slots.specs.Table.{IsTable, SlotTable, arms_of}
-use Rattle.draid_shard.specs.Alike.{HaveSameArms}
+use Rattle.draid_slots.specs.Table.{IsTable, arms_of}
 use Rattle.draid_shard.specs.Part.{Part, layout_in}
 use Rattle.draid_shard.specs.States.{layout_by, part_of}
 use Rattle.draid_shard.specs.declared.shard.Shard.{Shard}
@@ -37,7 +33,7 @@ use Rattle.draid_pool.specs.Syncing.{AreIdle, Phase}
 use Rattle.draid_pool.specs.Whole.{IsWhole}
 use Rattle.draid_pool.specs.Views.{seen_at}
 use Rattle.draid_pool.specs.declared.pool.Pool.{Pool}
-use Rattle.draid_pool.proofs.Lists.{present}
+use Rattle.draid_pool.proofs.Arms.{shares_kept}
 use Rattle.draid_pool.proofs.SyncCalls.{then_phase}
 use Rattle.draid_changes.specs.Answers.{EndsIn, SwitchDoes}
 use Rattle.draid_changes.specs.declared.fault.ArmFault.{ArmFault}
@@ -45,6 +41,7 @@ use Rattle.draid_changes.specs.declared.need.Need.TheVariants as needs
 use Rattle.draid_changes.specs.Walks.{ChangedBelow, MaySwitch, Reserves, Switches, switch_event}
 use Rattle.draid_changes.proofs.Begun.{BreaksIs, ComesTo, DoesIs, Finished, chain_stops, first_of, first_seen, goes, refused, seen_first, stops_so, uber_of}
 use Rattle.draid_changes.proofs.Events.{events_done, unsealed}
+use Rattle.draid_changes.proofs.Leaves.{leaf_inside, leaf_shared}
 use Rattle.draid_changes.proofs.Switched.{switch_turns, switched_shared}
 use Rattle.draid_changes.proofs.Walk.{changed_at}
 use Rattle.draid_changes.proofs.Whole.{SameOwn, switched_leaf, switched_share, whole_changed}
@@ -53,26 +50,6 @@ use Rattle.draid_changes.proofs.Whole.{SameOwn, switched_leaf, switched_share, w
 pub leaf_of_name : (k : ArmKind) (n leaf : ℕ) → named k n ≡ Leaf leaf → (k ≡ kind.Leaf) × (n ≡ leaf)
 leaf_of_name kind.Leaf n leaf is = (refl, (let same : n ≡ leaf = cc in same))
 leaf_of_name kind.Spare n leaf is = absurd (cc)
-
--- a leaf that is an arm in a table is one in another that has the same arms
-pub leaf_shared : (a b : SlotTable) (leaf : ℕ) → IsTable a → HaveSameArms a b → IsLeafArm a leaf → IsLeafArm b leaf
-leaf_shared a b leaf sound share (at, (arm, there, kind_is, number)) =
-    let slots = share.slots at.slot inside in
-    let long = slice_get_within (arms_of a at.slot) at.arm arm there in
-    let many = slots.many in
-    let z = present (arms_of b at.slot) at.arm (omega (arith, long, many)) in
-    let same = slots.each at.arm arm z.0 there z.1 in
-    (at, (z.0, z.1, sym same.kind_is ∙ kind_is, sym same.number_is ∙ number))
-  where
-    inside : at.slot < a.geometry.spec.children
-    inside = elim (cases_lt at.slot (length a.arms)) [
-      | inl less ↦ (let count = sound.slots.children in omega (arith, less, count))
-      | inr past ↦ absurd (none_some None arm refl (ap (λ arms. slice_get arms at.arm) (sym (get_or_past a.arms at.slot [] past)) ∙ there))
-    ]
-
-pub leaf_stays : (old new : SlotTable) (leaf : ℕ) → new.arms ≡ old.arms → IsLeafArm old leaf → IsLeafArm new leaf
-leaf_stays old new leaf stay (at, (arm, there, kind_is, number)) =
-    (at, (arm, ap (λ arms. slice_get (slice_index_or arms at.slot []) at.arm) stay ∙ there, kind_is, number))
 
 module _ {R A : Type 0} (rack : racks.Ghosts R) (area : areas.Ghosts A) where
   -- a leaf is an arm of the shard just where it is one of its metaslab
@@ -167,7 +144,8 @@ module _ {R A : Type 0} (rack : racks.Ghosts R) (area : areas.Ghosts A) where
       record {
         valid = (v.shards m z at).valid;
         reserved = was.2.reserved;
-        arm = leaf_stays was.0.slots z.slots leaf was.2.slots.arms_stay (leaf_shared first.slots was.0.slots leaf sound (w.alike 0 m first was.0 there was.1).arms is);
+        arm = leaf_shared was.0.slots z.slots leaf (shares_kept was.0.slots z.slots was.2.slots).arms
+            (leaf_shared first.slots was.0.slots leaf (w.alike 0 m first was.0 there was.1).arms (leaf_inside first.slots leaf sound is));
       }
 
   pub switched_whole : (leaf : ℕ) (offline : Bool) (late new : Pool R A) → IsWhole rack area late → ChangedBelow (Switches rack leaf offline) (length late.metaslabs.shards.items) late.metaslabs.shards.items new.metaslabs.shards.items

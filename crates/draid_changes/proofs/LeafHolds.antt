@@ -20,7 +20,7 @@ use Rattle.draid_pool.proofs.Since.{nothing_more}
 use Rattle.draid_pool.proofs.SyncWhole.{KeepsQuiet}
 use Rattle.draid_changes.specs.Switching.{HasReserved, ReservesOne}
 use Rattle.draid_changes.specs.Walks.{MaySwitch, Switches, switch_event}
-use Rattle.draid_changes.proofs.Calls.{leaf_stays}
+use Rattle.draid_changes.proofs.Leaves.{leaf_shared}
 use Rattle.draid_changes.proofs.Reserved.{pass_kept}
 use Rattle.draid_changes.proofs.Switched.{switch_did}
 
@@ -31,7 +31,7 @@ module _ {R A : Type 0} (rack : racks.Ghosts R) (area : areas.Ghosts A) where
     now = pieces;
     is = reserved_here rack area part pieces x y u is r.valid r.none r.kit r.limit;
     since = record { opened = refl; more = []; stored = nothing_more u.events; run = refl };
-    same = λ k own. refl;
+    same = λ k own. inl refl;
   }
 
   reserves_keep : (x y : Shard R A) (result : Result Unit ReserveFault) → ReservesOne rack x result y → KeepsTo rack area x y (Some groups_number)
@@ -57,7 +57,7 @@ module _ {R A : Type 0} (rack : racks.Ghosts R) (area : areas.Ghosts A) where
         now = pieces;
         is = d.is;
         since = acts_since (layout_in part) (Did (switch_event leaf offline) d.reached.world) u d.reached d.acts;
-        same = λ k own. refl;
+        same = λ k own. inl refl;
       }
 
   pub switch_keeps : (leaf : ℕ) (offline : Bool) (x y : Shard R A) → Switches rack leaf offline x y → KeepsTo rack area x y (Some groups_number)
@@ -78,7 +78,7 @@ module _ {R A : Type 0} (rack : racks.Ghosts R) (area : areas.Ghosts A) where
   switch_ready shared owns own leaf shard x d may = record {
     valid = d.valid;
     reserved = (let same = (d.groups own).reserve in let was = may.reserved in omega (arith, same, was));
-    arm = leaf_stays shard.slots x.slots leaf (d.groups own).arms.arms_stay may.arm;
+    arm = leaf_shared shard.slots x.slots leaf (d.groups own).arms.arms may.arm;
   }
 
   -- ---- what it leaves

@@ -1,14 +1,16 @@
 -- What offline and online leave of a leaf's arms in each metaslab.
-use Rattle.std.proofs.Common.{◌≡◌, ◌==◌, ◌∙◌, ℕ, Bool, List, Option, Some, Err, arith, sym, ap, subst, length, slice_get, if◌then◌else◌}
+use Rattle.std.proofs.Common.{◌≡◌, ◌==◌, ◌<◌, ◌∙◌, [], inl, inr, ℕ, Bool, List, Option, Some, None, Err, arith, refl, sym, ap, subst, length, slice_get, if◌then◌else◌}
 use Rattle.std.specs.Prelude.{option_map}
+use Rattle.std.proofs.lemmas.Bool.{cases_lt}
+use Rattle.std.proofs.lemmas.List.{get_or_past}
 use Rattle.std.proofs.lemmas.Option.{slice_get_within}
 use Rattle.draid_names.specs.declared.arm.Arm.{Arm}
 use Rattle.draid_names.specs.declared.arm.ArmKind.TheVariants as kind
 use Rattle.draid_rack.specs.declared.Rack as racks
 use Rattle.draid_area.specs.declared.Area as areas
-use Rattle.draid_machine.proofs.Small.{equal, true_both}
+use Rattle.draid_machine.proofs.Small.{equal, none_some, true_both}
 use Rattle.draid_slots.specs.Changes.{ChangesArms, switched, switched_arm}
-use Rattle.draid_slots.specs.Table.{SlotTable, arms_of, is_leaf_kind}
+use Rattle.draid_slots.specs.Table.{IsTable, SlotTable, arms_of, is_leaf_kind}
 use Rattle.draid_shard.specs.Alike.{HaveSameArms}
 use Rattle.draid_shard.specs.declared.shard.Shard.{Shard}
 use Rattle.draid_disks.specs.Disks.{IsLeafArm}
@@ -25,14 +27,28 @@ use Rattle.draid_changes.proofs.Walk.{changed_at}
 use Rattle.draid_changes.proofs.Whole.{same_kind, was_there}
 
 -- a leaf that is an arm of one of the slots that there are is one where the arms are the same
-pub leaf_shared_in : (a b : SlotTable) (leaf : ℕ) → HaveSameArms a b → HasLeaf a leaf → IsLeafArm b leaf
-leaf_shared_in a b leaf share (at, low, (arm, there, kind_is, number)) =
+pub leaf_shared : (a b : SlotTable) (leaf : ℕ) → HaveSameArms a b → HasLeaf a leaf → HasLeaf b leaf
+leaf_shared a b leaf share (at, low, (arm, there, kind_is, number)) =
     let slots = share.slots at.slot low in
     let long = slice_get_within (arms_of a at.slot) at.arm arm there in
     let many = slots.many in
     let z = present (arms_of b at.slot) at.arm (omega (arith, long, many)) in
     let same = slots.each at.arm arm z.0 there z.1 in
-    (at, (z.0, z.1, sym same.kind_is ∙ kind_is, sym same.number_is ∙ number))
+    (at, subst (λ n. at.slot < n) (sym share.children) low, (z.0, z.1, sym same.kind_is ∙ kind_is, sym same.number_is ∙ number))
+
+-- it is one of a slot
+pub leaf_arm : (slots : SlotTable) (leaf : ℕ) → HasLeaf slots leaf → IsLeafArm slots leaf
+leaf_arm slots leaf has = (has.0, has.2)
+
+-- and one of a slot of a table is one of those that there are
+pub leaf_inside : (a : SlotTable) (leaf : ℕ) → IsTable a → IsLeafArm a leaf → HasLeaf a leaf
+leaf_inside a leaf sound (at, (arm, there, kind_is, number)) = (at, inside, (arm, there, kind_is, number))
+  where
+    inside : at.slot < a.geometry.spec.children
+    inside = elim (cases_lt at.slot (length a.arms)) [
+      | inl less ↦ (let count = sound.slots.children in omega (arith, less, count))
+      | inr past ↦ absurd (none_some None arm refl (ap (λ arms. slice_get arms at.arm) (sym (get_or_past a.arms at.slot [] past)) ∙ there))
+    ]
 
 -- it stays one as it is switched
 arm_switched : (leaf : ℕ) (offline : Bool) (a : Arm) → a.kind ≡ kind.Leaf → a.number ≡ leaf → (switched_arm leaf offline a).offline ≡ offline
@@ -70,11 +86,11 @@ module _ {R A : Type 0} (rack : racks.Ghosts R) (area : areas.Ghosts A) where
 
   -- what is no arm of the first metaslab is none of any
   pub none_has : (pool : Pool R A) (leaf : ℕ) (first : Shard R A) → IsWhole rack area pool → slice_get pool.metaslabs.shards.items 0 ≡ Some first → (IsLeafArm first.slots leaf → ⊥) → NoneHas leaf pool.metaslabs.shards.items
-  none_has pool leaf first w there none m z at has = none (leaf_shared_in z.slots first.slots leaf (w.alike m 0 z first at there).arms has)
+  none_has pool leaf first w there none m z at has = none (leaf_arm first.slots leaf (leaf_shared z.slots first.slots leaf (w.alike m 0 z first at there).arms has))
 
   -- it was switched in each
   pub all_switched : (leaf : ℕ) (offline : Bool) (old new : List (Shard R A)) → ((m : ℕ) (z : Shard R A) → slice_get old m ≡ Some z → MaySwitch rack leaf z) → ChangedBelow (Switches rack leaf offline) (length old) old new
       → AllSwitched leaf offline new
   all_switched leaf offline old new may c m z at =
       let was = changed_at (Switches rack leaf offline) old new c m z at in
-      is_switched was.0.slots z.slots leaf offline was.2.slots (may m was.0 was.1).arm
+      is_switched was.0.slots z.slots leaf offline was.2.slots (leaf_arm was.0.slots leaf (may m was.0 was.1).arm)

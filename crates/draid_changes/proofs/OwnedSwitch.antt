@@ -29,7 +29,8 @@ use Rattle.draid_pool.proofs.GroupDone.{with_both}
 use Rattle.draid_pool.proofs.Lifted.{SetsShard}
 use Rattle.draid_pool.proofs.OwnedKnows.{all}
 use Rattle.draid_pool.proofs.Rises.{areas_on, areas_set, areas_still, records_same}
-use Rattle.draid_pool.proofs.SyncDone.{FinishDone, finish_all, finish_waits, set_again, still_later, still_stands, still_whole}
+use Rattle.draid_pool.proofs.SetAgain.{set_again}
+use Rattle.draid_pool.proofs.SyncDone.{FinishDone, finish_all, finish_waits, still_later, still_stands, still_whole}
 use Rattle.draid_pool.proofs.SyncSteps.{Came, came_none, whole_on}
 use Rattle.draid_changes.specs.Answers.{SwitchDoes}
 use Rattle.draid_changes.specs.Behind.{LeafIs}

@@ -15,11 +15,12 @@ use Rattle.draid_shard.specs.Changes.{KeepsBlocks, SameGroups}
 use Rattle.draid_shard.specs.Fits.{Valid}
 use Rattle.draid_shard.specs.States.{Does}
 use Rattle.draid_shard.specs.declared.shard.Shard.{Shard}
-use Rattle.draid_disks.specs.Disks.{HasArmRoom, IsLeafArm, SamePass, Uses}
+use Rattle.draid_disks.specs.Disks.{HasArmRoom, SamePass, Uses}
 use Rattle.draid_disks.specs.Replanning.{attach_events}
 use Rattle.draid_session.specs.Follows.{replans}
 use Rattle.draid_session.specs.Holds.{View}
 use Rattle.draid_session.specs.Phases.{End, Went, WasWorn, Starved}
+use Rattle.draid_changes.specs.Behind.{HasLeaf}
 use Rattle.draid_changes.specs.declared.need.Need.{Need}
 use Rattle.draid_changes.specs.declared.need.Need.TheVariants as needs
 
@@ -64,11 +65,11 @@ abbrev pub switch_event : ℕ → Bool → Event
 switch_event leaf true = event.Offline leaf
 switch_event leaf false = event.Online leaf
 
--- a leaf is an arm of a metaslab, and an event is reserved for what becomes of it
+-- a leaf is an arm of one of the slots that a metaslab has, and an event is reserved for what becomes of it
 pub record MaySwitch {R A : Type 0} (rack : Ghosts R) (leaf : ℕ) (shard : Shard R A) : Type 0 where
   pub valid : Valid rack shard
   pub reserved : 0 < reserved_of shard.history
-  pub arm : IsLeafArm shard.slots leaf
+  pub arm : HasLeaf shard.slots leaf
 
 -- it went offline there, or came back
 pub record Switches {R A : Type 0} (rack : Ghosts R) (leaf : ℕ) (offline : Bool) (old new : Shard R A) : Type 0 where

@@ -45,6 +45,53 @@ have_from first a b one other = record {
       same_from (arms_of first slot) (arms_of a slot) (arms_of b slot) (one.slots slot inside) (other.slots slot inside));
 }
 
+-- and one behind another
+same_then : (ps qs rs : List Arm) → AreSameArms ps qs → AreSameArms qs rs → AreSameArms ps rs
+same_then ps qs rs one other = record {
+  many = one.many ∙ other.many;
+  each = λ k p r at there.
+      (let inside = slice_get_within ps k p at in
+      let many = one.many in
+      let q = present qs k (omega (arith, inside, many)) in
+      let x = one.each k p q.0 at q.1 in
+      let y = other.each k q.0 r q.1 there in
+      record { kind_is = x.kind_is ∙ y.kind_is; number_is = x.number_is ∙ y.number_is; offline_is = x.offline_is ∙ y.offline_is });
+}
+
+pub have_then : (a b c : SlotTable) → HaveSameArms a b → HaveSameArms b c → HaveSameArms a c
+have_then a b c one other = record {
+  children = other.children ∙ one.children;
+  slots = λ slot below.
+      same_then (arms_of a slot) (arms_of b slot) (arms_of c slot) (one.slots slot below) (other.slots slot (subst (λ n. slot < n) (sym one.children) below));
+}
+
+pub share_then : (a b c : SlotTable) → ShareArms a b → ShareArms b c → ShareArms a c
+share_then a b c one other = record { arms = have_then a b c one.arms other.arms; detached = other.detached ∙ one.detached }
+
+-- where each of two has the same arms as before, they have one another's as before
+pub have_both : (a b a' b' : SlotTable) → HaveSameArms a a' → HaveSameArms b b' → HaveSameArms a b → HaveSameArms a' b'
+have_both a b a' b' one other s = have_from a a' b' one (have_then a b b' s other)
+
+pub share_both : (a b a' b' : SlotTable) → ShareArms a a' → ShareArms b b' → ShareArms a b → ShareArms a' b'
+share_both a b a' b' one other s = record { arms = have_both a b a' b' one.arms other.arms s.arms; detached = other.detached ∙ (s.detached ∙ sym one.detached) }
+
+-- arms that stay are the same
+same_stay : (ps : List Arm) → AreSameArms ps ps
+same_stay ps = record {
+  many = refl;
+  each = λ k p q a b.
+      (let e : p ≡ q = some_of (slice_get ps k) p q a b in record { kind_is = ap (λ (z : Arm). z.kind) e; number_is = ap (λ (z : Arm). z.number) e; offline_is = ap (λ (z : Arm). z.offline) e });
+}
+
+pub have_stay : (old new : SlotTable) → IsSame old new → new.arms ≡ old.arms → HaveSameArms old new
+have_stay old new same stay = record {
+  children = ap (λ g. g.spec.children) same.geometry_is;
+  slots = λ slot less. subst (λ (lists : List (List Arm)). AreSameArms (slice_index_or old.arms slot []) (slice_index_or lists slot [])) (sym stay) (same_stay (slice_index_or old.arms slot []));
+}
+
+pub shares_kept : (old new : SlotTable) → KeepsArms old new → ShareArms old new
+shares_kept old new kept = record { arms = have_stay old new kept.same kept.arms_stay; detached = kept.detached_stay }
+
 -- where the arms stay and the same detachments are left
 pub share_by : (a b a' b' : SlotTable) → IsSame a a' → IsSame b b' → a'.arms ≡ a.arms → b'.arms ≡ b.arms → b'.detached ≡ a'.detached → ShareArms a b → ShareArms a' b'
 share_by a b a' b' one other first second detached s = record {
@@ -58,12 +105,21 @@ share_by a b a' b' one other first second detached s = record {
   detached = detached;
 }
 
-pub share_kept : (a b a' b' : SlotTable) → KeepsArms a a' → KeepsArms b b' → ShareArms a b → ShareArms a' b'
-share_kept a b a' b' one other s = share_by a b a' b' one.same other.same one.arms_stay other.arms_stay (other.detached_stay ∙ (s.detached ∙ sym one.detached_stay)) s
-
 -- each two shards have the same arms
 abbrev pub AllShare : {R A : Type 0} → List (Shard R A) → Type 0
 AllShare {R} {A} shards = (m n : ℕ) (a b : Shard R A) → slice_get shards m ≡ Some a → slice_get shards n ≡ Some b → ShareArms a.slots b.slots
+
+-- the shard that stood at a place had the same arms
+pub record Shared {R A : Type 0} (old : List (Shard R A)) (k : ℕ) (z : Shard R A) : Type 0 where
+  pub before : Shard R A
+  pub there : slice_get old k ≡ Some before
+  pub slots : ShareArms before.slots z.slots
+
+pub all_shared : {R A : Type 0} (old new : List (Shard R A)) → ((k : ℕ) (z : Shard R A) → slice_get new k ≡ Some z → Shared old k z) → AllShare old → AllShare new
+all_shared old new had share m n a b at here =
+    let p = had m a at in
+    let q = had n b here in
+    share_both p.before.slots q.before.slots a.slots b.slots p.slots q.slots (share m n p.before q.before p.there q.there)
 
 -- the shard that stood at a place kept its arms
 pub record Kept {R A : Type 0} (old : List (Shard R A)) (k : ℕ) (z : Shard R A) : Type 0 where
@@ -72,10 +128,8 @@ pub record Kept {R A : Type 0} (old : List (Shard R A)) (k : ℕ) (z : Shard R A
   pub slots : KeepsArms before.slots z.slots
 
 pub all_kept : {R A : Type 0} (old new : List (Shard R A)) → ((k : ℕ) (z : Shard R A) → slice_get new k ≡ Some z → Kept old k z) → AllShare old → AllShare new
-all_kept old new kept share m n a b at here =
-    let p = kept m a at in
-    let q = kept n b here in
-    share_kept p.before.slots q.before.slots a.slots b.slots p.slots q.slots (share m n p.before q.before p.there q.there)
+all_kept old new kept share =
+    all_shared old new (λ k z at. (let p = kept k z at in record { before = p.before; there = p.there; slots = shares_kept p.before.slots z.slots p.slots })) share
 
 -- a leaf is one that there was
 pub leaf_kept : (old new : SlotTable) (leaf : ℕ) → KeepsArms old new → IsLeaf new leaf → IsLeaf old leaf

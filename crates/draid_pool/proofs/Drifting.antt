@@ -10,14 +10,23 @@ use Rattle.draid_machine.specs.declared.names.Stage.{Stage}
 use Rattle.draid_machine.specs.declared.names.Stage.TheVariants as stage
 use Rattle.draid_machine.specs.After.{is_freed_block}
 use Rattle.draid_machine.specs.Names.{is_freed_by}
-use Rattle.draid_machine.proofs.Small.{is_low, low}
+use Rattle.draid_machine.proofs.Small.{is_low, low, none_some}
+use Rattle.draid_segments.specs.Segments.{Pieces}
+use Rattle.draid_entries.specs.History.{reserved_of}
+use Rattle.draid_shard.specs.Alike.{KeepsArms}
+use Rattle.draid_shard.specs.Changes.{SameGroups}
 use Rattle.draid_shard.specs.Fits.{Valid}
+use Rattle.draid_shard.specs.Part.{Part, layout_in}
 use Rattle.draid_shard.specs.declared.shard.Shard.{Shard}
 use Rattle.draid_pass.specs.declared.pass.Pass.{Pass}
 use Rattle.draid_shard.proofs.Changed.{same_arms}
-use Rattle.draid_pool.specs.Drifts.{Drifts, KeepsGroups, KeepsOf}
+use Rattle.draid_session.specs.State.{Metaslab}
+use Rattle.draid_pool.specs.Drifts.{Drifts, KeepsGroups, KeepsOf, StateStep}
+use Rattle.draid_pool.specs.Metaslabs.{IsMetaslab}
 use Rattle.draid_pool.specs.Passes.{KeepsPass}
-use Rattle.draid_pool.proofs.Since.{state_self}
+use Rattle.draid_pool.proofs.Arms.{leaf_kept, shares_kept}
+use Rattle.draid_pool.proofs.Contents.{same_then}
+use Rattle.draid_pool.proofs.Since.{since_then, state_self}
 
 pub keeps_self : (of : ℕ → Bool) (group : ℕ) (t : Entries) → KeepsOf of group t t
 keeps_self of group t = record { each = λ key own. inl refl }
@@ -45,8 +54,12 @@ keeps_then of group later a b c less x y = record { each = λ key own. by key (x
 pub keeps_some : (of some : ℕ → Bool) (group : ℕ) (a b : Entries) → ((n : ℕ) → some n ≡ true → of n ≡ true) → KeepsOf of group a b → KeepsOf some group a b
 keeps_some of some group a b inside x = record { each = λ key own. x.each key (inside key.object own) }
 
+-- where the very same arms are left
+pub groups_by : {R A : Type 0} (old new : Shard R A) → SameGroups old new → KeepsArms old.slots new.slots → reserved_of new.history ≡ reserved_of old.history → KeepsGroups old new
+groups_by old new groups arms reserve = record { groups = groups; arms = shares_kept old.slots new.slots arms; leaves = λ leaf is. leaf_kept old.slots new.slots leaf arms is; reserve = reserve }
+
 pub groups_kept : {R A : Type 0} (shard : Shard R A) → KeepsGroups shard shard
-groups_kept shard = record { groups = record { open_group_is = refl; closing = refl; sealed = refl; committed = refl }; arms = same_arms shard.slots; reserve = refl }
+groups_kept shard = groups_by shard shard (record { open_group_is = refl; closing = refl; sealed = refl; committed = refl }) (same_arms shard.slots) refl
 
 -- a pass that is as it was is the one that it was
 pass_still : (o : Option Pass) → KeepsPass o o
@@ -71,3 +84,24 @@ drifts_not rack area owns shard v = record {
 
 pub same_groups : {R A : Type 0} (old new : Shard R A) → new ≡ old → KeepsGroups old new
 same_groups old new same = subst (KeepsGroups old) (sym same) (groups_kept old)
+
+-- one step of the state behind another
+module _ {R A : Type 0} (rack : racks.Ghosts R) (area : areas.Ghosts A) (of : ℕ → Bool) (group : ℕ) (old mid new : Shard R A) (keeps : KeepsOf of group old.entries mid.entries) where
+  held_then : (part : Part) (pieces now : Pieces) (x y : Metaslab) → IsMetaslab rack area part pieces old x → IsMetaslab rack area part now mid y
+      → (key : Key) → of key.object ≡ true → (h : Held) → y.world.core.held key ≡ Some h → x.world.core.held key ≡ Some h
+  held_then part pieces now x y is it key own h there = elim (keeps.each key own) [
+    | inl same ↦ is.stands.is_in.held key ∙ (sym same ∙ (sym (it.stands.is_in.held key) ∙ there))
+    | inr gone ↦ absurd (none_some (held_in mid.entries key) h gone.1 (sym (it.stands.is_in.held key) ∙ there))
+  ]
+
+  pub state_then : StateStep rack area of old mid → StateStep rack area of mid new → StateStep rack area of old new
+  state_then a b part pieces x is =
+      let one = a part pieces x is in
+      let two = b part one.now one.reached one.is in
+      record {
+        reached = two.reached;
+        now = two.now;
+        is = two.is;
+        since = since_then (layout_in part) x one.reached two.reached one.since two.since;
+        same = λ key own. same_then part x one.reached pieces one.now two.now key (held_then part pieces one.now x one.reached is one.is key own) (one.same key own) (two.same key own);
+      }

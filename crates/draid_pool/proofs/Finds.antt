@@ -6,13 +6,18 @@ use Rattle.draid_names.specs.declared.pointer.Pointer.{Pointer}
 use Rattle.draid_rack.specs.declared.Rack as racks
 use Rattle.draid_area.specs.declared.Area as areas
 use Rattle.draid_machine.specs.declared.names.Key.{Key}
+use Rattle.draid_machine.specs.declared.names.Held.{Held}
 use Rattle.draid_machine.specs.After.{is_freed_block}
+use Rattle.draid_machine.specs.Names.{is_block}
+use Rattle.draid_machine.proofs.Small.{none_some}
+use Rattle.draid_entries.specs.Entries.{held_in}
 use Rattle.draid_segments.specs.Segments.{Pieces}
 use Rattle.draid_objects.specs.Changes.{Write}
 use Rattle.draid_shard.specs.Part.{Part, layout_in}
 use Rattle.draid_session.specs.Follows.{MetaslabActs, CountsRise}
 use Rattle.draid_session.specs.Holds.{Looked}
 use Rattle.draid_session.specs.State.{Counts, Metaslab, State}
+use Rattle.draid_pool.specs.Bytes.{SamePieces}
 use Rattle.draid_pool.specs.Metaslabs.{IsMetaslab}
 use Rattle.draid_pool.proofs.Lists.{some_of}
 use Rattle.draid_pool.specs.Drifts.{Drifts, Since}
@@ -27,7 +32,7 @@ pub record Found {R A : Type 0} (rack : racks.Ghosts R) (area : areas.Ghosts A) 
   pub now : Pieces
   pub is : IsMetaslab rack area part now before z
   pub since : Since (layout_in part) y z
-  pub same : (k : Key) → owns k.object ≡ true → now k ≡ pieces k
+  pub same : (k : Key) → owns k.object ≡ true → SamePieces part y pieces now k
   pub alone : shared ≡ false → z ≡ y
 
 module _ {R A : Type 0} (rack : racks.Ghosts R) (area : areas.Ghosts A) where
@@ -41,7 +46,7 @@ module _ {R A : Type 0} (rack : racks.Ghosts R) (area : areas.Ghosts A) where
     now = pieces;
     is = subst (λ (c : Shard R A). IsMetaslab rack area part pieces c y) (sym (d.still refl)) is;
     since = since_self (layout_in part) y;
-    same = λ k mine. refl;
+    same = λ k mine. inl refl;
     alone = λ alone. refl;
   }
 
@@ -64,6 +69,17 @@ module _ {R A : Type 0} (rack : racks.Ghosts R) (area : areas.Ghosts A) where
       let b = it.stands.is_in.committed in
       let c = d.later in
       omega (arith, a, b, c)
+
+  -- a ticket that is found has the pieces that it had
+  pub found_ticket : (shared : Bool) (owns : ℕ → Bool) (shard before : Shard R A) (d : Drifts rack area shared owns shard before) (part : Part) (pieces now : Pieces) (y : Metaslab) → IsMetaslab rack area part pieces shard y
+      → (k : Key) (h : Held) → owns k.object ≡ true → held_in before.entries k ≡ Some h → is_block h.stage ≡ false → SamePieces part y pieces now k → now k ≡ pieces k
+  found_ticket shared owns shard before d part pieces now y is k h own there ticket (inl same) = same
+  found_ticket shared owns shard before d part pieces now y is k h own there ticket (inr (g, at, block, bytes)) = elim (d.own.each k own) [
+    | inl e ↦
+        let one : g ≡ h = some_of (held_in before.entries k) g h (e ∙ (sym (is.stands.is_in.held k) ∙ at)) there in
+        absurd (true≢false (sym (subst (λ (i : Held). is_block i.stage ≡ true) one block) ∙ ticket))
+    | inr e ↦ absurd (none_some (held_in before.entries k) h e.1 there)
+  ]
 
 -- ---- groups
 

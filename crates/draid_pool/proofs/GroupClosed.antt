@@ -35,7 +35,7 @@ module _ {R A : Type 0} where
   left_by o m = slice_get o.shards.items m
 
   abbrev pub went_by : Owned R A → ℕ → Shard R A → Shard R A → Owned R A → Type 0
-  went_by o m before after o' = (slice_get o.shards.items m ≡ Some before) × (o'.shards.items ≡ slice_set o.shards.items m after)
+  went_by o m before after o' = (slice_get o.shards.items m ≡ Some before) × (o'.shards.items ≡ slice_set o.shards.items m after) × (after ≡ before → o' ≡ o)
 
   abbrev pub with_owned : Pool R A → Owned R A → Pool R A
   with_owned pool o = record pool { metaslabs = o }

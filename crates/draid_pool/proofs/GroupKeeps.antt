@@ -47,7 +47,7 @@ module _ {R A : Type 0} (rack : racks.Ghosts R) (area : areas.Ghosts A) where
     now = pieces;
     is = t.is;
     since = acts_since (layout_in part) t.act x t.reached t.acts;
-    same = λ k own. refl;
+    same = λ k own. inl refl;
   }
 
   -- what is held stays, and so do the committed group and the pass

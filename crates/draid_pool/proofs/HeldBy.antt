@@ -18,10 +18,10 @@ use Rattle.draid_shard.specs.Looks.{IsLive}
 use Rattle.draid_shard.specs.Part.{Part}
 use Rattle.draid_shard.specs.States.{part_of}
 use Rattle.draid_shard.specs.declared.shard.Shard.{Shard}
-use Rattle.draid_shard.proofs.Changed.{arms_then}
 use Rattle.draid_pool.specs.Drifts.{Drifts, KeepsGroups, KeepsOf, groups_number}
 use Rattle.draid_pool.proofs.Drifting.{groups_kept}
 use Rattle.draid_pool.specs.Threads.{AllStay, HasPointer, IsHeldBy, IsWholeBut, Stays}
+use Rattle.draid_pool.proofs.Arms.{share_then}
 use Rattle.draid_pool.proofs.Lists.{some_of}
 use Rattle.draid_pool.proofs.ShardSteps.{pointer_on}
 
@@ -91,7 +91,8 @@ module _ {R A : Type 0} (rack : racks.Ghosts R) (mine then_mine : Key → Bool) 
 groups_then : {R A : Type 0} (a b c : Shard R A) → KeepsGroups a b → KeepsGroups b c → KeepsGroups a c
 groups_then a b c x y = record {
   groups = record { open_group_is = y.groups.open_group_is ∙ x.groups.open_group_is; closing = y.groups.closing ∙ x.groups.closing; sealed = y.groups.sealed ∙ x.groups.sealed; committed = y.groups.committed ∙ x.groups.committed };
-  arms = arms_then a.slots b.slots c.slots x.arms y.arms;
+  arms = share_then a.slots b.slots c.slots x.arms y.arms;
+  leaves = λ leaf is. x.leaves leaf (y.leaves leaf is);
   reserve = y.reserve ∙ x.reserve;
 }
 

@@ -36,6 +36,7 @@ use Rattle.draid_pool.specs.Drifts.{Drifts}
 use Rattle.draid_pool.specs.Follows.{FollowsBy}
 use Rattle.draid_pool.specs.Threads.{Between, IsPointerAt, KnowsBut, PointsAt}
 use Rattle.draid_pool.proofs.ShardSteps.{at_here, at_other, live_before, same_entry}
+use Rattle.draid_pool.proofs.Contents.{all_long, same_on}
 use Rattle.draid_pool.proofs.Finds.{Found, found, found_drops, found_later, points_at_on}
 use Rattle.draid_pool.proofs.Owning.{StaysAt, but_drifts}
 
@@ -166,7 +167,7 @@ module _ {R A S : Type 0} (rack : racks.Ghosts R) (area : areas.Ghosts A) (went 
     unseen_step = record {
       each = each_on r now it;
       holds = but_drifts x m here.0 r here.1 owns mine lives pieces now later (λ k seen. stays k (inside k seen) (unseen k seen)) (λ k seen. stays k (inside_live k seen) (unseen_live k seen))
-          (λ k seen. same k (unseen k seen) ∙ f.same k (inside k seen)) knows.holds;
+          (all_long rack area (part_in x m) (pieces m) shard here.0 here.2) (λ k seen. same_on (part_in x m) here.0 (pieces m) f.now now k (same k (unseen k seen)) (f.same k (inside k seen))) knows.holds;
       objects = pointers_on;
       seq = knows.seq;
       floor = knows.floor;

@@ -21,8 +21,9 @@ module _ {R A O : Type 0} (rack : racks.Ghosts R) (area : areas.Ghosts A) (needs
       may.ready before (subst (λ (c : Shard R A). Drifts rack area false owns c before) (sym same) (drifts_not rack area owns before v))
 
   pub owned_holds : (owns : ℕ → Bool) (shards : List (Shard R A)) (m : ℕ) (op done : O) (before after : Shard R A) → MayHold rack area needs relates concerns false owns (λ k. slice_get shards k) m op → slice_get shards m ≡ Some before
-      → relates op before done after → Holds rack area relates concerns (λ b a. (slice_get shards m ≡ Some b) × (slice_set shards m after ≡ slice_set shards m a)) false owns (λ k. slice_get shards k) m op done (λ k. slice_get (slice_set shards m after) k)
-  owned_holds owns shards m op done before after may there related =
+      → relates op before done after → (Same : Type 0) → (after ≡ before → Same)
+      → Holds rack area relates concerns (λ b a. (slice_get shards m ≡ Some b) × (slice_set shards m after ≡ slice_set shards m a) × (a ≡ b → Same)) false owns (λ k. slice_get shards k) m op done (λ k. slice_get (slice_set shards m after) k)
+  owned_holds owns shards m op done before after may there related Same same_then =
       let same : may.shard ≡ before = some_same may.shard before (sym may.there ∙ there) in
       let v : Valid rack before = subst (λ (c : Shard R A). Valid rack c) same may.valid in
       record {
@@ -34,5 +35,5 @@ module _ {R A O : Type 0} (rack : racks.Ghosts R) (area : areas.Ghosts A) (needs
         related = related;
         keeps = may.keeps before after done (owned_needs owns shards m op before may there) related;
         is = λ k. get_set shards m k before after there;
-        went = (there, refl);
+        went = (there, refl, same_then);
       }

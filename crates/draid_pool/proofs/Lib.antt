@@ -6,6 +6,7 @@ pub mod Bytes
 pub mod Closed
 pub mod Commits
 pub mod Committed
+pub mod Contents
 pub mod Counted
 pub mod Counting
 pub mod Dids
@@ -60,6 +61,7 @@ pub mod Roomy
 pub mod RoundSteps
 pub mod SealRecords
 pub mod SealSteps
+pub mod SetAgain
 pub mod ShardSteps
 pub mod Since
 pub mod Steps

@@ -33,9 +33,9 @@ use Rattle.draid_pool.specs.Threads.{AllStay, CarriesBy, IsWholeBy, Knows}
 use Rattle.draid_pool.specs.Whole.{IsWhole}
 use Rattle.draid_pool.specs.declared.pool.Pool.{Pool}
 use Rattle.draid_pool.proofs.Alone.{carries_alone}
-use Rattle.draid_shard.specs.Alike.{KeepsArms}
+use Rattle.draid_shard.specs.Alike.{ShareArms}
 use Rattle.draid_shard.specs.Fits.{IsLeaf}
-use Rattle.draid_pool.proofs.Arms.{Kept, all_kept, leaf_kept}
+use Rattle.draid_pool.proofs.Arms.{Shared, all_shared}
 use Rattle.draid_pool.proofs.Imaged.{LeavesImages, alike_stays, image_kept, keeps_same, keeps_then, leaves_kept, step_keeps}
 use Rattle.draid_pool.proofs.Lists.{get_set_other, get_set_same, present, some_of}
 use Rattle.draid_pool.proofs.Moved.{uber_stays}
@@ -163,10 +163,10 @@ module _ {R A : Type 0} (rack : racks.Ghosts R) (area : areas.Ghosts A) where
             settled = λ key h. held.settled key h refl;
             committed = ap (λ (s : Shard R A). s.committed) (sym same) ∙ ((z.2.groups refl).groups.committed ∙ (is.committed ∙ ap (λ u. group_of (kept_of u)) (sym uber)));
             leaves = λ leaf own. subst (λ u. leaf < ubers.next_leaf_of u) (sym uber)
-                (is.leaves leaf (leaf_kept was.0.slots z.0.slots leaf (z.2.groups refl).arms (subst (λ (s : Shard R A). IsLeaf s.slots leaf) (sym same) own)));
+                (is.leaves leaf ((z.2.groups refl).leaves leaf (subst (λ (s : Shard R A). IsLeaf s.slots leaf) (sym same) own)));
           }
           );
-      alike = all_kept pool.metaslabs.shards.items new.metaslabs.shards.items kept w.alike;
+      alike = all_shared pool.metaslabs.shards.items new.metaslabs.shards.items had w.alike;
       uber = subst (λ u. ubers.Valid area.size u) (sym uber) w.uber;
       uber_layout = same_uber_layout pool.uber new.uber pool.geometry new.geometry uber geometry w.uber_layout;
       objects = λ object pointer at. (let p = by.pointers object pointer at in record { object_is = p.object_is; shard = p.shard; there = p.there; live = p.live });
@@ -174,12 +174,12 @@ module _ {R A : Type 0} (rack : racks.Ghosts R) (area : areas.Ghosts A) where
       low = by.low;
     }
       where
-        kept : (k : ℕ) (s : Shard R A) → slice_get new.metaslabs.shards.items k ≡ Some s → Kept pool.metaslabs.shards.items k s
-        kept k s at =
+        had : (k : ℕ) (s : Shard R A) → slice_get new.metaslabs.shards.items k ≡ Some s → Shared pool.metaslabs.shards.items k s
+        had k s at =
             let was = present pool.metaslabs.shards.items k (let inside = slice_get_within new.metaslabs.shards.items k s at in let many = many_left in omega (arith, inside, many)) in
             let z = stay.each k was.0 was.1 in
             let same : z.0 ≡ s = some_of (left_in new k) z.0 s z.1 at in
-            record { before = was.0; there = was.1; slots = subst (λ (q : Shard R A). KeepsArms was.0.slots q.slots) same (z.2.groups refl).arms }
+            record { before = was.0; there = was.1; slots = subst (λ (q : Shard R A). ShareArms was.0.slots q.slots) same (z.2.groups refl).arms }
 
         floor : new.own.floor ≤ group_of (kept_of new.uber) + 2
         floor =

@@ -1,5 +1,5 @@
 -- What is known of a thread's own objects stays, as others hold the metaslabs.
-use Rattle.std.proofs.Common.{◌≡◌, ◌==◌, ◌≤◌, ◌∙◌, ◌⊎◌, inl, inr, arith, ℕ, Bool, true, false, List, [], ◌∷◌, Some, None, refl, sym, ap, subst, slice_set, cond, if◌then◌else◌}
+use Rattle.std.proofs.Common.{◌≡◌, ◌==◌, ◌≤◌, ◌∙◌, ◌⊎◌, inl, inr, arith, ℕ, Bool, true, false, List, [], ◌∷◌, Some, None, refl, sym, ap, subst, slice_set, length, cond, if◌then◌else◌}
 use Rattle.std.specs.Prelude.{slice_get, option_map}
 use Rattle.std.proofs.lemmas.Bool.{cases_eq, true≢false}
 use Rattle.sha2.specs.Sha256.{sha256}
@@ -10,11 +10,15 @@ use Rattle.draid_machine.specs.After.{is_freed_block}
 use Rattle.draid_machine.proofs.Small.{is_equal, none_some}
 use Rattle.draid_segments.specs.Segments.{Pieces}
 use Rattle.draid_objects.specs.Blocks.{Blocks, Drops, table_of}
-use Rattle.draid_objects.specs.Changes.{Change, Write, key_of, object_of, last_of, write_in, write_of}
+use Rattle.draid_objects.specs.Changes.{Change, Write, key_of, object_of, last_of, write_by, write_in, write_of}
 use Rattle.draid_objects.proofs.Finding.{write_key}
 use Rattle.draid_objects.proofs.Keeping.{commit_floor, commit_kept}
+use Rattle.draid_shard.specs.Part.{Part}
 use Rattle.draid_session.specs.State.{Metaslab, State}
+use Rattle.draid_pool.specs.Bytes.{AreLong, SamePieces}
 use Rattle.draid_pool.specs.Objects.{HoldsObjects, HasPieces, blocks_of}
+use Rattle.draid_pool.specs.Pools.{part_in}
+use Rattle.draid_pool.proofs.Contents.{pieces_by}
 use Rattle.draid_pool.proofs.Lists.{get_set_other, get_set_same, some_of}
 use Rattle.draid_pool.proofs.Moved.{blocks_at, turn, turn_here, turn_other, with_metaslab}
 use Rattle.draid_pool.specs.Threads.{Bounds, HoldsBut, HoldsOwn, all_of, own_blocks, own_changes, own_store}
@@ -31,6 +35,14 @@ pieces_on geometry w pieces now same has = record {
   are = has.are;
   rows = λ c row column inside. ap (λ f. f c row) same ∙ has.rows c row column inside;
 }
+
+-- or the block may have those of other bytes
+pub pieces_since : (part : Part) (x : Metaslab) (pieces now : Pieces) (h : Held) (w : Write) → SamePieces part x pieces now (key_of w) → x.world.core.held (key_of w) ≡ Some h → h.len ≡ length w.bytes → h.digest ≡ sha256 w.bytes
+    → AreLong part.geometry x → HasPieces part.geometry w pieces → HasPieces part.geometry w now
+pieces_since part x pieces now h w (inl same) there len digest long has = pieces_on part.geometry w pieces now same has
+pieces_since part x pieces now h w (inr (g, at, block, bytes)) there len digest long has =
+    let is : h ≡ g = some_of (x.world.core.held (key_of w)) h g there at in
+    pieces_by part.geometry g (key_of w) w now bytes refl (subst (λ (k : Held). k.len ≡ length w.bytes) is len) (subst (λ (k : Held). k.digest ≡ sha256 w.bytes) is digest) (long (key_of w) g at)
 
 bool_is : (b : Bool) → (b ≡ true) ⊎ (b ≡ false)
 bool_is true = inl refl
@@ -120,12 +132,25 @@ module _ (x : State) (m : ℕ) (y z : Metaslab) (at : slice_get x.metaslabs m �
     ]
 
   module _ (owns : ℕ → Bool) (mine lives : ℕ → Key → Bool) (pieces : ℕ → Pieces) (now : Pieces) (later : y.world.committed ≤ z.world.committed)
-      (drops : (k : Key) → mine m k ≡ true → StaysAt y z k) (drops_live : (k : Key) → lives m k ≡ true → StaysAt y z k) (same : (k : Key) → mine m k ≡ true → now k ≡ pieces m k) where
-    same_pieces : (n : ℕ) (k : Key) → mine n k ≡ true → turn m now pieces n k ≡ pieces n k
-    same_pieces n k own = elim (cases_eq n m) [
-      | inl is ↦ subst (λ j. turn m now pieces j k ≡ pieces j k) (sym is) (ap (λ (q : Pieces). q k) (turn_here m now pieces) ∙ same k (ap (λ j. mine j k) (sym is) ∙ own))
-      | inr other ↦ ap (λ (q : Pieces). q k) (turn_other m n now pieces (λ is. omega (arith, is, other)))
+      (drops : (k : Key) → mine m k ≡ true → StaysAt y z k) (drops_live : (k : Key) → lives m k ≡ true → StaysAt y z k) (long : AreLong x.geometry y) (same : (k : Key) → mine m k ≡ true → SamePieces (part_in x m) y (pieces m) now k) where
+    own_bytes : (c : ℕ) → HoldsObjects x.geometry c (own_store owns x.store) (own_blocks mine (blocks_of x.metaslabs)) pieces → (n : ℕ) (k : Key) (h : Held) (w : Write)
+        → own_blocks mine (blocks_of x.metaslabs) n k ≡ Some h → write_by (own_changes owns x.store.changes) k ≡ Some w → HasPieces x.geometry w (turn m now pieces n)
+    own_bytes c o n k h w there by = elim (cases_eq n m) [
+      | inl is ↦
+          subst (λ (j : ℕ). HasPieces x.geometry w (turn m now pieces j)) (sym is)
+          (subst (HasPieces x.geometry w) (sym (turn_here m now pieces)) (here (subst (λ (j : ℕ). own_blocks mine (blocks_of x.metaslabs) j k ≡ Some h) is there)))
+      | inr other ↦ subst (HasPieces x.geometry w) (sym (turn_other m n now pieces (λ is. omega (arith, is, other)))) (o.bytes n k h w there by)
     ]
+      where
+        here : own_blocks mine (blocks_of x.metaslabs) m k ≡ Some h → HasPieces x.geometry w now
+        here there_m =
+            let own = write_key (own_changes owns x.store.changes) k w by in
+            let seen = own_some mine (blocks_of x.metaslabs) m k h there_m in
+            let held : y.world.core.held k ≡ Some h = sym (own_is mine (blocks_of x.metaslabs) m k seen ∙ blocks_at x.metaslabs m y k at) ∙ there_m in
+            let v = o.stores.only m k h there_m (o.settled m k h there_m) in
+            let one : v.0 ≡ w = some_of (write_by (own_changes owns x.store.changes) k) v.0 w v.1 by in
+            pieces_since (part_in x m) y (pieces m) now h w (subst (SamePieces (part_in x m) y (pieces m) now) (sym own) (same k seen)) (ap y.world.core.held own ∙ held)
+            (subst (λ (u : Write). h.len ≡ length u.bytes) one v.3.len) (subst (λ (u : Write). h.digest ≡ sha256 u.bytes) one v.3.digest_is) long (o.bytes m k h w there_m by)
 
     pub but_drifts : HoldsBut owns mine lives x pieces → HoldsBut owns mine lives (with_metaslab x m z) (turn m now pieces)
     but_drifts own = record {
@@ -140,13 +165,10 @@ module _ (x : State) (m : ℕ) (y z : Metaslab) (at : slice_get x.metaslabs m �
           floors = λ object. commit_floor (own_changes owns x.store.changes) (own_blocks mine (blocks_of x.metaslabs)) (own_blocks mine (blocks_of after)) c object x.store.floor (o.floors object) d;
           settled = λ n k h there. o.settled n k h (held_before mine drops n k h there);
           numbered = λ n k h there. o.numbered n k h (held_before mine drops n k h there);
-          bytes = λ n k h w there by.
-              let is : key_of w ≡ k = write_key (own_changes owns x.store.changes) k w by in
-              let seen : mine n (key_of w) ≡ true = ap (λ (j : Key). mine n j) is ∙ own_some mine (blocks_of after) n k h there in
-              pieces_on x.geometry w (pieces n) (turn m now pieces n) (same_pieces n (key_of w) seen) (o.bytes n k h w (held_before mine drops n k h there) by);
+          bytes = λ n k h w there by. own_bytes c o n k h w (held_before mine drops n k h there) by;
         }
 
 -- a metaslab that others held
 pub own_drifts : (owns : ℕ → Bool) (x : State) (m : ℕ) (y z : Metaslab) (pieces : ℕ → Pieces) (now : Pieces) → slice_get x.metaslabs m ≡ Some y → y.world.committed ≤ z.world.committed
-    → ((k : Key) → owns k.object ≡ true → StaysAt y z k) → ((k : Key) → owns k.object ≡ true → now k ≡ pieces m k) → HoldsOwn owns x pieces → HoldsOwn owns (with_metaslab x m z) (turn m now pieces)
-own_drifts owns x m y z pieces now at later drops same own = but_drifts x m y z at owns (all_of owns) (all_of owns) pieces now later drops drops same own
+    → ((k : Key) → owns k.object ≡ true → StaysAt y z k) → AreLong x.geometry y → ((k : Key) → owns k.object ≡ true → SamePieces (part_in x m) y (pieces m) now k) → HoldsOwn owns x pieces → HoldsOwn owns (with_metaslab x m z) (turn m now pieces)
+own_drifts owns x m y z pieces now at later drops long same own = but_drifts x m y z at owns (all_of owns) (all_of owns) pieces now later drops drops long same own

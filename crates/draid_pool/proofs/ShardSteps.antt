@@ -27,7 +27,7 @@ use Rattle.draid_session.specs.Follows.{MetaslabActs, HasNoEvent}
 use Rattle.draid_session.specs.Holds.{AreaFailed, Did, Act, Hold, Looked, MadeLeaf, On, RackFailed, Reserved, view_of}
 use Rattle.draid_session.specs.State.{Metaslab}
 use Rattle.draid_pool.specs.Metaslabs.{IsMetaslab}
-use Rattle.draid_pool.specs.Shards.{FollowsIn, Goes}
+use Rattle.draid_pool.specs.Shards.{FollowsIn, Goes, GoesLater}
 use Rattle.draid_pool.specs.Drifts.{Drifts, KeepsOf, Since, StateStep, is_other}
 use Rattle.draid_pool.specs.Threads.{HasPointer}
 use Rattle.draid_pool.proofs.Since.{nothing_more, since_self, since_then}
@@ -90,7 +90,13 @@ module _ {R A : Type 0} (rack : racks.Ghosts R) (area : areas.Ghosts A) where
   pub state_goes : (of : ℕ → Bool) (old new : Shard R A) (does : Part → Metaslab → List Hold → Metaslab → Type 0)
       → ((part : Part) (pieces : Pieces) (x : Metaslab) → IsMetaslab rack area part pieces old x → Goes rack area part pieces x new (does part x)) → StateStep rack area of old new
   state_goes of old new does goes part pieces x is =
-      let g = goes part pieces x is in record { reached = g.reached; now = pieces; is = g.is; since = follows_since (layout_in part) part.number g.holds x g.reached g.follows; same = λ k mine. refl }
+      let g = goes part pieces x is in record { reached = g.reached; now = pieces; is = g.is; since = follows_since (layout_in part) part.number g.holds x g.reached g.follows; same = λ k mine. inl refl }
+
+  -- so are holds behind which blocks may have the pieces of other bytes of their length and digest
+  pub state_goes_later : (of : ℕ → Bool) (old new : Shard R A) → ((part : Part) (pieces : Pieces) (x : Metaslab) → IsMetaslab rack area part pieces old x → GoesLater rack area part pieces x new) → StateStep rack area of old new
+  state_goes_later of old new goes part pieces x is =
+      let g = goes part pieces x is in
+      record { reached = g.reached; now = g.later; is = g.is; since = follows_since (layout_in part) part.number g.holds x g.reached g.follows; same = λ k mine. g.contents.each k }
 
   -- ---- live blocks
 

@@ -1,5 +1,5 @@
 -- What comes behind a metaslab, by events.
-use Rattle.std.proofs.Common.{◌≡◌, ◌++◌, ◌∙◌, [], ◌∷◌, ℕ, Bool, List, refl, ap, subst}
+use Rattle.std.proofs.Common.{◌≡◌, ◌++◌, ◌∙◌, inl, [], ◌∷◌, ℕ, Bool, List, refl, ap, subst}
 use Rattle.draid_rack.specs.declared.Rack as racks
 use Rattle.draid_area.specs.declared.Area as areas
 use Rattle.draid_machine.specs.declared.event.Event.{Event}
@@ -35,4 +35,4 @@ since_then l x y z a b = record {
 
 module _ {R A : Type 0} (rack : racks.Ghosts R) (area : areas.Ghosts A) where
   pub state_self : (of : ℕ → Bool) (shard : Shard R A) → StateStep rack area of shard shard
-  state_self of shard part pieces x is = record { reached = x; now = pieces; is = is; since = since_self (layout_in part) x; same = λ k mine. refl }
+  state_self of shard part pieces x is = record { reached = x; now = pieces; is = is; since = since_self (layout_in part) x; same = λ k mine. inl refl }

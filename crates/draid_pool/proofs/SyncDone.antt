@@ -1,5 +1,5 @@
 -- A sync by the only thread of a pool: a closing group is finished, and the next one is committed.
-use Rattle.std.proofs.Common.{◌≡◌, ◌<◌, ◌≤◌, ◌∙◌, inl, inr, ℕ, zero, suc, false, List, [], ◌∷◌, Option, None, Some, Ok, Err, length, slice_set, arith, refl, sym, ap, subst}
+use Rattle.std.proofs.Common.{◌≡◌, ◌<◌, ◌≤◌, ◌∙◌, inl, inr, ℕ, zero, suc, false, Option, None, Some, Ok, Err, length, slice_set, arith, refl, sym, ap, subst}
 use Rattle.std.specs.Prelude.{Result, IfOk, IsErrOf, OnOk, nat_eq, slice_get}
 use Rattle.std.specs.HashMap.{get}
 use Rattle.draid_rack.specs.declared.Rack as racks
@@ -25,21 +25,15 @@ use Rattle.draid_pool.specs.declared.owned.Owned.{Owned}
 use Rattle.draid_pool.specs.declared.pool.Pool.{Pool}
 use Rattle.draid_pool.proofs.GroupClosed.{left_by, next_on, went_by, with_owned}
 use Rattle.draid_pool.proofs.GroupDone.{group_all, group_waits, with_both}
-use Rattle.draid_pool.proofs.Holding.{some_same}
 use Rattle.draid_pool.proofs.Keeping.{all_on, all_stay}
 use Rattle.draid_pool.proofs.OwnedKnows.{all}
 use Rattle.draid_pool.proofs.Refusing.{no_refusal}
 use Rattle.draid_pool.proofs.Rises.{areas_named, areas_on, err_on, rose_then}
+use Rattle.draid_pool.proofs.SetAgain.{set_again}
 use Rattle.draid_pool.proofs.SyncCalls.{finish_stops, finishes_none, finishes_some, sync_done, sync_stops, sync_unfinished}
 use Rattle.draid_pool.proofs.SyncSteps.{IdleBelow, below_all, below_more}
 use Rattle.draid_pool.proofs.Wholes.{whole_table}
 use Rattle.draid_pool.proofs.WholeGroups.{closing_low, closing_next}
-
--- what stands there is set again
-pub set_again : {T : Type 0} (xs : List T) (m : ℕ) (x : T) → slice_get xs m ≡ Some x → slice_set xs m x ≡ xs
-set_again [] m x there = absurd (cc)
-set_again (z ∷ xs) zero x there = ap (λ y. y ∷ xs) (some_same x z (sym there))
-set_again (z ∷ xs) (suc m) x there = ap (λ ys. z ∷ ys) (set_again xs m x there)
 
 module _ {R A : Type 0} (rack : racks.Ghosts R) (area : areas.Ghosts A) where
   -- ---- a pool whose metaslabs were looked at

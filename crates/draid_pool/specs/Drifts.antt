@@ -11,13 +11,14 @@ use Rattle.draid_segments.specs.Segments.{Pieces}
 use Rattle.draid_entries.specs.Entries.{held_in}
 use Rattle.draid_entries.specs.History.{reserved_of}
 use Rattle.draid_entries.specs.declared.entries.Entries.{Entries}
-use Rattle.draid_shard.specs.Alike.{KeepsArms}
+use Rattle.draid_shard.specs.Alike.{ShareArms}
 use Rattle.draid_shard.specs.Changes.{SameGroups}
-use Rattle.draid_shard.specs.Fits.{Valid}
+use Rattle.draid_shard.specs.Fits.{IsLeaf, Valid}
 use Rattle.draid_shard.specs.Part.{Part, layout_in}
 use Rattle.draid_shard.specs.States.{part_of}
 use Rattle.draid_shard.specs.declared.shard.Shard.{Shard}
 use Rattle.draid_session.specs.State.{Metaslab}
+use Rattle.draid_pool.specs.Bytes.{SamePieces}
 use Rattle.draid_pool.specs.Metaslabs.{IsMetaslab}
 use Rattle.draid_pool.specs.Passes.{KeepsPass}
 
@@ -30,13 +31,13 @@ pub record Since (l : machine.Layout) (first x : Metaslab) : Type 0 where
   pub stored : x.events ≡ first.events ++ more
   pub run : Run l first.world more x.world
 
--- a shard stands for a metaslab that came from one by events, with the same pieces of the objects of a test
+-- a shard stands for a metaslab that came from one by events, with the same pieces of the objects of a test, but that a block may have those of other bytes of its length and digest
 pub record GoesOn {R A : Type 0} (rack : racks.Ghosts R) (area : areas.Ghosts A) (of : ℕ → Bool) (part : Part) (pieces : Pieces) (x : Metaslab) (new : Shard R A) : Type 0 where
   pub reached : Metaslab
   pub now : Pieces
   pub is : IsMetaslab rack area part now new reached
   pub since : Since (layout_in part) x reached
-  pub same : (k : Key) → of k.object ≡ true → now k ≡ pieces k
+  pub same : (k : Key) → of k.object ≡ true → SamePieces part x pieces now k
 
 -- whatever the one stood for, the other stands for something behind it
 abbrev pub StateStep : {R A : Type 0} → racks.Ghosts R → areas.Ghosts A → (ℕ → Bool) → Shard R A → Shard R A → Type 0
@@ -63,10 +64,12 @@ groups_number = 4_294_967_312
 abbrev pub passes_number : ℕ
 passes_number = 4_294_967_313
 
--- the groups are as they were, and so are the arms, which change with them; as many events are reserved; logs may be others
+-- The groups are as they were, and so are the arms, which come and go with them, but for whether a pass has made them good. No leaf came, and as many events are
+-- reserved. Logs may be others.
 pub record KeepsGroups {R A : Type 0} (old new : Shard R A) : Type 0 where
   pub groups : SameGroups old new
-  pub arms : KeepsArms old.slots new.slots
+  pub arms : ShareArms old.slots new.slots
+  pub leaves : (leaf : ℕ) → IsLeaf new.slots leaf → IsLeaf old.slots leaf
   pub reserve : reserved_of new.history ≡ reserved_of old.history
 
 -- What every hold keeps to: the metaslab is valid, what it has of objects that the hold doesn't concern is as it was, its groups, arms and reserved events are as they were unless

@@ -20,6 +20,7 @@ use Rattle.draid_shard.specs.declared.shard.Shard.{Shard}
 use Rattle.draid_session.specs.Follows.{MetaslabActs}
 use Rattle.draid_session.specs.Holds.{Act, Did, Hold, On, view_of}
 use Rattle.draid_session.specs.State.{Metaslab}
+use Rattle.draid_pool.specs.Bytes.{KeepsContents}
 use Rattle.draid_pool.specs.Importable.{SameArms}
 use Rattle.draid_pool.specs.Metaslabs.{IsMetaslab}
 
@@ -45,6 +46,15 @@ pub record Goes {R A : Type 0} (rack : racks.Ghosts R) (area : areas.Ghosts A) (
   pub images : KeepsImages x.world reached.world
   pub done : does holds reached
   pub is : IsMetaslab rack area part pieces new reached
+
+-- Holds of a metaslab led to one for which the shard stands, where its blocks have these pieces or those of other bytes of their length and digest.
+pub record GoesLater {R A : Type 0} (rack : racks.Ghosts R) (area : areas.Ghosts A) (part : Part) (pieces : Pieces) (x : Metaslab) (new : Shard R A) : Type 0 where
+  pub holds : List Hold
+  pub reached : Metaslab
+  pub follows : FollowsIn (layout_in part) part.number holds x reached
+  pub later : Pieces
+  pub contents : KeepsContents part x pieces later
+  pub is : IsMetaslab rack area part later new reached
 
 -- ---- rooms
 

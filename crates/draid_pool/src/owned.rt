@@ -24,7 +24,8 @@ impl<R: Rack, A: Area> Metaslabs<R, A> for Owned<R, A> {
 
     ghost fits = { λ _. ⊤ };
 
-    ghost went = { λ o m before after o'. (slice_get o.shards.items m ≡ Some before) × (o'.shards.items ≡ slice_set o.shards.items m after) };
+    // A hold that left the metaslab as it was left all so.
+    ghost went = { λ o m before after o'. (slice_get o.shards.items m ≡ Some before) × (o'.shards.items ≡ slice_set o.shards.items m after) × (after ≡ before → o' ≡ o) };
 
     fn hold<O: Act<Shard<R, A>>>(&mut self, metaslab: u32, op: O) -> O {
         let mut op = op;

@@ -17,10 +17,12 @@ use Rattle.draid_session.specs.Passes as passes
 use Rattle.draid_session.specs.Phases.{Starved, WasLast, WasWorn, Broke, Went}
 use Rattle.draid_session.specs.State.{State, Store}
 use Rattle.draid_pool.specs.Carries.{CarriesOut}
+use Rattle.draid_pool.specs.Keeping.{AllArmsStay}
 use Rattle.draid_pool.specs.Passes.{KeepsPasses}
 use Rattle.draid_pool.specs.Pools.{Represents}
 use Rattle.draid_pool.specs.Syncing.{SyncDoes}
 use Rattle.draid_pool.specs.Views.{seen_at}
+use Rattle.draid_pool.specs.Whole.{IsWhole}
 use Rattle.draid_pool.specs.declared.fault.SyncFault.{SyncFault}
 use Rattle.draid_pool.specs.declared.fault.SyncFault.TheVariants as sync
 use Rattle.draid_pool.specs.declared.fault.Synced.{Synced}
@@ -28,6 +30,7 @@ use Rattle.draid_pool.specs.declared.pool.Pool.{Pool}
 use Rattle.draid_pool.proofs.Lists.{present}
 use Rattle.draid_pool.proofs.Looking.{looks_at}
 use Rattle.draid_pool.proofs.SyncSteps.{not_went}
+use Rattle.draid_pool.proofs.Wholes.{whole_geometry}
 use Rattle.draid_changes.specs.Balancing.{OthersAre, OthersDo}
 use Rattle.draid_changes.specs.Behind.{ArmsBehind}
 use Rattle.draid_visits.specs.Rebuilding.{IsLowestPass, RunsWhere, ScrubDoes, ScrubIs, stopped_by}
@@ -42,6 +45,18 @@ use Rattle.draid_visits.proofs.Rebuilt.{behind_looks, finds, found_other}
 use Rattle.draid_run.specs.Rebalancing.{IsHalt, PartIs, RebalanceDoes, stopped_at}
 use Rattle.draid_run.specs.declared.rebalancing.RebalanceFault.TheVariants as fault
 use Rattle.draid_run.specs.declared.rebalancing.Rebalanced.{Rebalanced}
+
+-- a sync leaves the layout
+pub geometry_synced : {R A : Type 0} (rack : racks.Ghosts R) (area : areas.Ghosts A) (old new : Pool R A) → IsWhole rack area old → IsWhole rack area new → AllArmsStay old new → new.geometry ≡ old.geometry
+geometry_synced {R = R} {A = A} rack area old new w v stay =
+    let many = w.many in
+    let some = w.layout.geometry_is.props.some_metaslabs in
+    let long = stay.many in
+    let a = present old.metaslabs.shards.items 0 (omega (arith, many, some)) in
+    let b = present new.metaslabs.shards.items 0 (omega (arith, many, some, long)) in
+    let before : a.0.slots.geometry ≡ old.geometry = (w.shards 0 a.0 a.1).valid.slots.geometry_is ∙ whole_geometry rack area old 0 a.0 w a.1 in
+    let after : b.0.slots.geometry ≡ new.geometry = (v.shards 0 b.0 b.1).valid.slots.geometry_is ∙ whole_geometry rack area new 0 b.0 v b.1 in
+    sym after ∙ ((stay.each 0 a.0 b.0 a.1 b.1).same.geometry_is ∙ before)
 
 -- what is told where the slot's other arms went with this group, or all stay
 abbrev pub told_of : Mended → Option ℕ → Rebalanced

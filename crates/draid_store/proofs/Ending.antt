@@ -54,7 +54,7 @@ use Rattle.draid_pool.specs.Threads.{Between, HoldsBut, HoldsOwn, IsPointerAt, K
 use Rattle.draid_store.specs.Open.{KnowsOpen, KnowsReplaced}
 use Rattle.draid_store.specs.Writing.{EndsIn, FinishesShard}
 use Rattle.draid_pool.proofs.ShardSteps.{at_here}
-use Rattle.draid_pool.proofs.Finds.{Found, all_low, bound_in}
+use Rattle.draid_pool.proofs.Finds.{Found, all_low, bound_in, found_ticket}
 use Rattle.draid_pool.proofs.Hiding.{but_here, but_inside, seen_set, unhide}
 use Rattle.draid_pool.proofs.HoldStep.{f, follows, here, unseen_step}
 use Rattle.draid_pool.proofs.Owning.{own_is, own_some, write_own}
@@ -151,6 +151,13 @@ module _ {R A S : Type 0} (rack : racks.Ghosts R) (area : areas.Ghosts A) (went 
     led : held_in before.entries (key_of ticket.pointer) ≡ Some (held_at (staged (stage.Writing ticket.next ticket.missed) ticket.pointer))
     led = key_leads before.entries ticket.pointer.first (staged (stage.Writing ticket.next ticket.missed) ticket.pointer) fin.carried.is_open
 
+    -- its pieces are those that it had
+    pub pieces_stay : z.now (key_of ticket.pointer) ≡ open_.pieces m (key_of ticket.pointer)
+    pieces_stay =
+        let y = here rack area went shared owns a b last new m shard before after there drifts valid is goes seen seen table seq floor open_.pieces x open_.but_it in
+        found_ticket rack area shared owns shard before drifts (part_in x m) (open_.pieces m) z.now y.0 y.2 (key_of ticket.pointer)
+        (held_at (staged (stage.Writing ticket.next ticket.missed) ticket.pointer)) open_.own led refl (z.same (key_of ticket.pointer) open_.own)
+
     -- its bytes are known
     ended_bytes : (h : Held) → z.z.world.core.held (key_of ticket.pointer) ≡ Some h → KnowsBlock x.geometry h (key_of ticket.pointer) z.now
     ended_bytes h at column row some = subst (λ (i : Held). HasBytes x.geometry i (key_of ticket.pointer) z.now)
@@ -162,7 +169,7 @@ module _ {R A S : Type 0} (rack : racks.Ghosts R) (area : areas.Ghosts A) (went 
           bytes = fin.carried.content.bytes;
           columns = block.columns;
           are = subst (λ cut. AreColumns cut block.bytes block.columns) (fin.carried.cut ∙ ap (λ (q : Part). cut_of q.geometry) z.is.part_is) fin.carried.columns;
-          rows = λ c r below inside. ap (λ f. f c r) (z.same (key_of ticket.pointer) open_.own) ∙ open_.rows c r (subst (λ n. c < n) (sym (fin.all ∙ ap (λ (q : Part). q.geometry.g) z.is.part_is)) below) inside;
+          rows = λ c r below inside. ap (λ f. f c r) pieces_stay ∙ open_.rows c r (subst (λ n. c < n) (sym (fin.all ∙ ap (λ (q : Part). q.geometry.g) z.is.part_is)) below) inside;
         })
 
     pub d : Done rack area (part_in x m) z.now after (event.Finish (key_of ticket.pointer)) z.z
@@ -291,7 +298,7 @@ module _ {R A S : Type 0} (rack : racks.Ghosts R) (area : areas.Ghosts A) (went 
         are = subst (λ cut. AreColumns cut block.bytes block.columns) (fin.carried.cut ∙ ap (λ (q : Part). cut_of q.geometry) z.is.part_is) fin.carried.columns;
         rows = λ c row column inside.
             ap (λ (q : Pieces). q (changes.key_of w) c row) (turn_here m z.now open_.pieces)
-            ∙ subst (λ k. z.now k c row ≡ Some (row_bytes x.geometry.props.sector (column_at block.columns c) row)) key_w (ap (λ h. h c row) (z.same (key_of ticket.pointer) open_.own)
+            ∙ subst (λ k. z.now k c row ≡ Some (row_bytes x.geometry.props.sector (column_at block.columns c) row)) key_w (ap (λ h. h c row) (pieces_stay (Ok pointer) fin (Some (staged stage.Live ticket.pointer)) fin.ends.2)
             ∙ open_.rows c row (subst (λ n. c < n) (sym whole) column) (subst (λ n. row < n) (sym stripes) inside));
       }
 

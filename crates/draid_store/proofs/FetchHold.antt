@@ -31,11 +31,12 @@ use Rattle.draid_pool.specs.Objects.{HasPieces, HoldsObjects, blocks_of}
 use Rattle.draid_pool.specs.Pools.{part_in}
 use Rattle.draid_pool.specs.Shards.{FollowsIn, Goes}
 use Rattle.draid_pool.specs.Threads.{CarriesBy, IsPointerAt, Knows, all_of, own_blocks, own_changes, own_store}
+use Rattle.draid_pool.proofs.Contents.{all_long}
 use Rattle.draid_pool.proofs.Finds.{Found, all_low, bound_in, found_drops, found_later, looks, pointed_at, pointed_nowhere, points_at_on}
 use Rattle.draid_pool.proofs.HoldStep.{each_on, f, follows, here, live_key, pointer_at_on}
-use Rattle.draid_pool.proofs.Moved.{turn, with_metaslab}
+use Rattle.draid_pool.proofs.Moved.{blocks_at, turn, with_metaslab}
 use Rattle.draid_pool.proofs.OneHold.{worn_is}
-use Rattle.draid_pool.proofs.Owning.{StaysAt, own_drifts, pieces_on, write_own}
+use Rattle.draid_pool.proofs.Owning.{StaysAt, own_drifts, own_is, pieces_since, write_own}
 use Rattle.draid_pool.proofs.ShardSteps.{acts_one}
 use Rattle.draid_store.specs.Answers.{FetchDoes, NoFetch}
 use Rattle.draid_store.specs.Fetching.{FetchesBlock, FetchesNone, FetchesShard}
@@ -84,7 +85,10 @@ module _ {R A S : Type 0} (rack : racks.Ghosts R) (area : areas.Ghosts A) (went 
       let live = last_live sha256 c object cs (own_blocks (all_of owns) (blocks_of x.metaslabs)) w holds.stores last_w in
       let has : HasPieces x.geometry w (knows.pieces w.metaslab) = holds.bytes w.metaslab (key_of w) live.0 w live.1 (by_last cs object w last_w) in
       let mine : owns w.object ≡ true = ap owns (write_object x.store.changes object w found_w.1) ∙ own in
-      pieces_on x.geometry w (knows.pieces p.metaslab) z.now (z.same (key_of w) mine) (subst (λ n. HasPieces x.geometry w (knows.pieces n)) (sym of.metaslab_is) has)
+      let here_w : own_blocks (all_of owns) (blocks_of x.metaslabs) p.metaslab (key_of w) ≡ Some live.0 = subst (λ n. own_blocks (all_of owns) (blocks_of x.metaslabs) n (key_of w) ≡ Some live.0) (sym of.metaslab_is) live.1 in
+      let held : y.0.world.core.held (key_of w) ≡ Some live.0 = sym (own_is (all_of owns) (blocks_of x.metaslabs) p.metaslab (key_of w) mine ∙ blocks_at x.metaslabs p.metaslab y.0 (key_of w) y.1) ∙ here_w in
+      pieces_since (part_in x p.metaslab) y.0 (knows.pieces p.metaslab) z.now live.0 w (z.same (key_of w) mine) held live.3.len live.3.digest_is
+      (all_long rack area (part_in x p.metaslab) (knows.pieces p.metaslab) shard y.0 y.2) (subst (λ n. HasPieces x.geometry w (knows.pieces n)) (sym of.metaslab_is) has)
 
   geometry : IsGeometry x.geometry
   geometry = subst (λ (q : Part). IsGeometry q.geometry) z.is.part_is z.is.valid.part.layout.geometry_is
@@ -112,7 +116,7 @@ module _ {R A S : Type 0} (rack : racks.Ghosts R) (area : areas.Ghosts A) (went 
       pieces = turn p.metaslab z.now knows.pieces;
       but_it = record {
         each = each_on rack area went shared owns a b last new p.metaslab shard before after there drifts valid is goes (all_of owns) (all_of owns) table seq floor knows.pieces x knows.but_it r z.now it;
-        holds = own_drifts owns x p.metaslab y.0 r knows.pieces z.now y.1 later stays z.same knows.but_it.holds;
+        holds = own_drifts owns x p.metaslab y.0 r knows.pieces z.now y.1 later stays (all_long rack area (part_in x p.metaslab) (knows.pieces p.metaslab) shard y.0 y.2) z.same knows.but_it.holds;
         objects = λ q own_q. points_at_on last new (table q) (write_of x.store.changes q)
             (λ t u t_is u_is pt. pointer_at_on rack area went shared owns a b last new p.metaslab shard before after there drifts valid is goes (all_of owns) (all_of owns) table seq floor knows.pieces x knows.but_it q t u own_q (pt.object_is ∙ write_object x.store.changes q u u_is)
             (λ same live. live_key rack before after t drifts.valid valid part (blocks.entries.held (maps.key_of t)) live) pt) (knows.but_it.objects q own_q);

@@ -35,6 +35,7 @@ use Rattle.draid_store.specs.Frees.{FreesBlock, IsEarly, TriesFree}
 use Rattle.draid_pool.specs.Threads.{CarriesBy, HoldsOwn, IsPointerAt, Knows, PointsAt, all_of}
 use Rattle.draid_pool.proofs.ShardSteps.{acts_one, live_on}
 use Rattle.draid_store.proofs.FreeKnown.{own_freed}
+use Rattle.draid_pool.proofs.Contents.{all_long}
 use Rattle.draid_pool.proofs.Finds.{Found, found_drops, found_later, pointed_at, pointed_nowhere, points_at_on}
 use Rattle.draid_pool.proofs.Glances.{early_still, look_step}
 use Rattle.draid_pool.proofs.HoldStep.{each_on, f, follows, here, pointer_at_on}
@@ -61,7 +62,7 @@ module _ {R A S : Type 0} (rack : racks.Ghosts R) (area : areas.Ghosts A) (went 
 
   holds_found : HoldsOwn owns (with_metaslab x m z.z) pieces
   holds_found = own_drifts owns x m y.0 z.z knows.pieces z.now y.1 (found_later rack area shared owns shard before drifts (part_in x m) (knows.pieces m) z.now y.0 z.z y.2 z.is)
-      (found_drops rack area shared owns shard before drifts (part_in x m) (knows.pieces m) z.now y.0 z.z y.2 z.is) z.same knows.but_it.holds
+      (found_drops rack area shared owns shard before drifts (part_in x m) (knows.pieces m) z.now y.0 z.z y.2 z.is) (all_long rack area (part_in x m) (knows.pieces m) shard y.0 y.2) z.same knows.but_it.holds
 
   other_object : (q : ℕ) → (object ≡ q → ⊥) → is_other (Some object) q ≡ true
   other_object q not = ap (λ c. if c then false else true) (ne_eqb object q not)

@@ -13,7 +13,7 @@ use Rattle.draid_shard.specs.Changes.{DoesNothing, SetsBlock}
 use Rattle.draid_shard.specs.declared.shard.Shard.{Shard}
 use Rattle.draid_pool.specs.Drifts.{KeepsGroups, KeepsOf, KeepsTo, StateStep, is_other}
 use Rattle.draid_store.specs.Frees.{FreesBlock, FreesShard, IsEarly}
-use Rattle.draid_pool.proofs.Drifting.{keeps_self, same_groups, same_pass}
+use Rattle.draid_pool.proofs.Drifting.{groups_by, keeps_self, same_groups, same_pass}
 use Rattle.draid_pool.proofs.ShardSteps.{sets_others, state_goes}
 use Rattle.draid_pool.proofs.Since.{state_self}
 
@@ -23,10 +23,10 @@ same_key p w object seq = λ i. record { object = object i; seq = seq i }
 
 -- a block that is set leaves the groups and the arms, and so does what does nothing, where as many events are reserved
 pub sets_groups : {R A : Type 0} (old new : Shard R A) (p : Pointer) (entry : Option Entry) → SetsBlock old new p entry → SameReserve old new → KeepsGroups old new
-sets_groups old new p entry sets reserve = record { groups = sets.groups; arms = sets.slots; reserve = reserve.reserved }
+sets_groups old new p entry sets reserve = groups_by old new sets.groups sets.slots reserve.reserved
 
 pub nothing_groups : {R A : Type 0} (old new : Shard R A) → DoesNothing old new → SameReserve old new → KeepsGroups old new
-nothing_groups old new none reserve = record { groups = none.keeps.groups; arms = none.slots; reserve = reserve.reserved }
+nothing_groups old new none reserve = groups_by old new none.keeps.groups none.slots reserve.reserved
 
 module _ {R A : Type 0} (rack : racks.Ghosts R) (area : areas.Ghosts A) where
   pub free_groups : (x y : Shard R A) (p : Pointer) (floor : ℕ) (out : Option ℕ) → FreesShard rack area x p floor out y → KeepsGroups x y

@@ -40,6 +40,7 @@ use Rattle.draid_store.specs.Frees.{FreesBlock}
 use Rattle.draid_pool.specs.Threads.{HoldsBut, HoldsOwn, IsPointerAt, Knows, LeadsBy, PointsAt, all_of, but, own_blocks, own_changes, own_store}
 use Rattle.draid_store.specs.Open.{KnowsEarlier}
 use Rattle.draid_pool.proofs.ShardSteps.{acts_one}
+use Rattle.draid_pool.proofs.Contents.{all_long}
 use Rattle.draid_pool.proofs.Finds.{Found, all_low, bound_in, found_drops, found_later, points_at_on}
 use Rattle.draid_pool.proofs.Hiding.{but_away, but_inside, own_set}
 use Rattle.draid_pool.proofs.HoldStep.{each_on, f, follows, here, live_key, pointer_at_on}
@@ -113,7 +114,7 @@ module _ {R A S : Type 0} (rack : racks.Ghosts R) (area : areas.Ghosts A) (went 
   found_it : HoldsBut owns (all_of owns) lives (with_metaslab x p.metaslab z.z) pieces_then
   found_it = but_drifts x p.metaslab y_here.0 z.z y_here.1 owns (all_of owns) lives known.pieces z.now
       (found_later rack area shared owns shard before drifts (part_in x p.metaslab) (known.pieces p.metaslab) z.now y_here.0 z.z y_here.2 z.is) stays
-      (λ k seen. stays k (but_inside (all_of owns) p.metaslab (key_of p) p.metaslab k seen)) z.same known.but_it.holds
+      (λ k seen. stays k (but_inside (all_of owns) p.metaslab (key_of p) p.metaslab k seen)) (all_long rack area (part_in x p.metaslab) (known.pieces p.metaslab) shard y_here.0 y_here.2) z.same known.but_it.holds
 
   differs : changes.key_of known.newer ≢ key_of p
   differs same = (let seqs = ap (λ (k : Key). k.seq) same in let less = known.later in omega (arith, seqs, less))

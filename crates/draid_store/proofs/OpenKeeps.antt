@@ -87,7 +87,7 @@ module _ {R A : Type 0} (rack : racks.Ghosts R) (area : areas.Ghosts A) where
               now = pieces;
               is = none_here rack area part pieces x y u is b.valid none.none b.kit.rack b.kit.areas b.reserve.limit b.reserve.reserved;
               since = since_self (layout_in part) u;
-              same = λ k mine. refl;
+              same = λ k mine. inl refl;
             };
           }
 

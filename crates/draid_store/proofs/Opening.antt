@@ -37,7 +37,7 @@ use Rattle.draid_pool.specs.Threads.{Knows, KnowsBut, LeadsBy, all_of, but}
 use Rattle.draid_store.specs.Open.{KnowsOpen}
 use Rattle.draid_store.specs.Writing.{BeginsBlock, BeginsIn, PutsShard}
 use Rattle.draid_store.proofs.Column.{column_for, one_column_more, others_same, put_column}
-use Rattle.draid_pool.proofs.Finds.{Found}
+use Rattle.draid_pool.proofs.Finds.{Found, found_ticket}
 use Rattle.draid_pool.proofs.Hiding.{but_here, but_inside, hide, unused_own}
 use Rattle.draid_pool.proofs.HoldStep.{f, follows, here, unseen_step}
 
@@ -147,6 +147,14 @@ module _ {R A S : Type 0} (rack : racks.Ghosts R) (area : areas.Ghosts A) (went 
         let same : held_at (staged (stage.Writing ticket.next ticket.missed) ticket.pointer) ≡ h = some_of (held_in before.entries (key_of ticket.pointer)) (held_at (staged (stage.Writing ticket.next ticket.missed) ticket.pointer)) h led there_h in
         writing_live ticket.next ticket.missed (ap (λ (i : Held). i.stage) same ∙ live)
 
+    -- its pieces are those that it had
+    pieces_stay : g.now (key_of ticket.pointer) ≡ open_.pieces m (key_of ticket.pointer)
+    pieces_stay =
+        let y = here rack area went shared owns a b last new m shard before after there drifts valid is goes seen seen table seq floor open_.pieces x open_.but_it in
+        let led = key_leads before.entries ticket.pointer.first (staged (stage.Writing ticket.next ticket.missed) ticket.pointer) put.carried.is_open in
+        found_ticket rack area shared owns shard before drifts (part_in x m) (open_.pieces m) g.now y.0 y.2 (key_of ticket.pointer)
+        (held_at (staged (stage.Writing ticket.next ticket.missed) ticket.pointer)) open_.own led refl (g.same (key_of ticket.pointer) open_.own)
+
     key_now : key_of now.pointer ≡ key_of ticket.pointer
     key_now = ap key_of put.puts.pointer
 
@@ -156,7 +164,7 @@ module _ {R A S : Type 0} (rack : racks.Ghosts R) (area : areas.Ghosts A) (went 
         (subst (λ (t : ℕ × Pointer). ArePieces x.geometry.props.sector t.0 t.1.stripes block.columns (key_of t.1) columns_now) (λ i. (sym put.puts.next i, sym put.puts.pointer i))
         (subst (λ n. ArePieces x.geometry.props.sector (ticket.next + 1) ticket.pointer.stripes block.columns (key_of ticket.pointer) (column_for (key_of ticket.pointer) ticket.next n block.columns g.now)) (sym size)
         (one_column_more (key_of ticket.pointer) ticket.next x.geometry.props.sector ticket.pointer.stripes block.columns g.now
-        (λ c row less inside. ap (λ h. h c row) (g.same (key_of ticket.pointer) open_.own) ∙ open_.rows c row less inside))))
+        (λ c row less inside. ap (λ h. h c row) pieces_stay ∙ open_.rows c row less inside))))
       where
         size : before.geometry.props.sector ≡ x.geometry.props.sector
         size = ap (λ (q : Part). q.geometry.props.sector) g.is.part_is

@@ -1,5 +1,5 @@
 -- A put keeps to what every hold keeps to, on both sides.
-use Rattle.std.proofs.Common.{◌≡◌, [], ◌∷◌, Some, arith, refl}
+use Rattle.std.proofs.Common.{◌≡◌, inl, [], ◌∷◌, Some, arith, refl}
 use Rattle.draid_rack.specs.declared.Rack as racks
 use Rattle.draid_area.specs.declared.Area as areas
 use Rattle.draid_block.specs.Blocks.{BlockValue}
@@ -32,6 +32,6 @@ put_keeps rack area x y before now block valid areas_are reserve pass put carrie
         now = column_for (key_of before.pointer) before.next x.geometry.props.sector block.columns pieces;
         is = d.is;
         since = record { opened = d.acts.opened; more = Put (key_of before.pointer) put.landed put.failed ∷ []; stored = d.acts.stored; run = (d.reached.world, d.step, refl) };
-        same = λ k mine. others_same (key_of before.pointer) before.next x.geometry.props.sector block.columns pieces k (other_key before.pointer k mine);
+        same = λ k mine. inl (others_same (key_of before.pointer) before.next x.geometry.props.sector block.columns pieces k (other_key before.pointer k mine));
       };
 }

@@ -1,5 +1,5 @@
 -- The begin and the end of a write keep to what every hold keeps to, on both sides.
-use Rattle.std.proofs.Common.{◌≡◌, [], ◌∷◌, ℕ, Bool, Option, Some, arith, refl}
+use Rattle.std.proofs.Common.{◌≡◌, inl, [], ◌∷◌, ℕ, Bool, Option, Some, arith, refl}
 use Rattle.draid_names.specs.declared.pointer.Pointer.{Pointer}
 use Rattle.draid_rack.specs.declared.Rack as racks
 use Rattle.draid_area.specs.declared.Area as areas
@@ -30,7 +30,7 @@ module _ {R A : Type 0} (rack : racks.Ghosts R) (area : areas.Ghosts A) where
   pub state_done : (of : ℕ → Bool) (old new : Shard R A) (e : Event) → ((part : Part) (pieces : Pieces) (x : Metaslab) → IsMetaslab rack area part pieces old x → Done rack area part pieces new e x) → StateStep rack area of old new
   state_done of old new e done part pieces x is =
       let d = done part pieces x is in
-      record { reached = d.reached; now = pieces; is = d.is; since = record { opened = d.acts.opened; more = e ∷ []; stored = d.acts.stored; run = (d.reached.world, d.step, refl) }; same = λ k mine. refl }
+      record { reached = d.reached; now = pieces; is = d.is; since = record { opened = d.acts.opened; more = e ∷ []; stored = d.acts.stored; run = (d.reached.world, d.step, refl) }; same = λ k mine. inl refl }
 
   one_keeps : (x y : Shard R A) (p : Pointer) (entry : Option Entry) (e : Event) → Valid rack y → Does x y e → SameReserve x y → y.pass ≡ x.pass → SetsBlock x y p entry
       → StateStep rack area (is_other (Some p.object)) x y → KeepsTo rack area x y (Some p.object)
@@ -61,5 +61,5 @@ module _ {R A : Type 0} (rack : racks.Ghosts R) (area : areas.Ghosts A) where
         now = now;
         is = d.is;
         since = record { opened = d.acts.opened; more = event.Finish (key_of p) ∷ []; stored = d.acts.stored; run = (d.reached.world, d.step, refl) };
-        same = λ k mine. forget_same (key_of p) pieces k (other_key p k mine);
+        same = λ k mine. inl (forget_same (key_of p) pieces k (other_key p k mine));
       })

@@ -91,6 +91,10 @@ module _ (x : State) (kind : PassKind) (marks : List Bool) (m : ℕ) (y : Metasl
 pub none_left : (x : State) (kind : PassKind) (marks : List Bool) (m : ℕ) (at : Progress) → length x.metaslabs ≤ m → FromOn x kind marks at m (record { o = passes.Ended; tally = tally_of at }) []
 none_left x kind marks m at end = subst (Of x kind marks at (record { o = passes.Ended; tally = tally_of at }) []) (sym (views_end 0 m x.metaslabs end)) (refl, refl, refl)
 
+-- there is none from a number on, nor from the next one
+past_end : (x : State) (kind : PassKind) (marks : List Bool) (m : ℕ) (at : Progress) (e : VisitsEnd) (holds : List Hold) → length x.metaslabs ≤ m → FromOn x kind marks at (m + 1) e holds → FromOn x kind marks at m e holds
+past_end x kind marks m at e holds past is = subst (Of x kind marks at e holds) (views_end 0 (m + 1) x.metaslabs (omega (arith, past)) ∙ sym (views_end 0 m x.metaslabs past)) is
+
 -- ---- a pool
 
 module _ {R A : Type 0} (rack : racks.Ghosts R) (area : areas.Ghosts A) (kind : PassKind) (marks : List Bool) (old : Progress) where
@@ -103,6 +107,16 @@ module _ {R A : Type 0} (rack : racks.Ghosts R) (area : areas.Ghosts A) (kind : 
     reached = l.reached;
     follows = l.follows;
     leads = λ e rest is. l.leads e rest (passed_by x kind marks m y there at e rest none is);
+    represents = l.represents;
+  }
+
+  -- there is none
+  pub visiting_past : (m : ℕ) (pool : Pool R A) (x : State) (at : Progress) → length x.metaslabs ≤ m → Visiting at m pool x → Visiting at (m + 1) pool x
+  visiting_past m pool x at past l = record {
+    holds = l.holds;
+    reached = l.reached;
+    follows = l.follows;
+    leads = λ e rest is. l.leads e rest (past_end x kind marks m at e rest past is);
     represents = l.represents;
   }
 

@@ -19,7 +19,7 @@ use Rattle.draid_machine.specs.declared.names.Held.{Held}
 use Rattle.draid_machine.specs.declared.names.Key.{Key}
 use Rattle.draid_machine.specs.declared.names.ArmName.{ArmName}
 use Rattle.draid_machine.specs.declared.event.Patched.{Patched}
-use Rattle.draid_machine.specs.Names.{any_below, key_eq}
+use Rattle.draid_machine.specs.Names.{any_below, is_block, key_eq}
 use Rattle.draid_machine.specs.After.{has_landed, rewritten}
 use Rattle.draid_machine.specs.State as machine
 use Rattle.draid_machine.specs.Step.{Step}
@@ -51,16 +51,17 @@ use Rattle.draid_session.specs.Holds.{Did, On, view_of}
 use Rattle.draid_session.specs.Passes as passes
 use Rattle.draid_session.specs.State.{Metaslab}
 use Rattle.draid_pool.specs.Metaslabs.{IsMetaslab}
-use Rattle.draid_pool.specs.Shards.{Goes, SameBlocks}
+use Rattle.draid_pool.specs.Shards.{FollowsIn, Goes, GoesLater, SameBlocks}
 use Rattle.draid_pool.proofs.Dids as dids
 use Rattle.draid_pool.proofs.Dids.{none_here}
 use Rattle.draid_pool.proofs.Imaged.{keeps_then}
-use Rattle.draid_pool.specs.Bytes.{HasBytes, KnowsBlocks}
-use Rattle.draid_visits.specs.Pieces.{GoesTo, SameContents}
+use Rattle.draid_pool.specs.Bytes.{HasBytes, KeepsContents, KnowsBlocks, SamePieces}
+use Rattle.draid_visits.specs.Pieces.{GoesTo}
 use Rattle.draid_visits.specs.Steps.{HasContents, MovesOn, NextIs}
 use Rattle.draid_visits.specs.declared.steps.Next.TheVariants as next
 use Rattle.draid_visits.proofs.Beyond.{beyond, no_block}
 use Rattle.draid_visits.proofs.Landed.{Lands, landed_to}
+use Rattle.draid_visits.proofs.Lifting.{contents_by}
 use Rattle.draid_visits.proofs.Over.{told_worn}
 use Rattle.draid_visits.proofs.Started.{fits}
 use Rattle.draid_visits.proofs.PassSteps.{Leaves, block_leaves, pieces_either, raised, rebuild_did, rebuild_leaves}
@@ -129,30 +130,33 @@ writes_rows : (sector g stripes : ℕ) (own : Key) (o : Option BlockValue) (piec
 writes_rows sector g stripes own None pieces = tt
 writes_rows sector g stripes own (Some block) pieces = λ c row less low. ap (λ (f : ℕ → ℕ → Option (List ℕ)). f c row) (written_own sector own block pieces)
 
--- each block has the pieces that it had, or those of the restored one
+-- each key has the pieces that it had, or is the block's and has those of the restored one
 kept_or : (geometry : Geometry) (lent : LentBlock) (pieces : Pieces) (k : Key) (h : Held) → ((block : BlockValue) → lent.restored ≡ Some block → IsRight geometry lent.pointer block)
-    → (key_of lent.pointer ≡ k → (h.len ≡ lent.pointer.len) × (h.digest ≡ lent.pointer.digest) × (h.stripes ≡ lent.pointer.stripes)) → (o : Option BlockValue) → lent.restored ≡ o
-    → (written_of geometry.props.sector (key_of lent.pointer) o pieces k ≡ pieces k) ⊎ HasBytes geometry h k (written_of geometry.props.sector (key_of lent.pointer) o pieces)
-kept_or geometry lent pieces k h right here None is = inl refl
-kept_or geometry lent pieces k h right here (Some block) is = by (key_eq (key_of lent.pointer) k) refl
+    → h.len ≡ lent.pointer.len → h.digest ≡ lent.pointer.digest → (o : Option BlockValue) → lent.restored ≡ o
+    → (written_of geometry.props.sector (key_of lent.pointer) o pieces k ≡ pieces k) ⊎ ((key_of lent.pointer ≡ k) × HasBytes geometry h k (written_of geometry.props.sector (key_of lent.pointer) o pieces))
+kept_or geometry lent pieces k h right len digest None is = inl refl
+kept_or geometry lent pieces k h right len digest (Some block) is = by (key_eq (key_of lent.pointer) k) refl
   where
     by : (b : Bool) → key_eq (key_of lent.pointer) k ≡ b
-        → (written_of geometry.props.sector (key_of lent.pointer) (Some block) pieces k ≡ pieces k) ⊎ HasBytes geometry h k (written_of geometry.props.sector (key_of lent.pointer) (Some block) pieces)
+        → (written_of geometry.props.sector (key_of lent.pointer) (Some block) pieces k ≡ pieces k)
+        ⊎ ((key_of lent.pointer ≡ k) × HasBytes geometry h k (written_of geometry.props.sector (key_of lent.pointer) (Some block) pieces))
     by false other = inl (written_other geometry.props.sector (key_of lent.pointer) (Some block) pieces k other)
     by true same =
         let own = key_true (key_of lent.pointer) k same in
         let r = right block is in
-        let z = here own in
-        inr (record {
-          content = block.bytes;
-          len = r.len ∙ sym z.0;
-          digest = r.digest ∙ sym z.1;
-          bytes = r.bytes;
-          columns = block.columns;
-          are = r.are;
-          rows = subst (λ j. ArePieces geometry.props.sector geometry.g h.stripes block.columns j (written_of geometry.props.sector (key_of lent.pointer) (Some block) pieces)) own
-              (writes_rows geometry.props.sector geometry.g h.stripes (key_of lent.pointer) (Some block) pieces);
-        })
+        inr (
+          own,
+          record {
+            content = block.bytes;
+            len = r.len ∙ sym len;
+            digest = r.digest ∙ sym digest;
+            bytes = r.bytes;
+            columns = block.columns;
+            are = r.are;
+            rows = subst (λ j. ArePieces geometry.props.sector geometry.g h.stripes block.columns j (written_of geometry.props.sector (key_of lent.pointer) (Some block) pieces)) own
+                (writes_rows geometry.props.sector geometry.g h.stripes (key_of lent.pointer) (Some block) pieces);
+          },
+        )
 
 -- ---- where the pass stands then
 
@@ -261,7 +265,7 @@ module _ {R A : Type 0} (rack : racks.Ghosts R) (area : areas.Ghosts A) (old len
     is = mid;
   }
 
-  module _ (contents_are : HasContents part pieces x) (new : Shard R A) (solves : RestoresLoan lent.geometry lent.kept solved.kept) (told repaired : ℕ) (least : repaired ≡ min told (2 ^ 8)) (new_valid : Valid rack new) (new_areas : SameAreas solved new) (landed : lands.LandsUnit rack solved new told)
+  module _ (new : Shard R A) (solves : RestoresLoan lent.geometry lent.kept solved.kept) (told repaired : ℕ) (least : repaired ≡ min told (2 ^ 8)) (new_valid : Valid rack new) (new_areas : SameAreas solved new) (landed : lands.LandsUnit rack solved new told)
       (new_reserve : SameReserve solved new) where
     r : RestoresLent lent.geometry unit.lent solved.kept
     r = restored_of lent.geometry lent.kept solved.kept unit.lent unit.lent_is solves
@@ -305,6 +309,19 @@ module _ {R A : Type 0} (rack : racks.Ghosts R) (area : areas.Ghosts A) (old len
         let n : step.n ≡ block_loan landed.lent = some_same y.world.loan step.n (block_loan landed.lent) step.counts.loan loan_there in
         written_other part.geometry.props.sector (key_of landed.lent.pointer) landed.lent.restored pieces key (subst (λ (z : machine.Loan). key_eq z.key key ≡ false) n other)
 
+    abbrev own : Held
+    own = held_at (staged unit.here.stage landed.lent.pointer)
+
+    is_block_there : is_block own.stage ≡ true
+    is_block_there = unit.here.block
+
+    -- of each key the pieces that are written are those that there were, or the key is the block's
+    written_at : (k : Key) → SamePieces part x pieces written k
+    written_at k = elim (kept_or part.geometry landed.lent pieces k own right refl refl landed.lent.restored refl) [
+      | inl same ↦ inl same
+      | inr has ↦ inr (own, subst (λ j. x.world.core.held j ≡ Some own) has.0 (sym (ap (λ f. f (key_of landed.lent.pointer)) one_leaves.held) ∙ held_there), is_block_there, has.1)
+    ]
+
     -- what is known of the blocks then
     known : (v : machine.State) (step : Step (layout_by solved) y.world e v) → KnowsBlocks solved.geometry (segments.pieces_after (layout_by solved) y.world e v step pieces written) v.core.held
     known v step = subst (λ g. KnowsBlocks g (segments.pieces_after (layout_by solved) y.world e v step pieces written) v.core.held) (sym solved_geometry) on
@@ -313,15 +330,12 @@ module _ {R A : Type 0} (rack : racks.Ghosts R) (area : areas.Ghosts A) (old len
         held_as = (block_leaves (layout_by solved) y.world v landed.pass.number landed.lent.serial landed.failed landed.patched (is_none landed.lent.restored) step).held
 
         of : KnowsBlocks part.geometry written v.core.held
-        of k h at block column row some = elim (kept_or part.geometry landed.lent pieces k h right
-            (λ own_key.
-            (let same : h ≡ held_at (staged unit.here.stage landed.lent.pointer) = some_same (y.world.core.held k) h (held_at (staged unit.here.stage landed.lent.pointer)) (sym (ap (λ f. f k) held_as) ∙ at)
-            (subst (λ j. y.world.core.held j ≡ Some (held_at (staged unit.here.stage landed.lent.pointer))) own_key held_there) in
-            (ap (λ (i : Held). i.len) same, ap (λ (i : Held). i.digest) same, ap (λ (i : Held). i.stripes) same)))
-            landed.lent.restored refl) [
-              | inl same ↦ same_bytes part.geometry h k pieces written same
-                  (mid.bytes k h (sym (ap (λ f. f k) held_as) ∙ at) block column row (subst (λ (f : ℕ → ℕ → Option (List ℕ)). IsSome (f column row)) same some))
-              | inr has ↦ has
+        of k h at block column row some =
+            let there : y.world.core.held k ≡ Some h = sym (ap (λ f. f k) held_as) ∙ at in
+            elim (written_at k) [
+              | inl same ↦ same_bytes part.geometry h k pieces written same (mid.bytes k h there block column row (subst (λ (f : ℕ → ℕ → Option (List ℕ)). IsSome (f column row)) same some))
+              | inr has ↦
+                  subst (λ (i : Held). HasBytes part.geometry i k written) (some_same (x.world.core.held k) has.0 h has.1 (sym (ap (λ f. f k) one_leaves.held) ∙ there)) has.3
             ]
 
         on : KnowsBlocks part.geometry (segments.pieces_after (layout_by solved) y.world e v step pieces written) v.core.held
@@ -339,18 +353,13 @@ module _ {R A : Type 0} (rack : racks.Ghosts R) (area : areas.Ghosts A) (old len
     two_leaves : Leaves y.world second.done.reached.world
     two_leaves = block_leaves (layout_in part) y.world second.done.reached.world landed.pass.number landed.lent.serial landed.failed landed.patched (is_none landed.lent.restored) second.done.step
 
-    contents : SameContents part x pieces second.later
-    contents k h at = elim (pieces_either (layout_in part) y.world second.after landed.pass.number landed.lent.serial landed.failed landed.patched (is_none landed.lent.restored) second.step pieces written) [
-      | inl stays ↦ inl (ap (λ (q : Pieces). q k) (second.is ∙ stays))
-      | inr other ↦
-          subst (λ (q : Pieces). (q k ≡ pieces k) ⊎ HasBytes part.geometry h k q) (sym (second.is ∙ other))
-          (kept_or part.geometry landed.lent pieces k h right
-          (λ own_key.
-          (let same : h ≡ held_at (staged unit.here.stage landed.lent.pointer) = some_same (y.world.core.held k) h (held_at (staged unit.here.stage landed.lent.pointer)) (ap (λ f. f k) one_leaves.held ∙ at)
-          (subst (λ j. y.world.core.held j ≡ Some (held_at (staged unit.here.stage landed.lent.pointer))) own_key held_there) in
-          (ap (λ (i : Held). i.len) same, ap (λ (i : Held). i.digest) same, ap (λ (i : Held). i.stripes) same)))
-          landed.lent.restored refl)
-    ]
+    keeps : KeepsContents part x pieces second.later
+    keeps = record {
+      each = λ k. elim (pieces_either (layout_in part) y.world second.after landed.pass.number landed.lent.serial landed.failed landed.patched (is_none landed.lent.restored) second.step pieces written) [
+        | inl stays ↦ inl (ap (λ (q : Pieces). q k) (second.is ∙ stays))
+        | inr other ↦ subst (λ (q : Pieces). SamePieces part x pieces q k) (sym (second.is ∙ other)) (written_at k)
+      ];
+    }
 
     -- the landing rewrote so many
     all_told : repaired ≡ rewritten (layout_in part) y.world.core (held_at (staged unit.here.stage landed.lent.pointer)) landed.patched.items part.geometry.g
@@ -365,9 +374,9 @@ module _ {R A : Type 0} (rack : racks.Ghosts R) (area : areas.Ghosts A) (old len
         least_is : (a b n g : ℕ) → b ≡ min a (2 ^ 8) → a ≡ n → n ≤ g * 3 → g ≤ 64 → b ≡ n
         least_is a b n g least own low few = omega (arith, least, own, low, few)
 
-    -- an unreadable block was beyond repair as it was lent
-    why : passes.LendsBeyond part.geometry part.perms (view_of part.number x) unit.failed y.world e
-    why = by (is_none landed.lent.restored) refl
+    -- an unreadable block was beyond repair as it was lent, where the blocks have contents
+    why : HasContents part pieces x → passes.LendsBeyond part.geometry part.perms (view_of part.number x) unit.failed y.world e
+    why contents_are = by (is_none landed.lent.restored) refl
       where
         by : (b : Bool) → is_none landed.lent.restored ≡ b
             → passes.LendsBeyond part.geometry part.perms (view_of part.number x) unit.failed y.world (LandBlock landed.pass.number landed.lent.serial landed.failed landed.patched b)
@@ -375,17 +384,31 @@ module _ {R A : Type 0} (rack : racks.Ghosts R) (area : areas.Ghosts A) (old len
         by true gone =
             beyond rack area old lent unit lent_valid solved.kept r (no_block r.block (sym (ap (λ (l : LentBlock). is_none l.restored) same_lent) ∙ gone)) part pieces x is contents_are y.world first.is.stands.is_in.loan
 
-    pub block_goes : GoesTo rack area part pieces x new (λ holds v. NextIs part Heal false (next.Landed repaired) holds × SameBlocks x v)
-    block_goes = record {
+    both_follow : FollowsIn (layout_in part) part.number (On (view_of part.number x) (Did (Lend unit.failed) y.world) ∷ (On (view_of part.number y) (Did e second.done.reached.world) ∷ [])) x second.done.reached
+    both_follow = (
+      Did (Lend unit.failed) y.world,
+      y,
+      refl,
+      first.acts,
+      (Did e second.done.reached.world, second.done.reached, refl, second.done.acts, refl),
+    )
+
+    -- whatever the blocks have
+    pub block_moves : GoesLater rack area part pieces x new
+    block_moves = record {
       holds = On (view_of part.number x) (Did (Lend unit.failed) y.world) ∷ (On (view_of part.number y) (Did e second.done.reached.world) ∷ []);
       reached = second.done.reached;
-      follows = (
-        Did (Lend unit.failed) y.world,
-        y,
-        refl,
-        first.acts,
-        (Did e second.done.reached.world, second.done.reached, refl, second.done.acts, refl),
-      );
+      follows = both_follow;
+      later = second.later;
+      contents = keeps;
+      is = second.done.is;
+    }
+
+    pub block_goes : HasContents part pieces x → GoesTo rack area part pieces x new (λ holds v. NextIs part Heal false (next.Landed repaired) holds × SameBlocks x v)
+    block_goes contents_are = record {
+      holds = On (view_of part.number x) (Did (Lend unit.failed) y.world) ∷ (On (view_of part.number y) (Did e second.done.reached.world) ∷ []);
+      reached = second.done.reached;
+      follows = both_follow;
       images = keeps_then x.world y.world second.done.reached.world one_leaves.images two_leaves.images;
       done = (
         (
@@ -400,19 +423,13 @@ module _ {R A : Type 0} (rack : racks.Ghosts R) (area : areas.Ghosts A) (old len
             are = refl;
             there = (refl, refl);
             not_worn = λ worn. not_worn (told_worn rack area part pieces old x is worn);
-            lands = (
-              block_loan landed.lent,
-              held_at (staged unit.here.stage landed.lent.pointer),
-              loan_there,
-              held_there,
-              all_told,
-            );
-            why = why;
+            lands = (block_loan landed.lent, own, loan_there, held_there, all_told);
+            why = why contents_are;
           },
         ),
         record { held = two_leaves.held ∙ one_leaves.held; committed = two_leaves.committed ∙ one_leaves.committed },
       );
       later = second.later;
-      contents = contents;
+      contents = contents_by part x pieces second.later keeps;
       is = second.done.is;
     }

@@ -15,7 +15,7 @@ use Rattle.draid_shard.specs.States.{Does}
 use Rattle.draid_shard.specs.declared.shard.Shard.{Shard}
 use Rattle.draid_shard.proofs.Changed.{same_arms, same_entries}
 use Rattle.draid_pool.specs.Drifts.{KeepsTo, is_other, passes_number}
-use Rattle.draid_pool.proofs.Drifting.{groups_kept}
+use Rattle.draid_pool.proofs.Drifting.{groups_by, groups_kept}
 use Rattle.draid_pool.proofs.GroupKeeps.{turns_go}
 use Rattle.draid_visits.specs.Cancelling.{CancelsIn, passes_of}
 use Rattle.draid_visits.proofs.Cancelled.{none_ended, pass_ended}
@@ -61,7 +61,7 @@ module _ {R A : Type 0} (rack : racks.Ghosts R) (area : areas.Ghosts A) where
     valid = valid;
     part = does.part;
     blocks = blocks;
-    groups = record { groups = blocks.groups; arms = subst (λ s. KeepsArms x.slots s) (sym slots) (same_arms x.slots); reserve = reserve.reserved };
+    groups = groups_by x y blocks.groups (subst (λ s. KeepsArms x.slots s) (sym slots) (same_arms x.slots)) reserve.reserved;
     areas_are = kit.areas;
     ended_are = one;
     none = none;

@@ -16,7 +16,6 @@ use Rattle.draid_objects.proofs.Finding.{write_key}
 use Rattle.draid_shard.specs.Columns.{ArePieces}
 use Rattle.draid_shard.specs.Part.{Part}
 use Rattle.draid_shard.specs.declared.shard.Shard.{Shard}
-use Rattle.draid_shard.proofs.Held.{HasEntry, held_entry}
 use Rattle.draid_mend.specs.Solving.{HasContent, HasKnownContent}
 use Rattle.draid_session.specs.State.{Metaslab, State}
 use Rattle.draid_pool.specs.Metaslabs.{IsMetaslab}
@@ -24,6 +23,7 @@ use Rattle.draid_pool.specs.Objects.{HasPieces, blocks_of}
 use Rattle.draid_pool.specs.Pools.{Represents, part_in}
 use Rattle.draid_pool.specs.declared.pool.Pool.{Pool}
 use Rattle.draid_pool.specs.Bytes.{HasBytes}
+use Rattle.draid_pool.proofs.Contents.{held_long}
 use Rattle.draid_visits.specs.Steps.{HasContents}
 use Rattle.draid_machine.specs.Names.{is_block}
 
@@ -52,18 +52,10 @@ content_by geometry held key pieces has long = record {
 }
 
 module _ {R A : Type 0} (rack : racks.Ghosts R) (area : areas.Ghosts A) where
-  -- as many stripes as its bytes take
-  pub held_long : (part : Part) (pieces : Pieces) (shard : Shard R A) (y : Metaslab) (key : Key) (held : Held) → IsMetaslab rack area part pieces shard y → y.world.core.held key ≡ Some held
-      → held.stripes ≡ stripes_of (cut_of part.geometry) held.len
-  held_long part pieces shard y key held is at =
-      let e : HasEntry shard.entries key held = held_entry shard.entries key held (sym (is.stands.is_in.held key) ∙ at) in
-      let block = (is.valid.tables.placed held.first e.e e.there).is_block in
-      subst (λ (h : Held). h.stripes ≡ stripes_of (cut_of part.geometry) h.len) e.held_is (subst (λ (p : Part). e.e.pointer.stripes ≡ stripes_of (cut_of p.geometry) e.e.pointer.len) is.part_is block.stripes)
-
   -- what is known of a block is its content
   pub known_content : (part : Part) (pieces : Pieces) (shard : Shard R A) (y : Metaslab) (key : Key) (held : Held) → IsMetaslab rack area part pieces shard y → is_block held.stage ≡ true → y.world.core.held key ≡ Some held
       → HasKnownContent part.geometry held.stripes key pieces
-  known_content part pieces shard y key held is block at c row known = content_by part.geometry held key pieces (is.bytes key held at block c row known) (held_long part pieces shard y key held is at)
+  known_content part pieces shard y key held is block at c row known = content_by part.geometry held key pieces (is.bytes key held at block c row known) (held_long rack area part pieces shard y key held is at)
 
   pub contents_of : (pool : Pool R A) (x : State) (r : Represents rack area pool x) (m : ℕ) (shard : Shard R A) (y : Metaslab) → slice_get x.metaslabs m ≡ Some y
       → IsMetaslab rack area (part_in x m) (r.stands.pieces m) shard y → HasContents (part_in x m) (r.stands.pieces m) y
@@ -71,4 +63,4 @@ module _ {R A : Type 0} (rack : racks.Ghosts R) (area : areas.Ghosts A) where
       let here : blocks_of x.metaslabs m key ≡ Some held = ap (λ o. table_of (option_map (λ (z : Metaslab). z.world) o) key) there ∙ at in
       let own = r.stands.holds.stores.only m key held here (r.stands.holds.settled m key held here) in
       bytes_by x.geometry held key own.0 (r.stands.pieces m) (r.stands.holds.bytes m key held own.0 here own.1) (write_key x.store.changes key own.0 own.1) own.3.len own.3.digest_is
-      (held_long (part_in x m) (r.stands.pieces m) shard y key held is at)
+      (held_long rack area (part_in x m) (r.stands.pieces m) shard y key held is at)

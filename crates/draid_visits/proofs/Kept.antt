@@ -7,25 +7,18 @@ use Rattle.draid_area.specs.declared.Area as areas
 use Rattle.draid_names.specs.declared.numbers.TheConstants.{LAST_NUMBER}
 use Rattle.draid_names.specs.declared.pass_kind.PassKind.{PassKind}
 use Rattle.draid_names.specs.declared.pass_kind.PassKind.TheVariants.{Rebuild}
-use Rattle.draid_spec.specs.declared.layout.Geometry.{Geometry}
-use Rattle.draid_spec.specs.Geometry.{metaslab_stripes}
 use Rattle.draid_pass.specs.declared.pass.Pass.{Pass}
 use Rattle.draid_shard.specs.declared.shard.Shard.{Shard}
 use Rattle.draid_session.specs.Passes as passes
-use Rattle.draid_pool.specs.Pools.{group_in}
-use Rattle.draid_pool.specs.Whole.{IsWhole}
 use Rattle.draid_pool.specs.declared.pool.Pool.{Pool}
 use Rattle.draid_pool.proofs.Lifted.{SetsShard}
 use Rattle.draid_pool.proofs.Lists.{get_set_other, get_set_same, present, some_of}
 use Rattle.draid_pool.proofs.SyncSteps.{all_set}
-use Rattle.draid_pool.proofs.Wholes.{open_high, whole_geometry}
-use Rattle.draid_pool.specs.Keeping.{AllArmsStay}
 use Rattle.draid_pool.specs.Passes.{KeepsPass, KeepsPasses}
 use Rattle.draid_pool.specs.Syncing.{AreIdle}
-use Rattle.draid_visits.specs.Steps.{IsRunningOf, MovesOn}
-use Rattle.draid_visits.specs.Visiting.{IsAt, IsLeft, IsLow, KeepsOthers}
+use Rattle.draid_visits.specs.Steps.{IsRunningOf}
+use Rattle.draid_visits.specs.Visiting.{IsAt, IsLeft, IsLow, KeepsOthers, counted}
 use Rattle.draid_visits.specs.declared.progress.Progress.{Progress}
-use Rattle.draid_visits.proofs.Lending.{counted}
 
 -- ---- one pass
 
@@ -97,72 +90,19 @@ module _ {R A : Type 0} (rack : racks.Ghosts R) (area : areas.Ghosts A) where
   pub at_set : (P : Shard R A → Type 0) (m : ℕ) (old new : Pool R A) (shard shard' : Shard R A) → SetsShard rack area m old new shard shard' → P shard' → IsAt new m P
   at_set P m old new shard shard' set is z at = subst P (some_of (slice_get new.metaslabs.shards.items m) shard' z (set_there m old new shard shard' set) at) is
 
-  -- a sync leaves the layout
-  pub geometry_synced : (old new : Pool R A) → IsWhole rack area old → IsWhole rack area new → AllArmsStay old new → new.geometry ≡ old.geometry
-  geometry_synced old new w v stay =
-      let many = w.many in
-      let some = w.layout.geometry_is.props.some_metaslabs in
-      let long = stay.many in
-      let a : (s : Shard R A) × (slice_get old.metaslabs.shards.items 0 ≡ Some s) = present old.metaslabs.shards.items 0 (omega (arith, many, some)) in
-      let b : (s : Shard R A) × (slice_get new.metaslabs.shards.items 0 ≡ Some s) = present new.metaslabs.shards.items 0 (omega (arith, many, some, long)) in
-      let before : a.0.slots.geometry ≡ old.geometry = (w.shards 0 a.0 a.1).valid.slots.geometry_is ∙ whole_geometry rack area old 0 a.0 w a.1 in
-      let after : b.0.slots.geometry ≡ new.geometry = (v.shards 0 b.0 b.1).valid.slots.geometry_is ∙ whole_geometry rack area new 0 b.0 v b.1 in
-      sym after ∙ ((stay.each 0 a.0 b.0 a.1 b.1).same.geometry_is ∙ before)
-
-  -- there is a number for the group behind the committed one
-  pub group_low : (pool : Pool R A) (m : ℕ) (shard : Shard R A) → IsWhole rack area pool → slice_get pool.metaslabs.shards.items m ≡ Some shard → group_in pool + 1 ≤ LAST_NUMBER
-  group_low pool m shard w there =
-      let own = w.shards m shard there in
-      let high = open_high shard.open_group shard.closing shard.committed shard.sealed own.valid.groups in
-      let low = own.valid.low in
-      let same = own.committed in
-      omega (arith, high, low, same)
-
--- ---- how much is left
+-- ---- how far a pass is
 
 abbrev pub place_of : Option Pass → ℕ
 place_of None = 0
 place_of (Some p) = p.«at»
 
-abbrev pub place_in : {R A : Type 0} → Option (Shard R A) → ℕ
-place_in None = 0
-place_in (Some shard) = place_of shard.pass
-
--- the stripes from where the pass of a metaslab stands
-abbrev pub stripes_left : {R A : Type 0} → Pool R A → ℕ → ℕ
-stripes_left pool m = metaslab_stripes pool.geometry - place_in (slice_get pool.metaslabs.shards.items m)
-
-pub start_few : {R A : Type 0} (pool : Pool R A) (m : ℕ) (p : Progress) → p.stripes + stripes_left pool m ≤ p.stripes + metaslab_stripes pool.geometry
-start_few pool m p = less_all (metaslab_stripes pool.geometry) (place_in (slice_get pool.metaslabs.shards.items m)) p.stripes
-  where
-    less_all : (most a n : ℕ) → n + (most - a) ≤ n + most
-    less_all most a n = omega arith
-
 -- the pass runs still
-pub runs_on : {R A : Type 0} (kind : PassKind) (old new : Shard R A) → MovesOn kind old new → IsSomeAnd new.pass (IsRunningOf kind)
-runs_on kind old new moves = subst (λ o. IsSomeAnd o (IsRunningOf kind)) (sym moves.new_pass) moves.runs
-
 pub runs_kept : {R A : Type 0} (kind : PassKind) (old new : Shard R A) → new.pass ≡ old.pass → IsSomeAnd old.pass (IsRunningOf kind) → (pass : Pass) × (new.pass ≡ Some pass) × IsRunningOf kind pass
 runs_kept kind old new same runs = by new.pass refl (subst (λ o. IsSomeAnd o (IsRunningOf kind)) (sym same) runs)
   where
     by : (o : Option Pass) → new.pass ≡ o → IsSomeAnd o (IsRunningOf kind) → (pass : Pass) × (new.pass ≡ Some pass) × IsRunningOf kind pass
     by None is runs = absurd runs
     by (Some p) is runs = (p, is, runs)
-
-less_left : (most a b : ℕ) → a < b → b ≤ most → most - b + 1 ≤ most - a
-less_left most a b less inside = omega (arith, less, inside)
-
-module _ {R A : Type 0} (rack : racks.Ghosts R) (area : areas.Ghosts A) where
-  -- a stripe or a block landed
-  pub fewer_left : (kind : PassKind) (m : ℕ) (old new : Pool R A) (shard shard' : Shard R A) → SetsShard rack area m old new shard shard' → IsWhole rack area new → MovesOn kind shard shard' → stripes_left new m + 1 ≤ stripes_left old m
-  fewer_left kind m old new shard shard' set w moves =
-      let there = set_there rack area m old new shard shard' set in
-      let before : place_in (slice_get old.metaslabs.shards.items m) ≡ moves.was.«at» = ap place_in set.there ∙ ap place_of moves.old_pass in
-      let after : place_in (slice_get new.metaslabs.shards.items m) ≡ moves.pass.«at» = ap place_in there ∙ ap place_of moves.new_pass in
-      let inside : moves.pass.«at» ≤ metaslab_stripes old.geometry = subst (λ (g : Geometry). moves.pass.«at» ≤ metaslab_stripes g) (whole_geometry rack area new m shard' w there ∙ set.geometry) moves.inside in
-      subst (λ (g : Geometry). metaslab_stripes g - place_in (slice_get new.metaslabs.shards.items m) + 1 ≤ stripes_left old m) (sym set.geometry)
-      (subst (λ n. metaslab_stripes old.geometry - n + 1 ≤ stripes_left old m) (sym after)
-      (subst (λ n. metaslab_stripes old.geometry - moves.pass.«at» + 1 ≤ metaslab_stripes old.geometry - n) (sym before) (less_left (metaslab_stripes old.geometry) moves.was.«at» moves.pass.«at» moves.behind inside)))
 
 -- ---- what was done so far
 

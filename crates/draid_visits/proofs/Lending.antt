@@ -14,7 +14,7 @@ use Rattle.draid_session.specs.State.{State}
 use Rattle.draid_pool.specs.Carries.{CarriesOut}
 use Rattle.draid_pool.specs.declared.fault.SyncFault.TheVariants as sync
 use Rattle.draid_pool.specs.declared.pool.Pool.{Pool}
-use Rattle.draid_visits.specs.Visiting.{LendIs, tally_of}
+use Rattle.draid_visits.specs.Visiting.{LendIs, counted, tally_of}
 use Rattle.draid_visits.specs.declared.progress.Progress.{Progress}
 use Rattle.draid_visits.specs.declared.progress.Visit.TheVariants as visit
 use Rattle.draid_visits.specs.Steps.{NextIs}
@@ -31,10 +31,6 @@ pub record Ending : Type 0 where
 -- some are lent, and then that
 abbrev pub SomeLends : Geometry → Perms → PassKind → ℕ → Progress → Ending → List Hold → Type 0
 SomeLends g p kind m at e holds = (n : ℕ) × passes.Lends g p kind m n at.left (tally_of at) holds e.o e.after e.tally
-
--- one was lent
-abbrev pub counted : ℕ → Progress → Progress
-counted repaired at = record at { left = passes.one_less at.left; stripes = at.stripes + 1; repaired = at.repaired + repaired }
 
 lent_then : (g : Geometry) (p : Perms) (kind : PassKind) (m repaired : ℕ) (at : Progress) (e : Ending) (front rest : List Hold) → (passes.IsUsedUp at.left → ⊥) → passes.LendsOne g p kind m repaired front []
     → SomeLends g p kind m (counted repaired at) e rest → SomeLends g p kind m at e (front ++ rest)

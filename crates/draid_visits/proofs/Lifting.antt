@@ -8,17 +8,15 @@ use Rattle.draid_names.specs.declared.pointer.Pointer.{Pointer}
 use Rattle.draid_entries.specs.Maps as entries
 use Rattle.draid_rack.specs.declared.Rack as racks
 use Rattle.draid_area.specs.declared.Area as areas
-use Rattle.draid_spec.specs.declared.layout.Geometry.{Geometry}
-use Rattle.draid_block.specs.Blocks.{cut_of}
-use Rattle.draid_block.specs.Columns.{stripes_of}
 use Rattle.draid_machine.specs.declared.names.Key.{Key}
 use Rattle.draid_machine.specs.declared.names.Held.{Held}
 use Rattle.draid_machine.specs.declared.names.Stage.TheVariants.{Live}
+use Rattle.draid_machine.proofs.Small.{some_same}
 use Rattle.draid_segments.specs.Segments.{Pieces}
 use Rattle.draid_objects.specs.Blocks.{Blocks}
-use Rattle.draid_objects.specs.Changes.{Write, key_of, write_by, write_of}
+use Rattle.draid_objects.specs.Changes.{Write, write_by, write_of}
 use Rattle.draid_objects.proofs.Finding.{write_key}
-use Rattle.draid_shard.specs.Columns.{ArePieces}
+use Rattle.draid_shard.specs.Part.{Part}
 use Rattle.draid_shard.specs.declared.shard.Shard.{Shard}
 use Rattle.draid_session.specs.Holds.{Hold}
 use Rattle.draid_session.specs.State.{Metaslab, State, Store}
@@ -26,31 +24,27 @@ use Rattle.draid_pool.specs.Carries.{CarriesOut}
 use Rattle.draid_pool.specs.Metaslabs.{IsMetaslab}
 use Rattle.draid_pool.specs.Objects.{HasPieces, HoldsObjects, IsLastAt, PointsTo, blocks_of}
 use Rattle.draid_pool.specs.Pools.{Represents, part_in}
-use Rattle.draid_pool.specs.Shards.{Goes, KeepsImages, SameBlocks}
+use Rattle.draid_pool.specs.Shards.{Goes, GoesLater, KeepsImages, SameBlocks}
 use Rattle.draid_pool.specs.declared.pool.Pool.{Pool}
+use Rattle.draid_pool.proofs.Contents.{held_long, pieces_by}
 use Rattle.draid_pool.proofs.Lifted.{SetsShard}
 use Rattle.draid_pool.proofs.Moved.{Turned, pointer_on, blocks_at, follows_one, same_blocks, stands_turned, turn, turn_here, turn_other, with_metaslab}
 use Rattle.draid_pool.proofs.Owning.{pieces_on}
-use Rattle.draid_pool.specs.Bytes.{HasBytes}
+use Rattle.draid_pool.specs.Bytes.{HasBytes, KeepsContents}
 use Rattle.draid_visits.specs.Pieces.{GoesTo, SameContents}
-use Rattle.draid_visits.proofs.Contents.{held_long}
 
--- what a write's block has then
-pieces_by : (geometry : Geometry) (h : Held) (key : Key) (write : Write) (pieces : Pieces) → HasBytes geometry h key pieces → key_of write ≡ key → h.len ≡ length write.bytes → h.digest ≡ sha256 write.bytes
-    → h.stripes ≡ stripes_of (cut_of geometry) h.len → HasPieces geometry write pieces
-pieces_by geometry h key write pieces has own len digest long = record {
-  content = has.content;
-  len = has.len ∙ len;
-  digest = has.digest ∙ digest;
-  bytes = has.bytes;
-  columns = has.columns;
-  are = has.are;
-  rows = subst (λ k. ArePieces geometry.props.sector geometry.g (stripes_of (cut_of geometry) (length write.bytes)) has.columns k pieces) (sym own)
-      (subst (λ n. ArePieces geometry.props.sector geometry.g n has.columns key pieces) (long ∙ ap (stripes_of (cut_of geometry)) len) has.rows);
-}
+-- what is so of the pieces of each key is so of those of each block
+pub contents_by : (part : Part) (x : Metaslab) (pieces later : Pieces) → KeepsContents part x pieces later → SameContents part x pieces later
+contents_by part x pieces later keeps k h there = elim (keeps.each k) [
+  | inl same ↦ inl same
+  | inr has ↦ inr (subst (λ (i : Held). HasBytes part.geometry i k later) (some_same (x.world.core.held k) has.0 h has.1 there) has.3)
+]
 
 module _ {R A : Type 0} (rack : racks.Ghosts R) (area : areas.Ghosts A) where
   -- where they have the same
+  pub goes_later : (part : Part) (pieces : Pieces) (x : Metaslab) (new : Shard R A) (does : List Hold → Metaslab → Type 0) → Goes rack area part pieces x new does → GoesLater rack area part pieces x new
+  goes_later part pieces x new does goes = record { holds = goes.holds; reached = goes.reached; follows = goes.follows; later = pieces; contents = record { each = λ k. inl refl }; is = goes.is }
+
   pub goes_to : (part : _) (pieces : Pieces) (x : Metaslab) (new : Shard R A) (does : List Hold → Metaslab → Type 0) → Goes rack area part pieces x new does → GoesTo rack area part pieces x new does
   goes_to part pieces x new does goes = record {
     holds = goes.holds;

@@ -2,7 +2,6 @@
 use Rattle.std.proofs.Common.{◌≡◌, ◌<◌, ◌≤◌, ◌+◌, ◌∙◌, inl, inr, ℕ, zero, suc, [], ◌∷◌, Bool, true, false, List, Some, arith, refl, sym, ap, subst, length, replicate, slice_index_or, slice_set}
 use Rattle.std.specs.Prelude.{◌↔◌, slice_get}
 use Rattle.std.proofs.lemmas.Bool.{cases_eq, true≢false}
-use Rattle.std.proofs.lemmas.List.{length-set}
 use Rattle.std.proofs.lemmas.Option.{slice_get_within}
 use Rattle.draid_rack.specs.declared.Rack as racks
 use Rattle.draid_area.specs.declared.Area as areas
@@ -73,39 +72,6 @@ module _ {R A : Type 0} (rack : racks.Ghosts R) (area : areas.Ghosts A) where
         (subst (λ s. Marked s (slice_index_or marks m false)) (some_of (slice_get pool.metaslabs.shards.items m) shard z there (subst (λ j. slice_get pool.metaslabs.shards.items j ≡ Some z) same at)) own)
     | inr other ↦ below k z (omega (arith, less, other)) at
   ]
-
-  pub marked_set : (pool : Pool R A) (marks : List Bool) (m : ℕ) → MarkedUpto pool marks m → MarkedUpto pool (slice_set marks m true) m
-  marked_set pool marks m below k z less at = subst (Marked z) (sym (mark_elsewhere marks m k (λ same. omega (arith, less, same)))) (below k z less at)
-
-  -- what the marks say once the first so many were looked at
-  pub record Marks (pool : Pool R A) (marks : List Bool) (some : Bool) (m : ℕ) : Type 0 where
-    pub long : length marks ≡ 64
-    pub marked : MarkedUpto pool marks m
-    pub above : (k : ℕ) → m ≤ k → slice_index_or marks k false ≡ false
-    pub none : some ≡ false → (k : ℕ) → slice_index_or marks k false ≡ false
-    pub one : some ≡ true → (k : ℕ) × (k < m) × (slice_index_or marks k false ≡ true)
-
-  pub marks_set : (pool : Pool R A) (marks : List Bool) (some : Bool) (m : ℕ) (shard : Shard R A) → slice_get pool.metaslabs.shards.items m ≡ Some shard → Marked shard true → m < 64 → Marks pool marks some m
-      → Marks pool (slice_set marks m true) true (m + 1)
-  marks_set pool marks some m shard there own inside i =
-      let here = mark_here marks m (let long = i.long in omega (arith, long, inside)) in
-      record {
-        long = length-set marks m true ∙ i.long;
-        marked = marked_more pool (slice_set marks m true) m shard there (subst (Marked shard) (sym here) own) (marked_set pool marks m i.marked);
-        above = λ k low. mark_elsewhere marks m k (λ same. omega (arith, low, same)) ∙ i.above k (omega (arith, low));
-        none = λ is. absurd (true≢false is);
-        one = λ is. (m, omega arith, here);
-      }
-
-  pub marks_kept : (pool : Pool R A) (marks : List Bool) (some : Bool) (m : ℕ) (shard : Shard R A) → slice_get pool.metaslabs.shards.items m ≡ Some shard → Marked shard false → Marks pool marks some m
-      → Marks pool marks some (m + 1)
-  marks_kept pool marks some m shard there own i = record {
-    long = i.long;
-    marked = marked_more pool marks m shard there (subst (Marked shard) (sym (i.above m (omega arith))) own) i.marked;
-    above = λ k low. i.above k (omega (arith, low));
-    none = i.none;
-    one = λ is. (let z = i.one is in let less = z.1 in (z.0, omega (arith, less), z.2));
-  }
 
   -- all were looked at
   pub marked_all : (pool : Pool R A) (marks : List Bool) (m : ℕ) → length pool.metaslabs.shards.items ≤ m → MarkedUpto pool marks m → MarkedAll pool marks

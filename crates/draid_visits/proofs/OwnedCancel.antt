@@ -1,5 +1,5 @@
 -- The passes that the only thread of a pool cancels.
-use Rattle.std.proofs.Common.{◌≡◌, ◌+◌, ◌∙◌, ℕ, zero, suc, false, None, length, arith, refl, sym, subst}
+use Rattle.std.proofs.Common.{◌+◌, ℕ, zero, suc, false, arith, refl, sym, subst}
 use Rattle.draid_rack.specs.declared.Rack as racks
 use Rattle.draid_area.specs.declared.Area as areas
 use Rattle.draid_shard.specs.declared.shard.Shard.{Shard}
@@ -15,10 +15,12 @@ use Rattle.draid_pool.proofs.GroupClosed.{left_by, next_on, once_sets, went_by, 
 use Rattle.draid_pool.proofs.Lifted.{SetsShard}
 use Rattle.draid_pool.proofs.OwnedKnows.{all}
 use Rattle.draid_pool.proofs.Rises.{areas_on, areas_set, areas_still, records_same}
-use Rattle.draid_pool.proofs.SyncSteps.{Came, came_none, whole_on}
+use Rattle.draid_pool.proofs.SyncSteps.{Came, came_none}
 use Rattle.draid_visits.specs.Cancelling.{CancelDoes, CancelsEach, CancelsIn}
 use Rattle.draid_visits.specs.Visiting.{NoPasses}
 use Rattle.draid_visits.proofs.Cancelled.{EndedBelow, all_cancelled, all_ended, cancel_more, ended_more}
+use Rattle.draid_visits.proofs.SharedWhole.{whole_shared}
+use Rattle.draid_visits.proofs.Tables.{shares_by}
 
 module _ {R A : Type 0} (rack : racks.Ghosts R) (area : areas.Ghosts A) where
   -- the first so many metaslabs have no pass
@@ -39,7 +41,7 @@ module _ {R A : Type 0} (rack : racks.Ghosts R) (area : areas.Ghosts A) where
   cancelled_on : (m sum ended : ℕ) (pool mid new : Pool R A) (shard after : Shard R A) → CancelledAt pool mid m sum → SetsShard rack area m mid new shard after → CancelsIn rack area shard ended after
       → CancelledAt pool new (m + 1) (sum + ended)
   cancelled_on m sum ended pool mid new shard after i set e = record {
-    whole = whole_on rack area m mid new shard after i.whole set e.valid (record { part = e.part; entries = e.blocks.entries; committed = e.blocks.groups.committed; slots = e.groups.arms });
+    whole = whole_shared rack area m mid new shard after i.whole set e.valid (shares_by shard after e.part e.blocks e.groups);
     carries = λ x is. cancel_more rack area m sum ended mid new shard after x (i.carries x is) set e.turns;
     below = subst (λ zs. EndedBelow zs (m + 1)) (sym set.sets) (ended_more mid.metaslabs.shards.items m shard after set.there e.none i.below);
     later = areas_on area.faults pool mid new i.later (areas_set rack area m mid new shard after set (records_same area.faults shard after e.areas_are));

@@ -1,6 +1,7 @@
 -- The answers of a rebuild of a pool, and what those of a scrub share.
 use Rattle.std.proofs.Common.{◌≡◌, ◌+◌, ◌++◌, ◌∙◌, [], ◌∷◌, inl, inr, ℕ, suc, Bool, true, false, List, Option, Some, None, Result, Ok, Err, arith, refl, sym, ap, subst}
-use Rattle.std.specs.Prelude.{◌↔◌, ⊤, IfOk, slice_get}
+use Rattle.std.specs.Prelude.{◌↔◌, ⊤, IsSome, slice_get}
+use Rattle.std.proofs.lemmas.Bool.{true≢false}
 use Rattle.draid_rack.specs.declared.Rack as racks
 use Rattle.draid_area.specs.declared.Area as areas
 use Rattle.draid_names.specs.declared.pass_kind.PassKind.{PassKind}
@@ -11,7 +12,6 @@ use Rattle.draid_session.specs.Holds.{Hold, View, view_of}
 use Rattle.draid_session.specs.Looks.{Looks, LooksFrom}
 use Rattle.draid_session.specs.Passes as passes
 use Rattle.draid_session.specs.Phases.{NoneOf}
-use Rattle.draid_session.specs.Replies.{IsWithin}
 use Rattle.draid_session.specs.State.{Metaslab, State, Store}
 use Rattle.draid_pool.specs.Carries.{CarriesOut}
 use Rattle.draid_pool.specs.Pools.{Represents}
@@ -24,7 +24,7 @@ use Rattle.draid_pool.proofs.Steps.{follows_on}
 use Rattle.draid_pool.proofs.SyncSteps.{not_went}
 use Rattle.draid_visits.specs.Steps.{IsRebuiltIn}
 use Rattle.draid_visits.specs.Rebuilding.{IsAnswer, IsLowestPass, IsMended, NothingToRebuild, RebuildDoes, RebuildIs, RunsWhere, stopped_by}
-use Rattle.draid_visits.specs.Visiting.{AreAll, AreToVisit, AreMarks, HasMark, IsLeft, IsMarked, IsOnly, Leaves, PausesAt, SeesMarks, SeesNone, VisitsDo, end_by, nothing_within, tally_of}
+use Rattle.draid_visits.specs.Visiting.{AreAll, AreToVisit, AreMarks, HasBegun, HasMark, IsLeft, IsMarked, IsOnly, Leaves, SeesMarks, SeesNone, VisitsDo, end_by, nothing_within, tally_of}
 use Rattle.draid_visits.specs.declared.progress.Progress.{Progress}
 use Rattle.draid_visits.specs.declared.progress.Visit.{Visit}
 use Rattle.draid_visits.specs.declared.progress.Visit.TheVariants as visit
@@ -66,36 +66,19 @@ pub left_first : (limit : Option ℕ) → IsLeft limit (nothing_within limit)
 left_first None = refl
 left_first (Some n) = (n, refl, omega arith)
 
--- what is left of it says what was lent
-within_paused : (limit : Option ℕ) (p : Progress) → IsLeft limit p → p.left ≡ Some 0 → IsWithin limit p.stripes true
-within_paused None p left up = absurd (let no : None ≡ Some 0 = sym left ∙ up in cc)
-within_paused (Some n) p (k, own, all) up =
-    (let none : k ≡ 0 = (let same : Some k ≡ Some 0 = sym own ∙ up in cc) in omega (arith, none, all))
-
-within_over : (limit : Option ℕ) (p : Progress) → IsLeft limit p → IsWithin limit p.stripes false
-within_over None p left = refl
-within_over (Some n) p (k, own, all) = omega (arith, all)
-
-pub is_within : (limit : Option ℕ) (end : Visit) (p : Progress) (it : Mended) → IsLeft limit p → PausesAt end p → IsAnswer end p (Ok it) → IsWithin limit it.units it.paused
-is_within limit visit.Over p it left pauses is =
-    subst (λ b. IsWithin limit it.units b) (sym is.paused_is) (subst (λ n. IsWithin limit n false) (sym is.units) (within_over limit p left))
-is_within limit visit.Paused p it left pauses is =
-    subst (λ b. IsWithin limit it.units b) (sym is.paused_is) (subst (λ n. IsWithin limit n true) (sym is.units) (within_paused limit p left pauses))
-is_within limit (visit.Stopped why) p it left pauses is = absurd is
-
-pub within_limit : (limit : Option ℕ) (end : Visit) (p : Progress) (result : Result Mended MendFault) → IsLeft limit p → PausesAt end p → IsAnswer end p result → IfOk result (λ it. IsWithin limit it.units it.paused)
-within_limit limit end p (Ok it) left pauses is = is_within limit end p it left pauses is
-within_limit limit end p (Err why) left pauses is = tt
-
 -- ---- the passes behind it
 
-pub passes_behind : {R A : Type 0} (end : Visit) (p : Progress) (result : Result Mended MendFault) (old new : Pool R A) → IsAnswer end p result → Leaves Rebuild end new → RebuildIs result old new
-passes_behind visit.Over p (Ok it) old new is leaves = subst (λ b. RunsWhere Rebuild b new) (sym is.paused_is) leaves
-passes_behind visit.Over p (Err why) old new is leaves = absurd is
-passes_behind visit.Paused p (Ok it) old new is leaves = subst (λ b. RunsWhere Rebuild b new) (sym is.paused_is) leaves
-passes_behind visit.Paused p (Err why) old new is leaves = absurd is
-passes_behind (visit.Stopped why) p (Ok it) old new is leaves = absurd is
-passes_behind {R} {A} (visit.Stopped why) p (Err cause) old new is leaves = subst (λ c. RebuildIs (Err c) old new) (sym is) (by why)
+-- where a pass went on there was something to do
+pub was_begun : (p : Progress) → p.from ≡ None → IsSome p.from → ⊥
+was_begun p none some = true≢false (sym (subst IsSome none some))
+
+pub passes_behind : {R A : Type 0} (end : Visit) (p : Progress) (result : Result Mended MendFault) (old new : Pool R A) → HasBegun end p → IsAnswer end p result → Leaves Rebuild end new → RebuildIs result old new
+passes_behind visit.Over p (Ok it) old new has is leaves = subst (λ b. RunsWhere Rebuild b new) (sym is.paused_is) leaves
+passes_behind visit.Over p (Err why) old new has is leaves = absurd (was_begun p is.1 has)
+passes_behind visit.Paused p (Ok it) old new has is leaves = subst (λ b. RunsWhere Rebuild b new) (sym is.paused_is) leaves
+passes_behind visit.Paused p (Err why) old new has is leaves = absurd is
+passes_behind (visit.Stopped why) p (Ok it) old new has is leaves = absurd is
+passes_behind {R} {A} (visit.Stopped why) p (Err cause) old new has is leaves = subst (λ c. RebuildIs (Err c) old new) (sym is) (by why)
   where
     by : (w : SyncFault) → RebuildIs (Err (stopped_by w)) old new
     by sync.Worn = tt
@@ -106,7 +89,7 @@ passes_behind {R} {A} (visit.Stopped why) p (Err cause) old new is leaves = subs
 -- only a device that failed ends it so
 pub stopped_shelf : (end : Visit) (p : Progress) (result : Result Mended MendFault) → IsAnswer end p result → result ≡ Err fault.Shelf → end ≡ visit.Stopped sync.Shelf
 stopped_shelf visit.Over p (Ok it) is shelf = absurd (cc)
-stopped_shelf visit.Over p (Err why) is shelf = absurd is
+stopped_shelf visit.Over p (Err why) is shelf = absurd (let same : why ≡ fault.Shelf = cc in let no = sym is.0 ∙ same in cc)
 stopped_shelf visit.Paused p (Ok it) is shelf = absurd (cc)
 stopped_shelf visit.Paused p (Err why) is shelf = absurd is
 stopped_shelf (visit.Stopped why) p (Ok it) is shelf = absurd is
@@ -216,18 +199,19 @@ module _ {R A : Type 0} (rack : racks.Ghosts R) (area : areas.Ghosts A) where
     stopped_so sync.Shelf t holds store kept visits = (kept, (t, not_went Unit sync.Shelf, rebuilds holds (passes.Stopped (end_by sync.Shelf)) t visits))
     stopped_so sync.NoMemory t holds store kept visits = (kept, inl (t, not_went Unit sync.NoMemory, rebuilds holds (passes.Stopped (end_by sync.NoMemory)) t visits))
 
-    answers : (end : Visit) (p : Progress) (result : Result Mended MendFault) → IsAnswer end p result → (holds : List Hold) (store : Store) → VisitsDo x Rebuild marks (nothing_within limit) end p holds store
+    answers : (end : Visit) (p : Progress) (result : Result Mended MendFault) → HasBegun end p → IsAnswer end p result → (holds : List Hold) (store : Store) → VisitsDo x Rebuild marks (nothing_within limit) end p holds store
         → RebuildDoes x limit result (looks_at 0 x.metaslabs ++ holds) store
-    answers visit.Over p (Ok it) is holds store (kept, (t, tells, visits)) = (kept, mended_so p it false t holds is tells visits)
-    answers visit.Over p (Err why) is holds store does = absurd is
-    answers visit.Paused p (Ok it) is holds store (kept, (t, tells, visits)) = (kept, mended_so p it true t holds is tells visits)
-    answers visit.Paused p (Err why) is holds store does = absurd is
-    answers (visit.Stopped why) p (Ok it) is holds store does = absurd is
-    answers (visit.Stopped why) p (Err cause) is holds store (kept, (t, tells, visits)) =
+    answers visit.Over p (Ok it) has is holds store (kept, (t, tells, visits)) = (kept, mended_so p it false t holds is tells visits)
+    answers visit.Over p (Err why) has is holds store does = absurd (was_begun p is.1 has)
+    answers visit.Paused p (Ok it) has is holds store (kept, (t, tells, visits)) = (kept, mended_so p it true t holds is tells visits)
+    answers visit.Paused p (Err why) has is holds store does = absurd is
+    answers (visit.Stopped why) p (Ok it) has is holds store does = absurd is
+    answers (visit.Stopped why) p (Err cause) has is holds store (kept, (t, tells, visits)) =
         subst (λ c. RebuildDoes x limit (Err c) (looks_at 0 x.metaslabs ++ holds) store) (sym is) (stopped_so why t holds store kept visits)
 
-    pub answered : (end : Visit) (p : Progress) (result : Result Mended MendFault) → IsAnswer end p result → CarriesOut rack area new x (VisitsDo x Rebuild marks (nothing_within limit) end p) → CarriesOut rack area new x (RebuildDoes x limit result)
-    answered end p result is c = behind_looks new x (VisitsDo x Rebuild marks (nothing_within limit) end p) (RebuildDoes x limit result) (answers end p result is) c
+    pub answered : (end : Visit) (p : Progress) (result : Result Mended MendFault) → HasBegun end p → IsAnswer end p result → CarriesOut rack area new x (VisitsDo x Rebuild marks (nothing_within limit) end p)
+        → CarriesOut rack area new x (RebuildDoes x limit result)
+    answered end p result has is c = behind_looks new x (VisitsDo x Rebuild marks (nothing_within limit) end p) (RebuildDoes x limit result) (answers end p result has is) c
 
 -- which metaslabs it visits
 pub to_rebuild : {R A : Type 0} (pool : Pool R A) (marks : List Bool) → AreAll pool (IsOnly Rebuild) → AreMarks pool marks → AreToVisit Rebuild pool marks

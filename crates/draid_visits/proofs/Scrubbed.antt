@@ -25,7 +25,7 @@ use Rattle.draid_pool.specs.declared.pool.Pool.{Pool}
 use Rattle.draid_pool.proofs.Looking.{looks_at}
 use Rattle.draid_pool.proofs.SyncSteps.{not_went}
 use Rattle.draid_visits.specs.Rebuilding.{IsAnswer, IsFirstScrub, IsLowestPass, IsMended, RunsWhere, ScrubDoes, ScrubIs, stopped_by}
-use Rattle.draid_visits.specs.Visiting.{AreAll, AreToVisit, HasMark, IsLow, IsMarked, IsOnly, Leaves, VisitsDo, end_by, nothing_within, tally_of}
+use Rattle.draid_visits.specs.Visiting.{AreAll, AreToVisit, HasBegun, HasMark, IsLow, IsMarked, IsOnly, Leaves, VisitsDo, end_by, nothing_within, tally_of}
 use Rattle.draid_visits.specs.declared.progress.Progress.{Progress}
 use Rattle.draid_visits.specs.declared.progress.Visit.{Visit}
 use Rattle.draid_visits.specs.declared.progress.Visit.TheVariants as visit
@@ -34,7 +34,7 @@ use Rattle.draid_visits.specs.declared.rebuilding.MendFault.TheVariants as fault
 use Rattle.draid_visits.specs.declared.rebuilding.Mended.{Mended}
 use Rattle.draid_visits.proofs.AllVisits.{views_more}
 use Rattle.draid_visits.proofs.Found.{lower_unseen, none_before, none_seen_of, seen_in}
-use Rattle.draid_visits.proofs.Rebuilt.{agree_seen, behind_looks, finds, found_other, visits_as}
+use Rattle.draid_visits.proofs.Rebuilt.{agree_seen, behind_looks, finds, found_other, visits_as, was_begun}
 
 pub never_shelf : Heal ≡ Rebuild → ⊥
 never_shelf is = absurd (cc)
@@ -104,13 +104,14 @@ module _ {R A : Type 0} (pool : Pool R A) (marks : List Bool) (first : ℕ) (are
 
 -- ---- the passes behind it
 
-pub scrubs_behind : {R A : Type 0} (end : Visit) (p : Progress) (result : Result Mended MendFault) (old new : Pool R A) → IsAnswer end p result → (end ≡ visit.Stopped sync.Shelf → ⊥) → Leaves Heal end new → ScrubIs result old new
-scrubs_behind visit.Over p (Ok it) old new is shelf leaves = subst (λ b. RunsWhere Heal b new) (sym is.paused_is) leaves
-scrubs_behind visit.Over p (Err why) old new is shelf leaves = absurd is
-scrubs_behind visit.Paused p (Ok it) old new is shelf leaves = subst (λ b. RunsWhere Heal b new) (sym is.paused_is) leaves
-scrubs_behind visit.Paused p (Err why) old new is shelf leaves = absurd is
-scrubs_behind (visit.Stopped why) p (Ok it) old new is shelf leaves = absurd is
-scrubs_behind {R} {A} (visit.Stopped why) p (Err cause) old new is shelf leaves = subst (λ c. ScrubIs (Err c) old new) (sym is) (by why shelf)
+pub scrubs_behind : {R A : Type 0} (end : Visit) (p : Progress) (result : Result Mended MendFault) (old new : Pool R A) → HasBegun end p → IsAnswer end p result → (end ≡ visit.Stopped sync.Shelf → ⊥) → Leaves Heal end new
+    → ScrubIs result old new
+scrubs_behind visit.Over p (Ok it) old new has is shelf leaves = subst (λ b. RunsWhere Heal b new) (sym is.paused_is) leaves
+scrubs_behind visit.Over p (Err why) old new has is shelf leaves = absurd (was_begun p is.1 has)
+scrubs_behind visit.Paused p (Ok it) old new has is shelf leaves = subst (λ b. RunsWhere Heal b new) (sym is.paused_is) leaves
+scrubs_behind visit.Paused p (Err why) old new has is shelf leaves = absurd is
+scrubs_behind (visit.Stopped why) p (Ok it) old new has is shelf leaves = absurd is
+scrubs_behind {R} {A} (visit.Stopped why) p (Err cause) old new has is shelf leaves = subst (λ c. ScrubIs (Err c) old new) (sym is) (by why shelf)
   where
     by : (w : SyncFault) → (visit.Stopped w ≡ visit.Stopped sync.Shelf → ⊥) → ScrubIs (Err (stopped_by w)) old new
     by sync.Worn not = tt
@@ -188,16 +189,16 @@ module _ {R A : Type 0} (rack : racks.Ghosts R) (area : areas.Ghosts A) where
     stopped_so sync.Shelf t holds store shelf kept visits = absurd (shelf refl)
     stopped_so sync.NoMemory t holds store shelf kept visits = (kept, (t, not_went Unit sync.NoMemory, scrubs holds (passes.Stopped (end_by sync.NoMemory)) t visits))
 
-    answers : (end : Visit) (p : Progress) (result : Result Mended MendFault) → (end ≡ visit.Stopped sync.Shelf → ⊥) → IsAnswer end p result → (holds : List Hold) (store : Store)
+    answers : (end : Visit) (p : Progress) (result : Result Mended MendFault) → (end ≡ visit.Stopped sync.Shelf → ⊥) → HasBegun end p → IsAnswer end p result → (holds : List Hold) (store : Store)
         → VisitsDo x Heal marks (nothing_within limit) end p holds store → ScrubDoes x limit result (looks_at 0 x.metaslabs ++ holds) store
-    answers visit.Over p (Ok it) shelf is holds store (kept, (t, tells, visits)) = (kept, mended_so p it false t holds is tells visits)
-    answers visit.Over p (Err why) shelf is holds store does = absurd is
-    answers visit.Paused p (Ok it) shelf is holds store (kept, (t, tells, visits)) = (kept, mended_so p it true t holds is tells visits)
-    answers visit.Paused p (Err why) shelf is holds store does = absurd is
-    answers (visit.Stopped why) p (Ok it) shelf is holds store does = absurd is
-    answers (visit.Stopped why) p (Err cause) shelf is holds store (kept, (t, tells, visits)) =
+    answers visit.Over p (Ok it) shelf has is holds store (kept, (t, tells, visits)) = (kept, mended_so p it false t holds is tells visits)
+    answers visit.Over p (Err why) shelf has is holds store does = absurd (was_begun p is.1 has)
+    answers visit.Paused p (Ok it) shelf has is holds store (kept, (t, tells, visits)) = (kept, mended_so p it true t holds is tells visits)
+    answers visit.Paused p (Err why) shelf has is holds store does = absurd is
+    answers (visit.Stopped why) p (Ok it) shelf has is holds store does = absurd is
+    answers (visit.Stopped why) p (Err cause) shelf has is holds store (kept, (t, tells, visits)) =
         subst (λ c. ScrubDoes x limit (Err c) (looks_at 0 x.metaslabs ++ holds) store) (sym is) (stopped_so why t holds store shelf kept visits)
 
-    pub scrub_answered : (end : Visit) (p : Progress) (result : Result Mended MendFault) → (end ≡ visit.Stopped sync.Shelf → ⊥) → IsAnswer end p result
+    pub scrub_answered : (end : Visit) (p : Progress) (result : Result Mended MendFault) → (end ≡ visit.Stopped sync.Shelf → ⊥) → HasBegun end p → IsAnswer end p result
         → CarriesOut rack area new x (VisitsDo x Heal marks (nothing_within limit) end p) → CarriesOut rack area new x (ScrubDoes x limit result)
-    scrub_answered end p result shelf is c = behind_looks rack area new x (VisitsDo x Heal marks (nothing_within limit) end p) (ScrubDoes x limit result) (answers end p result shelf is) c
+    scrub_answered end p result shelf has is c = behind_looks rack area new x (VisitsDo x Heal marks (nothing_within limit) end p) (ScrubDoes x limit result) (answers end p result shelf has is) c

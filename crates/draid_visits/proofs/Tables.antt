@@ -1,20 +1,20 @@
 -- The blocks and arms of a metaslab that calls leave.
-use Rattle.std.proofs.Common.{◌≡◌, ◌∙◌, [], ℕ, List, Option, Some, refl, sym, ap, subst}
-use Rattle.std.specs.Prelude.{slice_get, slice_index_or}
-use Rattle.draid_names.specs.declared.arm.Arm.{Arm}
+use Rattle.std.proofs.Common.{◌≡◌, ◌∙◌, ℕ, Option, refl, sym, ap, subst}
 use Rattle.draid_entries.specs.Entries.{SameEntries}
+use Rattle.draid_entries.specs.History.{reserved_of}
 use Rattle.draid_entries.specs.declared.entries.Entries.{Entries}
-use Rattle.draid_slots.specs.Table.{SlotTable}
-use Rattle.draid_shard.specs.Alike.{AreSameArms, KeepsArms, ShareArms}
-use Rattle.draid_shard.specs.Changes.{KeepsBlocks}
+use Rattle.draid_shard.specs.Alike.{KeepsArms, ShareArms}
+use Rattle.draid_shard.specs.Calls.{SameReserve}
+use Rattle.draid_shard.specs.Changes.{KeepsBlocks, SameGroups}
 use Rattle.draid_shard.specs.Fits.{IsLeaf}
 use Rattle.draid_shard.specs.States.{part_of}
 use Rattle.draid_shard.specs.declared.loan.KeptLoan.{KeptLoan}
 use Rattle.draid_shard.specs.declared.shard.Shard.{Shard}
-use Rattle.draid_shard.proofs.Changed.{arms_then, same_arms}
+use Rattle.draid_shard.proofs.Changed.{arms_then, same_arms, same_entries}
+use Rattle.draid_pool.specs.Drifts.{KeepsGroups}
 use Rattle.draid_pool.specs.Syncing.{KeepsTable}
-use Rattle.draid_pool.proofs.Arms.{leaf_kept}
-use Rattle.draid_pool.proofs.Lists.{some_of}
+use Rattle.draid_pool.proofs.Arms.{leaf_kept, shares_kept}
+use Rattle.draid_pool.proofs.Drifting.{groups_by}
 use Rattle.draid_visits.specs.Steps.{SharesTable}
 
 -- what stays
@@ -23,7 +23,7 @@ table_kept old new part keeps arms = record { part = part; entries = keeps.entri
 
 -- another loan
 table_loan : {R A : Type 0} (shard : Shard R A) (kept : Option KeptLoan) → KeepsTable shard (record shard { kept = kept })
-table_loan shard kept = record { part = refl; entries = record { at = λ first. refl; held = λ key. refl; count = refl; owed = λ columns. refl }; committed = refl; slots = same_arms shard.slots }
+table_loan shard kept = record { part = refl; entries = same_entries shard.entries; committed = refl; slots = same_arms shard.slots }
 
 closing_loan : {R A : Type 0} (old new : Shard R A) → new ≡ record old { kept = new.kept } → new.closing ≡ old.closing
 closing_loan {R} {A} old new only = ap (λ (z : Shard R A). z.closing) only
@@ -45,26 +45,6 @@ table_then a b c one two = record {
   slots = arms_then a.slots b.slots c.slots one.slots two.slots;
 }
 
--- arms that stay are shared
-shares_kept : (old new : SlotTable) → KeepsArms old new → ShareArms old new
-shares_kept old new kept = record {
-  arms = record {
-    children = ap (λ g. g.spec.children) kept.same.geometry_is;
-    slots = λ slot less. subst (λ (lists : List (List Arm)). AreSameArms (slice_index_or old.arms slot []) (slice_index_or lists slot [])) (sym kept.arms_stay) (same (slice_index_or old.arms slot []));
-  };
-  detached = kept.detached_stay;
-}
-  where
-    one : (ps : List Arm) (k : ℕ) (p q : Arm) → slice_get ps k ≡ Some p → slice_get ps k ≡ Some q → p ≡ q
-    one ps k p q a b = some_of (slice_get ps k) p q a b
-
-    same : (ps : List Arm) → AreSameArms ps ps
-    same ps = record {
-      many = refl;
-      each = λ k p q a b.
-          (let e = one ps k p q a b in record { kind_is = ap (λ (z : Arm). z.kind) e; number_is = ap (λ (z : Arm). z.number) e; offline_is = ap (λ (z : Arm). z.offline) e });
-    }
-
 shares_table : {R A : Type 0} (old new : Shard R A) → new.closing ≡ old.closing → KeepsTable old new → SharesTable old new
 shares_table old new closing table = record {
   part = table.part;
@@ -85,6 +65,14 @@ shares_arms old new part keeps arms leaves = record {
   leaves = leaves;
 }
 
+-- a hold left blocks, groups and arms, but for whether a pass has made these good
+pub shares_by : {R A : Type 0} (old new : Shard R A) → part_of new ≡ part_of old → KeepsBlocks old new → KeepsGroups old new → SharesTable old new
+shares_by old new part keeps groups = shares_arms old new part keeps groups.arms groups.leaves
+
+-- nothing changed
+pub shares_same : {R A : Type 0} (shard : Shard R A) → SharesTable shard shard
+shares_same shard = shares_table shard shard refl (record { part = refl; entries = same_entries shard.entries; committed = refl; slots = same_arms shard.slots })
+
 -- a stripe was lent, solved and landed
 pub table_landed : {R A : Type 0} (old lent solved new : Shard R A) → part_of lent ≡ part_of old → KeepsBlocks old lent → KeepsArms old.slots lent.slots → solved ≡ record lent { kept = solved.kept } → part_of new ≡ part_of solved
     → KeepsBlocks solved new → new.slots ≡ solved.slots → SharesTable old new
@@ -98,3 +86,43 @@ table_landed old lent solved new part keeps arms only then_part then_keeps slots
 pub table_stays : {R A : Type 0} (old lent solved : Shard R A) → part_of lent ≡ part_of old → KeepsBlocks old lent → KeepsArms old.slots lent.slots → solved ≡ record lent { kept = solved.kept } → SharesTable old solved
 table_stays old lent solved part keeps arms only =
     shares_table old solved (closing_loan lent solved only ∙ keeps.groups.closing) (table_then old lent solved (table_kept old lent part keeps arms) (subst (KeepsTable lent) (sym only) (table_loan lent solved.kept)))
+
+-- ---- the groups
+
+groups_then : {R A : Type 0} (a b c : Shard R A) → SameGroups a b → SameGroups b c → SameGroups a c
+groups_then a b c one two = record {
+  open_group_is = two.open_group_is ∙ one.open_group_is;
+  closing = two.closing ∙ one.closing;
+  sealed = two.sealed ∙ one.sealed;
+  committed = two.committed ∙ one.committed;
+}
+
+groups_loan : {R A : Type 0} (shard : Shard R A) (kept : Option KeptLoan) → SameGroups shard (record shard { kept = kept })
+groups_loan shard kept = record { open_group_is = refl; closing = refl; sealed = refl; committed = refl }
+
+-- a call left blocks and arms
+pub groups_left : {R A : Type 0} (old new : Shard R A) → KeepsBlocks old new → KeepsArms old.slots new.slots → SameReserve old new → KeepsGroups old new
+groups_left old new keeps arms reserve = groups_by old new keeps.groups arms reserve.reserved
+
+-- a pass ended: arms may have been made good
+pub groups_ended : {R A : Type 0} (old new : Shard R A) → KeepsBlocks old new → ShareArms old.slots new.slots → ((leaf : ℕ) → IsLeaf new.slots leaf → IsLeaf old.slots leaf) → SameReserve old new → KeepsGroups old new
+groups_ended old new keeps arms leaves reserve = record { groups = keeps.groups; arms = arms; leaves = leaves; reserve = reserve.reserved }
+
+module _ {R A : Type 0} (old lent solved : Shard R A) (keeps : KeepsBlocks old lent) (arms : KeepsArms old.slots lent.slots) (reserve : SameReserve old lent) (only : solved ≡ record lent { kept = solved.kept }) where
+  groups_solved : SameGroups old solved
+  groups_solved = groups_then old lent solved keeps.groups (subst (SameGroups lent) (sym only) (groups_loan lent solved.kept))
+
+  arms_solved : KeepsArms old.slots solved.slots
+  arms_solved = subst (KeepsArms old.slots) (sym (ap (λ (z : Shard R A). z.slots) only)) arms
+
+  reserve_solved : reserved_of solved.history ≡ reserved_of old.history
+  reserve_solved = ap (λ (z : Shard R A). reserved_of z.history) only ∙ reserve.reserved
+
+  -- a block was lent, and not restored
+  pub groups_stay : KeepsGroups old solved
+  groups_stay = groups_by old solved groups_solved arms_solved reserve_solved
+
+  -- a stripe or a block was lent, solved and landed
+  pub groups_landed : (new : Shard R A) → KeepsBlocks solved new → new.slots ≡ solved.slots → SameReserve solved new → KeepsGroups old new
+  groups_landed new then_keeps slots then_reserve =
+      groups_by old new (groups_then old solved new groups_solved then_keeps.groups) (subst (KeepsArms old.slots) (sym slots) arms_solved) (then_reserve.reserved ∙ reserve_solved)

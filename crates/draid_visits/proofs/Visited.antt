@@ -1,5 +1,5 @@
 -- The visit of one metaslab: its pass begins, is made to run, and lends.
-use Rattle.std.proofs.Common.{◌≡◌, ◌<◌, ◌≤◌, ◌+◌, ◌*◌, ◌^◌, ◌++◌, ◌∙◌, inl, inr, ℕ, List, Option, Some, None, arith, mul-le-mul, refl, sym, ap, subst}
+use Rattle.std.proofs.Common.{◌≡◌, ◌+◌, ◌*◌, ◌++◌, ◌∙◌, inl, inr, ℕ, List, Option, Some, None, refl, sym, ap, subst}
 use Rattle.std.specs.Prelude.{IsSome, IsSomeAnd}
 use Rattle.std.proofs.lemmas.List.{append_assoc}
 use Rattle.draid_rack.specs.declared.Rack as racks
@@ -22,12 +22,11 @@ use Rattle.draid_pool.specs.declared.fault.SyncFault.TheVariants as sync
 use Rattle.draid_pool.specs.declared.pool.Pool.{Pool}
 use Rattle.draid_pool.proofs.SyncSteps.{not_went}
 use Rattle.draid_visits.specs.Steps.{IsRebuiltIn}
-use Rattle.draid_visits.specs.Visiting.{BeganAt, BeginIs, HasBegun, IsLeft, IsLow, LendIs, RunIs, Runs, VisitIs, end_by, tally_of}
+use Rattle.draid_visits.specs.Visiting.{BeganAt, BeginIs, HasBegun, LendIs, RunIs, Runs, VisitIs, end_by, tally_of}
 use Rattle.draid_visits.specs.declared.progress.Progress.{Progress}
 use Rattle.draid_visits.specs.declared.progress.Visit.{Visit}
 use Rattle.draid_visits.specs.declared.progress.Visit.TheVariants as visit
-use Rattle.draid_visits.specs.declared.visiting.Begun.TheVariants as start
-use Rattle.draid_visits.proofs.Kept.{left_same}
+use Rattle.draid_visits.specs.declared.starting.Begun.TheVariants as start
 use Rattle.draid_visits.proofs.Leading.{Steps, steps_as, steps_then}
 
 -- a pass went on at a stripe of the pool
@@ -121,12 +120,6 @@ module _ {R A : Type 0} (rack : racks.Ghosts R) (area : areas.Ghosts A) (kind : 
 
 -- ---- what was done so far
 
-pub low_begun : (m stripe : ℕ) (was now : Progress) → now ≡ begun stripe was → IsLow m was → IsLow m now
-low_begun m stripe was now is low = subst (IsLow m) (sym is) (record { stripes = low.stripes; repaired = low.repaired; errors = low.errors })
-
-pub left_begun : (limit : Option ℕ) (stripe : ℕ) (was now : Progress) → now ≡ begun stripe was → IsLeft limit was → IsLeft limit now
-left_begun limit stripe was now is left = subst (IsLeft limit) (sym is) (left_same limit was (begun stripe was) refl refl left)
-
 first_some : (o : Option ℕ) (n : ℕ) → IsSome (passes.first_from o n)
 first_some None n = refl
 first_some (Some k) n = refl
@@ -159,10 +152,3 @@ lacks_so kind shard refused (inr has) = has (refl, refused.1.1)
 
 pub not_running : {R A : Type 0} (kind : PassKind) (shard : Shard R A) (number : ℕ) → IsPlanRefused shard kind (plan.PassRunning number) → shard.pass ≡ None → ⊥
 not_running kind shard number refused none = none_some shard.pass refused.0 none refused.1
-
--- ---- numbers
-
-pub stripe_fits : (m most n stripe : ℕ) → m < 64 → n ≡ most → most ≤ 2 ^ 28 → stripe ≤ most → m * n + stripe < 2 ^ 64
-stripe_fits m most n stripe few same bound inside =
-    let all : m * n ≤ 64 * 2 ^ 28 = mul-le-mul (let less : m ≤ 64 = omega (arith, few) in less) (let low : n ≤ 2 ^ 28 = omega (arith, same, bound) in low) in
-    omega (arith, all, bound, inside)

@@ -1,6 +1,5 @@
 -- A rebuild that waits: groups are committed until it runs.
 use Rattle.std.proofs.Common.{◌++◌, [], inl, inr, ℕ, suc, List, Ok, Err, refl, ap}
-use Rattle.std.specs.Prelude.{OnErr, Result}
 use Rattle.draid_rack.specs.declared.Rack as racks
 use Rattle.draid_area.specs.declared.Area as areas
 use Rattle.draid_names.specs.declared.pass_kind.PassKind.TheVariants.{Heal, Rebuild}
@@ -89,7 +88,5 @@ module _ {R A : Type 0} (rack : racks.Ghosts R) (area : areas.Ghosts A) (m : ℕ
       leads_end rack area (Readying x.geometry x.perms m) (Readying x.geometry x.perms m) (λ g p holds. passes.RunsNow g p m holds) mid new x Went l step (λ holds runs. (0, (refl, runs)))
 
   -- a scrub runs as it is
-  pub scrub_ready : (pool : Pool R A) (r : Result Unit SyncFault) → OnErr r ((x : State) → Represents rack area pool x → ⊥) → (x : State) → Represents rack area pool x
-      → CarriesOut rack area pool x (Phase x (passes.ReadyPhase x.geometry x.perms Heal m) (end_of r))
-  scrub_ready pool (Ok done) never x is = carries_none rack area pool x (Phase x (passes.ReadyPhase x.geometry x.perms Heal m) Went) is (refl, (refl, refl))
-  scrub_ready pool (Err why) never x is = absurd (never x is)
+  pub scrub_ready : (pool : Pool R A) (x : State) → Represents rack area pool x → CarriesOut rack area pool x (Phase x (passes.ReadyPhase x.geometry x.perms Heal m) Went)
+  scrub_ready pool x is = carries_none rack area pool x (Phase x (passes.ReadyPhase x.geometry x.perms Heal m) Went) is (refl, (refl, refl))

@@ -1,7 +1,12 @@
 pub mod Behind
 pub mod Cancelling
+pub mod Looks
 pub mod Pieces
+pub mod Readies
 pub mod Rebuilding
 pub mod Says
+pub mod Starts
 pub mod Steps
+pub mod Units
 pub mod Visiting
+pub mod Visits

@@ -1,5 +1,5 @@
 -- What a rebuild and a scrub do to a pool, and what they leave.
-use Rattle.std.specs.Prelude.{◌≡◌, ◌<◌, ◌⊎◌, ⊤, ℕ, Bool, true, false, List, Option, Some, Result, Ok, Err, slice_get}
+use Rattle.std.specs.Prelude.{◌≡◌, ◌<◌, ◌⊎◌, ⊤, ℕ, Bool, true, false, List, None, Option, Some, Result, Ok, Err, slice_get}
 use Rattle.draid_names.specs.declared.pass_kind.PassKind.{PassKind}
 use Rattle.draid_names.specs.declared.pass_kind.PassKind.TheVariants.{Heal, Rebuild}
 use Rattle.draid_pass.specs.declared.pass.Pass.{Pass}
@@ -55,9 +55,14 @@ stopped_by sync.Last = fault.Last
 stopped_by sync.Shelf = fault.Shelf
 stopped_by sync.NoMemory = fault.NoMemory
 
+-- what was done; or nothing was, since others had taken away what there was to do
+abbrev pub IsDone : Progress → Bool → Result Mended MendFault → Type 0
+IsDone p paused (Ok it) = IsMended p paused it
+IsDone p paused (Err cause) = (cause ≡ fault.Nothing) × (p.from ≡ None)
+
 -- by the end to which the visits came
 abbrev pub IsAnswer : Visit → Progress → Result Mended MendFault → Type 0
-IsAnswer visit.Over p (Ok it) = IsMended p false it
+IsAnswer visit.Over p result = IsDone p false result
 IsAnswer visit.Paused p (Ok it) = IsMended p true it
 IsAnswer (visit.Stopped why) p (Err cause) = cause ≡ stopped_by why
 IsAnswer end p result = ⊥

@@ -44,6 +44,11 @@ pub record IsRunningOf (kind : PassKind) (pass : Pass) : Type 0 where
   pub kind_is : pass.kind ≡ kind
   pub running : pass.running ≡ true
 
+-- a pass of a kind that may lend: a rebuild has to run. (In each state a scrub runs; one that doesn't lends nothing.)
+pub record IsToLend (kind : PassKind) (pass : Pass) : Type 0 where
+  pub kind_is : pass.kind ≡ kind
+  pub runs : kind ≡ Rebuild → pass.running ≡ true
+
 -- the pass runs still, and stands behind where it stood, within the metaslab
 pub record MovesOn {R A : Type 0} (kind : PassKind) (old new : Shard R A) : Type 0 where
   pub was : Pass

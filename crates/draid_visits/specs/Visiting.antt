@@ -21,8 +21,8 @@ use Rattle.draid_visits.specs.Steps.{IsRebuiltIn, IsRunningOf}
 use Rattle.draid_visits.specs.declared.progress.Progress.{Progress}
 use Rattle.draid_visits.specs.declared.progress.Visit.{Visit}
 use Rattle.draid_visits.specs.declared.progress.Visit.TheVariants as visit
-use Rattle.draid_visits.specs.declared.visiting.Begun.{Begun}
-use Rattle.draid_visits.specs.declared.visiting.Begun.TheVariants as begun
+use Rattle.draid_visits.specs.declared.starting.Begun.{Begun}
+use Rattle.draid_visits.specs.declared.starting.Begun.TheVariants as begun
 
 -- ---- what was done so far
 
@@ -31,6 +31,10 @@ tally_of p = record { from = p.from; units = p.stripes; repaired = p.repaired; e
 
 abbrev pub nothing_within : Option ℕ → Progress
 nothing_within limit = record { left = limit; from = None; stripes = 0; repaired = 0; errors = 0 }
+
+-- a stripe or a block was lent, and so many columns were rewritten
+abbrev pub counted : ℕ → Progress → Progress
+counted repaired p = record p { left = passes.one_less p.left; stripes = p.stripes + 1; repaired = p.repaired + repaired }
 
 -- what so many metaslabs may have added
 pub record IsLow (metaslabs : ℕ) (p : Progress) : Type 0 where

@@ -5,15 +5,23 @@
 
 mod cancelling;
 mod holding;
+mod lends;
+mod looks;
 mod marks;
+mod mending;
 mod progress;
+mod readying;
 mod rebuilding;
 mod replies;
+mod starting;
 mod steps;
 mod unit;
-mod visiting;
+mod visits;
 
 pub use cancelling::{cancel, cancel_each};
+pub use looks::{find_marks, find_pass};
 pub use marks::pass_in;
+pub use mending::{Mending, begin_rebuild, begin_scrub, go_on};
+pub use progress::Progress;
 pub use rebuilding::{MendFault, Mended, rebuild, scrub};
 pub use replies::{reply_to_cancel, reply_to_rebuild, reply_to_scrub};

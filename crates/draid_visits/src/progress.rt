@@ -1,13 +1,13 @@
 //! What a rebuild or a scrub of a pool did so far.
 ghost use Rattle.std.specs.Prelude.{◌≡◌, ◌≢◌, ◌<◌, ◌+◌, ◌^◌, ◌↔◌, IsTrue, Some};
 ghost use Rattle.draid_session.specs.Passes as passes;
-ghost use Rattle.draid_visits.specs.Visiting.{nothing_within};
+ghost use Rattle.draid_visits.specs.Visiting.{counted, nothing_within};
 
 use draid_pool::SyncFault;
 
 /// What a rebuild or a scrub of a pool may do yet, and what it did.
 #[derive(Clone, Copy)]
-pub(crate) struct Progress {
+pub struct Progress {
     /// How many more stripes or blocks it may lend, where it has a limit.
     pub left: Option<u64>,
     /// The pool's stripe at which its first pass went on.
@@ -66,7 +66,7 @@ impl Progress {
         requires some { self.old.left ≢ Some 0 }
         requires low { self.old.stripes + 1 < 2 ^ 64 }
         requires rewritten { self.old.repaired + repaired < 2 ^ 64 }
-        ensures { self.new ≡ record self.old { left = passes.one_less self.old.left; stripes = self.old.stripes + 1; repaired = self.old.repaired + repaired } }
+        ensures { self.new ≡ counted repaired self.old }
     {
         if let Some(left) = self.left {
             self.left = Some(left - 1);

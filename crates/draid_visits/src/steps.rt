@@ -6,6 +6,7 @@ ghost use Rattle.draid_spec.specs.Geometry.{metaslab_stripes};
 ghost use Rattle.draid_segments.specs.Segments.{Pieces};
 ghost use Rattle.draid_pass.specs.declared.pass.Pass.{Pass};
 ghost use Rattle.draid_shard.specs.Calls.{SameAreas};
+ghost use Rattle.draid_shard.specs.Changes.{KeepsBlocks};
 ghost use Rattle.draid_shard.specs.Fits.{Valid};
 ghost use Rattle.draid_shard.specs.Left.{HasNothingLeft};
 ghost use Rattle.draid_shard.specs.Part.{Part};
@@ -14,11 +15,13 @@ ghost use Rattle.draid_restore.specs.Loans.{HasBlockLeft};
 ghost use Rattle.draid_session.specs.Holds.{view_of};
 ghost use Rattle.draid_session.specs.Passes as passes;
 ghost use Rattle.draid_session.specs.State.{Metaslab};
+ghost use Rattle.draid_pool.specs.Drifts.{KeepsGroups};
 ghost use Rattle.draid_pool.specs.Metaslabs.{IsMetaslab};
-ghost use Rattle.draid_pool.specs.Shards.{Goes, SameBlocks};
+ghost use Rattle.draid_pool.specs.Shards.{Goes, GoesLater, SameBlocks};
 ghost use Rattle.draid_pool.specs.Syncing.{KeepsTable};
 ghost use Rattle.draid_visits.specs.Pieces.{GoesTo};
-ghost use Rattle.draid_visits.specs.Steps.{HasContents, IsRebuiltIn, IsRunningOf, MovesOn, NextIs, ReadyIs, SharesTable, StartIs};
+ghost use Rattle.draid_visits.specs.Steps.{HasContents, IsRebuiltIn, IsRunningOf, IsToLend, MovesOn, NextIs, ReadyIs, SharesTable, StartIs};
+ghost use Rattle.draid_visits.specs.Visiting.{IsOnly};
 
 use crate::unit::unit_in;
 use draid_area::Area;
@@ -34,6 +37,7 @@ use draid_slots::Marks;
 const NO_MARKS: [Marks; 64] = [[false; 3]; 64];
 
 /// What comes next in a metaslab where a pass runs.
+#[derive(Clone, Copy)]
 pub(crate) enum Next {
     /// A stripe or a block was lent, and landed; so many columns were rewritten, counted by arm.
     Landed { repaired: u64 },
@@ -77,6 +81,8 @@ pub(crate) fn start_in<R: Rack, A: Area>(
     ensures valid { Valid R.Rack shard.new }
     ensures table { KeepsTable shard.old shard.new }
     ensures closing { shard.new.closing ≡ shard.old.closing }
+    ensures keeps { KeepsBlocks shard.old shard.new }
+    ensures groups { KeepsGroups shard.old shard.new }
     ensures areas { SameAreas shard.old shard.new }
     ensures pass { OnOk result (IsSomeAnd shard.new.pass (λ (p : Pass). p.kind ≡ kind)) }
     ensures none { OnErr result (shard.new.pass ≡ None) }
@@ -99,6 +105,8 @@ fn plan_in<R: Rack, A: Area>(shard: &mut Shard<R, A>, kind: PassKind) -> Result<
     ensures valid { Valid R.Rack shard.new }
     ensures table { KeepsTable shard.old shard.new }
     ensures closing { shard.new.closing ≡ shard.old.closing }
+    ensures keeps { KeepsBlocks shard.old shard.new }
+    ensures groups { KeepsGroups shard.old shard.new }
     ensures areas { SameAreas shard.old shard.new }
     ensures pass { OnOk result (IsSomeAnd shard.new.pass (λ (p : Pass). p.kind ≡ kind)) }
     ensures none { OnErr result (shard.new.pass ≡ None) }
@@ -120,6 +128,8 @@ pub(crate) fn ready_in<R: Rack, A: Area>(shard: &mut Shard<R, A>) -> bool
     ensures valid { Valid R.Rack shard.new }
     ensures table { KeepsTable shard.old shard.new }
     ensures areas { SameAreas shard.old shard.new }
+    ensures keeps { KeepsBlocks shard.old shard.new }
+    ensures groups { KeepsGroups shard.old shard.new }
     ensures runs { result ≡ true → IsSomeAnd shard.new.pass (IsRunningOf Rebuild) }
     ensures waits { result ≡ false → shard.new ≡ shard.old }
     ensures goes { (part : Part) (pieces : Pieces) (x : Metaslab) → IsMetaslab R.Rack A.Area part pieces shard.old x
@@ -141,25 +151,31 @@ pub(crate) fn is_running(pass: &Option<Pass>) -> bool
     }
 }
 
-/// Lends the next stripe or block and lands it, unless no more is to be lent; or ends the pass, where nothing is left.
+/// Lends the next stripe or block and lands it, unless no more is to be lent; or ends the pass, where nothing is left. In no
+/// state is there a scrub that doesn't run, and where there is one all the same that is told as want of memory.
 pub(crate) fn next_in<R: Rack, A: Area>(
     shard: &mut Shard<R, A>,
     kind: PassKind,
     used_up: bool,
 ) -> Next
     requires valid { Valid R.Rack shard.old }
-    requires running { IsSomeAnd shard.old.pass (IsRunningOf kind) }
+    requires lends { IsSomeAnd shard.old.pass (IsToLend kind) }
     ensures valid { Valid R.Rack shard.new }
     ensures table { SharesTable shard.old shard.new }
+    ensures groups { KeepsGroups shard.old shard.new }
     ensures areas { SameAreas shard.old shard.new }
     ensures landed { (repaired : ℕ) → result ≡ Next.Landed repaired → (used_up ≡ false) × MovesOn kind shard.old shard.new × (repaired ≤ 2 ^ 8) }
-    ensures ended { (errors : ℕ) → result ≡ Next.Ended errors → shard.new.pass ≡ None }
-    ensures low { (errors : ℕ) → result ≡ Next.Ended errors → errors ≤ LAST_NUMBER }
-    ensures paused { result ≡ Next.Paused → used_up ≡ true }
-    ensures stays { result ≡ Next.Paused → shard.new.pass ≡ shard.old.pass }
+    ensures ended { (errors : ℕ) → result ≡ Next.Ended errors → (shard.new.pass ≡ None) × (errors ≤ LAST_NUMBER) }
+    ensures paused { result ≡ Next.Paused → (used_up ≡ true) × IsSomeAnd shard.new.pass (IsRunningOf kind) }
+    ensures only { IsOnly kind shard.new }
+    ensures moves { (part : Part) (pieces : Pieces) (x : Metaslab) → IsMetaslab R.Rack A.Area part pieces shard.old x
+        → GoesLater R.Rack A.Area part pieces x shard.new }
     ensures goes { (part : Part) (pieces : Pieces) (x : Metaslab) → IsMetaslab R.Rack A.Area part pieces shard.old x → HasContents part pieces x
         → GoesTo R.Rack A.Area part pieces x shard.new (λ holds y. NextIs part kind used_up result holds × SameBlocks x y) }
 {
+    if !is_running(&shard.pass) {
+        return Next::NoMemory;
+    }
     if used_up {
         return rest_in(shard, kind);
     }
@@ -172,10 +188,12 @@ fn rest_in<R: Rack, A: Area>(shard: &mut Shard<R, A>, kind: PassKind) -> Next
     requires running { IsSomeAnd shard.old.pass (IsRunningOf kind) }
     ensures valid { Valid R.Rack shard.new }
     ensures table { SharesTable shard.old shard.new }
+    ensures groups { KeepsGroups shard.old shard.new }
     ensures areas { SameAreas shard.old shard.new }
-    ensures paused { result ≡ Next.Paused → shard.new.pass ≡ shard.old.pass }
+    ensures paused { result ≡ Next.Paused → IsSomeAnd shard.new.pass (IsRunningOf kind) }
     ensures ended { (errors : ℕ) → result ≡ Next.Ended errors → (shard.new.pass ≡ None) × (errors ≤ LAST_NUMBER) }
     ensures others { (result ≡ Next.Paused) ⊎ ((errors : ℕ) × (result ≡ Next.Ended errors)) }
+    ensures only { IsOnly kind shard.new }
     ensures goes { (part : Part) (pieces : Pieces) (x : Metaslab) → IsMetaslab R.Rack A.Area part pieces shard.old x
         → Goes R.Rack A.Area part pieces x shard.new (λ holds y. NextIs part kind true result holds × SameBlocks x y) }
 {
@@ -210,6 +228,7 @@ pub(crate) fn end_in<R: Rack, A: Area>(shard: &mut Shard<R, A>) -> u64
     requires left { HasNothingLeft shard.old }
     ensures valid { Valid R.Rack shard.new }
     ensures table { SharesTable shard.old shard.new }
+    ensures groups { KeepsGroups shard.old shard.new }
     ensures areas { SameAreas shard.old shard.new }
     ensures over { shard.new.pass ≡ None }
     ensures low { result ≤ LAST_NUMBER }

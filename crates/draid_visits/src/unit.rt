@@ -9,10 +9,12 @@ ghost use Rattle.draid_shard.specs.Part.{Part};
 ghost use Rattle.draid_mend.specs.Loans.{IsRunningRebuild};
 ghost use Rattle.draid_shard.specs.Scrubs.{IsRunningScrub};
 ghost use Rattle.draid_session.specs.State.{Metaslab};
+ghost use Rattle.draid_pool.specs.Drifts.{KeepsGroups};
 ghost use Rattle.draid_pool.specs.Metaslabs.{IsMetaslab};
-ghost use Rattle.draid_pool.specs.Shards.{Goes, SameBlocks};
+ghost use Rattle.draid_pool.specs.Shards.{Goes, GoesLater, SameBlocks};
 ghost use Rattle.draid_visits.specs.Pieces.{GoesTo};
 ghost use Rattle.draid_visits.specs.Steps.{HasContents, IsRunningOf, MovesOn, NextIs, SharesTable};
+ghost use Rattle.draid_visits.specs.Visiting.{IsOnly};
 
 use crate::steps::{Next, end_in};
 use draid_area::Area;
@@ -29,10 +31,14 @@ pub(crate) fn unit_in<R: Rack, A: Area>(shard: &mut Shard<R, A>, kind: PassKind)
     requires running { IsSomeAnd shard.old.pass (IsRunningOf kind) }
     ensures valid { Valid R.Rack shard.new }
     ensures table { SharesTable shard.old shard.new }
+    ensures groups { KeepsGroups shard.old shard.new }
     ensures areas { SameAreas shard.old shard.new }
     ensures landed { (repaired : ℕ) → result ≡ Next.Landed repaired → MovesOn kind shard.old shard.new × (repaired ≤ 2 ^ 8) }
     ensures ended { (errors : ℕ) → result ≡ Next.Ended errors → (shard.new.pass ≡ None) × (errors ≤ LAST_NUMBER) }
     ensures never { result ≡ Next.Paused → ⊥ }
+    ensures only { IsOnly kind shard.new }
+    ensures moves { (part : Part) (pieces : Pieces) (x : Metaslab) → IsMetaslab R.Rack A.Area part pieces shard.old x
+        → GoesLater R.Rack A.Area part pieces x shard.new }
     ensures goes { (part : Part) (pieces : Pieces) (x : Metaslab) → IsMetaslab R.Rack A.Area part pieces shard.old x → HasContents part pieces x
         → GoesTo R.Rack A.Area part pieces x shard.new (λ holds y. NextIs part kind false result holds × SameBlocks x y) }
 {
@@ -48,10 +54,12 @@ fn stripe_in<R: Rack, A: Area>(shard: &mut Shard<R, A>) -> Next
     requires running { IsSomeAnd shard.old.pass IsRunningRebuild }
     ensures valid { Valid R.Rack shard.new }
     ensures table { SharesTable shard.old shard.new }
+    ensures groups { KeepsGroups shard.old shard.new }
     ensures areas { SameAreas shard.old shard.new }
     ensures landed { (repaired : ℕ) → result ≡ Next.Landed repaired → MovesOn Rebuild shard.old shard.new × (repaired ≡ 0) }
     ensures ended { (errors : ℕ) → result ≡ Next.Ended errors → (shard.new.pass ≡ None) × (errors ≤ LAST_NUMBER) }
     ensures never { result ≡ Next.Paused → ⊥ }
+    ensures only { IsOnly Rebuild shard.new }
     ensures goes { (part : Part) (pieces : Pieces) (x : Metaslab) → IsMetaslab R.Rack A.Area part pieces shard.old x
         → Goes R.Rack A.Area part pieces x shard.new (λ holds y. NextIs part Rebuild false result holds × SameBlocks x y) }
 {
@@ -75,10 +83,14 @@ fn block_in<R: Rack, A: Area>(shard: &mut Shard<R, A>) -> Next
     requires running { IsSomeAnd shard.old.pass IsRunningScrub }
     ensures valid { Valid R.Rack shard.new }
     ensures table { SharesTable shard.old shard.new }
+    ensures groups { KeepsGroups shard.old shard.new }
     ensures areas { SameAreas shard.old shard.new }
     ensures landed { (repaired : ℕ) → result ≡ Next.Landed repaired → MovesOn Heal shard.old shard.new × (repaired ≤ 2 ^ 8) }
     ensures ended { (errors : ℕ) → result ≡ Next.Ended errors → (shard.new.pass ≡ None) × (errors ≤ LAST_NUMBER) }
     ensures never { result ≡ Next.Paused → ⊥ }
+    ensures only { IsOnly Heal shard.new }
+    ensures moves { (part : Part) (pieces : Pieces) (x : Metaslab) → IsMetaslab R.Rack A.Area part pieces shard.old x
+        → GoesLater R.Rack A.Area part pieces x shard.new }
     ensures goes { (part : Part) (pieces : Pieces) (x : Metaslab) → IsMetaslab R.Rack A.Area part pieces shard.old x → HasContents part pieces x
         → GoesTo R.Rack A.Area part pieces x shard.new (λ holds y. NextIs part Heal false result holds × SameBlocks x y) }
 {

@@ -6,7 +6,7 @@ use Rattle.draid_pool.proofs.RoundSteps.{beyond, concerns_own, each_all, each_mo
 use Rattle.draid_changes.specs.Behind.{IsSwitched}
 use Rattle.draid_changes.specs.Walks.{MaySwitch, Switches}
 use Rattle.draid_changes.proofs.LeafHolds.{switch_keeps, switch_ready}
-use Rattle.draid_changes.proofs.Leaves.{is_switched}
+use Rattle.draid_changes.proofs.Leaves.{is_switched, leaf_arm}
 use Rattle.draid_changes.proofs.rounds.switch_each.Goals as goal
 
 pub loop-metaslab-init : goal.loop-metaslab-init
@@ -41,7 +41,7 @@ loop-metaslab-preserved g c =
       owns = c.hold.ensures.owns ∙ i.owns;
       rest = λ k from. beyond (g.M.Metaslabs.last c.args.metaslabs.now) (g.M.Metaslabs.last l.metaslabs) (g.M.Metaslabs.last c.hold.new.self) l.metaslab h.after h.is i.rest k from;
       done = each_more (λ (shard : Shard g.row.R.Denot g.row.A.Denot). IsSwitched shard.slots c.args.leaf c.args.offline) (g.M.Metaslabs.last l.metaslabs) (g.M.Metaslabs.last c.hold.new.self) l.metaslab h.after h.is
-          (is_switched h.before.slots h.after.slots c.args.leaf c.args.offline h.related.slots may.arm) i.done;
+          (is_switched h.before.slots h.after.slots c.args.leaf c.args.offline h.related.slots (leaf_arm h.before.slots c.args.leaf may.arm)) i.done;
       each = round_more g.R.Rack g.A.Area g.M.Metaslabs.last g.M.Metaslabs.went g.M.Metaslabs.shared (g.M.Metaslabs.owns c.args.metaslabs.now) (λ none x y. Switches g.R.Rack c.args.leaf c.args.offline x y) l.metaslab 0 0 c.args.metaslabs.now l.metaslabs c.hold.new.self i.each
           (held_by g.R.Rack g.A.Area g.M.Metaslabs.last g.M.Metaslabs.went g.M.Metaslabs.shared (g.M.Metaslabs.owns l.metaslabs) (g.M.Metaslabs.owns c.args.metaslabs.now) i.owns (λ x y. Switches g.R.Rack c.args.leaf c.args.offline x y) l.metaslabs l.metaslab c.hold.new.self h.shard h.before h.after h.there h.drifts h.is h.went h.related);
     }

@@ -3,9 +3,8 @@ use Rattle.draid_spec.specs.declared.layout.Geometry.{Geometry}
 use Rattle.draid_pool.specs.declared.fault.SyncFault.TheVariants as sync
 use Rattle.draid_pool.specs.declared.fault.Synced.{Synced}
 use Rattle.draid_pool.proofs.Rises.{areas_on, err_on, rose_then}
-use Rattle.draid_visits.proofs.Kept.{geometry_synced}
 use Rattle.draid_run.specs.declared.rebalancing.Rebalanced.{Rebalanced}
-use Rattle.draid_run.proofs.Balanced.{only_synced, sync_goes, sync_stops}
+use Rattle.draid_run.proofs.Balanced.{geometry_synced, only_synced, sync_goes, sync_stops}
 use Rattle.draid_run.proofs.rebalancing.sync_then.Goals as goal
 
 pub scrub_then-requires : goal.scrub_then-requires

@@ -1,39 +1,61 @@
-use Rattle.std.proofs.Common.{refl, subst, sym}
+use Rattle.std.proofs.Common.{refl}
+use Rattle.draid_pool.proofs.GroupClosed.{none_beyond, with_owned}
+use Rattle.draid_pool.proofs.GroupDone.{with_both}
+use Rattle.draid_pool.proofs.Wholes.{few_geometry, same_pointers}
+use Rattle.draid_visits.proofs.OwnedMends.{each_valid, left_begun, low_begun, may_mend, rebuild_begun, rebuild_done, rebuild_refused, rebuild_waits}
 use Rattle.draid_names.specs.declared.pass_kind.PassKind.TheVariants.{Rebuild}
-use Rattle.draid_pool.specs.Carries.{CarriesOut}
-use Rattle.draid_visits.specs.Visiting.{IsLeft, IsLow, VisitsDo}
-use Rattle.draid_visits.proofs.Scrubbed.{low_first}
-use Rattle.draid_visits.proofs.Rebuilt.{answered, found_nothing, found_scrub, left_first, nothing_there, to_rebuild, within_limit}
 use Rattle.draid_visits.proofs.rebuilding.rebuild.Goals as goal
 
-pub returns-in-Some-clause-carries : goal.returns-in-Some-clause-carries
-returns-in-Some-clause-carries g c x is = found_scrub g.R.Rack g.A.Area c.args.pool.now x c.args.limit c.in-Some.metaslab c.in-Some.number is c.in-Some.ensures.found
+pub begin_rebuild-requires : goal.begin_rebuild-requires
+begin_rebuild-requires g c =
+    let pool = c.args.pool.now in
+    let w = c.requires.whole in
+    record { fits = tt; few = few_geometry g.R.Rack g.A.Area pool w; passes = refl; valid = each_valid g.R.Rack g.A.Area pool w; beyond = none_beyond g.R.Rack g.A.Area pool w }
 
-pub returns-in_default-visited-clause-carries : goal.returns-in_default-visited-clause-carries
-returns-in_default-visited-clause-carries g c x is = found_nothing g.R.Rack g.A.Area c.args.pool.now x c.args.limit is c.in_default.ensures.none (c.in_default-visited.ensures.unseen x is)
+pub returns-in-Err : goal.returns-in-Err
+returns-in-Err g c =
+    let old = c.args.pool.now in
+    let b = c.begin_rebuild.new.metaslabs in
+    let z = rebuild_refused g.R.Rack g.A.Area c.args.limit old c.requires.whole c.in-Err.fault b c.in-Err.ensures.begins in
+    record { whole = z.whole; same = same_pointers old (with_owned old b) refl; later = z.later; cause = z.cause; within = tt; carries = z.carries; passes = z.passes }
 
-pub returns-in_default-visited-clause-passes : goal.returns-in_default-visited-clause-passes
-returns-in_default-visited-clause-passes g c = (refl, nothing_there c.args.pool.now c.in_default.ensures.none c.in_default-visited.ensures.none)
+pub go_on-requires : goal.go_on-requires
+go_on-requires g c =
+    let old = c.args.pool.now in
+    let w = c.requires.whole in
+    let b = c.begin_rebuild.new.metaslabs in
+    let it = c.in-Ok.mending in
+    let e = c.in-Ok.ensures in
+    let r = rebuild_begun g.R.Rack g.A.Area c.args.limit old w it b e.begins e.some.0 e.some.1 e.some.2 in
+    record { fits = tt; own = refl; passes = refl; may = may_mend g.R.Rack g.A.Area c.args.limit old w Rebuild it b r.begun; long = e.long; low = low_begun g.R.Rack g.A.Area c.args.limit old w Rebuild it b r.begun }
 
-pub returns-clause-within : goal.returns-clause-within
-returns-clause-within g c =
-    let e = c.visit_all-end.ensures in
-    within_limit c.args.limit c.visit_all-end.result c.visit_all-end.new.progress c.answer.result (e.left c.args.limit (subst (IsLeft c.args.limit) (sym c.within-progress.ensures) (left_first c.args.limit))) e.paused c.answer.ensures
+pub unreachable-requires : goal.unreachable-requires
+unreachable-requires g c =
+    let old = c.args.pool.now in
+    let w = c.requires.whole in
+    let b = c.begin_rebuild.new.metaslabs in
+    let it = c.in-Ok.mending in
+    let e = c.in-Ok.ensures in
+    let r = rebuild_begun g.R.Rack g.A.Area c.args.limit old w it b e.begins e.some.0 e.some.1 e.some.2 in
+    rebuild_waits g.R.Rack g.A.Area c.args.limit old w it b r c.go_on.new.metaslabs c.go_on.new.uber c.go_on.new.mending c.in-None.ensures.mends
 
-pub returns-clause-carries : goal.returns-clause-carries
-returns-clause-carries g c x is =
-    let sees = c.in-Some-visited.ensures.seen x is in
-    answered g.R.Rack g.A.Area c.args.pool.now c.visit_all-end.new.pool x c.args.limit c.in-Some-visited.marks is c.in_default.ensures.none sees c.in-Some-visited.ensures.some
-    c.visit_all-end.result c.visit_all-end.new.progress c.answer.result c.answer.ensures (subst (λ q. CarriesOut g.R.Rack g.A.Area c.visit_all-end.new.pool x (VisitsDo x Rebuild c.in-Some-visited.marks q c.visit_all-end.result c.visit_all-end.new.progress)) c.within-progress.ensures (c.visit_all-end.ensures.carries x is))
-
-pub visit_all-end-requires : goal.visit_all-end-requires
-visit_all-end-requires g c =
-    let v = c.in-Some-visited.ensures in
+pub returns : goal.returns
+returns g c =
+    let old = c.args.pool.now in
+    let w = c.requires.whole in
+    let b = c.begin_rebuild.new.metaslabs in
+    let it = c.in-Ok.mending in
+    let e = c.in-Ok.ensures in
+    let r = rebuild_begun g.R.Rack g.A.Area c.args.limit old w it b e.begins e.some.0 e.some.1 e.some.2 in
+    let f = c.in-Some.ensures in
+    let new = with_both g.R.Rack g.A.Area old c.go_on.new.metaslabs c.go_on.new.uber in
+    let z = rebuild_done g.R.Rack g.A.Area c.args.limit old w it b r c.in-Some.answer c.go_on.new.metaslabs c.go_on.new.uber c.go_on.new.mending f.mends in
     record {
-      whole = c.requires.whole;
-      alone = c.in_default.ensures.none;
-      marks = to_rebuild c.args.pool.now c.in-Some-visited.marks c.in_default.ensures.none v.marks;
-      some = v.some;
-      long = v.long;
-      low = subst (IsLow 0) (sym c.within-progress.ensures) (low_first c.args.limit);
+      whole = z.whole;
+      same = same_pointers old new refl;
+      later = z.later;
+      cause = z.cause;
+      within = f.within c.args.limit (left_begun g.R.Rack g.A.Area c.args.limit old w Rebuild it b r.begun);
+      carries = z.carries;
+      passes = z.passes;
     }

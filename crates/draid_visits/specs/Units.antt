@@ -1,0 +1,76 @@
+-- What comes next in a metaslab that has a pass, in a hold, and hold after hold.
+use Rattle.std.specs.Prelude.{◌≡◌, ◌≢◌, ◌≤◌, ◌+◌, ◌^◌, ◌↔◌, ℕ, zero, suc, Bool, true, false, Option, Some, None, IsSomeAnd, IsTrue}
+use Rattle.draid_names.specs.declared.numbers.TheConstants.{LAST_NUMBER}
+use Rattle.draid_names.specs.declared.pass_kind.PassKind.{PassKind}
+use Rattle.draid_rack.specs.declared.Rack as racks
+use Rattle.draid_area.specs.declared.Area as areas
+use Rattle.draid_segments.specs.Segments.{Pieces}
+use Rattle.draid_session.specs.State.{Metaslab}
+use Rattle.draid_shard.specs.Calls.{SameAreas}
+use Rattle.draid_shard.specs.Fits.{Valid}
+use Rattle.draid_shard.specs.Part.{Part}
+use Rattle.draid_shard.specs.declared.shard.Shard.{Shard}
+use Rattle.draid_pool.specs.Drifts.{KeepsGroups}
+use Rattle.draid_pool.specs.Metaslabs.{IsMetaslab}
+use Rattle.draid_pool.specs.Rounds.{HeldOnce}
+use Rattle.draid_pool.specs.Shards.{GoesLater, SameBlocks}
+use Rattle.draid_pool.specs.declared.fault.SyncFault.TheVariants as sync
+use Rattle.draid_visits.specs.Pieces.{GoesTo}
+use Rattle.draid_visits.specs.Steps.{HasContents, IsRunningOf, IsToLend, MovesOn, NextIs, SharesTable}
+use Rattle.draid_visits.specs.Visiting.{IsOnly, counted}
+use Rattle.draid_visits.specs.declared.progress.Progress.{Progress}
+use Rattle.draid_visits.specs.declared.progress.Visit.{Visit}
+use Rattle.draid_visits.specs.declared.progress.Visit.TheVariants as visit
+use Rattle.draid_visits.specs.declared.steps.Next.{Next}
+use Rattle.draid_visits.specs.declared.steps.Next.TheVariants as next
+
+-- ---- one hold
+
+-- a metaslab has a pass of a kind that may lend
+pub record MayLendIn {R A : Type 0} (rack : racks.Ghosts R) (kind : PassKind) (shard : Shard R A) : Type 0 where
+  pub valid : Valid rack shard
+  pub pass : IsSomeAnd shard.pass (IsToLend kind)
+
+-- The next stripe or block was lent and landed, or the pass ended, or something is left. All blocks, tickets, groups and reserved events are as they were, and so are the
+-- arms, but for whether the pass has made them good.
+pub record UnitIn {R A : Type 0} (rack : racks.Ghosts R) (area : areas.Ghosts A) (kind : PassKind) (used : Bool) (came : Next) (old new : Shard R A) : Type 0 where
+  pub valid : Valid rack new
+  pub table : SharesTable old new
+  pub groups : KeepsGroups old new
+  pub areas_are : SameAreas old new
+  pub landed : (repaired : ℕ) → came ≡ next.Landed repaired → (used ≡ false) × MovesOn kind old new × (repaired ≤ 2 ^ 8)
+  pub ended : (errors : ℕ) → came ≡ next.Ended errors → (new.pass ≡ None) × (errors ≤ LAST_NUMBER)
+  pub paused : came ≡ next.Paused → (used ≡ true) × IsSomeAnd new.pass (IsRunningOf kind)
+  pub only : IsOnly kind new
+  pub moves : (part : Part) (pieces : Pieces) (x : Metaslab) → IsMetaslab rack area part pieces old x → GoesLater rack area part pieces x new
+  pub goes : (part : Part) (pieces : Pieces) (x : Metaslab) → IsMetaslab rack area part pieces old x → HasContents part pieces x
+      → GoesTo rack area part pieces x new (λ holds y. NextIs part kind used came holds × SameBlocks x y)
+
+-- what the last of these holds says of all
+abbrev pub LastIs : Next → Progress → Visit → Progress → Type 0
+LastIs (next.Ended errors) p visit.Over q = q ≡ record p { errors = p.errors + errors }
+LastIs next.Paused p visit.Paused q = q ≡ p
+LastIs next.Worn p (visit.Stopped why) q = (why ≡ sync.Worn) × (q ≡ p)
+LastIs next.NoMemory p (visit.Stopped why) q = (why ≡ sync.NoMemory) × (q ≡ p)
+LastIs came p result q = ⊥
+
+-- ---- hold after hold
+
+module _ {R A S : Type 0} (rack : racks.Ghosts R) (area : areas.Ghosts A) (last : S → ℕ → Option (Shard R A)) (went : S → ℕ → Shard R A → Shard R A → S → Type 0) (shared : Bool) (owns : ℕ → Bool) (kind : PassKind) (m : ℕ) where
+  -- so many stripes or blocks were lent and landed, one after another
+  abbrev pub Lent : ℕ → S → Progress → S → Progress → Type 0
+  Lent zero a p b q = (b ≡ a) × (q ≡ p)
+  Lent (suc n) a p b q =
+      (mid : S) × (r : Progress) × (repaired : ℕ) × Lent n a p mid r × (r.left ≢ Some 0) × HeldOnce rack area last went shared owns (UnitIn rack area kind false (next.Landed repaired)) mid m b × (q ≡ counted repaired r)
+
+  -- and then none was
+  pub record LendsBy (a : S) (p : Progress) (result : Visit) (b : S) (q : Progress) : Type 0 where
+    pub units : ℕ
+    pub mid : S
+    pub upto : Progress
+    pub front : Lent units a p mid upto
+    pub used : Bool
+    pub used_up : IsTrue used ↔ (upto.left ≡ Some 0)
+    pub came : Next
+    pub back : HeldOnce rack area last went shared owns (UnitIn rack area kind used came) mid m b
+    pub is : LastIs came upto result q
