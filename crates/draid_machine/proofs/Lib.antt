@@ -1,6 +1,7 @@
 pub mod Bounds
 pub mod Calm
 pub mod Chained
+pub mod Doubts
 pub mod Fitted
 pub mod Follows
 pub mod Freshness
@@ -25,3 +26,5 @@ pub mod Standing
 pub mod Staying
 pub mod Tickets
 pub mod Unique
+pub mod Upto
+pub mod Settled

@@ -1,17 +1,28 @@
-ghost use Rattle.std.specs.Prelude.{◌≡◌, ◌⊎◌, List, ℕ, Some, true, false, Vec};
+ghost use Rattle.std.specs.Prelude.{◌≡◌, ◌||◌, ◌⊎◌, List, ℕ, Some, true, false, Vec};
 ghost use Rattle.std.specs.declared.alloc.Global.{Global};
 ghost use Rattle.draid_machine.specs.Concerns.{is_freed, is_opening, object_of};
 ghost use Rattle.draid_machine.specs.Created.{IsReached, created};
-ghost use Rattle.draid_machine.specs.Step.{Run, Step};
+ghost use Rattle.draid_machine.specs.Step.{HasWritten, IsWhole, Run, Step};
+ghost use Rattle.draid_machine.specs.Doubt.{DoubtsBy};
+ghost use Rattle.draid_machine.specs.After.{has_healed};
+ghost use Rattle.draid_machine.specs.Arms.{is_clean, is_silent, lies_on};
+ghost use Rattle.draid_machine.specs.Claims.{is_on};
+ghost use Rattle.draid_machine.specs.declared.event.Patched.{Patched};
+ghost use Rattle.draid_machine.specs.declared.names.ArmName.{ArmName};
+ghost use Rattle.draid_machine.specs.declared.names.Held.{Held};
 ghost use Rattle.draid_machine.specs.declared.event.Event.{Event};
-ghost use Rattle.draid_machine.specs.declared.event.Event.TheVariants.{Commit, LandStripe, Reopen, Seal};
+ghost use Rattle.draid_machine.specs.declared.event.Event.TheVariants.{Commit, Done, LandBlock, LandStripe, Reopen, Seal};
 ghost use Rattle.draid_machine.specs.declared.names.Key.{Key};
 ghost use Rattle.draid_machine.specs.declared.names.Segment.{Segment};
 ghost use Rattle.draid_machine.specs.Fitting.{Fitting, KeepsFresh, KeepsLogs, LoanReads};
 ghost use Rattle.draid_machine.specs.Images.{ImagesStand, IsImage, IsThere, LiesAt, Owned};
 ghost use Rattle.draid_machine.specs.Sound.{LogSound, LogsWithin, Sound};
 ghost use Rattle.draid_machine.specs.Mended.{IsMade, IsTrusted};
-ghost use Rattle.draid_machine.specs.State.{Image, IsLayout, Layout, Loan, State};
+ghost use Rattle.draid_machine.specs.State.{Arm, Image, IsLayout, Layout, Loan, Pass, State};
+ghost use Rattle.draid_machine.specs.After.{ended_pass};
+ghost use Rattle.draid_machine.specs.Arms.{HasEmptyLog};
+ghost use Rattle.draid_machine.specs.Names.{has_name};
+ghost use Rattle.draid_names.specs.declared.pass_kind.PassKind.TheVariants.{Rebuild};
 
 /// Law: after every legal history of a new metaslab, with failures, passes, loans that are out, crashes
 /// and openings anywhere, its logs are sound.
@@ -117,4 +128,45 @@ pub fn rebuilds_end_doubt()
         → Step layout state (LandStripe pass serial failed) new → state.loan ≡ Some loan
         → IsMade layout state loan failed.items segment → IsTrusted layout state loan segment
         → (new.present segment ≡ true) × (new.aside segment ≡ false) }
+{}
+
+/// Law: behind the end of a rebuild without errors each target that it had has missed nothing: its log is empty.
+pub fn rebuilds_empty_logs()
+    ensures { (layout : Layout) (state new : State) (failed : Vec ℕ Global) (pass : Pass) (name : ArmName) → IsLayout layout
+        → IsReached layout state → Step layout state (Done failed) new → state.core.pass ≡ Some pass → pass.kind ≡ Rebuild
+        → (ended_pass layout state.core pass failed.items).errors ≡ 0 → has_name pass.targets name ≡ true → HasEmptyLog new.core name }
+{}
+
+/// Law: after every legal history of a new metaslab, an arm that is fresh has the first group in its log; so one that has
+/// missed nothing isn't fresh.
+pub fn fresh_arms_miss_the_first_group()
+    ensures { (layout : Layout) (state : State) (name : ArmName) (arm : Arm) → IsLayout layout → IsReached layout state
+        → state.core.arm name ≡ Some arm → arm.fresh ≡ true → arm.log 1 ≡ true }
+{}
+
+/// Law: a segment comes to be in doubt only as a block that a scrub restored lands, as a rebuild's stripe lands that was made of
+/// something in doubt, or by an opening that names it.
+pub fn doubts_have_causes()
+    ensures { (layout : Layout) (state new : State) (event : Event) (segment : Segment)
+        → Step layout state event new → DoubtsBy layout state event new segment }
+{}
+
+/// Law: a whole landing of a scrub ends the doubt of its block's segments on arms that are clean for it, and of what landed.
+pub fn scrubs_end_doubt()
+    ensures { (layout : Layout) (state new : State) (pass serial : ℕ) (failed : Vec ℕ Global) (patched : Vec Patched Global)
+        (loan : Loan) (held : Held) (segment : Segment)
+        → Step layout state (LandBlock pass serial failed patched false) new → state.loan ≡ Some loan
+        → state.core.held loan.key ≡ Some held → IsWhole layout state.core held failed.items → loan.key ≡ segment.key
+        → is_on layout state.core.order segment held ≡ true
+        → (is_clean state.core held.birth segment.arm || has_healed layout state.core loan held patched.items segment) ≡ true
+        → new.aside segment ≡ false }
+{}
+
+/// Law: a seal of a group in which a block was written puts it into the log of each arm that lies on a silent leaf: one that is
+/// offline, or on which a flush failed.
+pub fn seals_log_silent_arms()
+    ensures { (layout : Layout) (state new : State) (group : ℕ) (failed : Vec ℕ Global) (name : ArmName) (arm : Arm)
+        → Step layout state (Seal group failed) new → HasWritten state.core group → state.core.arm name ≡ Some arm
+        → lies_on layout state.core (is_silent state.core failed.items) name ≡ true
+        → (later : Arm) × (new.core.arm name ≡ Some later) × (later.log group ≡ true) }
 {}
