@@ -1,6 +1,6 @@
 -- A restored block's column was put right on one more arm.
-use Rattle.std.proofs.Common.{arith, ◌≡◌, ◌+◌, ◌*◌, ◌<◌, ◌≤◌, ◌||◌, ◌++◌, ◌∷◌, ◌∙◌, [], ℕ, zero, suc, Bool, true, false, List, Option, Some, None, refl, sym, ap, subst, inl, inr, length, slice_get, Vec, Global}
-use Rattle.std.specs.Prelude.{slice_index_or, vec_len}
+use Rattle.std.proofs.Common.{arith, ◌≡◌, ◌+◌, ◌*◌, ◌<◌, ◌≤◌, ◌==◌, ◌-◌, ◌&&◌, ◌||◌, ◌++◌, ◌∷◌, ◌∙◌, [], ℕ, zero, suc, Bool, true, false, List, Option, Some, None, refl, sym, ap, subst, inl, inr, length, slice_get, Vec, Global}
+use Rattle.std.specs.Prelude.{nat_le, slice_index_or, vec_len}
 use Rattle.std.proofs.lemmas.Option.{slice_get-get_or}
 use Rattle.std.proofs.lemmas.Bool.{cases_lt}
 use Rattle.std.proofs.lemmas.Bool.Decides.{nat_tests}
@@ -8,16 +8,16 @@ use Rattle.std.proofs.lemmas.List.{length-append}
 use Rattle.draid_columns.specs.declared.rows.Rows.{Rows}
 use Rattle.draid_machine.specs.Names.{has_number}
 use Rattle.draid_machine.specs.declared.event.Patched.{Patched}
-use Rattle.draid_machine.proofs.Small.{absurd_test, bool_cases, either_true, some_same}
+use Rattle.draid_machine.proofs.Small.{absurd_test, bool_cases, both_true, either_true, is_equal, some_same}
 use Rattle.draid_parity.specs.Columns.{column_at}
 use Rattle.draid_rack.specs.Moments.{ChangesOnly}
-use Rattle.draid_rack.specs.Rack.{OnBothTold, Told, flushes}
+use Rattle.draid_rack.specs.Rack.{OnBothTold, OnTold, Told, flushes}
 use Rattle.draid_rack.proofs.Moments.{only_flushes, only_more, only_on, only_self}
 use Rattle.draid_shard.specs.Spots.{AreLeavesApart, rows_for}
 use Rattle.draid_shard.specs.Loans.{AreRooms, IsRowRoom}
 use Rattle.draid_heal.specs.Arms.{FlushedOn, HealsArm, HealsArms, ListsArm, ListsArms, StandsArm, WroteAt, landed_if}
 use Rattle.draid_shard.specs.Losing.{failed_if}
-use Rattle.draid_heal.specs.Rows.{FailsOn, HealsRows, ListsRows, in_those}
+use Rattle.draid_heal.specs.Rows.{Differed, FailsOn, HealsRows, ListsRows, in_those}
 use Rattle.draid_shard.specs.declared.loan.Spot.{Spot}
 use Rattle.draid_heal.proofs.Healing.{either_false, fails_one, last_has}
 
@@ -131,7 +131,7 @@ module _ (count size : ℕ) (spots : List Spot) (patched : List Patched) (column
   here : (k : ℕ) → k ≡ i → slice_get (patched ++ part ∷ []) k ≡ Some part
   here k is = get_last patched part k (is ∙ sym many)
 
-  module _ (x y z : Told) (was : HealsArms count size spots patched columns i failed x y) (heals : HealsArm rows (column_at columns spot.column) part.written.items part.landed.items more y z) where
+  module _ (x y z : Told) (was : HealsArms count size spots patched columns i failed x y) (heals : HealsArm rows (column_at columns spot.column) part.written.items part.landed.items more y z) (needs : spot.clean ≡ true → Differed rows (column_at columns spot.column) part.written.items y) where
     abbrev named : ℕ → ℕ → Bool
     named m s = was.named m s || in_those rows part.written.items m s
 
@@ -161,6 +161,31 @@ module _ (count size : ℕ) (spots : List Spot) (patched : List Patched) (column
           (subst (λ (p : Patched). StandsArm rows (column_at columns spot.column) p.landed.items more z) part_is heals.stands))
     ]
 
+    -- the arms before it weren't written on its leaf
+    unnamed : (s : ℕ) → was.named spot.leaf s ≡ false
+    unnamed s = elim (bool_cases (was.named spot.leaf s)) [
+      | inl at ↦ (let w = was.lies spot.leaf s at in
+          let own = both_true (spot.leaf == w.spot.leaf) (nat_le w.spot.first s && has_number w.part.written.items (s - w.spot.first)) w.written in
+          let same = apart w.k i w.spot spot w.there there (sym (is_equal spot.leaf w.spot.leaf own.0)) in
+          let less = w.below in
+          absurd (omega (arith, less, same)))
+      | inr none ↦ none
+    ]
+
+    own_needed : spot.clean ≡ true → Differed rows (column_at columns spot.column) part.written.items x
+    own_needed clean r at reads = needs clean r at (was.only.reads spot.leaf (spot.first + r) (unnamed (spot.first + r)) ∙ reads)
+
+    needed : (k : ℕ) (s : Spot) (p : Patched) → k < i + 1 → slice_get spots k ≡ Some s → slice_get (patched ++ part ∷ []) k ≡ Some p → s.clean ≡ true
+        → Differed (rows_for count size s) (column_at columns s.column) p.written.items x
+    needed k s p less at noted = elim (cases_lt k i) [
+      | inl lower ↦ was.needed k s p lower at (sym (earlier k lower) ∙ noted)
+      | inr high ↦ (let same : k ≡ i = omega (arith, high, less) in
+          let spot_is : spot ≡ s = some_same (slice_get spots k) spot s (ap (slice_get spots) same ∙ there) at in
+          let part_is : part ≡ p = some_same (slice_get (patched ++ part ∷ []) k) part p (here k same) noted in
+          subst (λ (s : Spot). s.clean ≡ true → Differed (rows_for count size s) (column_at columns s.column) p.written.items x) spot_is
+          (subst (λ (p : Patched). spot.clean ≡ true → Differed rows (column_at columns spot.column) p.written.items x) part_is own_needed))
+    ]
+
     arms_more : HealsArms count size spots (patched ++ part ∷ []) columns (i + 1) more x z
     arms_more = record {
       named = named;
@@ -170,15 +195,16 @@ module _ (count size : ℕ) (spots : List Spot) (patched : List Patched) (column
           (only_more (in_those rows part.written.items) named y z (λ m s e. (either_false (was.named m s) (in_those rows part.written.items m s) e).1) heals.only);
       harm = λ m s. heals.harm m s ∙ was.harm m s;
       stands = stands;
+      needed = needed;
     }
 
   pub arms_told : (o p q : Option Told) → OnBothTold o p (HealsArms count size spots patched columns i failed) → OnBothTold p q (HealsArm rows (column_at columns spot.column) part.written.items part.landed.items more)
-      → OnBothTold o q (HealsArms count size spots (patched ++ part ∷ []) columns (i + 1) more)
-  arms_told None None q was heals = heals
-  arms_told None (Some y) q was heals = absurd (cc)
-  arms_told (Some x) None q was heals = absurd was
-  arms_told (Some x) (Some y) None was heals = absurd heals
-  arms_told (Some x) (Some y) (Some z) was heals = arms_more x y z was heals
+      → (spot.clean ≡ true → OnTold p (Differed rows (column_at columns spot.column) part.written.items)) → OnBothTold o q (HealsArms count size spots (patched ++ part ∷ []) columns (i + 1) more)
+  arms_told None None q was heals needs = heals
+  arms_told None (Some y) q was heals needs = absurd (cc)
+  arms_told (Some x) None q was heals needs = absurd was
+  arms_told (Some x) (Some y) None was heals needs = absurd heals
+  arms_told (Some x) (Some y) (Some z) was heals needs = arms_more x y z was heals needs
 
   kept_lists : (r : Rows) (s : Spot) (p : Patched) → ListsArm r s p failed → ListsArm r s p more
   kept_lists r s p was = record {
@@ -213,6 +239,7 @@ no_arms count size spots patched columns failed x = record {
   only = only_self (λ m s. false) x;
   harm = λ m s. refl;
   stands = λ k s p less at noted. absurd (omega (arith, less));
+  needed = λ k s p less at noted clean. absurd (omega (arith, less));
 }
 
 pub arms_none : (count size : ℕ) (spots : List Spot) (patched : List Patched) (columns : List (List ℕ)) (failed : List ℕ) (o : Option Told) → OnBothTold o o (HealsArms count size spots patched columns 0 failed)

@@ -104,5 +104,7 @@ module _ (parts : List Patched) (were : WereWritten parts) where
       landed_reads = λ s at. b.landed_reads s (healed_is s ∙ at);
       clean_there = b.clean_there;
       clean_reads = b.clean_reads;
+      answering_reads = b.answering_reads;
+      needed = λ s clean at. b.needed s clean (written_is s ∙ at);
       settled_harm = λ s is at. b.settled_harm s is (settled_is s ∙ at);
     }

@@ -1,5 +1,5 @@
 -- A restored block landed as the state machine says.
-use Rattle.std.proofs.Common.{arith, ◌≡◌, ◌==◌, ◌+◌, ◌-◌, ◌<◌, ◌≤◌, ◌&&◌, ◌∷◌, ◌∙◌, [], ℕ, zero, suc, Bool, true, false, List, Option, Some, refl, sym, ap, subst, inl, inr, length, slice_get}
+use Rattle.std.proofs.Common.{arith, ◌≡◌, ◌==◌, ◌+◌, ◌-◌, ◌<◌, ◌≤◌, ◌&&◌, ◌∷◌, ◌∙◌, not, [], ℕ, zero, suc, Bool, true, false, List, Option, Some, refl, sym, ap, subst, inl, inr, length, slice_get}
 use Rattle.std.specs.Prelude.{IsSome, nat_le, nat_lt}
 use Rattle.draid_columns.specs.Columns.{row_of}
 use Rattle.draid_machine.specs.After.{has_healed, has_landed, is_written, was_written}
@@ -12,11 +12,11 @@ use Rattle.draid_machine.specs.declared.event.Patched.{Patched}
 use Rattle.draid_machine.specs.declared.names.ArmName.{ArmName}
 use Rattle.draid_machine.specs.declared.names.Held.{Held}
 use Rattle.draid_machine.specs.declared.names.Segment.{Segment}
-use Rattle.draid_machine.proofs.Small.{below, both_true, either_true, equal, four_true, is_below, is_equal, is_low, key_refl, key_true, name_refl, name_true, some_same, true_both, true_four, true_left, true_right}
+use Rattle.draid_machine.proofs.Small.{below, both_true, either_true, equal, four_true, is_below, is_equal, is_low, key_refl, key_true, name_refl, name_true, not_true, some_same, true_both, true_four, true_left, true_right}
 use Rattle.draid_parity.specs.Columns.{column_at}
 use Rattle.draid_rack.specs.Rack.{Told}
 use Rattle.draid_rack.proofs.Moments.{only_more, only_on}
-use Rattle.draid_segments.specs.Acts.{HealsBlock, LiesThere, is_on_clean, is_settled}
+use Rattle.draid_segments.specs.Acts.{HealsBlock, LiesThere, is_on_answering, is_on_clean, is_settled}
 use Rattle.draid_segments.specs.Segments.{Pieces, harmed_at, piece_of, reads_at, sector_at, soft_at}
 use Rattle.draid_shard.specs.Columns.{ArePieces}
 use Rattle.draid_heal.specs.Arms.{HealsArms, ListsArm, ListsArms, StandsArm}
@@ -269,6 +269,28 @@ module _ (l : machine.Layout) (q : machine.Core) (h : Held) (size : ℕ) (spots 
           let spot = has_spot s.column s.arm (are.all s.column s.arm c.1 c.0 ok.0) in
           record { key = key_true n.key s.key a.0; at = spot; on = on_noted s spot a.1; clean = clean_it s.column s.arm spot ∙ a.2; fine = not_failed s.column s.arm spot ok.1 }
 
+      -- one on an arm that answers, where no call on its leaf failed
+      answering : (s : Segment) → is_on_answering l q n h failed s ≡ true → IsSome (piece_of pieces s) → reads_at l h s z ≡ piece_of pieces s
+      answering s at known =
+          let a = four_true (key_eq n.key s.key) (is_on l q.order s h) (answers l q s.arm h.first) (not (fails l q failed s.arm h.first)) at in
+          let c = listed_seg s a.1 in
+          let spot = has_spot s.column s.arm (are.all s.column s.arm c.1 c.0 a.2) in
+          let on = on_noted s spot a.1 in
+          reads_then s spot (key_true n.key s.key a.0) on ((stands s.column s.arm spot).reads s.row on.row (not_failed s.column s.arm spot (not_true (fails l q failed s.arm h.first) a.3)))
+
+      -- one that was written on a clean arm
+      needed : (s : Segment) → is_on_clean l q n h s ≡ true → is_written l q n h patched s ≡ true → IsSome (piece_of pieces s) → reads_at l h s x ≡ piece_of pieces s → ⊥
+      needed s on_clean at known reads =
+          let a = three_true (key_eq n.key s.key) (is_on l q.order s h) (is_clean q h.birth s.arm) on_clean in
+          let w = three_true (key_eq n.key s.key) (is_on l q.order s h) (was_written patched s.column s.arm s.row) at in
+          let p = is_part (λ p. p.written.items) s.column s.arm s.row (written_part patched s.column s.arm s.row w.2) in
+          let on = on_noted s p.at a.1 in
+          let piece : piece_of pieces s ≡ Some (row_of (rows_for h.stripes size p.at.spot) (column_at columns p.at.spot.column) s.row)
+          = ap (λ k. pieces k s.column s.row) (sym (key_true n.key s.key a.0)) ∙ right s.column s.row (column_below s.column s.arm p.at) on.row
+          ∙ ap (λ c. Some (row_of (rows_for h.stripes size p.at.spot) (column_at columns c) s.row)) (sym p.at.column_is) in
+          heals.needed p.at.k p.at.spot p.at.part (get_upto spots p.at.k p.at.spot p.at.there) p.at.there p.at.noted (clean_it s.column s.arm p.at ∙ a.2) s.row p.has
+          (ap (λ m. x.reads m (p.at.spot.first + s.row)) (sym on.leaf_is) ∙ ap (x.reads s.leaf) (sym on.sector_is) ∙ reads ∙ piece)
+
       settled : (s : Segment) → whole ≡ true → is_settled l q n h patched s ≡ true → harmed_at l h s z ≡ false
       settled s w at = elim (either_true (is_on_clean l q n h s) (has_healed l q n h patched s) at) [
         | inl clean ↦ (let c = cleaned s w clean in harm_then s c.at c.on
@@ -334,5 +356,7 @@ module _ (l : machine.Layout) (q : machine.Core) (h : Held) (size : ℕ) (spots 
         landed_reads = λ s at known. let c = landing s at in reads_then s c.part.at c.key c.on ((stands s.column s.arm c.part.at).landed_reads s.row c.part.has);
         clean_there = λ s w at. let c = cleaned s w at in reads_some s c.at c.on ((stands s.column s.arm c.at).reads s.row c.on.row c.fine);
         clean_reads = λ s w at known. let c = cleaned s w at in reads_then s c.at c.key c.on ((stands s.column s.arm c.at).reads s.row c.on.row c.fine);
+        answering_reads = answering;
+        needed = needed;
         settled_harm = settled;
       }

@@ -6,8 +6,8 @@ use Rattle.draid_machine.specs.Names.{has_number}
 use Rattle.draid_machine.specs.declared.event.Patched.{Patched}
 use Rattle.draid_parity.specs.Columns.{column_at}
 use Rattle.draid_rack.specs.Moments.{ChangesOnly}
-use Rattle.draid_rack.specs.Rack.{OnBothTold, Told, flushes}
-use Rattle.draid_heal.specs.Rows.{FailsOn, ListsRows, in_those}
+use Rattle.draid_rack.specs.Rack.{OnBothTold, OnTold, Told, flushes}
+use Rattle.draid_heal.specs.Rows.{Differed, FailsOn, ListsRows, in_those}
 use Rattle.draid_shard.specs.Loans.{AreRooms, IsRowRoom}
 use Rattle.draid_shard.specs.Spots.{rows_for}
 use Rattle.draid_shard.specs.declared.loan.LandingRoom.{LandingRoom}
@@ -61,11 +61,12 @@ pub record ListsArm (rows : Rows) (spot : Spot) (part : Patched) (failed : List 
   pub arm_is : part.arm ≡ spot.arm
   pub lists : ListsRows rows spot.clean rows.count part.written.items part.landed.items failed
 
--- an arm was put right
+-- an arm was put right, and if it is clean, only what read otherwise was written
 pub record Puts (rows : Rows) (spot : Spot) (part : Patched) (column before failed : List ℕ) (old new : Option Told) : Type 0 where
   pub heals : OnBothTold old new (HealsArm rows column part.written.items part.landed.items failed)
   pub lists : ListsArm rows spot part failed
   pub fails : FailsOn rows.leaf before failed
+  pub needed : spot.clean ≡ true → OnTold old (Differed rows column part.written.items)
 
 module _ (count size : ℕ) (spots : List Spot) (patched : List Patched) where
   -- one of the first so many arms was written at this sector
@@ -78,7 +79,7 @@ module _ (count size : ℕ) (spots : List Spot) (patched : List Patched) where
     pub noted : slice_get patched k ≡ Some part
     pub written : in_those (rows_for count size spot) part.written.items leaf sector ≡ true
 
-  -- Only what was written changed, and no harm; and each arm stands.
+  -- Only what was written changed, and no harm; each arm stands; and on a clean one only what read otherwise was written.
   pub record HealsArms (columns : List (List ℕ)) (n : ℕ) (failed : List ℕ) (x y : Told) : Type 0 where
     pub named : ℕ → ℕ → Bool
     pub lies : (leaf sector : ℕ) → named leaf sector ≡ true → WroteAt n leaf sector
@@ -86,6 +87,8 @@ module _ (count size : ℕ) (spots : List Spot) (patched : List Patched) where
     pub harm : (m s : ℕ) → y.harmed m s ≡ x.harmed m s
     pub stands : (k : ℕ) (spot : Spot) (part : Patched) → k < n → slice_get spots k ≡ Some spot → slice_get patched k ≡ Some part
         → StandsArm (rows_for count size spot) (column_at columns spot.column) part.landed.items failed y
+    pub needed : (k : ℕ) (spot : Spot) (part : Patched) → k < n → slice_get spots k ≡ Some spot → slice_get patched k ≡ Some part → spot.clean ≡ true
+        → Differed (rows_for count size spot) (column_at columns spot.column) part.written.items x
 
   -- what is noted of each, and on which leaves calls failed
   pub record ListsArms (n : ℕ) (failed : List ℕ) : Type 0 where

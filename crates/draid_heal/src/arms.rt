@@ -1,15 +1,15 @@
 //! The arms of a restored block, one after another.
-ghost use Rattle.std.specs.Prelude.{◌≡◌, ◌+◌, ◌*◌, ◌≤◌, ◌<◌, ◌^◌, ◌++◌, ◌∷◌, [], ℕ, List, Option, IsSome, length, vec_capacity, vec_len};
+ghost use Rattle.std.specs.Prelude.{◌≡◌, ◌+◌, ◌*◌, ◌≤◌, ◌<◌, ◌^◌, ◌++◌, ◌∷◌, [], ℕ, List, Option, IsSome, length, true, vec_capacity, vec_len};
 ghost use Rattle.draid_block.specs.Blocks.{column_len};
 ghost use Rattle.draid_columns.specs.Columns.{HasRows};
 ghost use Rattle.draid_parity.specs.Columns.{column_at};
 ghost use Rattle.draid_shard.specs.Calls.{CountsFailed};
 ghost use Rattle.draid_shard.specs.Loans.{AreRooms, IsRowRoom};
-ghost use Rattle.draid_rack.specs.Rack.{OnBothTold};
+ghost use Rattle.draid_rack.specs.Rack.{OnBothTold, OnTold};
 ghost use Rattle.draid_shard.specs.Spots.{FitSpots, rows_for};
 ghost use Rattle.draid_heal.specs.Arms.{FitsRoom, FlushedOn, HealsArm, HealsArms, IsRoomOf, ListsArms, Puts, landed_if};
 ghost use Rattle.draid_shard.specs.Losing.{failed_if};
-ghost use Rattle.draid_heal.specs.Rows.{FailsOn, ListsRows};
+ghost use Rattle.draid_heal.specs.Rows.{Differed, FailsOn, ListsRows};
 
 use crate::rows::heal_rows;
 use draid_block::Encoded;
@@ -58,6 +58,7 @@ fn heal_arm<R: Rack>(
     requires failed { vec_len failed.old + (2 * rows.count + 1) ≤ vec_capacity failed.old }
     ensures heals { OnBothTold (R.told rack.old) (R.told rack.new) (HealsArm rows column.now part.new.written.items part.new.landed.items failed.new.items) }
     ensures lists { ListsRows rows clean rows.count part.new.written.items part.new.landed.items failed.new.items }
+    ensures needed { clean ≡ true → OnTold (R.told rack.old) (Differed rows column.now part.new.written.items) }
     ensures fails { FailsOn rows.leaf failed.old.items failed.new.items }
     ensures counts { (first : Option ℕ → ℕ) → CountsFailed failed.old.items first (R.faults rack.old) → CountsFailed failed.new.items first (R.faults rack.new) }
     ensures named { (part.new.column ≡ part.old.column) × (part.new.arm ≡ part.old.arm) }

@@ -1,5 +1,5 @@
 -- What the call of an event does to what the rack tells.
-use Rattle.std.specs.Prelude.{◌≡◌, ◌==◌, ◌<◌, ◌^◌, ◌&&◌, ◌||◌, ◌⊎◌, ℕ, Bool, true, false, nat_lt, List, Option, Some, None, is_none, IsSome, if◌then◌else◌}
+use Rattle.std.specs.Prelude.{◌≡◌, ◌==◌, ◌<◌, ◌^◌, ◌&&◌, ◌||◌, ◌⊎◌, ℕ, Bool, true, false, not, nat_lt, List, Option, Some, None, is_none, IsSome, if◌then◌else◌}
 use Rattle.draid_machine.specs.declared.names.Key.{Key}
 use Rattle.draid_machine.specs.declared.names.ArmName.{ArmName}
 use Rattle.draid_machine.specs.declared.names.ArmName.TheVariants.{Leaf}
@@ -120,13 +120,18 @@ LandsStripe false l w p n h failed pieces x y = MendsStripe l w p n h failed pie
 abbrev pub is_on_clean : Layout → Core → Loan → Held → Segment → Bool
 is_on_clean l q n h s = key_eq n.key s.key && is_on l q.order s h && is_clean q h.birth s.arm
 
+-- a segment of the block on an arm that answers, and on whose leaf no call failed
+abbrev pub is_on_answering : Layout → Core → Loan → Held → List ℕ → Segment → Bool
+is_on_answering l q n h failed s = key_eq n.key s.key && is_on l q.order s h && answers l q s.arm h.first && not (fails l q failed s.arm h.first)
+
 -- a segment whose harm a whole landing ends
 abbrev pub is_settled : Layout → Core → Loan → Held → List Patched → Segment → Bool
 is_settled l q n h patched s = is_on_clean l q n h s || has_healed l q n h patched s
 
 -- Sectors were patched, which leaves their harm; then the leaves of the block's arms that answer were flushed. What landed is there, and reads as
--- the restored block's where that is known. A whole landing read or wrote it so on each arm that is clean for the block, too, and ended the harm
--- of all this.
+-- the restored block's where that is known. So does each segment on an arm that answers, where no call on its leaf failed. A whole landing read or wrote
+-- it so on each arm that is clean for the block, too, and ended the harm of all this. On an arm that is clean for the block only what read otherwise was
+-- written.
 pub record HealsBlock (l : Layout) (q : Core) (n : Loan) (h : Held) (failed : List ℕ) (patched : List Patched) (whole : Bool) (pieces : Pieces) (x y : Told) : Type 0 where
   pub named : ℕ → ℕ → Bool
   pub lies : (leaf sector : ℕ) → named leaf sector ≡ true → LiesThere l h (is_written l q n h patched) leaf sector
@@ -138,6 +143,8 @@ pub record HealsBlock (l : Layout) (q : Core) (n : Loan) (h : Held) (failed : Li
   pub landed_reads : (s : Segment) → has_healed l q n h patched s ≡ true → IsSome (piece_of pieces s) → reads_at l h s y ≡ piece_of pieces s
   pub clean_there : (s : Segment) → whole ≡ true → is_on_clean l q n h s ≡ true → IsSome (reads_at l h s y)
   pub clean_reads : (s : Segment) → whole ≡ true → is_on_clean l q n h s ≡ true → IsSome (piece_of pieces s) → reads_at l h s y ≡ piece_of pieces s
+  pub answering_reads : (s : Segment) → is_on_answering l q n h failed s ≡ true → IsSome (piece_of pieces s) → reads_at l h s y ≡ piece_of pieces s
+  pub needed : (s : Segment) → is_on_clean l q n h s ≡ true → is_written l q n h patched s ≡ true → IsSome (piece_of pieces s) → reads_at l h s x ≡ piece_of pieces s → ⊥
   pub settled_harm : (s : Segment) → whole ≡ true → is_settled l q n h patched s ≡ true → harmed_at l h s y ≡ false
 
 -- of an unreadable block nothing is written

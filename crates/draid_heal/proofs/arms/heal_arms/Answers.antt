@@ -49,7 +49,7 @@ loop-i-preserved g c =
     record {
       shape = c.heal_next.ensures.shape ∙ was.shape;
       heals = rw items (arms_told c.args.extent.count c.args.extent.size c.args.room.now.spots.items patched c.args.block.now.columns i failed more spot part c.requires.spots.apart there was.lists.many put.fails
-          (g.R.Rack.told c.args.rack.now) (g.R.Rack.told c.loop-i.rack) (g.R.Rack.told c.heal_next.new.rack) was.heals put.heals);
+          (g.R.Rack.told c.args.rack.now) (g.R.Rack.told c.loop-i.rack) (g.R.Rack.told c.heal_next.new.rack) was.heals put.heals put.needed);
       lists = rw items (arms_lists c.args.extent.count c.args.extent.size c.args.room.now.spots.items patched c.args.block.now.columns i failed more spot part c.requires.spots.apart there was.lists.many put.fails was.lists put.lists);
       counts = c.heal_next.ensures.counts (g.R.Rack.faults c.args.rack.now) was.counts;
       spots = c.heal_next.ensures.spots ∙ was.spots;
