@@ -53,9 +53,9 @@ shares_fit lists few n =
 
 pub keeps_greatest : (lists : List (Vec Span Global)) → ((n : ℕ) → shares n lists ≤ one_within 0 (number_limit - 1) n) → KeepsOne all_numbers lists
 keeps_greatest lists few =
-    let low = few (2 ^ 32 + 17) in
-    let none : one_within 0 (number_limit - 1) (2 ^ 32 + 17) ≡ 0 = refl in
-    record { number = 2 ^ 32 + 17; there = refl; kept = omega (arith, low, none) }
+    let low = few (2 ^ 32 + 18) in
+    let none : one_within 0 (number_limit - 1) (2 ^ 32 + 18) ≡ 0 = refl in
+    record { number = 2 ^ 32 + 18; there = refl; kept = omega (arith, low, none) }
 
 pub all_held : (n : ℕ) → n < number_limit → one_if (holds n all_numbers) ≡ 1
 all_held n lt = let all = all_within n in let inside : one_within 0 number_limit n ≡ 1 = grind (arith, nat_tests) in omega (arith, all, inside)

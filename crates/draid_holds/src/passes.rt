@@ -5,7 +5,7 @@ ghost use Rattle.draid_turn.specs.declared.span.Span.{Span};
 ghost use Rattle.draid_turn.specs.Calls.{Caller, newcomer};
 ghost use Rattle.draid_turn.specs.Lists.{StartsWith, one_if, times};
 ghost use Rattle.draid_turn.specs.Numbers.{HoldsSome, holds, number_limit};
-ghost use Rattle.draid_holds.specs.Passes.{AllSeen, AreOf, ClosesEach, EachHoldsSome, KeepsOne, holders, makers, newcomers, shares};
+ghost use Rattle.draid_holds.specs.Passes.{AllSeen, AreInside, AreOf, ClosesEach, EachHoldsSome, FollowsOwn, KeepsOne, holders, makers, newcomers, shares};
 
 use draid_turn::{Pass, Span, Stand, Turn};
 use std::sync::Wait;
@@ -43,6 +43,11 @@ pub fn join_each<T: Stand>(turn: &Turn<T>, first: &mut Pass<T>, mut passes: Vec<
     ensures seen { AllSeen first.new.seen passes.items }
     ensures made { (x : ℕ) → times x first.new.own ≡ times x first.old.own + makers x passes.items }
     ensures numbers { (n : ℕ) → 1 ≤ one_if (holds n first.old.numbers) + holders n passes.items → holds n first.new.numbers ≡ true }
+    // What a pass hadn't seen concerns none of its numbers, which the first pass has then.
+    ensures inside { All (AreInside first.new.numbers) passes.items }
+    ensures follows { All (FollowsOwn first.new.seen) passes.items }
+    ensures first_inside { AreInside first.new.numbers first.old }
+    ensures first_follows { FollowsOwn first.new.seen first.old }
 {
     'passes: while let Some(pass) = passes.pop() {
         turn.join(first, pass);

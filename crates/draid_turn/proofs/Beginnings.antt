@@ -2,7 +2,7 @@
 use Rattle.std.proofs.Common.{◌≡◌, ◌≤◌, Bool, true, false, List, [], ◌∷◌, ◌++◌, length, length-append, drop, get_or, sym, refl, ap, ◌∙◌, subst, arith, nat_lt, All, if◌then◌else◌}
 use Rattle.std.proofs.lemmas.Bool.Decides.{nat_tests}
 use Rattle.std.proofs.lemmas.List.{append_assoc, append-nil, append_cancel_left}
-use Rattle.std.proofs.lemmas.List.Elements.{All-nil, All-tail}
+use Rattle.std.proofs.lemmas.List.Elements.{All-cons, All-head, All-nil, All-tail}
 use Rattle.draid_turn.specs.Lists.{StartsWith, longer, shorter}
 
 pub starts_self : {E : Type 0} (xs : List E) → StartsWith xs xs
@@ -54,6 +54,14 @@ module _ {E : Type 0} where
   all_back : (P : E → Type 0) (xs ys : List E) → All P (xs ++ ys) → All P ys
   all_back P [] ys a = a
   all_back P (x ∷ xs) ys a = all_back P xs ys (All-tail P x (xs ++ ys) a)
+
+  all_front : (P : E → Type 0) (xs ys : List E) → All P (xs ++ ys) → All P xs
+  all_front P [] ys a = All-nil P
+  all_front P (x ∷ xs) ys a = All-cons P x xs (All-head P x (xs ++ ys) a) (all_front P xs ys (All-tail P x (xs ++ ys) a))
+
+  -- what is so behind a beginning of the list is so of what a longer one has behind that
+  pub all_between : (P : E → Type 0) (log less more : List E) → StartsWith log more → (a : StartsWith more less) → ((r : List E) → log ≡ less ++ r → All P r) → All P a.0
+  all_between P log less more b a f = all_front P a.0 b.0 (f (a.0 ++ b.0) (b.1 ∙ (ap (λ l. l ++ b.0) a.1 ∙ append_assoc less a.0 b.0)))
 
   -- what is so behind a beginning is so behind a longer one
   pub all_later : (P : E → Type 0) (log less more rest : List E) → StartsWith more less → log ≡ more ++ rest → ((r : List E) → log ≡ less ++ r → All P r) → All P rest

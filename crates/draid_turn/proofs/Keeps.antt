@@ -16,14 +16,14 @@ use Rattle.draid_turn.specs.declared.past.Past.{Past}
 use Rattle.draid_turn.specs.Calls.{Follows}
 use Rattle.draid_turn.specs.History.{Stood, number_of}
 use Rattle.draid_turn.specs.Lists.{StartsWith, one_if, one_within}
-use Rattle.draid_turn.specs.Numbers.{HoldsOther, HoldsSome, IsOwn, all_numbers, holds, number_limit}
+use Rattle.draid_turn.specs.Numbers.{HoldsOther, HoldsSome, IsForeign, IsOwn, all_numbers, holds, number_limit}
 use Rattle.draid_turn.specs.Steps.{HasTaken, Takes, drew, learned, looked, served, told, took}
 use Rattle.draid_turn.specs.Rule.{IsHolding, NumbersOnce, PlacesOnce, Rule, TurnsInOrder}
 use Rattle.draid_turn.specs.Views.{united_view, first_view, served_view, holding_view, learned_view, giver_view, told_view, waiting_view, new_view, spent_view}
 use Rattle.draid_turn.proofs.KeepsTurns.{added_turns, at_home, counted_turns, drawn_turns, given_turns, holder_whole, opens_turns, taken_turns, ticket_of, touched_turns, under_next}
 use Rattle.draid_turn.proofs.KeepsPlaces.{added_places, counted_places, joined_places, opens_places, touched_places, whole_places}
-use Rattle.draid_turn.proofs.Beginnings.{longer_of, nested, shorter_of}
-use Rattle.draid_turn.proofs.KeepsNumbers.{counted_numbers, joined_numbers, opens_numbers, seen_all, split_numbers, touched_numbers, whole_numbers}
+use Rattle.draid_turn.proofs.Beginnings.{all_between, longer_of, nested, shorter_of}
+use Rattle.draid_turn.proofs.KeepsNumbers.{counted_numbers, joined_numbers, none_unheard, none_within, opens_numbers, seen_all, split_numbers, touched_numbers, whole_numbers}
 use Rattle.draid_turn.proofs.Spans.{all_within}
 
 first_few : (n : ℕ) → one_if (holds n all_numbers) ≤ one_within 0 number_limit n
@@ -65,7 +65,7 @@ module _ {T E : Type 0} (fact : List E → T → Type 0) (number : E → Option 
           log = r.log;
           turns = drawn_turns fact r.log s r.turns id new v at idle (omega (arith, up, hit)) small;
           places = touched_places r.log s.views r.places id v w at refl;
-          numbers = touched_numbers number r.log s.views r.numbers id v w at refl refl (r.numbers.unseen id v at);
+          numbers = touched_numbers number r.log s.views r.numbers id v w at refl refl (r.numbers.unseen id v at) (r.numbers.within id v at) (r.numbers.unheard id v at);
         },
         (refl, (λ _. refl), λ not. absurd (not hit)),
       ))
@@ -92,7 +92,7 @@ module _ {T E : Type 0} (fact : List E → T → Type 0) (number : E → Option 
         log = r.log;
         turns = taken_turns fact r.log s r.turns id t v at on hit (Some h.value);
         places = touched_places r.log s.views r.places id v w at refl;
-        numbers = touched_numbers number r.log s.views r.numbers id v w at refl refl (seen_all number r.log w refl);
+        numbers = touched_numbers number r.log s.views r.numbers id v w at refl refl (seen_all number r.log w refl) (r.numbers.within id v at) (r.numbers.unheard id v at);
       } in
       let follows : Follows number v.numbers r.log v.seen = record { unseen = b.0; begins = b.1; foreign = r.numbers.unseen id v at b.0 b.1 } in (
         holding_view t r.log v,
@@ -136,7 +136,7 @@ module _ {T E : Type 0} (fact : List E → T → Type 0) (number : E → Option 
           log = v.seen ++ added;
           turns = counted_turns fact s id on.ticket me.1 v added turns at on.is;
           places = counted_places s.views id v added places at;
-          numbers = counted_numbers number s.views id v added numbers turns.behind at own has;
+          numbers = counted_numbers number s.views id v added numbers turns.behind turns.heard at own has;
         },
         refl,
       )
@@ -156,7 +156,7 @@ module _ {T E : Type 0} (fact : List E → T → Type 0) (number : E → Option 
           log = r.log;
           turns = given_turns fact r.log s r.turns id on.ticket ((get_or s.words 1 0 + 1) % 2 ^ 64) v x at on.is kept up;
           places = touched_places r.log s.views r.places id v w at refl;
-          numbers = touched_numbers number r.log s.views r.numbers id v w at refl refl (r.numbers.unseen id v at);
+          numbers = touched_numbers number r.log s.views r.numbers id v w at refl refl (r.numbers.unseen id v at) (r.numbers.within id v at) (r.numbers.unheard id v at);
         },
         refl,
       )
@@ -197,12 +197,14 @@ module _ {T E : Type 0} (fact : List E → T → Type 0) (number : E → Option 
         numbers = joined_numbers number r.log s.views r.numbers r.turns.behind id v other w at apart at';
       }
 
-  pub learns_keep : (slots id : ℕ) (me : M) → length me.0.heard ≤ length me.0.seen → Allows R slots id me 0 (λ n. n) (learned (step slots 0 0 0 none) me)
+  pub learns_keep : (slots id : ℕ) (me : M) → length me.0.heard ≤ length me.0.seen → Allows R slots id me 0 (λ n. n) (learned number (step slots 0 0 0 none) me)
   learns_keep slots id me le s r _ at _ =
       let v : V = me.0 in
       let w : V = learned_view v in
       let a = r.turns.behind id v at in
-      let b = r.turns.heard id v at in (
+      let b = r.turns.heard id v at in
+      let c : StartsWith v.seen v.heard = nested v.heard v.seen b.0 a.0 (sym b.1 ∙ a.1) le in
+      let follows : Follows number v.heard_by v.seen v.heard = record { unseen = c.0; begins = c.1; foreign = all_between (IsForeign number v.heard_by) r.log v.heard v.seen a c (r.numbers.unheard id v at) } in (
         w,
         keeps,
         tt,
@@ -210,9 +212,9 @@ module _ {T E : Type 0} (fact : List E → T → Type 0) (number : E → Option 
           log = r.log;
           turns = touched_turns fact r.log s r.turns id v w at refl a (r.log, refl) (λ _ _ e. e);
           places = touched_places r.log s.views r.places id v w at refl;
-          numbers = touched_numbers number r.log s.views r.numbers id v w at refl refl (r.numbers.unseen id v at);
+          numbers = touched_numbers number r.log s.views r.numbers id v w at refl refl (r.numbers.unseen id v at) (none_within number w refl) (none_unheard number r.log w refl);
         },
-        (refl, nested v.heard v.seen b.0 a.0 (sym b.1 ∙ a.1) le),
+        (refl, follows),
       )
 
 module _ {T E : Type 0} (fact : List E → T → Type 0) (number : E → Option ℕ) where
@@ -223,7 +225,7 @@ module _ {T E : Type 0} (fact : List E → T → Type 0) (number : E → Option 
         log = [];
         turns = opens_turns fact x first_view kept refl refl refl;
         places = opens_places first_view refl;
-        numbers = opens_numbers number [] first_view refl refl first_few;
+        numbers = opens_numbers number [] first_view refl refl refl first_few;
       }
 
 -- the first seat, where nothing was held yet

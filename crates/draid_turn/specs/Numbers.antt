@@ -4,10 +4,10 @@ use Rattle.draid_turn.specs.declared.span.Span.{Span}
 
 -- all numbers lie below this one
 abbrev pub number_limit : ℕ
-number_limit = 2 ^ 32 + 18
+number_limit = 2 ^ 32 + 19
 
 abbrev pub all_numbers : List Span
-all_numbers = record { first = 0; last = 2 ^ 32 + 17 } ∷ []
+all_numbers = record { first = 0; last = 2 ^ 32 + 18 } ∷ []
 
 abbrev pub in_span : ℕ → Span → Bool
 in_span n span = nat_le span.first n && nat_le n span.last

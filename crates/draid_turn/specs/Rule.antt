@@ -72,11 +72,13 @@ pub record PlacesOnce {E : Type 0} (log : List E) (views : List (SeatView E)) : 
   pub ascending : Each (λ (view : SeatView E). Ascends view.own) views
 
 -- Part three, the numbers. None is held by two seats, a seat that holds none made nothing, and no hold that a seat
--- hasn't seen concerns a number that it holds
+-- hasn't seen concerns a number that it holds. So it is of what a seat heard, by the numbers of the one that told it
 pub record NumbersOnce {E : Type 0} (number : E → Option ℕ) (log : List E) (views : List (SeatView E)) : Type 0 where
   pub apart : (n : ℕ) → count_by (λ (view : SeatView E). holds n view.numbers) views ≤ one_within 0 number_limit n
   pub made_none : Each (λ (view : SeatView E). HoldsNone view.numbers → view.own ≡ []) views
   pub unseen : Each (λ (view : SeatView E). (rest : List E) → log ≡ view.seen ++ rest → All (IsForeign number view.numbers) rest) views
+  pub within : Each (λ (view : SeatView E). (n : ℕ) → holds n view.heard_by ≡ true → holds n view.numbers ≡ true) views
+  pub unheard : Each (λ (view : SeatView E). (rest : List E) → log ≡ view.heard ++ rest → All (IsForeign number view.heard_by) rest) views
 
 pub record Rule {T E : Type 0} (fact : List E → T → Type 0) (number : E → Option ℕ) (s : State (Option T) (SeatView E)) : Type 0 where
   pub log : List E

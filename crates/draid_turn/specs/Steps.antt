@@ -4,7 +4,7 @@ use Rattle.atomic_table.specs.Table.{Me, Step, rest}
 use Rattle.draid_turn.specs.declared.view.SeatStage.TheVariants.{Waiting}
 use Rattle.draid_turn.specs.declared.view.SeatView.{SeatView}
 use Rattle.draid_turn.specs.Calls.{Follows}
-use Rattle.draid_turn.specs.Lists.{StartsWith, places}
+use Rattle.draid_turn.specs.Lists.{places}
 use Rattle.draid_turn.specs.Numbers.{HoldsAll}
 use Rattle.draid_turn.specs.Views.{holding_view, learned_view, served_view, told_view, waiting_view}
 
@@ -23,8 +23,8 @@ module _ {T E : Type 0} where
   abbrev pub served : Step (Option T) → Me (Option T) (SeatView E) → ℕ → Me (Option T) (SeatView E) → Type 0
   served step old found new = new ≡ (served_view old.0, rest old.1)
 
-  abbrev pub learned : Step (Option T) → Me (Option T) (SeatView E) → ℕ → Me (Option T) (SeatView E) → Type 0
-  learned step old found new = (new ≡ (learned_view old.0, old.1)) × StartsWith old.0.seen old.0.heard
+  abbrev pub learned : (E → Option ℕ) → Step (Option T) → Me (Option T) (SeatView E) → ℕ → Me (Option T) (SeatView E) → Type 0
+  learned number step old found new = (new ≡ (learned_view old.0, old.1)) × Follows number old.0.heard_by old.0.seen old.0.heard
 
 module _ {T E : Type 0} (fact : List E → T → Type 0) (number : E → Option ℕ) where
   -- the seat's ticket is served, and it has the value

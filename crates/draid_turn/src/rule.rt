@@ -125,11 +125,12 @@ impl<E> Join<SeatView<E>> for Unite {
     ghost spent = { spent_view };
 }
 
-/// A load that tells a seat that it has seen what it heard.
+/// A load that tells a seat that it has seen what it heard, and what it heard no more of concerns no number of who told it.
 pub(crate) struct Learn;
 
-impl<E, T> Play<Option<T>, SeatView<E>> for Learn {
+impl<T> Play<Option<T>, SeatView<Past<T>>> for Learn {
+    ghost use Rattle.draid_turn.specs.History.{number_of};
     ghost use Rattle.draid_turn.specs.Steps.{learned};
 
-    ghost then = { learned };
+    ghost then = { learned number_of };
 }

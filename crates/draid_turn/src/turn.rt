@@ -1,6 +1,6 @@
 ghost use Rattle.std.specs.Prelude.{◌≡◌, ◌∷◌, ◌++◌, ◌&&◌, true, [], ℕ, length, not, None, Some, List, Option, IfOk, IfErr};
 ghost use Rattle.draid_turn.specs.declared.past.Past.{Past};
-ghost use Rattle.draid_turn.specs.Calls.{Closes, Did, MayCall, newcomer};
+ghost use Rattle.draid_turn.specs.Calls.{Closes, Did, Follows, MayCall, newcomer};
 ghost use Rattle.draid_turn.specs.History.{Stood, number_of};
 ghost use Rattle.draid_turn.specs.Lists.{StartsWith, longer, merge};
 ghost use Rattle.draid_turn.specs.Numbers.{HoldsOther, HoldsSome, all_numbers, holds};
@@ -106,6 +106,9 @@ impl<T: Stand> Turn<T> {
         ensures begins { StartsWith pass.new.seen pass.old.seen × StartsWith pass.new.seen other.seen }
         ensures made { pass.new.own ≡ merge pass.old.own other.own }
         ensures numbers { pass.new.numbers ≡ pass.old.numbers ++ other.numbers }
+        // What either hadn't seen concerns none of the numbers that it held.
+        ensures follows { Follows number_of pass.old.numbers pass.new.seen pass.old.seen }
+        ensures follows_other { Follows number_of other.numbers pass.new.seen other.seen }
     {
         let Pass {
             seat: other,

@@ -3,7 +3,9 @@ use Rattle.draid_turn.specs.Lists.{StartsWith}
 use Rattle.draid_turn.specs.Numbers.{HoldsAll}
 use Rattle.std.proofs.lemmas.List.Elements.{All-weaker}
 use Rattle.draid_turn.proofs.Beginnings.{starts_further}
-use Rattle.draid_holds.proofs.Joins.{made_once}
+use Rattle.draid_turn.specs.History.{number_of}
+use Rattle.draid_turn.proofs.Joined.{follows_then}
+use Rattle.draid_holds.proofs.Joins.{follows_all, made_once}
 use Rattle.draid_holds.proofs.passes.close_each.Goals as goal
 
 pub returns : goal.returns
@@ -16,6 +18,8 @@ returns g c =
       log = closed.log;
       stood = closed.stood;
       seen = All-weaker (λ pass. StartsWith last pass.seen) (λ pass. StartsWith closed.log pass.seen) (λ pass h. starts_further pass.seen last closed.log h more) c.args.passes.items c.join_each.ensures.seen;
+      follows = follows_all c.args.passes.items c.join_each.new.first closed.log closed.follows c.join_each.ensures.inside c.join_each.ensures.follows;
+      first_follows = follows_then number_of c.args.first.numbers c.join_each.new.first.numbers c.args.first.seen last closed.log c.join_each.ensures.first_inside c.join_each.ensures.first_follows closed.follows;
       single = λ x. sym (c.join_each.ensures.made x) ∙ made_once c.join_each.new.first.own (length closed.log) x (closed.whole all);
     }
 
