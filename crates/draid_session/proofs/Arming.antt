@@ -20,7 +20,7 @@ use Rattle.draid_session.specs.Does.{Does}
 use Rattle.draid_session.specs.Everywhere.{IsOnArms}
 use Rattle.draid_session.specs.Follows.{Follows}
 use Rattle.draid_session.specs.Groups as groups
-use Rattle.draid_session.specs.Holds.{Did, Hold, Looked, LookedUber, MadeLeaf, On, OnUber, RackFailed, Reserved, UberView, View}
+use Rattle.draid_session.specs.Holds.{Did, Hold, Looked, LookedUber, MadeLeaf, On, OnUber, RackFailed, Reserved, UberView, View, CallStarved}
 use Rattle.draid_session.specs.Keeping.{KeepsOpen}
 use Rattle.draid_session.specs.Looks.{AllOf, OnlyLooks}
 use Rattle.draid_session.specs.Making.{content_of}
@@ -60,7 +60,7 @@ module _ (geometry : Geometry) (perms : Perms) where
 
     make_stops_calm : (m : ℕ) (hold : Hold) (end : End) → arms.MakeStops geometry perms m hold end → IsCalmHold hold
     make_stops_calm m (On v RackFailed) Broke s = tt
-    make_stops_calm m (On v Looked) Starved s = tt
+    make_stops_calm m (On v CallStarved) Starved s = tt
     make_stops_calm m hold end s = absurd s
 
     make_calm : IsCalmPhase (arms.MakePhase geometry perms leaf)
@@ -77,7 +77,7 @@ module _ (geometry : Geometry) (perms : Perms) where
     pub event_calm : IsCalmPhase (arms.EventPhase geometry perms e)
     event_calm holds end p = each_all IsCalmHold (arms.Happens geometry perms e) happens_calm 0 geometry.props.metaslabs holds p.0
 
-    switch_calm : (views : List View) (u : UberView) → IsCalmPhase (arms.Switches geometry perms e views u)
+    pub switch_calm : (views : List View) (u : UberView) → IsCalmPhase (arms.Switches geometry perms e views u)
     switch_calm views u = chain_all IsCalmHold (arms.ReservePhase geometry perms (arms.one_event geometry perms)) (arms.EventPhase geometry perms e) (reserve_calm (arms.one_event geometry perms)) event_calm
 
   spare_calm : (slot spare : ℕ) (views : List View) (u : UberView) → IsCalmPhase (arms.AttachesSpare geometry perms slot spare views u)

@@ -8,6 +8,7 @@ use Rattle.draid_perm.specs.declared.perms.Perms.{Perms}
 use Rattle.draid_machine.specs.declared.event.Event.TheVariants as event
 use Rattle.draid_machine.specs.State as machine
 use Rattle.draid_objects.specs.Changes.{Change, Freed, Write, Wrote, group_of, key_of, object_of, write_in, write_of}
+use Rattle.draid_session.specs.Points.{HasLateMark}
 use Rattle.draid_session.specs.Book.{Book, changed, filled}
 use Rattle.draid_session.specs.Follows.{Follows, HoldsMetaslab}
 use Rattle.draid_session.specs.Holds.{Did, Hold, On, View}
@@ -53,7 +54,8 @@ calm_unsynced x z c u = (let one = c.each u.k u.y u.there in record { k = u.k; y
 
 calm_used : (x z : State) (store : Store) → CalmTo x z → ShowsUnsynced x store → ShowsUnsynced z store
 calm_used x z store c (inl none) = inl (subst (λ n. All (λ d. group_of d ≤ n) store.changes) (sym c.committed) none.0, c.pending ∙ none.1)
-calm_used x z store c (inr unsynced) = inr (calm_unsynced x z c unsynced)
+calm_used x z store c (inr (inl unsynced)) = inr (inl (calm_unsynced x z c unsynced))
+calm_used x z store c (inr (inr late)) = inr (inr (subst (λ n. HasLateMark n store.marks) (sym c.committed) late))
 
 -- a group that is under way was so before
 pub calm_under : (x z : State) → CalmTo x z → IsUnderWay z → IsUnderWay x
@@ -144,15 +146,15 @@ uses_calm x z floor group c u =
     (let same = c.committed in let later = u.later in record { later = omega (arith, later, same); above = u.above; is_floor = calm_floor x z group c u.is_floor; unsynced = calm_unsynced x z c u.unsynced })
 
 -- a change of an object, in a group that a call uses, where the floor comes to be one that it uses then
-pub fit_change : (x : State) (c : Change) (store new : Store) (b : Book) → KeepsOpen x store b → x.committed < group_of c → group_of c ≤ new.floor → store.floor ≤ new.floor
+pub fit_change : (x : State) (c : Change) (store new : Store) (b : Book) → KeepsOpen x store b → x.committed < group_of c → store.floor ≤ group_of c → group_of c ≤ new.floor → store.floor ≤ new.floor
     → IsLowFloor x new.floor → HasUnsynced x
     → new.changes ≡ c ∷ store.changes → (object : ℕ) (bytes : Option (List ℕ)) → object_of c ≡ object
     → bytes_in (write_in (Some c)) ≡ bytes → KeepsOpen x new (changed object bytes b)
-fit_change x c store new b f later within above floor unsynced made object bytes o is = record {
+fit_change x c store new b f later last within above floor unsynced made object bytes o is = record {
   is_open = f.is_open;
   says = subst (λ cs. SaysObjects x.committed cs (changed object bytes b)) (sym made)
       (subst (λ n. SaysObjects x.committed (c ∷ store.changes) (changed n bytes b)) o
-      (subst (λ w. SaysObjects x.committed (c ∷ store.changes) (changed (object_of c) w b)) is (tells_change x.committed c store.changes b later f.says)));
+      (subst (λ w. SaysObjects x.committed (c ∷ store.changes) (changed (object_of c) w b)) is (tells_change x.committed c store.changes b later (All-weaker (λ d. group_of d ≤ store.floor) (λ d. group_of d ≤ group_of c) (λ d less. omega (arith, less, last)) store.changes f.groups) f.says)));
   low = f.low;
   few = f.few;
   under = f.under;
@@ -162,7 +164,7 @@ fit_change x c store new b f later within above floor unsynced made object bytes
   inside = f.inside;
   place = f.place;
   noted = f.noted;
-  shows = inr unsynced;
+  shows = inr (inl unsynced);
   groups = subst (All (λ d. group_of d ≤ new.floor)) (sym made)
       (All-cons (λ d. group_of d ≤ new.floor) c store.changes within (All-weaker (λ d. group_of d ≤ store.floor) (λ d. group_of d ≤ new.floor) (λ d less. omega (arith, less, above)) store.changes f.groups));
   floor = floor;
@@ -183,7 +185,7 @@ fit_floor x store new b f above floor unsynced made = record {
   inside = f.inside;
   place = f.place;
   noted = f.noted;
-  shows = inr unsynced;
+  shows = inr (inl unsynced);
   groups = subst (All (λ d. group_of d ≤ new.floor)) (sym made) (All-weaker (λ d. group_of d ≤ store.floor) (λ d. group_of d ≤ new.floor) (λ d less. omega (arith, less, above)) store.changes f.groups);
   floor = floor;
 }
@@ -195,7 +197,7 @@ looks_from_calm m zero holds views looks = subst (AllOf IsCalmHold) (sym looks.0
 looks_from_calm m (suc n) holds views looks =
     subst (AllOf IsCalmHold) (sym looks.4) (subst IsCalmHold (sym looks.6.looked) tt, looks_from_calm (m + 1) n looks.1 looks.3 looks.7)
 
-puts_calm : (key : _) (m n : ℕ) (holds : List Hold) → PutsColumns key m n holds → AllOf IsCalmHold holds
+pub puts_calm : (key : _) (m n : ℕ) (holds : List Hold) → PutsColumns key m n holds → AllOf IsCalmHold holds
 puts_calm key m zero holds puts = subst (AllOf IsCalmHold) (sym puts) tt
 puts_calm key m (suc n) holds puts = subst (AllOf IsCalmHold) (sym puts.2) (subst IsCalmHold (sym puts.3.did) tt, puts_calm key m n puts.1 puts.4)
 
@@ -217,7 +219,7 @@ frees_fit object old new holds x z b f follows fit =
     let c : Change = Freed object f.group in
     let low : f.group ≤ new.floor = (let made = ap (λ (s : Store). s.floor) f.made in omega (arith, made)) in
     let above : old.floor ≤ new.floor = (let a = u.0.above in omega (arith, a, low)) in
-    fit_change z c old new b (calm_fit x z old b u.1 fit) u.0.later low above (subst (IsLowFloor z) (sym (ap (λ (s : Store). s.floor) f.made)) u.0.is_floor) u.0.unsynced (ap (λ (s : Store). s.changes) f.made) object None refl refl
+    fit_change z c old new b (calm_fit x z old b u.1 fit) u.0.later u.0.above low above (subst (IsLowFloor z) (sym (ap (λ (s : Store). s.floor) f.made)) u.0.is_floor) u.0.unsynced (ap (λ (s : Store). s.changes) f.made) object None refl refl
 
 module _ (geometry : Geometry) (perms : Perms) (chosen : List Room → Option ℕ → Type 0) where
   -- a block is tried
@@ -239,7 +241,7 @@ module _ (geometry : Geometry) (perms : Perms) (chosen : List Room → Option �
       let calm : CalmTo s z = calm_follows t.written s z (subst (AllOf IsCalmHold) (sym w.are) (tt, rest)) parts.2 in
       (uses_calm all.0 z old.floor birth (calm_follows (w.puts ++ On w.last (Did (event.Finish w.key) w.ended) ∷ []) all.0 z rest all.2) u, calm_more x s z looked calm)
 
-  earlier_uses : (o : Option Write) (floor group : ℕ) (holds : List Hold) (x z : State) → FreesEarlier o floor group holds → Follows holds x z → AreInStep x → AreNoted x
+  pub earlier_uses : (o : Option Write) (floor group : ℕ) (holds : List Hold) (x z : State) → FreesEarlier o floor group holds → Follows holds x z → AreInStep x → AreNoted x
       → IsLowFloor x floor
       → (floor ≤ group) × IsLowFloor z group × CalmTo x z
   earlier_uses None floor group holds x z f follows steps noted low =
@@ -261,7 +263,7 @@ module _ (geometry : Geometry) (perms : Perms) (chosen : List Room → Option �
       let made : new.floor ≡ w.group = ap (λ (s : Store). s.floor) w.made in
       let within : w.birth ≤ new.floor = (let e0 = e.0 in omega (arith, e0, made)) in
       let above : old.floor ≤ new.floor = (let t0 = t.0.above in omega (arith, t0, within)) in
-      fit_change z (Wrote (record { object = object; seq = old.seq + 1; metaslab = w.m; birth = w.birth; bytes = bytes })) old new b (calm_fit x z old b calm fit) later within above
+      fit_change z (Wrote (record { object = object; seq = old.seq + 1; metaslab = w.m; birth = w.birth; bytes = bytes })) old new b (calm_fit x z old b calm fit) later t.0.above within above
       (subst (IsLowFloor z) (sym made) e.1) (uses_calm a z old.floor w.birth e.2 t.0).unsynced (ap (λ (s : Store). s.changes) w.made) object (Some bytes) refl refl
 
   pub fills_fit : (content : ℕ → List ℕ) (first n : ℕ) (old new : Store) (holds : List Hold) (x z : State) (b : Book)

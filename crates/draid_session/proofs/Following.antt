@@ -4,10 +4,10 @@ use Rattle.draid_machine.proofs.Small.{equal, none_some, some_injective}
 use Rattle.draid_script.specs.Line.{Command, CrashPool, FreeObject, ImportPool, ReadObject, SyncPool, WriteObject}
 use Rattle.draid_reply.specs.declared.reply.Reply.{Reply}
 use Rattle.draid_reply.specs.declared.reply.Reply.TheVariants.{Contents, Crashed, Freed, Imported, Synced, Written}
-use Rattle.draid_session.specs.Book.{Answers, AnswersBy, Book, HasHad, MayBeFound, Objects, OpenAnswers, ShutAnswers, TakesUp, with_object}
+use Rattle.draid_session.specs.Book.{Answers, AnswersBy, Book, HaveBeen, MayBeFound, Objects, OpenAnswers, ShutAnswers, TakesUp, with_object}
 use Rattle.draid_session.specs.Reads.{ReadsAs}
 
-in_open : (old new : Book) (command : Command) (reply : Reply) → old.is_open ≡ true → Answers old command reply new → OpenAnswers old command reply new
+pub in_open : (old new : Book) (command : Command) (reply : Reply) → old.is_open ≡ true → Answers old command reply new → OpenAnswers old command reply new
 in_open old new command reply is answers = subst (λ b. AnswersBy b old command reply new) is answers
 
 in_shut : (old new : Book) (command : Command) (reply : Reply) → old.is_open ≡ false → Answers old command reply new → ShutAnswers old command reply new
@@ -49,11 +49,11 @@ synced_found group thin found many called old mid left new is synced crashed imp
       λ object. ap (λ (b : Book). b.now object) t.made ∙ (last.1 object ∙ (ap (λ (b : Book). b.kept object) c ∙ ap (λ (b : Book). b.kept object) s.1)),
     )
 
-pub imported_had : (found many object : ℕ) (called : String Global) (old new : Book) → old.is_open ≡ false → Answers old ImportPool (Imported called found many) new → HasHad old object (new.now object)
-imported_had found many object called old new is imported =
+pub imported_had : (found many : ℕ) (called : String Global) (old new : Book) → old.is_open ≡ false → Answers old ImportPool (Imported called found many) new → HaveBeen old new.now
+imported_had found many called old new is imported =
     let t : TakesUp old found many new = in_shut old new ImportPool (Imported called found many) is imported in
-    subst (HasHad old object) (sym (ap (λ (b : Book). b.now object) t.made)) (by t.objects t.may)
+    subst (HaveBeen old) (sym (ap (λ (b : Book). b.now) t.made)) (by t.objects t.may)
   where
-    by : (objects : Objects) → MayBeFound old found objects → HasHad old object (objects object)
-    by objects (inl last) = inl (last.1 object)
-    by objects (inr later) = later.2 object
+    by : (objects : Objects) → MayBeFound old found objects → HaveBeen old objects
+    by objects (inl last) = inl last.1
+    by objects (inr later) = later.2

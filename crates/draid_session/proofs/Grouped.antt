@@ -1,13 +1,11 @@
--- What holds of each hold of a sync, by what it may do: it looks, closes, seals or commits a group of a metaslab, an area fails, or it holds the uberblock.
-use Rattle.std.proofs.Common.{◌≡◌, ◌∷◌, ℕ, List, [], inl, inr, sym, subst}
-use Rattle.std.specs.declared.vec.Vec.{Vec}
-use Rattle.std.specs.declared.alloc.Global.{Global}
+-- What holds of each hold of a sync, by what it may do: it looks, closes, seals or commits a group of a metaslab, an area fails, memory is wanting, or it holds the uberblock.
+use Rattle.std.proofs.Common.{◌∷◌, ℕ, [], inl, inr, sym, subst}
 use Rattle.draid_spec.specs.declared.layout.Geometry.{Geometry}
 use Rattle.draid_perm.specs.declared.perms.Perms.{Perms}
 use Rattle.draid_machine.specs.declared.event.Event.TheVariants as event
 use Rattle.draid_machine.specs.State as machine
 use Rattle.draid_session.specs.Groups as groups
-use Rattle.draid_session.specs.Holds.{AreaFailed, CommitFailed, CommitStarved, Committed, Did, Hold, Looked, LookedUber, On, OnUber, UberAct, UberView, View}
+use Rattle.draid_session.specs.Holds.{AreaFailed, CommitFailed, CommitStarved, Committed, Did, Hold, Looked, LookedUber, On, OnUber, UberAct, UberView, View, CallStarved}
 use Rattle.draid_session.specs.Looks.{AllOf}
 use Rattle.draid_session.specs.Phases.{Broke, Chain, End, Starved, WasLast, WasWorn, Went}
 use Rattle.draid_session.proofs.Phased.{IsPhase, all_both, chain_all, each_all, looks_from_all, walk_all}
@@ -19,6 +17,7 @@ pub record OfSync (Q : Hold → Type 0) : Type 0 where
   pub seal : (v : View) (t : ℕ) (failed : _) (w : machine.State) → Q (On v (Did (event.Seal t failed) w))
   pub commit : (v : View) (t : ℕ) (w : machine.State) → Q (On v (Did (event.Commit t) w))
   pub area : (v : View) (t : ℕ) → Q (On v (AreaFailed t))
+  pub starve : (v : View) → Q (On v CallStarved)
   pub uber : (u : UberView) (act : UberAct) → Q (OnUber u act)
 
 module _ (Q : Hold → Type 0) (q : OfSync Q) (geometry : Geometry) (perms : Perms) where
@@ -41,7 +40,7 @@ module _ (Q : Hold → Type 0) (q : OfSync Q) (geometry : Geometry) (perms : Per
 
     seal_stops : (m : ℕ) (hold : Hold) (end : End) → groups.SealStops geometry perms group m hold end → Q hold
     seal_stops m (On v (AreaFailed t)) Broke s = q.area v t
-    seal_stops m (On v Looked) Starved s = q.look v
+    seal_stops m (On v CallStarved) Starved s = q.starve v
     seal_stops m hold end s = absurd s
 
     pub names_all : IsPhase Q (groups.Names geometry perms group)

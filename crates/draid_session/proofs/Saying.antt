@@ -1,24 +1,35 @@
 -- What a book says of what befell the objects of a pool.
-use Rattle.std.proofs.Common.{◌≡◌, ◌∙◌, ◌==◌, ◌<◌, ◌≤◌, ℕ, Bool, true, false, nat_le, List, ◌∷◌, Option, Some, All, inl, inr, refl, sym, ap, subst, arith, if◌then◌else◌, None, ◌⊎◌}
+use Rattle.std.proofs.Common.{[], ◌≡◌, ◌∙◌, ◌==◌, ◌<◌, ◌≤◌, ℕ, Bool, true, false, nat_le, List, ◌∷◌, Option, Some, All, inl, inr, refl, sym, ap, arith, if◌then◌else◌, None, ◌⊎◌}
 use Rattle.std.proofs.lemmas.Bool.Decides.{nat_tests}
-use Rattle.std.proofs.lemmas.List.Elements.{All-weaker}
+use Rattle.std.proofs.lemmas.List.Elements.{All-cons, All-weaker}
 use Rattle.draid_machine.proofs.Small.{absurd_test, bool_cases, equal, is_equal, is_low, none_some}
 use Rattle.draid_objects.specs.Changes.{Change, group_of, kept, object_of, write_in, write_of, Write}
-use Rattle.draid_objects.proofs.Finding.{changes_it, kept_all, kept_later, kept_other, kept_own, other_changes}
+use Rattle.draid_objects.proofs.Finding.{changes_it, kept_all, kept_later, other_changes}
 use Rattle.draid_session.specs.Opening.{HasObjects}
-use Rattle.draid_session.specs.Book.{AreMany, Objects, Book, HasHad, changed, with_object, synced}
+use Rattle.draid_session.specs.Book.{AreMany, Objects, Book, HaveBeen, WereSo, changed, with_object, synced}
 use Rattle.draid_session.specs.Keeping.{SaysObjects, bytes_in}
 
-not_low : (x y : ℕ) → y < x → nat_le x y ≡ false
+pub not_low : (x y : ℕ) → y < x → nat_le x y ≡ false
 not_low x y less = elim (bool_cases (nat_le x y)) [ inl e ↦ (let a = is_low x y e in absurd (omega (arith, a, less))) | inr e ↦ e ]
 
-had_more : (b : Book) (object o : ℕ) (bytes what : Option (List ℕ)) → HasHad b o what → HasHad (changed object bytes b) o what
-had_more b object o bytes what (inl e) = inl e
-had_more b object o bytes what (inr h) = inr (inr h)
+have_more : (b : Book) (object : ℕ) (bytes : Option (List ℕ)) (objects : Objects) → HaveBeen b objects → HaveBeen (changed object bytes b) objects
+have_more b object bytes objects (inl e) = inl e
+have_more b object bytes objects (inr h) = inr (inr h)
 
-pub tells_change : (committed : ℕ) (c : Change) (cs : List Change) (b : Book) → committed < group_of c → SaysObjects committed cs b
+were_same : (since : List Objects) (objects others : Objects) → ((o : ℕ) → objects o ≡ others o) → WereSo since objects → WereSo since others
+were_same [] objects others same were = were
+were_same (once ∷ more) objects others same (inl is) = inl (λ o. sym (same o) ∙ is o)
+were_same (once ∷ more) objects others same (inr were) = inr (were_same more objects others same were)
+
+-- the same objects
+pub have_same : (b : Book) (objects others : Objects) → ((o : ℕ) → objects o ≡ others o) → HaveBeen b objects → HaveBeen b others
+have_same b objects others same (inl is) = inl (λ o. sym (same o) ∙ is o)
+have_same b objects others same (inr were) = inr (were_same b.since objects others same were)
+
+-- a change of a group that is at least that of all before
+pub tells_change : (committed : ℕ) (c : Change) (cs : List Change) (b : Book) → committed < group_of c → All (λ d. group_of d ≤ group_of c) cs → SaysObjects committed cs b
     → SaysObjects committed (c ∷ cs) (changed (object_of c) (bytes_in (write_in (Some c))) b)
-tells_change committed c cs b later t = record { now = now; keeps = kept_; had = had }
+tells_change committed c cs b later last t = record { now = now; keeps = kept_; had = had }
   where
     now : (o : ℕ) → with_object (object_of c) (bytes_in (write_in (Some c))) b.now o ≡ bytes_in (write_of (c ∷ cs) o)
     now o = by (object_of c == o) refl
@@ -30,25 +41,24 @@ tells_change committed c cs b later t = record { now = now; keeps = kept_; had =
     kept_ : b.group ≡ committed → (o : ℕ) → b.kept o ≡ bytes_in (kept committed (c ∷ cs) o)
     kept_ same o = t.keeps same o ∙ sym (ap bytes_in (kept_later committed c cs o (not_low (group_of c) committed later)))
 
-    had : (group o : ℕ) → committed ≤ group → HasHad (changed (object_of c) (bytes_in (write_in (Some c))) b) o (bytes_in (kept group (c ∷ cs) o))
-    had group o from = by (nat_le (group_of c) group) (object_of c == o) refl refl
+    had : (group : ℕ) → committed ≤ group → HaveBeen (changed (object_of c) (bytes_in (write_in (Some c))) b) (λ o. bytes_in (kept group (c ∷ cs) o))
+    had group from = by (nat_le (group_of c) group) refl
       where
-        old : HasHad (changed (object_of c) (bytes_in (write_in (Some c))) b) o (bytes_in (kept group cs o))
-        old = had_more b (object_of c) o (bytes_in (write_in (Some c))) (bytes_in (kept group cs o)) (t.had group o from)
+        all : group_of c ≤ group → (o : ℕ) → kept group (c ∷ cs) o ≡ write_of (c ∷ cs) o
+        all up o = kept_all group o (c ∷ cs) (All-cons (λ d. object_of d ≡ o → group_of d ≤ group) c cs (λ is. up)
+            (All-weaker (λ d. group_of d ≤ group_of c) (λ d. object_of d ≡ o → group_of d ≤ group) (λ d less is. omega (arith, less, up)) cs last))
 
-        by : (x y : Bool) → nat_le (group_of c) group ≡ x → (object_of c == o) ≡ y
-            → HasHad (changed (object_of c) (bytes_in (write_in (Some c))) b) o (bytes_in (kept group (c ∷ cs) o))
-        by true true up is =
-            inr (inl (ap bytes_in (kept_own group c cs o up is) ∙ sym (ap (λ z. if z then bytes_in (write_in (Some c)) else b.now o) is)))
-        by true false up is = subst (HasHad (changed (object_of c) (bytes_in (write_in (Some c))) b) o) (sym (ap bytes_in (kept_other group c cs o is))) old
-        by false y up is = subst (HasHad (changed (object_of c) (bytes_in (write_in (Some c))) b) o) (sym (ap bytes_in (kept_later group c cs o up))) old
+        by : (x : Bool) → nat_le (group_of c) group ≡ x → HaveBeen (changed (object_of c) (bytes_in (write_in (Some c))) b) (λ o. bytes_in (kept group (c ∷ cs) o))
+        by true up = inr (inl (λ o. ap bytes_in (all (is_low (group_of c) group up) o) ∙ sym (now o)))
+        by false up = have_more b (object_of c) (bytes_in (write_in (Some c))) (λ o. bytes_in (kept group (c ∷ cs) o))
+            (have_same b (λ o. bytes_in (kept group cs o)) (λ o. bytes_in (kept group (c ∷ cs) o)) (λ o. sym (ap bytes_in (kept_later group c cs o up))) (t.had group from))
 
 -- where nothing befell the objects in later groups, a group keeps them as they are
 pub tells_synced : (old group : ℕ) (cs : List Change) (b : Book) → SaysObjects old cs b → All (λ c. group_of c ≤ group) cs → SaysObjects group cs (synced group b)
 tells_synced old group cs b t all = record {
   now = t.now;
   keeps = λ same o. keeps group o (omega arith);
-  had = λ later o from. inl (sym (keeps later o from));
+  had = λ later from. inl (λ o. sym (keeps later o from));
 }
   where
     keeps : (later o : ℕ) → group ≤ later → b.now o ≡ bytes_in (kept later cs o)
@@ -56,7 +66,7 @@ tells_synced old group cs b t all = record {
 
 -- a later group is committed, which isn't the book's
 pub tells_later : (old new : ℕ) (cs : List Change) (b : Book) → old ≤ new → (b.group ≡ new → ⊥) → SaysObjects old cs b → SaysObjects new cs b
-tells_later old new cs b less other t = record { now = t.now; keeps = λ same. absurd (other same); had = λ group o from. t.had group o (omega (arith, less, from)) }
+tells_later old new cs b less other t = record { now = t.now; keeps = λ same. absurd (other same); had = λ group from. t.had group (omega (arith, less, from)) }
 
 pub high : (x y : ℕ) → nat_le x y ≡ false → y < x
 high x y is = grind (arith, nat_tests, is)

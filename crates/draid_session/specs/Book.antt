@@ -5,7 +5,7 @@ use Rattle.sha2.specs.Sha256.{sha256}
 use Rattle.draid_names.specs.declared.refusal.ObjectFault.{ObjectFault}
 use Rattle.draid_names.specs.declared.refusal.ObjectFault.TheVariants as fault
 use Rattle.draid_script.specs.Grammar.{line_of}
-use Rattle.draid_script.specs.Line.{Command, Silent, CreatePool, ImportPool, ExportPool, SyncPool, CancelPasses, CrashPool, WriteObject, FillObjects, ReadObject, FreeObject, SumObjects, TakeOffline, TakeOnline, DamageSector, AttachSpare, ReplaceDisk, DetachArm, RebuildPool, ScrubPool, RebalanceSlot, ShowStatus, UpgradePool}
+use Rattle.draid_script.specs.Line.{Command, Silent, CreatePool, ImportPool, ExportPool, SyncPool, CancelPasses, CrashPool, WriteObject, FillObjects, ReadObject, FreeObject, SumObjects, TakeOffline, TakeOnline, DamageSector, AttachSpare, ReplaceDisk, DetachArm, RebuildPool, ScrubPool, RebalanceSlot, ShowStatus, TakeCheckpoint, UpgradePool, DiscardCheckpoint, RewindPool}
 use Rattle.draid_script.specs.declared.fault.LineFault.{LineFault}
 use Rattle.draid_script.specs.declared.line.StatusFormat.{StatusFormat}
 use Rattle.draid_script.specs.declared.line.StatusFormat.TheVariants as format
@@ -14,9 +14,10 @@ use Rattle.draid_report.specs.Text.{text_of}
 use Rattle.draid_report.specs.Tree.{json_of}
 use Rattle.draid_report.specs.declared.view.View.{View}
 use Rattle.draid_reply.specs.declared.reply.Reply.{Reply}
-use Rattle.draid_reply.specs.declared.reply.Reply.TheVariants.{NoPool, PoolOpen, NoMemory, Worn, Last, PassThere, Created, CreateRefused, Imported, Exported, Crashed, Synced, Written, NoSpace, Missed, WriteLast, Filled, FillRefused, Contents, NoObject, Unreadable, ReadWorn, Summed, SumRefused, Freed, FreeNoObject, Damaged, DamageRefused, DamageFailed, DamageWorn, OfflineDone, OfflineRefused, OfflineWorn, OnlineDone, OnlineRefused, OnlineWorn, Spared, SpareRefused, SpareWorn, Replaced, ReplaceRefused, ReplaceWorn, Detached, DetachRefused, DetachWorn, DetachLast, Rebuilt, RebuildNothing, Scrubbed, Rebalanced, RebalanceRefused, RebalanceWorn, RebalanceLast, Cancelled, Status, Upgraded, UpgradeAlready}
+use Rattle.draid_reply.specs.declared.reply.Reply.TheVariants.{NoPool, PoolOpen, NoMemory, Worn, Last, PassThere, Created, CreateRefused, Imported, Exported, Crashed, Synced, Written, NoSpace, Missed, WriteLast, Filled, FillRefused, Contents, NoObject, Unreadable, ReadWorn, Summed, SumRefused, Freed, FreeNoObject, Damaged, DamageRefused, DamageFailed, DamageWorn, OfflineDone, OfflineRefused, OfflineWorn, OnlineDone, OnlineRefused, OnlineWorn, Spared, SpareRefused, SpareWorn, Replaced, ReplaceRefused, ReplaceWorn, Detached, DetachRefused, DetachWorn, DetachLast, Rebuilt, RebuildNothing, Scrubbed, Rebalanced, RebalanceRefused, RebalanceWorn, RebalanceLast, Cancelled, Status, Upgraded, UpgradeAlready, Checkpointed, CheckpointThere, Discarded, NoCheckpoint, Rewound}
 use Rattle.draid_session.specs.Said.{Said}
 use Rattle.draid_session.specs.Making.{content_of}
+use Rattle.draid_session.specs.Places.{Outside, Place, line_at, place_after, place_behind}
 use Rattle.draid_session.specs.Reads.{ReadsAs}
 use Rattle.draid_session.specs.Session.{name_of}
 
@@ -90,27 +91,31 @@ doubtful book = record book { untold = book.untold + 1 }
 abbrev pub certain : Book → Book
 certain book = record book { untold = 0 }
 
+-- each object is as it was at a checkpoint
+abbrev pub reverted : Objects → Book → Book
+reverted objects book = record book { now = objects; since = objects ∷ book.since }
+
 -- the pool is given back
 abbrev pub closed : Book → Book
 closed book = record book { is_open = false }
 
 -- ---- what may be found
 
--- after some change an object was so
-abbrev pub WasSo : List Objects → ℕ → Option (List ℕ) → Type 0
-WasSo [] object bytes = ⊥
-WasSo (objects ∷ more) object bytes = (bytes ≡ objects object) ⊎ WasSo more object bytes
+-- after some change all objects were so
+abbrev pub WereSo : List Objects → Objects → Type 0
+WereSo [] objects = ⊥
+WereSo (once ∷ more) objects = ((object : ℕ) → objects object ≡ once object) ⊎ WereSo more objects
 
--- it was so at some time since the last group that a reply named
-abbrev pub HasHad : Book → ℕ → Option (List ℕ) → Type 0
-HasHad book object bytes = (bytes ≡ book.kept object) ⊎ WasSo book.since object bytes
+-- they were so at some time since the last group that a reply named
+abbrev pub HaveBeen : Book → Objects → Type 0
+HaveBeen book objects = ((object : ℕ) → objects object ≡ book.kept object) ⊎ WereSo book.since objects
 
--- Which group may be found, with which objects: the last that a reply named, with what it keeps; or a later one, by at most as many as no reply told of, and then each object is as it
--- was at some time since.
+-- Which group may be found, with which objects: the last that a reply named, with what it keeps; or a later one, by at most as many as no reply told of, and then all objects are as they
+-- were at one time since.
 abbrev pub MayBeFound : Book → ℕ → Objects → Type 0
 MayBeFound book group objects =
     ((group ≡ book.group) × ((object : ℕ) → objects object ≡ book.kept object))
-    ⊎ ((book.group < group) × (group ≤ book.group + book.untold) × ((object : ℕ) → HasHad book object (objects object)))
+    ⊎ ((book.group < group) × (group ≤ book.group + book.untold) × HaveBeen book objects)
 
 -- an import takes up a group that is found, with so many objects
 pub record TakesUp (old : Book) (group many : ℕ) (new : Book) : Type 0 where
@@ -172,6 +177,10 @@ pub record IsStatusOf (old : Book) (format : StatusFormat) (text : List ℕ) : T
 -- groups may have been committed of which the reply doesn't tell; no object changed
 abbrev pub MayHaveSynced : Book → Book → Type 0
 MayHaveSynced old new = (untold : ℕ) × (old.untold ≤ untold) × (new ≡ record old { untold = untold })
+
+-- a rewind was refused before its change, or behind it
+abbrev pub MayHaveReverted : Book → Book → Type 0
+MayHaveReverted old new = (new ≡ doubtful old) ⊎ ((objects : Objects) × (new ≡ doubtful (reverted objects old)))
 
 -- What a command does where a pool is open. One that changes arms or the version, and a pass, changes no object; a detachment and an upgrade end with a sync, a rebuild and a
 -- rebalance may commit groups of which they don't tell, and the others name no group.
@@ -258,6 +267,21 @@ OpenAnswers old UpgradePool (Last name.Upgrade) new = new ≡ doubtful old
 OpenAnswers old UpgradePool (NoMemory name.Upgrade) new = new ≡ doubtful old
 OpenAnswers old (ShowStatus format) (Status text) new = IsStatusOf old format text.items × (new ≡ old)
 OpenAnswers old (ShowStatus format) (NoMemory name.Status) new = new ≡ old
+OpenAnswers old TakeCheckpoint (Checkpointed group) new = NamesNext old group × (new ≡ synced group old)
+OpenAnswers old TakeCheckpoint (CheckpointThere group) new = new ≡ old
+OpenAnswers old TakeCheckpoint (Worn name.Checkpoint) new = new ≡ doubtful old
+OpenAnswers old TakeCheckpoint (Last name.Checkpoint) new = new ≡ doubtful old
+OpenAnswers old TakeCheckpoint (NoMemory name.Checkpoint) new = new ≡ doubtful old
+OpenAnswers old DiscardCheckpoint (Discarded freed group) new = NamesNext old group × (new ≡ synced group old)
+OpenAnswers old DiscardCheckpoint (NoCheckpoint name.Discard) new = new ≡ old
+OpenAnswers old DiscardCheckpoint (Worn name.Discard) new = new ≡ doubtful old
+OpenAnswers old DiscardCheckpoint (Last name.Discard) new = new ≡ doubtful old
+OpenAnswers old DiscardCheckpoint (NoMemory name.Discard) new = new ≡ doubtful old
+OpenAnswers old RewindPool (Rewound group many) new = (objects : Objects) × AreMany objects many × NamesNext old group × (new ≡ synced group (reverted objects old))
+OpenAnswers old RewindPool (NoCheckpoint name.Rewind) new = new ≡ old
+OpenAnswers old RewindPool (Worn name.Rewind) new = MayHaveReverted old new
+OpenAnswers old RewindPool (Last name.Rewind) new = MayHaveReverted old new
+OpenAnswers old RewindPool (NoMemory name.Rewind) new = MayHaveReverted old new
 OpenAnswers old command reply new = ⊥
 
 -- What it does where none is. Where an import says that there is no pool, none is found till one is made.
@@ -289,11 +313,15 @@ AnswersLine (Ok Silent) old (said ∷ more) new = ⊥
 AnswersLine (Ok command) old (said ∷ []) new = (said.lane ≡ None) × Answers old command said.reply new
 AnswersLine line old saids new = ⊥
 
--- the lines are answered by the replies to each, one after another
+-- the lines are answered by the replies to each, one after another, from a place on
+abbrev pub AnswersAt : Place → Book → List (List ℕ) → List (List Said) → Book → Type 0
+AnswersAt place old [] [] new = new ≡ old
+AnswersAt place old (line ∷ lines) (saids ∷ replies) new = (mid : Book) × AnswersLine (line_at place line) old saids mid × AnswersAt (place_behind place line) mid lines replies new
+AnswersAt place old lines replies new = ⊥
+
+-- from outside a section on
 abbrev pub AnswersAll : Book → List (List ℕ) → List (List Said) → Book → Type 0
-AnswersAll old [] [] new = new ≡ old
-AnswersAll old (line ∷ lines) (saids ∷ replies) new = (mid : Book) × AnswersLine (line_of line) old saids mid × AnswersAll mid lines replies new
-AnswersAll old lines replies new = ⊥
+AnswersAll old lines replies new = AnswersAt Outside old lines replies new
 
 -- ---- the end of a run
 
@@ -310,6 +338,9 @@ OpenBreaks old (DetachArm arm) new = new ≡ doubtful old
 OpenBreaks old (RebuildPool limit) new = MayHaveSynced old new
 OpenBreaks old (RebalanceSlot slot) new = MayHaveSynced old new
 OpenBreaks old UpgradePool new = new ≡ doubtful old
+OpenBreaks old TakeCheckpoint new = new ≡ doubtful old
+OpenBreaks old DiscardCheckpoint new = new ≡ doubtful old
+OpenBreaks old RewindPool new = MayHaveReverted old new
 OpenBreaks old command new = ⊥
 
 abbrev pub ShutBreaks : Book → Command → Book → Type 0
@@ -324,19 +355,20 @@ BreaksBy false old command new = ShutBreaks old command new
 abbrev pub BreaksBook : Book → Command → Book → Type 0
 BreaksBook old command new = BreaksBy old.is_open old command new
 
--- the run ends behind its last reply, or in this line
-abbrev pub BreaksAtLine : Result Command LineFault → Book → Book → Type 0
-BreaksAtLine (Ok command) old new = BreaksBook old command new
-BreaksAtLine line old new = ⊥
+-- The run ends in a line. Outside a section nothing is said to it before.
+abbrev pub BreaksAtLine : Result Command LineFault → Book → List Said → Book → Type 0
+BreaksAtLine (Ok command) old saids new = (saids ≡ []) × BreaksBook old command new
+BreaksAtLine line old saids new = ⊥
 
-abbrev pub EndsBook : Option (List ℕ) → Book → Book → Type 0
-EndsBook None old new = new ≡ old
-EndsBook (Some line) old new = BreaksAtLine (line_of line) old new
+-- it ends behind its last reply, or in this line at this place, behind what was said to it
+abbrev pub EndsBook : Place → Option (List ℕ) → Book → List Said → Book → Type 0
+EndsBook place None old saids new = (saids ≡ []) × (new ≡ old)
+EndsBook place (Some line) old saids new = BreaksAtLine (line_at place line) old saids new
 
--- A run: its lines are answered, it ends behind them or in a line that breaks off, and a pool that is open is given back.
-pub record AnswersRun (old : Book) (lines : List (List ℕ)) (replies : List (List Said)) (broken : Option (List ℕ)) (new : Book) : Type 0 where
+-- A run: its lines are answered, it ends behind them or in a line that breaks off, to which this was said, and a pool that is open is given back.
+pub record AnswersRun (old : Book) (lines : List (List ℕ)) (replies : List (List Said)) (broken : Option (List ℕ)) (saids : List Said) (new : Book) : Type 0 where
   pub mid : Book
   pub last : Book
   pub answers : AnswersAll old lines replies mid
-  pub ends : EndsBook broken mid last
+  pub ends : EndsBook (place_after Outside lines) broken mid saids last
   pub made : new ≡ closed last

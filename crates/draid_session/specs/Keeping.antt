@@ -3,7 +3,8 @@ use Rattle.std.specs.Prelude.{◌≡◌, ◌<◌, ◌≤◌, ◌+◌, ◌||◌, 
 use Rattle.draid_machine.specs.declared.event.Event.{Event}
 use Rattle.draid_machine.specs.State as machine
 use Rattle.draid_objects.specs.Changes.{Change, Write, group_of, kept, write_of}
-use Rattle.draid_session.specs.Book.{Book, HasHad}
+use Rattle.draid_session.specs.Points.{HasLateMark}
+use Rattle.draid_session.specs.Book.{Book, HaveBeen}
 use Rattle.draid_session.specs.Groups.{behind_close, has_commit, has_other, is_close_of, is_unsynced}
 use Rattle.draid_session.specs.Session.{Desk, Untouched, Bare, Made, Open, Shut, Foreign, Unknown}
 use Rattle.draid_session.specs.State.{Metaslab, State, Store}
@@ -20,7 +21,7 @@ bytes_in (Some write) = Some write.bytes
 pub record SaysObjects (committed : ℕ) (changes : List Change) (book : Book) : Type 0 where
   pub now : (o : ℕ) → book.now o ≡ bytes_in (write_of changes o)
   pub keeps : book.group ≡ committed → (o : ℕ) → book.kept o ≡ bytes_in (kept committed changes o)
-  pub had : (group o : ℕ) → committed ≤ group → HasHad book o (bytes_in (kept group changes o))
+  pub had : (group : ℕ) → committed ≤ group → HaveBeen book (λ o. bytes_in (kept group changes o))
 
 -- ---- one metaslab
 
@@ -76,9 +77,9 @@ pub record HasAhead (x : State) : Type 0 where
   pub closing : y.world.closing ≡ Some group
   pub ahead : has_other group (behind_close group y.events) ≡ true
 
--- All changes are of committed groups, and no commit was refused; or some metaslab isn't synced.
+-- All changes are of committed groups, and no commit was refused; or some metaslab isn't synced, or something befell the checkpoint since the committed group.
 abbrev pub ShowsUnsynced : State → Store → Type 0
-ShowsUnsynced x store = (All (λ c. group_of c ≤ x.committed) store.changes × (x.pending ≡ false)) ⊎ HasUnsynced x
+ShowsUnsynced x store = (All (λ c. group_of c ≤ x.committed) store.changes × (x.pending ≡ false)) ⊎ (HasUnsynced x ⊎ HasLateMark x.committed store.marks)
 
 -- a group is under way: it is closing in some metaslab, or its commit was refused
 abbrev pub IsUnderWay : State → Type 0
@@ -112,7 +113,7 @@ pub record KeepsOpen (x : State) (store : Store) (book : Book) : Type 0 where
 pub record KeepsShut (x : State) (book : Book) : Type 0 where
   pub is_shut : book.is_open ≡ false
   pub keeps : book.group ≡ x.committed → (o : ℕ) → book.kept o ≡ bytes_in (kept x.committed x.store.changes o)
-  pub had : (group o : ℕ) → x.committed ≤ group → HasHad book o (bytes_in (kept group x.store.changes o))
+  pub had : (group : ℕ) → x.committed ≤ group → HaveBeen book (λ o. bytes_in (kept group x.store.changes o))
   pub low : book.group ≤ x.committed
   pub few : x.committed ≤ book.group + book.untold
   pub under : x.pending ≡ true → x.committed + 1 ≤ book.group + book.untold

@@ -1,33 +1,48 @@
-ghost use Rattle.std.specs.Prelude.{◌≡◌, ◌<◌, ℕ, Bool, false, true, List, Option, Some, String, slice_get};
+ghost use Rattle.std.specs.Prelude.{◌≡◌, ◌+◌, ◌<◌, ◌≤◌, ℕ, Bool, [], false, true, List, Option, Some, String, length, slice_get, All, ◌⊎◌};
 ghost use Rattle.std.specs.Fn.{FnReturnsAt};
 ghost use Rattle.std.specs.declared.alloc.Global.{Global as Heap};
 ghost use Rattle.std.specs.declared.vec.Vec.{Vec};
 ghost use Rattle.draid_names.specs.declared.pass_kind.PassKind.TheVariants.{Rebuild};
 ghost use Rattle.draid_spec.specs.declared.layout.Geometry.{Geometry};
 ghost use Rattle.draid_perm.specs.declared.perms.Perms.{Perms};
+ghost use Rattle.draid_machine.specs.Arms.{HasEmptyLog};
+ghost use Rattle.draid_map.specs.Place.{IsLayout};
 ghost use Rattle.draid_machine.specs.State as machine;
-ghost use Rattle.draid_objects.specs.Changes.{Write, write_of};
+ghost use Rattle.draid_machine.specs.declared.names.ArmName.{ArmName};
+ghost use Rattle.draid_objects.specs.Changes.{Write, write_of, group_of};
 ghost use Rattle.draid_reply.specs.declared.reply.Reply.{Reply};
-ghost use Rattle.draid_script.specs.Line.{Command, CrashPool, FreeObject, ImportPool, ReadObject, RebuildPool, ScrubPool, SyncPool, WriteObject};
-ghost use Rattle.draid_session.specs.Book.{Answers, AnswersAll, Book, BreaksBook, HasHad, blank, closed};
-ghost use Rattle.draid_session.specs.Certain.{AllAnswer, EndsFailed, FailsNoPut, HasPlace, MaySync, ReadsLast, StaysReadable, SyncsNext, WritesOnce};
+ghost use Rattle.draid_script.specs.Line.{Command, CrashPool, FreeObject, ImportPool, ReadObject, RebuildPool, ScrubPool, ShowStatus, SyncPool, WriteObject, RewindPool, TakeCheckpoint};
+ghost use Rattle.draid_script.specs.declared.line.StatusFormat.{StatusFormat};
+ghost use Rattle.draid_session.specs.Bearing.{AreIdle, AreUnhurt, FailsNoCall, FailsNoFetch, GoOffline, HaveFewBroken, HaveNoPass, IsPoolWhole, IsSteady, IsWanted, IsWholeBut, Failure, OutlivesAll, ShowsWholeBut, Uses};
+ghost use Rattle.draid_objects.specs.Marks.{Mark};
+ghost use Rattle.draid_session.specs.Checkpoints.{GoesBackTo};
+ghost use Rattle.draid_script.specs.Writing.{IsForLanes};
+ghost use Rattle.draid_session.specs.Book.{Answers, AnswersAll, Book, BreaksBook, HaveBeen, Objects, blank, closed};
+ghost use Rattle.draid_session.specs.Certain.{EndsFailed, EnoughAnswer, FailsNoPut, HasPlace, MayFinish, MaySync, ReadsLast, StaysReadable, SyncsBehind, SyncsNext, WritesOnce};
 ghost use Rattle.draid_session.specs.Choices.{choices_by};
 ghost use Rattle.draid_session.specs.Everywhere.{ArmsChange, ArmsStay, IsOnArms};
 ghost use Rattle.draid_session.specs.Follows.{Follows};
 ghost use Rattle.draid_session.specs.Holds.{Hold, View, layout_at};
-ghost use Rattle.draid_session.specs.Keeping.{Keeps};
-ghost use Rattle.draid_session.specs.Lanes.{IsMerged, TogetherAt};
+ghost use Rattle.draid_session.specs.Keeping.{Keeps, bytes_in};
+ghost use Rattle.draid_session.specs.Lanes.{IsMerged, TogetherAt, Section};
+ghost use Rattle.draid_session.specs.LaneBook.{AnswersSection, AreBeginnings};
+ghost use Rattle.draid_session.specs.Places.{Outside, Place};
+ghost use Rattle.draid_session.specs.Sections.{BookOn, RunsOn};
 ghost use Rattle.draid_session.specs.Looks.{AllOf, Looks};
+ghost use Rattle.draid_session.specs.Making.{IsFresh};
+ghost use Rattle.draid_session.specs.Marked.{HasMark, LeavesMark, Marked, MarkedAll, MarkedAnswers};
 ghost use Rattle.draid_session.specs.Opening.{Imports};
 ghost use Rattle.draid_session.specs.Passes.{ReadyPhase};
 ghost use Rattle.draid_session.specs.Phases.{End};
 ghost use Rattle.draid_session.specs.Present.{AreReached, DeskReached, LeavesPresent};
 ghost use Rattle.draid_session.specs.Reads.{ReadsAs};
 ghost use Rattle.draid_session.specs.Resuming.{IsFirstRebuilt, TakesUpPass, stands_at};
+ghost use Rattle.draid_session.specs.Rewinding.{GoesBackIn, MakesCheck, RunsBeside};
 ghost use Rattle.draid_session.specs.Rooms.{FitsNowhere, stripes_for};
 ghost use Rattle.draid_session.specs.Said.{Said};
-ghost use Rattle.draid_session.specs.Session.{Agrees, Bare, Breaks, BreaksOpen, CarriesOut, Cause, Desk, IsAnything, Made, RecordFails, Runs, left_of};
-ghost use Rattle.draid_session.specs.State.{Metaslab, State};
+ghost use Rattle.draid_session.specs.Session.{Agrees, Bare, Breaks, BreaksOpen, CarriesOut, Cause, Desk, IsAnything, Made, Open, RecordFails, Runs, left_of};
+ghost use Rattle.draid_session.specs.State.{Metaslab, State, Store};
+ghost use Rattle.draid_session.specs.Staying.{MakesNoPool, Stays};
 ghost use Rattle.draid_session.specs.Undisturbed.{HaveNoErrors, IsCalmInScrub, IsUndisturbed, WentWell};
 ghost use Rattle.draid_session.specs.Waiting.{HasRebuild, WaitsForThree};
 ghost use Rattle.draid_session.specs.Writes.{HasNoSpace};
@@ -52,18 +67,26 @@ pub fn readable_objects_are_read<F: Fn(&[Room]) -> Option<u32>>(chooser: &F)
         → StaysReadable old new w → ReadsLast old object w reply }
 {}
 
-/// Law: a write is done where a metaslab that takes blocks has a run which fits, an arm of each column's slot answers, and
-/// no put fails. Else the last number of a write is used up, or memory is wanting.
+/// Law: a write is done where a metaslab that takes blocks has a run which fits, of all columns but at most as many as there
+/// are parity columns an arm of the column's slot answers, and no put fails. Else the last number of a write is used up, or
+/// memory is wanting.
 pub fn writes_that_fit_are_done<F: Fn(&[Room]) -> Option<u32>>(chooser: &F)
     ensures { (object : ℕ) (bytes : List ℕ) (reply : Reply) (old new : State)
         → (it : CarriesOut (choices_by (FnReturnsAt F.Fn chooser.now)) (WriteObject object bytes) reply old new)
-        → HasPlace old (stripes_for old.geometry bytes) → AllAnswer old → AllOf FailsNoPut it.holds → WritesOnce old object reply }
+        → HasPlace old (stripes_for old.geometry bytes) → EnoughAnswer old → AllOf FailsNoPut it.holds → WritesOnce old object reply }
 {}
 
 /// Law: a sync commits the group behind the committed one where no group is closing, each metaslab has room for the events
 /// of a closing, and that group hasn't the last number. Else memory is wanting.
 pub fn idle_pools_are_synced<F: Fn(&[Room]) -> Option<u32>>(chooser: &F)
     ensures { (reply : Reply) (old new : State) → CarriesOut (choices_by (FnReturnsAt F.Fn chooser.now)) SyncPool reply old new → MaySync old → SyncsNext old reply }
+{}
+
+/// Law: where a group is closing, each metaslab that doesn't close it yet has room for the events of a closing, and it
+/// hasn't the last number, a sync commits it; and the reply is of the group behind it. Else memory is wanting.
+pub fn closing_groups_are_synced<F: Fn(&[Room]) -> Option<u32>>(chooser: &F)
+    ensures { (reply : Reply) (old new : State) (book : Book) → CarriesOut (choices_by (FnReturnsAt F.Fn chooser.now)) SyncPool reply old new
+        → Keeps (Open old) book → MayFinish old → SyncsBehind old reply new }
 {}
 
 /// Law: a command that changes arms does so by one event in each metaslab where its reply says that it is done, and by none
@@ -102,6 +125,25 @@ pub fn sessions_keep_the_book<F: Fn(&[Room]) -> Option<u32>>(chooser: &F)
         → (later : Book) × AnswersAll book lines replies later × Keeps new later }
 {}
 
+/// Law: over a shelf that tells what it holds, a section is answered as a book has it, whichever of their commands its
+/// lanes have, and so are lines with sections: each lane as by a book of its own, and what the lanes did in some order, that
+/// of each lane as it did it.
+pub fn sections_keep_the_book<F: Fn(&[Room]) -> Option<u32>>(chooser: &F)
+    ensures section { (commands : List (List Command)) (replies : List (List Reply)) (old new : State) (book : Book)
+        → AllOf (AllOf IsForLanes) commands → Keeps (Open old) book → Section old (choices_by (FnReturnsAt F.Fn chooser.now)) commands replies new
+        → (later : Book) × AnswersSection book commands replies later × Keeps (Open new) later }
+    ensures lines { (lines : List (List ℕ)) (replies : List (List Said)) (to : Place) (old new : Desk) (book : Book)
+        → Keeps old book → RunsOn (choices_by (FnReturnsAt F.Fn chooser.now)) IsAnything true Outside old lines replies to new
+        → (later : Book) × BookOn Outside book lines replies to later × Keeps new later }
+{}
+
+/// Law: of each lane of a section a group keeps a beginning. What an import may find behind a section is what it might have
+/// found before it; or the objects as they are behind a beginning of what each lane did.
+pub fn sections_keep_beginnings()
+    ensures { (commands : List (List Command)) (replies : List (List Reply)) (old new : Book) (objects : Objects) → (it : AnswersSection old commands replies new)
+        → HaveBeen new objects → HaveBeen old objects ⊎ AreBeginnings old.now it.deeds objects }
+{}
+
 /// Law: the end of a run is as a book has it too: where a device fails in a command, and where a pool that is open is given
 /// back. No run that keeps a book ends by a fault in a record.
 pub fn endings_keep_the_book()
@@ -112,7 +154,7 @@ pub fn endings_keep_the_book()
 {}
 
 /// Law: what follows of a book. An object is read as it was written last, and isn't where it was freed. Behind a sync, a
-/// crash and an import all objects are as they were at the sync; and behind any import each is as it was at some time
+/// crash and an import all objects are as they were at the sync; and behind any import all are as they were at one time
 /// since the last group that a reply named.
 pub fn books_give_back_what_was_kept()
     ensures written { (object o p : ℕ) (bytes : List ℕ) (read : Vec ℕ Heap) (old mid new : Book)
@@ -125,8 +167,8 @@ pub fn books_give_back_what_was_kept()
         → old.is_open ≡ true → Answers old SyncPool (Reply.Synced group thin) mid → Answers mid CrashPool (Reply.Crashed) left
         → Answers left ImportPool (Reply.Imported called found many) new
         → (found ≡ group) × ((object : ℕ) → new.now object ≡ old.now object) }
-    ensures imported { (found many object : ℕ) (called : String Heap) (old new : Book)
-        → old.is_open ≡ false → Answers old ImportPool (Reply.Imported called found many) new → HasHad old object (new.now object) }
+    ensures imported { (found many : ℕ) (called : String Heap) (old new : Book)
+        → old.is_open ≡ false → Answers old ImportPool (Reply.Imported called found many) new → HaveBeen old new.now }
 {}
 
 /// Law: a rebuild counts no error, loses no target and makes each good, where no call fails, each leaf on which a target
@@ -181,4 +223,89 @@ pub fn rebuilds_go_on<F: Fn(&[Room]) -> Option<u32>>(chooser: &F)
 pub fn rebuilds_wait_for_three_syncs()
     ensures { (old new : State) (m : ℕ) (holds : List Hold) (end : End) → AreReached old → m < old.geometry.props.metaslabs → HasRebuild old m
         → ReadyPhase old.geometry old.perms Rebuild m holds end → Follows holds old new → WaitsForThree old m holds end }
+{}
+
+/// Law: a pool bears as many further disks offline as there are parity columns, less one for each slot that isn't whole. Of
+/// such a pool each object that was written is read, where nothing is harmed or in doubt and no call fails in the read.
+pub fn whole_slots_bear_failures<F: Fn(&[Room]) -> Option<u32>>(chooser: &F)
+    ensures { (object : ℕ) (reply : Reply) (slots leaves : List ℕ) (x old new : State) (w : Write)
+        → IsWholeBut slots [] x → GoOffline (choices_by (FnReturnsAt F.Fn chooser.now)) leaves x old → AreUnhurt old
+        → length slots + length leaves ≤ x.geometry.spec.parity
+        → CarriesOut (choices_by (FnReturnsAt F.Fn chooser.now)) (ReadObject object) reply old new → write_of old.store.changes object ≡ Some w
+        → FailsNoFetch old new w → ReadsLast old object w reply }
+{}
+
+/// Law: a slot is whole in each metaslab where a `status` shows of it an arm with nothing logged, which is a spare or a disk
+/// that isn't offline, and a spare or a first disk that isn't offline.
+pub fn statuses_show_whole_slots<F: Fn(&[Room]) -> Option<u32>>(chooser: &F)
+    ensures { (form : StatusFormat) (text : Vec ℕ Heap) (slots : List ℕ) (x z : State)
+        → (it : CarriesOut (choices_by (FnReturnsAt F.Fn chooser.now)) (ShowStatus form) (Reply.Status text) x z) → IsSteady x
+        → ShowsWholeBut slots it.does.1.view → IsWholeBut slots [] z }
+{}
+
+/// Law: behind a rebuild that is done without errors each arm of a slot that came new, or came to lie elsewhere, and is up,
+/// has missed nothing in any metaslab, where no metaslab had a pass.
+pub fn rebuilt_arms_miss_nothing<F: Fn(&[Room]) -> Option<u32>>(chooser: &F)
+    ensures { (limit : Option ℕ) (from stripes m : ℕ) (name : ArmName) (x z : State) (y u : Metaslab)
+        → CarriesOut (choices_by (FnReturnsAt F.Fn chooser.now)) (RebuildPool limit) (Reply.Rebuilt from stripes 0 false) x z
+        → AreReached x → HaveNoPass x → m < x.geometry.props.metaslabs → slice_get x.metaslabs m ≡ Some y
+        → slice_get z.metaslabs m ≡ Some u → IsWanted y.world.core name → HasEmptyLog u.world.core name }
+{}
+
+/// Law: a pool in use outlives one failure after another, where each is rebuilt onto a spare of its slot: behind a rebuild
+/// without errors each slot is whole again. So it bears as many further disks offline as there are parity columns: each object
+/// that was written is read then. A new pool is such a one.
+pub fn rebuilt_failures_are_borne<F: Fn(&[Room]) -> Option<u32>>(chooser: &F)
+    ensures made { (geometry : Geometry) (x : State) → IsFresh geometry x → IsPoolWhole x }
+    ensures whole { (failures : List Failure) (x z : State) → OutlivesAll (choices_by (FnReturnsAt F.Fn chooser.now)) failures x z
+        → IsPoolWhole x → IsPoolWhole z }
+    ensures used { (done : List (Command × Reply)) (x z : State) → Uses (choices_by (FnReturnsAt F.Fn chooser.now)) done x z
+        → AreIdle z → IsPoolWhole x → IsPoolWhole z }
+    ensures read { (object : ℕ) (reply : Reply) (failures : List Failure) (done : List (Command × Reply)) (leaves : List ℕ) (x mid later old new : State) (w : Write)
+        → OutlivesAll (choices_by (FnReturnsAt F.Fn chooser.now)) failures x mid → IsPoolWhole x
+        → Uses (choices_by (FnReturnsAt F.Fn chooser.now)) done mid later → AreIdle later
+        → GoOffline (choices_by (FnReturnsAt F.Fn chooser.now)) leaves later old → AreUnhurt old → length leaves ≤ later.geometry.spec.parity
+        → CarriesOut (choices_by (FnReturnsAt F.Fn chooser.now)) (ReadObject object) reply old new → write_of old.store.changes object ≡ Some w
+        → FailsNoFetch old new w → ReadsLast old object w reply }
+{}
+
+/// Law: a rebuild has no errors where no metaslab had a pass, no call on a disk fails, and in each metaslab no more slots lack
+/// an arm that is up and has missed nothing than there are parity columns.
+pub fn few_broken_slots_are_rebuilt<F: Fn(&[Room]) -> Option<u32>>(chooser: &F)
+    ensures { (limit : Option ℕ) (from stripes errors : ℕ) (x z : State)
+        → (it : CarriesOut (choices_by (FnReturnsAt F.Fn chooser.now)) (RebuildPool limit) (Reply.Rebuilt from stripes errors false) x z)
+        → IsLayout x.geometry x.perms → AreReached x → HaveNoPass x → HaveFewBroken x → AllOf FailsNoCall it.holds → errors ≡ 0 }
+{}
+
+/// Law: what a committed group keeps of the objects of a pool stays, whatever lines come but for one that makes a pool: over
+/// passes, refused syncs, crashes and imports.
+pub fn committed_groups_stay<F: Fn(&[Room]) -> Option<u32>>(chooser: &F)
+    ensures { (lines : List (List ℕ)) (replies : List (List Said)) (x : State) (new : Desk) (book : Book)
+        → Keeps (Open x) book → AllOf MakesNoPool lines → Runs (choices_by (FnReturnsAt F.Fn chooser.now)) IsAnything true (Open x) lines replies new → Stays x new }
+{}
+
+/// Law: behind a rewind each object has just what it had as the checkpoint's group was committed, whatever lines came between.
+pub fn rewinds_go_back<F: Fn(&[Room]) -> Option<u32>>(chooser: &F)
+    ensures { (lines : List (List ℕ)) (replies : List (List Said)) (x y : State) (book : Book) (marks : List Mark) (group : ℕ) (new : Store)
+        → Keeps (Open x) book → All (λ c. group_of c ≤ x.committed) x.store.changes → AllOf MakesNoPool lines
+        → Runs (choices_by (FnReturnsAt F.Fn chooser.now)) IsAnything true (Open x) lines replies (Open y)
+        → (it : GoesBackTo marks group y.store new) → it.check.group ≡ x.committed → (object : ℕ) → write_of new.changes object ≡ write_of x.store.changes object }
+{}
+
+/// Law: behind a rewind each object has the bytes that it had as the checkpoint was made, whatever lines came between and
+/// whatever blocks were dropped: over passes, refused syncs, crashes and imports.
+pub fn checkpoints_come_back<F: Fn(&[Room]) -> Option<u32>>(chooser: &F)
+    ensures { (lines : List (List ℕ)) (replies : List (List Said)) (x first y new : State) (book : Book) (marks made some left : List Mark) (group later : ℕ)
+        → Keeps (Open x) book → MakesCheck (choices_by (FnReturnsAt F.Fn chooser.now)) x marks group first made → AllOf MakesNoPool lines
+        → RunsBeside (choices_by (FnReturnsAt F.Fn chooser.now)) IsAnything true (Open first) made lines replies (Open y) some
+        → GoesBackIn (choices_by (FnReturnsAt F.Fn chooser.now)) y some later new left → (object : ℕ)
+        → bytes_in (write_of new.store.changes object) ≡ bytes_in (write_of x.store.changes object) }
+{}
+
+/// Law: what follows of a book with a checkpoint. A rewind gives each object back as it was when the checkpoint was made,
+/// whatever lines come between that neither give the checkpoint up nor make a pool.
+pub fn marked_books_go_back()
+    ensures { (lines : List (List ℕ)) (replies : List (List Said)) (old first mid new : Marked) (group later many : ℕ)
+        → old.book.is_open ≡ true → MarkedAnswers old TakeCheckpoint (Reply.Checkpointed group) first → AllOf LeavesMark lines → MarkedAll first lines replies mid
+        → mid.book.is_open ≡ true → MarkedAnswers mid RewindPool (Reply.Rewound later many) new → (object : ℕ) → new.book.now object ≡ old.book.now object }
 {}

@@ -1,0 +1,157 @@
+-- Runs with sections are answered as the book has it.
+use Rattle.std.proofs.Common.{◌≡◌, ◌++◌, ℕ, zero, suc, true, false, List, [], ◌∷◌, Result, Ok, Err, inl, inr, refl, sym, subst, length}
+use Rattle.std.specs.Prelude.{⊤, slice_index_or, replicate}
+use Rattle.draid_script.specs.Grammar.{lane_of, line_of}
+use Rattle.draid_script.specs.Writing.{IsForLanes}
+use Rattle.draid_script.proofs.Read.{lane_inv}
+use Rattle.draid_script.specs.Line.{Command, LaneCommand, InLane, OpenLanes, SectionEnd, SilentLane}
+use Rattle.draid_script.specs.declared.fault.LineFault.{LineFault}
+use Rattle.draid_script.specs.declared.name.CommandName.TheVariants as name
+use Rattle.draid_reply.specs.declared.reply.Reply.{Reply}
+use Rattle.draid_reply.specs.declared.reply.Reply.TheVariants.{NoPool}
+use Rattle.draid_session.specs.Book.{Book}
+use Rattle.draid_session.specs.Choices.{Choices}
+use Rattle.draid_session.specs.Keeping.{Keeps}
+use Rattle.draid_session.specs.Looks.{AllOf}
+use Rattle.draid_session.specs.Said.{Said, alone}
+use Rattle.draid_session.specs.Places.{Ended, Inside, Outside, Place}
+use Rattle.draid_session.specs.Sections.{BookOn, LaneLine, LaneTurns, OutsideBook, OutsideTurns, PlaceBehind, PlaceBook, PlaceTurns, RunsOn, SectionBook, SectionTurns, with_command}
+use Rattle.draid_session.specs.Session.{Agrees, Bare, Desk, Finding, Foreign, Made, Open, Shut, Unknown, Untouched}
+use Rattle.draid_session.specs.State.{State}
+use Rattle.draid_session.proofs.Lanewise.{all_both, all_set}
+use Rattle.draid_session.proofs.Sectionkept.{section_keeps}
+use Rattle.draid_session.proofs.Turning.{line_turns}
+
+asks_plain : (line : List ℕ) (count lane : ℕ) (command : Command) → lane_of count line ≡ Ok (InLane lane command) → IsForLanes command
+asks_plain line count lane command gives = (let text = lane_inv count line (InLane lane command) gives in text.5)
+
+-- the commands of the lanes at a place
+abbrev PlainAt : Place → Type 0
+PlainAt (Inside lanes) = AllOf (AllOf IsForLanes) lanes
+PlainAt place = ⊤
+
+plain_new : (n : ℕ) → AllOf (AllOf IsForLanes) (replicate n [])
+plain_new zero = tt
+plain_new (suc n) = (tt, plain_new n)
+
+plain_at : (lanes : List (List Command)) (lane : ℕ) → AllOf (AllOf IsForLanes) lanes → AllOf IsForLanes (slice_index_or lanes lane [])
+plain_at [] lane all = tt
+plain_at (l ∷ lanes) zero all = all.0
+plain_at (l ∷ lanes) (suc lane) all = plain_at lanes lane all.1
+
+plain_with : (lane : ℕ) (command : Command) (lanes : List (List Command)) → IsForLanes command → AllOf (AllOf IsForLanes) lanes → AllOf (AllOf IsForLanes) (with_command lane command lanes)
+plain_with lane command lanes is all =
+    all_set (AllOf IsForLanes) lanes lane (slice_index_or lanes lane [] ++ command ∷ []) all (all_both IsForLanes (slice_index_or lanes lane []) (command ∷ []) (plain_at lanes lane all) (is, tt))
+
+-- a book behind a line, at a place
+record NextAt (b : Book) (from : Place) (line : List ℕ) (saids : List Said) (new : Desk) (to : Place) : Type 0 where
+  pub book : Book
+  pub answers : PlaceBook from line b saids book to
+  pub keeps : Keeps new book
+  pub plain : PlainAt to
+
+record NextSection (b : Book) (lanes : List (List Command)) (saids : List Said) (new : Desk) (to : Place) : Type 0 where
+  pub book : Book
+  pub answers : SectionBook b.is_open b lanes saids book to
+  pub keeps : Keeps new book
+  pub plain : PlainAt to
+
+module _ (choices : Choices) where
+  outside_plain : (to : Place) → to ≡ Outside → PlainAt to
+  outside_plain to is = subst PlainAt (sym is) tt
+
+  -- without a pool
+  shut_section : (old new : Desk) (b : Book) (lanes : List (List Command)) (saids : List Said) (to : Place) → b.is_open ≡ false → Keeps old b → (saids ≡ alone (NoPool name.Lanes)) × (new ≡ old) × (to ≡ Outside)
+      → NextSection b lanes saids new to
+  shut_section old new b lanes saids to shut keeps t = record {
+    book = b;
+    answers = subst (λ o. SectionBook o b lanes saids b to) (sym shut) (t.0, refl, t.2);
+    keeps = subst (λ desk. Keeps desk b) (sym t.1) keeps;
+    plain = outside_plain to t.2;
+  }
+
+  behind_plain : (lanes : List (List Command)) (replies : List (List Reply)) (to : Place) → PlaceBehind lanes replies to → PlainAt to
+  behind_plain lanes replies Outside behind = tt
+  behind_plain lanes replies (Inside commands) behind = absurd behind
+  behind_plain lanes replies Ended behind = tt
+
+  open_section : (x : State) (new : Desk) (b : Book) (lanes : List (List Command)) (saids : List Said) (to : Place) → AllOf (AllOf IsForLanes) lanes → Keeps (Open x) b
+      → SectionTurns choices (Open x) lanes saids new to → NextSection b lanes saids new to
+  open_section x new b lanes saids to plain keeps (inl (has, said)) = record {
+    book = b;
+    answers = subst (λ o. SectionBook o b lanes saids b to) (sym keeps.is_open) (inl (said.0, refl, said.2));
+    keeps = subst (λ desk. Keeps desk b) (sym said.1) keeps;
+    plain = outside_plain to said.2;
+  }
+  open_section x new b lanes saids to plain keeps (inr (none, inl refused)) = record {
+    book = b;
+    answers = subst (λ o. SectionBook o b lanes saids b to) (sym keeps.is_open) (inr (inl (refused.0, refused.1, refused.2, refl, refused.4)));
+    keeps = subst (λ desk. Keeps desk b) (sym refused.3) keeps;
+    plain = outside_plain to refused.4;
+  }
+  open_section x new b lanes saids to plain keeps (inr (none, inr (replies, are, apart, mends, behind, (state, section, is)))) =
+      let kept = section_keeps x choices lanes replies state plain section b keeps in
+      record {
+        book = kept.book;
+        answers = subst (λ o. SectionBook o b lanes saids kept.book to) (sym keeps.is_open) (inr (inr (replies, are, apart, mends, behind, kept.answers)));
+        keeps = subst (λ desk. Keeps desk kept.book) (sym is) kept.keeps;
+        plain = behind_plain lanes replies to behind;
+      }
+
+  section_turns : (old new : Desk) (b : Book) (lanes : List (List Command)) (saids : List Said) (to : Place) → AllOf (AllOf IsForLanes) lanes → Keeps old b → SectionTurns choices old lanes saids new to
+      → NextSection b lanes saids new to
+  section_turns Untouched new b lanes saids to plain keeps t = absurd keeps
+  section_turns Bare new b lanes saids to plain keeps t = shut_section Bare new b lanes saids to keeps.is_shut keeps t
+  section_turns (Made told failed geometry) new b lanes saids to plain keeps t = shut_section (Made told failed geometry) new b lanes saids to keeps.0.is_shut keeps t
+  section_turns (Open x) new b lanes saids to plain keeps t = open_section x new b lanes saids to plain keeps t
+  section_turns (Shut crash x) new b lanes saids to plain keeps t = shut_section (Shut crash x) new b lanes saids to keeps.is_shut keeps t
+  section_turns (Foreign known) new b lanes saids to plain keeps t = absurd keeps
+  section_turns Unknown new b lanes saids to plain keeps t = absurd keeps
+
+  module _ (finds : Finding → Type 0) where
+    outside_turns : (line : Result Command LineFault) (old new : Desk) (b : Book) (saids : List Said) (to : Place) → Keeps old b → OutsideTurns choices finds line old saids new to → Agrees true new
+        → (book : Book) × OutsideBook line b saids book to × Keeps new book × PlainAt to
+    outside_turns (Ok (OpenLanes count)) old new b saids to keeps t agrees =
+        (b, (t.0, refl, t.2), subst (λ desk. Keeps desk b) (sym t.1) keeps, subst PlainAt (sym t.2) (plain_new count))
+    outside_turns line old new b saids to keeps t agrees = by line t
+      where
+        by : (line : Result Command LineFault) → OutsideTurns choices finds line old saids new to → (book : Book) × OutsideBook line b saids book to × Keeps new book × PlainAt to
+        by (Ok (OpenLanes count)) t = (b, (t.0, refl, t.2), subst (λ desk. Keeps desk b) (sym t.1) keeps, subst PlainAt (sym t.2) (plain_new count))
+        by line t = (let one = line_turns choices finds line old new b saids keeps t.0 agrees in (one.book, (one.answers, t.1), one.keeps, outside_plain to t.1))
+
+    lane_turns : (line : Result LaneCommand LineFault) (old new : Desk) (b : Book) (lanes : List (List Command)) (saids : List Said) (to : Place) → AllOf (AllOf IsForLanes) lanes
+        → ((lane : ℕ) (command : Command) → line ≡ Ok (InLane lane command) → IsForLanes command) → Keeps old b → LaneTurns choices line old lanes saids new to
+        → (book : Book) × LaneLine line b lanes saids book to × Keeps new book × PlainAt to
+    lane_turns (Err fault) old new b lanes saids to plain asks keeps t = absurd t
+    lane_turns (Ok SilentLane) old new b lanes saids to plain asks keeps t = (b, (t.0, refl, t.2), subst (λ desk. Keeps desk b) (sym t.1) keeps, subst PlainAt (sym t.2) plain)
+    lane_turns (Ok (InLane lane command)) old new b lanes saids to plain asks keeps t =
+        (b, (t.0, refl, t.2), subst (λ desk. Keeps desk b) (sym t.1) keeps, subst PlainAt (sym t.2) (plain_with lane command lanes (asks lane command refl) plain))
+    lane_turns (Ok SectionEnd) old new b lanes saids to plain asks keeps t = (let s = section_turns old new b lanes saids to plain keeps t in (s.book, s.answers, s.keeps, s.plain))
+
+    place_turns : (from to : Place) (line : List ℕ) (old new : Desk) (b : Book) (saids : List Said) → PlainAt from → Keeps old b → PlaceTurns choices finds from line old saids new to → Agrees true new
+        → NextAt b from line saids new to
+    place_turns Outside to line old new b saids plain keeps t agrees =
+        (let s = outside_turns (line_of line) old new b saids to keeps t agrees in record { book = s.0; answers = s.1; keeps = s.2; plain = s.3 })
+    place_turns (Inside lanes) to line old new b saids plain keeps t agrees =
+        (let s = lane_turns (lane_of (length lanes) line) old new b lanes saids to plain (asks_plain line (length lanes)) keeps t in record { book = s.0; answers = s.1; keeps = s.2; plain = s.3 })
+    place_turns Ended to line old new b saids plain keeps t agrees = absurd t
+
+    -- a book behind all lines
+    pub record AllOn (b : Book) (from : Place) (lines : List (List ℕ)) (replies : List (List Said)) (to : Place) (new : Desk) : Type 0 where
+      pub book : Book
+      pub answers : BookOn from b lines replies to book
+      pub keeps : Keeps new book
+
+    on_turns : (lines : List (List ℕ)) (replies : List (List Said)) (from to : Place) (old new : Desk) (b : Book) → PlainAt from → Keeps old b → RunsOn choices finds true from old lines replies to new
+        → AllOn b from lines replies to new
+    on_turns [] [] from to old new b plain keeps runs = record { book = b; answers = (refl, runs.1); keeps = subst (λ desk. Keeps desk b) (sym runs.0) keeps }
+    on_turns (line ∷ lines) (saids ∷ replies) from to old new b plain keeps (mid, place, turns, agrees, runs) =
+        let one = place_turns from place line old mid b saids plain keeps turns agrees in
+        let rest = on_turns lines replies place to mid new one.book one.plain one.keeps runs in
+        record { book = rest.book; answers = (one.book, place, one.answers, rest.answers); keeps = rest.keeps }
+    on_turns [] (saids ∷ replies) from to old new b plain keeps runs = absurd runs
+    on_turns (line ∷ lines) [] from to old new b plain keeps runs = absurd runs
+
+    pub runs_on : (lines : List (List ℕ)) (replies : List (List Said)) (to : Place) (old new : Desk) (b : Book) → Keeps old b → RunsOn choices finds true Outside old lines replies to new
+        → AllOn b Outside lines replies to new
+    runs_on lines replies to old new b keeps runs = on_turns lines replies Outside to old new b tt keeps runs

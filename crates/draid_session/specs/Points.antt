@@ -1,0 +1,18 @@
+-- What a checkpoint is to what a thread has of its own.
+use Rattle.std.specs.Prelude.{◌≡◌, ℕ, List, ◌∷◌, Some, ◌<◌, Contains}
+use Rattle.draid_objects.specs.Marks.{Check, Mark, check_by, mark_group}
+use Rattle.draid_session.specs.State.{Store}
+
+-- there is one, of this group
+abbrev pub HasPoint : List Mark → ℕ → Type 0
+HasPoint marks group = (check : Check) × (check_by marks ≡ Some check) × (check.group ≡ group)
+
+-- this befell it
+abbrev pub marked : Mark → Store → Store
+marked mark store = record store { marks = mark ∷ store.marks }
+
+-- something befell the checkpoint in a later group than this one
+pub record HasLateMark (committed : ℕ) (marks : List Mark) : Type 0 where
+  pub mark : Mark
+  pub there : Contains marks mark
+  pub late : committed < mark_group mark
