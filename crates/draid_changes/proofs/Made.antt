@@ -1,5 +1,5 @@
 -- One metaslab of a pool as a leaf is made there, which is no arm yet.
-use Rattle.std.proofs.Common.{◌≡◌, ◌≢◌, ◌==◌, ◌≤◌, ◌&&◌, ◌∙◌, inl, inr, [], ℕ, Bool, true, false, Option, Some, None, Result, Err, arith, refl, sym, ap, subst}
+use Rattle.std.proofs.Common.{◌≡◌, ◌≢◌, ◌==◌, ◌≤◌, ◌&&◌, ◌∙◌, inl, inr, [], ℕ, Option, Some, None, Result, Ok, Err, arith, refl, sym, ap, subst}
 use Rattle.std.specs.Prelude.{OnErr, OnOk, option_map}
 use Rattle.std.proofs.lemmas.Bool.{cases_eq}
 use Rattle.std.proofs.lemmas.Option.{slice_get_within}
@@ -14,7 +14,7 @@ use Rattle.draid_area.specs.declared.Area as areas
 use Rattle.draid_machine.specs.declared.names.ArmName.TheVariants.{Leaf}
 use Rattle.draid_machine.specs.Created.{IsReached}
 use Rattle.draid_machine.specs.State as machine
-use Rattle.draid_machine.proofs.Small.{equal, is_equal, none_some, true_both}
+use Rattle.draid_machine.proofs.Small.{equal, none_some, true_both}
 use Rattle.draid_segments.specs.Segments.{Backed, Pieces}
 use Rattle.draid_segments.proofs.Beginning.{leaf_backed}
 use Rattle.draid_slots.specs.Table.{is_leaf_kind}
@@ -29,8 +29,8 @@ use Rattle.draid_shard.specs.declared.shard.Shard.{Shard}
 use Rattle.draid_shard.proofs.Among.{any_among}
 use Rattle.draid_shard.proofs.Homes.{lays}
 use Rattle.draid_session.specs.Arms as arms
-use Rattle.draid_session.specs.Follows.{CountsRise, HarmBoth}
-use Rattle.draid_session.specs.Holds.{Looked, MadeLeaf, RackFailed}
+use Rattle.draid_session.specs.Follows.{CountsRise, calm_on}
+use Rattle.draid_session.specs.Holds.{CallStarved, MadeLeaf, RackFailed}
 use Rattle.draid_session.specs.Phases.{Went}
 use Rattle.draid_session.specs.State.{Counts, Metaslab}
 use Rattle.draid_pool.specs.Failing.{RackFails, RacksLater}
@@ -66,15 +66,10 @@ rack_rose_then faults old mid new later rose =
 pub rack_fails : {R A : Type 0} (faults : R → Option ℕ → ℕ) (old new : Pool R A) → RackRose faults old new → RackFails faults new
 rack_fails faults old new rose = (rose.0, rose.2, rose.4, rose_some (faults rose.1.rack None) (faults rose.2.rack None) rose.5)
 
--- harm elsewhere is as it was
-harm_both : (leaf : ℕ) (o p : Option Told) → LeavesTold (λ l s. l == leaf) o p → HarmBoth (harm_of o) (harm_of p) (λ old new. (other sector : ℕ) → other ≢ leaf → new other sector ≡ old other sector)
-harm_both leaf None p left = ap harm_of left
-harm_both leaf (Some x) None left = absurd left
-harm_both leaf (Some x) (Some y) left = λ other sector apart. left.harm other sector (by (other == leaf) refl apart)
-  where
-    by : {other : ℕ} → (b : Bool) → (other == leaf) ≡ b → other ≢ leaf → b ≡ false
-    by true is apart = absurd (apart (is_equal _ leaf is))
-    by false is apart = refl
+-- a leaf that came has no harm, and that of the others is as it was
+harm_added : (bytes leaf sectors : ℕ) (o : Option Told) → harm_of (option_map (adds bytes leaf sectors) o) ≡ option_map (calm_on leaf) (harm_of o)
+harm_added bytes leaf sectors None = refl
+harm_added bytes leaf sectors (Some x) = refl
 
 module _ {R A : Type 0} (rack : racks.Ghosts R) (area : areas.Ghosts A) where
   -- what the call says of a shard
@@ -143,14 +138,15 @@ module _ {R A : Type 0} (rack : racks.Ghosts R) (area : areas.Ghosts A) where
     bytes = is.bytes;
   }
 
-  pub left_of : (leaf bytes sectors : ℕ) (result : Result Unit DeviceFault) (o p : Option Told) → OnOk result (p ≡ option_map (adds bytes leaf sectors) o) → OnErr result (p ≡ o) → LeavesTold (λ l s. l == leaf) o p
+  left_of : (leaf bytes sectors : ℕ) (result : Result Unit DeviceFault) (o p : Option Told) → OnOk result (p ≡ option_map (adds bytes leaf sectors) o) → OnErr result (p ≡ o) → LeavesTold (λ l s. l == leaf) o p
   left_of leaf bytes sectors result o p ok err = left_adds (λ l s. l == leaf) bytes leaf sectors result o p (λ s. equal leaf leaf refl) ok err
 
-  pub make_turns : (leaf : ℕ) (old new : Shard R A) → Making leaf old new → (IsLeaf old.slots leaf → ⊥) → LeavesTold (λ l s. l == leaf) (rack.told old.rack) (rack.told new.rack)
+  pub make_turns : (leaf bytes sectors : ℕ) (old new : Shard R A) → Making leaf old new → (IsLeaf old.slots leaf → ⊥) → rack.told new.rack ≡ option_map (adds bytes leaf sectors) (rack.told old.rack)
       → (part : Part) (pieces : Pieces) (x : Metaslab) → IsMetaslab rack area part pieces old x
       → Turns rack area part pieces x new (λ hold y. arms.Makes part.geometry part.perms leaf part.number hold 0 × KeepsCommitted x.world y.world)
-  make_turns leaf old new m unused left part pieces x is =
+  make_turns leaf bytes sectors old new m unused came part pieces x is =
       let none = no_arm leaf old x.world is.stands.is_in unused in
+      let left = left_of leaf bytes sectors (Ok tt) (rack.told old.rack) (rack.told new.rack) came tt in
       record {
         act = MadeLeaf leaf;
         reached = with_rack x new;
@@ -159,7 +155,7 @@ module _ {R A : Type 0} (rack : racks.Ghosts R) (area : areas.Ghosts A) where
             opened = refl;
             events = refl;
             world = refl;
-            harm = subst (λ h. HarmBoth h (harm_of (rack.told new.rack)) (λ old new. (other sector : ℕ) → other ≢ leaf → new other sector ≡ old other sector)) (sym is.harm) (harm_both leaf (rack.told old.rack) (rack.told new.rack) left);
+            harm = ap harm_of came ∙ (harm_added bytes leaf sectors (rack.told old.rack) ∙ ap (λ h. option_map (calm_on leaf) h) (sym is.harm));
             counts = subst (λ n. CountsRise x.world x.world [] n (counts_of rack area new)) (sym is.counts) (counts_rise leaf old new x.world m none);
           },
           refl,
@@ -192,7 +188,7 @@ module _ {R A : Type 0} (rack : racks.Ghosts R) (area : areas.Ghosts A) where
         is = here;
       }
       by device.NoMemory rose = record {
-        act = Looked;
+        act = CallStarved;
         reached = with_rack x new;
         acts = (record { opened = refl; events = refl; world = refl; harm = ap harm_of same ∙ sym is.harm; counts = counts }, refl);
         done = (refl, kept_here x.world);

@@ -33,7 +33,7 @@ use Rattle.draid_pool.specs.declared.pool.Pool.{Pool}
 use Rattle.draid_pool.proofs.Dids.{none_here}
 use Rattle.draid_pool.proofs.Keeping.{each_same, each_set, pass_still, passes_on}
 use Rattle.draid_pool.proofs.Lifted.{SetsShard}
-use Rattle.draid_pool.proofs.OneHold.{passes_is, reserved_here, reserves, rests, with_reserved, worn_is}
+use Rattle.draid_pool.proofs.OneHold.{passes_is, reserved_here, reserves, with_reserved, worn_is}
 use Rattle.draid_changes.specs.declared.need.Need.{Need}
 use Rattle.draid_changes.specs.declared.need.Need.TheVariants as needs
 use Rattle.draid_changes.specs.Walks.{end_of_reserving, events_at, events_in}
@@ -136,7 +136,7 @@ module _ {R A : Type 0} (rack : racks.Ghosts R) (area : areas.Ghosts A) where
   reserve_stops need events old new why asks r answer reserved part pieces x is = record {
     act = Looked;
     reached = x;
-    acts = (rests x x.reserved, refl);
+    acts = refl;
     done = (stops need events part pieces old x why (asks part pieces x is) is answer, kept_here x.world);
     is = none_here rack area part pieces old new x is r.valid r.none r.kit.rack r.kit.areas r.limit reserved;
   }

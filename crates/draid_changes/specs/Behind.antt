@@ -5,7 +5,7 @@ use Rattle.draid_names.specs.declared.arm.ArmAt.{ArmAt}
 use Rattle.draid_names.specs.declared.arm.ArmKind.TheVariants as kind
 use Rattle.draid_names.specs.declared.refusal.SlotFault.{SlotFault}
 use Rattle.draid_names.specs.declared.refusal.SlotFault.TheVariants as slot
-use Rattle.draid_script.specs.Line.{AttachSpare, Command, DetachArm, RebalanceSlot, ReplaceDisk, TakeOffline, TakeOnline, UpgradePool}
+use Rattle.draid_script.specs.Line.{Command, Silent, CreatePool, ImportPool, ExportPool, SyncPool, CancelPasses, CrashPool, WriteObject, FillObjects, ReadObject, FreeObject, SumObjects, TakeOffline, TakeOnline, DamageSector, AttachSpare, ReplaceDisk, DetachArm, RebuildPool, ScrubPool, RebalanceSlot, ShowStatus, OpenLanes, UpgradePool, RunAgent, ShowJournal, TakeCheckpoint, RewindPool, DiscardCheckpoint}
 use Rattle.draid_reply.specs.declared.reply.Reply.{Reply}
 use Rattle.draid_reply.specs.declared.reply.Reply.TheVariants.{OfflineDone, OfflineRefused, OnlineDone, OnlineRefused, Spared, SpareRefused, Replaced, ReplaceRefused, Detached, DetachRefused, Rebalanced, Upgraded, UpgradeAlready}
 use Rattle.draid_slots.specs.Table.{IsArmOf, SlotTable, arm_at}
@@ -120,19 +120,48 @@ UpgradeIs (Err (raising.Sync why)) pool = ⊤
 
 -- ---- by a command and its reply
 
+-- Nothing is said of a command that changes no arm, nor of a reply that tells nothing of them. One that isn't built has no reply.
 abbrev pub ArmsBehind : {R A : Type 0} → Command → Reply → Pool R A → Type 0
+ArmsBehind Silent reply pool = ⊤
+ArmsBehind (CreatePool text children keys) reply pool = ⊤
+ArmsBehind ImportPool reply pool = ⊤
+ArmsBehind ExportPool reply pool = ⊤
+ArmsBehind SyncPool reply pool = ⊤
+ArmsBehind CancelPasses reply pool = ⊤
+ArmsBehind CrashPool reply pool = ⊤
+ArmsBehind (WriteObject object bytes) reply pool = ⊤
+ArmsBehind (FillObjects first count len seed) reply pool = ⊤
+ArmsBehind (ReadObject object) reply pool = ⊤
+ArmsBehind (FreeObject object) reply pool = ⊤
+ArmsBehind (SumObjects first count) reply pool = ⊤
 ArmsBehind (TakeOffline leaf) (OfflineDone l) pool = AllSwitched leaf true pool.metaslabs.shards.items
 ArmsBehind (TakeOffline leaf) (OfflineRefused l) pool = NoneHas leaf pool.metaslabs.shards.items
+ArmsBehind (TakeOffline leaf) reply pool = ⊤
 ArmsBehind (TakeOnline leaf) (OnlineDone l) pool = AllSwitched leaf false pool.metaslabs.shards.items
 ArmsBehind (TakeOnline leaf) (OnlineRefused l) pool = NoneHas leaf pool.metaslabs.shards.items
+ArmsBehind (TakeOnline leaf) reply pool = ⊤
+ArmsBehind (DamageSector leaf sector) reply pool = ⊤
 ArmsBehind (AttachSpare slot spare) (Spared s called) pool = AllHaveSpare slot spare pool.metaslabs.shards.items
 ArmsBehind (AttachSpare slot spare) (SpareRefused s why) pool = SpareIsBarred slot spare why pool.metaslabs.shards.items
+ArmsBehind (AttachSpare slot spare) reply pool = ⊤
 ArmsBehind (ReplaceDisk slot sectors) (Replaced s leaf) pool = AllHaveLeaf slot leaf pool.metaslabs.shards.items × (next_leaf_of pool.uber ≡ leaf + 1)
 ArmsBehind (ReplaceDisk slot sectors) (ReplaceRefused s why) pool = DiskIsBarred slot sectors why pool
+ArmsBehind (ReplaceDisk slot sectors) reply pool = ⊤
 ArmsBehind (DetachArm arm) (Detached a group) pool = IsGone (arm_of arm) pool
 ArmsBehind (DetachArm arm) (DetachRefused a why) pool = GoingIsBarred (arm_of arm) why pool
+ArmsBehind (DetachArm arm) reply pool = ⊤
+ArmsBehind (RebuildPool limit) reply pool = ⊤
+ArmsBehind (ScrubPool limit) reply pool = ⊤
 ArmsBehind (RebalanceSlot slot) (Rebalanced s blocks repaired errors (Some group)) pool = AllAlone slot pool
 ArmsBehind (RebalanceSlot slot) (Rebalanced s blocks repaired errors None) pool = StayTogether slot errors pool
+ArmsBehind (RebalanceSlot slot) reply pool = ⊤
+ArmsBehind (ShowStatus form) reply pool = ⊤
+ArmsBehind (OpenLanes count) reply pool = ⊤
 ArmsBehind UpgradePool (Upgraded group) pool = AllHaveTwo pool
 ArmsBehind UpgradePool UpgradeAlready pool = AsksForTwo pool
-ArmsBehind command reply pool = ⊤
+ArmsBehind UpgradePool reply pool = ⊤
+ArmsBehind (RunAgent least) reply pool = ⊤
+ArmsBehind ShowJournal reply pool = ⊤
+ArmsBehind TakeCheckpoint reply pool = ⊤
+ArmsBehind RewindPool reply pool = ⊤
+ArmsBehind DiscardCheckpoint reply pool = ⊤

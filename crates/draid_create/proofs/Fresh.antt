@@ -116,7 +116,7 @@ module _ {R A : Type 0} (rack : racks.Ghosts R) (area : areas.Ghosts A) where
     geometry = geometry;
     perms = perms;
     metaslabs = map metaslab_of shards;
-    store = record { changes = []; seq = 0; floor = 0 };
+    store = record { changes = []; marks = []; seq = 0; floor = 0 };
     committed = 1;
     kept_leaf = geometry.spec.children;
     next_leaf = geometry.spec.children;
@@ -246,10 +246,11 @@ module _ {R A : Type 0} (rack : racks.Ghosts R) (area : areas.Ghosts A) where
     not_held : (m : ℕ) (k : Key) (h : Block) → blocks_of (map metaslab_of shards) m k ≡ Some h → ⊥
     not_held m k h is = (let empty : blocks_of (map metaslab_of shards) m k ≡ None = ap (λ (b : Blocks). b m k) blocks_none in absurd (cc))
 
-    holds_none : (committed : ℕ) → HoldsObjects geometry committed (record { changes = []; seq = 0; floor = 0 }) (blocks_of (map metaslab_of shards)) (λ m. none)
+    holds_none : (committed : ℕ) → HoldsObjects geometry committed (record { changes = []; marks = []; seq = 0; floor = 0 }) (blocks_of (map metaslab_of shards)) (λ m. none)
     holds_none committed = record {
-      stores = subst (λ (b : Blocks). Stores sha256 committed [] b) (sym blocks_none) (none_stored sha256 committed);
+      stores = subst (λ (b : Blocks). Stores sha256 committed [] [] b) (sym blocks_none) (none_stored sha256 committed);
       floors = λ object. subst (λ (b : Blocks). IsFloor [] b object 0) (sym blocks_none) (none_floor object 0);
+      unmarked = refl;
       settled = λ m k h is. absurd (not_held m k h is);
       numbered = λ m k h is. absurd (not_held m k h is);
       bytes = λ m k h write is by. absurd (not_held m k h is);

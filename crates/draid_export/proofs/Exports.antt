@@ -25,18 +25,19 @@ use Rattle.draid_pool.proofs.Lifted.{HasMetaslab, metaslab_of}
 use Rattle.draid_pool.proofs.Lists.{present}
 use Rattle.draid_pool.proofs.Looking.{changes_none, none_seen, not_none}
 use Rattle.draid_pool.proofs.Steps.{carried, follows_on, settled}
+use Rattle.draid_pool.proofs.Unmarked.{not_late}
 use Rattle.draid_pool.proofs.SyncCalls.{looked_all, looks_of, pool_group, seen_of}
 use Rattle.draid_export.specs.Exporting.{ExportDoes, FoundUnsynced, HasUnsynced}
 
 module _ {R A : Type 0} (rack : racks.Ghosts R) (area : areas.Ghosts A) where
   exports : (pool new : Pool R A) (x : State) (group thin m : ℕ) (shard : Shard R A) (end : End) → Represents rack area pool x → slice_get pool.metaslabs.shards.items m ≡ Some shard
       → groups.is_unsynced shard.committed (stored_in shard) ≡ true → CarriesOut rack area new x (Phase x (groups.Syncs x.geometry x.perms group thin) end)
-      → CarriesOut rack area new x (Phase x (groups.Exports x.geometry x.perms group) end)
+      → CarriesOut rack area new x (Phase x (groups.Exports x.geometry x.perms x.store.marks group) end)
   exports pool new x group thin m shard end r there unsynced d =
       let z : HasMetaslab rack area pool x r.stands m shard = metaslab_of rack area pool x r.stands m shard there in
       let u : UberView = record { committed = x.committed; next_leaf = x.next_leaf } in
       let own : groups.IsUnsynced (view_of (0 + m) z.y) = ap (λ c. groups.is_unsynced c z.y.events) z.is.stands.is_in.committed ∙ (ap (groups.is_unsynced shard.committed) z.is.events ∙ unsynced) in
-      carried rack area new x (looks_of rack area x ++ OnUber u LookedUber ∷ d.holds) d.reached (Phase x (groups.Exports x.geometry x.perms group) end)
+      carried rack area new x (looks_of rack area x ++ OnUber u LookedUber ∷ d.holds) d.reached (Phase x (groups.Exports x.geometry x.perms x.store.marks group) end)
       (follows_on (looks_of rack area x) (OnUber u LookedUber ∷ d.holds) x x d.reached (changes_none x [] x.metaslabs 0 refl refl) (x, record { sees = refl; acts = refl }, d.follows))
       (settled rack area new x (Phase x (groups.Syncs x.geometry x.perms group thin) end) d d.done.0) (
         refl,
@@ -47,7 +48,7 @@ module _ {R A : Type 0} (rack : racks.Ghosts R) (area : areas.Ghosts A) where
           u = u;
           are = refl;
           looked = looked_all rack area pool x r;
-          does = inr ((λ none. not_none groups.IsUnsynced (seen_at 0 x.metaslabs) (view_of (0 + m) z.y) (seen_of rack area pool x m shard r there) own none), (thin, d.done.1));
+          does = inr ((λ none. not_none groups.IsUnsynced (seen_at 0 x.metaslabs) (view_of (0 + m) z.y) (seen_of rack area pool x m shard r there) own none.0), (thin, d.done.1));
         },
       )
 
@@ -65,7 +66,7 @@ module _ {R A : Type 0} (rack : racks.Ghosts R) (area : areas.Ghosts A) where
           u = u;
           are = refl;
           looked = looked_all rack area pool x r;
-          does = inl (synced, refl, refl, is ∙ pool_group rack area pool x r);
+          does = inl (synced, not_late x.committed x.store.marks r.stands.holds.unmarked, refl, refl, is ∙ pool_group rack area pool x r);
         },
       )
     where
@@ -97,7 +98,7 @@ module _ {R A : Type 0} (rack : racks.Ghosts R) (area : areas.Ghosts A) where
   export_done pool new x it r found d = exports pool new x it.group it.thin found.0 found.1 Went r found.2 found.3 d
 
   export_with : (pool new : Pool R A) (x : State) (why : SyncFault) (end : End) (d : CarriesOut rack area new x (λ holds store. (store ≡ x.store) × groups.SyncStops x.geometry x.perms holds end))
-      → Represents rack area pool x → FoundUnsynced pool.metaslabs.shards.items true → CarriesOut rack area new x (λ holds store. (store ≡ x.store) × groups.ExportStops x.geometry x.perms holds end)
+      → Represents rack area pool x → FoundUnsynced pool.metaslabs.shards.items true → CarriesOut rack area new x (λ holds store. (store ≡ x.store) × groups.ExportStops x.geometry x.perms x.store.marks holds end)
   export_with pool new x why end d r found =
       let s = d.done.1 in
       let z = exports pool new x s.group s.thin found.0 found.1 end r found.2 found.3

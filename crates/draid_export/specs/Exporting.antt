@@ -34,11 +34,11 @@ HasUnsynced x = (m : ℕ) × (y : Metaslab) × (slice_get x.metaslabs m ≡ Some
 
 -- what an export does before the pool is given back, and why it was stopped; the answer is the committed group
 abbrev pub ExportDoes : State → Result ℕ SyncFault → List Hold → Store → Type 0
-ExportDoes x (Ok group) holds new = (new ≡ x.store) × groups.Exports x.geometry x.perms group holds Went
-ExportDoes x (Err sync.Worn) holds new = (new ≡ x.store) × groups.ExportStops x.geometry x.perms holds WasWorn
-ExportDoes x (Err sync.Last) holds new = (new ≡ x.store) × groups.ExportStops x.geometry x.perms holds WasLast
-ExportDoes x (Err sync.Shelf) holds new = (new ≡ x.store) × groups.ExportStops x.geometry x.perms holds Broke
-ExportDoes x (Err sync.NoMemory) holds new = (new ≡ x.store) × groups.ExportStops x.geometry x.perms holds Starved
+ExportDoes x (Ok group) holds new = (new ≡ x.store) × groups.Exports x.geometry x.perms x.store.marks group holds Went
+ExportDoes x (Err sync.Worn) holds new = (new ≡ x.store) × groups.ExportStops x.geometry x.perms x.store.marks holds WasWorn
+ExportDoes x (Err sync.Last) holds new = (new ≡ x.store) × groups.ExportStops x.geometry x.perms x.store.marks holds WasLast
+ExportDoes x (Err sync.Shelf) holds new = (new ≡ x.store) × groups.ExportStops x.geometry x.perms x.store.marks holds Broke
+ExportDoes x (Err sync.NoMemory) holds new = (new ≡ x.store) × groups.ExportStops x.geometry x.perms x.store.marks holds Starved
 
 -- ---- the replies
 

@@ -3,10 +3,11 @@ ghost use Rattle.std.specs.Prelude.{◌≡◌, ◌≤◌, ℕ, IfErr, IfOk, IsEr
 ghost use Rattle.draid_script.specs.Line.{CrashPool};
 ghost use Rattle.draid_session.specs.Replies.{IsReplyTo};
 ghost use Rattle.draid_session.specs.State.{State};
+ghost use Rattle.draid_shelf.specs.Kits.{OnHeld};
 ghost use Rattle.draid_pool.specs.Failing.{AreaRose, AreasLater};
 ghost use Rattle.draid_pool.specs.Pointers.{SamePointers};
 ghost use Rattle.draid_pool.specs.Pools.{Represents, group_in};
-ghost use Rattle.draid_pool.specs.Returning.{GivesBack};
+ghost use Rattle.draid_pool.specs.Returning.{GivesBack, IsFirm};
 ghost use Rattle.draid_pool.specs.Shelves.{on_shelf};
 ghost use Rattle.draid_pool.specs.Whole.{IsWhole};
 ghost use Rattle.draid_export.specs.Exporting.{ExportIs, IsRefusal, TellsGroup, WasRefused};
@@ -83,6 +84,8 @@ pub fn reply_to_crash<H: Shelf>(shelf: &mut H, pool: Pool<H::R, H::A>) -> Reply
     ensures back { (x : State) → Represents H.R.Rack H.A.Area pool x
         → GivesBack x true (H.told shelf.old) (H.told shelf.new) (H.leaves shelf.new) (H.counts shelf.new)
         (H.uber_count shelf.new) }
+    // Nothing that the shelf tells is soft then.
+    ensures firm { OnHeld (H.told shelf.new) IsFirm }
     ensures checks { H.check_counts shelf.new ≡ H.check_counts shelf.old }
     ensures faults { H.faults shelf.new ≡ H.faults shelf.old }
 {

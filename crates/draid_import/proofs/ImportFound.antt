@@ -37,6 +37,7 @@ use Rattle.draid_pool.specs.Importable.{IsFindable}
 use Rattle.draid_pool.specs.Objects.{HasGroups, HasPieces, HoldsObjects, blocks_of}
 use Rattle.draid_pool.specs.Pools.{part_in}
 use Rattle.draid_pool.specs.Records.{HasImage, HasImages, HasLeafNumbers, LeavesAreBelow}
+use Rattle.draid_import.proofs.ImportMarks.{found_unmarked}
 use Rattle.draid_import.proofs.ImportMetaslab.{FindsImage, was_arm}
 use Rattle.draid_import.proofs.ImportVersion.{image_version}
 use Rattle.draid_pool.proofs.Lists.{present, some_of}
@@ -181,11 +182,12 @@ module _ (x mid : State) (group : ℕ) (pieces : ℕ → Pieces) (finds : Finds 
 
   pub found_holds : ((m : ℕ) (k : Key) (h : Block) → blocks_of mid.metaslabs m k ≡ Some h → k.seq ≤ mid.store.seq) → HoldsObjects mid.geometry mid.committed mid.store (blocks_of mid.metaslabs) pieces
   found_holds numbered = subst (λ (c : ℕ). HoldsObjects mid.geometry c mid.store (blocks_of mid.metaslabs) pieces) (sym finds.committed) (record {
-    stores = subst (λ (cs : List Change). Stores sha256 group cs (blocks_of mid.metaslabs)) changes_are
-        (opening_kept sha256 x.committed x.store.changes (blocks_of x.metaslabs) (blocks_of mid.metaslabs) objects.stores group later found_blocks);
+    stores = subst (λ (cs : List Change). Stores sha256 group cs [] (blocks_of mid.metaslabs)) changes_are
+        (opening_kept sha256 x.committed x.store.changes [] (blocks_of x.metaslabs) (blocks_of mid.metaslabs) objects.stores group later found_blocks);
     floors = λ object. subst (λ (f : ℕ). IsFloor mid.store.changes (blocks_of mid.metaslabs) object f) (sym finds.floor)
         (subst (λ (cs : List Change). IsFloor cs (blocks_of mid.metaslabs) object (group + 1)) changes_are
         (opening_floor x.store.changes (blocks_of x.metaslabs) (blocks_of mid.metaslabs) group object (group + 1) found_blocks (omega arith)));
+    unmarked = found_unmarked x mid group finds objects.unmarked;
     settled = λ m k h is. live_block h.stage (found_live m k h is);
     numbered = numbered;
     bytes = λ m k h write is by. subst (λ g. HasPieces g write (pieces m)) (sym same)

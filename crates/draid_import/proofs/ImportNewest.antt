@@ -1,5 +1,5 @@
 -- A pool whose table has the newest block of each object that an import finds.
-use Rattle.std.proofs.Common.{arith, ◌≡◌, ◌≤◌, ◌∙◌, ◌⊎◌, inl, inr, ℕ, List, Option, Some, None, length, refl, sym, ap, subst}
+use Rattle.std.proofs.Common.{arith, ◌≡◌, ◌≤◌, ◌∙◌, ◌⊎◌, inl, inr, ℕ, List, [], Option, Some, None, length, refl, sym, ap, subst}
 use Rattle.std.specs.Prelude.{nat_eq, slice_get}
 use Rattle.std.specs.HashMap.{get}
 use Rattle.std.proofs.lemmas.Bool.{cases_lt}
@@ -11,6 +11,7 @@ use Rattle.draid_area.specs.declared.Area as areas
 use Rattle.draid_machine.specs.declared.names.Held.{Held}
 use Rattle.draid_machine.specs.declared.names.Key.{Key}
 use Rattle.draid_machine.specs.declared.names.Stage.TheVariants as stage
+use Rattle.draid_objects.specs.Marks.{check_by, is_dropped}
 use Rattle.draid_objects.specs.Blocks.{Blocks, IsGreatest}
 use Rattle.draid_objects.specs.Changes as changes
 use Rattle.draid_objects.specs.Changes.{Write, write_by, write_of}
@@ -166,7 +167,7 @@ module _ {R A : Type 0} (rack : racks.Ghosts R) (area : areas.Ghosts A) where
     older_by m shard p at live here other = elim (cases_lt p.seq q.0.seq) [
       | inl less ↦
           let z = held_there mid.metaslabs q.0.metaslab (key_of q.0) (held_at (staged stage.Live q.0)) (n.there p.object q.0 q.1) in
-          record { m = q.0.metaslab; y = z.0; later = key_of q.0; held = held_at (staged stage.Live q.0); there = z.1; found = z.2; same = own; greater = less }
+          record { m = q.0.metaslab; y = z.0; later = key_of q.0; held = held_at (staged stage.Live q.0); there = z.1; found = z.2; same = own; greater = less; counts = ap (λ ms. is_dropped (check_by ms) (key_of q.0)) holds.unmarked }
       | inr over ↦ absurd (other (q.1 ∙ ap Some (sym (equal over))))
     ]
       where
@@ -220,7 +221,7 @@ module _ {R A : Type 0} (rack : racks.Ghosts R) (area : areas.Ghosts A) where
 
       pointer_of : (object : ℕ) (p : Pointer) (w : Write) → newest object ≡ Some p → write_of mid.store.changes object ≡ Some w → w.metaslab ≡ p.metaslab → changes.key_of w ≡ key_of p → IsPointerOf shards p w
       pointer_of object p w is last here key =
-          let h = last_live sha256 mid.committed object mid.store.changes (blocks_of mid.metaslabs) w holds.stores last in
+          let h = last_live sha256 mid.committed object mid.store.changes [] (blocks_of mid.metaslabs) w holds.stores last in
           let same : h.0 ≡ held_at (staged stage.Live p)
           = some_of (blocks_of mid.metaslabs p.metaslab (key_of p)) h.0 (held_at (staged stage.Live p)) ((λ i. blocks_of mid.metaslabs (sym here i) (sym key i)) ∙ h.1) (n.there object p is) in
           let of : IsBlockOf sha256 w (held_at (staged stage.Live p)) = subst (IsBlockOf sha256 w) same h.3 in
@@ -288,7 +289,7 @@ module _ {R A : Type 0} (rack : racks.Ghosts R) (area : areas.Ghosts A) where
         seq = seq;
         holds = s.holds;
         older = subst (λ g. FreesOlder mid g s.holds) finds.committed s.older;
-        all = λ m y key h at held older. elim (s.each m key h (blocks_at mid.metaslabs m y key at ∙ held)) [
+        all = λ m y key h at held older loose. elim (s.each m key h (blocks_at mid.metaslabs m y key at ∙ held)) [
           | inl gone ↦ gone
           | inr there ↦
               let p = left m key h there (all_live m key h (blocks_at mid.metaslabs m y key at ∙ held)) in

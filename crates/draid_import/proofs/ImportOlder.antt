@@ -24,7 +24,7 @@ use Rattle.draid_shard.specs.declared.shard.Shard.{Shard}
 use Rattle.draid_uber.specs.declared.uber.Uber.{Uber}
 use Rattle.draid_session.specs.Follows as follows
 use Rattle.draid_session.specs.Holds.{Act, Did, Hold, Looked, On, OnUber, view_of}
-use Rattle.draid_session.specs.Opening.{Frees, FreesOlder, IsOlder}
+use Rattle.draid_session.specs.Opening.{Frees, FreesOlder, IsLoose, IsOlder}
 use Rattle.draid_session.specs.State.{Metaslab, State, Store}
 use Rattle.draid_import.specs.Imported.{FreedOlder, SaysObjects, StandsFound}
 use Rattle.draid_pool.specs.Metaslabs.{IsMetaslab}
@@ -39,6 +39,7 @@ use Rattle.draid_pool.proofs.Imaged.{alike_stays, image_kept, leaves_kept}
 use Rattle.draid_pool.proofs.Lists.{get_set_other, get_set_same, present, some_of}
 use Rattle.draid_pool.proofs.Moved.{blocks_at, each_set, follows_one, moves_one, with_metaslab}
 use Rattle.draid_pool.proofs.Steps.{follows_both}
+use Rattle.draid_pool.proofs.Unmarked.{not_pointed}
 
 -- ---- holds
 
@@ -61,7 +62,7 @@ frees_right m key (hold ∷ holds) more frees = frees_right m key holds more fre
 -- what is freed has a later block
 pub frees_older : (x : State) (group m : ℕ) (key : Key) (holds : List Hold) → FreesOlder x group holds → Frees m key holds → IsOlder x key
 frees_older x group m key [] older frees = absurd frees
-frees_older x group m key (On v (Did (event.Free k t) w) ∷ holds) older (inl here) = subst (IsOlder x) here.1 older.0
+frees_older x group m key (On v (Did (event.Free k t) w) ∷ holds) older (inl here) = subst (IsOlder x) here.1 older.0.older
 frees_older x group m key (On v (Did (event.Free k t) w) ∷ holds) older (inr later) = frees_older x group m key holds older.2 later
 frees_older x group m key (hold ∷ holds) older frees = absurd older
 
@@ -159,7 +160,7 @@ module _ {R A : Type 0} (rack : racks.Ghosts R) (area : areas.Ghosts A) (mid : S
     set = one_set (worlds_of x.metaslabs) (worlds_of (slice_set x.metaslabs m y')) m y.world y'.world (moves_one x.metaslabs m y y' at) k (Some (record g.done.held { stage = stage.Freed group })) g.done.made
 
     last : (w : Write) × (write_of x.store.changes k.object ≡ Some w)
-    last = sealing.some_of (write_of x.store.changes k.object) (st.holds.stores.live m k g.done.held k_there g.done.live)
+    last = sealing.some_of (write_of x.store.changes k.object) (st.holds.stores.live m k g.done.held k_there g.done.live refl)
 
     other : changes.key_of last.0 ≢ k
     other = older_key mid k last.0 says older (ap (λ (z : Store). write_of z.changes k.object) (sym s.same_store) ∙ last.1)
@@ -207,13 +208,17 @@ module _ {R A : Type 0} (rack : racks.Ghosts R) (area : areas.Ghosts A) (mid : S
       floor = st.floor;
     }
 
+    -- no checkpoint keeps it
+    loose : IsLoose mid (view_of m y) k
+    loose = record { older = older; held = g.done.held; there = g.done.found; loose = not_pointed mid.store.marks g.done.held (sym (ap (λ (z : Store). z.marks) s.same_store) ∙ st.holds.unmarked) }
+
     -- one older block was freed
     pub older_step : FreedOlder rack area mid (slice_set shards m shard') uber pieces
     older_step = record {
       holds = s.holds ++ g.holds;
       reached = with_metaslab x m y';
       follows = follows_both s.holds g.holds mid x (with_metaslab x m y') s.follows (follows_one m g.holds x y y' at g.follows);
-      older = older_more mid mid.committed s.holds g.holds s.older (subst (FreesOlder mid mid.committed) (sym g.done.are) (older, group_is, tt));
+      older = older_more mid mid.committed s.holds g.holds s.older (subst (FreesOlder mid mid.committed) (sym g.done.are) (loose, group_is, tt));
       stands = stands_then;
       same_store = s.same_store;
       same_group = s.same_group;

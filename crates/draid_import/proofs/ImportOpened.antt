@@ -1,7 +1,8 @@
 -- All metaslabs of a pool that rests on a shelf, as an import opens them.
-use Rattle.std.proofs.Common.{arith, ◌≡◌, ◌<◌, ◌≤◌, ◌∙◌, ℕ, zero, suc, List, [], ◌∷◌, Option, Some, None, length, refl, sym, subst}
+use Rattle.std.proofs.Common.{arith, ◌≡◌, ◌<◌, ◌≤◌, ◌∙◌, ℕ, zero, suc, List, [], ◌∷◌, Option, Some, None, length, ap, refl, sym, subst}
 use Rattle.std.specs.Prelude.{IsSomeAnd, slice_get}
 use Rattle.std.proofs.lemmas.Option.{slice_get_within}
+use Rattle.std.proofs.lemmas.List.Elements.{All-nil}
 use Rattle.draid_names.specs.declared.numbers.TheConstants.{LAST_NUMBER}
 use Rattle.draid_rack.specs.declared.Rack as racks
 use Rattle.draid_area.specs.declared.Area as areas
@@ -9,6 +10,8 @@ use Rattle.draid_machine.specs.Created.{IsReached}
 use Rattle.draid_machine.specs.State as machine
 use Rattle.draid_shard.proofs.Standing.{has_layout}
 use Rattle.draid_layouts.specs.Layout.{layout_of}
+use Rattle.draid_objects.specs.Marks.{marks_upto}
+use Rattle.draid_pool.proofs.Unmarked.{not_pointed}
 use Rattle.draid_record.specs.declared.uber.UberBody.{UberBody}
 use Rattle.draid_segments.specs.Segments.{Pieces}
 use Rattle.draid_shelf.specs.Kits.{Held, KitTold}
@@ -17,7 +20,7 @@ use Rattle.draid_uber.specs.Slots.{StandsTold}
 use Rattle.draid_uber.specs.Uber as ubers
 use Rattle.draid_uber.specs.Uber.{Valid, area_of, kept_of, next_leaf_of, version_of}
 use Rattle.draid_uber.specs.declared.uber.Uber.{Uber}
-use Rattle.draid_session.specs.Opening.{Finds, IsLastSeq, LeafIn, MayFind, Reopens, VersionIn}
+use Rattle.draid_session.specs.Opening.{DropsOlder, Finds, IsLastSeq, LeafIn, MayFind, Reopens, VersionIn}
 use Rattle.draid_session.specs.State.{Metaslab, State}
 use Rattle.draid_pool.specs.Returning.{Rests, RestsOn}
 use Rattle.draid_pool.specs.Importable.{AllAlike, AreAlike, IsFindable}
@@ -54,10 +57,10 @@ module _ (x : State) (pieces : ℕ → Pieces) (held : Held) (rests : Rests x pi
   pub all_reached : (m : ℕ) (y : Metaslab) → slice_get x.metaslabs m ≡ Some y → IsReached (layout_of x.geometry x.perms m) y.world
   all_reached m y at = (rested (held.kits m) x m (pieces m) y (rests.kits m y at)).2.reached
 
-pub finds_state : (x : State) (group next : ℕ) (metaslabs : List Metaslab) (seq count : ℕ) → VersionIn x group x.geometry.props.version → MayFind x group → 0 < group → LeafIn x group next → length metaslabs ≡ length x.metaslabs
+pub finds_state : (x : State) (group next : ℕ) (metaslabs : List Metaslab) (seq count : ℕ) → x.store.marks ≡ [] → VersionIn x group x.geometry.props.version → MayFind x group → 0 < group → LeafIn x group next → length metaslabs ≡ length x.metaslabs
     → ((m : ℕ) (y z : Metaslab) → slice_get x.metaslabs m ≡ Some y → slice_get metaslabs m ≡ Some z → Reopens x.geometry x.perms group m y z) → x.uber_count ≤ count
     → Finds x group (found_state x group next metaslabs seq count)
-finds_state x group next metaslabs seq count version may some leaf many each counts = record {
+finds_state x group next metaslabs seq count unmarked version may some leaf many each counts = record {
   found = may;
   some = some;
   layout = (refl, refl);
@@ -69,6 +72,10 @@ finds_state x group next metaslabs seq count version may some leaf many each cou
   pending = refl;
   counts = counts;
   changes = refl;
+  drops = [];
+  marks = refl;
+  drops_are = All-nil (DropsOlder (found_state x group next metaslabs seq count) group);
+  dropped = λ m y key h at held older pointed. absurd (not_pointed (marks_upto group x.store.marks) h (ap (marks_upto group) unmarked) pointed);
   floor = refl;
   told = refl;
 }
@@ -98,7 +105,7 @@ module _ {R A : Type 0} (rack : racks.Ghosts R) (area : areas.Ghosts A) (x : Sta
     opened_state = found_state x body.group body.next_leaf all_opened.0 seq (area.faults (area_of uber))
 
     pub finds_opened : Finds x body.group opened_state
-    finds_opened = finds_state x body.group body.next_leaf all_opened.0 seq (area.faults (area_of uber)) body_is.version body_is.may body_is.some body_is.leaf all_opened.1 (λ m y z at there. (all_opened.2 m y z at there).reopens) counted
+    finds_opened = finds_state x body.group body.next_leaf all_opened.0 seq (area.faults (area_of uber)) rests.objects.unmarked body_is.version body_is.may body_is.some body_is.leaf all_opened.1 (λ m y z at there. (all_opened.2 m y z at there).reopens) counted
 
     pub opened_is_in : (m : ℕ) (shard : Shard R A) (z : Metaslab) → slice_get shards m ≡ Some shard → slice_get opened_state.metaslabs m ≡ Some z → IsMetaslab rack area (part_in x m) (pieces m) shard z
     opened_is_in m shard z at there =

@@ -178,7 +178,7 @@ module _ (x : State) (pieces : ℕ → Pieces) (held : Held) (rests : Rests x pi
     mid = found_state x body.group body.next_leaf shelved.0 x.store.seq n
 
     finds : Finds x body.group mid
-    finds = finds_state x body.group body.next_leaf shelved.0 x.store.seq n body_is.version body_is.may body_is.some body_is.leaf shelved.1 (λ m y z at there. (shelved.2 m y z at there).reopens) counted
+    finds = finds_state x body.group body.next_leaf shelved.0 x.store.seq n rests.objects.unmarked body_is.version body_is.may body_is.some body_is.leaf shelved.1 (λ m y z at there. (shelved.2 m y z at there).reopens) counted
 
     reached : (m : ℕ) (y : Metaslab) → slice_get x.metaslabs m ≡ Some y → IsReached (layout_of x.geometry x.perms m) y.world
     reached = all_reached x pieces held rests

@@ -8,6 +8,7 @@ pub mod ImportFound
 pub mod ImportFreed
 pub mod ImportLeft
 pub mod ImportMade
+pub mod ImportMarks
 pub mod ImportMetaslab
 pub mod ImportNewest
 pub mod ImportOlder

@@ -11,6 +11,7 @@ use Rattle.draid_machine.specs.declared.names.Key.{Key}
 use Rattle.draid_machine.specs.declared.names.Stage.TheVariants.{Live}
 use Rattle.draid_machine.specs.Images.{IsImage}
 use Rattle.draid_machine.specs.State as machine
+use Rattle.draid_objects.specs.Marks.{marks_upto}
 use Rattle.draid_objects.specs.Blocks.{Blocks, SaysOf}
 use Rattle.draid_objects.specs.Changes.{upto, write_of}
 use Rattle.draid_record.specs.declared.uber.UberBody.{UberBody}
@@ -77,7 +78,7 @@ found_state x group next metaslabs seq uber_count = record {
   geometry = x.geometry;
   perms = x.perms;
   metaslabs = metaslabs;
-  store = record { changes = upto group x.store.changes; seq = seq; floor = group + 1 };
+  store = record { changes = upto group x.store.changes; marks = marks_upto group x.store.marks; seq = seq; floor = group + 1 };
   committed = group;
   kept_leaf = next;
   next_leaf = next;

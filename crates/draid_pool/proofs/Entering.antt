@@ -1,5 +1,5 @@
 -- The blocks of a pool of which one is another now, as the pool holds its objects.
-use Rattle.std.proofs.Common.{◌≡◌, ◌≢◌, ◌==◌, ◌≤◌, ◌∙◌, inl, inr, ℕ, Bool, true, false, List, ◌∷◌, Option, Some, arith, refl, sym, ap, subst}
+use Rattle.std.proofs.Common.{◌≡◌, ◌≢◌, ◌==◌, ◌≤◌, ◌∙◌, inl, inr, ℕ, Bool, true, false, List, [], ◌∷◌, Option, Some, None, arith, refl, sym, ap, subst}
 use Rattle.sha2.specs.Sha256.{sha256}
 use Rattle.draid_spec.specs.declared.layout.Geometry.{Geometry}
 use Rattle.draid_machine.specs.declared.names.Held.{Held}
@@ -15,6 +15,7 @@ use Rattle.draid_objects.proofs.Sealing.{set_cases}
 use Rattle.draid_segments.specs.Segments.{Pieces}
 use Rattle.draid_session.specs.State.{Store}
 use Rattle.draid_pool.specs.Objects.{HoldsObjects, IsLastAt}
+use Rattle.draid_pool.proofs.Unmarked.{all_behind, all_spare, none_marked}
 
 some_is : {A : Type 0} (o : Option A) (x y : A) → o ≡ Some x → o ≡ Some y → x ≡ y
 some_is o x y a b = (let h = sym a ∙ b in cc)
@@ -27,8 +28,8 @@ last_at : (m : ℕ) (k : Key) (o : Option Write) (w : Write) → o ≡ Some w �
 last_at m k o w same is = subst (IsLastAt m k) same is
 
 -- one object has one live block
-pub only_live : (blocks : Blocks) (changes : List Change) (w : Write) (key : Key) → OnlyLast blocks changes → write_of changes key.object ≡ Some w → key_of w ≡ key → IsOnlyLive blocks w.metaslab key
-only_live blocks changes w key only last is m k h at live object =
+pub only_live : (blocks : Blocks) (changes : List Change) (w : Write) (key : Key) → OnlyLast blocks changes → write_of changes key.object ≡ Some w → key_of w ≡ key → IsOnlyLive None blocks w.metaslab key
+only_live blocks changes w key only last is m k h at live kept object =
     let z = last_at m k (write_of changes k.object) w (ap (write_of changes) object ∙ last) (only m k h at live) in
     (sym z.0, sym z.1 ∙ is)
 
@@ -47,10 +48,11 @@ module _ (geometry : Geometry) (committed : ℕ) (store : Store) (old new : Bloc
   floor_then o = floor_up store.changes old o store.floor group (holds.floors o) later
 
   -- the block of a live object, which is freed with it
-  pub freed_holds : IsOnlyLive old m key → HoldsObjects geometry committed (record { changes = Freed key.object group ∷ store.changes; seq = store.seq; floor = group }) new pieces
+  pub freed_holds : IsOnlyLive None old m key → HoldsObjects geometry committed (record { changes = Freed key.object group ∷ store.changes; marks = store.marks; seq = store.seq; floor = group }) new pieces
   freed_holds one = record {
-    stores = object_freed sha256 committed m group store.changes old new key h holds.stores found live one (floor_then key.object) sets;
+    stores = object_freed sha256 committed m group store.changes [] old new key h holds.stores found live one (floor_then key.object) (all_spare group h.birth) (all_behind committed group) (none_marked group) sets;
     floors = λ o. freed_object_floor m group store.changes old new key h o group sets (λ is. omega arith) (floor_then o);
+    unmarked = holds.unmarked;
     settled = λ n j i there. (at n j i there).2;
     numbered = λ n j i there. (let z = at n j i there in holds.numbered n j z.0 z.1);
     bytes = λ n j i w there by. (let z = at n j i there in holds.bytes n j z.0 w z.1 by);
@@ -59,8 +61,9 @@ module _ (geometry : Geometry) (committed : ℕ) (store : Store) (old new : Bloc
   -- an older block
   pub older_holds : (w : Write) → write_of store.changes key.object ≡ Some w → key_of w ≢ key → HoldsObjects geometry committed (record store { floor = group }) new pieces
   older_holds w last other = record {
-    stores = older_freed sha256 committed m group store.changes old new key h w holds.stores last other found live (floor_then key.object) sets;
+    stores = older_freed sha256 committed m group store.changes [] old new key h w holds.stores last other found live (floor_then key.object) (all_spare group h.birth) sets;
     floors = λ o. freed_floor m group store.changes old new key h o group sets (λ is. omega arith) (floor_then o);
+    unmarked = holds.unmarked;
     settled = λ n j i there. (at n j i there).2;
     numbered = λ n j i there. (let z = at n j i there in holds.numbered n j z.0 z.1);
     bytes = λ n j i w there by. (let z = at n j i there in holds.bytes n j z.0 w z.1 by);

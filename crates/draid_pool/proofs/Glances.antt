@@ -7,7 +7,6 @@ use Rattle.draid_area.specs.declared.Area as areas
 use Rattle.draid_machine.specs.declared.names.Key.{Key}
 use Rattle.draid_segments.specs.Segments.{Pieces}
 use Rattle.draid_objects.specs.Changes.{write_of}
-use Rattle.draid_objects.proofs.Finding.{write_object}
 use Rattle.draid_entries.specs.Entries.{held_in}
 use Rattle.draid_entries.specs.Maps.{key_of}
 use Rattle.draid_shard.specs.Fits.{Valid}
@@ -19,6 +18,7 @@ use Rattle.draid_session.specs.Looks.{OnlyLooks}
 use Rattle.draid_session.specs.State.{Metaslab, State}
 use Rattle.draid_pool.specs.Metaslabs.{IsMetaslab}
 use Rattle.draid_pool.specs.Pools.{part_in}
+use Rattle.draid_pool.proofs.Lastly.{write_object}
 use Rattle.draid_pool.proofs.Moved.{turn, with_metaslab}
 use Rattle.draid_pool.specs.Drifts.{Drifts}
 use Rattle.draid_pool.specs.Threads.{Knows, LeadsBy, all_of}

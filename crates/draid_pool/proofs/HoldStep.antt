@@ -14,7 +14,6 @@ use Rattle.draid_machine.specs.After.{is_freed_block}
 use Rattle.draid_machine.proofs.Small.{bool_cases, held_other, key_true}
 use Rattle.draid_segments.specs.Segments.{Pieces}
 use Rattle.draid_objects.specs.Changes.{Write, write_of}
-use Rattle.draid_objects.proofs.Finding.{write_object}
 use Rattle.draid_entries.specs.declared.entry.Entry.{Entry}
 use Rattle.draid_entries.specs.Entries.{held_in}
 use Rattle.draid_entries.specs.Maps.{held_at, key_of, staged}
@@ -30,6 +29,7 @@ use Rattle.draid_session.specs.Holds.{Act, Looked, On, view_of}
 use Rattle.draid_session.specs.State.{Metaslab, State}
 use Rattle.draid_pool.specs.Metaslabs.{IsMetaslab}
 use Rattle.draid_pool.specs.Pools.{part_in}
+use Rattle.draid_pool.proofs.Lastly.{write_object}
 use Rattle.draid_pool.proofs.Lists.{get_set_other, get_set_same, some_of}
 use Rattle.draid_pool.proofs.Moved.{turn, turn_here, turn_other, with_metaslab}
 use Rattle.draid_pool.specs.Drifts.{Drifts}

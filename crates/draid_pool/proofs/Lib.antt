@@ -19,6 +19,8 @@ pub mod Following
 pub mod Forgetting
 pub mod Freed
 pub mod Glances
+pub mod GoneOn
+pub mod GoneSync
 pub mod GroupClosed
 pub mod GroupDone
 pub mod GroupKeeps
@@ -32,6 +34,7 @@ pub mod Imaged
 pub mod Importables
 pub mod Joining
 pub mod Keeping
+pub mod Lastly
 pub mod LeavesFlushed
 pub mod Lifted
 pub mod ListedOnce
@@ -73,6 +76,7 @@ pub mod SyncWhole
 pub mod Takings
 pub mod Taught
 pub mod Turns
+pub mod Unmarked
 pub mod Unsealed
 pub mod Versions
 pub mod Walks

@@ -10,7 +10,6 @@ use Rattle.draid_session.specs.Phases.{NoneOf}
 use Rattle.draid_session.specs.State.{Metaslab, State}
 use Rattle.draid_pool.specs.Views.{seen_at}
 use Rattle.draid_pool.proofs.Lists.{set_back}
-use Rattle.draid_pool.proofs.OneHold.{rests}
 
 -- a look at each metaslab from a number on
 unfoldable pub looks_at : ℕ → List Metaslab → List Hold
@@ -36,7 +35,7 @@ changes_none x front (y ∷ ys) m all at = (
     after = y;
     there = there;
     sees = refl;
-    acts = (rests y y.reserved, refl);
+    acts = refl;
     made = sym (ap (λ zs. record x { metaslabs = zs }) (set_back x.metaslabs m y there));
   },
   changes_none x (front ++ y ∷ []) ys (m + 1) (all ∙ sym (append_assoc front (y ∷ []) ys)) (let long = length-append front (y ∷ []) in omega (arith, at, long)),

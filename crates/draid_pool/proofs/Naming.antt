@@ -112,7 +112,7 @@ module _ {R A : Type 0} (rack : racks.Ghosts R) (area : areas.Ghosts A) (shards 
     shards_are = s.shards_are;
     pieces = s.pieces;
     each = s.each;
-    holds = record { stores = s.holds.stores; floors = s.holds.floors; settled = s.holds.settled; numbered = s.holds.numbered; bytes = s.holds.bytes };
+    holds = record { stores = s.holds.stores; unmarked = s.holds.unmarked; floors = s.holds.floors; settled = s.holds.settled; numbered = s.holds.numbered; bytes = s.holds.bytes };
     only = s.only;
     objects = s.objects;
     images = λ g m y may some at. elim may [
@@ -133,8 +133,9 @@ module _ {R A : Type 0} (rack : racks.Ghosts R) (area : areas.Ghosts A) (shards 
     pieces = s.pieces;
     each = s.each;
     holds = record {
-      stores = commit_kept sha256 x.committed x.store.changes (blocks_of x.metaslabs) (blocks_of x.metaslabs) s.holds.stores group (omega (arith, behind)) (λ m k. inl refl);
+      stores = commit_kept sha256 x.committed x.store.changes [] (blocks_of x.metaslabs) (blocks_of x.metaslabs) s.holds.stores group (omega (arith, behind)) (λ m k. inl refl);
       floors = s.holds.floors;
+      unmarked = s.holds.unmarked;
       settled = s.holds.settled;
       numbered = s.holds.numbered;
       bytes = s.holds.bytes;

@@ -16,7 +16,7 @@ use Rattle.draid_shard.specs.declared.shard.Shard.{Shard}
 use Rattle.draid_shard.specs.Loans.{owed_for_loan}
 use Rattle.draid_shard.proofs.OwedAll.{owed_is}
 use Rattle.draid_shard.proofs.Standing.{none_stands}
-use Rattle.draid_session.specs.Follows.{MetaslabActs, HasNoEvent}
+use Rattle.draid_session.specs.Follows.{MetaslabActs}
 use Rattle.draid_session.specs.Holds.{Hold, Looked, On, Reserved, view_of}
 use Rattle.draid_session.specs.State.{Metaslab}
 use Rattle.draid_session.specs.Worn as worn
@@ -29,21 +29,12 @@ use Rattle.draid_pool.proofs.Imaged.{keeps_same}
 abbrev pub with_reserved : Metaslab → ℕ → Metaslab
 with_reserved x reserved = record x { reserved = reserved }
 
-pub rests : (x : Metaslab) (reserved : ℕ) → HasNoEvent x (with_reserved x reserved)
-rests x reserved = record {
-  opened = refl;
-  events = refl;
-  world = refl;
-  harm = refl;
-  counts = record { rack = omega arith; even = omega arith; odd = omega arith; leaves = λ leaf stays. omega arith };
-}
-
 pub looks_in : (l : machine.Layout) (m : ℕ) (x : Metaslab) → FollowsIn l m (On (view_of m x) Looked ∷ []) x x
-looks_in l m x = (Looked, x, refl, (rests x x.reserved, refl), refl)
+looks_in l m x = (Looked, x, refl, refl, refl)
 
 -- events come to be reserved
 pub reserves : (l : machine.Layout) (events now : ℕ) (x : Metaslab) → now ≡ max events x.reserved → MetaslabActs l (Reserved events) x (with_reserved x now)
-reserves l events now x is = (rests x now, is ∙ max_comm events x.reserved)
+reserves l events now x is = ap (with_reserved x) (is ∙ max_comm events x.reserved)
 
 module _ {R A : Type 0} (rack : racks.Ghosts R) (area : areas.Ghosts A) where
   pub reserved_here : (part : Part) (pieces : Pieces) (old new : Shard R A) (x : Metaslab) → IsMetaslab rack area part pieces old x → Valid rack new → DoesNone old new → SameKit old new

@@ -96,8 +96,9 @@ module _ {R A : Type 0} (rack : racks.Ghosts R) (area : areas.Ghosts A) where
       each = λ m shard at. (let z = metaslab_of rack area pool x s m shard at in (z.y, z.at, z.is));
       holds = record {
         holds = λ c b. subst (λ cs. HoldsObjects x.geometry c (record x.store { changes = cs }) (blocks_of x.metaslabs) s.pieces) (sym (all_own x.store.changes)) (record {
-          stores = commit_kept sha256 x.committed x.store.changes (blocks_of x.metaslabs) (blocks_of x.metaslabs) s.holds.stores c (low c b) (λ m k. inl refl);
+          stores = commit_kept sha256 x.committed x.store.changes [] (blocks_of x.metaslabs) (blocks_of x.metaslabs) s.holds.stores c (low c b) (λ m k. inl refl);
           floors = s.holds.floors;
+          unmarked = s.holds.unmarked;
           settled = s.holds.settled;
           numbered = s.holds.numbered;
           bytes = s.holds.bytes;

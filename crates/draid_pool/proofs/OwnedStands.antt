@@ -19,7 +19,7 @@ use Rattle.draid_shard.specs.States.{part_of}
 use Rattle.draid_shard.specs.declared.shard.Shard.{Shard}
 use Rattle.draid_layouts.specs.Layout.{layout_of}
 use Rattle.draid_session.specs.Follows.{MetaslabActs, Follows, HoldsMetaslab}
-use Rattle.draid_session.specs.Holds.{Act, AreaFailed, Did, Hold, Looked, MadeLeaf, On, OnUber, RackFailed, Reserved, View}
+use Rattle.draid_session.specs.Holds.{Act, AreaFailed, Did, Hold, Looked, MadeLeaf, On, OnUber, RackFailed, CallStarved, Reserved, View}
 use Rattle.draid_session.specs.State.{Metaslab, State, Store}
 use Rattle.draid_uber.specs.Slots.{group_of}
 use Rattle.draid_uber.specs.Uber as ubers
@@ -85,15 +85,16 @@ world_rests : (x y : Metaslab) → y.world ≡ x.world → KeepsRest x y
 world_rests x y same = record { images = subst (KeepsImages x.world) (sym same) (keeps_same x.world); committed = ap (λ (s : machine.State). s.committed) same }
 
 acts_rest : (l : machine.Layout) (v : View) (act : Act) (x y : Metaslab) → MetaslabActs l act x y → IsPlain (On v act) → KeepsRest x y
-acts_rest l v Looked x y a plain = world_rests x y a.0.world
+acts_rest l v Looked x y a plain = world_rests x y (ap (λ (k : Metaslab). k.world) a)
 acts_rest l v (Did e w) x y a plain = record {
   images = subst (KeepsImages x.world) (sym a.world) (step_keeps l x.world w e a.legal plain);
   committed = ap (λ (s : machine.State). s.committed) a.world ∙ step_committed l x.world w e a.legal plain;
 }
-acts_rest l v (Reserved n) x y a plain = world_rests x y a.0.world
+acts_rest l v (Reserved n) x y a plain = world_rests x y (ap (λ (k : Metaslab). k.world) a)
 acts_rest l v (MadeLeaf leaf) x y a plain = world_rests x y a.0.world
 acts_rest l v (AreaFailed group) x y a plain = world_rests x y a.0.world
 acts_rest l v RackFailed x y a plain = world_rests x y a.0.world
+acts_rest l v CallStarved x y a plain = world_rests x y a.0.world
 
 -- so of all metaslabs of a state, and what it has besides is the same
 pub record AllRest (x y : State) : Type 0 where

@@ -161,8 +161,9 @@ module _ (x : State) (m : ℕ) (y z : Metaslab) (at : slice_get x.metaslabs m �
         all : (c : ℕ) → Bounds (with_metaslab x m z) c → HoldsObjects x.geometry c (own_store owns x.store) (own_blocks mine (blocks_of x.metaslabs)) pieces
             → Drops c (own_blocks mine (blocks_of x.metaslabs)) (own_blocks mine (blocks_of after)) → HoldsObjects x.geometry c (own_store owns x.store) (own_blocks mine (blocks_of after)) (turn m now pieces)
         all c b o d = record {
-          stores = commit_kept sha256 c (own_changes owns x.store.changes) (own_blocks mine (blocks_of x.metaslabs)) (own_blocks mine (blocks_of after)) o.stores c (omega arith) d;
+          stores = commit_kept sha256 c (own_changes owns x.store.changes) [] (own_blocks mine (blocks_of x.metaslabs)) (own_blocks mine (blocks_of after)) o.stores c (omega arith) d;
           floors = λ object. commit_floor (own_changes owns x.store.changes) (own_blocks mine (blocks_of x.metaslabs)) (own_blocks mine (blocks_of after)) c object x.store.floor (o.floors object) d;
+          unmarked = o.unmarked;
           settled = λ n k h there. o.settled n k h (held_before mine drops n k h there);
           numbered = λ n k h there. o.numbered n k h (held_before mine drops n k h there);
           bytes = λ n k h w there by. own_bytes c o n k h w (held_before mine drops n k h there) by;

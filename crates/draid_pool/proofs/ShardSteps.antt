@@ -24,7 +24,7 @@ use Rattle.draid_shard.specs.States.{part_of}
 use Rattle.draid_shard.specs.declared.shard.Shard.{Shard}
 use Rattle.draid_shard.proofs.Held.{held_entry, key_leads}
 use Rattle.draid_session.specs.Follows.{MetaslabActs, HasNoEvent}
-use Rattle.draid_session.specs.Holds.{AreaFailed, Did, Act, Hold, Looked, MadeLeaf, On, RackFailed, Reserved, view_of}
+use Rattle.draid_session.specs.Holds.{AreaFailed, Did, Act, Hold, Looked, MadeLeaf, On, RackFailed, CallStarved, Reserved, view_of}
 use Rattle.draid_session.specs.State.{Metaslab}
 use Rattle.draid_pool.specs.Metaslabs.{IsMetaslab}
 use Rattle.draid_pool.specs.Shards.{FollowsIn, Goes, GoesLater}
@@ -38,12 +38,13 @@ rests_since : (l : machine.Layout) (x y : Metaslab) → HasNoEvent x y → Since
 rests_since l x y r = record { opened = r.opened; more = []; stored = r.events ∙ nothing_more x.events; run = r.world }
 
 pub acts_since : (l : machine.Layout) (act : Act) (x y : Metaslab) → MetaslabActs l act x y → Since l x y
-acts_since l Looked x y a = rests_since l x y a.0
+acts_since l Looked x y a = subst (Since l x) (sym a) (since_self l x)
 acts_since l (Did e w) x y a = record { opened = a.opened; more = e ∷ []; stored = a.stored; run = (w, a.legal, a.world) }
-acts_since l (Reserved n) x y a = rests_since l x y a.0
+acts_since l (Reserved n) x y a = subst (Since l x) (sym a) (record { opened = refl; more = []; stored = nothing_more x.events; run = refl })
 acts_since l (MadeLeaf leaf) x y a = record { opened = a.0.opened; more = []; stored = a.0.events ∙ nothing_more x.events; run = a.0.world }
 acts_since l (AreaFailed group) x y a = rests_since l x y a.0
 acts_since l RackFailed x y a = rests_since l x y a.0
+acts_since l CallStarved x y a = rests_since l x y a.0
 
 pub follows_since : (l : machine.Layout) (m : ℕ) (holds : List Hold) (x y : Metaslab) → FollowsIn l m holds x y → Since l x y
 follows_since l m [] x y f = subst (Since l x) (sym f) (since_self l x)

@@ -1,5 +1,5 @@
 -- The shards of a pool stand for the metaslabs of a state, whatever is said of each metaslab's group, version and arms; and so they do as one of them moves.
-use Rattle.std.proofs.Common.{◌≡◌, ◌<◌, ◌≤◌, ◌+◌, ◌⊎◌, ◌∙◌, inl, inr, ℕ, true, List, Option, Some, None, arith, refl, sym, ap, subst, slice_set, length}
+use Rattle.std.proofs.Common.{◌≡◌, ◌<◌, ◌≤◌, ◌+◌, ◌⊎◌, ◌∙◌, inl, inr, ℕ, true, List, [], Option, Some, None, arith, refl, sym, ap, subst, slice_set, length}
 use Rattle.std.specs.Prelude.{nat_eq, option_map, slice_get}
 use Rattle.std.specs.HashMap.{get}
 use Rattle.std.proofs.lemmas.Bool.{cases_eq}
@@ -151,8 +151,9 @@ module _ {R A : Type 0} (rack : racks.Ghosts R) (area : areas.Ghosts A) where
 
     holds : HoldsObjects x.geometry x.committed x.store (blocks_of after) s.pieces
     holds = record {
-      stores = commit_kept sha256 x.committed x.store.changes (blocks_of x.metaslabs) (blocks_of after) s.holds.stores x.committed (omega arith) drops;
+      stores = commit_kept sha256 x.committed x.store.changes [] (blocks_of x.metaslabs) (blocks_of after) s.holds.stores x.committed (omega arith) drops;
       floors = λ object. commit_floor x.store.changes (blocks_of x.metaslabs) (blocks_of after) x.committed object x.store.floor (s.holds.floors object) drops;
+      unmarked = s.holds.unmarked;
       settled = λ k key h there. s.holds.settled k key h (was k key h there);
       numbered = λ k key h there. s.holds.numbered k key h (was k key h there);
       bytes = λ k key h write there by. s.holds.bytes k key h write (was k key h there) by;

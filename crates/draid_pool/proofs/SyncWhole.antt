@@ -17,13 +17,15 @@ use Rattle.draid_uber.specs.Uber.{kept_of}
 use Rattle.draid_uber.specs.declared.uber.Uber.{Uber}
 use Rattle.draid_pool.specs.Committing.{DropsFreed}
 use Rattle.draid_pool.specs.Drifts.{KeepsOf, groups_number}
+use Rattle.draid_pool.specs.GoingOn.{BeginsIn, GoesOnIn, SealsFrom, SealsUntil}
 use Rattle.draid_pool.specs.Grouping.{ClosesEach, ClosesIn, ClosesNext, CommitsIn, FindsClosing, FinishesIn, SealsBy, SealsEach, SeesClosing, SyncsIn, UberNames, WaitsForWrites}
-use Rattle.draid_pool.specs.Rounds.{EachIs, HeldEach, HeldOnce, NoneBeyond, StoppedBy}
+use Rattle.draid_pool.specs.Rounds.{EachIs, HeldEach, HeldFrom, HeldOnce, NoneBeyond, StoppedBy}
 use Rattle.draid_pool.specs.Syncing.{Commits, KeepsTable}
 use Rattle.draid_pool.specs.Threads.{HasPointer, IsHeldBy, IsWholeBy, all_of}
 use Rattle.draid_pool.specs.declared.fault.SyncFault.{SyncFault}
 use Rattle.draid_pool.specs.declared.fault.SyncFault.TheVariants as sync
 use Rattle.draid_pool.specs.declared.fault.Synced.{Synced}
+use Rattle.draid_pool.specs.declared.fault.Syncing.{Syncing}
 use Rattle.draid_pool.proofs.Drifting.{keeps_self}
 use Rattle.draid_pool.proofs.GroupKeeps.{committed_next, drops_keeps}
 use Rattle.draid_pool.proofs.HeldBy.{held_drifts}
@@ -130,6 +132,11 @@ module _ {R A S : Type 0} (rack : racks.Ghosts R) (area : areas.Ghosts A) (last 
         let below = s.below in
         quiet_on stops s.mid s.place b s.below s.stop next (so s.stop.before s.stop.after s.stop.drifts.valid s.stop.did) (quiet_round s.place s.sum next a s.mid (omega (arith, below)) s.front g)
 
+    quiet_from : (first n sum next : ℕ) (a b : S) → first + n ≤ count → HeldFrom rack area last went shared owns does first n a sum b → HasGroup a next → HasGroup b next
+    quiet_from first zero sum next a b below each g = subst (λ s. HasGroup s next) (sym each.0) g
+    quiet_from first (suc n) sum next a b below (mid, some, more, each, once, adds) g =
+        quiet_on (does more) mid (first + n) b (omega (arith, below)) once next (quiet more once.before once.after once.drifts.valid once.did) (quiet_from first n some next a mid (omega (arith, below)) each g)
+
   commit_round : (group n sum : ℕ) (a b : S) → n ≤ count → HeldEach rack area last went shared owns (λ none x y. Commits rack group x y) n a sum b → Stays a → Stays b × EachIs n (ClosesNext rack (group + 1)) (last b)
   commit_round group zero sum a b below each left = (subst (λ s. Stays s) (sym each.0) left, (λ m less. absurd (omega (arith, less))))
   commit_round group (suc n) sum a b below (mid, some, more, each, once, adds) left =
@@ -201,7 +208,7 @@ module _ {R A S : Type 0} (rack : racks.Ghosts R) (area : areas.Ghosts A) (last 
       let z = finds_next next group a mid found g in
       subst (HasNext b v) z.1 (commits_next group mid b u v out (z.1 ∙ is) commits (subst (HasGroup mid) (sym z.1) z.0))
 
-  finishes_next : (next : ℕ) (a b : S) (u v : Uber A) (out : Option (Result Unit SyncFault)) → next ≡ group_of (kept_of u) + 1 → FinishesIn rack area last went shared owns count a u out b v → HasGroup a next → HasNext b v next
+  pub finishes_next : (next : ℕ) (a b : S) (u v : Uber A) (out : Option (Result Unit SyncFault)) → next ≡ group_of (kept_of u) + 1 → FinishesIn rack area last went shared owns count a u out b v → HasGroup a next → HasNext b v next
   finishes_next next a b u v (Some (Ok done)) is (inl (found, same)) g =
       same_next b u v next is (ap kept_of same) (quiet_round (λ none x y. SeesClosing None x y) (λ n. looks_quiet None) count 0 next a b (omega arith) found g)
   finishes_next next a b u v (Some (Ok done)) is (inr (group, thin, mid, found, commits)) g = found_commits group next a mid b u v (Some (Ok thin)) is found commits g
@@ -217,12 +224,50 @@ module _ {R A S : Type 0} (rack : racks.Ghosts R) (area : areas.Ghosts A) (last 
       let high = d.1 in
       (d.0, omega (arith, low, high, behind))
 
-  syncs_next : (next : ℕ) (a b : S) (u v : Uber A) (out : Option (Result Synced SyncFault)) → next ≡ group_of (kept_of u) + 1 → SyncsIn rack area last went shared owns count a u out b v → HasGroup a next → HasNext b v next
+  pub syncs_next : (next : ℕ) (a b : S) (u v : Uber A) (out : Option (Result Synced SyncFault)) → next ≡ group_of (kept_of u) + 1 → SyncsIn rack area last went shared owns count a u out b v → HasGroup a next → HasNext b v next
   syncs_next next a b u v (Some (Ok it)) is (mid, w, finishes, behind, commits) g = then_commits next it.group a mid b u w v (Some (Ok it.thin)) is finishes behind commits g
   syncs_next next a b u v (Some (Err why)) is (inl finishes) g = finishes_next next a b u v (Some (Err why)) is finishes g
   syncs_next next a b u v (Some (Err why)) is (inr (mid, w, group, finishes, behind, commits)) g = then_commits next group a mid b u w v (Some (Err why)) is finishes behind commits g
   syncs_next next a b u v None is (inl finishes) g = finishes_next next a b u v None is finishes g
   syncs_next next a b u v None is (inr (mid, w, group, finishes, behind, commits)) g = then_commits next group a mid b u w v None is finishes behind commits g
+
+  -- ---- a sync that is under way
+
+  pub begins_next : (next : ℕ) (a b : S) (u v : Uber A) (out : Option (Result Syncing SyncFault)) → next ≡ group_of (kept_of u) + 1 → BeginsIn rack area last went shared owns count a u out b v → HasGroup a next → HasNext b v next
+  begins_next next a b u v (Some (Ok begun)) is (mid, finishes, first, closes) g =
+      let f = finishes_next next a mid u v (Some (Ok tt)) is finishes g in
+      (closes_group begun.group (group_of (kept_of v) + 1) mid b (Ok tt) closes f.0, f.1)
+  begins_next next a b u v (Some (Err why)) is (inl finishes) g = finishes_next next a b u v (Some (Err why)) is finishes g
+  begins_next next a b u v (Some (Err why)) is (inr (mid, finishes, closes)) g =
+      let f = finishes_next next a mid u v (Some (Ok tt)) is finishes g in
+      (closes_group (group_of (kept_of v) + 1) (group_of (kept_of v) + 1) mid b (Err why) closes f.0, f.1)
+  begins_next next a b u v None is finishes g = finishes_next next a b u v None is finishes g
+
+  seals_from : (next : ℕ) (a b : S) (old new : Syncing) → new.next ≤ count → SealsFrom rack area last went shared owns a old b new → HasGroup a next → HasGroup b next
+  seals_from next a b old new below s g =
+      let behind = s.next in
+      quiet_from (λ n x y. SealsBy rack area old.group x (Ok n) y) (λ n x y valid c. table_quiet rack area owns x y c.valid c.table) old.next s.held s.sum next a b (omega (arith, below, behind)) s.each g
+
+  seals_until : (next : ℕ) (a b : S) (old new : Syncing) (stops : Shard R A → Shard R A → Type 0) → ((x y : Shard R A) → Valid rack x → stops x y → KeepsQuiet rack owns x y) → SealsUntil rack area last went shared owns stops count a old b new
+      → HasGroup a next → HasGroup b next
+  seals_until next a b old new stops so s g =
+      let below = s.below in
+      quiet_on stops s.mid new.next b s.below s.stop next (so s.stop.before s.stop.after s.stop.drifts.valid s.stop.did) (seals_from next a s.mid old new (omega (arith, below)) s.front g)
+
+  pub goes_next : (a b : S) (old new : Syncing) (u v : Uber A) (out : Option (Result Synced SyncFault)) → old.group ≡ group_of (kept_of u) + 1 → GoesOnIn rack area last went shared owns count a old u out b new v → HasGroup a old.group → HasNext b v old.group
+  goes_next a b old new u v (Some (Ok it)) next (late, seals, group_is, thin_is, names, commits) g =
+      let all = seals.1 in
+      let sealed = seals_from old.group a late old new (omega (arith, all)) seals.0 g in
+      let z = commit_round old.group count 0 late b (omega arith) commits sealed.left in
+      let is : group_of (kept_of v) ≡ old.group = ap group_of names.0.kept in
+      (subst (λ n. HasGroup b (n + 1)) (sym is) (record { left = z.0; ready = z.1 }), omega (arith, is))
+  goes_next a b old new u v (Some (Err why)) next (inl (seals, same)) g =
+      same_next b u v old.group next (ap kept_of same) (seals_until old.group a b old new (λ x y. SealsBy rack area old.group x (Err why) y) (λ x y valid c. table_quiet rack area owns x y c.valid c.table) seals g)
+  goes_next a b old new u v (Some (Err why)) next (inr (seals, names)) g =
+      let all = seals.1 in
+      same_next b u v old.group next (refused_kept old.group u v why names) (seals_from old.group a b old new (omega (arith, all)) seals.0 g)
+  goes_next a b old new u v None next (seals, same) g =
+      same_next b u v old.group next (ap kept_of same) (seals_until old.group a b old new (λ x y. WaitsForWrites old.group x y) (λ x y valid c. still_quiet rack area owns x y valid c.same) seals g)
 
 -- ---- what is whole
 
@@ -258,6 +303,15 @@ module _ {R A S : Type 0} (rack : racks.Ghosts R) (area : areas.Ghosts A) (last 
   pub sync_whole : (out : Option (Result Synced SyncFault)) → SyncsIn rack area last went shared owns count a u out b v → IsWholeBy rack owns (last b) table seq floor
   sync_whole out syncs = ends (syncs_next rack area last went shared owns own count (HasLeft rack area last went shared owns count table seq) (left_on rack area last went shared owns count table seq) (group_of (kept_of u) + 1) a b u v out refl syncs begins)
 
+  pub begin_whole : (out : Option (Result Syncing SyncFault)) → BeginsIn rack area last went shared owns count a u out b v → IsWholeBy rack owns (last b) table seq floor
+  begin_whole out it = ends (begins_next rack area last went shared owns own count (HasLeft rack area last went shared owns count table seq) (left_on rack area last went shared owns count table seq) (group_of (kept_of u) + 1) a b u v out refl it begins)
+
+  pub go_whole : (old new : Syncing) (out : Option (Result Synced SyncFault)) → old.group ≡ group_of (kept_of u) + 1 → GoesOnIn rack area last went shared owns count a old u out b new v → IsWholeBy rack owns (last b) table seq floor
+  go_whole old new out is it =
+      let H = HasGroup rack area last went shared owns own count (HasLeft rack area last went shared owns count table seq) (left_on rack area last went shared owns count table seq) in
+      ends (subst (HasNext rack area last went shared owns own count (HasLeft rack area last went shared owns count table seq) (left_on rack area last went shared owns count table seq) b v) is
+      (goes_next rack area last went shared owns own count (HasLeft rack area last went shared owns count table seq) (left_on rack area last went shared owns count table seq) a b old new u v out is it (subst (H a) (sym is) begins)))
+
 -- ---- what is ready
 
 module _ {R A S : Type 0} (rack : racks.Ghosts R) (area : areas.Ghosts A) (last : S → ℕ → Option (Shard R A)) (went : S → ℕ → Shard R A → Shard R A → S → Type 0) (shared : Bool) (owns : ℕ → Bool) (own : owns groups_number ≡ true) (count : ℕ) (a b : S) (u v : Uber A)
@@ -280,4 +334,15 @@ module _ {R A S : Type 0} (rack : racks.Ghosts R) (area : areas.Ghosts A) (last 
   pub sync_ready : (out : Option (Result Synced SyncFault)) → SyncsIn rack area last went shared owns count a u out b v → IsReady
   sync_ready out syncs =
       let z = syncs_next rack area last went shared owns own count (λ s. NoneBeyond count (last s)) (beyond_on rack area last went shared owns count) (group_of (kept_of u) + 1) a b u v out refl syncs (record { left = beyond; ready = ready }) in
+      (z.0.ready, z.0.left)
+
+  pub begin_ready : (out : Option (Result Syncing SyncFault)) → BeginsIn rack area last went shared owns count a u out b v → IsReady
+  begin_ready out it =
+      let z = begins_next rack area last went shared owns own count (λ s. NoneBeyond count (last s)) (beyond_on rack area last went shared owns count) (group_of (kept_of u) + 1) a b u v out refl it (record { left = beyond; ready = ready }) in
+      (z.0.ready, z.0.left)
+
+  pub go_ready : (old new : Syncing) (out : Option (Result Synced SyncFault)) → old.group ≡ group_of (kept_of u) + 1 → GoesOnIn rack area last went shared owns count a old u out b new v → IsReady
+  go_ready old new out is it =
+      let z = goes_next rack area last went shared owns own count (λ s. NoneBeyond count (last s)) (beyond_on rack area last went shared owns count) a b old new u v out is it
+      (record { left = beyond; ready = subst (λ n. EachIs count (ClosesNext rack n) (last a)) (sym is) ready }) in
       (z.0.ready, z.0.left)

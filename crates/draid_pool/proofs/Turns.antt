@@ -42,7 +42,7 @@ use Rattle.draid_shard.specs.declared.shard.Shard.{Shard}
 use Rattle.draid_shard.proofs.Standing.{has_layout}
 use Rattle.draid_session.specs.Follows.{CountsRise, HasNoEvent, area_count}
 use Rattle.draid_session.specs.Groups as groups
-use Rattle.draid_session.specs.Holds.{AreaFailed, Did, Hold, Looked, On, view_of}
+use Rattle.draid_session.specs.Holds.{AreaFailed, CallStarved, Did, Hold, Looked, On, view_of}
 use Rattle.draid_session.specs.State.{Metaslab}
 use Rattle.draid_pool.specs.Importable.{IsAlike, Shared, keep_shared}
 use Rattle.draid_pool.specs.Metaslabs.{IsMetaslab, counts_of, harm_of}
@@ -54,7 +54,7 @@ use Rattle.draid_pool.proofs.Alike.{alike_committed, alike_kept, alike_sealed, o
 use Rattle.draid_pool.proofs.Imaged.{leaf_in}
 use Rattle.draid_pool.proofs.Dids.{Done, did_quiet, did_with, none_here, records_same}
 use Rattle.draid_pool.proofs.Lists.{ext}
-use Rattle.draid_pool.proofs.OneHold.{passes_is, rests, worn_is}
+use Rattle.draid_pool.proofs.OneHold.{passes_is, worn_is}
 
 -- ---- faults
 
@@ -174,7 +174,7 @@ module _ {R A : Type 0} (rack : racks.Ghosts R) (area : areas.Ghosts A) where
 
   look : (part : Part) (pieces : Pieces) (new : Shard R A) (x : Metaslab) (does : Hold → Metaslab → Type 0) → IsMetaslab rack area part pieces new x → does (On (view_of part.number x) Looked) x
       → Turns rack area part pieces x new does
-  look part pieces new x does is done = record { act = Looked; reached = x; acts = (rests x x.reserved, refl); done = done; is = is }
+  look part pieces new x does is done = record { act = Looked; reached = x; acts = refl; done = done; is = is }
 
   -- ---- closing
 
@@ -346,7 +346,7 @@ module _ {R A : Type 0} (rack : racks.Ghosts R) (area : areas.Ghosts A) where
     starved : (why : SealFault) → Unsealed rack area.faults old new group why → Turns rack area (part_of old) pieces x new (λ hold y. SealIs (part_of old) group (Err sync.NoMemory) hold × KeepsCommitted x.world y.world)
     unfolding reached
     starved why u = record {
-      act = Looked;
+      act = CallStarved;
       reached = reached;
       acts = (rests_on why u, refl);
       done = ((refl, is.stands.is_in.closing ∙ closing, unsealed), kept_here x.world);

@@ -5,6 +5,7 @@ pub mod Committing
 pub mod Drifts
 pub mod Failing
 pub mod Follows
+pub mod GoingOn
 pub mod Grouping
 pub mod Groups
 pub mod Holding

@@ -1,5 +1,5 @@
 -- How the metaslabs of an open pool hold its objects.
-use Rattle.std.specs.Prelude.{◌≡◌, ◌≤◌, ◌+◌, ⊤, ℕ, true, List, Option, Some, None, length, option_map, slice_get, slice_index}
+use Rattle.std.specs.Prelude.{◌≡◌, ◌≤◌, ◌+◌, ⊤, ℕ, true, List, [], Option, Some, None, length, option_map, slice_get, slice_index}
 use Rattle.sha2.specs.Sha256.{sha256}
 use Rattle.draid_gf.specs.Field.{IsByte}
 use Rattle.draid_names.specs.declared.numbers.TheConstants.{LAST_NUMBER}
@@ -37,10 +37,11 @@ pub record HasPieces (geometry : Geometry) (write : Write) (pieces : Pieces) : T
   pub are : AreColumns (cut_of geometry) content columns
   pub rows : ArePieces geometry.props.sector geometry.g (stripes_for geometry write.bytes) columns (key_of write) pieces
 
--- The blocks store what befell the objects, and the floor is one for each of them. No write is under way, and none that is held has a greater number than the
+-- The blocks store what befell the objects; no checkpoint was made; and the floor is one for each of them. No write is under way, and none that is held has a greater number than the
 -- last. The pieces of each block are those of its write's bytes.
 pub record HoldsObjects (geometry : Geometry) (committed : ℕ) (store : Store) (blocks : Blocks) (pieces : ℕ → Pieces) : Type 0 where
-  pub stores : Stores sha256 committed store.changes blocks
+  pub stores : Stores sha256 committed store.changes [] blocks
+  pub unmarked : store.marks ≡ []
   pub floors : (object : ℕ) → IsFloor store.changes blocks object store.floor
   pub settled : (m : ℕ) (k : Key) (h : Held) → blocks m k ≡ Some h → is_block h.stage ≡ true
   pub numbered : (m : ℕ) (k : Key) (h : Held) → blocks m k ≡ Some h → k.seq ≤ store.seq

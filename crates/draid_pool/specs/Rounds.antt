@@ -30,6 +30,11 @@ module _ {R A S : Type 0} (rack : racks.Ghosts R) (area : areas.Ghosts A) (last 
   HeldEach does zero a sum b = (b ≡ a) × (sum ≡ 0)
   HeldEach does (suc n) a sum b = (mid : S) × (some : ℕ) × (more : ℕ) × HeldEach does n a some mid × HeldOnce (does more) mid n b × (sum ≡ some + more)
 
+  -- so were so many from one on
+  abbrev pub HeldFrom : (ℕ → Shard R A → Shard R A → Type 0) → (first held : ℕ) → S → ℕ → S → Type 0
+  HeldFrom does first zero a sum b = (b ≡ a) × (sum ≡ 0)
+  HeldFrom does first (suc n) a sum b = (mid : S) × (some : ℕ) × (more : ℕ) × HeldFrom does first n a some mid × HeldOnce (does more) mid (first + n) b × (sum ≡ some + more)
+
   -- the hold of one of them stopped it
   pub record StoppedBy (does : ℕ → Shard R A → Shard R A → Type 0) (stops : Shard R A → Shard R A → Type 0) (count : ℕ) (a b : S) : Type 0 where
     pub place : ℕ

@@ -42,3 +42,12 @@ pub struct Synced {
     pub group: u64,
     pub thin: u64,
 }
+
+/// A sync that is under way: its group is closing in all metaslabs, those below the next one are sealed, and so many blocks
+/// of these are thin.
+#[derive(Clone, Copy)]
+pub struct Syncing {
+    pub group: u64,
+    pub next: u32,
+    pub thin: u64,
+}

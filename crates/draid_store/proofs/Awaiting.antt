@@ -6,7 +6,6 @@ use Rattle.draid_rack.specs.declared.Rack as racks
 use Rattle.draid_area.specs.declared.Area as areas
 use Rattle.draid_machine.specs.declared.names.Key.{Key}
 use Rattle.draid_objects.specs.Changes.{Write, write_of}
-use Rattle.draid_objects.proofs.Finding.{write_object}
 use Rattle.draid_entries.specs.Maps.{key_of}
 use Rattle.draid_shard.specs.Part.{layout_in}
 use Rattle.draid_session.specs.Holds.{Looked, On, view_of}
@@ -14,6 +13,7 @@ use Rattle.draid_session.specs.Looks.{OnlyLooks}
 use Rattle.draid_session.specs.State.{Metaslab, State}
 use Rattle.draid_pool.specs.Metaslabs.{IsMetaslab}
 use Rattle.draid_pool.specs.Pools.{part_in}
+use Rattle.draid_pool.proofs.Lastly.{write_object}
 use Rattle.draid_pool.proofs.Moved.{turn, with_metaslab}
 use Rattle.draid_pool.specs.Drifts.{Drifts}
 use Rattle.draid_store.specs.Frees.{FreesShard}

@@ -22,7 +22,7 @@ use Rattle.draid_objects.specs.Blocks.{Blocks, Sets}
 use Rattle.draid_objects.specs.Changes as changes
 use Rattle.draid_objects.specs.Changes.{Change, Write, Wrote, write_of}
 use Rattle.draid_objects.specs.Stores.{IsBlockOf}
-use Rattle.draid_objects.proofs.Finding.{changes_it, other_changes, write_object}
+use Rattle.draid_objects.proofs.Finding.{changes_it, other_changes}
 use Rattle.draid_entries.specs.declared.entry.Entry.{Entry}
 use Rattle.draid_entries.specs.Entries.{entry_at, held_in}
 use Rattle.draid_entries.specs.Maps.{held_at, key_of, staged}
@@ -41,6 +41,7 @@ use Rattle.draid_pool.specs.Bytes.{HasBytes, KnowsBlock}
 use Rattle.draid_pool.specs.Objects.{HasPieces, HoldsObjects, IsLastAt, blocks_of}
 use Rattle.draid_pool.specs.Pools.{part_in}
 use Rattle.draid_pool.proofs.Dids.{Done, did_quiet}
+use Rattle.draid_pool.proofs.Lastly.{write_object}
 use Rattle.draid_pool.proofs.Lists.{get_set_same, some_of}
 use Rattle.draid_pool.proofs.Moved.{blocks_at, turn, turn_back, turn_here, with_metaslab}
 use Rattle.draid_pool.proofs.Wholes.{put_elsewhere, put_here}
@@ -92,12 +93,12 @@ module _ (owns : ℕ → Bool) (x : State) (pieces : ℕ → Pieces) (m : ℕ) (
     set_at = subst (λ k. Sets old all k key (Some h)) (sym metaslab_is) set
 
     abbrev store_then : Store
-    store_then = record { changes = Wrote w ∷ x.store.changes; seq = x.store.seq + 1; floor = w.birth }
+    store_then = record { changes = Wrote w ∷ x.store.changes; marks = x.store.marks; seq = x.store.seq + 1; floor = w.birth }
 
     pub came : (earlier : Option Write) → write_of x.store.changes w.object ≡ earlier → HoldsBut owns (all_of owns) (lives_of owns earlier) (record x { store = store_then }) pieces
     came earlier earlier_is = record {
-      holds = λ c b. subst (λ cs. HoldsObjects x.geometry c (record { changes = cs; seq = x.store.seq + 1; floor = w.birth }) all pieces) (sym changes_are)
-          (subst (λ ps. HoldsObjects x.geometry c (record { changes = Wrote w ∷ own_changes owns x.store.changes; seq = x.store.seq + 1; floor = w.birth }) all ps) (turn_back m pieces)
+      holds = λ c b. subst (λ cs. HoldsObjects x.geometry c (record { changes = cs; marks = x.store.marks; seq = x.store.seq + 1; floor = w.birth }) all pieces) (sym changes_are)
+          (subst (λ ps. HoldsObjects x.geometry c (record { changes = Wrote w ∷ own_changes owns x.store.changes; marks = x.store.marks; seq = x.store.seq + 1; floor = w.birth }) all ps) (turn_back m pieces)
           (written_holds x.geometry c (own_store owns x.store) old pieces (known.holds c b) m w.object (pieces m) (λ k other. refl) w refl seq_is metaslab_is later all h live of set_at has));
       only = λ n k i there_i is_live. subst (λ cs. IsLastAt n k (write_of cs k.object)) (sym changes_are) (by earlier earlier_is n k i there_i is_live);
     }
@@ -125,9 +126,9 @@ module _ (owns : ℕ → Bool) (x : State) (pieces : ℕ → Pieces) (m : ℕ) (
 
 -- nothing came: the number is used up
 pub gone : (owns : ℕ → Bool) (x : State) (pieces : ℕ → Pieces) (m object group : ℕ) → x.store.floor ≤ group → HoldsOwn owns x pieces
-    → HoldsOwn owns (record x { store = record { changes = x.store.changes; seq = x.store.seq + 1; floor = group } }) pieces
+    → HoldsOwn owns (record x { store = record { changes = x.store.changes; marks = x.store.marks; seq = x.store.seq + 1; floor = group } }) pieces
 gone owns x pieces m object group later h = record {
-  holds = λ c b. subst (λ ps. HoldsObjects x.geometry c (record { changes = own_changes owns x.store.changes; seq = x.store.seq + 1; floor = group }) (own_blocks (all_of owns) (blocks_of x.metaslabs)) ps) (turn_back m pieces)
+  holds = λ c b. subst (λ ps. HoldsObjects x.geometry c (record { changes = own_changes owns x.store.changes; marks = x.store.marks; seq = x.store.seq + 1; floor = group }) (own_blocks (all_of owns) (blocks_of x.metaslabs)) ps) (turn_back m pieces)
       (missed_holds x.geometry c (own_store owns x.store) (own_blocks (all_of owns) (blocks_of x.metaslabs)) pieces (h.holds c b) m object (pieces m) (λ k other. refl) group later);
   only = h.only;
 }
@@ -211,12 +212,12 @@ module _ {R A S : Type 0} (rack : racks.Ghosts R) (area : areas.Ghosts A) (went 
   -- ---- more columns than the parity landed nowhere
 
   pub missed_step : (missed : Missed) (fin : FinishesShard rack before ticket block (Err missed) after)
-      → LeadsBy rack area went shared a b x (λ holds store. EndsIn m (key_of ticket.pointer) ticket.missed holds × (x.geometry.spec.parity < ticket.missed) × (store ≡ record { changes = x.store.changes; seq = x.store.seq + 1; floor = ticket.pointer.birth }))
+      → LeadsBy rack area went shared a b x (λ holds store. EndsIn m (key_of ticket.pointer) ticket.missed holds × (x.geometry.spec.parity < ticket.missed) × (store ≡ record { changes = x.store.changes; marks = x.store.marks; seq = x.store.seq + 1; floor = ticket.pointer.birth }))
       (Knows rack area owns new table (seq + 1) ticket.pointer.birth)
   missed_step missed fin = record {
     holds = _;
     reached = with_metaslab x m (d (Err missed) fin None fin.ends.2).reached;
-    store = record { changes = x.store.changes; seq = x.store.seq + 1; floor = ticket.pointer.birth };
+    store = record { changes = x.store.changes; marks = x.store.marks; seq = x.store.seq + 1; floor = ticket.pointer.birth };
     follows = followed (Err missed) fin None fin.ends.2;
     done = (ends (Err missed) fin None fin.ends.2, subst (λ n. n < ticket.missed) (ap (λ (q : Part). q.geometry.spec.parity) z.is.part_is) fin.ends.1, refl);
     knows = record {
@@ -242,7 +243,7 @@ module _ {R A S : Type 0} (rack : racks.Ghosts R) (area : areas.Ghosts A) (went 
       → ((q : ℕ) → table_then q ≡ cond (nat_eq ticket.pointer.object q) (Some pointer) (table q)) → ticket.next ≡ x.geometry.g
       → LeadsBy rack area went shared a b x
       (λ holds store. EndsIn m (key_of ticket.pointer) ticket.missed holds × (ticket.missed ≤ x.geometry.spec.parity)
-      × (store ≡ record { changes = Wrote (record { object = ticket.pointer.object; seq = x.store.seq + 1; metaslab = m; birth = ticket.pointer.birth; bytes = block.bytes }) ∷ x.store.changes; seq = x.store.seq + 1; floor = ticket.pointer.birth }))
+      × (store ≡ record { changes = Wrote (record { object = ticket.pointer.object; seq = x.store.seq + 1; metaslab = m; birth = ticket.pointer.birth; bytes = block.bytes }) ∷ x.store.changes; marks = x.store.marks; seq = x.store.seq + 1; floor = ticket.pointer.birth }))
       (KnowsReplaced rack area owns new table_then (seq + 1) ticket.pointer.birth (table ticket.pointer.object) (write_of x.store.changes ticket.pointer.object))
   stored_step pointer fin table_then sets_table whole = record {
     holds = _;
@@ -263,7 +264,7 @@ module _ {R A S : Type 0} (rack : racks.Ghosts R) (area : areas.Ghosts A) (went 
       w = record { object = ticket.pointer.object; seq = x.store.seq + 1; metaslab = m; birth = ticket.pointer.birth; bytes = block.bytes }
 
       store_then : Store
-      store_then = record { changes = Wrote w ∷ x.store.changes; seq = x.store.seq + 1; floor = ticket.pointer.birth }
+      store_then = record { changes = Wrote w ∷ x.store.changes; marks = x.store.marks; seq = x.store.seq + 1; floor = ticket.pointer.birth }
 
       s : KnowsBut rack area owns seen seen new table seq floor pieces_then x_now
       s = stepped (Ok pointer) fin (Some (staged stage.Live ticket.pointer)) fin.ends.2
@@ -366,6 +367,6 @@ module _ {R A S : Type 0} (rack : racks.Ghosts R) (area : areas.Ghosts A) (went 
           older : we.seq ≤ x.store.seq
           older =
               let h = hidden.holds (bound_in x_now.metaslabs) (all_low x_now) in
-              let found = last_live sha256 (bound_in x_now.metaslabs) ticket.pointer.object (own_changes owns x.store.changes)
+              let found = last_live sha256 (bound_in x_now.metaslabs) ticket.pointer.object (own_changes owns x.store.changes) []
               (own_blocks (but m (changes.key_of w) (all_of owns)) (blocks_of x_now.metaslabs)) we h.stores (write_own owns x.store.changes ticket.pointer.object open_.own ∙ was_is) in
               h.numbered we.metaslab (changes.key_of we) found.0 found.1

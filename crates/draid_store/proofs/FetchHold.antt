@@ -13,7 +13,6 @@ use Rattle.draid_machine.specs.declared.event.Event.TheVariants as event
 use Rattle.draid_machine.specs.After.{is_freed_block}
 use Rattle.draid_machine.specs.declared.names.Key.{Key}
 use Rattle.draid_objects.specs.Changes.{Change, Write, key_of, write_of}
-use Rattle.draid_objects.proofs.Finding.{by_last, write_object}
 use Rattle.draid_objects.proofs.Imaging.{last_live}
 use Rattle.draid_entries.specs.History.{left_for_groups}
 use Rattle.draid_entries.specs.Maps as maps
@@ -34,6 +33,7 @@ use Rattle.draid_pool.specs.Threads.{CarriesBy, IsPointerAt, Knows, all_of, own_
 use Rattle.draid_pool.proofs.Contents.{all_long}
 use Rattle.draid_pool.proofs.Finds.{Found, all_low, bound_in, found_drops, found_later, looks, pointed_at, pointed_nowhere, points_at_on}
 use Rattle.draid_pool.proofs.HoldStep.{each_on, f, follows, here, live_key, pointer_at_on}
+use Rattle.draid_pool.proofs.Lastly.{by_last, write_object}
 use Rattle.draid_pool.proofs.Moved.{blocks_at, turn, with_metaslab}
 use Rattle.draid_pool.proofs.OneHold.{worn_is}
 use Rattle.draid_pool.proofs.Owning.{StaysAt, own_drifts, own_is, pieces_since, write_own}
@@ -82,8 +82,8 @@ module _ {R A S : Type 0} (rack : racks.Ghosts R) (area : areas.Ghosts A) (went 
       let holds : HoldsObjects x.geometry c (own_store owns x.store) (own_blocks (all_of owns) (blocks_of x.metaslabs)) knows.pieces = knows.but_it.holds.holds c (all_low x) in
       let cs : List Change = own_changes owns x.store.changes in
       let last_w : write_of cs object ≡ Some w = write_own owns x.store.changes object own ∙ found_w.1 in
-      let live = last_live sha256 c object cs (own_blocks (all_of owns) (blocks_of x.metaslabs)) w holds.stores last_w in
-      let has : HasPieces x.geometry w (knows.pieces w.metaslab) = holds.bytes w.metaslab (key_of w) live.0 w live.1 (by_last cs object w last_w) in
+      let live = last_live sha256 c object cs [] (own_blocks (all_of owns) (blocks_of x.metaslabs)) w holds.stores last_w in
+      let has : HasPieces x.geometry w (knows.pieces w.metaslab) = holds.bytes w.metaslab (key_of w) live.0 w live.1 (by_last sha256 c cs [] (own_blocks (all_of owns) (blocks_of x.metaslabs)) object w holds.stores last_w) in
       let mine : owns w.object ≡ true = ap owns (write_object x.store.changes object w found_w.1) ∙ own in
       let here_w : own_blocks (all_of owns) (blocks_of x.metaslabs) p.metaslab (key_of w) ≡ Some live.0 = subst (λ n. own_blocks (all_of owns) (blocks_of x.metaslabs) n (key_of w) ≡ Some live.0) (sym of.metaslab_is) live.1 in
       let held : y.0.world.core.held (key_of w) ≡ Some live.0 = sym (own_is (all_of owns) (blocks_of x.metaslabs) p.metaslab (key_of w) mine ∙ blocks_at x.metaslabs p.metaslab y.0 (key_of w) y.1) ∙ here_w in

@@ -12,7 +12,7 @@ use Rattle.draid_machine.proofs.Small.{equal}
 use Rattle.draid_segments.specs.Segments.{Pieces}
 use Rattle.draid_objects.specs.Changes as changes
 use Rattle.draid_objects.specs.Changes.{Change, Freed, Write, write_of}
-use Rattle.draid_objects.proofs.Finding.{changes_it, other_changes, write_object}
+use Rattle.draid_objects.proofs.Finding.{changes_it, other_changes}
 use Rattle.draid_entries.specs.Maps.{key_of}
 use Rattle.draid_shard.specs.Part.{layout_in}
 use Rattle.draid_shard.specs.declared.shard.Shard.{Shard}
@@ -22,6 +22,7 @@ use Rattle.draid_session.specs.State.{Metaslab, State, Store}
 use Rattle.draid_pool.specs.Metaslabs.{IsMetaslab}
 use Rattle.draid_pool.specs.Pools.{part_in}
 use Rattle.draid_pool.specs.Shards.{FollowsIn, FreesIn, Goes}
+use Rattle.draid_pool.proofs.Lastly.{write_object}
 use Rattle.draid_pool.proofs.Wholes.{put_here, put_elsewhere}
 use Rattle.draid_store.proofs.FreeKeeps.{same_key}
 use Rattle.draid_pool.proofs.Lists.{get_set_same, set_twice}
@@ -105,16 +106,16 @@ module _ {R A S : Type 0} (rack : racks.Ghosts R) (area : areas.Ghosts A) (went 
       later : x.store.floor ≤ group
       later = (let a = g.done.group_is in let b = knows.but_it.floor in omega (arith, a, b))
 
-      freed_at : HoldsOwn owns (record (with_metaslab (with_metaslab x m z.z) m r) { store = record { changes = Freed p.object group ∷ x.store.changes; seq = x.store.seq; floor = group } }) pieces
+      freed_at : HoldsOwn owns (record (with_metaslab (with_metaslab x m z.z) m r) { store = record { changes = Freed p.object group ∷ x.store.changes; marks = x.store.marks; seq = x.store.seq; floor = group } }) pieces
       freed_at = own_freed owns (with_metaslab x m z.z) m z.z r pieces (get_set_same x.metaslabs m y.0 z.z y.1) (key_of p) (ap owns mine_p ∙ own) g.done.held g.done.found g.done.live group later g.done.made g.done.committed
           w (ap (write_of x.store.changes) mine_p ∙ found_w.1) (sym key) (sym of.metaslab_is) holds_found
 
       store : Store
-      store = record { changes = Freed object group ∷ x.store.changes; seq = x.store.seq; floor = group }
+      store = record { changes = Freed object group ∷ x.store.changes; marks = x.store.marks; seq = x.store.seq; floor = group }
 
       holds_after : HoldsOwn owns (record x { metaslabs = slice_set x.metaslabs m r; store = store }) pieces
-      holds_after = subst (λ o. HoldsOwn owns (record x { metaslabs = slice_set x.metaslabs m r; store = record { changes = Freed o group ∷ x.store.changes; seq = x.store.seq; floor = group } }) pieces) mine_p
-          (subst (λ ms. HoldsOwn owns (record x { metaslabs = ms; store = record { changes = Freed p.object group ∷ x.store.changes; seq = x.store.seq; floor = group } }) pieces) (set_twice x.metaslabs m z.z r) freed_at)
+      holds_after = subst (λ o. HoldsOwn owns (record x { metaslabs = slice_set x.metaslabs m r; store = record { changes = Freed o group ∷ x.store.changes; marks = x.store.marks; seq = x.store.seq; floor = group } }) pieces) mine_p
+          (subst (λ ms. HoldsOwn owns (record x { metaslabs = ms; store = record { changes = Freed p.object group ∷ x.store.changes; marks = x.store.marks; seq = x.store.seq; floor = group } }) pieces) (set_twice x.metaslabs m z.z r) freed_at)
 
       points : (q : ℕ) → owns q ≡ true → PointsAt new (table' q) (write_of store.changes q)
       points q own_q = dite (ℕ_discrete object q)

@@ -1,5 +1,5 @@
 -- What a thread knows of a pool's state, as it frees an object of its own.
-use Rattle.std.proofs.Common.{◌≡◌, ◌≤◌, ◌∙◌, arith, ℕ, Bool, true, ◌∷◌, Option, Some, sym, ap, subst, slice_set, cond}
+use Rattle.std.proofs.Common.{◌≡◌, ◌≤◌, ◌∙◌, arith, ℕ, Bool, true, ◌∷◌, Option, Some, None, sym, ap, subst, slice_set, cond}
 use Rattle.std.specs.Prelude.{slice_get}
 use Rattle.draid_machine.specs.declared.names.Key.{Key}
 use Rattle.draid_machine.specs.declared.names.Held.{Held}
@@ -41,18 +41,18 @@ module _ (owns : ℕ → Bool) (x : State) (m : ℕ) (z r : Metaslab) (pieces : 
   last_own : write_of (own_changes owns x.store.changes) key.object ≡ Some w
   last_own = write_own owns x.store.changes key.object own ∙ last
 
-  one : IsOnlyLive old_blocks m key
-  one = subst (λ n. IsOnlyLive old_blocks n key) here (only_live old_blocks (own_changes owns x.store.changes) w key holds.only last_own key_is)
+  one : IsOnlyLive None old_blocks m key
+  one = subst (λ n. IsOnlyLive None old_blocks n key) here (only_live old_blocks (own_changes owns x.store.changes) w key holds.only last_own key_is)
 
   changes_are : own_changes owns (Freed key.object group ∷ x.store.changes) ≡ Freed key.object group ∷ own_changes owns x.store.changes
   changes_are = ap (λ b. cond b (Freed key.object group ∷ own_changes owns x.store.changes) (own_changes owns x.store.changes)) own
 
   abbrev new_store : Store
-  new_store = record { changes = Freed key.object group ∷ x.store.changes; seq = x.store.seq; floor = group }
+  new_store = record { changes = Freed key.object group ∷ x.store.changes; marks = x.store.marks; seq = x.store.seq; floor = group }
 
   pub own_freed : HoldsOwn owns (record x { metaslabs = slice_set x.metaslabs m r; store = new_store }) pieces
   own_freed = record {
-    holds = λ c b. subst (λ cs. HoldsObjects x.geometry c (record { changes = cs; seq = x.store.seq; floor = group }) new_blocks pieces) (sym changes_are)
+    holds = λ c b. subst (λ cs. HoldsObjects x.geometry c (record { changes = cs; marks = x.store.marks; seq = x.store.seq; floor = group }) new_blocks pieces) (sym changes_are)
         (freed_holds x.geometry c (own_store owns x.store) old_blocks new_blocks pieces (holds.holds c (bound_before x m z r at c (let e = committed in omega (arith, e)) b)) m key h there live group later set one);
     only = λ n k i there_i is_live. subst (λ cs. IsLastAt n k (write_of cs k.object)) (sym changes_are)
         (freed_only x.geometry (bound_in x.metaslabs) (own_store owns x.store) old_blocks new_blocks pieces (holds.holds (bound_in x.metaslabs) (all_low x)) m key h there live group later set holds.only w last_own key_is here n k i there_i is_live);

@@ -15,7 +15,6 @@ use Rattle.draid_segments.specs.Segments.{Pieces}
 use Rattle.draid_objects.specs.Blocks.{Blocks, Sets}
 use Rattle.draid_objects.specs.Changes as changes
 use Rattle.draid_objects.specs.Changes.{Write, write_of}
-use Rattle.draid_objects.proofs.Finding.{write_object}
 use Rattle.draid_objects.proofs.One.{one_set}
 use Rattle.draid_entries.specs.Entries.{held_in}
 use Rattle.draid_entries.specs.Maps.{held_at, key_of, staged}
@@ -32,6 +31,7 @@ use Rattle.draid_pool.specs.Objects.{blocks_of, worlds_of}
 use Rattle.draid_pool.specs.Pools.{part_in}
 use Rattle.draid_pool.specs.Shards.{FollowsIn, FreesIn, Goes}
 use Rattle.draid_pool.proofs.Entering.{older_holds, still}
+use Rattle.draid_pool.proofs.Lastly.{write_object}
 use Rattle.draid_pool.proofs.Lists.{get_set_same, set_twice, some_of}
 use Rattle.draid_pool.proofs.Moved.{blocks_at, moves_one, turn, with_metaslab}
 use Rattle.draid_store.proofs.FreeKeeps.{same_key}

@@ -66,7 +66,7 @@ module _ {R A S : Type 0} (rack : racks.Ghosts R) (area : areas.Ghosts A) (went 
     pub we : Write
     pub before_is : before ≡ Some we
     pub frees_it : written.FreesBlock we birth group holds
-    pub made : store ≡ record { changes = (store_with old object m birth block.bytes).changes; seq = old.seq + 1; floor = group }
+    pub made : store ≡ record { changes = (store_with old object m birth block.bytes).changes; marks = old.marks; seq = old.seq + 1; floor = group }
 
   pub record LooksDoes (old : Store) (holds : List Hold) (store : Store) : Type 0 where
     pub looks : OnlyLooks holds

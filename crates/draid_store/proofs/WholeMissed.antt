@@ -23,7 +23,7 @@ use Rattle.draid_store.proofs.WholeWrite.{writes_block}
 
 -- the store as the write is given up
 abbrev pub store_without : Store → ℕ → Store
-store_without store birth = record { changes = store.changes; seq = store.seq + 1; floor = birth }
+store_without store birth = record { changes = store.changes; marks = store.marks; seq = store.seq + 1; floor = birth }
 
 module _ {R A S : Type 0} (rack : racks.Ghosts R) (area : areas.Ghosts A) (went : S → ℕ → Shard R A → Shard R A → S → Type 0) (shared : Bool) (owns : ℕ → Bool) (l1 l2 l3 : ℕ → Option (Shard R A)) (s0 s1 s2 s3 : S) (m object : ℕ)
     (first ticket : Ticket) (block : BlockValue) (table : ℕ → Option Pointer) (seq floor : ℕ) (x : State) (same : ticket.pointer ≡ first.pointer) (object_is : first.pointer.object ≡ object) (seq_is : first.pointer.seq ≡ seq + 1)

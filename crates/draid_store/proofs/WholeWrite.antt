@@ -80,7 +80,7 @@ module _ {R A S : Type 0} (rack : racks.Ghosts R) (area : areas.Ghosts A) (went 
 
   abbrev FreesDoes : List Hold → Store → Type 0
   FreesDoes holds store = (we : Write) × (write_of x.store.changes object ≡ Some we) × written.FreesBlock we first.pointer.birth group holds
-      × (store ≡ record { changes = Wrote (record { object = object; seq = x.store.seq + 1; metaslab = m; birth = first.pointer.birth; bytes = block.bytes }) ∷ x.store.changes; seq = x.store.seq + 1; floor = group })
+      × (store ≡ record { changes = Wrote (record { object = object; seq = x.store.seq + 1; metaslab = m; birth = first.pointer.birth; bytes = block.bytes }) ∷ x.store.changes; marks = x.store.marks; seq = x.store.seq + 1; floor = group })
 
   -- the columns, and the end
   rest : (y : State) → y.geometry ≡ x.geometry → y.store ≡ x.store → KnowsOpen rack area owns l1 table seq floor m first block y

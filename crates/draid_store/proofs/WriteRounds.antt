@@ -62,6 +62,7 @@ record WroteIn (g : Geometry) (t : Store) (m o : ℕ) (bytes : List ℕ) (holds 
   pub frees : written.FreesEarlier (write_of t.changes o) birth group back
   pub made : new ≡ record {
     changes = Wrote (record { object = o; seq = t.seq + 1; metaslab = m; birth = birth; bytes = bytes }) ∷ t.changes;
+    marks = t.marks;
     seq = t.seq + 1;
     floor = group;
   }
@@ -70,7 +71,7 @@ record MissedIn (g : Geometry) (t : Store) (m o : ℕ) (bytes : List ℕ) (colum
   pub birth : ℕ
   pub writes : written.WritesBlock g o (t.seq + 1) bytes t.floor m birth columns holds
   pub over : g.spec.parity < columns
-  pub made : new ≡ record { changes = t.changes; seq = t.seq + 1; floor = birth }
+  pub made : new ≡ record { changes = t.changes; marks = t.marks; seq = t.seq + 1; floor = birth }
 
 record WaitsIn (g : Geometry) (t : Store) (m o birth : ℕ) (bytes : List ℕ) (holds : List Hold) (new : Store) : Type 0 where
   pub columns : ℕ

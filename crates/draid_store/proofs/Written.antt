@@ -1,5 +1,5 @@
 -- What the blocks store as a block comes, or as a write is given up.
-use Rattle.std.proofs.Common.{◌≡◌, ◌==◌, ◌≤◌, ◌+◌, ◌⊎◌, ◌∙◌, inl, inr, ℕ, Bool, true, false, ◌∷◌, Option, Some, arith, refl, sym, ap, subst}
+use Rattle.std.proofs.Common.{◌≡◌, ◌==◌, ◌≤◌, ◌+◌, ◌⊎◌, ◌∙◌, inl, inr, ℕ, Bool, true, false, [], ◌∷◌, Option, Some, arith, refl, sym, ap, subst}
 use Rattle.std.proofs.lemmas.Bool.{cases_eq}
 use Rattle.sha2.specs.Sha256.{sha256}
 use Rattle.draid_spec.specs.declared.layout.Geometry.{Geometry}
@@ -23,6 +23,7 @@ use Rattle.draid_pool.proofs.Entering.{OnlyLast}
 use Rattle.std.proofs.lemmas.Bool.Decides.{nat_tests}
 use Rattle.draid_pool.proofs.Moved.{turn, turn_here, turn_other}
 use Rattle.draid_pool.proofs.Owning.{pieces_on}
+use Rattle.draid_pool.proofs.Unmarked.{all_behind}
 
 differs : (object o : ℕ) → (o == object) ≡ false → (object == o) ≡ false
 differs object o other = grind (arith, nat_tests, other)
@@ -53,9 +54,10 @@ module _ (geometry : Geometry) (committed : ℕ) (store : Store) (old : Blocks) 
       pieces_on geometry w (pieces n) (turn m now pieces n) (ap (λ j. turn m now pieces n j) its ∙ (turned_pieces n k h there ∙ ap (λ j. pieces n j) (sym its))) (holds.bytes n k h w there by)
 
   -- nothing came
-  pub missed_holds : (group : ℕ) → store.floor ≤ group → HoldsObjects geometry committed (record { changes = store.changes; seq = store.seq + 1; floor = group }) old (turn m now pieces)
+  pub missed_holds : (group : ℕ) → store.floor ≤ group → HoldsObjects geometry committed (record { changes = store.changes; marks = store.marks; seq = store.seq + 1; floor = group }) old (turn m now pieces)
   missed_holds group later = record {
     stores = holds.stores;
+    unmarked = holds.unmarked;
     floors = λ o. floor_up store.changes old o store.floor group (holds.floors o) later;
     settled = holds.settled;
     numbered = λ n k h there. (let low = holds.numbered n k h there in omega (arith, low));
@@ -71,11 +73,12 @@ module _ (geometry : Geometry) (committed : ℕ) (store : Store) (old : Blocks) 
     some_is : {A : Type 0} (o : Option A) (x y : A) → o ≡ Some x → o ≡ Some y → x ≡ y
     some_is o x y a b = (let e = sym a ∙ b in cc)
 
-    pub written_holds : HoldsObjects geometry committed (record { changes = Wrote w ∷ store.changes; seq = store.seq + 1; floor = w.birth }) new (turn m now pieces)
+    pub written_holds : HoldsObjects geometry committed (record { changes = Wrote w ∷ store.changes; marks = store.marks; seq = store.seq + 1; floor = w.birth }) new (turn m now pieces)
     written_holds = record {
-      stores = written sha256 committed store.changes old new w h holds.stores (floor_up store.changes old w.object store.floor w.birth (holds.floors w.object) later)
-          (λ n k i there block object. (let low = holds.numbered n k i there in omega (arith, low, seq_is))) live of sets;
+      stores = written sha256 committed store.changes [] old new w h holds.stores (floor_up store.changes old w.object store.floor w.birth (holds.floors w.object) later)
+          (λ n k i there block object. (let low = holds.numbered n k i there in omega (arith, low, seq_is))) live of (all_behind committed w.birth) sets;
       floors = λ o. written_floor store.changes old new w h o w.birth live sets (λ is. omega arith) (floor_up store.changes old o store.floor w.birth (holds.floors o) later);
+      unmarked = holds.unmarked;
       settled = λ n k i there. elim (set_cases old new w.metaslab (changes.key_of w) (Some h) sets n k) [
         | inl z ↦ subst (λ (x : Held). is_block x.stage ≡ true) (some_is (new n k) h i z.2 there) (ap is_block live)
         | inr z ↦ holds.settled n k i (sym z.0 ∙ there)

@@ -69,6 +69,7 @@ pub record WritesIn (x : State) (m o : ℕ) (bytes : List ℕ) (holds : List Hol
   pub frees : written.FreesEarlier (write_of x.store.changes o) birth group back
   pub made : new ≡ record {
     changes = Wrote (record { object = o; seq = x.store.seq + 1; metaslab = m; birth = birth; bytes = bytes }) ∷ x.store.changes;
+    marks = x.store.marks;
     seq = x.store.seq + 1;
     floor = group;
   }
@@ -78,7 +79,7 @@ pub record MissesIn (x : State) (m o : ℕ) (bytes : List ℕ) (columns : ℕ) (
   pub birth : ℕ
   pub writes : written.WritesBlock x.geometry o (x.store.seq + 1) bytes x.store.floor m birth columns holds
   pub over : x.geometry.spec.parity < columns
-  pub made : new ≡ record { changes = x.store.changes; seq = x.store.seq + 1; floor = birth }
+  pub made : new ≡ record { changes = x.store.changes; marks = x.store.marks; seq = x.store.seq + 1; floor = birth }
 
 -- a write in metaslab m, which has room
 abbrev pub WriteInDoes : State → ℕ → ℕ → List ℕ → Result Unit WriteFault → List Hold → Store → Type 0

@@ -133,8 +133,8 @@ module _ {R A S : Type 0} (rack : racks.Ghosts R) (area : areas.Ghosts A) (went 
   EndSays (Ok pointer) = (table then_table : ℕ → Option Pointer) (seq floor : ℕ) (x : State) → ((q : ℕ) → then_table q ≡ cond (nat_eq ticket.pointer.object q) (Some pointer) (table q)) → ticket.next ≡ x.geometry.g → KnowsOpen rack area owns last table seq floor m ticket block x
       → LeadsBy rack area went shared a b x
       (λ holds store. EndsIn m (key_of ticket.pointer) ticket.missed holds × (ticket.missed ≤ x.geometry.spec.parity)
-      × (store ≡ record { changes = Wrote (record { object = ticket.pointer.object; seq = x.store.seq + 1; metaslab = m; birth = ticket.pointer.birth; bytes = block.bytes }) ∷ x.store.changes; seq = x.store.seq + 1; floor = ticket.pointer.birth }))
+      × (store ≡ record { changes = Wrote (record { object = ticket.pointer.object; seq = x.store.seq + 1; metaslab = m; birth = ticket.pointer.birth; bytes = block.bytes }) ∷ x.store.changes; marks = x.store.marks; seq = x.store.seq + 1; floor = ticket.pointer.birth }))
       (KnowsReplaced rack area now_owns now then_table (seq + 1) ticket.pointer.birth (table ticket.pointer.object) (write_of x.store.changes ticket.pointer.object))
   EndSays (Err missed) = (missed.columns ≡ ticket.missed) × ((table : ℕ → Option Pointer) (seq floor : ℕ) (x : State) → KnowsOpen rack area owns last table seq floor m ticket block x
-      → LeadsBy rack area went shared a b x (λ holds store. EndsIn m (key_of ticket.pointer) ticket.missed holds × (x.geometry.spec.parity < ticket.missed) × (store ≡ record { changes = x.store.changes; seq = x.store.seq + 1; floor = ticket.pointer.birth }))
+      → LeadsBy rack area went shared a b x (λ holds store. EndsIn m (key_of ticket.pointer) ticket.missed holds × (x.geometry.spec.parity < ticket.missed) × (store ≡ record { changes = x.store.changes; marks = x.store.marks; seq = x.store.seq + 1; floor = ticket.pointer.birth }))
       (Knows rack area now_owns now table (seq + 1) ticket.pointer.birth))

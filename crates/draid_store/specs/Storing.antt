@@ -25,7 +25,7 @@ use Rattle.draid_shard.specs.declared.shard.Shard.{Shard}
 
 -- the store as the block has come
 abbrev pub store_with : Store → ℕ → ℕ → ℕ → List ℕ → Store
-store_with store object m birth bytes = record { changes = Wrote (record { object = object; seq = store.seq + 1; metaslab = m; birth = birth; bytes = bytes }) ∷ store.changes; seq = store.seq + 1; floor = birth }
+store_with store object m birth bytes = record { changes = Wrote (record { object = object; seq = store.seq + 1; metaslab = m; birth = birth; bytes = bytes }) ∷ store.changes; marks = store.marks; seq = store.seq + 1; floor = birth }
 
 -- a block of these bytes was written in metaslab m, and the one that the object had is live yet
 pub record StoresIn (x : State) (m object birth : ℕ) (bytes : List ℕ) (holds : List Hold) (store : Store) : Type 0 where

@@ -1,6 +1,6 @@
 -- A block of a scrub is lent in a metaslab of a pool, restored, and lands.
-use Rattle.std.proofs.Common.{◌≡◌, ◌<◌, ◌≤◌, ◌+◌, ◌*◌, ◌^◌, ◌⊎◌, ◌∙◌, inl, inr, [], ◌∷◌, ℕ, Bool, true, false, List, Option, Some, None, arith, refl, sym, ap, subst, length, if◌then◌else◌, min, suc, zero}
-use Rattle.std.specs.Prelude.{IfSome, IsSomeAnd, OnOk, Result, Ok, Err, is_err, is_none, option_map, slice_index, IsSome}
+use Rattle.std.proofs.Common.{◌≡◌, ◌<◌, ◌≤◌, ◌+◌, ◌*◌, ◌^◌, ◌⊎◌, ◌∙◌, inl, inr, [], ◌∷◌, ◌++◌, ℕ, Bool, true, false, List, Option, Some, None, arith, refl, sym, ap, subst, length, if◌then◌else◌, min, suc, zero}
+use Rattle.std.specs.Prelude.{IfSome, IsSomeAnd, OnOk, Result, Ok, Err, is_err, is_none, option_map, slice_index, slice_index_or, IsSome}
 use Rattle.std.proofs.lemmas.Bool.{true≢false}
 use Rattle.std.proofs.lemmas.List.Sums.{count_by-le-length}
 use Rattle.sha2.specs.Sha256.{sha256}
@@ -19,7 +19,7 @@ use Rattle.draid_machine.specs.declared.names.Held.{Held}
 use Rattle.draid_machine.specs.declared.names.Key.{Key}
 use Rattle.draid_machine.specs.declared.names.ArmName.{ArmName}
 use Rattle.draid_machine.specs.declared.event.Patched.{Patched}
-use Rattle.draid_machine.specs.Names.{any_below, is_block, key_eq}
+use Rattle.draid_machine.specs.Names.{any_below, count_below, is_block, key_eq}
 use Rattle.draid_machine.specs.After.{has_landed, rewritten}
 use Rattle.draid_machine.specs.State as machine
 use Rattle.draid_machine.specs.Step.{Step}
@@ -36,7 +36,7 @@ use Rattle.draid_shard.specs.Lends.{GoesOnAt, lend_events}
 use Rattle.draid_shard.specs.Loans.{IsKept, IsLentBlock, block_loan, loan_in}
 use Rattle.draid_shard.specs.Part.{Part, layout_in}
 use Rattle.draid_shard.specs.Rooms.{IsWornFor}
-use Rattle.draid_shard.specs.States.{DoesNone, layout_by, part_of}
+use Rattle.draid_shard.specs.States.{DoesNone, layout_by, part_of, stored_in}
 use Rattle.draid_shard.specs.declared.loan.KeptLoan.{KeptLoan}
 use Rattle.draid_shard.specs.declared.loan.KeptLoan.TheVariants.{Block}
 use Rattle.draid_shard.specs.declared.loan.LentBlock.{LentBlock}
@@ -57,12 +57,14 @@ use Rattle.draid_pool.proofs.Dids.{none_here}
 use Rattle.draid_pool.proofs.Imaged.{keeps_then}
 use Rattle.draid_pool.specs.Bytes.{HasBytes, KeepsContents, KnowsBlocks, SamePieces}
 use Rattle.draid_visits.specs.Pieces.{GoesTo}
-use Rattle.draid_visits.specs.Steps.{HasContents, MovesOn, NextIs}
+use Rattle.draid_visits.specs.Steps.{HasContents, MovesOn, NextIs, TellsLanding}
+use Rattle.draid_visits.specs.declared.steps.Next.{Next}
 use Rattle.draid_visits.specs.declared.steps.Next.TheVariants as next
 use Rattle.draid_visits.proofs.Beyond.{beyond, no_block}
 use Rattle.draid_visits.proofs.Landed.{Lands, landed_to}
 use Rattle.draid_visits.proofs.Lifting.{contents_by}
 use Rattle.draid_visits.proofs.Over.{told_worn}
+use Rattle.draid_visits.proofs.Sourced.{sourced}
 use Rattle.draid_visits.proofs.Started.{fits}
 use Rattle.draid_visits.proofs.PassSteps.{Leaves, block_leaves, pieces_either, raised, rebuild_did, rebuild_leaves}
 use Rattle.draid_pool.proofs.Bytes.{same_bytes}
@@ -73,6 +75,10 @@ on_ok (Err e) P is holds = absurd (true≢false is)
 
 pub landed_is : (told repaired : ℕ) → next.Landed told ≡ next.Landed repaired → repaired ≡ told
 landed_is told repaired is = cc
+
+pub never_landed : (came : Next) (repaired : ℕ) → (came ≡ next.Paused) ⊎ ((errors : ℕ) × (came ≡ next.Ended errors)) → came ≡ next.Landed repaired → ⊥
+never_landed came repaired (inl paused) landed = absurd (cc)
+never_landed came repaired (inr ended) landed = (let e = ended.1 in absurd (cc))
 
 pub few_rewritten : (repaired told least : ℕ) → repaired ≡ least → least ≡ min told (2 ^ 8) → repaired ≤ 2 ^ 8
 few_rewritten repaired told least same is = omega (arith, same, is)
@@ -218,6 +224,21 @@ module _ {R A : Type 0} (rack : racks.Ghosts R) (old lent solved new : Shard R A
         runs = record { kind_is = q.2.kind ∙ was.is.scrub; running = q.2.running ∙ was.is.running };
         behind = omega (arith, at, low);
         inside = subst (λ g. q.0.at ≤ metaslab_stripes g) (sym same) (omega (arith, at, high));
+      }
+
+  -- it is told unreadable just where there is no answer
+  pub tells : (told : ℕ) → lands.LandsUnit rack solved new told → TellsLanding rack old new
+  tells told landed =
+      let same : landed.lent ≡ back = block_is landed.lent back (sym landed.lent_is ∙ restores.is) in
+      record {
+        mid = lent;
+        lends = unit;
+        block = restores.block;
+        answers = subst (λ (g : Geometry). AnswersBlock g (fetched_of unit.lent) restores.block) (ap (λ (p : Part). p.geometry) unit.does.part) restores.answers;
+        pass = landed.pass.number;
+        failed = landed.failed;
+        patched = landed.patched;
+        told = landed.does.stored ∙ (λ i. stored_in (only i) ++ LandBlock landed.pass.number (same i).serial landed.failed landed.patched (is_none (same i).restored) ∷ []);
       }
 
 -- ---- the metaslab
@@ -384,6 +405,19 @@ module _ {R A : Type 0} (rack : racks.Ghosts R) (area : areas.Ghosts A) (old len
         by true gone =
             beyond rack area old lent unit lent_valid solved.kept r (no_block r.block (sym (ap (λ (l : LentBlock). is_none l.restored) same_lent) ∙ gone)) part pieces x is contents_are y.world first.is.stands.is_in.loan
 
+    -- of one that was restored no more columns were taken from no arm than there are parity columns
+    few_sources : passes.LendsSourced part.geometry part.perms (view_of part.number x) y.world e
+    few_sources = by landed.lent.restored refl
+      where
+        by : (o : Option BlockValue) → landed.lent.restored ≡ o
+            → passes.LendsSourced part.geometry part.perms (view_of part.number x) y.world (LandBlock landed.pass.number landed.lent.serial landed.failed landed.patched (is_none o))
+        by None gone = tt
+        by (Some block) there = λ n loan.
+            subst (λ (m : machine.Loan). count_below part.geometry.g (λ c. is_none (m.chosen c)) ≤ part.geometry.spec.parity)
+            (some_same y.world.loan (block_loan unit.lent) n (first.is.stands.is_in.loan ∙ ap (option_map loan_in) unit.lent_is) loan)
+            (subst (λ (g : Geometry). count_below g.g (λ c. is_none (slice_index_or unit.lent.chosen.items c None)) ≤ g.spec.parity) geometry_is
+            (sourced rack old lent unit lent_valid solved.kept r block (sym (ap (λ (l : LentBlock). l.restored) same_lent) ∙ there)))
+
     both_follow : FollowsIn (layout_in part) part.number (On (view_of part.number x) (Did (Lend unit.failed) y.world) ∷ (On (view_of part.number y) (Did e second.done.reached.world) ∷ [])) x second.done.reached
     both_follow = (
       Did (Lend unit.failed) y.world,
@@ -425,6 +459,7 @@ module _ {R A : Type 0} (rack : racks.Ghosts R) (area : areas.Ghosts A) (old len
             not_worn = λ worn. not_worn (told_worn rack area part pieces old x is worn);
             lands = (block_loan landed.lent, own, loan_there, held_there, all_told);
             why = why contents_are;
+            sourced = few_sources;
           },
         ),
         record { held = two_leaves.held ∙ one_leaves.held; committed = two_leaves.committed ∙ one_leaves.committed },

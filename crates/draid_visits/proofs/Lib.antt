@@ -31,6 +31,7 @@ pub mod ReadyHolds
 pub mod Rebuilt
 pub mod Scrubbed
 pub mod SharedWhole
+pub mod Sourced
 pub mod StartHolds
 pub mod Started
 pub mod SyncStays

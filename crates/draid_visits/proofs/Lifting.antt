@@ -102,7 +102,7 @@ module _ {R A : Type 0} (rack : racks.Ghosts R) (area : areas.Ghosts A) where
         let blocks : blocks_of (slice_set x.metaslabs m y') ≡ blocks_of x.metaslabs = same_blocks x.metaslabs m y y' at same.held in
         let holds : HoldsObjects x.geometry x.committed x.store (blocks_of (slice_set x.metaslabs m y')) turned
         = subst (λ b. HoldsObjects x.geometry x.committed x.store b turned) (sym blocks)
-        (record { stores = s.holds.stores; floors = s.holds.floors; settled = s.holds.settled; numbered = s.holds.numbered; bytes = bytes_turned }) in
+        (record { stores = s.holds.stores; unmarked = s.holds.unmarked; floors = s.holds.floors; settled = s.holds.settled; numbered = s.holds.numbered; bytes = bytes_turned }) in
         record {
           stands = stands_turned rack area m pool new shard shard' (λ object. get nat_eq pool.own.objects object) (λ object. get nat_eq new.own.objects object) x y y' later x.store s t holds
               s.groups.next s.groups.last

@@ -186,6 +186,7 @@ module _ {R A : Type 0} (rack : racks.Ghosts R) (area : areas.Ghosts A) (old len
               not_worn = λ worn. not_worn (told_worn rack area part pieces old x is worn);
               lands = refl;
               why = tt;
+              sourced = tt;
             },
           ),
           record { held = two.held ∙ one.held; committed = two.committed ∙ one.committed },

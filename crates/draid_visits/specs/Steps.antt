@@ -1,8 +1,14 @@
 -- What becomes of one metaslab as a rebuild or a scrub of a pool comes to it, hold by hold.
-use Rattle.std.specs.Prelude.{◌≡◌, ◌<◌, ◌≤◌, ◌⊎◌, ⊤, ℕ, Bool, true, false, List, [], None, Some, IsSomeAnd, Result, Ok, Err}
+use Rattle.std.specs.Prelude.{◌≡◌, ◌<◌, ◌≤◌, ◌⊎◌, ◌++◌, ◌∷◌, ⊤, ℕ, Bool, true, false, List, [], None, Option, Some, is_none, IsSomeAnd, Result, Ok, Err}
+use Rattle.std.specs.declared.alloc.Global.{Global}
+use Rattle.std.specs.declared.vec.Vec.{Vec}
 use Rattle.draid_names.specs.declared.pass_kind.PassKind.{PassKind}
 use Rattle.draid_names.specs.declared.pass_kind.PassKind.TheVariants.{Rebuild}
+use Rattle.draid_rack.specs.declared.Rack as racks
 use Rattle.draid_spec.specs.Geometry.{metaslab_stripes}
+use Rattle.draid_block.specs.Blocks.{BlockValue}
+use Rattle.draid_machine.specs.declared.event.Event.TheVariants.{LandBlock}
+use Rattle.draid_machine.specs.declared.event.Patched.{Patched}
 use Rattle.draid_machine.specs.declared.names.Held.{Held}
 use Rattle.draid_machine.specs.declared.names.Key.{Key}
 use Rattle.draid_entries.specs.Entries.{SameEntries}
@@ -11,8 +17,10 @@ use Rattle.draid_segments.specs.Segments.{Pieces}
 use Rattle.draid_shard.specs.Alike.{ShareArms}
 use Rattle.draid_shard.specs.Fits.{IsLeaf}
 use Rattle.draid_shard.specs.Part.{Part}
-use Rattle.draid_shard.specs.States.{part_of}
+use Rattle.draid_shard.specs.States.{part_of, stored_in}
 use Rattle.draid_shard.specs.declared.shard.Shard.{Shard}
+use Rattle.draid_restore.specs.Loans.{LendsBlock}
+use Rattle.draid_restore.specs.Restoring.{AnswersBlock, fetched_of}
 use Rattle.draid_passing.specs.Passing.{LacksTarget}
 use Rattle.draid_passing.specs.declared.fault.PlanFault.{PlanFault}
 use Rattle.draid_passing.specs.declared.fault.PlanFault.TheVariants as plan
@@ -58,6 +66,17 @@ pub record MovesOn {R A : Type 0} (kind : PassKind) (old new : Shard R A) : Type
   pub runs : IsRunningOf kind pass
   pub behind : was.at < pass.at
   pub inside : pass.at ≤ metaslab_stripes new.geometry
+
+-- A block of a scrub was lent, and landed. The event of the landing tells that it is unreadable exactly where what was read of it has no answer.
+pub record TellsLanding {R A : Type 0} (rack : racks.Ghosts R) (old new : Shard R A) : Type 0 where
+  pub mid : Shard R A
+  pub lends : LendsBlock rack old mid
+  pub block : Option BlockValue
+  pub answers : AnswersBlock old.geometry (fetched_of lends.lent) block
+  pub pass : ℕ
+  pub failed : Vec ℕ Global
+  pub patched : Vec Patched Global
+  pub told : stored_in new ≡ stored_in mid ++ LandBlock pass lends.lent.serial failed patched (is_none block) ∷ []
 
 -- ---- holds
 

@@ -2,6 +2,7 @@
 use Rattle.std.specs.Prelude.{◌≡◌, ◌≢◌, ◌≤◌, ◌+◌, ◌^◌, ◌↔◌, ℕ, zero, suc, Bool, true, false, Option, Some, None, IsSomeAnd, IsTrue}
 use Rattle.draid_names.specs.declared.numbers.TheConstants.{LAST_NUMBER}
 use Rattle.draid_names.specs.declared.pass_kind.PassKind.{PassKind}
+use Rattle.draid_names.specs.declared.pass_kind.PassKind.TheVariants.{Heal}
 use Rattle.draid_rack.specs.declared.Rack as racks
 use Rattle.draid_area.specs.declared.Area as areas
 use Rattle.draid_segments.specs.Segments.{Pieces}
@@ -16,7 +17,7 @@ use Rattle.draid_pool.specs.Rounds.{HeldOnce}
 use Rattle.draid_pool.specs.Shards.{GoesLater, SameBlocks}
 use Rattle.draid_pool.specs.declared.fault.SyncFault.TheVariants as sync
 use Rattle.draid_visits.specs.Pieces.{GoesTo}
-use Rattle.draid_visits.specs.Steps.{HasContents, IsRunningOf, IsToLend, MovesOn, NextIs, SharesTable}
+use Rattle.draid_visits.specs.Steps.{HasContents, IsRunningOf, IsToLend, MovesOn, NextIs, SharesTable, TellsLanding}
 use Rattle.draid_visits.specs.Visiting.{IsOnly, counted}
 use Rattle.draid_visits.specs.declared.progress.Progress.{Progress}
 use Rattle.draid_visits.specs.declared.progress.Visit.{Visit}
@@ -32,13 +33,14 @@ pub record MayLendIn {R A : Type 0} (rack : racks.Ghosts R) (kind : PassKind) (s
   pub pass : IsSomeAnd shard.pass (IsToLend kind)
 
 -- The next stripe or block was lent and landed, or the pass ended, or something is left. All blocks, tickets, groups and reserved events are as they were, and so are the
--- arms, but for whether the pass has made them good.
+-- arms, but for whether the pass has made them good. Of a block it is told that it is unreadable exactly where what was read of it has no answer.
 pub record UnitIn {R A : Type 0} (rack : racks.Ghosts R) (area : areas.Ghosts A) (kind : PassKind) (used : Bool) (came : Next) (old new : Shard R A) : Type 0 where
   pub valid : Valid rack new
   pub table : SharesTable old new
   pub groups : KeepsGroups old new
   pub areas_are : SameAreas old new
   pub landed : (repaired : ℕ) → came ≡ next.Landed repaired → (used ≡ false) × MovesOn kind old new × (repaired ≤ 2 ^ 8)
+  pub tells : (repaired : ℕ) → kind ≡ Heal → came ≡ next.Landed repaired → TellsLanding rack old new
   pub ended : (errors : ℕ) → came ≡ next.Ended errors → (new.pass ≡ None) × (errors ≤ LAST_NUMBER)
   pub paused : came ≡ next.Paused → (used ≡ true) × IsSomeAnd new.pass (IsRunningOf kind)
   pub only : IsOnly kind new

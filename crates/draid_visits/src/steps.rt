@@ -1,7 +1,7 @@
 //! One metaslab as a rebuild or a scrub of a pool comes to it: its pass begins, is made to run, and ends.
 ghost use Rattle.std.specs.Prelude.{◌≡◌, ◌≤◌, ◌^◌, ◌↔◌, ◌⊎◌, ℕ, None, Ok, OnErr, OnOk, IfErr, IfOk, IfSome, IsSomeAnd, IsTrue, false, true};
 ghost use Rattle.draid_names.specs.declared.numbers.TheConstants.{LAST_NUMBER};
-ghost use Rattle.draid_names.specs.declared.pass_kind.PassKind.TheVariants.{Rebuild};
+ghost use Rattle.draid_names.specs.declared.pass_kind.PassKind.TheVariants.{Heal, Rebuild};
 ghost use Rattle.draid_spec.specs.Geometry.{metaslab_stripes};
 ghost use Rattle.draid_segments.specs.Segments.{Pieces};
 ghost use Rattle.draid_pass.specs.declared.pass.Pass.{Pass};
@@ -20,7 +20,7 @@ ghost use Rattle.draid_pool.specs.Metaslabs.{IsMetaslab};
 ghost use Rattle.draid_pool.specs.Shards.{Goes, GoesLater, SameBlocks};
 ghost use Rattle.draid_pool.specs.Syncing.{KeepsTable};
 ghost use Rattle.draid_visits.specs.Pieces.{GoesTo};
-ghost use Rattle.draid_visits.specs.Steps.{HasContents, IsRebuiltIn, IsRunningOf, IsToLend, MovesOn, NextIs, ReadyIs, SharesTable, StartIs};
+ghost use Rattle.draid_visits.specs.Steps.{HasContents, IsRebuiltIn, IsRunningOf, IsToLend, MovesOn, NextIs, ReadyIs, SharesTable, StartIs, TellsLanding};
 ghost use Rattle.draid_visits.specs.Visiting.{IsOnly};
 
 use crate::unit::unit_in;
@@ -165,6 +165,7 @@ pub(crate) fn next_in<R: Rack, A: Area>(
     ensures groups { KeepsGroups shard.old shard.new }
     ensures areas { SameAreas shard.old shard.new }
     ensures landed { (repaired : ℕ) → result ≡ Next.Landed repaired → (used_up ≡ false) × MovesOn kind shard.old shard.new × (repaired ≤ 2 ^ 8) }
+    ensures tells { (repaired : ℕ) → kind ≡ Heal → result ≡ Next.Landed repaired → TellsLanding R.Rack shard.old shard.new }
     ensures ended { (errors : ℕ) → result ≡ Next.Ended errors → (shard.new.pass ≡ None) × (errors ≤ LAST_NUMBER) }
     ensures paused { result ≡ Next.Paused → (used_up ≡ true) × IsSomeAnd shard.new.pass (IsRunningOf kind) }
     ensures only { IsOnly kind shard.new }

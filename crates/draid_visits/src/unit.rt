@@ -13,7 +13,7 @@ ghost use Rattle.draid_pool.specs.Drifts.{KeepsGroups};
 ghost use Rattle.draid_pool.specs.Metaslabs.{IsMetaslab};
 ghost use Rattle.draid_pool.specs.Shards.{Goes, GoesLater, SameBlocks};
 ghost use Rattle.draid_visits.specs.Pieces.{GoesTo};
-ghost use Rattle.draid_visits.specs.Steps.{HasContents, IsRunningOf, MovesOn, NextIs, SharesTable};
+ghost use Rattle.draid_visits.specs.Steps.{HasContents, IsRunningOf, MovesOn, NextIs, SharesTable, TellsLanding};
 ghost use Rattle.draid_visits.specs.Visiting.{IsOnly};
 
 use crate::steps::{Next, end_in};
@@ -34,6 +34,7 @@ pub(crate) fn unit_in<R: Rack, A: Area>(shard: &mut Shard<R, A>, kind: PassKind)
     ensures groups { KeepsGroups shard.old shard.new }
     ensures areas { SameAreas shard.old shard.new }
     ensures landed { (repaired : ℕ) → result ≡ Next.Landed repaired → MovesOn kind shard.old shard.new × (repaired ≤ 2 ^ 8) }
+    ensures tells { (repaired : ℕ) → kind ≡ Heal → result ≡ Next.Landed repaired → TellsLanding R.Rack shard.old shard.new }
     ensures ended { (errors : ℕ) → result ≡ Next.Ended errors → (shard.new.pass ≡ None) × (errors ≤ LAST_NUMBER) }
     ensures never { result ≡ Next.Paused → ⊥ }
     ensures only { IsOnly kind shard.new }
@@ -86,6 +87,7 @@ fn block_in<R: Rack, A: Area>(shard: &mut Shard<R, A>) -> Next
     ensures groups { KeepsGroups shard.old shard.new }
     ensures areas { SameAreas shard.old shard.new }
     ensures landed { (repaired : ℕ) → result ≡ Next.Landed repaired → MovesOn Heal shard.old shard.new × (repaired ≤ 2 ^ 8) }
+    ensures tells { (repaired : ℕ) → result ≡ Next.Landed repaired → TellsLanding R.Rack shard.old shard.new }
     ensures ended { (errors : ℕ) → result ≡ Next.Ended errors → (shard.new.pass ≡ None) × (errors ≤ LAST_NUMBER) }
     ensures never { result ≡ Next.Paused → ⊥ }
     ensures only { IsOnly Heal shard.new }

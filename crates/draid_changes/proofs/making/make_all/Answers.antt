@@ -15,7 +15,7 @@ use Rattle.draid_pool.proofs.Rises.{areas_on, areas_set, areas_still, records_sa
 use Rattle.draid_pool.proofs.SyncSteps.{borrowed_at, came_none, whole_on}
 use Rattle.draid_pool.proofs.Wholes.{whole_valid}
 use Rattle.draid_changes.specs.Making.{Makes, end_of_making}
-use Rattle.draid_changes.proofs.Made.{left_of, make_stops, make_turns, not_made}
+use Rattle.draid_changes.proofs.Made.{make_stops, make_turns, not_made}
 use Rattle.draid_changes.proofs.Phases.{phase_more, phase_stops, phase_went}
 use Rattle.draid_changes.proofs.Walk.{changed_more, changed_none}
 use Rattle.draid_changes.proofs.making.make_all.Goals as goal
@@ -97,8 +97,8 @@ loop-metaslab-preserved g c =
     record {
       whole = whole_on g.R.Rack g.A.Area l.metaslab l.pool new shard after i.whole set e.valid (record { part = e.none.none.part; entries = e.none.keeps.entries; committed = e.none.keeps.groups.committed; slots = e.none.slots });
       carries = λ x is. phase_more g.R.Rack g.A.Area (λ g p. arms.Makes g p c.args.leaf) (λ g p. arms.MakeStops g p) l.metaslab l.pool new shard after x (i.carries x is) set
-          (make_turns g.R.Rack g.A.Area c.args.leaf shard after (record { valid = e.valid; areas = e.areas; none = e.none; later = e.later; reserve = e.reserve }) own
-          (left_of g.R.Rack g.A.Area c.args.leaf (g.R.Rack.shape shard.rack).bytes (metaslab_sectors shard.geometry) c.make_leaf.result (g.R.Rack.told shard.rack) (g.R.Rack.told after.rack) c.make_leaf.ensures.told c.make_leaf.ensures.same));
+          (make_turns g.R.Rack g.A.Area c.args.leaf (g.R.Rack.shape shard.rack).bytes (metaslab_sectors shard.geometry) shard after
+          (record { valid = e.valid; areas = e.areas; none = e.none; later = e.later; reserve = e.reserve }) own e.told);
       makes = changed_more (Makes g.R.Rack c.args.leaf) l.metaslab c.args.pool.now.metaslabs.shards.items l.pool.metaslabs.shards.items shard after i.makes there
           (record { rest = e.rest; made = e.made ∙ ap (λ (s : Shard g.row.R.Denot g.row.A.Denot). Some (metaslab_sectors s.geometry)) (sym e.rest) });
       objects = i.objects;

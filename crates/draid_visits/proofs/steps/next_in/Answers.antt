@@ -3,6 +3,7 @@ use Rattle.std.proofs.lemmas.Bool.{true≢false}
 use Rattle.draid_pool.specs.Shards.{SameBlocks}
 use Rattle.draid_pool.proofs.Drifting.{groups_kept}
 use Rattle.draid_visits.specs.Steps.{NextIs}
+use Rattle.draid_visits.proofs.Blocks.{never_landed}
 use Rattle.draid_visits.proofs.ToLend.{to_lend_does, to_lend_only, to_lend_runs}
 use Rattle.draid_visits.proofs.Lifting.{goes_later, goes_to}
 use Rattle.draid_visits.proofs.Over.{used_so}
@@ -44,6 +45,9 @@ unit_in-requires g c = record {
 
 pub returns-then-used_up-clause-paused : goal.returns-then-used_up-clause-paused
 returns-then-used_up-clause-paused g c = λ is. (c.if-used_up.true, c.rest_in.ensures.paused is)
+
+pub returns-then-used_up-clause-tells : goal.returns-then-used_up-clause-tells
+returns-then-used_up-clause-tells g c = λ repaired heal came. absurd (never_landed c.rest_in.result repaired c.rest_in.ensures.others came)
 
 pub returns-then-used_up-clause-moves : goal.returns-then-used_up-clause-moves
 returns-then-used_up-clause-moves g c = λ part pieces x at.

@@ -6,7 +6,7 @@ use Rattle.draid_pool.specs.Metaslabs.{IsMetaslab}
 use Rattle.draid_pool.specs.Shards.{SameBlocks}
 use Rattle.draid_visits.specs.Steps.{NextIs}
 use Rattle.draid_visits.specs.declared.steps.Next.TheVariants as next
-use Rattle.draid_visits.proofs.Blocks.{block_goes, block_moves, few_rewritten, landed_is, moves_on, on_ok, solved_here, stays_out}
+use Rattle.draid_visits.proofs.Blocks.{block_goes, block_moves, few_rewritten, landed_is, moves_on, on_ok, solved_here, stays_out, tells}
 use Rattle.draid_visits.proofs.ToLend.{only_counted, only_moved, only_none, only_scrub}
 use Rattle.draid_visits.proofs.Lifting.{goes_later, goes_to}
 use Rattle.draid_visits.proofs.Over.{ok_as, starved, worn, worn_as}
@@ -81,6 +81,14 @@ returns-else-is_err-clause-landed g c = λ repaired same.
       moves_on g.R.Rack c.args.shard.now c.lend.new.shard c.solve.new.shard c.land.new.shard c.requires.running unit l.valid s.only (on_ok c.solve.result _ (sym c.is_err.ensures.value ∙ c.if-is_err.false) s.solves) e.lands.does.part e.moves,
       few_rewritten repaired c.land.result c.min.result (landed_is c.min.result repaired same) c.min.ensures,
     ))
+
+pub returns-else-is_err-clause-tells : goal.returns-else-is_err-clause-tells
+returns-else-is_err-clause-tells g c = λ repaired same.
+    (let l = c.lend.ensures in
+    let s = c.solve.ensures in
+    let unit = l.unit (ok_as c.lend.result c.in-Ok-Unit.field-0 Unit c.in-Ok-Unit.is c.in-Ok-Unit.field-0-is) in
+    tells g.R.Rack c.args.shard.now c.lend.new.shard c.solve.new.shard c.land.new.shard c.requires.running unit l.valid s.only (on_ok c.solve.result _ (sym c.is_err.ensures.value ∙ c.if-is_err.false) s.solves)
+    c.land.result c.land.ensures.lands)
 
 pub returns-else-is_err-clause-moves : goal.returns-else-is_err-clause-moves
 returns-else-is_err-clause-moves g c = λ part pieces x at.

@@ -30,6 +30,9 @@ returns-in-Heal-clause-landed g c = λ repaired is.
     (let e = c.block_in.ensures.landed repaired is in
     (subst (λ k. MovesOn k c.args.shard.now c.block_in.new.shard) (sym c.in-Heal.is) e.0, e.1))
 
+pub returns-in-Heal-clause-tells : goal.returns-in-Heal-clause-tells
+returns-in-Heal-clause-tells g c = λ repaired heal came. c.block_in.ensures.tells repaired came
+
 pub returns-in-Heal-clause-only : goal.returns-in-Heal-clause-only
 returns-in-Heal-clause-only g c = subst (λ k. IsOnly k c.block_in.new.shard) (sym c.in-Heal.is) c.block_in.ensures.only
 
