@@ -99,6 +99,8 @@ def words():
     usage = (1, "usage: dzpool session [--dir DIR] or dzpool workload NUMBER\n")
     for given in (["session", "--dir"], ["session", "--dir", "a", "--dir", "b"], ["workload", "1", "--dir", "a"], ["--help"]):
         check(" ".join(given), run("", None, words=given), usage)
+    check("a word that is no text", run("", None, words=["session", b"\xff"]), usage)
+    check("a name that is no text", run("", None, words=["session", "--dir", b"\xff"]), usage)
     check("no name: import", run("import\n", None, words=["session", "--dir="]), (0, "import no pool\n"))
     check("no name: create", run(SMALL, None, words=["session", "--dir="]), (7, "shelf fault\n"))
     check("untouched without a command", (run("", folder / "none"), run("read 1\n", folder / "none")), ((0, ""), (0, "read no pool\n")))

@@ -1,3 +1,4 @@
+pub mod Folders
 pub mod Names
 pub mod Racks
 pub mod Shelves

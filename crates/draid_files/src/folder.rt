@@ -17,7 +17,9 @@ pub(crate) struct Folder {
 }
 
 impl Folder {
-    pub(crate) fn new(rt: HostRuntime, path: String) -> Folder {
+    pub(crate) fn new(rt: HostRuntime, path: String) -> Folder
+        ensures { result.path ≡ path }
+    {
         Folder { rt, path }
     }
 

@@ -1,4 +1,4 @@
-ghost use Rattle.std.specs.Prelude.{◌≡◌, ◌<◌, IfOk, OnErr, OnOk, Some, None, IsSome, option_map};
+ghost use Rattle.std.specs.Prelude.{◌≡◌, ◌<◌, IfOk, OnErr, OnOk, Some, None, IsSome, option_map, string_bytes};
 ghost use Rattle.draid_spec.specs.Geometry.{IsGeometry};
 ghost use Rattle.draid_shelf.specs.Kits.{ShelfCounts};
 ghost use Rattle.draid_files.specs.Shelves.{AreUncounted, IsOpened, MakesAll, PutsKit, Takes, kit_at};
@@ -26,8 +26,12 @@ pub struct FileShelf {
 }
 
 impl FileShelf {
+    ghost use Rattle.draid_files.specs.Folders.{path_of};
+
     /// The shelf of the folder of this name. It touches no file before it is used.
-    pub fn new(rt: &HostRuntime, path: String) -> FileShelf {
+    pub fn new(rt: &HostRuntime, path: String) -> FileShelf
+        ensures { path_of result ≡ string_bytes path }
+    {
         FileShelf {
             folder: Folder::new(*rt, path),
             lock: None,

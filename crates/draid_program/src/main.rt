@@ -2,24 +2,18 @@
 
 #![tactic(auto)]
 
-ghost use Rattle.std.specs.Prelude.{◌≡◌, ◌≤◌, length, map, string_bytes};
-ghost use Rattle.std.specs.Fn.{FnReturnsAt};
-ghost use Rattle.std.specs.Process.{exit_status};
-ghost use Rattle.draid_choose.specs.Rooms.{IsChooser, Picks, most_rooms};
-ghost use Rattle.draid_run.specs.Script.{RunIs};
-ghost use Rattle.draid_session.specs.Choices.{choices_by};
-ghost use Rattle.draid_pool.specs.Shelves.{on_shelf};
-ghost use Rattle.draid_run.specs.Status.{code_of};
+mod sessions;
 
+ghost use Rattle.std.specs.Prelude.{◌≤◌, length};
+ghost use Rattle.draid_choose.specs.Rooms.{Picks, most_rooms};
+
+use crate::sessions::run_program;
 use draid_choose::{Chooser, first_fit};
-use draid_files::{FileShelf, Input, Output};
-use draid_lines::{Sink, Source};
-use draid_names::{Failed, Room};
-use draid_run::{Status, run};
-use draid_shelf::{CrashRule, MemoryShelf, Shelf};
-use draid_words::{Mode, WordsFault, read_words};
+use draid_files::{Input, Output};
+use draid_names::Room;
+use draid_words::WordsFault;
+use std::io::ErrorKind;
 use std::process::ExitCode;
-use std::thread::Threads;
 use std::{env, io};
 
 /// The words behind the program's name.
@@ -27,36 +21,15 @@ fn words(rt: &HostRuntime) -> io::Result<Vec<String>> {
     Ok(env::args(rt)?.skip(1).collect(rt.alloc())?)
 }
 
-/// Runs the script of the source for these words, and exits with the status of the run.
-fn run_on<
-    H: Shelf,
-    S: Source,
-    K: Sink,
-    F: Fn(&[Room]) -> Option<u32>,
-    A: AllocGlobal + Threads + Sync,
->(
-    rt: &A,
-    words: &[String],
-    shelf: &mut H,
-    source: &mut S,
-    sink: &mut K,
-    chooser: &Chooser<F>,
-) -> ExitCode
-    requires { IsChooser F.Fn chooser.now }
-    ensures { (status : Status) × (exit_status result ≡ code_of status)
-        × RunIs H.R.Rack H.A.Area (choices_by (FnReturnsAt F.Fn chooser.now)) (map string_bytes words.now) status (S.left source.old) (K.held sink.old) (K.held sink.new) (on_shelf H.Shelf shelf.old) (on_shelf H.Shelf shelf.new) }
-{
-    let status = run(rt, words, shelf, source, sink, chooser);
-    ExitCode::from(status.code())
-}
-
-/// Says that there was no memory for the words.
-fn end_starved<K: Sink>(sink: &mut K) -> ExitCode {
-    let status = match sink.put(b"no memory\n") {
-        Ok(()) => Status::NoMemory,
-        Err(Failed) => Status::SinkFault,
-    };
-    ExitCode::from(status.code())
+/// The same, or why they can't be read: memory was wanting, or one of them isn't text.
+fn words_or_fault(rt: &HostRuntime) -> Result<Vec<String>, WordsFault> {
+    match words(rt) {
+        Ok(words) => Ok(words),
+        Err(error) => match error.kind() {
+            ErrorKind::OutOfMemory => Err(WordsFault::NoMemory),
+            _ => Err(WordsFault::Usage),
+        },
+    }
 }
 
 fn main(rt: HostRuntime) -> ExitCode {
@@ -68,19 +41,6 @@ fn main(rt: HostRuntime) -> ExitCode {
             ensures { Picks rooms.now result }
         { first_fit(rooms) },
     );
-    let Ok(words) = words(&rt) else {
-        return ExitCode::from(Status::NoMemory.code());
-    };
-    match read_words(rt.alloc(), &words) {
-        Ok(Mode::Session { dir: Some(path) }) => {
-            let mut shelf = FileShelf::new(&rt, path);
-            run_on(&rt, &words, &mut shelf, &mut source, &mut sink, &chooser)
-        }
-        // Over a shelf in memory `run` might read the words, and run the session of a folder.
-        Err(WordsFault::NoMemory) => end_starved(&mut sink),
-        _ => {
-            let mut shelf = MemoryShelf::new(rt.alloc(), CrashRule::Torn);
-            run_on(&rt, &words, &mut shelf, &mut source, &mut sink, &chooser)
-        }
-    }
+    let words = words_or_fault(&rt);
+    run_program(&rt, &rt, words, &mut source, &mut sink, &chooser)
 }

@@ -2,13 +2,14 @@
 use Rattle.std.proofs.Common.{[], ◌≡◌, IfOk, ℕ, Bool, List, Option, Some, None, Result, Ok, Err, ap, refl, sym, subst, Vec, Global}
 use Rattle.draid_rack.specs.declared.Rack as racks
 use Rattle.draid_area.specs.declared.Area as areas
-use Rattle.draid_script.specs.Line.{Command, CreatePool, ReadObject, FreeObject, SumObjects, DamageSector, AttachSpare, ShowStatus, DetachArm, SyncPool, UpgradePool, command_in, RebuildPool, ScrubPool, RebalanceSlot, ReplaceDisk, CancelPasses}
+use Rattle.draid_script.specs.Line.{Command, Silent, CrashPool, CreatePool, ReadObject, FreeObject, SumObjects, DamageSector, AttachSpare, ShowStatus, DetachArm, SyncPool, UpgradePool, command_in, RebuildPool, ScrubPool, RebalanceSlot, ReplaceDisk, CancelPasses, ImportPool, ExportPool, WriteObject, FillObjects, TakeOffline, TakeOnline, OpenLanes, RunAgent, ShowJournal, TakeCheckpoint, RewindPool, DiscardCheckpoint}
 use Rattle.draid_script.specs.declared.line.Line.{Line}
 use Rattle.draid_script.specs.declared.line.Line.TheVariants as variant
 use Rattle.draid_script.specs.declared.line.PoolKeys.{PoolKeys}
 use Rattle.draid_script.specs.declared.line.StatusFormat.{StatusFormat}
 use Rattle.draid_script.specs.declared.name.CommandName.{CommandName}
 use Rattle.draid_reply.specs.declared.reply.Reply.{Reply}
+use Rattle.draid_session.specs.Said.{Said, alone}
 use Rattle.draid_session.specs.Choices.{Choices}
 use Rattle.draid_session.specs.Holds.{Hold}
 use Rattle.draid_session.specs.Session.{Desk, TurnsBy}
@@ -16,6 +17,7 @@ use Rattle.draid_session.specs.State.{State, Store}
 use Rattle.draid_pool.specs.Carries.{CarriesOut, ReplyDoes}
 use Rattle.draid_pool.specs.Says.{SyncSays}
 use Rattle.draid_pool.specs.declared.pool.Pool.{Pool}
+use Rattle.draid_run.specs.Crashes.{LeavesFirm}
 use Rattle.draid_run.specs.Desks.{AnswerDoes, IsDesk, Turned, asked_in}
 use Rattle.draid_run.specs.Making.{CreateIs}
 use Rattle.draid_names.specs.declared.fault.Failed.{Failed}
@@ -27,7 +29,7 @@ use Rattle.draid_store.specs.Says.{DamageSays, FreeSays, ReadSays, SumSays}
 use Rattle.draid_status.specs.Says.{StatusSays}
 use Rattle.draid_visits.specs.Says.{CancelSays, RebuildSays, ScrubSays}
 use Rattle.draid_run.specs.Rebalancing.{RebalanceSays}
-use Rattle.draid_run.specs.Script.{IsUnbuilt}
+use Rattle.draid_run.specs.Script.{IsBuilt, IsUnbuilt}
 use Rattle.draid_run.specs.Serve.{AnswerIs, AskIs, IsSaid}
 use Rattle.draid_pool.specs.Shelves.{OnShelf}
 use Rattle.draid_run.specs.Shelves.{MayFind}
@@ -36,30 +38,72 @@ use Rattle.draid_run.specs.declared.answer.Stop.TheVariants as stop
 use Rattle.draid_run.proofs.Said.{cancel_does, rebalance_does, rebuild_does, scrub_does, damage_does, detach_does, free_does, read_does, spare_does, status_does, sum_does, switch_does, switch_line, sync_does, upgrade_does, replace_does}
 use Rattle.draid_run.proofs.Steps.{ask_breaks, by_ask, by_create}
 
+-- what is asked of an open pool is no crash, nor an empty line
+asked_firm : {R A : Type 0} (command : Command) (called : CommandName) (saids : List Said) (before now : OnShelf) (pool pool' : Option (Pool R A)) → asked_in command ≡ Some called → LeavesFirm (Ok command) saids before pool now pool'
+asked_firm Silent called saids before now pool pool' is = absurd (cc is)
+asked_firm CrashPool called saids before now pool pool' is = absurd (cc is)
+asked_firm command called saids before now pool pool' is = tt
+
+-- and its command is built
+asked_built : (command : Command) (called : CommandName) → asked_in command ≡ Some called → IsUnbuilt command → ⊥
+asked_built Silent called is none = none
+asked_built (CreatePool text children keys) called is none = none
+asked_built ImportPool called is none = none
+asked_built ExportPool called is none = none
+asked_built SyncPool called is none = none
+asked_built CancelPasses called is none = none
+asked_built CrashPool called is none = none
+asked_built (WriteObject object bytes) called is none = none
+asked_built (FillObjects first count len seed) called is none = none
+asked_built (ReadObject object) called is none = none
+asked_built (FreeObject object) called is none = none
+asked_built (SumObjects first count) called is none = none
+asked_built (TakeOffline leaf) called is none = none
+asked_built (TakeOnline leaf) called is none = none
+asked_built (DamageSector leaf sector) called is none = none
+asked_built (AttachSpare slot spare) called is none = none
+asked_built (ReplaceDisk slot sectors) called is none = none
+asked_built (DetachArm arm) called is none = none
+asked_built (RebuildPool limit) called is none = none
+asked_built (ScrubPool limit) called is none = none
+asked_built (RebalanceSlot slot) called is none = none
+asked_built (ShowStatus form) called is none = none
+asked_built UpgradePool called is none = none
+asked_built (OpenLanes count) called is none = absurd (cc is)
+asked_built (RunAgent least) called is none = absurd (cc is)
+asked_built ShowJournal called is none = absurd (cc is)
+asked_built TakeCheckpoint called is none = absurd (cc is)
+asked_built RewindPool called is none = absurd (cc is)
+asked_built DiscardCheckpoint called is none = absurd (cc is)
+
 module _ {R A : Type 0} (rack : racks.Ghosts R) (area : areas.Ghosts A) (choices : Choices) (entry now : OnShelf) (pool : Option (Pool R A)) (x : Desk) (is : IsDesk rack area entry now pool x) (command : Command)
     (unbuilt : asked_in command ≡ None → IsUnbuilt command) (new : Option (Pool R A)) where
   pub answer_ask : (given : Result Reply Stop) (result : Result (Option Reply) Stop) → IsSaid given result → AskIs rack area choices command pool x new given
       → AnswerIs rack area choices command entry now pool x now new result
   answer_ask (Ok reply) result said did =
-      subst (AnswerIs rack area choices command entry now pool x now new) (sym said) (by_ask rack area choices entry now pool reply command did.0 did.1 x new is did.2)
+      subst (AnswerIs rack area choices command entry now pool x now new) (sym said) (by_ask rack area choices entry now pool reply command did.0 did.1 x new is did.2, asked_firm command did.0 (alone reply) now now pool new did.1, asked_built command did.0 did.1)
   answer_ask (Err stop.Unbuilt) result said did =
       subst (AnswerIs rack area choices command entry now pool x now new) (sym said) (unbuilt did.0, refl, did.1)
   answer_ask (Err stop.Shelf) result said did =
-      subst (AnswerIs rack area choices command entry now pool x now new) (sym said) (ask_breaks rack area entry now now command x pool new is did)
+      subst (AnswerIs rack area choices command entry now pool x now new) (sym said) (ask_breaks rack area entry now now command x pool new is did.2, asked_built command did.0 did.1)
   answer_ask (Err (stop.Record metaslab place kind)) result said did = absurd did
 
 -- an empty line, or a comment
 pub turned_silent : {R A : Type 0} (rack : racks.Ghosts R) (area : areas.Ghosts A) (choices : Choices) (entry now : OnShelf) (pool : Option (Pool R A)) (x : Desk) (line : Line) → line ≡ variant.Nothing
-    → IsDesk rack area entry now pool x → Turned rack area choices (Ok (command_in line)) entry x [] now pool
-turned_silent rack area choices entry now pool x line is desk = record { new = x; desk = desk; turns = subst (λ l. TurnsBy choices (MayFind rack area entry) (Ok (command_in l)) x [] x) (sym is) refl }
+    → IsDesk rack area entry now pool x → Turned rack area choices (Ok (command_in line)) entry x [] now pool × LeavesFirm (Ok (command_in line)) [] now pool now pool × IsBuilt (Ok (command_in line))
+turned_silent rack area choices entry now pool x line is desk = (
+  record { new = x; desk = desk; turns = subst (λ l. TurnsBy choices (MayFind rack area entry) (Ok (command_in l)) x [] x) (sym is) refl },
+  subst (λ l. LeavesFirm (Ok (command_in l)) [] now pool now pool) (sym is) (refl, refl),
+  subst (λ l. IsBuilt (Ok (command_in l))) (sym is) (λ none. none),
+)
 
 -- a pool was to be made
 module _ {R A : Type 0} (rack : racks.Ghosts R) (area : areas.Ghosts A) (choices : Choices) (entry before now : OnShelf) (pool : Option (Pool R A)) (x : Desk) (new : Option (Pool R A)) (text : List ℕ) (children : ℕ) (keys : PoolKeys) where
   pub answer_create : (given : Result Reply Stop) (result : Result (Option Reply) Stop) → IsSaid given result → CreateIs rack area text children keys entry before x now new given
       → AnswerIs rack area choices (CreatePool text children keys) entry before pool x now new result
   answer_create (Ok reply) result said did =
-      subst (AnswerIs rack area choices (CreatePool text children keys) entry before pool x now new) (sym said) (by_create rack area choices entry now text children keys x reply new did)
-  answer_create (Err stop.Shelf) result said did = subst (AnswerIs rack area choices (CreatePool text children keys) entry before pool x now new) (sym said) did
+      subst (AnswerIs rack area choices (CreatePool text children keys) entry before pool x now new) (sym said) (by_create rack area choices entry now text children keys x reply new did, tt, λ none. none)
+  answer_create (Err stop.Shelf) result said did = subst (AnswerIs rack area choices (CreatePool text children keys) entry before pool x now new) (sym said) (did, λ none. none)
   answer_create (Err stop.Unbuilt) result said did = absurd did
   answer_create (Err (stop.Record metaslab place kind)) result said did = absurd did
 

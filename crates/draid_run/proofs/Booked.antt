@@ -7,6 +7,8 @@ use Rattle.draid_shelf.specs.Kits.{Held}
 use Rattle.draid_session.specs.Choices.{Choices}
 use Rattle.draid_session.specs.Book.{Book, BreaksAtLine, EndsBook, blank, closed}
 use Rattle.draid_session.specs.Keeping.{Keeps}
+use Rattle.draid_session.specs.Places.{Outside, place_after}
+use Rattle.draid_session.specs.Said.{Said}
 use Rattle.draid_session.specs.Session.{Agrees, Bare, Desk, Foreign, Made, Open, RecordFails, Runs, ShelfFails, Shut, Unknown, Untouched, left_of}
 use Rattle.draid_session.proofs.Turning.{breaks_ends, left_keeps, no_record_fails, run_turns, AllAnswered}
 use Rattle.draid_run.specs.Books.{AreRuns, BrokeAt, KeepBook, KeepsBook, OneRun}
@@ -17,6 +19,7 @@ use Rattle.draid_run.specs.Shelves.{HoldsBare, HoldsDesk, MayFind}
 use Rattle.draid_run.specs.declared.status.Status.{Status}
 use Rattle.draid_run.specs.declared.status.Status.TheVariants.{NoMemory, ShelfFault, Record}
 use Rattle.draid_run.proofs.Next.{desk_found, tells_found}
+use Rattle.draid_run.proofs.Serving.{as_found}
 
 -- ---- a run breaks off
 
@@ -31,31 +34,32 @@ left_agrees (Foreign known) entry now holds tells = tt
 left_agrees Unknown entry now holds tells = tt
 
 -- a book at the end of a run, before the pool is given back
-record EndsAt (ended : Status) (broken : Option (List ℕ)) (b : Book) (last : Desk) : Type 0 where
+record EndsAt (lines : List (List ℕ)) (ended : Status) (broken : Option (List ℕ)) (saids : List Said) (b : Book) (last : Desk) : Type 0 where
   pub book : Book
-  pub ends : EndsBook broken b book
+  pub ends : EndsBook (place_after Outside lines) broken b saids book
   pub broke : BrokeAt ended broken
   pub keeps : Keeps last book
 
-shelf_breaks : (text : List ℕ) (mid last : Desk) (b : Book) → Keeps mid b → Agrees true last → BreaksAt ShelfFails text mid last → EndsAt ShelfFault (Some text) b last
-shelf_breaks text mid last b keeps agrees it =
+shelf_breaks : (lines : List (List ℕ)) (text : List ℕ) (saids : List Said) (mid last : Desk) (b : Book) → Keeps mid b → Agrees true last → BreaksAt ShelfFails lines text saids mid last → EndsAt lines ShelfFault (Some text) saids b last
+shelf_breaks lines text saids mid last b keeps agrees it =
     let ends = breaks_ends ShelfFails mid last b it.command keeps it.breaks agrees in
-    record { book = ends.book; ends = subst (λ line. BreaksAtLine line b ends.book) (sym it.line) ends.breaks; broke = tt; keeps = ends.keeps }
+    record { book = ends.book; ends = subst (λ line. BreaksAtLine line b saids ends.book) (sym it.line) (it.none, ends.breaks); broke = tt; keeps = ends.keeps }
 
-no_record : (text : List ℕ) (mid last : Desk) (b : Book) → Keeps mid b → BreaksAt RecordFails text mid last → ⊥
-no_record text mid last b keeps it = no_record_fails mid last b it.command keeps it.breaks
+no_record : (lines : List (List ℕ)) (text : List ℕ) (saids : List Said) (mid last : Desk) (b : Book) → Keeps mid b → BreaksAt RecordFails lines text saids mid last → ⊥
+no_record lines text saids mid last b keeps it = no_record_fails mid last b it.command keeps it.breaks
 
-goes_through : (ended : Status) (mid last : Desk) (b : Book) → Keeps mid b → BrokeAt ended None → last ≡ mid → EndsAt ended None b last
-goes_through ended mid last b keeps broke same = record { book = b; ends = refl; broke = broke; keeps = subst (λ desk. Keeps desk b) (sym same) keeps }
+goes_through : (lines : List (List ℕ)) (ended : Status) (saids : List Said) (mid last : Desk) (b : Book) → Keeps mid b → BrokeAt ended None → saids ≡ [] → last ≡ mid → EndsAt lines ended None saids b last
+goes_through lines ended saids mid last b keeps broke none same = record { book = b; ends = (none, refl); broke = broke; keeps = subst (λ desk. Keeps desk b) (sym same) keeps }
 
-ends_at : (ended : Status) (broken : Option (List ℕ)) (mid last : Desk) (b : Book) → Keeps mid b → Agrees true last → BreaksOff ended broken mid last → EndsAt ended broken b last
-ends_at ShelfFault None mid last b keeps agrees off = absurd off
-ends_at ShelfFault (Some text) mid last b keeps agrees off = shelf_breaks text mid last b keeps agrees off
-ends_at (Record metaslab at kind) None mid last b keeps agrees off = absurd off
-ends_at (Record metaslab at kind) (Some text) mid last b keeps agrees off = absurd (no_record text mid last b keeps off)
-ends_at NoMemory (Some text) mid last b keeps agrees off = absurd (no_record text mid last b keeps off)
-ends_at ended None mid last b keeps agrees off = goes_through ended mid last b keeps tt off
-ends_at ended (Some text) mid last b keeps agrees off = absurd off
+ends_at : (lines : List (List ℕ)) (ended : Status) (broken : Option (List ℕ)) (saids : List Said) (mid last : Desk) (b : Book) → Keeps mid b → Agrees true last → BreaksOff lines ended broken saids mid last
+    → EndsAt lines ended broken saids b last
+ends_at lines ShelfFault None saids mid last b keeps agrees off = absurd off
+ends_at lines ShelfFault (Some text) saids mid last b keeps agrees off = shelf_breaks lines text saids mid last b keeps agrees off
+ends_at lines (Record metaslab at kind) None saids mid last b keeps agrees off = absurd off
+ends_at lines (Record metaslab at kind) (Some text) saids mid last b keeps agrees off = absurd (no_record lines text saids mid last b keeps off)
+ends_at lines NoMemory (Some text) saids mid last b keeps agrees off = absurd (no_record lines text saids mid last b keeps off)
+ends_at lines ended None saids mid last b keeps agrees off = goes_through lines ended saids mid last b keeps tt off.0 off.1
+ends_at lines ended (Some text) saids mid last b keeps agrees off = absurd off
 
 -- ---- desks of the next run
 
@@ -99,13 +103,12 @@ module _ {R A : Type 0} (rack : racks.Ghosts R) (area : areas.Ghosts A) (choices
       shown = it.session.shown;
       ended = it.session.ended;
       broken = it.session.broken;
-      usage = it.session.usage;
-      refused = it.session.refused;
+      saids = it.session.saids;
       answers = record { mid = all.book; last = ends.book; answers = all.answers; ends = ends.ends; made = refl };
       broke = ends.broke;
       ends = it.session.ends;
       shows = it.session.shows;
-      prints = it.session.prints;
+      script = it.script;
     },
     record { last = it.last; entry = entry; holds = it.shelf; tells = now_tells; keeps = left_keeps it.last ends.book ends.keeps },
   )
@@ -117,8 +120,8 @@ module _ {R A : Type 0} (rack : racks.Ghosts R) (area : areas.Ghosts A) (choices
       all = run_turns choices (MayFind rack area entry) it.session.lines it.session.replies first it.session.mid b keeps
           (subst (λ t. Runs choices (MayFind rack area entry) t first it.session.lines it.session.replies it.session.mid) tells it.session.runs)
 
-      ends : EndsAt it.session.ended it.session.broken all.book it.last
-      ends = ends_at it.session.ended it.session.broken it.session.mid it.last all.book all.keeps (left_agrees it.last entry now it.shelf now_tells) it.session.breaks
+      ends : EndsAt it.session.lines it.session.ended it.session.broken it.session.saids all.book it.last
+      ends = ends_at it.session.lines it.session.ended it.session.broken it.session.saids it.session.mid it.last all.book all.keeps (left_agrees it.last entry now it.shelf now_tells) it.session.breaks
 
   -- ---- several runs
 
@@ -152,5 +155,5 @@ module _ {R A : Type 0} (rack : racks.Ghosts R) (area : areas.Ghosts A) (choices
       → (book : Book) × KeepsBook words status input old new blank book
   bare_keeps words status input old new entry now is bare =
       let tells = bare_tells entry.held (λ held. held.uber ≡ None) bare in
-      let one = run_keeps words status input old new entry now Bare blank (is Bare bare) tells (record { is_shut = refl; none = refl }) in
+      let one = run_keeps words status input old new entry now Bare blank (is Bare ((as_found entry).0, bare)) tells (record { is_shut = refl; none = refl }) in
       (one.0, one.1)

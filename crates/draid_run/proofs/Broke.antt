@@ -1,5 +1,5 @@
 -- A command that a failing device ended: the count of an area of the pool rose, or in one that makes leaves that of a rack as a whole.
-use Rattle.std.proofs.Common.{◌≡◌, ◌≤◌, ◌<◌, ◌-◌, ◌^◌, ◌∙◌, ◌⊎◌, ◌==◌, ◌%◌, min, inl, inr, arith, refl, sym, subst, ℕ, Bool, true, false, List, [], ◌∷◌, Some, None, if◌then◌else◌}
+use Rattle.std.proofs.Common.{◌≡◌, ◌≤◌, ◌<◌, ◌-◌, ◌^◌, ◌∙◌, ◌⊎◌, ◌==◌, ◌%◌, min, inl, inr, arith, refl, sym, ap, subst, ℕ, Bool, true, false, List, [], ◌∷◌, Some, None, if◌then◌else◌}
 use Rattle.std.specs.Prelude.{slice_get, slice_set}
 use Rattle.std.proofs.lemmas.Bool.Decides.{nat_tests}
 use Rattle.draid_names.specs.Faults.{Rose}
@@ -9,7 +9,7 @@ use Rattle.draid_script.specs.Line.{Command}
 use Rattle.draid_session.specs.Certain.{HasFailed, MakesLeaves}
 use Rattle.draid_session.specs.Does.{Broken}
 use Rattle.draid_session.specs.Follows.{Follows, Holds, HoldsMetaslab, UberActs, area_count}
-use Rattle.draid_session.specs.Holds.{Act, AreaFailed, AsksVersion, Committed, CommitFailed, CommitStarved, Did, Hold, Looked, LookedUber, MadeLeaf, NextLeaf, On, OnUber, RackFailed, Reserved, UberAct, View}
+use Rattle.draid_session.specs.Holds.{Act, AreaFailed, AsksVersion, Committed, CommitFailed, CommitStarved, Did, Hold, Looked, LookedUber, MadeLeaf, NextLeaf, On, OnUber, RackFailed, CallStarved, Reserved, UberAct, View}
 use Rattle.draid_session.specs.State.{Counts, Metaslab, State, Store}
 use Rattle.draid_session.proofs.Failed.{breaks_failed}
 use Rattle.draid_session.proofs.Lists.{get_set_other, get_set_same, some_of}
@@ -29,10 +29,10 @@ pub record IsLater (x z : State) : Type 0 where
   pub each : (k : ℕ) (m : Metaslab) → slice_get z.metaslabs k ≡ Some m → CameFrom x k m
   pub uber : min x.uber_count (2 ^ 64 - 1) ≤ z.uber_count
 
-later_none : (x : State) → IsLater x x
+pub later_none : (x : State) → IsLater x x
 later_none x = record { each = λ k m there. record { y = m; there = there; even = omega arith; odd = omega arith; rack = omega arith }; uber = omega arith }
 
-later_more : (x y z : State) → IsLater x y → IsLater y z → IsLater x z
+pub later_more : (x y z : State) → IsLater x y → IsLater y z → IsLater x z
 later_more x y z a b = record {
   each = λ k m there. (
       let two = b.each k m there in
@@ -48,14 +48,23 @@ later_more x y z a b = record {
   uber = (let first = a.uber in let next = b.uber in omega (arith, first, next));
 }
 
+-- counts that are the same didn't fall
+counts_same : (x y : Metaslab) → y.counts ≡ x.counts → (x.counts.even ≤ y.counts.even) × (x.counts.odd ≤ y.counts.odd) × (x.counts.rack None ≤ y.counts.rack None)
+counts_same x y same =
+    let even = ap (λ (c : Counts). c.even) same in
+    let odd = ap (λ (c : Counts). c.odd) same in
+    let rack = ap (λ (c : Counts). c.rack None) same in
+    (omega (arith, even), omega (arith, odd), omega (arith, rack))
+
 module _ (v : View) (x z : State) where
   act_even : (act : Act) → (it : HoldsMetaslab v act x z) → (it.before.counts.even ≤ it.after.counts.even) × (it.before.counts.odd ≤ it.after.counts.odd) × (it.before.counts.rack None ≤ it.after.counts.rack None)
-  act_even Looked it = (it.acts.0.counts.even, it.acts.0.counts.odd, it.acts.0.counts.rack)
+  act_even Looked it = counts_same it.before it.after (ap (λ (y : Metaslab). y.counts) it.acts)
   act_even (Did e w) it = (it.acts.counts.even, it.acts.counts.odd, it.acts.counts.rack)
-  act_even (Reserved n) it = (it.acts.0.counts.even, it.acts.0.counts.odd, it.acts.0.counts.rack)
+  act_even (Reserved n) it = counts_same it.before it.after (ap (λ (y : Metaslab). y.counts) it.acts)
   act_even (MadeLeaf leaf) it = (it.acts.0.counts.even, it.acts.0.counts.odd, it.acts.0.counts.rack)
   act_even (AreaFailed group) it = (it.acts.0.counts.even, it.acts.0.counts.odd, it.acts.0.counts.rack)
   act_even RackFailed it = (it.acts.0.counts.even, it.acts.0.counts.odd, it.acts.0.counts.rack)
+  act_even CallStarved it = (it.acts.0.counts.even, it.acts.0.counts.odd, it.acts.0.counts.rack)
 
   act_later : (act : Act) → HoldsMetaslab v act x z → IsLater x z
   act_later act it = subst (IsLater x) (sym it.made) (record { each = λ k m there. from k m there (k == v.metaslab) refl; uber = omega arith })
@@ -86,7 +95,7 @@ hold_later : (hold : Hold) (x z : State) → Holds hold x z → IsLater x z
 hold_later (On v act) x z it = act_later v x z act it
 hold_later (OnUber u act) x z it = uber_later act x z it.acts
 
-follows_later : (holds : List Hold) (x z : State) → Follows holds x z → IsLater x z
+pub follows_later : (holds : List Hold) (x z : State) → Follows holds x z → IsLater x z
 follows_later [] x z follows = subst (IsLater x) (sym follows) (later_none x)
 follows_later (hold ∷ holds) x z follows = later_more x follows.0 z (hold_later hold x follows.0 follows.1) (follows_later holds follows.0 z follows.2)
 

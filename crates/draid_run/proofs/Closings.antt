@@ -8,6 +8,7 @@ use Rattle.draid_script.specs.Line.{Command, CrashPool, ExportPool}
 use Rattle.draid_script.specs.declared.name.CommandName.TheVariants as name
 use Rattle.draid_reply.specs.declared.reply.Reply.{Reply}
 use Rattle.draid_reply.specs.declared.reply.Reply.TheVariants.{Crashed, Exported, Last, NoMemory, NoPool, Worn}
+use Rattle.draid_shelf.specs.Kits.{OnHeld}
 use Rattle.draid_session.specs.Certain.{MakesLeaves}
 use Rattle.draid_session.specs.Said.{alone}
 use Rattle.draid_session.specs.Choices.{Choices}
@@ -19,7 +20,7 @@ use Rattle.draid_session.specs.Session.{Desk, Untouched, Bare, Made, Open, Shut,
 use Rattle.draid_session.specs.State.{State, Store}
 use Rattle.draid_export.specs.Exporting.{ExportDoes, IsExported, IsRefusal, RefusalSays, TellsGroup, WasRefused}
 use Rattle.draid_pool.specs.Carries.{CarriesOut}
-use Rattle.draid_pool.specs.Returning.{GivesBack}
+use Rattle.draid_pool.specs.Returning.{GivesBack, IsFirm}
 use Rattle.draid_pool.specs.Failing.{AreaFails}
 use Rattle.draid_pool.specs.Pointers.{SamePointers}
 use Rattle.draid_pool.specs.Pools.{Represents}
@@ -46,7 +47,7 @@ some_same a b is = cc is
 -- ---- in the words of a session
 
 module _ (choices : Choices) (x : State) (holds : List Hold) (store : Store) where
-  export_fails : (answer : Result ℕ SyncFault) → export_reply answer ≡ None → ExportDoes x answer holds store → (store ≡ x.store) × groups.ExportStops x.geometry x.perms holds Broke
+  export_fails : (answer : Result ℕ SyncFault) → export_reply answer ≡ None → ExportDoes x answer holds store → (store ≡ x.store) × groups.ExportStops x.geometry x.perms x.store.marks holds Broke
   export_fails (Ok group) is does = absurd (cc is)
   export_fails (Err sync.Worn) is does = absurd (cc is)
   export_fails (Err sync.Last) is does = absurd (cc is)
@@ -134,8 +135,8 @@ module _ {R A : Type 0} (rack : racks.Ghosts R) (area : areas.Ghosts A) (choices
   -- ---- the answers of the commands
   module _ (pool : Option (Pool R A)) (x : Desk) (new : Option (Pool R A)) where
     pub answer_export : (given : Result Reply Stop) (result : Result (Option Reply) Stop) → IsSaid given result → ExportIs rack area entry x now new given → AnswerIs rack area choices ExportPool entry before pool x now new result
-    answer_export (Ok reply) result said did = subst (AnswerIs rack area choices ExportPool entry before pool x now new) (sym said) (by_export x reply new did)
-    answer_export (Err stop.Shelf) result said did = subst (AnswerIs rack area choices ExportPool entry before pool x now new) (sym said) (export_breaks x new did)
+    answer_export (Ok reply) result said did = subst (AnswerIs rack area choices ExportPool entry before pool x now new) (sym said) (by_export x reply new did, tt, λ none. none)
+    answer_export (Err stop.Shelf) result said did = subst (AnswerIs rack area choices ExportPool entry before pool x now new) (sym said) (export_breaks x new did, λ none. none)
     answer_export (Err stop.Unbuilt) result said did = absurd did
     answer_export (Err (stop.Record metaslab place kind)) result said did = absurd did
 
@@ -222,15 +223,17 @@ module _ {R A : Type 0} (rack : racks.Ghosts R) (area : areas.Ghosts A) (entry b
     by (Ok reply) is = stays (Some reply) (ap reply_in is) (λ e. absurd (cc e))
     by (Err failed) is = stays None (ap reply_in is) (λ e. fails (subst (λ r. IsErr r) (sym is) refl))
 
-  pub crashed : ((y : State) → Represents rack area was y → GivesBack y true before.held now.held now.leaves now.counts now.own.uber) → now.own.checks ≡ before.own.checks → TellsAsBefore before now
+  pub crashed : OnHeld now.held IsFirm → ((y : State) → Represents rack area was y → GivesBack y true before.held now.held now.leaves now.counts now.own.uber) → now.own.checks ≡ before.own.checks → TellsAsBefore before now
       → (left : Option (Pool R A)) → left ≡ None → (x : Desk) → IsDesk rack area entry before desk x → CrashDid rack area entry x Crashed now left
-  crashed back checks tells left none = on_open (λ x. CrashDid rack area entry x Crashed now left) (λ y stands out. record {
+  crashed firm back checks tells left none = on_open (λ x. CrashDid rack area entry x Crashed now left) (λ y stands out. record {
     new = Shut true y;
     desk = record { stands = subst (λ l. IsPool rack area l (Shut true y)) (sym none) tt; shelf = shelf_has y true before now (back y stands) checks tells out };
     turns = (refl, refl);
+    firm = λ _. (firm, none);
   })
       (λ known knows. record {
         new = Unknown;
         desk = record { stands = subst (λ l. IsPool rack area l Unknown) (sym none) tt; shelf = tt };
         turns = (refl, refl);
+        firm = λ _. (firm, none);
       })

@@ -10,7 +10,7 @@ use Rattle.draid_session.specs.Choices.{Choices}
 use Rattle.draid_session.specs.Session.{Desk, Untouched, Bare, Made, Open, Shut, Foreign, Unknown, left_of}
 use Rattle.draid_pool.specs.declared.pool.Pool.{Pool}
 use Rattle.draid_run.specs.Desks.{IsDesk, LeavesDesk}
-use Rattle.draid_run.specs.Script.{BreaksOff, Ends, EndsWithLine, Fails, FailsShut, GetsReplies, IsSession, Prints, RunsFrom, Shows}
+use Rattle.draid_run.specs.Script.{all_replies, BreaksOff, Ends, EndsWithLine, Fails, FailsShut, GetsReplies, IsSession, Prints, RunsFrom, Shows}
 use Rattle.draid_run.specs.Serve.{Served}
 use Rattle.draid_pool.specs.Shelves.{OnShelf}
 use Rattle.draid_run.specs.Shelves.{AreaRose, DeviceFailed, HasFailed, HoldsDesk, IsClosed, MakesLeavesAt, MakesLeavesBy, MayMakeLeaves, RackFailedOn, RackRose, TellsAsBefore}
@@ -18,44 +18,45 @@ use Rattle.draid_run.specs.Status.{HasNumber, last_text}
 use Rattle.draid_run.specs.declared.status.Status.{Status}
 use Rattle.draid_run.specs.declared.status.Status.TheVariants.{Done, Usage, Line, SourceFault, SinkFault, NoMemory, TooLong, ShelfFault, Record}
 use Rattle.draid_run.proofs.Broke.{broken_rose}
+use Rattle.draid_run.proofs.Crashing.{firm_left}
 use Rattle.draid_run.proofs.Known.{appends_none}
 
 -- ---- the last line
 
 -- a run that ended at a number may as well have ended for want of memory
-ends_short : (ended : Status) (broken : Option (List ℕ)) (mid last : Desk) (lines : List (List ℕ)) (input : List ℕ) → HasNumber ended → BreaksOff ended broken mid last → Ends ended broken lines input
+ends_short : (ended : Status) (broken : Option (List ℕ)) (saids : List Said) (mid last : Desk) (lines : List (List ℕ)) (input : List ℕ) → HasNumber ended → BreaksOff lines ended broken saids mid last → Ends ended broken lines input
     → Ends NoMemory broken lines input
-ends_short (Line line kind at) None mid last lines input number breaks ends = (ends.0 ∷ ends.1, ends.2)
-ends_short (Line line kind at) (Some text) mid last lines input number breaks ends = absurd breaks
-ends_short (TooLong line) None mid last lines input number breaks ends = (lines_of ends.0, ends.1)
-ends_short (TooLong line) (Some text) mid last lines input number breaks ends = absurd breaks
-ends_short (Record metaslab place kind) None mid last lines input number breaks ends = absurd breaks
-ends_short (Record metaslab place kind) (Some text) mid last lines input number breaks ends = ends
-ends_short Done broken mid last lines input number breaks ends = absurd number
-ends_short Usage broken mid last lines input number breaks ends = absurd number
-ends_short SourceFault broken mid last lines input number breaks ends = absurd number
-ends_short SinkFault broken mid last lines input number breaks ends = absurd number
-ends_short NoMemory broken mid last lines input number breaks ends = absurd number
-ends_short ShelfFault broken mid last lines input number breaks ends = absurd number
+ends_short (Line line kind at) None saids mid last lines input number breaks ends = (ends.0 ∷ ends.1, ends.2)
+ends_short (Line line kind at) (Some text) saids mid last lines input number breaks ends = absurd breaks
+ends_short (TooLong line) None saids mid last lines input number breaks ends = (lines_of ends.0, ends.1)
+ends_short (TooLong line) (Some text) saids mid last lines input number breaks ends = absurd breaks
+ends_short (Record metaslab place kind) None saids mid last lines input number breaks ends = absurd breaks
+ends_short (Record metaslab place kind) (Some text) saids mid last lines input number breaks ends = ends
+ends_short Done broken saids mid last lines input number breaks ends = absurd number
+ends_short Usage broken saids mid last lines input number breaks ends = absurd number
+ends_short SourceFault broken saids mid last lines input number breaks ends = absurd number
+ends_short SinkFault broken saids mid last lines input number breaks ends = absurd number
+ends_short NoMemory broken saids mid last lines input number breaks ends = absurd number
+ends_short ShelfFault broken saids mid last lines input number breaks ends = absurd number
 
-ends_known : (ended : Status) (broken : Option (List ℕ)) (mid last : Desk) (lines : List (List ℕ)) (input : Option (List ℕ)) → HasNumber ended → BreaksOff ended broken mid last
+ends_known : (ended : Status) (broken : Option (List ℕ)) (saids : List Said) (mid last : Desk) (lines : List (List ℕ)) (input : Option (List ℕ)) → HasNumber ended → BreaksOff lines ended broken saids mid last
     → MatchOption input ⊤ (Ends ended broken lines) → MatchOption input ⊤ (Ends NoMemory broken lines)
-ends_known ended broken mid last lines None number breaks ends = tt
-ends_known ended broken mid last lines (Some bytes) number breaks ends = ends_short ended broken mid last lines bytes number breaks ends
+ends_known ended broken saids mid last lines None number breaks ends = tt
+ends_known ended broken saids mid last lines (Some bytes) number breaks ends = ends_short ended broken saids mid last lines bytes number breaks ends
 
-breaks_short : (ended : Status) (broken : Option (List ℕ)) (mid last : Desk) → HasNumber ended → BreaksOff ended broken mid last → BreaksOff NoMemory broken mid last
-breaks_short (Line line kind at) None mid last number breaks = breaks
-breaks_short (Line line kind at) (Some text) mid last number breaks = absurd breaks
-breaks_short (TooLong line) None mid last number breaks = breaks
-breaks_short (TooLong line) (Some text) mid last number breaks = absurd breaks
-breaks_short (Record metaslab place kind) None mid last number breaks = absurd breaks
-breaks_short (Record metaslab place kind) (Some text) mid last number breaks = breaks
-breaks_short Done broken mid last number breaks = absurd number
-breaks_short Usage broken mid last number breaks = absurd number
-breaks_short SourceFault broken mid last number breaks = absurd number
-breaks_short SinkFault broken mid last number breaks = absurd number
-breaks_short NoMemory broken mid last number breaks = absurd number
-breaks_short ShelfFault broken mid last number breaks = absurd number
+breaks_short : (lines : List (List ℕ)) (ended : Status) (broken : Option (List ℕ)) (saids : List Said) (mid last : Desk) → HasNumber ended → BreaksOff lines ended broken saids mid last → BreaksOff lines NoMemory broken saids mid last
+breaks_short lines (Line line kind at) None saids mid last number breaks = breaks
+breaks_short lines (Line line kind at) (Some text) saids mid last number breaks = absurd breaks
+breaks_short lines (TooLong line) None saids mid last number breaks = breaks
+breaks_short lines (TooLong line) (Some text) saids mid last number breaks = absurd breaks
+breaks_short lines (Record metaslab place kind) None saids mid last number breaks = absurd breaks
+breaks_short lines (Record metaslab place kind) (Some text) saids mid last number breaks = breaks
+breaks_short lines Done broken saids mid last number breaks = absurd number
+breaks_short lines Usage broken saids mid last number breaks = absurd number
+breaks_short lines SourceFault broken saids mid last number breaks = absurd number
+breaks_short lines SinkFault broken saids mid last number breaks = absurd number
+breaks_short lines NoMemory broken saids mid last number breaks = absurd number
+breaks_short lines ShelfFault broken saids mid last number breaks = absurd number
 
 shows_short : (ended : Status) (replies : List (List Said)) (shown : List Said) → HasNumber ended → Shows ended replies shown → Shows NoMemory replies shown
 shows_short (Line line kind at) replies shown number shows = inl shows
@@ -80,20 +81,20 @@ gets_short NoMemory shown old new number gets = absurd number
 gets_short ShelfFault shown old new number gets = absurd number
 
 -- what failed, by what was open
-shelf_fails : {A : Type 0} (area : areas.Ghosts A) (broken : Option (List ℕ)) (lines : List (List ℕ)) (mid last : Desk) (entry now : OnShelf) → BreaksOff ShelfFault broken mid last
-    → (IsClosed mid → FailsShut area broken lines mid entry now) → HasFailed entry now ⊎ (MakesLeavesAt broken × RackFailedOn now) → Fails area broken lines mid last entry now
-shelf_fails area None lines mid last entry now breaks shut failed = absurd breaks
-shelf_fails area (Some text) lines Untouched last entry now breaks shut failed = shut tt
-shelf_fails area (Some text) lines Bare last entry now breaks shut failed = shut tt
-shelf_fails area (Some text) lines (Made told n geometry) last entry now breaks shut failed = shut tt
-shelf_fails area (Some text) lines (Shut crash x) last entry now breaks shut failed = shut tt
-shelf_fails area (Some text) lines Unknown last entry now breaks shut failed = shut tt
-shelf_fails area (Some text) lines (Foreign known) last entry now breaks shut failed = failed
-shelf_fails area (Some text) lines (Open x) last entry now breaks shut failed =
+shelf_fails : {A : Type 0} (area : areas.Ghosts A) (broken : Option (List ℕ)) (lines : List (List ℕ)) (saids : List Said) (mid last : Desk) (entry now : OnShelf) → BreaksOff lines ShelfFault broken saids mid last
+    → (IsClosed mid → FailsShut area broken lines mid entry now) → HasFailed entry now ⊎ (MakesLeavesAt lines broken × RackFailedOn now) → Fails area broken lines mid last entry now
+shelf_fails area None lines saids mid last entry now breaks shut failed = absurd breaks
+shelf_fails area (Some text) lines saids Untouched last entry now breaks shut failed = shut tt
+shelf_fails area (Some text) lines saids Bare last entry now breaks shut failed = shut tt
+shelf_fails area (Some text) lines saids (Made told n geometry) last entry now breaks shut failed = shut tt
+shelf_fails area (Some text) lines saids (Shut crash x) last entry now breaks shut failed = shut tt
+shelf_fails area (Some text) lines saids Unknown last entry now breaks shut failed = shut tt
+shelf_fails area (Some text) lines saids (Foreign known) last entry now breaks shut failed = failed
+shelf_fails area (Some text) lines saids (Open x) last entry now breaks shut failed =
     let b = breaks.breaks in
     let it = b.2 in
     let rose = broken_rose x.geometry x.perms breaks.command x.store it.holds it.store x it.mid it.broken it.follows in
-    subst (λ d. Fails area (Some text) lines (Open x) d entry now) (sym b.1) (subst (λ s. AreaRose x s ⊎ (MakesLeavesAt (Some text) × RackRose x s)) (sym it.made) (elim rose [
+    subst (λ d. Fails area (Some text) lines (Open x) d entry now) (sym b.1) (subst (λ s. AreaRose x s ⊎ (MakesLeavesAt lines (Some text) × RackRose x s)) (sym it.made) (elim rose [
       | inl area ↦ inl area
       | inr whole ↦ inr (subst MakesLeavesBy (sym breaks.line) whole.0, whole.1)
     ]))
@@ -110,7 +111,7 @@ not_bad meant (inl usage) metaslab place kind is = (let e = sym usage ∙ is in 
 not_bad meant (inr none) metaslab place kind is = (let e = sym none ∙ is in cc e)
 
 -- a line of an input that makes leaves
-may_make : (input : Option (List ℕ)) (broken : Option (List ℕ)) (lines : List (List ℕ)) → MatchOption input ⊤ (Ends ShelfFault broken lines) → MakesLeavesAt broken → MayMakeLeaves input
+may_make : (input : Option (List ℕ)) (broken : Option (List ℕ)) (lines : List (List ℕ)) → MatchOption input ⊤ (Ends ShelfFault broken lines) → MakesLeavesAt lines broken → MayMakeLeaves input
 may_make None broken lines ends makes = tt
 may_make (Some bytes) None lines ends makes = absurd ends
 may_make (Some bytes) (Some text) lines ends makes = (lines, text, ends.0, ends.1, makes)
@@ -134,15 +135,18 @@ module _ {R A : Type 0} (rack : racks.Ghosts R) (area : areas.Ghosts A) (choices
     mid = is.mid;
     last = is.last;
     broken = is.broken;
+    saids = is.saids;
     desk = is.desk;
     runs = is.runs;
-    breaks = breaks_short ended is.broken is.mid is.last number is.breaks;
-    ends = ends_known ended is.broken is.mid is.last is.lines input number is.breaks is.ends;
-    shows = shows_short ended is.replies is.shown number is.shows;
+    breaks = breaks_short is.lines ended is.broken is.saids is.mid is.last number is.breaks;
+    ends = ends_known ended is.broken is.saids is.mid is.last is.lines input number is.breaks is.ends;
+    shows = shows_short ended (all_replies is.replies is.saids) is.shown number is.shows;
     prints = gets_short ended is.shown start held number is.prints;
     failed = λ e. absurd (cc e);
     since = λ e. absurd (cc e);
     bad = λ metaslab place kind e. absurd (cc e);
+    firm = is.firm;
+    built = is.built;
   }
 
   -- what was served, as the run of these words
@@ -158,17 +162,22 @@ module _ {R A : Type 0} (rack : racks.Ghosts R) (area : areas.Ghosts A) (choices
       ended = ended;
       mid = is.mid;
       broken = is.broken;
-      usage = λ e taken. other e;
-      refused = λ wrong. absurd (wrong session);
+      saids = is.saids;
       runs = is.runs;
+      built = is.built;
       breaks = is.breaks;
       ends = is.ends;
       shows = is.shows;
+    };
+    script = record {
+      usage = λ e taken. other e;
+      refused = λ wrong. absurd (wrong session);
       prints = record { between = mid; replies = is.prints; last = line };
     };
     shelf = leaves.shelf;
     tells = tells;
-    failed = λ e. shelf_fails area is.broken is.lines is.mid is.last entry now (subst (λ s. BreaksOff s is.broken is.mid is.last) e is.breaks)
+    firm = λ rest came. firm_left rack area is.last before now pool is.desk.stands leaves.same (is.firm rest came);
+    failed = λ e. shelf_fails area is.broken is.lines is.saids is.mid is.last entry now (subst (λ s. BreaksOff is.lines s is.broken is.saids is.mid is.last) e is.breaks)
         (λ closed. (let since = is.since e closed in subst (FailsShut area is.broken is.lines is.mid entry) (sym (leaves.same since.0)) since.1)) (elim (is.failed e) [ inl fault ↦ inl (leaves.failed fault) | inr whole ↦ inr (whole.0, leaves.racks whole.1) ]);
     bad = is.bad;
   }
@@ -191,7 +200,7 @@ module _ {R A : Type 0} (rack : racks.Ghosts R) (area : areas.Ghosts A) (choices
 module _ {R A : Type 0} (rack : racks.Ghosts R) (area : areas.Ghosts A) (choices : Choices) (words : List (List ℕ)) (status : Status) (input old new : Option (List ℕ)) (entry : OnShelf) (first : Desk) (at : HoldsDesk first entry entry) where
   -- a run that does nothing but print its last line
   run_of_none : (meant : Status) → (meant ≡ Usage → IsSession words → ⊥) → (meant ≡ Usage) ⊎ (meant ≡ NoMemory) → ((known : Option (List ℕ)) → MatchOption known ⊤ (Ends meant None [])) → Shows meant [] []
-      → BreaksOff meant None first first → GetsReplies meant [] old old → (HasNumber meant → ⊥) → EndsWithLine meant status old new → RunsFrom rack area choices words status input old new entry entry first
+      → BreaksOff [] meant None [] first first → GetsReplies meant [] old old → (HasNumber meant → ⊥) → EndsWithLine meant status old new → RunsFrom rack area choices words status input old new entry entry first
   run_of_none meant wrong refused ends shows breaks gets plain line = elim line.is [
     | inl same ↦ record {
       last = first;
@@ -202,16 +211,21 @@ module _ {R A : Type 0} (rack : racks.Ghosts R) (area : areas.Ghosts A) (choices
         ended = meant;
         mid = first;
         broken = None;
-        usage = wrong;
-        refused = λ _. record { nothing = refl; cause = refused };
+        saids = [];
         runs = refl;
+        built = tt;
         breaks = breaks;
         ends = ends input;
         shows = shows;
+      };
+      script = record {
+        usage = wrong;
+        refused = λ _. record { nothing = refl; cause = refused };
         prints = record { between = old; replies = gets; last = subst (λ m. Prints status m (last_text m) old new) same line.prints };
       };
       shelf = back first at;
       tells = refl;
+      firm = λ rest came. absurd (cc came);
       failed = λ e. absurd (not_fault meant refused e);
       bad = λ metaslab place kind e. absurd (not_bad meant refused metaslab place kind e);
     }
@@ -229,14 +243,14 @@ module _ {R A : Type 0} (rack : racks.Ghosts R) (area : areas.Ghosts A) (choices
 
   -- a run whose words aren't those of a session
   pub run_refused : (IsSession words → ⊥) → EndsWithLine Usage status old new → RunsFrom rack area choices words status input old new entry entry first
-  run_refused wrong = run_of_none Usage (λ e. wrong) (inl refl) ends_nothing refl refl (appends_none old) (λ number. number) where
+  run_refused wrong = run_of_none Usage (λ e. wrong) (inl refl) ends_nothing refl (refl, refl) (appends_none old) (λ number. number) where
     ends_nothing : (known : Option (List ℕ)) → MatchOption known ⊤ (Ends Usage None [])
     ends_nothing None = tt
     ends_nothing (Some bytes) = refl
 
   -- a run whose words can't be read for want of memory
   pub run_unread : EndsWithLine NoMemory status old new → RunsFrom rack area choices words status input old new entry entry first
-  run_unread = run_of_none NoMemory (λ e. absurd (not_usage e)) (inr refl) ends_nothing (inl refl) refl (appends_none old) (λ number. number) where
+  run_unread = run_of_none NoMemory (λ e. absurd (not_usage e)) (inr refl) ends_nothing (inl refl) (refl, refl) (appends_none old) (λ number. number) where
     ends_nothing : (known : Option (List ℕ)) → MatchOption known ⊤ (Ends NoMemory None [])
     ends_nothing None = tt
     ends_nothing (Some bytes) = (lines_of bytes, refl)

@@ -8,10 +8,11 @@ use Rattle.draid_rack.specs.declared.Rack as racks
 use Rattle.draid_area.specs.declared.Area as areas
 use Rattle.draid_lines.specs.Lines.{IsTooLong, is_end, lines_of}
 use Rattle.draid_lines.proofs.Ends.{lines_first, lines_last, position-le}
-use Rattle.draid_script.specs.Grammar.{line_of}
 use Rattle.draid_script.specs.Line.{Command, ImportPool}
 use Rattle.draid_script.specs.declared.fault.LineFault.{LineFault}
 use Rattle.draid_session.specs.Choices.{Choices}
+use Rattle.draid_session.specs.Places.{line_behind}
+use Rattle.draid_session.specs.Said.{Said}
 use Rattle.draid_session.specs.Session.{Desk, Untouched, Bare, Made, Open, Shut, Foreign, Unknown, Breaks, BreaksGiven, RecordFails}
 use Rattle.draid_session.specs.State.{State}
 use Rattle.draid_run.specs.Ending.{CanRun, EndsWell, IsBuilt, IsUndisturbed, IsUntold}
@@ -98,21 +99,21 @@ meant_is SinkFault ended text old new sink prints = absurd (sink refl)
 meant_is status ended text old new sink prints = sym prints.0
 
 module _ {R A : Type 0} (rack : racks.Ghosts R) (area : areas.Ghosts A) (choices : Choices) (words : List (List ℕ)) (input : List ℕ) (session : IsSession words) (can : CanRun input) where
-  by_end : (ended : Status) (broken : Option (List ℕ)) (lines : List (List ℕ)) (mid last : Desk) → IsUndisturbed ended → (ended ≡ Usage → IsSession words → ⊥) → BreaksOff ended broken mid last → Ends ended broken lines input → EndsWell ended mid
-  by_end Done broken lines mid last quiet usage breaks ends = tt
-  by_end Usage broken lines mid last quiet usage breaks ends = usage refl session
-  by_end (Line line kind at) broken lines mid last quiet usage breaks ends =
-      not_built (line_of ends.0) kind at (all_here (λ text. IsBuilt (line_of text)) (lines_of input) lines ends.0 ends.1 ends.2 can.built) ends.3
-  by_end (TooLong line) broken lines mid last quiet usage breaks ends = not_long input lines ends.0 can ends.1 ends.2
-  by_end SourceFault broken lines mid last quiet usage breaks ends = quiet.source refl
-  by_end SinkFault broken lines mid last quiet usage breaks ends = quiet.sink refl
-  by_end NoMemory broken lines mid last quiet usage breaks ends = quiet.memory refl
-  by_end ShelfFault broken lines mid last quiet usage breaks ends = quiet.shelf refl
-  by_end (Record metaslab place kind) None lines mid last quiet usage breaks ends = absurd breaks
-  by_end (Record metaslab place kind) (Some text) lines mid last quiet usage breaks ends = untold_by mid last breaks.command breaks.breaks
+  by_end : (ended : Status) (broken : Option (List ℕ)) (lines : List (List ℕ)) (saids : List Said) (mid last : Desk) → IsUndisturbed ended → (ended ≡ Usage → IsSession words → ⊥) → BreaksOff lines ended broken saids mid last → Ends ended broken lines input → EndsWell ended mid
+  by_end Done broken lines saids mid last quiet usage breaks ends = tt
+  by_end Usage broken lines saids mid last quiet usage breaks ends = usage refl session
+  by_end (Line line kind at) broken lines saids mid last quiet usage breaks ends =
+      not_built (line_behind lines ends.0) kind at (can.built lines ends.0 ends.1 ends.2) ends.3
+  by_end (TooLong line) broken lines saids mid last quiet usage breaks ends = not_long input lines ends.0 can ends.1 ends.2
+  by_end SourceFault broken lines saids mid last quiet usage breaks ends = quiet.source refl
+  by_end SinkFault broken lines saids mid last quiet usage breaks ends = quiet.sink refl
+  by_end NoMemory broken lines saids mid last quiet usage breaks ends = quiet.memory refl
+  by_end ShelfFault broken lines saids mid last quiet usage breaks ends = quiet.shelf refl
+  by_end (Record metaslab place kind) None lines saids mid last quiet usage breaks ends = absurd breaks
+  by_end (Record metaslab place kind) (Some text) lines saids mid last quiet usage breaks ends = untold_by mid last breaks.command breaks.breaks
 
   pub ends_well : (status : Status) (old new : Option (List ℕ)) (entry now : OnShelf) (first : Desk) → (it : RunsFrom rack area choices words status (Some input) old new entry now first) → IsUndisturbed status → EndsWell status it.session.mid
   ends_well status old new entry now first it quiet =
       let s = it.session in
-      let same : s.ended ≡ status = meant_is status s.ended (last_text s.ended) s.prints.between new quiet.sink s.prints.last in
-      subst (λ e. EndsWell e s.mid) same (by_end s.ended s.broken s.lines s.mid it.last (subst IsUndisturbed (sym same) quiet) s.usage s.breaks s.ends)
+      let same : s.ended ≡ status = meant_is status s.ended (last_text s.ended) it.script.prints.between new quiet.sink it.script.prints.last in
+      subst (λ e. EndsWell e s.mid) same (by_end s.ended s.broken s.lines s.saids s.mid it.last (subst IsUndisturbed (sym same) quiet) it.script.usage s.breaks s.ends)

@@ -16,9 +16,10 @@ use Rattle.draid_session.specs.Said.{alone}
 use Rattle.draid_session.specs.Choices.{Choices}
 use Rattle.draid_session.specs.Session.{Desk}
 use Rattle.draid_pool.specs.declared.pool.Pool.{Pool}
+use Rattle.draid_run.specs.Crashes.{LeavesFirm}
 use Rattle.draid_run.specs.Desks.{Turned}
 use Rattle.draid_run.specs.Serve.{AnswerIs, LineIs, PrintIs, status_of}
-use Rattle.draid_run.specs.Script.{LineFaultIs}
+use Rattle.draid_run.specs.Script.{IsBuilt, LineFaultIs}
 use Rattle.draid_pool.specs.Shelves.{OnShelf}
 use Rattle.draid_run.specs.declared.answer.Stop.{Stop}
 use Rattle.draid_run.specs.declared.answer.Stop.TheVariants as stop
@@ -63,6 +64,12 @@ blameless P ended status none is device = absurd (device (subst IsBlameless is n
 pub done_usage : Done ≡ Usage → ⊥
 done_usage is = cc is
 
+pub usage_done : Usage ≡ Done → ⊥
+usage_done is = cc is
+
+pub memory_done : NoMemory ≡ Done → ⊥
+memory_done is = cc is
+
 -- the sink failed as the last line was put, or before
 pub sink_last : (ended : Status) (before now : ℕ) → IsBlameless ended → (ended ≡ SinkFault) ⊎ Rose before now → Rose before now
 sink_last ended before now none why = elim why [ inl is ↦ absurd (subst IsBlameless is none) | inr rose ↦ rose ]
@@ -93,27 +100,27 @@ module _ (P : Type 0) where
 
 -- a line was answered, and its reply printed or not
 module _ {R A : Type 0} (rack : racks.Ghosts R) (area : areas.Ghosts A) (choices : Choices) (number : ℕ) (text : List ℕ) (entry before : OnShelf) (pool : Option (Pool R A)) (x : Desk) (now : OnShelf) (pool' : Option (Pool R A)) (reply : Reply) (held held' : Option (List ℕ)) where
-  pub line_told : (result : Result Unit Status) → Turned rack area choices (line_of text) entry x (alone reply) now pool' → PrintIs (text_of reply) held held' result
+  pub line_told : (result : Result Unit Status) → Turned rack area choices (line_of text) entry x (alone reply) now pool' → LeavesFirm (line_of text) (alone reply) before pool now pool' → IsBuilt (line_of text) → PrintIs (text_of reply) held held' result
       → LineIs rack area choices number text entry before pool x now pool' held held' result
-  line_told (Ok done) turned prints = record { saids = alone reply; turned = turned; prints = subst (λ text. Appends held held' text) (sym (append-nil (text_of reply))) prints }
-  line_told (Err SinkFault) turned prints =
-      record { part = []; said = record { lane = None; reply = reply }; rest = []; mid = held; turned = turned; whole = appends_none held; prints = prints }
-  line_told (Err NoMemory) turned prints =
-      inr (record { part = []; said = record { lane = None; reply = reply }; rest = []; turned = turned; prints = subst (λ now. Appends held now []) (sym prints) (appends_none held) })
-  line_told (Err Done) turned prints = absurd prints
-  line_told (Err Usage) turned prints = absurd prints
-  line_told (Err (Line line kind at)) turned prints = absurd prints
-  line_told (Err SourceFault) turned prints = absurd prints
-  line_told (Err (TooLong line)) turned prints = absurd prints
-  line_told (Err ShelfFault) turned prints = absurd prints
-  line_told (Err (Record metaslab place kind)) turned prints = absurd prints
+  line_told (Ok done) turned firm built prints = record { saids = alone reply; turned = turned; firm = firm; built = built; prints = subst (λ text. Appends held held' text) (sym (append-nil (text_of reply))) prints }
+  line_told (Err SinkFault) turned firm built prints =
+      record { part = []; said = record { lane = None; reply = reply }; rest = []; mid = held; turned = turned; firm = firm; built = built; whole = appends_none held; prints = prints }
+  line_told (Err NoMemory) turned firm built prints =
+      inr (record { part = []; said = record { lane = None; reply = reply }; rest = []; turned = turned; firm = firm; built = built; prints = subst (λ now. Appends held now []) (sym prints) (appends_none held) })
+  line_told (Err Done) turned firm built prints = absurd prints
+  line_told (Err Usage) turned firm built prints = absurd prints
+  line_told (Err (Line line kind at)) turned firm built prints = absurd prints
+  line_told (Err SourceFault) turned firm built prints = absurd prints
+  line_told (Err (TooLong line)) turned firm built prints = absurd prints
+  line_told (Err ShelfFault) turned firm built prints = absurd prints
+  line_told (Err (Record metaslab place kind)) turned firm built prints = absurd prints
 
 -- a line has no reply, and the run ends
 module _ {R A : Type 0} (rack : racks.Ghosts R) (area : areas.Ghosts A) (choices : Choices) (number : ℕ) (text : List ℕ) (entry before : OnShelf) (pool : Option (Pool R A)) (x : Desk) (now : OnShelf) (pool' : Option (Pool R A)) (held : Option (List ℕ)) (command : Command) (line : line_of text ≡ Ok command) where
   by_stop : (why : Stop) → AnswerIs rack area choices command entry before pool x now pool' (Err why) → LineIs rack area choices number text entry before pool x now pool' held held (Err (status_of number why))
   by_stop stop.Unbuilt answered = (subst (λ r. LineFaultIs r refusal.Unbuilt 0) (sym line) (answered.0, refl, refl), answered.1, answered.2, refl, refl)
-  by_stop stop.Shelf answered = (refl, record { command = command; line = line; broken = answered })
-  by_stop (stop.Record metaslab place kind) answered = (refl, record { command = command; line = line; broken = answered.0 }, answered.1)
+  by_stop stop.Shelf answered = (refl, record { command = command; line = line; built = answered.1; broken = answered.0 })
+  by_stop (stop.Record metaslab place kind) answered = (refl, record { command = command; line = line; built = answered.2; broken = answered.0 }, answered.1)
 
   pub line_stopped : (why : Stop) (status : Status) → status ≡ status_of number why → AnswerIs rack area choices command entry before pool x now pool' (Err why)
       → LineIs rack area choices number text entry before pool x now pool' held held (Err status)
@@ -123,6 +130,12 @@ module _ {R A : Type 0} (rack : racks.Ghosts R) (area : areas.Ghosts A) (choices
 
 abbrev unread : Status → Result (Option (Vec ℕ Global)) Status
 unread status = Err status
+
+abbrev given : Option (Vec ℕ Global) → Result (Option (Vec ℕ Global)) Status
+given text = Ok text
+
+pub text_same : (a b : Option (Vec ℕ Global)) → given a ≡ given b → a ≡ b
+text_same a b is = cc is
 
 -- the source isn't why there is none
 module _ (P : Type 0) where

@@ -17,7 +17,11 @@ use Rattle.draid_pool.specs.Ubers.{UberStands}
 use Rattle.draid_pool.specs.declared.pool.Pool.{Pool}
 use Rattle.draid_run.specs.Desks.{IsDesk, LeavesDesk}
 use Rattle.draid_pool.specs.Shelves.{OnShelf}
-use Rattle.draid_run.specs.Shelves.{AreaHasFailed, HasChecks, HoldsShut, IsOut, RackFailedOn, RackHasFailed, TellsAsBefore}
+use Rattle.draid_run.specs.Shelves.{AreaHasFailed, HasChecks, HoldsShut, IsOut, RackFailedOn, RackHasFailed, StaysAs, TellsAsBefore}
+
+-- what stays as it was, and then again
+pub stays_on : (a b c : OnShelf) → StaysAs a b → StaysAs b c → StaysAs a c
+stays_on a b c x y = record { held = y.held ∙ x.held; counts = λ m. y.counts m ∙ x.counts m; uber = y.uber ∙ x.uber; checks = y.checks ∙ x.checks }
 
 -- ---- whether the shelf tells makes no other difference to what it holds
 

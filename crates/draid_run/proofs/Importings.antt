@@ -16,7 +16,7 @@ use Rattle.draid_reply.specs.declared.reply.Reply.TheVariants.{Imported, NoMemor
 use Rattle.draid_session.specs.Said.{alone}
 use Rattle.draid_session.specs.Choices.{Choices}
 use Rattle.draid_session.specs.Follows.{Follows}
-use Rattle.draid_session.specs.Holds.{Act, AreaFailed, Did, Hold, Looked, MadeLeaf, On, OnUber, RackFailed, Reserved, View}
+use Rattle.draid_session.specs.Holds.{Act, AreaFailed, Did, Hold, Looked, MadeLeaf, On, OnUber, RackFailed, CallStarved, Reserved, View}
 use Rattle.draid_session.specs.Making.{vdev_name_of}
 use Rattle.draid_session.specs.Opening.{FreesOlder, HasObjects, Imports}
 use Rattle.draid_session.specs.Known.{nothing_known}
@@ -49,7 +49,7 @@ use Rattle.draid_run.specs.Shelves.{HasChecks, HoldsFault, HoldsNew, HoldsShut, 
 use Rattle.draid_run.specs.declared.answer.Stop.{Stop}
 use Rattle.draid_run.specs.declared.answer.Stop.TheVariants as stop
 use Rattle.draid_pool.proofs.Following.{same_layout, same_told}
-use Rattle.draid_run.proofs.GivenBack.{on_held, shelf_has}
+use Rattle.draid_run.proofs.GivenBack.{on_held, shelf_has, stays_on}
 
 -- ---- what was found
 
@@ -83,6 +83,7 @@ module _ (x : State) (group : ℕ) where
   frees_rest v (MadeLeaf leaf) hs o = absurd o
   frees_rest v (AreaFailed t) hs o = absurd o
   frees_rest v RackFailed hs o = absurd o
+  frees_rest v CallStarved hs o = absurd o
 
   -- the committed group stays as older blocks are freed
   frees_committed : (holds : List Hold) (a b : State) → FreesOlder x group holds → Follows holds a b → b.committed ≡ a.committed
@@ -137,7 +138,7 @@ pub record Resting (x : State) (before : OnShelf) : Type 0 where
   pub pieces : ℕ → Pieces
   pub rests : RestsThere x pieces before.held before.leaves before.counts before.own.uber
 
-resting : (crash : Bool) (x : State) (before : OnShelf) → HoldsShut crash x before → x.told ≡ true → Resting x before
+pub resting : (crash : Bool) (x : State) (before : OnShelf) → HoldsShut crash x before → x.told ≡ true → Resting x before
 resting crash x before h told = by before.held refl h.held h.importable (sym h.told ∙ told) where
   by : (held : Option Held) → before.held ≡ held → OnHeld before.held (HoldsPool x crash) → OnHeld before.held (λ i. IsImportable x i before.leaves) → is_some before.held ≡ true → Resting x before
   by None same pool importable is = absurd (let z = sym is ∙ ap is_some same in cc)
@@ -172,7 +173,7 @@ checks_there x pieces None (Some held) same rests = absurd same
 checks_there x pieces (Some before) (Some held) same rests = subst (λ c. IsSomeAnd c AreNewChecks) (sym same) rests.checks
 
 -- a new pool is held, where the shelf tells it
-new_held : (o : Option Held) (P : Held → Type 0) → true ≡ is_some o → OnHeld o P → IsSomeAnd o P
+pub new_held : (o : Option Held) (P : Held → Type 0) → true ≡ is_some o → OnHeld o P → IsSomeAnd o P
 new_held None P told is = absurd (cc told)
 new_held (Some h) P told is = is
 
@@ -237,8 +238,8 @@ module _ {R A : Type 0} (rack : racks.Ghosts R) (area : areas.Ghosts A) (entry b
     no_pool is (Made false failed geometry) stands shelf = record { new = Unknown; desk = record { stands = tt; shelf = tt }; turns = refl }
     no_pool is Unknown stands shelf = record { new = Unknown; desk = record { stands = tt; shelf = tt }; turns = refl }
     no_pool is Bare stands shelf =
-        let none = bare_none shelf in
-        record { new = Bare; desk = record { stands = tt; shelf = subst (λ (h : Option Held). IsSomeAnd h (λ held. held.uber ≡ None)) (sym none.1.held) shelf }; turns = (refl, refl) }
+        let none = bare_none shelf.1 in
+        record { new = Bare; desk = record { stands = tt; shelf = (stays_on entry before now shelf.0 none.1, subst (λ (h : Option Held). IsSomeAnd h (λ held. held.uber ≡ None)) (sym none.1.held) shelf.1) }; turns = (refl, refl) }
     no_pool is (Shut crash y) stands shelf = elim (true_or y.told) [
       | inl told ↦
           let found = was y (Err fault.NoPool) is (resting crash y before shelf told) in
@@ -261,7 +262,7 @@ module _ {R A : Type 0} (rack : racks.Ghosts R) (area : areas.Ghosts A) (entry b
         record { new = Made true now.own.uber geometry; desk = record { stands = tt; shelf = left.0 }; turns = (now.own.uber, left.1, refl) }
     no_memory is (Made false failed geometry) stands shelf = record { new = Unknown; desk = record { stands = tt; shelf = tt }; turns = refl }
     no_memory is Unknown stands shelf = record { new = Unknown; desk = record { stands = tt; shelf = tt }; turns = refl }
-    no_memory is Bare stands shelf = absurd (let z = sym is ∙ (bare_none shelf).0 in cc)
+    no_memory is Bare stands shelf = absurd (let z = sym is ∙ (bare_none shelf.1).0 in cc)
     no_memory is (Shut crash y) stands shelf = elim (true_or y.told) [
       | inl told ↦
           let left = was y (Err fault.NoMemory) is (resting crash y before shelf told) in
@@ -283,7 +284,7 @@ module _ {R A : Type 0} (rack : racks.Ghosts R) (area : areas.Ghosts A) (entry b
         record { new = Made true now.own.uber geometry; desk = record { stands = tt; shelf = left.0 }; breaks = (now.own.uber, left.1, refl); cause = (tt, called.cause is) }
     shelf_failed is (Made false failed geometry) stands shelf = record { new = Unknown; desk = record { stands = tt; shelf = tt }; breaks = refl; cause = (tt, called.cause is) }
     shelf_failed is Unknown stands shelf = record { new = Unknown; desk = record { stands = tt; shelf = tt }; breaks = refl; cause = (tt, called.cause is) }
-    shelf_failed is Bare stands shelf = absurd (let z = sym is ∙ (bare_none shelf).0 in cc)
+    shelf_failed is Bare stands shelf = absurd (let z = sym is ∙ (bare_none shelf.1).0 in cc)
     shelf_failed is (Shut crash y) stands shelf = elim (true_or y.told) [
       | inl told ↦
           let left = was y (Err fault.Shelf) is (resting crash y before shelf told) in
@@ -305,7 +306,7 @@ module _ {R A : Type 0} (rack : racks.Ghosts R) (area : areas.Ghosts A) (entry b
     record_fails metaslab place kind is (Made true failed geometry) stands shelf = absurd (new_none failed geometry (Err (fault.Record metaslab place kind)) is shelf)
     record_fails metaslab place kind is (Made false failed geometry) stands shelf = record { new = Unknown; desk = record { stands = tt; shelf = tt }; breaks = refl; cause = tt }
     record_fails metaslab place kind is Unknown stands shelf = record { new = Unknown; desk = record { stands = tt; shelf = tt }; breaks = refl; cause = tt }
-    record_fails metaslab place kind is Bare stands shelf = absurd (let z = sym is ∙ (bare_none shelf).0 in cc)
+    record_fails metaslab place kind is Bare stands shelf = absurd (let z = sym is ∙ (bare_none shelf.1).0 in cc)
     record_fails metaslab place kind is (Shut crash y) stands shelf = elim (true_or y.told) [
       | inl told ↦ absurd (was y (Err (fault.Record metaslab place kind)) is (resting crash y before shelf told))
       | inr untold ↦ record { new = Unknown; desk = record { stands = tt; shelf = tt }; breaks = breaks_untold y Unknown RecordFails untold refl; cause = tt }
@@ -360,7 +361,7 @@ module _ {R A : Type 0} (rack : racks.Ghosts R) (area : areas.Ghosts A) (entry b
         by (Made true failed geo) stands shelf = absurd (new_none failed geo (Ok pool) is shelf)
         by (Made false failed geo) stands shelf = foreign (Made false failed geo) refl
         by Unknown stands shelf = foreign Unknown refl
-        by Bare stands shelf = absurd (let z = sym is ∙ (bare_none shelf).0 in cc)
+        by Bare stands shelf = absurd (let z = sym is ∙ (bare_none shelf.1).0 in cc)
         by (Shut crash y) stands shelf = elim (true_or y.told) [
           | inl told ↦
               let rest = resting crash y before shelf told in
@@ -389,7 +390,7 @@ module _ {R A : Type 0} (rack : racks.Ghosts R) (area : areas.Ghosts A) (entry b
         by (Made true failed geo) stands shelf = absurd (new_none failed geo (Ok pool) is shelf)
         by (Made false failed geo) stands shelf = record { new = Unknown; desk = record { stands = tt; shelf = tt }; turns = refl }
         by Unknown stands shelf = record { new = Unknown; desk = record { stands = tt; shelf = tt }; turns = refl }
-        by Bare stands shelf = absurd (let z = sym is ∙ (bare_none shelf).0 in cc)
+        by Bare stands shelf = absurd (let z = sym is ∙ (bare_none shelf.1).0 in cc)
         by (Shut crash y) stands shelf = elim (true_or y.told) [
           | inl told ↦
               let rest = resting crash y before shelf told in
@@ -437,9 +438,9 @@ module _ {R A : Type 0} (rack : racks.Ghosts R) (area : areas.Ghosts A) (choices
 
   pub answer_import : (pool : Option (Pool R A)) (x : Desk) (new : Option (Pool R A)) (given : Result Reply Stop) (result : Result (Option Reply) Stop) → IsSaid given result
       → ImportIs rack area entry before x now new given → AnswerIs rack area choices ImportPool entry before pool x now new result
-  answer_import pool x new (Ok reply) result said did = subst (AnswerIs rack area choices ImportPool entry before pool x now new) (sym said) (by_import x reply new did)
-  answer_import pool x new (Err stop.Shelf) result said did = subst (AnswerIs rack area choices ImportPool entry before pool x now new) (sym said) did
-  answer_import pool x new (Err (stop.Record metaslab place kind)) result said did = subst (AnswerIs rack area choices ImportPool entry before pool x now new) (sym said) did
+  answer_import pool x new (Ok reply) result said did = subst (AnswerIs rack area choices ImportPool entry before pool x now new) (sym said) (by_import x reply new did, tt, λ none. none)
+  answer_import pool x new (Err stop.Shelf) result said did = subst (AnswerIs rack area choices ImportPool entry before pool x now new) (sym said) (did, λ none. none)
+  answer_import pool x new (Err (stop.Record metaslab place kind)) result said did = subst (AnswerIs rack area choices ImportPool entry before pool x now new) (sym said) (did.0, did.1, λ none. none)
   answer_import pool x new (Err stop.Unbuilt) result said did = absurd did
 
 -- a pool is open already

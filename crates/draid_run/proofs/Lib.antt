@@ -4,6 +4,7 @@ pub mod Behind
 pub mod Booked
 pub mod Broke
 pub mod Closings
+pub mod Crashing
 pub mod Ended
 pub mod Ending
 pub mod Exits
@@ -20,3 +21,6 @@ pub mod Runs
 pub mod Said
 pub mod Serving
 pub mod Steps
+pub mod Told
+pub mod Turned
+pub mod Unfailing

@@ -39,7 +39,7 @@ use Rattle.draid_pool.specs.Shelves.{OnShelf}
 use Rattle.draid_run.specs.Shelves.{HasChecks, HoldsShut, IsClosed}
 use Rattle.draid_create.specs.declared.replies.Made as answer
 use Rattle.draid_run.specs.Serve.{stop_of}
-use Rattle.draid_run.proofs.GivenBack.{holds_as, importable_as, on_held, told_as}
+use Rattle.draid_run.proofs.GivenBack.{holds_as, importable_as, on_held, stays_on, told_as}
 use Rattle.draid_run.proofs.Risen.{cause_closed}
 
 -- what stands behind all checks is what passed them
@@ -60,11 +60,8 @@ has_checks (Some held) away = away.checks
 
 -- a desk without a pool stands as the shelf stays as it is
 pub same_shelf : (x : Desk) (entry before now : OnShelf) → ((y : State) → x ≡ Open y → ⊥) → IsSame before now → IsShelf x entry before → IsShelf x entry now
-same_shelf Untouched entry before now none s d = (
-  record { held = s.0.held ∙ d.0.held; counts = λ m. s.0.counts m ∙ d.0.counts m; uber = s.0.uber ∙ d.0.uber; checks = s.0.checks ∙ d.0.checks },
-  λ m. s.1 m ∙ d.1 m,
-)
-same_shelf Bare entry before now none s d = subst (λ (h : Option Held). IsSomeAnd h (λ held. held.uber ≡ None)) (sym s.0.held) d
+same_shelf Untouched entry before now none s d = (stays_on entry before now d.0 s.0, λ m. s.1 m ∙ d.1 m)
+same_shelf Bare entry before now none s d = (stays_on entry before now d.0 s.0, subst (λ (h : Option Held). IsSomeAnd h (λ held. held.uber ≡ None)) (sym s.0.held) d.1)
 same_shelf (Made tells count geometry) entry before now none s d = record {
   told_is = d.told_is ∙ ap is_some (sym s.0.held);
   made = record {

@@ -102,7 +102,7 @@ module _ (left found : OnShelf) (it : HasCrashed left found) where
 
 crashed_desk : (x : Desk) (entry left found : OnShelf) → HasCrashed left found → HoldsDesk (left_of x) entry left → HoldsDesk (next_desk true x) found found
 crashed_desk Untouched entry left found it is = as_found found
-crashed_desk Bare entry left found it is = bare_crashed left found it is
+crashed_desk Bare entry left found it is = ((as_found found).0, bare_crashed left found it is.1)
 crashed_desk (Made told failed geometry) entry left found it is = new_crashed left found it told failed geometry is
 crashed_desk (Open x) entry left found it is = shut_crashed left found it false x is
 crashed_desk (Shut crashed x) entry left found it is = shut_crashed left found it crashed x is
@@ -120,7 +120,7 @@ not_open Unknown y is = cc is
 
 same_desk : (x : Desk) (entry left found : OnShelf) → IsSame left found → HoldsDesk (left_of x) entry left → HoldsDesk (next_desk false x) found found
 same_desk Untouched entry left found same is = as_found found
-same_desk Bare entry left found same is = same_shelf Bare entry left found (not_open Bare) same is
+same_desk Bare entry left found same is = ((as_found found).0, (same_shelf Bare entry left found (not_open Bare) same is).1)
 same_desk (Made told failed geometry) entry left found same is = same_shelf (Made told failed geometry) entry left found (not_open (Made told failed geometry)) same is
 same_desk (Open x) entry left found same is = same_shelf (Shut false x) entry left found (not_open (Open x)) same is
 same_desk (Shut crashed x) entry left found same is = same_shelf (Shut crashed x) entry left found (not_open (Shut crashed x)) same is

@@ -26,6 +26,12 @@ module _ (line : List ℕ) (old new : Option (List ℕ)) where
   pub prints_source : (meant status : Status) → Prints status meant line old new → status ≡ SourceFault → meant ≡ SourceFault
   prints_source meant status prints is = sym (subst (λ s. Prints s meant line old new) is prints).0
 
+  pub prints_done : (meant status : Status) → Prints status meant line old new → status ≡ Done → meant ≡ Done
+  prints_done meant status prints is = sym (subst (λ s. Prints s meant line old new) is prints).0
+
+  pub prints_usage : (meant status : Status) → Prints status meant line old new → status ≡ Usage → meant ≡ Usage
+  prints_usage meant status prints is = sym (subst (λ s. Prints s meant line old new) is prints).0
+
   pub prints_shelf : (meant status : Status) → Prints status meant line old new → status ≡ ShelfFault → meant ≡ ShelfFault
   prints_shelf meant status prints is = sym (subst (λ s. Prints s meant line old new) is prints).0
 
@@ -41,6 +47,12 @@ prints_none (byte ∷ line) held ended none = absurd (grind (arith, nat_tests, n
 module _ (status : Status) where
   pub no_source : (status ≡ SourceFault → NoMemory ≡ SourceFault) → (P : Type 0) → status ≡ SourceFault → P
   no_source by P is = absurd (cc (by is))
+
+  pub no_done : (status ≡ Done → NoMemory ≡ Done) → (P : Type 0) → status ≡ Done → P
+  no_done by P is = absurd (cc (by is))
+
+  pub no_usage : (status ≡ Usage → NoMemory ≡ Usage) → (P : Type 0) → status ≡ Usage → P
+  no_usage by P is = absurd (cc (by is))
 
   pub no_shelf : (status ≡ ShelfFault → NoMemory ≡ ShelfFault) → (P : Type 0) → status ≡ ShelfFault → P
   no_shelf by P is = absurd (cc (by is))

@@ -6,7 +6,7 @@ use Rattle.draid_names.specs.declared.refusal.ObjectFault.{ObjectFault}
 use Rattle.draid_names.specs.declared.refusal.ObjectFault.TheVariants as fault
 use Rattle.draid_machine.proofs.Small.{equal}
 use Rattle.draid_script.specs.Grammar.{line_of}
-use Rattle.draid_script.specs.Line.{Command, Silent, CrashPool, ExportPool, WriteObject, FillObjects, ReadObject, FreeObject, SumObjects}
+use Rattle.draid_script.specs.Line.{Command, Silent, CrashPool, ExportPool, WriteObject, FillObjects, ReadObject, FreeObject, SumObjects, RewindPool}
 use Rattle.draid_script.specs.declared.fault.LineFault.{LineFault}
 use Rattle.draid_reply.specs.declared.reply.Reply.{Reply}
 use Rattle.draid_reply.specs.declared.reply.Reply.TheVariants.{Contents, Crashed, Exported, Filled, FillRefused, FreeNoObject, Freed, NoObject, ReadWorn, Summed, SumRefused, Unreadable, Written}
@@ -14,6 +14,7 @@ use Rattle.draid_session.specs.Said.{Said, alone}
 use Rattle.draid_session.specs.Choices.{Choices}
 use Rattle.draid_session.specs.Known.{AllowsBytes, AllowsNone, Known, Learns, MayGiveNone, MayHaveAll, learns, learns_all, learns_filled, learns_lost}
 use Rattle.draid_session.specs.Making.{content_of}
+use Rattle.draid_session.specs.Places.{Outside}
 use Rattle.draid_session.specs.Reads.{ReadsAs}
 use Rattle.draid_session.specs.Replies.{IsReplyTo}
 use Rattle.draid_session.specs.Session.{Desk, Finding, Foreign, Runs, TurnsBy}
@@ -127,6 +128,7 @@ module _ (object : ℕ) (bytes : List ℕ) where
   kept_on (SumObjects first count) (SumRefused q why) old new spares fits it has =
       has_same (learns_lost q why (learns_all first it.contents old)) new it.learned (has_lost q why old (learns_all first it.contents old) it.lost has (has_all it.contents first old it.may has))
   kept_on (SumObjects first count) reply old new spares fits it has = has_same old new it has
+  kept_on RewindPool reply old new spares fits it has = absurd spares
   kept_on command reply old new spares fits it has = has_same old new it has
 
   stays_open : (command : Command) (reply : Reply) → Spares object (Ok command) → IsReplyTo command reply → KeepsOpen reply
@@ -159,7 +161,7 @@ module _ (object : ℕ) (bytes : List ℕ) where
         }
 
     module _ (tells : Bool) (read : List ℕ) (p : ℕ) (got : Vec ℕ Global) (is_read : line_of read ≡ Ok (ReadObject object)) where
-      pub read_behind : (lines : List (List ℕ)) (replies : List (List Said)) (old : Known) (last : Desk) → AllSpare object lines → length replies ≡ length lines
+      pub read_behind : (lines : List (List ℕ)) (replies : List (List Said)) (old : Known) (last : Desk) → AllSpare object Outside lines → length replies ≡ length lines
           → Runs choices finds tells (Foreign old) (lines ++ (read ∷ [])) (replies ++ (alone (Contents p got) ∷ [])) last → HasKnown old → ReadsAs bytes got.items
       read_behind [] [] old last spare same runs has =
           let turns = subst (λ r. TurnsBy choices finds r (Foreign old) (alone (Contents p got)) runs.0) is_read runs.1 in
@@ -173,7 +175,7 @@ module _ (object : ℕ) (bytes : List ℕ) where
 
 -- ---- behind a write, and behind a read
 
-module _ (choices : Choices) (finds : Finding → Type 0) (tells : Bool) (lines : List (List ℕ)) (replies : List (List Said)) (object o p : ℕ) (old : Known) (last : Desk) (spare : AllSpare object lines)
+module _ (choices : Choices) (finds : Finding → Type 0) (tells : Bool) (lines : List (List ℕ)) (replies : List (List Said)) (object o p : ℕ) (old : Known) (last : Desk) (spare : AllSpare object Outside lines)
     (same : length replies ≡ length lines) (first read : List ℕ) (got : Vec ℕ Global) (is_read : line_of read ≡ Ok (ReadObject object)) where
   abbrev RunsOn : Reply → Type 0
   RunsOn reply = Runs choices finds tells (Foreign old) (first ∷ (lines ++ (read ∷ []))) (alone reply ∷ (replies ++ (alone (Contents p got) ∷ []))) last

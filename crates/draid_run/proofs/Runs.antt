@@ -27,7 +27,7 @@ some_told (Some t) P p = refl
 
 desk_tells : {R A : Type 0} (rack : racks.Ghosts R) (area : areas.Ghosts A) (entry now : OnShelf) (pool : Option (Pool R A)) (x : Desk) → IsDesk rack area entry now pool x → Agrees (is_some now.held) x
 desk_tells rack area entry now pool Untouched is = tt
-desk_tells rack area entry now pool Bare is = some_told now.held _ is.shelf
+desk_tells rack area entry now pool Bare is = some_told now.held _ is.shelf.1
 desk_tells rack area entry now pool (Made told failed geometry) is = is.shelf.told_is
 desk_tells rack area entry now pool (Open x) is = is.shelf.told
 desk_tells rack area entry now pool (Shut crash x) is = is.shelf.told
@@ -42,7 +42,7 @@ desk_agrees rack area entry now pool x tells is = subst (λ b. Agrees b x) tells
 -- so does one without a pool
 pub shelf_agrees : (x : Desk) (entry now : OnShelf) → HoldsDesk x entry now → Agrees (is_some now.held) x
 shelf_agrees Untouched entry now is = tt
-shelf_agrees Bare entry now is = some_told now.held _ is
+shelf_agrees Bare entry now is = some_told now.held _ is.1
 shelf_agrees (Made told failed geometry) entry now is = is.told_is
 shelf_agrees (Open x) entry now is = absurd is
 shelf_agrees (Shut crash x) entry now is = is.told

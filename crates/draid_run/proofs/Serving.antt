@@ -1,5 +1,5 @@
 -- What the loop over the lines keeps, and what its ends come to.
-use Rattle.std.proofs.Common.{arith, refl, sym, ap, ◌≡◌, ◌∙◌, ◌+◌, ◌≤◌, ◌⊎◌, inl, inr, ℕ, List, [], ◌∷◌, ◌++◌, Option, Some, None, Result, Ok, Err, Vec, Global, subst, append_assoc, length-append}
+use Rattle.std.proofs.Common.{arith, refl, sym, ap, ◌≡◌, ◌∙◌, ◌+◌, ◌≤◌, ◌⊎◌, inl, inr, ℕ, false, true, List, [], ◌∷◌, ◌++◌, Option, Some, None, Result, Ok, Err, Vec, Global, subst, append_assoc, length-append}
 use Rattle.std.specs.Prelude.{MatchOption, is_some, ⊤}
 use Rattle.std.specs.Io.KnownBytes.{prepend_known}
 use Rattle.std.proofs.lemmas.Grind.{flat_map-append}
@@ -13,16 +13,19 @@ use Rattle.draid_script.specs.Grammar.{line_of}
 use Rattle.draid_script.specs.Line.{Command}
 use Rattle.draid_session.specs.Said.{Said}
 use Rattle.draid_session.specs.Choices.{Choices}
+use Rattle.draid_session.specs.Places.{Outside, Place, line_behind, place_behind}
 use Rattle.draid_session.specs.Session.{Desk, Untouched, Bare, Made, Open, Shut, Foreign, Unknown, RecordFails, Runs, ShelfFails}
 use Rattle.draid_pool.specs.declared.pool.Pool.{Pool}
+use Rattle.draid_run.specs.Crashes.{IsFirmShut, LeavesFirm, crash_came_last}
 use Rattle.draid_run.specs.Desks.{IsDesk, Turned}
-use Rattle.draid_run.specs.Script.{all_said, BreaksOff, Ends, FaultyShut, GetsReplies, LineFaultIs, Shows, said_text, texts_of}
+use Rattle.draid_run.specs.Script.{AreBuilt, IsBuilt, all_said, BreaksOff, Ends, FaultyShut, GetsReplies, LineFaultIs, Shows, said_text, texts_of}
 use Rattle.draid_run.specs.Serve.{BrokenLine, Cut, LineIs, Printed, Served, Serving, TextIs, Untold}
 use Rattle.draid_pool.specs.Shelves.{OnShelf}
 use Rattle.draid_run.specs.Shelves.{FaultIn, HasFailed, HasFault, HoldsDesk, HoldsFault, MakesLeavesAt, MakesLeavesBy, MayFind, RackFault, TellsAsBefore}
 use Rattle.draid_run.specs.declared.status.LineRefusal.{LineRefusal}
 use Rattle.draid_run.specs.declared.status.Status.{Status}
 use Rattle.draid_run.specs.declared.status.Status.TheVariants.{Done, Usage, Line, SourceFault, SinkFault, NoMemory, TooLong, ShelfFault, Record}
+use Rattle.draid_run.proofs.Crashing.{firm_more}
 use Rattle.draid_run.proofs.Exits.{rose_from}
 use Rattle.draid_run.proofs.Known.{appends_more, appends_none, known_input, known_on}
 use Rattle.draid_run.proofs.Risen.{cause_fault, fails_shut, faulty_shut}
@@ -56,6 +59,9 @@ text_by lines lines' left left' next next' is text =
 -- a source that can't be read on says nothing of the sink, nor of the words
 pub text_no_sink : (lines lines' : Rest) (left left' : Option (List ℕ)) (status : Status) → TextIs lines lines' left left' (Err status) → status ≡ SinkFault → ⊥
 text_no_sink lines lines' left left' status text is = subst (λ s. TextIs lines lines' left left' (Err s)) is text
+
+pub text_no_done : (lines lines' : Rest) (left left' : Option (List ℕ)) (status : Status) → TextIs lines lines' left left' (Err status) → status ≡ Done → ⊥
+text_no_done lines lines' left left' status text is = subst (λ s. TextIs lines lines' left left' (Err s)) is text
 
 pub text_no_usage : (lines lines' : Rest) (left left' : Option (List ℕ)) (status : Status) → TextIs lines lines' left left' (Err status) → status ≡ Usage → ⊥
 text_no_usage lines lines' left left' status text is = subst (λ s. TextIs lines lines' left left' (Err s)) is text
@@ -95,12 +101,17 @@ fault_from area entry before now pool later (Shut crash x) fault = failed_from e
 fault_from area entry before now pool later Unknown fault = failed_from entry before now later fault
 
 -- what shows in a line shows of the run that ended there
-fault_at : {R A : Type 0} (rack : racks.Ghosts R) (area : areas.Ghosts A) (entry before now : OnShelf) (pool : Option (Pool R A)) → entry.faults ≤ before.faults → (text : List ℕ) (command : Command) → line_of text ≡ Ok command
-    → (x : Desk) → FaultIn rack area command before now pool x → HasFault area entry now pool x ⊎ (MakesLeavesAt (Some text) × RackFault rack pool x)
-fault_at rack area entry before now pool later text command line x fault = elim fault [
+fault_at : {R A : Type 0} (rack : racks.Ghosts R) (area : areas.Ghosts A) (entry before now : OnShelf) (pool : Option (Pool R A)) → entry.faults ≤ before.faults → (lines : List (List ℕ)) (text : List ℕ) (command : Command) → line_behind lines text ≡ Ok command
+    → (x : Desk) → FaultIn rack area command before now pool x → HasFault area entry now pool x ⊎ (MakesLeavesAt lines (Some text) × RackFault rack pool x)
+fault_at rack area entry before now pool later lines text command line x fault = elim fault [
   | inl failed ↦ inl (fault_from area entry before now pool later x failed)
   | inr whole ↦ inr (subst MakesLeavesBy (sym line) whole.0, whole.1)
 ]
+
+-- one more line that asks for what is built
+built_more : (place : Place) (lines : List (List ℕ)) (line : List ℕ) → AreBuilt place lines → IsBuilt (line_of line) → AreBuilt place (lines ++ line ∷ [])
+built_more place [] line are is = (is, tt)
+built_more place (front ∷ lines) line are is = (are.0, built_more (place_behind place front) lines line are.1 is)
 
 module _ {R A : Type 0} (rack : racks.Ghosts R) (area : areas.Ghosts A) (choices : Choices) (entry : OnShelf) where
   -- the fault that a status names
@@ -120,6 +131,10 @@ module _ {R A : Type 0} (rack : racks.Ghosts R) (area : areas.Ghosts A) (choices
   pub line_no_source : (number : ℕ) (text : List ℕ) (before : OnShelf) (pool : Option (Pool R A)) (x : Desk) (now : OnShelf) (pool' : Option (Pool R A)) (held held' : Option (List ℕ)) (status : Status)
       → LineIs rack area choices number text entry before pool x now pool' held held' (Err status) → status ≡ SourceFault → ⊥
   line_no_source number text before pool x now pool' held held' status line is = subst (λ s. LineIs rack area choices number text entry before pool x now pool' held held' (Err s)) is line
+
+  pub line_no_done : (number : ℕ) (text : List ℕ) (before : OnShelf) (pool : Option (Pool R A)) (x : Desk) (now : OnShelf) (pool' : Option (Pool R A)) (held held' : Option (List ℕ)) (status : Status)
+      → LineIs rack area choices number text entry before pool x now pool' held held' (Err status) → status ≡ Done → ⊥
+  line_no_done number text before pool x now pool' held held' status line is = subst (λ s. LineIs rack area choices number text entry before pool x now pool' held held' (Err s)) is line
 
   pub line_no_usage : (number : ℕ) (text : List ℕ) (before : OnShelf) (pool : Option (Pool R A)) (x : Desk) (now : OnShelf) (pool' : Option (Pool R A)) (held held' : Option (List ℕ)) (status : Status)
       → LineIs rack area choices number text entry before pool x now pool' held held' (Err status) → status ≡ Usage → ⊥
@@ -146,6 +161,8 @@ module _ {R A : Type 0} (rack : racks.Ghosts R) (area : areas.Ghosts A) (choices
     known = starts input;
     printed = appends_none start;
     unanswered = λ none. refl;
+    firm = λ came. absurd (cc came);
+    built = tt;
   } where
     starts : (a : Option (List ℕ)) → WhereKnown a (prepend_known [] a) (λ all behind. lines_of all ≡ [] ++ lines_of behind)
     starts None = tt
@@ -165,10 +182,14 @@ module _ {R A : Type 0} (rack : racks.Ghosts R) (area : areas.Ghosts A) (choices
     more lines replies mid line saids now pool runs turned tells =
         runs_more choices (MayFind rack area entry) (is_some entry.held) first lines replies mid line saids turned.new runs turned.turns (desk_agrees rack area entry now pool turned.new tells turned.desk)
 
+    firm_so : (lines : List (List ℕ)) (replies : List (List Said)) (mid : Desk) (line : List ℕ) (saids : List Said) (before now : OnShelf) (pool pool' : Option (Pool R A)) → RunsSo lines replies mid
+        → (crash_came_last false lines replies ≡ true → IsFirmShut before pool) → LeavesFirm (line_of line) saids before pool now pool' → crash_came_last false (lines ++ line ∷ []) (replies ++ saids ∷ []) ≡ true → IsFirmShut now pool'
+    firm_so lines replies mid line saids before now pool pool' runs firm leaves = firm_more choices (MayFind rack area entry) (is_some entry.held) first lines replies mid line saids before now pool pool' runs firm leaves
+
     pub serving_more : (input rest rest' start held held' : Option (List ℕ)) (before now : OnShelf) (pool pool' : Option (Pool R A)) (count : ℕ) (line : List ℕ)
         → (is : Serving rack area choices first input rest start held entry before pool count)
         → WhereKnown rest rest' (λ old new. lines_of old ≡ line ∷ lines_of new)
-        → Printed rack area choices line entry is.reached now pool' held held' → TellsAsBefore entry now
+        → Printed rack area choices line entry before pool is.reached now pool' held held' → TellsAsBefore entry now
         → Serving rack area choices first input rest' start held' entry now pool' (count + 1)
     serving_more input rest rest' start held held' before now pool pool' count line is behind printed tells =
         let counted = is.count_is in
@@ -183,11 +204,13 @@ module _ {R A : Type 0} (rack : racks.Ghosts R) (area : areas.Ghosts A) (choices
           known = known_on input rest rest' _ _ _ (λ x y z a b. lines_more x y z is.lines line a b) is.known behind;
           printed = rw (texts_more is.replies printed.saids) (appends_more start held held' _ _ is.printed printed.prints);
           unanswered = λ none. absurd (not_none is.lines line none);
+          firm = firm_so is.lines is.replies is.reached line printed.saids before now pool pool' is.runs is.firm printed.firm;
+          built = built_more Outside is.lines line is.built printed.built;
         }
 
     -- The run ends with no line under way, for a cause that is neither a failing shelf nor a record's fault.
     at_rest : (input rest start held : Option (List ℕ)) (now : OnShelf) (pool : Option (Pool R A)) (count : ℕ) (is : Serving rack area choices first input rest start held entry now pool count) (ended : Status)
-        → BreaksOff ended None is.reached is.reached → MatchOption input ⊤ (Ends ended None is.lines) → Shows ended is.replies (all_said is.replies) → GetsReplies ended (all_said is.replies) start held
+        → BreaksOff is.lines ended None [] is.reached is.reached → MatchOption input ⊤ (Ends ended None is.lines) → Shows ended is.replies (all_said is.replies) → GetsReplies ended (all_said is.replies) start held
         → (ended ≡ ShelfFault → ⊥) → ((metaslab : Option ℕ) (place : ℕ) (kind : RecordFaultKind) → ended ≡ Record metaslab place kind → ⊥) → Served rack area choices first ended input start held entry now pool
     at_rest input rest start held now pool count is ended breaks ends shows prints no_shelf no_record = record {
       lines = is.lines;
@@ -196,6 +219,7 @@ module _ {R A : Type 0} (rack : racks.Ghosts R) (area : areas.Ghosts A) (choices
       mid = is.reached;
       last = is.reached;
       broken = None;
+      saids = [];
       desk = is.desk;
       runs = is.runs;
       breaks = breaks;
@@ -205,13 +229,15 @@ module _ {R A : Type 0} (rack : racks.Ghosts R) (area : areas.Ghosts A) (choices
       failed = λ e. absurd (no_shelf e);
       since = λ e. absurd (no_shelf e);
       bad = λ metaslab place kind e. absurd (no_record metaslab place kind e);
+      firm = λ rest. is.firm;
+      built = is.built;
     }
 
     -- the input ended
     pub served_done : (input rest rest' start held : Option (List ℕ)) (now : OnShelf) (pool : Option (Pool R A)) (count : ℕ)
         → Serving rack area choices first input rest start held entry now pool count → WhereKnown rest rest' (λ old new. old ≡ [])
         → Served rack area choices first Done input start held entry now pool
-    served_done input rest rest' start held now pool count is end = at_rest input rest start held now pool count is Done refl
+    served_done input rest rest' start held now pool count is end = at_rest input rest start held now pool count is Done (refl, refl)
         (known_input input rest' _ _ (λ x z e. e)
         (known_on input rest rest' _ _ (λ all behind. lines_of all ≡ is.lines)
         (λ x y z a b. a ∙ ap (λ bytes. is.lines ++ lines_of bytes) b ∙ ap (λ xs. is.lines ++ xs) lines_none ∙ append-nil is.lines) is.known end))
@@ -221,16 +247,16 @@ module _ {R A : Type 0} (rack : racks.Ghosts R) (area : areas.Ghosts A) (choices
     pub served_unread : (input start held left left' : Option (List ℕ)) (now : OnShelf) (pool : Option (Pool R A)) (lines lines' : Rest) (status : Status)
         → Serving rack area choices first input (prepend_known lines.held left) start held entry now pool lines.given → TextIs lines lines' left left' (Err status)
         → Served rack area choices first status input start held entry now pool
-    served_unread input start held left left' now pool lines lines' SourceFault is text = at_rest input (prepend_known lines.held left) start held now pool lines.given is SourceFault refl
+    served_unread input start held left left' now pool lines lines' SourceFault is text = at_rest input (prepend_known lines.held left) start held now pool lines.given is SourceFault (refl, refl)
         (known_input input _ _ _ (λ x y e. (lines_of y, e)) is.known)
         refl is.printed (λ e. cc e) (λ metaslab place kind e. cc e)
-    served_unread input start held left left' now pool lines lines' NoMemory is text = at_rest input (prepend_known lines.held left) start held now pool lines.given is NoMemory refl
+    served_unread input start held left left' now pool lines lines' NoMemory is text = at_rest input (prepend_known lines.held left) start held now pool lines.given is NoMemory (refl, refl)
         (known_input input _ _ _ (λ x y e. (lines_of y, e)) is.known)
         (inl refl) is.printed (λ e. cc e) (λ metaslab place kind e. cc e)
     served_unread input start held left left' now pool lines lines' (TooLong line) is text =
         let counted = is.count_is in
         let number = text.0 in
-        at_rest input (prepend_known lines.held left) start held now pool lines.given is (TooLong line) refl
+        at_rest input (prepend_known lines.held left) start held now pool lines.given is (TooLong line) (refl, refl)
         (known_input input _ _ _ (λ x z e. e)
         (known_on input (prepend_known lines.held left) (prepend_known lines'.held left') _ _ (λ all behind. Ends (TooLong line) None is.lines all)
         (λ x y z a b. (y, a, rw counted b, omega (arith, counted, number))) is.known text.1))
@@ -249,7 +275,7 @@ module _ {R A : Type 0} (rack : racks.Ghosts R) (area : areas.Ghosts A) (choices
       unrun : (number : ℕ) (why : LineRefusal) (at : ℕ) → LineFaultIs (line_of line) why at → number ≡ count + 1 → Served rack area choices first (Line number why at) input start held entry before pool
       unrun number kind at fault n =
           let counted = is.count_is in
-          at_rest input rest start held before pool count is (Line number kind at) refl
+          at_rest input rest start held before pool count is (Line number kind at) (refl, refl)
           (known_input input rest' _ _ (λ x z e. e)
           (known_on input rest rest' _ _ (λ all _. Ends (Line number kind at) None is.lines all)
           (λ x y z a b. (line, lines_of z, a ∙ ap (λ xs. is.lines ++ xs) b, fault, omega (arith, counted, n))) is.known behind))
@@ -257,14 +283,14 @@ module _ {R A : Type 0} (rack : racks.Ghosts R) (area : areas.Ghosts A) (choices
 
       -- memory was wanting before it was done
       undone : Served rack area choices first NoMemory input start held entry before pool
-      undone = at_rest input rest start held before pool count is NoMemory refl
+      undone = at_rest input rest start held before pool count is NoMemory (refl, refl)
           (known_input input rest' _ _ (λ x z e. (line ∷ lines_of z, e))
           (known_on input rest rest' _ _ (λ all z. lines_of all ≡ is.lines ++ (line ∷ lines_of z)) (λ x y z a b. a ∙ ap (λ xs. is.lines ++ xs) b) is.known behind))
           (inl refl) is.printed (λ e. cc e) (λ metaslab place kind e. cc e)
 
       module _ (now : OnShelf) (pool' : Option (Pool R A)) (tells : TellsAsBefore entry now) where
         -- its reply could not be put
-        unput : (held' : Option (List ℕ)) → Cut rack area choices line entry is.reached now pool' held held' → Served rack area choices first SinkFault input start held' entry now pool'
+        unput : (held' : Option (List ℕ)) → Cut rack area choices line entry before pool is.reached now pool' held held' → Served rack area choices first SinkFault input start held' entry now pool'
         unput held' cut = record {
           lines = is.lines ++ line ∷ [];
           replies = is.replies ++ (cut.part ++ cut.said ∷ cut.rest) ∷ [];
@@ -272,9 +298,10 @@ module _ {R A : Type 0} (rack : racks.Ghosts R) (area : areas.Ghosts A) (choices
           mid = cut.turned.new;
           last = cut.turned.new;
           broken = None;
+          saids = [];
           desk = cut.turned.desk;
           runs = more is.lines is.replies is.reached line (cut.part ++ cut.said ∷ cut.rest) now pool' is.runs cut.turned tells;
-          breaks = refl;
+          breaks = (refl, refl);
           ends = known_input input rest' _ _ (λ x z e. (lines_of z, e))
               (known_on input rest rest' _ _ _ (λ x y z a b. lines_more x y z is.lines line a b) is.known behind);
           shows = (
@@ -294,10 +321,12 @@ module _ {R A : Type 0} (rack : racks.Ghosts R) (area : areas.Ghosts A) (choices
           failed = λ e. absurd (cc e);
           since = λ e. absurd (cc e);
           bad = λ metaslab place kind e. absurd (cc e);
+          firm = λ rest. firm_so is.lines is.replies is.reached line (cut.part ++ cut.said ∷ cut.rest) before now pool pool' is.runs is.firm cut.firm;
+          built = built_more Outside is.lines line is.built cut.built;
         }
 
         -- memory was wanting for the text of its reply
-        untold : (held' : Option (List ℕ)) → Untold rack area choices line entry is.reached now pool' held held' → Served rack area choices first NoMemory input start held' entry now pool'
+        untold : (held' : Option (List ℕ)) → Untold rack area choices line entry before pool is.reached now pool' held held' → Served rack area choices first NoMemory input start held' entry now pool'
         untold held' cut = record {
           lines = is.lines ++ line ∷ [];
           replies = is.replies ++ (cut.part ++ cut.said ∷ cut.rest) ∷ [];
@@ -305,9 +334,10 @@ module _ {R A : Type 0} (rack : racks.Ghosts R) (area : areas.Ghosts A) (choices
           mid = cut.turned.new;
           last = cut.turned.new;
           broken = None;
+          saids = [];
           desk = cut.turned.desk;
           runs = more is.lines is.replies is.reached line (cut.part ++ cut.said ∷ cut.rest) now pool' is.runs cut.turned tells;
-          breaks = refl;
+          breaks = (refl, refl);
           ends = known_input input rest' _ _ (λ x z e. (lines_of z, e))
               (known_on input rest rest' _ _ _ (λ x y z a b. lines_more x y z is.lines line a b) is.known behind);
           shows = inr (cut.part, cut.said, cut.rest, record { front = is.replies; replies_are = refl; shown_are = refl });
@@ -315,6 +345,8 @@ module _ {R A : Type 0} (rack : racks.Ghosts R) (area : areas.Ghosts A) (choices
           failed = λ e. absurd (cc e);
           since = λ e. absurd (cc e);
           bad = λ metaslab place kind e. absurd (cc e);
+          firm = λ rest. firm_so is.lines is.replies is.reached line (cut.part ++ cut.said ∷ cut.rest) before now pool pool' is.runs is.firm cut.firm;
+          built = built_more Outside is.lines line is.built cut.built;
         }
 
         -- the shelf failed
@@ -326,16 +358,19 @@ module _ {R A : Type 0} (rack : racks.Ghosts R) (area : areas.Ghosts A) (choices
           mid = is.reached;
           last = at.broken.new;
           broken = Some line;
+          saids = [];
           desk = at.broken.desk;
           runs = is.runs;
-          breaks = record { command = at.command; line = at.line; breaks = at.broken.breaks };
+          breaks = record { command = at.command; line = at.line; none = refl; built = at.built; breaks = at.broken.breaks };
           ends = known_input input rest' _ _ (λ x z e. (lines_of z, e))
               (known_on input rest rest' _ _ (λ all z. lines_of all ≡ is.lines ++ (line ∷ lines_of z)) (λ x y z a b. a ∙ ap (λ xs. is.lines ++ xs) b) is.known behind);
           shows = refl;
           prints = is.printed;
-          failed = λ e. fault_at rack area entry before now pool' later line at.command at.line at.broken.new (cause_fault rack area at.command before now pool' is.reached at.broken.new at.broken.cause);
+          failed = λ e. fault_at rack area entry before now pool' later is.lines line at.command at.line at.broken.new (cause_fault rack area at.command before now pool' is.reached at.broken.new at.broken.cause);
           since = λ e. fails_shut rack area line is.lines at.command is.reached at.broken.new entry before now pool' at.line is.desk.shelf later is.unanswered at.broken.cause;
           bad = λ metaslab place kind e. absurd (cc e);
+          firm = λ rest. absurd (cc rest);
+          built = is.built;
         }
 
         -- a record has a fault
@@ -348,9 +383,10 @@ module _ {R A : Type 0} (rack : racks.Ghosts R) (area : areas.Ghosts A) (choices
           mid = is.reached;
           last = at.broken.new;
           broken = Some line;
+          saids = [];
           desk = at.broken.desk;
           runs = is.runs;
-          breaks = record { command = at.command; line = at.line; breaks = at.broken.breaks };
+          breaks = record { command = at.command; line = at.line; none = refl; built = at.built; breaks = at.broken.breaks };
           ends = known_input input rest' _ _ (λ x z e. (lines_of z, e))
               (known_on input rest rest' _ _ (λ all z. lines_of all ≡ is.lines ++ (line ∷ lines_of z)) (λ x y z a b. a ∙ ap (λ xs. is.lines ++ xs) b) is.known behind);
           shows = refl;
@@ -358,6 +394,8 @@ module _ {R A : Type 0} (rack : racks.Ghosts R) (area : areas.Ghosts A) (choices
           failed = λ e. absurd (cc e);
           since = λ e. absurd (cc e);
           bad = λ m p k e. shut m p k e;
+          firm = λ rest. absurd (cc rest);
+          built = is.built;
         }
           where
             shut : (m : Option ℕ) (p : ℕ) (k : RecordFaultKind) → Record metaslab place kind ≡ Record m p k → FaultyShut rack area (Some line) is.lines is.reached entry m p k

@@ -6,10 +6,10 @@ use Rattle.draid_session.specs.Said.{Said}
 use Rattle.draid_session.specs.Choices.{Choices}
 use Rattle.draid_session.specs.Book.{AnswersRun, Book}
 use Rattle.draid_run.specs.Next.{IsFound}
-use Rattle.draid_run.specs.Script.{Ends, IsRefused, IsSession, PrintsAll, RunIs, Shows}
+use Rattle.draid_run.specs.Script.{Ends, IsScript, RunIs, Shows, all_replies}
 use Rattle.draid_pool.specs.Shelves.{OnShelf}
 use Rattle.draid_run.specs.declared.status.Status.{Status}
-use Rattle.draid_run.specs.declared.status.Status.TheVariants.{Usage, ShelfFault, Record}
+use Rattle.draid_run.specs.declared.status.Status.TheVariants.{ShelfFault, Record}
 
 -- A run broke off at a line of its own just where the shelf failed. No record had a fault.
 abbrev pub BrokeAt : Status → Option (List ℕ) → Type 0
@@ -26,13 +26,12 @@ pub record KeepsBook (words : List (List ℕ)) (status : Status) (input old new 
   pub shown : List Said
   pub ended : Status
   pub broken : Option (List ℕ)
-  pub usage : ended ≡ Usage → IsSession words → ⊥
-  pub refused : (IsSession words → ⊥) → IsRefused ended lines
-  pub answers : AnswersRun before lines replies broken after
+  pub saids : List Said
+  pub answers : AnswersRun before lines replies broken saids after
   pub broke : BrokeAt ended broken
   pub ends : MatchOption input ⊤ (Ends ended broken lines)
-  pub shows : Shows ended replies shown
-  pub prints : PrintsAll status ended shown old new
+  pub shows : Shows ended (all_replies replies saids) shown
+  pub script : IsScript words status ended lines shown old new
 
 -- ---- several runs
 

@@ -15,6 +15,7 @@ use Rattle.draid_export.specs.Exporting.{ExportDoes}
 use Rattle.draid_pool.specs.declared.fault.SyncFault.{SyncFault}
 use Rattle.draid_pool.specs.declared.fault.SyncFault.TheVariants as sync
 use Rattle.draid_pool.specs.declared.pool.Pool.{Pool}
+use Rattle.draid_run.specs.Crashes.{IsFirmShut}
 use Rattle.draid_run.specs.Desks.{IsDesk}
 use Rattle.draid_pool.specs.Shelves.{OnShelf}
 use Rattle.draid_run.specs.Shelves.{PoolFails}
@@ -100,3 +101,4 @@ pub record CrashDid {R A : Type 0} (rack : racks.Ghosts R) (area : areas.Ghosts 
   pub new : Desk
   pub desk : IsDesk rack area entry now pool new
   pub turns : CrashTurns old reply new
+  pub firm : reply ≡ Crashed → IsFirmShut now pool

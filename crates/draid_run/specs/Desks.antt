@@ -3,7 +3,7 @@ use Rattle.std.specs.Prelude.{◌≡◌, ◌⊎◌, ⊤, List, Option, Some, Non
 use Rattle.draid_names.specs.declared.fault.Failed.{Failed}
 use Rattle.draid_rack.specs.declared.Rack as racks
 use Rattle.draid_area.specs.declared.Area as areas
-use Rattle.draid_script.specs.Line.{Command, WriteObject, ReadObject, FillObjects, FreeObject, SumObjects, TakeOffline, TakeOnline, DamageSector, AttachSpare, ShowStatus, DetachArm, UpgradePool, SyncPool, RebuildPool, ScrubPool, RebalanceSlot, ReplaceDisk, CancelPasses}
+use Rattle.draid_script.specs.Line.{Command, Silent, CreatePool, ImportPool, ExportPool, SyncPool, CancelPasses, CrashPool, WriteObject, FillObjects, ReadObject, FreeObject, SumObjects, TakeOffline, TakeOnline, DamageSector, AttachSpare, ReplaceDisk, DetachArm, RebuildPool, ScrubPool, RebalanceSlot, ShowStatus, OpenLanes, UpgradePool, RunAgent, ShowJournal, TakeCheckpoint, RewindPool, DiscardCheckpoint}
 use Rattle.draid_script.specs.declared.fault.LineFault.{LineFault}
 use Rattle.draid_script.specs.declared.name.CommandName.{CommandName}
 use Rattle.draid_script.specs.declared.name.CommandName.TheVariants as name
@@ -78,8 +78,13 @@ PoolBroke rack area command (Foreign known) (Some pool) =
     IsWhole rack area pool × MayBreak command × (PoolFails area (Some pool) ⊎ (MakesLeaves command × RackFails rack.faults pool)) × KnowsPointers pool known
 PoolBroke rack area command desk pool = ⊥
 
--- the name of a command that is carried out on the pool that is open, and leaves it open
+-- The name of a command that is carried out on the pool that is open, and leaves it open. One that isn't built isn't carried out.
 abbrev pub asked_in : Command → Option CommandName
+asked_in Silent = None
+asked_in (CreatePool text children keys) = None
+asked_in ImportPool = None
+asked_in ExportPool = None
+asked_in CrashPool = None
 asked_in (WriteObject object bytes) = Some name.Write
 asked_in (FillObjects first count len seed) = Some name.Fill
 asked_in (ReadObject object) = Some name.Read
@@ -98,7 +103,12 @@ asked_in (RebuildPool limit) = Some name.Rebuild
 asked_in (ScrubPool limit) = Some name.Scrub
 asked_in (RebalanceSlot slot) = Some name.Rebalance
 asked_in CancelPasses = Some name.Cancel
-asked_in command = None
+asked_in (OpenLanes count) = None
+asked_in (RunAgent least) = None
+asked_in ShowJournal = None
+asked_in TakeCheckpoint = None
+asked_in RewindPool = None
+asked_in DiscardCheckpoint = None
 
 -- A line was done, and these are the replies to it.
 pub record Turned {R A : Type 0} (rack : racks.Ghosts R) (area : areas.Ghosts A) (choices : Choices) (command : Result Command LineFault) (entry : OnShelf) (old : Desk)

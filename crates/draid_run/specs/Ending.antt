@@ -1,10 +1,10 @@
 -- How a run ends that nothing stops before the end of its input.
-use Rattle.std.specs.Prelude.{◌≡◌, ◌≢◌, ◌≤◌, ⊤, ℕ, false, List, Result, Ok, Err, All, length}
+use Rattle.std.specs.Prelude.{◌≡◌, ◌≢◌, ◌≤◌, ◌∷◌, ◌++◌, ⊤, ℕ, false, List, Result, Ok, Err, All, length}
 use Rattle.draid_names.specs.declared.numbers.TheConstants.{LONGEST_LINE}
 use Rattle.draid_lines.specs.Lines.{lines_of, most_lines}
-use Rattle.draid_script.specs.Grammar.{line_of}
 use Rattle.draid_script.specs.Line.{Command}
 use Rattle.draid_script.specs.declared.fault.LineFault.{LineFault}
+use Rattle.draid_session.specs.Places.{line_behind}
 use Rattle.draid_session.specs.Session.{Desk, Untouched, Made, Shut, Unknown}
 use Rattle.draid_run.specs.Script.{IsUnbuilt}
 use Rattle.draid_run.specs.declared.status.Status.{Status}
@@ -19,7 +19,7 @@ IsBuilt (Err fault) = ⊥
 pub record CanRun (input : List ℕ) : Type 0 where
   pub few : length (lines_of input) ≤ most_lines
   pub short : All (λ line. length line ≤ LONGEST_LINE) (lines_of input)
-  pub built : All (λ line. IsBuilt (line_of line)) (lines_of input)
+  pub built : (front : List (List ℕ)) (line : List ℕ) (rest : List (List ℕ)) → lines_of input ≡ front ++ (line ∷ rest) → IsBuilt (line_behind front line)
 
 -- no device failed, and memory wasn't wanting
 pub record IsUndisturbed (status : Status) : Type 0 where

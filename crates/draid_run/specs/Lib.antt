@@ -1,8 +1,10 @@
 pub mod Books
 pub mod Closing
+pub mod Crashes
 pub mod Desks
 pub mod Ending
 pub mod Importing
+pub mod Lines
 pub mod Making
 pub mod Next
 pub mod Rebalancing
@@ -11,3 +13,4 @@ pub mod Serve
 pub mod Shelves
 pub mod Spares
 pub mod Status
+pub mod Unfailing

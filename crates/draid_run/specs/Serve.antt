@@ -1,5 +1,5 @@
 -- What becomes of a line, and of all lines so far.
-use Rattle.std.specs.Prelude.{◌≡◌, ◌≤◌, ◌+◌, ◌⊎◌, ⊤, ℕ, List, [], ◌∷◌, ◌++◌, Option, Some, None, Result, Ok, Err, MatchOption, is_some, length}
+use Rattle.std.specs.Prelude.{◌≡◌, ◌≤◌, ◌+◌, ◌⊎◌, ⊤, ℕ, false, true, List, [], ◌∷◌, ◌++◌, Option, Some, None, Result, Ok, Err, MatchOption, is_some, length}
 use Rattle.std.specs.Io.KnownBytes.{Appends, prepend_known}
 use Rattle.std.specs.declared.vec.Vec.{Vec}
 use Rattle.std.specs.declared.alloc.Global.{Global}
@@ -13,12 +13,14 @@ use Rattle.draid_script.specs.Grammar.{line_of}
 use Rattle.draid_script.specs.Line.{Command}
 use Rattle.draid_script.specs.declared.name.CommandName.{CommandName}
 use Rattle.draid_reply.specs.declared.reply.Reply.{Reply}
+use Rattle.draid_session.specs.Places.{Outside}
 use Rattle.draid_session.specs.Said.{Said, alone}
 use Rattle.draid_session.specs.Choices.{Choices}
 use Rattle.draid_session.specs.Session.{Cause, Desk, RecordFails, Runs, ShelfFails}
 use Rattle.draid_pool.specs.declared.pool.Pool.{Pool}
+use Rattle.draid_run.specs.Crashes.{IsFirmShut, LeavesFirm, crash_came_last}
 use Rattle.draid_run.specs.Desks.{Broken, IsDesk, PoolBroke, PoolDid, Turned, asked_in}
-use Rattle.draid_run.specs.Script.{all_said, BreaksOff, Ends, FailsShut, FaultyShut, GetsReplies, IsUnbuilt, LineFaultIs, Shows, said_text, texts_of}
+use Rattle.draid_run.specs.Script.{AreBuilt, IsBuilt, all_replies, all_said, BreaksOff, Ends, FailsShut, FaultyShut, GetsReplies, IsUnbuilt, LineFaultIs, Shows, said_text, texts_of}
 use Rattle.draid_pool.specs.Shelves.{OnShelf}
 use Rattle.draid_run.specs.Shelves.{HasFault, HoldsFault, IsClosed, MakesLeavesAt, MayFind, RackFault}
 use Rattle.draid_run.specs.declared.answer.Stop.{Stop}
@@ -50,6 +52,7 @@ PrintIs text old new (Err status) = ⊥
 pub record BrokenLine {R A : Type 0} (rack : racks.Ghosts R) (area : areas.Ghosts A) (why : Cause) (text : List ℕ) (entry before : OnShelf) (old : Desk) (now : OnShelf) (pool : Option (Pool R A)) : Type 0 where
   pub command : Command
   pub line : line_of text ≡ Ok command
+  pub built : IsUnbuilt command → ⊥
   pub broken : Broken rack area why command entry before old now pool
 
 -- a command that has a reply was answered by it
@@ -78,52 +81,59 @@ module _ {R A : Type 0} (rack : racks.Ghosts R) (area : areas.Ghosts A) (choices
   abbrev pub AskIs : Command → Option (Pool R A) → Desk → Option (Pool R A) → Result Reply Stop → Type 0
   AskIs command pool old pool' (Ok reply) = (called : CommandName) × (asked_in command ≡ Some called) × PoolDid rack area choices command called old reply pool'
   AskIs command pool old pool' (Err stop.Unbuilt) = (asked_in command ≡ None) × (pool' ≡ pool)
-  AskIs command pool old pool' (Err stop.Shelf) = PoolBroke rack area command old pool'
+  AskIs command pool old pool' (Err stop.Shelf) = (called : CommandName) × (asked_in command ≡ Some called) × PoolBroke rack area command old pool'
   AskIs command pool old pool' (Err (stop.Record metaslab place kind)) = ⊥
 
   -- the reply to a command, or why it has none
   abbrev pub AnswerIs : Command → OnShelf → OnShelf → Option (Pool R A) → Desk → OnShelf → Option (Pool R A) → Result (Option Reply) Stop → Type 0
-  AnswerIs command entry before pool old now pool' (Ok reply) = Turned rack area choices (Ok command) entry old (said_of reply) now pool'
+  AnswerIs command entry before pool old now pool' (Ok reply) =
+      Turned rack area choices (Ok command) entry old (said_of reply) now pool' × LeavesFirm (Ok command) (said_of reply) before pool now pool' × IsBuilt (Ok command)
   AnswerIs command entry before pool old now pool' (Err stop.Unbuilt) = IsUnbuilt command × (now ≡ before) × (pool' ≡ pool)
-  AnswerIs command entry before pool old now pool' (Err stop.Shelf) = Broken rack area ShelfFails command entry before old now pool'
+  AnswerIs command entry before pool old now pool' (Err stop.Shelf) = Broken rack area ShelfFails command entry before old now pool' × IsBuilt (Ok command)
   AnswerIs command entry before pool old now pool' (Err (stop.Record metaslab place kind)) =
-      Broken rack area RecordFails command entry before old now pool' × HoldsFault rack area before metaslab place kind
+      Broken rack area RecordFails command entry before old now pool' × HoldsFault rack area before metaslab place kind × IsBuilt (Ok command)
 
   -- A line was answered, and the replies to it were printed.
-  pub record Printed (text : List ℕ) (entry : OnShelf) (old : Desk) (now : OnShelf) (pool : Option (Pool R A)) (held held' : Option (List ℕ)) : Type 0 where
+  pub record Printed (text : List ℕ) (entry before : OnShelf) (pool : Option (Pool R A)) (old : Desk) (now : OnShelf) (pool' : Option (Pool R A)) (held held' : Option (List ℕ)) : Type 0 where
     pub saids : List Said
-    pub turned : Turned rack area choices (line_of text) entry old saids now pool
+    pub turned : Turned rack area choices (line_of text) entry old saids now pool'
+    pub firm : LeavesFirm (line_of text) saids before pool now pool'
+    pub built : IsBuilt (line_of text)
     pub prints : Appends held held' (texts_of saids)
 
   -- A line was answered, and the sink failed at one of the replies to it.
-  pub record Cut (text : List ℕ) (entry : OnShelf) (old : Desk) (now : OnShelf) (pool : Option (Pool R A)) (held held' : Option (List ℕ)) : Type 0 where
+  pub record Cut (text : List ℕ) (entry before : OnShelf) (pool : Option (Pool R A)) (old : Desk) (now : OnShelf) (pool' : Option (Pool R A)) (held held' : Option (List ℕ)) : Type 0 where
     pub part : List Said
     pub said : Said
     pub rest : List Said
     pub mid : Option (List ℕ)
-    pub turned : Turned rack area choices (line_of text) entry old (part ++ said ∷ rest) now pool
+    pub turned : Turned rack area choices (line_of text) entry old (part ++ said ∷ rest) now pool'
+    pub firm : LeavesFirm (line_of text) (part ++ said ∷ rest) before pool now pool'
+    pub built : IsBuilt (line_of text)
     pub whole : Appends held mid (texts_of part)
     pub prints : AppendsFront mid held' (said_text said)
 
   -- A line was answered, and memory was wanting for the text of one of the replies to it.
-  pub record Untold (text : List ℕ) (entry : OnShelf) (old : Desk) (now : OnShelf) (pool : Option (Pool R A)) (held held' : Option (List ℕ)) : Type 0 where
+  pub record Untold (text : List ℕ) (entry before : OnShelf) (pool : Option (Pool R A)) (old : Desk) (now : OnShelf) (pool' : Option (Pool R A)) (held held' : Option (List ℕ)) : Type 0 where
     pub part : List Said
     pub said : Said
     pub rest : List Said
-    pub turned : Turned rack area choices (line_of text) entry old (part ++ said ∷ rest) now pool
+    pub turned : Turned rack area choices (line_of text) entry old (part ++ said ∷ rest) now pool'
+    pub firm : LeavesFirm (line_of text) (part ++ said ∷ rest) before pool now pool'
+    pub built : IsBuilt (line_of text)
     pub prints : Appends held held' (texts_of part)
 
   -- what became of a line
   abbrev pub LineIs : ℕ → List ℕ → OnShelf → OnShelf → Option (Pool R A) → Desk → OnShelf → Option (Pool R A) → Option (List ℕ) → Option (List ℕ) → Result Unit Status → Type 0
-  LineIs number text entry before pool old now pool' held held' (Ok done) = Printed text entry old now pool' held held'
-  LineIs number text entry before pool old now pool' held held' (Err SinkFault) = Cut text entry old now pool' held held'
+  LineIs number text entry before pool old now pool' held held' (Ok done) = Printed text entry before pool old now pool' held held'
+  LineIs number text entry before pool old now pool' held held' (Err SinkFault) = Cut text entry before pool old now pool' held held'
   LineIs number text entry before pool old now pool' held held' (Err ShelfFault) = (held' ≡ held) × BrokenLine rack area ShelfFails text entry before old now pool'
   LineIs number text entry before pool old now pool' held held' (Err (Record metaslab place kind)) =
       (held' ≡ held) × BrokenLine rack area RecordFails text entry before old now pool' × HoldsFault rack area before metaslab place kind
   LineIs number text entry before pool old now pool' held held' (Err (Line line why at)) =
       LineFaultIs (line_of text) why at × (now ≡ before) × (pool' ≡ pool) × (held' ≡ held) × (line ≡ number)
   LineIs number text entry before pool old now pool' held held' (Err NoMemory) =
-      ((held' ≡ held) × (now ≡ before) × (pool' ≡ pool)) ⊎ Untold text entry old now pool' held held'
+      ((held' ≡ held) × (now ≡ before) × (pool' ≡ pool)) ⊎ Untold text entry before pool old now pool' held held'
   LineIs number text entry before pool old now pool' held held' (Err status) = ⊥
 
   -- The lines so far were answered and their replies printed, from this desk on.
@@ -137,6 +147,8 @@ module _ {R A : Type 0} (rack : racks.Ghosts R) (area : areas.Ghosts A) (choices
     pub known : WhereKnown input rest (λ all behind. lines_of all ≡ lines ++ lines_of behind)
     pub printed : Appends start held (texts_of (all_said replies))
     pub unanswered : lines ≡ [] → now ≡ entry
+    pub firm : crash_came_last false lines replies ≡ true → IsFirmShut now pool
+    pub built : AreBuilt Outside lines
 
   -- The lines were served until the run ended.
   pub record Served (first : Desk) (ended : Status) (input start held : Option (List ℕ)) (entry now : OnShelf) (pool : Option (Pool R A)) : Type 0 where
@@ -146,12 +158,15 @@ module _ {R A : Type 0} (rack : racks.Ghosts R) (area : areas.Ghosts A) (choices
     pub mid : Desk
     pub last : Desk
     pub broken : Option (List ℕ)
+    pub saids : List Said
     pub desk : IsDesk rack area entry now pool last
     pub runs : Runs choices (MayFind rack area entry) (is_some entry.held) first lines replies mid
-    pub breaks : BreaksOff ended broken mid last
+    pub breaks : BreaksOff lines ended broken saids mid last
     pub ends : MatchOption input ⊤ (Ends ended broken lines)
-    pub shows : Shows ended replies shown
+    pub shows : Shows ended (all_replies replies saids) shown
     pub prints : GetsReplies ended shown start held
-    pub failed : ended ≡ ShelfFault → HasFault area entry now pool last ⊎ (MakesLeavesAt broken × RackFault rack pool last)
+    pub failed : ended ≡ ShelfFault → HasFault area entry now pool last ⊎ (MakesLeavesAt lines broken × RackFault rack pool last)
     pub since : ended ≡ ShelfFault → IsClosed mid → IsClosed last × FailsShut area broken lines mid entry now
     pub bad : (metaslab : Option ℕ) (place : ℕ) (kind : RecordFaultKind) → ended ≡ Record metaslab place kind → FaultyShut rack area broken lines mid entry metaslab place kind
+    pub firm : broken ≡ None → crash_came_last false lines replies ≡ true → IsFirmShut now pool
+    pub built : AreBuilt Outside lines

@@ -6,16 +6,17 @@ use Rattle.draid_rack.specs.declared.Rack as racks
 use Rattle.draid_area.specs.declared.Area as areas
 use Rattle.draid_spec.specs.declared.layout.Geometry.{Geometry}
 use Rattle.draid_lines.specs.Lines.{lines_of}
-use Rattle.draid_script.specs.Grammar.{line_of}
 use Rattle.draid_script.specs.Line.{Command, CreatePool, ImportPool}
 use Rattle.draid_script.specs.declared.fault.LineFault.{LineFault}
 use Rattle.draid_shelf.specs.Kits.{AreNewChecks, Held, OnHeld}
 use Rattle.draid_session.specs.Certain.{MakesLeaves}
+use Rattle.draid_session.specs.Places.{line_behind}
 use Rattle.draid_session.specs.Session.{Desk, Finding, Fault, Nothing, Untouched, Bare, Made, Open, Shut, Foreign, Unknown, HasLayout}
 use Rattle.draid_session.specs.Session as finding
 use Rattle.draid_session.specs.State.{Metaslab, State}
 use Rattle.draid_pool.specs.Returning.{HoldsPool, SameCounts, AreaFailed, RackFailed}
 use Rattle.draid_pool.specs.Shelves.{OnShelf}
+use Rattle.draid_pool.specs.Taking.{IsAsBefore}
 use Rattle.draid_pool.specs.Failing.{AreaFails, RackFails}
 use Rattle.draid_import.specs.Faulty.{HoldsNoGroup, RecordIsBad}
 use Rattle.draid_import.specs.Findings.{FindsPool}
@@ -55,16 +56,20 @@ pub record HoldsNew (told : Bool) (failed : ℕ) (geometry : Geometry) (now : On
 abbrev pub HoldsBare : OnShelf → Type 0
 HoldsBare now = IsSomeAnd now.held (λ held. held.uber ≡ None)
 
+-- What it holds, and what has failed on that, is as it was.
+abbrev pub StaysAs : OnShelf → OnShelf → Type 0
+StaysAs entry now = IsAsBefore entry.held now.held entry.counts now.counts entry.own now.own
+
 -- no pool is open
 abbrev pub IsClosed : Desk → Type 0
 IsClosed (Open state) = ⊥
 IsClosed (Foreign known) = ⊥
 IsClosed desk = ⊤
 
--- What a shelf holds, where no pool is open: what it held at the entry, no pool, a new pool as it was made, the pool that was given back, or whatever it may be.
+-- What a shelf holds, where no pool is open: what it held at the entry, the same without a pool, a new pool as it was made, the pool that was given back, or whatever it may be.
 abbrev pub HoldsDesk : Desk → OnShelf → OnShelf → Type 0
 HoldsDesk Untouched entry now = IsSame entry now
-HoldsDesk Bare entry now = HoldsBare now
+HoldsDesk Bare entry now = StaysAs entry now × HoldsBare now
 HoldsDesk (Made told failed geometry) entry now = HoldsNew told failed geometry now
 HoldsDesk (Open state) entry now = ⊥
 HoldsDesk (Shut crash state) entry now = HoldsShut crash state now
@@ -137,15 +142,15 @@ abbrev pub MakesLeavesBy : Result Command LineFault → Type 0
 MakesLeavesBy (Ok command) = MakesLeaves command
 MakesLeavesBy (Err fault) = ⊥
 
--- so of the line at which a run broke off
-abbrev pub MakesLeavesAt : Option (List ℕ) → Type 0
-MakesLeavesAt None = ⊥
-MakesLeavesAt (Some text) = MakesLeavesBy (line_of text)
+-- so of the line at which a run broke off behind these
+abbrev pub MakesLeavesAt : List (List ℕ) → Option (List ℕ) → Type 0
+MakesLeavesAt lines None = ⊥
+MakesLeavesAt lines (Some text) = MakesLeavesBy (line_behind lines text)
 
 -- an input, where it is known, has such a line
 abbrev pub MayMakeLeaves : Option (List ℕ) → Type 0
 MayMakeLeaves input =
-    MatchOption input ⊤ (λ bytes. (front : List (List ℕ)) × (line : List ℕ) × (rest : List (List ℕ)) × (lines_of bytes ≡ front ++ (line ∷ rest)) × MakesLeavesBy (line_of line))
+    MatchOption input ⊤ (λ bytes. (front : List (List ℕ)) × (line : List ℕ) × (rest : List (List ℕ)) × (lines_of bytes ≡ front ++ (line ∷ rest)) × MakesLeavesBy (line_behind front line))
 
 -- What shows on a shelf of a run that ended since a device failed: an area or the shelf itself has; or, where the input may make leaves, a rack.
 abbrev pub DeviceFailed : Option (List ℕ) → OnShelf → OnShelf → Type 0

@@ -1,11 +1,11 @@
-ghost use Rattle.std.specs.Prelude.{◌≡◌, ◌∷◌, ◌++◌, ℕ, Bool, List, Option, Some, Ok, String, true, is_some, length};
+ghost use Rattle.std.specs.Prelude.{◌≡◌, ◌∷◌, ◌++◌, [], ℕ, Bool, List, Option, Some, Ok, String, true, is_some, length};
 ghost use Rattle.std.specs.Fn.{FnReturnsAt};
 ghost use Rattle.std.specs.declared.alloc.Global.{Global as Heap};
 ghost use Rattle.draid_reply.specs.declared.reply.Reply.{Reply};
-ghost use Rattle.draid_script.specs.Grammar.{line_of};
 ghost use Rattle.draid_script.specs.Line.{CrashPool, ImportPool};
 ghost use Rattle.draid_shelf.specs.Memory.{HoldsNothing};
 ghost use Rattle.draid_session.specs.Choices.{choices_by};
+ghost use Rattle.draid_session.specs.Places.{line_behind};
 ghost use Rattle.draid_session.specs.Present.{DeskReached};
 ghost use Rattle.draid_session.specs.Said.{Said, alone};
 ghost use Rattle.draid_session.specs.Session.{Bare, Desk, KnowsShelf};
@@ -58,7 +58,7 @@ pub fn crashed_pools_are_found_again<R: Rack, A: Area, F: Fn(&[Room]) -> Option<
         → (it : RunsFrom R.Rack A.Area (choices_by (FnReturnsAt F.Fn chooser.now)) words status input old new entry now first)
         → is_some entry.held ≡ true → HoldsDesk first entry entry → KnowsShelf first
         → (front back : List (List ℕ)) (crash import : List ℕ) (said behind : List (List Said)) (called : String Heap) (group objects : ℕ)
-        → line_of crash ≡ Ok CrashPool → line_of import ≡ Ok ImportPool → length said ≡ length front
+        → line_behind front crash ≡ Ok CrashPool → line_behind (front ++ crash ∷ []) import ≡ Ok ImportPool → length said ≡ length front
         → it.session.lines ≡ front ++ (crash ∷ import ∷ back)
         → it.session.replies ≡ said ++ (alone Reply.Crashed ∷ alone (Reply.Imported called group objects) ∷ behind)
         → FindsAgain (choices_by (FnReturnsAt F.Fn chooser.now)) (MayFind R.Rack A.Area entry) first front said group objects back behind it.session.mid }

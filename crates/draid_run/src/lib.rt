@@ -5,21 +5,27 @@
 mod answer;
 mod books;
 mod closing;
+mod failures;
 mod kept;
 mod laws;
 mod opening;
+mod origins;
 mod rebalancing;
 mod replies;
 mod serve;
 mod status;
 mod top;
+mod turns;
 mod words;
 
 pub use books::runs_keep_the_book;
+pub use failures::runs_without_failures_end_well;
 pub use kept::known_objects_are_read;
 pub use laws::{
     crashed_pools_are_found_again, new_shelves_have_no_pool, runs_follow_one_another,
     runs_stay_legal, undisturbed_runs_are_done,
 };
+pub use origins::{known_pools_have_a_book, new_shelves_keep_the_book, told_pools_are_reached};
 pub use status::{LineRefusal, Status};
-pub use top::run;
+pub use top::{end_run, run};
+pub use turns::{each_line_is_a_turn, runs_are_sessions};

@@ -1,5 +1,5 @@
 ghost use Rattle.std.specs.Prelude.{◌≡◌, ◌<◌, ◌≤◌, ◌+◌, ◌^◌, ℕ, List, Some, None, Ok, Err, IfOk, IsTrue, OnErr, ◌↔◌, []};
-ghost use Rattle.std.specs.Io.KnownBytes.{prepend_known};
+ghost use Rattle.std.specs.Io.KnownBytes.{IsAtEnd, prepend_known};
 ghost use Rattle.std.specs.Fn.{FnReturnsAt};
 ghost use Rattle.draid_choose.specs.Rooms.{IsChooser};
 ghost use Rattle.draid_names.specs.Faults.{Rose};
@@ -131,6 +131,7 @@ fn next_text<S: Source>(
 ) -> Result<Option<Vec<u8>>, Status>
     requires { lines.old.fault ≡ None }
     ensures text { TextIs lines.old lines.new (S.left source.old) (S.left source.new) result }
+    ensures end { result ≡ Ok None → IsAtEnd (S.left source.new) }
     ensures later { S.faults source.old ≤ S.faults source.new }
     ensures cause { result ≡ Err Status.SourceFault → Rose (S.faults source.old) (S.faults source.new) }
 {
@@ -156,6 +157,7 @@ pub(crate) fn serve<H: Shelf, S: Source, K: Sink, F: Fn(&[Room]) -> Option<u32>>
     requires closed { pool.old ≡ None }
     ensures served { (first : Desk) → HoldsDesk first (on_shelf H.Shelf shelf.old) (on_shelf H.Shelf shelf.old)
         → Served H.R.Rack H.A.Area (choices_by (FnReturnsAt F.Fn chooser.now)) first result (S.left source.old) (K.held sink.old) (K.held sink.new) (on_shelf H.Shelf shelf.old) (on_shelf H.Shelf shelf.new) pool.new }
+    ensures end { result ≡ Status.Done → IsAtEnd (S.left source.new) }
     ensures source_later { S.faults source.old ≤ S.faults source.new }
     ensures sink_later { K.faults sink.old ≤ K.faults sink.new }
     ensures shelf_later { H.faults shelf.old ≤ H.faults shelf.new }

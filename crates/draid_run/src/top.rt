@@ -1,5 +1,6 @@
 ghost use Rattle.std.specs.Prelude.{◌≡◌, ◌≤◌, ◌⊎◌, ⊤, List, MatchOption, map, string_bytes};
 ghost use Rattle.std.specs.Fn.{FnReturnsAt};
+ghost use Rattle.std.specs.Io.KnownBytes.{IsAtEnd};
 ghost use Rattle.draid_choose.specs.Rooms.{IsChooser};
 ghost use Rattle.draid_names.specs.Faults.{Rose};
 ghost use Rattle.draid_session.specs.Choices.{choices_by};
@@ -37,10 +38,12 @@ fn put_last<K: Sink>(sink: &mut K, line: &[u8], ended: Status) -> Status
 }
 
 /// Prints the line of a status, and gives the status that the run then has.
-fn end_run<K: Sink>(alloc: Global, sink: &mut K, ended: Status) -> Status
+pub fn end_run<K: Sink>(alloc: Global, sink: &mut K, ended: Status) -> Status
     ensures line { EndsWithLine ended result (K.held sink.old) (K.held sink.new) }
     ensures later { K.faults sink.old ≤ K.faults sink.new }
     ensures cause { result ≡ Status.SinkFault → (ended ≡ Status.SinkFault) ⊎ Rose (K.faults sink.old) (K.faults sink.new) }
+    ensures done { result ≡ Status.Done → ended ≡ Status.Done }
+    ensures usage { result ≡ Status.Usage → ended ≡ Status.Usage }
     ensures source { result ≡ Status.SourceFault → ended ≡ Status.SourceFault }
     ensures shelf { result ≡ Status.ShelfFault → ended ≡ Status.ShelfFault }
 {
@@ -85,6 +88,10 @@ pub fn run<
 ) -> Status
     requires chooser { IsChooser F.Fn chooser.now }
     ensures run { RunIs H.R.Rack H.A.Area (choices_by (FnReturnsAt F.Fn chooser.now)) (map string_bytes words.now) result (S.left source.old) (K.held sink.old) (K.held sink.new) (on_shelf H.Shelf shelf.old) (on_shelf H.Shelf shelf.new) }
+
+    // A run that is done has read the source to its end, and one whose words ask for no session leaves it alone.
+    ensures done { result ≡ Status.Done → IsAtEnd (S.left source.new) }
+    ensures untouched { result ≡ Status.Usage → source.new ≡ source.old }
 
     // What has failed stays counted.
     ensures source_later { S.faults source.old ≤ S.faults source.new }

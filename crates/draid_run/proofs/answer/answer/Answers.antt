@@ -4,12 +4,15 @@ use Rattle.draid_session.specs.Choices.{choices_by}
 use Rattle.draid_session.specs.Said.{alone}
 use Rattle.draid_script.specs.Line.{CreatePool, command_in}
 use Rattle.draid_script.specs.declared.line.Line.{Line}
+use Rattle.draid_run.specs.Crashes.{LeavesFirm}
 use Rattle.draid_run.specs.Desks.{Turned}
 use Rattle.draid_pool.specs.Shelves.{on_shelf}
+use Rattle.draid_run.specs.Script.{IsBuilt}
 use Rattle.draid_run.specs.Serve.{AnswerIs}
 use Rattle.draid_run.proofs.Asking.{answer_ask, answer_create, is_unbuilt, turned_silent}
 use Rattle.draid_run.proofs.Exits.{same_later}
 use Rattle.draid_run.proofs.Closings.{answer_export, by_crash}
+use Rattle.draid_run.proofs.Crashing.{crash_firm}
 use Rattle.draid_run.proofs.Importings.{answer_import}
 use Rattle.draid_run.proofs.answer.answer.Goals as goal
 
@@ -24,8 +27,12 @@ returns-in-Export g c = record {
 pub returns-in-Crash : goal.returns-in-Crash
 returns-in-Crash g c = record {
   answer = λ entry x desk.
-      subst (λ (l : Line). Turned g.H.R.Rack g.H.A.Area (choices_by (FnReturnsAt g.F.Fn c.args.chooser.now)) (Ok (command_in l)) entry x (alone c.crash.result) (on_shelf g.H.Shelf c.crash.new.shelf) c.crash.new.pool) (sym c.in-Crash.is)
-      (by_crash g.H.R.Rack g.H.A.Area (choices_by (FnReturnsAt g.F.Fn c.args.chooser.now)) entry (on_shelf g.H.Shelf c.args.shelf.now) (on_shelf g.H.Shelf c.crash.new.shelf) x c.crash.result c.crash.new.pool (c.crash.ensures.did entry x desk));
+      (let did = c.crash.ensures.did entry x desk in
+      subst (λ (l : Line). Turned g.H.R.Rack g.H.A.Area (choices_by (FnReturnsAt g.F.Fn c.args.chooser.now)) (Ok (command_in l)) entry x (alone c.crash.result) (on_shelf g.H.Shelf c.crash.new.shelf) c.crash.new.pool × LeavesFirm (Ok (command_in l)) (alone c.crash.result) (on_shelf g.H.Shelf c.args.shelf.now) c.args.pool.now (on_shelf g.H.Shelf c.crash.new.shelf) c.crash.new.pool × IsBuilt (Ok (command_in l))) (sym c.in-Crash.is) (
+        by_crash g.H.R.Rack g.H.A.Area (choices_by (FnReturnsAt g.F.Fn c.args.chooser.now)) entry (on_shelf g.H.Shelf c.args.shelf.now) (on_shelf g.H.Shelf c.crash.new.shelf) x c.crash.result c.crash.new.pool did,
+        crash_firm (on_shelf g.H.Shelf c.crash.new.shelf) c.crash.new.pool c.crash.result did.firm,
+        λ none. none,
+      ));
   later = c.crash.ensures.later;
 }
 

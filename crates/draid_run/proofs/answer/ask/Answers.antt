@@ -20,7 +20,7 @@ returns-in-Ok g c = record {
 
 pub returns-in-Err : goal.returns-in-Err
 returns-in-Err g c = record {
-  did = λ x stands. broke_open g.R.Rack g.A.Area (command_in c.args.line.now) c.args.pool.now c.in-Some-pool.pool c.reply.new.pool c.in-Some-pool.is c.in-Err.ensures.whole (c.in-Err.ensures.breaks refl) c.in-Err.ensures.step x stands;
+  did = λ x stands. (c.in-Some.command, sym c.asked.ensures ∙ c.in-Some.is, broke_open g.R.Rack g.A.Area (command_in c.args.line.now) c.args.pool.now c.in-Some-pool.pool c.reply.new.pool c.in-Some-pool.is c.in-Err.ensures.whole (c.in-Err.ensures.breaks refl) c.in-Err.ensures.step x stands);
 }
 
 pub returns-in-None : goal.returns-in-None

@@ -10,4 +10,4 @@ pub returns : goal.returns
 returns g c words status input old new entry now first crash it reached =
     let s = it.session in
     let mid = run_reached c.args.alloc (MayFind g.R.Rack g.A.Area entry) (choices_by (FnReturnsAt g.F.Fn c.args.chooser.now)) (is_some entry.held) s.lines s.replies first s.mid s.runs reached in
-    (mid, next_reached crash it.last (off_reached c.args.alloc s.ended s.broken s.mid it.last s.breaks mid))
+    (mid, next_reached crash it.last (off_reached c.args.alloc s.lines s.ended s.broken s.saids s.mid it.last s.breaks mid))

@@ -1,7 +1,7 @@
-use Rattle.std.proofs.Common.{◌∙◌, Err, ap, subst}
+use Rattle.std.proofs.Common.{◌∙◌, Ok, Err, ap, subst}
 use Rattle.std.specs.Io.KnownBytes.{prepend_known}
 use Rattle.draid_lines.specs.Lines.{Answers, WhereKnown}
-use Rattle.draid_run.proofs.Exits.{long_cause, source_rose, text_cause, wanting_cause}
+use Rattle.draid_run.proofs.Exits.{long_cause, source_rose, text_cause, text_same, wanting_cause}
 use Rattle.draid_run.proofs.Known.{known_weaken}
 use Rattle.draid_run.proofs.serve.next_text.Goals as goal
 
@@ -28,6 +28,9 @@ returns-in-Err-NoMemory-clause-cause g c = wanting_cause _
 
 pub returns-in-Err-SourceFault-clause-cause : goal.returns-in-Err-SourceFault-clause-cause
 returns-in-Err-SourceFault-clause-cause g c is = source_rose _ _ _ c.requires (c.next.ensures.cause (c.in-Err-SourceFault.is ∙ ap Err c.in-Err-SourceFault.field-0-is))
+
+pub returns-in-Ok-clause-end : goal.returns-in-Ok-clause-end
+returns-in-Ok-clause-end g c is = (c.next.ensures.end (c.in-Ok.is ∙ ap Ok (text_same _ _ is))).3
 
 pub returns-in-Err-SourceFault-clause-text : goal.returns-in-Err-SourceFault-clause-text
 returns-in-Err-SourceFault-clause-text g c =

@@ -6,7 +6,7 @@ use Rattle.draid_session.specs.Session.{Untouched}
 use Rattle.draid_pool.specs.Shelves.{on_shelf}
 use Rattle.draid_run.specs.declared.status.Status.TheVariants.{Done, SinkFault, SourceFault}
 use Rattle.draid_run.proofs.Exits.{blameless, done_usage, later_on, rose_from, same_later}
-use Rattle.draid_run.proofs.Serving.{as_found, few_given, first_number, line_by, line_no_source, line_no_usage, next_number, served_done, served_line, served_unread, serving_more, serving_start, text_by, text_no_sink, text_no_usage, too_many}
+use Rattle.draid_run.proofs.Serving.{as_found, few_given, first_number, line_by, line_no_done, line_no_source, line_no_usage, next_number, served_done, served_line, served_unread, serving_more, serving_start, text_by, text_no_done, text_no_sink, text_no_usage, too_many}
 use Rattle.draid_run.proofs.serve.serve.Goals as goal
 
 pub lines-init : goal.lines-init
@@ -27,6 +27,7 @@ pub returns-in-Ok-None : goal.returns-in-Ok-None
 returns-in-Ok-None g c = record {
   served = λ first at.
       served_done _ _ _ _ first _ _ _ _ _ _ _ _ (c.lines.invariant.serving first at) (text_by c.lines.lines c.next_text.new.lines _ _ _ _ c.in-Ok-None.field-0-is c.in-Ok-None.ensures.text);
+  end = λ is. c.next_text.ensures.end (c.in-Ok-None.is ∙ ap Ok c.in-Ok-None.field-0-is);
   source_later = later_on _ _ _ c.lines.invariant.source_later c.next_text.ensures.later;
   sink_later = c.lines.invariant.sink_later;
   shelf_later = c.lines.invariant.shelf_later;
@@ -39,6 +40,7 @@ pub returns-in-Err : goal.returns-in-Err
 returns-in-Err g c = record {
   served = λ first at.
       served_unread g.H.R.Rack g.H.A.Area (choices_by (FnReturnsAt g.F.Fn c.args.chooser.now)) (on_shelf g.H.Shelf c.args.shelf.now) first _ _ _ (g.S.Source.left c.lines.source) (g.S.Source.left c.next_text.new.source) _ _ c.lines.lines c.next_text.new.lines c.in-Err.status (c.lines.invariant.serving first at) c.in-Err.ensures.text;
+  end = λ is. absurd (text_no_done c.lines.lines c.next_text.new.lines (g.S.Source.left c.lines.source) (g.S.Source.left c.next_text.new.source) c.in-Err.status c.in-Err.ensures.text is);
   source_later = later_on _ _ _ c.lines.invariant.source_later c.next_text.ensures.later;
   sink_later = c.lines.invariant.sink_later;
   shelf_later = c.lines.invariant.shelf_later;
@@ -61,6 +63,7 @@ returns-in-Err-serve_line g c =
       source_later = later_on _ _ _ c.lines.invariant.source_later c.next_text.ensures.later;
       sink_later = later_on _ _ _ c.lines.invariant.sink_later c.serve_line.ensures.later;
       shelf_later = later_on _ _ _ c.lines.invariant.shelf_later c.serve_line.ensures.shelf_later;
+      end = λ is. absurd (line_no_done g.H.R.Rack g.H.A.Area (choices_by (FnReturnsAt g.F.Fn c.args.chooser.now)) entry _ _ _ _ was.reached _ _ _ _ c.in-Err-serve_line.status line is);
       source_cause = λ is. absurd (line_no_source g.H.R.Rack g.H.A.Area (choices_by (FnReturnsAt g.F.Fn c.args.chooser.now)) entry _ _ _ _ was.reached _ _ _ _ c.in-Err-serve_line.status line is);
       sink_cause = λ is. rose_from _ _ _ c.lines.invariant.sink_later (c.serve_line.ensures.cause (c.in-Err-serve_line.is ∙ ap Err is));
       no_usage = line_no_usage g.H.R.Rack g.H.A.Area (choices_by (FnReturnsAt g.F.Fn c.args.chooser.now)) entry _ _ _ _ was.reached _ _ _ _ c.in-Err-serve_line.status line;

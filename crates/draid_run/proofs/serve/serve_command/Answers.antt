@@ -3,7 +3,9 @@ use Rattle.std.specs.Fn.{FnReturnsAt}
 use Rattle.draid_session.specs.Choices.{choices_by}
 use Rattle.draid_session.specs.Said.{alone}
 use Rattle.draid_script.specs.Line.{command_in}
+use Rattle.draid_run.specs.Crashes.{LeavesFirm}
 use Rattle.draid_run.specs.Desks.{Turned}
+use Rattle.draid_run.specs.Script.{IsBuilt}
 use Rattle.draid_run.specs.Serve.{AnswerIs}
 use Rattle.draid_pool.specs.Shelves.{on_shelf}
 use Rattle.draid_run.proofs.Exits.{done_cause, line_stopped, line_told, same_later, stop_cause}
@@ -15,9 +17,11 @@ returns-in-Ok-Some g c = record {
   line = λ text entry x is desk.
       (let answered = subst (λ r. AnswerIs g.H.R.Rack g.H.A.Area (choices_by (FnReturnsAt g.F.Fn c.args.chooser.now)) (command_in c.args.line.now) entry (on_shelf g.H.Shelf c.args.shelf.now) c.args.pool.now x (on_shelf g.H.Shelf c.answer.new.shelf) c.answer.new.pool r)
       (c.in-Ok-Some.is ∙ ap Ok c.in-Ok-Some.field-0-is) (c.answer.ensures.answer entry x desk) in
-      let turned = subst (λ r. Turned g.H.R.Rack g.H.A.Area (choices_by (FnReturnsAt g.F.Fn c.args.chooser.now)) r entry x (alone c.in-Ok-Some.reply) (on_shelf g.H.Shelf c.answer.new.shelf) c.answer.new.pool) (sym is) answered in
+      let turned = subst (λ r. Turned g.H.R.Rack g.H.A.Area (choices_by (FnReturnsAt g.F.Fn c.args.chooser.now)) r entry x (alone c.in-Ok-Some.reply) (on_shelf g.H.Shelf c.answer.new.shelf) c.answer.new.pool) (sym is) answered.0 in
+      let firm = subst (λ r. LeavesFirm r (alone c.in-Ok-Some.reply) (on_shelf g.H.Shelf c.args.shelf.now) c.args.pool.now (on_shelf g.H.Shelf c.answer.new.shelf) c.answer.new.pool) (sym is) answered.1 in
+      let built = subst IsBuilt (sym is) answered.2 in
       line_told g.H.R.Rack g.H.A.Area (choices_by (FnReturnsAt g.F.Fn c.args.chooser.now)) c.args.number text entry (on_shelf g.H.Shelf c.args.shelf.now) c.args.pool.now x (on_shelf g.H.Shelf c.answer.new.shelf) c.answer.new.pool
-      c.in-Ok-Some.reply (g.K.Sink.held c.args.sink.now) (g.K.Sink.held c.print_reply.new.sink) c.print_reply.result turned c.print_reply.ensures.prints);
+      c.in-Ok-Some.reply (g.K.Sink.held c.args.sink.now) (g.K.Sink.held c.print_reply.new.sink) c.print_reply.result turned firm built c.print_reply.ensures.prints);
   later = c.print_reply.ensures.later;
   cause = c.print_reply.ensures.cause;
   shelf_later = c.answer.ensures.later;
@@ -30,7 +34,9 @@ returns-in-Ok-None g c = record {
       (c.in-Ok-None.is ∙ ap Ok c.in-Ok-None.field-0-is) (c.answer.ensures.answer entry x desk) in
       record {
         saids = [];
-        turned = subst (λ r. Turned g.H.R.Rack g.H.A.Area (choices_by (FnReturnsAt g.F.Fn c.args.chooser.now)) r entry x [] (on_shelf g.H.Shelf c.answer.new.shelf) c.answer.new.pool) (sym is) answered;
+        turned = subst (λ r. Turned g.H.R.Rack g.H.A.Area (choices_by (FnReturnsAt g.F.Fn c.args.chooser.now)) r entry x [] (on_shelf g.H.Shelf c.answer.new.shelf) c.answer.new.pool) (sym is) answered.0;
+        firm = subst (λ r. LeavesFirm r [] (on_shelf g.H.Shelf c.args.shelf.now) c.args.pool.now (on_shelf g.H.Shelf c.answer.new.shelf) c.answer.new.pool) (sym is) answered.1;
+        built = subst IsBuilt (sym is) answered.2;
         prints = appends_none (g.K.Sink.held c.args.sink.now);
       });
   later = same_later (g.K.Sink.faults c.args.sink.now);

@@ -5,7 +5,7 @@ use Rattle.draid_session.specs.Session.{Untouched}
 use Rattle.draid_pool.specs.Shelves.{on_shelf}
 use Rattle.draid_run.proofs.Ended.{device_failed, run_refused, run_served, run_unread}
 use Rattle.draid_run.specs.declared.status.Status.TheVariants.{NoMemory, ShelfFault, SourceFault, Usage}
-use Rattle.draid_run.proofs.Exits.{blameless, later_on, later_same, same_later, sink_last, sink_since}
+use Rattle.draid_run.proofs.Exits.{blameless, later_on, later_same, memory_done, same_later, sink_last, sink_since, usage_done}
 use Rattle.draid_run.proofs.Serving.{as_found}
 use Rattle.draid_run.proofs.top.run.Goals as goal
 
@@ -14,6 +14,8 @@ returns-in-Err-Usage g c = record {
   run = λ first at.
       run_refused g.H.R.Rack g.H.A.Area (choices_by (FnReturnsAt g.F.Fn c.args.chooser.now)) _ _ _ _ _ (on_shelf g.H.Shelf c.args.shelf.now) first at
       (c.take_words.ensures.usage (c.in-Err-Usage.is ∙ ap Err c.in-Err-Usage.field-0-is)) c.end_run.ensures.line;
+  done = λ is. absurd (usage_done (c.end_run.ensures.done is));
+  untouched = λ is. refl;
   source_later = same_later (g.S.Source.faults c.args.source.now);
   sink_later = c.end_run.ensures.later;
   shelf_later = same_later (g.H.Shelf.faults c.args.shelf.now);
@@ -27,6 +29,8 @@ returns-in-Err-NoMemory g c = record {
   run = λ first at.
       run_unread g.H.R.Rack g.H.A.Area (choices_by (FnReturnsAt g.F.Fn c.args.chooser.now)) _ _ _ _ _ (on_shelf g.H.Shelf c.args.shelf.now) first at
       c.end_run-in-Err-NoMemory.ensures.line;
+  done = λ is. absurd (memory_done (c.end_run-in-Err-NoMemory.ensures.done is));
+  untouched = λ is. refl;
   source_later = same_later (g.S.Source.faults c.args.source.now);
   sink_later = c.end_run-in-Err-NoMemory.ensures.later;
   shelf_later = same_later (g.H.Shelf.faults c.args.shelf.now);
@@ -40,6 +44,8 @@ returns g c = record {
   run = λ first at.
       run_served g.H.R.Rack g.H.A.Area (choices_by (FnReturnsAt g.F.Fn c.args.chooser.now)) first _ _ c.serve-ended.result _ _ _ _ (on_shelf g.H.Shelf c.args.shelf.now) (on_shelf g.H.Shelf c.serve-ended.new.shelf) (on_shelf g.H.Shelf c.give_back.new.shelf) c.serve-ended.new.pool
       c.in-Ok.ensures.session c.serve-ended.ensures.no_usage (c.serve-ended.ensures.served first at) c.end_run-2.ensures.line (c.give_back.ensures.leaves (on_shelf g.H.Shelf c.args.shelf.now)) (g.met.H.Shelf.steady c.args.shelf.now c.give_back.new.shelf);
+  done = λ is. c.serve-ended.ensures.end (c.end_run-2.ensures.done is);
+  untouched = λ is. absurd (c.serve-ended.ensures.no_usage (c.end_run-2.ensures.usage is));
   source_later = c.serve-ended.ensures.source_later;
   sink_later = later_on _ _ _ c.serve-ended.ensures.sink_later c.end_run-2.ensures.later;
   shelf_later = later_same _ _ _ c.serve-ended.ensures.shelf_later c.give_back.ensures.faults;

@@ -1,0 +1,177 @@
+//! Sessions of the program: in memory, or in a folder.
+ghost use Rattle.std.specs.Prelude.{◌≡◌, ◌⊎◌, ℕ, List, Vec, IfErr, IfOk, Err, false, map, string_bytes};
+ghost use Rattle.std.specs.Fn.{FnReturnsAt};
+ghost use Rattle.std.specs.Io.KnownBytes.{IsAtEnd};
+ghost use Rattle.std.specs.Process.{exit_status};
+ghost use Rattle.draid_choose.specs.Rooms.{IsChooser};
+ghost use Rattle.draid_faults.specs.declared.crash.CrashRule.{CrashRule};
+ghost use Rattle.draid_files.specs.Folders.{path_of};
+ghost use Rattle.draid_shelf.specs.Failing.{is_planned, lists_of, no_lists, rule_of};
+ghost use Rattle.draid_shelf.specs.Memory.{HoldsNothing};
+ghost use Rattle.draid_session.specs.Choices.{choices_by};
+ghost use Rattle.draid_pool.specs.Shelves.{on_shelf};
+ghost use Rattle.draid_program.specs.Program.{EndsBy, EndsByBook, EndsByRun, NamesFolder, unread};
+
+use draid_area::Area;
+use draid_choose::Chooser;
+use draid_files::{FileArea, FileRack, FileShelf};
+use draid_lines::{Sink, Source};
+use draid_names::Room;
+use draid_rack::Rack;
+use draid_run::{Status, end_run, run};
+use draid_shelf::{CrashRule, MemoryShelf, Shelf};
+use draid_words::{Mode, WordsFault, read_words};
+use std::alloc::Global;
+use std::process::ExitCode;
+use std::thread::Threads;
+
+/// Prints the last line of a status, and exits with it.
+fn end_by<K: Sink>(alloc: Global, sink: &mut K, ended: Status) -> ExitCode
+    ensures line { EndsBy ended result (K.held sink.old) (K.held sink.new) }
+    ensures done { exit_status result ≡ 0 → ended ≡ Status.Done }
+{
+    let status = end_run(alloc, sink, ended);
+    ExitCode::from(status.code())
+}
+
+/// The status of words that can't be read.
+fn unread_status(fault: WordsFault) -> Status
+    ensures { result ≡ unread fault }
+{
+    match fault {
+        WordsFault::NoMemory => Status::NoMemory,
+        WordsFault::Usage => Status::Usage,
+    }
+}
+
+/// Runs the script of the source for these words, and exits with the status of the run.
+fn run_on<
+    H: Shelf,
+    S: Source,
+    K: Sink,
+    F: Fn(&[Room]) -> Option<u32>,
+    A: AllocGlobal + Threads + Sync,
+>(
+    rt: &A,
+    words: &[String],
+    shelf: &mut H,
+    source: &mut S,
+    sink: &mut K,
+    chooser: &Chooser<F>,
+) -> ExitCode
+    requires chooser { IsChooser F.Fn chooser.now }
+    ensures run { EndsByRun H.R.Rack H.A.Area (choices_by (FnReturnsAt F.Fn chooser.now)) (map string_bytes words.now) result (S.left source.old) (K.held sink.old) (K.held sink.new) (on_shelf H.Shelf shelf.old) (on_shelf H.Shelf shelf.new) }
+    ensures done { exit_status result ≡ 0 → IsAtEnd (S.left source.new) }
+{
+    let status = run(rt, words, shelf, source, sink, chooser);
+    ExitCode::from(status.code())
+}
+
+/// The shelf of a session in memory: an empty one, of which no call fails.
+fn new_shelf(alloc: Global) -> MemoryShelf
+    ensures nothing { HoldsNothing result.devices }
+    ensures rule { rule_of result ≡ CrashRule.Torn }
+    ensures lists { lists_of result ≡ no_lists }
+    ensures fuse { is_planned result ≡ false }
+{
+    MemoryShelf::new(alloc, CrashRule::Torn)
+}
+
+/// Runs the script of the source for these words over a new shelf in memory, and exits with the status of the run.
+fn run_in_memory<
+    S: Source,
+    K: Sink,
+    F: Fn(&[Room]) -> Option<u32>,
+    A: AllocGlobal + Threads + Sync,
+>(rt: &A, words: &[String], source: &mut S, sink: &mut K, chooser: &Chooser<F>) -> ExitCode
+    requires chooser { IsChooser F.Fn chooser.now }
+    ensures book { EndsByBook (map string_bytes words.now) result (S.left source.old) (K.held sink.old) (K.held sink.new) }
+    ensures done { exit_status result ≡ 0 → IsAtEnd (S.left source.new) }
+{
+    let mut shelf = new_shelf(rt.alloc());
+    run_on(rt, words, &mut shelf, source, sink, chooser)
+}
+
+/// Runs the script of the source for these words over the folder of this name, and exits with the status of the run.
+fn run_in_folder<
+    S: Source,
+    K: Sink,
+    F: Fn(&[Room]) -> Option<u32>,
+    A: AllocGlobal + Threads + Sync,
+>(
+    files: &HostRuntime,
+    rt: &A,
+    words: &[String],
+    path: String,
+    source: &mut S,
+    sink: &mut K,
+    chooser: &Chooser<F>,
+) -> ExitCode
+    requires chooser { IsChooser F.Fn chooser.now }
+    ensures run { (entry now : FileShelf) × (path_of entry ≡ string_bytes path)
+        × EndsByRun ⟦<FileRack as Rack>⟧ ⟦<FileArea as Area>⟧ (choices_by (FnReturnsAt F.Fn chooser.now)) (map string_bytes words.now) result (S.left source.old) (K.held sink.old) (K.held sink.new) (on_shelf ⟦<FileShelf as Shelf>⟧ entry) (on_shelf ⟦<FileShelf as Shelf>⟧ now) }
+    ensures done { exit_status result ≡ 0 → IsAtEnd (S.left source.new) }
+{
+    let mut shelf = FileShelf::new(files, path);
+    run_on(rt, words, &mut shelf, source, sink, chooser)
+}
+
+/// Runs the script of the source as the words ask for it, in memory or in a folder. Where there is no memory to read
+/// them, it says so.
+fn run_words<S: Source, K: Sink, F: Fn(&[Room]) -> Option<u32>, A: AllocGlobal + Threads + Sync>(
+    files: &HostRuntime,
+    rt: &A,
+    words: &[String],
+    source: &mut S,
+    sink: &mut K,
+    chooser: &Chooser<F>,
+) -> ExitCode
+    requires chooser { IsChooser F.Fn chooser.now }
+    ensures memory { ((path : List ℕ) → NamesFolder (map string_bytes words.now) path → ⊥)
+        → EndsByBook (map string_bytes words.now) result (S.left source.old) (K.held sink.old) (K.held sink.new) }
+    ensures folder { (path : List ℕ) → NamesFolder (map string_bytes words.now) path
+        → ((entry now : FileShelf) × (path_of entry ≡ path)
+        × EndsByRun ⟦<FileRack as Rack>⟧ ⟦<FileArea as Area>⟧ (choices_by (FnReturnsAt F.Fn chooser.now)) (map string_bytes words.now) result (S.left source.old) (K.held sink.old) (K.held sink.new) (on_shelf ⟦<FileShelf as Shelf>⟧ entry) (on_shelf ⟦<FileShelf as Shelf>⟧ now))
+        ⊎ EndsBy Status.NoMemory result (K.held sink.old) (K.held sink.new) }
+    ensures done { exit_status result ≡ 0 → IsAtEnd (S.left source.new) }
+{
+    match read_words(rt.alloc(), words) {
+        Ok(Mode::Session { dir: Some(path) }) => {
+            run_in_folder(files, rt, words, path, source, sink, chooser)
+        }
+        // Over a shelf in memory `run` might read the words, and run the session of a folder.
+        Err(WordsFault::NoMemory) => end_by(rt.alloc(), sink, Status::NoMemory),
+        _ => run_in_memory(rt, words, source, sink, chooser),
+    }
+}
+
+/// Runs the script of the source as the words behind the program's name ask for it. Where these can't be read, it says
+/// why.
+pub(crate) fn run_program<
+    S: Source,
+    K: Sink,
+    F: Fn(&[Room]) -> Option<u32>,
+    A: AllocGlobal + Threads + Sync,
+>(
+    files: &HostRuntime,
+    rt: &A,
+    words: Result<Vec<String>, WordsFault>,
+    source: &mut S,
+    sink: &mut K,
+    chooser: &Chooser<F>,
+) -> ExitCode
+    requires chooser { IsChooser F.Fn chooser.now }
+    ensures unread { IfErr words (λ fault. EndsBy (unread fault) result (K.held sink.old) (K.held sink.new)) }
+    ensures memory { IfOk words (λ words. ((path : List ℕ) → NamesFolder (map string_bytes words.items) path → ⊥)
+        → EndsByBook (map string_bytes words.items) result (S.left source.old) (K.held sink.old) (K.held sink.new)) }
+    ensures folder { IfOk words (λ words. (path : List ℕ) → NamesFolder (map string_bytes words.items) path
+        → ((entry now : FileShelf) × (path_of entry ≡ path)
+        × EndsByRun ⟦<FileRack as Rack>⟧ ⟦<FileArea as Area>⟧ (choices_by (FnReturnsAt F.Fn chooser.now)) (map string_bytes words.items) result (S.left source.old) (K.held sink.old) (K.held sink.new) (on_shelf ⟦<FileShelf as Shelf>⟧ entry) (on_shelf ⟦<FileShelf as Shelf>⟧ now))
+        ⊎ EndsBy Status.NoMemory result (K.held sink.old) (K.held sink.new)) }
+    ensures done { exit_status result ≡ 0 → IsAtEnd (S.left source.new) }
+{
+    match words {
+        Ok(words) => run_words(files, rt, &words, source, sink, chooser),
+        Err(fault) => end_by(rt.alloc(), sink, unread_status(fault)),
+    }
+}
