@@ -50,8 +50,23 @@ fn are_met_and_joined(alloc: Global) -> bool {
     }
 }
 
+/// How many runs of one number a long set has.
+const MANY: u64 = 1_024;
+
+/// Whether a set of so many even numbers has just these.
+fn has_even_numbers(alloc: Global) -> bool {
+    let mut set = RangeSet::new(alloc);
+    for half in 0..MANY {
+        if set.reserve(1).is_err() || set.insert(2 * half, 2 * half).is_err() {
+            return false;
+        }
+    }
+    set.contains(1_000) && !set.contains(1_001) && set.count() == MANY
+}
+
 #[test]
 fn sets_have_what_was_put(rt: HostRuntime) {
+    assert!(rt; has_even_numbers(rt.alloc()));
     assert!(rt; has_runs(cut(rt.alloc()), CUT.as_slice()));
     assert!(rt; are_met_and_joined(rt.alloc()));
 }
