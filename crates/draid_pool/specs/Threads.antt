@@ -98,8 +98,15 @@ pub record IsHeldBy {R A : Type 0} (rack : racks.Ghosts R) (mine : Key → Bool)
   pub numbered : (key : Key) (h : Held) → mine key ≡ true → held_in shard.entries key ≡ Some h → key.seq ≤ seq
   pub settled : (key : Key) (h : Held) → mine key ≡ true → held_in shard.entries key ≡ Some h → is_block h.stage ≡ true
 
--- What a thread has, where the blocks of some places are seen: its metaslabs, and pointers of live blocks. Where the groups are its own, all metaslabs have committed
--- the same one, and its floor is at most two behind that.
+-- a floor is at most two ahead of what some metaslab had committed as it was left
+pub record IsNear {R A : Type 0} (floor : ℕ) (last : ℕ → Option (Shard R A)) : Type 0 where
+  pub metaslab : ℕ
+  pub shard : Shard R A
+  pub there : last metaslab ≡ Some shard
+  pub near : floor ≤ shard.committed + 2
+
+-- What a thread has, where the blocks of some places are seen: its metaslabs, and pointers of live blocks. Its floor is near what it left. Where the groups are its own, all
+-- metaslabs have committed the same one, and its floor is at most two ahead of that.
 pub record IsWholeBut {R A : Type 0} (rack : racks.Ghosts R) (owns : ℕ → Bool) (mine : ℕ → Key → Bool) (last : ℕ → Option (Shard R A)) (table : ℕ → Option Pointer) (seq floor : ℕ) : Type 0 where
   pub shards : (m : ℕ) (shard : Shard R A) → last m ≡ Some shard → IsHeldBy rack (mine m) seq shard
   pub placed : (m : ℕ) (shard : Shard R A) → last m ≡ Some shard → shard.number ≡ m
@@ -107,6 +114,7 @@ pub record IsWholeBut {R A : Type 0} (rack : racks.Ghosts R) (owns : ℕ → Boo
   pub next : (m : ℕ) (shard : Shard R A) → owns groups_number ≡ true → last m ≡ Some shard → floor ≤ shard.committed + 2
   pub pointers : (object : ℕ) (pointer : Pointer) → table object ≡ Some pointer → HasPointer last rack owns object pointer
   pub low : floor ≤ LAST_NUMBER
+  pub reached : IsNear floor last
 
 -- what each command of a thread needs and keeps
 abbrev pub IsWholeBy : {R A : Type 0} → racks.Ghosts R → (ℕ → Bool) → (ℕ → Option (Shard R A)) → (ℕ → Option Pointer) → (seq floor : ℕ) → Type 0
