@@ -8,6 +8,7 @@ use Rattle.draid_reply.specs.declared.reply.Reply.TheVariants.{Crashed}
 use Rattle.draid_rack.specs.declared.Rack as racks
 use Rattle.draid_area.specs.declared.Area as areas
 use Rattle.draid_shelf.specs.Kits.{OnHeld}
+use Rattle.draid_session.specs.Places.{Outside}
 use Rattle.draid_session.specs.Said.{Said}
 use Rattle.draid_session.specs.Choices.{Choices}
 use Rattle.draid_session.specs.Session.{Desk, Finding, Untouched, Bare, Made, Open, Shut, Foreign, Unknown, Runs}
@@ -25,7 +26,7 @@ crash_firm now pool reply firm is = absurd (cc is)
 
 -- whether a crash came last, behind one more line
 crash_more : (choices : Choices) (finds : Finding → Type 0) (tells : Bool) (start : Desk) (came : Bool) (lines : List (List ℕ)) (replies : List (List Said)) (mid : Desk) (line : List ℕ) (saids : List Said)
-    → Runs choices finds tells start lines replies mid → crash_came_last came (lines ++ line ∷ []) (replies ++ saids ∷ []) ≡ crash_behind (crash_came_last came lines replies) (line_of line) saids
+    → Runs choices finds tells start lines replies mid → crash_came_last Outside came (lines ++ line ∷ []) (replies ++ saids ∷ []) ≡ crash_behind (crash_came_last Outside came lines replies) (line_of line) saids
 crash_more choices finds tells start came [] [] mid line saids runs = refl
 crash_more choices finds tells start came [] (r ∷ rs) mid line saids runs = absurd runs
 crash_more choices finds tells start came (l ∷ ls) [] mid line saids runs = absurd runs
@@ -40,10 +41,10 @@ module _ {R A : Type 0} (before now : OnShelf) (pool pool' : Option (Pool R A)) 
   firm_behind (Err fault) leaves is = absurd (cc is)
 
 pub firm_more : {R A : Type 0} (choices : Choices) (finds : Finding → Type 0) (tells : Bool) (start : Desk) (lines : List (List ℕ)) (replies : List (List Said)) (mid : Desk) (line : List ℕ) (saids : List Said)
-    (before now : OnShelf) (pool pool' : Option (Pool R A)) → Runs choices finds tells start lines replies mid → (crash_came_last false lines replies ≡ true → IsFirmShut before pool)
-    → LeavesFirm (line_of line) saids before pool now pool' → crash_came_last false (lines ++ line ∷ []) (replies ++ saids ∷ []) ≡ true → IsFirmShut now pool'
+    (before now : OnShelf) (pool pool' : Option (Pool R A)) → Runs choices finds tells start lines replies mid → (crash_came_last Outside false lines replies ≡ true → IsFirmShut before pool)
+    → LeavesFirm (line_of line) saids before pool now pool' → crash_came_last Outside false (lines ++ line ∷ []) (replies ++ saids ∷ []) ≡ true → IsFirmShut now pool'
 firm_more choices finds tells start lines replies mid line saids before now pool pool' runs firm leaves is =
-    firm_behind before now pool pool' saids (crash_came_last false lines replies) firm (line_of line) leaves (sym (crash_more choices finds tells start false lines replies mid line saids runs) ∙ is)
+    firm_behind before now pool pool' saids (crash_came_last Outside false lines replies) firm (line_of line) leaves (sym (crash_more choices finds tells start false lines replies mid line saids runs) ∙ is)
 
 -- no pool is open then
 closed_none : {R A : Type 0} (rack : racks.Ghosts R) (area : areas.Ghosts A) (x : Desk) → IsPool rack area None x → IsClosed x

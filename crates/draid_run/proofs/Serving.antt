@@ -183,7 +183,7 @@ module _ {R A : Type 0} (rack : racks.Ghosts R) (area : areas.Ghosts A) (choices
         runs_more choices (MayFind rack area entry) (is_some entry.held) first lines replies mid line saids turned.new runs turned.turns (desk_agrees rack area entry now pool turned.new tells turned.desk)
 
     firm_so : (lines : List (List ℕ)) (replies : List (List Said)) (mid : Desk) (line : List ℕ) (saids : List Said) (before now : OnShelf) (pool pool' : Option (Pool R A)) → RunsSo lines replies mid
-        → (crash_came_last false lines replies ≡ true → IsFirmShut before pool) → LeavesFirm (line_of line) saids before pool now pool' → crash_came_last false (lines ++ line ∷ []) (replies ++ saids ∷ []) ≡ true → IsFirmShut now pool'
+        → (crash_came_last Outside false lines replies ≡ true → IsFirmShut before pool) → LeavesFirm (line_of line) saids before pool now pool' → crash_came_last Outside false (lines ++ line ∷ []) (replies ++ saids ∷ []) ≡ true → IsFirmShut now pool'
     firm_so lines replies mid line saids before now pool pool' runs firm leaves = firm_more choices (MayFind rack area entry) (is_some entry.held) first lines replies mid line saids before now pool pool' runs firm leaves
 
     pub serving_more : (input rest rest' start held held' : Option (List ℕ)) (before now : OnShelf) (pool pool' : Option (Pool R A)) (count : ℕ) (line : List ℕ)

@@ -1,11 +1,11 @@
 -- Which runs end by a crash, and what that leaves on the shelf.
 use Rattle.std.specs.Prelude.{◌≡◌, ⊤, ℕ, Bool, true, false, List, [], ◌∷◌, Option, None, Result, Ok}
-use Rattle.draid_script.specs.Grammar.{line_of}
 use Rattle.draid_script.specs.Line.{Command, CrashPool, Silent}
 use Rattle.draid_script.specs.declared.fault.LineFault.{LineFault}
 use Rattle.draid_reply.specs.declared.reply.Reply.{Reply}
 use Rattle.draid_reply.specs.declared.reply.Reply.TheVariants.{Crashed}
 use Rattle.draid_shelf.specs.Kits.{OnHeld}
+use Rattle.draid_session.specs.Places.{Place, line_at, place_behind}
 use Rattle.draid_session.specs.Said.{Said}
 use Rattle.draid_pool.specs.Returning.{IsFirm}
 use Rattle.draid_pool.specs.Shelves.{OnShelf}
@@ -29,11 +29,11 @@ crash_behind before (Ok Silent) saids = before
 crash_behind before (Ok CrashPool) saids = say_crash saids
 crash_behind before command saids = false
 
--- so behind some lines
-abbrev pub crash_came_last : Bool → List (List ℕ) → List (List Said) → Bool
-crash_came_last before [] [] = before
-crash_came_last before (line ∷ lines) (saids ∷ replies) = crash_came_last (crash_behind before (line_of line) saids) lines replies
-crash_came_last before lines replies = false
+-- so behind some lines, by where the run stands before them
+abbrev pub crash_came_last : Place → Bool → List (List ℕ) → List (List Said) → Bool
+crash_came_last place before [] [] = before
+crash_came_last place before (line ∷ lines) (saids ∷ replies) = crash_came_last (place_behind place line) (crash_behind before (line_at place line) saids) lines replies
+crash_came_last place before lines replies = false
 
 -- ---- the shelf
 

@@ -1,6 +1,6 @@
 -- One line among those of a session.
 use Rattle.std.specs.Prelude.{ℕ, Bool, List}
-use Rattle.draid_script.specs.Grammar.{line_of}
+use Rattle.draid_session.specs.Places.{line_behind}
 use Rattle.draid_session.specs.Said.{Said}
 use Rattle.draid_session.specs.Choices.{Choices}
 use Rattle.draid_session.specs.Session.{Agrees, Desk, Finding, Runs, TurnsBy}
@@ -11,6 +11,6 @@ pub record IsTurn (choices : Choices) (finds : Finding → Type 0) (tells : Bool
   pub old : Desk
   pub new : Desk
   pub before : Runs choices finds tells first front said old
-  pub turns : TurnsBy choices finds (line_of line) old saids new
+  pub turns : TurnsBy choices finds (line_behind front line) old saids new
   pub agrees : Agrees tells new
   pub after : Runs choices finds tells new back behind last

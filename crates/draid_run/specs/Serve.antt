@@ -9,11 +9,10 @@ use Rattle.draid_rack.specs.declared.Rack as racks
 use Rattle.draid_area.specs.declared.Area as areas
 use Rattle.draid_lines.specs.Lines.{Rest, WhereKnown, IsTooLong, lines_of, most_lines}
 use Rattle.draid_lines.specs.Sink.{AppendsFront}
-use Rattle.draid_script.specs.Grammar.{line_of}
 use Rattle.draid_script.specs.Line.{Command}
 use Rattle.draid_script.specs.declared.name.CommandName.{CommandName}
 use Rattle.draid_reply.specs.declared.reply.Reply.{Reply}
-use Rattle.draid_session.specs.Places.{Outside}
+use Rattle.draid_session.specs.Places.{Outside, line_at}
 use Rattle.draid_session.specs.Said.{Said, alone}
 use Rattle.draid_session.specs.Choices.{Choices}
 use Rattle.draid_session.specs.Session.{Cause, Desk, RecordFails, Runs, ShelfFails}
@@ -51,7 +50,7 @@ PrintIs text old new (Err status) = ⊥
 -- The shelf failed in a line, or a record had a fault.
 pub record BrokenLine {R A : Type 0} (rack : racks.Ghosts R) (area : areas.Ghosts A) (why : Cause) (text : List ℕ) (entry before : OnShelf) (old : Desk) (now : OnShelf) (pool : Option (Pool R A)) : Type 0 where
   pub command : Command
-  pub line : line_of text ≡ Ok command
+  pub line : line_at Outside text ≡ Ok command
   pub built : IsUnbuilt command → ⊥
   pub broken : Broken rack area why command entry before old now pool
 
@@ -96,9 +95,9 @@ module _ {R A : Type 0} (rack : racks.Ghosts R) (area : areas.Ghosts A) (choices
   -- A line was answered, and the replies to it were printed.
   pub record Printed (text : List ℕ) (entry before : OnShelf) (pool : Option (Pool R A)) (old : Desk) (now : OnShelf) (pool' : Option (Pool R A)) (held held' : Option (List ℕ)) : Type 0 where
     pub saids : List Said
-    pub turned : Turned rack area choices (line_of text) entry old saids now pool'
-    pub firm : LeavesFirm (line_of text) saids before pool now pool'
-    pub built : IsBuilt (line_of text)
+    pub turned : Turned rack area choices (line_at Outside text) entry old saids now pool'
+    pub firm : LeavesFirm (line_at Outside text) saids before pool now pool'
+    pub built : IsBuilt (line_at Outside text)
     pub prints : Appends held held' (texts_of saids)
 
   -- A line was answered, and the sink failed at one of the replies to it.
@@ -107,9 +106,9 @@ module _ {R A : Type 0} (rack : racks.Ghosts R) (area : areas.Ghosts A) (choices
     pub said : Said
     pub rest : List Said
     pub mid : Option (List ℕ)
-    pub turned : Turned rack area choices (line_of text) entry old (part ++ said ∷ rest) now pool'
-    pub firm : LeavesFirm (line_of text) (part ++ said ∷ rest) before pool now pool'
-    pub built : IsBuilt (line_of text)
+    pub turned : Turned rack area choices (line_at Outside text) entry old (part ++ said ∷ rest) now pool'
+    pub firm : LeavesFirm (line_at Outside text) (part ++ said ∷ rest) before pool now pool'
+    pub built : IsBuilt (line_at Outside text)
     pub whole : Appends held mid (texts_of part)
     pub prints : AppendsFront mid held' (said_text said)
 
@@ -118,9 +117,9 @@ module _ {R A : Type 0} (rack : racks.Ghosts R) (area : areas.Ghosts A) (choices
     pub part : List Said
     pub said : Said
     pub rest : List Said
-    pub turned : Turned rack area choices (line_of text) entry old (part ++ said ∷ rest) now pool'
-    pub firm : LeavesFirm (line_of text) (part ++ said ∷ rest) before pool now pool'
-    pub built : IsBuilt (line_of text)
+    pub turned : Turned rack area choices (line_at Outside text) entry old (part ++ said ∷ rest) now pool'
+    pub firm : LeavesFirm (line_at Outside text) (part ++ said ∷ rest) before pool now pool'
+    pub built : IsBuilt (line_at Outside text)
     pub prints : Appends held held' (texts_of part)
 
   -- what became of a line
@@ -131,7 +130,7 @@ module _ {R A : Type 0} (rack : racks.Ghosts R) (area : areas.Ghosts A) (choices
   LineIs number text entry before pool old now pool' held held' (Err (Record metaslab place kind)) =
       (held' ≡ held) × BrokenLine rack area RecordFails text entry before old now pool' × HoldsFault rack area before metaslab place kind
   LineIs number text entry before pool old now pool' held held' (Err (Line line why at)) =
-      LineFaultIs (line_of text) why at × (now ≡ before) × (pool' ≡ pool) × (held' ≡ held) × (line ≡ number)
+      LineFaultIs (line_at Outside text) why at × (now ≡ before) × (pool' ≡ pool) × (held' ≡ held) × (line ≡ number)
   LineIs number text entry before pool old now pool' held held' (Err NoMemory) =
       ((held' ≡ held) × (now ≡ before) × (pool' ≡ pool)) ⊎ Untold text entry before pool old now pool' held held'
   LineIs number text entry before pool old now pool' held held' (Err status) = ⊥
@@ -147,7 +146,7 @@ module _ {R A : Type 0} (rack : racks.Ghosts R) (area : areas.Ghosts A) (choices
     pub known : WhereKnown input rest (λ all behind. lines_of all ≡ lines ++ lines_of behind)
     pub printed : Appends start held (texts_of (all_said replies))
     pub unanswered : lines ≡ [] → now ≡ entry
-    pub firm : crash_came_last false lines replies ≡ true → IsFirmShut now pool
+    pub firm : crash_came_last Outside false lines replies ≡ true → IsFirmShut now pool
     pub built : AreBuilt Outside lines
 
   -- The lines were served until the run ended.
@@ -168,5 +167,5 @@ module _ {R A : Type 0} (rack : racks.Ghosts R) (area : areas.Ghosts A) (choices
     pub failed : ended ≡ ShelfFault → HasFault area entry now pool last ⊎ (MakesLeavesAt lines broken × RackFault rack pool last)
     pub since : ended ≡ ShelfFault → IsClosed mid → IsClosed last × FailsShut area broken lines mid entry now
     pub bad : (metaslab : Option ℕ) (place : ℕ) (kind : RecordFaultKind) → ended ≡ Record metaslab place kind → FaultyShut rack area broken lines mid entry metaslab place kind
-    pub firm : broken ≡ None → crash_came_last false lines replies ≡ true → IsFirmShut now pool
+    pub firm : broken ≡ None → crash_came_last Outside false lines replies ≡ true → IsFirmShut now pool
     pub built : AreBuilt Outside lines

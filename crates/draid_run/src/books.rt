@@ -1,6 +1,4 @@
 ghost use Rattle.std.specs.Prelude.{◌≡◌, ℕ, List, Option, is_some, true};
-ghost use Rattle.std.specs.Fn.{FnReturnsAt};
-ghost use Rattle.draid_session.specs.Choices.{choices_by};
 ghost use Rattle.draid_session.specs.Book.{Book, blank};
 ghost use Rattle.draid_session.specs.Keeping.{Keeps};
 ghost use Rattle.draid_session.specs.Session.{Desk};
@@ -11,23 +9,23 @@ ghost use Rattle.draid_run.specs.Shelves.{HoldsBare, HoldsDesk};
 ghost use Rattle.draid_run.specs.declared.status.Status.{Status};
 
 use draid_area::Area;
-use draid_names::Room;
+use draid_session::Decides;
 use draid_rack::Rack;
 
 /// Law: over a shelf that tells that it has no pool, the lines of a run are answered as a book has it that begins blank; so
 /// are those of runs one after another, with a crash of all that the shelf holds between two or not.
-pub fn runs_keep_the_book<R: Rack, A: Area, F: Fn(&[Room]) -> Option<u32>>(
+pub fn runs_keep_the_book<R: Rack, A: Area, D: Decides>(
     rack: &R,
     area: &A,
-    chooser: &F,
+    decider: &D,
 )
     ensures one { (words : List (List ℕ)) (status : Status) (input old new : Option (List ℕ)) (entry now : OnShelf)
-        → RunIs R.Rack A.Area (choices_by (FnReturnsAt F.Fn chooser.now)) words status input old new entry now → HoldsBare entry
+        → RunIs R.Rack A.Area (D.choices decider.now) words status input old new entry now → HoldsBare entry
         → (book : Book) × KeepsBook words status input old new blank book }
     ensures several { (runs : List OneRun) (shelf : OnShelf)
-        → AreRuns R.Rack A.Area (choices_by (FnReturnsAt F.Fn chooser.now)) shelf runs → HoldsBare shelf
+        → AreRuns R.Rack A.Area (D.choices decider.now) shelf runs → HoldsBare shelf
         → (book : Book) × KeepBook blank runs book }
     ensures goes_on { (runs : List OneRun) (shelf : OnShelf) (desk : Desk) (book : Book)
-        → AreRuns R.Rack A.Area (choices_by (FnReturnsAt F.Fn chooser.now)) shelf runs → HoldsDesk desk shelf shelf → is_some shelf.held ≡ true
+        → AreRuns R.Rack A.Area (D.choices decider.now) shelf runs → HoldsDesk desk shelf shelf → is_some shelf.held ≡ true
         → Keeps desk book → (later : Book) × KeepBook book runs later }
 {}

@@ -1,10 +1,8 @@
 ghost use Rattle.std.specs.Prelude.{◌≡◌, ◌∷◌, ◌++◌, [], ℕ, Bool, List, Option, Some, Ok, length};
-ghost use Rattle.std.specs.Fn.{FnReturnsAt};
 ghost use Rattle.std.specs.declared.alloc.Global.{Global as Heap};
 ghost use Rattle.std.specs.declared.vec.Vec.{Vec};
 ghost use Rattle.draid_reply.specs.declared.reply.Reply.{Reply};
 ghost use Rattle.draid_script.specs.Line.{ReadObject, WriteObject};
-ghost use Rattle.draid_session.specs.Choices.{choices_by};
 ghost use Rattle.draid_session.specs.Known.{Known};
 ghost use Rattle.draid_session.specs.Places.{Outside, line_at, line_behind, place_behind};
 ghost use Rattle.draid_session.specs.Reads.{ReadsAs};
@@ -15,22 +13,22 @@ ghost use Rattle.draid_pool.specs.Shelves.{OnShelf};
 ghost use Rattle.draid_run.specs.Shelves.{MayFind};
 
 use draid_area::Area;
-use draid_names::Room;
+use draid_session::Decides;
 use draid_rack::Rack;
 
 /// Law: on a pool that was found and that no known session left, an object that was written is read as those bytes, and one
 /// that was read is read as the same bytes again, where no line between the two writes or frees it or gives the pool back.
-pub fn known_objects_are_read<R: Rack, A: Area, F: Fn(&[Room]) -> Option<u32>>(
+pub fn known_objects_are_read<R: Rack, A: Area, D: Decides>(
     rack: &R,
     area: &A,
-    chooser: &F,
+    decider: &D,
 )
     ensures written { (entry : OnShelf) (tells : Bool) (write read : List ℕ) (lines : List (List ℕ)) (replies : List (List Said)) (object o p : ℕ) (bytes : List ℕ) (got : Vec ℕ Heap) (known : Known) (last : Desk)
         → line_at Outside write ≡ Ok (WriteObject object bytes) → line_behind (write ∷ lines) read ≡ Ok (ReadObject object) → AllSpare object (place_behind Outside write) lines → length replies ≡ length lines
-        → Runs (choices_by (FnReturnsAt F.Fn chooser.now)) (MayFind R.Rack A.Area entry) tells (Foreign known) (write ∷ (lines ++ (read ∷ []))) (alone (Reply.Written o) ∷ (replies ++ (alone (Reply.Contents p got) ∷ []))) last
+        → Runs (D.choices decider.now) (MayFind R.Rack A.Area entry) tells (Foreign known) (write ∷ (lines ++ (read ∷ []))) (alone (Reply.Written o) ∷ (replies ++ (alone (Reply.Contents p got) ∷ []))) last
         → ReadsAs bytes got.items }
     ensures again { (entry : OnShelf) (tells : Bool) (first read : List ℕ) (lines : List (List ℕ)) (replies : List (List Said)) (object o p : ℕ) (was got : Vec ℕ Heap) (known : Known) (last : Desk)
         → line_at Outside first ≡ Ok (ReadObject object) → line_behind (first ∷ lines) read ≡ Ok (ReadObject object) → AllSpare object (place_behind Outside first) lines → length replies ≡ length lines
-        → Runs (choices_by (FnReturnsAt F.Fn chooser.now)) (MayFind R.Rack A.Area entry) tells (Foreign known) (first ∷ (lines ++ (read ∷ []))) (alone (Reply.Contents o was) ∷ (replies ++ (alone (Reply.Contents p got) ∷ []))) last
+        → Runs (D.choices decider.now) (MayFind R.Rack A.Area entry) tells (Foreign known) (first ∷ (lines ++ (read ∷ []))) (alone (Reply.Contents o was) ∷ (replies ++ (alone (Reply.Contents p got) ∷ []))) last
         → ReadsAs was.items got.items }
 {}

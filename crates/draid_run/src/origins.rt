@@ -1,8 +1,6 @@
 ghost use Rattle.std.specs.Prelude.{◌≡◌, ℕ, Bool, List, Option, true, is_some};
-ghost use Rattle.std.specs.Fn.{FnReturnsAt};
 ghost use Rattle.draid_shelf.specs.Memory.{HoldsNothing};
 ghost use Rattle.draid_session.specs.Book.{Book, blank};
-ghost use Rattle.draid_session.specs.Choices.{choices_by};
 ghost use Rattle.draid_session.specs.Keeping.{Keeps};
 ghost use Rattle.draid_session.specs.Present.{DeskReached};
 ghost use Rattle.draid_session.specs.Session.{Shut};
@@ -14,7 +12,7 @@ ghost use Rattle.draid_run.specs.Shelves.{HoldsDesk};
 ghost use Rattle.draid_run.specs.declared.status.Status.{Status};
 
 use draid_area::Area;
-use draid_names::Room;
+use draid_session::Decides;
 use draid_rack::Rack;
 use draid_shelf::{MemoryShelf, Shelf};
 
@@ -30,14 +28,14 @@ pub fn known_pools_have_a_book()
 {}
 
 /// Law: a run over a new shelf in memory is answered as a book has it that begins blank.
-pub fn new_shelves_keep_the_book<R: Rack, A: Area, F: Fn(&[Room]) -> Option<u32>>(
+pub fn new_shelves_keep_the_book<R: Rack, A: Area, D: Decides>(
     rack: &R,
     area: &A,
-    chooser: &F,
+    decider: &D,
     shelf: &MemoryShelf,
 )
     requires { HoldsNothing shelf.now.devices }
     ensures { (words : List (List ℕ)) (status : Status) (input old new : Option (List ℕ)) (now : OnShelf)
-        → RunIs R.Rack A.Area (choices_by (FnReturnsAt F.Fn chooser.now)) words status input old new (on_shelf ⟦<MemoryShelf as Shelf>⟧ shelf.now) now
+        → RunIs R.Rack A.Area (D.choices decider.now) words status input old new (on_shelf ⟦<MemoryShelf as Shelf>⟧ shelf.now) now
         → (book : Book) × KeepsBook words status input old new blank book }
 {}

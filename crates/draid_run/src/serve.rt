@@ -3,7 +3,7 @@ ghost use Rattle.std.specs.Io.KnownBytes.{IsAtEnd, prepend_known};
 ghost use Rattle.std.specs.Fn.{FnReturnsAt};
 ghost use Rattle.draid_choose.specs.Rooms.{IsChooser};
 ghost use Rattle.draid_names.specs.Faults.{Rose};
-ghost use Rattle.draid_script.specs.Grammar.{line_of};
+ghost use Rattle.draid_session.specs.Places.{Outside, line_at};
 ghost use Rattle.draid_script.specs.Line.{IsInRange, command_in};
 ghost use Rattle.draid_reply.specs.Reply.{text_of};
 ghost use Rattle.draid_session.specs.Choices.{choices_by};
@@ -57,7 +57,7 @@ fn serve_command<H: Shelf, K: Sink, F: Fn(&[Room]) -> Option<u32>>(
     requires chooser { IsChooser F.Fn chooser.now }
     requires range { IsInRange (command_in line.now) }
     requires desk { (x : Desk) × IsPool H.R.Rack H.A.Area pool.old x }
-    ensures line { (text : List ℕ) (entry : OnShelf) (x : Desk) → line_of text ≡ Ok (command_in line.now)
+    ensures line { (text : List ℕ) (entry : OnShelf) (x : Desk) → line_at Outside text ≡ Ok (command_in line.now)
         → IsDesk H.R.Rack H.A.Area entry (on_shelf H.Shelf shelf.old) pool.old x
         → LineIs H.R.Rack H.A.Area (choices_by (FnReturnsAt F.Fn chooser.now)) number text entry (on_shelf H.Shelf shelf.old) pool.old x (on_shelf H.Shelf shelf.new) pool.new (K.held sink.old) (K.held sink.new) result }
     ensures later { K.faults sink.old ≤ K.faults sink.new }

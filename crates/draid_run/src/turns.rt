@@ -1,6 +1,4 @@
 ghost use Rattle.std.specs.Prelude.{◌≡◌, ◌∷◌, ◌++◌, ℕ, Bool, List, length};
-ghost use Rattle.std.specs.Fn.{FnReturnsAt};
-ghost use Rattle.draid_session.specs.Choices.{choices_by};
 ghost use Rattle.draid_session.specs.Said.{Said};
 ghost use Rattle.draid_session.specs.Session.{Desk, IsAnything, Runs};
 ghost use Rattle.draid_pool.specs.Shelves.{OnShelf};
@@ -8,34 +6,34 @@ ghost use Rattle.draid_run.specs.Lines.{IsTurn};
 ghost use Rattle.draid_run.specs.Shelves.{MayFind};
 
 use draid_area::Area;
-use draid_names::Room;
+use draid_session::Decides;
 use draid_rack::Rack;
 
 /// Law: the lines of a run can be looked at one by one: behind those before a line there is a desk from which the line
 /// leads to another, with the replies to it, and the lines behind go on from there. So it is with those of a session,
 /// where an import may find anything.
-pub fn each_line_is_a_turn<R: Rack, A: Area, F: Fn(&[Room]) -> Option<u32>>(
+pub fn each_line_is_a_turn<R: Rack, A: Area, D: Decides>(
     rack: &R,
     area: &A,
-    chooser: &F,
+    decider: &D,
 )
     ensures run { (entry : OnShelf) (tells : Bool) (first last : Desk) (front back : List (List ℕ)) (line : List ℕ) (said behind : List (List Said)) (saids : List Said)
         → length said ≡ length front
-        → Runs (choices_by (FnReturnsAt F.Fn chooser.now)) (MayFind R.Rack A.Area entry) tells first (front ++ line ∷ back) (said ++ saids ∷ behind) last
-        → IsTurn (choices_by (FnReturnsAt F.Fn chooser.now)) (MayFind R.Rack A.Area entry) tells first front said line saids back behind last }
+        → Runs (D.choices decider.now) (MayFind R.Rack A.Area entry) tells first (front ++ line ∷ back) (said ++ saids ∷ behind) last
+        → IsTurn (D.choices decider.now) (MayFind R.Rack A.Area entry) tells first front said line saids back behind last }
     ensures session { (tells : Bool) (first last : Desk) (front back : List (List ℕ)) (line : List ℕ) (said behind : List (List Said)) (saids : List Said)
         → length said ≡ length front
-        → Runs (choices_by (FnReturnsAt F.Fn chooser.now)) IsAnything tells first (front ++ line ∷ back) (said ++ saids ∷ behind) last
-        → IsTurn (choices_by (FnReturnsAt F.Fn chooser.now)) IsAnything tells first front said line saids back behind last }
+        → Runs (D.choices decider.now) IsAnything tells first (front ++ line ∷ back) (said ++ saids ∷ behind) last
+        → IsTurn (D.choices decider.now) IsAnything tells first front said line saids back behind last }
 {}
 
 /// Law: the lines of a run are those of a session, of which the laws of sessions speak.
-pub fn runs_are_sessions<R: Rack, A: Area, F: Fn(&[Room]) -> Option<u32>>(
+pub fn runs_are_sessions<R: Rack, A: Area, D: Decides>(
     rack: &R,
     area: &A,
-    chooser: &F,
+    decider: &D,
 )
     ensures { (entry : OnShelf) (tells : Bool) (lines : List (List ℕ)) (replies : List (List Said)) (old new : Desk)
-        → Runs (choices_by (FnReturnsAt F.Fn chooser.now)) (MayFind R.Rack A.Area entry) tells old lines replies new
-        → Runs (choices_by (FnReturnsAt F.Fn chooser.now)) IsAnything tells old lines replies new }
+        → Runs (D.choices decider.now) (MayFind R.Rack A.Area entry) tells old lines replies new
+        → Runs (D.choices decider.now) IsAnything tells old lines replies new }
 {}

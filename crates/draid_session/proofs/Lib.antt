@@ -7,6 +7,9 @@ pub mod Balancing
 pub mod Bearing
 pub mod Calm
 pub mod Landing
+pub mod LanesPend
+pub mod LanesSteady
+pub mod LanesUpTo
 pub mod Fewer
 pub mod Whole
 pub mod Certain

@@ -1,14 +1,18 @@
 //! Tests of the crates that know no device: the arithmetic of parity, blocks and their columns, layouts, chains of
-//! spares, free space, logs of what was missed, and the choice of metaslabs; scripts, with their sources and sinks, readers
+//! spares, free space, logs of what was missed, and the choice of metaslabs; the repair agent and the checkpoint; scripts, with their sources and sinks, readers
 //! and writers as such, their lines and the texts of replies, and the script of a workload. It offers nothing; a module is
 //! named after the crate that it tests.
 
 #![tactic(auto)]
 
 #[cfg(test)]
+mod agent;
+#[cfg(test)]
 mod block;
 #[cfg(test)]
 mod chain;
+#[cfg(test)]
+mod checkpoint;
 #[cfg(test)]
 mod choose;
 #[cfg(test)]

@@ -7,6 +7,8 @@
 #[cfg(test)]
 mod area;
 #[cfg(test)]
+mod checks;
+#[cfg(test)]
 mod faults;
 #[cfg(test)]
 mod fields;

@@ -4,16 +4,28 @@ use draid_shelf::{CrashRule, MemoryShelf, Place, Shelf};
 use draid_tests_session::run_script;
 use std::thread::Threads;
 
-/// A leaf is offline, its slot got a spare, and a group has both; then the spare is rebuilt, over another group.
-static REBUILT: &str =
-    "create draid1:2d:4c:1s 4 sector=512 height=8 metaslabs=1 slices=2 seed=2\nfill 1 5 1024 1\noffline 0\nspare 0 0\nsync\nrebuild 3\nsync\nrebuild\n";
+/// A rebuild of a pool: a leaf is offline, its slot got a spare, and a group has both; then the spare is rebuilt, over
+/// another group. The rebuild goes on to its end, and then another leaf goes. It ends without errors, and the sum is that
+/// of what was written.
+struct Story {
+    first: &'static str,
+    later: &'static str,
+    whole: &'static str,
+}
 
-/// The rebuild goes on to its end, and then another leaf goes.
-static LATER: &str = "import\nrebuild\noffline 1\nsum 1 5\n";
-
-/// It ends without errors, and the sum is that of what was written.
-static WHOLE: &str =
-    " errors=0 done\noffline 1 ok\nsum 1 5 86d0ba4eedd376d0aabe0cbf2e8e70483259ee7b66af72aa9a3062dcc56c7a51\n";
+/// Two pools with other permutations; in each the spare takes another slot's place.
+static STORIES: [Story; 2] = [
+    Story {
+        first: "create draid1:2d:4c:1s 4 sector=512 height=8 metaslabs=1 slices=2 seed=2\nfill 1 5 1024 1\noffline 0\nspare 0 0\nsync\nrebuild 3\nsync\nrebuild\n",
+        later: "import\nrebuild\noffline 1\nsum 1 5\n",
+        whole: " errors=0 done\noffline 1 ok\nsum 1 5 86d0ba4eedd376d0aabe0cbf2e8e70483259ee7b66af72aa9a3062dcc56c7a51\n",
+    },
+    Story {
+        first: "create draid1:2d:4c:1s 4 sector=512 height=8 metaslabs=1 slices=2 seed=3\nfill 1 5 1024 1\noffline 2\nspare 2 0\nsync\nrebuild 3\nsync\nrebuild\n",
+        later: "import\nrebuild\noffline 0\nsum 1 5\n",
+        whole: " errors=0 done\noffline 0 ok\nsum 1 5 86d0ba4eedd376d0aabe0cbf2e8e70483259ee7b66af72aa9a3062dcc56c7a51\n",
+    },
+];
 
 /// Runs lines on a shelf, and puts what they print into a sink.
 pub fn run_lines<R: AllocGlobal + Threads + Sync>(
@@ -38,38 +50,43 @@ fn has_group(printed: &[u8]) -> bool {
 }
 
 /// Whether a later session on the shelf finds the rebuild and ends it, and nothing is lost.
-fn goes_on<R: AllocGlobal + Threads + Sync>(rt: &R, shelf: &mut MemoryShelf) -> Option<bool> {
+fn goes_on<R: AllocGlobal + Threads + Sync>(
+    rt: &R,
+    story: &Story,
+    shelf: &mut MemoryShelf,
+) -> Option<bool> {
     let mut found = MemorySink::new(rt.alloc(), Vec::new(rt.alloc()));
-    run_lines(rt, shelf, LATER, &mut found)?;
-    Some(found.held().ends_with(WHOLE.as_bytes()))
+    run_lines(rt, shelf, story.later, &mut found)?;
+    Some(found.held().ends_with(story.whole.as_bytes()))
 }
 
 /// What the session comes to on devices that stop behind so many calls and then crash, where it isn't lost.
 fn stops_at<R: AllocGlobal + Threads + Sync>(
     rt: &R,
+    story: &Story,
     rule: CrashRule,
     calls: u64,
 ) -> Option<Status> {
     let mut shelf = MemoryShelf::new(rt.alloc(), rule);
     let mut printed = MemorySink::new(rt.alloc(), Vec::new(rt.alloc()));
     shelf.put_fuse(rt.alloc(), calls).ok()?;
-    let ended = run_lines(rt, &mut shelf, REBUILT, &mut printed)?;
+    let ended = run_lines(rt, &mut shelf, story.first, &mut printed)?;
     shelf.put_fuse(rt.alloc(), u64::MAX).ok()?;
     shelf.crash();
-    if has_group(printed.held()) && goes_on(rt, &mut shelf) != Some(true) {
+    if has_group(printed.held()) && goes_on(rt, story, &mut shelf) != Some(true) {
         return None;
     }
     Some(ended)
 }
 
 /// Whether nothing is lost wherever the devices stop.
-fn loses_nothing<R: AllocGlobal + Threads + Sync>(rt: &R, rule: CrashRule) -> bool {
+fn loses_nothing<R: AllocGlobal + Threads + Sync>(rt: &R, story: &Story, rule: CrashRule) -> bool {
     for calls in 0..STOPS {
-        if stops_at(rt, rule, calls).is_none() {
+        if stops_at(rt, story, rule, calls).is_none() {
             return false;
         }
     }
-    stops_at(rt, rule, STOPS) == Some(Status::Done)
+    stops_at(rt, story, rule, STOPS) == Some(Status::Done)
 }
 
 pub static RULES: [CrashRule; 4] = [
@@ -82,8 +99,10 @@ pub static RULES: [CrashRule; 4] = [
 // Each call of both rebuilds is among them.
 #[test]
 fn stopped_rebuilds_go_on(rt: HostRuntime) {
-    for row in 0..RULES.len() {
-        assert!(rt; loses_nothing(&rt, RULES[row]), "{row}");
+    for story in &STORIES {
+        for row in 0..RULES.len() {
+            assert!(rt; loses_nothing(&rt, story, RULES[row]), "{row}");
+        }
     }
 }
 

@@ -1,6 +1,4 @@
-use Rattle.std.specs.Fn.{FnReturnsAt}
 use Rattle.std.proofs.Common.{◌≡◌, None, refl}
-use Rattle.draid_session.specs.Choices.{choices_by}
 use Rattle.draid_session.specs.Book.{blank}
 use Rattle.draid_session.specs.Session.{Bare}
 use Rattle.draid_run.proofs.Booked.{bare_keeps, bare_tells, runs_keep}
@@ -9,13 +7,13 @@ use Rattle.draid_run.proofs.books.runs_keep_the_book.Goals as goal
 
 pub returns-clause-one : goal.returns-clause-one
 returns-clause-one g c words status input old new entry now is bare =
-    bare_keeps g.R.Rack g.A.Area (choices_by (FnReturnsAt g.F.Fn c.args.chooser.now)) words status input old new entry now is bare
+    bare_keeps g.R.Rack g.A.Area (g.D.Decides.choices c.args.decider.now) words status input old new entry now is bare
 
 pub returns-clause-several : goal.returns-clause-several
 returns-clause-several g c runs shelf are bare =
-    runs_keep g.R.Rack g.A.Area (choices_by (FnReturnsAt g.F.Fn c.args.chooser.now)) runs shelf Bare blank are ((as_found shelf).0, bare)
+    runs_keep g.R.Rack g.A.Area (g.D.Decides.choices c.args.decider.now) runs shelf Bare blank are ((as_found shelf).0, bare)
     (bare_tells shelf.held (λ held. held.uber ≡ None) bare) (record { is_shut = refl; none = refl })
 
 pub returns-clause-goes_on : goal.returns-clause-goes_on
 returns-clause-goes_on g c runs shelf desk book are holds tells keeps =
-    runs_keep g.R.Rack g.A.Area (choices_by (FnReturnsAt g.F.Fn c.args.chooser.now)) runs shelf desk book are holds tells keeps
+    runs_keep g.R.Rack g.A.Area (g.D.Decides.choices c.args.decider.now) runs shelf desk book are holds tells keeps

@@ -1,6 +1,4 @@
 use Rattle.std.proofs.Common.{◌∷◌, ◌++◌, subst, true}
-use Rattle.std.specs.Fn.{FnReturnsAt}
-use Rattle.draid_session.specs.Choices.{choices_by}
 use Rattle.draid_session.specs.Session.{Agrees, Runs}
 use Rattle.draid_run.specs.Shelves.{MayFind}
 use Rattle.draid_run.proofs.Next.{again}
@@ -9,7 +7,7 @@ use Rattle.draid_run.proofs.laws.crashed_pools_are_found_again.Goals as goal
 
 pub returns : goal.returns
 returns g c words status input old new entry now first it tells holds known front back crash import said behind called group objects is_crash is_import same lines replies =
-    let choices = choices_by (FnReturnsAt g.F.Fn c.args.chooser.now) in
+    let choices = g.D.Decides.choices c.args.decider.now in
     let finds = MayFind g.R.Rack g.A.Area entry in
     let s = it.session in
     let told = subst (λ b. Runs choices finds b first s.lines s.replies s.mid) tells s.runs in

@@ -1,5 +1,3 @@
-use Rattle.std.specs.Fn.{FnReturnsAt}
-use Rattle.draid_session.specs.Choices.{choices_by}
 use Rattle.draid_session.specs.Session.{IsAnything}
 use Rattle.draid_run.specs.Shelves.{MayFind}
 use Rattle.draid_run.proofs.Turned.{one_turn}
@@ -7,8 +5,8 @@ use Rattle.draid_run.proofs.turns.each_line_is_a_turn.Goals as goal
 
 pub returns-clause-run : goal.returns-clause-run
 returns-clause-run g c entry tells first last front back line said behind saids same runs =
-    one_turn (choices_by (FnReturnsAt g.F.Fn c.args.chooser.now)) (MayFind g.R.Rack g.A.Area entry) tells line saids back behind last front said first same runs
+    one_turn (g.D.Decides.choices c.args.decider.now) (MayFind g.R.Rack g.A.Area entry) tells line saids back behind last front said first same runs
 
 pub returns-clause-session : goal.returns-clause-session
 returns-clause-session g c tells first last front back line said behind saids same runs =
-    one_turn (choices_by (FnReturnsAt g.F.Fn c.args.chooser.now)) IsAnything tells line saids back behind last front said first same runs
+    one_turn (g.D.Decides.choices c.args.decider.now) IsAnything tells line saids back behind last front said first same runs

@@ -1,8 +1,6 @@
-use Rattle.std.specs.Fn.{FnReturnsAt}
-use Rattle.draid_session.specs.Choices.{choices_by}
 use Rattle.draid_run.specs.Shelves.{MayFind}
 use Rattle.draid_run.proofs.Turned.{any_runs}
 use Rattle.draid_run.proofs.turns.runs_are_sessions.Goals as goal
 
 pub returns : goal.returns
-returns g c entry tells lines replies old new runs = any_runs (choices_by (FnReturnsAt g.F.Fn c.args.chooser.now)) (MayFind g.R.Rack g.A.Area entry) tells lines replies old new runs
+returns g c entry tells lines replies old new runs = any_runs (g.D.Decides.choices c.args.decider.now) (MayFind g.R.Rack g.A.Area entry) tells lines replies old new runs
