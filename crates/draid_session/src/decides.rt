@@ -3,14 +3,34 @@ use draid_names::Room;
 
 /// Who makes the choices that a session leaves to others.
 pub trait Decides {
+    ghost use Rattle.std.specs.Prelude.{◌≤◌, length};
+    ghost use Rattle.draid_choose.specs.Rooms.{Picks, most_rooms};
     ghost use Rattle.draid_session.specs.Choices.{Choices};
 
+    /// How they are made.
     ghost choices: { Self → Choices };
+
+    /// That they may be asked for.
+    ghost ready: { Self → Type 0 };
+
+    /// The place of a room that is large enough, where there is one.
+    fn pick(&self, rooms: &[Room]) -> Option<u32>
+        requires ready { ready self.now }
+        requires few { length rooms.now ≤ most_rooms }
+        ensures picks { Picks rooms.now result }
+        ensures answer { (choices self.now).room rooms.now result };
 }
 
 impl<F: Fn(&[Room]) -> Option<u32>> Decides for Chooser<F> {
     ghost use Rattle.std.specs.Fn.{FnReturnsAt};
+    ghost use Rattle.draid_choose.specs.Rooms.{IsChooser};
     ghost use Rattle.draid_session.specs.Choices.{choices_by};
 
     ghost choices = { λ c. choices_by (FnReturnsAt F.Fn c) };
+
+    ghost ready = { λ c. IsChooser F.Fn c };
+
+    fn pick(&self, rooms: &[Room]) -> Option<u32> {
+        Chooser::pick(self, rooms)
+    }
 }
