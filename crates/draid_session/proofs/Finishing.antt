@@ -1,6 +1,5 @@
 -- What a sync comes to where a group is closing, and each metaslab that doesn't close it yet has room for the events of a closing.
-use Rattle.std.proofs.Common.{◌≡◌, ◌∙◌, ◌+◌, ◌<◌, ◌⊎◌, ℕ, List, [], ◌∷◌, ◌++◌, Option, Some, None, inl, inr, refl, sym, ap, subst, arith}
-use Rattle.std.specs.Prelude.{⊤, slice_get}
+use Rattle.std.proofs.Common.{◌≡◌, ◌∙◌, ◌+◌, ◌⊎◌, ℕ, List, [], ◌∷◌, Option, Some, None, inl, inr, refl, sym, ap, subst, arith}
 use Rattle.draid_names.specs.declared.numbers.TheConstants.{LAST_NUMBER}
 use Rattle.draid_spec.specs.declared.layout.Geometry.{Geometry}
 use Rattle.draid_perm.specs.declared.perms.Perms.{Perms}
@@ -15,13 +14,13 @@ use Rattle.draid_session.specs.Does.{Does}
 use Rattle.draid_session.specs.Follows.{Follows}
 use Rattle.draid_session.specs.Groups as groups
 use Rattle.draid_session.specs.Groups.{HasClosing}
-use Rattle.draid_session.specs.Holds.{Hold, LookedUber, OnUber, UberView, View, view_of}
+use Rattle.draid_session.specs.Holds.{Hold, LookedUber, OnUber, UberView, View}
 use Rattle.draid_session.specs.Keeping.{AreInStep, AreInside, AreNoted, HasMetaslab, IsInStep, KeepsOpen}
 use Rattle.draid_session.specs.Looks.{AllOf}
 use Rattle.draid_session.specs.Making.{content_of}
 use Rattle.draid_session.specs.Phases.{End, NoneOf, WasLast, WasWorn, Went}
 use Rattle.draid_session.specs.Session.{CarriesOut}
-use Rattle.draid_session.specs.State.{Metaslab, State, Store}
+use Rattle.draid_session.specs.State.{Metaslab, State}
 use Rattle.draid_session.specs.Worn.{ClosesWorn}
 use Rattle.draid_session.proofs.Calm.{calm_follows}
 use Rattle.draid_session.proofs.Changing.{looks_from_calm}

@@ -1,53 +1,38 @@
 -- A section of writes, frees, reads and syncs keeps the book.
-use Rattle.std.proofs.Common.{◌≡◌, ◌≢◌, ◌∙◌, ◌==◌, ◌+◌, ◌<◌, ◌≤◌, ◌⊎◌, ◌++◌, ℕ, zero, suc, Bool, true, false, nat_le, List, [], ◌∷◌, Option, Some, None, All, inl, inr, refl, sym, ap, subst, arith, map, cond, flat_map, length, max}
+use Rattle.std.proofs.Common.{◌≡◌, ◌≢◌, ◌∙◌, ◌==◌, ◌+◌, ◌<◌, ◌≤◌, ◌⊎◌, ◌++◌, ℕ, suc, Bool, true, false, nat_le, List, [], ◌∷◌, Option, Some, None, All, inl, inr, refl, sym, ap, subst, arith, map, flat_map, max}
 use Rattle.std.specs.Prelude.{⊤, slice_get}
-use Rattle.std.proofs.lemmas.List.Elements.{All-cons, All-nil, All-weaker}
-use Rattle.std.proofs.lemmas.List.{append_cancel_right, append-nil}
+use Rattle.std.proofs.lemmas.List.Elements.{All-nil, All-weaker}
+use Rattle.std.proofs.lemmas.List.{append_cancel_right}
 use Rattle.draid_spec.specs.declared.layout.Geometry.{Geometry}
-use Rattle.draid_perm.specs.declared.perms.Perms.{Perms}
 use Rattle.draid_machine.specs.declared.event.Event.{Event}
 use Rattle.draid_machine.specs.declared.event.Event.TheVariants as event
 use Rattle.draid_machine.specs.State as machine
 use Rattle.draid_machine.specs.Step.{CloseStep, CommitStep}
 use Rattle.draid_machine.proofs.Small.{absurd_test, bool_cases, equal, is_equal, is_low, low, none_some, some_same}
-use Rattle.draid_objects.specs.Changes.{Change, group_of, kept, object_of, own, write_of}
-use Rattle.draid_objects.proofs.Finding.{changes_it, kept_later, kept_other, kept_own, other_changes}
+use Rattle.draid_objects.specs.Changes.{Change, group_of, object_of, own}
 use Rattle.draid_reply.specs.declared.reply.Reply.{Reply}
-use Rattle.draid_reply.specs.declared.reply.Reply.TheVariants as reply
 use Rattle.draid_script.specs.Writing.{IsForLanes}
-use Rattle.draid_script.specs.Line.{Command, RebuildPool, ScrubPool, SyncPool, TakeOffline, TakeOnline, WriteObject, FillObjects, ReadObject, FreeObject, SumObjects}
-use Rattle.draid_script.specs.declared.name.CommandName.TheVariants as name
-use Rattle.draid_names.specs.declared.refusal.SlotFault.TheVariants as slot_fault
-use Rattle.draid_session.specs.Arms as arms
+use Rattle.draid_script.specs.Line.{Command}
 use Rattle.draid_session.specs.Book.{Book}
 use Rattle.draid_session.specs.Choices.{Choices}
-use Rattle.draid_session.specs.Does.{Broken, Does}
 use Rattle.draid_layouts.specs.Layout.{layout_of}
 use Rattle.draid_session.specs.Follows.{Adds, Follows, Holds, MetaslabActs}
-use Rattle.draid_session.specs.Groups as groups
 use Rattle.draid_session.specs.Holds.{Act, AreaFailed, AsksVersion, CommitFailed, CommitStarved, Committed, Did, Hold, Looked, LookedUber, MadeLeaf, NextLeaf, On, OnUber, RackFailed, Reserved, View, CallStarved}
 use Rattle.draid_session.specs.Points.{HasLateMark}
-use Rattle.draid_session.specs.Keeping.{bytes_in, IsInStep, HasAhead, HasUnsynced, IsLowFloor, IsNoted, IsUnderWay, KeepsOpen, SaysObjects}
-use Rattle.draid_session.specs.LaneBook.{AnswersSection, AreCertain, Changes, Deed, DeedsTurn, IsCertain, LaneIsCertain, LaneSays, LanesSay, Named, deeds_by}
-use Rattle.draid_session.specs.Lanes.{Clashes, IsLookOnly, IsMerged, Lane, LanesRan, LeavesLooks, Names, Says, Section, greatest, holds_of, is_of, store_of}
-use Rattle.draid_session.specs.Looks.{AllOf, OnlyLooks}
-use Rattle.draid_session.specs.Making.{content_of}
-use Rattle.draid_session.specs.Phases.{Broke, Chain, End, Starved, Walk, WasLast, WasWorn, Went}
+use Rattle.draid_session.specs.Keeping.{IsInStep, HasAhead, HasUnsynced, IsLowFloor, IsNoted, IsUnderWay, KeepsOpen, SaysObjects}
+use Rattle.draid_session.specs.LaneBook.{AnswersSection, AreCertain, Changes, Deed, LanesSay, Named}
+use Rattle.draid_session.specs.Lanes.{Clashes, IsMerged, Lane, LanesRan, Names, Section, greatest, holds_of, is_of, store_of}
+use Rattle.draid_session.specs.Looks.{AllOf}
 use Rattle.draid_session.specs.State.{Metaslab, State, Store}
-use Rattle.draid_session.proofs.Calm.{IsCalm, IsCalmHold, alike_by, calm_both, looks_calm, step_alike}
-use Rattle.draid_session.proofs.Arming.{switch_calm}
-use Rattle.draid_session.proofs.Changing.{looks_from_calm}
-use Rattle.draid_session.proofs.Grouped.{OfSync, finish_all, sync_all}
-use Rattle.draid_session.proofs.Groupwise.{InLine, IsSteady, IsSteadyHold, LiesIn, Rides, RidesAt, Trails, after, after_both, busy_place, chain_lies, chain_rides, group_rides, held_by, idle_place, join, left_rides, merged_rides, place, rides_split, through}
+use Rattle.draid_session.proofs.Calm.{alike_by, step_alike}
+use Rattle.draid_session.proofs.Groupwise.{InLine, IsSteady, IsSteadyHold, LiesIn, Rides, RidesAt, Trails, busy_place, chain_lies, chain_rides, held_by, idle_place, join, merged_rides, place, through}
 use Rattle.draid_session.proofs.Lanerun as lane
-use Rattle.draid_session.proofs.Lanewise.{all_both, all_more, does_calm, every, filter_all, filter_so, lanes_of_locks, looks_left, map_all, map_back, merged_all, merged_back}
-use Rattle.draid_session.proofs.Lists.{all_back, all_front, some_of}
+use Rattle.draid_session.proofs.Lanewise.{all_both, all_more, every, filter_all, filter_so, lanes_of_locks, map_all, map_back, merged_all, merged_back}
+use Rattle.draid_session.proofs.Lists.{some_of}
 use Rattle.draid_session.proofs.Parts.{Ascends, Came, Changed, Grouped, IsOther, IsPart, OfNames, Part, RunFrom, Strict, changes_in, deeds_in, last_of, merge, merge_ascends, merged_more, merged_own, merges, merges_all, own_both, run_on, strict_low, strict_merge}
-use Rattle.draid_session.proofs.Phased.{each_all, looks_from_all, walk_all}
-use Rattle.draid_session.proofs.Rebuilding.{nothing_calm, rebuild_all, rebuild_broken}
-use Rattle.draid_session.proofs.Saying.{have_same, tells_later}
+use Rattle.draid_session.proofs.Saying.{tells_later}
 use Rattle.draid_session.proofs.Sectionwise.{Apart, Has, InSome, LaneRun, PartNamed, commits, end_place, lane_runs, merged_apart, merged_commits, rides_rising, tells_own}
-use Rattle.draid_session.proofs.LanesSteady.{IsSwitch, offline_switch, online_switch, switch_all, says_steady}
+use Rattle.draid_session.proofs.LanesSteady.{says_steady}
 use Rattle.draid_session.proofs.LanesPend.{get_low, low_get, all_join, says_same, Fits, Pends, says_pend}
 use Rattle.draid_session.proofs.LanesUpTo.{UpTo, DeedUpTo, lane_upto, names_end, turns_last, certain_lanes}
 

@@ -6,7 +6,7 @@ use Rattle.draid_script.specs.declared.fault.LineFault.{LineFault}
 use Rattle.draid_script.specs.declared.name.CommandName.TheVariants as name
 use Rattle.draid_reply.specs.declared.reply.Reply.{Reply}
 use Rattle.draid_reply.specs.declared.reply.Reply.TheVariants.{CheckpointThere, Checkpointed, Created, Detached, Discarded, Exported, Imported, Last, NoCheckpoint, NoMemory, NoPool, Rebalanced, Rewound, Synced, Upgraded, Worn}
-use Rattle.draid_session.specs.Book.{Answers, AreMany, Book, NamesNext, Objects, doubtful, synced, blank}
+use Rattle.draid_session.specs.Book.{Answers, AreMany, Book, NamesNext, Objects, doubtful, synced}
 use Rattle.draid_session.specs.Places.{Outside, Place, line_at, place_behind}
 use Rattle.draid_session.specs.Said.{Said}
 

@@ -1,6 +1,6 @@
 -- Sections in a session: lines between `lanes K` and `end` are read whole, and at `end` the lanes run, or one reply says why they don't.
 use Rattle.std.specs.Prelude.{◌≡◌, ◌≢◌, ◌+◌, ◌<◌, ◌≤◌, ◌⊎◌, ⊤, ℕ, Bool, true, false, List, [], ◌∷◌, ◌++◌, None, Some, Result, Ok, Err, length, map, replicate, slice_get, slice_index_or, slice_set}
-use Rattle.draid_script.specs.Grammar.{lane_of, line_of}
+use Rattle.draid_script.specs.Grammar.{lane_of}
 use Rattle.draid_script.specs.Line.{Command, LaneCommand, InLane, OpenLanes, RebuildPool, ScrubPool, SectionEnd, SilentLane}
 use Rattle.draid_script.specs.declared.fault.LineFault.{LineFault}
 use Rattle.draid_script.specs.declared.name.CommandName.TheVariants as name
