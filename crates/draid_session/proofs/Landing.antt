@@ -35,8 +35,7 @@ some_leaf None p is = absurd_test false is refl
 some_leaf (Some m) p is = (m, refl)
 
 -- ---- one that answers and is clean
-module _ (l : Layout) (lay : IsLayout l) (w new : State) (reached : IsReached l w) (pass serial : ℕ) (failed : List ℕ) (patched : List Patched) (step : LandBlockStep l w pass serial failed patched false new) (pieces : Pieces) (x y : Told)
-    (acts : HealsBlock l w.core step.n step.h failed patched step.whole pieces x y) (right : ReadsRight l w.core step.n step.h pieces x) where
+module _ (l : Layout) (lay : IsLayout l) (w new : State) (reached : IsReached l w) (pass serial : ℕ) (failed : List ℕ) (patched : List Patched) (step : LandBlockStep l w pass serial failed patched false new) where
   abbrev h : Held
   h = step.h
 
@@ -58,18 +57,21 @@ module _ (l : Layout) (lay : IsLayout l) (w new : State) (reached : IsReached l 
     key_on : (key_eq step.n.key s.key && is_on l w.core.order s h) ≡ true
     key_on = true_both (key_eq step.n.key s.key) (is_on l w.core.order s h) (key_refl step.n.key) on
 
-    not_clean : is_clean w.core h.birth n ≡ true → ⊥
-    not_clean clean =
-        let on_clean : is_on_clean l w.core step.n h s ≡ true = true_both (key_eq step.n.key s.key && is_on l w.core.order s h) (is_clean w.core h.birth n) key_on clean in
-        let written : is_written l w.core step.n h patched s ≡ true = true_both (key_eq step.n.key s.key && is_on l w.core.order s h) (was_written patched c n r) key_on at in
-        let reads = right s on_clean in
-        acts.needed s on_clean written reads.0 reads.1
+    on_clean : is_clean w.core h.birth n ≡ true → is_on_clean l w.core step.n h s ≡ true
+    on_clean clean = true_both (key_eq step.n.key s.key && is_on l w.core.order s h) (is_clean w.core h.birth n) key_on clean
 
-  pub leaves_clean : LeavesClean w.core h patched
-  leaves_clean c n r at = elim (bool_cases (is_clean w.core h.birth n)) [
-    | inl clean ↦ absurd (not_clean c n r at clean)
+    written : is_written l w.core step.n h patched s ≡ true
+    written = true_both (key_eq step.n.key s.key && is_on l w.core.order s h) (was_written patched c n r) key_on at
+
+  -- where no segment on an arm that is clean is written
+  pub clean_left : ((s : Segment) → is_on_clean l w.core step.n h s ≡ true → is_written l w.core step.n h patched s ≡ true → ⊥) → LeavesClean w.core h patched
+  clean_left none c n r at = elim (bool_cases (is_clean w.core h.birth n)) [
+    | inl clean ↦ absurd (none (s c n r at) (on_clean c n r at clean) (written c n r at))
     | inr dirty ↦ dirty
   ]
+
+  pub leaves_clean : (pieces : Pieces) (x y : Told) → HealsBlock l w.core step.n step.h failed patched step.whole pieces x y → ReadsRight l w.core step.n step.h pieces x → LeavesClean w.core h patched
+  leaves_clean pieces x y acts right = clean_left (λ s clean at. (let reads = right s clean in acts.needed s clean at reads.0 reads.1))
 
 -- ---- how many
 count_cons : {A : Type 0} (p : A → Bool) (x : A) (xs : List A) → count_by p (x ∷ xs) ≡ cond (p x) 1 0 + count_by p xs

@@ -54,6 +54,7 @@ pub mod Sectionkept
 pub mod Sectionwise
 pub mod Shelved
 pub mod Shown
+pub mod Sparing
 pub mod Sources
 pub mod Staying
 pub mod Synced
@@ -61,6 +62,7 @@ pub mod Taking
 pub mod Syncing
 pub mod Turning
 pub mod Unchanged
+pub mod Unrepaired
 pub mod Undisturbed
 pub mod Upto
 pub mod Using

@@ -20,4 +20,6 @@ pub use laws::{
     sessions_keep_the_book, statuses_show_whole_slots, undisturbed_rebuilds_are_whole,
     undisturbed_scrubs_are_whole, whole_slots_bear_failures, writes_that_fit_are_done,
 };
-pub use scrubs::right_blocks_are_left_alone;
+pub use scrubs::{
+    right_blocks_are_left_alone, sound_blocks_are_left_alone, sound_pools_are_left_alone,
+};
