@@ -1,4 +1,3 @@
-ghost use Rattle.std.specs.Fn.{FnReturnsAt};
 ghost use Rattle.std.specs.Prelude.{◌≡◌, ◌≤◌, ℕ, Bool, List, Option, Some, false};
 ghost use Rattle.std.specs.declared.alloc.Global.{Global};
 ghost use Rattle.std.specs.declared.vec.Vec.{Vec};
@@ -17,7 +16,6 @@ ghost use Rattle.draid_reply.specs.declared.reply.Reply.{Reply};
 ghost use Rattle.draid_script.specs.Line.{ScrubPool};
 ghost use Rattle.draid_segments.specs.Acts.{Acts};
 ghost use Rattle.draid_segments.specs.Segments.{Pieces};
-ghost use Rattle.draid_session.specs.Choices.{choices_by};
 ghost use Rattle.draid_session.specs.Holds.{Hold, layout_at};
 ghost use Rattle.draid_session.specs.Landing.{FindsSound, HasCleanArms, IsUnhurtBlock, LeavesClean, ReadsRight, TakesClean, dirty_arms};
 ghost use Rattle.draid_session.specs.Looks.{AllOf};
@@ -26,7 +24,7 @@ ghost use Rattle.draid_session.specs.Present.{AreReached};
 ghost use Rattle.draid_session.specs.Session.{CarriesOut};
 ghost use Rattle.draid_session.specs.State.{State};
 
-use draid_names::Room;
+use crate::decides::Decides;
 
 /// Law: where each sector of a block reads as the restored block's on each arm that is clean for it, a scrub's landing
 /// writes on none of these. It rewrites no more columns than there are arms that aren't clean, counted by arm.
@@ -59,8 +57,8 @@ pub fn sound_blocks_are_left_alone()
 
 /// Law: a scrub says that nothing was repaired where each block, as it lands, is unhurt by the harm that was told, and each
 /// arm of its columns is clean for it, and where legal histories give the states of the metaslabs.
-pub fn sound_pools_are_left_alone<F: Fn(&[Room]) -> Option<u32>>(chooser: &F)
+pub fn sound_pools_are_left_alone<D: Decides>(decider: &D)
     ensures { (limit : Option ℕ) (from blocks repaired errors : ℕ) (paused : Bool) (old new : State)
-        → (it : CarriesOut (choices_by (FnReturnsAt F.Fn chooser.now)) (ScrubPool limit) (Reply.Scrubbed from blocks repaired errors paused) old new)
+        → (it : CarriesOut (D.choices decider.now) (ScrubPool limit) (Reply.Scrubbed from blocks repaired errors paused) old new)
         → AreReached old → AllOf (FindsSound old.geometry old.perms) it.holds → repaired ≡ 0 }
 {}
