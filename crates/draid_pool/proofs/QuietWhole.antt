@@ -29,11 +29,7 @@ module _ {R A : Type 0} (rack : racks.Ghosts R) (area : areas.Ghosts A) (shared 
 
   pub quiet_whole : IsWholeBy rack owns new table seq floor
   quiet_whole = whole_on owns rack area shared last new m shard before after there drifts part groups is valid (all_of owns) (all_of owns) table table seq floor seq floor whole held_after (λ n k not seen. seen) (omega arith)
-      (λ own.
-      let up = whole.next m shard own there in
-      let same = groups.groups.committed in
-      let was = (drifts.groups own).groups.committed in
-      omega (arith, up, same, was)) whole.low
+      (inl (omega arith)) whole.low
       (λ q r r_is. (whole.pointers q r r_is, λ live. live_key rack before after r drifts.valid valid part (blocks.entries.held (key_of r)) live))
 
 -- metaslabs that have a layout have it then

@@ -285,6 +285,7 @@ module _ {R A S : Type 0} (rack : racks.Ghosts R) (area : areas.Ghosts A) (last 
     next = λ m shard mine at. (let x = at_group m shard at in let up = z.1 in omega (arith, x, up, low));
     pointers = z.0.left.pointers;
     low = whole.low;
+    reached = (let first = z.0.ready 0 some in let up = z.1 in let is = first.2.next in record { metaslab = 0; shard = first.0; there = first.1; near = omega (arith, up, is, low) });
   }
     where
       low : floor ≤ group_of (kept_of u) + 2

@@ -1,8 +1,9 @@
 -- What a thread needs, as it frees an object of its own.
-use Rattle.std.proofs.Common.{◌≡◌, ◌==◌, ◌≤◌, ◌+◌, ◌∙◌, arith, ℕ, Bool, true, false, Option, Some, None, option_map, refl, sym, ap, subst, cond, if◌then◌else◌, ne_eqb}
+use Rattle.std.proofs.Common.{◌≡◌, ◌==◌, ◌≤◌, ◌+◌, ◌∙◌, ◌⊎◌, inl, inr, arith, ℕ, Bool, true, false, Option, Some, None, option_map, refl, sym, ap, subst, cond, if◌then◌else◌, ne_eqb}
 use mathlib.Core.Logic.{dite}
 use native.Mathlib.Decide.{ℕ_discrete}
-use Rattle.std.specs.Prelude.{nat_eq}
+use Rattle.std.specs.Prelude.{max, nat_eq}
+use Rattle.std.proofs.lemmas.Bool.{cases_lt}
 use Rattle.draid_names.specs.declared.numbers.TheConstants.{LAST_NUMBER}
 use Rattle.draid_names.specs.declared.pointer.Pointer.{Pointer}
 use Rattle.draid_rack.specs.declared.Rack as racks
@@ -50,13 +51,23 @@ module _ {R A : Type 0} (rack : racks.Ghosts R) (area : areas.Ghosts A) (shared 
     committed : owns groups_number ≡ true → after.committed ≡ shard.committed
     committed own = groups.groups.committed ∙ (drifts.groups own).groups.committed
 
-    whole_then : (table' : ℕ → Option Pointer) (group : ℕ) → IsHeldBy rack (all_of owns p.metaslab) seq after → (owns groups_number ≡ true → group ≤ after.committed + 2) → group ≤ LAST_NUMBER
+    -- the group up to which it is freed is the floor, or the open one
+    near_freed : (group : ℕ) → group ≡ max before.open_group floor → (group ≤ floor) ⊎ (group ≤ after.committed + 2)
+    near_freed group is = elim (cases_lt before.open_group floor) [
+      | inl less ↦ inl (omega (arith, is, less))
+      | inr from ↦
+          let high = open_low before.open_group before.closing before.committed before.sealed drifts.valid.groups in
+          let stays = groups.groups.committed in
+          inr (omega (arith, is, from, high, stays))
+    ]
+
+    whole_then : (table' : ℕ → Option Pointer) (group : ℕ) → IsHeldBy rack (all_of owns p.metaslab) seq after → (group ≤ floor) ⊎ (group ≤ after.committed + 2) → group ≤ LAST_NUMBER
         → ((q : ℕ) (r : Pointer) → table' q ≡ Some r → HasPointer last rack owns q r × (IsLive before r → IsLive after r)) → IsWholeBy rack owns new table' seq group
-    whole_then table' group now next low pointers = whole_on owns rack area shared last new p.metaslab shard before after there drifts keeps.part groups is keeps.valid (all_of owns) (all_of owns) table table' seq floor seq group whole now (λ n k not seen. seen) (omega arith) next low pointers
+    whole_then table' group now near low pointers = whole_on owns rack area shared last new p.metaslab shard before after there drifts keeps.part groups is keeps.valid (all_of owns) (all_of owns) table table' seq floor seq group whole now (λ n k not seen. seen) (omega arith) near low pointers
 
     pub early_whole : IsEarly rack area before floor after → IsWholeBy rack owns new table seq floor
     early_whole early = whole_then table floor (subst (λ (s : Shard R A). IsHeldBy rack (all_of owns p.metaslab) seq s) (sym early.same) held_before)
-        (λ own. (let up = whole.next p.metaslab shard own there in let same = committed own in omega (arith, up, same))) whole.low
+        (inl (omega arith)) whole.low
         (λ q r r_is. (whole.pointers q r r_is, λ live. subst (λ (s : Shard R A). IsLive s r) (sym early.same) live))
 
     -- the block is freed, and its pointer isn't in the table then
@@ -67,13 +78,7 @@ module _ {R A : Type 0} (rack : racks.Ghosts R) (area : areas.Ghosts A) (shared 
           numbered = λ e e_is seen. (whole.shards p.metaslab has.shard has.there).numbered (key_of p) (held_at (staged stage.Live p)) own_key (key_leads has.shard.entries p.first (staged stage.Live p) has.live);
           settled = λ e e_is seen. ap (λ (i : Entry). is_block i.stage) (some_of freed e (staged (stage.Freed group) p) e_is refl);
         }))
-        (λ own.
-        let up = whole.next p.metaslab shard own there in
-        let same = committed own in
-        let high = open_low before.open_group before.closing before.committed before.sealed drifts.valid.groups in
-        let group_is = fb.group_is in
-        let stays = groups.groups.committed in
-        omega (arith, up, same, high, group_is, stays)) fb.low
+        (near_freed group fb.group_is) fb.low
         (λ q r r_is. (let h = others q r r_is in
         (h.0, live_key rack before after r drifts.valid keeps.valid keeps.part (fb.sets.entry.held (key_of r) ∙ held_other (held_in before.entries) (key_of p) (key_of r) (option_map held_at freed) h.1))))
       where

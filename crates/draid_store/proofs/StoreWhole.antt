@@ -83,6 +83,7 @@ module _ {R A : Type 0} (rack : racks.Ghosts R) (owns : ℕ → Bool) where
         next = both.0.next;
         pointers = λ q r r_is. by q r r_is;
         low = both.0.low;
+        reached = both.0.reached;
       }
         where
           by : (q : ℕ) (r : Pointer) → table' q ≡ Some r → HasPointer l3 rack owns q r

@@ -1,5 +1,5 @@
 -- What a thread has stays whole through a write of its own, hold by hold.
-use Rattle.std.proofs.Common.{◌≡◌, ◌==◌, ◌≤◌, ◌+◌, ◌∙◌, inl, arith, ℕ, Bool, true, Option, Some, None, Result, Ok, Err, refl, sym, ap, subst, if◌then◌else◌}
+use Rattle.std.proofs.Common.{◌≡◌, ◌==◌, ◌≤◌, ◌+◌, ◌∙◌, ◌⊎◌, inl, inr, arith, ℕ, Bool, true, Option, Some, None, Result, Ok, Err, refl, sym, ap, subst, if◌then◌else◌}
 use Rattle.std.proofs.lemmas.Bool.{true≢false}
 use Rattle.draid_names.specs.declared.numbers.TheConstants.{LAST_NUMBER}
 use Rattle.draid_names.specs.declared.pointer.Pointer.{Pointer}
@@ -44,9 +44,9 @@ module _ {R A : Type 0} (rack : racks.Ghosts R) (area : areas.Ghosts A) (shared 
     held_found : IsHeldBy rack (mine m) seq before
     held_found = held_drifts rack (mine m) seq shard before drifts.valid (whole.shards m shard there) owns before.committed inside drifts.own
 
-    pub whole_then : IsHeldBy rack (then_mine m) then_seq after → ((n : ℕ) (k : Key) → (n ≡ m → ⊥) → then_mine n k ≡ true → mine n k ≡ true) → seq ≤ then_seq → (owns groups_number ≡ true → then_floor ≤ after.committed + 2) → then_floor ≤ LAST_NUMBER
+    pub whole_then : IsHeldBy rack (then_mine m) then_seq after → ((n : ℕ) (k : Key) → (n ≡ m → ⊥) → then_mine n k ≡ true → mine n k ≡ true) → seq ≤ then_seq → (then_floor ≤ floor) ⊎ (then_floor ≤ after.committed + 2) → then_floor ≤ LAST_NUMBER
         → ((q : Pointer) → IsLive before q → IsLive after q) → IsWholeBut rack owns then_mine new table then_seq then_floor
-    whole_then held others later next low live = whole_on owns rack area shared last new m shard before after there drifts part groups is valid mine then_mine table table seq floor then_seq then_floor whole held others later next low
+    whole_then held others later near low live = whole_on owns rack area shared last new m shard before after there drifts part groups is valid mine then_mine table table seq floor then_seq then_floor whole held others later near low
         (λ o q at. (whole.pointers o q at, live q))
 
   -- ---- the begin
@@ -65,14 +65,14 @@ module _ {R A : Type 0} (rack : racks.Ghosts R) (area : areas.Ghosts A) (shared 
       whole_then b.valid b.part (begin_groups object (seq + 1) floor block None b) (all_of owns) (all_of owns) table seq floor seq floor (λ k mine. mine) whole
       (subst (λ (s : Shard R A). IsHeldBy rack (all_of owns m) seq s) (sym (b.early refl)) (held_found b.valid b.part (begin_groups object (seq + 1) floor block None b) (all_of owns) (all_of owns) table seq floor seq floor (λ k mine. mine) whole))
       (λ n k not seen. seen) (omega arith)
-      (λ own. (let up = whole.next m shard own there in let same = ap (λ (s : Shard R A). s.committed) (b.early refl) in let drift = (drifts.groups own).groups.committed in omega (arith, up, same, drift))) whole.low
+      (inl (omega arith)) whole.low
       (λ q live. live_begin rack area before after object (seq + 1) floor block None q drifts.valid b live)
   begin_whole object seq floor block table (Some (Err fault)) b whole =
       whole_then b.valid b.part (begin_groups object (seq + 1) floor block (Some (Err fault)) b) (all_of owns) (all_of owns) table seq floor seq floor (λ k mine. mine) whole
       (held_drifts rack (all_of owns m) seq before after b.valid (held_found b.valid b.part (begin_groups object (seq + 1) floor block (Some (Err fault)) b) (all_of owns) (all_of owns) table seq floor seq floor (λ k mine. mine) whole) owns after.committed (λ k mine. mine)
       (record { each = λ k own. inl (b.did.1.nothing.keeps.entries.held k) }))
       (λ n k not seen. seen) (omega arith)
-      (λ own. (let up = whole.next m shard own there in let same = b.did.1.nothing.keeps.groups.committed in let drift = (drifts.groups own).groups.committed in omega (arith, up, same, drift))) whole.low
+      (inl (omega arith)) whole.low
       (λ q live. live_begin rack area before after object (seq + 1) floor block (Some (Err fault)) q drifts.valid b live)
   begin_whole object seq floor block table (Some (Ok ticket)) b whole =
       whole_then b.valid b.part g (all_of owns) mine table seq floor seq ticket.pointer.birth (λ k own. own) whole
@@ -80,13 +80,11 @@ module _ {R A : Type 0} (rack : racks.Ghosts R) (area : areas.Ghosts A) (shared 
       b.did.1.opens.enters.entry (λ k other seen. but_inside (all_of owns) m (key_of ticket.pointer) m k seen)
       (record { numbered = λ e e_is seen. absurd (hidden owns m (key_of ticket.pointer) seen); settled = λ e e_is seen. absurd (hidden owns m (key_of ticket.pointer) seen) }))
       (λ n k not seen. but_inside (all_of owns) m (key_of ticket.pointer) n k seen) (omega arith)
-      (λ own.
-      let up = whole.next m shard own there in
-      let drift = (drifts.groups own).groups.committed in
+      (inr (
       let same = g.groups.committed in
       let high = open_low before.open_group before.closing before.committed before.sealed drifts.valid.groups in
       let birth = b.did.1.opens.named.birth_is in
-      omega (arith, up, drift, same, high, birth))
+      omega (arith, same, high, birth)))
       (let birth = b.did.1.opens.named.birth_is in let low = b.did.1.low in omega (arith, birth, low))
       (λ q live. live_begin rack area before after object (seq + 1) floor block (Some (Ok ticket)) q drifts.valid b live)
     where
@@ -128,7 +126,7 @@ module _ {R A : Type 0} (rack : racks.Ghosts R) (area : areas.Ghosts A) (shared 
       (Some (staged (stage.Writing now.next now.missed) ticket.pointer)) put.puts.sets.entry (λ k other seen. seen)
       (record { numbered = λ e e_is seen. absurd (hidden owns m key (ap (mine m) (sym key_is) ∙ seen)); settled = λ e e_is seen. absurd (hidden owns m key (ap (mine m) (sym key_is) ∙ seen)) }))
       (λ n k not seen. seen) (omega arith)
-      (λ own. (let up = whole.next m shard own there in let drift = (drifts.groups own).groups.committed in let same = put.puts.sets.groups.committed in omega (arith, up, drift, same))) whole.low
+      (inl (omega arith)) whole.low
       (λ q live. live_put rack area before after ticket now block q drifts.valid put live)
     where
       mine : ℕ → Key → Bool
@@ -165,7 +163,7 @@ module _ {R A : Type 0} (rack : racks.Ghosts R) (area : areas.Ghosts A) (shared 
         (λ k other seen. but_away (all_of owns) m key m k (λ same_m same_k. true≢false (sym (subst (λ j. key_eq key j ≡ true) same_k (key_refl key)) ∙ other)) ∙ seen)
         (record { numbered = λ e e_is seen. (omega (arith, number)); settled = λ e e_is seen. settled e e_is }))
         (λ n k not seen. but_away (all_of owns) m key n k (λ same_m same_k. not (sym same_m)) ∙ seen) (omega arith)
-        (λ own. (let up = whole.next m shard own there in let drift = (drifts.groups own).groups.committed in let same = g.groups.committed in omega (arith, up, drift, same))) whole.low
+        (inl (omega arith)) whole.low
         (λ q live. live_end rack area before after ticket block result q drifts.valid d live)
       where
         g : KeepsGroups before after
