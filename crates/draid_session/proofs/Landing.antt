@@ -26,7 +26,7 @@ use Rattle.draid_session.proofs.Using.{some_within}
 -- ---- the leaf of an arm
 
 -- stripes of one slice have one leaf of an arm
-one_leaf : (l : Layout) → IsLayout l → (order : ℕ → List ArmName) (n : ArmName) (x y : ℕ) → x / l.height ≡ y / l.height → leaf_at l order n x ≡ leaf_at l order n y
+pub one_leaf : (l : Layout) → IsLayout l → (order : ℕ → List ArmName) (n : ArmName) (x y : ℕ) → x / l.height ≡ y / l.height → leaf_at l order n x ≡ leaf_at l order n y
 one_leaf l lay order (Leaf m) x y e = refl
 one_leaf l lay order (Spare t) x y e = ap (λ slot. if nat_lt t l.spares then first_leaf (order slot) else None) (lay.steady_home (first_spares order) x y t e)
 

@@ -55,12 +55,14 @@ pub mod Sectionwise
 pub mod Shelved
 pub mod Shown
 pub mod Sparing
+pub mod Spotless
 pub mod Sources
 pub mod Staying
 pub mod Synced
 pub mod Taking
 pub mod Syncing
 pub mod Turning
+pub mod Twice
 pub mod Unchanged
 pub mod Unrepaired
 pub mod Undisturbed

@@ -1,5 +1,5 @@
 -- A scrub that finds each block sound rewrites nothing.
-use Rattle.std.proofs.Common.{arith, ◌≡◌, ◌+◌, ◌++◌, ◌∙◌, ℕ, zero, suc, List, [], ◌∷◌, Option, inl, inr, refl, sym, ap, subst}
+use Rattle.std.proofs.Common.{arith, ◌≡◌, ◌++◌, ◌∙◌, ℕ, zero, suc, List, [], ◌∷◌, Option, inl, inr, refl, sym, ap, subst}
 use Rattle.draid_names.specs.declared.pass_kind.PassKind.TheVariants.{Heal}
 use Rattle.draid_spec.specs.declared.layout.Geometry.{Geometry}
 use Rattle.draid_perm.specs.declared.perms.Perms.{Perms}
@@ -20,21 +20,21 @@ use Rattle.draid_session.specs.Present.{AreReached}
 use Rattle.draid_session.specs.State.{State}
 use Rattle.draid_session.proofs.Balancing.{rebuilds_no_scrub}
 use Rattle.draid_session.proofs.Looked.{follows_split}
-use Rattle.draid_session.proofs.Present.{follows_reached, hold_reached, layout_stays}
+use Rattle.draid_session.proofs.Present.{hold_reached, layout_stays}
 use Rattle.draid_session.proofs.Unrepaired.{lands_none}
 
 module _ (geometry : Geometry) (perms : Perms) where
   -- a pool of this layout, of which each metaslab has a legal history
-  record Stands (x : State) : Type 0 where
+  pub record Stands (x : State) : Type 0 where
     pub layout : x.geometry ≡ geometry
     pub children : x.perms ≡ perms
     pub reached : AreReached x
 
-  hold_stands : (hold : Hold) (x z : State) → Holds hold x z → Stands x → Stands z
+  pub hold_stands : (hold : Hold) (x z : State) → Holds hold x z → Stands x → Stands z
   hold_stands hold x z it is = (let same = layout_stays geometry perms hold x z it in
       record { layout = same.0 ∙ is.layout; children = same.1 ∙ is.children; reached = hold_reached hold x z it is.reached })
 
-  follows_stands : (holds : List Hold) (x z : State) → Follows holds x z → Stands x → Stands z
+  pub follows_stands : (holds : List Hold) (x z : State) → Follows holds x z → Stands x → Stands z
   follows_stands [] x z follows is = subst Stands (sym follows) is
   follows_stands (hold ∷ holds) x z follows is = follows_stands holds follows.0 z follows.2 (hold_stands hold x follows.0 follows.1 is)
 

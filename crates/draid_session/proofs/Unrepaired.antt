@@ -1,17 +1,16 @@
 -- Of a block that is unhurt a scrub's landing rewrites nothing on the arms that are clean for it.
-use Rattle.std.proofs.Common.{arith, ◌≡◌, ◌+◌, ◌-◌, ◌/◌, ◌<◌, ◌≤◌, ◌++◌, ◌⊎◌, ◌∙◌, not, [], ◌∷◌, ℕ, zero, suc, Bool, true, false, List, Option, Some, None, refl, sym, ap, subst, inl, inr}
-use Rattle.std.specs.Prelude.{MatchOption, ⊤, nat_lt}
-use Rattle.std.specs.List.{count_by}
+use Rattle.std.proofs.Common.{arith, ◌≡◌, ◌+◌, ◌-◌, ◌/◌, ◌<◌, ◌≤◌, ◌⊎◌, ◌∙◌, not, [], ℕ, zero, suc, Bool, true, false, List, Some, refl, sym, ap, subst, inl, inr}
+use Rattle.std.specs.Prelude.{MatchOption, ⊤}
 use Rattle.std.proofs.lemmas.Bool.Decides.{nat_tests}
 use Rattle.draid_names.specs.declared.pass_kind.PassKind.TheVariants.{Heal}
 use Rattle.draid_spec.specs.declared.layout.Geometry.{Geometry}
 use Rattle.draid_perm.specs.declared.perms.Perms.{Perms}
-use Rattle.draid_machine.specs.After.{has_landed, is_written, rewritten}
+use Rattle.draid_machine.specs.After.{is_written, rewritten}
 use Rattle.draid_machine.specs.Arms.{is_clean}
 use Rattle.draid_machine.specs.Created.{IsReached}
 use Rattle.draid_machine.specs.Names.{has_name, takes}
 use Rattle.draid_machine.specs.State.{Core, IsLayout, Layout, Loan, State}
-use Rattle.draid_machine.specs.Step.{LandBlockStep, Step}
+use Rattle.draid_machine.specs.Step.{Step}
 use Rattle.draid_machine.specs.declared.event.Event.{Event}
 use Rattle.draid_machine.specs.declared.event.Event.TheVariants as event
 use Rattle.draid_machine.specs.declared.event.Patched.{Patched}
@@ -20,11 +19,10 @@ use Rattle.draid_machine.specs.declared.names.Held.{Held}
 use Rattle.draid_machine.specs.declared.names.Segment.{Segment}
 use Rattle.draid_machine.proofs.Lent.{every_loan}
 use Rattle.draid_machine.proofs.Rows.{reached_sound}
-use Rattle.draid_machine.proofs.Small.{absurd_test, not_false, some_same}
-use Rattle.draid_layouts.specs.Layout.{layout_of}
+use Rattle.draid_machine.proofs.Small.{absurd_test, some_same}
 use Rattle.draid_segments.specs.Acts.{is_on_clean}
-use Rattle.draid_session.specs.Holds.{Did, Hold, On, View, layout_at}
-use Rattle.draid_session.specs.Landing.{FindsSound, HasCleanArms, IsUnhurtBlock, LeavesClean, TakesClean, dirty_arms}
+use Rattle.draid_session.specs.Holds.{View, layout_at}
+use Rattle.draid_session.specs.Landing.{HasCleanArms, IsUnhurtBlock, LeavesClean, TakesClean, dirty_arms}
 use Rattle.draid_session.specs.Passes as passes
 use Rattle.draid_session.proofs.Landing.{clean_left, few_rewritten}
 use Rattle.draid_session.proofs.Undisturbed.{count_none}
@@ -42,17 +40,17 @@ none_dirty l q h (suc c) clean =
     let here = count_none (λ n. not (is_clean q h.birth n)) (q.order (l.slot_of h.first c)) (λ n listed. ap not (clean c n (omega arith) listed)) in
     omega (arith, before, here)
 
-taken_from : (h : Held) (x : ℕ) → takes h x ≡ true → h.first ≤ x
+pub taken_from : (h : Held) (x : ℕ) → takes h x ≡ true → h.first ≤ x
 taken_from h x taken = grind (arith, nat_tests, taken)
 
-taken_to : (h : Held) (x : ℕ) → takes h x ≡ true → x < h.first + h.stripes
+pub taken_to : (h : Held) (x : ℕ) → takes h x ≡ true → x < h.first + h.stripes
 taken_to h x taken = grind (arith, nat_tests, taken)
 
 -- ---- a loan
 
 module _ (l : Layout) (lay : IsLayout l) (w : State) (reached : IsReached l w) (n : Loan) (h : Held) (loan : w.loan ≡ Some n) (held : w.core.held n.key ≡ Some h) where
   -- the stripe that is lent has the block's slots
-  same_slots : (c : ℕ) → l.slot_of n.stripe c ≡ l.slot_of h.first c
+  pub same_slots : (c : ℕ) → l.slot_of n.stripe c ≡ l.slot_of h.first c
   same_slots c =
       let sound = reached_sound l lay w reached in
       let fits = sound.loan n loan in
@@ -101,11 +99,10 @@ module _ (geometry : Geometry) (perms : Perms) where
     abbrev l : Layout
     l = layout_at geometry perms u
 
-    few_by : (pass serial : ℕ) (failed : _) (patched : _) (unreadable : Bool) → Step l u.world (event.LandBlock pass serial failed patched unreadable) landed
-        → passes.LandsNeeded geometry perms u (event.LandBlock pass serial failed patched unreadable) → IsUnhurtBlock geometry perms u n h → TakesClean u.world.core n h
-        → rewritten l u.world.core h patched.items geometry.g ≤ dirty_arms l u.world.core h geometry.g
-    few_by pass serial failed patched true step needed unhurt takes = none_rewritten l u.world.core h patched.items step.lands.1 geometry.g
-    few_by pass serial failed patched false step needed unhurt takes =
+    -- none of the arms that are clean for it is written
+    pub clean_by : (pass serial : ℕ) (failed : _) (patched : _) → Step l u.world (event.LandBlock pass serial failed patched false) landed
+        → passes.LandsNeeded geometry perms u (event.LandBlock pass serial failed patched false) → IsUnhurtBlock geometry perms u n h → TakesClean u.world.core n h → LeavesClean u.world.core h patched.items
+    clean_by pass serial failed patched step needed unhurt takes =
         let own : n ≡ step.n = some_same u.world.loan n step.n loan step.counts.loan in
         let same : h ≡ step.h = some_same (u.world.core.held n.key) h step.h held (subst (λ (m : Loan). u.world.core.held m.key ≡ Some step.h) (sym own) step.counts.found) in
         let none : (s : Segment) → is_on_clean l u.world.core n h s ≡ true → is_written l u.world.core n h patched.items s ≡ true → ⊥
@@ -113,8 +110,14 @@ module _ (geometry : Geometry) (perms : Perms) where
         let none_own : (s : Segment) → is_on_clean l u.world.core step.n step.h s ≡ true → is_written l u.world.core step.n step.h patched.items s ≡ true → ⊥
         = subst (λ (m : Loan). (s : Segment) → is_on_clean l u.world.core m step.h s ≡ true → is_written l u.world.core m step.h patched.items s ≡ true → ⊥) own
         (subst (λ (i : Held). (s : Segment) → is_on_clean l u.world.core n i s ≡ true → is_written l u.world.core n i patched.items s ≡ true → ⊥) same none) in
-        let left : LeavesClean u.world.core h patched.items
-        = subst (λ (i : Held). LeavesClean u.world.core i patched.items) (sym same) (clean_left l lay u.world landed reached pass serial failed.items patched.items step none_own) in
+        subst (λ (i : Held). LeavesClean u.world.core i patched.items) (sym same) (clean_left l lay u.world landed reached pass serial failed.items patched.items step none_own)
+
+    few_by : (pass serial : ℕ) (failed : _) (patched : _) (unreadable : Bool) → Step l u.world (event.LandBlock pass serial failed patched unreadable) landed
+        → passes.LandsNeeded geometry perms u (event.LandBlock pass serial failed patched unreadable) → IsUnhurtBlock geometry perms u n h → TakesClean u.world.core n h
+        → rewritten l u.world.core h patched.items geometry.g ≤ dirty_arms l u.world.core h geometry.g
+    few_by pass serial failed patched true step needed unhurt takes = none_rewritten l u.world.core h patched.items step.lands.1 geometry.g
+    few_by pass serial failed patched false step needed unhurt takes =
+        let left = clean_by pass serial failed patched step needed unhurt takes in
         few_rewritten l u.world.core h patched.items (λ c arm r at. left c arm r (step.lands.landed c arm r at)) geometry.g
 
     pub lands_few : (e : Event) → Step l u.world e landed → passes.LandsAs geometry perms Heal u e repaired → passes.LandsNeeded geometry perms u e → IsUnhurtBlock geometry perms u n h → TakesClean u.world.core n h

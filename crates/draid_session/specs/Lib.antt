@@ -40,6 +40,7 @@ pub mod State
 pub mod Staying
 pub mod Status
 pub mod Taking
+pub mod Twice
 pub mod Undisturbed
 pub mod Versions
 pub mod Waiting

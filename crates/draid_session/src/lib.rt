@@ -21,5 +21,6 @@ pub use laws::{
     undisturbed_scrubs_are_whole, whole_slots_bear_failures, writes_that_fit_are_done,
 };
 pub use scrubs::{
-    right_blocks_are_left_alone, sound_blocks_are_left_alone, sound_pools_are_left_alone,
+    right_blocks_are_left_alone, second_scrubs_repair_nothing, sound_blocks_are_left_alone,
+    sound_pools_are_left_alone,
 };
