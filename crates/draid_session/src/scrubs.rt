@@ -67,9 +67,9 @@ pub fn sound_pools_are_left_alone<D: Decides>(decider: &D)
 /// Law: a second scrub says that nothing was repaired, where the one before it came to its end without errors, and nothing
 /// comes between. So it is where no metaslab had a pass as the first came, each arm kept its sectors on leaves that answer,
 /// the racks told harm, and legal histories gave the states of the metaslabs.
-pub fn second_scrubs_repair_nothing<F: Fn(&[Room]) -> Option<u32>>(chooser: &F)
+pub fn second_scrubs_repair_nothing<D: Decides>(decider: &D)
     ensures { (first limit : Option ℕ) (from blocks mended again units repaired errors : ℕ) (paused : Bool) (old mid new : State)
-        → MayBeScrubbed old → CarriesOut (choices_by (FnReturnsAt F.Fn chooser.now)) (ScrubPool first) (Reply.Scrubbed from blocks mended 0 false) old mid
-        → CarriesOut (choices_by (FnReturnsAt F.Fn chooser.now)) (ScrubPool limit) (Reply.Scrubbed again units repaired errors paused) mid new
+        → MayBeScrubbed old → CarriesOut (D.choices decider.now) (ScrubPool first) (Reply.Scrubbed from blocks mended 0 false) old mid
+        → CarriesOut (D.choices decider.now) (ScrubPool limit) (Reply.Scrubbed again units repaired errors paused) mid new
         → repaired ≡ 0 }
 {}
