@@ -4,45 +4,45 @@ use draid_agent::{Due, Journal, Policy, SlotState, due, first_free};
 use draid_names::{Cause, Did, Entry};
 use std::alloc::Global;
 
-/// A slot with one leaf that isn't offline, of which so many groups are logged.
-const fn leaf(slot: u32, logged: u64) -> SlotState {
-    SlotState {
-        slot,
-        arms: 1,
-        leaf: true,
-        offline: false,
-        logged,
-    }
-}
+/// Slot 0, with one leaf that isn't offline and misses nothing.
+const LEAF: SlotState = SlotState {
+    slot: 0,
+    arms: 1,
+    leaf: true,
+    offline: false,
+    logged: 0,
+};
 
 static SLOTS: [SlotState; 6] = [
-    leaf(0, 4),
-    leaf(1, 5),
+    SlotState { logged: 4, ..LEAF },
+    SlotState {
+        slot: 1,
+        logged: 5,
+        ..LEAF
+    },
     // Offline, which goes before what is logged.
     SlotState {
         slot: 2,
-        arms: 1,
-        leaf: true,
         offline: true,
         logged: 9,
+        ..LEAF
     },
     // It has a spare beside it.
     SlotState {
         slot: 3,
         arms: 2,
-        leaf: true,
         offline: true,
         logged: 9,
+        ..LEAF
     },
     // A spare stands for it.
     SlotState {
         slot: 4,
-        arms: 1,
         leaf: false,
-        offline: false,
         logged: 9,
+        ..LEAF
     },
-    leaf(5, 0),
+    SlotState { slot: 5, ..LEAF },
 ];
 
 static DUE: [(u32, Cause); 2] = [(1, Cause::Logged { groups: 5 }), (2, Cause::Offline)];
@@ -105,6 +105,22 @@ fn journals_number_their_entries(rt: HostRuntime) {
         assert!(rt; false);
         return;
     };
-    assert!(rt; *first == Entry { number: 1, slot: 1, cause: Cause::Offline, did: Did::Spared { spare: 0 } });
-    assert!(rt; *second == Entry { number: 2, slot: 4, cause: Cause::Logged { groups: 7 }, did: Did::NoneFree });
+    assert!(rt;
+        *first
+            == Entry {
+                number: 1,
+                slot: 1,
+                cause: Cause::Offline,
+                did: Did::Spared { spare: 0 }
+            }
+    );
+    assert!(rt;
+        *second
+            == Entry {
+                number: 2,
+                slot: 4,
+                cause: Cause::Logged { groups: 7 },
+                did: Did::NoneFree
+            }
+    );
 }

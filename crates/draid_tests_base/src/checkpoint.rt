@@ -22,8 +22,22 @@ fn checkpoints_keep_what_was_born_up_to_them(rt: HostRuntime) {
         assert!(rt; false);
         return;
     };
-    assert!(rt; *first == DroppedIn { object: 7, seq: 1, group: 6 });
-    assert!(rt; *second == DroppedIn { object: 9, seq: 2, group: 8 });
+    assert!(rt;
+        *first
+            == DroppedIn {
+                object: 7,
+                seq: 1,
+                group: 6
+            }
+    );
+    assert!(rt;
+        *second
+            == DroppedIn {
+                object: 9,
+                seq: 2,
+                group: 8
+            }
+    );
     let none = Check::none(rt.alloc());
     assert!(rt; none.group().is_none() && !none.holds(0) && none.drops().is_empty());
 }
