@@ -28,6 +28,13 @@ use Rattle.draid_pool.proofs.HoldStep.{live_key}
 use Rattle.draid_pool.proofs.ShardSteps.{live_on, other_key, pointer_on}
 use Rattle.draid_pool.proofs.Wholes.{open_high, open_low, put_elsewhere, put_here}
 
+-- the later one of the open group and a floor is that, or near the committed group
+pub near_open : (group open_group floor committed : ℕ) → group ≡ max open_group floor → open_group ≤ committed + 2 → (group ≤ floor) ⊎ (group ≤ committed + 2)
+near_open group open_group floor committed is high = elim (cases_lt open_group floor) [
+  | inl less ↦ inl (omega (arith, is, less))
+  | inr from ↦ inr (omega (arith, is, from, high))
+]
+
 module _ {R A : Type 0} (rack : racks.Ghosts R) (area : areas.Ghosts A) (shared : Bool) (owns : ℕ → Bool) (last : ℕ → Option (Shard R A)) (object : ℕ) (p : Pointer) (seq floor : ℕ) where
   pub may_free : (has : HasPointer last rack owns object p) → floor ≤ LAST_NUMBER → (x : Shard R A) → Drifts rack area shared owns has.shard x → MayFreeIn rack x p floor
   may_free has low x d = record {
@@ -51,16 +58,6 @@ module _ {R A : Type 0} (rack : racks.Ghosts R) (area : areas.Ghosts A) (shared 
     committed : owns groups_number ≡ true → after.committed ≡ shard.committed
     committed own = groups.groups.committed ∙ (drifts.groups own).groups.committed
 
-    -- the group up to which it is freed is the floor, or the open one
-    near_freed : (group : ℕ) → group ≡ max before.open_group floor → (group ≤ floor) ⊎ (group ≤ after.committed + 2)
-    near_freed group is = elim (cases_lt before.open_group floor) [
-      | inl less ↦ inl (omega (arith, is, less))
-      | inr from ↦
-          let high = open_low before.open_group before.closing before.committed before.sealed drifts.valid.groups in
-          let stays = groups.groups.committed in
-          inr (omega (arith, is, from, high, stays))
-    ]
-
     whole_then : (table' : ℕ → Option Pointer) (group : ℕ) → IsHeldBy rack (all_of owns p.metaslab) seq after → (group ≤ floor) ⊎ (group ≤ after.committed + 2) → group ≤ LAST_NUMBER
         → ((q : ℕ) (r : Pointer) → table' q ≡ Some r → HasPointer last rack owns q r × (IsLive before r → IsLive after r)) → IsWholeBy rack owns new table' seq group
     whole_then table' group now near low pointers = whole_on owns rack area shared last new p.metaslab shard before after there drifts keeps.part groups is keeps.valid (all_of owns) (all_of owns) table table' seq floor seq group whole now (λ n k not seen. seen) (omega arith) near low pointers
@@ -78,7 +75,7 @@ module _ {R A : Type 0} (rack : racks.Ghosts R) (area : areas.Ghosts A) (shared 
           numbered = λ e e_is seen. (whole.shards p.metaslab has.shard has.there).numbered (key_of p) (held_at (staged stage.Live p)) own_key (key_leads has.shard.entries p.first (staged stage.Live p) has.live);
           settled = λ e e_is seen. ap (λ (i : Entry). is_block i.stage) (some_of freed e (staged (stage.Freed group) p) e_is refl);
         }))
-        (near_freed group fb.group_is) fb.low
+        (near_open group before.open_group floor after.committed fb.group_is (let high = open_low before.open_group before.closing before.committed before.sealed drifts.valid.groups in let stays = groups.groups.committed in omega (arith, high, stays))) fb.low
         (λ q r r_is. (let h = others q r r_is in
         (h.0, live_key rack before after r drifts.valid keeps.valid keeps.part (fb.sets.entry.held (key_of r) ∙ held_other (held_in before.entries) (key_of p) (key_of r) (option_map held_at freed) h.1))))
       where

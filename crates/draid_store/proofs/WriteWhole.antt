@@ -1,5 +1,5 @@
 -- What a thread has stays whole through a write of its own, hold by hold.
-use Rattle.std.proofs.Common.{◌≡◌, ◌==◌, ◌≤◌, ◌+◌, ◌∙◌, ◌⊎◌, inl, inr, arith, ℕ, Bool, true, Option, Some, None, Result, Ok, Err, refl, sym, ap, subst, if◌then◌else◌}
+use Rattle.std.proofs.Common.{◌≡◌, ◌==◌, ◌≤◌, ◌+◌, ◌∙◌, ◌⊎◌, inl, arith, ℕ, Bool, true, Option, Some, None, Result, Ok, Err, refl, sym, ap, subst, if◌then◌else◌}
 use Rattle.std.proofs.lemmas.Bool.{true≢false}
 use Rattle.draid_names.specs.declared.numbers.TheConstants.{LAST_NUMBER}
 use Rattle.draid_names.specs.declared.pointer.Pointer.{Pointer}
@@ -30,6 +30,7 @@ use Rattle.draid_pool.proofs.Lists.{some_of}
 use Rattle.draid_pool.proofs.ShardSteps.{at_here}
 use Rattle.draid_pool.proofs.Wholes.{open_high, open_low}
 use Rattle.draid_store.proofs.FreeKeeps.{sets_groups, nothing_groups}
+use Rattle.draid_store.proofs.FreeWhole.{near_open}
 use Rattle.draid_pool.proofs.Drifting.{same_groups}
 use Rattle.draid_store.proofs.Lively.{live_begin, live_end, live_put}
 
@@ -80,11 +81,10 @@ module _ {R A : Type 0} (rack : racks.Ghosts R) (area : areas.Ghosts A) (shared 
       b.did.1.opens.enters.entry (λ k other seen. but_inside (all_of owns) m (key_of ticket.pointer) m k seen)
       (record { numbered = λ e e_is seen. absurd (hidden owns m (key_of ticket.pointer) seen); settled = λ e e_is seen. absurd (hidden owns m (key_of ticket.pointer) seen) }))
       (λ n k not seen. but_inside (all_of owns) m (key_of ticket.pointer) n k seen) (omega arith)
-      (inr (
+      (near_open ticket.pointer.birth before.open_group floor after.committed b.did.1.opens.named.birth_is (
       let same = g.groups.committed in
       let high = open_low before.open_group before.closing before.committed before.sealed drifts.valid.groups in
-      let birth = b.did.1.opens.named.birth_is in
-      omega (arith, same, high, birth)))
+      omega (arith, same, high)))
       (let birth = b.did.1.opens.named.birth_is in let low = b.did.1.low in omega (arith, birth, low))
       (λ q live. live_begin rack area before after object (seq + 1) floor block (Some (Ok ticket)) q drifts.valid b live)
     where
