@@ -9,16 +9,12 @@ ghost use Rattle.draid_run.specs.Shelves.{HoldsBare, HoldsDesk};
 ghost use Rattle.draid_run.specs.declared.status.Status.{Status};
 
 use draid_area::Area;
-use draid_session::Decides;
 use draid_rack::Rack;
+use draid_session::Decides;
 
 /// Law: over a shelf that tells that it has no pool, the lines of a run are answered as a book has it that begins blank; so
 /// are those of runs one after another, with a crash of all that the shelf holds between two or not.
-pub fn runs_keep_the_book<R: Rack, A: Area, D: Decides>(
-    rack: &R,
-    area: &A,
-    decider: &D,
-)
+pub fn runs_keep_the_book<R: Rack, A: Area, D: Decides>(rack: &R, area: &A, decider: &D)
     ensures one { (words : List (List ℕ)) (status : Status) (input old new : Option (List ℕ)) (entry now : OnShelf)
         → RunIs R.Rack A.Area (D.choices decider.now) words status input old new entry now → HoldsBare entry
         → (book : Book) × KeepsBook words status input old new blank book }

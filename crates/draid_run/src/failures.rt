@@ -11,16 +11,12 @@ ghost use Rattle.draid_run.specs.Unfailing.{EndsUnfailing, NothingRose};
 ghost use Rattle.draid_run.specs.declared.status.Status.{Status};
 
 use draid_area::Area;
-use draid_session::Decides;
 use draid_rack::Rack;
+use draid_session::Decides;
 
 /// Law: over a shelf that tells what it holds, which the session knows, a run whose input makes no pool doesn't end for a
 /// failing source, sink or shelf where no count of theirs rose. So with memory enough it ends with its input.
-pub fn runs_without_failures_end_well<R: Rack, A: Area, D: Decides>(
-    rack: &R,
-    area: &A,
-    decider: &D,
-)
+pub fn runs_without_failures_end_well<R: Rack, A: Area, D: Decides>(rack: &R, area: &A, decider: &D)
     ensures { (words : List (List ℕ)) (status : Status) (input : List ℕ) (old new : Option (List ℕ)) (entry now : OnShelf) (first : Desk) (source_was source_is sink_was sink_is : ℕ)
         → RunIs R.Rack A.Area (D.choices decider.now) words status (Some input) old new entry now
         → (status ≡ Status.SourceFault → Rose source_was source_is) → (status ≡ Status.SinkFault → Rose sink_was sink_is)

@@ -13,16 +13,12 @@ ghost use Rattle.draid_pool.specs.Shelves.{OnShelf};
 ghost use Rattle.draid_run.specs.Shelves.{MayFind};
 
 use draid_area::Area;
-use draid_session::Decides;
 use draid_rack::Rack;
+use draid_session::Decides;
 
 /// Law: on a pool that was found and that no known session left, an object that was written is read as those bytes, and one
 /// that was read is read as the same bytes again, where no line between the two writes or frees it or gives the pool back.
-pub fn known_objects_are_read<R: Rack, A: Area, D: Decides>(
-    rack: &R,
-    area: &A,
-    decider: &D,
-)
+pub fn known_objects_are_read<R: Rack, A: Area, D: Decides>(rack: &R, area: &A, decider: &D)
     ensures written { (entry : OnShelf) (tells : Bool) (write read : List ℕ) (lines : List (List ℕ)) (replies : List (List Said)) (object o p : ℕ) (bytes : List ℕ) (got : Vec ℕ Heap) (known : Known) (last : Desk)
         → line_at Outside write ≡ Ok (WriteObject object bytes) → line_behind (write ∷ lines) read ≡ Ok (ReadObject object) → AllSpare object (place_behind Outside write) lines → length replies ≡ length lines
         → Runs (D.choices decider.now) (MayFind R.Rack A.Area entry) tells (Foreign known) (write ∷ (lines ++ (read ∷ []))) (alone (Reply.Written o) ∷ (replies ++ (alone (Reply.Contents p got) ∷ []))) last

@@ -15,19 +15,15 @@ ghost use Rattle.draid_run.specs.Shelves.{HoldsDesk, MayFind, TellsAsBefore};
 ghost use Rattle.draid_run.specs.declared.status.Status.{Status};
 
 use draid_area::Area;
-use draid_session::Decides;
 use draid_rack::Rack;
+use draid_session::Decides;
 use draid_shelf::{MemoryShelf, Shelf};
 use std::alloc::Global;
 
 /// Law: where the words ask for a session, each line of the input can be run, no device fails and memory isn't
 /// wanting, a run ends with its input, with status 0. Else a record has a fault, where the shelf's pool isn't known or
 /// wasn't told.
-pub fn undisturbed_runs_are_done<R: Rack, A: Area, D: Decides>(
-    rack: &R,
-    area: &A,
-    decider: &D,
-)
+pub fn undisturbed_runs_are_done<R: Rack, A: Area, D: Decides>(rack: &R, area: &A, decider: &D)
     ensures { (words : List (List ℕ)) (status : Status) (input : List ℕ) (old new : Option (List ℕ)) (entry now : OnShelf) (first : Desk)
         → (it : RunsFrom R.Rack A.Area (D.choices decider.now) words status (Some input) old new entry now first)
         → IsSession words → CanRun input → IsUndisturbed status → EndsWell status it.session.mid }
@@ -35,11 +31,7 @@ pub fn undisturbed_runs_are_done<R: Rack, A: Area, D: Decides>(
 
 /// Law: what a run left on its shelf is a desk of the next run, whatever its status was, and whether all that the shelf
 /// holds had a crash between or not; and the shelf tells what it holds as it did. So the next run is one from there.
-pub fn runs_follow_one_another<R: Rack, A: Area, D: Decides>(
-    rack: &R,
-    area: &A,
-    decider: &D,
-)
+pub fn runs_follow_one_another<R: Rack, A: Area, D: Decides>(rack: &R, area: &A, decider: &D)
     ensures { (words : List (List ℕ)) (status : Status) (input old new : Option (List ℕ)) (entry now found : OnShelf) (first : Desk) (crash : Bool)
         → (it : RunsFrom R.Rack A.Area (D.choices decider.now) words status input old new entry now first)
         → IsFound crash now found → HoldsDesk (next_desk crash it.last) found found × TellsAsBefore entry found }
@@ -47,11 +39,7 @@ pub fn runs_follow_one_another<R: Rack, A: Area, D: Decides>(
 
 /// Law: in a run over a shelf that tells what it holds, which the session knows, each import behind a crash that finds a
 /// pool finds the one that was open, and of this a group that may be there, with just the objects that it kept.
-pub fn crashed_pools_are_found_again<R: Rack, A: Area, D: Decides>(
-    rack: &R,
-    area: &A,
-    decider: &D,
-)
+pub fn crashed_pools_are_found_again<R: Rack, A: Area, D: Decides>(rack: &R, area: &A, decider: &D)
     ensures { (words : List (List ℕ)) (status : Status) (input old new : Option (List ℕ)) (entry now : OnShelf) (first : Desk)
         → (it : RunsFrom R.Rack A.Area (D.choices decider.now) words status input old new entry now first)
         → is_some entry.held ≡ true → HoldsDesk first entry entry → KnowsShelf first
@@ -64,12 +52,7 @@ pub fn crashed_pools_are_found_again<R: Rack, A: Area, D: Decides>(
 
 /// Law: legal histories give the states of the metaslabs of the pool that a run has open or gave back, behind its lines and
 /// at the beginning of the next run, where they do at its beginning; and so they do where no session knew its pool then.
-pub fn runs_stay_legal<R: Rack, A: Area, D: Decides>(
-    alloc: Global,
-    rack: &R,
-    area: &A,
-    decider: &D,
-)
+pub fn runs_stay_legal<R: Rack, A: Area, D: Decides>(alloc: Global, rack: &R, area: &A, decider: &D)
     ensures { (words : List (List ℕ)) (status : Status) (input old new : Option (List ℕ)) (entry now : OnShelf) (first : Desk) (crash : Bool)
         → (it : RunsFrom R.Rack A.Area (D.choices decider.now) words status input old new entry now first)
         → DeskReached first → DeskReached it.session.mid × DeskReached (next_desk crash it.last) }

@@ -12,8 +12,8 @@ ghost use Rattle.draid_run.specs.Shelves.{HoldsDesk};
 ghost use Rattle.draid_run.specs.declared.status.Status.{Status};
 
 use draid_area::Area;
-use draid_session::Decides;
 use draid_rack::Rack;
+use draid_session::Decides;
 use draid_shelf::{MemoryShelf, Shelf};
 
 /// Law: on a shelf that tells, legal histories give the states of the metaslabs of a pool that it holds.

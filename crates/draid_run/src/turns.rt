@@ -6,17 +6,13 @@ ghost use Rattle.draid_run.specs.Lines.{IsTurn};
 ghost use Rattle.draid_run.specs.Shelves.{MayFind};
 
 use draid_area::Area;
-use draid_session::Decides;
 use draid_rack::Rack;
+use draid_session::Decides;
 
 /// Law: the lines of a run can be looked at one by one: behind those before a line there is a desk from which the line
 /// leads to another, with the replies to it, and the lines behind go on from there. So it is with those of a session,
 /// where an import may find anything.
-pub fn each_line_is_a_turn<R: Rack, A: Area, D: Decides>(
-    rack: &R,
-    area: &A,
-    decider: &D,
-)
+pub fn each_line_is_a_turn<R: Rack, A: Area, D: Decides>(rack: &R, area: &A, decider: &D)
     ensures run { (entry : OnShelf) (tells : Bool) (first last : Desk) (front back : List (List ℕ)) (line : List ℕ) (said behind : List (List Said)) (saids : List Said)
         → length said ≡ length front
         → Runs (D.choices decider.now) (MayFind R.Rack A.Area entry) tells first (front ++ line ∷ back) (said ++ saids ∷ behind) last
@@ -28,11 +24,7 @@ pub fn each_line_is_a_turn<R: Rack, A: Area, D: Decides>(
 {}
 
 /// Law: the lines of a run are those of a session, of which the laws of sessions speak.
-pub fn runs_are_sessions<R: Rack, A: Area, D: Decides>(
-    rack: &R,
-    area: &A,
-    decider: &D,
-)
+pub fn runs_are_sessions<R: Rack, A: Area, D: Decides>(rack: &R, area: &A, decider: &D)
     ensures { (entry : OnShelf) (tells : Bool) (lines : List (List ℕ)) (replies : List (List Said)) (old new : Desk)
         → Runs (D.choices decider.now) (MayFind R.Rack A.Area entry) tells old lines replies new
         → Runs (D.choices decider.now) IsAnything tells old lines replies new }

@@ -12,10 +12,7 @@ static RECORD: [u8; 62] = [
     0, 0, 0, 0, 0, 0, 0, 9, 0, 0, 0, 0, 0, 0, 0, 2, // object 9, the second one
 ];
 
-static DROPS: [Dropped; 2] = [
-    Dropped { object: 7, seq: 1 },
-    Dropped { object: 9, seq: 2 },
-];
+static DROPS: [Dropped; 2] = [Dropped { object: 7, seq: 1 }, Dropped { object: 9, seq: 2 }];
 
 /// How many bytes of the record are read, those that are other ones, and the first fault then, where there is one.
 static ROWS: [(usize, &[(usize, u8)], Result<(), (u64, RecordFaultKind)>); 29] = [

@@ -7,6 +7,7 @@ use Rattle.sha2.specs.Sha256.{sha256}
 use Rattle.draid_gf.specs.Field.{IsByte}
 use Rattle.draid_names.specs.declared.pass_kind.PassKind.TheVariants.{Heal}
 use Rattle.draid_names.specs.declared.pointer.Pointer.{Pointer}
+use Rattle.draid_rack.specs.Rack.{OnBothTold}
 use Rattle.draid_rack.specs.declared.Rack as racks
 use Rattle.draid_area.specs.declared.Area as areas
 use Rattle.draid_spec.specs.declared.layout.Geometry.{Geometry}
@@ -63,6 +64,7 @@ use Rattle.draid_visits.specs.declared.steps.Next.TheVariants as next
 use Rattle.draid_visits.proofs.Beyond.{beyond, no_block}
 use Rattle.draid_visits.proofs.Landed.{Lands, landed_to}
 use Rattle.draid_visits.proofs.Lifting.{contents_by}
+use Rattle.draid_visits.proofs.Needed.{needed}
 use Rattle.draid_visits.proofs.Over.{told_worn}
 use Rattle.draid_visits.proofs.Sourced.{sourced}
 use Rattle.draid_visits.proofs.Started.{fits}
@@ -418,6 +420,34 @@ module _ {R A : Type 0} (rack : racks.Ghosts R) (area : areas.Ghosts A) (old len
             (subst (λ (g : Geometry). count_below g.g (λ c. is_none (slice_index_or unit.lent.chosen.items c None)) ≤ g.spec.parity) geometry_is
             (sourced rack old lent unit lent_valid solved.kept r block (sym (ap (λ (l : LentBlock). l.restored) same_lent) ∙ there)))
 
+    -- what the landing did, where the block was restored or not
+    record LandsAs (o : Option BlockValue) : Type 0 where
+      pub after : machine.State
+      pub step : Step (layout_in part) y.world (LandBlock landed.pass.number landed.lent.serial landed.failed landed.patched (is_none o)) after
+      pub acts : OnBothTold (rack.told solved.rack) (rack.told new.rack) (segments.Acts (layout_in part) y.world (LandBlock landed.pass.number landed.lent.serial landed.failed landed.patched (is_none o)) after step written)
+      pub rows : IfSome o (λ (block : BlockValue). ArePieces part.geometry.props.sector part.geometry.g landed.lent.pointer.stripes block.columns (key_of landed.lent.pointer) written)
+
+    lands_as : LandsAs landed.lent.restored
+    lands_as = record {
+      after = second.after;
+      step = second.step;
+      acts = subst (λ (p : Part). (after : machine.State) (step : Step (layout_in p) y.world e after) → OnBothTold (rack.told solved.rack) (rack.told new.rack) (segments.Acts (layout_in p) y.world e after step written)) mid.part_is
+          (λ after step. landed.acts written y.world after step mid.stands.reached mid.stands.is_in restored_there) second.after second.step;
+      rows = writes_rows part.geometry.props.sector part.geometry.g landed.lent.pointer.stripes (key_of landed.lent.pointer) landed.lent.restored pieces;
+    }
+
+    -- what it wrote on clean arms was harmed or in doubt, or a column was taken wrong
+    was_needed : HasContents part pieces x → passes.LandsNeeded part.geometry part.perms (view_of part.number y) e
+    was_needed contents_are = by landed.lent.restored refl
+      where
+        by : (o : Option BlockValue) → landed.lent.restored ≡ o → passes.LandsNeeded part.geometry part.perms (view_of part.number y) (LandBlock landed.pass.number landed.lent.serial landed.failed landed.patched (is_none o))
+        by None gone = tt
+        by (Some block) there =
+            let did = subst LandsAs there lands_as in
+            needed rack area old lent solved new unit lent_valid only r block (sym (ap (λ (l : LentBlock). l.restored) same_lent) ∙ there) pieces written x y part is mid first.step contents_are
+            (subst (λ (p : Pointer). ArePieces part.geometry.props.sector part.geometry.g p.stripes block.columns (key_of p) written) (ap (λ (l : LentBlock). l.pointer) same_lent) did.rows)
+            landed.pass.number landed.lent.serial landed.failed landed.patched did.after did.step did.acts
+
     both_follow : FollowsIn (layout_in part) part.number (On (view_of part.number x) (Did (Lend unit.failed) y.world) ∷ (On (view_of part.number y) (Did e second.done.reached.world) ∷ [])) x second.done.reached
     both_follow = (
       Did (Lend unit.failed) y.world,
@@ -460,6 +490,7 @@ module _ {R A : Type 0} (rack : racks.Ghosts R) (area : areas.Ghosts A) (old len
             lands = (block_loan landed.lent, own, loan_there, held_there, all_told);
             why = why contents_are;
             sourced = few_sources;
+            needed = was_needed contents_are;
           },
         ),
         record { held = two_leaves.held ∙ one_leaves.held; committed = two_leaves.committed ∙ one_leaves.committed },

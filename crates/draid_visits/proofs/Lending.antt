@@ -40,7 +40,7 @@ lent_then g p kind m repaired at e front rest some l is = (
     rest,
     repaired,
     some,
-    record { v = l.v; u = l.u; failed = l.failed; lent = l.lent; e = l.e; landed = l.landed; are = ap (λ hs. hs ++ rest) l.are; there = l.there; not_worn = l.not_worn; lands = l.lands; why = l.why; sourced = l.sourced },
+    record { v = l.v; u = l.u; failed = l.failed; lent = l.lent; e = l.e; landed = l.landed; are = ap (λ hs. hs ++ rest) l.are; there = l.there; not_worn = l.not_worn; lands = l.lands; why = l.why; sourced = l.sourced; needed = l.needed },
     is.1,
   ),
 )

@@ -16,6 +16,7 @@ pub mod Lifting
 pub mod LookHolds
 pub mod Marking
 pub mod MendHolds
+pub mod Needed
 pub mod Over
 pub mod OwnedBegin
 pub mod OwnedCancel
@@ -36,6 +37,7 @@ pub mod StartHolds
 pub mod Started
 pub mod SyncStays
 pub mod Tables
+pub mod Taken
 pub mod ToLend
 pub mod UnitHolds
 pub mod Units

@@ -187,6 +187,7 @@ module _ {R A : Type 0} (rack : racks.Ghosts R) (area : areas.Ghosts A) (old len
               lands = refl;
               why = tt;
               sourced = tt;
+              needed = tt;
             },
           ),
           record { held = two.held ∙ one.held; committed = two.committed ∙ one.committed },
