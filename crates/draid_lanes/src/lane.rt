@@ -1,0 +1,87 @@
+//! Lanes in threads, each with the work that is done in it.
+ghost use Rattle.std.specs.Prelude.{◌≡◌, All, length};
+ghost use Rattle.draid_lanes.specs.Jobs.{EachHasRun, HasRun, MayRun};
+
+use crate::gate::Gate;
+use crate::locked::Locked;
+use crate::uber::UberCell;
+use draid_area::Area;
+use draid_pool::Own;
+use draid_rack::Rack;
+use draid_spec::Geometry;
+use draid_turn::{Pass, Turn};
+use std::sync::Wait;
+use std::thread;
+use std::thread::Threads;
+
+/// A lane among several: its metaslabs, its pass of the uberblock's lock, and what is its own.
+#[derive(Drop)]
+pub struct Lane<'a, R: Rack, A: Area, G: Gate, W: Wait> {
+    pub metaslabs: Locked<'a, R, A, G, W>,
+    pub uber: &'a Turn<UberCell<'a, R, A>>,
+    pub pass: Pass<UberCell<'a, R, A>>,
+    pub own: Own,
+}
+
+/// What is done in a lane of a pool.
+pub trait Job<R: Rack, A: Area, G: Gate, W: Wait> {
+    ghost use Rattle.draid_lanes.specs.Jobs.{IsSameLane, IsWholeLane};
+    ghost use Rattle.draid_lanes.specs.declared.lane.Lane.{Lane};
+
+    /// What it came to.
+    ghost relates: { Self → Lane R A G W → Self → Lane R A G W → Type 0 };
+
+    fn run<'a>(&mut self, geometry: &Geometry, lane: Lane<'a, R, A, G, W>) -> Lane<'a, R, A, G, W>
+        requires whole { IsWholeLane R.Rack A.Area geometry.now lane }
+        ensures whole { IsWholeLane R.Rack A.Area geometry.now result }
+        ensures same { IsSameLane lane result }
+        ensures related { relates self.old lane self.new result };
+}
+
+/// A lane, while it isn't run, and its work.
+#[derive(Drop)]
+pub struct Seat<'a, R: Rack, A: Area, G: Gate, W: Wait, J> {
+    pub lane: Option<Lane<'a, R, A, G, W>>,
+    pub job: J,
+}
+
+/// Does the work of one lane.
+fn run_lane<'a, R: Rack, A: Area, G: Gate, W: Wait, J: Job<R, A, G, W>>(
+    geometry: &Geometry,
+    seat: &mut Seat<'a, R, A, G, W, J>,
+)
+    requires { MayRun R.Rack A.Area geometry.now seat.old }
+    ensures { HasRun R.Rack A.Area geometry.now J.relates seat.old seat.new }
+{
+    if let Some(lane) = seat.lane.take() {
+        let lane = seat.job.run(geometry, lane);
+        seat.lane = Some(lane);
+    }
+}
+
+/// Runs the lanes, each in a thread of its own where threads can be made.
+pub fn run_lanes<
+    'a,
+    R: Rack + Send,
+    A: Area + Send,
+    G: Gate + Sync,
+    W: Threads + Wait + Sync,
+    J: Job<R, A, G, W> + Send,
+>(rt: &W, geometry: &Geometry, seats: &mut Vec<Seat<'a, R, A, G, W, J>>)
+    requires { All (MayRun R.Rack A.Area geometry.now) seats.old.items }
+    ensures count { length seats.new.items ≡ length seats.old.items }
+    ensures ran { EachHasRun R.Rack A.Area geometry.now J.relates seats.old.items seats.new.items }
+{
+    let count = seats.len();
+    if count == 0 {
+        return;
+    }
+    thread::for_each_mut(
+        rt,
+        seats,
+        count,
+        &|_, seat: &mut Seat<'a, R, A, G, W, J>| {
+            run_lane(geometry, seat);
+        },
+    );
+}
