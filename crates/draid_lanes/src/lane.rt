@@ -34,8 +34,8 @@ pub trait Job<R: Rack, A: Area, G: Gate, W: Wait> {
     fn run<'a>(&mut self, geometry: &Geometry, lane: Lane<'a, R, A, G, W>) -> Lane<'a, R, A, G, W>
         requires whole { IsWholeLane R.Rack A.Area geometry.now lane }
         ensures whole { IsWholeLane R.Rack A.Area geometry.now result }
-        ensures same { IsSameLane lane result }
-        ensures related { relates self.old lane self.new result };
+        ensures same { IsSameLane lane.entry result }
+        ensures related { relates self.old lane.entry self.new result };
 }
 
 /// A lane, while it isn't run, and its work.
@@ -80,7 +80,7 @@ pub fn run_lanes<
         rt,
         seats,
         count,
-        &|_, seat: &mut Seat<'a, R, A, G, W, J>| {
+        &|_, seat: &mut Seat<R, A, G, W, J>| {
             run_lane(geometry, seat);
         },
     );
