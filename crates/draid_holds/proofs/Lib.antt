@@ -1,8 +1,8 @@
 pub mod Holds
-mod Joins
+pub mod Joins
 mod LaneCalls
 mod Lookups
 mod Parts
 mod Ran
-mod Splits
-mod Started
+pub mod Splits
+pub mod Started
