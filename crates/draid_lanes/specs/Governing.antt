@@ -60,6 +60,15 @@ KeepsSome rack owns last now = (some : ℕ → Bool) → some groups_number ≡ 
 abbrev pub KeepsLayout : {R A : Type 0} → (last now : ℕ → Option (Shard R A)) → Type 0
 KeepsLayout last now = (geometry : Geometry) → HaveLayout geometry last → HaveLayout geometry now
 
+module _ {R A G W : Type 0} where
+  -- how a lane left its metaslabs
+  abbrev pub lane_last : Locked R A G W → ℕ → Option (Shard R A)
+  lane_last lane = last_in lane.turns.now lane.passes.items
+
+  -- what was whole of all that a lane owns is so then
+  abbrev pub KeepsLane : racks.Ghosts R → (old new : Locked R A G W) → Type 0
+  KeepsLane rack old new = KeepsWhole rack (owned_by old.passes.items) (all_of (owned_by old.passes.items)) (lane_last old) (lane_last new)
+
 -- ---- what is done
 
 module _ {R A G W O : Type 0} (rack : racks.Ghosts R) (area : areas.Ghosts A) where
@@ -89,6 +98,6 @@ module _ {R A G W O : Type 0} (rack : racks.Ghosts R) (area : areas.Ghosts A) wh
     pub turns : new.turns.now ≡ old.turns.now
     pub owns : owned_by new.passes.items ≡ owned_by old.passes.items
     pub lane : IsLane rack new.turns.now new.passes.items
-    pub layout : KeepsLayout (last_in old.turns.now old.passes.items) (last_in new.turns.now new.passes.items)
-    pub whole : KeepsWhole rack (owned_by old.passes.items) (all_of (owned_by old.passes.items)) (last_in old.turns.now old.passes.items) (last_in new.turns.now new.passes.items)
+    pub layout : KeepsLayout (lane_last old) (lane_last new)
+    pub whole : KeepsLane rack old new
     pub governed : Governed relates old op found.uber found.groups.items new done left.uber left.groups.items

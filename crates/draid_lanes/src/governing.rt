@@ -1,8 +1,7 @@
 //! What a lane does while it holds the uberblock: it has the groups of all metaslabs then, and holds these one after another.
-ghost use Rattle.std.specs.Prelude.{◌≡◌, length};
-ghost use Rattle.draid_pool.specs.Threads.{KeepsWhole, all_of};
-ghost use Rattle.draid_lanes.specs.Governing.{Governed, GovernedIn, IsMet, KeepsLayout, MayGovern};
-ghost use Rattle.draid_lanes.specs.Locks.{last_in, owned_by};
+ghost use Rattle.std.specs.Prelude.{◌≡◌};
+ghost use Rattle.draid_lanes.specs.Governing.{Governed, GovernedIn, KeepsLane, KeepsLayout, MayGovern, lane_last};
+ghost use Rattle.draid_lanes.specs.Locks.{owned_by};
 ghost use Rattle.draid_lanes.specs.Ubers.{IsLane, IsUberOf};
 
 use crate::gate::Gate;
@@ -20,8 +19,8 @@ use std::sync::Wait;
 pub trait Governs<R: Rack, A: Area, G: Gate, W: Wait> {
     ghost use Rattle.std.specs.Prelude.{◌≡◌};
     ghost use Rattle.draid_uber.specs.declared.uber.Uber.{Uber};
-    ghost use Rattle.draid_lanes.specs.Governing.{IsGovernor, KeepsLayout, KeepsSome};
-    ghost use Rattle.draid_lanes.specs.Locks.{last_in, owned_by};
+    ghost use Rattle.draid_lanes.specs.Governing.{IsGovernor, KeepsLayout, KeepsSome, lane_last};
+    ghost use Rattle.draid_lanes.specs.Locks.{owned_by};
     ghost use Rattle.draid_lanes.specs.declared.locked.Locked.{Locked};
 
     /// What it needs of the metaslabs, as they are met.
@@ -37,8 +36,8 @@ pub trait Governs<R: Rack, A: Area, G: Gate, W: Wait> {
         ensures governor { IsGovernor R.Rack A.Area count metaslabs.new.turns.now metaslabs.new.passes.items uber.new }
         ensures turns { metaslabs.new.turns.now ≡ metaslabs.old.turns.now }
         ensures owns { owned_by metaslabs.new.passes.items ≡ owned_by metaslabs.old.passes.items }
-        ensures layout { KeepsLayout (last_in metaslabs.old.turns.now metaslabs.old.passes.items) (last_in metaslabs.new.turns.now metaslabs.new.passes.items) }
-        ensures keeps { KeepsSome R.Rack (owned_by metaslabs.old.passes.items) (last_in metaslabs.old.turns.now metaslabs.old.passes.items) (last_in metaslabs.new.turns.now metaslabs.new.passes.items) }
+        ensures layout { KeepsLayout (lane_last metaslabs.old) (lane_last metaslabs.new) }
+        ensures keeps { KeepsSome R.Rack (owned_by metaslabs.old.passes.items) (lane_last metaslabs.old) (lane_last metaslabs.new) }
         ensures related { relates self.old metaslabs.old uber.old self.new metaslabs.new uber.new };
 }
 
@@ -56,8 +55,8 @@ fn govern_under<'a, R: Rack, A: Area, G: Gate, W: Wait, O: Governs<R, A, G, W>>(
     ensures owns { owned_by metaslabs.new.passes.items ≡ owned_by metaslabs.old.passes.items }
     ensures lane { IsLane R.Rack metaslabs.new.turns.now metaslabs.new.passes.items }
     ensures uber { IsUberOf R.Rack A.Area metaslabs.new.turns.now uber.new groups.new }
-    ensures layout { KeepsLayout (last_in metaslabs.old.turns.now metaslabs.old.passes.items) (last_in metaslabs.new.turns.now metaslabs.new.passes.items) }
-    ensures whole { KeepsWhole R.Rack (owned_by metaslabs.old.passes.items) (all_of (owned_by metaslabs.old.passes.items)) (last_in metaslabs.old.turns.now metaslabs.old.passes.items) (last_in metaslabs.new.turns.now metaslabs.new.passes.items) }
+    ensures layout { KeepsLayout (lane_last metaslabs.old) (lane_last metaslabs.new) }
+    ensures whole { KeepsLane R.Rack metaslabs.old metaslabs.new }
     ensures governed { Governed R.Rack A.Area O.relates metaslabs.old op.old uber.old groups.old.items metaslabs.new op.new uber.new groups.new.items }
 {
     meet_all(metaslabs.rt, metaslabs.turns, &mut metaslabs.passes, groups);
@@ -115,8 +114,8 @@ pub fn govern_in_lane<'a, R: Rack, A: Area, G: Gate, W: Wait, O: Governs<R, A, G
     ensures turns { result.0.turns.now ≡ metaslabs.entry.turns.now }
     ensures owns { owned_by result.0.passes.items ≡ owned_by metaslabs.entry.passes.items }
     ensures lane { IsLane R.Rack result.0.turns.now result.0.passes.items }
-    ensures layout { KeepsLayout (last_in metaslabs.entry.turns.now metaslabs.entry.passes.items) (last_in result.0.turns.now result.0.passes.items) }
-    ensures whole { KeepsWhole R.Rack (owned_by metaslabs.entry.passes.items) (all_of (owned_by metaslabs.entry.passes.items)) (last_in metaslabs.entry.turns.now metaslabs.entry.passes.items) (last_in result.0.turns.now result.0.passes.items) }
+    ensures layout { KeepsLayout (lane_last metaslabs.entry) (lane_last result.0) }
+    ensures whole { KeepsLane R.Rack metaslabs.entry result.0 }
     ensures own { pass.new.table ≡ pass.old.table }
     ensures governed { GovernedIn R.Rack A.Area O.relates uber.now metaslabs.entry op result.0 result.1 pass.old pass.new }
 {

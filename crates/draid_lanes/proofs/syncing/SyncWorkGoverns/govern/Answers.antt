@@ -2,8 +2,9 @@ use Rattle.std.proofs.Common.{◌∙◌, ◌<◌, ℕ, Bool, true, ap, sym, subs
 use Rattle.std.specs.Prelude.{slice_get}
 use Rattle.draid_uber.specs.Uber as ubers
 use Rattle.draid_pool.specs.Drifts.{groups_number}
+use Rattle.draid_lanes.specs.Governing.{lane_last}
 use Rattle.draid_lanes.specs.Locks.{owned_by}
-use Rattle.draid_lanes.specs.Waits.{LaneWent, SyncsThrough, lane_last}
+use Rattle.draid_lanes.specs.Waits.{LaneWent, SyncsThrough}
 use Rattle.draid_lanes.proofs.SyncArms.{through_arms}
 use Rattle.draid_lanes.proofs.SyncThrough.{through_layout, through_whole}
 use Rattle.draid_lanes.proofs.syncing.SyncWorkGoverns.govern.Goals as goal
