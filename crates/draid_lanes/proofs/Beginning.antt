@@ -1,23 +1,27 @@
 -- Lanes of a whole pool begin whole.
-use Rattle.std.proofs.Common.{◌≡◌, ◌<◌, ◌≤◌, ◌+◌, ◌∙◌, arith, ℕ, Bool, true, false, List, [], Option, Some, None, length, refl, sym, ap, subst}
+use Rattle.std.proofs.Common.{◌≡◌, ◌<◌, ◌≤◌, ◌+◌, ◌∙◌, ◌⊎◌, inl, inr, arith, ℕ, suc, Bool, true, false, cond, List, [], ◌∷◌, Option, Some, None, length, refl, sym, ap, subst}
 use Rattle.std.specs.Prelude.{slice_get, vec_capacity}
 use Rattle.std.specs.declared.vec.Vec.{Vec}
 use Rattle.std.specs.declared.alloc.Global.{Global}
 use Rattle.std.proofs.lemmas.Bool.{true≢false}
+use Rattle.std.proofs.lemmas.List.Sums.{sum_by-cons}
 use Rattle.std.proofs.lemmas.Option.{slice_get_within}
 use Rattle.draid_names.specs.declared.pointer.Pointer.{Pointer}
 use Rattle.draid_rack.specs.declared.Rack as racks
 use Rattle.draid_area.specs.declared.Area as areas
 use Rattle.draid_spec.specs.declared.layout.Geometry.{Geometry}
-use Rattle.draid_machine.proofs.Small.{none_some}
+use Rattle.draid_machine.proofs.Small.{bool_cases, none_some}
 use Rattle.draid_shard.specs.Alike.{ShareArms}
 use Rattle.draid_shard.specs.Fits.{IsLeaf}
 use Rattle.draid_shard.specs.Part.{Part}
 use Rattle.draid_shard.specs.declared.shard.Shard.{Shard}
 use Rattle.draid_turn.specs.Calls.{Caller, Lock, newcomer}
-use Rattle.draid_turn.specs.Numbers.{holds}
+use Rattle.draid_turn.specs.Lists.{one_if}
+use Rattle.draid_turn.specs.Numbers.{holds, number_limit}
 use Rattle.draid_turn.specs.declared.past.Past.{Past}
 use Rattle.draid_turn.specs.declared.span.Span.{Span}
+use Rattle.draid_turn.proofs.Spans.{true_if_one}
+use Rattle.draid_holds.specs.Passes.{shares}
 use Rattle.draid_uber.specs.Slots.{group_of}
 use Rattle.draid_uber.specs.Uber as ubers
 use Rattle.draid_pool.specs.Drifts.{groups_number}
@@ -33,8 +37,37 @@ use Rattle.draid_lanes.specs.Locks.{AreOf, last_in, last_of, left_in, owned_by}
 use Rattle.draid_lanes.specs.Meeting.{groups_alone}
 use Rattle.draid_lanes.specs.Opening.{AreLocked}
 use Rattle.draid_lanes.specs.Ubers.{IsUberOf}
-use Rattle.draid_lanes.specs.Whole.{AreLaneNumbers, AreNewcomers, LaneBegins, pointer_in}
+use Rattle.draid_lanes.specs.Whole.{AreLaneNumbers, IsDealt, LaneBegins, pointer_in}
 use Rattle.draid_lanes.proofs.SyncUnder.{owned_all, owned_none}
+
+-- ---- numbers that are dealt
+
+-- one of the lists that have a number
+abbrev pub HasList : ℕ → List (Vec Span Global) → Type 0
+HasList n lists = (i : ℕ) × (list : Vec Span Global) × (slice_get lists i ≡ Some list) × (holds n list.items ≡ true)
+
+none_more : (all one rest : ℕ) → all ≡ one + rest → one ≡ 0 → rest ≡ 0 → all ≡ 0
+none_more all one rest is first none = omega (arith, is, first, none)
+
+shared_by : (n : ℕ) (lists : List (Vec Span Global)) → (shares n lists ≡ 0) ⊎ HasList n lists
+shared_by n [] = inl refl
+shared_by n (list ∷ lists) = elim (bool_cases (holds n list.items)) [
+  | inl held ↦ inr (0, list, refl, held)
+  | inr not ↦ elim (shared_by n lists) [
+    | inl none ↦ inl (none_more (shares n (list ∷ lists)) (cond (holds n list.items) 1 0) (shares n lists) (sum_by-cons (λ (l : Vec Span Global). cond (holds n l.items) 1 0) list lists) (ap (λ b. cond b 1 0) not) none)
+    | inr z ↦ inr (suc z.0, z.1, z.2, z.3)
+  ]
+]
+
+-- who got none of a list's numbers has what no list has
+pub held_dealt : {R A : Type 0} (lists : List (Vec Span Global)) (firsts : List (Caller (Past (Cell R A)))) → ((m : ℕ) (first : Caller (Past (Cell R A))) → slice_get firsts m ≡ Some first → (n : ℕ) → n < number_limit → one_if (holds n first.numbers) + shares n lists ≡ 1) → (n : ℕ)
+    → n < number_limit → (owned_by firsts n ≡ true) ⊎ HasList n lists
+held_dealt lists firsts left n below = elim (shared_by n lists) [
+  | inl none ↦ inl (owned_all firsts n (λ m first at. true_if_one (holds n first.numbers) (let one = left m first at n below in omega (arith, one, none))))
+  | inr some ↦ inr some
+]
+
+-- ---- objects that are dealt
 
 -- what is whole by all objects is so by some, with some of the pointers
 pub whole_some : {R A : Type 0} (rack : racks.Ghosts R) (owns : ℕ → Bool) (last : ℕ → Option (Shard R A)) (table some : ℕ → Option Pointer) (seq floor : ℕ) → IsWholeBy rack all last table seq floor
@@ -61,7 +94,7 @@ module _ {R A : Type 0} (shards : List (Shard R A)) (locks : List (Lock (Cell R 
       let same : z.0 ≡ lock = some_of (slice_get locks m) z.0 lock z.1 lock_is in
       shard.1 ∙ ap (λ (s : Shard R A). Some s) (sym z.2 ∙ ap (λ (l : Lock (Cell R A)). l.first.shard) same)
 
-  module _ (numbers : List Span) (passes : List (Caller (Past (Cell R A)))) (new : AreNewcomers locks numbers passes) where
+  module _ (numbers : List Span) (passes : List (Caller (Past (Cell R A)))) (new : IsDealt locks numbers passes) where
     pub pass_new : (m : ℕ) (lock : Lock (Cell R A)) (pass : Caller (Past (Cell R A))) → slice_get locks m ≡ Some lock → slice_get passes m ≡ Some pass → pass ≡ newcomer lock.table [] numbers
     pass_new m lock pass lock_is pass_is = some_of (slice_get passes m) pass (newcomer lock.table [] numbers) pass_is (new.each m lock lock_is)
 
@@ -109,7 +142,7 @@ module _ {R A : Type 0} (rack : racks.Ghosts R) (area : areas.Ghosts A) (pool : 
   few_locks : length locks ≤ 64
   few_locks = (let many = locked.many in let are = w.many in let few = w.layout.geometry_is.props.most_metaslabs in omega (arith, many, are, few))
 
-  module _ (numbers : List Span) (passes : List (Caller (Past (Cell R A)))) (new : AreNewcomers locks numbers passes) where
+  module _ (numbers : List Span) (passes : List (Caller (Past (Cell R A)))) (new : IsDealt locks numbers passes) where
     fits : AreOf rack locks passes
     fits = record {
       many = new.many;
@@ -141,7 +174,7 @@ module _ {R A : Type 0} (rack : racks.Ghosts R) (area : areas.Ghosts A) (pool : 
         lasts_are = lasts pool.metaslabs.shards.items locks firsts locked numbers passes new
 
   -- the uberblock, with the passes of the groups
-  module _ (groups : Vec (Caller (Past (Cell R A))) Global) (new : AreNewcomers locks groups_alone groups.items) where
+  module _ (groups : Vec (Caller (Past (Cell R A))) Global) (new : IsDealt locks groups_alone groups.items) where
     left : (m : ℕ) (lock : Lock (Cell R A)) (pass : Caller (Past (Cell R A))) → slice_get locks m ≡ Some lock → slice_get groups.items m ≡ Some pass → left_in lock pass.seen ≡ lock.first.shard
     left = left_new pool.metaslabs.shards.items locks firsts locked groups_alone groups.items new
 
