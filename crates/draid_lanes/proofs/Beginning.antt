@@ -35,9 +35,9 @@ use Rattle.draid_pool.proofs.Lists.{ext, present, some_of}
 use Rattle.draid_pool.proofs.OwnedKnows.{all, whole_by}
 use Rattle.draid_lanes.specs.Locks.{AreOf, last_in, last_of, left_in, owned_by}
 use Rattle.draid_lanes.specs.Meeting.{groups_alone}
-use Rattle.draid_lanes.specs.Opening.{AreLocked}
+use Rattle.draid_lanes.specs.Opening.{AreLocked, IsDealt}
 use Rattle.draid_lanes.specs.Ubers.{IsUberOf}
-use Rattle.draid_lanes.specs.Whole.{AreLaneNumbers, IsDealt, LaneBegins, pointer_in}
+use Rattle.draid_lanes.specs.Whole.{AreLaneNumbers, LaneBegins, pointer_in}
 use Rattle.draid_lanes.proofs.SyncUnder.{owned_all, owned_none}
 
 -- ---- numbers that are dealt

@@ -1,5 +1,5 @@
 -- A lane, and what it keeps while its work is done.
-use Rattle.std.specs.Prelude.{◌≡◌, ◌<◌, ℕ, List, Option, Some, length, nat_eq, slice_index_or}
+use Rattle.std.specs.Prelude.{◌≡◌, ℕ, Option, Some, length, nat_eq}
 use Rattle.std.specs.HashMap.{get}
 use Rattle.draid_rack.specs.declared.Rack as racks
 use Rattle.draid_area.specs.declared.Area as areas
@@ -50,7 +50,3 @@ module _ {R A G W J : Type 0} where
     pub whole : IsWholeLane rack area geometry next
     pub same : IsSameLane lane next
     pub related : relates old.job lane new.job next
-
-  -- so was that of each
-  abbrev pub EachHasRun : racks.Ghosts R → areas.Ghosts A → Geometry → (J → Lane R A G W → J → Lane R A G W → Type 0) → List (Seat R A G W J) → List (Seat R A G W J) → Type 0
-  EachHasRun rack area geometry relates old new = (i : ℕ) (d : Seat R A G W J) → i < length old → HasRun rack area geometry relates (slice_index_or old i d) (slice_index_or new i d)

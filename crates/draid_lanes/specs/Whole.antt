@@ -44,11 +44,6 @@ abbrev pub IsTableOf : {R A : Type 0} → Pool R A → List Span → (ℕ → Op
 IsTableOf pool numbers table = (object : ℕ) (pointer : Pointer) → table object ≡ Some pointer → (pointer_in pool object ≡ Some pointer) × (holds object numbers ≡ true)
 
 module _ {R A : Type 0} where
-  -- a lane has a pass of each metaslab, which has seen nothing and holds these numbers
-  pub record IsDealt (locks : List (Lock (Cell R A))) (numbers : List Span) (passes : List (Caller (Past (Cell R A)))) : Type 0 where
-    pub many : length passes ≡ length locks
-    pub each : (m : ℕ) (lock : Lock (Cell R A)) → slice_get locks m ≡ Some lock → slice_get passes m ≡ Some (newcomer lock.table [] numbers)
-
   -- A lane begins as its commands need it. Its passes are a lane's, it is whole by its own objects with any of the pool's pointers of these, and its metaslabs are the pool's.
   pub record LaneBegins (rack : racks.Ghosts R) (pool : Pool R A) (locks : List (Lock (Cell R A))) (numbers : List Span) (passes : List (Caller (Past (Cell R A)))) : Type 0 where
     pub lane : IsLane rack locks passes

@@ -1,6 +1,5 @@
-//! Lanes in threads, each with the work that is done in it.
-ghost use Rattle.std.specs.Prelude.{◌≡◌, All, length};
-ghost use Rattle.draid_lanes.specs.Jobs.{EachHasRun, HasRun, MayRun};
+//! A lane, and the work that is done in it.
+ghost use Rattle.draid_lanes.specs.Jobs.{HasRun, MayRun};
 
 use crate::gate::Gate;
 use crate::locked::Locked;
@@ -11,8 +10,6 @@ use draid_rack::Rack;
 use draid_spec::Geometry;
 use draid_turn::{Pass, Turn};
 use std::sync::Wait;
-use std::thread;
-use std::thread::Threads;
 
 /// A lane among several: its metaslabs, its pass of the uberblock's lock, and what is its own.
 #[derive(Drop)]
@@ -46,7 +43,7 @@ pub struct Seat<'a, R: Rack, A: Area, G: Gate, W: Wait, J> {
 }
 
 /// Does the work of one lane.
-fn run_lane<'a, R: Rack, A: Area, G: Gate, W: Wait, J: Job<R, A, G, W>>(
+pub fn run_lane<'a, R: Rack, A: Area, G: Gate, W: Wait, J: Job<R, A, G, W>>(
     geometry: &Geometry,
     seat: &mut Seat<'a, R, A, G, W, J>,
 )
@@ -57,31 +54,4 @@ fn run_lane<'a, R: Rack, A: Area, G: Gate, W: Wait, J: Job<R, A, G, W>>(
         let lane = seat.job.run(geometry, lane);
         seat.lane = Some(lane);
     }
-}
-
-/// Runs the lanes, each in a thread of its own where threads can be made.
-pub fn run_lanes<
-    'a,
-    R: Rack + Send,
-    A: Area + Send,
-    G: Gate + Sync,
-    W: Threads + Wait + Sync,
-    J: Job<R, A, G, W> + Send,
->(rt: &W, geometry: &Geometry, seats: &mut Vec<Seat<'a, R, A, G, W, J>>)
-    requires { All (MayRun R.Rack A.Area geometry.now) seats.old.items }
-    ensures count { length seats.new.items ≡ length seats.old.items }
-    ensures ran { EachHasRun R.Rack A.Area geometry.now J.relates seats.old.items seats.new.items }
-{
-    let count = seats.len();
-    if count == 0 {
-        return;
-    }
-    thread::for_each_mut(
-        rt,
-        seats,
-        count,
-        &|_, seat: &mut Seat<R, A, G, W, J>| {
-            run_lane(geometry, seat);
-        },
-    );
 }
