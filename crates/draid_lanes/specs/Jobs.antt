@@ -1,52 +1,22 @@
--- A lane, and what it keeps while its work is done.
-use Rattle.std.specs.Prelude.{◌≡◌, ℕ, Option, Some, length, nat_eq}
-use Rattle.std.specs.HashMap.{get}
-use Rattle.draid_rack.specs.declared.Rack as racks
-use Rattle.draid_area.specs.declared.Area as areas
-use Rattle.draid_names.specs.declared.pointer.Pointer.{Pointer}
-use Rattle.draid_spec.specs.declared.layout.Geometry.{Geometry}
-use Rattle.draid_pool.specs.Threads.{HaveLayout, IsWholeBy}
-use Rattle.draid_lanes.specs.Locks.{last_in, owned_by}
-use Rattle.draid_lanes.specs.Ubers.{IsLane, IsUberOf}
-use Rattle.draid_lanes.specs.declared.lane.Lane.{Lane}
-use Rattle.draid_lanes.specs.declared.lane.Seat.{Seat}
+-- Jobs that are run, each with a lane of its own.
+use Rattle.std.specs.Prelude.{◌≡◌, ◌<◌, ℕ, List, Some, length, slice_index_or}
+use Rattle.draid_lanes.specs.declared.jobs.Seat.{Seat}
 
-module _ {R A G W : Type 0} where
-  -- the pointers of a lane's objects
-  abbrev pub table_of : Lane R A G W → ℕ → Option Pointer
-  table_of lane object = get nat_eq lane.own.objects object
-
-  -- Its passes are those of a lane, and what it has of its own objects is whole, in metaslabs of one layout. The uberblock's lock, of which it has a pass, was made over
-  -- the same locks.
-  pub record IsWholeLane (rack : racks.Ghosts R) (area : areas.Ghosts A) (geometry : Geometry) (lane : Lane R A G W) : Type 0 where
-    pub lane_is : IsLane rack lane.metaslabs.turns.now lane.metaslabs.passes.items
-    pub uber : lane.pass.table ≡ lane.uber.now.table
-    pub same : lane.uber.now.first.turns.now ≡ lane.metaslabs.turns.now
-    pub first : IsUberOf rack area lane.uber.now.first.turns.now lane.uber.now.first.uber lane.uber.now.first.groups
-    pub many : length lane.metaslabs.turns.now ≡ geometry.props.metaslabs
-    pub layout : HaveLayout geometry (last_in lane.metaslabs.turns.now lane.metaslabs.passes.items)
-    pub whole : IsWholeBy rack (owned_by lane.metaslabs.passes.items) (last_in lane.metaslabs.turns.now lane.metaslabs.passes.items) (table_of lane) lane.own.seq lane.own.floor
-
-  -- it is the same lane: it has passes of the same locks, which hold the same numbers
-  pub record IsSameLane (old new : Lane R A G W) : Type 0 where
-    pub turns : new.metaslabs.turns.now ≡ old.metaslabs.turns.now
-    pub owns : owned_by new.metaslabs.passes.items ≡ owned_by old.metaslabs.passes.items
-    pub uber : new.uber.now ≡ old.uber.now
-    pub number : new.metaslabs.lane ≡ old.metaslabs.lane
-
-module _ {R A G W J : Type 0} where
-  -- a lane waits to be run
-  pub record MayRun (rack : racks.Ghosts R) (area : areas.Ghosts A) (geometry : Geometry) (seat : Seat R A G W J) : Type 0 where
-    pub lane : Lane R A G W
+module _ {L J : Type 0} where
+  -- a lane waits for its job, and has what that needs
+  pub record MayRun (needs : J → L → Type 0) (seat : Seat L J) : Type 0 where
+    pub lane : L
     pub there : seat.lane ≡ Some lane
-    pub whole : IsWholeLane rack area geometry lane
+    pub needed : needs seat.job lane
 
-  -- its work was done
-  pub record HasRun (rack : racks.Ghosts R) (area : areas.Ghosts A) (geometry : Geometry) (relates : J → Lane R A G W → J → Lane R A G W → Type 0) (old new : Seat R A G W J) : Type 0 where
-    pub lane : Lane R A G W
-    pub next : Lane R A G W
+  -- its job was done
+  pub record HasRun (relates : J → L → J → L → Type 0) (old new : Seat L J) : Type 0 where
+    pub lane : L
+    pub next : L
     pub was : old.lane ≡ Some lane
     pub is : new.lane ≡ Some next
-    pub whole : IsWholeLane rack area geometry next
-    pub same : IsSameLane lane next
     pub related : relates old.job lane new.job next
+
+  -- so was that of each
+  abbrev pub EachHasRun : (J → L → J → L → Type 0) → List (Seat L J) → List (Seat L J) → Type 0
+  EachHasRun relates old new = (i : ℕ) (d : Seat L J) → i < length old → HasRun relates (slice_index_or old i d) (slice_index_or new i d)
