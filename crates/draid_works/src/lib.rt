@@ -1,4 +1,4 @@
-//! What a lane does: commands of a thread among several, which wait where they have to be tried again.
+//! The commands of a lane: each is tried again until no other lane is in its way, and has its reply then.
 
 #![tactic(auto)]
 
