@@ -1,0 +1,7 @@
+//! The commands of a lane: each is tried again until no other lane is in its way, and has its reply then.
+
+#![tactic(auto)]
+
+mod lanes;
+
+pub use lanes::{commit_in_lane, read_in_lane, sum_in_lane};
