@@ -30,5 +30,4 @@ module _ {R A G W : Type 0} where
     pub turns : new.metaslabs.turns.now ≡ old.metaslabs.turns.now
     pub owns : owned_by new.metaslabs.passes.items ≡ owned_by old.metaslabs.passes.items
     pub uber : new.uber.now ≡ old.uber.now
-    pub number : new.metaslabs.lane ≡ old.metaslabs.lane
     pub geometry : new.geometry ≡ old.geometry

@@ -38,17 +38,13 @@ pub fn read_in_lane<'a, R: Rack, A: Area, G: Gate, W: Wait>(
     ensures step { (x : State) → x.geometry ≡ lane.old.geometry → LaneKnows R.Rack A.Area lane.old x
         → LaneCarries R.Rack A.Area lane.old lane.new x (ReadDoes x object result) }
 {
-    let number = lane.metaslabs.lane;
-    let result = read_object(
+    read_object(
         alloc,
         &mut lane.metaslabs,
         &lane.own,
         &lane.geometry,
         object,
-    );
-    // (Nothing else tells that the number stays.)
-    lane.metaslabs.lane = number;
-    result
+    )
 }
 
 /// Gives the SHA-256 digest (FIPS 180-4) of the bytes of `count` objects of the lane's from `first` on, one after another.
@@ -70,8 +66,7 @@ pub fn sum_in_lane<'a, R: Rack, A: Area, G: Gate, W: Wait>(
     ensures step { (x : State) → x.geometry ≡ lane.old.geometry → LaneKnows R.Rack A.Area lane.old x
         → LaneCarries R.Rack A.Area lane.old lane.new x (SumTries x first count result) }
 {
-    let number = lane.metaslabs.lane;
-    let result = sum_objects(
+    sum_objects(
         rt,
         alloc,
         &mut lane.metaslabs,
@@ -79,10 +74,7 @@ pub fn sum_in_lane<'a, R: Rack, A: Area, G: Gate, W: Wait>(
         &lane.geometry,
         first,
         count,
-    );
-    // (Nothing else tells that the number stays.)
-    lane.metaslabs.lane = number;
-    result
+    )
 }
 
 /// Commits the group that is open, and waits for open writes of other lanes that are in its way.
@@ -102,11 +94,8 @@ pub fn commit_in_lane<'a, R: Rack, A: Area, G: Gate, W: Wait>(
         mut pass,
         own,
     } = lane;
-    let number = metaslabs.lane;
     let count = metaslabs.turns.len() as u32;
-    let (mut metaslabs, result) = sync_in_lane(metaslabs, uber, &mut pass, count);
-    // (Nothing else tells that the number stays.)
-    metaslabs.lane = number;
+    let (metaslabs, result) = sync_in_lane(metaslabs, uber, &mut pass, count);
     let lane = Lane {
         geometry,
         metaslabs,

@@ -1,12 +1,10 @@
-use Rattle.std.proofs.Common.{true}
-use Rattle.draid_works.proofs.Numbered.{leads_numbered}
 use Rattle.draid_works.proofs.Whole.{lane_stays}
 use Rattle.draid_works.proofs.lanes.sum_in_lane.Goals as goal
 
 pub returns-clause-whole : goal.returns-clause-whole
 returns-clause-whole g c =
-    let e = c.sum_objects-result.ensures in
-    lane_stays g.R.Rack g.A.Area c.args.lane.now (record c.sum_objects-result.new.metaslabs { lane = c.args.lane.now.metaslabs.lane }) c.requires.whole e.locks e.owns e.fits e.stay e.whole
+    let e = c.sum_objects.ensures in
+    lane_stays g.R.Rack g.A.Area c.args.lane.now c.sum_objects.new.metaslabs c.requires.whole e.locks e.owns e.fits e.stay e.whole
 
 pub returns-clause-step : goal.returns-clause-step
-returns-clause-step g c x layout knows = leads_numbered g.R.Rack g.A.Area true c.args.lane.now.metaslabs.lane c.args.lane.now.metaslabs c.sum_objects-result.new.metaslabs x _ _ (c.sum_objects-result.ensures.step x layout knows)
+returns-clause-step g c x layout knows = c.sum_objects.ensures.step x layout knows
