@@ -1,0 +1,3 @@
+//! The commands of a lane: each is tried again until no other lane is in its way, and has its reply then.
+
+#![tactic(auto)]
