@@ -2,6 +2,10 @@
 
 #![tactic(auto)]
 
+mod freeing;
 mod lanes;
+mod writing;
 
+pub use freeing::free_through;
 pub use lanes::{commit_in_lane, read_in_lane, sum_in_lane};
+pub use writing::write_through;
