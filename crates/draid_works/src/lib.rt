@@ -2,10 +2,12 @@
 
 #![tactic(auto)]
 
+mod changing;
 mod freeing;
 mod lanes;
 mod writing;
 
+pub use changing::{free_in_lane, write_in_lane};
 pub use freeing::free_through;
 pub use lanes::{commit_in_lane, read_in_lane, sum_in_lane};
 pub use writing::write_through;
