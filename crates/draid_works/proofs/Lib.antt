@@ -1,0 +1,3 @@
+pub mod SwitchArms
+pub mod SwitchThrough
+pub mod Switched
