@@ -39,7 +39,7 @@ module _ {R A : Type 0} where
   pub arms_groups : (old new : Shard R A) → KeepsGroups old new → SameArms old new
   arms_groups old new k = record { share = k.arms; leaves = k.leaves }
 
-  arms_still : (old new : Shard R A) → new ≡ old → SameArms old new
+  pub arms_still : (old new : Shard R A) → new ≡ old → SameArms old new
   arms_still old new same = arms_groups old new (same_groups old new same)
 
   arms_table : (old new : Shard R A) → KeepsTable old new → SameArms old new
@@ -56,10 +56,10 @@ pub record SameLayout {A : Type 0} (u v : Uber A) : Type 0 where
   pub layout : (version : ℕ) → ubers.layout_in (ubers.layout_of v) version ≡ ubers.layout_in (ubers.layout_of u) version
 
 module _ {A : Type 0} where
-  layout_still : (u v : Uber A) → v ≡ u → SameLayout u v
+  pub layout_still : (u v : Uber A) → v ≡ u → SameLayout u v
   layout_still u v same = record { next_leaf = ap ubers.next_leaf_of same; layout = λ n. ap (λ w. ubers.layout_in (ubers.layout_of w) n) same }
 
-  layout_then : (u w v : Uber A) → SameLayout u w → SameLayout w v → SameLayout u v
+  pub layout_then : (u w v : Uber A) → SameLayout u w → SameLayout w v → SameLayout u v
   layout_then u w v x y = record { next_leaf = y.next_leaf ∙ x.next_leaf; layout = λ n. y.layout n ∙ x.layout n }
 
   layout_named : (area : areas.Ghosts A) (group : ℕ) (u v : Uber A) (result : Result Unit SyncFault) → UberNames area group u result v → SameLayout u v
@@ -84,16 +84,16 @@ module _ {R A S : Type 0} (rack : racks.Ghosts R) (area : areas.Ghosts A) (last 
     here : last b m ≡ Some h.after
     here = h.is m ∙ ap (λ b. if b then Some h.after else last a m) (eq-eqb m m refl)
 
-    away : (k : ℕ) → (k ≡ m → ⊥) → last b k ≡ last a k
+    pub away : (k : ℕ) → (k ≡ m → ⊥) → last b k ≡ last a k
     away k not = h.is k ∙ ap (λ b. if b then Some h.after else last a k) (ne_eqb k m not)
 
-    found_arms : SameArms h.shard h.before
+    pub found_arms : SameArms h.shard h.before
     found_arms = arms_groups h.shard h.before (h.drifts.groups own)
 
-    held_is : (k : ℕ) (s : Shard R A) → k ≡ m → last b k ≡ Some s → h.after ≡ s
+    pub held_is : (k : ℕ) (s : Shard R A) → k ≡ m → last b k ≡ Some s → h.after ≡ s
     held_is k s same at = some_same h.after s (sym here ∙ (ap (last b) (sym same) ∙ at))
 
-    arms_on : m < count → SameArms h.before h.after → HasArms a → HasArms b
+    pub arms_on : m < count → SameArms h.before h.after → HasArms a → HasArms b
     arms_on below keeps g = record {
       alike = λ k n x y at there.
           (let p = came k x at in
@@ -111,12 +111,12 @@ module _ {R A S : Type 0} (rack : racks.Ghosts R) (area : areas.Ghosts A) (last 
   -- ---- rounds
 
   module _ (does : ℕ → Shard R A → Shard R A → Type 0) (quiet : (n : ℕ) (x y : Shard R A) → does n x y → SameArms x y) where
-    arms_round : (n sum : ℕ) (a b : S) → n ≤ count → HeldEach rack area last went shared owns does n a sum b → HasArms a → HasArms b
+    pub arms_round : (n sum : ℕ) (a b : S) → n ≤ count → HeldEach rack area last went shared owns does n a sum b → HasArms a → HasArms b
     arms_round zero sum a b below each g = subst HasArms (sym each.0) g
     arms_round (suc n) sum a b below (mid, some, more, each, once, adds) g =
         arms_on (does more) mid n b once (omega (arith, below)) (quiet more once.before once.after once.did) (arms_round n some a mid (omega (arith, below)) each g)
 
-    arms_stop : (stops : Shard R A → Shard R A → Type 0) → ((x y : Shard R A) → stops x y → SameArms x y) → (a b : S) → StoppedBy rack area last went shared owns does stops count a b → HasArms a → HasArms b
+    pub arms_stop : (stops : Shard R A → Shard R A → Type 0) → ((x y : Shard R A) → stops x y → SameArms x y) → (a b : S) → StoppedBy rack area last went shared owns does stops count a b → HasArms a → HasArms b
     arms_stop stops so a b s g =
         let below = s.below in
         arms_on stops s.mid s.place b s.stop s.below (so s.stop.before s.stop.after s.stop.did) (arms_round s.place s.sum a s.mid (omega (arith, below)) s.front g)
@@ -186,7 +186,7 @@ module _ {R A S : Type 0} (rack : racks.Ghosts R) (area : areas.Ghosts A) (last 
   seals_arms group a b None s g = arms_stop (λ n x y. SealsBy rack area group x (Ok n) y) (λ n x y c. arms_table x y c.table) (λ x y. WaitsForWrites group x y) (λ x y c. arms_still x y c.same) a b s g
 
   -- behind a call they have the same arms, and the uberblock the same layout
-  abbrev HasBoth : S → Uber A → Uber A → Type 0
+  abbrev pub HasBoth : S → Uber A → Uber A → Type 0
   HasBoth b u v = HasArms b × SameLayout u v
 
   commit_arms : (group : ℕ) (a b : S) (u v : Uber A) (out : Option (Result ℕ SyncFault)) → CommitsIn rack area last went shared owns group count a u out b v → HasArms a → HasBoth b u v
@@ -202,7 +202,7 @@ module _ {R A S : Type 0} (rack : racks.Ghosts R) (area : areas.Ghosts A) (last 
   finds_arms (Some group) a b s g = arms_stop (λ none x y. SeesClosing None x y) (λ n x y c. arms_still x y c.0) (λ x y. SeesClosing (Some group) x y) (λ x y c. arms_still x y c.0) a b s g
   finds_arms None a b each g = arms_round (λ none x y. SeesClosing None x y) (λ n x y c. arms_still x y c.0) count 0 a b (omega arith) each g
 
-  finish_arms : (a b : S) (u v : Uber A) (out : Option (Result Unit SyncFault)) → FinishesIn rack area last went shared owns count a u out b v → HasArms a → HasBoth b u v
+  pub finish_arms : (a b : S) (u v : Uber A) (out : Option (Result Unit SyncFault)) → FinishesIn rack area last went shared owns count a u out b v → HasArms a → HasBoth b u v
   finish_arms a b u v (Some (Ok done)) (inl (found, same)) g = (finds_arms None a b found g, layout_still u v same)
   finish_arms a b u v (Some (Ok done)) (inr (group, thin, mid, found, commits)) g = commit_arms group mid b u v (Some (Ok thin)) commits (finds_arms (Some group) a mid found g)
   finish_arms a b u v (Some (Err why)) (group, mid, found, commits) g = commit_arms group mid b u v (Some (Err why)) commits (finds_arms (Some group) a mid found g)

@@ -1,15 +1,9 @@
 -- What a thread needs of some of its own it has behind a sync that waited.
-use Rattle.std.proofs.Common.{◌≡◌, ◌<◌, ◌≤◌, ◌+◌, ◌∙◌, ◌⊎◌, inl, inr, ℕ, zero, suc, Bool, true, false, Option, Some, None, Ok, Err, arith, refl, sym, ap, subst, if◌then◌else◌, eq-eqb, ne_eqb}
-use mathlib.Core.Logic.{dite}
-use native.Mathlib.Decide.{ℕ_discrete}
+use Rattle.std.proofs.Common.{◌≡◌, ◌<◌, ◌+◌, ◌∙◌, inl, inr, ℕ, zero, suc, Bool, true, false, Option, Some, None, Ok, Err, arith, refl, sym, ap, subst}
 use Rattle.std.specs.Prelude.{Result}
-use Rattle.std.proofs.lemmas.Bool.{cases_lt, true≢false}
-use Rattle.draid_names.specs.declared.pointer.Pointer.{Pointer}
 use Rattle.draid_rack.specs.declared.Rack as racks
 use Rattle.draid_area.specs.declared.Area as areas
 use Rattle.draid_spec.specs.declared.layout.Geometry.{Geometry}
-use Rattle.draid_machine.proofs.Small.{none_some}
-use Rattle.draid_shard.specs.Part.{Part}
 use Rattle.draid_shard.specs.declared.shard.Shard.{Shard}
 use Rattle.draid_uber.specs.Slots.{group_of}
 use Rattle.draid_uber.specs.Uber.{kept_of}
@@ -17,15 +11,13 @@ use Rattle.draid_uber.specs.declared.uber.Uber.{Uber}
 use Rattle.draid_pool.specs.Drifts.{groups_number}
 use Rattle.draid_pool.specs.Grouping.{ClosesNext}
 use Rattle.draid_pool.specs.Rounds.{EachIs, HeldOnce, NoneBeyond}
-use Rattle.draid_pool.specs.Threads.{HaveLayout, IsNear, KeepsWhole, all_of}
+use Rattle.draid_pool.specs.Threads.{HaveLayout, KeepsWhole, all_of}
 use Rattle.draid_pool.specs.declared.fault.SyncFault.{SyncFault}
 use Rattle.draid_pool.specs.declared.fault.Synced.{Synced}
 use Rattle.draid_pool.specs.declared.fault.Syncing.{Syncing}
-use Rattle.draid_pool.proofs.Drifting.{keeps_some}
-use Rattle.draid_pool.proofs.Holding.{some_same}
-use Rattle.draid_pool.proofs.SyncWhole.{HasGroup, HasLeft, HasNext, KeepsOwn, begins_next, goes_next, left_on}
+use Rattle.draid_pool.proofs.SyncWhole.{HasGroup, HasNext, KeepsOwn, begins_next, goes_next}
 use Rattle.draid_lanes.specs.Waits.{BeginsThrough, BegunOn, GoesThrough, SyncsThrough, WaitsOn}
-use Rattle.draid_lanes.proofs.Kept.{drifts_some}
+use Rattle.draid_lanes.proofs.Behind.{layout_behind, whole_behind}
 
 -- ---- what every hold keeps that leaves what a thread has of its own
 
@@ -89,82 +81,16 @@ module _ {R A S : Type 0} (rack : racks.Ghosts R) (area : areas.Ghosts A) (last 
       (d.0, omega (arith, low, high, is))
   through_next a b u v result (inr (why, is, begins)) g = started_next a b u v (Err why) begins g
 
--- ---- what is whole of some
+-- ---- what is whole of some, and the layout
 
 module _ {R A S : Type 0} (rack : racks.Ghosts R) (area : areas.Ghosts A) (last : S → ℕ → Option (Shard R A)) (went : S → ℕ → Shard R A → Shard R A → S → Type 0) (shared : Bool) (owns : ℕ → Bool) (own : owns groups_number ≡ true) (count : ℕ) (a b : S) (u v : Uber A)
     (result : Result Synced SyncFault) (ready : EachIs count (ClosesNext rack (group_of (kept_of u) + 1)) (last a)) (beyond : NoneBeyond count (last a)) (syncs : SyncsThrough rack area last went shared owns count a u result b v) where
-  -- ---- the group
+  goes : (Stays : S → Type 0) (on : (does : Shard R A → Shard R A → Type 0) (x : S) (m : ℕ) (y : S) → m < count → (h : HeldOnce rack area last went shared owns does x m y) → KeepsOwn rack owns h.before h.after → Stays x → Stays y)
+      → HasGroup rack area last went shared owns own count Stays on a (group_of (kept_of u) + 1) → HasNext rack area last went shared owns own count Stays on b v (group_of (kept_of u) + 1)
+  goes Stays on g = through_next rack area last went shared owns own count Stays on a b u v result syncs g
 
-  -- all committed one group, and no earlier one than before
-  pub through_near : 0 < count → (floor : ℕ) → IsNear floor (last a) → IsNear floor (last b)
-  through_near any floor is =
-      let z = through_next rack area last went shared owns own count (λ s. Unit) (λ does x m y below h keeps left. tt) a b u v result syncs (record { left = tt; ready = ready }) in
-      let first = z.0.ready 0 any in
-      let next = first.2.next in
-      let up = z.1 in
-      let committed = was in
-      let low = is.near in
-      record { metaslab = 0; shard = first.0; there = first.1; near = omega (arith, next, up, committed, low) }
-    where
-      was : is.shard.committed ≡ group_of (kept_of u)
-      was = by (cases_lt is.metaslab count)
-        where
-          by : (is.metaslab < count) ⊎ (count ≤ is.metaslab) → is.shard.committed ≡ group_of (kept_of u)
-          by (inl less) =
-              let r = ready is.metaslab less in
-              let same = ap (λ (s : Shard R A). s.committed) (some_same r.0 is.shard (sym r.1 ∙ is.there)) in
-              let next = r.2.next in
-              omega (arith, same, next)
-          by (inr from) = absurd (none_some (last a is.metaslab) is.shard (beyond is.metaslab from) is.there)
-
-  -- ---- what is whole
-
-  module _ (some : ℕ → Bool) (inside : (n : ℕ) → some n ≡ true → owns n ≡ true) where
-    held_some : (does : Shard R A → Shard R A → Type 0) (x : S) (m : ℕ) (y : S) → HeldOnce rack area last went shared owns does x m y → HeldOnce rack area last went shared some does x m y
-    held_some does x m y h = record {
-      shard = h.shard;
-      there = h.there;
-      before = h.before;
-      after = h.after;
-      drifts = drifts_some rack area shared owns some h.shard h.before inside h.drifts;
-      did = h.did;
-      is = h.is;
-      goes = h.goes;
-    }
-
-    own_some : (x y : Shard R A) → KeepsOwn rack owns x y → KeepsOwn rack some x y
-    own_some x y k = record { valid = k.valid; part = k.part; entries = keeps_some owns some y.committed x.entries y.entries inside k.entries }
-
-    some_on : (table : ℕ → Option Pointer) (seq : ℕ) (does : Shard R A → Shard R A → Type 0) (x : S) (m : ℕ) (y : S) → m < count → (h : HeldOnce rack area last went shared owns does x m y) → KeepsOwn rack owns h.before h.after
-        → HasLeft rack area last went shared some count table seq x → HasLeft rack area last went shared some count table seq y
-    unfolding held_some
-    some_on table seq does x m y below h keeps left = left_on rack area last went shared some count table seq does x m y below (held_some does x m y h) (own_some h.before h.after keeps) left
-
-    pub through_whole : 0 < count → some groups_number ≡ false → KeepsWhole rack some (all_of some) (last a) (last b)
-    through_whole any without table seq floor w = record {
-      shards = z.0.left.shards;
-      placed = z.0.left.placed;
-      together = λ m n shard other mine. absurd (true≢false (sym mine ∙ without));
-      next = λ m shard mine. absurd (true≢false (sym mine ∙ without));
-      pointers = z.0.left.pointers;
-      low = w.low;
-      reached = through_near any floor w.reached;
-    }
-      where
-        z : HasNext rack area last went shared owns own count (HasLeft rack area last went shared some count table seq) (some_on table seq) b v (group_of (kept_of u) + 1)
-        z = through_next rack area last went shared owns own count (HasLeft rack area last went shared some count table seq) (some_on table seq) a b u v result syncs
-            (record { left = record { shards = w.shards; placed = w.placed; pointers = w.pointers; beyond = beyond }; ready = ready })
-
-  -- ---- its layout
-
-  layout_on : (geometry : Geometry) (does : Shard R A → Shard R A → Type 0) (x : S) (m : ℕ) (y : S) → m < count → (h : HeldOnce rack area last went shared owns does x m y) → KeepsOwn rack owns h.before h.after → HaveLayout geometry (last x) → HaveLayout geometry (last y)
-  layout_on geometry does x m y below h keeps has k s at = dite (ℕ_discrete k m)
-      (λ same.
-      let here : last y m ≡ Some h.after = h.is m ∙ ap (λ b. if b then Some h.after else last x m) (eq-eqb m m refl) in
-      let is : h.after ≡ s = some_same h.after s (sym here ∙ (ap (last y) (sym same) ∙ at)) in
-      subst (λ (q : Shard R A). q.geometry ≡ geometry) is (ap (λ (q : Part). q.geometry) (keeps.part ∙ h.drifts.part) ∙ has m h.shard h.there))
-      (λ not. has k s (sym (h.is k ∙ ap (λ b. if b then Some h.after else last x k) (ne_eqb k m not)) ∙ at))
+  pub through_whole : (some : ℕ → Bool) → ((n : ℕ) → some n ≡ true → owns n ≡ true) → 0 < count → some groups_number ≡ false → KeepsWhole rack some (all_of some) (last a) (last b)
+  through_whole = whole_behind rack area last went shared owns own count a b u v ready beyond goes
 
   pub through_layout : (geometry : Geometry) → HaveLayout geometry (last a) → HaveLayout geometry (last b)
-  through_layout geometry has =
-      (through_next rack area last went shared owns own count (λ s. HaveLayout geometry (last s)) (layout_on geometry) a b u v result syncs (record { left = has; ready = ready })).0.left
+  through_layout = layout_behind rack area last went shared owns own count a b u v ready beyond goes

@@ -1,2 +1,5 @@
+pub mod SwitchArms
+pub mod SwitchThrough
+pub mod Switched
 pub mod Waited
 pub mod Whole
