@@ -58,10 +58,6 @@ left_less (hold ∷ holds) (f ∷ front) back looks (inr l) =
     let e = same_parts f hold (front ++ back) l.0 l.1 in
     inr (front, ap (λ h. h ∷ front) e.0, left_less holds front back looks (subst (LeavesLooks holds) (sym e.1) l.2))
 
--- nothing was left out
-pub but_none : (does : List Hold → Store → Type 0) (holds : List Hold) (store : Store) → does holds store → LooksBut does holds store
-but_none does holds store d = (holds, left_all holds, d)
-
 -- ---- one thing after another
 
 module _ {R A S : Type 0} (rack : racks.Ghosts R) (area : areas.Ghosts A) (went : S → ℕ → Shard R A → Shard R A → S → Type 0) (shared : Bool) (a b c : S) (x : State) (does : List Hold → Store → Type 0) (known : State → Type 0) (one : LeadsBy rack area went shared a b x does known) where
@@ -93,6 +89,7 @@ abbrev pub Waits : State → List Hold → Store → Type 0
 Waits x holds store = (store ≡ x.store) × OnlyLooks holds
 
 module _ {R A S : Type 0} (rack : racks.Ghosts R) (area : areas.Ghosts A) (went : S → ℕ → Shard R A → Shard R A → S → Type 0) (shared : Bool) where
+  -- it didn't wait yet
   pub waits_none : (a : S) (x : State) (known : State → Type 0) → known x → LeadsBy rack area went shared a a x (Waits x) known
   waits_none a x known is = record { holds = []; reached = x; store = x.store; follows = (refl, refl); done = (refl, tt); knows = is }
 
