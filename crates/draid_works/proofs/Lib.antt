@@ -1,3 +1,4 @@
+pub mod FilledIn
 pub mod SwitchArms
 pub mod SwitchThrough
 pub mod Switched

@@ -3,12 +3,14 @@
 #![tactic(auto)]
 
 mod changing;
+mod filling;
 mod freeing;
 mod lanes;
 mod switching;
 mod writing;
 
 pub use changing::{free_in_lane, write_in_lane};
+pub use filling::fill_in_lane;
 pub use freeing::free_through;
 pub use lanes::{commit_in_lane, read_in_lane, sum_in_lane};
 pub use switching::{SwitchWork, switch_in_lane};
