@@ -19,8 +19,8 @@ module _ {R A G W : Type 0} where
   pub record IsWholeLane (rack : racks.Ghosts R) (area : areas.Ghosts A) (lane : Lane R A G W) : Type 0 where
     pub lane_is : IsLane rack lane.metaslabs.turns.now lane.metaslabs.passes.items
     pub uber : lane.pass.table ≡ lane.uber.now.table
-    pub same : lane.uber.now.first.turns.now ≡ lane.metaslabs.turns.now
-    pub first : IsUberOf rack area lane.uber.now.first.turns.now lane.uber.now.first.uber lane.uber.now.first.groups
+    pub same : lane.uber.now.first.turns.value.items ≡ lane.metaslabs.turns.now
+    pub first : IsUberOf rack area lane.uber.now.first.turns.value.items lane.uber.now.first.uber lane.uber.now.first.groups
     pub many : length lane.metaslabs.turns.now ≡ lane.geometry.props.metaslabs
     pub layout : HaveLayout lane.geometry (last_in lane.metaslabs.turns.now lane.metaslabs.passes.items)
     pub whole : IsWholeBy rack (owned_by lane.metaslabs.passes.items) (last_in lane.metaslabs.turns.now lane.metaslabs.passes.items) (table_of lane) lane.own.seq lane.own.floor

@@ -23,22 +23,22 @@ module _ {R A : Type 0} where
   -- the lock was made with this uberblock, these locks of metaslabs and these passes of the groups; the first pass of it has seen nothing and holds all numbers
   pub record IsUberLock (uber : Uber A) (locks : List (Lock (Cell R A))) (groups : Vec (Caller (Past (Cell R A))) Global) (lock : Lock (UberCell R A)) (first : Caller (Past (UberCell R A))) : Type 0 where
     pub uber_is : lock.first.uber ≡ uber
-    pub turns_are : lock.first.turns.now ≡ locks
+    pub turns_are : lock.first.turns.value.items ≡ locks
     pub groups_are : lock.first.groups ≡ groups
     pub first_is : first ≡ newcomer lock.table [] all_numbers
 
   -- what every hold of the uberblock keeps to, of what it found and how it left it
   abbrev pub UberHold : racks.Ghosts R → areas.Ghosts A → UberCell R A → Past (UberCell R A) → Type 0
-  UberHold rack area old past = UberStep rack area old.turns.now past.left.turns.now past.left.uber past.left.groups
+  UberHold rack area old past = UberStep rack area old.turns.value.items past.left.turns.value.items past.left.uber past.left.groups
 
   -- The uberblock was taken out of its lock in a last turn, with the passes that hold the groups then: each place of its history is just one pass's. The metaslabs' locks are those with which it was put there.
   pub record UberComesBack (rack : racks.Ghosts R) (area : areas.Ghosts A) (lock : Lock (UberCell R A)) (first : Caller (Past (UberCell R A))) (passes : List (Caller (Past (UberCell R A)))) (uber : Uber A) (groups : Vec (Caller (Past (Cell R A))) Global) : Type 0 where
     pub value : UberCell R A
     pub uber_is : uber ≡ value.uber
     pub groups_are : groups ≡ value.groups
-    pub same : value.turns.now ≡ lock.first.turns.now
+    pub same : value.turns.value.items ≡ lock.first.turns.value.items
     pub closes : ClosesEach (UberHold rack area) lock.first first passes value
-    pub is : IsUberOf rack area lock.first.turns.now uber groups
+    pub is : IsUberOf rack area lock.first.turns.value.items uber groups
 
 module _ {T : Type 0} where
   -- For each of so many lanes there is a pass of the lock, which has seen nothing, made nothing, and holds the lane's number. So has the first pass, which holds all other numbers.

@@ -71,13 +71,13 @@ pub(crate) struct GovernOp<'a, R: Rack, A: Area, G: Gate, W: Wait, O> {
     pub count: u32,
 }
 
-impl<'a, R: Rack, A: Area, G: Gate, W: Wait, O: Governs<R, A, G, W>> Act<UberCell<'a, R, A>>
+impl<'a, R: Rack, A: Area, G: Gate, W: Wait, O: Governs<R, A, G, W>> Act<UberCell<R, A>>
     for GovernOp<'a, R, A, G, W, O> {
     ghost use Rattle.std.specs.Prelude.{◌≡◌, None};
     ghost use Rattle.draid_lanes.specs.Governing.{HasGoverned, MayGovern};
     ghost use Rattle.draid_lanes.specs.Ubers.{IsUberOf};
 
-    ghost needs = { λ o u. MayGovern R.Rack A.Area O.needs o.count o.metaslabs o.op × (u.turns.now ≡ o.metaslabs.turns.now) × IsUberOf R.Rack A.Area u.turns.now u.uber u.groups };
+    ghost needs = { λ o u. MayGovern R.Rack A.Area O.needs o.count o.metaslabs o.op × (u.turns.value.items ≡ o.metaslabs.turns.now) × IsUberOf R.Rack A.Area u.turns.value.items u.uber u.groups };
 
     ghost relates = { λ o u o' u'. HasGoverned R.Rack A.Area O.relates o.metaslabs o.op u o'.metaslabs o'.op u' };
 
@@ -87,7 +87,7 @@ impl<'a, R: Rack, A: Area, G: Gate, W: Wait, O: Governs<R, A, G, W>> Act<UberCel
         None
     }
 
-    fn act(&mut self, cell: &mut UberCell<'a, R, A>) {
+    fn act(&mut self, cell: &mut UberCell<R, A>) {
         govern_under(
             &mut self.metaslabs,
             &mut cell.uber,
@@ -102,15 +102,15 @@ impl<'a, R: Rack, A: Area, G: Gate, W: Wait, O: Governs<R, A, G, W>> Act<UberCel
 /// behind it.
 pub fn govern_in_lane<'a, R: Rack, A: Area, G: Gate, W: Wait, O: Governs<R, A, G, W>>(
     metaslabs: Locked<'a, R, A, G, W>,
-    uber: &Turn<UberCell<'a, R, A>>,
-    pass: &mut Pass<UberCell<'a, R, A>>,
+    uber: &Turn<UberCell<R, A>>,
+    pass: &mut Pass<UberCell<R, A>>,
     count: u32,
     op: O,
 ) -> (Locked<'a, R, A, G, W>, O)
     requires own { pass.old.table ≡ uber.now.table }
     requires may { MayGovern R.Rack A.Area O.needs count metaslabs op }
-    requires first { IsUberOf R.Rack A.Area uber.now.first.turns.now uber.now.first.uber uber.now.first.groups }
-    requires turns { uber.now.first.turns.now ≡ metaslabs.turns.now }
+    requires first { IsUberOf R.Rack A.Area uber.now.first.turns.value.items uber.now.first.uber uber.now.first.groups }
+    requires turns { uber.now.first.turns.value.items ≡ metaslabs.turns.now }
     ensures turns { result.0.turns.now ≡ metaslabs.entry.turns.now }
     ensures owns { owned_by result.0.passes.items ≡ owned_by metaslabs.entry.passes.items }
     ensures lane { IsLane R.Rack result.0.turns.now result.0.passes.items }

@@ -14,7 +14,7 @@ pub struct Lane<'a, R: Rack, A: Area, G: Gate, W: Wait> {
     /// The layout of its metaslabs.
     pub geometry: Geometry,
     pub metaslabs: Locked<'a, R, A, G, W>,
-    pub uber: &'a Turn<UberCell<'a, R, A>>,
-    pub pass: Pass<UberCell<'a, R, A>>,
+    pub uber: &'a Turn<UberCell<R, A>>,
+    pub pass: Pass<UberCell<R, A>>,
     pub own: Own,
 }

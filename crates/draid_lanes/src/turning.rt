@@ -15,13 +15,14 @@ use draid_rack::Rack;
 use draid_turn::{Pass, Refused, Span, Turn};
 use draid_uber::Uber;
 use std::alloc::Global;
+use std::snapshot::Snapshot;
 use std::sync::Wait;
 
 /// The uberblock under its lock, and a pass of it that holds all numbers.
 #[derive(Drop)]
-pub struct UberLock<'a, R: Rack, A: Area> {
-    pub turn: Turn<UberCell<'a, R, A>>,
-    pub first: Pass<UberCell<'a, R, A>>,
+pub struct UberLock<R: Rack, A: Area> {
+    pub turn: Turn<UberCell<R, A>>,
+    pub first: Pass<UberCell<R, A>>,
 }
 
 /// Memory was wanting. The uberblock and the passes of the groups come back as they were.
@@ -32,20 +33,20 @@ pub struct UberUnlocked<R: Rack, A: Area> {
 }
 
 /// Puts the uberblock under a lock, with the passes that hold the groups of all metaslabs.
-pub fn lock_uber<'a, R: Rack, A: Area>(
+pub fn lock_uber<R: Rack, A: Area>(
     alloc: Global,
     uber: Uber<A>,
-    turns: &'a [Turn<Cell<R, A>>],
+    turns: &Vec<Turn<Cell<R, A>>>,
     groups: Vec<Pass<Cell<R, A>>>,
-) -> Result<UberLock<'a, R, A>, UberUnlocked<R, A>>
-    ensures locked { IfOk result (λ made. IsUberLock uber turns.now groups made.turn made.first) }
+) -> Result<UberLock<R, A>, UberUnlocked<R, A>>
+    ensures locked { IfOk result (λ made. IsUberLock uber turns.now.items groups made.turn made.first) }
     ensures refused { IfErr result (λ left. (left.uber ≡ uber) × (left.groups ≡ groups)) }
 {
     match Turn::new(
         alloc,
         UberCell {
             uber,
-            turns,
+            turns: Snapshot::of(turns),
             groups,
         },
     ) {
@@ -63,12 +64,12 @@ pub fn lock_uber<'a, R: Rack, A: Area>(
 }
 
 /// A pass of the uberblock's lock for each of so many lanes, which holds the lane's number; the first pass keeps all others.
-pub fn split_uber<'a, R: Rack, A: Area>(
-    turn: &Turn<UberCell<'a, R, A>>,
-    first: &mut Pass<UberCell<'a, R, A>>,
+pub fn split_uber<R: Rack, A: Area>(
+    turn: &Turn<UberCell<R, A>>,
+    first: &mut Pass<UberCell<R, A>>,
     count: u32,
-    mut passes: Vec<Pass<UberCell<'a, R, A>>>,
-) -> Vec<Pass<UberCell<'a, R, A>>>
+    mut passes: Vec<Pass<UberCell<R, A>>>,
+) -> Vec<Pass<UberCell<R, A>>>
     requires first { first.old ≡ newcomer turn.now.table [] all_numbers }
     requires few { count ≤ 16 }
     requires none { passes.items ≡ [] }
@@ -88,17 +89,17 @@ pub fn split_uber<'a, R: Rack, A: Area>(
 }
 
 /// Takes the uberblock out of its lock, behind all that was done in it by the first pass or by one of the others.
-pub fn unlock_uber<'a, R: Rack, A: Area, W: Wait>(
+pub fn unlock_uber<R: Rack, A: Area, W: Wait>(
     rt: &W,
-    turn: Turn<UberCell<'a, R, A>>,
-    first: Pass<UberCell<'a, R, A>>,
-    passes: Vec<Pass<UberCell<'a, R, A>>>,
+    turn: Turn<UberCell<R, A>>,
+    first: Pass<UberCell<R, A>>,
+    passes: Vec<Pass<UberCell<R, A>>>,
 ) -> (Uber<A>, Vec<Pass<Cell<R, A>>>)
     requires own { first.table ≡ turn.table }
     requires each { AreOf turn passes.items }
     requires all { (n : ℕ) → n < number_limit → 1 ≤ one_if (holds n first.numbers) + holders n passes.items }
-    requires uber { IsUberOf R.Rack A.Area turn.first.turns.now turn.first.uber turn.first.groups }
-    ensures { UberComesBack R.Rack A.Area turn.entry first.entry passes.entry.items result.0 result.1 }
+    requires uber { IsUberOf R.Rack A.Area turn.first.turns.value.items turn.first.uber turn.first.groups }
+    ensures { UberComesBack R.Rack A.Area turn first passes.items result.0 result.1 }
 {
     let UberCell {
         uber,

@@ -9,7 +9,7 @@ call-requires g c =
     record {
       own = c.requires.own;
       ready = λ log u stood follows.
-          (let z = stood_keeps _ (λ v. (v.turns.now ≡ locks) × IsUberOf g.R.Rack g.A.Area v.turns.now v.uber v.groups) c.args.uber.now.first log u
+          (let z = stood_keeps _ (λ v. (v.turns.value.items ≡ locks) × IsUberOf g.R.Rack g.A.Area v.turns.value.items v.uber v.groups) c.args.uber.now.first log u
           (λ a past was step. (step.same ∙ was.0, step.is)) (c.requires.turns, c.requires.first) stood in
           (c.requires.may, z.0, z.1));
       keeps = λ x y after can did. did.step;

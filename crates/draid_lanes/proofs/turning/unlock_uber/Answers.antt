@@ -8,7 +8,7 @@ returns g c =
     let value = c.close_each-uber.result in
     let first = c.args.turn.first in
     let closes = c.close_each-uber.ensures in
-    let kept = stood_keeps _ (λ u. (u.turns.now ≡ first.turns.now) × IsUberOf g.R.Rack g.A.Area u.turns.now u.uber u.groups) first closes.log value (λ a past was step. (step.same ∙ was.0, step.is)) (refl, c.requires.uber) closes.stood in
+    let kept = stood_keeps _ (λ u. (u.turns.value.items ≡ first.turns.value.items) × IsUberOf g.R.Rack g.A.Area u.turns.value.items u.uber u.groups) first closes.log value (λ a past was step. (step.same ∙ was.0, step.is)) (refl, c.requires.uber) closes.stood in
     record {
       value = value;
       uber_is = refl;
