@@ -24,10 +24,10 @@ use std::alloc::Global;
 use std::sync::Wait;
 
 /// Writes an object of the lane's: what is read of it from now on is `bytes`.
-pub fn write_in_lane<'a, R: Rack, A: Area, G: Gate, W: Wait, F: Fn(&[Room]) -> Option<u32>>(
+pub fn write_in_lane<'a, 'b, R: Rack, A: Area, G: Gate, W: Wait, F: Fn(&[Room]) -> Option<u32>>(
     rt: &W,
     alloc: Global,
-    lane: &mut Lane<'a, R, A, G, W>,
+    lane: &mut Lane<'a, 'b, R, A, G, W>,
     chooser: &Chooser<F>,
     object: u64,
     bytes: &[u8],
@@ -58,9 +58,9 @@ pub fn write_in_lane<'a, R: Rack, A: Area, G: Gate, W: Wait, F: Fn(&[Room]) -> O
 }
 
 /// Frees an object of the lane's.
-pub fn free_in_lane<'a, R: Rack, A: Area, G: Gate, W: Wait>(
+pub fn free_in_lane<'a, 'b, R: Rack, A: Area, G: Gate, W: Wait>(
     rt: &W,
-    lane: &mut Lane<'a, R, A, G, W>,
+    lane: &mut Lane<'a, 'b, R, A, G, W>,
     object: u64,
 ) -> Result<(), FreeFault>
     requires whole { IsWholeLane R.Rack A.Area lane.old }

@@ -38,10 +38,10 @@ fn draw(into: &mut [u8], seed: u64, object: u64)
 }
 
 /// Fills objects of the lane's from `first` on: each gets `len` bytes drawn by `seed` and its number.
-pub fn fill_in_lane<'a, R: Rack, A: Area, G: Gate, W: Wait, F: Fn(&[Room]) -> Option<u32>>(
+pub fn fill_in_lane<'a, 'b, R: Rack, A: Area, G: Gate, W: Wait, F: Fn(&[Room]) -> Option<u32>>(
     rt: &W,
     alloc: Global,
-    lane: &mut Lane<'a, R, A, G, W>,
+    lane: &mut Lane<'a, 'b, R, A, G, W>,
     chooser: &Chooser<F>,
     first: u64,
     count: u64,

@@ -23,9 +23,9 @@ use std::sync::Wait;
 use std::thread::Threads;
 
 /// Reads the bytes last written to an object of the lane's.
-pub fn read_in_lane<'a, R: Rack, A: Area, G: Gate, W: Wait>(
+pub fn read_in_lane<'a, 'b, R: Rack, A: Area, G: Gate, W: Wait>(
     alloc: Global,
-    lane: &mut Lane<'a, R, A, G, W>,
+    lane: &mut Lane<'a, 'b, R, A, G, W>,
     object: u64,
 ) -> Result<Vec<u8>, ObjectFault>
     requires whole { IsWholeLane R.Rack A.Area lane.old }
@@ -48,10 +48,10 @@ pub fn read_in_lane<'a, R: Rack, A: Area, G: Gate, W: Wait>(
 }
 
 /// Gives the SHA-256 digest (FIPS 180-4) of the bytes of `count` objects of the lane's from `first` on, one after another.
-pub fn sum_in_lane<'a, R: Rack, A: Area, G: Gate, W: Wait>(
+pub fn sum_in_lane<'a, 'b, R: Rack, A: Area, G: Gate, W: Wait>(
     rt: &(impl Threads + Sync),
     alloc: Global,
-    lane: &mut Lane<'a, R, A, G, W>,
+    lane: &mut Lane<'a, 'b, R, A, G, W>,
     first: u64,
     count: u64,
 ) -> Result<[u8; 32], SumFault>
@@ -78,9 +78,9 @@ pub fn sum_in_lane<'a, R: Rack, A: Area, G: Gate, W: Wait>(
 }
 
 /// Commits the group that is open, and waits for open writes of other lanes that are in its way.
-pub fn commit_in_lane<'a, R: Rack, A: Area, G: Gate, W: Wait>(
-    lane: Lane<'a, R, A, G, W>,
-) -> (Lane<'a, R, A, G, W>, Result<Synced, SyncFault>)
+pub fn commit_in_lane<'a, 'b, R: Rack, A: Area, G: Gate, W: Wait>(
+    lane: Lane<'a, 'b, R, A, G, W>,
+) -> (Lane<'a, 'b, R, A, G, W>, Result<Synced, SyncFault>)
     requires whole { IsWholeLane R.Rack A.Area lane }
     ensures whole { IsWholeLane R.Rack A.Area result.0 }
     ensures same { IsSameLane lane.entry result.0 }

@@ -126,11 +126,11 @@ fn switch_locked<'a, R: Rack, A: Area, G: Gate, W: Wait>(
 
 /// Takes a leaf offline in all metaslabs, or back online, or in none of them, and waits for open writes of other lanes that
 /// are in its way.
-pub fn switch_in_lane<'a, R: Rack, A: Area, G: Gate, W: Wait>(
-    lane: Lane<'a, R, A, G, W>,
+pub fn switch_in_lane<'a, 'b, R: Rack, A: Area, G: Gate, W: Wait>(
+    lane: Lane<'a, 'b, R, A, G, W>,
     leaf: u64,
     offline: bool,
-) -> (Lane<'a, R, A, G, W>, Result<(), ArmFault>)
+) -> (Lane<'a, 'b, R, A, G, W>, Result<(), ArmFault>)
     requires whole { IsWholeLane R.Rack A.Area lane }
     ensures whole { IsWholeLane R.Rack A.Area result.0 }
     ensures same { IsSameLane lane.entry result.0 }
