@@ -6,6 +6,7 @@ mod changing;
 mod filling;
 mod freeing;
 mod lanes;
+mod running;
 mod switching;
 mod writing;
 
@@ -13,5 +14,6 @@ pub use changing::{free_in_lane, write_in_lane};
 pub use filling::fill_in_lane;
 pub use freeing::free_through;
 pub use lanes::{commit_in_lane, read_in_lane, sum_in_lane};
+pub use running::{InLane, LaneJob, run_jobs};
 pub use switching::{SwitchWork, switch_in_lane};
 pub use writing::write_through;
