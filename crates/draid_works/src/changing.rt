@@ -41,6 +41,7 @@ pub fn write_in_lane<'a, 'b, R: Rack, A: Area, G: Gate, W: Wait, F: Fn(&[Room]) 
     requires short { length bytes.now ≤ LONGEST_BLOCK }
     ensures whole { IsWholeLane R.Rack A.Area lane.new }
     ensures same { IsSameLane lane.old lane.new }
+    ensures pass { lane.new.pass ≡ lane.old.pass }
     ensures sets { WriteSetsTable object bytes.now (table_of lane.old) (table_of lane.new) result }
     ensures step { (x : State) → x.geometry ≡ lane.old.geometry → LaneKnows R.Rack A.Area lane.old x
         → LaneCarries R.Rack A.Area lane.old lane.new x (LooksBut (WriteDoes x (FnReturnsAt F.Fn chooser.now) object bytes.now result)) }
@@ -67,6 +68,7 @@ pub fn free_in_lane<'a, 'b, R: Rack, A: Area, G: Gate, W: Wait>(
     requires own { owned_by lane.old.metaslabs.passes.items object ≡ true }
     ensures whole { IsWholeLane R.Rack A.Area lane.new }
     ensures same { IsSameLane lane.old lane.new }
+    ensures pass { lane.new.pass ≡ lane.old.pass }
     ensures takes { TriesTake object (table_of lane.old) (table_of lane.new) (Some result) }
     ensures step { (x : State) → LaneKnows R.Rack A.Area lane.old x
         → LaneCarries R.Rack A.Area lane.old lane.new x (LooksBut (FreeDoes x object result)) }

@@ -55,6 +55,7 @@ pub fn fill_in_lane<'a, 'b, R: Rack, A: Area, G: Gate, W: Wait, F: Fn(&[Room]) -
     requires geometry { IsGeometry lane.old.geometry }
     ensures whole { IsWholeLane R.Rack A.Area lane.new }
     ensures same { IsSameLane lane.old lane.new }
+    ensures pass { lane.new.pass ≡ lane.old.pass }
     ensures fits { IsReplyTo (FillObjects first count len seed) result }
     ensures step { (x : State) → x.geometry ≡ lane.old.geometry → LaneKnows R.Rack A.Area lane.old x
         → LaneCarries R.Rack A.Area lane.old lane.new x (LooksBut (ReplyDoes x (choices_by (FnReturnsAt F.Fn chooser.now)) (FillObjects first count len seed) result)) }

@@ -33,6 +33,7 @@ pub fn read_in_lane<'a, 'b, R: Rack, A: Area, G: Gate, W: Wait>(
     requires geometry { IsGeometry lane.old.geometry }
     ensures whole { IsWholeLane R.Rack A.Area lane.new }
     ensures same { IsSameLane lane.old lane.new }
+    ensures pass { lane.new.pass ≡ lane.old.pass }
     ensures own { lane.new.own ≡ lane.old.own }
     ensures read { ReadFinds (table_of lane.old object) result }
     ensures step { (x : State) → x.geometry ≡ lane.old.geometry → LaneKnows R.Rack A.Area lane.old x
@@ -61,6 +62,7 @@ pub fn sum_in_lane<'a, 'b, R: Rack, A: Area, G: Gate, W: Wait>(
     requires range { first + count ≤ OBJECTS }
     ensures whole { IsWholeLane R.Rack A.Area lane.new }
     ensures same { IsSameLane lane.old lane.new }
+    ensures pass { lane.new.pass ≡ lane.old.pass }
     ensures own { lane.new.own ≡ lane.old.own }
     ensures sums { SumFinds (table_of lane.old) first count result }
     ensures step { (x : State) → x.geometry ≡ lane.old.geometry → LaneKnows R.Rack A.Area lane.old x

@@ -11,6 +11,7 @@ pub returns-in_default : goal.returns-in_default
 returns-in_default g c = record {
   whole = c.requires.whole;
   same = same_lane c.args.lane.now;
+  pass = refl;
   fits = (refl, (let some = c.requires.range.0.0 in omega (arith, some)));
   step = λ x layout knows. fill_unbegun g.R.Rack g.A.Area (LaneWent g.R.Rack g.A.Area) true (FnReturnsAt g.F.Fn c.args.chooser.now) c.args.first c.args.len c.args.seed x c.args.lane.now.metaslabs (LaneKnows g.R.Rack g.A.Area c.args.lane.now) c.args.count
       (let some = c.requires.range.0.0 in omega (arith, some)) knows;
@@ -21,6 +22,7 @@ loop-written-init g c = record {
   long = (let long = c.in-Ok.ensures.len in let ok = c.in-Ok.bytes.ok in omega (arith, long, ok));
   whole = c.requires.whole;
   same = same_lane c.args.lane.now;
+  pass = refl;
   filled = λ x layout knows. fills_none g.R.Rack g.A.Area (LaneWent g.R.Rack g.A.Area) true (FnReturnsAt g.F.Fn c.args.chooser.now) c.args.first c.args.len c.args.seed x c.args.lane.now.metaslabs (LaneKnows g.R.Rack g.A.Area c.args.lane.now) knows;
 }
 
@@ -41,6 +43,7 @@ returns-in-Err g c =
     record {
       whole = c.write_in_lane.ensures.whole;
       same = same_then c.args.lane.now c.loop-written.lane c.write_in_lane.new.lane c.loop-written.invariant.same c.write_in_lane.ensures.same;
+      pass = c.write_in_lane.ensures.pass ∙ c.loop-written.invariant.pass;
       fits = (refl, c.loop-written-test.true);
       step = λ x layout knows. lane_fill_stopped g.R.Rack g.A.Area c.args.lane.now c.loop-written.lane c.write_in_lane.new.lane c.loop-written.invariant.same (FnReturnsAt g.F.Fn c.args.chooser.now) c.args.first c.args.len c.args.seed
           c.loop-written.written c.deref.result.now c.write_in_lane.result is c.write_in_lane.ensures.step x layout (c.loop-written.invariant.filled x layout knows) c.args.count c.in-Err.why c.in-Err.is
@@ -59,6 +62,7 @@ loop-written-preserved g c =
       long = ap length all ∙ kept ∙ long;
       whole = c.write_in_lane.ensures.whole;
       same = same_then c.args.lane.now c.loop-written.lane c.write_in_lane.new.lane c.loop-written.invariant.same c.write_in_lane.ensures.same;
+      pass = c.write_in_lane.ensures.pass ∙ c.loop-written.invariant.pass;
       filled = λ x layout knows. lane_fills_more g.R.Rack g.A.Area c.args.lane.now c.loop-written.lane c.write_in_lane.new.lane c.loop-written.invariant.same (FnReturnsAt g.F.Fn c.args.chooser.now) c.args.first c.args.len c.args.seed
           c.loop-written.written c.deref.result.now c.write_in_lane.result is c.write_in_lane.ensures.step x layout (c.loop-written.invariant.filled x layout knows) c.in_default-write_in_lane.is;
     }
@@ -70,6 +74,7 @@ returns g c =
     record {
       whole = c.loop-written.invariant.whole;
       same = c.loop-written.invariant.same;
+      pass = c.loop-written.invariant.pass;
       fits = (refl, refl);
       step = λ x layout knows. fills_all g.R.Rack g.A.Area (LaneWent g.R.Rack g.A.Area) true (FnReturnsAt g.F.Fn c.args.chooser.now) c.args.first c.args.len c.args.seed x c.args.lane.now.metaslabs c.loop-written.lane.metaslabs
           (KnowsThen g.R.Rack g.A.Area c.args.lane.now c.loop-written.lane) c.loop-written.written c.args.count (omega (arith, ends, upto)) (c.loop-written.invariant.filled x layout knows);

@@ -13,6 +13,7 @@ invariant-loop-written g l = record {
   long : length l.bytes.items ≡ l.fn.len;
   whole : IsWholeLane g.R.Rack g.A.Area l.lane;
   same : IsSameLane l.initial.lane l.lane;
+  pass : l.lane.pass ≡ l.initial.lane.pass;
   filled : (x : State) → x.geometry ≡ l.initial.lane.geometry → LaneKnows g.R.Rack g.A.Area l.initial.lane x
       → LaneCarries g.R.Rack g.A.Area l.initial.lane l.lane x (LooksBut (FillsOf x (FnReturnsAt g.F.Fn l.fn.chooser) l.fn.first l.fn.len l.fn.seed l.written));
 }
