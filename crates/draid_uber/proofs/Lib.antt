@@ -1,3 +1,4 @@
+pub mod Recorded
 pub mod Choices
 pub mod Commits
 pub mod Ends

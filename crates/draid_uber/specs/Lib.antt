@@ -1,3 +1,4 @@
+pub mod Checks
 pub mod Held
 pub mod Slots
 pub mod Steps

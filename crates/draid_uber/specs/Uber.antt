@@ -1,4 +1,4 @@
--- An uberblock area with what was committed, and what the next commit writes.
+-- A pool's own areas with what was committed, and what the next commit writes.
 use Rattle.std.specs.Prelude.{◌≡◌, ◌≤◌, ◌⊎◌, ⊤, ℕ, false, Option, None, Some, Result, Ok, Err, option_map, replicate}
 use Rattle.draid_area.specs.Area.{Content}
 use Rattle.draid_record.specs.declared.fault.RecordFault.{RecordFault}
@@ -13,11 +13,21 @@ use Rattle.draid_uber.specs.declared.uber.Uber.{Uber}
 use Rattle.draid_uber.specs.declared.uber.UberFault.{UberFault}
 use Rattle.draid_uber.specs.declared.uber.UberFault.TheVariants as faults
 use Rattle.draid_uber.specs.declared.uber.UberRefused.{UberRefused}
+use Rattle.draid_uber.specs.declared.areas.Areas.{Areas}
+use Rattle.draid_uber.specs.Checks.{count_in}
 use Rattle.draid_uber.specs.Held.{IsHeld}
 use Rattle.draid_uber.specs.Slots.{area_bytes, read_body}
 
+abbrev pub areas_of : {A : Type 0} → Uber A → Areas A
+areas_of uber = uber.areas
+
+-- the area of the uberblock
 abbrev pub area_of : {A : Type 0} → Uber A → A
-area_of uber = uber.area
+area_of uber = uber.areas.uber
+
+-- how often calls on the areas have failed
+abbrev pub count_of : {A : Type 0} → (A → ℕ) → Uber A → ℕ
+count_of faults uber = count_in faults uber.areas
 
 -- what the last commit wrote; None before the first
 abbrev pub kept_of : {A : Type 0} → Uber A → Option UberBody
@@ -60,7 +70,7 @@ next_of uber group = record {
 -- the parts fit together, and the area has both slots
 pub record Valid {A : Type 0} (size : A → ℕ) (uber : Uber A) : Type 0 where
   pub held : IsHeld uber.kept uber.geometry uber.version uber.next_leaf
-  pub long : area_bytes ≤ size uber.area
+  pub long : area_bytes ≤ size uber.areas.uber
 
 -- an area of a new pool: zeros, all of which outlast a crash
 pub record IsNewArea (x : Content) : Type 0 where

@@ -8,12 +8,15 @@ ghost use Rattle.draid_names.specs.declared.numbers.TheConstants.{LAST_NUMBER};
 ghost use Rattle.draid_spec.specs.Geometry.{IsGeometry};
 ghost use Rattle.draid_uber.specs.Uber.{IsWhy};
 
+use crate::areas::Areas;
+use crate::checks::put_check;
 use crate::slots::{chosen, layout};
 use crate::steps::{clear, write};
 use draid_area::Area;
 use draid_names::DeviceFault;
 use draid_record::{RecordFault, RecordFaultKind, UberBody};
 use draid_spec::Geometry;
+use std::alloc::Global;
 
 /// Why an uberblock area gave no uberblock.
 #[derive(Clone, Copy, PartialEq, Eq)]
@@ -27,17 +30,17 @@ pub enum UberFault {
     Record { at: u64, kind: RecordFaultKind },
 }
 
-/// A refusal, with the area.
+/// A refusal, with the areas.
 #[derive(Drop)]
 pub struct UberRefused<A: Area> {
-    pub area: A,
+    pub areas: Areas<A>,
     pub why: UberFault,
 }
 
-/// The area of the uberblock, with the committed group and what the next commit writes.
+/// The areas of a pool that aren't a metaslab's, with the committed group and what the next commit writes.
 #[derive(Drop)]
 pub struct Uber<A: Area> {
-    area: A,
+    areas: Areas<A>,
     /// What the last commit wrote; nothing before the first.
     kept: Option<UberBody>,
     /// The layout, with the committed version.
@@ -46,6 +49,7 @@ pub struct Uber<A: Area> {
     version: u32,
     /// The number of the next new leaf.
     next_leaf: u64,
+    alloc: Global,
 }
 
 /// The uberblock that an area told, or why it told none.
@@ -69,17 +73,22 @@ impl<A: Area> Uber<A> {
     ghost use Rattle.draid_uber.specs.Held.{IsNext};
     ghost use Rattle.draid_uber.specs.Steps.{IsSameOrFlushed};
     ghost use Rattle.draid_uber.specs.Slots.{StandsTold, chosen_of, group_of};
-    ghost use Rattle.draid_uber.specs.Uber.{layout_in, next_of, Finds, IsNewArea, Valid, area_of, kept_of, layout_of, next_leaf_of, version_of};
+    ghost use Rattle.draid_uber.specs.Checks.{AreasStand, LeavesAny, told_by};
+    ghost use Rattle.draid_uber.specs.Uber.{layout_in, next_of, Finds, IsNewArea, Valid, area_of, areas_of, count_of, kept_of, layout_of, next_leaf_of, version_of};
 
     /// The uberblock of a new pool, of which nothing is committed yet. A crash leaves no open gate.
     #[tactic(auto, using(crate::proofs::Choices::new_area))]
-    pub fn create(geometry: Geometry, area: A) -> Result<Uber<A>, UberRefused<A>>
+    pub fn create(
+        alloc: Global,
+        geometry: Geometry,
+        areas: Areas<A>,
+    ) -> Result<Uber<A>, UberRefused<A>>
         requires layout { IsGeometry geometry }
-        requires size { A.size area ≡ 1024 }
-        requires new { OnTold (A.told area) IsNewArea }
+        requires size { A.size areas.uber ≡ 1024 }
+        requires new { OnTold (A.told areas.uber) IsNewArea }
         ensures always { IsOk result }
         ensures valid { IfOk result (Valid A.size) }
-        ensures area { IfOk result (λ uber. area_of uber ≡ area) }
+        ensures areas { IfOk result (λ uber. areas_of uber ≡ areas) }
         ensures crash { IfOk result (λ uber. StandsTold None [] (A.told (area_of uber))) }
         ensures none { IfOk result (λ uber. kept_of uber ≡ None) }
         ensures layout { IfOk result (λ uber. layout_of uber ≡ geometry) }
@@ -87,44 +96,50 @@ impl<A: Area> Uber<A> {
         ensures leaf { IfOk result (λ uber. next_leaf_of uber ≡ geometry.spec.children) }
     {
         Ok(Uber {
-            area,
+            areas,
             kept: None,
             geometry,
             version: geometry.props.version,
             next_leaf: u64::from(geometry.spec.children),
+            alloc,
         })
     }
 
-    /// The uberblock that an import takes from an area. The area is flushed before it is read, so that no gate which is read
+    /// The uberblock that an import takes from its area. The area is flushed before it is read, so that no gate which is read
     /// may come out of a crash in another form.
-    pub fn recover(area: A) -> Result<Uber<A>, UberRefused<A>>
+    pub fn recover(alloc: Global, areas: Areas<A>) -> Result<Uber<A>, UberRefused<A>>
         ensures valid { IfOk result (Valid A.size) }
 
         // It is what the bytes say, or their first fault, unless the area fails or memory runs out.
-        ensures finds { OnTold (A.told area) (λ x. Finds result (chosen_of x.bytes)) }
+        ensures finds { OnTold (A.told areas.uber) (λ x. Finds result (chosen_of x.bytes)) }
         ensures some { IfOk result (λ uber. IsSomeAnd (kept_of uber) (λ body.
             (version_of uber ≡ body.props.version) × (next_leaf_of uber ≡ body.next_leaf))) }
         ensures ranges { IfOk result (λ uber. IsSomeAnd (kept_of uber) IsUber) }
 
         // From then on a crash leaves it alone.
         ensures crash { IfOk result (λ uber. StandsTold (kept_of uber) [] (A.told (area_of uber))) }
-        ensures flushed { IfOk result (λ uber. A.told (area_of uber) ≡ option_map flushes (A.told area)) }
-        ensures err { IfErr result (λ refused. IsSameOrFlushed (A.told area) (A.told refused.area)) }
-        ensures empty { IfErr result (λ refused. refused.why ≡ UberFault.Empty → A.told refused.area ≡ option_map flushes (A.told area)) }
-        ensures later { IfOk result (λ uber. A.faults area ≤ A.faults (area_of uber)) }
-        ensures err_later { IfErr result (λ refused. A.faults area ≤ A.faults refused.area) }
-        ensures cause { IfErr result (λ refused. refused.why ≡ UberFault.Area → Rose (A.faults area) (A.faults refused.area)) }
+        ensures flushed { IfOk result (λ uber. A.told (area_of uber) ≡ option_map flushes (A.told areas.uber)) }
+        ensures err { IfErr result (λ refused. IsSameOrFlushed (A.told areas.uber) (A.told refused.areas.uber)) }
+        ensures empty { IfErr result (λ refused. refused.why ≡ UberFault.Empty → A.told refused.areas.uber ≡ option_map flushes (A.told areas.uber)) }
+        ensures later { IfOk result (λ uber. A.faults areas.uber ≤ A.faults (area_of uber)) }
+        ensures err_later { IfErr result (λ refused. A.faults areas.uber ≤ A.faults refused.areas.uber) }
+        ensures cause { IfErr result (λ refused. refused.why ≡ UberFault.Area → Rose (A.faults areas.uber) (A.faults refused.areas.uber)) }
+
+        // The areas of the check records aren't touched.
+        ensures others { IfOk result (λ uber. areas_of uber ≡ record areas { uber = area_of uber }) }
+        ensures err_others { IfErr result (λ refused. refused.areas ≡ record areas { uber = refused.areas.uber }) }
     {
-        let mut area = area;
-        match found(chosen(&mut area)) {
+        let mut areas = areas;
+        match found(chosen(&mut areas.uber)) {
             Ok(body) => Ok(Uber {
-                area,
+                areas,
                 kept: Some(body),
                 geometry: layout(&body),
                 version: body.props.version,
                 next_leaf: body.next_leaf,
+                alloc,
             }),
-            Err(why) => Err(UberRefused { area, why }),
+            Err(why) => Err(UberRefused { areas, why }),
         }
     }
 
@@ -159,7 +174,7 @@ impl<A: Area> Uber<A> {
         requires valid { Valid A.size self.old }
         ensures valid { Valid A.size self.new }
         ensures leaf { next_leaf_of self.new ≡ next }
-        ensures area { area_of self.new ≡ area_of self.old }
+        ensures areas { areas_of self.new ≡ areas_of self.old }
         ensures kept { kept_of self.new ≡ kept_of self.old }
         ensures layout { layout_of self.new ≡ layout_of self.old }
         ensures version { version_of self.new ≡ version_of self.old }
@@ -184,8 +199,8 @@ impl<A: Area> Uber<A> {
         }
     }
 
-    /// Commits a group, the one behind the committed one. After a refusal the committed group is as before, and the call
-    /// may be made again.
+    /// Commits a group, the one behind the committed one, and writes no check record. After a refusal the committed group is
+    /// as before, and the call may be made again.
     pub fn commit(&mut self, group: u64) -> Result<(), DeviceFault>
         requires next { IsNext (kept_of self.old) group }
         requires valid { Valid A.size self.old }
@@ -204,10 +219,11 @@ impl<A: Area> Uber<A> {
         ensures same_layout { OnErr result (layout_of self.new ≡ layout_of self.old) }
         ensures version { version_of self.new ≡ version_of self.old }
         ensures leaf { next_leaf_of self.new ≡ next_leaf_of self.old }
+        ensures others { areas_of self.new ≡ record (areas_of self.old) { uber = area_of self.new } }
         ensures cause { Counts result (A.faults (area_of self.old)) (A.faults (area_of self.new)) }
     {
         let body = self.next(group);
-        write(&mut self.area, &body)?;
+        write(&mut self.areas.uber, &body)?;
         self.kept = Some(body);
         self.geometry.props.version = self.version;
         Ok(())
@@ -227,9 +243,36 @@ impl<A: Area> Uber<A> {
         ensures layout { layout_of self.new ≡ layout_of self.old }
         ensures version { version_of self.new ≡ version_of self.old }
         ensures leaf { next_leaf_of self.new ≡ next_leaf_of self.old }
+        ensures others { areas_of self.new ≡ record (areas_of self.old) { uber = area_of self.new } }
         ensures cause { Counts result (A.faults (area_of self.old)) (A.faults (area_of self.new)) }
     {
-        clear(&mut self.area, group)
+        clear(&mut self.areas.uber, group)
+    }
+
+    /// Commits a group, the one behind the committed one, with its check record. That is written while no gate of the group
+    /// is open. After a refusal the committed group is as before, and the call may be made again.
+    pub fn commit_with_check(&mut self, group: u64) -> Result<(), DeviceFault>
+        requires next { IsNext (kept_of self.old) group }
+        requires valid { Valid A.size self.old }
+        ensures valid { Valid A.size self.new }
+
+        // Whatever a crash leaves, an import finds the committed group or the new one, and the check record of what it finds.
+        ensures refused { (pending : List UberBody) → AreasStand (kept_of self.old) pending (told_by A.told (areas_of self.old))
+            → OnErr result (LeavesAny (kept_of self.old) (next_of self.old group ∷ pending) (told_by A.told (areas_of self.new))) }
+        ensures committed { (pending : List UberBody) → AreasStand (kept_of self.old) pending (told_by A.told (areas_of self.old))
+            → OnOk result (AreasStand (Some (next_of self.old group)) [] (told_by A.told (areas_of self.new))) }
+
+        ensures kept { OnOk result (kept_of self.new ≡ Some (next_of self.old group)) }
+        ensures same { OnErr result (kept_of self.new ≡ kept_of self.old) }
+        ensures layout { OnOk result (layout_of self.new ≡ layout_in (layout_of self.old) (version_of self.old)) }
+        ensures same_layout { OnErr result (layout_of self.new ≡ layout_of self.old) }
+        ensures version { version_of self.new ≡ version_of self.old }
+        ensures leaf { next_leaf_of self.new ≡ next_leaf_of self.old }
+        ensures cause { Counts result (count_of A.faults self.old) (count_of A.faults self.new) }
+    {
+        self.shut(group)?;
+        put_check(self.alloc, &mut self.areas, group)?;
+        self.commit(group)
     }
 
     /// Has the next commit write version 2.
@@ -237,7 +280,7 @@ impl<A: Area> Uber<A> {
         requires valid { Valid A.size self.old }
         ensures valid { Valid A.size self.new }
         ensures version { version_of self.new ≡ 2 }
-        ensures area { area_of self.new ≡ area_of self.old }
+        ensures areas { areas_of self.new ≡ areas_of self.old }
         ensures kept { kept_of self.new ≡ kept_of self.old }
         ensures layout { layout_of self.new ≡ layout_of self.old }
         ensures leaf { next_leaf_of self.new ≡ next_leaf_of self.old }
@@ -245,10 +288,10 @@ impl<A: Area> Uber<A> {
         self.version = 2;
     }
 
-    /// The area.
-    pub fn into_area(self) -> A
-        ensures { result ≡ area_of self }
+    /// The areas.
+    pub fn into_areas(self) -> Areas<A>
+        ensures { result ≡ areas_of self }
     {
-        self.area
+        self.areas
     }
 }

@@ -1,8 +1,8 @@
 use Rattle.std.proofs.Common.{refl}
 use Rattle.draid_uber.proofs.uber.Uber.create.Goals as goal
 
-pub returns-clause-area : goal.returns-clause-area
-returns-clause-area g c = refl
+pub returns-clause-areas : goal.returns-clause-areas
+returns-clause-areas g c = refl
 
 pub returns-clause-none : goal.returns-clause-none
 returns-clause-none g c = refl

@@ -13,7 +13,7 @@ pub returns-in-Ok : goal.returns-in-Ok
 returns-in-Ok g c =
     let body = c.in-Ok.body in
     let is = c.in-Ok.ensures.body in
-    let old = g.A.Area.told c.args.area in
+    let old = g.A.Area.told c.args.areas.uber in
     let ranges = c.chosen.ensures.ranges body is in
     let chosen : OnTold old (λ x. Some (Ok body) ≡ chosen_of x.bytes) = subst (λ (r : Result Choice DeviceFault). IfOk r (λ k. OnTold old (λ x. k ≡ chosen_of x.bytes))) is c.chosen.ensures.chosen in
     record {
@@ -28,12 +28,14 @@ returns-in-Ok g c =
       later = c.chosen.ensures.later;
       err_later = tt;
       cause = tt;
+      others = refl;
+      err_others = tt;
     }
 
 pub returns-in-Err : goal.returns-in-Err
 returns-in-Err g c =
     let e = c.chosen.ensures in
-    let r = refused c.in-Err.why c.chosen.result (g.A.Area.told c.args.area) _ _ c.in-Err.ensures.why e.chosen e.flushed e.err e.cause in
+    let r = refused c.in-Err.why c.chosen.result (g.A.Area.told c.args.areas.uber) _ _ c.in-Err.ensures.why e.chosen e.flushed e.err e.cause in
     record {
       valid = tt;
       finds = r.finds;
@@ -46,4 +48,6 @@ returns-in-Err g c =
       later = tt;
       err_later = e.later;
       cause = r.cause;
+      others = tt;
+      err_others = refl;
     }

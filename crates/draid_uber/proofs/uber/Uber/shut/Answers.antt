@@ -14,5 +14,6 @@ returns g c =
       layout = refl;
       version = refl;
       leaf = refl;
+      others = refl;
       cause = c.clear.ensures.cause;
     }
