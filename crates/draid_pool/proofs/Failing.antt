@@ -2,14 +2,21 @@
 use Rattle.std.proofs.Common.{◌≡◌, ◌∙◌, inl, inr, arith, ap, ℕ, Option, None}
 use Rattle.draid_rack.specs.declared.Rack as racks
 use Rattle.draid_area.specs.declared.Area as areas
-use Rattle.draid_shelf.specs.Kits.{Held, KitCounts}
-use Rattle.draid_uber.specs.Uber.{area_of}
-use Rattle.draid_pool.specs.Returning.{OwnCounts, Returns, AreaFailed, RackFailed}
+use Rattle.draid_shelf.specs.Kits.{CheckCounts, Held, KitCounts}
+use Rattle.draid_uber.specs.Checks.{count_in}
+use Rattle.draid_uber.specs.declared.areas.Areas.{Areas}
+use Rattle.draid_uber.specs.Uber.{count_of}
+use Rattle.draid_pool.specs.Returning.{OwnCounts, Returns, AreaFailed, RackFailed, own_count}
 use Rattle.draid_pool.specs.Failing.{AreaFails, RackFails}
 use Rattle.draid_pool.specs.declared.pool.Pool.{Pool}
 
+-- the counts of areas that were given
+pub own_given : {A : Type 0} (faults : A → ℕ) (areas : Areas A) (uber : ℕ) (checks : CheckCounts) → uber ≡ faults areas.uber → checks ≡ record { even = faults areas.even; odd = faults areas.odd }
+    → own_count (record { uber = uber; checks = checks }) ≡ count_in faults areas
+own_given faults areas uber checks is are = λ i. own_count (record { uber = is i; checks = are i })
+
 pub shows_there : {R A : Type 0} (rack : racks.Ghosts R) (area : areas.Ghosts A) (pool : Pool R A) (told mid : Option Held) (before after new : ℕ → KitCounts) (own : OwnCounts) → Returns rack area pool.metaslabs.shards.items told mid before after
-    → ((m : ℕ) → new m ≡ after m) → own.uber ≡ area.faults (area_of pool.uber) → AreaFails area.faults pool → AreaFailed new own
+    → ((m : ℕ) → new m ≡ after m) → own_count own ≡ count_of area.faults pool.uber → AreaFails area.faults pool → AreaFailed new own
 shows_there rack area pool told mid before after new own returns same uber failed = elim failed [
   | inl some ↦ inr (omega (arith, uber, some))
   | inr at ↦

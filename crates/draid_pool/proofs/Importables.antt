@@ -13,8 +13,9 @@ use Rattle.draid_machine.specs.State as machine
 use Rattle.draid_spec.specs.declared.layout.Geometry.{Geometry}
 use Rattle.draid_record.specs.Written.{record_bytes}
 use Rattle.draid_segments.specs.Segments.{Pieces}
-use Rattle.draid_shelf.specs.Kits.{Both, ChecksTold, CrashedChecks, CrashedHeld, CrashedKit, Held, KitCounts, KitTold, OnHeld, gives_uber, puts_uber}
+use Rattle.draid_shelf.specs.Kits.{Both, ChecksTold, CrashedChecks, CrashedHeld, CrashedKit, Held, KitCounts, KitTold, OnHeld, puts_checks, puts_uber}
 use Rattle.draid_stable.specs.Stable as stable
+use Rattle.draid_uber.specs.Checks.{AreasTold}
 use Rattle.draid_shard.specs.declared.shard.Shard.{Shard}
 use Rattle.draid_session.specs.Opening.{VersionIn}
 use Rattle.draid_session.specs.State.{Metaslab, State}
@@ -23,6 +24,7 @@ use Rattle.draid_pool.specs.Groups.{ListsOnce}
 use Rattle.draid_pool.specs.Importable.{AllAlike, HasImageLeaves, HasPoolVersions, IsImportable, Shared}
 use Rattle.draid_pool.specs.Metaslabs.{IsMetaslab}
 use Rattle.draid_pool.specs.Pools.{part_in}
+use Rattle.draid_pool.specs.Taking.{gives_areas}
 use Rattle.draid_pool.proofs.Alike.{GroupsStand, images_alike}
 use Rattle.draid_pool.proofs.Returned.{area_told, kit_is}
 use Rattle.draid_pool.proofs.ImageLeaves.{leaves_there}
@@ -69,18 +71,21 @@ module _ {R A : Type 0} (rack : racks.Ghosts R) (area : areas.Ghosts A) (shards 
           subst (λ o. IsSomeAnd o (HasImageLeaves x.geometry image)) (sym (shapes m s.0 s.1)) (leaves_there rack area (part_in x m) (pieces m) s.0 y image (each m s.0 y s.1 at) is));
     }
 
-    with_uber : (u : Content) (held : Held) → IsImportable x held leaves → IsImportable x (puts_uber (Some u) held) leaves
-    with_uber u held i = record { findable = i.findable; alike = i.alike; once = i.once; there = i.there }
+    with_areas : (u : Content) (checks : ChecksTold) (held : Held) → IsImportable x held leaves → IsImportable x (puts_checks (Some checks) (puts_uber (Some u) held)) leaves
+    with_areas u checks held i = record { findable = i.findable; alike = i.alike; once = i.once; there = i.there }
 
-    held_importable : (c : Option Content) (a b : Option Held) → OnHeld b (λ y. MatchOption a ⊥ (λ z. TakesBack rack area shards z y)) → OnHeld (gives_uber c b) (λ held. IsImportable x held leaves)
-    held_importable None a b h = tt
-    held_importable (Some u) a None h = tt
-    held_importable (Some u) None (Some b) h = absurd h
-    held_importable (Some u) (Some a) (Some b) h = with_uber u b (importable_given a b h)
+    held_importable : (u e o : Option Content) (a b : Option Held) → OnHeld b (λ y. MatchOption a ⊥ (λ z. TakesBack rack area shards z y))
+        → OnHeld (gives_areas (record { uber = u; even = e; odd = o }) b) (λ held. IsImportable x held leaves)
+    held_importable u None o a b h = tt
+    held_importable u (Some e) None a b h = tt
+    held_importable None (Some e) (Some o) a b h = tt
+    held_importable (Some u) (Some e) (Some o) a None h = tt
+    held_importable (Some u) (Some e) (Some o) None (Some b) h = absurd h
+    held_importable (Some u) (Some e) (Some o) (Some a) (Some b) h = with_areas u (record { even = e; odd = o }) b (importable_given a b h)
 
-    pub importable_back : (content : Option Content) (old mid : Option Held) (before after : ℕ → KitCounts) → Returns rack area shards old mid before after → (new : Option Held) → new ≡ gives_uber content mid
+    pub importable_back : (told : AreasTold) (old mid : Option Held) (before after : ℕ → KitCounts) → Returns rack area shards old mid before after → (new : Option Held) → new ≡ gives_areas told mid
         → OnHeld new (λ held. IsImportable x held leaves)
-    importable_back content old mid before after r new gives = subst (λ o. OnHeld o (λ held. IsImportable x held leaves)) (sym gives) (held_importable content old mid r.held)
+    importable_back told old mid before after r new gives = subst (λ o. OnHeld o (λ held. IsImportable x held leaves)) (sym gives) (held_importable told.uber told.even told.odd old mid r.held)
 
 -- ---- a crash
 

@@ -1,8 +1,8 @@
 -- The uberblock of a pool names a group, or is refused it.
 use Rattle.std.proofs.Common.{◌≡◌, ◌==◌, ◌<◌, ◌+◌, ◌∙◌, [], ◌∷◌, inl, inr, ℕ, true, false, List, Option, Some, None, arith, refl, sym, ap, subst, if◌then◌else◌}
-use Rattle.std.specs.Prelude.{is_some, slice_get}
+use Rattle.std.specs.Prelude.{Contains, is_some, slice_get}
 use Rattle.std.proofs.lemmas.Option.{slice_get_within}
-use Rattle.std.proofs.lemmas.List.Elements.{All-cons, All-nil, All-weaker}
+use Rattle.std.proofs.lemmas.List.Elements.{All-cons, All-contains, All-nil, All-weaker}
 use Rattle.sha2.specs.Sha256.{sha256}
 use Rattle.draid_names.specs.declared.pointer.Pointer.{Pointer}
 use Rattle.draid_rack.specs.declared.Rack as racks
@@ -11,9 +11,9 @@ use Rattle.draid_machine.specs.State as machine
 use Rattle.draid_machine.proofs.Small.{absurd_test, bool_cases, is_equal, some_injective}
 use Rattle.draid_objects.proofs.Keeping.{commit_kept}
 use Rattle.draid_shard.specs.declared.shard.Shard.{Shard}
-use Rattle.draid_uber.specs.Slots.{StandsTold}
+use Rattle.draid_uber.specs.Checks.{AreasStand, told_by}
 use Rattle.draid_uber.specs.Uber as ubers
-use Rattle.draid_uber.specs.Uber.{Valid, area_of, kept_of, layout_of, next_leaf_of, next_of, version_of, with_version}
+use Rattle.draid_uber.specs.Uber.{Valid, areas_of, count_of, kept_of, layout_of, next_leaf_of, next_of, version_of, with_version}
 use Rattle.draid_uber.specs.declared.uber.Uber.{Uber}
 use Rattle.draid_session.specs.State.{Metaslab, State}
 use Rattle.draid_pool.specs.Objects.{blocks_of}
@@ -42,9 +42,12 @@ module _ {A : Type 0} (area : areas.Ghosts A) (old new : Uber A) (group : ℕ) (
   next_is : next_of old group ≡ body_of x.geometry x.next_version group x.next_leaf
   next_is = λ i. record { group = group; spec = (is.layout i).spec; props = with_version (is.layout i).props (is.version i); next_leaf = is.next_leaf i }
 
-  pub uber_named : Names area old new group → 0 < group → IsUber area new (named_state x group (area.faults (area_of new)))
+  stood_before : AreasStand (kept_of old) is.stands.pending (told_by area.told (areas_of old))
+  stood_before = subst (λ kept. AreasStand kept is.stands.pending (told_by area.told (areas_of old))) (sym is.kept) is.stands.stands
+
+  pub uber_named : Names area old new group → 0 < group → IsUber area new (named_state x group (count_of area.faults new))
   uber_named n some =
-      let own : Some (next_of old group) ≡ kept_in (named_state x group (area.faults (area_of new)))
+      let own : Some (next_of old group) ≡ kept_in (named_state x group (count_of area.faults new))
       = ap Some next_is ∙ sym (ap (λ b. if b then None else Some (body_of x.geometry x.next_version group x.next_leaf)) (none_is group some)) in
       record {
         valid = n.valid;
@@ -55,15 +58,18 @@ module _ {A : Type 0} (area : areas.Ghosts A) (old new : Uber A) (group : ℕ) (
         count = refl;
         stands = record {
           pending = [];
-          are = All-nil (IsPending (named_state x group (area.faults (area_of new))));
-          stands = subst (λ kept. StandsTold kept [] (area.told (area_of new))) own
-              (n.stands is.stands.pending (subst (λ kept. StandsTold kept is.stands.pending (area.told (area_of old))) (sym is.kept) is.stands.stands));
+          are = All-nil (IsPending (named_state x group (count_of area.faults new)));
+          stands = subst (λ kept. AreasStand kept [] (told_by area.told (areas_of new))) own (n.stands is.stands.pending stood_before);
         };
       }
 
-  pub uber_refused : Refuses area old new group → group ≡ x.committed + 1 → IsUber area new (refused_state x (area.faults (area_of new)))
+  pub uber_refused : Refuses area old new group → group ≡ x.committed + 1 → IsUber area new (refused_state x (count_of area.faults new))
   uber_refused n behind =
-      let after = refused_state x (area.faults (area_of new)) in
+      let after = refused_state x (count_of area.faults new) in
+      let may = next_of old group ∷ is.stands.pending in
+      let left = n.stands is.stands.pending stood_before in
+      let all = All-cons (IsPending after) (next_of old group) is.stands.pending (refl, next_is ∙ ap (λ g. body_of x.geometry x.next_version g x.next_leaf) behind)
+          (All-weaker (IsPending x) (IsPending after) (λ body pending. (refl, pending.1)) is.stands.pending is.stands.are) in
       record {
         valid = n.valid;
         layout = n.layout ∙ is.layout;
@@ -72,11 +78,9 @@ module _ {A : Type 0} (area : areas.Ghosts A) (old new : Uber A) (group : ℕ) (
         next_leaf = n.next_leaf ∙ is.next_leaf;
         count = refl;
         stands = record {
-          pending = next_of old group ∷ is.stands.pending;
-          are = All-cons (IsPending after) (next_of old group) is.stands.pending (refl, next_is ∙ ap (λ g. body_of x.geometry x.next_version g x.next_leaf) behind)
-              (All-weaker (IsPending x) (IsPending after) (λ body pending. (refl, pending.1)) is.stands.pending is.stands.are);
-          stands = subst (λ kept. StandsTold kept (next_of old group ∷ is.stands.pending) (area.told (area_of new))) is.kept
-              (n.stands is.stands.pending (subst (λ kept. StandsTold kept is.stands.pending (area.told (area_of old))) (sym is.kept) is.stands.stands));
+          pending = left.pending;
+          are = All-weaker (Contains may) (IsPending after) (λ body among. All-contains (IsPending after) may body all among) left.pending left.among;
+          stands = subst (λ kept. AreasStand kept left.pending (told_by area.told (areas_of new))) is.kept left.stands;
         };
       }
 

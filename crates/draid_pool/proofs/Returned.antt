@@ -15,7 +15,7 @@ use Rattle.draid_map.specs.Place.{IsLayout}
 use Rattle.draid_machine.specs.Created.{IsReached}
 use Rattle.draid_layouts.specs.Layout.{layout_of}
 use Rattle.draid_segments.specs.Segments.{Backed, Pieces}
-use Rattle.draid_shelf.specs.Kits.{AreNewChecks, Both, CrashedChecks, CrashedHeld, CrashedKit, Held, IsNewArea, KitCounts, KitTold, OnHeld, gives_kit, gives_uber, kit_of, puts_uber}
+use Rattle.draid_shelf.specs.Kits.{Both, ChecksTold, CrashedChecks, CrashedHeld, CrashedKit, Held, KitCounts, KitTold, OnHeld, gives_kit, kit_of, puts_checks, puts_uber}
 use Rattle.draid_shelf.specs.Shelf.{SameOthers}
 use Rattle.draid_stable.specs.Stable as stable
 use Rattle.draid_stable.proofs.Lasting.{stable_left}
@@ -23,15 +23,17 @@ use Rattle.draid_shard.specs.declared.shard.Shard.{Shard}
 use Rattle.draid_pool.specs.Groups.{ListsOnce, at_version}
 use Rattle.draid_shard.specs.Part.{Part, layout_in}
 use Rattle.draid_shard.specs.States.{layout_by}
-use Rattle.draid_uber.specs.Uber.{area_of}
-use Rattle.draid_uber.proofs.Imports.{crash_stands}
+use Rattle.draid_uber.specs.Checks.{AreasTold, told_by}
+use Rattle.draid_uber.specs.Uber.{areas_of}
+use Rattle.draid_uber.proofs.Recorded.{crash_areas}
 use Rattle.draid_session.specs.State.{Metaslab, State}
-use Rattle.draid_pool.specs.Returning.{AllTell, HoldsPool, Rests, RestsOn, Returns, ReturnsLeaves, SameCounts, TakesBack, kit_in}
+use Rattle.draid_pool.specs.Returning.{AllTell, HoldsPool, Rests, RestsOn, Returns, ReturnsLeaves, SameCounts, TakesBack, areas_told, kit_in}
 use Rattle.draid_pool.specs.Metaslabs.{IsMetaslab, harm_of}
 use Rattle.draid_pool.specs.Objects.{HoldsObjects, blocks_of}
 use Rattle.draid_pool.specs.Pools.{Stands, part_in}
 use Rattle.draid_pool.specs.Importable.{AllAlike, HasPoolVersions, Shared}
 use Rattle.draid_pool.specs.Records.{HasImages, HasLeafNumbers, area_for}
+use Rattle.draid_pool.specs.Taking.{gives_areas}
 use Rattle.draid_pool.specs.Ubers.{UberStands, kept_in}
 use Rattle.draid_pool.specs.declared.pool.Pool.{Pool}
 use Rattle.draid_pool.proofs.Lists.{present, some_of}
@@ -240,8 +242,8 @@ area_told group e o kit P even odd h = by (group % 2 == 0) h
     by false h = on_some o kit.odd P odd h
 
 module _ {R A : Type 0} (rack : racks.Ghosts R) (area : areas.Ghosts A) where
-  -- Shards that stand for the metaslabs of a state, and an uberblock whose area tells what an import may find of it.
-  pub record Parts (shards : List (Shard R A)) (content : Option Content) (x : State) : Type 0 where
+  -- Shards that stand for the metaslabs of a state, and areas that tell what an import may find of it.
+  pub record Parts (shards : List (Shard R A)) (told : AreasTold) (x : State) : Type 0 where
     pub layout : IsLayout x.geometry x.perms
     pub many : length x.metaslabs ≡ x.geometry.props.metaslabs
     pub shards_are : length shards ≡ length x.metaslabs
@@ -249,14 +251,14 @@ module _ {R A : Type 0} (rack : racks.Ghosts R) (area : areas.Ghosts A) where
     pub each : (m : ℕ) (shard : Shard R A) (y : Metaslab) → slice_get shards m ≡ Some shard → slice_get x.metaslabs m ≡ Some y
         → IsMetaslab rack area (part_in x m) (pieces m) shard y
     pub holds : HoldsObjects x.geometry x.committed x.store (blocks_of x.metaslabs) pieces
-    pub uber : UberStands x content
+    pub uber : UberStands x told
     pub images : HasImages x
     pub leaves : HasLeafNumbers x
     pub shared : Shared
     pub versions : HasPoolVersions x.kept_version x.next_version shared
     pub alike : AllAlike shared x
 
-  pub stands_parts : (pool : Pool R A) (table : ℕ → Option Pointer) (x : State) → Stands rack area pool table x → Parts pool.metaslabs.shards.items (area.told (area_of pool.uber)) x
+  pub stands_parts : (pool : Pool R A) (table : ℕ → Option Pointer) (x : State) → Stands rack area pool table x → Parts pool.metaslabs.shards.items (told_by area.told (areas_of pool.uber)) x
   stands_parts pool table x s = record {
     layout = s.layout;
     many = s.many;
@@ -291,18 +293,17 @@ module _ {R A : Type 0} (rack : racks.Ghosts R) (area : areas.Ghosts A) where
         bytes = is.bytes;
       }
 
-  module _ (shards : List (Shard R A)) (content : Option Content) (x : State) (p : Parts shards content x) where
+  module _ (shards : List (Shard R A)) (told : AreasTold) (x : State) (p : Parts shards told x) where
     shard_at : (m : ℕ) (y : Metaslab) → slice_get x.metaslabs m ≡ Some y → (shard : Shard R A) × (slice_get shards m ≡ Some shard)
     shard_at m y there = (let within = slice_get_within x.metaslabs m y there in let many = p.shards_are in present shards m (omega (arith, within, many)))
 
     -- what stands in for all that was given back
-    held_again : (u : Content) (a b : Held) → content ≡ Some u → TakesBack rack area shards a b → IsSomeAnd a.checks AreNewChecks → HoldsPool x false (puts_uber (Some u) b)
-    held_again u a b is t new = record {
+    held_again : (u : Content) (checks : ChecksTold) (a b : Held) → told ≡ areas_told u checks → TakesBack rack area shards a b → HoldsPool x false (puts_checks (Some checks) (puts_uber (Some u) b))
+    held_again u checks a b is t = record {
       pieces = p.pieces;
       rests = record {
         layout = p.layout;
-        uber = subst (λ o. UberStands x o) is p.uber;
-        checks = subst (λ o. IsSomeAnd o AreNewChecks) (sym t.checks) new;
+        uber = subst (UberStands x) is p.uber;
         many = p.many;
         kits = λ m y there.
             (let s = shard_at m y there in
@@ -315,20 +316,22 @@ module _ {R A : Type 0} (rack : racks.Ghosts R) (area : areas.Ghosts A) where
       backed = λ none m y there.
           (let s = shard_at m y there in
           let k = t.kits m s.0 s.1 in
-          let told = (kit_is (rack.told s.0.rack) (area.told s.0.even) (area.told s.0.odd) k.0 k.1).rack in
-          some_and (b.kits m) k.0 (λ kit. Backed (layout_of x.geometry x.perms m) (p.pieces m) y.world kit.rack) k.2 (backed x m (p.pieces m) s.0 y k.0 (p.each m s.0 y s.1 there) told));
+          let rack_told = (kit_is (rack.told s.0.rack) (area.told s.0.even) (area.told s.0.odd) k.0 k.1).rack in
+          some_and (b.kits m) k.0 (λ kit. Backed (layout_of x.geometry x.perms m) (p.pieces m) y.world kit.rack) k.2 (backed x m (p.pieces m) s.0 y k.0 (p.each m s.0 y s.1 there) rack_told));
     }
 
-    all_again : (c : Option Content) (a b : Option Held) → content ≡ c → OnHeld b (λ y. MatchOption a ⊥ (λ z. TakesBack rack area shards z y))
-        → OnHeld (gives_uber c b) (λ held. MatchOption a ⊥ (λ before. IsSomeAnd before.checks AreNewChecks → HoldsPool x false held))
-    all_again None a b is h = tt
-    all_again (Some u) a None is h = tt
-    all_again (Some u) None (Some b) is h = absurd h
-    all_again (Some u) (Some a) (Some b) is h = held_again u a b is h
+    all_again : (u e o : Option Content) (a b : Option Held) → told ≡ record { uber = u; even = e; odd = o } → OnHeld b (λ y. MatchOption a ⊥ (λ z. TakesBack rack area shards z y))
+        → OnHeld (gives_areas (record { uber = u; even = e; odd = o }) b) (HoldsPool x false)
+    all_again u None o a b is h = tt
+    all_again u (Some e) None a b is h = tt
+    all_again None (Some e) (Some o) a b is h = tt
+    all_again (Some u) (Some e) (Some o) a None is h = tt
+    all_again (Some u) (Some e) (Some o) None (Some b) is h = absurd h
+    all_again (Some u) (Some e) (Some o) (Some a) (Some b) is h = held_again u (record { even = e; odd = o }) a b is h
 
     module _ (old mid : Option Held) (before after : ℕ → KitCounts) (r : Returns rack area shards old mid before after) where
-      pub holds_pool : (new : Option Held) → new ≡ gives_uber content mid → OnHeld new (λ held. MatchOption old ⊥ (λ before. IsSomeAnd before.checks AreNewChecks → HoldsPool x false held))
-      holds_pool new gives = subst (λ o. OnHeld o (λ held. MatchOption old ⊥ (λ before. IsSomeAnd before.checks AreNewChecks → HoldsPool x false held))) (sym gives) (all_again content old mid refl r.held)
+      pub holds_pool : (new : Option Held) → new ≡ gives_areas told mid → OnHeld new (HoldsPool x false)
+      holds_pool new gives = subst (λ o. OnHeld o (HoldsPool x false)) (sym gives) (all_again told.uber told.even told.odd old mid refl r.held)
 
       pub counted_as : (last : ℕ → KitCounts) → ((m : ℕ) → last m ≡ after m) → (m : ℕ) (y : Metaslab) → slice_get x.metaslabs m ≡ Some y → SameCounts y.counts (last m)
       counted_as last kept m y there =
@@ -351,16 +354,17 @@ some_map : {X : Type 0} (o : Option X) (P Q : X → Type 0) → IsSomeAnd o P �
 some_map None P Q h step = absurd h
 some_map (Some x) P Q h step = step x h
 
-nothing_left : (bytes : List ℕ) → length bytes ≤ 0 → bytes ≡ []
-nothing_left [] few = refl
-nothing_left (b ∷ bytes) few = absurd (omega (arith, few))
-
-new_crashed : (x y : Content) → IsNewArea [] x → area_moments.IsCrashOutcome x y → IsNewArea [] y
-new_crashed x y new crash =
-    let most = crash.left.most in
-    let none : length x.bytes ≡ 0 = ap length new.bytes_are in
-    let empty : y.bytes ≡ [] = nothing_left y.bytes (omega (arith, most, none)) in
-    record { bytes_are = empty; firm = crash.firm ∙ ap length empty; soft = crash.soft }
+areas_crashed : (x : State) (a b : Option Content) (c d : Option ChecksTold) → IsSomeAnd a (λ u. IsSomeAnd c (λ checks. UberStands x (areas_told u checks))) → Both area_moments.IsCrashOutcome a b → Both CrashedChecks c d
+    → IsSomeAnd b (λ u. IsSomeAnd d (λ checks. UberStands x (areas_told u checks)))
+areas_crashed x None b c d h uber checks = absurd h
+areas_crashed x (Some u) b None d h uber checks = absurd h
+areas_crashed x (Some u) None (Some c) d h uber checks = absurd uber
+areas_crashed x (Some u) (Some v) (Some c) None h uber checks = absurd checks
+areas_crashed x (Some u) (Some v) (Some c) (Some d) h uber checks = record {
+  pending = h.pending;
+  are = h.are;
+  stands = crash_areas (kept_in x) h.pending (areas_told u c) (areas_told v d) h.stands (record { uber = uber; even = checks.even; odd = checks.odd });
+}
 
 module _ (x : State) (pieces : ℕ → Pieces) where
   kit_crashed : (m : ℕ) (y : Metaslab) (a b : KitTold) → RestsOn x m (pieces m) y a → CrashedKit a b → RestsOn x m (pieces m) y b
@@ -375,10 +379,7 @@ module _ (x : State) (pieces : ℕ → Pieces) where
   pub rests_crashed : (held left : Held) → Rests x pieces held → CrashedHeld held left → Rests x pieces left
   rests_crashed held left r crash = record {
     layout = r.layout;
-    uber = both_some area_moments.IsCrashOutcome (λ c. UberStands x (Some c)) (λ c. UberStands x (Some c)) held.uber left.uber r.uber crash.uber
-        (λ a b s outcome. record { pending = s.pending; are = s.are; stands = crash_stands (kept_in x) s.pending (Some a) (Some b) s.stands outcome });
-    checks = both_some CrashedChecks AreNewChecks AreNewChecks held.checks left.checks r.checks crash.checks
-        (λ a b new outcome. record { even = new_crashed a.even b.even new.even outcome.even; odd = new_crashed a.odd b.odd new.odd outcome.odd });
+    uber = areas_crashed x held.uber left.uber held.checks left.checks r.uber crash.uber crash.checks;
     many = r.many;
     kits = λ m y there. both_some CrashedKit (RestsOn x m (pieces m) y) (RestsOn x m (pieces m) y) (held.kits m) (left.kits m) (r.kits m y there) (crash.kits m) (kit_crashed m y);
     images = r.images;
@@ -387,17 +388,10 @@ module _ (x : State) (pieces : ℕ → Pieces) where
   }
 
 -- the pool is held after a crash too, where one was asked for
-pub pool_crashed : (x : State) (crash : Bool) (old mid new : Option Held) → crash ≡ true → Both CrashedHeld mid new
-    → OnHeld mid (λ held. MatchOption old ⊥ (λ before. IsSomeAnd before.checks AreNewChecks → HoldsPool x false held))
-    → OnHeld new (λ held. MatchOption old ⊥ (λ before. IsSomeAnd before.checks AreNewChecks → HoldsPool x crash held))
-pool_crashed x crash old mid None is both h = tt
-pool_crashed x crash old None (Some y) is both h = absurd (cc)
-pool_crashed x crash None (Some z) (Some y) is both h = absurd h
-pool_crashed x crash (Some w) (Some z) (Some y) is both h = λ new.
-    (let p = h new in
-    record { pieces = p.pieces; rests = rests_crashed x p.pieces z y p.rests both; backed = λ none. absurd (cc) })
+pub pool_crashed : (x : State) (crash : Bool) (mid new : Option Held) → crash ≡ true → Both CrashedHeld mid new → OnHeld mid (HoldsPool x false) → OnHeld new (HoldsPool x crash)
+pool_crashed x crash mid None is both h = tt
+pool_crashed x crash None (Some y) is both h = absurd (cc)
+pool_crashed x crash (Some z) (Some y) is both h = record { pieces = h.pieces; rests = rests_crashed x h.pieces z y h.rests both; backed = λ none. absurd (cc) }
 
-pub pool_uncrashed : (x : State) (crash : Bool) (old new : Option Held) → crash ≡ false
-    → OnHeld new (λ held. MatchOption old ⊥ (λ before. IsSomeAnd before.checks AreNewChecks → HoldsPool x false held))
-    → OnHeld new (λ held. MatchOption old ⊥ (λ before. IsSomeAnd before.checks AreNewChecks → HoldsPool x crash held))
-pool_uncrashed x crash old new is h = subst (λ c. OnHeld new (λ held. MatchOption old ⊥ (λ before. IsSomeAnd before.checks AreNewChecks → HoldsPool x c held))) (sym is) h
+pub pool_uncrashed : (x : State) (crash : Bool) (new : Option Held) → crash ≡ false → OnHeld new (HoldsPool x false) → OnHeld new (HoldsPool x crash)
+pool_uncrashed x crash new is h = subst (λ c. OnHeld new (HoldsPool x c)) (sym is) h

@@ -10,7 +10,7 @@ use Rattle.draid_pool.specs.Groups as sealing
 use Rattle.draid_pool.specs.Groups.{area_in}
 use Rattle.draid_shard.specs.Calls.{SameAreas}
 use Rattle.draid_shard.specs.declared.shard.Shard.{Shard}
-use Rattle.draid_uber.specs.Uber.{area_of}
+use Rattle.draid_uber.specs.Uber.{count_of}
 use Rattle.draid_pool.specs.Failing.{AreaFails, AreaRose, AreasLater, RecordsRose}
 use Rattle.draid_pool.specs.Syncing.{CommitsBelow}
 use Rattle.draid_pool.specs.declared.pool.Pool.{Pool}
@@ -83,7 +83,7 @@ module _ {R A : Type 0} (faults : A → ℕ) where
   -- no count fell, and behind that one rose
   pub rose_then : (old mid new : Pool R A) → AreasLater faults old mid → AreaRose faults mid new → AreaRose faults old new
   rose_then old mid new later rose = elim rose [
-    | inl uber ↦ inl (rose_behind (faults (area_of old.uber)) (faults (area_of mid.uber)) (faults (area_of new.uber)) later.uber uber)
+    | inl uber ↦ inl (rose_behind (count_of faults old.uber) (count_of faults mid.uber) (count_of faults new.uber) later.uber uber)
     | inr z ↦
         let y = there_in mid old z.0 z.1 (sym later.many) z.3 in
         let own = later.shards z.0 y.0 z.1 y.1 z.3 in
@@ -101,7 +101,7 @@ module _ {R A : Type 0} (faults : A → ℕ) where
   ]
 
   -- the uberblock's area alone was called
-  pub areas_named : (old new : Pool R A) → faults (area_of old.uber) ≤ faults (area_of new.uber) → new.metaslabs.shards.items ≡ old.metaslabs.shards.items → AreasLater faults old new
+  pub areas_named : (old new : Pool R A) → count_of faults old.uber ≤ count_of faults new.uber → new.metaslabs.shards.items ≡ old.metaslabs.shards.items → AreasLater faults old new
   areas_named old new later same = record {
     uber = later;
     many = ap (λ zs. length zs) same;
@@ -111,7 +111,7 @@ module _ {R A : Type 0} (faults : A → ℕ) where
   -- a count that rose isn't 0
   pub rose_fails : (old new : Pool R A) → AreaRose faults old new → AreaFails faults new
   rose_fails old new rose = elim rose [
-    | inl uber ↦ inl (rose_some (faults (area_of old.uber)) (faults (area_of new.uber)) uber)
+    | inl uber ↦ inl (rose_some (count_of faults old.uber) (count_of faults new.uber) uber)
     | inr z ↦ inr (
       z.0,
       z.2,
@@ -127,7 +127,7 @@ module _ {R A : Type 0} (rack : racks.Ghosts R) (area : areas.Ghosts A) where
   -- one metaslab was called
   pub areas_set : (m : ℕ) (old new : Pool R A) (shard shard' : Shard R A) → SetsShard rack area m old new shard shard' → sealing.AreasLater area.faults shard shard' → AreasLater area.faults old new
   areas_set m old new shard shard' set later = record {
-    uber = (let is = ap (λ u. area.faults (area_of u)) set.uber in omega (arith, is));
+    uber = (let is = ap (λ u. count_of area.faults u) set.uber in omega (arith, is));
     many = ap (λ zs. length zs) set.sets ∙ length-set old.metaslabs.shards.items m shard';
     shards = (each_set (sealing.AreasLater area.faults) (records_still area.faults) rack area m old new shard shard' set later).each;
   }
@@ -138,7 +138,7 @@ module _ {R A : Type 0} (rack : racks.Ghosts R) (area : areas.Ghosts A) where
       inr (m, shard, shard', set.there, ap (λ zs. slice_get zs m) set.sets ∙ get_set_same old.metaslabs.shards.items m shard shard' set.there, rose)
 
   -- the uberblock's area was called, and each metaslab committed
-  pub areas_committed : (old new : Pool R A) (group : ℕ) → area.faults (area_of old.uber) ≤ area.faults (area_of new.uber)
+  pub areas_committed : (old new : Pool R A) (group : ℕ) → count_of area.faults old.uber ≤ count_of area.faults new.uber
       → CommitsBelow rack group (length old.metaslabs.shards.items) old.metaslabs.shards.items new.metaslabs.shards.items → AreasLater area.faults old new
   areas_committed old new group later commits = record {
     uber = later;

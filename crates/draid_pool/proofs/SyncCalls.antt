@@ -13,7 +13,7 @@ use Rattle.draid_perm.specs.declared.perms.Perms.{Perms}
 use Rattle.draid_machine.proofs.Small.{bool_cases, is_equal, none_some}
 use Rattle.draid_shard.specs.declared.shard.Shard.{Shard}
 use Rattle.draid_uber.specs.Slots.{group_of}
-use Rattle.draid_uber.specs.Uber.{area_of, kept_of}
+use Rattle.draid_uber.specs.Uber.{count_of, kept_of}
 use Rattle.draid_session.specs.Groups as groups
 use Rattle.draid_session.specs.Holds.{CommitFailed, CommitStarved, Committed, Hold, LookedUber, OnUber, UberView, view_of}
 use Rattle.draid_session.specs.Looks.{LooksFrom}
@@ -81,7 +81,7 @@ module _ {R A : Type 0} (rack : racks.Ghosts R) (area : areas.Ghosts A) where
     behind = next ∙ ap (λ n. n + 1) (pool_group pool x r)
 
     count : ℕ
-    count = area.faults (area_of new.uber)
+    count = count_of area.faults new.uber
 
     abbrev view : UberView
     view = record { committed = x.committed; next_leaf = x.next_leaf }
@@ -92,7 +92,7 @@ module _ {R A : Type 0} (rack : racks.Ghosts R) (area : areas.Ghosts A) where
     stood : Stood rack area pool.metaslabs.shards.items pointers x (IsOneOf x.committed r.stands.shared)
     stood = stood_of rack area pool x r
 
-    pub named_sealed : Names area pool.uber new.uber group → area.faults (area_of pool.uber) ≤ area.faults (area_of new.uber)
+    pub named_sealed : Names area pool.uber new.uber group → count_of area.faults pool.uber ≤ count_of area.faults new.uber
         → CommitsBelow rack group (length pool.metaslabs.shards.items) pool.metaslabs.shards.items new.metaslabs.shards.items
         → CarriesOut rack area new x (Phase x (Chain (groups.Names x.geometry x.perms group) (groups.CommitPhase x.geometry x.perms group)) Went)
     unfolding count
@@ -146,7 +146,7 @@ module _ {R A : Type 0} (rack : racks.Ghosts R) (area : areas.Ghosts A) where
           uber = uber_refused area pool.uber new.uber group x r.stands.uber n behind;
         }
 
-    pub refused_failed : Refuses area pool.uber new.uber group → Rose (area.faults (area_of pool.uber)) (area.faults (area_of new.uber)) → new.metaslabs.shards.items ≡ pool.metaslabs.shards.items
+    pub refused_failed : Refuses area pool.uber new.uber group → Rose (count_of area.faults pool.uber) (count_of area.faults new.uber) → new.metaslabs.shards.items ≡ pool.metaslabs.shards.items
         → CarriesOut rack area new x (Phase x (Chain (groups.Names x.geometry x.perms group) (groups.CommitPhase x.geometry x.perms group)) Broke)
     unfolding count
     refused_failed n rose shards =
@@ -154,7 +154,7 @@ module _ {R A : Type 0} (rack : racks.Ghosts R) (area : areas.Ghosts A) where
         (refused_state x count, record { sees = refl; acts = (count, subst (λ k. Rose k count) (sym r.stands.uber.count) rose, refl) }, refl)
         (refused_is n shards) (refl, inr (not_went Unit sync.Shelf, (refl, behind)))
 
-    pub refused_starved : Refuses area pool.uber new.uber group → area.faults (area_of pool.uber) ≤ area.faults (area_of new.uber) → new.metaslabs.shards.items ≡ pool.metaslabs.shards.items
+    pub refused_starved : Refuses area pool.uber new.uber group → count_of area.faults pool.uber ≤ count_of area.faults new.uber → new.metaslabs.shards.items ≡ pool.metaslabs.shards.items
         → CarriesOut rack area new x (Phase x (Chain (groups.Names x.geometry x.perms group) (groups.CommitPhase x.geometry x.perms group)) Starved)
     unfolding count
     refused_starved n later shards =

@@ -21,7 +21,7 @@ use Rattle.draid_pool.specs.declared.fault.SyncFault.{SyncFault}
 use Rattle.draid_pool.specs.declared.fault.SyncFault.TheVariants as sync
 use Rattle.draid_pool.specs.declared.fault.Synced.{Synced}
 use Rattle.draid_uber.specs.Slots.{group_of}
-use Rattle.draid_uber.specs.Uber.{area_of, kept_of}
+use Rattle.draid_uber.specs.Uber.{count_of, kept_of}
 use Rattle.draid_uber.specs.declared.uber.Uber.{Uber}
 
 -- ---- one metaslab
@@ -97,9 +97,9 @@ module _ {R A S : Type 0} (rack : racks.Ghosts R) (area : areas.Ghosts A) (last 
 
 -- it names the group, or is refused it
 abbrev pub UberNames : {A : Type 0} → areas.Ghosts A → ℕ → Uber A → Result Unit SyncFault → Uber A → Type 0
-UberNames area group u (Ok done) v = Names area u v group × (area.faults (area_of u) ≤ area.faults (area_of v))
-UberNames area group u (Err sync.Shelf) v = Refuses area u v group × (area.faults (area_of u) ≤ area.faults (area_of v)) × Rose (area.faults (area_of u)) (area.faults (area_of v))
-UberNames area group u (Err sync.NoMemory) v = Refuses area u v group × (area.faults (area_of u) ≤ area.faults (area_of v))
+UberNames area group u (Ok done) v = Names area u v group × (count_of area.faults u ≤ count_of area.faults v)
+UberNames area group u (Err sync.Shelf) v = Refuses area u v group × (count_of area.faults u ≤ count_of area.faults v) × Rose (count_of area.faults u) (count_of area.faults v)
+UberNames area group u (Err sync.NoMemory) v = Refuses area u v group × (count_of area.faults u ≤ count_of area.faults v)
 UberNames area group u (Err sync.Worn) v = ⊥
 UberNames area group u (Err sync.Last) v = ⊥
 

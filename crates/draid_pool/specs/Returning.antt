@@ -10,10 +10,11 @@ use Rattle.draid_machine.specs.Images.{IsImage}
 use Rattle.draid_machine.specs.State.{Image}
 use Rattle.draid_layouts.specs.Layout.{layout_of}
 use Rattle.draid_segments.specs.Segments.{Backed, Pieces}
-use Rattle.draid_shelf.specs.Kits.{AreNewChecks, CheckCounts, Held, KitCounts, KitTold, OnHeld, kit_of}
+use Rattle.draid_shelf.specs.Kits.{CheckCounts, ChecksTold, Held, KitCounts, KitTold, OnHeld, kit_of}
 use Rattle.draid_stable.specs.Kits.{IsStable}
 use Rattle.draid_pool.specs.Groups.{at_version}
 use Rattle.draid_shard.specs.declared.shard.Shard.{Shard}
+use Rattle.draid_uber.specs.Checks.{AreasTold}
 use Rattle.draid_session.specs.State.{Counts, Metaslab, State}
 use Rattle.draid_pool.specs.Importable.{IsImportable}
 use Rattle.draid_pool.specs.Objects.{HoldsObjects, blocks_of}
@@ -33,6 +34,24 @@ pub record SameCounts (x : Counts) (counts : KitCounts) : Type 0 where
   pub even : counts.even ≡ x.even
   pub odd : counts.odd ≡ x.odd
 
+-- ---- the pool's own areas
+
+-- what they tell, those of the check records with that of the uberblock
+abbrev pub areas_told : Content → ChecksTold → AreasTold
+areas_told uber checks = record { uber = Some uber; even = Some checks.even; odd = Some checks.odd }
+
+-- They are held, as calls and crashes left them. An import finds one of the groups of the uberblock there, and its check record.
+abbrev pub HoldsAreas : State → Held → Type 0
+HoldsAreas x held = IsSomeAnd held.uber (λ uber. IsSomeAnd held.checks (λ checks. UberStands x (areas_told uber checks)))
+
+-- how often calls on them have failed
+pub record OwnCounts : Type 0 where
+  pub uber : ℕ
+  pub checks : CheckCounts
+
+abbrev pub own_count : OwnCounts → ℕ
+own_count own = own.uber + (own.checks.even + own.checks.odd)
+
 -- ---- the pool
 
 -- A metaslab's devices are held. Each image that an import may find outlasts each crash of them; harm is as the metaslab has it.
@@ -47,8 +66,7 @@ pub record RestsOn (x : State) (m : ℕ) (pieces : Pieces) (y : Metaslab) (kit :
 -- record. The pieces are those of what befell the objects.
 pub record Rests (x : State) (pieces : ℕ → Pieces) (held : Held) : Type 0 where
   pub layout : IsLayout x.geometry x.perms
-  pub uber : IsSomeAnd held.uber (λ content. UberStands x (Some content))
-  pub checks : IsSomeAnd held.checks AreNewChecks
+  pub uber : HoldsAreas x held
   pub many : length x.metaslabs ≡ x.geometry.props.metaslabs
   pub kits : (m : ℕ) (y : Metaslab) → slice_get x.metaslabs m ≡ Some y → IsSomeAnd (held.kits m) (RestsOn x m (pieces m) y)
   pub images : HasImages x
@@ -66,13 +84,12 @@ pub record HoldsPool (x : State) (crash : Bool) (held : Held) : Type 0 where
   pub rests : Rests x pieces held
   pub backed : crash ≡ false → IsBacked x pieces held
 
--- The pool of a state was given back to a shelf, with a crash or without one. Where that tells, and had the areas of the check records, it holds the pool; and it has
--- the pool's counts. No record has a fault to an import, where the shelf has these leaves.
-pub record GivesBack (x : State) (crash : Bool) (old new : Option Held) (leaves : ℕ → Option Shape) (counts : ℕ → KitCounts) (uber_count : ℕ) : Type 0 where
-  pub held : OnHeld new (λ held. MatchOption old ⊥ (λ before. IsSomeAnd before.checks AreNewChecks → HoldsPool x crash held))
+-- The pool of a state was given back to a shelf, with a crash or without one. Where that tells, it holds the pool; and it has the pool's counts. No record has a fault to an import, where the shelf has these leaves.
+pub record GivesBack (x : State) (crash : Bool) (new : Option Held) (leaves : ℕ → Option Shape) (counts : ℕ → KitCounts) (own : OwnCounts) : Type 0 where
+  pub held : OnHeld new (HoldsPool x crash)
   pub importable : OnHeld new (λ held. IsImportable x held leaves)
   pub counted : (m : ℕ) (y : Metaslab) → slice_get x.metaslabs m ≡ Some y → SameCounts y.counts (counts m)
-  pub uber : uber_count ≡ x.uber_count
+  pub uber : own_count own ≡ x.uber_count
 
 -- ---- a crash
 
@@ -119,15 +136,10 @@ pub record ReturnsLeaves {R A : Type 0} (rack : racks.Ghosts R) (shards : List (
   pub own : (m : ℕ) (shard : Shard R A) → slice_get shards m ≡ Some shard → after m ≡ Some (rack.shape shard.rack)
   pub others : (m : ℕ) → length shards ≤ m → after m ≡ before m
 
--- how often calls on the areas have failed that aren't of a metaslab
-pub record OwnCounts : Type 0 where
-  pub uber : ℕ
-  pub checks : CheckCounts
-
 -- a call on the rack of a metaslab as a whole has failed
 abbrev pub RackFailed : (ℕ → KitCounts) → Type 0
 RackFailed kits = (m : ℕ) × (0 < (kits m).rack None)
 
--- a call on the uberblock's area, or on an area of a metaslab's records, has failed
+-- a call on an area of the pool's own, or on an area of a metaslab's records, has failed
 abbrev pub AreaFailed : (ℕ → KitCounts) → OwnCounts → Type 0
-AreaFailed kits own = ((m : ℕ) × (0 < (kits m).even + (kits m).odd)) ⊎ (0 < own.uber)
+AreaFailed kits own = ((m : ℕ) × (0 < (kits m).even + (kits m).odd)) ⊎ (0 < own_count own)

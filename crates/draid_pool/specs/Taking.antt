@@ -1,8 +1,22 @@
 -- What a shelf has of a pool of which some devices are taken.
 use Rattle.std.specs.Prelude.{◌≡◌, ◌<◌, ◌≤◌, ℕ, Option, None, MatchOption, IsSomeAnd, replicate}
 use Rattle.draid_spec.specs.declared.layout.Geometry.{Geometry}
-use Rattle.draid_shelf.specs.Kits.{AreNewChecks, Held, IsNewArea, IsNewRack, KitCounts, uber_bytes}
+use Rattle.draid_shelf.specs.Kits.{AreNewChecks, Held, IsNewArea, IsNewRack, KitCounts, checks_of, gives_checks, gives_uber, takes_checks, takes_uber, uber_bytes}
+use Rattle.draid_uber.specs.Checks.{AreasTold}
 use Rattle.draid_pool.specs.Returning.{OwnCounts}
+
+-- what the pool's own areas tell is what was held of them
+pub record TellsAreas (told : AreasTold) (held : Held) : Type 0 where
+  pub uber : told.uber ≡ held.uber
+  pub checks : checks_of told.even told.odd ≡ held.checks
+
+-- they aren't held any more
+abbrev pub takes_areas : Option Held → Option Held
+takes_areas held = takes_checks (takes_uber held)
+
+-- they are held, where they tell
+abbrev pub gives_areas : AreasTold → Option Held → Option Held
+gives_areas told held = gives_checks (checks_of told.even told.odd) (gives_uber told.uber held)
 
 -- the shelf is as before
 pub record IsAsBefore (old new : Option Held) (before after : ℕ → KitCounts) (own now : OwnCounts) : Type 0 where

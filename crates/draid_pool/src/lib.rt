@@ -35,7 +35,7 @@ pub use phases::{begin_sync, finish_group, go_on_sync, sync_groups};
 pub use pool::{EVENTS, Pool};
 pub use records::{record_of, write_to};
 pub use replies::reply_to_sync;
-pub use returning::{close, give_back, into_kit};
+pub use returning::{close, give_areas, give_back, into_kit, take_areas};
 pub use room::{LookOp, Seen, SeenRooms, look_for_room};
 pub use sealing::seal;
 pub use vdev::vdev_name;

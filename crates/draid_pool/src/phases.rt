@@ -252,14 +252,15 @@ fn commit_group<R: Rack, A: Area, M: Metaslabs<R, A>>(
     }
 }
 
-/// Has the uberblock name a group, the one behind the committed one.
+/// Has the uberblock name a group, the one behind the committed one, of which each metaslab has its record; its check record
+/// is written before.
 fn name_group<A: Area>(uber: &mut Uber<A>, group: u64) -> Result<(), SyncFault>
     requires next { IsNext (ubers.kept_of uber.old) group }
     requires valid { ubers.Valid A.size uber.old }
     ensures valid { ubers.Valid A.size uber.new }
     ensures names { UberNames A.Area group uber.old result uber.new }
 {
-    match uber.commit(group) {
+    match uber.commit_with_check(group) {
         Ok(()) => Ok(()),
         Err(DeviceFault::Failed) => Err(SyncFault::Shelf),
         Err(DeviceFault::NoMemory) => Err(SyncFault::NoMemory),
