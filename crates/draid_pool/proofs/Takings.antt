@@ -1,9 +1,10 @@
 -- The devices of a pool are taken from a shelf, one metaslab after another.
 use Rattle.std.proofs.Common.{arith, ◌≡◌, ◌+◌, ◌<◌, ◌≤◌, ◌++◌, ◌∙◌, inl, inr, ℕ, zero, suc, List, [], ◌∷◌, Option, Some, None, refl, subst, length}
-use Rattle.std.specs.Prelude.{slice_get}
+use Rattle.std.specs.Prelude.{IsErrOf, IsSome, Ok, slice_get}
 use Rattle.std.proofs.lemmas.Bool.{cases_eq}
 use Rattle.draid_names.specs.Faults.{Rose}
-use Rattle.draid_shelf.specs.Kits.{Held, KitTold, OnHeld, takes_kit}
+use Rattle.draid_names.specs.declared.fault.DeviceFault.TheVariants as DeviceFault
+use Rattle.draid_shelf.specs.Kits.{ChecksTold, Held, KitTold, NeedsChecks, OnHeld, takes_kit, takes_uber}
 use Rattle.draid_pool.specs.Taking.{TakesFirst}
 use Rattle.draid_pool.proofs.Returned.{put_here, put_there}
 
@@ -35,6 +36,15 @@ takes_more n (Some x) (Some y) t = record {
   ];
   others = λ m past. put_there n m None (y.kits m) (λ same. omega (arith, same, past)) ∙ t.others m (omega (arith, past));
 }
+
+-- areas of check records that were taken behind the uberblock's were held
+pub checks_there : {T : Type 0} (areas : T) (o mid : Option Held) → mid ≡ takes_uber o → NeedsChecks (Ok areas) mid → OnHeld o (λ held. IsSome held.checks)
+checks_there areas None mid takes needs = tt
+checks_there areas (Some x) mid takes needs = by x.checks (subst (λ z. NeedsChecks (Ok areas) z) takes needs)
+  where
+    by : (c : Option ChecksTold) → (c ≡ None → IsErrOf (Ok areas) DeviceFault.Failed) → IsSome c
+    by None failed = (let is = failed refl in absurd (cc))
+    by (Some checks) failed = refl
 
 -- what was held for a metaslab that isn't open yet was so from the beginning
 pub from_first : (n : ℕ) (old mid : Option Held) (P : Option KitTold → Type 0) → TakesFirst n old mid → OnHeld mid (λ y. P (y.kits n)) → OnHeld old (λ x. P (x.kits n))

@@ -10,6 +10,12 @@ pub record TellsAreas (told : AreasTold) (held : Held) : Type 0 where
   pub uber : told.uber ≡ held.uber
   pub checks : checks_of told.even told.odd ≡ held.checks
 
+-- none of them tells
+pub record AreSilent (told : AreasTold) : Type 0 where
+  pub uber : told.uber ≡ None
+  pub even : told.even ≡ None
+  pub odd : told.odd ≡ None
+
 -- they aren't held any more
 abbrev pub takes_areas : Option Held → Option Held
 takes_areas held = takes_checks (takes_uber held)

@@ -1,10 +1,10 @@
-ghost use Rattle.std.specs.Prelude.{◌≡◌, ◌≤◌, ℕ, None, IfOk, IsErrOf, MatchOption, OnErr, OnOk, length, true, ⊤};
+ghost use Rattle.std.specs.Prelude.{◌≡◌, ◌≤◌, ℕ, None, IfOk, IsSome, MatchOption, OnErr, OnOk, length, true, ⊤};
 ghost use Rattle.draid_session.specs.State.{State};
-ghost use Rattle.draid_shelf.specs.Kits.{OnHeld, ShelfCounts};
+ghost use Rattle.draid_shelf.specs.Kits.{NeedsUber, OnHeld, ShelfCounts};
 ghost use Rattle.draid_uber.specs.Checks.{told_by};
 ghost use Rattle.draid_shelf.specs.Shelf.{most_metaslabs};
 ghost use Rattle.draid_pool.specs.Returning.{GivesBack, IsFirm, Returns, ReturnsLeaves, AreaFailed, RackFailed};
-ghost use Rattle.draid_pool.specs.Taking.{TellsAreas, gives_areas, takes_areas};
+ghost use Rattle.draid_pool.specs.Taking.{AreSilent, TellsAreas, gives_areas, takes_areas};
 ghost use Rattle.draid_pool.specs.Failing.{AreaFails, RackFails};
 ghost use Rattle.draid_pool.specs.Pools.{Represents};
 ghost use Rattle.draid_pool.specs.Whole.{IsWhole};
@@ -35,14 +35,15 @@ pub fn give_back<H: Shelf>(shelf: &mut H, shards: Vec<Shard<H::R, H::A>>)
 /// Takes the areas of a pool that aren't a metaslab's. After a refusal they are on the shelf, if they were.
 pub fn take_areas<H: Shelf>(shelf: &mut H) -> Result<Areas<H::A>, DeviceFault>
     ensures areas { IfOk result (λ areas. OnHeld (H.told shelf.old) (TellsAreas (told_by H.A.told areas))) }
-    ensures untold { IfOk result (λ areas. H.told shelf.old ≡ None → H.A.told areas.uber ≡ None) }
+    ensures untold { IfOk result (λ areas. H.told shelf.old ≡ None → AreSilent (told_by H.A.told areas)) }
     ensures told { OnOk result (H.told shelf.new ≡ takes_areas (H.told shelf.old)) }
     ensures size { IfOk result (λ areas. MatchOption (H.uber_size shelf.old) ⊤ (λ n. H.A.size areas.uber ≡ n)) }
     ensures count { IfOk result (λ areas. (H.A.faults areas.uber ≡ H.uber_count shelf.old)
         × (H.A.faults areas.even ≡ (H.check_counts shelf.old).even) × (H.A.faults areas.odd ≡ (H.check_counts shelf.old).odd)) }
     ensures leaves { (m : ℕ) → H.leaves shelf.new m ≡ H.leaves shelf.old m }
     ensures counts { (m : ℕ) → H.counts shelf.new m ≡ H.counts shelf.old m }
-    ensures needs { OnHeld (H.told shelf.old) (λ held. held.uber ≡ None → IsErrOf result DeviceFault.Failed) }
+    ensures needs { NeedsUber result (H.told shelf.old) }
+    ensures some { OnOk result (OnHeld (H.told shelf.old) (λ held. IsSome held.checks)) }
     ensures back { OnErr result (H.told shelf.new ≡ H.told shelf.old) }
     ensures back_count { OnErr result ((H.uber_count shelf.new ≡ H.uber_count shelf.old) × (H.check_counts shelf.new ≡ H.check_counts shelf.old)) }
     ensures cause { ShelfCounts result (H.faults shelf.old) (H.faults shelf.new) }

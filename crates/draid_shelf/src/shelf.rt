@@ -110,6 +110,7 @@ pub trait Shelf {
     fn take_check(&mut self) -> Result<(Self::A, Self::A), DeviceFault>
         ensures areas { IfOk result (λ areas. OnHeld (told self.old) (λ held.
             checks_of (Self.A.told areas.0) (Self.A.told areas.1) ≡ held.checks)) }
+        ensures untold { IfOk result (λ areas. told self.old ≡ None → (Self.A.told areas.0 ≡ None) × (Self.A.told areas.1 ≡ None)) }
         ensures told { OnOk result (told self.new ≡ takes_checks (told self.old)) }
         ensures even_count { IfOk result (λ areas. Self.A.faults areas.0 ≡ (check_counts self.old).even) }
         ensures odd_count { IfOk result (λ areas. Self.A.faults areas.1 ≡ (check_counts self.old).odd) }
