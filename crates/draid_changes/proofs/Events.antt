@@ -11,7 +11,7 @@ use Rattle.draid_shard.specs.Calls.{SameAreas}
 use Rattle.draid_shard.specs.Fits.{AreGroups}
 use Rattle.draid_shard.specs.Part.{Part}
 use Rattle.draid_shard.specs.declared.shard.Shard.{Shard}
-use Rattle.draid_uber.specs.Uber.{area_of}
+use Rattle.draid_uber.specs.Uber.{count_of}
 use Rattle.draid_session.specs.Arms as arms
 use Rattle.draid_session.specs.Phases.{Went}
 use Rattle.draid_session.specs.State.{Metaslab, State}
@@ -99,7 +99,7 @@ module _ {R A : Type 0} (rack : racks.Ghosts R) (area : areas.Ghosts A) where
     -- where no area was touched
     pub areas_changed : ((old now : Shard R A) → Changes old now → SameAreas old now) → AreasLater area.faults pool new
     areas_changed same = record {
-      uber = (let same = ap (λ u. area.faults (area_of u)) set.uber in omega (arith, same));
+      uber = (let same = ap (λ u. count_of area.faults u) set.uber in omega (arith, same));
       many = changes.many;
       shards = (each_changed Changes (sealing.AreasLater area.faults) pool new changes (λ old now s. records_same area.faults old now (same old now s))).each;
     }

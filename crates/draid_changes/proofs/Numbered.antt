@@ -11,9 +11,10 @@ use Rattle.draid_machine.proofs.Small.{none_some}
 use Rattle.draid_shard.specs.States.{layout_by, part_of}
 use Rattle.draid_shard.specs.declared.shard.Shard.{Shard}
 use Rattle.draid_shard.proofs.Homes.{lays}
-use Rattle.draid_uber.specs.Slots.{StandsTold, group_of}
+use Rattle.draid_uber.specs.Checks.{AreasStand, count_in, told_by}
+use Rattle.draid_uber.specs.Slots.{group_of}
 use Rattle.draid_uber.specs.Uber as ubers
-use Rattle.draid_uber.specs.Uber.{area_of, kept_of, next_leaf_of}
+use Rattle.draid_uber.specs.Uber.{areas_of, kept_of, next_leaf_of}
 use Rattle.draid_uber.specs.declared.uber.Uber.{Uber}
 use Rattle.draid_session.specs.Arms as arms
 use Rattle.draid_session.specs.Holds.{NextLeaf, OnUber}
@@ -40,7 +41,7 @@ pub record SetsLeaf {A : Type 0} (area : areas.Ghosts A) (old new : Uber A) (nex
   pub valid : ubers.Valid area.size new
   pub above : next_leaf_of old ≤ next
   pub next_is : next_leaf_of new ≡ next
-  pub area_is : area_of new ≡ area_of old
+  pub areas_is : areas_of new ≡ areas_of old
   pub kept : kept_of new ≡ kept_of old
   pub layout : ubers.layout_of new ≡ ubers.layout_of old
   pub version : ubers.version_of new ≡ ubers.version_of old
@@ -102,11 +103,11 @@ module _ {R A : Type 0} (rack : racks.Ghosts R) (area : areas.Ghosts A) (late : 
       version = set.version ∙ is.version;
       kept = set.kept ∙ is.kept;
       next_leaf = set.next_is;
-      count = is.count ∙ sym (ap area.faults set.area_is);
+      count = is.count ∙ sym (ap (count_in area.faults) set.areas_is);
       stands = record {
         pending = is.stands.pending;
         are = All-weaker (IsPending x) (IsPending after) (λ body pending. absurd (settled_uber pending.0)) is.stands.pending is.stands.are;
-        stands = subst (λ a. StandsTold (kept_in x) is.stands.pending (area.told a)) (sym set.area_is) is.stands.stands;
+        stands = subst (λ a. AreasStand (kept_in x) is.stands.pending (told_by area.told a)) (sym set.areas_is) is.stands.stands;
       };
     })
 
@@ -148,7 +149,7 @@ module _ {R A : Type 0} (rack : racks.Ghosts R) (area : areas.Ghosts A) (late : 
 
 module _ {R A : Type 0} (rack : racks.Ghosts R) (area : areas.Ghosts A) where
   -- its area is the same
-  pub areas_numbered : (late : Pool R A) (u : Uber A) → area_of u ≡ area_of late.uber → AreasLater area.faults late (record late { uber = u })
+  pub areas_numbered : (late : Pool R A) (u : Uber A) → areas_of u ≡ areas_of late.uber → AreasLater area.faults late (record late { uber = u })
   areas_numbered late u same =
       let still = areas_still area.faults late in
-      record { uber = (let is = ap area.faults same in omega (arith, is)); many = still.many; shards = still.shards }
+      record { uber = (let is = ap (count_in area.faults) same in omega (arith, is)); many = still.many; shards = still.shards }

@@ -15,9 +15,9 @@ use Rattle.draid_machine.proofs.Small.{bool_cases, none_some}
 use Rattle.draid_segments.specs.Segments.{Pieces}
 use Rattle.draid_shard.specs.Part.{Part}
 use Rattle.draid_shard.specs.declared.shard.Shard.{Shard}
-use Rattle.draid_uber.specs.Slots.{StandsTold}
+use Rattle.draid_uber.specs.Checks.{AreasStand, count_in, told_by}
 use Rattle.draid_uber.specs.Uber as ubers
-use Rattle.draid_uber.specs.Uber.{area_of, kept_of, layout_of, next_leaf_of, version_of}
+use Rattle.draid_uber.specs.Uber.{areas_of, kept_of, layout_of, next_leaf_of, version_of}
 use Rattle.draid_uber.specs.declared.uber.Uber.{Uber}
 use Rattle.draid_session.specs.Arms as arms
 use Rattle.draid_session.specs.Holds.{AsksVersion, Did, OnUber, UberView}
@@ -84,7 +84,7 @@ module _ {R A : Type 0} (rack : racks.Ghosts R) (area : areas.Ghosts A) where
   pub record AsksUber (old new : Uber A) : Type 0 where
     pub valid : ubers.Valid area.size new
     pub version : version_of new ≡ 2
-    pub area_is : area_of new ≡ area_of old
+    pub areas_is : areas_of new ≡ areas_of old
     pub kept : kept_of new ≡ kept_of old
     pub layout : layout_of new ≡ layout_of old
     pub next_leaf : next_leaf_of new ≡ next_leaf_of old
@@ -127,11 +127,11 @@ module _ {R A : Type 0} (rack : racks.Ghosts R) (area : areas.Ghosts A) where
     version = a.version;
     kept = a.kept ∙ is.kept;
     next_leaf = a.next_leaf ∙ is.next_leaf;
-    count = is.count ∙ ap area.faults (sym a.area_is);
+    count = is.count ∙ ap (count_in area.faults) (sym a.areas_is);
     stands = record {
       pending = is.stands.pending;
       are = All-weaker (IsPending x) (IsPending (asked_state x metaslabs)) (λ body pending. absurd (let no = sym settled ∙ pending.0 in cc)) is.stands.pending is.stands.are;
-      stands = subst (λ t. StandsTold (kept_in x) is.stands.pending (area.told t)) (sym a.area_is) is.stands.stands;
+      stands = subst (λ t. AreasStand (kept_in x) is.stands.pending (told_by area.told t)) (sym a.areas_is) is.stands.stands;
     };
   }
 

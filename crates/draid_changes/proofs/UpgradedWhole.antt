@@ -7,6 +7,7 @@ use Rattle.draid_shard.specs.Alike.{KeepsArms}
 use Rattle.draid_shard.specs.Calls.{SameAreas}
 use Rattle.draid_shard.specs.declared.shard.Shard.{Shard}
 use Rattle.draid_shard.proofs.Changed.{same_arms, same_entries}
+use Rattle.draid_uber.specs.Checks.{count_in}
 use Rattle.draid_uber.specs.Slots.{group_of}
 use Rattle.draid_uber.specs.Uber.{layout_of}
 use Rattle.draid_pool.specs.Failing.{AreasLater}
@@ -79,7 +80,7 @@ module _ {R A : Type 0} (rack : racks.Ghosts R) (area : areas.Ghosts A) where
     -- no call on an area came
     pub areas_asked : AreasLater area.faults pool new
     areas_asked = record {
-      uber = (let same = ap area.faults a.uber.area_is in omega (arith, same));
+      uber = (let same = ap (count_in area.faults) a.uber.areas_is in omega (arith, same));
       many = a.metaslabs.many;
       shards = λ m before after at here.
           (let was = changed_at (UpgradesIn rack) pool.metaslabs.shards.items new.metaslabs.shards.items a.metaslabs m after here in

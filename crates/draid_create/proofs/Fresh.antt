@@ -32,25 +32,28 @@ use Rattle.draid_objects.proofs.Keeping.{none_floor, none_stored}
 use Rattle.draid_record.specs.declared.uber.UberBody.{UberBody}
 use Rattle.draid_segments.specs.Segments.{Backed, Pieces}
 use Rattle.draid_segments.proofs.Beginning.{created_backed}
-use Rattle.draid_shelf.specs.Kits.{AreNewChecks, ChecksTold, Held, IsNewArea, IsNewKit, IsNewPool, IsNewRack, IsUncounted, KitCounts, KitTold, OnHeld, gives_uber, takes_uber, uber_bytes}
+use Rattle.draid_shelf.specs.Kits.{AreNewChecks, ChecksTold, Held, IsNewArea, IsNewKit, IsNewPool, IsNewRack, IsUncounted, KitCounts, KitTold, OnHeld, checks_of, uber_bytes}
 use Rattle.draid_layouts.specs.Layout as layouts
 use Rattle.draid_shard.specs.Alike.{ShareArms}
 use Rattle.draid_shard.specs.Part.{Part, layout_in}
 use Rattle.draid_shard.specs.States.{IsIn, layout_by}
 use Rattle.draid_shard.specs.declared.shard.Shard.{Shard}
+use Rattle.draid_uber.specs.declared.areas.Areas.{Areas}
 use Rattle.draid_uber.specs.declared.uber.Uber.{Uber}
+use Rattle.draid_uber.specs.Checks.{AreasStand, AreasTold, CheckStands, HasCheck, told_by}
 use Rattle.draid_uber.specs.Slots.{StandsTold, group_of}
 use Rattle.draid_uber.specs.Uber as ubers
-use Rattle.draid_uber.specs.Uber.{area_of, kept_of, layout_of, next_leaf_of, next_of, version_of}
+use Rattle.draid_uber.specs.Uber.{areas_of, count_of, kept_of, layout_of, next_leaf_of, next_of, version_of}
+use Rattle.draid_uber.proofs.Recorded.{empty_stands, stand_named, stand_pending}
 use Rattle.draid_session.specs.Making.{IsCalm, IsFresh, IsNew}
 use Rattle.draid_session.specs.Opening.{MayFind, VersionIn}
 use Rattle.draid_session.specs.Session.{uncommitted}
 use Rattle.draid_session.specs.State.{Metaslab, State}
-use Rattle.draid_pool.specs.Returning.{HoldsPool, OwnCounts, Returns, TakesBack}
+use Rattle.draid_pool.specs.Returning.{OwnCounts, Returns, TakesBack, own_count}
 use Rattle.draid_pool.specs.Metaslabs.{IsMetaslab, counts_of, harm_of}
 use Rattle.draid_pool.specs.Objects.{HoldsObjects, PointsTo, blocks_of}
-use Rattle.draid_create.specs.Opening.{AreOpened, HasNewKits, IsAway, IsBackAgain, IsMade, IsOpened, IsRefused, NoChecks, Opens, SameButRecords, rack_in}
-use Rattle.draid_pool.specs.Taking.{HoldsMade, TakesFirst}
+use Rattle.draid_create.specs.Opening.{AreNewAreas, AreOpened, HasNewKits, IsAway, IsBackAgain, IsMade, IsOpened, IsRefused, NoChecks, Opens, SameButRecords, rack_in}
+use Rattle.draid_pool.specs.Taking.{AreSilent, HoldsMade, TakesFirst, TellsAreas, gives_areas, takes_areas}
 use Rattle.draid_pool.specs.Pools.{Represents}
 use Rattle.draid_pool.specs.Importable.{AllAlike, IsAlike, Shared}
 use Rattle.draid_pool.specs.Records.{HasImages, HasLeafNumbers, HasRecords, LeavesAreBelow}
@@ -141,8 +144,8 @@ module _ {R A : Type 0} (rack : racks.Ghosts R) (area : areas.Ghosts A) where
     first_layout is = is ∙ (λ i. ubers.layout_in (layout i) (version i))
 
     pub is_uber : (perms : Perms) (shards : List (Shard R A)) (told : Bool) → ubers.Valid area.size new → kept_of new ≡ Some (next_of old 1) → layout_of new ≡ ubers.layout_in (layout_of old) (version_of old)
-        → version_of new ≡ version_of old → next_leaf_of new ≡ next_leaf_of old → StandsTold (Some (next_of old 1)) [] (area.told (area_of new))
-        → IsUber area new (state_of geometry perms shards (area.faults (area_of new)) told)
+        → version_of new ≡ version_of old → next_leaf_of new ≡ next_leaf_of old → AreasStand (Some (next_of old 1)) [] (told_by area.told (areas_of new))
+        → IsUber area new (state_of geometry perms shards (count_of area.faults new) told)
     is_uber perms shards told valid kept layout_is version_is leaf_is stands = record {
       valid = valid;
       layout = first_layout layout_is;
@@ -150,7 +153,7 @@ module _ {R A : Type 0} (rack : racks.Ghosts R) (area : areas.Ghosts A) where
       kept = kept ∙ ap (λ (b : UberBody). Some b) first_body;
       next_leaf = leaf_is ∙ next_leaf;
       count = refl;
-      stands = record { pending = []; are = All-nil (IsPending (state_of geometry perms shards (area.faults (area_of new)) told)); stands = subst (λ (b : UberBody). StandsTold (Some b) [] (area.told (area_of new))) first_body stands };
+      stands = record { pending = []; are = All-nil (IsPending (state_of geometry perms shards (count_of area.faults new) told)); stands = subst (λ (b : UberBody). AreasStand (Some b) [] (told_by area.told (areas_of new))) first_body stands };
     }
 
   module _ (geometry : Geometry) (whole : IsGeometry geometry) (held : Option Held) (counts : ℕ → KitCounts) (shards : List (Shard R A)) (opened : AreOpened rack area geometry held counts shards) where
@@ -346,9 +349,9 @@ module _ {R A : Type 0} (rack : racks.Ghosts R) (area : areas.Ghosts A) where
       }
 
       -- the pool of which the first commit was refused, as it is given back
-      pub refused_parts : (content : Option Content) (body : UberBody) → body ≡ body_of geometry geometry.props.version 1 geometry.spec.children → StandsTold None (body ∷ []) content
-          → Parts rack area shards content (uncommitted (state_of geometry opened.perms shards count told))
-      refused_parts content body is stands = let x = uncommitted (state_of geometry opened.perms shards count told) in record {
+      pub refused_parts : (own : AreasTold) (body : UberBody) → body ≡ body_of geometry geometry.props.version 1 geometry.spec.children → AreasStand None (body ∷ []) own
+          → Parts rack area shards own (uncommitted (state_of geometry opened.perms shards count told))
+      refused_parts own body is stands = let x = uncommitted (state_of geometry opened.perms shards count told) in record {
         layout = opened.are_perms;
         many = length-map shards metaslab_of ∙ opened.many;
         shards_are = sym (length-map shards metaslab_of);
@@ -418,46 +421,41 @@ module _ {R A : Type 0} (rack : racks.Ghosts R) (area : areas.Ghosts A) where
 
     pub opens : (now : Option Held) (pool : Pool R A) → OnHeld held (HasNewKits geometry) → TakesFirst geometry.props.metaslabs held now → ((m : ℕ) → m < geometry.props.metaslabs → IsUncounted (counts m))
         → pool.geometry ≡ geometry → pool.metaslabs.shards.items ≡ shards → pool.own.seq ≡ 0 → pool.own.floor ≡ 0 → ((q : ℕ) → get nat_eq pool.own.objects q ≡ None)
-        → IsUber area pool.uber (state_of geometry opened.perms shards (area.faults (area_of pool.uber)) (is_some held)) → Opens rack area geometry now pool
+        → IsUber area pool.uber (state_of geometry opened.perms shards (count_of area.faults pool.uber) (is_some held)) → Opens rack area geometry now pool
     opens now pool new taken uncounted used items seq floor empty uber = record {
-      state = state_of geometry opened.perms shards (area.faults (area_of pool.uber)) (is_some held);
-      represents = represents (area.faults (area_of pool.uber)) (is_some held) pool used items seq floor empty uber;
-      fresh = is_fresh (area.faults (area_of pool.uber)) (is_some held) uncounted new (λ tells. tells);
+      state = state_of geometry opened.perms shards (count_of area.faults pool.uber) (is_some held);
+      represents = represents (count_of area.faults pool.uber) (is_some held) pool used items seq floor empty uber;
+      fresh = is_fresh (count_of area.faults pool.uber) (is_some held) uncounted new (λ tells. tells);
       told_is = tells geometry.props.metaslabs held now taken;
     }
 
     -- ---- where its first commit is refused
 
-    module _ (mid last new : Option Held) (middle late after : ℕ → KitCounts) (r : Returns rack area shards mid last middle late) (content : Option Content) (gives : new ≡ gives_uber content last)
+    module _ (mid last new : Option Held) (middle late after : ℕ → KitCounts) (r : Returns rack area shards mid last middle late) (own : AreasTold) (gives : new ≡ gives_areas own last)
         (taken : TakesFirst geometry.props.metaslabs held mid) (fresh_kits : OnHeld held (HasNewKits geometry)) where
-      told_then : (c : Option Content) (h k l : Option Held) → OnHeld l (λ y. MatchOption k ⊥ (λ x. TakesBack rack area shards x y)) → TakesFirst geometry.props.metaslabs h k → IsSome (gives_uber c l) → IsTrue (is_some h)
-      told_then None h k l back t some = absurd (cc)
-      told_then (Some u) h k None back t some = absurd (cc)
-      told_then (Some u) h None (Some y) back t some = absurd back
-      told_then (Some u) None (Some x) (Some y) back t some = absurd (cc)
-      told_then (Some u) (Some w) (Some x) (Some y) back t some = refl
+      told_then : (u e o : Option Content) (h k l : Option Held) → OnHeld l (λ y. MatchOption k ⊥ (λ x. TakesBack rack area shards x y)) → TakesFirst geometry.props.metaslabs h k
+          → IsSome (gives_areas (record { uber = u; even = e; odd = o }) l) → IsTrue (is_some h)
+      told_then u None o h k l back t some = absurd (cc)
+      told_then u (Some e) None h k l back t some = absurd (cc)
+      told_then None (Some e) (Some o) h k l back t some = absurd (cc)
+      told_then (Some u) (Some e) (Some o) h k None back t some = absurd (cc)
+      told_then (Some u) (Some e) (Some o) h None (Some y) back t some = absurd back
+      told_then (Some u) (Some e) (Some o) None (Some x) (Some y) back t some = absurd (cc)
+      told_then (Some u) (Some e) (Some o) (Some w) (Some x) (Some y) back t some = refl
 
-      -- the areas of the check records were held all the time
-      checks_then : (P : Held → Type 0) (h k n : Option Held) → OnHeld h (HasNewKits geometry) → TakesFirst geometry.props.metaslabs h k → OnHeld n (λ x. MatchOption k ⊥ (λ y. IsSomeAnd y.checks AreNewChecks → P x))
-          → OnHeld n P
-      checks_then P h k None kits t held = tt
-      checks_then P h None (Some x) kits t held = absurd held
-      checks_then P None (Some y) (Some x) kits t held = absurd (cc)
-      checks_then P (Some w) (Some y) (Some x) kits t held = held (subst (λ (o : Option ChecksTold). IsSomeAnd o AreNewChecks) (sym t.checks) kits.checks)
-
-      pub refused : (body : UberBody) (now : OwnCounts) → body ≡ body_of geometry geometry.props.version 1 geometry.spec.children → StandsTold None (body ∷ []) content → ((m : ℕ) → m < geometry.props.metaslabs → IsUncounted (counts m))
+      pub refused : (body : UberBody) (now : OwnCounts) → body ≡ body_of geometry geometry.props.version 1 geometry.spec.children → AreasStand None (body ∷ []) own → ((m : ℕ) → m < geometry.props.metaslabs → IsUncounted (counts m))
           → ((m : ℕ) → after m ≡ late m) → NoChecks now → (leaves : ℕ → Option Shape) → ((m : ℕ) (shard : Shard R A) → slice_get shards m ≡ Some shard → leaves m ≡ Some (rack.shape shard.rack))
           → IsRefused geometry new leaves after now
       refused body now is stands uncounted kept checks leaves shapes =
-          let state = state_of geometry opened.perms shards now.uber (is_some held) in
-          let parts = refused_parts now.uber (is_some held) content body is stands in
+          let state = state_of geometry opened.perms shards (own_count now) (is_some held) in
+          let parts = refused_parts (own_count now) (is_some held) own body is stands in
           record {
             fresh = state;
-            is_fresh = is_fresh now.uber (is_some held) uncounted fresh_kits (λ tells. tells);
-            told = λ some. told_then content held mid last r.held taken (subst (λ (o : Option Held). IsSome o) gives some);
-            held = checks_then (HoldsPool (uncommitted state) false) held mid new fresh_kits taken (holds_pool rack area shards content (uncommitted state) parts mid last middle late r new gives);
-            importable = importable_back rack area shards (uncommitted state) parts.pieces parts.shards_are parts.each leaves parts.shared parts.alike 1 (omega arith) (first_versions now.uber (is_some held)) first_committed shapes content mid last middle late r new gives;
-            counts = counted_as rack area shards content (uncommitted state) parts mid last middle late r after kept;
+            is_fresh = is_fresh (own_count now) (is_some held) uncounted fresh_kits (λ tells. tells);
+            told = λ some. told_then own.uber own.even own.odd held mid last r.held taken (subst (λ (o : Option Held). IsSome o) gives some);
+            held = holds_pool rack area shards own (uncommitted state) parts mid last middle late r new gives;
+            importable = importable_back rack area shards (uncommitted state) parts.pieces parts.shards_are parts.each leaves parts.shared parts.alike 1 (omega arith) (first_versions (own_count now) (is_some held)) first_committed shapes own mid last middle late r new gives;
+            counts = counted_as rack area shards own (uncommitted state) parts mid last middle late r after kept;
             uber = omega arith;
             checks = checks;
           }
@@ -470,22 +468,54 @@ away geometry h None new t = tt
 away geometry None (Some y) new t = absurd (cc)
 away geometry (Some x) (Some y) new t = record {
   uber = t.uber ∙ new.uber;
-  checks = subst (λ (o : Option ChecksTold). IsSomeAnd o AreNewChecks) (sym t.checks) new.checks;
+  checks = t.checks ∙ new.checks;
   kits = λ m. elim (cases_lt m geometry.props.metaslabs) [
     | inl below ↦ t.taken m below
     | inr past ↦ t.others m past ∙ new.no_other m past
   ];
 }
 
--- the area of the uberblock is taken from all that was made
-pub uber_taken : (geometry : Geometry) (h : Option Held) → OnHeld h (IsNewPool geometry) → OnHeld (takes_uber h) (HasNewKits geometry)
-uber_taken geometry None new = tt
-uber_taken geometry (Some x) new = record { uber = refl; checks = new.checks; kits = new.kits; no_other = new.no_other }
+-- the pool's own areas are taken from all that was made
+pub areas_taken : (geometry : Geometry) (h : Option Held) → OnHeld h (IsNewPool geometry) → OnHeld (takes_areas h) (HasNewKits geometry)
+areas_taken geometry None new = tt
+areas_taken geometry (Some x) new = record { uber = refl; checks = refl; kits = new.kits; no_other = new.no_other }
 
--- the area of a new uberblock has zeros
-pub uber_zeros : (geometry : Geometry) (h : Option Held) (content : Option Content) → OnHeld h (IsNewPool geometry) → OnHeld h (λ x. content ≡ x.uber) → (h ≡ None → content ≡ None) → OnTold content (IsNewArea (replicate uber_bytes 0))
-uber_zeros geometry None content new is untold = subst (λ (o : Option Content). OnTold o (IsNewArea (replicate uber_bytes 0))) (sym (untold refl)) tt
-uber_zeros geometry (Some x) content new is untold = (let u = some_of_and x.uber (IsNewArea (replicate uber_bytes 0)) new.uber in subst (λ (o : Option Content). OnTold o (IsNewArea (replicate uber_bytes 0))) (sym (is ∙ u.1)) u.2)
+-- what two areas tell is told of both
+both_told : (e o : Option Content) (checks : ChecksTold) → checks_of e o ≡ Some checks → AreNewChecks checks → OnTold e (IsNewArea []) × OnTold o (IsNewArea [])
+both_told None o checks is new = absurd (cc)
+both_told (Some e) None checks is new = absurd (cc)
+both_told (Some e) (Some o) checks is new =
+    let same : record { even = e; odd = o } ≡ checks = some_of (Some checks) (record { even = e; odd = o }) checks (sym is) refl in
+    (subst (IsNewArea []) (ap (λ (c : ChecksTold). c.even) (sym same)) new.even, subst (IsNewArea []) (ap (λ (c : ChecksTold). c.odd) (sym same)) new.odd)
+
+-- the areas of a new pool have zeros, and nothing
+pub areas_new : (geometry : Geometry) (h : Option Held) (told : AreasTold) → OnHeld h (IsNewPool geometry) → OnHeld h (TellsAreas told) → (h ≡ None → AreSilent told) → AreNewAreas told
+areas_new geometry None told new tells silent = (let none = silent refl in record {
+  uber = subst (λ (o : Option Content). OnTold o (IsNewArea (replicate uber_bytes 0))) (sym none.uber) tt;
+  even = subst (λ (o : Option Content). OnTold o (IsNewArea [])) (sym none.even) tt;
+  odd = subst (λ (o : Option Content). OnTold o (IsNewArea [])) (sym none.odd) tt;
+})
+areas_new geometry (Some x) told new tells silent =
+    let u = some_of_and x.uber (IsNewArea (replicate uber_bytes 0)) new.uber in
+    let c = some_of_and x.checks AreNewChecks new.checks in
+    let both = both_told told.even told.odd c.0 (tells.checks ∙ c.1) c.2 in
+    record { uber = subst (λ (o : Option Content). OnTold o (IsNewArea (replicate uber_bytes 0))) (sym (tells.uber ∙ u.1)) u.2; even = both.0; odd = both.1 }
+
+-- the check record of the first group is that of an area to which nothing was written
+check_empty : (o : Option Content) → OnTold o (IsNewArea []) → OnTold o (CheckStands 1)
+check_empty None new = tt
+check_empty (Some x) new = empty_stands 1 x new.bytes_are
+
+-- the uberblock's area alone was called
+module _ {A : Type 0} (area : areas.Ghosts A) (geometry : Geometry) (old new : Uber A) (same : areas_of new ≡ record (areas_of old) { uber = (areas_of new).uber }) (fresh : AreNewAreas (told_by area.told (areas_of old))) where
+  first_check : HasCheck (told_by area.told (areas_of new)) (next_of old 1)
+  first_check = subst (λ o. OnTold o (CheckStands 1)) (ap (λ (a : Areas A). area.told a.odd) (sym same)) (check_empty (area.told (areas_of old).odd) fresh.odd)
+
+  pub first_named : StandsTold (Some (next_of old 1)) [] (area.told (areas_of new).uber) → AreasStand (Some (next_of old 1)) [] (told_by area.told (areas_of new))
+  first_named stands = stand_named None (next_of old 1) (told_by area.told (areas_of new)) first_check stands
+
+  pub first_pending : StandsTold None (next_of old 1 ∷ []) (area.told (areas_of new).uber) → AreasStand None (next_of old 1 ∷ []) (told_by area.told (areas_of new))
+  first_pending stands = stand_pending None (next_of old 1) (told_by area.told (areas_of new)) first_check tt stands
 
 pub uber_new : (content : Option Content) → OnTold content (IsNewArea (replicate uber_bytes 0)) → OnTold content ubers.IsNewArea
 uber_new None zeros = tt
@@ -497,21 +527,23 @@ rack_again geometry (Some k) None new same = absurd (cc)
 rack_again geometry (Some k) (Some l) new same = (let e : k.rack ≡ l.rack = cc in subst (IsNewRack geometry) e new.rack)
 
 -- all that was made is held again
-made_held : (geometry : Geometry) (c : Option Content) (h n : Option Held) → OnHeld h (HasNewKits geometry) → OnHeld n (λ y. MatchOption h ⊥ (λ x. SameButRecords x y)) → OnTold c (IsNewArea (replicate uber_bytes 0))
-    → OnHeld (gives_uber c n) (HoldsMade geometry)
-made_held geometry None h n new b zeros = tt
-made_held geometry (Some u) h None new b zeros = tt
-made_held geometry (Some u) None (Some y) new b zeros = absurd b
-made_held geometry (Some u) (Some x) (Some y) new b zeros = record {
-  uber = zeros;
-  checks = subst (λ (o : Option ChecksTold). IsSomeAnd o AreNewChecks) (sym b.checks) new.checks;
+made_held : (geometry : Geometry) (u e o : Option Content) (h n : Option Held) → OnHeld h (HasNewKits geometry) → OnHeld n (λ y. MatchOption h ⊥ (λ x. SameButRecords x y)) → AreNewAreas (record { uber = u; even = e; odd = o })
+    → OnHeld (gives_areas (record { uber = u; even = e; odd = o }) n) (HoldsMade geometry)
+made_held geometry u None o h n new b fresh = tt
+made_held geometry u (Some e) None h n new b fresh = tt
+made_held geometry None (Some e) (Some o) h n new b fresh = tt
+made_held geometry (Some u) (Some e) (Some o) h None new b fresh = tt
+made_held geometry (Some u) (Some e) (Some o) None (Some y) new b fresh = absurd b
+made_held geometry (Some u) (Some e) (Some o) (Some x) (Some y) new b fresh = record {
+  uber = fresh.uber;
+  checks = record { even = fresh.even; odd = fresh.odd };
   kits = λ m below. rack_again geometry (x.kits m) (y.kits m) (new.kits m below) (b.kits m);
 }
 
-pub made_again : (geometry : Geometry) (c : Option Content) (h n last : Option Held) (before after final : ℕ → KitCounts) (now : OwnCounts) → OnHeld h (HasNewKits geometry) → ((m : ℕ) → m < geometry.props.metaslabs → IsUncounted (before m))
-    → IsBackAgain h n before after → OnTold c (IsNewArea (replicate uber_bytes 0)) → last ≡ gives_uber c n → ((m : ℕ) → final m ≡ after m) → now.uber ≡ 0 → NoChecks now → IsMade geometry last final now
-made_again geometry c h n last before after final now new uncounted back zeros gives kept uber checks = record {
-  held = subst (λ (o : Option Held). OnHeld o (HoldsMade geometry)) (sym gives) (made_held geometry c h n new back.held zeros);
+pub made_again : (geometry : Geometry) (told : AreasTold) (h n last : Option Held) (before after final : ℕ → KitCounts) (now : OwnCounts) → OnHeld h (HasNewKits geometry) → ((m : ℕ) → m < geometry.props.metaslabs → IsUncounted (before m))
+    → IsBackAgain h n before after → AreNewAreas told → last ≡ gives_areas told n → ((m : ℕ) → final m ≡ after m) → now.uber ≡ 0 → NoChecks now → IsMade geometry last final now
+made_again geometry told h n last before after final now new uncounted back fresh gives kept uber checks = record {
+  held = subst (λ (o : Option Held). OnHeld o (HoldsMade geometry)) (sym gives) (made_held geometry told.uber told.even told.odd h n new back.held fresh);
   counts = λ m who below. ap (λ (x : KitCounts). x.rack who) (kept m) ∙ (back.counts m who ∙ (uncounted m below).no_rack who);
   uber = uber;
   checks = checks;

@@ -13,19 +13,20 @@ use Rattle.draid_perm.specs.declared.perms.Perms.{Perms}
 use Rattle.draid_map.specs.Place.{IsLayout}
 use Rattle.draid_machine.specs.Created.{created}
 use Rattle.draid_entries.specs.History.{limit_in, reserved_of}
-use Rattle.draid_shelf.specs.Kits.{AreNewChecks, Held, IsNewArea, IsNewKit, KitCounts, KitTold, OnHeld, uber_bytes}
+use Rattle.draid_shelf.specs.Kits.{Held, IsNewArea, IsNewKit, KitCounts, KitTold, OnHeld, uber_bytes}
 use Rattle.draid_shard.specs.Fits.{Valid}
 use Rattle.draid_shard.specs.Part.{Part, layout_in}
 use Rattle.draid_shard.specs.States.{IsIn, part_of, stored_in}
 use Rattle.draid_shard.specs.declared.shard.Shard.{Shard}
 use Rattle.draid_uber.specs.declared.uber.Uber.{Uber}
+use Rattle.draid_uber.specs.Checks.{AreasTold, told_by}
 use Rattle.draid_uber.specs.Slots.{StandsTold}
-use Rattle.draid_uber.specs.Uber.{area_of, kept_of, layout_of, next_leaf_of, version_of}
+use Rattle.draid_uber.specs.Uber.{area_of, areas_of, kept_of, layout_of, next_leaf_of, version_of}
 use Rattle.draid_uber.specs.Uber as ubers
 use Rattle.draid_session.specs.Making.{IsFresh}
 use Rattle.draid_session.specs.Session.{uncommitted}
 use Rattle.draid_session.specs.State.{Metaslab, State, limit_of}
-use Rattle.draid_pool.specs.Returning.{HoldsPool, OwnCounts, SameCounts}
+use Rattle.draid_pool.specs.Returning.{HoldsPool, OwnCounts, SameCounts, own_count}
 use Rattle.draid_pool.specs.Importable.{IsImportable}
 use Rattle.draid_pool.specs.Records.{HasRecords}
 use Rattle.draid_pool.specs.Pools.{Represents}
@@ -49,10 +50,10 @@ HasLayout spec props = (geometry : Geometry) × (geometry_of spec props ≡ Ok g
 
 -- ---- the shelf
 
--- the areas of the check records are held, as they were made, and all else is away
+-- all is away
 pub record IsAway (x : Held) : Type 0 where
   pub uber : x.uber ≡ None
-  pub checks : IsSomeAnd x.checks AreNewChecks
+  pub checks : x.checks ≡ None
   pub kits : (m : ℕ) → x.kits m ≡ None
 
 -- no call has failed on the areas of the check records
@@ -82,18 +83,17 @@ pub record IsRefused (geometry : Geometry) (new : Option Held) (leaves : ℕ →
   pub held : OnHeld new (HoldsPool (uncommitted fresh) false)
   pub importable : OnHeld new (λ held. IsImportable (uncommitted fresh) held leaves)
   pub counts : (m : ℕ) (y : Metaslab) → slice_get fresh.metaslabs m ≡ Some y → SameCounts y.counts (after m)
-  pub uber : now.uber ≡ fresh.uber_count
+  pub uber : own_count now ≡ fresh.uber_count
   pub checks : NoChecks now
 
 -- what a shelf holds of a pool that was made, and of which nothing was committed
 abbrev pub HoldsUncommitted : Geometry → Option Held → (ℕ → Option Shape) → (ℕ → KitCounts) → OwnCounts → Type 0
 HoldsUncommitted geometry new leaves after now = IsMade geometry new after now ⊎ IsRefused geometry new leaves after now
 
--- What the shelf holds then: with the pool, the areas of the check records; for a layout that isn't there what it held; and after another refusal that too, or all
--- devices of the new pool.
+-- What the shelf holds then: with the pool nothing; for a layout that isn't there what it held; and after another refusal that too, or all devices of the new pool.
 abbrev pub ShelfIs : {P : Type 0} → Spec → Props → Option Held → Option Held → (ℕ → Option Shape) → (ℕ → Option Shape) → (ℕ → KitCounts) → (ℕ → KitCounts) → OwnCounts → OwnCounts
     → Result P CreateFault → Type 0
-ShelfIs spec props old new leaves leaves' before after own now (Ok pool) = OnHeld new IsAway × NoChecks now
+ShelfIs spec props old new leaves leaves' before after own now (Ok pool) = OnHeld new IsAway
 ShelfIs spec props old new leaves leaves' before after own now (Err (fault.Spec why)) = IsAsBefore old new before after own now × SameLeaves leaves leaves'
 ShelfIs spec props old new leaves leaves' before after own now (Err why) =
     (IsAsBefore old new before after own now × SameLeaves leaves leaves')
@@ -161,7 +161,13 @@ pub record IsBackAgain (old new : Option Held) (before after : ℕ → KitCounts
 
 -- ---- the uberblock
 
--- the uberblock of a new pool, to whose area nothing was written
+-- a new pool's own areas, where they tell
+pub record AreNewAreas (told : AreasTold) : Type 0 where
+  pub uber : OnTold told.uber (IsNewArea (replicate uber_bytes 0))
+  pub even : OnTold told.even (IsNewArea [])
+  pub odd : OnTold told.odd (IsNewArea [])
+
+-- the uberblock of a new pool, to whose areas nothing was written
 pub record IsNewUber {A : Type 0} (area : areas.Ghosts A) (geometry : Geometry) (uber : Uber A) : Type 0 where
   pub valid : ubers.Valid area.size uber
   pub kept : kept_of uber ≡ None
@@ -169,12 +175,14 @@ pub record IsNewUber {A : Type 0} (area : areas.Ghosts A) (geometry : Geometry) 
   pub version : version_of uber ≡ geometry.props.version
   pub next_leaf : next_leaf_of uber ≡ geometry.spec.children
   pub stands : StandsTold None [] (area.told (area_of uber))
-  pub zeros : OnTold (area.told (area_of uber)) (IsNewArea (replicate uber_bytes 0))
+  pub new : AreNewAreas (told_by area.told (areas_of uber))
   pub count : area.faults (area_of uber) ≡ 0
+  pub even_count : area.faults (areas_of uber).even ≡ 0
+  pub odd_count : area.faults (areas_of uber).odd ≡ 0
 
--- the devices of a new pool are held, but for the area of the uberblock, which is taken
+-- the devices of a new pool are held, but for its own areas, which are taken
 pub record HasNewKits (geometry : Geometry) (x : Held) : Type 0 where
   pub uber : x.uber ≡ None
-  pub checks : IsSomeAnd x.checks AreNewChecks
+  pub checks : x.checks ≡ None
   pub kits : (m : ℕ) → m < geometry.props.metaslabs → IsSomeAnd (x.kits m) (IsNewKit geometry)
   pub no_other : (m : ℕ) → geometry.props.metaslabs ≤ m → x.kits m ≡ None

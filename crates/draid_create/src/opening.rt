@@ -14,7 +14,7 @@ use crate::metaslab::create_metaslab;
 use draid_area::Area;
 use draid_names::DeviceFault;
 use draid_perm::Perms;
-use draid_pool::{EVENTS, Own, Owned, Pool, give_back};
+use draid_pool::{EVENTS, Own, Owned, Pool, give_areas, give_back, take_areas};
 use draid_shard::Shard;
 use draid_shelf::Shelf;
 use draid_spec::{Geometry, Props, Spec, geometry};
@@ -87,7 +87,7 @@ fn open_shards<H: Shelf>(
 }
 
 /// Opens a new pool over the devices that were made for it, and commits its group 1, which is empty. A refusal gives
-/// back all that was taken, and the uberblock's area.
+/// back all that was taken, and the pool's own areas.
 fn open_pool<H: Shelf>(
     alloc: Global,
     shelf: &mut H,
@@ -99,12 +99,10 @@ fn open_pool<H: Shelf>(
     requires held { OnHeld (H.told shelf.old) (HasNewKits layout) }
     requires leaves { (m : ℕ) → m < layout.props.metaslabs → IsSomeAnd (H.leaves shelf.old m) (HasLeavesOf layout) }
     requires counts { (m : ℕ) → m < layout.props.metaslabs → IsUncounted (H.counts shelf.old m) }
-    requires checks { H.check_counts shelf.old ≡ record { even = 0; odd = 0 } }
     ensures whole { IfOk result (IsWhole H.R.Rack H.A.Area) }
     ensures opens { IfOk result (Opens H.R.Rack H.A.Area layout (H.told shelf.new)) }
     ensures away { OnOk result (OnHeld (H.told shelf.new) IsAway) }
     ensures back { OnErr result (HoldsUncommitted layout (H.told shelf.new) (H.leaves shelf.new) (H.counts shelf.new) (record { uber = H.uber_count shelf.new; checks = H.check_counts shelf.new })) }
-    ensures checks { H.check_counts shelf.new ≡ H.check_counts shelf.old }
     ensures later { H.faults shelf.old ≤ H.faults shelf.new }
     ensures cause { IsErrOf result DeviceFault.Failed → Rose (H.faults shelf.old) (H.faults shelf.new)
         ⊎ HasBadArea layout (H.counts shelf.new) (record { uber = H.uber_count shelf.new; checks = H.check_counts shelf.new }) }
@@ -113,7 +111,7 @@ fn open_pool<H: Shelf>(
     let shards = match open_shards(alloc, shelf, layout) {
         Ok(shards) => shards,
         Err(fault) => {
-            shelf.give_uber(uber.into_area());
+            give_areas(shelf, uber.into_areas());
             return Err(fault);
         }
     };
@@ -131,7 +129,7 @@ fn open_pool<H: Shelf>(
         }),
         Err(fault) => {
             give_back(shelf, shards);
-            shelf.give_uber(uber.into_area());
+            give_areas(shelf, uber.into_areas());
             Err(fault)
         }
     }
@@ -147,7 +145,6 @@ fn make_pool<H: Shelf>(
     ensures whole { IfOk result (IsWhole H.R.Rack H.A.Area) }
     ensures opens { IfOk result (Opens H.R.Rack H.A.Area layout (H.told shelf.new)) }
     ensures away { OnOk result (OnHeld (H.told shelf.new) IsAway) }
-    ensures checks { OnOk result (H.check_counts shelf.new ≡ record { even = 0; odd = 0 }) }
     ensures back { OnErr result ((IsAsBefore (H.told shelf.old) (H.told shelf.new) (H.counts shelf.old) (H.counts shelf.new)
         (record { uber = H.uber_count shelf.old; checks = H.check_counts shelf.old })
         (record { uber = H.uber_count shelf.new; checks = H.check_counts shelf.new })
@@ -158,15 +155,15 @@ fn make_pool<H: Shelf>(
         ⊎ NewPoolFailed layout (H.told shelf.new) (H.leaves shelf.new) (H.counts shelf.new) (record { uber = H.uber_count shelf.new; checks = H.check_counts shelf.new }) }
 {
     shelf.make(alloc, &layout)?;
-    let area = shelf.take_uber()?;
-    let Ok(uber) = Uber::create(layout, area) else {
+    let areas = take_areas(shelf)?;
+    let Ok(uber) = Uber::create(alloc, layout, areas) else {
         unreachable!()
     };
     open_pool(alloc, shelf, layout, uber)
 }
 
 /// Makes a pool of this spec on the shelf, in place of an earlier one, commits its group 1, which is empty, and opens it.
-/// The areas of the check records stay on the shelf. A refusal gives back all that was taken.
+/// No check record is written. A refusal gives back all that was taken.
 pub fn create<H: Shelf>(
     alloc: Global,
     shelf: &mut H,

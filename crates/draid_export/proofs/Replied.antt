@@ -21,7 +21,7 @@ exported_group a b same = cc
 
 module _ {R A : Type 0} (rack : racks.Ghosts R) (area : areas.Ghosts A) (new : Pool R A) (x : State) (result : Result ℕ SyncFault) (c : CarriesOut rack area new x (ExportDoes x result)) where
   -- all was made safe, and the pool was given back
-  pub exported : (group : ℕ) → result ≡ Ok group → (before now : OnShelf) → ((y : State) → Represents rack area new y → GivesBack y false before.held now.held now.leaves now.counts now.own.uber)
+  pub exported : (group : ℕ) → result ≡ Ok group → (before now : OnShelf) → ((y : State) → Represents rack area new y → GivesBack y false now.held now.leaves now.counts now.own)
       → IsExported x before now (Exported group)
   exported group is before now back = record {
     group = group;

@@ -67,7 +67,7 @@ pub record IsExported (x : State) (before now : OnShelf) (said : Reply) : Type 0
   pub store : Store
   pub follows : Follows holds x reached
   pub done : ExportDoes x (Ok group) holds store
-  pub back : GivesBack (record reached { store = store }) false before.held now.held now.leaves now.counts now.own.uber
+  pub back : GivesBack (record reached { store = store }) false now.held now.leaves now.counts now.own
 
 -- A sync was refused, as the reply says, or a device failed.
 abbrev pub RefusalSays : Result Reply Failed → State → List Hold → Store → Type 0

@@ -8,7 +8,7 @@ ghost use Rattle.draid_pool.specs.Failing.{AreaRose, AreasLater};
 ghost use Rattle.draid_pool.specs.Pointers.{SamePointers};
 ghost use Rattle.draid_pool.specs.Pools.{Represents, group_in};
 ghost use Rattle.draid_pool.specs.Returning.{GivesBack, IsFirm};
-ghost use Rattle.draid_pool.specs.Shelves.{on_shelf};
+ghost use Rattle.draid_pool.specs.Shelves.{on_shelf, own_on};
 ghost use Rattle.draid_pool.specs.Whole.{IsWhole};
 ghost use Rattle.draid_export.specs.Exporting.{ExportIs, IsRefusal, TellsGroup, WasRefused};
 
@@ -60,7 +60,6 @@ pub fn reply_to_export<H: Shelf>(
         → ExportIs H.R.Rack H.A.Area x (on_shelf H.Shelf shelf.old) (on_shelf H.Shelf shelf.new) result }
     // The shelf is left alone where the pool comes back.
     ensures alone { OnErr result (shelf.new ≡ shelf.old) }
-    ensures checks { H.check_counts shelf.new ≡ H.check_counts shelf.old }
     ensures faults { H.faults shelf.new ≡ H.faults shelf.old }
 {
     let mut pool = pool;
@@ -82,11 +81,9 @@ pub fn reply_to_crash<H: Shelf>(shelf: &mut H, pool: Pool<H::R, H::A>) -> Reply
     ensures fits { IsReplyTo CrashPool result }
     ensures is { result ≡ Reply.Crashed }
     ensures back { (x : State) → Represents H.R.Rack H.A.Area pool x
-        → GivesBack x true (H.told shelf.old) (H.told shelf.new) (H.leaves shelf.new) (H.counts shelf.new)
-        (H.uber_count shelf.new) }
+        → GivesBack x true (H.told shelf.new) (H.leaves shelf.new) (H.counts shelf.new) (own_on H.Shelf shelf.new) }
     // Nothing that the shelf tells is soft then.
     ensures firm { OnHeld (H.told shelf.new) IsFirm }
-    ensures checks { H.check_counts shelf.new ≡ H.check_counts shelf.old }
     ensures faults { H.faults shelf.new ≡ H.faults shelf.old }
 {
     close(pool, shelf, true);

@@ -12,7 +12,8 @@ use Rattle.draid_spec.specs.declared.layout.Geometry.{Geometry}
 use Rattle.draid_spec.specs.Geometry.{metaslab_sectors}
 use Rattle.draid_record.specs.Record.{limits_of, record_of}
 use Rattle.draid_segments.specs.Acts.{DropsBut, IsNamed}
-use Rattle.draid_shelf.specs.Kits.{Held, KitCounts, KitTold, OnHeld, gives_uber, puts_uber, takes_uber}
+use Rattle.draid_shelf.specs.Kits.{ChecksTold, Held, KitCounts, KitTold, OnHeld, checks_of, puts_checks, puts_uber}
+use Rattle.draid_pool.specs.Taking.{TellsAreas, gives_areas, takes_areas}
 use Rattle.draid_stable.specs.Images.{image_by}
 use Rattle.draid_stable.specs.Opening.{has_leaf}
 use Rattle.draid_stable.specs.Stable as stable
@@ -20,8 +21,9 @@ use Rattle.draid_shard.specs.Part.{Part}
 use Rattle.draid_shard.specs.declared.shard.Shard.{Shard}
 use Rattle.draid_import.specs.Reopening.{area_of_kit}
 use Rattle.draid_import.proofs.Reopened.{told_read}
+use Rattle.draid_uber.specs.Checks.{told_by}
 use Rattle.draid_uber.specs.Slots.{chosen_of, group_of}
-use Rattle.draid_uber.specs.Uber.{area_of, kept_of, layout_of, next_leaf_of}
+use Rattle.draid_uber.specs.Uber.{areas_of, count_of, kept_of, layout_of, next_leaf_of}
 use Rattle.draid_uber.specs.declared.uber.Uber.{Uber}
 use Rattle.draid_session.specs.Making.{vdev_name_of}
 use Rattle.draid_session.specs.State.{limit_of}
@@ -39,16 +41,16 @@ use Rattle.draid_pool.proofs.Lists.{ext, present}
 
 -- the uberblock was taken before, and nothing else was changed
 pub over_entry : {R A : Type 0} (rack : racks.Ghosts R) (area : areas.Ghosts A) (limit group next : ℕ) (o mid : Option Held) (leaves yet_leaves : ℕ → Option Shape) (counts yet : ℕ → KitCounts) (shards : List (Shard R A))
-    → mid ≡ takes_uber o → ((m : ℕ) → yet_leaves m ≡ leaves m) → ((m : ℕ) → yet m ≡ counts m) → OpensAllOver rack area limit group next mid yet_leaves yet shards
-    → OpensAllOver rack area limit group next (takes_uber o) leaves counts shards
+    → mid ≡ takes_areas o → ((m : ℕ) → yet_leaves m ≡ leaves m) → ((m : ℕ) → yet m ≡ counts m) → OpensAllOver rack area limit group next mid yet_leaves yet shards
+    → OpensAllOver rack area limit group next (takes_areas o) leaves counts shards
 over_entry rack area limit group next o mid leaves yet_leaves counts yet shards taken same_leaves same over =
     subst (λ (h : Option Held). OpensAllOver rack area limit group next h leaves counts shards) taken
     (subst (λ (s : ℕ → Option Shape). OpensAllOver rack area limit group next mid s counts shards) (ext yet_leaves leaves same_leaves)
     (subst (λ (k : ℕ → KitCounts). OpensAllOver rack area limit group next mid yet_leaves k shards) (ext yet counts same) over))
 
 pub unread_entry : {R A : Type 0} (rack : racks.Ghosts R) (area : areas.Ghosts A) (geometry : Geometry) (group next : ℕ) (o mid : Option Held) (leaves yet_leaves : ℕ → Option Shape) (counts yet : ℕ → KitCounts)
-    (metaslab : Option ℕ) (place : ℕ) (kind : RecordFaultKind) → mid ≡ takes_uber o → ((m : ℕ) → yet_leaves m ≡ leaves m) → ((m : ℕ) → yet m ≡ counts m) → OneIsUnread rack area geometry group next mid yet_leaves yet metaslab place kind
-    → OneIsUnread rack area geometry group next (takes_uber o) leaves counts metaslab place kind
+    (metaslab : Option ℕ) (place : ℕ) (kind : RecordFaultKind) → mid ≡ takes_areas o → ((m : ℕ) → yet_leaves m ≡ leaves m) → ((m : ℕ) → yet m ≡ counts m) → OneIsUnread rack area geometry group next mid yet_leaves yet metaslab place kind
+    → OneIsUnread rack area geometry group next (takes_areas o) leaves counts metaslab place kind
 unread_entry rack area geometry group next o mid leaves yet_leaves counts yet metaslab place kind taken same_leaves same one =
     subst (λ (h : Option Held). OneIsUnread rack area geometry group next h leaves counts metaslab place kind) taken
     (subst (λ (s : ℕ → Option Shape). OneIsUnread rack area geometry group next mid s counts metaslab place kind) (ext yet_leaves leaves same_leaves)
@@ -144,54 +146,65 @@ opened_counts rack area limit group next m o known before after shard over own e
   odd = (let was = over.taken.odd_count in let up = over.later.odd in omega (arith, odd, was, up));
 }
 
--- the shelf tells again once the area of the uberblock is back
-tells_again : (o back new : Option Held) (told content : Option Content) (P : Content → Type 0) → OnHeld o (λ x. content ≡ x.uber) → OnHeld o (λ x. IsSomeAnd x.uber P) → told ≡ option_map flushes content
-    → new ≡ gives_uber told back → OnHeld (takes_uber o) (λ x. IsSome back) → OnHeld o (λ x. IsSome new)
-tells_again None back new told content P own some flushed gives still = tt
-tells_again (Some x) back new told content P own some flushed gives still = by x.uber refl some back refl still
+-- the shelf tells again once the pool's own areas are back
+tells_again : (o back new : Option Held) (told content even odd : Option Content) (P : Content → Type 0) → OnHeld o (TellsAreas (record { uber = content; even = even; odd = odd })) → OnHeld o (λ x. IsSomeAnd x.uber P)
+    → OnHeld o (λ x. IsSome x.checks) → told ≡ option_map flushes content
+    → new ≡ gives_areas (record { uber = told; even = even; odd = odd }) back → OnHeld (takes_areas o) (λ x. IsSome back) → OnHeld o (λ x. IsSome new)
+tells_again None back new told content even odd P own some checks flushed gives still = tt
+tells_again (Some x) back new told content even odd P own some checks flushed gives still = by x.uber refl some back refl still even odd refl refl (subst IsSome (sym own.checks) checks)
   where
-    by : (u : Option Content) → x.uber ≡ u → IsSomeAnd u P → (b : Option Held) → back ≡ b → IsSome b → IsSome new
-    by None is some b same there = absurd some
-    by (Some c) is some None same there = absurd (cc)
-    by (Some c) is some (Some b) same there =
-        let area : told ≡ Some (flushes c) = flushed ∙ ap (λ z. option_map flushes z) (own ∙ is) in
-        subst IsSome (sym (gives ∙ (ap (λ t. gives_uber t back) area ∙ ap (λ z. gives_uber (Some (flushes c)) z) same))) refl
+    by : (u : Option Content) → x.uber ≡ u → IsSomeAnd u P → (b : Option Held) → back ≡ b → IsSome b → (e d : Option Content) → even ≡ e → odd ≡ d → IsSome (checks_of e d) → IsSome new
+    by None is some b same there e d ee dd both = absurd some
+    by (Some c) is some None same there e d ee dd both = absurd (cc)
+    by (Some c) is some (Some b) same there None d ee dd both = absurd (cc)
+    by (Some c) is some (Some b) same there (Some e) None ee dd both = absurd (cc)
+    by (Some c) is some (Some b) same there (Some e) (Some d) ee dd both =
+        let area : told ≡ Some (flushes c) = flushed ∙ ap (λ z. option_map flushes z) (own.uber ∙ is) in
+        subst IsSome (sym (gives ∙ (λ i. gives_areas (record { uber = area i; even = ee i; odd = dd i }) (same i)))) refl
 
 module _ {R A : Type 0} (rack : racks.Ghosts R) (area : areas.Ghosts A) (geometry : Geometry) (group next : ℕ) (leaves : ℕ → Option Shape) (counts : ℕ → KitCounts) (shards : List (Shard R A))
     (are : (m : ℕ) (shard : Shard R A) → slice_get shards m ≡ Some shard → (shard.geometry ≡ geometry) × (shard.number ≡ m)) where
-  held_back : (x b : Held) (t : Content) → Some t ≡ option_map flushes x.uber → TakesBack rack area shards (puts_uber None x) b
-      → OpensAllOver rack area (limit_of geometry) group next (Some (puts_uber None x)) leaves counts shards → IsHeldAgain geometry group next x (puts_uber (Some t) b)
-  held_back x b t flushed back over = record { uber = flushed; checks = back.checks; kits = λ m. by m (cases_lt m (length shards)) }
+  held_back : (x b : Held) (t : Content) (k : ChecksTold) → Some t ≡ option_map flushes x.uber → Some k ≡ x.checks → TakesBack rack area shards (puts_checks None (puts_uber None x)) b
+      → OpensAllOver rack area (limit_of geometry) group next (Some (puts_checks None (puts_uber None x))) leaves counts shards → IsHeldAgain geometry group next x (puts_checks (Some k) (puts_uber (Some t) b))
+  held_back x b t k flushed checks back over = record { uber = flushed; checks = checks; kits = λ m. by m (cases_lt m (length shards)) }
     where
       by : (m : ℕ) → (m < length shards) ⊎ (length shards ≤ m) → IsKitBack geometry m group next (x.kits m) (b.kits m)
       by m (inl below) =
           let s = present shards m below in
           let is = are m s.0 s.1 in
           let kit = back.kits m s.0 s.1 in
-          opened_kit rack area geometry group next (puts_uber None x) leaves counts m s.0 kit.0 (b.kits m) is.0 is.1 (over m s.0 s.1) kit.1 kit.2
+          opened_kit rack area geometry group next (puts_checks None (puts_uber None x)) leaves counts m s.0 kit.0 (b.kits m) is.0 is.1 (over m s.0 s.1) kit.1 kit.2
       by m (inr past) = inl (back.others m past)
 
-  held_again : (o back : Option Held) (told content : Option Content) → OnHeld o (λ x. content ≡ x.uber) → told ≡ option_map flushes content
-      → OnHeld back (λ y. MatchOption (takes_uber o) ⊥ (λ x. TakesBack rack area shards x y)) → OpensAllOver rack area (limit_of geometry) group next (takes_uber o) leaves counts shards
-      → OnHeld (gives_uber told back) (λ y. MatchOption o ⊥ (λ x. IsHeldAgain geometry group next x y))
-  held_again o back None content own flushed held over = tt
-  held_again o None (Some t) content own flushed held over = tt
-  held_again None (Some b) (Some t) content own flushed held over = absurd held
-  held_again (Some x) (Some b) (Some t) content own flushed held over = held_back x b t (flushed ∙ ap (λ z. option_map flushes z) own) held over
+  held_again : (o back : Option Held) (told content even odd : Option Content) → OnHeld o (TellsAreas (record { uber = content; even = even; odd = odd })) → told ≡ option_map flushes content
+      → OnHeld back (λ y. MatchOption (takes_areas o) ⊥ (λ x. TakesBack rack area shards x y)) → OpensAllOver rack area (limit_of geometry) group next (takes_areas o) leaves counts shards
+      → OnHeld (gives_areas (record { uber = told; even = even; odd = odd }) back) (λ y. MatchOption o ⊥ (λ x. IsHeldAgain geometry group next x y))
+  held_again o back told content None odd own flushed held over = tt
+  held_again o back told content (Some e) None own flushed held over = tt
+  held_again o back None content (Some e) (Some d) own flushed held over = tt
+  held_again o None (Some t) content (Some e) (Some d) own flushed held over = tt
+  held_again None (Some b) (Some t) content (Some e) (Some d) own flushed held over = absurd held
+  held_again (Some x) (Some b) (Some t) content (Some e) (Some d) own flushed held over = held_back x b t (record { even = e; odd = d }) (flushed ∙ ap (λ z. option_map flushes z) own.uber) own.checks held over
+
+-- the areas that were taken tell what was held
+own_areas : {A : Type 0} (area : areas.Ghosts A) (o : Option Held) (count : ℕ) (uber : Uber A) (r : IsRecovered area o count uber)
+    → OnHeld o (TellsAreas (record { uber = r.content; even = area.told (areas_of uber).even; odd = area.told (areas_of uber).odd }))
+own_areas area None count uber r = tt
+own_areas area (Some x) count uber r = record { uber = r.own; checks = r.checks }
 
 -- an uberblock was found, metaslabs were opened, and all is given back
 pub left_found : {R A : Type 0} (rack : racks.Ghosts R) (area : areas.Ghosts A) (o mid back new : Option Held) (yet_leaves late_leaves : ℕ → Option Shape) (counts yet late after : ℕ → KitCounts) (count now : ℕ) (uber : Uber A)
-    → IsFoundUber area uber → IsRecovered area o count uber → TellsBody o uber → mid ≡ takes_uber o → ((m : ℕ) → yet m ≡ counts m)
+    → IsFoundUber area uber → IsRecovered area o count uber → TellsBody o uber → mid ≡ takes_areas o → ((m : ℕ) → yet m ≡ counts m)
     → LeavesShards rack area (layout_of uber) (group_of (kept_of uber)) (next_leaf_of uber) mid back yet late yet_leaves late_leaves
-    → new ≡ gives_uber (area.told (area_of uber)) back → ((m : ℕ) → after m ≡ late m) → now ≡ area.faults (area_of uber) → LeavesAll area o new counts after count now
+    → new ≡ gives_areas (told_by area.told (areas_of uber)) back → ((m : ℕ) → after m ≡ late m) → now ≡ count_of area.faults uber → LeavesAll area o new counts after count now
 left_found {R} {A} rack area o mid back new yet_leaves late_leaves counts yet late after count now uber found r body taken same l gives counted own = record {
-  tells = tells_again o back new (area.told (area_of uber)) r.content (λ c. chosen_of c.bytes ≡ Some (Ok body.body)) r.own body.chosen r.flushed gives (subst (λ z. OnHeld z (λ x. IsSome back)) taken l.tells);
+  tells = tells_again o back new (area.told (areas_of uber).uber) r.content (area.told (areas_of uber).even) (area.told (areas_of uber).odd) (λ c. chosen_of c.bytes ≡ Some (Ok body.body)) (own_areas area o count uber r) body.chosen r.some_checks r.flushed gives (subst (λ z. OnHeld z (λ x. IsSome back)) taken l.tells);
   held = inr (record {
     uber = uber;
     found = found;
     body = body;
     held = subst (λ z. OnHeld z (λ y. MatchOption o ⊥ (λ x. IsHeldAgain (layout_of uber) (group_of (kept_of uber)) (next_leaf_of uber) x y))) (sym gives)
-        (held_again rack area (layout_of uber) (group_of (kept_of uber)) (next_leaf_of uber) yet_leaves yet l.shards part o back (area.told (area_of uber)) r.content r.own r.flushed
+        (held_again rack area (layout_of uber) (group_of (kept_of uber)) (next_leaf_of uber) yet_leaves yet l.shards part o back (area.told (areas_of uber).uber) r.content (area.told (areas_of uber).even) (area.told (areas_of uber).odd) (own_areas area o count uber r) r.flushed
         (subst (λ z. OnHeld back (λ y. MatchOption z ⊥ (λ x. TakesBack rack area l.shards x y))) taken l.held)
         (subst (λ (z : Option Held). OpensAllOver rack area (limit_of (layout_of uber)) (group_of (kept_of uber)) (next_leaf_of uber) z yet_leaves yet l.shards) taken l.over));
   });

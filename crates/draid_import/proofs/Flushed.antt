@@ -7,7 +7,8 @@ use Rattle.draid_area.specs.declared.Area as areas
 use Rattle.draid_rack.specs.Rack.{Shape}
 use Rattle.draid_rack.specs.declared.Rack as racks
 use Rattle.draid_record.specs.declared.fault.RecordFault.TheVariants.{Bad}
-use Rattle.draid_shelf.specs.Kits.{Held, KitCounts, takes_uber}
+use Rattle.draid_shelf.specs.Kits.{Held, KitCounts}
+use Rattle.draid_pool.specs.Taking.{takes_areas}
 use Rattle.draid_uber.specs.Slots.{chosen_of, group_of}
 use Rattle.draid_uber.specs.Uber.{kept_of, layout_of, next_leaf_of}
 use Rattle.draid_uber.specs.declared.uber.Uber.{Uber}
@@ -48,8 +49,8 @@ body_before x y uber same t = record {
 }
 
 -- but for the uberblock the same is held
-taken_same : (x y : Held) → SameButFlushed x y → takes_uber (Some y) ≡ takes_uber (Some x)
-taken_same x y same = λ i. Some (record { uber = None; checks = same.checks i; kits = ext y.kits x.kits same.kits i })
+taken_same : (x y : Held) → SameButFlushed x y → takes_areas (Some y) ≡ takes_areas (Some x)
+taken_same x y same = λ i. Some (record { uber = None; checks = None; kits = ext y.kits x.kits same.kits i })
 
 module _ {R A : Type 0} (rack : racks.Ghosts R) (area : areas.Ghosts A) (x y : Held) (leaves : ℕ → Option Shape) (counts : ℕ → KitCounts) (same : SameButFlushed x y) where
   pub fault_before : (metaslab : Option ℕ) (place : ℕ) (kind : RecordFaultKind) → RecordIsBad rack area (Some y) leaves counts metaslab place kind → RecordIsBad rack area (Some x) leaves counts metaslab place kind

@@ -50,7 +50,8 @@ use Rattle.draid_uber.specs.Uber.{kept_of, layout_of, next_leaf_of, version_of}
 use Rattle.draid_found.specs.Found.{AllLive, AreFound, AreReady}
 use Rattle.draid_import.specs.Found.{AnyRecordsRose, AreFreed, AreReopened, CountsLater, FreesAt, FreesOlder, FreesIfOlder, HaveLowLeaves, IsFoundUber, IsReopened, LeavesUber, OpensOver, RecordsRose, SameButFlushed, SameChecks, StaysHeld}
 use Rattle.draid_pool.specs.Returning.{Returns, TakesBack}
-use Rattle.draid_pool.specs.Taking.{TakesFirst}
+use Rattle.draid_uber.specs.Checks.{AreasTold}
+use Rattle.draid_pool.specs.Taking.{TakesFirst, TellsAreas, gives_areas, takes_areas}
 use Rattle.draid_pool.specs.Whole.{IsWhole}
 use Rattle.draid_import.specs.declared.fault.ImportFault.{ImportFault}
 use Rattle.draid_import.specs.declared.fault.ImportFault.TheVariants as fault
@@ -100,28 +101,43 @@ uber_left o n count count' same counted = record {
     by None = tt
     by (Some x) = record { uber = inl refl; checks = refl; kits = λ m. refl }
 
-pub uber_put : {T : Type 0} (taken : T) (o mid n : Option shelf.Held) (was now : Option content.Content) (count count' : ℕ) → mid ≡ shelf.takes_uber o → n ≡ shelf.gives_uber now mid → shelf.OnHeld o (λ x. was ≡ x.uber) → shelf.NeedsUber (Ok taken) o
+-- areas that were taken tell what was held
+pub own_uber : (told : AreasTold) (o : Option shelf.Held) → shelf.OnHeld o (TellsAreas told) → shelf.OnHeld o (λ x. told.uber ≡ x.uber)
+own_uber told None is = tt
+own_uber told (Some x) is = is.uber
+
+pub own_checks : (told : AreasTold) (o : Option shelf.Held) → shelf.OnHeld o (TellsAreas told) → shelf.OnHeld o (λ x. shelf.checks_of told.even told.odd ≡ x.checks)
+own_checks told None is = tt
+own_checks told (Some x) is = is.checks
+
+pub areas_put : {T : Type 0} (taken : T) (o mid n : Option shelf.Held) (was now even odd : Option content.Content) (count count' : ℕ) → mid ≡ takes_areas o → n ≡ gives_areas (record { uber = now; even = even; odd = odd }) mid
+    → shelf.OnHeld o (TellsAreas (record { uber = was; even = even; odd = odd })) → shelf.NeedsUber (Ok taken) o → shelf.OnHeld o (λ x. IsSome x.checks)
     → (now ≡ was) ⊎ (now ≡ option_map content.flushes was) → count ≤ count' → LeavesUber o n count count'
-uber_put taken o mid n was now count count' takes gives is needs left later = record {
-  held = subst (λ (z : Option shelf.Held). shelf.OnHeld z (λ y. MatchOption o ⊥ (λ x. SameButFlushed x y))) (sym (gives ∙ ap (shelf.gives_uber now) takes)) (by now o left is);
-  tells = subst (λ (z : Option shelf.Held). shelf.OnHeld o (λ x. IsSome z)) (sym (gives ∙ ap (shelf.gives_uber now) takes)) (still o is needs);
+areas_put taken o mid n was now even odd count count' takes gives is needs some_checks left later = record {
+  held = subst (λ (z : Option shelf.Held). shelf.OnHeld z (λ y. MatchOption o ⊥ (λ x. SameButFlushed x y))) (sym (gives ∙ ap (gives_areas (record { uber = now; even = even; odd = odd })) takes)) (by now even odd o left is);
+  tells = subst (λ (z : Option shelf.Held). shelf.OnHeld o (λ x. IsSome z)) (sym (gives ∙ ap (gives_areas (record { uber = now; even = even; odd = odd })) takes)) (still o is needs some_checks);
   later = later;
 } where
   -- what was left tells where what was taken did
-  some_left : (w c : Option content.Content) → (c ≡ w) ⊎ (c ≡ option_map content.flushes w) → (w ≡ None → ⊥) → (x : shelf.Held) → IsSome (shelf.gives_uber c (shelf.takes_uber (Some x)))
-  some_left None c left some x = absurd (some refl)
-  some_left (Some w) c (inl same) some x = subst (λ z. IsSome (shelf.gives_uber z (shelf.takes_uber (Some x)))) (sym same) refl
-  some_left (Some w) c (inr flushed) some x = subst (λ z. IsSome (shelf.gives_uber z (shelf.takes_uber (Some x)))) (sym flushed) refl
+  some_left : (w c e d : Option content.Content) → (c ≡ w) ⊎ (c ≡ option_map content.flushes w) → (w ≡ None → ⊥) → IsSome (shelf.checks_of e d) → (x : shelf.Held) → IsSome (gives_areas (record { uber = c; even = e; odd = d }) (takes_areas (Some x)))
+  some_left None c e d left some both x = absurd (some refl)
+  some_left (Some w) c None d left some both x = absurd (cc)
+  some_left (Some w) c (Some e) None left some both x = absurd (cc)
+  some_left (Some w) c (Some e) (Some d) (inl same) some both x = subst (λ z. IsSome (gives_areas (record { uber = z; even = Some e; odd = Some d }) (takes_areas (Some x)))) (sym same) refl
+  some_left (Some w) c (Some e) (Some d) (inr flushed) some both x = subst (λ z. IsSome (gives_areas (record { uber = z; even = Some e; odd = Some d }) (takes_areas (Some x)))) (sym flushed) refl
 
-  still : (p : Option shelf.Held) → shelf.OnHeld p (λ x. was ≡ x.uber) → shelf.NeedsUber (Ok taken) p → shelf.OnHeld p (λ x. IsSome (shelf.gives_uber now (shelf.takes_uber p)))
-  still None is needs = tt
-  still (Some x) is needs = some_left was now left (λ none. (let failed = needs (sym is ∙ none) in cc)) x
+  still : (p : Option shelf.Held) → shelf.OnHeld p (TellsAreas (record { uber = was; even = even; odd = odd })) → shelf.NeedsUber (Ok taken) p → shelf.OnHeld p (λ x. IsSome x.checks) → shelf.OnHeld p (λ x. IsSome (gives_areas (record { uber = now; even = even; odd = odd }) (takes_areas p)))
+  still None is needs some_checks = tt
+  still (Some x) is needs some_checks = some_left was now even odd left (λ none. (let failed = needs (sym is.uber ∙ none) in cc)) (subst IsSome (sym is.checks) some_checks) x
 
-  by : (c : Option content.Content) (p : Option shelf.Held) → (c ≡ was) ⊎ (c ≡ option_map content.flushes was) → shelf.OnHeld p (λ x. was ≡ x.uber) → shelf.OnHeld (shelf.gives_uber c (shelf.takes_uber p)) (λ y. MatchOption p ⊥ (λ x. SameButFlushed x y))
-  by None p left is = tt
-  by (Some c) None left is = tt
-  by (Some c) (Some x) (inl same) is = record { uber = inl (same ∙ is); checks = refl; kits = λ m. refl }
-  by (Some c) (Some x) (inr flushed) is = record { uber = inr (flushed ∙ ap (λ (z : Option content.Content). option_map content.flushes z) is); checks = refl; kits = λ m. refl }
+  by : (c e d : Option content.Content) (p : Option shelf.Held) → (c ≡ was) ⊎ (c ≡ option_map content.flushes was) → shelf.OnHeld p (TellsAreas (record { uber = was; even = e; odd = d }))
+      → shelf.OnHeld (gives_areas (record { uber = c; even = e; odd = d }) (takes_areas p)) (λ y. MatchOption p ⊥ (λ x. SameButFlushed x y))
+  by c None d p left is = tt
+  by c (Some e) None p left is = tt
+  by None (Some e) (Some d) p left is = tt
+  by (Some c) (Some e) (Some d) None left is = tt
+  by (Some c) (Some e) (Some d) (Some x) (inl same) is = record { uber = inl (same ∙ is.uber); checks = is.checks; kits = λ m. refl }
+  by (Some c) (Some e) (Some d) (Some x) (inr flushed) is = record { uber = inr (flushed ∙ ap (λ (z : Option content.Content). option_map content.flushes z) is.uber); checks = is.checks; kits = λ m. refl }
 
 pub checks_same : (o : Option shelf.Held) → SameChecks o o
 checks_same None = tt
@@ -141,16 +157,6 @@ checks_back rack area shards b c before after r = by b c r.held
     by None (Some y) held = absurd held
     by (Some x) (Some y) held = held.checks
 
--- the area of the uberblock is put back
-pub checks_given : (told : Option content.Content) (o b c : Option shelf.Held) → SameChecks o b → c ≡ shelf.gives_uber told b → SameChecks o c
-checks_given told o b c same gives = subst (λ (z : Option shelf.Held). SameChecks o z) (sym gives) (by told o b same)
-  where
-    by : (a : Option content.Content) (o b : Option shelf.Held) → SameChecks o b → SameChecks o (shelf.gives_uber a b)
-    by None o b same = tt
-    by (Some a) o None same = tt
-    by (Some a) None (Some y) same = absurd same
-    by (Some a) (Some x) (Some y) same = same
-
 -- the devices of a metaslab are taken
 pub checks_taken : (m : ℕ) (o c : Option shelf.Held) → c ≡ shelf.takes_kit m o → SameChecks o c
 checks_taken m o c takes = subst (λ (z : Option shelf.Held). SameChecks o z) (sym takes) (by o)
@@ -160,13 +166,6 @@ checks_taken m o c takes = subst (λ (z : Option shelf.Held). SameChecks o z) (s
     by (Some x) = refl
 
 -- and put back
-pub checks_uber_taken : (o c : Option shelf.Held) → c ≡ shelf.takes_uber o → SameChecks o c
-checks_uber_taken o c takes = subst (λ (z : Option shelf.Held). SameChecks o z) (sym takes) (by o)
-  where
-    by : (o : Option shelf.Held) → SameChecks o (shelf.takes_uber o)
-    by None = tt
-    by (Some x) = refl
-
 pub checks_put : (m : ℕ) (kit : Option shelf.KitTold) (o b c : Option shelf.Held) → SameChecks o b → c ≡ shelf.gives_kit m kit b → SameChecks o c
 checks_put m kit o b c same gives = subst (λ (z : Option shelf.Held). SameChecks o z) (sym gives) (by kit o b same)
   where

@@ -12,8 +12,8 @@ use Rattle.draid_shelf.specs.Kits.{Held}
 use Rattle.draid_shard.specs.Looks.{IsLive}
 use Rattle.draid_shard.specs.Part.{Part}
 use Rattle.draid_shard.specs.declared.shard.Shard.{Shard}
-use Rattle.draid_uber.specs.Slots.{StandsTold}
-use Rattle.draid_uber.specs.Uber.{Valid, area_of, kept_of, layout_of, next_leaf_of, version_of}
+use Rattle.draid_uber.specs.Checks.{AreasStand, told_by}
+use Rattle.draid_uber.specs.Uber.{Valid, areas_of, count_of, kept_of, layout_of, next_leaf_of, version_of}
 use Rattle.draid_uber.specs.declared.uber.Uber.{Uber}
 use Rattle.draid_session.specs.Opening.{Finds, IsLastSeq}
 use Rattle.draid_session.specs.State.{Metaslab, State}
@@ -33,8 +33,8 @@ module _ {R A : Type 0} (rack : racks.Ghosts R) (area : areas.Ghosts A) (x : Sta
   -- all metaslabs were opened, and their blocks noted
   pub found_begins : (held : Held) (rests : Rests x pieces held) (findable : IsFindable x) (alike : AreAlike x) (body : UberBody) (body_is : FindsBody x body) (shards : List (Shard R A)) (many : length shards ≡ length x.metaslabs)
       → ((m : ℕ) (shard : Shard R A) (y : Metaslab) → slice_get shards m ≡ Some shard → slice_get x.metaslabs m ≡ Some y → OpensFound rack area x body.group m (pieces m) y shard)
-      → x.uber_count ≤ area.faults (area_of uber) → IsLastIn shards seq → IsNewestIn shards newest → body.group < LAST_NUMBER → Valid area.size uber → kept_of uber ≡ Some body
-      → version_of uber ≡ body.props.version → next_leaf_of uber ≡ body.next_leaf → StandsTold (kept_of uber) [] (area.told (area_of uber)) → layout_of uber ≡ x.geometry → IsFoundOf rack area x uber pieces newest seq shards
+      → x.uber_count ≤ count_of area.faults uber → IsLastIn shards seq → IsNewestIn shards newest → body.group < LAST_NUMBER → Valid area.size uber → kept_of uber ≡ Some body
+      → version_of uber ≡ body.props.version → next_leaf_of uber ≡ body.next_leaf → AreasStand (kept_of uber) [] (told_by area.told (areas_of uber)) → layout_of uber ≡ x.geometry → IsFoundOf rack area x uber pieces newest seq shards
   found_begins held rests findable alike body body_is shards many each counted last newest_in low valid kept version next stands layout = record {
     group = body.group;
     mid = mid;

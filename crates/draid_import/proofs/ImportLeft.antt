@@ -15,7 +15,7 @@ use Rattle.draid_map.specs.Place.{IsLayout}
 use Rattle.draid_record.specs.declared.uber.UberBody.{UberBody}
 use Rattle.draid_segments.specs.Acts.{DropsBut, IsNamed}
 use Rattle.draid_segments.specs.Segments.{Pieces}
-use Rattle.draid_shelf.specs.Kits.{AreNewChecks, Held, KitCounts, KitTold, NeedsKit, OnHeld, gives_kit, gives_uber, kit_of, puts_uber, takes_kit, takes_uber}
+use Rattle.draid_shelf.specs.Kits.{ChecksTold, Held, KitCounts, KitTold, NeedsKit, OnHeld, gives_kit, kit_of, puts_checks, puts_uber, takes_kit}
 use Rattle.draid_shelf.specs.Shelf.{IsKnown, SameOthers}
 use Rattle.draid_shelf.specs.declared.kit.Kit.{Kit}
 use Rattle.draid_stable.specs.Images.{image_by}
@@ -23,17 +23,17 @@ use Rattle.draid_stable.specs.Stable as stable
 use Rattle.draid_pool.specs.Groups.{ListsOnce}
 use Rattle.draid_import.specs.Reopening.{Opens}
 use Rattle.draid_shard.specs.declared.shard.Shard.{Shard}
-use Rattle.draid_uber.specs.Slots.{StandsTold, group_of}
-use Rattle.draid_uber.specs.Uber.{area_of, kept_of, layout_of, next_leaf_of}
+use Rattle.draid_uber.specs.Checks.{AreasStand, told_by}
+use Rattle.draid_uber.specs.Slots.{group_of}
+use Rattle.draid_uber.specs.Uber.{areas_of, count_of, kept_of, layout_of, next_leaf_of}
 use Rattle.draid_uber.specs.declared.uber.Uber.{Uber}
 use Rattle.draid_session.specs.State.{Metaslab, State, limit_of}
-use Rattle.draid_pool.specs.Returning.{AllTell, RestsOn, Returns, ReturnsLeaves, TakesBack, kit_in}
+use Rattle.draid_pool.specs.Returning.{AllTell, RestsOn, Returns, ReturnsLeaves, TakesBack, areas_told, kit_in}
 use Rattle.draid_import.specs.Found.{AnyRecordsRose, AreReopened, CountsLater, HasRisen, IsFoundUber, IsRecovered, IsReopened, IsShardFault, KeepsKnown, LeavesShards, NoRecord, OpensAllOver, OpensOver, RecordsRose, StaysHeld}
 use Rattle.draid_pool.specs.Importable.{HasImageLeaves}
 use Rattle.draid_import.specs.Imported.{FindsBody, OpensFound, RestsFound}
 use Rattle.draid_import.specs.Importing.{ImportIs, LeavesPool, RestsThere}
-use Rattle.draid_pool.specs.Taking.{TakesFirst}
-use Rattle.draid_pool.specs.Ubers.{UberStands}
+use Rattle.draid_pool.specs.Taking.{TakesFirst, gives_areas, takes_areas}
 use Rattle.draid_import.specs.declared.fault.ImportFault.{ImportFault}
 use Rattle.draid_import.specs.declared.fault.ImportFault.TheVariants as fault
 use Rattle.draid_pool.proofs.Returned.{kit_is}
@@ -41,7 +41,7 @@ use Rattle.draid_import.proofs.Found.{counts_later, stays_same}
 use Rattle.draid_import.proofs.ImportFound.{finds_image}
 use Rattle.draid_import.proofs.ImportMetaslab.{FindsImage}
 use Rattle.draid_import.proofs.ImportOpened.{rested}
-use Rattle.draid_import.proofs.ImportPool.{FoundBody, RestsFoundAt, body_found, one_table, shard_found, uber_content}
+use Rattle.draid_import.proofs.ImportPool.{FoundBody, HeldAreas, RestsFoundAt, body_found, held_areas, one_table, shard_found, told_checks}
 use Rattle.draid_import.proofs.ImportRefused.{found_leaves_pool, given_found, left_found}
 use Rattle.draid_import.proofs.ImportVersion.{LeavesFound, found_at, left_from}
 use Rattle.draid_pool.proofs.Lists.{ext, present}
@@ -226,7 +226,7 @@ some_is (Some x) some = (x, refl)
 
 module _ {R A : Type 0} (rack : racks.Ghosts R) (area : areas.Ghosts A) (x : State) (pieces : ℕ → Pieces) (held : Held) (leaves : ℕ → Option Shape) (counts : ℕ → KitCounts) (count : ℕ)
     (there : RestsThere x pieces (Some held) leaves counts count) (body : UberBody) (finds : FindsBody x body) (alloc : Global) (geometry : Geometry) (same : geometry ≡ x.geometry) (group next : ℕ)
-    (back : Option Held) (after : ℕ → KitCounts) (now : ℕ → Option Shape) (l : LeavesShards rack area geometry group next (Some (puts_uber None held)) back counts after leaves now)
+    (back : Option Held) (after : ℕ → KitCounts) (now : ℕ → Option Shape) (l : LeavesShards rack area geometry group next (Some (puts_checks None (puts_uber None held))) back counts after leaves now)
     (opened : (m : ℕ) (shard : Shard R A) (y : Metaslab) → slice_get l.shards m ≡ Some shard → slice_get x.metaslabs m ≡ Some y → OpensFound rack area x body.group m (pieces m) y shard) where
   held_kit : (m : ℕ) (y : Metaslab) → slice_get x.metaslabs m ≡ Some y → (kit : KitTold) × (held.kits m ≡ Some kit) × RestsOn x m (pieces m) y kit
   held_kit m y at = rested (held.kits m) x m (pieces m) y (there.held.kits m y at)
@@ -237,8 +237,8 @@ module _ {R A : Type 0} (rack : racks.Ghosts R) (area : areas.Ghosts A) (x : Sta
   given : (b : Held) × (back ≡ Some b)
   given = some_is back l.tells
 
-  takes : TakesBack rack area l.shards (puts_uber None held) given.0
-  takes = subst (λ o. OnHeld o (λ y. TakesBack rack area l.shards (puts_uber None held) y)) given.1 l.held
+  takes : TakesBack rack area l.shards (puts_checks None (puts_uber None held)) given.0
+  takes = subst (λ o. OnHeld o (λ y. TakesBack rack area l.shards (puts_checks None (puts_uber None held)) y)) given.1 l.held
 
   -- an opened metaslab, or one that wasn't
   each : (m : ℕ) (y : Metaslab) → slice_get x.metaslabs m ≡ Some y → (kit : KitTold) × (given.0.kits m ≡ Some kit) × RestsFound x body.group m (pieces m) y kit (now m) (after m)
@@ -268,42 +268,44 @@ module _ {R A : Type 0} (rack : racks.Ghosts R) (area : areas.Ghosts A) (x : Sta
           )
 
   -- the pool as the group has it whose uberblock was found
-  pub refused_leaves : (u : Content) (n : ℕ) → StandsTold (Some body) [] (Some u) → x.uber_count ≤ n → LeavesFound x pieces (gives_uber (Some u) back) now after n
-  refused_leaves u n stands counted = subst (λ o. LeavesFound x pieces (gives_uber (Some u) o) now after n) (sym given.1)
-      (found_leaves_pool x pieces held there.held there.importable.findable body finds (puts_uber (Some u) given.0) now after n there.importable.alike counted each u refl stands
-      (subst (λ o. IsSomeAnd o AreNewChecks) (sym takes.checks) there.held.checks))
+  pub refused_leaves : (u : Content) (k : ChecksTold) (n : ℕ) → AreasStand (Some body) [] (areas_told u k) → x.uber_count ≤ n → LeavesFound x pieces (gives_areas (areas_told u k) back) now after n
+  refused_leaves u k n stands counted = subst (λ o. LeavesFound x pieces (gives_areas (areas_told u k) o) now after n) (sym given.1)
+      (found_leaves_pool x pieces held there.held there.importable.findable body finds (puts_checks (Some k) (puts_uber (Some u) given.0)) now after n there.importable.alike counted each u k refl refl stands)
 
 -- whatever the shelf tells
 pub refused_pool : {R A : Type 0} (alloc : Global) (rack : racks.Ghosts R) (area : areas.Ghosts A) (x : State) (pieces : ℕ → Pieces) (o mid back new : Option Held) (leaves yet_leaves late_leaves now : ℕ → Option Shape)
-    (counts yet late after : ℕ → KitCounts) (count n : ℕ) (uber : Uber A) → RestsThere x pieces o leaves counts count → IsFoundUber area uber → IsRecovered area o count uber → mid ≡ takes_uber o
+    (counts yet late after : ℕ → KitCounts) (count n : ℕ) (uber : Uber A) → RestsThere x pieces o leaves counts count → IsFoundUber area uber → IsRecovered area o count uber → mid ≡ takes_areas o
     → ((m : ℕ) → yet_leaves m ≡ leaves m) → ((m : ℕ) → yet m ≡ counts m)
     → LeavesShards rack area (layout_of uber) (group_of (kept_of uber)) (next_leaf_of uber) mid back yet late yet_leaves late_leaves
-    → new ≡ gives_uber (area.told (area_of uber)) back → ((m : ℕ) → now m ≡ late_leaves m) → ((m : ℕ) → after m ≡ late m) → n ≡ area.faults (area_of uber) → LeavesPool x pieces new now after n
+    → new ≡ gives_areas (told_by area.told (areas_of uber)) back → ((m : ℕ) → now m ≡ late_leaves m) → ((m : ℕ) → after m ≡ late m) → n ≡ count_of area.faults uber → LeavesPool x pieces new now after n
 refused_pool {R} {A} alloc rack area x pieces None mid back new leaves yet_leaves late_leaves now counts yet late after count n uber there found r taken same_leaves same_counts l gives now_is after_is n_is = absurd there.held
 refused_pool {R} {A} alloc rack area x pieces (Some held) mid back new leaves yet_leaves late_leaves now counts yet late after count n uber there found r taken same_leaves same_counts l gives now_is after_is n_is =
-    subst (λ (o : Option Held). LeavesPool x pieces o now after n) (sym (gives ∙ ap (λ t. gives_uber t back) told))
-    (subst (λ (s : ℕ → Option Shape). LeavesPool x pieces (gives_uber (Some (flushes c.0)) back) s after n) (sym (ext now late_leaves now_is))
-    (subst (λ (k : ℕ → KitCounts). LeavesPool x pieces (gives_uber (Some (flushes c.0)) back) late_leaves k n) (sym (ext after late after_is))
-    (left_from x f.version pieces (gives_uber (Some (flushes c.0)) back) late_leaves late n
-    (refused_leaves rack area (found_at x f.version) pieces held leaves counts count f.there b.body b.finds alloc (layout_of uber) b.layout (group_of (kept_of uber)) (next_leaf_of uber) back late late_leaves left opened (flushes c.0) n stands
+    subst (λ (o : Option Held). LeavesPool x pieces o now after n) (sym (gives ∙ ap (λ t. gives_areas t back) told))
+    (subst (λ (s : ℕ → Option Shape). LeavesPool x pieces (gives_areas (areas_told (flushes c.uber) c.checks) back) s after n) (sym (ext now late_leaves now_is))
+    (subst (λ (k : ℕ → KitCounts). LeavesPool x pieces (gives_areas (areas_told (flushes c.uber) c.checks) back) late_leaves k n) (sym (ext after late after_is))
+    (left_from x f.version pieces (gives_areas (areas_told (flushes c.uber) c.checks) back) late_leaves late n
+    (refused_leaves rack area (found_at x f.version) pieces held leaves counts count f.there b.body b.finds alloc (layout_of uber) b.layout (group_of (kept_of uber)) (next_leaf_of uber) back late late_leaves left opened (flushes c.uber) c.checks n stands
     (let later = r.later in let own = there.uber in omega (arith, later, own, n_is))))))
   where
-    f : RestsFoundAt x pieces held leaves counts count uber
+    f : RestsFoundAt area x pieces held leaves counts count uber
     f = body_found area x pieces held leaves counts count uber there found r
 
-    b : FoundBody (found_at x f.version) uber
+    b : FoundBody area (found_at x f.version) uber
     b = f.b
 
-    c : (c : Content) × (held.uber ≡ Some c) × UberStands x (Some c)
-    c = uber_content x held.uber there.held.uber
+    c : HeldAreas x held
+    c = held_areas x held there.held.uber
 
-    told : area.told (area_of uber) ≡ Some (flushes c.0)
-    told = r.flushed ∙ ap (λ o. option_map flushes o) (r.own ∙ c.1)
+    told : told_by area.told (areas_of uber) ≡ areas_told (flushes c.uber) c.checks
+    told =
+        let uber_told = r.flushed ∙ ap (λ o. option_map flushes o) (r.own ∙ c.uber_is) in
+        let both = told_checks (area.told (areas_of uber).even) (area.told (areas_of uber).odd) c.checks (r.checks ∙ c.checks_are) in
+        λ i. record { uber = uber_told i; even = both.0 i; odd = both.1 i }
 
-    stands : StandsTold (Some b.body) [] (Some (flushes c.0))
-    stands = subst (λ k. StandsTold k [] (Some (flushes c.0))) b.kept (subst (λ t. StandsTold (kept_of uber) [] t) told r.stands)
+    stands : AreasStand (Some b.body) [] (areas_told (flushes c.uber) c.checks)
+    stands = subst (λ k. AreasStand k [] (areas_told (flushes c.uber) c.checks)) b.kept (subst (λ t. AreasStand (kept_of uber) [] t) told b.own_areas)
 
-    left : LeavesShards rack area (layout_of uber) (group_of (kept_of uber)) (next_leaf_of uber) (Some (puts_uber None held)) back counts late leaves late_leaves
+    left : LeavesShards rack area (layout_of uber) (group_of (kept_of uber)) (next_leaf_of uber) (Some (puts_checks None (puts_uber None held))) back counts late leaves late_leaves
     left = subst (λ (o : Option Held). LeavesShards rack area (layout_of uber) (group_of (kept_of uber)) (next_leaf_of uber) o back counts late leaves late_leaves) taken
         (subst (λ (s : ℕ → Option Shape). LeavesShards rack area (layout_of uber) (group_of (kept_of uber)) (next_leaf_of uber) mid back counts late s late_leaves) (ext yet_leaves leaves same_leaves)
         (subst (λ (k : ℕ → KitCounts). LeavesShards rack area (layout_of uber) (group_of (kept_of uber)) (next_leaf_of uber) mid back k late yet_leaves late_leaves) (ext yet counts same_counts) l))

@@ -5,7 +5,7 @@ use Rattle.draid_area.specs.Area.{Content, OnTold, flushes}
 use Rattle.draid_names.specs.declared.fault.DeviceFault.{DeviceFault}
 use Rattle.draid_names.specs.declared.fault.DeviceFault.TheVariants as device
 use Rattle.draid_record.specs.declared.uber.UberBody.{UberBody}
-use Rattle.draid_shelf.specs.Kits.{Held, IsNewArea, KitCounts, OnHeld, gives_uber, puts_uber, takes_uber, uber_bytes}
+use Rattle.draid_shelf.specs.Kits.{AreNewChecks, ChecksTold, Held, IsNewArea, KitCounts, OnHeld, puts_checks, puts_uber, uber_bytes}
 use Rattle.draid_spec.specs.declared.layout.Geometry.{Geometry}
 use Rattle.draid_uber.specs.Slots.{area_bytes, chosen_of, read_body}
 use Rattle.draid_uber.specs.Steps.{IsSameOrFlushed}
@@ -16,10 +16,11 @@ use Rattle.draid_uber.proofs.Choices.{kept_alone}
 use Rattle.draid_pool.specs.Returning.{OwnCounts}
 use Rattle.draid_import.specs.Found.{shelf_fault_of, uber_fault_of}
 use Rattle.draid_import.specs.Importing.{FindsNoPool, LeavesMade}
-use Rattle.draid_pool.specs.Taking.{HoldsMade}
+use Rattle.draid_pool.specs.Taking.{HoldsMade, TellsAreas, gives_areas, takes_areas}
 use Rattle.draid_import.specs.declared.fault.ImportFault.{ImportFault}
 use Rattle.draid_import.specs.declared.fault.ImportFault.TheVariants as fault
 use Rattle.draid_pool.proofs.Refusing.{passed_back}
+use Rattle.draid_import.proofs.ImportPool.{told_checks}
 
 -- zeros have no open gate
 zeros_none : chosen_of (replicate uber_bytes 0) ≡ None
@@ -32,6 +33,10 @@ none_chosen c new = ap chosen_of new.bytes_are ∙ zeros_none
 made_area : (o : Option Content) → IsSomeAnd o (IsNewArea (replicate uber_bytes 0)) → (c : Content) × (o ≡ Some c) × IsNewArea (replicate uber_bytes 0) c
 made_area None new = absurd new
 made_area (Some c) new = (c, refl, new)
+
+made_checks : (o : Option ChecksTold) → IsSomeAnd o AreNewChecks → (k : ChecksTold) × (o ≡ Some k) × AreNewChecks k
+made_checks None new = absurd new
+made_checks (Some k) new = (k, refl, new)
 
 flushed_area : (c : Content) → IsNewArea (replicate uber_bytes 0) c → IsNewArea (replicate uber_bytes 0) (flushes c)
 flushed_area c new = record { bytes_are = new.bytes_are; firm = ap length new.bytes_are; soft = λ i. refl }
@@ -72,11 +77,12 @@ module _ {P : Type 0} (geometry : Geometry) where
       by device.NoMemory = tt
 
   -- the area was recovered, and given back
-  pub made_left : (o mid new : Option Held) (before after : ℕ → KitCounts) (own now : OwnCounts) (was is : Option Content) (why : UberFault) (result : Result P ImportFault) → result ≡ Err (uber_fault_of why)
-      → OnHeld o (λ held. was ≡ held.uber) → OnTold was (λ c. FindsFault why (chosen_of c.bytes)) → IsSameOrFlushed was is → mid ≡ takes_uber o → new ≡ gives_uber is mid
+  pub made_left : (o mid new : Option Held) (before after : ℕ → KitCounts) (own now : OwnCounts) (was is even odd : Option Content) (why : UberFault) (result : Result P ImportFault) → result ≡ Err (uber_fault_of why)
+      → OnHeld o (TellsAreas (record { uber = was; even = even; odd = odd })) → OnTold was (λ c. FindsFault why (chosen_of c.bytes)) → IsSameOrFlushed was is → mid ≡ takes_areas o
+      → new ≡ gives_areas (record { uber = is; even = even; odd = odd }) mid
       → ((m : ℕ) → after m ≡ before m) → own.uber ≤ now.uber → now.checks ≡ own.checks → IsSomeAnd o (HoldsMade geometry) → LeavesMade geometry result new before after own now
-  made_left None mid new before after own now was is why result refused area finds flushed taken told counts uber checks made = absurd made
-  made_left (Some held) mid new before after own now was is why result refused area finds flushed taken told counts uber checks made = record {
+  made_left None mid new before after own now was is even odd why result refused area finds flushed taken told counts uber checks made = absurd made
+  made_left (Some held) mid new before after own now was is even odd why result refused area finds flushed taken told counts uber checks made = record {
     none = subst FindsNoPool (sym refused) (by why chosen);
     held = elim flushed [
       | inl same ↦ left c.0 c.2 (same ∙ content)
@@ -91,7 +97,13 @@ module _ {P : Type 0} (geometry : Geometry) where
       c = made_area held.uber made.uber
 
       content : was ≡ Some c.0
-      content = area ∙ c.1
+      content = area.uber ∙ c.1
+
+      k : (k : ChecksTold) × (held.checks ≡ Some k) × AreNewChecks k
+      k = made_checks held.checks made.checks
+
+      both : (even ≡ Some k.0.even) × (odd ≡ Some k.0.odd)
+      both = told_checks even odd k.0 (area.checks ∙ k.1)
 
       chosen : FindsFault why None
       chosen = subst (FindsFault why) (none_chosen c.0 c.2) (subst (λ o. OnTold o (λ (y : Content). FindsFault why (chosen_of y.bytes))) content finds)
@@ -104,8 +116,8 @@ module _ {P : Type 0} (geometry : Geometry) where
 
       left : (u : Content) → IsNewArea (replicate uber_bytes 0) u → is ≡ Some u → IsSomeAnd new (HoldsMade geometry)
       left u zeros at =
-          let put : new ≡ Some (puts_uber (Some u) held) = told ∙ (ap (λ o. gives_uber is o) taken ∙ ap (λ o. gives_uber o (takes_uber (Some held))) at) in
-          subst (λ o. IsSomeAnd o (HoldsMade geometry)) (sym put) (record { uber = zeros; checks = made.checks; kits = made.kits })
+          let put : new ≡ Some (puts_checks (Some k.0) (puts_uber (Some u) held)) = told ∙ (λ i. gives_areas (record { uber = at i; even = both.0 i; odd = both.1 i }) (taken i)) in
+          subst (λ o. IsSomeAnd o (HoldsMade geometry)) (sym put) (record { uber = zeros; checks = k.2; kits = made.kits })
 
 -- ---- a refusal that is passed on
 

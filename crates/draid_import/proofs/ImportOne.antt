@@ -18,7 +18,8 @@ use Rattle.draid_entries.specs.Entries.{held_in}
 use Rattle.draid_entries.specs.Maps.{held_at}
 use Rattle.draid_objects.specs.Blocks.{sealed_at}
 use Rattle.draid_segments.specs.Segments.{Pieces}
-use Rattle.draid_shelf.specs.Kits.{Held, KitCounts, takes_uber}
+use Rattle.draid_shelf.specs.Kits.{Held, KitCounts}
+use Rattle.draid_pool.specs.Taking.{takes_areas}
 use Rattle.draid_shard.specs.Part.{Part}
 use Rattle.draid_shard.specs.declared.shard.Shard.{Shard}
 use Rattle.draid_shard.proofs.Held.{key_leads}
@@ -55,9 +56,9 @@ reopened_held x group m y z k lay reached r =
     ∙ (((every_image (metaslab_layout x.geometry x.perms m) y.world lay reached).each r.image r.is).blocks k ∙ ap (λ g. seal_held g (y.world.core.held k)) r.of)
 
 module _ {R A : Type 0} (rack : racks.Ghosts R) (area : areas.Ghosts A) (x : State) (pieces : ℕ → Pieces) (held : Held) (leaves : ℕ → Option Shape) (counts : ℕ → KitCounts) (count : ℕ)
-    (there : RestsThere x pieces (Some held) leaves counts count) (uber : Uber A) (found : IsFoundUber area uber) (r : IsRecovered area (Some held) count uber) (b : FoundBody x uber)
+    (there : RestsThere x pieces (Some held) leaves counts count) (uber : Uber A) (found : IsFoundUber area uber) (r : IsRecovered area (Some held) count uber) (b : FoundBody area x uber)
     (alloc : Global) (known : ℕ → Option Shape) (now : ℕ → KitCounts) (shards : List (Shard R A)) (counted : (k : ℕ) → now k ≡ counts k) (re : AreReopened rack (layout_of uber) (group_of (kept_of uber)) shards)
-    (over : OpensAllOver rack area (limit_of (layout_of uber)) (group_of (kept_of uber)) (next_leaf_of uber) (takes_uber (Some held)) known now shards) where
+    (over : OpensAllOver rack area (limit_of (layout_of uber)) (group_of (kept_of uber)) (next_leaf_of uber) (takes_areas (Some held)) known now shards) where
   -- a shard with the metaslab of the state that it was
   record Pair (m : ℕ) (shard : Shard R A) : Type 0 where
     y : Metaslab
@@ -110,7 +111,7 @@ module _ {R A : Type 0} (rack : racks.Ghosts R) (area : areas.Ghosts A) (x : Sta
 -- and no fault of them is an answer
 pub no_fault_apart : {R A T : Type 0} (alloc : Global) (rack : racks.Ghosts R) (area : areas.Ghosts A) (x : State) (pieces : ℕ → Pieces) (o mid : Option Held) (leaves known : ℕ → Option Shape) (counts now : ℕ → KitCounts) (count : ℕ) (uber : Uber A)
     (shards : List (Shard R A)) (f : ImportFault) → RestsThere x pieces o leaves counts count → IsFoundUber area uber → IsRecovered area o count uber
-    → ((k : ℕ) → now k ≡ counts k) → mid ≡ takes_uber o → AreReopened rack (layout_of uber) (group_of (kept_of uber)) shards
+    → ((k : ℕ) → now k ≡ counts k) → mid ≡ takes_areas o → AreReopened rack (layout_of uber) (group_of (kept_of uber)) shards
     → OpensAllOver rack area (limit_of (layout_of uber)) (group_of (kept_of uber)) (next_leaf_of uber) mid known now shards
     → ((metaslab : Option ℕ) (place : ℕ) (kind : RecordFaultKind) → IsErrOf {T = T} (Err f) (fault.Record metaslab place kind) → AreApart shards metaslab place kind) → NoRecord {T = T} (Err f)
 no_fault_apart alloc rack area x pieces None mid leaves known counts now count uber shards f there found r counted taken re over faulty metaslab place kind err = absurd there.held

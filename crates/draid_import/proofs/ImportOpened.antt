@@ -16,9 +16,9 @@ use Rattle.draid_record.specs.declared.uber.UberBody.{UberBody}
 use Rattle.draid_segments.specs.Segments.{Pieces}
 use Rattle.draid_shelf.specs.Kits.{Held, KitTold}
 use Rattle.draid_shard.specs.declared.shard.Shard.{Shard}
-use Rattle.draid_uber.specs.Slots.{StandsTold}
+use Rattle.draid_uber.specs.Checks.{AreasStand, told_by}
 use Rattle.draid_uber.specs.Uber as ubers
-use Rattle.draid_uber.specs.Uber.{Valid, area_of, kept_of, next_leaf_of, version_of}
+use Rattle.draid_uber.specs.Uber.{Valid, areas_of, count_of, kept_of, next_leaf_of, version_of}
 use Rattle.draid_uber.specs.declared.uber.Uber.{Uber}
 use Rattle.draid_session.specs.Opening.{DropsOlder, Finds, IsLastSeq, LeafIn, MayFind, Reopens, VersionIn}
 use Rattle.draid_session.specs.State.{Metaslab, State}
@@ -99,13 +99,13 @@ module _ {R A : Type 0} (rack : racks.Ghosts R) (area : areas.Ghosts A) (x : Sta
   pub all_opened : (zs : List Metaslab) × (length zs ≡ length x.metaslabs) × ((m : ℕ) (y z : Metaslab) → slice_get x.metaslabs m ≡ Some y → slice_get zs m ≡ Some z → IsOpened m y z)
   all_opened = collect x.metaslabs IsOpened opened_at
 
-  module _ (seq : ℕ) (counted : x.uber_count ≤ area.faults (area_of uber)) where
+  module _ (seq : ℕ) (counted : x.uber_count ≤ count_of area.faults uber) where
     -- the state that is found
     abbrev pub opened_state : State
-    opened_state = found_state x body.group body.next_leaf all_opened.0 seq (area.faults (area_of uber))
+    opened_state = found_state x body.group body.next_leaf all_opened.0 seq (count_of area.faults uber)
 
     pub finds_opened : Finds x body.group opened_state
-    finds_opened = finds_state x body.group body.next_leaf all_opened.0 seq (area.faults (area_of uber)) rests.objects.unmarked body_is.version body_is.may body_is.some body_is.leaf all_opened.1 (λ m y z at there. (all_opened.2 m y z at there).reopens) counted
+    finds_opened = finds_state x body.group body.next_leaf all_opened.0 seq (count_of area.faults uber) rests.objects.unmarked body_is.version body_is.may body_is.some body_is.leaf all_opened.1 (λ m y z at there. (all_opened.2 m y z at there).reopens) counted
 
     pub opened_is_in : (m : ℕ) (shard : Shard R A) (z : Metaslab) → slice_get shards m ≡ Some shard → slice_get opened_state.metaslabs m ≡ Some z → IsMetaslab rack area (part_in x m) (pieces m) shard z
     opened_is_in m shard z at there =
@@ -129,7 +129,7 @@ module _ {R A : Type 0} (rack : racks.Ghosts R) (area : areas.Ghosts A) (x : Sta
         (y.0, y.1, (all_opened.2 m y.0 z y.1 at).reopens)))
 
     pub opened_stands : AreAlike x → IsLastSeq opened_state seq → body.group < LAST_NUMBER → Valid area.size uber → kept_of uber ≡ Some body → version_of uber ≡ body.props.version → next_leaf_of uber ≡ body.next_leaf
-        → StandsTold (kept_of uber) [] (area.told (area_of uber)) → ubers.layout_of uber ≡ x.geometry → StandsFound rack area shards uber pieces opened_state
+        → AreasStand (kept_of uber) [] (told_by area.told (areas_of uber)) → ubers.layout_of uber ≡ x.geometry → StandsFound rack area shards uber pieces opened_state
     opened_stands alike last low valid kept version next stands layout_is = record {
       layout = rests.layout;
       many = all_opened.1 ∙ rests.many;

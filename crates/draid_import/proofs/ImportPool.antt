@@ -1,8 +1,8 @@
 -- What an import finds on a shelf on which the pool of a state rests: the body of the uberblock, each metaslab by its record, and the newest block of each object.
-use Rattle.std.proofs.Common.{arith, ◌≡◌, ◌≤◌, ◌∙◌, ℕ, List, Option, Some, None, length, refl, sym, ap, subst}
+use Rattle.std.proofs.Common.{arith, ◌≡◌, ◌≤◌, ◌∙◌, ℕ, List, [], Option, Some, None, length, refl, sym, ap, subst}
 use Rattle.std.specs.declared.alloc.Global.{Global}
 use Rattle.std.specs.Prelude.{IsSomeAnd, is_some, option_map, slice_get}
-use Rattle.draid_area.specs.Area.{Content, IsOfSize, OnTold}
+use Rattle.draid_area.specs.Area.{Content, IsOfSize, OnTold, flushes}
 use Rattle.draid_area.specs.declared.Area as areas
 use Rattle.draid_rack.specs.Rack.{Shape}
 use Rattle.draid_rack.specs.declared.Rack as racks
@@ -14,32 +14,35 @@ use Rattle.draid_record.specs.declared.uber.UberBody.{UberBody}
 use Rattle.draid_spec.specs.declared.layout.Geometry.{Geometry}
 use Rattle.draid_spec.specs.Geometry.{IsGeometry}
 use Rattle.draid_segments.specs.Segments.{Pieces}
-use Rattle.draid_shelf.specs.Kits.{Held, KitCounts, KitTold, takes_uber}
+use Rattle.draid_shelf.specs.Kits.{ChecksTold, Held, KitCounts, KitTold, checks_of}
 use Rattle.draid_stable.specs.Stable as stable
 use Rattle.draid_shard.specs.Fits.{Valid}
 use Rattle.draid_pool.specs.Groups.{ListsOnce}
 use Rattle.draid_import.specs.Reopening.{Opens}
 use Rattle.draid_shard.specs.States.{part_of}
 use Rattle.draid_shard.specs.declared.shard.Shard.{Shard}
-use Rattle.draid_uber.specs.Slots.{chosen_of, group_of, read_body}
-use Rattle.draid_uber.specs.Uber.{kept_of, layout_of, next_leaf_of, version_of}
+use Rattle.draid_uber.specs.Checks.{AreasStand, HasCheck, told_by}
+use Rattle.draid_uber.specs.Slots.{StandsTold, chosen_of, group_of, read_body}
+use Rattle.draid_uber.specs.Uber.{areas_of, kept_of, layout_of, next_leaf_of, version_of}
 use Rattle.draid_uber.specs.declared.uber.Uber.{Uber}
 use Rattle.draid_session.specs.Opening.{layout_at_version}
 use Rattle.draid_session.specs.State.{Metaslab, State, limit_of}
-use Rattle.draid_pool.specs.Returning.{Rests}
+use Rattle.draid_pool.specs.Returning.{HoldsAreas, Rests, areas_told}
 use Rattle.draid_found.specs.Found.{AreFound}
 use Rattle.draid_import.specs.Found.{AreReopened, IsFoundUber, IsRecovered, OpensAllOver, OpensOver}
 use Rattle.draid_pool.specs.Importable.{IsImportable}
 use Rattle.draid_import.specs.Imported.{FindsBody, IsFoundOf, IsLastIn, IsNewestIn, OpensFound}
 use Rattle.draid_import.specs.Importing.{RestsThere}
-use Rattle.draid_pool.specs.Taking.{TakesFirst}
+use Rattle.draid_pool.specs.Taking.{TakesFirst, takes_areas}
 use Rattle.draid_pool.specs.Pools.{part_in}
 use Rattle.draid_pool.specs.Ubers.{UberStands}
+use Rattle.draid_uber.proofs.Recorded.{stand_named}
+use Rattle.draid_pool.proofs.Lists.{some_of}
 use Rattle.draid_import.proofs.ImportEnd.{found_begins}
 use Rattle.draid_import.proofs.ImportFound.{finds_image}
 use Rattle.draid_import.proofs.ImportMetaslab.{FindsImage, opens_found}
 use Rattle.draid_import.proofs.ImportOpened.{rested}
-use Rattle.draid_import.proofs.ImportUber.{found_body, found_layout}
+use Rattle.draid_import.proofs.ImportUber.{found_body, found_check, found_layout}
 use Rattle.draid_import.proofs.ImportVersion.{found_at, found_from, there_at}
 
 -- ---- the blocks
@@ -57,9 +60,29 @@ module _ {R A : Type 0} (shards : List (Shard R A)) (newest : ℕ → Option Poi
 
 -- ---- the uberblock
 
-pub uber_content : (x : State) (o : Option Content) → IsSomeAnd o (λ c. UberStands x (Some c)) → (c : Content) × (o ≡ Some c) × UberStands x (Some c)
-uber_content x None h = absurd h
-uber_content x (Some c) h = (c, refl, record { pending = h.pending; are = h.are; stands = h.stands })
+-- the pool's own areas are held, and tell this
+pub record HeldAreas (x : State) (held : Held) : Type 0 where
+  pub uber : Content
+  pub checks : ChecksTold
+  pub uber_is : held.uber ≡ Some uber
+  pub checks_are : held.checks ≡ Some checks
+  pub stands : UberStands x (areas_told uber checks)
+
+pub held_areas : (x : State) (held : Held) → HoldsAreas x held → HeldAreas x held
+held_areas x held h = by held.uber held.checks refl refl h
+  where
+    by : (u : Option Content) (k : Option ChecksTold) → held.uber ≡ u → held.checks ≡ k → IsSomeAnd u (λ c. IsSomeAnd k (λ checks. UberStands x (areas_told c checks))) → HeldAreas x held
+    by None k is are h = absurd h
+    by (Some c) None is are h = absurd h
+    by (Some c) (Some checks) is are h = record { uber = c; checks = checks; uber_is = is; checks_are = are; stands = h }
+
+-- what two areas tell that tell so much together
+pub told_checks : (e o : Option Content) (k : ChecksTold) → checks_of e o ≡ Some k → (e ≡ Some k.even) × (o ≡ Some k.odd)
+told_checks None o k is = absurd (cc)
+told_checks (Some e) None k is = absurd (cc)
+told_checks (Some e) (Some o) k is =
+    let same : record { even = e; odd = o } ≡ k = some_of (Some k) (record { even = e; odd = o }) k (sym is) refl in
+    (ap (λ (c : ChecksTold). Some c.even) same, ap (λ (c : ChecksTold). Some c.odd) same)
 
 kept_body : (kept : Option UberBody) → 1 ≤ group_of kept → (body : UberBody) × (kept ≡ Some body)
 kept_body None some = absurd (omega (arith, some))
@@ -69,8 +92,9 @@ body_next : (kept : Option UberBody) (next : ℕ) (body : UberBody) → IsSomeAn
 body_next kept next body leaf is = subst (λ o. IsSomeAnd o (λ b. next ≡ b.next_leaf)) is leaf
 
 -- the body that was found, and what the area of the uberblock told: the state's layout is at the version that was found
-pub record FoundBody {A : Type 0} (x : State) (uber : Uber A) : Type 0 where
+pub record FoundBody {A : Type 0} (area : areas.Ghosts A) (x : State) (uber : Uber A) : Type 0 where
   pub body : UberBody
+  pub own_areas : AreasStand (kept_of uber) [] (told_by area.told (areas_of uber))
   pub kept : kept_of uber ≡ Some body
   pub finds : FindsBody x body
   pub group : group_of (kept_of uber) ≡ body.group
@@ -79,18 +103,20 @@ pub record FoundBody {A : Type 0} (x : State) (uber : Uber A) : Type 0 where
   pub layout : layout_of uber ≡ x.geometry
 
 -- and the pool rests at that version
-pub record RestsFoundAt {A : Type 0} (x : State) (pieces : ℕ → Pieces) (held : Held) (leaves : ℕ → Option Shape) (counts : ℕ → KitCounts) (count : ℕ) (uber : Uber A) : Type 0 where
+pub record RestsFoundAt {A : Type 0} (area : areas.Ghosts A) (x : State) (pieces : ℕ → Pieces) (held : Held) (leaves : ℕ → Option Shape) (counts : ℕ → KitCounts) (count : ℕ) (uber : Uber A) : Type 0 where
   pub version : ℕ
   pub there : RestsThere (found_at x version) pieces (Some held) leaves counts count
-  pub b : FoundBody (found_at x version) uber
+  pub b : FoundBody area (found_at x version) uber
 
 pub body_found : {A : Type 0} (area : areas.Ghosts A) (x : State) (pieces : ℕ → Pieces) (held : Held) (leaves : ℕ → Option Shape) (counts : ℕ → KitCounts) (count : ℕ) (uber : Uber A)
-    → RestsThere x pieces (Some held) leaves counts count → IsFoundUber area uber → IsRecovered area (Some held) count uber → RestsFoundAt x pieces held leaves counts count uber
+    → RestsThere x pieces (Some held) leaves counts count → IsFoundUber area uber → IsRecovered area (Some held) count uber → RestsFoundAt area x pieces held leaves counts count uber
 body_found {A} area x pieces held leaves counts count uber there found r = record {
   version = kept.0.props.version;
   there = there_at x kept.0.props.version pieces held leaves counts count (record { geometry_is = subst IsGeometry layout found.valid.held.layout_is; perms_are = there.held.layout.perms_are }) there;
   b = record {
     body = kept.0;
+    own_areas = subst (λ t. AreasStand (kept_of uber) [] t) (sym told) (subst (λ k. AreasStand k [] (areas_told (flushes c.uber) c.checks)) (sym kept.1)
+        (stand_named None kept.0 (areas_told (flushes c.uber) c.checks) check (subst (λ k. StandsTold k [] (Some (flushes c.uber))) kept.1 (subst (λ t. StandsTold (kept_of uber) [] t) content r.stands))));
     kept = kept.1;
     finds = finds;
     group = ap (λ (k : Option UberBody). group_of k) kept.1;
@@ -103,20 +129,29 @@ body_found {A} area x pieces held leaves counts count uber there found r = recor
     kept : (body : UberBody) × (kept_of uber ≡ Some body)
     kept = kept_body (kept_of uber) found.some
 
-    c : (c : Content) × (held.uber ≡ Some c) × UberStands x (Some c)
-    c = uber_content x held.uber there.held.uber
+    c : HeldAreas x held
+    c = held_areas x held there.held.uber
 
-    own : r.content ≡ Some c.0
-    own = r.own ∙ c.1
+    own : r.content ≡ Some c.uber
+    own = r.own ∙ c.uber_is
 
-    counted : IsOfSize r.size c.0
+    content : area.told (areas_of uber).uber ≡ Some (flushes c.uber)
+    content = r.flushed ∙ ap (λ o. option_map flushes o) own
+
+    told : told_by area.told (areas_of uber) ≡ areas_told (flushes c.uber) c.checks
+    told = (let both = told_checks (area.told (areas_of uber).even) (area.told (areas_of uber).odd) c.checks (r.checks ∙ c.checks_are) in λ i. record { uber = content i; even = both.0 i; odd = both.1 i })
+
+    counted : IsOfSize r.size c.uber
     counted = subst (λ o. OnTold o (IsOfSize r.size)) own r.counted
 
-    chosen : chosen_of c.0.bytes ≡ option_map read_body (kept_of uber)
+    chosen : chosen_of c.uber.bytes ≡ option_map read_body (kept_of uber)
     chosen = subst (λ o. OnTold o (λ (y : Content). chosen_of y.bytes ≡ option_map read_body (kept_of uber))) own r.finds
 
+    check : HasCheck (areas_told (flushes c.uber) c.checks) kept.0
+    check = found_check x c.uber c.checks c.stands counted.firm kept.0 (chosen ∙ ap (λ (k : Option UberBody). option_map read_body k) kept.1)
+
     finds : FindsBody (found_at x kept.0.props.version) kept.0
-    finds = found_body x c.0 c.2 counted.firm kept.0 (chosen ∙ ap (λ (k : Option UberBody). option_map read_body k) kept.1)
+    finds = found_body x c.uber c.checks c.stands counted.firm kept.0 (chosen ∙ ap (λ (k : Option UberBody). option_map read_body k) kept.1)
 
     layout : layout_of uber ≡ layout_at_version kept.0.props.version x.geometry
     layout = found_layout area x uber kept.0 found.valid kept.1 finds there.held.layout.geometry_is
@@ -131,7 +166,7 @@ pub once_there : (o : Option KitTold) (kit : KitTold) (P : KitTold → Type 0) �
 once_there o kit P is h = subst (λ q. IsSomeAnd q P) is h
 
 module _ {R A : Type 0} (rack : racks.Ghosts R) (area : areas.Ghosts A) (x : State) (pieces : ℕ → Pieces) (held : Held) (leaves : ℕ → Option Shape) (counts : ℕ → KitCounts) (count : ℕ)
-    (there : RestsThere x pieces (Some held) leaves counts count) (uber : Uber A) (found : IsFoundUber area uber) (r : IsRecovered area (Some held) count uber) (b : FoundBody x uber) where
+    (there : RestsThere x pieces (Some held) leaves counts count) (uber : Uber A) (found : IsFoundUber area uber) (r : IsRecovered area (Some held) count uber) (b : FoundBody area x uber) where
   abbrev rests : Rests x pieces held
   rests = there.held
 
@@ -141,7 +176,7 @@ module _ {R A : Type 0} (rack : racks.Ghosts R) (area : areas.Ghosts A) (x : Sta
   -- one that was opened from its record of the group
   pub shard_found : (alloc : Global) (known : Option Shape) (now : ℕ → KitCounts) (m : ℕ) (shard : Shard R A) (y : Metaslab) (perms : Perms) → perms ≡ x.perms → ((k : ℕ) → now k ≡ counts k)
       → Valid rack shard → part_of shard ≡ record { geometry = layout_of uber; perms = perms; number = m }
-      → OpensOver rack area (limit_of (layout_of uber)) (group_of (kept_of uber)) (next_leaf_of uber) m (takes_uber (Some held)) known (now m) shard
+      → OpensOver rack area (limit_of (layout_of uber)) (group_of (kept_of uber)) (next_leaf_of uber) m (takes_areas (Some held)) known (now m) shard
       → slice_get x.metaslabs m ≡ Some y → OpensFound rack area x b.body.group m (pieces m) y shard
   shard_found alloc known now m shard y perms same counted valid part over at =
       let kit = rested (held.kits m) x m (pieces m) y (rests.kits m y at) in
@@ -159,7 +194,7 @@ module _ {R A : Type 0} (rack : racks.Ghosts R) (area : areas.Ghosts A) (x : Sta
 
   -- each of them
   pub each_found : (alloc : Global) (known : ℕ → Option Shape) (now : ℕ → KitCounts) (shards : List (Shard R A)) → ((k : ℕ) → now k ≡ counts k) → AreReopened rack (layout_of uber) (group_of (kept_of uber)) shards
-      → OpensAllOver rack area (limit_of (layout_of uber)) (group_of (kept_of uber)) (next_leaf_of uber) (takes_uber (Some held)) known now shards
+      → OpensAllOver rack area (limit_of (layout_of uber)) (group_of (kept_of uber)) (next_leaf_of uber) (takes_areas (Some held)) known now shards
       → (m : ℕ) (shard : Shard R A) (y : Metaslab) → slice_get shards m ≡ Some shard → slice_get x.metaslabs m ≡ Some y → OpensFound rack area x b.body.group m (pieces m) y shard
   each_found alloc known now shards counted re over m shard y at here =
       let perms = one_table x.geometry re.perms x.perms (subst (λ (g : Geometry). IsLayout g re.perms) b.layout re.layout) rests.layout in
@@ -171,7 +206,7 @@ module _ {R A : Type 0} (rack : racks.Ghosts R) (area : areas.Ghosts A) (x : Sta
   -- all of them, and what their blocks say of the objects
   pub shards_found : (alloc : Global) (known : ℕ → Option Shape) (now : ℕ → KitCounts) (shards : List (Shard R A)) (newest : ℕ → Option Pointer) (seq : ℕ) → ((k : ℕ) → now k ≡ counts k)
       → AreReopened rack (layout_of uber) (group_of (kept_of uber)) shards
-      → OpensAllOver rack area (limit_of (layout_of uber)) (group_of (kept_of uber)) (next_leaf_of uber) (takes_uber (Some held)) known now shards
+      → OpensAllOver rack area (limit_of (layout_of uber)) (group_of (kept_of uber)) (next_leaf_of uber) (takes_areas (Some held)) known now shards
       → AreFound shards newest seq → IsFoundOf rack area x uber pieces newest seq shards
   shards_found alloc known now shards newest seq counted re over blocks =
       let later = r.later in
@@ -180,12 +215,12 @@ module _ {R A : Type 0} (rack : racks.Ghosts R) (area : areas.Ghosts A) (x : Sta
       let group = b.group in
       found_begins rack area x pieces uber newest seq held rests importable.findable importable.alike b.body b.finds shards
       (as_many_found shards re) (each_found alloc known now shards counted re over)
-      (omega (arith, later, own)) (last_found shards newest seq blocks) (newest_found shards newest seq blocks) (omega (arith, low, group)) found.valid b.kept b.version b.next r.stands b.layout
+      (omega (arith, later, own)) (last_found shards newest seq blocks) (newest_found shards newest seq blocks) (omega (arith, low, group)) found.valid b.kept b.version b.next b.own_areas b.layout
 
 -- what the pool is made of, whatever the shelf tells
 pub pool_found : {R A : Type 0} (alloc : Global) (rack : racks.Ghosts R) (area : areas.Ghosts A) (x : State) (pieces : ℕ → Pieces) (o mid : Option Held) (leaves known : ℕ → Option Shape) (counts now : ℕ → KitCounts) (count : ℕ) (uber : Uber A)
     (shards : List (Shard R A)) (newest : ℕ → Option Pointer) (seq : ℕ) → RestsThere x pieces o leaves counts count → IsFoundUber area uber → (r : IsRecovered area o count uber)
-    → ((k : ℕ) → now k ≡ counts k) → mid ≡ takes_uber o → AreReopened rack (layout_of uber) (group_of (kept_of uber)) shards
+    → ((k : ℕ) → now k ≡ counts k) → mid ≡ takes_areas o → AreReopened rack (layout_of uber) (group_of (kept_of uber)) shards
     → OpensAllOver rack area (limit_of (layout_of uber)) (group_of (kept_of uber)) (next_leaf_of uber) mid known now shards → AreFound shards newest seq → IsFoundOf rack area x uber pieces newest seq shards
 pool_found alloc rack area x pieces None mid leaves known counts now count uber shards newest seq there found r counted taken re over blocks = absurd there.held
 pool_found alloc rack area x pieces (Some held) mid leaves known counts now count uber shards newest seq there found r counted taken re over blocks =
@@ -197,10 +232,10 @@ pool_found alloc rack area x pieces (Some held) mid leaves known counts now coun
 -- ---- the shelf
 
 -- where the devices of metaslabs were taken behind the uberblock's area, it tells as before
-pub tells_as_before : (n : ℕ) (o mid new : Option Held) → mid ≡ takes_uber o → TakesFirst n mid new → is_some new ≡ is_some o
+pub tells_as_before : (n : ℕ) (o mid new : Option Held) → mid ≡ takes_areas o → TakesFirst n mid new → is_some new ≡ is_some o
 tells_as_before n o mid new taken takes = by o new (subst (λ (m : Option Held). TakesFirst n m new) taken takes)
   where
-    by : (o new : Option Held) → TakesFirst n (takes_uber o) new → is_some new ≡ is_some o
+    by : (o new : Option Held) → TakesFirst n (takes_areas o) new → is_some new ≡ is_some o
     by None new t = ap (λ (h : Option Held). is_some h) t
     by (Some x) None t = absurd t
     by (Some x) (Some y) t = refl

@@ -15,13 +15,13 @@ use Rattle.draid_machine.specs.State as machine
 use Rattle.draid_layouts.specs.Layout.{layout_of}
 use Rattle.draid_record.specs.declared.uber.UberBody.{UberBody}
 use Rattle.draid_segments.specs.Segments.{Pieces}
-use Rattle.draid_shelf.specs.Kits.{AreNewChecks, Held, KitCounts, KitTold, puts_uber}
+use Rattle.draid_shelf.specs.Kits.{ChecksTold, Held, KitCounts, KitTold, puts_checks, puts_uber}
 use Rattle.draid_stable.specs.Stable as stable
 use Rattle.draid_shard.specs.declared.shard.Shard.{Shard}
-use Rattle.draid_uber.specs.Slots.{StandsTold}
+use Rattle.draid_uber.specs.Checks.{AreasStand}
 use Rattle.draid_session.specs.Opening.{Finds, MayFind, Reopens}
 use Rattle.draid_session.specs.State.{Counts, Metaslab, State}
-use Rattle.draid_pool.specs.Returning.{Rests, RestsOn, SameCounts, kit_in}
+use Rattle.draid_pool.specs.Returning.{Rests, RestsOn, SameCounts, areas_told, kit_in}
 use Rattle.draid_pool.specs.Groups.{ListsOnce}
 use Rattle.draid_pool.specs.Importable.{AreAlike, HasImageLeaves, IsFindable, IsImportable, SameArms}
 use Rattle.draid_import.specs.Imported.{FindsBody, OpensFound, RestsFound, found_state}
@@ -76,17 +76,16 @@ left_found x group next m pieces y kit known counts alloc f once leaves rack_lat
 
 -- ---- the pool as it was
 
-module _ (x : State) (pieces : ℕ → Pieces) (held : Held) (rests : Rests x pieces held) (pending : Bool) (n : ℕ) (u : Content) (may : (group : ℕ) → MayFind (record x { pending = pending }) group → MayFind x group)
-    (stands : UberStands (record x { pending = pending }) (Some u)) where
+module _ (x : State) (pieces : ℕ → Pieces) (held : Held) (rests : Rests x pieces held) (pending : Bool) (n : ℕ) (u : Content) (k : ChecksTold) (may : (group : ℕ) → MayFind (record x { pending = pending }) group → MayFind x group)
+    (stands : UberStands (record x { pending = pending }) (areas_told u k)) where
   on_kit : (o : Option KitTold) (m : ℕ) (y : Metaslab) → IsSomeAnd o (RestsOn x m (pieces m) y) → IsSomeAnd o (RestsOn (record x { pending = pending; uber_count = n }) m (pieces m) y)
   on_kit None m y h = absurd h
   on_kit (Some kit) m y h = record { reached = h.reached; images = h.images; harm = h.harm; bytes = h.bytes }
 
-  pub rests_again : Rests (record x { pending = pending; uber_count = n }) pieces (puts_uber (Some u) held)
+  pub rests_again : Rests (record x { pending = pending; uber_count = n }) pieces (puts_checks (Some k) (puts_uber (Some u) held))
   rests_again = record {
     layout = rests.layout;
     uber = record { pending = stands.pending; are = stands.are; stands = stands.stands };
-    checks = rests.checks;
     many = rests.many;
     kits = λ m y at. on_kit (held.kits m) m y (rests.kits m y at);
     images = λ group m y found some at. rests.images group m y (may group found) some at;
@@ -94,7 +93,7 @@ module _ (x : State) (pieces : ℕ → Pieces) (held : Held) (rests : Rests x pi
     objects = rests.objects;
   }
 
-  pub importable_again : (leaves now : ℕ → Option Shape) → ((m : ℕ) → now m ≡ leaves m) → IsImportable x held leaves → IsImportable (record x { pending = pending; uber_count = n }) (puts_uber (Some u) held) now
+  pub importable_again : (leaves now : ℕ → Option Shape) → ((m : ℕ) → now m ≡ leaves m) → IsImportable x held leaves → IsImportable (record x { pending = pending; uber_count = n }) (puts_checks (Some k) (puts_uber (Some u) held)) now
   importable_again leaves now same i = record {
     findable = record { committed = i.findable.committed; versions = i.findable.versions };
     alike = λ group k j y z a b found. i.alike group k j y z a b (may group found);
@@ -103,14 +102,14 @@ module _ (x : State) (pieces : ℕ → Pieces) (held : Held) (rests : Rests x pi
   }
 
 -- the uberblock wasn't found, or not taken
-pub still_leaves : (x : State) (pieces : ℕ → Pieces) (held : Held) (leaves now : ℕ → Option Shape) (counts : ℕ → KitCounts) (count n : ℕ) (u : Content)
-    → RestsThere x pieces (Some held) leaves counts count → ((m : ℕ) → now m ≡ leaves m) → count ≤ n → UberStands x (Some u)
-    → LeavesPool x pieces (Some (puts_uber (Some u) held)) now counts n
-still_leaves x pieces held leaves now counts count n u rests same later stands = record {
+pub still_leaves : (x : State) (pieces : ℕ → Pieces) (held : Held) (leaves now : ℕ → Option Shape) (counts : ℕ → KitCounts) (count n : ℕ) (u : Content) (k : ChecksTold)
+    → RestsThere x pieces (Some held) leaves counts count → ((m : ℕ) → now m ≡ leaves m) → count ≤ n → UberStands x (areas_told u k)
+    → LeavesPool x pieces (Some (puts_checks (Some k) (puts_uber (Some u) held))) now counts n
+still_leaves x pieces held leaves now counts count n u k rests same later stands = record {
   y = record x { uber_count = n };
   rests = record {
-    held = rests_again x pieces held rests.held x.pending n u (λ group found. found) stands;
-    importable = importable_again x pieces held rests.held x.pending n u (λ group found. found) stands leaves now same rests.importable;
+    held = rests_again x pieces held rests.held x.pending n u k (λ group found. found) stands;
+    importable = importable_again x pieces held rests.held x.pending n u k (λ group found. found) stands leaves now same rests.importable;
     counted = rests.counted;
     uber = refl;
   };
@@ -118,15 +117,15 @@ still_leaves x pieces held leaves now counts count n u rests same later stands =
 }
 
 -- it has no open gate
-pub none_found : (x : State) (pieces : ℕ → Pieces) (held : Held) (leaves now : ℕ → Option Shape) (counts : ℕ → KitCounts) (count n : ℕ) (u : Content)
+pub none_found : (x : State) (pieces : ℕ → Pieces) (held : Held) (leaves now : ℕ → Option Shape) (counts : ℕ → KitCounts) (count n : ℕ) (u : Content) (k : ChecksTold)
     → RestsThere x pieces (Some held) leaves counts count → ((m : ℕ) → now m ≡ leaves m) → count ≤ n → x.committed ≡ 0
-    → UberStands (record x { pending = false }) (Some u) → FindsNone x pieces (Some (puts_uber (Some u) held)) now counts n
-none_found x pieces held leaves now counts count n u rests same later none stands = record {
+    → UberStands (record x { pending = false }) (areas_told u k) → FindsNone x pieces (Some (puts_checks (Some k) (puts_uber (Some u) held))) now counts n
+none_found x pieces held leaves now counts count n u k rests same later none stands = record {
   y = record x { pending = false; uber_count = n };
   is = record { none = none; is = record { later = (let is = rests.uber in omega (arith, is, later)); same = refl } };
   rests = record {
-    held = rests_again x pieces held rests.held false n u may stands;
-    importable = importable_again x pieces held rests.held false n u may stands leaves now same rests.importable;
+    held = rests_again x pieces held rests.held false n u k may stands;
+    importable = importable_again x pieces held rests.held false n u k may stands leaves now same rests.importable;
     counted = rests.counted;
     uber = refl;
   };
@@ -210,15 +209,15 @@ module _ (x : State) (pieces : ℕ → Pieces) (held : Held) (rests : Rests x pi
         (alike body.group k j p.0 q.0 p.2.reopens.image q.2.reopens.image body_is.may p.1 q.1 p.2.reopens.is p.2.reopens.of q.2.reopens.is q.2.reopens.of))
 
     -- a refusal behind the uberblock leaves the pool as the group has it
-    pub found_leaves_pool : (u : Content) → new.uber ≡ Some u → StandsTold (Some body) [] (Some u) → IsSomeAnd new.checks AreNewChecks → LeavesFound x pieces (Some new) now counts n
-    found_leaves_pool u uber stands checks = record {
+    pub found_leaves_pool : (u : Content) (k : ChecksTold) → new.uber ≡ Some u → new.checks ≡ Some k → AreasStand (Some body) [] (areas_told u k) → LeavesFound x pieces (Some new) now counts n
+    found_leaves_pool u k uber checks stands = record {
       y = mid;
       rests = record {
         held = record {
           layout = rests.layout;
-          uber = subst (λ o. IsSomeAnd o (λ c. UberStands mid (Some c))) (sym uber)
-              (record { pending = []; are = All-nil (IsPending mid); stands = subst (λ k. StandsTold k [] (Some u)) (sym (found_kept x mid body body_is refl refl refl refl)) stands });
-          checks = checks;
+          uber = subst (λ o. IsSomeAnd o (λ c. IsSomeAnd new.checks (λ checks. UberStands mid (areas_told c checks)))) (sym uber)
+              (subst (λ o. IsSomeAnd o (λ checks. UberStands mid (areas_told u checks))) (sym checks)
+              (record { pending = []; are = All-nil (IsPending mid); stands = subst (λ (b : Option UberBody). AreasStand b [] (areas_told u k)) (sym (found_kept x mid body body_is refl refl refl refl)) stands }));
           many = shelved.1 ∙ rests.many;
           kits = λ m z at. on_mid (new.kits m) m z (there m z at).1.kit;
           images = found_images x mid body.group pieces finds refl rests.layout rests.many reached rests.leaves findable rests.objects;

@@ -9,7 +9,9 @@ use Rattle.draid_rack.specs.Rack.{Shape}
 use Rattle.draid_rack.specs.declared.Rack as racks
 use Rattle.draid_record.specs.declared.fault.RecordFault.TheVariants.{Bad}
 use Rattle.draid_segments.specs.Segments.{Pieces}
-use Rattle.draid_shelf.specs.Kits.{Held, KitCounts, NeedsUber, OnHeld, gives_uber, puts_uber, takes_uber}
+use Rattle.draid_shelf.specs.Kits.{ChecksTold, Held, KitCounts, NeedsUber, OnHeld, puts_checks, puts_uber}
+use Rattle.draid_pool.specs.Returning.{areas_told}
+use Rattle.draid_pool.specs.Taking.{TellsAreas, gives_areas, takes_areas}
 use Rattle.draid_uber.specs.Slots.{chosen_of}
 use Rattle.draid_uber.specs.Steps.{IsSameOrFlushed}
 use Rattle.draid_uber.specs.Uber.{FindsFault}
@@ -19,7 +21,7 @@ use Rattle.draid_session.specs.State.{State}
 use Rattle.draid_import.specs.Found.{shelf_fault_of, uber_fault_of}
 use Rattle.draid_import.specs.Importing.{FindsNone, ImportIs, LeavesPool, RestsThere}
 use Rattle.draid_pool.specs.Ubers.{UberStands}
-use Rattle.draid_import.proofs.ImportPool.{uber_content}
+use Rattle.draid_import.proofs.ImportPool.{HeldAreas, held_areas, told_checks}
 use Rattle.draid_import.proofs.ImportRefused.{none_found, still_leaves}
 use Rattle.draid_import.proofs.ImportUber.{flushed_none, flushed_stands, found_bad, found_none}
 use Rattle.draid_pool.proofs.Lists.{ext}
@@ -38,22 +40,22 @@ module _ {R A : Type 0} (rack : racks.Ghosts R) (area : areas.Ghosts A) (x : Sta
       → RestsThere x pieces o leaves counts count → FindsNone x pieces new now counts' n
   no_pool None new leaves now counts counts' count n has is off there = absurd there.held
   no_pool (Some held) new leaves now counts counts' count n has is off there =
-      let c = uber_content x held.uber there.held.uber in
-      absurd (both_ways has (is.1 (subst IsSome (sym c.1) refl)) off)
+      let c = held_areas x held there.held.uber in
+      absurd (both_ways has (is.1 (subst IsSome (sym c.uber_is) refl)) off)
 
   -- the pool as it was, with the area of its uberblock as it was or flushed
-  left_pool : (held : Held) (new : Option Held) (leaves now : ℕ → Option Shape) (counts counts' : ℕ → KitCounts) (count n : ℕ) (u : Content) → RestsThere x pieces (Some held) leaves counts count
-      → new ≡ Some (puts_uber (Some u) held) → ((m : ℕ) → now m ≡ leaves m) → ((m : ℕ) → counts' m ≡ counts m) → count ≤ n → UberStands x (Some u) → LeavesPool x pieces new now counts' n
-  left_pool held new leaves now counts counts' count n u there told same counted later stands =
-      subst (λ o. LeavesPool x pieces o now counts' n) (sym told) (subst (λ k. LeavesPool x pieces (Some (puts_uber (Some u) held)) now k n) (sym (ext counts' counts counted))
-      (still_leaves x pieces held leaves now counts count n u there same later stands))
+  left_pool : (held : Held) (new : Option Held) (leaves now : ℕ → Option Shape) (counts counts' : ℕ → KitCounts) (count n : ℕ) (u : Content) (k : ChecksTold) → RestsThere x pieces (Some held) leaves counts count
+      → new ≡ Some (puts_checks (Some k) (puts_uber (Some u) held)) → ((m : ℕ) → now m ≡ leaves m) → ((m : ℕ) → counts' m ≡ counts m) → count ≤ n → UberStands x (areas_told u k) → LeavesPool x pieces new now counts' n
+  left_pool held new leaves now counts counts' count n u k there told same counted later stands =
+      subst (λ o. LeavesPool x pieces o now counts' n) (sym told) (subst (λ z. LeavesPool x pieces (Some (puts_checks (Some k) (puts_uber (Some u) held))) now z n) (sym (ext counts' counts counted))
+      (still_leaves x pieces held leaves now counts count n u k there same later stands))
 
-  none_left : (held : Held) (new : Option Held) (leaves now : ℕ → Option Shape) (counts counts' : ℕ → KitCounts) (count n : ℕ) (u : Content) → RestsThere x pieces (Some held) leaves counts count
-      → new ≡ Some (puts_uber (Some u) held) → ((m : ℕ) → now m ≡ leaves m) → ((m : ℕ) → counts' m ≡ counts m) → count ≤ n → x.committed ≡ 0 → UberStands (record x { pending = false }) (Some u)
+  none_left : (held : Held) (new : Option Held) (leaves now : ℕ → Option Shape) (counts counts' : ℕ → KitCounts) (count n : ℕ) (u : Content) (k : ChecksTold) → RestsThere x pieces (Some held) leaves counts count
+      → new ≡ Some (puts_checks (Some k) (puts_uber (Some u) held)) → ((m : ℕ) → now m ≡ leaves m) → ((m : ℕ) → counts' m ≡ counts m) → count ≤ n → x.committed ≡ 0 → UberStands (record x { pending = false }) (areas_told u k)
       → FindsNone x pieces new now counts' n
-  none_left held new leaves now counts counts' count n u there told same counted later none stands =
-      subst (λ o. FindsNone x pieces o now counts' n) (sym told) (subst (λ k. FindsNone x pieces (Some (puts_uber (Some u) held)) now k n) (sym (ext counts' counts counted))
-      (none_found x pieces held leaves now counts count n u there same later none stands))
+  none_left held new leaves now counts counts' count n u k there told same counted later none stands =
+      subst (λ o. FindsNone x pieces o now counts' n) (sym told) (subst (λ z. FindsNone x pieces (Some (puts_checks (Some k) (puts_uber (Some u) held))) now z n) (sym (ext counts' counts counted))
+      (none_found x pieces held leaves now counts count n u k there same later none stands))
 
   -- the area of the uberblock wasn't taken
   pub not_taken : (o new : Option Held) (leaves now : ℕ → Option Shape) (counts counts' : ℕ → KitCounts) (count n : ℕ) (why : DeviceFault) → new ≡ o → ((m : ℕ) → now m ≡ leaves m)
@@ -61,54 +63,57 @@ module _ {R A : Type 0} (rack : racks.Ghosts R) (area : areas.Ghosts A) (x : Sta
   not_taken None new leaves now counts counts' count n why told same counted later there = absurd there.held
   not_taken (Some held) new leaves now counts counts' count n why told same counted later there = by why
     where
-      c : (c : Content) × (held.uber ≡ Some c) × UberStands x (Some c)
-      c = uber_content x held.uber there.held.uber
+      c : HeldAreas x held
+      c = held_areas x held there.held.uber
 
-      own : Some held ≡ Some (puts_uber (Some c.0) held)
-      own = λ i. Some (record { uber = c.1 i; checks = held.checks; kits = held.kits })
+      own : Some held ≡ Some (puts_checks (Some c.checks) (puts_uber (Some c.uber) held))
+      own = λ i. Some (record { uber = c.uber_is i; checks = c.checks_are i; kits = held.kits })
 
       left : LeavesPool x pieces new now counts' n
-      left = left_pool held new leaves now counts counts' count n c.0 there (told ∙ own) same counted (omega (arith, later)) c.2
+      left = left_pool held new leaves now counts counts' count n c.uber c.checks there (told ∙ own) same counted (omega (arith, later)) c.stands
 
       by : (why : DeviceFault) → ImportIs rack area x pieces new now counts' n (Err (shelf_fault_of why))
       by device.Failed = left
       by device.NoMemory = left
 
   -- the uberblock wasn't found there
-  pub not_found : (o mid new : Option Held) (leaves now : ℕ → Option Shape) (counts counts' : ℕ → KitCounts) (count n size : ℕ) (was is : Option Content) (why : UberFault) → OnHeld o (λ held. was ≡ held.uber)
+  pub not_found : (o mid new : Option Held) (leaves now : ℕ → Option Shape) (counts counts' : ℕ → KitCounts) (count n size : ℕ) (was is even odd : Option Content) (why : UberFault) → OnHeld o (TellsAreas (record { uber = was; even = even; odd = odd }))
       → OnTold was (IsOfSize size) → OnTold was (λ c. FindsFault why (chosen_of c.bytes)) → IsSameOrFlushed was is → (why ≡ faults.Empty → is ≡ option_map flushes was)
-      → mid ≡ takes_uber o → new ≡ gives_uber is mid → ((m : ℕ) → now m ≡ leaves m) → ((m : ℕ) → counts' m ≡ counts m) → count ≤ n
+      → mid ≡ takes_areas o → new ≡ gives_areas (record { uber = is; even = even; odd = odd }) mid → ((m : ℕ) → now m ≡ leaves m) → ((m : ℕ) → counts' m ≡ counts m) → count ≤ n
       → RestsThere x pieces o leaves counts count → ImportIs rack area x pieces new now counts' n (Err (uber_fault_of why))
-  not_found None mid new leaves now counts counts' count n size was is why own counted finds flushed empty taken told same again later there = absurd there.held
-  not_found (Some held) mid new leaves now counts counts' count n size was is why own counted finds flushed empty taken told same again later there = by why refl
+  not_found None mid new leaves now counts counts' count n size was is even odd why own counted finds flushed empty taken told same again later there = absurd there.held
+  not_found (Some held) mid new leaves now counts counts' count n size was is even odd why own counted finds flushed empty taken told same again later there = by why refl
     where
-      c : (c : Content) × (held.uber ≡ Some c) × UberStands x (Some c)
-      c = uber_content x held.uber there.held.uber
+      c : HeldAreas x held
+      c = held_areas x held there.held.uber
 
-      content : was ≡ Some c.0
-      content = own ∙ c.1
+      content : was ≡ Some c.uber
+      content = own.uber ∙ c.uber_is
 
-      of_size : IsOfSize size c.0
+      both : (even ≡ Some c.checks.even) × (odd ≡ Some c.checks.odd)
+      both = told_checks even odd c.checks (own.checks ∙ c.checks_are)
+
+      of_size : IsOfSize size c.uber
       of_size = subst (λ o. OnTold o (IsOfSize size)) content counted
 
-      chosen : FindsFault why (chosen_of c.0.bytes)
+      chosen : FindsFault why (chosen_of c.uber.bytes)
       chosen = subst (λ o. OnTold o (λ (y : Content). FindsFault why (chosen_of y.bytes))) content finds
 
-      put : (u : Content) → is ≡ Some u → new ≡ Some (puts_uber (Some u) held)
-      put u at = told ∙ (ap (λ o. gives_uber is o) taken ∙ ap (λ o. gives_uber o (takes_uber (Some held))) at)
+      put : (u : Content) → is ≡ Some u → new ≡ Some (puts_checks (Some c.checks) (puts_uber (Some u) held))
+      put u at = told ∙ (λ i. gives_areas (record { uber = at i; even = both.0 i; odd = both.1 i }) (taken i))
 
       left : LeavesPool x pieces new now counts' n
       left = elim flushed [
-        | inl own ↦ left_pool held new leaves now counts counts' count n c.0 there (put c.0 (own ∙ content)) same again later c.2
-        | inr out ↦ left_pool held new leaves now counts counts' count n (flushes c.0) there (put (flushes c.0) (out ∙ ap (λ o. option_map flushes o) content)) same again later
-            (flushed_stands x c.0 c.2 of_size.firm)
+        | inl same_area ↦ left_pool held new leaves now counts counts' count n c.uber c.checks there (put c.uber (same_area ∙ content)) same again later c.stands
+        | inr out ↦ left_pool held new leaves now counts counts' count n (flushes c.uber) c.checks there (put (flushes c.uber) (out ∙ ap (λ o. option_map flushes o) content)) same again later
+            (flushed_stands x c.uber c.checks c.stands of_size.firm)
       ]
 
       by : (w : UberFault) → why ≡ w → ImportIs rack area x pieces new now counts' n (Err (uber_fault_of w))
       by faults.Area at = left
       by faults.NoMemory at = left
       by faults.Empty at =
-          let none : chosen_of c.0.bytes ≡ None = subst (λ w. FindsFault w (chosen_of c.0.bytes)) at chosen in
-          none_left held new leaves now counts counts' count n (flushes c.0) there (put (flushes c.0) (empty at ∙ ap (λ o. option_map flushes o) content)) same again later
-          (found_none x c.0 c.2 of_size.firm none) (flushed_none x c.0 c.2 of_size.firm none)
-      by (faults.Record place kind) at = found_bad x c.0 c.2 of_size.firm (Bad place kind) (subst (λ w. FindsFault w (chosen_of c.0.bytes)) at chosen)
+          let none : chosen_of c.uber.bytes ≡ None = subst (λ w. FindsFault w (chosen_of c.uber.bytes)) at chosen in
+          none_left held new leaves now counts counts' count n (flushes c.uber) c.checks there (put (flushes c.uber) (empty at ∙ ap (λ o. option_map flushes o) content)) same again later
+          (found_none x c.uber c.checks c.stands of_size.firm none) (flushed_none x c.uber c.checks c.stands of_size.firm none)
+      by (faults.Record place kind) at = found_bad x c.uber c.checks c.stands of_size.firm (Bad place kind) (subst (λ w. FindsFault w (chosen_of c.uber.bytes)) at chosen)

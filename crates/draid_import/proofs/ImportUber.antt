@@ -12,11 +12,14 @@ use Rattle.draid_spec.specs.declared.layout.Geometry.{Geometry}
 use Rattle.draid_spec.specs.Geometry.{IsGeometry, geometry_of}
 use Rattle.draid_spec.specs.declared.spec.SpecFault.{SpecFault}
 use Rattle.draid_spec.proofs.Layouts.{given_layout}
-use Rattle.draid_uber.specs.Slots.{Chooses, IsLeft, StandsTold, chosen_of, read_body}
-use Rattle.draid_uber.specs.Steps.{IsSameOrFlushed}
-use Rattle.draid_uber.specs.Uber.{Valid, area_of, kept_of, layout_of, next_leaf_of, version_of}
+use Rattle.draid_shelf.specs.Kits.{ChecksTold}
+use Rattle.draid_uber.specs.Checks.{AreasStand, HasCheck, told_by}
+use Rattle.draid_uber.specs.Slots.{Chooses, IsLeft, chosen_of, read_body}
+use Rattle.draid_uber.specs.Uber.{Valid, areas_of, count_of, kept_of, layout_of, next_leaf_of, version_of}
 use Rattle.draid_uber.specs.declared.uber.Uber.{Uber}
 use Rattle.draid_uber.proofs.Imports.{import_takes}
+use Rattle.draid_uber.proofs.Recorded.{stand_alone, stand_still}
+use Rattle.draid_pool.specs.Returning.{areas_told}
 use Rattle.draid_session.specs.Opening.{layout_at_version}
 use Rattle.draid_session.specs.State.{State}
 use Rattle.draid_import.specs.Imported.{FindsBody}
@@ -81,9 +84,9 @@ module _ (x : State) where
       by true zero same = grind (arith, nat_tests, zero)
       by false some same = absurd (cc)
 
-  module _ (c : Content) (stands : UberStands x (Some c)) (counted : c.firm ≤ length c.bytes) where
+  module _ (c : Content) (k : ChecksTold) (stands : UberStands x (areas_told c k)) (counted : c.firm ≤ length c.bytes) where
     takes : Chooses (kept_in x) stands.pending (chosen_of c.bytes)
-    takes = import_takes (kept_in x) stands.pending c stands.stands counted
+    takes = import_takes (kept_in x) stands.pending c stands.stands.uber_is counted
 
     pub found_body : (body : UberBody) → chosen_of c.bytes ≡ Some (Ok body) → FindsBody (found_at x body.props.version) body
     found_body body is = by takes
@@ -93,6 +96,16 @@ module _ (x : State) where
         by (inr p) =
             let same : p.0 ≡ body = same_body p.0 body (chosen_of c.bytes) p.2 is in
             subst (λ (b : UberBody). FindsBody (found_at x b.props.version) b) same (pending_body p.0 (All-contains (IsPending x) stands.pending p.0 stands.are p.1))
+
+    -- the check record of its group stands, whether or not the uberblock's area was flushed
+    pub found_check : (body : UberBody) → chosen_of c.bytes ≡ Some (Ok body) → HasCheck (areas_told (flushes c) k) body
+    found_check body is = by takes
+      where
+        by : Chooses (kept_in x) stands.pending (chosen_of c.bytes) → HasCheck (areas_told (flushes c) k) body
+        by (inl kept) = subst (λ (o : Option UberBody). MatchOption o ⊤ (HasCheck (areas_told c k))) (read_some (kept_in x) body (chosen_of c.bytes) is kept) stands.stands.kept_check
+        by (inr p) =
+            let same : p.0 ≡ body = same_body p.0 body (chosen_of c.bytes) p.2 is in
+            subst (λ (b : UberBody). HasCheck (areas_told c k) b) same (All-contains (HasCheck (areas_told c k)) stands.pending p.0 stands.stands.pending_checks p.1)
 
     -- no gate is open only where no group was committed
     pub found_none : chosen_of c.bytes ≡ None → x.committed ≡ 0
@@ -111,23 +124,25 @@ module _ (x : State) where
         by (inr p) = (let h = sym is ∙ p.2 in absurd (cc))
 
     left : IsLeft (kept_in x) stands.pending c.bytes
-    left = stands.stands c.bytes (record { same = λ i d soft. refl; least = counted; most = omega arith })
+    left = stands.stands.uber_is c.bytes (record { same = λ i d soft. refl; least = counted; most = omega arith })
 
     -- a flush leaves it as it was
-    pub flushed_stands : UberStands x (Some (flushes c))
+    pub flushed_stands : UberStands x (areas_told (flushes c) k)
     flushed_stands = record {
       pending = stands.pending;
       are = stands.are;
-      stands = λ bytes may. subst (IsLeft (kept_in x) stands.pending) (sym (leaves_all (flushes c) bytes (λ i. refl) refl may)) left;
+      stands = stand_still (kept_in x) stands.pending (areas_told c k) (areas_told (flushes c) k) stands.stands
+          (λ bytes may. subst (IsLeft (kept_in x) stands.pending) (sym (leaves_all (flushes c) bytes (λ i. refl) refl may)) left) refl refl;
     }
 
     -- and where no gate is open then, nothing is left of a commit that was refused
-    pub flushed_none : chosen_of c.bytes ≡ None → UberStands (record x { pending = false }) (Some (flushes c))
+    pub flushed_none : chosen_of c.bytes ≡ None → UberStands (record x { pending = false }) (areas_told (flushes c) k)
     flushed_none is = record {
       pending = [];
       are = All-nil (IsPending (record x { pending = false }));
-      stands = λ bytes may. subst (IsLeft (kept_in x) []) (sym (leaves_all (flushes c) bytes (λ i. refl) refl may))
-          (record { long = left.long; kept_is = left.kept_is; chosen = inl (is ∙ none_of (read_none_kept is)) });
+      stands = stand_alone (kept_in x) stands.pending (areas_told c k) (areas_told (flushes c) k) stands.stands
+          (λ bytes may. subst (IsLeft (kept_in x) []) (sym (leaves_all (flushes c) bytes (λ i. refl) refl may))
+          (record { long = left.long; kept_is = left.kept_is; chosen = inl (is ∙ none_of (read_none_kept is)) })) (λ body same. refl);
     }
       where
         none_of : kept_in x ≡ None → None ≡ option_map read_body (kept_in x)
@@ -139,11 +154,6 @@ module _ (x : State) where
             by : Chooses (kept_in x) stands.pending (chosen_of c.bytes) → kept_in x ≡ None
             by (inl kept) = read_none (kept_in x) (chosen_of c.bytes) none kept
             by (inr p) = (let h = sym none ∙ p.2 in absurd (cc))
-
--- an area that was left alone, or flushed
-pub refused_stands : (x : State) (c : Content) (new : Option Content) → UberStands x (Some c) → c.firm ≤ length c.bytes → IsSameOrFlushed (Some c) new → UberStands x new
-refused_stands x c new stands counted (inl same) = subst (UberStands x) (sym same) stands
-refused_stands x c new stands counted (inr flushed) = subst (UberStands x) (sym flushed) (flushed_stands x c stands counted)
 
 -- ---- the uberblock
 
@@ -180,8 +190,8 @@ found_layout area x uber body valid kept finds whole =
 module _ {A : Type 0} (area : areas.Ghosts A) (x mid : State) (uber : Uber A) (body : UberBody) (valid : Valid area.size uber) (kept : kept_of uber ≡ Some body) (finds : FindsBody x body)
     (layout : layout_of uber ≡ x.geometry) where
   -- it is that of the state which is found with it
-  pub found_uber : version_of uber ≡ body.props.version → next_leaf_of uber ≡ body.next_leaf → StandsTold (kept_of uber) [] (area.told (area_of uber))
-      → mid.geometry ≡ x.geometry → mid.committed ≡ body.group → mid.kept_leaf ≡ body.next_leaf → mid.next_leaf ≡ body.next_leaf → mid.uber_count ≡ area.faults (area_of uber)
+  pub found_uber : version_of uber ≡ body.props.version → next_leaf_of uber ≡ body.next_leaf → AreasStand (kept_of uber) [] (told_by area.told (areas_of uber))
+      → mid.geometry ≡ x.geometry → mid.committed ≡ body.group → mid.kept_leaf ≡ body.next_leaf → mid.next_leaf ≡ body.next_leaf → mid.uber_count ≡ count_of area.faults uber
       → (mid.kept_version ≡ x.geometry.props.version) × (mid.next_version ≡ x.geometry.props.version) → IsUber area uber mid
   found_uber version next stands geometry committed kept_leaf next_leaf count versions = record {
     valid = valid;
@@ -190,5 +200,5 @@ module _ {A : Type 0} (area : areas.Ghosts A) (x mid : State) (uber : Uber A) (b
     kept = kept ∙ sym (found_kept x mid body finds geometry versions.0 committed kept_leaf);
     next_leaf = next ∙ sym next_leaf;
     count = count;
-    stands = record { pending = []; are = All-nil (IsPending mid); stands = subst (λ (k : Option UberBody). StandsTold k [] (area.told (area_of uber))) (kept ∙ sym (found_kept x mid body finds geometry versions.0 committed kept_leaf)) stands };
+    stands = record { pending = []; are = All-nil (IsPending mid); stands = subst (λ (k : Option UberBody). AreasStand k [] (told_by area.told (areas_of uber))) (kept ∙ sym (found_kept x mid body finds geometry versions.0 committed kept_leaf)) stands };
   }

@@ -9,7 +9,7 @@ use Rattle.draid_rack.specs.Rack.{Shape}
 use Rattle.draid_rack.specs.declared.Rack as racks
 use Rattle.draid_spec.specs.declared.layout.Geometry.{Geometry}
 use Rattle.draid_segments.specs.Segments.{Pieces}
-use Rattle.draid_shelf.specs.Kits.{Held, KitCounts, OnHeld, kit_of, takes_uber}
+use Rattle.draid_shelf.specs.Kits.{Held, KitCounts, OnHeld, kit_of}
 use Rattle.draid_shelf.specs.Shelf.{IsKnown}
 use Rattle.draid_shelf.specs.declared.kit.Kit.{Kit}
 use Rattle.draid_stable.specs.Stable as stable
@@ -24,7 +24,7 @@ use Rattle.draid_session.specs.State.{State}
 use Rattle.draid_import.specs.Found.{IsFoundUber, IsRecovered, NoRecord, open_fault_of, shelf_fault_of}
 use Rattle.draid_pool.specs.Importable.{HasImageLeaves}
 use Rattle.draid_import.specs.Importing.{RestsThere}
-use Rattle.draid_pool.specs.Taking.{TakesFirst}
+use Rattle.draid_pool.specs.Taking.{TakesFirst, takes_areas}
 use Rattle.draid_import.specs.declared.fault.ImportFault.{ImportFault}
 use Rattle.draid_import.specs.declared.fault.ImportFault.TheVariants as fault
 use Rattle.draid_import.proofs.ImportFound.{finds_image}
@@ -53,7 +53,7 @@ known_leaves None shape P is h = absurd h
 known_leaves (Some s) shape P is h = subst P (sym is) h
 
 module _ {R A : Type 0} (rack : racks.Ghosts R) (area : areas.Ghosts A) (x : State) (pieces : ℕ → Pieces) (held : Held) (leaves : ℕ → Option Shape) (counts : ℕ → KitCounts) (count : ℕ)
-    (there : RestsThere x pieces (Some held) leaves counts count) (uber : Uber A) (found : IsFoundUber area uber) (r : IsRecovered area (Some held) count uber) (b : FoundBody x uber) where
+    (there : RestsThere x pieces (Some held) leaves counts count) (uber : Uber A) (found : IsFoundUber area uber) (r : IsRecovered area (Some held) count uber) (b : FoundBody area x uber) where
   -- a metaslab's record is opened
   pub not_unread : (m : ℕ) → m < (layout_of uber).props.metaslabs → (old new : Kit R A) (place : ℕ) (k : RecordFaultKind) → kit_of (rack.told old.rack) (area.told old.even) (area.told old.odd) ≡ held.kits m
       → IsKnown (leaves m) (rack.shape old.rack)
@@ -75,7 +75,7 @@ module _ {R A : Type 0} (rack : racks.Ghosts R) (area : areas.Ghosts A) (x : Sta
 -- so that it isn't why the metaslab wasn't opened
 pub no_open_record : {T R A : Type 0} (rack : racks.Ghosts R) (area : areas.Ghosts A) (x : State) (pieces : ℕ → Pieces) (o now : Option Held) (leaves : ℕ → Option Shape) (counts : ℕ → KitCounts) (count : ℕ) (uber : Uber A)
     (m : ℕ) (old new : Kit R A) (known : Option Shape) (why : OpenFault) (f : ImportFault) → f ≡ open_fault_of m why → RestsThere x pieces o leaves counts count → IsFoundUber area uber → IsRecovered area o count uber
-    → m < (layout_of uber).props.metaslabs → TakesFirst m (takes_uber o) now → OnHeld now (λ h. kit_of (rack.told old.rack) (area.told old.even) (area.told old.odd) ≡ h.kits m)
+    → m < (layout_of uber).props.metaslabs → TakesFirst m (takes_areas o) now → OnHeld now (λ h. kit_of (rack.told old.rack) (area.told old.even) (area.told old.odd) ≡ h.kits m)
     → known ≡ leaves m → IsKnown known (rack.shape old.rack)
     → OpenIsRefused rack area.faults area.told (layout_of uber) m old new (group_of (kept_of uber)) (next_leaf_of uber) why → NoRecord {T = T} (Err f)
 no_open_record {T} rack area x pieces None now leaves counts count uber m old new known why f is there found r below takes told same shape refused = absurd there.held
@@ -83,7 +83,7 @@ no_open_record {T} rack area x pieces (Some held) now leaves counts count uber m
     subst (λ (g : ImportFault). NoRecord {T = T} (Err g)) (sym is) (by why refused)
   where
     own : kit_of (rack.told old.rack) (area.told old.even) (area.told old.odd) ≡ held.kits m
-    own = from_first m (takes_uber (Some held)) now (λ k. kit_of (rack.told old.rack) (area.told old.even) (area.told old.odd) ≡ k) takes told
+    own = from_first m (takes_areas (Some held)) now (λ k. kit_of (rack.told old.rack) (area.told old.even) (area.told old.odd) ≡ k) takes told
 
     by : (w : OpenFault) → OpenIsRefused rack area.faults area.told (layout_of uber) m old new (group_of (kept_of uber)) (next_leaf_of uber) w → NoRecord {T = T} (Err (open_fault_of m w))
     by open_why.Area h metaslab place kind err = absurd (cc)

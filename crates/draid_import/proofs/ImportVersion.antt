@@ -28,7 +28,8 @@ use Rattle.draid_pool.specs.Groups.{ListsOnce}
 use Rattle.draid_pool.specs.Importable.{IsFindable, IsImportable}
 use Rattle.draid_pool.specs.Objects.{HasPieces, HoldsObjects, blocks_of}
 use Rattle.draid_pool.specs.Records.{HasLeafNumbers}
-use Rattle.draid_pool.specs.Returning.{Rests, RestsOn}
+use Rattle.draid_uber.specs.Checks.{AreasTold}
+use Rattle.draid_pool.specs.Returning.{Rests, RestsOn, areas_told}
 use Rattle.draid_pool.specs.Ubers.{UberStands}
 use Rattle.draid_import.specs.Imported.{IsFoundOf}
 use Rattle.draid_import.specs.Importing.{LeavesPool, RestsThere}
@@ -86,8 +87,8 @@ module _ (x : State) (version : ℕ) where
   abbrev at : State
   at = found_at x version
 
-  uber_at : (content : Content) → UberStands x (Some content) → UberStands at (Some content)
-  uber_at content u = record { pending = u.pending; are = u.are; stands = u.stands }
+  uber_at : (told : AreasTold) → UberStands x told → UberStands at told
+  uber_at told u = record { pending = u.pending; are = u.are; stands = u.stands }
 
   bytes_at : (h : _) (key : _) (pieces : Pieces) → HasBytes x.geometry h key pieces → HasBytes at.geometry h key pieces
   bytes_at h key pieces has = record { content = has.content; len = has.len; digest = has.digest; bytes = has.bytes; columns = has.columns; are = has.are; rows = has.rows }
@@ -119,8 +120,8 @@ module _ (x : State) (version : ℕ) where
   rests_at : (pieces : ℕ → Pieces) (held : Held) → IsLayout at.geometry x.perms → Rests x pieces held → Rests at pieces held
   rests_at pieces held layout r = record {
     layout = layout;
-    uber = some_more held.uber (λ content. UberStands x (Some content)) (λ content. UberStands at (Some content)) uber_at r.uber;
-    checks = r.checks;
+    uber = some_more held.uber (λ c. IsSomeAnd held.checks (λ checks. UberStands x (areas_told c checks))) (λ c. IsSomeAnd held.checks (λ checks. UberStands at (areas_told c checks)))
+        (λ c all. some_more held.checks (λ checks. UberStands x (areas_told c checks)) (λ checks. UberStands at (areas_told c checks)) (λ checks stands. uber_at (areas_told c checks) stands) all) r.uber;
     many = r.many;
     kits = λ m y there. some_more (held.kits m) (RestsOn x m (pieces m) y) (RestsOn at m (pieces m) y) (kit_at m (pieces m) y) (r.kits m y there);
     images = r.images;

@@ -1,3 +1,4 @@
+pub mod Counted
 pub mod Findings
 pub mod Flushed
 pub mod Found

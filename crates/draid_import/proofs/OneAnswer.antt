@@ -16,7 +16,8 @@ use Rattle.draid_record.specs.Record.{RecordTold, limits_of}
 use Rattle.draid_record.specs.declared.fault.RecordFault.{RecordFault}
 use Rattle.draid_record.specs.declared.fault.RecordFault.TheVariants.{Bad}
 use Rattle.draid_record.specs.declared.uber.UberBody.{UberBody}
-use Rattle.draid_shelf.specs.Kits.{Held, KitCounts, KitTold, puts_uber, takes_uber}
+use Rattle.draid_shelf.specs.Kits.{Held, KitCounts, KitTold, puts_checks, puts_uber}
+use Rattle.draid_pool.specs.Taking.{takes_areas}
 use Rattle.draid_shelf.specs.Shelf.{IsKnown}
 use Rattle.draid_record.specs.declared.sizes.TheConstants.{BLOCK_BYTES}
 use Rattle.draid_stable.specs.Opening.{arms_told, block_at, has_leaf, opening_of}
@@ -412,19 +413,19 @@ module _ {R A : Type 0} (rack : racks.Ghosts R) (area : areas.Ghosts A) (x : Hel
   module _ (known : KnowsLeaves x leaves) where
     -- what is said of one uberblock is said of the other
     turns_bad : (u v : Uber A) (a : Option ℕ) (p : ℕ) (k : RecordFaultKind) → IsSameUber u v
-        → OneIsUnread rack area (layout_of v) (group_of (kept_of v)) (next_leaf_of v) (takes_uber (Some x)) leaves counts a p k ⊎ AreReadApart rack area (layout_of v) (group_of (kept_of v)) (next_leaf_of v) (takes_uber (Some x)) leaves counts a p k
-        → OneIsUnread rack area (layout_of u) (group_of (kept_of u)) (next_leaf_of u) (takes_uber (Some x)) leaves counts a p k ⊎ AreReadApart rack area (layout_of u) (group_of (kept_of u)) (next_leaf_of u) (takes_uber (Some x)) leaves counts a p k
+        → OneIsUnread rack area (layout_of v) (group_of (kept_of v)) (next_leaf_of v) (takes_areas (Some x)) leaves counts a p k ⊎ AreReadApart rack area (layout_of v) (group_of (kept_of v)) (next_leaf_of v) (takes_areas (Some x)) leaves counts a p k
+        → OneIsUnread rack area (layout_of u) (group_of (kept_of u)) (next_leaf_of u) (takes_areas (Some x)) leaves counts a p k ⊎ AreReadApart rack area (layout_of u) (group_of (kept_of u)) (next_leaf_of u) (takes_areas (Some x)) leaves counts a p k
     turns_bad u v a p k same bad =
-        subst (λ (g : Geometry). OneIsUnread rack area g (group_of (kept_of u)) (next_leaf_of u) (takes_uber (Some x)) leaves counts a p k ⊎ AreReadApart rack area g (group_of (kept_of u)) (next_leaf_of u) (takes_uber (Some x)) leaves counts a p k) same.layout
-        (subst (λ n. OneIsUnread rack area (layout_of v) n (next_leaf_of u) (takes_uber (Some x)) leaves counts a p k ⊎ AreReadApart rack area (layout_of v) n (next_leaf_of u) (takes_uber (Some x)) leaves counts a p k) same.group
-        (subst (λ n. OneIsUnread rack area (layout_of v) (group_of (kept_of v)) n (takes_uber (Some x)) leaves counts a p k ⊎ AreReadApart rack area (layout_of v) (group_of (kept_of v)) n (takes_uber (Some x)) leaves counts a p k) same.next bad))
+        subst (λ (g : Geometry). OneIsUnread rack area g (group_of (kept_of u)) (next_leaf_of u) (takes_areas (Some x)) leaves counts a p k ⊎ AreReadApart rack area g (group_of (kept_of u)) (next_leaf_of u) (takes_areas (Some x)) leaves counts a p k) same.layout
+        (subst (λ n. OneIsUnread rack area (layout_of v) n (next_leaf_of u) (takes_areas (Some x)) leaves counts a p k ⊎ AreReadApart rack area (layout_of v) n (next_leaf_of u) (takes_areas (Some x)) leaves counts a p k) same.group
+        (subst (λ n. OneIsUnread rack area (layout_of v) (group_of (kept_of v)) n (takes_areas (Some x)) leaves counts a p k ⊎ AreReadApart rack area (layout_of v) (group_of (kept_of v)) n (takes_areas (Some x)) leaves counts a p k) same.next bad))
 
     pub pool_no_fault : (group : ℕ) (name : List ℕ) (objects : ℕ) (a : Option ℕ) (p : ℕ) (k : RecordFaultKind) → FindsPool rack area (Some x) leaves counts group name objects → RecordIsBad rack area (Some x) leaves counts a p k → ⊥
     pool_no_fault group name objects a p k f (inl bad) = ok_err f.read.body.body (Bad p k) (one_chosen x.uber (Some (Ok f.read.body.body)) (Some (Err (Bad p k))) f.read.body.chosen bad.bad)
     pool_no_fault group name objects a p k f (inr bad) =
         let r = f.read in
         let same = one_uber area x f.uber bad.uber r.found bad.found r.body bad.body in
-        no_fault rack area (layout_of f.uber) (group_of (kept_of f.uber)) (next_leaf_of f.uber) (puts_uber None x) leaves counts known f.shards a p k r.reopened r.over r.together (turns_bad f.uber bad.uber a p k same bad.bad)
+        no_fault rack area (layout_of f.uber) (group_of (kept_of f.uber)) (next_leaf_of f.uber) (puts_checks None (puts_uber None x)) leaves counts known f.shards a p k r.reopened r.over r.together (turns_bad f.uber bad.uber a p k same bad.bad)
 
     pub same_fault : (a b : Option ℕ) (p : ℕ) (k : RecordFaultKind) (q : ℕ) (l : RecordFaultKind) → RecordIsBad rack area (Some x) leaves counts a p k → RecordIsBad rack area (Some x) leaves counts b q l → (a ≡ b) × (p ≡ q) × (k ≡ l)
     same_fault a b p k q l (inl bad) (inl ill) =
@@ -434,7 +435,7 @@ module _ {R A : Type 0} (rack : racks.Ghosts R) (area : areas.Ghosts A) (x : Hel
     same_fault a b p k q l (inr bad) (inl ill) = absurd (ok_err bad.body.body (Bad q l) (one_chosen x.uber (Some (Ok bad.body.body)) (Some (Err (Bad q l))) bad.body.chosen ill.bad))
     same_fault a b p k q l (inr bad) (inr ill) =
         let same = one_uber area x bad.uber ill.uber bad.found ill.found bad.body ill.body in
-        one_fault rack area (layout_of bad.uber) (group_of (kept_of bad.uber)) (next_leaf_of bad.uber) (puts_uber None x) leaves counts known a b p k q l bad.bad (turns_bad bad.uber ill.uber b q l same ill.bad)
+        one_fault rack area (layout_of bad.uber) (group_of (kept_of bad.uber)) (next_leaf_of bad.uber) (puts_checks None (puts_uber None x)) leaves counts known a b p k q l bad.bad (turns_bad bad.uber ill.uber b q l same ill.bad)
 
     pub same_pool : (g h : ℕ) (a b : List ℕ) (n m : ℕ) → FindsPool rack area (Some x) leaves counts g a n → FindsPool rack area (Some x) leaves counts h b m → (g ≡ h) × (a ≡ b) × (n ≡ m)
     same_pool g h a b n m f e = (
@@ -453,15 +454,15 @@ module _ {R A : Type 0} (rack : racks.Ghosts R) (area : areas.Ghosts A) (x : Hel
         reopened : AreReopened rack (layout_of f.uber) (group_of (kept_of f.uber)) e.shards
         reopened = subst (λ (l : Geometry). AreReopened rack l (group_of (kept_of f.uber)) e.shards) same.layout (subst (λ n. AreReopened rack (layout_of e.uber) n e.shards) same.group e.read.reopened)
 
-        over : OpensAllOver rack area (limit_of (layout_of f.uber)) (group_of (kept_of f.uber)) (next_leaf_of f.uber) (takes_uber (Some x)) leaves counts e.shards
-        over = subst (λ (l : Geometry). OpensAllOver rack area (limit_of l) (group_of (kept_of f.uber)) (next_leaf_of f.uber) (takes_uber (Some x)) leaves counts e.shards) same.layout
-            (subst (λ n. OpensAllOver rack area (limit_of (layout_of e.uber)) n (next_leaf_of f.uber) (takes_uber (Some x)) leaves counts e.shards) same.group
-            (subst (λ n. OpensAllOver rack area (limit_of (layout_of e.uber)) (group_of (kept_of e.uber)) n (takes_uber (Some x)) leaves counts e.shards) same.next e.read.over))
+        over : OpensAllOver rack area (limit_of (layout_of f.uber)) (group_of (kept_of f.uber)) (next_leaf_of f.uber) (takes_areas (Some x)) leaves counts e.shards
+        over = subst (λ (l : Geometry). OpensAllOver rack area (limit_of l) (group_of (kept_of f.uber)) (next_leaf_of f.uber) (takes_areas (Some x)) leaves counts e.shards) same.layout
+            (subst (λ n. OpensAllOver rack area (limit_of (layout_of e.uber)) n (next_leaf_of f.uber) (takes_areas (Some x)) leaves counts e.shards) same.group
+            (subst (λ n. OpensAllOver rack area (limit_of (layout_of e.uber)) (group_of (kept_of e.uber)) n (takes_areas (Some x)) leaves counts e.shards) same.next e.read.over))
 
         there : (object : ℕ) → Contains f.names.names object → Contains e.names.names object
-        there object c = (e.names.each object).1 (same_objects rack area (layout_of f.uber) (group_of (kept_of f.uber)) (next_leaf_of f.uber) (puts_uber None x) leaves counts known f.shards e.shards f.newest e.newest f.seq e.seq
+        there object c = (e.names.each object).1 (same_objects rack area (layout_of f.uber) (group_of (kept_of f.uber)) (next_leaf_of f.uber) (puts_checks None (puts_uber None x)) leaves counts known f.shards e.shards f.newest e.newest f.seq e.seq
             f.read.reopened f.read.over reopened over f.read.blocks e.read.blocks object ((f.names.each object).0 c))
 
         back : (object : ℕ) → Contains e.names.names object → Contains f.names.names object
-        back object c = (f.names.each object).1 (same_objects rack area (layout_of f.uber) (group_of (kept_of f.uber)) (next_leaf_of f.uber) (puts_uber None x) leaves counts known e.shards f.shards e.newest f.newest e.seq f.seq
+        back object c = (f.names.each object).1 (same_objects rack area (layout_of f.uber) (group_of (kept_of f.uber)) (next_leaf_of f.uber) (puts_checks None (puts_uber None x)) leaves counts known e.shards f.shards e.newest f.newest e.seq f.seq
             reopened over f.read.reopened f.read.over e.read.blocks f.read.blocks object ((e.names.each object).0 c))

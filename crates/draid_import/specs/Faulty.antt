@@ -12,7 +12,8 @@ use Rattle.draid_map.specs.Place.{IsLayout}
 use Rattle.draid_record.specs.Record.{limits_of}
 use Rattle.draid_record.specs.declared.fault.RecordFault.TheVariants.{Bad}
 use Rattle.draid_stable.specs.Opening.{has_leaf, opening_of}
-use Rattle.draid_shelf.specs.Kits.{Held, KitCounts, OnHeld, takes_uber}
+use Rattle.draid_shelf.specs.Kits.{Held, KitCounts, OnHeld}
+use Rattle.draid_pool.specs.Taking.{takes_areas}
 use Rattle.draid_shelf.specs.declared.kit.Kit.{Kit}
 use Rattle.draid_import.specs.Reopening.{area_of_kit, AreBytes}
 use Rattle.draid_shard.specs.declared.shard.Shard.{Shard}
@@ -80,8 +81,8 @@ pub record ShardIsBad {R A : Type 0} (rack : racks.Ghosts R) (area : areas.Ghost
   pub uber : Uber A
   pub found : IsFoundUber area uber
   pub body : TellsBody held uber
-  pub bad : OneIsUnread rack area (layout_of uber) (group_of (kept_of uber)) (next_leaf_of uber) (takes_uber held) leaves counts metaslab place kind
-      ⊎ AreReadApart rack area (layout_of uber) (group_of (kept_of uber)) (next_leaf_of uber) (takes_uber held) leaves counts metaslab place kind
+  pub bad : OneIsUnread rack area (layout_of uber) (group_of (kept_of uber)) (next_leaf_of uber) (takes_areas held) leaves counts metaslab place kind
+      ⊎ AreReadApart rack area (layout_of uber) (group_of (kept_of uber)) (next_leaf_of uber) (takes_areas held) leaves counts metaslab place kind
 
 -- which record has it: it is the first fault that an import looks for
 abbrev pub RecordIsBad : {R A : Type 0} → racks.Ghosts R → areas.Ghosts A → Option Held → (ℕ → Option Shape) → (ℕ → KitCounts) → Option ℕ → ℕ → RecordFaultKind → Type 0

@@ -9,7 +9,8 @@ use Rattle.draid_area.specs.declared.Area as areas
 use Rattle.draid_spec.specs.declared.layout.Geometry.{Geometry}
 use Rattle.draid_record.specs.Record.{RecordTold, limits_of, record_of}
 use Rattle.draid_segments.specs.Acts.{DropsBut, IsNamed}
-use Rattle.draid_shelf.specs.Kits.{Held, KitCounts, KitTold, OnHeld, takes_uber}
+use Rattle.draid_shelf.specs.Kits.{Held, KitCounts, KitTold, OnHeld}
+use Rattle.draid_pool.specs.Taking.{takes_areas}
 use Rattle.draid_stable.specs.Images.{image_by}
 use Rattle.draid_stable.specs.Stable as stable
 use Rattle.draid_shard.specs.declared.shard.Shard.{Shard}
@@ -35,7 +36,7 @@ pub record IsRead {R A : Type 0} (rack : racks.Ghosts R) (area : areas.Ghosts A)
   pub found : IsFoundUber area uber
   pub body : TellsBody held uber
   pub reopened : AreReopened rack (layout_of uber) (group_of (kept_of uber)) shards
-  pub over : OpensAllOver rack area (limit_of (layout_of uber)) (group_of (kept_of uber)) (next_leaf_of uber) (takes_uber held) leaves counts shards
+  pub over : OpensAllOver rack area (limit_of (layout_of uber)) (group_of (kept_of uber)) (next_leaf_of uber) (takes_areas held) leaves counts shards
   pub together : AreTogether shards (length shards)
   pub blocks : AreFound shards newest seq
 

@@ -45,7 +45,7 @@ use Rattle.draid_uber.specs.declared.uber.Uber.{Uber}
 use Rattle.draid_uber.specs.declared.uber.UberFault.{UberFault}
 use Rattle.draid_uber.specs.declared.uber.UberFault.TheVariants as uber_fault
 use Rattle.draid_uber.specs.Slots.{StandsTold, chosen_of, group_of, read_body}
-use Rattle.draid_uber.specs.Uber.{area_of, kept_of, layout_of, next_leaf_of, version_of}
+use Rattle.draid_uber.specs.Uber.{area_of, areas_of, count_of, kept_of, layout_of, next_leaf_of, version_of}
 use Rattle.draid_uber.specs.Uber as ubers
 
 -- ---- the shelf
@@ -194,7 +194,7 @@ pub record LeavesUber (old new : Option shelf.Held) (count count' : ℕ) : Type 
   pub tells : shelf.OnHeld old (λ x. IsSome new)
   pub later : count ≤ count'
 
--- an uberblock was recovered from the area that the shelf held: it is what the bytes say, and a crash leaves it alone from then on
+-- an uberblock was recovered from the area that the shelf held: it is what the bytes say, and a crash leaves it alone from then on. It has the areas of the check records that the shelf held.
 pub record IsRecovered {A : Type 0} (area : areas.Ghosts A) (held : Option shelf.Held) (count : ℕ) (uber : Uber A) : Type 0 where
   pub content : Option Content
   pub own : shelf.OnHeld held (λ x. content ≡ x.uber)
@@ -202,9 +202,11 @@ pub record IsRecovered {A : Type 0} (area : areas.Ghosts A) (held : Option shelf
   pub counted : OnTold content (IsOfSize size)
   pub finds : OnTold content (λ x. chosen_of x.bytes ≡ option_map read_body (kept_of uber))
   pub flushed : area.told (area_of uber) ≡ option_map flushes content
+  pub checks : shelf.OnHeld held (λ x. shelf.checks_of (area.told (areas_of uber).even) (area.told (areas_of uber).odd) ≡ x.checks)
+  pub some_checks : shelf.OnHeld held (λ x. IsSome x.checks)
   pub stands : StandsTold (kept_of uber) [] (area.told (area_of uber))
   pub leaf : IsSomeAnd (kept_of uber) (λ body. next_leaf_of uber ≡ body.next_leaf)
-  pub later : count ≤ area.faults (area_of uber)
+  pub later : count ≤ count_of area.faults uber
 
 -- an uberblock was found there, and the count of an area of records rose, of one of the metaslabs that it names
 pub record FoundRecordsRose {A : Type 0} (area : areas.Ghosts A) (held : Option shelf.Held) (count : ℕ) (before after : ℕ → shelf.KitCounts) : Type 0 where

@@ -16,14 +16,14 @@ use Rattle.draid_session.specs.Making.{vdev_name_of}
 use Rattle.draid_session.specs.Opening.{HasObjects}
 use Rattle.draid_session.specs.State.{State}
 use Rattle.draid_pool.specs.Pools.{HasNames, Represents, group_in}
-use Rattle.draid_pool.specs.Returning.{GivesBack}
+use Rattle.draid_pool.specs.Returning.{GivesBack, own_count}
 use Rattle.draid_pool.specs.Shelves.{OnShelf}
 use Rattle.draid_pool.specs.Taking.{HoldsMade, IsAsBefore}
 use Rattle.draid_pool.specs.Whole.{IsWhole}
 use Rattle.draid_pool.specs.declared.pool.Pool.{Pool}
 use Rattle.draid_import.specs.Faulty.{HoldsNoGroup, RecordIsBad}
 use Rattle.draid_import.specs.Findings.{IsReadPool}
-use Rattle.draid_import.specs.Found.{HasRisen, SameChecks}
+use Rattle.draid_import.specs.Found.{HasRisen}
 use Rattle.draid_import.specs.Importing.{ImportIs, LeavesMade, RestsThere}
 use Rattle.draid_import.specs.declared.fault.ImportFault.{ImportFault}
 use Rattle.draid_import.specs.declared.fault.ImportFault.TheVariants as fault
@@ -36,14 +36,12 @@ use Rattle.draid_import.specs.declared.replies.ImportStop.TheVariants as stop
 pub record ImportGives {R A : Type 0} (rack : racks.Ghosts R) (area : areas.Ghosts A) (before now : OnShelf) (answer : Result (Pool R A) ImportFault) : Type 0 where
   pub whole : IfOk answer (IsWhole rack area)
   pub none : OnHeld before.held (λ held. held.uber ≡ None → IsErrOf answer fault.NoPool × IsAsBefore before.held now.held before.counts now.counts before.own now.own)
-  pub read : IfOk answer (IsReadPool rack area before.held before.leaves before.counts before.own.uber)
+  pub read : IfOk answer (IsReadPool rack area before.held before.leaves before.counts (own_count before.own))
   pub empty : IsErrOf answer fault.NoPool → HoldsNoGroup before.held
   pub faulty : (metaslab : Option ℕ) (place : ℕ) (kind : RecordFaultKind) → IsErrOf answer (fault.Record metaslab place kind) → RecordIsBad rack area before.held before.leaves before.counts metaslab place kind
-  pub imports : (x : State) (pieces : ℕ → Pieces) → RestsThere x pieces before.held before.leaves before.counts before.own.uber → ImportIs rack area x pieces now.held now.leaves now.counts now.own.uber answer
+  pub imports : (x : State) (pieces : ℕ → Pieces) → RestsThere x pieces before.held before.leaves before.counts (own_count before.own) → ImportIs rack area x pieces now.held now.leaves now.counts (own_count now.own) answer
   pub tells : OnOk answer (is_some now.held ≡ is_some before.held)
-  pub checks_held : SameChecks before.held now.held
-  pub checks : now.own.checks ≡ before.own.checks
-  pub cause : IsErrOf answer fault.Shelf → HasRisen area before.held before.faults now.faults before.own.uber now.own.uber before.counts now.counts
+  pub cause : IsErrOf answer fault.Shelf → HasRisen area before.held before.faults now.faults (own_count before.own) (own_count now.own) before.counts now.counts
   pub made : (geometry : Geometry) → IsSomeAnd before.held (HoldsMade geometry) → LeavesMade geometry answer now.held before.counts now.counts before.own now.own
 
 -- ---- the reply
@@ -63,9 +61,8 @@ pub record IsTold {R A : Type 0} (rack : racks.Ghosts R) (area : areas.Ghosts A)
 
 -- A pool that was open was given back to a shelf, without a crash.
 pub record IsBack {R A : Type 0} (rack : racks.Ghosts R) (area : areas.Ghosts A) (pool : Pool R A) (before now : OnShelf) : Type 0 where
-  pub back : (x : State) → Represents rack area pool x → GivesBack x false before.held now.held now.leaves now.counts now.own.uber
+  pub back : (x : State) → Represents rack area pool x → GivesBack x false now.held now.leaves now.counts now.own
   pub tells : is_some now.held ≡ is_some before.held
-  pub checks : now.own.checks ≡ before.own.checks
 
 -- what is said of a shelf without a pool to open, or why nothing is
 abbrev pub IsUnopened : ImportFault → Result Reply ImportStop → Type 0

@@ -9,7 +9,7 @@ ghost use Rattle.draid_area.specs.Area.{IsOfSize, OnTold};
 ghost use Rattle.draid_rack.specs.Rack.{Shape};
 ghost use Rattle.draid_map.specs.Place.{IsLayout};
 ghost use Rattle.draid_spec.specs.declared.layout.Geometry.{Geometry};
-ghost use Rattle.draid_shelf.specs.Kits.{Held, KitCounts, OnHeld, takes_kit, takes_uber};
+ghost use Rattle.draid_shelf.specs.Kits.{Held, KitCounts, OnHeld, takes_kit};
 ghost use Rattle.draid_shelf.specs.Shelf.{SameOthers};
 ghost use Rattle.draid_shard.specs.Looks.{IsLive};
 ghost use Rattle.draid_shard.specs.Fits.{Valid};
@@ -22,7 +22,8 @@ ghost use Rattle.draid_import.specs.Faulty.{HoldsNoGroup, IsUnread, OneIsUnread,
 ghost use Rattle.draid_import.specs.Findings.{IsMadeOf, IsReadPool, LeavesAll};
 ghost use Rattle.draid_import.specs.Imported.{AreNewest, IsFoundOf};
 ghost use Rattle.draid_import.specs.Importing.{ImportIs, ImportsPool, LeavesMade, RestsThere};
-ghost use Rattle.draid_pool.specs.Taking.{HoldsMade, IsAsBefore, TakesFirst};
+ghost use Rattle.draid_pool.specs.Shelves.{count_on};
+ghost use Rattle.draid_pool.specs.Taking.{HoldsMade, IsAsBefore, TakesFirst, takes_areas};
 ghost use Rattle.draid_import.specs.Found.{AnyRecordsRose, AreFreed, AreReopened, CountsLater, FreesIfOlder, FreesOlder, HasOnly, HaveLowLeaves, HasRisen, IsFoundUber, IsRecovered, IsReopened, IsShardFault, KeepsFound, KeepsFoundAt, KeepsKnown, LeavesShards, LeavesUber, NoRecord, OpensAllOver, OpensOver, RecordsRose, SameChecks, StaysHeld, shelf_fault_of, uber_fault_of, open_fault_of};
 ghost use Rattle.draid_found.specs.Found.{AllLive, AreFound, AreReady};
 ghost use Rattle.draid_found.specs.Together.{AreApart, AreTogether};
@@ -36,7 +37,7 @@ use draid_blocks::free;
 use draid_found::{Found, FoundFault};
 use draid_names::{DeviceFault, Pointer};
 use draid_perm::Perms;
-use draid_pool::{EVENTS, Own, Owned, Pool, give_back};
+use draid_pool::{EVENTS, Own, Owned, Pool, give_areas, give_back, take_areas};
 use draid_rack::Rack;
 use draid_shard::Shard;
 use draid_shelf::Shelf;
@@ -95,17 +96,17 @@ fn has_length_told<A: Area>(area: &A)
     ensures { OnTold (A.told area.now) (IsOfSize (A.size area.now)) }
 {}
 
-/// Takes the area of the uberblock, and finds the uberblock there. After a refusal the area is on the shelf.
-fn find_uber<H: Shelf>(shelf: &mut H) -> Result<Uber<H::A>, ImportFault>
+/// Takes the pool's own areas, and finds the uberblock there. After a refusal the areas are on the shelf.
+fn find_uber<H: Shelf>(alloc: Global, shelf: &mut H) -> Result<Uber<H::A>, ImportFault>
     ensures found { IfOk result (IsFoundUber H.A.Area) }
-    ensures recovered { IfOk result (IsRecovered H.A.Area (H.told shelf.old) (H.uber_count shelf.old)) }
-    ensures told { OnOk result (H.told shelf.new ≡ takes_uber (H.told shelf.old)) }
+    ensures recovered { IfOk result (IsRecovered H.A.Area (H.told shelf.old) (count_on H.Shelf shelf.old)) }
+    ensures told { OnOk result (H.told shelf.new ≡ takes_areas (H.told shelf.old)) }
     ensures body { IfOk result (TellsBody (H.told shelf.old)) }
     ensures empty { IsErrOf result ImportFault.NoPool → HoldsNoGroup (H.told shelf.old) }
-    ensures back { OnErr result (LeavesUber (H.told shelf.old) (H.told shelf.new) (H.uber_count shelf.old) (H.uber_count shelf.new)) }
+    ensures back { OnErr result (LeavesUber (H.told shelf.old) (H.told shelf.new) (count_on H.Shelf shelf.old) (count_on H.Shelf shelf.new)) }
     ensures import { (x : State) (pieces : ℕ → Pieces)
-        → RestsThere x pieces (H.told shelf.old) (H.leaves shelf.old) (H.counts shelf.old) (H.uber_count shelf.old)
-        → IfErr result (λ why. ImportIs H.R.Rack H.A.Area x pieces (H.told shelf.new) (H.leaves shelf.new) (H.counts shelf.new) (H.uber_count shelf.new) (Err why)) }
+        → RestsThere x pieces (H.told shelf.old) (H.leaves shelf.old) (H.counts shelf.old) (count_on H.Shelf shelf.old)
+        → IfErr result (λ why. ImportIs H.R.Rack H.A.Area x pieces (H.told shelf.new) (H.leaves shelf.new) (H.counts shelf.new) (count_on H.Shelf shelf.new) (Err why)) }
     ensures leaves { (m : ℕ) → H.leaves shelf.new m ≡ H.leaves shelf.old m }
     ensures faulty { (metaslab : Option ℕ) (place : ℕ) (kind : RecordFaultKind) → IsErrOf result (ImportFault.Record metaslab place kind) → UberIsBad (H.told shelf.old) metaslab place kind }
     ensures none { OnHeld (H.told shelf.old) (λ held. held.uber ≡ None → IsErrOf result ImportFault.NoPool
@@ -116,24 +117,22 @@ fn find_uber<H: Shelf>(shelf: &mut H) -> Result<Uber<H::A>, ImportFault>
         → LeavesMade geometry result (H.told shelf.new) (H.counts shelf.old) (H.counts shelf.new)
         (record { uber = H.uber_count shelf.old; checks = H.check_counts shelf.old })
         (record { uber = H.uber_count shelf.new; checks = H.check_counts shelf.new }) }
-    ensures held { SameChecks (H.told shelf.old) (H.told shelf.new) }
-    ensures checks { H.check_counts shelf.new ≡ H.check_counts shelf.old }
     ensures counts { (m : ℕ) → H.counts shelf.new m ≡ H.counts shelf.old m }
     ensures later { H.faults shelf.old ≤ H.faults shelf.new }
-    ensures cause { IsErrOf result ImportFault.Shelf → Rose (H.faults shelf.old) (H.faults shelf.new) ⊎ Rose (H.uber_count shelf.old) (H.uber_count shelf.new) }
+    ensures cause { IsErrOf result ImportFault.Shelf → Rose (H.faults shelf.old) (H.faults shelf.new) ⊎ Rose (count_on H.Shelf shelf.old) (count_on H.Shelf shelf.new) }
 {
     if !shelf.has_pool() {
         return Err(ImportFault::NoPool);
     }
-    let area = match shelf.take_uber() {
-        Ok(area) => area,
+    let areas = match take_areas(shelf) {
+        Ok(areas) => areas,
         Err(why) => return Err(shelf_fault(why)),
     };
-    has_length_told(&area);
-    match Uber::recover(area) {
+    has_length_told(&areas.uber);
+    match Uber::recover(alloc, areas) {
         Ok(uber) => Ok(uber),
-        Err(UberRefused { area, why }) => {
-            shelf.give_uber(area);
+        Err(UberRefused { areas, why }) => {
+            give_areas(shelf, areas);
             Err(uber_fault(why))
         }
     }
@@ -163,7 +162,7 @@ fn reopen_shard<H: Shelf>(
         → IsUnread H.R.Rack H.A.Area (layout_of uber.now) (group_of (kept_of uber.now)) (next_leaf_of uber.now) number (H.told shelf.old) (H.leaves shelf.old number) (H.counts shelf.old number) metaslab place kind }
     // No record of a pool that rests on a shelf has a fault.
     ensures opens { (x : State) (pieces : ℕ → Pieces) (held : Option Held) (leaves : ℕ → Option Shape) (counts : ℕ → KitCounts) (count : ℕ)
-        → RestsThere x pieces held leaves counts count → IsRecovered H.A.Area held count uber.now → TakesFirst number (takes_uber held) (H.told shelf.old)
+        → RestsThere x pieces held leaves counts count → IsRecovered H.A.Area held count uber.now → TakesFirst number (takes_areas held) (H.told shelf.old)
         → H.leaves shelf.old number ≡ leaves number → NoRecord result }
     ensures back_counts { OnErr result (CountsLater (H.counts shelf.old number) (H.counts shelf.new number)) }
     ensures held { SameChecks (H.told shelf.old) (H.told shelf.new) }
@@ -205,7 +204,7 @@ fn reopen_shards<H: Shelf>(
 ) -> Result<Vec<Shard<H::R, H::A>>, ImportFault>
     requires uber { IsFoundUber H.A.Area uber.now }
     ensures opens { (x : State) (pieces : ℕ → Pieces) (held : Option Held) (counts : ℕ → KitCounts) (count : ℕ)
-        → RestsThere x pieces held (H.leaves shelf.old) counts count → IsRecovered H.A.Area held count uber.now → H.told shelf.old ≡ takes_uber held → NoRecord result }
+        → RestsThere x pieces held (H.leaves shelf.old) counts count → IsRecovered H.A.Area held count uber.now → H.told shelf.old ≡ takes_areas held → NoRecord result }
     ensures reopened { IfOk result (λ shards. AreReopened H.R.Rack (layout_of uber.now) (group_of (kept_of uber.now)) shards.items) }
     ensures over { IfOk result (λ shards. OpensAllOver H.R.Rack H.A.Area (limit_of (layout_of uber.now)) (group_of (kept_of uber.now)) (next_leaf_of uber.now) (H.told shelf.old) (H.leaves shelf.old) (H.counts shelf.old) shards.items) }
     ensures told { OnOk result (TakesFirst (layout_of uber.now).props.metaslabs (H.told shelf.old) (H.told shelf.new)) }
@@ -368,25 +367,23 @@ pub fn import<H: Shelf>(alloc: Global, shelf: &mut H) -> Result<Pool<H::R, H::A>
         (record { uber = H.uber_count shelf.new; checks = H.check_counts shelf.new }) }
     // What is found of a pool that rests there is that pool, and a refusal leaves it there.
     ensures import { (x : State) (pieces : ℕ → Pieces)
-        → RestsThere x pieces (H.told shelf.old) (H.leaves shelf.old) (H.counts shelf.old) (H.uber_count shelf.old)
-        → ImportIs H.R.Rack H.A.Area x pieces (H.told shelf.new) (H.leaves shelf.new) (H.counts shelf.new) (H.uber_count shelf.new) result }
+        → RestsThere x pieces (H.told shelf.old) (H.leaves shelf.old) (H.counts shelf.old) (count_on H.Shelf shelf.old)
+        → ImportIs H.R.Rack H.A.Area x pieces (H.told shelf.new) (H.leaves shelf.new) (H.counts shelf.new) (count_on H.Shelf shelf.new) result }
     // The answer by what the shelf held: the pool that was read, no group, or the first fault.
-    ensures read { IfOk result (IsReadPool H.R.Rack H.A.Area (H.told shelf.old) (H.leaves shelf.old) (H.counts shelf.old) (H.uber_count shelf.old)) }
+    ensures read { IfOk result (IsReadPool H.R.Rack H.A.Area (H.told shelf.old) (H.leaves shelf.old) (H.counts shelf.old) (count_on H.Shelf shelf.old)) }
     ensures empty { IsErrOf result ImportFault.NoPool → HoldsNoGroup (H.told shelf.old) }
     ensures faulty { (metaslab : Option ℕ) (place : ℕ) (kind : RecordFaultKind) → IsErrOf result (ImportFault.Record metaslab place kind)
         → RecordIsBad H.R.Rack H.A.Area (H.told shelf.old) (H.leaves shelf.old) (H.counts shelf.old) metaslab place kind }
-    ensures back { OnErr result (LeavesAll H.A.Area (H.told shelf.old) (H.told shelf.new) (H.counts shelf.old) (H.counts shelf.new) (H.uber_count shelf.old) (H.uber_count shelf.new)) }
+    ensures back { OnErr result (LeavesAll H.A.Area (H.told shelf.old) (H.told shelf.new) (H.counts shelf.old) (H.counts shelf.new) (count_on H.Shelf shelf.old) (count_on H.Shelf shelf.new)) }
     ensures tells { OnOk result (is_some (H.told shelf.new) ≡ is_some (H.told shelf.old)) }
-    ensures held { SameChecks (H.told shelf.old) (H.told shelf.new) }
-    ensures checks { H.check_counts shelf.new ≡ H.check_counts shelf.old }
     ensures later { H.faults shelf.old ≤ H.faults shelf.new }
-    ensures cause { IsErrOf result ImportFault.Shelf → HasRisen H.A.Area (H.told shelf.old) (H.faults shelf.old) (H.faults shelf.new) (H.uber_count shelf.old) (H.uber_count shelf.new) (H.counts shelf.old) (H.counts shelf.new) }
+    ensures cause { IsErrOf result ImportFault.Shelf → HasRisen H.A.Area (H.told shelf.old) (H.faults shelf.old) (H.faults shelf.new) (count_on H.Shelf shelf.old) (count_on H.Shelf shelf.new) (H.counts shelf.old) (H.counts shelf.new) }
 {
-    let uber = find_uber(shelf)?;
+    let uber = find_uber(alloc, shelf)?;
     let shards = match reopen_shards(alloc, shelf, &uber) {
         Ok(shards) => shards,
         Err(fault) => {
-            shelf.give_uber(uber.into_area());
+            give_areas(shelf, uber.into_areas());
             return Err(fault);
         }
     };
@@ -394,7 +391,7 @@ pub fn import<H: Shelf>(alloc: Global, shelf: &mut H) -> Result<Pool<H::R, H::A>
         Ok(found) => Ok(pool_of(alloc, shards, uber, found)),
         Err(fault) => {
             give_back(shelf, shards);
-            shelf.give_uber(uber.into_area());
+            give_areas(shelf, uber.into_areas());
             Err(fault)
         }
     }

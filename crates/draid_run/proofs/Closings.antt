@@ -162,9 +162,9 @@ module _ {R A : Type 0} (rack : racks.Ghosts R) (area : areas.Ghosts A) (entry b
   refusal_is sync.Shelf (Ok reply) is = absurd is
   refusal_is sync.Shelf (Err failed) is = refl
 
-  pub exported : (reply : Reply) → TellsGroup reply → ((y : State) → Represents rack area was y → IsExported y before now reply) → now.own.checks ≡ before.own.checks → TellsAsBefore before now
+  pub exported : (reply : Reply) → TellsGroup reply → ((y : State) → Represents rack area was y → IsExported y before now reply) → TellsAsBefore before now
       → (left : Option (Pool R A)) → left ≡ None → (x : Desk) → IsDesk rack area entry before desk x → ExportDid rack area entry x (Some reply) now left
-  exported reply said does checks tells left none = on_open (λ x. ExportDid rack area entry x (Some reply) now left) by foreign where
+  exported reply said does tells left none = on_open (λ x. ExportDid rack area entry x (Some reply) now left) by foreign where
     by : (y : State) → Represents rack area was y → IsOut y before → ExportDid rack area entry (Open y) (Some reply) now left
     by y stands out =
         let c = does y stands in
@@ -173,7 +173,7 @@ module _ {R A : Type 0} (rack : racks.Ghosts R) (area : areas.Ghosts A) (entry b
           new = Shut false z;
           desk = record {
             stands = subst (λ l. IsPool rack area l (Shut false z)) (sym none) tt;
-            shelf = shelf_has z false before now c.back checks tells (still_out y c.reached before c.holds c.follows out c.store);
+            shelf = shelf_has z false before now c.back tells (still_out y c.reached before c.holds c.follows out c.store);
           };
           turns = record {
             answer = Ok c.group;
@@ -223,11 +223,11 @@ module _ {R A : Type 0} (rack : racks.Ghosts R) (area : areas.Ghosts A) (entry b
     by (Ok reply) is = stays (Some reply) (ap reply_in is) (λ e. absurd (cc e))
     by (Err failed) is = stays None (ap reply_in is) (λ e. fails (subst (λ r. IsErr r) (sym is) refl))
 
-  pub crashed : OnHeld now.held IsFirm → ((y : State) → Represents rack area was y → GivesBack y true before.held now.held now.leaves now.counts now.own.uber) → now.own.checks ≡ before.own.checks → TellsAsBefore before now
+  pub crashed : OnHeld now.held IsFirm → ((y : State) → Represents rack area was y → GivesBack y true now.held now.leaves now.counts now.own) → TellsAsBefore before now
       → (left : Option (Pool R A)) → left ≡ None → (x : Desk) → IsDesk rack area entry before desk x → CrashDid rack area entry x Crashed now left
-  crashed firm back checks tells left none = on_open (λ x. CrashDid rack area entry x Crashed now left) (λ y stands out. record {
+  crashed firm back tells left none = on_open (λ x. CrashDid rack area entry x Crashed now left) (λ y stands out. record {
     new = Shut true y;
-    desk = record { stands = subst (λ l. IsPool rack area l (Shut true y)) (sym none) tt; shelf = shelf_has y true before now (back y stands) checks tells out };
+    desk = record { stands = subst (λ l. IsPool rack area l (Shut true y)) (sym none) tt; shelf = shelf_has y true before now (back y stands) tells out };
     turns = (refl, refl);
     firm = λ _. (firm, none);
   })

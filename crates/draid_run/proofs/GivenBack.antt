@@ -1,27 +1,41 @@
 -- The pool that is open is given back to the shelf.
-use Rattle.std.proofs.Common.{◌≡◌, ◌∙◌, inl, inr, arith, refl, sym, subst, ℕ, Bool, false, Option, Some, None, MatchOption}
+use Rattle.std.proofs.Common.{◌≡◌, ◌∙◌, inl, inr, arith, refl, sym, ap, subst, ℕ, Bool, false, Option, Some, None, MatchOption}
 use Rattle.std.specs.Prelude.{IsSomeAnd}
 use Rattle.draid_rack.specs.declared.Rack as racks
-use Rattle.draid_area.specs.Area.{Content}
 use Rattle.draid_area.specs.declared.Area as areas
+use Rattle.draid_spec.specs.declared.layout.Geometry.{Geometry}
 use Rattle.draid_segments.specs.Segments.{Pieces}
-use Rattle.draid_shelf.specs.Kits.{AreNewChecks, Held, KitTold, OnHeld}
+use Rattle.draid_shelf.specs.Kits.{CheckCounts, Held, KitTold, OnHeld}
 use Rattle.draid_session.specs.Session.{Desk, Untouched, Bare, Made, Open, Shut, Foreign, Unknown}
 use Rattle.draid_session.specs.State.{Metaslab, State}
-use Rattle.draid_pool.specs.Returning.{GivesBack, HoldsPool, Rests, RestsOn, SameCounts, AreaFailed, RackFailed}
+use Rattle.draid_pool.specs.Returning.{GivesBack, HoldsPool, Rests, RestsOn, SameCounts, AreaFailed, RackFailed, areas_told, own_count}
 use Rattle.draid_pool.specs.Failing.{AreaFails, RackFails}
 use Rattle.draid_pool.specs.Importable.{IsFindable, IsImportable}
 use Rattle.draid_pool.specs.Pools.{Represents}
 use Rattle.draid_pool.specs.Records.{HasLeafNumbers}
+use Rattle.draid_uber.specs.Checks.{AreasTold}
 use Rattle.draid_pool.specs.Ubers.{UberStands}
 use Rattle.draid_pool.specs.declared.pool.Pool.{Pool}
+use Rattle.draid_create.specs.Opening.{StaysMade}
 use Rattle.draid_run.specs.Desks.{IsDesk, LeavesDesk}
 use Rattle.draid_pool.specs.Shelves.{OnShelf}
-use Rattle.draid_run.specs.Shelves.{AreaHasFailed, HasChecks, HoldsShut, IsOut, RackFailedOn, RackHasFailed, StaysAs, TellsAsBefore}
+use Rattle.draid_run.specs.Shelves.{AreaHasFailed, HoldsShut, IsOut, RackFailedOn, RackHasFailed, StaysAs, TellsAsBefore}
 
 -- what stays as it was, and then again
 pub stays_on : (a b c : OnShelf) → StaysAs a b → StaysAs b c → StaysAs a c
 stays_on a b c x y = record { held = y.held ∙ x.held; counts = λ m. y.counts m ∙ x.counts m; uber = y.uber ∙ x.uber; checks = y.checks ∙ x.checks }
+
+-- the counts of a pool's own areas
+pub own_same : (a b : OnShelf) → b.own.uber ≡ a.own.uber → b.own.checks ≡ a.own.checks → own_count b.own ≡ own_count a.own
+own_same a b uber checks = λ i. own_count (record { uber = uber i; checks = checks i })
+
+-- no call has failed on those of a new pool but on that of the uberblock
+pub new_count : (failed : ℕ) (geometry : Geometry) (now : OnShelf) → StaysMade geometry failed now.held now.counts now.own → own_count now.own ≡ failed
+new_count failed geometry now made =
+    let is = made.uber in
+    let even = ap (λ (c : CheckCounts). c.even) made.checks in
+    let odd = ap (λ (c : CheckCounts). c.odd) made.checks in
+    omega (arith, is, even, odd)
 
 -- ---- whether the shelf tells makes no other difference to what it holds
 
@@ -38,8 +52,8 @@ module _ (x : State) (b : Bool) where
   abbrev pub told_as : State
   told_as = record x { told = b }
 
-  uber_as : (content : Content) → UberStands x (Some content) → UberStands told_as (Some content)
-  uber_as content u = record { pending = u.pending; are = u.are; stands = u.stands }
+  uber_as : (told : AreasTold) → UberStands x told → UberStands told_as told
+  uber_as told u = record { pending = u.pending; are = u.are; stands = u.stands }
 
   rests_on : (m : ℕ) (pieces : Pieces) (y : Metaslab) (kit : KitTold) → RestsOn x m pieces y kit → RestsOn told_as m pieces y kit
   rests_on m pieces y kit r = record { reached = r.reached; images = r.images; harm = r.harm; bytes = r.bytes }
@@ -50,8 +64,8 @@ module _ (x : State) (b : Bool) where
   pub rests_as : (pieces : ℕ → Pieces) (held : Held) → Rests x pieces held → Rests told_as pieces held
   rests_as pieces held r = record {
     layout = r.layout;
-    uber = some_and held.uber (λ content. UberStands x (Some content)) (λ content. UberStands told_as (Some content)) uber_as r.uber;
-    checks = r.checks;
+    uber = some_and held.uber (λ c. IsSomeAnd held.checks (λ checks. UberStands x (areas_told c checks))) (λ c. IsSomeAnd held.checks (λ checks. UberStands told_as (areas_told c checks)))
+        (λ c all. some_and held.checks (λ checks. UberStands x (areas_told c checks)) (λ checks. UberStands told_as (areas_told c checks)) (λ checks stands. uber_as (areas_told c checks) stands) all) r.uber;
     many = r.many;
     kits = λ m y there. some_and (held.kits m) (RestsOn x m (pieces m) y) (RestsOn told_as m (pieces m) y) (rests_on m (pieces m) y) (r.kits m y there);
     images = r.images;
@@ -73,21 +87,15 @@ not_some (Some t) other = absurd (other t refl)
 
 -- ---- a pool that was given back
 
-all_held : (x : State) (crash : Bool) (new old : Option Held) → OnHeld new (λ held. MatchOption old ⊥ (λ before. IsSomeAnd before.checks AreNewChecks → HoldsPool x crash held)) → OnHeld old HasChecks → OnHeld new (HoldsPool x crash)
-all_held x crash None old holds away = tt
-all_held x crash (Some held) None holds away = absurd holds
-all_held x crash (Some held) (Some before) holds away = holds away
-
 -- with its devices the shelf has the pool, and tells as before
-pub shelf_has : (x : State) (crash : Bool) (before now : OnShelf) → GivesBack x crash before.held now.held now.leaves now.counts now.own.uber → now.own.checks ≡ before.own.checks → TellsAsBefore before now → IsOut x before
+pub shelf_has : (x : State) (crash : Bool) (before now : OnShelf) → GivesBack x crash now.held now.leaves now.counts now.own → TellsAsBefore before now → IsOut x before
     → HoldsShut crash x now
-shelf_has x crash before now gives checks tells out = record {
-  held = all_held x crash now.held before.held gives.held out.held;
+shelf_has x crash before now gives tells out = record {
+  held = gives.held;
   importable = gives.importable;
   told = out.told ∙ sym tells;
   counts = gives.counted;
   uber = gives.uber;
-  checks = checks ∙ out.checks;
 }
 
 -- what has failed on an area of the pool shows there
@@ -125,9 +133,9 @@ module _ {R A : Type 0} (rack : racks.Ghosts R) (area : areas.Ghosts A) (entry b
       by (Open y) is = absurd is.stands
       by (Foreign known) is = absurd is.stands
 
-  pub leaves_open : (pool : Pool R A) → desk ≡ Some pool → ((x : State) → Represents rack area pool x → GivesBack x false before.held now.held now.leaves now.counts now.own.uber) → now.own.checks ≡ before.own.checks → TellsAsBefore before now
+  pub leaves_open : (pool : Pool R A) → desk ≡ Some pool → ((x : State) → Represents rack area pool x → GivesBack x false now.held now.leaves now.counts now.own) → TellsAsBefore before now
       → (AreaFails area.faults pool → AreaFailed now.counts now.own) → (RackFails rack.faults pool → RackFailed now.counts) → (x : Desk) → IsDesk rack area entry before desk x → LeavesDesk rack area entry before now desk x
-  leaves_open pool some back checks tells shows whole x = subst (λ d. IsDesk rack area entry before d x → LeavesDesk rack area entry before now d x) (sym some) (by x) where
+  leaves_open pool some back tells shows whole x = subst (λ d. IsDesk rack area entry before d x → LeavesDesk rack area entry before now d x) (sym some) (by x) where
     by : (x : Desk) → IsDesk rack area entry before (Some pool) x → LeavesDesk rack area entry before now (Some pool) x
     by Untouched is = absurd is.stands
     by Bare is = absurd is.stands
@@ -136,7 +144,7 @@ module _ {R A : Type 0} (rack : racks.Ghosts R) (area : areas.Ghosts A) (entry b
     by Unknown is = absurd is.stands
     by (Foreign known) is = record { shelf = tt; failed = λ failed. inr (shows failed); racks = whole; same = λ closed. absurd closed }
     by (Open y) is =
-        let holds = shelf_has y false before now (back y is.stands.1) checks tells is.shelf in
+        let holds = shelf_has y false before now (back y is.stands.1) tells is.shelf in
         record {
           shelf = holds;
           failed = λ failed. inr (area_shows false y now holds failed);

@@ -8,7 +8,7 @@ use Rattle.draid_area.specs.declared.Area as areas
 use Rattle.draid_spec.specs.declared.layout.Geometry.{Geometry}
 use Rattle.draid_machine.specs.declared.event.Event.TheVariants as event
 use Rattle.draid_segments.specs.Segments.{Pieces}
-use Rattle.draid_shelf.specs.Kits.{AreNewChecks, Held, KitCounts, OnHeld}
+use Rattle.draid_shelf.specs.Kits.{Held, KitCounts, OnHeld}
 use Rattle.draid_script.specs.Line.{ImportPool}
 use Rattle.draid_script.specs.declared.name.CommandName.TheVariants as name
 use Rattle.draid_reply.specs.declared.reply.Reply.{Reply}
@@ -22,16 +22,14 @@ use Rattle.draid_session.specs.Opening.{FreesOlder, HasObjects, Imports}
 use Rattle.draid_session.specs.Known.{nothing_known}
 use Rattle.draid_session.specs.Session.{BreaksGiven, Cause, Desk, Untouched, Bare, Made, Open, Shut, Foreign, Unknown, FindsAny, FindsGiven, FindsGivenIf, LeavesState, RecordFails, ShelfFails, TurnsBy}
 use Rattle.draid_session.specs.State.{State}
-use Rattle.draid_pool.specs.Returning.{GivesBack, HoldsPool, Rests}
+use Rattle.draid_pool.specs.Returning.{GivesBack, HoldsPool, Rests, own_count}
 use Rattle.draid_import.specs.Faulty.{HoldsNoGroup}
 use Rattle.draid_import.specs.Findings.{FindsPool, IsReadPool}
 use Rattle.draid_pool.specs.Pools.{HasNames, group_in, Represents}
-use Rattle.draid_import.specs.Found.{SameChecks}
 use Rattle.draid_pool.specs.Importable.{IsImportable}
 use Rattle.draid_import.specs.Importing as pools
 use Rattle.draid_import.specs.Importing.{FindsNoPool, ImportsPool, LeavesMade, RestsThere}
 use Rattle.draid_pool.specs.Taking.{HoldsMade, IsAsBefore}
-use Rattle.draid_create.specs.Opening.{NoChecks}
 use Rattle.draid_pool.specs.Whole.{IsWhole}
 use Rattle.draid_import.specs.declared.fault.ImportFault.{ImportFault}
 use Rattle.draid_import.proofs.Findings.{finds_pool}
@@ -45,7 +43,7 @@ use Rattle.draid_run.specs.Importing.{ImportDid, ImportDoes, ImportIs, given_by}
 use Rattle.draid_run.specs.Serve.{AnswerIs, IsSaid}
 use Rattle.draid_create.specs.Says.{IsSame}
 use Rattle.draid_pool.specs.Shelves.{OnShelf}
-use Rattle.draid_run.specs.Shelves.{HasChecks, HoldsFault, HoldsNew, HoldsShut, IsOut, MayFind, TellsAsBefore}
+use Rattle.draid_run.specs.Shelves.{HoldsFault, HoldsNew, HoldsShut, IsOut, MayFind, TellsAsBefore}
 use Rattle.draid_run.specs.declared.answer.Stop.{Stop}
 use Rattle.draid_run.specs.declared.answer.Stop.TheVariants as stop
 use Rattle.draid_pool.proofs.Following.{same_layout, same_told}
@@ -136,7 +134,7 @@ on_some (Some h) P p = p
 -- what was given back rests there, where the shelf tells it
 pub record Resting (x : State) (before : OnShelf) : Type 0 where
   pub pieces : ℕ → Pieces
-  pub rests : RestsThere x pieces before.held before.leaves before.counts before.own.uber
+  pub rests : RestsThere x pieces before.held before.leaves before.counts (own_count before.own)
 
 pub resting : (crash : Bool) (x : State) (before : OnShelf) → HoldsShut crash x before → x.told ≡ true → Resting x before
 resting crash x before h told = by before.held refl h.held h.importable (sym h.told ∙ told) where
@@ -156,21 +154,14 @@ resting crash x before h told = by before.held refl h.held h.importable (sym h.t
       }
 
 -- and the other way round
-shut_there : (x : State) (pieces : ℕ → Pieces) (now : OnShelf) → RestsThere x pieces now.held now.leaves now.counts now.own.uber → x.told ≡ true → NoChecks now.own → HoldsShut true x now
-shut_there x pieces now r told checks = record {
+shut_there : (x : State) (pieces : ℕ → Pieces) (now : OnShelf) → RestsThere x pieces now.held now.leaves now.counts (own_count now.own) → x.told ≡ true → HoldsShut true x now
+shut_there x pieces now r told = record {
   held = on_held now.held (Rests x pieces) (HoldsPool x true) (λ h rests. record { pieces = pieces; rests = rests; backed = λ e. absurd (cc e) }) (on_some now.held (Rests x pieces) r.held);
   importable = on_some now.held (λ h. IsImportable x h now.leaves) r.importable;
   told = told ∙ sym (some_is now.held (Rests x pieces) r.held);
   counts = r.counted;
   uber = r.uber;
-  checks = checks;
 }
-
--- the areas of the check records stay as they were made
-checks_there : (x : State) (pieces : ℕ → Pieces) (old new : Option Held) → SameChecks old new → IsSomeAnd old (Rests x pieces) → OnHeld new HasChecks
-checks_there x pieces old None same rests = tt
-checks_there x pieces None (Some held) same rests = absurd same
-checks_there x pieces (Some before) (Some held) same rests = subst (λ c. IsSomeAnd c AreNewChecks) (sym same) rests.checks
 
 -- a new pool is held, where the shelf tells it
 pub new_held : (o : Option Held) (P : Held → Type 0) → true ≡ is_some o → OnHeld o P → IsSomeAnd o P
@@ -202,8 +193,8 @@ module _ {R A : Type 0} (rack : racks.Ghosts R) (area : areas.Ghosts A) (entry b
       by None none is = absurd is
       by (Some held) none is = none is
 
-    was : (y : State) (r : Result (Pool R A) ImportFault) → result ≡ r → (rest : Resting y before) → pools.ImportIs rack area y rest.pieces now.held now.leaves now.counts now.own.uber r
-    was y r is rest = subst (pools.ImportIs rack area y rest.pieces now.held now.leaves now.counts now.own.uber) is (called.imports y rest.pieces rest.rests)
+    was : (y : State) (r : Result (Pool R A) ImportFault) → result ≡ r → (rest : Resting y before) → pools.ImportIs rack area y rest.pieces now.held now.leaves now.counts (own_count now.own) r
+    was y r is rest = subst (pools.ImportIs rack area y rest.pieces now.held now.leaves now.counts (own_count now.own)) is (called.imports y rest.pieces rest.rests)
 
     -- a new pool stays there
     new_made : (failed : ℕ) (geometry : Geometry) → HoldsNew true failed geometry before → LeavesMade geometry result now.held before.counts now.counts before.own now.own
@@ -247,7 +238,7 @@ module _ {R A : Type 0} (rack : racks.Ghosts R) (area : areas.Ghosts A) (entry b
           let again : z.told ≡ true = ap (λ (s : State). s.told) found.is.is.same ∙ told in
           record {
             new = Shut true z;
-            desk = record { stands = tt; shelf = shut_there z (resting crash y before shelf told).pieces now found.rests again (called.checks ∙ shelf.checks) };
+            desk = record { stands = tt; shelf = shut_there z (resting crash y before shelf told).pieces now found.rests again };
             turns = given_told y (Shut true z) (NoPool name.Import) told found.is;
           }
       | inr untold ↦ record { new = Unknown; desk = record { stands = tt; shelf = tt }; turns = given_untold y Unknown (NoPool name.Import) untold refl }
@@ -269,7 +260,7 @@ module _ {R A : Type 0} (rack : racks.Ghosts R) (area : areas.Ghosts A) (entry b
           let z : State = left.y in
           record {
             new = Shut true z;
-            desk = record { stands = tt; shelf = shut_there z (resting crash y before shelf told).pieces now left.rests (left_told y z told left.is) (called.checks ∙ shelf.checks) };
+            desk = record { stands = tt; shelf = shut_there z (resting crash y before shelf told).pieces now left.rests (left_told y z told left.is) };
             turns = given_told y (Shut true z) (NoMemory name.Import) told left.is;
           }
       | inr untold ↦ record { new = Unknown; desk = record { stands = tt; shelf = tt }; turns = given_untold y Unknown (NoMemory name.Import) untold refl }
@@ -291,7 +282,7 @@ module _ {R A : Type 0} (rack : racks.Ghosts R) (area : areas.Ghosts A) (entry b
           let z : State = left.y in
           record {
             new = Shut true z;
-            desk = record { stands = tt; shelf = shut_there z (resting crash y before shelf told).pieces now left.rests (left_told y z told left.is) (called.checks ∙ shelf.checks) };
+            desk = record { stands = tt; shelf = shut_there z (resting crash y before shelf told).pieces now left.rests (left_told y z told left.is) };
             breaks = breaks_told y (Shut true z) ShelfFails told (z, refl, left.is);
             cause = (tt, called.cause is);
           }
@@ -329,8 +320,6 @@ module _ {R A : Type 0} (rack : racks.Ghosts R) (area : areas.Ghosts A) (entry b
       -- it is open, and its devices are away
       out : (crash : Bool) (y new : State) → HoldsShut crash y before → (rest : Resting y before) → new.told ≡ true → IsOut new now
       out crash y new shelf rest told = record {
-        held = checks_there y rest.pieces before.held now.held called.checks_held rest.rests.held;
-        checks = called.checks ∙ shelf.checks;
         told = told ∙ (sym (some_is before.held (Rests y rest.pieces) rest.rests.held) ∙ sym tells);
       }
 
@@ -354,8 +343,8 @@ module _ {R A : Type 0} (rack : racks.Ghosts R) (area : areas.Ghosts A) (entry b
 
         by : (x : Desk) → IsPool rack area None x → IsShelf x entry before → ImportDid rack area entry x (Imported called_name group objects) now (Some pool)
         by Untouched stands shelf = foreign Untouched (
-          pool_at (string_bytes called_name) group objects shelf (finds_pool rack area before.held before.leaves before.counts before.own.uber pool group (string_bytes called_name) objects
-              (subst (λ r. IfOk r (IsReadPool rack area before.held before.leaves before.counts before.own.uber)) is called.read) of (named ∙ ap (λ (l : Geometry). vdev_name_of l.spec) own) names),
+          pool_at (string_bytes called_name) group objects shelf (finds_pool rack area before.held before.leaves before.counts (own_count before.own) pool group (string_bytes called_name) objects
+              (subst (λ r. IfOk r (IsReadPool rack area before.held before.leaves before.counts (own_count before.own))) is called.read) of (named ∙ ap (λ (l : Geometry). vdev_name_of l.spec) own) names),
           refl,
         )
         by (Made true failed geo) stands shelf = absurd (new_none failed geo (Ok pool) is shelf)
@@ -382,9 +371,9 @@ module _ {R A : Type 0} (rack : racks.Ghosts R) (area : areas.Ghosts A) (entry b
         by (Foreign known) stands shelf = absurd stands
 
       -- there was no memory for its name, and it is given back
-      pub unnamed : (late : OnShelf) → ((s : State) → Represents rack area pool s → GivesBack s false now.held late.held late.leaves late.counts late.own.uber) → late.own.checks ≡ now.own.checks → TellsAsBefore now late
+      pub unnamed : (late : OnShelf) → ((s : State) → Represents rack area pool s → GivesBack s false late.held late.leaves late.counts late.own) → TellsAsBefore now late
           → (x : Desk) → IsPool rack area None x → IsShelf x entry before → ImportDid rack area entry x (NoMemory name.Import) late None
-      unnamed late back checks tells = by where
+      unnamed late back tells = by where
         by : (x : Desk) → IsPool rack area None x → IsShelf x entry before → ImportDid rack area entry x (NoMemory name.Import) late None
         by Untouched stands shelf = record { new = Unknown; desk = record { stands = tt; shelf = tt }; turns = refl }
         by (Made true failed geo) stands shelf = absurd (new_none failed geo (Ok pool) is shelf)
@@ -399,7 +388,7 @@ module _ {R A : Type 0} (rack : racks.Ghosts R) (area : areas.Ghosts A) (entry b
               let away = out crash y new shelf rest (found_told y f.group new f.imports) in
               record {
                 new = Shut false new;
-                desk = record { stands = tt; shelf = shelf_has new false now late (back new f.represents) checks tells away };
+                desk = record { stands = tt; shelf = shelf_has new false now late (back new f.represents) tells away };
                 turns = given_told y (Shut false new) (NoMemory name.Import) told (f.group, f.imports);
               }
           | inr untold ↦ record { new = Unknown; desk = record { stands = tt; shelf = tt }; turns = given_untold y Unknown (NoMemory name.Import) untold refl }
@@ -481,7 +470,7 @@ module _ {R A : Type 0} (rack : racks.Ghosts R) (area : areas.Ghosts A) (entry b
     by_answer mid (Ok found) called is = elim is [
       | inl one ↦ named mid (Some found) (Ok one.2) one.1 one.0 one.3 (told mid found called one.2 one.4)
       | inr back ↦ named now None (Ok (NoMemory name.Import)) refl back.0 back.1
-          (unnamed rack area entry before mid (Ok found) called found refl now back.2.back back.2.checks back.2.tells x stands shelf)
+          (unnamed rack area entry before mid (Ok found) called found refl now back.2.back back.2.tells x stands shelf)
     ]
     by_answer mid (Err why) called is = named mid None said is.1 is.0 refl (unopened mid why called said is.2)
 

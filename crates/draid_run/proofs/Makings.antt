@@ -26,7 +26,7 @@ use Rattle.draid_pool.specs.Returning.{HoldsPool, SameCounts}
 use Rattle.draid_pool.specs.Importable.{HasImageLeaves, IsImportable}
 use Rattle.draid_create.specs.Opening as opening
 use Rattle.draid_pool.specs.Taking.{HoldsMade}
-use Rattle.draid_create.specs.Opening.{HoldsUncommitted, IsAway, IsRefused, ShelfIs}
+use Rattle.draid_create.specs.Opening.{HoldsUncommitted, IsRefused, ShelfIs}
 use Rattle.draid_create.specs.declared.fault.CreateFault.{CreateFault}
 use Rattle.draid_create.specs.declared.fault.CreateFault.TheVariants as fault
 use Rattle.draid_pool.specs.declared.pool.Pool.{Pool}
@@ -36,10 +36,10 @@ use Rattle.draid_create.specs.Says.{CreateDoes, CreateSays, IsCreateReply}
 use Rattle.draid_run.specs.Making.{CreateDid, CreateIs, CreateTurns}
 use Rattle.draid_create.specs.Says.{IsSame}
 use Rattle.draid_pool.specs.Shelves.{OnShelf}
-use Rattle.draid_run.specs.Shelves.{HasChecks, HoldsShut, IsClosed}
+use Rattle.draid_run.specs.Shelves.{HoldsShut, IsClosed}
 use Rattle.draid_create.specs.declared.replies.Made as answer
 use Rattle.draid_run.specs.Serve.{stop_of}
-use Rattle.draid_run.proofs.GivenBack.{holds_as, importable_as, on_held, stays_on, told_as}
+use Rattle.draid_run.proofs.GivenBack.{holds_as, importable_as, on_held, own_same, stays_on, told_as}
 use Rattle.draid_run.proofs.Risen.{cause_closed}
 
 -- what stands behind all checks is what passed them
@@ -53,10 +53,6 @@ by_checks (Err e) b c big f l layout is = absurd (cc)
 same_spec : (spec : Spec) (props : Props) (layout : Geometry) → geometry_of spec props ≡ Ok layout → layout.spec ≡ spec
 same_spec spec props layout is =
     sym (ap (λ (g : Geometry). g.spec) (by_checks (checked_version props.version) (checked_width spec) (checked_props props) (nat_lt 67108864 (total_of props (layout_of spec props).rows)) _ (layout_of spec props) layout is))
-
-has_checks : (held : Option Held) → OnHeld held IsAway → OnHeld held HasChecks
-has_checks None away = tt
-has_checks (Some held) away = away.checks
 
 -- a desk without a pool stands as the shelf stays as it is
 pub same_shelf : (x : Desk) (entry before now : OnShelf) → ((y : State) → x ≡ Open y → ⊥) → IsSame before now → IsShelf x entry before → IsShelf x entry now
@@ -76,8 +72,7 @@ same_shelf (Shut crash y) entry before now none s d = record {
   importable = on_held now.held (λ h. IsImportable y h before.leaves) (λ h. IsImportable y h now.leaves) again (subst (λ h. OnHeld h (λ held. IsImportable y held before.leaves)) (sym s.0.held) d.importable);
   told = d.told ∙ ap is_some (sym s.0.held);
   counts = λ m z there. subst (λ (k : KitCounts). SameCounts z.counts k) (sym (s.0.counts m)) (d.counts m z there);
-  uber = s.0.uber ∙ d.uber;
-  checks = s.0.checks ∙ d.checks;
+  uber = own_same before now s.0.uber s.0.checks ∙ d.uber;
 } where
   again : (h : Held) → IsImportable y h before.leaves → IsImportable y h now.leaves
   again h i = record {
@@ -191,7 +186,7 @@ module _ {R A : Type 0} (rack : racks.Ghosts R) (area : areas.Ghosts A) where
         by None o s = absurd o
         by (Some p) o s = record {
           new = Open o.1.opens.state;
-          desk = record { stands = (o.0, o.1.opens.represents); shelf = record { held = has_checks now.held s.0; checks = s.1; told = o.1.opens.told_is } };
+          desk = record { stands = (o.0, o.1.opens.represents); shelf = record { told = o.1.opens.told_is } };
           turns = turns_made x m o.1.opens.state stands (record {
             geometry = o.1.geometry;
             layout = layout_is (Ok o.1.geometry) o.1.layout;
@@ -241,7 +236,6 @@ module _ {R A : Type 0} (rack : racks.Ghosts R) (area : areas.Ghosts A) where
             told = refl;
             counts = r.counts;
             uber = r.uber;
-            checks = r.checks;
           }
 
       -- none was opened: where the desk is then

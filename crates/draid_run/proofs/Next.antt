@@ -24,6 +24,7 @@ use Rattle.draid_run.specs.Next.{FindsAgain, HasCrashed, IsFound, next_desk}
 use Rattle.draid_create.specs.Says.{IsSame}
 use Rattle.draid_pool.specs.Shelves.{OnShelf}
 use Rattle.draid_run.specs.Shelves.{HoldsBare, HoldsDesk, HoldsNew, HoldsShut, TellsAsBefore}
+use Rattle.draid_run.proofs.GivenBack.{own_same}
 use Rattle.draid_run.proofs.Makings.{same_shelf}
 use Rattle.draid_run.proofs.Serving.{as_found}
 
@@ -94,8 +95,7 @@ module _ (left found : OnShelf) (it : HasCrashed left found) where
     importable = importable_left x left.held found.held left.leaves found.leaves it.held it.leaves shut.importable;
     told = shut.told ∙ sym (both_some left.held found.held it.held);
     counts = λ m y there. subst (λ (k : KitCounts). SameCounts y.counts k) (sym (it.counts m)) (shut.counts m y there);
-    uber = it.uber ∙ shut.uber;
-    checks = it.checks ∙ shut.checks;
+    uber = own_same left found it.uber it.checks ∙ shut.uber;
   }
 
 -- ---- the desk of the next run

@@ -13,6 +13,7 @@ use Rattle.draid_pool.specs.declared.pool.Pool.{Pool}
 use Rattle.draid_run.specs.Desks.{CauseShows, IsShelf}
 use Rattle.draid_run.specs.Script.{FailsShut, FaultyShut}
 use Rattle.draid_create.specs.Says.{MakingFailed}
+use Rattle.draid_pool.specs.Returning.{own_count}
 use Rattle.draid_pool.specs.Shelves.{OnShelf}
 use Rattle.draid_run.specs.Shelves.{FailsIn, FaultIn, HasFailed, HasFault, HoldsDesk, HoldsFault, IsClosed}
 
@@ -20,11 +21,11 @@ rose_some : (before now : ℕ) → Rose before now → 0 < now
 rose_some before now rose = omega (arith, rose)
 
 -- what has risen shows there
-risen : {A : Type 0} (area : areas.Ghosts A) (before now : OnShelf) → HasRisen area before.held before.faults now.faults before.own.uber now.own.uber before.counts now.counts → HasFailed before now
+risen : {A : Type 0} (area : areas.Ghosts A) (before now : OnShelf) → HasRisen area before.held before.faults now.faults (own_count before.own) (own_count now.own) before.counts now.counts → HasFailed before now
 risen area before now rose = elim rose [
   | inl here ↦ elim here [
     | inl shelf ↦ inl shelf
-    | inr uber ↦ inr (inr (rose_some before.own.uber now.own.uber uber))
+    | inr uber ↦ inr (inr (rose_some (own_count before.own) (own_count now.own) uber))
   ]
   | inr records ↦ inr (inl (
     records.rose.0,

@@ -49,7 +49,7 @@ is_whole rack area desk pool is stands = by stands.0 (subst (λ d. IsPool rack a
 
 -- the shelf is as it was while the pool's state moved on
 pub still_out : (x y : State) (now : OnShelf) (holds : List Hold) → Follows holds x y → IsOut x now → (store : Store) → IsOut (record y { store = store }) now
-still_out x y now holds follows out store = record { held = out.held; checks = out.checks; told = same_told holds x y follows ∙ out.told }
+still_out x y now holds follows out store = record { told = same_told holds x y follows ∙ out.told }
 
 module _ {R A : Type 0} (rack : racks.Ghosts R) (area : areas.Ghosts A) (choices : Choices) (command : Command) (called : CommandName) (reply : Reply) where
   -- a command was carried out on the pool that is open

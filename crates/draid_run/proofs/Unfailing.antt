@@ -26,6 +26,7 @@ use Rattle.draid_session.specs.State.{Metaslab, State}
 use Rattle.draid_session.specs.Staying.{IsNoCreate, MakesNoPool, MakesNoPoolIn}
 use Rattle.draid_session.proofs.Lists.{all_back, all_front}
 use Rattle.draid_session.proofs.Shelved.{found_there, low_there}
+use Rattle.draid_pool.specs.Returning.{own_count}
 use Rattle.draid_pool.specs.Shelves.{OnShelf}
 use Rattle.draid_pool.specs.Taking.{HoldsMade}
 use Rattle.draid_import.specs.Found.{HasRisen, IsFoundUber, IsRecovered}
@@ -38,6 +39,7 @@ use Rattle.draid_run.specs.Unfailing.{NothingRose}
 use Rattle.draid_run.specs.declared.status.Status.{Status}
 use Rattle.draid_run.specs.declared.status.Status.TheVariants.{ShelfFault}
 use Rattle.draid_run.proofs.Broke.{IsLater, follows_later, later_more, later_none}
+use Rattle.draid_run.proofs.GivenBack.{new_count}
 use Rattle.draid_run.proofs.Importings.{new_held, resting}
 
 -- ---- counts since the entry
@@ -50,12 +52,12 @@ record IsAbove (entry : OnShelf) (m : ℕ) (y : Metaslab) : Type 0 where
 
 record AreAbove (entry : OnShelf) (x : State) : Type 0 where
   pub each : (m : ℕ) (y : Metaslab) → slice_get x.metaslabs m ≡ Some y → IsAbove entry m y
-  pub uber : min entry.own.uber (2 ^ 64 - 1) ≤ x.uber_count
+  pub uber : min (own_count entry.own) (2 ^ 64 - 1) ≤ x.uber_count
 
 -- so on a desk: a pool, the devices of a new one, or none
 abbrev IsUp : OnShelf → Desk → Type 0
 IsUp entry Bare = ⊤
-IsUp entry (Made told failed geometry) = entry.own.uber ≤ failed
+IsUp entry (Made told failed geometry) = own_count entry.own ≤ failed
 IsUp entry (Open x) = AreAbove entry x
 IsUp entry (Shut crash x) = AreAbove entry x
 IsUp entry desk = ⊥
@@ -108,7 +110,7 @@ given_up entry x (NoMemory name.Import) (Shut true new) up it = above_later entr
 given_up entry x (NoMemory name.Import) (Shut false new) up it = above_later entry x new (imports_later x new it.0 it.1) up
 given_up entry x reply new up it = absurd it
 
-new_up : (entry : OnShelf) (failed : ℕ) (geometry : Geometry) (reply : Reply) (new : Desk) → entry.own.uber ≤ failed → FindsNew failed geometry reply new → IsUp entry new
+new_up : (entry : OnShelf) (failed : ℕ) (geometry : Geometry) (reply : Reply) (new : Desk) → own_count entry.own ≤ failed → FindsNew failed geometry reply new → IsUp entry new
 new_up entry failed geometry (NoPool name.Import) new up it = subst (IsUp entry) (sym it.2) (let more = it.1 in omega (arith, up, more))
 new_up entry failed geometry (NoMemory name.Import) new up it = subst (IsUp entry) (sym it.2) (let more = it.1 in omega (arith, up, more))
 new_up entry failed geometry reply new up it = absurd it
@@ -163,7 +165,7 @@ module _ (choices : Choices) (finds : Finding → Type 0) (entry : OnShelf) wher
 first_up : (first : Desk) (entry : OnShelf) → HoldsDesk first entry entry → KnowsShelf first → IsUp entry first
 first_up Untouched entry holds known = absurd known
 first_up Bare entry holds known = tt
-first_up (Made told failed geometry) entry holds known = (let is = holds.made.uber in omega (arith, is))
+first_up (Made told failed geometry) entry holds known = (let is = new_count failed geometry entry holds.made in omega (arith, is))
 first_up (Open x) entry holds known = absurd holds
 first_up (Shut crash x) entry holds known = record { each = each; uber = (let is = holds.uber in omega (arith, is)) }
   where
@@ -214,12 +216,12 @@ module _ (entry now : OnShelf) (none : NothingRose entry now) where
       ap (λ (g : Geometry). g.props.metaslabs) (body_found area x pieces held leaves counts count uber there found r).b.layout ∙ sym there.held.many
 
   shut_not : {A : Type 0} (area : areas.Ghosts A) (crash : Bool) (x : State) (before : OnShelf) → AreAbove entry x → x.told ≡ true → HoldsShut crash x before → entry.faults ≤ before.faults
-      → HasRisen area before.held before.faults now.faults before.own.uber now.own.uber before.counts now.counts → ⊥
+      → HasRisen area before.held before.faults now.faults (own_count before.own) (own_count now.own) before.counts now.counts → ⊥
   shut_not area crash x before up told shut later (inl (inl more)) = none.shelf (omega (arith, later, more))
   shut_not area crash x before up told shut later (inl (inr more)) = (let low = up.uber in let same = shut.uber in none.uber (omega (arith, low, same, more)))
   shut_not area crash x before up told shut later (inr f) =
       let r = resting crash x before shut told in
-      let many = metaslabs_found area x r.pieces before.held before.leaves before.counts before.own.uber f.uber r.rests f.found f.recovered in
+      let many = metaslabs_found area x r.pieces before.held before.leaves before.counts (own_count before.own) f.uber r.rests f.found f.recovered in
       let less = f.rose.1 in
       let one = low_there x.metaslabs f.rose.0 (omega (arith, less, many)) in
       let was = up.each f.rose.0 one.0 one.1 in
@@ -230,17 +232,17 @@ module _ (entry now : OnShelf) (none : NothingRose entry now) where
       ]
 
   -- a new pool was to be imported that was never opened: it has no uberblock
-  made_unrisen : {A : Type 0} (area : areas.Ghosts A) (told : Bool) (failed : ℕ) (geometry : Geometry) (before : OnShelf) → entry.own.uber ≤ failed → told ≡ true → HoldsNew told failed geometry before
-      → entry.faults ≤ before.faults → HasRisen area before.held before.faults now.faults before.own.uber now.own.uber before.counts now.counts → ⊥
+  made_unrisen : {A : Type 0} (area : areas.Ghosts A) (told : Bool) (failed : ℕ) (geometry : Geometry) (before : OnShelf) → own_count entry.own ≤ failed → told ≡ true → HoldsNew told failed geometry before
+      → entry.faults ≤ before.faults → HasRisen area before.held before.faults now.faults (own_count before.own) (own_count now.own) before.counts now.counts → ⊥
   made_unrisen area told failed geometry before up agrees new later (inl (inl more)) = none.shelf (omega (arith, later, more))
-  made_unrisen area told failed geometry before up agrees new later (inl (inr more)) = (let same = new.made.uber in none.uber (omega (arith, up, same, more)))
+  made_unrisen area told failed geometry before up agrees new later (inl (inr more)) = (let same = new_count failed geometry before new.made in none.uber (omega (arith, up, same, more)))
   made_unrisen area told failed geometry before up agrees new later (inr f) =
       made_not geometry before.held f.recovered.content (kept_of f.uber) (λ body. next_leaf_of f.uber ≡ body.next_leaf) f.recovered.own f.recovered.finds f.recovered.leaf
       (new_held before.held (HoldsMade geometry) (sym agrees ∙ new.told_is) new.made.held)
 
   -- no pool was open, and none is made
   command_not : {A : Type 0} (area : areas.Ghosts A) (command : Command) (before : OnShelf) → IsNoCreate command
-      → (HasRisen area before.held before.faults now.faults before.own.uber now.own.uber before.counts now.counts → ⊥) → FailsIn area command before now → ⊥
+      → (HasRisen area before.held before.faults now.faults (own_count before.own) (own_count now.own) before.counts now.counts → ⊥) → FailsIn area command before now → ⊥
   command_not area (CreatePool text children keys) before makes risen failed = makes
   command_not area ImportPool before makes risen failed = risen failed
   command_not area command before makes risen failed = failed
@@ -256,7 +258,7 @@ module _ (entry now : OnShelf) (none : NothingRose entry now) where
 
   module _ {A : Type 0} (area : areas.Ghosts A) (text : List ℕ) (lines : List (List ℕ)) (makes : MakesNoPool text) where
     came_not : (mid : Desk) (f : FailsShut area (Some text) lines mid entry now)
-        → (HasRisen area f.came.before.held f.came.before.faults now.faults f.came.before.own.uber now.own.uber f.came.before.counts now.counts → ⊥) → ⊥
+        → (HasRisen area f.came.before.held f.came.before.faults now.faults (own_count f.came.before.own) (own_count now.own) f.came.before.counts now.counts → ⊥) → ⊥
     came_not mid f risen =
         let named : text ≡ f.came.text = some_injective text f.came.text f.came.is in
         command_not area f.came.command f.came.before (same_text f.came.text f.came.command (subst MakesNoPool named makes) f.came.line) risen f.failed

@@ -8,13 +8,13 @@ use Rattle.draid_spec.specs.declared.layout.Geometry.{Geometry}
 use Rattle.draid_lines.specs.Lines.{lines_of}
 use Rattle.draid_script.specs.Line.{Command, CreatePool, ImportPool}
 use Rattle.draid_script.specs.declared.fault.LineFault.{LineFault}
-use Rattle.draid_shelf.specs.Kits.{AreNewChecks, Held, OnHeld}
+use Rattle.draid_shelf.specs.Kits.{OnHeld}
 use Rattle.draid_session.specs.Certain.{MakesLeaves}
 use Rattle.draid_session.specs.Places.{line_behind}
 use Rattle.draid_session.specs.Session.{Desk, Finding, Fault, Nothing, Untouched, Bare, Made, Open, Shut, Foreign, Unknown, HasLayout}
 use Rattle.draid_session.specs.Session as finding
 use Rattle.draid_session.specs.State.{Metaslab, State}
-use Rattle.draid_pool.specs.Returning.{HoldsPool, SameCounts, AreaFailed, RackFailed}
+use Rattle.draid_pool.specs.Returning.{HoldsPool, SameCounts, AreaFailed, RackFailed, own_count}
 use Rattle.draid_pool.specs.Shelves.{OnShelf}
 use Rattle.draid_pool.specs.Taking.{IsAsBefore}
 use Rattle.draid_pool.specs.Failing.{AreaFails, RackFails}
@@ -22,19 +22,12 @@ use Rattle.draid_import.specs.Faulty.{HoldsNoGroup, RecordIsBad}
 use Rattle.draid_import.specs.Findings.{FindsPool}
 use Rattle.draid_import.specs.Found.{HasRisen}
 use Rattle.draid_pool.specs.Importable.{IsImportable}
-use Rattle.draid_create.specs.Opening.{NoChecks, StaysMade}
+use Rattle.draid_create.specs.Opening.{StaysMade}
 use Rattle.draid_create.specs.Says.{IsSame, MakingFailed}
 use Rattle.draid_pool.specs.declared.pool.Pool.{Pool}
 
--- the areas of the check records are held, as they were made
-abbrev pub HasChecks : Held → Type 0
-HasChecks held = IsSomeAnd held.checks AreNewChecks
-
--- The devices of an open pool are away; the areas of the check records are as they were made, and no call has failed on them. Whether the shelf tells is as the
--- pool was opened.
+-- The devices of an open pool are away. Whether the shelf tells is as the pool was opened.
 pub record IsOut (x : State) (now : OnShelf) : Type 0 where
-  pub held : OnHeld now.held HasChecks
-  pub checks : NoChecks now.own
   pub told : x.told ≡ is_some now.held
 
 -- The pool of a state was given back, with a crash or without one: where the shelf tells, which the state says, it holds the pool, and no record of it has a fault to
@@ -44,8 +37,7 @@ pub record HoldsShut (crash : Bool) (x : State) (now : OnShelf) : Type 0 where
   pub importable : OnHeld now.held (λ held. IsImportable x held now.leaves)
   pub told : x.told ≡ is_some now.held
   pub counts : (m : ℕ) (y : Metaslab) → slice_get x.metaslabs m ≡ Some y → SameCounts y.counts (now.counts m)
-  pub uber : now.own.uber ≡ x.uber_count
-  pub checks : NoChecks now.own
+  pub uber : own_count now.own ≡ x.uber_count
 
 -- The devices of a new pool are on the shelf, which tells them or not. So many calls on the area of its uberblock have failed, and none but these and calls on areas of records.
 pub record HoldsNew (told : Bool) (failed : ℕ) (geometry : Geometry) (now : OnShelf) : Type 0 where
@@ -156,11 +148,11 @@ MayMakeLeaves input =
 abbrev pub DeviceFailed : Option (List ℕ) → OnShelf → OnShelf → Type 0
 DeviceFailed input entry now = HasFailed entry now ⊎ (MayMakeLeaves input × RackFailedOn now)
 
--- What has failed in a command that found no pool open. In an import the shelf's count rose, or that of the uberblock's area, or that of an area of records of a metaslab
+-- What has failed in a command that found no pool open. In an import the shelf's count rose, or that of the pool's own areas, or that of an area of records of a metaslab
 -- that the uberblock names which the shelf held.
 abbrev pub FailsIn : {A : Type 0} → areas.Ghosts A → Command → OnShelf → OnShelf → Type 0
 FailsIn area (CreatePool text children keys) before now = (geometry : Geometry) × HasLayout text children keys geometry × MakingFailed geometry before now
-FailsIn area ImportPool before now = HasRisen area before.held before.faults now.faults before.own.uber now.own.uber before.counts now.counts
+FailsIn area ImportPool before now = HasRisen area before.held before.faults now.faults (own_count before.own) (own_count now.own) before.counts now.counts
 FailsIn area command before now = ⊥
 
 -- the uberblock that a shelf held, or a record of a metaslab, has this fault

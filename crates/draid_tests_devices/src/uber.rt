@@ -10,7 +10,7 @@ use draid_faults::{CrashRule, Fuse};
 use draid_names::LAST_NUMBER;
 use draid_record::RecordFaultKind::Range;
 use draid_spec::Geometry;
-use draid_uber::{Uber, UberFault};
+use draid_uber::{Areas, Uber, UberFault};
 use std::alloc::{AllocError, Global};
 
 /// The area of a new pool.
@@ -22,14 +22,32 @@ fn zeros(alloc: Global) -> Result<MemoryArea, AllocError>
     Ok(MemoryArea::new(alloc, bytes, Vec::new(alloc))?)
 }
 
+/// An area without a byte.
+fn nothing(alloc: Global) -> Result<MemoryArea, AllocError> {
+    Ok(MemoryArea::new(alloc, Vec::new(alloc), Vec::new(alloc))?)
+}
+
+/// The areas of a pool of which this is that of the uberblock, and which has no check record.
+fn areas_of(alloc: Global, uber: MemoryArea) -> Result<Areas<MemoryArea>, AllocError>
+    ensures { IfOk result (λ areas. areas.uber ≡ uber) }
+{
+    let even = nothing(alloc)?;
+    let odd = nothing(alloc)?;
+    Ok(Areas { uber, even, odd })
+}
+
 /// The uberblock of a new pool in an area of zeros.
-fn create(geometry: Geometry, area: MemoryArea) -> Option<Uber<MemoryArea>>
+fn create(
+    alloc: Global,
+    geometry: Geometry,
+    areas: Areas<MemoryArea>,
+) -> Option<Uber<MemoryArea>>
     requires layout { IsGeometry geometry }
-    requires size { size_of_memory area ≡ 1024 }
-    requires new { OnTold (told_by_memory area) IsNewArea }
+    requires size { size_of_memory areas.uber ≡ 1024 }
+    requires new { OnTold (told_by_memory areas.uber) IsNewArea }
     ensures { IfSome result (Valid size_of_memory) }
 {
-    match Uber::create(geometry, area) {
+    match Uber::create(alloc, geometry, areas) {
         Ok(uber) => Some(uber),
         Err(_) => None,
     }
@@ -46,7 +64,8 @@ fn created(alloc: Global, calls: u64) -> Option<Uber<MemoryArea>>
     match zeros(alloc) {
         Ok(mut area) => {
             area.put_fuse(fuse);
-            create(geometry, area)
+            let areas = areas_of(alloc, area).ok()?;
+            create(alloc, geometry, areas)
         }
         Err(_) => None,
     }
@@ -65,33 +84,33 @@ fn commit_next(uber: &mut Uber<MemoryArea>) -> Result<(), DeviceFault>
 }
 
 /// What a recovery answers: the committed group, or why there is none.
-fn recovered(area: MemoryArea) -> Result<u64, UberFault> {
-    match Uber::recover(area) {
+fn recovered(alloc: Global, areas: Areas<MemoryArea>) -> Result<u64, UberFault> {
+    match Uber::recover(alloc, areas) {
         Ok(uber) => Ok(uber.committed()),
         Err(refused) => Err(refused.why),
     }
 }
 
 /// Whether the group behind this one is committed next, and recovered.
-fn goes_on(uber: Uber<MemoryArea>, group: u64) -> bool
+fn goes_on(alloc: Global, uber: Uber<MemoryArea>, group: u64) -> bool
     requires { Valid size_of_memory uber }
 {
     let mut uber = uber;
     if commit_next(&mut uber).is_err() {
         return false;
     }
-    match recovered(uber.into_area()) {
+    match recovered(alloc, uber.into_areas()) {
         Ok(next) => next.saturating_sub(1) == group,
         Err(_) => false,
     }
 }
 
 /// The group that an import takes from an area, 0 where no gate is open. From there it commits the next one.
-fn group_in(area: MemoryArea) -> Option<u64> {
-    match Uber::recover(area) {
+fn group_in(alloc: Global, areas: Areas<MemoryArea>) -> Option<u64> {
+    match Uber::recover(alloc, areas) {
         Ok(uber) => {
             let group = uber.committed();
-            goes_on(uber, group).then_some(group)
+            goes_on(alloc, uber, group).then_some(group)
         }
         Err(refused) => (refused.why == UberFault::Empty).then_some(0),
     }
@@ -112,9 +131,9 @@ fn group_after(alloc: Global, calls: u64, rule: CrashRule) -> Option<u64> {
     match created(alloc, calls) {
         Some(mut uber) => {
             commit_three(&mut uber);
-            let mut area = uber.into_area();
-            area.crash(rule);
-            group_in(area)
+            let mut areas = uber.into_areas();
+            areas.uber.crash(rule);
+            group_in(alloc, areas)
         }
         None => None,
     }
@@ -170,7 +189,7 @@ fn has_first(area: &mut MemoryArea) -> Result<bool, DeviceFault> {
 fn writes_slot_one(alloc: Global) -> bool {
     match created(alloc, 100) {
         Some(mut uber) => commit_next(&mut uber).is_ok()
-            && has_first(&mut uber.into_area()) == Ok(true),
+            && has_first(&mut uber.into_areas().uber) == Ok(true),
         None => false,
     }
 }
@@ -201,7 +220,10 @@ fn tells(
         return false;
     };
     match MemoryArea::new(alloc, bytes, Vec::new(alloc)) {
-        Ok(area) => recovered(area) == told,
+        Ok(area) => match areas_of(alloc, area) {
+            Ok(areas) => recovered(alloc, areas) == told,
+            Err(_) => false,
+        },
         Err(_) => false,
     }
 }

@@ -195,7 +195,7 @@ returns-in-Ok-make_all g c =
           let e = c.set_next_leaf.ensures in
           let leaf = c.next_leaf-leaf.result in
           let was = ap next_leaf_of (c.in-Ok-make_all.ensures.uber ∙ c.in-Ok.ensures.uber) ∙ sym c.next_leaf-leaf.ensures in
-          let set : SetsLeaf g.A.Area made.uber u (leaf + 1) = record { valid = e.valid; above = omega (arith, was); next_is = e.leaf; area_is = e.area; kept = e.kept; layout = e.layout; version = e.version } in
+          let set : SetsLeaf g.A.Area made.uber u (leaf + 1) = record { valid = e.valid; above = omega (arith, was); next_is = e.leaf; areas_is = e.areas; kept = e.kept; layout = e.layout; version = e.version } in
           let mid : Pool g.row.R.Denot g.row.A.Denot = record made { uber = u } in
           let new : Pool g.row.R.Denot g.row.A.Denot = record made { uber = u; metaslabs = record { shards = c.attach_all.new.shards } } in
           attached_whole g.R.Rack g.A.Area c.args.slot kind.Leaf leaf mid new (numbered_whole g.R.Rack g.A.Area made u (leaf + 1) set c.in-Ok-make_all.ensures.whole) c.attach_all.ensures.attaches
@@ -209,7 +209,7 @@ returns-in-Ok-make_all g c =
           let new : Pool g.row.R.Denot g.row.A.Denot = record made { uber = c.set_next_leaf.new.self; metaslabs = record { shards = c.attach_all.new.shards } } in
           areas_on faults old made new
           (areas_on faults old late made (areas_on faults old c.finish.new.self late c.in_default.ensures.later c.in-Ok.ensures.later) c.in-Ok-make_all.ensures.later)
-          (areas_on faults made mid new (areas_numbered g.R.Rack g.A.Area made c.set_next_leaf.new.self c.set_next_leaf.ensures.area)
+          (areas_on faults made mid new (areas_numbered g.R.Rack g.A.Area made c.set_next_leaf.new.self c.set_next_leaf.ensures.areas)
           (areas_changed g.R.Rack g.A.Area (Attaches g.R.Rack c.args.slot kind.Leaf c.next_leaf-leaf.result) mid new c.attach_all.ensures.attaches (record { geometry = refl; uber = refl; objects = refl; seq = refl; floor = refl }) (λ a b s. s.kit.areas))));
       cause = λ is. absurd (cc is);
       carries = λ x is.
@@ -220,7 +220,7 @@ returns-in-Ok-make_all g c =
           let e = c.set_next_leaf.ensures in
           let leaf = c.next_leaf-leaf.result in
           let was = ap next_leaf_of (c.in-Ok-make_all.ensures.uber ∙ c.in-Ok.ensures.uber) ∙ sym c.next_leaf-leaf.ensures in
-          let set : SetsLeaf g.A.Area made.uber u (leaf + 1) = record { valid = e.valid; above = omega (arith, was); next_is = e.leaf; area_is = e.area; kept = e.kept; layout = e.layout; version = e.version } in
+          let set : SetsLeaf g.A.Area made.uber u (leaf + 1) = record { valid = e.valid; above = omega (arith, was); next_is = e.leaf; areas_is = e.areas; kept = e.kept; layout = e.layout; version = e.version } in
           let new : Pool g.row.R.Denot g.row.A.Denot = record made { uber = u; metaslabs = record { shards = c.attach_all.new.shards } } in
           let first = c.index.result.now in
           let at = first_borrowed g.R.Rack g.A.Area mid first c.in_default.ensures.whole c.index.ensures in

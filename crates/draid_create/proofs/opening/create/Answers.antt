@@ -18,7 +18,7 @@ returns-in-Ok-make_pool g c =
     record {
       whole = c.in-Ok-make_pool.ensures.whole;
       answer = (c.in-Ok.layout, sym c.geometry.ensures.exact ∙ c.in-Ok.is, c.in-Ok-make_pool.ensures.opens);
-      shelf = (c.in-Ok-make_pool.ensures.away, c.in-Ok-make_pool.ensures.checks);
+      shelf = c.in-Ok-make_pool.ensures.away;
       later = c.make_pool.ensures.later;
     }
 

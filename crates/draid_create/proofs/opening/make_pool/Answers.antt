@@ -1,29 +1,31 @@
 use Rattle.std.proofs.Common.{arith, ◌≡◌, ◌∙◌, ℕ, inl, inr, Option, ap, subst, sym}
-use Rattle.std.specs.Prelude.{⊤, IsSomeAnd, MatchOption, replicate}
+use Rattle.std.specs.Prelude.{⊤, IsSomeAnd, MatchOption}
 use Rattle.draid_rack.specs.Rack.{Shape}
-use Rattle.draid_area.specs.Area.{OnTold}
-use Rattle.draid_shelf.specs.Kits.{Held, IsNewArea, IsUncounted, OnHeld, uber_bytes}
+use Rattle.draid_shelf.specs.Kits.{CheckCounts, Held, IsUncounted, OnHeld}
 use Rattle.draid_shelf.specs.Shelf.{HasLeavesOf}
-use Rattle.draid_create.specs.Opening.{HasNewKits}
+use Rattle.draid_uber.specs.Checks.{told_by}
+use Rattle.draid_create.specs.Opening.{AreNewAreas, HasNewKits}
 use Rattle.draid_create.proofs.Causes.{new_failed}
-use Rattle.draid_pool.proofs.Refusing.{if_ok_passed, on_err_always, on_err_right, on_ok_always, on_ok_passed, passed}
-use Rattle.draid_create.proofs.Fresh.{made_untouched, uber_new, uber_taken, uber_zeros}
+use Rattle.draid_pool.proofs.Refusing.{if_ok_passed, on_err_always, on_err_right, on_ok_passed, passed}
+use Rattle.draid_create.proofs.Fresh.{areas_new, areas_taken, made_untouched, uber_new}
 use Rattle.draid_create.proofs.opening.make_pool.Goals as goal
 
 pub create-requires : goal.create-requires
 create-requires g c =
     record {
       layout = c.requires.layout;
-      size = subst (λ (o : Option ℕ). MatchOption o ⊤ (λ n. g.H.A.Area.size c.in_ok-area.area ≡ n)) c.in_ok-make.ensures.uber c.in_ok-area.ensures.size;
-      new = (let t = c.in_ok-area.ensures in
-          uber_new (g.H.A.Area.told c.in_ok-area.area)
-          (uber_zeros c.args.layout (g.H.Shelf.told c.make.new.self) (g.H.A.Area.told c.in_ok-area.area) c.in_ok-make.ensures.told t.area t.untold));
+      size = subst (λ (o : Option ℕ). MatchOption o ⊤ (λ n. g.H.A.Area.size c.in_ok-areas.areas.uber ≡ n)) c.in_ok-make.ensures.uber c.in_ok-areas.ensures.size;
+      new = (let t = c.in_ok-areas.ensures in
+          uber_new (g.H.A.Area.told c.in_ok-areas.areas.uber)
+          (areas_new c.args.layout (g.H.Shelf.told c.make.new.self) (told_by g.H.A.Area.told c.in_ok-areas.areas) c.in_ok-make.ensures.told t.areas t.untold).uber);
     }
 
 pub open_pool-requires-clause-uber : goal.open_pool-requires-clause-uber
 open_pool-requires-clause-uber g c κs within =
-    let t = c.in_ok-area.ensures in
+    let t = c.in_ok-areas.ensures in
     let e = c.in-Ok.ensures in
+    let faults = g.H.A.Area.faults in
+    let made = c.in_ok-make.ensures in
     record {
       valid = e.valid;
       kept = e.none;
@@ -31,30 +33,31 @@ open_pool-requires-clause-uber g c κs within =
       version = e.version;
       next_leaf = e.leaf;
       stands = e.crash;
-      zeros = subst (λ a. OnTold (g.H.A.Area.told a) (IsNewArea (replicate uber_bytes 0))) (sym e.area)
-          (uber_zeros c.args.layout (g.H.Shelf.told c.make.new.self) (g.H.A.Area.told c.in_ok-area.area) c.in_ok-make.ensures.told t.area t.untold);
-      count = ap g.H.A.Area.faults e.area ∙ (t.count ∙ c.in_ok-make.ensures.uber_count);
+      new = subst (λ a. AreNewAreas (told_by g.H.A.Area.told a)) (sym e.areas)
+          (areas_new c.args.layout (g.H.Shelf.told c.make.new.self) (told_by g.H.A.Area.told c.in_ok-areas.areas) made.told t.areas t.untold);
+      count = ap (λ a. faults a.uber) e.areas ∙ (t.count.0 ∙ made.uber_count);
+      even_count = ap (λ a. faults a.even) e.areas ∙ (t.count.1 ∙ ap (λ (k : CheckCounts). k.even) made.check_counts);
+      odd_count = ap (λ a. faults a.odd) e.areas ∙ (t.count.2 ∙ ap (λ (k : CheckCounts). k.odd) made.check_counts);
     }
 
 pub open_pool-requires-clause-held : goal.open_pool-requires-clause-held
 open_pool-requires-clause-held g c κs within =
-    subst (λ (o : Option Held). OnHeld o (HasNewKits c.args.layout)) (sym c.in_ok-area.ensures.told) (uber_taken c.args.layout (g.H.Shelf.told c.make.new.self) c.in_ok-make.ensures.told)
+    subst (λ (o : Option Held). OnHeld o (HasNewKits c.args.layout)) (sym c.in_ok-areas.ensures.told) (areas_taken c.args.layout (g.H.Shelf.told c.make.new.self) c.in_ok-make.ensures.told)
 
 pub returns : goal.returns
 returns g c =
     let made = c.make.ensures.cause.later in
-    let taken = c.take_uber.ensures.cause.later in
+    let taken = c.take_areas.ensures.cause.later in
     record {
       whole = c.open_pool.ensures.whole;
       opens = c.open_pool.ensures.opens;
       away = c.open_pool.ensures.away;
-      checks = on_ok_always c.open_pool.result _ (c.open_pool.ensures.checks ∙ (c.take_uber.ensures.check_counts ∙ c.in_ok-make.ensures.check_counts));
       back = on_err_right c.open_pool.result _ _ c.open_pool.ensures.back;
       later = (let more = c.open_pool.ensures.later in
           omega (arith, made, taken, more));
       cause = (let shelf = g.H.Shelf in
           let e = c.open_pool.ensures in
-          new_failed c.args.layout _ _ _ _ (shelf.faults c.args.shelf.now) (shelf.faults c.take_uber.new.self) (shelf.faults c.open_pool.new.shelf) c.open_pool.result (omega (arith, made, taken)) e.back e.cause);
+          new_failed c.args.layout _ _ _ _ (shelf.faults c.args.shelf.now) (shelf.faults c.take_areas.new.shelf) (shelf.faults c.open_pool.new.shelf) c.open_pool.result (omega (arith, made, taken)) e.back e.cause);
     }
 
 pub returns-in_err-make : goal.returns-in_err-make
@@ -63,30 +66,28 @@ returns-in_err-make g c =
       whole = if_ok_passed _ c.from_residual.result _ c.from_residual.ensures.1;
       opens = if_ok_passed _ c.from_residual.result _ c.from_residual.ensures.1;
       away = on_ok_passed _ c.from_residual.result _ c.from_residual.ensures.1;
-      checks = on_ok_passed _ c.from_residual.result _ c.from_residual.ensures.1;
       back = (let e = c.in_err-make.ensures in
           on_err_always c.from_residual.result _ (inl (record { held = e.err; counts = e.err_counts; uber = e.err_uber_count; checks = e.err_check_counts }, e.err_leaves)));
       later = c.make.ensures.cause.later;
       cause = λ failed. inl (c.in_err-make.ensures.cause.cause (passed c.from_residual.result c.in_err-make.field-0.0 _ c.from_residual.ensures.1 failed));
     }
 
-pub returns-in_err-area : goal.returns-in_err-area
-returns-in_err-area g c =
+pub returns-in_err-areas : goal.returns-in_err-areas
+returns-in_err-areas g c =
     let made = c.make.ensures.cause.later in
     record {
-      whole = if_ok_passed _ c.from_residual-in_err-area.result _ c.from_residual-in_err-area.ensures.1;
-      opens = if_ok_passed _ c.from_residual-in_err-area.result _ c.from_residual-in_err-area.ensures.1;
-      away = on_ok_passed _ c.from_residual-in_err-area.result _ c.from_residual-in_err-area.ensures.1;
-      checks = on_ok_passed _ c.from_residual-in_err-area.result _ c.from_residual-in_err-area.ensures.1;
+      whole = if_ok_passed _ c.from_residual-in_err-areas.result _ c.from_residual-in_err-areas.ensures.1;
+      opens = if_ok_passed _ c.from_residual-in_err-areas.result _ c.from_residual-in_err-areas.ensures.1;
+      away = on_ok_passed _ c.from_residual-in_err-areas.result _ c.from_residual-in_err-areas.ensures.1;
       back = (let shelf = g.H.Shelf in
           let m = c.in_ok-make.ensures in
-          let e = c.in_err-area.ensures in
-          on_err_always c.from_residual-in_err-area.result _
-          (inr (inl (made_untouched c.args.layout (shelf.told c.make.new.self) (shelf.told c.take_uber.new.self) (shelf.counts c.make.new.self) (shelf.counts c.take_uber.new.self)
-          (record { uber = shelf.uber_count c.take_uber.new.self; checks = shelf.check_counts c.take_uber.new.self }) m.told e.err m.counts e.counts (e.err_count ∙ m.uber_count) (e.check_counts ∙ m.check_counts)))));
-      later = (let taken = c.take_uber.ensures.cause.later in
+          let e = c.in_err-areas.ensures in
+          on_err_always c.from_residual-in_err-areas.result _
+          (inr (inl (made_untouched c.args.layout (shelf.told c.make.new.self) (shelf.told c.take_areas.new.shelf) (shelf.counts c.make.new.self) (shelf.counts c.take_areas.new.shelf)
+          (record { uber = shelf.uber_count c.take_areas.new.shelf; checks = shelf.check_counts c.take_areas.new.shelf }) m.told e.back m.counts c.take_areas.ensures.counts (e.back_count.0 ∙ m.uber_count) (e.back_count.1 ∙ m.check_counts)))));
+      later = (let taken = c.take_areas.ensures.cause.later in
           omega (arith, made, taken));
-      cause = λ failed. (let rose = c.in_err-area.ensures.cause.cause (passed c.from_residual-in_err-area.result c.in_err-area.field-0.0 _ c.from_residual-in_err-area.ensures.1 failed) in
+      cause = λ failed. (let rose = c.in_err-areas.ensures.cause.cause (passed c.from_residual-in_err-areas.result c.in_err-areas.field-0.0 _ c.from_residual-in_err-areas.ensures.1 failed) in
           inl (omega (arith, made, rose)));
     }
 
@@ -95,10 +96,7 @@ open_pool-requires-clause-layout g c κs within = c.requires.layout
 
 pub open_pool-requires-clause-leaves : goal.open_pool-requires-clause-leaves
 open_pool-requires-clause-leaves g c κs within m below =
-    subst (λ (o : Option Shape). IsSomeAnd o (HasLeavesOf c.args.layout)) (sym (c.take_uber.ensures.leaves m)) (c.in_ok-make.ensures.leaves m below)
+    subst (λ (o : Option Shape). IsSomeAnd o (HasLeavesOf c.args.layout)) (sym (c.take_areas.ensures.leaves m)) (c.in_ok-make.ensures.leaves m below)
 
 pub open_pool-requires-clause-counts : goal.open_pool-requires-clause-counts
-open_pool-requires-clause-counts g c κs within m below = subst IsUncounted (sym (c.take_uber.ensures.counts m)) (c.in_ok-make.ensures.counts m below)
-
-pub open_pool-requires-clause-checks : goal.open_pool-requires-clause-checks
-open_pool-requires-clause-checks g c κs within = c.take_uber.ensures.check_counts ∙ c.in_ok-make.ensures.check_counts
+open_pool-requires-clause-counts g c κs within m below = subst IsUncounted (sym (c.take_areas.ensures.counts m)) (c.in_ok-make.ensures.counts m below)

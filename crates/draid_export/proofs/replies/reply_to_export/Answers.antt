@@ -16,7 +16,6 @@ returns-in-Ok g c = record {
       exported g.H.R.Rack g.H.A.Area c.sync_for_export.new.pool x c.sync_for_export.result (c.sync_for_export.ensures.carries x is) c.in-Ok.group c.in-Ok.is (on_shelf g.H.Shelf c.args.shelf.now) (on_shelf g.H.Shelf c.close.new.shelf)
       c.close.ensures.back;
   alone = tt;
-  checks = c.close.ensures.checks;
   faults = c.close.ensures.faults;
 }
 
@@ -31,6 +30,5 @@ returns-in-Err g c = record {
   refused = (c.in-Err.why, c.refusal.ensures.refusal);
   step = λ x is. refused g.H.R.Rack g.H.A.Area c.sync_for_export.new.pool x c.sync_for_export.result (c.sync_for_export.ensures.carries x is) c.in-Err.why c.in-Err.is c.refusal.result c.refusal.ensures.refusal;
   alone = refl;
-  checks = refl;
   faults = refl;
 }

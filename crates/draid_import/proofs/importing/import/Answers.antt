@@ -4,9 +4,9 @@ use Rattle.std.proofs.lemmas.Result.{err_from_is_err_and}
 use Rattle.std.specs.HashMap.{get}
 use Rattle.draid_shard.specs.declared.shard.Shard.{Shard}
 use Rattle.draid_uber.specs.Slots.{group_of}
-use Rattle.draid_shelf.specs.Kits.{gives_uber}
+use Rattle.draid_uber.specs.Checks.{told_by}
 use Rattle.draid_uber.specs.declared.uber.Uber.{Uber}
-use Rattle.draid_uber.specs.Uber.{kept_of, layout_of, next_leaf_of}
+use Rattle.draid_uber.specs.Uber.{areas_of, kept_of, layout_of, next_leaf_of}
 use Rattle.draid_found.specs.Together.{AreApart, AreTogether}
 use Rattle.draid_session.specs.State.{limit_of}
 use Rattle.draid_import.specs.Findings.{LeavesAll}
@@ -20,7 +20,10 @@ use Rattle.draid_import.proofs.ImportMade.{made_passed, none_passed}
 use Rattle.draid_import.proofs.ImportLeft.{leaves_all, refusal_is, refused_pool, rests_known, risen_behind}
 use Rattle.draid_import.proofs.ImportOne.{no_fault_apart}
 use Rattle.draid_import.proofs.ImportPool.{pool_found, tells_as_before}
-use Rattle.draid_import.proofs.Found.{absent_not, all_ready, checks_more, refused_too, checks_back, checks_given}
+use Rattle.draid_import.proofs.Found.{absent_not, all_ready, refused_too}
+use Rattle.draid_pool.specs.Shelves.{count_on}
+use Rattle.draid_pool.specs.Taking.{gives_areas}
+use Rattle.draid_pool.proofs.Failing.{own_given}
 use Rattle.draid_pool.proofs.Refusing.{if_ok_passed, no_refusal, on_err_always, on_ok_passed, passed, passed_is}
 use Rattle.draid_import.proofs.importing.import.Goals as goal
 
@@ -61,7 +64,7 @@ returns-in-Ok-find_blocks g c =
           let newest = get nat_eq c.in-Ok-find_blocks.found.newest in
           c.pool_of.ensures.imports x pieces
           (pool_found c.args.alloc g.H.R.Rack g.H.A.Area x pieces (shelf.told c.args.shelf.now) (shelf.told c.find_uber.new.shelf) (shelf.leaves c.args.shelf.now) (shelf.leaves c.find_uber.new.shelf) (shelf.counts c.args.shelf.now) (shelf.counts c.find_uber.new.shelf)
-          (shelf.uber_count c.args.shelf.now) c.in_ok-uber.uber c.in-Ok.shards.items newest c.in-Ok-find_blocks.found.seq there u.found u.recovered c.find_uber.ensures.counts u.told c.in-Ok.ensures.reopened c.in-Ok.ensures.over
+          (count_on shelf c.args.shelf.now) c.in_ok-uber.uber c.in-Ok.shards.items newest c.in-Ok-find_blocks.found.seq there u.found u.recovered c.find_uber.ensures.counts u.told c.in-Ok.ensures.reopened c.in-Ok.ensures.over
           (subst (λ (xs : List (Shard g.row.H-R.Denot g.row.H-A.Denot)). AreFound xs newest c.in-Ok-find_blocks.found.seq) c.deref.ensures.value c.in-Ok-find_blocks.ensures.found)));
       read = (let u = c.in_ok-uber.ensures in
           let uber = c.in_ok-uber.uber in
@@ -88,8 +91,6 @@ returns-in-Ok-find_blocks g c =
       back = tt;
       tells = tells_as_before (layout_of c.in_ok-uber.uber).props.metaslabs (shelf.told c.args.shelf.now) (shelf.told c.find_uber.new.shelf) (shelf.told c.reopen_shards.new.shelf) c.in_ok-uber.ensures.told c.in-Ok.ensures.told;
       faulty = λ metaslab place kind err. absurd (no_refusal err);
-      held = checks_more (shelf.told c.args.shelf.now) (shelf.told c.find_uber.new.shelf) (shelf.told c.reopen_shards.new.shelf) c.in_ok-uber.ensures.held c.reopen_shards.ensures.held;
-      checks = c.reopen_shards.ensures.checks ∙ c.find_uber.ensures.checks;
       later = (let first = c.find_uber.ensures.later in let more = c.reopen_shards.ensures.later in omega (arith, first, more));
       cause = λ failed. absurd (no_refusal failed);
     }
@@ -102,23 +103,23 @@ returns-in-Err g c =
       whole = tt;
       none = absent_not c.in_ok-uber.uber (g.H.Shelf.told c.args.shelf.now) _ _ c.in_ok-uber.ensures.none;
       made = λ geometry made. absurd (c.in_ok-uber.ensures.made geometry made).none;
-      import = λ x pieces there. refusal_is g.H.R.Rack g.H.A.Area x pieces (shelf.told c.give_uber.new.self) (shelf.leaves c.give_uber.new.self) (shelf.counts c.give_uber.new.self) (shelf.uber_count c.give_uber.new.self) c.in-Err.fault c.in-Err.ensures.fault
-          (c.in-Err.ensures.opens x pieces (shelf.told c.args.shelf.now) (shelf.counts c.args.shelf.now) (shelf.uber_count c.args.shelf.now)
-          (rests_known x pieces (shelf.told c.args.shelf.now) (shelf.leaves c.args.shelf.now) (shelf.leaves c.find_uber.new.shelf) (shelf.counts c.args.shelf.now) (shelf.uber_count c.args.shelf.now) c.find_uber.ensures.leaves there) u.recovered u.told)
-          (refused_pool c.args.alloc g.H.R.Rack g.H.A.Area x pieces (shelf.told c.args.shelf.now) (shelf.told c.find_uber.new.shelf) (shelf.told c.reopen_shards.new.shelf) (shelf.told c.give_uber.new.self)
-          (shelf.leaves c.args.shelf.now) (shelf.leaves c.find_uber.new.shelf) (shelf.leaves c.reopen_shards.new.shelf) (shelf.leaves c.give_uber.new.self)
-          (shelf.counts c.args.shelf.now) (shelf.counts c.find_uber.new.shelf) (shelf.counts c.reopen_shards.new.shelf) (shelf.counts c.give_uber.new.self) (shelf.uber_count c.args.shelf.now) (shelf.uber_count c.give_uber.new.self)
+      import = λ x pieces there. refusal_is g.H.R.Rack g.H.A.Area x pieces (shelf.told c.give_areas.new.shelf) (shelf.leaves c.give_areas.new.shelf) (shelf.counts c.give_areas.new.shelf) (count_on shelf c.give_areas.new.shelf) c.in-Err.fault c.in-Err.ensures.fault
+          (c.in-Err.ensures.opens x pieces (shelf.told c.args.shelf.now) (shelf.counts c.args.shelf.now) (count_on shelf c.args.shelf.now)
+          (rests_known x pieces (shelf.told c.args.shelf.now) (shelf.leaves c.args.shelf.now) (shelf.leaves c.find_uber.new.shelf) (shelf.counts c.args.shelf.now) (count_on shelf c.args.shelf.now) c.find_uber.ensures.leaves there) u.recovered u.told)
+          (refused_pool c.args.alloc g.H.R.Rack g.H.A.Area x pieces (shelf.told c.args.shelf.now) (shelf.told c.find_uber.new.shelf) (shelf.told c.reopen_shards.new.shelf) (shelf.told c.give_areas.new.shelf)
+          (shelf.leaves c.args.shelf.now) (shelf.leaves c.find_uber.new.shelf) (shelf.leaves c.reopen_shards.new.shelf) (shelf.leaves c.give_areas.new.shelf)
+          (shelf.counts c.args.shelf.now) (shelf.counts c.find_uber.new.shelf) (shelf.counts c.reopen_shards.new.shelf) (shelf.counts c.give_areas.new.shelf) (count_on shelf c.args.shelf.now) (count_on shelf c.give_areas.new.shelf)
           c.in_ok-uber.uber there u.found u.recovered u.told c.find_uber.ensures.leaves c.find_uber.ensures.counts c.in-Err.ensures.back
-          (c.give_uber.ensures.told ∙ ap (λ a. gives_uber (g.H.A.Area.told a) (shelf.told c.reopen_shards.new.shelf)) c.into_area.ensures) c.give_uber.ensures.leaves c.give_uber.ensures.counts
-          (c.give_uber.ensures.count ∙ ap g.H.A.Area.faults c.into_area.ensures));
+          (c.give_areas.ensures.told ∙ ap (λ a. gives_areas (told_by g.H.A.Area.told a) (shelf.told c.reopen_shards.new.shelf)) c.into_areas.ensures) c.give_areas.ensures.leaves c.give_areas.ensures.counts
+          (own_given g.H.A.Area.faults (areas_of c.in_ok-uber.uber) (shelf.uber_count c.give_areas.new.shelf) (shelf.check_counts c.give_areas.new.shelf) (c.give_areas.ensures.uber ∙ ap (λ a. g.H.A.Area.faults a.uber) c.into_areas.ensures) (c.give_areas.ensures.checks ∙ ap (λ a. record { even = g.H.A.Area.faults a.even; odd = g.H.A.Area.faults a.odd }) c.into_areas.ensures)));
       read = tt;
       empty = λ err. absurd (shard_not_empty c.in-Err.fault c.in-Err.ensures.fault err);
-      back = left_found g.H.R.Rack g.H.A.Area (shelf.told c.args.shelf.now) (shelf.told c.find_uber.new.shelf) (shelf.told c.reopen_shards.new.shelf) (shelf.told c.give_uber.new.self)
+      back = left_found g.H.R.Rack g.H.A.Area (shelf.told c.args.shelf.now) (shelf.told c.find_uber.new.shelf) (shelf.told c.reopen_shards.new.shelf) (shelf.told c.give_areas.new.shelf)
           (shelf.leaves c.find_uber.new.shelf) (shelf.leaves c.reopen_shards.new.shelf)
-          (shelf.counts c.args.shelf.now) (shelf.counts c.find_uber.new.shelf) (shelf.counts c.reopen_shards.new.shelf) (shelf.counts c.give_uber.new.self) (shelf.uber_count c.args.shelf.now) (shelf.uber_count c.give_uber.new.self)
+          (shelf.counts c.args.shelf.now) (shelf.counts c.find_uber.new.shelf) (shelf.counts c.reopen_shards.new.shelf) (shelf.counts c.give_areas.new.shelf) (count_on shelf c.args.shelf.now) (count_on shelf c.give_areas.new.shelf)
           c.in_ok-uber.uber u.found u.recovered u.body u.told c.find_uber.ensures.counts c.in-Err.ensures.back
-          (c.give_uber.ensures.told ∙ ap (λ a. gives_uber (g.H.A.Area.told a) (shelf.told c.reopen_shards.new.shelf)) c.into_area.ensures) c.give_uber.ensures.counts
-          (c.give_uber.ensures.count ∙ ap g.H.A.Area.faults c.into_area.ensures);
+          (c.give_areas.ensures.told ∙ ap (λ a. gives_areas (told_by g.H.A.Area.told a) (shelf.told c.reopen_shards.new.shelf)) c.into_areas.ensures) c.give_areas.ensures.counts
+          (own_given g.H.A.Area.faults (areas_of c.in_ok-uber.uber) (shelf.uber_count c.give_areas.new.shelf) (shelf.check_counts c.give_areas.new.shelf) (c.give_areas.ensures.uber ∙ ap (λ a. g.H.A.Area.faults a.uber) c.into_areas.ensures) (c.give_areas.ensures.checks ∙ ap (λ a. record { even = g.H.A.Area.faults a.even; odd = g.H.A.Area.faults a.odd }) c.into_areas.ensures));
       tells = tt;
       faulty = λ metaslab place kind err. (let uber = c.in_ok-uber.uber in
           inr (record {
@@ -129,14 +130,11 @@ returns-in-Err g c =
                 (shelf.leaves c.args.shelf.now) (shelf.leaves c.find_uber.new.shelf) (shelf.counts c.args.shelf.now) (shelf.counts c.find_uber.new.shelf) metaslab place kind u.told c.find_uber.ensures.leaves c.find_uber.ensures.counts
                 (c.in-Err.ensures.faulty metaslab place kind (ap Err (err_is c.in-Err.fault _ err))));
           }));
-      held = checks_given (g.H.A.Area.told c.into_area.result) (shelf.told c.args.shelf.now) (shelf.told c.reopen_shards.new.shelf) (shelf.told c.give_uber.new.self)
-          (checks_more (shelf.told c.args.shelf.now) (shelf.told c.find_uber.new.shelf) (shelf.told c.reopen_shards.new.shelf) c.find_uber.ensures.held c.reopen_shards.ensures.held) c.give_uber.ensures.told;
-      checks = c.give_uber.ensures.check_counts ∙ (c.reopen_shards.ensures.checks ∙ c.find_uber.ensures.checks);
-      later = (let first = c.find_uber.ensures.later in let more = c.reopen_shards.ensures.later in let same = c.give_uber.ensures.faults in omega (arith, first, more, same));
-      cause = λ failed. risen_behind g.H.A.Area (shelf.told c.args.shelf.now) (shelf.faults c.args.shelf.now) (shelf.faults c.find_uber.new.shelf) (shelf.faults c.reopen_shards.new.shelf) (shelf.faults c.give_uber.new.self) (shelf.uber_count c.args.shelf.now) (shelf.uber_count c.give_uber.new.self)
-          (shelf.counts c.args.shelf.now) (shelf.counts c.find_uber.new.shelf) (shelf.counts c.reopen_shards.new.shelf) (shelf.counts c.give_uber.new.self)
-          c.in_ok-uber.uber c.in_ok-uber.ensures.found c.in_ok-uber.ensures.recovered c.find_uber.ensures.later c.give_uber.ensures.faults
-          c.find_uber.ensures.counts c.give_uber.ensures.counts (c.in-Err.ensures.cause (refused_too c.in-Err.fault failed));
+      later = (let first = c.find_uber.ensures.later in let more = c.reopen_shards.ensures.later in let same = c.give_areas.ensures.faults in omega (arith, first, more, same));
+      cause = λ failed. risen_behind g.H.A.Area (shelf.told c.args.shelf.now) (shelf.faults c.args.shelf.now) (shelf.faults c.find_uber.new.shelf) (shelf.faults c.reopen_shards.new.shelf) (shelf.faults c.give_areas.new.shelf) (count_on shelf c.args.shelf.now) (count_on shelf c.give_areas.new.shelf)
+          (shelf.counts c.args.shelf.now) (shelf.counts c.find_uber.new.shelf) (shelf.counts c.reopen_shards.new.shelf) (shelf.counts c.give_areas.new.shelf)
+          c.in_ok-uber.uber c.in_ok-uber.ensures.found c.in_ok-uber.ensures.recovered c.find_uber.ensures.later c.give_areas.ensures.faults
+          c.find_uber.ensures.counts c.give_areas.ensures.counts (c.in-Err.ensures.cause (refused_too c.in-Err.fault failed));
     }
 
 pub returns-in-Err-find_blocks : goal.returns-in-Err-find_blocks
@@ -153,33 +151,33 @@ returns-in-Err-find_blocks g c =
           let area = g.H.A.Area in
           let shards = c.in-Ok.shards.items in
           let f = c.in-Err-find_blocks.ensures in
-          refusal_is rack area x pieces (shelf.told c.give_uber-in-Err-find_blocks.new.self) (shelf.leaves c.give_uber-in-Err-find_blocks.new.self) (shelf.counts c.give_uber-in-Err-find_blocks.new.self) (shelf.uber_count c.give_uber-in-Err-find_blocks.new.self) c.in-Err-find_blocks.fault f.fault
+          refusal_is rack area x pieces (shelf.told c.give_areas-in-Err-find_blocks.new.shelf) (shelf.leaves c.give_areas-in-Err-find_blocks.new.shelf) (shelf.counts c.give_areas-in-Err-find_blocks.new.shelf) (count_on shelf c.give_areas-in-Err-find_blocks.new.shelf) c.in-Err-find_blocks.fault f.fault
           (no_fault_apart c.args.alloc rack area x pieces (shelf.told c.args.shelf.now) (shelf.told c.find_uber.new.shelf) (shelf.leaves c.args.shelf.now) (shelf.leaves c.find_uber.new.shelf) (shelf.counts c.args.shelf.now) (shelf.counts c.find_uber.new.shelf)
-          (shelf.uber_count c.args.shelf.now) uber shards c.in-Err-find_blocks.fault there u.found u.recovered c.find_uber.ensures.counts u.told e.reopened e.over
+          (count_on shelf c.args.shelf.now) uber shards c.in-Err-find_blocks.fault there u.found u.recovered c.find_uber.ensures.counts u.told e.reopened e.over
           (λ metaslab place kind err. subst (λ (xs : List (Shard g.row.H-R.Denot g.row.H-A.Denot)). AreApart xs metaslab place kind) c.deref.ensures.value (f.faulty metaslab place kind err)))
-          (refused_pool c.args.alloc rack area x pieces (shelf.told c.args.shelf.now) (shelf.told c.find_uber.new.shelf) (shelf.told c.give_back.new.shelf) (shelf.told c.give_uber-in-Err-find_blocks.new.self)
-          (shelf.leaves c.args.shelf.now) (shelf.leaves c.find_uber.new.shelf) (shelf.leaves c.give_back.new.shelf) (shelf.leaves c.give_uber-in-Err-find_blocks.new.self)
-          (shelf.counts c.args.shelf.now) (shelf.counts c.find_uber.new.shelf) (shelf.counts c.give_back.new.shelf) (shelf.counts c.give_uber-in-Err-find_blocks.new.self) (shelf.uber_count c.args.shelf.now) (shelf.uber_count c.give_uber-in-Err-find_blocks.new.self)
+          (refused_pool c.args.alloc rack area x pieces (shelf.told c.args.shelf.now) (shelf.told c.find_uber.new.shelf) (shelf.told c.give_back.new.shelf) (shelf.told c.give_areas-in-Err-find_blocks.new.shelf)
+          (shelf.leaves c.args.shelf.now) (shelf.leaves c.find_uber.new.shelf) (shelf.leaves c.give_back.new.shelf) (shelf.leaves c.give_areas-in-Err-find_blocks.new.shelf)
+          (shelf.counts c.args.shelf.now) (shelf.counts c.find_uber.new.shelf) (shelf.counts c.give_back.new.shelf) (shelf.counts c.give_areas-in-Err-find_blocks.new.shelf) (count_on shelf c.args.shelf.now) (count_on shelf c.give_areas-in-Err-find_blocks.new.shelf)
           uber there u.found u.recovered u.told c.find_uber.ensures.leaves c.find_uber.ensures.counts
           (leaves_all rack area (layout_of uber) (group_of (kept_of uber)) (next_leaf_of uber) shards (shelf.told c.find_uber.new.shelf) (shelf.told c.reopen_shards.new.shelf) (shelf.told c.give_back.new.shelf)
           (shelf.counts c.find_uber.new.shelf) (shelf.counts c.reopen_shards.new.shelf) (shelf.counts c.give_back.new.shelf) (shelf.leaves c.find_uber.new.shelf) (shelf.leaves c.reopen_shards.new.shelf) (shelf.leaves c.give_back.new.shelf)
           e.reopened e.over e.told e.left c.give_back.ensures.returns c.give_back.ensures.leaves)
-          (c.give_uber-in-Err-find_blocks.ensures.told ∙ ap (λ a. gives_uber (g.H.A.Area.told a) (shelf.told c.give_back.new.shelf)) c.into_area-in-Err-find_blocks.ensures) c.give_uber-in-Err-find_blocks.ensures.leaves c.give_uber-in-Err-find_blocks.ensures.counts
-          (c.give_uber-in-Err-find_blocks.ensures.count ∙ ap g.H.A.Area.faults c.into_area-in-Err-find_blocks.ensures)));
+          (c.give_areas-in-Err-find_blocks.ensures.told ∙ ap (λ a. gives_areas (told_by g.H.A.Area.told a) (shelf.told c.give_back.new.shelf)) c.into_areas-in-Err-find_blocks.ensures) c.give_areas-in-Err-find_blocks.ensures.leaves c.give_areas-in-Err-find_blocks.ensures.counts
+          (own_given g.H.A.Area.faults (areas_of uber) (shelf.uber_count c.give_areas-in-Err-find_blocks.new.shelf) (shelf.check_counts c.give_areas-in-Err-find_blocks.new.shelf) (c.give_areas-in-Err-find_blocks.ensures.uber ∙ ap (λ a. g.H.A.Area.faults a.uber) c.into_areas-in-Err-find_blocks.ensures) (c.give_areas-in-Err-find_blocks.ensures.checks ∙ ap (λ a. record { even = g.H.A.Area.faults a.even; odd = g.H.A.Area.faults a.odd }) c.into_areas-in-Err-find_blocks.ensures))));
       read = tt;
       empty = λ err. absurd (shard_not_empty c.in-Err-find_blocks.fault c.in-Err-find_blocks.ensures.fault err);
       back = (let rack = g.H.R.Rack in
           let area = g.H.A.Area in
           let shards = c.in-Ok.shards.items in
-          left_found rack area (shelf.told c.args.shelf.now) (shelf.told c.find_uber.new.shelf) (shelf.told c.give_back.new.shelf) (shelf.told c.give_uber-in-Err-find_blocks.new.self)
+          left_found rack area (shelf.told c.args.shelf.now) (shelf.told c.find_uber.new.shelf) (shelf.told c.give_back.new.shelf) (shelf.told c.give_areas-in-Err-find_blocks.new.shelf)
           (shelf.leaves c.find_uber.new.shelf) (shelf.leaves c.give_back.new.shelf)
-          (shelf.counts c.args.shelf.now) (shelf.counts c.find_uber.new.shelf) (shelf.counts c.give_back.new.shelf) (shelf.counts c.give_uber-in-Err-find_blocks.new.self) (shelf.uber_count c.args.shelf.now) (shelf.uber_count c.give_uber-in-Err-find_blocks.new.self)
+          (shelf.counts c.args.shelf.now) (shelf.counts c.find_uber.new.shelf) (shelf.counts c.give_back.new.shelf) (shelf.counts c.give_areas-in-Err-find_blocks.new.shelf) (count_on shelf c.args.shelf.now) (count_on shelf c.give_areas-in-Err-find_blocks.new.shelf)
           uber u.found u.recovered u.body u.told c.find_uber.ensures.counts
           (leaves_all rack area (layout_of uber) (group_of (kept_of uber)) (next_leaf_of uber) shards (shelf.told c.find_uber.new.shelf) (shelf.told c.reopen_shards.new.shelf) (shelf.told c.give_back.new.shelf)
           (shelf.counts c.find_uber.new.shelf) (shelf.counts c.reopen_shards.new.shelf) (shelf.counts c.give_back.new.shelf) (shelf.leaves c.find_uber.new.shelf) (shelf.leaves c.reopen_shards.new.shelf) (shelf.leaves c.give_back.new.shelf)
           e.reopened e.over e.told e.left c.give_back.ensures.returns c.give_back.ensures.leaves)
-          (c.give_uber-in-Err-find_blocks.ensures.told ∙ ap (λ a. gives_uber (g.H.A.Area.told a) (shelf.told c.give_back.new.shelf)) c.into_area-in-Err-find_blocks.ensures) c.give_uber-in-Err-find_blocks.ensures.counts
-          (c.give_uber-in-Err-find_blocks.ensures.count ∙ ap g.H.A.Area.faults c.into_area-in-Err-find_blocks.ensures));
+          (c.give_areas-in-Err-find_blocks.ensures.told ∙ ap (λ a. gives_areas (told_by g.H.A.Area.told a) (shelf.told c.give_back.new.shelf)) c.into_areas-in-Err-find_blocks.ensures) c.give_areas-in-Err-find_blocks.ensures.counts
+          (own_given g.H.A.Area.faults (areas_of uber) (shelf.uber_count c.give_areas-in-Err-find_blocks.new.shelf) (shelf.check_counts c.give_areas-in-Err-find_blocks.new.shelf) (c.give_areas-in-Err-find_blocks.ensures.uber ∙ ap (λ a. g.H.A.Area.faults a.uber) c.into_areas-in-Err-find_blocks.ensures) (c.give_areas-in-Err-find_blocks.ensures.checks ∙ ap (λ a. record { even = g.H.A.Area.faults a.even; odd = g.H.A.Area.faults a.odd }) c.into_areas-in-Err-find_blocks.ensures)));
       tells = tt;
       faulty = λ metaslab place kind err. inr (record {
         uber = uber;
@@ -194,16 +192,10 @@ returns-in-Err-find_blocks g c =
               (c.in-Err-find_blocks.ensures.faulty metaslab place kind (ap Err (err_is c.in-Err-find_blocks.fault _ err)));
         });
       });
-      held = checks_given (g.H.A.Area.told c.into_area-in-Err-find_blocks.result) (shelf.told c.args.shelf.now) (shelf.told c.give_back.new.shelf) (shelf.told c.give_uber-in-Err-find_blocks.new.self)
-          (checks_more (shelf.told c.args.shelf.now) (shelf.told c.reopen_shards.new.shelf) (shelf.told c.give_back.new.shelf)
-          (checks_more (shelf.told c.args.shelf.now) (shelf.told c.find_uber.new.shelf) (shelf.told c.reopen_shards.new.shelf) c.find_uber.ensures.held c.reopen_shards.ensures.held)
-          (checks_back g.H.R.Rack g.H.A.Area c.in-Ok.shards.items (shelf.told c.reopen_shards.new.shelf) (shelf.told c.give_back.new.shelf) (shelf.counts c.reopen_shards.new.shelf) (shelf.counts c.give_back.new.shelf) c.give_back.ensures.returns))
-          c.give_uber-in-Err-find_blocks.ensures.told;
-      checks = c.give_uber-in-Err-find_blocks.ensures.check_counts ∙ (c.give_back.ensures.checks ∙ (c.reopen_shards.ensures.checks ∙ c.find_uber.ensures.checks));
       later = (let first = c.find_uber.ensures.later in
           let more = c.reopen_shards.ensures.later in
           let back = c.give_back.ensures.faults in
-          let same = c.give_uber-in-Err-find_blocks.ensures.faults in
+          let same = c.give_areas-in-Err-find_blocks.ensures.faults in
           omega (arith, first, more, back, same));
       cause = λ failed. absurd (c.in-Err-find_blocks.ensures.no_device (refused_too c.in-Err-find_blocks.fault failed));
     }
@@ -216,19 +208,17 @@ returns-in_err-uber g c =
       made = λ geometry made. made_passed (Uber g.row.H-A.Denot) (Pool g.row.H-R.Denot g.row.H-A.Denot) geometry c.from_residual.result c.in_err-uber.field-0.0 _ _ _ _ _ c.from_residual.ensures.1 (c.in_err-uber.ensures.made geometry made);
       import = λ x pieces there. (let shelf = g.H.Shelf in
           let new = c.find_uber.new.shelf in
-          subst (λ (r : Result (Pool g.row.H-R.Denot g.row.H-A.Denot) ImportFault). ImportIs g.H.R.Rack g.H.A.Area x pieces (shelf.told new) (shelf.leaves new) (shelf.counts new) (shelf.uber_count new) r) (sym (passed_is c.from_residual.result c.in_err-uber.field-0.0 c.from_residual.ensures.1))
+          subst (λ (r : Result (Pool g.row.H-R.Denot g.row.H-A.Denot) ImportFault). ImportIs g.H.R.Rack g.H.A.Area x pieces (shelf.told new) (shelf.leaves new) (shelf.counts new) (count_on shelf new) r) (sym (passed_is c.from_residual.result c.in_err-uber.field-0.0 c.from_residual.ensures.1))
           (c.in_err-uber.ensures.import x pieces there));
       read = if_ok_passed _ c.from_residual.result _ c.from_residual.ensures.1;
       empty = λ err. c.in_err-uber.ensures.empty (passed c.from_residual.result c.in_err-uber.field-0.0 _ c.from_residual.ensures.1 err);
       back = (let shelf = g.H.Shelf in
-          on_err_always c.from_residual.result (LeavesAll g.H.A.Area (shelf.told c.args.shelf.now) (shelf.told c.find_uber.new.shelf) (shelf.counts c.args.shelf.now) (shelf.counts c.find_uber.new.shelf) (shelf.uber_count c.args.shelf.now) (shelf.uber_count c.find_uber.new.shelf))
-          (left_unfound g.H.A.Area (shelf.told c.args.shelf.now) (shelf.told c.find_uber.new.shelf) (shelf.counts c.args.shelf.now) (shelf.counts c.find_uber.new.shelf) (shelf.uber_count c.args.shelf.now) (shelf.uber_count c.find_uber.new.shelf)
+          on_err_always c.from_residual.result (LeavesAll g.H.A.Area (shelf.told c.args.shelf.now) (shelf.told c.find_uber.new.shelf) (shelf.counts c.args.shelf.now) (shelf.counts c.find_uber.new.shelf) (count_on shelf c.args.shelf.now) (count_on shelf c.find_uber.new.shelf))
+          (left_unfound g.H.A.Area (shelf.told c.args.shelf.now) (shelf.told c.find_uber.new.shelf) (shelf.counts c.args.shelf.now) (shelf.counts c.find_uber.new.shelf) (count_on shelf c.args.shelf.now) (count_on shelf c.find_uber.new.shelf)
           c.find_uber.ensures.counts c.in_err-uber.ensures.back));
       tells = on_ok_passed _ c.from_residual.result _ c.from_residual.ensures.1;
       faulty = λ metaslab place kind err. (let p = err_from_is_err_and c.from_residual.result c.from_residual.ensures.1 in
           inl (c.in_err-uber.ensures.faulty metaslab place kind (passed_on c.from_residual.result p.0 c.in_err-uber.field-0.0 _ p.1 p.2 err)));
-      held = c.find_uber.ensures.held;
-      checks = c.find_uber.ensures.checks;
       later = c.find_uber.ensures.later;
       cause = λ failed. inl (c.in_err-uber.ensures.cause (passed c.from_residual.result c.in_err-uber.field-0.0 _ c.from_residual.ensures.1 failed));
     }

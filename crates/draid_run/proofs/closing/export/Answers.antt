@@ -13,7 +13,7 @@ reply_to_export-requires-clause-whole g c κs within = is_whole g.H.R.Rack g.H.A
 pub returns-in-Ok-clause-answer : goal.returns-in-Ok-clause-answer
 returns-in-Ok-clause-answer g c entry x desk =
     exported g.H.R.Rack g.H.A.Area entry (on_shelf g.H.Shelf c.args.shelf.now) (on_shelf g.H.Shelf c.reply_to_export.new.shelf) c.args.pool.now c.in-Some.open c.in-Some.open (sym c.take.ensures.value ∙ c.in-Some.is)
-    c.in-Ok.reply c.in-Ok.ensures.fits c.in-Ok.ensures.step c.in-Ok.ensures.checks (g.met.H.Shelf.steady c.args.shelf.now c.reply_to_export.new.shelf) c.take.new.self c.take.ensures.after x desk
+    c.in-Ok.reply c.in-Ok.ensures.fits c.in-Ok.ensures.step (g.met.H.Shelf.steady c.args.shelf.now c.reply_to_export.new.shelf) c.take.new.self c.take.ensures.after x desk
 
 pub returns-in-Ok-reply-clause-answer : goal.returns-in-Ok-reply-clause-answer
 returns-in-Ok-reply-clause-answer g c entry x desk =

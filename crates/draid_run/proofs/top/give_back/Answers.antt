@@ -6,7 +6,7 @@ use Rattle.draid_run.proofs.top.give_back.Goals as goal
 
 pub returns-in-Some-clause-leaves : goal.returns-in-Some-clause-leaves
 returns-in-Some-clause-leaves g c entry =
-    leaves_open g.H.R.Rack g.H.A.Area entry (on_shelf g.H.Shelf c.args.shelf.now) (on_shelf g.H.Shelf c.close.new.shelf) c.args.pool c.in-Some.pool c.in-Some.is c.close.ensures.back c.close.ensures.checks (g.met.H.Shelf.steady c.args.shelf.now c.close.new.shelf) c.close.ensures.failed
+    leaves_open g.H.R.Rack g.H.A.Area entry (on_shelf g.H.Shelf c.args.shelf.now) (on_shelf g.H.Shelf c.close.new.shelf) c.args.pool c.in-Some.pool c.in-Some.is c.close.ensures.back (g.met.H.Shelf.steady c.args.shelf.now c.close.new.shelf) c.close.ensures.failed
     c.close.ensures.racks
 
 pub close-requires-clause-whole : goal.close-requires-clause-whole
