@@ -19,7 +19,7 @@ static KEPT: &str = "rebalance 0 blocks=1 repaired=0 errors=0 kept";
 static LATER: &str = "import\nsum 7 1\nrebalance 0\nsum 7 1\noffline 1\nsum 7 1\n";
 
 /// So many calls of the devices the session makes.
-const STOPS: u64 = 116;
+const STOPS: u64 = 132;
 
 /// Whether a reply names the group that has the blocks.
 fn has_group(printed: &[u8]) -> bool {

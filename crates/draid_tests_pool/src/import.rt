@@ -34,7 +34,7 @@ static GROUPS: [Groups; 3] = [
             "import draid1:2d:3c:0s-0 group=2 objects=1\nread 7 1 aa\n",
             "import draid1:2d:3c:0s-0 group=3 objects=1\nread 7 1 bb\n",
         ],
-        calls: 50,
+        calls: 58,
     },
     // An arm that was detached is there, or is gone, and no bytes with it.
     Groups {
@@ -46,7 +46,7 @@ static GROUPS: [Groups; 3] = [
             "import draid1:2d:4c:1s-0 group=2 objects=1\nread 7 1 aa\nspare 0 refused 2 by=0\n",
             "import draid1:2d:4c:1s-0 group=3 objects=1\nread 7 1 aa\nspare 0 draid1-0-0 ok\n",
         ],
-        calls: 60,
+        calls: 68,
     },
     // A pool has version 2 with the group of its upgrade, and not before.
     Groups {
@@ -57,7 +57,7 @@ static GROUPS: [Groups; 3] = [
             "import draid1:2d:3c:0s-0 group=1 objects=0\nread 7 no object\nupgrade version=2 group=2\n",
             "import draid1:2d:3c:0s-0 group=2 objects=1\nread 7 1 aa\nupgrade already\n",
         ],
-        calls: 40,
+        calls: 44,
     },
 ];
 

@@ -17,6 +17,8 @@ static CREATE: &str = "create draid1:2d:3c:0s 3 sector=512 height=8 metaslabs=1 
 enum PoolArea {
     Even,
     Odd,
+    CheckEven,
+    CheckOdd,
     Uber,
 }
 
@@ -61,6 +63,8 @@ fn fail_area(
     match area {
         PoolArea::Even => shelf.fail(Place::Even(0), calls),
         PoolArea::Odd => shelf.fail(Place::Odd(0), calls),
+        PoolArea::CheckEven => shelf.fail(Place::CheckEven, calls),
+        PoolArea::CheckOdd => shelf.fail(Place::CheckOdd, calls),
         PoolArea::Uber => shelf.fail(Place::Uber, calls),
     }
     Ok(())
@@ -227,7 +231,8 @@ static FAILING: [(&str, Failing, Status, &str); 21] = [
         Status::Done,
         "create draid1:2d:3c:0s-0 stripes=32\noffline 0 ok\nwrite 7 missed columns=2\nread 7 no object\nwrite 7 ok\nread 7 1 bb\n",
     ),
-    // Devices are made, and then the area of the uberblock and the devices of the one metaslab are taken.
+    // Devices are made, and then the area of the uberblock, those of the check records and the devices of the one metaslab
+    // are taken.
     (
         "",
         Failing {
@@ -261,19 +266,19 @@ static FAILING: [(&str, Failing, Status, &str); 21] = [
             shelf: &[3],
             ..NONE
         },
+        Status::ShelfFault,
+        "shelf fault\n",
+    ),
+    (
+        "",
+        Failing {
+            shelf: &[4],
+            ..NONE
+        },
         Status::Done,
         "create draid1:2d:3c:0s-0 stripes=32\n",
     ),
-    // Behind these an import takes the area of the uberblock and the devices of the metaslab.
-    (
-        BACK,
-        Failing {
-            shelf: &[3],
-            ..NONE
-        },
-        Status::ShelfFault,
-        FAILED,
-    ),
+    // Behind these an import takes the same.
     (
         BACK,
         Failing {
@@ -287,6 +292,24 @@ static FAILING: [(&str, Failing, Status, &str); 21] = [
         BACK,
         Failing {
             shelf: &[5],
+            ..NONE
+        },
+        Status::ShelfFault,
+        FAILED,
+    ),
+    (
+        BACK,
+        Failing {
+            shelf: &[6],
+            ..NONE
+        },
+        Status::ShelfFault,
+        FAILED,
+    ),
+    (
+        BACK,
+        Failing {
+            shelf: &[7],
             ..NONE
         },
         Status::Done,
@@ -343,7 +366,7 @@ static RESTARTS: [Restart; 2] = [
         found: "import draid1:2d:3c:0s-0 group=1 objects=0\npool draid1:2d:3c:0s-0 group=1 open=2 objects=0\nslot 0 leaf 0 online logged=0\nslot 1 leaf 1 online logged=0\nslot 2 leaf 2 online logged=0\nmetaslab 0 free=8 blocks=0 none\nmetaslab 1 free=8 blocks=0 none\nmetaslab 2 free=8 blocks=0 none\nend\nreplace 0 leaf=3 ok\ndetach 3 ok group=2\n",
     },
     Restart {
-        shelf: &[7],
+        shelf: &[9],
         rack: &[],
         session: "create draid1:2d:3c:0s 3 sector=512 height=8 metaslabs=3 slices=1\nreplace 0\nwrite 7 aa\ndetach 3\nexport\nimport\n",
         printed: "create draid1:2d:3c:0s-0 stripes=24\nreplace 0 leaf=3 ok\nwrite 7 ok\ndetach 3 ok group=2\nexport group=2\nshelf fault\n",
@@ -376,13 +399,16 @@ fn a_later_session_goes_on(rt: HostRuntime) {
     }
 }
 
-/// How often areas are called by a create and two syncs. A record is written and flushed. A commit of the uberblock flushes
-/// the area and reads the gate of its slot, then writes and flushes the body and the gate; before these it shuts the gate
-/// that stands open since the group before the last.
-static AREA_CALLS: [(PoolArea, u64); 3] = [
+/// How often areas are called by a create and two syncs. A record is written and flushed, a check record by a sync alone. A
+/// commit of the uberblock flushes the area and reads the gate of its slot, then writes and flushes the body and the gate;
+/// before these it shuts the gate that stands open since the group before the last. A sync flushes the area, reads the gate
+/// and shuts it already before it writes the check record.
+static AREA_CALLS: [(PoolArea, u64); 5] = [
     (PoolArea::Odd, 4),
     (PoolArea::Even, 2),
-    (PoolArea::Uber, 20),
+    (PoolArea::CheckOdd, 2),
+    (PoolArea::CheckEven, 2),
+    (PoolArea::Uber, 24),
 ];
 
 /// Whether the shelf is at fault at the end of a run; none where there is no memory for it.
