@@ -41,7 +41,7 @@ making_failed geometry before now failed = elim failed [
   | inl rose ↦ inl rose
   | inr new ↦ elim new.failed [
     | inl records ↦ inr (inl (records.0, records.2))
-    | inr uber ↦ inr (inr uber)
+    | inr uber ↦ inr (inr (omega (arith, uber)))
   ]
 ]
 
