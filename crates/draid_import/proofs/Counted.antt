@@ -1,9 +1,9 @@
 -- How often calls on a pool's own areas have failed, as an import takes these and gives them back.
-use Rattle.std.proofs.Common.{arith, ◌≡◌, ◌≤◌, ◌∙◌, ℕ, Option, ap, sym}
+use Rattle.std.proofs.Common.{arith, ◌≡◌, ◌≤◌, ◌∙◌, ℕ, Option, ap}
 use Rattle.draid_area.specs.Area.{Content}
 use Rattle.draid_names.specs.Faults.{Rose}
 use Rattle.draid_shelf.specs.Kits.{CheckCounts}
-use Rattle.draid_uber.specs.Checks.{AreasTold, count_in, told_by}
+use Rattle.draid_uber.specs.Checks.{count_in, told_by}
 use Rattle.draid_uber.specs.declared.areas.Areas.{Areas}
 use Rattle.draid_pool.specs.Returning.{own_count}
 

@@ -1,10 +1,10 @@
 -- What an import finds of a pool in which no checkpoint was made.
-use Rattle.std.proofs.Common.{◌≡◌, ◌+◌, ◌∙◌, ◌++◌, ℕ, List, [], ◌∷◌, Option, Some, None, refl, sym, ap}
+use Rattle.std.proofs.Common.{◌≡◌, ◌∙◌, ◌++◌, ℕ, List, [], ◌∷◌, None, refl, ap}
 use Rattle.std.specs.Prelude.{All, option_map}
 use Rattle.std.proofs.lemmas.List.Elements.{All-head, All-tail}
 use Rattle.draid_machine.specs.declared.names.Held.{Held}
 use Rattle.draid_machine.specs.declared.names.Key.{Key}
-use Rattle.draid_objects.specs.Marks.{Check, Dropped, GivenUp, Made, Mark, check_by, drops_in, marks_upto}
+use Rattle.draid_objects.specs.Marks.{Dropped, GivenUp, Made, Mark, check_by, drops_in, marks_upto}
 use Rattle.draid_session.specs.Opening.{DropsOlder, Finds, IsPointed}
 use Rattle.draid_session.specs.State.{State}
 use Rattle.draid_pool.proofs.Unmarked.{no_check}

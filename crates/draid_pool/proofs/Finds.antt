@@ -14,9 +14,9 @@ use Rattle.draid_entries.specs.Entries.{held_in}
 use Rattle.draid_segments.specs.Segments.{Pieces}
 use Rattle.draid_objects.specs.Changes.{Write}
 use Rattle.draid_shard.specs.Part.{Part, layout_in}
-use Rattle.draid_session.specs.Follows.{MetaslabActs, CountsRise}
+use Rattle.draid_session.specs.Follows.{MetaslabActs}
 use Rattle.draid_session.specs.Holds.{Looked}
-use Rattle.draid_session.specs.State.{Counts, Metaslab, State}
+use Rattle.draid_session.specs.State.{Metaslab, State}
 use Rattle.draid_pool.specs.Bytes.{SamePieces}
 use Rattle.draid_pool.specs.Metaslabs.{IsMetaslab}
 use Rattle.draid_pool.proofs.Lists.{some_of}

@@ -69,7 +69,7 @@ module _ {A : Type 0} (area : areas.Ghosts A) (old new : Uber A) (group : ℕ) (
       let may = next_of old group ∷ is.stands.pending in
       let left = n.stands is.stands.pending stood_before in
       let all = All-cons (IsPending after) (next_of old group) is.stands.pending (refl, next_is ∙ ap (λ g. body_of x.geometry x.next_version g x.next_leaf) behind)
-          (All-weaker (IsPending x) (IsPending after) (λ body pending. (refl, pending.1)) is.stands.pending is.stands.are) in
+      (All-weaker (IsPending x) (IsPending after) (λ body pending. (refl, pending.1)) is.stands.pending is.stands.are) in
       record {
         valid = n.valid;
         layout = n.layout ∙ is.layout;

@@ -1,10 +1,10 @@
 -- What a crash leaves of the check records as a group is committed.
-use Rattle.std.proofs.Common.{arith, ◌≡◌, ◌≤◌, ◌<◌, ◌==◌, ◌+◌, ◌%◌, ◌^◌, ℕ, Bool, true, false, List, [], ◌∷◌, ◌++◌, Option, Some, None, Result, Ok, OnOk, drop, length, option_map, refl, sym, ◌∙◌, ap, subst, if◌then◌else◌}
+use Rattle.std.proofs.Common.{arith, ◌≡◌, ◌≤◌, ◌<◌, ◌==◌, ◌+◌, ◌%◌, ◌^◌, ℕ, Bool, true, false, List, [], ◌∷◌, ◌++◌, Option, Some, None, Ok, drop, length, option_map, refl, sym, ◌∙◌, ap, subst, if◌then◌else◌}
 use Rattle.std.specs.Prelude.{⊤, All, Contains, MatchOption}
 use Rattle.std.proofs.lemmas.Bool.Decides.{nat_tests}
 use Rattle.std.proofs.lemmas.List.Elements.{All-cons, All-contains_itself, All-nil, All-weaker, Contains-append_right}
-use Rattle.draid_area.specs.Area.{Content, MayLeave, OnTold, flushes, writes}
-use Rattle.draid_area.specs.Moments.{CrashesTold, IsCrashOutcome}
+use Rattle.draid_area.specs.Area.{Content, OnTold, flushes, writes}
+use Rattle.draid_area.specs.Moments.{CrashesTold}
 use Rattle.draid_area.proofs.Moments.{crash_left, leaves_all}
 use Rattle.draid_record.specs.Checks.{check_bytes, check_of}
 use Rattle.draid_record.specs.declared.checks.Dropped.{Dropped}

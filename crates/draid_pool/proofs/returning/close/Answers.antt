@@ -21,7 +21,7 @@ returns-then-crash g c =
     let shards = c.args.pool.metaslabs.shards.items in
     let given = c.give_areas.ensures.told ∙ ap (λ a. gives_areas (told_by area.told a) (shelf.told c.give_back.new.shelf)) c.into_areas.ensures in
     let own = own_given area.faults areas (shelf.uber_count c.crash.new.self) (shelf.check_counts c.crash.new.self)
-        (c.crash.ensures.uber_count ∙ c.give_areas.ensures.uber ∙ ap (λ a. area.faults a.uber) c.into_areas.ensures) (c.crash.ensures.check_counts ∙ c.give_areas.ensures.checks ∙ ap (λ a. record { even = area.faults a.even; odd = area.faults a.odd }) c.into_areas.ensures) in
+    (c.crash.ensures.uber_count ∙ c.give_areas.ensures.uber ∙ ap (λ a. area.faults a.uber) c.into_areas.ensures) (c.crash.ensures.check_counts ∙ c.give_areas.ensures.checks ∙ ap (λ a. record { even = area.faults a.even; odd = area.faults a.odd }) c.into_areas.ensures) in
     record {
       back = λ x represents. (let table : ℕ → Option Pointer = λ object. get nat_eq c.args.pool.own.objects object in
           let s = represents.stands in
@@ -56,7 +56,7 @@ returns g c =
     let shards = c.args.pool.metaslabs.shards.items in
     let given = c.give_areas.ensures.told ∙ ap (λ a. gives_areas (told_by area.told a) (shelf.told c.give_back.new.shelf)) c.into_areas.ensures in
     let own = own_given area.faults areas (shelf.uber_count c.give_areas.new.shelf) (shelf.check_counts c.give_areas.new.shelf)
-        (c.give_areas.ensures.uber ∙ ap (λ a. area.faults a.uber) c.into_areas.ensures) (c.give_areas.ensures.checks ∙ ap (λ a. record { even = area.faults a.even; odd = area.faults a.odd }) c.into_areas.ensures) in
+    (c.give_areas.ensures.uber ∙ ap (λ a. area.faults a.uber) c.into_areas.ensures) (c.give_areas.ensures.checks ∙ ap (λ a. record { even = area.faults a.even; odd = area.faults a.odd }) c.into_areas.ensures) in
     record {
       back = λ x represents. (let table : ℕ → Option Pointer = λ object. get nat_eq c.args.pool.own.objects object in
           let s = represents.stands in

@@ -1,4 +1,4 @@
-use Rattle.std.proofs.Common.{◌∙◌, Ok, ap, refl, subst, sym}
+use Rattle.std.proofs.Common.{◌∙◌, Ok, ap, subst, sym}
 use Rattle.std.specs.Fn.{FnReturnsAt}
 use Rattle.draid_session.specs.Choices.{choices_by}
 use Rattle.draid_session.specs.Said.{alone}

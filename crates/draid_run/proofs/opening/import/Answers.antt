@@ -1,4 +1,4 @@
-use Rattle.std.proofs.Common.{◌∙◌, Err, ap, subst, sym}
+use Rattle.std.proofs.Common.{◌∙◌, Err, subst, sym}
 use Rattle.draid_pool.specs.Shelves.{on_shelf}
 use Rattle.draid_run.specs.Importing.{ImportIs}
 use Rattle.draid_run.proofs.Exits.{same_later}

@@ -1,5 +1,5 @@
 use Rattle.std.proofs.Common.{arith, ◌∙◌}
-use Rattle.draid_uber.proofs.Recorded.{on_even, on_odd, other_even, other_odd, told_stands, without_drops}
+use Rattle.draid_uber.proofs.Recorded.{on_even, on_odd, told_stands, without_drops}
 use Rattle.draid_uber.proofs.Ends.{ok_map}
 use Rattle.draid_uber.proofs.checks.put_check.Goals as goal
 
