@@ -189,7 +189,7 @@ module _ {R A S : Type 0} (rack : racks.Ghosts R) (area : areas.Ghosts A) (last 
   abbrev pub HasBoth : S → Uber A → Uber A → Type 0
   HasBoth b u v = HasArms b × SameLayout u v
 
-  commit_arms : (group : ℕ) (a b : S) (u v : Uber A) (out : Option (Result ℕ SyncFault)) → CommitsIn rack area last went shared owns group count a u out b v → HasArms a → HasBoth b u v
+  pub commit_arms : (group : ℕ) (a b : S) (u v : Uber A) (out : Option (Result ℕ SyncFault)) → CommitsIn rack area last went shared owns group count a u out b v → HasArms a → HasBoth b u v
   commit_arms group a b u v (Some (Ok thin)) (mid, late, closes, seals, names, commits) g =
       (commits_arms group 0 late b commits (seals_arms group mid late (Some (Ok thin)) seals (closes_arms group a mid (Ok tt) closes g)), layout_named area group u v (Ok tt) names)
   commit_arms group a b u v (Some (Err why)) (inl (closes, same)) g = (closes_arms group a b (Err why) closes g, layout_still u v same)

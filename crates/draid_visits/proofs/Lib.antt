@@ -15,7 +15,9 @@ pub mod Lending
 pub mod Lifting
 pub mod LookHolds
 pub mod Marking
+pub mod MendFails
 pub mod MendHolds
+pub mod MendKeeps
 pub mod Needed
 pub mod Over
 pub mod OwnedBegin
@@ -30,6 +32,7 @@ pub mod PassesStay
 pub mod Readied
 pub mod ReadyHolds
 pub mod Rebuilt
+pub mod ScrubEnds
 pub mod Scrubbed
 pub mod SharedWhole
 pub mod Sourced

@@ -25,7 +25,7 @@ use Rattle.draid_works.specs.declared.switching.SwitchWork.{SwitchWork}
 
 module _ {R A : Type 0} where
   -- passes that gave the groups up have seen as much
-  last_parted : (locks : List (Lock (Cell R A))) (old new groups : List (Caller (Past (Cell R A)))) → EachParts locks old new groups → (m : ℕ) (shard : Shard R A) → last_in locks old m ≡ Some shard → last_in locks new m ≡ Some shard
+  pub last_parted : (locks : List (Lock (Cell R A))) (old new groups : List (Caller (Past (Cell R A)))) → EachParts locks old new groups → (m : ℕ) (shard : Shard R A) → last_in locks old m ≡ Some shard → last_in locks new m ≡ Some shard
   last_parted locks old new groups parts m shard at = by (slice_get locks m) refl (slice_get old m) refl
     where
       by : (o : Option (Lock (Cell R A))) → slice_get locks m ≡ o → (p : Option (Caller (Past (Cell R A)))) → slice_get old m ≡ p → last_in locks new m ≡ Some shard

@@ -1,3 +1,5 @@
+pub mod Failing
 pub mod Lanes
+pub mod Mended
 pub mod Switched
 pub mod Waiting

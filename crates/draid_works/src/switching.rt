@@ -1,5 +1,6 @@
 //! A leaf that goes offline or comes back in a lane: it holds the uberblock throughout, and the metaslabs one after another.
-ghost use Rattle.std.specs.Prelude.{◌≡◌, ◌≤◌, ◌<◌, ◌+◌, length, true};
+ghost use Rattle.std.specs.Prelude.{◌≡◌, ◌≤◌, ◌<◌, ◌+◌, IsErrOf, length, true};
+ghost use Rattle.draid_session.specs.State.{State};
 ghost use Rattle.draid_uber.specs.Slots.{group_of};
 ghost use Rattle.draid_uber.specs.Uber as ubers;
 ghost use Rattle.draid_pool.specs.Drifts.{groups_number};
@@ -10,6 +11,8 @@ ghost use Rattle.draid_lanes.specs.Governing.{KeepsLane, KeepsLayout, lane_last}
 ghost use Rattle.draid_lanes.specs.Lanes.{IsSameLane, IsWholeLane};
 ghost use Rattle.draid_lanes.specs.Locks.{owned_by};
 ghost use Rattle.draid_lanes.specs.Ubers.{IsLane, IsUberOf};
+ghost use Rattle.draid_works.specs.Failing.{AreaFailedIn};
+ghost use Rattle.draid_works.specs.Lanes.{LaneKnows, LaneKnowsLater};
 ghost use Rattle.draid_works.specs.Switched.{SwitchedIn, SwitchesThrough};
 
 use draid_area::Area;
@@ -135,6 +138,8 @@ pub fn switch_in_lane<'a, 'b, R: Rack, A: Area, G: Gate, W: Wait>(
     ensures whole { IsWholeLane R.Rack A.Area result.0 }
     ensures same { IsSameLane lane.entry result.0 }
     ensures own { result.0.own ≡ lane.entry.own }
+    ensures knows { (x : State) → LaneKnows R.Rack A.Area lane.entry x → LaneKnowsLater R.Rack A.Area result.0 x }
+    ensures cause { IsErrOf result.1 ArmFault.Shelf → AreaFailedIn R.Rack A.Area lane.entry.uber.now lane.entry.metaslabs result.0.metaslabs lane.entry.pass result.0.pass }
     ensures leaf { LeafIsIn lane.entry.geometry.props.metaslabs leaf offline result.1 (lane_last result.0.metaslabs) }
     ensures switches { SwitchedIn R.Rack A.Area leaf offline lane.entry.uber.now lane.entry.metaslabs result.0.metaslabs result.1 lane.entry.pass result.0.pass }
 {

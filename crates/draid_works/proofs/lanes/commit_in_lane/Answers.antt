@@ -2,6 +2,9 @@ use Rattle.std.proofs.Common.{◌∙◌, ℕ, Bool, ap, sym, subst, length}
 use Rattle.draid_pool.specs.Threads.{IsWholeBy}
 use Rattle.draid_lanes.specs.Governing.{lane_last}
 use Rattle.draid_lanes.specs.Lanes.{table_of}
+use Rattle.draid_works.specs.Lanes.{KnowsLater}
+use Rattle.draid_works.proofs.SyncStays.{synced_knows}
+use Rattle.draid_works.proofs.SyncFails.{lane_sync_fails}
 use Rattle.draid_works.proofs.lanes.commit_in_lane.Goals as goal
 
 pub returns-clause-whole : goal.returns-clause-whole
@@ -18,3 +21,17 @@ returns-clause-whole g c =
       layout = e.layout lane.geometry is.layout;
       whole = subst (λ (f : ℕ → Bool). IsWholeBy g.R.Rack f (lane_last c.sync_in_lane-metaslabs.result.0) (table_of lane) lane.own.seq lane.own.floor) (sym e.owns) (e.whole (table_of lane) lane.own.seq lane.own.floor is.whole);
     }
+
+pub returns-clause-knows : goal.returns-clause-knows
+returns-clause-knows g c x knows =
+    let is = c.requires.whole in
+    let lane = c.args.lane in
+    let did = c.sync_in_lane-metaslabs in
+    subst (λ (f : ℕ → Bool). KnowsLater g.R.Rack g.A.Area f (lane_last did.result.0) (table_of lane) lane.own.seq lane.own.floor x) (sym did.ensures.owns)
+    (synced_knows g.R.Rack g.A.Area lane.uber.now lane.metaslabs did.result.0 did.result.1 lane.pass did.new.pass is.lane_is is.same is.first did.ensures.syncs did.ensures.turns (table_of lane) lane.own.seq lane.own.floor x knows)
+
+pub returns-clause-cause : goal.returns-clause-cause
+returns-clause-cause g c is =
+    let lane = c.args.lane in
+    let did = c.sync_in_lane-metaslabs in
+    lane_sync_fails g.R.Rack g.A.Area lane.uber.now lane.metaslabs did.result.0 did.result.1 lane.pass did.new.pass did.ensures.syncs is

@@ -1,0 +1,92 @@
+-- Where a rebuild or a scrub in a lane says that an area failed, one did in its turn of the uberblock.
+use Rattle.std.proofs.Common.{◌≡◌, ◌≤◌, inl, inr, ℕ, Bool, true, Option, Some, None, Ok, Err, arith, refl}
+use Rattle.std.specs.Prelude.{Result}
+use Rattle.draid_names.specs.declared.pass_kind.PassKind.{PassKind}
+use Rattle.draid_names.specs.declared.pass_kind.PassKind.TheVariants.{Heal, Rebuild}
+use Rattle.draid_rack.specs.declared.Rack as racks
+use Rattle.draid_area.specs.declared.Area as areas
+use Rattle.draid_shard.specs.declared.shard.Shard.{Shard}
+use Rattle.draid_spec.specs.declared.layout.Geometry.{Geometry}
+use Rattle.draid_turn.specs.Calls.{Caller, Lock}
+use Rattle.draid_turn.specs.declared.past.Past.{Past}
+use Rattle.draid_uber.specs.declared.uber.Uber.{Uber}
+use Rattle.draid_pool.specs.Grouping.{SyncsIn}
+use Rattle.draid_pool.specs.Rounds.{HeldOnce}
+use Rattle.draid_pool.specs.declared.fault.SyncFault.{SyncFault}
+use Rattle.draid_pool.specs.declared.fault.Synced.{Synced}
+use Rattle.draid_visits.specs.declared.mending.Mending.{Mending}
+use Rattle.draid_visits.specs.declared.rebuilding.MendFault.{MendFault}
+use Rattle.draid_visits.specs.declared.rebuilding.MendFault.TheVariants as fault
+use Rattle.draid_visits.specs.declared.rebuilding.Mended.{Mended}
+use Rattle.draid_visits.proofs.MendFails.{mends_fail}
+use Rattle.draid_visits.proofs.MendKeeps.{Leaves}
+use Rattle.draid_lanes.specs.Governing.{lane_last}
+use Rattle.draid_lanes.specs.Locks.{owned_by}
+use Rattle.draid_lanes.specs.Waits.{LaneWent}
+use Rattle.draid_lanes.specs.declared.locked.Locked.{Locked}
+use Rattle.draid_lanes.specs.declared.uber.UberCell.{UberCell}
+use Rattle.draid_works.specs.Failing.{AreaFailedIn, AreaFails}
+use Rattle.draid_works.specs.Mended.{BeginsMend, MendedIn, MendsRest, MendsThrough}
+use Rattle.draid_works.proofs.LaneStays.{lane_later}
+use Rattle.draid_works.proofs.MendSteps.{begins, mends_on}
+use Rattle.draid_works.proofs.SyncFails.{Reach, count_of, fails_behind, fails_in, reach_then, still_later, sync_fails, sync_later, sync_reach}
+
+module _ {R A S : Type 0} (rack : racks.Ghosts R) (area : areas.Ghosts A) (last : S → ℕ → Option (Shard R A)) (went : S → ℕ → Shard R A → Shard R A → S → Type 0) (shared : Bool) (mine : ℕ → Bool)
+    (later : (a : S) (m : ℕ) (x y : Shard R A) (b : S) → went a m x y b → x.committed ≤ y.committed) (geometry : Geometry) where
+  -- holds led there, and the count of the uberblock's area didn't fall
+  abbrev Leads : S → Uber A → S → Uber A → Type 0
+  Leads a u b v = Reach rack area last went shared mine later a b × (count_of area u ≤ count_of area v)
+
+  leads_same : (a : S) (u : Uber A) → Leads a u a u
+  leads_same a u = ((0, refl), still_later area u u refl)
+
+  leads_then : (a b c : S) (u v w : Uber A) → Leads a u b v → Leads b v c w → Leads a u c w
+  leads_then a b c u v w first second =
+      let up = first.1 in
+      let more = second.1 in
+      (reach_then rack area last went shared mine later a b c first.0 second.0, omega (arith, up, more))
+
+  hold_leads : (does : Shard R A → Shard R A → Type 0) (a : S) (m : ℕ) (b : S) (u : Uber A) (h : HeldOnce rack area last went shared mine does a m b) → Leaves rack area h.before h.after → Leads a u b u
+  hold_leads does a m b u h leaves = ((1, (a, m, h.before, h.after, refl, h.goes)), still_later area u u refl)
+
+  sync_leads : (a b : S) (u v : Uber A) (out : Option (Result Synced SyncFault)) → SyncsIn rack area last went shared mine geometry.props.metaslabs a u out b v → Leads a u b v
+  sync_leads a b u v out syncs = (sync_reach rack area last went shared mine later geometry.props.metaslabs a b u v out syncs, sync_later rack area last went shared mine later geometry.props.metaslabs a b u v out syncs)
+
+  -- it doesn't begin so
+  begun_not : (kind : PassKind) (limit : Option ℕ) (why : MendFault) (a b : S) → why ≡ fault.Shelf → BeginsMend rack area last went shared mine geometry kind limit a (Err why) b → ⊥
+  begun_not Rebuild limit fault.Shelf a b is it = it
+  begun_not Rebuild limit fault.Nothing a b is it = absurd (cc)
+  begun_not Rebuild limit (fault.PassThere metaslab number) a b is it = absurd (cc)
+  begun_not Rebuild limit fault.Worn a b is it = it
+  begun_not Rebuild limit fault.Last a b is it = it
+  begun_not Rebuild limit fault.NoMemory a b is it = it
+  begun_not Heal limit fault.Shelf a b is it = it
+  begun_not Heal limit fault.Nothing a b is it = it
+  begun_not Heal limit (fault.PassThere metaslab number) a b is it = absurd (cc)
+  begun_not Heal limit fault.Worn a b is it = it
+  begun_not Heal limit fault.Last a b is it = it
+  begun_not Heal limit fault.NoMemory a b is it = it
+
+  rest_fails : (old : Mending) (result : Result Mended MendFault) (a b : S) (u v : Uber A) → result ≡ Err fault.Shelf → MendsRest rack area last went shared mine geometry a u old result b v → AreaFails area went a u b v
+  rest_fails old result a b u v is t =
+      let on = mends_on rack area last went shared mine geometry Leads leads_same leads_then hold_leads sync_leads t.waits old t.now a t.mid u t.w t.front in
+      let f = mends_fail rack area last went shared mine geometry Leads leads_same leads_then hold_leads sync_leads t.now t.new result t.mid b t.w v is t.mends in
+      let to = leads_then a t.mid f.mid u t.w f.uber on f.front in
+      fails_behind rack area last went shared mine later a f.mid b u f.uber v to.0 to.1 (sync_fails rack area last went shared mine later geometry.props.metaslabs f.mid b f.uber v f.syncs)
+
+  pub mended_fails : (kind : PassKind) (limit : Option ℕ) (result : Result Mended MendFault) (a b : S) (u v : Uber A) → result ≡ Err fault.Shelf → MendsThrough rack area last went shared mine geometry kind limit a u result b v → AreaFails area went a u b v
+  mended_fails kind limit result a b u v is (inl (it, mid, starts, rest)) =
+      let to = begins rack area last went shared mine geometry Leads leads_same leads_then hold_leads sync_leads kind limit (Ok it) a mid u starts in
+      fails_behind rack area last went shared mine later a mid b u u v to.0 to.1 (rest_fails it result mid b u v is rest)
+  mended_fails kind limit result a b u v is (inr (why, same, starts, at)) = absurd (begun_not kind limit why a b (why_is why same) starts)
+    where
+      why_is : (e : MendFault) → result ≡ Err e → e ≡ fault.Shelf
+      why_is e one = cc
+
+-- ---- a lane's
+
+pub lane_mend_fails : {R A G W : Type 0} (rack : racks.Ghosts R) (area : areas.Ghosts A) (geometry : Geometry) (kind : PassKind) (limit : Option ℕ) (lock : Lock (UberCell R A)) (old new : Locked R A G W) (result : Result Mended MendFault) (pass next : Caller (Past (UberCell R A)))
+    → MendedIn rack area geometry kind limit lock old new result pass next → result ≡ Err fault.Shelf → AreaFailedIn rack area lock old new pass next
+lane_mend_fails rack area geometry kind limit lock old new result pass next did is =
+    fails_in rack area _ lock old new None (Some result) pass next did
+    (mended_fails rack area lane_last (LaneWent rack area) true (owned_by did.related.met.passes.items) (lane_later rack area) geometry kind limit result did.related.met did.related.after did.value.uber did.left.uber is did.related.related.0)
