@@ -25,6 +25,7 @@ pub mod Replaced
 pub mod Reserved
 pub mod SameArms
 pub mod Spared
+pub mod Spares
 pub mod Staying
 pub mod Switched
 pub mod Upgraded
