@@ -8,6 +8,7 @@ pub mod Calls
 pub mod Coming
 pub mod Events
 pub mod Forbids
+pub mod Frees
 pub mod Gone
 pub mod HasThem
 pub mod LeafHolds

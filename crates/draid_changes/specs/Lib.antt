@@ -4,6 +4,7 @@ pub mod Balancing
 pub mod Behind
 pub mod DetachSays
 pub mod Detaching
+pub mod Dues
 pub mod Giving
 pub mod Making
 pub mod Says

@@ -7,6 +7,7 @@ mod attaching;
 mod balancing;
 mod detach_reply;
 mod detaching;
+mod dues;
 mod fault;
 mod giving;
 mod holding;

@@ -8,6 +8,7 @@ use Rattle.draid_changes.specs.Attaching.{Attaches, MayCome}
 use Rattle.draid_changes.specs.Walks.{ChangedBelow}
 use Rattle.draid_changes.proofs.Events.{areas_changed}
 use Rattle.draid_changes.proofs.Spares.{given_arms, given_done, given_idle, given_left, given_whole, ready_come}
+use Rattle.draid_changes.proofs.Whole.{SameOwn}
 use Rattle.draid_changes.proofs.giving.give_spare.Goals as goal
 
 -- a spare's number in the words of an arm
@@ -28,7 +29,7 @@ returns g c =
     let old = c.args.pool.now in
     let new : Pool g.row.R.Denot g.row.A.Denot = record old { metaslabs = record { shards = c.attach_all.new.shards } } in
     let changes = called g.R.Rack old.metaslabs.shards.items new.metaslabs.shards.items c.args.slot c.args.spare c.from.result c.from.ensures c.attach_all.ensures.attaches in
-    let set = record { geometry = refl; uber = refl; objects = refl; seq = refl; floor = refl } in
+    let set : SameOwn old new = record { geometry = refl; uber = refl; objects = refl; seq = refl; floor = refl } in
     record {
       whole = given_whole g.R.Rack g.A.Area c.args.slot c.args.spare old new changes set c.requires.whole;
       same = same_pointers old new refl;
