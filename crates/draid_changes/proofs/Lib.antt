@@ -25,6 +25,7 @@ pub mod Raised
 pub mod Replaced
 pub mod Reserved
 pub mod SameArms
+pub mod Shown
 pub mod Spared
 pub mod Spares
 pub mod Staying

@@ -1,17 +1,24 @@
 //! Which slots of a pool are due for a spare, and which spares are free.
 ghost use Rattle.std.specs.Prelude.{◌≡◌, ◌<◌, ◌≤◌, [], filter, length, IfOk, not, ◌==◌, ℕ};
-ghost use Rattle.draid_slots.specs.Table.{IsTable};
+ghost use Rattle.draid_slots.specs.Table.{IsTable, is_leaf_kind};
 ghost use Rattle.draid_disks.specs.Checks.{AreAlike};
 ghost use Rattle.draid_changes.specs.Dues.{AreFree, IsIdleIn, due_in, shown_from, shown_of};
 
 use draid_agent::{Due, SlotState, due};
 use draid_area::Area;
 use draid_disks::missed_over;
-use draid_names::{ArmAt, ArmKind, NoMemory};
+use draid_names::{Arm, ArmAt, ArmKind, NoMemory};
 use draid_rack::Rack;
 use draid_shard::Shard;
 use draid_slots::Slots;
 use std::alloc::Global;
+
+/// Whether an arm is a leaf.
+fn is_leaf(arm: Arm) -> bool
+    ensures { result ≡ is_leaf_kind arm.kind }
+{
+    matches!(arm.kind, ArmKind::Leaf)
+}
 
 /// What metaslabs that all have the arms of these slots show of one.
 fn slot_state<R: Rack, A: Area>(slots: &Slots, shards: &[Shard<R, A>], slot: u32) -> SlotState
@@ -26,7 +33,7 @@ fn slot_state<R: Rack, A: Area>(slots: &Slots, shards: &[Shard<R, A>], slot: u32
     SlotState {
         slot,
         arms: arms.len() as u32,
-        leaf: matches!(first.kind, ArmKind::Leaf),
+        leaf: is_leaf(first),
         offline: first.offline,
         logged: missed_over(shards, ArmAt { slot, arm: 0 }),
     }
