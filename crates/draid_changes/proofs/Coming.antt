@@ -38,7 +38,7 @@ use Rattle.draid_changes.proofs.Whole.{SameOwn, whole_changed}
 
 -- ---- an arm that may come to one table may come to another with the same arms
 
-has_spare_plain : (spare : ℕ) (arms : List Arm) → has_spare (map plain arms) spare ≡ has_spare arms spare
+pub has_spare_plain : (spare : ℕ) (arms : List Arm) → has_spare (map plain arms) spare ≡ has_spare arms spare
 has_spare_plain spare [] = refl
 has_spare_plain spare (a ∷ arms) = ap (λ b. is_spare_of spare a || b) (has_spare_plain spare arms)
 

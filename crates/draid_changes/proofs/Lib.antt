@@ -9,6 +9,7 @@ pub mod Coming
 pub mod Events
 pub mod Forbids
 pub mod Frees
+pub mod GivenOut
 pub mod Gone
 pub mod HasThem
 pub mod LeafHolds

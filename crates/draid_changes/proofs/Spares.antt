@@ -1,6 +1,7 @@
 -- Spares come one after another, for which all was reserved.
 use Rattle.std.proofs.Common.{◌≡◌, ◌<◌, ◌≤◌, ◌+◌, ◌∙◌, ℕ, Option, Some, None, Result, Ok, Err, OnOk, arith, refl, ap, subst, sym, length}
 use Rattle.std.specs.Prelude.{slice_get}
+use Rattle.std.proofs.lemmas.List.Elements.{All-weaker}
 use Rattle.draid_names.specs.declared.arm.ArmKind.TheVariants as kind
 use Rattle.draid_rack.specs.declared.Rack as racks
 use Rattle.draid_area.specs.declared.Area as areas
@@ -9,9 +10,11 @@ use Rattle.draid_machine.specs.declared.names.ArmName.TheVariants.{Spare}
 use Rattle.draid_machine.proofs.Small.{absurd_test}
 use Rattle.draid_entries.specs.History.{reserved_of}
 use Rattle.draid_pass.specs.declared.pass.Pass.{Pass}
-use Rattle.draid_slots.specs.Changes.{Keeps}
+use Rattle.draid_slots.specs.Changes.{HasRoom, Keeps}
 use Rattle.draid_slots.specs.Faults.{MayAttach}
+use Rattle.draid_slots.specs.Table.{IsTable, SlotTable}
 use Rattle.draid_shard.specs.Fits.{Valid, is_rebuild}
+use Rattle.draid_shard.specs.Part.{Part}
 use Rattle.draid_shard.specs.declared.shard.Shard.{Shard}
 use Rattle.draid_disks.specs.Disks.{arm_called}
 use Rattle.draid_disks.specs.Replanning.{attach_events}
@@ -26,7 +29,7 @@ use Rattle.draid_pool.specs.Whole.{IsWhole}
 use Rattle.draid_pool.specs.declared.pool.Pool.{Pool}
 use Rattle.draid_changes.specs.Attaching.{Attaches, MayCome}
 use Rattle.draid_changes.specs.Balancing.{HasNoPass}
-use Rattle.draid_changes.specs.Giving.{AllMayTake, AllReady, AllStay, GetsSpare, IsReady}
+use Rattle.draid_changes.specs.Giving.{AllMayTake, AllReady, AllGet, AllStay, IsReady}
 use Rattle.draid_changes.specs.Walks.{ChangedBelow, Reserves}
 use Rattle.draid_changes.specs.declared.need.Need.TheVariants as needs
 use Rattle.draid_changes.proofs.Attached.{attach_turns, attached_shared}
@@ -51,7 +54,25 @@ module _ {R A : Type 0} (rack : racks.Ghosts R) (area : areas.Ghosts A) (count :
       record { pass = no_passes_on old late keeps none m z there; reserved = was.2.reserved; room = was.2.room }
 
   pub all_stay : AllStay old late
-  all_stay = each_changed (Reserves (needs.Spares count)) (λ (before : Shard R A) after. Keeps before.slots after.slots) old late reserves (λ before after r. r.logs)
+  all_stay = each_changed (Reserves (needs.Spares count)) (λ (before : Shard R A) after. Keeps before.slots after.slots × IsTable after.slots) old late reserves (λ before after r. (r.logs, r.sound))
+
+-- what is reserved for some is reserved for fewer
+room_less : (slots : SlotTable) (changes arms less fewer : ℕ) → less ≤ changes → fewer ≤ arms → HasRoom slots changes arms → HasRoom slots less fewer
+room_less slots changes arms less fewer one two has = record {
+  logs = λ at there. (let enough = has.logs at there in omega (arith, enough, one));
+  arms_come = (let come = has.arms_come in omega (arith, come, two));
+  arm_logs = All-weaker (λ (room : ℕ). changes < room) (λ (room : ℕ). less < room) (λ room more. omega (arith, more, one)) slots.next has.arm_logs;
+  places = (let places = has.places in omega (arith, places, two));
+}
+
+pub fewer_ready : {R A : Type 0} (count fewer : ℕ) (pool : Pool R A) → fewer ≤ count → AllReady count pool → AllReady fewer pool
+fewer_ready count fewer pool few ready m z there =
+    let is = ready m z there in
+    let enough = is.reserved in
+    record { pass = is.pass; reserved = omega (arith, enough, few); room = record { slots = room_less z.slots (count + 7) count (fewer + 7) fewer (omega (arith, few)) few is.room.slots; targets = is.room.targets } }
+
+pub less_ready : {R A : Type 0} (more : ℕ) (pool : Pool R A) → AllReady (more + 1) pool → AllReady more pool
+less_ready more pool ready = fewer_ready (more + 1) more pool (omega arith) ready
 
 -- ---- a spare that comes
 
@@ -86,10 +107,14 @@ module _ {R A : Type 0} (rack : racks.Ghosts R) (area : areas.Ghosts A) (slot sp
       let one : attach_events was.0.pass ≡ 1 = ap attach_events before.pass in
       record { pass = was.2.left.idle before.pass; reserved = omega (arith, enough, used, one); room = was.2.left.room more before.pass before.room }
 
-  pub given_arms : ChangedBelow (GetsSpare slot spare) (length old.metaslabs.shards.items) old.metaslabs.shards.items new.metaslabs.shards.items
-  given_arms = record {
+  pub given_arms : IsWhole rack area old → AllGet slot spare old new
+  given_arms whole = record {
     many = changes.many;
-    below = λ k x less at. (let z = changes.below k x less at in (z.0, z.1, z.2.slots));
+    below = λ k x less at. (let z = changes.below k x less at in (
+      z.0,
+      z.1,
+      record { layout = z.2.valid.slots.geometry_is ∙ (ap (λ (p : Part). p.geometry) z.2.does.part ∙ sym (whole.shards k x at).valid.slots.geometry_is); arms = z.2.slots },
+    ));
     others = changes.others;
   }
 

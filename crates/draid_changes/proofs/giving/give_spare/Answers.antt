@@ -36,6 +36,6 @@ returns g c =
       later = areas_changed g.R.Rack g.A.Area (Attaches g.R.Rack c.args.slot kind.Spare c.args.spare) old new changes set (λ a b s. s.kit.areas);
       idle = given_idle g.R.Rack g.A.Area c.args.slot c.args.spare old new changes set c.requires.idle;
       left = given_left g.R.Rack g.A.Area c.args.slot c.args.spare old new changes set;
-      arms = given_arms g.R.Rack g.A.Area c.args.slot c.args.spare old new changes set;
+      arms = given_arms g.R.Rack g.A.Area c.args.slot c.args.spare old new changes set c.requires.whole;
       carries = λ x is. given_done g.R.Rack g.A.Area c.args.slot c.args.spare old new changes set x is c.requires.idle;
     }
