@@ -10,6 +10,7 @@ pub mod Events
 pub mod Forbids
 pub mod Frees
 pub mod GivenOut
+pub mod GivenTo
 pub mod Gone
 pub mod HasThem
 pub mod LeafHolds

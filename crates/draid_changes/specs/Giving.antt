@@ -1,5 +1,6 @@
 -- How spares come one after another to slots of a pool, for all of which events and memory were reserved before the first came.
-use Rattle.std.specs.Prelude.{◌≡◌, ◌==◌, ◌<◌, ◌≤◌, ◌+◌, ◌++◌, [], ◌∷◌, ⊤, not, ℕ, List, Option, Some, None, Contains, filter, length}
+use Rattle.std.specs.Prelude.{◌≡◌, ◌==◌, ◌<◌, ◌≤◌, ◌+◌, ◌++◌, [], ◌∷◌, ◌⊎◌, ⊤, not, ℕ, Bool, true, false, List, Option, Some, None, Result, Ok, Err, Contains, filter, length}
+use Rattle.std.specs.List.{list_any}
 use Rattle.draid_names.specs.declared.arm.ArmKind.TheVariants as kind
 use Rattle.draid_names.specs.declared.journal.Did.{Did}
 use Rattle.draid_names.specs.declared.journal.Did.TheVariants as did
@@ -17,18 +18,20 @@ use Rattle.draid_slots.specs.Changes.{Keeps}
 use Rattle.draid_slots.specs.Table.{IsTable, SlotTable, arms_of}
 use Rattle.draid_agent.specs.declared.states.Due.{Due}
 use Rattle.draid_session.specs.Agent.{AttachesAll}
-use Rattle.draid_session.specs.Arms.{EventPhase}
+use Rattle.draid_session.specs.Arms.{EventPhase, ReservePhase}
 use Rattle.draid_session.specs.Holds.{Hold}
-use Rattle.draid_session.specs.Phases.{End, Went}
-use Rattle.draid_session.specs.State.{State}
+use Rattle.draid_session.specs.Phases.{Chain, End, Went}
+use Rattle.draid_session.specs.State.{State, Store}
 use Rattle.draid_pool.specs.Carries.{CarriesOut}
 use Rattle.draid_pool.specs.Pools.{Represents}
-use Rattle.draid_pool.specs.Syncing.{Phase}
+use Rattle.draid_pool.specs.Syncing.{Phase, end_of}
 use Rattle.draid_changes.specs.Dues.{AreFree, IsIdleIn}
 use Rattle.draid_changes.specs.Walks.{ChangedBelow}
 use Rattle.draid_disks.specs.Checks.{Each}
 use Rattle.draid_disks.specs.Disks.{HasAttached, HasRoomFor, arm_called}
 use Rattle.draid_pool.specs.Keeping.{KeepsEach}
+use Rattle.draid_pool.specs.declared.fault.SyncFault.{SyncFault}
+use Rattle.draid_pool.specs.declared.fault.SyncFault.TheVariants as sync
 use Rattle.draid_pool.specs.declared.pool.Pool.{Pool}
 
 -- a metaslab has no pass, and events and room for so many spares are reserved
@@ -104,3 +107,26 @@ pub record GaveAll {R A : Type 0} (rack : racks.Ghosts R) (area : areas.Ghosts A
   pub are : after ≡ before ++ entries
   pub gives : Each (λ (shard : Shard R A). GivesTo chosen (IsIdleIn shard.slots) shard.slots.geometry.spec.spares [] (length before + 1) dues entries) old.metaslabs.shards.items
   pub carries : (x : State) → Represents rack area old x → CarriesOut rack area new x (Phase x (AttachesAll x.geometry x.perms chosen entries) Went)
+
+-- a spare was given
+abbrev pub is_spared : Did → Bool
+is_spared did.NoneFree = false
+is_spared (did.Spared spare) = true
+
+-- the same, behind the reserving for all of them; and whether one came
+pub record GaveSome {R A : Type 0} (rack : racks.Ghosts R) (area : areas.Ghosts A) (chosen : ℕ → ℕ → List ℕ → Option ℕ → Type 0) (dues : List Due) (old : Pool R A) (before : List Entry) (came : Bool) (new : Pool R A) (after : List Entry) : Type 0 where
+  pub entries : List Entry
+  pub are : after ≡ before ++ entries
+  pub gives : Each (λ (shard : Shard R A). GivesTo chosen (IsIdleIn shard.slots) shard.slots.geometry.spec.spares [] (length before + 1) dues entries) old.metaslabs.shards.items
+  pub came_is : came ≡ list_any (λ (e : Entry). is_spared e.did) entries
+  pub carries : (x : State) → Represents rack area old x
+      → CarriesOut rack area new x (Phase x (Chain (ReservePhase x.geometry x.perms (λ v. length dues)) (AttachesAll x.geometry x.perms chosen entries)) Went)
+
+-- they got spares, or why none did: the reserving was stopped, or memory was wanting before it
+abbrev pub StopsBefore : ℕ → SyncFault → State → List Hold → Store → Type 0
+StopsBefore count why x holds new = (new ≡ x.store) × (ReservePhase x.geometry x.perms (λ v. count) holds (end_of {T = ℕ} (Err why)) ⊎ ((why ≡ sync.NoMemory) × (holds ≡ [])))
+
+abbrev pub GaveTo : {R A : Type 0} → racks.Ghosts R → areas.Ghosts A → (ℕ → ℕ → List ℕ → Option ℕ → Type 0) → List Due → Pool R A → List Entry → Result Bool SyncFault → Pool R A → List Entry → Type 0
+GaveTo rack area chosen dues old before (Ok came) new after = GaveSome rack area chosen dues old before came new after
+GaveTo rack area chosen dues old before (Err why) new after =
+    (after ≡ before) × ((x : State) → Represents rack area old x → CarriesOut rack area new x (StopsBefore (length dues) why x))

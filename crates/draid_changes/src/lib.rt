@@ -3,6 +3,7 @@
 
 #![tactic(auto)]
 
+mod agent;
 mod attaching;
 mod balancing;
 mod detach_reply;

@@ -1,0 +1,67 @@
+//! What the repair agent does to the arms of a pool: each slot that is due gets a free spare by a policy, and an entry of the
+//! journal.
+ghost use Rattle.std.specs.Prelude.{◌≡◌, ◌<◌, ◌^◌, [], Err, length};
+ghost use Rattle.std.specs.List.{list_any};
+ghost use Rattle.draid_names.specs.declared.journal.Entry.{Entry as AnEntry};
+ghost use Rattle.draid_agent.specs.Policy.{IsPolicy, PolicyReturns};
+ghost use Rattle.draid_shard.specs.declared.shard.Shard.{Shard};
+ghost use Rattle.draid_disks.specs.Checks.{Each};
+ghost use Rattle.draid_pool.specs.Failing.{AreasLater};
+ghost use Rattle.draid_pool.specs.Pointers.{SamePointers};
+ghost use Rattle.draid_pool.specs.Syncing.{AreIdle};
+ghost use Rattle.draid_pool.specs.Whole.{IsWhole};
+ghost use Rattle.draid_changes.specs.Balancing.{HasNoPass};
+ghost use Rattle.draid_changes.specs.Dues.{AreFree, IsIdleIn};
+ghost use Rattle.draid_changes.specs.Giving.{GaveTo, HaveRoom, SlotsAscend, is_spared};
+
+use crate::giving::{give_all, reserve_spares};
+use crate::upgrading::stopped;
+use draid_agent::{Due, Journal, Policy};
+use draid_area::Area;
+use draid_names::{Did, Entry};
+use draid_pool::{Pool, SyncFault};
+use draid_rack::Rack;
+
+/// Whether a slot got a spare by one of some entries.
+fn some_came(entries: &[Entry]) -> bool
+    ensures { result ≡ list_any (λ (e : AnEntry). is_spared e.did) entries.now }
+{
+    entries
+        .iter()
+        .any(|entry| matches!(entry.did, Did::Spared { .. }))
+}
+
+/// Gives the due slots spares by the policy, where events and memory for all of them can be reserved in each metaslab, and room
+/// for their entries. Answers whether one came.
+fn give_to<R: Rack, A: Area, P: Fn(u32, u64, &[u32]) -> Option<u32>>(
+    pool: &mut Pool<R, A>,
+    policy: &Policy<P>,
+    journal: &mut Journal,
+    dues: &[Due],
+    free: Vec<u32>,
+) -> Result<bool, SyncFault>
+    requires policy { IsPolicy P.Fn policy.now }
+    requires whole { IsWhole R.Rack A.Area pool.old }
+    requires idle { AreIdle pool.old.metaslabs.shards.items }
+    requires passes { HasNoPass pool.old }
+    requires few { length dues.now < 2 ^ 32 }
+    requires ascend { SlotsAscend 0 dues.now }
+    requires slots { Each (λ (shard : Shard R A). HaveRoom shard.slots dues.now) pool.old.metaslabs.shards.items }
+    requires free { Each (λ (shard : Shard R A). AreFree (IsIdleIn shard.slots) [] shard.slots.geometry.spec.spares free.items) pool.old.metaslabs.shards.items }
+    ensures whole { IsWhole R.Rack A.Area pool.new }
+    ensures same { SamePointers pool.old pool.new }
+    ensures later { AreasLater A.faults pool.old pool.new }
+    ensures not_shelf { result ≡ Err SyncFault.Shelf → ⊥ }
+    ensures passes { HasNoPass pool.new }
+    ensures gave { GaveTo R.Rack A.Area (PolicyReturns P.Fn policy.now) dues.now pool.old journal.old.entries result pool.new journal.new.entries }
+{
+    let Ok(()) = journal.room(dues.len() as u64) else {
+        return Err(SyncFault::NoMemory);
+    };
+    if let Err(fault) = reserve_spares(pool, dues.len() as u32) {
+        return Err(stopped(fault));
+    }
+    let first = journal.entries().len();
+    give_all(pool, policy, journal, dues, free);
+    Ok(some_came(&journal.entries()[first..]))
+}
