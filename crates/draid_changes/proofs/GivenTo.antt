@@ -1,18 +1,23 @@
 -- What was reserved for due slots leaves their slots as they are, and they get spares behind it.
-use Rattle.std.proofs.Common.{◌≡◌, ◌≢◌, ◌<◌, ◌≤◌, ◌+◌, ◌-◌, ◌++◌, ◌∙◌, inl, inr, [], ◌∷◌, ℕ, Bool, true, false, List, Option, Some, Ok, Err, arith, refl, sym, ap, subst, length, drop, take}
+use Rattle.std.proofs.Common.{◌≡◌, ◌≢◌, ◌<◌, ◌≤◌, ◌+◌, ◌-◌, ◌++◌, ◌||◌, ◌∙◌, inl, inr, [], ◌∷◌, ℕ, Bool, true, false, List, Option, Some, Ok, Err, arith, refl, sym, ap, subst, length, drop, take}
 use Rattle.std.specs.Prelude.{slice_get}
 use Rattle.std.specs.List.{list_any}
-use Rattle.std.proofs.lemmas.List.{length-drop, take_all}
+use Rattle.std.proofs.lemmas.Bool.{cases_lt}
+use Rattle.std.proofs.lemmas.List.{get_or_past, length-drop, take_all}
 use Rattle.std.proofs.lemmas.Option.{slice_get_within}
 use Rattle.draid_names.specs.declared.journal.Entry.{Entry}
+use Rattle.draid_names.specs.declared.arm.Arm.{Arm}
+use Rattle.draid_spec.specs.declared.layout.Geometry.{Geometry}
 use Rattle.draid_rack.specs.declared.Rack as racks
 use Rattle.draid_area.specs.declared.Area as areas
 use Rattle.draid_entries.specs.declared.history.ReserveFault.{ReserveFault}
 use Rattle.draid_slots.specs.Changes.{Keeps}
-use Rattle.draid_slots.specs.Table.{SlotTable}
+use Rattle.draid_slots.specs.Table.{IsTable, SlotTable, arms_of, has_spare, holds_spare, was_spare_of}
+use Rattle.draid_shard.specs.Alike.{ShareArms}
 use Rattle.draid_shard.specs.declared.shard.Shard.{Shard}
 use Rattle.draid_agent.specs.declared.states.Due.{Due}
 use Rattle.draid_disks.specs.Checks.{Each}
+use Rattle.draid_disks.proofs.Alike.{plains_same}
 use Rattle.draid_session.specs.Agent.{AttachesAll}
 use Rattle.draid_session.specs.Arms as arms
 use Rattle.draid_session.specs.Phases.{Went}
@@ -20,15 +25,18 @@ use Rattle.draid_session.specs.State.{State}
 use Rattle.draid_pool.specs.Carries.{CarriesOut}
 use Rattle.draid_pool.specs.Pools.{Represents}
 use Rattle.draid_pool.specs.Syncing.{Phase, end_of}
+use Rattle.draid_pool.specs.Whole.{IsWhole}
 use Rattle.draid_pool.specs.declared.fault.SyncFault.{SyncFault}
 use Rattle.draid_pool.specs.declared.fault.SyncFault.TheVariants as sync
 use Rattle.draid_pool.specs.declared.pool.Pool.{Pool}
 use Rattle.draid_pool.proofs.Lists.{present}
 use Rattle.draid_pool.proofs.Steps.{carried, carries_so}
 use Rattle.draid_pool.proofs.SyncCalls.{then_phase}
-use Rattle.draid_changes.specs.Dues.{AreFree, IsIdleIn}
+use Rattle.draid_pool.proofs.WholeGroups.{first_shard}
+use Rattle.draid_changes.specs.Dues.{AreFree, Ascends, IsIdleIn}
 use Rattle.draid_changes.specs.Giving.{AllStay, GaveAll, GaveSome, GivesTo, HaveRoom, StopsBefore, is_spared}
 use Rattle.draid_changes.specs.Walks.{end_of_reserving}
+use Rattle.draid_changes.proofs.Coming.{has_spare_plain, slots_layout}
 
 -- ---- slots of which nothing but the logs' room changed
 
@@ -48,6 +56,30 @@ gives_back : (chosen : ℕ → ℕ → List ℕ → Option ℕ → Type 0) (numb
     → GivesTo chosen (IsIdleIn a) a.geometry.spec.spares [] number dues entries
 gives_back chosen number dues entries a b kept gives = subst (λ (slots : SlotTable). GivesTo chosen (IsIdleIn slots) slots.geometry.spec.spares [] number dues entries) (to_old a b kept) gives
 
+-- metaslabs that share their arms have the same idle spares
+held_shared : (a b : SlotTable) → b.geometry ≡ a.geometry → ShareArms a b → IsTable a → IsTable b → (spare by : ℕ) → holds_spare b spare by ≡ holds_spare a spare by
+held_shared a b same share sound also spare by = λ i. has i || was_spare_of (share.detached i) spare by
+  where
+    has : has_spare (arms_of b by) spare ≡ has_spare (arms_of a by) spare
+    has = elim (cases_lt by (length a.arms)) [
+      | inl less ↦
+          (let children = sound.slots.children in
+          let plains = plains_same (arms_of a by) (arms_of b by) (share.arms.slots by (omega (arith, less, children))) in
+          sym (has_spare_plain spare (arms_of b by)) ∙ (ap (λ (arms : List Arm). has_spare arms spare) (sym plains) ∙ has_spare_plain spare (arms_of a by)))
+      | inr past ↦
+          (let one = sound.slots.children in
+          let two = also.slots.children in
+          let alike = ap (λ (g : Geometry). g.spec.children) same in
+          ap (λ (arms : List Arm). has_spare arms spare) (get_or_past b.arms by [] (omega (arith, past, one, two, alike)) ∙ sym (get_or_past a.arms by [] past)))
+    ]
+
+free_shared : (free : List ℕ) (a b : SlotTable) → b.geometry ≡ a.geometry → ShareArms a b → IsTable a → IsTable b → AreFree (IsIdleIn a) [] a.geometry.spec.spares free → AreFree (IsIdleIn b) [] b.geometry.spec.spares free
+free_shared free a b same share sound also are = record {
+  ascending = subst (λ (g : Geometry). Ascends 0 g.spec.spares free) (sym same) are.ascending;
+  all = λ spare low idle new. are.all spare (subst (λ (g : Geometry). spare < g.spec.spares) same low) (λ by. sym (held_shared a b same share sound also spare by) ∙ idle by) new;
+  only = λ spare has. (let z = are.only spare has in (λ by. held_shared a b same share sound also spare by ∙ z.0 by, z.1));
+}
+
 module _ {R A : Type 0} (old late : Pool R A) (stay : AllStay old late) where
   -- what stood at a place before
   was_at : (m : ℕ) (z : Shard R A) → slice_get late.metaslabs.shards.items m ≡ Some z → (x : Shard R A) × (slice_get old.metaslabs.shards.items m ≡ Some x) × Keeps x.slots z.slots
@@ -60,9 +92,18 @@ module _ {R A : Type 0} (old late : Pool R A) (stay : AllStay old late) where
   pub all_have_room : (dues : List Due) → Each (λ (shard : Shard R A). HaveRoom shard.slots dues) old.metaslabs.shards.items → Each (λ (shard : Shard R A). HaveRoom shard.slots dues) late.metaslabs.shards.items
   all_have_room dues room m z at = (let was = was_at m z at in room_on dues was.0.slots z.slots was.2 (room m was.0 was.1))
 
-  pub all_free : (free : List ℕ) → Each (λ (shard : Shard R A). AreFree (IsIdleIn shard.slots) [] shard.slots.geometry.spec.spares free) old.metaslabs.shards.items
+  -- the same spares are free in each, by its own slots
+  pub all_free : (rack : racks.Ghosts R) (area : areas.Ghosts A) (free : List ℕ) → IsWhole rack area late
+      → ((first : Shard R A) → slice_get old.metaslabs.shards.items 0 ≡ Some first → AreFree (IsIdleIn first.slots) [] first.slots.geometry.spec.spares free)
       → Each (λ (shard : Shard R A). AreFree (IsIdleIn shard.slots) [] shard.slots.geometry.spec.spares free) late.metaslabs.shards.items
-  all_free free are m z at = (let was = was_at m z at in free_on free was.0.slots z.slots was.2 (are m was.0 was.1))
+  all_free rack area free whole are m z at =
+      let first = first_shard rack area late whole in
+      let was = was_at 0 first.0 first.1 in
+      let sound = (stay.each 0 was.0 first.0 was.1 first.1).1 in
+      let other = was_at m z at in
+      let also = (stay.each m other.0 z other.1 at).1 in
+      free_shared free first.0.slots z.slots (slots_layout rack area late m z whole at ∙ sym (slots_layout rack area late 0 first.0 whole first.1)) (whole.alike 0 m first.0 z first.1 at) sound also
+      (free_on free was.0.slots first.0.slots was.2 (are was.0 was.1))
 
   pub all_give : (chosen : ℕ → ℕ → List ℕ → Option ℕ → Type 0) (number : ℕ) (dues : List Due) (entries : List Entry)
       → Each (λ (shard : Shard R A). GivesTo chosen (IsIdleIn shard.slots) shard.slots.geometry.spec.spares [] number dues entries) late.metaslabs.shards.items

@@ -1,6 +1,6 @@
 //! What the repair agent does to the arms of a pool: each slot that is due gets a free spare by a policy, and an entry of the
 //! journal.
-ghost use Rattle.std.specs.Prelude.{◌≡◌, ◌<◌, ◌^◌, [], Err, length};
+ghost use Rattle.std.specs.Prelude.{◌≡◌, ◌<◌, ◌^◌, [], Err, Some, length, slice_get};
 ghost use Rattle.std.specs.List.{list_any};
 ghost use Rattle.draid_names.specs.declared.journal.Entry.{Entry as AnEntry};
 ghost use Rattle.draid_agent.specs.Policy.{IsPolicy, PolicyReturns};
@@ -33,7 +33,7 @@ fn some_came(entries: &[Entry]) -> bool
 
 /// Gives the due slots spares by the policy, where events and memory for all of them can be reserved in each metaslab, and room
 /// for their entries. Answers whether one came.
-fn give_to<R: Rack, A: Area, P: Fn(u32, u64, &[u32]) -> Option<u32>>(
+pub fn give_to<R: Rack, A: Area, P: Fn(u32, u64, &[u32]) -> Option<u32>>(
     pool: &mut Pool<R, A>,
     policy: &Policy<P>,
     journal: &mut Journal,
@@ -47,7 +47,7 @@ fn give_to<R: Rack, A: Area, P: Fn(u32, u64, &[u32]) -> Option<u32>>(
     requires few { length dues.now < 2 ^ 32 }
     requires ascend { SlotsAscend 0 dues.now }
     requires slots { Each (λ (shard : Shard R A). HaveRoom shard.slots dues.now) pool.old.metaslabs.shards.items }
-    requires free { Each (λ (shard : Shard R A). AreFree (IsIdleIn shard.slots) [] shard.slots.geometry.spec.spares free.items) pool.old.metaslabs.shards.items }
+    requires free { (first : Shard R A) → slice_get pool.old.metaslabs.shards.items 0 ≡ Some first → AreFree (IsIdleIn first.slots) [] first.slots.geometry.spec.spares free.items }
     ensures whole { IsWhole R.Rack A.Area pool.new }
     ensures same { SamePointers pool.old pool.new }
     ensures later { AreasLater A.faults pool.old pool.new }

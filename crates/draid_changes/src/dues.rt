@@ -46,7 +46,6 @@ fn slot_states<R: Rack, A: Area>(
     shards: &[Shard<R, A>],
 ) -> Result<Vec<SlotState>, NoMemory>
     requires few { length shards.now ≤ 64 }
-    requires sound { IsTable slots.now }
     requires alike { AreAlike slots.now shards.now }
     ensures { IfOk result (λ states. states.items ≡ shown_from slots.now shards.now 0 slots.now.geometry.spec.children) }
 {
@@ -59,14 +58,13 @@ fn slot_states<R: Rack, A: Area>(
 
 /// The slots that are due, ascending: each whose one arm is a leaf that is offline, or of which at least so many groups are
 /// logged over all metaslabs, which all have the arms of these slots.
-pub(crate) fn due_slots<R: Rack, A: Area>(
+pub fn due_slots<R: Rack, A: Area>(
     alloc: Global,
     slots: &Slots,
     shards: &[Shard<R, A>],
     least: u64,
 ) -> Result<Vec<Due>, NoMemory>
     requires few { length shards.now ≤ 64 }
-    requires sound { IsTable slots.now }
     requires alike { AreAlike slots.now shards.now }
     ensures { IfOk result (λ due. due.items ≡ due_in slots.now shards.now least) }
 {
@@ -75,7 +73,7 @@ pub(crate) fn due_slots<R: Rack, A: Area>(
 }
 
 /// The spares that no slot has and of which no detachment waits for its commit, ascending.
-pub(crate) fn free_spares(alloc: Global, slots: &Slots) -> Result<Vec<u32>, NoMemory>
+pub fn free_spares(alloc: Global, slots: &Slots) -> Result<Vec<u32>, NoMemory>
     ensures { IfOk result (λ free. AreFree (IsIdleIn slots.now) [] slots.now.geometry.spec.spares free.items) }
 {
     let mut free = Vec::new(alloc);

@@ -30,7 +30,7 @@ use draid_pool::Pool;
 use draid_rack::Rack;
 
 /// Reserves events and memory in each metaslab, of which none has a pass, for so many spares that come one after another.
-pub fn reserve_spares<R: Rack, A: Area>(
+pub(crate) fn reserve_spares<R: Rack, A: Area>(
     pool: &mut Pool<R, A>,
     count: u32,
 ) -> Result<(), ReserveFault>
@@ -51,7 +51,7 @@ pub fn reserve_spares<R: Rack, A: Area>(
 }
 
 /// Gives a slot a spare in all metaslabs, of which none has a pass, where no rule forbids it and all is reserved for it.
-pub fn give_spare<R: Rack, A: Area>(pool: &mut Pool<R, A>, slot: u32, spare: u32)
+pub(crate) fn give_spare<R: Rack, A: Area>(pool: &mut Pool<R, A>, slot: u32, spare: u32)
     requires whole { IsWhole R.Rack A.Area pool.old }
     requires idle { AreIdle pool.old.metaslabs.shards.items }
     requires ready { AllReady 1 pool.old }

@@ -25,7 +25,7 @@ pub give_all-requires-clause-slots : goal.give_all-requires-clause-slots
 give_all-requires-clause-slots g c = all_have_room c.args.pool.now c.reserve_spares.new.pool c.in_default-reserve_spares.ensures.arms c.args.dues.now c.requires.slots
 
 pub give_all-requires-clause-free : goal.give_all-requires-clause-free
-give_all-requires-clause-free g c = all_free c.args.pool.now c.reserve_spares.new.pool c.in_default-reserve_spares.ensures.arms c.args.free.items c.requires.free
+give_all-requires-clause-free g c = all_free c.args.pool.now c.reserve_spares.new.pool c.in_default-reserve_spares.ensures.arms g.R.Rack g.A.Area c.args.free.items c.in_default-reserve_spares.ensures.whole c.requires.free
 
 pub returns-clause-later : goal.returns-clause-later
 returns-clause-later g c = areas_on g.A.Area.faults c.args.pool.now c.reserve_spares.new.pool c.give_all.new.pool c.in_default-reserve_spares.ensures.later c.give_all.ensures.later
