@@ -6,11 +6,14 @@ pub mod Begun
 pub mod Called
 pub mod Calls
 pub mod Coming
+pub mod DueGiven
+pub mod DueSeen
 pub mod Events
 pub mod Forbids
 pub mod Frees
 pub mod GivenOut
 pub mod GivenTo
+pub mod GivesSeen
 pub mod Gone
 pub mod HasThem
 pub mod LeafHolds

@@ -1,3 +1,4 @@
+pub mod Agent
 pub mod Answers
 pub mod Attaching
 pub mod Balancing

@@ -24,11 +24,10 @@ mod switching;
 mod upgrade_reply;
 mod upgrading;
 
-pub use agent::give_to;
+pub use agent::{GiveFault, give};
 pub use balancing::detach_others;
 pub use detach_reply::reply_to_detach;
 pub use detaching::{DetachFault, detach};
-pub use dues::{due_slots, free_spares};
 pub use fault::ArmFault;
 pub use replacing::replace;
 pub use replies::{reply_to_offline, reply_to_online, reply_to_replace, reply_to_spare};
