@@ -27,6 +27,7 @@ pub mod OthersGo
 pub mod OwnedSwitch
 pub mod Phases
 pub mod Raised
+pub mod Repaired
 pub mod Replaced
 pub mod Reserved
 pub mod SameArms

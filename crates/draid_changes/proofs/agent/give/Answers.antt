@@ -1,42 +1,38 @@
-use Rattle.std.proofs.Common.{rules, ◌≡◌, ◌<◌, ◌^◌, [], Err, OnOk, length, ℕ, ◌+◌, ◌-◌, ◌*◌, ◌≤◌, ◌/◌, ◌%◌, Bool, true, false, nat_eq, nat_lt, List, ◌∷◌, ◌++◌, slice_index_or, slice_set, bit_and, bit_or, Fits, w8, w32, w64, Bor, MutBor}
-use Rattle.std.specs.List.{list_any}
-use Rattle.draid_names.specs.declared.journal.Entry.{Entry as AnEntry}
-use Rattle.draid_agent.specs.Policy.{IsPolicy, PolicyReturns}
+use Rattle.std.proofs.Common.{◌≡◌, ℕ, Bool, List, Result, Ok, Err, ap, refl, subst}
+use Rattle.draid_agent.specs.Policy.{PolicyReturns}
 use Rattle.draid_shard.specs.declared.shard.Shard.{Shard}
-use Rattle.draid_disks.specs.Checks.{Each}
-use Rattle.draid_session.specs.State.{State}
-use Rattle.draid_pool.specs.Carries.{CarriesOut}
-use Rattle.draid_pool.specs.Failing.{AreaRose, AreasLater}
-use Rattle.draid_pool.specs.Pointers.{SamePointers}
-use Rattle.draid_pool.specs.Pools.{Represents}
-use Rattle.draid_pool.specs.Syncing.{AreIdle}
-use Rattle.draid_pool.specs.Whole.{IsWhole}
-use Rattle.draid_changes.specs.Agent.{DueDoes, GiveDoes}
-use Rattle.draid_changes.specs.Balancing.{HasNoPass}
-use Rattle.draid_changes.specs.Dues.{AreFree, IsIdleIn}
-use Rattle.draid_changes.specs.Giving.{GaveTo, HaveRoom, SlotsAscend, is_spared}
+use Rattle.draid_disks.specs.Checks.{IsLowestPass, NoPass}
+use Rattle.draid_pool.specs.declared.fault.SyncFault.{SyncFault}
+use Rattle.draid_pool.specs.declared.fault.SyncFault.TheVariants as sync
+use Rattle.draid_pool.proofs.Rises.{areas_on}
+use Rattle.draid_changes.specs.declared.agent.GiveFault.{GiveFault}
+use Rattle.draid_changes.specs.declared.agent.GiveFault.TheVariants as fault
+use Rattle.draid_changes.proofs.Repaired.{not_finished, pass_found, then_given}
 use Rattle.draid_changes.proofs.agent.give.Goals as goal
 
--- src/agent.rt:64:9
+abbrev why_of : Result Bool GiveFault → SyncFault
+why_of (Err (fault.Stopped why)) = why
+why_of result = sync.Worn
+
 pub returns-in-Err-clause-cause : goal.returns-in-Err-clause-cause
-returns-in-Err-clause-cause g c = ?
+returns-in-Err-clause-cause g c = λ is. c.in-Err.ensures.cause (ap Err (ap why_of is))
 
--- src/agent.rt:64:9
 pub returns-in-Err-clause-carries : goal.returns-in-Err-clause-carries
-returns-in-Err-clause-carries g c = ?
+returns-in-Err-clause-carries g c = λ x r.
+    not_finished g.R.Rack g.A.Area (PolicyReturns g.P.Fn c.args.policy.now) c.args.least c.args.journal.now.entries c.finish.new.self x c.in-Err.why (c.in-Err.ensures.carries x r)
 
--- src/agent.rt:67:9
 pub returns-in-Some-clause-carries : goal.returns-in-Some-clause-carries
-returns-in-Some-clause-carries g c = ?
+returns-in-Some-clause-carries g c = λ x r.
+    pass_found g.R.Rack g.A.Area (PolicyReturns g.P.Fn c.args.policy.now) c.args.least c.args.journal.now.entries c.finish.new.self x (c.in_default.ensures.carries x r) c.in_default.ensures.whole c.in-Some.metaslab c.in-Some.number
+    (subst (λ (zs : List (Shard g.row.R.Denot g.row.A.Denot)). IsLowestPass zs c.in-Some.metaslab c.in-Some.number) c.deref.ensures.value c.in-Some.ensures.some)
 
--- src/agent.rt:69:5
 pub give_due-requires-clause-passes : goal.give_due-requires-clause-passes
-give_due-requires-clause-passes g c = ?
+give_due-requires-clause-passes g c = subst (λ (zs : List (Shard g.row.R.Denot g.row.A.Denot)). NoPass zs) c.deref.ensures.value c.in_default-lowest_pass.ensures.none
 
--- src/agent.rt:46:1
 pub returns-clause-later : goal.returns-clause-later
-returns-clause-later g c = ?
+returns-clause-later g c = areas_on g.A.Area.faults c.args.pool.now c.finish.new.self c.give_due.new.pool c.in_default.ensures.later c.give_due.ensures.later
 
--- src/agent.rt:46:1
 pub returns-clause-carries : goal.returns-clause-carries
-returns-clause-carries g c = ?
+returns-clause-carries g c = λ x r.
+    then_given g.R.Rack g.A.Area (PolicyReturns g.P.Fn c.args.policy.now) c.args.least c.args.journal.now.entries c.finish.new.self x (c.in_default.ensures.carries x r) c.give_due.new.pool c.give_due.result
+    c.give_due.new.journal.entries c.give_due.ensures.carries
