@@ -1,5 +1,5 @@
 -- What the call says that gives due slots spares where no group is closing and no metaslab has a pass.
-use Rattle.std.proofs.Common.{◌≡◌, ◌≢◌, ◌<◌, ◌≤◌, ◌+◌, ◌++◌, ◌∙◌, ◌⊎◌, inl, inr, [], ◌∷◌, ℕ, Bool, true, false, List, Option, Some, None, Ok, Err, arith, refl, sym, ap, subst, length}
+use Rattle.std.proofs.Common.{◌≡◌, ◌≢◌, ◌≤◌, ◌+◌, ◌++◌, ◌∙◌, inl, inr, [], ◌∷◌, ℕ, Bool, true, false, List, Option, Some, None, Ok, Err, arith, refl, sym, ap, subst, length}
 use Rattle.std.specs.Prelude.{slice_get}
 use Rattle.std.specs.List.{list_any}
 use Rattle.draid_names.specs.declared.journal.Entry.{Entry}
@@ -17,8 +17,8 @@ use Rattle.draid_session.specs.Looks.{LooksFrom, OnlyLooks}
 use Rattle.draid_session.specs.Phases.{Chain, Went}
 use Rattle.draid_session.specs.State.{Metaslab, State}
 use Rattle.draid_pool.specs.Carries.{CarriesOut}
-use Rattle.draid_pool.specs.Pools.{Represents, part_in}
-use Rattle.draid_pool.specs.Syncing.{Phase, end_of}
+use Rattle.draid_pool.specs.Pools.{Represents}
+use Rattle.draid_pool.specs.Syncing.{Phase}
 use Rattle.draid_pool.specs.Views.{seen_at}
 use Rattle.draid_pool.specs.Whole.{IsWhole}
 use Rattle.draid_pool.specs.declared.fault.SyncFault.{SyncFault}
@@ -87,9 +87,18 @@ module _ {R A : Type 0} (rack : racks.Ghosts R) (area : areas.Ghosts A) (chosen 
         pub due_given : (came : Bool) → ds ≢ [] → GaveSome rack area chosen ds pool before came new after → CarriesOut rack area new x (DueDoes x chosen least before (Ok came) after)
         due_given came some gave =
             carried rack area new x (looks_at 0 x.metaslabs ++ c.holds) c.reached (DueDoes x chosen least before (Ok came) after) (follows_on (looks_at 0 x.metaslabs) c.holds x x c.reached (changes_none x [] x.metaslabs 0 refl refl) c.follows)
-            (settled rack area new x (Phase x (Chain (arms.ReservePhase x.geometry x.perms (λ v. length ds)) (AttachesAll x.geometry x.perms chosen gave.entries)) Went) c c.done.0)
-            (refl, views, c.holds, gave.entries, sees c.holds, gave.are, not_none, came_is came gave.came_is, gives,
-            subst (λ n. Chain (arms.ReservePhase x.geometry x.perms (λ v. n)) (AttachesAll x.geometry x.perms chosen gave.entries) c.holds Went) (sym long) c.done.1)
+            (settled rack area new x (Phase x (Chain (arms.ReservePhase x.geometry x.perms (λ v. length ds)) (AttachesAll x.geometry x.perms chosen gave.entries)) Went) c c.done.0) (
+              refl,
+              views,
+              c.holds,
+              gave.entries,
+              sees c.holds,
+              gave.are,
+              not_none,
+              came_is came gave.came_is,
+              gives,
+              subst (λ n. Chain (arms.ReservePhase x.geometry x.perms (λ v. n)) (AttachesAll x.geometry x.perms chosen gave.entries) c.holds Went) (sym long) c.done.1,
+            )
           where
             c : CarriesOut rack area new x (Phase x (Chain (arms.ReservePhase x.geometry x.perms (λ v. length ds)) (AttachesAll x.geometry x.perms chosen gave.entries)) Went)
             c = gave.carries x r
@@ -117,10 +126,19 @@ module _ {R A : Type 0} (rack : racks.Ghosts R) (area : areas.Ghosts A) (chosen 
         pub due_stopped : (why : SyncFault) → after ≡ before → CarriesOut rack area new x (StopsBefore (length ds) why x) → CarriesOut rack area new x (DueDoes x chosen least before (Err (fault.Stopped why)) after)
         due_stopped why same c =
             carried rack area new x (looks_at 0 x.metaslabs ++ c.holds) c.reached (DueDoes x chosen least before (Err (fault.Stopped why)) after) (follows_on (looks_at 0 x.metaslabs) c.holds x x c.reached (changes_none x [] x.metaslabs 0 refl refl) c.follows)
-            (settled rack area new x (StopsBefore (length ds) why x) c c.done.0)
-            (refl, same, elim c.done.1 [
-              | inl reserve ↦ inl (views, c.holds, length ds, sees c.holds,
+            (settled rack area new x (StopsBefore (length ds) why x) c c.done.0) (
+              refl,
+              same,
+              elim c.done.1 [
+                | inl reserve ↦ inl (
+                  views,
+                  c.holds,
+                  length ds,
+                  sees c.holds,
                   subst (λ n. AreDueFrom least views 0 n (length ds)) children
-                  (subst (λ list. AreDueFrom least views 0 first.slots.geometry.spec.children (length list)) (sym are) (many_due rack area pool w x r first there least 0 first.slots.geometry.spec.children all_slots)), reserve)
-              | inr wanting ↦ inr (wanting.0, only_looked_on 0 x.metaslabs c.holds wanting.1)
-            ])
+                      (subst (λ list. AreDueFrom least views 0 first.slots.geometry.spec.children (length list)) (sym are) (many_due rack area pool w x r first there least 0 first.slots.geometry.spec.children all_slots)),
+                  reserve,
+                )
+                | inr wanting ↦ inr (wanting.0, only_looked_on 0 x.metaslabs c.holds wanting.1)
+              ],
+            )

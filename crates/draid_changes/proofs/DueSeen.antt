@@ -1,14 +1,11 @@
 -- The slots that are due by the shards of a pool are those that are seen to be due.
-use Rattle.std.proofs.Common.{◌≡◌, ◌≢◌, ◌==◌, ◌&&◌, ◌<◌, ◌≤◌, ◌+◌, ◌++◌, ◌∙◌, ◌⊎◌, inl, inr, not, [], ◌∷◌, ℕ, zero, suc, Bool, true, false, nat_le, List, Option, Some, None, Contains, arith, refl, sym, ap, subst, length, map, if◌then◌else◌}
-use Rattle.std.specs.Prelude.{slice_get, slice_index_or, sum_by}
+use Rattle.std.proofs.Common.{◌≡◌, ◌==◌, ◌&&◌, ◌<◌, ◌≤◌, ◌∙◌, not, [], ◌∷◌, ℕ, suc, Bool, true, false, nat_le, List, Option, Some, None, arith, refl, sym, ap, subst, length, map, if◌then◌else◌}
+use Rattle.std.specs.Prelude.{slice_get, slice_index_or}
 use Rattle.draid_names.specs.declared.arm.Arm.{Arm}
 use Rattle.draid_names.specs.declared.arm.ArmKind.{ArmKind}
 use Rattle.draid_names.specs.declared.arm.ArmKind.TheVariants as kind
 use Rattle.draid_names.specs.declared.journal.Cause.{Cause}
 use Rattle.draid_names.specs.declared.journal.Cause.TheVariants.{Logged, Offline}
-use Rattle.draid_names.specs.declared.journal.Did.{Did}
-use Rattle.draid_names.specs.declared.journal.Did.TheVariants.{NoneFree, Spared}
-use Rattle.draid_names.specs.declared.journal.Entry.{Entry}
 use Rattle.draid_rack.specs.declared.Rack as racks
 use Rattle.draid_area.specs.declared.Area as areas
 use Rattle.draid_machine.specs.Names.{named}
@@ -18,16 +15,14 @@ use Rattle.draid_machine.specs.declared.names.ArmName.TheVariants.{Leaf, Spare}
 use Rattle.draid_machine.proofs.Small.{absurd_test, is_equal, is_low, low, some_same}
 use Rattle.draid_slots.specs.Changes.{new_arm}
 use Rattle.draid_slots.specs.States.{arm_in, name_of}
-use Rattle.draid_slots.specs.Table.{SlotTable, arm_at, arms_of, count_at, is_leaf_kind}
+use Rattle.draid_slots.specs.Table.{arm_at, arms_of, count_at, is_leaf_kind}
 use Rattle.draid_shard.specs.declared.shard.Shard.{Shard}
-use Rattle.draid_agent.specs.Due.{cause_of, dues}
-use Rattle.draid_agent.specs.declared.states.Due.{Due}
-use Rattle.draid_agent.specs.declared.states.SlotState.{SlotState}
+use Rattle.draid_agent.specs.Due.{cause_of}
 use Rattle.draid_disks.specs.Checks.{missed_over}
 use Rattle.draid_session.specs.Agent.{HasOneLeaf, IsDue, IsOff, IsntDue, logged_of}
 use Rattle.draid_session.specs.Holds.{View, view_of}
 use Rattle.draid_session.specs.State.{Metaslab, State}
-use Rattle.draid_session.specs.Status.{groups_of, logged_in}
+use Rattle.draid_session.specs.Status.{groups_of}
 use Rattle.draid_pool.specs.Pools.{Represents}
 use Rattle.draid_pool.specs.Views.{seen_at}
 use Rattle.draid_pool.specs.Whole.{IsWhole}

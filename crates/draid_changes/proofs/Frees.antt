@@ -1,9 +1,8 @@
 -- Free spares, one after another.
-use Rattle.std.proofs.Common.{◌≡◌, ◌≢◌, ◌==◌, ◌<◌, ◌≤◌, ◌+◌, ◌++◌, ◌∙◌, ◌⊎◌, inl, inr, [], ◌∷◌, not, ℕ, zero, suc, Bool, true, false, List, Option, Some, None, Contains, arith, cond, refl, sym, ap, subst}
+use Rattle.std.proofs.Common.{◌≡◌, ◌==◌, ◌<◌, ◌≤◌, ◌+◌, ◌++◌, ◌∙◌, ◌⊎◌, inl, inr, [], ◌∷◌, not, ℕ, Bool, true, false, List, Contains, arith, cond, refl, sym, ap, subst}
 use Rattle.std.specs.Prelude.{filter}
 use Rattle.std.proofs.lemmas.Bool.{cases_eq}
 use Rattle.std.proofs.lemmas.List.Elements.{Contains-append_cases, Contains-append_left, Contains-push}
-use Rattle.draid_names.specs.declared.journal.Did.{Did}
 use Rattle.draid_names.specs.declared.journal.Did.TheVariants.{NoneFree, Spared}
 use Rattle.draid_names.specs.declared.journal.Entry.{Entry}
 use Rattle.draid_machine.proofs.Small.{absurd_test, equal, is_equal}
@@ -126,11 +125,13 @@ free_less Idle given below free e spare did are = record {
   all = λ other low is new. kept_among (λ o. not (o == spare)) free other (are.all other low is (λ was. new (given_before other given e was))) (differs other (λ same. new (given_last other given e (did ∙ ap Spared (sym same)))));
   only = λ other has.
       (let z = was_among (λ o. not (o == spare)) free other has in
-      let y = are.only other z.0 in
-      (y.0, λ was. elim (given_cases other given e was) [
-        | inl before ↦ y.1 before
-        | inr last ↦ apart other (spare_same spare other (sym did ∙ last)) z.1
-      ]));
+      let y = are.only other z.0 in (
+        y.0,
+        λ was. elim (given_cases other given e was) [
+          | inl before ↦ y.1 before
+          | inr last ↦ apart other (spare_same spare other (sym did ∙ last)) z.1
+        ],
+      ));
 }
   where
     differs : (other : ℕ) → (other ≡ spare → ⊥) → not (other == spare) ≡ true

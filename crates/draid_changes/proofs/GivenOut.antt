@@ -1,7 +1,6 @@
 -- Spares are given to due slots, one after another.
-use Rattle.std.proofs.Common.{◌≡◌, ◌≢◌, ◌==◌, ◌||◌, ◌<◌, ◌≤◌, ◌+◌, ◌++◌, ◌∙◌, ◌⊎◌, inl, inr, not, [], ◌∷◌, ℕ, zero, suc, Bool, true, false, List, Option, Some, None, Contains, arith, refl, sym, ap, subst, length, map, take, append_assoc}
+use Rattle.std.proofs.Common.{◌≡◌, ◌==◌, ◌||◌, ◌<◌, ◌≤◌, ◌+◌, ◌++◌, ◌∙◌, ◌⊎◌, inl, inr, not, [], ◌∷◌, ℕ, zero, suc, Bool, true, false, List, Option, Some, None, Contains, arith, refl, sym, ap, subst, length, take, append_assoc}
 use Rattle.std.specs.Prelude.{filter, slice_get}
-use Rattle.std.specs.List.{list_any}
 use Rattle.std.proofs.lemmas.Bool.{cases_eq}
 use Rattle.std.proofs.lemmas.List.{append-nil, length-append, length-map, take_all, take_more}
 use Rattle.std.proofs.lemmas.List.Elements.{Contains-append_cases, Contains-append_left, Contains-push}
@@ -16,7 +15,7 @@ use Rattle.draid_spec.specs.declared.layout.Geometry.{Geometry}
 use Rattle.draid_perm.specs.declared.perms.Perms.{Perms}
 use Rattle.draid_rack.specs.declared.Rack as racks
 use Rattle.draid_area.specs.declared.Area as areas
-use Rattle.draid_machine.proofs.Small.{absurd_test, bool_cases, either_true, is_equal, true_left, true_right}
+use Rattle.draid_machine.proofs.Small.{absurd_test, either_true, is_equal, true_left, true_right}
 use Rattle.draid_slots.specs.Faults.{MayAttach}
 use Rattle.draid_slots.specs.Table.{SlotTable, arms_of, has_spare, is_spare_of, was_spare_of}
 use Rattle.draid_slots.specs.declared.slot.Detached.{Detached}
@@ -35,8 +34,8 @@ use Rattle.draid_pool.specs.Syncing.{Phase}
 use Rattle.draid_pool.specs.declared.pool.Pool.{Pool}
 use Rattle.draid_pool.proofs.Steps.{carried, carries_so}
 use Rattle.draid_pool.proofs.SyncCalls.{then_phase}
-use Rattle.draid_changes.specs.Dues.{AreFree, IsIdleIn, IsIdleOf}
-use Rattle.draid_changes.specs.Giving.{AllGet, AllMayTake, GaveAll, GaveOne, GetsOf, GetsSpare, GivesOne, GivesTo, HaveRoom, IsFor, SlotsAscend}
+use Rattle.draid_changes.specs.Dues.{AreFree, IsIdleIn}
+use Rattle.draid_changes.specs.Giving.{AllGet, AllMayTake, GaveAll, GaveOne, GetsOf, GivesOne, GivesTo, HaveRoom, IsFor, SlotsAscend}
 use Rattle.draid_changes.specs.Walks.{ChangedBelow}
 use Rattle.draid_changes.proofs.Coming.{has_spare_plain}
 use Rattle.draid_changes.proofs.Frees.{ascends_below, free_less, free_still, given_before, given_last}

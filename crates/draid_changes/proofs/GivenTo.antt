@@ -1,5 +1,5 @@
 -- What was reserved for due slots leaves their slots as they are, and they get spares behind it.
-use Rattle.std.proofs.Common.{◌≡◌, ◌≢◌, ◌<◌, ◌≤◌, ◌+◌, ◌-◌, ◌++◌, ◌||◌, ◌∙◌, inl, inr, [], ◌∷◌, ℕ, Bool, true, false, List, Option, Some, Ok, Err, arith, refl, sym, ap, subst, length, drop, take}
+use Rattle.std.proofs.Common.{◌≡◌, ◌<◌, ◌+◌, ◌-◌, ◌++◌, ◌||◌, ◌∙◌, inl, inr, [], ◌∷◌, ℕ, Bool, List, Option, Some, Err, arith, refl, sym, ap, subst, length, drop, take}
 use Rattle.std.specs.Prelude.{slice_get}
 use Rattle.std.specs.List.{list_any}
 use Rattle.std.proofs.lemmas.Bool.{cases_lt}

@@ -1,5 +1,5 @@
 -- What due slots got by the shards of a pool is what is seen of it.
-use Rattle.std.proofs.Common.{◌≡◌, ◌≢◌, ◌==◌, ◌&&◌, ◌||◌, ◌<◌, ◌≤◌, ◌+◌, ◌++◌, ◌∙◌, ◌⊎◌, inl, inr, not, [], ◌∷◌, ℕ, zero, suc, Bool, true, false, nat_le, List, Option, Some, None, Contains, arith, refl, sym, ap, subst, length, if◌then◌else◌}
+use Rattle.std.proofs.Common.{◌≡◌, ◌==◌, ◌&&◌, ◌||◌, ◌<◌, ◌≤◌, ◌+◌, ◌++◌, ◌∙◌, inl, inr, not, [], ◌∷◌, ℕ, zero, suc, Bool, true, false, nat_le, List, Option, Some, None, Contains, arith, refl, sym, ap, subst, length, if◌then◌else◌}
 use Rattle.std.specs.Prelude.{slice_get}
 use Rattle.std.specs.List.{list_any}
 use Rattle.std.proofs.lemmas.Bool.{cases_eq}
@@ -17,7 +17,6 @@ use Rattle.draid_shard.specs.declared.shard.Shard.{Shard}
 use Rattle.draid_shard.proofs.Among.{has_behind, has_cases, has_first, has_nothing}
 use Rattle.draid_agent.specs.Due.{cause_of, due_by, dues}
 use Rattle.draid_agent.specs.declared.states.Due.{Due}
-use Rattle.draid_agent.specs.declared.states.SlotState.{SlotState}
 use Rattle.draid_disks.specs.Checks.{missed_over}
 use Rattle.draid_session.specs.Agent.{AreFreeAt, Gets, GivesFrom, IsDue, IsntDue, WasGiven, logged_of}
 use Rattle.draid_session.specs.Arms as arms

@@ -11,7 +11,6 @@ use Rattle.draid_shard.specs.declared.shard.Shard.{Shard}
 use Rattle.draid_shard.proofs.Changed.{arms_kept}
 use Rattle.draid_disks.specs.Disks.{IsLeafArm}
 use Rattle.draid_session.specs.Arms as arms
-use Rattle.draid_session.specs.Groups as groups
 use Rattle.draid_session.specs.Phases.{Starved, WasWorn}
 use Rattle.draid_session.specs.State.{State}
 use Rattle.draid_uber.specs.declared.uber.Uber.{Uber}

@@ -1,5 +1,5 @@
 -- What the agent's call on the arms says: a closing group is finished first.
-use Rattle.std.proofs.Common.{◌≡◌, ◌≢◌, ◌<◌, ◌+◌, ◌++◌, ◌∙◌, ◌⊎◌, inl, inr, [], ◌∷◌, ℕ, Bool, List, Option, Some, None, Result, Ok, Err, arith, refl, sym, ap, subst, length}
+use Rattle.std.proofs.Common.{◌≡◌, ◌<◌, ◌+◌, ◌++◌, ◌∙◌, inl, inr, [], ℕ, Bool, List, Option, Some, None, Result, Ok, Err, arith, refl, sym, ap, subst}
 use Rattle.std.specs.Prelude.{option_map, slice_get}
 use Rattle.std.proofs.lemmas.List.{append-nil}
 use Rattle.std.proofs.lemmas.Option.{slice_get_within}
@@ -10,17 +10,16 @@ use Rattle.draid_rack.specs.declared.Rack as racks
 use Rattle.draid_area.specs.declared.Area as areas
 use Rattle.draid_slots.specs.States.{pass_in}
 use Rattle.draid_shard.specs.Part.{Part}
-use Rattle.draid_shard.specs.declared.shard.Shard.{Shard}
 use Rattle.draid_disks.specs.Checks as checks
 use Rattle.draid_session.specs.Agent as agent
 use Rattle.draid_session.specs.Arms as arms
 use Rattle.draid_session.specs.Groups as groups
 use Rattle.draid_session.specs.Holds.{Hold, View}
-use Rattle.draid_session.specs.Looks.{Looks, LooksFrom}
-use Rattle.draid_session.specs.Phases.{Chain, Went}
+use Rattle.draid_session.specs.Looks.{LooksFrom}
+use Rattle.draid_session.specs.Phases.{Went}
 use Rattle.draid_session.specs.State.{Metaslab, State, Store}
 use Rattle.draid_pool.specs.Carries.{CarriesOut}
-use Rattle.draid_pool.specs.Pools.{Represents, part_in}
+use Rattle.draid_pool.specs.Pools.{Represents}
 use Rattle.draid_pool.specs.Syncing.{Phase, end_of}
 use Rattle.draid_pool.specs.Views.{seen_at}
 use Rattle.draid_pool.specs.Whole.{IsWhole}

@@ -1,9 +1,9 @@
 -- What metaslabs show of the slots, one after another.
-use Rattle.std.proofs.Common.{◌≡◌, ◌<◌, ◌+◌, ◌++◌, ◌∙◌, [], ◌∷◌, ℕ, zero, suc, true, List, Option, Some, arith, ap, refl, subst, sym, length}
-use Rattle.std.specs.Prelude.{slice_get, slice_index_or, All}
+use Rattle.std.proofs.Common.{◌≡◌, ◌<◌, ◌+◌, ◌++◌, ◌∙◌, [], ◌∷◌, ℕ, zero, suc, true, List, Some, arith, ap, refl, length}
+use Rattle.std.specs.Prelude.{slice_get}
 use Rattle.draid_names.specs.declared.arm.Arm.{Arm}
 use Rattle.draid_machine.proofs.Small.{absurd_test}
-use Rattle.draid_slots.specs.Table.{IsSlot, IsTable, SlotTable, arms_of, has_leaf}
+use Rattle.draid_slots.specs.Table.{IsTable, SlotTable, arms_of, has_leaf}
 use Rattle.draid_shard.specs.declared.shard.Shard.{Shard}
 use Rattle.draid_agent.specs.declared.states.SlotState.{SlotState}
 use Rattle.draid_disks.specs.Checks.{AreAlike}

@@ -1,6 +1,5 @@
 -- Spares come one after another, for which all was reserved.
-use Rattle.std.proofs.Common.{◌≡◌, ◌<◌, ◌≤◌, ◌+◌, ◌∙◌, ℕ, Option, Some, None, Result, Ok, Err, OnOk, arith, refl, ap, subst, sym, length}
-use Rattle.std.specs.Prelude.{slice_get}
+use Rattle.std.proofs.Common.{◌≡◌, ◌<◌, ◌≤◌, ◌+◌, ◌∙◌, ℕ, Option, Result, Ok, Err, OnOk, arith, ap, subst, sym, length}
 use Rattle.std.proofs.lemmas.List.Elements.{All-weaker}
 use Rattle.draid_names.specs.declared.arm.ArmKind.TheVariants as kind
 use Rattle.draid_rack.specs.declared.Rack as racks
@@ -29,13 +28,13 @@ use Rattle.draid_pool.specs.Whole.{IsWhole}
 use Rattle.draid_pool.specs.declared.pool.Pool.{Pool}
 use Rattle.draid_changes.specs.Attaching.{Attaches, MayCome}
 use Rattle.draid_changes.specs.Balancing.{HasNoPass}
-use Rattle.draid_changes.specs.Giving.{AllMayTake, AllReady, AllGet, AllStay, IsReady}
+use Rattle.draid_changes.specs.Giving.{AllReady, AllGet, AllStay, IsReady}
 use Rattle.draid_changes.specs.Walks.{ChangedBelow, Reserves}
 use Rattle.draid_changes.specs.declared.need.Need.TheVariants as needs
 use Rattle.draid_changes.proofs.Attached.{attach_turns, attached_shared}
 use Rattle.draid_changes.proofs.Balanced.{no_passes_on}
 use Rattle.draid_changes.proofs.Coming.{attached_whole}
-use Rattle.draid_changes.proofs.Events.{areas_changed, each_changed, events_done, idle_reserved, unsealed}
+use Rattle.draid_changes.proofs.Events.{each_changed, events_done, unsealed}
 use Rattle.draid_changes.proofs.Spared.{no_leaf}
 use Rattle.draid_changes.proofs.Walk.{changed_at}
 use Rattle.draid_changes.proofs.Whole.{SameOwn}

@@ -3,7 +3,6 @@ use Rattle.std.specs.Prelude.{◌≡◌, ◌≢◌, ◌+◌, ◌<◌, ◌++◌, 
 use Rattle.draid_names.specs.declared.journal.Cause.{Cause}
 use Rattle.draid_names.specs.declared.journal.Entry.{Entry}
 use Rattle.draid_spec.specs.declared.layout.Geometry.{Geometry}
-use Rattle.draid_perm.specs.declared.perms.Perms.{Perms}
 use Rattle.draid_session.specs.Agent as agent
 use Rattle.draid_session.specs.Agent.{AttachesAll, Gives, IsDue, IsntDue, SomeCame}
 use Rattle.draid_session.specs.Arms.{HasPass, ReservePhase}
@@ -13,7 +12,6 @@ use Rattle.draid_session.specs.Looks.{Looks, OnlyLooks}
 use Rattle.draid_session.specs.Phases.{Chain, End, NoneOf, Starved, Went}
 use Rattle.draid_session.specs.State.{State, Store}
 use Rattle.draid_pool.specs.Syncing.{end_of}
-use Rattle.draid_pool.specs.declared.fault.SyncFault.{SyncFault}
 use Rattle.draid_pool.specs.declared.fault.SyncFault.TheVariants as sync
 use Rattle.draid_changes.specs.declared.agent.GiveFault.{GiveFault}
 use Rattle.draid_changes.specs.declared.agent.GiveFault.TheVariants as fault

@@ -1,8 +1,7 @@
 -- Which slots are due for a spare, and which spares are free, by the slots of a pool.
-use Rattle.std.specs.Prelude.{◌≡◌, ◌+◌, ◌<◌, ◌≤◌, ⊤, ℕ, zero, suc, false, List, [], ◌∷◌, Contains, length, slice_index_or}
+use Rattle.std.specs.Prelude.{◌≡◌, ◌+◌, ◌<◌, ◌≤◌, ℕ, zero, suc, false, List, [], ◌∷◌, Contains, length, slice_index_or}
 use Rattle.draid_names.specs.declared.arm.Arm.{Arm}
 use Rattle.draid_names.specs.declared.arm.ArmAt.{ArmAt}
-use Rattle.draid_names.specs.declared.journal.Did.TheVariants.{Spared}
 use Rattle.draid_names.specs.declared.journal.Entry.{Entry}
 use Rattle.draid_slots.specs.declared.slot.Detached.{Detached}
 use Rattle.draid_slots.specs.Changes.{new_arm}

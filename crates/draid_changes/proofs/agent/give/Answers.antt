@@ -1,4 +1,4 @@
-use Rattle.std.proofs.Common.{◌≡◌, ℕ, Bool, List, Result, Ok, Err, ap, refl, subst}
+use Rattle.std.proofs.Common.{Bool, List, Result, Err, ap, subst}
 use Rattle.draid_agent.specs.Policy.{PolicyReturns}
 use Rattle.draid_shard.specs.declared.shard.Shard.{Shard}
 use Rattle.draid_disks.specs.Checks.{IsLowestPass, NoPass}

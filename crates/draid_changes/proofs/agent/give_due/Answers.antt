@@ -1,4 +1,4 @@
-use Rattle.std.proofs.Common.{◌≡◌, ◌==◌, ◌<◌, ◌+◌, ◌∙◌, [], ◌∷◌, ℕ, List, Some, arith, ap, refl, subst, sym, length}
+use Rattle.std.proofs.Common.{◌≡◌, ◌==◌, ◌<◌, ◌∙◌, [], ◌∷◌, ℕ, List, Some, arith, ap, refl, subst, sym, length}
 use Rattle.std.specs.Prelude.{Contains, slice_get, vec_len}
 use Rattle.draid_rack.specs.declared.Rack as racks
 use Rattle.draid_area.specs.declared.Area as areas
@@ -6,7 +6,6 @@ use Rattle.draid_machine.proofs.Small.{absurd_test, equal, is_equal, some_same}
 use Rattle.draid_shard.specs.declared.shard.Shard.{Shard}
 use Rattle.draid_agent.specs.declared.states.Due.{Due}
 use Rattle.draid_agent.specs.Policy.{PolicyReturns}
-use Rattle.draid_slots.specs.Table.{arms_of}
 use Rattle.draid_pool.specs.Whole.{IsWhole}
 use Rattle.draid_pool.specs.declared.pool.Pool.{Pool}
 use Rattle.draid_changes.specs.Dues.{AreFree, IsIdleIn, due_in}

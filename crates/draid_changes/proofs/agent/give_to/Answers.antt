@@ -1,4 +1,4 @@
-use Rattle.std.proofs.Common.{◌≡◌, ◌∙◌, ℕ, List, ap}
+use Rattle.std.proofs.Common.{◌∙◌, List, ap}
 use Rattle.std.specs.List.{list_any}
 use Rattle.draid_names.specs.declared.journal.Entry.{Entry}
 use Rattle.draid_agent.specs.Policy.{PolicyReturns}

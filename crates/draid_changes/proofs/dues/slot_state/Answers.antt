@@ -1,9 +1,8 @@
-use Rattle.std.proofs.Common.{◌≡◌, ◌<◌, ◌∙◌, ℕ, List, ap, subst, sym, length}
+use Rattle.std.proofs.Common.{◌<◌, ◌∙◌, List, ap, subst, sym, length}
 use Rattle.std.specs.Prelude.{slice_index_or}
 use Rattle.draid_names.specs.declared.arm.Arm.{Arm}
 use Rattle.draid_slots.specs.Changes.{new_arm}
 use Rattle.draid_slots.specs.Table.{is_leaf_kind}
-use Rattle.draid_agent.specs.declared.states.SlotState.{SlotState}
 use Rattle.draid_changes.proofs.Shown.{has_arm, has_arm_there}
 use Rattle.draid_changes.proofs.dues.slot_state.Goals as goal
 

@@ -1,4 +1,4 @@
-use Rattle.std.proofs.Common.{◌≡◌, ◌+◌, [], ◌∷◌, ◌++◌, ◌∙◌, ℕ, suc, List, ap, arith, refl, sym}
+use Rattle.std.proofs.Common.{◌≡◌, ◌+◌, [], ◌∷◌, ◌++◌, ◌∙◌, suc, List, ap, arith, sym}
 use Rattle.draid_agent.specs.declared.states.SlotState.{SlotState}
 use Rattle.draid_changes.specs.Dues.{shown_from, shown_of}
 use Rattle.draid_changes.proofs.Shown.{shown_more}

@@ -1,5 +1,4 @@
-use Rattle.std.proofs.Common.{◌≡◌, ◌+◌, ◌-◌, ◌≤◌, ◌∙◌, ℕ, Some, arith, refl, get_or, length, subst, sym}
-use Rattle.std.specs.Prelude.{slice_get}
+use Rattle.std.proofs.Common.{◌+◌, ◌-◌, ◌∙◌, arith, refl, get_or, length, subst, sym}
 use Rattle.std.proofs.lemmas.Option.{slice_get-get_or}
 use Rattle.draid_names.specs.declared.journal.Cause.TheVariants.{Offline}
 use Rattle.draid_names.specs.declared.journal.Entry.{Entry}

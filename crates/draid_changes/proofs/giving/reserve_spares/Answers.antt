@@ -1,4 +1,4 @@
-use Rattle.std.proofs.Common.{ℕ, length}
+use Rattle.std.proofs.Common.{length}
 use Rattle.draid_pool.specs.Syncing.{AreIdle}
 use Rattle.draid_pool.proofs.Wholes.{same_pointers}
 use Rattle.draid_changes.specs.Giving.{AllReady, AllStay}
