@@ -38,7 +38,7 @@ use Rattle.draid_changes.proofs.Whole.{SameOwn, whole_changed}
 
 -- ---- an arm that may come to one table may come to another with the same arms
 
-has_spare_plain : (spare : ℕ) (arms : List Arm) → has_spare (map plain arms) spare ≡ has_spare arms spare
+pub has_spare_plain : (spare : ℕ) (arms : List Arm) → has_spare (map plain arms) spare ≡ has_spare arms spare
 has_spare_plain spare [] = refl
 has_spare_plain spare (a ∷ arms) = ap (λ b. is_spare_of spare a || b) (has_spare_plain spare arms)
 
@@ -160,7 +160,7 @@ module _ {R A : Type 0} (rack : racks.Ghosts R) (area : areas.Ghosts A) where
       record {
         valid = (v.shards m z at).valid;
         reserved = was.2.reserved;
-        room = was.2.room;
+        room = record { slots = was.2.room.slots; targets = was.2.room.targets };
         leaf = fresh m z at;
         may = may_shared one.0.slots z.slots slot (arm_called k number) (slots_layout late m z v at ∙ sym (slots_layout late 0 one.0 v one.1)) (v.alike 0 m one.0 z one.1 at) was.2.sound
             (may_kept first.slots one.0.slots slot (arm_called k number) one.2.slots may.may);

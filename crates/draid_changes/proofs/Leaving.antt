@@ -137,7 +137,7 @@ module _ {R A : Type 0} (rack : racks.Ghosts R) (area : areas.Ghosts A) where
       → ChangedBelow (Reserves needs.Event) (length mid.metaslabs.shards.items) mid.metaslabs.shards.items late.metaslabs.shards.items → (m : ℕ) (z : Shard R A) → slice_get late.metaslabs.shards.items m ≡ Some z → MayLeave rack at n z
   may_leave mid late at n w idle may c m z there =
       let was = changed_at (Reserves needs.Event) mid.metaslabs.shards.items late.metaslabs.shards.items c m z there in
-      record { valid = (w.shards m z there).valid; reserved = was.2.reserved; room = was.2.room; idle = idle m z there; may = goes_still at n was.0 z was.2 (may m was.0 was.1) }
+      record { valid = (w.shards m z there).valid; reserved = was.2.reserved; room = record { slots = was.2.room.slots; targets = was.2.room.targets }; idle = idle m z there; may = goes_still at n was.0 z was.2 (may m was.0 was.1) }
 
   module _ (at : ArmAt) (n : ArmName) (late new : Pool R A)
       (changes : ChangedBelow (Leaves rack at n) (length late.metaslabs.shards.items) late.metaslabs.shards.items new.metaslabs.shards.items) (set : SameOwn late new) where

@@ -96,7 +96,7 @@ module _ {R A : Type 0} (rack : racks.Ghosts R) (area : areas.Ghosts A) where
         (changed_more (Reserves needs.Event) m pool.metaslabs.shards.items mid.metaslabs.shards.items shard after i.reserves set.there
         (record {
           reserved = (let is = e.reserved in omega (arith, is));
-          room = e.room;
+          room = record { slots = e.room.slots; targets = e.room.targets };
           slots = arms_kept shard.slots after.slots e.slots;
           logs = e.slots;
           sound = e.sound;

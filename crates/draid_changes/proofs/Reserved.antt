@@ -65,6 +65,7 @@ same_attach (Some p) (Some q) same = λ i. attach_events (Some (record q { kind 
 pub same_need : {R A : Type 0} (need : Need) (old new : Shard R A) → SamePass old.pass new.pass → events_in need new ≡ events_in need old
 same_need needs.Event old new same = refl
 same_need needs.Attachment old new same = same_attach old.pass new.pass same
+same_need (needs.Spares count) old new same = refl
 
 -- ---- passes
 
@@ -96,6 +97,7 @@ module _ {R A : Type 0} (rack : racks.Ghosts R) (area : areas.Ghosts A) where
 
   pub asks_for : (need : Need) (old : Shard R A) → AsksFor (events_at need) old (events_in need old)
   asks_for needs.Event old part pieces x is = refl
+  asks_for (needs.Spares count) old part pieces x is = refl
   asks_for needs.Attachment old part pieces x is = ap replans is.stands.is_in.pass ∙ same_events old.slots old.pass
 
   worn_there : (events : ℕ) (part : Part) (pieces : Pieces) (old : Shard R A) (x : Metaslab) → IsMetaslab rack area part pieces old x → reserved_of old.history < events

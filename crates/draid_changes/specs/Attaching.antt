@@ -20,7 +20,7 @@ use Rattle.draid_shard.specs.Fits.{Valid}
 use Rattle.draid_shard.specs.States.{Does}
 use Rattle.draid_shard.specs.declared.shard.Shard.{Shard}
 use Rattle.draid_disks.specs.Checks.{Each}
-use Rattle.draid_disks.specs.Disks.{HasArmRoom, HasAttached, IsNewLeaf, Uses, arm_called}
+use Rattle.draid_disks.specs.Disks.{HasArmRoom, HasAttached, IsNewLeaf, TakesRoomOfOne, Uses, arm_called}
 use Rattle.draid_disks.specs.Replanning.{MayReplan, attach_events}
 
 -- no rule forbids the arm in a metaslab, and events and room are reserved for it there
@@ -41,6 +41,7 @@ pub record Attaches {R A : Type 0} (rack : Ghosts R) (slot : ℕ) (kind : ArmKin
   pub keeps : KeepsBlocks old new
   pub slots : HasAttached old.slots new.slots slot (arm_called kind number)
   pub reserve : Uses old.history new.history (attach_events old.pass)
+  pub left : TakesRoomOfOne old new
 
 -- ---- the rules
 

@@ -1,9 +1,12 @@
+pub mod Agent
 pub mod Answers
 pub mod Attaching
 pub mod Balancing
 pub mod Behind
 pub mod DetachSays
 pub mod Detaching
+pub mod Dues
+pub mod Giving
 pub mod Making
 pub mod Says
 pub mod Switching

@@ -15,7 +15,7 @@ use Rattle.draid_shard.specs.Changes.{KeepsBlocks, SameGroups}
 use Rattle.draid_shard.specs.Fits.{Valid}
 use Rattle.draid_shard.specs.States.{Does}
 use Rattle.draid_shard.specs.declared.shard.Shard.{Shard}
-use Rattle.draid_disks.specs.Disks.{HasArmRoom, SamePass, Uses}
+use Rattle.draid_disks.specs.Disks.{HasRoomFor, SamePass, Uses}
 use Rattle.draid_disks.specs.Replanning.{attach_events}
 use Rattle.draid_session.specs.Follows.{replans}
 use Rattle.draid_session.specs.Holds.{View}
@@ -42,15 +42,23 @@ end_of_reserving (Err reserve.NoMemory) = Starved
 abbrev pub events_in : {R A : Type 0} → Need → Shard R A → ℕ
 events_in needs.Event shard = 1
 events_in needs.Attachment shard = attach_events shard.pass
+events_in (needs.Spares count) shard = count
 
 abbrev pub events_at : Need → View → ℕ
 events_at needs.Event = λ v. 1
 events_at needs.Attachment = λ v. replans v.world.core.pass
+events_at (needs.Spares count) = λ v. count
 
--- So many events at least are reserved, and there is room in memory for a change of arms. All else is as it was, but for the room of a pass's list of targets.
+-- how many arms come in it one after another
+abbrev pub arms_in : Need → ℕ
+arms_in needs.Event = 1
+arms_in needs.Attachment = 1
+arms_in (needs.Spares count) = count
+
+-- So many events at least are reserved, and there is room in memory for the changes of arms. All else is as it was, but for the room of a pass's list of targets.
 pub record Reserves {R A : Type 0} (need : Need) (old new : Shard R A) : Type 0 where
   pub reserved : events_in need new ≤ reserved_of new.history
-  pub room : HasArmRoom new
+  pub room : HasRoomFor (arms_in need) new
   pub slots : KeepsArms old.slots new.slots
   pub logs : Keeps old.slots new.slots
   pub sound : IsTable new.slots

@@ -3,11 +3,14 @@
 
 #![tactic(auto)]
 
+mod agent;
 mod attaching;
 mod balancing;
 mod detach_reply;
 mod detaching;
+mod dues;
 mod fault;
+mod giving;
 mod holding;
 mod making;
 mod need;
@@ -21,6 +24,7 @@ mod switching;
 mod upgrade_reply;
 mod upgrading;
 
+pub use agent::{GiveFault, give};
 pub use balancing::detach_others;
 pub use detach_reply::reply_to_detach;
 pub use detaching::{DetachFault, detach};

@@ -5,4 +5,6 @@ pub(crate) enum Need {
     Event,
     /// The events of an attachment: where a rebuild runs, which is planned again, one more.
     Attachment,
+    /// An event for each of so many spares that come one after another, where no metaslab has a pass.
+    Spares { count: u32 },
 }

@@ -7,11 +7,11 @@ ghost use Rattle.draid_pool.specs.Passes.{KeepsPasses};
 ghost use Rattle.draid_pool.specs.Pools.{Represents};
 ghost use Rattle.draid_pool.specs.Syncing.{Phase};
 ghost use Rattle.draid_pool.specs.Whole.{IsWhole};
-ghost use Rattle.draid_changes.specs.Walks.{ChangedBelow, Reserves, end_of_reserving, events_at, events_in};
+ghost use Rattle.draid_changes.specs.Walks.{ChangedBelow, Reserves, arms_in, end_of_reserving, events_at, events_in};
 
 use crate::need::Need;
 use draid_area::Area;
-use draid_disks::{attach_events, reserve};
+use draid_disks::{attach_events, reserve_for};
 use draid_entries::ReserveFault;
 use draid_pool::Pool;
 use draid_rack::Rack;
@@ -24,10 +24,21 @@ fn events_in<R: Rack, A: Area>(shard: &Shard<R, A>, need: Need) -> u32
     match need {
         Need::Event => 1,
         Need::Attachment => attach_events(shard),
+        Need::Spares { count } => count,
     }
 }
 
-/// Reserves in each metaslab the events that a change asks for there, and the memory for a change of its arms.
+/// How many arms come one after another in a change.
+fn arms_in(need: Need) -> u32
+    ensures { result ≡ arms_in need }
+{
+    match need {
+        Need::Event | Need::Attachment => 1,
+        Need::Spares { count } => count,
+    }
+}
+
+/// Reserves in each metaslab the events that a change asks for there, and the memory for the changes of its arms.
 pub(crate) fn reserve_all<R: Rack, A: Area>(
     pool: &mut Pool<R, A>,
     need: Need,
@@ -45,7 +56,7 @@ pub(crate) fn reserve_all<R: Rack, A: Area>(
     for metaslab in 0..pool.metaslabs.shards.len() {
         let shard = &mut pool.metaslabs.shards[metaslab];
         let events = events_in(shard, need);
-        match reserve(shard, events) {
+        match reserve_for(shard, events, arms_in(need)) {
             Ok(()) => {}
             Err(fault) => return Err(fault),
         }

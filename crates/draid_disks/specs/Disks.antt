@@ -46,6 +46,16 @@ pub record HasArmRoom {R A : Type 0} (shard : Shard R A) : Type 0 where
   pub slots : HasRoom shard.slots 8 1
   pub targets : IfSome shard.pass (λ (pass : Pass). HasTargetRoom shard.slots pass.targets)
 
+-- Room in memory for so many arms that come one after another where there is no pass, and behind that for as many changes as a change of arms asks for beside its own.
+pub record HasRoomFor {R A : Type 0} (arms : ℕ) (shard : Shard R A) : Type 0 where
+  pub slots : HasRoom shard.slots (arms + 7) arms
+  pub targets : IfSome shard.pass (λ (pass : Pass). HasTargetRoom shard.slots pass.targets)
+
+-- Where there is no pass, none comes with an arm, and that takes the room of one.
+pub record TakesRoomOfOne {R A : Type 0} (old new : Shard R A) : Type 0 where
+  pub idle : old.pass ≡ None → new.pass ≡ None
+  pub room : (arms : ℕ) → old.pass ≡ None → HasRoomFor (arms + 1) old → HasRoomFor arms new
+
 -- why an arm doesn't come: it may not, or a rebuild can't be planned again
 abbrev pub IsComingRefused : {R A : Type 0} → Shard R A → ℕ → Arm → SlotFault → Type 0
 IsComingRefused shard slot arm Last = MayAttach shard.slots slot arm × (MayReplan shard.pass shard.last_pass shard.open_group → ⊥)

@@ -55,6 +55,11 @@ pub record Relogs (old new : SlotTable) : Type 0 where
   pub detached_stay : new.detached ≡ old.detached
   pub room : (at : ArmAt) → room_at old at ≤ room_at new at + 1
 
+-- nothing came of it, and there is no pass
+pub record NoReplan (old new : SlotTable) (now : Option Pass) : Type 0 where
+  pub same : new ≡ old
+  pub none : now ≡ None
+
 -- a state has the slots, the pass, and the number of the last pass
 pub record HasPass (slots : SlotTable) (pass : Option Pass) (last : ℕ) (q : machine.Core) : Type 0 where
   pub slots_are : HasSlots slots q

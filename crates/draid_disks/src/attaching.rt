@@ -10,7 +10,7 @@ ghost use Rattle.draid_shard.specs.Changes.{KeepsBlocks};
 ghost use Rattle.draid_shard.specs.Fits.{Valid};
 ghost use Rattle.draid_shard.specs.States.{Does, IsIn};
 ghost use Rattle.draid_machine.specs.Names.{named};
-ghost use Rattle.draid_disks.specs.Disks.{HasArmRoom, HasAttached, IsComingRefused, IsNewLeaf, Uses, arm_called};
+ghost use Rattle.draid_disks.specs.Disks.{HasArmRoom, HasAttached, IsComingRefused, IsNewLeaf, TakesRoomOfOne, Uses, arm_called};
 ghost use Rattle.draid_disks.specs.Replanning.{MayReplan, attach_events};
 
 use crate::renewing::renew;
@@ -82,6 +82,7 @@ pub fn attach<R: Rack, A: Area>(
     ensures acts { OnOk result ((pieces : Pieces) → ActsOn R.Rack shard.old shard.new (Attach slot (named kind number)) pieces) }
     ensures arms { OnOk result (HasAttached shard.old.slots shard.new.slots slot (arm_called kind number)) }
     ensures reserve { OnOk result (Uses shard.old.history shard.new.history (attach_events shard.old.pass)) }
+    ensures left { OnOk result (TakesRoomOfOne shard.old shard.new) }
     ensures keeps { KeepsBlocks shard.old shard.new }
     ensures refused { IfErr result (IsComingRefused shard.old slot (arm_called kind number)) }
     ensures same { OnErr result (shard.new ≡ shard.old) }

@@ -40,7 +40,7 @@ pub fn lowest_pass<R: Rack, A: Area>(shards: &[Shard<R, A>]) -> Option<(u32, u64
 }
 
 /// How many groups the arm at a place missed, over all metaslabs.
-fn missed_over<R: Rack, A: Area>(shards: &[Shard<R, A>], at: ArmAt) -> u64
+pub fn missed_over<R: Rack, A: Area>(shards: &[Shard<R, A>], at: ArmAt) -> u64
     requires few { length shards.now ≤ 64 }
     requires there { Each (λ (shard : Shard R A). IsThere shard.slots at) shards.now }
     ensures sum { result ≡ missed_over shards.now at }

@@ -1,9 +1,9 @@
-ghost use Rattle.std.specs.Prelude.{◌≡◌, ◌+◌, ◌<◌, IfSome, true};
+ghost use Rattle.std.specs.Prelude.{◌≡◌, ◌+◌, ◌<◌, IfSome, None, true};
 ghost use Rattle.draid_names.specs.declared.numbers.TheConstants.{LAST_NUMBER};
 ghost use Rattle.draid_plans.specs.Targets.{HasTargetRoom};
 ghost use Rattle.draid_shard.specs.Fits.{is_rebuild, owed_for_pass};
 ghost use Rattle.draid_slots.specs.States.{HoldsPass};
-ghost use Rattle.draid_disks.specs.Replanning.{LogsHaveOne, MayReplan, Relogs, ReplansAll, attach_events};
+ghost use Rattle.draid_disks.specs.Replanning.{LogsHaveOne, MayReplan, NoReplan, Relogs, ReplansAll, attach_events};
 
 use crate::marking::marks_of;
 use draid_names::PassKind;
@@ -25,6 +25,7 @@ pub(crate) fn replan(
     requires targets { IfSome pass.old (λ p. HasTargetRoom slots.old p.targets) }
     requires logs { LogsHaveOne slots.old }
     ensures slots { Relogs slots.old slots.new }
+    ensures none { pass.old ≡ None → NoReplan slots.old slots.new pass.new }
     ensures pass { IfSome pass.new (HoldsPass slots.new last.new) }
     ensures kind { is_rebuild pass.new ≡ is_rebuild pass.old }
     ensures owed { owed_for_pass pass.new + 1 ≡ owed_for_pass pass.old + attach_events pass.old }

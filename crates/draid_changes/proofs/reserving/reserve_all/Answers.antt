@@ -4,6 +4,7 @@ use Rattle.draid_rack.specs.declared.Rack as racks
 use Rattle.draid_area.specs.declared.Area as areas
 use Rattle.draid_shard.specs.declared.shard.Shard.{Shard}
 use Rattle.draid_shard.proofs.Changed.{arms_kept}
+use Rattle.draid_disks.specs.Disks.{HasRoomFor}
 use Rattle.draid_session.specs.Arms as arms
 use Rattle.draid_pool.proofs.Lifted.{sets_shard, with_shard}
 use Rattle.draid_pool.proofs.Rises.{areas_on, areas_set, areas_still, records_same}
@@ -32,8 +33,8 @@ loop-metaslab-init g c = record {
   many = refl;
 }
 
-pub reserve-requires : goal.reserve-requires
-reserve-requires g c =
+pub reserve_for-requires : goal.reserve_for-requires
+reserve_for-requires g c =
     let l = c.loop-metaslab in
     let i = l.invariant in
     let shard = c.index_mut-shard.result.now in
@@ -54,7 +55,7 @@ returns-in-Err g c =
     let vec = c.args.pool.now.metaslabs.shards.ok.0 in
     let many = i.many in
     let there = borrowed_at l.pool.metaslabs.shards.items l.metaslab shard (omega (arith, below, len, vec, many)) c.index_mut-shard.ensures.value in
-    let after = c.reserve.new.shard in
+    let after = c.reserve_for.new.shard in
     let new = with_shard l.pool l.metaslab after in
     let set = sets_shard g.R.Rack g.A.Area l.pool l.metaslab shard after there in
     let e = c.in-Err.ensures in
@@ -82,7 +83,7 @@ loop-metaslab-preserved g c =
     let vec = c.args.pool.now.metaslabs.shards.ok.0 in
     let many = i.many in
     let there = borrowed_at l.pool.metaslabs.shards.items l.metaslab shard (omega (arith, below, len, vec, many)) c.index_mut-shard.ensures.value in
-    let after = c.reserve.new.shard in
+    let after = c.reserve_for.new.shard in
     let new = with_shard l.pool l.metaslab after in
     let set = sets_shard g.R.Rack g.A.Area l.pool l.metaslab shard after there in
     let e = c.in-Ok.ensures in
@@ -95,7 +96,7 @@ loop-metaslab-preserved g c =
       reserves = changed_more (Reserves c.args.need) l.metaslab c.args.pool.now.metaslabs.shards.items l.pool.metaslabs.shards.items shard after i.reserves there
           (record {
             reserved = (let used = c.events_in-events.ensures in let same = same_need c.args.need shard after e.pass in omega (arith, reserved, used, same));
-            room = e.room;
+            room = subst (λ n. HasRoomFor n after) c.arms_in.ensures e.room;
             slots = arms_kept shard.slots after.slots e.arms;
             logs = e.arms;
             sound = e.sound;

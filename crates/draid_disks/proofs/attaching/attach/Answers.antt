@@ -1,5 +1,9 @@
-use Rattle.std.proofs.Common.{◌≡◌, ◌≤◌, ◌+◌, ◌-◌, ◌∷◌, ◌++◌, ◌∙◌, [], List, ap, arith, length, refl, subst}
+use Rattle.std.proofs.Common.{◌≡◌, ◌≤◌, ◌+◌, ◌-◌, ◌∷◌, ◌++◌, ◌∙◌, [], IfSome, List, Option, ap, arith, length, refl, subst, sym}
 use Rattle.draid_machine.specs.declared.event.Event.{Event}
+use Rattle.draid_pass.specs.declared.pass.Pass.{Pass}
+use Rattle.draid_plans.specs.Targets.{HasTargetRoom}
+use Rattle.draid_slots.specs.Changes.{HasRoom}
+use Rattle.draid_slots.specs.Table.{SlotTable}
 use Rattle.draid_entries.specs.History.{owed_of, stored_of}
 use Rattle.draid_shard.specs.Loans.{owed_for_loan}
 use Rattle.draid_shard.proofs.Kept.{stored_more}
@@ -8,7 +12,7 @@ use Rattle.draid_machine.specs.declared.names.ArmName.{ArmName}
 use Rattle.draid_shard.specs.States.{stored_in}
 use Rattle.draid_disks.specs.Renewing.{moved_below}
 use Rattle.draid_disks.specs.Replanning.{attach_events}
-use Rattle.draid_disks.proofs.Comes.{after_shard, comes_in, comes_step, comes_valid, mid_once, mid_room, ren_held, ren_room, ren_targets, some_events, spare_small, state}
+use Rattle.draid_disks.proofs.Comes.{after_shard, comes_in, comes_step, comes_valid, mid_once, mid_room, ren_behind, ren_held, ren_room, ren_targets, some_events, spare_small, state}
 use Rattle.draid_disks.proofs.Plain.{plain_attached}
 use Rattle.draid_disks.proofs.attaching.attach.Goals as goal
 
@@ -70,3 +74,13 @@ add_reserved-requires g c =
     let reserved = c.requires.reserved in
     let same = c.drop_loan.ensures.reserved in
     record { reserved = omega (arith, some, events, wide, reserved, same) }
+
+pub returns-clause-left : goal.returns-clause-left
+returns-clause-left g c = record {
+  idle = λ none. (c.replan.ensures.none none).none;
+  room = λ arms none has. record {
+    slots = subst (λ (slots : SlotTable). HasRoom slots (arms + 7) arms) (sym (c.replan.ensures.none none).same)
+        (ren_behind g.R.Rack c.args.shard.now c.requires.valid c.args.slot c.args.kind c.args.number c.requires.leaf c.in_ok-moved.ensures.allowed c.attach.new.self c.renew.new.slots c.in_ok-moved.moved c.last_missed-upto.result c.in_ok-moved.ensures.attached c.in_ok-moved.ensures.moved c.renew.ensures arms has.slots);
+    targets = subst (λ (o : Option Pass). IfSome o (λ (pass : Pass). HasTargetRoom c.replan.new.slots pass.targets)) (sym (c.replan.ensures.none none).none) tt;
+  };
+}
