@@ -29,13 +29,13 @@ use Rattle.draid_works.specs.Failing.{AreaFailedIn, AreaFails}
 use Rattle.draid_works.specs.Mended.{BeginsMend, MendedIn, MendsRest, MendsThrough}
 use Rattle.draid_works.proofs.LaneStays.{lane_later}
 use Rattle.draid_works.proofs.MendSteps.{begins, mends_on}
-use Rattle.draid_works.proofs.SyncFails.{Reach, count_of, fails_behind, fails_in, reach_then, still_later, sync_fails, sync_later, sync_reach}
+use Rattle.draid_works.proofs.SyncFails.{Reach, fails_behind, fails_in, own_count, reach_then, still_later, sync_fails, sync_later, sync_reach}
 
 module _ {R A S : Type 0} (rack : racks.Ghosts R) (area : areas.Ghosts A) (last : S → ℕ → Option (Shard R A)) (went : S → ℕ → Shard R A → Shard R A → S → Type 0) (shared : Bool) (mine : ℕ → Bool)
     (later : (a : S) (m : ℕ) (x y : Shard R A) (b : S) → went a m x y b → x.committed ≤ y.committed) (geometry : Geometry) where
   -- holds led there, and the count of the uberblock's area didn't fall
   abbrev Leads : S → Uber A → S → Uber A → Type 0
-  Leads a u b v = Reach rack area last went shared mine later a b × (count_of area u ≤ count_of area v)
+  Leads a u b v = Reach rack area last went shared mine later a b × (own_count area u ≤ own_count area v)
 
   leads_same : (a : S) (u : Uber A) → Leads a u a u
   leads_same a u = ((0, refl), still_later area u u refl)

@@ -24,12 +24,12 @@ use Rattle.draid_lanes.specs.declared.uber.UberCell.{UberCell}
 use Rattle.draid_works.specs.Failing.{AreaFailedIn, AreaFails}
 use Rattle.draid_works.specs.Switched.{SwitchedIn, SwitchesThrough, TriedOn}
 use Rattle.draid_works.proofs.LaneStays.{lane_later}
-use Rattle.draid_works.proofs.SyncFails.{Reach, count_of, fails_behind, fails_in, finish_fails, finish_later, finish_reach, reach_then, still_later}
+use Rattle.draid_works.proofs.SyncFails.{Reach, fails_behind, fails_in, finish_fails, finish_later, finish_reach, own_count, reach_then, still_later}
 
 module _ {R A S : Type 0} (rack : racks.Ghosts R) (area : areas.Ghosts A) (last : S → ℕ → Option (Shard R A)) (went : S → ℕ → Shard R A → Shard R A → S → Type 0) (shared : Bool) (mine : ℕ → Bool)
     (later : (a : S) (m : ℕ) (x y : Shard R A) (b : S) → went a m x y b → x.committed ≤ y.committed) (count leaf : ℕ) (offline : Bool) where
   -- it was tried so often
-  tried_to : (n : ℕ) (a b : S) (u v : Uber A) → TriedOn rack area last went shared mine count leaf offline n a u b v → Reach rack area last went shared mine later a b × (count_of area u ≤ count_of area v)
+  tried_to : (n : ℕ) (a b : S) (u v : Uber A) → TriedOn rack area last went shared mine count leaf offline n a u b v → Reach rack area last went shared mine later a b × (own_count area u ≤ own_count area v)
   tried_to zero a b u v (at, same) = ((0, at), still_later area u v same)
   tried_to (suc n) a b u v (mid, w, front, tries) =
       let z = tried_to n a mid u w front in

@@ -6,7 +6,7 @@ use Rattle.draid_area.specs.declared.Area as areas
 use Rattle.draid_shard.specs.declared.shard.Shard.{Shard}
 use Rattle.draid_turn.specs.Calls.{Caller, Lock}
 use Rattle.draid_turn.specs.declared.past.Past.{Past}
-use Rattle.draid_uber.specs.Uber.{area_of}
+use Rattle.draid_uber.specs.Uber.{count_of}
 use Rattle.draid_uber.specs.declared.uber.Uber.{Uber}
 use Rattle.draid_pool.specs.Failing.{RecordsRose}
 use Rattle.draid_pool.specs.GoingOn.{BeginsIn, GoesOnIn}
@@ -29,15 +29,15 @@ use Rattle.draid_works.proofs.SyncSteps.{begins_goes, begun_goes, closes_goes, f
 
 -- ---- the uberblock's count
 
--- the count of the uberblock's area
-abbrev pub count_of : {A : Type 0} → areas.Ghosts A → Uber A → ℕ
-count_of area u = area.faults (area_of u)
+-- the count of a pool's own areas
+abbrev pub own_count : {A : Type 0} → areas.Ghosts A → Uber A → ℕ
+own_count area u = count_of area.faults u
 
 module _ {A : Type 0} (area : areas.Ghosts A) where
-  pub still_later : (u v : Uber A) → v ≡ u → count_of area u ≤ count_of area v
-  still_later u v is = (let same = ap (λ w. area.faults (area_of w)) is in omega (arith, same))
+  pub still_later : (u v : Uber A) → v ≡ u → own_count area u ≤ own_count area v
+  still_later u v is = (let same = ap (own_count area) is in omega (arith, same))
 
-  names_later : (group : ℕ) (u v : Uber A) (result : Result Unit SyncFault) → UberNames area group u result v → count_of area u ≤ count_of area v
+  names_later : (group : ℕ) (u v : Uber A) (result : Result Unit SyncFault) → UberNames area group u result v → own_count area u ≤ own_count area v
   names_later group u v (Ok done) names = names.1
   names_later group u v (Err sync.Shelf) names = names.1
   names_later group u v (Err sync.NoMemory) names = names.1
@@ -46,43 +46,43 @@ module _ {A : Type 0} (area : areas.Ghosts A) where
 
 module _ {R A S : Type 0} (rack : racks.Ghosts R) (area : areas.Ghosts A) (last : S → ℕ → Option (Shard R A)) (went : S → ℕ → Shard R A → Shard R A → S → Type 0) (shared : Bool) (mine : ℕ → Bool)
     (later : (a : S) (m : ℕ) (x y : Shard R A) (b : S) → went a m x y b → x.committed ≤ y.committed) where
-  both : (u w v : Uber A) → count_of area u ≤ count_of area w → count_of area w ≤ count_of area v → count_of area u ≤ count_of area v
+  both : (u w v : Uber A) → own_count area u ≤ own_count area w → own_count area w ≤ own_count area v → own_count area u ≤ own_count area v
   both u w v first more = omega (arith, first, more)
 
-  commits_later : (group count : ℕ) (a b : S) (u v : Uber A) (out : Option (Result ℕ SyncFault)) → CommitsIn rack area last went shared mine group count a u out b v → count_of area u ≤ count_of area v
+  commits_later : (group count : ℕ) (a b : S) (u v : Uber A) (out : Option (Result ℕ SyncFault)) → CommitsIn rack area last went shared mine group count a u out b v → own_count area u ≤ own_count area v
   commits_later group count a b u v (Some (Ok thin)) (mid, late, closes, seals, names, commits) = names_later area group u v (Ok tt) names
   commits_later group count a b u v (Some (Err why)) (inl (closes, same)) = still_later area u v same
   commits_later group count a b u v (Some (Err why)) (inr (inl (mid, closes, seals, same))) = still_later area u v same
   commits_later group count a b u v (Some (Err why)) (inr (inr (mid, thin, closes, seals, names))) = names_later area group u v (Err why) names
   commits_later group count a b u v None (mid, closes, seals, same) = still_later area u v same
 
-  pub finish_later : (count : ℕ) (a b : S) (u v : Uber A) (out : Option (Result Unit SyncFault)) → FinishesIn rack area last went shared mine count a u out b v → count_of area u ≤ count_of area v
+  pub finish_later : (count : ℕ) (a b : S) (u v : Uber A) (out : Option (Result Unit SyncFault)) → FinishesIn rack area last went shared mine count a u out b v → own_count area u ≤ own_count area v
   finish_later count a b u v (Some (Ok done)) (inl (found, same)) = still_later area u v same
   finish_later count a b u v (Some (Ok done)) (inr (group, thin, mid, found, commits)) = commits_later group count mid b u v (Some (Ok thin)) commits
   finish_later count a b u v (Some (Err why)) (group, mid, found, commits) = commits_later group count mid b u v (Some (Err why)) commits
   finish_later count a b u v None (group, mid, found, commits) = commits_later group count mid b u v None commits
 
-  pub sync_later : (count : ℕ) (a b : S) (u v : Uber A) (out : Option (Result Synced SyncFault)) → SyncsIn rack area last went shared mine count a u out b v → count_of area u ≤ count_of area v
+  pub sync_later : (count : ℕ) (a b : S) (u v : Uber A) (out : Option (Result Synced SyncFault)) → SyncsIn rack area last went shared mine count a u out b v → own_count area u ≤ own_count area v
   sync_later count a b u v (Some (Ok it)) (mid, w, finishes, is, commits) = both u w v (finish_later count a mid u w (Some (Ok tt)) finishes) (commits_later it.group count mid b w v (Some (Ok it.thin)) commits)
   sync_later count a b u v (Some (Err why)) (inl finishes) = finish_later count a b u v (Some (Err why)) finishes
   sync_later count a b u v (Some (Err why)) (inr (mid, w, group, finishes, is, commits)) = both u w v (finish_later count a mid u w (Some (Ok tt)) finishes) (commits_later group count mid b w v (Some (Err why)) commits)
   sync_later count a b u v None (inl finishes) = finish_later count a b u v None finishes
   sync_later count a b u v None (inr (mid, w, group, finishes, is, commits)) = both u w v (finish_later count a mid u w (Some (Ok tt)) finishes) (commits_later group count mid b w v None commits)
 
-  begin_later : (count : ℕ) (a b : S) (u v : Uber A) (out : Option (Result Syncing SyncFault)) → BeginsIn rack area last went shared mine count a u out b v → count_of area u ≤ count_of area v
+  begin_later : (count : ℕ) (a b : S) (u v : Uber A) (out : Option (Result Syncing SyncFault)) → BeginsIn rack area last went shared mine count a u out b v → own_count area u ≤ own_count area v
   begin_later count a b u v (Some (Ok begun)) (mid, finishes, first, closes) = finish_later count a mid u v (Some (Ok tt)) finishes
   begin_later count a b u v (Some (Err why)) (inl finishes) = finish_later count a b u v (Some (Err why)) finishes
   begin_later count a b u v (Some (Err why)) (inr (mid, finishes, closes)) = finish_later count a mid u v (Some (Ok tt)) finishes
   begin_later count a b u v None finishes = finish_later count a b u v None finishes
 
-  begun_later : (count n : ℕ) (a b : S) (u v : Uber A) → BegunOn rack area last went shared mine count n a u b v → count_of area u ≤ count_of area v
+  begun_later : (count n : ℕ) (a b : S) (u v : Uber A) → BegunOn rack area last went shared mine count n a u b v → own_count area u ≤ own_count area v
   begun_later count zero a b u v (at, same) = still_later area u v same
   begun_later count (suc n) a b u v (mid, w, front, begins) =
       let first = begun_later count n a mid u w front in
       let more = begin_later count mid b w v None begins in
       omega (arith, first, more)
 
-  waits_later : (count n : ℕ) (a b : S) (old new : Syncing) (u v : Uber A) → WaitsOn rack area last went shared mine count n a old u b new v → count_of area u ≤ count_of area v
+  waits_later : (count n : ℕ) (a b : S) (old new : Syncing) (u v : Uber A) → WaitsOn rack area last went shared mine count n a old u b new v → own_count area u ≤ own_count area v
   waits_later count zero a b old new u v (at, is, same) = still_later area u v same
   waits_later count (suc n) a b old new u v (mid, now, w, front, goes) =
       let first = waits_later count n a mid old now u w front in
@@ -113,11 +113,11 @@ module _ {R A S : Type 0} (rack : racks.Ghosts R) (area : areas.Ghosts A) (last 
   hold_to does a m b h own = (1, (a, m, h.before, h.after, refl, h.goes))
 
   -- it failed behind some holds
-  pub fails_behind : (a mid b : S) (u w v : Uber A) → Reach a mid → count_of area u ≤ count_of area w → AreaFails area went mid w b v → AreaFails area went a u b v
+  pub fails_behind : (a mid b : S) (u w v : Uber A) → Reach a mid → own_count area u ≤ own_count area w → AreaFails area went mid w b v → AreaFails area went a u b v
   fails_behind a mid b u w v x up (inl r) =
       let z = more_to x.0 r.front a mid r.from x.1 r.first in
       inl (record { front = z.0; from = r.from; first = z.1; metaslab = r.metaslab; before = r.before; after = r.after; next = r.next; held = r.held; rose = r.rose; back = r.back; rest = r.rest })
-  fails_behind a mid b u w v x up (inr rose) = inr (rose_since (count_of area u) (count_of area w) (count_of area v) up rose)
+  fails_behind a mid b u w v x up (inr rose) = inr (rose_since (own_count area u) (own_count area w) (own_count area v) up rose)
 
   failed_in : (does : Shard R A → Shard R A → Type 0) (a mid : S) (m : ℕ) (b : S) → Reach a mid → (h : HeldOnce rack area last went shared mine does mid m b) → RecordsRose area.faults h.before h.after → RecordsFail area went a b
   failed_in does a mid m b x h rose = record { front = x.0; from = mid; first = x.1; metaslab = m; before = h.before; after = h.after; next = b; held = h.goes; rose = rose; back = 0; rest = refl }

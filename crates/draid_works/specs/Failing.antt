@@ -6,7 +6,7 @@ use Rattle.draid_names.specs.Faults.{Rose}
 use Rattle.draid_shard.specs.declared.shard.Shard.{Shard}
 use Rattle.draid_turn.specs.Calls.{Caller, Lock}
 use Rattle.draid_turn.specs.declared.past.Past.{Past}
-use Rattle.draid_uber.specs.Uber.{area_of}
+use Rattle.draid_uber.specs.Uber.{count_of}
 use Rattle.draid_uber.specs.declared.uber.Uber.{Uber}
 use Rattle.draid_pool.specs.Failing.{RecordsRose}
 use Rattle.draid_lanes.specs.Governing.{GovernedIn}
@@ -34,9 +34,9 @@ module _ {R A S : Type 0} (area : areas.Ghosts A) (went : S → ℕ → Shard R 
     pub back : ℕ
     pub rest : HoldsTo back next b
 
-  -- so it did, or that on the uberblock's
+  -- so it did, or that of the pool's own areas
   abbrev pub AreaFails : S → Uber A → S → Uber A → Type 0
-  AreaFails a u b v = RecordsFail a b ⊎ Rose (area.faults (area_of u)) (area.faults (area_of v))
+  AreaFails a u b v = RecordsFail a b ⊎ Rose (count_of area.faults u) (count_of area.faults v)
 
 -- and that in a turn of the uberblock that a lane had
 abbrev pub AreaFailedIn : {R A G W : Type 0} → racks.Ghosts R → areas.Ghosts A → Lock (UberCell R A) → Locked R A G W → Locked R A G W → (pass next : Caller (Past (UberCell R A))) → Type 0
