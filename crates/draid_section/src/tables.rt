@@ -1,6 +1,6 @@
 //! What a pool has of its objects is dealt out to lanes by their numbers, and put together again.
 ghost use Rattle.std.specs.Prelude.{◌≡◌, ◌≤◌, ◌+◌, IfOk, nat_eq};
-ghost use Rattle.std.specs.HashMap.{get, hash_map_len, spare};
+ghost use Rattle.std.specs.HashMap.{IsUnique, get, hash_map_len, spare};
 ghost use Rattle.std.specs.List.{list_any};
 ghost use Rattle.draid_turn.specs.Numbers.{in_span};
 ghost use Rattle.draid_section.specs.Tables.{HoldsWithin, IsDealt, TakesBack};
@@ -51,9 +51,10 @@ pub fn take_objects(
     dealt: &HashMap<u64, Pointer>,
 )
     requires within { HoldsWithin numbers.now (get nat_eq dealt.now) }
-    requires room { hash_map_len dealt.now ≤ spare objects.old }
+    requires room { IsUnique nat_eq dealt.now → hash_map_len dealt.now ≤ spare objects.old }
     ensures takes { TakesBack numbers.now (get nat_eq dealt.now) (get nat_eq objects.old) (get nat_eq objects.new) }
     ensures room { spare objects.old ≤ spare objects.new + hash_map_len dealt.now }
+    ensures unique { IsUnique nat_eq dealt.now }
 {
     objects.retain(|object, _| !is_held(numbers, *object));
     for (object, pointer) in dealt.iter() {

@@ -7,7 +7,6 @@ mod filling;
 mod freeing;
 mod lanes;
 mod mending;
-mod running;
 mod switching;
 mod writing;
 
@@ -16,6 +15,5 @@ pub use filling::fill_in_lane;
 pub use freeing::free_through;
 pub use lanes::{commit_in_lane, read_in_lane, sum_in_lane};
 pub use mending::{MendWork, rebuild_in_lane, scrub_in_lane};
-pub use running::{InLane, LaneJob, run_jobs};
 pub use switching::{SwitchWork, switch_in_lane};
 pub use writing::write_through;

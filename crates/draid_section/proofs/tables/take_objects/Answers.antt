@@ -40,7 +40,7 @@ pub unreachable-requires : goal.unreachable-requires
 unreachable-requires c =
     let room = c.loop-object.invariant.room in
     let longer = ap length c.in-Some.ensures.steps in
-    let enough = c.requires.room in
+    let enough = c.requires.room c.iter-object-items.ensures.unique in
     true≢false (sym (c.in_default.ensures.succeeds (omega (arith, room, longer, enough))))
 
 pub returns-clause-takes : goal.returns-clause-takes
