@@ -37,11 +37,7 @@ fn areas_of(alloc: Global, uber: MemoryArea) -> Result<Areas<MemoryArea>, AllocE
 }
 
 /// The uberblock of a new pool in an area of zeros.
-fn create(
-    alloc: Global,
-    geometry: Geometry,
-    areas: Areas<MemoryArea>,
-) -> Option<Uber<MemoryArea>>
+fn create(alloc: Global, geometry: Geometry, areas: Areas<MemoryArea>) -> Option<Uber<MemoryArea>>
     requires layout { IsGeometry geometry }
     requires size { size_of_memory areas.uber ≡ 1024 }
     requires new { OnTold (told_by_memory areas.uber) IsNewArea }
