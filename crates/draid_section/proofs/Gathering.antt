@@ -41,7 +41,7 @@ use Rattle.draid_lanes.specs.declared.lane.Lane.{Lane}
 use Rattle.draid_lanes.specs.declared.uber.UberCell.{UberCell}
 use Rattle.draid_lanes.proofs.SyncUnder.{groups_in}
 use Rattle.draid_section.specs.Opening.{AreDealt, AreLocked, IsDealt}
-use Rattle.draid_section.specs.Owns.{AllWithin, AreDealtOut, HaveRoom, TakesAll, greatest, most_objects}
+use Rattle.draid_tables.specs.Owns.{AllWithin, AreDealtOut, HaveRoom, TakesAll, greatest, most_objects}
 use Rattle.draid_section.specs.Running.{BeginsAt, KeepLanes}
 use Rattle.draid_section.specs.Section.{AreLaneLists, BeginsLane, EndWithGroups, GovernsFirst, MayRunAll, MayRunLocked, MayRunUnder, RunsLocked}
 use Rattle.draid_section.specs.Turning.{AreOfLanes, IsUberLock}
@@ -50,7 +50,7 @@ use Rattle.draid_section.specs.declared.seats.Shares.{Shares}
 use Rattle.draid_section.proofs.Beginning.{HasList, held_dealt, lane_begins, lasts, shared_by, some_locks, uber_begins}
 use Rattle.draid_section.proofs.Dealt.{dealt_owns}
 use Rattle.draid_section.proofs.Ended.{ended_whole, lane_live, valid_is}
-use Rattle.draid_section.proofs.Fitting.{are_few, have_room, more_room}
+use Rattle.draid_tables.proofs.Fitting.{are_few, have_room, more_room}
 use Rattle.draid_section.proofs.Kept.{dealt_front, dealt_groups, dealt_many, groups_room, job_at, kept_at, lane_has}
 use Rattle.draid_section.proofs.LanePasses.{get_before, get_last}
 use Rattle.draid_section.proofs.Ran.{all_each}

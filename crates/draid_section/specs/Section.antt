@@ -24,7 +24,7 @@ use Rattle.draid_lanes.specs.declared.lane.Lane.{Lane}
 use Rattle.draid_lanes.specs.declared.uber.UberCell.{UberCell}
 use Rattle.draid_lanes.specs.Ubers.{IsUberOf}
 use Rattle.draid_section.specs.Opening.{AreDealt, AreLocked, AreRooms, AreUnlocked, IsDealt}
-use Rattle.draid_section.specs.Owns.{AreDealtOut, TakesAll, most_objects}
+use Rattle.draid_tables.specs.Owns.{AreDealtOut, TakesAll, most_objects}
 use Rattle.draid_section.specs.Running.{JobsRan, MayRunEach}
 use Rattle.draid_section.specs.Turning.{AreOfLanes, IsUberLock, UberComesBack}
 use Rattle.draid_section.specs.Whole.{pointer_in}

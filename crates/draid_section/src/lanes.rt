@@ -6,7 +6,6 @@ ghost use Rattle.draid_section.specs.Running.{KeepLanes};
 ghost use Rattle.draid_section.specs.Section.{AreLaneLists, IsMadeOf, IsPlanned, MayRunAll, RunsInLanes, SameOwn, SamePool};
 
 use crate::locks::{Unlocked, lock_each, rooms};
-use crate::owns::{deal_owns, room_of, take_each};
 use crate::section::{Behind, run_locked};
 use draid_area::Area;
 use draid_lanes::{Gate, LaneJob};
@@ -15,6 +14,7 @@ use draid_pool::{Cell, GROUPS, Own, Owned, Pool};
 use draid_rack::Rack;
 use draid_shard::Shard;
 use draid_spec::Geometry;
+use draid_tables::{deal_owns, room_of, take_each};
 use draid_turn::{Pass, Span};
 use draid_uber::Uber;
 use std::alloc::Global;

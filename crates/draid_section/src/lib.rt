@@ -4,14 +4,10 @@
 
 mod lanes;
 mod locks;
-mod owns;
 mod seats;
 mod section;
-mod tables;
 mod turning;
 
 pub use lanes::run_in_lanes;
 pub use locks::{Locks, Unlocked, deal_each, lock_each, rooms, unlock_each};
-pub use owns::{deal_owns, room_of, take_each};
-pub use tables::{deal_objects, take_objects};
 pub use turning::{UberLock, UberUnlocked, lock_uber, split_uber, unlock_uber};

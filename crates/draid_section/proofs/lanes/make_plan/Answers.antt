@@ -1,6 +1,6 @@
 use Rattle.std.proofs.Common.{◌∙◌, ap, arith, subst}
 use Rattle.draid_section.specs.Opening.{AreRooms}
-use Rattle.draid_section.specs.Owns.{AreDealtOut, most_objects}
+use Rattle.draid_tables.specs.Owns.{AreDealtOut, most_objects}
 use Rattle.draid_section.proofs.lanes.make_plan.Goals as goal
 
 pub returns-clause-planned : goal.returns-clause-planned

@@ -9,7 +9,7 @@ use Rattle.draid_holds.specs.Passes.{EachHoldsSome, KeepsOne, shares}
 use Rattle.draid_uber.specs.declared.uber.Uber.{Uber}
 use Rattle.draid_shard.specs.declared.shard.Shard.{Shard}
 use Rattle.draid_pool.specs.declared.own.Own.{Own}
-use Rattle.draid_section.specs.Owns.{AllWithin, HaveRoom, TakesAll, most_objects}
+use Rattle.draid_tables.specs.Owns.{AllWithin, HaveRoom, TakesAll, most_objects}
 use Rattle.draid_section.specs.Section.{EndWithGroups, MayRunLocked, RunsLocked}
 use Rattle.draid_section.proofs.Gathering.{all_inside, apart_all, ends, gathered_whole, governs_first, may_locked, other_all, some_each, tables_fit}
 use Rattle.draid_section.proofs.Idle.{err_of, ok_of}

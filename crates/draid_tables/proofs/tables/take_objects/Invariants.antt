@@ -1,7 +1,7 @@
 use Rattle.std.proofs.Common.{◌≤◌, ◌+◌, length, nat_eq}
 use Rattle.std.specs.HashMap.{get, hash_map_len, spare}
-use Rattle.draid_section.proofs.Dealing.{Puts}
-use Rattle.draid_section.proofs.tables.take_objects.Given as goal
+use Rattle.draid_tables.proofs.Dealing.{Puts}
+use Rattle.draid_tables.proofs.tables.take_objects.Given as goal
 
 abbrev pub invariant-loop-object : goal.invariant-loop-object
 invariant-loop-object l = record {

@@ -15,7 +15,7 @@ use Rattle.draid_turn.specs.Numbers.{holds}
 use Rattle.draid_turn.specs.declared.span.Span.{Span}
 use Rattle.draid_holds.specs.Passes.{shares}
 use Rattle.draid_pool.specs.declared.own.Own.{Own}
-use Rattle.draid_section.specs.Owns.{AreDealtOut, AreUnique, HaveRoom, IsDealtOut, TakesAll, TakesOwn, greatest, objects_of}
+use Rattle.draid_tables.specs.Owns.{AreDealtOut, AreUnique, HaveRoom, IsDealtOut, TakesAll, TakesOwn, greatest, objects_of}
 
 pub take_next : {X : Type 0} (xs : List X) (i : ℕ) (x : X) → slice_get xs i ≡ Some x → take (suc i) xs ≡ take i xs ++ x ∷ []
 take_next [] i x is = absurd (cc)

@@ -6,10 +6,10 @@ use Rattle.std.specs.HashMap.{get}
 use Rattle.std.specs.Map.{lookup}
 use Rattle.std.specs.List.{Contains}
 use Rattle.draid_names.specs.declared.pointer.Pointer.{Pointer}
-use Rattle.draid_section.specs.Tables.{IsDealt}
-use Rattle.draid_section.proofs.Dealing.{Deals, deals_all, deals_more, deals_none, deals_skip}
-use Rattle.draid_section.proofs.Spans.{any_holds}
-use Rattle.draid_section.proofs.tables.deal_objects.Goals as goal
+use Rattle.draid_tables.specs.Tables.{IsDealt}
+use Rattle.draid_tables.proofs.Dealing.{Deals, deals_all, deals_more, deals_none, deals_skip}
+use Rattle.draid_tables.proofs.Spans.{any_holds}
+use Rattle.draid_tables.proofs.tables.deal_objects.Goals as goal
 
 pub loop-object-init : goal.loop-object-init
 loop-object-init c =

@@ -3,7 +3,7 @@ ghost use Rattle.std.specs.Prelude.{◌≡◌, ◌≤◌, ◌+◌, IfOk, nat_eq}
 ghost use Rattle.std.specs.HashMap.{IsUnique, get, hash_map_len, spare};
 ghost use Rattle.std.specs.List.{list_any};
 ghost use Rattle.draid_turn.specs.Numbers.{in_span};
-ghost use Rattle.draid_section.specs.Tables.{HoldsWithin, IsDealt, TakesBack};
+ghost use Rattle.draid_tables.specs.Tables.{HoldsWithin, IsDealt, TakesBack};
 
 use draid_names::{NoMemory, Pointer};
 use draid_turn::Span;

@@ -1,8 +1,8 @@
 use Rattle.std.proofs.Common.{◌∙◌, Some, ap, arith, subst, sym}
 use Rattle.std.proofs.lemmas.Option.{slice_get-get_or}
-use Rattle.draid_section.specs.Owns.{TakesOwn}
-use Rattle.draid_section.proofs.Owning.{takes_end, takes_next, takes_room}
-use Rattle.draid_section.proofs.owns.take_each.Goals as goal
+use Rattle.draid_tables.specs.Owns.{TakesOwn}
+use Rattle.draid_tables.proofs.Owning.{takes_end, takes_next, takes_room}
+use Rattle.draid_tables.proofs.owns.take_each.Goals as goal
 
 pub take_own-requires-clause-room : goal.take_own-requires-clause-room
 take_own-requires-clause-room c =

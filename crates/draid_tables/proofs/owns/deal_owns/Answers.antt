@@ -1,8 +1,8 @@
 use Rattle.std.proofs.Common.{◌∙◌, Some, ap, arith, subst, sym}
 use Rattle.std.proofs.lemmas.Option.{slice_get-get_or}
-use Rattle.draid_section.specs.Owns.{IsDealtOut}
-use Rattle.draid_section.proofs.Owning.{deals_next}
-use Rattle.draid_section.proofs.owns.deal_owns.Goals as goal
+use Rattle.draid_tables.specs.Owns.{IsDealtOut}
+use Rattle.draid_tables.proofs.Owning.{deals_next}
+use Rattle.draid_tables.proofs.owns.deal_owns.Goals as goal
 
 pub loop-i-preserved : goal.loop-i-preserved
 loop-i-preserved c =

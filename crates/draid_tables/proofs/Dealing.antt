@@ -8,8 +8,8 @@ use Rattle.std.specs.Map.{lookup}
 use Rattle.draid_names.specs.declared.pointer.Pointer.{Pointer}
 use Rattle.draid_turn.specs.Numbers.{holds, in_span}
 use Rattle.draid_turn.specs.declared.span.Span.{Span}
-use Rattle.draid_section.specs.Tables.{HoldsWithin, IsDealt, TakesBack}
-use Rattle.draid_section.proofs.Spans.{any_holds}
+use Rattle.draid_tables.specs.Tables.{HoldsWithin, IsDealt, TakesBack}
+use Rattle.draid_tables.proofs.Spans.{any_holds}
 
 none_some : {A : Type 0} (x : A) → None ≡ Some x → ⊥
 none_some x same = true≢false (sym (ap (λ o. match_some o) same))

@@ -7,8 +7,8 @@ use Rattle.std.specs.HashMap.{get, hash_map_len}
 use Rattle.std.specs.List.{Contains, list_any}
 use Rattle.draid_names.specs.declared.pointer.Pointer.{Pointer}
 use Rattle.draid_turn.specs.Numbers.{in_span}
-use Rattle.draid_section.proofs.Dealing.{Puts, left_out, puts_all, puts_more, puts_none}
-use Rattle.draid_section.proofs.tables.take_objects.Goals as goal
+use Rattle.draid_tables.proofs.Dealing.{Puts, left_out, puts_all, puts_more, puts_none}
+use Rattle.draid_tables.proofs.tables.take_objects.Goals as goal
 
 pub loop-object-init : goal.loop-object-init
 loop-object-init c =

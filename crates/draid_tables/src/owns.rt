@@ -2,8 +2,8 @@
 ghost use Rattle.std.specs.Prelude.{◌≡◌, ◌≤◌, ◌+◌, ◌-◌, ◌^◌, ℕ, IfOk, length, max, min, nat_eq, sum_by};
 ghost use Rattle.std.specs.HashMap.{IsUnique, get, hash_map_len, spare};
 ghost use Rattle.draid_holds.specs.Passes.{shares};
-ghost use Rattle.draid_section.specs.Owns.{AllWithin, AreDealtOut, HaveRoom, IsDealtOut, TakesAll, TakesOwn, most_objects, size_of_span};
-ghost use Rattle.draid_section.specs.Tables.{HoldsWithin};
+ghost use Rattle.draid_tables.specs.Owns.{AllWithin, AreDealtOut, HaveRoom, IsDealtOut, TakesAll, TakesOwn, most_objects, size_of_span};
+ghost use Rattle.draid_tables.specs.Tables.{HoldsWithin};
 
 use crate::tables::{deal_objects, take_objects};
 use draid_names::{NoMemory, most_held};

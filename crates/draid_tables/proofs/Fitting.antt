@@ -35,7 +35,7 @@ use Rattle.draid_turn.specs.Numbers.{holds, in_span}
 use Rattle.draid_turn.specs.declared.span.Span.{Span}
 use Rattle.draid_holds.specs.Passes.{shares}
 use Rattle.draid_pool.specs.declared.own.Own.{Own}
-use Rattle.draid_section.specs.Owns.{AllWithin, AreUnique, HaveRoom, most_objects, size_of_span, objects_of, size_of_list}
+use Rattle.draid_tables.specs.Owns.{AllWithin, AreUnique, HaveRoom, most_objects, size_of_span, objects_of, size_of_list}
 
 -- ---- numbers that stand in lists
 

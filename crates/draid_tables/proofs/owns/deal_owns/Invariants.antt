@@ -1,6 +1,6 @@
 use Rattle.std.proofs.Common.{◌≤◌, length, vec_capacity}
-use Rattle.draid_section.proofs.Owning.{DealsFirst}
-use Rattle.draid_section.proofs.owns.deal_owns.Given as goal
+use Rattle.draid_tables.proofs.Owning.{DealsFirst}
+use Rattle.draid_tables.proofs.owns.deal_owns.Given as goal
 
 abbrev pub invariant-loop-i : goal.invariant-loop-i
 invariant-loop-i l = record {

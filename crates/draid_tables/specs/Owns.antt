@@ -8,7 +8,7 @@ use Rattle.draid_turn.specs.Numbers.{holds}
 use Rattle.draid_turn.specs.declared.span.Span.{Span}
 use Rattle.draid_holds.specs.Passes.{shares}
 use Rattle.draid_pool.specs.declared.own.Own.{Own}
-use Rattle.draid_section.specs.Tables.{HoldsWithin, IsDealt, TakesBack}
+use Rattle.draid_tables.specs.Tables.{HoldsWithin, IsDealt, TakesBack}
 
 -- ---- dealt out
 

@@ -1,0 +1,4 @@
+pub mod Dealing
+pub mod Fitting
+pub mod Owning
+pub mod Spans
