@@ -9,7 +9,7 @@ mod laws;
 mod scrubs;
 
 pub use crashes::{crashed_pools_are_found_again, known_shelves_stay_known};
-pub use decides::Decides;
+pub use decides::{Deciders, Decides};
 pub use laws::{
     arms_change_everywhere_or_nowhere, books_give_back_what_was_kept, broken_commands_end_failed,
     checkpoints_come_back, closing_groups_are_synced, committed_groups_stay, endings_keep_the_book,
