@@ -37,18 +37,13 @@ impl<F: Fn(&[Room]) -> Option<u32>> Decides for Chooser<F> {
 }
 
 /// A chooser of rooms, and a policy of spares.
-pub struct Deciders<
-    'a,
-    F: Fn(&[Room]) -> Option<u32>,
-    P: Fn(u32, u64, &[u32]) -> Option<u32>,
-> {
+pub struct Deciders<'a, F: Fn(&[Room]) -> Option<u32>, P: Fn(u32, u64, &[u32]) -> Option<u32>> {
     pub chooser: &'a Chooser<F>,
     pub policy: &'a Policy<P>,
 }
 
 impl<'a, F: Fn(&[Room]) -> Option<u32>, P: Fn(u32, u64, &[u32]) -> Option<u32>> Decides
-    for Deciders<'a, F, P>
-{
+    for Deciders<'a, F, P> {
     ghost use Rattle.std.specs.Fn.{FnReturnsAt};
     ghost use Rattle.draid_agent.specs.Policy.{PolicyReturns};
     ghost use Rattle.draid_choose.specs.Rooms.{IsChooser};
