@@ -41,6 +41,7 @@ pub mod Raising
 pub mod Reaching
 pub mod Rebuilt
 pub mod Rebuilding
+pub mod Repairing
 pub mod Resuming
 pub mod Reverted
 pub mod Rewound
