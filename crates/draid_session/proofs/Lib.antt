@@ -30,6 +30,7 @@ pub mod Marked
 pub mod NoPool
 pub mod Nearing
 pub mod Noted
+pub mod Numbered
 pub mod Outliving
 pub mod Parts
 pub mod Passing

@@ -13,6 +13,7 @@ ghost use Rattle.draid_objects.specs.Changes.{Write, write_of, group_of};
 ghost use Rattle.draid_reply.specs.declared.reply.Reply.{Reply};
 ghost use Rattle.draid_script.specs.Line.{Command, CrashPool, FreeObject, ImportPool, ReadObject, RebuildPool, ScrubPool, ShowStatus, SyncPool, WriteObject, RewindPool, TakeCheckpoint};
 ghost use Rattle.draid_script.specs.declared.line.StatusFormat.{StatusFormat};
+ghost use Rattle.draid_session.specs.Agent.{AreNumbered};
 ghost use Rattle.draid_session.specs.Bearing.{AreIdle, AreUnhurt, FailsNoCall, FailsNoFetch, GoOffline, HaveFewBroken, HaveNoPass, IsPoolWhole, IsSteady, IsWanted, IsWholeBut, Failure, OutlivesAll, ShowsWholeBut, Uses};
 ghost use Rattle.draid_objects.specs.Marks.{Mark};
 ghost use Rattle.draid_session.specs.Checkpoints.{GoesBackTo};
@@ -191,6 +192,13 @@ pub fn undisturbed_scrubs_are_whole<D: Decides>(decider: &D)
     ensures targets { (limit : Option ℕ) (reply : Reply) (old new : State)
         → (it : CarriesOut (D.choices decider.now) (ScrubPool limit) reply old new)
         → HaveNoErrors old → AllOf (IsCalmInScrub old.geometry old.perms) it.holds → AllOf WentWell it.holds }
+{}
+
+/// Law: the entries of a run's journal are numbered from 1 on, whatever becomes of its pools.
+#[tactic(auto, using(crate::proofs::Numbered::runs_numbered))]
+pub fn journals_are_numbered<D: Decides>(decider: &D)
+    ensures { (tells : Bool) (lines : List (List ℕ)) (replies : List (List Said)) (old new : Sitting)
+        → Runs (D.choices decider.now) IsAnything tells old lines replies new → AreNumbered 1 old.journal → AreNumbered 1 new.journal }
 {}
 
 /// Law: in a session a group leaves the log of an arm only once each segment of a block that was born in it is present
