@@ -26,7 +26,7 @@ built_notes choices finds past line built old saids new turns = refl
 pub runs_more : (choices : Choices) (finds : Finding → Type 0) (tells : Bool) (start : Sitting) (lines : List (List ℕ)) (replies : List (List Said)) (mid : Sitting) (line : List ℕ) (saids : List Said) (new : Sitting)
     → Runs choices finds tells start lines replies mid → SittingTurns choices finds (line_of line) mid saids new → Agrees tells new.desk
     → Runs choices finds tells start (lines ++ line ∷ []) (replies ++ saids ∷ []) new
-runs_more choices finds tells start [] [] mid line saids new runs turns agrees = (new, rw (sym runs) turns, agrees, refl)
+runs_more choices finds tells start [] [] mid line saids new runs turns agrees = (new, subst (λ s. SittingTurns choices finds (line_of line) s saids new) runs turns, agrees, refl)
 runs_more choices finds tells start [] (r ∷ rs) mid line saids new runs turns agrees = absurd runs
 runs_more choices finds tells start (l ∷ ls) [] mid line saids new runs turns agrees = absurd runs
 runs_more choices finds tells start (l ∷ ls) (r ∷ rs) mid line saids new runs turns agrees = (runs.0, runs.1, runs.2, runs_more choices finds tells runs.0 ls rs mid line saids new runs.3 turns agrees)
