@@ -146,7 +146,7 @@ module _ {R A : Type 0} (rack : racks.Ghosts R) (area : areas.Ghosts A) (chosen 
       by sync.Last g p entries front back came acts t = inr (inr (back, came, acts_then g p chosen least (length before + 1) entries front back acts, t))
       by sync.Shelf g p entries front back came acts t = inr (inr (back, came, acts_then g p chosen least (length before + 1) entries front back acts, t))
       by sync.NoMemory g p entries front back came acts (inl t) = inl (inr (inr (back, came, acts_then g p chosen least (length before + 1) entries front back acts, t)))
-      by sync.NoMemory g p entries front back came acts (inr looks) = inr (inr (back, came, acts_then g p chosen least (length before + 1) entries front back acts, looks))
+      by sync.NoMemory g p entries front back came acts (inr looks) = inr (inr (inl (back, came, acts_then g p chosen least (length before + 1) entries front back acts, looks)))
 
   -- none came
   pub repair_uncame : (old new : Pool R A) → ((x : State) → Represents rack area old x → CarriesOut rack area new x (GiveDoes x chosen least before (Ok false) after))

@@ -48,7 +48,8 @@ module _ (geometry : Geometry) (perms : Perms) (chosen : ℕ → ℕ → List �
   starves_numbered : (least number : ℕ) (entries : List Entry) (holds : List Hold) → agent.RepairStarves geometry perms chosen least number entries holds → AreNumbered number entries
   starves_numbered least number entries holds (inl s) = stops_numbered least number entries holds Starved s
   starves_numbered least number entries holds (inr (inl s)) = none_numbered number entries s.0
-  starves_numbered least number entries holds (inr (inr (rest, came, acts, only))) = gives_numbered least acts.views [] number 0 geometry.spec.children entries acts.gives
+  starves_numbered least number entries holds (inr (inr (inr s))) = none_numbered number entries s.0
+  starves_numbered least number entries holds (inr (inr (inl (rest, came, acts, only)))) = gives_numbered least acts.views [] number 0 geometry.spec.children entries acts.gives
 
 -- entries with their first number
 numbered_at : (first number : ℕ) (entries more : List Entry) → number ≡ first → more ≡ entries → AreNumbered number entries → AreNumbered first more

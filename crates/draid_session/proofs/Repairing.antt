@@ -121,7 +121,8 @@ module _ (geometry : Geometry) (perms : Perms) (chosen : ℕ → ℕ → List �
 
     starves_fit : (least number : ℕ) (entries : List Entry) → Fits z store b (agent.RepairStarves geometry perms chosen least number entries)
     starves_fit least number entries holds x (inl stops) follows of fit = stops_fit least number entries Starved holds x stops follows of fit
-    starves_fit least number entries holds x (inr (inr (rest, came, acts, only))) follows of fit =
+    starves_fit least number entries holds x (inr (inr (inr (none, only)))) follows of fit = none_more z store b (calm_fit x z store b (calm_follows holds x z (looks_calm holds only) follows) fit)
+    starves_fit least number entries holds x (inr (inr (inl (rest, came, acts, only)))) follows of fit =
         let begun = acts_fit z store b least number entries x holds rest acts follows of fit in
         none_more z store b (calm_fit begun.y z store b (calm_follows rest begun.y z (looks_calm rest only) begun.follows) begun.fits)
     starves_fit least number entries holds x (inr (inl (none, finish, looks, are, ends, only))) follows of fit =
