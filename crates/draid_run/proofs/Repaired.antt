@@ -1,7 +1,10 @@
 -- What the repair agent did: spares that came, a rebuild and a scrub, one behind the other.
 use Rattle.std.proofs.Common.{◌≡◌, ◌≢◌, ◌+◌, ◌++◌, ◌∙◌, ℕ, Bool, true, false, List, [], Option, Some, None, Result, Ok, Err, append_assoc, ap, inl, inr, length, refl, subst, sym}
+use Rattle.std.specs.Prelude.{slice_get}
 use Rattle.std.proofs.lemmas.List.{append-nil}
 use Rattle.draid_names.specs.declared.journal.Entry.{Entry}
+use Rattle.draid_names.specs.declared.pass_kind.PassKind.TheVariants.{Rebuild}
+use Rattle.draid_machine.proofs.Small.{none_some}
 use Rattle.draid_rack.specs.declared.Rack as racks
 use Rattle.draid_area.specs.declared.Area as areas
 use Rattle.draid_perm.specs.declared.perms.Perms.{Perms}
@@ -20,12 +23,34 @@ use Rattle.draid_pool.specs.declared.pool.Pool.{Pool}
 use Rattle.draid_changes.specs.Agent.{GiveDoes, GiveStarves, GiveStops}
 use Rattle.draid_changes.specs.declared.agent.GiveFault.{GiveFault}
 use Rattle.draid_changes.specs.declared.agent.GiveFault.TheVariants as fault
-use Rattle.draid_visits.specs.Rebuilding.{RebuildDoes, ScrubDoes, stopped_by}
+use Rattle.draid_visits.specs.Rebuilding.{RebuildDoes, RebuildIs, RunsWhere, ScrubDoes, ScrubIs, stopped_by}
+use Rattle.draid_visits.specs.Visiting.{NoPasses}
 use Rattle.draid_visits.specs.declared.rebuilding.MendFault.{MendFault}
 use Rattle.draid_visits.specs.declared.rebuilding.MendFault.TheVariants as mending
 use Rattle.draid_visits.specs.declared.rebuilding.Mended.{Mended}
 use Rattle.draid_visits.proofs.Leading.{Steps, steps_as, steps_then}
-use Rattle.draid_run.specs.Repairing.{HealEnds, RebuildEnds, RepairEnds, RepairHalts, ScrubEnds}
+use Rattle.draid_run.specs.Repairing.{EndsBy, HealEnds, IsStop, RebuildEnds, RepairEnds, RepairHalts, ScrubEnds}
+
+-- ---- the passes of the pool
+
+-- a pass without a limit leaves none
+pub rebuilt_whole : {R A : Type 0} (it : Mended) (pool : Pool R A) → it.paused ≡ false → RunsWhere Rebuild it.paused pool → NoPasses pool
+rebuilt_whole it pool whole behind = subst (λ b. RunsWhere Rebuild b pool) whole behind
+
+-- nothing is in the way of one where there is none
+pub no_scrub_there : {R A : Type 0} (why : MendFault) (old new : Pool R A) → NoPasses old → RebuildIs (Err why) old new → (metaslab number : ℕ) → why ≡ mending.PassThere metaslab number → ⊥
+no_scrub_there {R} {A} why old new idle is metaslab number same =
+    let found = subst (λ w. RebuildIs {R} {A} (Err w) old new) same is in
+    none_some found.1.shard.pass found.1.has.pass (idle metaslab found.1.shard (subst (λ (q : Pool R A). slice_get q.metaslabs.shards.items metaslab ≡ Some found.1.shard) found.0 found.1.there)) found.1.has.has
+
+pub scrub_stop : {R A : Type 0} (why : MendFault) (old new : Pool R A) → NoPasses old → ScrubIs (Err why) old new → IsStop why
+scrub_stop mending.Nothing old new idle is = absurd is
+scrub_stop {R} {A} (mending.PassThere metaslab number) old new idle is =
+    absurd (none_some is.1.shard.pass is.1.has.pass (idle metaslab is.1.shard (subst (λ (q : Pool R A). slice_get q.metaslabs.shards.items metaslab ≡ Some is.1.shard) is.0 is.1.there)) is.1.has.has)
+scrub_stop mending.Worn old new idle is = tt
+scrub_stop mending.Last old new idle is = tt
+scrub_stop mending.Shelf old new idle is = absurd is
+scrub_stop mending.NoMemory old new idle is = tt
 
 module _ {R A : Type 0} (rack : racks.Ghosts R) (area : areas.Ghosts A) where
   -- ---- a rebuild
@@ -36,13 +61,12 @@ module _ {R A : Type 0} (rack : racks.Ghosts R) (area : areas.Ghosts A) where
       steps_as rack area (λ g p holds. passes.RebuildReplies g p None it.from it.units it.errors it.paused holds) (λ g p. RebuildEnds g p (Ok it.errors)) old new first
       (λ g p holds r. inl (r.0, subst (λ w. passes.Rebuilds g p None holds (passes.outcome_of w) r.0) whole r.1, r.4))
 
-  pub rebuild_idle : (old new : Pool R A) → ((x : State) → Represents rack area old x → CarriesOut rack area new x (RebuildDoes x None (Err mending.Nothing)))
-      → Steps rack area old new (λ g p. RebuildEnds g p (Ok 0))
-  rebuild_idle old new first = steps_as rack area (λ g p holds. passes.RebuildsNothing g p None holds) (λ g p. RebuildEnds g p (Ok 0)) old new first (λ g p holds r. inr (r, refl))
-
-  pub rebuild_halted : (old new : Pool R A) (why : SyncFault) (given : MendFault) → given ≡ stopped_by why → ((x : State) → Represents rack area old x → CarriesOut rack area new x (RebuildDoes x None (Err given)))
-      → Steps rack area old new (λ g p. RebuildEnds g p (Err why))
-  rebuild_halted old new why given is first = by why (subst (λ f. (x : State) → Represents rack area old x → CarriesOut rack area new x (RebuildDoes x None (Err f))) is first)
+  pub rebuild_other : (old new : Pool R A) (given : MendFault) (result : Result ℕ SyncFault) → EndsBy given result → ((x : State) → Represents rack area old x → CarriesOut rack area new x (RebuildDoes x None (Err given)))
+      → Steps rack area old new (λ g p. RebuildEnds g p result)
+  rebuild_other old new mending.Nothing (Ok errors) is first =
+      steps_as rack area (λ g p holds. passes.RebuildsNothing g p None holds) (λ g p. RebuildEnds g p (Ok errors)) old new first (λ g p holds r. inr (r, is))
+  rebuild_other old new given (Ok errors) is first = absurd is
+  rebuild_other old new given (Err why) is first = by why (subst (λ f. (x : State) → Represents rack area old x → CarriesOut rack area new x (RebuildDoes x None (Err f))) is first)
     where
       by : (why : SyncFault) → ((x : State) → Represents rack area old x → CarriesOut rack area new x (RebuildDoes x None (Err (stopped_by why)))) → Steps rack area old new (λ g p. RebuildEnds g p (Err why))
       by sync.Worn step = step
@@ -123,7 +147,7 @@ acts_then g p chosen least number entries front rest a = record {
 
 module _ {R A : Type 0} (rack : racks.Ghosts R) (area : areas.Ghosts A) (chosen : ℕ → ℕ → List ℕ → Option ℕ → Type 0) (least : ℕ) (before after : List Entry) where
   -- spares came
-  Came : Geometry → Perms → List Hold → Type 0
+  abbrev Came : Geometry → Perms → List Hold → Type 0
   Came g p holds =
       (entries : List Entry) × (after ≡ before ++ entries) × (entries ≢ []) × agent.SomeCame g p chosen entries × agent.Acts g p chosen least (length before + 1) entries holds []
 

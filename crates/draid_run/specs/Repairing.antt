@@ -1,5 +1,5 @@
 -- What the repair agent does to the open pool and to the journal, by its answer.
-use Rattle.std.specs.Prelude.{◌≡◌, ◌≢◌, ◌+◌, ◌++◌, ◌⊎◌, ⊤, ℕ, Bool, List, [], Option, None, Result, Ok, Err, length}
+use Rattle.std.specs.Prelude.{◌≡◌, ◌+◌, ◌++◌, ◌⊎◌, ⊤, ℕ, List, Option, None, Result, Ok, Err, length}
 use Rattle.draid_names.specs.declared.journal.Entry.{Entry}
 use Rattle.draid_spec.specs.declared.layout.Geometry.{Geometry}
 use Rattle.draid_perm.specs.declared.perms.Perms.{Perms}
@@ -10,11 +10,11 @@ use Rattle.draid_session.specs.Holds.{Hold}
 use Rattle.draid_session.specs.Looks.{OnlyLooks}
 use Rattle.draid_session.specs.Passes.{RebuildStarves, RebuildStops, ScrubStops}
 use Rattle.draid_session.specs.Phases.{Broke, Starved, WasLast, WasWorn}
-use Rattle.draid_session.specs.State.{State, Store}
 use Rattle.draid_pool.specs.declared.fault.SyncFault.{SyncFault}
 use Rattle.draid_pool.specs.declared.fault.SyncFault.TheVariants as sync
 use Rattle.draid_changes.specs.declared.agent.GiveFault.{GiveFault}
 use Rattle.draid_changes.specs.declared.agent.GiveFault.TheVariants as fault
+use Rattle.draid_visits.specs.Rebuilding.{stopped_by}
 use Rattle.draid_visits.specs.declared.rebuilding.MendFault.{MendFault}
 use Rattle.draid_visits.specs.declared.rebuilding.MendFault.TheVariants as mending
 
@@ -25,6 +25,12 @@ IsStop mending.Last = ⊤
 IsStop mending.Shelf = ⊤
 IsStop mending.NoMemory = ⊤
 IsStop why = ⊥
+
+-- what a rebuild came to that finds no scrub in its way and isn't done: there was nothing to rebuild, or it was stopped
+abbrev pub EndsBy : MendFault → Result ℕ SyncFault → Type 0
+EndsBy mending.Nothing (Ok errors) = errors ≡ 0
+EndsBy why (Ok errors) = ⊥
+EndsBy why (Err cause) = why ≡ stopped_by cause
 
 module _ (geometry : Geometry) (perms : Perms) where
   -- ---- the rebuild and the scrub

@@ -11,7 +11,6 @@ mod laws;
 mod opening;
 mod origins;
 mod rebalancing;
-mod repairing;
 mod replies;
 mod serve;
 mod status;

@@ -1,5 +1,5 @@
 //! The slots that are due get spares, and where one came the pool is rebuilt and scrubbed.
-ghost use Rattle.std.specs.Prelude.{◌≡◌, ◌≢◌, Err, IsErrOf, OnOk};
+ghost use Rattle.std.specs.Prelude.{◌≡◌, ◌≢◌, ℕ, Err, IsErrOf, OnOk};
 ghost use Rattle.draid_agent.specs.Policy.{IsPolicy, PolicyReturns};
 ghost use Rattle.draid_session.specs.State.{State};
 ghost use Rattle.draid_pool.specs.Carries.{CarriesOut};
@@ -9,7 +9,7 @@ ghost use Rattle.draid_pool.specs.Pools.{Represents};
 ghost use Rattle.draid_pool.specs.Whole.{IsWhole};
 ghost use Rattle.draid_visits.specs.Rebuilding.{stopped_by};
 ghost use Rattle.draid_visits.specs.Visiting.{NoPasses};
-ghost use Rattle.draid_run.specs.Repairing.{HealEnds, IsStop, RebuildEnds, RepairEnds, ScrubEnds};
+ghost use Rattle.draid_run.specs.Repairing.{EndsBy, HealEnds, IsStop, RebuildEnds, RepairEnds, ScrubEnds};
 
 use draid_agent::{Journal, Policy};
 use draid_area::Area;
@@ -20,7 +20,7 @@ use draid_reply::AgentErrors;
 use draid_visits::{MendFault, rebuild, scrub};
 use std::alloc::Global;
 
-/// Why a pass was stopped that finds nothing in its way.
+/// Why a scrub was stopped that finds no rebuild in its way.
 fn stop_of(fault: MendFault) -> SyncFault
     requires { IsStop fault }
     ensures { fault ≡ stopped_by result }
@@ -31,6 +31,21 @@ fn stop_of(fault: MendFault) -> SyncFault
         MendFault::Shelf => SyncFault::Shelf,
         MendFault::NoMemory => SyncFault::NoMemory,
         MendFault::Nothing => unreachable!(),
+        MendFault::PassThere { .. } => unreachable!(),
+    }
+}
+
+/// No errors where there was nothing to rebuild, or why a rebuild was stopped that finds no scrub in its way.
+fn ended_by(fault: MendFault) -> Result<u64, SyncFault>
+    requires { (metaslab number : ℕ) → fault ≡ MendFault.PassThere metaslab number → ⊥ }
+    ensures { EndsBy fault result }
+{
+    match fault {
+        MendFault::Nothing => Ok(0),
+        MendFault::Worn => Err(SyncFault::Worn),
+        MendFault::Last => Err(SyncFault::Last),
+        MendFault::Shelf => Err(SyncFault::Shelf),
+        MendFault::NoMemory => Err(SyncFault::NoMemory),
         MendFault::PassThere { .. } => unreachable!(),
     }
 }
@@ -49,8 +64,7 @@ fn rebuild_all<R: Rack, A: Area>(pool: &mut Pool<R, A>) -> Result<u64, SyncFault
 {
     match rebuild(pool, None) {
         Ok(mended) => Ok(mended.errors),
-        Err(MendFault::Nothing) => Ok(0),
-        Err(fault) => Err(stop_of(fault)),
+        Err(fault) => ended_by(fault),
     }
 }
 
