@@ -1,27 +1,28 @@
 ghost use Rattle.std.specs.Prelude.{◌≡◌, ◌≤◌, IfOk, length};
 ghost use Rattle.draid_section.specs.Section.{AreLaneLists};
+ghost use Rattle.draid_tests_lanes.specs.Lists.{list_at};
 
 use draid_pool::PASSES;
 use draid_turn::Span;
 use std::alloc::{AllocError, Global};
 
-/// How many objects each lane holds.
-pub const SHARE: u64 = 1000;
-
-/// The numbers of a lane: its share of the objects, and the passes' where it is the first.
-fn list_of(alloc: Global, lane: u32) -> Result<Vec<Span>, AllocError> {
-    let mut list = Vec::new(alloc);
-    list.push(Span {
-        first: u64::from(lane) * SHARE,
-        last: u64::from(lane) * SHARE + (SHARE - 1),
-    })?;
+/// The numbers of a lane: its thousand objects, and the passes' where it is the first.
+fn list_of(alloc: Global, lane: u32) -> Result<Vec<Span>, AllocError>
+    ensures { IfOk result (λ list. list.items ≡ list_at lane) }
+{
+    let first = u64::from(lane) * 1000;
+    let share = Span {
+        first,
+        last: first + 999,
+    };
+    let passes = Span {
+        first: PASSES,
+        last: PASSES,
+    };
     if lane == 0 {
-        list.push(Span {
-            first: PASSES,
-            last: PASSES,
-        })?;
+        return Ok(vec![in alloc; share, passes]?);
     }
-    Ok(list)
+    Ok(vec![in alloc; share]?)
 }
 
 /// The numbers of so many lanes: objects from 1,000 times a lane's number on are the lane's.

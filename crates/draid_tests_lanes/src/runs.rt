@@ -1,6 +1,8 @@
-ghost use Rattle.std.specs.Prelude.{◌≡◌, ◌≤◌, IfSome, length};
-ghost use Rattle.draid_choose.specs.Rooms.{IsChooser, Picks, most_rooms};
+ghost use Rattle.std.specs.Prelude.{◌≡◌, ◌≤◌, length};
+ghost use Rattle.draid_choose.specs.Rooms.{Picks, most_rooms};
 ghost use Rattle.draid_pool.specs.Whole.{IsWhole};
+ghost use Rattle.draid_section.specs.Section.{AreLaneLists};
+ghost use Rattle.draid_tests_lanes.specs.Ready.{AreReady};
 
 use crate::gates::{Stop, TableGate};
 use crate::lists::lists_of;
@@ -17,6 +19,7 @@ use draid_reply::{Reply, reply_text};
 use draid_section::run_in_lanes;
 use draid_shelf::MemoryShelf;
 use draid_tests_session::run_script;
+use draid_turn::Span;
 use draid_works::LaneCommands;
 use std::alloc::Global;
 use std::sync::Wait;
@@ -61,8 +64,35 @@ pub struct Section {
     pub exported: bool,
 }
 
-/// Runs scripts in lanes over a pool, where the first metaslab that has room for a block takes it. It comes back with what
-/// each lane replied; none where no lane ran, or one stopped.
+/// Runs jobs in lanes over a pool, which comes back with what each lane replied; none where no lane ran, or one stopped.
+fn run_jobs<
+    R: Rack + Send,
+    A: Area + Send,
+    W: Threads + Wait + Sync,
+    F: Fn(&[Room]) -> Option<u32> + Sync,
+>(
+    rt: &W,
+    alloc: Global,
+    pool: Pool<R, A>,
+    gate: &TableGate,
+    numbers: Vec<Vec<Span>>,
+    jobs: Vec<LaneCommands<F>>,
+) -> (Pool<R, A>, Option<Vec<Vec<Reply>>>)
+    requires whole { IsWhole R.Rack A.Area pool }
+    requires lanes { AreLaneLists numbers.items }
+    requires many { length jobs.items ≡ length numbers.items }
+    requires few { length numbers.items ≤ 16 }
+    requires ready { AreReady F.Fn numbers.items jobs.items }
+    ensures { IsWhole R.Rack A.Area result.0 }
+{
+    let (pool, ran) = run_in_lanes(rt, gate, pool, numbers, jobs);
+    match ran {
+        Ok(jobs) => (pool, replies_of(alloc, jobs)),
+        Err(_) => (pool, None),
+    }
+}
+
+/// Runs scripts in lanes over a pool, where the first metaslab that has room for a block takes it.
 fn run_scripts<R: Rack + Send, A: Area + Send, W: Threads + Wait + Sync>(
     rt: &W,
     alloc: Global,
@@ -88,13 +118,9 @@ fn run_scripts<R: Rack + Send, A: Area + Send, W: Threads + Wait + Sync>(
     let Ok(numbers) = lists_of(alloc, scripts.len() as u32) else {
         return (pool, None);
     };
-    let Some(jobs) = jobs_of(alloc, &chooser, &numbers, scripts) else {
-        return (pool, None);
-    };
-    let (pool, ran) = run_in_lanes(rt, &gate, pool, numbers, jobs);
-    match ran {
-        Ok(jobs) => (pool, replies_of(alloc, jobs)),
-        Err(_) => (pool, None),
+    match jobs_of(alloc, &chooser, &numbers, scripts) {
+        Some(jobs) => run_jobs(rt, alloc, pool, &gate, numbers, jobs),
+        None => (pool, None),
     }
 }
 
