@@ -13,12 +13,14 @@ use draid_turn::Span;
 use draid_works::LaneCommands;
 use std::alloc::Global;
 
-/// Whether a lane with these numbers holds so many from the first on.
+/// Whether one span of these numbers has so many from the first on.
 fn holds_from(numbers: &[Span], first: u64, count: u64) -> bool
+    requires { 1 ≤ count }
     ensures { IsTrue result → (n : ℕ) → first ≤ n → n < first + count → holds n numbers.now ≡ true }
 {
-    for span in numbers {
-        if span.first <= first && count <= 65_536 && first + count <= span.last + 1 {
+    for i in 0..numbers.len() {
+        let span = numbers[i];
+        if span.first <= first && first <= span.last && count - 1 <= span.last - first {
             return true;
         }
     }

@@ -429,3 +429,39 @@ fn sixteen_lanes_run_beside_a_scrub(rt: HostRuntime) {
 fn sixteen_lanes_run_beside_a_rebuild(rt: HostRuntime) {
     assert!(rt; mends(&rt, &REBUILD));
 }
+
+/// A lane of the pool that is there.
+static ALONE: Section = Section {
+    before: "",
+    stops: &[],
+    lanes: &["write 1 11\nwrite 5 22\nsync\n", "write 1001 33\n"],
+    exported: true,
+};
+
+/// What is asked of that pool before and behind.
+const ASKED: &str = "import\nread 1\nread 5\nread 1001\nexport\n";
+
+/// Whether lanes run, or leave the pool as it was where memory was wanting before.
+fn runs_or_keeps<W: AllocGlobal + Threads + Wait + Sync>(rt: &W) -> bool {
+    let mut shelf = MemoryShelf::new(rt.alloc(), CrashRule::Old);
+    let made = printed(
+        rt,
+        &mut shelf,
+        "create draid1:2d:3c:0s 3 sector=512 height=8 metaslabs=2 slices=4\nwrite 5 aa\nexport\n",
+    );
+    let was = printed(rt, &mut shelf, ASKED);
+    let ran = run_section(rt, &mut shelf, &ALONE);
+    let found = printed(rt, &mut shelf, ASKED);
+    match (was, found) {
+        (Some(was), Some(found)) => {
+            made.is_none() || ran.is_some() || found.as_slice() == was.as_slice()
+        }
+        _ => true,
+    }
+}
+
+// It shows something where an allocation fails (`rt try --test --fail-alloc`).
+#[test]
+fn lanes_run_or_leave_the_pool(rt: HostRuntime) {
+    assert!(rt; runs_or_keeps(&rt));
+}
