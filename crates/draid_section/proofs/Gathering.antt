@@ -41,7 +41,7 @@ use Rattle.draid_lanes.specs.declared.lane.Lane.{Lane}
 use Rattle.draid_lanes.specs.declared.uber.UberCell.{UberCell}
 use Rattle.draid_lanes.proofs.SyncUnder.{groups_in}
 use Rattle.draid_section.specs.Opening.{AreDealt, AreLocked, IsDealt}
-use Rattle.draid_tables.specs.Owns.{AllWithin, AreDealtOut, HaveRoom, TakesAll, greatest, most_objects}
+use Rattle.draid_tables.specs.Owns.{AllWithin, AreDealtOut, HaveTableRoom, TakesAll, greatest, most_objects}
 use Rattle.draid_section.specs.Running.{BeginsAt, KeepLanes}
 use Rattle.draid_section.specs.Section.{AreLaneLists, BeginsLane, EndWithGroups, GovernsFirst, MayRunAll, MayRunLocked, MayRunUnder, RunsLocked}
 use Rattle.draid_section.specs.Turning.{AreOfLanes, IsUberLock}
@@ -336,7 +336,7 @@ module _ {R A G W J : Type 0} (rack : racks.Ghosts R) (area : areas.Ghosts A) (n
     pub shards_many : length shards' ≡ length pool.metaslabs.shards.items
     shards_many = ran.unlocked.many ∙ locked.many
 
-    pub tables_fit : (more : ℕ) → most_objects lists (length pool.metaslabs.shards.items) ≤ more → HaveRoom more owns'.items
+    pub tables_fit : (more : ℕ) → most_objects lists (length pool.metaslabs.shards.items) ≤ more → HaveTableRoom more owns'.items
     tables_fit more less =
         let fits = have_room shards' (are_few rack shards' (λ m shard at. valid_is rack area pool locks ran.rests ran.new.passes.items owns'.items uber' shards' lanes_ended m shard at)) lists owns'.items all_inside al.apart
         (λ i own is object pointer at. lane_live rack area pool locks ran.rests ran.new.passes.items owns'.items uber' shards' lanes_ended i own is object pointer at) in

@@ -27,7 +27,7 @@ use Rattle.draid_lanes.specs.declared.lane.Lane.{Lane}
 use Rattle.draid_lanes.specs.declared.uber.UberCell.{UberCell}
 use Rattle.draid_lanes.proofs.SyncUnder.{owned_all}
 use Rattle.draid_section.specs.Opening.{AreDealt, AreUnlocked, BelongTo, IsDealt, passes_at, shard_under, shards_under, with_pass}
-use Rattle.draid_section.specs.Running.{KeepLanes, KeepsLane, JobRan}
+use Rattle.draid_section.specs.Running.{KeepLanes, IsLeftWhole, JobRan}
 use Rattle.draid_section.specs.Section.{EndWithGroups, MayRunUnder, RunsUnder}
 use Rattle.draid_section.specs.declared.seats.Shares.{Shares}
 use Rattle.draid_section.proofs.Dealt.{StillOwns, all_still, belongs, dealt_at, dealt_belongs}
@@ -146,7 +146,7 @@ module _ {R A G W J : Type 0} (rack : racks.Ghosts R) (area : areas.Ghosts A) (n
       job_at i lt = ran.over.ran.each i lt
 
       -- what each job kept of its lane
-      pub kept_at : (i : ℕ) (r : JobRan relates locks ran.lock geometry old new ran.over.passes ran.over.nexts i) → KeepsLane rack area r.lane r.next
+      pub kept_at : (i : ℕ) (r : JobRan relates locks ran.lock geometry old new ran.over.passes ran.over.nexts i) → IsLeftWhole rack area r.lane r.next
       kept_at i r = keeps r.job r.lane r.done r.next (may ran.lock ran.first ran.made ran.over.passes ran.over.rest ran.over.of_lanes i r.job r.lane (record { over = r.over; has = r.begun; number = r.number })) r.related
 
       -- its list holds what it owned, and owns then

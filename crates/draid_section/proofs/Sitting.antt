@@ -18,7 +18,7 @@ use Rattle.draid_lanes.specs.declared.running.InLane.{InLane}
 use Rattle.draid_lanes.specs.declared.uber.UberCell.{UberCell}
 use Rattle.draid_section.specs.declared.seats.Shares.{Shares}
 use Rattle.draid_section.specs.Running.{AreEven, HasShare, IsOver}
-use Rattle.draid_section.specs.Seating.{AreAt, AreSeated, HasRoomFor, IsAt, IsSeated}
+use Rattle.draid_section.specs.Seating.{AreAt, AreSeated, HaveRoomForLanes, IsAt, IsSeated}
 use Rattle.draid_section.proofs.LanePasses.{get_before, get_last}
 
 -- ---- lists
@@ -138,7 +138,7 @@ module _ {R A G W J : Type 0} where
     -- the shares have room for what they had
     pub room_left : (ubers : Vec (Caller (Past (UberCell R A))) Global) (shares : Shares R A J) (held : Vec (Vec (Caller (Past (Cell R A))) Global) Global) (passes : Vec (Caller (Past (UberCell R A))) Global) (seats : List (Seat (Lane R A G W) (InLane J)))
         → first ≡ ubers.items → Seating locks uber geometry start first shares passes.items seats → shares.passes.items ≡ [] → held.items ≡ [] → AreEven start first → vec_capacity held ≡ vec_capacity start.passes → vec_capacity shares.owns ≡ vec_capacity start.owns
-        → vec_capacity shares.jobs ≡ vec_capacity start.jobs → vec_capacity passes ≡ vec_capacity ubers → HasRoomFor (length start.passes.items) (record shares { passes = held }) passes
+        → vec_capacity shares.jobs ≡ vec_capacity start.jobs → vec_capacity passes ≡ vec_capacity ubers → HaveRoomForLanes (length start.passes.items) (record shares { passes = held }) passes
     room_left ubers shares held passes seats ubers_are r over none even cap_held cap_owns cap_jobs cap_ubers = record {
       none = (
         none,

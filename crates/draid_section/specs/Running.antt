@@ -31,7 +31,7 @@ module _ {R A G W : Type 0} where
     pub geometry_is : lane.geometry ≡ geometry
 
   -- what every job keeps of its lane: it is whole and the same, and its pass of the uberblock's lock holds what it held
-  pub record KeepsLane (rack : racks.Ghosts R) (area : areas.Ghosts A) (old new : Lane R A G W) : Type 0 where
+  pub record IsLeftWhole (rack : racks.Ghosts R) (area : areas.Ghosts A) (old new : Lane R A G W) : Type 0 where
     pub whole : IsWholeLane rack area new
     pub same : IsSameLane old new
     pub numbers : new.pass.numbers ≡ old.pass.numbers
@@ -46,7 +46,7 @@ module _ {R A G W J : Type 0} where
 
   -- so does each job of a kind that has what it needs
   abbrev pub KeepLanes : racks.Ghosts R → areas.Ghosts A → (needs : J → Lane R A G W → Type 0) → (relates : J → Lane R A G W → J → Lane R A G W → Type 0) → Type 0
-  KeepLanes rack area needs relates = (job : J) (lane : Lane R A G W) (done : J) (next : Lane R A G W) → needs job lane → relates job lane done next → KeepsLane rack area lane next
+  KeepLanes rack area needs relates = (job : J) (lane : Lane R A G W) (done : J) (next : Lane R A G W) → needs job lane → relates job lane done next → IsLeftWhole rack area lane next
 
   -- The job of the lane at this place was done. The lane had its number.
   pub record JobRan (relates : J → Lane R A G W → J → Lane R A G W → Type 0) (locks : List (Lock (Cell R A))) (uber : Lock (UberCell R A)) (geometry : Geometry) (old new : Shares R A J) (passes nexts : List (Caller (Past (UberCell R A)))) (i : ℕ) : Type 0 where

@@ -42,7 +42,7 @@ module _ {R A G W J : Type 0} where
 
 module _ {R A J : Type 0} where
   -- nothing is left of the shares, and there is room for those of so many lanes
-  pub record HasRoomFor (count : ℕ) (shares : Shares R A J) (passes : Vec (Caller (Past (UberCell R A))) Global) : Type 0 where
+  pub record HaveRoomForLanes (count : ℕ) (shares : Shares R A J) (passes : Vec (Caller (Past (UberCell R A))) Global) : Type 0 where
     pub none : (shares.passes.items ≡ []) × (shares.owns.items ≡ []) × (shares.jobs.items ≡ []) × (passes.items ≡ [])
     pub held : count ≤ vec_capacity shares.passes
     pub owns : count ≤ vec_capacity shares.owns

@@ -1,7 +1,7 @@
 //! Lanes that take their seats with what is each one's share, run their jobs and rise again.
 ghost use Rattle.std.specs.Prelude.{◌≡◌, ◌≤◌, [], IfErr, IfOk, length, vec_capacity};
 ghost use Rattle.draid_section.specs.Running.{AreEven, JobsRan, KeepLanes, MayRunEach};
-ghost use Rattle.draid_section.specs.Seating.{AreAt, AreSeated, AreTaken, HasRoomFor};
+ghost use Rattle.draid_section.specs.Seating.{AreAt, AreSeated, AreTaken, HaveRoomForLanes};
 
 use draid_area::Area;
 use draid_lanes::{Gate, InLane, Lane, LaneJob, Locked, Seat, UberCell, run_jobs};
@@ -39,7 +39,7 @@ fn seat_each<'a, 'b, R: Rack, A: Area, G: Gate, W: Wait, J: Drop>(
     requires room { length shares.old.passes.items ≤ vec_capacity seats }
     ensures seated { AreSeated shares.old passes.old.items result.items }
     ensures at { AreAt turns.now uber.now geometry result.items }
-    ensures room { HasRoomFor (length shares.old.passes.items) shares.new passes.new }
+    ensures room { HaveRoomForLanes (length shares.old.passes.items) shares.new passes.new }
     ensures capacity { vec_capacity shares.new.passes ≡ vec_capacity shares.old.passes }
 {
     'lanes: while let Some(held) = shares.passes.pop() {
@@ -76,7 +76,7 @@ fn rise_each<'a, 'b, R: Rack, A: Area, G: Gate, W: Wait, J: Drop>(
     shares: &mut Shares<R, A, J>,
 )
     requires taken { AreTaken seats.items }
-    requires room { HasRoomFor (length seats.items) shares.old passes.old }
+    requires room { HaveRoomForLanes (length seats.items) shares.old passes.old }
     ensures even { AreEven shares.new passes.new.items }
     ensures seated { AreSeated shares.new passes.new.items seats.entry.items }
     ensures capacity { vec_capacity shares.new.passes ≡ vec_capacity shares.old.passes }

@@ -35,7 +35,7 @@ use Rattle.draid_turn.specs.Numbers.{holds, in_span}
 use Rattle.draid_turn.specs.declared.span.Span.{Span}
 use Rattle.draid_holds.specs.Passes.{shares}
 use Rattle.draid_pool.specs.declared.own.Own.{Own}
-use Rattle.draid_tables.specs.Owns.{AllWithin, AreUnique, HaveRoom, most_objects, size_of_span, objects_of, size_of_list}
+use Rattle.draid_tables.specs.Owns.{AllWithin, AreUnique, HaveTableRoom, most_objects, size_of_span, objects_of, size_of_list}
 
 -- ---- numbers that stand in lists
 
@@ -298,7 +298,7 @@ module _ {R A : Type 0} where
 
     -- so the tables have room one after another
     pub have_room : (numbers : List (Vec Span Global)) (owns : List Own) → AllWithin numbers owns → ((n : ℕ) → shares n numbers ≤ 1)
-        → ((i : ℕ) (own : Own) → slice_get owns i ≡ Some own → AreLive shards own) → HaveRoom (most_objects numbers (length shards)) owns
+        → ((i : ℕ) (own : Own) → slice_get owns i ≡ Some own → AreLive shards own) → HaveTableRoom (most_objects numbers (length shards)) owns
     have_room numbers owns within apart live count unique =
         let first = all_fit (take count numbers) (take count owns) (within_take count numbers owns within)
         (λ n. (let less = sum_by-take-le (held_in n) numbers count in let all = apart n in omega (arith, less, all)))
@@ -319,5 +319,5 @@ module _ {R A : Type 0} where
         }
 
 -- more room is room too
-pub more_room : (room more : ℕ) (owns : List Own) → HaveRoom room owns → room ≤ more → HaveRoom more owns
+pub more_room : (room more : ℕ) (owns : List Own) → HaveTableRoom room owns → room ≤ more → HaveTableRoom more owns
 more_room room more owns have less count unique = (let fits = have count unique in omega (arith, fits, less))

@@ -15,7 +15,7 @@ use Rattle.draid_turn.specs.Numbers.{holds}
 use Rattle.draid_turn.specs.declared.span.Span.{Span}
 use Rattle.draid_holds.specs.Passes.{shares}
 use Rattle.draid_pool.specs.declared.own.Own.{Own}
-use Rattle.draid_tables.specs.Owns.{AreDealtOut, AreUnique, HaveRoom, IsDealtOut, TakesAll, TakesOwn, greatest, objects_of}
+use Rattle.draid_tables.specs.Owns.{AreDealtOut, AreUnique, HaveTableRoom, IsDealtOut, TakesAll, TakesOwn, greatest, objects_of}
 
 pub take_next : {X : Type 0} (xs : List X) (i : ℕ) (x : X) → slice_get xs i ≡ Some x → take (suc i) xs ≡ take i xs ++ x ∷ []
 take_next [] i x is = absurd (cc)
@@ -130,7 +130,7 @@ module _ (numbers : List (Vec Span Global)) (owns : List Own) (old : Own) where
     next_objects = ap objects_of (take_next owns at own own_is) ∙ sum_by_push (λ (o : Own). hash_map_len o.objects) (take at owns) own
 
     -- the next table has room
-    pub takes_room : HaveRoom (spare old.objects) owns → IsUnique nat_eq own.objects → hash_map_len own.objects ≤ spare now.objects
+    pub takes_room : HaveTableRoom (spare old.objects) owns → IsUnique nat_eq own.objects → hash_map_len own.objects ≤ spare now.objects
     takes_room room unique =
         let all = room (suc at) (all_unique unique) in
         let next = next_objects in

@@ -46,8 +46,8 @@ abbrev pub objects_of : List Own → ℕ
 objects_of owns = sum_by (λ (own : Own). hash_map_len own.objects) owns
 
 -- any number of the first tables has room, where each of these has an object once
-abbrev pub HaveRoom : ℕ → List Own → Type 0
-HaveRoom room owns = (count : ℕ) → AreUnique (take count owns) → objects_of (take count owns) ≤ room
+abbrev pub HaveTableRoom : ℕ → List Own → Type 0
+HaveTableRoom room owns = (count : ℕ) → AreUnique (take count owns) → objects_of (take count owns) ≤ room
 
 -- ---- put back
 

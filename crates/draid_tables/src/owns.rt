@@ -2,7 +2,7 @@
 ghost use Rattle.std.specs.Prelude.{◌≡◌, ◌≤◌, ◌+◌, ◌-◌, ◌^◌, ℕ, IfOk, length, max, min, nat_eq, sum_by};
 ghost use Rattle.std.specs.HashMap.{IsUnique, get, hash_map_len, spare};
 ghost use Rattle.draid_holds.specs.Passes.{shares};
-ghost use Rattle.draid_tables.specs.Owns.{AllWithin, AreDealtOut, HaveRoom, IsDealtOut, TakesAll, TakesOwn, most_objects, size_of_span};
+ghost use Rattle.draid_tables.specs.Owns.{AllWithin, AreDealtOut, HaveTableRoom, IsDealtOut, TakesAll, TakesOwn, most_objects, size_of_span};
 ghost use Rattle.draid_tables.specs.Tables.{HoldsWithin};
 
 use crate::tables::{deal_objects, take_objects};
@@ -83,7 +83,7 @@ fn take_own(own: &mut Own, numbers: &[Span], dealt: &Own)
 pub fn take_each(own: &mut Own, numbers: &[Vec<Span>], owns: &[Own])
     requires within { AllWithin numbers.now owns.now }
     requires apart { (n : ℕ) → shares n numbers.now ≤ 1 }
-    requires room { HaveRoom (spare own.old.objects) owns.now }
+    requires room { HaveTableRoom (spare own.old.objects) owns.now }
     ensures { TakesAll numbers.now owns.now own.old own.new }
 {
     for i in 0..numbers.len() {

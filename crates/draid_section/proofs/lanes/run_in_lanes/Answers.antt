@@ -9,7 +9,7 @@ use Rattle.draid_holds.specs.Passes.{EachHoldsSome, KeepsOne, shares}
 use Rattle.draid_uber.specs.declared.uber.Uber.{Uber}
 use Rattle.draid_shard.specs.declared.shard.Shard.{Shard}
 use Rattle.draid_pool.specs.declared.own.Own.{Own}
-use Rattle.draid_tables.specs.Owns.{AllWithin, HaveRoom, TakesAll, most_objects}
+use Rattle.draid_tables.specs.Owns.{AllWithin, HaveTableRoom, TakesAll, most_objects}
 use Rattle.draid_section.specs.Section.{EndWithGroups, MayRunLocked, RunsLocked}
 use Rattle.draid_section.proofs.Gathering.{all_inside, apart_all, ends, gathered_whole, governs_first, may_locked, other_all, some_each, tables_fit}
 use Rattle.draid_section.proofs.Idle.{err_of, ok_of}
@@ -95,7 +95,7 @@ take_each-requires-clause-room g c =
     let ran = subst (λ ls. RunsLocked g.R.Rack g.A.Area g.J.LaneJob.relates c.args.pool.geometry c.in-Ok-lock_each.made.turns.items c.args.pool.uber ls c.in-Ok.plan.owns c.args.jobs c.run_locked-behind.result.uber c.run_locked-behind.result.shards.items c.run_locked-behind.result.owns c.run_locked-behind.result.jobs) all (ok_of c.run_locked-behind.result.ran c.in-Ok-ran.field-0 c.in-Ok-ran.is c.run_locked-behind.ensures.ran) in
     let inside = all_inside g.R.Rack g.A.Area g.J.LaneJob.needs g.J.LaneJob.relates c.args.pool c.requires.whole c.args.numbers.items c.requires.lanes c.args.jobs c.requires.may c.requires.keeps c.in-Ok-lock_each.made.turns.items c.in-Ok-lock_each.made.firsts.items c.in-Ok-lock_each.ensures.locked c.in-Ok.ensures.planned.groups c.in-Ok.ensures.planned.alone c.in-Ok.plan.owns c.in-Ok.ensures.planned.dealt c.run_locked-behind.result.uber c.run_locked-behind.result.shards.items c.run_locked-behind.result.owns c.run_locked-behind.result.jobs ran in
     let long = c.len.ensures ∙ c.args.pool.metaslabs.shards.ok.0 in
-    subst (HaveRoom (spare c.make_plan.new.own.objects)) (sym c.deref-in-Ok-ran-2.ensures.value)
+    subst (HaveTableRoom (spare c.make_plan.new.own.objects)) (sym c.deref-in-Ok-ran-2.ensures.value)
     (tables_fit g.R.Rack g.A.Area g.J.LaneJob.needs g.J.LaneJob.relates c.args.pool c.requires.whole c.args.numbers.items c.requires.lanes c.args.jobs c.requires.may c.requires.keeps c.in-Ok-lock_each.made.turns.items c.in-Ok-lock_each.made.firsts.items c.in-Ok-lock_each.ensures.locked c.in-Ok.ensures.planned.groups c.in-Ok.ensures.planned.alone c.in-Ok.plan.owns c.in-Ok.ensures.planned.dealt c.run_locked-behind.result.uber c.run_locked-behind.result.shards.items c.run_locked-behind.result.owns c.run_locked-behind.result.jobs ran (spare c.make_plan.new.own.objects) (subst (λ n. most_objects c.args.numbers.items n ≤ spare c.make_plan.new.own.objects) long c.in-Ok.ensures.planned.room))
 
 pub returns-in-Ok-ran-clause-whole : goal.returns-in-Ok-ran-clause-whole
