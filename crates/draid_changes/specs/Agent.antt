@@ -1,10 +1,9 @@
 -- What the repair agent's call on the arms of a pool says by its answer.
-use Rattle.std.specs.Prelude.{◌≡◌, ◌≢◌, ◌+◌, ◌<◌, ◌++◌, ◌⊎◌, ℕ, zero, suc, Bool, true, false, List, [], Option, Result, Ok, Err, length}
-use Rattle.draid_names.specs.declared.journal.Cause.{Cause}
+use Rattle.std.specs.Prelude.{◌≡◌, ◌≢◌, ◌+◌, ◌<◌, ◌≤◌, ◌++◌, ◌⊎◌, ℕ, Bool, true, false, List, [], Option, Result, Ok, Err, length}
 use Rattle.draid_names.specs.declared.journal.Entry.{Entry}
 use Rattle.draid_spec.specs.declared.layout.Geometry.{Geometry}
 use Rattle.draid_session.specs.Agent as agent
-use Rattle.draid_session.specs.Agent.{AttachesAll, Gives, IsDue, IsntDue, SomeCame}
+use Rattle.draid_session.specs.Agent.{AreDueFrom, AreNumbered, AttachesAll, Gives, IsntDue, SomeCame}
 use Rattle.draid_session.specs.Arms.{HasPass, ReservePhase}
 use Rattle.draid_session.specs.Groups.{Finishes}
 use Rattle.draid_session.specs.Holds.{Hold, View}
@@ -15,13 +14,6 @@ use Rattle.draid_pool.specs.Syncing.{end_of}
 use Rattle.draid_pool.specs.declared.fault.SyncFault.TheVariants as sync
 use Rattle.draid_changes.specs.declared.agent.GiveFault.{GiveFault}
 use Rattle.draid_changes.specs.declared.agent.GiveFault.TheVariants as fault
-
--- so many of so many slots from one on are due
-abbrev pub AreDueFrom : ℕ → List View → ℕ → ℕ → ℕ → Type 0
-AreDueFrom least views slot zero count = count ≡ 0
-AreDueFrom least views slot (suc n) count =
-    (IsntDue least views slot × AreDueFrom least views (slot + 1) n count)
-    ⊎ ((leaf : ℕ) × (why : Cause) × (fewer : ℕ) × IsDue least views slot leaf why × (count ≡ fewer + 1) × AreDueFrom least views (slot + 1) n fewer)
 
 -- ---- where no group is closing
 
@@ -72,3 +64,21 @@ module _ (x : State) (chosen : ℕ → ℕ → List ℕ → Option ℕ → Type 
   GiveDoes (Err (fault.PassThere metaslab number)) after holds new = (new ≡ x.store) × (after ≡ before) × agent.FindsPass x.geometry x.perms chosen holds metaslab number
   GiveDoes (Err (fault.Stopped sync.NoMemory)) after holds new = (new ≡ x.store) × (after ≡ before) × GiveStarves holds
   GiveDoes (Err (fault.Stopped why)) after holds new = (new ≡ x.store) × (after ≡ before) × GiveStops holds (end_of {T = ℕ} (Err why))
+
+-- ---- the journal, whatever is known of the pool
+
+-- a pool has no more slots
+abbrev pub most_slots : ℕ
+most_slots = 64
+
+-- Some entries came behind those that the journal had, with the numbers behind theirs, and no more than a pool has slots.
+pub record AddsEntries (before after : List Entry) : Type 0 where
+  pub more : List Entry
+  pub are : after ≡ before ++ more
+  pub numbered : AreNumbered (length before + 1) more
+  pub few : length more ≤ most_slots
+
+-- by the answer
+abbrev pub EntriesAre : Result Bool GiveFault → List Entry → List Entry → Type 0
+EntriesAre (Ok came) before after = AddsEntries before after
+EntriesAre (Err why) before after = after ≡ before

@@ -4,6 +4,7 @@ use Rattle.std.specs.Prelude.{MatchOption, is_some, ⊤}
 use Rattle.std.specs.Io.KnownBytes.{prepend_known}
 use Rattle.std.proofs.lemmas.Grind.{flat_map-append}
 use Rattle.std.proofs.lemmas.List.{append-nil}
+use Rattle.draid_names.specs.declared.journal.Entry.{Entry}
 use Rattle.draid_record.specs.declared.fault.RecordFaultKind.{RecordFaultKind}
 use Rattle.draid_rack.specs.declared.Rack as racks
 use Rattle.draid_area.specs.declared.Area as areas
@@ -14,10 +15,11 @@ use Rattle.draid_script.specs.Line.{Command}
 use Rattle.draid_session.specs.Said.{Said}
 use Rattle.draid_session.specs.Choices.{Choices}
 use Rattle.draid_session.specs.Places.{Outside, Place, line_behind, place_behind}
-use Rattle.draid_session.specs.Session.{Desk, Untouched, Bare, Made, Open, Shut, Foreign, Unknown, RecordFails, Runs, ShelfFails}
+use Rattle.draid_session.specs.Session.{Desk, Untouched, Bare, Made, Open, Shut, Foreign, Unknown, RecordFails, Runs, ShelfFails, Sitting, sits}
 use Rattle.draid_pool.specs.declared.pool.Pool.{Pool}
+use Rattle.draid_run.specs.declared.status.RecordName.{RecordName}
 use Rattle.draid_run.specs.Crashes.{IsFirmShut, LeavesFirm, crash_came_last}
-use Rattle.draid_run.specs.Desks.{IsDesk, Turned}
+use Rattle.draid_run.specs.Desks.{IsDesk, Noted, Turned}
 use Rattle.draid_run.specs.Script.{AreBuilt, IsBuilt, all_said, BreaksOff, Ends, FaultyShut, GetsReplies, LineFaultIs, Shows, said_text, texts_of}
 use Rattle.draid_run.specs.Serve.{BrokenLine, Cut, LineIs, Printed, Served, Serving, TextIs, Untold}
 use Rattle.draid_pool.specs.Shelves.{OnShelf}
@@ -116,29 +118,29 @@ built_more place (front ∷ lines) line are is = (are.0, built_more (place_behin
 module _ {R A : Type 0} (rack : racks.Ghosts R) (area : areas.Ghosts A) (choices : Choices) (entry : OnShelf) where
   -- the fault that a status names
   abbrev NamesFault : OnShelf → Status → Type 0
-  NamesFault before (Record metaslab place kind) = HoldsFault rack area before metaslab place kind
+  NamesFault before (Record which place kind) = HoldsFault rack area before which place kind
   NamesFault before status = ⊤
 
   -- the line under another name of its number and its text
-  pub line_by : (number number' : ℕ) (text text' : List ℕ) (before : OnShelf) (pool : Option (Pool R A)) (x : Desk) (now : OnShelf) (pool' : Option (Pool R A)) (held held' : Option (List ℕ)) (result : Result Unit Status)
-      → number ≡ number' → text ≡ text' → LineIs rack area choices number text entry before pool x now pool' held held' result → LineIs rack area choices number' text' entry before pool x now pool' held held' result
-  line_by number number' text text' before pool x now pool' held held' result numbers texts line =
-      let P : ℕ → Type 0 = λ n. LineIs rack area choices n text entry before pool x now pool' held held' result in
-      let Q : List ℕ → Type 0 = λ t. LineIs rack area choices number' t entry before pool x now pool' held held' result in
+  pub line_by : (past after : List Entry) (number number' : ℕ) (text text' : List ℕ) (before : OnShelf) (pool : Option (Pool R A)) (x : Desk) (now : OnShelf) (pool' : Option (Pool R A)) (held held' : Option (List ℕ)) (result : Result Unit Status)
+      → number ≡ number' → text ≡ text' → LineIs rack area choices past after number text entry before pool x now pool' held held' result → LineIs rack area choices past after number' text' entry before pool x now pool' held held' result
+  line_by past after number number' text text' before pool x now pool' held held' result numbers texts line =
+      let P : ℕ → Type 0 = λ n. LineIs rack area choices past after n text entry before pool x now pool' held held' result in
+      let Q : List ℕ → Type 0 = λ t. LineIs rack area choices past after number' t entry before pool x now pool' held held' result in
       subst Q texts (subst P numbers line)
 
   -- a line that wasn't run has no fault of the source's, nor of the words
-  pub line_no_source : (number : ℕ) (text : List ℕ) (before : OnShelf) (pool : Option (Pool R A)) (x : Desk) (now : OnShelf) (pool' : Option (Pool R A)) (held held' : Option (List ℕ)) (status : Status)
-      → LineIs rack area choices number text entry before pool x now pool' held held' (Err status) → status ≡ SourceFault → ⊥
-  line_no_source number text before pool x now pool' held held' status line is = subst (λ s. LineIs rack area choices number text entry before pool x now pool' held held' (Err s)) is line
+  pub line_no_source : (past after : List Entry) (number : ℕ) (text : List ℕ) (before : OnShelf) (pool : Option (Pool R A)) (x : Desk) (now : OnShelf) (pool' : Option (Pool R A)) (held held' : Option (List ℕ)) (status : Status)
+      → LineIs rack area choices past after number text entry before pool x now pool' held held' (Err status) → status ≡ SourceFault → ⊥
+  line_no_source past after number text before pool x now pool' held held' status line is = subst (λ s. LineIs rack area choices past after number text entry before pool x now pool' held held' (Err s)) is line
 
-  pub line_no_done : (number : ℕ) (text : List ℕ) (before : OnShelf) (pool : Option (Pool R A)) (x : Desk) (now : OnShelf) (pool' : Option (Pool R A)) (held held' : Option (List ℕ)) (status : Status)
-      → LineIs rack area choices number text entry before pool x now pool' held held' (Err status) → status ≡ Done → ⊥
-  line_no_done number text before pool x now pool' held held' status line is = subst (λ s. LineIs rack area choices number text entry before pool x now pool' held held' (Err s)) is line
+  pub line_no_done : (past after : List Entry) (number : ℕ) (text : List ℕ) (before : OnShelf) (pool : Option (Pool R A)) (x : Desk) (now : OnShelf) (pool' : Option (Pool R A)) (held held' : Option (List ℕ)) (status : Status)
+      → LineIs rack area choices past after number text entry before pool x now pool' held held' (Err status) → status ≡ Done → ⊥
+  line_no_done past after number text before pool x now pool' held held' status line is = subst (λ s. LineIs rack area choices past after number text entry before pool x now pool' held held' (Err s)) is line
 
-  pub line_no_usage : (number : ℕ) (text : List ℕ) (before : OnShelf) (pool : Option (Pool R A)) (x : Desk) (now : OnShelf) (pool' : Option (Pool R A)) (held held' : Option (List ℕ)) (status : Status)
-      → LineIs rack area choices number text entry before pool x now pool' held held' (Err status) → status ≡ Usage → ⊥
-  line_no_usage number text before pool x now pool' held held' status line is = subst (λ s. LineIs rack area choices number text entry before pool x now pool' held held' (Err s)) is line
+  pub line_no_usage : (past after : List Entry) (number : ℕ) (text : List ℕ) (before : OnShelf) (pool : Option (Pool R A)) (x : Desk) (now : OnShelf) (pool' : Option (Pool R A)) (held held' : Option (List ℕ)) (status : Status)
+      → LineIs rack area choices past after number text entry before pool x now pool' held held' (Err status) → status ≡ Usage → ⊥
+  line_no_usage past after number text before pool x now pool' held held' status line is = subst (λ s. LineIs rack area choices past after number text entry before pool x now pool' held held' (Err s)) is line
 
   -- a desk without a pool
   shut_desk : (first : Desk) → HoldsDesk first entry entry → IsDesk rack area entry entry None first
@@ -150,7 +152,7 @@ module _ {R A : Type 0} (rack : racks.Ghosts R) (area : areas.Ghosts A) (choices
   shut_desk (Foreign known) is = absurd is
   shut_desk (Open x) is = absurd is
 
-  pub serving_none : (input start : Option (List ℕ)) (first : Desk) → HoldsDesk first entry entry → Serving rack area choices first input (prepend_known [] input) start start entry entry None 0
+  pub serving_none : (input start : Option (List ℕ)) (first : Desk) → HoldsDesk first entry entry → Serving rack area choices [] first input (prepend_known [] input) start start entry entry None 0
   serving_none input start first at = record {
     lines = [];
     replies = [];
@@ -168,30 +170,32 @@ module _ {R A : Type 0} (rack : racks.Ghosts R) (area : areas.Ghosts A) (choices
     starts None = tt
     starts (Some x) = refl
 
-  pub serving_start : (input start : Option (List ℕ)) (lines : Rest) (pool : Option (Pool R A)) → lines ≡ record { held = []; given = 0; fault = None } → pool ≡ None
-      → (first : Desk) → HoldsDesk first entry entry → Serving rack area choices first input (prepend_known lines.held input) start start entry entry pool lines.given
-  serving_start input start lines pool is none first at = rw is (rw none (serving_none input start first at))
+  pub serving_start : (input start : Option (List ℕ)) (lines : Rest) (pool : Option (Pool R A)) (journal : List Entry) → lines ≡ record { held = []; given = 0; fault = None } → pool ≡ None → journal ≡ []
+      → (first : Desk) → HoldsDesk first entry entry → Serving rack area choices journal first input (prepend_known lines.held input) start start entry entry pool lines.given
+  serving_start input start lines pool journal is none empty first at = rw is (rw none (rw empty (serving_none input start first at)))
 
   module _ (first : Desk) where
     -- the lines so far, and one more
-    abbrev RunsSo : List (List ℕ) → List (List Said) → Desk → Type 0
-    RunsSo lines replies new = Runs choices (MayFind rack area entry) (is_some entry.held) first lines replies new
+    abbrev RunsSo : List (List ℕ) → List (List Said) → Sitting → Type 0
+    RunsSo lines replies new = Runs choices (MayFind rack area entry) (is_some entry.held) (sits first []) lines replies new
 
-    more : (lines : List (List ℕ)) (replies : List (List Said)) (mid : Desk) (line : List ℕ) (saids : List Said) (now : OnShelf) (pool : Option (Pool R A)) → RunsSo lines replies mid
-        → (turned : Turned rack area choices (line_of line) entry mid saids now pool) → TellsAsBefore entry now → RunsSo (lines ++ line ∷ []) (replies ++ saids ∷ []) turned.new
-    more lines replies mid line saids now pool runs turned tells =
-        runs_more choices (MayFind rack area entry) (is_some entry.held) first lines replies mid line saids turned.new runs turned.turns (desk_agrees rack area entry now pool turned.new tells turned.desk)
+    more : (past after : List Entry) (lines : List (List ℕ)) (replies : List (List Said)) (mid : Desk) (line : List ℕ) (saids : List Said) (now : OnShelf) (pool : Option (Pool R A)) → RunsSo lines replies (sits mid past)
+        → (turned : Turned rack area choices (line_of line) entry mid saids now pool) → Noted rack area choices (line_of line) entry mid saids now pool turned past after → TellsAsBefore entry now
+        → RunsSo (lines ++ line ∷ []) (replies ++ saids ∷ []) (sits turned.new after)
+    more past after lines replies mid line saids now pool runs turned noted tells =
+        runs_more choices (MayFind rack area entry) (is_some entry.held) (sits first []) lines replies (sits mid past) line saids (sits turned.new after) runs (turned.turns, noted.0, noted.1, noted.2)
+        (desk_agrees rack area entry now pool turned.new tells turned.desk)
 
-    firm_so : (lines : List (List ℕ)) (replies : List (List Said)) (mid : Desk) (line : List ℕ) (saids : List Said) (before now : OnShelf) (pool pool' : Option (Pool R A)) → RunsSo lines replies mid
+    firm_so : (lines : List (List ℕ)) (replies : List (List Said)) (mid : Sitting) (line : List ℕ) (saids : List Said) (before now : OnShelf) (pool pool' : Option (Pool R A)) → RunsSo lines replies mid
         → (crash_came_last Outside false lines replies ≡ true → IsFirmShut before pool) → LeavesFirm (line_of line) saids before pool now pool' → crash_came_last Outside false (lines ++ line ∷ []) (replies ++ saids ∷ []) ≡ true → IsFirmShut now pool'
-    firm_so lines replies mid line saids before now pool pool' runs firm leaves = firm_more choices (MayFind rack area entry) (is_some entry.held) first lines replies mid line saids before now pool pool' runs firm leaves
+    firm_so lines replies mid line saids before now pool pool' runs firm leaves = firm_more choices (MayFind rack area entry) (is_some entry.held) (sits first []) lines replies mid line saids before now pool pool' runs firm leaves
 
-    pub serving_more : (input rest rest' start held held' : Option (List ℕ)) (before now : OnShelf) (pool pool' : Option (Pool R A)) (count : ℕ) (line : List ℕ)
-        → (is : Serving rack area choices first input rest start held entry before pool count)
+    pub serving_more : (past after : List Entry) (input rest rest' start held held' : Option (List ℕ)) (before now : OnShelf) (pool pool' : Option (Pool R A)) (count : ℕ) (line : List ℕ)
+        → (is : Serving rack area choices past first input rest start held entry before pool count)
         → WhereKnown rest rest' (λ old new. lines_of old ≡ line ∷ lines_of new)
-        → Printed rack area choices line entry before pool is.reached now pool' held held' → TellsAsBefore entry now
-        → Serving rack area choices first input rest' start held' entry now pool' (count + 1)
-    serving_more input rest rest' start held held' before now pool pool' count line is behind printed tells =
+        → Printed rack area choices past after line entry before pool is.reached now pool' held held' → TellsAsBefore entry now
+        → Serving rack area choices after first input rest' start held' entry now pool' (count + 1)
+    serving_more past after input rest rest' start held held' before now pool pool' count line is behind printed tells =
         let counted = is.count_is in
         let longer = length-append is.lines (line ∷ []) in
         record {
@@ -200,23 +204,24 @@ module _ {R A : Type 0} (rack : racks.Ghosts R) (area : areas.Ghosts A) (choices
           reached = printed.turned.new;
           count_is = omega (arith, counted, longer);
           desk = printed.turned.desk;
-          runs = more is.lines is.replies is.reached line printed.saids now pool' is.runs printed.turned tells;
+          runs = more past after is.lines is.replies is.reached line printed.saids now pool' is.runs printed.turned printed.noted tells;
           known = known_on input rest rest' _ _ _ (λ x y z a b. lines_more x y z is.lines line a b) is.known behind;
           printed = rw (texts_more is.replies printed.saids) (appends_more start held held' _ _ is.printed printed.prints);
           unanswered = λ none. absurd (not_none is.lines line none);
-          firm = firm_so is.lines is.replies is.reached line printed.saids before now pool pool' is.runs is.firm printed.firm;
+          firm = firm_so is.lines is.replies (sits is.reached past) line printed.saids before now pool pool' is.runs is.firm printed.firm;
           built = built_more Outside is.lines line is.built printed.built;
         }
 
     -- The run ends with no line under way, for a cause that is neither a failing shelf nor a record's fault.
-    at_rest : (input rest start held : Option (List ℕ)) (now : OnShelf) (pool : Option (Pool R A)) (count : ℕ) (is : Serving rack area choices first input rest start held entry now pool count) (ended : Status)
+    at_rest : (past : List Entry) (input rest start held : Option (List ℕ)) (now : OnShelf) (pool : Option (Pool R A)) (count : ℕ) (is : Serving rack area choices past first input rest start held entry now pool count) (ended : Status)
         → BreaksOff is.lines ended None [] is.reached is.reached → MatchOption input ⊤ (Ends ended None is.lines) → Shows ended is.replies (all_said is.replies) → GetsReplies ended (all_said is.replies) start held
-        → (ended ≡ ShelfFault → ⊥) → ((metaslab : Option ℕ) (place : ℕ) (kind : RecordFaultKind) → ended ≡ Record metaslab place kind → ⊥) → Served rack area choices first ended input start held entry now pool
-    at_rest input rest start held now pool count is ended breaks ends shows prints no_shelf no_record = record {
+        → (ended ≡ ShelfFault → ⊥) → ((which : RecordName) (place : ℕ) (kind : RecordFaultKind) → ended ≡ Record which place kind → ⊥) → Served rack area choices first ended input start held entry now pool
+    at_rest past input rest start held now pool count is ended breaks ends shows prints no_shelf no_record = record {
       lines = is.lines;
       replies = is.replies;
       shown = all_said is.replies;
       mid = is.reached;
+      journal = past;
       last = is.reached;
       broken = None;
       saids = [];
@@ -228,79 +233,80 @@ module _ {R A : Type 0} (rack : racks.Ghosts R) (area : areas.Ghosts A) (choices
       prints = prints;
       failed = λ e. absurd (no_shelf e);
       since = λ e. absurd (no_shelf e);
-      bad = λ metaslab place kind e. absurd (no_record metaslab place kind e);
+      bad = λ which place kind e. absurd (no_record which place kind e);
       firm = λ rest. is.firm;
       built = is.built;
     }
 
     -- the input ended
-    pub served_done : (input rest rest' start held : Option (List ℕ)) (now : OnShelf) (pool : Option (Pool R A)) (count : ℕ)
-        → Serving rack area choices first input rest start held entry now pool count → WhereKnown rest rest' (λ old new. old ≡ [])
+    pub served_done : (past : List Entry) (input rest rest' start held : Option (List ℕ)) (now : OnShelf) (pool : Option (Pool R A)) (count : ℕ)
+        → Serving rack area choices past first input rest start held entry now pool count → WhereKnown rest rest' (λ old new. old ≡ [])
         → Served rack area choices first Done input start held entry now pool
-    served_done input rest rest' start held now pool count is end = at_rest input rest start held now pool count is Done (refl, refl)
+    served_done past input rest rest' start held now pool count is end = at_rest past input rest start held now pool count is Done (refl, refl)
         (known_input input rest' _ _ (λ x z e. e)
         (known_on input rest rest' _ _ (λ all behind. lines_of all ≡ is.lines)
         (λ x y z a b. a ∙ ap (λ bytes. is.lines ++ lines_of bytes) b ∙ ap (λ xs. is.lines ++ xs) lines_none ∙ append-nil is.lines) is.known end))
-        refl is.printed (λ e. cc e) (λ metaslab place kind e. cc e)
+        refl is.printed (λ e. cc e) (λ which place kind e. cc e)
 
     -- the next line could not be read
-    pub served_unread : (input start held left left' : Option (List ℕ)) (now : OnShelf) (pool : Option (Pool R A)) (lines lines' : Rest) (status : Status)
-        → Serving rack area choices first input (prepend_known lines.held left) start held entry now pool lines.given → TextIs lines lines' left left' (Err status)
+    pub served_unread : (past : List Entry) (input start held left left' : Option (List ℕ)) (now : OnShelf) (pool : Option (Pool R A)) (lines lines' : Rest) (status : Status)
+        → Serving rack area choices past first input (prepend_known lines.held left) start held entry now pool lines.given → TextIs lines lines' left left' (Err status)
         → Served rack area choices first status input start held entry now pool
-    served_unread input start held left left' now pool lines lines' SourceFault is text = at_rest input (prepend_known lines.held left) start held now pool lines.given is SourceFault (refl, refl)
+    served_unread past input start held left left' now pool lines lines' SourceFault is text = at_rest past input (prepend_known lines.held left) start held now pool lines.given is SourceFault (refl, refl)
         (known_input input _ _ _ (λ x y e. (lines_of y, e)) is.known)
-        refl is.printed (λ e. cc e) (λ metaslab place kind e. cc e)
-    served_unread input start held left left' now pool lines lines' NoMemory is text = at_rest input (prepend_known lines.held left) start held now pool lines.given is NoMemory (refl, refl)
+        refl is.printed (λ e. cc e) (λ which place kind e. cc e)
+    served_unread past input start held left left' now pool lines lines' NoMemory is text = at_rest past input (prepend_known lines.held left) start held now pool lines.given is NoMemory (refl, refl)
         (known_input input _ _ _ (λ x y e. (lines_of y, e)) is.known)
-        (inl refl) is.printed (λ e. cc e) (λ metaslab place kind e. cc e)
-    served_unread input start held left left' now pool lines lines' (TooLong line) is text =
+        (inl refl) is.printed (λ e. cc e) (λ which place kind e. cc e)
+    served_unread past input start held left left' now pool lines lines' (TooLong line) is text =
         let counted = is.count_is in
         let number = text.0 in
-        at_rest input (prepend_known lines.held left) start held now pool lines.given is (TooLong line) (refl, refl)
+        at_rest past input (prepend_known lines.held left) start held now pool lines.given is (TooLong line) (refl, refl)
         (known_input input _ _ _ (λ x z e. e)
         (known_on input (prepend_known lines.held left) (prepend_known lines'.held left') _ _ (λ all behind. Ends (TooLong line) None is.lines all)
         (λ x y z a b. (y, a, rw counted b, omega (arith, counted, number))) is.known text.1))
-        refl is.printed (λ e. cc e) (λ metaslab place kind e. cc e)
-    served_unread input start held left left' now pool lines lines' Done is text = absurd text
-    served_unread input start held left left' now pool lines lines' Usage is text = absurd text
-    served_unread input start held left left' now pool lines lines' (Line line kind at) is text = absurd text
-    served_unread input start held left left' now pool lines lines' SinkFault is text = absurd text
-    served_unread input start held left left' now pool lines lines' ShelfFault is text = absurd text
-    served_unread input start held left left' now pool lines lines' (Record metaslab place kind) is text = absurd text
+        refl is.printed (λ e. cc e) (λ which place kind e. cc e)
+    served_unread past input start held left left' now pool lines lines' Done is text = absurd text
+    served_unread past input start held left left' now pool lines lines' Usage is text = absurd text
+    served_unread past input start held left left' now pool lines lines' (Line line kind at) is text = absurd text
+    served_unread past input start held left left' now pool lines lines' SinkFault is text = absurd text
+    served_unread past input start held left left' now pool lines lines' ShelfFault is text = absurd text
+    served_unread past input start held left left' now pool lines lines' (Record which place kind) is text = absurd text
 
     -- a line was taken, and the run ended with it
-    module _ (input rest rest' start held : Option (List ℕ)) (before : OnShelf) (pool : Option (Pool R A)) (count : ℕ) (line : List ℕ) (behind : WhereKnown rest rest' (λ old new. lines_of old ≡ line ∷ lines_of new))
-        (is : Serving rack area choices first input rest start held entry before pool count) (later : entry.faults ≤ before.faults) where
+    module _ (past : List Entry) (input rest rest' start held : Option (List ℕ)) (before : OnShelf) (pool : Option (Pool R A)) (count : ℕ) (line : List ℕ) (behind : WhereKnown rest rest' (λ old new. lines_of old ≡ line ∷ lines_of new))
+        (is : Serving rack area choices past first input rest start held entry before pool count) (later : entry.faults ≤ before.faults) where
       -- it can't be run
       unrun : (number : ℕ) (why : LineRefusal) (at : ℕ) → LineFaultIs (line_of line) why at → number ≡ count + 1 → Served rack area choices first (Line number why at) input start held entry before pool
       unrun number kind at fault n =
           let counted = is.count_is in
-          at_rest input rest start held before pool count is (Line number kind at) (refl, refl)
+          at_rest past input rest start held before pool count is (Line number kind at) (refl, refl)
           (known_input input rest' _ _ (λ x z e. e)
           (known_on input rest rest' _ _ (λ all _. Ends (Line number kind at) None is.lines all)
           (λ x y z a b. (line, lines_of z, a ∙ ap (λ xs. is.lines ++ xs) b, fault, omega (arith, counted, n))) is.known behind))
-          refl is.printed (λ e. cc e) (λ metaslab place kind e. cc e)
+          refl is.printed (λ e. cc e) (λ which place kind e. cc e)
 
       -- memory was wanting before it was done
       undone : Served rack area choices first NoMemory input start held entry before pool
-      undone = at_rest input rest start held before pool count is NoMemory (refl, refl)
+      undone = at_rest past input rest start held before pool count is NoMemory (refl, refl)
           (known_input input rest' _ _ (λ x z e. (line ∷ lines_of z, e))
           (known_on input rest rest' _ _ (λ all z. lines_of all ≡ is.lines ++ (line ∷ lines_of z)) (λ x y z a b. a ∙ ap (λ xs. is.lines ++ xs) b) is.known behind))
-          (inl refl) is.printed (λ e. cc e) (λ metaslab place kind e. cc e)
+          (inl refl) is.printed (λ e. cc e) (λ which place kind e. cc e)
 
-      module _ (now : OnShelf) (pool' : Option (Pool R A)) (tells : TellsAsBefore entry now) where
+      module _ (after : List Entry) (now : OnShelf) (pool' : Option (Pool R A)) (tells : TellsAsBefore entry now) where
         -- its reply could not be put
-        unput : (held' : Option (List ℕ)) → Cut rack area choices line entry before pool is.reached now pool' held held' → Served rack area choices first SinkFault input start held' entry now pool'
+        unput : (held' : Option (List ℕ)) → Cut rack area choices past after line entry before pool is.reached now pool' held held' → Served rack area choices first SinkFault input start held' entry now pool'
         unput held' cut = record {
           lines = is.lines ++ line ∷ [];
           replies = is.replies ++ (cut.part ++ cut.said ∷ cut.rest) ∷ [];
           shown = all_said is.replies ++ (cut.part ++ cut.said ∷ []);
           mid = cut.turned.new;
+          journal = after;
           last = cut.turned.new;
           broken = None;
           saids = [];
           desk = cut.turned.desk;
-          runs = more is.lines is.replies is.reached line (cut.part ++ cut.said ∷ cut.rest) now pool' is.runs cut.turned tells;
+          runs = more past after is.lines is.replies is.reached line (cut.part ++ cut.said ∷ cut.rest) now pool' is.runs cut.turned cut.noted tells;
           breaks = (refl, refl);
           ends = known_input input rest' _ _ (λ x z e. (lines_of z, e))
               (known_on input rest rest' _ _ _ (λ x y z a b. lines_more x y z is.lines line a b) is.known behind);
@@ -320,23 +326,24 @@ module _ {R A : Type 0} (rack : racks.Ghosts R) (area : areas.Ghosts A) (choices
           };
           failed = λ e. absurd (cc e);
           since = λ e. absurd (cc e);
-          bad = λ metaslab place kind e. absurd (cc e);
-          firm = λ rest. firm_so is.lines is.replies is.reached line (cut.part ++ cut.said ∷ cut.rest) before now pool pool' is.runs is.firm cut.firm;
+          bad = λ which place kind e. absurd (cc e);
+          firm = λ rest. firm_so is.lines is.replies (sits is.reached past) line (cut.part ++ cut.said ∷ cut.rest) before now pool pool' is.runs is.firm cut.firm;
           built = built_more Outside is.lines line is.built cut.built;
         }
 
         -- memory was wanting for the text of its reply
-        untold : (held' : Option (List ℕ)) → Untold rack area choices line entry before pool is.reached now pool' held held' → Served rack area choices first NoMemory input start held' entry now pool'
+        untold : (held' : Option (List ℕ)) → Untold rack area choices past after line entry before pool is.reached now pool' held held' → Served rack area choices first NoMemory input start held' entry now pool'
         untold held' cut = record {
           lines = is.lines ++ line ∷ [];
           replies = is.replies ++ (cut.part ++ cut.said ∷ cut.rest) ∷ [];
           shown = all_said is.replies ++ cut.part;
           mid = cut.turned.new;
+          journal = after;
           last = cut.turned.new;
           broken = None;
           saids = [];
           desk = cut.turned.desk;
-          runs = more is.lines is.replies is.reached line (cut.part ++ cut.said ∷ cut.rest) now pool' is.runs cut.turned tells;
+          runs = more past after is.lines is.replies is.reached line (cut.part ++ cut.said ∷ cut.rest) now pool' is.runs cut.turned cut.noted tells;
           breaks = (refl, refl);
           ends = known_input input rest' _ _ (λ x z e. (lines_of z, e))
               (known_on input rest rest' _ _ _ (λ x y z a b. lines_more x y z is.lines line a b) is.known behind);
@@ -344,8 +351,8 @@ module _ {R A : Type 0} (rack : racks.Ghosts R) (area : areas.Ghosts A) (choices
           prints = rw (texts_both (all_said is.replies) cut.part) (appends_more start held held' _ _ is.printed cut.prints);
           failed = λ e. absurd (cc e);
           since = λ e. absurd (cc e);
-          bad = λ metaslab place kind e. absurd (cc e);
-          firm = λ rest. firm_so is.lines is.replies is.reached line (cut.part ++ cut.said ∷ cut.rest) before now pool pool' is.runs is.firm cut.firm;
+          bad = λ which place kind e. absurd (cc e);
+          firm = λ rest. firm_so is.lines is.replies (sits is.reached past) line (cut.part ++ cut.said ∷ cut.rest) before now pool pool' is.runs is.firm cut.firm;
           built = built_more Outside is.lines line is.built cut.built;
         }
 
@@ -356,6 +363,7 @@ module _ {R A : Type 0} (rack : racks.Ghosts R) (area : areas.Ghosts A) (choices
           replies = is.replies;
           shown = all_said is.replies;
           mid = is.reached;
+          journal = past;
           last = at.broken.new;
           broken = Some line;
           saids = [];
@@ -368,19 +376,20 @@ module _ {R A : Type 0} (rack : racks.Ghosts R) (area : areas.Ghosts A) (choices
           prints = is.printed;
           failed = λ e. fault_at rack area entry before now pool' later is.lines line at.command at.line at.broken.new (cause_fault rack area at.command before now pool' is.reached at.broken.new at.broken.cause);
           since = λ e. fails_shut rack area line is.lines at.command is.reached at.broken.new entry before now pool' at.line is.desk.shelf later is.unanswered at.broken.cause;
-          bad = λ metaslab place kind e. absurd (cc e);
+          bad = λ which place kind e. absurd (cc e);
           firm = λ rest. absurd (cc rest);
           built = is.built;
         }
 
         -- a record has a fault
-        faulty : (metaslab : Option ℕ) (place : ℕ) (kind : RecordFaultKind) → BrokenLine rack area RecordFails line entry before is.reached now pool' → HoldsFault rack area before metaslab place kind
-            → Served rack area choices first (Record metaslab place kind) input start held entry now pool'
-        faulty metaslab place kind at fault = record {
+        faulty : (which : RecordName) (place : ℕ) (kind : RecordFaultKind) → BrokenLine rack area RecordFails line entry before is.reached now pool' → HoldsFault rack area before which place kind
+            → Served rack area choices first (Record which place kind) input start held entry now pool'
+        faulty which place kind at fault = record {
           lines = is.lines;
           replies = is.replies;
           shown = all_said is.replies;
           mid = is.reached;
+          journal = past;
           last = at.broken.new;
           broken = Some line;
           saids = [];
@@ -393,17 +402,17 @@ module _ {R A : Type 0} (rack : racks.Ghosts R) (area : areas.Ghosts A) (choices
           prints = is.printed;
           failed = λ e. absurd (cc e);
           since = λ e. absurd (cc e);
-          bad = λ m p k e. shut m p k e;
+          bad = λ n p k e. shut n p k e;
           firm = λ rest. absurd (cc rest);
           built = is.built;
         }
           where
-            shut : (m : Option ℕ) (p : ℕ) (k : RecordFaultKind) → Record metaslab place kind ≡ Record m p k → FaultyShut rack area (Some line) is.lines is.reached entry m p k
-            shut m p k e =
-                let holds : HoldsFault rack area before m p k = subst (λ (s : Status). NamesFault before s) e fault in
-                faulty_shut rack area line is.lines at.command is.reached at.broken.new entry before m p k at.line is.desk.shelf later is.unanswered at.broken.breaks holds
+            shut : (n : RecordName) (p : ℕ) (k : RecordFaultKind) → Record which place kind ≡ Record n p k → FaultyShut rack area (Some line) is.lines is.reached entry n p k
+            shut n p k e =
+                let holds : HoldsFault rack area before n p k = subst (λ (s : Status). NamesFault before s) e fault in
+                faulty_shut rack area line is.lines at.command is.reached at.broken.new entry before n p k at.line is.desk.shelf later is.unanswered at.broken.breaks holds
 
-        pub served_line : (held' : Option (List ℕ)) (status : Status) → LineIs rack area choices (count + 1) line entry before pool is.reached now pool' held held' (Err status)
+        pub served_line : (held' : Option (List ℕ)) (status : Status) → LineIs rack area choices past after (count + 1) line entry before pool is.reached now pool' held held' (Err status)
             → Served rack area choices first status input start held' entry now pool'
         served_line held' SinkFault became = unput held' became
         served_line held' (Line number kind at) became =
@@ -413,7 +422,7 @@ module _ {R A : Type 0} (rack : racks.Ghosts R) (area : areas.Ghosts A) (choices
           | inr cut ↦ untold held' cut
         ]
         served_line held' ShelfFault became = rw became.0 (failed became.1)
-        served_line held' (Record metaslab place kind) became = rw became.0 (faulty metaslab place kind became.1 became.2)
+        served_line held' (Record which place kind) became = rw became.0 (faulty which place kind became.1 became.2)
         served_line held' Done became = absurd became
         served_line held' Usage became = absurd became
         served_line held' SourceFault became = absurd became

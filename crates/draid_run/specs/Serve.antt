@@ -4,6 +4,7 @@ use Rattle.std.specs.Io.KnownBytes.{Appends, prepend_known}
 use Rattle.std.specs.declared.vec.Vec.{Vec}
 use Rattle.std.specs.declared.alloc.Global.{Global}
 use Rattle.draid_names.specs.declared.fault.Failed.{Failed}
+use Rattle.draid_names.specs.declared.journal.Entry.{Entry}
 use Rattle.draid_record.specs.declared.fault.RecordFaultKind.{RecordFaultKind}
 use Rattle.draid_rack.specs.declared.Rack as racks
 use Rattle.draid_area.specs.declared.Area as areas
@@ -15,10 +16,11 @@ use Rattle.draid_reply.specs.declared.reply.Reply.{Reply}
 use Rattle.draid_session.specs.Places.{Outside, line_at}
 use Rattle.draid_session.specs.Said.{Said, alone}
 use Rattle.draid_session.specs.Choices.{Choices}
-use Rattle.draid_session.specs.Session.{Cause, Desk, RecordFails, Runs, ShelfFails}
+use Rattle.draid_session.specs.Session.{Cause, Desk, RecordFails, Runs, ShelfFails, sits}
 use Rattle.draid_pool.specs.declared.pool.Pool.{Pool}
+use Rattle.draid_run.specs.declared.status.RecordName.{RecordName}
 use Rattle.draid_run.specs.Crashes.{IsFirmShut, LeavesFirm, crash_came_last}
-use Rattle.draid_run.specs.Desks.{Broken, IsDesk, PoolBroke, PoolDid, Turned, asked_in}
+use Rattle.draid_run.specs.Desks.{Broken, IsDesk, Noted, PoolBroke, PoolDid, Turned, asked_in}
 use Rattle.draid_run.specs.Script.{AreBuilt, IsBuilt, all_replies, all_said, BreaksOff, Ends, FailsShut, FaultyShut, GetsReplies, IsUnbuilt, LineFaultIs, Shows, said_text, texts_of}
 use Rattle.draid_pool.specs.Shelves.{OnShelf}
 use Rattle.draid_run.specs.Shelves.{HasFault, HoldsFault, IsClosed, MakesLeavesAt, MayFind, RackFault}
@@ -73,7 +75,7 @@ said_of (Some reply) = alone reply
 abbrev pub status_of : ℕ → Stop → Status
 status_of number stop.Unbuilt = Line number refusal.Unbuilt 0
 status_of number stop.Shelf = ShelfFault
-status_of number (stop.Record metaslab place kind) = Record metaslab place kind
+status_of number (stop.Record which place kind) = Record which place kind
 
 module _ {R A : Type 0} (rack : racks.Ghosts R) (area : areas.Ghosts A) (choices : Choices) where
   -- the reply of the pool that is open, or that none is; that a device of it failed; or that the command asks for none
@@ -81,68 +83,74 @@ module _ {R A : Type 0} (rack : racks.Ghosts R) (area : areas.Ghosts A) (choices
   AskIs command pool old pool' (Ok reply) = (called : CommandName) × (asked_in command ≡ Some called) × PoolDid rack area choices command called old reply pool'
   AskIs command pool old pool' (Err stop.Unbuilt) = (asked_in command ≡ None) × (pool' ≡ pool)
   AskIs command pool old pool' (Err stop.Shelf) = (called : CommandName) × (asked_in command ≡ Some called) × PoolBroke rack area command old pool'
-  AskIs command pool old pool' (Err (stop.Record metaslab place kind)) = ⊥
+  AskIs command pool old pool' (Err (stop.Record which place kind)) = ⊥
 
-  -- the reply to a command, or why it has none
-  abbrev pub AnswerIs : Command → OnShelf → OnShelf → Option (Pool R A) → Desk → OnShelf → Option (Pool R A) → Result (Option Reply) Stop → Type 0
-  AnswerIs command entry before pool old now pool' (Ok reply) =
-      Turned rack area choices (Ok command) entry old (said_of reply) now pool' × LeavesFirm (Ok command) (said_of reply) before pool now pool' × IsBuilt (Ok command)
-  AnswerIs command entry before pool old now pool' (Err stop.Unbuilt) = IsUnbuilt command × (now ≡ before) × (pool' ≡ pool)
-  AnswerIs command entry before pool old now pool' (Err stop.Shelf) = Broken rack area ShelfFails command entry before old now pool' × IsBuilt (Ok command)
-  AnswerIs command entry before pool old now pool' (Err (stop.Record metaslab place kind)) =
-      Broken rack area RecordFails command entry before old now pool' × HoldsFault rack area before metaslab place kind × IsBuilt (Ok command)
+  -- the journal was this before a line, and that behind it
+  module _ (past after : List Entry) where
+    -- the reply to a command, or why it has none
+    abbrev pub AnswerIs : Command → OnShelf → OnShelf → Option (Pool R A) → Desk → OnShelf → Option (Pool R A) → Result (Option Reply) Stop → Type 0
+    AnswerIs command entry before pool old now pool' (Ok reply) =
+        (turned : Turned rack area choices (Ok command) entry old (said_of reply) now pool') × Noted rack area choices (Ok command) entry old (said_of reply) now pool' turned past after
+        × LeavesFirm (Ok command) (said_of reply) before pool now pool' × IsBuilt (Ok command)
+    AnswerIs command entry before pool old now pool' (Err stop.Unbuilt) = IsUnbuilt command × (now ≡ before) × (pool' ≡ pool)
+    AnswerIs command entry before pool old now pool' (Err stop.Shelf) = Broken rack area ShelfFails command entry before old now pool' × IsBuilt (Ok command)
+    AnswerIs command entry before pool old now pool' (Err (stop.Record which place kind)) =
+        Broken rack area RecordFails command entry before old now pool' × HoldsFault rack area before which place kind × IsBuilt (Ok command)
 
-  -- A line was answered, and the replies to it were printed.
-  pub record Printed (text : List ℕ) (entry before : OnShelf) (pool : Option (Pool R A)) (old : Desk) (now : OnShelf) (pool' : Option (Pool R A)) (held held' : Option (List ℕ)) : Type 0 where
-    pub saids : List Said
-    pub turned : Turned rack area choices (line_at Outside text) entry old saids now pool'
-    pub firm : LeavesFirm (line_at Outside text) saids before pool now pool'
-    pub built : IsBuilt (line_at Outside text)
-    pub prints : Appends held held' (texts_of saids)
+    -- A line was answered, and the replies to it were printed.
+    pub record Printed (text : List ℕ) (entry before : OnShelf) (pool : Option (Pool R A)) (old : Desk) (now : OnShelf) (pool' : Option (Pool R A)) (held held' : Option (List ℕ)) : Type 0 where
+      pub saids : List Said
+      pub turned : Turned rack area choices (line_at Outside text) entry old saids now pool'
+      pub noted : Noted rack area choices (line_at Outside text) entry old saids now pool' turned past after
+      pub firm : LeavesFirm (line_at Outside text) saids before pool now pool'
+      pub built : IsBuilt (line_at Outside text)
+      pub prints : Appends held held' (texts_of saids)
 
-  -- A line was answered, and the sink failed at one of the replies to it.
-  pub record Cut (text : List ℕ) (entry before : OnShelf) (pool : Option (Pool R A)) (old : Desk) (now : OnShelf) (pool' : Option (Pool R A)) (held held' : Option (List ℕ)) : Type 0 where
-    pub part : List Said
-    pub said : Said
-    pub rest : List Said
-    pub mid : Option (List ℕ)
-    pub turned : Turned rack area choices (line_at Outside text) entry old (part ++ said ∷ rest) now pool'
-    pub firm : LeavesFirm (line_at Outside text) (part ++ said ∷ rest) before pool now pool'
-    pub built : IsBuilt (line_at Outside text)
-    pub whole : Appends held mid (texts_of part)
-    pub prints : AppendsFront mid held' (said_text said)
+    -- A line was answered, and the sink failed at one of the replies to it.
+    pub record Cut (text : List ℕ) (entry before : OnShelf) (pool : Option (Pool R A)) (old : Desk) (now : OnShelf) (pool' : Option (Pool R A)) (held held' : Option (List ℕ)) : Type 0 where
+      pub part : List Said
+      pub said : Said
+      pub rest : List Said
+      pub mid : Option (List ℕ)
+      pub turned : Turned rack area choices (line_at Outside text) entry old (part ++ said ∷ rest) now pool'
+      pub noted : Noted rack area choices (line_at Outside text) entry old (part ++ said ∷ rest) now pool' turned past after
+      pub firm : LeavesFirm (line_at Outside text) (part ++ said ∷ rest) before pool now pool'
+      pub built : IsBuilt (line_at Outside text)
+      pub whole : Appends held mid (texts_of part)
+      pub prints : AppendsFront mid held' (said_text said)
 
-  -- A line was answered, and memory was wanting for the text of one of the replies to it.
-  pub record Untold (text : List ℕ) (entry before : OnShelf) (pool : Option (Pool R A)) (old : Desk) (now : OnShelf) (pool' : Option (Pool R A)) (held held' : Option (List ℕ)) : Type 0 where
-    pub part : List Said
-    pub said : Said
-    pub rest : List Said
-    pub turned : Turned rack area choices (line_at Outside text) entry old (part ++ said ∷ rest) now pool'
-    pub firm : LeavesFirm (line_at Outside text) (part ++ said ∷ rest) before pool now pool'
-    pub built : IsBuilt (line_at Outside text)
-    pub prints : Appends held held' (texts_of part)
+    -- A line was answered, and memory was wanting for the text of one of the replies to it.
+    pub record Untold (text : List ℕ) (entry before : OnShelf) (pool : Option (Pool R A)) (old : Desk) (now : OnShelf) (pool' : Option (Pool R A)) (held held' : Option (List ℕ)) : Type 0 where
+      pub part : List Said
+      pub said : Said
+      pub rest : List Said
+      pub turned : Turned rack area choices (line_at Outside text) entry old (part ++ said ∷ rest) now pool'
+      pub noted : Noted rack area choices (line_at Outside text) entry old (part ++ said ∷ rest) now pool' turned past after
+      pub firm : LeavesFirm (line_at Outside text) (part ++ said ∷ rest) before pool now pool'
+      pub built : IsBuilt (line_at Outside text)
+      pub prints : Appends held held' (texts_of part)
 
-  -- what became of a line
-  abbrev pub LineIs : ℕ → List ℕ → OnShelf → OnShelf → Option (Pool R A) → Desk → OnShelf → Option (Pool R A) → Option (List ℕ) → Option (List ℕ) → Result Unit Status → Type 0
-  LineIs number text entry before pool old now pool' held held' (Ok done) = Printed text entry before pool old now pool' held held'
-  LineIs number text entry before pool old now pool' held held' (Err SinkFault) = Cut text entry before pool old now pool' held held'
-  LineIs number text entry before pool old now pool' held held' (Err ShelfFault) = (held' ≡ held) × BrokenLine rack area ShelfFails text entry before old now pool'
-  LineIs number text entry before pool old now pool' held held' (Err (Record metaslab place kind)) =
-      (held' ≡ held) × BrokenLine rack area RecordFails text entry before old now pool' × HoldsFault rack area before metaslab place kind
-  LineIs number text entry before pool old now pool' held held' (Err (Line line why at)) =
-      LineFaultIs (line_at Outside text) why at × (now ≡ before) × (pool' ≡ pool) × (held' ≡ held) × (line ≡ number)
-  LineIs number text entry before pool old now pool' held held' (Err NoMemory) =
-      ((held' ≡ held) × (now ≡ before) × (pool' ≡ pool)) ⊎ Untold text entry before pool old now pool' held held'
-  LineIs number text entry before pool old now pool' held held' (Err status) = ⊥
+    -- what became of a line
+    abbrev pub LineIs : ℕ → List ℕ → OnShelf → OnShelf → Option (Pool R A) → Desk → OnShelf → Option (Pool R A) → Option (List ℕ) → Option (List ℕ) → Result Unit Status → Type 0
+    LineIs number text entry before pool old now pool' held held' (Ok done) = Printed text entry before pool old now pool' held held'
+    LineIs number text entry before pool old now pool' held held' (Err SinkFault) = Cut text entry before pool old now pool' held held'
+    LineIs number text entry before pool old now pool' held held' (Err ShelfFault) = (held' ≡ held) × BrokenLine rack area ShelfFails text entry before old now pool'
+    LineIs number text entry before pool old now pool' held held' (Err (Record which place kind)) =
+        (held' ≡ held) × BrokenLine rack area RecordFails text entry before old now pool' × HoldsFault rack area before which place kind
+    LineIs number text entry before pool old now pool' held held' (Err (Line line why at)) =
+        LineFaultIs (line_at Outside text) why at × (now ≡ before) × (pool' ≡ pool) × (held' ≡ held) × (line ≡ number)
+    LineIs number text entry before pool old now pool' held held' (Err NoMemory) =
+        ((held' ≡ held) × (now ≡ before) × (pool' ≡ pool)) ⊎ Untold text entry before pool old now pool' held held'
+    LineIs number text entry before pool old now pool' held held' (Err status) = ⊥
 
-  -- The lines so far were answered and their replies printed, from this desk on.
-  pub record Serving (first : Desk) (input rest start held : Option (List ℕ)) (entry now : OnShelf) (pool : Option (Pool R A)) (count : ℕ) : Type 0 where
+  -- The lines so far were answered and their replies printed, from this desk on, and the journal is this.
+  pub record Serving (journal : List Entry) (first : Desk) (input rest start held : Option (List ℕ)) (entry now : OnShelf) (pool : Option (Pool R A)) (count : ℕ) : Type 0 where
     pub lines : List (List ℕ)
     pub replies : List (List Said)
     pub reached : Desk
     pub count_is : length lines ≡ count
     pub desk : IsDesk rack area entry now pool reached
-    pub runs : Runs choices (MayFind rack area entry) (is_some entry.held) first lines replies reached
+    pub runs : Runs choices (MayFind rack area entry) (is_some entry.held) (sits first []) lines replies (sits reached journal)
     pub known : WhereKnown input rest (λ all behind. lines_of all ≡ lines ++ lines_of behind)
     pub printed : Appends start held (texts_of (all_said replies))
     pub unanswered : lines ≡ [] → now ≡ entry
@@ -155,17 +163,18 @@ module _ {R A : Type 0} (rack : racks.Ghosts R) (area : areas.Ghosts A) (choices
     pub replies : List (List Said)
     pub shown : List Said
     pub mid : Desk
+    pub journal : List Entry
     pub last : Desk
     pub broken : Option (List ℕ)
     pub saids : List Said
     pub desk : IsDesk rack area entry now pool last
-    pub runs : Runs choices (MayFind rack area entry) (is_some entry.held) first lines replies mid
+    pub runs : Runs choices (MayFind rack area entry) (is_some entry.held) (sits first []) lines replies (sits mid journal)
     pub breaks : BreaksOff lines ended broken saids mid last
     pub ends : MatchOption input ⊤ (Ends ended broken lines)
     pub shows : Shows ended (all_replies replies saids) shown
     pub prints : GetsReplies ended shown start held
     pub failed : ended ≡ ShelfFault → HasFault area entry now pool last ⊎ (MakesLeavesAt lines broken × RackFault rack pool last)
     pub since : ended ≡ ShelfFault → IsClosed mid → IsClosed last × FailsShut area broken lines mid entry now
-    pub bad : (metaslab : Option ℕ) (place : ℕ) (kind : RecordFaultKind) → ended ≡ Record metaslab place kind → FaultyShut rack area broken lines mid entry metaslab place kind
+    pub bad : (which : RecordName) (place : ℕ) (kind : RecordFaultKind) → ended ≡ Record which place kind → FaultyShut rack area broken lines mid entry which place kind
     pub firm : broken ≡ None → crash_came_last Outside false lines replies ≡ true → IsFirmShut now pool
     pub built : AreBuilt Outside lines

@@ -1,6 +1,6 @@
+pub mod Done
 pub mod FilledIn
 pub mod FilledTable
-pub mod KnownOn
 pub mod LaneStays
 pub mod MendArms
 pub mod MendBegun
@@ -9,7 +9,7 @@ pub mod MendStays
 pub mod MendSteps
 pub mod MendThrough
 pub mod Mended
-pub mod OwnGoes
+pub mod Replied
 pub mod ScrubEnds
 pub mod SwitchArms
 pub mod SwitchFails
@@ -19,5 +19,6 @@ pub mod Switched
 pub mod SyncFails
 pub mod SyncStays
 pub mod SyncSteps
+pub mod TaughtTable
 pub mod Waited
 pub mod Whole
