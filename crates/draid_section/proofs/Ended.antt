@@ -76,7 +76,7 @@ module _ {R A : Type 0} (rack : racks.Ghosts R) (area : areas.Ghosts A) (pool : 
     pub value_is : value.shard ≡ shard
     pub closes : ClosesEach (Step rack area) lock.first rest (passes_at m e.lists) value
 
-  taken : (m : ℕ) (shard : Shard R A) → slice_get shards m ≡ Some shard → IsTaken m shard
+  pub taken : (m : ℕ) (shard : Shard R A) → slice_get shards m ≡ Some shard → IsTaken m shard
   taken m shard at =
       let inside = slice_get_within shards m shard at in
       let many = e.unlocked.many in
@@ -127,7 +127,7 @@ module _ {R A : Type 0} (rack : racks.Ghosts R) (area : areas.Ghosts A) (pool : 
   rest_first : (m : ℕ) (lock : Lock (Cell R A)) (rest : Caller (Past (Cell R A))) → slice_get rests m ≡ Some rest → left_in lock rest.seen ≡ lock.first.shard
   rest_first m lock rest rest_is = ap (left_in lock) (e.rests_new m rest rest_is)
 
-  rest_drifts : (m : ℕ) (shard : Shard R A) (t : IsTaken m shard) → Drifts rack area true (owned_by rests) t.lock.first.shard shard
+  pub rest_drifts : (m : ℕ) (shard : Shard R A) (t : IsTaken m shard) → Drifts rack area true (owned_by rests) t.lock.first.shard shard
   rest_drifts m shard t = subst (λ (s : Shard R A). Drifts rack area true (owned_by rests) s shard) (rest_first m t.lock t.rest t.rest_is) (since_seen rests m shard t t.rest t.rest_is t.closes.first_follows)
 
   rest_came : (m : ℕ) (was : Shard R A) → slice_get pool.metaslabs.shards.items m ≡ Some was → CameFrom (owned_by rests) m was
@@ -148,7 +148,7 @@ module _ {R A : Type 0} (rack : racks.Ghosts R) (area : areas.Ghosts A) (pool : 
     abbrev has : LaneEnded rack area locks lane.items own
     has = e.each i lane own lane_is own_is
 
-    lane_seen : (m : ℕ) (shard : Shard R A) → slice_get shards m ≡ Some shard → WasSeen lane.items m shard
+    pub lane_seen : (m : ℕ) (shard : Shard R A) → slice_get shards m ≡ Some shard → WasSeen lane.items m shard
     lane_seen = (let k = e.lanes_in i lane lane_is in list_seen k.0 lane k.1 has.fits.many)
 
     lane_came : (m : ℕ) (was : Shard R A) → last_in locks lane.items m ≡ Some was → CameFrom (owned_by lane.items) m was

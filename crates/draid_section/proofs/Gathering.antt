@@ -42,7 +42,7 @@ use Rattle.draid_lanes.specs.declared.uber.UberCell.{UberCell}
 use Rattle.draid_lanes.proofs.SyncUnder.{groups_in}
 use Rattle.draid_section.specs.Opening.{AreDealt, AreLocked, IsDealt}
 use Rattle.draid_tables.specs.Owns.{AllWithin, AreDealtOut, HaveTableRoom, TakesAll, greatest, most_objects}
-use Rattle.draid_section.specs.Running.{BeginsAt, KeepLanes}
+use Rattle.draid_section.specs.Running.{BeginsAt, IsLeftWhole, JobRan, KeepLanes}
 use Rattle.draid_section.specs.Section.{AreLaneLists, BeginsLane, EndWithGroups, GovernsFirst, MayRunAll, MayRunLocked, MayRunUnder, RunsLocked}
 use Rattle.draid_section.specs.Turning.{AreOfLanes, IsUberLock}
 use Rattle.draid_section.specs.Whole.{AreLaneNumbers, IsGathered, IsOfLane, IsOfPool, LaneEnded, LanesEnded, pointer_in}
@@ -64,7 +64,7 @@ all_at P (y ∷ xs) all zero x is = subst P (some_of (Some y) y x refl is) (All-
 all_at P (y ∷ xs) all (suc k) x is = all_at P xs (All-tail P y xs all) k x is
 
 -- who has a number in a list shares it
-shared_at : (n : ℕ) (lists : List (Vec Span Global)) (i : ℕ) (list : Vec Span Global) → slice_get lists i ≡ Some list → holds n list.items ≡ true → 1 ≤ shares n lists
+pub shared_at : (n : ℕ) (lists : List (Vec Span Global)) (i : ℕ) (list : Vec Span Global) → slice_get lists i ≡ Some list → holds n list.items ≡ true → 1 ≤ shares n lists
 shared_at n [] i list is held = absurd (cc)
 shared_at n (l ∷ lists) zero list is held =
     let one : one_if (holds n l.items) ≡ 1 = ap (λ (v : Vec Span Global). one_if (holds n v.items)) (some_of (Some l) l list refl is) ∙ ap one_if held in
@@ -168,7 +168,7 @@ module _ {R A G W J : Type 0} (rack : racks.Ghosts R) (area : areas.Ghosts A) (n
   abbrev last_groups : EndWithGroups every (length lists)
   last_groups = ends lists al gl alone
 
-  some_metaslab : 0 < length locks
+  pub some_metaslab : 0 < length locks
   some_metaslab = some_locks rack area pool w locks firsts locked
 
   pub governs_first : GovernsFirst rack area locks pool.uber
@@ -178,13 +178,13 @@ module _ {R A G W J : Type 0} (rack : racks.Ghosts R) (area : areas.Ghosts A) (n
 
   module _ (dealt : List (Vec (Caller (Past (Cell R A))) Global)) (rests : List (Caller (Past (Cell R A)))) (groups : Vec (Caller (Past (Cell R A))) Global) (old : Shares R A J) (deals : AreDealt locks every dealt rests) (shared : dealt ≡ old.passes.items ++ groups ∷ []) (owns_are : old.owns ≡ owns)
       (jobs_are : old.jobs ≡ jobs) where
-    as_many : length old.passes.items ≡ length lists
+    pub as_many : length old.passes.items ≡ length lists
     as_many = (let a = dealt_many locks every dealt rests groups old deals shared in let b = length_push lists gl in omega (arith, a, b))
 
     list_at : (i : ℕ) (list : Vec Span Global) → slice_get lists i ≡ Some list → slice_get every i ≡ Some list
     list_at i list is = get_before lists gl i (slice_get_within lists i list is) ∙ is
 
-    dealt_at : (i : ℕ) (list : Vec Span Global) (lane : Vec (Caller (Past (Cell R A))) Global) → slice_get lists i ≡ Some list → slice_get old.passes.items i ≡ Some lane → IsDealt locks list.items lane.items
+    pub dealt_at : (i : ℕ) (list : Vec Span Global) (lane : Vec (Caller (Past (Cell R A))) Global) → slice_get lists i ≡ Some list → slice_get old.passes.items i ≡ Some lane → IsDealt locks list.items lane.items
     dealt_at i list lane list_is lane_is = deals.each i list lane (list_at i list list_is) (dealt_front locks every dealt rests groups old deals shared i lane lane_is)
 
     groups_at : IsUberOf rack area locks pool.uber groups
@@ -255,16 +255,20 @@ module _ {R A G W J : Type 0} (rack : racks.Ghosts R) (area : areas.Ghosts A) (n
     abbrev under_may : MayRunUnder rack area needs pool.geometry locks pool.uber ran.groups ran.old
     under_may = may_under ran.dealt ran.rests ran.groups ran.old ran.deals ran.shared ran.owns_are ran.jobs_are
 
-    lanes_many : length ran.old.passes.items ≡ length lists
+    pub lanes_many : length ran.old.passes.items ≡ length lists
     lanes_many = as_many ran.dealt ran.rests ran.groups ran.old ran.deals ran.shared ran.owns_are ran.jobs_are
 
+    -- what a lane's job kept of it
+    pub whole_at : (i : ℕ) (j : JobRan relates locks ran.under.lock pool.geometry ran.old ran.new ran.under.over.passes ran.under.over.nexts i) → IsLeftWhole rack area j.lane j.next
+    whole_at i j = kept_at rack area needs relates pool.geometry locks pool.uber every ran.dealt ran.rests ran.groups ran.old ran.deals ran.shared under_may keeps ran.new uber' ran.groups' ran.under i j
+
     -- what one lane has in the end
-    record Ended (i : ℕ) (list : Vec Span Global) (own : Own) (passes : Vec (Caller (Past (Cell R A))) Global) : Type 0 where
+    pub record Ended (i : ℕ) (list : Vec Span Global) (own : Own) (passes : Vec (Caller (Past (Cell R A))) Global) : Type 0 where
       pub ended : LaneEnded rack area locks passes.items own
       pub owns_list : (n : ℕ) → holds n list.items ≡ true → owned_by passes.items n ≡ true
       pub list_owns : (n : ℕ) → owned_by passes.items n ≡ true → holds n list.items ≡ true
 
-    ended_at : (i : ℕ) (list : Vec Span Global) (own : Own) (passes : Vec (Caller (Past (Cell R A))) Global) → slice_get lists i ≡ Some list → slice_get owns'.items i ≡ Some own → slice_get ran.new.passes.items i ≡ Some passes → Ended i list own passes
+    pub ended_at : (i : ℕ) (list : Vec Span Global) (own : Own) (passes : Vec (Caller (Past (Cell R A))) Global) → slice_get lists i ≡ Some list → slice_get owns'.items i ≡ Some own → slice_get ran.new.passes.items i ≡ Some passes → Ended i list own passes
     ended_at i list own passes list_is own_is passes_is =
         let inside = slice_get_within lists i list list_is in
         let many = lanes_many in
@@ -285,14 +289,14 @@ module _ {R A G W J : Type 0} (rack : racks.Ghosts R) (area : areas.Ghosts A) (n
           list_owns = λ n own_it. sym (dealt_owns locks list.items r.lane.metaslabs.passes.items new some_metaslab n) ∙ (sym (ap (λ (f : ℕ → Bool). f n) k.same.owns) ∙ own_it);
         })
 
-    passes_many : length ran.new.passes.items ≡ length lists
+    pub passes_many : length ran.new.passes.items ≡ length lists
     passes_many = ran.under.over.ran.many ∙ lanes_many
 
-    owns_many : length owns'.items ≡ length lists
+    pub owns_many : length owns'.items ≡ length lists
     owns_many = sym (ap (λ (v : Vec Own Global). length v.items) ran.owns_then) ∙ (ran.under.over.ran.even.owns ∙ passes_many)
 
     -- whose an object is
-    whose : (object : ℕ) → object < OBJECTS → (owned_by ran.rests object ≡ true) ⊎ ((i : ℕ) × (lane : Vec (Caller (Past (Cell R A))) Global) × (slice_get ran.new.passes.items i ≡ Some lane) × (owned_by lane.items object ≡ true))
+    pub whose : (object : ℕ) → object < OBJECTS → (owned_by ran.rests object ≡ true) ⊎ ((i : ℕ) × (lane : Vec (Caller (Past (Cell R A))) Global) × (slice_get ran.new.passes.items i ≡ Some lane) × (owned_by lane.items object ≡ true))
     whose object below = elim (held_dealt every ran.rests ran.deals.left object (omega (arith, below))) [
       | inl mine ↦ inl mine
       | inr z ↦ elim (at_push lists gl z.1 z.0 z.2) [
@@ -305,7 +309,7 @@ module _ {R A G W J : Type 0} (rack : racks.Ghosts R) (area : areas.Ghosts A) (n
       ]
     ]
 
-    pub lanes_ended : LanesEnded rack area pool locks ran.rests ran.new.passes.items owns'.items uber' shards'
+    abbrev pub lanes_ended : LanesEnded rack area pool locks ran.rests ran.new.passes.items owns'.items uber' shards'
     lanes_ended = record {
       whole = w;
       firsts = firsts;
