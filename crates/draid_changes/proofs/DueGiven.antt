@@ -10,7 +10,7 @@ use Rattle.draid_machine.proofs.Small.{absurd_test}
 use Rattle.draid_shard.specs.declared.shard.Shard.{Shard}
 use Rattle.draid_agent.specs.declared.states.Due.{Due}
 use Rattle.draid_session.specs.Agent as agent
-use Rattle.draid_session.specs.Agent.{AttachesAll}
+use Rattle.draid_session.specs.Agent.{AreDueFrom, AttachesAll}
 use Rattle.draid_session.specs.Arms as arms
 use Rattle.draid_session.specs.Holds.{Hold, View}
 use Rattle.draid_session.specs.Looks.{LooksFrom, OnlyLooks}
@@ -28,7 +28,7 @@ use Rattle.draid_pool.proofs.Looking.{changes_none, looked, looks_at}
 use Rattle.draid_pool.proofs.Lists.{present}
 use Rattle.draid_pool.proofs.Steps.{carried, follows_on, settled}
 use Rattle.std.proofs.lemmas.Option.{slice_get_within}
-use Rattle.draid_changes.specs.Agent.{AreDueFrom, CameIs, DueDoes, Sees}
+use Rattle.draid_changes.specs.Agent.{CameIs, DueDoes, Sees}
 use Rattle.draid_changes.specs.Balancing.{HasNoPass}
 use Rattle.draid_changes.specs.Dues.{IsIdleIn, due_in}
 use Rattle.draid_changes.specs.Giving.{GaveSome, GivesTo, StopsBefore, is_spared}

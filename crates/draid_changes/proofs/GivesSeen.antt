@@ -18,7 +18,7 @@ use Rattle.draid_shard.proofs.Among.{has_behind, has_cases, has_first, has_nothi
 use Rattle.draid_agent.specs.Due.{cause_of, due_by, dues}
 use Rattle.draid_agent.specs.declared.states.Due.{Due}
 use Rattle.draid_disks.specs.Checks.{missed_over}
-use Rattle.draid_session.specs.Agent.{AreFreeAt, Gets, GivesFrom, IsDue, IsntDue, WasGiven, logged_of}
+use Rattle.draid_session.specs.Agent.{AreDueFrom, AreFreeAt, Gets, GivesFrom, IsDue, IsntDue, WasGiven, logged_of}
 use Rattle.draid_session.specs.Arms as arms
 use Rattle.draid_session.specs.Holds.{View}
 use Rattle.draid_session.specs.State.{State}
@@ -26,7 +26,6 @@ use Rattle.draid_pool.specs.Pools.{Represents}
 use Rattle.draid_pool.specs.Views.{seen_at}
 use Rattle.draid_pool.specs.Whole.{IsWhole}
 use Rattle.draid_pool.specs.declared.pool.Pool.{Pool}
-use Rattle.draid_changes.specs.Agent.{AreDueFrom}
 use Rattle.draid_changes.specs.Dues.{AreFree, IsIdleIn, first_place, shown_from, shown_of}
 use Rattle.draid_changes.specs.Giving.{GetsOf, GivesTo, SlotsAscend, is_spared}
 use Rattle.draid_changes.proofs.Barred.{busy, idle, layout_same}

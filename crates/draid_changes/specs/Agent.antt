@@ -1,10 +1,9 @@
 -- What the repair agent's call on the arms of a pool says by its answer.
-use Rattle.std.specs.Prelude.{◌≡◌, ◌≢◌, ◌+◌, ◌<◌, ◌++◌, ◌⊎◌, ℕ, zero, suc, Bool, true, false, List, [], Option, Result, Ok, Err, length}
-use Rattle.draid_names.specs.declared.journal.Cause.{Cause}
+use Rattle.std.specs.Prelude.{◌≡◌, ◌≢◌, ◌+◌, ◌<◌, ◌++◌, ◌⊎◌, ℕ, Bool, true, false, List, [], Option, Result, Ok, Err, length}
 use Rattle.draid_names.specs.declared.journal.Entry.{Entry}
 use Rattle.draid_spec.specs.declared.layout.Geometry.{Geometry}
 use Rattle.draid_session.specs.Agent as agent
-use Rattle.draid_session.specs.Agent.{AttachesAll, Gives, IsDue, IsntDue, SomeCame}
+use Rattle.draid_session.specs.Agent.{AreDueFrom, AttachesAll, Gives, IsntDue, SomeCame}
 use Rattle.draid_session.specs.Arms.{HasPass, ReservePhase}
 use Rattle.draid_session.specs.Groups.{Finishes}
 use Rattle.draid_session.specs.Holds.{Hold, View}
@@ -15,13 +14,6 @@ use Rattle.draid_pool.specs.Syncing.{end_of}
 use Rattle.draid_pool.specs.declared.fault.SyncFault.TheVariants as sync
 use Rattle.draid_changes.specs.declared.agent.GiveFault.{GiveFault}
 use Rattle.draid_changes.specs.declared.agent.GiveFault.TheVariants as fault
-
--- so many of so many slots from one on are due
-abbrev pub AreDueFrom : ℕ → List View → ℕ → ℕ → ℕ → Type 0
-AreDueFrom least views slot zero count = count ≡ 0
-AreDueFrom least views slot (suc n) count =
-    (IsntDue least views slot × AreDueFrom least views (slot + 1) n count)
-    ⊎ ((leaf : ℕ) × (why : Cause) × (fewer : ℕ) × IsDue least views slot leaf why × (count ≡ fewer + 1) × AreDueFrom least views (slot + 1) n fewer)
 
 -- ---- where no group is closing
 

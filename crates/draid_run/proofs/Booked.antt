@@ -9,7 +9,7 @@ use Rattle.draid_session.specs.Book.{Book, BreaksAtLine, EndsBook, blank, closed
 use Rattle.draid_session.specs.Keeping.{Keeps}
 use Rattle.draid_session.specs.Places.{Outside, place_after}
 use Rattle.draid_session.specs.Said.{Said}
-use Rattle.draid_session.specs.Session.{Agrees, Bare, Desk, Foreign, Made, Open, RecordFails, Runs, ShelfFails, Shut, Unknown, Untouched, left_of}
+use Rattle.draid_session.specs.Session.{Agrees, Bare, Desk, Foreign, Made, Open, RecordFails, Runs, ShelfFails, Shut, Unknown, Untouched, left_of, sits}
 use Rattle.draid_session.proofs.Turning.{breaks_ends, left_keeps, no_record_fails, run_turns, AllAnswered}
 use Rattle.draid_run.specs.Books.{AreRuns, BrokeAt, KeepBook, KeepsBook, OneRun}
 use Rattle.draid_run.specs.Next.{next_desk}
@@ -117,8 +117,8 @@ module _ {R A : Type 0} (rack : racks.Ghosts R) (area : areas.Ghosts A) (choices
       now_tells = it.tells ∙ tells
 
       all : AllAnswered choices (MayFind rack area entry) b it.session.lines it.session.replies it.session.mid
-      all = run_turns choices (MayFind rack area entry) it.session.lines it.session.replies first it.session.mid b keeps
-          (subst (λ t. Runs choices (MayFind rack area entry) t first it.session.lines it.session.replies it.session.mid) tells it.session.runs)
+      all = run_turns choices (MayFind rack area entry) it.session.lines it.session.replies (sits first []) (sits it.session.mid it.session.journal) b keeps
+          (subst (λ t. Runs choices (MayFind rack area entry) t (sits first []) it.session.lines it.session.replies (sits it.session.mid it.session.journal)) tells it.session.runs)
 
       ends : EndsAt it.session.lines it.session.ended it.session.broken it.session.saids all.book it.last
       ends = ends_at it.session.lines it.session.ended it.session.broken it.session.saids it.session.mid it.last all.book all.keeps (left_agrees it.last entry now it.shelf now_tells) it.session.breaks

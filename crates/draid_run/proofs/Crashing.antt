@@ -11,7 +11,7 @@ use Rattle.draid_shelf.specs.Kits.{OnHeld}
 use Rattle.draid_session.specs.Places.{Outside}
 use Rattle.draid_session.specs.Said.{Said}
 use Rattle.draid_session.specs.Choices.{Choices}
-use Rattle.draid_session.specs.Session.{Desk, Finding, Untouched, Bare, Made, Open, Shut, Foreign, Unknown, Runs}
+use Rattle.draid_session.specs.Session.{Desk, Finding, Untouched, Bare, Made, Open, Shut, Foreign, Unknown, Runs, Sitting}
 use Rattle.draid_pool.specs.Returning.{IsFirm}
 use Rattle.draid_pool.specs.Shelves.{OnShelf}
 use Rattle.draid_pool.specs.declared.pool.Pool.{Pool}
@@ -25,7 +25,7 @@ crash_firm now pool Crashed firm is = firm refl
 crash_firm now pool reply firm is = absurd (cc is)
 
 -- whether a crash came last, behind one more line
-crash_more : (choices : Choices) (finds : Finding → Type 0) (tells : Bool) (start : Desk) (came : Bool) (lines : List (List ℕ)) (replies : List (List Said)) (mid : Desk) (line : List ℕ) (saids : List Said)
+crash_more : (choices : Choices) (finds : Finding → Type 0) (tells : Bool) (start : Sitting) (came : Bool) (lines : List (List ℕ)) (replies : List (List Said)) (mid : Sitting) (line : List ℕ) (saids : List Said)
     → Runs choices finds tells start lines replies mid → crash_came_last Outside came (lines ++ line ∷ []) (replies ++ saids ∷ []) ≡ crash_behind (crash_came_last Outside came lines replies) (line_of line) saids
 crash_more choices finds tells start came [] [] mid line saids runs = refl
 crash_more choices finds tells start came [] (r ∷ rs) mid line saids runs = absurd runs
@@ -40,7 +40,7 @@ module _ {R A : Type 0} (before now : OnShelf) (pool pool' : Option (Pool R A)) 
   firm_behind (Ok command) leaves is = absurd (cc is)
   firm_behind (Err fault) leaves is = absurd (cc is)
 
-pub firm_more : {R A : Type 0} (choices : Choices) (finds : Finding → Type 0) (tells : Bool) (start : Desk) (lines : List (List ℕ)) (replies : List (List Said)) (mid : Desk) (line : List ℕ) (saids : List Said)
+pub firm_more : {R A : Type 0} (choices : Choices) (finds : Finding → Type 0) (tells : Bool) (start : Sitting) (lines : List (List ℕ)) (replies : List (List Said)) (mid : Sitting) (line : List ℕ) (saids : List Said)
     (before now : OnShelf) (pool pool' : Option (Pool R A)) → Runs choices finds tells start lines replies mid → (crash_came_last Outside false lines replies ≡ true → IsFirmShut before pool)
     → LeavesFirm (line_of line) saids before pool now pool' → crash_came_last Outside false (lines ++ line ∷ []) (replies ++ saids ∷ []) ≡ true → IsFirmShut now pool'
 firm_more choices finds tells start lines replies mid line saids before now pool pool' runs firm leaves is =

@@ -133,6 +133,7 @@ module _ {R A : Type 0} (rack : racks.Ghosts R) (area : areas.Ghosts A) (choices
     replies = is.replies;
     shown = is.shown;
     mid = is.mid;
+    journal = is.journal;
     last = is.last;
     broken = is.broken;
     saids = is.saids;
@@ -161,6 +162,7 @@ module _ {R A : Type 0} (rack : racks.Ghosts R) (area : areas.Ghosts A) (choices
       shown = is.shown;
       ended = ended;
       mid = is.mid;
+      journal = is.journal;
       broken = is.broken;
       saids = is.saids;
       runs = is.runs;
@@ -210,6 +212,7 @@ module _ {R A : Type 0} (rack : racks.Ghosts R) (area : areas.Ghosts A) (choices
         shown = [];
         ended = meant;
         mid = first;
+        journal = [];
         broken = None;
         saids = [];
         runs = refl;

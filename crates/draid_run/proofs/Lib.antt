@@ -16,6 +16,7 @@ pub mod Makings
 pub mod Next
 pub mod Printing
 pub mod Remembered
+pub mod Repaired
 pub mod Risen
 pub mod Runs
 pub mod Said

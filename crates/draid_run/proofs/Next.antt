@@ -13,7 +13,7 @@ use Rattle.draid_reply.specs.declared.reply.Reply.TheVariants.{Crashed, Imported
 use Rattle.draid_shelf.specs.Kits.{AreNewChecks, Both, ChecksTold, CrashedChecks, CrashedHeld, CrashedKit, Held, IsNewArea, IsNewRack, KitCounts, KitTold, OnHeld, uber_bytes}
 use Rattle.draid_session.specs.Said.{Said, alone}
 use Rattle.draid_session.specs.Choices.{Choices}
-use Rattle.draid_session.specs.Session.{Agrees, Desk, Finding, Untouched, Bare, Made, Open, Shut, Foreign, Unknown, KnowsShelf, Runs, left_of}
+use Rattle.draid_session.specs.Session.{Agrees, Desk, Finding, Untouched, Bare, Made, Open, Shut, Foreign, Unknown, KnowsShelf, Runs, Sitting, left_of, sits}
 use Rattle.draid_session.specs.State.{State}
 use Rattle.draid_session.proofs.Again.{crash_found, runs_known}
 use Rattle.draid_pool.specs.Returning.{HoldsPool, SameCounts}
@@ -137,15 +137,15 @@ tells_found false entry left found it tells = ap is_some it.0.held ∙ tells
 
 -- ---- a crash among the lines of a run
 
-module _ (choices : Choices) (finds : Finding → Type 0) (crash import : List ℕ) (back : List (List ℕ)) (called : String Global) (group objects : ℕ) (behind : List (List Said)) (last : Desk)
+module _ (choices : Choices) (finds : Finding → Type 0) (crash import : List ℕ) (back : List (List ℕ)) (called : String Global) (group objects : ℕ) (behind : List (List Said)) (last : Sitting)
     (is_crash : line_of crash ≡ Ok CrashPool) (is_import : line_of import ≡ Ok ImportPool) where
-  here : (first : Desk) → KnowsShelf first → Agrees true first → Runs choices finds true first (crash ∷ import ∷ back) (alone Crashed ∷ alone (Imported called group objects) ∷ behind) last
+  here : (first : Sitting) → KnowsShelf first.desk → Agrees true first.desk → Runs choices finds true first (crash ∷ import ∷ back) (alone Crashed ∷ alone (Imported called group objects) ∷ behind) last
       → FindsAgain choices finds first [] [] group objects back behind last
   here first known agrees runs =
-      let it = crash_found choices finds crash import back called group objects behind last is_crash is_import first known runs in
-      record { old = it.old; new = it.new; before = sym it.was; imports = it.imports; counted = it.counted; after = it.after }
+      let it = crash_found choices finds crash import back called group objects behind first.journal last is_crash is_import first.desk known runs in
+      record { old = it.old; new = it.new; journal = first.journal; before = ap (λ desk. sits desk first.journal) (sym it.was); imports = it.imports; counted = it.counted; after = it.after }
 
-  pub again : (front : List (List ℕ)) (said : List (List Said)) (first : Desk) → length said ≡ length front → KnowsShelf first → Agrees true first
+  pub again : (front : List (List ℕ)) (said : List (List Said)) (first : Sitting) → length said ≡ length front → KnowsShelf first.desk → Agrees true first.desk
       → Runs choices finds true first (front ++ (crash ∷ import ∷ back)) (said ++ (alone Crashed ∷ alone (Imported called group objects) ∷ behind)) last → FindsAgain choices finds first front said group objects back behind last
   again [] [] first same known agrees runs = here first known agrees runs
   again [] (saids ∷ said) first same known agrees runs = absurd (omega (arith, same))
@@ -153,4 +153,4 @@ module _ (choices : Choices) (finds : Finding → Type 0) (crash import : List �
   again (line ∷ front) (saids ∷ said) first same known agrees runs =
       let one = runs_known choices finds (line ∷ []) (saids ∷ []) first runs.0 known agrees (runs.0, runs.1, runs.2, refl) in
       let it = again front said runs.0 (omega (arith, same)) one.0 one.1 runs.3 in
-      record { old = it.old; new = it.new; before = (runs.0, runs.1, runs.2, it.before); imports = it.imports; counted = it.counted; after = it.after }
+      record { old = it.old; new = it.new; journal = it.journal; before = (runs.0, runs.1, runs.2, it.before); imports = it.imports; counted = it.counted; after = it.after }

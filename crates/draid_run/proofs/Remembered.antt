@@ -8,6 +8,7 @@ use Rattle.draid_machine.proofs.Small.{equal}
 use Rattle.draid_script.specs.Grammar.{line_of}
 use Rattle.draid_script.specs.Line.{Command, Silent, CrashPool, ExportPool, WriteObject, FillObjects, ReadObject, FreeObject, SumObjects, RewindPool}
 use Rattle.draid_script.specs.declared.fault.LineFault.{LineFault}
+use Rattle.draid_names.specs.declared.journal.Entry.{Entry}
 use Rattle.draid_reply.specs.declared.reply.Reply.{Reply}
 use Rattle.draid_reply.specs.declared.reply.Reply.TheVariants.{Contents, Crashed, Exported, Filled, FillRefused, FreeNoObject, Freed, NoObject, ReadWorn, Summed, SumRefused, Unreadable, Written}
 use Rattle.draid_session.specs.Said.{Said, alone}
@@ -17,7 +18,7 @@ use Rattle.draid_session.specs.Making.{content_of}
 use Rattle.draid_session.specs.Places.{Outside}
 use Rattle.draid_session.specs.Reads.{ReadsAs}
 use Rattle.draid_session.specs.Replies.{IsReplyTo}
-use Rattle.draid_session.specs.Session.{Desk, Finding, Foreign, Runs, TurnsBy}
+use Rattle.draid_session.specs.Session.{Desk, Finding, Foreign, Runs, Sitting, TurnsBy, sits}
 use Rattle.draid_run.specs.Spares.{AllSpare, Spares}
 use Rattle.draid_run.proofs.Behind.{KeepsOpen, still_foreign}
 
@@ -161,33 +162,31 @@ module _ (object : ℕ) (bytes : List ℕ) where
         }
 
     module _ (tells : Bool) (read : List ℕ) (p : ℕ) (got : Vec ℕ Global) (is_read : line_of read ≡ Ok (ReadObject object)) where
-      pub read_behind : (lines : List (List ℕ)) (replies : List (List Said)) (old : Known) (last : Desk) → AllSpare object Outside lines → length replies ≡ length lines
-          → Runs choices finds tells (Foreign old) (lines ++ (read ∷ [])) (replies ++ (alone (Contents p got) ∷ [])) last → HasKnown old → ReadsAs bytes got.items
-      read_behind [] [] old last spare same runs has =
-          let turns = subst (λ r. TurnsBy choices finds r (Foreign old) (alone (Contents p got)) runs.0) is_read runs.1 in
+      pub read_behind : (lines : List (List ℕ)) (replies : List (List Said)) (old : Known) (at last : Sitting) → at.desk ≡ Foreign old → AllSpare object Outside lines → length replies ≡ length lines
+          → Runs choices finds tells at (lines ++ (read ∷ [])) (replies ++ (alone (Contents p got) ∷ [])) last → HasKnown old → ReadsAs bytes got.items
+      read_behind [] [] old at last is spare same runs has =
+          let here = subst (λ d. TurnsBy choices finds (line_of read) d (alone (Contents p got)) runs.0.desk) is runs.1.0 in
+          let turns = subst (λ r. TurnsBy choices finds r (Foreign old) (alone (Contents p got)) runs.0.desk) is_read here in
           may_read old got.items has turns.1.2.0
-      read_behind [] (saids ∷ replies) old last spare same runs has = absurd (cc same)
-      read_behind (line ∷ lines) [] old last spare same runs has = absurd (cc same)
-      read_behind (line ∷ lines) (saids ∷ replies) old last spare same runs has =
-          let f = line_on (line_of line) saids old runs.0 spare.0 runs.1 has in
-          let rest = subst (λ d. Runs choices finds tells d (lines ++ (read ∷ [])) (replies ++ (alone (Contents p got) ∷ [])) last) f.is runs.3 in
-          read_behind lines replies f.new last spare.1 (omega (arith, same)) rest f.has
+      read_behind [] (saids ∷ replies) old at last is spare same runs has = absurd (cc same)
+      read_behind (line ∷ lines) [] old at last is spare same runs has = absurd (cc same)
+      read_behind (line ∷ lines) (saids ∷ replies) old at last is spare same runs has =
+          let f = line_on (line_of line) saids old runs.0.desk spare.0 (subst (λ d. TurnsBy choices finds (line_of line) d saids runs.0.desk) is runs.1.0) has in
+          read_behind lines replies f.new runs.0 last f.is spare.1 (omega (arith, same)) runs.3 f.has
 
 -- ---- behind a write, and behind a read
 
-module _ (choices : Choices) (finds : Finding → Type 0) (tells : Bool) (lines : List (List ℕ)) (replies : List (List Said)) (object o p : ℕ) (old : Known) (last : Desk) (spare : AllSpare object Outside lines)
+module _ (choices : Choices) (finds : Finding → Type 0) (tells : Bool) (lines : List (List ℕ)) (replies : List (List Said)) (object o p : ℕ) (old : Known) (journal : List Entry) (last : Sitting) (spare : AllSpare object Outside lines)
     (same : length replies ≡ length lines) (first read : List ℕ) (got : Vec ℕ Global) (is_read : line_of read ≡ Ok (ReadObject object)) where
   abbrev RunsOn : Reply → Type 0
-  RunsOn reply = Runs choices finds tells (Foreign old) (first ∷ (lines ++ (read ∷ []))) (alone reply ∷ (replies ++ (alone (Contents p got) ∷ []))) last
+  RunsOn reply = Runs choices finds tells (sits (Foreign old) journal) (first ∷ (lines ++ (read ∷ []))) (alone reply ∷ (replies ++ (alone (Contents p got) ∷ []))) last
 
   pub written_read : (bytes : List ℕ) → line_of first ≡ Ok (WriteObject object bytes) → RunsOn (Written o) → ReadsAs bytes got.items
   written_read bytes is runs =
-      let turns = (subst (λ r. TurnsBy choices finds r (Foreign old) (alone (Written o)) runs.0) is runs.1).1 in
-      let rest = subst (λ d. Runs choices finds tells d (lines ++ (read ∷ [])) (replies ++ (alone (Contents p got) ∷ [])) last) turns.3 runs.3 in
-      read_behind object bytes choices finds tells read p got is_read lines replies turns.1 last spare same rest (has_own object bytes bytes old turns.1 turns.2 (reads_itself bytes))
+      let turns = (subst (λ r. TurnsBy choices finds r (Foreign old) (alone (Written o)) runs.0.desk) is runs.1.0).1 in
+      read_behind object bytes choices finds tells read p got is_read lines replies turns.1 runs.0 last turns.3 spare same runs.3 (has_own object bytes bytes old turns.1 turns.2 (reads_itself bytes))
 
   pub read_read : (was : Vec ℕ Global) → line_of first ≡ Ok (ReadObject object) → RunsOn (Contents o was) → ReadsAs was.items got.items
   read_read was is runs =
-      let turns = (subst (λ r. TurnsBy choices finds r (Foreign old) (alone (Contents o was)) runs.0) is runs.1).1 in
-      let rest = subst (λ d. Runs choices finds tells d (lines ++ (read ∷ [])) (replies ++ (alone (Contents p got) ∷ [])) last) turns.3 runs.3 in
-      read_behind object was.items choices finds tells read p got is_read lines replies turns.1 last spare same rest (has_own object was.items was.items old turns.1 turns.2.1 (reads_itself was.items))
+      let turns = (subst (λ r. TurnsBy choices finds r (Foreign old) (alone (Contents o was)) runs.0.desk) is runs.1.0).1 in
+      read_behind object was.items choices finds tells read p got is_read lines replies turns.1 runs.0 last turns.3 spare same runs.3 (has_own object was.items was.items old turns.1 turns.2.1 (reads_itself was.items))

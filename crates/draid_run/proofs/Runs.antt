@@ -1,20 +1,32 @@
-use Rattle.std.proofs.Common.{refl, sym, subst, ◌≡◌, ℕ, List, Bool, true, [], ◌∷◌, ◌++◌, Option, Some, None}
+use Rattle.std.proofs.Common.{refl, sym, subst, ◌≡◌, ℕ, List, Bool, true, [], ◌∷◌, ◌++◌, Option, Some, None, Result, Ok}
 use Rattle.std.specs.Prelude.{IsSomeAnd, is_some}
+use Rattle.draid_names.specs.declared.journal.Entry.{Entry}
 use Rattle.draid_rack.specs.declared.Rack as racks
 use Rattle.draid_area.specs.declared.Area as areas
 use Rattle.draid_script.specs.Grammar.{line_of}
+use Rattle.draid_script.specs.Line.{Command, RunAgent, ShowJournal}
+use Rattle.draid_script.specs.declared.fault.LineFault.{LineFault}
 use Rattle.draid_session.specs.Said.{Said}
 use Rattle.draid_session.specs.Choices.{Choices}
-use Rattle.draid_session.specs.Session.{Agrees, Desk, Finding, Untouched, Bare, Made, Open, Shut, Foreign, Unknown, Runs, TurnsBy}
+use Rattle.draid_session.specs.Session.{Agrees, Desk, Finding, Untouched, Bare, Made, Open, Shut, Foreign, Unknown, Notes, Runs, Sitting, SittingTurns, TurnsBy}
 use Rattle.draid_pool.specs.declared.pool.Pool.{Pool}
 use Rattle.draid_run.specs.Desks.{IsDesk}
+use Rattle.draid_run.specs.Script.{IsBuilt}
 use Rattle.draid_pool.specs.Shelves.{OnShelf}
 use Rattle.draid_run.specs.Shelves.{HoldsDesk, TellsAsBefore}
 
+-- what is built so far adds nothing to the journal
+pub built_notes : (choices : Choices) (finds : Finding → Type 0) (past : List Entry) (line : Result Command LineFault) → IsBuilt line → (old : Desk) (saids : List Said) (new : Desk) (turns : TurnsBy choices finds line old saids new)
+    → Notes choices finds past line old saids new turns []
+built_notes choices finds past (Ok (RunAgent least)) built old saids new turns = absurd (built tt)
+built_notes choices finds past (Ok ShowJournal) built old saids new turns = absurd (built tt)
+built_notes choices finds past line built old saids new turns = refl
+
 -- one more line is answered
-pub runs_more : (choices : Choices) (finds : Finding → Type 0) (tells : Bool) (start : Desk) (lines : List (List ℕ)) (replies : List (List Said)) (mid : Desk) (line : List ℕ) (saids : List Said) (new : Desk)
-    → Runs choices finds tells start lines replies mid → TurnsBy choices finds (line_of line) mid saids new → Agrees tells new → Runs choices finds tells start (lines ++ line ∷ []) (replies ++ saids ∷ []) new
-runs_more choices finds tells start [] [] mid line saids new runs turns agrees = (new, rw (sym runs) turns, agrees, refl)
+pub runs_more : (choices : Choices) (finds : Finding → Type 0) (tells : Bool) (start : Sitting) (lines : List (List ℕ)) (replies : List (List Said)) (mid : Sitting) (line : List ℕ) (saids : List Said) (new : Sitting)
+    → Runs choices finds tells start lines replies mid → SittingTurns choices finds (line_of line) mid saids new → Agrees tells new.desk
+    → Runs choices finds tells start (lines ++ line ∷ []) (replies ++ saids ∷ []) new
+runs_more choices finds tells start [] [] mid line saids new runs turns agrees = (new, subst (λ s. SittingTurns choices finds (line_of line) s saids new) runs turns, agrees, refl)
 runs_more choices finds tells start [] (r ∷ rs) mid line saids new runs turns agrees = absurd runs
 runs_more choices finds tells start (l ∷ ls) [] mid line saids new runs turns agrees = absurd runs
 runs_more choices finds tells start (l ∷ ls) (r ∷ rs) mid line saids new runs turns agrees = (runs.0, runs.1, runs.2, runs_more choices finds tells runs.0 ls rs mid line saids new runs.3 turns agrees)

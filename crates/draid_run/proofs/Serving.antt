@@ -14,7 +14,7 @@ use Rattle.draid_script.specs.Line.{Command}
 use Rattle.draid_session.specs.Said.{Said}
 use Rattle.draid_session.specs.Choices.{Choices}
 use Rattle.draid_session.specs.Places.{Outside, Place, line_behind, place_behind}
-use Rattle.draid_session.specs.Session.{Desk, Untouched, Bare, Made, Open, Shut, Foreign, Unknown, RecordFails, Runs, ShelfFails}
+use Rattle.draid_session.specs.Session.{Desk, Untouched, Bare, Made, Open, Shut, Foreign, Unknown, RecordFails, Runs, ShelfFails, Sitting, sits}
 use Rattle.draid_pool.specs.declared.pool.Pool.{Pool}
 use Rattle.draid_run.specs.Crashes.{IsFirmShut, LeavesFirm, crash_came_last}
 use Rattle.draid_run.specs.Desks.{IsDesk, Turned}
@@ -29,7 +29,7 @@ use Rattle.draid_run.proofs.Crashing.{firm_more}
 use Rattle.draid_run.proofs.Exits.{rose_from}
 use Rattle.draid_run.proofs.Known.{appends_more, appends_none, known_input, known_on}
 use Rattle.draid_run.proofs.Risen.{cause_fault, fails_shut, faulty_shut}
-use Rattle.draid_run.proofs.Runs.{desk_agrees, runs_more}
+use Rattle.draid_run.proofs.Runs.{built_notes, desk_agrees, runs_more}
 
 -- the replies to one more line
 all_more : (replies : List (List Said)) (saids : List Said) → all_said (replies ++ saids ∷ []) ≡ all_said replies ++ saids
@@ -155,6 +155,7 @@ module _ {R A : Type 0} (rack : racks.Ghosts R) (area : areas.Ghosts A) (choices
     lines = [];
     replies = [];
     reached = first;
+    journal = [];
     count_is = refl;
     desk = shut_desk first at;
     runs = refl;
@@ -174,17 +175,19 @@ module _ {R A : Type 0} (rack : racks.Ghosts R) (area : areas.Ghosts A) (choices
 
   module _ (first : Desk) where
     -- the lines so far, and one more
-    abbrev RunsSo : List (List ℕ) → List (List Said) → Desk → Type 0
-    RunsSo lines replies new = Runs choices (MayFind rack area entry) (is_some entry.held) first lines replies new
+    abbrev RunsSo : List (List ℕ) → List (List Said) → Sitting → Type 0
+    RunsSo lines replies new = Runs choices (MayFind rack area entry) (is_some entry.held) (sits first []) lines replies new
 
-    more : (lines : List (List ℕ)) (replies : List (List Said)) (mid : Desk) (line : List ℕ) (saids : List Said) (now : OnShelf) (pool : Option (Pool R A)) → RunsSo lines replies mid
-        → (turned : Turned rack area choices (line_of line) entry mid saids now pool) → TellsAsBefore entry now → RunsSo (lines ++ line ∷ []) (replies ++ saids ∷ []) turned.new
-    more lines replies mid line saids now pool runs turned tells =
-        runs_more choices (MayFind rack area entry) (is_some entry.held) first lines replies mid line saids turned.new runs turned.turns (desk_agrees rack area entry now pool turned.new tells turned.desk)
+    more : (lines : List (List ℕ)) (replies : List (List Said)) (mid : Sitting) (line : List ℕ) (saids : List Said) (now : OnShelf) (pool : Option (Pool R A)) → RunsSo lines replies mid
+        → (turned : Turned rack area choices (line_of line) entry mid.desk saids now pool) → IsBuilt (line_of line) → TellsAsBefore entry now → RunsSo (lines ++ line ∷ []) (replies ++ saids ∷ []) (sits turned.new mid.journal)
+    more lines replies mid line saids now pool runs turned built tells =
+        runs_more choices (MayFind rack area entry) (is_some entry.held) (sits first []) lines replies mid line saids (sits turned.new mid.journal) runs
+        (turned.turns, [], built_notes choices (MayFind rack area entry) mid.journal (line_of line) built mid.desk saids turned.new turned.turns, sym (append-nil mid.journal))
+        (desk_agrees rack area entry now pool turned.new tells turned.desk)
 
-    firm_so : (lines : List (List ℕ)) (replies : List (List Said)) (mid : Desk) (line : List ℕ) (saids : List Said) (before now : OnShelf) (pool pool' : Option (Pool R A)) → RunsSo lines replies mid
+    firm_so : (lines : List (List ℕ)) (replies : List (List Said)) (mid : Sitting) (line : List ℕ) (saids : List Said) (before now : OnShelf) (pool pool' : Option (Pool R A)) → RunsSo lines replies mid
         → (crash_came_last Outside false lines replies ≡ true → IsFirmShut before pool) → LeavesFirm (line_of line) saids before pool now pool' → crash_came_last Outside false (lines ++ line ∷ []) (replies ++ saids ∷ []) ≡ true → IsFirmShut now pool'
-    firm_so lines replies mid line saids before now pool pool' runs firm leaves = firm_more choices (MayFind rack area entry) (is_some entry.held) first lines replies mid line saids before now pool pool' runs firm leaves
+    firm_so lines replies mid line saids before now pool pool' runs firm leaves = firm_more choices (MayFind rack area entry) (is_some entry.held) (sits first []) lines replies mid line saids before now pool pool' runs firm leaves
 
     pub serving_more : (input rest rest' start held held' : Option (List ℕ)) (before now : OnShelf) (pool pool' : Option (Pool R A)) (count : ℕ) (line : List ℕ)
         → (is : Serving rack area choices first input rest start held entry before pool count)
@@ -198,13 +201,14 @@ module _ {R A : Type 0} (rack : racks.Ghosts R) (area : areas.Ghosts A) (choices
           lines = is.lines ++ line ∷ [];
           replies = is.replies ++ printed.saids ∷ [];
           reached = printed.turned.new;
+          journal = is.journal;
           count_is = omega (arith, counted, longer);
           desk = printed.turned.desk;
-          runs = more is.lines is.replies is.reached line printed.saids now pool' is.runs printed.turned tells;
+          runs = more is.lines is.replies (sits is.reached is.journal) line printed.saids now pool' is.runs printed.turned printed.built tells;
           known = known_on input rest rest' _ _ _ (λ x y z a b. lines_more x y z is.lines line a b) is.known behind;
           printed = rw (texts_more is.replies printed.saids) (appends_more start held held' _ _ is.printed printed.prints);
           unanswered = λ none. absurd (not_none is.lines line none);
-          firm = firm_so is.lines is.replies is.reached line printed.saids before now pool pool' is.runs is.firm printed.firm;
+          firm = firm_so is.lines is.replies (sits is.reached is.journal) line printed.saids before now pool pool' is.runs is.firm printed.firm;
           built = built_more Outside is.lines line is.built printed.built;
         }
 
@@ -217,6 +221,7 @@ module _ {R A : Type 0} (rack : racks.Ghosts R) (area : areas.Ghosts A) (choices
       replies = is.replies;
       shown = all_said is.replies;
       mid = is.reached;
+      journal = is.journal;
       last = is.reached;
       broken = None;
       saids = [];
@@ -296,11 +301,12 @@ module _ {R A : Type 0} (rack : racks.Ghosts R) (area : areas.Ghosts A) (choices
           replies = is.replies ++ (cut.part ++ cut.said ∷ cut.rest) ∷ [];
           shown = all_said is.replies ++ (cut.part ++ cut.said ∷ []);
           mid = cut.turned.new;
+          journal = is.journal;
           last = cut.turned.new;
           broken = None;
           saids = [];
           desk = cut.turned.desk;
-          runs = more is.lines is.replies is.reached line (cut.part ++ cut.said ∷ cut.rest) now pool' is.runs cut.turned tells;
+          runs = more is.lines is.replies (sits is.reached is.journal) line (cut.part ++ cut.said ∷ cut.rest) now pool' is.runs cut.turned cut.built tells;
           breaks = (refl, refl);
           ends = known_input input rest' _ _ (λ x z e. (lines_of z, e))
               (known_on input rest rest' _ _ _ (λ x y z a b. lines_more x y z is.lines line a b) is.known behind);
@@ -321,7 +327,7 @@ module _ {R A : Type 0} (rack : racks.Ghosts R) (area : areas.Ghosts A) (choices
           failed = λ e. absurd (cc e);
           since = λ e. absurd (cc e);
           bad = λ metaslab place kind e. absurd (cc e);
-          firm = λ rest. firm_so is.lines is.replies is.reached line (cut.part ++ cut.said ∷ cut.rest) before now pool pool' is.runs is.firm cut.firm;
+          firm = λ rest. firm_so is.lines is.replies (sits is.reached is.journal) line (cut.part ++ cut.said ∷ cut.rest) before now pool pool' is.runs is.firm cut.firm;
           built = built_more Outside is.lines line is.built cut.built;
         }
 
@@ -332,11 +338,12 @@ module _ {R A : Type 0} (rack : racks.Ghosts R) (area : areas.Ghosts A) (choices
           replies = is.replies ++ (cut.part ++ cut.said ∷ cut.rest) ∷ [];
           shown = all_said is.replies ++ cut.part;
           mid = cut.turned.new;
+          journal = is.journal;
           last = cut.turned.new;
           broken = None;
           saids = [];
           desk = cut.turned.desk;
-          runs = more is.lines is.replies is.reached line (cut.part ++ cut.said ∷ cut.rest) now pool' is.runs cut.turned tells;
+          runs = more is.lines is.replies (sits is.reached is.journal) line (cut.part ++ cut.said ∷ cut.rest) now pool' is.runs cut.turned cut.built tells;
           breaks = (refl, refl);
           ends = known_input input rest' _ _ (λ x z e. (lines_of z, e))
               (known_on input rest rest' _ _ _ (λ x y z a b. lines_more x y z is.lines line a b) is.known behind);
@@ -345,7 +352,7 @@ module _ {R A : Type 0} (rack : racks.Ghosts R) (area : areas.Ghosts A) (choices
           failed = λ e. absurd (cc e);
           since = λ e. absurd (cc e);
           bad = λ metaslab place kind e. absurd (cc e);
-          firm = λ rest. firm_so is.lines is.replies is.reached line (cut.part ++ cut.said ∷ cut.rest) before now pool pool' is.runs is.firm cut.firm;
+          firm = λ rest. firm_so is.lines is.replies (sits is.reached is.journal) line (cut.part ++ cut.said ∷ cut.rest) before now pool pool' is.runs is.firm cut.firm;
           built = built_more Outside is.lines line is.built cut.built;
         }
 
@@ -356,6 +363,7 @@ module _ {R A : Type 0} (rack : racks.Ghosts R) (area : areas.Ghosts A) (choices
           replies = is.replies;
           shown = all_said is.replies;
           mid = is.reached;
+          journal = is.journal;
           last = at.broken.new;
           broken = Some line;
           saids = [];
@@ -381,6 +389,7 @@ module _ {R A : Type 0} (rack : racks.Ghosts R) (area : areas.Ghosts A) (choices
           replies = is.replies;
           shown = all_said is.replies;
           mid = is.reached;
+          journal = is.journal;
           last = at.broken.new;
           broken = Some line;
           saids = [];

@@ -1,18 +1,19 @@
 -- A line among those of a session, and the lines of a run as those of a session.
 use Rattle.std.proofs.Common.{◌≡◌, refl, ℕ, Bool, List, [], ◌∷◌, ◌++◌, Result, Ok, Err, arith, length}
+use Rattle.draid_names.specs.declared.journal.Entry.{Entry}
 use Rattle.draid_script.specs.Grammar.{line_of}
-use Rattle.draid_script.specs.Line.{Command, ImportPool, Silent}
+use Rattle.draid_script.specs.Line.{Command, ImportPool, RunAgent, ShowJournal, Silent}
 use Rattle.draid_script.specs.declared.fault.LineFault.{LineFault}
 use Rattle.draid_script.specs.declared.name.CommandName.TheVariants as name
 use Rattle.draid_reply.specs.declared.reply.Reply.{Reply}
 use Rattle.draid_reply.specs.declared.reply.Reply.TheVariants.{Imported, NoMemory, NoPool}
 use Rattle.draid_session.specs.Said.{Said}
 use Rattle.draid_session.specs.Choices.{Choices}
-use Rattle.draid_session.specs.Session.{Bare, Desk, Finding, FindsFound, Foreign, ImportTurns, IsAnything, Made, Open, ReplyTurns, Runs, Shut, ShutTurns, TurnsBy, Unknown, Untouched}
+use Rattle.draid_session.specs.Session.{Bare, Desk, Finding, FindsFound, Foreign, ImportTurns, IsAnything, Made, Notes, Open, ReplyTurns, Runs, Shut, ShutTurns, Sitting, SittingTurns, TurnsBy, Unknown, Untouched}
 use Rattle.draid_run.specs.Lines.{IsTurn}
 
-module _ (choices : Choices) (finds : Finding → Type 0) (tells : Bool) (line : List ℕ) (saids : List Said) (back : List (List ℕ)) (behind : List (List Said)) (last : Desk) where
-  pub one_turn : (front : List (List ℕ)) (said : List (List Said)) (first : Desk) → length said ≡ length front → Runs choices finds tells first (front ++ line ∷ back) (said ++ saids ∷ behind) last
+module _ (choices : Choices) (finds : Finding → Type 0) (tells : Bool) (line : List ℕ) (saids : List Said) (back : List (List ℕ)) (behind : List (List Said)) (last : Sitting) where
+  pub one_turn : (front : List (List ℕ)) (said : List (List Said)) (first : Sitting) → length said ≡ length front → Runs choices finds tells first (front ++ line ∷ back) (said ++ saids ∷ behind) last
       → IsTurn choices finds tells first front said line saids back behind last
   one_turn [] [] first same runs = record { old = first; new = runs.0; before = refl; turns = runs.1; agrees = runs.2; after = runs.3 }
   one_turn [] (s ∷ said) first same runs = absurd (omega (arith, same))
@@ -59,9 +60,21 @@ module _ (choices : Choices) (finds : Finding → Type 0) where
   any_line (Ok command) old new (said ∷ []) is = (is.0, any_reply old new command said.reply is.1)
   any_line (Ok command) old new (said ∷ other ∷ more) is = absurd is
 
-  pub any_runs : (tells : Bool) (lines : List (List ℕ)) (replies : List (List Said)) (old new : Desk) → Runs choices finds tells old lines replies new → Runs choices IsAnything tells old lines replies new
+  any_notes : (past more : List Entry) (line : Result Command LineFault) (old new : Desk) (saids : List Said) (turns : TurnsBy choices finds line old saids new) → Notes choices finds past line old saids new turns more
+      → Notes choices IsAnything past line old saids new (any_line line old new saids turns) more
+  any_notes past more (Ok (RunAgent least)) (Open x) new (said ∷ []) turns notes = notes
+  any_notes past more (Ok (RunAgent least)) (Foreign known) new (said ∷ []) turns notes = notes
+  any_notes past more (Ok (RunAgent least)) old new saids turns notes = notes
+  any_notes past more (Ok ShowJournal) old new (said ∷ []) turns notes = notes
+  any_notes past more (Ok ShowJournal) old new saids turns notes = notes
+  any_notes past more line old new saids turns notes = notes
+
+  any_sitting : (line : Result Command LineFault) (old new : Sitting) (saids : List Said) → SittingTurns choices finds line old saids new → SittingTurns choices IsAnything line old saids new
+  any_sitting line old new saids t = (any_line line old.desk new.desk saids t.0, t.1, any_notes old.journal t.1 line old.desk new.desk saids t.0 t.2, t.3)
+
+  pub any_runs : (tells : Bool) (lines : List (List ℕ)) (replies : List (List Said)) (old new : Sitting) → Runs choices finds tells old lines replies new → Runs choices IsAnything tells old lines replies new
   any_runs tells [] [] old new runs = runs
   any_runs tells [] (saids ∷ replies) old new runs = absurd runs
   any_runs tells (line ∷ lines) [] old new runs = absurd runs
   any_runs tells (line ∷ lines) (saids ∷ replies) old new runs =
-      (runs.0, any_line (line_of line) old runs.0 saids runs.1, runs.2, any_runs tells lines replies runs.0 new runs.3)
+      (runs.0, any_sitting (line_of line) old runs.0 saids runs.1, runs.2, any_runs tells lines replies runs.0 new runs.3)

@@ -21,7 +21,7 @@ use Rattle.draid_session.specs.Choices.{Choices}
 use Rattle.draid_session.specs.Looks.{AllOf}
 use Rattle.draid_session.specs.Opening.{Finds, Imports}
 use Rattle.draid_session.specs.Said.{Said}
-use Rattle.draid_session.specs.Session.{Agrees, Bare, Breaks, CarriesOut, Desk, Finding, FindsGiven, FindsGivenIf, FindsNew, FindsNewIf, FindsNoGroup, Foreign, ImportTurns, IsStill, KnowsShelf, LeavesState, Made, Open, ReplyTurns, Runs, ShelfFails, Shut, ShutTurns, TurnsBy, Unknown, Untouched, desk_behind, left_of}
+use Rattle.draid_session.specs.Session.{Agrees, Bare, Breaks, CarriesOut, Desk, Finding, FindsGiven, FindsGivenIf, FindsNew, FindsNewIf, FindsNoGroup, Foreign, ImportTurns, IsStill, KnowsShelf, LeavesState, Made, Open, ReplyTurns, Runs, ShelfFails, Shut, ShutTurns, Sitting, TurnsBy, Unknown, Untouched, desk_behind, left_of, sits}
 use Rattle.draid_session.specs.State.{Metaslab, State}
 use Rattle.draid_session.specs.Staying.{IsNoCreate, MakesNoPool, MakesNoPoolIn}
 use Rattle.draid_session.proofs.Lists.{all_back, all_front}
@@ -152,13 +152,13 @@ module _ (choices : Choices) (finds : Finding → Type 0) (entry : OnShelf) wher
   line_up (Ok command) old new (said ∷ []) none up agrees it = reply_up old new command said.reply none up agrees it.1
   line_up (Ok command) old new (said ∷ other ∷ more) none up agrees it = absurd it
 
-  run_up : (lines : List (List ℕ)) (replies : List (List Said)) (old new : Desk) → AllOf MakesNoPool lines → IsUp entry old → Agrees true old → Runs choices finds true old lines replies new
-      → IsUp entry new × Agrees true new
-  run_up [] [] old new none up agrees runs = (subst (IsUp entry) (sym runs) up, subst (Agrees true) (sym runs) agrees)
+  run_up : (lines : List (List ℕ)) (replies : List (List Said)) (old new : Sitting) → AllOf MakesNoPool lines → IsUp entry old.desk → Agrees true old.desk → Runs choices finds true old lines replies new
+      → IsUp entry new.desk × Agrees true new.desk
+  run_up [] [] old new none up agrees runs = (subst (λ (s : Sitting). IsUp entry s.desk) (sym runs) up, subst (λ (s : Sitting). Agrees true s.desk) (sym runs) agrees)
   run_up [] (saids ∷ replies) old new none up agrees runs = absurd runs
   run_up (line ∷ lines) [] old new none up agrees runs = absurd runs
   run_up (line ∷ lines) (saids ∷ replies) old new none up agrees runs =
-      run_up lines replies runs.0 new none.1 (line_up (line_of line) old runs.0 saids none.0 up agrees runs.1) runs.2 runs.3
+      run_up lines replies runs.0 new none.1 (line_up (line_of line) old.desk runs.0.desk saids none.0 up agrees runs.1.0) runs.2 runs.3
 
 -- ---- the entry
 
@@ -294,8 +294,8 @@ unfailing rack area choices words status input old new entry now first it at tel
     by None same ends breaks = ends
     by (Some text) same ends breaks =
         let all : AllOf MakesNoPool (it.session.lines ++ (text ∷ ends.0)) = subst (AllOf MakesNoPool) ends.1 makes in
-        let behind = run_up choices (MayFind rack area entry) entry it.session.lines it.session.replies first it.session.mid (all_front MakesNoPool it.session.lines (text ∷ ends.0) all)
+        let behind = run_up choices (MayFind rack area entry) entry it.session.lines it.session.replies (sits first []) (sits it.session.mid it.session.journal) (all_front MakesNoPool it.session.lines (text ∷ ends.0) all)
         (first_up first entry at known) (first_agrees first entry at tells)
-        (subst (λ t. Runs choices (MayFind rack area entry) t first it.session.lines it.session.replies it.session.mid) tells it.session.runs) in
+        (subst (λ t. Runs choices (MayFind rack area entry) t (sits first []) it.session.lines it.session.replies (sits it.session.mid it.session.journal)) tells it.session.runs) in
         none_fails entry now none area text it.session.lines (all_back MakesNoPool it.session.lines (text ∷ ends.0) all).0 it.session.saids it.session.mid it.last behind.0 behind.1 it.shelf breaks
         (subst (λ b. Fails area b it.session.lines it.session.mid it.last entry now) same (it.failed ended))

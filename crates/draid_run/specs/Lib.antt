@@ -8,6 +8,7 @@ pub mod Lines
 pub mod Making
 pub mod Next
 pub mod Rebalancing
+pub mod Repairing
 pub mod Script
 pub mod Serve
 pub mod Shelves

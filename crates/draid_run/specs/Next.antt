@@ -1,10 +1,11 @@
 -- Runs one after another over one shelf, and what a run tells of crashes.
 use Rattle.std.specs.Prelude.{◌≡◌, ℕ, Bool, true, false, List}
+use Rattle.draid_names.specs.declared.journal.Entry.{Entry}
 use Rattle.draid_shelf.specs.Kits.{Both, CrashedHeld}
 use Rattle.draid_session.specs.Said.{Said}
 use Rattle.draid_session.specs.Choices.{Choices}
 use Rattle.draid_session.specs.Opening.{HasObjects, Imports}
-use Rattle.draid_session.specs.Session.{Desk, Finding, Untouched, Bare, Made, Open, Shut, Foreign, Unknown, Runs}
+use Rattle.draid_session.specs.Session.{Desk, Finding, Untouched, Bare, Made, Open, Shut, Foreign, Unknown, Runs, Sitting, sits}
 use Rattle.draid_session.specs.State.{State}
 use Rattle.draid_create.specs.Says.{IsSame}
 use Rattle.draid_pool.specs.Shelves.{OnShelf}
@@ -39,11 +40,12 @@ next_desk crash Unknown = Untouched
 
 -- Lines and their replies, with a crash and an import that found a pool among them: the pool was open, and the import found one of its groups, with what this kept. All lines are those of one run, over
 -- a shelf that tells.
-pub record FindsAgain (choices : Choices) (finds : Finding → Type 0) (first : Desk) (front : List (List ℕ)) (said : List (List Said)) (group objects : ℕ) (back : List (List ℕ))
-    (behind : List (List Said)) (last : Desk) : Type 0 where
+pub record FindsAgain (choices : Choices) (finds : Finding → Type 0) (first : Sitting) (front : List (List ℕ)) (said : List (List Said)) (group objects : ℕ) (back : List (List ℕ))
+    (behind : List (List Said)) (last : Sitting) : Type 0 where
   pub old : State
   pub new : State
-  pub before : Runs choices finds true first front said (Open old)
+  pub journal : List Entry
+  pub before : Runs choices finds true first front said (sits (Open old) journal)
   pub imports : Imports old group new
   pub counted : HasObjects new.store.changes objects
-  pub after : Runs choices finds true (Open new) back behind last
+  pub after : Runs choices finds true (sits (Open new) journal) back behind last

@@ -4,6 +4,7 @@ use Rattle.std.specs.Io.KnownBytes.{Appends, prepend_known}
 use Rattle.std.specs.declared.vec.Vec.{Vec}
 use Rattle.std.specs.declared.alloc.Global.{Global}
 use Rattle.draid_names.specs.declared.fault.Failed.{Failed}
+use Rattle.draid_names.specs.declared.journal.Entry.{Entry}
 use Rattle.draid_record.specs.declared.fault.RecordFaultKind.{RecordFaultKind}
 use Rattle.draid_rack.specs.declared.Rack as racks
 use Rattle.draid_area.specs.declared.Area as areas
@@ -15,7 +16,7 @@ use Rattle.draid_reply.specs.declared.reply.Reply.{Reply}
 use Rattle.draid_session.specs.Places.{Outside, line_at}
 use Rattle.draid_session.specs.Said.{Said, alone}
 use Rattle.draid_session.specs.Choices.{Choices}
-use Rattle.draid_session.specs.Session.{Cause, Desk, RecordFails, Runs, ShelfFails}
+use Rattle.draid_session.specs.Session.{Cause, Desk, RecordFails, Runs, ShelfFails, sits}
 use Rattle.draid_pool.specs.declared.pool.Pool.{Pool}
 use Rattle.draid_run.specs.Crashes.{IsFirmShut, LeavesFirm, crash_came_last}
 use Rattle.draid_run.specs.Desks.{Broken, IsDesk, PoolBroke, PoolDid, Turned, asked_in}
@@ -140,9 +141,10 @@ module _ {R A : Type 0} (rack : racks.Ghosts R) (area : areas.Ghosts A) (choices
     pub lines : List (List ℕ)
     pub replies : List (List Said)
     pub reached : Desk
+    pub journal : List Entry
     pub count_is : length lines ≡ count
     pub desk : IsDesk rack area entry now pool reached
-    pub runs : Runs choices (MayFind rack area entry) (is_some entry.held) first lines replies reached
+    pub runs : Runs choices (MayFind rack area entry) (is_some entry.held) (sits first []) lines replies (sits reached journal)
     pub known : WhereKnown input rest (λ all behind. lines_of all ≡ lines ++ lines_of behind)
     pub printed : Appends start held (texts_of (all_said replies))
     pub unanswered : lines ≡ [] → now ≡ entry
@@ -155,11 +157,12 @@ module _ {R A : Type 0} (rack : racks.Ghosts R) (area : areas.Ghosts A) (choices
     pub replies : List (List Said)
     pub shown : List Said
     pub mid : Desk
+    pub journal : List Entry
     pub last : Desk
     pub broken : Option (List ℕ)
     pub saids : List Said
     pub desk : IsDesk rack area entry now pool last
-    pub runs : Runs choices (MayFind rack area entry) (is_some entry.held) first lines replies mid
+    pub runs : Runs choices (MayFind rack area entry) (is_some entry.held) (sits first []) lines replies (sits mid journal)
     pub breaks : BreaksOff lines ended broken saids mid last
     pub ends : MatchOption input ⊤ (Ends ended broken lines)
     pub shows : Shows ended (all_replies replies saids) shown

@@ -11,7 +11,7 @@ use Rattle.draid_script.specs.declared.fault.LineFault.{LineFault}
 use Rattle.draid_shelf.specs.Kits.{OnHeld}
 use Rattle.draid_session.specs.Certain.{MakesLeaves}
 use Rattle.draid_session.specs.Places.{line_behind}
-use Rattle.draid_session.specs.Session.{Desk, Finding, Fault, Nothing, Untouched, Bare, Made, Open, Shut, Foreign, Unknown, HasLayout}
+use Rattle.draid_session.specs.Session.{Desk, Finding, CheckFault, Fault, Nothing, Untouched, Bare, Made, Open, Shut, Foreign, Unknown, HasLayout}
 use Rattle.draid_session.specs.Session as finding
 use Rattle.draid_session.specs.State.{Metaslab, State}
 use Rattle.draid_pool.specs.Returning.{HoldsPool, SameCounts, AreaFailed, RackFailed, own_count}
@@ -68,10 +68,11 @@ HoldsDesk (Shut crash state) entry now = HoldsShut crash state now
 HoldsDesk (Foreign known) entry now = ⊥
 HoldsDesk Unknown entry now = ⊤
 
--- what an import may find on a shelf that is as it was at the entry, by what that held
+-- What an import may find on a shelf that is as it was at the entry, by what that held. It reads no check record.
 abbrev pub MayFind : {R A : Type 0} → racks.Ghosts R → areas.Ghosts A → OnShelf → Finding → Type 0
 MayFind rack area entry Nothing = HoldsNoGroup entry.held
 MayFind rack area entry (Fault metaslab place kind) = RecordIsBad rack area entry.held entry.leaves entry.counts metaslab place kind
+MayFind rack area entry (CheckFault place kind) = ⊥
 MayFind rack area entry (finding.Pool group called objects) = FindsPool rack area entry.held entry.leaves entry.counts group called objects
 
 -- the shelf tells before and after, or neither

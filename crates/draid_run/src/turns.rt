@@ -1,6 +1,6 @@
 ghost use Rattle.std.specs.Prelude.{◌≡◌, ◌∷◌, ◌++◌, ℕ, Bool, List, length};
 ghost use Rattle.draid_session.specs.Said.{Said};
-ghost use Rattle.draid_session.specs.Session.{Desk, IsAnything, Runs};
+ghost use Rattle.draid_session.specs.Session.{IsAnything, Runs, Sitting};
 ghost use Rattle.draid_pool.specs.Shelves.{OnShelf};
 ghost use Rattle.draid_run.specs.Lines.{IsTurn};
 ghost use Rattle.draid_run.specs.Shelves.{MayFind};
@@ -13,11 +13,11 @@ use draid_session::Decides;
 /// leads to another, with the replies to it, and the lines behind go on from there. So it is with those of a session,
 /// where an import may find anything.
 pub fn each_line_is_a_turn<R: Rack, A: Area, D: Decides>(rack: &R, area: &A, decider: &D)
-    ensures run { (entry : OnShelf) (tells : Bool) (first last : Desk) (front back : List (List ℕ)) (line : List ℕ) (said behind : List (List Said)) (saids : List Said)
+    ensures run { (entry : OnShelf) (tells : Bool) (first last : Sitting) (front back : List (List ℕ)) (line : List ℕ) (said behind : List (List Said)) (saids : List Said)
         → length said ≡ length front
         → Runs (D.choices decider.now) (MayFind R.Rack A.Area entry) tells first (front ++ line ∷ back) (said ++ saids ∷ behind) last
         → IsTurn (D.choices decider.now) (MayFind R.Rack A.Area entry) tells first front said line saids back behind last }
-    ensures session { (tells : Bool) (first last : Desk) (front back : List (List ℕ)) (line : List ℕ) (said behind : List (List Said)) (saids : List Said)
+    ensures session { (tells : Bool) (first last : Sitting) (front back : List (List ℕ)) (line : List ℕ) (said behind : List (List Said)) (saids : List Said)
         → length said ≡ length front
         → Runs (D.choices decider.now) IsAnything tells first (front ++ line ∷ back) (said ++ saids ∷ behind) last
         → IsTurn (D.choices decider.now) IsAnything tells first front said line saids back behind last }
@@ -25,7 +25,7 @@ pub fn each_line_is_a_turn<R: Rack, A: Area, D: Decides>(rack: &R, area: &A, dec
 
 /// Law: the lines of a run are those of a session, of which the laws of sessions speak.
 pub fn runs_are_sessions<R: Rack, A: Area, D: Decides>(rack: &R, area: &A, decider: &D)
-    ensures { (entry : OnShelf) (tells : Bool) (lines : List (List ℕ)) (replies : List (List Said)) (old new : Desk)
+    ensures { (entry : OnShelf) (tells : Bool) (lines : List (List ℕ)) (replies : List (List Said)) (old new : Sitting)
         → Runs (D.choices decider.now) (MayFind R.Rack A.Area entry) tells old lines replies new
         → Runs (D.choices decider.now) IsAnything tells old lines replies new }
 {}

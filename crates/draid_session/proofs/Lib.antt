@@ -30,6 +30,7 @@ pub mod Marked
 pub mod NoPool
 pub mod Nearing
 pub mod Noted
+pub mod Numbered
 pub mod Outliving
 pub mod Parts
 pub mod Passing
@@ -41,6 +42,7 @@ pub mod Raising
 pub mod Reaching
 pub mod Rebuilt
 pub mod Rebuilding
+pub mod Repairing
 pub mod Resuming
 pub mod Reverted
 pub mod Rewound

@@ -17,7 +17,7 @@ use Rattle.draid_session.specs.State.{State, Store}
 use Rattle.draid_session.specs.Staying.{MakesNoPool, Stays}
 use Rattle.draid_session.proofs.Following.{in_open}
 use Rattle.draid_session.proofs.Staying.{line_stays, stays_same}
-use Rattle.draid_session.proofs.Turning.{run_turns}
+use Rattle.draid_session.proofs.Turning.{line_turns}
 use Rattle.draid_session.proofs.WithPool.{open_turns}
 
 -- ---- what befell the checkpoint
@@ -102,7 +102,7 @@ module _ (choices : Choices) (finds : Finding → Type 0) where
       → Keeps old b → Stays x old → HasMade group marks → RunsBeside choices finds true old marks lines replies new left → Stays x new × HasMade group left
   beside [] [] x group old new marks left b none less keeps stays made runs = (subst (Stays x) (sym runs.0) stays, subst (HasMade group) (sym runs.1) made)
   beside (line ∷ lines) (saids ∷ replies) x group old new marks left b none less keeps stays made (mid, some, turns, agrees, goes, runs) =
-      let one = run_turns choices finds (line ∷ []) (saids ∷ []) old mid b keeps (mid, turns, agrees, refl) in
+      let one = line_turns choices finds (line_of line) old mid b saids keeps turns agrees in
       let late = stays_low x old stays in
       beside lines replies x group mid new some left one.book none.1 less one.keeps (line_stays choices finds x old mid b (line_of line) saids none.0 keeps stays turns)
       (made_goes group (committed_at old) marks some (omega (arith, less, late)) made goes) runs

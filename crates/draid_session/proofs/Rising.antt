@@ -1,12 +1,12 @@
 -- The last group that a reply named never goes back.
 use Rattle.std.proofs.Common.{◌≡◌, ◌∙◌, ◌<◌, ◌≤◌, ℕ, zero, suc, List, Option, Some, None, inl, inr, refl, ap, arith}
-use Rattle.draid_script.specs.Line.{Command, WriteObject, FillObjects, FreeObject, ReadObject, SumObjects, SyncPool, ExportPool, CrashPool, CreatePool, ImportPool, DamageSector, TakeOffline, TakeOnline, AttachSpare, ReplaceDisk, DetachArm, RebuildPool, ScrubPool, CancelPasses, RebalanceSlot, UpgradePool, ShowStatus, TakeCheckpoint, DiscardCheckpoint, RewindPool}
+use Rattle.draid_script.specs.Line.{Command, WriteObject, FillObjects, FreeObject, ReadObject, SumObjects, SyncPool, ExportPool, CrashPool, CreatePool, ImportPool, DamageSector, TakeOffline, TakeOnline, AttachSpare, ReplaceDisk, DetachArm, RebuildPool, ScrubPool, CancelPasses, RebalanceSlot, UpgradePool, ShowStatus, TakeCheckpoint, DiscardCheckpoint, RewindPool, RunAgent, ShowJournal}
 use Rattle.draid_script.specs.declared.line.ArmArgument.{ArmArgument}
 use Rattle.draid_script.specs.declared.line.PoolKeys.{PoolKeys}
 use Rattle.draid_script.specs.declared.line.StatusFormat.{StatusFormat}
 use Rattle.draid_script.specs.declared.name.CommandName.TheVariants as name
 use Rattle.draid_reply.specs.declared.reply.Reply.{Reply}
-use Rattle.draid_reply.specs.declared.reply.Reply.TheVariants.{Cancelled, Contents, Crashed, DamageFailed, DamageRefused, DamageWorn, Damaged, DetachLast, DetachRefused, DetachWorn, Detached, Exported, FillRefused, Filled, FreeNoObject, Freed, Last, Missed, NoMemory, NoObject, NoSpace, OfflineDone, OfflineRefused, OfflineWorn, OnlineDone, OnlineRefused, OnlineWorn, PassThere, PoolOpen, ReadWorn, RebalanceLast, RebalanceRefused, RebalanceWorn, Rebalanced, RebuildNothing, Rebuilt, ReplaceRefused, ReplaceWorn, Replaced, Scrubbed, SpareRefused, SpareWorn, Spared, Status, SumRefused, Summed, Synced, Unreadable, UpgradeAlready, Upgraded, Worn, WriteLast, Written, Checkpointed, CheckpointThere, Discarded, NoCheckpoint, Rewound}
+use Rattle.draid_reply.specs.declared.reply.Reply.TheVariants.{Cancelled, Contents, Crashed, DamageFailed, DamageRefused, DamageWorn, Damaged, DetachLast, DetachRefused, DetachWorn, Detached, Exported, FillRefused, Filled, FreeNoObject, Freed, Last, Missed, NoMemory, NoObject, NoSpace, OfflineDone, OfflineRefused, OfflineWorn, OnlineDone, OnlineRefused, OnlineWorn, PassThere, PoolOpen, ReadWorn, RebalanceLast, RebalanceRefused, RebalanceWorn, Rebalanced, RebuildNothing, Rebuilt, ReplaceRefused, ReplaceWorn, Replaced, Scrubbed, SpareRefused, SpareWorn, Spared, Status, SumRefused, Summed, Synced, Unreadable, UpgradeAlready, Upgraded, Worn, WriteLast, Written, Checkpointed, CheckpointThere, Discarded, NoCheckpoint, Rewound, Acted, AgentIdle, Journal}
 use Rattle.draid_session.specs.Book.{Book, NamesKept, OpenAnswers, closed, filled, synced, MayHaveReverted}
 use Rattle.draid_session.specs.Making.{content_of}
 
@@ -201,6 +201,21 @@ module _ (old new : Book) where
   rises_rewind_pool (NoMemory name.Rewind) d = rises_reverted d
   rises_rewind_pool reply d = absurd d
 
+  rises_run_agent : (least : ℕ) (reply : Reply) → OpenAnswers old (RunAgent least) reply new → old.group ≤ new.group
+  rises_run_agent least (Acted parity entries None) d = rises_same old new (ap (λ (b : Book). b.group) d)
+  rises_run_agent least (Acted parity entries (Some errors)) d = rises_same old new (ap (λ (b : Book). b.group) d.2)
+  rises_run_agent least AgentIdle d = rises_same old new (ap (λ (b : Book). b.group) d)
+  rises_run_agent least (PassThere name.Agent metaslab number) d = rises_same old new (ap (λ (b : Book). b.group) d)
+  rises_run_agent least (Worn name.Agent) d = rises_same old new (ap (λ (b : Book). b.group) d.2)
+  rises_run_agent least (Last name.Agent) d = rises_same old new (ap (λ (b : Book). b.group) d.2)
+  rises_run_agent least (NoMemory name.Agent) d = rises_same old new (ap (λ (b : Book). b.group) d.2)
+  rises_run_agent least reply d = absurd d
+
+  rises_show_journal : (reply : Reply) → OpenAnswers old ShowJournal reply new → old.group ≤ new.group
+  rises_show_journal (Journal parity entries) d = rises_same old new (ap (λ (b : Book). b.group) d)
+  rises_show_journal (NoMemory name.Agent) d = rises_same old new (ap (λ (b : Book). b.group) d)
+  rises_show_journal reply d = absurd d
+
   -- no answer where a pool is open takes the last group back that a reply named
   pub group_rises : (command : Command) (reply : Reply) → OpenAnswers old command reply new → old.group ≤ new.group
   group_rises (WriteObject object bytes) reply d = rises_write_object object bytes reply d
@@ -228,4 +243,6 @@ module _ (old new : Book) where
   group_rises TakeCheckpoint reply d = rises_take_checkpoint reply d
   group_rises DiscardCheckpoint reply d = rises_discard_checkpoint reply d
   group_rises RewindPool reply d = rises_rewind_pool reply d
+  group_rises (RunAgent least) reply d = rises_run_agent least reply d
+  group_rises ShowJournal reply d = rises_show_journal reply d
   group_rises command reply d = absurd d

@@ -16,7 +16,7 @@ use Rattle.draid_session.specs.Looks.{AllOf}
 use Rattle.draid_session.specs.Said.{Said, alone}
 use Rattle.draid_session.specs.Places.{Ended, Inside, Outside, Place}
 use Rattle.draid_session.specs.Sections.{BookOn, LaneLine, LaneTurns, OutsideBook, OutsideTurns, PlaceBehind, PlaceBook, PlaceTurns, RunsOn, SectionBook, SectionTurns, with_command}
-use Rattle.draid_session.specs.Session.{Agrees, Bare, Desk, Finding, Foreign, Made, Open, Shut, Unknown, Untouched}
+use Rattle.draid_session.specs.Session.{Agrees, Bare, Desk, Finding, Foreign, Made, Open, Shut, Sitting, Unknown, Untouched}
 use Rattle.draid_session.specs.State.{State}
 use Rattle.draid_session.proofs.Lanewise.{all_both, all_set}
 use Rattle.draid_session.proofs.Sectionkept.{section_keeps}
@@ -109,15 +109,15 @@ module _ (choices : Choices) where
   section_turns Unknown new b lanes saids to plain keeps t = absurd keeps
 
   module _ (finds : Finding → Type 0) where
-    outside_turns : (line : Result Command LineFault) (old new : Desk) (b : Book) (saids : List Said) (to : Place) → Keeps old b → OutsideTurns choices finds line old saids new to → Agrees true new
-        → (book : Book) × OutsideBook line b saids book to × Keeps new book × PlainAt to
+    outside_turns : (line : Result Command LineFault) (old new : Sitting) (b : Book) (saids : List Said) (to : Place) → Keeps old.desk b → OutsideTurns choices finds line old saids new to → Agrees true new.desk
+        → (book : Book) × OutsideBook line b saids book to × Keeps new.desk book × PlainAt to
     outside_turns (Ok (OpenLanes count)) old new b saids to keeps t agrees =
-        (b, (t.0, refl, t.2), subst (λ desk. Keeps desk b) (sym t.1) keeps, subst PlainAt (sym t.2) (plain_new count))
+        (b, (t.0, refl, t.2), subst (λ (s : Sitting). Keeps s.desk b) (sym t.1) keeps, subst PlainAt (sym t.2) (plain_new count))
     outside_turns line old new b saids to keeps t agrees = by line t
       where
-        by : (line : Result Command LineFault) → OutsideTurns choices finds line old saids new to → (book : Book) × OutsideBook line b saids book to × Keeps new book × PlainAt to
-        by (Ok (OpenLanes count)) t = (b, (t.0, refl, t.2), subst (λ desk. Keeps desk b) (sym t.1) keeps, subst PlainAt (sym t.2) (plain_new count))
-        by line t = (let one = line_turns choices finds line old new b saids keeps t.0 agrees in (one.book, (one.answers, t.1), one.keeps, outside_plain to t.1))
+        by : (line : Result Command LineFault) → OutsideTurns choices finds line old saids new to → (book : Book) × OutsideBook line b saids book to × Keeps new.desk book × PlainAt to
+        by (Ok (OpenLanes count)) t = (b, (t.0, refl, t.2), subst (λ (s : Sitting). Keeps s.desk b) (sym t.1) keeps, subst PlainAt (sym t.2) (plain_new count))
+        by line t = (let one = line_turns choices finds line old.desk new.desk b saids keeps t.0.0 agrees in (one.book, (one.answers, t.1), one.keeps, outside_plain to t.1))
 
     lane_turns : (line : Result LaneCommand LineFault) (old new : Desk) (b : Book) (lanes : List (List Command)) (saids : List Said) (to : Place) → AllOf (AllOf IsForLanes) lanes
         → ((lane : ℕ) (command : Command) → line ≡ Ok (InLane lane command) → IsForLanes command) → Keeps old b → LaneTurns choices line old lanes saids new to
@@ -128,12 +128,12 @@ module _ (choices : Choices) where
         (b, (t.0, refl, t.2), subst (λ desk. Keeps desk b) (sym t.1) keeps, subst PlainAt (sym t.2) (plain_with lane command lanes (asks lane command refl) plain))
     lane_turns (Ok SectionEnd) old new b lanes saids to plain asks keeps t = (let s = section_turns old new b lanes saids to plain keeps t in (s.book, s.answers, s.keeps, s.plain))
 
-    place_turns : (from to : Place) (line : List ℕ) (old new : Desk) (b : Book) (saids : List Said) → PlainAt from → Keeps old b → PlaceTurns choices finds from line old saids new to → Agrees true new
-        → NextAt b from line saids new to
+    place_turns : (from to : Place) (line : List ℕ) (old new : Sitting) (b : Book) (saids : List Said) → PlainAt from → Keeps old.desk b → PlaceTurns choices finds from line old saids new to
+        → Agrees true new.desk → NextAt b from line saids new.desk to
     place_turns Outside to line old new b saids plain keeps t agrees =
         (let s = outside_turns (line_of line) old new b saids to keeps t agrees in record { book = s.0; answers = s.1; keeps = s.2; plain = s.3 })
     place_turns (Inside lanes) to line old new b saids plain keeps t agrees =
-        (let s = lane_turns (lane_of (length lanes) line) old new b lanes saids to plain (asks_plain line (length lanes)) keeps t in record { book = s.0; answers = s.1; keeps = s.2; plain = s.3 })
+        (let s = lane_turns (lane_of (length lanes) line) old.desk new.desk b lanes saids to plain (asks_plain line (length lanes)) keeps t.0 in record { book = s.0; answers = s.1; keeps = s.2; plain = s.3 })
     place_turns Ended to line old new b saids plain keeps t agrees = absurd t
 
     -- a book behind all lines
@@ -142,9 +142,9 @@ module _ (choices : Choices) where
       pub answers : BookOn from b lines replies to book
       pub keeps : Keeps new book
 
-    on_turns : (lines : List (List ℕ)) (replies : List (List Said)) (from to : Place) (old new : Desk) (b : Book) → PlainAt from → Keeps old b → RunsOn choices finds true from old lines replies to new
-        → AllOn b from lines replies to new
-    on_turns [] [] from to old new b plain keeps runs = record { book = b; answers = (refl, runs.1); keeps = subst (λ desk. Keeps desk b) (sym runs.0) keeps }
+    on_turns : (lines : List (List ℕ)) (replies : List (List Said)) (from to : Place) (old new : Sitting) (b : Book) → PlainAt from → Keeps old.desk b
+        → RunsOn choices finds true from old lines replies to new → AllOn b from lines replies to new.desk
+    on_turns [] [] from to old new b plain keeps runs = record { book = b; answers = (refl, runs.1); keeps = subst (λ (s : Sitting). Keeps s.desk b) (sym runs.0) keeps }
     on_turns (line ∷ lines) (saids ∷ replies) from to old new b plain keeps (mid, place, turns, agrees, runs) =
         let one = place_turns from place line old mid b saids plain keeps turns agrees in
         let rest = on_turns lines replies place to mid new one.book one.plain one.keeps runs in
@@ -152,6 +152,6 @@ module _ (choices : Choices) where
     on_turns [] (saids ∷ replies) from to old new b plain keeps runs = absurd runs
     on_turns (line ∷ lines) [] from to old new b plain keeps runs = absurd runs
 
-    pub runs_on : (lines : List (List ℕ)) (replies : List (List Said)) (to : Place) (old new : Desk) (b : Book) → Keeps old b → RunsOn choices finds true Outside old lines replies to new
-        → AllOn b Outside lines replies to new
+    pub runs_on : (lines : List (List ℕ)) (replies : List (List Said)) (to : Place) (old new : Sitting) (b : Book) → Keeps old.desk b → RunsOn choices finds true Outside old lines replies to new
+        → AllOn b Outside lines replies to new.desk
     runs_on lines replies to old new b keeps runs = on_turns lines replies Outside to old new b tt keeps runs

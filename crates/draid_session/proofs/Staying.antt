@@ -6,6 +6,7 @@ use Rattle.draid_names.specs.declared.refusal.WriteFault.TheVariants as refusal
 use Rattle.draid_names.specs.declared.room.Room.{Room}
 use Rattle.draid_spec.specs.declared.layout.Geometry.{Geometry}
 use Rattle.draid_perm.specs.declared.perms.Perms.{Perms}
+use Rattle.draid_names.specs.declared.journal.Entry.{Entry}
 use Rattle.draid_objects.specs.Changes.{Change, Freed, Wrote, group_of, kept, object_of, upto, write_of}
 use Rattle.draid_objects.proofs.Finding.{kept_all, kept_later}
 use Rattle.draid_script.specs.Grammar.{line_of}
@@ -31,7 +32,7 @@ use Rattle.draid_session.specs.Looks.{AllOf}
 use Rattle.draid_session.specs.Making.{content_of}
 use Rattle.draid_session.specs.Opening.{Finds, Imports, MayFind}
 use Rattle.draid_session.specs.Said.{Said}
-use Rattle.draid_session.specs.Session.{CarriesOut, Desk, FindsGiven, FindsGivenIf, FindsNoGroup, Finding, IsStill, LeavesState, Open, ReplyTurns, Runs, Shut, ShutTurns, Turns, TurnsBy, desk_behind}
+use Rattle.draid_session.specs.Session.{CarriesOut, Desk, FindsGiven, FindsGivenIf, FindsNoGroup, Finding, IsStill, LeavesState, Open, ReplyTurns, Runs, Shut, ShutTurns, Sitting, Turns, TurnsBy, desk_behind, sits}
 use Rattle.draid_session.specs.State.{State, Store}
 use Rattle.draid_session.specs.Staying.{IsNoCreate, MakesNoPool, MakesNoPoolIn, Stays, StaysIn}
 use Rattle.draid_session.specs.Writes as writes
@@ -41,7 +42,7 @@ use Rattle.draid_session.proofs.Looked.{follows_split}
 use Rattle.draid_session.proofs.Rising.{group_rises}
 use Rattle.draid_session.proofs.Saying.{high, not_low, same_or_low}
 use Rattle.draid_session.proofs.Shelved.{import_fit}
-use Rattle.draid_session.proofs.Turning.{run_turns}
+use Rattle.draid_session.proofs.Turning.{line_turns}
 use Rattle.draid_session.proofs.Unchanged.{same_store}
 use Rattle.draid_session.proofs.WithPool.{Next, open_turns}
 
@@ -373,18 +374,18 @@ module _ (choices : Choices) (finds : Finding → Type 0) where
       by command [] none t = absurd t
       by command (said ∷ other ∷ more) none t = absurd t
 
-  run_stays : (lines : List (List ℕ)) (replies : List (List Said)) (x : State) (old new : Desk) (b : Book) → AllOf MakesNoPool lines → Keeps old b → Stays x old
-      → Runs choices finds true old lines replies new → Stays x new
-  run_stays [] [] x old new b none keeps stays runs = subst (Stays x) (sym runs) stays
+  run_stays : (lines : List (List ℕ)) (replies : List (List Said)) (x : State) (old new : Sitting) (b : Book) → AllOf MakesNoPool lines → Keeps old.desk b → Stays x old.desk
+      → Runs choices finds true old lines replies new → Stays x new.desk
+  run_stays [] [] x old new b none keeps stays runs = subst (λ (s : Sitting). Stays x s.desk) (sym runs) stays
   run_stays (line ∷ lines) (saids ∷ replies) x old new b none keeps stays (mid, turns, agrees, runs) =
-      let one = run_turns choices finds (line ∷ []) (saids ∷ []) old mid b keeps (mid, turns, agrees, refl) in
-      run_stays lines replies x mid new one.book none.1 one.keeps (line_stays x old mid b (line_of line) saids none.0 keeps stays turns) runs
+      let one = line_turns choices finds (line_of line) old.desk mid.desk b saids keeps turns.0 agrees in
+      run_stays lines replies x mid new one.book none.1 one.keeps (line_stays x old.desk mid.desk b (line_of line) saids none.0 keeps stays turns.0) runs
   run_stays [] (saids ∷ replies) x old new b none keeps stays runs = absurd runs
   run_stays (line ∷ lines) [] x old new b none keeps stays runs = absurd runs
 
-  pub pools_stay : (lines : List (List ℕ)) (replies : List (List Said)) (x : State) (new : Desk) (b : Book) → AllOf MakesNoPool lines → Keeps (Open x) b
-      → Runs choices finds true (Open x) lines replies new → Stays x new
-  pools_stay lines replies x new b none keeps runs = run_stays lines replies x (Open x) new b none keeps (stays_same x) runs
+  pub pools_stay : (lines : List (List ℕ)) (replies : List (List Said)) (x : State) (journal : List Entry) (new : Sitting) (b : Book) → AllOf MakesNoPool lines → Keeps (Open x) b
+      → Runs choices finds true (sits (Open x) journal) lines replies new → Stays x new.desk
+  pools_stay lines replies x journal new b none keeps runs = run_stays lines replies x (sits (Open x) journal) new b none keeps (stays_same x) runs
 
 -- ---- a rewind
 

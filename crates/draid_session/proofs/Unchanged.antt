@@ -4,13 +4,13 @@ use Rattle.std.specs.Prelude.{⊤}
 use Rattle.draid_names.specs.declared.refusal.SlotFault.TheVariants as slot_fault
 use Rattle.draid_spec.specs.declared.layout.Geometry.{Geometry}
 use Rattle.draid_perm.specs.declared.perms.Perms.{Perms}
-use Rattle.draid_script.specs.Line.{Command, SyncPool, ExportPool, CrashPool, WriteObject, FillObjects, ReadObject, SumObjects, FreeObject, DamageSector, TakeOffline, TakeOnline, AttachSpare, ReplaceDisk, DetachArm, RebuildPool, ScrubPool, CancelPasses, RebalanceSlot, UpgradePool, ShowStatus, CreatePool, ImportPool, TakeCheckpoint, DiscardCheckpoint, RewindPool}
+use Rattle.draid_script.specs.Line.{Command, SyncPool, ExportPool, CrashPool, WriteObject, FillObjects, ReadObject, SumObjects, FreeObject, DamageSector, TakeOffline, TakeOnline, AttachSpare, ReplaceDisk, DetachArm, RebuildPool, ScrubPool, CancelPasses, RebalanceSlot, UpgradePool, ShowStatus, CreatePool, ImportPool, TakeCheckpoint, DiscardCheckpoint, RewindPool, RunAgent, ShowJournal}
 use Rattle.draid_script.specs.declared.line.ArmArgument.{ArmArgument}
 use Rattle.draid_script.specs.declared.line.PoolKeys.{PoolKeys}
 use Rattle.draid_script.specs.declared.line.StatusFormat.{StatusFormat}
 use Rattle.draid_script.specs.declared.name.CommandName.TheVariants as name
 use Rattle.draid_reply.specs.declared.reply.Reply.{Reply}
-use Rattle.draid_reply.specs.declared.reply.Reply.TheVariants.{Cancelled, Contents, Crashed, DamageFailed, DamageRefused, DamageWorn, Damaged, DetachLast, DetachRefused, DetachWorn, Detached, Exported, Last, NoMemory, NoObject, OfflineDone, OfflineRefused, OfflineWorn, OnlineDone, OnlineRefused, OnlineWorn, PassThere, PoolOpen, ReadWorn, RebalanceLast, RebalanceRefused, RebalanceWorn, Rebalanced, RebuildNothing, Rebuilt, ReplaceRefused, ReplaceWorn, Replaced, Scrubbed, SpareRefused, SpareWorn, Spared, Status, SumRefused, Summed, Synced, Unreadable, UpgradeAlready, Upgraded, Worn}
+use Rattle.draid_reply.specs.declared.reply.Reply.TheVariants.{Cancelled, Contents, Crashed, DamageFailed, DamageRefused, DamageWorn, Damaged, DetachLast, DetachRefused, DetachWorn, Detached, Exported, Last, NoMemory, NoObject, OfflineDone, OfflineRefused, OfflineWorn, OnlineDone, OnlineRefused, OnlineWorn, PassThere, PoolOpen, ReadWorn, RebalanceLast, RebalanceRefused, RebalanceWorn, Rebalanced, RebuildNothing, Rebuilt, ReplaceRefused, ReplaceWorn, Replaced, Scrubbed, SpareRefused, SpareWorn, Spared, Status, SumRefused, Summed, Synced, Unreadable, UpgradeAlready, Upgraded, Worn, Acted, AgentIdle, Journal}
 use Rattle.draid_session.specs.Choices.{Choices}
 use Rattle.draid_session.specs.Does.{Does}
 use Rattle.draid_session.specs.Holds.{Hold}
@@ -150,6 +150,20 @@ module _ (geometry : Geometry) (perms : Perms) (choices : Choices) (old new : St
   same_show_status form (NoMemory name.Status) d = d.0
   same_show_status form reply d = absurd d
 
+  same_run_agent : (least : ℕ) (reply : Reply) → DoesTo (RunAgent least) reply → new ≡ old
+  same_run_agent least (Acted parity entries errors) d = d.0
+  same_run_agent least AgentIdle d = d.0
+  same_run_agent least (PassThere name.Agent metaslab number) d = d.0
+  same_run_agent least (Worn name.Agent) d = d.0
+  same_run_agent least (Last name.Agent) d = d.0
+  same_run_agent least (NoMemory name.Agent) d = d.0
+  same_run_agent least reply d = absurd d
+
+  same_show_journal : (reply : Reply) → DoesTo ShowJournal reply → new ≡ old
+  same_show_journal (Journal parity entries) d = d.0
+  same_show_journal (NoMemory name.Agent) d = d.0
+  same_show_journal reply d = absurd d
+
   same_create_pool : (text : List ℕ) (children : ℕ) (keys : PoolKeys) (reply : Reply) → DoesTo (CreatePool text children keys) reply → new ≡ old
   same_create_pool text children keys (PoolOpen name.Create) d = d.0
   same_create_pool text children keys reply d = absurd d
@@ -179,6 +193,8 @@ module _ (geometry : Geometry) (perms : Perms) (choices : Choices) (old new : St
   same_store (ShowStatus form) reply is d = same_show_status form reply d
   same_store (CreatePool text children keys) reply is d = same_create_pool text children keys reply d
   same_store ImportPool reply is d = same_import_pool reply d
+  same_store (RunAgent least) reply is d = same_run_agent least reply d
+  same_store ShowJournal reply is d = same_show_journal reply d
   same_store (FillObjects first count len seed) reply is d = absurd is
   same_store (FreeObject object) reply is d = absurd is
   same_store (WriteObject object bytes) reply is d = absurd is

@@ -4,7 +4,7 @@ use Rattle.std.specs.List.Sorted.{IsStrictlyIncreasing}
 use Rattle.sha2.specs.Sha256.{sha256}
 use Rattle.draid_names.specs.declared.refusal.ObjectFault.{ObjectFault}
 use Rattle.draid_names.specs.declared.refusal.ObjectFault.TheVariants as fault
-use Rattle.draid_script.specs.Line.{Command, Silent, CreatePool, ImportPool, ExportPool, SyncPool, CancelPasses, CrashPool, WriteObject, FillObjects, ReadObject, FreeObject, SumObjects, TakeOffline, TakeOnline, DamageSector, AttachSpare, ReplaceDisk, DetachArm, RebuildPool, ScrubPool, RebalanceSlot, ShowStatus, TakeCheckpoint, UpgradePool, DiscardCheckpoint, RewindPool}
+use Rattle.draid_script.specs.Line.{Command, Silent, CreatePool, ImportPool, ExportPool, SyncPool, CancelPasses, CrashPool, WriteObject, FillObjects, ReadObject, FreeObject, SumObjects, TakeOffline, TakeOnline, DamageSector, AttachSpare, ReplaceDisk, DetachArm, RebuildPool, ScrubPool, RebalanceSlot, ShowStatus, TakeCheckpoint, UpgradePool, DiscardCheckpoint, RewindPool, RunAgent, ShowJournal}
 use Rattle.draid_script.specs.declared.fault.LineFault.{LineFault}
 use Rattle.draid_script.specs.declared.line.StatusFormat.{StatusFormat}
 use Rattle.draid_script.specs.declared.line.StatusFormat.TheVariants as format
@@ -13,7 +13,7 @@ use Rattle.draid_report.specs.Text.{text_of}
 use Rattle.draid_report.specs.Tree.{json_of}
 use Rattle.draid_report.specs.declared.view.View.{View}
 use Rattle.draid_reply.specs.declared.reply.Reply.{Reply}
-use Rattle.draid_reply.specs.declared.reply.Reply.TheVariants.{NoPool, PoolOpen, NoMemory, Worn, Last, PassThere, Created, CreateRefused, Imported, Exported, Crashed, Synced, Written, NoSpace, Missed, WriteLast, Filled, FillRefused, Contents, NoObject, Unreadable, ReadWorn, Summed, SumRefused, Freed, FreeNoObject, Damaged, DamageRefused, DamageFailed, DamageWorn, OfflineDone, OfflineRefused, OfflineWorn, OnlineDone, OnlineRefused, OnlineWorn, Spared, SpareRefused, SpareWorn, Replaced, ReplaceRefused, ReplaceWorn, Detached, DetachRefused, DetachWorn, DetachLast, Rebuilt, RebuildNothing, Scrubbed, Rebalanced, RebalanceRefused, RebalanceWorn, RebalanceLast, Cancelled, Status, Upgraded, UpgradeAlready, Checkpointed, CheckpointThere, Discarded, NoCheckpoint, Rewound}
+use Rattle.draid_reply.specs.declared.reply.Reply.TheVariants.{NoPool, PoolOpen, NoMemory, Worn, Last, PassThere, Created, CreateRefused, Imported, Exported, Crashed, Synced, Written, NoSpace, Missed, WriteLast, Filled, FillRefused, Contents, NoObject, Unreadable, ReadWorn, Summed, SumRefused, Freed, FreeNoObject, Damaged, DamageRefused, DamageFailed, DamageWorn, OfflineDone, OfflineRefused, OfflineWorn, OnlineDone, OnlineRefused, OnlineWorn, Spared, SpareRefused, SpareWorn, Replaced, ReplaceRefused, ReplaceWorn, Detached, DetachRefused, DetachWorn, DetachLast, Rebuilt, RebuildNothing, Scrubbed, Rebalanced, RebalanceRefused, RebalanceWorn, RebalanceLast, Cancelled, Status, Upgraded, UpgradeAlready, Checkpointed, CheckpointThere, Discarded, NoCheckpoint, Rewound, Acted, AgentIdle, Journal}
 use Rattle.draid_session.specs.Said.{Said}
 use Rattle.draid_session.specs.Making.{content_of}
 use Rattle.draid_session.specs.Places.{Outside, Place, line_at, place_after, place_behind}
@@ -181,8 +181,8 @@ MayHaveSynced old new = (untold : ℕ) × (old.untold ≤ untold) × (new ≡ re
 abbrev pub MayHaveReverted : Book → Book → Type 0
 MayHaveReverted old new = (new ≡ doubtful old) ⊎ ((objects : Objects) × (new ≡ doubtful (reverted objects old)))
 
--- What a command does where a pool is open. One that changes arms or the version, and a pass, changes no object; a detachment and an upgrade end with a sync, a rebuild and a
--- rebalance may commit groups of which they don't tell, and the others name no group.
+-- What a command does where a pool is open. One that changes arms or the version, and a pass, changes no object; a detachment and an upgrade end with a sync, a rebuild, a
+-- rebalance and an agent that rebuilds may commit groups of which they don't tell, and the others name no group.
 abbrev pub OpenAnswers : Book → Command → Reply → Book → Type 0
 OpenAnswers old (WriteObject object bytes) (Written o) new = (o ≡ object) × (new ≡ changed object (Some bytes) old)
 OpenAnswers old (WriteObject object bytes) (NoSpace o run disabled full worn) new = (o ≡ object) × (new ≡ old)
@@ -281,6 +281,15 @@ OpenAnswers old RewindPool (NoCheckpoint name.Rewind) new = new ≡ old
 OpenAnswers old RewindPool (Worn name.Rewind) new = MayHaveReverted old new
 OpenAnswers old RewindPool (Last name.Rewind) new = MayHaveReverted old new
 OpenAnswers old RewindPool (NoMemory name.Rewind) new = MayHaveReverted old new
+OpenAnswers old (RunAgent least) (Acted parity entries None) new = new ≡ old
+OpenAnswers old (RunAgent least) (Acted parity entries (Some errors)) new = MayHaveSynced old new
+OpenAnswers old (RunAgent least) AgentIdle new = new ≡ old
+OpenAnswers old (RunAgent least) (PassThere name.Agent metaslab number) new = new ≡ old
+OpenAnswers old (RunAgent least) (Worn name.Agent) new = MayHaveSynced old new
+OpenAnswers old (RunAgent least) (Last name.Agent) new = MayHaveSynced old new
+OpenAnswers old (RunAgent least) (NoMemory name.Agent) new = MayHaveSynced old new
+OpenAnswers old ShowJournal (Journal parity entries) new = new ≡ old
+OpenAnswers old ShowJournal (NoMemory name.Agent) new = new ≡ old
 OpenAnswers old command reply new = ⊥
 
 -- What it does where none is. Where an import says that there is no pool, none is found till one is made.
@@ -324,7 +333,7 @@ AnswersAll old lines replies new = AnswersAt Outside old lines replies new
 
 -- ---- the end of a run
 
--- A failing device ends the run in a command, which has no reply: of a sync, an export, a detachment or an upgrade a group may be there, of a rebuild some; another change of arms and an import change no object;
+-- A failing device ends the run in a command, which has no reply: of a sync, an export, a detachment or an upgrade a group may be there, of a rebuild and an agent some; another change of arms and an import change no object;
 -- and a create leaves what it does for want of memory. No other command breaks off.
 abbrev pub OpenBreaks : Book → Command → Book → Type 0
 OpenBreaks old SyncPool new = new ≡ doubtful old
@@ -340,6 +349,7 @@ OpenBreaks old UpgradePool new = new ≡ doubtful old
 OpenBreaks old TakeCheckpoint new = new ≡ doubtful old
 OpenBreaks old DiscardCheckpoint new = new ≡ doubtful old
 OpenBreaks old RewindPool new = MayHaveReverted old new
+OpenBreaks old (RunAgent least) new = MayHaveSynced old new
 OpenBreaks old command new = ⊥
 
 abbrev pub ShutBreaks : Book → Command → Book → Type 0

@@ -15,7 +15,7 @@ use Rattle.draid_session.specs.Lanes.{Clashes, Section}
 use Rattle.draid_session.specs.Places.{Ended, Inside, Outside, Place, line_at}
 use Rattle.draid_session.specs.Replies.{IsReplyTo}
 use Rattle.draid_session.specs.Said.{Said, alone}
-use Rattle.draid_session.specs.Session.{Agrees, Desk, Finding, Foreign, MayBreak, Open, TurnsBy}
+use Rattle.draid_session.specs.Session.{Agrees, Desk, Finding, Foreign, MayBreak, Open, Sitting, SittingTurns}
 use Rattle.draid_session.specs.State.{State}
 
 -- ---- reading
@@ -137,20 +137,21 @@ module _ (choices : Choices) where
 
   module _ (finds : Finding → Type 0) where
     -- one outside opens a section, or has its replies
-    abbrev pub OutsideTurns : Result Command LineFault → Desk → List Said → Desk → Place → Type 0
+    abbrev pub OutsideTurns : Result Command LineFault → Sitting → List Said → Sitting → Place → Type 0
     OutsideTurns (Ok (OpenLanes count)) old saids new place = (saids ≡ []) × (new ≡ old) × (place ≡ opened_lanes count)
-    OutsideTurns line old saids new place = TurnsBy choices finds line old saids new × (place ≡ Outside)
+    OutsideTurns line old saids new place = SittingTurns choices finds line old saids new × (place ≡ Outside)
 
-    abbrev pub PlaceTurns : Place → List ℕ → Desk → List Said → Desk → Place → Type 0
+    -- no lane has an agent, so the journal stays
+    abbrev pub PlaceTurns : Place → List ℕ → Sitting → List Said → Sitting → Place → Type 0
     PlaceTurns Outside line old saids new place = OutsideTurns (line_at Outside line) old saids new place
-    PlaceTurns (Inside lanes) line old saids new place = LaneTurns (lane_of (length lanes) line) old lanes saids new place
+    PlaceTurns (Inside lanes) line old saids new place = LaneTurns (lane_of (length lanes) line) old.desk lanes saids new.desk place × (new.journal ≡ old.journal)
     PlaceTurns Ended line old saids new place = ⊥
 
     -- The lines were answered by the replies to each, one after another, from one place to another.
-    abbrev pub RunsOn : Bool → Place → Desk → List (List ℕ) → List (List Said) → Place → Desk → Type 0
+    abbrev pub RunsOn : Bool → Place → Sitting → List (List ℕ) → List (List Said) → Place → Sitting → Type 0
     RunsOn tells from old [] [] to new = (new ≡ old) × (to ≡ from)
     RunsOn tells from old (line ∷ lines) (saids ∷ replies) to new =
-        (mid : Desk) × (place : Place) × PlaceTurns from line old saids mid place × Agrees tells mid × RunsOn tells place mid lines replies to new
+        (mid : Sitting) × (place : Place) × PlaceTurns from line old saids mid place × Agrees tells mid.desk × RunsOn tells place mid lines replies to new
     RunsOn tells from old lines replies to new = ⊥
 
 -- ---- the book

@@ -1,3 +1,4 @@
+use draid_agent::Policy;
 use draid_choose::Chooser;
 use draid_names::Room;
 
@@ -32,5 +33,27 @@ impl<F: Fn(&[Room]) -> Option<u32>> Decides for Chooser<F> {
 
     fn pick(&self, rooms: &[Room]) -> Option<u32> {
         Chooser::pick(self, rooms)
+    }
+}
+
+/// A chooser of rooms, and a policy of spares.
+pub struct Deciders<'a, F: Fn(&[Room]) -> Option<u32>, P: Fn(u32, u64, &[u32]) -> Option<u32>> {
+    pub chooser: &'a Chooser<F>,
+    pub policy: &'a Policy<P>,
+}
+
+impl<'a, F: Fn(&[Room]) -> Option<u32>, P: Fn(u32, u64, &[u32]) -> Option<u32>> Decides
+    for Deciders<'a, F, P> {
+    ghost use Rattle.std.specs.Fn.{FnReturnsAt};
+    ghost use Rattle.draid_agent.specs.Policy.{IsPolicy, PolicyReturns};
+    ghost use Rattle.draid_choose.specs.Rooms.{IsChooser};
+    ghost use Rattle.draid_session.specs.Choices.{choices_with};
+
+    ghost choices = { λ d. choices_with (FnReturnsAt F.Fn d.chooser.now) (PolicyReturns P.Fn d.policy.now) };
+
+    ghost ready = { λ d. IsChooser F.Fn d.chooser.now × IsPolicy P.Fn d.policy.now };
+
+    fn pick(&self, rooms: &[Room]) -> Option<u32> {
+        self.chooser.pick(rooms)
     }
 }

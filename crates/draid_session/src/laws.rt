@@ -8,10 +8,12 @@ ghost use Rattle.draid_machine.specs.Arms.{HasEmptyLog};
 ghost use Rattle.draid_map.specs.Place.{IsLayout};
 ghost use Rattle.draid_machine.specs.State as machine;
 ghost use Rattle.draid_machine.specs.declared.names.ArmName.{ArmName};
+ghost use Rattle.draid_names.specs.declared.journal.Entry.{Entry};
 ghost use Rattle.draid_objects.specs.Changes.{Write, write_of, group_of};
 ghost use Rattle.draid_reply.specs.declared.reply.Reply.{Reply};
 ghost use Rattle.draid_script.specs.Line.{Command, CrashPool, FreeObject, ImportPool, ReadObject, RebuildPool, ScrubPool, ShowStatus, SyncPool, WriteObject, RewindPool, TakeCheckpoint};
 ghost use Rattle.draid_script.specs.declared.line.StatusFormat.{StatusFormat};
+ghost use Rattle.draid_session.specs.Agent.{AreNumbered};
 ghost use Rattle.draid_session.specs.Bearing.{AreIdle, AreUnhurt, FailsNoCall, FailsNoFetch, GoOffline, HaveFewBroken, HaveNoPass, IsPoolWhole, IsSteady, IsWanted, IsWholeBut, Failure, OutlivesAll, ShowsWholeBut, Uses};
 ghost use Rattle.draid_objects.specs.Marks.{Mark};
 ghost use Rattle.draid_session.specs.Checkpoints.{GoesBackTo};
@@ -38,7 +40,7 @@ ghost use Rattle.draid_session.specs.Resuming.{IsFirstRebuilt, TakesUpPass, stan
 ghost use Rattle.draid_session.specs.Rewinding.{GoesBackIn, MakesCheck, RunsBeside};
 ghost use Rattle.draid_session.specs.Rooms.{FitsNowhere, stripes_for};
 ghost use Rattle.draid_session.specs.Said.{Said};
-ghost use Rattle.draid_session.specs.Session.{Agrees, Bare, Breaks, BreaksOpen, CarriesOut, Cause, Desk, IsAnything, Made, Open, RecordFails, Runs, left_of};
+ghost use Rattle.draid_session.specs.Session.{Agrees, Bare, Breaks, BreaksOpen, CarriesOut, Cause, Desk, IsAnything, Made, Open, RecordFails, Runs, Sitting, left_of, sits};
 ghost use Rattle.draid_session.specs.State.{Metaslab, State, Store};
 ghost use Rattle.draid_session.specs.Staying.{MakesNoPool, Stays};
 ghost use Rattle.draid_session.specs.Undisturbed.{HaveNoErrors, IsCalmInScrub, IsUndisturbed, WentWell};
@@ -112,15 +114,15 @@ pub fn lanes_may_interleave()
 /// Law: over a shelf that tells what it holds, lines are answered as a book has it: which objects there are, with their
 /// bytes, what a group keeps of them, and what an import finds. It is blank where there is no pool.
 pub fn sessions_keep_the_book<D: Decides>(decider: &D)
-    ensures from_blank { (lines : List (List ℕ)) (replies : List (List Said)) (last : Desk)
-        → Runs (D.choices decider.now) IsAnything true Bare lines replies last
+    ensures from_blank { (lines : List (List ℕ)) (replies : List (List Said)) (journal : List Entry) (last : Sitting)
+        → Runs (D.choices decider.now) IsAnything true (sits Bare journal) lines replies last
         → (book : Book) × AnswersAll blank lines replies book }
 
     ensures bare { Keeps Bare blank }
     ensures made { (failed : ℕ) (geometry : Geometry) → Keeps (Made true failed geometry) blank }
-    ensures goes_on { (lines : List (List ℕ)) (replies : List (List Said)) (old new : Desk) (book : Book)
-        → Keeps old book → Runs (D.choices decider.now) IsAnything true old lines replies new
-        → (later : Book) × AnswersAll book lines replies later × Keeps new later }
+    ensures goes_on { (lines : List (List ℕ)) (replies : List (List Said)) (old new : Sitting) (book : Book)
+        → Keeps old.desk book → Runs (D.choices decider.now) IsAnything true old lines replies new
+        → (later : Book) × AnswersAll book lines replies later × Keeps new.desk later }
 {}
 
 /// Law: over a shelf that tells what it holds, a section is answered as a book has it, whichever of their commands its
@@ -130,9 +132,9 @@ pub fn sections_keep_the_book<D: Decides>(decider: &D)
     ensures section { (commands : List (List Command)) (replies : List (List Reply)) (old new : State) (book : Book)
         → AllOf (AllOf IsForLanes) commands → Keeps (Open old) book → Section old (D.choices decider.now) commands replies new
         → (later : Book) × AnswersSection book commands replies later × Keeps (Open new) later }
-    ensures lines { (lines : List (List ℕ)) (replies : List (List Said)) (to : Place) (old new : Desk) (book : Book)
-        → Keeps old book → RunsOn (D.choices decider.now) IsAnything true Outside old lines replies to new
-        → (later : Book) × BookOn Outside book lines replies to later × Keeps new later }
+    ensures lines { (lines : List (List ℕ)) (replies : List (List Said)) (to : Place) (old new : Sitting) (book : Book)
+        → Keeps old.desk book → RunsOn (D.choices decider.now) IsAnything true Outside old lines replies to new
+        → (later : Book) × BookOn Outside book lines replies to later × Keeps new.desk later }
 {}
 
 /// Law: of each lane of a section a group keeps a beginning. What an import may find behind a section is what it might have
@@ -192,6 +194,13 @@ pub fn undisturbed_scrubs_are_whole<D: Decides>(decider: &D)
         → HaveNoErrors old → AllOf (IsCalmInScrub old.geometry old.perms) it.holds → AllOf WentWell it.holds }
 {}
 
+/// Law: the entries of a run's journal are numbered from 1 on, whatever becomes of its pools.
+#[tactic(auto, using(crate::proofs::Numbered::runs_numbered))]
+pub fn journals_are_numbered<D: Decides>(decider: &D)
+    ensures { (tells : Bool) (lines : List (List ℕ)) (replies : List (List Said)) (old new : Sitting)
+        → Runs (D.choices decider.now) IsAnything tells old lines replies new → AreNumbered 1 old.journal → AreNumbered 1 new.journal }
+{}
+
 /// Law: in a session a group leaves the log of an arm only once each segment of a block that was born in it is present
 /// there. So it is in each hold of a command, where legal histories give the states of the metaslabs that it finds; and
 /// they give those that it leaves, so that this is so behind each line.
@@ -200,8 +209,8 @@ pub fn groups_leave_logs_once_present<D: Decides>(alloc: Global, decider: &D)
         → AreReached old → AllOf (LeavesPresent old.geometry old.perms) it.holds × AreReached new }
     ensures broken { (command : Command) (old new : State) → (it : BreaksOpen command old new)
         → AreReached old → AllOf (LeavesPresent old.geometry old.perms) it.holds × AreReached new }
-    ensures lines { (tells : Bool) (lines : List (List ℕ)) (replies : List (List Said)) (old new : Desk)
-        → Runs (D.choices decider.now) IsAnything tells old lines replies new → DeskReached old → DeskReached new }
+    ensures lines { (tells : Bool) (lines : List (List ℕ)) (replies : List (List Said)) (old new : Sitting)
+        → Runs (D.choices decider.now) IsAnything tells old lines replies new → DeskReached old.desk → DeskReached new.desk }
     ensures breaks { (cause : Cause) (old new : Desk) (command : Command) → Breaks cause old command new → DeskReached old → DeskReached new }
     ensures left { (desk : Desk) → DeskReached desk → DeskReached (left_of desk) }
 {}
@@ -278,15 +287,15 @@ pub fn few_broken_slots_are_rebuilt<D: Decides>(decider: &D)
 /// Law: what a committed group keeps of the objects of a pool stays, whatever lines come but for one that makes a pool: over
 /// passes, refused syncs, crashes and imports.
 pub fn committed_groups_stay<D: Decides>(decider: &D)
-    ensures { (lines : List (List ℕ)) (replies : List (List Said)) (x : State) (new : Desk) (book : Book)
-        → Keeps (Open x) book → AllOf MakesNoPool lines → Runs (D.choices decider.now) IsAnything true (Open x) lines replies new → Stays x new }
+    ensures { (lines : List (List ℕ)) (replies : List (List Said)) (x : State) (journal : List Entry) (new : Sitting) (book : Book)
+        → Keeps (Open x) book → AllOf MakesNoPool lines → Runs (D.choices decider.now) IsAnything true (sits (Open x) journal) lines replies new → Stays x new.desk }
 {}
 
 /// Law: behind a rewind each object has just what it had as the checkpoint's group was committed, whatever lines came between.
 pub fn rewinds_go_back<D: Decides>(decider: &D)
-    ensures { (lines : List (List ℕ)) (replies : List (List Said)) (x y : State) (book : Book) (marks : List Mark) (group : ℕ) (new : Store)
+    ensures { (lines : List (List ℕ)) (replies : List (List Said)) (x y : State) (journal later : List Entry) (book : Book) (marks : List Mark) (group : ℕ) (new : Store)
         → Keeps (Open x) book → All (λ c. group_of c ≤ x.committed) x.store.changes → AllOf MakesNoPool lines
-        → Runs (D.choices decider.now) IsAnything true (Open x) lines replies (Open y)
+        → Runs (D.choices decider.now) IsAnything true (sits (Open x) journal) lines replies (sits (Open y) later)
         → (it : GoesBackTo marks group y.store new) → it.check.group ≡ x.committed → (object : ℕ) → write_of new.changes object ≡ write_of x.store.changes object }
 {}
 

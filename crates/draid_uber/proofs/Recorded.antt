@@ -1,12 +1,14 @@
 -- What a crash leaves of the check records as a group is committed.
-use Rattle.std.proofs.Common.{arith, ◌≡◌, ◌≤◌, ◌<◌, ◌==◌, ◌+◌, ◌%◌, ◌^◌, ℕ, Bool, true, false, List, [], ◌∷◌, ◌++◌, Option, Some, None, Ok, drop, length, option_map, refl, sym, ◌∙◌, ap, subst, if◌then◌else◌}
+use Rattle.std.proofs.Common.{arith, ◌≡◌, ◌≤◌, ◌<◌, ◌==◌, ◌+◌, ◌%◌, ◌^◌, ℕ, Bool, true, false, List, [], ◌∷◌, ◌++◌, Option, Some, None, Result, Ok, Err, IfOk, OnOk, drop, length, option_map, refl, sym, ◌∙◌, ap, subst, if◌then◌else◌}
 use Rattle.std.specs.Prelude.{⊤, All, Contains, MatchOption}
 use Rattle.std.proofs.lemmas.Bool.Decides.{nat_tests}
 use Rattle.std.proofs.lemmas.List.Elements.{All-cons, All-contains_itself, All-nil, All-weaker, Contains-append_right}
-use Rattle.draid_area.specs.Area.{Content, OnTold, flushes, writes}
-use Rattle.draid_area.specs.Moments.{CrashesTold}
+use Rattle.draid_area.specs.Area.{Content, IsOfSize, MayLeave, OnTold, flushes, writes}
+use Rattle.draid_area.specs.Moments.{CrashesTold, IsCrashOutcome}
 use Rattle.draid_area.proofs.Moments.{crash_left, leaves_all}
-use Rattle.draid_record.specs.Checks.{check_bytes, check_of}
+use Rattle.draid_record.specs.Checks.{AnswersCheck, check_bytes, check_of, told_check}
+use Rattle.draid_record.specs.declared.checks.CheckBody.{CheckBody}
+use Rattle.draid_record.specs.declared.fault.RecordFault.{RecordFault}
 use Rattle.draid_record.specs.declared.checks.Dropped.{Dropped}
 use Rattle.draid_record.specs.declared.uber.UberBody.{UberBody}
 use Rattle.draid_record.proofs.Checked.{check_again}
@@ -207,3 +209,14 @@ module _ {A : Type 0} (told : A → Option Content) (kept : Option UberBody) (bo
 -- what a commit writes is by the uberblock's layout, version and next leaf
 pub next_same : {A : Type 0} (u v : Uber A) (group : ℕ) → layout_of v ≡ layout_of u → version_of v ≡ version_of u → next_leaf_of v ≡ next_leaf_of u → next_of v group ≡ next_of u group
 next_same u v group layout version leaf = λ i. record { group = group; spec = (layout i).spec; props = with_version (layout i).props (version i); next_leaf = leaf i }
+
+-- ---- a record that is read
+
+pub check_read : (r : Result CheckBody RecordFault) (group : ℕ) (bytes : List ℕ) → (length bytes ≡ 0 → ⊥) → AnswersCheck r (check_of group bytes) → IfOk r (λ it. check_in group bytes ≡ Ok (told_check it))
+check_read r group [] some answers = absurd (some refl)
+check_read (Ok it) group (byte ∷ bytes) some answers = answers
+check_read (Err e) group (byte ∷ bytes) some answers = tt
+
+-- what a crash may leave of an area is what it has, too
+here_check : (group n : ℕ) (x : Content) → IsOfSize n x → CheckStands group x → check_in group x.bytes ≡ Ok no_check
+here_check group n x size stands = stands x.bytes (record { same = λ i d soft. refl; least = size.firm; most = omega arith })

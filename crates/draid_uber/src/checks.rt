@@ -1,15 +1,28 @@
 //! The check record of a group, in the area of its parity.
-ghost use Rattle.std.specs.Prelude.{◌≡◌, ◌≤◌, ◌%◌, ℕ, IsErrOf, OnOk, option_map};
+ghost use Rattle.std.specs.Prelude.{◌≡◌, ◌≤◌, ◌%◌, ℕ, Ok, Err, IfOk, IsErrOf, OnOk, length, option_map};
 ghost use Rattle.draid_area.specs.Area.{Counts, OnTold, flushes, writes};
 ghost use Rattle.draid_names.specs.Faults.{Rose};
-ghost use Rattle.draid_names.specs.declared.fault.DeviceFault.{DeviceFault};
-ghost use Rattle.draid_uber.specs.Checks.{CheckStands, check_area, count_in};
+ghost use Rattle.draid_record.specs.Checks.{told_check};
+ghost use Rattle.draid_record.specs.declared.fault.RecordFaultKind.{RecordFaultKind};
+ghost use Rattle.draid_record.specs.declared.fault.RecordFault.TheVariants.{Bad};
+ghost use Rattle.draid_uber.specs.Checks.{CheckStands, check_area, check_in, count_in};
 
 use crate::areas::Areas;
 use draid_area::Area;
 use draid_names::DeviceFault;
-use draid_record::{CheckBody, write_check};
+use draid_names::NoMemory;
+use draid_record::{CheckBody, RecordFault, RecordFaultKind, read_check, write_check};
 use std::alloc::Global;
+
+/// Why no check record was read.
+#[derive(Clone, Copy)]
+pub enum CheckFault {
+    /// The area failed, and its count rose.
+    Area,
+    NoMemory,
+    /// The first field that has a fault begins at byte `at` of the area.
+    Record { at: u64, kind: RecordFaultKind },
+}
 
 /// Puts bytes at the front of an area, and flushes it.
 fn put_front<A: Area>(area: &mut A, bytes: &[u8]) -> Result<(), DeviceFault>
@@ -41,5 +54,67 @@ pub(crate) fn put_check<A: Area>(
         put_front(&mut areas.even, &bytes)
     } else {
         put_front(&mut areas.odd, &bytes)
+    }
+}
+
+/// So many bytes.
+fn zeros(alloc: Global, len: usize) -> Result<Vec<u8>, NoMemory>
+    ensures { IfOk result (λ bytes. length bytes.items ≡ len) }
+{
+    Ok(vec![in alloc; 0; len]?)
+}
+
+/// The bytes of an area.
+fn read_all<A: Area>(alloc: Global, area: &mut A) -> Result<Vec<u8>, DeviceFault>
+    ensures told { A.told area.new ≡ A.told area.old }
+    ensures bytes { IfOk result (λ bytes. OnTold (A.told area.old) (λ x. bytes.items ≡ x.bytes)) }
+    ensures size { A.size area.new ≡ A.size area.old }
+    ensures later { A.faults area.old ≤ A.faults area.new }
+    ensures cause { IsErrOf result DeviceFault.Failed → Rose (A.faults area.old) (A.faults area.new) }
+{
+    let Ok(mut bytes) = zeros(alloc, area.length() as usize) else {
+        return Err(DeviceFault::NoMemory);
+    };
+    area.read(0, &mut bytes)?;
+    Ok(bytes)
+}
+
+/// What bytes have of a group's checkpoint.
+fn check_of(alloc: Global, bytes: &[u8], group: u64) -> Result<CheckBody, RecordFault>
+    ensures found { IfOk result (λ it. check_in group bytes.now ≡ Ok (told_check it)) }
+    ensures faulty { (place : ℕ) (kind : RecordFaultKind) → result ≡ Err (Bad place kind) → check_in group bytes.now ≡ Err (Bad place kind) }
+{
+    if bytes.is_empty() {
+        return Ok(CheckBody {
+            group: 0,
+            drops: Vec::new(alloc),
+        });
+    }
+    read_check(alloc, bytes, group)
+}
+
+/// What an area has of a group's checkpoint.
+pub(crate) fn read_of<A: Area>(
+    alloc: Global,
+    area: &mut A,
+    group: u64,
+) -> Result<CheckBody, CheckFault>
+    ensures told { A.told area.new ≡ A.told area.old }
+    ensures found { IfOk result (λ it. OnTold (A.told area.old) (λ x. check_in group x.bytes ≡ Ok (told_check it))) }
+    ensures faulty { (place : ℕ) (kind : RecordFaultKind) → IsErrOf result (CheckFault.Record place kind)
+        → OnTold (A.told area.old) (λ x. check_in group x.bytes ≡ Err (Bad place kind)) }
+    ensures size { A.size area.new ≡ A.size area.old }
+    ensures later { A.faults area.old ≤ A.faults area.new }
+    ensures cause { IsErrOf result CheckFault.Area → Rose (A.faults area.old) (A.faults area.new) }
+{
+    let bytes = match read_all(alloc, area) {
+        Ok(bytes) => bytes,
+        Err(DeviceFault::Failed) => return Err(CheckFault::Area),
+        Err(DeviceFault::NoMemory) => return Err(CheckFault::NoMemory),
+    };
+    match check_of(alloc, &bytes, group) {
+        Ok(body) => Ok(body),
+        Err(RecordFault::Bad { at, kind }) => Err(CheckFault::Record { at, kind }),
+        Err(RecordFault::NoMemory) => Err(CheckFault::NoMemory),
     }
 }

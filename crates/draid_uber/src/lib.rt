@@ -11,6 +11,7 @@ mod steps;
 mod uber;
 
 pub use areas::Areas;
+pub use checks::CheckFault;
 pub use draid_names::DeviceFault;
 pub use laws::crashes_leave_what_stands;
 pub use uber::{Uber, UberFault, UberRefused};

@@ -1,4 +1,4 @@
-ghost use Rattle.std.specs.Prelude.{◌≡◌, ◌≤◌, ◌∷◌, [], ℕ, List, None, Ok, Some, IfErr, IfOk, IsErrOf, IsOk, IsSome, IsSomeAnd, OnErr, OnOk, option_map};
+ghost use Rattle.std.specs.Prelude.{◌≡◌, ◌≤◌, ◌∷◌, [], ℕ, List, None, Ok, Err, Some, IfErr, IfOk, IsErrOf, IsOk, IsSome, IsSomeAnd, OnErr, OnOk, option_map};
 ghost use Rattle.draid_record.specs.Uber.{IsUber};
 ghost use Rattle.draid_area.specs.Area.{Counts, OnTold, flushes};
 ghost use Rattle.draid_area.specs.Moments.{ElapsesTold};
@@ -9,12 +9,12 @@ ghost use Rattle.draid_spec.specs.Geometry.{IsGeometry};
 ghost use Rattle.draid_uber.specs.Uber.{IsWhy};
 
 use crate::areas::Areas;
-use crate::checks::put_check;
+use crate::checks::{CheckFault, put_check, read_of};
 use crate::slots::{chosen, layout};
 use crate::steps::{clear, write};
 use draid_area::Area;
 use draid_names::DeviceFault;
-use draid_record::{RecordFault, RecordFaultKind, UberBody};
+use draid_record::{CheckBody, RecordFault, RecordFaultKind, UberBody};
 use draid_spec::Geometry;
 use std::alloc::Global;
 
@@ -73,7 +73,10 @@ impl<A: Area> Uber<A> {
     ghost use Rattle.draid_uber.specs.Held.{IsNext};
     ghost use Rattle.draid_uber.specs.Steps.{IsSameOrFlushed};
     ghost use Rattle.draid_uber.specs.Slots.{StandsTold, chosen_of, group_of};
-    ghost use Rattle.draid_uber.specs.Checks.{AreasStand, LeavesAny, told_by};
+    ghost use Rattle.draid_record.specs.Checks.{told_check};
+    ghost use Rattle.draid_record.specs.declared.fault.RecordFaultKind.{RecordFaultKind};
+    ghost use Rattle.draid_record.specs.declared.fault.RecordFault.TheVariants.{Bad};
+    ghost use Rattle.draid_uber.specs.Checks.{AreasStand, LeavesAny, check_area, check_in, told_by};
     ghost use Rattle.draid_uber.specs.Uber.{layout_in, next_of, Finds, IsNewArea, Valid, area_of, areas_of, count_of, kept_of, layout_of, next_leaf_of, version_of};
 
     /// The uberblock of a new pool, of which nothing is committed yet. A crash leaves no open gate.
@@ -273,6 +276,33 @@ impl<A: Area> Uber<A> {
         self.shut(group)?;
         put_check(self.alloc, &mut self.areas, group)?;
         self.commit(group)
+    }
+
+    /// What the check record of the committed group tells. One to whose area nothing was written says that there is no
+    /// checkpoint.
+    pub fn check(&mut self) -> Result<CheckBody, CheckFault>
+        requires valid { Valid A.size self.old }
+        ensures valid { Valid A.size self.new }
+        ensures found { IfOk result (λ it. OnTold (A.told (check_area (areas_of self.old) (group_of (kept_of self.old))))
+            (λ x. check_in (group_of (kept_of self.old)) x.bytes ≡ Ok (told_check it))) }
+        ensures faulty { (place : ℕ) (kind : RecordFaultKind) → IsErrOf result (CheckFault.Record place kind)
+            → OnTold (A.told (check_area (areas_of self.old) (group_of (kept_of self.old))))
+            (λ x. check_in (group_of (kept_of self.old)) x.bytes ≡ Err (Bad place kind)) }
+        ensures told { told_by A.told (areas_of self.new) ≡ told_by A.told (areas_of self.old) }
+        ensures uber { area_of self.new ≡ area_of self.old }
+        ensures kept { kept_of self.new ≡ kept_of self.old }
+        ensures layout { layout_of self.new ≡ layout_of self.old }
+        ensures version { version_of self.new ≡ version_of self.old }
+        ensures leaf { next_leaf_of self.new ≡ next_leaf_of self.old }
+        ensures later { count_of A.faults self.old ≤ count_of A.faults self.new }
+        ensures cause { IsErrOf result CheckFault.Area → Rose (count_of A.faults self.old) (count_of A.faults self.new) }
+    {
+        let group = self.committed();
+        if group % 2 == 0 {
+            read_of(self.alloc, &mut self.areas.even, group)
+        } else {
+            read_of(self.alloc, &mut self.areas.odd, group)
+        }
     }
 
     /// Has the next commit write version 2.

@@ -10,6 +10,7 @@ pub mod MendSteps
 pub mod MendThrough
 pub mod Mended
 pub mod OwnGoes
+pub mod Replied
 pub mod ScrubEnds
 pub mod SwitchArms
 pub mod SwitchFails

@@ -1,4 +1,5 @@
 pub mod Failing
+pub mod Job
 pub mod Lanes
 pub mod Mended
 pub mod Switched

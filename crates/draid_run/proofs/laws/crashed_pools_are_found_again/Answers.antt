@@ -1,5 +1,5 @@
-use Rattle.std.proofs.Common.{◌∷◌, ◌++◌, subst, true}
-use Rattle.draid_session.specs.Session.{Agrees, Runs}
+use Rattle.std.proofs.Common.{[], ◌∷◌, ◌++◌, subst, true}
+use Rattle.draid_session.specs.Session.{Agrees, Runs, sits}
 use Rattle.draid_run.specs.Shelves.{MayFind}
 use Rattle.draid_run.proofs.Next.{again}
 use Rattle.draid_run.proofs.Runs.{shelf_agrees}
@@ -10,7 +10,9 @@ returns g c words status input old new entry now first it tells holds known fron
     let choices = g.D.Decides.choices c.args.decider.now in
     let finds = MayFind g.R.Rack g.A.Area entry in
     let s = it.session in
-    let told = subst (λ b. Runs choices finds b first s.lines s.replies s.mid) tells s.runs in
-    let lined = subst (λ ls. Runs choices finds true first ls s.replies s.mid) lines told in
-    let runs = subst (λ rs. Runs choices finds true first (front ++ (crash ∷ import ∷ back)) rs s.mid) replies lined in
-    again choices finds crash import back called group objects behind s.mid is_crash is_import front said first same known (subst (λ b. Agrees b first) tells (shelf_agrees first entry entry holds)) runs
+    let start = sits first [] in
+    let mid = sits s.mid s.journal in
+    let told = subst (λ b. Runs choices finds b start s.lines s.replies mid) tells s.runs in
+    let lined = subst (λ ls. Runs choices finds true start ls s.replies mid) lines told in
+    let runs = subst (λ rs. Runs choices finds true start (front ++ (crash ∷ import ∷ back)) rs mid) replies lined in
+    again choices finds crash import back called group objects behind mid is_crash is_import front said start same known (subst (λ b. Agrees b first) tells (shelf_agrees first entry entry holds)) runs
