@@ -1,5 +1,5 @@
 -- What the repair agent did: spares that came, a rebuild and a scrub, one behind the other.
-use Rattle.std.proofs.Common.{◌≡◌, ◌≢◌, ◌+◌, ◌++◌, ◌∙◌, ℕ, Bool, true, false, List, [], Option, Some, None, Result, Ok, Err, append_assoc, ap, inl, inr, length, refl, subst, sym}
+use Rattle.std.proofs.Common.{arith, ◌≡◌, ◌≢◌, ◌+◌, ◌++◌, ◌∙◌, ℕ, Bool, true, false, List, [], Option, Some, None, Result, Ok, Err, OnOk, append_assoc, ap, inl, inr, length, refl, subst, sym}
 use Rattle.std.specs.Prelude.{slice_get}
 use Rattle.std.proofs.lemmas.List.{append-nil}
 use Rattle.draid_names.specs.declared.journal.Entry.{Entry}
@@ -20,7 +20,7 @@ use Rattle.draid_pool.specs.Pools.{Represents}
 use Rattle.draid_pool.specs.declared.fault.SyncFault.{SyncFault}
 use Rattle.draid_pool.specs.declared.fault.SyncFault.TheVariants as sync
 use Rattle.draid_pool.specs.declared.pool.Pool.{Pool}
-use Rattle.draid_changes.specs.Agent.{GiveDoes, GiveStarves, GiveStops}
+use Rattle.draid_changes.specs.Agent.{AddsEntries, GiveDoes, GiveStarves, GiveStops}
 use Rattle.draid_changes.specs.declared.agent.GiveFault.{GiveFault}
 use Rattle.draid_changes.specs.declared.agent.GiveFault.TheVariants as fault
 use Rattle.draid_visits.specs.Rebuilding.{RebuildDoes, RebuildIs, RunsWhere, ScrubDoes, ScrubIs, stopped_by}
@@ -29,7 +29,7 @@ use Rattle.draid_visits.specs.declared.rebuilding.MendFault.{MendFault}
 use Rattle.draid_visits.specs.declared.rebuilding.MendFault.TheVariants as mending
 use Rattle.draid_visits.specs.declared.rebuilding.Mended.{Mended}
 use Rattle.draid_visits.proofs.Leading.{Steps, steps_as, steps_then}
-use Rattle.draid_run.specs.Repairing.{EndsBy, HealEnds, IsStop, RebuildEnds, RepairEnds, RepairHalts, ScrubEnds}
+use Rattle.draid_run.specs.Repairing.{EndsBy, HealEnds, IsStop, RebuildEnds, RepairEnds, RepairHalts, RepairNotes, ScrubEnds}
 
 -- ---- the passes of the pool
 
@@ -206,3 +206,57 @@ module _ {R A : Type 0} (rack : racks.Ghosts R) (area : areas.Ghosts A) (chosen 
       by (fault.Stopped sync.Last) holds store d = (d.0, ([], same d.1, stops_of x (length before + 1) holds WasLast d.2))
       by (fault.Stopped sync.Shelf) holds store d = (d.0, ([], same d.1, stops_of x (length before + 1) holds Broke d.2))
       by (fault.Stopped sync.NoMemory) holds store d = (d.0, ([], same d.1, starves_of x (length before + 1) holds d.2))
+
+-- ---- by a device of the pool
+
+abbrev refused : SyncFault → Result ℕ SyncFault
+refused why = Err why
+
+pub refused_same : (a b : SyncFault) → refused a ≡ refused b → a ≡ b
+refused_same a b is = cc is
+
+-- it stopped a rebuild where it stopped the whole
+pub shelf_ended : (given : MendFault) (result : Result ℕ SyncFault) → EndsBy given result → result ≡ Err sync.Shelf → given ≡ mending.Shelf
+shelf_ended mending.Nothing (Ok errors) is same = absurd (cc same)
+shelf_ended given (Ok errors) is same = absurd is
+shelf_ended given (Err why) is same = is ∙ ap stopped_by (refused_same why sync.Shelf same)
+
+-- it never stops a scrub
+pub scrub_no_shelf : {R A : Type 0} (why : SyncFault) (given : MendFault) (old new : Pool R A) → given ≡ stopped_by why → ScrubIs (Err given) old new → why ≡ sync.Shelf → ⊥
+scrub_no_shelf {R} {A} why given old new is passes same = subst (λ f. ScrubIs {R} {A} (Err f) old new) (is ∙ ap stopped_by same) passes
+
+-- behind a rebuild that found nothing to do there is no pass
+pub rebuild_idle : {R A : Type 0} (given : MendFault) (result : Result ℕ SyncFault) (old new : Pool R A) → EndsBy given result → RebuildIs (Err given) old new → OnOk result (NoPasses new)
+rebuild_idle mending.Nothing (Ok errors) old new is passes = passes.1.idle
+rebuild_idle given (Ok errors) old new is passes = absurd is
+rebuild_idle given (Err why) old new is passes = tt
+
+-- ---- the journal
+
+-- no entry came
+pub no_entries : (before after : List Entry) → after ≡ before → AddsEntries before after
+no_entries before after same = record { more = []; are = same ∙ sym (append-nil before); numbered = tt; few = omega arith }
+
+-- whatever came of it, some entries may have come
+pub some_entries : (answer : Result (Option AgentErrors) GiveFault) (before after : List Entry) → RepairNotes answer before after → AddsEntries before after
+some_entries (Ok errors) before after notes = notes
+some_entries (Err fault.Idle) before after notes = no_entries before after notes
+some_entries (Err (fault.PassThere metaslab number)) before after notes = no_entries before after notes
+some_entries (Err (fault.Stopped why)) before after notes = notes
+
+-- where no spare came for what was refused
+pub refused_notes : (why : GiveFault) (before after : List Entry) → after ≡ before → RepairNotes (Err why) before after
+refused_notes fault.Idle before after same = same
+refused_notes (fault.PassThere metaslab number) before after same = same
+refused_notes (fault.Stopped why) before after same = no_entries before after same
+
+-- ---- the same refusal
+
+abbrev ended : GiveFault → Result (Option AgentErrors) GiveFault
+ended why = Err why
+
+pub ended_same : (a b : GiveFault) → ended a ≡ ended b → a ≡ b
+ended_same a b is = cc is
+
+pub stopped_same : (a b : SyncFault) → ended (fault.Stopped a) ≡ ended (fault.Stopped b) → a ≡ b
+stopped_same a b is = cc is
