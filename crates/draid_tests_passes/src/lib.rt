@@ -1,8 +1,9 @@
-//! Tests of rebuilds, scrubs and rebalances that are stopped, or of which a device call fails. It offers nothing.
+//! Tests of rebuilds, scrubs, rebalances and repairs that are stopped, or of which a device call fails. It offers nothing.
 
 #![tactic(auto)]
 
 #[cfg(test)]
+mod agents;
 mod rebalances;
 #[cfg(test)]
 mod rebuilds;
