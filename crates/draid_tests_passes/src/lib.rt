@@ -4,6 +4,7 @@
 
 #[cfg(test)]
 mod agents;
+#[cfg(test)]
 mod rebalances;
 #[cfg(test)]
 mod rebuilds;
