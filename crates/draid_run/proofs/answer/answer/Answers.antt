@@ -76,7 +76,7 @@ returns-in-Agent g c = record {
   answer = λ entry x desk.
       subst (λ (l : Line). AnswerIs g.H.R.Rack g.H.A.Area (choices_with (FnReturnsAt g.F.Fn c.args.chooser.now) (PolicyReturns g.P.Fn c.args.policy.now)) c.args.journal.now.entries c.ask_agent.new.journal.entries (command_in l) entry (on_shelf g.H.Shelf c.args.shelf.now) c.args.pool.now x (on_shelf g.H.Shelf c.args.shelf.now) c.ask_agent.new.pool c.said-in-Agent.result) (sym c.in-Agent.is)
       (answer_agent g.H.R.Rack g.H.A.Area (FnReturnsAt g.F.Fn c.args.chooser.now) (PolicyReturns g.P.Fn c.args.policy.now) c.in-Agent.least c.args.journal.now.entries c.ask_agent.new.journal.entries entry (on_shelf g.H.Shelf c.args.shelf.now) c.args.pool.now x desk c.ask_agent.new.pool c.ask_agent.result c.said-in-Agent.result c.said-in-Agent.ensures
-      (c.ask_agent.ensures x desk.stands));
+      (c.ask_agent.ensures.did x desk.stands));
   later = same_later (g.H.Shelf.faults c.args.shelf.now);
 }
 
