@@ -18,7 +18,7 @@ use Rattle.draid_shard.proofs.Among.{has_behind, has_cases, has_first, has_nothi
 use Rattle.draid_agent.specs.Due.{cause_of, due_by, dues}
 use Rattle.draid_agent.specs.declared.states.Due.{Due}
 use Rattle.draid_disks.specs.Checks.{missed_over}
-use Rattle.draid_session.specs.Agent.{AreDueFrom, AreFreeAt, Gets, GivesFrom, IsDue, IsntDue, WasGiven, logged_of}
+use Rattle.draid_session.specs.Agent.{AreDueFrom, AreFreeAt, AreNumbered, Gets, GivesFrom, IsDue, IsntDue, WasGiven, logged_of}
 use Rattle.draid_session.specs.Arms as arms
 use Rattle.draid_session.specs.Holds.{View}
 use Rattle.draid_session.specs.State.{State}
@@ -89,6 +89,12 @@ pub gives_long : (chosen : ℕ → ℕ → List ℕ → Option ℕ → Type 0) (
 gives_long chosen Idle spares given number [] entries gives = ap length gives
 gives_long chosen Idle spares given number (d ∷ ds) entries (e, rest, are, for, got, behind) =
     (let long = ap length are in let more = gives_long chosen Idle spares (given ++ e ∷ []) (number + 1) ds rest behind in omega (arith, long, more))
+
+-- they have the numbers from one on
+pub gives_numbered : (chosen : ℕ → ℕ → List ℕ → Option ℕ → Type 0) (Idle : ℕ → Type 0) (spares : ℕ) (given : List Entry) (number : ℕ) (ds : List Due) (entries : List Entry) → GivesTo chosen Idle spares given number ds entries → AreNumbered number entries
+gives_numbered chosen Idle spares given number [] entries gives = subst (AreNumbered number) (sym gives) tt
+gives_numbered chosen Idle spares given number (d ∷ ds) entries (e, rest, are, for, got, behind) =
+    subst (AreNumbered number) (sym are) (for.0, gives_numbered chosen Idle spares (given ++ e ∷ []) (number + 1) ds rest behind)
 
 pub spared_came : (entries : List Entry) → list_any (λ (e : Entry). is_spared e.did) entries ≡ true → (spare : ℕ) × WasGiven spare entries
 spared_came [] is = absurd_test false is refl

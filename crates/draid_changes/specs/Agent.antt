@@ -1,9 +1,9 @@
 -- What the repair agent's call on the arms of a pool says by its answer.
-use Rattle.std.specs.Prelude.{◌≡◌, ◌≢◌, ◌+◌, ◌<◌, ◌++◌, ◌⊎◌, ℕ, Bool, true, false, List, [], Option, Result, Ok, Err, length}
+use Rattle.std.specs.Prelude.{◌≡◌, ◌≢◌, ◌+◌, ◌<◌, ◌≤◌, ◌++◌, ◌⊎◌, ℕ, Bool, true, false, List, [], Option, Result, Ok, Err, length}
 use Rattle.draid_names.specs.declared.journal.Entry.{Entry}
 use Rattle.draid_spec.specs.declared.layout.Geometry.{Geometry}
 use Rattle.draid_session.specs.Agent as agent
-use Rattle.draid_session.specs.Agent.{AreDueFrom, AttachesAll, Gives, IsntDue, SomeCame}
+use Rattle.draid_session.specs.Agent.{AreDueFrom, AreNumbered, AttachesAll, Gives, IsntDue, SomeCame}
 use Rattle.draid_session.specs.Arms.{HasPass, ReservePhase}
 use Rattle.draid_session.specs.Groups.{Finishes}
 use Rattle.draid_session.specs.Holds.{Hold, View}
@@ -64,3 +64,21 @@ module _ (x : State) (chosen : ℕ → ℕ → List ℕ → Option ℕ → Type 
   GiveDoes (Err (fault.PassThere metaslab number)) after holds new = (new ≡ x.store) × (after ≡ before) × agent.FindsPass x.geometry x.perms chosen holds metaslab number
   GiveDoes (Err (fault.Stopped sync.NoMemory)) after holds new = (new ≡ x.store) × (after ≡ before) × GiveStarves holds
   GiveDoes (Err (fault.Stopped why)) after holds new = (new ≡ x.store) × (after ≡ before) × GiveStops holds (end_of {T = ℕ} (Err why))
+
+-- ---- the journal, whatever is known of the pool
+
+-- a pool has no more slots
+abbrev pub most_slots : ℕ
+most_slots = 64
+
+-- Some entries came behind those that the journal had, with the numbers behind theirs, and no more than a pool has slots.
+pub record AddsEntries (before after : List Entry) : Type 0 where
+  pub more : List Entry
+  pub are : after ≡ before ++ more
+  pub numbered : AreNumbered (length before + 1) more
+  pub few : length more ≤ most_slots
+
+-- by the answer
+abbrev pub EntriesAre : Result Bool GiveFault → List Entry → List Entry → Type 0
+EntriesAre (Ok came) before after = AddsEntries before after
+EntriesAre (Err why) before after = after ≡ before

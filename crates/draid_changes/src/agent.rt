@@ -13,7 +13,7 @@ ghost use Rattle.draid_pool.specs.Pointers.{SamePointers};
 ghost use Rattle.draid_pool.specs.Pools.{Represents};
 ghost use Rattle.draid_pool.specs.Syncing.{AreIdle};
 ghost use Rattle.draid_pool.specs.Whole.{IsWhole};
-ghost use Rattle.draid_changes.specs.Agent.{DueDoes, GiveDoes};
+ghost use Rattle.draid_changes.specs.Agent.{DueDoes, EntriesAre, GiveDoes};
 ghost use Rattle.draid_changes.specs.Balancing.{HasNoPass};
 ghost use Rattle.draid_changes.specs.Dues.{AreFree, IsIdleIn};
 ghost use Rattle.draid_changes.specs.Giving.{GaveTo, HaveRoom, SlotsAscend, is_spared};
@@ -57,6 +57,7 @@ pub fn give<R: Rack, A: Area, P: Fn(u32, u64, &[u32]) -> Option<u32>>(
     ensures later { AreasLater A.faults pool.old pool.new }
     ensures cause { result ≡ Err (GiveFault.Stopped SyncFault.Shelf) → AreaRose A.faults pool.old pool.new }
     ensures passes { OnOk result (HasNoPass pool.new) }
+    ensures entries { EntriesAre result journal.old.entries journal.new.entries }
     ensures carries { (x : State) → Represents R.Rack A.Area pool.old x
         → CarriesOut R.Rack A.Area pool.new x (GiveDoes x (PolicyReturns P.Fn policy.now) least journal.old.entries result journal.new.entries) }
 {
@@ -86,6 +87,7 @@ fn give_due<R: Rack, A: Area, P: Fn(u32, u64, &[u32]) -> Option<u32>>(
     ensures later { AreasLater A.faults pool.old pool.new }
     ensures not_shelf { result ≡ Err (GiveFault.Stopped SyncFault.Shelf) → ⊥ }
     ensures passes { HasNoPass pool.new }
+    ensures entries { EntriesAre result journal.old.entries journal.new.entries }
     ensures carries { (x : State) → Represents R.Rack A.Area pool.old x
         → CarriesOut R.Rack A.Area pool.new x (DueDoes x (PolicyReturns P.Fn policy.now) least journal.old.entries result journal.new.entries) }
 {

@@ -5,9 +5,11 @@
 mod sessions;
 
 ghost use Rattle.std.specs.Prelude.{◌≤◌, length};
+ghost use Rattle.draid_agent.specs.Policy.{Names};
 ghost use Rattle.draid_choose.specs.Rooms.{Picks, most_rooms};
 
 use crate::sessions::run_program;
+use draid_agent::{Policy, first_free};
 use draid_choose::{Chooser, first_fit};
 use draid_files::{Input, Output};
 use draid_names::Room;
@@ -41,6 +43,19 @@ fn main(rt: HostRuntime) -> ExitCode {
             ensures { Picks rooms.now result }
         { first_fit(rooms) },
     );
+    let policy = Policy::new(
+        |slot: u32, logged: u64, free: &[u32]| -> Option<u32>
+            ensures { Names free.now result }
+        { first_free(slot, logged, free) },
+    );
     let words = words_or_fault(&rt);
-    run_program(&rt, &rt, words, &mut source, &mut sink, &chooser)
+    run_program(
+        &rt,
+        &rt,
+        words,
+        &mut source,
+        &mut sink,
+        &chooser,
+        &policy,
+    )
 }

@@ -3,15 +3,17 @@ ghost use Rattle.std.specs.Prelude.{◌≡◌, ◌⊎◌, ℕ, List, Vec, IfErr,
 ghost use Rattle.std.specs.Fn.{FnReturnsAt};
 ghost use Rattle.std.specs.Io.KnownBytes.{IsAtEnd};
 ghost use Rattle.std.specs.Process.{exit_status};
+ghost use Rattle.draid_agent.specs.Policy.{IsPolicy, PolicyReturns};
 ghost use Rattle.draid_choose.specs.Rooms.{IsChooser};
 ghost use Rattle.draid_faults.specs.declared.crash.CrashRule.{CrashRule};
 ghost use Rattle.draid_files.specs.Folders.{path_of};
 ghost use Rattle.draid_shelf.specs.Failing.{is_planned, lists_of, no_lists, rule_of};
 ghost use Rattle.draid_shelf.specs.Memory.{HoldsNothing};
-ghost use Rattle.draid_session.specs.Choices.{choices_by};
+ghost use Rattle.draid_session.specs.Choices.{choices_with};
 ghost use Rattle.draid_pool.specs.Shelves.{on_shelf};
 ghost use Rattle.draid_program.specs.Program.{EndsBy, EndsByBook, EndsByRun, NamesFolder, unread};
 
+use draid_agent::Policy;
 use draid_area::Area;
 use draid_choose::Chooser;
 use draid_files::{FileArea, FileRack, FileShelf};
@@ -50,6 +52,7 @@ fn run_on<
     S: Source,
     K: Sink,
     F: Fn(&[Room]) -> Option<u32>,
+    P: Fn(u32, u64, &[u32]) -> Option<u32>,
     A: AllocGlobal + Threads + Sync,
 >(
     rt: &A,
@@ -58,12 +61,14 @@ fn run_on<
     source: &mut S,
     sink: &mut K,
     chooser: &Chooser<F>,
+    policy: &Policy<P>,
 ) -> ExitCode
     requires chooser { IsChooser F.Fn chooser.now }
-    ensures run { EndsByRun H.R.Rack H.A.Area (choices_by (FnReturnsAt F.Fn chooser.now)) (map string_bytes words.now) result (S.left source.old) (K.held sink.old) (K.held sink.new) (on_shelf H.Shelf shelf.old) (on_shelf H.Shelf shelf.new) }
+    requires policy { IsPolicy P.Fn policy.now }
+    ensures run { EndsByRun H.R.Rack H.A.Area (choices_with (FnReturnsAt F.Fn chooser.now) (PolicyReturns P.Fn policy.now)) (map string_bytes words.now) result (S.left source.old) (K.held sink.old) (K.held sink.new) (on_shelf H.Shelf shelf.old) (on_shelf H.Shelf shelf.new) }
     ensures done { exit_status result ≡ 0 → IsAtEnd (S.left source.new) }
 {
-    let status = run(rt, words, shelf, source, sink, chooser);
+    let status = run(rt, words, shelf, source, sink, chooser, policy);
     ExitCode::from(status.code())
 }
 
@@ -82,14 +87,23 @@ fn run_in_memory<
     S: Source,
     K: Sink,
     F: Fn(&[Room]) -> Option<u32>,
+    P: Fn(u32, u64, &[u32]) -> Option<u32>,
     A: AllocGlobal + Threads + Sync,
->(rt: &A, words: &[String], source: &mut S, sink: &mut K, chooser: &Chooser<F>) -> ExitCode
+>(
+    rt: &A,
+    words: &[String],
+    source: &mut S,
+    sink: &mut K,
+    chooser: &Chooser<F>,
+    policy: &Policy<P>,
+) -> ExitCode
     requires chooser { IsChooser F.Fn chooser.now }
+    requires policy { IsPolicy P.Fn policy.now }
     ensures book { EndsByBook (map string_bytes words.now) result (S.left source.old) (K.held sink.old) (K.held sink.new) }
     ensures done { exit_status result ≡ 0 → IsAtEnd (S.left source.new) }
 {
     let mut shelf = new_shelf(rt.alloc());
-    run_on(rt, words, &mut shelf, source, sink, chooser)
+    run_on(rt, words, &mut shelf, source, sink, chooser, policy)
 }
 
 /// Runs the script of the source for these words over the folder of this name, and exits with the status of the run.
@@ -97,6 +111,7 @@ fn run_in_folder<
     S: Source,
     K: Sink,
     F: Fn(&[Room]) -> Option<u32>,
+    P: Fn(u32, u64, &[u32]) -> Option<u32>,
     A: AllocGlobal + Threads + Sync,
 >(
     files: &HostRuntime,
@@ -106,42 +121,52 @@ fn run_in_folder<
     source: &mut S,
     sink: &mut K,
     chooser: &Chooser<F>,
+    policy: &Policy<P>,
 ) -> ExitCode
     requires chooser { IsChooser F.Fn chooser.now }
+    requires policy { IsPolicy P.Fn policy.now }
     ensures run { (entry now : FileShelf) × (path_of entry ≡ string_bytes path)
-        × EndsByRun ⟦<FileRack as Rack>⟧ ⟦<FileArea as Area>⟧ (choices_by (FnReturnsAt F.Fn chooser.now)) (map string_bytes words.now) result (S.left source.old) (K.held sink.old) (K.held sink.new) (on_shelf ⟦<FileShelf as Shelf>⟧ entry) (on_shelf ⟦<FileShelf as Shelf>⟧ now) }
+        × EndsByRun ⟦<FileRack as Rack>⟧ ⟦<FileArea as Area>⟧ (choices_with (FnReturnsAt F.Fn chooser.now) (PolicyReturns P.Fn policy.now)) (map string_bytes words.now) result (S.left source.old) (K.held sink.old) (K.held sink.new) (on_shelf ⟦<FileShelf as Shelf>⟧ entry) (on_shelf ⟦<FileShelf as Shelf>⟧ now) }
     ensures done { exit_status result ≡ 0 → IsAtEnd (S.left source.new) }
 {
     let mut shelf = FileShelf::new(files, path);
-    run_on(rt, words, &mut shelf, source, sink, chooser)
+    run_on(rt, words, &mut shelf, source, sink, chooser, policy)
 }
 
 /// Runs the script of the source as the words ask for it, in memory or in a folder. Where there is no memory to read
 /// them, it says so.
-fn run_words<S: Source, K: Sink, F: Fn(&[Room]) -> Option<u32>, A: AllocGlobal + Threads + Sync>(
+fn run_words<
+    S: Source,
+    K: Sink,
+    F: Fn(&[Room]) -> Option<u32>,
+    P: Fn(u32, u64, &[u32]) -> Option<u32>,
+    A: AllocGlobal + Threads + Sync,
+>(
     files: &HostRuntime,
     rt: &A,
     words: &[String],
     source: &mut S,
     sink: &mut K,
     chooser: &Chooser<F>,
+    policy: &Policy<P>,
 ) -> ExitCode
     requires chooser { IsChooser F.Fn chooser.now }
+    requires policy { IsPolicy P.Fn policy.now }
     ensures memory { ((path : List ℕ) → NamesFolder (map string_bytes words.now) path → ⊥)
         → EndsByBook (map string_bytes words.now) result (S.left source.old) (K.held sink.old) (K.held sink.new) }
     ensures folder { (path : List ℕ) → NamesFolder (map string_bytes words.now) path
         → ((entry now : FileShelf) × (path_of entry ≡ path)
-        × EndsByRun ⟦<FileRack as Rack>⟧ ⟦<FileArea as Area>⟧ (choices_by (FnReturnsAt F.Fn chooser.now)) (map string_bytes words.now) result (S.left source.old) (K.held sink.old) (K.held sink.new) (on_shelf ⟦<FileShelf as Shelf>⟧ entry) (on_shelf ⟦<FileShelf as Shelf>⟧ now))
+        × EndsByRun ⟦<FileRack as Rack>⟧ ⟦<FileArea as Area>⟧ (choices_with (FnReturnsAt F.Fn chooser.now) (PolicyReturns P.Fn policy.now)) (map string_bytes words.now) result (S.left source.old) (K.held sink.old) (K.held sink.new) (on_shelf ⟦<FileShelf as Shelf>⟧ entry) (on_shelf ⟦<FileShelf as Shelf>⟧ now))
         ⊎ EndsBy Status.NoMemory result (K.held sink.old) (K.held sink.new) }
     ensures done { exit_status result ≡ 0 → IsAtEnd (S.left source.new) }
 {
     match read_words(rt.alloc(), words) {
         Ok(Mode::Session { dir: Some(path) }) => {
-            run_in_folder(files, rt, words, path, source, sink, chooser)
+            run_in_folder(files, rt, words, path, source, sink, chooser, policy)
         }
         // Over a shelf in memory `run` might read the words, and run the session of a folder.
         Err(WordsFault::NoMemory) => end_by(rt.alloc(), sink, Status::NoMemory),
-        _ => run_in_memory(rt, words, source, sink, chooser),
+        _ => run_in_memory(rt, words, source, sink, chooser, policy),
     }
 }
 
@@ -151,6 +176,7 @@ pub(crate) fn run_program<
     S: Source,
     K: Sink,
     F: Fn(&[Room]) -> Option<u32>,
+    P: Fn(u32, u64, &[u32]) -> Option<u32>,
     A: AllocGlobal + Threads + Sync,
 >(
     files: &HostRuntime,
@@ -159,19 +185,21 @@ pub(crate) fn run_program<
     source: &mut S,
     sink: &mut K,
     chooser: &Chooser<F>,
+    policy: &Policy<P>,
 ) -> ExitCode
     requires chooser { IsChooser F.Fn chooser.now }
+    requires policy { IsPolicy P.Fn policy.now }
     ensures unread { IfErr words (λ fault. EndsBy (unread fault) result (K.held sink.old) (K.held sink.new)) }
     ensures memory { IfOk words (λ words. ((path : List ℕ) → NamesFolder (map string_bytes words.items) path → ⊥)
         → EndsByBook (map string_bytes words.items) result (S.left source.old) (K.held sink.old) (K.held sink.new)) }
     ensures folder { IfOk words (λ words. (path : List ℕ) → NamesFolder (map string_bytes words.items) path
         → ((entry now : FileShelf) × (path_of entry ≡ path)
-        × EndsByRun ⟦<FileRack as Rack>⟧ ⟦<FileArea as Area>⟧ (choices_by (FnReturnsAt F.Fn chooser.now)) (map string_bytes words.items) result (S.left source.old) (K.held sink.old) (K.held sink.new) (on_shelf ⟦<FileShelf as Shelf>⟧ entry) (on_shelf ⟦<FileShelf as Shelf>⟧ now))
+        × EndsByRun ⟦<FileRack as Rack>⟧ ⟦<FileArea as Area>⟧ (choices_with (FnReturnsAt F.Fn chooser.now) (PolicyReturns P.Fn policy.now)) (map string_bytes words.items) result (S.left source.old) (K.held sink.old) (K.held sink.new) (on_shelf ⟦<FileShelf as Shelf>⟧ entry) (on_shelf ⟦<FileShelf as Shelf>⟧ now))
         ⊎ EndsBy Status.NoMemory result (K.held sink.old) (K.held sink.new)) }
     ensures done { exit_status result ≡ 0 → IsAtEnd (S.left source.new) }
 {
     match words {
-        Ok(words) => run_words(files, rt, &words, source, sink, chooser),
+        Ok(words) => run_words(files, rt, &words, source, sink, chooser, policy),
         Err(fault) => end_by(rt.alloc(), sink, unread_status(fault)),
     }
 }

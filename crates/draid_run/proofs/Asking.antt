@@ -1,5 +1,7 @@
 -- What a line comes to that asks something of the pool that is open.
 use Rattle.std.proofs.Common.{[], ◌≡◌, IfOk, ℕ, Bool, List, Option, Some, None, Result, Ok, Err, ap, refl, sym, subst, Vec, Global}
+use Rattle.std.proofs.lemmas.List.{append-nil}
+use Rattle.draid_names.specs.declared.journal.Entry.{Entry}
 use Rattle.draid_rack.specs.declared.Rack as racks
 use Rattle.draid_area.specs.declared.Area as areas
 use Rattle.draid_script.specs.Line.{Command, Silent, CrashPool, CreatePool, ReadObject, FreeObject, SumObjects, DamageSector, AttachSpare, ShowStatus, DetachArm, SyncPool, UpgradePool, command_in, RebuildPool, ScrubPool, RebalanceSlot, ReplaceDisk, CancelPasses, ImportPool, ExportPool, WriteObject, FillObjects, TakeOffline, TakeOnline, OpenLanes, RunAgent, ShowJournal, TakeCheckpoint, RewindPool, DiscardCheckpoint}
@@ -35,6 +37,7 @@ use Rattle.draid_pool.specs.Shelves.{OnShelf}
 use Rattle.draid_run.specs.Shelves.{MayFind}
 use Rattle.draid_run.specs.declared.answer.Stop.{Stop}
 use Rattle.draid_run.specs.declared.answer.Stop.TheVariants as stop
+use Rattle.draid_run.proofs.Runs.{ask_notes}
 use Rattle.draid_run.proofs.Said.{cancel_does, rebalance_does, rebuild_does, scrub_does, damage_does, detach_does, free_does, read_does, spare_does, status_does, sum_does, switch_does, switch_line, sync_does, upgrade_does, replace_does}
 use Rattle.draid_run.proofs.Steps.{ask_breaks, by_ask, by_create}
 
@@ -76,34 +79,34 @@ asked_built TakeCheckpoint called is none = absurd (cc is)
 asked_built RewindPool called is none = absurd (cc is)
 asked_built DiscardCheckpoint called is none = absurd (cc is)
 
-module _ {R A : Type 0} (rack : racks.Ghosts R) (area : areas.Ghosts A) (choices : Choices) (entry now : OnShelf) (pool : Option (Pool R A)) (x : Desk) (is : IsDesk rack area entry now pool x) (command : Command)
+module _ {R A : Type 0} (rack : racks.Ghosts R) (area : areas.Ghosts A) (choices : Choices) (past : List Entry) (entry now : OnShelf) (pool : Option (Pool R A)) (x : Desk) (is : IsDesk rack area entry now pool x) (command : Command)
     (unbuilt : asked_in command ≡ None → IsUnbuilt command) (new : Option (Pool R A)) where
   pub answer_ask : (given : Result Reply Stop) (result : Result (Option Reply) Stop) → IsSaid given result → AskIs rack area choices command pool x new given
-      → AnswerIs rack area choices command entry now pool x now new result
+      → AnswerIs rack area choices past past command entry now pool x now new result
   answer_ask (Ok reply) result said did =
-      subst (AnswerIs rack area choices command entry now pool x now new) (sym said) (by_ask rack area choices entry now pool reply command did.0 did.1 x new is did.2, asked_firm command did.0 (alone reply) now now pool new did.1, asked_built command did.0 did.1)
+      let turned = by_ask rack area choices entry now pool reply command did.0 did.1 x new is did.2 in
+      subst (AnswerIs rack area choices past past command entry now pool x now new) (sym said)
+      (turned, ([], ask_notes choices (MayFind rack area entry) past command did.0 did.1 x (alone reply) turned.new turned.turns, sym (append-nil past)), asked_firm command did.0 (alone reply) now now pool new did.1, asked_built command did.0 did.1)
   answer_ask (Err stop.Unbuilt) result said did =
-      subst (AnswerIs rack area choices command entry now pool x now new) (sym said) (unbuilt did.0, refl, did.1)
+      subst (AnswerIs rack area choices past past command entry now pool x now new) (sym said) (unbuilt did.0, refl, did.1)
   answer_ask (Err stop.Shelf) result said did =
-      subst (AnswerIs rack area choices command entry now pool x now new) (sym said) (ask_breaks rack area entry now now command x pool new is did.2, asked_built command did.0 did.1)
+      subst (AnswerIs rack area choices past past command entry now pool x now new) (sym said) (ask_breaks rack area entry now now command x pool new is did.2, asked_built command did.0 did.1)
   answer_ask (Err (stop.Record metaslab place kind)) result said did = absurd did
 
 -- an empty line, or a comment
-pub turned_silent : {R A : Type 0} (rack : racks.Ghosts R) (area : areas.Ghosts A) (choices : Choices) (entry now : OnShelf) (pool : Option (Pool R A)) (x : Desk) (line : Line) → line ≡ variant.Nothing
-    → IsDesk rack area entry now pool x → Turned rack area choices (Ok (command_in line)) entry x [] now pool × LeavesFirm (Ok (command_in line)) [] now pool now pool × IsBuilt (Ok (command_in line))
-turned_silent rack area choices entry now pool x line is desk = (
-  record { new = x; desk = desk; turns = subst (λ l. TurnsBy choices (MayFind rack area entry) (Ok (command_in l)) x [] x) (sym is) refl },
-  subst (λ l. LeavesFirm (Ok (command_in l)) [] now pool now pool) (sym is) (refl, refl),
-  subst (λ l. IsBuilt (Ok (command_in l))) (sym is) (λ none. none),
-)
+pub turned_silent : {R A : Type 0} (rack : racks.Ghosts R) (area : areas.Ghosts A) (choices : Choices) (past : List Entry) (entry now : OnShelf) (pool : Option (Pool R A)) (x : Desk) (line : Line) → line ≡ variant.Nothing
+    → IsDesk rack area entry now pool x → AnswerIs rack area choices past past (command_in line) entry now pool x now pool (Ok None)
+turned_silent rack area choices past entry now pool x line is desk =
+    subst (λ l. AnswerIs rack area choices past past (command_in l) entry now pool x now pool (Ok None)) (sym is)
+    (record { new = x; desk = desk; turns = refl }, ([], refl, sym (append-nil past)), (refl, refl), λ none. none)
 
 -- a pool was to be made
-module _ {R A : Type 0} (rack : racks.Ghosts R) (area : areas.Ghosts A) (choices : Choices) (entry before now : OnShelf) (pool : Option (Pool R A)) (x : Desk) (new : Option (Pool R A)) (text : List ℕ) (children : ℕ) (keys : PoolKeys) where
+module _ {R A : Type 0} (rack : racks.Ghosts R) (area : areas.Ghosts A) (choices : Choices) (past : List Entry) (entry before now : OnShelf) (pool : Option (Pool R A)) (x : Desk) (new : Option (Pool R A)) (text : List ℕ) (children : ℕ) (keys : PoolKeys) where
   pub answer_create : (given : Result Reply Stop) (result : Result (Option Reply) Stop) → IsSaid given result → CreateIs rack area text children keys entry before x now new given
-      → AnswerIs rack area choices (CreatePool text children keys) entry before pool x now new result
+      → AnswerIs rack area choices past past (CreatePool text children keys) entry before pool x now new result
   answer_create (Ok reply) result said did =
-      subst (AnswerIs rack area choices (CreatePool text children keys) entry before pool x now new) (sym said) (by_create rack area choices entry now text children keys x reply new did, tt, λ none. none)
-  answer_create (Err stop.Shelf) result said did = subst (AnswerIs rack area choices (CreatePool text children keys) entry before pool x now new) (sym said) (did, λ none. none)
+      subst (AnswerIs rack area choices past past (CreatePool text children keys) entry before pool x now new) (sym said) (by_create rack area choices entry now text children keys x reply new did, ([], refl, sym (append-nil past)), tt, λ none. none)
+  answer_create (Err stop.Shelf) result said did = subst (AnswerIs rack area choices past past (CreatePool text children keys) entry before pool x now new) (sym said) (did, λ none. none)
   answer_create (Err stop.Unbuilt) result said did = absurd did
   answer_create (Err (stop.Record metaslab place kind)) result said did = absurd did
 
@@ -173,36 +176,38 @@ pub is_unbuilt : (line : Line) → (line ≡ variant.Nothing → ⊥)
     → (line ≡ variant.Import → ⊥)
     → (line ≡ variant.Export → ⊥)
     → (line ≡ variant.Crash → ⊥)
+    → ((least : ℕ) → line ≡ variant.Agent least → ⊥)
+    → (line ≡ variant.AgentLog → ⊥)
     → asked_in (command_in line) ≡ None → IsUnbuilt (command_in line)
-is_unbuilt variant.Nothing nothing create opens export crash none = absurd (nothing refl)
-is_unbuilt (variant.Create spec children keys) nothing create opens export crash none = absurd (create spec children keys refl)
-is_unbuilt variant.Import nothing create opens export crash none = absurd (opens refl)
-is_unbuilt variant.Export nothing create opens export crash none = absurd (export refl)
-is_unbuilt variant.Sync nothing create opens export crash none = absurd (cc none)
-is_unbuilt variant.Cancel nothing create opens export crash none = absurd (cc none)
-is_unbuilt variant.Crash nothing create opens export crash none = absurd (crash refl)
-is_unbuilt (variant.Write object bytes) nothing create opens export crash none = absurd (cc none)
-is_unbuilt (variant.Fill first count len seed) nothing create opens export crash none = absurd (cc none)
-is_unbuilt (variant.Read object) nothing create opens export crash none = absurd (cc none)
-is_unbuilt (variant.Free object) nothing create opens export crash none = absurd (cc none)
-is_unbuilt (variant.Sum first count) nothing create opens export crash none = absurd (cc none)
-is_unbuilt (variant.Offline leaf) nothing create opens export crash none = absurd (cc none)
-is_unbuilt (variant.Online leaf) nothing create opens export crash none = absurd (cc none)
-is_unbuilt (variant.Damage leaf sector) nothing create opens export crash none = absurd (cc none)
-is_unbuilt (variant.Spare slot spare) nothing create opens export crash none = absurd (cc none)
-is_unbuilt (variant.Replace slot sectors) nothing create opens export crash none = absurd (cc none)
-is_unbuilt (variant.Detach arm) nothing create opens export crash none = absurd (cc none)
-is_unbuilt (variant.Rebuild limit) nothing create opens export crash none = absurd (cc none)
-is_unbuilt (variant.Scrub limit) nothing create opens export crash none = absurd (cc none)
-is_unbuilt (variant.Rebalance slot) nothing create opens export crash none = absurd (cc none)
-is_unbuilt (variant.Status form) nothing create opens export crash none = absurd (cc none)
-is_unbuilt (variant.Lanes count) nothing create opens export crash none = tt
-is_unbuilt variant.Upgrade nothing create opens export crash none = absurd (cc none)
-is_unbuilt (variant.Agent least) nothing create opens export crash none = tt
-is_unbuilt variant.AgentLog nothing create opens export crash none = tt
-is_unbuilt variant.Checkpoint nothing create opens export crash none = tt
-is_unbuilt variant.Rewind nothing create opens export crash none = tt
-is_unbuilt variant.Discard nothing create opens export crash none = tt
+is_unbuilt variant.Nothing nothing create opens export crash agent log none = absurd (nothing refl)
+is_unbuilt (variant.Create spec children keys) nothing create opens export crash agent log none = absurd (create spec children keys refl)
+is_unbuilt variant.Import nothing create opens export crash agent log none = absurd (opens refl)
+is_unbuilt variant.Export nothing create opens export crash agent log none = absurd (export refl)
+is_unbuilt variant.Sync nothing create opens export crash agent log none = absurd (cc none)
+is_unbuilt variant.Cancel nothing create opens export crash agent log none = absurd (cc none)
+is_unbuilt variant.Crash nothing create opens export crash agent log none = absurd (crash refl)
+is_unbuilt (variant.Write object bytes) nothing create opens export crash agent log none = absurd (cc none)
+is_unbuilt (variant.Fill first count len seed) nothing create opens export crash agent log none = absurd (cc none)
+is_unbuilt (variant.Read object) nothing create opens export crash agent log none = absurd (cc none)
+is_unbuilt (variant.Free object) nothing create opens export crash agent log none = absurd (cc none)
+is_unbuilt (variant.Sum first count) nothing create opens export crash agent log none = absurd (cc none)
+is_unbuilt (variant.Offline leaf) nothing create opens export crash agent log none = absurd (cc none)
+is_unbuilt (variant.Online leaf) nothing create opens export crash agent log none = absurd (cc none)
+is_unbuilt (variant.Damage leaf sector) nothing create opens export crash agent log none = absurd (cc none)
+is_unbuilt (variant.Spare slot spare) nothing create opens export crash agent log none = absurd (cc none)
+is_unbuilt (variant.Replace slot sectors) nothing create opens export crash agent log none = absurd (cc none)
+is_unbuilt (variant.Detach arm) nothing create opens export crash agent log none = absurd (cc none)
+is_unbuilt (variant.Rebuild limit) nothing create opens export crash agent log none = absurd (cc none)
+is_unbuilt (variant.Scrub limit) nothing create opens export crash agent log none = absurd (cc none)
+is_unbuilt (variant.Rebalance slot) nothing create opens export crash agent log none = absurd (cc none)
+is_unbuilt (variant.Status form) nothing create opens export crash agent log none = absurd (cc none)
+is_unbuilt (variant.Lanes count) nothing create opens export crash agent log none = tt
+is_unbuilt variant.Upgrade nothing create opens export crash agent log none = absurd (cc none)
+is_unbuilt (variant.Agent least) nothing create opens export crash agent log none = absurd (agent least refl)
+is_unbuilt variant.AgentLog nothing create opens export crash agent log none = absurd (log refl)
+is_unbuilt variant.Checkpoint nothing create opens export crash agent log none = tt
+is_unbuilt variant.Rewind nothing create opens export crash agent log none = tt
+is_unbuilt variant.Discard nothing create opens export crash agent log none = tt
 
 -- ---- what a pool replies, by the line
 

@@ -1,6 +1,8 @@
 -- What an export and a crash did, in the words of a session.
 use Rattle.std.proofs.Common.{◌≡◌, ◌∙◌, ◌⊎◌, inl, refl, sym, ap, subst, ℕ, true, false, List, [], Option, Some, None, Result, Ok, Err}
 use Rattle.std.specs.Prelude.{IsErr}
+use Rattle.std.proofs.lemmas.List.{append-nil}
+use Rattle.draid_names.specs.declared.journal.Entry.{Entry}
 use Rattle.draid_names.specs.declared.fault.Failed.{Failed}
 use Rattle.draid_rack.specs.declared.Rack as racks
 use Rattle.draid_area.specs.declared.Area as areas
@@ -133,10 +135,10 @@ module _ {R A : Type 0} (rack : racks.Ghosts R) (area : areas.Ghosts A) (choices
         (refl, (y, record { holds = []; mid = y; store = y.store; follows = refl; does = (refl, refl); made = refl }, turns.1))
 
   -- ---- the answers of the commands
-  module _ (pool : Option (Pool R A)) (x : Desk) (new : Option (Pool R A)) where
-    pub answer_export : (given : Result Reply Stop) (result : Result (Option Reply) Stop) → IsSaid given result → ExportIs rack area entry x now new given → AnswerIs rack area choices ExportPool entry before pool x now new result
-    answer_export (Ok reply) result said did = subst (AnswerIs rack area choices ExportPool entry before pool x now new) (sym said) (by_export x reply new did, tt, λ none. none)
-    answer_export (Err stop.Shelf) result said did = subst (AnswerIs rack area choices ExportPool entry before pool x now new) (sym said) (export_breaks x new did, λ none. none)
+  module _ (past : List Entry) (pool : Option (Pool R A)) (x : Desk) (new : Option (Pool R A)) where
+    pub answer_export : (given : Result Reply Stop) (result : Result (Option Reply) Stop) → IsSaid given result → ExportIs rack area entry x now new given → AnswerIs rack area choices past past ExportPool entry before pool x now new result
+    answer_export (Ok reply) result said did = subst (AnswerIs rack area choices past past ExportPool entry before pool x now new) (sym said) (by_export x reply new did, ([], refl, sym (append-nil past)), tt, λ none. none)
+    answer_export (Err stop.Shelf) result said did = subst (AnswerIs rack area choices past past ExportPool entry before pool x now new) (sym said) (export_breaks x new did, λ none. none)
     answer_export (Err stop.Unbuilt) result said did = absurd did
     answer_export (Err (stop.Record metaslab place kind)) result said did = absurd did
 

@@ -4,20 +4,22 @@ use Rattle.std.specs.Prelude.{⊤}
 use Rattle.std.specs.Io.KnownBytes.{Appends}
 use Rattle.std.proofs.lemmas.List.{append-nil}
 use Rattle.draid_names.specs.Faults.{Rose}
+use Rattle.draid_names.specs.declared.journal.Entry.{Entry}
 use Rattle.draid_rack.specs.declared.Rack as racks
 use Rattle.draid_area.specs.declared.Area as areas
 use Rattle.draid_lines.specs.declared.lines.ReadFault.{ReadFault}
 use Rattle.draid_lines.specs.declared.lines.ReadFault.TheVariants as reads
 use Rattle.draid_script.specs.Grammar.{line_of}
 use Rattle.draid_script.specs.Line.{Command}
+use Rattle.draid_script.specs.declared.fault.LineFault.{LineFault}
 use Rattle.draid_reply.specs.Reply.{text_of}
 use Rattle.draid_reply.specs.declared.reply.Reply.{Reply}
-use Rattle.draid_session.specs.Said.{alone}
+use Rattle.draid_session.specs.Said.{Said, alone}
 use Rattle.draid_session.specs.Choices.{Choices}
 use Rattle.draid_session.specs.Session.{Desk}
 use Rattle.draid_pool.specs.declared.pool.Pool.{Pool}
 use Rattle.draid_run.specs.Crashes.{LeavesFirm}
-use Rattle.draid_run.specs.Desks.{Turned}
+use Rattle.draid_run.specs.Desks.{Noted, Turned}
 use Rattle.draid_run.specs.Serve.{AnswerIs, LineIs, PrintIs, status_of}
 use Rattle.draid_run.specs.Script.{IsBuilt, LineFaultIs}
 use Rattle.draid_pool.specs.Shelves.{OnShelf}
@@ -98,33 +100,38 @@ module _ (P : Type 0) where
   stop_cause number stop.Shelf status is sink = absurd (cc (is, sink))
   stop_cause number (stop.Record metaslab place kind) status is sink = absurd (cc (is, sink))
 
+-- a line was answered, and by so much the journal was longer behind it
+abbrev pub Answered : {R A : Type 0} → racks.Ghosts R → areas.Ghosts A → Choices → List Entry → List Entry → OnShelf → OnShelf → Option (Pool R A) → Desk → List Said → OnShelf → Option (Pool R A) → Result Command LineFault → Type 0
+Answered rack area choices past after entry before pool x saids now pool' line =
+    (turned : Turned rack area choices line entry x saids now pool') × Noted rack area choices line entry x saids now pool' turned past after × LeavesFirm line saids before pool now pool' × IsBuilt line
+
 -- a line was answered, and its reply printed or not
-module _ {R A : Type 0} (rack : racks.Ghosts R) (area : areas.Ghosts A) (choices : Choices) (number : ℕ) (text : List ℕ) (entry before : OnShelf) (pool : Option (Pool R A)) (x : Desk) (now : OnShelf) (pool' : Option (Pool R A)) (reply : Reply) (held held' : Option (List ℕ)) where
-  pub line_told : (result : Result Unit Status) → Turned rack area choices (line_of text) entry x (alone reply) now pool' → LeavesFirm (line_of text) (alone reply) before pool now pool' → IsBuilt (line_of text) → PrintIs (text_of reply) held held' result
-      → LineIs rack area choices number text entry before pool x now pool' held held' result
-  line_told (Ok done) turned firm built prints = record { saids = alone reply; turned = turned; firm = firm; built = built; prints = subst (λ text. Appends held held' text) (sym (append-nil (text_of reply))) prints }
-  line_told (Err SinkFault) turned firm built prints =
-      record { part = []; said = record { lane = None; reply = reply }; rest = []; mid = held; turned = turned; firm = firm; built = built; whole = appends_none held; prints = prints }
-  line_told (Err NoMemory) turned firm built prints =
-      inr (record { part = []; said = record { lane = None; reply = reply }; rest = []; turned = turned; firm = firm; built = built; prints = subst (λ now. Appends held now []) (sym prints) (appends_none held) })
-  line_told (Err Done) turned firm built prints = absurd prints
-  line_told (Err Usage) turned firm built prints = absurd prints
-  line_told (Err (Line line kind at)) turned firm built prints = absurd prints
-  line_told (Err SourceFault) turned firm built prints = absurd prints
-  line_told (Err (TooLong line)) turned firm built prints = absurd prints
-  line_told (Err ShelfFault) turned firm built prints = absurd prints
-  line_told (Err (Record metaslab place kind)) turned firm built prints = absurd prints
+module _ {R A : Type 0} (rack : racks.Ghosts R) (area : areas.Ghosts A) (choices : Choices) (past after : List Entry) (number : ℕ) (text : List ℕ) (entry before : OnShelf) (pool : Option (Pool R A)) (x : Desk) (now : OnShelf) (pool' : Option (Pool R A)) (reply : Reply) (held held' : Option (List ℕ)) where
+  pub line_told : (result : Result Unit Status) → Answered rack area choices past after entry before pool x (alone reply) now pool' (line_of text) → PrintIs (text_of reply) held held' result
+      → LineIs rack area choices past after number text entry before pool x now pool' held held' result
+  line_told (Ok done) it prints = record { saids = alone reply; turned = it.0; noted = it.1; firm = it.2; built = it.3; prints = subst (λ text. Appends held held' text) (sym (append-nil (text_of reply))) prints }
+  line_told (Err SinkFault) it prints =
+      record { part = []; said = record { lane = None; reply = reply }; rest = []; mid = held; turned = it.0; noted = it.1; firm = it.2; built = it.3; whole = appends_none held; prints = prints }
+  line_told (Err NoMemory) it prints =
+      inr (record { part = []; said = record { lane = None; reply = reply }; rest = []; turned = it.0; noted = it.1; firm = it.2; built = it.3; prints = subst (λ now. Appends held now []) (sym prints) (appends_none held) })
+  line_told (Err Done) it prints = absurd prints
+  line_told (Err Usage) it prints = absurd prints
+  line_told (Err (Line line kind at)) it prints = absurd prints
+  line_told (Err SourceFault) it prints = absurd prints
+  line_told (Err (TooLong line)) it prints = absurd prints
+  line_told (Err ShelfFault) it prints = absurd prints
+  line_told (Err (Record metaslab place kind)) it prints = absurd prints
 
 -- a line has no reply, and the run ends
-module _ {R A : Type 0} (rack : racks.Ghosts R) (area : areas.Ghosts A) (choices : Choices) (number : ℕ) (text : List ℕ) (entry before : OnShelf) (pool : Option (Pool R A)) (x : Desk) (now : OnShelf) (pool' : Option (Pool R A)) (held : Option (List ℕ)) (command : Command) (line : line_of text ≡ Ok command) where
-  by_stop : (why : Stop) → AnswerIs rack area choices command entry before pool x now pool' (Err why) → LineIs rack area choices number text entry before pool x now pool' held held (Err (status_of number why))
+module _ {R A : Type 0} (rack : racks.Ghosts R) (area : areas.Ghosts A) (choices : Choices) (past after : List Entry) (number : ℕ) (text : List ℕ) (entry before : OnShelf) (pool : Option (Pool R A)) (x : Desk) (now : OnShelf) (pool' : Option (Pool R A)) (held : Option (List ℕ)) (command : Command) (line : line_of text ≡ Ok command) where
+  by_stop : (why : Stop) → AnswerIs rack area choices past after command entry before pool x now pool' (Err why) → LineIs rack area choices past after number text entry before pool x now pool' held held (Err (status_of number why))
   by_stop stop.Unbuilt answered = (subst (λ r. LineFaultIs r refusal.Unbuilt 0) (sym line) (answered.0, refl, refl), answered.1, answered.2, refl, refl)
   by_stop stop.Shelf answered = (refl, record { command = command; line = line; built = answered.1; broken = answered.0 })
   by_stop (stop.Record metaslab place kind) answered = (refl, record { command = command; line = line; built = answered.2; broken = answered.0 }, answered.1)
 
-  pub line_stopped : (why : Stop) (status : Status) → status ≡ status_of number why → AnswerIs rack area choices command entry before pool x now pool' (Err why)
-      → LineIs rack area choices number text entry before pool x now pool' held held (Err status)
-  line_stopped why status is answered = subst (λ s. LineIs rack area choices number text entry before pool x now pool' held held (Err s)) (sym is) (by_stop why answered)
+  pub line_stopped : (why : Stop) (status : Status) → status ≡ status_of number why → AnswerIs rack area choices past after command entry before pool x now pool' (Err why)
+      → LineIs rack area choices past after number text entry before pool x now pool' held held (Err status)
+  line_stopped why status is answered = subst (λ s. LineIs rack area choices past after number text entry before pool x now pool' held held (Err s)) (sym is) (by_stop why answered)
 
 -- ---- the next line's text
 

@@ -2,6 +2,8 @@
 use Rattle.std.proofs.Common.{◌≡◌, ◌≤◌, ◌∙◌, ◌⊎◌, inl, inr, refl, sym, ap, subst, ℕ, List, Bool, true, false, [], ◌∷◌, Option, Some, None, Result, Ok, Err, String, Global}
 use Rattle.std.specs.Prelude.{IfOk, IsErrOf, IsSomeAnd, OnOk, is_some, nat_eq, string_bytes}
 use Rattle.std.specs.HashMap.{get}
+use Rattle.std.proofs.lemmas.List.{append-nil}
+use Rattle.draid_names.specs.declared.journal.Entry.{Entry}
 use Rattle.draid_record.specs.declared.fault.RecordFaultKind.{RecordFaultKind}
 use Rattle.draid_rack.specs.declared.Rack as racks
 use Rattle.draid_area.specs.declared.Area as areas
@@ -425,12 +427,12 @@ module _ {R A : Type 0} (rack : racks.Ghosts R) (area : areas.Ghosts A) (choices
     by (Open y) new turns = subst (λ r. TurnsBy choices (MayFind rack area entry) (Ok ImportPool) (Open y) (alone r) new) (sym turns.0)
         (refl, (y, record { holds = []; mid = y; store = y.store; follows = refl; does = (refl, refl); made = refl }, turns.1))
 
-  pub answer_import : (pool : Option (Pool R A)) (x : Desk) (new : Option (Pool R A)) (given : Result Reply Stop) (result : Result (Option Reply) Stop) → IsSaid given result
-      → ImportIs rack area entry before x now new given → AnswerIs rack area choices ImportPool entry before pool x now new result
-  answer_import pool x new (Ok reply) result said did = subst (AnswerIs rack area choices ImportPool entry before pool x now new) (sym said) (by_import x reply new did, tt, λ none. none)
-  answer_import pool x new (Err stop.Shelf) result said did = subst (AnswerIs rack area choices ImportPool entry before pool x now new) (sym said) (did, λ none. none)
-  answer_import pool x new (Err (stop.Record metaslab place kind)) result said did = subst (AnswerIs rack area choices ImportPool entry before pool x now new) (sym said) (did.0, did.1, λ none. none)
-  answer_import pool x new (Err stop.Unbuilt) result said did = absurd did
+  pub answer_import : (past : List Entry) (pool : Option (Pool R A)) (x : Desk) (new : Option (Pool R A)) (given : Result Reply Stop) (result : Result (Option Reply) Stop) → IsSaid given result
+      → ImportIs rack area entry before x now new given → AnswerIs rack area choices past past ImportPool entry before pool x now new result
+  answer_import past pool x new (Ok reply) result said did = subst (AnswerIs rack area choices past past ImportPool entry before pool x now new) (sym said) (by_import x reply new did, ([], refl, sym (append-nil past)), tt, λ none. none)
+  answer_import past pool x new (Err stop.Shelf) result said did = subst (AnswerIs rack area choices past past ImportPool entry before pool x now new) (sym said) (did, λ none. none)
+  answer_import past pool x new (Err (stop.Record metaslab place kind)) result said did = subst (AnswerIs rack area choices past past ImportPool entry before pool x now new) (sym said) (did.0, did.1, λ none. none)
+  answer_import past pool x new (Err stop.Unbuilt) result said did = absurd did
 
 -- a pool is open already
 pub already_open : {R A : Type 0} (rack : racks.Ghosts R) (area : areas.Ghosts A) (entry now : OnShelf) (desk : Option (Pool R A)) (x : Desk) → is_some desk ≡ true → IsDesk rack area entry now desk x

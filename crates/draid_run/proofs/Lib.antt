@@ -1,3 +1,4 @@
+pub mod Agents
 pub mod Asking
 pub mod Balanced
 pub mod Behind
@@ -5,6 +6,7 @@ pub mod Booked
 pub mod Broke
 pub mod Closings
 pub mod Crashing
+pub mod Deciding
 pub mod Ended
 pub mod Ending
 pub mod Exits

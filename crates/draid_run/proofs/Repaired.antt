@@ -1,7 +1,8 @@
 -- What the repair agent did: spares that came, a rebuild and a scrub, one behind the other.
-use Rattle.std.proofs.Common.{◌≡◌, ◌≢◌, ◌+◌, ◌++◌, ◌∙◌, ℕ, Bool, true, false, List, [], Option, Some, None, Result, Ok, Err, append_assoc, ap, inl, inr, length, refl, subst, sym}
+use Rattle.std.proofs.Common.{arith, ◌≡◌, ◌≢◌, ◌+◌, ◌++◌, ◌∙◌, ℕ, Bool, true, false, List, [], Option, Some, None, Result, Ok, Err, OnOk, append_assoc, ap, inl, inr, length, refl, subst, sym, ◌≤◌, ◌∷◌, drop, IfOk, IsErr, Vec, Global, length-append}
 use Rattle.std.specs.Prelude.{slice_get}
 use Rattle.std.proofs.lemmas.List.{append-nil}
+use Rattle.draid_names.specs.declared.fault.Failed.{Failed}
 use Rattle.draid_names.specs.declared.journal.Entry.{Entry}
 use Rattle.draid_names.specs.declared.pass_kind.PassKind.TheVariants.{Rebuild}
 use Rattle.draid_machine.proofs.Small.{none_some}
@@ -9,8 +10,14 @@ use Rattle.draid_rack.specs.declared.Rack as racks
 use Rattle.draid_area.specs.declared.Area as areas
 use Rattle.draid_perm.specs.declared.perms.Perms.{Perms}
 use Rattle.draid_spec.specs.declared.layout.Geometry.{Geometry}
+use Rattle.draid_script.specs.Line.{RunAgent}
+use Rattle.draid_script.specs.declared.name.CommandName.TheVariants as name
 use Rattle.draid_reply.specs.declared.reply.AgentErrors.{AgentErrors}
+use Rattle.draid_reply.specs.declared.reply.Reply.{Reply}
+use Rattle.draid_reply.specs.declared.reply.Reply.TheVariants as replies
 use Rattle.draid_session.specs.Agent as agent
+use Rattle.draid_session.specs.Agent.{AreNumbered}
+use Rattle.draid_session.specs.Replies.{IsReplyTo}
 use Rattle.draid_session.specs.Holds.{Hold}
 use Rattle.draid_session.specs.Passes as passes
 use Rattle.draid_session.specs.Phases.{Broke, End, Starved, WasLast, WasWorn}
@@ -20,7 +27,8 @@ use Rattle.draid_pool.specs.Pools.{Represents}
 use Rattle.draid_pool.specs.declared.fault.SyncFault.{SyncFault}
 use Rattle.draid_pool.specs.declared.fault.SyncFault.TheVariants as sync
 use Rattle.draid_pool.specs.declared.pool.Pool.{Pool}
-use Rattle.draid_changes.specs.Agent.{GiveDoes, GiveStarves, GiveStops}
+use Rattle.draid_pool.proofs.Steps.{carried, carries_so}
+use Rattle.draid_changes.specs.Agent.{AddsEntries, most_slots, GiveDoes, GiveStarves, GiveStops}
 use Rattle.draid_changes.specs.declared.agent.GiveFault.{GiveFault}
 use Rattle.draid_changes.specs.declared.agent.GiveFault.TheVariants as fault
 use Rattle.draid_visits.specs.Rebuilding.{RebuildDoes, RebuildIs, RunsWhere, ScrubDoes, ScrubIs, stopped_by}
@@ -29,7 +37,7 @@ use Rattle.draid_visits.specs.declared.rebuilding.MendFault.{MendFault}
 use Rattle.draid_visits.specs.declared.rebuilding.MendFault.TheVariants as mending
 use Rattle.draid_visits.specs.declared.rebuilding.Mended.{Mended}
 use Rattle.draid_visits.proofs.Leading.{Steps, steps_as, steps_then}
-use Rattle.draid_run.specs.Repairing.{EndsBy, HealEnds, IsStop, RebuildEnds, RepairEnds, RepairHalts, ScrubEnds}
+use Rattle.draid_run.specs.Repairing.{AgentSays, IsAgentReply, NotesBehind, EndsBy, HealEnds, IsStop, RebuildEnds, RepairEnds, RepairHalts, RepairNotes, ScrubEnds}
 
 -- ---- the passes of the pool
 
@@ -206,3 +214,134 @@ module _ {R A : Type 0} (rack : racks.Ghosts R) (area : areas.Ghosts A) (chosen 
       by (fault.Stopped sync.Last) holds store d = (d.0, ([], same d.1, stops_of x (length before + 1) holds WasLast d.2))
       by (fault.Stopped sync.Shelf) holds store d = (d.0, ([], same d.1, stops_of x (length before + 1) holds Broke d.2))
       by (fault.Stopped sync.NoMemory) holds store d = (d.0, ([], same d.1, starves_of x (length before + 1) holds d.2))
+
+-- ---- by a device of the pool
+
+abbrev refused : SyncFault → Result ℕ SyncFault
+refused why = Err why
+
+pub refused_same : (a b : SyncFault) → refused a ≡ refused b → a ≡ b
+refused_same a b is = cc is
+
+-- it stopped a rebuild where it stopped the whole
+pub shelf_ended : (given : MendFault) (result : Result ℕ SyncFault) → EndsBy given result → result ≡ Err sync.Shelf → given ≡ mending.Shelf
+shelf_ended mending.Nothing (Ok errors) is same = absurd (cc same)
+shelf_ended given (Ok errors) is same = absurd is
+shelf_ended given (Err why) is same = is ∙ ap stopped_by (refused_same why sync.Shelf same)
+
+-- it never stops a scrub
+pub scrub_no_shelf : {R A : Type 0} (why : SyncFault) (given : MendFault) (old new : Pool R A) → given ≡ stopped_by why → ScrubIs (Err given) old new → why ≡ sync.Shelf → ⊥
+scrub_no_shelf {R} {A} why given old new is passes same = subst (λ f. ScrubIs {R} {A} (Err f) old new) (is ∙ ap stopped_by same) passes
+
+-- behind a rebuild that found nothing to do there is no pass
+pub rebuild_idle : {R A : Type 0} (given : MendFault) (result : Result ℕ SyncFault) (old new : Pool R A) → EndsBy given result → RebuildIs (Err given) old new → OnOk result (NoPasses new)
+rebuild_idle mending.Nothing (Ok errors) old new is passes = passes.1.idle
+rebuild_idle given (Ok errors) old new is passes = absurd is
+rebuild_idle given (Err why) old new is passes = tt
+
+-- ---- the journal
+
+-- no entry came
+pub no_entries : (before after : List Entry) → after ≡ before → AddsEntries before after
+no_entries before after same = record { more = []; are = same ∙ sym (append-nil before); numbered = tt; few = omega arith }
+
+-- whatever came of it, some entries may have come
+pub some_entries : (answer : Result (Option AgentErrors) GiveFault) (before after : List Entry) → RepairNotes answer before after → AddsEntries before after
+some_entries (Ok errors) before after notes = notes
+some_entries (Err fault.Idle) before after notes = no_entries before after notes
+some_entries (Err (fault.PassThere metaslab number)) before after notes = no_entries before after notes
+some_entries (Err (fault.Stopped why)) before after notes = notes
+
+-- where no spare came for what was refused
+pub refused_notes : (why : GiveFault) (before after : List Entry) → after ≡ before → RepairNotes (Err why) before after
+refused_notes fault.Idle before after same = same
+refused_notes (fault.PassThere metaslab number) before after same = same
+refused_notes (fault.Stopped why) before after same = no_entries before after same
+
+-- ---- the same refusal
+
+abbrev ended : GiveFault → Result (Option AgentErrors) GiveFault
+ended why = Err why
+
+pub ended_same : (a b : GiveFault) → ended a ≡ ended b → a ≡ b
+ended_same a b is = cc is
+
+pub stopped_same : (a b : SyncFault) → ended (fault.Stopped a) ≡ ended (fault.Stopped b) → a ≡ b
+stopped_same a b is = cc is
+
+-- ---- the reply
+
+same_behind : (past as bs : List Entry) → past ++ as ≡ past ++ bs → as ≡ bs
+same_behind [] as bs is = is
+same_behind (e ∷ past) as bs is = same_behind past as bs (rest e e (past ++ as) (past ++ bs) is)
+  where
+    rest : (a b : Entry) (xs ys : List Entry) → a ∷ xs ≡ b ∷ ys → xs ≡ ys
+    rest a b xs ys same = cc same
+
+-- what is behind the first entries
+behind_first : (before more : List Entry) → drop (length before) (before ++ more) ≡ more
+behind_first [] more = refl
+behind_first (e ∷ before) more = behind_first before more
+
+-- the list of a reply has the entries that came
+pub list_added : (before after items : List Entry) → AddsEntries before after → items ≡ drop (length before) after → after ≡ before ++ items
+list_added before after items adds is = adds.are ∙ ap (λ es. before ++ es) (sym (is ∙ (ap (λ es. drop (length before) es) adds.are ∙ behind_first before adds.more)))
+
+pub list_short : (before after items : List Entry) → AddsEntries before after → items ≡ drop (length before) after → length items ≤ most_slots
+list_short before after items adds is = (let long = ap length (is ∙ (ap (λ es. drop (length before) es) adds.are ∙ behind_first before adds.more)) in let few = adds.few in omega (arith, long, few))
+
+pub list_long : (before after : List Entry) → AddsEntries before after → length before ≤ length after
+list_long before after adds = (let long = ap length adds.are in let both = length-append before adds.more in omega (arith, long, both))
+
+module _ (parity least : ℕ) (entries : Vec Entry Global) where
+  pub agent_fits : (answer : Result (Option AgentErrors) GiveFault) (said : Result Reply Failed) → IsAgentReply parity entries answer said → IfOk said (IsReplyTo (RunAgent least))
+  agent_fits (Ok errors) said is = subst (λ s. IfOk s (IsReplyTo (RunAgent least))) (sym is) tt
+  agent_fits (Err fault.Idle) said is = subst (λ s. IfOk s (IsReplyTo (RunAgent least))) (sym is) tt
+  agent_fits (Err (fault.PassThere metaslab number)) said is = subst (λ s. IfOk s (IsReplyTo (RunAgent least))) (sym is) tt
+  agent_fits (Err (fault.Stopped sync.Worn)) said is = subst (λ s. IfOk s (IsReplyTo (RunAgent least))) (sym is) tt
+  agent_fits (Err (fault.Stopped sync.Last)) said is = subst (λ s. IfOk s (IsReplyTo (RunAgent least))) (sym is) tt
+  agent_fits (Err (fault.Stopped sync.NoMemory)) said is = subst (λ s. IfOk s (IsReplyTo (RunAgent least))) (sym is) tt
+  agent_fits (Err (fault.Stopped sync.Shelf)) (Ok reply) is = absurd is
+  agent_fits (Err (fault.Stopped sync.Shelf)) (Err failed) is = tt
+
+  pub agent_cause : (answer : Result (Option AgentErrors) GiveFault) (said : Result Reply Failed) → IsAgentReply parity entries answer said → IsErr said → answer ≡ Err (fault.Stopped sync.Shelf)
+  agent_cause (Ok errors) said is failed = absurd (subst IsErr is failed)
+  agent_cause (Err fault.Idle) said is failed = absurd (subst IsErr is failed)
+  agent_cause (Err (fault.PassThere metaslab number)) said is failed = absurd (subst IsErr is failed)
+  agent_cause (Err (fault.Stopped sync.Worn)) said is failed = absurd (subst IsErr is failed)
+  agent_cause (Err (fault.Stopped sync.Last)) said is failed = absurd (subst IsErr is failed)
+  agent_cause (Err (fault.Stopped sync.NoMemory)) said is failed = absurd (subst IsErr is failed)
+  agent_cause (Err (fault.Stopped sync.Shelf)) said is failed = refl
+
+  module _ (before after : List Entry) (added : after ≡ before ++ entries.items) where
+    abbrev Noting : Result Reply Failed → Type 0
+    Noting said = IfOk said (λ reply. NotesBehind before reply after)
+
+    pub agent_notes : (answer : Result (Option AgentErrors) GiveFault) (said : Result Reply Failed) → IsAgentReply parity entries answer said → RepairNotes answer before after → Noting said
+    agent_notes (Ok errors) said is notes =
+        subst Noting (sym is) (entries.items, (refl, subst (AreNumbered (length before + 1)) (same_behind before notes.more entries.items (sym notes.are ∙ added)) notes.numbered), added)
+    agent_notes (Err fault.Idle) said is notes = subst Noting (sym is) ([], refl, notes ∙ sym (append-nil before))
+    agent_notes (Err (fault.PassThere metaslab number)) said is notes = subst Noting (sym is) ([], refl, notes ∙ sym (append-nil before))
+    agent_notes (Err (fault.Stopped sync.Worn)) said is notes = subst Noting (sym is) (notes.more, notes.numbered, notes.are)
+    agent_notes (Err (fault.Stopped sync.Last)) said is notes = subst Noting (sym is) (notes.more, notes.numbered, notes.are)
+    agent_notes (Err (fault.Stopped sync.NoMemory)) said is notes = subst Noting (sym is) (notes.more, notes.numbered, notes.are)
+    agent_notes (Err (fault.Stopped sync.Shelf)) (Ok reply) is notes = absurd is
+    agent_notes (Err (fault.Stopped sync.Shelf)) (Err failed) is notes = tt
+
+module _ {R A : Type 0} (rack : racks.Ghosts R) (area : areas.Ghosts A) (chosen : ℕ → ℕ → List ℕ → Option ℕ → Type 0) (least : ℕ) (before after : List Entry) (old new : Pool R A) (entries : Vec Entry Global) (said : Result Reply Failed) where
+  pub agent_step : (answer : Result (Option AgentErrors) GiveFault) → IsAgentReply old.geometry.spec.parity entries answer said → after ≡ before ++ entries.items
+      → Steps rack area old new (λ g p. RepairEnds g p chosen least before answer after) → (x : State) → Represents rack area old x → CarriesOut rack area new x (AgentSays x chosen least before said after)
+  agent_step answer is added step x r =
+      carries_so rack area new x (λ holds store. (store ≡ x.store) × RepairEnds x.geometry x.perms chosen least before answer after holds) (AgentSays x chosen least before said after) (step x r)
+      (λ holds store d. inr (record {
+        answer = answer;
+        entries = entries;
+        reply = subst (λ (g : Geometry). IsAgentReply g.spec.parity entries answer said) (sym r.stands.geometry) is;
+        added = added;
+        kept = d.0;
+        ends = d.1;
+      }))
+
+  -- memory was wanting for the list
+  pub agent_wants : said ≡ Ok (replies.NoMemory name.Agent) → after ≡ before → (x : State) → Represents rack area old x → CarriesOut rack area old x (AgentSays x chosen least before said after)
+  agent_wants is same x r = carried rack area old x [] x (AgentSays x chosen least before said after) refl r (inl (record { said_is = is; same = same; kept = refl; none = refl }))

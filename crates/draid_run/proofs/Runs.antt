@@ -5,22 +5,21 @@ use Rattle.draid_rack.specs.declared.Rack as racks
 use Rattle.draid_area.specs.declared.Area as areas
 use Rattle.draid_script.specs.Grammar.{line_of}
 use Rattle.draid_script.specs.Line.{Command, RunAgent, ShowJournal}
-use Rattle.draid_script.specs.declared.fault.LineFault.{LineFault}
+use Rattle.draid_script.specs.declared.name.CommandName.{CommandName}
 use Rattle.draid_session.specs.Said.{Said}
 use Rattle.draid_session.specs.Choices.{Choices}
 use Rattle.draid_session.specs.Session.{Agrees, Desk, Finding, Untouched, Bare, Made, Open, Shut, Foreign, Unknown, Notes, Runs, Sitting, SittingTurns, TurnsBy}
 use Rattle.draid_pool.specs.declared.pool.Pool.{Pool}
-use Rattle.draid_run.specs.Desks.{IsDesk}
-use Rattle.draid_run.specs.Script.{IsBuilt}
+use Rattle.draid_run.specs.Desks.{IsDesk, asked_in}
 use Rattle.draid_pool.specs.Shelves.{OnShelf}
 use Rattle.draid_run.specs.Shelves.{HoldsDesk, TellsAsBefore}
 
--- what is built so far adds nothing to the journal
-pub built_notes : (choices : Choices) (finds : Finding → Type 0) (past : List Entry) (line : Result Command LineFault) → IsBuilt line → (old : Desk) (saids : List Said) (new : Desk) (turns : TurnsBy choices finds line old saids new)
-    → Notes choices finds past line old saids new turns []
-built_notes choices finds past (Ok (RunAgent least)) built old saids new turns = absurd (built tt)
-built_notes choices finds past (Ok ShowJournal) built old saids new turns = absurd (built tt)
-built_notes choices finds past line built old saids new turns = refl
+-- what is asked of the open pool alone adds nothing to the journal
+pub ask_notes : (choices : Choices) (finds : Finding → Type 0) (past : List Entry) (command : Command) (called : CommandName) → asked_in command ≡ Some called → (old : Desk) (saids : List Said) (new : Desk)
+    (turns : TurnsBy choices finds (Ok command) old saids new) → Notes choices finds past (Ok command) old saids new turns []
+ask_notes choices finds past (RunAgent least) called is old saids new turns = absurd (cc is)
+ask_notes choices finds past ShowJournal called is old saids new turns = absurd (cc is)
+ask_notes choices finds past command called is old saids new turns = refl
 
 -- one more line is answered
 pub runs_more : (choices : Choices) (finds : Finding → Type 0) (tells : Bool) (start : Sitting) (lines : List (List ℕ)) (replies : List (List Said)) (mid : Sitting) (line : List ℕ) (saids : List Said) (new : Sitting)

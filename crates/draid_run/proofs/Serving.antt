@@ -4,6 +4,7 @@ use Rattle.std.specs.Prelude.{MatchOption, is_some, ⊤}
 use Rattle.std.specs.Io.KnownBytes.{prepend_known}
 use Rattle.std.proofs.lemmas.Grind.{flat_map-append}
 use Rattle.std.proofs.lemmas.List.{append-nil}
+use Rattle.draid_names.specs.declared.journal.Entry.{Entry}
 use Rattle.draid_record.specs.declared.fault.RecordFaultKind.{RecordFaultKind}
 use Rattle.draid_rack.specs.declared.Rack as racks
 use Rattle.draid_area.specs.declared.Area as areas
@@ -17,7 +18,7 @@ use Rattle.draid_session.specs.Places.{Outside, Place, line_behind, place_behind
 use Rattle.draid_session.specs.Session.{Desk, Untouched, Bare, Made, Open, Shut, Foreign, Unknown, RecordFails, Runs, ShelfFails, Sitting, sits}
 use Rattle.draid_pool.specs.declared.pool.Pool.{Pool}
 use Rattle.draid_run.specs.Crashes.{IsFirmShut, LeavesFirm, crash_came_last}
-use Rattle.draid_run.specs.Desks.{IsDesk, Turned}
+use Rattle.draid_run.specs.Desks.{IsDesk, Noted, Turned}
 use Rattle.draid_run.specs.Script.{AreBuilt, IsBuilt, all_said, BreaksOff, Ends, FaultyShut, GetsReplies, LineFaultIs, Shows, said_text, texts_of}
 use Rattle.draid_run.specs.Serve.{BrokenLine, Cut, LineIs, Printed, Served, Serving, TextIs, Untold}
 use Rattle.draid_pool.specs.Shelves.{OnShelf}
@@ -29,7 +30,7 @@ use Rattle.draid_run.proofs.Crashing.{firm_more}
 use Rattle.draid_run.proofs.Exits.{rose_from}
 use Rattle.draid_run.proofs.Known.{appends_more, appends_none, known_input, known_on}
 use Rattle.draid_run.proofs.Risen.{cause_fault, fails_shut, faulty_shut}
-use Rattle.draid_run.proofs.Runs.{built_notes, desk_agrees, runs_more}
+use Rattle.draid_run.proofs.Runs.{desk_agrees, runs_more}
 
 -- the replies to one more line
 all_more : (replies : List (List Said)) (saids : List Said) → all_said (replies ++ saids ∷ []) ≡ all_said replies ++ saids
@@ -120,25 +121,25 @@ module _ {R A : Type 0} (rack : racks.Ghosts R) (area : areas.Ghosts A) (choices
   NamesFault before status = ⊤
 
   -- the line under another name of its number and its text
-  pub line_by : (number number' : ℕ) (text text' : List ℕ) (before : OnShelf) (pool : Option (Pool R A)) (x : Desk) (now : OnShelf) (pool' : Option (Pool R A)) (held held' : Option (List ℕ)) (result : Result Unit Status)
-      → number ≡ number' → text ≡ text' → LineIs rack area choices number text entry before pool x now pool' held held' result → LineIs rack area choices number' text' entry before pool x now pool' held held' result
-  line_by number number' text text' before pool x now pool' held held' result numbers texts line =
-      let P : ℕ → Type 0 = λ n. LineIs rack area choices n text entry before pool x now pool' held held' result in
-      let Q : List ℕ → Type 0 = λ t. LineIs rack area choices number' t entry before pool x now pool' held held' result in
+  pub line_by : (past after : List Entry) (number number' : ℕ) (text text' : List ℕ) (before : OnShelf) (pool : Option (Pool R A)) (x : Desk) (now : OnShelf) (pool' : Option (Pool R A)) (held held' : Option (List ℕ)) (result : Result Unit Status)
+      → number ≡ number' → text ≡ text' → LineIs rack area choices past after number text entry before pool x now pool' held held' result → LineIs rack area choices past after number' text' entry before pool x now pool' held held' result
+  line_by past after number number' text text' before pool x now pool' held held' result numbers texts line =
+      let P : ℕ → Type 0 = λ n. LineIs rack area choices past after n text entry before pool x now pool' held held' result in
+      let Q : List ℕ → Type 0 = λ t. LineIs rack area choices past after number' t entry before pool x now pool' held held' result in
       subst Q texts (subst P numbers line)
 
   -- a line that wasn't run has no fault of the source's, nor of the words
-  pub line_no_source : (number : ℕ) (text : List ℕ) (before : OnShelf) (pool : Option (Pool R A)) (x : Desk) (now : OnShelf) (pool' : Option (Pool R A)) (held held' : Option (List ℕ)) (status : Status)
-      → LineIs rack area choices number text entry before pool x now pool' held held' (Err status) → status ≡ SourceFault → ⊥
-  line_no_source number text before pool x now pool' held held' status line is = subst (λ s. LineIs rack area choices number text entry before pool x now pool' held held' (Err s)) is line
+  pub line_no_source : (past after : List Entry) (number : ℕ) (text : List ℕ) (before : OnShelf) (pool : Option (Pool R A)) (x : Desk) (now : OnShelf) (pool' : Option (Pool R A)) (held held' : Option (List ℕ)) (status : Status)
+      → LineIs rack area choices past after number text entry before pool x now pool' held held' (Err status) → status ≡ SourceFault → ⊥
+  line_no_source past after number text before pool x now pool' held held' status line is = subst (λ s. LineIs rack area choices past after number text entry before pool x now pool' held held' (Err s)) is line
 
-  pub line_no_done : (number : ℕ) (text : List ℕ) (before : OnShelf) (pool : Option (Pool R A)) (x : Desk) (now : OnShelf) (pool' : Option (Pool R A)) (held held' : Option (List ℕ)) (status : Status)
-      → LineIs rack area choices number text entry before pool x now pool' held held' (Err status) → status ≡ Done → ⊥
-  line_no_done number text before pool x now pool' held held' status line is = subst (λ s. LineIs rack area choices number text entry before pool x now pool' held held' (Err s)) is line
+  pub line_no_done : (past after : List Entry) (number : ℕ) (text : List ℕ) (before : OnShelf) (pool : Option (Pool R A)) (x : Desk) (now : OnShelf) (pool' : Option (Pool R A)) (held held' : Option (List ℕ)) (status : Status)
+      → LineIs rack area choices past after number text entry before pool x now pool' held held' (Err status) → status ≡ Done → ⊥
+  line_no_done past after number text before pool x now pool' held held' status line is = subst (λ s. LineIs rack area choices past after number text entry before pool x now pool' held held' (Err s)) is line
 
-  pub line_no_usage : (number : ℕ) (text : List ℕ) (before : OnShelf) (pool : Option (Pool R A)) (x : Desk) (now : OnShelf) (pool' : Option (Pool R A)) (held held' : Option (List ℕ)) (status : Status)
-      → LineIs rack area choices number text entry before pool x now pool' held held' (Err status) → status ≡ Usage → ⊥
-  line_no_usage number text before pool x now pool' held held' status line is = subst (λ s. LineIs rack area choices number text entry before pool x now pool' held held' (Err s)) is line
+  pub line_no_usage : (past after : List Entry) (number : ℕ) (text : List ℕ) (before : OnShelf) (pool : Option (Pool R A)) (x : Desk) (now : OnShelf) (pool' : Option (Pool R A)) (held held' : Option (List ℕ)) (status : Status)
+      → LineIs rack area choices past after number text entry before pool x now pool' held held' (Err status) → status ≡ Usage → ⊥
+  line_no_usage past after number text before pool x now pool' held held' status line is = subst (λ s. LineIs rack area choices past after number text entry before pool x now pool' held held' (Err s)) is line
 
   -- a desk without a pool
   shut_desk : (first : Desk) → HoldsDesk first entry entry → IsDesk rack area entry entry None first
@@ -150,12 +151,11 @@ module _ {R A : Type 0} (rack : racks.Ghosts R) (area : areas.Ghosts A) (choices
   shut_desk (Foreign known) is = absurd is
   shut_desk (Open x) is = absurd is
 
-  pub serving_none : (input start : Option (List ℕ)) (first : Desk) → HoldsDesk first entry entry → Serving rack area choices first input (prepend_known [] input) start start entry entry None 0
+  pub serving_none : (input start : Option (List ℕ)) (first : Desk) → HoldsDesk first entry entry → Serving rack area choices [] first input (prepend_known [] input) start start entry entry None 0
   serving_none input start first at = record {
     lines = [];
     replies = [];
     reached = first;
-    journal = [];
     count_is = refl;
     desk = shut_desk first at;
     runs = refl;
@@ -169,59 +169,58 @@ module _ {R A : Type 0} (rack : racks.Ghosts R) (area : areas.Ghosts A) (choices
     starts None = tt
     starts (Some x) = refl
 
-  pub serving_start : (input start : Option (List ℕ)) (lines : Rest) (pool : Option (Pool R A)) → lines ≡ record { held = []; given = 0; fault = None } → pool ≡ None
-      → (first : Desk) → HoldsDesk first entry entry → Serving rack area choices first input (prepend_known lines.held input) start start entry entry pool lines.given
-  serving_start input start lines pool is none first at = rw is (rw none (serving_none input start first at))
+  pub serving_start : (input start : Option (List ℕ)) (lines : Rest) (pool : Option (Pool R A)) (journal : List Entry) → lines ≡ record { held = []; given = 0; fault = None } → pool ≡ None → journal ≡ []
+      → (first : Desk) → HoldsDesk first entry entry → Serving rack area choices journal first input (prepend_known lines.held input) start start entry entry pool lines.given
+  serving_start input start lines pool journal is none empty first at = rw is (rw none (rw empty (serving_none input start first at)))
 
   module _ (first : Desk) where
     -- the lines so far, and one more
     abbrev RunsSo : List (List ℕ) → List (List Said) → Sitting → Type 0
     RunsSo lines replies new = Runs choices (MayFind rack area entry) (is_some entry.held) (sits first []) lines replies new
 
-    more : (lines : List (List ℕ)) (replies : List (List Said)) (mid : Sitting) (line : List ℕ) (saids : List Said) (now : OnShelf) (pool : Option (Pool R A)) → RunsSo lines replies mid
-        → (turned : Turned rack area choices (line_of line) entry mid.desk saids now pool) → IsBuilt (line_of line) → TellsAsBefore entry now → RunsSo (lines ++ line ∷ []) (replies ++ saids ∷ []) (sits turned.new mid.journal)
-    more lines replies mid line saids now pool runs turned built tells =
-        runs_more choices (MayFind rack area entry) (is_some entry.held) (sits first []) lines replies mid line saids (sits turned.new mid.journal) runs
-        (turned.turns, [], built_notes choices (MayFind rack area entry) mid.journal (line_of line) built mid.desk saids turned.new turned.turns, sym (append-nil mid.journal))
+    more : (past after : List Entry) (lines : List (List ℕ)) (replies : List (List Said)) (mid : Desk) (line : List ℕ) (saids : List Said) (now : OnShelf) (pool : Option (Pool R A)) → RunsSo lines replies (sits mid past)
+        → (turned : Turned rack area choices (line_of line) entry mid saids now pool) → Noted rack area choices (line_of line) entry mid saids now pool turned past after → TellsAsBefore entry now
+        → RunsSo (lines ++ line ∷ []) (replies ++ saids ∷ []) (sits turned.new after)
+    more past after lines replies mid line saids now pool runs turned noted tells =
+        runs_more choices (MayFind rack area entry) (is_some entry.held) (sits first []) lines replies (sits mid past) line saids (sits turned.new after) runs (turned.turns, noted.0, noted.1, noted.2)
         (desk_agrees rack area entry now pool turned.new tells turned.desk)
 
     firm_so : (lines : List (List ℕ)) (replies : List (List Said)) (mid : Sitting) (line : List ℕ) (saids : List Said) (before now : OnShelf) (pool pool' : Option (Pool R A)) → RunsSo lines replies mid
         → (crash_came_last Outside false lines replies ≡ true → IsFirmShut before pool) → LeavesFirm (line_of line) saids before pool now pool' → crash_came_last Outside false (lines ++ line ∷ []) (replies ++ saids ∷ []) ≡ true → IsFirmShut now pool'
     firm_so lines replies mid line saids before now pool pool' runs firm leaves = firm_more choices (MayFind rack area entry) (is_some entry.held) (sits first []) lines replies mid line saids before now pool pool' runs firm leaves
 
-    pub serving_more : (input rest rest' start held held' : Option (List ℕ)) (before now : OnShelf) (pool pool' : Option (Pool R A)) (count : ℕ) (line : List ℕ)
-        → (is : Serving rack area choices first input rest start held entry before pool count)
+    pub serving_more : (past after : List Entry) (input rest rest' start held held' : Option (List ℕ)) (before now : OnShelf) (pool pool' : Option (Pool R A)) (count : ℕ) (line : List ℕ)
+        → (is : Serving rack area choices past first input rest start held entry before pool count)
         → WhereKnown rest rest' (λ old new. lines_of old ≡ line ∷ lines_of new)
-        → Printed rack area choices line entry before pool is.reached now pool' held held' → TellsAsBefore entry now
-        → Serving rack area choices first input rest' start held' entry now pool' (count + 1)
-    serving_more input rest rest' start held held' before now pool pool' count line is behind printed tells =
+        → Printed rack area choices past after line entry before pool is.reached now pool' held held' → TellsAsBefore entry now
+        → Serving rack area choices after first input rest' start held' entry now pool' (count + 1)
+    serving_more past after input rest rest' start held held' before now pool pool' count line is behind printed tells =
         let counted = is.count_is in
         let longer = length-append is.lines (line ∷ []) in
         record {
           lines = is.lines ++ line ∷ [];
           replies = is.replies ++ printed.saids ∷ [];
           reached = printed.turned.new;
-          journal = is.journal;
           count_is = omega (arith, counted, longer);
           desk = printed.turned.desk;
-          runs = more is.lines is.replies (sits is.reached is.journal) line printed.saids now pool' is.runs printed.turned printed.built tells;
+          runs = more past after is.lines is.replies is.reached line printed.saids now pool' is.runs printed.turned printed.noted tells;
           known = known_on input rest rest' _ _ _ (λ x y z a b. lines_more x y z is.lines line a b) is.known behind;
           printed = rw (texts_more is.replies printed.saids) (appends_more start held held' _ _ is.printed printed.prints);
           unanswered = λ none. absurd (not_none is.lines line none);
-          firm = firm_so is.lines is.replies (sits is.reached is.journal) line printed.saids before now pool pool' is.runs is.firm printed.firm;
+          firm = firm_so is.lines is.replies (sits is.reached past) line printed.saids before now pool pool' is.runs is.firm printed.firm;
           built = built_more Outside is.lines line is.built printed.built;
         }
 
     -- The run ends with no line under way, for a cause that is neither a failing shelf nor a record's fault.
-    at_rest : (input rest start held : Option (List ℕ)) (now : OnShelf) (pool : Option (Pool R A)) (count : ℕ) (is : Serving rack area choices first input rest start held entry now pool count) (ended : Status)
+    at_rest : (past : List Entry) (input rest start held : Option (List ℕ)) (now : OnShelf) (pool : Option (Pool R A)) (count : ℕ) (is : Serving rack area choices past first input rest start held entry now pool count) (ended : Status)
         → BreaksOff is.lines ended None [] is.reached is.reached → MatchOption input ⊤ (Ends ended None is.lines) → Shows ended is.replies (all_said is.replies) → GetsReplies ended (all_said is.replies) start held
         → (ended ≡ ShelfFault → ⊥) → ((metaslab : Option ℕ) (place : ℕ) (kind : RecordFaultKind) → ended ≡ Record metaslab place kind → ⊥) → Served rack area choices first ended input start held entry now pool
-    at_rest input rest start held now pool count is ended breaks ends shows prints no_shelf no_record = record {
+    at_rest past input rest start held now pool count is ended breaks ends shows prints no_shelf no_record = record {
       lines = is.lines;
       replies = is.replies;
       shown = all_said is.replies;
       mid = is.reached;
-      journal = is.journal;
+      journal = past;
       last = is.reached;
       broken = None;
       saids = [];
@@ -239,48 +238,48 @@ module _ {R A : Type 0} (rack : racks.Ghosts R) (area : areas.Ghosts A) (choices
     }
 
     -- the input ended
-    pub served_done : (input rest rest' start held : Option (List ℕ)) (now : OnShelf) (pool : Option (Pool R A)) (count : ℕ)
-        → Serving rack area choices first input rest start held entry now pool count → WhereKnown rest rest' (λ old new. old ≡ [])
+    pub served_done : (past : List Entry) (input rest rest' start held : Option (List ℕ)) (now : OnShelf) (pool : Option (Pool R A)) (count : ℕ)
+        → Serving rack area choices past first input rest start held entry now pool count → WhereKnown rest rest' (λ old new. old ≡ [])
         → Served rack area choices first Done input start held entry now pool
-    served_done input rest rest' start held now pool count is end = at_rest input rest start held now pool count is Done (refl, refl)
+    served_done past input rest rest' start held now pool count is end = at_rest past input rest start held now pool count is Done (refl, refl)
         (known_input input rest' _ _ (λ x z e. e)
         (known_on input rest rest' _ _ (λ all behind. lines_of all ≡ is.lines)
         (λ x y z a b. a ∙ ap (λ bytes. is.lines ++ lines_of bytes) b ∙ ap (λ xs. is.lines ++ xs) lines_none ∙ append-nil is.lines) is.known end))
         refl is.printed (λ e. cc e) (λ metaslab place kind e. cc e)
 
     -- the next line could not be read
-    pub served_unread : (input start held left left' : Option (List ℕ)) (now : OnShelf) (pool : Option (Pool R A)) (lines lines' : Rest) (status : Status)
-        → Serving rack area choices first input (prepend_known lines.held left) start held entry now pool lines.given → TextIs lines lines' left left' (Err status)
+    pub served_unread : (past : List Entry) (input start held left left' : Option (List ℕ)) (now : OnShelf) (pool : Option (Pool R A)) (lines lines' : Rest) (status : Status)
+        → Serving rack area choices past first input (prepend_known lines.held left) start held entry now pool lines.given → TextIs lines lines' left left' (Err status)
         → Served rack area choices first status input start held entry now pool
-    served_unread input start held left left' now pool lines lines' SourceFault is text = at_rest input (prepend_known lines.held left) start held now pool lines.given is SourceFault (refl, refl)
+    served_unread past input start held left left' now pool lines lines' SourceFault is text = at_rest past input (prepend_known lines.held left) start held now pool lines.given is SourceFault (refl, refl)
         (known_input input _ _ _ (λ x y e. (lines_of y, e)) is.known)
         refl is.printed (λ e. cc e) (λ metaslab place kind e. cc e)
-    served_unread input start held left left' now pool lines lines' NoMemory is text = at_rest input (prepend_known lines.held left) start held now pool lines.given is NoMemory (refl, refl)
+    served_unread past input start held left left' now pool lines lines' NoMemory is text = at_rest past input (prepend_known lines.held left) start held now pool lines.given is NoMemory (refl, refl)
         (known_input input _ _ _ (λ x y e. (lines_of y, e)) is.known)
         (inl refl) is.printed (λ e. cc e) (λ metaslab place kind e. cc e)
-    served_unread input start held left left' now pool lines lines' (TooLong line) is text =
+    served_unread past input start held left left' now pool lines lines' (TooLong line) is text =
         let counted = is.count_is in
         let number = text.0 in
-        at_rest input (prepend_known lines.held left) start held now pool lines.given is (TooLong line) (refl, refl)
+        at_rest past input (prepend_known lines.held left) start held now pool lines.given is (TooLong line) (refl, refl)
         (known_input input _ _ _ (λ x z e. e)
         (known_on input (prepend_known lines.held left) (prepend_known lines'.held left') _ _ (λ all behind. Ends (TooLong line) None is.lines all)
         (λ x y z a b. (y, a, rw counted b, omega (arith, counted, number))) is.known text.1))
         refl is.printed (λ e. cc e) (λ metaslab place kind e. cc e)
-    served_unread input start held left left' now pool lines lines' Done is text = absurd text
-    served_unread input start held left left' now pool lines lines' Usage is text = absurd text
-    served_unread input start held left left' now pool lines lines' (Line line kind at) is text = absurd text
-    served_unread input start held left left' now pool lines lines' SinkFault is text = absurd text
-    served_unread input start held left left' now pool lines lines' ShelfFault is text = absurd text
-    served_unread input start held left left' now pool lines lines' (Record metaslab place kind) is text = absurd text
+    served_unread past input start held left left' now pool lines lines' Done is text = absurd text
+    served_unread past input start held left left' now pool lines lines' Usage is text = absurd text
+    served_unread past input start held left left' now pool lines lines' (Line line kind at) is text = absurd text
+    served_unread past input start held left left' now pool lines lines' SinkFault is text = absurd text
+    served_unread past input start held left left' now pool lines lines' ShelfFault is text = absurd text
+    served_unread past input start held left left' now pool lines lines' (Record metaslab place kind) is text = absurd text
 
     -- a line was taken, and the run ended with it
-    module _ (input rest rest' start held : Option (List ℕ)) (before : OnShelf) (pool : Option (Pool R A)) (count : ℕ) (line : List ℕ) (behind : WhereKnown rest rest' (λ old new. lines_of old ≡ line ∷ lines_of new))
-        (is : Serving rack area choices first input rest start held entry before pool count) (later : entry.faults ≤ before.faults) where
+    module _ (past : List Entry) (input rest rest' start held : Option (List ℕ)) (before : OnShelf) (pool : Option (Pool R A)) (count : ℕ) (line : List ℕ) (behind : WhereKnown rest rest' (λ old new. lines_of old ≡ line ∷ lines_of new))
+        (is : Serving rack area choices past first input rest start held entry before pool count) (later : entry.faults ≤ before.faults) where
       -- it can't be run
       unrun : (number : ℕ) (why : LineRefusal) (at : ℕ) → LineFaultIs (line_of line) why at → number ≡ count + 1 → Served rack area choices first (Line number why at) input start held entry before pool
       unrun number kind at fault n =
           let counted = is.count_is in
-          at_rest input rest start held before pool count is (Line number kind at) (refl, refl)
+          at_rest past input rest start held before pool count is (Line number kind at) (refl, refl)
           (known_input input rest' _ _ (λ x z e. e)
           (known_on input rest rest' _ _ (λ all _. Ends (Line number kind at) None is.lines all)
           (λ x y z a b. (line, lines_of z, a ∙ ap (λ xs. is.lines ++ xs) b, fault, omega (arith, counted, n))) is.known behind))
@@ -288,25 +287,25 @@ module _ {R A : Type 0} (rack : racks.Ghosts R) (area : areas.Ghosts A) (choices
 
       -- memory was wanting before it was done
       undone : Served rack area choices first NoMemory input start held entry before pool
-      undone = at_rest input rest start held before pool count is NoMemory (refl, refl)
+      undone = at_rest past input rest start held before pool count is NoMemory (refl, refl)
           (known_input input rest' _ _ (λ x z e. (line ∷ lines_of z, e))
           (known_on input rest rest' _ _ (λ all z. lines_of all ≡ is.lines ++ (line ∷ lines_of z)) (λ x y z a b. a ∙ ap (λ xs. is.lines ++ xs) b) is.known behind))
           (inl refl) is.printed (λ e. cc e) (λ metaslab place kind e. cc e)
 
-      module _ (now : OnShelf) (pool' : Option (Pool R A)) (tells : TellsAsBefore entry now) where
+      module _ (after : List Entry) (now : OnShelf) (pool' : Option (Pool R A)) (tells : TellsAsBefore entry now) where
         -- its reply could not be put
-        unput : (held' : Option (List ℕ)) → Cut rack area choices line entry before pool is.reached now pool' held held' → Served rack area choices first SinkFault input start held' entry now pool'
+        unput : (held' : Option (List ℕ)) → Cut rack area choices past after line entry before pool is.reached now pool' held held' → Served rack area choices first SinkFault input start held' entry now pool'
         unput held' cut = record {
           lines = is.lines ++ line ∷ [];
           replies = is.replies ++ (cut.part ++ cut.said ∷ cut.rest) ∷ [];
           shown = all_said is.replies ++ (cut.part ++ cut.said ∷ []);
           mid = cut.turned.new;
-          journal = is.journal;
+          journal = after;
           last = cut.turned.new;
           broken = None;
           saids = [];
           desk = cut.turned.desk;
-          runs = more is.lines is.replies (sits is.reached is.journal) line (cut.part ++ cut.said ∷ cut.rest) now pool' is.runs cut.turned cut.built tells;
+          runs = more past after is.lines is.replies is.reached line (cut.part ++ cut.said ∷ cut.rest) now pool' is.runs cut.turned cut.noted tells;
           breaks = (refl, refl);
           ends = known_input input rest' _ _ (λ x z e. (lines_of z, e))
               (known_on input rest rest' _ _ _ (λ x y z a b. lines_more x y z is.lines line a b) is.known behind);
@@ -327,23 +326,23 @@ module _ {R A : Type 0} (rack : racks.Ghosts R) (area : areas.Ghosts A) (choices
           failed = λ e. absurd (cc e);
           since = λ e. absurd (cc e);
           bad = λ metaslab place kind e. absurd (cc e);
-          firm = λ rest. firm_so is.lines is.replies (sits is.reached is.journal) line (cut.part ++ cut.said ∷ cut.rest) before now pool pool' is.runs is.firm cut.firm;
+          firm = λ rest. firm_so is.lines is.replies (sits is.reached past) line (cut.part ++ cut.said ∷ cut.rest) before now pool pool' is.runs is.firm cut.firm;
           built = built_more Outside is.lines line is.built cut.built;
         }
 
         -- memory was wanting for the text of its reply
-        untold : (held' : Option (List ℕ)) → Untold rack area choices line entry before pool is.reached now pool' held held' → Served rack area choices first NoMemory input start held' entry now pool'
+        untold : (held' : Option (List ℕ)) → Untold rack area choices past after line entry before pool is.reached now pool' held held' → Served rack area choices first NoMemory input start held' entry now pool'
         untold held' cut = record {
           lines = is.lines ++ line ∷ [];
           replies = is.replies ++ (cut.part ++ cut.said ∷ cut.rest) ∷ [];
           shown = all_said is.replies ++ cut.part;
           mid = cut.turned.new;
-          journal = is.journal;
+          journal = after;
           last = cut.turned.new;
           broken = None;
           saids = [];
           desk = cut.turned.desk;
-          runs = more is.lines is.replies (sits is.reached is.journal) line (cut.part ++ cut.said ∷ cut.rest) now pool' is.runs cut.turned cut.built tells;
+          runs = more past after is.lines is.replies is.reached line (cut.part ++ cut.said ∷ cut.rest) now pool' is.runs cut.turned cut.noted tells;
           breaks = (refl, refl);
           ends = known_input input rest' _ _ (λ x z e. (lines_of z, e))
               (known_on input rest rest' _ _ _ (λ x y z a b. lines_more x y z is.lines line a b) is.known behind);
@@ -352,7 +351,7 @@ module _ {R A : Type 0} (rack : racks.Ghosts R) (area : areas.Ghosts A) (choices
           failed = λ e. absurd (cc e);
           since = λ e. absurd (cc e);
           bad = λ metaslab place kind e. absurd (cc e);
-          firm = λ rest. firm_so is.lines is.replies (sits is.reached is.journal) line (cut.part ++ cut.said ∷ cut.rest) before now pool pool' is.runs is.firm cut.firm;
+          firm = λ rest. firm_so is.lines is.replies (sits is.reached past) line (cut.part ++ cut.said ∷ cut.rest) before now pool pool' is.runs is.firm cut.firm;
           built = built_more Outside is.lines line is.built cut.built;
         }
 
@@ -363,7 +362,7 @@ module _ {R A : Type 0} (rack : racks.Ghosts R) (area : areas.Ghosts A) (choices
           replies = is.replies;
           shown = all_said is.replies;
           mid = is.reached;
-          journal = is.journal;
+          journal = past;
           last = at.broken.new;
           broken = Some line;
           saids = [];
@@ -389,7 +388,7 @@ module _ {R A : Type 0} (rack : racks.Ghosts R) (area : areas.Ghosts A) (choices
           replies = is.replies;
           shown = all_said is.replies;
           mid = is.reached;
-          journal = is.journal;
+          journal = past;
           last = at.broken.new;
           broken = Some line;
           saids = [];
@@ -412,7 +411,7 @@ module _ {R A : Type 0} (rack : racks.Ghosts R) (area : areas.Ghosts A) (choices
                 let holds : HoldsFault rack area before m p k = subst (λ (s : Status). NamesFault before s) e fault in
                 faulty_shut rack area line is.lines at.command is.reached at.broken.new entry before m p k at.line is.desk.shelf later is.unanswered at.broken.breaks holds
 
-        pub served_line : (held' : Option (List ℕ)) (status : Status) → LineIs rack area choices (count + 1) line entry before pool is.reached now pool' held held' (Err status)
+        pub served_line : (held' : Option (List ℕ)) (status : Status) → LineIs rack area choices past after (count + 1) line entry before pool is.reached now pool' held held' (Err status)
             → Served rack area choices first status input start held' entry now pool'
         served_line held' SinkFault became = unput held' became
         served_line held' (Line number kind at) became =

@@ -60,14 +60,23 @@ module _ (choices : Choices) (finds : Finding → Type 0) where
   any_line (Ok command) old new (said ∷ []) is = (is.0, any_reply old new command said.reply is.1)
   any_line (Ok command) old new (said ∷ other ∷ more) is = absurd is
 
-  any_notes : (past more : List Entry) (line : Result Command LineFault) (old new : Desk) (saids : List Said) (turns : TurnsBy choices finds line old saids new) → Notes choices finds past line old saids new turns more
-      → Notes choices IsAnything past line old saids new (any_line line old new saids turns) more
-  any_notes past more (Ok (RunAgent least)) (Open x) new (said ∷ []) turns notes = notes
-  any_notes past more (Ok (RunAgent least)) (Foreign known) new (said ∷ []) turns notes = notes
-  any_notes past more (Ok (RunAgent least)) old new saids turns notes = notes
-  any_notes past more (Ok ShowJournal) old new (said ∷ []) turns notes = notes
-  any_notes past more (Ok ShowJournal) old new saids turns notes = notes
-  any_notes past more line old new saids turns notes = notes
+  module _ (past more : List Entry) where
+    any_run : (least : ℕ) (old new : Desk) (saids : List Said) (turns : TurnsBy choices finds (Ok (RunAgent least)) old saids new) → Notes choices finds past (Ok (RunAgent least)) old saids new turns more
+        → Notes choices IsAnything past (Ok (RunAgent least)) old saids new (any_line (Ok (RunAgent least)) old new saids turns) more
+    any_run least (Open x) new (said ∷ []) turns notes = notes
+    any_run least (Foreign known) new (said ∷ []) turns notes = notes
+    any_run least old new saids turns notes = notes
+
+    any_shown : (old new : Desk) (saids : List Said) (turns : TurnsBy choices finds (Ok ShowJournal) old saids new) → Notes choices finds past (Ok ShowJournal) old saids new turns more
+        → Notes choices IsAnything past (Ok ShowJournal) old saids new (any_line (Ok ShowJournal) old new saids turns) more
+    any_shown old new (said ∷ []) turns notes = notes
+    any_shown old new saids turns notes = notes
+
+    any_notes : (line : Result Command LineFault) (old new : Desk) (saids : List Said) (turns : TurnsBy choices finds line old saids new) → Notes choices finds past line old saids new turns more
+        → Notes choices IsAnything past line old saids new (any_line line old new saids turns) more
+    any_notes (Ok (RunAgent least)) old new saids turns notes = any_run least old new saids turns notes
+    any_notes (Ok ShowJournal) old new saids turns notes = any_shown old new saids turns notes
+    any_notes line old new saids turns notes = notes
 
   any_sitting : (line : Result Command LineFault) (old new : Sitting) (saids : List Said) → SittingTurns choices finds line old saids new → SittingTurns choices IsAnything line old saids new
   any_sitting line old new saids t = (any_line line old.desk new.desk saids t.0, t.1, any_notes old.journal t.1 line old.desk new.desk saids t.0 t.2, t.3)

@@ -1,6 +1,7 @@
 -- For which desk the pool and the shelf stand between lines, and what a command comes to.
-use Rattle.std.specs.Prelude.{◌≡◌, ◌⊎◌, ⊤, List, Option, Some, None, Result, Ok, Err}
+use Rattle.std.specs.Prelude.{◌≡◌, ◌++◌, ◌⊎◌, ⊤, List, Option, Some, None, Result, Ok, Err}
 use Rattle.draid_names.specs.declared.fault.Failed.{Failed}
+use Rattle.draid_names.specs.declared.journal.Entry.{Entry}
 use Rattle.draid_rack.specs.declared.Rack as racks
 use Rattle.draid_area.specs.declared.Area as areas
 use Rattle.draid_script.specs.Line.{Command, Silent, CreatePool, ImportPool, ExportPool, SyncPool, CancelPasses, CrashPool, WriteObject, FillObjects, ReadObject, FreeObject, SumObjects, TakeOffline, TakeOnline, DamageSector, AttachSpare, ReplaceDisk, DetachArm, RebuildPool, ScrubPool, RebalanceSlot, ShowStatus, OpenLanes, UpgradePool, RunAgent, ShowJournal, TakeCheckpoint, RewindPool, DiscardCheckpoint}
@@ -16,7 +17,7 @@ use Rattle.draid_session.specs.Does as session
 use Rattle.draid_session.specs.Holds.{Hold}
 use Rattle.draid_session.specs.State.{State, Store}
 use Rattle.draid_session.specs.Replies.{IsReplyTo}
-use Rattle.draid_session.specs.Session.{Desk, Open, Foreign, Breaks, Cause, MayBreak, RecordFails, ShelfFails, TurnsBy, left_of}
+use Rattle.draid_session.specs.Session.{Desk, Open, Foreign, Breaks, Cause, MayBreak, Notes, RecordFails, ShelfFails, TurnsBy, left_of}
 use Rattle.draid_pool.specs.Carries.{CarriesOut, ReplyDoes}
 use Rattle.draid_pool.specs.Failing.{RackFails}
 use Rattle.draid_pool.specs.Pools.{Represents}
@@ -78,7 +79,8 @@ PoolBroke rack area command (Foreign known) (Some pool) =
     IsWhole rack area pool × MayBreak command × (PoolFails area (Some pool) ⊎ (MakesLeaves command × RackFails rack.faults pool)) × KnowsPointers pool known
 PoolBroke rack area command desk pool = ⊥
 
--- The name of a command that is carried out on the pool that is open, and leaves it open. One that isn't built isn't carried out.
+-- The name of a command that is carried out on the pool that is open alone, and leaves it open. One that isn't built isn't carried out, and the agent's two have to do with the
+-- journal as well.
 abbrev pub asked_in : Command → Option CommandName
 asked_in Silent = None
 asked_in (CreatePool text children keys) = None
@@ -116,6 +118,12 @@ pub record Turned {R A : Type 0} (rack : racks.Ghosts R) (area : areas.Ghosts A)
   pub new : Desk
   pub desk : IsDesk rack area entry now pool new
   pub turns : TurnsBy choices (MayFind rack area entry) command old saids new
+
+-- What it added to the journal, which was this before.
+abbrev pub Noted : {R A : Type 0} → (rack : racks.Ghosts R) (area : areas.Ghosts A) (choices : Choices) (command : Result Command LineFault) (entry : OnShelf) (old : Desk)
+    (saids : List Said) (now : OnShelf) (pool : Option (Pool R A)) → Turned rack area choices command entry old saids now pool → List Entry → List Entry → Type 0
+Noted rack area choices command entry old saids now pool turned before after =
+    (more : List Entry) × Notes choices (MayFind rack area entry) before command old saids turned.new turned.turns more × (after ≡ before ++ more)
 
 -- What is left of a desk as the pool is given back to the shelf. What had failed shows there; where none is open the shelf is as it was.
 pub record LeavesDesk {R A : Type 0} (rack : racks.Ghosts R) (area : areas.Ghosts A) (entry before now : OnShelf) (pool : Option (Pool R A)) (desk : Desk) : Type 0 where

@@ -19,7 +19,7 @@ use Rattle.draid_session.specs.Choices.{Choices}
 use Rattle.draid_session.specs.Session.{Cause, Desk, RecordFails, Runs, ShelfFails, sits}
 use Rattle.draid_pool.specs.declared.pool.Pool.{Pool}
 use Rattle.draid_run.specs.Crashes.{IsFirmShut, LeavesFirm, crash_came_last}
-use Rattle.draid_run.specs.Desks.{Broken, IsDesk, PoolBroke, PoolDid, Turned, asked_in}
+use Rattle.draid_run.specs.Desks.{Broken, IsDesk, Noted, PoolBroke, PoolDid, Turned, asked_in}
 use Rattle.draid_run.specs.Script.{AreBuilt, IsBuilt, all_replies, all_said, BreaksOff, Ends, FailsShut, FaultyShut, GetsReplies, IsUnbuilt, LineFaultIs, Shows, said_text, texts_of}
 use Rattle.draid_pool.specs.Shelves.{OnShelf}
 use Rattle.draid_run.specs.Shelves.{HasFault, HoldsFault, IsClosed, MakesLeavesAt, MayFind, RackFault}
@@ -84,64 +84,69 @@ module _ {R A : Type 0} (rack : racks.Ghosts R) (area : areas.Ghosts A) (choices
   AskIs command pool old pool' (Err stop.Shelf) = (called : CommandName) × (asked_in command ≡ Some called) × PoolBroke rack area command old pool'
   AskIs command pool old pool' (Err (stop.Record metaslab place kind)) = ⊥
 
-  -- the reply to a command, or why it has none
-  abbrev pub AnswerIs : Command → OnShelf → OnShelf → Option (Pool R A) → Desk → OnShelf → Option (Pool R A) → Result (Option Reply) Stop → Type 0
-  AnswerIs command entry before pool old now pool' (Ok reply) =
-      Turned rack area choices (Ok command) entry old (said_of reply) now pool' × LeavesFirm (Ok command) (said_of reply) before pool now pool' × IsBuilt (Ok command)
-  AnswerIs command entry before pool old now pool' (Err stop.Unbuilt) = IsUnbuilt command × (now ≡ before) × (pool' ≡ pool)
-  AnswerIs command entry before pool old now pool' (Err stop.Shelf) = Broken rack area ShelfFails command entry before old now pool' × IsBuilt (Ok command)
-  AnswerIs command entry before pool old now pool' (Err (stop.Record metaslab place kind)) =
-      Broken rack area RecordFails command entry before old now pool' × HoldsFault rack area before metaslab place kind × IsBuilt (Ok command)
+  -- the journal was this before a line, and that behind it
+  module _ (past after : List Entry) where
+    -- the reply to a command, or why it has none
+    abbrev pub AnswerIs : Command → OnShelf → OnShelf → Option (Pool R A) → Desk → OnShelf → Option (Pool R A) → Result (Option Reply) Stop → Type 0
+    AnswerIs command entry before pool old now pool' (Ok reply) =
+        (turned : Turned rack area choices (Ok command) entry old (said_of reply) now pool') × Noted rack area choices (Ok command) entry old (said_of reply) now pool' turned past after
+        × LeavesFirm (Ok command) (said_of reply) before pool now pool' × IsBuilt (Ok command)
+    AnswerIs command entry before pool old now pool' (Err stop.Unbuilt) = IsUnbuilt command × (now ≡ before) × (pool' ≡ pool)
+    AnswerIs command entry before pool old now pool' (Err stop.Shelf) = Broken rack area ShelfFails command entry before old now pool' × IsBuilt (Ok command)
+    AnswerIs command entry before pool old now pool' (Err (stop.Record metaslab place kind)) =
+        Broken rack area RecordFails command entry before old now pool' × HoldsFault rack area before metaslab place kind × IsBuilt (Ok command)
 
-  -- A line was answered, and the replies to it were printed.
-  pub record Printed (text : List ℕ) (entry before : OnShelf) (pool : Option (Pool R A)) (old : Desk) (now : OnShelf) (pool' : Option (Pool R A)) (held held' : Option (List ℕ)) : Type 0 where
-    pub saids : List Said
-    pub turned : Turned rack area choices (line_at Outside text) entry old saids now pool'
-    pub firm : LeavesFirm (line_at Outside text) saids before pool now pool'
-    pub built : IsBuilt (line_at Outside text)
-    pub prints : Appends held held' (texts_of saids)
+    -- A line was answered, and the replies to it were printed.
+    pub record Printed (text : List ℕ) (entry before : OnShelf) (pool : Option (Pool R A)) (old : Desk) (now : OnShelf) (pool' : Option (Pool R A)) (held held' : Option (List ℕ)) : Type 0 where
+      pub saids : List Said
+      pub turned : Turned rack area choices (line_at Outside text) entry old saids now pool'
+      pub noted : Noted rack area choices (line_at Outside text) entry old saids now pool' turned past after
+      pub firm : LeavesFirm (line_at Outside text) saids before pool now pool'
+      pub built : IsBuilt (line_at Outside text)
+      pub prints : Appends held held' (texts_of saids)
 
-  -- A line was answered, and the sink failed at one of the replies to it.
-  pub record Cut (text : List ℕ) (entry before : OnShelf) (pool : Option (Pool R A)) (old : Desk) (now : OnShelf) (pool' : Option (Pool R A)) (held held' : Option (List ℕ)) : Type 0 where
-    pub part : List Said
-    pub said : Said
-    pub rest : List Said
-    pub mid : Option (List ℕ)
-    pub turned : Turned rack area choices (line_at Outside text) entry old (part ++ said ∷ rest) now pool'
-    pub firm : LeavesFirm (line_at Outside text) (part ++ said ∷ rest) before pool now pool'
-    pub built : IsBuilt (line_at Outside text)
-    pub whole : Appends held mid (texts_of part)
-    pub prints : AppendsFront mid held' (said_text said)
+    -- A line was answered, and the sink failed at one of the replies to it.
+    pub record Cut (text : List ℕ) (entry before : OnShelf) (pool : Option (Pool R A)) (old : Desk) (now : OnShelf) (pool' : Option (Pool R A)) (held held' : Option (List ℕ)) : Type 0 where
+      pub part : List Said
+      pub said : Said
+      pub rest : List Said
+      pub mid : Option (List ℕ)
+      pub turned : Turned rack area choices (line_at Outside text) entry old (part ++ said ∷ rest) now pool'
+      pub noted : Noted rack area choices (line_at Outside text) entry old (part ++ said ∷ rest) now pool' turned past after
+      pub firm : LeavesFirm (line_at Outside text) (part ++ said ∷ rest) before pool now pool'
+      pub built : IsBuilt (line_at Outside text)
+      pub whole : Appends held mid (texts_of part)
+      pub prints : AppendsFront mid held' (said_text said)
 
-  -- A line was answered, and memory was wanting for the text of one of the replies to it.
-  pub record Untold (text : List ℕ) (entry before : OnShelf) (pool : Option (Pool R A)) (old : Desk) (now : OnShelf) (pool' : Option (Pool R A)) (held held' : Option (List ℕ)) : Type 0 where
-    pub part : List Said
-    pub said : Said
-    pub rest : List Said
-    pub turned : Turned rack area choices (line_at Outside text) entry old (part ++ said ∷ rest) now pool'
-    pub firm : LeavesFirm (line_at Outside text) (part ++ said ∷ rest) before pool now pool'
-    pub built : IsBuilt (line_at Outside text)
-    pub prints : Appends held held' (texts_of part)
+    -- A line was answered, and memory was wanting for the text of one of the replies to it.
+    pub record Untold (text : List ℕ) (entry before : OnShelf) (pool : Option (Pool R A)) (old : Desk) (now : OnShelf) (pool' : Option (Pool R A)) (held held' : Option (List ℕ)) : Type 0 where
+      pub part : List Said
+      pub said : Said
+      pub rest : List Said
+      pub turned : Turned rack area choices (line_at Outside text) entry old (part ++ said ∷ rest) now pool'
+      pub noted : Noted rack area choices (line_at Outside text) entry old (part ++ said ∷ rest) now pool' turned past after
+      pub firm : LeavesFirm (line_at Outside text) (part ++ said ∷ rest) before pool now pool'
+      pub built : IsBuilt (line_at Outside text)
+      pub prints : Appends held held' (texts_of part)
 
-  -- what became of a line
-  abbrev pub LineIs : ℕ → List ℕ → OnShelf → OnShelf → Option (Pool R A) → Desk → OnShelf → Option (Pool R A) → Option (List ℕ) → Option (List ℕ) → Result Unit Status → Type 0
-  LineIs number text entry before pool old now pool' held held' (Ok done) = Printed text entry before pool old now pool' held held'
-  LineIs number text entry before pool old now pool' held held' (Err SinkFault) = Cut text entry before pool old now pool' held held'
-  LineIs number text entry before pool old now pool' held held' (Err ShelfFault) = (held' ≡ held) × BrokenLine rack area ShelfFails text entry before old now pool'
-  LineIs number text entry before pool old now pool' held held' (Err (Record metaslab place kind)) =
-      (held' ≡ held) × BrokenLine rack area RecordFails text entry before old now pool' × HoldsFault rack area before metaslab place kind
-  LineIs number text entry before pool old now pool' held held' (Err (Line line why at)) =
-      LineFaultIs (line_at Outside text) why at × (now ≡ before) × (pool' ≡ pool) × (held' ≡ held) × (line ≡ number)
-  LineIs number text entry before pool old now pool' held held' (Err NoMemory) =
-      ((held' ≡ held) × (now ≡ before) × (pool' ≡ pool)) ⊎ Untold text entry before pool old now pool' held held'
-  LineIs number text entry before pool old now pool' held held' (Err status) = ⊥
+    -- what became of a line
+    abbrev pub LineIs : ℕ → List ℕ → OnShelf → OnShelf → Option (Pool R A) → Desk → OnShelf → Option (Pool R A) → Option (List ℕ) → Option (List ℕ) → Result Unit Status → Type 0
+    LineIs number text entry before pool old now pool' held held' (Ok done) = Printed text entry before pool old now pool' held held'
+    LineIs number text entry before pool old now pool' held held' (Err SinkFault) = Cut text entry before pool old now pool' held held'
+    LineIs number text entry before pool old now pool' held held' (Err ShelfFault) = (held' ≡ held) × BrokenLine rack area ShelfFails text entry before old now pool'
+    LineIs number text entry before pool old now pool' held held' (Err (Record metaslab place kind)) =
+        (held' ≡ held) × BrokenLine rack area RecordFails text entry before old now pool' × HoldsFault rack area before metaslab place kind
+    LineIs number text entry before pool old now pool' held held' (Err (Line line why at)) =
+        LineFaultIs (line_at Outside text) why at × (now ≡ before) × (pool' ≡ pool) × (held' ≡ held) × (line ≡ number)
+    LineIs number text entry before pool old now pool' held held' (Err NoMemory) =
+        ((held' ≡ held) × (now ≡ before) × (pool' ≡ pool)) ⊎ Untold text entry before pool old now pool' held held'
+    LineIs number text entry before pool old now pool' held held' (Err status) = ⊥
 
-  -- The lines so far were answered and their replies printed, from this desk on.
-  pub record Serving (first : Desk) (input rest start held : Option (List ℕ)) (entry now : OnShelf) (pool : Option (Pool R A)) (count : ℕ) : Type 0 where
+  -- The lines so far were answered and their replies printed, from this desk on, and the journal is this.
+  pub record Serving (journal : List Entry) (first : Desk) (input rest start held : Option (List ℕ)) (entry now : OnShelf) (pool : Option (Pool R A)) (count : ℕ) : Type 0 where
     pub lines : List (List ℕ)
     pub replies : List (List Said)
     pub reached : Desk
-    pub journal : List Entry
     pub count_is : length lines ≡ count
     pub desk : IsDesk rack area entry now pool reached
     pub runs : Runs choices (MayFind rack area entry) (is_some entry.held) (sits first []) lines replies (sits reached journal)

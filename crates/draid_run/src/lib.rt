@@ -11,6 +11,7 @@ mod laws;
 mod opening;
 mod origins;
 mod rebalancing;
+mod repairing;
 mod replies;
 mod serve;
 mod status;

@@ -1,12 +1,13 @@
 ghost use Rattle.std.specs.Prelude.{◌≡◌, ◌<◌, ◌≤◌, ◌+◌, ◌^◌, ℕ, List, Some, None, Ok, Err, IfOk, IsTrue, OnErr, ◌↔◌, []};
 ghost use Rattle.std.specs.Io.KnownBytes.{IsAtEnd, prepend_known};
 ghost use Rattle.std.specs.Fn.{FnReturnsAt};
+ghost use Rattle.draid_agent.specs.Policy.{IsPolicy, PolicyReturns};
 ghost use Rattle.draid_choose.specs.Rooms.{IsChooser};
 ghost use Rattle.draid_names.specs.Faults.{Rose};
 ghost use Rattle.draid_session.specs.Places.{Outside, line_at};
 ghost use Rattle.draid_script.specs.Line.{IsInRange, command_in};
 ghost use Rattle.draid_reply.specs.Reply.{text_of};
-ghost use Rattle.draid_session.specs.Choices.{choices_by};
+ghost use Rattle.draid_session.specs.Choices.{choices_with};
 ghost use Rattle.draid_session.specs.Session.{Desk};
 ghost use Rattle.draid_run.specs.Desks.{IsDesk, IsPool};
 ghost use Rattle.draid_run.specs.Serve.{LineIs, PrintIs, Served, TextIs, status_of};
@@ -15,6 +16,7 @@ ghost use Rattle.draid_run.specs.Shelves.{HoldsDesk};
 
 use crate::answer::{Stop, answer};
 use crate::status::{LineRefusal, Status};
+use draid_agent::{Journal, Policy};
 use draid_choose::Chooser;
 use draid_lines::{Lines, ReadFault, Sink, Source};
 use draid_names::{Failed, NoMemory, Room};
@@ -44,27 +46,35 @@ fn stopped(number: u64, stop: Stop) -> Status
 }
 
 /// Does what the line of this number asks for, and prints its reply.
-fn serve_command<H: Shelf, K: Sink, F: Fn(&[Room]) -> Option<u32>>(
+fn serve_command<
+    H: Shelf,
+    K: Sink,
+    F: Fn(&[Room]) -> Option<u32>,
+    P: Fn(u32, u64, &[u32]) -> Option<u32>,
+>(
     rt: &(impl Threads + Sync),
     alloc: Global,
     shelf: &mut H,
     pool: &mut Option<Pool<H::R, H::A>>,
     chooser: &Chooser<F>,
+    policy: &Policy<P>,
+    journal: &mut Journal,
     sink: &mut K,
     number: u64,
     line: &Line,
 ) -> Result<(), Status>
     requires chooser { IsChooser F.Fn chooser.now }
+    requires policy { IsPolicy P.Fn policy.now }
     requires range { IsInRange (command_in line.now) }
     requires desk { (x : Desk) × IsPool H.R.Rack H.A.Area pool.old x }
     ensures line { (text : List ℕ) (entry : OnShelf) (x : Desk) → line_at Outside text ≡ Ok (command_in line.now)
         → IsDesk H.R.Rack H.A.Area entry (on_shelf H.Shelf shelf.old) pool.old x
-        → LineIs H.R.Rack H.A.Area (choices_by (FnReturnsAt F.Fn chooser.now)) number text entry (on_shelf H.Shelf shelf.old) pool.old x (on_shelf H.Shelf shelf.new) pool.new (K.held sink.old) (K.held sink.new) result }
+        → LineIs H.R.Rack H.A.Area (choices_with (FnReturnsAt F.Fn chooser.now) (PolicyReturns P.Fn policy.now)) journal.old.entries journal.new.entries number text entry (on_shelf H.Shelf shelf.old) pool.old x (on_shelf H.Shelf shelf.new) pool.new (K.held sink.old) (K.held sink.new) result }
     ensures later { K.faults sink.old ≤ K.faults sink.new }
     ensures cause { result ≡ Err Status.SinkFault → Rose (K.faults sink.old) (K.faults sink.new) }
     ensures shelf_later { H.faults shelf.old ≤ H.faults shelf.new }
 {
-    match answer(rt, alloc, shelf, pool, chooser, line) {
+    match answer(rt, alloc, shelf, pool, chooser, policy, journal, line) {
         Ok(Some(reply)) => print_reply(alloc, sink, reply),
         Ok(None) => Ok(()),
         Err(stop) => Err(stopped(number, stop)),
@@ -72,26 +82,36 @@ fn serve_command<H: Shelf, K: Sink, F: Fn(&[Room]) -> Option<u32>>(
 }
 
 /// Runs one line, with this number, and prints its reply.
-fn serve_line<H: Shelf, K: Sink, F: Fn(&[Room]) -> Option<u32>>(
+fn serve_line<
+    H: Shelf,
+    K: Sink,
+    F: Fn(&[Room]) -> Option<u32>,
+    P: Fn(u32, u64, &[u32]) -> Option<u32>,
+>(
     rt: &(impl Threads + Sync),
     alloc: Global,
     shelf: &mut H,
     pool: &mut Option<Pool<H::R, H::A>>,
     chooser: &Chooser<F>,
+    policy: &Policy<P>,
+    journal: &mut Journal,
     sink: &mut K,
     number: u64,
     text: &[u8],
 ) -> Result<(), Status>
     requires chooser { IsChooser F.Fn chooser.now }
+    requires policy { IsPolicy P.Fn policy.now }
     requires desk { (x : Desk) × IsPool H.R.Rack H.A.Area pool.old x }
     ensures line { (entry : OnShelf) (x : Desk) → IsDesk H.R.Rack H.A.Area entry (on_shelf H.Shelf shelf.old) pool.old x
-        → LineIs H.R.Rack H.A.Area (choices_by (FnReturnsAt F.Fn chooser.now)) number text.now entry (on_shelf H.Shelf shelf.old) pool.old x (on_shelf H.Shelf shelf.new) pool.new (K.held sink.old) (K.held sink.new) result }
+        → LineIs H.R.Rack H.A.Area (choices_with (FnReturnsAt F.Fn chooser.now) (PolicyReturns P.Fn policy.now)) journal.old.entries journal.new.entries number text.now entry (on_shelf H.Shelf shelf.old) pool.old x (on_shelf H.Shelf shelf.new) pool.new (K.held sink.old) (K.held sink.new) result }
     ensures later { K.faults sink.old ≤ K.faults sink.new }
     ensures cause { result ≡ Err Status.SinkFault → Rose (K.faults sink.old) (K.faults sink.new) }
     ensures shelf_later { H.faults shelf.old ≤ H.faults shelf.new }
 {
     match parse_line(alloc, text) {
-        Ok(line) => serve_command(rt, alloc, shelf, pool, chooser, sink, number, &line),
+        Ok(line) => serve_command(
+            rt, alloc, shelf, pool, chooser, policy, journal, sink, number, &line,
+        ),
         Err(ParseFault::Line(LineFault { kind, at })) => Err(Status::Line {
             line: number,
             why: LineRefusal::Fault(kind),
@@ -144,19 +164,27 @@ fn next_text<S: Source>(
 }
 
 /// Runs the lines of the source one after another, until one can't be run or none is left.
-pub(crate) fn serve<H: Shelf, S: Source, K: Sink, F: Fn(&[Room]) -> Option<u32>>(
+pub(crate) fn serve<
+    H: Shelf,
+    S: Source,
+    K: Sink,
+    F: Fn(&[Room]) -> Option<u32>,
+    P: Fn(u32, u64, &[u32]) -> Option<u32>,
+>(
     rt: &(impl Threads + Sync),
     alloc: Global,
     shelf: &mut H,
     pool: &mut Option<Pool<H::R, H::A>>,
     chooser: &Chooser<F>,
+    policy: &Policy<P>,
     source: &mut S,
     sink: &mut K,
 ) -> Status
     requires chooser { IsChooser F.Fn chooser.now }
+    requires policy { IsPolicy P.Fn policy.now }
     requires closed { pool.old ≡ None }
     ensures served { (first : Desk) → HoldsDesk first (on_shelf H.Shelf shelf.old) (on_shelf H.Shelf shelf.old)
-        → Served H.R.Rack H.A.Area (choices_by (FnReturnsAt F.Fn chooser.now)) first result (S.left source.old) (K.held sink.old) (K.held sink.new) (on_shelf H.Shelf shelf.old) (on_shelf H.Shelf shelf.new) pool.new }
+        → Served H.R.Rack H.A.Area (choices_with (FnReturnsAt F.Fn chooser.now) (PolicyReturns P.Fn policy.now)) first result (S.left source.old) (K.held sink.old) (K.held sink.new) (on_shelf H.Shelf shelf.old) (on_shelf H.Shelf shelf.new) pool.new }
     ensures end { result ≡ Status.Done → IsAtEnd (S.left source.new) }
     ensures source_later { S.faults source.old ≤ S.faults source.new }
     ensures sink_later { K.faults sink.old ≤ K.faults sink.new }
@@ -166,13 +194,16 @@ pub(crate) fn serve<H: Shelf, S: Source, K: Sink, F: Fn(&[Room]) -> Option<u32>>
     ensures no_usage { result ≡ Status.Usage → ⊥ }
 {
     let mut lines = Lines::new(alloc);
+    let mut journal = Journal::new(alloc);
     'lines: for number in 1..LINES + 1 {
         let text = match next_text(alloc, &mut lines, source) {
             Ok(Some(text)) => text,
             Ok(None) => return Status::Done,
             Err(status) => return status,
         };
-        if let Err(status) = serve_line(rt, alloc, shelf, pool, chooser, sink, number, &text) {
+        if let Err(status) = serve_line(
+            rt, alloc, shelf, pool, chooser, policy, &mut journal, sink, number, &text,
+        ) {
             return status;
         }
     }

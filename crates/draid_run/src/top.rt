@@ -1,9 +1,10 @@
 ghost use Rattle.std.specs.Prelude.{◌≡◌, ◌≤◌, ◌⊎◌, ⊤, List, MatchOption, map, string_bytes};
 ghost use Rattle.std.specs.Fn.{FnReturnsAt};
 ghost use Rattle.std.specs.Io.KnownBytes.{IsAtEnd};
+ghost use Rattle.draid_agent.specs.Policy.{IsPolicy, PolicyReturns};
 ghost use Rattle.draid_choose.specs.Rooms.{IsChooser};
 ghost use Rattle.draid_names.specs.Faults.{Rose};
-ghost use Rattle.draid_session.specs.Choices.{choices_by};
+ghost use Rattle.draid_session.specs.Choices.{choices_with};
 ghost use Rattle.draid_session.specs.Session.{Desk};
 ghost use Rattle.draid_run.specs.Desks.{IsDesk, IsPool, LeavesDesk};
 ghost use Rattle.draid_run.specs.Script.{EndsWithLine, Prints, RunIs};
@@ -13,6 +14,7 @@ ghost use Rattle.draid_run.specs.Shelves.{DeviceFailed};
 use crate::serve::serve;
 use crate::status::{Status, fixed_line, numbered_line};
 use crate::words::take_words;
+use draid_agent::Policy;
 use draid_choose::Chooser;
 use draid_lines::{Sink, Source};
 use draid_names::Room;
@@ -71,12 +73,14 @@ fn give_back<H: Shelf>(shelf: &mut H, pool: Option<Pool<H::R, H::A>>)
 }
 
 /// Runs the script of `source` on the pool of `shelf`, with its replies to `sink`. The words are those of the
-/// command line behind the program's name. The chooser names the metaslab that a new block goes to.
+/// command line behind the program's name. The chooser names the metaslab that a new block goes to, and the policy the
+/// spare that a slot gets from the repair agent.
 pub fn run<
     H: Shelf,
     S: Source,
     K: Sink,
     F: Fn(&[Room]) -> Option<u32>,
+    P: Fn(u32, u64, &[u32]) -> Option<u32>,
     A: AllocGlobal + Threads + Sync,
 >(
     rt: &A,
@@ -85,9 +89,11 @@ pub fn run<
     source: &mut S,
     sink: &mut K,
     chooser: &Chooser<F>,
+    policy: &Policy<P>,
 ) -> Status
     requires chooser { IsChooser F.Fn chooser.now }
-    ensures run { RunIs H.R.Rack H.A.Area (choices_by (FnReturnsAt F.Fn chooser.now)) (map string_bytes words.now) result (S.left source.old) (K.held sink.old) (K.held sink.new) (on_shelf H.Shelf shelf.old) (on_shelf H.Shelf shelf.new) }
+    requires policy { IsPolicy P.Fn policy.now }
+    ensures run { RunIs H.R.Rack H.A.Area (choices_with (FnReturnsAt F.Fn chooser.now) (PolicyReturns P.Fn policy.now)) (map string_bytes words.now) result (S.left source.old) (K.held sink.old) (K.held sink.new) (on_shelf H.Shelf shelf.old) (on_shelf H.Shelf shelf.new) }
 
     // A run that is done has read the source to its end, and one whose words ask for no session leaves it alone.
     ensures done { result ≡ Status.Done → IsAtEnd (S.left source.new) }
@@ -110,7 +116,7 @@ pub fn run<
         Err(WordsFault::NoMemory) => return end_run(alloc, sink, Status::NoMemory),
     }
     let mut pool = None;
-    let ended = serve(rt, alloc, shelf, &mut pool, chooser, source, sink);
+    let ended = serve(rt, alloc, shelf, &mut pool, chooser, policy, source, sink);
     give_back(shelf, pool);
     end_run(alloc, sink, ended)
 }

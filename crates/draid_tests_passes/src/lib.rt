@@ -1,7 +1,9 @@
-//! Tests of rebuilds, scrubs and rebalances that are stopped, or of which a device call fails. It offers nothing.
+//! Tests of rebuilds, scrubs, rebalances and repairs that are stopped, or of which a device call fails. It offers nothing.
 
 #![tactic(auto)]
 
+#[cfg(test)]
+mod agents;
 #[cfg(test)]
 mod rebalances;
 #[cfg(test)]

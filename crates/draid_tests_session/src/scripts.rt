@@ -1,6 +1,8 @@
 ghost use Rattle.std.specs.Prelude.{◌≤◌, length};
+ghost use Rattle.draid_agent.specs.Policy.{Names};
 ghost use Rattle.draid_choose.specs.Rooms.{IsChooser, Picks, most_rooms};
 
+use draid_agent::{Policy, first_free};
 use draid_choose::{Chooser, first_fit};
 use draid_lines::{MemorySink, MemorySource};
 use draid_names::Room;
@@ -29,8 +31,13 @@ pub fn run_chosen<R: AllocGlobal + Threads + Sync, F: Fn(&[Room]) -> Option<u32>
 ) -> Option<Status>
     requires { IsChooser F.Fn chooser.now }
 {
+    let policy = Policy::new(
+        |slot: u32, logged: u64, free: &[u32]| -> Option<u32>
+            ensures { Names free.now result }
+        { first_free(slot, logged, free) },
+    );
     match words_of(rt.alloc(), line) {
-        Ok(words) => Some(run(rt, &words, shelf, source, sink, chooser)),
+        Ok(words) => Some(run(rt, &words, shelf, source, sink, chooser, &policy)),
         Err(_) => None,
     }
 }

@@ -1,5 +1,6 @@
-use Rattle.std.proofs.Common.{◌≡◌, ◌==◌, ◌<◌, ◌∙◌, [], ◌∷◌, ℕ, List, Some, arith, ap, refl, subst, sym, length}
+use Rattle.std.proofs.Common.{◌≡◌, ◌==◌, ◌<◌, ◌≤◌, ◌+◌, ◌∙◌, [], ◌∷◌, ℕ, Bool, List, Option, Some, arith, ap, refl, subst, sym, length}
 use Rattle.std.specs.Prelude.{Contains, slice_get, vec_len}
+use Rattle.draid_names.specs.declared.journal.Entry.{Entry}
 use Rattle.draid_rack.specs.declared.Rack as racks
 use Rattle.draid_area.specs.declared.Area as areas
 use Rattle.draid_machine.proofs.Small.{absurd_test, equal, is_equal, some_same}
@@ -8,12 +9,13 @@ use Rattle.draid_agent.specs.declared.states.Due.{Due}
 use Rattle.draid_agent.specs.Policy.{PolicyReturns}
 use Rattle.draid_pool.specs.Whole.{IsWhole}
 use Rattle.draid_pool.specs.declared.pool.Pool.{Pool}
+use Rattle.draid_changes.specs.Agent.{AddsEntries, most_slots}
 use Rattle.draid_changes.specs.Dues.{AreFree, IsIdleIn, due_in}
-use Rattle.draid_changes.specs.Giving.{HaveRoom, SlotsAscend}
+use Rattle.draid_changes.specs.Giving.{GaveSome, HaveRoom, SlotsAscend}
 use Rattle.draid_changes.proofs.Begun.{first_borrowed}
 use Rattle.draid_changes.proofs.Coming.{slots_layout}
 use Rattle.draid_changes.proofs.DueGiven.{due_given, due_none, due_starved, due_stopped}
-use Rattle.draid_changes.proofs.GivesSeen.{dues_ascend, dues_few, dues_inside}
+use Rattle.draid_changes.proofs.GivesSeen.{dues_ascend, dues_few, dues_inside, gives_long, gives_numbered}
 use Rattle.draid_changes.proofs.agent.give_due.Goals as goal
 
 nil_of : (ds : List Due) → length ds ≡ 0 → ds ≡ []
@@ -32,15 +34,34 @@ rooms rack area pool w first there least ds are m shard at d has =
     let many = ((w.alike 0 m first shard there at).arms.slots d.slot low).many in
     (omega (arith, low, same), omega (arith, one, many))
 
-few : {R A : Type 0} (rack : racks.Ghosts R) (area : areas.Ghosts A) (pool : Pool R A) → IsWhole rack area pool → (first : Shard R A) → slice_get pool.metaslabs.shards.items 0 ≡ Some first → (least : ℕ) (ds : List Due)
-    → ds ≡ due_in first.slots pool.metaslabs.shards.items least → length ds < 4294967296
-few rack area pool w first there least ds are =
+at_most : {R A : Type 0} (rack : racks.Ghosts R) (area : areas.Ghosts A) (pool : Pool R A) → IsWhole rack area pool → (first : Shard R A) → slice_get pool.metaslabs.shards.items 0 ≡ Some first → (least : ℕ) (ds : List Due)
+    → ds ≡ due_in first.slots pool.metaslabs.shards.items least → length ds ≤ most_slots
+at_most rack area pool w first there least ds are =
     let most = dues_few first.slots pool.metaslabs.shards.items least 0 first.slots.geometry.spec.children in
     let long = ap length are in
     let is = w.shards 0 first there in
     let top = is.valid.part.layout.geometry_is.spec.most_children in
     let same = ap (λ g. g.spec.children) is.valid.slots.geometry_is in
     omega (arith, most, long, top, same)
+
+few : {R A : Type 0} (rack : racks.Ghosts R) (area : areas.Ghosts A) (pool : Pool R A) → IsWhole rack area pool → (first : Shard R A) → slice_get pool.metaslabs.shards.items 0 ≡ Some first → (least : ℕ) (ds : List Due)
+    → ds ≡ due_in first.slots pool.metaslabs.shards.items least → length ds < 4294967296
+few rack area pool w first there least ds are = (let most = at_most rack area pool w first there least ds are in omega (arith, most))
+
+-- entries came for the due slots
+adds : {R A : Type 0} (rack : racks.Ghosts R) (area : areas.Ghosts A) (pool : Pool R A) → IsWhole rack area pool → (first : Shard R A) → slice_get pool.metaslabs.shards.items 0 ≡ Some first → (least : ℕ) (ds : List Due)
+    → ds ≡ due_in first.slots pool.metaslabs.shards.items least → (chosen : ℕ → ℕ → List ℕ → Option ℕ → Type 0) (before after : List Entry) (came : Bool) (new : Pool R A)
+    → GaveSome rack area chosen ds pool before came new after → AddsEntries before after
+adds rack area pool w first there least ds are chosen before after came new gave =
+    let gives = gave.gives 0 first there in
+    let long = gives_long chosen (IsIdleIn first.slots) first.slots.geometry.spec.spares [] (length before + 1) ds gave.entries gives in
+    let most = at_most rack area pool w first there least ds are in
+    record {
+      more = gave.entries;
+      are = gave.are;
+      numbered = gives_numbered chosen (IsIdleIn first.slots) first.slots.geometry.spec.spares [] (length before + 1) ds gave.entries gives;
+      few = omega (arith, long, most);
+    }
 
 pub due_slots-requires-clause-alike : goal.due_slots-requires-clause-alike
 due_slots-requires-clause-alike g c = λ m shard at.
@@ -95,3 +116,12 @@ returns-clause-carries g c = λ x r.
     (first_borrowed g.R.Rack g.A.Area c.args.pool.now c.index.result.now c.requires.whole c.index.ensures) c.deref-2.result.now
     (c.deref-2.ensures.value ∙ (c.in-Ok.ensures ∙ ap (λ (zs : List (Shard g.row.R.Denot g.row.A.Denot)). due_in c.index.result.now.slots zs c.args.least) c.deref.ensures.value))
     c.give_to.new.pool c.give_to.new.journal.entries c.in-Err.why c.in-Err.ensures.gave.0 (c.in-Err.ensures.gave.1 x r)
+
+pub returns-in-Ok-give_to-clause-entries : goal.returns-in-Ok-give_to-clause-entries
+returns-in-Ok-give_to-clause-entries g c =
+    adds g.R.Rack g.A.Area c.args.pool.now c.requires.whole c.index.result.now (first_borrowed g.R.Rack g.A.Area c.args.pool.now c.index.result.now c.requires.whole c.index.ensures) c.args.least c.deref-2.result.now
+    (c.deref-2.ensures.value ∙ (c.in-Ok.ensures ∙ ap (λ (zs : List (Shard g.row.R.Denot g.row.A.Denot)). due_in c.index.result.now.slots zs c.args.least) c.deref.ensures.value))
+    (PolicyReturns g.P.Fn c.args.policy.now) c.args.journal.now.entries c.give_to.new.journal.entries c.in-Ok-give_to.came c.give_to.new.pool c.in-Ok-give_to.ensures.gave
+
+pub returns-clause-entries : goal.returns-clause-entries
+returns-clause-entries g c = c.in-Err.ensures.gave.0

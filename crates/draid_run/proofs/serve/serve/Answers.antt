@@ -1,6 +1,7 @@
 use Rattle.std.proofs.Common.{◌∙◌, Ok, Err, ap, sym, refl, ℕ}
 use Rattle.std.specs.Fn.{FnReturnsAt}
-use Rattle.draid_session.specs.Choices.{choices_by}
+use Rattle.draid_agent.specs.Policy.{PolicyReturns}
+use Rattle.draid_session.specs.Choices.{choices_with}
 use Rattle.draid_lines.specs.Lines.{Rest}
 use Rattle.draid_session.specs.Session.{Untouched}
 use Rattle.draid_pool.specs.Shelves.{on_shelf}
@@ -14,7 +15,7 @@ lines-init g c =
     let given_of : Rest → ℕ = λ r. r.given in
     let given = ap given_of c.new-lines.ensures in
     record {
-      serving = λ first at. serving_start _ _ _ _ _ _ c.new-lines.result c.args.pool.now c.new-lines.ensures c.requires.closed first at;
+      serving = λ first at. serving_start _ _ _ _ _ _ c.new-lines.result c.args.pool.now c.new-journal.result.entries c.new-lines.ensures c.requires.closed c.new-journal.ensures first at;
       fault = ap (λ (r : Rest). r.fault) c.new-lines.ensures;
       given = first_number _ given;
       few = few_given _ given;
@@ -26,7 +27,7 @@ lines-init g c =
 pub returns-in-Ok-None : goal.returns-in-Ok-None
 returns-in-Ok-None g c = record {
   served = λ first at.
-      served_done _ _ _ _ first _ _ _ _ _ _ _ _ (c.lines.invariant.serving first at) (text_by c.lines.lines c.next_text.new.lines _ _ _ _ c.in-Ok-None.field-0-is c.in-Ok-None.ensures.text);
+      served_done _ _ _ _ first _ _ _ _ _ _ _ _ _ (c.lines.invariant.serving first at) (text_by c.lines.lines c.next_text.new.lines _ _ _ _ c.in-Ok-None.field-0-is c.in-Ok-None.ensures.text);
   end = λ is. c.next_text.ensures.end (c.in-Ok-None.is ∙ ap Ok c.in-Ok-None.field-0-is);
   source_later = later_on _ _ _ c.lines.invariant.source_later c.next_text.ensures.later;
   sink_later = c.lines.invariant.sink_later;
@@ -39,7 +40,7 @@ returns-in-Ok-None g c = record {
 pub returns-in-Err : goal.returns-in-Err
 returns-in-Err g c = record {
   served = λ first at.
-      served_unread g.H.R.Rack g.H.A.Area (choices_by (FnReturnsAt g.F.Fn c.args.chooser.now)) (on_shelf g.H.Shelf c.args.shelf.now) first _ _ _ (g.S.Source.left c.lines.source) (g.S.Source.left c.next_text.new.source) _ _ c.lines.lines c.next_text.new.lines c.in-Err.status (c.lines.invariant.serving first at) c.in-Err.ensures.text;
+      served_unread g.H.R.Rack g.H.A.Area (choices_with (FnReturnsAt g.F.Fn c.args.chooser.now) (PolicyReturns g.P.Fn c.args.policy.now)) (on_shelf g.H.Shelf c.args.shelf.now) first c.lines.journal.entries _ _ _ (g.S.Source.left c.lines.source) (g.S.Source.left c.next_text.new.source) _ _ c.lines.lines c.next_text.new.lines c.in-Err.status (c.lines.invariant.serving first at) c.in-Err.ensures.text;
   end = λ is. absurd (text_no_done c.lines.lines c.next_text.new.lines (g.S.Source.left c.lines.source) (g.S.Source.left c.next_text.new.source) c.in-Err.status c.in-Err.ensures.text is);
   source_later = later_on _ _ _ c.lines.invariant.source_later c.next_text.ensures.later;
   sink_later = c.lines.invariant.sink_later;
@@ -58,15 +59,15 @@ returns-in-Err-serve_line g c =
       served = λ first at.
           (let serving = c.lines.invariant.serving first at in
           let text = text_by c.lines.lines c.next_text.new.lines _ _ _ _ c.in-Ok-Some.field-0-is c.in-Ok-Some.ensures.text in
-          served_line _ _ _ _ first _ _ _ _ _ _ _ _ _ text.3 serving c.lines.invariant.shelf_later _ _ (g.met.H.Shelf.steady c.args.shelf.now c.serve_line.new.shelf) _ _
-          (line_by g.H.R.Rack g.H.A.Area (choices_by (FnReturnsAt g.F.Fn c.args.chooser.now)) (on_shelf g.H.Shelf c.args.shelf.now) c.lines.number _ _ c.in-Ok-Some.text.items (on_shelf g.H.Shelf c.lines.shelf) c.lines.pool serving.reached (on_shelf g.H.Shelf c.serve_line.new.shelf) c.serve_line.new.pool (g.K.Sink.held c.lines.sink) (g.K.Sink.held c.serve_line.new.sink) (Err c.in-Err-serve_line.status) (sym c.lines.invariant.given) c.deref.ensures.value (c.in-Err-serve_line.ensures.line (on_shelf g.H.Shelf c.args.shelf.now) serving.reached serving.desk)));
+          served_line _ _ _ _ first _ _ _ _ _ _ _ _ _ _ text.3 serving c.lines.invariant.shelf_later c.serve_line.new.journal.entries _ _ (g.met.H.Shelf.steady c.args.shelf.now c.serve_line.new.shelf) _ _
+          (line_by g.H.R.Rack g.H.A.Area (choices_with (FnReturnsAt g.F.Fn c.args.chooser.now) (PolicyReturns g.P.Fn c.args.policy.now)) (on_shelf g.H.Shelf c.args.shelf.now) c.lines.journal.entries c.serve_line.new.journal.entries c.lines.number _ _ c.in-Ok-Some.text.items (on_shelf g.H.Shelf c.lines.shelf) c.lines.pool serving.reached (on_shelf g.H.Shelf c.serve_line.new.shelf) c.serve_line.new.pool (g.K.Sink.held c.lines.sink) (g.K.Sink.held c.serve_line.new.sink) (Err c.in-Err-serve_line.status) (sym c.lines.invariant.given) c.deref.ensures.value (c.in-Err-serve_line.ensures.line (on_shelf g.H.Shelf c.args.shelf.now) serving.reached serving.desk)));
       source_later = later_on _ _ _ c.lines.invariant.source_later c.next_text.ensures.later;
       sink_later = later_on _ _ _ c.lines.invariant.sink_later c.serve_line.ensures.later;
       shelf_later = later_on _ _ _ c.lines.invariant.shelf_later c.serve_line.ensures.shelf_later;
-      end = λ is. absurd (line_no_done g.H.R.Rack g.H.A.Area (choices_by (FnReturnsAt g.F.Fn c.args.chooser.now)) entry _ _ _ _ was.reached _ _ _ _ c.in-Err-serve_line.status line is);
-      source_cause = λ is. absurd (line_no_source g.H.R.Rack g.H.A.Area (choices_by (FnReturnsAt g.F.Fn c.args.chooser.now)) entry _ _ _ _ was.reached _ _ _ _ c.in-Err-serve_line.status line is);
+      end = λ is. absurd (line_no_done g.H.R.Rack g.H.A.Area (choices_with (FnReturnsAt g.F.Fn c.args.chooser.now) (PolicyReturns g.P.Fn c.args.policy.now)) entry c.lines.journal.entries c.serve_line.new.journal.entries _ _ _ _ was.reached _ _ _ _ c.in-Err-serve_line.status line is);
+      source_cause = λ is. absurd (line_no_source g.H.R.Rack g.H.A.Area (choices_with (FnReturnsAt g.F.Fn c.args.chooser.now) (PolicyReturns g.P.Fn c.args.policy.now)) entry c.lines.journal.entries c.serve_line.new.journal.entries _ _ _ _ was.reached _ _ _ _ c.in-Err-serve_line.status line is);
       sink_cause = λ is. rose_from _ _ _ c.lines.invariant.sink_later (c.serve_line.ensures.cause (c.in-Err-serve_line.is ∙ ap Err is));
-      no_usage = line_no_usage g.H.R.Rack g.H.A.Area (choices_by (FnReturnsAt g.F.Fn c.args.chooser.now)) entry _ _ _ _ was.reached _ _ _ _ c.in-Err-serve_line.status line;
+      no_usage = line_no_usage g.H.R.Rack g.H.A.Area (choices_with (FnReturnsAt g.F.Fn c.args.chooser.now) (PolicyReturns g.P.Fn c.args.policy.now)) entry c.lines.journal.entries c.serve_line.new.journal.entries _ _ _ _ was.reached _ _ _ _ c.in-Err-serve_line.status line;
     }
 
 pub lines-preserved : goal.lines-preserved
@@ -75,8 +76,8 @@ lines-preserved g c =
     let one = text.0 in
     let given = c.lines.invariant.given in
     record {
-      serving = λ first at. (let serving = c.lines.invariant.serving first at in rw one (serving_more _ _ _ _ first _ _ _ _ _ _ _ _ _ _ _ _ serving text.3
-          (line_by g.H.R.Rack g.H.A.Area (choices_by (FnReturnsAt g.F.Fn c.args.chooser.now)) (on_shelf g.H.Shelf c.args.shelf.now) c.lines.number c.lines.number _ c.in-Ok-Some.text.items (on_shelf g.H.Shelf c.lines.shelf) c.lines.pool serving.reached (on_shelf g.H.Shelf c.serve_line.new.shelf) c.serve_line.new.pool (g.K.Sink.held c.lines.sink) (g.K.Sink.held c.serve_line.new.sink) (Ok tt) refl c.deref.ensures.value (c.in_default.ensures.line (on_shelf g.H.Shelf c.args.shelf.now) serving.reached serving.desk)) (g.met.H.Shelf.steady c.args.shelf.now c.serve_line.new.shelf)));
+      serving = λ first at. (let serving = c.lines.invariant.serving first at in rw one (serving_more _ _ _ _ first c.lines.journal.entries c.serve_line.new.journal.entries _ _ _ _ _ _ _ _ _ _ _ _ serving text.3
+          (line_by g.H.R.Rack g.H.A.Area (choices_with (FnReturnsAt g.F.Fn c.args.chooser.now) (PolicyReturns g.P.Fn c.args.policy.now)) (on_shelf g.H.Shelf c.args.shelf.now) c.lines.journal.entries c.serve_line.new.journal.entries c.lines.number c.lines.number _ c.in-Ok-Some.text.items (on_shelf g.H.Shelf c.lines.shelf) c.lines.pool serving.reached (on_shelf g.H.Shelf c.serve_line.new.shelf) c.serve_line.new.pool (g.K.Sink.held c.lines.sink) (g.K.Sink.held c.serve_line.new.sink) (Ok tt) refl c.deref.ensures.value (c.in_default.ensures.line (on_shelf g.H.Shelf c.args.shelf.now) serving.reached serving.desk)) (g.met.H.Shelf.steady c.args.shelf.now c.serve_line.new.shelf)));
       fault = text.2;
       given = next_number _ _ _ one given;
       few = text.1;
@@ -96,3 +97,6 @@ serve_line-requires-clause-desk g c κs within = (let serving = c.lines.invarian
 
 pub unreachable-requires : goal.unreachable-requires
 unreachable-requires g c = too_many c.lines.number c.lines.lines.given c.lines-test.false c.lines.invariant.given c.lines.invariant.few
+
+pub serve_line-requires-clause-policy : goal.serve_line-requires-clause-policy
+serve_line-requires-clause-policy g c κs within = c.requires.policy

@@ -1,7 +1,8 @@
 use Rattle.std.proofs.Common.{◌≡◌, ◌≤◌, ◌+◌, None}
 use Rattle.std.specs.Io.KnownBytes.{prepend_known}
 use Rattle.std.specs.Fn.{FnReturnsAt}
-use Rattle.draid_session.specs.Choices.{choices_by}
+use Rattle.draid_agent.specs.Policy.{PolicyReturns}
+use Rattle.draid_session.specs.Choices.{choices_with}
 use Rattle.draid_lines.specs.Lines.{most_lines}
 use Rattle.draid_run.specs.Serve.{Serving}
 use Rattle.draid_session.specs.Session.{Desk}
@@ -13,7 +14,7 @@ use Rattle.draid_run.proofs.serve.serve.Given as goal
 abbrev pub invariant-lines : goal.invariant-lines
 invariant-lines g l = let source = g.S.Source in let sink = g.K.Sink in record {
   serving : (first : Desk) → HoldsDesk first (on_shelf g.H.Shelf l.initial.shelf) (on_shelf g.H.Shelf l.initial.shelf)
-      → Serving g.H.R.Rack g.H.A.Area (choices_by (FnReturnsAt g.F.Fn l.fn.chooser)) first (source.left l.initial.source) (prepend_known l.lines.held (source.left l.source)) (sink.held l.initial.sink) (sink.held l.sink)
+      → Serving g.H.R.Rack g.H.A.Area (choices_with (FnReturnsAt g.F.Fn l.fn.chooser) (PolicyReturns g.P.Fn l.fn.policy)) l.journal.entries first (source.left l.initial.source) (prepend_known l.lines.held (source.left l.source)) (sink.held l.initial.sink) (sink.held l.sink)
       (on_shelf g.H.Shelf l.initial.shelf) (on_shelf g.H.Shelf l.shelf) l.pool l.lines.given;
   fault : l.lines.fault ≡ None;
   given : l.lines.given + 1 ≡ l.number;

@@ -35,3 +35,6 @@ serve_command-requires-clause-range g c κs within = c.in-Ok.ensures.range
 
 pub serve_command-requires-clause-desk : goal.serve_command-requires-clause-desk
 serve_command-requires-clause-desk g c κs within = c.requires.desk
+
+pub serve_command-requires-clause-policy : goal.serve_command-requires-clause-policy
+serve_command-requires-clause-policy g c κs within = c.requires.policy
