@@ -1,6 +1,6 @@
 -- The blocks of metaslabs that were born up to a group, as they are noted and looked for.
 use Rattle.std.proofs.Common.{arith, ◌≡◌, ◌+◌, ◌<◌, ◌≤◌, ◌∙◌, ◌⊎◌, inl, inr, ℕ, Bool, true, false, List, [], Option, Some, None, refl, sym, ap, subst, length}
-use Rattle.std.specs.Prelude.{◌↔◌, slice_get}
+use Rattle.std.specs.Prelude.{◌↔◌, IfNone, IfSome, slice_get}
 use Rattle.std.specs.HashSet.{HashSet, keys}
 use Rattle.std.specs.List.{list_any}
 use Rattle.std.proofs.lemmas.Bool.{cases_eq, cases_lt}
@@ -146,10 +146,10 @@ module _ {R A : Type 0} (shards : List (Shard R A)) (upto : ℕ) where
 
   -- ---- the blocks that are named
 
-  pub named_all : (drops : List Dropped) (noted : Key → Bool) → AreBornIn shards upto noted → AreNoted noted drops → HaveNamed shards upto drops
+  named_all : (drops : List Dropped) (noted : Key → Bool) → AreBornIn shards upto noted → AreNoted noted drops → HaveNamed shards upto drops
   named_all drops noted born all i d at = (born (key_in d)).0 (all i d at)
 
-  pub named_out : (drops : List Dropped) (noted : Key → Bool) (i : ℕ) → AreBornIn shards upto noted → IsUnnotedAt noted drops i → LackNamed shards upto drops i
+  named_out : (drops : List Dropped) (noted : Key → Bool) (i : ℕ) → AreBornIn shards upto noted → IsUnnotedAt noted drops i → LackNamed shards upto drops i
   named_out drops noted i born out = record {
     named = out.named;
     there = out.there;
@@ -157,6 +157,10 @@ module _ {R A : Type 0} (shards : List (Shard R A)) (upto : ℕ) where
     before = λ k d less at. (born (key_in d)).0 (out.before k d less at);
   }
 
-  -- none is named
-  pub named_none : (drops : List Dropped) → length drops ≡ 0 → HaveNamed shards upto drops
-  named_none drops none i d at = (let within = slice_get_within drops i d at in absurd (omega (arith, within, none)))
+  pub named_by : (drops : List Dropped) (noted : Key → Bool) (at : Option ℕ) → AreBornIn shards upto noted → IfNone at (AreNoted noted drops) → IfNone at (HaveNamed shards upto drops)
+  named_by drops noted None born all = named_all drops noted born all
+  named_by drops noted (Some i) born all = tt
+
+  pub lacks_by : (drops : List Dropped) (noted : Key → Bool) (at : Option ℕ) → AreBornIn shards upto noted → IfSome at (IsUnnotedAt noted drops) → IfSome at (LackNamed shards upto drops)
+  lacks_by drops noted None born out = tt
+  lacks_by drops noted (Some i) born out = named_out drops noted i born out

@@ -1,5 +1,5 @@
 //! The blocks that a check record names, looked for in the metaslabs that an import opened.
-ghost use Rattle.std.specs.Prelude.{IfNone, IfOk, IfSome, OnOk};
+ghost use Rattle.std.specs.Prelude.{◌≤◌, ◌^◌, IfNone, IfOk, IfSome, OnOk};
 ghost use Rattle.draid_shard.specs.Fits.{Valid};
 ghost use Rattle.draid_found.specs.Drops.{AreBornIn, AreNoted, HaveNamed, IsUnnotedAt, LackNamed, NotesBorn, NotesBornOf};
 ghost use Rattle.draid_found.specs.Found.{AreReady};
@@ -14,11 +14,7 @@ use std::alloc::Global;
 use std::collections::HashSet;
 
 /// Notes a block that was born up to a group.
-fn note_born(
-    keys: &mut HashSet<(u64, u64)>,
-    pointer: &Pointer,
-    upto: u64,
-) -> Result<(), NoMemory>
+fn note_born(keys: &mut HashSet<(u64, u64)>, pointer: &Pointer, upto: u64) -> Result<(), NoMemory>
     ensures { OnOk result (NotesBorn upto pointer.now (noted_in keys.old) (noted_in keys.new)) }
 {
     if upto < pointer.birth {
@@ -71,6 +67,7 @@ fn born_upto<R: Rack, A: Area>(
 fn first_out(keys: &HashSet<(u64, u64)>, drops: &[Dropped]) -> Option<u64>
     ensures none { IfNone result (AreNoted (noted_in keys.now) drops.now) }
     ensures some { IfSome result (IsUnnotedAt (noted_in keys.now) drops.now) }
+    ensures low { IfSome result (λ at. at ≤ 2 ^ 59) }
 {
     for at in 0..drops.len() {
         let named = drops[at];
@@ -91,6 +88,7 @@ pub fn first_lack<R: Rack, A: Area>(
     requires ready { AreReady R.Rack shards.now }
     ensures none { IfOk result (λ at. IfNone at (HaveNamed shards.now upto drops.now)) }
     ensures some { IfOk result (λ at. IfSome at (LackNamed shards.now upto drops.now)) }
+    ensures low { IfOk result (λ at. IfSome at (λ i. i ≤ 2 ^ 59)) }
 {
     if drops.is_empty() {
         return Ok(None);
