@@ -16,7 +16,10 @@ pub enum ImportFault {
     },
     /// The check record of the group has its first fault at byte `at`: that of a field, or a block that it names and no metaslab
     /// has, born up to the checkpoint.
-    Check { at: u64, kind: RecordFaultKind },
+    Check {
+        at: u64,
+        kind: RecordFaultKind,
+    },
     /// The shelf failed.
     Shelf,
     NoMemory,

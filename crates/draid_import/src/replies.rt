@@ -28,7 +28,10 @@ pub enum ImportStop {
         kind: RecordFaultKind,
     },
     /// The first fault of the check record begins at byte `at`.
-    Check { at: u64, kind: RecordFaultKind },
+    Check {
+        at: u64,
+        kind: RecordFaultKind,
+    },
 }
 
 /// What an import replies that opens no pool, or why it has no reply.

@@ -177,13 +177,13 @@ returns-in-Err-find_all g c =
     let reopened = still_reopened area old new k rack shards e.reopened in
     let over = still_over area old new k rack shards (shelf.told c.find_uber.new.shelf) (shelf.leaves c.find_uber.new.shelf) (shelf.counts c.find_uber.new.shelf) e.over in
     let left = leaves_all rack area (layout_of new) (group_of (kept_of new)) (next_leaf_of new) shards (shelf.told c.find_uber.new.shelf) (shelf.told c.reopen_shards.new.shelf) (shelf.told c.give_back.new.shelf)
-        (shelf.counts c.find_uber.new.shelf) (shelf.counts c.reopen_shards.new.shelf) (shelf.counts c.give_back.new.shelf) (shelf.leaves c.find_uber.new.shelf) (shelf.leaves c.reopen_shards.new.shelf) (shelf.leaves c.give_back.new.shelf)
-        reopened over (still_taken area old new k (shelf.told c.find_uber.new.shelf) (shelf.told c.reopen_shards.new.shelf) e.told)
-        (still_behind area old new k (λ m. (shelf.counts c.reopen_shards.new.shelf m ≡ shelf.counts c.find_uber.new.shelf m) × (shelf.leaves c.reopen_shards.new.shelf m ≡ shelf.leaves c.find_uber.new.shelf m)) e.left)
-        c.give_back.ensures.returns c.give_back.ensures.leaves in
+    (shelf.counts c.find_uber.new.shelf) (shelf.counts c.reopen_shards.new.shelf) (shelf.counts c.give_back.new.shelf) (shelf.leaves c.find_uber.new.shelf) (shelf.leaves c.reopen_shards.new.shelf) (shelf.leaves c.give_back.new.shelf)
+    reopened over (still_taken area old new k (shelf.told c.find_uber.new.shelf) (shelf.told c.reopen_shards.new.shelf) e.told)
+    (still_behind area old new k (λ m. (shelf.counts c.reopen_shards.new.shelf m ≡ shelf.counts c.find_uber.new.shelf m) × (shelf.leaves c.reopen_shards.new.shelf m ≡ shelf.leaves c.find_uber.new.shelf m)) e.left)
+    c.give_back.ensures.returns c.give_back.ensures.leaves in
     let given = c.give_areas-in-Err-find_all.ensures.told ∙ ap (λ a. gives_areas (told_by area.told a) (shelf.told c.give_back.new.shelf)) c.into_areas-in-Err-find_all.ensures in
     let counted = own_given area.faults (areas_of new) (shelf.uber_count last) (shelf.check_counts last) (c.give_areas-in-Err-find_all.ensures.uber ∙ ap (λ a. area.faults a.uber) c.into_areas-in-Err-find_all.ensures)
-        (c.give_areas-in-Err-find_all.ensures.checks ∙ ap (λ a. record { even = area.faults a.even; odd = area.faults a.odd }) c.into_areas-in-Err-find_all.ensures) in
+    (c.give_areas-in-Err-find_all.ensures.checks ∙ ap (λ a. record { even = area.faults a.even; odd = area.faults a.odd }) c.into_areas-in-Err-find_all.ensures) in
     record {
       whole = tt;
       none = absent_not old held _ _ u.none;
