@@ -21,11 +21,13 @@ use Rattle.draid_spec.specs.declared.layout.Geometry.{Geometry}
 use Rattle.draid_uber.specs.Checks.{AreasStand, AreasTold, CheckStands, HasCheck, check_area, check_in, no_check, told_by}
 use Rattle.draid_uber.specs.Slots.{StandsTold, chosen_of, group_of, read_body}
 use Rattle.draid_uber.specs.Uber.{Valid, area_of, areas_of, count_of, kept_of, layout_of, next_leaf_of}
+use Rattle.draid_uber.specs.declared.checks.CheckFault.{CheckFault}
+use Rattle.draid_uber.specs.declared.checks.CheckFault.TheVariants as check_why
 use Rattle.draid_uber.specs.declared.uber.Uber.{Uber}
 use Rattle.draid_session.specs.State.{State, limit_of}
 use Rattle.draid_pool.specs.Taking.{TakesFirst}
 use Rattle.draid_pool.proofs.Takings.{rose_since}
-use Rattle.draid_import.specs.Checking.{HoldsCheck, IsBadCheck, IsCheckFault, IsChecked, KeepsUber, NamesLack, NoCheck, OwnCheck, check_held}
+use Rattle.draid_import.specs.Checking.{HoldsCheck, IsBadCheck, IsCheckFault, IsChecked, KeepsUber, NamesLack, NoCheck, OwnCheck, check_fault_of, check_held}
 use Rattle.draid_import.specs.Faulty.{TellsBody}
 use Rattle.draid_import.specs.Found.{AreReopened, HaveLowLeaves, IsFoundUber, IsRecovered, NoRecord, OpensAllOver}
 use Rattle.draid_import.specs.Importing.{RestsThere}
@@ -103,6 +105,15 @@ module _ {R A : Type 0} (tells other : Result CheckTold RecordFault → Type 0) 
   pub bad_by : (place : ℕ) (kind : RecordFaultKind) → IsBadCheck tells shards place kind → IsBadCheck other shards place kind
   bad_by place kind (inl bad) = inl (turn (Err (Bad place kind)) bad)
   bad_by place kind (inr n) = inr (record { value = n.value; read = turn (Ok n.value) n.read; i = n.i; lack = n.lack; place_is = n.place_is; kind_is = n.kind_is })
+
+-- the fault of the check record that was read
+pub check_bad : {T : Type 0} (why : CheckFault) (f : ImportFault) → f ≡ check_fault_of why → (place : ℕ) (kind : RecordFaultKind) → IsErrOf {T = T} (Err f) (fault.Check place kind) → why ≡ check_why.Record place kind
+check_bad check_why.Area f is place kind err = absurd (cc)
+check_bad check_why.NoMemory f is place kind err = absurd (cc)
+check_bad (check_why.Record p k) f is place kind err =
+    let p_is : p ≡ place = cc in
+    let k_is : k ≡ kind = cc in
+    λ i. check_why.Record (p_is i) (k_is i)
 
 -- a refusal of it isn't that there is no pool, nor a record's fault
 pub check_some : {T : Type 0} (why : ImportFault) → IsCheckFault why → IsErrOf {T = T} (Err why) fault.NoPool → ⊥

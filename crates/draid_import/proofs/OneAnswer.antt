@@ -122,7 +122,7 @@ module _ {R A : Type 0} where
         (subst (λ (xs : List (List Arm)). AreSameArms (arms_of a.slots slot) (slice_index_or xs slot [])) other.arms (same.slots slot (subst (λ n. slot < n) (sym one.children) less)));
   }
 
-  pub block_too : (s t : Shard R A) (key : Key) → IsTwin s t → HasBlock s key → HasBlock t key
+  block_too : (s t : Shard R A) (key : Key) → IsTwin s t → HasBlock s key → HasBlock t key
   block_too s t key w h = record { first = h.first; e = h.e; there = sym (w.«at» h.first) ∙ h.there; key_is = h.key_is }
 
   place_too : (s t : Shard R A) (first : ℕ) → IsTwin s t → place_in s first ≡ place_in t first

@@ -1,5 +1,5 @@
 -- On a shelf that tells what it holds, and knows its leaves, the check record has one fault, or none; and where it has one, nothing else is found.
-use Rattle.std.proofs.Common.{arith, ◌≡◌, ◌+◌, ◌*◌, ◌<◌, ◌∙◌, ◌⊎◌, inl, inr, ℕ, List, Option, Some, Result, Ok, Err, length, sym, ap, subst}
+use Rattle.std.proofs.Common.{arith, ◌≡◌, ◌+◌, ◌*◌, ◌<◌, ◌≤◌, ◌∙◌, ◌⊎◌, inl, inr, ℕ, List, Option, Some, None, Result, Ok, Err, length, sym, ap, subst}
 use Rattle.std.specs.Prelude.{slice_get}
 use Rattle.std.proofs.lemmas.Bool.{cases_eq, cases_lt}
 use Rattle.draid_area.specs.declared.Area as areas
@@ -24,7 +24,7 @@ use Rattle.draid_import.specs.Faulty.{HoldsNoGroup, RecordIsBad}
 use Rattle.draid_import.specs.Findings.{FindsPool, KnowsLeaves}
 use Rattle.draid_import.specs.Found.{AreReopened, OpensAllOver}
 use Rattle.draid_import.proofs.ImportCheck.{bad_value, ok_bad, ok_value, one_told}
-use Rattle.draid_import.proofs.OneAnswer.{IsSameUber, all_here, block_too, no_fault, none_chosen, ok_err, one_chosen, one_uber, turns_bad, twin}
+use Rattle.draid_import.proofs.OneAnswer.{IsSameUber, all_here, no_fault, none_chosen, ok_err, one_chosen, one_uber, turns_bad, twin}
 
 -- ---- metaslabs with the same blocks
 
@@ -64,7 +64,8 @@ same_born : {R A : Type 0} (rack : racks.Ghosts R) (area : areas.Ghosts A) (geom
     → (upto : ℕ) (key : Key) → HaveBorn ss upto key → HaveBorn ts upto key
 same_born rack area geometry group next y leaves counts known ss ts are over are' over' upto key h =
     let t = twin rack area geometry group next y leaves counts known geometry.props.metaslabs ts ss (all_here rack area geometry group next y leaves counts known ts are' over') (all_here rack area geometry group next y leaves counts known ss are over) h.m h.shard h.there in
-    record { m = h.m; shard = t.0; there = t.1; has = record { block = block_too h.shard t.0 key t.2 h.has.block; born = h.has.born } }
+    let b = h.has.block in
+    record { m = h.m; shard = t.0; there = t.1; has = record { block = record { first = b.first; e = b.e; there = sym (t.2.«at» b.first) ∙ b.there; key_is = b.key_is }; born = h.has.born } }
 
 -- ---- the law
 

@@ -275,6 +275,9 @@ fn find_all<R: Rack, A: Area>(
     ensures check { (place : ℕ) (kind : RecordFaultKind) → IsErrOf result (ImportFault.Check place kind)
         → AreTogether shards.now (length shards.now) × IsBadCheck (OwnCheck A.Area uber.old) shards.now place kind }
     ensures cause { IsErrOf result ImportFault.Shelf → Rose (count_of A.faults uber.old) (count_of A.faults uber.new) }
+    // No check record of a pool that rests on a shelf has a fault.
+    ensures none { (x : State) (pieces : ℕ → Pieces) (held : Option Held) (leaves : ℕ → Option Shape) (counts : ℕ → KitCounts) (count : ℕ)
+        → RestsThere x pieces held leaves counts count → IsFoundUber A.Area uber.old → IsRecovered A.Area held count uber.old → NoCheck result }
     ensures some { IsErrOf result ImportFault.NoPool → ⊥ }
 {
     let found = match find_blocks(alloc, shards) {

@@ -1,6 +1,6 @@
 use Rattle.std.proofs.Common.{Err, ap}
 use Rattle.draid_pool.proofs.Refusing.{no_refusal}
-use Rattle.draid_import.proofs.ImportCheck.{check_no_record, check_some, same_uber}
+use Rattle.draid_import.proofs.ImportCheck.{check_no_record, check_some, no_check_fault, same_uber}
 use Rattle.draid_import.proofs.ImportFaulty.{passed_over, shard_no_check, shard_not_empty}
 use Rattle.draid_import.proofs.importing.find_all.Goals as goal
 
@@ -19,6 +19,7 @@ returns-in-Err g c = record {
   faulty = λ metaslab place kind err. c.in-Err.ensures.faulty metaslab place kind err;
   check = λ place kind err. absurd (shard_no_check c.in-Err.fault c.in-Err.ensures.fault place kind err);
   cause = λ err. absurd (c.in-Err.ensures.no_device err);
+  none = λ x pieces held leaves counts count there found r. shard_no_check c.in-Err.fault c.in-Err.ensures.fault;
   some = λ err. shard_not_empty c.in-Err.fault c.in-Err.ensures.fault err;
 }
 
@@ -31,6 +32,7 @@ returns-in-Ok-check_blocks g c = record {
   faulty = λ metaslab place kind err. absurd (no_refusal err);
   check = λ place kind err. absurd (no_refusal err);
   cause = λ err. absurd (no_refusal err);
+  none = λ x pieces held leaves counts count there found r place kind err. no_refusal err;
   some = λ err. no_refusal err;
 }
 
@@ -46,5 +48,7 @@ returns-in-Err-check_blocks g c =
       faulty = λ metaslab place kind err. absurd (check_no_record fault e.fault metaslab place kind err);
       check = λ place kind err. (c.in-Ok.ensures.together, e.faulty place kind (passed_over fault _ err));
       cause = λ err. e.cause (passed_over fault _ err);
+      none = λ x pieces held leaves counts count there found r. no_check_fault g.A.Area g.met.A.Area.counted x pieces held leaves counts count c.args.uber.now c.args.shards.now fault there found r
+          (λ place kind err. e.faulty place kind (passed_over fault _ err));
       some = λ err. check_some fault e.fault err;
     }

@@ -16,7 +16,7 @@ use Rattle.draid_import.specs.Importing.{ImportIs}
 use Rattle.draid_import.specs.declared.fault.ImportFault.{ImportFault}
 use Rattle.draid_pool.specs.declared.pool.Pool.{Pool}
 use Rattle.draid_import.proofs.Findings.{left_found, left_unfound, over_entry, unread_entry}
-use Rattle.draid_import.proofs.ImportCheck.{bad_entry, checked_entry, no_check_fault, risen_own, still_behind, still_body, still_found, still_low, still_over, still_recovered, still_reopened, still_taken}
+use Rattle.draid_import.proofs.ImportCheck.{bad_entry, checked_entry, risen_own, still_behind, still_body, still_found, still_low, still_over, still_recovered, still_reopened, still_taken}
 use Rattle.draid_import.proofs.ImportFaulty.{err_is, passed_on, passed_over, shard_no_check, shard_not_empty}
 use Rattle.draid_import.proofs.ImportMade.{made_passed, none_passed}
 use Rattle.draid_import.proofs.ImportLeft.{leaves_all, refusal_is, refused_pool, rests_known, risen_behind}
@@ -192,8 +192,7 @@ returns-in-Err-find_all g c =
           (no_fault_apart c.args.alloc rack area x pieces held (shelf.told c.find_uber.new.shelf) (shelf.leaves c.args.shelf.now) (shelf.leaves c.find_uber.new.shelf) (shelf.counts c.args.shelf.now) (shelf.counts c.find_uber.new.shelf)
           count old shards fault there u.found u.recovered c.find_uber.ensures.counts u.told e.reopened e.over
           (λ metaslab place kind err. subst (λ (xs : List (Shard g.row.H-R.Denot g.row.H-A.Denot)). AreApart xs metaslab place kind) c.deref.ensures.value (f.faulty metaslab place kind err)))
-          (no_check_fault area g.met.H.A.Area.counted x pieces held (shelf.leaves c.args.shelf.now) (shelf.counts c.args.shelf.now) count old shards fault there u.found u.recovered
-          (λ place kind err. subst (λ (xs : List (Shard g.row.H-R.Denot g.row.H-A.Denot)). IsBadCheck (OwnCheck area old) xs place kind) c.deref.ensures.value (f.check place kind err).1))
+          (f.none x pieces held (shelf.leaves c.args.shelf.now) (shelf.counts c.args.shelf.now) count there u.found u.recovered)
           (refused_pool c.args.alloc rack area x pieces held (shelf.told c.find_uber.new.shelf) (shelf.told c.give_back.new.shelf) (shelf.told last)
           (shelf.leaves c.args.shelf.now) (shelf.leaves c.find_uber.new.shelf) (shelf.leaves c.give_back.new.shelf) (shelf.leaves last)
           (shelf.counts c.args.shelf.now) (shelf.counts c.find_uber.new.shelf) (shelf.counts c.give_back.new.shelf) (shelf.counts last) count (count_on shelf last)
