@@ -41,7 +41,7 @@ fn stopped(number: u64, stop: Stop) -> Status
             at: 0,
         },
         Stop::Shelf => Status::ShelfFault,
-        Stop::Record { metaslab, at, kind } => Status::Record { metaslab, at, kind },
+        Stop::Record { name, at, kind } => Status::Record { name, at, kind },
     }
 }
 
