@@ -116,7 +116,7 @@ static CASES: [Case; 7] = [
         "import\nread 1001\nread 1002\nonline 1\n",
         "import draid1:2d:3c:0s-0 group=2 objects=2\nread 1001 1 33\nread 1002 1 44\nonline 1 ok\n",
     ),
-    // A column of one lane's write lands between two of another's.
+    // A column of one lane's write lands between two of another's, each in a hold of its own.
     (
         Section {
             before: CREATE,
@@ -133,11 +133,18 @@ static CASES: [Case; 7] = [
                     of: 1,
                     calls: 5,
                 },
+                // The last of its holds.
+                Stop {
+                    lane: 1,
+                    call: 4,
+                    of: 0,
+                    calls: 7,
+                },
             ],
-            lanes: &["write 1 11\nread 1\n", "write 1001 33\nread 1001\n"],
+            lanes: &["write 1 11\n", "write 1001 33\n"],
             exported: true,
         },
-        &["write 1 ok\nread 1 1 11\n", "write 1001 ok\nread 1001 1 33\n"],
+        &["write 1 ok\n", "write 1001 ok\n"],
         "import\nread 1\nread 1001\n",
         "import draid1:2d:3c:0s-0 group=2 objects=2\nread 1 1 11\nread 1001 1 33\n",
     ),
