@@ -1,7 +1,6 @@
 pub mod Done
 pub mod FilledIn
 pub mod FilledTable
-pub mod KnownOn
 pub mod LaneStays
 pub mod MendArms
 pub mod MendBegun
@@ -10,7 +9,6 @@ pub mod MendStays
 pub mod MendSteps
 pub mod MendThrough
 pub mod Mended
-pub mod OwnGoes
 pub mod Replied
 pub mod ScrubEnds
 pub mod SwitchArms
