@@ -1,7 +1,7 @@
 -- Commands that lanes with lists of numbers may be given, and what their jobs keep.
-use Rattle.std.proofs.Common.{◌≡◌, ◌∙◌, ◌++◌, ◌∷◌, ◌<◌, ◌≤◌, ◌+◌, ◌⊎◌, inl, inr, ℕ, zero, suc, Bool, true, false, ◌||◌, List, [], Option, Some, length, ap, arith, refl, subst, sym, ⊎_elim}
+use Rattle.std.proofs.Common.{◌≡◌, ◌∙◌, ◌++◌, ◌∷◌, ◌<◌, ◌≤◌, ◌+◌, ◌-◌, ◌⊎◌, inl, inr, ℕ, zero, suc, Bool, true, false, ◌||◌, List, [], Option, Some, length, ap, arith, refl, subst, sym, ⊎_elim}
 use Rattle.std.proofs.lemmas.Bool.Decides.{nat_tests}
-use Rattle.std.specs.Prelude.{slice_get}
+use Rattle.std.specs.Prelude.{slice_get, nat_le, ◌&&◌}
 use Rattle.std.specs.Borrow.{Bor}
 use Rattle.std.specs.Fn.{Shared}
 use Rattle.std.specs.declared.vec.Vec.{Vec}
@@ -127,3 +127,10 @@ pub in_one : (spans : List Span) (k : ℕ) (span : Span) (n : ℕ) → slice_get
 in_one [] k span n there is = absurd (cc)
 in_one (s ∷ spans) zero span n there is = (let same : s ≡ span = cc in or_left (in_span n s) (holds n spans) (ap (in_span n) same ∙ is))
 in_one (s ∷ spans) (suc k) span n there is = or_right (in_span n s) (holds n spans) (in_one spans k span n there is)
+
+in_from : (low high first count n : ℕ) → 1 ≤ count → low ≤ first → first ≤ high → count - 1 ≤ high - first → first ≤ n → n < first + count → (nat_le low n && nat_le n high) ≡ true
+in_from low high first count n some least most room from to = grind (arith, nat_tests, some, least, most, room, from, to)
+
+-- so are as many from one on that lie in it
+pub one_has : (spans : List Span) (k : ℕ) (span : Span) (first count : ℕ) → slice_get spans k ≡ Some span → 1 ≤ count → span.first ≤ first → first ≤ span.last → count - 1 ≤ span.last - first → (n : ℕ) → first ≤ n → n < first + count → holds n spans ≡ true
+one_has spans k span first count there some least most room n from to = in_one spans k span n there (in_from span.first span.last first count n some least most room from to)
