@@ -202,7 +202,16 @@ pub(crate) fn serve<
             Err(status) => return status,
         };
         if let Err(status) = serve_line(
-            rt, alloc, shelf, pool, chooser, policy, &mut journal, sink, number, &text,
+            rt,
+            alloc,
+            shelf,
+            pool,
+            chooser,
+            policy,
+            &mut journal,
+            sink,
+            number,
+            &text,
         ) {
             return status;
         }
