@@ -1,9 +1,10 @@
 -- What a thread knows of a state it knows of a later one, behind whatever leaves its own objects.
-use Rattle.std.proofs.Common.{◌≡◌, ◌==◌, ◌<◌, ◌≤◌, ◌∙◌, ◌⊎◌, inl, inr, arith, ℕ, zero, suc, Bool, true, Option, Some, refl, sym, ap, subst, slice_set, if◌then◌else◌, eq-eqb, ne_eqb}
+use Rattle.std.proofs.Common.{◌≡◌, ◌==◌, ◌<◌, ◌≤◌, ◌∙◌, ◌⊎◌, inl, inr, arith, ℕ, zero, suc, Bool, true, false, Option, Some, refl, sym, ap, subst, slice_set, if◌then◌else◌, eq-eqb, ne_eqb}
 use mathlib.Core.Logic.{dite}
 use native.Mathlib.Decide.{ℕ_discrete}
 use Rattle.std.specs.Prelude.{slice_get}
 use Rattle.std.proofs.lemmas.Bool.{cases_lt}
+use Rattle.std.proofs.lemmas.List.{length-set}
 use Rattle.draid_names.specs.declared.pointer.Pointer.{Pointer}
 use Rattle.draid_rack.specs.declared.Rack as racks
 use Rattle.draid_area.specs.declared.Area as areas
@@ -14,7 +15,7 @@ use Rattle.draid_shard.specs.Looks.{IsLive}
 use Rattle.draid_shard.specs.Part.{layout_in}
 use Rattle.draid_shard.specs.declared.shard.Shard.{Shard}
 use Rattle.draid_session.specs.State.{Metaslab, State}
-use Rattle.draid_pool.specs.Drifts.{GoesOn, Since}
+use Rattle.draid_pool.specs.Drifts.{GoesOn, Since, groups_number}
 use Rattle.draid_pool.specs.Metaslabs.{IsMetaslab}
 use Rattle.draid_pool.specs.Pools.{part_in}
 use Rattle.draid_pool.specs.Rounds.{NoneBeyond}
@@ -28,10 +29,10 @@ use Rattle.draid_pool.proofs.Moved.{turn, turn_here, turn_other, with_metaslab}
 use Rattle.draid_pool.proofs.Owning.{StaysAt, own_drifts}
 use Rattle.draid_pool.proofs.ShardSteps.{live_on}
 use Rattle.draid_pool.proofs.Since.{since_self, since_then}
-use Rattle.draid_works.specs.Lanes.{KnowsLater}
-use Rattle.draid_works.proofs.OwnGoes.{EachGoes, OwnGoes}
+use Rattle.draid_lanes.specs.Knowing.{KnowsLater}
+use Rattle.draid_lanes.proofs.OwnGoes.{EachGoes, OwnGoes}
 
-module _ {R A : Type 0} (rack : racks.Ghosts R) (area : areas.Ghosts A) (owns : ℕ → Bool) (table : ℕ → Option Pointer) (seq floor : ℕ) where
+module _ {R A : Type 0} (rack : racks.Ghosts R) (area : areas.Ghosts A) (owns : ℕ → Bool) (no_groups : owns groups_number ≡ false) (table : ℕ → Option Pointer) (seq floor : ℕ) where
   -- ---- one metaslab goes
 
   module _ (last new : ℕ → Option (Shard R A)) (m : ℕ) (shard after : Shard R A) (there : last m ≡ Some shard) (here : new m ≡ Some after) (other : (k : ℕ) → (k ≡ m → ⊥) → new k ≡ last k) (goes : OwnGoes rack area owns shard after)
@@ -40,7 +41,7 @@ module _ {R A : Type 0} (rack : racks.Ghosts R) (area : areas.Ghosts A) (owns : 
     was = knows.but_it.each m shard there
 
     pub g : GoesOn rack area owns (part_in x m) (knows.pieces m) was.0 after
-    g = goes.state (part_in x m) (knows.pieces m) was.0 was.2
+    g = goes.state no_groups (part_in x m) (knows.pieces m) was.0 was.2
 
     drops : (k : Key) → owns k.object ≡ true → StaysAt was.0 g.reached k
     drops k own =
@@ -160,7 +161,7 @@ module _ {R A : Type 0} (rack : racks.Ghosts R) (area : areas.Ghosts A) (owns : 
               by (inr from) = mixed_behind count k from ∙ (beyond_last k from ∙ sym (beyond_now k from))
 
       upto : (n : ℕ) → n ≤ count → KnowsLater rack area owns (mixed n) table seq floor x
-      upto zero below = record { reached = x; same = refl; since = λ m y at. (y, at, since_self (layout_in (part_in x m)) y); knows = knows }
+      upto zero below = record { reached = x; same = refl; many = refl; since = λ m y at. (y, at, since_self (layout_in (part_in x m)) y); knows = knows }
       upto (suc n) below = more (upto n (omega (arith, below)))
         where
           was : (shard : Shard R A) × (last n ≡ Some shard)
@@ -177,6 +178,7 @@ module _ {R A : Type 0} (rack : racks.Ghosts R) (area : areas.Ghosts A) (owns : 
               record {
                 reached = with_metaslab k.reached n z.reached;
                 same = ap (λ (s : State). record s { metaslabs = slice_set k.reached.metaslabs n z.reached }) k.same;
+                many = length-set k.reached.metaslabs n z.reached ∙ k.many;
                 since = λ m y at.
                     (let one = k.since m y at in
                     let two = since_on (mixed n) (mixed (suc n)) n was.0 went.0 there here (mixed_other n) went.2 k.reached k.knows m one.0 one.1 in
