@@ -14,6 +14,7 @@ use Rattle.draid_pool.specs.Drifts.{Drifts, GoesOn, KeepsTo, groups_number, is_o
 use Rattle.draid_pool.specs.Metaslabs.{IsMetaslab}
 use Rattle.draid_pool.proofs.Drifting.{same_pass}
 use Rattle.draid_pool.proofs.GroupKeeps.{not_kept}
+use Rattle.draid_pool.proofs.Imaged.{keeps_same}
 use Rattle.draid_pool.proofs.OneHold.{reserved_here, with_reserved}
 use Rattle.draid_pool.proofs.ShardSteps.{acts_since}
 use Rattle.draid_pool.proofs.Since.{nothing_more}
@@ -31,6 +32,7 @@ module _ {R A : Type 0} (rack : racks.Ghosts R) (area : areas.Ghosts A) where
     now = pieces;
     is = reserved_here rack area part pieces x y u is r.valid r.none r.kit r.limit;
     since = record { opened = refl; more = []; stored = nothing_more u.events; run = refl };
+    images = λ mine. keeps_same u.world;
     same = λ k own. inl refl;
   }
 
@@ -49,14 +51,15 @@ module _ {R A : Type 0} (rack : racks.Ghosts R) (area : areas.Ghosts A) where
   reserve_keeps x y None did = absurd did
   reserve_keeps x y (Some result) did = reserves_keep x y result did
 
-  switch_goes_on : (of : ℕ → Bool) (leaf : ℕ) (offline : Bool) (x y : Shard R A) → Switches rack leaf offline x y → (part : Part) (pieces : Pieces) (u : Metaslab) → IsMetaslab rack area part pieces x u → GoesOn rack area of part pieces u y
-  switch_goes_on of leaf offline x y s part pieces u is =
+  switch_goes_on : (of : ℕ → Bool) → (of groups_number ≡ true → ⊥) → (leaf : ℕ) (offline : Bool) (x y : Shard R A) → Switches rack leaf offline x y → (part : Part) (pieces : Pieces) (u : Metaslab) → IsMetaslab rack area part pieces x u → GoesOn rack area of part pieces u y
+  switch_goes_on of foreign leaf offline x y s part pieces u is =
       let d = switch_did rack area leaf offline x y s part pieces u is in
       record {
         reached = d.reached;
         now = pieces;
         is = d.is;
         since = acts_since (layout_in part) (Did (switch_event leaf offline) d.reached.world) u d.reached d.acts;
+        images = λ mine. absurd (foreign mine);
         same = λ k own. inl refl;
       }
 
@@ -68,7 +71,7 @@ module _ {R A : Type 0} (rack : racks.Ghosts R) (area : areas.Ghosts A) where
     groups = λ is. not_kept is;
     passes = λ other. same_pass x.pass y.pass s.pass;
     others = record { each = λ key own. inl (s.keeps.entries.held key) };
-    state = switch_goes_on (is_other (Some groups_number)) leaf offline x y s;
+    state = switch_goes_on (is_other (Some groups_number)) (λ mine. not_kept mine) leaf offline x y s;
   }
 
   -- ---- what others did since

@@ -26,6 +26,7 @@ use Rattle.draid_pool.specs.Metaslabs.{IsMetaslab}
 use Rattle.draid_pool.specs.Passes.{KeepsPass}
 use Rattle.draid_pool.proofs.Arms.{leaf_kept, shares_kept}
 use Rattle.draid_pool.proofs.Contents.{same_then}
+use Rattle.draid_pool.proofs.Imaged.{keeps_then as images_then}
 use Rattle.draid_pool.proofs.Since.{since_then, state_self}
 
 pub keeps_self : (of : ℕ → Bool) (group : ℕ) (t : Entries) → KeepsOf of group t t
@@ -103,5 +104,6 @@ module _ {R A : Type 0} (rack : racks.Ghosts R) (area : areas.Ghosts A) (of : �
         now = two.now;
         is = two.is;
         since = since_then (layout_in part) x one.reached two.reached one.since two.since;
+        images = λ mine. images_then x.world one.reached.world two.reached.world (one.images mine) (two.images mine);
         same = λ key own. same_then part x one.reached pieces one.now two.now key (held_then part pieces one.now x one.reached is one.is key own) (one.same key own) (two.same key own);
       }

@@ -19,6 +19,7 @@ use Rattle.draid_pool.specs.Committing.{DropsFreed}
 use Rattle.draid_pool.specs.Drifts.{Drifts, GoesOn, KeepsOf, KeepsTo, StateStep, groups_number, is_other}
 use Rattle.draid_pool.specs.Grouping.{ClosesIn, ClosesNext, CommitsNext, SealsBy, SealsIn, SealsNext}
 use Rattle.draid_pool.specs.Passes.{KeepsPass}
+use Rattle.draid_pool.specs.Shards.{KeepsImages}
 use Rattle.draid_pool.specs.Syncing.{Commits, KeepsTable, Turns}
 use Rattle.draid_pool.specs.declared.fault.SyncFault.{SyncFault}
 use Rattle.draid_pool.proofs.Drifting.{keeps_self, same_pass}
@@ -41,12 +42,13 @@ drops_keeps of group old new drops = record {
 
 module _ {R A : Type 0} (rack : racks.Ghosts R) (area : areas.Ghosts A) where
   -- one hold with the same pieces is a step of the state
-  pub turns_go : (of : ℕ → Bool) (part : Part) (pieces : Pieces) (x : Metaslab) (new : Shard R A) (does : Hold → Metaslab → Type 0) → Turns rack area part pieces x new does → GoesOn rack area of part pieces x new
-  turns_go of part pieces x new does t = record {
+  pub turns_go : (of : ℕ → Bool) (part : Part) (pieces : Pieces) (x : Metaslab) (new : Shard R A) (does : Hold → Metaslab → Type 0) → (t : Turns rack area part pieces x new does) → (of groups_number ≡ true → KeepsImages x.world t.reached.world) → GoesOn rack area of part pieces x new
+  turns_go of part pieces x new does t images = record {
     reached = t.reached;
     now = pieces;
     is = t.is;
     since = acts_since (layout_in part) t.act x t.reached t.acts;
+    images = images;
     same = λ k own. inl refl;
   }
 
@@ -63,14 +65,14 @@ module _ {R A : Type 0} (rack : racks.Ghosts R) (area : areas.Ghosts A) where
   }
 
   closes_keep : (x y : Shard R A) (group : ℕ) (result : Result Unit SyncFault) → ClosesIn rack area group x result y → KeepsTo rack area x y (Some groups_number)
-  closes_keep x y group result c = table_keeps x y c.valid c.table c.stays.pass (λ part pieces u is. turns_go (is_other (Some groups_number)) part pieces u y _ (c.closes part pieces u is))
+  closes_keep x y group result c = table_keeps x y c.valid c.table c.stays.pass (λ part pieces u is. turns_go (is_other (Some groups_number)) part pieces u y _ (c.closes part pieces u is) (λ mine. not_kept mine))
 
   pub close_keeps : (x y : Shard R A) (group : ℕ) (out : Option (Result Unit SyncFault)) → MatchOption out ⊥ (λ result. ClosesIn rack area group x result y) → KeepsTo rack area x y (Some groups_number)
   close_keeps x y group None did = absurd did
   close_keeps x y group (Some result) did = closes_keep x y group result did
 
   seals_keep : (x y : Shard R A) (group : ℕ) (result : Result ℕ SyncFault) → SealsBy rack area group x result y → KeepsTo rack area x y (Some groups_number)
-  seals_keep x y group result s = table_keeps x y s.valid s.table s.stays.pass (λ part pieces u is. turns_go (is_other (Some groups_number)) part pieces u y _ (s.seals part pieces u is))
+  seals_keep x y group result s = table_keeps x y s.valid s.table s.stays.pass (λ part pieces u is. turns_go (is_other (Some groups_number)) part pieces u y _ (s.seals part pieces u is) (λ mine. not_kept mine))
 
   -- one that changed nothing
   still_keeps : (x y : Shard R A) (n : ℕ) → Valid rack x → y ≡ x → KeepsTo rack area x y (Some groups_number)
@@ -100,7 +102,7 @@ module _ {R A : Type 0} (rack : racks.Ghosts R) (area : areas.Ghosts A) where
     groups = λ is. not_kept is;
     passes = λ other. c.stays.pass;
     others = drops_keeps (is_other (Some groups_number)) y.committed x.entries y.entries (subst (λ g. DropsFreed g x.entries y.entries) (sym c.commits.committed) c.commits.entries);
-    state = λ part pieces u is. turns_go (is_other (Some groups_number)) part pieces u y _ (commit_turns rack area part pieces x y group u is c);
+    state = λ part pieces u is. turns_go (is_other (Some groups_number)) part pieces u y _ (commit_turns rack area part pieces x y group u is c) (λ mine. not_kept mine);
   }
 
   -- ---- what others did since

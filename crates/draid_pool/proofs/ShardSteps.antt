@@ -91,13 +91,13 @@ module _ {R A : Type 0} (rack : racks.Ghosts R) (area : areas.Ghosts A) where
   pub state_goes : (of : ℕ → Bool) (old new : Shard R A) (does : Part → Metaslab → List Hold → Metaslab → Type 0)
       → ((part : Part) (pieces : Pieces) (x : Metaslab) → IsMetaslab rack area part pieces old x → Goes rack area part pieces x new (does part x)) → StateStep rack area of old new
   state_goes of old new does goes part pieces x is =
-      let g = goes part pieces x is in record { reached = g.reached; now = pieces; is = g.is; since = follows_since (layout_in part) part.number g.holds x g.reached g.follows; same = λ k mine. inl refl }
+      let g = goes part pieces x is in record { reached = g.reached; now = pieces; is = g.is; since = follows_since (layout_in part) part.number g.holds x g.reached g.follows; images = λ mine. g.images; same = λ k mine. inl refl }
 
   -- so are holds behind which blocks may have the pieces of other bytes of their length and digest
   pub state_goes_later : (of : ℕ → Bool) (old new : Shard R A) → ((part : Part) (pieces : Pieces) (x : Metaslab) → IsMetaslab rack area part pieces old x → GoesLater rack area part pieces x new) → StateStep rack area of old new
   state_goes_later of old new goes part pieces x is =
       let g = goes part pieces x is in
-      record { reached = g.reached; now = g.later; is = g.is; since = follows_since (layout_in part) part.number g.holds x g.reached g.follows; same = λ k mine. g.contents.each k }
+      record { reached = g.reached; now = g.later; is = g.is; since = follows_since (layout_in part) part.number g.holds x g.reached g.follows; images = λ mine. g.images; same = λ k mine. g.contents.each k }
 
   -- ---- live blocks
 

@@ -9,6 +9,7 @@ use Rattle.draid_shard.specs.Part.{layout_in}
 use Rattle.draid_shard.specs.declared.shard.Shard.{Shard}
 use Rattle.draid_session.specs.State.{Metaslab}
 use Rattle.draid_pool.specs.Drifts.{Since, StateStep}
+use Rattle.draid_pool.proofs.Imaged.{keeps_same}
 
 run_join : (l : machine.Layout) (w v u : machine.State) (es fs : List Event) → Run l w es v → Run l v fs u → Run l w (es ++ fs) u
 run_join l w v u [] fs x y = subst (λ t. Run l t fs u) x y
@@ -35,4 +36,4 @@ since_then l x y z a b = record {
 
 module _ {R A : Type 0} (rack : racks.Ghosts R) (area : areas.Ghosts A) where
   pub state_self : (of : ℕ → Bool) (shard : Shard R A) → StateStep rack area of shard shard
-  state_self of shard part pieces x is = record { reached = x; now = pieces; is = is; since = since_self (layout_in part) x; same = λ k mine. inl refl }
+  state_self of shard part pieces x is = record { reached = x; now = pieces; is = is; since = since_self (layout_in part) x; images = λ mine. keeps_same x.world; same = λ k mine. inl refl }

@@ -21,6 +21,17 @@ use Rattle.draid_session.specs.State.{Metaslab}
 use Rattle.draid_pool.specs.Bytes.{SamePieces}
 use Rattle.draid_pool.specs.Metaslabs.{IsMetaslab}
 use Rattle.draid_pool.specs.Passes.{KeepsPass}
+use Rattle.draid_pool.specs.Shards.{KeepsImages}
+
+-- ---- numbers
+
+-- the number that a hold concerns which may change the groups, the arms or the reserved events of a metaslab; it is no object's
+abbrev pub groups_number : ℕ
+groups_number = 4_294_967_312
+
+-- the number that a hold concerns which may change the pass of a metaslab; it is no object's
+abbrev pub passes_number : ℕ
+passes_number = 4_294_967_313
 
 -- ---- states
 
@@ -31,12 +42,14 @@ pub record Since (l : machine.Layout) (first x : Metaslab) : Type 0 where
   pub stored : x.events ≡ first.events ++ more
   pub run : Run l first.world more x.world
 
--- a shard stands for a metaslab that came from one by events, with the same pieces of the objects of a test, but that a block may have those of other bytes of its length and digest
+-- A shard stands for a metaslab that came from one by events, with the same pieces of the objects of a test, but that a block may have those of other bytes of its length and digest. Where the groups are of the
+-- test its images are as they were.
 pub record GoesOn {R A : Type 0} (rack : racks.Ghosts R) (area : areas.Ghosts A) (of : ℕ → Bool) (part : Part) (pieces : Pieces) (x : Metaslab) (new : Shard R A) : Type 0 where
   pub reached : Metaslab
   pub now : Pieces
   pub is : IsMetaslab rack area part now new reached
   pub since : Since (layout_in part) x reached
+  pub images : of groups_number ≡ true → KeepsImages x.world reached.world
   pub same : (k : Key) → of k.object ≡ true → SamePieces part x pieces now k
 
 -- whatever the one stood for, the other stands for something behind it
@@ -55,14 +68,6 @@ is_other None object = true
 is_other (Some n) object = if n == object then false else true
 
 -- ---- metaslabs
-
--- the number that a hold concerns which may change the groups, the arms or the reserved events of a metaslab; it is no object's
-abbrev pub groups_number : ℕ
-groups_number = 4_294_967_312
-
--- the number that a hold concerns which may change the pass of a metaslab; it is no object's
-abbrev pub passes_number : ℕ
-passes_number = 4_294_967_313
 
 -- The groups are as they were, and so are the arms, which come and go with them, but for whether a pass has made them good. No leaf came, and as many events are
 -- reserved. Logs may be others.

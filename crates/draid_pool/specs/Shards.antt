@@ -52,6 +52,7 @@ pub record GoesLater {R A : Type 0} (rack : racks.Ghosts R) (area : areas.Ghosts
   pub holds : List Hold
   pub reached : Metaslab
   pub follows : FollowsIn (layout_in part) part.number holds x reached
+  pub images : KeepsImages x.world reached.world
   pub later : Pieces
   pub contents : KeepsContents part x pieces later
   pub is : IsMetaslab rack area part later new reached

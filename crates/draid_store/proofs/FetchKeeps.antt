@@ -23,6 +23,7 @@ use Rattle.draid_pool.specs.Metaslabs.{IsMetaslab}
 use Rattle.draid_pool.specs.Threads.{HasPointer}
 use Rattle.draid_pool.proofs.Dids.{none_here}
 use Rattle.draid_pool.proofs.Drifting.{groups_by, same_pass}
+use Rattle.draid_pool.proofs.Imaged.{keeps_same}
 use Rattle.draid_pool.proofs.ShardSteps.{follows_since, live_on}
 use Rattle.draid_pool.proofs.Since.{since_self}
 use Rattle.draid_store.specs.Fetching.{FetchesNone, FetchesShard, MayFetchIn}
@@ -60,7 +61,7 @@ module _ {R A : Type 0} (rack : racks.Ghosts R) (area : areas.Ghosts A) where
   -- ---- states
 
   none_goes : (of : ℕ → Bool) (x y : Shard R A) → FetchesNone rack x y → (part : Part) (pieces : Pieces) (u : Metaslab) → IsMetaslab rack area part pieces y u → GoesOn rack area of part pieces u y
-  none_goes of x y n part pieces u is = record { reached = u; now = pieces; is = is; since = since_self (layout_in part) u; same = λ k mine. inl refl }
+  none_goes of x y n part pieces u is = record { reached = u; now = pieces; is = is; since = since_self (layout_in part) u; images = λ mine. keeps_same u.world; same = λ k mine. inl refl }
 
   pub none_stands : (x y : Shard R A) (p : Pointer) (why : ObjectFault) → FetchesShard rack x p (Err why) y → FetchesNone rack x y → (part : Part) (pieces : Pieces) (u : Metaslab) → IsMetaslab rack area part pieces x u → IsMetaslab rack area part pieces y u
   none_stands x y p why f n part pieces u is = none_here rack area part pieces x y u is f.valid n.nothing.none n.kit.rack n.kit.areas n.reserve.limit n.reserve.reserved
@@ -70,7 +71,7 @@ module _ {R A : Type 0} (rack : racks.Ghosts R) (area : areas.Ghosts A) where
   state_on of x y p (Ok fetched) f part pieces u is =
       let d = f.did in
       let g = fetches rack area part x y p fetched d.fetches f.valid d.areas_are d.told d.reserve d.not_worn pieces u is in
-      record { reached = g.reached; now = pieces; is = g.is; since = follows_since (layout_in part) part.number g.holds u g.reached g.follows; same = λ k mine. inl refl }
+      record { reached = g.reached; now = pieces; is = g.is; since = follows_since (layout_in part) part.number g.holds u g.reached g.follows; images = λ mine. g.images; same = λ k mine. inl refl }
   state_on of x y p (Err object.NoObject) f part pieces u is = absurd f.did
   state_on of x y p (Err (object.Unreadable absent tried)) f part pieces u is = absurd f.did
   state_on of x y p (Err object.Worn) f part pieces u is = none_goes of x y f.did.0 part pieces u (none_stands x y p object.Worn f f.did.0 part pieces u is)

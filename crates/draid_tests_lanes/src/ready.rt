@@ -92,7 +92,8 @@ pub fn jobs_of<'c, F: Fn(&[Room]) -> Option<u32>>(
     }
     let mut jobs = Vec::new(alloc);
     for lane in 0..numbers.len() {
-        jobs.push(job_of(alloc, chooser, &numbers[lane], scripts[lane])?).ok()?;
+        jobs.push(job_of(alloc, chooser, &numbers[lane], scripts[lane])?)
+            .ok()?;
     }
     Some(jobs)
 }

@@ -29,7 +29,8 @@ use std::thread::Threads;
 pub fn text_of(alloc: Global, replies: &[Reply]) -> Option<Vec<u8>> {
     let mut text = Vec::new(alloc);
     for reply in replies {
-        text.extend_from_slice(&reply_text(alloc, reply).ok()?).ok()?;
+        text.extend_from_slice(&reply_text(alloc, reply).ok()?)
+            .ok()?;
     }
     Some(text)
 }
@@ -42,7 +43,9 @@ fn replies_of<F: Fn(&[Room]) -> Option<u32>>(
     let mut lists = Vec::new(alloc);
     for job in jobs {
         let LaneCommands {
-            replies, stopped, ..
+            replies,
+            stopped,
+            ..
         } = job;
         if stopped {
             return None;

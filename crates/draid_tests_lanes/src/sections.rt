@@ -50,7 +50,10 @@ static CASES: [Case; 4] = [
         Section {
             before: CREATE,
             stops: &[],
-            lanes: &["write 1 11\nsync\nwrite 2 22\nread 2\n", "read 1001\nfree 1001\n"],
+            lanes: &[
+                "write 1 11\nsync\nwrite 2 22\nread 2\n",
+                "read 1001\nfree 1001\n",
+            ],
             exported: false,
         },
         &[
@@ -64,14 +67,12 @@ static CASES: [Case; 4] = [
     (
         Section {
             before: CREATE,
-            stops: &[
-                Stop {
-                    lane: 1,
-                    call: 0,
-                    of: 0,
-                    calls: 15,
-                },
-            ],
+            stops: &[Stop {
+                lane: 1,
+                call: 0,
+                of: 0,
+                calls: 15,
+            }],
             lanes: &[
                 "write 1 11\nread 1\nread 1\nread 1\nread 1\nread 1\nread 1\nread 1\nread 1\n",
                 "write 1001 33\nsync\n",
@@ -164,14 +165,12 @@ fn lanes_reply_and_leave_what_they_wrote(rt: HostRuntime) {
 /// Two lanes that each write and then sync. The second begins its sync while the first has the uberblock.
 static SYNCS: Section = Section {
     before: CREATE,
-    stops: &[
-        Stop {
-            lane: 0,
-            call: 12,
-            of: 1,
-            calls: 7,
-        },
-    ],
+    stops: &[Stop {
+        lane: 0,
+        call: 12,
+        of: 1,
+        calls: 7,
+    }],
     lanes: &["write 1 11\nsync\n", "write 1001 33\nsync\n"],
     exported: false,
 };
@@ -193,9 +192,8 @@ fn syncs_differ<W: AllocGlobal + Threads + Wait + Sync>(rt: &W) -> bool {
     let said = are_said(rt.alloc(), &replies, &one) || are_said(rt.alloc(), &replies, &other);
     match printed(rt, &mut shelf, "import\nread 1\nread 1001\n") {
         Some(found) => {
-            said
-                && found.as_slice()
-                    == b"import draid1:2d:3c:0s-0 group=3 objects=2\nread 1 1 11\nread 1001 1 33\n".as_slice()
+            said && found.as_slice()
+                == b"import draid1:2d:3c:0s-0 group=3 objects=2\nread 1 1 11\nread 1001 1 33\n".as_slice()
         }
         None => false,
     }

@@ -9,8 +9,7 @@ ghost use Rattle.draid_uber.specs.Checks.{CheckStands, check_area, check_in, cou
 
 use crate::areas::Areas;
 use draid_area::Area;
-use draid_names::DeviceFault;
-use draid_names::NoMemory;
+use draid_names::{DeviceFault, NoMemory};
 use draid_record::{CheckBody, RecordFault, RecordFaultKind, read_check, write_check};
 use std::alloc::Global;
 

@@ -463,6 +463,7 @@ module _ {R A : Type 0} (rack : racks.Ghosts R) (area : areas.Ghosts A) (old len
       holds = On (view_of part.number x) (Did (Lend unit.failed) y.world) ∷ (On (view_of part.number y) (Did e second.done.reached.world) ∷ []);
       reached = second.done.reached;
       follows = both_follow;
+      images = keeps_then x.world y.world second.done.reached.world one_leaves.images two_leaves.images;
       later = second.later;
       contents = keeps;
       is = second.done.is;

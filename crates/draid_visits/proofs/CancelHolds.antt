@@ -5,18 +5,29 @@ use Rattle.std.proofs.lemmas.Bool.{true≢false}
 use Rattle.draid_rack.specs.declared.Rack as racks
 use Rattle.draid_area.specs.declared.Area as areas
 use Rattle.draid_machine.specs.declared.event.Event.TheVariants as event
+use Rattle.draid_machine.specs.State as machine
+use Rattle.draid_machine.specs.Step.{CancelStep}
 use Rattle.draid_pass.specs.declared.pass.Pass.{Pass}
+use Rattle.draid_perm.specs.declared.perms.Perms.{Perms}
 use Rattle.draid_segments.specs.Segments.{Pieces}
+use Rattle.draid_session.specs.Follows.{MetaslabActs}
+use Rattle.draid_session.specs.Holds.{Act, Did, Looked, On, view_of}
+use Rattle.draid_session.specs.Passes as passes
+use Rattle.draid_session.specs.State.{Metaslab}
 use Rattle.draid_shard.specs.Alike.{KeepsArms}
 use Rattle.draid_shard.specs.Calls.{ActsOn, SameKit, SameReserve}
 use Rattle.draid_shard.specs.Changes.{KeepsBlocks}
 use Rattle.draid_shard.specs.Fits.{Valid}
+use Rattle.draid_shard.specs.Part.{layout_in}
 use Rattle.draid_shard.specs.States.{Does}
 use Rattle.draid_shard.specs.declared.shard.Shard.{Shard}
 use Rattle.draid_shard.proofs.Changed.{same_arms, same_entries}
 use Rattle.draid_pool.specs.Drifts.{KeepsTo, is_other, passes_number}
+use Rattle.draid_pool.specs.Shards.{KeepsImages}
 use Rattle.draid_pool.proofs.Drifting.{groups_by, groups_kept}
 use Rattle.draid_pool.proofs.GroupKeeps.{turns_go}
+use Rattle.draid_pool.proofs.Imaged.{keeps_same}
+use Rattle.draid_spec.specs.declared.layout.Geometry.{Geometry}
 use Rattle.draid_visits.specs.Cancelling.{CancelsIn, passes_of}
 use Rattle.draid_visits.proofs.Cancelled.{none_ended, pass_ended}
 
@@ -33,6 +44,18 @@ is_absent (Some pass) none is true_is = absurd (true≢false (is ∙ ap not true
 pub is_one : (o : Option Pass) (none : Bool) → is_some o ≡ not none → none ≡ false → 1 ≡ passes_of o
 is_one None none is false_is = absurd (true≢false (sym (is ∙ ap not false_is)))
 is_one (Some pass) none is false_is = refl
+
+-- ---- states
+
+cancel_state : (w v : machine.State) → CancelStep w v → KeepsImages w v
+cancel_state w v step =
+    subst (KeepsImages w) (sym step.made) (record { image = refl; sealed = refl; leaves = λ leaf some. some; asked = refl; arms = record { order = λ slot. refl; arms = λ n. refl } })
+
+-- a cancel leaves the images
+cancel_images : (geometry : Geometry) (perms : Perms) (l : machine.Layout) (m ended : ℕ) (x z : Metaslab) (act : Act) → MetaslabActs l act x z → passes.CancelsAt geometry perms m (On (view_of m x) act) ended → KeepsImages x.world z.world
+cancel_images geometry perms l m ended x z (Did event.Cancel w) acts is = subst (KeepsImages x.world) (sym acts.world) (cancel_state x.world w acts.legal)
+cancel_images geometry perms l m ended x z Looked acts is = subst (λ (v : Metaslab). KeepsImages x.world v.world) (sym acts) (keeps_same x.world)
+cancel_images geometry perms l m ended x z act acts is = absurd is
 
 -- ---- one hold
 
@@ -76,5 +99,5 @@ module _ {R A : Type 0} (rack : racks.Ghosts R) (area : areas.Ghosts A) where
     groups = λ other. c.groups;
     passes = λ is. pass_may_go is;
     others = record { each = λ key own. inl (c.blocks.entries.held key) };
-    state = λ part pieces u is. turns_go rack area (is_other (Some passes_number)) part pieces u y _ (c.turns part pieces u is);
+    state = λ part pieces u is. turns_go rack area (is_other (Some passes_number)) part pieces u y _ (c.turns part pieces u is) (λ mine. cancel_images part.geometry part.perms (layout_in part) part.number ended u (c.turns part pieces u is).reached (c.turns part pieces u is).act (c.turns part pieces u is).acts (c.turns part pieces u is).done.0);
   }

@@ -43,7 +43,7 @@ contents_by part x pieces later keeps k h there = elim (keeps.each k) [
 module _ {R A : Type 0} (rack : racks.Ghosts R) (area : areas.Ghosts A) where
   -- where they have the same
   pub goes_later : (part : Part) (pieces : Pieces) (x : Metaslab) (new : Shard R A) (does : List Hold → Metaslab → Type 0) → Goes rack area part pieces x new does → GoesLater rack area part pieces x new
-  goes_later part pieces x new does goes = record { holds = goes.holds; reached = goes.reached; follows = goes.follows; later = pieces; contents = record { each = λ k. inl refl }; is = goes.is }
+  goes_later part pieces x new does goes = record { holds = goes.holds; reached = goes.reached; follows = goes.follows; images = goes.images; later = pieces; contents = record { each = λ k. inl refl }; is = goes.is }
 
   pub goes_to : (part : _) (pieces : Pieces) (x : Metaslab) (new : Shard R A) (does : List Hold → Metaslab → Type 0) → Goes rack area part pieces x new does → GoesTo rack area part pieces x new does
   goes_to part pieces x new does goes = record {

@@ -30,7 +30,7 @@ replied_more lines replies replies' at line reply fits many there fit more i oth
     let last : slice_get (replies ++ reply ∷ []) i ≡ Some said = ap (λ rs. slice_get rs i) (sym more) ∙ is_reply in
     ⊎_elim (λ (t : slice_get replies i ≡ Some said). fits i other said is_line t)
     (λ (t : (i ≡ length replies) × (reply ≡ said)).
-      let here : slice_get lines i ≡ Some line = ap (slice_get lines) (t.0 ∙ many) ∙ there in
-      let same : line ≡ other = same_line (slice_get lines i) line other here is_line in
-      subst (λ l. IsReplyTo (command_in l) said) same (subst (λ r. IsReplyTo (command_in line) r) t.1 fit))
+    let here : slice_get lines i ≡ Some line = ap (slice_get lines) (t.0 ∙ many) ∙ there in
+    let same : line ≡ other = same_line (slice_get lines i) line other here is_line in
+    subst (λ l. IsReplyTo (command_in l) said) same (subst (λ r. IsReplyTo (command_in line) r) t.1 fit))
     (at_push replies reply said i last)

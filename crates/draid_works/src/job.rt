@@ -67,12 +67,7 @@ fn reply_on_objects<
     G: Gate,
     W: Wait + Threads + Sync,
     F: Fn(&[Room]) -> Option<u32>,
->(
-    alloc: Global,
-    lane: &mut Lane<'a, 'b, R, A, G, W>,
-    chooser: &Chooser<F>,
-    line: &Line,
-) -> Reply
+>(alloc: Global, lane: &mut Lane<'a, 'b, R, A, G, W>, chooser: &Chooser<F>, line: &Line) -> Reply
     requires chooser { IsChooser F.Fn chooser.now }
     requires whole { IsWholeLane R.Rack A.Area lane.old }
     requires geometry { IsGeometry lane.old.geometry }
