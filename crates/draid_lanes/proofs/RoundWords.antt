@@ -19,6 +19,16 @@ use Rattle.draid_lanes.proofs.OneTurn.{HasCame, Once, came_one, found_came, gone
 use Rattle.draid_lanes.proofs.OneTurn.{CameTo}
 use Rattle.draid_lanes.proofs.Tracing.{Traced, traced_none, traced_then, traced_uber}
 
+-- it is one hold, that is so
+pub record IsOneOf (told : Hold → Type 0) (hs : List Hold) : Type 0 where
+  pub hold : Hold
+  pub are : hs ≡ hold ∷ []
+  pub is : told hold
+
+-- what a hold is told to do to a metaslab, whatever that stood for
+abbrev pub TellsAt : {R A : Type 0} → racks.Ghosts R → areas.Ghosts A → State → ℕ → (Hold → Type 0) → Shard R A → Shard R A → Type 0
+TellsAt rack area x m told before after = (pieces : Pieces) (y : Metaslab) → IsMetaslab rack area (part_in x m) pieces before y → Turns rack area (part_in x m) pieces y after (λ hold z. told hold)
+
 module _ {R A G W : Type 0} (rack : racks.Ghosts R) (area : areas.Ghosts A) (x : State) where
   -- What a lane did between two of its states, with these holds of the uberblock among it, is what is said to be done. It knows what its metaslabs came to.
   pub record Says (a b : Locked R A G W) (ubers : List Hold) (does : List Hold → Type 0) : Type 0 where
@@ -35,23 +45,6 @@ module _ {R A G W : Type 0} (rack : racks.Ghosts R) (area : areas.Ghosts A) (x :
   said_as a b us P Q s so = record { turns = s.turns; holds = s.holds; traced = s.traced; done = so s.holds s.done; came = s.came }
 
   -- the one and then the other
-  pub record IsBoth (P Q : List Hold → Type 0) (hs : List Hold) : Type 0 where
-    pub front : List Hold
-    pub back : List Hold
-    pub are : hs ≡ front ++ back
-    pub first : P front
-    pub second : Q back
-
-  pub said_then : (a b c : Locked R A G W) (us vs : List Hold) (P Q : List Hold → Type 0) → Says a b us P → Says b c vs Q → Says a c (us ++ vs) (IsBoth P Q)
-  said_then a b c us vs P Q s t = record {
-    turns = λ m. s.turns m ++ t.turns m;
-    holds = s.holds ++ t.holds;
-    traced = traced_then rack area x a b c s.turns t.turns s.holds t.holds us vs s.traced t.traced;
-    done = record { front = s.holds; back = t.holds; are = refl; first = s.done; second = t.done };
-    came = t.came;
-  }
-
-  -- and what both say together
   pub said_on : (a b c : Locked R A G W) (us vs : List Hold) (P Q both : List Hold → Type 0) → Says a b us P → Says b c vs Q → ((hs ks : List Hold) → P hs → Q ks → both (hs ++ ks)) → Says a c (us ++ vs) both
   said_on a b c us vs P Q both s t so = record {
     turns = λ m. s.turns m ++ t.turns m;
@@ -65,18 +58,9 @@ module _ {R A G W : Type 0} (rack : racks.Ghosts R) (area : areas.Ghosts A) (x :
   said_uber a u act came = record { turns = λ m. []; holds = OnUber u act ∷ []; traced = traced_uber rack area x a (OnUber u act) (λ m. refl) refl; done = refl; came = came }
 
 module _ {R A G W : Type 0} (rack : racks.Ghosts R) (area : areas.Ghosts A) (x : State) (owns : ℕ → Bool) where
-  -- what a hold is told to do to a metaslab, whatever that stood for
-  abbrev pub TellsAt : ℕ → (Hold → Type 0) → Shard R A → Shard R A → Type 0
-  TellsAt m told before after = (pieces : Pieces) (y : Metaslab) → IsMetaslab rack area (part_in x m) pieces before y → Turns rack area (part_in x m) pieces y after (λ hold z. told hold)
-
   -- ---- one hold
 
-  pub record IsOneOf (told : Hold → Type 0) (hs : List Hold) : Type 0 where
-    pub hold : Hold
-    pub are : hs ≡ hold ∷ []
-    pub is : told hold
-
-  pub said_one : (does : Shard R A → Shard R A → Type 0) (told : Hold → Type 0) (a : Locked R A G W) (m : ℕ) (b : Locked R A G W) (h : Once rack area x owns does a m b) → HasCame rack area x a → TellsAt m told h.before h.after → Says rack area x a b [] (IsOneOf told)
+  pub said_one : (does : Shard R A → Shard R A → Type 0) (told : Hold → Type 0) (a : Locked R A G W) (m : ℕ) (b : Locked R A G W) (h : Once rack area x owns does a m b) → HasCame rack area x a → TellsAt rack area x m told h.before h.after → Says rack area x a b [] (IsOneOf told)
   said_one does told a m b h came tells =
       let g = gone rack area x owns does a m b h came in
       let t = tells g.now g.reached g.is in
@@ -96,7 +80,7 @@ module _ {R A G W : Type 0} (rack : racks.Ghosts R) (area : areas.Ghosts A) (x :
   abbrev pub From : (ℕ → Shard R A → Shard R A → Type 0) → ℕ → ℕ → Locked R A G W → ℕ → Locked R A G W → Type 0
   From does first n a sum b = HeldFrom rack area lane_last (LaneWent rack area) true owns does first n a sum b
 
-  module _ (does : ℕ → Shard R A → Shard R A → Type 0) (told : ℕ → Hold → ℕ → Type 0) (tells : (n m : ℕ) (before after : Shard R A) → does n before after → TellsAt m (λ hold. told m hold n) before after) where
+  module _ (does : ℕ → Shard R A → Shard R A → Type 0) (told : ℕ → Hold → ℕ → Type 0) (tells : (n m : ℕ) (before after : Shard R A) → does n before after → TellsAt rack area x m (λ hold. told m hold n) before after) where
     walked_on : (first n sum more : ℕ) (hs ks : List Hold) → Walked told first n hs sum → IsOneOf (λ hold. told (first + n) hold more) ks → Walked told first (suc n) (hs ++ ks) (sum + more)
     walked_on first n sum more hs ks w one = subst (λ l. Walked told first (suc n) (hs ++ l) (sum + more)) (sym one.are) (walked_more told first n hs sum one.hold more w one.is)
 

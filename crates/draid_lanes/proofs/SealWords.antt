@@ -51,6 +51,14 @@ pub walked_zero : (P : ℕ → Hold → Type 0) (m n : ℕ) (hs : List Hold) (su
 walked_zero P m zero hs sum Q so w = (w.0, refl)
 walked_zero P m (suc n) hs sum Q so w = (w.0, w.1, 0, 0, w.4, refl, so m w.0 w.6, walked_zero P (m + 1) n w.1 w.3 Q so w.7)
 
+-- but for looks, a group was closed in all and sealed in the first so many
+pub record SealedUpto (x : State) (count group k sum : ℕ) (hs : List Hold) : Type 0 where
+  pub closes : List Hold
+  pub seals : List Hold
+  pub leaves : LeavesLooks hs (closes ++ seals)
+  pub closed : Walked (groups.Closes x.geometry x.perms group) 0 count closes 0
+  pub sealed : Walked (groups.Seals x.geometry x.perms group) 0 k seals sum
+
 module _ {R A G W : Type 0} (rack : racks.Ghosts R) (area : areas.Ghosts A) (x : State) (owns : ℕ → Bool) (own : owns groups_number ≡ true) (count : ℕ) where
   -- ---- what a round leaves
 
@@ -73,22 +81,15 @@ module _ {R A G W : Type 0} (rack : racks.Ghosts R) (area : areas.Ghosts A) (x :
   -- ---- closing and sealing
 
   module _ (group : ℕ) where
-    abbrev pub Closes : ℕ → Hold → ℕ → Type 0
+    abbrev Closes : ℕ → Hold → ℕ → Type 0
     Closes m hold n = groups.Closes x.geometry x.perms group m hold n
 
-    abbrev pub Seals : ℕ → Hold → ℕ → Type 0
+    abbrev Seals : ℕ → Hold → ℕ → Type 0
     Seals m hold n = groups.Seals x.geometry x.perms group m hold n
 
-    -- but for looks, it was closed in all and sealed in the first so many
-    pub record SealedUpto (k sum : ℕ) (hs : List Hold) : Type 0 where
-      pub closes : List Hold
-      pub seals : List Hold
-      pub leaves : LeavesLooks hs (closes ++ seals)
-      pub closed : Walked Closes 0 count closes 0
-      pub sealed : Walked Seals 0 k seals sum
-
+    -- so in a lane's metaslabs
     pub record Sealing (a b : Locked R A G W) (k sum : ℕ) : Type 0 where
-      pub said : Says rack area x a b [] (SealedUpto k sum)
+      pub said : Says rack area x a b [] (SealedUpto x count group k sum)
       pub closing : EachIs count (SealsNext rack group) (lane_last b)
       pub sealed : EachIs k (CommitsNext rack group) (lane_last b)
 
@@ -97,12 +98,12 @@ module _ {R A G W : Type 0} (rack : racks.Ghosts R) (area : areas.Ghosts A) (x :
     abbrev CloseOne : ℕ → Shard R A → Shard R A → Type 0
     CloseOne n before after = ClosesIn rack area group before (Ok tt) after
 
-    tells_close : (n m : ℕ) (before after : Shard R A) → CloseOne n before after → TellsAt rack area x owns m (λ hold. Closes m hold 0) before after
+    tells_close : (n m : ℕ) (before after : Shard R A) → CloseOne n before after → TellsAt rack area x m (λ hold. Closes m hold 0) before after
     tells_close n m before after c pieces y is = (let t = c.closes (part_in x m) pieces y is in record { act = t.act; reached = t.reached; acts = t.acts; done = t.done.0; is = t.is })
 
     pub closed_all : (a b : Locked R A G W) (sum : ℕ) → Each rack area x owns CloseOne count a sum b → HasCame rack area x a → Sealing a b 0 0
     closed_all a b sum each came = record {
-      said = said_as rack area x a b [] (λ hs. Walked (λ m hold none. Closes m hold 0) 0 count hs sum) (SealedUpto 0 0)
+      said = said_as rack area x a b [] (λ hs. Walked (λ m hold none. Closes m hold 0) 0 count hs sum) (SealedUpto x count group 0 0)
           (round_said rack area x owns CloseOne (λ m hold none. Closes m hold 0) tells_close count sum a b each came)
           (λ hs w. record {
             closes = hs;
@@ -120,10 +121,10 @@ module _ {R A G W : Type 0} (rack : racks.Ghosts R) (area : areas.Ghosts A) (x :
     abbrev SealOne : ℕ → Shard R A → Shard R A → Type 0
     SealOne n before after = SealsBy rack area group before (Ok n) after
 
-    tells_seal : (n m : ℕ) (before after : Shard R A) → SealOne n before after → TellsAt rack area x owns m (λ hold. Seals m hold n) before after
+    tells_seal : (n m : ℕ) (before after : Shard R A) → SealOne n before after → TellsAt rack area x m (λ hold. Seals m hold n) before after
     tells_seal n m before after s pieces y is = (let t = s.seals (part_in x m) pieces y is in record { act = t.act; reached = t.reached; acts = t.acts; done = t.done.0; is = t.is })
 
-    more_sealed : (k sum n : ℕ) (hs ks : List Hold) → SealedUpto k sum hs → IsOneOf (λ hold. Seals k hold n) ks → SealedUpto (suc k) (sum + n) (hs ++ ks)
+    more_sealed : (k sum n : ℕ) (hs ks : List Hold) → SealedUpto x count group k sum hs → IsOneOf (λ hold. Seals k hold n) ks → SealedUpto x count group (suc k) (sum + n) (hs ++ ks)
     more_sealed k sum n hs ks d one = record {
       closes = d.closes;
       seals = d.seals ++ one.hold ∷ [];
@@ -135,7 +136,7 @@ module _ {R A G W : Type 0} (rack : racks.Ghosts R) (area : areas.Ghosts A) (x :
 
     pub seals_one : (a b c : Locked R A G W) (k sum n : ℕ) → k < count → Sealing a b k sum → Once rack area x owns (SealOne n) b k c → Sealing a c (suc k) (sum + n)
     seals_one a b c k sum n less s once = record {
-      said = said_on rack area x a b c [] [] (SealedUpto k sum) (IsOneOf (λ hold. Seals k hold n)) (SealedUpto (suc k) (sum + n)) s.said
+      said = said_on rack area x a b c [] [] (SealedUpto x count group k sum) (IsOneOf (λ hold. Seals k hold n)) (SealedUpto x count group (suc k) (sum + n)) s.said
           (said_one rack area x owns (SealOne n) (λ hold. Seals k hold n) b k c once s.said.came (tells_seal n k once.before once.after once.did)) (λ hs ks. more_sealed k sum n hs ks);
       closing = each_stays (SealsNext rack group) (lane_last b) (lane_last c) k once.after once.is (sealed_again rack area group n once.before once.after once.did) count s.closing;
       sealed = subst (λ j. EachIs j (CommitsNext rack group) (lane_last c)) (let same : k + 1 ≡ suc k = omega arith in same)
@@ -169,7 +170,7 @@ module _ {R A G W : Type 0} (rack : racks.Ghosts R) (area : areas.Ghosts A) (x :
         let left = look_leaves rack area (part_in x m) g.now h.before h.after g.reached g.is t in
         let closing = was_closing does b c m h less s.closing in
         record {
-          said = said_on rack area x a b c [] [] (SealedUpto k sum) (IsOneOf IsLookOnly) (SealedUpto k sum) s.said (said_one rack area x owns does IsLookOnly b m c h s.said.came looks)
+          said = said_on rack area x a b c [] [] (SealedUpto x count group k sum) (IsOneOf IsLookOnly) (SealedUpto x count group k sum) s.said (said_one rack area x owns does IsLookOnly b m c h s.said.came looks)
               (λ hs ks d one. record { closes = d.closes; seals = d.seals; leaves = leaves_look hs (d.closes ++ d.seals) ks d.leaves one; closed = d.closed; sealed = d.sealed });
           closing = each_stays (SealsNext rack group) (lane_last b) (lane_last c) m h.after h.is (record { valid = t.is.valid; closing = left.closing ∙ closing.closing }) count s.closing;
           sealed = elim (cases_lt m k) [
@@ -190,9 +191,12 @@ module _ {R A G W : Type 0} (rack : racks.Ghosts R) (area : areas.Ghosts A) (x :
         look_on (does more) a mid c k sum n (omega (arith, low)) front once (so more n once.before once.after once.did (was_closing (does more) mid c n once (omega (arith, low)) front.closing))
 
     -- it is closing in all already
+    pub closes_upto : (a b c : Locked R A G W) (k sum n none : ℕ) → n ≤ count → Sealing a b k sum → Each rack area x owns CloseOne n b none c → Sealing a c k sum
+    closes_upto a b c k sum n none low s each =
+        looks_on CloseOne a b k sum (λ n m before after did closing pieces y is. close_looks rack area (part_in x m) pieces before after y is group closing.closing did) s n none c low each
+
     pub closes_again : (a b c : Locked R A G W) (k sum none : ℕ) → Sealing a b k sum → Each rack area x owns CloseOne count b none c → Sealing a c k sum
-    closes_again a b c k sum none s each =
-        looks_on CloseOne a b k sum (λ n m before after did closing pieces y is. close_looks rack area (part_in x m) pieces before after y is group closing.closing did) s count none c (omega arith) each
+    closes_again a b c k sum none s each = closes_upto a b c k sum count none (omega arith) s each
 
     -- what is looked for
     pub finds_again : (found : Option ℕ) (a b c : Locked R A G W) (k sum n none : ℕ) → n ≤ count → Sealing a b k sum → Each rack area x owns (λ none before after. SeesClosing found before after) n b none c → Sealing a c k sum
