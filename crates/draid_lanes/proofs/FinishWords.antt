@@ -64,17 +64,14 @@ module _ {R A G W : Type 0} (rack : racks.Ghosts R) (area : areas.Ghosts A) (x :
     pub there : lane_last a m ≡ Some shard
     pub closing : shard.closing ≡ found
 
-  abbrev Sees : Option ℕ → Shard R A → Shard R A → Type 0
-  Sees found before after = SeesClosing found before after
-
-  pub fresh_look : (found : Option ℕ) (a b c : Locked R A G W) (m : ℕ) → m < count → Fresh a b → Once rack area x owns (Sees found) b m c → Fresh a c × FoundAt a found m
+  pub fresh_look : (found : Option ℕ) (a b c : Locked R A G W) (m : ℕ) → m < count → Fresh a b → Once rack area x owns (SeesClosing found) b m c → Fresh a c × FoundAt a found m
   fresh_look found a b c m less f h =
       let was = f.same m h.shard h.there in
       let kept : h.before.closing ≡ h.shard.closing = (h.drifts.groups own).groups.closing in
       let after : h.after.closing ≡ h.before.closing = ap (λ (s : Shard R A). s.closing) h.did.0 in (
         record {
           said = said_on rack area x a b c [] [] (λ hs. LeavesLooks hs []) (IsOneOf IsLookOnly) (λ hs. LeavesLooks hs []) f.said
-              (said_one rack area x owns (Sees found) IsLookOnly b m c h f.said.came (λ pieces y is. same_looks rack area (part_in x m) pieces h.before h.after y is h.did.0)) (λ hs ks l one. leaves_look hs [] ks l one);
+              (said_one rack area x owns (SeesClosing found) IsLookOnly b m c h f.said.came (λ pieces y is. same_looks rack area (part_in x m) pieces h.before h.after y is h.did.0)) (λ hs ks l one. leaves_look hs [] ks l one);
           same = λ k shard at. dite (ℕ_discrete k m)
               (λ same.
               let is : h.after ≡ shard = some_same h.after shard (sym (h.is m ∙ ap (λ t. if t then Some h.after else lane_last b m) (eq-eqb m m refl)) ∙ (ap (lane_last c) (sym same) ∙ at)) in
@@ -84,7 +81,7 @@ module _ {R A G W : Type 0} (rack : racks.Ghosts R) (area : areas.Ghosts A) (x :
         record { below = less; shard = was.0; there = was.1; closing = sym was.2 ∙ (sym kept ∙ h.did.1) },
       )
 
-  pub fresh_round : (a b : Locked R A G W) → Fresh a b → (n none : ℕ) (c : Locked R A G W) → n ≤ count → Each rack area x owns (λ n before after. Sees None before after) n b none c → Fresh a c × ((m : ℕ) → m < n → FoundAt a None m)
+  pub fresh_round : (a b : Locked R A G W) → Fresh a b → (n none : ℕ) (c : Locked R A G W) → n ≤ count → Each rack area x owns (λ none before after. SeesClosing None before after) n b none c → Fresh a c × ((m : ℕ) → m < n → FoundAt a None m)
   fresh_round a b f zero none c low each = (subst (Fresh a) (sym each.0) f, λ m less. absurd (omega (arith, less)))
   fresh_round a b f (suc n) none c low (mid, some, more, each, once, adds) =
       let z = fresh_round a b f n some mid (omega (arith, low)) each in
@@ -141,11 +138,11 @@ module _ {R A G W : Type 0} (rack : racks.Ghosts R) (area : areas.Ghosts A) (x :
   Commits_in group a u out b v = CommitsIn rack area lane_last (LaneWent rack area) true owns group count a u out b v
 
   -- the group that is found where one was found is that one
-  found_same : (group other : ℕ) (a b c : Locked R A G W) (k sum m : ℕ) → m < count → Sealing rack area x owns own count group a b k sum → Once rack area x owns (Sees (Some other)) b m c → other ≡ group
-  found_same group other a b c k sum m less s h = some_injective other group (sym h.did.1 ∙ (was_closing rack area x owns own count group (Sees (Some other)) b c m h less s.closing).closing)
+  found_same : (group other : ℕ) (a b c : Locked R A G W) (k sum m : ℕ) → m < count → Sealing rack area x owns own count group a b k sum → Once rack area x owns (SeesClosing (Some other)) b m c → other ≡ group
+  found_same group other a b c k sum m less s h = some_injective other group (sym h.did.1 ∙ (was_closing rack area x owns own count group (SeesClosing (Some other)) b c m h less s.closing).closing)
 
-  found_not : (group : ℕ) (a b c : Locked R A G W) (k sum m : ℕ) → m < count → Sealing rack area x owns own count group a b k sum → Once rack area x owns (Sees None) b m c → ⊥
-  found_not group a b c k sum m less s h = none_some h.before.closing group h.did.1 (was_closing rack area x owns own count group (Sees None) b c m h less s.closing).closing
+  found_not : (group : ℕ) (a b c : Locked R A G W) (k sum m : ℕ) → m < count → Sealing rack area x owns own count group a b k sum → Once rack area x owns (SeesClosing None) b m c → ⊥
+  found_not group a b c k sum m less s h = none_some h.before.closing group h.did.1 (was_closing rack area x owns own count group (SeesClosing None) b c m h less s.closing).closing
 
   -- what was found in a stage: the group is closed in no metaslab yet, or it is closed in all
   pub finds_on : (group k sum : ℕ) (a b c : Locked R A G W) → Sealing rack area x owns own count group a b k sum → (other : ℕ) → Finds b (Some other) c → (other ≡ group) × Sealing rack area x owns own count group a c k sum
@@ -160,7 +157,7 @@ module _ {R A G W : Type 0} (rack : racks.Ghosts R) (area : areas.Ghosts A) (x :
   pub not_none : (a b c : Locked R A G W) → Waiting a b → 0 < count → Finds b None c → ⊥
   not_none a b c w any each = by count 0 c any (omega arith) each
     where
-      by : (n sum : ℕ) (d : Locked R A G W) → 0 < n → n ≤ count → Each rack area x owns (λ none before after. Sees None before after) n b sum d → ⊥
+      by : (n sum : ℕ) (d : Locked R A G W) → 0 < n → n ≤ count → Each rack area x owns (λ none before after. SeesClosing None before after) n b sum d → ⊥
       by zero sum d some low held = omega (arith, some)
       by (suc n) sum d some low (mid, less, more, held, once, adds) =
           found_not w.group a mid d w.k w.sum n (omega (arith, low)) (finds_again rack area x owns own count w.group None a b mid w.k w.sum n less (omega (arith, low)) w.sealing held) once
@@ -213,15 +210,23 @@ module _ (x : State) (group m : ℕ) (v : View) where
 
 -- ---- its end
 
+but_front : (x : State) (group thin : ℕ) (end : End) (hs ks : List Hold) → LeavesLooks hs [] → GroupBut x group thin end ks → GroupBut x group thin end (hs ++ ks)
+but_front x group thin end hs ks l d = record { left = d.left; leaves = leaves_then hs [] ks d.left l d.leaves; does = d.does }
+
+-- but for looks it is the group
+abbrev pub GroupSays : State → ℕ → Result ℕ SyncFault → List Hold → Type 0
+GroupSays x group (Ok thin) hs = (sum : ℕ) × GroupBut x group sum Went hs
+GroupSays x group (Err why) hs = (sum : ℕ) × GroupBut x group sum (end_of {T = ℕ} (Err why)) hs
+
+module _ {R A : Type 0} (rack : racks.Ghosts R) (area : areas.Ghosts A) (x : State) where
+  seal_not_stopped : (group m : ℕ) (why : SyncFault) (before after : Shard R A) → before.sealed ≡ true → SealsBy rack area group before (Err why) after → (pieces : Pieces) (y : Metaslab) → IsMetaslab rack area (part_in x m) pieces before y → ⊥
+  seal_not_stopped group m why before after sealed s pieces y is =
+      let t = s.seals (part_in x m) pieces y is in
+      seal_stops_by x group m (view_of m y) t.act (end_of {T = ℕ} (Err why)) (is.stands.is_in.sealed ∙ sealed) t.done.0
+
 module _ {R A G W : Type 0} (rack : racks.Ghosts R) (area : areas.Ghosts A) (x : State) (owns : ℕ → Bool) (own : owns groups_number ≡ true) (count : ℕ) (all : count ≡ x.geometry.props.metaslabs) where
-  abbrev But : ℕ → ℕ → End → List Hold → Type 0
-  But group thin end hs = GroupBut x group thin end hs
-
-  but_front : (group thin : ℕ) (end : End) (hs ks : List Hold) → LeavesLooks hs [] → But group thin end ks → But group thin end (hs ++ ks)
-  but_front group thin end hs ks l d = record { left = d.left; leaves = leaves_then hs [] ks d.left l d.leaves; does = d.does }
-
-  said_front : (group thin : ℕ) (end : End) (us : List Hold) (a b c : Locked R A G W) → Fresh rack area x owns own count a b → Says rack area x b c us (But group thin end) → Says rack area x a c us (But group thin end)
-  said_front group thin end us a b c f s = said_on rack area x a b c [] us (λ hs. LeavesLooks hs []) (But group thin end) (But group thin end) f.said s (λ hs ks. but_front group thin end hs ks)
+  said_front : (group thin : ℕ) (end : End) (us : List Hold) (a b c : Locked R A G W) → Fresh rack area x owns own count a b → Says rack area x b c us (GroupBut x group thin end) → Says rack area x a c us (GroupBut x group thin end)
+  said_front group thin end us a b c f s = said_on rack area x a b c [] us (λ hs. LeavesLooks hs []) (GroupBut x group thin end) (GroupBut x group thin end) f.said s (λ hs ks. but_front x group thin end hs ks)
 
   -- all are sealed then
   sealed_to_all : (group k sum : ℕ) (a b : Locked R A G W) → k ≤ count → SealedTo rack area x owns own count group a b k sum count → (more : ℕ) × Sealing rack area x owns own count group a b count more
@@ -231,24 +236,19 @@ module _ {R A G W : Type 0} (rack : racks.Ghosts R) (area : areas.Ghosts A) (x :
   abbrev Seals_each : ℕ → Locked R A G W → Option (Result ℕ SyncFault) → Locked R A G W → Type 0
   Seals_each group a out b = SealsEach rack area lane_last (LaneWent rack area) true owns group count a out b
 
-  seal_not_stopped : (group m : ℕ) (why : SyncFault) (before after : Shard R A) → before.sealed ≡ true → SealsBy rack area group before (Err why) after → (pieces : Pieces) (y : Metaslab) → IsMetaslab rack area (part_in x m) pieces before y → ⊥
-  seal_not_stopped group m why before after sealed s pieces y is =
-      let t = s.seals (part_in x m) pieces y is in
-      seal_stops_by x group m (view_of m y) t.act (end_of {T = ℕ} (Err why)) (is.stands.is_in.sealed ∙ sealed) t.done.0
-
   -- a metaslab stops it as it is sealed
-  pub rest_unsealed : (group k sum : ℕ) (a b c : Locked R A G W) (why : SyncFault) → k < count → Sealing rack area x owns own count group a b k sum → Seals_each group b (Some (Err why)) c → Says rack area x a c [] (But group 0 (end_of {T = ℕ} (Err why)))
+  pub rest_unsealed : (group k sum : ℕ) (a b c : Locked R A G W) (why : SyncFault) → k < count → Sealing rack area x owns own count group a b k sum → Seals_each group b (Some (Err why)) c → Says rack area x a c [] (GroupBut x group 0 (end_of {T = ℕ} (Err why)))
   rest_unsealed group k sum a b c why low s stop = by (seals_again rack area x owns own count group a b k sum s stop.place stop.sum stop.mid (let below = stop.below in omega (arith, below)) stop.front)
     where
-      by : SealedTo rack area x owns own count group a stop.mid k sum stop.place → Says rack area x a c [] (But group 0 (end_of {T = ℕ} (Err why)))
+      by : SealedTo rack area x owns own count group a stop.mid k sum stop.place → Says rack area x a c [] (GroupBut x group 0 (end_of {T = ℕ} (Err why)))
       by (Under under t) = at (cases_lt stop.place k)
         where
-          at : (stop.place < k) ⊎ (k ≤ stop.place) → Says rack area x a c [] (But group 0 (end_of {T = ℕ} (Err why)))
+          at : (stop.place < k) ⊎ (k ≤ stop.place) → Says rack area x a c [] (GroupBut x group 0 (end_of {T = ℕ} (Err why)))
           at (inl below) =
               let h = stop.stop in
               let sealed = was_sealed rack area x owns own count group (λ before after. SealsBy rack area group before (Err why) after) stop.mid c k stop.place h below t.sealed in
               let g = gone rack area x owns (λ before after. SealsBy rack area group before (Err why) after) stop.mid stop.place c h t.said.came in
-              absurd (seal_not_stopped group stop.place why h.before h.after sealed.sealed h.did g.now g.reached g.is)
+              absurd (seal_not_stopped rack area x group stop.place why h.before h.after sealed.sealed h.did g.now g.reached g.is)
           at (inr from) =
               let same : k ≡ stop.place = omega (arith, under, from) in
               group_unsealed rack area x owns own count all group a stop.mid c stop.place sum why stop.below (subst (λ j. Sealing rack area x owns own count group a stop.mid j sum) same t) stop.stop
@@ -256,7 +256,7 @@ module _ {R A G W : Type 0} (rack : racks.Ghosts R) (area : areas.Ghosts A) (x :
 
   -- as it is closed again
   close_starves : (group k sum : ℕ) (a b c : Locked R A G W) (why : SyncFault) → k < count → Sealing rack area x owns own count group a b k sum → ClosesEach rack area lane_last (LaneWent rack area) true owns group count b (Err why) c
-      → Says rack area x a c [] (But group 0 (end_of {T = Unit} (Err why)))
+      → Says rack area x a c [] (GroupBut x group 0 (end_of {T = Unit} (Err why)))
   close_starves group k sum a b c why low s stop =
       let does : Shard R A → Shard R A → Type 0 = (λ before after. ClosesIn rack area group before (Err why) after) in
       let h = stop.stop in
@@ -265,7 +265,7 @@ module _ {R A G W : Type 0} (rack : racks.Ghosts R) (area : areas.Ghosts A) (x :
       let g = gone rack area x owns does stop.mid stop.place c h front.said.came in
       let t = h.did.closes (part_in x stop.place) g.now g.reached g.is in
       let one = close_starves_by x group stop.place (view_of stop.place g.reached) t.act (end_of {T = Unit} (Err why)) group (g.is.stands.is_in.closing ∙ closing.closing) t.done.0 in
-      subst (λ end. Says rack area x a c [] (But group 0 end)) (sym one.1)
+      subst (λ end. Says rack area x a c [] (GroupBut x group 0 end)) (sym one.1)
       (group_starved rack area x owns own count all group a c k sum low
       (look_on rack area x owns own count group does a stop.mid c k sum stop.place stop.below front h
       (λ pieces y is.
@@ -289,26 +289,21 @@ module _ {R A G W : Type 0} (rack : racks.Ghosts R) (area : areas.Ghosts A) (x :
   commit_holds group a b u v (Some (Err why)) (inr (inr it)) = name_hold u group (Err why) ∷ []
   commit_holds group a b u v None it = []
 
-  -- but for looks it is the group
-  pub GroupSays : ℕ → Result ℕ SyncFault → List Hold → Type 0
-  GroupSays group (Ok thin) hs = (sum : ℕ) × But group sum Went hs
-  GroupSays group (Err why) hs = (sum : ℕ) × But group sum (end_of {T = ℕ} (Err why)) hs
-
   abbrev Said_group : ℕ → Locked R A G W → Locked R A G W → List Hold → Result ℕ SyncFault → Type 0
-  Said_group group a b us result = Says rack area x a b us (GroupSays group result)
+  Said_group group a b us result = Says rack area x a b us (GroupSays x group result)
 
-  said_sum : (group sum : ℕ) (a b : Locked R A G W) (us : List Hold) (why : SyncFault) → Says rack area x a b us (But group sum (end_of {T = ℕ} (Err why))) → Said_group group a b us (Err why)
-  said_sum group sum a b us why s = said_as rack area x a b us (But group sum (end_of {T = ℕ} (Err why))) (GroupSays group (Err why)) s (λ hs d. (sum, d))
+  said_sum : (group sum : ℕ) (a b : Locked R A G W) (us : List Hold) (why : SyncFault) → Says rack area x a b us (GroupBut x group sum (end_of {T = ℕ} (Err why))) → Said_group group a b us (Err why)
+  said_sum group sum a b us why s = said_as rack area x a b us (GroupBut x group sum (end_of {T = ℕ} (Err why))) (GroupSays x group (Err why)) s (λ hs d. (sum, d))
 
-  unit_end : (group sum : ℕ) (a b : Locked R A G W) (us : List Hold) (why : SyncFault) → Says rack area x a b us (But group sum (end_of {T = Unit} (Err why))) → Said_group group a b us (Err why)
-  unit_end group sum a b us why s = said_sum group sum a b us why (subst (λ end. Says rack area x a b us (But group sum end)) (end_same why) s)
+  unit_end : (group sum : ℕ) (a b : Locked R A G W) (us : List Hold) (why : SyncFault) → Says rack area x a b us (GroupBut x group sum (end_of {T = Unit} (Err why))) → Said_group group a b us (Err why)
+  unit_end group sum a b us why s = said_sum group sum a b us why (subst (λ end. Says rack area x a b us (GroupBut x group sum end)) (end_same why) s)
 
   -- it is closed in all already
   pub ends_sealing : (group k sum : ℕ) (a b c : Locked R A G W) (u v : Uber A) (result : Result ℕ SyncFault) → k < count → group ≡ group_of (ubers.kept_of u) + 1 → Sealing rack area x owns own count group a b k sum
       → (it : Ends_in group b u (Some result) c v) → Said_group group a c (commit_holds group b c u v (Some result) it) result
   ends_sealing group k sum a b c u v (Ok thin) low next s (mid, late, closes, seals, names, commits) =
       let all_of = sealed_to_all group k sum a late (omega (arith, low)) (seals_again rack area x owns own count group a mid k sum (closes_again rack area x owns own count group a b mid k sum 0 s closes) count thin late (omega arith) seals) in
-      said_as rack area x a c (name_hold u group (Ok tt) ∷ []) (But group all_of.0 Went) (GroupSays group (Ok thin)) (group_went rack area x owns own count all group a late c all_of.0 0 u v next all_of.1 names.0 commits) (λ hs d. (all_of.0, d))
+      said_as rack area x a c (name_hold u group (Ok tt) ∷ []) (GroupBut x group all_of.0 Went) (GroupSays x group (Ok thin)) (group_went rack area x owns own count all group a late c all_of.0 0 u v next all_of.1 names.0 commits) (λ hs d. (all_of.0, d))
   ends_sealing group k sum a b c u v (Err why) low next s (inl (closes, same)) = unit_end group 0 a c [] why (close_starves group k sum a b c why low s closes)
   ends_sealing group k sum a b c u v (Err why) low next s (inr (inl (mid, closes, seals, same))) =
       said_sum group 0 a c [] why (rest_unsealed group k sum a mid c why low (closes_again rack area x owns own count group a b mid k sum 0 s closes) seals)
@@ -322,7 +317,7 @@ module _ {R A G W : Type 0} (rack : racks.Ghosts R) (area : areas.Ghosts A) (x :
   ends_fresh group a b c u v (Ok thin) any next f (mid, late, closes, seals, names, commits) =
       let s = sealing_front rack area x owns own count group 0 0 a b mid f (closed_all rack area x owns own count group b mid 0 closes f.said.came) in
       let all_of = sealed_to_all group 0 0 a late (omega arith) (seals_again rack area x owns own count group a mid 0 0 s count thin late (omega arith) seals) in
-      said_as rack area x a c (name_hold u group (Ok tt) ∷ []) (But group all_of.0 Went) (GroupSays group (Ok thin)) (group_went rack area x owns own count all group a late c all_of.0 0 u v next all_of.1 names.0 commits) (λ hs d. (all_of.0, d))
+      said_as rack area x a c (name_hold u group (Ok tt) ∷ []) (GroupBut x group all_of.0 Went) (GroupSays x group (Ok thin)) (group_went rack area x owns own count all group a late c all_of.0 0 u v next all_of.1 names.0 commits) (λ hs d. (all_of.0, d))
   ends_fresh group a b c u v (Err why) any next f (inl (stop, same)) =
       unit_end group 0 a c [] why (said_front group 0 (end_of {T = Unit} (Err why)) [] a b c f (group_unclosed rack area x owns own count all group b stop.mid c stop.place stop.sum why stop.below f.said.came stop.front stop.stop))
   ends_fresh group a b c u v (Err why) any next f (inr (inl (mid, closes, seals, same))) =
@@ -354,9 +349,9 @@ module _ {R A G W : Type 0} (rack : racks.Ghosts R) (area : areas.Ghosts A) (x :
     pub place : ℕ
     pub found : FoundAt rack area x owns own count a (Some group) place
     pub thin : ℕ
-    pub but_it : But group thin end hs
+    pub but_it : GroupBut x group thin end hs
 
-  pub FinishSays : Locked R A G W → Result Unit SyncFault → List Hold → Type 0
+  abbrev pub FinishSays : Locked R A G W → Result Unit SyncFault → List Hold → Type 0
   FinishSays a (Ok done) hs = NoneFound a hs ⊎ OneFound a Went hs
   FinishSays a (Err why) hs = OneFound a (end_of {T = ℕ} (Err why)) hs
 
@@ -370,10 +365,10 @@ module _ {R A G W : Type 0} (rack : racks.Ghosts R) (area : areas.Ghosts A) (x :
       omega (arith, behind, next)
 
   one_ok : (a c : Locked R A G W) (us : List Hold) (group place thin : ℕ) → FoundAt rack area x owns own count a (Some group) place → Said_group group a c us (Ok thin) → Says rack area x a c us (FinishSays a (Ok tt))
-  one_ok a c us group place thin found s = said_as rack area x a c us (GroupSays group (Ok thin)) (FinishSays a (Ok tt)) s (λ hs d. inr (record { group = group; place = place; found = found; thin = d.0; but_it = d.1 }))
+  one_ok a c us group place thin found s = said_as rack area x a c us (GroupSays x group (Ok thin)) (FinishSays a (Ok tt)) s (λ hs d. inr (record { group = group; place = place; found = found; thin = d.0; but_it = d.1 }))
 
   one_err : (a c : Locked R A G W) (us : List Hold) (group place : ℕ) (why : SyncFault) → FoundAt rack area x owns own count a (Some group) place → Said_group group a c us (Err why) → Says rack area x a c us (FinishSays a (Err why))
-  one_err a c us group place why found s = said_as rack area x a c us (GroupSays group (Err why)) (FinishSays a (Err why)) s (λ hs d. record { group = group; place = place; found = found; thin = d.0; but_it = d.1 })
+  one_err a c us group place why found s = said_as rack area x a c us (GroupSays x group (Err why)) (FinishSays a (Err why)) s (λ hs d. record { group = group; place = place; found = found; thin = d.0; but_it = d.1 })
 
   pub finish_said : (a b c : Locked R A G W) (u v : Uber A) (result : Result Unit SyncFault) → 0 < count → EachIs count (ClosesNext rack (group_of (ubers.kept_of u) + 1)) (lane_last a) → Stage rack area x owns own count a b
       → (it : Finishes_in b u (Some result) c v) → Says rack area x a c (finish_holds b c u v (Some result) it) (FinishSays a result)

@@ -65,15 +65,7 @@ pub record GroupBut (x : State) (group thin : ℕ) (end : End) (hs : List Hold) 
   pub leaves : LeavesLooks hs left
   pub does : groups.Group x.geometry x.perms group thin left end
 
-module _ {R A G W : Type 0} (rack : racks.Ghosts R) (area : areas.Ghosts A) (x : State) (owns : ℕ → Bool) (own : owns groups_number ≡ true) (count : ℕ) (all : count ≡ x.geometry.props.metaslabs) (group : ℕ) where
-  -- the hold that names it is made
-  name_said : (a : Locked R A G W) (u : Uber A) (result : Result Unit SyncFault) → HasCame rack area x a → Says rack area x a a (name_hold u group result ∷ []) (λ hs. hs ≡ name_hold u group result ∷ [])
-  name_said a u (Ok done) came = said_uber rack area x a (uber_view u) (Committed group) came
-  name_said a u (Err sync.Shelf) came = said_uber rack area x a (uber_view u) (CommitFailed group) came
-  name_said a u (Err sync.NoMemory) came = said_uber rack area x a (uber_view u) (CommitStarved group) came
-  name_said a u (Err sync.Worn) came = said_uber rack area x a (uber_view u) (CommitStarved group) came
-  name_said a u (Err sync.Last) came = said_uber rack area x a (uber_view u) (CommitStarved group) came
-
+module _ {R A : Type 0} (rack : racks.Ghosts R) (area : areas.Ghosts A) (x : State) (count : ℕ) (all : count ≡ x.geometry.props.metaslabs) (group : ℕ) where
   named_is : (u v : Uber A) (result : Result Unit SyncFault) → group ≡ group_of (ubers.kept_of u) + 1 → UberNames area group u result v → groups.Names x.geometry x.perms group (name_hold u group result ∷ []) (end_of result)
   named_is u v (Ok done) next names = (refl, next)
   named_is u v (Err sync.Shelf) next names = (refl, next)
@@ -91,8 +83,6 @@ module _ {R A G W : Type 0} (rack : racks.Ghosts R) (area : areas.Ghosts A) (x :
     subst (λ n. Walk (groups.Seals x.geometry x.perms group) (groups.SealStops x.geometry x.perms group) 0 n hs Went sum) all (walk_went (groups.Seals x.geometry x.perms group) (groups.SealStops x.geometry x.perms group) 0 count hs sum w),
     λ went. refl,
   )
-
-  -- ---- it is committed
 
   tells_commit : (n m : ℕ) (before after : Shard R A) → Commits rack group before after → TellsAt rack area x m (λ hold. groups.Commits x.geometry x.perms group m hold) before after
   tells_commit n m before after c pieces y is =
@@ -119,19 +109,6 @@ module _ {R A G W : Type 0} (rack : racks.Ghosts R) (area : areas.Ghosts A) (x :
     );
   }
 
-  pub group_went : (a late b : Locked R A G W) (sum none : ℕ) (u v : Uber A) → group ≡ group_of (ubers.kept_of u) + 1 → Sealing rack area x owns own count group a late count sum → UberNames area group u (Ok tt) v
-      → Each rack area x owns (λ n before after. Commits rack group before after) count late none b → Says rack area x a b (name_hold u group (Ok tt) ∷ []) (GroupBut x group sum Went)
-  group_went a late b sum none u v next s names commits =
-      let named = name_said late u (Ok tt) s.said.came in
-      let each = round_said rack area x owns (λ n before after. Commits rack group before after) (λ m hold n. groups.Commits x.geometry x.perms group m hold) tells_commit count none late b commits s.said.came in
-      said_on rack area x a late b [] (name_hold u group (Ok tt) ∷ []) (SealedUpto x count group count sum) (λ hs. (ks : List Hold) × (hs ≡ name_hold u group (Ok tt) ∷ ks) × phases.Each (groups.Commits x.geometry x.perms group) 0 count ks) (GroupBut x group sum Went) s.said
-      (said_on rack area x late late b (name_hold u group (Ok tt) ∷ []) [] (λ hs. hs ≡ name_hold u group (Ok tt) ∷ []) (λ hs. Walked (λ m hold n. groups.Commits x.geometry x.perms group m hold) 0 count hs none)
-      (λ hs. (ks : List Hold) × (hs ≡ name_hold u group (Ok tt) ∷ ks) × phases.Each (groups.Commits x.geometry x.perms group) 0 count ks) named each
-      (λ hs ks is w. (ks, ap (λ l. l ++ ks) is, each_of (groups.Commits x.geometry x.perms group) 0 count ks none w)))
-      (λ hs ks d z. subst (λ l. GroupBut x group sum Went (hs ++ l)) (sym z.1) (went_is sum u v next names hs d z.0 z.2))
-
-  -- ---- the uberblock is refused it
-
   refused_is : (sum : ℕ) (why : SyncFault) (u v : Uber A) → group ≡ group_of (ubers.kept_of u) + 1 → UberNames area group u (Err why) v → (hs : List Hold) → SealedUpto x count group count sum hs → GroupBut x group sum (end_of {T = Unit} (Err why)) (hs ++ name_hold u group (Err why) ∷ [])
   refused_is sum why u v next names hs d = record {
     left = (d.closes ++ d.seals) ++ name_hold u group (Err why) ∷ [];
@@ -144,14 +121,6 @@ module _ {R A G W : Type 0} (rack : racks.Ghosts R) (area : areas.Ghosts A) (x :
       inl (d.seals, name_hold u group (Err why) ∷ [], refl, sealed_phase d.seals sum d.sealed, inr (not_went Unit why, named_is u v (Err why) next names)),
     );
   }
-
-  pub group_refused : (a b : Locked R A G W) (sum : ℕ) (why : SyncFault) (u v : Uber A) → group ≡ group_of (ubers.kept_of u) + 1 → Sealing rack area x owns own count group a b count sum → UberNames area group u (Err why) v
-      → Says rack area x a b (name_hold u group (Err why) ∷ []) (GroupBut x group sum (end_of {T = Unit} (Err why)))
-  group_refused a b sum why u v next s names =
-      said_on rack area x a b b [] (name_hold u group (Err why) ∷ []) (SealedUpto x count group count sum) (λ hs. hs ≡ name_hold u group (Err why) ∷ []) (GroupBut x group sum (end_of {T = Unit} (Err why))) s.said (name_said b u (Err why) s.said.came)
-      (λ hs ks d is. subst (λ l. GroupBut x group sum (end_of {T = Unit} (Err why)) (hs ++ l)) (sym is) (refused_is sum why u v next names hs d))
-
-  -- ---- the next metaslab stops it
 
   tells_unsealed : (why : SyncFault) (m : ℕ) (before after : Shard R A) → SealsBy rack area group before (Err why) after → TellsAt rack area x m (λ hold. groups.SealStops x.geometry x.perms group m hold (end_of {T = ℕ} (Err why))) before after
   tells_unsealed why m before after s pieces y is = (let t = s.seals (part_in x m) pieces y is in record { act = t.act; reached = t.reached; acts = t.acts; done = t.done.0; is = t.is })
@@ -178,15 +147,6 @@ module _ {R A G W : Type 0} (rack : racks.Ghosts R) (area : areas.Ghosts A) (x :
     );
   }
 
-  pub group_unsealed : (a b c : Locked R A G W) (k sum : ℕ) (why : SyncFault) → k < count → Sealing rack area x owns own count group a b k sum → Once rack area x owns (λ before after. SealsBy rack area group before (Err why) after) b k c
-      → Says rack area x a c [] (GroupBut x group 0 (end_of {T = ℕ} (Err why)))
-  group_unsealed a b c k sum why less s once =
-      said_on rack area x a b c [] [] (SealedUpto x count group k sum) (IsOneOf (λ hold. groups.SealStops x.geometry x.perms group k hold (end_of {T = ℕ} (Err why)))) (GroupBut x group 0 (end_of {T = ℕ} (Err why))) s.said
-      (said_one rack area x owns (λ before after. SealsBy rack area group before (Err why) after) (λ hold. groups.SealStops x.geometry x.perms group k hold (end_of {T = ℕ} (Err why))) b k c once s.said.came
-      (tells_unsealed why k once.before once.after once.did)) (λ hs ks d one. subst (λ l. GroupBut x group 0 (end_of {T = ℕ} (Err why)) (hs ++ l)) (sym one.are) (unsealed_is k sum why less hs d one.hold one.is))
-
-  -- ---- memory is wanting as it is closed again
-
   starved_is : (k sum : ℕ) → k < count → (hs : List Hold) → SealedUpto x count group k sum hs → GroupBut x group 0 Starved hs
   starved_is k sum less hs d = record {
     left = d.closes ++ d.seals;
@@ -209,23 +169,64 @@ module _ {R A G W : Type 0} (rack : racks.Ghosts R) (area : areas.Ghosts A) (x :
     starved_not : Starved ≡ Went → ⊥
     starved_not is = absurd (cc)
 
-  pub group_starved : (a b : Locked R A G W) (k sum : ℕ) → k < count → Sealing rack area x owns own count group a b k sum → Says rack area x a b [] (GroupBut x group 0 Starved)
-  group_starved a b k sum less s = said_as rack area x a b [] (SealedUpto x count group k sum) (GroupBut x group 0 Starved) s.said (starved_is k sum less)
-
-  -- ---- the first metaslab that isn't closed stops it
-
   tells_unclosed : (why : SyncFault) (m : ℕ) (before after : Shard R A) → ClosesIn rack area group before (Err why) after → TellsAt rack area x m (λ hold. groups.CloseStops x.geometry x.perms group m hold (end_of {T = Unit} (Err why))) before after
   tells_unclosed why m before after c pieces y is = (let t = c.closes (part_in x m) pieces y is in record { act = t.act; reached = t.reached; acts = t.acts; done = t.done.0; is = t.is })
 
   tells_closed : (n m : ℕ) (before after : Shard R A) → ClosesIn rack area group before (Ok tt) after → TellsAt rack area x m (λ hold. groups.Closes x.geometry x.perms group m hold 0) before after
   tells_closed n m before after c pieces y is = (let t = c.closes (part_in x m) pieces y is in record { act = t.act; reached = t.reached; acts = t.acts; done = t.done.0; is = t.is })
 
+module _ {R A G W : Type 0} (rack : racks.Ghosts R) (area : areas.Ghosts A) (x : State) (owns : ℕ → Bool) (own : owns groups_number ≡ true) (count : ℕ) (all : count ≡ x.geometry.props.metaslabs) (group : ℕ) where
+  -- the hold that names it is made
+  name_said : (a : Locked R A G W) (u : Uber A) (result : Result Unit SyncFault) → HasCame rack area x a → Says rack area x a a (name_hold u group result ∷ []) (λ hs. hs ≡ name_hold u group result ∷ [])
+  name_said a u (Ok done) came = said_uber rack area x a (uber_view u) (Committed group) came
+  name_said a u (Err sync.Shelf) came = said_uber rack area x a (uber_view u) (CommitFailed group) came
+  name_said a u (Err sync.NoMemory) came = said_uber rack area x a (uber_view u) (CommitStarved group) came
+  name_said a u (Err sync.Worn) came = said_uber rack area x a (uber_view u) (CommitStarved group) came
+  name_said a u (Err sync.Last) came = said_uber rack area x a (uber_view u) (CommitStarved group) came
+
+  -- ---- it is committed
+
+  pub group_went : (a late b : Locked R A G W) (sum none : ℕ) (u v : Uber A) → group ≡ group_of (ubers.kept_of u) + 1 → Sealing rack area x owns own count group a late count sum → UberNames area group u (Ok tt) v
+      → Each rack area x owns (λ n before after. Commits rack group before after) count late none b → Says rack area x a b (name_hold u group (Ok tt) ∷ []) (GroupBut x group sum Went)
+  group_went a late b sum none u v next s names commits =
+      let named = name_said late u (Ok tt) s.said.came in
+      let each = round_said rack area x owns (λ n before after. Commits rack group before after) (λ m hold n. groups.Commits x.geometry x.perms group m hold) (tells_commit rack area x count all group) count none late b commits s.said.came in
+      said_on rack area x a late b [] (name_hold u group (Ok tt) ∷ []) (SealedUpto x count group count sum) (λ hs. (ks : List Hold) × (hs ≡ name_hold u group (Ok tt) ∷ ks) × phases.Each (groups.Commits x.geometry x.perms group) 0 count ks) (GroupBut x group sum Went) s.said
+      (said_on rack area x late late b (name_hold u group (Ok tt) ∷ []) [] (λ hs. hs ≡ name_hold u group (Ok tt) ∷ []) (λ hs. Walked (λ m hold n. groups.Commits x.geometry x.perms group m hold) 0 count hs none)
+      (λ hs. (ks : List Hold) × (hs ≡ name_hold u group (Ok tt) ∷ ks) × phases.Each (groups.Commits x.geometry x.perms group) 0 count ks) named each
+      (λ hs ks is w. (ks, ap (λ l. l ++ ks) is, each_of (groups.Commits x.geometry x.perms group) 0 count ks none w)))
+      (λ hs ks d z. subst (λ l. GroupBut x group sum Went (hs ++ l)) (sym z.1) (went_is rack area x count all group sum u v next names hs d z.0 z.2))
+
+  -- ---- the uberblock is refused it
+
+  pub group_refused : (a b : Locked R A G W) (sum : ℕ) (why : SyncFault) (u v : Uber A) → group ≡ group_of (ubers.kept_of u) + 1 → Sealing rack area x owns own count group a b count sum → UberNames area group u (Err why) v
+      → Says rack area x a b (name_hold u group (Err why) ∷ []) (GroupBut x group sum (end_of {T = Unit} (Err why)))
+  group_refused a b sum why u v next s names =
+      said_on rack area x a b b [] (name_hold u group (Err why) ∷ []) (SealedUpto x count group count sum) (λ hs. hs ≡ name_hold u group (Err why) ∷ []) (GroupBut x group sum (end_of {T = Unit} (Err why))) s.said (name_said b u (Err why) s.said.came)
+      (λ hs ks d is. subst (λ l. GroupBut x group sum (end_of {T = Unit} (Err why)) (hs ++ l)) (sym is) (refused_is rack area x count all group sum why u v next names hs d))
+
+  -- ---- the next metaslab stops it
+
+  pub group_unsealed : (a b c : Locked R A G W) (k sum : ℕ) (why : SyncFault) → k < count → Sealing rack area x owns own count group a b k sum → Once rack area x owns (λ before after. SealsBy rack area group before (Err why) after) b k c
+      → Says rack area x a c [] (GroupBut x group 0 (end_of {T = ℕ} (Err why)))
+  group_unsealed a b c k sum why less s once =
+      said_on rack area x a b c [] [] (SealedUpto x count group k sum) (IsOneOf (λ hold. groups.SealStops x.geometry x.perms group k hold (end_of {T = ℕ} (Err why)))) (GroupBut x group 0 (end_of {T = ℕ} (Err why))) s.said
+      (said_one rack area x owns (λ before after. SealsBy rack area group before (Err why) after) (λ hold. groups.SealStops x.geometry x.perms group k hold (end_of {T = ℕ} (Err why))) b k c once s.said.came
+      (tells_unsealed rack area x count all group why k once.before once.after once.did)) (λ hs ks d one. subst (λ l. GroupBut x group 0 (end_of {T = ℕ} (Err why)) (hs ++ l)) (sym one.are) (unsealed_is rack area x count all group k sum why less hs d one.hold one.is))
+
+  -- ---- memory is wanting as it is closed again
+
+  pub group_starved : (a b : Locked R A G W) (k sum : ℕ) → k < count → Sealing rack area x owns own count group a b k sum → Says rack area x a b [] (GroupBut x group 0 Starved)
+  group_starved a b k sum less s = said_as rack area x a b [] (SealedUpto x count group k sum) (GroupBut x group 0 Starved) s.said (starved_is rack area x count all group k sum less)
+
+  -- ---- the first metaslab that isn't closed stops it
+
   pub group_unclosed : (a b c : Locked R A G W) (k none : ℕ) (why : SyncFault) → k < count → HasCame rack area x a → Each rack area x owns (λ n before after. ClosesIn rack area group before (Ok tt) after) k a none b
       → Once rack area x owns (λ before after. ClosesIn rack area group before (Err why) after) b k c → Says rack area x a c [] (GroupBut x group 0 (end_of {T = Unit} (Err why)))
   group_unclosed a b c k none why less came each once =
-      let front = round_said rack area x owns (λ n before after. ClosesIn rack area group before (Ok tt) after) (λ m hold n. groups.Closes x.geometry x.perms group m hold 0) tells_closed k none a b each came in
+      let front = round_said rack area x owns (λ n before after. ClosesIn rack area group before (Ok tt) after) (λ m hold n. groups.Closes x.geometry x.perms group m hold 0) (tells_closed rack area x count all group) k none a b each came in
       let one = said_one rack area x owns (λ before after. ClosesIn rack area group before (Err why) after) (λ hold. groups.CloseStops x.geometry x.perms group k hold (end_of {T = Unit} (Err why))) b k c once front.came
-      (tells_unclosed why k once.before once.after once.did) in
+      (tells_unclosed rack area x count all group why k once.before once.after once.did) in
       said_on rack area x a b c [] [] (λ hs. Walked (λ m hold n. groups.Closes x.geometry x.perms group m hold 0) 0 k hs none) (IsOneOf (λ hold. groups.CloseStops x.geometry x.perms group k hold (end_of {T = Unit} (Err why)))) (GroupBut x group 0 (end_of {T = Unit} (Err why))) front one
       (λ hs ks w o. record {
         left = hs ++ ks;

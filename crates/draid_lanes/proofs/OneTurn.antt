@@ -80,10 +80,10 @@ module _ {R A G W : Type 0} (rack : racks.Ghosts R) (area : areas.Ghosts A) (x :
   Once does a m b = HeldOnce rack area lane_last (LaneWent rack area) true owns does a m b
 
   module _ (does : Shard R A → Shard R A → Type 0) (a : Locked R A G W) (m : ℕ) (b : Locked R A G W) (h : Once does a m b) (came : HasCame rack area x a) where
-    was : (y : Metaslab) × CameTo rack area x m h.shard y
+    pub was : (y : Metaslab) × CameTo rack area x m h.shard y
     was = came m h.shard h.there
 
-    gone : GoesOn rack area owns (part_in x m) was.1.came.pieces was.0 h.before
+    pub gone : GoesOn rack area owns (part_in x m) was.1.came.pieces was.0 h.before
     gone = h.drifts.state (part_in x m) was.1.came.pieces was.0 (came_is rack area x m h.shard was.0 was.1)
 
     -- as it was found
@@ -97,10 +97,10 @@ module _ {R A G W : Type 0} (rack : racks.Ghosts R) (area : areas.Ghosts A) (x :
       pub hold : Hold
       hold = On (view_of m gone.reached) t.act
 
-      w : Went rack area a.turns.now a.passes.items m h.before h.after b.passes.items
+      pub w : Went rack area a.turns.now a.passes.items m h.before h.after b.passes.items
       w = h.goes.1
 
-      turn : LaneTurn
+      pub turn : LaneTurn
       turn = record { place = length w.log; holds = hold ∷ [] }
 
       behind_is : left_in w.lock (w.log ++ w.left ∷ []) ≡ h.after

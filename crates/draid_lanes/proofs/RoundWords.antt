@@ -29,6 +29,10 @@ pub record IsOneOf (told : Hold → Type 0) (hs : List Hold) : Type 0 where
 abbrev pub TellsAt : {R A : Type 0} → racks.Ghosts R → areas.Ghosts A → State → ℕ → (Hold → Type 0) → Shard R A → Shard R A → Type 0
 TellsAt rack area x m told before after = (pieces : Pieces) (y : Metaslab) → IsMetaslab rack area (part_in x m) pieces before y → Turns rack area (part_in x m) pieces y after (λ hold z. told hold)
 
+-- the hold of the next metaslab comes behind a walk
+walked_on : (told : ℕ → Hold → ℕ → Type 0) (first n sum more : ℕ) (hs ks : List Hold) → Walked told first n hs sum → IsOneOf (λ hold. told (first + n) hold more) ks → Walked told first (suc n) (hs ++ ks) (sum + more)
+walked_on told first n sum more hs ks w one = subst (λ l. Walked told first (suc n) (hs ++ l) (sum + more)) (sym one.are) (walked_more told first n hs sum one.hold more w one.is)
+
 module _ {R A G W : Type 0} (rack : racks.Ghosts R) (area : areas.Ghosts A) (x : State) where
   -- What a lane did between two of its states, with these holds of the uberblock among it, is what is said to be done. It knows what its metaslabs came to.
   pub record Says (a b : Locked R A G W) (ubers : List Hold) (does : List Hold → Type 0) : Type 0 where
@@ -81,9 +85,6 @@ module _ {R A G W : Type 0} (rack : racks.Ghosts R) (area : areas.Ghosts A) (x :
   From does first n a sum b = HeldFrom rack area lane_last (LaneWent rack area) true owns does first n a sum b
 
   module _ (does : ℕ → Shard R A → Shard R A → Type 0) (told : ℕ → Hold → ℕ → Type 0) (tells : (n m : ℕ) (before after : Shard R A) → does n before after → TellsAt rack area x m (λ hold. told m hold n) before after) where
-    walked_on : (first n sum more : ℕ) (hs ks : List Hold) → Walked told first n hs sum → IsOneOf (λ hold. told (first + n) hold more) ks → Walked told first (suc n) (hs ++ ks) (sum + more)
-    walked_on first n sum more hs ks w one = subst (λ l. Walked told first (suc n) (hs ++ l) (sum + more)) (sym one.are) (walked_more told first n hs sum one.hold more w one.is)
-
     pub from_said : (first n sum : ℕ) (a b : Locked R A G W) → From does first n a sum b → HasCame rack area x a → Says rack area x a b [] (λ hs. Walked told first n hs sum)
     from_said first zero sum a b each came =
         subst (λ s. Says rack area x a s [] (λ hs. Walked told first 0 hs sum)) (sym each.0)
@@ -92,7 +93,7 @@ module _ {R A G W : Type 0} (rack : racks.Ghosts R) (area : areas.Ghosts A) (x :
         let front = from_said first n some a mid each came in
         let one = said_one (does more) (λ hold. told (first + n) hold more) mid (first + n) b once front.came (tells more (first + n) once.before once.after once.did) in
         subst (λ k. Says rack area x a b [] (λ hs. Walked told first (suc n) hs k)) (sym adds)
-        (said_on rack area x a mid b [] [] (λ hs. Walked told first n hs some) (IsOneOf (λ hold. told (first + n) hold more)) (λ hs. Walked told first (suc n) hs (some + more)) front one (λ hs ks w one. walked_on first n some more hs ks w one))
+        (said_on rack area x a mid b [] [] (λ hs. Walked told first n hs some) (IsOneOf (λ hold. told (first + n) hold more)) (λ hs. Walked told first (suc n) hs (some + more)) front one (λ hs ks w one. walked_on told first n some more hs ks w one))
 
     pub each_from : (n sum : ℕ) (a b : Locked R A G W) → Each does n a sum b → From does 0 n a sum b
     each_from zero sum a b each = each

@@ -59,12 +59,37 @@ pub record SealedUpto (x : State) (count group k sum : ℕ) (hs : List Hold) : T
   pub closed : Walked (groups.Closes x.geometry x.perms group) 0 count closes 0
   pub sealed : Walked (groups.Seals x.geometry x.perms group) 0 k seals sum
 
+-- a group is closed in a metaslab
+abbrev pub CloseOne : {R A : Type 0} → racks.Ghosts R → areas.Ghosts A → ℕ → ℕ → Shard R A → Shard R A → Type 0
+CloseOne rack area group n before after = ClosesIn rack area group before (Ok tt) after
+
+-- it is sealed there, and so many of its blocks are thin
+abbrev pub SealOne : {R A : Type 0} → racks.Ghosts R → areas.Ghosts A → ℕ → ℕ → Shard R A → Shard R A → Type 0
+SealOne rack area group n before after = SealsBy rack area group before (Ok n) after
+
+module _ {R A : Type 0} (rack : racks.Ghosts R) (area : areas.Ghosts A) (x : State) (group : ℕ) where
+  pub tells_close : (n m : ℕ) (before after : Shard R A) → CloseOne rack area group n before after → TellsAt rack area x m (λ hold. groups.Closes x.geometry x.perms group m hold 0) before after
+  tells_close n m before after c pieces y is = (let t = c.closes (part_in x m) pieces y is in record { act = t.act; reached = t.reached; acts = t.acts; done = t.done.0; is = t.is })
+
+  pub tells_seal : (n m : ℕ) (before after : Shard R A) → SealOne rack area group n before after → TellsAt rack area x m (λ hold. groups.Seals x.geometry x.perms group m hold n) before after
+  tells_seal n m before after s pieces y is = (let t = s.seals (part_in x m) pieces y is in record { act = t.act; reached = t.reached; acts = t.acts; done = t.done.0; is = t.is })
+
+more_sealed : (x : State) (count group k sum n : ℕ) (hs ks : List Hold) → SealedUpto x count group k sum hs → IsOneOf (λ hold. groups.Seals x.geometry x.perms group k hold n) ks → SealedUpto x count group (suc k) (sum + n) (hs ++ ks)
+more_sealed x count group k sum n hs ks d one = record {
+  closes = d.closes;
+  seals = d.seals ++ one.hold ∷ [];
+  leaves = subst (LeavesLooks (hs ++ ks)) (append_assoc d.closes d.seals (one.hold ∷ []))
+      (leaves_then hs (d.closes ++ d.seals) ks (one.hold ∷ []) d.leaves (subst (λ l. LeavesLooks l (one.hold ∷ [])) (sym one.are) (leaves_self (one.hold ∷ []))));
+  closed = d.closed;
+  sealed = walked_more (groups.Seals x.geometry x.perms group) 0 k d.seals sum one.hold n d.sealed (subst (λ m. groups.Seals x.geometry x.perms group m one.hold n) (let same : k ≡ 0 + k = omega arith in same) one.is);
+}
+
 module _ {R A G W : Type 0} (rack : racks.Ghosts R) (area : areas.Ghosts A) (x : State) (owns : ℕ → Bool) (own : owns groups_number ≡ true) (count : ℕ) where
   -- ---- what a round leaves
 
   -- what each hold makes so is so of each
   pub each_is : (is : Shard R A → Type 0) (does : ℕ → Shard R A → Shard R A → Type 0) → ((n : ℕ) (before after : Shard R A) → does n before after → is after) → (n sum : ℕ) (a b : Locked R A G W) → Each rack area x owns does n a sum b → EachIs n is (lane_last b)
-  each_is is does so zero sum a b each m less = absurd (omega (arith, less))
+  each_is is does so zero sum a b each = λ m less. absurd (omega (arith, less))
   each_is is does so (suc n) sum a b (mid, some, more, each, once, adds) =
       subst (λ k. EachIs k is (lane_last b)) (let same : n + 1 ≡ suc n = omega arith in same)
       (each_more is (lane_last mid) (lane_last b) n once.after once.is (so more once.before once.after once.did) (each_is is does so n some a mid each))
@@ -81,12 +106,6 @@ module _ {R A G W : Type 0} (rack : racks.Ghosts R) (area : areas.Ghosts A) (x :
   -- ---- closing and sealing
 
   module _ (group : ℕ) where
-    abbrev Closes : ℕ → Hold → ℕ → Type 0
-    Closes m hold n = groups.Closes x.geometry x.perms group m hold n
-
-    abbrev Seals : ℕ → Hold → ℕ → Type 0
-    Seals m hold n = groups.Seals x.geometry x.perms group m hold n
-
     -- so in a lane's metaslabs
     pub record Sealing (a b : Locked R A G W) (k sum : ℕ) : Type 0 where
       pub said : Says rack area x a b [] (SealedUpto x count group k sum)
@@ -95,56 +114,34 @@ module _ {R A G W : Type 0} (rack : racks.Ghosts R) (area : areas.Ghosts A) (x :
 
     -- ---- it is closed
 
-    abbrev CloseOne : ℕ → Shard R A → Shard R A → Type 0
-    CloseOne n before after = ClosesIn rack area group before (Ok tt) after
-
-    tells_close : (n m : ℕ) (before after : Shard R A) → CloseOne n before after → TellsAt rack area x m (λ hold. Closes m hold 0) before after
-    tells_close n m before after c pieces y is = (let t = c.closes (part_in x m) pieces y is in record { act = t.act; reached = t.reached; acts = t.acts; done = t.done.0; is = t.is })
-
-    pub closed_all : (a b : Locked R A G W) (sum : ℕ) → Each rack area x owns CloseOne count a sum b → HasCame rack area x a → Sealing a b 0 0
+    pub closed_all : (a b : Locked R A G W) (sum : ℕ) → Each rack area x owns (CloseOne rack area group) count a sum b → HasCame rack area x a → Sealing a b 0 0
     closed_all a b sum each came = record {
-      said = said_as rack area x a b [] (λ hs. Walked (λ m hold none. Closes m hold 0) 0 count hs sum) (SealedUpto x count group 0 0)
-          (round_said rack area x owns CloseOne (λ m hold none. Closes m hold 0) tells_close count sum a b each came)
+      said = said_as rack area x a b [] (λ hs. Walked (λ m hold none. groups.Closes x.geometry x.perms group m hold 0) 0 count hs sum) (SealedUpto x count group 0 0)
+          (round_said rack area x owns (CloseOne rack area group) (λ m hold none. groups.Closes x.geometry x.perms group m hold 0) (tells_close rack area x group) count sum a b each came)
           (λ hs w. record {
             closes = hs;
             seals = [];
             leaves = subst (LeavesLooks hs) (sym (append-nil hs)) (leaves_self hs);
-            closed = walked_zero (λ m hold. Closes m hold 0) 0 count hs sum Closes (λ m hold is. is) w;
+            closed = walked_zero (λ m hold. groups.Closes x.geometry x.perms group m hold 0) 0 count hs sum (groups.Closes x.geometry x.perms group) (λ m hold is. is) w;
             sealed = (refl, refl);
           });
-      closing = each_is (SealsNext rack group) CloseOne (λ n before after. closed_seals rack area group before after) count sum a b each;
+      closing = each_is (SealsNext rack group) (CloseOne rack area group) (λ n before after. closed_seals rack area group before after) count sum a b each;
       sealed = λ m less. absurd (omega (arith, less));
     }
 
     -- ---- one more is sealed
 
-    abbrev SealOne : ℕ → Shard R A → Shard R A → Type 0
-    SealOne n before after = SealsBy rack area group before (Ok n) after
-
-    tells_seal : (n m : ℕ) (before after : Shard R A) → SealOne n before after → TellsAt rack area x m (λ hold. Seals m hold n) before after
-    tells_seal n m before after s pieces y is = (let t = s.seals (part_in x m) pieces y is in record { act = t.act; reached = t.reached; acts = t.acts; done = t.done.0; is = t.is })
-
-    more_sealed : (k sum n : ℕ) (hs ks : List Hold) → SealedUpto x count group k sum hs → IsOneOf (λ hold. Seals k hold n) ks → SealedUpto x count group (suc k) (sum + n) (hs ++ ks)
-    more_sealed k sum n hs ks d one = record {
-      closes = d.closes;
-      seals = d.seals ++ one.hold ∷ [];
-      leaves = subst (LeavesLooks (hs ++ ks)) (append_assoc d.closes d.seals (one.hold ∷ []))
-          (leaves_then hs (d.closes ++ d.seals) ks (one.hold ∷ []) d.leaves (subst (λ l. LeavesLooks l (one.hold ∷ [])) (sym one.are) (leaves_self (one.hold ∷ []))));
-      closed = d.closed;
-      sealed = walked_more Seals 0 k d.seals sum one.hold n d.sealed (subst (λ m. Seals m one.hold n) (let same : k ≡ 0 + k = omega arith in same) one.is);
-    }
-
-    pub seals_one : (a b c : Locked R A G W) (k sum n : ℕ) → k < count → Sealing a b k sum → Once rack area x owns (SealOne n) b k c → Sealing a c (suc k) (sum + n)
+    pub seals_one : (a b c : Locked R A G W) (k sum n : ℕ) → k < count → Sealing a b k sum → Once rack area x owns (SealOne rack area group n) b k c → Sealing a c (suc k) (sum + n)
     seals_one a b c k sum n less s once = record {
-      said = said_on rack area x a b c [] [] (SealedUpto x count group k sum) (IsOneOf (λ hold. Seals k hold n)) (SealedUpto x count group (suc k) (sum + n)) s.said
-          (said_one rack area x owns (SealOne n) (λ hold. Seals k hold n) b k c once s.said.came (tells_seal n k once.before once.after once.did)) (λ hs ks. more_sealed k sum n hs ks);
+      said = said_on rack area x a b c [] [] (SealedUpto x count group k sum) (IsOneOf (λ hold. groups.Seals x.geometry x.perms group k hold n)) (SealedUpto x count group (suc k) (sum + n)) s.said
+          (said_one rack area x owns (SealOne rack area group n) (λ hold. groups.Seals x.geometry x.perms group k hold n) b k c once s.said.came (tells_seal rack area x group n k once.before once.after once.did)) (λ hs ks. more_sealed x count group k sum n hs ks);
       closing = each_stays (SealsNext rack group) (lane_last b) (lane_last c) k once.after once.is (sealed_again rack area group n once.before once.after once.did) count s.closing;
       sealed = subst (λ j. EachIs j (CommitsNext rack group) (lane_last c)) (let same : k + 1 ≡ suc k = omega arith in same)
           (each_more (CommitsNext rack group) (lane_last b) (lane_last c) k once.after once.is (sealed_commits rack area group n once.before once.after once.did) s.sealed);
     }
 
     -- so are so many from there on
-    pub seals_from : (a b c : Locked R A G W) (k n sum more : ℕ) → k + n ≤ count → Sealing a b k sum → From rack area x owns SealOne k n b more c → Sealing a c (k + n) (sum + more)
+    pub seals_from : (a b c : Locked R A G W) (k n sum more : ℕ) → k + n ≤ count → Sealing a b k sum → From rack area x owns (SealOne rack area group) k n b more c → Sealing a c (k + n) (sum + more)
     seals_from a b c k zero sum more below s each =
         subst (λ j. Sealing a c j (sum + more)) (let same : k ≡ k + 0 = omega arith in same)
         (subst (Sealing a c k) (let none = each.1 in let same : sum ≡ sum + more = omega (arith, none) in same) (subst (λ d. Sealing a d k sum) (sym each.0) s))
@@ -156,10 +153,10 @@ module _ {R A G W : Type 0} (rack : racks.Ghosts R) (area : areas.Ghosts A) (x :
     -- ---- looks
 
     -- what a hold found is what it was as it was left, as far as groups go
-    was_closing : (does : Shard R A → Shard R A → Type 0) (a b : Locked R A G W) (m : ℕ) (h : Once rack area x owns does a m b) → m < count → EachIs count (SealsNext rack group) (lane_last a) → SealsNext rack group h.before
+    pub was_closing : (does : Shard R A → Shard R A → Type 0) (a b : Locked R A G W) (m : ℕ) (h : Once rack area x owns does a m b) → m < count → EachIs count (SealsNext rack group) (lane_last a) → SealsNext rack group h.before
     was_closing does a b m h less each = seal_ready rack area true owns own group h.shard h.before h.drifts (at_is (SealsNext rack group) count m a h.shard less h.there each)
 
-    was_sealed : (does : Shard R A → Shard R A → Type 0) (a b : Locked R A G W) (k m : ℕ) (h : Once rack area x owns does a m b) → m < k → EachIs k (CommitsNext rack group) (lane_last a) → CommitsNext rack group h.before
+    pub was_sealed : (does : Shard R A → Shard R A → Type 0) (a b : Locked R A G W) (k m : ℕ) (h : Once rack area x owns does a m b) → m < k → EachIs k (CommitsNext rack group) (lane_last a) → CommitsNext rack group h.before
     was_sealed does a b k m h less each = commit_ready rack area true owns own group h.shard h.before h.drifts (at_is (CommitsNext rack group) k m a h.shard less h.there each)
 
     pub look_on : (does : Shard R A → Shard R A → Type 0) (a b c : Locked R A G W) (k sum m : ℕ) → m < count → Sealing a b k sum → (h : Once rack area x owns does b m c)
@@ -191,11 +188,11 @@ module _ {R A G W : Type 0} (rack : racks.Ghosts R) (area : areas.Ghosts A) (x :
         look_on (does more) a mid c k sum n (omega (arith, low)) front once (so more n once.before once.after once.did (was_closing (does more) mid c n once (omega (arith, low)) front.closing))
 
     -- it is closing in all already
-    pub closes_upto : (a b c : Locked R A G W) (k sum n none : ℕ) → n ≤ count → Sealing a b k sum → Each rack area x owns CloseOne n b none c → Sealing a c k sum
+    pub closes_upto : (a b c : Locked R A G W) (k sum n none : ℕ) → n ≤ count → Sealing a b k sum → Each rack area x owns (CloseOne rack area group) n b none c → Sealing a c k sum
     closes_upto a b c k sum n none low s each =
-        looks_on CloseOne a b k sum (λ n m before after did closing pieces y is. close_looks rack area (part_in x m) pieces before after y is group closing.closing did) s n none c low each
+        looks_on (CloseOne rack area group) a b k sum (λ n m before after did closing pieces y is. close_looks rack area (part_in x m) pieces before after y is group closing.closing did) s n none c low each
 
-    pub closes_again : (a b c : Locked R A G W) (k sum none : ℕ) → Sealing a b k sum → Each rack area x owns CloseOne count b none c → Sealing a c k sum
+    pub closes_again : (a b c : Locked R A G W) (k sum none : ℕ) → Sealing a b k sum → Each rack area x owns (CloseOne rack area group) count b none c → Sealing a c k sum
     closes_again a b c k sum none s each = closes_upto a b c k sum count none (omega arith) s each
 
     -- what is looked for
@@ -219,7 +216,7 @@ module _ {R A G W : Type 0} (rack : racks.Ghosts R) (area : areas.Ghosts A) (x :
       Under : n ≤ k → Sealing a c k sum → SealedTo a c k sum n
       Behind : (all : ℕ) → k ≤ n → Sealing a c n all → SealedTo a c k sum n
 
-    pub seals_again : (a b : Locked R A G W) (k sum : ℕ) → Sealing a b k sum → (n more : ℕ) (c : Locked R A G W) → n ≤ count → Each rack area x owns SealOne n b more c → SealedTo a c k sum n
+    pub seals_again : (a b : Locked R A G W) (k sum : ℕ) → Sealing a b k sum → (n more : ℕ) (c : Locked R A G W) → n ≤ count → Each rack area x owns (SealOne rack area group) n b more c → SealedTo a c k sum n
     seals_again a b k sum s zero more c low each = Under (omega arith) (subst (λ d. Sealing a d k sum) (sym each.0) s)
     seals_again a b k sum s (suc n) more c low (mid, some, last, each, once, adds) = by (seals_again a b k sum s n some mid (omega (arith, low)) each)
       where
@@ -231,8 +228,8 @@ module _ {R A G W : Type 0} (rack : racks.Ghosts R) (area : areas.Ghosts A) (x :
           where
             at : (n < k) ⊎ (k ≤ n) → SealedTo a c k sum (suc n)
             at (inl below) =
-                let sealed = was_sealed (SealOne last) mid c k n once below t.sealed in
-                Under (omega (arith, below)) (look_on (SealOne last) a mid c k sum n less t once (λ pieces y is. seal_looks rack area (part_in x n) pieces once.before once.after y is group last sealed.sealed once.did))
+                let sealed = was_sealed (SealOne rack area group last) mid c k n once below t.sealed in
+                Under (omega (arith, below)) (look_on (SealOne rack area group last) a mid c k sum n less t once (λ pieces y is. seal_looks rack area (part_in x n) pieces once.before once.after y is group last sealed.sealed once.did))
             at (inr from) =
                 let same : k ≡ n = omega (arith, under, from) in
                 Behind (sum + last) (omega (arith, from)) (seals_one a mid c n sum last less (subst (λ j. Sealing a mid j sum) same t) once)

@@ -41,14 +41,19 @@ pub record NextBut (x : State) (group thin : ℕ) (end : End) (hs : List Hold) :
   pub next : group ≡ u.committed + 1
   pub but_it : GroupBut x group thin end rest
 
+-- what is said of the group
+abbrev pub GoSays : State → ℕ → Result Synced SyncFault → List Hold → Type 0
+GoSays x group (Ok done) hs = (done.group ≡ group) × GroupBut x group done.thin Went hs
+GoSays x group (Err why) hs = (thin : ℕ) × GroupBut x group thin (end_of {T = ℕ} (Err why)) hs
+
+next_is : {A : Type 0} (x : State) (w : Uber A) (group thin : ℕ) (end : End) (ks : List Hold) → group ≡ group_of (ubers.kept_of w) + 1 → GroupBut x group thin end ks → NextBut x group thin end (look_hold w ∷ ks)
+next_is x w group thin end ks next d = record { u = uber_view w; rest = ks; are = refl; next = next; but_it = d }
+
 module _ {R A G W : Type 0} (rack : racks.Ghosts R) (area : areas.Ghosts A) (x : State) (owns : ℕ → Bool) (own : owns groups_number ≡ true) (count : ℕ) (all : count ≡ x.geometry.props.metaslabs) (some : 0 < count) where
   -- ---- how far it came before it began
 
   begun_stage : (n : ℕ) (a b : Locked R A G W) (u v : Uber A) → BegunOn rack area lane_last (LaneWent rack area) true owns count n a u b v → HasCame rack area x a → Stage rack area x owns own count a b × (v ≡ u)
-  begun_stage zero a b u v (at, same) came = (Begins (subst (λ s. FreshTo s) (sym at) (fresh_none rack area x owns own count a came)), same)
-    where
-      abbrev FreshTo : Locked R A G W → Type 0
-      FreshTo s = Fresh rack area x owns own count a s
+  begun_stage zero a b u v (at, same) came = (Begins (subst (λ s. Fresh rack area x owns own count a s) (sym at) (fresh_none rack area x owns own count a came)), same)
   begun_stage (suc n) a b u v (mid, w, front, begins) came =
       let f = begun_stage n a mid u w front came in
       let d = waits_more rack area x owns own count a mid b w v f.0 begins in
@@ -91,23 +96,18 @@ module _ {R A G W : Type 0} (rack : racks.Ghosts R) (area : areas.Ghosts A) (x :
   go_holds a b old new u v (Some (Err why)) (inr it) = name_hold u old.group (Err why) ∷ []
   go_holds a b old new u v None it = []
 
-  -- what is said of the group
-  pub GoSays : ℕ → Result Synced SyncFault → List Hold → Type 0
-  GoSays group (Ok done) hs = (done.group ≡ group) × GroupBut x group done.thin Went hs
-  GoSays group (Err why) hs = (thin : ℕ) × GroupBut x group thin (end_of {T = ℕ} (Err why)) hs
+  go_err : (group thin : ℕ) (a c : Locked R A G W) (us : List Hold) (why : SyncFault) → Says rack area x a c us (GroupBut x group thin (end_of {T = ℕ} (Err why))) → Says rack area x a c us (GoSays x group (Err why))
+  go_err group thin a c us why s = said_as rack area x a c us (GroupBut x group thin (end_of {T = ℕ} (Err why))) (GoSays x group (Err why)) s (λ hs d. (thin, d))
 
-  go_err : (group thin : ℕ) (a c : Locked R A G W) (us : List Hold) (why : SyncFault) → Says rack area x a c us (GroupBut x group thin (end_of {T = ℕ} (Err why))) → Says rack area x a c us (GoSays group (Err why))
-  go_err group thin a c us why s = said_as rack area x a c us (GroupBut x group thin (end_of {T = ℕ} (Err why))) (GoSays group (Err why)) s (λ hs d. (thin, d))
-
-  go_unit : (group thin : ℕ) (a c : Locked R A G W) (us : List Hold) (why : SyncFault) → Says rack area x a c us (GroupBut x group thin (end_of {T = Unit} (Err why))) → Says rack area x a c us (GoSays group (Err why))
+  go_unit : (group thin : ℕ) (a c : Locked R A G W) (us : List Hold) (why : SyncFault) → Says rack area x a c us (GroupBut x group thin (end_of {T = Unit} (Err why))) → Says rack area x a c us (GoSays x group (Err why))
   go_unit group thin a c us why s = go_err group thin a c us why (subst (λ end. Says rack area x a c us (GroupBut x group thin end)) (end_same why) s)
 
   go_end : (a b c : Locked R A G W) (old new : Syncing) (u v : Uber A) (result : Result Synced SyncFault) → old.group ≡ group_of (ubers.kept_of u) + 1 → Sealing rack area x owns own count old.group a b old.next old.thin
-      → (it : Goes_on b old u (Some result) c new v) → Says rack area x a c (go_holds b c old new u v (Some result) it) (GoSays old.group result)
+      → (it : Goes_on b old u (Some result) c new v) → Says rack area x a c (go_holds b c old new u v (Some result) it) (GoSays x old.group result)
   go_end a b c old new u v (Ok done) next s (late, seals, group_is, thin_is, names, commits) =
       let full = seals.1 in
       let sealed = subst (λ k. Sealing rack area x owns own count old.group a late k new.thin) full (from_on old.group a b late old new refl (omega (arith, full)) s seals.0) in
-      said_as rack area x a c (name_hold u old.group (Ok tt) ∷ []) (GroupBut x old.group new.thin Went) (GoSays old.group (Ok done)) (group_went rack area x owns own count all old.group a late c new.thin 0 u v next sealed names.0 commits)
+      said_as rack area x a c (name_hold u old.group (Ok tt) ∷ []) (GroupBut x old.group new.thin Went) (GoSays x old.group (Ok done)) (group_went rack area x owns own count all old.group a late c new.thin 0 u v next sealed names.0 commits)
       (λ hs d. (group_is, subst (λ t. GroupBut x old.group t Went hs) (sym thin_is) d))
   go_end a b c old new u v (Err why) next s (inl (until, same)) =
       let below = until.below in
@@ -142,33 +142,30 @@ module _ {R A G W : Type 0} (rack : racks.Ghosts R) (area : areas.Ghosts A) (x :
     pub finishes : FinishSays rack area x owns own count all a (Ok tt) front
     pub next : NextBut x group thin end back
 
-  pub SyncSays : Locked R A G W → Result Synced SyncFault → List Hold → Type 0
+  abbrev pub SyncSays : Locked R A G W → Result Synced SyncFault → List Hold → Type 0
   SyncSays a (Ok done) hs = BothSay a done.group done.thin Went hs
   SyncSays a (Err why) hs = FinishSays rack area x owns own count all a (Err why) hs ⊎ ((group : ℕ) × (thin : ℕ) × BothSay a group thin (end_of {T = ℕ} (Err why)) hs)
 
-  next_is : (w : Uber A) (group thin : ℕ) (end : End) (ks : List Hold) → group ≡ group_of (ubers.kept_of w) + 1 → GroupBut x group thin end ks → NextBut x group thin end (look_hold w ∷ ks)
-  next_is w group thin end ks next d = record { u = uber_view w; rest = ks; are = refl; next = next; but_it = d }
-
-  go_says : (a : Locked R A G W) (w : Uber A) (group : ℕ) (result : Result Synced SyncFault) → group ≡ group_of (ubers.kept_of w) + 1 → (hs ks : List Hold) → FinishSays rack area x owns own count all a (Ok tt) hs → GoSays group result ks → SyncSays a result (hs ++ look_hold w ∷ ks)
+  go_says : (a : Locked R A G W) (w : Uber A) (group : ℕ) (result : Result Synced SyncFault) → group ≡ group_of (ubers.kept_of w) + 1 → (hs ks : List Hold) → FinishSays rack area x owns own count all a (Ok tt) hs → GoSays x group result ks → SyncSays a result (hs ++ look_hold w ∷ ks)
   go_says a w group (Ok done) next hs ks f d = record {
     front = hs;
     back = look_hold w ∷ ks;
     are = refl;
     finishes = f;
-    next = subst (λ g. NextBut x g done.thin Went (look_hold w ∷ ks)) (sym d.0) (next_is w group done.thin Went ks next d.1);
+    next = subst (λ g. NextBut x g done.thin Went (look_hold w ∷ ks)) (sym d.0) (next_is x w group done.thin Went ks next d.1);
   }
   go_says a w group (Err why) next hs ks f d = inr (
     group,
     d.0,
-    record { front = hs; back = look_hold w ∷ ks; are = refl; finishes = f; next = next_is w group d.0 (end_of {T = ℕ} (Err why)) ks next d.1 },
+    record { front = hs; back = look_hold w ∷ ks; are = refl; finishes = f; next = next_is x w group d.0 (end_of {T = ℕ} (Err why)) ks next d.1 },
   )
 
   -- the look, and what is said of the group behind it
-  looked_on : (a mid c : Locked R A G W) (fs gs : List Hold) (w : Uber A) (group : ℕ) (result : Result Synced SyncFault) → group ≡ group_of (ubers.kept_of w) + 1 → Says rack area x a mid fs (FinishSays rack area x owns own count all a (Ok tt)) → Says rack area x mid c gs (GoSays group result)
+  looked_on : (a mid c : Locked R A G W) (fs gs : List Hold) (w : Uber A) (group : ℕ) (result : Result Synced SyncFault) → group ≡ group_of (ubers.kept_of w) + 1 → Says rack area x a mid fs (FinishSays rack area x owns own count all a (Ok tt)) → Says rack area x mid c gs (GoSays x group result)
       → Says rack area x a c (fs ++ look_hold w ∷ gs) (SyncSays a result)
   looked_on a mid c fs gs w group result next f g =
-      said_on rack area x a mid c fs (look_hold w ∷ gs) (FinishSays rack area x owns own count all a (Ok tt)) (λ hs. (ks : List Hold) × (hs ≡ look_hold w ∷ ks) × GoSays group result ks) (SyncSays a result) f
-      (said_on rack area x mid mid c (look_hold w ∷ []) gs (λ hs. hs ≡ look_hold w ∷ []) (GoSays group result) (λ hs. (ks : List Hold) × (hs ≡ look_hold w ∷ ks) × GoSays group result ks) (said_uber rack area x mid (uber_view w) LookedUber f.came) g
+      said_on rack area x a mid c fs (look_hold w ∷ gs) (FinishSays rack area x owns own count all a (Ok tt)) (λ hs. (ks : List Hold) × (hs ≡ look_hold w ∷ ks) × GoSays x group result ks) (SyncSays a result) f
+      (said_on rack area x mid mid c (look_hold w ∷ []) gs (λ hs. hs ≡ look_hold w ∷ []) (GoSays x group result) (λ hs. (ks : List Hold) × (hs ≡ look_hold w ∷ ks) × GoSays x group result ks) (said_uber rack area x mid (uber_view w) LookedUber f.came) g
       (λ hs ks is d. (ks, ap (λ l. l ++ ks) is, d)))
       (λ hs ks f z. subst (λ l. SyncSays a result (hs ++ l)) (sym z.1) (go_says a w group result next hs z.0 f z.2))
 

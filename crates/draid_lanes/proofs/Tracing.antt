@@ -1,5 +1,5 @@
 -- What a lane's passes saw and did between two of its states, one turn behind another.
-use Rattle.std.proofs.Common.{◌≡◌, ◌<◌, ◌≤◌, ◌++◌, ◌∷◌, ◌∙◌, [], inl, inr, ℕ, zero, suc, List, Option, Some, None, All, Contains, arith, refl, sym, ap, subst, length, map, ◌⊎◌}
+use Rattle.std.proofs.Common.{◌≡◌, ◌<◌, ◌≤◌, ◌++◌, ◌∷◌, ◌∙◌, [], inl, inr, ℕ, zero, suc, false, true, List, Option, Some, None, All, Contains, arith, refl, sym, ap, subst, length, map, ◌⊎◌}
 use Rattle.std.specs.Prelude.{cond, flat_map, slice_get}
 use Rattle.std.proofs.lemmas.Grind.{flat_map-append}
 use Rattle.std.proofs.lemmas.List.{append-nil, append_assoc, length-append, map-append}

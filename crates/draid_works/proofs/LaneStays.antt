@@ -25,9 +25,9 @@ use Rattle.draid_lanes.specs.declared.locked.Locked.{Locked}
 use Rattle.draid_lanes.specs.declared.uber.UberCell.{UberCell}
 use Rattle.draid_lanes.proofs.Drifted.{steps_rest}
 use Rattle.draid_lanes.proofs.SyncUnder.{met_is, stood_keeps}
-use Rattle.draid_works.specs.Lanes.{KnowsLater}
-use Rattle.draid_works.proofs.KnownOn.{knows_later}
-use Rattle.draid_works.proofs.OwnGoes.{EachGoes, each_then, own_drifts}
+use Rattle.draid_lanes.specs.Knowing.{KnowsLater}
+use Rattle.draid_lanes.proofs.KnownOn.{knows_later}
+use Rattle.draid_lanes.proofs.OwnGoes.{EachGoes, each_then, own_drifts}
 use Rattle.draid_works.proofs.Switched.{last_parted}
 
 module _ {R A G W : Type 0} (rack : racks.Ghosts R) (area : areas.Ghosts A) where
@@ -81,7 +81,7 @@ module _ {R A G W : Type 0} (rack : racks.Ghosts R) (area : areas.Ghosts A) wher
     pub governed_knows : EachGoes rack area (owned_by old.passes.items) (lane_last did.related.met) (lane_last did.related.after) → new.turns.now ≡ old.turns.now → (table : ℕ → Option Pointer) (seq floor : ℕ) (x : State)
         → Knows rack area (owned_by old.passes.items) (lane_last old) table seq floor x → KnowsLater rack area (owned_by old.passes.items) (lane_last new) table seq floor x
     governed_knows goes same table seq floor x knows =
-        knows_later rack area (owned_by old.passes.items) table seq floor (lane_last old) (lane_last new) (length old.turns.now) (lane_all old lane) (lane_beyond old (length old.turns.now) refl) (lane_beyond new (length old.turns.now) (sym (ap length same))) each x knows
+        knows_later rack area (owned_by old.passes.items) lane.no_groups table seq floor (lane_last old) (lane_last new) (length old.turns.now) (lane_all old lane) (lane_beyond old (length old.turns.now) refl) (lane_beyond new (length old.turns.now) (sym (ap length same))) each x knows
       where
         each : EachGoes rack area (owned_by old.passes.items) (lane_last old) (lane_last new)
         each m x at =

@@ -1,6 +1,5 @@
 pub mod FilledIn
 pub mod FilledTable
-pub mod KnownOn
 pub mod LaneStays
 pub mod MendArms
 pub mod MendBegun
@@ -9,7 +8,6 @@ pub mod MendStays
 pub mod MendSteps
 pub mod MendThrough
 pub mod Mended
-pub mod OwnGoes
 pub mod Replied
 pub mod ScrubEnds
 pub mod SwitchArms

@@ -21,11 +21,11 @@ use Rattle.draid_lanes.specs.Ubers.{IsLane, IsUberOf}
 use Rattle.draid_lanes.specs.Waits.{LaneWent}
 use Rattle.draid_lanes.specs.declared.locked.Locked.{Locked}
 use Rattle.draid_lanes.specs.declared.uber.UberCell.{UberCell}
-use Rattle.draid_works.specs.Lanes.{KnowsLater}
+use Rattle.draid_lanes.specs.Knowing.{KnowsLater}
 use Rattle.draid_works.specs.Mended.{MendedIn, MendsLane, MendsThrough}
 use Rattle.draid_works.proofs.LaneStays.{governed_knows, inside, lane_later}
 use Rattle.draid_works.proofs.MendSteps.{mends_keeps}
-use Rattle.draid_works.proofs.OwnGoes.{EachGoes, Goes, OwnGoes, each_same, each_then, goes_on, goes_same, hold_goes}
+use Rattle.draid_lanes.proofs.OwnGoes.{EachGoes, Goes, OwnGoes, each_same, each_then, goes_on, goes_same, hold_goes}
 use Rattle.draid_works.proofs.SyncSteps.{sync_goes}
 
 module _ {R A S : Type 0} (rack : racks.Ghosts R) (area : areas.Ghosts A) (last : S → ℕ → Option (Shard R A)) (went : S → ℕ → Shard R A → Shard R A → S → Type 0) (shared : Bool) (mine owns : ℕ → Bool) (inside : (n : ℕ) → owns n ≡ true → mine n ≡ true)
@@ -36,7 +36,7 @@ module _ {R A S : Type 0} (rack : racks.Ghosts R) (area : areas.Ghosts A) (last 
     part = l.part;
     later = (let same = l.groups.groups.committed in omega (arith, same));
     own = record { each = λ key own. inl (l.held key) };
-    state = l.state owns;
+    state = λ none. l.state owns;
   }
 
   abbrev EachOn : S → Uber A → S → Uber A → Type 0

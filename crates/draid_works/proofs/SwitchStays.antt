@@ -24,10 +24,10 @@ use Rattle.draid_lanes.specs.Waits.{LaneWent}
 use Rattle.draid_lanes.specs.declared.locked.Locked.{Locked}
 use Rattle.draid_lanes.specs.declared.uber.UberCell.{UberCell}
 use Rattle.draid_lanes.proofs.Drifted.{other_is}
-use Rattle.draid_works.specs.Lanes.{KnowsLater}
+use Rattle.draid_lanes.specs.Knowing.{KnowsLater}
 use Rattle.draid_works.specs.Switched.{SwitchedIn, SwitchesBy, SwitchesThrough, TriedOn}
 use Rattle.draid_works.proofs.LaneStays.{governed_knows, inside, lane_later}
-use Rattle.draid_works.proofs.OwnGoes.{EachGoes, Goes, OwnGoes, each_same, each_then, goes_on, goes_same, hold_goes, own_keeps, own_still}
+use Rattle.draid_lanes.proofs.OwnGoes.{EachGoes, Goes, OwnGoes, each_same, each_then, goes_on, goes_same, hold_goes, own_keeps, own_still}
 use Rattle.draid_works.proofs.SyncSteps.{finish_goes, round_goes, stop_goes}
 
 -- who doesn't own the groups owns none that a hold concerns which may change them

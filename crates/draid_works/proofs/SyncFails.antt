@@ -24,7 +24,7 @@ use Rattle.draid_lanes.specs.declared.locked.Locked.{Locked}
 use Rattle.draid_lanes.specs.declared.uber.UberCell.{UberCell}
 use Rattle.draid_works.specs.Failing.{AreaFailedIn, AreaFails, HoldsTo, RecordsFail}
 use Rattle.draid_works.proofs.LaneStays.{lane_later}
-use Rattle.draid_works.proofs.OwnGoes.{OwnGoes, own_seals}
+use Rattle.draid_lanes.proofs.OwnGoes.{OwnGoes, own_seals}
 use Rattle.draid_works.proofs.SyncSteps.{begins_goes, begun_goes, closes_goes, finds_goes, finish_goes, rest_goes, round_goes, sync_goes, waits_goes}
 
 -- ---- the uberblock's count

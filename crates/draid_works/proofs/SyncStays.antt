@@ -17,9 +17,9 @@ use Rattle.draid_lanes.specs.Ubers.{IsLane, IsUberOf}
 use Rattle.draid_lanes.specs.Waits.{LaneWent, SyncedIn, SyncsBy}
 use Rattle.draid_lanes.specs.declared.locked.Locked.{Locked}
 use Rattle.draid_lanes.specs.declared.uber.UberCell.{UberCell}
-use Rattle.draid_works.specs.Lanes.{KnowsLater}
+use Rattle.draid_lanes.specs.Knowing.{KnowsLater}
 use Rattle.draid_works.proofs.LaneStays.{governed_knows, inside, lane_later}
-use Rattle.draid_works.proofs.OwnGoes.{EachGoes, Goes, goes_on, goes_same, hold_goes}
+use Rattle.draid_lanes.proofs.OwnGoes.{EachGoes, Goes, goes_on, goes_same, hold_goes}
 use Rattle.draid_works.proofs.SyncSteps.{synced_goes}
 
 module _ {R A G W : Type 0} (rack : racks.Ghosts R) (area : areas.Ghosts A) (lock : Lock (UberCell R A)) (old new : Locked R A G W) (result : Result Synced SyncFault) (pass next : Caller (Past (UberCell R A))) (lane : IsLane rack old.turns.now old.passes.items)

@@ -15,7 +15,7 @@ use Rattle.draid_pool.specs.declared.fault.SyncFault.{SyncFault}
 use Rattle.draid_pool.specs.declared.fault.Synced.{Synced}
 use Rattle.draid_pool.specs.declared.fault.Syncing.{Syncing}
 use Rattle.draid_lanes.specs.Waits.{BeginsThrough, BegunOn, GoesThrough, SyncsThrough, WaitsOn}
-use Rattle.draid_works.proofs.OwnGoes.{OwnGoes, own_closes, own_commits, own_seals, own_still}
+use Rattle.draid_lanes.proofs.OwnGoes.{OwnGoes, own_closes, own_commits, own_seals, own_still}
 
 module _ {R A S : Type 0} (rack : racks.Ghosts R) (area : areas.Ghosts A) (last : S → ℕ → Option (Shard R A)) (went : S → ℕ → Shard R A → Shard R A → S → Type 0) (shared : Bool) (mine owns : ℕ → Bool)
     (later : (a : S) (m : ℕ) (x y : Shard R A) (b : S) → went a m x y b → x.committed ≤ y.committed) (Keeps : S → S → Type 0) (same : (a : S) → Keeps a a) (on : (a b c : S) → Keeps a b → Keeps b c → Keeps a c)

@@ -1,5 +1,5 @@
 -- What a lane knows, and what its commands do by that.
-use Rattle.std.specs.Prelude.{◌≡◌, ℕ, Bool, Option, Some, true, List, slice_get}
+use Rattle.std.specs.Prelude.{ℕ, Option, true, List}
 use Rattle.draid_names.specs.declared.pointer.Pointer.{Pointer}
 use Rattle.draid_rack.specs.declared.Rack as racks
 use Rattle.draid_area.specs.declared.Area as areas
@@ -7,14 +7,11 @@ use Rattle.draid_script.specs.Line.{Command}
 use Rattle.draid_reply.specs.declared.reply.Reply.{Reply}
 use Rattle.draid_session.specs.Holds.{Hold}
 use Rattle.draid_session.specs.Known.{Known, Learns}
-use Rattle.draid_session.specs.State.{Metaslab, State, Store}
-use Rattle.draid_shard.specs.Part.{layout_in}
-use Rattle.draid_shard.specs.declared.shard.Shard.{Shard}
-use Rattle.draid_pool.specs.Drifts.{Since}
+use Rattle.draid_session.specs.State.{State, Store}
 use Rattle.draid_pool.specs.Knows.{KnowsTable}
-use Rattle.draid_pool.specs.Pools.{part_in}
 use Rattle.draid_pool.specs.Threads.{CarriesBy, Knows}
 use Rattle.draid_lanes.specs.Governing.{lane_last}
+use Rattle.draid_lanes.specs.Knowing.{KnowsLater}
 use Rattle.draid_lanes.specs.Lanes.{table_of}
 use Rattle.draid_lanes.specs.Locks.{owned_by}
 use Rattle.draid_lanes.specs.Waits.{LaneWent}
@@ -29,13 +26,6 @@ pub record KnowsReply (command : Command) (reply : Reply) (old : Known) (table :
 -- a reply says of a thread's objects what is allowed by whatever was known of them, and what it adds is so
 abbrev pub TeachesTable : Command → Reply → (table now : ℕ → Option Pointer) → Type 0
 TeachesTable command reply table now = (known : Known) → KnowsTable table known → KnowsReply command reply known now
-
--- A thread knows a state that came from an earlier one: each metaslab by events, and nothing else changed that the thread has of its own.
-pub record KnowsLater {R A : Type 0} (rack : racks.Ghosts R) (area : areas.Ghosts A) (owns : ℕ → Bool) (last : ℕ → Option (Shard R A)) (table : ℕ → Option Pointer) (seq floor : ℕ) (x : State) : Type 0 where
-  pub reached : State
-  pub same : reached ≡ record x { metaslabs = reached.metaslabs }
-  pub since : (m : ℕ) (y : Metaslab) → slice_get x.metaslabs m ≡ Some y → (z : Metaslab) × (slice_get reached.metaslabs m ≡ Some z) × Since (layout_in (part_in x m)) y z
-  pub knows : Knows rack area owns last table seq floor reached
 
 module _ {R A G W : Type 0} (rack : racks.Ghosts R) (area : areas.Ghosts A) where
   -- a lane knows the state of a pool as far as its own objects and what it left go

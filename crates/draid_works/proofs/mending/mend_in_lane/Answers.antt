@@ -2,7 +2,7 @@ use Rattle.std.proofs.Common.{◌∙◌, ℕ, Bool, ap, sym, subst, length}
 use Rattle.draid_pool.specs.Threads.{IsWholeBy}
 use Rattle.draid_lanes.specs.Governing.{lane_last}
 use Rattle.draid_lanes.specs.Lanes.{table_of}
-use Rattle.draid_works.specs.Lanes.{KnowsLater}
+use Rattle.draid_lanes.specs.Knowing.{KnowsLater}
 use Rattle.draid_works.proofs.MendStays.{mended_knows}
 use Rattle.draid_works.proofs.MendFails.{lane_mend_fails}
 use Rattle.draid_works.proofs.mending.mend_in_lane.Goals as goal

@@ -3,7 +3,7 @@ use Rattle.draid_pool.specs.Threads.{IsWholeBy}
 use Rattle.draid_changes.specs.Switching.{LeafIsIn}
 use Rattle.draid_lanes.specs.Governing.{lane_last}
 use Rattle.draid_lanes.specs.Lanes.{table_of}
-use Rattle.draid_works.specs.Lanes.{KnowsLater}
+use Rattle.draid_lanes.specs.Knowing.{KnowsLater}
 use Rattle.draid_works.proofs.SwitchStays.{switched_knows}
 use Rattle.draid_works.proofs.SwitchFails.{lane_switch_fails}
 use Rattle.draid_works.proofs.switching.switch_in_lane.Goals as goal

@@ -1,5 +1,5 @@
 -- What a thread knows of a state it knows of a later one, behind whatever leaves its own objects.
-use Rattle.std.proofs.Common.{◌≡◌, ◌==◌, ◌<◌, ◌≤◌, ◌∙◌, ◌⊎◌, inl, inr, arith, ℕ, zero, suc, Bool, true, Option, Some, refl, sym, ap, subst, slice_set, if◌then◌else◌, eq-eqb, ne_eqb}
+use Rattle.std.proofs.Common.{◌≡◌, ◌==◌, ◌<◌, ◌≤◌, ◌∙◌, ◌⊎◌, inl, inr, arith, ℕ, zero, suc, Bool, true, false, Option, Some, refl, sym, ap, subst, slice_set, if◌then◌else◌, eq-eqb, ne_eqb}
 use mathlib.Core.Logic.{dite}
 use native.Mathlib.Decide.{ℕ_discrete}
 use Rattle.std.specs.Prelude.{slice_get}
@@ -14,7 +14,7 @@ use Rattle.draid_shard.specs.Looks.{IsLive}
 use Rattle.draid_shard.specs.Part.{layout_in}
 use Rattle.draid_shard.specs.declared.shard.Shard.{Shard}
 use Rattle.draid_session.specs.State.{Metaslab, State}
-use Rattle.draid_pool.specs.Drifts.{GoesOn, Since}
+use Rattle.draid_pool.specs.Drifts.{GoesOn, Since, groups_number}
 use Rattle.draid_pool.specs.Metaslabs.{IsMetaslab}
 use Rattle.draid_pool.specs.Pools.{part_in}
 use Rattle.draid_pool.specs.Rounds.{NoneBeyond}
@@ -28,10 +28,10 @@ use Rattle.draid_pool.proofs.Moved.{turn, turn_here, turn_other, with_metaslab}
 use Rattle.draid_pool.proofs.Owning.{StaysAt, own_drifts}
 use Rattle.draid_pool.proofs.ShardSteps.{live_on}
 use Rattle.draid_pool.proofs.Since.{since_self, since_then}
-use Rattle.draid_works.specs.Lanes.{KnowsLater}
-use Rattle.draid_works.proofs.OwnGoes.{EachGoes, OwnGoes}
+use Rattle.draid_lanes.specs.Knowing.{KnowsLater}
+use Rattle.draid_lanes.proofs.OwnGoes.{EachGoes, OwnGoes}
 
-module _ {R A : Type 0} (rack : racks.Ghosts R) (area : areas.Ghosts A) (owns : ℕ → Bool) (table : ℕ → Option Pointer) (seq floor : ℕ) where
+module _ {R A : Type 0} (rack : racks.Ghosts R) (area : areas.Ghosts A) (owns : ℕ → Bool) (no_groups : owns groups_number ≡ false) (table : ℕ → Option Pointer) (seq floor : ℕ) where
   -- ---- one metaslab goes
 
   module _ (last new : ℕ → Option (Shard R A)) (m : ℕ) (shard after : Shard R A) (there : last m ≡ Some shard) (here : new m ≡ Some after) (other : (k : ℕ) → (k ≡ m → ⊥) → new k ≡ last k) (goes : OwnGoes rack area owns shard after)
@@ -40,7 +40,7 @@ module _ {R A : Type 0} (rack : racks.Ghosts R) (area : areas.Ghosts A) (owns : 
     was = knows.but_it.each m shard there
 
     pub g : GoesOn rack area owns (part_in x m) (knows.pieces m) was.0 after
-    g = goes.state (part_in x m) (knows.pieces m) was.0 was.2
+    g = goes.state no_groups (part_in x m) (knows.pieces m) was.0 was.2
 
     drops : (k : Key) → owns k.object ≡ true → StaysAt was.0 g.reached k
     drops k own =

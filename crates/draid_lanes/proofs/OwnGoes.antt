@@ -1,15 +1,16 @@
 -- What a thread has of its own objects in metaslabs stays, as others and the thread itself go on with these.
-use Rattle.std.proofs.Common.{◌≡◌, ◌≤◌, ◌∙◌, arith, inl, ℕ, Bool, true, Option, Some, refl, sym, ap, subst, if◌then◌else◌, eq-eqb, ne_eqb}
+use Rattle.std.proofs.Common.{◌≡◌, ◌≤◌, ◌∙◌, arith, inl, ℕ, Bool, true, false, Option, Some, refl, sym, ap, subst, if◌then◌else◌, eq-eqb, ne_eqb}
 use mathlib.Core.Logic.{dite}
 use native.Mathlib.Decide.{ℕ_discrete}
 use Rattle.std.specs.Prelude.{Result}
+use Rattle.std.proofs.lemmas.Bool.{true≢false}
 use Rattle.draid_rack.specs.declared.Rack as racks
 use Rattle.draid_area.specs.declared.Area as areas
 use Rattle.draid_shard.specs.Fits.{Valid}
 use Rattle.draid_shard.specs.States.{part_of}
 use Rattle.draid_shard.specs.declared.shard.Shard.{Shard}
 use Rattle.draid_pool.specs.Committing.{DropsFreed}
-use Rattle.draid_pool.specs.Drifts.{Drifts, KeepsOf, KeepsTo, StateStep, is_other}
+use Rattle.draid_pool.specs.Drifts.{Drifts, KeepsOf, KeepsTo, StateStep, groups_number, is_other}
 use Rattle.draid_pool.specs.Grouping.{ClosesIn, SealsBy}
 use Rattle.draid_pool.specs.Rounds.{HeldOnce}
 use Rattle.draid_pool.specs.Syncing.{Commits}
@@ -24,16 +25,16 @@ use Rattle.draid_lanes.proofs.Drifted.{state_some}
 -- ---- one metaslab
 
 module _ {R A : Type 0} (rack : racks.Ghosts R) (area : areas.Ghosts A) (owns : ℕ → Bool) where
-  -- What it has of a thread's own objects is as it was, but that blocks may be gone that were freed up to the committed group. Whatever it stood for, it stands for something behind it.
+  -- What it has of a thread's own objects is as it was, but that blocks may be gone that were freed up to the committed group. Whatever it stood for, it stands for something behind it, where the groups aren't the thread's own.
   pub record OwnGoes (x y : Shard R A) : Type 0 where
     pub valid : Valid rack x → Valid rack y
     pub part : part_of y ≡ part_of x
     pub later : x.committed ≤ y.committed
     pub own : KeepsOf owns y.committed x.entries y.entries
-    pub state : StateStep rack area owns x y
+    pub state : owns groups_number ≡ false → StateStep rack area owns x y
 
   own_same : (x : Shard R A) → OwnGoes x x
-  own_same x = record { valid = λ valid. valid; part = refl; later = omega arith; own = keeps_self owns x.committed x.entries; state = state_self rack area owns x }
+  own_same x = record { valid = λ valid. valid; part = refl; later = omega arith; own = keeps_self owns x.committed x.entries; state = λ none. state_self rack area owns x }
 
   pub own_still : (x y : Shard R A) → y ≡ x → OwnGoes x y
   own_still x y same = subst (OwnGoes x) (sym same) (own_same x)
@@ -44,7 +45,7 @@ module _ {R A : Type 0} (rack : racks.Ghosts R) (area : areas.Ghosts A) (owns : 
     part = b.part ∙ a.part;
     later = (let p = a.later in let q = b.later in omega (arith, p, q));
     own = keeps_then owns y.committed z.committed x.entries y.entries z.entries b.later a.own b.own;
-    state = state_then rack area owns y.committed x y z a.own a.state b.state;
+    state = λ none. state_then rack area owns y.committed x y z a.own (a.state none) (b.state none);
   }
 
   -- others' holds
@@ -54,7 +55,7 @@ module _ {R A : Type 0} (rack : racks.Ghosts R) (area : areas.Ghosts A) (owns : 
     part = d.part;
     later = d.later;
     own = keeps_some mine owns y.committed x.entries y.entries inside d.own;
-    state = state_some rack area mine owns x y inside d.state;
+    state = λ none. state_some rack area mine owns x y inside d.state;
   }
 
   -- a hold that concerns none of its numbers
@@ -64,7 +65,7 @@ module _ {R A : Type 0} (rack : racks.Ghosts R) (area : areas.Ghosts A) (owns : 
     part = k.part;
     later = k.later;
     own = keeps_some (is_other concerned) owns y.committed x.entries y.entries foreign k.others;
-    state = state_some rack area (is_other concerned) owns x y foreign k.state;
+    state = λ none. state_some rack area (is_other concerned) owns x y foreign k.state;
   }
 
   -- a group is closed, sealed and committed
@@ -74,7 +75,7 @@ module _ {R A : Type 0} (rack : racks.Ghosts R) (area : areas.Ghosts A) (owns : 
     part = c.table.part;
     later = (let same = c.table.committed in omega (arith, same));
     own = record { each = λ key mine. inl (c.table.entries.held key) };
-    state = λ part pieces u is. turns_go rack area owns part pieces u y _ (c.closes part pieces u is);
+    state = λ none part pieces u is. turns_go rack area owns part pieces u y _ (c.closes part pieces u is) (λ mine. absurd (true≢false (sym mine ∙ none)));
   }
 
   pub own_seals : (group : ℕ) (result : Result ℕ SyncFault) (x y : Shard R A) → SealsBy rack area group x result y → OwnGoes x y
@@ -83,7 +84,7 @@ module _ {R A : Type 0} (rack : racks.Ghosts R) (area : areas.Ghosts A) (owns : 
     part = s.table.part;
     later = (let same = s.table.committed in omega (arith, same));
     own = record { each = λ key mine. inl (s.table.entries.held key) };
-    state = λ part pieces u is. turns_go rack area owns part pieces u y _ (s.seals part pieces u is);
+    state = λ none part pieces u is. turns_go rack area owns part pieces u y _ (s.seals part pieces u is) (λ mine. absurd (true≢false (sym mine ∙ none)));
   }
 
   pub own_commits : (group : ℕ) (x y : Shard R A) → x.committed ≤ y.committed → Commits rack group x y → OwnGoes x y
@@ -92,7 +93,7 @@ module _ {R A : Type 0} (rack : racks.Ghosts R) (area : areas.Ghosts A) (owns : 
     part = c.does.part;
     later = later;
     own = drops_keeps owns y.committed x.entries y.entries (subst (λ g. DropsFreed g x.entries y.entries) (sym c.commits.committed) c.commits.entries);
-    state = λ part pieces u is. turns_go rack area owns part pieces u y _ (commit_turns rack area part pieces x y group u is c);
+    state = λ none part pieces u is. turns_go rack area owns part pieces u y _ (commit_turns rack area part pieces x y group u is c) (λ mine. absurd (true≢false (sym mine ∙ none)));
   }
 
   -- ---- all of them
