@@ -282,7 +282,7 @@ module _ {R A G W : Type 0} (rack : racks.Ghosts R) (area : areas.Ghosts A) (x :
   Ends_in group a u out b v = CommitsIn rack area lane_last (LaneWent rack area) true owns group count a u out b v
 
   -- the holds of the uberblock
-  pub commit_holds : (group : ℕ) (a b : Locked R A G W) (u v : Uber A) (out : Option (Result ℕ SyncFault)) → Ends_in group a u out b v → List Hold
+  abbrev pub commit_holds : (group : ℕ) (a b : Locked R A G W) (u v : Uber A) (out : Option (Result ℕ SyncFault)) → Ends_in group a u out b v → List Hold
   commit_holds group a b u v (Some (Ok thin)) it = name_hold u group (Ok tt) ∷ []
   commit_holds group a b u v (Some (Err why)) (inl it) = []
   commit_holds group a b u v (Some (Err why)) (inr (inl it)) = []
@@ -303,7 +303,7 @@ module _ {R A G W : Type 0} (rack : racks.Ghosts R) (area : areas.Ghosts A) (x :
       → (it : Ends_in group b u (Some result) c v) → Said_group group a c (commit_holds group b c u v (Some result) it) result
   ends_sealing group k sum a b c u v (Ok thin) low next s (mid, late, closes, seals, names, commits) =
       let all_of = sealed_to_all group k sum a late (omega (arith, low)) (seals_again rack area x owns own count group a mid k sum (closes_again rack area x owns own count group a b mid k sum 0 s closes) count thin late (omega arith) seals) in
-      said_as rack area x a c (name_hold u group (Ok tt) ∷ []) (GroupBut x group all_of.0 Went) (GroupSays x group (Ok thin)) (group_went rack area x owns own count all group a late c all_of.0 0 u v next all_of.1 names.0 commits) (λ hs d. (all_of.0, d))
+      said_as rack area x a c (name_hold u group (Ok tt) ∷ []) (GroupBut x group all_of.0 Went) (GroupSays x group (Ok thin)) (group_went rack area x owns own count all group a late c all_of.0 0 u v next all_of.1 names commits) (λ hs d. (all_of.0, d))
   ends_sealing group k sum a b c u v (Err why) low next s (inl (closes, same)) = unit_end group 0 a c [] why (close_starves group k sum a b c why low s closes)
   ends_sealing group k sum a b c u v (Err why) low next s (inr (inl (mid, closes, seals, same))) =
       said_sum group 0 a c [] why (rest_unsealed group k sum a mid c why low (closes_again rack area x owns own count group a b mid k sum 0 s closes) seals)
@@ -317,7 +317,7 @@ module _ {R A G W : Type 0} (rack : racks.Ghosts R) (area : areas.Ghosts A) (x :
   ends_fresh group a b c u v (Ok thin) any next f (mid, late, closes, seals, names, commits) =
       let s = sealing_front rack area x owns own count group 0 0 a b mid f (closed_all rack area x owns own count group b mid 0 closes f.said.came) in
       let all_of = sealed_to_all group 0 0 a late (omega arith) (seals_again rack area x owns own count group a mid 0 0 s count thin late (omega arith) seals) in
-      said_as rack area x a c (name_hold u group (Ok tt) ∷ []) (GroupBut x group all_of.0 Went) (GroupSays x group (Ok thin)) (group_went rack area x owns own count all group a late c all_of.0 0 u v next all_of.1 names.0 commits) (λ hs d. (all_of.0, d))
+      said_as rack area x a c (name_hold u group (Ok tt) ∷ []) (GroupBut x group all_of.0 Went) (GroupSays x group (Ok thin)) (group_went rack area x owns own count all group a late c all_of.0 0 u v next all_of.1 names commits) (λ hs d. (all_of.0, d))
   ends_fresh group a b c u v (Err why) any next f (inl (stop, same)) =
       unit_end group 0 a c [] why (said_front group 0 (end_of {T = Unit} (Err why)) [] a b c f (group_unclosed rack area x owns own count all group b stop.mid c stop.place stop.sum why stop.below f.said.came stop.front stop.stop))
   ends_fresh group a b c u v (Err why) any next f (inr (inl (mid, closes, seals, same))) =
@@ -333,7 +333,7 @@ module _ {R A G W : Type 0} (rack : racks.Ghosts R) (area : areas.Ghosts A) (x :
   abbrev pub Finishes_in : Locked R A G W → Uber A → Option (Result Unit SyncFault) → Locked R A G W → Uber A → Type 0
   Finishes_in a u out b v = FinishesIn rack area lane_last (LaneWent rack area) true owns count a u out b v
 
-  pub finish_holds : (a b : Locked R A G W) (u v : Uber A) (out : Option (Result Unit SyncFault)) → Finishes_in a u out b v → List Hold
+  abbrev pub finish_holds : (a b : Locked R A G W) (u v : Uber A) (out : Option (Result Unit SyncFault)) → Finishes_in a u out b v → List Hold
   finish_holds a b u v (Some (Ok done)) (inl it) = []
   finish_holds a b u v (Some (Ok done)) (inr (group, thin, mid, found, commits)) = commit_holds group mid b u v (Some (Ok thin)) commits
   finish_holds a b u v (Some (Err why)) (group, mid, found, commits) = commit_holds group mid b u v (Some (Err why)) commits
@@ -381,7 +381,7 @@ module _ {R A G W : Type 0} (rack : racks.Ghosts R) (area : areas.Ghosts A) (x :
   finish_said a b c u v (Err why) any ready (Begins f) (group, mid, finds, commits) =
       let z = fresh_finds rack area x owns own count group a b mid f finds in
       one_err a c (commit_holds group mid c u v (Some (Err why)) commits) group z.1.0 why z.1.1 (ends_fresh group a mid c u v (Err why) any (found_is a u group z.1.0 ready z.1.1) z.0 commits)
-  finish_said a b c u v (Ok done) any ready (Waits w) (inl (finds, same)) = absurd (not_none a b c w any finds)
+  finish_said a b c u v (Ok done) any ready (Waits w) (inl (finds, same)) = absurd (not_none rack area x owns own count a b c w any finds)
   finish_said a b c u v (Ok done) any ready (Waits w) (inr (group, thin, mid, finds, commits)) =
       let z = finds_on rack area x owns own count w.group w.k w.sum a b mid w.sealing group finds in
       one_ok a c (commit_holds group mid c u v (Some (Ok thin)) commits) group w.place thin (subst (λ g. FoundAt rack area x owns own count a (Some g) w.place) (sym z.0) w.found)

@@ -94,20 +94,19 @@ module _ {R A G W : Type 0} (rack : racks.Ghosts R) (area : areas.Ghosts A) (x :
       pub left_came : CameTo rack area x m h.after t.reached
       left_came = came_on rack area x m h.before h.after gone.reached t.reached gone.now found_came t.is (acts_since (layout_in (part_in x m)) t.act gone.reached t.reached t.acts)
 
-      pub hold : Hold
+      abbrev pub hold : Hold
       hold = On (view_of m gone.reached) t.act
 
-      pub w : Went rack area a.turns.now a.passes.items m h.before h.after b.passes.items
+      abbrev pub w : Went rack area a.turns.now a.passes.items m h.before h.after b.passes.items
       w = h.goes.1
 
-      pub turn : LaneTurn
+      abbrev pub turn : LaneTurn
       turn = record { place = length w.log; holds = hold ∷ [] }
 
       behind_is : left_in w.lock (w.log ++ w.left ∷ []) ≡ h.after
       behind_is = ap (λ (c : Cell R A). c.shard) (left_append w.lock.first w.log (w.left ∷ [])) ∙ w.left_is
 
       one_turn : IsShardTurn rack area x w.lock w.next.seen m (length w.log) (hold ∷ [])
-      unfolding hold
       one_turn = record {
         log = w.log;
         left = w.left;
@@ -127,7 +126,6 @@ module _ {R A G W : Type 0} (rack : racks.Ghosts R) (area : areas.Ghosts A) (x :
       from_seen = (let all = ap length w.behind ∙ length-append w.pass.seen w.unseen in omega (arith, all))
 
       went_one : PassWent rack area x w.lock m w.pass w.next (turn ∷ [])
-      unfolding turn
       went_one = record {
         own = w.own;
         seen = (w.unseen ++ w.left ∷ [], w.seen ∙ (ap (λ l. l ++ w.left ∷ []) w.behind ∙ append_assoc w.pass.seen w.unseen (w.left ∷ [])));

@@ -90,7 +90,7 @@ module _ {R A G W : Type 0} (rack : racks.Ghosts R) (area : areas.Ghosts A) (x :
       let d = go_waits group a mid c now new w v f.1 f.0 goes in
       (d.0, d.1, d.2 ∙ f.2)
 
-  pub go_holds : (a b : Locked R A G W) (old new : Syncing) (u v : Uber A) (out : Option (Result Synced SyncFault)) → Goes_on a old u out b new v → List Hold
+  abbrev pub go_holds : (a b : Locked R A G W) (old new : Syncing) (u v : Uber A) (out : Option (Result Synced SyncFault)) → Goes_on a old u out b new v → List Hold
   go_holds a b old new u v (Some (Ok done)) it = name_hold u old.group (Ok tt) ∷ []
   go_holds a b old new u v (Some (Err why)) (inl it) = []
   go_holds a b old new u v (Some (Err why)) (inr it) = name_hold u old.group (Err why) ∷ []
@@ -107,7 +107,7 @@ module _ {R A G W : Type 0} (rack : racks.Ghosts R) (area : areas.Ghosts A) (x :
   go_end a b c old new u v (Ok done) next s (late, seals, group_is, thin_is, names, commits) =
       let full = seals.1 in
       let sealed = subst (λ k. Sealing rack area x owns own count old.group a late k new.thin) full (from_on old.group a b late old new refl (omega (arith, full)) s seals.0) in
-      said_as rack area x a c (name_hold u old.group (Ok tt) ∷ []) (GroupBut x old.group new.thin Went) (GoSays x old.group (Ok done)) (group_went rack area x owns own count all old.group a late c new.thin 0 u v next sealed names.0 commits)
+      said_as rack area x a c (name_hold u old.group (Ok tt) ∷ []) (GroupBut x old.group new.thin Went) (GoSays x old.group (Ok done)) (group_went rack area x owns own count all old.group a late c new.thin 0 u v next sealed names commits)
       (λ hs d. (group_is, subst (λ t. GroupBut x old.group t Went hs) (sym thin_is) d))
   go_end a b c old new u v (Err why) next s (inl (until, same)) =
       let below = until.below in
@@ -122,14 +122,14 @@ module _ {R A G W : Type 0} (rack : racks.Ghosts R) (area : areas.Ghosts A) (x :
   abbrev Begins_in : Locked R A G W → Uber A → Option (Result Syncing SyncFault) → Locked R A G W → Uber A → Type 0
   Begins_in a u out b v = BeginsIn rack area lane_last (LaneWent rack area) true owns count a u out b v
 
-  pub stop_holds : (a b : Locked R A G W) (u v : Uber A) (why : SyncFault) → Begins_in a u (Some (Err why)) b v → List Hold
+  abbrev pub stop_holds : (a b : Locked R A G W) (u v : Uber A) (why : SyncFault) → Begins_in a u (Some (Err why)) b v → List Hold
   stop_holds a b u v why (inl finishes) = finish_holds rack area x owns own count all a b u v (Some (Err why)) finishes
   stop_holds a b u v why (inr it) = finish_holds rack area x owns own count all a it.0 u v (Some (Ok tt)) it.1 ++ look_hold v ∷ []
 
   abbrev pub Through_in : Locked R A G W → Uber A → Result Synced SyncFault → Locked R A G W → Uber A → Type 0
   Through_in a u result b v = SyncsThrough rack area lane_last (LaneWent rack area) true owns count a u result b v
 
-  pub through_holds : (a b : Locked R A G W) (u v : Uber A) (result : Result Synced SyncFault) → Through_in a u result b v → List Hold
+  abbrev pub through_holds : (a b : Locked R A G W) (u v : Uber A) (result : Result Synced SyncFault) → Through_in a u result b v → List Hold
   through_holds a b u v result (inl (mid, begun, w, begins, goes)) =
       finish_holds rack area x owns own count all begins.mid begins.begins.0 begins.w w (Some (Ok tt)) begins.begins.1 ++ look_hold w ∷ go_holds goes.mid b goes.now goes.new goes.w v (Some result) goes.goes
   through_holds a b u v result (inr (why, is, begins)) = stop_holds begins.mid b begins.w v why begins.begins
