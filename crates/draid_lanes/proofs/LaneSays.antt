@@ -20,15 +20,11 @@ use Rattle.draid_pool.specs.declared.fault.Synced.{Synced}
 use Rattle.draid_pool.proofs.Lists.{present}
 use Rattle.draid_pool.proofs.Looking.{looked, looks_at, none_seen, seen_there}
 use Rattle.draid_pool.proofs.SyncSteps.{not_went}
+use Rattle.draid_lanes.specs.Told.{SyncBut}
 use Rattle.draid_lanes.specs.declared.locked.Locked.{Locked}
 use Rattle.draid_lanes.proofs.FinishWords.{FinishSays, FoundAt, NoneFound, OneFound}
 use Rattle.draid_lanes.proofs.SealWords.{leaves_self, leaves_then}
 use Rattle.draid_lanes.proofs.SyncWords.{BothSay, NextBut, SyncSays}
-
--- but for looks it is a sync, or one that was stopped
-abbrev pub SyncBut : State → Result Synced SyncFault → List Hold → Type 0
-SyncBut x (Ok it) hs = (left : List Hold) × LeavesLooks hs left × groups.Syncs x.geometry x.perms it.group it.thin left Went
-SyncBut x (Err why) hs = (left : List Hold) × LeavesLooks hs left × groups.SyncStops x.geometry x.perms left (end_of {T = ℕ} (Err why))
 
 -- but for looks, the group behind the committed one
 next_but : (x : State) (group thin : ℕ) (end : End) (hs : List Hold) → NextBut x group thin end hs → (left : List Hold) × LeavesLooks hs left × groups.Next x.geometry x.perms group thin left end

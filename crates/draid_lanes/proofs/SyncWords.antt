@@ -65,7 +65,7 @@ module _ {R A G W : Type 0} (rack : racks.Ghosts R) (area : areas.Ghosts A) (x :
   Goes_on a old u out b new v = GoesOnIn rack area lane_last (LaneWent rack area) true owns count a old u out b new v
 
   -- it is sealed in some more
-  from_on : (group : ℕ) (a b c : Locked R A G W) (old new : Syncing) → old.group ≡ group → new.next ≤ count → Sealing rack area x owns own count group a b old.next old.thin
+  pub from_on : (group : ℕ) (a b c : Locked R A G W) (old new : Syncing) → old.group ≡ group → new.next ≤ count → Sealing rack area x owns own count group a b old.next old.thin
       → SealsFrom rack area lane_last (LaneWent rack area) true owns b old c new → Sealing rack area x owns own count group a c new.next new.thin
   from_on group a b c old new is low s f =
       let n = f.next in
@@ -81,7 +81,7 @@ module _ {R A G W : Type 0} (rack : racks.Ghosts R) (area : areas.Ghosts A) (x :
       let stop = subst (λ g. HeldOnce rack area lane_last (LaneWent rack area) true owns (λ before after. WaitsForWrites g before after) until.mid new.next c) is until.stop in
       (waits_on rack area x owns own count group a until.mid c new.next new.thin new.next until.below front stop, until.front.group ∙ is, same)
 
-  waits_stage : (group n : ℕ) (a b c : Locked R A G W) (old new : Syncing) (u v : Uber A) → old.group ≡ group → Sealing rack area x owns own count group a b old.next old.thin → WaitsOn rack area lane_last (LaneWent rack area) true owns count n b old u c new v
+  pub waits_stage : (group n : ℕ) (a b c : Locked R A G W) (old new : Syncing) (u v : Uber A) → old.group ≡ group → Sealing rack area x owns own count group a b old.next old.thin → WaitsOn rack area lane_last (LaneWent rack area) true owns count n b old u c new v
       → Sealing rack area x owns own count group a c new.next new.thin × (new.group ≡ group) × (v ≡ u)
   waits_stage group zero a b c old new u v is s (at, now, same) =
       (subst (λ d. Sealing rack area x owns own count group a d new.next new.thin) (sym at) (subst (λ k. Sealing rack area x owns own count group a b k.next k.thin) (sym now) s), ap (λ (k : Syncing). k.group) now ∙ is, same)
