@@ -200,11 +200,14 @@ module _ {R A G W : Type 0} (rack : racks.Ghosts R) (area : areas.Ghosts A) (x z
   module _ (owns : ℕ → Bool) (own : owns groups_number ≡ true) (count : ℕ) (many : length z.metaslabs ≡ count) (group : ℕ) where
     all_of : (w : State) (shared : Shared) (b : Locked R A G W) → Knowing rack area x b (IsPartly z w shared count) → Knowing rack area x b (IsGood z w (keep_shared shared))
     all_of w shared b knows m shard at =
-        let k = knows m shard at in
-        (k.0, k.1, elim (cases_lt m count) [
-          | inl less ↦ k.2.before less
-          | inr from ↦ (let d = k.2.behind from in let within = slice_get_within z.metaslabs m d.first d.first_is in absurd (omega (arith, within, many, from)))
-        ])
+        let k = knows m shard at in (
+          k.0,
+          k.1,
+          elim (cases_lt m count) [
+            | inl less ↦ k.2.before less
+            | inr from ↦ (let d = k.2.behind from in let within = slice_get_within z.metaslabs m d.first d.first_is in absurd (omega (arith, within, many, from)))
+          ],
+        )
 
     pub named_governs : (late b : Locked R A G W) (none : ℕ) (u v : Uber A) (w : State) → group ≡ group_of (ubers.kept_of u) + 1 → UberNames area group u (Ok tt) v → Each rack area x owns (λ k before after. Commits rack group before after) count late none b → Governs late u w
         → LeadsUber w (name_hold u group (Ok tt) ∷ []) b v

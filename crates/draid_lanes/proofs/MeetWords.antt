@@ -224,10 +224,12 @@ module _ {R A G W : Type 0} (rack : racks.Ghosts R) (area : areas.Ghosts A) (x :
   seen_all = list_of (length old.turns.now) IsSeen
       (λ m less.
       let lock = present old.turns.now m less in
-      let one = met_one m lock.0 lock.1 in
-      (one.y, λ other next there at.
-      subst (λ (z : Lock (Cell R A) × Caller (Past (Cell R A))). CameTo rack area x m (left_in z.0 z.1.seen) one.y)
-      (λ i. (some_of (slice_get old.turns.now m) lock.0 other lock.1 there i, some_of (slice_get met.passes.items m) one.next next one.next_is at i)) one.y_is))
+      let one = met_one m lock.0 lock.1 in (
+        one.y,
+        λ other next there at.
+            subst (λ (z : Lock (Cell R A) × Caller (Past (Cell R A))). CameTo rack area x m (left_in z.0 z.1.seen) one.y)
+            (λ i. (some_of (slice_get old.turns.now m) lock.0 other lock.1 there i, some_of (slice_get met.passes.items m) one.next next one.next_is at i)) one.y_is,
+      ))
 
   abbrev pub ys : List Metaslab
   ys = seen_all.list
