@@ -1,5 +1,5 @@
 -- What a lane did in a turn of the uberblock, told from the state in which the section began.
-use Rattle.std.proofs.Common.{◌≡◌, ◌<◌, ◌≤◌, ◌+◌, ◌++◌, ◌∷◌, ◌∙◌, [], ℕ, zero, suc, Bool, List, Option, Some, None, All, Contains, arith, refl, sym, ap, subst, length}
+use Rattle.std.proofs.Common.{◌≡◌, ◌<◌, ◌≤◌, ◌+◌, ◌++◌, ◌∷◌, ◌∙◌, ◌⊎◌, [], ℕ, zero, suc, Bool, List, Option, Some, None, All, Contains, arith, refl, sym, ap, subst, length}
 use Rattle.std.specs.Prelude.{slice_get, slice_index_or}
 use Rattle.std.proofs.lemmas.List.{append-nil, append_assoc, length-append, map-append}
 use Rattle.std.proofs.lemmas.List.Elements.{All-append, All-cons, All-nil, All-weaker}
@@ -31,7 +31,7 @@ use Rattle.draid_lanes.specs.declared.lane.Lane.{Lane}
 use Rattle.draid_lanes.specs.declared.locked.Locked.{Locked}
 use Rattle.draid_lanes.specs.declared.uber.UberCell.{UberCell}
 use Rattle.draid_lanes.proofs.OneTurn.{CameTo, came_at, came_on, came_to}
-use Rattle.draid_lanes.proofs.Tracing.{PassWent, Traced, ascends_append, starts_long}
+use Rattle.draid_lanes.proofs.Tracing.{EndsAt, PassWent, Traced, ascends_append, starts_long}
 
 module _ {R A G W O : Type 0} (rack : racks.Ghosts R) (area : areas.Ghosts A) (x : State) (relates : O → Locked R A G W → Uber A → O → Locked R A G W → Uber A → Type 0) (old new : Lane R A G W) (before after : O)
     (lane : IsLane rack old.metaslabs.turns.now old.metaslabs.passes.items) (did : GovernedIn rack area relates old.uber.now old.metaslabs before new.metaslabs after old.pass new.pass) (lane_new : IsLane rack new.metaslabs.turns.now new.metaslabs.passes.items) (turns_new : new.metaslabs.turns.now ≡ old.metaslabs.turns.now)
@@ -70,6 +70,7 @@ module _ {R A G W O : Type 0} (rack : racks.Ghosts R) (area : areas.Ghosts A) (x
           above = q.2.above;
           below = subst (λ seen. All (λ place. place < length seen) (places_in (ts m))) (sym same.1) q.2.below;
           ascends = q.2.ascends;
+          ends = subst (λ seen. ((ts m ≡ []) × (seen ≡ pass.seen)) ⊎ EndsAt rack area x seen (ts m)) (sym same.1) q.2.ends;
           shards = λ t among. subst (λ seen. IsShardTurn rack area x lock.0 seen m t.place t.holds) (sym same.1) (q.2.shards t among);
         };
       }

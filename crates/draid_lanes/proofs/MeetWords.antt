@@ -147,6 +147,7 @@ module _ {R A : Type 0} (rack : racks.Ghosts R) (area : areas.Ghosts A) (x : Sta
       above = All-cons (λ place. length lane.seen ≤ place) (length met.seen - 1) [] from (All-nil (λ place. length lane.seen ≤ place));
       below = All-cons (λ place. place < length met.seen) (length met.seen - 1) [] under (All-nil (λ place. place < length met.seen));
       ascends = (tt, tt);
+      ends = inr (record { front = []; last = record { place = length met.seen - 1; holds = On (view_of m y) Looked ∷ [] }; are = refl; log = meets.log; left = meets.left; place_is = sym met_place ∙ meets.place_is; seen_is = meets.seen });
       shards = λ turn among. subst (λ (u : LaneTurn). IsShardTurn rack area x lock met.seen m u.place u.holds) (one_in turn among) glance_turn;
     }
       where

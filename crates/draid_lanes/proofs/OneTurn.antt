@@ -132,6 +132,7 @@ module _ {R A G W : Type 0} (rack : racks.Ghosts R) (area : areas.Ghosts A) (x :
         above = All-cons (λ place. length w.pass.seen ≤ place) (length w.log) [] from_seen (All-nil (λ place. length w.pass.seen ≤ place));
         below = All-cons (λ place. place < length w.next.seen) (length w.log) [] below_next (All-nil (λ place. place < length w.next.seen));
         ascends = (tt, tt);
+        ends = inr (record { front = []; last = turn; are = refl; log = w.log; left = w.left; place_is = refl; seen_is = w.seen });
         shards = λ other among. subst (λ (u : LaneTurn). IsShardTurn rack area x w.lock w.next.seen m u.place u.holds) (one_in other among) one_turn;
       }
         where

@@ -63,13 +63,24 @@ module _ {R A : Type 0} (rack : racks.Ghosts R) (area : areas.Ghosts A) (x : Sta
     follows = t.follows;
   }
 
-  -- A pass had these turns of the lock of a metaslab, behind all that it had seen.
+  -- the last of some turns, behind which nothing was seen
+  pub record EndsAt (seen : List (Past (Cell R A))) (turns : List LaneTurn) : Type 0 where
+    pub front : List LaneTurn
+    pub last : LaneTurn
+    pub are : turns ≡ front ++ last ∷ []
+    pub log : List (Past (Cell R A))
+    pub left : Past (Cell R A)
+    pub place_is : last.place ≡ length log
+    pub seen_is : seen ≡ log ++ left ∷ []
+
+  -- A pass had these turns of the lock of a metaslab, behind all that it had seen, and saw nothing behind them.
   pub record PassWent (lock : Lock (Cell R A)) (m : ℕ) (pass next : Caller (Past (Cell R A))) (turns : List LaneTurn) : Type 0 where
     pub own : next.own ≡ pass.own ++ places_in turns
     pub seen : StartsWith next.seen pass.seen
     pub above : All (λ place. length pass.seen ≤ place) (places_in turns)
     pub below : All (λ place. place < length next.seen) (places_in turns)
     pub ascends : Ascends (places_in turns)
+    pub ends : ((turns ≡ []) × (next.seen ≡ pass.seen)) ⊎ EndsAt next.seen turns
     pub shards : (turn : LaneTurn) → Contains turns turn → IsShardTurn rack area x lock next.seen m turn.place turn.holds
 
   none_in : (turn : LaneTurn) → Contains [] turn → ⊥
@@ -82,11 +93,25 @@ module _ {R A : Type 0} (rack : racks.Ghosts R) (area : areas.Ghosts A) (x : Sta
     above = All-nil (λ place. length pass.seen ≤ place);
     below = All-nil (λ place. place < length pass.seen);
     ascends = tt;
+    ends = inl (refl, refl);
     shards = λ turn among. absurd (none_in turn among);
   }
 
   places_append : (ts us : List LaneTurn) → places_in (ts ++ us) ≡ places_in ts ++ places_in us
   places_append ts us = map-append (λ (turn : LaneTurn). turn.place) ts us
+
+  ends_then : (p q r : Caller (Past (Cell R A))) (ts us : List LaneTurn) → ((ts ≡ []) × (q.seen ≡ p.seen)) ⊎ EndsAt q.seen ts → ((us ≡ []) × (r.seen ≡ q.seen)) ⊎ EndsAt r.seen us → ((ts ++ us ≡ []) × (r.seen ≡ p.seen)) ⊎ EndsAt r.seen (ts ++ us)
+  ends_then p q r ts us (inl none) (inl still) = inl ((λ i. none.0 i ++ still.0 i), still.1 ∙ none.1)
+  ends_then p q r ts us (inr e) (inl still) = inr (record {
+    front = e.front;
+    last = e.last;
+    are = ap (λ l. ts ++ l) still.0 ∙ (append-nil ts ∙ e.are);
+    log = e.log;
+    left = e.left;
+    place_is = e.place_is;
+    seen_is = still.1 ∙ e.seen_is;
+  })
+  ends_then p q r ts us first (inr e) = inr (record { front = ts ++ e.front; last = e.last; are = ap (λ l. ts ++ l) e.are ∙ sym (append_assoc ts e.front (e.last ∷ [])); log = e.log; left = e.left; place_is = e.place_is; seen_is = e.seen_is })
 
   pub went_then : (lock : Lock (Cell R A)) (m : ℕ) (p q r : Caller (Past (Cell R A))) (ts us : List LaneTurn) → PassWent lock m p q ts → PassWent lock m q r us → PassWent lock m p r (ts ++ us)
   went_then lock m p q r ts us one two =
@@ -102,6 +127,7 @@ module _ {R A : Type 0} (rack : racks.Ghosts R) (area : areas.Ghosts A) (x : Sta
             (All-append (λ place. place < length r.seen) (places_in ts) (places_in us)
             (All-weaker (λ place. place < length q.seen) (λ place. place < length r.seen) (λ place less. omega (arith, less, second)) (places_in ts) one.below) two.below);
         ascends = subst Ascends (sym (places_append ts us)) (ascends_append (length q.seen) (places_in ts) (places_in us) one.ascends two.ascends one.below two.above);
+        ends = ends_then p q r ts us one.ends two.ends;
         shards = λ turn among. elim (Contains-append_cases ts us turn among) [
           | inl in_it ↦ turn_later lock q.seen r.seen m turn.place turn.holds two.seen (one.shards turn in_it)
           | inr in_it ↦ two.shards turn in_it
