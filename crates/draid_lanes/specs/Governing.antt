@@ -87,10 +87,20 @@ module _ {R A G W O : Type 0} (rack : racks.Ghosts R) (area : areas.Ghosts A) wh
     pub related : relates op met u done after v
     pub parts : EachParts old.turns.now after.passes.items new.passes.items given
 
+  -- so in the uberblock's cell, which keeps the locks of the metaslabs
+  pub record GovernedCell (relates : O → Locked R A G W → Uber A → O → Locked R A G W → Uber A → Type 0) (old : Locked R A G W) (op : O) (found : UberCell R A) (new : Locked R A G W) (done : O) (left : UberCell R A) : Type 0 where
+    pub met : Locked R A G W
+    pub after : Locked R A G W
+    pub same : (met.turns.now ≡ old.turns.now) × (after.turns.now ≡ old.turns.now)
+    pub meets : EachMeets rack area old.turns.now old.passes.items found.groups.items met.passes.items
+    pub related : relates op met found.uber done after left.uber
+    pub parts : EachParts old.turns.now after.passes.items new.passes.items left.groups.items
+    pub turns : left.turns.now ≡ found.turns.now
+
   -- so in one turn of the uberblock, at a place of its history that is the pass's own
   abbrev pub GovernedIn : (O → Locked R A G W → Uber A → O → Locked R A G W → Uber A → Type 0) → Lock (UberCell R A) → Locked R A G W → O → Locked R A G W → O → (pass next : Caller (Past (UberCell R A))) → Type 0
   GovernedIn relates lock old op new done pass next =
-      Did {O = Locked R A G W × O} (λ a past. UberStep rack area a.turns.now past.left.turns.now past.left.uber past.left.groups) (λ x u y v. Governed relates x.0 x.1 u.uber u.groups.items y.0 y.1 v.uber v.groups.items) (λ x. None) lock.first (old, op) (new, done) pass next
+      Did {O = Locked R A G W × O} (λ a past. UberStep rack area a.turns.now past.left.turns.now past.left.uber past.left.groups) (λ x u y v. GovernedCell relates x.0 x.1 u y.0 y.1 v) (λ x. None) lock.first (old, op) (new, done) pass next
 
   -- what is so in a turn, behind it
   pub record HasGoverned (relates : O → Locked R A G W → Uber A → O → Locked R A G W → Uber A → Type 0) (old : Locked R A G W) (op : O) (found : UberCell R A) (new : Locked R A G W) (done : O) (left : UberCell R A) : Type 0 where

@@ -1,7 +1,8 @@
 -- What lanes do to the locks of a section, told from the state in which it began: each turn that a lane had of a lock, at its place in the lock's history, and the session's holds in it.
-use Rattle.std.specs.Prelude.{◌≡◌, ◌≤◌, ◌++◌, ◌∷◌, ℕ, true, List, [], Option, Some, None, All, Contains, flat_map, length, map, slice_get}
+use Rattle.std.specs.Prelude.{◌≡◌, ◌<◌, ◌≤◌, ◌++◌, ◌∷◌, ℕ, true, List, [], Option, Some, None, All, Contains, flat_map, length, map, slice_get}
 use Rattle.draid_rack.specs.declared.Rack as racks
 use Rattle.draid_area.specs.declared.Area as areas
+use Rattle.draid_machine.specs.Created.{IsReached}
 use Rattle.draid_segments.specs.Segments.{Pieces}
 use Rattle.draid_session.specs.Follows.{Follows}
 use Rattle.draid_session.specs.Holds.{Hold}
@@ -44,8 +45,9 @@ holds_in turns = flat_map (λ (turn : LaneTurn). turn.holds) turns
 
 -- ---- what stood there
 
--- a metaslab that came from another by events, and for which a shard stands
+-- a metaslab that came from another by events, which is one that a legal history gives, and for which a shard stands
 pub record Came {R A : Type 0} (rack : racks.Ghosts R) (area : areas.Ghosts A) (part : Part) (x : Metaslab) (now : Shard R A) : Type 0 where
+  pub began : IsReached (layout_in part) x.world
   pub reached : Metaslab
   pub pieces : Pieces
   pub is : IsMetaslab rack area part pieces now reached
@@ -118,12 +120,14 @@ module _ {R A : Type 0} (rack : racks.Ghosts R) (area : areas.Ghosts A) (x : Sta
           → (lock : Lock (Cell R A)) × (pass : Caller (Past (Cell R A))) × (slice_get new.metaslabs.turns.now m ≡ Some lock) × (slice_get new.metaslabs.passes.items m ≡ Some pass) × IsShardTurn lock pass.seen m turn.place turn.holds
       pub ubers : (turn : LaneTurn) → Contains (turns None) turn → IsUberTurn new.uber.now new.pass.seen turn.place turn.holds
 
-    -- The lane knows a state of which its own objects and its metaslabs are, as it left them: each is what that of the first state came to, up to where the lane saw it.
+    -- The lane knows a state of which its own objects and its metaslabs are, as it left them: each is what that of the first state came to, up to where the lane saw it. The places of its holds ascend, and are
+    -- among what it saw.
     pub record StandsAt (lane : Lane R A G W) (y : State) : Type 0 where
       pub same : y ≡ record x { metaslabs = y.metaslabs; store = y.store }
       pub many : length y.metaslabs ≡ length x.metaslabs
       pub each : (m : ℕ) (lock : Lock (Cell R A)) (pass : Caller (Past (Cell R A))) → slice_get lane.metaslabs.turns.now m ≡ Some lock → slice_get lane.metaslabs.passes.items m ≡ Some pass
           → (z : Metaslab) × (slice_get y.metaslabs m ≡ Some z) × CameAt lock pass.seen m z
+      pub ordered : (m : ℕ) (pass : Caller (Past (Cell R A))) → slice_get lane.metaslabs.passes.items m ≡ Some pass → Ascends pass.own × All (λ place. place < length pass.seen) pass.own
       pub knows : Knows rack area (owned_by lane.metaslabs.passes.items) (last_in lane.metaslabs.turns.now lane.metaslabs.passes.items) (table_of lane) lane.own.seq lane.own.floor y
 
     -- what a lane did, and to what that led it: it is what is said to be done, with what the lane has of its own then

@@ -71,7 +71,7 @@ module _ {R A G W : Type 0} (rack : racks.Ghosts R) (area : areas.Ghosts A) wher
             left = did.left;
             stood = did.stood;
             follows = did.follows;
-            related = record { met = r.met; after = r.after; same = r.same; meets = r.meets; related = made; parts = r.parts };
+            related = record { met = r.met; after = r.after; same = r.same; meets = r.meets; related = made; parts = r.parts; turns = r.turns };
             number = did.number;
             seen = did.seen;
             own = did.own;

@@ -187,7 +187,7 @@ fails_in rack area relates lock old new before after pass next did fails =
       left = did.left;
       stood = did.stood;
       follows = did.follows;
-      related = record { met = r.met; after = r.after; same = r.same; meets = r.meets; related = fails; parts = r.parts };
+      related = record { met = r.met; after = r.after; same = r.same; meets = r.meets; related = fails; parts = r.parts; turns = r.turns };
       number = λ n is. did.number n is;
       seen = did.seen;
       own = did.own;

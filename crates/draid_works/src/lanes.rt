@@ -1,5 +1,5 @@
 //! What a lane does that never has to be tried again.
-ghost use Rattle.std.specs.Prelude.{◌≡◌, ◌≤◌, ◌+◌, ℕ, IsErrOf, true};
+ghost use Rattle.std.specs.Prelude.{◌≡◌, ◌≤◌, ◌+◌, ℕ, IsErrOf, length, true};
 ghost use Rattle.draid_session.specs.State.{State};
 ghost use Rattle.draid_spec.specs.Geometry.{IsGeometry};
 ghost use Rattle.draid_store.specs.Answers.{ReadDoes};
@@ -9,6 +9,8 @@ ghost use Rattle.draid_store.specs.Pointers.{ReadFinds};
 ghost use Rattle.draid_store.specs.PointerSums.{SumFinds};
 ghost use Rattle.draid_lanes.specs.Lanes.{IsSameLane, IsWholeLane, table_of};
 ghost use Rattle.draid_lanes.specs.Locks.{owned_by};
+ghost use Rattle.draid_lanes.specs.Told.{SyncLane};
+ghost use Rattle.draid_lanes.specs.Traces.{LaneTold};
 ghost use Rattle.draid_lanes.specs.Waits.{SyncedIn};
 ghost use Rattle.draid_works.specs.Failing.{AreaFailedIn};
 ghost use Rattle.draid_works.specs.Lanes.{LaneCarries, LaneKnows, LaneKnowsLater};
@@ -89,6 +91,7 @@ pub fn commit_in_lane<'a, 'b, R: Rack, A: Area, G: Gate, W: Wait>(
     ensures same { IsSameLane lane.entry result.0 }
     ensures own { result.0.own ≡ lane.entry.own }
     ensures knows { (x : State) → LaneKnows R.Rack A.Area lane.entry x → LaneKnowsLater R.Rack A.Area result.0 x }
+    ensures told { (x : State) → x.geometry ≡ lane.entry.geometry → length x.metaslabs ≡ x.geometry.props.metaslabs → LaneTold R.Rack A.Area x (SyncLane x result.1) lane.entry result.0 }
     ensures cause { IsErrOf result.1 SyncFault.Shelf → AreaFailedIn R.Rack A.Area lane.entry.uber.now lane.entry.metaslabs result.0.metaslabs lane.entry.pass result.0.pass }
     ensures syncs { SyncedIn R.Rack A.Area lane.entry.uber.now lane.entry.metaslabs result.0.metaslabs result.1 lane.entry.pass result.0.pass }
 {

@@ -20,6 +20,7 @@ pub returns : goal.returns
 returns g c =
     let d = c.call.ensures in
     let r = d.related in
+    let q = r.governed in
     record {
       turns = r.turns;
       owns = r.owns;
@@ -33,7 +34,7 @@ returns g c =
         left = d.left;
         stood = d.stood;
         follows = d.follows;
-        related = r.governed;
+        related = record { met = q.met; after = q.after; same = q.same; meets = q.meets; related = q.related; parts = q.parts; turns = r.step.same };
         number = λ n is. absurd (cc);
         seen = d.seen;
         own = d.own;

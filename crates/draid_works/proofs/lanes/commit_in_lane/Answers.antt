@@ -1,8 +1,10 @@
-use Rattle.std.proofs.Common.{◌∙◌, ℕ, Bool, ap, sym, subst, length}
+use Rattle.std.proofs.Common.{◌∙◌, ℕ, Bool, ap, refl, sym, subst, length}
+use Rattle.draid_spec.specs.declared.layout.Geometry.{Geometry}
 use Rattle.draid_pool.specs.Threads.{IsWholeBy}
 use Rattle.draid_lanes.specs.Governing.{lane_last}
 use Rattle.draid_lanes.specs.Lanes.{table_of}
 use Rattle.draid_lanes.specs.Knowing.{KnowsLater}
+use Rattle.draid_lanes.proofs.SyncTold.{sync_told}
 use Rattle.draid_works.proofs.SyncStays.{synced_knows}
 use Rattle.draid_works.proofs.SyncFails.{lane_sync_fails}
 use Rattle.draid_works.proofs.lanes.commit_in_lane.Goals as goal
@@ -35,3 +37,14 @@ returns-clause-cause g c is =
     let lane = c.args.lane in
     let did = c.sync_in_lane-metaslabs in
     lane_sync_fails g.R.Rack g.A.Area lane.uber.now lane.metaslabs did.result.0 did.result.1 lane.pass did.new.pass did.ensures.syncs is
+
+pub returns-clause-told : goal.returns-clause-told
+returns-clause-told g c x same many =
+    let is = c.requires.whole in
+    let lane = c.args.lane in
+    let did = c.sync_in_lane-metaslabs in
+    sync_told g.R.Rack g.A.Area x lane (record lane { metaslabs = did.result.0; pass = did.new.pass }) did.result.1 is.lane_is is.same is.first did.ensures.syncs did.ensures.lane did.ensures.turns refl
+    (is.many ∙ ap (λ (q : Geometry). q.props.metaslabs) (sym same)) many
+    (λ y knows.
+    subst (λ (f : ℕ → Bool). KnowsLater g.R.Rack g.A.Area f (lane_last did.result.0) (table_of lane) lane.own.seq lane.own.floor y) (sym did.ensures.owns)
+    (synced_knows g.R.Rack g.A.Area lane.uber.now lane.metaslabs did.result.0 did.result.1 lane.pass did.new.pass is.lane_is is.same is.first did.ensures.syncs did.ensures.turns (table_of lane) lane.own.seq lane.own.floor y knows))
