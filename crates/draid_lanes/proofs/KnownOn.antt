@@ -4,6 +4,7 @@ use mathlib.Core.Logic.{dite}
 use native.Mathlib.Decide.{ℕ_discrete}
 use Rattle.std.specs.Prelude.{slice_get}
 use Rattle.std.proofs.lemmas.Bool.{cases_lt}
+use Rattle.std.proofs.lemmas.List.{length-set}
 use Rattle.draid_names.specs.declared.pointer.Pointer.{Pointer}
 use Rattle.draid_rack.specs.declared.Rack as racks
 use Rattle.draid_area.specs.declared.Area as areas
@@ -160,7 +161,7 @@ module _ {R A : Type 0} (rack : racks.Ghosts R) (area : areas.Ghosts A) (owns : 
               by (inr from) = mixed_behind count k from ∙ (beyond_last k from ∙ sym (beyond_now k from))
 
       upto : (n : ℕ) → n ≤ count → KnowsLater rack area owns (mixed n) table seq floor x
-      upto zero below = record { reached = x; same = refl; since = λ m y at. (y, at, since_self (layout_in (part_in x m)) y); knows = knows }
+      upto zero below = record { reached = x; same = refl; many = refl; since = λ m y at. (y, at, since_self (layout_in (part_in x m)) y); knows = knows }
       upto (suc n) below = more (upto n (omega (arith, below)))
         where
           was : (shard : Shard R A) × (last n ≡ Some shard)
@@ -177,6 +178,7 @@ module _ {R A : Type 0} (rack : racks.Ghosts R) (area : areas.Ghosts A) (owns : 
               record {
                 reached = with_metaslab k.reached n z.reached;
                 same = ap (λ (s : State). record s { metaslabs = slice_set k.reached.metaslabs n z.reached }) k.same;
+                many = length-set k.reached.metaslabs n z.reached ∙ k.many;
                 since = λ m y at.
                     (let one = k.since m y at in
                     let two = since_on (mixed n) (mixed (suc n)) n was.0 went.0 there here (mixed_other n) went.2 k.reached k.knows m one.0 one.1 in

@@ -1,5 +1,5 @@
 -- What a thread knows of a pool of which others have parts.
-use Rattle.std.specs.Prelude.{◌≡◌, ℕ, Bool, Option, Some, slice_get}
+use Rattle.std.specs.Prelude.{◌≡◌, ℕ, Bool, Option, Some, length, slice_get}
 use Rattle.draid_names.specs.declared.pointer.Pointer.{Pointer}
 use Rattle.draid_rack.specs.declared.Rack as racks
 use Rattle.draid_area.specs.declared.Area as areas
@@ -14,5 +14,6 @@ use Rattle.draid_pool.specs.Threads.{Knows}
 pub record KnowsLater {R A : Type 0} (rack : racks.Ghosts R) (area : areas.Ghosts A) (owns : ℕ → Bool) (last : ℕ → Option (Shard R A)) (table : ℕ → Option Pointer) (seq floor : ℕ) (x : State) : Type 0 where
   pub reached : State
   pub same : reached ≡ record x { metaslabs = reached.metaslabs }
+  pub many : length reached.metaslabs ≡ length x.metaslabs
   pub since : (m : ℕ) (y : Metaslab) → slice_get x.metaslabs m ≡ Some y → (z : Metaslab) × (slice_get reached.metaslabs m ≡ Some z) × Since (layout_in (part_in x m)) y z
   pub knows : Knows rack area owns last table seq floor reached
