@@ -62,6 +62,11 @@ CHANGES = [
     ("uber-copy", lambda path: path.write_bytes(b"x"), 0, READS),
     ("check-even", os.remove, 0, READS),
     ("check-odd", os.remove, 0, READS),
+    ("check-even", cut(0), 0, READS),
+    ("check-even", cut(20), 8, "record check at=6 kind=2\n"),
+    ("check-even", cut(5000), 0, READS),
+    ("check-odd", lambda path: path.write_bytes(b"x"), 0, READS),
+    ("check-even", turn_to_folder, 7, "shelf fault\n"),
 ]
 
 

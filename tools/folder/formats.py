@@ -127,6 +127,7 @@ class Block:
     first: int
     stripes: int
     length: int
+    birth: int
     digest: bytes
     at: int
 
@@ -186,8 +187,8 @@ def block_of(reader, uber, least):
     at_stripes = reader.field
     length = reader.number(4, 1, 131_072)
     reader.test(stripes == math.ceil(math.ceil(length / uber.sector) / uber.data), at_stripes)
-    reader.number(8, 1, uber.group)
-    return Block(*number_of, first, stripes, length, reader.raw(32), at)
+    birth = reader.number(8, 1, uber.group)
+    return Block(*number_of, first, stripes, length, birth, reader.raw(32), at)
 
 
 def maximal_runs(blocks):
@@ -222,6 +223,41 @@ def record_of(area, uber, metaslab):
     if reader.at != reader.end:
         raise Bad(reader.at, 3)
     return slots, blocks
+
+
+def check_of(area, group):
+    """The group of a check record's checkpoint, and the objects and numbers of the blocks that it alone keeps."""
+    if not area:
+        return 0, []
+    reader = Reader(area)
+    reader.exactly(4, 0x445A4350)
+    reader.exactly(2, 1)
+    length = reader.number(4, 0, len(area))
+    at_length = reader.field
+    reader.end = max(length, reader.at)
+    reader.exactly(8, group)
+    point = reader.number(8, 0, group)
+    count = reader.number(4, 0, 524_288 if point else 0)
+    reader.test(length == 30 + 16 * count, at_length)
+    named = []
+    for _ in range(count):
+        key = (reader.number(8, named[-1][0] if named else 0), reader.number(8))
+        reader.test(not named or named[-1] < key)
+        named.append(key)
+    return point, named
+
+
+def lacking(area, group, births):
+    """Raises the first fault of a check record, by the birth of each block."""
+    point, named = check_of(area, group)
+    for place, key in enumerate(named):
+        if births.get(key, point + 1) > point:
+            raise Bad(30 + 16 * place, 2)
+
+
+def check_area(folder, group):
+    path = folder / ("check-odd" if group % 2 else "check-even")
+    return path.read_bytes() if path.exists() else b""
 
 
 def twice(blocks, keys):
@@ -281,12 +317,13 @@ def answer(folder):
             found.append(opened(folder, uber, metaslab))
         except Bad as bad:
             return 8, f"record metaslab={metaslab} at={bad.at} kind={bad.kind}\n", {}
-    return joined(uber, found)
+    return joined(uber, found, check_area(folder, uber.group))
 
 
-def joined(uber, found):
+def joined(uber, found, check):
     """The same where each metaslab could be opened."""
     keys = set()
+    births = {}
     newest = {}
     for metaslab, (slots, blocks) in enumerate(found):
         try:
@@ -296,6 +333,11 @@ def joined(uber, found):
         except Bad as bad:
             return 8, f"record metaslab={metaslab} at={bad.at} kind={bad.kind}\n", {}
         for block in blocks:
+            births[block.object, block.number] = block.birth
             if block.object not in newest or newest[block.object].number < block.number:
                 newest[block.object] = block
+    try:
+        lacking(check, uber.group, births)
+    except Bad as bad:
+        return 8, f"record check at={bad.at} kind={bad.kind}\n", {}
     return 0, f"import {uber.name()} group={uber.group} objects={len(newest)}\n", newest

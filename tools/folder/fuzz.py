@@ -1,4 +1,4 @@
-"""Folders whose uberblock or records were changed at random. What an import answers is what docs/FORMATS.md says of those
+"""Folders whose uberblock, records or check records were changed at random. What an import answers is what docs/FORMATS.md says of those
 bytes, a folder that is refused stays as it is, and a read gives the bytes of the digest that the record has, or none."""
 import hashlib
 import os
@@ -15,8 +15,8 @@ SCRIPTS = [
 
 
 def change(folder):
-    """Changes a file of records or the uberblock. Answers what was done."""
-    files = sorted(path for path in folder.iterdir() if "leaf" not in path.name and "check" not in path.name)
+    """Changes a file of records, of check records or the uberblock. Answers what was done."""
+    files = sorted(path for path in folder.iterdir() if "leaf" not in path.name)
     path = random.choice(files)
     bytes_of = bytearray(path.read_bytes())
     kind = random.random()

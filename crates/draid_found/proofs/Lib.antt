@@ -1,2 +1,3 @@
+mod Born
 pub mod Noted
 pub mod Together

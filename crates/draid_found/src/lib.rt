@@ -1,11 +1,13 @@
-//! The blocks that an import finds in the metaslabs that it opened: of each object the newest, and whether the metaslabs are
-//! those of one pool.
+//! The blocks that an import finds in the metaslabs that it opened: of each object the newest, whether the metaslabs are those
+//! of one pool, and whether they have the blocks that a check record names.
 
 #![tactic(auto)]
 
 mod alike;
+mod drops;
 mod fault;
 mod finding;
 
+pub use drops::first_lack;
 pub use fault::FoundFault;
 pub use finding::{Found, find_blocks};

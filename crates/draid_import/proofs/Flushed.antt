@@ -1,5 +1,5 @@
 -- An import finds the same on a shelf whether or not the area of the uberblock was flushed before.
-use Rattle.std.proofs.Common.{◌≡◌, ◌⊎◌, inl, inr, ℕ, List, Option, Some, None, Ok, Err, subst}
+use Rattle.std.proofs.Common.{◌≡◌, ◌⊎◌, inl, inr, ℕ, List, Option, Some, None, Result, Ok, Err, subst}
 use Rattle.std.specs.Prelude.{IsSomeAnd, option_map}
 use Rattle.draid_record.specs.declared.fault.RecordFaultKind.{RecordFaultKind}
 use Rattle.draid_area.specs.Area.{Content, OnTold, flushes}
@@ -7,15 +7,19 @@ use Rattle.draid_area.specs.declared.Area as areas
 use Rattle.draid_rack.specs.Rack.{Shape}
 use Rattle.draid_rack.specs.declared.Rack as racks
 use Rattle.draid_record.specs.declared.fault.RecordFault.TheVariants.{Bad}
-use Rattle.draid_shelf.specs.Kits.{Held, KitCounts}
+use Rattle.draid_record.specs.Checks.{CheckTold}
+use Rattle.draid_record.specs.declared.fault.RecordFault.{RecordFault}
+use Rattle.draid_shelf.specs.Kits.{ChecksTold, Held, KitCounts}
 use Rattle.draid_pool.specs.Taking.{takes_areas}
 use Rattle.draid_uber.specs.Slots.{chosen_of, group_of}
 use Rattle.draid_uber.specs.Uber.{kept_of, layout_of, next_leaf_of}
 use Rattle.draid_uber.specs.declared.uber.Uber.{Uber}
 use Rattle.draid_session.specs.State.{limit_of}
+use Rattle.draid_import.specs.Checking.{CheckIsBad, HoldsCheck, check_held}
 use Rattle.draid_import.specs.Faulty.{AreReadApart, HoldsNoGroup, OneIsUnread, RecordIsBad, TellsBody}
 use Rattle.draid_import.specs.Findings.{FindsPool}
 use Rattle.draid_import.specs.Found.{OpensAllOver, SameButFlushed}
+use Rattle.draid_import.proofs.ImportCheck.{bad_by, checked_by}
 use Rattle.draid_pool.proofs.Lists.{ext}
 
 -- the bytes of an area are the same, flushed or not
@@ -66,6 +70,23 @@ module _ {R A : Type 0} (rack : racks.Ghosts R) (area : areas.Ghosts A) (x y : H
             ⊎ AreReadApart rack area (layout_of uber) (group_of (kept_of uber)) (next_leaf_of uber) h leaves counts metaslab place kind) (taken_same x y same) bad.bad;
       })
 
+  check_before : (group : ℕ) (answer : Result CheckTold RecordFault) → HoldsCheck group (Some y) answer → HoldsCheck group (Some x) answer
+  check_before group answer tells = subst (λ (o : Option ChecksTold). IsSomeAnd o (λ checks. check_held group checks ≡ answer)) same.checks tells
+
+  pub bad_before : (place : ℕ) (kind : RecordFaultKind) → CheckIsBad rack area (Some y) leaves counts place kind → CheckIsBad rack area (Some x) leaves counts place kind
+  bad_before place kind bad =
+      let uber = bad.uber in
+      record {
+        uber = uber;
+        shards = bad.shards;
+        found = bad.found;
+        body = body_before x y uber same bad.body;
+        reopened = bad.reopened;
+        over = subst (λ (h : Option Held). OpensAllOver rack area (limit_of (layout_of uber)) (group_of (kept_of uber)) (next_leaf_of uber) h leaves counts bad.shards) (taken_same x y same) bad.over;
+        together = bad.together;
+        bad = bad_by (HoldsCheck (group_of (kept_of uber)) (Some y)) (HoldsCheck (group_of (kept_of uber)) (Some x)) (check_before (group_of (kept_of uber))) bad.shards place kind bad.bad;
+      }
+
   pub pool_before : (group : ℕ) (name : List ℕ) (objects : ℕ) → FindsPool rack area (Some y) leaves counts group name objects → FindsPool rack area (Some x) leaves counts group name objects
   pool_before group name objects f =
       let r = f.read in
@@ -82,6 +103,7 @@ module _ {R A : Type 0} (rack : racks.Ghosts R) (area : areas.Ghosts A) (x y : H
           over = subst (λ (h : Option Held). OpensAllOver rack area (limit_of (layout_of uber)) (group_of (kept_of uber)) (next_leaf_of uber) h leaves counts f.shards) (taken_same x y same) r.over;
           together = r.together;
           blocks = r.blocks;
+          checked = checked_by (HoldsCheck (group_of (kept_of uber)) (Some y)) (HoldsCheck (group_of (kept_of uber)) (Some x)) (check_before (group_of (kept_of uber))) f.shards r.checked;
         };
         group_is = f.group_is;
         name_is = f.name_is;

@@ -48,7 +48,7 @@ use Rattle.draid_uber.specs.Slots.{group_of}
 use Rattle.draid_uber.specs.Uber as ubers
 use Rattle.draid_uber.specs.Uber.{kept_of, layout_of, next_leaf_of, version_of}
 use Rattle.draid_found.specs.Found.{AllLive, AreFound, AreReady}
-use Rattle.draid_import.specs.Found.{AnyRecordsRose, AreFreed, AreReopened, CountsLater, FreesAt, FreesOlder, FreesIfOlder, HaveLowLeaves, IsFoundUber, IsReopened, LeavesUber, OpensOver, RecordsRose, SameButFlushed, SameChecks, StaysHeld}
+use Rattle.draid_import.specs.Found.{AnyRecordsRose, AreFreed, AreReopened, CountsLater, FreesAt, FreesOlder, FreesIfOlder, HaveLowLeaves, IsFoundUber, IsReopened, LeavesUber, OpensOver, RecordsRose, SameButFlushed, StaysHeld}
 use Rattle.draid_pool.specs.Returning.{Returns, TakesBack}
 use Rattle.draid_uber.specs.Checks.{AreasTold}
 use Rattle.draid_pool.specs.Taking.{TakesFirst, TellsAreas, gives_areas, takes_areas}
@@ -139,46 +139,7 @@ areas_put taken o mid n was now even odd count count' takes gives is needs some_
   by (Some c) (Some e) (Some d) (Some x) (inl same) is = record { uber = inl (same ∙ is.uber); checks = is.checks; kits = λ m. refl }
   by (Some c) (Some e) (Some d) (Some x) (inr flushed) is = record { uber = inr (flushed ∙ ap (λ (z : Option content.Content). option_map content.flushes z) is.uber); checks = is.checks; kits = λ m. refl }
 
-pub checks_same : (o : Option shelf.Held) → SameChecks o o
-checks_same None = tt
-checks_same (Some x) = refl
-
-pub checks_more : (a b c : Option shelf.Held) → SameChecks a b → SameChecks b c → SameChecks a c
-checks_more a b None first more = tt
-checks_more a None (Some z) first more = absurd more
-checks_more None (Some y) (Some z) first more = absurd first
-checks_more (Some x) (Some y) (Some z) first more = more ∙ first
-
-pub checks_back : {R A : Type 0} (rack : racks.Ghosts R) (area : areas.Ghosts A) (shards : List (Shard R A)) (b c : Option shelf.Held) (before after : ℕ → shelf.KitCounts) → Returns rack area shards b c before after → SameChecks b c
-checks_back rack area shards b c before after r = by b c r.held
-  where
-    by : (o n : Option shelf.Held) → shelf.OnHeld n (λ y. MatchOption o ⊥ (λ x. TakesBack rack area shards x y)) → SameChecks o n
-    by o None held = tt
-    by None (Some y) held = absurd held
-    by (Some x) (Some y) held = held.checks
-
--- the devices of a metaslab are taken
-pub checks_taken : (m : ℕ) (o c : Option shelf.Held) → c ≡ shelf.takes_kit m o → SameChecks o c
-checks_taken m o c takes = subst (λ (z : Option shelf.Held). SameChecks o z) (sym takes) (by o)
-  where
-    by : (o : Option shelf.Held) → SameChecks o (shelf.takes_kit m o)
-    by None = tt
-    by (Some x) = refl
-
--- and put back
-pub checks_put : (m : ℕ) (kit : Option shelf.KitTold) (o b c : Option shelf.Held) → SameChecks o b → c ≡ shelf.gives_kit m kit b → SameChecks o c
-checks_put m kit o b c same gives = subst (λ (z : Option shelf.Held). SameChecks o z) (sym gives) (by kit o b same)
-  where
-    by : (k : Option shelf.KitTold) (o b : Option shelf.Held) → SameChecks o b → SameChecks o (shelf.gives_kit m k b)
-    by None o b same = tt
-    by (Some k) o None same = tt
-    by (Some k) None (Some y) same = absurd same
-    by (Some k) (Some x) (Some y) same = same
-
-pub checks_equal : (o c : Option shelf.Held) → c ≡ o → SameChecks o c
-checks_equal o c same = subst (λ (z : Option shelf.Held). SameChecks o z) (sym same) (checks_same o)
-
--- so counts that are the same
+-- counts that are the same
 pub counts_later : (before after : shelf.KitCounts) → after ≡ before → CountsLater before after
 counts_later before after same = record {
   rack = λ who. ap (λ (k : shelf.KitCounts). k.rack who) same;

@@ -26,6 +26,7 @@ use Rattle.draid_uber.specs.Uber.{FindsFault, kept_of, layout_of, next_leaf_of, 
 use Rattle.draid_uber.specs.declared.uber.Uber.{Uber}
 use Rattle.draid_uber.specs.declared.uber.UberFault.{UberFault}
 use Rattle.draid_uber.specs.declared.uber.UberFault.TheVariants as uber_why
+use Rattle.draid_import.specs.Checking.{NoCheck}
 use Rattle.draid_import.specs.Faulty.{HoldsNoGroup, IsUnread, TellsBody, UberIsBad}
 use Rattle.draid_import.specs.Found.{IsKitOf, IsShardFault, open_fault_of, shelf_fault_of, uber_fault_of}
 use Rattle.draid_pool.specs.Taking.{TakesFirst}
@@ -36,6 +37,10 @@ use Rattle.draid_pool.proofs.Takings.{from_first}
 -- the fault of an answer
 pub err_is : {T : Type 0} (f g : ImportFault) → IsErrOf {T = T} (Err f) g → f ≡ g
 err_is f g err = cc
+
+-- one of two answers
+pub passed_over : {T U : Type 0} (f w : ImportFault) → IsErrOf {T = T} (Err f) w → IsErrOf {T = U} (Err f) w
+passed_over f w err = (let same : f ≡ w = cc in ap Err same)
 
 -- one that is passed on
 pub passed_on : {T U : Type 0} (r : Result T ImportFault) (y f w : ImportFault) → r ≡ Err y → y ≡ f → IsErrOf r w → IsErrOf {T = U} (Err f) w
@@ -91,6 +96,33 @@ pub shelf_not_empty : (why : DeviceFault) → shelf_fault_of why ≡ fault.NoPoo
 shelf_not_empty device.Failed is = cc
 shelf_not_empty device.NoMemory is = cc
 
+-- nor is it one of the check record
+pub shelf_no_check : {T : Type 0} (why : DeviceFault) (f : ImportFault) → f ≡ shelf_fault_of why → NoCheck {T = T} (Err f)
+shelf_no_check {T} why f is = subst (λ (g : ImportFault). NoCheck {T = T} (Err g)) (sym is) (by why)
+  where
+    by : (why : DeviceFault) → NoCheck {T = T} (Err (shelf_fault_of why))
+    by device.Failed place kind err = absurd (cc)
+    by device.NoMemory place kind err = absurd (cc)
+
+pub uber_no_check : {T : Type 0} (why : UberFault) (f : ImportFault) → f ≡ uber_fault_of why → NoCheck {T = T} (Err f)
+uber_no_check {T} why f is = subst (λ (g : ImportFault). NoCheck {T = T} (Err g)) (sym is) (by why)
+  where
+    by : (why : UberFault) → NoCheck {T = T} (Err (uber_fault_of why))
+    by uber_why.Area place kind err = absurd (cc)
+    by uber_why.NoMemory place kind err = absurd (cc)
+    by uber_why.Empty place kind err = absurd (cc)
+    by (uber_why.Record p k) place kind err = absurd (cc)
+
+pub absent_no_check : {T : Type 0} → NoCheck {T = T} (Err fault.NoPool)
+absent_no_check place kind err = absurd (cc)
+
+pub shard_no_check : {T : Type 0} (why : ImportFault) → IsShardFault why → NoCheck {T = T} (Err why)
+shard_no_check fault.NoPool is place kind err = is
+shard_no_check (fault.Record m p k) is place kind err = absurd (cc)
+shard_no_check (fault.Check p k) is place kind err = is
+shard_no_check fault.Shelf is place kind err = absurd (cc)
+shard_no_check fault.NoMemory is place kind err = absurd (cc)
+
 -- nor does one behind the uberblock
 pub shard_not_empty : {T : Type 0} (why : ImportFault) → IsShardFault why → IsErrOf {T = T} (Err why) fault.NoPool → ⊥
 shard_not_empty {T} why is err = by why is (err_is {T = T} why fault.NoPool err)
@@ -98,6 +130,7 @@ shard_not_empty {T} why is err = by why is (err_is {T = T} why fault.NoPool err)
     by : (w : ImportFault) → IsShardFault w → w ≡ fault.NoPool → ⊥
     by fault.NoPool is same = is
     by (fault.Record metaslab place kind) is same = cc
+    by (fault.Check place kind) is same = is
     by fault.Shelf is same = cc
     by fault.NoMemory is same = cc
 

@@ -1,7 +1,7 @@
 -- What an import leaves that was refused behind the uberblock: the metaslabs that were opened are given back, and the others are as they were.
 use Rattle.std.proofs.Common.{arith, ◌≡◌, ◌<◌, ◌≤◌, ◌∙◌, ◌⊎◌, inl, inr, ℕ, List, [], Option, Some, None, Ok, Err, length, refl, sym, ap, subst}
 use Rattle.std.specs.declared.alloc.Global.{Global}
-use Rattle.std.specs.Prelude.{IsSome, IsSomeAnd, MatchOption, option_map, slice_get}
+use Rattle.std.specs.Prelude.{IsErrOf, IsSome, IsSomeAnd, MatchOption, option_map, slice_get}
 use Rattle.std.proofs.lemmas.Bool.{cases_eq, cases_lt}
 use Rattle.std.proofs.lemmas.Option.{slice_get_within}
 use Rattle.draid_names.specs.Faults.{Rose}
@@ -29,7 +29,8 @@ use Rattle.draid_uber.specs.Uber.{areas_of, count_of, kept_of, layout_of, next_l
 use Rattle.draid_uber.specs.declared.uber.Uber.{Uber}
 use Rattle.draid_session.specs.State.{Metaslab, State, limit_of}
 use Rattle.draid_pool.specs.Returning.{AllTell, RestsOn, Returns, ReturnsLeaves, TakesBack, areas_told, kit_in}
-use Rattle.draid_import.specs.Found.{AnyRecordsRose, AreReopened, CountsLater, HasRisen, IsFoundUber, IsRecovered, IsReopened, IsShardFault, KeepsKnown, LeavesShards, NoRecord, OpensAllOver, OpensOver, RecordsRose, StaysHeld}
+use Rattle.draid_import.specs.Checking.{NoCheck}
+use Rattle.draid_import.specs.Found.{AnyRecordsRose, AreReopened, CountsLater, HasRisen, IsFoundUber, IsRecovered, IsReopened, KeepsKnown, LeavesShards, NoRecord, OpensAllOver, OpensOver, RecordsRose, StaysHeld}
 use Rattle.draid_pool.specs.Importable.{HasImageLeaves}
 use Rattle.draid_import.specs.Imported.{FindsBody, OpensFound, RestsFound}
 use Rattle.draid_import.specs.Importing.{ImportIs, LeavesPool, RestsThere}
@@ -330,10 +331,11 @@ pub rests_known : (x : State) (pieces : ℕ → Pieces) (o : Option Held) (leave
     → RestsThere x pieces o now counts count
 rests_known x pieces o leaves now counts count same there = subst (λ (s : ℕ → Option Shape). RestsThere x pieces o s counts count) (sym (ext now leaves same)) there
 
--- a refusal that is neither a fault of what was asked for nor of a record
+-- a refusal that is neither that there is no pool, nor a fault of a record or of the check record
 pub refusal_is : {T R A : Type 0} (rack : racks.Ghosts R) (area : areas.Ghosts A) (x : State) (pieces : ℕ → Pieces) (told : Option Held) (leaves : ℕ → Option Shape) (counts : ℕ → KitCounts) (n : ℕ) (why : ImportFault)
-    → IsShardFault why → NoRecord {T = T} (Err why) → LeavesPool x pieces told leaves counts n → ImportIs rack area x pieces told leaves counts n (Err why)
-refusal_is rack area x pieces told leaves counts n fault.NoPool may no_record left = absurd may
-refusal_is rack area x pieces told leaves counts n (fault.Record metaslab place kind) may no_record left = absurd (no_record metaslab place kind refl)
-refusal_is rack area x pieces told leaves counts n fault.Shelf may no_record left = left
-refusal_is rack area x pieces told leaves counts n fault.NoMemory may no_record left = left
+    → (IsErrOf {T = T} (Err why) fault.NoPool → ⊥) → NoRecord {T = T} (Err why) → NoCheck {T = T} (Err why) → LeavesPool x pieces told leaves counts n → ImportIs rack area x pieces told leaves counts n (Err why)
+refusal_is rack area x pieces told leaves counts n fault.NoPool some no_record no_check left = absurd (some refl)
+refusal_is rack area x pieces told leaves counts n (fault.Record metaslab place kind) some no_record no_check left = absurd (no_record metaslab place kind refl)
+refusal_is rack area x pieces told leaves counts n (fault.Check place kind) some no_record no_check left = absurd (no_check place kind refl)
+refusal_is rack area x pieces told leaves counts n fault.Shelf some no_record no_check left = left
+refusal_is rack area x pieces told leaves counts n fault.NoMemory some no_record no_check left = left

@@ -124,6 +124,7 @@ module _ {P : Type 0} (geometry : Geometry) where
 finds_as : (P Q : Type 0) (f : ImportFault) → FindsNoPool {P = P} (Err f) → FindsNoPool {P = Q} (Err f)
 finds_as P Q fault.NoPool h = h
 finds_as P Q (fault.Record metaslab place kind) h = h
+finds_as P Q (fault.Check place kind) h = h
 finds_as P Q fault.Shelf h = h
 finds_as P Q fault.NoMemory h = h
 

@@ -3,6 +3,7 @@ pub mod Findings
 pub mod Flushed
 pub mod Found
 pub mod ImportAlike
+pub mod ImportCheck
 pub mod ImportEnd
 pub mod ImportFaulty
 pub mod ImportFound
@@ -24,6 +25,7 @@ pub mod ImportUnread
 pub mod ImportVersion
 pub mod Once
 pub mod OneAnswer
+pub mod OneCheck
 pub mod Opened
 pub mod Reopened
 pub mod Replied

@@ -53,36 +53,36 @@ use Rattle.draid_pool.proofs.Lists.{present}
 
 -- ---- the uberblock
 
-one_chosen : (o : Option Content) (p q : Option (Result UberBody RecordFault)) → IsSomeAnd o (λ c. chosen_of c.bytes ≡ p) → IsSomeAnd o (λ c. chosen_of c.bytes ≡ q) → p ≡ q
+pub one_chosen : (o : Option Content) (p q : Option (Result UberBody RecordFault)) → IsSomeAnd o (λ c. chosen_of c.bytes ≡ p) → IsSomeAnd o (λ c. chosen_of c.bytes ≡ q) → p ≡ q
 one_chosen None p q one other = absurd one
 one_chosen (Some c) p q one other = sym one ∙ other
 
-abbrev whole : UberBody → Option (Result UberBody RecordFault)
+abbrev pub whole : UberBody → Option (Result UberBody RecordFault)
 whole body = Some (Ok body)
 
-abbrev faulty : RecordFault → Option (Result UberBody RecordFault)
+abbrev pub faulty : RecordFault → Option (Result UberBody RecordFault)
 faulty why = Some (Err why)
 
 ok_same : (a b : UberBody) → whole a ≡ whole b → a ≡ b
 ok_same a b same = cc
 
-ok_err : (a : UberBody) (f : RecordFault) → whole a ≡ faulty f → ⊥
+pub ok_err : (a : UberBody) (f : RecordFault) → whole a ≡ faulty f → ⊥
 ok_err a f same = cc
 
 bad_same : (p : ℕ) (k : RecordFaultKind) (q : ℕ) (l : RecordFaultKind) → faulty (Bad p k) ≡ faulty (Bad q l) → (p ≡ q) × (k ≡ l)
 bad_same p k q l same = (cc, cc)
 
-none_chosen : (o : Option Content) (p : Result UberBody RecordFault) → OnTold o (λ c. chosen_of c.bytes ≡ None) → IsSomeAnd o (λ c. chosen_of c.bytes ≡ Some p) → ⊥
+pub none_chosen : (o : Option Content) (p : Result UberBody RecordFault) → OnTold o (λ c. chosen_of c.bytes ≡ None) → IsSomeAnd o (λ c. chosen_of c.bytes ≡ Some p) → ⊥
 none_chosen None p none some = some
 none_chosen (Some c) p none some = none_some (chosen_of c.bytes) p none some
 
 -- two uberblocks with the body that a shelf tells have one layout, one group and one next leaf
-record IsSameUber {A : Type 0} (u v : Uber A) : Type 0 where
-  layout : layout_of v ≡ layout_of u
-  group : group_of (kept_of v) ≡ group_of (kept_of u)
-  next : next_leaf_of v ≡ next_leaf_of u
+pub record IsSameUber {A : Type 0} (u v : Uber A) : Type 0 where
+  pub layout : layout_of v ≡ layout_of u
+  pub group : group_of (kept_of v) ≡ group_of (kept_of u)
+  pub next : next_leaf_of v ≡ next_leaf_of u
 
-one_uber : {A : Type 0} (area : areas.Ghosts A) (x : Held) (u v : Uber A) → IsFoundUber area u → IsFoundUber area v → TellsBody (Some x) u → TellsBody (Some x) v → IsSameUber u v
+pub one_uber : {A : Type 0} (area : areas.Ghosts A) (x : Held) (u v : Uber A) → IsFoundUber area u → IsFoundUber area v → TellsBody (Some x) u → TellsBody (Some x) v → IsSameUber u v
 one_uber area x u v found other t s =
     let body : s.body ≡ t.body = ok_same s.body t.body (one_chosen x.uber (Some (Ok s.body)) (Some (Ok t.body)) s.chosen t.chosen) in
     record {
@@ -105,11 +105,11 @@ counted_too a b same zero = refl
 counted_too a b same (suc n) = λ i. counted_too a b same n i + (if is_some (same n i) then 1 else 0)
 
 -- two shards have the arms and the blocks of one record
-record IsTwin {R A : Type 0} (s t : Shard R A) : Type 0 where
-  children : s.slots.geometry.spec.children ≡ t.slots.geometry.spec.children
-  arms : s.slots.arms ≡ t.slots.arms
-  «at» : (first : ℕ) → entry_at s.entries first ≡ entry_at t.entries first
-  place : s.blocks_at ≡ t.blocks_at
+pub record IsTwin {R A : Type 0} (s t : Shard R A) : Type 0 where
+  pub children : s.slots.geometry.spec.children ≡ t.slots.geometry.spec.children
+  pub arms : s.slots.arms ≡ t.slots.arms
+  pub «at» : (first : ℕ) → entry_at s.entries first ≡ entry_at t.entries first
+  pub place : s.blocks_at ≡ t.blocks_at
 
 module _ {R A : Type 0} where
   turned : (s t : Shard R A) → IsTwin s t → IsTwin t s
@@ -165,11 +165,11 @@ module _ {R A : Type 0} (rack : racks.Ghosts R) (area : areas.Ghosts A) (geometr
   known_is (Some s) a b is own = own ∙ (let same : s ≡ b = cc in same)
 
   -- a metaslab of this layout
-  record IsHere (m : ℕ) (shard : Shard R A) : Type 0 where
-    layout : shard.geometry ≡ geometry
-    number : shard.number ≡ m
-    slots : shard.slots.geometry ≡ geometry
-    over : OpensOver rack area (limit_of geometry) group next m (Some y) (leaves m) (counts m) shard
+  pub record IsHere (m : ℕ) (shard : Shard R A) : Type 0 where
+    pub layout : shard.geometry ≡ geometry
+    pub number : shard.number ≡ m
+    pub slots : shard.slots.geometry ≡ geometry
+    pub over : OpensOver rack area (limit_of geometry) group next m (Some y) (leaves m) (counts m) shard
 
   opened : (m : ℕ) (shard : Shard R A) → (h : IsHere m shard) → Says m (Ok h.over.opens.value)
   opened m shard h = record { kit = was.0; is_kit = was.1; shape = there.0; is_shape = there.1; says = read }
@@ -237,9 +237,9 @@ module _ {R A : Type 0} (rack : racks.Ghosts R) (area : areas.Ghosts A) (geometr
       value = ok_value h.over.opens.value j.over.opens.value (one_says m (Ok h.over.opens.value) (Ok j.over.opens.value) one (opened m t j))
 
   -- those that were opened
-  record AreHere (n : ℕ) (shards : List (Shard R A)) : Type 0 where
-    many : length shards ≡ n
-    each : (m : ℕ) (shard : Shard R A) → slice_get shards m ≡ Some shard → IsHere m shard
+  pub record AreHere (n : ℕ) (shards : List (Shard R A)) : Type 0 where
+    pub many : length shards ≡ n
+    pub each : (m : ℕ) (shard : Shard R A) → slice_get shards m ≡ Some shard → IsHere m shard
 
   not_refused : (n m : ℕ) (shards : List (Shard R A)) (metaslab : Option ℕ) (place : ℕ) (kind : RecordFaultKind) → AreHere n shards → m < n → IsUnread rack area geometry group next m (Some y) (leaves m) (counts m) metaslab place kind → ⊥
   not_refused n m shards metaslab place kind are below u =
@@ -256,7 +256,7 @@ module _ {R A : Type 0} (rack : racks.Ghosts R) (area : areas.Ghosts A) (geometr
       (u.metaslab_is ∙ sym v.metaslab_is, cc, cc)
 
   module _ (n : ℕ) (ss ts : List (Shard R A)) (are : AreHere n ss) (too : AreHere n ts) where
-    twin : (m : ℕ) (t : Shard R A) → slice_get ts m ≡ Some t → (s : Shard R A) × (slice_get ss m ≡ Some s) × IsTwin t s
+    pub twin : (m : ℕ) (t : Shard R A) → slice_get ts m ≡ Some t → (s : Shard R A) × (slice_get ss m ≡ Some s) × IsTwin t s
     twin m t there =
         let within = slice_get_within ts m t there in
         let many = are.many in
@@ -361,7 +361,7 @@ module _ {R A : Type 0} (rack : racks.Ghosts R) (area : areas.Ghosts A) (geometr
     over = over;
   }
 
-  all_here : (shards : List (Shard R A)) → AreReopened rack geometry group shards → OpensAllOver rack area (limit_of geometry) group next (Some y) leaves counts shards → AreHere geometry.props.metaslabs shards
+  pub all_here : (shards : List (Shard R A)) → AreReopened rack geometry group shards → OpensAllOver rack area (limit_of geometry) group next (Some y) leaves counts shards → AreHere geometry.props.metaslabs shards
   all_here shards are over = record { many = are.many; each = λ m shard there. here_is m shard are.perms (are.each m shard there) (over m shard there) }
 
   below_here : (a : Option ℕ) (p : ℕ) (k : RecordFaultKind) (u : Unread a p k) → AreHere u.m u.below
@@ -412,7 +412,7 @@ module _ {R A : Type 0} (rack : racks.Ghosts R) (area : areas.Ghosts A) (x : Hel
 
   module _ (known : KnowsLeaves x leaves) where
     -- what is said of one uberblock is said of the other
-    turns_bad : (u v : Uber A) (a : Option ℕ) (p : ℕ) (k : RecordFaultKind) → IsSameUber u v
+    pub turns_bad : (u v : Uber A) (a : Option ℕ) (p : ℕ) (k : RecordFaultKind) → IsSameUber u v
         → OneIsUnread rack area (layout_of v) (group_of (kept_of v)) (next_leaf_of v) (takes_areas (Some x)) leaves counts a p k ⊎ AreReadApart rack area (layout_of v) (group_of (kept_of v)) (next_leaf_of v) (takes_areas (Some x)) leaves counts a p k
         → OneIsUnread rack area (layout_of u) (group_of (kept_of u)) (next_leaf_of u) (takes_areas (Some x)) leaves counts a p k ⊎ AreReadApart rack area (layout_of u) (group_of (kept_of u)) (next_leaf_of u) (takes_areas (Some x)) leaves counts a p k
     turns_bad u v a p k same bad =

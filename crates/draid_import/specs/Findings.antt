@@ -21,6 +21,7 @@ use Rattle.draid_session.specs.Making.{vdev_name_of}
 use Rattle.draid_session.specs.State.{limit_of}
 use Rattle.draid_found.specs.Found.{AreFound}
 use Rattle.draid_found.specs.Together.{AreTogether}
+use Rattle.draid_import.specs.Checking.{HoldsCheck, IsChecked}
 use Rattle.draid_import.specs.Faulty.{TellsBody}
 use Rattle.draid_import.specs.Found.{AreFreed, AreReopened, IsFoundUber, IsRecovered, OpensAllOver, SameButFlushed}
 use Rattle.draid_import.specs.Imported.{AreNewest}
@@ -30,7 +31,7 @@ use Rattle.draid_pool.specs.Pools.{HasNames}
 -- ---- a pool
 
 -- What is read of a pool that a shelf holds: its uberblock names a group; each metaslab is opened from its record of the group, on what the shelf held for it; they
--- are those of one pool; and of each object there is the newest block.
+-- are those of one pool; of each object there is the newest block; and they have the blocks that the group's check record names.
 pub record IsRead {R A : Type 0} (rack : racks.Ghosts R) (area : areas.Ghosts A) (held : Option Held) (leaves : ℕ → Option Shape) (counts : ℕ → KitCounts) (uber : Uber A) (shards : List (Shard R A))
     (newest : ℕ → Option Pointer) (seq : ℕ) : Type 0 where
   pub found : IsFoundUber area uber
@@ -39,6 +40,7 @@ pub record IsRead {R A : Type 0} (rack : racks.Ghosts R) (area : areas.Ghosts A)
   pub over : OpensAllOver rack area (limit_of (layout_of uber)) (group_of (kept_of uber)) (next_leaf_of uber) (takes_areas held) leaves counts shards
   pub together : AreTogether shards (length shards)
   pub blocks : AreFound shards newest seq
+  pub checked : IsChecked (HoldsCheck (group_of (kept_of uber)) held) shards
 
 -- A pool is made of these: it has the uberblock's layout, and of the metaslabs' blocks just the newest of each object are live.
 pub record IsMadeOf {R A : Type 0} (rack : racks.Ghosts R) (shards : List (Shard R A)) (uber : Uber A) (newest : ℕ → Option Pointer) (seq : ℕ) (pool : Pool R A) : Type 0 where

@@ -50,10 +50,6 @@ use Rattle.draid_uber.specs.Uber as ubers
 
 -- ---- the shelf
 
--- where it is told, the areas of the check records are held as before
-abbrev pub SameChecks : Option shelf.Held → Option shelf.Held → Type 0
-SameChecks old new = shelf.OnHeld new (λ y. MatchOption old ⊥ (λ x. y.checks ≡ x.checks))
-
 -- a call on an area of a metaslab's records has failed since
 abbrev pub RecordsRose : shelf.KitCounts → shelf.KitCounts → Type 0
 RecordsRose before after = Rose before.even after.even ⊎ Rose before.odd after.odd
@@ -162,10 +158,11 @@ open_fault_of number open_fault.Area = fault.Shelf
 open_fault_of number open_fault.NoMemory = fault.NoMemory
 open_fault_of number (open_fault.Record place kind) = fault.Record (Some number) place kind
 
--- why metaslabs are not opened, or their blocks not found: neither of the faults of what was asked for
+-- why metaslabs are not opened, or their blocks not found: neither that there is no pool, nor its check record
 abbrev pub IsShardFault : ImportFault → Type 0
 IsShardFault fault.NoPool = ⊥
 IsShardFault (fault.Record metaslab place kind) = ⊤
+IsShardFault (fault.Check place kind) = ⊥
 IsShardFault fault.Shelf = ⊤
 IsShardFault fault.NoMemory = ⊤
 

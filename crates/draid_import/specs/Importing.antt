@@ -43,11 +43,12 @@ pub record FindsNone (x : State) (pieces : ℕ → Pieces) (told : Option Held) 
   pub is : FindsNoGroup x y
   pub rests : RestsThere y pieces told leaves counts uber_count
 
--- The answer. No record of such a pool has a fault.
+-- The answer. No record of such a pool has a fault, and neither has its check record.
 abbrev pub ImportIs : {R A : Type 0} → racks.Ghosts R → areas.Ghosts A → State → (ℕ → Pieces) → Option Held → (ℕ → Option Shape) → (ℕ → KitCounts) → ℕ → Result (Pool R A) ImportFault → Type 0
 ImportIs rack area x pieces told leaves counts uber_count (Ok pool) = ImportsPool rack area x pool
 ImportIs rack area x pieces told leaves counts uber_count (Err fault.NoPool) = FindsNone x pieces told leaves counts uber_count
 ImportIs rack area x pieces told leaves counts uber_count (Err (fault.Record metaslab place kind)) = ⊥
+ImportIs rack area x pieces told leaves counts uber_count (Err (fault.Check place kind)) = ⊥
 ImportIs rack area x pieces told leaves counts uber_count (Err fault.Shelf) = LeavesPool x pieces told leaves counts uber_count
 ImportIs rack area x pieces told leaves counts uber_count (Err fault.NoMemory) = LeavesPool x pieces told leaves counts uber_count
 
@@ -58,6 +59,7 @@ abbrev pub FindsNoPool : {P : Type 0} → Result P ImportFault → Type 0
 FindsNoPool (Ok pool) = ⊥
 FindsNoPool (Err fault.NoPool) = ⊤
 FindsNoPool (Err (fault.Record metaslab place kind)) = ⊥
+FindsNoPool (Err (fault.Check place kind)) = ⊥
 FindsNoPool (Err fault.Shelf) = ⊤
 FindsNoPool (Err fault.NoMemory) = ⊤
 

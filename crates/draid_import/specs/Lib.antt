@@ -1,3 +1,4 @@
+pub mod Checking
 pub mod Faulty
 pub mod Findings
 pub mod Found

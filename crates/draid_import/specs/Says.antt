@@ -21,6 +21,7 @@ use Rattle.draid_pool.specs.Shelves.{OnShelf}
 use Rattle.draid_pool.specs.Taking.{HoldsMade, IsAsBefore}
 use Rattle.draid_pool.specs.Whole.{IsWhole}
 use Rattle.draid_pool.specs.declared.pool.Pool.{Pool}
+use Rattle.draid_import.specs.Checking.{CheckIsBad}
 use Rattle.draid_import.specs.Faulty.{HoldsNoGroup, RecordIsBad}
 use Rattle.draid_import.specs.Findings.{IsReadPool}
 use Rattle.draid_import.specs.Found.{HasRisen}
@@ -39,6 +40,7 @@ pub record ImportGives {R A : Type 0} (rack : racks.Ghosts R) (area : areas.Ghos
   pub read : IfOk answer (IsReadPool rack area before.held before.leaves before.counts (own_count before.own))
   pub empty : IsErrOf answer fault.NoPool → HoldsNoGroup before.held
   pub faulty : (metaslab : Option ℕ) (place : ℕ) (kind : RecordFaultKind) → IsErrOf answer (fault.Record metaslab place kind) → RecordIsBad rack area before.held before.leaves before.counts metaslab place kind
+  pub check : (place : ℕ) (kind : RecordFaultKind) → IsErrOf answer (fault.Check place kind) → CheckIsBad rack area before.held before.leaves before.counts place kind
   pub imports : (x : State) (pieces : ℕ → Pieces) → RestsThere x pieces before.held before.leaves before.counts (own_count before.own) → ImportIs rack area x pieces now.held now.leaves now.counts (own_count now.own) answer
   pub tells : OnOk answer (is_some now.held ≡ is_some before.held)
   pub cause : IsErrOf answer fault.Shelf → HasRisen area before.held before.faults now.faults (own_count before.own) (own_count now.own) before.counts now.counts
@@ -70,6 +72,7 @@ IsUnopened fault.NoPool said = said ≡ Ok (replies.NoPool name.Import)
 IsUnopened fault.NoMemory said = said ≡ Ok (replies.NoMemory name.Import)
 IsUnopened fault.Shelf said = said ≡ Err stop.Shelf
 IsUnopened (fault.Record metaslab place kind) said = said ≡ Err (stop.Record metaslab place kind)
+IsUnopened (fault.Check place kind) said = said ≡ Err (stop.Check place kind)
 
 -- A reply is that of an answer, behind which the shelf held this. The pool that was found is open; or it was given back in want of memory for its name.
 abbrev pub IsImportReply : {R A : Type 0} → racks.Ghosts R → areas.Ghosts A → OnShelf → OnShelf → Option (Pool R A) → Result (Pool R A) ImportFault → Result Reply ImportStop → Type 0

@@ -14,6 +14,12 @@ pub enum ImportFault {
         at: u64,
         kind: RecordFaultKind,
     },
+    /// The check record of the group has its first fault at byte `at`: that of a field, or a block that it names and no metaslab
+    /// has, born up to the checkpoint.
+    Check {
+        at: u64,
+        kind: RecordFaultKind,
+    },
     /// The shelf failed.
     Shelf,
     NoMemory,

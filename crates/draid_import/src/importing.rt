@@ -1,5 +1,6 @@
 //! A pool is imported from what was given back to a shelf: its uberblock is found, each metaslab is opened from the
-//! record of the group that it names, and of each object the block with the greatest number counts.
+//! record of the group that it names, the check record of the group is read, and of each object the block with the greatest
+//! number counts.
 ghost use Rattle.std.specs.Prelude.{◌≡◌, ◌<◌, ◌≤◌, ◌+◌, ◌⊎◌, ◌↔◌, ℕ, None, Some, Err, IfErr, IfOk, IsErrOf, IsSome, IsSomeAnd, IsTrue, OnErr, OnOk, is_some, length, nat_eq, slice_get, Option};
 ghost use Rattle.std.specs.HashMap.{get};
 ghost use Rattle.draid_record.specs.declared.fault.RecordFaultKind.{RecordFaultKind};
@@ -15,21 +16,23 @@ ghost use Rattle.draid_shard.specs.Looks.{IsLive};
 ghost use Rattle.draid_shard.specs.Fits.{Valid};
 ghost use Rattle.draid_shard.specs.declared.shard.Shard.{Shard};
 ghost use Rattle.draid_uber.specs.Slots.{group_of};
-ghost use Rattle.draid_uber.specs.Uber.{kept_of, layout_of, next_leaf_of};
+ghost use Rattle.draid_uber.specs.Uber.{Valid as IsValidUber, count_of, kept_of, layout_of, next_leaf_of};
 ghost use Rattle.draid_segments.specs.Segments.{Pieces};
 ghost use Rattle.draid_session.specs.State.{State, limit_of};
+ghost use Rattle.draid_import.specs.Checking.{CheckIsBad, IsBadCheck, IsChecked, KeepsUber, NoCheck, OwnCheck};
 ghost use Rattle.draid_import.specs.Faulty.{HoldsNoGroup, IsUnread, OneIsUnread, RecordIsBad, TellsBody, UberIsBad};
 ghost use Rattle.draid_import.specs.Findings.{IsMadeOf, IsReadPool, LeavesAll};
 ghost use Rattle.draid_import.specs.Imported.{AreNewest, IsFoundOf};
 ghost use Rattle.draid_import.specs.Importing.{ImportIs, ImportsPool, LeavesMade, RestsThere};
 ghost use Rattle.draid_pool.specs.Shelves.{count_on};
 ghost use Rattle.draid_pool.specs.Taking.{HoldsMade, IsAsBefore, TakesFirst, takes_areas};
-ghost use Rattle.draid_import.specs.Found.{AnyRecordsRose, AreFreed, AreReopened, CountsLater, FreesIfOlder, FreesOlder, HasOnly, HaveLowLeaves, HasRisen, IsFoundUber, IsRecovered, IsReopened, IsShardFault, KeepsFound, KeepsFoundAt, KeepsKnown, LeavesShards, LeavesUber, NoRecord, OpensAllOver, OpensOver, RecordsRose, SameChecks, StaysHeld, shelf_fault_of, uber_fault_of, open_fault_of};
+ghost use Rattle.draid_import.specs.Found.{AnyRecordsRose, AreFreed, AreReopened, CountsLater, FreesIfOlder, FreesOlder, HasOnly, HaveLowLeaves, HasRisen, IsFoundUber, IsRecovered, IsReopened, IsShardFault, KeepsFound, KeepsFoundAt, KeepsKnown, LeavesShards, LeavesUber, NoRecord, OpensAllOver, OpensOver, RecordsRose, StaysHeld, shelf_fault_of, uber_fault_of, open_fault_of};
 ghost use Rattle.draid_found.specs.Found.{AllLive, AreFound, AreReady};
 ghost use Rattle.draid_found.specs.Together.{AreApart, AreTogether};
 ghost use Rattle.draid_pool.specs.Whole.{IsWhole};
 ghost use Rattle.draid_found.specs.declared.finding.Found.{Found};
 
+use crate::checking::check_blocks;
 use crate::fault::{ImportFault, OpenFault, OpenRefused};
 use crate::reopening::reopen;
 use draid_area::Area;
@@ -109,6 +112,7 @@ fn find_uber<H: Shelf>(alloc: Global, shelf: &mut H) -> Result<Uber<H::A>, Impor
         → IfErr result (λ why. ImportIs H.R.Rack H.A.Area x pieces (H.told shelf.new) (H.leaves shelf.new) (H.counts shelf.new) (count_on H.Shelf shelf.new) (Err why)) }
     ensures leaves { (m : ℕ) → H.leaves shelf.new m ≡ H.leaves shelf.old m }
     ensures faulty { (metaslab : Option ℕ) (place : ℕ) (kind : RecordFaultKind) → IsErrOf result (ImportFault.Record metaslab place kind) → UberIsBad (H.told shelf.old) metaslab place kind }
+    ensures check { NoCheck result }
     ensures none { OnHeld (H.told shelf.old) (λ held. held.uber ≡ None → IsErrOf result ImportFault.NoPool
         × IsAsBefore (H.told shelf.old) (H.told shelf.new) (H.counts shelf.old) (H.counts shelf.new)
         (record { uber = H.uber_count shelf.old; checks = H.check_counts shelf.old })
@@ -165,8 +169,6 @@ fn reopen_shard<H: Shelf>(
         → RestsThere x pieces held leaves counts count → IsRecovered H.A.Area held count uber.now → TakesFirst number (takes_areas held) (H.told shelf.old)
         → H.leaves shelf.old number ≡ leaves number → NoRecord result }
     ensures back_counts { OnErr result (CountsLater (H.counts shelf.old number) (H.counts shelf.new number)) }
-    ensures held { SameChecks (H.told shelf.old) (H.told shelf.new) }
-    ensures checks { H.check_counts shelf.new ≡ H.check_counts shelf.old }
     ensures counts { SameOthers number (H.counts shelf.old) (H.counts shelf.new) }
     ensures later { H.faults shelf.old ≤ H.faults shelf.new }
     ensures cause { IsErrOf result ImportFault.Shelf → Rose (H.faults shelf.old) (H.faults shelf.new) ⊎ RecordsRose (H.counts shelf.old number) (H.counts shelf.new number) }
@@ -214,8 +216,6 @@ fn reopen_shards<H: Shelf>(
     ensures faulty { (metaslab : Option ℕ) (place : ℕ) (kind : RecordFaultKind) → IsErrOf result (ImportFault.Record metaslab place kind)
         → OneIsUnread H.R.Rack H.A.Area (layout_of uber.now) (group_of (kept_of uber.now)) (next_leaf_of uber.now) (H.told shelf.old) (H.leaves shelf.old) (H.counts shelf.old) metaslab place kind }
     ensures fault { IfErr result IsShardFault }
-    ensures held { SameChecks (H.told shelf.old) (H.told shelf.new) }
-    ensures checks { H.check_counts shelf.new ≡ H.check_counts shelf.old }
     ensures later { H.faults shelf.old ≤ H.faults shelf.new }
     ensures cause { IsErrOf result ImportFault.Shelf → Rose (H.faults shelf.old) (H.faults shelf.new) ⊎ AnyRecordsRose (layout_of uber.now).props.metaslabs (H.counts shelf.old) (H.counts shelf.new) }
 {
@@ -256,6 +256,37 @@ fn find_blocks<R: Rack, A: Area>(
             kind,
         }),
         Err(FoundFault::NoMemory) => Err(ImportFault::NoMemory),
+    }
+}
+
+/// What the records of all metaslabs say of the objects, where the check record goes with them.
+fn find_all<R: Rack, A: Area>(
+    alloc: Global,
+    shards: &[Shard<R, A>],
+    uber: &mut Uber<A>,
+) -> Result<Found, ImportFault>
+    requires ready { AreReady R.Rack shards.now }
+    requires valid { IsValidUber A.size uber.old }
+    ensures same { KeepsUber A.Area uber.old uber.new }
+    ensures found { IfOk result (λ found. AreFound shards.now (get nat_eq found.newest) found.seq) }
+    ensures together { OnOk result (AreTogether shards.now (length shards.now)) }
+    ensures checked { OnOk result (IsChecked (OwnCheck A.Area uber.old) shards.now) }
+    ensures faulty { (metaslab : Option ℕ) (place : ℕ) (kind : RecordFaultKind) → IsErrOf result (ImportFault.Record metaslab place kind) → AreApart shards.now metaslab place kind }
+    ensures check { (place : ℕ) (kind : RecordFaultKind) → IsErrOf result (ImportFault.Check place kind)
+        → AreTogether shards.now (length shards.now) × IsBadCheck (OwnCheck A.Area uber.old) shards.now place kind }
+    ensures cause { IsErrOf result ImportFault.Shelf → Rose (count_of A.faults uber.old) (count_of A.faults uber.new) }
+    // No check record of a pool that rests on a shelf has a fault.
+    ensures none { (x : State) (pieces : ℕ → Pieces) (held : Option Held) (leaves : ℕ → Option Shape) (counts : ℕ → KitCounts) (count : ℕ)
+        → RestsThere x pieces held leaves counts count → IsFoundUber A.Area uber.old → IsRecovered A.Area held count uber.old → NoCheck result }
+    ensures some { IsErrOf result ImportFault.NoPool → ⊥ }
+{
+    let found = match find_blocks(alloc, shards) {
+        Ok(found) => found,
+        Err(fault) => return Err(fault),
+    };
+    match check_blocks(alloc, shards, uber) {
+        Ok(()) => Ok(found),
+        Err(fault) => Err(fault),
     }
 }
 
@@ -374,12 +405,14 @@ pub fn import<H: Shelf>(alloc: Global, shelf: &mut H) -> Result<Pool<H::R, H::A>
     ensures empty { IsErrOf result ImportFault.NoPool → HoldsNoGroup (H.told shelf.old) }
     ensures faulty { (metaslab : Option ℕ) (place : ℕ) (kind : RecordFaultKind) → IsErrOf result (ImportFault.Record metaslab place kind)
         → RecordIsBad H.R.Rack H.A.Area (H.told shelf.old) (H.leaves shelf.old) (H.counts shelf.old) metaslab place kind }
+    ensures check { (place : ℕ) (kind : RecordFaultKind) → IsErrOf result (ImportFault.Check place kind)
+        → CheckIsBad H.R.Rack H.A.Area (H.told shelf.old) (H.leaves shelf.old) (H.counts shelf.old) place kind }
     ensures back { OnErr result (LeavesAll H.A.Area (H.told shelf.old) (H.told shelf.new) (H.counts shelf.old) (H.counts shelf.new) (count_on H.Shelf shelf.old) (count_on H.Shelf shelf.new)) }
     ensures tells { OnOk result (is_some (H.told shelf.new) ≡ is_some (H.told shelf.old)) }
     ensures later { H.faults shelf.old ≤ H.faults shelf.new }
     ensures cause { IsErrOf result ImportFault.Shelf → HasRisen H.A.Area (H.told shelf.old) (H.faults shelf.old) (H.faults shelf.new) (count_on H.Shelf shelf.old) (count_on H.Shelf shelf.new) (H.counts shelf.old) (H.counts shelf.new) }
 {
-    let uber = find_uber(alloc, shelf)?;
+    let mut uber = find_uber(alloc, shelf)?;
     let shards = match reopen_shards(alloc, shelf, &uber) {
         Ok(shards) => shards,
         Err(fault) => {
@@ -387,7 +420,7 @@ pub fn import<H: Shelf>(alloc: Global, shelf: &mut H) -> Result<Pool<H::R, H::A>
             return Err(fault);
         }
     };
-    match find_blocks(alloc, &shards) {
+    match find_all(alloc, &shards, &mut uber) {
         Ok(found) => Ok(pool_of(alloc, shards, uber, found)),
         Err(fault) => {
             give_back(shelf, shards);

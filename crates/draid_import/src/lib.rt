@@ -3,6 +3,7 @@
 
 #![tactic(auto)]
 
+mod checking;
 mod fault;
 mod importing;
 mod laws;

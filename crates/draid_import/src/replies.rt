@@ -27,6 +27,11 @@ pub enum ImportStop {
         at: u64,
         kind: RecordFaultKind,
     },
+    /// The first fault of the check record begins at byte `at`.
+    Check {
+        at: u64,
+        kind: RecordFaultKind,
+    },
 }
 
 /// What an import replies that opens no pool, or why it has no reply.
@@ -44,6 +49,7 @@ fn unopened(fault: ImportFault) -> Result<Reply, ImportStop>
         ImportFault::Record { metaslab, at, kind } => {
             Err(ImportStop::Record { metaslab, at, kind })
         }
+        ImportFault::Check { at, kind } => Err(ImportStop::Check { at, kind }),
     }
 }
 

@@ -73,7 +73,7 @@ done_code SinkFault is = absurd (cc is)
 done_code NoMemory is = absurd (cc is)
 done_code (TooLong line) is = absurd (cc is)
 done_code ShelfFault is = absurd (cc is)
-done_code (Record metaslab at kind) is = absurd (cc is)
+done_code (Record which at kind) is = absurd (cc is)
 
 -- ---- folders
 

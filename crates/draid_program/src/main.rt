@@ -49,13 +49,5 @@ fn main(rt: HostRuntime) -> ExitCode {
         { first_free(slot, logged, free) },
     );
     let words = words_or_fault(&rt);
-    run_program(
-        &rt,
-        &rt,
-        words,
-        &mut source,
-        &mut sink,
-        &chooser,
-        &policy,
-    )
+    run_program(&rt, &rt, words, &mut source, &mut sink, &chooser, &policy)
 }

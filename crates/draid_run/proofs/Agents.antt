@@ -48,9 +48,9 @@ use Rattle.draid_run.specs.declared.answer.Stop.TheVariants as stop
 use Rattle.draid_run.proofs.Steps.{ask_breaks, broke_open, still_out}
 
 -- what is behind the same entries is the same
-same_behind : (past as bs : List Entry) → past ++ as ≡ past ++ bs → as ≡ bs
-same_behind [] as bs is = is
-same_behind (e ∷ past) as bs is = same_behind past as bs (rest e e (past ++ as) (past ++ bs) is)
+same_behind : (past cs bs : List Entry) → past ++ cs ≡ past ++ bs → cs ≡ bs
+same_behind [] cs bs is = is
+same_behind (e ∷ past) cs bs is = same_behind past cs bs (rest e e (past ++ cs) (past ++ bs) is)
   where
     rest : (a b : Entry) (xs ys : List Entry) → a ∷ xs ≡ b ∷ ys → xs ≡ ys
     rest a b xs ys same = cc same
@@ -87,7 +87,7 @@ module _ (geometry : Geometry) (perms : Perms) (spare : ℕ → ℕ → List ℕ
   any_then : (P Q : List Hold → End → Type 0) → ((holds : List Hold) (end : End) → P holds end → Q holds end) → (did : Did) (slot : ℕ) (holds : List Hold) (end : End) → agent.AttachesThen geometry perms spare did slot P holds end
       → agent.AttachesThen geometry perms agent.AnySpare did slot Q holds end
   any_then P Q f dids.NoneFree slot holds end comes = f holds end comes
-  any_then P Q f (dids.Spared number) slot holds end comes = elim comes [ | inl c ↦ inl (c.0, c.1, c.2, c.3, f c.1 end c.4) | inr c ↦ inr c ]
+  any_then P Q f (dids.Spared number) slot holds end comes = elim comes [ inl c ↦ inl (c.0, c.1, c.2, c.3, f c.1 end c.4) | inr c ↦ inr c ]
 
   any_comes : (entries : List Entry) (holds : List Hold) (end : End) → agent.AttachesAll geometry perms spare entries holds end → agent.AttachesAll geometry perms agent.AnySpare entries holds end
   any_comes [] holds end comes = comes

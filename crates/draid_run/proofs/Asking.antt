@@ -91,7 +91,7 @@ module _ {R A : Type 0} (rack : racks.Ghosts R) (area : areas.Ghosts A) (choices
       subst (AnswerIs rack area choices past past command entry now pool x now new) (sym said) (unbuilt did.0, refl, did.1)
   answer_ask (Err stop.Shelf) result said did =
       subst (AnswerIs rack area choices past past command entry now pool x now new) (sym said) (ask_breaks rack area entry now now command x pool new is did.2, asked_built command did.0 did.1)
-  answer_ask (Err (stop.Record metaslab place kind)) result said did = absurd did
+  answer_ask (Err (stop.Record which place kind)) result said did = absurd did
 
 -- an empty line, or a comment
 pub turned_silent : {R A : Type 0} (rack : racks.Ghosts R) (area : areas.Ghosts A) (choices : Choices) (past : List Entry) (entry now : OnShelf) (pool : Option (Pool R A)) (x : Desk) (line : Line) → line ≡ variant.Nothing
@@ -108,7 +108,7 @@ module _ {R A : Type 0} (rack : racks.Ghosts R) (area : areas.Ghosts A) (choices
       subst (AnswerIs rack area choices past past (CreatePool text children keys) entry before pool x now new) (sym said) (by_create rack area choices entry now text children keys x reply new did, ([], refl, sym (append-nil past)), tt, λ none. none)
   answer_create (Err stop.Shelf) result said did = subst (AnswerIs rack area choices past past (CreatePool text children keys) entry before pool x now new) (sym said) (did, λ none. none)
   answer_create (Err stop.Unbuilt) result said did = absurd did
-  answer_create (Err (stop.Record metaslab place kind)) result said did = absurd did
+  answer_create (Err (stop.Record which place kind)) result said did = absurd did
 
 -- what is so of each reply is so of that of an answer
 pub each_reply : (result : Result Reply Failed) (P : Reply → Type 0) → ((reply : Reply) → P reply) → IfOk result P

@@ -55,8 +55,8 @@ ends_at : (lines : List (List ℕ)) (ended : Status) (broken : Option (List ℕ)
     → EndsAt lines ended broken saids b last
 ends_at lines ShelfFault None saids mid last b keeps agrees off = absurd off
 ends_at lines ShelfFault (Some text) saids mid last b keeps agrees off = shelf_breaks lines text saids mid last b keeps agrees off
-ends_at lines (Record metaslab at kind) None saids mid last b keeps agrees off = absurd off
-ends_at lines (Record metaslab at kind) (Some text) saids mid last b keeps agrees off = absurd (no_record lines text saids mid last b keeps off)
+ends_at lines (Record which at kind) None saids mid last b keeps agrees off = absurd off
+ends_at lines (Record which at kind) (Some text) saids mid last b keeps agrees off = absurd (no_record lines text saids mid last b keeps off)
 ends_at lines NoMemory (Some text) saids mid last b keeps agrees off = absurd (no_record lines text saids mid last b keeps off)
 ends_at lines ended None saids mid last b keeps agrees off = goes_through lines ended saids mid last b keeps tt off.0 off.1
 ends_at lines ended (Some text) saids mid last b keeps agrees off = absurd off

@@ -140,7 +140,7 @@ module _ {R A : Type 0} (rack : racks.Ghosts R) (area : areas.Ghosts A) (choices
     answer_export (Ok reply) result said did = subst (AnswerIs rack area choices past past ExportPool entry before pool x now new) (sym said) (by_export x reply new did, ([], refl, sym (append-nil past)), tt, λ none. none)
     answer_export (Err stop.Shelf) result said did = subst (AnswerIs rack area choices past past ExportPool entry before pool x now new) (sym said) (export_breaks x new did, λ none. none)
     answer_export (Err stop.Unbuilt) result said did = absurd did
-    answer_export (Err (stop.Record metaslab place kind)) result said did = absurd did
+    answer_export (Err (stop.Record which place kind)) result said did = absurd did
 
 -- ---- the pool is given back, or stays open
 

@@ -132,9 +132,12 @@ module _ {R A : Type 0} (rack : racks.Ghosts R) (area : areas.Ghosts A) (room : 
       → PoolDid rack area (choices_with room spare) command called x reply new
   did_with called is (Open x) reply None did = did
   did_with called is (Foreign known) reply None did = did
-  did_with called is (Open x) reply (Some pool) did =
-      (did.0, did.1, carries_so rack area pool x (ReplyDoes x (choices_by room) command reply) (ReplyDoes x (choices_with room spare) command reply) did.2
-      (λ holds store done. with_spare room spare x.geometry x.perms command called is x.store holds reply store done))
+  did_with called is (Open x) reply (Some pool) did = (
+    did.0,
+    did.1,
+    carries_so rack area pool x (ReplyDoes x (choices_by room) command reply) (ReplyDoes x (choices_with room spare) command reply) did.2
+        (λ holds store done. with_spare room spare x.geometry x.perms command called is x.store holds reply store done),
+  )
   did_with called is (Foreign known) reply (Some pool) did = did
   did_with called is Untouched reply new did = did
   did_with called is Bare reply new did = did

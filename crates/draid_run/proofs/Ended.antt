@@ -9,6 +9,7 @@ use Rattle.draid_session.specs.Said.{Said}
 use Rattle.draid_session.specs.Choices.{Choices}
 use Rattle.draid_session.specs.Session.{Desk, Untouched, Bare, Made, Open, Shut, Foreign, Unknown, left_of}
 use Rattle.draid_pool.specs.declared.pool.Pool.{Pool}
+use Rattle.draid_run.specs.declared.status.RecordName.{RecordName}
 use Rattle.draid_run.specs.Desks.{IsDesk, LeavesDesk}
 use Rattle.draid_run.specs.Script.{all_replies, BreaksOff, Ends, EndsWithLine, Fails, FailsShut, GetsReplies, IsSession, Prints, RunsFrom, Shows}
 use Rattle.draid_run.specs.Serve.{Served}
@@ -30,8 +31,8 @@ ends_short (Line line kind at) None saids mid last lines input number breaks end
 ends_short (Line line kind at) (Some text) saids mid last lines input number breaks ends = absurd breaks
 ends_short (TooLong line) None saids mid last lines input number breaks ends = (lines_of ends.0, ends.1)
 ends_short (TooLong line) (Some text) saids mid last lines input number breaks ends = absurd breaks
-ends_short (Record metaslab place kind) None saids mid last lines input number breaks ends = absurd breaks
-ends_short (Record metaslab place kind) (Some text) saids mid last lines input number breaks ends = ends
+ends_short (Record which place kind) None saids mid last lines input number breaks ends = absurd breaks
+ends_short (Record which place kind) (Some text) saids mid last lines input number breaks ends = ends
 ends_short Done broken saids mid last lines input number breaks ends = absurd number
 ends_short Usage broken saids mid last lines input number breaks ends = absurd number
 ends_short SourceFault broken saids mid last lines input number breaks ends = absurd number
@@ -49,8 +50,8 @@ breaks_short lines (Line line kind at) None saids mid last number breaks = break
 breaks_short lines (Line line kind at) (Some text) saids mid last number breaks = absurd breaks
 breaks_short lines (TooLong line) None saids mid last number breaks = breaks
 breaks_short lines (TooLong line) (Some text) saids mid last number breaks = absurd breaks
-breaks_short lines (Record metaslab place kind) None saids mid last number breaks = absurd breaks
-breaks_short lines (Record metaslab place kind) (Some text) saids mid last number breaks = breaks
+breaks_short lines (Record which place kind) None saids mid last number breaks = absurd breaks
+breaks_short lines (Record which place kind) (Some text) saids mid last number breaks = breaks
 breaks_short lines Done broken saids mid last number breaks = absurd number
 breaks_short lines Usage broken saids mid last number breaks = absurd number
 breaks_short lines SourceFault broken saids mid last number breaks = absurd number
@@ -61,7 +62,7 @@ breaks_short lines ShelfFault broken saids mid last number breaks = absurd numbe
 shows_short : (ended : Status) (replies : List (List Said)) (shown : List Said) → HasNumber ended → Shows ended replies shown → Shows NoMemory replies shown
 shows_short (Line line kind at) replies shown number shows = inl shows
 shows_short (TooLong line) replies shown number shows = inl shows
-shows_short (Record metaslab place kind) replies shown number shows = inl shows
+shows_short (Record which place kind) replies shown number shows = inl shows
 shows_short Done replies shown number shows = absurd number
 shows_short Usage replies shown number shows = absurd number
 shows_short SourceFault replies shown number shows = absurd number
@@ -72,7 +73,7 @@ shows_short ShelfFault replies shown number shows = absurd number
 gets_short : (ended : Status) (shown : List Said) (old new : Option (List ℕ)) → HasNumber ended → GetsReplies ended shown old new → GetsReplies NoMemory shown old new
 gets_short (Line line kind at) shown old new number gets = gets
 gets_short (TooLong line) shown old new number gets = gets
-gets_short (Record metaslab place kind) shown old new number gets = gets
+gets_short (Record which place kind) shown old new number gets = gets
 gets_short Done shown old new number gets = absurd number
 gets_short Usage shown old new number gets = absurd number
 gets_short SourceFault shown old new number gets = absurd number
@@ -106,9 +107,9 @@ not_fault : (meant : Status) → (meant ≡ Usage) ⊎ (meant ≡ NoMemory) → 
 not_fault meant (inl usage) is = (let e = sym usage ∙ is in cc e)
 not_fault meant (inr none) is = (let e = sym none ∙ is in cc e)
 
-not_bad : (meant : Status) → (meant ≡ Usage) ⊎ (meant ≡ NoMemory) → (metaslab : Option ℕ) (place : ℕ) (kind : RecordFaultKind) → meant ≡ Record metaslab place kind → ⊥
-not_bad meant (inl usage) metaslab place kind is = (let e = sym usage ∙ is in cc e)
-not_bad meant (inr none) metaslab place kind is = (let e = sym none ∙ is in cc e)
+not_bad : (meant : Status) → (meant ≡ Usage) ⊎ (meant ≡ NoMemory) → (which : RecordName) (place : ℕ) (kind : RecordFaultKind) → meant ≡ Record which place kind → ⊥
+not_bad meant (inl usage) which place kind is = (let e = sym usage ∙ is in cc e)
+not_bad meant (inr none) which place kind is = (let e = sym none ∙ is in cc e)
 
 -- a line of an input that makes leaves
 may_make : (input : Option (List ℕ)) (broken : Option (List ℕ)) (lines : List (List ℕ)) → MatchOption input ⊤ (Ends ShelfFault broken lines) → MakesLeavesAt lines broken → MayMakeLeaves input
@@ -145,7 +146,7 @@ module _ {R A : Type 0} (rack : racks.Ghosts R) (area : areas.Ghosts A) (choices
     prints = gets_short ended is.shown start held number is.prints;
     failed = λ e. absurd (cc e);
     since = λ e. absurd (cc e);
-    bad = λ metaslab place kind e. absurd (cc e);
+    bad = λ which place kind e. absurd (cc e);
     firm = is.firm;
     built = is.built;
   }
@@ -230,7 +231,7 @@ module _ {R A : Type 0} (rack : racks.Ghosts R) (area : areas.Ghosts A) (choices
       tells = refl;
       firm = λ rest came. absurd (cc came);
       failed = λ e. absurd (not_fault meant refused e);
-      bad = λ metaslab place kind e. absurd (not_bad meant refused metaslab place kind e);
+      bad = λ which place kind e. absurd (not_bad meant refused which place kind e);
     }
     | inr none ↦ absurd (plain none.1)
   ]

@@ -109,8 +109,8 @@ module _ {R A : Type 0} (rack : racks.Ghosts R) (area : areas.Ghosts A) (choices
   by_end SinkFault broken lines saids mid last quiet usage breaks ends = quiet.sink refl
   by_end NoMemory broken lines saids mid last quiet usage breaks ends = quiet.memory refl
   by_end ShelfFault broken lines saids mid last quiet usage breaks ends = quiet.shelf refl
-  by_end (Record metaslab place kind) None lines saids mid last quiet usage breaks ends = absurd breaks
-  by_end (Record metaslab place kind) (Some text) lines saids mid last quiet usage breaks ends = untold_by mid last breaks.command breaks.breaks
+  by_end (Record which place kind) None lines saids mid last quiet usage breaks ends = absurd breaks
+  by_end (Record which place kind) (Some text) lines saids mid last quiet usage breaks ends = untold_by mid last breaks.command breaks.breaks
 
   pub ends_well : (status : Status) (old new : Option (List ℕ)) (entry now : OnShelf) (first : Desk) → (it : RunsFrom rack area choices words status (Some input) old new entry now first) → IsUndisturbed status → EndsWell status it.session.mid
   ends_well status old new entry now first it quiet =

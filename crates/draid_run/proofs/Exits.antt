@@ -58,7 +58,7 @@ IsBlameless NoMemory = ⊤
 IsBlameless Done = ⊤
 IsBlameless (Line line kind at) = ⊤
 IsBlameless (TooLong line) = ⊤
-IsBlameless (Record metaslab place kind) = ⊤
+IsBlameless (Record which place kind) = ⊤
 
 pub blameless : (P : Type 0) (ended status : Status) → IsBlameless ended → ended ≡ status → (IsBlameless status → ⊥) → P
 blameless P ended status none is device = absurd (device (subst IsBlameless is none))
@@ -98,7 +98,7 @@ module _ (P : Type 0) where
   pub stop_cause : (number : ℕ) (why : Stop) (status : Status) → status ≡ status_of number why → stopped status ≡ stopped SinkFault → P
   stop_cause number stop.Unbuilt status is sink = absurd (cc (is, sink))
   stop_cause number stop.Shelf status is sink = absurd (cc (is, sink))
-  stop_cause number (stop.Record metaslab place kind) status is sink = absurd (cc (is, sink))
+  stop_cause number (stop.Record which place kind) status is sink = absurd (cc (is, sink))
 
 -- a line was answered, and by so much the journal was longer behind it
 abbrev pub Answered : {R A : Type 0} → racks.Ghosts R → areas.Ghosts A → Choices → List Entry → List Entry → OnShelf → OnShelf → Option (Pool R A) → Desk → List Said → OnShelf → Option (Pool R A) → Result Command LineFault → Type 0
@@ -120,14 +120,14 @@ module _ {R A : Type 0} (rack : racks.Ghosts R) (area : areas.Ghosts A) (choices
   line_told (Err SourceFault) it prints = absurd prints
   line_told (Err (TooLong line)) it prints = absurd prints
   line_told (Err ShelfFault) it prints = absurd prints
-  line_told (Err (Record metaslab place kind)) it prints = absurd prints
+  line_told (Err (Record which place kind)) it prints = absurd prints
 
 -- a line has no reply, and the run ends
 module _ {R A : Type 0} (rack : racks.Ghosts R) (area : areas.Ghosts A) (choices : Choices) (past after : List Entry) (number : ℕ) (text : List ℕ) (entry before : OnShelf) (pool : Option (Pool R A)) (x : Desk) (now : OnShelf) (pool' : Option (Pool R A)) (held : Option (List ℕ)) (command : Command) (line : line_of text ≡ Ok command) where
   by_stop : (why : Stop) → AnswerIs rack area choices past after command entry before pool x now pool' (Err why) → LineIs rack area choices past after number text entry before pool x now pool' held held (Err (status_of number why))
   by_stop stop.Unbuilt answered = (subst (λ r. LineFaultIs r refusal.Unbuilt 0) (sym line) (answered.0, refl, refl), answered.1, answered.2, refl, refl)
   by_stop stop.Shelf answered = (refl, record { command = command; line = line; built = answered.1; broken = answered.0 })
-  by_stop (stop.Record metaslab place kind) answered = (refl, record { command = command; line = line; built = answered.2; broken = answered.0 }, answered.1)
+  by_stop (stop.Record which place kind) answered = (refl, record { command = command; line = line; built = answered.2; broken = answered.0 }, answered.1)
 
   pub line_stopped : (why : Stop) (status : Status) → status ≡ status_of number why → AnswerIs rack area choices past after command entry before pool x now pool' (Err why)
       → LineIs rack area choices past after number text entry before pool x now pool' held held (Err status)

@@ -1,10 +1,11 @@
 -- An import, in the words of a session.
 use Rattle.std.proofs.Common.{◌≡◌, ◌≤◌, ◌∙◌, ◌⊎◌, inl, inr, refl, sym, ap, subst, ℕ, List, Bool, true, false, [], ◌∷◌, Option, Some, None, Result, Ok, Err, String, Global}
-use Rattle.std.specs.Prelude.{IfOk, IsErrOf, IsSomeAnd, OnOk, is_some, nat_eq, string_bytes}
+use Rattle.std.specs.Prelude.{⊤, IfOk, IsErrOf, IsSomeAnd, OnOk, is_some, nat_eq, string_bytes}
 use Rattle.std.specs.HashMap.{get}
 use Rattle.std.proofs.lemmas.List.{append-nil}
 use Rattle.draid_names.specs.declared.journal.Entry.{Entry}
 use Rattle.draid_record.specs.declared.fault.RecordFaultKind.{RecordFaultKind}
+use Rattle.draid_rack.specs.Rack.{Shape}
 use Rattle.draid_rack.specs.declared.Rack as racks
 use Rattle.draid_area.specs.declared.Area as areas
 use Rattle.draid_spec.specs.declared.layout.Geometry.{Geometry}
@@ -25,7 +26,7 @@ use Rattle.draid_session.specs.Known.{nothing_known}
 use Rattle.draid_session.specs.Session.{BreaksGiven, Cause, Desk, Untouched, Bare, Made, Open, Shut, Foreign, Unknown, FindsAny, FindsGiven, FindsGivenIf, LeavesState, RecordFails, ShelfFails, TurnsBy}
 use Rattle.draid_session.specs.State.{State}
 use Rattle.draid_pool.specs.Returning.{GivesBack, HoldsPool, Rests, own_count}
-use Rattle.draid_import.specs.Faulty.{HoldsNoGroup}
+use Rattle.draid_import.specs.Faulty.{HoldsNoGroup, RecordIsBad}
 use Rattle.draid_import.specs.Findings.{FindsPool, IsReadPool}
 use Rattle.draid_pool.specs.Pools.{HasNames, group_in, Represents}
 use Rattle.draid_pool.specs.Importable.{IsImportable}
@@ -41,7 +42,7 @@ use Rattle.draid_pool.specs.declared.pool.Pool.{Pool}
 use Rattle.draid_run.specs.Desks.{Broken, IsDesk, IsPool, IsShelf, Turned}
 use Rattle.draid_import.specs.Says.{ImportGives, ImportSays, IsImportReply, IsTold, IsUnopened}
 use Rattle.draid_import.specs.declared.replies.ImportStop.{ImportStop}
-use Rattle.draid_run.specs.Importing.{ImportDid, ImportDoes, ImportIs, given_by}
+use Rattle.draid_run.specs.Importing.{ImportDid, ImportDoes, ImportIs, given_by, name_of}
 use Rattle.draid_run.specs.Serve.{AnswerIs, IsSaid}
 use Rattle.draid_create.specs.Says.{IsSame}
 use Rattle.draid_pool.specs.Shelves.{OnShelf}
@@ -178,10 +179,46 @@ pub none_open : {T : Type 0} (o : Option T) → is_some o ≡ false → o ≡ No
 none_open None is = refl
 none_open (Some t) is = absurd (cc is)
 
--- the fault by other names of its place
-pub fault_named : {R A : Type 0} (rack : racks.Ghosts R) (area : areas.Ghosts A) (before : OnShelf) (m m' : Option ℕ) (p p' : ℕ) (k k' : RecordFaultKind) → m' ≡ m → p' ≡ p → k' ≡ k → HoldsFault rack area before m p k → HoldsFault rack area before m' p' k'
-fault_named rack area before m m' p p' k k' same_m same_p same_k fault =
-    subst (λ z. HoldsFault rack area before z p' k') (sym same_m) (subst (λ z. HoldsFault rack area before m z k') (sym same_p) (subst (λ z. HoldsFault rack area before m p z) (sym same_k) fault))
+-- ---- the fault of a record
+
+-- it is one of a metaslab's record or of the uberblock, or of the check record
+abbrev IsBadRecord : ImportFault → Type 0
+IsBadRecord fault.NoPool = ⊥
+IsBadRecord (fault.Record metaslab place kind) = ⊤
+IsBadRecord (fault.Check place kind) = ⊤
+IsBadRecord fault.Shelf = ⊥
+IsBadRecord fault.NoMemory = ⊥
+
+-- then there is a pool
+bad_some : (why : ImportFault) → IsBadRecord why → why ≡ fault.NoPool → ⊥
+bad_some fault.NoPool bad is = bad
+bad_some (fault.Record metaslab place kind) bad is = cc
+bad_some (fault.Check place kind) bad is = cc
+bad_some fault.Shelf bad is = bad
+bad_some fault.NoMemory bad is = bad
+
+-- which isn't a new one
+bad_unfound : {P : Type 0} (why : ImportFault) → IsBadRecord why → FindsNoPool {P = P} (Err why) → ⊥
+bad_unfound fault.NoPool bad none = bad
+bad_unfound (fault.Record metaslab place kind) bad none = none
+bad_unfound (fault.Check place kind) bad none = none
+bad_unfound fault.Shelf bad none = bad
+bad_unfound fault.NoMemory bad none = bad
+
+-- nor one of a known state
+bad_unread : {R A : Type 0} (rack : racks.Ghosts R) (area : areas.Ghosts A) (x : State) (pieces : ℕ → Pieces) (told : Option Held) (leaves : ℕ → Option Shape) (counts : ℕ → KitCounts) (n : ℕ) (why : ImportFault)
+    → IsBadRecord why → pools.ImportIs rack area x pieces told leaves counts n (Err why) → ⊥
+bad_unread rack area x pieces told leaves counts n fault.NoPool bad is = bad
+bad_unread rack area x pieces told leaves counts n (fault.Record metaslab place kind) bad is = is
+bad_unread rack area x pieces told leaves counts n (fault.Check place kind) bad is = is
+bad_unread rack area x pieces told leaves counts n fault.Shelf bad is = bad
+bad_unread rack area x pieces told leaves counts n fault.NoMemory bad is = bad
+
+-- of the metaslab's record or the uberblock, by the name of the record
+named_fault : {R A : Type 0} (rack : racks.Ghosts R) (area : areas.Ghosts A) (before : OnShelf) (metaslab : Option ℕ) (place : ℕ) (kind : RecordFaultKind) → RecordIsBad rack area before.held before.leaves before.counts metaslab place kind
+    → HoldsFault rack area before (name_of metaslab) place kind
+named_fault rack area before None place kind bad = bad
+named_fault rack area before (Some metaslab) place kind bad = bad
 
 -- ---- the call
 
@@ -293,19 +330,18 @@ module _ {R A : Type 0} (rack : racks.Ghosts R) (area : areas.Ghosts A) (entry b
     shelf_failed is (Open y) stands shelf = absurd stands
     shelf_failed is (Foreign known) stands shelf = absurd stands
 
-    pub record_fails : (metaslab : Option ℕ) (place : ℕ) (kind : RecordFaultKind) → result ≡ Err (fault.Record metaslab place kind) → (x : Desk) → IsPool rack area None x → IsShelf x entry before
-        → Broken rack area RecordFails ImportPool entry before x now None
-    record_fails metaslab place kind is Untouched stands shelf = record { new = Unknown; desk = record { stands = tt; shelf = tt }; breaks = refl; cause = tt }
-    record_fails metaslab place kind is (Made true failed geometry) stands shelf = absurd (new_none failed geometry (Err (fault.Record metaslab place kind)) is shelf)
-    record_fails metaslab place kind is (Made false failed geometry) stands shelf = record { new = Unknown; desk = record { stands = tt; shelf = tt }; breaks = refl; cause = tt }
-    record_fails metaslab place kind is Unknown stands shelf = record { new = Unknown; desk = record { stands = tt; shelf = tt }; breaks = refl; cause = tt }
-    record_fails metaslab place kind is Bare stands shelf = absurd (let z = sym is ∙ (bare_none shelf.1).0 in cc)
-    record_fails metaslab place kind is (Shut crash y) stands shelf = elim (true_or y.told) [
-      | inl told ↦ absurd (was y (Err (fault.Record metaslab place kind)) is (resting crash y before shelf told))
+    pub record_fails : (why : ImportFault) → IsBadRecord why → result ≡ Err why → (x : Desk) → IsPool rack area None x → IsShelf x entry before → Broken rack area RecordFails ImportPool entry before x now None
+    record_fails why bad is Untouched stands shelf = record { new = Unknown; desk = record { stands = tt; shelf = tt }; breaks = refl; cause = tt }
+    record_fails why bad is (Made true failed geometry) stands shelf = absurd (bad_unfound why bad (new_none failed geometry (Err why) is shelf))
+    record_fails why bad is (Made false failed geometry) stands shelf = record { new = Unknown; desk = record { stands = tt; shelf = tt }; breaks = refl; cause = tt }
+    record_fails why bad is Unknown stands shelf = record { new = Unknown; desk = record { stands = tt; shelf = tt }; breaks = refl; cause = tt }
+    record_fails why bad is Bare stands shelf = absurd (bad_some why bad (let z = sym is ∙ (bare_none shelf.1).0 in cc))
+    record_fails why bad is (Shut crash y) stands shelf = elim (true_or y.told) [
+      | inl told ↦ (let rest = resting crash y before shelf told in absurd (bad_unread rack area y rest.pieces now.held now.leaves now.counts (own_count now.own) why bad (was y (Err why) is rest)))
       | inr untold ↦ record { new = Unknown; desk = record { stands = tt; shelf = tt }; breaks = breaks_untold y Unknown RecordFails untold refl; cause = tt }
     ]
-    record_fails metaslab place kind is (Open y) stands shelf = absurd stands
-    record_fails metaslab place kind is (Foreign known) stands shelf = absurd stands
+    record_fails why bad is (Open y) stands shelf = absurd stands
+    record_fails why bad is (Foreign known) stands shelf = absurd stands
 
     -- ---- the pool
 
@@ -431,7 +467,7 @@ module _ {R A : Type 0} (rack : racks.Ghosts R) (area : areas.Ghosts A) (choices
       → ImportIs rack area entry before x now new given → AnswerIs rack area choices past past ImportPool entry before pool x now new result
   answer_import past pool x new (Ok reply) result said did = subst (AnswerIs rack area choices past past ImportPool entry before pool x now new) (sym said) (by_import x reply new did, ([], refl, sym (append-nil past)), tt, λ none. none)
   answer_import past pool x new (Err stop.Shelf) result said did = subst (AnswerIs rack area choices past past ImportPool entry before pool x now new) (sym said) (did, λ none. none)
-  answer_import past pool x new (Err (stop.Record metaslab place kind)) result said did = subst (AnswerIs rack area choices past past ImportPool entry before pool x now new) (sym said) (did.0, did.1, λ none. none)
+  answer_import past pool x new (Err (stop.Record which place kind)) result said did = subst (AnswerIs rack area choices past past ImportPool entry before pool x now new) (sym said) (did.0, did.1, λ none. none)
   answer_import past pool x new (Err stop.Unbuilt) result said did = absurd did
 
 -- a pool is open already
@@ -454,7 +490,10 @@ module _ {R A : Type 0} (rack : racks.Ghosts R) (area : areas.Ghosts A) (entry b
   unopened now fault.Shelf called said is = subst (λ s. ImportIs rack area entry before x now None (given_by s)) (sym is) (shelf_failed rack area entry before now (Err fault.Shelf) called refl x stands shelf)
   unopened now (fault.Record metaslab place kind) called said is =
       subst (λ s. ImportIs rack area entry before x now None (given_by s)) (sym is)
-      (record_fails rack area entry before now (Err (fault.Record metaslab place kind)) called metaslab place kind refl x stands shelf, called.faulty metaslab place kind refl)
+      (record_fails rack area entry before now (Err (fault.Record metaslab place kind)) called (fault.Record metaslab place kind) tt refl x stands shelf, named_fault rack area before metaslab place kind (called.faulty metaslab place kind refl))
+  unopened now (fault.Check place kind) called said is =
+      subst (λ s. ImportIs rack area entry before x now None (given_by s)) (sym is)
+      (record_fails rack area entry before now (Err (fault.Check place kind)) called (fault.Check place kind) tt refl x stands shelf, called.check place kind refl)
 
   told : (now : OnShelf) (found : Pool R A) → ImportGives rack area before now (Ok found) → (reply : Reply) → IsTold rack area found reply → ImportDid rack area entry x reply now (Some found)
   told now found called reply t =

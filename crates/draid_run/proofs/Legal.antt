@@ -15,8 +15,8 @@ at_reached alloc cause lines text saids mid last b r = breaks_reached alloc caus
 pub off_reached : (alloc : Global) (lines : List (List ℕ)) (ended : Status) (broken : Option (List ℕ)) (saids : List Said) (mid last : Desk) → BreaksOff lines ended broken saids mid last → DeskReached mid → DeskReached last
 off_reached alloc lines ShelfFault None saids mid last b r = absurd b
 off_reached alloc lines ShelfFault (Some text) saids mid last b r = at_reached alloc ShelfFails lines text saids mid last b r
-off_reached alloc lines (Record metaslab at kind) None saids mid last b r = absurd b
-off_reached alloc lines (Record metaslab at kind) (Some text) saids mid last b r = at_reached alloc RecordFails lines text saids mid last b r
+off_reached alloc lines (Record which at kind) None saids mid last b r = absurd b
+off_reached alloc lines (Record which at kind) (Some text) saids mid last b r = at_reached alloc RecordFails lines text saids mid last b r
 off_reached alloc lines NoMemory (Some text) saids mid last b r = at_reached alloc RecordFails lines text saids mid last b r
 off_reached alloc lines ended None saids mid last b r = subst DeskReached (sym b.1) r
 off_reached alloc lines ended (Some text) saids mid last b r = absurd b

@@ -20,7 +20,7 @@ module _ (line : List ℕ) (old new : Option (List ℕ)) where
   prints_all NoMemory appends = (refl, appends)
   prints_all (TooLong number) appends = (refl, appends)
   prints_all ShelfFault appends = (refl, appends)
-  prints_all (Record metaslab place kind) appends = (refl, appends)
+  prints_all (Record which place kind) appends = (refl, appends)
 
   -- what the status was meant to be
   pub prints_source : (meant status : Status) → Prints status meant line old new → status ≡ SourceFault → meant ≡ SourceFault

@@ -271,9 +271,9 @@ stopped_same a b is = cc is
 
 -- ---- the reply
 
-same_behind : (past as bs : List Entry) → past ++ as ≡ past ++ bs → as ≡ bs
-same_behind [] as bs is = is
-same_behind (e ∷ past) as bs is = same_behind past as bs (rest e e (past ++ as) (past ++ bs) is)
+same_behind : (past cs bs : List Entry) → past ++ cs ≡ past ++ bs → cs ≡ bs
+same_behind [] cs bs is = is
+same_behind (e ∷ past) cs bs is = same_behind past cs bs (rest e e (past ++ cs) (past ++ bs) is)
   where
     rest : (a b : Entry) (xs ys : List Entry) → a ∷ xs ≡ b ∷ ys → xs ≡ ys
     rest a b xs ys same = cc same

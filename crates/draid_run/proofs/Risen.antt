@@ -10,6 +10,7 @@ use Rattle.draid_script.specs.Line.{Command, Silent, CreatePool, ImportPool, Exp
 use Rattle.draid_session.specs.Session.{Desk, Untouched, Bare, Made, Open, Shut, Foreign, Unknown, Breaks, RecordFails, ShelfFails}
 use Rattle.draid_import.specs.Found.{HasRisen}
 use Rattle.draid_pool.specs.declared.pool.Pool.{Pool}
+use Rattle.draid_run.specs.declared.status.RecordName.{RecordName}
 use Rattle.draid_run.specs.Desks.{CauseShows, IsShelf}
 use Rattle.draid_run.specs.Script.{FailsShut, FaultyShut}
 use Rattle.draid_create.specs.Says.{MakingFailed}
@@ -148,10 +149,10 @@ record_closed (Open x) new command breaks = absurd breaks
 record_closed (Foreign known) new command breaks = absurd breaks
 
 -- and what it says of that record
-pub faulty_shut : {R A : Type 0} (rack : racks.Ghosts R) (area : areas.Ghosts A) (text : List ℕ) (lines : List (List ℕ)) (command : Command) (old new : Desk) (entry before : OnShelf) (metaslab : Option ℕ) (place : ℕ) (kind : RecordFaultKind)
-    → line_of text ≡ Ok command → IsShelf old entry before → entry.faults ≤ before.faults → (lines ≡ [] → before ≡ entry) → Breaks RecordFails old command new → HoldsFault rack area before metaslab place kind
-    → FaultyShut rack area (Some text) lines old entry metaslab place kind
-faulty_shut rack area text lines command old new entry before metaslab place kind line shelf later first breaks bad = record {
+pub faulty_shut : {R A : Type 0} (rack : racks.Ghosts R) (area : areas.Ghosts A) (text : List ℕ) (lines : List (List ℕ)) (command : Command) (old new : Desk) (entry before : OnShelf) (which : RecordName) (place : ℕ) (kind : RecordFaultKind)
+    → line_of text ≡ Ok command → IsShelf old entry before → entry.faults ≤ before.faults → (lines ≡ [] → before ≡ entry) → Breaks RecordFails old command new → HoldsFault rack area before which place kind
+    → FaultyShut rack area (Some text) lines old entry which place kind
+faulty_shut rack area text lines command old new entry before which place kind line shelf later first breaks bad = record {
   came = record { text = text; is = refl; command = command; line = line; before = before; held = closed_shelf old entry before (record_closed old new command breaks) shelf; later = later; first = first };
   bad = bad;
 }

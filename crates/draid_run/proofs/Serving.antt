@@ -17,6 +17,7 @@ use Rattle.draid_session.specs.Choices.{Choices}
 use Rattle.draid_session.specs.Places.{Outside, Place, line_behind, place_behind}
 use Rattle.draid_session.specs.Session.{Desk, Untouched, Bare, Made, Open, Shut, Foreign, Unknown, RecordFails, Runs, ShelfFails, Sitting, sits}
 use Rattle.draid_pool.specs.declared.pool.Pool.{Pool}
+use Rattle.draid_run.specs.declared.status.RecordName.{RecordName}
 use Rattle.draid_run.specs.Crashes.{IsFirmShut, LeavesFirm, crash_came_last}
 use Rattle.draid_run.specs.Desks.{IsDesk, Noted, Turned}
 use Rattle.draid_run.specs.Script.{AreBuilt, IsBuilt, all_said, BreaksOff, Ends, FaultyShut, GetsReplies, LineFaultIs, Shows, said_text, texts_of}
@@ -117,7 +118,7 @@ built_more place (front ∷ lines) line are is = (are.0, built_more (place_behin
 module _ {R A : Type 0} (rack : racks.Ghosts R) (area : areas.Ghosts A) (choices : Choices) (entry : OnShelf) where
   -- the fault that a status names
   abbrev NamesFault : OnShelf → Status → Type 0
-  NamesFault before (Record metaslab place kind) = HoldsFault rack area before metaslab place kind
+  NamesFault before (Record which place kind) = HoldsFault rack area before which place kind
   NamesFault before status = ⊤
 
   -- the line under another name of its number and its text
@@ -214,7 +215,7 @@ module _ {R A : Type 0} (rack : racks.Ghosts R) (area : areas.Ghosts A) (choices
     -- The run ends with no line under way, for a cause that is neither a failing shelf nor a record's fault.
     at_rest : (past : List Entry) (input rest start held : Option (List ℕ)) (now : OnShelf) (pool : Option (Pool R A)) (count : ℕ) (is : Serving rack area choices past first input rest start held entry now pool count) (ended : Status)
         → BreaksOff is.lines ended None [] is.reached is.reached → MatchOption input ⊤ (Ends ended None is.lines) → Shows ended is.replies (all_said is.replies) → GetsReplies ended (all_said is.replies) start held
-        → (ended ≡ ShelfFault → ⊥) → ((metaslab : Option ℕ) (place : ℕ) (kind : RecordFaultKind) → ended ≡ Record metaslab place kind → ⊥) → Served rack area choices first ended input start held entry now pool
+        → (ended ≡ ShelfFault → ⊥) → ((which : RecordName) (place : ℕ) (kind : RecordFaultKind) → ended ≡ Record which place kind → ⊥) → Served rack area choices first ended input start held entry now pool
     at_rest past input rest start held now pool count is ended breaks ends shows prints no_shelf no_record = record {
       lines = is.lines;
       replies = is.replies;
@@ -232,7 +233,7 @@ module _ {R A : Type 0} (rack : racks.Ghosts R) (area : areas.Ghosts A) (choices
       prints = prints;
       failed = λ e. absurd (no_shelf e);
       since = λ e. absurd (no_shelf e);
-      bad = λ metaslab place kind e. absurd (no_record metaslab place kind e);
+      bad = λ which place kind e. absurd (no_record which place kind e);
       firm = λ rest. is.firm;
       built = is.built;
     }
@@ -245,7 +246,7 @@ module _ {R A : Type 0} (rack : racks.Ghosts R) (area : areas.Ghosts A) (choices
         (known_input input rest' _ _ (λ x z e. e)
         (known_on input rest rest' _ _ (λ all behind. lines_of all ≡ is.lines)
         (λ x y z a b. a ∙ ap (λ bytes. is.lines ++ lines_of bytes) b ∙ ap (λ xs. is.lines ++ xs) lines_none ∙ append-nil is.lines) is.known end))
-        refl is.printed (λ e. cc e) (λ metaslab place kind e. cc e)
+        refl is.printed (λ e. cc e) (λ which place kind e. cc e)
 
     -- the next line could not be read
     pub served_unread : (past : List Entry) (input start held left left' : Option (List ℕ)) (now : OnShelf) (pool : Option (Pool R A)) (lines lines' : Rest) (status : Status)
@@ -253,10 +254,10 @@ module _ {R A : Type 0} (rack : racks.Ghosts R) (area : areas.Ghosts A) (choices
         → Served rack area choices first status input start held entry now pool
     served_unread past input start held left left' now pool lines lines' SourceFault is text = at_rest past input (prepend_known lines.held left) start held now pool lines.given is SourceFault (refl, refl)
         (known_input input _ _ _ (λ x y e. (lines_of y, e)) is.known)
-        refl is.printed (λ e. cc e) (λ metaslab place kind e. cc e)
+        refl is.printed (λ e. cc e) (λ which place kind e. cc e)
     served_unread past input start held left left' now pool lines lines' NoMemory is text = at_rest past input (prepend_known lines.held left) start held now pool lines.given is NoMemory (refl, refl)
         (known_input input _ _ _ (λ x y e. (lines_of y, e)) is.known)
-        (inl refl) is.printed (λ e. cc e) (λ metaslab place kind e. cc e)
+        (inl refl) is.printed (λ e. cc e) (λ which place kind e. cc e)
     served_unread past input start held left left' now pool lines lines' (TooLong line) is text =
         let counted = is.count_is in
         let number = text.0 in
@@ -264,13 +265,13 @@ module _ {R A : Type 0} (rack : racks.Ghosts R) (area : areas.Ghosts A) (choices
         (known_input input _ _ _ (λ x z e. e)
         (known_on input (prepend_known lines.held left) (prepend_known lines'.held left') _ _ (λ all behind. Ends (TooLong line) None is.lines all)
         (λ x y z a b. (y, a, rw counted b, omega (arith, counted, number))) is.known text.1))
-        refl is.printed (λ e. cc e) (λ metaslab place kind e. cc e)
+        refl is.printed (λ e. cc e) (λ which place kind e. cc e)
     served_unread past input start held left left' now pool lines lines' Done is text = absurd text
     served_unread past input start held left left' now pool lines lines' Usage is text = absurd text
     served_unread past input start held left left' now pool lines lines' (Line line kind at) is text = absurd text
     served_unread past input start held left left' now pool lines lines' SinkFault is text = absurd text
     served_unread past input start held left left' now pool lines lines' ShelfFault is text = absurd text
-    served_unread past input start held left left' now pool lines lines' (Record metaslab place kind) is text = absurd text
+    served_unread past input start held left left' now pool lines lines' (Record which place kind) is text = absurd text
 
     -- a line was taken, and the run ended with it
     module _ (past : List Entry) (input rest rest' start held : Option (List ℕ)) (before : OnShelf) (pool : Option (Pool R A)) (count : ℕ) (line : List ℕ) (behind : WhereKnown rest rest' (λ old new. lines_of old ≡ line ∷ lines_of new))
@@ -283,14 +284,14 @@ module _ {R A : Type 0} (rack : racks.Ghosts R) (area : areas.Ghosts A) (choices
           (known_input input rest' _ _ (λ x z e. e)
           (known_on input rest rest' _ _ (λ all _. Ends (Line number kind at) None is.lines all)
           (λ x y z a b. (line, lines_of z, a ∙ ap (λ xs. is.lines ++ xs) b, fault, omega (arith, counted, n))) is.known behind))
-          refl is.printed (λ e. cc e) (λ metaslab place kind e. cc e)
+          refl is.printed (λ e. cc e) (λ which place kind e. cc e)
 
       -- memory was wanting before it was done
       undone : Served rack area choices first NoMemory input start held entry before pool
       undone = at_rest past input rest start held before pool count is NoMemory (refl, refl)
           (known_input input rest' _ _ (λ x z e. (line ∷ lines_of z, e))
           (known_on input rest rest' _ _ (λ all z. lines_of all ≡ is.lines ++ (line ∷ lines_of z)) (λ x y z a b. a ∙ ap (λ xs. is.lines ++ xs) b) is.known behind))
-          (inl refl) is.printed (λ e. cc e) (λ metaslab place kind e. cc e)
+          (inl refl) is.printed (λ e. cc e) (λ which place kind e. cc e)
 
       module _ (after : List Entry) (now : OnShelf) (pool' : Option (Pool R A)) (tells : TellsAsBefore entry now) where
         -- its reply could not be put
@@ -325,7 +326,7 @@ module _ {R A : Type 0} (rack : racks.Ghosts R) (area : areas.Ghosts A) (choices
           };
           failed = λ e. absurd (cc e);
           since = λ e. absurd (cc e);
-          bad = λ metaslab place kind e. absurd (cc e);
+          bad = λ which place kind e. absurd (cc e);
           firm = λ rest. firm_so is.lines is.replies (sits is.reached past) line (cut.part ++ cut.said ∷ cut.rest) before now pool pool' is.runs is.firm cut.firm;
           built = built_more Outside is.lines line is.built cut.built;
         }
@@ -350,7 +351,7 @@ module _ {R A : Type 0} (rack : racks.Ghosts R) (area : areas.Ghosts A) (choices
           prints = rw (texts_both (all_said is.replies) cut.part) (appends_more start held held' _ _ is.printed cut.prints);
           failed = λ e. absurd (cc e);
           since = λ e. absurd (cc e);
-          bad = λ metaslab place kind e. absurd (cc e);
+          bad = λ which place kind e. absurd (cc e);
           firm = λ rest. firm_so is.lines is.replies (sits is.reached past) line (cut.part ++ cut.said ∷ cut.rest) before now pool pool' is.runs is.firm cut.firm;
           built = built_more Outside is.lines line is.built cut.built;
         }
@@ -375,15 +376,15 @@ module _ {R A : Type 0} (rack : racks.Ghosts R) (area : areas.Ghosts A) (choices
           prints = is.printed;
           failed = λ e. fault_at rack area entry before now pool' later is.lines line at.command at.line at.broken.new (cause_fault rack area at.command before now pool' is.reached at.broken.new at.broken.cause);
           since = λ e. fails_shut rack area line is.lines at.command is.reached at.broken.new entry before now pool' at.line is.desk.shelf later is.unanswered at.broken.cause;
-          bad = λ metaslab place kind e. absurd (cc e);
+          bad = λ which place kind e. absurd (cc e);
           firm = λ rest. absurd (cc rest);
           built = is.built;
         }
 
         -- a record has a fault
-        faulty : (metaslab : Option ℕ) (place : ℕ) (kind : RecordFaultKind) → BrokenLine rack area RecordFails line entry before is.reached now pool' → HoldsFault rack area before metaslab place kind
-            → Served rack area choices first (Record metaslab place kind) input start held entry now pool'
-        faulty metaslab place kind at fault = record {
+        faulty : (which : RecordName) (place : ℕ) (kind : RecordFaultKind) → BrokenLine rack area RecordFails line entry before is.reached now pool' → HoldsFault rack area before which place kind
+            → Served rack area choices first (Record which place kind) input start held entry now pool'
+        faulty which place kind at fault = record {
           lines = is.lines;
           replies = is.replies;
           shown = all_said is.replies;
@@ -401,15 +402,15 @@ module _ {R A : Type 0} (rack : racks.Ghosts R) (area : areas.Ghosts A) (choices
           prints = is.printed;
           failed = λ e. absurd (cc e);
           since = λ e. absurd (cc e);
-          bad = λ m p k e. shut m p k e;
+          bad = λ n p k e. shut n p k e;
           firm = λ rest. absurd (cc rest);
           built = is.built;
         }
           where
-            shut : (m : Option ℕ) (p : ℕ) (k : RecordFaultKind) → Record metaslab place kind ≡ Record m p k → FaultyShut rack area (Some line) is.lines is.reached entry m p k
-            shut m p k e =
-                let holds : HoldsFault rack area before m p k = subst (λ (s : Status). NamesFault before s) e fault in
-                faulty_shut rack area line is.lines at.command is.reached at.broken.new entry before m p k at.line is.desk.shelf later is.unanswered at.broken.breaks holds
+            shut : (n : RecordName) (p : ℕ) (k : RecordFaultKind) → Record which place kind ≡ Record n p k → FaultyShut rack area (Some line) is.lines is.reached entry n p k
+            shut n p k e =
+                let holds : HoldsFault rack area before n p k = subst (λ (s : Status). NamesFault before s) e fault in
+                faulty_shut rack area line is.lines at.command is.reached at.broken.new entry before n p k at.line is.desk.shelf later is.unanswered at.broken.breaks holds
 
         pub served_line : (held' : Option (List ℕ)) (status : Status) → LineIs rack area choices past after (count + 1) line entry before pool is.reached now pool' held held' (Err status)
             → Served rack area choices first status input start held' entry now pool'
@@ -421,7 +422,7 @@ module _ {R A : Type 0} (rack : racks.Ghosts R) (area : areas.Ghosts A) (choices
           | inr cut ↦ untold held' cut
         ]
         served_line held' ShelfFault became = rw became.0 (failed became.1)
-        served_line held' (Record metaslab place kind) became = rw became.0 (faulty metaslab place kind became.1 became.2)
+        served_line held' (Record which place kind) became = rw became.0 (faulty which place kind became.1 became.2)
         served_line held' Done became = absurd became
         served_line held' Usage became = absurd became
         served_line held' SourceFault became = absurd became

@@ -15,7 +15,7 @@ use Rattle.draid_run.specs.declared.status.Status.TheVariants.{ShelfFault, Recor
 abbrev pub BrokeAt : Status → Option (List ℕ) → Type 0
 BrokeAt ShelfFault None = ⊥
 BrokeAt ShelfFault (Some text) = ⊤
-BrokeAt (Record metaslab at kind) broken = ⊥
+BrokeAt (Record which at kind) broken = ⊥
 BrokeAt ended None = ⊤
 BrokeAt ended (Some text) = ⊥
 

@@ -89,7 +89,7 @@ abbrev pub ExportIs : {R A : Type 0} → racks.Ghosts R → areas.Ghosts A → O
 ExportIs rack area entry old now pool (Ok reply) = ExportDid rack area entry old (Some reply) now pool
 ExportIs rack area entry old now pool (Err stop.Shelf) = ExportDid rack area entry old None now pool
 ExportIs rack area entry old now pool (Err stop.Unbuilt) = ⊥
-ExportIs rack area entry old now pool (Err (stop.Record metaslab place kind)) = ⊥
+ExportIs rack area entry old now pool (Err (stop.Record which place kind)) = ⊥
 
 -- a crash gives the pool back as it is
 abbrev pub CrashTurns : Desk → Reply → Desk → Type 0

@@ -39,5 +39,5 @@ IsUntold desk = ⊥
 -- The run ended with its input; or, where that was so before its last line, at a record's fault.
 abbrev pub EndsWell : Status → Desk → Type 0
 EndsWell Done mid = ⊤
-EndsWell (Record metaslab place kind) mid = IsUntold mid
+EndsWell (Record which place kind) mid = IsUntold mid
 EndsWell status mid = ⊥

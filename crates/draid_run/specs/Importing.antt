@@ -1,5 +1,5 @@
 -- What an import comes to.
-use Rattle.std.specs.Prelude.{◌≡◌, Option, Result, Ok, Err}
+use Rattle.std.specs.Prelude.{◌≡◌, ℕ, Option, Some, None, Result, Ok, Err}
 use Rattle.draid_rack.specs.declared.Rack as racks
 use Rattle.draid_area.specs.declared.Area as areas
 use Rattle.draid_script.specs.Line.{ImportPool}
@@ -15,6 +15,8 @@ use Rattle.draid_pool.specs.Shelves.{OnShelf}
 use Rattle.draid_run.specs.Shelves.{HoldsFault, MayFind}
 use Rattle.draid_run.specs.declared.answer.Stop.{Stop}
 use Rattle.draid_run.specs.declared.answer.Stop.TheVariants as stop
+use Rattle.draid_run.specs.declared.status.RecordName.{RecordName}
+use Rattle.draid_run.specs.declared.status.RecordName.TheVariants as record_name
 
 -- what `import` does where a pool is open, or none is
 abbrev pub ImportDoes : {R A : Type 0} → racks.Ghosts R → areas.Ghosts A → OnShelf → Desk → Reply → Desk → Type 0
@@ -33,13 +35,19 @@ abbrev pub ImportIs : {R A : Type 0} → racks.Ghosts R → areas.Ghosts A → O
 ImportIs rack area entry before old now pool (Ok reply) = ImportDid rack area entry old reply now pool
 ImportIs rack area entry before old now pool (Err stop.Unbuilt) = ⊥
 ImportIs rack area entry before old now pool (Err stop.Shelf) = Broken rack area ShelfFails ImportPool entry before old now pool
-ImportIs rack area entry before old now pool (Err (stop.Record metaslab place kind)) =
-    Broken rack area RecordFails ImportPool entry before old now pool × HoldsFault rack area before metaslab place kind
+ImportIs rack area entry before old now pool (Err (stop.Record which place kind)) =
+    Broken rack area RecordFails ImportPool entry before old now pool × HoldsFault rack area before which place kind
+
+-- the record of a metaslab, or the uberblock's slot
+abbrev pub name_of : Option ℕ → RecordName
+name_of None = record_name.Uber
+name_of (Some metaslab) = record_name.Metaslab metaslab
 
 -- why a run ends at an import that has no reply
 abbrev pub stop_of_import : ImportStop → Stop
 stop_of_import import.Shelf = stop.Shelf
-stop_of_import (import.Record metaslab place kind) = stop.Record metaslab place kind
+stop_of_import (import.Record metaslab place kind) = stop.Record (name_of metaslab) place kind
+stop_of_import (import.Check place kind) = stop.Record record_name.Check place kind
 
 -- an import's reply, or that the run ends
 abbrev pub given_by : Result Reply ImportStop → Result Reply Stop

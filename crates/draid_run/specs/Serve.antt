@@ -18,6 +18,7 @@ use Rattle.draid_session.specs.Said.{Said, alone}
 use Rattle.draid_session.specs.Choices.{Choices}
 use Rattle.draid_session.specs.Session.{Cause, Desk, RecordFails, Runs, ShelfFails, sits}
 use Rattle.draid_pool.specs.declared.pool.Pool.{Pool}
+use Rattle.draid_run.specs.declared.status.RecordName.{RecordName}
 use Rattle.draid_run.specs.Crashes.{IsFirmShut, LeavesFirm, crash_came_last}
 use Rattle.draid_run.specs.Desks.{Broken, IsDesk, Noted, PoolBroke, PoolDid, Turned, asked_in}
 use Rattle.draid_run.specs.Script.{AreBuilt, IsBuilt, all_replies, all_said, BreaksOff, Ends, FailsShut, FaultyShut, GetsReplies, IsUnbuilt, LineFaultIs, Shows, said_text, texts_of}
@@ -74,7 +75,7 @@ said_of (Some reply) = alone reply
 abbrev pub status_of : ℕ → Stop → Status
 status_of number stop.Unbuilt = Line number refusal.Unbuilt 0
 status_of number stop.Shelf = ShelfFault
-status_of number (stop.Record metaslab place kind) = Record metaslab place kind
+status_of number (stop.Record which place kind) = Record which place kind
 
 module _ {R A : Type 0} (rack : racks.Ghosts R) (area : areas.Ghosts A) (choices : Choices) where
   -- the reply of the pool that is open, or that none is; that a device of it failed; or that the command asks for none
@@ -82,7 +83,7 @@ module _ {R A : Type 0} (rack : racks.Ghosts R) (area : areas.Ghosts A) (choices
   AskIs command pool old pool' (Ok reply) = (called : CommandName) × (asked_in command ≡ Some called) × PoolDid rack area choices command called old reply pool'
   AskIs command pool old pool' (Err stop.Unbuilt) = (asked_in command ≡ None) × (pool' ≡ pool)
   AskIs command pool old pool' (Err stop.Shelf) = (called : CommandName) × (asked_in command ≡ Some called) × PoolBroke rack area command old pool'
-  AskIs command pool old pool' (Err (stop.Record metaslab place kind)) = ⊥
+  AskIs command pool old pool' (Err (stop.Record which place kind)) = ⊥
 
   -- the journal was this before a line, and that behind it
   module _ (past after : List Entry) where
@@ -93,8 +94,8 @@ module _ {R A : Type 0} (rack : racks.Ghosts R) (area : areas.Ghosts A) (choices
         × LeavesFirm (Ok command) (said_of reply) before pool now pool' × IsBuilt (Ok command)
     AnswerIs command entry before pool old now pool' (Err stop.Unbuilt) = IsUnbuilt command × (now ≡ before) × (pool' ≡ pool)
     AnswerIs command entry before pool old now pool' (Err stop.Shelf) = Broken rack area ShelfFails command entry before old now pool' × IsBuilt (Ok command)
-    AnswerIs command entry before pool old now pool' (Err (stop.Record metaslab place kind)) =
-        Broken rack area RecordFails command entry before old now pool' × HoldsFault rack area before metaslab place kind × IsBuilt (Ok command)
+    AnswerIs command entry before pool old now pool' (Err (stop.Record which place kind)) =
+        Broken rack area RecordFails command entry before old now pool' × HoldsFault rack area before which place kind × IsBuilt (Ok command)
 
     -- A line was answered, and the replies to it were printed.
     pub record Printed (text : List ℕ) (entry before : OnShelf) (pool : Option (Pool R A)) (old : Desk) (now : OnShelf) (pool' : Option (Pool R A)) (held held' : Option (List ℕ)) : Type 0 where
@@ -134,8 +135,8 @@ module _ {R A : Type 0} (rack : racks.Ghosts R) (area : areas.Ghosts A) (choices
     LineIs number text entry before pool old now pool' held held' (Ok done) = Printed text entry before pool old now pool' held held'
     LineIs number text entry before pool old now pool' held held' (Err SinkFault) = Cut text entry before pool old now pool' held held'
     LineIs number text entry before pool old now pool' held held' (Err ShelfFault) = (held' ≡ held) × BrokenLine rack area ShelfFails text entry before old now pool'
-    LineIs number text entry before pool old now pool' held held' (Err (Record metaslab place kind)) =
-        (held' ≡ held) × BrokenLine rack area RecordFails text entry before old now pool' × HoldsFault rack area before metaslab place kind
+    LineIs number text entry before pool old now pool' held held' (Err (Record which place kind)) =
+        (held' ≡ held) × BrokenLine rack area RecordFails text entry before old now pool' × HoldsFault rack area before which place kind
     LineIs number text entry before pool old now pool' held held' (Err (Line line why at)) =
         LineFaultIs (line_at Outside text) why at × (now ≡ before) × (pool' ≡ pool) × (held' ≡ held) × (line ≡ number)
     LineIs number text entry before pool old now pool' held held' (Err NoMemory) =
@@ -174,6 +175,6 @@ module _ {R A : Type 0} (rack : racks.Ghosts R) (area : areas.Ghosts A) (choices
     pub prints : GetsReplies ended shown start held
     pub failed : ended ≡ ShelfFault → HasFault area entry now pool last ⊎ (MakesLeavesAt lines broken × RackFault rack pool last)
     pub since : ended ≡ ShelfFault → IsClosed mid → IsClosed last × FailsShut area broken lines mid entry now
-    pub bad : (metaslab : Option ℕ) (place : ℕ) (kind : RecordFaultKind) → ended ≡ Record metaslab place kind → FaultyShut rack area broken lines mid entry metaslab place kind
+    pub bad : (which : RecordName) (place : ℕ) (kind : RecordFaultKind) → ended ≡ Record which place kind → FaultyShut rack area broken lines mid entry which place kind
     pub firm : broken ≡ None → crash_came_last Outside false lines replies ≡ true → IsFirmShut now pool
     pub built : AreBuilt Outside lines

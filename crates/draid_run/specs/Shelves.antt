@@ -18,6 +18,7 @@ use Rattle.draid_pool.specs.Returning.{HoldsPool, SameCounts, AreaFailed, RackFa
 use Rattle.draid_pool.specs.Shelves.{OnShelf}
 use Rattle.draid_pool.specs.Taking.{IsAsBefore}
 use Rattle.draid_pool.specs.Failing.{AreaFails, RackFails}
+use Rattle.draid_import.specs.Checking.{CheckIsBad}
 use Rattle.draid_import.specs.Faulty.{HoldsNoGroup, RecordIsBad}
 use Rattle.draid_import.specs.Findings.{FindsPool}
 use Rattle.draid_import.specs.Found.{HasRisen}
@@ -25,6 +26,8 @@ use Rattle.draid_pool.specs.Importable.{IsImportable}
 use Rattle.draid_create.specs.Opening.{StaysMade}
 use Rattle.draid_create.specs.Says.{IsSame, MakingFailed}
 use Rattle.draid_pool.specs.declared.pool.Pool.{Pool}
+use Rattle.draid_run.specs.declared.status.RecordName.{RecordName}
+use Rattle.draid_run.specs.declared.status.RecordName.TheVariants as record_name
 
 -- The devices of an open pool are away. Whether the shelf tells is as the pool was opened.
 pub record IsOut (x : State) (now : OnShelf) : Type 0 where
@@ -68,11 +71,11 @@ HoldsDesk (Shut crash state) entry now = HoldsShut crash state now
 HoldsDesk (Foreign known) entry now = ⊥
 HoldsDesk Unknown entry now = ⊤
 
--- What an import may find on a shelf that is as it was at the entry, by what that held. It reads no check record.
+-- What an import may find on a shelf that is as it was at the entry, by what that held.
 abbrev pub MayFind : {R A : Type 0} → racks.Ghosts R → areas.Ghosts A → OnShelf → Finding → Type 0
 MayFind rack area entry Nothing = HoldsNoGroup entry.held
 MayFind rack area entry (Fault metaslab place kind) = RecordIsBad rack area entry.held entry.leaves entry.counts metaslab place kind
-MayFind rack area entry (CheckFault place kind) = ⊥
+MayFind rack area entry (CheckFault place kind) = CheckIsBad rack area entry.held entry.leaves entry.counts place kind
 MayFind rack area entry (finding.Pool group called objects) = FindsPool rack area entry.held entry.leaves entry.counts group called objects
 
 -- the shelf tells before and after, or neither
@@ -156,6 +159,8 @@ FailsIn area (CreatePool text children keys) before now = (geometry : Geometry) 
 FailsIn area ImportPool before now = HasRisen area before.held before.faults now.faults (own_count before.own) (own_count now.own) before.counts now.counts
 FailsIn area command before now = ⊥
 
--- the uberblock that a shelf held, or a record of a metaslab, has this fault
-abbrev pub HoldsFault : {R A : Type 0} → racks.Ghosts R → areas.Ghosts A → OnShelf → Option ℕ → ℕ → RecordFaultKind → Type 0
-HoldsFault rack area before metaslab place kind = RecordIsBad rack area before.held before.leaves before.counts metaslab place kind
+-- the uberblock that a shelf held, a record of a metaslab, or the check record has this fault
+abbrev pub HoldsFault : {R A : Type 0} → racks.Ghosts R → areas.Ghosts A → OnShelf → RecordName → ℕ → RecordFaultKind → Type 0
+HoldsFault rack area before record_name.Uber place kind = RecordIsBad rack area before.held before.leaves before.counts None place kind
+HoldsFault rack area before (record_name.Metaslab metaslab) place kind = RecordIsBad rack area before.held before.leaves before.counts (Some metaslab) place kind
+HoldsFault rack area before record_name.Check place kind = CheckIsBad rack area before.held before.leaves before.counts place kind

@@ -12,6 +12,7 @@ ghost use Rattle.draid_run.specs.Serve.{AnswerIs, AskIs, IsSaid};
 ghost use Rattle.draid_pool.specs.Shelves.{OnShelf, on_shelf};
 
 use crate::repairing::{reply_to_agent, reply_to_journal};
+use crate::status::RecordName;
 use crate::{closing, opening, replies};
 use draid_agent::{Journal, Policy};
 use draid_area::Area;
@@ -33,9 +34,9 @@ pub(crate) enum Stop {
     Unbuilt,
     /// A call of the shelf, or on an area of the pool, failed.
     Shelf,
-    /// What has the first fault begins at byte `at`: of a metaslab's record, or of the uberblock's slot.
+    /// What has the first fault begins at byte `at` of this record.
     Record {
-        metaslab: Option<u32>,
+        name: RecordName,
         at: u64,
         kind: RecordFaultKind,
     },

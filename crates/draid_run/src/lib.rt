@@ -27,6 +27,6 @@ pub use laws::{
     runs_stay_legal, undisturbed_runs_are_done,
 };
 pub use origins::{known_pools_have_a_book, new_shelves_keep_the_book, told_pools_are_reached};
-pub use status::{LineRefusal, Status};
+pub use status::{LineRefusal, RecordName, Status};
 pub use top::{end_run, run};
 pub use turns::{each_line_is_a_turn, runs_are_sessions};

@@ -3,10 +3,11 @@ ghost use Rattle.std.specs.Prelude.{◌≡◌, ◌≤◌};
 ghost use Rattle.draid_session.specs.Session.{Desk};
 ghost use Rattle.draid_pool.specs.Shelves.{OnShelf, on_shelf};
 ghost use Rattle.draid_run.specs.Desks.{IsDesk};
-ghost use Rattle.draid_run.specs.Importing.{ImportIs, stop_of_import};
+ghost use Rattle.draid_run.specs.Importing.{ImportIs, name_of, stop_of_import};
 ghost use Rattle.draid_run.specs.Making.{CreateIs};
 
 use crate::answer::Stop;
+use crate::status::RecordName;
 use draid_create::reply_to_create;
 use draid_import::{ImportStop, reply_to_import};
 use draid_names::Failed;
@@ -61,12 +62,31 @@ pub(crate) fn import<H: Shelf>(
     }
 }
 
+/// The record of a metaslab, or the uberblock's slot.
+fn record_name(metaslab: Option<u32>) -> RecordName
+    ensures { result ≡ name_of metaslab }
+{
+    match metaslab {
+        Some(metaslab) => RecordName::Metaslab(metaslab),
+        None => RecordName::Uber,
+    }
+}
+
 /// Why a run ends at an import that has no reply.
 fn import_stop(stop: ImportStop) -> Stop
     ensures { result ≡ stop_of_import stop }
 {
     match stop {
         ImportStop::Shelf => Stop::Shelf,
-        ImportStop::Record { metaslab, at, kind } => Stop::Record { metaslab, at, kind },
+        ImportStop::Record { metaslab, at, kind } => Stop::Record {
+            name: record_name(metaslab),
+            at,
+            kind,
+        },
+        ImportStop::Check { at, kind } => Stop::Record {
+            name: RecordName::Check,
+            at,
+            kind,
+        },
     }
 }

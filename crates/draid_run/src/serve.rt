@@ -41,7 +41,7 @@ fn stopped(number: u64, stop: Stop) -> Status
             at: 0,
         },
         Stop::Shelf => Status::ShelfFault,
-        Stop::Record { metaslab, at, kind } => Status::Record { metaslab, at, kind },
+        Stop::Record { name, at, kind } => Status::Record { name, at, kind },
     }
 }
 
@@ -202,7 +202,16 @@ pub(crate) fn serve<
             Err(status) => return status,
         };
         if let Err(status) = serve_line(
-            rt, alloc, shelf, pool, chooser, policy, &mut journal, sink, number, &text,
+            rt,
+            alloc,
+            shelf,
+            pool,
+            chooser,
+            policy,
+            &mut journal,
+            sink,
+            number,
+            &text,
         ) {
             return status;
         }

@@ -1,4 +1,4 @@
-ghost use Rattle.std.specs.Prelude.{◌≡◌, Some, None, IfOk, IfSome, IfNone, string_bytes};
+ghost use Rattle.std.specs.Prelude.{◌≡◌, IfOk, IfSome, IfNone, string_bytes};
 ghost use Rattle.draid_run.specs.Status.{HasNumber, fixed_text, last_text};
 
 use draid_record::RecordFaultKind;
@@ -28,6 +28,17 @@ impl LineRefusal {
     }
 }
 
+/// Which record has a fault to an import.
+#[derive(Clone, Copy, PartialEq, Eq)]
+pub enum RecordName {
+    /// The slot of the uberblock.
+    Uber,
+    /// The record of this metaslab.
+    Metaslab(u32),
+    /// The check record.
+    Check,
+}
+
 /// What a run came to, with the program's exit status in brackets.
 #[derive(Clone, Copy, PartialEq, Eq)]
 pub enum Status {
@@ -53,9 +64,9 @@ pub enum Status {
     },
     /// A call of the shelf, or on an area of a pool, failed (7).
     ShelfFault,
-    /// What has the first fault begins at byte `at`: of a metaslab's record, or of the uberblock's slot (8).
+    /// What has the first fault begins at byte `at` of this record (8).
     Record {
-        metaslab: Option<u32>,
+        name: RecordName,
         at: u64,
         kind: RecordFaultKind,
     },
@@ -104,7 +115,7 @@ fn metaslab_refused(
     at: u64,
     kind: RecordFaultKind,
 ) -> Result<String, AllocError>
-    ensures { IfOk result (λ text. string_bytes text ≡ last_text (Status.Record (Some metaslab) at kind)) }
+    ensures { IfOk result (λ text. string_bytes text ≡ last_text (Status.Record (RecordName.Metaslab metaslab) at kind)) }
 {
     let number = kind.number();
     format!(in alloc; "record metaslab={metaslab} at={at} kind={number}\n")
@@ -112,10 +123,34 @@ fn metaslab_refused(
 
 /// The line that is printed last where the uberblock's slot has a fault.
 fn uber_refused(alloc: Global, at: u64, kind: RecordFaultKind) -> Result<String, AllocError>
-    ensures { IfOk result (λ text. string_bytes text ≡ last_text (Status.Record None at kind)) }
+    ensures { IfOk result (λ text. string_bytes text ≡ last_text (Status.Record RecordName.Uber at kind)) }
 {
     let number = kind.number();
     format!(in alloc; "record uber at={at} kind={number}\n")
+}
+
+/// The line that is printed last where the check record has a fault.
+fn check_refused(alloc: Global, at: u64, kind: RecordFaultKind) -> Result<String, AllocError>
+    ensures { IfOk result (λ text. string_bytes text ≡ last_text (Status.Record RecordName.Check at kind)) }
+{
+    let number = kind.number();
+    format!(in alloc; "record check at={at} kind={number}\n")
+}
+
+/// The line that is printed last where a record has a fault.
+fn record_refused(
+    alloc: Global,
+    name: RecordName,
+    at: u64,
+    kind: RecordFaultKind,
+) -> Result<String, AllocError>
+    ensures { IfOk result (λ text. string_bytes text ≡ last_text (Status.Record name at kind)) }
+{
+    match name {
+        RecordName::Uber => uber_refused(alloc, at, kind),
+        RecordName::Metaslab(metaslab) => metaslab_refused(alloc, metaslab, at, kind),
+        RecordName::Check => check_refused(alloc, at, kind),
+    }
 }
 
 /// The line that is printed last, its end included, where it names a number.
@@ -127,16 +162,7 @@ pub(crate) fn numbered_line(alloc: Global, status: Status) -> Option<Result<Stri
     match status {
         Status::Line { line, why, at } => Some(line_refused(alloc, line, why, at)),
         Status::TooLong { line } => Some(line_too_long(alloc, line)),
-        Status::Record {
-            metaslab: Some(metaslab),
-            at,
-            kind,
-        } => Some(metaslab_refused(alloc, metaslab, at, kind)),
-        Status::Record {
-            metaslab: None,
-            at,
-            kind,
-        } => Some(uber_refused(alloc, at, kind)),
+        Status::Record { name, at, kind } => Some(record_refused(alloc, name, at, kind)),
         _ => None,
     }
 }

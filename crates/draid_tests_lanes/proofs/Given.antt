@@ -1,7 +1,7 @@
 -- Commands that lanes with lists of numbers may be given, and what their jobs keep.
-use Rattle.std.proofs.Common.{◌≡◌, ◌∙◌, ◌++◌, ◌∷◌, ◌<◌, ◌≤◌, ◌+◌, ◌⊎◌, inl, inr, ℕ, zero, suc, Bool, true, false, ◌||◌, List, [], Option, Some, length, ap, arith, refl, subst, sym, ⊎_elim}
+use Rattle.std.proofs.Common.{◌≡◌, ◌∙◌, ◌++◌, ◌∷◌, ◌<◌, ◌≤◌, ◌+◌, ◌-◌, ◌⊎◌, inl, inr, ℕ, zero, suc, Bool, true, false, ◌||◌, List, [], Option, Some, length, ap, arith, refl, subst, sym, ⊎_elim}
 use Rattle.std.proofs.lemmas.Bool.Decides.{nat_tests}
-use Rattle.std.specs.Prelude.{slice_get}
+use Rattle.std.specs.Prelude.{slice_get, nat_le, ◌&&◌}
 use Rattle.std.specs.Borrow.{Bor}
 use Rattle.std.specs.Fn.{Shared}
 use Rattle.std.specs.declared.vec.Vec.{Vec}
@@ -26,18 +26,18 @@ use Rattle.draid_tests_lanes.specs.Ready.{AreReady, IsReady}
 
 -- ---- whoever owns as much may be given the same
 
-module _ (owns more : ℕ → Bool) (as : (n : ℕ) → owns n ≡ true → more n ≡ true) where
+module _ (owns more : ℕ → Bool) (so : (n : ℕ) → owns n ≡ true → more n ≡ true) where
   of_lane_as : (command : Command) → IsOfLane owns command → IsOfLane more command
   of_lane_as SyncPool is = is
-  of_lane_as (WriteObject object bytes) is = as object is
-  of_lane_as (FillObjects first count len seed) is = λ o low high. as o (is o low high)
-  of_lane_as (ReadObject object) is = as object is
-  of_lane_as (FreeObject object) is = as object is
-  of_lane_as (SumObjects first count) is = λ o low high. as o (is o low high)
+  of_lane_as (WriteObject object bytes) is = so object is
+  of_lane_as (FillObjects first count len seed) is = λ o low high. so o (is o low high)
+  of_lane_as (ReadObject object) is = so object is
+  of_lane_as (FreeObject object) is = so object is
+  of_lane_as (SumObjects first count) is = λ o low high. so o (is o low high)
   of_lane_as (TakeOffline leaf) is = is
   of_lane_as (TakeOnline leaf) is = is
-  of_lane_as (RebuildPool limit) is = as passes_number is
-  of_lane_as (ScrubPool limit) is = as passes_number is
+  of_lane_as (RebuildPool limit) is = so passes_number is
+  of_lane_as (ScrubPool limit) is = so passes_number is
   of_lane_as Silent is = absurd is
   of_lane_as (CreatePool spec children keys) is = absurd is
   of_lane_as ImportPool is = absurd is
@@ -108,9 +108,9 @@ module _ {F : Type 0} (closure : Shared F (Bor (List Room) × Unit {0}) (Option 
   ready_more lists jobs jobs' at list job ready many there also more i other also_job is_list is_job =
       ⊎_elim (λ (t : slice_get jobs i ≡ Some also_job). ready i other also_job is_list t)
       (λ (t : (i ≡ length jobs) × (job ≡ also_job)).
-        let here : slice_get lists i ≡ Some list = ap (slice_get lists) (t.0 ∙ many) ∙ there in
-        let same : list ≡ other = some_is (slice_get lists i) list other here is_list in
-        subst (λ (l : Vec Span Global). IsReady closure l.items also_job) same (subst (IsReady closure list.items) t.1 also))
+      let here : slice_get lists i ≡ Some list = ap (slice_get lists) (t.0 ∙ many) ∙ there in
+      let same : list ≡ other = some_is (slice_get lists i) list other here is_list in
+      subst (λ (l : Vec Span Global). IsReady closure l.items also_job) same (subst (IsReady closure list.items) t.1 also))
       (at_push jobs job also_job i (ap (λ js. slice_get js i) (sym more) ∙ is_job))
 
 -- ---- numbers in a span of a list
@@ -127,3 +127,10 @@ pub in_one : (spans : List Span) (k : ℕ) (span : Span) (n : ℕ) → slice_get
 in_one [] k span n there is = absurd (cc)
 in_one (s ∷ spans) zero span n there is = (let same : s ≡ span = cc in or_left (in_span n s) (holds n spans) (ap (in_span n) same ∙ is))
 in_one (s ∷ spans) (suc k) span n there is = or_right (in_span n s) (holds n spans) (in_one spans k span n there is)
+
+in_from : (low high first count n : ℕ) → 1 ≤ count → low ≤ first → first ≤ high → count - 1 ≤ high - first → first ≤ n → n < first + count → (nat_le low n && nat_le n high) ≡ true
+in_from low high first count n some least most room from to = grind (arith, nat_tests, some, least, most, room, from, to)
+
+-- so are as many from one on that lie in it
+pub one_has : (spans : List Span) (k : ℕ) (span : Span) (first count : ℕ) → slice_get spans k ≡ Some span → 1 ≤ count → span.first ≤ first → first ≤ span.last → count - 1 ≤ span.last - first → (n : ℕ) → first ≤ n → n < first + count → holds n spans ≡ true
+one_has spans k span first count there some least most room n from to = in_one spans k span n there (in_from span.first span.last first count n some least most room from to)

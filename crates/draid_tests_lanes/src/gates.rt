@@ -13,7 +13,7 @@ pub struct Stop {
 }
 
 /// How often a lane yields at most where it waits: a test ends also where the other one never comes.
-const TURNS: u32 = 20_000;
+pub const TURNS: u32 = 5_000_000;
 
 /// A gate at which lanes wait for each other by a table.
 #[derive(Drop)]
@@ -21,6 +21,8 @@ pub struct TableGate {
     stops: &'static [Stop],
     /// How many locks each lane has come to.
     came: Vec<AtomicU64>,
+    /// How often a lane waited for one that didn't come.
+    missed: AtomicU64,
 }
 
 impl TableGate {
@@ -34,7 +36,16 @@ impl TableGate {
         for _ in 0..lanes {
             came.push(AtomicU64::new(0))?;
         }
-        Ok(TableGate { stops, came })
+        Ok(TableGate {
+            stops,
+            came,
+            missed: AtomicU64::new(0),
+        })
+    }
+
+    /// Whether each lane for which one waited came.
+    pub fn is_met(&self) -> bool {
+        self.missed.load(SeqCst) == 0
     }
 
     /// Whether a lane has come to so many locks.
@@ -52,6 +63,7 @@ impl TableGate {
             }
             thread::yield_now();
         }
+        self.missed.fetch_add(1, SeqCst);
     }
 }
 

@@ -7,6 +7,8 @@ mod gates;
 #[cfg(test)]
 mod lists;
 #[cfg(test)]
+mod meeting;
+#[cfg(test)]
 mod ready;
 #[cfg(test)]
 mod runs;

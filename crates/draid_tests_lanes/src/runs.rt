@@ -67,7 +67,7 @@ pub struct Section {
     pub exported: bool,
 }
 
-/// Runs jobs in lanes over a pool, which comes back with what each lane replied; none where no lane ran, or one stopped.
+/// Runs jobs in lanes over a pool, which comes back with what each lane replied; none where no lane ran, one stopped, or one waited in vain for another.
 fn run_jobs<
     R: Rack + Send,
     A: Area + Send,
@@ -90,8 +90,8 @@ fn run_jobs<
 {
     let (pool, ran) = run_in_lanes(rt, gate, pool, numbers, jobs);
     match ran {
-        Ok(jobs) => (pool, replies_of(alloc, jobs)),
-        Err(_) => (pool, None),
+        Ok(jobs) if gate.is_met() => (pool, replies_of(alloc, jobs)),
+        _ => (pool, None),
     }
 }
 

@@ -12,7 +12,7 @@ type Case = (Section, &'static [&'static str], &'static str, &'static str);
 
 const CREATE: &str = "create draid1:2d:3c:0s 3 sector=512 height=8 metaslabs=2 slices=4\n";
 
-static CASES: [Case; 4] = [
+static CASES: [Case; 7] = [
     // Two lanes write and read objects of their own.
     (
         Section {
@@ -116,6 +116,117 @@ static CASES: [Case; 4] = [
         ],
         "import\nread 1001\nread 1002\nonline 1\n",
         "import draid1:2d:3c:0s-0 group=2 objects=2\nread 1001 1 33\nread 1002 1 44\nonline 1 ok\n",
+    ),
+    // A column of one lane's write lands between two of another's, each in a hold of its own.
+    (
+        Section {
+            before: CREATE,
+            stops: &[
+                Stop {
+                    lane: 1,
+                    call: 3,
+                    of: 0,
+                    calls: 5,
+                },
+                Stop {
+                    lane: 0,
+                    call: 4,
+                    of: 1,
+                    calls: 5,
+                },
+                // The last of its holds.
+                Stop {
+                    lane: 1,
+                    call: 4,
+                    of: 0,
+                    calls: 7,
+                },
+            ],
+            lanes: &["write 1 11\n", "write 1001 33\n"],
+            exported: true,
+        },
+        &["write 1 ok\n", "write 1001 ok\n"],
+        "import\nread 1\nread 1001\n",
+        "import draid1:2d:3c:0s-0 group=2 objects=2\nread 1 1 11\nread 1001 1 33\n",
+    ),
+    // Before the first column of a write another lane reads, and a third one's sync waits, which commits that write too.
+    (
+        Section {
+            before: "create draid1:2d:3c:0s 3 sector=512 height=8 metaslabs=2 slices=4\nwrite 1005 bb\nsync\n",
+            stops: &[
+                Stop {
+                    lane: 1,
+                    call: 0,
+                    of: 0,
+                    calls: 4,
+                },
+                Stop {
+                    lane: 2,
+                    call: 0,
+                    of: 0,
+                    calls: 4,
+                },
+                Stop {
+                    lane: 0,
+                    call: 3,
+                    of: 1,
+                    calls: 3,
+                },
+                Stop {
+                    lane: 0,
+                    call: 3,
+                    of: 2,
+                    calls: 107,
+                },
+            ],
+            lanes: &[
+                "write 1 11\n",
+                "read 1005\nread 1005\nread 1005\n",
+                "write 2001 55\nsync\n",
+            ],
+            exported: false,
+        },
+        &[
+            "write 1 ok\n",
+            "read 1005 1 bb\nread 1005 1 bb\nread 1005 1 bb\n",
+            "write 2001 ok\nsync group=3 thin=0\n",
+        ],
+        "import\nread 1\nread 2001\n",
+        "import draid1:2d:3c:0s-0 group=3 objects=3\nread 1 1 11\nread 2001 1 55\n",
+    ),
+    // A sync that waits at the second metaslab for an open write counts what is thin in both.
+    (
+        Section {
+            before: "create draid1:2d:3c:0s 3 sector=512 height=8 metaslabs=2 slices=4\noffline 1\nfill 0 30 1024 1\nsync\n",
+            stops: &[
+                Stop {
+                    lane: 0,
+                    call: 0,
+                    of: 1,
+                    calls: 15,
+                },
+                Stop {
+                    lane: 1,
+                    call: 14,
+                    of: 0,
+                    calls: 4,
+                },
+                Stop {
+                    lane: 0,
+                    call: 3,
+                    of: 1,
+                    calls: 114,
+                },
+            ],
+            lanes: &["write 100 11\n", "fill 1000 2 1024 1\nsync\n"],
+            exported: false,
+        },
+        &[
+            "write 100 ok\n",
+            "fill 1000 written=2\nsync group=3 thin=3\n",
+        ],
+        "import\nread 100\n",
+        "import draid1:2d:3c:0s-0 group=3 objects=33\nread 100 1 11\n",
     ),
 ];
 

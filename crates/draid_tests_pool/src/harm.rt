@@ -25,6 +25,10 @@ fn layout(metaslabs: u32, slices: u32) -> Result<Geometry, SpecFault> {
 enum Place {
     /// These bytes are written over those of the uberblock.
     Uber,
+    /// They are over those of the check record of an even group.
+    Check,
+    /// They are the group of the uberblock and of that check record.
+    Group,
     /// They are over those of the record of an even group in metaslab 0.
     Even,
     /// They are in metaslab 1.
@@ -49,6 +53,18 @@ fn change_uber(shelf: &mut MemoryShelf, at: u64, bytes: &[u8]) -> bool {
         Ok(mut uber) => {
             let done = overwrite(&mut uber, at, bytes);
             shelf.give_uber(uber);
+            done
+        }
+        Err(_) => false,
+    }
+}
+
+/// Writes bytes over those of the check record of an even group.
+fn change_check(shelf: &mut MemoryShelf, at: u64, bytes: &[u8]) -> bool {
+    match shelf.take_check() {
+        Ok((mut even, odd)) => {
+            let done = overwrite(&mut even, at, bytes);
+            shelf.give_check(even, odd);
             done
         }
         Err(_) => false,
@@ -110,6 +126,8 @@ fn change_in(alloc: Global, shelf: &mut MemoryShelf, layout: &Geometry, change: 
     let (place, at, bytes) = change;
     match place {
         Place::Uber => change_uber(shelf, at, bytes),
+        Place::Check => change_check(shelf, at, bytes),
+        Place::Group => change_uber(shelf, 7, bytes) && change_check(shelf, 10, bytes),
         Place::Even => change_even(shelf, layout, 0, at, bytes),
         Place::Later => change_even(shelf, layout, 1, at, bytes),
         Place::Leaf => lose_leaf(shelf, layout, at),
@@ -243,7 +261,7 @@ static HARMS: [Harm; 13] = [
     ),
     // The last group, behind which none is committed.
     (
-        Some((Place::Uber, 7, &LAST)),
+        Some((Place::Group, 7, &LAST)),
         Some((Place::Even, 12, &LAST)),
         "import\nsync\nread 7\nexport\n",
         0,
@@ -394,7 +412,7 @@ static LEAVES: [Harm; 4] = [
 ];
 
 // What the records of the two metaslabs have in common.
-static PAIRS: [Harm; 10] = [
+static PAIRS: [Harm; 12] = [
     // An arm that is offline in one metaslab, in both, and one that is fresh in one.
     (
         Some((Place::Later, 32, &[1])),
@@ -467,6 +485,20 @@ static PAIRS: [Harm; 10] = [
         "import\n",
         8,
         "record uber at=43 kind=2\n",
+    ),
+    (
+        Some((Place::Check, 0, b"DZRX")),
+        Some((Place::Later, 104, &[0, 0, 0, 7, 0, 0, 0, 0, 0, 0, 0, 1])),
+        "import\n",
+        8,
+        "record metaslab=1 at=100 kind=5\n",
+    ),
+    (
+        Some((Place::Check, 0, b"DZRX")),
+        None,
+        "import\n",
+        8,
+        "record check at=0 kind=2\n",
     ),
 ];
 

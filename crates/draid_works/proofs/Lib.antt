@@ -1,3 +1,4 @@
+pub mod Done
 pub mod FilledIn
 pub mod FilledTable
 pub mod LaneStays
@@ -18,5 +19,6 @@ pub mod Switched
 pub mod SyncFails
 pub mod SyncStays
 pub mod SyncSteps
+pub mod TaughtTable
 pub mod Waited
 pub mod Whole

@@ -46,7 +46,7 @@ same_parts : (h k : Hold) (hs ks : List Hold) → ◌≡◌ {A = List Hold} (h �
 same_parts h k hs ks e = (cc, cc)
 
 -- looks at the end needn't be there
-left_less : (holds front back : List Hold) → OnlyLooks back → LeavesLooks holds (front ++ back) → LeavesLooks holds front
+pub left_less : (holds front back : List Hold) → OnlyLooks back → LeavesLooks holds (front ++ back) → LeavesLooks holds front
 left_less [] [] back looks l = refl
 left_less [] (f ∷ front) back looks l = absurd (cc)
 left_less (hold ∷ holds) front back looks (inl l) = inl (l.0, left_less holds front back looks l.1)

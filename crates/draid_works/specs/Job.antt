@@ -1,16 +1,18 @@
 -- The commands of a lane, one after another, and what it replies to them.
-use Rattle.std.specs.Prelude.{◌≡◌, ◌<◌, ◌≤◌, ⊤, ℕ, Bool, true, false, List, [], Option, Some, length, slice_get, vec_capacity}
+use Rattle.std.specs.Prelude.{◌≡◌, ◌<◌, ◌≤◌, ◌∷◌, ⊤, ℕ, Bool, true, false, List, [], Option, Some, Ok, Err, length, slice_get, vec_capacity}
 use Rattle.std.specs.Borrow.{Bor}
 use Rattle.std.specs.Fn.{Shared}
 use Rattle.std.specs.declared.vec.Vec.{Vec}
 use Rattle.std.specs.declared.alloc.Global.{Global}
 use Rattle.draid_choose.specs.Rooms.{IsChooser}
+use Rattle.draid_names.specs.declared.fault.Failed.{Failed}
 use Rattle.draid_names.specs.declared.room.Room.{Room}
 use Rattle.draid_rack.specs.declared.Rack as racks
 use Rattle.draid_area.specs.declared.Area as areas
 use Rattle.draid_script.specs.Line.{Command, FillObjects, FreeObject, IsInRange, ReadObject, RebuildPool, ScrubPool, SumObjects, SyncPool, TakeOffline, TakeOnline, WriteObject, command_in}
 use Rattle.draid_script.specs.declared.line.Line.{Line}
 use Rattle.draid_reply.specs.declared.reply.Reply.{Reply}
+use Rattle.draid_session.specs.Choices.{Choices}
 use Rattle.draid_session.specs.Replies.{IsReplyTo}
 use Rattle.draid_spec.specs.Geometry.{IsGeometry}
 use Rattle.draid_pool.specs.Drifts.{passes_number}
@@ -18,6 +20,7 @@ use Rattle.draid_store.specs.Fetching.{OwnsFrom}
 use Rattle.draid_lanes.specs.Lanes.{IsSameLane, IsWholeLane}
 use Rattle.draid_lanes.specs.Locks.{owned_by}
 use Rattle.draid_lanes.specs.declared.lane.Lane.{Lane}
+use Rattle.draid_works.specs.Replied.{CommandDone}
 
 -- a lane that owns these numbers may be given the command: it owns the objects that this names, and the passes where it mends
 abbrev pub IsOfLane : (owns : ℕ → Bool) → Command → Type 0
@@ -76,9 +79,18 @@ module _ {R A G W : Type 0} where
     pub none : replies.items ≡ []
     pub room : length lines ≤ vec_capacity replies
 
-  -- they were done one after another, up to one at which an area failed; each before that has its reply
-  pub record DoesCommands (rack : racks.Ghosts R) (area : areas.Ghosts A) (lines : Vec Line Global) (old : Lane R A G W) (lines' : Vec Line Global) (replies : List Reply) (stopped : Bool) (new : Lane R A G W) : Type 0 where
+  -- Commands were done one after another, up to one that an area failed: each before that has its reply. Behind each the lane was whole, and the same.
+  abbrev pub CommandsDone : racks.Ghosts R → areas.Ghosts A → Choices → List Line → List Reply → Bool → (old new : Lane R A G W) → Type 0
+  CommandsDone rack area choices [] [] false old new = new ≡ old
+  CommandsDone rack area choices (line ∷ lines) (reply ∷ replies) stopped old new =
+      (mid : Lane R A G W) × LeavesWhole rack area old mid × CommandDone rack area choices (command_in line) (Ok reply) old mid × CommandsDone rack area choices lines replies stopped mid new
+  CommandsDone rack area choices (line ∷ lines) [] true old new = (failed : Failed) × LeavesWhole rack area old new × CommandDone rack area choices (command_in line) (Err failed) old new
+  CommandsDone rack area choices lines replies stopped old new = ⊥
+
+  -- so were the lines of a job
+  pub record DoesCommands (rack : racks.Ghosts R) (area : areas.Ghosts A) (choices : Choices) (lines : Vec Line Global) (old : Lane R A G W) (lines' : Vec Line Global) (replies : List Reply) (stopped : Bool) (new : Lane R A G W) : Type 0 where
     pub leaves : LeavesWhole rack area old new
     pub same : lines' ≡ lines
     pub fits : AreRepliesTo lines.items replies
     pub all : AreAll stopped lines.items replies
+    pub done : CommandsDone rack area choices lines.items replies stopped old new

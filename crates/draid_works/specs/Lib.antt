@@ -2,5 +2,6 @@ pub mod Failing
 pub mod Job
 pub mod Lanes
 pub mod Mended
+pub mod Replied
 pub mod Switched
 pub mod Waiting

@@ -1,12 +1,15 @@
 //! A lane's commands as a job: one is done after another, and each has its reply.
-ghost use Rattle.std.specs.Prelude.{◌≡◌, ◌≤◌, [], IfOk, false, length, vec_capacity};
+ghost use Rattle.std.specs.Prelude.{◌≡◌, ◌≤◌, [], IfOk, Ok, false, length, vec_capacity};
+ghost use Rattle.std.specs.Fn.{FnReturnsAt};
 ghost use Rattle.draid_choose.specs.Rooms.{IsChooser};
 ghost use Rattle.draid_script.specs.Line.{command_in};
+ghost use Rattle.draid_session.specs.Choices.{choices_by};
 ghost use Rattle.draid_session.specs.Replies.{IsReplyTo};
 ghost use Rattle.draid_spec.specs.Geometry.{IsGeometry};
 ghost use Rattle.draid_lanes.specs.Lanes.{IsWholeLane};
 ghost use Rattle.draid_lanes.specs.Locks.{owned_by};
-ghost use Rattle.draid_works.specs.Job.{AreAll, AreRepliesTo, IsOnObjects, LeavesWhole, MayAllBeGiven, MayBeGiven};
+ghost use Rattle.draid_works.specs.Job.{AreAll, AreRepliesTo, CommandsDone, IsOnObjects, LeavesWhole, MayAllBeGiven, MayBeGiven};
+ghost use Rattle.draid_works.specs.Replied.{CommandDone};
 
 use crate::filling::fill_in_lane;
 use crate::replies::{
@@ -75,6 +78,7 @@ fn reply_on_objects<
     requires objects { IsOnObjects (command_in line.now) }
     ensures leaves { LeavesWhole R.Rack A.Area lane.old lane.new }
     ensures fits { IsReplyTo (command_in line.now) result }
+    ensures done { CommandDone R.Rack A.Area (choices_by (FnReturnsAt F.Fn chooser.now)) (command_in line.now) (Ok result) lane.old lane.new }
 {
     match line {
         Line::Write { object, bytes } => reply_to_write(alloc, lane, chooser, *object, bytes),
@@ -115,6 +119,7 @@ fn reply_in_lane<
     requires given { MayBeGiven (owned_by lane.metaslabs.passes.items) line.now }
     ensures leaves { LeavesWhole R.Rack A.Area lane.entry result.0 }
     ensures fits { IfOk result.1 (IsReplyTo (command_in line.now)) }
+    ensures done { CommandDone R.Rack A.Area (choices_by (FnReturnsAt F.Fn chooser.now)) (command_in line.now) result.1 lane.entry result.0 }
 {
     match line {
         Line::Sync => reply_to_sync(lane),
@@ -157,6 +162,7 @@ fn reply_to_each<
     ensures leaves { LeavesWhole R.Rack A.Area lane.entry result.0 }
     ensures fits { AreRepliesTo lines.now replies.new.items }
     ensures all { AreAll result.1 lines.now replies.new.items }
+    ensures done { CommandsDone R.Rack A.Area (choices_by (FnReturnsAt F.Fn chooser.now)) lines.now replies.new.items result.1 lane.entry result.0 }
 {
     for i in 0..lines.len() {
         let (next, came) = reply_in_lane(alloc, lane, chooser, &lines[i]);
@@ -177,16 +183,15 @@ impl<
     W: Wait + Threads + Sync,
     F: Fn(&[Room]) -> Option<u32>,
 > LaneJob<R, A, G, W> for LaneCommands<'c, F> {
+    ghost use Rattle.std.specs.Thread.{IsSync};
     ghost use Rattle.draid_works.specs.Job.{DoesCommands, MayDoCommands};
 
-    ghost needs = { λ job lane. MayDoCommands R.Rack A.Area F.Fn job.chooser.now job.lines.items job.replies lane };
+    // (a sum makes threads, which share the lane's runtime)
+    ghost needs = { λ job lane. IsSync W.row × MayDoCommands R.Rack A.Area F.Fn job.chooser.now job.lines.items job.replies lane };
 
-    ghost relates = { λ job old done new. DoesCommands R.Rack A.Area job.lines old done.lines done.replies.items done.stopped new };
+    ghost relates = { λ job old done new. DoesCommands R.Rack A.Area (choices_by (FnReturnsAt F.Fn job.chooser.now)) job.lines old done.lines done.replies.items done.stopped new };
 
-    fn run<'a, 'b>(&mut self, lane: Lane<'a, 'b, R, A, G, W>) -> Lane<'a, 'b, R, A, G, W>
-        requires needed { MayDoCommands R.Rack A.Area F.Fn self.old.chooser.now self.old.lines.items self.old.replies lane }
-        ensures related { DoesCommands R.Rack A.Area self.old.lines lane.entry self.new.lines self.new.replies.items self.new.stopped result }
-    {
+    fn run<'a, 'b>(&mut self, lane: Lane<'a, 'b, R, A, G, W>) -> Lane<'a, 'b, R, A, G, W> {
         let (lane, stopped) = reply_to_each(
             self.alloc,
             lane,

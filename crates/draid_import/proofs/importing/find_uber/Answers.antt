@@ -8,7 +8,7 @@ use Rattle.draid_pool.specs.Shelves.{count_on}
 use Rattle.draid_pool.specs.Taking.{gives_areas}
 use Rattle.draid_import.proofs.Counted.{count_still, given_later, later_by, put_as}
 use Rattle.draid_import.proofs.Found.{areas_put, leaf_found, own_checks, own_uber, uber_left, found_uber, none_there, pool_there}
-use Rattle.draid_import.proofs.ImportFaulty.{err_is, no_uber, shelf_no_record, shelf_not_empty, tells_body, uber_bad, uber_empty}
+use Rattle.draid_import.proofs.ImportFaulty.{absent_no_check, err_is, no_uber, shelf_no_check, shelf_no_record, shelf_not_empty, tells_body, uber_bad, uber_empty, uber_no_check}
 use Rattle.draid_import.proofs.ImportMade.{made_left, made_not, made_same, made_untaken}
 use Rattle.draid_import.proofs.ImportTaken.{no_pool, not_found, not_taken, taken_not}
 use Rattle.draid_pool.proofs.Refusing.{no_refusal}
@@ -43,6 +43,7 @@ returns-in-Ok-recover g c =
       import = λ x pieces there. tt;
       leaves = c.take_areas.ensures.leaves;
       faulty = λ metaslab place kind err. absurd (no_refusal err);
+      check = λ place kind err. absurd (no_refusal err);
       none = taken_not c.in-Ok.areas (g.H.Shelf.told c.args.shelf.now) _ c.in-Ok.ensures.needs;
       made = λ geometry made. absurd (made_not geometry (g.H.Shelf.told c.args.shelf.now) (g.H.A.Area.told c.in-Ok.areas.uber) (kept_of c.in-Ok-recover.uber) _ (own_uber (told_by g.H.A.Area.told c.in-Ok.areas) (g.H.Shelf.told c.args.shelf.now) t.areas) e.finds e.some made);
       counts = c.take_areas.ensures.counts;
@@ -64,6 +65,7 @@ returns-then-not-has_pool g c =
           (count_on shelf c.args.shelf.now) (count_on shelf c.args.shelf.now) c.has_pool.result c.has_pool.ensures c.if-not-has_pool.true there;
       leaves = λ m. refl;
       faulty = λ metaslab place kind err. absurd (absent_no_record metaslab place kind err);
+      check = λ place kind err. absurd (absent_no_check place kind err);
       none = none_there (g.H.Shelf.told c.args.shelf.now) _ (λ held none. (refl, record { held = refl; counts = λ m. refl; uber = refl; checks = refl }));
       made = λ geometry made. made_same geometry (shelf.told c.args.shelf.now) _ (shelf.counts c.args.shelf.now) _ _ _ _ tt refl (λ m. refl) refl refl made;
       counts = λ m. refl;
@@ -88,6 +90,7 @@ returns-in-Err g c =
           (shelf.counts c.args.shelf.now) (shelf.counts c.take_areas.new.shelf) (count_on shelf c.args.shelf.now) (count_on shelf c.take_areas.new.shelf) c.in-Err.why e.back e.leaves e.counts (count_still (shelf.uber_count c.args.shelf.now) (shelf.uber_count c.take_areas.new.shelf) (shelf.check_counts c.args.shelf.now) (shelf.check_counts c.take_areas.new.shelf) e.back_count.0 e.back_count.1) there);
       leaves = c.take_areas.ensures.leaves;
       faulty = λ metaslab place kind err. absurd (shelf_no_record c.in-Err.why metaslab place kind (sym c.shelf_fault.ensures.is ∙ err_is c.shelf_fault.result _ err));
+      check = shelf_no_check c.in-Err.why c.shelf_fault.result c.shelf_fault.ensures.is;
       none = pool_there (g.H.Shelf.told c.args.shelf.now) c.has_pool.result _ c.has_pool.ensures c.if-not-has_pool.false;
       made = λ geometry made. made_untaken geometry (shelf.told c.args.shelf.now) (shelf.told c.take_areas.new.shelf) (shelf.counts c.args.shelf.now) (shelf.counts c.take_areas.new.shelf) _ _ c.in-Err.why
           (Err c.shelf_fault.result) (ap Err c.shelf_fault.ensures.is) e.back e.counts e.back_count.0 e.back_count.1 made;
@@ -124,6 +127,7 @@ returns-in-Err-recover g c =
           r.field-0.why t.areas c.has_length_told.ensures r.ensures.finds r.ensures.err r.ensures.empty t.told now (λ m. e.leaves m ∙ t.leaves m) (λ m. e.counts m ∙ t.counts m) rise.1 there);
       leaves = λ m. c.give_areas.ensures.leaves m ∙ c.take_areas.ensures.leaves m;
       faulty = λ metaslab place kind err. uber_bad c.in-Ok.areas (g.H.Shelf.told c.args.shelf.now) was.uber r.field-0.why metaslab place kind own t.needs r.ensures.finds (sym c.uber_fault.ensures.is ∙ err_is c.uber_fault.result _ err);
+      check = uber_no_check r.field-0.why c.uber_fault.result c.uber_fault.ensures.is;
       none = taken_not c.in-Ok.areas (g.H.Shelf.told c.args.shelf.now) _ c.in-Ok.ensures.needs;
       made = λ geometry made. made_left geometry (shelf.told c.args.shelf.now) (shelf.told c.take_areas.new.shelf) (shelf.told c.give_areas.new.shelf) (shelf.counts c.args.shelf.now) (shelf.counts c.give_areas.new.shelf) _ _
           was.uber (area.told r.field-0.areas.uber) was.even was.odd r.field-0.why (Err c.uber_fault.result) (ap Err c.uber_fault.ensures.is) t.areas r.ensures.finds r.ensures.err t.told now (λ m. e.counts m ∙ t.counts m)

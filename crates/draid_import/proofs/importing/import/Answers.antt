@@ -1,4 +1,4 @@
-use Rattle.std.proofs.Common.{◌∙◌, inl, inr, length, List, Result, Err, ap, subst, sym, arith}
+use Rattle.std.proofs.Common.{◌≡◌, ◌∙◌, inl, inr, length, List, Result, Err, ap, subst, sym, arith}
 use Rattle.std.specs.Prelude.{nat_eq}
 use Rattle.std.proofs.lemmas.Result.{err_from_is_err_and}
 use Rattle.std.specs.HashMap.{get}
@@ -9,13 +9,15 @@ use Rattle.draid_uber.specs.declared.uber.Uber.{Uber}
 use Rattle.draid_uber.specs.Uber.{areas_of, kept_of, layout_of, next_leaf_of}
 use Rattle.draid_found.specs.Together.{AreApart, AreTogether}
 use Rattle.draid_session.specs.State.{limit_of}
+use Rattle.draid_import.specs.Checking.{IsBadCheck, IsChecked, OwnCheck}
 use Rattle.draid_import.specs.Findings.{LeavesAll}
 use Rattle.draid_found.specs.Found.{AreFound, AreReady}
 use Rattle.draid_import.specs.Importing.{ImportIs}
 use Rattle.draid_import.specs.declared.fault.ImportFault.{ImportFault}
 use Rattle.draid_pool.specs.declared.pool.Pool.{Pool}
 use Rattle.draid_import.proofs.Findings.{left_found, left_unfound, over_entry, unread_entry}
-use Rattle.draid_import.proofs.ImportFaulty.{err_is, passed_on, shard_not_empty}
+use Rattle.draid_import.proofs.ImportCheck.{bad_entry, checked_entry, risen_own, still_behind, still_body, still_found, still_low, still_over, still_recovered, still_reopened, still_taken}
+use Rattle.draid_import.proofs.ImportFaulty.{err_is, passed_on, passed_over, shard_no_check, shard_not_empty}
 use Rattle.draid_import.proofs.ImportMade.{made_passed, none_passed}
 use Rattle.draid_import.proofs.ImportLeft.{leaves_all, refusal_is, refused_pool, rests_known, risen_behind}
 use Rattle.draid_import.proofs.ImportOne.{no_fault_apart}
@@ -27,10 +29,11 @@ use Rattle.draid_pool.proofs.Failing.{own_given}
 use Rattle.draid_pool.proofs.Refusing.{if_ok_passed, no_refusal, on_err_always, on_ok_passed, passed, passed_is}
 use Rattle.draid_import.proofs.importing.import.Goals as goal
 
-pub find_blocks-requires : goal.find_blocks-requires
-find_blocks-requires g c = record {
+pub find_all-requires : goal.find_all-requires
+find_all-requires g c = record {
   ready = subst (λ (xs : List (Shard g.row.H-R.Denot g.row.H-A.Denot)). AreReady g.H.R.Rack xs) (sym c.deref.ensures.value)
       (all_ready g.H.R.Rack (layout_of c.in_ok-uber.uber) (group_of (kept_of c.in_ok-uber.uber)) c.in-Ok.shards.items c.in-Ok.ensures.reopened);
+  valid = c.in_ok-uber.ensures.found.valid;
 }
 
 pub reopen_shards-requires-clause-uber : goal.reopen_shards-requires-clause-uber
@@ -38,13 +41,17 @@ reopen_shards-requires-clause-uber g c κs within = c.in_ok-uber.ensures.found
 
 pub pool_of-requires : goal.pool_of-requires
 pool_of-requires g c =
+    let area = g.H.A.Area in
+    let old = c.in_ok-uber.uber in
+    let new = c.find_all.new.uber in
+    let k = c.find_all.ensures.same in
     record {
-      uber = c.in_ok-uber.ensures.found;
-      shards = c.in-Ok.ensures.reopened;
-      found = (let found = c.in-Ok-find_blocks.found in
-          subst (λ (xs : List (Shard g.row.H-R.Denot g.row.H-A.Denot)). AreFound xs (get nat_eq found.newest) found.seq) c.deref.ensures.value c.in-Ok-find_blocks.ensures.found);
-      together = subst (λ (xs : List (Shard g.row.H-R.Denot g.row.H-A.Denot)). AreTogether xs (length xs)) c.deref.ensures.value c.in-Ok-find_blocks.ensures.together;
-      low = λ m shard there. (c.in-Ok.ensures.over m shard there).opens.low;
+      uber = still_found area old new k c.in_ok-uber.ensures.found;
+      shards = still_reopened area old new k g.H.R.Rack c.in-Ok.shards.items c.in-Ok.ensures.reopened;
+      found = (let found = c.in-Ok-find_all.found in
+          subst (λ (xs : List (Shard g.row.H-R.Denot g.row.H-A.Denot)). AreFound xs (get nat_eq found.newest) found.seq) c.deref.ensures.value c.in-Ok-find_all.ensures.found);
+      together = subst (λ (xs : List (Shard g.row.H-R.Denot g.row.H-A.Denot)). AreTogether xs (length xs)) c.deref.ensures.value c.in-Ok-find_all.ensures.together;
+      low = still_low area old new k g.H.R.Rack c.in-Ok.shards.items (λ m shard there. (c.in-Ok.ensures.over m shard there).opens.low);
     }
 
 pub give_back-requires-clause-few : goal.give_back-requires-clause-few
@@ -53,44 +60,54 @@ give_back-requires-clause-few g c κs within =
     let most = c.in-Ok.ensures.reopened.layout.geometry_is.props.most_metaslabs in
     omega (arith, many, most)
 
-pub returns-in-Ok-find_blocks : goal.returns-in-Ok-find_blocks
-returns-in-Ok-find_blocks g c =
+pub returns-in-Ok-find_all : goal.returns-in-Ok-find_all
+returns-in-Ok-find_all g c =
     let shelf = g.H.Shelf in
+    let rack = g.H.R.Rack in
+    let area = g.H.A.Area in
+    let u = c.in_ok-uber.ensures in
+    let e = c.in-Ok.ensures in
+    let old = c.in_ok-uber.uber in
+    let new = c.find_all.new.uber in
+    let k = c.find_all.ensures.same in
+    let shards = c.in-Ok.shards.items in
+    let newest = get nat_eq c.in-Ok-find_all.found.newest in
+    let found = still_found area old new k u.found in
+    let recovered = still_recovered area old new k (shelf.told c.args.shelf.now) (count_on shelf c.args.shelf.now) u.recovered in
+    let reopened = still_reopened area old new k rack shards e.reopened in
+    let over = still_over area old new k rack shards (shelf.told c.find_uber.new.shelf) (shelf.leaves c.find_uber.new.shelf) (shelf.counts c.find_uber.new.shelf) e.over in
+    let blocks = subst (λ (xs : List (Shard g.row.H-R.Denot g.row.H-A.Denot)). AreFound xs newest c.in-Ok-find_all.found.seq) c.deref.ensures.value c.in-Ok-find_all.ensures.found in
     record {
       whole = c.pool_of.ensures.whole;
-      none = absent_not c.in_ok-uber.uber (g.H.Shelf.told c.args.shelf.now) _ _ c.in_ok-uber.ensures.none;
-      made = λ geometry made. absurd (c.in_ok-uber.ensures.made geometry made).none;
-      import = λ x pieces there. (let u = c.in_ok-uber.ensures in
-          let newest = get nat_eq c.in-Ok-find_blocks.found.newest in
-          c.pool_of.ensures.imports x pieces
-          (pool_found c.args.alloc g.H.R.Rack g.H.A.Area x pieces (shelf.told c.args.shelf.now) (shelf.told c.find_uber.new.shelf) (shelf.leaves c.args.shelf.now) (shelf.leaves c.find_uber.new.shelf) (shelf.counts c.args.shelf.now) (shelf.counts c.find_uber.new.shelf)
-          (count_on shelf c.args.shelf.now) c.in_ok-uber.uber c.in-Ok.shards.items newest c.in-Ok-find_blocks.found.seq there u.found u.recovered c.find_uber.ensures.counts u.told c.in-Ok.ensures.reopened c.in-Ok.ensures.over
-          (subst (λ (xs : List (Shard g.row.H-R.Denot g.row.H-A.Denot)). AreFound xs newest c.in-Ok-find_blocks.found.seq) c.deref.ensures.value c.in-Ok-find_blocks.ensures.found)));
-      read = (let u = c.in_ok-uber.ensures in
-          let uber = c.in_ok-uber.uber in
-          let e = c.in-Ok.ensures in
-          let newest = get nat_eq c.in-Ok-find_blocks.found.newest in
-          record {
-            uber = uber;
-            shards = c.in-Ok.shards.items;
-            newest = newest;
-            seq = c.in-Ok-find_blocks.found.seq;
-            recovered = u.recovered;
-            read = record {
-              found = u.found;
-              body = u.body;
-              reopened = e.reopened;
-              over = over_entry g.H.R.Rack g.H.A.Area (limit_of (layout_of uber)) (group_of (kept_of uber)) (next_leaf_of uber) (shelf.told c.args.shelf.now) (shelf.told c.find_uber.new.shelf)
-                  (shelf.leaves c.args.shelf.now) (shelf.leaves c.find_uber.new.shelf) (shelf.counts c.args.shelf.now) (shelf.counts c.find_uber.new.shelf) c.in-Ok.shards.items u.told c.find_uber.ensures.leaves c.find_uber.ensures.counts e.over;
-              together = subst (λ (xs : List (Shard g.row.H-R.Denot g.row.H-A.Denot)). AreTogether xs (length xs)) c.deref.ensures.value c.in-Ok-find_blocks.ensures.together;
-              blocks = subst (λ (xs : List (Shard g.row.H-R.Denot g.row.H-A.Denot)). AreFound xs newest c.in-Ok-find_blocks.found.seq) c.deref.ensures.value c.in-Ok-find_blocks.ensures.found;
-            };
-            made = c.pool_of.ensures.made;
-          });
+      none = absent_not old (shelf.told c.args.shelf.now) _ _ u.none;
+      made = λ geometry made. absurd (u.made geometry made).none;
+      import = λ x pieces there. c.pool_of.ensures.imports x pieces
+          (pool_found c.args.alloc rack area x pieces (shelf.told c.args.shelf.now) (shelf.told c.find_uber.new.shelf) (shelf.leaves c.args.shelf.now) (shelf.leaves c.find_uber.new.shelf) (shelf.counts c.args.shelf.now) (shelf.counts c.find_uber.new.shelf)
+          (count_on shelf c.args.shelf.now) new shards newest c.in-Ok-find_all.found.seq there found recovered c.find_uber.ensures.counts u.told reopened over blocks);
+      read = record {
+        uber = new;
+        shards = shards;
+        newest = newest;
+        seq = c.in-Ok-find_all.found.seq;
+        recovered = recovered;
+        read = record {
+          found = found;
+          body = still_body area old new k (shelf.told c.args.shelf.now) u.body;
+          reopened = reopened;
+          over = over_entry rack area (limit_of (layout_of new)) (group_of (kept_of new)) (next_leaf_of new) (shelf.told c.args.shelf.now) (shelf.told c.find_uber.new.shelf)
+              (shelf.leaves c.args.shelf.now) (shelf.leaves c.find_uber.new.shelf) (shelf.counts c.args.shelf.now) (shelf.counts c.find_uber.new.shelf) shards u.told c.find_uber.ensures.leaves c.find_uber.ensures.counts over;
+          together = subst (λ (xs : List (Shard g.row.H-R.Denot g.row.H-A.Denot)). AreTogether xs (length xs)) c.deref.ensures.value c.in-Ok-find_all.ensures.together;
+          blocks = blocks;
+          checked = checked_entry area (shelf.told c.args.shelf.now) (count_on shelf c.args.shelf.now) old new shards k u.recovered
+              (subst (λ (xs : List (Shard g.row.H-R.Denot g.row.H-A.Denot)). IsChecked (OwnCheck area old) xs) c.deref.ensures.value c.in-Ok-find_all.ensures.checked);
+        };
+        made = c.pool_of.ensures.made;
+      };
       empty = λ err. absurd (no_refusal err);
       back = tt;
-      tells = tells_as_before (layout_of c.in_ok-uber.uber).props.metaslabs (shelf.told c.args.shelf.now) (shelf.told c.find_uber.new.shelf) (shelf.told c.reopen_shards.new.shelf) c.in_ok-uber.ensures.told c.in-Ok.ensures.told;
+      tells = tells_as_before (layout_of old).props.metaslabs (shelf.told c.args.shelf.now) (shelf.told c.find_uber.new.shelf) (shelf.told c.reopen_shards.new.shelf) u.told e.told;
       faulty = λ metaslab place kind err. absurd (no_refusal err);
+      check = λ place kind err. absurd (no_refusal err);
       later = (let first = c.find_uber.ensures.later in let more = c.reopen_shards.ensures.later in omega (arith, first, more));
       cause = λ failed. absurd (no_refusal failed);
     }
@@ -103,9 +120,10 @@ returns-in-Err g c =
       whole = tt;
       none = absent_not c.in_ok-uber.uber (g.H.Shelf.told c.args.shelf.now) _ _ c.in_ok-uber.ensures.none;
       made = λ geometry made. absurd (c.in_ok-uber.ensures.made geometry made).none;
-      import = λ x pieces there. refusal_is g.H.R.Rack g.H.A.Area x pieces (shelf.told c.give_areas.new.shelf) (shelf.leaves c.give_areas.new.shelf) (shelf.counts c.give_areas.new.shelf) (count_on shelf c.give_areas.new.shelf) c.in-Err.fault c.in-Err.ensures.fault
+      import = λ x pieces there. refusal_is g.H.R.Rack g.H.A.Area x pieces (shelf.told c.give_areas.new.shelf) (shelf.leaves c.give_areas.new.shelf) (shelf.counts c.give_areas.new.shelf) (count_on shelf c.give_areas.new.shelf) c.in-Err.fault (shard_not_empty c.in-Err.fault c.in-Err.ensures.fault)
           (c.in-Err.ensures.opens x pieces (shelf.told c.args.shelf.now) (shelf.counts c.args.shelf.now) (count_on shelf c.args.shelf.now)
           (rests_known x pieces (shelf.told c.args.shelf.now) (shelf.leaves c.args.shelf.now) (shelf.leaves c.find_uber.new.shelf) (shelf.counts c.args.shelf.now) (count_on shelf c.args.shelf.now) c.find_uber.ensures.leaves there) u.recovered u.told)
+          (shard_no_check c.in-Err.fault c.in-Err.ensures.fault)
           (refused_pool c.args.alloc g.H.R.Rack g.H.A.Area x pieces (shelf.told c.args.shelf.now) (shelf.told c.find_uber.new.shelf) (shelf.told c.reopen_shards.new.shelf) (shelf.told c.give_areas.new.shelf)
           (shelf.leaves c.args.shelf.now) (shelf.leaves c.find_uber.new.shelf) (shelf.leaves c.reopen_shards.new.shelf) (shelf.leaves c.give_areas.new.shelf)
           (shelf.counts c.args.shelf.now) (shelf.counts c.find_uber.new.shelf) (shelf.counts c.reopen_shards.new.shelf) (shelf.counts c.give_areas.new.shelf) (count_on shelf c.args.shelf.now) (count_on shelf c.give_areas.new.shelf)
@@ -130,6 +148,7 @@ returns-in-Err g c =
                 (shelf.leaves c.args.shelf.now) (shelf.leaves c.find_uber.new.shelf) (shelf.counts c.args.shelf.now) (shelf.counts c.find_uber.new.shelf) metaslab place kind u.told c.find_uber.ensures.leaves c.find_uber.ensures.counts
                 (c.in-Err.ensures.faulty metaslab place kind (ap Err (err_is c.in-Err.fault _ err))));
           }));
+      check = λ place kind err. absurd (shard_no_check c.in-Err.fault c.in-Err.ensures.fault place kind err);
       later = (let first = c.find_uber.ensures.later in let more = c.reopen_shards.ensures.later in let same = c.give_areas.ensures.faults in omega (arith, first, more, same));
       cause = λ failed. risen_behind g.H.A.Area (shelf.told c.args.shelf.now) (shelf.faults c.args.shelf.now) (shelf.faults c.find_uber.new.shelf) (shelf.faults c.reopen_shards.new.shelf) (shelf.faults c.give_areas.new.shelf) (count_on shelf c.args.shelf.now) (count_on shelf c.give_areas.new.shelf)
           (shelf.counts c.args.shelf.now) (shelf.counts c.find_uber.new.shelf) (shelf.counts c.reopen_shards.new.shelf) (shelf.counts c.give_areas.new.shelf)
@@ -137,67 +156,86 @@ returns-in-Err g c =
           c.find_uber.ensures.counts c.give_areas.ensures.counts (c.in-Err.ensures.cause (refused_too c.in-Err.fault failed));
     }
 
-pub returns-in-Err-find_blocks : goal.returns-in-Err-find_blocks
-returns-in-Err-find_blocks g c =
+pub returns-in-Err-find_all : goal.returns-in-Err-find_all
+returns-in-Err-find_all g c =
     let shelf = g.H.Shelf in
+    let rack = g.H.R.Rack in
+    let area = g.H.A.Area in
     let u = c.in_ok-uber.ensures in
-    let uber = c.in_ok-uber.uber in
     let e = c.in-Ok.ensures in
+    let f = c.in-Err-find_all.ensures in
+    let fault = c.in-Err-find_all.fault in
+    let old = c.in_ok-uber.uber in
+    let new = c.find_all.new.uber in
+    let k = c.find_all.ensures.same in
+    let shards = c.in-Ok.shards.items in
+    let last = c.give_areas-in-Err-find_all.new.shelf in
+    let held = shelf.told c.args.shelf.now in
+    let count = count_on shelf c.args.shelf.now in
+    let found = still_found area old new k u.found in
+    let recovered = still_recovered area old new k held count u.recovered in
+    let reopened = still_reopened area old new k rack shards e.reopened in
+    let over = still_over area old new k rack shards (shelf.told c.find_uber.new.shelf) (shelf.leaves c.find_uber.new.shelf) (shelf.counts c.find_uber.new.shelf) e.over in
+    let left = leaves_all rack area (layout_of new) (group_of (kept_of new)) (next_leaf_of new) shards (shelf.told c.find_uber.new.shelf) (shelf.told c.reopen_shards.new.shelf) (shelf.told c.give_back.new.shelf)
+    (shelf.counts c.find_uber.new.shelf) (shelf.counts c.reopen_shards.new.shelf) (shelf.counts c.give_back.new.shelf) (shelf.leaves c.find_uber.new.shelf) (shelf.leaves c.reopen_shards.new.shelf) (shelf.leaves c.give_back.new.shelf)
+    reopened over (still_taken area old new k (shelf.told c.find_uber.new.shelf) (shelf.told c.reopen_shards.new.shelf) e.told)
+    (still_behind area old new k (λ m. (shelf.counts c.reopen_shards.new.shelf m ≡ shelf.counts c.find_uber.new.shelf m) × (shelf.leaves c.reopen_shards.new.shelf m ≡ shelf.leaves c.find_uber.new.shelf m)) e.left)
+    c.give_back.ensures.returns c.give_back.ensures.leaves in
+    let given = c.give_areas-in-Err-find_all.ensures.told ∙ ap (λ a. gives_areas (told_by area.told a) (shelf.told c.give_back.new.shelf)) c.into_areas-in-Err-find_all.ensures in
+    let counted = own_given area.faults (areas_of new) (shelf.uber_count last) (shelf.check_counts last) (c.give_areas-in-Err-find_all.ensures.uber ∙ ap (λ a. area.faults a.uber) c.into_areas-in-Err-find_all.ensures)
+    (c.give_areas-in-Err-find_all.ensures.checks ∙ ap (λ a. record { even = area.faults a.even; odd = area.faults a.odd }) c.into_areas-in-Err-find_all.ensures) in
     record {
       whole = tt;
-      none = absent_not c.in_ok-uber.uber (g.H.Shelf.told c.args.shelf.now) _ _ c.in_ok-uber.ensures.none;
-      made = λ geometry made. absurd (c.in_ok-uber.ensures.made geometry made).none;
-      import = λ x pieces there. (let rack = g.H.R.Rack in
-          let area = g.H.A.Area in
-          let shards = c.in-Ok.shards.items in
-          let f = c.in-Err-find_blocks.ensures in
-          refusal_is rack area x pieces (shelf.told c.give_areas-in-Err-find_blocks.new.shelf) (shelf.leaves c.give_areas-in-Err-find_blocks.new.shelf) (shelf.counts c.give_areas-in-Err-find_blocks.new.shelf) (count_on shelf c.give_areas-in-Err-find_blocks.new.shelf) c.in-Err-find_blocks.fault f.fault
-          (no_fault_apart c.args.alloc rack area x pieces (shelf.told c.args.shelf.now) (shelf.told c.find_uber.new.shelf) (shelf.leaves c.args.shelf.now) (shelf.leaves c.find_uber.new.shelf) (shelf.counts c.args.shelf.now) (shelf.counts c.find_uber.new.shelf)
-          (count_on shelf c.args.shelf.now) uber shards c.in-Err-find_blocks.fault there u.found u.recovered c.find_uber.ensures.counts u.told e.reopened e.over
+      none = absent_not old held _ _ u.none;
+      made = λ geometry made. absurd (u.made geometry made).none;
+      import = λ x pieces there. refusal_is rack area x pieces (shelf.told last) (shelf.leaves last) (shelf.counts last) (count_on shelf last) fault f.some
+          (no_fault_apart c.args.alloc rack area x pieces held (shelf.told c.find_uber.new.shelf) (shelf.leaves c.args.shelf.now) (shelf.leaves c.find_uber.new.shelf) (shelf.counts c.args.shelf.now) (shelf.counts c.find_uber.new.shelf)
+          count old shards fault there u.found u.recovered c.find_uber.ensures.counts u.told e.reopened e.over
           (λ metaslab place kind err. subst (λ (xs : List (Shard g.row.H-R.Denot g.row.H-A.Denot)). AreApart xs metaslab place kind) c.deref.ensures.value (f.faulty metaslab place kind err)))
-          (refused_pool c.args.alloc rack area x pieces (shelf.told c.args.shelf.now) (shelf.told c.find_uber.new.shelf) (shelf.told c.give_back.new.shelf) (shelf.told c.give_areas-in-Err-find_blocks.new.shelf)
-          (shelf.leaves c.args.shelf.now) (shelf.leaves c.find_uber.new.shelf) (shelf.leaves c.give_back.new.shelf) (shelf.leaves c.give_areas-in-Err-find_blocks.new.shelf)
-          (shelf.counts c.args.shelf.now) (shelf.counts c.find_uber.new.shelf) (shelf.counts c.give_back.new.shelf) (shelf.counts c.give_areas-in-Err-find_blocks.new.shelf) (count_on shelf c.args.shelf.now) (count_on shelf c.give_areas-in-Err-find_blocks.new.shelf)
-          uber there u.found u.recovered u.told c.find_uber.ensures.leaves c.find_uber.ensures.counts
-          (leaves_all rack area (layout_of uber) (group_of (kept_of uber)) (next_leaf_of uber) shards (shelf.told c.find_uber.new.shelf) (shelf.told c.reopen_shards.new.shelf) (shelf.told c.give_back.new.shelf)
-          (shelf.counts c.find_uber.new.shelf) (shelf.counts c.reopen_shards.new.shelf) (shelf.counts c.give_back.new.shelf) (shelf.leaves c.find_uber.new.shelf) (shelf.leaves c.reopen_shards.new.shelf) (shelf.leaves c.give_back.new.shelf)
-          e.reopened e.over e.told e.left c.give_back.ensures.returns c.give_back.ensures.leaves)
-          (c.give_areas-in-Err-find_blocks.ensures.told ∙ ap (λ a. gives_areas (told_by g.H.A.Area.told a) (shelf.told c.give_back.new.shelf)) c.into_areas-in-Err-find_blocks.ensures) c.give_areas-in-Err-find_blocks.ensures.leaves c.give_areas-in-Err-find_blocks.ensures.counts
-          (own_given g.H.A.Area.faults (areas_of uber) (shelf.uber_count c.give_areas-in-Err-find_blocks.new.shelf) (shelf.check_counts c.give_areas-in-Err-find_blocks.new.shelf) (c.give_areas-in-Err-find_blocks.ensures.uber ∙ ap (λ a. g.H.A.Area.faults a.uber) c.into_areas-in-Err-find_blocks.ensures) (c.give_areas-in-Err-find_blocks.ensures.checks ∙ ap (λ a. record { even = g.H.A.Area.faults a.even; odd = g.H.A.Area.faults a.odd }) c.into_areas-in-Err-find_blocks.ensures))));
+          (f.none x pieces held (shelf.leaves c.args.shelf.now) (shelf.counts c.args.shelf.now) count there u.found u.recovered)
+          (refused_pool c.args.alloc rack area x pieces held (shelf.told c.find_uber.new.shelf) (shelf.told c.give_back.new.shelf) (shelf.told last)
+          (shelf.leaves c.args.shelf.now) (shelf.leaves c.find_uber.new.shelf) (shelf.leaves c.give_back.new.shelf) (shelf.leaves last)
+          (shelf.counts c.args.shelf.now) (shelf.counts c.find_uber.new.shelf) (shelf.counts c.give_back.new.shelf) (shelf.counts last) count (count_on shelf last)
+          new there found recovered u.told c.find_uber.ensures.leaves c.find_uber.ensures.counts left given c.give_areas-in-Err-find_all.ensures.leaves c.give_areas-in-Err-find_all.ensures.counts counted);
       read = tt;
-      empty = λ err. absurd (shard_not_empty c.in-Err-find_blocks.fault c.in-Err-find_blocks.ensures.fault err);
-      back = (let rack = g.H.R.Rack in
-          let area = g.H.A.Area in
-          let shards = c.in-Ok.shards.items in
-          left_found rack area (shelf.told c.args.shelf.now) (shelf.told c.find_uber.new.shelf) (shelf.told c.give_back.new.shelf) (shelf.told c.give_areas-in-Err-find_blocks.new.shelf)
+      empty = λ err. absurd (f.some (passed_over fault _ err));
+      back = left_found rack area held (shelf.told c.find_uber.new.shelf) (shelf.told c.give_back.new.shelf) (shelf.told last)
           (shelf.leaves c.find_uber.new.shelf) (shelf.leaves c.give_back.new.shelf)
-          (shelf.counts c.args.shelf.now) (shelf.counts c.find_uber.new.shelf) (shelf.counts c.give_back.new.shelf) (shelf.counts c.give_areas-in-Err-find_blocks.new.shelf) (count_on shelf c.args.shelf.now) (count_on shelf c.give_areas-in-Err-find_blocks.new.shelf)
-          uber u.found u.recovered u.body u.told c.find_uber.ensures.counts
-          (leaves_all rack area (layout_of uber) (group_of (kept_of uber)) (next_leaf_of uber) shards (shelf.told c.find_uber.new.shelf) (shelf.told c.reopen_shards.new.shelf) (shelf.told c.give_back.new.shelf)
-          (shelf.counts c.find_uber.new.shelf) (shelf.counts c.reopen_shards.new.shelf) (shelf.counts c.give_back.new.shelf) (shelf.leaves c.find_uber.new.shelf) (shelf.leaves c.reopen_shards.new.shelf) (shelf.leaves c.give_back.new.shelf)
-          e.reopened e.over e.told e.left c.give_back.ensures.returns c.give_back.ensures.leaves)
-          (c.give_areas-in-Err-find_blocks.ensures.told ∙ ap (λ a. gives_areas (told_by g.H.A.Area.told a) (shelf.told c.give_back.new.shelf)) c.into_areas-in-Err-find_blocks.ensures) c.give_areas-in-Err-find_blocks.ensures.counts
-          (own_given g.H.A.Area.faults (areas_of uber) (shelf.uber_count c.give_areas-in-Err-find_blocks.new.shelf) (shelf.check_counts c.give_areas-in-Err-find_blocks.new.shelf) (c.give_areas-in-Err-find_blocks.ensures.uber ∙ ap (λ a. g.H.A.Area.faults a.uber) c.into_areas-in-Err-find_blocks.ensures) (c.give_areas-in-Err-find_blocks.ensures.checks ∙ ap (λ a. record { even = g.H.A.Area.faults a.even; odd = g.H.A.Area.faults a.odd }) c.into_areas-in-Err-find_blocks.ensures)));
+          (shelf.counts c.args.shelf.now) (shelf.counts c.find_uber.new.shelf) (shelf.counts c.give_back.new.shelf) (shelf.counts last) count (count_on shelf last)
+          new found recovered (still_body area old new k held u.body) u.told c.find_uber.ensures.counts left given c.give_areas-in-Err-find_all.ensures.counts counted;
       tells = tt;
       faulty = λ metaslab place kind err. inr (record {
-        uber = uber;
+        uber = old;
         found = u.found;
         body = u.body;
         bad = inr (record {
-          shards = c.in-Ok.shards.items;
+          shards = shards;
           reopened = e.reopened;
-          over = over_entry g.H.R.Rack g.H.A.Area (limit_of (layout_of uber)) (group_of (kept_of uber)) (next_leaf_of uber) (shelf.told c.args.shelf.now) (shelf.told c.find_uber.new.shelf)
-              (shelf.leaves c.args.shelf.now) (shelf.leaves c.find_uber.new.shelf) (shelf.counts c.args.shelf.now) (shelf.counts c.find_uber.new.shelf) c.in-Ok.shards.items u.told c.find_uber.ensures.leaves c.find_uber.ensures.counts e.over;
+          over = over_entry rack area (limit_of (layout_of old)) (group_of (kept_of old)) (next_leaf_of old) held (shelf.told c.find_uber.new.shelf)
+              (shelf.leaves c.args.shelf.now) (shelf.leaves c.find_uber.new.shelf) (shelf.counts c.args.shelf.now) (shelf.counts c.find_uber.new.shelf) shards u.told c.find_uber.ensures.leaves c.find_uber.ensures.counts e.over;
           apart = subst (λ (xs : List (Shard g.row.H-R.Denot g.row.H-A.Denot)). AreApart xs metaslab place kind) c.deref.ensures.value
-              (c.in-Err-find_blocks.ensures.faulty metaslab place kind (ap Err (err_is c.in-Err-find_blocks.fault _ err)));
+              (f.faulty metaslab place kind (passed_over fault _ err));
         });
       });
+      check = λ place kind err. (let bad = f.check place kind (passed_over fault _ err) in
+          record {
+            uber = old;
+            shards = shards;
+            found = u.found;
+            body = u.body;
+            reopened = e.reopened;
+            over = over_entry rack area (limit_of (layout_of old)) (group_of (kept_of old)) (next_leaf_of old) held (shelf.told c.find_uber.new.shelf)
+                (shelf.leaves c.args.shelf.now) (shelf.leaves c.find_uber.new.shelf) (shelf.counts c.args.shelf.now) (shelf.counts c.find_uber.new.shelf) shards u.told c.find_uber.ensures.leaves c.find_uber.ensures.counts e.over;
+            together = subst (λ (xs : List (Shard g.row.H-R.Denot g.row.H-A.Denot)). AreTogether xs (length xs)) c.deref.ensures.value bad.0;
+            bad = bad_entry area held count old shards place kind u.recovered
+                (subst (λ (xs : List (Shard g.row.H-R.Denot g.row.H-A.Denot)). IsBadCheck (OwnCheck area old) xs place kind) c.deref.ensures.value bad.1);
+          });
       later = (let first = c.find_uber.ensures.later in
           let more = c.reopen_shards.ensures.later in
           let back = c.give_back.ensures.faults in
-          let same = c.give_areas-in-Err-find_blocks.ensures.faults in
+          let same = c.give_areas-in-Err-find_all.ensures.faults in
           omega (arith, first, more, back, same));
-      cause = λ failed. absurd (c.in-Err-find_blocks.ensures.no_device (refused_too c.in-Err-find_blocks.fault failed));
+      cause = λ failed. inl (inr (risen_own area held count (count_on shelf last) old new u.recovered counted (f.cause (passed_over fault _ failed))));
     }
 
 pub returns-in_err-uber : goal.returns-in_err-uber
@@ -219,6 +257,8 @@ returns-in_err-uber g c =
       tells = on_ok_passed _ c.from_residual.result _ c.from_residual.ensures.1;
       faulty = λ metaslab place kind err. (let p = err_from_is_err_and c.from_residual.result c.from_residual.ensures.1 in
           inl (c.in_err-uber.ensures.faulty metaslab place kind (passed_on c.from_residual.result p.0 c.in_err-uber.field-0.0 _ p.1 p.2 err)));
+      check = λ place kind err. (let p = err_from_is_err_and c.from_residual.result c.from_residual.ensures.1 in
+          absurd (c.in_err-uber.ensures.check place kind (passed_on c.from_residual.result p.0 c.in_err-uber.field-0.0 _ p.1 p.2 err)));
       later = c.find_uber.ensures.later;
       cause = λ failed. inl (c.in_err-uber.ensures.cause (passed c.from_residual.result c.in_err-uber.field-0.0 _ c.from_residual.ensures.1 failed));
     }

@@ -6,7 +6,7 @@ use Rattle.draid_import.specs.Reopening.{OpenIsRefused, Opens}
 use Rattle.draid_import.proofs.ImportUnread.{no_open_record, no_shelf_record}
 use Rattle.draid_spec.specs.declared.layout.Geometry.{Geometry}
 use Rattle.draid_shard.specs.Part.{IsPart, Part}
-use Rattle.draid_import.proofs.Found.{fault_is, kit_back, records_rose, refused_area, reopened, stays_put, stays_same, checks_equal, checks_put, checks_taken, counts_later}
+use Rattle.draid_import.proofs.Found.{fault_is, kit_back, records_rose, refused_area, reopened, stays_put, stays_same, counts_later}
 use Rattle.draid_import.proofs.ImportFaulty.{err_is, shelf_no_record, unread}
 use Rattle.draid_import.proofs.ImportLeft.{keeps_equal, keeps_known, tells_put, tells_same}
 use Rattle.draid_pool.proofs.Refusing.{no_refusal}
@@ -36,8 +36,6 @@ returns-in-Ok-reopen g c =
       faulty = λ metaslab place kind err. absurd (no_refusal err);
       opens = λ x pieces held leaves counts count there r takes same metaslab place kind err. no_refusal err;
       back_counts = tt;
-      held = checks_taken c.args.number (g.H.Shelf.told c.args.shelf.now) (g.H.Shelf.told c.take.new.self) c.in-Ok.ensures.told;
-      checks = c.take.ensures.check_counts;
       counts = c.take.ensures.counts;
       later = c.take.ensures.cause.later;
       cause = λ failed. absurd (no_refusal failed);
@@ -83,8 +81,6 @@ returns-in-Err-reopen g c =
             even = (let now = e.even_count in let was = t.even_count in let up = later.even in omega (arith, now, was, up));
             odd = (let now = e.odd_count in let was = t.odd_count in let up = later.odd in omega (arith, now, was, up));
           });
-      held = checks_put c.args.number _ (shelf.told c.args.shelf.now) (shelf.told c.take.new.self) (shelf.told c.give.new.self) (checks_taken c.args.number (shelf.told c.args.shelf.now) (shelf.told c.take.new.self) c.in-Ok.ensures.told) c.give.ensures.told;
-      checks = c.give.ensures.check_counts ∙ c.take.ensures.check_counts;
       counts = λ m other. c.give.ensures.counts m other ∙ c.take.ensures.counts m other;
       later = (let first = c.take.ensures.cause.later in let same = c.give.ensures.faults in omega (arith, first, same));
       cause = λ failed. (let rose = refused_area g.H.R.Rack area.faults area.told c.geometry.result.now c.args.number c.in-Ok.kit r.field-0.kit c.committed-group.result c.next_leaf.result r.field-0.why r.ensures.refused (c.open_fault.ensures.area (fault_is c.open_fault.result failed)) in
@@ -106,8 +102,6 @@ returns-in-Err g c =
       faulty = λ metaslab place kind err. absurd (shelf_no_record c.in-Err.why metaslab place kind (sym c.shelf_fault.ensures.is ∙ err_is c.shelf_fault.result _ err));
       opens = λ x pieces held leaves counts count there r takes same. no_shelf_record c.in-Err.why c.shelf_fault.result c.shelf_fault.ensures.is;
       back_counts = counts_later (g.H.Shelf.counts c.args.shelf.now c.args.number) (g.H.Shelf.counts c.take.new.self c.args.number) c.in-Err.ensures.err_counts;
-      held = checks_equal (g.H.Shelf.told c.args.shelf.now) (g.H.Shelf.told c.take.new.self) c.in-Err.ensures.err;
-      checks = c.take.ensures.check_counts;
       counts = c.take.ensures.counts;
       later = c.take.ensures.cause.later;
       cause = λ failed. inl (c.in-Err.ensures.cause.cause (ap Err (c.shelf_fault.ensures.failed (err_is c.shelf_fault.result _ failed))));

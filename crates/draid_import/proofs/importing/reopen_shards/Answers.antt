@@ -8,7 +8,7 @@ use Rattle.draid_uber.specs.Uber.{kept_of, layout_of, next_leaf_of}
 use Rattle.draid_session.specs.State.{limit_of}
 use Rattle.draid_import.specs.Found.{IsReopened, OpensOver}
 use Rattle.draid_pool.specs.Taking.{TakesFirst}
-use Rattle.draid_import.proofs.Found.{checks_back, checks_more, checks_same, each_none, each_pushed, over_first, records_rose_back, refused_too}
+use Rattle.draid_import.proofs.Found.{each_none, each_pushed, over_first, records_rose_back, refused_too}
 use Rattle.draid_shelf.specs.Kits.{Held}
 use Rattle.draid_import.proofs.ImportUnread.{no_record_too}
 use Rattle.draid_pool.proofs.Takings.{none_taken, takes_more}
@@ -30,8 +30,6 @@ loop-number-init g c =
       over = each_none (λ m (s : Shard g.row.H-R.Denot g.row.H-A.Denot). OpensOver g.H.R.Rack g.H.A.Area (limit_of (layout_of c.args.uber.now)) (group_of (kept_of c.args.uber.now)) (next_leaf_of c.args.uber.now) m (g.H.Shelf.told c.args.shelf.now) (g.H.Shelf.leaves c.args.shelf.now m) (g.H.Shelf.counts c.args.shelf.now m) s)
           c.in-Ok.shards.items c.in-Ok.ensures.items;
       told = none_taken (g.H.Shelf.told c.args.shelf.now);
-      held = checks_same (g.H.Shelf.told c.args.shelf.now);
-      checks = refl;
       counts = λ m past. refl;
       leaves = λ m past. refl;
       later = omega arith;
@@ -85,8 +83,6 @@ loop-number-preserved g c =
           (i.leaves c.loop-number.number (omega arith)) (i.counts c.loop-number.number (omega arith)) c.in-Ok-reopen_shard.ensures.over);
       told = subst (TakesFirst (c.loop-number.number + 1) (shelf.told c.args.shelf.now)) (sym c.in-Ok-reopen_shard.ensures.told)
           (takes_more c.loop-number.number (shelf.told c.args.shelf.now) (shelf.told c.loop-number.shelf) i.told);
-      held = checks_more (shelf.told c.args.shelf.now) (shelf.told c.loop-number.shelf) (shelf.told c.reopen_shard.new.shelf) i.held c.reopen_shard.ensures.held;
-      checks = c.reopen_shard.ensures.checks ∙ i.checks;
       counts = λ m past. c.reopen_shard.ensures.counts m (λ at. omega (arith, at, past)) ∙ i.counts m (omega (arith, past));
       leaves = λ m past. c.reopen_shard.ensures.leaves m (λ at. omega (arith, at, past)) ∙ i.leaves m (omega (arith, past));
       later = omega (arith, later, again);
@@ -122,8 +118,6 @@ returns g c =
       back = tt;
       faulty = λ metaslab place kind err. absurd (no_refusal err);
       fault = tt;
-      held = c.loop-number.invariant.held;
-      checks = c.loop-number.invariant.checks;
       later = c.loop-number.invariant.later;
       cause = λ failed. absurd (no_refusal failed);
     }
@@ -165,10 +159,6 @@ returns-in-Err g c =
             over = i.over;
           });
       fault = c.in-Err.ensures.fault;
-      held = checks_more (shelf.told c.args.shelf.now) (shelf.told c.reopen_shard.new.shelf) (shelf.told c.give_back.new.shelf)
-          (checks_more (shelf.told c.args.shelf.now) (shelf.told c.loop-number.shelf) (shelf.told c.reopen_shard.new.shelf) c.loop-number.invariant.held c.reopen_shard.ensures.held)
-          (checks_back g.H.R.Rack g.H.A.Area c.loop-number.shards.items (shelf.told c.reopen_shard.new.shelf) (shelf.told c.give_back.new.shelf) (shelf.counts c.reopen_shard.new.shelf) (shelf.counts c.give_back.new.shelf) c.give_back.ensures.returns);
-      checks = c.give_back.ensures.checks ∙ (c.reopen_shard.ensures.checks ∙ c.loop-number.invariant.checks);
       later = (let first = c.loop-number.invariant.later in let more = c.reopen_shard.ensures.later in let same = c.give_back.ensures.faults in omega (arith, first, more, same));
       cause = λ failed. (let same = ap (λ (x : Geometry). x.props.metaslabs) c.geometry-layout.ensures in
           records_rose_back g.H.R.Rack g.H.A.Area c.loop-number.shards.items c.loop-number.number (layout_of c.args.uber.now).props.metaslabs (shelf.faults c.args.shelf.now) (shelf.faults c.loop-number.shelf) (shelf.faults c.reopen_shard.new.shelf) (shelf.faults c.give_back.new.shelf)
@@ -190,8 +180,6 @@ returns-in_default g c =
           (record { geometry_is = subst IsGeometry (sym c.geometry-layout.ensures) c.requires.uber.valid.held.layout_is; perms_are = c.new-perms.ensures })));
       faulty = λ metaslab place kind err. absurd (no_record metaslab place kind err);
       fault = tt;
-      held = checks_same (g.H.Shelf.told c.args.shelf.now);
-      checks = refl;
       later = omega arith;
       cause = λ failed. absurd (no_shelf failed);
     }

@@ -4,7 +4,7 @@ use Rattle.draid_shard.specs.declared.shard.Shard.{Shard}
 use Rattle.draid_uber.specs.Slots.{group_of}
 use Rattle.draid_uber.specs.Uber.{kept_of, layout_of, next_leaf_of}
 use Rattle.draid_session.specs.State.{limit_of}
-use Rattle.draid_import.specs.Found.{IsReopened, OpensAllOver, SameChecks}
+use Rattle.draid_import.specs.Found.{IsReopened, OpensAllOver}
 use Rattle.draid_pool.specs.Taking.{TakesFirst}
 use Rattle.draid_import.proofs.importing.reopen_shards.Given as goal
 
@@ -17,8 +17,6 @@ invariant-loop-number g l = let shelf = g.H.Shelf in record {
   room : (layout_of l.uber).props.metaslabs ≤ vec_capacity l.shards;
   over : OpensAllOver g.H.R.Rack g.H.A.Area (limit_of (layout_of l.uber)) (group_of (kept_of l.uber)) (next_leaf_of l.uber) (shelf.told l.initial.shelf) (shelf.leaves l.initial.shelf) (shelf.counts l.initial.shelf) l.shards.items;
   told : TakesFirst l.number (shelf.told l.initial.shelf) (shelf.told l.shelf);
-  held : SameChecks (shelf.told l.initial.shelf) (shelf.told l.shelf);
-  checks : shelf.check_counts l.shelf ≡ shelf.check_counts l.initial.shelf;
   counts : (m : ℕ) → l.number ≤ m → shelf.counts l.shelf m ≡ shelf.counts l.initial.shelf m;
   leaves : (m : ℕ) → l.number ≤ m → shelf.leaves l.shelf m ≡ shelf.leaves l.initial.shelf m;
   later : shelf.faults l.initial.shelf ≤ shelf.faults l.shelf;

@@ -1,0 +1,21 @@
+use Rattle.std.proofs.Common.{false}
+use Rattle.draid_works.proofs.Done.{online_fits, switch_broke}
+use Rattle.draid_works.proofs.replies.reply_to_online.Goals as goal
+
+pub returns : goal.returns
+returns g c =
+    let did = c.switch_in_lane-lane in
+    let said = c.reply_of_online-reply.result in
+    let is = c.reply_of_online-reply.ensures in
+    record {
+      leaves = record { whole = did.ensures.whole; same = did.ensures.same; numbers = did.ensures.switches.numbers };
+      fits = online_fits c.args.leaf did.result.1 said is;
+      done = record {
+        answer = did.result.1;
+        reply_is = is;
+        done = (did.ensures.switches, did.ensures.leaf);
+        cause = λ err. did.ensures.cause (switch_broke c.args.leaf false did.result.1 said is err);
+        own = did.ensures.own;
+        knows = did.ensures.knows;
+      };
+    }
