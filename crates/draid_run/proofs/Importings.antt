@@ -198,12 +198,12 @@ bad_some fault.Shelf bad is = bad
 bad_some fault.NoMemory bad is = bad
 
 -- which isn't a new one
-bad_unfound : {P : Type 0} (why : ImportFault) → IsBadRecord why → FindsNoPool {P = P} (Err why) → ⊥
-bad_unfound fault.NoPool bad none = bad
-bad_unfound (fault.Record metaslab place kind) bad none = none
-bad_unfound (fault.Check place kind) bad none = none
-bad_unfound fault.Shelf bad none = bad
-bad_unfound fault.NoMemory bad none = bad
+bad_unfound : (P : Type 0) (why : ImportFault) → IsBadRecord why → FindsNoPool {P = P} (Err why) → ⊥
+bad_unfound P fault.NoPool bad none = bad
+bad_unfound P (fault.Record metaslab place kind) bad none = none
+bad_unfound P (fault.Check place kind) bad none = none
+bad_unfound P fault.Shelf bad none = bad
+bad_unfound P fault.NoMemory bad none = bad
 
 -- nor one of a known state
 bad_unread : {R A : Type 0} (rack : racks.Ghosts R) (area : areas.Ghosts A) (x : State) (pieces : ℕ → Pieces) (told : Option Held) (leaves : ℕ → Option Shape) (counts : ℕ → KitCounts) (n : ℕ) (why : ImportFault)
@@ -332,7 +332,7 @@ module _ {R A : Type 0} (rack : racks.Ghosts R) (area : areas.Ghosts A) (entry b
 
     pub record_fails : (why : ImportFault) → IsBadRecord why → result ≡ Err why → (x : Desk) → IsPool rack area None x → IsShelf x entry before → Broken rack area RecordFails ImportPool entry before x now None
     record_fails why bad is Untouched stands shelf = record { new = Unknown; desk = record { stands = tt; shelf = tt }; breaks = refl; cause = tt }
-    record_fails why bad is (Made true failed geometry) stands shelf = absurd (bad_unfound why bad (new_none failed geometry (Err why) is shelf))
+    record_fails why bad is (Made true failed geometry) stands shelf = absurd (bad_unfound (Pool R A) why bad (new_none failed geometry (Err why) is shelf))
     record_fails why bad is (Made false failed geometry) stands shelf = record { new = Unknown; desk = record { stands = tt; shelf = tt }; breaks = refl; cause = tt }
     record_fails why bad is Unknown stands shelf = record { new = Unknown; desk = record { stands = tt; shelf = tt }; breaks = refl; cause = tt }
     record_fails why bad is Bare stands shelf = absurd (bad_some why bad (let z = sym is ∙ (bare_none shelf.1).0 in cc))
