@@ -1,5 +1,5 @@
 -- What the repair agent did: spares that came, a rebuild and a scrub, one behind the other.
-use Rattle.std.proofs.Common.{arith, ◌≡◌, ◌≢◌, ◌+◌, ◌++◌, ◌∙◌, ℕ, Bool, true, false, List, [], Option, Some, None, Result, Ok, Err, OnOk, append_assoc, ap, inl, inr, length, refl, subst, sym, ◌≤◌, ◌∷◌, drop, IfOk, IsErr, Vec, Global, length-append}
+use Rattle.std.proofs.Common.{arith, ◌≡◌, ◌≢◌, ◌+◌, ◌++◌, ◌∙◌, ℕ, Bool, true, false, List, [], Option, Some, None, Result, Ok, Err, OnOk, append_assoc, ap, inl, inr, length, refl, subst, sym, ◌≤◌, ◌∷◌, drop, IfOk, IsErr, Vec, Global, length-append, IsTrue, IsFalse}
 use Rattle.std.specs.Prelude.{slice_get}
 use Rattle.std.proofs.lemmas.List.{append-nil}
 use Rattle.draid_names.specs.declared.fault.Failed.{Failed}
@@ -48,7 +48,7 @@ rebuilt_whole it pool whole behind = subst (λ b. RunsWhere Rebuild b pool) whol
 -- nothing is in the way of one where there is none
 pub no_scrub_there : {R A : Type 0} (why : MendFault) (old new : Pool R A) → NoPasses old → RebuildIs (Err why) old new → (metaslab number : ℕ) → why ≡ mending.PassThere metaslab number → ⊥
 no_scrub_there {R} {A} why old new idle is metaslab number same =
-    let found = subst (λ w. RebuildIs {R} {A} (Err w) old new) same is in
+    let found = subst (λ w. RebuildIs {R = R} {A = A} (Err w) old new) same is in
     none_some found.1.shard.pass found.1.has.pass (idle metaslab found.1.shard (subst (λ (q : Pool R A). slice_get q.metaslabs.shards.items metaslab ≡ Some found.1.shard) found.0 found.1.there)) found.1.has.has
 
 pub scrub_stop : {R A : Type 0} (why : MendFault) (old new : Pool R A) → NoPasses old → ScrubIs (Err why) old new → IsStop why
@@ -159,17 +159,21 @@ module _ {R A : Type 0} (rack : racks.Ghosts R) (area : areas.Ghosts A) (chosen 
   Came g p holds =
       (entries : List Entry) × (after ≡ before ++ entries) × (entries ≢ []) × agent.SomeCame g p chosen entries × agent.Acts g p chosen least (length before + 1) entries holds []
 
+  came_of : (old mid : Pool R A) → ((x : State) → Represents rack area old x → CarriesOut rack area mid x (GiveDoes x chosen least before (Ok true) after)) → Steps rack area old mid Came
+  came_of old mid first x r =
+      carries_so rack area mid x (GiveDoes x chosen least before (Ok true) after) (λ holds store. (store ≡ x.store) × Came x.geometry x.perms holds) (first x r) (λ holds store d. (d.0, (d.1, d.2, d.3, d.4, d.5)))
+
   pub repair_healed : (old mid new : Pool R A) (errors : AgentErrors) → ((x : State) → Represents rack area old x → CarriesOut rack area mid x (GiveDoes x chosen least before (Ok true) after))
       → Steps rack area mid new (λ g p. HealEnds g p (Ok errors)) → Steps rack area old new (λ g p. RepairEnds g p chosen least before (Ok (Some errors)) after)
   repair_healed old mid new errors first second =
-      steps_then rack area Came (λ g p. HealEnds g p (Ok errors)) (λ g p. RepairEnds g p chosen least before (Ok (Some errors)) after) old mid new first second
+      steps_then rack area Came (λ g p. HealEnds g p (Ok errors)) (λ g p. RepairEnds g p chosen least before (Ok (Some errors)) after) old mid new (came_of old mid first) second
       (λ x front back r s t. (s.0, s.1, (back, s.2, acts_then x.geometry x.perms chosen least (length before + 1) s.0 front back s.4, (s.3, t))))
 
   pub repair_unhealed : (old mid new : Pool R A) (why : SyncFault) → ((x : State) → Represents rack area old x → CarriesOut rack area mid x (GiveDoes x chosen least before (Ok true) after))
       → Steps rack area mid new (λ g p. HealEnds g p (Err why)) → (x : State) → Represents rack area old x
       → CarriesOut rack area new x (λ holds store. (store ≡ x.store) × ((entries : List Entry) × (after ≡ before ++ entries) × RepairHalts x.geometry x.perms chosen least before why entries holds))
   repair_unhealed old mid new why first second =
-      steps_then rack area Came (λ g p. HealEnds g p (Err why)) (λ g p holds. (entries : List Entry) × (after ≡ before ++ entries) × RepairHalts g p chosen least before why entries holds) old mid new first second
+      steps_then rack area Came (λ g p. HealEnds g p (Err why)) (λ g p holds. (entries : List Entry) × (after ≡ before ++ entries) × RepairHalts g p chosen least before why entries holds) old mid new (came_of old mid first) second
       (λ x front back r s t. (s.0, s.1, by why x.geometry x.perms s.0 front back s.3 s.4 t))
     where
       by : (why : SyncFault) (g : Geometry) (p : Perms) (entries : List Entry) (front back : List Hold) → agent.SomeCame g p chosen entries → agent.Acts g p chosen least (length before + 1) entries front []
@@ -183,9 +187,9 @@ module _ {R A : Type 0} (rack : racks.Ghosts R) (area : areas.Ghosts A) (chosen 
   -- none came
   pub repair_uncame : (old new : Pool R A) → ((x : State) → Represents rack area old x → CarriesOut rack area new x (GiveDoes x chosen least before (Ok false) after))
       → Steps rack area old new (λ g p. RepairEnds g p chosen least before (Ok None) after)
-  repair_uncame old new first =
-      steps_as rack area (λ g p holds. (entries : List Entry) × (after ≡ before ++ entries) × (entries ≢ []) × (agent.SomeCame g p chosen entries → ⊥) × agent.Acts g p chosen least (length before + 1) entries holds [])
-      (λ g p. RepairEnds g p chosen least before (Ok None) after) old new first (λ g p holds s. (s.0, s.1, ([], s.2, s.4, (refl, s.3))))
+  repair_uncame old new first x r =
+      carries_so rack area new x (GiveDoes x chosen least before (Ok false) after) (λ holds store. (store ≡ x.store) × RepairEnds x.geometry x.perms chosen least before (Ok None) after holds) (first x r)
+      (λ holds store d. (d.0, (d.1, d.2, ([], d.3, d.5, (refl, d.4)))))
 
   -- ---- it was refused, or stopped before the first spare came
 
@@ -208,8 +212,8 @@ module _ {R A : Type 0} (rack : racks.Ghosts R) (area : areas.Ghosts A) (chosen 
 
       by : (why : GiveFault) (holds : List Hold) (store : Store) → GiveDoes x chosen least before (Err why) after holds store
           → (store ≡ x.store) × RepairEnds x.geometry x.perms chosen least before (Err why) after holds
-      by fault.Idle holds store d = d
-      by (fault.PassThere metaslab number) holds store d = d
+      by fault.Idle holds store d = (d.0, (d.1, d.2))
+      by (fault.PassThere metaslab number) holds store d = (d.0, (d.1, d.2))
       by (fault.Stopped sync.Worn) holds store d = (d.0, ([], same d.1, stops_of x (length before + 1) holds WasWorn d.2))
       by (fault.Stopped sync.Last) holds store d = (d.0, ([], same d.1, stops_of x (length before + 1) holds WasLast d.2))
       by (fault.Stopped sync.Shelf) holds store d = (d.0, ([], same d.1, stops_of x (length before + 1) holds Broke d.2))
@@ -231,7 +235,7 @@ shelf_ended given (Err why) is same = is ∙ ap stopped_by (refused_same why syn
 
 -- it never stops a scrub
 pub scrub_no_shelf : {R A : Type 0} (why : SyncFault) (given : MendFault) (old new : Pool R A) → given ≡ stopped_by why → ScrubIs (Err given) old new → why ≡ sync.Shelf → ⊥
-scrub_no_shelf {R} {A} why given old new is passes same = subst (λ f. ScrubIs {R} {A} (Err f) old new) (is ∙ ap stopped_by same) passes
+scrub_no_shelf {R} {A} why given old new is passes same = subst (λ f. ScrubIs {R = R} {A = A} (Err f) old new) (is ∙ ap stopped_by same) passes
 
 -- behind a rebuild that found nothing to do there is no pass
 pub rebuild_idle : {R A : Type 0} (given : MendFault) (result : Result ℕ SyncFault) (old new : Pool R A) → EndsBy given result → RebuildIs (Err given) old new → OnOk result (NoPasses new)
@@ -293,6 +297,9 @@ list_short before after items adds is = (let long = ap length (is ∙ (ap (λ es
 pub list_long : (before after : List Entry) → AddsEntries before after → length before ≤ length after
 list_long before after adds = (let long = ap length adds.are in let both = length-append before adds.more in omega (arith, long, both))
 
+no_error : false ≡ true → ⊥
+no_error is = cc is
+
 module _ (parity least : ℕ) (entries : Vec Entry Global) where
   pub agent_fits : (answer : Result (Option AgentErrors) GiveFault) (said : Result Reply Failed) → IsAgentReply parity entries answer said → IfOk said (IsReplyTo (RunAgent least))
   agent_fits (Ok errors) said is = subst (λ s. IfOk s (IsReplyTo (RunAgent least))) (sym is) tt
@@ -305,12 +312,12 @@ module _ (parity least : ℕ) (entries : Vec Entry Global) where
   agent_fits (Err (fault.Stopped sync.Shelf)) (Err failed) is = tt
 
   pub agent_cause : (answer : Result (Option AgentErrors) GiveFault) (said : Result Reply Failed) → IsAgentReply parity entries answer said → IsErr said → answer ≡ Err (fault.Stopped sync.Shelf)
-  agent_cause (Ok errors) said is failed = absurd (subst IsErr is failed)
-  agent_cause (Err fault.Idle) said is failed = absurd (subst IsErr is failed)
-  agent_cause (Err (fault.PassThere metaslab number)) said is failed = absurd (subst IsErr is failed)
-  agent_cause (Err (fault.Stopped sync.Worn)) said is failed = absurd (subst IsErr is failed)
-  agent_cause (Err (fault.Stopped sync.Last)) said is failed = absurd (subst IsErr is failed)
-  agent_cause (Err (fault.Stopped sync.NoMemory)) said is failed = absurd (subst IsErr is failed)
+  agent_cause (Ok errors) said is failed = absurd (no_error (subst IsErr is failed))
+  agent_cause (Err fault.Idle) said is failed = absurd (no_error (subst IsErr is failed))
+  agent_cause (Err (fault.PassThere metaslab number)) said is failed = absurd (no_error (subst IsErr is failed))
+  agent_cause (Err (fault.Stopped sync.Worn)) said is failed = absurd (no_error (subst IsErr is failed))
+  agent_cause (Err (fault.Stopped sync.Last)) said is failed = absurd (no_error (subst IsErr is failed))
+  agent_cause (Err (fault.Stopped sync.NoMemory)) said is failed = absurd (no_error (subst IsErr is failed))
   agent_cause (Err (fault.Stopped sync.Shelf)) said is failed = refl
 
   module _ (before after : List Entry) (added : after ≡ before ++ entries.items) where
@@ -342,6 +349,18 @@ module _ {R A : Type 0} (rack : racks.Ghosts R) (area : areas.Ghosts A) (chosen 
         ends = d.1;
       }))
 
-  -- memory was wanting for the list
-  pub agent_wants : said ≡ Ok (replies.NoMemory name.Agent) → after ≡ before → (x : State) → Represents rack area old x → CarriesOut rack area old x (AgentSays x chosen least before said after)
-  agent_wants is same x r = carried rack area old x [] x (AgentSays x chosen least before said after) refl r (inl (record { said_is = is; same = same; kept = refl; none = refl }))
+-- memory was wanting for the list
+pub agent_wants : {R A : Type 0} (rack : racks.Ghosts R) (area : areas.Ghosts A) (chosen : ℕ → ℕ → List ℕ → Option ℕ → Type 0) (least : ℕ) (before after : List Entry) (old : Pool R A) (said : Result Reply Failed)
+    → said ≡ Ok (replies.NoMemory name.Agent) → after ≡ before → (x : State) → Represents rack area old x → CarriesOut rack area old x (AgentSays x chosen least before said after)
+agent_wants rack area chosen least before after old said is same x r =
+    carried rack area old x [] x (AgentSays x chosen least before said after) refl r (inl (record { said_is = is; same = same; kept = refl; none = refl }))
+
+-- ---- whether a spare came, by the test of it
+
+pub by_came : (P : Bool → Type 0) (came : Bool) → IsTrue came → P came → P true
+by_came P true is p = p
+by_came P false is p = absurd (cc is)
+
+pub by_none : (P : Bool → Type 0) (came : Bool) → IsFalse came → P came → P false
+by_none P true is p = absurd (cc is)
+by_none P false is p = p

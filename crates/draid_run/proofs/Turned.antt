@@ -63,14 +63,22 @@ module _ (choices : Choices) (finds : Finding → Type 0) where
   module _ (past more : List Entry) where
     any_run : (least : ℕ) (old new : Desk) (saids : List Said) (turns : TurnsBy choices finds (Ok (RunAgent least)) old saids new) → Notes choices finds past (Ok (RunAgent least)) old saids new turns more
         → Notes choices IsAnything past (Ok (RunAgent least)) old saids new (any_line (Ok (RunAgent least)) old new saids turns) more
+    unfolding any_line any_reply
     any_run least (Open x) new (said ∷ []) turns notes = notes
     any_run least (Foreign known) new (said ∷ []) turns notes = notes
-    any_run least old new saids turns notes = notes
+    any_run least Untouched new (said ∷ []) turns notes = notes
+    any_run least Bare new (said ∷ []) turns notes = notes
+    any_run least (Made told failed geometry) new (said ∷ []) turns notes = notes
+    any_run least (Shut crash x) new (said ∷ []) turns notes = notes
+    any_run least Unknown new (said ∷ []) turns notes = notes
+    any_run least old new [] turns notes = absurd turns
+    any_run least old new (said ∷ other ∷ saids) turns notes = absurd turns
 
     any_shown : (old new : Desk) (saids : List Said) (turns : TurnsBy choices finds (Ok ShowJournal) old saids new) → Notes choices finds past (Ok ShowJournal) old saids new turns more
         → Notes choices IsAnything past (Ok ShowJournal) old saids new (any_line (Ok ShowJournal) old new saids turns) more
     any_shown old new (said ∷ []) turns notes = notes
-    any_shown old new saids turns notes = notes
+    any_shown old new [] turns notes = absurd turns
+    any_shown old new (said ∷ other ∷ saids) turns notes = absurd turns
 
     any_notes : (line : Result Command LineFault) (old new : Desk) (saids : List Said) (turns : TurnsBy choices finds line old saids new) → Notes choices finds past line old saids new turns more
         → Notes choices IsAnything past line old saids new (any_line line old new saids turns) more

@@ -104,7 +104,7 @@ pub crash-requires-clause-desk : goal.crash-requires-clause-desk
 crash-requires-clause-desk g c κs within = c.requires.desk
 
 pub ask_agent-requires-clause-policy : goal.ask_agent-requires-clause-policy
-ask_agent-requires-clause-policy g c κs within = c.requires.policy
+ask_agent-requires-clause-policy g c = c.requires.policy
 
 pub ask_agent-requires-clause-desk : goal.ask_agent-requires-clause-desk
-ask_agent-requires-clause-desk g c κs within = c.requires.desk
+ask_agent-requires-clause-desk g c = c.requires.desk

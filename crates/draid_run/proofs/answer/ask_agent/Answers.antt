@@ -26,7 +26,7 @@ returns-in-None g c = record {
 }
 
 pub reply_to_agent-requires-clause-policy : goal.reply_to_agent-requires-clause-policy
-reply_to_agent-requires-clause-policy g c κs within = c.requires.policy
+reply_to_agent-requires-clause-policy g c = c.requires.policy
 
 pub reply_to_agent-requires-clause-whole : goal.reply_to_agent-requires-clause-whole
-reply_to_agent-requires-clause-whole g c κs within = is_whole g.R.Rack g.A.Area c.args.pool.now c.in-Some.pool c.in-Some.is c.requires.desk
+reply_to_agent-requires-clause-whole g c = is_whole g.R.Rack g.A.Area c.args.pool.now c.in-Some.pool c.in-Some.is c.requires.desk
