@@ -22,6 +22,7 @@ use Rattle.draid_shard.specs.declared.shard.Shard.{Shard}
 use Rattle.draid_shard.proofs.Held.{held_entry, key_leads}
 use Rattle.draid_pool.proofs.Dids.{none_here}
 use Rattle.draid_pool.proofs.Glances.{IsStill}
+use Rattle.draid_pool.proofs.Imaged.{keeps_same}
 use Rattle.draid_pool.specs.Drifts.{Drifts, KeepsOf, KeepsTo, is_other, StateStep}
 use Rattle.draid_store.specs.Writing.{BeginsAs, BeginsShard, FinishesShard, MayBeginIn, MayFinishIn, MayPutIn, PutsShard}
 use Rattle.draid_pool.proofs.Drifting.{keeps_self}
@@ -87,6 +88,7 @@ module _ {R A : Type 0} (rack : racks.Ghosts R) (area : areas.Ghosts A) where
               now = pieces;
               is = none_here rack area part pieces x y u is b.valid none.none b.kit.rack b.kit.areas b.reserve.limit b.reserve.reserved;
               since = since_self (layout_in part) u;
+              images = λ mine. keeps_same u.world;
               same = λ k mine. inl refl;
             };
           }

@@ -8,11 +8,13 @@ use Rattle.draid_entries.specs.Maps.{key_of}
 use Rattle.draid_shard.specs.Calls.{SameAreas, SameReserve}
 use Rattle.draid_blocks.specs.Tickets.{Carries, Puts}
 use Rattle.draid_shard.specs.Fits.{Valid}
+use Rattle.draid_shard.specs.Part.{layout_in}
 use Rattle.draid_blocks.specs.declared.ticket.Ticket.{Ticket}
 use Rattle.draid_store.proofs.Column.{column_for, others_same, put_column}
 use Rattle.draid_pool.specs.Drifts.{KeepsTo}
 use Rattle.draid_shard.specs.declared.shard.Shard.{Shard}
 use Rattle.draid_pool.proofs.Drifting.{same_pass}
+use Rattle.draid_pool.proofs.Imaged.{step_keeps}
 use Rattle.draid_pool.proofs.ShardSteps.{other_key, sets_others}
 use Rattle.draid_store.proofs.FreeKeeps.{sets_groups}
 
@@ -32,6 +34,7 @@ put_keeps rack area x y before now block valid areas_are reserve pass put carrie
         now = column_for (key_of before.pointer) before.next x.geometry.props.sector block.columns pieces;
         is = d.is;
         since = record { opened = d.acts.opened; more = Put (key_of before.pointer) put.landed put.failed ∷ []; stored = d.acts.stored; run = (d.reached.world, d.step, refl) };
+        images = λ mine. step_keeps (layout_in part) u.world d.reached.world (Put (key_of before.pointer) put.landed put.failed) d.step tt;
         same = λ k mine. inl (others_same (key_of before.pointer) before.next x.geometry.props.sector block.columns pieces k (other_key before.pointer k mine));
       };
 }
