@@ -94,14 +94,14 @@ sum_left x first count result reply said holds store is =
 module _ {R A G W : Type 0} (rack : racks.Ghosts R) (area : areas.Ghosts A) (old new : Lane R A G W) where
   -- what is done is told otherwise
   carries_as : (x : State) (does says : List Hold → Store → Type 0) → ((holds : List Hold) (store : Store) → does holds store → says holds store) → LaneCarries rack area old new x does → LaneCarries rack area old new x says
-  carries_as x does says as carries = leads_as rack area (LaneWent rack area) true old.metaslabs new.metaslabs x does says (KnowsThen rack area old new) as carries
+  carries_as x does says so carries = leads_as rack area (LaneWent rack area) true old.metaslabs new.metaslabs x does says (KnowsThen rack area old new) so carries
 
   objects_as : (command : Command) (reply : Reply) (does says : State → List Hold → Store → Type 0) → ((x : State) (holds : List Hold) (store : Store) → does x holds store → says x holds store) → DoesOnObjects rack area command reply does old new
       → DoesOnObjects rack area command reply says old new
-  objects_as command reply does says as d = record {
+  objects_as command reply does says so d = record {
     pass = d.pass;
     teaches = d.teaches;
-    step = λ x layout knows. carries_as x (LooksBut (does x)) (LooksBut (says x)) (λ holds store l. (l.0, l.1, as x l.0 store l.2)) (d.step x layout knows);
+    step = λ x layout knows. carries_as x (LooksBut (does x)) (LooksBut (says x)) (λ holds store l. (l.0, l.1, so x l.0 store l.2)) (d.step x layout knows);
   }
 
   module _ (choices : Choices) (reply : Reply) where
