@@ -133,7 +133,10 @@ fn meetings<'c>(
 }
 
 /// Whether two lanes are in holds of two metaslabs at once.
-fn lanes_meet<W: AllocGlobal + Threads + Wait + Sync>(rt: &W, shelf: &mut MemoryShelf) -> Option<bool> {
+fn lanes_meet<W: AllocGlobal + Threads + Wait + Sync>(
+    rt: &W,
+    shelf: &mut MemoryShelf,
+) -> Option<bool> {
     printed(
         rt,
         shelf,

@@ -221,7 +221,10 @@ static CASES: [Case; 7] = [
             lanes: &["write 100 11\n", "fill 1000 2 1024 1\nsync\n"],
             exported: false,
         },
-        &["write 100 ok\n", "fill 1000 written=2\nsync group=3 thin=3\n"],
+        &[
+            "write 100 ok\n",
+            "fill 1000 written=2\nsync group=3 thin=3\n",
+        ],
         "import\nread 100\n",
         "import draid1:2d:3c:0s-0 group=3 objects=33\nread 100 1 11\n",
     ),
