@@ -26,18 +26,18 @@ use Rattle.draid_tests_lanes.specs.Ready.{AreReady, IsReady}
 
 -- ---- whoever owns as much may be given the same
 
-module _ (owns more : ℕ → Bool) (as : (n : ℕ) → owns n ≡ true → more n ≡ true) where
+module _ (owns more : ℕ → Bool) (so : (n : ℕ) → owns n ≡ true → more n ≡ true) where
   of_lane_as : (command : Command) → IsOfLane owns command → IsOfLane more command
   of_lane_as SyncPool is = is
-  of_lane_as (WriteObject object bytes) is = as object is
-  of_lane_as (FillObjects first count len seed) is = λ o low high. as o (is o low high)
-  of_lane_as (ReadObject object) is = as object is
-  of_lane_as (FreeObject object) is = as object is
-  of_lane_as (SumObjects first count) is = λ o low high. as o (is o low high)
+  of_lane_as (WriteObject object bytes) is = so object is
+  of_lane_as (FillObjects first count len seed) is = λ o low high. so o (is o low high)
+  of_lane_as (ReadObject object) is = so object is
+  of_lane_as (FreeObject object) is = so object is
+  of_lane_as (SumObjects first count) is = λ o low high. so o (is o low high)
   of_lane_as (TakeOffline leaf) is = is
   of_lane_as (TakeOnline leaf) is = is
-  of_lane_as (RebuildPool limit) is = as passes_number is
-  of_lane_as (ScrubPool limit) is = as passes_number is
+  of_lane_as (RebuildPool limit) is = so passes_number is
+  of_lane_as (ScrubPool limit) is = so passes_number is
   of_lane_as Silent is = absurd is
   of_lane_as (CreatePool spec children keys) is = absurd is
   of_lane_as ImportPool is = absurd is
