@@ -191,7 +191,10 @@ impl<
 
     ghost relates = { λ job old done new. DoesCommands R.Rack A.Area (choices_by (FnReturnsAt F.Fn job.chooser.now)) job.lines old done.lines done.replies.items done.stopped new };
 
-    fn run<'a, 'b>(&mut self, lane: Lane<'a, 'b, R, A, G, W>) -> Lane<'a, 'b, R, A, G, W> {
+    fn run<'a, 'b>(&mut self, lane: Lane<'a, 'b, R, A, G, W>) -> Lane<'a, 'b, R, A, G, W>
+        requires needed { IsSync W.row × MayDoCommands R.Rack A.Area F.Fn self.old.chooser.now self.old.lines.items self.old.replies lane }
+        ensures related { DoesCommands R.Rack A.Area (choices_by (FnReturnsAt F.Fn self.old.chooser.now)) self.old.lines lane.entry self.new.lines self.new.replies.items self.new.stopped result }
+    {
         let (lane, stopped) = reply_to_each(
             self.alloc,
             lane,
