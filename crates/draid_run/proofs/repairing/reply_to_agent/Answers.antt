@@ -28,7 +28,7 @@ returns g c =
     let e = c.repair-answer.ensures in
     let came = some_entries c.repair-answer.result c.args.journal.now.entries c.repair-answer.new.journal.entries e.entries in
     let added = list_added c.args.journal.now.entries c.repair-answer.new.journal.entries c.copied-entries.result.items came
-        (c.copied-entries.ensures ∙ sliced c.entries-first.result.now c.entries.result.now c.args.journal.now.entries c.repair-answer.new.journal.entries c.entries-first.ensures c.entries.ensures) in
+    (c.copied-entries.ensures ∙ sliced c.entries-first.result.now c.entries.result.now c.args.journal.now.entries c.repair-answer.new.journal.entries c.entries-first.ensures c.entries.ensures) in
     record {
       whole = e.whole;
       same = e.same;
