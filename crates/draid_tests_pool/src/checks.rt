@@ -6,7 +6,8 @@ use std::alloc::{AllocError, Global};
 use std::thread::Threads;
 
 /// Group 3 is committed. In it writes 3 and 4 were born, of objects 7 and 8; writes 1 and 2, of 7 and 9, are freed.
-static SESSION: &str = "create draid1:2d:3c:0s 3 sector=512 height=8 metaslabs=1 slices=4\nwrite 7 aa\nwrite 9 99\nsync\nwrite 7 bb\nfree 9\nwrite 8 cc\nsync\ncrash\n";
+static SESSION: &str =
+    "create draid1:2d:3c:0s 3 sector=512 height=8 metaslabs=1 slices=4\nwrite 7 aa\nwrite 9 99\nsync\nwrite 7 bb\nfree 9\nwrite 8 cc\nsync\ncrash\n";
 
 static LATER: &str = "import\nread 7\n";
 
@@ -186,7 +187,11 @@ fn prints<R: AllocGlobal + Threads + Sync>(
 
 /// Whether an import over a row's area comes to what is wanted, and has left all there: with the written record in its place
 /// the pool is found.
-fn is_so<R: AllocGlobal + Threads + Sync>(rt: &R, shelf: &mut MemoryShelf, row: &Row) -> Option<bool> {
+fn is_so<R: AllocGlobal + Threads + Sync>(
+    rt: &R,
+    shelf: &mut MemoryShelf,
+    row: &Row,
+) -> Option<bool> {
     let area = area_of(rt.alloc(), row.bytes, row.failing).ok()?;
     put_area(shelf, row.odd, area)?;
     if !prints(rt, shelf, LATER, row.status, row.printed)? {
@@ -201,7 +206,14 @@ fn is_so<R: AllocGlobal + Threads + Sync>(rt: &R, shelf: &mut MemoryShelf, row: 
 fn is_told<R: AllocGlobal + Threads + Sync>(rt: &R, row: &Row) -> Option<bool> {
     let mut shelf = MemoryShelf::new(rt.alloc(), CrashRule::Old);
     let mut sink = MemorySink::new(rt.alloc(), Vec::new(rt.alloc()));
-    run_script(rt, "session", SESSION.as_bytes(), &[], &mut shelf, &mut sink)?;
+    run_script(
+        rt,
+        "session",
+        SESSION.as_bytes(),
+        &[],
+        &mut shelf,
+        &mut sink,
+    )?;
     is_so(rt, &mut shelf, row)
 }
 
