@@ -165,11 +165,16 @@ fn area_of(alloc: Global, bytes: &[u8], failing: &[u64]) -> Result<MemoryArea, A
 /// Puts an area of check records in place of the one that is there.
 fn put_area(shelf: &mut MemoryShelf, odd: bool, area: MemoryArea) -> Option<()> {
     match shelf.take_check() {
-        Ok((even, _)) if odd => shelf.give_check(even, area),
-        Ok((_, odd)) => shelf.give_check(area, odd),
-        Err(_) => return None,
+        Ok((even_area, odd_area)) => {
+            if odd {
+                shelf.give_check(even_area, area);
+            } else {
+                shelf.give_check(area, odd_area);
+            }
+            Some(())
+        }
+        Err(_) => None,
     }
-    Some(())
 }
 
 /// Whether lines on a shelf end with this status, and print this.
