@@ -32,6 +32,7 @@ use Rattle.draid_lanes.specs.declared.lane.Lane.{Lane}
 use Rattle.draid_lanes.specs.declared.locked.Locked.{Locked}
 use Rattle.draid_lanes.specs.declared.uber.UberCell.{UberCell}
 use Rattle.draid_lanes.proofs.FinishWords.{FoundAt}
+use Rattle.draid_lanes.proofs.GovernedGroup.{leads_base}
 use Rattle.draid_lanes.proofs.GovernedSync.{through_lead}
 use Rattle.draid_lanes.proofs.Held.{has_place}
 use Rattle.draid_lanes.proofs.LaneSays.{sync_but}
@@ -119,7 +120,8 @@ module _ {R A G W : Type 0} (rack : racks.Ghosts R) (area : areas.Ghosts A) (x :
     turn = uber_turn rack area x Made old.uber.now old.metaslabs new.metaslabs None (Some result) old.pass new.pass lane turns first did lane_new turns_new
         (through_holds rack area x (owned_by met.passes.items) governor.own count all_of governor.some met did.related.after did.value.uber did.left.uber result did.related.related) (ubers_all said.holds _ said.traced.of_uber) (many ∙ sym all)
         (λ z long g.
-        through_lead rack area x z (owned_by met.passes.items) governor.own count all_of governor.some (long ∙ sym count_is) met did.related.after did.value.uber did.left.uber result z ready beyond did.related.related g)
+        leads_base rack area x z (through_holds rack area x (owned_by met.passes.items) governor.own count all_of governor.some met did.related.after did.value.uber did.left.uber result did.related.related) did.related.after did.left.uber
+        (through_lead rack area x z (owned_by met.passes.items) governor.own count all_of governor.some (long ∙ sym count_is) met did.related.after did.value.uber did.left.uber result z ready beyond did.related.related g))
 
     lane_leads : KnowsLater rack area (owned_by new.metaslabs.passes.items) (lane_last new.metaslabs) (table_of new) new.own.seq new.own.floor y → LeadsLane rack area x (SyncLane x result y.store) old new
     lane_leads later = leads_lane rack area x Made old new None (Some result) lane did lane_new turns_new uber_new _ (looks_at 0 seen ++ said.holds) _ traced turn y stands later (SyncBut x result) so
