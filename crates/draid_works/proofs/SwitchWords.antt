@@ -18,11 +18,10 @@ use Rattle.draid_pool.specs.Metaslabs.{IsMetaslab}
 use Rattle.draid_pool.specs.Pools.{part_in}
 use Rattle.draid_pool.proofs.Walks.{Walked, walk_stops, walk_went}
 use Rattle.draid_changes.specs.Switching.{ReservesEach, ReservesOne, SeesLeaf, SwitchesEach}
-use Rattle.draid_changes.specs.Walks.{Switches, end_of_reserving, events_at, switch_event}
+use Rattle.draid_changes.specs.Walks.{Switches, end_of_reserving, switch_event}
 use Rattle.draid_entries.specs.declared.history.ReserveFault.{ReserveFault}
-use Rattle.draid_changes.specs.declared.need.Need.TheVariants as needs
 use Rattle.draid_changes.proofs.OwnedSwitch.{reserving_by}
-use Rattle.draid_changes.proofs.Reserved.{asks_for, not_through, reserve_stops, reserve_turns}
+use Rattle.draid_changes.proofs.Reserved.{not_through, reserve_stops, reserve_turns}
 use Rattle.draid_changes.proofs.Switched.{switch_did}
 use Rattle.draid_lanes.specs.Governing.{lane_last}
 use Rattle.draid_lanes.specs.Waits.{LaneWent}
@@ -40,21 +39,21 @@ use Rattle.draid_works.specs.Switched.{TriedOn}
 pub record RestBut (x : State) (e : Event) (end : End) (hs : List Hold) : Type 0 where
   pub left : List Hold
   pub leaves : LeavesLooks hs left
-  pub does : Chain (arms.ReservePhase x.geometry x.perms arms.one_event) (arms.EventPhase x.geometry x.perms e) left end
+  pub does : Chain (arms.ReservePhase x.geometry x.perms (arms.one_event x.geometry x.perms)) (arms.EventPhase x.geometry x.perms e) left end
 
 -- a look in front
 look_front : (hs ks left : List Hold) → IsOneOf IsLookOnly hs → LeavesLooks ks left → LeavesLooks (hs ++ ks) left
 look_front hs ks left one l = subst (λ a. LeavesLooks (a ++ ks) left) (sym one.are) (inl (one.is, l))
 
 module _ {R A : Type 0} (rack : racks.Ghosts R) (area : areas.Ghosts A) (x : State) where
-  pub tells_reserve : (n m : ℕ) (before after : Shard R A) → ReservesOne rack before (Ok tt) after → TellsAt rack area x m (λ hold. arms.Reserves x.geometry x.perms arms.one_event m hold 0) before after
+  pub tells_reserve : (n m : ℕ) (before after : Shard R A) → ReservesOne rack before (Ok tt) after → TellsAt rack area x m (λ hold. arms.Reserves x.geometry x.perms (arms.one_event x.geometry x.perms) m hold 0) before after
   tells_reserve n m before after e pieces y is =
-      let t = reserve_turns rack area (events_at needs.Event) 1 before after (asks_for rack area needs.Event before) (reserving_by rack area before after (Ok tt) e) e.answer e.reserved (part_in x m) pieces y is in
+      let t = reserve_turns rack area (arms.one_event x.geometry x.perms) 1 before after (λ part q z has. refl) (reserving_by rack area before after (Ok tt) e) e.answer e.reserved (part_in x m) pieces y is in
       record { act = t.act; reached = t.reached; acts = t.acts; done = t.done.0; is = t.is }
 
-  pub tells_short : (why : ReserveFault) (m : ℕ) (before after : Shard R A) → ReservesOne rack before (Err why) after → TellsAt rack area x m (λ hold. arms.ReserveStops x.geometry x.perms arms.one_event m hold (end_of_reserving (Err why))) before after
+  pub tells_short : (why : ReserveFault) (m : ℕ) (before after : Shard R A) → ReservesOne rack before (Err why) after → TellsAt rack area x m (λ hold. arms.ReserveStops x.geometry x.perms (arms.one_event x.geometry x.perms) m hold (end_of_reserving (Err why))) before after
   tells_short why m before after e pieces y is =
-      let t = reserve_stops rack area (events_at needs.Event) 1 before after why (asks_for rack area needs.Event before) (reserving_by rack area before after (Err why) e) e.answer e.same (part_in x m) pieces y is in
+      let t = reserve_stops rack area (arms.one_event x.geometry x.perms) 1 before after why (λ part q z has. refl) (reserving_by rack area before after (Err why) e) e.answer e.same (part_in x m) pieces y is in
       record { act = t.act; reached = t.reached; acts = t.acts; done = t.done.0; is = t.is }
 
   pub tells_switch : (leaf : ℕ) (offline : Bool) (n m : ℕ) (before after : Shard R A) → Switches rack leaf offline before after → TellsAt rack area x m (λ hold. arms.Happens x.geometry x.perms (switch_event leaf offline) m hold) before after
@@ -83,7 +82,7 @@ module _ {R A G W : Type 0} (rack : racks.Ghosts R) (area : areas.Ghosts A) (x :
   rest_went a seen late b look reserves switches came =
       let e = switch_event leaf offline in
       let one = seen_said true a seen look came in
-      let P = λ (m : ℕ) (hold : Hold) (n : ℕ). arms.Reserves x.geometry x.perms arms.one_event m hold 0 in
+      let P = λ (m : ℕ) (hold : Hold) (n : ℕ). arms.Reserves x.geometry x.perms (arms.one_event x.geometry x.perms) m hold 0 in
       let Q = λ (m : ℕ) (hold : Hold) (n : ℕ). arms.Happens x.geometry x.perms e m hold in
       let first = round_said rack area x owns (λ n before after. ReservesOne rack before (Ok tt) after) P (tells_reserve rack area x) count 0 seen late reserves one.came in
       let second = round_said rack area x owns (λ n before after. Switches rack leaf offline before after) Q (tells_switch rack area x leaf offline) count 0 late b switches first.came in
@@ -96,9 +95,9 @@ module _ {R A G W : Type 0} (rack : racks.Ghosts R) (area : areas.Ghosts A) (x :
           hs,
           ks,
           refl,
-          subst (λ n. phases.Walk (arms.Reserves x.geometry x.perms arms.one_event) (arms.ReserveStops x.geometry x.perms arms.one_event) 0 n hs Went 0) all
-              (walk_went (arms.Reserves x.geometry x.perms arms.one_event) (arms.ReserveStops x.geometry x.perms arms.one_event) 0 count hs 0
-              (walked_zero (λ m hold. arms.Reserves x.geometry x.perms arms.one_event m hold 0) 0 count hs 0 (arms.Reserves x.geometry x.perms arms.one_event) (λ m hold is. is) w)),
+          subst (λ n. phases.Walk (arms.Reserves x.geometry x.perms (arms.one_event x.geometry x.perms)) (arms.ReserveStops x.geometry x.perms (arms.one_event x.geometry x.perms)) 0 n hs Went 0) all
+              (walk_went (arms.Reserves x.geometry x.perms (arms.one_event x.geometry x.perms)) (arms.ReserveStops x.geometry x.perms (arms.one_event x.geometry x.perms)) 0 count hs 0
+              (walked_zero (λ m hold. arms.Reserves x.geometry x.perms (arms.one_event x.geometry x.perms) m hold 0) 0 count hs 0 (arms.Reserves x.geometry x.perms (arms.one_event x.geometry x.perms)) (λ m hold is. is) w)),
           (subst (λ n. phases.Each (arms.Happens x.geometry x.perms e) 0 n ks) all (each_of (arms.Happens x.geometry x.perms e) 0 count ks 0 v), refl),
         );
       }))
@@ -111,8 +110,8 @@ module _ {R A G W : Type 0} (rack : racks.Ghosts R) (area : areas.Ghosts A) (x :
       let e = switch_event leaf offline in
       let end = end_of_reserving (Err short) in
       let one = seen_said true a seen look came in
-      let P = λ (m : ℕ) (hold : Hold) (n : ℕ). arms.Reserves x.geometry x.perms arms.one_event m hold 0 in
-      let S = λ (hold : Hold). arms.ReserveStops x.geometry x.perms arms.one_event stop.place hold end in
+      let P = λ (m : ℕ) (hold : Hold) (n : ℕ). arms.Reserves x.geometry x.perms (arms.one_event x.geometry x.perms) m hold 0 in
+      let S = λ (hold : Hold). arms.ReserveStops x.geometry x.perms (arms.one_event x.geometry x.perms) stop.place hold end in
       let first = round_said rack area x owns (λ n before after. ReservesOne rack before (Ok tt) after) P (tells_reserve rack area x) stop.place stop.sum seen stop.mid stop.front one.came in
       let last = said_one rack area x owns (λ before after. ReservesOne rack before (Err short) after) S stop.mid stop.place b stop.stop first.came (tells_short rack area x short stop.place stop.stop.before stop.stop.after stop.stop.did) in
       said_on rack area x a seen b [] [] (IsOneOf IsLookOnly) (RestBut x e end) (RestBut x e end) one
@@ -122,10 +121,10 @@ module _ {R A G W : Type 0} (rack : racks.Ghosts R) (area : areas.Ghosts A) (x :
         leaves = leaves_self (hs ++ ks);
         does = inr (
           not_through short,
-          subst (λ l. arms.ReservePhase x.geometry x.perms arms.one_event (hs ++ l) end) (sym o.are)
-              (walk_stops (arms.Reserves x.geometry x.perms arms.one_event) (arms.ReserveStops x.geometry x.perms arms.one_event) 0 stop.place x.geometry.props.metaslabs hs 0 o.hold end (let below = stop.below in subst (λ n. stop.place < n) all below)
-              (walked_zero (λ m hold. arms.Reserves x.geometry x.perms arms.one_event m hold 0) 0 stop.place hs stop.sum (arms.Reserves x.geometry x.perms arms.one_event) (λ m hold is. is) w) (not_through short)
-              (subst (λ m. arms.ReserveStops x.geometry x.perms arms.one_event m o.hold end) (let same : stop.place ≡ 0 + stop.place = omega arith in same) o.is)),
+          subst (λ l. arms.ReservePhase x.geometry x.perms (arms.one_event x.geometry x.perms) (hs ++ l) end) (sym o.are)
+              (walk_stops (arms.Reserves x.geometry x.perms (arms.one_event x.geometry x.perms)) (arms.ReserveStops x.geometry x.perms (arms.one_event x.geometry x.perms)) 0 stop.place x.geometry.props.metaslabs hs 0 o.hold end (let below = stop.below in subst (λ n. stop.place < n) all below)
+              (walked_zero (λ m hold. arms.Reserves x.geometry x.perms (arms.one_event x.geometry x.perms) m hold 0) 0 stop.place hs stop.sum (arms.Reserves x.geometry x.perms (arms.one_event x.geometry x.perms)) (λ m hold is. is) w) (not_through short)
+              (subst (λ m. arms.ReserveStops x.geometry x.perms (arms.one_event x.geometry x.perms) m o.hold end) (let same : stop.place ≡ 0 + stop.place = omega arith in same) o.is)),
         );
       }))
       (λ hs ks o d. record { left = d.left; leaves = look_front hs ks d.left o d.leaves; does = d.does })

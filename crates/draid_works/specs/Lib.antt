@@ -3,4 +3,5 @@ pub mod Job
 pub mod Lanes
 pub mod Mended
 pub mod Switched
+pub mod Told
 pub mod Waiting
