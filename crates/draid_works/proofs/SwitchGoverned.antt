@@ -1,5 +1,5 @@
 -- A leaf that goes offline in a lane's metaslabs or comes back, whatever state of the whole pool stood.
-use Rattle.std.proofs.Common.{◌≡◌, ◌==◌, ◌<◌, ◌≤◌, ◌+◌, ◌∙◌, ◌⊎◌, [], inl, inr, ℕ, zero, suc, Bool, true, false, Option, Some, None, Ok, Err, arith, refl, sym, ap, subst, length, if◌then◌else◌, eq-eqb, ne_eqb}
+use Rattle.std.proofs.Common.{◌≡◌, ◌<◌, ◌≤◌, ◌∙◌, [], inl, inr, ℕ, zero, suc, Bool, true, false, Option, Some, None, arith, refl, sym, ap, subst, length, if◌then◌else◌, eq-eqb, ne_eqb}
 use mathlib.Core.Logic.{dite}
 use native.Mathlib.Decide.{ℕ_discrete}
 use Rattle.std.specs.Prelude.{Result, is_some, slice_get}
@@ -8,7 +8,6 @@ use Rattle.std.proofs.lemmas.Option.{slice_get_within}
 use Rattle.draid_rack.specs.declared.Rack as racks
 use Rattle.draid_area.specs.declared.Area as areas
 use Rattle.draid_machine.specs.declared.names.ArmName.TheVariants.{Leaf}
-use Rattle.draid_machine.specs.After.{set_arm}
 use Rattle.draid_machine.specs.Names.{name_eq}
 use Rattle.draid_machine.specs.State as machine
 use Rattle.draid_machine.specs.Step.{Step, SwitchStep}
@@ -19,7 +18,7 @@ use Rattle.draid_session.specs.Opening.{MayFind}
 use Rattle.draid_session.specs.Holds.{Did}
 use Rattle.draid_session.specs.State.{Metaslab, State}
 use Rattle.draid_entries.specs.History.{reserved_of}
-use Rattle.draid_shard.specs.Fits.{AreGroups, Valid}
+use Rattle.draid_shard.specs.Fits.{AreGroups}
 use Rattle.draid_shard.specs.Part.{layout_in}
 use Rattle.draid_shard.specs.declared.shard.Shard.{Shard}
 use Rattle.draid_uber.specs.declared.uber.Uber.{Uber}
@@ -36,11 +35,10 @@ use Rattle.draid_pool.proofs.OneHold.{reserved_here, with_reserved}
 use Rattle.draid_pool.proofs.ShardSteps.{acts_since}
 use Rattle.draid_pool.proofs.Since.{nothing_more}
 use Rattle.draid_entries.specs.declared.history.ReserveFault.{ReserveFault}
-use Rattle.draid_changes.specs.Switching.{ReservesEach, ReservesOne, SeesLeaf, SwitchesEach}
+use Rattle.draid_changes.specs.Switching.{ReservesOne, SeesLeaf}
 use Rattle.draid_changes.specs.Walks.{Switches, switch_event}
 use Rattle.draid_changes.proofs.Switched.{changed_state, switch_did, switched_shared}
 use Rattle.draid_lanes.specs.Governing.{lane_last}
-use Rattle.draid_lanes.specs.Waits.{LaneWent}
 use Rattle.draid_lanes.specs.declared.locked.Locked.{Locked}
 use Rattle.draid_lanes.proofs.DriftGoverned.{KeepsGoverned}
 use Rattle.draid_lanes.proofs.GovernedGroup.{GovernsFrom}

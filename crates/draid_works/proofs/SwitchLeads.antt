@@ -13,7 +13,6 @@ use Rattle.draid_pool.specs.Drifts.{groups_number}
 use Rattle.draid_pool.specs.Grouping.{ClosesNext, FinishesIn}
 use Rattle.draid_pool.specs.Rounds.{EachIs, NoneBeyond}
 use Rattle.draid_changes.specs.Switching.{LeafIsIn, ReservesEach, ReservesOne, SeesLeaf, SwitchesEach, SwitchesIn}
-use Rattle.draid_changes.specs.Walks.{Switches}
 use Rattle.draid_changes.specs.declared.fault.ArmFault.{ArmFault}
 use Rattle.draid_lanes.specs.Governing.{lane_last}
 use Rattle.draid_lanes.specs.Waits.{BegunOn, LaneWent}

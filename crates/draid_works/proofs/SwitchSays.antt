@@ -1,19 +1,17 @@
 -- What is said of a lane that takes a leaf offline or brings it back.
-use Rattle.std.proofs.Common.{◌≡◌, ◌≢◌, ◌<◌, ◌+◌, ◌++◌, ◌∷◌, ◌∙◌, ◌⊎◌, [], inl, inr, ℕ, zero, suc, Bool, true, false, List, Option, Some, None, Ok, Err, arith, refl, sym, ap, subst, length}
+use Rattle.std.proofs.Common.{◌≡◌, ◌<◌, ◌+◌, ◌++◌, ◌∷◌, ◌∙◌, [], inl, inr, ℕ, Bool, true, false, List, Option, Some, Ok, Err, arith, refl, sym, ap, subst, length}
 use Rattle.std.specs.Prelude.{IsTrue, Result, slice_get}
 use Rattle.std.proofs.lemmas.List.{append_assoc}
-use Rattle.draid_names.specs.declared.refusal.SlotFault.{SlotFault}
 use Rattle.draid_names.specs.declared.refusal.SlotFault.TheVariants as slot
 use Rattle.draid_rack.specs.declared.Rack as racks
 use Rattle.draid_area.specs.declared.Area as areas
 use Rattle.draid_session.specs.Arms as arms
 use Rattle.draid_session.specs.Groups as groups
-use Rattle.draid_session.specs.Holds.{Hold, LookedUber, OnUber, view_of}
+use Rattle.draid_session.specs.Holds.{Hold, LookedUber, view_of}
 use Rattle.draid_session.specs.Lanes.{IsLookOnly, LeavesLooks}
 use Rattle.draid_session.specs.Looks.{LooksFrom}
-use Rattle.draid_session.specs.Phases.{End, Went, WasWorn, WasLast, Starved, Broke}
+use Rattle.draid_session.specs.Phases.{End, Went}
 use Rattle.draid_session.specs.State.{Metaslab, State}
-use Rattle.draid_shard.specs.declared.shard.Shard.{Shard}
 use Rattle.draid_turn.specs.Calls.{Caller}
 use Rattle.draid_turn.specs.declared.past.Past.{Past}
 use Rattle.draid_uber.specs.Slots.{group_of}
@@ -22,11 +20,10 @@ use Rattle.draid_uber.specs.declared.uber.Uber.{Uber}
 use Rattle.draid_entries.specs.declared.history.ReserveFault.{ReserveFault}
 use Rattle.draid_entries.specs.declared.history.ReserveFault.TheVariants as reserve
 use Rattle.draid_disks.specs.Disks.{IsLeafArm}
-use Rattle.draid_slots.specs.Table.{IsTable, SlotTable}
+use Rattle.draid_slots.specs.Table.{SlotTable}
 use Rattle.draid_shard.specs.Alike.{HaveSameArms}
 use Rattle.draid_pool.specs.Drifts.{groups_number}
-use Rattle.draid_pool.specs.Grouping.{ClosesNext, FinishesIn}
-use Rattle.draid_pool.specs.Pools.{part_in}
+use Rattle.draid_pool.specs.Grouping.{ClosesNext}
 use Rattle.draid_pool.specs.Rounds.{EachIs}
 use Rattle.draid_pool.specs.Syncing.{end_of}
 use Rattle.draid_pool.specs.Views.{seen_at}
@@ -37,12 +34,10 @@ use Rattle.draid_pool.proofs.Lists.{present}
 use Rattle.draid_pool.proofs.Looking.{looked, looks_at}
 use Rattle.draid_pool.proofs.SyncSteps.{not_went}
 use Rattle.draid_changes.specs.Answers.{IsFor, SwitchDoes}
-use Rattle.draid_changes.specs.Behind.{HasLeaf}
-use Rattle.draid_changes.specs.Switching.{IsShortOf, SeesLeaf, SwitchesAll, SwitchesIn}
+use Rattle.draid_changes.specs.Switching.{IsShortOf, SeesLeaf, SwitchesIn}
 use Rattle.draid_changes.specs.Walks.{end_of_reserving, switch_event}
 use Rattle.draid_changes.specs.declared.fault.ArmFault.{ArmFault}
 use Rattle.draid_changes.specs.declared.fault.ArmFault.TheVariants as armed
-use Rattle.draid_changes.proofs.ArmSteps.{finish_not_last}
 use Rattle.draid_changes.proofs.Begun.{seen_first}
 use Rattle.draid_changes.proofs.Calls.{leaf_here, leaf_there, not_broken}
 use Rattle.draid_changes.proofs.Leaves.{leaf_arm, leaf_inside, leaf_shared}
@@ -54,7 +49,7 @@ use Rattle.draid_lanes.proofs.FinishWords.{FinishSays, FoundAt, Stage, finish_ho
 use Rattle.draid_lanes.proofs.GroupWords.{uber_view}
 use Rattle.draid_lanes.proofs.LaneSays.{finishes_ok, in_front, one_finishes}
 use Rattle.draid_lanes.proofs.LooksSaid.{LooksBut, looks_said}
-use Rattle.draid_lanes.proofs.OneTurn.{CameTo, Once, came_is}
+use Rattle.draid_lanes.proofs.OneTurn.{Once, came_is}
 use Rattle.draid_lanes.proofs.RoundWords.{IsOneOf, Says, said_as, said_on, said_uber}
 use Rattle.draid_lanes.proofs.SealWords.{leaves_self, leaves_then}
 use Rattle.draid_lanes.proofs.SyncWords.{look_hold}

@@ -1,20 +1,17 @@
 -- A leaf that goes offline in a lane's metaslabs or comes back, in the session's words, behind what was closing.
-use Rattle.std.proofs.Common.{◌≡◌, ◌<◌, ◌≤◌, ◌+◌, ◌++◌, ◌∷◌, ◌∙◌, ◌⊎◌, [], inl, inr, ℕ, zero, suc, Bool, true, false, List, Option, Some, None, Ok, Err, arith, refl, sym, ap, subst}
-use Rattle.std.specs.Prelude.{Result}
+use Rattle.std.proofs.Common.{◌≡◌, ◌<◌, ◌+◌, ◌++◌, ◌∙◌, [], inl, inr, ℕ, zero, suc, Bool, true, List, Ok, Err, arith, refl, sym, subst}
 use Rattle.draid_rack.specs.declared.Rack as racks
 use Rattle.draid_area.specs.declared.Area as areas
 use Rattle.draid_machine.specs.declared.event.Event.{Event}
-use Rattle.draid_segments.specs.Segments.{Pieces}
 use Rattle.draid_session.specs.Arms as arms
-use Rattle.draid_session.specs.Holds.{Did, Hold, On, view_of}
+use Rattle.draid_session.specs.Holds.{Did, Hold}
 use Rattle.draid_session.specs.Lanes.{IsLookOnly, LeavesLooks}
 use Rattle.draid_session.specs.Phases.{Chain, End, Went}
 use Rattle.draid_session.specs.Phases as phases
-use Rattle.draid_session.specs.State.{Metaslab, State}
+use Rattle.draid_session.specs.State.{State}
 use Rattle.draid_shard.specs.declared.shard.Shard.{Shard}
 use Rattle.draid_uber.specs.declared.uber.Uber.{Uber}
 use Rattle.draid_pool.specs.Drifts.{groups_number}
-use Rattle.draid_pool.specs.Metaslabs.{IsMetaslab}
 use Rattle.draid_pool.specs.Pools.{part_in}
 use Rattle.draid_pool.proofs.Walks.{Walked, walk_stops, walk_went}
 use Rattle.draid_changes.specs.Switching.{ReservesEach, ReservesOne, SeesLeaf, SwitchesEach}
@@ -31,8 +28,8 @@ use Rattle.draid_lanes.proofs.FinishWords.Stage.{Begins, Waits}
 use Rattle.draid_lanes.proofs.GroupWords.{each_of}
 use Rattle.draid_lanes.proofs.OneTurn.{HasCame, Once}
 use Rattle.draid_lanes.proofs.OnlyLooking.{same_looks}
-use Rattle.draid_lanes.proofs.RoundWords.{Each, IsOneOf, Says, TellsAt, round_said, said_as, said_on, said_one}
-use Rattle.draid_lanes.proofs.SealWords.{leaves_look, leaves_self, leaves_then, walked_zero}
+use Rattle.draid_lanes.proofs.RoundWords.{IsOneOf, Says, TellsAt, round_said, said_on, said_one}
+use Rattle.draid_lanes.proofs.SealWords.{leaves_self, walked_zero}
 use Rattle.draid_works.specs.Switched.{TriedOn}
 
 -- but for looks, an event is reserved in each metaslab, and then it comes there
