@@ -1,6 +1,8 @@
 ghost use Rattle.std.specs.Prelude.{◌≡◌, ◌<◌, IfSome, length};
+ghost use Rattle.draid_lanes.specs.Lanes.{IsWholeLane};
 ghost use Rattle.draid_pool.specs.Looking.{HasMany};
 ghost use Rattle.draid_pool.specs.Threads.{AllStay, KeepsWhole, all_of};
+ghost use Rattle.draid_works.specs.Job.{LeavesWhole};
 
 use crate::gates::TURNS;
 use crate::lists::lists_of;
@@ -84,27 +86,47 @@ struct Meeting<'c> {
     met: bool,
 }
 
+/// Waits in a hold of a lane's metaslab, where the lane has it.
+fn meet_in_lane<'a, 'b, 'c, R: Rack, A: Area, G: Gate, W: Wait>(
+    job: &mut Meeting<'c>,
+    mut lane: Lane<'a, 'b, R, A, G, W>,
+) -> Lane<'a, 'b, R, A, G, W>
+    requires whole { IsWholeLane R.Rack A.Area lane }
+    ensures leaves { LeavesWhole R.Rack A.Area lane.entry result }
+{
+    let count = lane.geometry.props.metaslabs;
+    if job.metaslab >= count {
+        return lane;
+    }
+    let op = MeetOp {
+        mine: job.mine,
+        other: job.other,
+        met: false,
+    };
+    let op = meet_in(&mut lane.metaslabs, count, job.metaslab, op);
+    job.met = op.met;
+    lane
+}
+
 impl<'c, R: Rack, A: Area, G: Gate, W: Wait> LaneJob<R, A, G, W> for Meeting<'c> {
+    ghost use Rattle.std.specs.Prelude.{◌≡◌, IsSomeAnd, Some};
     ghost use Rattle.draid_lanes.specs.Lanes.{IsWholeLane};
+    ghost use Rattle.draid_lanes.specs.declared.lane.Lane.{Lane};
     ghost use Rattle.draid_works.specs.Job.{LeavesWhole};
 
     ghost needs = { λ _ lane. IsWholeLane R.Rack A.Area lane };
 
     ghost relates = { λ _ old _ new. LeavesWhole R.Rack A.Area old new };
 
-    fn run<'a, 'b>(&mut self, mut lane: Lane<'a, 'b, R, A, G, W>) -> Lane<'a, 'b, R, A, G, W> {
-        let count = lane.geometry.props.metaslabs;
-        if self.metaslab >= count {
-            return lane;
-        }
-        let op = MeetOp {
-            mine: self.mine,
-            other: self.other,
-            met: false,
+    fn run<'a, 'b>(&mut self, place: &mut Option<Lane<'a, 'b, R, A, G, W>>)
+        requires needed { IsSomeAnd place.old (λ lane. IsWholeLane R.Rack A.Area lane) }
+        ensures related { (lane : Lane R A G W) → place.old ≡ Some lane → IsSomeAnd place.new (λ next. LeavesWhole R.Rack A.Area lane next) }
+    {
+        let Some(lane) = place.take() else {
+            unreachable!()
         };
-        let op = meet_in(&mut lane.metaslabs, count, self.metaslab, op);
-        self.met = op.met;
-        lane
+        let lane = meet_in_lane(self, lane);
+        *place = Some(lane);
     }
 }
 

@@ -8,7 +8,7 @@ ghost use Rattle.draid_session.specs.Replies.{IsReplyTo};
 ghost use Rattle.draid_spec.specs.Geometry.{IsGeometry};
 ghost use Rattle.draid_lanes.specs.Lanes.{IsWholeLane};
 ghost use Rattle.draid_lanes.specs.Locks.{owned_by};
-ghost use Rattle.draid_works.specs.Job.{AreAll, AreRepliesTo, CommandsDone, IsOnObjects, LeavesWhole, MayAllBeGiven, MayBeGiven};
+ghost use Rattle.draid_works.specs.Job.{AreAll, AreRepliesTo, CommandsDone, DoesCommands, IsOnObjects, LeavesWhole, MayAllBeGiven, MayBeGiven, MayDoCommands};
 ghost use Rattle.draid_works.specs.Replied.{CommandDone};
 
 use crate::filling::fill_in_lane;
@@ -175,6 +175,34 @@ fn reply_to_each<
     (lane, false)
 }
 
+/// Does the commands of a lane, and keeps the replies to those that were done.
+fn do_commands<
+    'a,
+    'b,
+    'c,
+    R: Rack,
+    A: Area,
+    G: Gate,
+    W: Wait + Threads + Sync,
+    F: Fn(&[Room]) -> Option<u32>,
+>(
+    job: &mut LaneCommands<'c, F>,
+    lane: Lane<'a, 'b, R, A, G, W>,
+) -> Lane<'a, 'b, R, A, G, W>
+    requires may { MayDoCommands R.Rack A.Area F.Fn job.old.chooser.now job.old.lines.items job.old.replies lane }
+    ensures does { DoesCommands R.Rack A.Area (choices_by (FnReturnsAt F.Fn job.old.chooser.now)) job.old.lines lane.entry job.new.lines job.new.replies.items job.new.stopped result }
+{
+    let (lane, stopped) = reply_to_each(
+        job.alloc,
+        lane,
+        job.chooser,
+        &job.lines,
+        &mut job.replies,
+    );
+    job.stopped = stopped;
+    lane
+}
+
 impl<
     'c,
     R: Rack,
@@ -183,7 +211,9 @@ impl<
     W: Wait + Threads + Sync,
     F: Fn(&[Room]) -> Option<u32>,
 > LaneJob<R, A, G, W> for LaneCommands<'c, F> {
+    ghost use Rattle.std.specs.Prelude.{◌≡◌, IsSomeAnd, Some};
     ghost use Rattle.std.specs.Thread.{IsSync};
+    ghost use Rattle.draid_lanes.specs.declared.lane.Lane.{Lane};
     ghost use Rattle.draid_works.specs.Job.{DoesCommands, MayDoCommands};
 
     // (a sum makes threads, which share the lane's runtime)
@@ -191,18 +221,14 @@ impl<
 
     ghost relates = { λ job old done new. DoesCommands R.Rack A.Area (choices_by (FnReturnsAt F.Fn job.chooser.now)) job.lines old done.lines done.replies.items done.stopped new };
 
-    fn run<'a, 'b>(&mut self, lane: Lane<'a, 'b, R, A, G, W>) -> Lane<'a, 'b, R, A, G, W>
-        requires needed { IsSync W.row × MayDoCommands R.Rack A.Area F.Fn self.old.chooser.now self.old.lines.items self.old.replies lane }
-        ensures related { DoesCommands R.Rack A.Area (choices_by (FnReturnsAt F.Fn self.old.chooser.now)) self.old.lines lane.entry self.new.lines self.new.replies.items self.new.stopped result }
+    fn run<'a, 'b>(&mut self, place: &mut Option<Lane<'a, 'b, R, A, G, W>>)
+        requires needed { IsSomeAnd place.old (λ lane. IsSync W.row × MayDoCommands R.Rack A.Area F.Fn self.old.chooser.now self.old.lines.items self.old.replies lane) }
+        ensures related { (lane : Lane R A G W) → place.old ≡ Some lane → IsSomeAnd place.new (λ next. DoesCommands R.Rack A.Area (choices_by (FnReturnsAt F.Fn self.old.chooser.now)) self.old.lines lane self.new.lines self.new.replies.items self.new.stopped next) }
     {
-        let (lane, stopped) = reply_to_each(
-            self.alloc,
-            lane,
-            self.chooser,
-            &self.lines,
-            &mut self.replies,
-        );
-        self.stopped = stopped;
-        lane
+        let Some(lane) = place.take() else {
+            unreachable!()
+        };
+        let lane = do_commands(self, lane);
+        *place = Some(lane);
     }
 }
