@@ -5,7 +5,7 @@ ghost use Rattle.draid_names.specs.Faults.{Rose};
 ghost use Rattle.draid_record.specs.Checks.{told_check};
 ghost use Rattle.draid_record.specs.declared.fault.RecordFaultKind.{RecordFaultKind};
 ghost use Rattle.draid_record.specs.declared.fault.RecordFault.TheVariants.{Bad};
-ghost use Rattle.draid_uber.specs.Checks.{CheckStands, check_area, check_in, count_in};
+ghost use Rattle.draid_uber.specs.Checks.{CheckStands, check_area, check_in, count_in, no_check};
 
 use crate::areas::Areas;
 use draid_area::Area;
@@ -38,7 +38,7 @@ pub(crate) fn put_check<A: Area>(
     areas: &mut Areas<A>,
     group: u64,
 ) -> Result<(), DeviceFault>
-    ensures written { OnOk result (OnTold (A.told (check_area areas.new group)) (CheckStands group)) }
+    ensures written { OnOk result (OnTold (A.told (check_area areas.new group)) (CheckStands no_check group)) }
     // The area of the groups before it and behind it is as it was.
     ensures other { (n : ℕ) → (n % 2 ≡ group % 2 → ⊥) → check_area areas.new n ≡ check_area areas.old n }
     ensures uber { areas.new.uber ≡ areas.old.uber }

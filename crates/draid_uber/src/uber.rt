@@ -73,11 +73,11 @@ impl<A: Area> Uber<A> {
     ghost use Rattle.draid_uber.specs.Held.{IsNext};
     ghost use Rattle.draid_uber.specs.Steps.{IsSameOrFlushed};
     ghost use Rattle.draid_uber.specs.Slots.{StandsTold, chosen_of, group_of};
-    ghost use Rattle.draid_record.specs.Checks.{told_check};
+    ghost use Rattle.draid_record.specs.Checks.{CheckTold, told_check};
     ghost use Rattle.draid_record.specs.declared.fault.RecordFaultKind.{RecordFaultKind};
     ghost use Rattle.draid_record.specs.declared.fault.RecordFault.TheVariants.{Bad};
     ghost use Rattle.draid_uber.specs.Checks.{AreasStand, LeavesAny, check_area, check_in, told_by};
-    ghost use Rattle.draid_uber.specs.Uber.{layout_in, next_of, Finds, IsNewArea, Valid, area_of, areas_of, count_of, kept_of, layout_of, next_leaf_of, version_of};
+    ghost use Rattle.draid_uber.specs.Uber.{layout_in, next_check, next_of, Finds, IsNewArea, Valid, area_of, areas_of, count_of, kept_of, layout_of, next_leaf_of, version_of};
 
     /// The uberblock of a new pool, of which nothing is committed yet. A crash leaves no open gate.
     #[tactic(auto, using(crate::proofs::Choices::new_area))]
@@ -260,10 +260,12 @@ impl<A: Area> Uber<A> {
         ensures valid { Valid A.size self.new }
 
         // Whatever a crash leaves, an import finds the committed group or the new one, and the check record of what it finds.
-        ensures refused { (pending : List UberBody) → AreasStand (kept_of self.old) pending (told_by A.told (areas_of self.old))
-            → OnErr result (LeavesAny (kept_of self.old) (next_of self.old group ∷ pending) (told_by A.told (areas_of self.new))) }
-        ensures committed { (pending : List UberBody) → AreasStand (kept_of self.old) pending (told_by A.told (areas_of self.old))
-            → OnOk result (AreasStand (Some (next_of self.old group)) [] (told_by A.told (areas_of self.new))) }
+        ensures refused { (check : ℕ → CheckTold) (pending : List UberBody) → check group ≡ next_check self.old group
+            → AreasStand check (kept_of self.old) pending (told_by A.told (areas_of self.old))
+            → OnErr result (LeavesAny check (kept_of self.old) (next_of self.old group ∷ pending) (told_by A.told (areas_of self.new))) }
+        ensures committed { (check : ℕ → CheckTold) (pending : List UberBody) → check group ≡ next_check self.old group
+            → AreasStand check (kept_of self.old) pending (told_by A.told (areas_of self.old))
+            → OnOk result (AreasStand check (Some (next_of self.old group)) [] (told_by A.told (areas_of self.new))) }
 
         ensures kept { OnOk result (kept_of self.new ≡ Some (next_of self.old group)) }
         ensures same { OnErr result (kept_of self.new ≡ kept_of self.old) }
