@@ -6,7 +6,7 @@ use Rattle.std.proofs.lemmas.List.Elements.{All-cons, All-contains_itself, All-n
 use Rattle.draid_area.specs.Area.{Content, IsOfSize, MayLeave, OnTold, flushes, writes}
 use Rattle.draid_area.specs.Moments.{CrashesTold, IsCrashOutcome}
 use Rattle.draid_area.proofs.Moments.{crash_left, leaves_all}
-use Rattle.draid_record.specs.Checks.{AnswersCheck, CheckTold, check_bytes, check_of, told_check}
+use Rattle.draid_record.specs.Checks.{AnswersCheck, CheckTold, IsCheck, check_bytes, check_of, told_check}
 use Rattle.draid_record.specs.declared.checks.CheckBody.{CheckBody}
 use Rattle.draid_record.specs.declared.fault.RecordFault.{RecordFault}
 use Rattle.draid_record.specs.declared.checks.Dropped.{Dropped}
@@ -36,24 +36,23 @@ module _ {A : Type 0} (areas : Areas A) (new : A) (group : ℕ) where
 
 -- ---- a record that was written and flushed
 
-in_area : (group : ℕ) (left : List ℕ) → check_of group left ≡ Ok no_check → check_in group left ≡ Ok no_check
-in_area group [] is = refl
-in_area group (byte ∷ bytes) is = is
+in_area : (value : CheckTold) (group : ℕ) (left : List ℕ) → (length left ≡ 0 → ⊥) → check_of group left ≡ Ok value → check_in group left ≡ Ok value
+in_area value group [] some is = absurd (some refl)
+in_area value group (byte ∷ bytes) some is = is
 
-record_is : (group : ℕ) → group < 2 ^ 64 → (bytes more : List ℕ) → bytes ≡ check_bytes group no_check → check_of group (bytes ++ more) ≡ Ok no_check
-record_is group small bytes more are = check_again group no_check bytes more (record { small = small; upto = omega arith; few = omega arith; drops_are = tt }) are
+some_bytes : (value : CheckTold) (group : ℕ) (bytes more : List ℕ) → bytes ≡ check_bytes group value → length (bytes ++ more) ≡ 0 → ⊥
+some_bytes value group [] more are none = absurd (cc)
+some_bytes value group (b ∷ bytes) more are none = absurd (cc)
 
-pub without_drops : (group : ℕ) (drops : List Dropped) (bytes : List ℕ) → drops ≡ [] → bytes ≡ check_bytes group (record { group = 0; drops = drops }) → bytes ≡ check_bytes group no_check
-without_drops group drops bytes none are = are ∙ ap (λ (ds : List Dropped). check_bytes group (record { group = 0; drops = ds })) none
+put_stands : (value : CheckTold) (group : ℕ) → IsCheck group value → (bytes : List ℕ) → bytes ≡ check_bytes group value → (x : Content) → CheckStands value group (flushes (writes 0 bytes x))
+put_stands value group range bytes are x left may =
+    let more = drop (0 + length bytes) x.bytes in
+    let all : left ≡ bytes ++ more = leaves_all (flushes (writes 0 bytes x)) left (λ i. refl) refl may in
+    in_area value group left (λ none. some_bytes value group bytes more are (ap length (sym all) ∙ none)) (subst (λ l. check_of group l ≡ Ok value) (sym all) (check_again group value bytes more range are))
 
-put_stands : (group : ℕ) → group < 2 ^ 64 → (bytes : List ℕ) → bytes ≡ check_bytes group no_check → (x : Content) → CheckStands no_check group (flushes (writes 0 bytes x))
-put_stands group small bytes are x left may =
-    let all : left ≡ bytes ++ drop (0 + length bytes) x.bytes = leaves_all (flushes (writes 0 bytes x)) left (λ i. refl) refl may in
-    in_area group left (subst (λ l. check_of group l ≡ Ok no_check) (sym all) (record_is group small bytes (drop (0 + length bytes) x.bytes) are))
-
-pub told_stands : (group : ℕ) → group < 2 ^ 64 → (bytes : List ℕ) → bytes ≡ check_bytes group no_check → (o p : Option Content) → p ≡ option_map (λ x. flushes (writes 0 bytes x)) o → OnTold p (CheckStands no_check group)
-told_stands group small bytes are None p is = subst (λ q. OnTold q (CheckStands no_check group)) (sym is) tt
-told_stands group small bytes are (Some x) p is = subst (λ q. OnTold q (CheckStands no_check group)) (sym is) (put_stands group small bytes are x)
+pub told_stands : (value : CheckTold) (group : ℕ) → IsCheck group value → (bytes : List ℕ) → bytes ≡ check_bytes group value → (o p : Option Content) → p ≡ option_map (λ x. flushes (writes 0 bytes x)) o → OnTold p (CheckStands value group)
+told_stands value group range bytes are None p is = subst (λ q. OnTold q (CheckStands value group)) (sym is) tt
+told_stands value group range bytes are (Some x) p is = subst (λ q. OnTold q (CheckStands value group)) (sym is) (put_stands value group range bytes are x)
 
 pub on_even : {A : Type 0} (told : A → Option Content) (areas : Areas A) (value : CheckTold) (group : ℕ) → group % 2 ≡ 0 → OnTold (told areas.even) (CheckStands value group) → OnTold (told (check_area areas group)) (CheckStands value group)
 on_even told areas value group is stands = rw (even_now group is) stands

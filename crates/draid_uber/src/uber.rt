@@ -9,7 +9,7 @@ ghost use Rattle.draid_spec.specs.Geometry.{IsGeometry};
 ghost use Rattle.draid_uber.specs.Uber.{IsWhy};
 
 use crate::areas::Areas;
-use crate::checks::{CheckFault, put_check, read_of};
+use crate::checks::{CheckFault, no_check, put_check, read_of};
 use crate::slots::{chosen, layout};
 use crate::steps::{clear, write};
 use draid_area::Area;
@@ -73,7 +73,7 @@ impl<A: Area> Uber<A> {
     ghost use Rattle.draid_uber.specs.Held.{IsNext};
     ghost use Rattle.draid_uber.specs.Steps.{IsSameOrFlushed};
     ghost use Rattle.draid_uber.specs.Slots.{StandsTold, chosen_of, group_of};
-    ghost use Rattle.draid_record.specs.Checks.{CheckTold, told_check};
+    ghost use Rattle.draid_record.specs.Checks.{CheckTold, IsCheck, told_check};
     ghost use Rattle.draid_record.specs.declared.fault.RecordFaultKind.{RecordFaultKind};
     ghost use Rattle.draid_record.specs.declared.fault.RecordFault.TheVariants.{Bad};
     ghost use Rattle.draid_uber.specs.Checks.{AreasStand, LeavesAny, check_area, check_in, told_by};
@@ -252,6 +252,15 @@ impl<A: Area> Uber<A> {
         clear(&mut self.areas.uber, group)
     }
 
+    /// What the check record of a group says, as the next commit writes it.
+    fn next_check(&self, group: u64) -> CheckBody
+        ensures body { told_check result ≡ next_check self.now group }
+        ensures ranges { IsCheck group (told_check result) }
+    {
+        let _group = group;
+        no_check(self.alloc)
+    }
+
     /// Commits a group, the one behind the committed one, with its check record. That is written while no gate of the group
     /// is open. After a refusal the committed group is as before, and the call may be made again.
     pub fn commit_with_check(&mut self, group: u64) -> Result<(), DeviceFault>
@@ -276,7 +285,8 @@ impl<A: Area> Uber<A> {
         ensures cause { Counts result (count_of A.faults self.old) (count_of A.faults self.new) }
     {
         self.shut(group)?;
-        put_check(self.alloc, &mut self.areas, group)?;
+        let body = self.next_check(group);
+        put_check(self.alloc, &mut self.areas, &body, group)?;
         self.commit(group)
     }
 

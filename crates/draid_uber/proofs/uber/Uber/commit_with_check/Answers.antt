@@ -1,4 +1,4 @@
-use Rattle.std.proofs.Common.{◌∷◌, [], Some, subst, sym}
+use Rattle.std.proofs.Common.{◌∷◌, ◌∙◌, [], Some, subst, sym}
 use Rattle.draid_area.specs.Area.{OnTold}
 use Rattle.draid_record.specs.Checks.{CheckTold}
 use Rattle.draid_record.specs.declared.uber.UberBody.{UberBody}
@@ -43,7 +43,7 @@ returns-clause-refused g c = λ check pending is_check stands.
     let put = check_put check told old.kept body behind mid.areas late p.uber p.other clear in
     let same = next_same old mid c.args.group e.layout e.version e.leaf in
     err_map c.commit.result
-    (λ is. refused check told old.kept body behind late new.areas d.others (subst (λ (v : CheckTold). OnTold (told (check_area late c.args.group)) (CheckStands v c.args.group)) (sym is_check) p.written) pending put
+    (λ is. refused check told old.kept body behind late new.areas d.others (subst (λ (v : CheckTold). OnTold (told (check_area late c.args.group)) (CheckStands v c.args.group)) (c.next_check-body.ensures.body ∙ sym is_check) p.written) pending put
     (subst (λ (b : UberBody). StandsTold old.kept (b ∷ []) (told new.areas.uber)) same (subst (λ kept. StandsTold kept (next_of mid c.args.group ∷ []) (told new.areas.uber)) e.kept is)))
     (d.refused [] (subst (λ kept. StandsTold kept [] (told late.uber)) (sym e.kept) put.uber_is))
 
@@ -63,5 +63,5 @@ returns-clause-committed g c = λ check pending is_check stands.
     let put = check_put check told old.kept body behind mid.areas late p.uber p.other clear in
     let same = next_same old mid c.args.group e.layout e.version e.leaf in
     ok_map c.commit.result
-    (λ is. named check told old.kept body behind late new.areas d.others (subst (λ (v : CheckTold). OnTold (told (check_area late c.args.group)) (CheckStands v c.args.group)) (sym is_check) p.written) (subst (λ (b : UberBody). StandsTold (Some b) [] (told new.areas.uber)) same is))
+    (λ is. named check told old.kept body behind late new.areas d.others (subst (λ (v : CheckTold). OnTold (told (check_area late c.args.group)) (CheckStands v c.args.group)) (c.next_check-body.ensures.body ∙ sym is_check) p.written) (subst (λ (b : UberBody). StandsTold (Some b) [] (told new.areas.uber)) same is))
     (d.committed [] (subst (λ kept. StandsTold kept [] (told late.uber)) (sym e.kept) put.uber_is))
