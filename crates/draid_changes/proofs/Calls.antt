@@ -10,6 +10,7 @@ use Rattle.draid_rack.specs.declared.Rack as racks
 use Rattle.draid_area.specs.declared.Area as areas
 use Rattle.draid_machine.specs.declared.names.ArmName.TheVariants.{Leaf}
 use Rattle.draid_machine.specs.Names.{has_name, named}
+use Rattle.draid_spec.specs.declared.layout.Geometry.{Geometry}
 use Rattle.draid_machine.proofs.Fitted.{every_fit}
 use Rattle.draid_machine.proofs.Small.{none_some}
 use Rattle.draid_segments.specs.Segments.{Pieces}
@@ -36,12 +37,13 @@ use Rattle.draid_pool.specs.declared.pool.Pool.{Pool}
 use Rattle.draid_pool.proofs.Arms.{shares_kept}
 use Rattle.draid_pool.proofs.SyncCalls.{then_phase}
 use Rattle.draid_changes.specs.Answers.{EndsIn, SwitchDoes}
+use Rattle.draid_changes.specs.Behind.{HasLeaf}
 use Rattle.draid_changes.specs.declared.fault.ArmFault.{ArmFault}
 use Rattle.draid_changes.specs.declared.need.Need.TheVariants as needs
 use Rattle.draid_changes.specs.Walks.{ChangedBelow, MaySwitch, Reserves, Switches, switch_event}
 use Rattle.draid_changes.proofs.Begun.{BreaksIs, ComesTo, DoesIs, Finished, chain_stops, first_of, first_seen, goes, refused, seen_first, stops_so, uber_of}
 use Rattle.draid_changes.proofs.Events.{events_done, unsealed}
-use Rattle.draid_changes.proofs.Leaves.{leaf_inside, leaf_shared}
+use Rattle.draid_changes.proofs.Leaves.{leaf_arm, leaf_inside, leaf_shared}
 use Rattle.draid_changes.proofs.Switched.{switch_turns, switched_shared}
 use Rattle.draid_changes.proofs.Walk.{changed_at}
 use Rattle.draid_changes.proofs.Whole.{SameOwn, switched_leaf, switched_share, whole_changed}
@@ -53,7 +55,7 @@ leaf_of_name kind.Spare n leaf is = absurd (cc)
 
 module _ {R A : Type 0} (rack : racks.Ghosts R) (area : areas.Ghosts A) where
   -- a leaf is an arm of the shard just where it is one of its metaslab
-  leaf_there : (x : State) (m : ℕ) (pieces : Pieces) (shard : Shard R A) (y : Metaslab) (leaf : ℕ) → IsMetaslab rack area (part_in x m) pieces shard y → IsLeafArm shard.slots leaf
+  pub leaf_there : (x : State) (m : ℕ) (pieces : Pieces) (shard : Shard R A) (y : Metaslab) (leaf : ℕ) → IsMetaslab rack area (part_in x m) pieces shard y → IsLeafArm shard.slots leaf
       → arms.IsArmLeaf x.geometry x.perms leaf (view_of m y)
   leaf_there x m pieces shard y leaf is (at, (arm, there, kind_is, number)) =
       let name : name_of arm ≡ Leaf leaf = ap (λ k. named k arm.number) kind_is ∙ ap (λ (n : ℕ). Leaf n) number in
@@ -63,18 +65,21 @@ module _ {R A : Type 0} (rack : racks.Ghosts R) (area : areas.Ghosts A) where
       let inside = fits.core.order.slots at.slot (Leaf leaf) listed in
       (at.slot, subst (λ (p : Part). at.slot < (layout_in p).slots) is.part_is inside, listed)
 
-  leaf_here : (x : State) (m : ℕ) (pieces : Pieces) (shard : Shard R A) (y : Metaslab) (leaf : ℕ) → IsMetaslab rack area (part_in x m) pieces shard y
-      → arms.IsArmLeaf x.geometry x.perms leaf (view_of m y) → IsLeafArm shard.slots leaf
+  pub leaf_here : (x : State) (m : ℕ) (pieces : Pieces) (shard : Shard R A) (y : Metaslab) (leaf : ℕ) → IsMetaslab rack area (part_in x m) pieces shard y
+      → arms.IsArmLeaf x.geometry x.perms leaf (view_of m y) → HasLeaf shard.slots leaf
   leaf_here x m pieces shard y leaf is (slot, below, listed) =
       let z = name_found (arms_of shard.slots slot) (Leaf leaf) (ap (λ ns. has_name ns (Leaf leaf)) (sym (is.stands.is_in.slots.order slot)) ∙ listed) in
       by z.0 (slice_get (arms_of shard.slots slot) z.0) refl z.2
     where
-      by : (k : ℕ) (o : Option Arm) → slice_get (arms_of shard.slots slot) k ≡ o → option_map name_of o ≡ Some (Leaf leaf) → IsLeafArm shard.slots leaf
+      inside : slot < shard.slots.geometry.spec.children
+      inside = subst (λ (g : Geometry). slot < g.spec.children) (sym (is.valid.slots.geometry_is ∙ ap (λ (p : Part). p.geometry) is.part_is)) below
+
+      by : (k : ℕ) (o : Option Arm) → slice_get (arms_of shard.slots slot) k ≡ o → option_map name_of o ≡ Some (Leaf leaf) → HasLeaf shard.slots leaf
       by k None at is = absurd (none_some None (Leaf leaf) refl is)
       by k (Some arm) at is =
           let name : name_of arm ≡ Leaf leaf = cc in
           let own = leaf_of_name arm.kind arm.number leaf name in
-          (record { slot = slot; arm = k }, (arm, at, own.0, own.1))
+          (record { slot = slot; arm = k }, inside, (arm, at, own.0, own.1))
 
   -- ---- the rules, and what is done
 
@@ -90,9 +95,9 @@ module _ {R A : Type 0} (rack : racks.Ghosts R) (area : areas.Ghosts A) where
   switch_refused mid x leaf first c there none =
       refused rack area (Breaks leaf) mid x slot.NoSuch c
       (λ y r. (let z = first_of rack area mid y first r there in
-      seen_first (λ v. arms.IsArmLeaf y.geometry y.perms leaf v → ⊥) y.metaslabs z.y z.at (λ is. none (leaf_here y 0 (r.stands.pieces 0) first z.y leaf z.is is))))
+      seen_first (λ v. arms.IsArmLeaf y.geometry y.perms leaf v → ⊥) y.metaslabs z.y z.at (λ is. none (leaf_arm first.slots leaf (leaf_here y 0 (r.stands.pieces 0) first z.y leaf z.is is)))))
 
-  not_broken : (x : State) (leaf : ℕ) (why : SlotFault) (y : Metaslab) (ys : List Metaslab) (u : UberView) → slice_get ys 0 ≡ Some y → arms.IsArmLeaf x.geometry x.perms leaf (view_of 0 y)
+  pub not_broken : (x : State) (leaf : ℕ) (why : SlotFault) (y : Metaslab) (ys : List Metaslab) (u : UberView) → slice_get ys 0 ≡ Some y → arms.IsArmLeaf x.geometry x.perms leaf (view_of 0 y)
       → arms.NoLeaf x.geometry x.perms leaf (seen_at 0 ys) u why → ⊥
   not_broken x leaf slot.NoSuch y ys u there is broken = first_seen (λ v. arms.IsArmLeaf x.geometry x.perms leaf v → ⊥) ys y there broken is
   not_broken x leaf (slot.SpareBusy n) y ys u there is broken = broken

@@ -14,6 +14,7 @@ use Rattle.draid_machine.proofs.Small.{absurd_test, bool_cases, is_equal, none_s
 use Rattle.draid_segments.specs.Segments.{Pieces}
 use Rattle.draid_session.specs.Follows.{Follows}
 use Rattle.draid_session.specs.Holds.{CommitFailed, CommitStarved, Committed, Hold, OnUber, view_of}
+use Rattle.draid_session.specs.Lanes.{SwitchesAgree}
 use Rattle.draid_session.specs.Opening.{MayFind}
 use Rattle.draid_session.specs.State.{Metaslab, State}
 use Rattle.draid_shard.specs.Part.{layout_in}
@@ -164,7 +165,7 @@ module _ {R A : Type 0} (rack : racks.Ghosts R) (area : areas.Ghosts A) (x z : S
 
 module _ {R A G W : Type 0} (rack : racks.Ghosts R) (area : areas.Ghosts A) (x z : State) where
   -- Each metaslab of the state in which the turn began came to what the lane left; of the uberblock the state has what is the value now.
-  pub record Governs (a : Locked R A G W) (u : Uber A) (w : State) : Type 0 where
+  pub record GovernsFrom (a : Locked R A G W) (u : Uber A) (w : State) : Type 0 where
     pub rest : SameRest z w
     pub shared : Shared
     pub knows : Knowing rack area x a (IsGood z w shared)
@@ -172,14 +173,40 @@ module _ {R A G W : Type 0} (rack : racks.Ghosts R) (area : areas.Ghosts A) (x z
     pub versions : HasPoolVersions w.kept_version w.next_version shared
     pub order : w.kept_leaf ≤ w.next_leaf
 
+module _ {R A G W : Type 0} (rack : racks.Ghosts R) (area : areas.Ghosts A) (x z : State) where
+  abbrev pub Governs : Locked R A G W → Uber A → State → Type 0
+  Governs a u w = GovernsFrom rack area x z a u w
+
   -- Holds of the uberblock led there.
   pub record LeadsUber (w : State) (us : List Hold) (b : Locked R A G W) (v : Uber A) : Type 0 where
     pub reached : State
     pub follows : Follows us w reached
     pub governs : Governs b v reached
 
+  -- Holds of the uberblock led there, and to metaslabs of which is told from a state between.
+  pub record LeadsBase (us : List Hold) (b : Locked R A G W) (v : Uber A) : Type 0 where
+    pub reached : State
+    pub follows : Follows us z reached
+    pub rest : SameRest z reached
+    pub base : State
+    pub many : length base.metaslabs ≡ length z.metaslabs
+    pub agrees : SwitchesAgree z → SwitchesAgree base
+    pub governs : GovernsFrom rack area x base b v (record reached { metaslabs = base.metaslabs })
+
   pub leads_self : (w : State) (b : Locked R A G W) (v : Uber A) → Governs b v w → LeadsUber w [] b v
   leads_self w b v g = record { reached = w; follows = refl; governs = g }
+
+  -- where none stands between
+  pub leads_base : (us : List Hold) (b : Locked R A G W) (v : Uber A) → LeadsUber z us b v → LeadsBase us b v
+  leads_base us b v l = record {
+    reached = l.reached;
+    follows = l.follows;
+    rest = l.governs.rest;
+    base = z;
+    many = refl;
+    agrees = λ was. was;
+    governs = subst (λ w. GovernsFrom rack area x z b v w) (λ i. record l.reached { metaslabs = l.governs.rest.metaslabs i }) l.governs;
+  }
 
   pub governs_on : (a b : Locked R A G W) (u v : Uber A) (w : State) → v ≡ u → ((shared : Shared) → Knowing rack area x a (IsGood z w shared) → Knowing rack area x b (IsGood z w shared)) → Governs a u w → Governs b v w
   governs_on a b u v w same on g = record { rest = g.rest; shared = g.shared; knows = on g.shared g.knows; uber = subst (λ t. IsUber area t w) (sym same) g.uber; versions = g.versions; order = g.order }

@@ -95,7 +95,7 @@ module _ {R A : Type 0} (rack : racks.Ghosts R) (area : areas.Ghosts A) (x : Sta
 
   -- ---- which these are
 
-  quiet_same : (m : ℕ) (before after : Shard R A) → after ≡ before → QuietAt m before after
+  pub quiet_same : (m : ℕ) (before after : Shard R A) → after ≡ before → QuietAt m before after
   quiet_same m before after same pieces y is = record { reached = y; pieces = pieces; is = subst (λ s. IsMetaslab rack area (part_in x m) pieces s y) (sym same) is; since = since_self (layout_in (part_in x m)) y; so = quiet_self y.world }
 
   pub quiet_sees : (found : Option ℕ) (m : ℕ) (before after : Shard R A) → SeesClosing found before after → QuietAt m before after

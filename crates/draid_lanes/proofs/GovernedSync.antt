@@ -40,7 +40,7 @@ module _ {R A G W : Type 0} (rack : racks.Ghosts R) (area : areas.Ghosts A) (x z
   Leads w us b v = LeadsUber rack area x z w us b v
 
   -- one after another
-  leads_then : (w : State) (us vs : List Hold) (b c : Locked R A G W) (u v : Uber A) → (one : Leads w us b u) → Leads one.reached vs c v → Leads w (us ++ vs) c v
+  pub leads_then : (w : State) (us vs : List Hold) (b c : Locked R A G W) (u v : Uber A) → (one : Leads w us b u) → Leads one.reached vs c v → Leads w (us ++ vs) c v
   leads_then w us vs b c u v one two = record { reached = two.reached; follows = follows_on us vs w one.reached two.reached one.follows two.follows; governs = two.governs }
 
   -- ---- what leaves it quietly
@@ -48,7 +48,7 @@ module _ {R A G W : Type 0} (rack : racks.Ghosts R) (area : areas.Ghosts A) (x z
   abbrev Kept : Locked R A G W → Locked R A G W → Type 0
   Kept a b = (w : State) (shared : Shared) → Knowing rack area x a (IsGood z w shared) → Knowing rack area x b (IsGood z w shared)
 
-  kept_on : (a b : Locked R A G W) (u v : Uber A) (w : State) → v ≡ u → Kept a b → Gov a u w → Gov b v w
+  pub kept_on : (a b : Locked R A G W) (u v : Uber A) (w : State) → v ≡ u → Kept a b → Gov a u w → Gov b v w
   kept_on a b u v w same kept g = governs_on rack area x z a b u v w same (kept w) g
 
   closes_kept : (group : ℕ) (a b : Locked R A G W) (result : Result Unit SyncFault) → ClosesEach rack area lane_last (LaneWent rack area) true owns group count a result b → Kept a b
@@ -106,19 +106,19 @@ module _ {R A G W : Type 0} (rack : racks.Ghosts R) (area : areas.Ghosts A) (x z
     found_next : (group : ℕ) (b : Locked R A G W) → FindsClosing rack area lane_last (LaneWent rack area) true owns count a (Some group) b → group ≡ group_of (ubers.kept_of u) + 1
     found_next group b finds = (find_ready rack area lane_last (LaneWent rack area) true owns own count a b u u ready beyond group finds).1
 
-    finish_lead : (b : Locked R A G W) (v : Uber A) (result : Result Unit SyncFault) (w : State) → (it : FinishesIn rack area lane_last (LaneWent rack area) true owns count a u (Some result) b v) → Gov a u w
+    pub finish_lead : (b : Locked R A G W) (v : Uber A) (result : Result Unit SyncFault) (w : State) → (it : FinishesIn rack area lane_last (LaneWent rack area) true owns count a u (Some result) b v) → Gov a u w
         → Leads w (finish_holds rack area x owns own count all a b u v (Some result) it) b v
     finish_lead b v (Ok done) w (inl (finds, same)) g = leads_self rack area x z w b v (kept_on a b u v w same (finds_kept None a b finds) g)
     finish_lead b v (Ok done) w (inr (group, thin, mid, finds, commits)) g = commits_lead group mid b u v (Ok thin) w (found_next group mid finds) commits (kept_on a mid u u w refl (finds_kept (Some group) a mid finds) g)
     finish_lead b v (Err why) w (group, mid, finds, commits) g = commits_lead group mid b u v (Err why) w (found_next group mid finds) commits (kept_on a mid u u w refl (finds_kept (Some group) a mid finds) g)
 
   -- what is known of a governor's metaslabs
-  record IsAt (a : Locked R A G W) (u : Uber A) (w : State) : Type 0 where
+  pub record IsAt (a : Locked R A G W) (u : Uber A) (w : State) : Type 0 where
     pub ready : Ready a u
     pub beyond : NoneBeyond count (lane_last a)
     pub governs : Gov a u w
 
-  begun_at : (n : ℕ) (a b : Locked R A G W) (u v : Uber A) (w : State) → BegunOn rack area lane_last (LaneWent rack area) true owns count n a u b v → IsAt a u w → IsAt b v w
+  pub begun_at : (n : ℕ) (a b : Locked R A G W) (u v : Uber A) (w : State) → BegunOn rack area lane_last (LaneWent rack area) true owns count n a u b v → IsAt a u w → IsAt b v w
   begun_at zero a b u v w (at, same) g = subst (λ s. IsAt s v w) (sym at) (subst (λ t. IsAt a t w) (sym same) g)
   begun_at (suc n) a b u v w (mid, t, front, begins) g =
       let f = begun_at n a mid u t w front g in
@@ -127,7 +127,7 @@ module _ {R A G W : Type 0} (rack : racks.Ghosts R) (area : areas.Ghosts A) (x z
 
   -- ---- the uberblock is looked at
 
-  look_lead : (w : State) (b : Locked R A G W) (v : Uber A) → Gov b v w → Leads w (look_hold v ∷ []) b v
+  pub look_lead : (w : State) (b : Locked R A G W) (v : Uber A) → Gov b v w → Leads w (look_hold v ∷ []) b v
   look_lead w b v g = record { reached = w; follows = (w, record { sees = uber_sees area v w g.uber; acts = refl }, refl); governs = g }
 
   stop_lead : (a b : Locked R A G W) (u v : Uber A) (why : SyncFault) (w : State) → (it : BeginsIn rack area lane_last (LaneWent rack area) true owns count a u (Some (Err why)) b v) → IsAt a u w

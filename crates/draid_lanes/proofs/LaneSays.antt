@@ -46,7 +46,7 @@ module _ {R A G W : Type 0} (rack : racks.Ghosts R) (area : areas.Ghosts A) (x :
       none_some y.world.closing is.0 (closed None k y (none k (omega (arith, within, many))) at) is.1)
 
   -- what was closing is finished
-  one_finishes : (end : End) (hs : List Hold) → OneFound rack area x owns own count all met end hs → (left : List Hold) × LeavesLooks hs left × groups.Finishes x.geometry x.perms (looks_at 0 ys ++ left) end
+  pub one_finishes : (end : End) (hs : List Hold) → OneFound rack area x owns own count all met end hs → (left : List Hold) × LeavesLooks hs left × groups.Finishes x.geometry x.perms (looks_at 0 ys ++ left) end
   one_finishes end hs f =
       let below = f.found.below in
       let y = present ys f.place (omega (arith, below, many)) in (
@@ -69,12 +69,12 @@ module _ {R A G W : Type 0} (rack : racks.Ghosts R) (area : areas.Ghosts A) (x :
     record { looks = looks_at 0 ys; rest = []; views = seen_at 0 ys; are = refl; looked = looked_all; does = inl (idle f.none, refl, refl) },
   )
 
-  finishes_ok : (hs : List Hold) → FinishSays rack area x owns own count all met (Ok tt) hs → (left : List Hold) × LeavesLooks hs left × groups.Finishes x.geometry x.perms (looks_at 0 ys ++ left) Went
+  pub finishes_ok : (hs : List Hold) → FinishSays rack area x owns own count all met (Ok tt) hs → (left : List Hold) × LeavesLooks hs left × groups.Finishes x.geometry x.perms (looks_at 0 ys ++ left) Went
   finishes_ok hs (inl none) = none_finishes hs none
   finishes_ok hs (inr one) = one_finishes Went hs one
 
   -- the looks in front
-  in_front : (hs left : List Hold) → LeavesLooks hs left → LeavesLooks (looks_at 0 ys ++ hs) (looks_at 0 ys ++ left)
+  pub in_front : (hs left : List Hold) → LeavesLooks hs left → LeavesLooks (looks_at 0 ys ++ hs) (looks_at 0 ys ++ left)
   in_front hs left l = leaves_then (looks_at 0 ys) (looks_at 0 ys) hs left (leaves_self (looks_at 0 ys)) l
 
   module _ (some : 0 < count) where

@@ -82,7 +82,7 @@ merge_none (x ∷ xs) up = ap (with_place x) (merge_none xs up.1) ∙ with_none 
 
 -- ---- the looks of each lock
 
-abbrev look_of : ℕ → Option Metaslab → List Hold
+abbrev pub look_of : ℕ → Option Metaslab → List Hold
 look_of m None = []
 look_of m (Some y) = On (view_of m y) Looked ∷ []
 
@@ -105,7 +105,11 @@ looks_here m (suc k) (y ∷ ys) =
     ap (λ b. cond b (On (view_of m y) Looked ∷ holds_of (Some (m + suc k)) (looks_at (m + 1) ys)) (holds_of (Some (m + suc k)) (looks_at (m + 1) ys))) (ne_eqb m (m + suc k) (λ same. omega (arith, same)))
     ∙ (ap (λ j. holds_of (Some j) (looks_at (m + 1) ys)) later ∙ (looks_here (m + 1) k ys ∙ ap (λ j. look_of j (slice_get ys k)) (sym later)))
 
-looks_uber : (m : ℕ) (ys : List Metaslab) → holds_of None (looks_at m ys) ≡ []
+-- of one lock there is the one look
+pub looks_for : (k : ℕ) (ys : List Metaslab) → holds_of (Some k) (looks_at 0 ys) ≡ look_of k (slice_get ys k)
+looks_for k ys = (let same : 0 + k ≡ k = omega arith in ap (λ j. holds_of (Some j) (looks_at 0 ys)) (sym same) ∙ (looks_here 0 k ys ∙ ap (λ j. look_of j (slice_get ys k)) same))
+
+pub looks_uber : (m : ℕ) (ys : List Metaslab) → holds_of None (looks_at m ys) ≡ []
 unfolding looks_at
 looks_uber m [] = refl
 looks_uber m (y ∷ ys) = looks_uber (m + 1) ys

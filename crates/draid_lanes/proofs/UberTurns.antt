@@ -31,7 +31,7 @@ use Rattle.draid_lanes.specs.Ubers.{IsLane, IsUberOf, UberStep}
 use Rattle.draid_lanes.specs.declared.locked.Locked.{Locked}
 use Rattle.draid_lanes.specs.declared.uber.UberCell.{UberCell}
 use Rattle.draid_lanes.proofs.DriftGoverned.{drift_governed}
-use Rattle.draid_lanes.proofs.GovernedGroup.{Governs, LeadsUber, same_self}
+use Rattle.draid_lanes.proofs.GovernedGroup.{Governs, GovernsFrom, LeadsBase, same_self}
 use Rattle.draid_lanes.proofs.GovernedHolds.{IsGood, good_governed}
 use Rattle.draid_lanes.proofs.Held.{has_place}
 use Rattle.draid_lanes.proofs.MeetWords.{Listed, list_of}
@@ -105,27 +105,33 @@ module _ {R A G W O : Type 0} (rack : racks.Ghosts R) (area : areas.Ghosts A) (x
     }
 
     -- as they were parted from
-    module _ (many : length z.metaslabs ≡ length old.turns.now) (w : State) (g : Governs rack area x z did.related.after did.left.uber w) where
+    module _ (us : List Hold) (many : length z.metaslabs ≡ length old.turns.now) (l : LeadsBase rack area x z us did.related.after did.left.uber) where
+      abbrev w : State
+      w = record l.reached { metaslabs = l.base.metaslabs }
+
+      abbrev g : GovernsFrom rack area x l.base did.related.after did.left.uber w
+      g = l.governs
+
       -- what one is then
       pub record IsThen (m : ℕ) (v : Metaslab) : Type 0 where
-        pub came : (l : Lock (Cell R A)) (group : Caller (Past (Cell R A))) → slice_get did.left.turns.now m ≡ Some l → slice_get did.left.groups.items m ≡ Some group → CameAt rack area x l group.seen m v
-        pub good : IsGood z w g.shared m v
+        pub came : (k : Lock (Cell R A)) (group : Caller (Past (Cell R A))) → slice_get did.left.turns.now m ≡ Some k → slice_get did.left.groups.items m ≡ Some group → CameAt rack area x k group.seen m v
+        pub good : IsGood l.base w g.shared m v
 
       then_at : (m : ℕ) → m < length old.turns.now → (v : Metaslab) × IsThen m v
       then_at m less =
-          let l = present old.turns.now m less in
+          let k0 = present old.turns.now m less in
           let many_new = lane_new.fits.many in
           let same = ap length turns_new in
           let parted = did.related.parts.many in
           let p = present did.related.after.passes.items m (omega (arith, less, many_new, same, parted)) in
-          let shard = left_in l.0 p.0.seen in
-          let at : lane_last did.related.after m ≡ Some shard = (λ i. last_of ((ap (λ ls. slice_get ls m) did.related.same.1 ∙ l.1) i) (p.1 i)) in
+          let shard = left_in k0.0 p.0.seen in
+          let at : lane_last did.related.after m ≡ Some shard = (λ i. last_of ((ap (λ ls. slice_get ls m) did.related.same.1 ∙ k0.1) i) (p.1 i)) in
           let k = g.knows m shard at in
           let parts = did.related.parts.each m p.0 less p.1 in (
             k.0,
             record {
               came = λ l2 group there here.
-                  (let lock_is : l.0 ≡ l2 = some_of (slice_get old.turns.now m) l.0 l2 l.1 (sym (ap (λ ls. slice_get ls m) (did.related.turns ∙ stood.0)) ∙ there) in
+                  (let lock_is : k0.0 ≡ l2 = some_of (slice_get old.turns.now m) k0.0 l2 k0.1 (sym (ap (λ ls. slice_get ls m) (did.related.turns ∙ stood.0)) ∙ there) in
                   let group_is : parts.1 ≡ group = some_of (slice_get did.left.groups.items m) parts.1 group parts.3 here in
                   let seen : group.seen ≡ p.0.seen = ap (λ (q : Caller (Past (Cell R A))). q.seen) (sym group_is) ∙ ap (λ (q : Caller (Past (Cell R A))). q.seen) parts.4.new in
                   came_at rack area x l2 group.seen m shard k.0 ((λ i. left_in (sym lock_is i) (seen i))) k.1);
@@ -138,9 +144,9 @@ module _ {R A G W O : Type 0} (rack : racks.Ghosts R) (area : areas.Ghosts A) (x
 
       -- the state behind the turn
       abbrev ended : State
-      ended = record w { metaslabs = listed.list }
+      ended = record l.reached { metaslabs = listed.list }
 
-      agrees : SwitchesAgree z → SwitchesAgree ended
+      agrees : SwitchesAgree l.base → SwitchesAgree ended
       agrees was leaf m n y v a b at there arm other =
           let p = (listed.each m y at).good in
           let q = (listed.each n v there).good in
@@ -151,18 +157,18 @@ module _ {R A G W O : Type 0} (rack : racks.Ghosts R) (area : areas.Ghosts A) (x
       ended_governed : IsGoverned rack area x did.left ended
       ended_governed = record {
         pool = record {
-          geometry = gov.pool.geometry ∙ sym g.rest.geometry;
-          perms = gov.pool.perms ∙ sym g.rest.perms;
-          told = gov.pool.told ∙ sym g.rest.told;
+          geometry = gov.pool.geometry ∙ sym l.rest.geometry;
+          perms = gov.pool.perms ∙ sym l.rest.perms;
+          told = gov.pool.told ∙ sym l.rest.told;
           many = gov.pool.many ∙ (many ∙ sym listed.many);
         };
-        store = g.rest.store ∙ gov.store;
-        each = λ m l group there at.
-            (let less = slice_get_within did.left.turns.now m l there in
+        store = l.rest.store ∙ gov.store;
+        each = λ m k group there at.
+            (let less = slice_get_within did.left.turns.now m k there in
             let same = ap length (did.related.turns ∙ stood.0) in
             let long = listed.many in
             let v = present listed.list m (omega (arith, less, same, long)) in
-            (v.0, v.1, (listed.each m v.0 v.1).came l group there at));
+            (v.0, v.1, (listed.each m v.0 v.1).came k group there at));
         committed = λ m v at. (listed.each m v at).good.committed;
         uber = record {
           valid = g.uber.valid;
@@ -178,12 +184,12 @@ module _ {R A G W O : Type 0} (rack : racks.Ghosts R) (area : areas.Ghosts A) (x
         shared = g.shared;
         versions = record { kept = g.versions.kept; now = g.versions.now };
         alike = λ m v at. (listed.each m v at).good.alike;
-        switches = λ was. agrees (gov.switches was);
+        switches = λ was. agrees (l.agrees (gov.switches was));
       }
 
   -- where whatever it does to a whole pool is told, the turn is told
   pub uber_turn : (us : List Hold) → All (λ h. is_of None h ≡ true) us → length x.metaslabs ≡ length old.turns.now
-      → ((z : State) → length z.metaslabs ≡ length old.turns.now → Governs rack area x z did.related.met did.value.uber z → LeadsUber rack area x z z us did.related.after did.left.uber) → IsUberTurn rack area x lock next.seen (length did.log) us
+      → ((z : State) → length z.metaslabs ≡ length old.turns.now → Governs rack area x z did.related.met did.value.uber z → LeadsBase rack area x z us did.related.after did.left.uber) → IsUberTurn rack area x lock next.seen (length did.log) us
   uber_turn us all many leads = record {
     log = did.log;
     left = record { left = did.left; concerned = None };
@@ -194,5 +200,5 @@ module _ {R A G W O : Type 0} (rack : racks.Ghosts R) (area : areas.Ghosts A) (x
         (let gov = subst (λ c. IsGoverned rack area x c z) (sym did.stood.is) was in
         let long = sym gov.pool.many ∙ many in
         let l = leads z long (met_governs z gov) in
-        (l.reached, ended z gov long l.reached l.governs, l.follows, (refl, refl, refl, refl, refl, refl, refl), ended_governed z gov long l.reached l.governs));
+        (l.reached, ended z gov us long l, l.follows, (refl, refl, refl, refl, refl, refl, refl), ended_governed z gov us long l));
   }

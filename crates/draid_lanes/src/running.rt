@@ -10,8 +10,9 @@ use draid_rack::Rack;
 use std::sync::Wait;
 use std::thread::Threads;
 
-/// What is done in a lane of metaslabs.
+/// What is done in a lane of metaslabs. The lane is handed over in a place from which it is taken, and into which it is put back.
 pub trait LaneJob<R: Rack, A: Area, G: Gate, W: Wait> {
+    ghost use Rattle.std.specs.Prelude.{◌≡◌, IsSomeAnd, Some};
     ghost use Rattle.draid_lanes.specs.declared.lane.Lane.{Lane};
 
     /// What it needs of the lane.
@@ -20,9 +21,9 @@ pub trait LaneJob<R: Rack, A: Area, G: Gate, W: Wait> {
     /// What became of it and of the lane.
     ghost relates: { Self → Lane R A G W → Self → Lane R A G W → Type 0 };
 
-    fn run<'a, 'b>(&mut self, lane: Lane<'a, 'b, R, A, G, W>) -> Lane<'a, 'b, R, A, G, W>
-        requires needed { needs self.old lane }
-        ensures related { relates self.old lane.entry self.new result };
+    fn run<'a, 'b>(&mut self, place: &mut Option<Lane<'a, 'b, R, A, G, W>>)
+        requires needed { IsSomeAnd place.old (λ lane. needs self.old lane) }
+        ensures related { (lane : Lane R A G W) → place.old ≡ Some lane → IsSomeAnd place.new (λ next. relates self.old lane self.new next) };
 }
 
 /// A lane's job, as `run_lanes` takes it.
@@ -39,7 +40,9 @@ impl<'a, 'b, R: Rack, A: Area, G: Gate, W: Wait, J: LaneJob<R, A, G, W>> Job<
     ghost relates = { λ j lane k next. J.relates j.job lane k.job next };
 
     fn run(&mut self, lane: Lane<'a, 'b, R, A, G, W>) -> Lane<'a, 'b, R, A, G, W> {
-        self.job.run(lane)
+        let mut place = Some(lane);
+        self.job.run(&mut place);
+        place.unwrap()
     }
 }
 

@@ -13,8 +13,13 @@ pub mod Replied
 pub mod ScrubEnds
 pub mod SwitchArms
 pub mod SwitchFails
+pub mod SwitchGoverned
+pub mod SwitchLeads
+pub mod SwitchSays
 pub mod SwitchStays
 pub mod SwitchThrough
+pub mod SwitchTold
+pub mod SwitchWords
 pub mod Switched
 pub mod SyncFails
 pub mod SyncStays

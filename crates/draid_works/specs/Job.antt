@@ -1,6 +1,12 @@
 -- The commands of a lane, one after another, and what it replies to them.
-use Rattle.std.specs.Prelude.{◌≡◌, ◌<◌, ◌≤◌, ◌∷◌, ⊤, ℕ, Bool, true, false, List, [], Some, Ok, Err, length, slice_get}
+use Rattle.std.specs.Prelude.{◌≡◌, ◌<◌, ◌≤◌, ◌∷◌, ⊤, ℕ, Bool, true, false, List, [], Option, Some, Ok, Err, length, slice_get, vec_capacity}
+use Rattle.std.specs.Borrow.{Bor}
+use Rattle.std.specs.Fn.{Shared}
+use Rattle.std.specs.declared.vec.Vec.{Vec}
+use Rattle.std.specs.declared.alloc.Global.{Global}
+use Rattle.draid_choose.specs.Rooms.{IsChooser}
 use Rattle.draid_names.specs.declared.fault.Failed.{Failed}
+use Rattle.draid_names.specs.declared.room.Room.{Room}
 use Rattle.draid_rack.specs.declared.Rack as racks
 use Rattle.draid_area.specs.declared.Area as areas
 use Rattle.draid_script.specs.Line.{Command, FillObjects, FreeObject, IsInRange, ReadObject, RebuildPool, ScrubPool, SumObjects, SyncPool, TakeOffline, TakeOnline, WriteObject, command_in}
@@ -8,9 +14,11 @@ use Rattle.draid_script.specs.declared.line.Line.{Line}
 use Rattle.draid_reply.specs.declared.reply.Reply.{Reply}
 use Rattle.draid_session.specs.Choices.{Choices}
 use Rattle.draid_session.specs.Replies.{IsReplyTo}
+use Rattle.draid_spec.specs.Geometry.{IsGeometry}
 use Rattle.draid_pool.specs.Drifts.{passes_number}
 use Rattle.draid_store.specs.Fetching.{OwnsFrom}
 use Rattle.draid_lanes.specs.Lanes.{IsSameLane, IsWholeLane}
+use Rattle.draid_lanes.specs.Locks.{owned_by}
 use Rattle.draid_lanes.specs.declared.lane.Lane.{Lane}
 use Rattle.draid_works.specs.Replied.{CommandDone}
 
@@ -62,6 +70,15 @@ module _ {R A G W : Type 0} where
     pub same : IsSameLane old new
     pub numbers : new.pass.numbers ≡ old.pass.numbers
 
+  -- what a lane needs for its commands: it may be given each, none was done yet, and there is room for the replies
+  pub record MayDoCommands {F : Type 0} (rack : racks.Ghosts R) (area : areas.Ghosts A) (closure : Shared F (Bor (List Room) × Unit {0}) (Option ℕ)) (chooser : F) (lines : List Line) (replies : Vec Reply Global) (lane : Lane R A G W) : Type 0 where
+    pub chooser_is : IsChooser closure chooser
+    pub whole : IsWholeLane rack area lane
+    pub geometry_is : IsGeometry lane.geometry
+    pub given : MayAllBeGiven (owned_by lane.metaslabs.passes.items) lines
+    pub none : replies.items ≡ []
+    pub room : length lines ≤ vec_capacity replies
+
   -- Commands were done one after another, up to one that an area failed: each before that has its reply. Behind each the lane was whole, and the same.
   abbrev pub CommandsDone : racks.Ghosts R → areas.Ghosts A → Choices → List Line → List Reply → Bool → (old new : Lane R A G W) → Type 0
   CommandsDone rack area choices [] [] false old new = new ≡ old
@@ -69,3 +86,11 @@ module _ {R A G W : Type 0} where
       (mid : Lane R A G W) × LeavesWhole rack area old mid × CommandDone rack area choices (command_in line) (Ok reply) old mid × CommandsDone rack area choices lines replies stopped mid new
   CommandsDone rack area choices (line ∷ lines) [] true old new = (failed : Failed) × LeavesWhole rack area old new × CommandDone rack area choices (command_in line) (Err failed) old new
   CommandsDone rack area choices lines replies stopped old new = ⊥
+
+  -- so were the lines of a job
+  pub record DoesCommands (rack : racks.Ghosts R) (area : areas.Ghosts A) (choices : Choices) (lines : Vec Line Global) (old : Lane R A G W) (lines' : Vec Line Global) (replies : List Reply) (stopped : Bool) (new : Lane R A G W) : Type 0 where
+    pub leaves : LeavesWhole rack area old new
+    pub same : lines' ≡ lines
+    pub fits : AreRepliesTo lines.items replies
+    pub all : AreAll stopped lines.items replies
+    pub done : CommandsDone rack area choices lines.items replies stopped old new

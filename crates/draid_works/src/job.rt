@@ -1,5 +1,5 @@
-//! A lane's commands: one is done after another, and each has its reply.
-ghost use Rattle.std.specs.Prelude.{◌≡◌, ◌≤◌, [], IfOk, length, vec_capacity};
+//! A lane's commands as a job: one is done after another, and each has its reply.
+ghost use Rattle.std.specs.Prelude.{◌≡◌, ◌≤◌, [], IfOk, Ok, false, length, vec_capacity};
 ghost use Rattle.std.specs.Fn.{FnReturnsAt};
 ghost use Rattle.draid_choose.specs.Rooms.{IsChooser};
 ghost use Rattle.draid_script.specs.Line.{command_in};
@@ -8,7 +8,7 @@ ghost use Rattle.draid_session.specs.Replies.{IsReplyTo};
 ghost use Rattle.draid_spec.specs.Geometry.{IsGeometry};
 ghost use Rattle.draid_lanes.specs.Lanes.{IsWholeLane};
 ghost use Rattle.draid_lanes.specs.Locks.{owned_by};
-ghost use Rattle.draid_works.specs.Job.{AreAll, AreRepliesTo, CommandsDone, IsOnObjects, LeavesWhole, MayAllBeGiven, MayBeGiven};
+ghost use Rattle.draid_works.specs.Job.{AreAll, AreRepliesTo, CommandsDone, DoesCommands, IsOnObjects, LeavesWhole, MayAllBeGiven, MayBeGiven, MayDoCommands};
 ghost use Rattle.draid_works.specs.Replied.{CommandDone};
 
 use crate::filling::fill_in_lane;
@@ -18,14 +18,48 @@ use crate::replies::{
 };
 use draid_area::Area;
 use draid_choose::Chooser;
-use draid_lanes::{Gate, Lane};
+use draid_lanes::{Gate, Lane, LaneJob};
 use draid_names::{Failed, Room};
 use draid_rack::Rack;
 use draid_reply::Reply;
 use draid_script::Line;
-use std::alloc::Global;
+use std::alloc::{AllocError, Global};
 use std::sync::Wait;
 use std::thread::Threads;
+
+/// The commands of a lane, and the replies to those that were done.
+#[derive(Drop)]
+pub struct LaneCommands<'c, F: Fn(&[Room]) -> Option<u32>> {
+    pub alloc: Global,
+    pub chooser: &'c Chooser<F>,
+    pub lines: Vec<Line>,
+    pub replies: Vec<Reply>,
+    /// Whether an area failed, behind these replies.
+    pub stopped: bool,
+}
+
+impl<'c, F: Fn(&[Room]) -> Option<u32>> LaneCommands<'c, F> {
+    /// Commands that are yet to be done, with room for their replies.
+    pub fn new(
+        alloc: Global,
+        chooser: &'c Chooser<F>,
+        lines: Vec<Line>,
+    ) -> Result<LaneCommands<'c, F>, AllocError>
+        ensures chooser { IfOk result (λ job. job.chooser.now ≡ chooser.now) }
+        ensures lines { IfOk result (λ job. job.lines ≡ lines) }
+        ensures none { IfOk result (λ job. (job.replies.items ≡ []) × (job.stopped ≡ false)) }
+        ensures room { IfOk result (λ job. length lines.items ≤ vec_capacity job.replies) }
+    {
+        let replies = Vec::with_capacity(alloc, lines.len())?;
+        Ok(LaneCommands {
+            alloc,
+            chooser,
+            lines,
+            replies,
+            stopped: false,
+        })
+    }
+}
 
 /// Does a command on objects of the lane's.
 fn reply_on_objects<
@@ -103,8 +137,8 @@ fn reply_in_lane<
     }
 }
 
-/// Does commands of a lane one after another, with a reply to each. Where an area failed it stops there, and says so.
-pub fn reply_to_each<
+/// Does commands of a lane one after another. Where an area failed it stops, and is false.
+fn reply_to_each<
     'a,
     'b,
     R: Rack,
@@ -139,4 +173,62 @@ pub fn reply_to_each<
         }
     }
     (lane, false)
+}
+
+/// Does the commands of a lane, and keeps the replies to those that were done.
+fn do_commands<
+    'a,
+    'b,
+    'c,
+    R: Rack,
+    A: Area,
+    G: Gate,
+    W: Wait + Threads + Sync,
+    F: Fn(&[Room]) -> Option<u32>,
+>(
+    job: &mut LaneCommands<'c, F>,
+    lane: Lane<'a, 'b, R, A, G, W>,
+) -> Lane<'a, 'b, R, A, G, W>
+    requires may { MayDoCommands R.Rack A.Area F.Fn job.old.chooser.now job.old.lines.items job.old.replies lane }
+    ensures does { DoesCommands R.Rack A.Area (choices_by (FnReturnsAt F.Fn job.old.chooser.now)) job.old.lines lane.entry job.new.lines job.new.replies.items job.new.stopped result }
+{
+    let (lane, stopped) = reply_to_each(
+        job.alloc,
+        lane,
+        job.chooser,
+        &job.lines,
+        &mut job.replies,
+    );
+    job.stopped = stopped;
+    lane
+}
+
+impl<
+    'c,
+    R: Rack,
+    A: Area,
+    G: Gate,
+    W: Wait + Threads + Sync,
+    F: Fn(&[Room]) -> Option<u32>,
+> LaneJob<R, A, G, W> for LaneCommands<'c, F> {
+    ghost use Rattle.std.specs.Prelude.{◌≡◌, IsSomeAnd, Some};
+    ghost use Rattle.std.specs.Thread.{IsSync};
+    ghost use Rattle.draid_lanes.specs.declared.lane.Lane.{Lane};
+    ghost use Rattle.draid_works.specs.Job.{DoesCommands, MayDoCommands};
+
+    // (a sum makes threads, which share the lane's runtime)
+    ghost needs = { λ job lane. IsSync W.row × MayDoCommands R.Rack A.Area F.Fn job.chooser.now job.lines.items job.replies lane };
+
+    ghost relates = { λ job old done new. DoesCommands R.Rack A.Area (choices_by (FnReturnsAt F.Fn job.chooser.now)) job.lines old done.lines done.replies.items done.stopped new };
+
+    fn run<'a, 'b>(&mut self, place: &mut Option<Lane<'a, 'b, R, A, G, W>>)
+        requires needed { IsSomeAnd place.old (λ lane. IsSync W.row × MayDoCommands R.Rack A.Area F.Fn self.old.chooser.now self.old.lines.items self.old.replies lane) }
+        ensures related { (lane : Lane R A G W) → place.old ≡ Some lane → IsSomeAnd place.new (λ next. DoesCommands R.Rack A.Area (choices_by (FnReturnsAt F.Fn self.old.chooser.now)) self.old.lines lane self.new.lines self.new.replies.items self.new.stopped next) }
+    {
+        let Some(lane) = place.take() else {
+            unreachable!()
+        };
+        let lane = do_commands(self, lane);
+        *place = Some(lane);
+    }
 }

@@ -15,7 +15,7 @@ mod writing;
 pub use changing::{free_in_lane, write_in_lane};
 pub use filling::fill_in_lane;
 pub use freeing::free_through;
-pub use job::reply_to_each;
+pub use job::LaneCommands;
 pub use lanes::{commit_in_lane, read_in_lane, sum_in_lane};
 pub use mending::{MendWork, rebuild_in_lane, scrub_in_lane};
 pub use switching::{SwitchWork, switch_in_lane};

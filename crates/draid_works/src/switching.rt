@@ -10,10 +10,12 @@ ghost use Rattle.draid_changes.specs.Switching.{AllSameArms, LeafIsIn};
 ghost use Rattle.draid_lanes.specs.Governing.{KeepsLane, KeepsLayout, lane_last};
 ghost use Rattle.draid_lanes.specs.Lanes.{IsSameLane, IsWholeLane};
 ghost use Rattle.draid_lanes.specs.Locks.{owned_by};
+ghost use Rattle.draid_lanes.specs.Traces.{LaneTold};
 ghost use Rattle.draid_lanes.specs.Ubers.{IsLane, IsUberOf};
 ghost use Rattle.draid_works.specs.Failing.{AreaFailedIn};
 ghost use Rattle.draid_works.specs.Lanes.{LaneKnows, LaneKnowsLater};
 ghost use Rattle.draid_works.specs.Switched.{SwitchedIn, SwitchesThrough};
+ghost use Rattle.draid_works.specs.Told.{SwitchLane};
 
 use draid_area::Area;
 use draid_changes::{ArmFault, switch_leaf};
@@ -140,6 +142,7 @@ pub fn switch_in_lane<'a, 'b, R: Rack, A: Area, G: Gate, W: Wait>(
     ensures own { result.0.own ≡ lane.entry.own }
     ensures knows { (x : State) → LaneKnows R.Rack A.Area lane.entry x → LaneKnowsLater R.Rack A.Area result.0 x }
     ensures cause { IsErrOf result.1 ArmFault.Shelf → AreaFailedIn R.Rack A.Area lane.entry.uber.now lane.entry.metaslabs result.0.metaslabs lane.entry.pass result.0.pass }
+    ensures told { (x : State) → x.geometry ≡ lane.entry.geometry → length x.metaslabs ≡ x.geometry.props.metaslabs → LaneTold R.Rack A.Area x (SwitchLane x leaf offline result.1) lane.entry result.0 }
     ensures leaf { LeafIsIn lane.entry.geometry.props.metaslabs leaf offline result.1 (lane_last result.0.metaslabs) }
     ensures switches { SwitchedIn R.Rack A.Area leaf offline lane.entry.uber.now lane.entry.metaslabs result.0.metaslabs result.1 lane.entry.pass result.0.pass }
 {
