@@ -55,7 +55,8 @@ use Rattle.draid_lanes.proofs.SyncUnder.{groups_in}
 use Rattle.draid_section.specs.Opening.{AreLocked, IsDealt}
 use Rattle.draid_section.specs.Running.{IsLeftWhole, JobRan, KeepLanes}
 use Rattle.draid_section.specs.Section.{AreLaneLists, MayRunAll, RunsLocked}
-use Rattle.draid_section.specs.Told.{Grows, JobsTell, LaneDid, SectionStood, greatest_of}
+use Rattle.draid_lanes.specs.Telling.{Grows, JobsTell}
+use Rattle.draid_section.specs.Told.{LaneDid, SectionStood, greatest_of}
 use Rattle.draid_section.specs.Turning.{lane_alone}
 use Rattle.draid_section.specs.Whole.{LanesEnded}
 use Rattle.draid_tables.specs.Owns.{AreDealtOut, TakesAll, greatest}

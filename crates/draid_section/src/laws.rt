@@ -9,11 +9,11 @@ ghost use Rattle.draid_session.specs.State.{State};
 ghost use Rattle.draid_turn.specs.declared.span.Span.{Span as NumberSpan};
 ghost use Rattle.draid_section.specs.Running.{KeepLanes};
 ghost use Rattle.draid_section.specs.Section.{AreLaneLists, MayRunAll, RunsInLanes};
-ghost use Rattle.draid_section.specs.Told.{JobsTell, SectionStood};
+ghost use Rattle.draid_lanes.specs.Telling.{JobsTell};
+ghost use Rattle.draid_section.specs.Told.{SectionStood};
 
-use crate::telling::Says;
 use draid_area::Area;
-use draid_lanes::{Gate, LaneJob};
+use draid_lanes::{Gate, LaneJob, Says};
 use draid_rack::Rack;
 use std::sync::Wait;
 

@@ -7,11 +7,9 @@ mod laws;
 mod locks;
 mod seats;
 mod section;
-mod telling;
 mod turning;
 
 pub use lanes::run_in_lanes;
 pub use laws::lanes_come_together;
 pub use locks::{Locks, Unlocked, deal_each, lock_each, rooms, unlock_each};
-pub use telling::Says;
 pub use turning::{UberLock, UberUnlocked, lock_uber, split_uber, unlock_uber};
