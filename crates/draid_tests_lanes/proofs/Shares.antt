@@ -1,5 +1,5 @@
 -- A thousand objects for each lane, and the passes for the first.
-use Rattle.std.proofs.Common.{◌≡◌, ◌≢◌, ◌∙◌, ℕ, zero, suc, ◌+◌, ◌*◌, ◌<◌, ◌≤◌, true, List, [], ◌∷◌, ◌++◌, length, length-append, nat_eq, sym, refl, subst, ap, arith, min, All}
+use Rattle.std.proofs.Common.{◌≡◌, ◌≢◌, ◌∙◌, ℕ, zero, suc, ◌+◌, ◌*◌, ◌<◌, ◌≤◌, true, false, if◌then◌else◌, List, [], ◌∷◌, ◌++◌, length, length-append, nat_eq, sym, refl, subst, ap, arith, min, All}
 use Rattle.std.proofs.lemmas.Bool.Decides.{nat_tests}
 use Rattle.std.proofs.lemmas.List.Elements.{All-append, All-cons, All-nil}
 use Rattle.std.specs.declared.vec.Vec.{Vec}
@@ -37,9 +37,15 @@ grows to n = grind (arith, nat_tests)
 none : (n : ℕ) → one_within 0 0 n + one_within passes_number passes_number n ≡ 0
 none n = grind (arith, nat_tests)
 
+not_first : (lane : ℕ) → nat_eq (suc lane) 0 ≡ false
+not_first lane = grind (arith, nat_tests)
+
+list_later : (lane : ℕ) → list_at (suc lane) ≡ share_from (suc lane * 1000) ∷ []
+list_later lane = ap (λ b. if b then share_from (suc lane * 1000) ∷ passes_alone ∷ [] else share_from (suc lane * 1000) ∷ []) (not_first lane)
+
 list_some : (lane : ℕ) (list : Vec Span Global) → list.items ≡ list_at lane → HoldsSome list.items
 list_some zero list is = record { number = 0; held = ap (holds 0) is ∙ holds_share 0 (passes_alone ∷ []) }
-list_some (suc lane) list is = record { number = suc lane * 1000; held = ap (holds (suc lane * 1000)) is ∙ holds_share (suc lane * 1000) [] }
+list_some (suc lane) list is = record { number = suc lane * 1000; held = ap (holds (suc lane * 1000)) (is ∙ list_later lane) ∙ holds_share (suc lane * 1000) [] }
 
 one_more : (lane n : ℕ) (list : Vec Span Global) → list.items ≡ list_at lane
     → one_within 0 (lane * 1000) n + one_within passes_number (passes_number + min lane 1) n + one_if (holds n list.items) ≡ one_within 0 ((lane + 1) * 1000) n + one_within passes_number (passes_number + min (lane + 1) 1) n
@@ -47,11 +53,13 @@ one_more zero n list is =
     let here : one_if (holds n list.items) ≡ one_within 0 1000 n + one_within passes_number (passes_number + 1) n = ap (λ s. one_if (holds n s)) is ∙ share_two n in
     let empty = none n in omega (arith, here, empty)
 one_more (suc lane) n list is =
-    let here : one_if (holds n list.items) ≡ one_within (suc lane * 1000) (suc lane * 1000 + 1000) n = ap (λ s. one_if (holds n s)) is ∙ share_one (suc lane * 1000) n in
+    let here : one_if (holds n list.items) ≡ one_within (suc lane * 1000) (suc lane * 1000 + 1000) n = ap (λ s. one_if (holds n s)) (is ∙ list_later lane) ∙ share_one (suc lane * 1000) n in
     let up = grows (suc lane * 1000) n in
     let to : (suc lane + 1) * 1000 ≡ suc lane * 1000 + 1000 = omega arith in
     let same : one_within 0 ((suc lane + 1) * 1000) n ≡ one_within 0 (suc lane * 1000 + 1000) n = ap (λ t. one_within 0 t n) to in
-    omega (arith, here, up, same)
+    let few : min (suc lane + 1) 1 ≡ min (suc lane) 1 = omega arith in
+    let passes : one_within passes_number (passes_number + min (suc lane + 1) 1) n ≡ one_within passes_number (passes_number + min (suc lane) 1) n = ap (λ t. one_within passes_number (passes_number + t) n) few in
+    omega (arith, here, up, same, passes)
 
 pub sharing_start : (lists : List (Vec Span Global)) → lists ≡ [] → Sharing 0 lists
 sharing_start lists empty = record {
