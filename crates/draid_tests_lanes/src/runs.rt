@@ -22,6 +22,7 @@ use draid_tests_session::run_script;
 use draid_turn::Span;
 use draid_works::LaneCommands;
 use std::alloc::Global;
+use std::mem;
 use std::sync::Wait;
 use std::thread::Threads;
 
@@ -41,15 +42,11 @@ fn replies_of<F: Fn(&[Room]) -> Option<u32>>(
     jobs: Vec<LaneCommands<F>>,
 ) -> Option<Vec<Vec<Reply>>> {
     let mut lists = Vec::new(alloc);
-    for job in jobs {
-        let LaneCommands {
-            replies,
-            stopped,
-            ..
-        } = job;
-        if stopped {
+    for mut job in jobs {
+        if job.stopped {
             return None;
         }
+        let replies = mem::replace(&mut job.replies, Vec::new(alloc));
         lists.push(replies).ok()?;
     }
     Some(lists)
