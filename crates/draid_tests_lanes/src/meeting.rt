@@ -164,10 +164,14 @@ fn lanes_meet<W: AllocGlobal + Threads + Wait + Sync>(
         shelf,
         "create draid1:2d:3c:0s 3 sector=512 height=8 metaslabs=2 slices=4\n",
     )?;
-    let pool = import(rt.alloc(), shelf).ok()?;
+    let Ok(pool) = import(rt.alloc(), shelf) else {
+        return None;
+    };
+    let Ok(numbers) = lists_of(rt.alloc(), 2) else {
+        return None;
+    };
     let first = AtomicU64::new(0);
     let second = AtomicU64::new(0);
-    let numbers = lists_of(rt.alloc(), 2).ok()?;
     let jobs = meetings(rt.alloc(), &first, &second)?;
     let (pool, ran) = run_in_lanes(rt, &OpenGate, pool, numbers, jobs);
     reply_to_crash(shelf, pool);

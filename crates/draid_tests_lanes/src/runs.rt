@@ -1,5 +1,5 @@
 ghost use Rattle.std.specs.Prelude.{◌≡◌, ◌≤◌, length};
-ghost use Rattle.draid_choose.specs.Rooms.{Picks, most_rooms};
+ghost use Rattle.draid_choose.specs.Rooms.{IsChooser, Picks, most_rooms};
 ghost use Rattle.draid_pool.specs.Whole.{IsWhole};
 ghost use Rattle.draid_section.specs.Section.{AreLaneLists};
 ghost use Rattle.draid_tests_lanes.specs.Ready.{AreReady};
@@ -92,6 +92,33 @@ fn run_jobs<
     }
 }
 
+/// Runs scripts in lanes that hold these numbers over a pool.
+fn run_held<
+    R: Rack + Send,
+    A: Area + Send,
+    W: Threads + Wait + Sync,
+    F: Fn(&[Room]) -> Option<u32> + Sync,
+>(
+    rt: &W,
+    alloc: Global,
+    pool: Pool<R, A>,
+    gate: &TableGate,
+    chooser: &Chooser<F>,
+    numbers: Vec<Vec<Span>>,
+    scripts: &[&str],
+) -> (Pool<R, A>, Option<Vec<Vec<Reply>>>)
+    requires whole { IsWhole R.Rack A.Area pool }
+    requires chooser { IsChooser F.Fn chooser.now }
+    requires lanes { AreLaneLists numbers.items }
+    requires few { length numbers.items ≤ 16 }
+    ensures { IsWhole R.Rack A.Area result.0 }
+{
+    match jobs_of(alloc, chooser, &numbers, scripts) {
+        Some(jobs) => run_jobs(rt, alloc, pool, gate, numbers, jobs),
+        None => (pool, None),
+    }
+}
+
 /// Runs scripts in lanes over a pool, where the first metaslab that has room for a block takes it.
 fn run_scripts<R: Rack + Send, A: Area + Send, W: Threads + Wait + Sync>(
     rt: &W,
@@ -115,12 +142,9 @@ fn run_scripts<R: Rack + Send, A: Area + Send, W: Threads + Wait + Sync>(
     let Ok(gate) = TableGate::new(alloc, scripts.len(), stops) else {
         return (pool, None);
     };
-    let Ok(numbers) = lists_of(alloc, scripts.len() as u32) else {
-        return (pool, None);
-    };
-    match jobs_of(alloc, &chooser, &numbers, scripts) {
-        Some(jobs) => run_jobs(rt, alloc, pool, &gate, numbers, jobs),
-        None => (pool, None),
+    match lists_of(alloc, scripts.len() as u32) {
+        Ok(numbers) => run_held(rt, alloc, pool, &gate, &chooser, numbers, scripts),
+        Err(_) => (pool, None),
     }
 }
 
@@ -132,7 +156,9 @@ pub fn run_section<W: AllocGlobal + Threads + Wait + Sync>(
     section: &Section,
 ) -> Option<Vec<Vec<Reply>>> {
     printed(rt, shelf, section.before)?;
-    let pool = import(rt.alloc(), shelf).ok()?;
+    let Ok(pool) = import(rt.alloc(), shelf) else {
+        return None;
+    };
     let (pool, ran) = run_scripts(rt, rt.alloc(), pool, section.stops, section.lanes);
     if section.exported {
         reply_to_export(shelf, pool).ok()?;

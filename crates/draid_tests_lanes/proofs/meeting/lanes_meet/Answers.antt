@@ -1,7 +1,7 @@
 use Rattle.draid_tests_lanes.proofs.meeting.lanes_meet.Goals as goal
 
 pub run_in_lanes-pool-requires-clause-may : goal.run_in_lanes-pool-requires-clause-may
-run_in_lanes-pool-requires-clause-may g c i job lane begins = begins.whole
+run_in_lanes-pool-requires-clause-may g c κs within i job lane begins = begins.whole
 
 pub run_in_lanes-pool-requires-clause-keeps : goal.run_in_lanes-pool-requires-clause-keeps
-run_in_lanes-pool-requires-clause-keeps g c job lane done next needed does = record { whole = does.whole; same = does.same; numbers = does.numbers }
+run_in_lanes-pool-requires-clause-keeps g c κs within job lane done next needed does = record { whole = does.whole; same = does.same; numbers = does.numbers }

@@ -12,7 +12,9 @@ returns g c =
     let lane = c.args.lane in
     let e = c.meet_in-op.ensures in
     record {
-      whole = lane_goes g.R.Rack g.A.Area lane c.meet_in-op.new.metaslabs c.requires.whole e.locks e.owns lane.own e.fits e.stay (e.whole (table_of lane) lane.own.seq lane.own.floor c.requires.whole.whole);
-      same = record { turns = e.locks; owns = e.owns; uber = refl; geometry = refl };
-      numbers = refl;
+      leaves = record {
+        whole = lane_goes g.R.Rack g.A.Area lane c.meet_in-op.new.metaslabs c.requires.whole e.locks e.owns lane.own e.fits e.stay (e.whole (table_of lane) lane.own.seq lane.own.floor c.requires.whole.whole);
+        same = record { turns = e.locks; owns = e.owns; uber = refl; geometry = refl };
+        numbers = refl;
+      };
     }
