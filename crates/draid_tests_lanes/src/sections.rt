@@ -514,6 +514,14 @@ fn is_mended(replies: &[Reply]) -> bool {
     }
 }
 
+/// Whether the first lane did, and each of the others filled objects.
+fn are_mended(lists: &[Vec<Reply>]) -> bool {
+    match lists.first() {
+        Some(first) => is_mended(first) && are_filled(lists),
+        None => false,
+    }
+}
+
 /// Whether the first of sixteen lanes comes to its end while the others fill objects, and each of these has its bytes then.
 fn mends<W: AllocGlobal + Threads + Wait + Sync>(rt: &W, section: &Section) -> bool {
     let mut shelf = MemoryShelf::new(rt.alloc(), CrashRule::Old);
@@ -526,7 +534,7 @@ fn mends<W: AllocGlobal + Threads + Wait + Sync>(rt: &W, section: &Section) -> b
     if anew.push_str(FILLS).is_err() || anew.push_str(SUMS).is_err() {
         return false;
     }
-    is_mended(&lists[0]) && are_filled(&lists) && is_like(rt, &mut shelf, SUMS, &anew)
+    are_mended(&lists) && is_like(rt, &mut shelf, SUMS, &anew)
 }
 
 #[test]
