@@ -89,9 +89,6 @@ at_push [] x y (suc i) is = absurd (cc)
 at_push (z ∷ xs) x y zero is = inl is
 at_push (z ∷ xs) x y (suc i) is = ⊎_elim (λ (t : slice_get xs i ≡ Some y). inl t) (λ (t : (i ≡ length xs) × (x ≡ y)). inr (ap suc t.0, t.1)) (at_push xs x y i is)
 
-pub given_none : (owns : ℕ → Bool) (lines : List Line) → lines ≡ [] → MayAllBeGiven owns lines
-given_none owns lines empty i line there = (let none : slice_get [] i ≡ Some line = ap (λ ls. slice_get ls i) (sym empty) ∙ there in absurd (cc))
-
 pub given_more : (owns : ℕ → Bool) (lines lines' : List Line) (line : Line) → MayAllBeGiven owns lines → MayBeGiven owns line → lines' ≡ lines ++ line ∷ [] → MayAllBeGiven owns lines'
 given_more owns lines lines' line given also more i other there =
     ⊎_elim (λ (t : slice_get lines i ≡ Some other). given i other t) (λ (t : (i ≡ length lines) × (line ≡ other)). subst (MayBeGiven owns) t.1 also)
@@ -104,9 +101,6 @@ some_is : {X : Type 0} (o : Option X) (x y : X) → o ≡ Some x → o ≡ Some 
 some_is o x y a b = (let h = sym a ∙ b in cc)
 
 module _ {F : Type 0} (closure : Shared F (Bor (List Room) × Unit {0}) (Option ℕ)) where
-  pub ready_none : (lists : List (Vec Span Global)) (jobs : List (LaneCommands F)) → jobs ≡ [] → AreReady closure lists jobs
-  ready_none lists jobs empty i list job is_list there = (let none : slice_get [] i ≡ Some job = ap (λ js. slice_get js i) (sym empty) ∙ there in absurd (cc))
-
   pub ready_more : (lists : List (Vec Span Global)) (jobs jobs' : List (LaneCommands F)) (at : ℕ) (list : Vec Span Global) (job : LaneCommands F) → AreReady closure lists jobs → length jobs ≡ at → slice_get lists at ≡ Some list → IsReady closure list.items job → jobs' ≡ jobs ++ job ∷ []
       → AreReady closure lists jobs'
   ready_more lists jobs jobs' at list job ready many there also more i other also_job is_list is_job =

@@ -1,5 +1,5 @@
 -- A thousand objects for each lane, and the passes for the first.
-use Rattle.std.proofs.Common.{◌≡◌, ◌≢◌, ◌∙◌, ℕ, zero, suc, ◌+◌, ◌*◌, ◌<◌, ◌≤◌, true, false, if◌then◌else◌, List, [], ◌∷◌, ◌++◌, length, length-append, nat_eq, sym, refl, subst, ap, arith, min, All}
+use Rattle.std.proofs.Common.{◌≡◌, ◌∙◌, ℕ, zero, suc, ◌+◌, ◌*◌, ◌<◌, ◌≤◌, true, false, if◌then◌else◌, List, [], ◌∷◌, ◌++◌, length, length-append, nat_eq, sym, subst, ap, arith, min}
 use Rattle.std.proofs.lemmas.Bool.Decides.{nat_tests}
 use Rattle.std.proofs.lemmas.List.Elements.{All-append, All-cons, All-nil}
 use Rattle.std.specs.declared.vec.Vec.{Vec}
@@ -60,13 +60,6 @@ one_more (suc lane) n list is =
     let few : min (suc lane + 1) 1 ≡ min (suc lane) 1 = omega arith in
     let passes : one_within passes_number (passes_number + min (suc lane + 1) 1) n ≡ one_within passes_number (passes_number + min (suc lane) 1) n = ap (λ t. one_within passes_number (passes_number + t) n) few in
     omega (arith, here, up, same, passes)
-
-pub sharing_start : (lists : List (Vec Span Global)) → lists ≡ [] → Sharing 0 lists
-sharing_start lists empty = record {
-  count = ap length empty;
-  some = subst EachHoldsSome (sym empty) (All-nil (λ (l : Numbers). HoldsSome l.items));
-  apart = λ n. ap (shares n) empty ∙ sym (none n);
-}
 
 pub sharing_more : (lane : ℕ) (lists lists' : List (Vec Span Global)) (list : Vec Span Global) → Sharing lane lists → list.items ≡ list_at lane → lists' ≡ lists ++ list ∷ [] → Sharing (lane + 1) lists'
 sharing_more lane lists lists' list s is more = record {

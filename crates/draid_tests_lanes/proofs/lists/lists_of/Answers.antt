@@ -1,5 +1,5 @@
-use Rattle.std.proofs.Common.{◌∙◌, arith}
-use Rattle.draid_tests_lanes.proofs.Shares.{sharing_all, sharing_more, sharing_start}
+use Rattle.std.proofs.Common.{arith}
+use Rattle.draid_tests_lanes.proofs.Shares.{sharing_all, sharing_more}
 use Rattle.draid_tests_lanes.proofs.lists.lists_of.Goals as goal
 
 pub loop-lane-preserved : goal.loop-lane-preserved

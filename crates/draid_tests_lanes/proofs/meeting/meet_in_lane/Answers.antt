@@ -1,6 +1,5 @@
 use Rattle.std.proofs.Common.{refl}
 use Rattle.draid_lanes.specs.Lanes.{table_of}
-use Rattle.draid_works.proofs.FilledIn.{same_lane}
 use Rattle.draid_works.proofs.Whole.{lane_goes, lane_many}
 use Rattle.draid_tests_lanes.proofs.meeting.meet_in_lane.Goals as goal
 

@@ -7,7 +7,7 @@ use Rattle.draid_session.specs.Choices.{choices_by}
 use Rattle.draid_session.specs.Replies.{IsReplyTo}
 use Rattle.draid_works.specs.Job.{MayBeGiven}
 use Rattle.draid_works.specs.Replied.{CommandDone}
-use Rattle.draid_works.proofs.Replied.{done_all, done_failed, done_more, done_none, leaves_then, replied_more}
+use Rattle.draid_works.proofs.Replied.{done_all, done_failed, done_more, leaves_then, replied_more}
 use Rattle.draid_works.proofs.job.reply_to_each.Goals as goal
 
 pub reply_in_lane-next-requires-clause-given : goal.reply_in_lane-next-requires-clause-given
