@@ -6,4 +6,7 @@ pub trait Says {
 
     /// The job as it began and as it ended, in a section of a pool in this state: its lane's holds led it from what the lane had of its own to this.
     ghost says: { Self → Self → State → Store → List Hold → Store → Type 0 };
+
+    /// Whether that rests on the bytes of all blocks, whoever's they are.
+    ghost rests: { Self → Type 0 };
 }
