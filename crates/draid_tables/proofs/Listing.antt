@@ -150,14 +150,14 @@ lists_same lane commands list command lists none n = (
 )
 
 -- the commands of lines up to the next one
-pub commands_next : (lines : List Line) (i : ℕ) (line : Line) → slice_get lines i ≡ Some line → commands_of (take (suc i) lines) ≡ commands_of (take i lines) ++ command_in line ∷ []
-commands_next lines i line is = ap commands_of (take_next lines i line is) ∙ map-append command_in (take i lines) (line ∷ [])
+pub commands_next : (lines : List Line) (i : ℕ) (line : Line) → slice_get lines i ≡ Some line → commands_of (take (i + 1) lines) ≡ commands_of (take i lines) ++ command_in line ∷ []
+commands_next lines i line is = ap (λ n. commands_of (take n lines)) (let next : i + 1 ≡ suc i = omega arith in next) ∙ (ap commands_of (take_next lines i line is) ∙ map-append command_in (take i lines) (line ∷ []))
 
 -- ---- all lists
 
 objects_below : (command : Command) → IsInRange command → (objects_in command).0 + (objects_in command).1 ≤ OBJECTS
 objects_below (WriteObject object bytes) range = (let below = range.0 in omega (arith, below))
-objects_below (FillObjects first count len seed) range = range.2
+objects_below (FillObjects first count len seed) range = range.0.2
 objects_below (ReadObject object) range = omega (arith, range)
 objects_below (FreeObject object) range = omega (arith, range)
 objects_below (SumObjects first count) range = range.2
@@ -215,14 +215,14 @@ one_holder n (l ∷ lists) apart =
 -- a number that one has at least is in a list
 a_holder : (n : ℕ) (lists : List (Vec Span Global)) → 1 ≤ shares n lists → (i : ℕ) × (list : Vec Span Global) × (slice_get lists i ≡ Some list) × (holds n list.items ≡ true)
 a_holder n [] some = absurd (omega (arith, some))
-a_holder n (l ∷ lists) some = by (holds n l.items) refl
+a_holder n (l ∷ lists) some = by (holds n l.items) refl (a_holder n lists)
   where
-    by : (b : Bool) → holds n l.items ≡ b → (i : ℕ) × (list : Vec Span Global) × (slice_get (l ∷ lists) i ≡ Some list) × (holds n list.items ≡ true)
-    by true is = (0, l, refl, is)
-    by false is =
+    by : (b : Bool) → holds n l.items ≡ b → (1 ≤ shares n lists → (i : ℕ) × (list : Vec Span Global) × (slice_get lists i ≡ Some list) × (holds n list.items ≡ true)) → (i : ℕ) × (list : Vec Span Global) × (slice_get (l ∷ lists) i ≡ Some list) × (holds n list.items ≡ true)
+    by true is rest = (0, l, refl, is)
+    by false is rest =
         let sum = sum_by-cons (λ (v : Vec Span Global). one_if (holds n v.items)) l lists in
         let here : one_if (holds n l.items) ≡ 0 = ap one_if is in
-        let z = a_holder n lists (omega (arith, some, sum, here)) in (suc z.0, z.1, z.2, z.3)
+        let z = rest (omega (arith, some, sum, here)) in (suc z.0, z.1, z.2, z.3)
 
 all_of : {X : Type 0} (P : X → Type 0) (xs : List X) → ((i : ℕ) (x : X) → slice_get xs i ≡ Some x → P x) → All P xs
 all_of P [] each = All-nil P
@@ -318,10 +318,10 @@ module _ (lanes : List (Vec Line Global)) (lists : List (Vec Span Global)) (few 
       let far = slice_get_within lists z.0 z.1 z.2 in
       let many = each.many in
       ⊎_elim
-      (λ (t : n ≡ number_of_lane z.0). ((λ is. (omega (arith, is, t, far, many, few) : ⊥)), omega (arith, t, far, many, few)))
+      (λ (t : n ≡ number_of_lane z.0). ((λ is. omega (arith, is, t, far, many, few)), omega (arith, t, far, many, few)))
       (λ (t : WantsOne (commands_of p.0.items) n). ⊎_elim
-        (λ (u : n < OBJECTS). ((λ is. (omega (arith, is, u) : ⊥)), omega (arith, u)))
-        (λ (u : Mends t.command × (n ≡ passes_number)). (let passes = u.1 in ((λ is. (omega (arith, is, passes) : ⊥)), omega (arith, passes))))
+        (λ (u : n < OBJECTS). ((λ is. omega (arith, is, u)), omega (arith, u)))
+        (λ (u : Mends t.command × (n ≡ passes_number)). (let passes = u.1 in ((λ is. omega (arith, is, passes)), omega (arith, passes))))
         (wants_small t.command n (in_range z.0 p.0 t.command t.k p.1 t.in_it) t.wants)) p.2
 
   has_own : (i : ℕ) (list : Vec Span Global) → slice_get lists i ≡ Some list → HoldsSome list.items

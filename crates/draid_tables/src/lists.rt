@@ -12,9 +12,10 @@ use std::alloc::{AllocError, Global};
 
 /// So many numbers from the first on.
 fn span_from(first: u64, count: u64) -> Span
-    requires { 1 ≤ count }
-    requires { first + count ≤ OBJECTS }
-    ensures { (result.first ≡ first) × (result.last + 1 ≡ first + count) }
+    requires some { 1 ≤ count }
+    requires small { first + count ≤ OBJECTS }
+    ensures first { result.first ≡ first }
+    ensures last { result.last + 1 ≡ first + count }
 {
     Span {
         first,
