@@ -1,15 +1,14 @@
 -- What a lane did by holds of metaslabs alone, told from the state in which the section began.
-use Rattle.std.proofs.Common.{◌≡◌, ◌<◌, ◌≤◌, ◌++◌, ◌∷◌, ◌∙◌, [], ℕ, Bool, true, List, Option, Some, refl, sym, ap, subst, length, slice_set}
+use Rattle.std.proofs.Common.{◌≡◌, ◌++◌, ◌∷◌, ◌∙◌, [], ℕ, true, List, Some, refl, sym, ap, subst, length, slice_set}
 use mathlib.Core.Logic.{dite}
 use native.Mathlib.Decide.{ℕ_discrete}
 use Rattle.std.specs.Prelude.{slice_get}
 use Rattle.draid_rack.specs.declared.Rack as racks
 use Rattle.draid_area.specs.declared.Area as areas
 use Rattle.draid_session.specs.Follows.{MetaslabActs}
-use Rattle.draid_session.specs.Holds.{Act, Hold, On, OnUber, View, view_of}
+use Rattle.draid_session.specs.Holds.{Act, Hold, On, OnUber, View}
 use Rattle.draid_session.specs.State.{Metaslab, State}
 use Rattle.draid_shard.specs.Part.{Part, layout_in}
-use Rattle.draid_shard.specs.declared.shard.Shard.{Shard}
 use Rattle.draid_turn.specs.Calls.{Caller, Lock}
 use Rattle.draid_turn.specs.declared.past.Past.{Past}
 use Rattle.draid_pool.specs.Drifts.{Since}
@@ -29,6 +28,13 @@ use Rattle.draid_lanes.specs.declared.locked.Locked.{Locked}
 use Rattle.draid_lanes.proofs.OneTurn.{CameTo, behind_is, came_at, came_on, came_to, its_turn, only_at, traced_hold}
 use Rattle.draid_lanes.proofs.Tracing.{Traced, traced_none, traced_then}
 
+-- two states have the same layout of each metaslab
+abbrev pub SameParts : State → State → Type 0
+SameParts x s = (m : ℕ) → part_in s m ≡ part_in x m
+
+parts_then : (x s t : State) → SameParts x s → t ≡ record s { metaslabs = t.metaslabs } → SameParts x t
+parts_then x s t parts same k = ap (λ (u : State). part_in u k) same ∙ parts k
+
 module _ {R A G W : Type 0} (rack : racks.Ghosts R) (area : areas.Ghosts A) (x : State) where
   -- each metaslab of a list is what one of the state came to, up to where a lane saw it
   abbrev pub AreSeen : Locked R A G W → List Metaslab → Type 0
@@ -42,10 +48,6 @@ module _ {R A G W : Type 0} (rack : racks.Ghosts R) (area : areas.Ghosts A) (x :
     pub same : t ≡ record s { metaslabs = t.metaslabs }
     pub many : length t.metaslabs ≡ length s.metaslabs
 
-  -- the metaslabs of the state are those of the section's beginning
-  abbrev pub SameParts : State → Type 0
-  SameParts s = (m : ℕ) → part_in s m ≡ part_in x m
-
   none_carried : (a : Locked R A G W) (s : State) → AreSeen a s.metaslabs → Carried a a [] s s
   none_carried a s seen = record { turns = λ m. []; traced = traced_none rack area x a; seen = seen; same = refl; many = refl }
 
@@ -58,7 +60,7 @@ module _ {R A G W : Type 0} (rack : racks.Ghosts R) (area : areas.Ghosts A) (x :
 
     -- ---- one hold
 
-    module _ (a b : Locked R A G W) (v : View) (act : Act) (s t : State) (parts : SameParts s) (seen : AreSeen a s.metaslabs) (h : HeldAt Goes NoUber a v act s b t) where
+    module _ (a b : Locked R A G W) (v : View) (act : Act) (s t : State) (parts : SameParts x s) (seen : AreSeen a s.metaslabs) (h : HeldAt Goes NoUber a v act s b t) where
       abbrev m : ℕ
       m = v.metaslab
 
@@ -125,9 +127,6 @@ module _ {R A G W : Type 0} (rack : racks.Ghosts R) (area : areas.Ghosts A) (x :
         many = ap (λ (u : State). length u.metaslabs) h.made ∙ set_length s.metaslabs m h.left;
       }
 
-    parts_then : (s t : State) → SameParts s → t ≡ record s { metaslabs = t.metaslabs } → SameParts t
-    parts_then s t parts same k = ap (λ (u : State). part_in u k) same ∙ parts k
-
     then_carried : (a b c : Locked R A G W) (hs ks : List Hold) (r s t : State) → Carried a b hs r s → Carried b c ks s t → Carried a c (hs ++ ks) r t
     then_carried a b c hs ks r s t one two = record {
       turns = λ k. one.turns k ++ two.turns k;
@@ -139,9 +138,9 @@ module _ {R A G W : Type 0} (rack : racks.Ghosts R) (area : areas.Ghosts A) (x :
 
     -- ---- all of them
 
-    pub carried : (holds : List Hold) (a b : Locked R A G W) (s t : State) → SameParts s → AreSeen a s.metaslabs → FollowsBy Goes NoUber a holds s b t → Carried a b holds s t
+    pub carried : (holds : List Hold) (a b : Locked R A G W) (s t : State) → SameParts x s → AreSeen a s.metaslabs → FollowsBy Goes NoUber a holds s b t → Carried a b holds s t
     carried [] a b s t parts seen f = subst (λ (q : Locked R A G W × State). Carried a q.0 [] s q.1) (λ i. (sym f.0 i, sym f.1 i)) (none_carried a s seen)
     carried (On v act ∷ holds) a b s t parts seen f =
         let one = one_carried a f.0 v act s f.1 parts seen f.2 in
-        then_carried a f.0 b (On v act ∷ []) holds s f.1 t one (carried holds f.0 b f.1 t (parts_then s f.1 parts one.same) one.seen f.3)
+        then_carried a f.0 b (On v act ∷ []) holds s f.1 t one (carried holds f.0 b f.1 t (parts_then x s f.1 parts one.same) one.seen f.3)
     carried (OnUber u act ∷ holds) a b s t parts seen f = absurd f.3

@@ -1,12 +1,11 @@
 -- A command that a lane carries out by holds of metaslabs alone is told from whatever the lane knew.
-use Rattle.std.proofs.Common.{◌≡◌, ◌<◌, ◌≤◌, ◌++◌, ◌∷◌, ◌∙◌, [], ℕ, Bool, true, List, Option, Some, None, All, Contains, arith, refl, sym, ap, subst, length}
+use Rattle.std.proofs.Common.{◌≡◌, ◌<◌, ◌≤◌, ◌∙◌, [], ℕ, Bool, true, List, Option, Some, None, All, Contains, arith, refl, sym, ap, subst, length}
 use Rattle.std.specs.Prelude.{slice_get}
 use Rattle.std.proofs.lemmas.List.{append-nil}
 use Rattle.std.proofs.lemmas.List.Elements.{All-append, All-nil, All-weaker}
 use Rattle.std.proofs.lemmas.Option.{slice_get_within}
 use Rattle.draid_rack.specs.declared.Rack as racks
 use Rattle.draid_area.specs.declared.Area as areas
-use Rattle.draid_machine.proofs.Small.{none_some}
 use Rattle.draid_session.specs.Holds.{Hold}
 use Rattle.draid_session.specs.Lanes.{holds_of}
 use Rattle.draid_session.specs.State.{State, Store}
@@ -20,11 +19,11 @@ use Rattle.draid_pool.proofs.Lists.{present, some_of}
 use Rattle.draid_lanes.specs.Governing.{lane_last}
 use Rattle.draid_lanes.specs.Lanes.{IsSameLane, table_of}
 use Rattle.draid_lanes.specs.Locks.{owned_by}
-use Rattle.draid_lanes.specs.Traces.{HadTurns, IsShardTurn, IsUberTurn, LaneTurn, LeadsLane, StandsAt, holds_in, places_in}
+use Rattle.draid_lanes.specs.Traces.{HadTurns, IsShardTurn, LaneTurn, LeadsLane, StandsAt, holds_in, places_in}
 use Rattle.draid_lanes.specs.Waits.{LaneWent}
 use Rattle.draid_lanes.specs.declared.lane.Lane.{Lane}
 use Rattle.draid_lanes.specs.declared.uber.UberCell.{UberCell}
-use Rattle.draid_lanes.proofs.Carried.{AreSeen, Carried, carried}
+use Rattle.draid_lanes.proofs.Carried.{Carried, carried}
 use Rattle.draid_lanes.proofs.Tracing.{PassWent, Traced, ascends_append, starts_long, starts_self}
 
 module _ {R A G W : Type 0} (rack : racks.Ghosts R) (area : areas.Ghosts A) (x : State) (old new : Lane R A G W) (many : length old.metaslabs.passes.items ≡ length old.metaslabs.turns.now) (lane : IsSameLane old new) (pass_is : new.pass ≡ old.pass) where

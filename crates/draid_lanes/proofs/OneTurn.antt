@@ -1,10 +1,9 @@
 -- One hold of a metaslab by a lane, with the states that it found and left.
-use Rattle.std.proofs.Common.{◌≡◌, ◌==◌, ◌<◌, ◌≤◌, ◌+◌, ◌++◌, ◌∷◌, ◌∙◌, [], inl, inr, ℕ, zero, suc, Bool, true, false, List, Option, Some, None, All, Contains, arith, refl, sym, ap, subst, length, slice_set, if◌then◌else◌, eq-eqb, ne_eqb}
+use Rattle.std.proofs.Common.{◌≡◌, ◌==◌, ◌<◌, ◌≤◌, ◌++◌, ◌∷◌, ◌∙◌, [], inr, ℕ, zero, suc, Bool, true, false, List, Some, None, Contains, arith, refl, sym, ap, subst, length, slice_set, if◌then◌else◌, eq-eqb, ne_eqb}
 use mathlib.Core.Logic.{dite}
 use native.Mathlib.Decide.{ℕ_discrete}
 use Rattle.std.specs.Prelude.{cond, slice_get, slice_index_or}
-use Rattle.std.proofs.lemmas.Bool.{cases_eq}
-use Rattle.std.proofs.lemmas.List.{append-nil, append_assoc, length-append}
+use Rattle.std.proofs.lemmas.List.{append_assoc, length-append}
 use Rattle.std.proofs.lemmas.List.Elements.{All-cons, All-nil}
 use Rattle.draid_rack.specs.declared.Rack as racks
 use Rattle.draid_area.specs.declared.Area as areas
@@ -12,32 +11,28 @@ use Rattle.draid_segments.specs.Segments.{Pieces}
 use Rattle.draid_machine.proofs.Small.{none_some}
 use Rattle.draid_session.specs.Follows.{MetaslabActs}
 use Rattle.draid_session.specs.Holds.{Act, Hold, On, view_of}
-use Rattle.draid_session.specs.Lanes.{is_of}
 use Rattle.draid_session.specs.State.{Metaslab, State}
-use Rattle.draid_shard.specs.Part.{Part, layout_in}
+use Rattle.draid_shard.specs.Part.{layout_in}
 use Rattle.draid_shard.specs.declared.shard.Shard.{Shard}
 use Rattle.draid_turn.specs.Calls.{Caller, Lock}
-use Rattle.draid_turn.specs.History.{left_by}
 use Rattle.draid_turn.specs.Lists.{StartsWith}
 use Rattle.draid_turn.specs.declared.past.Past.{Past}
 use Rattle.draid_pool.specs.Drifts.{GoesOn, Since}
 use Rattle.draid_pool.specs.Metaslabs.{IsMetaslab}
 use Rattle.draid_pool.specs.Pools.{part_in}
 use Rattle.draid_pool.specs.Rounds.{HeldOnce}
-use Rattle.draid_pool.specs.Shards.{FollowsIn}
 use Rattle.draid_pool.specs.Syncing.{Turns}
 use Rattle.draid_pool.specs.declared.cell.Cell.{Cell}
 use Rattle.draid_pool.proofs.Holding.{some_same}
-use Rattle.draid_pool.proofs.Places.{get_set, get_set_other, get_set_same, set_length}
+use Rattle.draid_pool.proofs.Places.{get_set_other, get_set_same, set_length}
 use Rattle.draid_pool.proofs.ShardSteps.{acts_since}
 use Rattle.draid_pool.proofs.Since.{since_then}
 use Rattle.draid_lanes.specs.Governing.{lane_last}
-use Rattle.draid_lanes.specs.Locks.{Went, last_in, left_in}
+use Rattle.draid_lanes.specs.Locks.{Went, left_in}
 use Rattle.draid_lanes.specs.Traces.{Came, CameAt, IsShardTurn, LaneTurn, holds_in}
 use Rattle.draid_lanes.specs.Waits.{LaneWent}
 use Rattle.draid_lanes.specs.declared.locked.Locked.{Locked}
 use Rattle.draid_lanes.proofs.Drifted.{left_append}
-use Rattle.draid_lanes.proofs.Held.{has_place}
 use Rattle.draid_lanes.proofs.Tracing.{PassWent, Traced, starts_self, went_none}
 
 -- the turns of one lock, and none of the others

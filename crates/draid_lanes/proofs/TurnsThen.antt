@@ -1,6 +1,6 @@
 -- What a lane did and then did, told as one.
-use Rattle.std.proofs.Common.{◌≡◌, ◌<◌, ◌≤◌, ◌++◌, ◌∷◌, ◌∙◌, [], inl, inr, ℕ, zero, suc, Bool, List, Option, Some, None, All, Contains, arith, refl, sym, ap, subst, length}
-use Rattle.std.specs.Prelude.{flat_map, slice_get}
+use Rattle.std.proofs.Common.{◌≡◌, ◌<◌, ◌≤◌, ◌++◌, ◌∷◌, ◌∙◌, [], inl, inr, ℕ, zero, suc, List, Option, Some, None, All, Contains, arith, refl, sym, ap, subst, length}
+use Rattle.std.specs.Prelude.{slice_get}
 use Rattle.std.proofs.lemmas.Grind.{flat_map-append}
 use Rattle.std.proofs.lemmas.List.{append-nil, append_assoc, length-append, map-append}
 use Rattle.std.proofs.lemmas.List.Elements.{All-append, All-cons, All-nil, All-weaker, Contains-append_cases, filter-append}
@@ -16,7 +16,7 @@ use Rattle.draid_turn.specs.Lists.{Ascends, StartsWith}
 use Rattle.draid_turn.specs.declared.past.Past.{Past}
 use Rattle.draid_pool.specs.declared.cell.Cell.{Cell}
 use Rattle.draid_pool.proofs.Lists.{present, some_of}
-use Rattle.draid_lanes.specs.Traces.{HadTurns, IsShardTurn, IsUberTurn, LaneTold, LaneTurn, LeadsLane, StandsAt, holds_in, places_in}
+use Rattle.draid_lanes.specs.Traces.{HadTurns, IsShardTurn, IsUberTurn, LaneTurn, LeadsLane, StandsAt, holds_in, places_in}
 use Rattle.draid_lanes.specs.declared.lane.Lane.{Lane}
 use Rattle.draid_lanes.specs.declared.uber.UberCell.{UberCell}
 use Rattle.draid_lanes.proofs.Tracing.{ascends_append, starts_long, starts_self, starts_then, turn_later}
@@ -39,11 +39,12 @@ places_append ts us = map-append (λ (turn : LaneTurn). turn.place) ts us
 begun_below : {E : Type 0} (seen log : List E) (last : E) → StartsWith seen (log ++ last ∷ []) → length log < length seen
 begun_below seen log last s = (let long = starts_long seen (log ++ last ∷ []) s in let more = length-append log (last ∷ []) in omega (arith, long, more))
 
-module _ {R A G W : Type 0} (rack : racks.Ghosts R) (area : areas.Ghosts A) (x : State) where
-  -- a turn of the uberblock that was seen is seen by who saw more
-  uber_later : (lock : Lock (UberCell R A)) (seen more : List (Past (UberCell R A))) (place : ℕ) (holds : List Hold) → StartsWith more seen → IsUberTurn rack area x lock seen place holds → IsUberTurn rack area x lock more place holds
-  uber_later lock seen more place holds later t = record { log = t.log; left = t.left; place_is = t.place_is; begins = starts_then (t.log ++ t.left ∷ []) seen more t.begins later; of_uber = t.of_uber; goes = t.goes }
+-- a turn of the uberblock that was seen is seen by who saw more
+uber_later : {R A : Type 0} (rack : racks.Ghosts R) (area : areas.Ghosts A) (x : State) (lock : Lock (UberCell R A)) (seen more : List (Past (UberCell R A))) (place : ℕ) (holds : List Hold) → StartsWith more seen → IsUberTurn rack area x lock seen place holds
+    → IsUberTurn rack area x lock more place holds
+uber_later rack area x lock seen more place holds later t = record { log = t.log; left = t.left; place_is = t.place_is; begins = starts_then (t.log ++ t.left ∷ []) seen more t.begins later; of_uber = t.of_uber; goes = t.goes }
 
+module _ {R A G W : Type 0} (rack : racks.Ghosts R) (area : areas.Ghosts A) (x : State) where
   -- ---- nothing
 
   had_none : (lane : Lane R A G W) → HadTurns rack area x lane lane (λ lock. []) []
@@ -151,7 +152,7 @@ module _ {R A G W : Type 0} (rack : racks.Ghosts R) (area : areas.Ghosts A) (x :
     UberTurn t = IsUberTurn rack area x new.uber.now new.pass.seen t.place t.holds
 
     uber_first : (t : LaneTurn) → Contains (ts None) t → UberTurn t
-    uber_first t among = subst (λ (l : Lock (UberCell R A)). IsUberTurn rack area x l new.pass.seen t.place t.holds) (sym two.uber_lock) (uber_later mid.uber.now mid.pass.seen new.pass.seen t.place t.holds two.uber_seen (one.ubers t among))
+    uber_first t among = subst (λ (l : Lock (UberCell R A)). IsUberTurn rack area x l new.pass.seen t.place t.holds) (sym two.uber_lock) (uber_later rack area x mid.uber.now mid.pass.seen new.pass.seen t.place t.holds two.uber_seen (one.ubers t among))
 
     uber_both : (t : LaneTurn) → Contains (both_turns None) t → UberTurn t
     uber_both t among = elim (Contains-append_cases (ts None) (us None) t among) [ inl in_it ↦ uber_first t in_it | inr in_it ↦ two.ubers t in_it ]

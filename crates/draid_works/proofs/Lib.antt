@@ -1,7 +1,9 @@
 pub mod Done
 pub mod FilledIn
 pub mod FilledTable
+pub mod Grown
 pub mod LaneStays
+pub mod LaneTells
 pub mod MendArms
 pub mod MendBegun
 pub mod MendFails
@@ -25,5 +27,6 @@ pub mod SyncFails
 pub mod SyncStays
 pub mod SyncSteps
 pub mod TaughtTable
+pub mod TurnSays
 pub mod Waited
 pub mod Whole
