@@ -1,9 +1,16 @@
 /// What a job is said to have done, in the words of a session.
 pub trait Says {
-    ghost use Rattle.std.specs.Prelude.{List};
+    ghost use Rattle.std.specs.Prelude.{◌≡◌, Bool, List};
     ghost use Rattle.draid_session.specs.Holds.{Hold};
     ghost use Rattle.draid_session.specs.State.{State, Store};
 
     /// The job as it began and as it ended, in a section of a pool in this state: its lane's holds led it from what the lane had of its own to this.
     ghost says: { Self → Self → State → Store → List Hold → Store → Type 0 };
+
+    /// Whether an area that failed ended it.
+    ghost failed: { Self → Bool };
+
+    /// Whether an area that failed ended it. (A trait's implementation over a closure wants a call.)
+    fn has_failed(&self) -> bool
+        ensures { result ≡ failed self.now };
 }

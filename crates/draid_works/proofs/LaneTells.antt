@@ -30,6 +30,14 @@ use Rattle.draid_works.specs.Waiting.{LooksBut}
 use Rattle.draid_works.proofs.Grown.{does_grow, grows_self, grows_then}
 use Rattle.draid_works.proofs.TurnSays.{SaidBut, offline_said, online_said, rebuild_said, scrub_said, sync_said}
 
+-- a command did what its reply says, or an area failed it, and what befell objects is of a lane's own
+abbrev Tells : State → Choices → (ℕ → Bool) → Command → Result Reply Failed → Store → List Hold → Store → Type 0
+Tells x choices mine command said old holds new = SaidBut x choices command said old holds new × Grows mine old new
+
+-- so of all of a lane's commands
+abbrev TellsAll : State → Choices → (ℕ → Bool) → List Line → List Reply → Store → List Hold → Store → Type 0
+TellsAll x choices mine lines replies old holds new = Says x choices (map command_in lines) old holds replies new × Grows mine old new
+
 module _ {R A G W : Type 0} (rack : racks.Ghosts R) (area : areas.Ghosts A) (x : State) where
   -- ---- the layout
 
@@ -50,20 +58,16 @@ module _ {R A G W : Type 0} (rack : racks.Ghosts R) (area : areas.Ghosts A) (x :
   module _ (choices : Choices) (many : length x.metaslabs ≡ x.geometry.props.metaslabs) where
     -- ---- one command
 
-    -- it did so by its reply, or where an area failed, and what befell objects is of such
-    abbrev Tells : (ℕ → Bool) → Command → Result Reply Failed → Store → List Hold → Store → Type 0
-    Tells owns command said old holds new = SaidBut x choices command said old holds new × Grows owns old new
-
     module _ (old new : Lane R A G W) (whole : IsWholeLane rack area old) (same : IsSameLane old new) (y : State) (stands : StandsAt rack area x old y) where
       abbrev owns : ℕ → Bool
       owns = owned_by old.metaslabs.passes.items
 
       abbrev Leads : Command → Result Reply Failed → Type 0
-      Leads command said = LeadsLane rack area x (Tells owns command said y.store) old new
+      Leads command said = LeadsLane rack area x (Tells x choices owns command said y.store) old new
 
       on_objects : (command : Command) (reply : Reply) → IsOfLane owns command → ObjectsDone rack area choices command reply old new → Leads command (Ok reply)
       on_objects command reply of_lane d =
-          leads_as rack area x old new (LooksBut (ReplyDoes y choices command reply)) (Tells owns command (Ok reply) y.store)
+          leads_as rack area x old new (LooksBut (ReplyDoes y choices command reply)) (Tells x choices owns command (Ok reply) y.store)
           (λ holds store l.
           let does = subst (λ (s : State). Does s.geometry s.perms choices content_of command y.store l.0 reply store) stands.same l.2 in
           ((l.0, l.1, does), does_grow owns x.geometry x.perms choices y.store store l.0 command reply of_lane does))
@@ -73,7 +77,7 @@ module _ {R A G W : Type 0} (rack : racks.Ghosts R) (area : areas.Ghosts A) (x :
           → ((answer : T) (holds : List Hold) (store : Store) → IsAnswer answer → leads x answer y.store holds store → SaidBut x choices command said y.store holds store × (store ≡ y.store)) → DoesInTurn rack area IsAnswer did leads said old new
           → Leads command said
       in_turn IsAnswer did leads command said so d =
-          leads_as rack area x old new (leads x d.answer y.store) (Tells owns command said y.store) (λ holds store l. (let z = so d.answer holds store d.reply_is l in (z.0, grows_self owns y.store store z.1)))
+          leads_as rack area x old new (leads x d.answer y.store) (Tells x choices owns command said y.store) (λ holds store l. (let z = so d.answer holds store d.reply_is l in (z.0, grows_self owns y.store store z.1)))
           (d.told x (first_geometry old whole y stands) many y stands)
 
       command_leads : (command : Command) (said : Result Reply Failed) → IsOfLane owns command → CommandDone rack area choices command said old new → Leads command said
@@ -97,22 +101,18 @@ module _ {R A G W : Type 0} (rack : racks.Ghosts R) (area : areas.Ghosts A) (x :
 
     -- ---- all of them
 
-    -- a lane's replies are those to its commands, and what befell objects is of such
-    abbrev TellsAll : (ℕ → Bool) → List Line → List Reply → Store → List Hold → Store → Type 0
-    TellsAll owns lines replies old holds new = Says x choices (map command_in lines) old holds replies new × Grows owns old new
-
     pub commands_lead : (lines : List Line) (replies : List Reply) (stopped : Bool) (old new : Lane R A G W) → IsWholeLane rack area old → MayAllBeGiven (owned_by old.metaslabs.passes.items) lines → CommandsDone rack area choices lines replies stopped old new
-        → LaneTold rack area x (TellsAll (owned_by old.metaslabs.passes.items) lines replies) old new
+        → LaneTold rack area x (TellsAll x choices (owned_by old.metaslabs.passes.items) lines replies) old new
     commands_lead [] [] false old new whole given d y stands =
         let owns = owned_by old.metaslabs.passes.items in
-        subst (λ (l : Lane R A G W). LeadsLane rack area x (TellsAll owns [] [] y.store) old l) (sym d) (leads_none rack area x old (TellsAll owns [] [] y.store) y stands ((refl, refl), grows_self owns y.store y.store refl))
+        subst (λ (l : Lane R A G W). LeadsLane rack area x (TellsAll x choices owns [] [] y.store) old l) (sym d) (leads_none rack area x old (TellsAll x choices owns [] [] y.store) y stands ((refl, refl), grows_self owns y.store y.store refl))
     commands_lead (line ∷ lines) (reply ∷ replies) stopped old new whole given d y stands =
         let mid = d.0 in
         let owns = owned_by old.metaslabs.passes.items in
         let one = command_leads old mid whole d.1.same y stands (command_in line) (Ok reply) (given 0 line refl).of_lane d.2 in
         let more : MayAllBeGiven (owned_by mid.metaslabs.passes.items) lines = subst (λ f. MayAllBeGiven f lines) (sym d.1.same.owns) (λ i other at. given (suc i) other at) in
         let rest = commands_lead lines replies stopped mid new d.1.whole more d.3 one.reached one.stands in
-        leads_then rack area x old mid new (Tells owns (command_in line) (Ok reply) y.store) one (TellsAll (owned_by mid.metaslabs.passes.items) lines replies one.reached.store) rest (TellsAll owns (line ∷ lines) (reply ∷ replies) y.store)
+        leads_then rack area x old mid new (Tells x choices owns (command_in line) (Ok reply) y.store) one (TellsAll x choices (owned_by mid.metaslabs.passes.items) lines replies one.reached.store) rest (TellsAll x choices owns (line ∷ lines) (reply ∷ replies) y.store)
         (
           (one.holds, rest.holds, one.done.0.0, one.reached.store, refl, one.done.0.1, one.done.0.2, rest.done.0),
           grows_then owns y.store one.reached.store rest.reached.store one.done.1 (subst (λ f. Grows f one.reached.store rest.reached.store) d.1.same.owns rest.done.1),

@@ -10,14 +10,21 @@ ghost use Rattle.draid_works.specs.Job.{DoesCommands};
 
 use crate::job::LaneCommands;
 use draid_area::Area;
-use draid_lanes::{Gate, Says};
+use draid_lanes::{Gate, LaneJob, Says};
 use draid_names::Room;
 use draid_rack::Rack;
 use std::sync::Wait;
+use std::thread::Threads;
 
 impl<'c, F: Fn(&[Room]) -> Option<u32>> Says for LaneCommands<'c, F> {
     // Its replies are those to its commands, by its holds.
     ghost says = { λ job done x old holds new. session.Says x (choices_by (FnReturnsAt F.Fn job.chooser.now)) (map command_in job.lines.items) old holds done.replies.items new };
+
+    ghost failed = { λ job. job.stopped };
+
+    fn has_failed(&self) -> bool {
+        self.stopped
+    }
 }
 
 /// Law: what a lane's commands do is told in a session's words, from whatever the lane knew.
@@ -26,8 +33,8 @@ pub fn lane_commands_tell<
     R: Rack,
     A: Area,
     G: Gate,
-    W: Wait,
-    F: Fn(&[Room]) -> Option<u32>,
+    W: Wait + Threads + Sync,
+    F: Fn(&[Room]) -> Option<u32> + 'c,
 >()
     ensures { (x : State) → length x.metaslabs ≡ x.geometry.props.metaslabs
         → JobsTell R.Rack A.Area (λ job done. ⟦<LaneCommands<'c, F> as Says>⟧.says job done x) ⟦<LaneCommands<'c, F> as LaneJob<R, A, G, W>>⟧.relates x }
