@@ -7,10 +7,13 @@ pub trait Says {
     /// The job as it began and as it ended, in a section of a pool in this state: its lane's holds led it from what the lane had of its own to this.
     ghost says: { Self → Self → State → Store → List Hold → Store → Type 0 };
 
+    /// Whether that rests on the bytes of all blocks, whoever's they are.
+    ghost rests: { Self → Type 0 };
+
     /// Whether an area that failed ended it.
     ghost failed: { Self → Bool };
 
-    /// Whether an area that failed ended it. (A trait's implementation over a closure wants a call.)
+    /// Whether an area that failed ended it. (A trait's implementation for a type with a closure wants a call.)
     fn has_failed(&self) -> bool
         ensures { result ≡ failed self.now };
 }

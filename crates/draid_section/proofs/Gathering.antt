@@ -43,7 +43,8 @@ use Rattle.draid_lanes.proofs.SyncUnder.{groups_in}
 use Rattle.draid_section.specs.Opening.{AreDealt, AreLocked, IsDealt}
 use Rattle.draid_tables.specs.Owns.{AllWithin, AreDealtOut, HaveTableRoom, TakesAll, greatest, most_objects}
 use Rattle.draid_section.specs.Running.{BeginsAt, IsLeftWhole, JobRan, KeepLanes}
-use Rattle.draid_section.specs.Section.{AreLaneLists, BeginsLane, EndWithGroups, GovernsFirst, MayRunAll, MayRunLocked, MayRunUnder, RunsLocked}
+use Rattle.draid_tables.specs.Lists.{AreLaneLists}
+use Rattle.draid_section.specs.Section.{BeginsLane, EndWithGroups, GovernsFirst, MayRunAll, MayRunLocked, MayRunUnder, RunsLocked}
 use Rattle.draid_section.specs.Turning.{AreOfLanes, IsUberLock}
 use Rattle.draid_section.specs.Whole.{AreLaneNumbers, IsGathered, IsOfLane, IsOfPool, LaneEnded, LanesEnded, pointer_in}
 use Rattle.draid_section.specs.declared.seats.Shares.{Shares}

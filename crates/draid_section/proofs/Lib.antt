@@ -1,3 +1,4 @@
+pub mod Answered
 pub mod Beginning
 pub mod Dealt
 pub mod Ended

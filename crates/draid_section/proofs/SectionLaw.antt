@@ -54,7 +54,8 @@ use Rattle.draid_lanes.proofs.Held.{owned_at}
 use Rattle.draid_lanes.proofs.SyncUnder.{groups_in}
 use Rattle.draid_section.specs.Opening.{AreLocked, IsDealt}
 use Rattle.draid_section.specs.Running.{IsLeftWhole, JobRan, KeepLanes}
-use Rattle.draid_section.specs.Section.{AreLaneLists, MayRunAll, RunsLocked}
+use Rattle.draid_tables.specs.Lists.{AreLaneLists}
+use Rattle.draid_section.specs.Section.{MayRunAll, RunsLocked}
 use Rattle.draid_lanes.specs.Telling.{Grows, JobsTell}
 use Rattle.draid_section.specs.Told.{LaneDid, SectionStood, greatest_of}
 use Rattle.draid_section.specs.Turning.{lane_alone}
@@ -660,6 +661,7 @@ module _ {R A G W J : Type 0} (rack : racks.Ghosts R) (area : areas.Ghosts A) (n
     section_stood = record {
       lanes = dids;
       many = length-map section_traces did_of ∙ (traces_many ∙ many_jobs);
+      done_many = ap (λ (v : Vec J Global). length v.items) (sym ran.jobs_then) ∙ (ran.under.over.ran.even.jobs ∙ (lanes_are_many ∙ (traces_many ∙ many_jobs)));
       each = λ i did at.
           (let z = did_at i section_traces did at in
           let t = trace_at i z.0 z.1 in

@@ -27,6 +27,7 @@ module _ {R A J : Type 0} (rack : racks.Ghosts R) (area : areas.Ghosts A) (says 
   pub record SectionStood (x : State) (jobs done : List J) (new : Pool R A) : Type 0 where
     pub lanes : List LaneDid
     pub many : length lanes ≡ length jobs
+    pub done_many : length done ≡ length jobs
     pub each : (i : ℕ) (lane : LaneDid) → slice_get lanes i ≡ Some lane
         → (job : J) × (end : J) × (slice_get jobs i ≡ Some job) × (slice_get done i ≡ Some end) × says job end x.store lane.holds lane.store × (lane.store.changes ≡ lane.since ++ x.store.changes)
     pub reached : State

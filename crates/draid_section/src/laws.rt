@@ -1,14 +1,21 @@
 //! What lanes that ran come to, where each job tells what it did.
-ghost use Rattle.std.specs.Prelude.{◌≡◌, List, length};
+ghost use Rattle.std.specs.Prelude.{◌≡◌, List, length, map};
 ghost use Rattle.std.specs.declared.alloc.Global.{Global as Heap};
 ghost use Rattle.std.specs.declared.vec.Vec.{Vec};
 ghost use Rattle.draid_pool.specs.Pools.{Represents};
 ghost use Rattle.draid_pool.specs.Whole.{IsWhole};
 ghost use Rattle.draid_pool.specs.declared.pool.Pool.{Pool as PoolOf};
-ghost use Rattle.draid_session.specs.State.{State};
+ghost use Rattle.draid_script.specs.Line.{Command};
+ghost use Rattle.draid_reply.specs.declared.reply.Reply.{Reply};
+ghost use Rattle.draid_session.specs.Choices.{Choices};
+ghost use Rattle.draid_session.specs.Holds.{Hold};
+ghost use Rattle.draid_session.specs.Lanes.{Says, Section};
+ghost use Rattle.draid_session.specs.Sections.{NoClash};
+ghost use Rattle.draid_session.specs.State.{State, Store};
 ghost use Rattle.draid_turn.specs.declared.span.Span.{Span as NumberSpan};
 ghost use Rattle.draid_section.specs.Running.{KeepLanes};
-ghost use Rattle.draid_section.specs.Section.{AreLaneLists, MayRunAll, RunsInLanes};
+ghost use Rattle.draid_section.specs.Section.{MayRunAll, RunsInLanes};
+ghost use Rattle.draid_tables.specs.Lists.{AreLaneLists};
 ghost use Rattle.draid_lanes.specs.Telling.{JobsTell};
 ghost use Rattle.draid_section.specs.Told.{SectionStood};
 
@@ -26,4 +33,12 @@ pub fn lanes_come_together<R: Rack, A: Area, G: Gate, W: Wait, J: LaneJob<R, A, 
         → RunsInLanes R.Rack A.Area J.relates pool lists jobs new done → IsWhole R.Rack A.Area new
         → Represents R.Rack A.Area pool x → JobsTell R.Rack A.Area (λ job end. J.says job end x) J.relates x
         → SectionStood R.Rack A.Area (λ job end. J.says job end x) x jobs.items done.items new }
+{}
+
+/// Law: where the lanes' jobs tell that their replies are those to their commands, and no object is named by two lanes, what came together is a section of a session.
+pub fn told_sections_are_answered<R: Rack, A: Area, J: Says>()
+    ensures { (x : State) (choices : Choices) (commands : J → List Command) (replies : J → List Reply) (jobs done : List J) (new : PoolOf R A)
+        → ((job end : J) (old : Store) (holds : List Hold) (store : Store) → J.says job end x old holds store → Says x choices (commands job) old holds (replies end) store)
+        → NoClash (map commands jobs) → (stood : SectionStood R.Rack A.Area (λ job end. J.says job end x) x jobs done new)
+        → Section x choices (map commands jobs) (map replies done) stood.reached }
 {}

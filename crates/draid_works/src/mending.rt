@@ -13,7 +13,7 @@ ghost use Rattle.draid_visits.specs.Visits.{AllOnly, MayVisit};
 ghost use Rattle.draid_lanes.specs.Governing.{KeepsLane, KeepsLayout, lane_last};
 ghost use Rattle.draid_lanes.specs.Lanes.{IsSameLane, IsWholeLane};
 ghost use Rattle.draid_lanes.specs.Locks.{owned_by};
-ghost use Rattle.draid_lanes.specs.Traces.{LaneTold};
+ghost use Rattle.draid_lanes.specs.Traces.{LaneTold, SawBytes};
 ghost use Rattle.draid_lanes.specs.Ubers.{IsLane, IsUberOf};
 ghost use Rattle.draid_works.specs.Failing.{AreaFailedIn};
 ghost use Rattle.draid_works.specs.Lanes.{LaneKnows, LaneKnowsLater};
@@ -207,7 +207,7 @@ fn mend_in_lane<'a, 'b, R: Rack, A: Area, G: Gate, W: Wait>(
     ensures knows { (x : State) → LaneKnows R.Rack A.Area lane.entry x → LaneKnowsLater R.Rack A.Area result.0 x }
     ensures cause { IsErrOf result.1 MendFault.Shelf → AreaFailedIn R.Rack A.Area lane.entry.uber.now lane.entry.metaslabs result.0.metaslabs lane.entry.pass result.0.pass }
     ensures within { IfOk result.1 (λ it. IsWithin limit it.units it.paused) }
-    ensures told { (x : State) → x.geometry ≡ lane.entry.geometry → length x.metaslabs ≡ x.geometry.props.metaslabs → LaneTold R.Rack A.Area x (MendLane x kind limit result.1) lane.entry result.0 }
+    ensures told { (x : State) → x.geometry ≡ lane.entry.geometry → length x.metaslabs ≡ x.geometry.props.metaslabs → LaneTold R.Rack A.Area x (MendLane x kind (SawBytes R.Rack A.Area x result.0) limit result.1) lane.entry result.0 }
     ensures mends { MendedIn R.Rack A.Area lane.entry.geometry kind limit lane.entry.uber.now lane.entry.metaslabs result.0.metaslabs result.1 lane.entry.pass result.0.pass }
 {
     let Lane {
@@ -243,7 +243,7 @@ pub fn rebuild_in_lane<'a, 'b, R: Rack, A: Area, G: Gate, W: Wait>(
     ensures knows { (x : State) → LaneKnows R.Rack A.Area lane.entry x → LaneKnowsLater R.Rack A.Area result.0 x }
     ensures cause { IsErrOf result.1 MendFault.Shelf → AreaFailedIn R.Rack A.Area lane.entry.uber.now lane.entry.metaslabs result.0.metaslabs lane.entry.pass result.0.pass }
     ensures within { IfOk result.1 (λ it. IsWithin limit it.units it.paused) }
-    ensures told { (x : State) → x.geometry ≡ lane.entry.geometry → length x.metaslabs ≡ x.geometry.props.metaslabs → LaneTold R.Rack A.Area x (MendLane x Rebuild limit result.1) lane.entry result.0 }
+    ensures told { (x : State) → x.geometry ≡ lane.entry.geometry → length x.metaslabs ≡ x.geometry.props.metaslabs → LaneTold R.Rack A.Area x (MendLane x Rebuild (SawBytes R.Rack A.Area x result.0) limit result.1) lane.entry result.0 }
     ensures mends { MendedIn R.Rack A.Area lane.entry.geometry Rebuild limit lane.entry.uber.now lane.entry.metaslabs result.0.metaslabs result.1 lane.entry.pass result.0.pass }
 {
     mend_in_lane(lane, PassKind::Rebuild, limit)
@@ -266,7 +266,7 @@ pub fn scrub_in_lane<'a, 'b, R: Rack, A: Area, G: Gate, W: Wait>(
     ensures some { IsErrOf result.1 MendFault.Nothing → ⊥ }
     ensures not_shelf { IsErrOf result.1 MendFault.Shelf → ⊥ }
     ensures within { IfOk result.1 (λ it. IsWithin limit it.units it.paused) }
-    ensures told { (x : State) → x.geometry ≡ lane.entry.geometry → length x.metaslabs ≡ x.geometry.props.metaslabs → LaneTold R.Rack A.Area x (MendLane x Heal limit result.1) lane.entry result.0 }
+    ensures told { (x : State) → x.geometry ≡ lane.entry.geometry → length x.metaslabs ≡ x.geometry.props.metaslabs → LaneTold R.Rack A.Area x (MendLane x Heal (SawBytes R.Rack A.Area x result.0) limit result.1) lane.entry result.0 }
     ensures mends { MendedIn R.Rack A.Area lane.entry.geometry Heal limit lane.entry.uber.now lane.entry.metaslabs result.0.metaslabs result.1 lane.entry.pass result.0.pass }
 {
     mend_in_lane(lane, PassKind::Heal, limit)
