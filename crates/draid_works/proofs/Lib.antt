@@ -2,7 +2,9 @@ pub mod BesideTable
 pub mod Done
 pub mod FilledIn
 pub mod FilledTable
+pub mod Grown
 pub mod LaneStays
+pub mod LaneTells
 pub mod MendArms
 pub mod MendBegun
 pub mod MendFails
@@ -26,5 +28,6 @@ pub mod SyncFails
 pub mod SyncStays
 pub mod SyncSteps
 pub mod TaughtTable
+pub mod TurnSays
 pub mod Waited
 pub mod Whole
