@@ -34,7 +34,7 @@ module _ {R A S : Type 0} (rack : racks.Ghosts R) (area : areas.Ghosts A) (last 
   once_there does a m b h stay = once_kept rack area last went shared owns HasPassOf law does a m b h stay
 
   -- behind a sync each has its part too
-  parts_law : IsKept {R = R} {A = A} rack area shared owns KeepsPart
+  pub parts_law : IsKept {R = R} {A = A} rack area shared owns KeepsPart
   parts_law = record {
     same = λ x. record { part = refl; pass = pass_same x.pass };
     on = λ x y z first second. record { part = second.part ∙ first.part; pass = pass_on x.pass y.pass z.pass first.pass second.pass };

@@ -132,7 +132,7 @@ pub fn go_on<R: Rack, A: Area, M: Metaslabs<R, A>, S: Syncs<R, A, M>>(
     ensures low { result ≡ None → IsLow mending.new.next mending.new.progress }
     ensures left { (limit : Option ℕ) → IsLeft limit mending.old.progress → IsLeft limit mending.new.progress }
     ensures within { (limit : Option ℕ) → IsLeft limit mending.old.progress → IfSome result (λ answer. IfOk answer (λ it. IsWithin limit it.units it.paused)) }
-    ensures mends { MendsBy R.Rack A.Area M.last M.went M.shared (M.owns metaslabs.old) (S.relates geometry.now.props.metaslabs) geometry.now metaslabs.old uber.old mending.old result metaslabs.new uber.new mending.new }
+    ensures mends { MendsBy R.Rack A.Area M.last M.went M.shared (M.owns metaslabs.old) (S.relates (M.owns metaslabs.old) geometry.now.props.metaslabs) geometry.now metaslabs.old uber.old mending.old result metaslabs.new uber.new mending.new }
 {
     let Some(end) = visit_rest(by, metaslabs, uber, geometry, mending) else {
         return None;
@@ -164,7 +164,7 @@ fn visit_rest<R: Rack, A: Area, M: Metaslabs<R, A>, S: Syncs<R, A, M>>(
     ensures left { (limit : Option ℕ) → IsLeft limit mending.old.progress → IsLeft limit mending.new.progress }
     ensures paused { IfSome result (λ end. PausesAt end mending.new.progress) }
     ensures from { result ≡ Some Visit.Paused → IsSome mending.new.progress.from }
-    ensures visits { VisitsBy R.Rack A.Area M.last M.went M.shared (M.owns metaslabs.old) (S.relates geometry.now.props.metaslabs) geometry.now mending.old.kind mending.old.marks mending.old.next
+    ensures visits { VisitsBy R.Rack A.Area M.last M.went M.shared (M.owns metaslabs.old) (S.relates (M.owns metaslabs.old) geometry.now.props.metaslabs) geometry.now mending.old.kind mending.old.marks mending.old.next
         metaslabs.old uber.old mending.old.progress result mending.new.next metaslabs.new uber.new mending.new.progress }
 {
     for metaslab in mending.next..geometry.props.metaslabs {

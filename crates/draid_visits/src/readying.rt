@@ -18,7 +18,7 @@ use draid_uber::Uber;
 
 /// How the groups are committed for which a rebuild waits.
 pub trait Syncs<R: Rack, A: Area, M: Metaslabs<R, A>> {
-    ghost use Rattle.std.specs.Prelude.{◌≡◌, ◌<◌, ◌≤◌, ◌+◌, ℕ, Ok, Option, Result, Some, true};
+    ghost use Rattle.std.specs.Prelude.{◌≡◌, ◌<◌, ◌≤◌, ◌+◌, ℕ, Bool, Ok, Option, Result, Some, true};
     ghost use Rattle.draid_uber.specs.Slots.{group_of};
     ghost use Rattle.draid_uber.specs.Uber as ubers;
     ghost use Rattle.draid_uber.specs.declared.uber.Uber.{Uber};
@@ -30,11 +30,16 @@ pub trait Syncs<R: Rack, A: Area, M: Metaslabs<R, A>> {
     ghost use Rattle.draid_pool.specs.declared.fault.Synced.{Synced};
     ghost use Rattle.draid_visits.specs.Readies.{KeepsParts};
 
-    /// What became of so many metaslabs and of the uberblock.
-    ghost relates: { ℕ → M → Uber A → Option (Result Synced SyncFault) → M → Uber A → Type 0 };
+    /// What became of so many metaslabs and of the uberblock, by who owns these numbers.
+    ghost relates: { (ℕ → Bool) → ℕ → M → Uber A → Option (Result Synced SyncFault) → M → Uber A → Type 0 };
 
     /// Commits the group that is open in so many metaslabs. Where it gives up there is no answer.
-    fn sync(&self, metaslabs: &mut M, uber: &mut Uber<A>, count: u32) -> Option<Result<Synced, SyncFault>>
+    fn sync(
+        &self,
+        metaslabs: &mut M,
+        uber: &mut Uber<A>,
+        count: u32,
+    ) -> Option<Result<Synced, SyncFault>>
         requires fits { M.fits metaslabs.old }
         requires some { 0 < count }
         requires few { count ≤ 64 }
@@ -52,7 +57,7 @@ pub trait Syncs<R: Rack, A: Area, M: Metaslabs<R, A>> {
         ensures whole { KeepsWhole R.Rack (M.owns metaslabs.old) (all_of (M.owns metaslabs.old)) (M.last metaslabs.old) (M.last metaslabs.new) }
         ensures keeps { KeepsParts (M.last metaslabs.old) (M.last metaslabs.new) }
         ensures rises { (it : Synced) → result ≡ Some (Ok it) → group_of (ubers.kept_of uber.old) < group_of (ubers.kept_of uber.new) }
-        ensures syncs { relates count metaslabs.old uber.old result metaslabs.new uber.new };
+        ensures syncs { relates (M.owns metaslabs.old) count metaslabs.old uber.old result metaslabs.new uber.new };
 }
 
 /// The groups of metaslabs that nobody else holds.
@@ -61,9 +66,14 @@ pub(crate) struct Alone;
 impl<R: Rack, A: Area, M: Metaslabs<R, A>> Syncs<R, A, M> for Alone {
     ghost use Rattle.draid_pool.specs.Grouping.{SyncsIn};
 
-    ghost relates = { λ count a u out b v. SyncsIn R.Rack A.Area M.last M.went M.shared (M.owns a) count a u out b v };
+    ghost relates = { λ owns count a u out b v. SyncsIn R.Rack A.Area M.last M.went M.shared owns count a u out b v };
 
-    fn sync(&self, metaslabs: &mut M, uber: &mut Uber<A>, count: u32) -> Option<Result<Synced, SyncFault>> {
+    fn sync(
+        &self,
+        metaslabs: &mut M,
+        uber: &mut Uber<A>,
+        count: u32,
+    ) -> Option<Result<Synced, SyncFault>> {
         sync_groups(metaslabs, uber, count)
     }
 }
@@ -93,7 +103,7 @@ pub(crate) fn make_ready<R: Rack, A: Area, M: Metaslabs<R, A>, S: Syncs<R, A, M>
     ensures beyond { NoneBeyond count (M.last metaslabs.new) }
     ensures whole { KeepsWhole R.Rack (M.owns metaslabs.old) (all_of (M.owns metaslabs.old)) (M.last metaslabs.old) (M.last metaslabs.new) }
     ensures kept { AllKeptFor Rebuild (M.last metaslabs.old) (M.last metaslabs.new) }
-    ensures readies { ReadiesBy R.Rack A.Area M.last M.went M.shared (M.owns metaslabs.old) (S.relates count) metaslab metaslabs.old uber.old result metaslabs.new uber.new }
+    ensures readies { ReadiesBy R.Rack A.Area M.last M.went M.shared (M.owns metaslabs.old) (S.relates (M.owns metaslabs.old) count) metaslab metaslabs.old uber.old result metaslabs.new uber.new }
 {
     'waits: loop {
         let op = metaslabs.hold(metaslab, ReadyOp { out: false });

@@ -63,7 +63,13 @@ pub fn rebuild<R: Rack, A: Area>(
         Ok(mending) => mending,
         Err(fault) => return Err(fault),
     };
-    match go_on(&Alone, &mut pool.metaslabs, &mut pool.uber, &geometry, &mut mending) {
+    match go_on(
+        &Alone,
+        &mut pool.metaslabs,
+        &mut pool.uber,
+        &geometry,
+        &mut mending,
+    ) {
         Some(answer) => answer,
         None => unreachable!(),
     }
@@ -91,7 +97,13 @@ pub fn scrub<R: Rack, A: Area>(
         Ok(mending) => mending,
         Err(fault) => return Err(fault),
     };
-    match go_on(&Alone, &mut pool.metaslabs, &mut pool.uber, &geometry, &mut mending) {
+    match go_on(
+        &Alone,
+        &mut pool.metaslabs,
+        &mut pool.uber,
+        &geometry,
+        &mut mending,
+    ) {
         Some(answer) => answer,
         None => unreachable!(),
     }

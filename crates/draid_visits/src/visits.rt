@@ -46,10 +46,12 @@ pub(crate) fn visit<R: Rack, A: Area, M: Metaslabs<R, A>, S: Syncs<R, A, M>>(
     ensures left { (limit : Option ℕ) → IsLeft limit progress.old → IsLeft limit progress.new }
     ensures paused { IfSome result (λ end. PausesAt end progress.new) }
     ensures from { result ≡ Some Visit.Paused → IsSome progress.new.from }
-    ensures visits { VisitBy R.Rack A.Area M.last M.went M.shared (M.owns metaslabs.old) (S.relates geometry.now.props.metaslabs) geometry.now kind metaslab metaslabs.old uber.old progress.old result metaslabs.new uber.new progress.new }
+    ensures visits { VisitBy R.Rack A.Area M.last M.went M.shared (M.owns metaslabs.old) (S.relates (M.owns metaslabs.old) geometry.now.props.metaslabs) geometry.now kind metaslab metaslabs.old uber.old progress.old result metaslabs.new uber.new progress.new }
 {
     match begin_visit(metaslabs, kind, metaslab) {
-        Begun::At { stripe } => run(by, metaslabs, uber, geometry, kind, metaslab, stripe, progress),
+        Begun::At { stripe } => run(
+            by, metaslabs, uber, geometry, kind, metaslab, stripe, progress,
+        ),
         Begun::Nothing => Some(Visit::Over),
         Begun::Stopped { why } => Some(Visit::Stopped { why }),
     }
@@ -85,7 +87,7 @@ fn run<R: Rack, A: Area, M: Metaslabs<R, A>, S: Syncs<R, A, M>>(
     ensures paused { IfSome result (λ end. PausesAt end progress.new) }
     ensures from { result ≡ Some Visit.Paused → IsSome progress.new.from }
     ensures runs { (made : Option (Result Unit SyncFault)) × (mid : M)
-        × RunsBy R.Rack A.Area M.last M.went M.shared (M.owns metaslabs.old) (S.relates geometry.now.props.metaslabs) kind metaslab metaslabs.old uber.old made mid uber.new
+        × RunsBy R.Rack A.Area M.last M.went M.shared (M.owns metaslabs.old) (S.relates (M.owns metaslabs.old) geometry.now.props.metaslabs) kind metaslab metaslabs.old uber.old made mid uber.new
         × LendsBehind R.Rack A.Area M.last M.went M.shared (M.owns metaslabs.old) geometry.now kind metaslab stripe mid progress.old made result metaslabs.new progress.new }
 {
     match make_run(by, metaslabs, uber, geometry, kind, metaslab) {
@@ -129,7 +131,7 @@ fn make_run<R: Rack, A: Area, M: Metaslabs<R, A>, S: Syncs<R, A, M>>(
     ensures may { MayVisit R.Rack A.Area geometry.now kind (M.last metaslabs.new) uber.new }
     ensures whole { KeepsWhole R.Rack (M.owns metaslabs.old) (all_of (M.owns metaslabs.old)) (M.last metaslabs.old) (M.last metaslabs.new) }
     ensures lends { result ≡ Some (Ok tt) → LeftSo metaslab (MayLendIn R.Rack kind) (M.last metaslabs.new) }
-    ensures runs { RunsBy R.Rack A.Area M.last M.went M.shared (M.owns metaslabs.old) (S.relates geometry.now.props.metaslabs) kind metaslab metaslabs.old uber.old result metaslabs.new uber.new }
+    ensures runs { RunsBy R.Rack A.Area M.last M.went M.shared (M.owns metaslabs.old) (S.relates (M.owns metaslabs.old) geometry.now.props.metaslabs) kind metaslab metaslabs.old uber.old result metaslabs.new uber.new }
 {
     match kind {
         PassKind::Rebuild => make_ready(by, metaslabs, uber, geometry.props.metaslabs, metaslab),

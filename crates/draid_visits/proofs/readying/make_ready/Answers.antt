@@ -1,4 +1,4 @@
-use Rattle.std.proofs.Common.{◌+◌, ◌∙◌, ℕ, suc, Bool, true, false, Some, arith, refl, ap, subst}
+use Rattle.std.proofs.Common.{◌+◌, ◌∙◌, ℕ, suc, Bool, true, false, None, Some, arith, refl, ap, subst}
 use Rattle.draid_uber.specs.Slots.{group_of}
 use Rattle.draid_uber.specs.Uber.{kept_of}
 use Rattle.draid_pool.specs.Drifts.{groups_number, passes_number}
@@ -90,6 +90,7 @@ returns-in_default g c =
     let held = ready_behind g.R.Rack g.A.Area m.last m.went m.shared owns c.requires.own c.args.count (m.owns l.metaslabs) i.owns c.hold-op.result.out false c.if-op.false l.metaslabs l.uber c.args.metaslab c.hold-op.new.self
     h.shard h.before h.after h.there h.drifts h.related h.is h.went c.requires.below i.ready i.beyond in
     let e = c.in_default.ensures in
+    let synced = subst (λ o. g.S.Syncs.relates o c.args.count c.hold-op.new.self l.uber None c.sync.new.metaslabs c.sync.new.uber) (c.hold-op.ensures.owns ∙ i.owns) e.syncs in
     record {
       fits = e.fits;
       locks = e.locks ∙ (c.hold-op.ensures.locks ∙ i.locks);
@@ -100,7 +101,7 @@ returns-in_default g c =
       whole = whole_then g.R.Rack owns (m.owns c.hold-op.new.self) (c.hold-op.ensures.owns ∙ i.owns) (m.last c.args.metaslabs.now) (m.last c.hold-op.new.self) (m.last c.sync.new.metaslabs) (λ table seq floor whole. held.whole table seq floor (i.whole table seq floor whole)) e.whole;
       kept = kept_sync g.R.Rack g.A.Area m.last m.went m.shared owns c.requires.passes c.args.metaslab c.args.metaslabs.now c.hold-op.new.self c.sync.new.metaslabs
           (kept_once g.R.Rack g.A.Area m.last m.went m.shared owns c.requires.passes c.args.metaslab false c.args.metaslabs.now l.metaslabs c.hold-op.new.self i.kept held.once) e.keeps;
-      readies = (i.waited.0, l.metaslabs, l.uber, c.hold-op.new.self, i.waited.1, held.once, e.syncs);
+      readies = (i.waited.0, l.metaslabs, l.uber, c.hold-op.new.self, i.waited.1, held.once, synced);
     }
 
 pub returns-in-Err : goal.returns-in-Err
@@ -113,6 +114,7 @@ returns-in-Err g c =
     let held = ready_behind g.R.Rack g.A.Area m.last m.went m.shared owns c.requires.own c.args.count (m.owns l.metaslabs) i.owns c.hold-op.result.out false c.if-op.false l.metaslabs l.uber c.args.metaslab c.hold-op.new.self
     h.shard h.before h.after h.there h.drifts h.related h.is h.went c.requires.below i.ready i.beyond in
     let e = c.in-Some.ensures in
+    let synced = subst (λ o. g.S.Syncs.relates o c.args.count c.hold-op.new.self l.uber (Some c.in-Some.came) c.sync.new.metaslabs c.sync.new.uber) (c.hold-op.ensures.owns ∙ i.owns) e.syncs in
     record {
       fits = e.fits;
       locks = e.locks ∙ (c.hold-op.ensures.locks ∙ i.locks);
@@ -123,7 +125,7 @@ returns-in-Err g c =
       whole = whole_then g.R.Rack owns (m.owns c.hold-op.new.self) (c.hold-op.ensures.owns ∙ i.owns) (m.last c.args.metaslabs.now) (m.last c.hold-op.new.self) (m.last c.sync.new.metaslabs) (λ table seq floor whole. held.whole table seq floor (i.whole table seq floor whole)) e.whole;
       kept = kept_sync g.R.Rack g.A.Area m.last m.went m.shared owns c.requires.passes c.args.metaslab c.args.metaslabs.now c.hold-op.new.self c.sync.new.metaslabs
           (kept_once g.R.Rack g.A.Area m.last m.went m.shared owns c.requires.passes c.args.metaslab false c.args.metaslabs.now l.metaslabs c.hold-op.new.self i.kept held.once) e.keeps;
-      readies = (i.waited.0, l.metaslabs, l.uber, c.hold-op.new.self, i.waited.1, held.once, subst (λ r. g.S.Syncs.relates c.args.count c.hold-op.new.self l.uber (Some r) c.sync.new.metaslabs c.sync.new.uber) c.in-Err.is e.syncs);
+      readies = (i.waited.0, l.metaslabs, l.uber, c.hold-op.new.self, i.waited.1, held.once, subst (λ r. g.S.Syncs.relates owns c.args.count c.hold-op.new.self l.uber (Some r) c.sync.new.metaslabs c.sync.new.uber) c.in-Err.is synced);
     }
 
 pub waits-smaller : goal.waits-smaller
@@ -150,6 +152,7 @@ waits-preserved g c =
     let held = ready_behind g.R.Rack g.A.Area m.last m.went m.shared owns c.requires.own c.args.count (m.owns l.metaslabs) i.owns c.hold-op.result.out false c.if-op.false l.metaslabs l.uber c.args.metaslab c.hold-op.new.self
     h.shard h.before h.after h.there h.drifts h.related h.is h.went c.requires.below i.ready i.beyond in
     let e = c.in-Some.ensures in
+    let synced = subst (λ o. g.S.Syncs.relates o c.args.count c.hold-op.new.self l.uber (Some c.in-Some.came) c.sync.new.metaslabs c.sync.new.uber) (c.hold-op.ensures.owns ∙ i.owns) e.syncs in
     record {
       fits = e.fits;
       locks = e.locks ∙ (c.hold-op.ensures.locks ∙ i.locks);
@@ -162,5 +165,5 @@ waits-preserved g c =
           (parts_there g.R.Rack g.A.Area m.last m.went m.shared owns c.requires.passes c.hold-op.new.self c.sync.new.metaslabs e.keeps) c.requires.below e.ready;
       kept = kept_sync g.R.Rack g.A.Area m.last m.went m.shared owns c.requires.passes c.args.metaslab c.args.metaslabs.now c.hold-op.new.self c.sync.new.metaslabs
           (kept_once g.R.Rack g.A.Area m.last m.went m.shared owns c.requires.passes c.args.metaslab false c.args.metaslabs.now l.metaslabs c.hold-op.new.self i.kept held.once) e.keeps;
-      waited = (suc i.waited.0, (l.metaslabs, l.uber, c.hold-op.new.self, c.in-Ok.field-0, i.waited.1, held.once, subst (λ r. g.S.Syncs.relates c.args.count c.hold-op.new.self l.uber (Some r) c.sync.new.metaslabs c.sync.new.uber) c.in-Ok.is e.syncs));
+      waited = (suc i.waited.0, (l.metaslabs, l.uber, c.hold-op.new.self, c.in-Ok.field-0, i.waited.1, held.once, subst (λ r. g.S.Syncs.relates owns c.args.count c.hold-op.new.self l.uber (Some r) c.sync.new.metaslabs c.sync.new.uber) c.in-Ok.is synced));
     }

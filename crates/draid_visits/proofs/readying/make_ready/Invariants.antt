@@ -21,7 +21,7 @@ invariant-waits g l = record {
   whole : KeepsWhole g.R.Rack (g.M.Metaslabs.owns l.initial.metaslabs) (all_of (g.M.Metaslabs.owns l.initial.metaslabs)) (g.M.Metaslabs.last l.initial.metaslabs) (g.M.Metaslabs.last l.metaslabs);
   rebuild : LeftSo l.metaslab (MayReadyIn g.R.Rack) (g.M.Metaslabs.last l.metaslabs);
   kept : AllKeptFor Rebuild (g.M.Metaslabs.last l.initial.metaslabs) (g.M.Metaslabs.last l.metaslabs);
-  waited : (n : ℕ) × Waited g.R.Rack g.A.Area g.M.Metaslabs.last g.M.Metaslabs.went g.M.Metaslabs.shared (g.M.Metaslabs.owns l.initial.metaslabs) (g.S.Syncs.relates l.count) l.metaslab n l.initial.metaslabs l.initial.uber l.metaslabs l.uber;
+  waited : (n : ℕ) × Waited g.R.Rack g.A.Area g.M.Metaslabs.last g.M.Metaslabs.went g.M.Metaslabs.shared (g.M.Metaslabs.owns l.initial.metaslabs) (g.S.Syncs.relates (g.M.Metaslabs.owns l.initial.metaslabs) l.count) l.metaslab n l.initial.metaslabs l.initial.uber l.metaslabs l.uber;
 }
 
 abbrev pub decreases-waits : goal.decreases-waits

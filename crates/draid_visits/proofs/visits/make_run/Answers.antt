@@ -27,7 +27,7 @@ returns-in-Rebuild g c =
     let m = g.M.Metaslabs in
     let owns = m.owns c.args.metaslabs.now in
     let e = c.make_ready.ensures in
-    let syncs = g.S.Syncs.relates c.args.geometry.now.props.metaslabs in
+    let syncs = g.S.Syncs.relates (g.M.Metaslabs.owns c.args.metaslabs.now) c.args.geometry.now.props.metaslabs in
     let kind = c.in-Rebuild.is in
     let old = c.args.metaslabs.now in
     let new = c.make_ready.new.metaslabs in
@@ -60,5 +60,5 @@ returns-in-Heal g c =
       may = c.requires.may;
       whole = λ table seq floor whole. whole;
       lends = λ is. may_lend g.R.Rack g.A.Area m.last c.args.geometry.now c.args.kind old u c.requires.may c.args.metaslab c.requires.below c.requires.pass (λ rebuild. never_both (sym kind ∙ rebuild));
-      runs = subst (λ k. RunsBy g.R.Rack g.A.Area m.last m.went m.shared owns (g.S.Syncs.relates c.args.geometry.now.props.metaslabs) k c.args.metaslab old u (Some (Ok tt)) old u) (sym kind) (refl, refl, refl);
+      runs = subst (λ k. RunsBy g.R.Rack g.A.Area m.last m.went m.shared owns (g.S.Syncs.relates (g.M.Metaslabs.owns c.args.metaslabs.now) c.args.geometry.now.props.metaslabs) k c.args.metaslab old u (Some (Ok tt)) old u) (sym kind) (refl, refl, refl);
     }
