@@ -10,6 +10,7 @@ pub mod MendBegun
 pub mod MendFails
 pub mod MendStays
 pub mod MendSteps
+pub mod MendSyncs
 pub mod MendThrough
 pub mod Mended
 pub mod Replied
