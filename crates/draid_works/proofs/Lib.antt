@@ -1,3 +1,4 @@
+pub mod BesideTable
 pub mod Done
 pub mod FilledIn
 pub mod FilledTable
@@ -9,6 +10,7 @@ pub mod MendBegun
 pub mod MendFails
 pub mod MendStays
 pub mod MendSteps
+pub mod MendSyncs
 pub mod MendThrough
 pub mod Mended
 pub mod Replied

@@ -28,7 +28,6 @@ use std::sync::Wait;
 use std::thread::Threads;
 
 /// The commands of a lane, and the replies to those that were done.
-#[derive(Drop)]
 pub struct LaneCommands<'c, F: Fn(&[Room]) -> Option<u32>> {
     pub alloc: Global,
     pub chooser: &'c Chooser<F>,
@@ -36,6 +35,20 @@ pub struct LaneCommands<'c, F: Fn(&[Room]) -> Option<u32>> {
     pub replies: Vec<Reply>,
     /// Whether an area failed, behind these replies.
     pub stopped: bool,
+}
+
+// (by hand, since the prover can't state how a list of them is dropped where it is derived)
+impl<'c, F: Fn(&[Room]) -> Option<u32>> Drop for LaneCommands<'c, F> {
+    fn drop(self) {
+        let LaneCommands {
+            alloc: _,
+            chooser: _,
+            lines,
+            replies,
+            stopped: _,
+        } = self;
+        let _lost = (lines, replies);
+    }
 }
 
 impl<'c, F: Fn(&[Room]) -> Option<u32>> LaneCommands<'c, F> {
@@ -185,20 +198,11 @@ fn do_commands<
     G: Gate,
     W: Wait + Threads + Sync,
     F: Fn(&[Room]) -> Option<u32>,
->(
-    job: &mut LaneCommands<'c, F>,
-    lane: Lane<'a, 'b, R, A, G, W>,
-) -> Lane<'a, 'b, R, A, G, W>
+>(job: &mut LaneCommands<'c, F>, lane: Lane<'a, 'b, R, A, G, W>) -> Lane<'a, 'b, R, A, G, W>
     requires may { MayDoCommands R.Rack A.Area F.Fn job.old.chooser.now job.old.lines.items job.old.replies lane }
     ensures does { DoesCommands R.Rack A.Area (choices_by (FnReturnsAt F.Fn job.old.chooser.now)) job.old.lines lane.entry job.new.lines job.new.replies.items job.new.stopped result }
 {
-    let (lane, stopped) = reply_to_each(
-        job.alloc,
-        lane,
-        job.chooser,
-        &job.lines,
-        &mut job.replies,
-    );
+    let (lane, stopped) = reply_to_each(job.alloc, lane, job.chooser, &job.lines, &mut job.replies);
     job.stopped = stopped;
     lane
 }
