@@ -6,7 +6,7 @@ ghost use Rattle.draid_session.specs.Choices.{choices_by};
 ghost use Rattle.draid_session.specs.Lanes as session;
 ghost use Rattle.draid_session.specs.State.{State};
 ghost use Rattle.draid_lanes.specs.Telling.{JobsTell};
-ghost use Rattle.draid_works.specs.Job.{DoesCommands};
+ghost use Rattle.draid_works.specs.Job.{DoesCommands, HasScrub};
 
 use crate::job::LaneCommands;
 use draid_area::Area;
@@ -19,6 +19,8 @@ use std::thread::Threads;
 impl<'c, F: Fn(&[Room]) -> Option<u32>> Says for LaneCommands<'c, F> {
     // Its replies are those to its commands, by its holds.
     ghost says = { λ job done x old holds new. session.Says x (choices_by (FnReturnsAt F.Fn job.chooser.now)) (map command_in job.lines.items) old holds done.replies.items new };
+
+    ghost rests = { λ job. HasScrub job.lines.items };
 
     ghost failed = { λ job. job.stopped };
 
@@ -37,5 +39,5 @@ pub fn lane_commands_tell<
     F: Fn(&[Room]) -> Option<u32> + 'c,
 >()
     ensures { (x : State) → length x.metaslabs ≡ x.geometry.props.metaslabs
-        → JobsTell R.Rack A.Area (λ job done. ⟦<LaneCommands<'c, F> as Says>⟧.says job done x) ⟦<LaneCommands<'c, F> as LaneJob<R, A, G, W>>⟧.relates x }
+        → JobsTell R.Rack A.Area (λ job done. ⟦<LaneCommands<'c, F> as Says>⟧.says job done x) ⟦<LaneCommands<'c, F> as Says>⟧.rests ⟦<LaneCommands<'c, F> as LaneJob<R, A, G, W>>⟧.relates x }
 {}
