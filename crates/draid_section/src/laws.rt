@@ -1,5 +1,5 @@
 //! What lanes that ran come to, where each job tells what it did.
-ghost use Rattle.std.specs.Prelude.{◌≡◌, List, length, map};
+ghost use Rattle.std.specs.Prelude.{◌≡◌, ℕ, List, Some, length, map, slice_get};
 ghost use Rattle.std.specs.declared.alloc.Global.{Global as Heap};
 ghost use Rattle.std.specs.declared.vec.Vec.{Vec};
 ghost use Rattle.draid_pool.specs.Pools.{Represents};
@@ -7,7 +7,6 @@ ghost use Rattle.draid_pool.specs.Whole.{IsWhole};
 ghost use Rattle.draid_pool.specs.declared.pool.Pool.{Pool as PoolOf};
 ghost use Rattle.draid_script.specs.Line.{Command};
 ghost use Rattle.draid_reply.specs.declared.reply.Reply.{Reply};
-ghost use Rattle.draid_session.specs.Choices.{Choices};
 ghost use Rattle.draid_session.specs.Holds.{Hold};
 ghost use Rattle.draid_session.specs.Lanes.{Says, Section};
 ghost use Rattle.draid_session.specs.Sections.{NoClash};
@@ -22,23 +21,25 @@ ghost use Rattle.draid_section.specs.Told.{SectionStood};
 use draid_area::Area;
 use draid_lanes::{Gate, LaneJob, Says};
 use draid_rack::Rack;
+use draid_session::Decides;
 use std::sync::Wait;
 
-/// Law: where lanes ran over a pool that stands for a state, and each job tells what its lane did from whatever it knew, the pool that is put together of them stands for the state to which all of it led,
-/// lock by lock in one order.
+/// Law: where lanes ran over a pool that stands for a state, and each job tells what its lane did from whatever it knew, and rests that on its own blocks alone, the pool that is put together of them stands for
+/// the state to which all of it led, lock by lock in one order.
 pub fn lanes_come_together<R: Rack, A: Area, G: Gate, W: Wait, J: LaneJob<R, A, G, W> + Says>()
     ensures { (pool : PoolOf R A) (lists : List (Vec NumberSpan Heap)) (jobs : Vec J Heap) (new : PoolOf R A) (done : Vec J Heap) (x : State)
         → IsWhole R.Rack A.Area pool → AreLaneLists lists → length jobs.items ≡ length lists
         → MayRunAll R.Rack A.Area J.needs pool lists jobs.items → KeepLanes R.Rack A.Area J.needs J.relates
         → RunsInLanes R.Rack A.Area J.relates pool lists jobs new done → IsWhole R.Rack A.Area new
-        → Represents R.Rack A.Area pool x → JobsTell R.Rack A.Area (λ job end. J.says job end x) J.relates x
+        → Represents R.Rack A.Area pool x → JobsTell R.Rack A.Area (λ job end. J.says job end x) J.rests J.relates x
+        → ((i : ℕ) (job : J) → slice_get jobs.items i ≡ Some job → J.rests job → ⊥)
         → SectionStood R.Rack A.Area (λ job end. J.says job end x) x jobs.items done.items new }
 {}
 
 /// Law: where the lanes' jobs tell that their replies are those to their commands, and no object is named by two lanes, what came together is a section of a session.
-pub fn told_sections_are_answered<R: Rack, A: Area, J: Says>()
-    ensures { (x : State) (choices : Choices) (commands : J → List Command) (replies : J → List Reply) (jobs done : List J) (new : PoolOf R A)
-        → ((job end : J) (old : Store) (holds : List Hold) (store : Store) → J.says job end x old holds store → Says x choices (commands job) old holds (replies end) store)
+pub fn told_sections_are_answered<R: Rack, A: Area, J: Says, D: Decides>(decider: &D)
+    ensures { (x : State) (commands : J → List Command) (replies : J → List Reply) (jobs done : List J) (new : PoolOf R A)
+        → ((job end : J) (old : Store) (holds : List Hold) (store : Store) → J.says job end x old holds store → Says x (D.choices decider.now) (commands job) old holds (replies end) store)
         → NoClash (map commands jobs) → (stood : SectionStood R.Rack A.Area (λ job end. J.says job end x) x jobs done new)
-        → Section x choices (map commands jobs) (map replies done) stood.reached }
+        → Section x (D.choices decider.now) (map commands jobs) (map replies done) stood.reached }
 {}

@@ -1,5 +1,5 @@
 -- The numbers that lanes hold, by their commands.
-use Rattle.std.proofs.Common.{◌≡◌, ◌≢◌, ◌∙◌, ◌++◌, ◌∷◌, ◌<◌, ◌≤◌, ◌+◌, ◌⊎◌, ◌||◌, ◌&&◌, ◌↔◌, arith, inl, inr, ℕ, zero, suc, Bool, true, false, List, [], Option, Some, None, length, map, nat_eq, nat_le, sym, ap, subst, refl, take, ⊎_elim, All}
+use Rattle.std.proofs.Common.{◌≡◌, ◌≢◌, ◌∙◌, ◌++◌, ◌∷◌, ◌<◌, ◌≤◌, ◌+◌, ◌⊎◌, ◌||◌, ◌&&◌, arith, inl, inr, ℕ, zero, suc, Bool, true, false, List, [], Some, None, length, map, nat_le, sym, ap, subst, refl, take, ⊎_elim, All}
 use Rattle.std.specs.Prelude.{slice_get}
 use Rattle.std.specs.declared.vec.Vec.{Vec}
 use Rattle.std.specs.declared.alloc.Global.{Global}
@@ -16,9 +16,9 @@ use Rattle.draid_session.specs.Sections.{ClashesMend, Mends, NoClash}
 use Rattle.draid_turn.specs.Lists.{one_if}
 use Rattle.draid_turn.specs.Numbers.{HoldsSome, holds, in_span, number_limit}
 use Rattle.draid_turn.specs.declared.span.Span.{Span}
-use Rattle.draid_holds.specs.Passes.{EachHoldsSome, shares}
+use Rattle.draid_holds.specs.Passes.{shares}
 use Rattle.draid_pool.specs.Drifts.{groups_number, passes_number}
-use Rattle.draid_tables.specs.Lists.{AreAllInRange, AreInRange, AreLaneLists, IsSpanOf, ListsEach, ListsNumbers, Wants, WantsOne, commands_of, commands_of_lanes, number_of_lane}
+use Rattle.draid_tables.specs.Lists.{AreAllInRange, AreLaneLists, IsSpanOf, ListsEach, ListsNumbers, Wants, WantsOne, commands_of, commands_of_lanes, number_of_lane}
 use Rattle.draid_tables.proofs.Owning.{push_cases, some_is, take_next}
 
 -- ---- one span
@@ -133,9 +133,9 @@ lists_more lane commands list next command span lists is more n = (
   λ has. ap (holds n) more ∙ (holds_push n list span ∙ ⊎_elim
       (λ (t : n ≡ number_of_lane lane). or_left (holds n list) (in_span n span) ((lists n).1 (inl t)))
       (λ (t : WantsOne (commands ++ command ∷ []) n). ⊎_elim
-        (λ (u : WantsOne commands n). or_left (holds n list) (in_span n span) ((lists n).1 (inr u)))
-        (λ (u : Wants command n). or_right (holds n list) (in_span n span) ((is n).1 u))
-        (wants_or commands command n t)) has),
+      (λ (u : WantsOne commands n). or_left (holds n list) (in_span n span) ((lists n).1 (inr u)))
+      (λ (u : Wants command n). or_right (holds n list) (in_span n span) ((is n).1 u))
+      (wants_or commands command n t)) has),
 )
 
 pub lists_same : (lane : ℕ) (commands : List Command) (list : List Span) (command : Command) → ListsNumbers lane commands list → IsSpanOf command None → ListsNumbers lane (commands ++ command ∷ []) list
@@ -144,9 +144,9 @@ lists_same lane commands list command lists none n = (
   λ has. ⊎_elim
       (λ (t : n ≡ number_of_lane lane). (lists n).1 (inl t))
       (λ (t : WantsOne (commands ++ command ∷ []) n). ⊎_elim
-        (λ (u : WantsOne commands n). (lists n).1 (inr u))
-        (λ (u : Wants command n). absurd (none n u))
-        (wants_or commands command n t)) has,
+      (λ (u : WantsOne commands n). (lists n).1 (inr u))
+      (λ (u : Wants command n). absurd (none n u))
+      (wants_or commands command n t)) has,
 )
 
 -- the commands of lines up to the next one
@@ -275,27 +275,27 @@ module _ (lanes : List (Vec Line Global)) (lists : List (Vec Span Global)) (few 
   both_want : (i j n : ℕ) (a b : Vec Line Global) → i < j → slice_get lanes i ≡ Some a → slice_get lanes j ≡ Some b → WantsOne (commands_of a.items) n → WantsOne (commands_of b.items) n → ⊥
   both_want i j n a b below there other w v = ⊎_elim
       (λ (t : ((objects_in w.command).0 ≤ n) × (n < (objects_in w.command).0 + (objects_in w.command).1)). ⊎_elim
-        (λ (u : ((objects_in v.command).0 ≤ n) × (n < (objects_in v.command).0 + (objects_in v.command).1)).
-          apart n (record {
-            i = i;
-            j = j;
-            before = below;
-            first = record { lane = commands_of a.items; there = get_map (λ (lines : Vec Line Global). commands_of lines.items) lanes i a there; k = w.k; command = w.command; in_it = w.in_it; from = t.0; to = t.1 };
-            other = record { lane = commands_of b.items; there = get_map (λ (lines : Vec Line Global). commands_of lines.items) lanes j b other; k = v.k; command = v.command; in_it = v.in_it; from = u.0; to = u.1 };
-          }))
-        (λ (u : Mends v.command × (n ≡ passes_number)).
-          (let far = t.1 in let most = objects_below w.command (in_range i a w.command w.k there w.in_it) in let passes = u.1 in absurd (omega (arith, far, most, passes)))) v.wants)
+      (λ (u : ((objects_in v.command).0 ≤ n) × (n < (objects_in v.command).0 + (objects_in v.command).1)).
+      apart n (record {
+        i = i;
+        j = j;
+        before = below;
+        first = record { lane = commands_of a.items; there = get_map (λ (lines : Vec Line Global). commands_of lines.items) lanes i a there; k = w.k; command = w.command; in_it = w.in_it; from = t.0; to = t.1 };
+        other = record { lane = commands_of b.items; there = get_map (λ (lines : Vec Line Global). commands_of lines.items) lanes j b other; k = v.k; command = v.command; in_it = v.in_it; from = u.0; to = u.1 };
+      }))
+      (λ (u : Mends v.command × (n ≡ passes_number)).
+      (let far = t.1 in let most = objects_below w.command (in_range i a w.command w.k there w.in_it) in let passes = u.1 in absurd (omega (arith, far, most, passes)))) v.wants)
       (λ (t : Mends w.command × (n ≡ passes_number)). ⊎_elim
-        (λ (u : ((objects_in v.command).0 ≤ n) × (n < (objects_in v.command).0 + (objects_in v.command).1)).
-          (let far = u.1 in let most = objects_below v.command (in_range j b v.command v.k other v.in_it) in let passes = t.1 in absurd (omega (arith, far, most, passes))))
-        (λ (u : Mends v.command × (n ≡ passes_number)).
-          one (record {
-            i = i;
-            j = j;
-            before = below;
-            first = record { lane = commands_of a.items; there = get_map (λ (lines : Vec Line Global). commands_of lines.items) lanes i a there; k = w.k; command = w.command; in_it = w.in_it; mends = t.0 };
-            other = record { lane = commands_of b.items; there = get_map (λ (lines : Vec Line Global). commands_of lines.items) lanes j b other; k = v.k; command = v.command; in_it = v.in_it; mends = u.0 };
-          })) v.wants) w.wants
+      (λ (u : ((objects_in v.command).0 ≤ n) × (n < (objects_in v.command).0 + (objects_in v.command).1)).
+      (let far = u.1 in let most = objects_below v.command (in_range j b v.command v.k other v.in_it) in let passes = t.1 in absurd (omega (arith, far, most, passes))))
+      (λ (u : Mends v.command × (n ≡ passes_number)).
+      one (record {
+        i = i;
+        j = j;
+        before = below;
+        first = record { lane = commands_of a.items; there = get_map (λ (lines : Vec Line Global). commands_of lines.items) lanes i a there; k = w.k; command = w.command; in_it = w.in_it; mends = t.0 };
+        other = record { lane = commands_of b.items; there = get_map (λ (lines : Vec Line Global). commands_of lines.items) lanes j b other; k = v.k; command = v.command; in_it = v.in_it; mends = u.0 };
+      })) v.wants) w.wants
 
   never_both : (n i j : ℕ) (a b : Vec Span Global) → i < j → slice_get lists i ≡ Some a → slice_get lists j ≡ Some b → holds n a.items ≡ true → holds n b.items ≡ true → ⊥
   never_both n i j a b below there other held too =
@@ -305,11 +305,11 @@ module _ (lanes : List (Vec Line Global)) (lists : List (Vec Span Global)) (few 
       let many = each.many in
       ⊎_elim
       (λ (t : n ≡ number_of_lane i). ⊎_elim
-        (λ (u : n ≡ number_of_lane j). absurd (omega (arith, t, u, below)))
-        (λ (u : WantsOne (commands_of q.0.items) n). own_apart i j n q.0 (omega (arith, below, far, many, few)) t q.1 u) q.2)
+      (λ (u : n ≡ number_of_lane j). absurd (omega (arith, t, u, below)))
+      (λ (u : WantsOne (commands_of q.0.items) n). own_apart i j n q.0 (omega (arith, below, far, many, few)) t q.1 u) q.2)
       (λ (t : WantsOne (commands_of p.0.items) n). ⊎_elim
-        (λ (u : n ≡ number_of_lane j). own_apart j i n p.0 (omega (arith, far, many, few)) u p.1 t)
-        (λ (u : WantsOne (commands_of q.0.items) n). both_want i j n p.0 q.0 below p.1 q.1 t u) q.2) p.2
+      (λ (u : n ≡ number_of_lane j). own_apart j i n p.0 (omega (arith, far, many, few)) u p.1 t)
+      (λ (u : WantsOne (commands_of q.0.items) n). both_want i j n p.0 q.0 below p.1 q.1 t u) q.2) p.2
 
   inside : (n : ℕ) → 1 ≤ shares n lists → (n ≢ groups_number) × (n + 1 < number_limit)
   inside n some =
@@ -320,9 +320,9 @@ module _ (lanes : List (Vec Line Global)) (lists : List (Vec Span Global)) (few 
       ⊎_elim
       (λ (t : n ≡ number_of_lane z.0). ((λ is. omega (arith, is, t, far, many, few)), omega (arith, t, far, many, few)))
       (λ (t : WantsOne (commands_of p.0.items) n). ⊎_elim
-        (λ (u : n < OBJECTS). ((λ is. omega (arith, is, u)), omega (arith, u)))
-        (λ (u : Mends t.command × (n ≡ passes_number)). (let passes = u.1 in ((λ is. omega (arith, is, passes)), omega (arith, passes))))
-        (wants_small t.command n (in_range z.0 p.0 t.command t.k p.1 t.in_it) t.wants)) p.2
+      (λ (u : n < OBJECTS). ((λ is. omega (arith, is, u)), omega (arith, u)))
+      (λ (u : Mends t.command × (n ≡ passes_number)). (let passes = u.1 in ((λ is. omega (arith, is, passes)), omega (arith, passes))))
+      (wants_small t.command n (in_range z.0 p.0 t.command t.k p.1 t.in_it) t.wants)) p.2
 
   has_own : (i : ℕ) (list : Vec Span Global) → slice_get lists i ≡ Some list → HoldsSome list.items
   has_own i list there =

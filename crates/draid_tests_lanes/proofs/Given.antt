@@ -1,6 +1,7 @@
 -- Commands that lanes with lists of numbers may be given, and what their jobs keep.
 use Rattle.std.proofs.Common.{◌≡◌, ◌∙◌, ◌++◌, ◌∷◌, ◌<◌, ◌≤◌, ◌+◌, ◌-◌, ◌⊎◌, inl, inr, ℕ, zero, suc, Bool, true, false, ◌||◌, List, [], Option, Some, length, ap, arith, refl, subst, sym, ⊎_elim}
 use Rattle.std.proofs.lemmas.Bool.Decides.{nat_tests}
+use Rattle.std.proofs.lemmas.List.{length-append}
 use Rattle.std.specs.Prelude.{slice_get, nat_le, ◌&&◌}
 use Rattle.std.specs.Borrow.{Bor}
 use Rattle.std.specs.Fn.{Shared}
@@ -95,6 +96,9 @@ pub given_more : (owns : ℕ → Bool) (lines lines' : List Line) (line : Line) 
 given_more owns lines lines' line given also more i other there =
     ⊎_elim (λ (t : slice_get lines i ≡ Some other). given i other t) (λ (t : (i ≡ length lines) × (line ≡ other)). subst (MayBeGiven owns) t.1 also)
     (at_push lines line other i (ap (λ ls. slice_get ls i) (sym more) ∙ there))
+
+pub many_more : {X : Type 0} (xs xs' : List X) (x : X) (many : ℕ) → length xs ≡ many → xs' ≡ xs ++ x ∷ [] → length xs' ≡ many + 1
+many_more xs xs' x many is more = ap length more ∙ length-append xs (x ∷ []) ∙ ap (λ n. n + 1) is
 
 some_is : {X : Type 0} (o : Option X) (x y : X) → o ≡ Some x → o ≡ Some y → x ≡ y
 some_is o x y a b = (let h = sym a ∙ b in cc)

@@ -1,4 +1,4 @@
-ghost use Rattle.std.specs.Prelude.{◌≡◌, ◌<◌, ◌≤◌, ℕ, IfOk, IfSome, IsTrue, true, length};
+ghost use Rattle.std.specs.Prelude.{◌≡◌, ◌<◌, ◌≤◌, ◌+◌, ℕ, IfOk, IfSome, IsTrue, true, length};
 ghost use Rattle.draid_choose.specs.Rooms.{IsChooser};
 ghost use Rattle.draid_script.specs.Line.{IsInRange, command_in};
 ghost use Rattle.draid_turn.specs.Numbers.{holds};
@@ -53,11 +53,15 @@ fn lines_of(alloc: Global, numbers: &[Span], script: &str) -> Option<Vec<Line>>
 {
     let mut lines = Vec::new(alloc);
     for text in script.split_terminator('\n') {
-        let line = parse_line(alloc, text.as_bytes()).ok()?;
+        let Ok(line) = parse_line(alloc, text.as_bytes()) else {
+            return None;
+        };
         if !is_of_lane(numbers, &line) {
             return None;
         }
-        lines.push(line).ok()?;
+        let Ok(()) = lines.push(line) else {
+            return None;
+        };
     }
     Some(lines)
 }
@@ -92,8 +96,10 @@ pub fn jobs_of<'c, F: Fn(&[Room]) -> Option<u32>>(
     }
     let mut jobs = Vec::new(alloc);
     for lane in 0..numbers.len() {
-        jobs.push(job_of(alloc, chooser, &numbers[lane], scripts[lane])?)
-            .ok()?;
+        let job = job_of(alloc, chooser, &numbers[lane], scripts[lane])?;
+        let Ok(()) = jobs.push(job) else {
+            return None;
+        };
     }
     Some(jobs)
 }

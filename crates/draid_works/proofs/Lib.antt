@@ -1,3 +1,4 @@
+pub mod BesideTable
 pub mod Done
 pub mod FilledIn
 pub mod FilledTable

@@ -32,6 +32,9 @@ use Rattle.draid_works.proofs.SwitchSays.{switch_holds}
 two_changed : (base come reached : State) → base ≡ record come { metaslabs = base.metaslabs } → come ≡ record reached { metaslabs = come.metaslabs } → base ≡ record reached { metaslabs = base.metaslabs }
 two_changed base come reached one two = one ∙ ap (λ (s : State). record s { metaslabs = base.metaslabs }) two
 
+reserve_idle : {R A : Type 0} (rack : racks.Ghosts R) (n : ℕ) (before after : Shard R A) → ReservesOne rack before (Ok tt) after → before.closing ≡ None → after.closing ≡ None
+reserve_idle rack n before after r idle = r.keeps.groups.closing ∙ idle
+
 module _ {R A G W : Type 0} (rack : racks.Ghosts R) (area : areas.Ghosts A) (x z : State) (owns : ℕ → Bool) (own : owns groups_number ≡ true) (count : ℕ) (all : count ≡ x.geometry.props.metaslabs) (some : 0 < count) (many : length z.metaslabs ≡ count) (leaf : ℕ) (offline : Bool) where
   -- how often it was tried is how often it began
   tried_begun : (n : ℕ) (a b : Locked R A G W) (u v : Uber A) → TriedOn rack area lane_last (LaneWent rack area) true owns count leaf offline n a u b v → BegunOn rack area lane_last (LaneWent rack area) true owns count n a u b v
@@ -51,9 +54,6 @@ module _ {R A G W : Type 0} (rack : racks.Ghosts R) (area : areas.Ghosts A) (x z
       let us = finish_holds rack area x owns own count all a b u v (Some (Ok tt)) it in
       let f = finish_lead rack area x z owns own count all some many a u at.ready at.beyond b v (Ok tt) z it at.governs in
       leads_then rack area x z owns own count all some many z us (look_hold v ∷ []) b b v v f (look_lead rack area x z owns own count all some many f.reached b v f.governs)
-
-  reserve_idle : (n : ℕ) (before after : Shard R A) → ReservesOne rack before (Ok tt) after → before.closing ≡ None → after.closing ≡ None
-  reserve_idle n before after r idle = r.keeps.groups.closing ∙ idle
 
   abbrev Looked : Bool → Locked R A G W → Locked R A G W → Type 0
   Looked there a b = Once rack area x owns (SeesLeaf leaf there) a 0 b
@@ -75,7 +75,7 @@ module _ {R A G W : Type 0} (rack : racks.Ghosts R) (area : areas.Ghosts A) (x z
 
     late_idle : EachIs count (λ (s : Shard R A). s.closing ≡ None) (lane_last late)
     late_idle =
-        round_kept rack area x owns count (λ (s : Shard R A). s.closing ≡ None) (λ s before d none. idle_drifts rack area owns own s before d none) (λ n before after. ReservesOne rack before (Ok tt) after) reserve_idle count 0 mid late (let low : count ≤ count = omega arith in low) reserves
+        round_kept rack area x owns count (λ (s : Shard R A). s.closing ≡ None) (λ s before d none. idle_drifts rack area owns own s before d none) (λ n before after. ReservesOne rack before (Ok tt) after) (reserve_idle rack) count 0 mid late (let low : count ≤ count = omega arith in low) reserves
         (once_kept rack area x owns count (λ (s : Shard R A). s.closing ≡ None) (λ s before d none. idle_drifts rack area owns own s before d none) (SeesLeaf leaf true) (λ before after sees none. ap (λ (s : Shard R A). s.closing) sees.same ∙ none) a 0 mid some look idle)
 
     abbrev so : Switched rack area x come owns own count (come_many rack area x z a v t.reached t.governs count many (λ m less. (let s = idle m less in (s.0, s.1)))) leaf offline b v

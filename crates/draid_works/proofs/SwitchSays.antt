@@ -188,12 +188,12 @@ module _ {R A G W : Type 0} (rack : racks.Ghosts R) (area : areas.Ghosts A) (x :
         }
       where
         is_arm : (b : Bool) → b ≡ true → (IsTrue b → IsLeafArm h.before.slots leaf) → IsLeafArm h.before.slots leaf
-        is_arm true so to = to tt
+        is_arm true so to = to refl
         is_arm false so to = absurd (cc)
 
         not_arm : (b : Bool) → b ≡ false → (IsLeafArm h.before.slots leaf → IsTrue b) → IsLeafArm h.before.slots leaf → ⊥
         not_arm true so to is = absurd (cc)
-        not_arm false so to is = to is
+        not_arm false so to is = (let yes_it_is : false ≡ true = to is in absurd (cc))
 
     -- ---- by the answer
 
@@ -247,11 +247,11 @@ module _ {R A G W : Type 0} (rack : racks.Ghosts R) (area : areas.Ghosts A) (x :
           subst (λ l. LeavesLooks l (looks_at 0 ys ++ z.0)) (sym d.are) (in_front rack area x owns own count all met ys long closed d.back z.0 z.1),
           unfinished x leaf offline stop why (looks_at 0 ys ++ z.0) is z.2,
         ))
-    switch_said b c u v (Err why) ready stage (inr (at, finishes, (inl (no, is)))) =
+    switch_said b c u v (Err why) ready stage (inr (at, finishes, (inl (look, is)))) =
         let us = finish_holds rack area x owns own count all b at u v (Some (Ok tt)) finishes in
         let l = then_looks at us (finish_said rack area x owns own count all met b at u v (Ok tt) some ready stage finishes) in
-        let r = seen_said rack area x owns own count all leaf offline false at c no l.came in
-        said_as rack area x old c (us ++ look_hold v ∷ []) (BeginsBut at v (IsOneOf IsLookOnly)) (SwitchBut x leaf offline (Err why)) (begins_said at c v us (IsOneOf IsLookOnly) l r) (λ hs d. refused_but at c v why hs is no d)
+        let r = seen_said rack area x owns own count all leaf offline false at c look l.came in
+        said_as rack area x old c (us ++ look_hold v ∷ []) (BeginsBut at v (IsOneOf IsLookOnly)) (SwitchBut x leaf offline (Err why)) (begins_said at c v us (IsOneOf IsLookOnly) l r) (λ hs d. refused_but at c v why hs is look d)
     switch_said b c u v (Err why) ready stage (inr (at, finishes, (inr (mid, short, look, stops, is)))) =
         let us = finish_holds rack area x owns own count all b at u v (Some (Ok tt)) finishes in
         let l = then_looks at us (finish_said rack area x owns own count all met b at u v (Ok tt) some ready stage finishes) in

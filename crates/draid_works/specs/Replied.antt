@@ -26,10 +26,11 @@ use Rattle.draid_visits.specs.declared.rebuilding.MendFault.{MendFault}
 use Rattle.draid_visits.specs.declared.rebuilding.Mended.{Mended}
 use Rattle.draid_lanes.specs.Governing.{lane_last}
 use Rattle.draid_lanes.specs.Lanes.{table_of}
+use Rattle.draid_lanes.specs.Locks.{owned_by}
 use Rattle.draid_lanes.specs.Waits.{SyncedIn}
 use Rattle.draid_lanes.specs.declared.lane.Lane.{Lane}
 use Rattle.draid_works.specs.Failing.{AreaFailedIn}
-use Rattle.draid_works.specs.Lanes.{LaneCarries, LaneKnows, LaneKnowsLater, TeachesTable}
+use Rattle.draid_works.specs.Lanes.{LaneCarries, LaneKnows, LaneKnowsLater, TeachesOwn}
 use Rattle.draid_works.specs.Mended.{MendedIn}
 use Rattle.draid_works.specs.Switched.{SwitchedIn}
 use Rattle.draid_works.specs.Waiting.{LooksBut}
@@ -49,7 +50,7 @@ module _ {R A G W : Type 0} (rack : racks.Ghosts R) (area : areas.Ghosts A) wher
   -- led to one that it knows. Its pass of the uberblock's lock is as it was.
   pub record DoesOnObjects (command : Command) (reply : Reply) (does : State → List Hold → Store → Type 0) (old new : Lane R A G W) : Type 0 where
     pub pass : new.pass ≡ old.pass
-    pub teaches : TeachesTable command reply (table_of old) (table_of new)
+    pub teaches : TeachesOwn (owned_by old.metaslabs.passes.items) command reply (table_of old) (table_of new)
     pub step : (x : State) → x.geometry ≡ old.geometry → LaneKnows rack area old x → LaneCarries rack area old new x (LooksBut (does x))
 
   -- what is done is what a session says of the reply

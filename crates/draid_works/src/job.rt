@@ -28,7 +28,6 @@ use std::sync::Wait;
 use std::thread::Threads;
 
 /// The commands of a lane, and the replies to those that were done.
-#[derive(Drop)]
 pub struct LaneCommands<'c, F: Fn(&[Room]) -> Option<u32>> {
     pub alloc: Global,
     pub chooser: &'c Chooser<F>,
@@ -36,6 +35,20 @@ pub struct LaneCommands<'c, F: Fn(&[Room]) -> Option<u32>> {
     pub replies: Vec<Reply>,
     /// Whether an area failed, behind these replies.
     pub stopped: bool,
+}
+
+// (by hand, since the prover can't state how a list of them is dropped where it is derived)
+impl<'c, F: Fn(&[Room]) -> Option<u32>> Drop for LaneCommands<'c, F> {
+    fn drop(self) {
+        let LaneCommands {
+            alloc: _,
+            chooser: _,
+            lines,
+            replies,
+            stopped: _,
+        } = self;
+        let _lost = (lines, replies);
+    }
 }
 
 impl<'c, F: Fn(&[Room]) -> Option<u32>> LaneCommands<'c, F> {
