@@ -17,6 +17,7 @@ use Rattle.draid_pool.specs.declared.fault.SyncFault.{SyncFault}
 use Rattle.draid_pool.specs.declared.fault.Synced.{Synced}
 use Rattle.draid_pool.proofs.Drifting.{same_pass}
 use Rattle.draid_pool.proofs.Holding.{some_same}
+use Rattle.draid_pool.proofs.Rises.{records_same}
 use Rattle.draid_pool.proofs.RoundSteps.{held_by}
 use Rattle.draid_pool.proofs.ShardSteps.{state_goes}
 use Rattle.draid_pool.proofs.SyncWhole.{KeepsQuiet, beyond_on, find_ready, quiet_on}
@@ -36,6 +37,7 @@ module _ {R A : Type 0} (rack : racks.Ghosts R) (area : areas.Ghosts A) where
     groups = λ other. r.groups;
     passes = λ is. pass_may_go is;
     others = record { each = λ key own. inl (r.blocks.entries.held key) };
+    areas = records_same area.faults x y r.areas_are;
     state = state_goes rack area (is_other (Some passes_number)) x y _ r.goes;
   }
 
