@@ -1,8 +1,6 @@
 -- What a lane's commands did, one after another, told in a session's words from whatever the lane knew.
-use Rattle.std.proofs.Common.{◌≡◌, ◌<◌, ◌++◌, ◌∷◌, ◌∙◌, [], ℕ, zero, suc, Bool, true, false, List, Option, Some, Result, Ok, Err, arith, ap, refl, subst, sym, length, map}
-use Rattle.std.specs.Prelude.{slice_get}
+use Rattle.std.proofs.Common.{◌≡◌, ◌∷◌, ◌∙◌, [], ℕ, suc, Bool, true, false, List, Result, Ok, Err, arith, ap, refl, subst, sym, length, map}
 use Rattle.draid_names.specs.declared.fault.Failed.{Failed}
-use Rattle.draid_names.specs.declared.pass_kind.PassKind.TheVariants.{Heal, Rebuild}
 use Rattle.draid_rack.specs.declared.Rack as racks
 use Rattle.draid_area.specs.declared.Area as areas
 use Rattle.draid_script.specs.Line.{Command, FillObjects, FreeObject, ReadObject, RebuildPool, ScrubPool, SumObjects, SyncPool, TakeOffline, TakeOnline, WriteObject, command_in}
