@@ -24,7 +24,7 @@ module _ {J : Type 0} (x : State) (choices : Choices) (says : J → J → Store 
   -- each lane ran its commands
   lanes_ran : (dids : List LaneDid) (jobs done : List J) → length dids ≡ length jobs → length done ≡ length jobs
       → ((i : ℕ) (did : LaneDid) → slice_get dids i ≡ Some did
-        → (job : J) × (end : J) × (slice_get jobs i ≡ Some job) × (slice_get done i ≡ Some end) × says job end x.store did.holds did.store × (did.store.changes ≡ did.since ++ x.store.changes))
+      → (job : J) × (end : J) × (slice_get jobs i ≡ Some job) × (slice_get done i ≡ Some end) × says job end x.store did.holds did.store × (did.store.changes ≡ did.since ++ x.store.changes))
       → LanesRan x choices (map lane_of dids) (map commands jobs) (map replies done)
   unfolding lane_of
   lanes_ran [] [] [] many other each = tt
