@@ -1,6 +1,6 @@
 /// What a job is said to have done, in the words of a session.
 pub trait Says {
-    ghost use Rattle.std.specs.Prelude.{List};
+    ghost use Rattle.std.specs.Prelude.{◌≡◌, Bool, List};
     ghost use Rattle.draid_session.specs.Holds.{Hold};
     ghost use Rattle.draid_session.specs.State.{State, Store};
 
@@ -9,4 +9,11 @@ pub trait Says {
 
     /// Whether that rests on the bytes of all blocks, whoever's they are.
     ghost rests: { Self → Type 0 };
+
+    /// Whether an area that failed ended it.
+    ghost failed: { Self → Bool };
+
+    /// Whether an area that failed ended it. (A trait's implementation for a type with a closure wants a call.)
+    fn has_failed(&self) -> bool
+        ensures { result ≡ failed self.now };
 }

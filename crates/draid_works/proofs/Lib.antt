@@ -2,12 +2,15 @@ pub mod BesideTable
 pub mod Done
 pub mod FilledIn
 pub mod FilledTable
+pub mod Grown
 pub mod LaneStays
+pub mod LaneTells
 pub mod MendArms
 pub mod MendBegun
 pub mod MendFails
 pub mod MendStays
 pub mod MendSteps
+pub mod MendSyncs
 pub mod MendThrough
 pub mod Mended
 pub mod Replied
@@ -26,5 +29,6 @@ pub mod SyncFails
 pub mod SyncStays
 pub mod SyncSteps
 pub mod TaughtTable
+pub mod TurnSays
 pub mod Waited
 pub mod Whole

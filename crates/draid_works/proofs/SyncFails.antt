@@ -10,7 +10,7 @@ use Rattle.draid_uber.specs.Uber.{count_of}
 use Rattle.draid_uber.specs.declared.uber.Uber.{Uber}
 use Rattle.draid_pool.specs.Failing.{RecordsRose}
 use Rattle.draid_pool.specs.GoingOn.{BeginsIn, GoesOnIn}
-use Rattle.draid_pool.specs.Grouping.{CommitsIn, FinishesIn, SealsBy, SyncsIn, UberNames}
+use Rattle.draid_pool.specs.Grouping.{CommitsIn, FinishesIn, SealsBy, UberNames}
 use Rattle.draid_pool.specs.Rounds.{HeldOnce}
 use Rattle.draid_pool.specs.declared.fault.SyncFault.{SyncFault}
 use Rattle.draid_pool.specs.declared.fault.SyncFault.TheVariants as sync
@@ -25,7 +25,7 @@ use Rattle.draid_lanes.specs.declared.uber.UberCell.{UberCell}
 use Rattle.draid_works.specs.Failing.{AreaFailedIn, AreaFails, HoldsTo, RecordsFail}
 use Rattle.draid_works.proofs.LaneStays.{lane_later}
 use Rattle.draid_lanes.proofs.OwnGoes.{OwnGoes, own_seals}
-use Rattle.draid_works.proofs.SyncSteps.{begins_goes, begun_goes, closes_goes, finds_goes, finish_goes, rest_goes, round_goes, sync_goes, waits_goes}
+use Rattle.draid_works.proofs.SyncSteps.{begins_goes, begun_goes, closes_goes, finds_goes, finish_goes, rest_goes, round_goes, synced_goes, waits_goes}
 
 -- ---- the uberblock's count
 
@@ -62,13 +62,6 @@ module _ {R A S : Type 0} (rack : racks.Ghosts R) (area : areas.Ghosts A) (last 
   finish_later count a b u v (Some (Err why)) (group, mid, found, commits) = commits_later group count mid b u v (Some (Err why)) commits
   finish_later count a b u v None (group, mid, found, commits) = commits_later group count mid b u v None commits
 
-  pub sync_later : (count : ℕ) (a b : S) (u v : Uber A) (out : Option (Result Synced SyncFault)) → SyncsIn rack area last went shared mine count a u out b v → own_count area u ≤ own_count area v
-  sync_later count a b u v (Some (Ok it)) (mid, w, finishes, is, commits) = both u w v (finish_later count a mid u w (Some (Ok tt)) finishes) (commits_later it.group count mid b w v (Some (Ok it.thin)) commits)
-  sync_later count a b u v (Some (Err why)) (inl finishes) = finish_later count a b u v (Some (Err why)) finishes
-  sync_later count a b u v (Some (Err why)) (inr (mid, w, group, finishes, is, commits)) = both u w v (finish_later count a mid u w (Some (Ok tt)) finishes) (commits_later group count mid b w v (Some (Err why)) commits)
-  sync_later count a b u v None (inl finishes) = finish_later count a b u v None finishes
-  sync_later count a b u v None (inr (mid, w, group, finishes, is, commits)) = both u w v (finish_later count a mid u w (Some (Ok tt)) finishes) (commits_later group count mid b w v None commits)
-
   begin_later : (count : ℕ) (a b : S) (u v : Uber A) (out : Option (Result Syncing SyncFault)) → BeginsIn rack area last went shared mine count a u out b v → own_count area u ≤ own_count area v
   begin_later count a b u v (Some (Ok begun)) (mid, finishes, first, closes) = finish_later count a mid u v (Some (Ok tt)) finishes
   begin_later count a b u v (Some (Err why)) (inl finishes) = finish_later count a b u v (Some (Err why)) finishes
@@ -88,6 +81,23 @@ module _ {R A S : Type 0} (rack : racks.Ghosts R) (area : areas.Ghosts A) (last 
       let first = waits_later count n a mid old now u w front in
       let more = still_later area w v goes.1 in
       omega (arith, first, more)
+
+  goes_later : (count : ℕ) (a b : S) (old new : Syncing) (u v : Uber A) (result : Result Synced SyncFault) → GoesOnIn rack area last went shared mine count a old u (Some result) b new v → own_count area u ≤ own_count area v
+  goes_later count a b old new u v (Ok it) (late, seals, group_is, thin_is, names, commits) = names_later area old.group u v (Ok tt) names
+  goes_later count a b old new u v (Err why) (inl (seals, same)) = still_later area u v same
+  goes_later count a b old new u v (Err why) (inr (seals, names)) = names_later area old.group u v (Err why) names
+
+  pub synced_later : (count : ℕ) (a b : S) (u v : Uber A) (result : Result Synced SyncFault) → SyncsThrough rack area last went shared mine count a u result b v → own_count area u ≤ own_count area v
+  synced_later count a b u v result (inl (mid, begun, w, begins, t)) =
+      let up = begun_later count begins.waits a begins.mid u begins.w begins.front in
+      let on = begin_later count begins.mid mid begins.w w (Some (Ok begun)) begins.begins in
+      let high = waits_later count t.waits mid t.mid begun t.now w t.w t.front in
+      let end = goes_later count t.mid b t.now t.new t.w v result t.goes in
+      omega (arith, up, on, high, end)
+  synced_later count a b u v result (inr (why, is, begins)) =
+      let up = begun_later count begins.waits a begins.mid u begins.w begins.front in
+      let on = begin_later count begins.mid b begins.w v (Some (Err why)) begins.begins in
+      omega (arith, up, on)
 
   -- ---- holds on the way
 
@@ -125,8 +135,8 @@ module _ {R A S : Type 0} (rack : racks.Ghosts R) (area : areas.Ghosts A) (last 
   pub finish_reach : (count : ℕ) (a b : S) (u v : Uber A) (out : Option (Result Unit SyncFault)) → FinishesIn rack area last went shared mine count a u out b v → Reach a b
   finish_reach = finish_goes rack area last went shared mine none_own later Reach reach_same reach_then hold_to
 
-  pub sync_reach : (count : ℕ) (a b : S) (u v : Uber A) (out : Option (Result Synced SyncFault)) → SyncsIn rack area last went shared mine count a u out b v → Reach a b
-  sync_reach = sync_goes rack area last went shared mine none_own later Reach reach_same reach_then hold_to
+  pub synced_reach : (count : ℕ) (a b : S) (u v : Uber A) (result : Result Synced SyncFault) → SyncsThrough rack area last went shared mine count a u result b v → Reach a b
+  synced_reach = synced_goes rack area last went shared mine none_own later Reach reach_same reach_then hold_to
 
   -- ---- a group
 
@@ -141,11 +151,6 @@ module _ {R A S : Type 0} (rack : racks.Ghosts R) (area : areas.Ghosts A) (last 
   pub finish_fails : (count : ℕ) (a b : S) (u v : Uber A) → FinishesIn rack area last went shared mine count a u (Some (Err sync.Shelf)) b v → AreaFails area went a u b v
   finish_fails count a b u v (group, mid, found, commits) =
       fails_behind a mid b u u v (finds_goes rack area last went shared mine none_own later Reach reach_same reach_then hold_to count a mid (Some group) found) (omega arith) (commit_fails group count mid b u v commits)
-
-  pub sync_fails : (count : ℕ) (a b : S) (u v : Uber A) → SyncsIn rack area last went shared mine count a u (Some (Err sync.Shelf)) b v → AreaFails area went a u b v
-  sync_fails count a b u v (inl finishes) = finish_fails count a b u v finishes
-  sync_fails count a b u v (inr (mid, w, group, finishes, is, commits)) =
-      fails_behind a mid b u w v (finish_reach count a mid u w (Some (Ok tt)) finishes) (finish_later count a mid u w (Some (Ok tt)) finishes) (commit_fails group count mid b w v commits)
 
   begin_fails : (count : ℕ) (a b : S) (u v : Uber A) → BeginsIn rack area last went shared mine count a u (Some (Err sync.Shelf)) b v → AreaFails area went a u b v
   begin_fails count a b u v (inl finishes) = finish_fails count a b u v finishes

@@ -87,8 +87,10 @@ module _ {R A G W : Type 0} where
   CommandsDone rack area choices (line ∷ lines) [] true old new = (failed : Failed) × LeavesWhole rack area old new × CommandDone rack area choices (command_in line) (Err failed) old new
   CommandsDone rack area choices lines replies stopped old new = ⊥
 
-  -- so were the lines of a job
+  -- so were the lines of a job, each of which might be given to the lane, which was whole before
   pub record DoesCommands (rack : racks.Ghosts R) (area : areas.Ghosts A) (choices : Choices) (lines : Vec Line Global) (old : Lane R A G W) (lines' : Vec Line Global) (replies : List Reply) (stopped : Bool) (new : Lane R A G W) : Type 0 where
+    pub whole_before : IsWholeLane rack area old
+    pub given : MayAllBeGiven (owned_by old.metaslabs.passes.items) lines.items
     pub leaves : LeavesWhole rack area old new
     pub same : lines' ≡ lines
     pub fits : AreRepliesTo lines.items replies

@@ -198,20 +198,11 @@ fn do_commands<
     G: Gate,
     W: Wait + Threads + Sync,
     F: Fn(&[Room]) -> Option<u32>,
->(
-    job: &mut LaneCommands<'c, F>,
-    lane: Lane<'a, 'b, R, A, G, W>,
-) -> Lane<'a, 'b, R, A, G, W>
+>(job: &mut LaneCommands<'c, F>, lane: Lane<'a, 'b, R, A, G, W>) -> Lane<'a, 'b, R, A, G, W>
     requires may { MayDoCommands R.Rack A.Area F.Fn job.old.chooser.now job.old.lines.items job.old.replies lane }
     ensures does { DoesCommands R.Rack A.Area (choices_by (FnReturnsAt F.Fn job.old.chooser.now)) job.old.lines lane.entry job.new.lines job.new.replies.items job.new.stopped result }
 {
-    let (lane, stopped) = reply_to_each(
-        job.alloc,
-        lane,
-        job.chooser,
-        &job.lines,
-        &mut job.replies,
-    );
+    let (lane, stopped) = reply_to_each(job.alloc, lane, job.chooser, &job.lines, &mut job.replies);
     job.stopped = stopped;
     lane
 }
