@@ -16,7 +16,7 @@ use Rattle.draid_turn.specs.Lists.{Ascends, StartsWith}
 use Rattle.draid_turn.specs.declared.past.Past.{Past}
 use Rattle.draid_pool.specs.declared.cell.Cell.{Cell}
 use Rattle.draid_pool.proofs.Lists.{present, some_of}
-use Rattle.draid_lanes.specs.Traces.{HadTurns, IsShardTurn, IsUberTurn, LaneTurn, LeadsLane, StandsAt, holds_in, places_in}
+use Rattle.draid_lanes.specs.Traces.{HadTurns, IsShardTurn, IsUberTurn, LaneTurn, LeadsLane, SawBytes, StandsAt, holds_in, places_in}
 use Rattle.draid_lanes.specs.declared.lane.Lane.{Lane}
 use Rattle.draid_lanes.specs.declared.uber.UberCell.{UberCell}
 use Rattle.draid_lanes.proofs.Tracing.{ascends_append, starts_long, starts_self, starts_then, turn_later}
@@ -175,6 +175,14 @@ module _ {R A G W : Type 0} (rack : racks.Ghosts R) (area : areas.Ghosts A) (x :
       shards = shard_both;
       ubers = uber_both;
     }
+
+  -- what a lane saw in the end it saw then too, as far as it saw
+  pub saw_before : (mid new : Lane R A G W) (us : Option ℕ → List LaneTurn) (ks : List Hold) → HadTurns rack area x mid new us ks → SawBytes rack area x new → SawBytes rack area x mid
+  saw_before mid new us ks had saw m lock pass there at log y begins came =
+      let within = slice_get_within mid.metaslabs.passes.items m pass at in
+      let as_many = had.many in
+      let p = present new.metaslabs.passes.items m (omega (arith, within, as_many)) in
+      saw m lock p.0 (ap (λ ls. slice_get ls m) had.locks ∙ there) p.1 log y (starts_then log pass.seen p.0.seen begins (had.seen m pass p.0 at p.1)) came
 
   -- ---- what is said of both
 

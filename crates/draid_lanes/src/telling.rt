@@ -2,6 +2,7 @@
 pub trait Says {
     ghost use Rattle.std.specs.Prelude.{◌≡◌, Bool, List};
     ghost use Rattle.draid_session.specs.Holds.{Hold};
+    ghost use Rattle.draid_session.specs.Known.{Known};
     ghost use Rattle.draid_session.specs.State.{State, Store};
 
     /// The job as it began and as it ended, in a section of a pool in this state: its lane's holds led it from what the lane had of its own to this.
@@ -9,6 +10,9 @@ pub trait Says {
 
     /// Whether that rests on the bytes of all blocks, whoever's they are.
     ghost rests: { Self → Type 0 };
+
+    /// What it said of the objects is allowed by what was known of them, and what it adds is known then.
+    ghost learns: { Self → Self → Known → Known → Type 0 };
 
     /// Whether an area that failed ended it.
     ghost failed: { Self → Bool };

@@ -25,5 +25,7 @@ pub mod SectionTold
 pub mod ShardTurns
 pub mod Sitting
 pub mod Splitting
+pub mod Taught
+pub mod TeachLaw
 pub mod UberTurns
 pub mod Unlocking

@@ -3,12 +3,14 @@ ghost use Rattle.std.specs.Prelude.{◌≡◌, ℕ, List, Some, length, map, sli
 ghost use Rattle.std.specs.declared.alloc.Global.{Global as Heap};
 ghost use Rattle.std.specs.declared.vec.Vec.{Vec};
 ghost use Rattle.draid_pool.specs.Failing.{AreaRose, AreasLater};
+ghost use Rattle.draid_pool.specs.Knows.{KnowsPointers};
 ghost use Rattle.draid_pool.specs.Pools.{Represents};
 ghost use Rattle.draid_pool.specs.Whole.{IsWhole};
 ghost use Rattle.draid_pool.specs.declared.pool.Pool.{Pool as PoolOf};
 ghost use Rattle.draid_script.specs.Line.{Command};
 ghost use Rattle.draid_reply.specs.declared.reply.Reply.{Reply};
 ghost use Rattle.draid_session.specs.Holds.{Hold};
+ghost use Rattle.draid_session.specs.Known.{Known};
 ghost use Rattle.draid_session.specs.Lanes.{Says, Section};
 ghost use Rattle.draid_session.specs.Sections.{NoClash};
 ghost use Rattle.draid_session.specs.State.{State, Store};
@@ -17,9 +19,9 @@ ghost use Rattle.draid_section.specs.Running.{KeepLanes};
 ghost use Rattle.draid_section.specs.Section.{MayRunAll, RunsInLanes};
 ghost use Rattle.draid_tables.specs.Lists.{AreLaneLists};
 ghost use Rattle.draid_lanes.specs.Failing.{AreaFailedLane};
-ghost use Rattle.draid_lanes.specs.Telling.{JobsTell};
+ghost use Rattle.draid_lanes.specs.Telling.{JobsTeach, JobsTell};
 ghost use Rattle.draid_lanes.specs.declared.lane.Lane.{Lane as LaneOf};
-ghost use Rattle.draid_section.specs.Told.{SectionStood};
+ghost use Rattle.draid_section.specs.Told.{SectionStood, SectionTaught};
 
 use draid_area::Area;
 use draid_lanes::{Gate, LaneJob, Says};
@@ -45,6 +47,15 @@ pub fn told_sections_are_answered<R: Rack, A: Area, J: Says, D: Decides>(decider
         → ((job end : J) (old : Store) (holds : List Hold) (store : Store) → J.says job end x old holds store → Says x (D.choices decider.now) (commands job) old holds (replies end) store)
         → NoClash (map commands jobs) → (stood : SectionStood R.Rack A.Area (λ job end. J.says job end x) x jobs done new)
         → Section x (D.choices decider.now) (map commands jobs) (map replies done) stood.reached }
+{}
+
+/// Law: where lanes ran over a pool of which something is known, and each job tells what it showed of its lane's objects, that is so of the pool that is put together of them, one lane after another.
+pub fn lanes_teach_together<R: Rack, A: Area, G: Gate, W: Wait, J: LaneJob<R, A, G, W> + Says>()
+    ensures { (pool : PoolOf R A) (lists : List (Vec NumberSpan Heap)) (jobs : Vec J Heap) (new : PoolOf R A) (done : Vec J Heap) (known : Known)
+        → IsWhole R.Rack A.Area pool → AreLaneLists lists → length jobs.items ≡ length lists
+        → MayRunAll R.Rack A.Area J.needs pool lists jobs.items → KeepLanes R.Rack A.Area J.needs J.relates
+        → RunsInLanes R.Rack A.Area J.relates pool lists jobs new done
+        → JobsTeach J.learns J.relates → KnowsPointers pool known → SectionTaught J.learns jobs.items done.items new known }
 {}
 
 /// Law: where lanes ran over a pool, no count of failed calls on an area of it fell.

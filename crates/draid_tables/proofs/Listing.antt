@@ -213,7 +213,7 @@ one_holder n (l ∷ lists) apart =
         let here : one_if (holds n l.items) ≡ 0 = ap one_if is in omega (arith, rest, sum, here)
 
 -- a number that one has at least is in a list
-a_holder : (n : ℕ) (lists : List (Vec Span Global)) → 1 ≤ shares n lists → (i : ℕ) × (list : Vec Span Global) × (slice_get lists i ≡ Some list) × (holds n list.items ≡ true)
+pub a_holder : (n : ℕ) (lists : List (Vec Span Global)) → 1 ≤ shares n lists → (i : ℕ) × (list : Vec Span Global) × (slice_get lists i ≡ Some list) × (holds n list.items ≡ true)
 a_holder n [] some = absurd (omega (arith, some))
 a_holder n (l ∷ lists) some = by (holds n l.items) refl (a_holder n lists)
   where

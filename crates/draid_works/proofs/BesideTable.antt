@@ -15,7 +15,8 @@ use Rattle.draid_store.specs.Says.{free_reply, read_reply, sum_reply}
 use Rattle.draid_store.specs.declared.fault.FreeFault.{FreeFault}
 use Rattle.draid_store.specs.declared.fault.FreeFault.TheVariants as free
 use Rattle.draid_store.specs.declared.fault.SumFault.{SumFault}
-use Rattle.draid_works.specs.Lanes.{TeachesOwn, beside}
+use Rattle.draid_lanes.specs.Telling.{beside}
+use Rattle.draid_works.specs.Lanes.{TeachesOwn}
 use Rattle.draid_works.specs.Replied.{write_reply}
 use Rattle.draid_works.specs.Waiting.{WriteSetsTable}
 use Rattle.draid_works.proofs.FilledTable.{FillsTable, table_all, table_more, table_none, table_stopped, table_unbegun}

@@ -4,6 +4,7 @@ pub mod FilledIn
 pub mod FilledTable
 pub mod Grown
 pub mod LaneStays
+pub mod LaneTeaches
 pub mod LaneTells
 pub mod MendArms
 pub mod MendBegun

@@ -27,7 +27,7 @@ use Rattle.draid_visits.specs.declared.rebuilding.MendFault.{MendFault}
 use Rattle.draid_visits.specs.declared.rebuilding.MendFault.TheVariants as mending
 use Rattle.draid_visits.specs.declared.rebuilding.Mended.{Mended}
 use Rattle.draid_lanes.specs.Told.{SyncLane}
-use Rattle.draid_works.specs.Told.{MendLane, SwitchLane}
+use Rattle.draid_works.specs.Told.{MendBut, MendLane, SwitchLane}
 
 -- by its reply, or where an area failed it
 abbrev pub SaidDoes : State → Choices → Command → Result Reply Failed → Store → List Hold → Store → Type 0
@@ -74,21 +74,25 @@ module _ (x : State) (choices : Choices) (old : Store) (hs : List Hold) (new : S
   online_said leaf (Err changing.Shelf) (Ok reply) is d = absurd is
   online_said leaf (Err changing.Shelf) (Err failed) is d = (d.0.0, d.0.1, (d.1, d.0.2.1))
 
-  pub rebuild_said : (limit : Option ℕ) (answer : Result Mended MendFault) (said : Result Reply Failed) → IsRebuildReply answer said → MendLane x Rebuild limit answer old hs new → SaysIt (RebuildPool limit) said
-  rebuild_said limit (Ok it) said is d = replied (RebuildPool limit) (Rebuilt it.from it.units it.errors it.paused) said is (d.0.0, d.0.1, (d.1, d.0.2.1))
-  rebuild_said limit (Err mending.Nothing) said is d = replied (RebuildPool limit) RebuildNothing said is (d.0.0, d.0.1, (d.1, d.0.2.1))
-  rebuild_said limit (Err (mending.PassThere metaslab number)) said is d = replied (RebuildPool limit) (PassThere name.Rebuild metaslab number) said is (d.0.0, d.0.1, (d.1, d.0.2.1))
-  rebuild_said limit (Err mending.Worn) said is d = replied (RebuildPool limit) (Worn name.Rebuild) said is (d.0.0, d.0.1, (d.1, d.0.2.1))
-  rebuild_said limit (Err mending.Last) said is d = replied (RebuildPool limit) (Last name.Rebuild) said is (d.0.0, d.0.1, (d.1, d.0.2.1))
-  rebuild_said limit (Err mending.NoMemory) said is d = replied (RebuildPool limit) (NoMemory name.Rebuild) said is (d.0.0, d.0.1, (d.1, d.0.2.1))
-  rebuild_said limit (Err mending.Shelf) (Ok reply) is d = absurd is
-  rebuild_said limit (Err mending.Shelf) (Err failed) is d = (d.0.0, d.0.1, (d.1, d.0.2.1))
+  pub rebuild_said : (saw : Type 0) (limit : Option ℕ) (answer : Result Mended MendFault) (said : Result Reply Failed) → IsRebuildReply answer said → MendLane x Rebuild saw limit answer old hs new → SaysIt (RebuildPool limit) said
+  rebuild_said saw limit (Ok it) said is d = replied (RebuildPool limit) (Rebuilt it.from it.units it.errors it.paused) said is (d.0.0, d.0.1, (d.1, d.0.2.1))
+  rebuild_said saw limit (Err mending.Nothing) said is d = replied (RebuildPool limit) RebuildNothing said is (d.0.0, d.0.1, (d.1, d.0.2.1))
+  rebuild_said saw limit (Err (mending.PassThere metaslab number)) said is d = replied (RebuildPool limit) (PassThere name.Rebuild metaslab number) said is (d.0.0, d.0.1, (d.1, d.0.2.1))
+  rebuild_said saw limit (Err mending.Worn) said is d = replied (RebuildPool limit) (Worn name.Rebuild) said is (d.0.0, d.0.1, (d.1, d.0.2.1))
+  rebuild_said saw limit (Err mending.Last) said is d = replied (RebuildPool limit) (Last name.Rebuild) said is (d.0.0, d.0.1, (d.1, d.0.2.1))
+  rebuild_said saw limit (Err mending.NoMemory) said is d = replied (RebuildPool limit) (NoMemory name.Rebuild) said is (d.0.0, d.0.1, (d.1, d.0.2.1))
+  rebuild_said saw limit (Err mending.Shelf) (Ok reply) is d = absurd is
+  rebuild_said saw limit (Err mending.Shelf) (Err failed) is d = (d.0.0, d.0.1, (d.1, d.0.2.1))
 
-  pub scrub_said : (limit : Option ℕ) (answer : Result Mended MendFault) (reply : Reply) → IsScrubReply answer reply → MendLane x Heal limit answer old hs new → SaysIt (ScrubPool limit) (Ok reply)
-  scrub_said limit (Ok it) reply is d = replied (ScrubPool limit) (Scrubbed it.from it.units it.repaired it.errors it.paused) (Ok reply) (ap Ok is) (d.0.0, d.0.1, (d.1, d.0.2.1))
-  scrub_said limit (Err mending.Nothing) reply is d = absurd is
-  scrub_said limit (Err (mending.PassThere metaslab number)) reply is d = replied (ScrubPool limit) (PassThere name.Scrub metaslab number) (Ok reply) (ap Ok is) (d.0.0, d.0.1, (d.1, d.0.2.1))
-  scrub_said limit (Err mending.Worn) reply is d = replied (ScrubPool limit) (Worn name.Scrub) (Ok reply) (ap Ok is) (d.0.0, d.0.1, (d.1, d.0.2.1))
-  scrub_said limit (Err mending.Last) reply is d = replied (ScrubPool limit) (Last name.Scrub) (Ok reply) (ap Ok is) (d.0.0, d.0.1, (d.1, d.0.2.1))
-  scrub_said limit (Err mending.NoMemory) reply is d = replied (ScrubPool limit) (NoMemory name.Scrub) (Ok reply) (ap Ok is) (d.0.0, d.0.1, (d.1, inl d.0.2.1))
-  scrub_said limit (Err mending.Shelf) reply is d = absurd is
+  -- where the blocks had bytes in all that the lane saw
+  pub scrub_said : (saw : Type 0) (limit : Option ℕ) (answer : Result Mended MendFault) (reply : Reply) → IsScrubReply answer reply → MendLane x Heal saw limit answer old hs new → saw → SaysIt (ScrubPool limit) (Ok reply)
+  scrub_said saw limit answer reply is d so = by answer is (d.0 so)
+    where
+      by : (given : Result Mended MendFault) → IsScrubReply given reply → MendBut x Heal limit given hs → SaysIt (ScrubPool limit) (Ok reply)
+      by (Ok it) is b = replied (ScrubPool limit) (Scrubbed it.from it.units it.repaired it.errors it.paused) (Ok reply) (ap Ok is) (b.0, b.1, (d.1, b.2.1))
+      by (Err mending.Nothing) is b = absurd is
+      by (Err (mending.PassThere metaslab number)) is b = replied (ScrubPool limit) (PassThere name.Scrub metaslab number) (Ok reply) (ap Ok is) (b.0, b.1, (d.1, b.2.1))
+      by (Err mending.Worn) is b = replied (ScrubPool limit) (Worn name.Scrub) (Ok reply) (ap Ok is) (b.0, b.1, (d.1, b.2.1))
+      by (Err mending.Last) is b = replied (ScrubPool limit) (Last name.Scrub) (Ok reply) (ap Ok is) (b.0, b.1, (d.1, b.2.1))
+      by (Err mending.NoMemory) is b = replied (ScrubPool limit) (NoMemory name.Scrub) (Ok reply) (ap Ok is) (b.0, b.1, (d.1, inl b.2.1))
+      by (Err mending.Shelf) is b = absurd is

@@ -49,6 +49,18 @@ MayAllBeGiven owns lines = (i : ℕ) (line : Line) → slice_get lines i ≡ Som
 abbrev pub AreRepliesTo : List Line → List Reply → Type 0
 AreRepliesTo lines replies = (i : ℕ) (line : Line) (reply : Reply) → slice_get lines i ≡ Some line → slice_get replies i ≡ Some reply → IsReplyTo (command_in line) reply
 
+-- what it says of unreadable blocks rests on the bytes of all blocks, whoever's they are
+abbrev pub IsScrub : Command → Type 0
+IsScrub (ScrubPool limit) = ⊤
+IsScrub command = ⊥
+
+-- one of some lines is a scrub
+pub record HasScrub (lines : List Line) : Type 0 where
+  pub place : ℕ
+  pub line : Line
+  pub there : slice_get lines place ≡ Some line
+  pub scrub : IsScrub (command_in line)
+
 -- it asks something of objects
 abbrev pub IsOnObjects : Command → Type 0
 IsOnObjects (WriteObject object bytes) = ⊤

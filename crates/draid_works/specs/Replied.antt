@@ -28,7 +28,7 @@ use Rattle.draid_lanes.specs.Governing.{lane_last}
 use Rattle.draid_lanes.specs.Lanes.{table_of}
 use Rattle.draid_lanes.specs.Locks.{owned_by}
 use Rattle.draid_lanes.specs.Told.{SyncLane}
-use Rattle.draid_lanes.specs.Traces.{LaneTold}
+use Rattle.draid_lanes.specs.Traces.{LaneTold, SawBytes}
 use Rattle.draid_lanes.specs.Waits.{SyncedIn}
 use Rattle.draid_lanes.specs.declared.lane.Lane.{Lane}
 use Rattle.draid_works.specs.Failing.{AreaFailedIn}
@@ -87,13 +87,13 @@ module _ {R A G W : Type 0} (rack : racks.Ghosts R) (area : areas.Ghosts A) wher
   abbrev pub RebuildDone : Option ℕ → Result Reply Failed → (old new : Lane R A G W) → Type 0
   RebuildDone limit said old new =
       DoesInTurn (λ (answer : Result Mended MendFault). IsRebuildReply answer said) (λ answer. MendedIn rack area old.geometry Rebuild limit old.uber.now old.metaslabs new.metaslabs answer old.pass new.pass)
-      (λ x answer. MendLane x Rebuild limit answer) said old new
+      (λ x answer. MendLane x Rebuild (SawBytes rack area x new) limit answer) said old new
 
   -- no area fails a scrub
   abbrev pub ScrubDone : Option ℕ → Reply → (old new : Lane R A G W) → Type 0
   ScrubDone limit reply old new =
       DoesInTurn (λ (answer : Result Mended MendFault). IsScrubReply answer reply) (λ answer. MendedIn rack area old.geometry Heal limit old.uber.now old.metaslabs new.metaslabs answer old.pass new.pass)
-      (λ x answer. MendLane x Heal limit answer) (Ok reply) old new
+      (λ x answer. MendLane x Heal (SawBytes rack area x new) limit answer) (Ok reply) old new
 
   -- ---- all commands
 
