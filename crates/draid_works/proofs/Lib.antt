@@ -9,6 +9,7 @@ pub mod LaneTells
 pub mod MendArms
 pub mod MendBegun
 pub mod MendFails
+pub mod MendLater
 pub mod MendStays
 pub mod MendSteps
 pub mod MendSyncs
@@ -19,6 +20,7 @@ pub mod ScrubEnds
 pub mod SwitchArms
 pub mod SwitchFails
 pub mod SwitchGoverned
+pub mod SwitchLater
 pub mod SwitchLeads
 pub mod SwitchSays
 pub mod SwitchStays
