@@ -15,7 +15,7 @@ ghost use Rattle.draid_session.specs.Lanes.{Says, Section};
 ghost use Rattle.draid_session.specs.Sections.{NoClash};
 ghost use Rattle.draid_session.specs.State.{State, Store};
 ghost use Rattle.draid_turn.specs.declared.span.Span.{Span as NumberSpan};
-ghost use Rattle.draid_section.specs.Running.{KeepLanes};
+ghost use Rattle.draid_section.specs.Running.{KeepLanes, WereDone};
 ghost use Rattle.draid_section.specs.Section.{MayRunAll, RunsInLanes};
 ghost use Rattle.draid_tables.specs.Lists.{AreLaneLists};
 ghost use Rattle.draid_lanes.specs.Failing.{AreaFailedLane};
@@ -44,7 +44,7 @@ pub fn lanes_come_together<R: Rack, A: Area, G: Gate, W: Wait, J: LaneJob<R, A, 
 /// Law: where the lanes' jobs tell that their replies are those to their commands, and no object is named by two lanes, what came together is a section of a session.
 pub fn told_sections_are_answered<R: Rack, A: Area, J: Says, D: Decides>(decider: &D)
     ensures { (x : State) (commands : J → List Command) (replies : J → List Reply) (jobs done : List J) (new : PoolOf R A)
-        → ((job end : J) (old : Store) (holds : List Hold) (store : Store) → J.says job end x old holds store → Says x (D.choices decider.now) (commands job) old holds (replies end) store)
+        → ((i : ℕ) (job end : J) (old : Store) (holds : List Hold) (store : Store) → slice_get jobs i ≡ Some job → J.says job end x old holds store → Says x (D.choices decider.now) (commands job) old holds (replies end) store)
         → NoClash (map commands jobs) → (stood : SectionStood R.Rack A.Area (λ job end. J.says job end x) x jobs done new)
         → Section x (D.choices decider.now) (map commands jobs) (map replies done) stood.reached }
 {}
@@ -56,6 +56,14 @@ pub fn lanes_teach_together<R: Rack, A: Area, G: Gate, W: Wait, J: LaneJob<R, A,
         → MayRunAll R.Rack A.Area J.needs pool lists jobs.items → KeepLanes R.Rack A.Area J.needs J.relates
         → RunsInLanes R.Rack A.Area J.relates pool lists jobs new done
         → JobsTeach J.learns J.relates → KnowsPointers pool known → SectionTaught J.learns jobs.items done.items new known }
+{}
+
+/// Law: where lanes ran each job was done in a lane.
+pub fn jobs_were_done<R: Rack, A: Area, G: Gate, W: Wait, J: LaneJob<R, A, G, W>>()
+    ensures { (pool : PoolOf R A) (lists : List (Vec NumberSpan Heap)) (jobs : Vec J Heap) (new : PoolOf R A) (done : Vec J Heap)
+        → IsWhole R.Rack A.Area pool → AreLaneLists lists → length jobs.items ≡ length lists
+        → MayRunAll R.Rack A.Area J.needs pool lists jobs.items → KeepLanes R.Rack A.Area J.needs J.relates
+        → RunsInLanes R.Rack A.Area J.relates pool lists jobs new done → WereDone J.relates jobs.items done.items }
 {}
 
 /// Law: where lanes ran over a pool, no count of failed calls on an area of it fell.

@@ -124,8 +124,7 @@ module _ {R A G W : Type 0} (rack : racks.Ghosts R) (area : areas.Ghosts A) (x :
         let more : MayAllBeGiven (owned_by mid.metaslabs.passes.items) lines = subst (λ f. MayAllBeGiven f lines) (sym d.1.same.owns) (λ i other at. given (suc i) other at) in
         let rest = commands_lead lines replies stopped mid new d.1.whole more d.3 one.reached one.stands in
         leads_then rack area x old mid new (Tells x choices owns (SawBytes rack area x mid) (command_in line) (Ok reply) y.store) one (TellsAll x choices (owned_by mid.metaslabs.passes.items) saw lines replies one.reached.store) rest
-        (TellsAll x choices owns saw (line ∷ lines) (reply ∷ replies) y.store)
-        (
+        (TellsAll x choices owns saw (line ∷ lines) (reply ∷ replies) y.store) (
           λ rests.
               (let did = one.done.0 (λ is. saw_before rack area x mid new rest.turns rest.holds rest.had (rests (scrub_here line lines is))) in
               (one.holds, rest.holds, did.0, one.reached.store, refl, did.1, did.2, rest.done.0 (λ has. rests (scrub_more line lines has)))),

@@ -188,11 +188,14 @@ module _ {R A G W : Type 0} (rack : racks.Ghosts R) (area : areas.Ghosts A) (x z
       let within = slice_get_within z.metaslabs m k.2.first k.2.first_is in
       let s = idle m (omega (arith, within, many)) in
       let is = came_is rack area x m shard k.0 k.1 in
-      let closing : shard.closing ≡ None = subst (λ (t : Shard R A). t.closing ≡ None) (some_same s.0 shard (sym s.1 ∙ at)) s.2 in
-      (k.0, k.1, record {
-        before = λ less. absurd (omega (arith, less));
-        behind = λ from. record { good = k.2; unsealed = none_sealed k.0.world.sealed (is.stands.is_in.sealed ∙ idle_unsealed shard.open_group shard.committed shard.closing shard.sealed is.valid.groups closing) };
-      })
+      let closing : shard.closing ≡ None = subst (λ (t : Shard R A). t.closing ≡ None) (some_same s.0 shard (sym s.1 ∙ at)) s.2 in (
+        k.0,
+        k.1,
+        record {
+          before = λ less. absurd (omega (arith, less));
+          behind = λ from. record { good = k.2; unsealed = none_sealed k.0.world.sealed (is.stands.is_in.sealed ∙ idle_unsealed shard.open_group shard.committed shard.closing shard.sealed is.valid.groups closing) };
+        },
+      )
 
   -- what one has come to
   record IsAllSwitched (b : Locked R A G W) (shared : Shared) (m : ℕ) (y : Metaslab) : Type 0 where
@@ -203,11 +206,14 @@ module _ {R A G W : Type 0} (rack : racks.Ghosts R) (area : areas.Ghosts A) (x z
 
   all_of : (b : Locked R A G W) (shared : Shared) → Knowing rack area x b (IsHalf z shared leaf offline count) → (m : ℕ) (shard : Shard R A) → lane_last b m ≡ Some shard → (y : Metaslab) × CameTo rack area x m shard y × IsSwitched z shared leaf offline m y
   all_of b shared knows m shard at =
-      let k = knows m shard at in
-      (k.0, k.1, elim (cases_lt m count) [
-        | inl less ↦ k.2.before less
-        | inr from ↦ (let d = k.2.behind from in let within = slice_get_within z.metaslabs m d.good.first d.good.first_is in absurd (omega (arith, within, many, from)))
-      ])
+      let k = knows m shard at in (
+        k.0,
+        k.1,
+        elim (cases_lt m count) [
+          | inl less ↦ k.2.before less
+          | inr from ↦ (let d = k.2.behind from in let within = slice_get_within z.metaslabs m d.good.first d.good.first_is in absurd (omega (arith, within, many, from)))
+        ],
+      )
 
   -- the state behind it, and a whole pool of which it is told
   pub record Switched (b : Locked R A G W) (v : Uber A) : Type 0 where

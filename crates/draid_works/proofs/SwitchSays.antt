@@ -219,12 +219,15 @@ module _ {R A G W : Type 0} (rack : racks.Ghosts R) (area : areas.Ghosts A) (x :
         subst (λ w. SwitchBut x leaf offline (Err w) hs) (sym is) (
           left_of c v (IsOneOf IsLookOnly) hs b [] none,
           left_is c v (IsOneOf IsLookOnly) hs b [] none,
-          (refl, record {
-            views = seen_at 0 b.so.ys;
-            u = uber_view v;
-            begins = begins_is c v (IsOneOf IsLookOnly) hs b [] none;
-            broken = seen_first (λ w. arms.IsArmLeaf x.geometry x.perms leaf w → ⊥) b.so.ys one.y one.at (one.no refl);
-          }),
+          (
+            refl,
+            record {
+              views = seen_at 0 b.so.ys;
+              u = uber_view v;
+              begins = begins_is c v (IsOneOf IsLookOnly) hs b [] none;
+              broken = seen_first (λ w. arms.IsArmLeaf x.geometry x.perms leaf w → ⊥) b.so.ys one.y one.at (one.no refl);
+            },
+          ),
         )
 
     abbrev Ready : Locked R A G W → Uber A → Type 0

@@ -69,7 +69,6 @@ module _ {R A G W : Type 0} (rack : racks.Ghosts R) (area : areas.Ghosts A) (x :
 
   -- ---- behind it
 
-
   -- the first metaslab is looked at
   pub seen_said : (there : Bool) (a b : Locked R A G W) → Once rack area x owns (SeesLeaf leaf there) a 0 b → HasCame rack area x a → Says rack area x a b [] (IsOneOf IsLookOnly)
   seen_said there a b h came = said_one rack area x owns (SeesLeaf leaf there) IsLookOnly a 0 b h came (λ pieces y is. same_looks rack area (part_in x 0) pieces h.before h.after y is h.did.same)

@@ -19,6 +19,6 @@ pub use freeing::free_through;
 pub use job::LaneCommands;
 pub use lanes::{commit_in_lane, read_in_lane, sum_in_lane};
 pub use mending::{MendWork, rebuild_in_lane, scrub_in_lane};
-pub use telling::{lane_commands_teach, lane_commands_tell};
 pub use switching::{SwitchWork, switch_in_lane};
+pub use telling::{lane_commands_teach, lane_commands_tell};
 pub use writing::write_through;
