@@ -1,12 +1,11 @@
 -- Counts of failed calls on the areas of a pool whose lanes ran: along the histories of all locks none falls, and where an area failed a lane one rose.
-use Rattle.std.proofs.Common.{◌≡◌, ◌∙◌, ◌++◌, ◌∷◌, ◌<◌, ◌≤◌, inl, inr, arith, ℕ, zero, suc, List, [], Option, None, Some, All, length, sym, ap, subst, refl, slice_set}
+use Rattle.std.proofs.Common.{◌≡◌, ◌∙◌, ◌++◌, ◌∷◌, ◌<◌, ◌≤◌, inl, inr, arith, ℕ, zero, suc, List, [], None, Some, length, sym, ap, subst, refl, slice_set}
 use Rattle.std.proofs.lemmas.List.{append_assoc}
 use mathlib.Core.Logic.{dite}
 use native.Mathlib.Decide.{ℕ_discrete}
 use Rattle.std.specs.Prelude.{slice_get}
 use Rattle.std.specs.declared.vec.Vec.{Vec}
 use Rattle.std.specs.declared.alloc.Global.{Global}
-use Rattle.std.proofs.lemmas.List.Elements.{All-head, All-tail}
 use Rattle.std.proofs.lemmas.Option.{slice_get_within}
 use Rattle.draid_names.specs.Faults.{Rose}
 use Rattle.draid_rack.specs.declared.Rack as racks
@@ -26,7 +25,7 @@ use Rattle.draid_pool.specs.declared.pool.Pool.{Pool}
 use Rattle.draid_pool.proofs.Lists.{get_set_other, get_set_same, present, some_of}
 use Rattle.draid_pool.proofs.Rises.{records_on, records_still}
 use Rattle.draid_lanes.specs.Failing.{AreaFailedLane, HoldsTo, RecordsFail}
-use Rattle.draid_lanes.specs.Locks.{Step, Went, left_in}
+use Rattle.draid_lanes.specs.Locks.{Step, Went}
 use Rattle.draid_lanes.specs.Waits.{LaneWent}
 use Rattle.draid_lanes.specs.declared.lane.Lane.{Lane}
 use Rattle.draid_lanes.specs.declared.locked.Locked.{Locked}
