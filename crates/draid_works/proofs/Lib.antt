@@ -1,4 +1,5 @@
 pub mod BesideTable
+pub mod CommandsFail
 pub mod Done
 pub mod FilledIn
 pub mod FilledTable
