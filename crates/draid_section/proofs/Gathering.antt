@@ -59,7 +59,7 @@ use Rattle.draid_section.proofs.Sitting.{at_push}
 
 -- ---- lists of numbers
 
-all_at : {X : Type 0} (P : X → Type 0) (xs : List X) → All P xs → (k : ℕ) (x : X) → slice_get xs k ≡ Some x → P x
+pub all_at : {X : Type 0} (P : X → Type 0) (xs : List X) → All P xs → (k : ℕ) (x : X) → slice_get xs k ≡ Some x → P x
 all_at P [] all k x is = absurd (cc)
 all_at P (y ∷ xs) all zero x is = subst P (some_of (Some y) y x refl is) (All-head P y xs all)
 all_at P (y ∷ xs) all (suc k) x is = all_at P xs (All-tail P y xs all) k x is

@@ -1,5 +1,6 @@
 pub mod Answered
 pub mod Beginning
+pub mod Counted
 pub mod Dealt
 pub mod Ended
 pub mod Finals

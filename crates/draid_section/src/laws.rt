@@ -2,6 +2,7 @@
 ghost use Rattle.std.specs.Prelude.{◌≡◌, ℕ, List, Some, length, map, slice_get};
 ghost use Rattle.std.specs.declared.alloc.Global.{Global as Heap};
 ghost use Rattle.std.specs.declared.vec.Vec.{Vec};
+ghost use Rattle.draid_pool.specs.Failing.{AreaRose, AreasLater};
 ghost use Rattle.draid_pool.specs.Knows.{KnowsPointers};
 ghost use Rattle.draid_pool.specs.Pools.{Represents};
 ghost use Rattle.draid_pool.specs.Whole.{IsWhole};
@@ -17,7 +18,9 @@ ghost use Rattle.draid_turn.specs.declared.span.Span.{Span as NumberSpan};
 ghost use Rattle.draid_section.specs.Running.{KeepLanes, WereDone};
 ghost use Rattle.draid_section.specs.Section.{MayRunAll, RunsInLanes};
 ghost use Rattle.draid_tables.specs.Lists.{AreLaneLists};
+ghost use Rattle.draid_lanes.specs.Failing.{AreaFailedLane};
 ghost use Rattle.draid_lanes.specs.Telling.{JobsTeach, JobsTell};
+ghost use Rattle.draid_lanes.specs.declared.lane.Lane.{Lane as LaneOf};
 ghost use Rattle.draid_section.specs.Told.{SectionStood, SectionTaught};
 
 use draid_area::Area;
@@ -61,4 +64,19 @@ pub fn jobs_were_done<R: Rack, A: Area, G: Gate, W: Wait, J: LaneJob<R, A, G, W>
         → IsWhole R.Rack A.Area pool → AreLaneLists lists → length jobs.items ≡ length lists
         → MayRunAll R.Rack A.Area J.needs pool lists jobs.items → KeepLanes R.Rack A.Area J.needs J.relates
         → RunsInLanes R.Rack A.Area J.relates pool lists jobs new done → WereDone J.relates jobs.items done.items }
+{}
+
+/// Law: where lanes ran over a pool, no count of failed calls on an area of it fell.
+pub fn areas_come_back_later<R: Rack, A: Area, G: Gate, W: Wait, J: LaneJob<R, A, G, W>>()
+    ensures { (pool : PoolOf R A) (lists : List (Vec NumberSpan Heap)) (jobs : Vec J Heap) (new : PoolOf R A) (done : Vec J Heap)
+        → RunsInLanes R.Rack A.Area J.relates pool lists jobs new done → AreasLater A.faults pool new }
+{}
+
+/// Law: where lanes ran over a pool, and an area failed the lane of one of the jobs, as that job tells in the end, the count of an area of the pool rose.
+pub fn failed_areas_stay_counted<R: Rack, A: Area, G: Gate, W: Wait, J: LaneJob<R, A, G, W>>()
+    ensures { (pool : PoolOf R A) (lists : List (Vec NumberSpan Heap)) (jobs : Vec J Heap) (new : PoolOf R A) (done : Vec J Heap)
+        → RunsInLanes R.Rack A.Area J.relates pool lists jobs new done
+        → (i : ℕ) (end : J) → slice_get done.items i ≡ Some end
+        → ((job : J) (lane next : LaneOf R A G W) → J.relates job lane end next → AreaFailedLane R.Rack A.Area lane next)
+        → AreaRose A.faults pool new }
 {}

@@ -1,4 +1,5 @@
 pub mod BesideTable
+pub mod CommandsFail
 pub mod Done
 pub mod FilledIn
 pub mod FilledTable
@@ -9,6 +10,7 @@ pub mod LaneTells
 pub mod MendArms
 pub mod MendBegun
 pub mod MendFails
+pub mod MendLater
 pub mod MendStays
 pub mod MendSteps
 pub mod MendSyncs
@@ -19,6 +21,7 @@ pub mod ScrubEnds
 pub mod SwitchArms
 pub mod SwitchFails
 pub mod SwitchGoverned
+pub mod SwitchLater
 pub mod SwitchLeads
 pub mod SwitchSays
 pub mod SwitchStays

@@ -26,11 +26,12 @@ use Rattle.draid_lanes.specs.Locks.{owned_by}
 use Rattle.draid_lanes.specs.Waits.{LaneWent}
 use Rattle.draid_lanes.specs.declared.locked.Locked.{Locked}
 use Rattle.draid_lanes.specs.declared.uber.UberCell.{UberCell}
-use Rattle.draid_works.specs.Failing.{AreaFailedIn, AreaFails}
+use Rattle.draid_lanes.specs.Failing.{AreaFailedIn, AreaFails}
 use Rattle.draid_works.specs.Mended.{BeginsMend, MendedIn, MendsThrough, SyncsWaiting}
+use Rattle.draid_lanes.proofs.UberLater.{own_count, still_later, through_later}
 use Rattle.draid_works.proofs.LaneStays.{lane_later}
 use Rattle.draid_works.proofs.MendSteps.{begins}
-use Rattle.draid_works.proofs.SyncFails.{Reach, fails_behind, fails_in, own_count, reach_then, still_later, synced_fails, synced_later, synced_reach}
+use Rattle.draid_works.proofs.SyncFails.{Reach, fails_behind, fails_in, reach_then, synced_fails, synced_reach}
 
 module _ {R A S : Type 0} (rack : racks.Ghosts R) (area : areas.Ghosts A) (last : S → ℕ → Option (Shard R A)) (went : S → ℕ → Shard R A → Shard R A → S → Type 0) (shared : Bool) (mine : ℕ → Bool)
     (later : (a : S) (m : ℕ) (x y : Shard R A) (b : S) → went a m x y b → x.committed ≤ y.committed) (geometry : Geometry) where
@@ -52,7 +53,7 @@ module _ {R A S : Type 0} (rack : racks.Ghosts R) (area : areas.Ghosts A) (last 
 
   sync_leads : (a b : S) (u v : Uber A) (out : Option (Result Synced SyncFault)) → SyncsWaiting rack area last went shared mine geometry.props.metaslabs a u out b v → Leads a u b v
   sync_leads a b u v None syncs = absurd syncs
-  sync_leads a b u v (Some result) syncs = (synced_reach rack area last went shared mine later geometry.props.metaslabs a b u v result syncs, synced_later rack area last went shared mine later geometry.props.metaslabs a b u v result syncs)
+  sync_leads a b u v (Some result) syncs = (synced_reach rack area last went shared mine later geometry.props.metaslabs a b u v result syncs, through_later rack area last went shared mine geometry.props.metaslabs a b u v result syncs)
 
   -- it doesn't begin so
   begun_not : (kind : PassKind) (limit : Option ℕ) (why : MendFault) (a b : S) → why ≡ fault.Shelf → BeginsMend rack area last went shared mine geometry kind limit a (Err why) b → ⊥

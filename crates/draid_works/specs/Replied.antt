@@ -30,7 +30,7 @@ use Rattle.draid_lanes.specs.Told.{SyncLane}
 use Rattle.draid_lanes.specs.Traces.{LaneTold, SawBytes}
 use Rattle.draid_lanes.specs.Waits.{SyncedIn}
 use Rattle.draid_lanes.specs.declared.lane.Lane.{Lane}
-use Rattle.draid_works.specs.Failing.{AreaFailedIn}
+use Rattle.draid_lanes.specs.Failing.{AreaFailedIn}
 use Rattle.draid_works.specs.Lanes.{LaneCarries, LaneKnows, LaneKnowsLater, TeachesOwn}
 use Rattle.draid_works.specs.Mended.{MendedIn}
 use Rattle.draid_works.specs.Switched.{SwitchedIn}

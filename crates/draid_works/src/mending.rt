@@ -14,7 +14,7 @@ ghost use Rattle.draid_lanes.specs.Lanes.{IsSameLane, IsWholeLane};
 ghost use Rattle.draid_lanes.specs.Locks.{owned_by};
 ghost use Rattle.draid_lanes.specs.Traces.{LaneTold, SawBytes};
 ghost use Rattle.draid_lanes.specs.Ubers.{IsLane, IsUberOf};
-ghost use Rattle.draid_works.specs.Failing.{AreaFailedIn};
+ghost use Rattle.draid_lanes.specs.Failing.{AreaFailedIn};
 ghost use Rattle.draid_works.specs.Lanes.{LaneKnows, LaneKnowsLater};
 ghost use Rattle.draid_works.specs.Mended.{BeginsMend, MayMend, MayMendLane, MendedIn, MendsThrough};
 ghost use Rattle.draid_works.specs.Told.{MendLane};
@@ -125,7 +125,7 @@ pub struct MendWork {
 }
 
 impl<R: Rack, A: Area, G: Gate, W: Wait> Governs<R, A, G, W> for MendWork {
-    ghost use Rattle.draid_works.specs.Failing.{AreaFailedIn};
+    ghost use Rattle.draid_lanes.specs.Failing.{AreaFailedIn};
     ghost use Rattle.draid_works.specs.Lanes.{LaneKnows, LaneKnowsLater};
     ghost use Rattle.draid_works.specs.Mended.{MayMendLane, MendsLane};
 
