@@ -115,7 +115,7 @@ module _ {R A G W : Type 0} (rack : racks.Ghosts R) (area : areas.Ghosts A) (cho
   all_taught (line ∷ lines) (reply ∷ replies) stopped old new own (mid, leaves, one, more) fits known knows =
       let t = one_taught (command_in line) reply old mid own one known knows in
       let z = all_taught lines replies stopped mid new (leaves.same.owns ∙ own) more (λ i other said there here. fits (suc i) other said there here) t.new t.fits in
-      record { new = z.new; learned = (fits 0 line reply refl refl, t.new, t.learns, z.learned); fits = z.fits }
+      record { new = z.new; learned = (fits 0 line reply refl refl, (t.new, t.learns, z.learned)); fits = z.fits }
   all_taught (line ∷ lines) [] false old new own done fits known knows = absurd done
   all_taught (line ∷ lines) [] true old new own (failed, leaves, one) fits known knows =
       let s = one_stopped (command_in line) failed old new one in
