@@ -16,6 +16,7 @@ use Rattle.draid_pool.proofs.Drifting.{same_pass}
 use Rattle.draid_pool.proofs.GroupKeeps.{not_kept}
 use Rattle.draid_pool.proofs.Imaged.{keeps_same}
 use Rattle.draid_pool.proofs.OneHold.{reserved_here, with_reserved}
+use Rattle.draid_pool.proofs.Rises.{records_same}
 use Rattle.draid_pool.proofs.ShardSteps.{acts_since}
 use Rattle.draid_pool.proofs.Since.{nothing_more}
 use Rattle.draid_pool.proofs.SyncWhole.{KeepsQuiet}
@@ -44,6 +45,7 @@ module _ {R A : Type 0} (rack : racks.Ghosts R) (area : areas.Ghosts A) where
     groups = λ is. not_kept is;
     passes = λ other. pass_kept x.pass y.pass r.pass;
     others = record { each = λ key own. inl (r.keeps.entries.held key) };
+    areas = records_same area.faults x y r.kit.areas;
     state = reserve_goes (is_other (Some groups_number)) x y result r;
   }
 
@@ -71,6 +73,7 @@ module _ {R A : Type 0} (rack : racks.Ghosts R) (area : areas.Ghosts A) where
     groups = λ is. not_kept is;
     passes = λ other. same_pass x.pass y.pass s.pass;
     others = record { each = λ key own. inl (s.keeps.entries.held key) };
+    areas = records_same area.faults x y s.kit.areas;
     state = switch_goes_on (is_other (Some groups_number)) (λ mine. not_kept mine) leaf offline x y s;
   }
 

@@ -42,7 +42,7 @@ module _ {R A S : Type 0} (rack : racks.Ghosts R) (area : areas.Ghosts A) (last 
       let high = d.1 in
       (d.0, omega (arith, low, high))
 
-  started_next : (a b : S) (u v : Uber A) (result : Result Syncing SyncFault) → BeginsThrough rack area last went shared owns count a u result b v → Ready a (next_of u) → Next b v (next_of u)
+  pub started_next : (a b : S) (u v : Uber A) (result : Result Syncing SyncFault) → BeginsThrough rack area last went shared owns count a u result b v → Ready a (next_of u) → Next b v (next_of u)
   started_next a b u v result t g =
       let f = begun_next t.waits a t.mid u t.w t.front g in
       let d = begins_next rack area last went shared owns own count Stays on (next_of t.w) t.mid b t.w v (Some result) refl t.begins f.0 in

@@ -58,7 +58,7 @@ module _ {R A G W O : Type 0} (rack : racks.Ghosts R) (area : areas.Ghosts A) (x
   -- how the uberblock was found
   pub stood : (did.value.turns.now ≡ old.turns.now) × IsUberOf rack area old.turns.now did.value.uber did.value.groups
   stood =
-      let z = stood_keeps (λ a past. UberStep rack area a.turns.now past.left.turns.now past.left.uber past.left.groups) (λ v. (v.turns.now ≡ old.turns.now) × IsUberOf rack area v.turns.now v.uber v.groups) lock.first did.log did.value
+      let z = stood_keeps (λ a past. UberStep rack area a.turns.now past.left.turns.now a.uber past.left.uber past.left.groups) (λ v. (v.turns.now ≡ old.turns.now) × IsUberOf rack area v.turns.now v.uber v.groups) lock.first did.log did.value
       (λ a past was step. (step.same ∙ was.0, step.is)) (turns, first) did.stood in
       (z.0, subst (λ ls. IsUberOf rack area ls did.value.uber did.value.groups) z.0 z.1)
 

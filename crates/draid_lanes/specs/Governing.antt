@@ -100,11 +100,11 @@ module _ {R A G W O : Type 0} (rack : racks.Ghosts R) (area : areas.Ghosts A) wh
   -- so in one turn of the uberblock, at a place of its history that is the pass's own
   abbrev pub GovernedIn : (O → Locked R A G W → Uber A → O → Locked R A G W → Uber A → Type 0) → Lock (UberCell R A) → Locked R A G W → O → Locked R A G W → O → (pass next : Caller (Past (UberCell R A))) → Type 0
   GovernedIn relates lock old op new done pass next =
-      Did {O = Locked R A G W × O} (λ a past. UberStep rack area a.turns.now past.left.turns.now past.left.uber past.left.groups) (λ x u y v. GovernedCell relates x.0 x.1 u y.0 y.1 v) (λ x. None) lock.first (old, op) (new, done) pass next
+      Did {O = Locked R A G W × O} (λ a past. UberStep rack area a.turns.now past.left.turns.now a.uber past.left.uber past.left.groups) (λ x u y v. GovernedCell relates x.0 x.1 u y.0 y.1 v) (λ x. None) lock.first (old, op) (new, done) pass next
 
   -- what is so in a turn, behind it
   pub record HasGoverned (relates : O → Locked R A G W → Uber A → O → Locked R A G W → Uber A → Type 0) (old : Locked R A G W) (op : O) (found : UberCell R A) (new : Locked R A G W) (done : O) (left : UberCell R A) : Type 0 where
-    pub step : UberStep rack area found.turns.now left.turns.now left.uber left.groups
+    pub step : UberStep rack area found.turns.now left.turns.now found.uber left.uber left.groups
     pub turns : new.turns.now ≡ old.turns.now
     pub owns : owned_by new.passes.items ≡ owned_by old.passes.items
     pub lane : IsLane rack new.turns.now new.passes.items

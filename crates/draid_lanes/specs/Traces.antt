@@ -3,6 +3,9 @@ use Rattle.std.specs.Prelude.{◌≡◌, ◌<◌, ◌≤◌, ◌++◌, ◌∷◌
 use Rattle.draid_rack.specs.declared.Rack as racks
 use Rattle.draid_area.specs.declared.Area as areas
 use Rattle.draid_machine.specs.Created.{IsReached}
+use Rattle.draid_machine.specs.Names.{is_block}
+use Rattle.draid_machine.specs.declared.names.Held.{Held}
+use Rattle.draid_machine.specs.declared.names.Key.{Key}
 use Rattle.draid_segments.specs.Segments.{Pieces}
 use Rattle.draid_session.specs.Follows.{Follows}
 use Rattle.draid_session.specs.Holds.{Hold}
@@ -14,6 +17,7 @@ use Rattle.draid_turn.specs.Calls.{Caller, Lock}
 use Rattle.draid_turn.specs.History.{left_by}
 use Rattle.draid_turn.specs.Lists.{Ascends, StartsWith}
 use Rattle.draid_turn.specs.declared.past.Past.{Past}
+use Rattle.draid_pool.specs.Bytes.{HasBytes}
 use Rattle.draid_pool.specs.Drifts.{Since}
 use Rattle.draid_pool.specs.Importable.{AllAlike, HasPoolVersions, Shared}
 use Rattle.draid_pool.specs.Metaslabs.{IsMetaslab}
@@ -60,6 +64,13 @@ module _ {R A : Type 0} (rack : racks.Ghosts R) (area : areas.Ghosts A) (x : Sta
     pub there : slice_get x.metaslabs m ≡ Some first
     pub came : Came rack area (part_in x m) first (left_in lock seen)
     pub is : came.reached ≡ y
+
+  -- Up to so much of a lock's history: wherever the metaslab stood, its blocks had bytes of their length and digest, of whose columns the rack has what its pieces say.
+  abbrev pub HadBytes : Lock (Cell R A) → List (Past (Cell R A)) → ℕ → Type 0
+  HadBytes lock seen m =
+      (log : List (Past (Cell R A))) (y : Metaslab) → StartsWith seen log → CameAt lock log m y
+      → (pieces : Pieces) × IsMetaslab rack area (part_in x m) pieces (left_in lock log) y
+      × ((k : Key) (h : Held) → y.world.core.held k ≡ Some h → is_block h.stage ≡ true → HasBytes (part_in x m).geometry h k pieces)
 
   -- A state of the pool as it is known to who holds the uberblock: each metaslab is what it came to up to where the passes of the groups saw it, and of the uberblock it has what the value has. So far it is a state of a
   -- whole pool, whatever befell the objects.
@@ -129,6 +140,10 @@ module _ {R A : Type 0} (rack : racks.Ghosts R) (area : areas.Ghosts A) (x : Sta
           → (z : Metaslab) × (slice_get y.metaslabs m ≡ Some z) × CameAt lock pass.seen m z
       pub ordered : (m : ℕ) (pass : Caller (Past (Cell R A))) → slice_get lane.metaslabs.passes.items m ≡ Some pass → Ascends pass.own × All (λ place. place < length pass.seen) pass.own
       pub knows : Knows rack area (owned_by lane.metaslabs.passes.items) (last_in lane.metaslabs.turns.now lane.metaslabs.passes.items) (table_of lane) lane.own.seq lane.own.floor y
+
+    -- so it was in all that a lane saw
+    abbrev pub SawBytes : Lane R A G W → Type 0
+    SawBytes lane = (m : ℕ) (lock : Lock (Cell R A)) (pass : Caller (Past (Cell R A))) → slice_get lane.metaslabs.turns.now m ≡ Some lock → slice_get lane.metaslabs.passes.items m ≡ Some pass → HadBytes lock pass.seen m
 
     -- what a lane did, and to what that led it: it is what is said to be done, with what the lane has of its own then
     pub record LeadsLane (says : List Hold → Store → Type 0) (old new : Lane R A G W) : Type 0 where

@@ -17,12 +17,14 @@ use Rattle.draid_shard.specs.States.{part_of}
 use Rattle.draid_shard.specs.declared.shard.Shard.{Shard}
 use Rattle.draid_pool.specs.Committing.{DropsFreed}
 use Rattle.draid_pool.specs.Drifts.{Drifts, GoesOn, KeepsOf, KeepsTo, StateStep, groups_number, is_other}
+use Rattle.draid_pool.specs.Groups.{AreasLater}
 use Rattle.draid_pool.specs.Grouping.{ClosesIn, ClosesNext, CommitsNext, SealsBy, SealsIn, SealsNext}
 use Rattle.draid_pool.specs.Passes.{KeepsPass}
 use Rattle.draid_pool.specs.Shards.{KeepsImages}
 use Rattle.draid_pool.specs.Syncing.{Commits, KeepsTable, Turns}
 use Rattle.draid_pool.specs.declared.fault.SyncFault.{SyncFault}
 use Rattle.draid_pool.proofs.Drifting.{keeps_self, same_pass}
+use Rattle.draid_pool.proofs.Rises.{records_as, records_same}
 use Rattle.draid_pool.proofs.ShardSteps.{acts_since}
 use Rattle.draid_pool.proofs.Since.{state_self}
 use Rattle.draid_pool.proofs.Turns.{commit_turns}
@@ -53,26 +55,27 @@ module _ {R A : Type 0} (rack : racks.Ghosts R) (area : areas.Ghosts A) where
   }
 
   -- what is held stays, and so do the committed group and the pass
-  table_keeps : (x y : Shard R A) → Valid rack y → KeepsTable x y → KeepsPass x.pass y.pass → StateStep rack area (is_other (Some groups_number)) x y → KeepsTo rack area x y (Some groups_number)
-  table_keeps x y valid table pass state = record {
+  table_keeps : (x y : Shard R A) → Valid rack y → KeepsTable x y → KeepsPass x.pass y.pass → AreasLater area.faults x y → StateStep rack area (is_other (Some groups_number)) x y → KeepsTo rack area x y (Some groups_number)
+  table_keeps x y valid table pass later state = record {
     valid = valid;
     part = table.part;
     later = (let same = table.committed in omega (arith, same));
     groups = λ is. not_kept is;
     passes = λ other. pass;
     others = record { each = λ key own. inl (table.entries.held key) };
+    areas = later;
     state = state;
   }
 
   closes_keep : (x y : Shard R A) (group : ℕ) (result : Result Unit SyncFault) → ClosesIn rack area group x result y → KeepsTo rack area x y (Some groups_number)
-  closes_keep x y group result c = table_keeps x y c.valid c.table c.stays.pass (λ part pieces u is. turns_go (is_other (Some groups_number)) part pieces u y _ (c.closes part pieces u is) (λ mine. not_kept mine))
+  closes_keep x y group result c = table_keeps x y c.valid c.table c.stays.pass c.later (λ part pieces u is. turns_go (is_other (Some groups_number)) part pieces u y _ (c.closes part pieces u is) (λ mine. not_kept mine))
 
   pub close_keeps : (x y : Shard R A) (group : ℕ) (out : Option (Result Unit SyncFault)) → MatchOption out ⊥ (λ result. ClosesIn rack area group x result y) → KeepsTo rack area x y (Some groups_number)
   close_keeps x y group None did = absurd did
   close_keeps x y group (Some result) did = closes_keep x y group result did
 
   seals_keep : (x y : Shard R A) (group : ℕ) (result : Result ℕ SyncFault) → SealsBy rack area group x result y → KeepsTo rack area x y (Some groups_number)
-  seals_keep x y group result s = table_keeps x y s.valid s.table s.stays.pass (λ part pieces u is. turns_go (is_other (Some groups_number)) part pieces u y _ (s.seals part pieces u is) (λ mine. not_kept mine))
+  seals_keep x y group result s = table_keeps x y s.valid s.table s.stays.pass s.later (λ part pieces u is. turns_go (is_other (Some groups_number)) part pieces u y _ (s.seals part pieces u is) (λ mine. not_kept mine))
 
   -- one that changed nothing
   still_keeps : (x y : Shard R A) (n : ℕ) → Valid rack x → y ≡ x → KeepsTo rack area x y (Some groups_number)
@@ -83,6 +86,7 @@ module _ {R A : Type 0} (rack : racks.Ghosts R) (area : areas.Ghosts A) where
     groups = λ is. not_kept is;
     passes = λ other. same_pass x.pass y.pass (ap (λ (s : Shard R A). s.pass) same);
     others = subst (λ (s : Shard R A). KeepsOf (is_other (Some groups_number)) s.committed x.entries s.entries) (sym same) (keeps_self (is_other (Some groups_number)) x.committed x.entries);
+    areas = records_as area.faults x y same;
     state = subst (StateStep rack area (is_other (Some groups_number)) x) (sym same) (state_self rack area (is_other (Some groups_number)) x);
   }
 
@@ -102,6 +106,7 @@ module _ {R A : Type 0} (rack : racks.Ghosts R) (area : areas.Ghosts A) where
     groups = λ is. not_kept is;
     passes = λ other. c.stays.pass;
     others = drops_keeps (is_other (Some groups_number)) y.committed x.entries y.entries (subst (λ g. DropsFreed g x.entries y.entries) (sym c.commits.committed) c.commits.entries);
+    areas = records_same area.faults x y c.areas;
     state = λ part pieces u is. turns_go (is_other (Some groups_number)) part pieces u y _ (commit_turns rack area part pieces x y group u is c) (λ mine. not_kept mine);
   }
 

@@ -8,6 +8,7 @@ use Rattle.draid_shard.specs.States.{part_of}
 use Rattle.draid_shard.specs.declared.shard.Shard.{Shard}
 use Rattle.draid_pool.specs.Drifts.{KeepsOf, KeepsTo, StateStep, is_other}
 use Rattle.draid_pool.proofs.Drifting.{keeps_self}
+use Rattle.draid_pool.proofs.Rises.{records_as}
 use Rattle.draid_pool.proofs.Since.{state_self}
 use Rattle.draid_pool.specs.Looking.{SeesShard}
 use Rattle.draid_pool.specs.declared.room.Seen.{Seen}
@@ -22,6 +23,7 @@ module _ {R A : Type 0} (rack : racks.Ghosts R) (area : areas.Ghosts A) where
     groups = λ other. same_groups x y same;
     passes = λ other. same_pass x.pass y.pass (ap (λ (s : Shard R A). s.pass) same);
     others = subst (λ (s : Shard R A). KeepsOf (is_other None) s.committed x.entries s.entries) (sym same) (keeps_self (is_other None) x.committed x.entries);
+    areas = records_as area.faults x y same;
     state = subst (StateStep rack area (is_other None) x) (sym same) (state_self rack area (is_other None) x);
   }
 

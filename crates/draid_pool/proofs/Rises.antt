@@ -42,10 +42,14 @@ module _ {R A : Type 0} (faults : A → ℕ) where
     odd = (let is = ap faults same.odd in omega (arith, is));
   }
 
+  -- as it was
+  pub records_as : (old new : Shard R A) → new ≡ old → sealing.AreasLater faults old new
+  records_as old new same = records_same old new (record { even = ap (λ (s : Shard R A). s.even) same; odd = ap (λ (s : Shard R A). s.odd) same })
+
   pub records_still : (shard : Shard R A) → sealing.AreasLater faults shard shard
   records_still shard = record { even = omega arith; odd = omega arith }
 
-  records_on : (old mid new : Shard R A) → sealing.AreasLater faults old mid → sealing.AreasLater faults mid new → sealing.AreasLater faults old new
+  pub records_on : (old mid new : Shard R A) → sealing.AreasLater faults old mid → sealing.AreasLater faults mid new → sealing.AreasLater faults old new
   records_on old mid new first second = record {
     even = (let a = first.even in let b = second.even in omega (arith, a, b));
     odd = (let a = first.odd in let b = second.odd in omega (arith, a, b));

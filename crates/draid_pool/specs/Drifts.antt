@@ -19,6 +19,7 @@ use Rattle.draid_shard.specs.States.{part_of}
 use Rattle.draid_shard.specs.declared.shard.Shard.{Shard}
 use Rattle.draid_session.specs.State.{Metaslab}
 use Rattle.draid_pool.specs.Bytes.{SamePieces}
+use Rattle.draid_pool.specs.Groups.{AreasLater}
 use Rattle.draid_pool.specs.Metaslabs.{IsMetaslab}
 use Rattle.draid_pool.specs.Passes.{KeepsPass}
 use Rattle.draid_pool.specs.Shards.{KeepsImages}
@@ -78,7 +79,8 @@ pub record KeepsGroups {R A : Type 0} (old new : Shard R A) : Type 0 where
   pub reserve : reserved_of new.history ≡ reserved_of old.history
 
 -- What every hold keeps to: the metaslab is valid, what it has of objects that the hold doesn't concern is as it was, its groups, arms and reserved events are as they were unless
--- the hold concerns them, its pass is the one that it was unless the hold concerns that, and whatever state it stood for, it stands for one behind it.
+-- the hold concerns them, its pass is the one that it was unless the hold concerns that, no count of failed calls on the areas of its records fell, and whatever state it stood for, it
+-- stands for one behind it.
 pub record KeepsTo {R A : Type 0} (rack : racks.Ghosts R) (area : areas.Ghosts A) (old new : Shard R A) (concerned : Option ℕ) : Type 0 where
   pub valid : Valid rack new
   pub part : part_of new ≡ part_of old
@@ -86,6 +88,7 @@ pub record KeepsTo {R A : Type 0} (rack : racks.Ghosts R) (area : areas.Ghosts A
   pub groups : is_other concerned groups_number ≡ true → KeepsGroups old new
   pub passes : is_other concerned passes_number ≡ true → KeepsPass old.pass new.pass
   pub others : KeepsOf (is_other concerned) new.committed old.entries new.entries
+  pub areas : AreasLater area.faults old new
   pub state : StateStep rack area (is_other concerned) old new
 
 -- what others may have done since, where there are any: what it has of a thread's own objects is as it was, and so are its groups, arms and reserved events where the groups are

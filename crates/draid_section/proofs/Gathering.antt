@@ -43,7 +43,8 @@ use Rattle.draid_lanes.proofs.SyncUnder.{groups_in}
 use Rattle.draid_section.specs.Opening.{AreDealt, AreLocked, IsDealt}
 use Rattle.draid_tables.specs.Owns.{AllWithin, AreDealtOut, HaveTableRoom, TakesAll, greatest, most_objects}
 use Rattle.draid_section.specs.Running.{BeginsAt, IsLeftWhole, JobRan, KeepLanes}
-use Rattle.draid_section.specs.Section.{AreLaneLists, BeginsLane, EndWithGroups, GovernsFirst, MayRunAll, MayRunLocked, MayRunUnder, RunsLocked}
+use Rattle.draid_tables.specs.Lists.{AreLaneLists}
+use Rattle.draid_section.specs.Section.{BeginsLane, EndWithGroups, GovernsFirst, MayRunAll, MayRunLocked, MayRunUnder, RunsLocked}
 use Rattle.draid_section.specs.Turning.{AreOfLanes, IsUberLock}
 use Rattle.draid_section.specs.Whole.{AreLaneNumbers, IsGathered, IsOfLane, IsOfPool, LaneEnded, LanesEnded, pointer_in}
 use Rattle.draid_section.specs.declared.seats.Shares.{Shares}
@@ -58,7 +59,7 @@ use Rattle.draid_section.proofs.Sitting.{at_push}
 
 -- ---- lists of numbers
 
-all_at : {X : Type 0} (P : X → Type 0) (xs : List X) → All P xs → (k : ℕ) (x : X) → slice_get xs k ≡ Some x → P x
+pub all_at : {X : Type 0} (P : X → Type 0) (xs : List X) → All P xs → (k : ℕ) (x : X) → slice_get xs k ≡ Some x → P x
 all_at P [] all k x is = absurd (cc)
 all_at P (y ∷ xs) all zero x is = subst P (some_of (Some y) y x refl is) (All-head P y xs all)
 all_at P (y ∷ xs) all (suc k) x is = all_at P xs (All-tail P y xs all) k x is

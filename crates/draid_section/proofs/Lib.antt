@@ -1,4 +1,6 @@
+pub mod Answered
 pub mod Beginning
+pub mod Counted
 pub mod Dealt
 pub mod Ended
 pub mod Finals
@@ -23,5 +25,7 @@ pub mod SectionTold
 pub mod ShardTurns
 pub mod Sitting
 pub mod Splitting
+pub mod Taught
+pub mod TeachLaw
 pub mod UberTurns
 pub mod Unlocking

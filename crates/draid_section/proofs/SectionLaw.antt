@@ -54,7 +54,8 @@ use Rattle.draid_lanes.proofs.Held.{owned_at}
 use Rattle.draid_lanes.proofs.SyncUnder.{groups_in}
 use Rattle.draid_section.specs.Opening.{AreLocked, IsDealt}
 use Rattle.draid_section.specs.Running.{IsLeftWhole, JobRan, KeepLanes}
-use Rattle.draid_section.specs.Section.{AreLaneLists, MayRunAll, RunsLocked}
+use Rattle.draid_tables.specs.Lists.{AreLaneLists}
+use Rattle.draid_section.specs.Section.{MayRunAll, RunsLocked}
 use Rattle.draid_lanes.specs.Telling.{Grows, JobsTell}
 use Rattle.draid_section.specs.Told.{LaneDid, SectionStood, greatest_of}
 use Rattle.draid_section.specs.Turning.{lane_alone}
@@ -78,7 +79,7 @@ use Rattle.draid_section.proofs.UberTurns.{UberTogether, with_uber}
 module _ {R A G W J : Type 0} (rack : racks.Ghosts R) (area : areas.Ghosts A) (needs : J → Lane R A G W → Type 0) (relates : J → Lane R A G W → J → Lane R A G W → Type 0) (pool : Pool R A) (w : IsWhole rack area pool) (lists : List (Vec Span Global)) (al : AreLaneLists lists) (jobs : Vec J Global)
     (may : MayRunAll rack area needs pool lists jobs.items) (keeps : KeepLanes rack area needs relates) (locks : List (Lock (Cell R A))) (firsts : List (Caller (Past (Cell R A)))) (locked : AreLocked pool.metaslabs.shards.items locks firsts) (gl : Vec Span Global) (alone : gl.items ≡ groups_alone)
     (owns : Vec Own Global) (dealt_out : AreDealtOut pool.own lists owns.items) (uber' : Uber A) (shards' : List (Shard R A)) (owns' : Vec Own Global) (jobs' : Vec J Global) (ran : RunsLocked rack area relates pool.geometry locks pool.uber (lists ++ gl ∷ []) owns jobs uber' shards' owns' jobs')
-    (x : State) (r : Represents rack area pool x) (says : J → J → Store → List Hold → Store → Type 0) (tells : JobsTell rack area says relates x) (many_jobs : length lists ≡ length jobs.items) where
+    (x : State) (r : Represents rack area pool x) (says : J → J → Store → List Hold → Store → Type 0) (rests : J → Type 0) (tells : JobsTell rack area says rests relates x) (calm : (i : ℕ) (job : J) → slice_get jobs.items i ≡ Some job → rests job → ⊥) (many_jobs : length lists ≡ length jobs.items) where
   abbrev pub Ran : ℕ → Type 0
   Ran i = JobRan relates locks ran.under.lock pool.geometry ran.old ran.new ran.under.over.passes ran.under.over.nexts i
 
@@ -104,7 +105,10 @@ module _ {R A G W J : Type 0} (rack : racks.Ghosts R) (area : areas.Ghosts A) (n
 
     -- what it did
     lane_led : LeadsLane rack area x (λ holds store. says j.job j.done x.store holds store × Grows (owned_by j.lane.metaslabs.passes.items) x.store store) j.lane j.next
-    lane_led = tells j.job j.lane j.done j.next j.related x lane_stands
+    lane_led =
+        let l = tells j.job j.lane j.done j.next j.related x lane_stands in
+        let there : slice_get jobs.items i ≡ Some j.job = sym (ap (λ (v : Vec J Global). slice_get v.items i) ran.jobs_are) ∙ j.begun.job_is in
+        record { turns = l.turns; holds = l.holds; had = l.had; reached = l.reached; done = (l.done.0 (λ r. absurd (calm i j.job there r)), l.done.1); stands = l.stands }
 
   -- a lane's trace, and where it comes from
   pub record LedBy (i : ℕ) (trace : Trace) : Type 0 where
@@ -660,6 +664,7 @@ module _ {R A G W J : Type 0} (rack : racks.Ghosts R) (area : areas.Ghosts A) (n
     section_stood = record {
       lanes = dids;
       many = length-map section_traces did_of ∙ (traces_many ∙ many_jobs);
+      done_many = ap (λ (v : Vec J Global). length v.items) (sym ran.jobs_then) ∙ (ran.under.over.ran.even.jobs ∙ (lanes_are_many ∙ (traces_many ∙ many_jobs)));
       each = λ i did at.
           (let z = did_at i section_traces did at in
           let t = trace_at i z.0 z.1 in

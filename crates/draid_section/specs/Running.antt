@@ -75,3 +75,9 @@ module _ {R A G W J : Type 0} where
   -- each job has what it needs then
   abbrev pub MayRunEach : (needs : J → Lane R A G W → Type 0) → List (Lock (Cell R A)) → Lock (UberCell R A) → Geometry → Shares R A J → List (Caller (Past (UberCell R A))) → Type 0
   MayRunEach needs locks uber geometry shares passes = (i : ℕ) (job : J) (lane : Lane R A G W) → BeginsAt locks uber geometry shares passes i job lane → needs job lane
+
+module _ {R A G W J : Type 0} where
+  -- each job was done in a lane
+  pub record WereDone (relates : J → Lane R A G W → J → Lane R A G W → Type 0) (jobs done : List J) : Type 0 where
+    pub many : length done ≡ length jobs
+    pub each : (i : ℕ) (job : J) → slice_get jobs i ≡ Some job → (lane : Lane R A G W) × (end : J) × (next : Lane R A G W) × (slice_get done i ≡ Some end) × relates job lane end next

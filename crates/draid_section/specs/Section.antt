@@ -30,14 +30,6 @@ use Rattle.draid_section.specs.Turning.{AreOfLanes, IsUberLock, UberComesBack}
 use Rattle.draid_section.specs.Whole.{pointer_in}
 use Rattle.draid_section.specs.declared.seats.Shares.{Shares}
 
--- ---- what lanes may hold
-
--- Each lane holds a number, and no two lanes the same one. None holds that of the groups, nor the last of all numbers.
-pub record AreLaneLists (lists : List (Vec Span Global)) : Type 0 where
-  pub some : EachHoldsSome lists
-  pub apart : (n : ℕ) → shares n lists ≤ 1
-  pub inside : (n : ℕ) → 1 ≤ shares n lists → (n ≢ groups_number) × (n + 1 < number_limit)
-
 -- ---- a lane that begins
 
 module _ {R A G W J : Type 0} (rack : racks.Ghosts R) (area : areas.Ghosts A) where

@@ -5,8 +5,10 @@ use Rattle.draid_area.specs.declared.Area as areas
 use Rattle.draid_objects.specs.Changes.{Change}
 use Rattle.draid_session.specs.Holds.{Hold}
 use Rattle.draid_session.specs.Keeping.{AreInStep}
+use Rattle.draid_session.specs.Known.{Known}
 use Rattle.draid_session.specs.Lanes.{SwitchesAgree, Together}
 use Rattle.draid_session.specs.State.{State, Store}
+use Rattle.draid_pool.specs.Knows.{KnowsPointers}
 use Rattle.draid_pool.specs.Pools.{Represents}
 use Rattle.draid_pool.specs.declared.pool.Pool.{Pool}
 
@@ -27,6 +29,7 @@ module _ {R A J : Type 0} (rack : racks.Ghosts R) (area : areas.Ghosts A) (says 
   pub record SectionStood (x : State) (jobs done : List J) (new : Pool R A) : Type 0 where
     pub lanes : List LaneDid
     pub many : length lanes ≡ length jobs
+    pub done_many : length done ≡ length jobs
     pub each : (i : ℕ) (lane : LaneDid) → slice_get lanes i ≡ Some lane
         → (job : J) × (end : J) × (slice_get jobs i ≡ Some job) × (slice_get done i ≡ Some end) × says job end x.store lane.holds lane.store × (lane.store.changes ≡ lane.since ++ x.store.changes)
     pub reached : State
@@ -38,3 +41,17 @@ module _ {R A J : Type 0} (rack : racks.Ghosts R) (area : areas.Ghosts A) (says 
     pub floor : reached.store.floor ≡ greatest_of (λ (s : Store). s.floor) x.store lanes
     pub steps : AreInStep reached
     pub switches : SwitchesAgree x → SwitchesAgree reached
+
+-- ---- a pool of no known state
+
+-- What each job says of the objects is allowed by what was known as the one before it ended, and adds to that.
+abbrev pub LearnEach : {J : Type 0} → (learns : J → J → Known → Known → Type 0) → List J → List J → Known → Known → Type 0
+LearnEach learns [] [] old new = new ≡ old
+LearnEach learns (job ∷ jobs) (end ∷ done) old new = (mid : Known) × learns job end old mid × LearnEach learns jobs done mid new
+LearnEach learns jobs done old new = ⊥
+
+-- and what they add is so of the pool then
+pub record SectionTaught {R A J : Type 0} (learns : J → J → Known → Known → Type 0) (jobs done : List J) (new : Pool R A) (known : Known) : Type 0 where
+  pub later : Known
+  pub learn : LearnEach learns jobs done known later
+  pub fits : KnowsPointers new later

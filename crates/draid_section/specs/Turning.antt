@@ -29,7 +29,7 @@ module _ {R A : Type 0} where
 
   -- what every hold of the uberblock keeps to, of what it found and how it left it
   abbrev pub UberHold : racks.Ghosts R → areas.Ghosts A → UberCell R A → Past (UberCell R A) → Type 0
-  UberHold rack area old past = UberStep rack area old.turns.now past.left.turns.now past.left.uber past.left.groups
+  UberHold rack area old past = UberStep rack area old.turns.now past.left.turns.now old.uber past.left.uber past.left.groups
 
   -- The uberblock was taken out of its lock in a last turn, with the passes that hold the groups then: each place of its history is just one pass's. The metaslabs' locks are those with which it was put there.
   pub record UberComesBack (rack : racks.Ghosts R) (area : areas.Ghosts A) (lock : Lock (UberCell R A)) (first : Caller (Past (UberCell R A))) (passes : List (Caller (Past (UberCell R A)))) (uber : Uber A) (groups : Vec (Caller (Past (Cell R A))) Global) : Type 0 where

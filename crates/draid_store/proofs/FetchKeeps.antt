@@ -12,7 +12,7 @@ use Rattle.draid_block.specs.Solving.{IsFetched}
 use Rattle.draid_block.specs.declared.solve.Fetched.{Fetched}
 use Rattle.draid_segments.specs.Segments.{Pieces}
 use Rattle.draid_shard.specs.Alike.{KeepsArms}
-use Rattle.draid_shard.specs.Calls.{SameReserve}
+use Rattle.draid_shard.specs.Calls.{SameAreas, SameReserve}
 use Rattle.draid_shard.specs.Changes.{KeepsBlocks}
 use Rattle.draid_shard.specs.Part.{Part, layout_in}
 use Rattle.draid_shard.specs.States.{part_of}
@@ -24,6 +24,7 @@ use Rattle.draid_pool.specs.Threads.{HasPointer}
 use Rattle.draid_pool.proofs.Dids.{none_here}
 use Rattle.draid_pool.proofs.Drifting.{groups_by, same_pass}
 use Rattle.draid_pool.proofs.Imaged.{keeps_same}
+use Rattle.draid_pool.proofs.Rises.{records_same}
 use Rattle.draid_pool.proofs.ShardSteps.{follows_since, live_on}
 use Rattle.draid_pool.proofs.Since.{since_self}
 use Rattle.draid_store.specs.Fetching.{FetchesNone, FetchesShard, MayFetchIn}
@@ -32,7 +33,7 @@ use Rattle.draid_store.proofs.Fetched.{fetches}
 use Rattle.draid_store.proofs.Pointed.{fetch_block, fetch_starved, fetch_worn}
 
 module _ {R A : Type 0} (rack : racks.Ghosts R) (area : areas.Ghosts A) where
-  -- ---- all blocks, groups and arms are as they were
+  -- ---- all blocks, groups, arms and areas are as they were
 
   pub fetch_blocks : (x y : Shard R A) (p : Pointer) (result : Result Fetched ObjectFault) → FetchesShard rack x p result y → KeepsBlocks x y
   fetch_blocks x y p (Ok fetched) f = f.did.fetches.keeps
@@ -47,6 +48,13 @@ module _ {R A : Type 0} (rack : racks.Ghosts R) (area : areas.Ghosts A) where
   fetch_arms x y p (Err (object.Unreadable absent tried)) f = absurd f.did
   fetch_arms x y p (Err object.Worn) f = f.did.0.nothing.slots
   fetch_arms x y p (Err object.NoMemory) f = f.did.nothing.slots
+
+  fetch_areas : (x y : Shard R A) (p : Pointer) (result : Result Fetched ObjectFault) → FetchesShard rack x p result y → SameAreas x y
+  fetch_areas x y p (Ok fetched) f = f.did.areas_are
+  fetch_areas x y p (Err object.NoObject) f = absurd f.did
+  fetch_areas x y p (Err (object.Unreadable absent tried)) f = absurd f.did
+  fetch_areas x y p (Err object.Worn) f = f.did.0.kit.areas
+  fetch_areas x y p (Err object.NoMemory) f = f.did.kit.areas
 
   fetch_reserve : (x y : Shard R A) (p : Pointer) (result : Result Fetched ObjectFault) → FetchesShard rack x p result y → SameReserve x y
   fetch_reserve x y p (Ok fetched) f = f.did.reserve
@@ -85,6 +93,7 @@ module _ {R A : Type 0} (rack : racks.Ghosts R) (area : areas.Ghosts A) where
     groups = λ other. fetch_groups x y p result f;
     passes = λ other. same_pass x.pass y.pass f.pass;
     others = record { each = λ key other. inl ((fetch_blocks x y p result f).entries.held key) };
+    areas = records_same area.faults x y (fetch_areas x y p result f);
     state = state_on (is_other None) x y p result f;
   }
 

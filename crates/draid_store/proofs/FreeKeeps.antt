@@ -14,6 +14,7 @@ use Rattle.draid_shard.specs.declared.shard.Shard.{Shard}
 use Rattle.draid_pool.specs.Drifts.{KeepsGroups, KeepsOf, KeepsTo, StateStep, is_other}
 use Rattle.draid_store.specs.Frees.{FreesBlock, FreesShard, IsEarly}
 use Rattle.draid_pool.proofs.Drifting.{groups_by, keeps_self, same_groups, same_pass}
+use Rattle.draid_pool.proofs.Rises.{records_as, records_same}
 use Rattle.draid_pool.proofs.ShardSteps.{sets_others, state_goes}
 use Rattle.draid_pool.proofs.Since.{state_self}
 
@@ -47,6 +48,7 @@ module _ {R A : Type 0} (rack : racks.Ghosts R) (area : areas.Ghosts A) where
         groups = λ other. same_groups x y e.same;
         passes = λ other. same_pass x.pass y.pass (ap (λ (s : Shard R A). s.pass) e.same);
         others = subst (λ (s : Shard R A). KeepsOf of s.committed x.entries s.entries) (sym e.same) (keeps_self of x.committed x.entries);
+        areas = records_as area.faults x y e.same;
         state = subst (StateStep rack area of x) (sym e.same) (state_self rack area of x);
       }
       by (Some group) b = record {
@@ -56,5 +58,6 @@ module _ {R A : Type 0} (rack : racks.Ghosts R) (area : areas.Ghosts A) where
         groups = λ other. sets_groups x y p (Some (staged (stage.Freed group) p)) b.sets b.reserve;
         passes = λ other. same_pass x.pass y.pass b.pass;
         others = sets_others y.committed x.entries y.entries p (Some (staged (stage.Freed group) p)) b.sets.entry;
+        areas = records_same area.faults x y b.areas_are;
         state = state_goes rack area of x y _ b.frees;
       }

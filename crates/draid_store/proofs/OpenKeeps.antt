@@ -30,6 +30,7 @@ use Rattle.draid_store.proofs.FreeKeeps.{nothing_groups}
 use Rattle.draid_pool.proofs.Drifting.{same_groups, same_pass}
 use Rattle.draid_store.proofs.PutKeeps.{put_keeps}
 use Rattle.draid_store.proofs.QuietKeeps.{begin_keeps, finish_keeps}
+use Rattle.draid_pool.proofs.Rises.{records_as, records_same}
 use Rattle.draid_pool.proofs.Since.{since_self, state_self}
 
 -- an entry is what its key, its metaslab and what a state has of it say
@@ -69,6 +70,7 @@ module _ {R A : Type 0} (rack : racks.Ghosts R) (area : areas.Ghosts A) where
             groups = λ other. same_groups x y same;
             passes = λ other. same_pass x.pass y.pass b.pass;
             others = subst (λ (s : Shard R A). KeepsOf of s.committed x.entries s.entries) (sym same) (keeps_self of x.committed x.entries);
+            areas = records_as area.faults x y same;
             state = subst (StateStep rack area of x) (sym same) (state_self rack area of x);
           }
       by (Some (Ok ticket)) did early =
@@ -83,6 +85,7 @@ module _ {R A : Type 0} (rack : racks.Ghosts R) (area : areas.Ghosts A) where
             groups = λ other. nothing_groups x y none b.reserve;
             passes = λ other. same_pass x.pass y.pass b.pass;
             others = record { each = λ key other. inl (none.keeps.entries.held key) };
+            areas = records_same area.faults x y b.kit.areas;
             state = λ part pieces u is. record {
               reached = u;
               now = pieces;

@@ -15,6 +15,7 @@ use Rattle.draid_pool.specs.Drifts.{KeepsTo}
 use Rattle.draid_shard.specs.declared.shard.Shard.{Shard}
 use Rattle.draid_pool.proofs.Drifting.{same_pass}
 use Rattle.draid_pool.proofs.Imaged.{step_keeps}
+use Rattle.draid_pool.proofs.Rises.{records_same}
 use Rattle.draid_pool.proofs.ShardSteps.{other_key, sets_others}
 use Rattle.draid_store.proofs.FreeKeeps.{sets_groups}
 
@@ -27,6 +28,7 @@ put_keeps rack area x y before now block valid areas_are reserve pass put carrie
   groups = λ other. sets_groups x y before.pointer _ put.sets reserve;
   passes = λ other. same_pass x.pass y.pass pass;
   others = sets_others y.committed x.entries y.entries before.pointer _ put.sets.entry;
+  areas = records_same area.faults x y areas_are;
   state = λ part pieces u is.
       let d = put_column rack area x y before now block valid areas_are reserve put carries part pieces u is in
       record {

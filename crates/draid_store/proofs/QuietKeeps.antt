@@ -23,6 +23,7 @@ use Rattle.draid_pool.proofs.Imaged.{LeavesImages, step_keeps}
 use Rattle.draid_pool.proofs.Forgetting.{forget, forget_own, forget_same, forgotten}
 use Rattle.draid_pool.specs.Drifts.{KeepsTo, is_other, StateStep}
 use Rattle.draid_pool.proofs.Drifting.{same_pass}
+use Rattle.draid_pool.proofs.Rises.{records_same}
 use Rattle.draid_pool.proofs.ShardSteps.{other_key, sets_others}
 use Rattle.draid_store.proofs.FreeKeeps.{sets_groups}
 
@@ -33,27 +34,28 @@ module _ {R A : Type 0} (rack : racks.Ghosts R) (area : areas.Ghosts A) where
       let d = done part pieces x is in
       record { reached = d.reached; now = pieces; is = d.is; since = record { opened = d.acts.opened; more = e ∷ []; stored = d.acts.stored; run = (d.reached.world, d.step, refl) }; images = λ mine. step_keeps (layout_in part) x.world d.reached.world e d.step leaves; same = λ k mine. inl refl }
 
-  one_keeps : (x y : Shard R A) (p : Pointer) (entry : Option Entry) (e : Event) → Valid rack y → Does x y e → SameReserve x y → y.pass ≡ x.pass → SetsBlock x y p entry
+  one_keeps : (x y : Shard R A) (p : Pointer) (entry : Option Entry) (e : Event) → Valid rack y → Does x y e → SameKit x y → SameReserve x y → y.pass ≡ x.pass → SetsBlock x y p entry
       → StateStep rack area (is_other (Some p.object)) x y → KeepsTo rack area x y (Some p.object)
-  one_keeps x y p entry e valid does reserve pass sets state = record {
+  one_keeps x y p entry e valid does kit reserve pass sets state = record {
     valid = valid;
     part = does.part;
     later = (let same = sets.groups.committed in omega (arith, same));
     groups = λ other. sets_groups x y p entry sets reserve;
     passes = λ other. same_pass x.pass y.pass pass;
     others = sets_others y.committed x.entries y.entries p entry sets.entry;
+    areas = records_same area.faults x y kit.areas;
     state = state;
   }
 
   pub begin_keeps : (x y : Shard R A) (p : Pointer) (entry : Option Entry) → Valid rack y → Does x y (begins p) → SameKit x y → SameReserve x y → y.pass ≡ x.pass → SetsBlock x y p entry
       → KeepsTo rack area x y (Some p.object)
-  begin_keeps x y p entry valid does kit reserve pass sets = one_keeps x y p entry (begins p) valid does reserve pass sets (state_done (is_other (Some p.object)) x y (begins p) tt
+  begin_keeps x y p entry valid does kit reserve pass sets = one_keeps x y p entry (begins p) valid does kit reserve pass sets (state_done (is_other (Some p.object)) x y (begins p) tt
       (λ part pieces u is. did_quiet rack area part pieces x y (begins p) u is valid does kit reserve (λ w after step s t same. same) (λ v step. refl) refl refl tt tt))
 
   -- of a block that came nothing is known but by the thread whose object it is of
   pub finish_keeps : (x y : Shard R A) (p : Pointer) (entry : Option Entry) → Valid rack y → Does x y (event.Finish (key_of p)) → SameKit x y → SameReserve x y → y.pass ≡ x.pass → SetsBlock x y p entry
       → KeepsTo rack area x y (Some p.object)
-  finish_keeps x y p entry valid does kit reserve pass sets = one_keeps x y p entry (event.Finish (key_of p)) valid does reserve pass sets (λ part pieces u is.
+  finish_keeps x y p entry valid does kit reserve pass sets = one_keeps x y p entry (event.Finish (key_of p)) valid does kit reserve pass sets (λ part pieces u is.
       let now = forget (key_of p) pieces in
       let d = did_quiet rack area part now x y (event.Finish (key_of p)) u (forgotten rack area part (key_of p) pieces x u is) valid does kit reserve (λ w after step s t same. same) (λ v step. refl) refl refl tt
       (λ h at. nothing_known part.geometry h (key_of p) now (forget_own (key_of p) pieces)) in

@@ -7,7 +7,7 @@ use Rattle.draid_area.specs.declared.Area as areas
 use Rattle.draid_machine.specs.declared.names.Stage.TheVariants.{Freed}
 use Rattle.draid_segments.specs.Segments.{Pieces}
 use Rattle.draid_entries.specs.Maps.{staged}
-use Rattle.draid_shard.specs.Calls.{SameReserve}
+use Rattle.draid_shard.specs.Calls.{SameAreas, SameReserve}
 use Rattle.draid_shard.specs.Looks.{IsLive}
 use Rattle.draid_shard.specs.Changes.{SetsBlock}
 use Rattle.draid_shard.specs.Fits.{Valid}
@@ -37,6 +37,7 @@ module _ {R A : Type 0} (rack : racks.Ghosts R) where
       pub sets : SetsBlock old new pointer (Some (staged (Freed group) pointer))
       pub reserve : SameReserve old new
       pub pass : new.pass ≡ old.pass
+      pub areas_are : SameAreas old new
       pub frees : (part : Part) (pieces : Pieces) (x : Metaslab) → IsMetaslab rack area part pieces old x → Goes rack area part pieces x new (FreesIn part.number pointer floor group x)
 
     -- it isn't its turn, and nothing changed

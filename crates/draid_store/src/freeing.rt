@@ -4,7 +4,7 @@ ghost use Rattle.draid_names.specs.declared.numbers.TheConstants.{LAST_NUMBER};
 ghost use Rattle.draid_machine.specs.declared.names.Stage.TheVariants.{Freed};
 ghost use Rattle.draid_segments.specs.Segments.{Pieces};
 ghost use Rattle.draid_entries.specs.Maps.{staged};
-ghost use Rattle.draid_shard.specs.Calls.{SameReserve};
+ghost use Rattle.draid_shard.specs.Calls.{SameAreas, SameReserve};
 ghost use Rattle.draid_shard.specs.Looks.{IsLive};
 ghost use Rattle.draid_shard.specs.Changes.{SetsBlock};
 ghost use Rattle.draid_shard.specs.Fits.{Valid};
@@ -50,6 +50,7 @@ pub(crate) fn free_block<R: Rack, A: Area>(
     ensures sets { SetsBlock shard.old shard.new pointer.now (Some (staged (Freed result) pointer.now)) }
     ensures reserve { SameReserve shard.old shard.new }
     ensures pass { shard.new.pass ≡ shard.old.pass }
+    ensures areas { SameAreas shard.old shard.new }
     ensures frees { (part : Part) (pieces : Pieces) (x : Metaslab) → IsMetaslab R.Rack A.Area part pieces shard.old x
         → Goes R.Rack A.Area part pieces x shard.new (FreesIn part.number pointer.now floor result x) }
 {

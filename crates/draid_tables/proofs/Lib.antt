@@ -1,4 +1,5 @@
 pub mod Dealing
 pub mod Fitting
+pub mod Listing
 pub mod Owning
 pub mod Spans

@@ -28,7 +28,7 @@ push_cases [] x y (suc i) is = absurd (cc)
 push_cases (z ∷ xs) x y zero is = inl is
 push_cases (z ∷ xs) x y (suc i) is = ⊎_elim (λ (t : slice_get xs i ≡ Some y). inl t) (λ (t : (i ≡ length xs) × (x ≡ y)). inr (ap suc t.0, t.1)) (push_cases xs x y i is)
 
-some_is : {A : Type 0} (o : Option A) (x y : A) → o ≡ Some x → o ≡ Some y → x ≡ y
+pub some_is : {A : Type 0} (o : Option A) (x y : A) → o ≡ Some x → o ≡ Some y → x ≡ y
 some_is o x y a b = (let h = sym a ∙ b in cc)
 
 -- ---- dealt out

@@ -2,8 +2,10 @@
 
 #![tactic(auto)]
 
+mod lists;
 mod owns;
 mod tables;
 
+pub use lists::lists_of;
 pub use owns::{deal_owns, room_of, take_each};
 pub use tables::{deal_objects, take_objects};

@@ -10,7 +10,7 @@ use Rattle.draid_turn.specs.Numbers.{HoldsSome, holds, number_limit}
 use Rattle.draid_turn.proofs.Sums.{count_push}
 use Rattle.draid_holds.specs.Passes.{EachHoldsSome, shares}
 use Rattle.draid_pool.specs.Drifts.{groups_number, passes_number}
-use Rattle.draid_section.specs.Section.{AreLaneLists}
+use Rattle.draid_tables.specs.Lists.{AreLaneLists}
 use Rattle.draid_tests_lanes.specs.Lists.{list_at, passes_alone, share_from}
 
 abbrev Numbers : Type 0

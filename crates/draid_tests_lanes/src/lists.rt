@@ -1,5 +1,5 @@
 ghost use Rattle.std.specs.Prelude.{◌≡◌, ◌≤◌, IfOk, length};
-ghost use Rattle.draid_section.specs.Section.{AreLaneLists};
+ghost use Rattle.draid_tables.specs.Lists.{AreLaneLists};
 ghost use Rattle.draid_tests_lanes.specs.Lists.{list_at};
 
 use draid_pool::PASSES;

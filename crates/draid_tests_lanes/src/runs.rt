@@ -1,7 +1,7 @@
 ghost use Rattle.std.specs.Prelude.{◌≡◌, ◌≤◌, length};
 ghost use Rattle.draid_choose.specs.Rooms.{IsChooser, Picks, most_rooms};
 ghost use Rattle.draid_pool.specs.Whole.{IsWhole};
-ghost use Rattle.draid_section.specs.Section.{AreLaneLists};
+ghost use Rattle.draid_tables.specs.Lists.{AreLaneLists};
 ghost use Rattle.draid_tests_lanes.specs.Ready.{AreReady};
 
 use crate::gates::{Stop, TableGate};

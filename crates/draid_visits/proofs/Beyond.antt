@@ -50,7 +50,7 @@ module _ {R A : Type 0} (rack : racks.Ghosts R) (area : areas.Ghosts A) (old len
       → MatchOption x.harm ⊤ (λ harm. MoreBad (layout_in (part_of old)) x.world harm (key_of unit.lent.pointer) h unit.failed.items)
   beyond_own pieces x is contents =
       let there = held_is rack old lent unit is.valid lent_valid x.world is.stands.reached is.stands.is_in in
-      let has = contents (key_of unit.lent.pointer) h there in
+      let has = contents (key_of unit.lent.pointer) h there unit.here.block in
       let same : lent.geometry ≡ old.geometry = ap (λ (p : Part). p.geometry) unit.does.part in
       subst (λ harm. MatchOption harm ⊤ (λ harm. MoreBad (layout_in (part_of old)) x.world harm (key_of unit.lent.pointer) h unit.failed.items)) (sym is.harm)
       (on_harm (rack.told old.rack) (λ harm. ((bad : List ℕ) × IsReadable (cut_of old.geometry) (fetched_of unit.lent) has.content bad) ⊎ MoreBad (layout_in (part_of old)) x.world harm (key_of unit.lent.pointer) h unit.failed.items)

@@ -27,6 +27,7 @@ use Rattle.draid_pool.specs.Shards.{KeepsImages}
 use Rattle.draid_pool.proofs.Drifting.{groups_by, groups_kept}
 use Rattle.draid_pool.proofs.GroupKeeps.{turns_go}
 use Rattle.draid_pool.proofs.Imaged.{keeps_same}
+use Rattle.draid_pool.proofs.Rises.{records_same}
 use Rattle.draid_spec.specs.declared.layout.Geometry.{Geometry}
 use Rattle.draid_visits.specs.Cancelling.{CancelsIn, passes_of}
 use Rattle.draid_visits.proofs.Cancelled.{none_ended, pass_ended}
@@ -99,5 +100,6 @@ module _ {R A : Type 0} (rack : racks.Ghosts R) (area : areas.Ghosts A) where
     groups = λ other. c.groups;
     passes = λ is. pass_may_go is;
     others = record { each = λ key own. inl (c.blocks.entries.held key) };
+    areas = records_same area.faults x y c.areas_are;
     state = λ part pieces u is. turns_go rack area (is_other (Some passes_number)) part pieces u y _ (c.turns part pieces u is) (λ mine. cancel_images part.geometry part.perms (layout_in part) part.number ended u (c.turns part pieces u is).reached (c.turns part pieces u is).act (c.turns part pieces u is).acts (c.turns part pieces u is).done.0);
   }

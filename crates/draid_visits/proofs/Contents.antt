@@ -59,7 +59,7 @@ module _ {R A : Type 0} (rack : racks.Ghosts R) (area : areas.Ghosts A) where
 
   pub contents_of : (pool : Pool R A) (x : State) (r : Represents rack area pool x) (m : ℕ) (shard : Shard R A) (y : Metaslab) → slice_get x.metaslabs m ≡ Some y
       → IsMetaslab rack area (part_in x m) (r.stands.pieces m) shard y → HasContents (part_in x m) (r.stands.pieces m) y
-  contents_of pool x r m shard y there is key held at =
+  contents_of pool x r m shard y there is key held at block =
       let here : blocks_of x.metaslabs m key ≡ Some held = ap (λ o. table_of (option_map (λ (z : Metaslab). z.world) o) key) there ∙ at in
       let own = r.stands.holds.stores.only m key held here (r.stands.holds.settled m key held here) in
       bytes_by x.geometry held key own.0 (r.stands.pieces m) (r.stands.holds.bytes m key held own.0 here own.1) (write_key x.store.changes key own.0 own.1) own.3.len own.3.digest_is

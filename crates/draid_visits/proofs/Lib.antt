@@ -15,6 +15,7 @@ pub mod Lending
 pub mod Lifting
 pub mod LookHolds
 pub mod Marking
+pub mod MendEnds
 pub mod MendFails
 pub mod MendHolds
 pub mod MendKeeps

@@ -1,5 +1,6 @@
 -- What the looks of a rebuild or a scrub leave of the metaslabs, and its visits, one after another.
 use Rattle.std.proofs.Common.{◌≡◌, ◌<◌, ◌≤◌, ◌+◌, ◌∙◌, ◌⊎◌, inl, inr, ℕ, zero, suc, Bool, true, false, List, Option, Some, None, arith, ap, refl, sym, subst, slice_index_or}
+use Rattle.std.specs.Prelude.{Result}
 use Rattle.std.proofs.lemmas.Bool.{cases_lt}
 use Rattle.draid_machine.proofs.Small.{none_some}
 use Rattle.draid_names.specs.declared.pass_kind.PassKind.{PassKind}
@@ -12,9 +13,12 @@ use Rattle.draid_uber.specs.declared.uber.Uber.{Uber}
 use Rattle.draid_pool.specs.Drifts.{passes_number}
 use Rattle.draid_pool.specs.Rounds.{EachIs, HeldEach, NoneBeyond}
 use Rattle.draid_pool.specs.Threads.{AllStay, KeepsWhole, all_of}
+use Rattle.draid_pool.specs.declared.fault.SyncFault.{SyncFault}
+use Rattle.draid_pool.specs.declared.fault.Synced.{Synced}
 use Rattle.draid_pool.proofs.Holding.{some_same}
 use Rattle.draid_pool.proofs.RoundSteps.{each_more}
 use Rattle.draid_visits.specs.Looks.{FindsMarks, FindsPass, SeesEach, SeesPass, SeesRebuilt}
+use Rattle.draid_visits.specs.Readies.{KeptFor}
 use Rattle.draid_visits.specs.Visiting.{IsLeft, IsLow, IsOnly}
 use Rattle.draid_visits.specs.Visits.{AllOnly, MayVisit, VisitBy, VisitStopsAt, VisitedAt, VisitedUpto}
 use Rattle.draid_visits.specs.declared.mending.Mending.{Mending}
@@ -23,7 +27,7 @@ use Rattle.draid_visits.specs.declared.progress.Visit.{Visit}
 use Rattle.draid_visits.specs.declared.progress.Visit.TheVariants as visit
 use Rattle.draid_visits.proofs.Kept.{low_upto}
 use Rattle.draid_visits.proofs.SyncStays.{AllKept, IsKept, all_on, all_same, once_kept, round_kept, stop_kept}
-use Rattle.draid_visits.proofs.VisitsStay.{KeptFor, kept_for, whole_then}
+use Rattle.draid_visits.proofs.VisitsStay.{kept_for, whole_then}
 
 -- ---- looks
 
@@ -76,7 +80,7 @@ module _ {R A S : Type 0} (rack : racks.Ghosts R) (area : areas.Ghosts A) (last 
 
 -- ---- visits, one after another
 
-module _ {R A S : Type 0} (rack : racks.Ghosts R) (area : areas.Ghosts A) (last : S → ℕ → Option (Shard R A)) (went : S → ℕ → Shard R A → Shard R A → S → Type 0) (shared : Bool) (owns : ℕ → Bool) (geometry : Geometry) (a : S) (u : Uber A) (was : Mending) where
+module _ {R A S : Type 0} (rack : racks.Ghosts R) (area : areas.Ghosts A) (last : S → ℕ → Option (Shard R A)) (went : S → ℕ → Shard R A → Shard R A → S → Type 0) (shared : Bool) (owns : ℕ → Bool) (syncs : (ℕ → Bool) → S → Uber A → Option (Result Synced SyncFault) → S → Uber A → Type 0) (geometry : Geometry) (a : S) (u : Uber A) (was : Mending) where
   -- those below this one were visited so far
   pub record VisitedSoFar (place : ℕ) (now : S) (v : Uber A) (it : Mending) : Type 0 where
     pub may : MayVisit rack area geometry was.kind (last now) v
@@ -86,7 +90,7 @@ module _ {R A S : Type 0} (rack : racks.Ghosts R) (area : areas.Ghosts A) (last 
     pub left : (limit : Option ℕ) → IsLeft limit was.progress → IsLeft limit it.progress
     pub many : ℕ
     pub is : place ≡ was.next + many
-    pub visited : VisitedUpto rack area last went shared owns geometry was.kind was.marks was.next many a u was.progress now v it.progress
+    pub visited : VisitedUpto rack area last went shared owns (syncs owns) geometry was.kind was.marks was.next many a u was.progress now v it.progress
 
   -- the visit of this one came to another end than the rest of the visits
   pub record VisitedAll (place : ℕ) (result : Option Visit) (new : S) (w : Uber A) (it : Mending) : Type 0 where
@@ -94,7 +98,7 @@ module _ {R A S : Type 0} (rack : racks.Ghosts R) (area : areas.Ghosts A) (last 
     pub whole : KeepsWhole rack owns (all_of owns) (last a) (last new)
     pub same : it ≡ record was { next = it.next; progress = it.progress }
     pub left : (limit : Option ℕ) → IsLeft limit was.progress → IsLeft limit it.progress
-    pub visits : VisitStopsAt rack area last went shared owns geometry was.kind was.marks was.next place a u was.progress result new w it.progress
+    pub visits : VisitStopsAt rack area last went shared owns (syncs owns) geometry was.kind was.marks was.next place a u was.progress result new w it.progress
 
   pub visited_none : MayVisit rack area geometry was.kind (last a) u → IsLow was.next was.progress → VisitedSoFar was.next a u was
   visited_none may low = record {
@@ -136,14 +140,14 @@ module _ {R A S : Type 0} (rack : racks.Ghosts R) (area : areas.Ghosts A) (last 
         v,
         it.progress,
         i.visited,
-        subst (λ k. VisitedAt rack area last went shared owns geometry was.kind (slice_index_or was.marks k false) k now v it.progress now v it.progress) i.is
-            (subst (λ mark. VisitedAt rack area last went shared owns geometry was.kind mark place now v it.progress now v it.progress) (sym (mark_is ∙ none)) (refl, refl, refl)),
+        subst (λ k. VisitedAt rack area last went shared owns (syncs owns) geometry was.kind (slice_index_or was.marks k false) k now v it.progress now v it.progress) i.is
+            (subst (λ mark. VisitedAt rack area last went shared owns (syncs owns) geometry was.kind mark place now v it.progress now v it.progress) (sym (mark_is ∙ none)) (refl, refl, refl)),
       );
     }
 
     -- one that is, by one with the same numbers of its own, which it says of itself
     module _ (mine : ℕ → Bool) (same : mine ≡ owns) (marked : slice_index_or it.marks place false ≡ true) (result : Option Visit) (new : S) (w : Uber A) (q : Progress) (may : MayVisit rack area geometry it.kind (last new) w)
-        (more : KeepsWhole rack mine (all_of mine) (last now) (last new)) (left : (limit : Option ℕ) → IsLeft limit it.progress → IsLeft limit q) (visits : VisitBy rack area last went shared mine geometry it.kind place now v it.progress result new w q) where
+        (more : KeepsWhole rack mine (all_of mine) (last now) (last new)) (left : (limit : Option ℕ) → IsLeft limit it.progress → IsLeft limit q) (visits : VisitBy rack area last went shared mine (syncs mine) geometry it.kind place now v it.progress result new w q) where
       may_then : MayVisit rack area geometry was.kind (last new) w
       may_then = subst (λ k. MayVisit rack area geometry k (last new) w) kind_is may
 
@@ -153,10 +157,10 @@ module _ {R A S : Type 0} (rack : racks.Ghosts R) (area : areas.Ghosts A) (last 
       same_then : record it { next = place; progress = q } ≡ record was { next = place; progress = q }
       same_then = ap (λ (m : Mending). record m { next = place; progress = q }) i.same
 
-      visit_by : (end : Option Visit) → result ≡ end → VisitBy rack area last went shared owns geometry was.kind place now v it.progress end new w q
+      visit_by : (end : Option Visit) → result ≡ end → VisitBy rack area last went shared owns (syncs owns) geometry was.kind place now v it.progress end new w q
       visit_by end is =
-          subst (λ o. VisitBy rack area last went shared o geometry was.kind place now v it.progress end new w q) same
-          (subst (λ k. VisitBy rack area last went shared mine geometry k place now v it.progress end new w q) kind_is (subst (λ e. VisitBy rack area last went shared mine geometry it.kind place now v it.progress e new w q) is visits))
+          subst (λ o. VisitBy rack area last went shared o (syncs o) geometry was.kind place now v it.progress end new w q) same
+          (subst (λ k. VisitBy rack area last went shared mine (syncs mine) geometry k place now v it.progress end new w q) kind_is (subst (λ e. VisitBy rack area last went shared mine (syncs mine) geometry it.kind place now v it.progress e new w q) is visits))
 
       pub visited_more : result ≡ Some visit.Over → IsLow (place + 1) q → VisitedSoFar (place + 1) new w (record it { next = place; progress = q })
       visited_more is low = record {
@@ -172,8 +176,8 @@ module _ {R A S : Type 0} (rack : racks.Ghosts R) (area : areas.Ghosts A) (last 
           v,
           it.progress,
           i.visited,
-          subst (λ k. VisitedAt rack area last went shared owns geometry was.kind (slice_index_or was.marks k false) k now v it.progress new w q) i.is
-              (subst (λ mark. VisitedAt rack area last went shared owns geometry was.kind mark place now v it.progress new w q) (sym (mark_is ∙ marked)) (visit_by (Some visit.Over) is)),
+          subst (λ k. VisitedAt rack area last went shared owns (syncs owns) geometry was.kind (slice_index_or was.marks k false) k now v it.progress new w q) i.is
+              (subst (λ mark. VisitedAt rack area last went shared owns (syncs owns) geometry was.kind mark place now v it.progress new w q) (sym (mark_is ∙ marked)) (visit_by (Some visit.Over) is)),
         );
       }
 

@@ -14,7 +14,6 @@ use Rattle.draid_shard.specs.declared.shard.Shard.{Shard}
 use Rattle.draid_spec.specs.declared.layout.Geometry.{Geometry}
 use Rattle.draid_uber.specs.declared.uber.Uber.{Uber}
 use Rattle.draid_pool.specs.Drifts.{KeepsGroups, StateStep}
-use Rattle.draid_pool.specs.Grouping.{SyncsIn}
 use Rattle.draid_pool.specs.Rounds.{HeldEach, HeldOnce, StoppedBy}
 use Rattle.draid_pool.specs.declared.fault.SyncFault.{SyncFault}
 use Rattle.draid_pool.specs.declared.fault.Synced.{Synced}
@@ -63,10 +62,10 @@ module _ {R A : Type 0} (rack : racks.Ghosts R) (area : areas.Ghosts A) where
 
 -- ---- all of them
 
-module _ {R A S : Type 0} (rack : racks.Ghosts R) (area : areas.Ghosts A) (last : S → ℕ → Option (Shard R A)) (went : S → ℕ → Shard R A → Shard R A → S → Type 0) (shared : Bool) (owns : ℕ → Bool) (geometry : Geometry) (Keeps : S → Uber A → S → Uber A → Type 0)
+module _ {R A S : Type 0} (rack : racks.Ghosts R) (area : areas.Ghosts A) (last : S → ℕ → Option (Shard R A)) (went : S → ℕ → Shard R A → Shard R A → S → Type 0) (shared : Bool) (owns : ℕ → Bool) (syncs : S → Uber A → Option (Result Synced SyncFault) → S → Uber A → Type 0) (geometry : Geometry) (Keeps : S → Uber A → S → Uber A → Type 0)
     (same : (a : S) (u : Uber A) → Keeps a u a u) (on : (a b c : S) (u v w : Uber A) → Keeps a u b v → Keeps b v c w → Keeps a u c w)
     (hold : (does : Shard R A → Shard R A → Type 0) (a : S) (m : ℕ) (b : S) (u : Uber A) (h : HeldOnce rack area last went shared owns does a m b) → Leaves rack area h.before h.after → Keeps a u b u)
-    (sync : (a b : S) (u v : Uber A) (out : Option (Result Synced SyncFault)) → SyncsIn rack area last went shared owns geometry.props.metaslabs a u out b v → Keeps a u b v) where
+    (sync : (a b : S) (u v : Uber A) (out : Option (Result Synced SyncFault)) → syncs a u out b v → Keeps a u b v) where
   pub still : (a b : S) (u v : Uber A) → b ≡ a → v ≡ u → Keeps a u b v
   still a b u v at is = subst (λ s. Keeps a u s v) (sym at) (subst (λ w. Keeps a u a w) (sym is) (same a u))
 
@@ -116,23 +115,23 @@ module _ {R A S : Type 0} (rack : racks.Ghosts R) (area : areas.Ghosts A) (last 
   ready : (m : ℕ) (runs : Bool) (a b : S) (u : Uber A) → HeldOnce rack area last went shared owns (ReadiesIn rack area runs) a m b → Keeps a u b u
   ready m runs a b u h = hold (ReadiesIn rack area runs) a m b u h (leaves_readies rack area runs h.before h.after h.did)
 
-  waited : (m n : ℕ) (a b : S) (u v : Uber A) → Waited rack area last went shared owns geometry.props.metaslabs m n a u b v → Keeps a u b v
+  waited : (m n : ℕ) (a b : S) (u v : Uber A) → Waited rack area last went shared owns syncs m n a u b v → Keeps a u b v
   waited m zero a b u v it = still a b u v it.0 it.1
-  waited m (suc n) a b u v (mid, w, seen, it, front, once, syncs) =
-      on a mid b u w v (waited m n a mid u w front) (on mid seen b w w v (ready m false mid seen w once) (sync seen b w v (Some (Ok it)) syncs))
+  waited m (suc n) a b u v (mid, w, seen, it, front, once, synced) =
+      on a mid b u w v (waited m n a mid u w front) (on mid seen b w w v (ready m false mid seen w once) (sync seen b w v (Some (Ok it)) synced))
 
   -- it had to wait once more
-  pub waits_once : (m n : ℕ) (a mid seen : S) (u w : Uber A) → Waited rack area last went shared owns geometry.props.metaslabs m n a u mid w → HeldOnce rack area last went shared owns (ReadiesIn rack area false) mid m seen → Keeps a u seen w
+  pub waits_once : (m n : ℕ) (a mid seen : S) (u w : Uber A) → Waited rack area last went shared owns syncs m n a u mid w → HeldOnce rack area last went shared owns (ReadiesIn rack area false) mid m seen → Keeps a u seen w
   waits_once m n a mid seen u w front once = on a mid seen u w w (waited m n a mid u w front) (ready m false mid seen w once)
 
-  readies : (m : ℕ) (a b : S) (u v : Uber A) (out : Option (Result Unit SyncFault)) → ReadiesBy rack area last went shared owns geometry.props.metaslabs m a u out b v → Keeps a u b v
+  readies : (m : ℕ) (a b : S) (u v : Uber A) (out : Option (Result Unit SyncFault)) → ReadiesBy rack area last went shared owns syncs m a u out b v → Keeps a u b v
   readies m a b u v (Some (Ok done)) (n, mid, front, once) = on a mid b u v v (waited m n a mid u v front) (ready m true mid b v once)
-  readies m a b u v (Some (Err why)) (n, mid, w, seen, front, once, syncs) =
-      on a seen b u w v (waits_once m n a mid seen u w front once) (sync seen b w v (Some (Err why)) syncs)
-  readies m a b u v None (n, mid, w, seen, front, once, syncs) =
-      on a seen b u w v (waits_once m n a mid seen u w front once) (sync seen b w v None syncs)
+  readies m a b u v (Some (Err why)) (n, mid, w, seen, front, once, synced) =
+      on a seen b u w v (waits_once m n a mid seen u w front once) (sync seen b w v (Some (Err why)) synced)
+  readies m a b u v None (n, mid, w, seen, front, once, synced) =
+      on a seen b u w v (waits_once m n a mid seen u w front once) (sync seen b w v None synced)
 
-  runs_by : (kind : PassKind) (m : ℕ) (a b : S) (u v : Uber A) (out : Option (Result Unit SyncFault)) → RunsBy rack area last went shared owns geometry.props.metaslabs kind m a u out b v → Keeps a u b v
+  runs_by : (kind : PassKind) (m : ℕ) (a b : S) (u v : Uber A) (out : Option (Result Unit SyncFault)) → RunsBy rack area last went shared owns syncs kind m a u out b v → Keeps a u b v
   runs_by Rebuild m a b u v out it = readies m a b u v out it
   runs_by Heal m a b u v out it = still a b u v it.1 it.2
 
@@ -156,7 +155,7 @@ module _ {R A S : Type 0} (rack : racks.Ghosts R) (area : areas.Ghosts A) (last 
   lends_behind kind m stripe None (Some result) a b p q u it = absurd it
   lends_behind kind m stripe None None a b p q u it = still a b u u it.0 refl
 
-  visits_behind : (kind : PassKind) (m : ℕ) (start : Begun) (result : Option Visit) (a b : S) (u v : Uber A) (p q : Progress) → VisitsBehind rack area last went shared owns geometry kind m a u p start result b v q → Keeps a u b v
+  visits_behind : (kind : PassKind) (m : ℕ) (start : Begun) (result : Option Visit) (a b : S) (u v : Uber A) (p q : Progress) → VisitsBehind rack area last went shared owns syncs geometry kind m a u p start result b v q → Keeps a u b v
   visits_behind kind m (begun.At stripe) result a b u v p q (made, mid, runs, lending) = on a mid b u v v (runs_by kind m a mid u v made runs) (lends_behind kind m stripe made result mid b p q v lending)
   visits_behind kind m begun.Nothing (Some visit.Over) a b u v p q it = still a b u v it.0 it.1
   visits_behind kind m begun.Nothing (Some visit.Paused) a b u v p q it = absurd it
@@ -172,20 +171,20 @@ module _ {R A S : Type 0} (rack : racks.Ghosts R) (area : areas.Ghosts A) (last 
       let h = begins.2 in
       hold (λ x y. StartsIn rack area kind x begins.0 y) a m b u h (leaves_starts rack area kind begins.0 h.before h.after h.did)
 
-  visit_by : (kind : PassKind) (m : ℕ) (result : Option Visit) (a b : S) (u v : Uber A) (p q : Progress) → VisitBy rack area last went shared owns geometry kind m a u p result b v q → Keeps a u b v
+  visit_by : (kind : PassKind) (m : ℕ) (result : Option Visit) (a b : S) (u v : Uber A) (p q : Progress) → VisitBy rack area last went shared owns syncs geometry kind m a u p result b v q → Keeps a u b v
   visit_by kind m result a b u v p q it = on a it.mid b u u v (starts kind m it.start a it.mid u it.begins) (visits_behind kind m it.start result it.mid b u v p q it.behind)
 
   -- ---- one after another
 
-  visited_at : (kind : PassKind) (mark : Bool) (m : ℕ) (a b : S) (u v : Uber A) (p q : Progress) → VisitedAt rack area last went shared owns geometry kind mark m a u p b v q → Keeps a u b v
+  visited_at : (kind : PassKind) (mark : Bool) (m : ℕ) (a b : S) (u v : Uber A) (p q : Progress) → VisitedAt rack area last went shared owns syncs geometry kind mark m a u p b v q → Keeps a u b v
   visited_at kind true m a b u v p q it = visit_by kind m (Some visit.Over) a b u v p q it
   visited_at kind false m a b u v p q it = still a b u v it.0 it.1
 
-  pub visited : (kind : PassKind) (marks : List Bool) (first n : ℕ) (a b : S) (u v : Uber A) (p q : Progress) → VisitedUpto rack area last went shared owns geometry kind marks first n a u p b v q → Keeps a u b v
+  pub visited : (kind : PassKind) (marks : List Bool) (first n : ℕ) (a b : S) (u v : Uber A) (p q : Progress) → VisitedUpto rack area last went shared owns syncs geometry kind marks first n a u p b v q → Keeps a u b v
   visited kind marks first zero a b u v p q it = still a b u v it.0 it.1
   visited kind marks first (suc n) a b u v p q (mid, w, r, front, it) = on a mid b u w v (visited kind marks first n a mid u w p r front) (visited_at kind (slice_index_or marks (first + n) false) (first + n) mid b w v r q it)
 
-  visits : (kind : PassKind) (marks : List Bool) (first place : ℕ) (result : Option Visit) (a b : S) (u v : Uber A) (p q : Progress) → VisitsBy rack area last went shared owns geometry kind marks first a u p result place b v q → Keeps a u b v
+  visits : (kind : PassKind) (marks : List Bool) (first place : ℕ) (result : Option Visit) (a b : S) (u v : Uber A) (p q : Progress) → VisitsBy rack area last went shared owns syncs geometry kind marks first a u p result place b v q → Keeps a u b v
   visits kind marks first place (Some visit.Over) a b u v p q (many, all, front) = visited kind marks first many a b u v p q front
   visits kind marks first place (Some visit.Paused) a b u v p q s =
       on a s.mid b u s.uber v (visited kind marks first s.many a s.mid u s.uber p s.upto s.front) (visit_by kind place (Some visit.Paused) s.mid b s.uber v s.upto q s.stop)
@@ -196,5 +195,5 @@ module _ {R A S : Type 0} (rack : racks.Ghosts R) (area : areas.Ghosts A) (last 
 
   -- ---- the rest of the metaslabs
 
-  pub mends : (old new : Mending) (answer : Option (Result Mended MendFault)) (a b : S) (u v : Uber A) → MendsBy rack area last went shared owns geometry a u old answer b v new → Keeps a u b v
+  pub mends : (old new : Mending) (answer : Option (Result Mended MendFault)) (a b : S) (u v : Uber A) → MendsBy rack area last went shared owns syncs geometry a u old answer b v new → Keeps a u b v
   mends old new answer a b u v it = visits old.kind old.marks old.next new.next it.result a b u v old.progress new.progress it.visits

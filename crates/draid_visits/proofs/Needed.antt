@@ -109,7 +109,7 @@ module _ {R A : Type 0} (rack : racks.Ghosts R) (area : areas.Ghosts A) (old len
     loan = mid.stands.is_in.loan ∙ ap (option_map loan_in) r.is
 
     has : HasBytes old.geometry own (key_of pointer) pieces
-    has = contents (key_of pointer) own held_before
+    has = contents (key_of pointer) own held_before unit.here.block
 
     width : old.geometry.g ≡ old.geometry.spec.parity + old.geometry.spec.ndata
     width = (geometry_is (part_of old) is.valid.part).columns

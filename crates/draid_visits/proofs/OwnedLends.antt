@@ -77,7 +77,7 @@ module _ {R A : Type 0} (rack : racks.Ghosts R) (area : areas.Ghosts A) (kind : 
     held_many = ap length set.sets ∙ (length-set mid.shards.items m h.after ∙ i.many)
 
     held_step : Steps rack area (with_owned pool mid) (with_owned pool b) (NextSays rack area kind m old used came)
-    held_step = steps_to rack area m (with_owned pool mid) (with_owned pool b) h.before h.after (λ part holds. NextIs part kind used came holds) set (λ part pieces y own has. h.did.goes part pieces y own has)
+    held_step = steps_to rack area m (with_owned pool mid) (with_owned pool b) h.before h.after (λ part holds. NextIs part kind used came holds) set (λ part pieces y own has. h.did.goes part pieces y own (λ heal. has))
 
   -- one more
   lent_more : (repaired : ℕ) (mid b : Owned R A) (at : Progress) → LentAt (with_owned pool mid) at → (at.left ≡ Some 0 → ⊥) → HeldOnce rack area left_by went_by false all (UnitIn rack area kind false (next.Landed repaired)) mid m b

@@ -33,6 +33,7 @@ use Rattle.draid_visits.specs.declared.progress.Visit.{Visit}
 use Rattle.draid_visits.specs.declared.rebuilding.MendFault.{MendFault}
 use Rattle.draid_visits.specs.declared.rebuilding.MendFault.TheVariants as fault
 use Rattle.draid_visits.specs.declared.rebuilding.Mended.{Mended}
+use Rattle.draid_visits.proofs.OwnedReady.{syncs_alone}
 use Rattle.draid_visits.proofs.Marking.{MarkedAll, are_marks, none_rebuilt, sees_marks, sees_none}
 use Rattle.draid_visits.proofs.OwnedLooks.{finds_first, finds_lowest, finds_marks, finds_no_marks, finds_none}
 use Rattle.draid_visits.proofs.OwnedVisits.{visits_done, visits_wait}
@@ -76,22 +77,22 @@ module _ {R A : Type 0} (rack : racks.Ghosts R) (area : areas.Ghosts A) where
     left_begun kind it b begun = subst (IsLeft limit) (sym begun.progress_is) (left_first limit)
 
     visits_begun : (kind : PassKind) (it : Mending) (a : Owned R A) → Began kind it a → (result : Option Visit) (place : ℕ) (b : Owned R A) (v : Uber A) (q : Progress)
-        → VisitsBy rack area left_by went_by false all pool.geometry it.kind it.marks it.next a pool.uber it.progress result place b v q
-        → VisitsBy rack area left_by went_by false all pool.geometry kind it.marks 0 pool.metaslabs pool.uber (nothing_within limit) result place b v q
+        → VisitsBy rack area left_by went_by false all (syncs_alone rack area pool.geometry.props.metaslabs) pool.geometry it.kind it.marks it.next a pool.uber it.progress result place b v q
+        → VisitsBy rack area left_by went_by false all (syncs_alone rack area pool.geometry.props.metaslabs) pool.geometry kind it.marks 0 pool.metaslabs pool.uber (nothing_within limit) result place b v q
     visits_begun kind it a begun result place b v q visits =
-        subst (λ p. VisitsBy rack area left_by went_by false all pool.geometry kind it.marks 0 pool.metaslabs pool.uber p result place b v q) begun.progress_is
-        (subst (λ o. VisitsBy rack area left_by went_by false all pool.geometry kind it.marks 0 o pool.uber it.progress result place b v q) begun.same
-        (subst (λ n. VisitsBy rack area left_by went_by false all pool.geometry kind it.marks n a pool.uber it.progress result place b v q) begun.next_is
-        (subst (λ k. VisitsBy rack area left_by went_by false all pool.geometry k it.marks it.next a pool.uber it.progress result place b v q) begun.kind_is visits)))
+        subst (λ p. VisitsBy rack area left_by went_by false all (syncs_alone rack area pool.geometry.props.metaslabs) pool.geometry kind it.marks 0 pool.metaslabs pool.uber p result place b v q) begun.progress_is
+        (subst (λ o. VisitsBy rack area left_by went_by false all (syncs_alone rack area pool.geometry.props.metaslabs) pool.geometry kind it.marks 0 o pool.uber it.progress result place b v q) begun.same
+        (subst (λ n. VisitsBy rack area left_by went_by false all (syncs_alone rack area pool.geometry.props.metaslabs) pool.geometry kind it.marks n a pool.uber it.progress result place b v q) begun.next_is
+        (subst (λ k. VisitsBy rack area left_by went_by false all (syncs_alone rack area pool.geometry.props.metaslabs) pool.geometry k it.marks it.next a pool.uber it.progress result place b v q) begun.kind_is visits)))
 
     -- they have an answer
     module _ (kind : PassKind) (it : Mending) (a : Owned R A) (begun : Began kind it a) (are : AreToVisit kind pool it.marks) where
-      mends_by : (result : Option Visit) (place : ℕ) (b : Owned R A) (v : Uber A) (q : Progress) → VisitsBy rack area left_by went_by false all pool.geometry kind it.marks 0 pool.metaslabs pool.uber (nothing_within limit) result place b v q
+      mends_by : (result : Option Visit) (place : ℕ) (b : Owned R A) (v : Uber A) (q : Progress) → VisitsBy rack area left_by went_by false all (syncs_alone rack area pool.geometry.props.metaslabs) pool.geometry kind it.marks 0 pool.metaslabs pool.uber (nothing_within limit) result place b v q
           → AnswersBy rack area left_by went_by false all result q None → ⊥
       mends_by None place b v q visits answers = visits_wait rack area kind it.marks pool (nothing_within limit) w begun.alone are place b v q visits
       mends_by (Some result) place b v q visits answers = answers
 
-      mends_wait : (b : Owned R A) (v : Uber A) (new : Mending) → MendsBy rack area left_by went_by false all pool.geometry a pool.uber it None b v new → ⊥
+      mends_wait : (b : Owned R A) (v : Uber A) (new : Mending) → MendsBy rack area left_by went_by false all (syncs_alone rack area pool.geometry.props.metaslabs) pool.geometry a pool.uber it None b v new → ⊥
       mends_wait b v new d = mends_by d.result new.next b v new.progress (visits_begun kind it a begun d.result new.next b v new.progress d.visits) d.answers
 
     -- ---- a rebuild
@@ -150,7 +151,7 @@ module _ {R A : Type 0} (rack : racks.Ghosts R) (area : areas.Ghosts A) where
 
     -- and then it visits them
     module _ (it : Mending) (a : Owned R A) (r : RebuildBegun it a) (answer : Result Mended MendFault) where
-      rebuild_by : (result : Option Visit) (place : ℕ) (b : Owned R A) (v : Uber A) (q : Progress) → VisitsBy rack area left_by went_by false all pool.geometry Rebuild it.marks 0 pool.metaslabs pool.uber (nothing_within limit) result place b v q
+      rebuild_by : (result : Option Visit) (place : ℕ) (b : Owned R A) (v : Uber A) (q : Progress) → VisitsBy rack area left_by went_by false all (syncs_alone rack area pool.geometry.props.metaslabs) pool.geometry Rebuild it.marks 0 pool.metaslabs pool.uber (nothing_within limit) result place b v q
           → AnswersBy rack area left_by went_by false all result q (Some answer) → RebuildDone (with_both rack area pool b v) answer
       rebuild_by None place b v q visits is = absurd is
       rebuild_by (Some end) place b v q visits is =
@@ -164,10 +165,10 @@ module _ {R A : Type 0} (rack : racks.Ghosts R) (area : areas.Ghosts A) where
             passes = passes_behind end q answer pool new d.began is d.leaves;
           }
 
-      pub rebuild_done : (b : Owned R A) (v : Uber A) (new : Mending) → MendsBy rack area left_by went_by false all pool.geometry a pool.uber it (Some answer) b v new → RebuildDone (with_both rack area pool b v) answer
+      pub rebuild_done : (b : Owned R A) (v : Uber A) (new : Mending) → MendsBy rack area left_by went_by false all (syncs_alone rack area pool.geometry.props.metaslabs) pool.geometry a pool.uber it (Some answer) b v new → RebuildDone (with_both rack area pool b v) answer
       rebuild_done b v new d = rebuild_by d.result new.next b v new.progress (visits_begun Rebuild it a r.begun d.result new.next b v new.progress d.visits) d.answers
 
-    pub rebuild_waits : (it : Mending) (a : Owned R A) → RebuildBegun it a → (b : Owned R A) (v : Uber A) (new : Mending) → MendsBy rack area left_by went_by false all pool.geometry a pool.uber it None b v new → ⊥
+    pub rebuild_waits : (it : Mending) (a : Owned R A) → RebuildBegun it a → (b : Owned R A) (v : Uber A) (new : Mending) → MendsBy rack area left_by went_by false all (syncs_alone rack area pool.geometry.props.metaslabs) pool.geometry a pool.uber it None b v new → ⊥
     rebuild_waits it a r b v new d = mends_wait Rebuild it a r.begun (to_visit it a r) b v new d
 
     -- ---- a scrub
@@ -216,7 +217,7 @@ module _ {R A : Type 0} (rack : racks.Ghosts R) (area : areas.Ghosts A) where
 
     -- and then it visits them
     module _ (it : Mending) (a : Owned R A) (s : ScrubBegun it a) (answer : Result Mended MendFault) where
-      scrub_by : (result : Option Visit) (place : ℕ) (b : Owned R A) (v : Uber A) (q : Progress) → VisitsBy rack area left_by went_by false all pool.geometry Heal it.marks 0 pool.metaslabs pool.uber (nothing_within limit) result place b v q
+      scrub_by : (result : Option Visit) (place : ℕ) (b : Owned R A) (v : Uber A) (q : Progress) → VisitsBy rack area left_by went_by false all (syncs_alone rack area pool.geometry.props.metaslabs) pool.geometry Heal it.marks 0 pool.metaslabs pool.uber (nothing_within limit) result place b v q
           → AnswersBy rack area left_by went_by false all result q (Some answer) → ScrubDone (with_both rack area pool b v) answer
       scrub_by None place b v q visits is = absurd is
       scrub_by (Some end) place b v q visits is =
@@ -231,8 +232,8 @@ module _ {R A : Type 0} (rack : racks.Ghosts R) (area : areas.Ghosts A) where
             idle = d.idle refl;
           }
 
-      pub scrub_done : (b : Owned R A) (v : Uber A) (new : Mending) → MendsBy rack area left_by went_by false all pool.geometry a pool.uber it (Some answer) b v new → ScrubDone (with_both rack area pool b v) answer
+      pub scrub_done : (b : Owned R A) (v : Uber A) (new : Mending) → MendsBy rack area left_by went_by false all (syncs_alone rack area pool.geometry.props.metaslabs) pool.geometry a pool.uber it (Some answer) b v new → ScrubDone (with_both rack area pool b v) answer
       scrub_done b v new d = scrub_by d.result new.next b v new.progress (visits_begun Heal it a s.begun d.result new.next b v new.progress d.visits) d.answers
 
-    pub scrub_waits : (it : Mending) (a : Owned R A) → ScrubBegun it a → (b : Owned R A) (v : Uber A) (new : Mending) → MendsBy rack area left_by went_by false all pool.geometry a pool.uber it None b v new → ⊥
+    pub scrub_waits : (it : Mending) (a : Owned R A) → ScrubBegun it a → (b : Owned R A) (v : Uber A) (new : Mending) → MendsBy rack area left_by went_by false all (syncs_alone rack area pool.geometry.props.metaslabs) pool.geometry a pool.uber it None b v new → ⊥
     scrub_waits it a s b v new d = mends_wait Heal it a s.begun (scrubs_each it a s) b v new d

@@ -1,5 +1,5 @@
 -- A rebuild that the only thread of a pool makes run.
-use Rattle.std.proofs.Common.{◌≡◌, ◌∙◌, ℕ, zero, suc, Bool, true, false, Some, None, Ok, Err, length, ap, refl, subst, sym}
+use Rattle.std.proofs.Common.{◌≡◌, ◌∙◌, ℕ, zero, suc, Bool, true, false, Option, Some, None, Ok, Err, length, ap, refl, subst, sym}
 use Rattle.std.specs.Prelude.{IsErrOf, IsSomeAnd, OnOk, Result}
 use Rattle.std.proofs.lemmas.List.{length-set}
 use Rattle.draid_names.specs.declared.pass_kind.PassKind.TheVariants.{Rebuild}
@@ -12,6 +12,7 @@ use Rattle.draid_session.specs.State.{State}
 use Rattle.draid_uber.specs.declared.uber.Uber.{Uber}
 use Rattle.draid_pool.specs.Carries.{CarriesOut}
 use Rattle.draid_pool.specs.Failing.{AreaRose, AreasLater}
+use Rattle.draid_pool.specs.Grouping.{SyncsIn}
 use Rattle.draid_pool.specs.Pools.{Represents}
 use Rattle.draid_pool.specs.Rounds.{HeldOnce}
 use Rattle.draid_pool.specs.Syncing.{Phase, end_of}
@@ -36,6 +37,10 @@ use Rattle.draid_visits.proofs.Leading.{leads_none, steps_in}
 use Rattle.draid_visits.proofs.SharedWhole.{whole_shared}
 use Rattle.draid_visits.proofs.Tables.{shares_by}
 use Rattle.draid_visits.proofs.Waiting.{Behind, Readying, Waiting, it_runs, it_stops, it_syncs, it_waits}
+
+-- a sync of so many metaslabs by it
+abbrev pub syncs_alone : {R A : Type 0} → racks.Ghosts R → areas.Ghosts A → ℕ → Owned R A → Uber A → Option (Result Synced SyncFault) → Owned R A → Uber A → Type 0
+syncs_alone rack area count a u out b v = SyncsIn rack area left_by went_by false all count a u out b v
 
 module _ {R A : Type 0} (rack : racks.Ghosts R) (area : areas.Ghosts A) (m : ℕ) (pool : Pool R A) where
   abbrev HasRebuild : Shard R A → Type 0
@@ -94,7 +99,7 @@ module _ {R A : Type 0} (rack : racks.Ghosts R) (area : areas.Ghosts A) (m : ℕ
     waits_carries x is = it_waits rack area m (with_it mid u) (with_it seen u) x (i.carries x is)
         (steps_in rack area m (with_it mid u) (with_it seen u) h.before h.after (λ part holds. ReadyIs part false holds) there (λ part pieces y own has. h.did.goes part pieces y own))
 
-  waited_upto : IsWhole rack area pool → IsAt pool m HasRebuild → (n : ℕ) (b : Owned R A) (v : Uber A) → Waited rack area left_by went_by false all pool.geometry.props.metaslabs m n pool.metaslabs pool.uber b v → WaitedAt (with_it b v)
+  waited_upto : IsWhole rack area pool → IsAt pool m HasRebuild → (n : ℕ) (b : Owned R A) (v : Uber A) → Waited rack area left_by went_by false all (syncs_alone rack area pool.geometry.props.metaslabs) m n pool.metaslabs pool.uber b v → WaitedAt (with_it b v)
   waited_upto w rebuild zero b v waited = subst (λ u. WaitedAt (with_it b u)) (sym waited.1) (subst (λ o. WaitedAt (with_it o pool.uber)) (sym waited.0) (waited_none w rebuild))
   waited_upto w rebuild (suc n) b v (mid, u, seen, it, waited, once, syncs) =
       let i = waited_upto w rebuild n mid u waited in
@@ -122,7 +127,7 @@ module _ {R A : Type 0} (rack : racks.Ghosts R) (area : areas.Ghosts A) (m : ℕ
     pub carries : (x : State) → Represents rack area pool x → CarriesOut rack area new x (Phase x (passes.ReadyPhase x.geometry x.perms Rebuild m) (end_of result))
 
   pub ready_done : IsWhole rack area pool → IsAt pool m HasRebuild → (result : Result Unit SyncFault) (b : Owned R A) (v : Uber A)
-      → ReadiesBy rack area left_by went_by false all pool.geometry.props.metaslabs m pool.metaslabs pool.uber (Some result) b v → ReadyDone (with_it b v) result
+      → ReadiesBy rack area left_by went_by false all (syncs_alone rack area pool.geometry.props.metaslabs) m pool.metaslabs pool.uber (Some result) b v → ReadyDone (with_it b v) result
   ready_done w rebuild (Ok done) b v (n, mid, waited, once) =
       let i = waited_upto w rebuild n mid v waited in
       let s = set true mid b v i once in
@@ -151,6 +156,6 @@ module _ {R A : Type 0} (rack : racks.Ghosts R) (area : areas.Ghosts A) (m : ℕ
         carries = λ x is. it_stops rack area m q new x why (waits_carries mid seen u i once x is) d.carries;
       }
 
-  pub ready_waits : IsWhole rack area pool → IsAt pool m HasRebuild → (b : Owned R A) (v : Uber A) → ReadiesBy rack area left_by went_by false all pool.geometry.props.metaslabs m pool.metaslabs pool.uber None b v → ⊥
+  pub ready_waits : IsWhole rack area pool → IsAt pool m HasRebuild → (b : Owned R A) (v : Uber A) → ReadiesBy rack area left_by went_by false all (syncs_alone rack area pool.geometry.props.metaslabs) m pool.metaslabs pool.uber None b v → ⊥
   ready_waits w rebuild b v (n, mid, u, seen, waited, once, syncs) =
       sync_waits rack area (with_it seen u) (held_whole false mid seen u (waited_upto w rebuild n mid u waited) once) b v syncs

@@ -40,7 +40,7 @@ use Rattle.draid_visits.proofs.Kept.{others_on, others_same}
 use Rattle.draid_visits.proofs.Leading.{Does, leads_none}
 use Rattle.draid_visits.proofs.OwnedBegin.{BeginDone, begin_done}
 use Rattle.draid_visits.proofs.OwnedLends.{LendDone, lend_done}
-use Rattle.draid_visits.proofs.OwnedReady.{ready_done, ready_waits}
+use Rattle.draid_visits.proofs.OwnedReady.{syncs_alone, ready_done, ready_waits}
 use Rattle.draid_visits.proofs.Scrubbed.{never_shelf}
 use Rattle.draid_visits.proofs.Visited.{began_so, begun_so, ran, ran_none, shelf_so, stays_begun, visit_stops, visited_none, visited_on}
 use Rattle.draid_visits.proofs.Waiting.{scrub_ready}
@@ -71,7 +71,7 @@ module _ {R A : Type 0} (rack : racks.Ghosts R) (area : areas.Ghosts A) where
   }
 
   run_done : (kind : PassKind) (m : ℕ) (pool : Pool R A) → IsWhole rack area pool → IsAt pool m (IsKind kind) → (result : Result Unit SyncFault) (b : Owned R A) (v : Uber A)
-      → RunsBy rack area left_by went_by false all pool.geometry.props.metaslabs kind m pool.metaslabs pool.uber (Some result) b v → RunDone kind m pool (with_both rack area pool b v) result
+      → RunsBy rack area left_by went_by false all (syncs_alone rack area pool.geometry.props.metaslabs) kind m pool.metaslabs pool.uber (Some result) b v → RunDone kind m pool (with_both rack area pool b v) result
   run_done Rebuild m pool w there result b v runs =
       let d = ready_done rack area m pool w there result b v runs in
       record { whole = d.whole; later = d.later; cause = λ is. (refl, d.cause is); others = d.others; idle = λ heal. absurd (never_shelf (sym heal)); carries = d.carries }
@@ -80,7 +80,7 @@ module _ {R A : Type 0} (rack : racks.Ghosts R) (area : areas.Ghosts A) where
   run_done Heal m pool w there (Err why) b v runs = absurd (let no = runs.0 in cc)
 
   run_waits : (kind : PassKind) (m : ℕ) (pool : Pool R A) → IsWhole rack area pool → IsAt pool m (IsKind kind) → (b : Owned R A) (v : Uber A)
-      → RunsBy rack area left_by went_by false all pool.geometry.props.metaslabs kind m pool.metaslabs pool.uber None b v → ⊥
+      → RunsBy rack area left_by went_by false all (syncs_alone rack area pool.geometry.props.metaslabs) kind m pool.metaslabs pool.uber None b v → ⊥
   run_waits Rebuild m pool w there b v runs = ready_waits rack area m pool w there b v runs
   run_waits Heal m pool w there b v runs = absurd (let no = runs.0 in cc)
 
@@ -140,7 +140,7 @@ module _ {R A : Type 0} (rack : racks.Ghosts R) (area : areas.Ghosts A) where
           }
 
       visit_runs : (made : Option (Result Unit SyncFault)) (last : Owned R A) (result : Visit) (b : Owned R A) (v : Uber A) (q : Progress)
-          → RunsBy rack area left_by went_by false all pool.geometry.props.metaslabs kind m mid pool.uber made last v → LendsBehind rack area left_by went_by false all pool.geometry kind m stripe last p made (Some result) b q
+          → RunsBy rack area left_by went_by false all (syncs_alone rack area pool.geometry.props.metaslabs) kind m mid pool.uber made last v → LendsBehind rack area left_by went_by false all pool.geometry kind m stripe last p made (Some result) b q
           → VisitDone kind m pool (with_both rack area pool b v) p result q
       visit_runs (Some (Ok done)) last result b v q runs lends =
           let d = run_done kind m begun_pool e.whole e.begins.1 (Ok done) last v runs in
@@ -156,7 +156,7 @@ module _ {R A : Type 0} (rack : racks.Ghosts R) (area : areas.Ghosts A) where
 
       -- it always ran, or was stopped
       visit_answers : (made : Option (Result Unit SyncFault)) (last b : Owned R A) (v : Uber A) (q : Progress)
-          → RunsBy rack area left_by went_by false all pool.geometry.props.metaslabs kind m mid pool.uber made last v → LendsBehind rack area left_by went_by false all pool.geometry kind m stripe last p made None b q → ⊥
+          → RunsBy rack area left_by went_by false all (syncs_alone rack area pool.geometry.props.metaslabs) kind m mid pool.uber made last v → LendsBehind rack area left_by went_by false all pool.geometry kind m stripe last p made None b q → ⊥
       visit_answers (Some (Ok done)) last b v q runs lends = lends
       visit_answers (Some (Err why)) last b v q runs lends = lends
       visit_answers None last b v q runs lends = run_waits kind m begun_pool e.whole e.begins.1 last v runs
@@ -190,7 +190,7 @@ module _ {R A : Type 0} (rack : racks.Ghosts R) (area : areas.Ghosts A) where
     }
 
     visit_behind : (begins : Begun) (mid : Owned R A) (result : Visit) (b : Owned R A) (v : Uber A) (q : Progress) → BeginDone rack area kind m pool w (with_owned pool mid) begins
-        → VisitsBehind rack area left_by went_by false all pool.geometry kind m mid pool.uber p begins (Some result) b v q → VisitDone kind m pool (with_both rack area pool b v) p result q
+        → VisitsBehind rack area left_by went_by false all (syncs_alone rack area pool.geometry.props.metaslabs) pool.geometry kind m mid pool.uber p begins (Some result) b v q → VisitDone kind m pool (with_both rack area pool b v) p result q
     visit_behind (start.At stripe) mid result b v q e (made, last, runs, lends) = visit_runs stripe mid e made last result b v q runs lends
     visit_behind start.Nothing mid visit.Over b v q e is =
         subst (λ o. VisitDone kind m pool (with_both rack area pool o v) p visit.Over q) (sym is.0)
@@ -207,17 +207,17 @@ module _ {R A : Type 0} (rack : racks.Ghosts R) (area : areas.Ghosts A) where
     visit_behind (start.Stopped why) mid visit.Paused b v q e is = absurd is
 
     visit_not_behind : (begins : Begun) (mid b : Owned R A) (v : Uber A) (q : Progress) → BeginDone rack area kind m pool w (with_owned pool mid) begins
-        → VisitsBehind rack area left_by went_by false all pool.geometry kind m mid pool.uber p begins None b v q → ⊥
+        → VisitsBehind rack area left_by went_by false all (syncs_alone rack area pool.geometry.props.metaslabs) pool.geometry kind m mid pool.uber p begins None b v q → ⊥
     visit_not_behind (start.At stripe) mid b v q e (made, last, runs, lends) = visit_answers stripe mid e made last b v q runs lends
     visit_not_behind start.Nothing mid b v q e is = is
     visit_not_behind (start.Stopped why) mid b v q e is = is
 
-    pub visit_done : (result : Visit) (b : Owned R A) (v : Uber A) (q : Progress) → VisitBy rack area left_by went_by false all pool.geometry kind m pool.metaslabs pool.uber p (Some result) b v q
+    pub visit_done : (result : Visit) (b : Owned R A) (v : Uber A) (q : Progress) → VisitBy rack area left_by went_by false all (syncs_alone rack area pool.geometry.props.metaslabs) pool.geometry kind m pool.metaslabs pool.uber p (Some result) b v q
         → VisitDone kind m pool (with_both rack area pool b v) p result q
     visit_done result b v q y = visit_behind y.start y.mid result b v q (begin_done rack area kind m pool w y.start y.mid y.begins) y.behind
 
     -- it has an answer
-    pub visit_waits : (b : Owned R A) (v : Uber A) (q : Progress) → VisitBy rack area left_by went_by false all pool.geometry kind m pool.metaslabs pool.uber p None b v q → ⊥
+    pub visit_waits : (b : Owned R A) (v : Uber A) (q : Progress) → VisitBy rack area left_by went_by false all (syncs_alone rack area pool.geometry.props.metaslabs) pool.geometry kind m pool.metaslabs pool.uber p None b v q → ⊥
     visit_waits b v q y = visit_not_behind y.start y.mid b v q (begin_done rack area kind m pool w y.start y.mid y.begins) y.behind
 
   -- ---- one after another
@@ -248,7 +248,7 @@ module _ {R A : Type 0} (rack : racks.Ghosts R) (area : areas.Ghosts A) where
     }
 
     -- a metaslab that was held is there
-    held_inside : (m : ℕ) (a : Owned R A) (u : Uber A) (at : Progress) (result : Option Visit) (b : Owned R A) (v : Uber A) (q : Progress) → VisitBy rack area left_by went_by false all pool.geometry kind m a u at result b v q → m < length a.shards.items
+    held_inside : (m : ℕ) (a : Owned R A) (u : Uber A) (at : Progress) (result : Option Visit) (b : Owned R A) (v : Uber A) (q : Progress) → VisitBy rack area left_by went_by false all (syncs_alone rack area pool.geometry.props.metaslabs) pool.geometry kind m a u at result b v q → m < length a.shards.items
     held_inside m a u at result b v q y = slice_get_within a.shards.items m y.begins.2.shard y.begins.2.there
 
     -- the next one was visited to its end
@@ -286,20 +286,20 @@ module _ {R A : Type 0} (rack : racks.Ghosts R) (area : areas.Ghosts A) where
     }
 
     visited_step : AreToVisit kind pool marks → (m : ℕ) (mark : Bool) (a b : Owned R A) (u v : Uber A) (at q : Progress) → slice_index_or marks m false ≡ mark → VisitedTo (with_it a u) at m
-        → VisitedAt rack area left_by went_by false all pool.geometry kind mark m a u at b v q → VisitedTo (with_it b v) q (m + 1)
+        → VisitedAt rack area left_by went_by false all (syncs_alone rack area pool.geometry.props.metaslabs) pool.geometry kind mark m a u at b v q → VisitedTo (with_it b v) q (m + 1)
     visited_step are m true a b u v at q mark i y =
         visited_on_mark are m (with_it a u) (with_it b v) at q mark (held_inside m a u at (Some visit.Over) b v q y) i (visit_done kind m (with_it a u) i.whole at visit.Over b v q y)
     visited_step are m false a b u v at q none i same =
         subst (λ o. VisitedTo (with_it o v) q (m + 1)) (sym same.0) (subst (λ w. VisitedTo (with_it a w) q (m + 1)) (sym same.1) (subst (λ z. VisitedTo (with_it a u) z (m + 1)) (sym same.2) (passed_on m (with_it a u) at none i)))
 
     module _ (w : IsWhole rack area pool) (alone : AreAll pool (IsOnly kind)) (are : AreToVisit kind pool marks) where
-      visited_upto : (n : ℕ) (b : Owned R A) (v : Uber A) (q : Progress) → VisitedUpto rack area left_by went_by false all pool.geometry kind marks 0 n pool.metaslabs pool.uber p b v q → VisitedTo (with_it b v) q n
+      visited_upto : (n : ℕ) (b : Owned R A) (v : Uber A) (q : Progress) → VisitedUpto rack area left_by went_by false all (syncs_alone rack area pool.geometry.props.metaslabs) pool.geometry kind marks 0 n pool.metaslabs pool.uber p b v q → VisitedTo (with_it b v) q n
       visited_upto zero b v q is =
           subst (λ o. VisitedTo (with_it o v) q 0) (sym is.0) (subst (λ u. VisitedTo (with_it pool.metaslabs u) q 0) (sym is.1) (subst (λ z. VisitedTo pool z 0) (sym is.2) (visited_first w alone are)))
       visited_upto (suc n) b v q (mid, u, at, front, then_) =
           subst (λ k. VisitedTo (with_it b v) q k) (next_on n)
           (visited_step are n (slice_index_or marks n false) mid b u v at q refl (visited_upto n mid u at front)
-          (subst (λ k. VisitedAt rack area left_by went_by false all pool.geometry kind (slice_index_or marks k false) k mid u at b v q) (sym (none_before n)) then_))
+          (subst (λ k. VisitedAt rack area left_by went_by false all (syncs_alone rack area pool.geometry.props.metaslabs) pool.geometry kind (slice_index_or marks k false) k mid u at b v q) (sym (none_before n)) then_))
 
       -- ---- all of them
 
@@ -353,12 +353,12 @@ module _ {R A : Type 0} (rack : racks.Ghosts R) (area : areas.Ghosts A) where
         }
 
       -- those below the one that came to another end were visited
-      stops_behind : (place : ℕ) (result : Option Visit) (b : Owned R A) (v : Uber A) (q : Progress) → (s : VisitStopsAt rack area left_by went_by false all pool.geometry kind marks 0 place pool.metaslabs pool.uber p result b v q)
+      stops_behind : (place : ℕ) (result : Option Visit) (b : Owned R A) (v : Uber A) (q : Progress) → (s : VisitStopsAt rack area left_by went_by false all (syncs_alone rack area pool.geometry.props.metaslabs) pool.geometry kind marks 0 place pool.metaslabs pool.uber p result b v q)
           → VisitedTo (with_it s.mid s.uber) s.upto place
       stops_behind place result b v q s = subst (λ k. VisitedTo (with_it s.mid s.uber) s.upto k) (none_before s.many ∙ sym s.is) (visited_upto s.many s.mid s.uber s.upto s.front)
 
       pub visits_done : HasMark pool marks → (result : Visit) (place : ℕ) (b : Owned R A) (v : Uber A) (q : Progress)
-          → VisitsBy rack area left_by went_by false all pool.geometry kind marks 0 pool.metaslabs pool.uber p (Some result) place b v q → VisitsDone (with_it b v) result q
+          → VisitsBy rack area left_by went_by false all (syncs_alone rack area pool.geometry.props.metaslabs) pool.geometry kind marks 0 pool.metaslabs pool.uber p (Some result) place b v q → VisitsDone (with_it b v) result q
       visits_done has visit.Over place b v q (many, most, front) = visits_over has many (with_it b v) q (omega (arith, most)) (visited_upto many b v q front)
       visits_done has visit.Paused place b v q s =
           let now = with_it s.mid s.uber in
@@ -370,5 +370,5 @@ module _ {R A : Type 0} (rack : racks.Ghosts R) (area : areas.Ghosts A) where
           visits_stop place now (with_it b v) s.upto q s.marked (held_inside place s.mid s.uber s.upto (Some (visit.Stopped why)) b v q s.stop) i why (visit_done kind place now i.whole s.upto (visit.Stopped why) b v q s.stop)
 
       -- they have an answer
-      pub visits_wait : (place : ℕ) (b : Owned R A) (v : Uber A) (q : Progress) → VisitsBy rack area left_by went_by false all pool.geometry kind marks 0 pool.metaslabs pool.uber p None place b v q → ⊥
+      pub visits_wait : (place : ℕ) (b : Owned R A) (v : Uber A) (q : Progress) → VisitsBy rack area left_by went_by false all (syncs_alone rack area pool.geometry.props.metaslabs) pool.geometry kind marks 0 pool.metaslabs pool.uber p None place b v q → ⊥
       visits_wait place b v q s = visit_waits kind place (with_it s.mid s.uber) (stops_behind place None b v q s).whole s.upto b v q s.stop

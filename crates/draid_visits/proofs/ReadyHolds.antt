@@ -17,6 +17,7 @@ use Rattle.draid_pool.specs.declared.fault.SyncFault.{SyncFault}
 use Rattle.draid_pool.specs.declared.fault.Synced.{Synced}
 use Rattle.draid_pool.proofs.Drifting.{same_pass}
 use Rattle.draid_pool.proofs.Holding.{some_same}
+use Rattle.draid_pool.proofs.Rises.{records_same}
 use Rattle.draid_pool.proofs.RoundSteps.{held_by}
 use Rattle.draid_pool.proofs.ShardSteps.{state_goes}
 use Rattle.draid_pool.proofs.SyncWhole.{KeepsQuiet, beyond_on, find_ready, quiet_on}
@@ -36,6 +37,7 @@ module _ {R A : Type 0} (rack : racks.Ghosts R) (area : areas.Ghosts A) where
     groups = λ other. r.groups;
     passes = λ is. pass_may_go is;
     others = record { each = λ key own. inl (r.blocks.entries.held key) };
+    areas = records_same area.faults x y r.areas_are;
     state = state_goes rack area (is_other (Some passes_number)) x y _ r.goes;
   }
 
@@ -54,7 +56,7 @@ module _ {R A S : Type 0} (rack : racks.Ghosts R) (area : areas.Ghosts A) (last 
       (ready_quiet rack area owns runs h.before h.after h.did) (record { left = beyond; ready = ready }) in
       (z.ready, z.left)
 
-  -- ---- what a thread has behind the hold, and behind a sync
+  -- ---- what a thread has behind the hold
 
   pub record ReadyBehind (runs : Bool) (a : S) (u : Uber A) (m : ℕ) (b : S) : Type 0 where
     pub once : HeldOnce rack area last went shared owns (ReadiesIn rack area runs) a m b
@@ -76,21 +78,6 @@ module _ {R A S : Type 0} (rack : racks.Ghosts R) (area : areas.Ghosts A) (last 
         ready = next.0;
         beyond = next.1;
         whole = once_whole rack area last went shared owns (ReadiesIn rack area runs) a m b once (λ x y r. r.part) (λ x y r. r.groups) (λ x y v r. r.valid) (λ x y r. r.blocks);
-      }
-
-  pub record SyncBehind (a : S) (u : Uber A) (m : ℕ) (seen : S) (out : Option (Result Synced SyncFault)) (b : S) (v : Uber A) : Type 0 where
-    pub once : HeldOnce rack area last went shared owns (ReadiesIn rack area false) a m seen
-    pub syncs : SyncsIn rack area last went shared owns count seen u out b v
-    pub whole : KeepsWhole rack owns (all_of owns) (last a) (last b)
-
-  pub sync_behind : (a : S) (u : Uber A) (m : ℕ) (seen : S) → ReadyBehind false a u m seen → (now : ℕ → Bool) → now ≡ owns → (came out : Option (Result Synced SyncFault)) → came ≡ out → (b : S) (v : Uber A)
-      → SyncsIn rack area last went shared now count seen u came b v → KeepsWhole rack now (all_of now) (last seen) (last b) → SyncBehind a u m seen out b v
-  sync_behind a u m seen held now same came out is b v syncs whole =
-      let then_whole : KeepsWhole rack owns (all_of owns) (last seen) (last b) = subst (λ o. KeepsWhole rack o (all_of o) (last seen) (last b)) same whole in
-      record {
-        once = held.once;
-        syncs = subst (λ r. SyncsIn rack area last went shared owns count seen u r b v) is (subst (λ o. SyncsIn rack area last went shared o count seen u came b v) same syncs);
-        whole = λ table seq floor w. then_whole table seq floor (held.whole table seq floor w);
       }
 
   -- ---- a sync names a later group

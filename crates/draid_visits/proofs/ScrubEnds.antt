@@ -17,6 +17,7 @@ use Rattle.draid_spec.specs.declared.layout.Geometry.{Geometry}
 use Rattle.draid_uber.specs.declared.uber.Uber.{Uber}
 use Rattle.draid_pool.specs.declared.fault.SyncFault.{SyncFault}
 use Rattle.draid_pool.specs.declared.fault.SyncFault.TheVariants as sync
+use Rattle.draid_pool.specs.declared.fault.Synced.{Synced}
 use Rattle.draid_visits.specs.Looks.{FindsPass}
 use Rattle.draid_visits.specs.Rebuilding.{IsAnswer, stopped_by}
 use Rattle.draid_visits.specs.Starts.{IsBegun, StartsIn}
@@ -96,7 +97,7 @@ begun_some : (o : Option ℕ) (at : ℕ) → IsSome (passes.first_from o at)
 begun_some None at = refl
 begun_some (Some x) at = refl
 
-module _ {R A S : Type 0} (rack : racks.Ghosts R) (area : areas.Ghosts A) (last : S → ℕ → Option (Shard R A)) (went : S → ℕ → Shard R A → Shard R A → S → Type 0) (shared : Bool) (owns : ℕ → Bool) (geometry : Geometry) where
+module _ {R A S : Type 0} (rack : racks.Ghosts R) (area : areas.Ghosts A) (last : S → ℕ → Option (Shard R A)) (went : S → ℕ → Shard R A → Shard R A → S → Type 0) (shared : Bool) (owns : ℕ → Bool) (syncs : S → Uber A → Option (Result Synced SyncFault) → S → Uber A → Type 0) (geometry : Geometry) where
   lent_from : (m n : ℕ) (a b : S) (p q : Progress) → Lent rack area last went shared owns Heal m n a p b q → q.from ≡ p.from
   lent_from m zero a b p q it = ap (λ (r : Progress). r.from) it.1
   lent_from m (suc n) a b p q (mid, r, repaired, front, some, once, counts) = ap (λ (r : Progress). r.from) counts ∙ lent_from m n a mid p r front
@@ -119,7 +120,7 @@ module _ {R A S : Type 0} (rack : racks.Ghosts R) (area : areas.Ghosts A) (last 
   behind_ends m stripe (Some (Err why)) result a b p q is it = absurd (cc)
   behind_ends m stripe None result a b p q is it = absurd (cc)
 
-  stopped_ends : (p : Progress) (came : Result ℕ PlanFault) (why : SyncFault) (result : Option Visit) (a b : S) (u v : Uber A) (m : ℕ) (q : Progress) → IsBegun came (begun.Stopped why) → VisitsBehind rack area last went shared owns geometry Heal m a u p (begun.Stopped why) result b v q → ScrubEnds p result q
+  stopped_ends : (p : Progress) (came : Result ℕ PlanFault) (why : SyncFault) (result : Option Visit) (a b : S) (u v : Uber A) (m : ℕ) (q : Progress) → IsBegun came (begun.Stopped why) → VisitsBehind rack area last went shared owns syncs geometry Heal m a u p (begun.Stopped why) result b v q → ScrubEnds p result q
   stopped_ends p came why (Some (visit.Stopped cause)) a b u v m q is it = record {
     some = λ none. absurd (cc);
     over = λ over. absurd (cc);
@@ -133,10 +134,10 @@ module _ {R A S : Type 0} (rack : racks.Ghosts R) (area : areas.Ghosts A) (last 
   stopped_ends p came why (Some visit.Paused) a b u v m q is it = absurd it
   stopped_ends p came why None a b u v m q is it = absurd it
 
-  visit_ends : (m : ℕ) (a b : S) (u v : Uber A) (p q : Progress) (result : Option Visit) → VisitBy rack area last went shared owns geometry Heal m a u p result b v q → ScrubEnds p result q
+  visit_ends : (m : ℕ) (a b : S) (u v : Uber A) (p q : Progress) (result : Option Visit) → VisitBy rack area last went shared owns syncs geometry Heal m a u p result b v q → ScrubEnds p result q
   visit_ends m a b u v p q result it = by it.start it.begins.1 it.behind
     where
-      by : (start : Begun) → IsBegun it.begins.0 start → VisitsBehind rack area last went shared owns geometry Heal m it.mid u p start result b v q → ScrubEnds p result q
+      by : (start : Begun) → IsBegun it.begins.0 start → VisitsBehind rack area last went shared owns syncs geometry Heal m it.mid u p start result b v q → ScrubEnds p result q
       by (begun.At stripe) is (made, mid, runs, lends) = behind_ends m stripe made result mid b p q runs.0 lends
       by begun.Nothing is behind = absurd (has_target rack area it.begins.0 it.begins.2.before it.begins.2.after is it.begins.2.did)
       by (begun.Stopped why) is behind = stopped_ends p it.begins.0 why result it.mid b u v m q is behind
@@ -144,16 +145,16 @@ module _ {R A S : Type 0} (rack : racks.Ghosts R) (area : areas.Ghosts A) (last 
   -- ---- one after another
 
   module _ (marks : List Bool) (first : ℕ) where
-    at_stays : (mark : Bool) (m : ℕ) (a b : S) (u v : Uber A) (p q : Progress) → VisitedAt rack area last went shared owns geometry Heal mark m a u p b v q → IsSome p.from → IsSome q.from
+    at_stays : (mark : Bool) (m : ℕ) (a b : S) (u v : Uber A) (p q : Progress) → VisitedAt rack area last went shared owns syncs geometry Heal mark m a u p b v q → IsSome p.from → IsSome q.from
     at_stays true m a b u v p q it some = (let z = visit_ends m a b u v p q (Some visit.Over) it in z.stays some)
     at_stays false m a b u v p q it some = subst (λ (r : Progress). IsSome r.from) (sym it.2) some
 
-    at_begins : (mark : Bool) → mark ≡ true → (m : ℕ) (a b : S) (u v : Uber A) (p q : Progress) → VisitedAt rack area last went shared owns geometry Heal mark m a u p b v q → IsSome q.from
+    at_begins : (mark : Bool) → mark ≡ true → (m : ℕ) (a b : S) (u v : Uber A) (p q : Progress) → VisitedAt rack area last went shared owns syncs geometry Heal mark m a u p b v q → IsSome q.from
     at_begins true is m a b u v p q it = (let z = visit_ends m a b u v p q (Some visit.Over) it in z.over refl)
     at_begins false is m a b u v p q it = absurd (cc)
 
     -- where one of them is marked a pass was begun
-    upto_begins : (n k : ℕ) (a b : S) (u v : Uber A) (p q : Progress) → k < n → slice_index_or marks (first + k) false ≡ true → VisitedUpto rack area last went shared owns geometry Heal marks first n a u p b v q → IsSome q.from
+    upto_begins : (n k : ℕ) (a b : S) (u v : Uber A) (p q : Progress) → k < n → slice_index_or marks (first + k) false ≡ true → VisitedUpto rack area last went shared owns syncs geometry Heal marks first n a u p b v q → IsSome q.from
     upto_begins zero k a b u v p q less mark it = absurd (omega (arith, less))
     upto_begins (suc n) k a b u v p q less mark (mid, w, r, front, it) = dite (ℕ_discrete k n)
         (λ same. at_begins (slice_index_or marks (first + n) false) (ap (λ j. slice_index_or marks (first + j) false) (sym same) ∙ mark) (first + n) mid b w v r q it)
@@ -161,7 +162,7 @@ module _ {R A S : Type 0} (rack : racks.Ghosts R) (area : areas.Ghosts A) (last 
 
     -- its end is no failed device's, and where it comes to the end of the metaslabs a pass was begun
     visits_end : (k : ℕ) → first + k < geometry.props.metaslabs → slice_index_or marks (first + k) false ≡ true → (place : ℕ) (result : Option Visit) (a b : S) (u v : Uber A) (p q : Progress)
-        → VisitsBy rack area last went shared owns geometry Heal marks first a u p result place b v q → (result ≡ None → ⊥) × (result ≡ Some visit.Over → IsSome q.from) × (result ≡ Some (visit.Stopped sync.Shelf) → ⊥)
+        → VisitsBy rack area last went shared owns syncs geometry Heal marks first a u p result place b v q → (result ≡ None → ⊥) × (result ≡ Some visit.Over → IsSome q.from) × (result ≡ Some (visit.Stopped sync.Shelf) → ⊥)
     visits_end k below mark place (Some visit.Over) a b u v p q (many, all, front) = ((λ is. absurd (cc)), (λ is. upto_begins many k a b u v p q (omega (arith, below, all)) mark front), (λ is. absurd (cc)))
     visits_end k below mark place (Some visit.Paused) a b u v p q s = ((λ is. absurd (cc)), (λ is. absurd (cc)), (λ is. absurd (cc)))
     visits_end k below mark place (Some (visit.Stopped why)) a b u v p q s =
@@ -180,13 +181,13 @@ module _ {R A S : Type 0} (rack : racks.Ghosts R) (area : areas.Ghosts A) (last 
     pub below : it.next + more < geometry.props.metaslabs
     pub marked : slice_index_or it.marks (it.next + more) false ≡ true
 
-  mends_visits : (old new : Mending) (answer : Option (Result Mended MendFault)) (a b : S) (u v : Uber A) → HasNext old → (it : MendsBy rack area last went shared owns geometry a u old answer b v new)
+  mends_visits : (old new : Mending) (answer : Option (Result Mended MendFault)) (a b : S) (u v : Uber A) → HasNext old → (it : MendsBy rack area last went shared owns syncs geometry a u old answer b v new)
       → (it.result ≡ None → ⊥) × (it.result ≡ Some visit.Over → IsSome new.progress.from) × (it.result ≡ Some (visit.Stopped sync.Shelf) → ⊥)
   mends_visits old new answer a b u v has it =
       visits_end old.marks old.next has.more has.below has.marked new.next it.result a b u v old.progress new.progress
-      (subst (λ k. VisitsBy rack area last went shared owns geometry k old.marks old.next a u old.progress it.result new.next b v new.progress) has.heal it.visits)
+      (subst (λ k. VisitsBy rack area last went shared owns syncs geometry k old.marks old.next a u old.progress it.result new.next b v new.progress) has.heal it.visits)
 
-  pub no_wait : (old new : Mending) (a b : S) (u v : Uber A) → HasNext old → MendsBy rack area last went shared owns geometry a u old None b v new → ⊥
+  pub no_wait : (old new : Mending) (a b : S) (u v : Uber A) → HasNext old → MendsBy rack area last went shared owns syncs geometry a u old None b v new → ⊥
   no_wait old new a b u v has it = by it.result refl it.answers
     where
       by : (r : Option Visit) → it.result ≡ r → AnswersBy rack area last went shared owns r new.progress None → ⊥
@@ -207,7 +208,7 @@ module _ {R A S : Type 0} (rack : racks.Ghosts R) (area : areas.Ghosts A) (last 
       by (visit.Stopped sync.NoMemory) (Err cause) is over nothing = absurd (let same : cause ≡ fault.Nothing = cc in let no = sym is ∙ same in cc)
 
   -- nor does it say that there is nothing to do, or that an area failed
-  pub scrub_answers : (old new : Mending) (result : Result Mended MendFault) (a b : S) (u v : Uber A) → HasNext old → MendsBy rack area last went shared owns geometry a u old (Some result) b v new
+  pub scrub_answers : (old new : Mending) (result : Result Mended MendFault) (a b : S) (u v : Uber A) → HasNext old → MendsBy rack area last went shared owns syncs geometry a u old (Some result) b v new
       → (result ≡ Err fault.Nothing → ⊥) × (result ≡ Err fault.Shelf → ⊥)
   scrub_answers old new result a b u v has it = (let z = mends_visits old new (Some result) a b u v has it in answer_never it.result new.progress result it.answers (z.1, z.2))
 

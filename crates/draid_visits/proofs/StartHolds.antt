@@ -8,6 +8,7 @@ use Rattle.draid_shard.specs.declared.shard.Shard.{Shard}
 use Rattle.draid_passing.specs.declared.fault.PlanFault.{PlanFault}
 use Rattle.draid_passing.specs.declared.fault.PlanFault.TheVariants as plan
 use Rattle.draid_pool.specs.Drifts.{Drifts, KeepsTo, is_other, passes_number}
+use Rattle.draid_pool.proofs.Rises.{records_same}
 use Rattle.draid_pool.proofs.ShardSteps.{state_goes}
 use Rattle.draid_visits.specs.Starts.{IsNotRunning, MayStartIn, StartsIn}
 use Rattle.draid_visits.proofs.CancelHolds.{pass_may_go}
@@ -23,6 +24,7 @@ module _ {R A : Type 0} (rack : racks.Ghosts R) (area : areas.Ghosts A) (kind : 
     groups = λ other. s.groups;
     passes = λ is. pass_may_go is;
     others = record { each = λ key own. inl (s.blocks.entries.held key) };
+    areas = records_same area.faults x y s.areas_are;
     state = state_goes rack area (is_other (Some passes_number)) x y _ s.goes;
   }
 

@@ -1,5 +1,5 @@
 -- What becomes of each metaslab through the holds of a sync: whatever a relation says that others keep to in between, and that holds where a hold left the part and the pass.
-use Rattle.std.proofs.Common.{◌≡◌, ◌∙◌, inl, inr, ℕ, zero, suc, Bool, Option, Some, None, Ok, Err, refl, sym, ap, subst, if◌then◌else◌, eq-eqb, ne_eqb}
+use Rattle.std.proofs.Common.{◌≡◌, ◌+◌, ◌∙◌, inl, inr, ℕ, zero, suc, Bool, Option, Some, None, Ok, Err, refl, sym, ap, subst, if◌then◌else◌, eq-eqb, ne_eqb}
 use mathlib.Core.Logic.{dite}
 use native.Mathlib.Decide.{ℕ_discrete}
 use Rattle.std.specs.Prelude.{Result}
@@ -7,14 +7,18 @@ use Rattle.draid_rack.specs.declared.Rack as racks
 use Rattle.draid_area.specs.declared.Area as areas
 use Rattle.draid_shard.specs.States.{part_of}
 use Rattle.draid_shard.specs.declared.shard.Shard.{Shard}
+use Rattle.draid_uber.specs.Slots.{group_of}
+use Rattle.draid_uber.specs.Uber.{kept_of}
 use Rattle.draid_uber.specs.declared.uber.Uber.{Uber}
 use Rattle.draid_pool.specs.Drifts.{Drifts}
+use Rattle.draid_pool.specs.GoingOn.{BeginsIn, GoesOnIn, SealsFrom, SealsUntil}
 use Rattle.draid_pool.specs.Grouping.{ClosesEach, ClosesIn, CommitsIn, FindsClosing, FinishesIn, SealsBy, SealsEach, SeesClosing, SyncsIn, WaitsForWrites}
 use Rattle.draid_pool.specs.Passes.{KeepsPass}
-use Rattle.draid_pool.specs.Rounds.{HeldEach, HeldOnce, StoppedBy}
+use Rattle.draid_pool.specs.Rounds.{HeldEach, HeldFrom, HeldOnce, StoppedBy}
 use Rattle.draid_pool.specs.Syncing.{Commits}
 use Rattle.draid_pool.specs.declared.fault.SyncFault.{SyncFault}
 use Rattle.draid_pool.specs.declared.fault.Synced.{Synced}
+use Rattle.draid_pool.specs.declared.fault.Syncing.{Syncing}
 use Rattle.draid_pool.proofs.Holding.{some_same}
 
 -- such a relation of a metaslab as a thread left it and as it was left then
@@ -111,3 +115,31 @@ module _ {R A S : Type 0} (rack : racks.Ghosts R) (area : areas.Ghosts A) (last 
         all_on a mid b (finish_kept count a mid u w (Some (Ok tt)) finishes) (commits_kept group count mid b w v (Some (Err why)) commits)
     sync_kept count a b u v None (inl finishes) = finish_kept count a b u v None finishes
     sync_kept count a b u v None (inr (mid, w, group, finishes, next, commits)) = all_on a mid b (finish_kept count a mid u w (Some (Ok tt)) finishes) (commits_kept group count mid b w v None commits)
+
+    -- ---- a sync that is under way
+
+    from_kept : (group first n sum : ℕ) (a b : S) → HeldFrom rack area last went shared owns (λ thin x y. SealsBy rack area group x (Ok thin) y) first n a sum b → AllKept last Stays a b
+    from_kept group first zero sum a b each = subst (AllKept last Stays a) (sym each.0) (all_same a)
+    from_kept group first (suc n) sum a b (mid, some, more, each, once, adds) =
+        all_on a mid b (from_kept group first n some a mid each)
+        (once_kept (λ x y. SealsBy rack area group x (Ok more) y) mid (first + n) b once (seals_one group (Ok more) once.before once.after once.did))
+
+    until_kept : (count : ℕ) (a b : S) (old new : Syncing) (stops : Shard R A → Shard R A → Type 0) → ((x y : Shard R A) → stops x y → Stays x y) → SealsUntil rack area last went shared owns stops count a old b new → AllKept last Stays a b
+    until_kept count a b old new stops so s =
+        let f = s.front in
+        all_on a s.mid b (from_kept old.group old.next f.held f.sum a s.mid f.each) (once_kept stops s.mid new.next b s.stop (so s.stop.before s.stop.after s.stop.did))
+
+    pub goes_kept : (count : ℕ) (a b : S) (old new : Syncing) (u v : Uber A) (out : Option (Result Synced SyncFault)) → GoesOnIn rack area last went shared owns count a old u out b new v → AllKept last Stays a b
+    goes_kept count a b old new u v (Some (Ok it)) (late, seals, group_is, thin_is, names, commits) =
+        let f = seals.0 in
+        all_on a late b (from_kept old.group old.next f.held f.sum a late f.each) (round_kept (λ none x y. Commits rack old.group x y) (λ n x y c. law.step x y c.does.part c.stays.pass) count 0 late b commits)
+    goes_kept count a b old new u v (Some (Err why)) (inl (seals, same)) = until_kept count a b old new (λ x y. SealsBy rack area old.group x (Err why) y) (seals_one old.group (Err why)) seals
+    goes_kept count a b old new u v (Some (Err why)) (inr (seals, names)) = (let f = seals.0 in from_kept old.group old.next f.held f.sum a b f.each)
+    goes_kept count a b old new u v None (seals, same) = until_kept count a b old new (λ x y. WaitsForWrites old.group x y) (λ x y w. same_kept x y w.same) seals
+
+    pub begins_kept : (count : ℕ) (a b : S) (u v : Uber A) (out : Option (Result Syncing SyncFault)) → BeginsIn rack area last went shared owns count a u out b v → AllKept last Stays a b
+    begins_kept count a b u v (Some (Ok begun)) (mid, finishes, first, closes) = all_on a mid b (finish_kept count a mid u v (Some (Ok tt)) finishes) (closes_kept begun.group count mid b (Ok tt) closes)
+    begins_kept count a b u v (Some (Err why)) (inl finishes) = finish_kept count a b u v (Some (Err why)) finishes
+    begins_kept count a b u v (Some (Err why)) (inr (mid, finishes, closes)) =
+        all_on a mid b (finish_kept count a mid u v (Some (Ok tt)) finishes) (closes_kept (group_of (kept_of v) + 1) count mid b (Err why) closes)
+    begins_kept count a b u v None finishes = finish_kept count a b u v None finishes

@@ -5,6 +5,7 @@ use Rattle.draid_rack.specs.declared.Rack as racks
 use Rattle.draid_area.specs.declared.Area as areas
 use Rattle.draid_shard.specs.declared.shard.Shard.{Shard}
 use Rattle.draid_pool.specs.Drifts.{Drifts, KeepsTo, is_other, passes_number}
+use Rattle.draid_pool.proofs.Rises.{records_same}
 use Rattle.draid_pool.proofs.ShardSteps.{state_goes_later}
 use Rattle.draid_visits.specs.Units.{MayLendIn, UnitIn}
 use Rattle.draid_visits.specs.declared.steps.Next.{Next}
@@ -20,6 +21,7 @@ module _ {R A : Type 0} (rack : racks.Ghosts R) (area : areas.Ghosts A) where
     groups = λ other. u.groups;
     passes = λ is. pass_may_go is;
     others = record { each = λ key own. inl (u.table.entries.held key) };
+    areas = records_same area.faults x y u.areas_are;
     state = state_goes_later rack area (is_other (Some passes_number)) x y u.moves;
   }
 

@@ -19,14 +19,14 @@ use Rattle.draid_uber.specs.Slots.{group_of}
 use Rattle.draid_uber.specs.Uber as ubers
 use Rattle.draid_uber.specs.declared.uber.Uber.{Uber}
 use Rattle.draid_pool.specs.Drifts.{groups_number, passes_number}
-use Rattle.draid_pool.specs.Grouping.{ClosesNext, SyncsIn}
+use Rattle.draid_pool.specs.Grouping.{ClosesNext}
 use Rattle.draid_pool.specs.Rounds.{EachIs, HeldOnce, NoneBeyond}
 use Rattle.draid_pool.specs.Threads.{KeepsWhole, all_of}
 use Rattle.draid_pool.specs.declared.fault.SyncFault.{SyncFault}
 use Rattle.draid_pool.specs.declared.fault.Synced.{Synced}
 use Rattle.draid_pool.proofs.Holding.{some_same}
 use Rattle.draid_pool.proofs.SyncWhole.{KeepsQuiet, beyond_on, quiet_on}
-use Rattle.draid_visits.specs.Readies.{MayReadyIn, ReadiesBy, ReadiesIn, Waited}
+use Rattle.draid_visits.specs.Readies.{AllKeptFor, KeepsParts, KeptFor, MayReadyIn, ReadiesBy, ReadiesIn}
 use Rattle.draid_visits.specs.Starts.{BeginsBy, IsBegun, LeftSo, MayStartIn, StartsIn}
 use Rattle.draid_visits.specs.Steps.{IsRunningOf, IsToLend}
 use Rattle.draid_visits.specs.Units.{LendsBy, Lent, MayLendIn, UnitIn}
@@ -39,7 +39,7 @@ use Rattle.draid_visits.specs.declared.starting.Begun.TheVariants as begun
 use Rattle.draid_visits.specs.declared.steps.Next.{Next}
 use Rattle.draid_visits.specs.declared.steps.Next.TheVariants as next
 use Rattle.draid_visits.proofs.Idle.{kind_kept}
-use Rattle.draid_visits.proofs.SyncStays.{AllKept, IsKept, all_on, all_same, held_here, once_kept, sync_kept}
+use Rattle.draid_visits.proofs.SyncStays.{AllKept, IsKept, all_on, all_same, held_here, once_kept}
 
 -- ---- what is whole
 
@@ -49,11 +49,6 @@ pub whole_then : {R A : Type 0} (rack : racks.Ghosts R) (owns mine : ℕ → Boo
 whole_then rack owns mine same first mid now before more table seq floor whole = subst (λ o. KeepsWhole rack o (all_of o) mid now) same more table seq floor (before table seq floor whole)
 
 -- ---- one metaslab
-
--- it has the part that it had, and no pass of another kind if it had none
-pub record KeptFor {R A : Type 0} (kind : PassKind) (old new : Shard R A) : Type 0 where
-  pub part : part_of new ≡ part_of old
-  pub only : IsOnly kind old → IsOnly kind new
 
 pub never_both : Heal ≡ Rebuild → ⊥
 never_both is = absurd (cc)
@@ -115,41 +110,34 @@ module _ {R A : Type 0} (rack : racks.Ghosts R) (area : areas.Ghosts A) where
 
 -- ---- a rebuild is made to run
 
-module _ {R A S : Type 0} (rack : racks.Ghosts R) (area : areas.Ghosts A) (last : S → ℕ → Option (Shard R A)) (went : S → ℕ → Shard R A → Shard R A → S → Type 0) (shared : Bool) (owns : ℕ → Bool) (passes : owns passes_number ≡ true) (count m : ℕ) where
+-- behind a sync
+pub parts_for : {R A : Type 0} (kind : PassKind) (last now : ℕ → Option (Shard R A)) → KeepsParts last now → AllKeptFor kind last now
+parts_for kind last now keeps m y at = (let z = keeps m y at in (z.0, z.1, record { part = z.2.part; only = kind_kept kind z.0.pass y.pass z.2.pass }))
+
+module _ {R A S : Type 0} (rack : racks.Ghosts R) (area : areas.Ghosts A) (last : S → ℕ → Option (Shard R A)) (went : S → ℕ → Shard R A → Shard R A → S → Type 0) (shared : Bool) (owns : ℕ → Bool) (passes : owns passes_number ≡ true) (m : ℕ) where
   law : IsKept {R = R} {A = A} rack area shared owns (KeptFor Rebuild)
   law = kept_for rack area Rebuild shared owns passes
 
-  waited_for : (n : ℕ) (a b : S) (u v : Uber A) → Waited rack area last went shared owns count m n a u b v → AllKept {R = R} {A = A} last (KeptFor Rebuild) a b
-  waited_for zero a b u v waited = subst (AllKept {R = R} {A = A} last (KeptFor Rebuild) a) (sym waited.0) (all_same rack area last went shared owns (KeptFor Rebuild) law a)
-  waited_for (suc n) a b u v (mid, w, seen, it, waited, once, syncs) =
-      all_on rack area last went shared owns (KeptFor Rebuild) law a mid b (waited_for n a mid u w waited)
-      (all_on rack area last went shared owns (KeptFor Rebuild) law mid seen b
-      (once_kept rack area last went shared owns (KeptFor Rebuild) law (ReadiesIn rack area false) mid m seen once (readies_for rack area false once.before once.after once.did))
-      (sync_kept rack area last went shared owns (KeptFor Rebuild) law count seen b w v (Some (Ok it)) syncs))
+  pub kept_none : (a : S) → AllKeptFor {R = R} {A = A} Rebuild (last a) (last a)
+  kept_none a = all_same rack area last went shared owns (KeptFor Rebuild) law a
 
-  -- it had to wait once more, and the sync was stopped
-  stopped_for : (n : ℕ) (a mid seen b : S) (u w v : Uber A) (out : Option (Result Synced SyncFault)) → Waited rack area last went shared owns count m n a u mid w → HeldOnce rack area last went shared owns (ReadiesIn rack area false) mid m seen
-      → SyncsIn rack area last went shared owns count seen w out b v → AllKept {R = R} {A = A} last (KeptFor Rebuild) a b
-  stopped_for n a mid seen b u w v out waited once syncs =
-      all_on rack area last went shared owns (KeptFor Rebuild) law a mid b (waited_for n a mid u w waited)
-      (all_on rack area last went shared owns (KeptFor Rebuild) law mid seen b
-      (once_kept rack area last went shared owns (KeptFor Rebuild) law (ReadiesIn rack area false) mid m seen once (readies_for rack area false once.before once.after once.did))
-      (sync_kept rack area last went shared owns (KeptFor Rebuild) law count seen b w v out syncs))
+  -- behind a hold
+  pub kept_once : (runs : Bool) (a mid b : S) → AllKeptFor {R = R} {A = A} Rebuild (last a) (last mid) → HeldOnce rack area last went shared owns (ReadiesIn rack area runs) mid m b → AllKeptFor {R = R} {A = A} Rebuild (last a) (last b)
+  kept_once runs a mid b kept once =
+      all_on rack area last went shared owns (KeptFor Rebuild) law a mid b kept (once_kept rack area last went shared owns (KeptFor Rebuild) law (ReadiesIn rack area runs) mid m b once (readies_for rack area runs once.before once.after once.did))
 
-  pub readies_all : (a b : S) (u v : Uber A) (out : Option (Result Unit SyncFault)) → ReadiesBy rack area last went shared owns count m a u out b v → AllKept {R = R} {A = A} last (KeptFor Rebuild) a b
-  readies_all a b u v (Some (Ok done)) (n, mid, waited, once) =
-      all_on rack area last went shared owns (KeptFor Rebuild) law a mid b (waited_for n a mid u v waited)
-      (once_kept rack area last went shared owns (KeptFor Rebuild) law (ReadiesIn rack area true) mid m b once (readies_for rack area true once.before once.after once.did))
-  readies_all a b u v (Some (Err why)) (n, mid, w, seen, waited, once, syncs) = stopped_for n a mid seen b u w v (Some (Err why)) waited once syncs
-  readies_all a b u v None (n, mid, w, seen, waited, once, syncs) = stopped_for n a mid seen b u w v None waited once syncs
+  -- and behind a sync
+  pub kept_sync : (a mid b : S) → AllKeptFor {R = R} {A = A} Rebuild (last a) (last mid) → KeepsParts {R = R} {A = A} (last mid) (last b) → AllKeptFor {R = R} {A = A} Rebuild (last a) (last b)
+  kept_sync a mid b kept keeps = all_on rack area last went shared owns (KeptFor Rebuild) law a mid b kept (parts_for Rebuild (last mid) (last b) keeps)
 
-  -- where it runs it may lend
-  pub readies_lends : (a b : S) (u v : Uber A) → ReadiesBy rack area last went shared owns count m a u (Some (Ok tt)) b v → LeftSo m (MayLendIn rack Rebuild) (last b)
-  readies_lends a b u v (n, mid, waited, once) = (
-    once.after,
-    held_here rack area last went shared owns (ReadiesIn rack area true) mid m b once,
-    record { valid = once.did.valid; pass = runs_to_lend once.after.pass (once.did.running refl) },
-  )
+-- where it runs it may lend
+pub readies_lends : {R A S : Type 0} (rack : racks.Ghosts R) (area : areas.Ghosts A) (last : S → ℕ → Option (Shard R A)) (went : S → ℕ → Shard R A → Shard R A → S → Type 0) (shared : Bool) (owns : ℕ → Bool) (syncs : S → Uber A → Option (Result Synced SyncFault) → S → Uber A → Type 0) (m : ℕ) (a b : S) (u v : Uber A)
+    → ReadiesBy rack area last went shared owns syncs m a u (Some (Ok tt)) b v → LeftSo m (MayLendIn rack Rebuild) (last b)
+readies_lends rack area last went shared owns syncs m a b u v (n, mid, waited, once) = (
+  once.after,
+  held_here rack area last went shared owns (ReadiesIn rack area true) mid m b once,
+  record { valid = once.did.valid; pass = runs_to_lend once.after.pass (once.did.running refl) },
+)
 
 -- ---- what a visit needs
 

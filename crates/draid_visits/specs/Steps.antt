@@ -7,6 +7,7 @@ use Rattle.draid_names.specs.declared.pass_kind.PassKind.TheVariants.{Rebuild}
 use Rattle.draid_rack.specs.declared.Rack as racks
 use Rattle.draid_spec.specs.Geometry.{metaslab_stripes}
 use Rattle.draid_block.specs.Blocks.{BlockValue}
+use Rattle.draid_machine.specs.Names.{is_block}
 use Rattle.draid_machine.specs.declared.event.Event.TheVariants.{LandBlock}
 use Rattle.draid_machine.specs.declared.event.Patched.{Patched}
 use Rattle.draid_machine.specs.declared.names.Held.{Held}
@@ -103,6 +104,6 @@ NextIs part kind used next.Worn holds = (used ≡ false) × passes.KeepsBack par
 NextIs part kind used next.NoMemory holds =
     (used ≡ false) × (passes.KeepsBack part.geometry part.perms part.number holds (λ v. ⊤) ⊎ passes.StaysOut part.geometry part.perms part.number None holds)
 
--- the pieces of each held block are those of bytes that have its length and digest
+-- the pieces of each block are those of bytes that have its length and digest; nothing is said of tickets
 abbrev pub HasContents : Part → Pieces → Metaslab → Type 0
-HasContents part pieces x = (k : Key) (h : Held) → x.world.core.held k ≡ Some h → HasBytes part.geometry h k pieces
+HasContents part pieces x = (k : Key) (h : Held) → x.world.core.held k ≡ Some h → is_block h.stage ≡ true → HasBytes part.geometry h k pieces

@@ -1,4 +1,4 @@
--- How metaslabs are visited by a rebuild or a scrub, in holds, and in the syncs for which a rebuild waits.
+-- How metaslabs are visited by a rebuild or a scrub, in holds, and in the syncs for which a rebuild waits, whatever these do.
 use Rattle.std.specs.Prelude.{◌≡◌, ◌<◌, ◌≤◌, ◌+◌, ◌*◌, ◌↔◌, ℕ, zero, suc, Bool, true, false, List, Option, Some, None, Result, Ok, Err, slice_index_or}
 use Rattle.draid_names.specs.declared.pass_kind.PassKind.{PassKind}
 use Rattle.draid_names.specs.declared.pass_kind.PassKind.TheVariants.{Heal, Rebuild}
@@ -15,6 +15,7 @@ use Rattle.draid_pool.specs.Grouping.{ClosesNext}
 use Rattle.draid_pool.specs.Rounds.{EachIs, NoneBeyond}
 use Rattle.draid_pool.specs.Threads.{HaveLayout}
 use Rattle.draid_pool.specs.declared.fault.SyncFault.{SyncFault}
+use Rattle.draid_pool.specs.declared.fault.Synced.{Synced}
 use Rattle.draid_visits.specs.Looks.{FindsMarks, FindsPass}
 use Rattle.draid_visits.specs.Readies.{ReadiesBy}
 use Rattle.draid_visits.specs.Rebuilding.{IsAnswer}
@@ -51,24 +52,27 @@ begun_at geometry m stripe p = record p { from = passes.first_from p.from (m * m
 
 -- ---- one metaslab
 
-module _ {R A S : Type 0} (rack : racks.Ghosts R) (area : areas.Ghosts A) (last : S → ℕ → Option (Shard R A)) (went : S → ℕ → Shard R A → Shard R A → S → Type 0) (shared : Bool) (owns : ℕ → Bool) where
-  -- its pass is made to run: a rebuild may have to wait for syncs of so many metaslabs
-  abbrev pub RunsBy : (count : ℕ) → PassKind → ℕ → S → Uber A → Option (Result Unit SyncFault) → S → Uber A → Type 0
-  RunsBy count Rebuild m a u out b v = ReadiesBy rack area last went shared owns count m a u out b v
-  RunsBy count Heal m a u out b v = (out ≡ Some (Ok tt)) × (b ≡ a) × (v ≡ u)
-
 module _ {R A S : Type 0} (rack : racks.Ghosts R) (area : areas.Ghosts A) (last : S → ℕ → Option (Shard R A)) (went : S → ℕ → Shard R A → Shard R A → S → Type 0) (shared : Bool) (owns : ℕ → Bool) (geometry : Geometry) (kind : PassKind) where
-  -- the pass lends then, unless it was stopped, or open writes of others were in its way
+  -- a pass that was made to run lends, unless it was stopped, or a sync was given up
   abbrev pub LendsBehind : ℕ → ℕ → S → Progress → Option (Result Unit SyncFault) → Option Visit → S → Progress → Type 0
   LendsBehind m stripe a p (Some (Ok done)) (Some result) b q = LendsBy rack area last went shared owns kind m a (begun_at geometry m stripe p) result b q
   LendsBehind m stripe a p (Some (Err why)) (Some (visit.Stopped cause)) b q = (cause ≡ why) × (b ≡ a) × (q ≡ p)
   LendsBehind m stripe a p None None b q = (b ≡ a) × (q ≡ p)
   LendsBehind m stripe a p made result b q = ⊥
 
+module _ {R A S : Type 0} (rack : racks.Ghosts R) (area : areas.Ghosts A) (last : S → ℕ → Option (Shard R A)) (went : S → ℕ → Shard R A → Shard R A → S → Type 0) (shared : Bool) (owns : ℕ → Bool)
+    (syncs : S → Uber A → Option (Result Synced SyncFault) → S → Uber A → Type 0) where
+  -- its pass is made to run: a rebuild may have to wait for syncs
+  abbrev pub RunsBy : PassKind → ℕ → S → Uber A → Option (Result Unit SyncFault) → S → Uber A → Type 0
+  RunsBy Rebuild m a u out b v = ReadiesBy rack area last went shared owns syncs m a u out b v
+  RunsBy Heal m a u out b v = (out ≡ Some (Ok tt)) × (b ≡ a) × (v ≡ u)
+
+module _ {R A S : Type 0} (rack : racks.Ghosts R) (area : areas.Ghosts A) (last : S → ℕ → Option (Shard R A)) (went : S → ℕ → Shard R A → Shard R A → S → Type 0) (shared : Bool) (owns : ℕ → Bool)
+    (syncs : S → Uber A → Option (Result Synced SyncFault) → S → Uber A → Type 0) (geometry : Geometry) (kind : PassKind) where
   -- so where it stood at a stripe; nothing comes where there is none
   abbrev pub VisitsBehind : ℕ → S → Uber A → Progress → Begun → Option Visit → S → Uber A → Progress → Type 0
   VisitsBehind m a u p (begun.At stripe) result b v q =
-      (made : Option (Result Unit SyncFault)) × (mid : S) × RunsBy rack area last went shared owns geometry.props.metaslabs kind m a u made mid v × LendsBehind m stripe mid p made result b q
+      (made : Option (Result Unit SyncFault)) × (mid : S) × RunsBy rack area last went shared owns syncs kind m a u made mid v × LendsBehind rack area last went shared owns geometry kind m stripe mid p made result b q
   VisitsBehind m a u p begun.Nothing (Some visit.Over) b v q = (b ≡ a) × (v ≡ u) × (q ≡ p)
   VisitsBehind m a u p (begun.Stopped why) (Some (visit.Stopped cause)) b v q = (cause ≡ why) × (b ≡ a) × (v ≡ u) × (q ≡ p)
   VisitsBehind m a u p start result b v q = ⊥
@@ -142,8 +146,8 @@ module _ {R A S : Type 0} (rack : racks.Ghosts R) (area : areas.Ghosts A) (last 
   AnswersBy result p answer = ⊥
 
   -- the rest of the metaslabs is visited
-  pub record MendsBy (geometry : Geometry) (a : S) (u : Uber A) (old : Mending) (answer : Option (Result Mended MendFault)) (b : S) (v : Uber A) (new : Mending) : Type 0 where
+  pub record MendsBy (syncs : S → Uber A → Option (Result Synced SyncFault) → S → Uber A → Type 0) (geometry : Geometry) (a : S) (u : Uber A) (old : Mending) (answer : Option (Result Mended MendFault)) (b : S) (v : Uber A) (new : Mending) : Type 0 where
     pub result : Option Visit
     pub same : new ≡ record old { next = new.next; progress = new.progress }
-    pub visits : VisitsBy rack area last went shared owns geometry old.kind old.marks old.next a u old.progress result new.next b v new.progress
+    pub visits : VisitsBy rack area last went shared owns syncs geometry old.kind old.marks old.next a u old.progress result new.next b v new.progress
     pub answers : AnswersBy result new.progress answer

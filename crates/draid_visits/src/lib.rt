@@ -23,5 +23,6 @@ pub use looks::{find_marks, find_pass};
 pub use marks::pass_in;
 pub use mending::{Mending, begin_rebuild, begin_scrub, go_on};
 pub use progress::Progress;
+pub use readying::Syncs;
 pub use rebuilding::{MendFault, Mended, rebuild, scrub};
 pub use replies::{reply_to_cancel, reply_to_rebuild, reply_to_scrub};

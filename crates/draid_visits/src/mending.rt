@@ -14,6 +14,7 @@ ghost use Rattle.draid_visits.specs.Rebuilding.{IsAnswer, IsDone, stopped_by};
 use crate::looks::{find_marks, find_pass};
 use crate::marks::marks_from;
 use crate::progress::{Progress, Visit};
+use crate::readying::Syncs;
 use crate::rebuilding::{MendFault, Mended};
 use crate::visits::visit;
 use draid_area::Area;
@@ -108,9 +109,10 @@ pub fn begin_scrub<R: Rack, A: Area, M: Metaslabs<R, A>>(
     })
 }
 
-/// Visits the metaslabs that are left to a rebuild or a scrub. Who has the uberblock and the passes may do it. Where open writes
-/// of others are in the way of a sync there is no answer, and it is to go on again.
-pub fn go_on<R: Rack, A: Area, M: Metaslabs<R, A>>(
+/// Visits the metaslabs that are left to a rebuild or a scrub. Who has the uberblock and the passes may do it. Where a sync gives
+/// up there is no answer.
+pub fn go_on<R: Rack, A: Area, M: Metaslabs<R, A>, S: Syncs<R, A, M>>(
+    by: &S,
     metaslabs: &mut M,
     uber: &mut Uber<A>,
     geometry: &Geometry,
@@ -130,16 +132,17 @@ pub fn go_on<R: Rack, A: Area, M: Metaslabs<R, A>>(
     ensures low { result ≡ None → IsLow mending.new.next mending.new.progress }
     ensures left { (limit : Option ℕ) → IsLeft limit mending.old.progress → IsLeft limit mending.new.progress }
     ensures within { (limit : Option ℕ) → IsLeft limit mending.old.progress → IfSome result (λ answer. IfOk answer (λ it. IsWithin limit it.units it.paused)) }
-    ensures mends { MendsBy R.Rack A.Area M.last M.went M.shared (M.owns metaslabs.old) geometry.now metaslabs.old uber.old mending.old result metaslabs.new uber.new mending.new }
+    ensures mends { MendsBy R.Rack A.Area M.last M.went M.shared (M.owns metaslabs.old) (S.relates (M.owns metaslabs.old) geometry.now.props.metaslabs) geometry.now metaslabs.old uber.old mending.old result metaslabs.new uber.new mending.new }
 {
-    let Some(end) = visit_rest(metaslabs, uber, geometry, mending) else {
+    let Some(end) = visit_rest(by, metaslabs, uber, geometry, mending) else {
         return None;
     };
     Some(answer(end, &mending.progress))
 }
 
 /// Visits the metaslabs that are marked, from where the visits stand, one after another.
-fn visit_rest<R: Rack, A: Area, M: Metaslabs<R, A>>(
+fn visit_rest<R: Rack, A: Area, M: Metaslabs<R, A>, S: Syncs<R, A, M>>(
+    by: &S,
     metaslabs: &mut M,
     uber: &mut Uber<A>,
     geometry: &Geometry,
@@ -161,7 +164,7 @@ fn visit_rest<R: Rack, A: Area, M: Metaslabs<R, A>>(
     ensures left { (limit : Option ℕ) → IsLeft limit mending.old.progress → IsLeft limit mending.new.progress }
     ensures paused { IfSome result (λ end. PausesAt end mending.new.progress) }
     ensures from { result ≡ Some Visit.Paused → IsSome mending.new.progress.from }
-    ensures visits { VisitsBy R.Rack A.Area M.last M.went M.shared (M.owns metaslabs.old) geometry.now mending.old.kind mending.old.marks mending.old.next
+    ensures visits { VisitsBy R.Rack A.Area M.last M.went M.shared (M.owns metaslabs.old) (S.relates (M.owns metaslabs.old) geometry.now.props.metaslabs) geometry.now mending.old.kind mending.old.marks mending.old.next
         metaslabs.old uber.old mending.old.progress result mending.new.next metaslabs.new uber.new mending.new.progress }
 {
     for metaslab in mending.next..geometry.props.metaslabs {
@@ -170,6 +173,7 @@ fn visit_rest<R: Rack, A: Area, M: Metaslabs<R, A>>(
         }
         mending.next = metaslab;
         let Some(end) = visit(
+            by,
             metaslabs,
             uber,
             geometry,

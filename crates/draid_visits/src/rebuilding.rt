@@ -11,6 +11,7 @@ ghost use Rattle.draid_pool.specs.Whole.{IsWhole};
 ghost use Rattle.draid_visits.specs.Rebuilding.{RebuildDoes, RebuildIs, ScrubDoes, ScrubIs};
 
 use crate::mending::{begin_rebuild, begin_scrub, go_on};
+use crate::readying::Alone;
 use draid_area::Area;
 use draid_pool::Pool;
 use draid_rack::Rack;
@@ -62,7 +63,13 @@ pub fn rebuild<R: Rack, A: Area>(
         Ok(mending) => mending,
         Err(fault) => return Err(fault),
     };
-    match go_on(&mut pool.metaslabs, &mut pool.uber, &geometry, &mut mending) {
+    match go_on(
+        &Alone,
+        &mut pool.metaslabs,
+        &mut pool.uber,
+        &geometry,
+        &mut mending,
+    ) {
         Some(answer) => answer,
         None => unreachable!(),
     }
@@ -90,7 +97,13 @@ pub fn scrub<R: Rack, A: Area>(
         Ok(mending) => mending,
         Err(fault) => return Err(fault),
     };
-    match go_on(&mut pool.metaslabs, &mut pool.uber, &geometry, &mut mending) {
+    match go_on(
+        &Alone,
+        &mut pool.metaslabs,
+        &mut pool.uber,
+        &geometry,
+        &mut mending,
+    ) {
         Some(answer) => answer,
         None => unreachable!(),
     }

@@ -171,7 +171,7 @@ pub(crate) fn next_in<R: Rack, A: Area>(
     ensures only { IsOnly kind shard.new }
     ensures moves { (part : Part) (pieces : Pieces) (x : Metaslab) → IsMetaslab R.Rack A.Area part pieces shard.old x
         → GoesLater R.Rack A.Area part pieces x shard.new }
-    ensures goes { (part : Part) (pieces : Pieces) (x : Metaslab) → IsMetaslab R.Rack A.Area part pieces shard.old x → HasContents part pieces x
+    ensures goes { (part : Part) (pieces : Pieces) (x : Metaslab) → IsMetaslab R.Rack A.Area part pieces shard.old x → (kind ≡ Heal → HasContents part pieces x)
         → GoesTo R.Rack A.Area part pieces x shard.new (λ holds y. NextIs part kind used_up result holds × SameBlocks x y) }
 {
     if !is_running(&shard.pass) {

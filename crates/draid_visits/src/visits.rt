@@ -11,7 +11,7 @@ ghost use Rattle.draid_visits.specs.Visits.{LendsBehind, MayVisit, RunsBy, Visit
 
 use crate::lends::lend_each;
 use crate::progress::{Progress, Visit};
-use crate::readying::make_ready;
+use crate::readying::{Syncs, make_ready};
 use crate::starting::{Begun, begin_visit};
 use draid_area::Area;
 use draid_names::PassKind;
@@ -20,8 +20,9 @@ use draid_rack::Rack;
 use draid_spec::Geometry;
 use draid_uber::Uber;
 
-/// Visits a metaslab. Where open writes of others are in the way of a sync there is no answer, and it is to be visited again.
-pub(crate) fn visit<R: Rack, A: Area, M: Metaslabs<R, A>>(
+/// Visits a metaslab. Where a sync gives up there is no answer.
+pub(crate) fn visit<R: Rack, A: Area, M: Metaslabs<R, A>, S: Syncs<R, A, M>>(
+    by: &S,
     metaslabs: &mut M,
     uber: &mut Uber<A>,
     geometry: &Geometry,
@@ -45,17 +46,20 @@ pub(crate) fn visit<R: Rack, A: Area, M: Metaslabs<R, A>>(
     ensures left { (limit : Option ℕ) → IsLeft limit progress.old → IsLeft limit progress.new }
     ensures paused { IfSome result (λ end. PausesAt end progress.new) }
     ensures from { result ≡ Some Visit.Paused → IsSome progress.new.from }
-    ensures visits { VisitBy R.Rack A.Area M.last M.went M.shared (M.owns metaslabs.old) geometry.now kind metaslab metaslabs.old uber.old progress.old result metaslabs.new uber.new progress.new }
+    ensures visits { VisitBy R.Rack A.Area M.last M.went M.shared (M.owns metaslabs.old) (S.relates (M.owns metaslabs.old) geometry.now.props.metaslabs) geometry.now kind metaslab metaslabs.old uber.old progress.old result metaslabs.new uber.new progress.new }
 {
     match begin_visit(metaslabs, kind, metaslab) {
-        Begun::At { stripe } => run(metaslabs, uber, geometry, kind, metaslab, stripe, progress),
+        Begun::At { stripe } => run(
+            by, metaslabs, uber, geometry, kind, metaslab, stripe, progress,
+        ),
         Begun::Nothing => Some(Visit::Over),
         Begun::Stopped { why } => Some(Visit::Stopped { why }),
     }
 }
 
 /// Makes a metaslab's pass, which stands at this stripe, run, and lends.
-fn run<R: Rack, A: Area, M: Metaslabs<R, A>>(
+fn run<R: Rack, A: Area, M: Metaslabs<R, A>, S: Syncs<R, A, M>>(
+    by: &S,
     metaslabs: &mut M,
     uber: &mut Uber<A>,
     geometry: &Geometry,
@@ -83,10 +87,10 @@ fn run<R: Rack, A: Area, M: Metaslabs<R, A>>(
     ensures paused { IfSome result (λ end. PausesAt end progress.new) }
     ensures from { result ≡ Some Visit.Paused → IsSome progress.new.from }
     ensures runs { (made : Option (Result Unit SyncFault)) × (mid : M)
-        × RunsBy R.Rack A.Area M.last M.went M.shared (M.owns metaslabs.old) geometry.now.props.metaslabs kind metaslab metaslabs.old uber.old made mid uber.new
+        × RunsBy R.Rack A.Area M.last M.went M.shared (M.owns metaslabs.old) (S.relates (M.owns metaslabs.old) geometry.now.props.metaslabs) kind metaslab metaslabs.old uber.old made mid uber.new
         × LendsBehind R.Rack A.Area M.last M.went M.shared (M.owns metaslabs.old) geometry.now kind metaslab stripe mid progress.old made result metaslabs.new progress.new }
 {
-    match make_run(metaslabs, uber, geometry, kind, metaslab) {
+    match make_run(by, metaslabs, uber, geometry, kind, metaslab) {
         Some(Ok(())) => {
             progress.begin(stripe_of(geometry, metaslab, stripe));
             Some(lend_each(metaslabs, kind, metaslab, progress))
@@ -107,7 +111,8 @@ fn stripe_of(geometry: &Geometry, metaslab: u32, stripe: u64) -> u64
 }
 
 /// Makes a metaslab's pass run: a rebuild may have to wait for syncs, a scrub runs from its planning on.
-fn make_run<R: Rack, A: Area, M: Metaslabs<R, A>>(
+fn make_run<R: Rack, A: Area, M: Metaslabs<R, A>, S: Syncs<R, A, M>>(
+    by: &S,
     metaslabs: &mut M,
     uber: &mut Uber<A>,
     geometry: &Geometry,
@@ -126,10 +131,10 @@ fn make_run<R: Rack, A: Area, M: Metaslabs<R, A>>(
     ensures may { MayVisit R.Rack A.Area geometry.now kind (M.last metaslabs.new) uber.new }
     ensures whole { KeepsWhole R.Rack (M.owns metaslabs.old) (all_of (M.owns metaslabs.old)) (M.last metaslabs.old) (M.last metaslabs.new) }
     ensures lends { result ≡ Some (Ok tt) → LeftSo metaslab (MayLendIn R.Rack kind) (M.last metaslabs.new) }
-    ensures runs { RunsBy R.Rack A.Area M.last M.went M.shared (M.owns metaslabs.old) geometry.now.props.metaslabs kind metaslab metaslabs.old uber.old result metaslabs.new uber.new }
+    ensures runs { RunsBy R.Rack A.Area M.last M.went M.shared (M.owns metaslabs.old) (S.relates (M.owns metaslabs.old) geometry.now.props.metaslabs) kind metaslab metaslabs.old uber.old result metaslabs.new uber.new }
 {
     match kind {
-        PassKind::Rebuild => make_ready(metaslabs, uber, geometry.props.metaslabs, metaslab),
+        PassKind::Rebuild => make_ready(by, metaslabs, uber, geometry.props.metaslabs, metaslab),
         PassKind::Heal => Some(Ok(())),
     }
 }

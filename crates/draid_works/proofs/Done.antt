@@ -25,6 +25,7 @@ use Rattle.draid_pool.specs.declared.fault.Synced.{Synced}
 use Rattle.draid_pool.proofs.Joining.{leads_as}
 use Rattle.draid_store.specs.Answers.{FreeDoes, ReadDoes, SumDoes, WriteDoes}
 use Rattle.draid_store.specs.Batches.{SumTries}
+use Rattle.draid_store.specs.Fetching.{OwnsFrom}
 use Rattle.draid_store.specs.Pointers.{ReadFinds, TriesTake}
 use Rattle.draid_store.specs.PointerSums.{SumFinds}
 use Rattle.draid_store.specs.Says.{FreeSays, ReadSays, SumSays, free_reply, read_reply, sum_reply}
@@ -39,13 +40,14 @@ use Rattle.draid_visits.specs.declared.rebuilding.MendFault.{MendFault}
 use Rattle.draid_visits.specs.declared.rebuilding.MendFault.TheVariants as mending
 use Rattle.draid_visits.specs.declared.rebuilding.Mended.{Mended}
 use Rattle.draid_lanes.specs.Lanes.{table_of}
+use Rattle.draid_lanes.specs.Locks.{owned_by}
 use Rattle.draid_lanes.specs.Waits.{LaneWent}
 use Rattle.draid_lanes.specs.declared.lane.Lane.{Lane}
 use Rattle.draid_works.specs.Lanes.{LaneCarries, LaneKnows}
 use Rattle.draid_works.specs.Replied.{DoesOnObjects, ObjectsDone, write_reply}
 use Rattle.draid_works.specs.Waiting.{LooksBut, WriteSetsTable}
 use Rattle.draid_works.proofs.FilledIn.{KnowsThen}
-use Rattle.draid_works.proofs.TaughtTable.{table_free, table_read, table_sum, table_write}
+use Rattle.draid_works.proofs.BesideTable.{own_free, own_read, own_sum, own_write}
 use Rattle.draid_works.proofs.Waited.{left_all, left_less}
 
 -- ---- what answers do, in the words of replies
@@ -119,36 +121,36 @@ module _ {R A G W : Type 0} (rack : racks.Ghosts R) (area : areas.Ghosts A) (old
   same_table own o = ap (λ own. get nat_eq own.objects o) own
 
   module _ (reply : Reply) (pass : new.pass ≡ old.pass) where
-    pub write_done : (chosen : List Room → Option ℕ → Type 0) (o : ℕ) (bytes : List ℕ) (result : Result Unit WriteFault) → reply ≡ write_reply o result → WriteSetsTable o bytes (table_of old) (table_of new) result
+    pub write_done : (chosen : List Room → Option ℕ → Type 0) (o : ℕ) (bytes : List ℕ) (result : Result Unit WriteFault) → owned_by old.metaslabs.passes.items o ≡ true → reply ≡ write_reply o result → WriteSetsTable o bytes (table_of old) (table_of new) result
         → ((x : State) → x.geometry ≡ old.geometry → LaneKnows rack area old x → LaneCarries rack area old new x (LooksBut (WriteDoes x chosen o bytes result))) → ObjectsDone rack area (choices_by chosen) (WriteObject o bytes) reply old new
-    write_done chosen o bytes result said sets step = record {
+    write_done chosen o bytes result own said sets step = record {
       pass = pass;
-      teaches = table_write (table_of old) (table_of new) o bytes result reply said sets;
+      teaches = own_write (owned_by old.metaslabs.passes.items) (table_of old) (table_of new) o bytes result reply own said sets;
       step = λ x layout knows. carries_as x (LooksBut (WriteDoes x chosen o bytes result)) (LooksBut (ReplyDoes x (choices_by chosen) (WriteObject o bytes) reply))
           (λ holds store l. (l.0, l.1, subst (λ r. ReplyDoes x (choices_by chosen) (WriteObject o bytes) r l.0 store) (sym said) (write_says x chosen o bytes result l.0 store l.2))) (step x layout knows);
     }
 
-    pub read_done : (o : ℕ) (result : Result (Vec ℕ Global) ObjectFault) → reply ≡ read_reply o result → new.own ≡ old.own → ReadFinds (table_of old o) result
+    pub read_done : (o : ℕ) (result : Result (Vec ℕ Global) ObjectFault) → owned_by old.metaslabs.passes.items o ≡ true → reply ≡ read_reply o result → new.own ≡ old.own → ReadFinds (table_of old o) result
         → ((x : State) → x.geometry ≡ old.geometry → LaneKnows rack area old x → LaneCarries rack area old new x (ReadDoes x o result)) → DoesOnObjects rack area (ReadObject o) reply (ReadSays o reply) old new
-    read_done o result said own finds step = record {
+    read_done o result own said same finds step = record {
       pass = pass;
-      teaches = table_read (table_of old) (table_of new) (same_table own) o result reply said finds;
+      teaches = own_read (owned_by old.metaslabs.passes.items) (table_of old) (table_of new) o result reply own (same_table same) said finds;
       step = λ x layout knows. carries_as x (ReadDoes x o result) (LooksBut (ReadSays o reply x)) (λ holds store d. all_left (ReadSays o reply x) holds store (result, said, d)) (step x layout knows);
     }
 
-    pub free_done : (o : ℕ) (result : Result Unit FreeFault) → reply ≡ free_reply o result → TriesTake o (table_of old) (table_of new) (Some result)
+    pub free_done : (o : ℕ) (result : Result Unit FreeFault) → owned_by old.metaslabs.passes.items o ≡ true → reply ≡ free_reply o result → TriesTake o (table_of old) (table_of new) (Some result)
         → ((x : State) → LaneKnows rack area old x → LaneCarries rack area old new x (LooksBut (FreeDoes x o result))) → DoesOnObjects rack area (FreeObject o) reply (FreeSays o reply) old new
-    free_done o result said takes step = record {
+    free_done o result own said takes step = record {
       pass = pass;
-      teaches = table_free (table_of old) (table_of new) o result reply said takes;
+      teaches = own_free (owned_by old.metaslabs.passes.items) (table_of old) (table_of new) o result reply own said takes;
       step = λ x layout knows. carries_as x (LooksBut (FreeDoes x o result)) (LooksBut (FreeSays o reply x)) (λ holds store l. (l.0, l.1, (result, said, l.2))) (step x knows);
     }
 
-    pub sum_done : (first count : ℕ) (result : Result (List ℕ) SumFault) → reply ≡ sum_reply first count result → new.own ≡ old.own → SumFinds (table_of old) first count result
+    pub sum_done : (first count : ℕ) (result : Result (List ℕ) SumFault) → OwnsFrom (owned_by old.metaslabs.passes.items) first count → reply ≡ sum_reply first count result → new.own ≡ old.own → SumFinds (table_of old) first count result
         → ((x : State) → x.geometry ≡ old.geometry → LaneKnows rack area old x → LaneCarries rack area old new x (SumTries x first count result)) → DoesOnObjects rack area (SumObjects first count) reply (SumSays first count reply) old new
-    sum_done first count result said own finds step = record {
+    sum_done first count result own said same finds step = record {
       pass = pass;
-      teaches = table_sum (table_of old) (table_of new) (same_table own) first count result reply said finds;
+      teaches = own_sum (owned_by old.metaslabs.passes.items) (table_of old) (table_of new) first count result reply own (same_table same) said finds;
       step = λ x layout knows. carries_as x (SumTries x first count result) (LooksBut (SumSays first count reply x)) (sum_left x first count result reply said) (step x layout knows);
     }
 

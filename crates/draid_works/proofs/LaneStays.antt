@@ -56,7 +56,7 @@ module _ {R A G W : Type 0} (rack : racks.Ghosts R) (area : areas.Ghosts A) wher
     owns = owned_by old.passes.items
 
     stood : (did.value.turns.now ≡ old.turns.now) × IsUberOf rack area did.value.turns.now did.value.uber did.value.groups
-    stood = stood_keeps (λ a past. UberStep rack area a.turns.now past.left.turns.now past.left.uber past.left.groups) (λ v. (v.turns.now ≡ old.turns.now) × IsUberOf rack area v.turns.now v.uber v.groups) lock.first did.log did.value
+    stood = stood_keeps (λ a past. UberStep rack area a.turns.now past.left.turns.now a.uber past.left.uber past.left.groups) (λ v. (v.turns.now ≡ old.turns.now) × IsUberOf rack area v.turns.now v.uber v.groups) lock.first did.log did.value
         (λ a past was step. (step.same ∙ was.0, step.is)) (turns, first) did.stood
 
     met : IsMet rack area old.turns.now old.passes.items did.related.met.passes.items

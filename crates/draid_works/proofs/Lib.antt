@@ -1,12 +1,19 @@
+pub mod BesideTable
+pub mod CommandsFail
 pub mod Done
 pub mod FilledIn
 pub mod FilledTable
+pub mod Grown
 pub mod LaneStays
+pub mod LaneTeaches
+pub mod LaneTells
 pub mod MendArms
 pub mod MendBegun
 pub mod MendFails
+pub mod MendLater
 pub mod MendStays
 pub mod MendSteps
+pub mod MendSyncs
 pub mod MendThrough
 pub mod Mended
 pub mod Replied
@@ -14,6 +21,7 @@ pub mod ScrubEnds
 pub mod SwitchArms
 pub mod SwitchFails
 pub mod SwitchGoverned
+pub mod SwitchLater
 pub mod SwitchLeads
 pub mod SwitchSays
 pub mod SwitchStays
@@ -25,5 +33,6 @@ pub mod SyncFails
 pub mod SyncStays
 pub mod SyncSteps
 pub mod TaughtTable
+pub mod TurnSays
 pub mod Waited
 pub mod Whole

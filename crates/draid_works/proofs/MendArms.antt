@@ -1,5 +1,5 @@
 -- What a rebuild or a scrub leaves of arms: behind it all metaslabs have the same ones again, and no leaf came.
-use Rattle.std.proofs.Common.{◌≡◌, ◌<◌, ◌≤◌, ◌⊎◌, inl, inr, ℕ, Bool, true, Option, Some, None, Ok, Err, refl}
+use Rattle.std.proofs.Common.{◌≡◌, ◌<◌, ◌≤◌, ◌⊎◌, inl, inr, ℕ, Bool, true, Option, Some, None, refl}
 use Rattle.std.specs.Prelude.{Result}
 use Rattle.std.proofs.lemmas.Bool.{cases_lt}
 use Rattle.draid_names.specs.declared.pass_kind.PassKind.{PassKind}
@@ -10,15 +10,14 @@ use Rattle.draid_shard.specs.declared.shard.Shard.{Shard}
 use Rattle.draid_spec.specs.declared.layout.Geometry.{Geometry}
 use Rattle.draid_uber.specs.declared.uber.Uber.{Uber}
 use Rattle.draid_pool.specs.Drifts.{groups_number}
-use Rattle.draid_pool.specs.Grouping.{SyncsIn}
 use Rattle.draid_pool.specs.Rounds.{HeldOnce, NoneBeyond}
 use Rattle.draid_pool.specs.declared.fault.SyncFault.{SyncFault}
 use Rattle.draid_pool.specs.declared.fault.Synced.{Synced}
 use Rattle.draid_visits.specs.declared.rebuilding.MendFault.{MendFault}
 use Rattle.draid_visits.specs.declared.rebuilding.Mended.{Mended}
 use Rattle.draid_visits.proofs.MendKeeps.{Leaves}
-use Rattle.draid_lanes.proofs.SyncArms.{HasArms, SameLayout, arms_groups, arms_on, commit_arms, finish_arms, layout_still, layout_then}
-use Rattle.draid_works.specs.Mended.{MendsThrough}
+use Rattle.draid_lanes.proofs.SyncArms.{HasArms, SameLayout, arms_groups, arms_on, layout_still, layout_then, through_arms}
+use Rattle.draid_works.specs.Mended.{MendsThrough, SyncsWaiting}
 use Rattle.draid_works.proofs.MendSteps.{mends_keeps}
 
 -- a metaslab that was held is one of the first so many
@@ -50,21 +49,9 @@ module _ {R A S : Type 0} (rack : racks.Ghosts R) (area : areas.Ghosts A) (last 
     layout_still u u refl,
   )
 
-  sync_arms : (a b : S) (u v : Uber A) (out : Option (Result Synced SyncFault)) → SyncsIn rack area last went shared owns geometry.props.metaslabs a u out b v → HasBoth a u b v
-  sync_arms a b u v (Some (Ok it)) (mid, w, finishes, is, commits) g =
-      let f = finish_arms rack area last went shared owns own geometry.props.metaslabs limit a mid u w (Some (Ok tt)) finishes g in
-      let d = commit_arms rack area last went shared owns own geometry.props.metaslabs limit it.group mid b w v (Some (Ok it.thin)) commits f.0 in
-      (d.0, layout_then u w v f.1 d.1)
-  sync_arms a b u v (Some (Err why)) (inl finishes) g = finish_arms rack area last went shared owns own geometry.props.metaslabs limit a b u v (Some (Err why)) finishes g
-  sync_arms a b u v (Some (Err why)) (inr (mid, w, group, finishes, is, commits)) g =
-      let f = finish_arms rack area last went shared owns own geometry.props.metaslabs limit a mid u w (Some (Ok tt)) finishes g in
-      let d = commit_arms rack area last went shared owns own geometry.props.metaslabs limit group mid b w v (Some (Err why)) commits f.0 in
-      (d.0, layout_then u w v f.1 d.1)
-  sync_arms a b u v None (inl finishes) g = finish_arms rack area last went shared owns own geometry.props.metaslabs limit a b u v None finishes g
-  sync_arms a b u v None (inr (mid, w, group, finishes, is, commits)) g =
-      let f = finish_arms rack area last went shared owns own geometry.props.metaslabs limit a mid u w (Some (Ok tt)) finishes g in
-      let d = commit_arms rack area last went shared owns own geometry.props.metaslabs limit group mid b w v None commits f.0 in
-      (d.0, layout_then u w v f.1 d.1)
+  sync_arms : (a b : S) (u v : Uber A) (out : Option (Result Synced SyncFault)) → SyncsWaiting rack area last went shared owns geometry.props.metaslabs a u out b v → HasBoth a u b v
+  sync_arms a b u v None syncs g = absurd syncs
+  sync_arms a b u v (Some result) syncs g = through_arms rack area last went shared owns own geometry.props.metaslabs limit a b u v result syncs g
 
   pub mended_arms : (kind : PassKind) (most : Option ℕ) (result : Result Mended MendFault) (a b : S) (u v : Uber A) → MendsThrough rack area last went shared owns geometry kind most a u result b v
       → HasArms rack area last went shared owns own geometry.props.metaslabs limit a → HasArms rack area last went shared owns own geometry.props.metaslabs limit b × SameLayout u v

@@ -10,10 +10,11 @@ use Rattle.draid_spec.specs.declared.layout.Geometry.{Geometry}
 use Rattle.draid_turn.specs.Calls.{Caller, Lock}
 use Rattle.draid_turn.specs.declared.past.Past.{Past}
 use Rattle.draid_uber.specs.declared.uber.Uber.{Uber}
-use Rattle.draid_pool.specs.Grouping.{SyncsIn}
 use Rattle.draid_pool.specs.Rounds.{HeldOnce}
 use Rattle.draid_pool.specs.declared.fault.SyncFault.{SyncFault}
+use Rattle.draid_pool.specs.declared.fault.SyncFault.TheVariants as sync
 use Rattle.draid_pool.specs.declared.fault.Synced.{Synced}
+use Rattle.draid_visits.specs.Visits.{MendsBy}
 use Rattle.draid_visits.specs.declared.mending.Mending.{Mending}
 use Rattle.draid_visits.specs.declared.rebuilding.MendFault.{MendFault}
 use Rattle.draid_visits.specs.declared.rebuilding.MendFault.TheVariants as fault
@@ -25,11 +26,12 @@ use Rattle.draid_lanes.specs.Locks.{owned_by}
 use Rattle.draid_lanes.specs.Waits.{LaneWent}
 use Rattle.draid_lanes.specs.declared.locked.Locked.{Locked}
 use Rattle.draid_lanes.specs.declared.uber.UberCell.{UberCell}
-use Rattle.draid_works.specs.Failing.{AreaFailedIn, AreaFails}
-use Rattle.draid_works.specs.Mended.{BeginsMend, MendedIn, MendsRest, MendsThrough}
+use Rattle.draid_lanes.specs.Failing.{AreaFailedIn, AreaFails}
+use Rattle.draid_works.specs.Mended.{BeginsMend, MendedIn, MendsThrough, SyncsWaiting}
+use Rattle.draid_lanes.proofs.UberLater.{own_count, still_later, through_later}
 use Rattle.draid_works.proofs.LaneStays.{lane_later}
-use Rattle.draid_works.proofs.MendSteps.{begins, mends_on}
-use Rattle.draid_works.proofs.SyncFails.{Reach, fails_behind, fails_in, own_count, reach_then, still_later, sync_fails, sync_later, sync_reach}
+use Rattle.draid_works.proofs.MendSteps.{begins}
+use Rattle.draid_works.proofs.SyncFails.{Reach, fails_behind, fails_in, reach_then, synced_fails, synced_reach}
 
 module _ {R A S : Type 0} (rack : racks.Ghosts R) (area : areas.Ghosts A) (last : S → ℕ → Option (Shard R A)) (went : S → ℕ → Shard R A → Shard R A → S → Type 0) (shared : Bool) (mine : ℕ → Bool)
     (later : (a : S) (m : ℕ) (x y : Shard R A) (b : S) → went a m x y b → x.committed ≤ y.committed) (geometry : Geometry) where
@@ -49,8 +51,9 @@ module _ {R A S : Type 0} (rack : racks.Ghosts R) (area : areas.Ghosts A) (last 
   hold_leads : (does : Shard R A → Shard R A → Type 0) (a : S) (m : ℕ) (b : S) (u : Uber A) (h : HeldOnce rack area last went shared mine does a m b) → Leaves rack area h.before h.after → Leads a u b u
   hold_leads does a m b u h leaves = ((1, (a, m, h.before, h.after, refl, h.goes)), still_later area u u refl)
 
-  sync_leads : (a b : S) (u v : Uber A) (out : Option (Result Synced SyncFault)) → SyncsIn rack area last went shared mine geometry.props.metaslabs a u out b v → Leads a u b v
-  sync_leads a b u v out syncs = (sync_reach rack area last went shared mine later geometry.props.metaslabs a b u v out syncs, sync_later rack area last went shared mine later geometry.props.metaslabs a b u v out syncs)
+  sync_leads : (a b : S) (u v : Uber A) (out : Option (Result Synced SyncFault)) → SyncsWaiting rack area last went shared mine geometry.props.metaslabs a u out b v → Leads a u b v
+  sync_leads a b u v None syncs = absurd syncs
+  sync_leads a b u v (Some result) syncs = (synced_reach rack area last went shared mine later geometry.props.metaslabs a b u v result syncs, through_later rack area last went shared mine geometry.props.metaslabs a b u v result syncs)
 
   -- it doesn't begin so
   begun_not : (kind : PassKind) (limit : Option ℕ) (why : MendFault) (a b : S) → why ≡ fault.Shelf → BeginsMend rack area last went shared mine geometry kind limit a (Err why) b → ⊥
@@ -67,17 +70,15 @@ module _ {R A S : Type 0} (rack : racks.Ghosts R) (area : areas.Ghosts A) (last 
   begun_not Heal limit fault.Last a b is it = it
   begun_not Heal limit fault.NoMemory a b is it = it
 
-  rest_fails : (old : Mending) (result : Result Mended MendFault) (a b : S) (u v : Uber A) → result ≡ Err fault.Shelf → MendsRest rack area last went shared mine geometry a u old result b v → AreaFails area went a u b v
-  rest_fails old result a b u v is t =
-      let on = mends_on rack area last went shared mine geometry Leads leads_same leads_then hold_leads sync_leads t.waits old t.now a t.mid u t.w t.front in
-      let f = mends_fail rack area last went shared mine geometry Leads leads_same leads_then hold_leads sync_leads t.now t.new result t.mid b t.w v is t.mends in
-      let to = leads_then a t.mid f.mid u t.w f.uber on f.front in
-      fails_behind rack area last went shared mine later a f.mid b u f.uber v to.0 to.1 (sync_fails rack area last went shared mine later geometry.props.metaslabs f.mid b f.uber v f.syncs)
+  rest_fails : (old new : Mending) (result : Result Mended MendFault) (a b : S) (u v : Uber A) → result ≡ Err fault.Shelf → MendsBy rack area last went shared mine (SyncsWaiting rack area last went shared mine geometry.props.metaslabs) geometry a u old (Some result) b v new → AreaFails area went a u b v
+  rest_fails old new result a b u v is it =
+      let f = mends_fail rack area last went shared mine (SyncsWaiting rack area last went shared mine geometry.props.metaslabs) geometry Leads leads_same leads_then hold_leads sync_leads old new result a b u v is it in
+      fails_behind rack area last went shared mine later a f.mid b u f.uber v f.front.0 f.front.1 (synced_fails rack area last went shared mine later geometry.props.metaslabs f.mid b f.uber v (Err sync.Shelf) refl f.failed)
 
   pub mended_fails : (kind : PassKind) (limit : Option ℕ) (result : Result Mended MendFault) (a b : S) (u v : Uber A) → result ≡ Err fault.Shelf → MendsThrough rack area last went shared mine geometry kind limit a u result b v → AreaFails area went a u b v
-  mended_fails kind limit result a b u v is (inl (it, mid, starts, rest)) =
+  mended_fails kind limit result a b u v is (inl (it, mid, new, starts, rest)) =
       let to = begins rack area last went shared mine geometry Leads leads_same leads_then hold_leads sync_leads kind limit (Ok it) a mid u starts in
-      fails_behind rack area last went shared mine later a mid b u u v to.0 to.1 (rest_fails it result mid b u v is rest)
+      fails_behind rack area last went shared mine later a mid b u u v to.0 to.1 (rest_fails it new result mid b u v is rest)
   mended_fails kind limit result a b u v is (inr (why, same, starts, at)) = absurd (begun_not kind limit why a b (why_is why same) starts)
     where
       why_is : (e : MendFault) → result ≡ Err e → e ≡ fault.Shelf

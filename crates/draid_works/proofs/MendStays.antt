@@ -12,6 +12,8 @@ use Rattle.draid_turn.specs.Calls.{Caller, Lock}
 use Rattle.draid_turn.specs.declared.past.Past.{Past}
 use Rattle.draid_uber.specs.declared.uber.Uber.{Uber}
 use Rattle.draid_pool.specs.Threads.{Knows}
+use Rattle.draid_pool.specs.declared.fault.SyncFault.{SyncFault}
+use Rattle.draid_pool.specs.declared.fault.Synced.{Synced}
 use Rattle.draid_visits.specs.declared.rebuilding.MendFault.{MendFault}
 use Rattle.draid_visits.specs.declared.rebuilding.Mended.{Mended}
 use Rattle.draid_visits.proofs.MendKeeps.{Leaves}
@@ -22,11 +24,11 @@ use Rattle.draid_lanes.specs.Waits.{LaneWent}
 use Rattle.draid_lanes.specs.declared.locked.Locked.{Locked}
 use Rattle.draid_lanes.specs.declared.uber.UberCell.{UberCell}
 use Rattle.draid_lanes.specs.Knowing.{KnowsLater}
-use Rattle.draid_works.specs.Mended.{MendedIn, MendsLane, MendsThrough}
+use Rattle.draid_works.specs.Mended.{MendedIn, MendsLane, MendsThrough, SyncsWaiting}
 use Rattle.draid_works.proofs.LaneStays.{governed_knows, inside, lane_later}
 use Rattle.draid_works.proofs.MendSteps.{mends_keeps}
 use Rattle.draid_lanes.proofs.OwnGoes.{EachGoes, Goes, OwnGoes, each_same, each_then, goes_on, goes_same, hold_goes}
-use Rattle.draid_works.proofs.SyncSteps.{sync_goes}
+use Rattle.draid_works.proofs.SyncSteps.{synced_goes}
 
 module _ {R A S : Type 0} (rack : racks.Ghosts R) (area : areas.Ghosts A) (last : S → ℕ → Option (Shard R A)) (went : S → ℕ → Shard R A → Shard R A → S → Type 0) (shared : Bool) (mine owns : ℕ → Bool) (inside : (n : ℕ) → owns n ≡ true → mine n ≡ true)
     (later : (a : S) (m : ℕ) (x y : Shard R A) (b : S) → went a m x y b → x.committed ≤ y.committed) (geometry : Geometry) where
@@ -42,10 +44,15 @@ module _ {R A S : Type 0} (rack : racks.Ghosts R) (area : areas.Ghosts A) (last 
   abbrev EachOn : S → Uber A → S → Uber A → Type 0
   EachOn a u b v = EachGoes rack area owns (last a) (last b)
 
+  sync_each : (a b : S) (u v : Uber A) (out : Option (Result Synced SyncFault)) → SyncsWaiting rack area last went shared mine geometry.props.metaslabs a u out b v → EachOn a u b v
+  sync_each a b u v None syncs = absurd syncs
+  sync_each a b u v (Some result) syncs =
+      synced_goes rack area last went shared mine owns later (Goes rack area last went shared mine owns inside) (goes_same rack area last went shared mine owns inside) (goes_on rack area last went shared mine owns inside) (hold_goes rack area last went shared mine owns inside) geometry.props.metaslabs a b u v result syncs
+
   pub mended_goes : (kind : PassKind) (limit : Option ℕ) (result : Result Mended MendFault) (a b : S) (u v : Uber A) → MendsThrough rack area last went shared mine geometry kind limit a u result b v → EachGoes rack area owns (last a) (last b)
   mended_goes = mends_keeps rack area last went shared mine geometry EachOn (λ s w. each_same rack area owns (last s)) (λ a b c u v w. each_then rack area owns (last a) (last b) (last c))
       (λ does a m b u h leaves. hold_goes rack area last went shared mine owns inside does a m b h (leaves_own h.before h.after leaves))
-      (λ a b u v out syncs. sync_goes rack area last went shared mine owns later (Goes rack area last went shared mine owns inside) (goes_same rack area last went shared mine owns inside) (goes_on rack area last went shared mine owns inside) (hold_goes rack area last went shared mine owns inside) geometry.props.metaslabs a b u v out syncs)
+      sync_each
 
 -- ---- a lane's
 

@@ -1,5 +1,5 @@
--- What is so behind a rebuild or a scrub that waited: whatever each of its holds and each of its syncs keeps, and that follows one behind another.
-use Rattle.std.proofs.Common.{inl, inr, ℕ, zero, suc, Bool, Option, Some, None, Ok, Err, sym, subst}
+-- What is so behind a rebuild or a scrub whose syncs wait: whatever each of its holds and each of its syncs keeps, and that follows one behind another.
+use Rattle.std.proofs.Common.{inl, inr, ℕ, Bool, Option, Some, Ok, Err, sym, subst}
 use Rattle.std.specs.Prelude.{Result}
 use Rattle.draid_names.specs.declared.pass_kind.PassKind.{PassKind}
 use Rattle.draid_names.specs.declared.pass_kind.PassKind.TheVariants.{Heal, Rebuild}
@@ -8,33 +8,24 @@ use Rattle.draid_area.specs.declared.Area as areas
 use Rattle.draid_shard.specs.declared.shard.Shard.{Shard}
 use Rattle.draid_spec.specs.declared.layout.Geometry.{Geometry}
 use Rattle.draid_uber.specs.declared.uber.Uber.{Uber}
-use Rattle.draid_pool.specs.Grouping.{SyncsIn}
 use Rattle.draid_pool.specs.Rounds.{HeldOnce}
 use Rattle.draid_pool.specs.declared.fault.Synced.{Synced}
 use Rattle.draid_pool.specs.declared.fault.SyncFault.{SyncFault}
 use Rattle.draid_visits.specs.declared.mending.Mending.{Mending}
 use Rattle.draid_visits.specs.declared.rebuilding.MendFault.{MendFault}
 use Rattle.draid_visits.specs.declared.rebuilding.Mended.{Mended}
-use Rattle.draid_visits.proofs.MendKeeps.{Leaves, mends, rebuild_begins, scrub_begins, still}
-use Rattle.draid_works.specs.Mended.{BeginsMend, MendsOn, MendsRest, MendsThrough}
+use Rattle.draid_visits.proofs.MendKeeps.{Leaves, mends, rebuild_begins, scrub_begins}
+use Rattle.draid_works.specs.Mended.{BeginsMend, MendsThrough, SyncsWaiting}
 
 module _ {R A S : Type 0} (rack : racks.Ghosts R) (area : areas.Ghosts A) (last : S → ℕ → Option (Shard R A)) (went : S → ℕ → Shard R A → Shard R A → S → Type 0) (shared : Bool) (owns : ℕ → Bool) (geometry : Geometry) (Keeps : S → Uber A → S → Uber A → Type 0)
     (same : (a : S) (u : Uber A) → Keeps a u a u) (on : (a b c : S) (u v w : Uber A) → Keeps a u b v → Keeps b v c w → Keeps a u c w)
     (hold : (does : Shard R A → Shard R A → Type 0) (a : S) (m : ℕ) (b : S) (u : Uber A) (h : HeldOnce rack area last went shared owns does a m b) → Leaves rack area h.before h.after → Keeps a u b u)
-    (sync : (a b : S) (u v : Uber A) (out : Option (Result Synced SyncFault)) → SyncsIn rack area last went shared owns geometry.props.metaslabs a u out b v → Keeps a u b v) where
+    (sync : (a b : S) (u v : Uber A) (out : Option (Result Synced SyncFault)) → SyncsWaiting rack area last went shared owns geometry.props.metaslabs a u out b v → Keeps a u b v) where
   pub begins : (kind : PassKind) (limit : Option ℕ) (result : Result Mending MendFault) (a b : S) (u : Uber A) → BeginsMend rack area last went shared owns geometry kind limit a result b → Keeps a u b u
-  begins Rebuild limit result a b u it = rebuild_begins rack area last went shared owns geometry Keeps same on hold sync limit result a b u it
-  begins Heal limit result a b u it = scrub_begins rack area last went shared owns geometry Keeps same on hold sync limit result a b u it
-
-  -- ---- tried again
-
-  pub mends_on : (n : ℕ) (old new : Mending) (a b : S) (u v : Uber A) → MendsOn rack area last went shared owns geometry n a u old b v new → Keeps a u b v
-  mends_on zero old new a b u v it = still rack area last went shared owns geometry Keeps same on hold sync a b u v it.0 it.1
-  mends_on (suc n) old new a b u v (mid, w, now, front, it) = on a mid b u w v (mends_on n old now a mid u w front) (mends rack area last went shared owns geometry Keeps same on hold sync now new None mid b w v it)
-
-  mends_rest : (old : Mending) (result : Result Mended MendFault) (a b : S) (u v : Uber A) → MendsRest rack area last went shared owns geometry a u old result b v → Keeps a u b v
-  mends_rest old result a b u v t = on a t.mid b u t.w v (mends_on t.waits old t.now a t.mid u t.w t.front) (mends rack area last went shared owns geometry Keeps same on hold sync t.now t.new (Some result) t.mid b t.w v t.mends)
+  begins Rebuild limit result a b u it = rebuild_begins rack area last went shared owns (SyncsWaiting rack area last went shared owns geometry.props.metaslabs) geometry Keeps same on hold sync limit result a b u it
+  begins Heal limit result a b u it = scrub_begins rack area last went shared owns (SyncsWaiting rack area last went shared owns geometry.props.metaslabs) geometry Keeps same on hold sync limit result a b u it
 
   pub mends_keeps : (kind : PassKind) (limit : Option ℕ) (result : Result Mended MendFault) (a b : S) (u v : Uber A) → MendsThrough rack area last went shared owns geometry kind limit a u result b v → Keeps a u b v
-  mends_keeps kind limit result a b u v (inl (it, mid, starts, rest)) = on a mid b u u v (begins kind limit (Ok it) a mid u starts) (mends_rest it result mid b u v rest)
+  mends_keeps kind limit result a b u v (inl (it, mid, new, starts, rest)) =
+      on a mid b u u v (begins kind limit (Ok it) a mid u starts) (mends rack area last went shared owns (SyncsWaiting rack area last went shared owns geometry.props.metaslabs) geometry Keeps same on hold sync it new (Some result) mid b u v rest)
   mends_keeps kind limit result a b u v (inr (why, is, starts, at)) = subst (Keeps a u b) (sym at) (begins kind limit (Err why) a b u starts)

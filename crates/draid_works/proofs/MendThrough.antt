@@ -1,5 +1,5 @@
 -- What a thread needs of some of its own it has behind a rebuild or a scrub that waited.
-use Rattle.std.proofs.Common.{◌≡◌, ◌<◌, ◌+◌, inl, ℕ, Bool, true, false, Option, arith, refl}
+use Rattle.std.proofs.Common.{◌≡◌, ◌<◌, ◌+◌, inl, ℕ, Bool, true, false, Option, Some, None, arith, refl}
 use Rattle.std.specs.Prelude.{Result}
 use Rattle.draid_names.specs.declared.pass_kind.PassKind.{PassKind}
 use Rattle.draid_rack.specs.declared.Rack as racks
@@ -10,17 +10,18 @@ use Rattle.draid_uber.specs.Slots.{group_of}
 use Rattle.draid_uber.specs.Uber.{kept_of}
 use Rattle.draid_uber.specs.declared.uber.Uber.{Uber}
 use Rattle.draid_pool.specs.Drifts.{groups_number}
-use Rattle.draid_pool.specs.Grouping.{ClosesNext, SyncsIn}
+use Rattle.draid_pool.specs.Grouping.{ClosesNext}
 use Rattle.draid_pool.specs.Rounds.{EachIs, HeldOnce, NoneBeyond}
 use Rattle.draid_pool.specs.Threads.{HaveLayout, KeepsWhole, all_of}
 use Rattle.draid_pool.specs.declared.fault.SyncFault.{SyncFault}
 use Rattle.draid_pool.specs.declared.fault.Synced.{Synced}
-use Rattle.draid_pool.proofs.SyncWhole.{HasGroup, HasNext, KeepsOwn, KeepsQuiet, beyond_on, quiet_on, sync_ready, syncs_next}
+use Rattle.draid_pool.proofs.SyncWhole.{HasGroup, HasNext, KeepsOwn, KeepsQuiet, beyond_on, quiet_on}
 use Rattle.draid_visits.specs.declared.rebuilding.MendFault.{MendFault}
 use Rattle.draid_visits.specs.declared.rebuilding.Mended.{Mended}
 use Rattle.draid_visits.proofs.MendKeeps.{Leaves}
 use Rattle.draid_lanes.proofs.Behind.{layout_behind, whole_behind}
-use Rattle.draid_works.specs.Mended.{MendsThrough}
+use Rattle.draid_lanes.proofs.SyncThrough.{through_next}
+use Rattle.draid_works.specs.Mended.{MendsThrough, SyncsWaiting}
 use Rattle.draid_works.proofs.MendArms.{held_below}
 use Rattle.draid_works.proofs.MendSteps.{mends_keeps}
 
@@ -57,11 +58,13 @@ module _ {R A S : Type 0} (rack : racks.Ghosts R) (area : areas.Ghosts A) (last 
       let quiet = leaves_quiet rack area owns h.before h.after leaves in
       ((quiet_on rack area last went shared owns own geometry.props.metaslabs Stays on does a m b below h (next_of u) quiet g, omega arith), beyond_on rack area last went shared owns geometry.props.metaslabs does a m b below h quiet.keeps beyond)
 
-  sync_goes : (a b : S) (u v : Uber A) (out : Option (Result Synced SyncFault)) → SyncsIn rack area last went shared owns geometry.props.metaslabs a u out b v → Goes a u b v
-  sync_goes a b u v out syncs beyond g = (
-    syncs_next rack area last went shared owns own geometry.props.metaslabs Stays on (next_of u) a b u v out refl syncs g,
-    (sync_ready rack area last went shared owns own geometry.props.metaslabs a b u v g.ready beyond out syncs).1,
-  )
+  sync_goes : (a b : S) (u v : Uber A) (out : Option (Result Synced SyncFault)) → SyncsWaiting rack area last went shared owns geometry.props.metaslabs a u out b v → Goes a u b v
+  sync_goes a b u v None syncs beyond g = absurd syncs
+  sync_goes a b u v (Some result) syncs beyond g =
+      let count = geometry.props.metaslabs in (
+        through_next rack area last went shared owns own count Stays on a b u v result syncs g,
+        (through_next rack area last went shared owns own count (λ s. NoneBeyond count (last s)) (beyond_on rack area last went shared owns count) a b u v result syncs (record { left = beyond; ready = g.ready })).0.left,
+      )
 
   mended_next : (kind : PassKind) (limit : Option ℕ) (result : Result Mended MendFault) (a b : S) (u v : Uber A) → MendsThrough rack area last went shared owns geometry kind limit a u result b v → Goes a u b v
   mended_next = mends_keeps rack area last went shared owns geometry Goes (λ s w beyond g. ((g, omega arith), beyond)) goes_then hold_goes sync_goes

@@ -1,5 +1,5 @@
 -- A scrub in a lane says neither that there was nothing to do nor that an area failed.
-use Rattle.std.proofs.Common.{◌≡◌, inl, inr, ℕ, zero, suc, Bool, true, Option, Err, sym, subst}
+use Rattle.std.proofs.Common.{◌≡◌, inl, inr, ℕ, Bool, true, Option, Some, Err}
 use Rattle.std.specs.Prelude.{Result}
 use Rattle.draid_names.specs.declared.pass_kind.PassKind.TheVariants.{Heal}
 use Rattle.draid_rack.specs.declared.Rack as racks
@@ -10,30 +10,23 @@ use Rattle.draid_spec.specs.declared.layout.Geometry.{Geometry}
 use Rattle.draid_turn.specs.Calls.{Caller, Lock}
 use Rattle.draid_turn.specs.declared.past.Past.{Past}
 use Rattle.draid_uber.specs.declared.uber.Uber.{Uber}
-use Rattle.draid_visits.specs.Visits.{BeginsScrub}
+use Rattle.draid_visits.specs.Visits.{BeginsScrub, MendsBy}
 use Rattle.draid_visits.specs.declared.mending.Mending.{Mending}
 use Rattle.draid_visits.specs.declared.rebuilding.MendFault.{MendFault}
 use Rattle.draid_visits.specs.declared.rebuilding.MendFault.TheVariants as fault
 use Rattle.draid_visits.specs.declared.rebuilding.Mended.{Mended}
-use Rattle.draid_visits.proofs.ScrubEnds.{HasNext, begun_next, no_wait, scrub_answers}
+use Rattle.draid_visits.proofs.ScrubEnds.{HasNext, begun_next, scrub_answers}
 use Rattle.draid_lanes.specs.Governing.{lane_last}
 use Rattle.draid_lanes.specs.Locks.{owned_by}
 use Rattle.draid_lanes.specs.Waits.{LaneWent}
 use Rattle.draid_lanes.specs.declared.locked.Locked.{Locked}
 use Rattle.draid_lanes.specs.declared.uber.UberCell.{UberCell}
-use Rattle.draid_works.specs.Mended.{MendedIn, MendsOn, MendsRest, MendsThrough}
+use Rattle.draid_works.specs.Mended.{MendedIn, MendsThrough, SyncsWaiting}
 
 module _ {R A S : Type 0} (rack : racks.Ghosts R) (area : areas.Ghosts A) (last : S → ℕ → Option (Shard R A)) (went : S → ℕ → Shard R A → Shard R A → S → Type 0) (shared : Bool) (owns : ℕ → Bool) (geometry : Geometry) where
-  abbrev Has : Mending → Type 0
-  Has it = HasNext rack area last went shared owns geometry it
-
-  -- so it never has to go on again
-  at_once : (n : ℕ) (old now : Mending) (a mid : S) (u w : Uber A) → Has old → MendsOn rack area last went shared owns geometry n a u old mid w now → now ≡ old
-  at_once zero old now a mid u w has it = it.2
-  at_once (suc n) old now a mid u w has (s, t, before, front, it) = absurd (no_wait rack area last went shared owns geometry before now s mid t w (subst Has (sym (at_once n old before a s u t has front)) has) it)
-
-  rest_never : (old : Mending) (result : Result Mended MendFault) (a b : S) (u v : Uber A) → Has old → MendsRest rack area last went shared owns geometry a u old result b v → (result ≡ Err fault.Nothing → ⊥) × (result ≡ Err fault.Shelf → ⊥)
-  rest_never old result a b u v has t = scrub_answers rack area last went shared owns geometry t.now t.new result t.mid b t.w v (subst Has (sym (at_once t.waits old t.now a t.mid u t.w has t.front)) has) t.mends
+  rest_never : (old new : Mending) (result : Result Mended MendFault) (a b : S) (u v : Uber A) → HasNext rack area last went shared owns (SyncsWaiting rack area last went shared owns geometry.props.metaslabs) geometry old
+      → MendsBy rack area last went shared owns (SyncsWaiting rack area last went shared owns geometry.props.metaslabs) geometry a u old (Some result) b v new → (result ≡ Err fault.Nothing → ⊥) × (result ≡ Err fault.Shelf → ⊥)
+  rest_never old new result a b u v has it = scrub_answers rack area last went shared owns (SyncsWaiting rack area last went shared owns geometry.props.metaslabs) geometry old new result a b u v has it
 
   -- nor does it where it doesn't begin
   begins_never : (limit : Option ℕ) (why : MendFault) (a b : S) → BeginsScrub rack area last went shared owns geometry.props.metaslabs limit a (Err why) b → (why ≡ fault.Nothing → ⊥) × (why ≡ fault.Shelf → ⊥)
@@ -48,7 +41,7 @@ module _ {R A S : Type 0} (rack : racks.Ghosts R) (area : areas.Ghosts A) (last 
   why_is result why other same is = cc
 
   pub scrub_never : IsGeometry geometry → (limit : Option ℕ) (result : Result Mended MendFault) (a b : S) (u v : Uber A) → MendsThrough rack area last went shared owns geometry Heal limit a u result b v → (result ≡ Err fault.Nothing → ⊥) × (result ≡ Err fault.Shelf → ⊥)
-  scrub_never is limit result a b u v (inl (it, mid, begins, rest)) = rest_never it result mid b u v (begun_next rack area last went shared owns geometry is limit it a mid begins) rest
+  scrub_never is limit result a b u v (inl (it, mid, new, begins, rest)) = rest_never it new result mid b u v (begun_next rack area last went shared owns (SyncsWaiting rack area last went shared owns geometry.props.metaslabs) geometry is limit it a mid begins) rest
   scrub_never is limit result a b u v (inr (why, same, begins, at)) =
       let z = begins_never limit why a b begins in
       ((λ nothing. z.0 (why_is result why fault.Nothing same nothing)), (λ shelf. z.1 (why_is result why fault.Shelf same shelf)))

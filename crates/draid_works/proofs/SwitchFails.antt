@@ -21,10 +21,11 @@ use Rattle.draid_lanes.specs.Locks.{owned_by}
 use Rattle.draid_lanes.specs.Waits.{LaneWent}
 use Rattle.draid_lanes.specs.declared.locked.Locked.{Locked}
 use Rattle.draid_lanes.specs.declared.uber.UberCell.{UberCell}
-use Rattle.draid_works.specs.Failing.{AreaFailedIn, AreaFails}
+use Rattle.draid_lanes.specs.Failing.{AreaFailedIn, AreaFails}
 use Rattle.draid_works.specs.Switched.{SwitchedIn, SwitchesThrough, TriedOn}
+use Rattle.draid_lanes.proofs.UberLater.{finish_later, own_count, still_later}
 use Rattle.draid_works.proofs.LaneStays.{lane_later}
-use Rattle.draid_works.proofs.SyncFails.{Reach, fails_behind, fails_in, finish_fails, finish_later, finish_reach, own_count, reach_then, still_later}
+use Rattle.draid_works.proofs.SyncFails.{Reach, fails_behind, fails_in, finish_fails, finish_reach, reach_then}
 
 module _ {R A S : Type 0} (rack : racks.Ghosts R) (area : areas.Ghosts A) (last : S → ℕ → Option (Shard R A)) (went : S → ℕ → Shard R A → Shard R A → S → Type 0) (shared : Bool) (mine : ℕ → Bool)
     (later : (a : S) (m : ℕ) (x y : Shard R A) (b : S) → went a m x y b → x.committed ≤ y.committed) (count leaf : ℕ) (offline : Bool) where
@@ -34,7 +35,7 @@ module _ {R A S : Type 0} (rack : racks.Ghosts R) (area : areas.Ghosts A) (last 
   tried_to (suc n) a b u v (mid, w, front, tries) =
       let z = tried_to n a mid u w front in
       let up = z.1 in
-      let more = finish_later rack area last went shared mine later count mid b w v None tries in
+      let more = finish_later rack area last went shared mine count mid b w v None tries in
       (reach_then rack area last went shared mine later a mid b z.0 (finish_reach rack area last went shared mine later count mid b w v None tries), omega (arith, up, more))
 
   -- nothing but the group that was closing fails so

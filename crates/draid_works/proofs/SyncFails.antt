@@ -1,16 +1,15 @@
 -- Where a sync in a lane says that an area failed, one did in its turn of the uberblock.
-use Rattle.std.proofs.Common.{◌≡◌, ◌≤◌, inl, inr, ℕ, zero, suc, Bool, true, false, Option, Some, None, Ok, Err, arith, refl, sym, ap, subst}
+use Rattle.std.proofs.Common.{◌≡◌, ◌≤◌, inl, inr, ℕ, zero, suc, Bool, true, false, Option, Some, None, Ok, Err, arith, refl, sym, subst}
 use Rattle.std.specs.Prelude.{Result}
 use Rattle.draid_rack.specs.declared.Rack as racks
 use Rattle.draid_area.specs.declared.Area as areas
 use Rattle.draid_shard.specs.declared.shard.Shard.{Shard}
 use Rattle.draid_turn.specs.Calls.{Caller, Lock}
 use Rattle.draid_turn.specs.declared.past.Past.{Past}
-use Rattle.draid_uber.specs.Uber.{count_of}
 use Rattle.draid_uber.specs.declared.uber.Uber.{Uber}
 use Rattle.draid_pool.specs.Failing.{RecordsRose}
 use Rattle.draid_pool.specs.GoingOn.{BeginsIn, GoesOnIn}
-use Rattle.draid_pool.specs.Grouping.{CommitsIn, FinishesIn, SealsBy, SyncsIn, UberNames}
+use Rattle.draid_pool.specs.Grouping.{CommitsIn, FinishesIn, SealsBy}
 use Rattle.draid_pool.specs.Rounds.{HeldOnce}
 use Rattle.draid_pool.specs.declared.fault.SyncFault.{SyncFault}
 use Rattle.draid_pool.specs.declared.fault.SyncFault.TheVariants as sync
@@ -19,76 +18,17 @@ use Rattle.draid_pool.specs.declared.fault.Syncing.{Syncing}
 use Rattle.draid_pool.proofs.Takings.{rose_since}
 use Rattle.draid_lanes.specs.Governing.{GovernedIn, lane_last}
 use Rattle.draid_lanes.specs.Locks.{owned_by}
-use Rattle.draid_lanes.specs.Waits.{BegunOn, LaneWent, SyncedIn, SyncsThrough, WaitsOn}
+use Rattle.draid_lanes.specs.Waits.{LaneWent, SyncedIn, SyncsThrough}
 use Rattle.draid_lanes.specs.declared.locked.Locked.{Locked}
 use Rattle.draid_lanes.specs.declared.uber.UberCell.{UberCell}
-use Rattle.draid_works.specs.Failing.{AreaFailedIn, AreaFails, HoldsTo, RecordsFail}
+use Rattle.draid_lanes.specs.Failing.{AreaFailedIn, AreaFails, HoldsTo, RecordsFail}
 use Rattle.draid_works.proofs.LaneStays.{lane_later}
 use Rattle.draid_lanes.proofs.OwnGoes.{OwnGoes, own_seals}
-use Rattle.draid_works.proofs.SyncSteps.{begins_goes, begun_goes, closes_goes, finds_goes, finish_goes, rest_goes, round_goes, sync_goes, waits_goes}
-
--- ---- the uberblock's count
-
--- the count of a pool's own areas
-abbrev pub own_count : {A : Type 0} → areas.Ghosts A → Uber A → ℕ
-own_count area u = count_of area.faults u
-
-module _ {A : Type 0} (area : areas.Ghosts A) where
-  pub still_later : (u v : Uber A) → v ≡ u → own_count area u ≤ own_count area v
-  still_later u v is = (let same = ap (own_count area) is in omega (arith, same))
-
-  names_later : (group : ℕ) (u v : Uber A) (result : Result Unit SyncFault) → UberNames area group u result v → own_count area u ≤ own_count area v
-  names_later group u v (Ok done) names = names.1
-  names_later group u v (Err sync.Shelf) names = names.1
-  names_later group u v (Err sync.NoMemory) names = names.1
-  names_later group u v (Err sync.Worn) names = absurd names
-  names_later group u v (Err sync.Last) names = absurd names
+use Rattle.draid_lanes.proofs.UberLater.{begin_later, begun_later, own_count, waits_later}
+use Rattle.draid_works.proofs.SyncSteps.{begins_goes, begun_goes, closes_goes, finds_goes, finish_goes, rest_goes, round_goes, synced_goes, waits_goes}
 
 module _ {R A S : Type 0} (rack : racks.Ghosts R) (area : areas.Ghosts A) (last : S → ℕ → Option (Shard R A)) (went : S → ℕ → Shard R A → Shard R A → S → Type 0) (shared : Bool) (mine : ℕ → Bool)
     (later : (a : S) (m : ℕ) (x y : Shard R A) (b : S) → went a m x y b → x.committed ≤ y.committed) where
-  both : (u w v : Uber A) → own_count area u ≤ own_count area w → own_count area w ≤ own_count area v → own_count area u ≤ own_count area v
-  both u w v first more = omega (arith, first, more)
-
-  commits_later : (group count : ℕ) (a b : S) (u v : Uber A) (out : Option (Result ℕ SyncFault)) → CommitsIn rack area last went shared mine group count a u out b v → own_count area u ≤ own_count area v
-  commits_later group count a b u v (Some (Ok thin)) (mid, late, closes, seals, names, commits) = names_later area group u v (Ok tt) names
-  commits_later group count a b u v (Some (Err why)) (inl (closes, same)) = still_later area u v same
-  commits_later group count a b u v (Some (Err why)) (inr (inl (mid, closes, seals, same))) = still_later area u v same
-  commits_later group count a b u v (Some (Err why)) (inr (inr (mid, thin, closes, seals, names))) = names_later area group u v (Err why) names
-  commits_later group count a b u v None (mid, closes, seals, same) = still_later area u v same
-
-  pub finish_later : (count : ℕ) (a b : S) (u v : Uber A) (out : Option (Result Unit SyncFault)) → FinishesIn rack area last went shared mine count a u out b v → own_count area u ≤ own_count area v
-  finish_later count a b u v (Some (Ok done)) (inl (found, same)) = still_later area u v same
-  finish_later count a b u v (Some (Ok done)) (inr (group, thin, mid, found, commits)) = commits_later group count mid b u v (Some (Ok thin)) commits
-  finish_later count a b u v (Some (Err why)) (group, mid, found, commits) = commits_later group count mid b u v (Some (Err why)) commits
-  finish_later count a b u v None (group, mid, found, commits) = commits_later group count mid b u v None commits
-
-  pub sync_later : (count : ℕ) (a b : S) (u v : Uber A) (out : Option (Result Synced SyncFault)) → SyncsIn rack area last went shared mine count a u out b v → own_count area u ≤ own_count area v
-  sync_later count a b u v (Some (Ok it)) (mid, w, finishes, is, commits) = both u w v (finish_later count a mid u w (Some (Ok tt)) finishes) (commits_later it.group count mid b w v (Some (Ok it.thin)) commits)
-  sync_later count a b u v (Some (Err why)) (inl finishes) = finish_later count a b u v (Some (Err why)) finishes
-  sync_later count a b u v (Some (Err why)) (inr (mid, w, group, finishes, is, commits)) = both u w v (finish_later count a mid u w (Some (Ok tt)) finishes) (commits_later group count mid b w v (Some (Err why)) commits)
-  sync_later count a b u v None (inl finishes) = finish_later count a b u v None finishes
-  sync_later count a b u v None (inr (mid, w, group, finishes, is, commits)) = both u w v (finish_later count a mid u w (Some (Ok tt)) finishes) (commits_later group count mid b w v None commits)
-
-  begin_later : (count : ℕ) (a b : S) (u v : Uber A) (out : Option (Result Syncing SyncFault)) → BeginsIn rack area last went shared mine count a u out b v → own_count area u ≤ own_count area v
-  begin_later count a b u v (Some (Ok begun)) (mid, finishes, first, closes) = finish_later count a mid u v (Some (Ok tt)) finishes
-  begin_later count a b u v (Some (Err why)) (inl finishes) = finish_later count a b u v (Some (Err why)) finishes
-  begin_later count a b u v (Some (Err why)) (inr (mid, finishes, closes)) = finish_later count a mid u v (Some (Ok tt)) finishes
-  begin_later count a b u v None finishes = finish_later count a b u v None finishes
-
-  begun_later : (count n : ℕ) (a b : S) (u v : Uber A) → BegunOn rack area last went shared mine count n a u b v → own_count area u ≤ own_count area v
-  begun_later count zero a b u v (at, same) = still_later area u v same
-  begun_later count (suc n) a b u v (mid, w, front, begins) =
-      let first = begun_later count n a mid u w front in
-      let more = begin_later count mid b w v None begins in
-      omega (arith, first, more)
-
-  waits_later : (count n : ℕ) (a b : S) (old new : Syncing) (u v : Uber A) → WaitsOn rack area last went shared mine count n a old u b new v → own_count area u ≤ own_count area v
-  waits_later count zero a b old new u v (at, is, same) = still_later area u v same
-  waits_later count (suc n) a b old new u v (mid, now, w, front, goes) =
-      let first = waits_later count n a mid old now u w front in
-      let more = still_later area w v goes.1 in
-      omega (arith, first, more)
-
   -- ---- holds on the way
 
   abbrev pub Reach : S → S → Type 0
@@ -125,8 +65,8 @@ module _ {R A S : Type 0} (rack : racks.Ghosts R) (area : areas.Ghosts A) (last 
   pub finish_reach : (count : ℕ) (a b : S) (u v : Uber A) (out : Option (Result Unit SyncFault)) → FinishesIn rack area last went shared mine count a u out b v → Reach a b
   finish_reach = finish_goes rack area last went shared mine none_own later Reach reach_same reach_then hold_to
 
-  pub sync_reach : (count : ℕ) (a b : S) (u v : Uber A) (out : Option (Result Synced SyncFault)) → SyncsIn rack area last went shared mine count a u out b v → Reach a b
-  sync_reach = sync_goes rack area last went shared mine none_own later Reach reach_same reach_then hold_to
+  pub synced_reach : (count : ℕ) (a b : S) (u v : Uber A) (result : Result Synced SyncFault) → SyncsThrough rack area last went shared mine count a u result b v → Reach a b
+  synced_reach = synced_goes rack area last went shared mine none_own later Reach reach_same reach_then hold_to
 
   -- ---- a group
 
@@ -141,11 +81,6 @@ module _ {R A S : Type 0} (rack : racks.Ghosts R) (area : areas.Ghosts A) (last 
   pub finish_fails : (count : ℕ) (a b : S) (u v : Uber A) → FinishesIn rack area last went shared mine count a u (Some (Err sync.Shelf)) b v → AreaFails area went a u b v
   finish_fails count a b u v (group, mid, found, commits) =
       fails_behind a mid b u u v (finds_goes rack area last went shared mine none_own later Reach reach_same reach_then hold_to count a mid (Some group) found) (omega arith) (commit_fails group count mid b u v commits)
-
-  pub sync_fails : (count : ℕ) (a b : S) (u v : Uber A) → SyncsIn rack area last went shared mine count a u (Some (Err sync.Shelf)) b v → AreaFails area went a u b v
-  sync_fails count a b u v (inl finishes) = finish_fails count a b u v finishes
-  sync_fails count a b u v (inr (mid, w, group, finishes, is, commits)) =
-      fails_behind a mid b u w v (finish_reach count a mid u w (Some (Ok tt)) finishes) (finish_later count a mid u w (Some (Ok tt)) finishes) (commit_fails group count mid b w v commits)
 
   begin_fails : (count : ℕ) (a b : S) (u v : Uber A) → BeginsIn rack area last went shared mine count a u (Some (Err sync.Shelf)) b v → AreaFails area went a u b v
   begin_fails count a b u v (inl finishes) = finish_fails count a b u v finishes
@@ -162,13 +97,13 @@ module _ {R A S : Type 0} (rack : racks.Ghosts R) (area : areas.Ghosts A) (last 
   synced_fails count a b u v result is (inl (mid, begun, w, begins, t)) =
       let first = begins_goes rack area last went shared mine none_own later Reach reach_same reach_then hold_to count a mid u w (Ok begun) begins in
       let more = waits_goes rack area last went shared mine none_own later Reach reach_same reach_then hold_to count t.waits mid t.mid begun t.now w t.w t.front in
-      let up = begun_later count begins.waits a begins.mid u begins.w begins.front in
-      let on = begin_later count begins.mid mid begins.w w (Some (Ok begun)) begins.begins in
-      let high = waits_later count t.waits mid t.mid begun t.now w t.w t.front in
+      let up = begun_later rack area last went shared mine count begins.waits a begins.mid u begins.w begins.front in
+      let on = begin_later rack area last went shared mine count begins.mid mid begins.w w (Some (Ok begun)) begins.begins in
+      let high = waits_later rack area last went shared mine count t.waits mid t.mid begun t.now w t.w t.front in
       fails_behind a t.mid b u t.w v (reach_then a mid t.mid first more) (omega (arith, up, on, high))
       (goes_fails count t.mid b t.now t.new t.w v (subst (λ r. GoesOnIn rack area last went shared mine count t.mid t.now t.w (Some r) b t.new v) is t.goes))
   synced_fails count a b u v result is (inr (why, same, t)) =
-      fails_behind a t.mid b u t.w v (begun_goes rack area last went shared mine none_own later Reach reach_same reach_then hold_to count t.waits a t.mid u t.w t.front) (begun_later count t.waits a t.mid u t.w t.front)
+      fails_behind a t.mid b u t.w v (begun_goes rack area last went shared mine none_own later Reach reach_same reach_then hold_to count t.waits a t.mid u t.w t.front) (begun_later rack area last went shared mine count t.waits a t.mid u t.w t.front)
       (begin_fails count t.mid b t.w v (subst (λ e. BeginsIn rack area last went shared mine count t.mid t.w (Some (Err e)) b v) (why_is why same) t.begins))
     where
       why_is : (e : SyncFault) → result ≡ Err e → e ≡ sync.Shelf

@@ -49,6 +49,18 @@ MayAllBeGiven owns lines = (i : ℕ) (line : Line) → slice_get lines i ≡ Som
 abbrev pub AreRepliesTo : List Line → List Reply → Type 0
 AreRepliesTo lines replies = (i : ℕ) (line : Line) (reply : Reply) → slice_get lines i ≡ Some line → slice_get replies i ≡ Some reply → IsReplyTo (command_in line) reply
 
+-- what it says of unreadable blocks rests on the bytes of all blocks, whoever's they are
+abbrev pub IsScrub : Command → Type 0
+IsScrub (ScrubPool limit) = ⊤
+IsScrub command = ⊥
+
+-- one of some lines is a scrub
+pub record HasScrub (lines : List Line) : Type 0 where
+  pub place : ℕ
+  pub line : Line
+  pub there : slice_get lines place ≡ Some line
+  pub scrub : IsScrub (command_in line)
+
 -- it asks something of objects
 abbrev pub IsOnObjects : Command → Type 0
 IsOnObjects (WriteObject object bytes) = ⊤
@@ -87,8 +99,10 @@ module _ {R A G W : Type 0} where
   CommandsDone rack area choices (line ∷ lines) [] true old new = (failed : Failed) × LeavesWhole rack area old new × CommandDone rack area choices (command_in line) (Err failed) old new
   CommandsDone rack area choices lines replies stopped old new = ⊥
 
-  -- so were the lines of a job
+  -- so were the lines of a job, each of which might be given to the lane, which was whole before
   pub record DoesCommands (rack : racks.Ghosts R) (area : areas.Ghosts A) (choices : Choices) (lines : Vec Line Global) (old : Lane R A G W) (lines' : Vec Line Global) (replies : List Reply) (stopped : Bool) (new : Lane R A G W) : Type 0 where
+    pub whole_before : IsWholeLane rack area old
+    pub given : MayAllBeGiven (owned_by old.metaslabs.passes.items) lines.items
     pub leaves : LeavesWhole rack area old new
     pub same : lines' ≡ lines
     pub fits : AreRepliesTo lines.items replies

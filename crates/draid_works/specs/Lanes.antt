@@ -1,5 +1,5 @@
 -- What a lane knows, and what its commands do by that.
-use Rattle.std.specs.Prelude.{ℕ, Option, true, List}
+use Rattle.std.specs.Prelude.{ℕ, Bool, Option, true, List}
 use Rattle.draid_names.specs.declared.pointer.Pointer.{Pointer}
 use Rattle.draid_rack.specs.declared.Rack as racks
 use Rattle.draid_area.specs.declared.Area as areas
@@ -14,6 +14,7 @@ use Rattle.draid_lanes.specs.Governing.{lane_last}
 use Rattle.draid_lanes.specs.Knowing.{KnowsLater}
 use Rattle.draid_lanes.specs.Lanes.{table_of}
 use Rattle.draid_lanes.specs.Locks.{owned_by}
+use Rattle.draid_lanes.specs.Telling.{beside}
 use Rattle.draid_lanes.specs.Waits.{LaneWent}
 use Rattle.draid_lanes.specs.declared.lane.Lane.{Lane}
 
@@ -26,6 +27,10 @@ pub record KnowsReply (command : Command) (reply : Reply) (old : Known) (table :
 -- a reply says of a thread's objects what is allowed by whatever was known of them, and what it adds is so
 abbrev pub TeachesTable : Command → Reply → (table now : ℕ → Option Pointer) → Type 0
 TeachesTable command reply table now = (known : Known) → KnowsTable table known → KnowsReply command reply known now
+
+-- so it is of a lane's own objects, whatever other objects there are
+abbrev pub TeachesOwn : (owns : ℕ → Bool) → Command → Reply → (table now : ℕ → Option Pointer) → Type 0
+TeachesOwn owns command reply table now = (rest : ℕ → Option Pointer) → TeachesTable command reply (beside owns table rest) (beside owns now rest)
 
 module _ {R A G W : Type 0} (rack : racks.Ghosts R) (area : areas.Ghosts A) where
   -- a lane knows the state of a pool as far as its own objects and what it left go

@@ -1,4 +1,3 @@
-pub mod Failing
 pub mod Job
 pub mod Lanes
 pub mod Mended

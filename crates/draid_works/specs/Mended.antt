@@ -1,5 +1,5 @@
--- A rebuild or a scrub in a lane, which goes on until no open write is in a sync's way.
-use Rattle.std.specs.Prelude.{◌≡◌, ◌⊎◌, ◌+◌, ℕ, zero, suc, Bool, true, Option, Some, None, IfOk, Result, Ok, Err, length}
+-- A rebuild or a scrub in a lane, whose syncs wait for the open writes that are in their way.
+use Rattle.std.specs.Prelude.{◌≡◌, ◌⊎◌, ◌+◌, ℕ, Bool, true, Option, Some, None, IfOk, Result, Ok, Err, length}
 use Rattle.draid_names.specs.declared.pass_kind.PassKind.{PassKind}
 use Rattle.draid_names.specs.declared.pass_kind.PassKind.TheVariants.{Heal, Rebuild}
 use Rattle.draid_rack.specs.declared.Rack as racks
@@ -17,6 +17,8 @@ use Rattle.draid_pool.specs.Drifts.{passes_number}
 use Rattle.draid_pool.specs.Grouping.{ClosesNext}
 use Rattle.draid_pool.specs.Rounds.{EachIs, NoneBeyond}
 use Rattle.draid_pool.specs.Threads.{HaveLayout}
+use Rattle.draid_pool.specs.declared.fault.SyncFault.{SyncFault}
+use Rattle.draid_pool.specs.declared.fault.Synced.{Synced}
 use Rattle.draid_visits.specs.Visiting.{nothing_within}
 use Rattle.draid_visits.specs.Visits.{BeginsRebuild, BeginsScrub, MendsBy}
 use Rattle.draid_visits.specs.declared.mending.Mending.{Mending}
@@ -24,7 +26,7 @@ use Rattle.draid_visits.specs.declared.rebuilding.MendFault.{MendFault}
 use Rattle.draid_visits.specs.declared.rebuilding.Mended.{Mended}
 use Rattle.draid_lanes.specs.Governing.{GovernedIn, lane_last}
 use Rattle.draid_lanes.specs.Locks.{owned_by}
-use Rattle.draid_lanes.specs.Waits.{LaneWent}
+use Rattle.draid_lanes.specs.Waits.{LaneWent, SyncsThrough}
 use Rattle.draid_lanes.specs.declared.locked.Locked.{Locked}
 use Rattle.draid_lanes.specs.declared.uber.UberCell.{UberCell}
 
@@ -42,31 +44,22 @@ pub record IsFresh (kind : PassKind) (limit : Option ℕ) (it : Mending) : Type 
   pub next_is : it.next ≡ 0
   pub progress_is : it.progress ≡ nothing_within limit
 
+module _ {R A S : Type 0} (rack : racks.Ghosts R) (area : areas.Ghosts A) (last : S → ℕ → Option (Shard R A)) (went : S → ℕ → Shard R A → Shard R A → S → Type 0) (shared : Bool) (owns : ℕ → Bool) where
+  -- a sync of so many metaslabs that waits for the open writes that are in its way: it always has an answer
+  abbrev pub SyncsWaiting : (count : ℕ) → S → Uber A → Option (Result Synced SyncFault) → S → Uber A → Type 0
+  SyncsWaiting count a u None b v = ⊥
+  SyncsWaiting count a u (Some result) b v = SyncsThrough rack area last went shared owns count a u result b v
+
 module _ {R A S : Type 0} (rack : racks.Ghosts R) (area : areas.Ghosts A) (last : S → ℕ → Option (Shard R A)) (went : S → ℕ → Shard R A → Shard R A → S → Type 0) (shared : Bool) (owns : ℕ → Bool) (geometry : Geometry) where
   -- how it begins, by its kind
   abbrev pub BeginsMend : PassKind → Option ℕ → S → Result Mending MendFault → S → Type 0
   BeginsMend Rebuild limit a result b = BeginsRebuild rack area last went shared owns geometry.props.metaslabs limit a result b
   BeginsMend Heal limit a result b = BeginsScrub rack area last went shared owns geometry.props.metaslabs limit a result b
 
-  -- it went on so often, and each time open writes were in the way
-  abbrev pub MendsOn : ℕ → S → Uber A → Mending → S → Uber A → Mending → Type 0
-  MendsOn zero a u old b v new = (b ≡ a) × (v ≡ u) × (new ≡ old)
-  MendsOn (suc n) a u old b v new = (mid : S) × (w : Uber A) × (now : Mending) × MendsOn n a u old mid w now × MendsBy rack area last went shared owns geometry mid w now None b v new
-
-  -- and then it had an answer
-  pub record MendsRest (a : S) (u : Uber A) (old : Mending) (result : Result Mended MendFault) (b : S) (v : Uber A) : Type 0 where
-    pub waits : ℕ
-    pub mid : S
-    pub w : Uber A
-    pub now : Mending
-    pub new : Mending
-    pub front : MendsOn waits a u old mid w now
-    pub mends : MendsBy rack area last went shared owns geometry mid w now (Some result) b v new
-
-  -- it began and went on to its end, or didn't begin
+  -- it began and visited them, or didn't begin
   abbrev pub MendsThrough : PassKind → Option ℕ → S → Uber A → Result Mended MendFault → S → Uber A → Type 0
   MendsThrough kind limit a u result b v =
-      ((begun : Mending) × (mid : S) × BeginsMend kind limit a (Ok begun) mid × MendsRest mid u begun result b v)
+      ((begun : Mending) × (mid : S) × (new : Mending) × BeginsMend kind limit a (Ok begun) mid × MendsBy rack area last went shared owns (SyncsWaiting rack area last went shared owns geometry.props.metaslabs) geometry mid u begun (Some result) b v new)
       ⊎ ((why : MendFault) × (result ≡ Err why) × BeginsMend kind limit a (Err why) b × (v ≡ u))
 
 -- ---- a lane's

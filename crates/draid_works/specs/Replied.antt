@@ -1,7 +1,6 @@
 -- What a command of a lane did, by its reply, or by an area that failed it.
-use Rattle.std.specs.Prelude.{◌≡◌, ℕ, Bool, true, false, List, Option, Result, Ok, Err, IsErr}
+use Rattle.std.specs.Prelude.{◌≡◌, ℕ, Bool, true, false, List, Option, Result, Ok, Err, IsErr, length}
 use Rattle.draid_names.specs.declared.fault.Failed.{Failed}
-use Rattle.draid_names.specs.declared.pass_kind.PassKind.{PassKind}
 use Rattle.draid_names.specs.declared.pass_kind.PassKind.TheVariants.{Heal, Rebuild}
 use Rattle.draid_names.specs.declared.refusal.WriteFault.{WriteFault}
 use Rattle.draid_names.specs.declared.refusal.WriteFault.TheVariants as fault
@@ -26,12 +25,16 @@ use Rattle.draid_visits.specs.declared.rebuilding.MendFault.{MendFault}
 use Rattle.draid_visits.specs.declared.rebuilding.Mended.{Mended}
 use Rattle.draid_lanes.specs.Governing.{lane_last}
 use Rattle.draid_lanes.specs.Lanes.{table_of}
+use Rattle.draid_lanes.specs.Locks.{owned_by}
+use Rattle.draid_lanes.specs.Told.{SyncLane}
+use Rattle.draid_lanes.specs.Traces.{LaneTold, SawBytes}
 use Rattle.draid_lanes.specs.Waits.{SyncedIn}
 use Rattle.draid_lanes.specs.declared.lane.Lane.{Lane}
-use Rattle.draid_works.specs.Failing.{AreaFailedIn}
-use Rattle.draid_works.specs.Lanes.{LaneCarries, LaneKnows, LaneKnowsLater, TeachesTable}
+use Rattle.draid_lanes.specs.Failing.{AreaFailedIn}
+use Rattle.draid_works.specs.Lanes.{LaneCarries, LaneKnows, LaneKnowsLater, TeachesOwn}
 use Rattle.draid_works.specs.Mended.{MendedIn}
 use Rattle.draid_works.specs.Switched.{SwitchedIn}
+use Rattle.draid_works.specs.Told.{MendLane, SwitchLane}
 use Rattle.draid_works.specs.Waiting.{LooksBut}
 
 -- the reply to a write that had this answer
@@ -49,7 +52,7 @@ module _ {R A G W : Type 0} (rack : racks.Ghosts R) (area : areas.Ghosts A) wher
   -- led to one that it knows. Its pass of the uberblock's lock is as it was.
   pub record DoesOnObjects (command : Command) (reply : Reply) (does : State → List Hold → Store → Type 0) (old new : Lane R A G W) : Type 0 where
     pub pass : new.pass ≡ old.pass
-    pub teaches : TeachesTable command reply (table_of old) (table_of new)
+    pub teaches : TeachesOwn (owned_by old.metaslabs.passes.items) command reply (table_of old) (table_of new)
     pub step : (x : State) → x.geometry ≡ old.geometry → LaneKnows rack area old x → LaneCarries rack area old new x (LooksBut (does x))
 
   -- what is done is what a session says of the reply
@@ -59,33 +62,37 @@ module _ {R A G W : Type 0} (rack : racks.Ghosts R) (area : areas.Ghosts A) wher
   -- ---- the uberblock's turn
 
   -- A command that is done in the uberblock's turn had an answer, and the reply is that of the answer. There is none where an area failed in that turn. What the lane has of its own is as it was. Whatever state of the
-  -- pool it knew, it knows one that came from that.
-  pub record DoesInTurn {T : Type 0} (IsAnswer did : T → Type 0) (said : Result Reply Failed) (old new : Lane R A G W) : Type 0 where
+  -- pool it knew, it knows one that came from that. From the state in which the section began its turns are told so by the answer.
+  pub record DoesInTurn {T : Type 0} (IsAnswer did : T → Type 0) (leads : State → T → Store → List Hold → Store → Type 0) (said : Result Reply Failed) (old new : Lane R A G W) : Type 0 where
     pub answer : T
     pub reply_is : IsAnswer answer
     pub done : did answer
     pub cause : IsErr said → AreaFailedIn rack area old.uber.now old.metaslabs new.metaslabs old.pass new.pass
     pub own : new.own ≡ old.own
     pub knows : (x : State) → LaneKnows rack area old x → LaneKnowsLater rack area new x
+    pub told : (x : State) → x.geometry ≡ old.geometry → length x.metaslabs ≡ x.geometry.props.metaslabs → LaneTold rack area x (leads x answer) old new
 
   abbrev pub SyncDone : Result Reply Failed → (old new : Lane R A G W) → Type 0
   SyncDone said old new =
-      DoesInTurn (λ (answer : Result Synced SyncFault). IsSyncReply answer said) (λ answer. SyncedIn rack area old.uber.now old.metaslabs new.metaslabs answer old.pass new.pass) said old new
+      DoesInTurn (λ (answer : Result Synced SyncFault). IsSyncReply answer said) (λ answer. SyncedIn rack area old.uber.now old.metaslabs new.metaslabs answer old.pass new.pass) (λ x answer. SyncLane x answer) said old new
 
   -- behind it the leaf is so in all metaslabs, or in none, as the lane left them
   abbrev pub SwitchDone : (leaf : ℕ) → (offline : Bool) → Result Reply Failed → (old new : Lane R A G W) → Type 0
   SwitchDone leaf offline said old new =
       DoesInTurn (λ (answer : Result Unit ArmFault). IsSwitchReply leaf offline answer said)
-      (λ answer. SwitchedIn rack area leaf offline old.uber.now old.metaslabs new.metaslabs answer old.pass new.pass × LeafIsIn old.geometry.props.metaslabs leaf offline answer (lane_last new.metaslabs)) said old new
+      (λ answer. SwitchedIn rack area leaf offline old.uber.now old.metaslabs new.metaslabs answer old.pass new.pass × LeafIsIn old.geometry.props.metaslabs leaf offline answer (lane_last new.metaslabs))
+      (λ x answer. SwitchLane x leaf offline answer) said old new
 
   abbrev pub RebuildDone : Option ℕ → Result Reply Failed → (old new : Lane R A G W) → Type 0
   RebuildDone limit said old new =
-      DoesInTurn (λ (answer : Result Mended MendFault). IsRebuildReply answer said) (λ answer. MendedIn rack area old.geometry Rebuild limit old.uber.now old.metaslabs new.metaslabs answer old.pass new.pass) said old new
+      DoesInTurn (λ (answer : Result Mended MendFault). IsRebuildReply answer said) (λ answer. MendedIn rack area old.geometry Rebuild limit old.uber.now old.metaslabs new.metaslabs answer old.pass new.pass)
+      (λ x answer. MendLane x Rebuild (SawBytes rack area x new) limit answer) said old new
 
   -- no area fails a scrub
   abbrev pub ScrubDone : Option ℕ → Reply → (old new : Lane R A G W) → Type 0
   ScrubDone limit reply old new =
-      DoesInTurn (λ (answer : Result Mended MendFault). IsScrubReply answer reply) (λ answer. MendedIn rack area old.geometry Heal limit old.uber.now old.metaslabs new.metaslabs answer old.pass new.pass) (Ok reply) old new
+      DoesInTurn (λ (answer : Result Mended MendFault). IsScrubReply answer reply) (λ answer. MendedIn rack area old.geometry Heal limit old.uber.now old.metaslabs new.metaslabs answer old.pass new.pass)
+      (λ x answer. MendLane x Heal (SawBytes rack area x new) limit answer) (Ok reply) old new
 
   -- ---- all commands
 

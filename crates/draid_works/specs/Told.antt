@@ -24,6 +24,7 @@ abbrev pub MendBut : State → PassKind → Option ℕ → Result Mended MendFau
 MendBut x Rebuild limit result hs = (left : List Hold) × LeavesLooks hs left × RebuildDoes x limit result left x.store
 MendBut x Heal limit result hs = (left : List Hold) × LeavesLooks hs left × ScrubDoes x limit result left x.store
 
--- so, and nothing of the lane's own changes
-abbrev pub MendLane : State → PassKind → Option ℕ → Result Mended MendFault → Store → List Hold → Store → Type 0
-MendLane x kind limit result store holds new = MendBut x kind limit result holds × (new ≡ store)
+-- So, and nothing of the lane's own changes. Of a scrub that is said where the blocks had bytes in all that the lane saw.
+abbrev pub MendLane : State → PassKind → (saw : Type 0) → Option ℕ → Result Mended MendFault → Store → List Hold → Store → Type 0
+MendLane x Rebuild saw limit result store holds new = MendBut x Rebuild limit result holds × (new ≡ store)
+MendLane x Heal saw limit result store holds new = (saw → MendBut x Heal limit result holds) × (new ≡ store)

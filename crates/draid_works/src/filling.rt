@@ -12,7 +12,7 @@ ghost use Rattle.draid_spec.specs.Geometry.{IsGeometry};
 ghost use Rattle.draid_store.specs.Fetching.{OwnsFrom};
 ghost use Rattle.draid_lanes.specs.Lanes.{IsSameLane, IsWholeLane, table_of};
 ghost use Rattle.draid_lanes.specs.Locks.{owned_by};
-ghost use Rattle.draid_works.specs.Lanes.{LaneCarries, LaneKnows, TeachesTable};
+ghost use Rattle.draid_works.specs.Lanes.{LaneCarries, LaneKnows, TeachesOwn};
 ghost use Rattle.draid_works.specs.Waiting.{LooksBut};
 
 use crate::changing::write_in_lane;
@@ -57,7 +57,7 @@ pub fn fill_in_lane<'a, 'b, R: Rack, A: Area, G: Gate, W: Wait, F: Fn(&[Room]) -
     ensures same { IsSameLane lane.old lane.new }
     ensures pass { lane.new.pass ≡ lane.old.pass }
     ensures fits { IsReplyTo (FillObjects first count len seed) result }
-    ensures teaches { TeachesTable (FillObjects first count len seed) result (table_of lane.old) (table_of lane.new) }
+    ensures teaches { TeachesOwn (owned_by lane.old.metaslabs.passes.items) (FillObjects first count len seed) result (table_of lane.old) (table_of lane.new) }
     ensures step { (x : State) → x.geometry ≡ lane.old.geometry → LaneKnows R.Rack A.Area lane.old x
         → LaneCarries R.Rack A.Area lane.old lane.new x (LooksBut (ReplyDoes x (choices_by (FnReturnsAt F.Fn chooser.now)) (FillObjects first count len seed) result)) }
 {

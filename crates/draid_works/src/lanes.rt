@@ -12,7 +12,7 @@ ghost use Rattle.draid_lanes.specs.Locks.{owned_by};
 ghost use Rattle.draid_lanes.specs.Told.{SyncLane};
 ghost use Rattle.draid_lanes.specs.Traces.{LaneTold};
 ghost use Rattle.draid_lanes.specs.Waits.{SyncedIn};
-ghost use Rattle.draid_works.specs.Failing.{AreaFailedIn};
+ghost use Rattle.draid_lanes.specs.Failing.{AreaFailedIn};
 ghost use Rattle.draid_works.specs.Lanes.{LaneCarries, LaneKnows, LaneKnowsLater};
 
 use draid_area::Area;

@@ -10,6 +10,7 @@ mod lanes;
 mod mending;
 mod replies;
 mod switching;
+mod telling;
 mod writing;
 
 pub use changing::{free_in_lane, write_in_lane};
@@ -19,4 +20,5 @@ pub use job::LaneCommands;
 pub use lanes::{commit_in_lane, read_in_lane, sum_in_lane};
 pub use mending::{MendWork, rebuild_in_lane, scrub_in_lane};
 pub use switching::{SwitchWork, switch_in_lane};
+pub use telling::{lane_commands_teach, lane_commands_tell};
 pub use writing::write_through;

@@ -8,29 +8,27 @@ ghost use Rattle.draid_spec.specs.Geometry.{IsGeometry};
 ghost use Rattle.draid_pool.specs.Drifts.{groups_number, passes_number};
 ghost use Rattle.draid_pool.specs.Rounds.{EachIs, NoneBeyond};
 ghost use Rattle.draid_pool.specs.Threads.{AllStay};
-ghost use Rattle.draid_visits.specs.Visiting.{IsLeft, IsLow};
-ghost use Rattle.draid_visits.specs.Visits.{AllOnly, MayVisit};
+ghost use Rattle.draid_visits.specs.Visits.{AllOnly};
 ghost use Rattle.draid_lanes.specs.Governing.{KeepsLane, KeepsLayout, lane_last};
 ghost use Rattle.draid_lanes.specs.Lanes.{IsSameLane, IsWholeLane};
 ghost use Rattle.draid_lanes.specs.Locks.{owned_by};
-ghost use Rattle.draid_lanes.specs.Traces.{LaneTold};
+ghost use Rattle.draid_lanes.specs.Traces.{LaneTold, SawBytes};
 ghost use Rattle.draid_lanes.specs.Ubers.{IsLane, IsUberOf};
-ghost use Rattle.draid_works.specs.Failing.{AreaFailedIn};
+ghost use Rattle.draid_lanes.specs.Failing.{AreaFailedIn};
 ghost use Rattle.draid_works.specs.Lanes.{LaneKnows, LaneKnowsLater};
-ghost use Rattle.draid_works.specs.Mended.{BeginsMend, MayMend, MayMendLane, MendedIn, MendsRest, MendsThrough};
+ghost use Rattle.draid_works.specs.Mended.{BeginsMend, MayMend, MayMendLane, MendedIn, MendsThrough};
 ghost use Rattle.draid_works.specs.Told.{MendLane};
 
 use draid_area::Area;
-use draid_lanes::{Gate, Governs, Lane, Locked, UberCell, govern_in_lane};
+use draid_lanes::{Gate, Governs, Lane, Locked, UberCell, govern_in_lane, sync_through};
 use draid_names::PassKind;
-use draid_pool::Metaslabs;
+use draid_pool::{Metaslabs, SyncFault, Synced};
 use draid_rack::Rack;
 use draid_spec::Geometry;
 use draid_turn::{Pass, Turn};
 use draid_uber::Uber;
-use draid_visits::{MendFault, Mended, Mending, begin_rebuild, begin_scrub, go_on};
+use draid_visits::{MendFault, Mended, Mending, Syncs, begin_rebuild, begin_scrub, go_on};
 use std::sync::Wait;
-use std::thread;
 
 /// Begins a rebuild or a scrub: finds which metaslabs of a layout it is to visit.
 fn begin_mend<R: Rack, A: Area, M: Metaslabs<R, A>>(
@@ -60,38 +58,29 @@ fn begin_mend<R: Rack, A: Area, M: Metaslabs<R, A>>(
     }
 }
 
-/// Goes on with a rebuild or a scrub until no open write is in its way. No metaslab is held while it waits.
-fn mend_rest<R: Rack, A: Area, M: Metaslabs<R, A>, W: Wait>(
-    rt: &W,
-    metaslabs: &mut M,
-    uber: &mut Uber<A>,
-    geometry: &Geometry,
-    mending: &mut Mending,
-) -> Result<Mended, MendFault>
-    requires fits { M.fits metaslabs.old }
-    requires own { M.owns metaslabs.old groups_number ≡ true }
-    requires passes { M.owns metaslabs.old passes_number ≡ true }
-    requires may { MayVisit R.Rack A.Area geometry.now mending.old.kind (M.last metaslabs.old) uber.old }
-    requires long { length mending.old.marks ≡ 64 }
-    requires low { IsLow mending.old.next mending.old.progress }
-    ensures fits { M.fits metaslabs.new }
-    ensures locks { M.locks metaslabs.new ≡ M.locks metaslabs.old }
-    ensures owns { M.owns metaslabs.new ≡ M.owns metaslabs.old }
-    ensures may { MayVisit R.Rack A.Area geometry.now mending.old.kind (M.last metaslabs.new) uber.new }
-    ensures within { (limit : Option ℕ) → IsLeft limit mending.old.progress → IfOk result (λ it. IsWithin limit it.units it.paused) }
-    ensures mends { MendsRest R.Rack A.Area M.last M.went M.shared (M.owns metaslabs.old) geometry.now metaslabs.old uber.old mending.old result metaslabs.new uber.new }
-{
-    for _ in rt.forever() {
-        if let Some(answer) = go_on(metaslabs, uber, geometry, mending) {
-            return answer;
-        }
-        thread::yield_now();
-    }
-    unreachable!()
+/// Groups of metaslabs that others hold too: a sync waits for the open writes that are in its way.
+#[derive(Drop)]
+pub struct Waiting<'a, W> {
+    pub rt: &'a W,
 }
 
-/// Rebuilds or scrubs the metaslabs of a layout, by a thread that alone changes their groups and passes. It waits for the open
-/// writes that are in a sync's way.
+impl<'a, R: Rack, A: Area, M: Metaslabs<R, A>, W: Wait> Syncs<R, A, M> for Waiting<'a, W> {
+    ghost use Rattle.draid_works.specs.Mended.{SyncsWaiting};
+
+    ghost relates = { λ owns count a u out b v. SyncsWaiting R.Rack A.Area M.last M.went M.shared owns count a u out b v };
+
+    fn sync(
+        &self,
+        metaslabs: &mut M,
+        uber: &mut Uber<A>,
+        count: u32,
+    ) -> Option<Result<Synced, SyncFault>> {
+        Some(sync_through(self.rt, metaslabs, uber, count))
+    }
+}
+
+/// Rebuilds or scrubs the metaslabs of a layout, by a thread that alone changes their groups and passes. Its syncs wait for the
+/// open writes that are in their way.
 fn mend_through<R: Rack, A: Area, M: Metaslabs<R, A>, W: Wait>(
     rt: &W,
     metaslabs: &mut M,
@@ -114,7 +103,11 @@ fn mend_through<R: Rack, A: Area, M: Metaslabs<R, A>, W: Wait>(
     match begin_mend(metaslabs, geometry, kind, limit) {
         Ok(begun) => {
             let mut mending = begun;
-            mend_rest(rt, metaslabs, uber, geometry, &mut mending)
+            let waiting = Waiting { rt };
+            match go_on(&waiting, metaslabs, uber, geometry, &mut mending) {
+                Some(answer) => answer,
+                None => unreachable!(),
+            }
         }
         Err(fault) => Err(fault),
     }
@@ -132,7 +125,7 @@ pub struct MendWork {
 }
 
 impl<R: Rack, A: Area, G: Gate, W: Wait> Governs<R, A, G, W> for MendWork {
-    ghost use Rattle.draid_works.specs.Failing.{AreaFailedIn};
+    ghost use Rattle.draid_lanes.specs.Failing.{AreaFailedIn};
     ghost use Rattle.draid_works.specs.Lanes.{LaneKnows, LaneKnowsLater};
     ghost use Rattle.draid_works.specs.Mended.{MayMendLane, MendsLane};
 
@@ -207,7 +200,7 @@ fn mend_in_lane<'a, 'b, R: Rack, A: Area, G: Gate, W: Wait>(
     ensures knows { (x : State) → LaneKnows R.Rack A.Area lane.entry x → LaneKnowsLater R.Rack A.Area result.0 x }
     ensures cause { IsErrOf result.1 MendFault.Shelf → AreaFailedIn R.Rack A.Area lane.entry.uber.now lane.entry.metaslabs result.0.metaslabs lane.entry.pass result.0.pass }
     ensures within { IfOk result.1 (λ it. IsWithin limit it.units it.paused) }
-    ensures told { (x : State) → x.geometry ≡ lane.entry.geometry → length x.metaslabs ≡ x.geometry.props.metaslabs → LaneTold R.Rack A.Area x (MendLane x kind limit result.1) lane.entry result.0 }
+    ensures told { (x : State) → x.geometry ≡ lane.entry.geometry → length x.metaslabs ≡ x.geometry.props.metaslabs → LaneTold R.Rack A.Area x (MendLane x kind (SawBytes R.Rack A.Area x result.0) limit result.1) lane.entry result.0 }
     ensures mends { MendedIn R.Rack A.Area lane.entry.geometry kind limit lane.entry.uber.now lane.entry.metaslabs result.0.metaslabs result.1 lane.entry.pass result.0.pass }
 {
     let Lane {
@@ -243,7 +236,7 @@ pub fn rebuild_in_lane<'a, 'b, R: Rack, A: Area, G: Gate, W: Wait>(
     ensures knows { (x : State) → LaneKnows R.Rack A.Area lane.entry x → LaneKnowsLater R.Rack A.Area result.0 x }
     ensures cause { IsErrOf result.1 MendFault.Shelf → AreaFailedIn R.Rack A.Area lane.entry.uber.now lane.entry.metaslabs result.0.metaslabs lane.entry.pass result.0.pass }
     ensures within { IfOk result.1 (λ it. IsWithin limit it.units it.paused) }
-    ensures told { (x : State) → x.geometry ≡ lane.entry.geometry → length x.metaslabs ≡ x.geometry.props.metaslabs → LaneTold R.Rack A.Area x (MendLane x Rebuild limit result.1) lane.entry result.0 }
+    ensures told { (x : State) → x.geometry ≡ lane.entry.geometry → length x.metaslabs ≡ x.geometry.props.metaslabs → LaneTold R.Rack A.Area x (MendLane x Rebuild (SawBytes R.Rack A.Area x result.0) limit result.1) lane.entry result.0 }
     ensures mends { MendedIn R.Rack A.Area lane.entry.geometry Rebuild limit lane.entry.uber.now lane.entry.metaslabs result.0.metaslabs result.1 lane.entry.pass result.0.pass }
 {
     mend_in_lane(lane, PassKind::Rebuild, limit)
@@ -266,7 +259,7 @@ pub fn scrub_in_lane<'a, 'b, R: Rack, A: Area, G: Gate, W: Wait>(
     ensures some { IsErrOf result.1 MendFault.Nothing → ⊥ }
     ensures not_shelf { IsErrOf result.1 MendFault.Shelf → ⊥ }
     ensures within { IfOk result.1 (λ it. IsWithin limit it.units it.paused) }
-    ensures told { (x : State) → x.geometry ≡ lane.entry.geometry → length x.metaslabs ≡ x.geometry.props.metaslabs → LaneTold R.Rack A.Area x (MendLane x Heal limit result.1) lane.entry result.0 }
+    ensures told { (x : State) → x.geometry ≡ lane.entry.geometry → length x.metaslabs ≡ x.geometry.props.metaslabs → LaneTold R.Rack A.Area x (MendLane x Heal (SawBytes R.Rack A.Area x result.0) limit result.1) lane.entry result.0 }
     ensures mends { MendedIn R.Rack A.Area lane.entry.geometry Heal limit lane.entry.uber.now lane.entry.metaslabs result.0.metaslabs result.1 lane.entry.pass result.0.pass }
 {
     mend_in_lane(lane, PassKind::Heal, limit)

@@ -12,7 +12,7 @@ ghost use Rattle.draid_lanes.specs.Lanes.{IsSameLane, IsWholeLane};
 ghost use Rattle.draid_lanes.specs.Locks.{owned_by};
 ghost use Rattle.draid_lanes.specs.Traces.{LaneTold};
 ghost use Rattle.draid_lanes.specs.Ubers.{IsLane, IsUberOf};
-ghost use Rattle.draid_works.specs.Failing.{AreaFailedIn};
+ghost use Rattle.draid_lanes.specs.Failing.{AreaFailedIn};
 ghost use Rattle.draid_works.specs.Lanes.{LaneKnows, LaneKnowsLater};
 ghost use Rattle.draid_works.specs.Switched.{SwitchedIn, SwitchesThrough};
 ghost use Rattle.draid_works.specs.Told.{SwitchLane};

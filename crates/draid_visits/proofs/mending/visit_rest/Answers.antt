@@ -9,7 +9,7 @@ pub loop-metaslab-init : goal.loop-metaslab-init
 loop-metaslab-init g c =
     let m = g.M.Metaslabs in
     let owns = m.owns c.args.metaslabs.now in
-    record { fits = c.requires.fits; locks = refl; owns = refl; visited = visited_none g.R.Rack g.A.Area m.last m.went m.shared owns c.args.geometry.now c.args.metaslabs.now c.args.uber.now c.args.mending.now c.requires.may c.requires.low }
+    record { fits = c.requires.fits; locks = refl; owns = refl; visited = visited_none g.R.Rack g.A.Area m.last m.went m.shared owns (λ owns. g.S.Syncs.relates owns c.args.geometry.now.props.metaslabs) c.args.geometry.now c.args.metaslabs.now c.args.uber.now c.args.mending.now c.requires.may c.requires.low }
 
 pub visit-requires : goal.visit-requires
 visit-requires g c =
@@ -22,7 +22,7 @@ visit-requires g c =
       below = c.loop-metaslab-test.true;
       own = ap (λ owns. owns groups_number) i.owns ∙ c.requires.own;
       passes = ap (λ owns. owns passes_number) i.owns ∙ c.requires.passes;
-      may = may_visit g.R.Rack g.A.Area m.last m.went m.shared owns c.args.geometry.now c.args.metaslabs.now c.args.uber.now c.args.mending.now l.metaslab l.metaslabs l.uber l.mending i.visited;
+      may = may_visit g.R.Rack g.A.Area m.last m.went m.shared owns (λ owns. g.S.Syncs.relates owns c.args.geometry.now.props.metaslabs) c.args.geometry.now c.args.metaslabs.now c.args.uber.now c.args.mending.now l.metaslab l.metaslabs l.uber l.mending i.visited;
       low = i.visited.low;
     }
 
@@ -32,7 +32,7 @@ loop-metaslab-preserved-then-not-mending-metaslab g c =
     let i = l.invariant in
     let m = g.M.Metaslabs in
     let owns = m.owns c.args.metaslabs.now in
-    record { fits = i.fits; locks = i.locks; owns = i.owns; visited = visited_past g.R.Rack g.A.Area m.last m.went m.shared owns c.args.geometry.now c.args.metaslabs.now c.args.uber.now c.args.mending.now l.metaslab l.metaslabs l.uber l.mending i.visited c.if-not-mending-metaslab.true }
+    record { fits = i.fits; locks = i.locks; owns = i.owns; visited = visited_past g.R.Rack g.A.Area m.last m.went m.shared owns (λ owns. g.S.Syncs.relates owns c.args.geometry.now.props.metaslabs) c.args.geometry.now c.args.metaslabs.now c.args.uber.now c.args.mending.now l.metaslab l.metaslabs l.uber l.mending i.visited c.if-not-mending-metaslab.true }
 
 pub loop-metaslab-preserved : goal.loop-metaslab-preserved
 loop-metaslab-preserved g c =
@@ -45,7 +45,7 @@ loop-metaslab-preserved g c =
       fits = e.fits;
       locks = e.locks ∙ i.locks;
       owns = e.owns ∙ i.owns;
-      visited = visited_more g.R.Rack g.A.Area m.last m.went m.shared owns c.args.geometry.now c.args.metaslabs.now c.args.uber.now c.args.mending.now l.metaslab l.metaslabs l.uber l.mending i.visited (m.owns l.metaslabs) i.owns c.if-not-mending-metaslab.false (Some c.in-Some.end) c.visit.new.metaslabs c.visit.new.uber c.visit.new.progress e.may e.whole e.left e.visits (ap Some c.in-Over.is) e.low;
+      visited = visited_more g.R.Rack g.A.Area m.last m.went m.shared owns (λ owns. g.S.Syncs.relates owns c.args.geometry.now.props.metaslabs) c.args.geometry.now c.args.metaslabs.now c.args.uber.now c.args.mending.now l.metaslab l.metaslabs l.uber l.mending i.visited (m.owns l.metaslabs) i.owns c.if-not-mending-metaslab.false (Some c.in-Some.end) c.visit.new.metaslabs c.visit.new.uber c.visit.new.progress e.may e.whole e.left e.visits (ap Some c.in-Over.is) e.low;
     }
 
 pub returns-in_default : goal.returns-in_default
@@ -55,7 +55,7 @@ returns-in_default g c =
     let m = g.M.Metaslabs in
     let owns = m.owns c.args.metaslabs.now in
     let e = c.in_default.ensures in
-    let z = visited_stop g.R.Rack g.A.Area m.last m.went m.shared owns c.args.geometry.now c.args.metaslabs.now c.args.uber.now c.args.mending.now l.metaslab l.metaslabs l.uber l.mending i.visited (m.owns l.metaslabs) i.owns c.if-not-mending-metaslab.false None c.visit.new.metaslabs c.visit.new.uber c.visit.new.progress e.may e.whole e.left e.visits None refl c.loop-metaslab-test.true in
+    let z = visited_stop g.R.Rack g.A.Area m.last m.went m.shared owns (λ owns. g.S.Syncs.relates owns c.args.geometry.now.props.metaslabs) c.args.geometry.now c.args.metaslabs.now c.args.uber.now c.args.mending.now l.metaslab l.metaslabs l.uber l.mending i.visited (m.owns l.metaslabs) i.owns c.if-not-mending-metaslab.false None c.visit.new.metaslabs c.visit.new.uber c.visit.new.progress e.may e.whole e.left e.visits None refl c.loop-metaslab-test.true in
     record {
       fits = e.fits;
       locks = e.locks ∙ i.locks;
@@ -77,7 +77,7 @@ returns-in-Paused g c =
     let m = g.M.Metaslabs in
     let owns = m.owns c.args.metaslabs.now in
     let e = c.in-Some.ensures in
-    let z = visited_stop g.R.Rack g.A.Area m.last m.went m.shared owns c.args.geometry.now c.args.metaslabs.now c.args.uber.now c.args.mending.now l.metaslab l.metaslabs l.uber l.mending i.visited (m.owns l.metaslabs) i.owns c.if-not-mending-metaslab.false (Some c.in-Some.end) c.visit.new.metaslabs c.visit.new.uber c.visit.new.progress e.may e.whole e.left e.visits (Some visit.Paused) (ap Some c.in-Paused.is) c.loop-metaslab-test.true in
+    let z = visited_stop g.R.Rack g.A.Area m.last m.went m.shared owns (λ owns. g.S.Syncs.relates owns c.args.geometry.now.props.metaslabs) c.args.geometry.now c.args.metaslabs.now c.args.uber.now c.args.mending.now l.metaslab l.metaslabs l.uber l.mending i.visited (m.owns l.metaslabs) i.owns c.if-not-mending-metaslab.false (Some c.in-Some.end) c.visit.new.metaslabs c.visit.new.uber c.visit.new.progress e.may e.whole e.left e.visits (Some visit.Paused) (ap Some c.in-Paused.is) c.loop-metaslab-test.true in
     record {
       fits = e.fits;
       locks = e.locks ∙ i.locks;
@@ -99,7 +99,7 @@ returns-in-Stopped g c =
     let m = g.M.Metaslabs in
     let owns = m.owns c.args.metaslabs.now in
     let e = c.in-Some.ensures in
-    let z = visited_stop g.R.Rack g.A.Area m.last m.went m.shared owns c.args.geometry.now c.args.metaslabs.now c.args.uber.now c.args.mending.now l.metaslab l.metaslabs l.uber l.mending i.visited (m.owns l.metaslabs) i.owns c.if-not-mending-metaslab.false (Some c.in-Some.end) c.visit.new.metaslabs c.visit.new.uber c.visit.new.progress e.may e.whole e.left e.visits (Some (visit.Stopped c.in-Stopped.why)) (ap Some c.in-Stopped.is) c.loop-metaslab-test.true in
+    let z = visited_stop g.R.Rack g.A.Area m.last m.went m.shared owns (λ owns. g.S.Syncs.relates owns c.args.geometry.now.props.metaslabs) c.args.geometry.now c.args.metaslabs.now c.args.uber.now c.args.mending.now l.metaslab l.metaslabs l.uber l.mending i.visited (m.owns l.metaslabs) i.owns c.if-not-mending-metaslab.false (Some c.in-Some.end) c.visit.new.metaslabs c.visit.new.uber c.visit.new.progress e.may e.whole e.left e.visits (Some (visit.Stopped c.in-Stopped.why)) (ap Some c.in-Stopped.is) c.loop-metaslab-test.true in
     record {
       fits = e.fits;
       locks = e.locks ∙ i.locks;

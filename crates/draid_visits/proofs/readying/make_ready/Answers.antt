@@ -1,11 +1,12 @@
-use Rattle.std.proofs.Common.{◌+◌, ◌∙◌, ℕ, suc, Bool, true, false, None, Some, Ok, Err, arith, refl, ap}
+use Rattle.std.proofs.Common.{◌+◌, ◌∙◌, ℕ, suc, Bool, true, false, None, Some, arith, refl, ap, subst}
 use Rattle.draid_uber.specs.Slots.{group_of}
 use Rattle.draid_uber.specs.Uber.{kept_of}
 use Rattle.draid_pool.specs.Drifts.{groups_number, passes_number}
 use Rattle.draid_pool.proofs.PhaseSteps.{next_low}
 use Rattle.draid_pool.proofs.RoundSteps.{concerns_own}
-use Rattle.draid_visits.proofs.PassesStay.{sync_there}
-use Rattle.draid_visits.proofs.ReadyHolds.{ready_behind, ready_keeps, ready_ready, rebuild_on, sync_behind, sync_rises}
+use Rattle.draid_visits.proofs.PassesStay.{parts_there}
+use Rattle.draid_visits.proofs.ReadyHolds.{ready_behind, ready_keeps, ready_ready, rebuild_on}
+use Rattle.draid_visits.proofs.VisitsStay.{kept_none, kept_once, kept_sync, whole_then}
 use Rattle.draid_visits.proofs.readying.make_ready.Goals as goal
 
 pub waits-init : goal.waits-init
@@ -18,6 +19,7 @@ waits-init g c = record {
   beyond = c.requires.beyond;
   whole = λ table seq floor whole. whole;
   rebuild = c.requires.rebuild;
+  kept = kept_none g.R.Rack g.A.Area g.M.Metaslabs.last g.M.Metaslabs.went g.M.Metaslabs.shared (g.M.Metaslabs.owns c.args.metaslabs.now) c.requires.passes c.args.metaslab c.args.metaslabs.now;
   waited = (0, (refl, refl));
 }
 
@@ -54,11 +56,12 @@ returns-then-op g c =
       ready = held.ready;
       beyond = held.beyond;
       whole = λ table seq floor whole. held.whole table seq floor (i.whole table seq floor whole);
+      kept = kept_once g.R.Rack g.A.Area m.last m.went m.shared owns c.requires.passes c.args.metaslab true c.args.metaslabs.now l.metaslabs c.hold-op.new.self i.kept held.once;
       readies = (i.waited.0, l.metaslabs, i.waited.1, held.once);
     }
 
-pub sync_groups-requires : goal.sync_groups-requires
-sync_groups-requires g c =
+pub sync-requires : goal.sync-requires
+sync-requires g c =
     let l = c.waits in
     let i = l.invariant in
     let m = g.M.Metaslabs in
@@ -71,6 +74,7 @@ sync_groups-requires g c =
       some = (let below = c.requires.below in omega (arith, below));
       few = c.requires.few;
       own = ap (λ (o : ℕ → Bool). o groups_number) (c.hold-op.ensures.owns ∙ i.owns) ∙ c.requires.own;
+      passes = ap (λ (o : ℕ → Bool). o passes_number) (c.hold-op.ensures.owns ∙ i.owns) ∙ c.requires.passes;
       valid = i.valid;
       ready = held.ready;
       beyond = held.beyond;
@@ -86,8 +90,7 @@ returns-in_default g c =
     let held = ready_behind g.R.Rack g.A.Area m.last m.went m.shared owns c.requires.own c.args.count (m.owns l.metaslabs) i.owns c.hold-op.result.out false c.if-op.false l.metaslabs l.uber c.args.metaslab c.hold-op.new.self
     h.shard h.before h.after h.there h.drifts h.related h.is h.went c.requires.below i.ready i.beyond in
     let e = c.in_default.ensures in
-    let z = sync_behind g.R.Rack g.A.Area m.last m.went m.shared owns c.requires.own c.args.count l.metaslabs l.uber c.args.metaslab c.hold-op.new.self held (m.owns c.hold-op.new.self) (c.hold-op.ensures.owns ∙ i.owns)
-    None None refl c.sync_groups.new.metaslabs c.sync_groups.new.uber e.syncs e.whole in
+    let synced = subst (λ o. g.S.Syncs.relates o c.args.count c.hold-op.new.self l.uber None c.sync.new.metaslabs c.sync.new.uber) (c.hold-op.ensures.owns ∙ i.owns) e.syncs in
     record {
       fits = e.fits;
       locks = e.locks ∙ (c.hold-op.ensures.locks ∙ i.locks);
@@ -95,8 +98,10 @@ returns-in_default g c =
       valid = e.valid;
       ready = e.ready;
       beyond = e.beyond;
-      whole = λ table seq floor whole. z.whole table seq floor (i.whole table seq floor whole);
-      readies = (i.waited.0, l.metaslabs, l.uber, c.hold-op.new.self, i.waited.1, z.once, z.syncs);
+      whole = whole_then g.R.Rack owns (m.owns c.hold-op.new.self) (c.hold-op.ensures.owns ∙ i.owns) (m.last c.args.metaslabs.now) (m.last c.hold-op.new.self) (m.last c.sync.new.metaslabs) (λ table seq floor whole. held.whole table seq floor (i.whole table seq floor whole)) e.whole;
+      kept = kept_sync g.R.Rack g.A.Area m.last m.went m.shared owns c.requires.passes c.args.metaslab c.args.metaslabs.now c.hold-op.new.self c.sync.new.metaslabs
+          (kept_once g.R.Rack g.A.Area m.last m.went m.shared owns c.requires.passes c.args.metaslab false c.args.metaslabs.now l.metaslabs c.hold-op.new.self i.kept held.once) e.keeps;
+      readies = (i.waited.0, l.metaslabs, l.uber, c.hold-op.new.self, i.waited.1, held.once, synced);
     }
 
 pub returns-in-Err : goal.returns-in-Err
@@ -109,8 +114,7 @@ returns-in-Err g c =
     let held = ready_behind g.R.Rack g.A.Area m.last m.went m.shared owns c.requires.own c.args.count (m.owns l.metaslabs) i.owns c.hold-op.result.out false c.if-op.false l.metaslabs l.uber c.args.metaslab c.hold-op.new.self
     h.shard h.before h.after h.there h.drifts h.related h.is h.went c.requires.below i.ready i.beyond in
     let e = c.in-Some.ensures in
-    let z = sync_behind g.R.Rack g.A.Area m.last m.went m.shared owns c.requires.own c.args.count l.metaslabs l.uber c.args.metaslab c.hold-op.new.self held (m.owns c.hold-op.new.self) (c.hold-op.ensures.owns ∙ i.owns)
-    (Some c.in-Some.came) (Some (Err c.in-Err.why)) (ap Some c.in-Err.is) c.sync_groups.new.metaslabs c.sync_groups.new.uber e.syncs e.whole in
+    let synced = subst (λ o. g.S.Syncs.relates o c.args.count c.hold-op.new.self l.uber (Some c.in-Some.came) c.sync.new.metaslabs c.sync.new.uber) (c.hold-op.ensures.owns ∙ i.owns) e.syncs in
     record {
       fits = e.fits;
       locks = e.locks ∙ (c.hold-op.ensures.locks ∙ i.locks);
@@ -118,8 +122,10 @@ returns-in-Err g c =
       valid = e.valid;
       ready = e.ready;
       beyond = e.beyond;
-      whole = λ table seq floor whole. z.whole table seq floor (i.whole table seq floor whole);
-      readies = (i.waited.0, l.metaslabs, l.uber, c.hold-op.new.self, i.waited.1, z.once, z.syncs);
+      whole = whole_then g.R.Rack owns (m.owns c.hold-op.new.self) (c.hold-op.ensures.owns ∙ i.owns) (m.last c.args.metaslabs.now) (m.last c.hold-op.new.self) (m.last c.sync.new.metaslabs) (λ table seq floor whole. held.whole table seq floor (i.whole table seq floor whole)) e.whole;
+      kept = kept_sync g.R.Rack g.A.Area m.last m.went m.shared owns c.requires.passes c.args.metaslab c.args.metaslabs.now c.hold-op.new.self c.sync.new.metaslabs
+          (kept_once g.R.Rack g.A.Area m.last m.went m.shared owns c.requires.passes c.args.metaslab false c.args.metaslabs.now l.metaslabs c.hold-op.new.self i.kept held.once) e.keeps;
+      readies = (i.waited.0, l.metaslabs, l.uber, c.hold-op.new.self, i.waited.1, held.once, subst (λ r. g.S.Syncs.relates owns c.args.count c.hold-op.new.self l.uber (Some r) c.sync.new.metaslabs c.sync.new.uber) c.in-Err.is synced);
     }
 
 pub waits-smaller : goal.waits-smaller
@@ -132,9 +138,7 @@ waits-smaller g c =
     let held = ready_behind g.R.Rack g.A.Area m.last m.went m.shared owns c.requires.own c.args.count (m.owns l.metaslabs) i.owns c.hold-op.result.out false c.if-op.false l.metaslabs l.uber c.args.metaslab c.hold-op.new.self
     h.shard h.before h.after h.there h.drifts h.related h.is h.went c.requires.below i.ready i.beyond in
     let e = c.in-Some.ensures in
-    let z = sync_behind g.R.Rack g.A.Area m.last m.went m.shared owns c.requires.own c.args.count l.metaslabs l.uber c.args.metaslab c.hold-op.new.self held (m.owns c.hold-op.new.self) (c.hold-op.ensures.owns ∙ i.owns)
-    (Some c.in-Some.came) (Some (Ok c.in-Ok.field-0)) (ap Some c.in-Ok.is) c.sync_groups.new.metaslabs c.sync_groups.new.uber e.syncs e.whole in
-    let rises = sync_rises g.R.Rack g.A.Area m.last m.went m.shared owns c.requires.own c.args.count c.hold-op.new.self l.uber held.ready held.beyond c.in-Ok.field-0 c.sync_groups.new.metaslabs c.sync_groups.new.uber z.syncs in
+    let rises = e.rises c.in-Ok.field-0 (ap Some c.in-Ok.is) in
     let low = next_low g.R.Rack (group_of (kept_of l.uber) + 1) c.args.count (m.last l.metaslabs) (let below = c.requires.below in omega (arith, below)) i.ready in
     omega (arith, rises, low)
 
@@ -148,8 +152,7 @@ waits-preserved g c =
     let held = ready_behind g.R.Rack g.A.Area m.last m.went m.shared owns c.requires.own c.args.count (m.owns l.metaslabs) i.owns c.hold-op.result.out false c.if-op.false l.metaslabs l.uber c.args.metaslab c.hold-op.new.self
     h.shard h.before h.after h.there h.drifts h.related h.is h.went c.requires.below i.ready i.beyond in
     let e = c.in-Some.ensures in
-    let z = sync_behind g.R.Rack g.A.Area m.last m.went m.shared owns c.requires.own c.args.count l.metaslabs l.uber c.args.metaslab c.hold-op.new.self held (m.owns c.hold-op.new.self) (c.hold-op.ensures.owns ∙ i.owns)
-    (Some c.in-Some.came) (Some (Ok c.in-Ok.field-0)) (ap Some c.in-Ok.is) c.sync_groups.new.metaslabs c.sync_groups.new.uber e.syncs e.whole in
+    let synced = subst (λ o. g.S.Syncs.relates o c.args.count c.hold-op.new.self l.uber (Some c.in-Some.came) c.sync.new.metaslabs c.sync.new.uber) (c.hold-op.ensures.owns ∙ i.owns) e.syncs in
     record {
       fits = e.fits;
       locks = e.locks ∙ (c.hold-op.ensures.locks ∙ i.locks);
@@ -157,8 +160,10 @@ waits-preserved g c =
       valid = e.valid;
       ready = e.ready;
       beyond = e.beyond;
-      whole = λ table seq floor whole. z.whole table seq floor (i.whole table seq floor whole);
-      rebuild = rebuild_on g.R.Rack g.A.Area m.last m.went m.shared owns c.requires.own c.args.count c.requires.passes l.metaslabs c.args.metaslab c.hold-op.new.self z.once i.rebuild (group_of (kept_of c.sync_groups.new.uber) + 1) c.sync_groups.new.metaslabs
-          (sync_there g.R.Rack g.A.Area m.last m.went m.shared owns c.requires.passes c.args.count c.hold-op.new.self c.sync_groups.new.metaslabs l.uber c.sync_groups.new.uber (Some (Ok c.in-Ok.field-0)) z.syncs) c.requires.below e.ready;
-      waited = (suc i.waited.0, (l.metaslabs, l.uber, c.hold-op.new.self, c.in-Ok.field-0, i.waited.1, z.once, z.syncs));
+      whole = whole_then g.R.Rack owns (m.owns c.hold-op.new.self) (c.hold-op.ensures.owns ∙ i.owns) (m.last c.args.metaslabs.now) (m.last c.hold-op.new.self) (m.last c.sync.new.metaslabs) (λ table seq floor whole. held.whole table seq floor (i.whole table seq floor whole)) e.whole;
+      rebuild = rebuild_on g.R.Rack g.A.Area m.last m.went m.shared owns c.requires.own c.args.count c.requires.passes l.metaslabs c.args.metaslab c.hold-op.new.self held.once i.rebuild (group_of (kept_of c.sync.new.uber) + 1) c.sync.new.metaslabs
+          (parts_there g.R.Rack g.A.Area m.last m.went m.shared owns c.requires.passes c.hold-op.new.self c.sync.new.metaslabs e.keeps) c.requires.below e.ready;
+      kept = kept_sync g.R.Rack g.A.Area m.last m.went m.shared owns c.requires.passes c.args.metaslab c.args.metaslabs.now c.hold-op.new.self c.sync.new.metaslabs
+          (kept_once g.R.Rack g.A.Area m.last m.went m.shared owns c.requires.passes c.args.metaslab false c.args.metaslabs.now l.metaslabs c.hold-op.new.self i.kept held.once) e.keeps;
+      waited = (suc i.waited.0, (l.metaslabs, l.uber, c.hold-op.new.self, c.in-Ok.field-0, i.waited.1, held.once, subst (λ r. g.S.Syncs.relates owns c.args.count c.hold-op.new.self l.uber (Some r) c.sync.new.metaslabs c.sync.new.uber) c.in-Ok.is synced));
     }

@@ -38,4 +38,4 @@ returns-in-Heal-clause-only g c = subst (λ k. IsOnly k c.block_in.new.shard) (s
 
 pub returns-in-Heal-clause-goes : goal.returns-in-Heal-clause-goes
 returns-in-Heal-clause-goes g c = λ part pieces x at contents.
-    subst (λ k. GoesTo g.R.Rack g.A.Area part pieces x c.block_in.new.shard (λ holds y. NextIs part k false c.block_in.result holds × SameBlocks x y)) (sym c.in-Heal.is) (c.block_in.ensures.goes part pieces x at contents)
+    subst (λ k. GoesTo g.R.Rack g.A.Area part pieces x c.block_in.new.shard (λ holds y. NextIs part k false c.block_in.result holds × SameBlocks x y)) (sym c.in-Heal.is) (c.block_in.ensures.goes part pieces x at (contents c.in-Heal.is))

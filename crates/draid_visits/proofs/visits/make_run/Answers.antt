@@ -4,7 +4,7 @@ use Rattle.draid_visits.specs.Readies.{ReadiesBy}
 use Rattle.draid_visits.specs.Starts.{LeftSo}
 use Rattle.draid_visits.specs.Units.{MayLendIn}
 use Rattle.draid_visits.specs.Visits.{MayVisit, RunsBy}
-use Rattle.draid_visits.proofs.VisitsStay.{may_lend, may_on, may_ready, never_both, readies_all, readies_lends}
+use Rattle.draid_visits.proofs.VisitsStay.{may_lend, may_on, may_ready, never_both, readies_lends}
 use Rattle.draid_visits.proofs.visits.make_run.Goals as goal
 
 pub make_ready-requires : goal.make_ready-requires
@@ -27,7 +27,7 @@ returns-in-Rebuild g c =
     let m = g.M.Metaslabs in
     let owns = m.owns c.args.metaslabs.now in
     let e = c.make_ready.ensures in
-    let count = c.args.geometry.now.props.metaslabs in
+    let syncs = g.S.Syncs.relates (g.M.Metaslabs.owns c.args.metaslabs.now) c.args.geometry.now.props.metaslabs in
     let kind = c.in-Rebuild.is in
     let old = c.args.metaslabs.now in
     let new = c.make_ready.new.metaslabs in
@@ -39,11 +39,11 @@ returns-in-Rebuild g c =
       owns = e.owns;
       may = subst (λ k. MayVisit g.R.Rack g.A.Area c.args.geometry.now k (m.last new) v) (sym kind)
           (may_on g.R.Rack g.A.Area m.last c.args.geometry.now Rebuild old u (subst (λ k. MayVisit g.R.Rack g.A.Area c.args.geometry.now k (m.last old) u) kind c.requires.may) new v
-          (readies_all g.R.Rack g.A.Area m.last m.went m.shared owns c.requires.passes count c.args.metaslab old new u v c.make_ready.result e.readies) e.valid e.ready e.beyond);
+          e.kept e.valid e.ready e.beyond);
       whole = e.whole;
       lends = λ is. subst (λ k. LeftSo c.args.metaslab (MayLendIn g.R.Rack k) (m.last new)) (sym kind)
-          (readies_lends g.R.Rack g.A.Area m.last m.went m.shared owns c.requires.passes count c.args.metaslab old new u v (subst (λ out. ReadiesBy g.R.Rack g.A.Area m.last m.went m.shared owns count c.args.metaslab old u out new v) is e.readies));
-      runs = subst (λ k. RunsBy g.R.Rack g.A.Area m.last m.went m.shared owns count k c.args.metaslab old u c.make_ready.result new v) (sym kind) e.readies;
+          (readies_lends g.R.Rack g.A.Area m.last m.went m.shared owns syncs c.args.metaslab old new u v (subst (λ out. ReadiesBy g.R.Rack g.A.Area m.last m.went m.shared owns syncs c.args.metaslab old u out new v) is e.readies));
+      runs = subst (λ k. RunsBy g.R.Rack g.A.Area m.last m.went m.shared owns syncs k c.args.metaslab old u c.make_ready.result new v) (sym kind) e.readies;
     }
 
 pub returns-in-Heal : goal.returns-in-Heal
@@ -60,5 +60,5 @@ returns-in-Heal g c =
       may = c.requires.may;
       whole = λ table seq floor whole. whole;
       lends = λ is. may_lend g.R.Rack g.A.Area m.last c.args.geometry.now c.args.kind old u c.requires.may c.args.metaslab c.requires.below c.requires.pass (λ rebuild. never_both (sym kind ∙ rebuild));
-      runs = subst (λ k. RunsBy g.R.Rack g.A.Area m.last m.went m.shared owns c.args.geometry.now.props.metaslabs k c.args.metaslab old u (Some (Ok tt)) old u) (sym kind) (refl, refl, refl);
+      runs = subst (λ k. RunsBy g.R.Rack g.A.Area m.last m.went m.shared owns (g.S.Syncs.relates (g.M.Metaslabs.owns c.args.metaslabs.now) c.args.geometry.now.props.metaslabs) k c.args.metaslab old u (Some (Ok tt)) old u) (sym kind) (refl, refl, refl);
     }

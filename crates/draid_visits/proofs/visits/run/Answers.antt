@@ -59,7 +59,7 @@ returns-in-Some-Ok g c =
       runs = (
         Some (Ok tt),
         mid,
-        subst (λ made. RunsBy g.R.Rack g.A.Area m.last m.went m.shared owns c.args.geometry.now.props.metaslabs c.args.kind c.args.metaslab old c.args.uber.now (Some made) mid u) c.in-Some-Ok.field-0-is e.runs,
+        subst (λ made. RunsBy g.R.Rack g.A.Area m.last m.went m.shared owns (g.S.Syncs.relates (g.M.Metaslabs.owns c.args.metaslabs.now) c.args.geometry.now.props.metaslabs) c.args.kind c.args.metaslab old c.args.uber.now (Some made) mid u) c.in-Some-Ok.field-0-is e.runs,
         subst (λ p. LendsBy g.R.Rack g.A.Area m.last m.went m.shared owns c.args.kind c.args.metaslab mid p c.lend_each.result new c.lend_each.new.progress) begins
             (subst (λ o. LendsBy g.R.Rack g.A.Area m.last m.went m.shared o c.args.kind c.args.metaslab mid at c.lend_each.result new c.lend_each.new.progress) e.owns f.lends),
       );
@@ -84,7 +84,7 @@ returns-in-Some-Err g c =
       runs = (
         Some (Err c.in-Some-Err.why),
         new,
-        subst (λ made. RunsBy g.R.Rack g.A.Area m.last m.went m.shared (m.owns c.args.metaslabs.now) c.args.geometry.now.props.metaslabs c.args.kind c.args.metaslab c.args.metaslabs.now c.args.uber.now (Some made) new c.make_run.new.uber) c.in-Some-Err.field-0-is
+        subst (λ made. RunsBy g.R.Rack g.A.Area m.last m.went m.shared (m.owns c.args.metaslabs.now) (g.S.Syncs.relates (g.M.Metaslabs.owns c.args.metaslabs.now) c.args.geometry.now.props.metaslabs) c.args.kind c.args.metaslab c.args.metaslabs.now c.args.uber.now (Some made) new c.make_run.new.uber) c.in-Some-Err.field-0-is
             e.runs,
         (refl, refl, refl),
       );

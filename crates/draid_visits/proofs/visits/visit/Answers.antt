@@ -55,7 +55,7 @@ returns-in-At g c =
         start = begun.At c.in-At.stripe;
         mid = mid;
         begins = e.begins;
-        behind = subst (λ o. VisitsBehind g.R.Rack g.A.Area m.last m.went m.shared o c.args.geometry.now c.args.kind c.args.metaslab mid u c.args.progress.now (begun.At c.in-At.stripe) c.run.result new v c.run.new.progress) e.owns f.runs;
+        behind = subst (λ o. VisitsBehind g.R.Rack g.A.Area m.last m.went m.shared o (g.S.Syncs.relates o c.args.geometry.now.props.metaslabs) c.args.geometry.now c.args.kind c.args.metaslab mid u c.args.progress.now (begun.At c.in-At.stripe) c.run.result new v c.run.new.progress) e.owns f.runs;
       };
     }
 

@@ -4,10 +4,11 @@ use Rattle.draid_names.specs.declared.refusal.WriteFault.TheVariants as fault
 use Rattle.draid_session.specs.Making.{content_of}
 use Rattle.draid_store.proofs.Filled.{whole}
 use Rattle.draid_lanes.specs.Lanes.{table_of}
+use Rattle.draid_lanes.specs.Locks.{owned_by}
 use Rattle.draid_lanes.specs.Waits.{LaneWent}
 use Rattle.draid_works.specs.Lanes.{LaneKnows}
 use Rattle.draid_works.proofs.FilledIn.{KnowsThen, fill_unbegun, fills_all, fills_none, lane_fill_stopped, lane_fills_more, same_lane, same_then}
-use Rattle.draid_works.proofs.FilledTable.{table_all, table_more, table_none, table_stopped, table_unbegun}
+use Rattle.draid_works.proofs.BesideTable.{own_all, own_more, own_none, own_stopped, own_unbegun}
 use Rattle.draid_works.proofs.filling.fill_in_lane.Goals as goal
 
 pub returns-in_default : goal.returns-in_default
@@ -16,7 +17,7 @@ returns-in_default g c = record {
   same = same_lane c.args.lane.now;
   pass = refl;
   fits = (refl, (let some = c.requires.range.0.0 in omega (arith, some)));
-  teaches = table_unbegun c.args.first c.args.len c.args.seed (table_of c.args.lane.now) c.args.count fault.NoMemory;
+  teaches = own_unbegun (owned_by c.args.lane.now.metaslabs.passes.items) c.args.first c.args.len c.args.seed (table_of c.args.lane.now) c.args.count fault.NoMemory;
   step = λ x layout knows. fill_unbegun g.R.Rack g.A.Area (LaneWent g.R.Rack g.A.Area) true (FnReturnsAt g.F.Fn c.args.chooser.now) c.args.first c.args.len c.args.seed x c.args.lane.now.metaslabs (LaneKnows g.R.Rack g.A.Area c.args.lane.now) c.args.count
       (let some = c.requires.range.0.0 in omega (arith, some)) knows;
 }
@@ -27,7 +28,7 @@ loop-written-init g c = record {
   whole = c.requires.whole;
   same = same_lane c.args.lane.now;
   pass = refl;
-  table = table_none c.args.first c.args.len c.args.seed (table_of c.args.lane.now);
+  table = own_none (owned_by c.args.lane.now.metaslabs.passes.items) c.args.first c.args.len c.args.seed (table_of c.args.lane.now);
   filled = λ x layout knows. fills_none g.R.Rack g.A.Area (LaneWent g.R.Rack g.A.Area) true (FnReturnsAt g.F.Fn c.args.chooser.now) c.args.first c.args.len c.args.seed x c.args.lane.now.metaslabs (LaneKnows g.R.Rack g.A.Area c.args.lane.now) knows;
 }
 
@@ -50,8 +51,8 @@ returns-in-Err g c =
       same = same_then c.args.lane.now c.loop-written.lane c.write_in_lane.new.lane c.loop-written.invariant.same c.write_in_lane.ensures.same;
       pass = c.write_in_lane.ensures.pass ∙ c.loop-written.invariant.pass;
       fits = (refl, c.loop-written-test.true);
-      teaches = table_stopped c.args.first c.args.len c.args.seed (table_of c.args.lane.now) (table_of c.loop-written.lane) (table_of c.write_in_lane.new.lane) c.loop-written.written c.args.count c.in-Err.why (c.args.first + c.loop-written.written) c.deref.result.now
-          c.write_in_lane.result c.in-Err.is c.write_in_lane.ensures.sets c.loop-written.invariant.table;
+      teaches = own_stopped (owned_by c.args.lane.now.metaslabs.passes.items) c.args.first c.args.len c.args.seed (table_of c.args.lane.now) (table_of c.loop-written.lane) (table_of c.write_in_lane.new.lane) c.loop-written.written c.args.count c.in-Err.why (c.args.first + c.loop-written.written) c.deref.result.now
+          c.write_in_lane.result (let below = c.loop-written-test.true in c.requires.own (c.args.first + c.loop-written.written) (omega arith) (omega (arith, below))) c.in-Err.is c.write_in_lane.ensures.sets c.loop-written.invariant.table;
       step = λ x layout knows. lane_fill_stopped g.R.Rack g.A.Area c.args.lane.now c.loop-written.lane c.write_in_lane.new.lane c.loop-written.invariant.same (FnReturnsAt g.F.Fn c.args.chooser.now) c.args.first c.args.len c.args.seed
           c.loop-written.written c.deref.result.now c.write_in_lane.result is c.write_in_lane.ensures.step x layout (c.loop-written.invariant.filled x layout knows) c.args.count c.in-Err.why c.in-Err.is
           c.loop-written-test.true;
@@ -70,7 +71,7 @@ loop-written-preserved g c =
       whole = c.write_in_lane.ensures.whole;
       same = same_then c.args.lane.now c.loop-written.lane c.write_in_lane.new.lane c.loop-written.invariant.same c.write_in_lane.ensures.same;
       pass = c.write_in_lane.ensures.pass ∙ c.loop-written.invariant.pass;
-      table = table_more c.args.first c.args.len c.args.seed (table_of c.args.lane.now) (table_of c.loop-written.lane) (table_of c.write_in_lane.new.lane) c.loop-written.written c.deref.result.now c.write_in_lane.result is c.in_default-write_in_lane.is
+      table = own_more (owned_by c.args.lane.now.metaslabs.passes.items) c.args.first c.args.len c.args.seed (table_of c.args.lane.now) (table_of c.loop-written.lane) (table_of c.write_in_lane.new.lane) c.loop-written.written c.deref.result.now c.write_in_lane.result (let below = c.loop-written-test.true in c.requires.own (c.args.first + c.loop-written.written) (omega arith) (omega (arith, below))) is c.in_default-write_in_lane.is
           c.write_in_lane.ensures.sets c.loop-written.invariant.table;
       filled = λ x layout knows. lane_fills_more g.R.Rack g.A.Area c.args.lane.now c.loop-written.lane c.write_in_lane.new.lane c.loop-written.invariant.same (FnReturnsAt g.F.Fn c.args.chooser.now) c.args.first c.args.len c.args.seed
           c.loop-written.written c.deref.result.now c.write_in_lane.result is c.write_in_lane.ensures.step x layout (c.loop-written.invariant.filled x layout knows) c.in_default-write_in_lane.is;
@@ -85,7 +86,7 @@ returns g c =
       same = c.loop-written.invariant.same;
       pass = c.loop-written.invariant.pass;
       fits = (refl, refl);
-      teaches = table_all c.args.first c.args.len c.args.seed (table_of c.args.lane.now) (table_of c.loop-written.lane) c.loop-written.written c.args.count (omega (arith, ends, upto)) c.loop-written.invariant.table;
+      teaches = own_all (owned_by c.args.lane.now.metaslabs.passes.items) c.args.first c.args.len c.args.seed (table_of c.args.lane.now) (table_of c.loop-written.lane) c.loop-written.written c.args.count (omega (arith, ends, upto)) c.loop-written.invariant.table;
       step = λ x layout knows. fills_all g.R.Rack g.A.Area (LaneWent g.R.Rack g.A.Area) true (FnReturnsAt g.F.Fn c.args.chooser.now) c.args.first c.args.len c.args.seed x c.args.lane.now.metaslabs c.loop-written.lane.metaslabs
           (KnowsThen g.R.Rack g.A.Area c.args.lane.now c.loop-written.lane) c.loop-written.written c.args.count (omega (arith, ends, upto)) (c.loop-written.invariant.filled x layout knows);
     }

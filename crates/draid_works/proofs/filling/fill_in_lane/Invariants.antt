@@ -3,9 +3,10 @@ use Rattle.std.specs.Fn.{FnReturnsAt}
 use Rattle.draid_session.specs.State.{State}
 use Rattle.draid_store.proofs.Filled.{FillsOf}
 use Rattle.draid_lanes.specs.Lanes.{IsSameLane, IsWholeLane, table_of}
+use Rattle.draid_lanes.specs.Locks.{owned_by}
 use Rattle.draid_works.specs.Lanes.{LaneCarries, LaneKnows}
 use Rattle.draid_works.specs.Waiting.{LooksBut}
-use Rattle.draid_works.proofs.FilledTable.{FillsTable}
+use Rattle.draid_works.proofs.BesideTable.{FillsOwn}
 use Rattle.draid_works.proofs.filling.fill_in_lane.Given as goal
 
 -- the objects so far have their contents
@@ -15,7 +16,7 @@ invariant-loop-written g l = record {
   whole : IsWholeLane g.R.Rack g.A.Area l.lane;
   same : IsSameLane l.initial.lane l.lane;
   pass : l.lane.pass ≡ l.initial.lane.pass;
-  table : FillsTable l.fn.first l.fn.len l.fn.seed l.written (table_of l.initial.lane) (table_of l.lane);
+  table : FillsOwn (owned_by l.initial.lane.metaslabs.passes.items) l.fn.first l.fn.len l.fn.seed l.written (table_of l.initial.lane) (table_of l.lane);
   filled : (x : State) → x.geometry ≡ l.initial.lane.geometry → LaneKnows g.R.Rack g.A.Area l.initial.lane x
       → LaneCarries g.R.Rack g.A.Area l.initial.lane l.lane x (LooksBut (FillsOf x (FnReturnsAt g.F.Fn l.fn.chooser) l.fn.first l.fn.len l.fn.seed l.written));
 }

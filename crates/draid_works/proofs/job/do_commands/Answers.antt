@@ -15,6 +15,8 @@ returns g c =
     let stopped = c.reply_to_each-lane.result.1 in
     record {
       does = record {
+        whole_before = c.requires.may.whole;
+        given = c.requires.may.given;
         leaves = e.leaves;
         same = refl;
         fits = subst (λ ls. AreRepliesTo ls replies) c.deref.ensures.value e.fits;

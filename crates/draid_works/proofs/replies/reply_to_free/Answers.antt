@@ -9,5 +9,5 @@ returns g c =
     record {
       leaves = record { whole = did.ensures.whole; same = did.ensures.same; numbers = ap (λ p. p.numbers) did.ensures.pass };
       fits = free_fits c.args.object did.result c.reply_of_free.result is;
-      done = free_done g.R.Rack g.A.Area c.args.lane.now did.new.lane c.reply_of_free.result did.ensures.pass c.args.object did.result is did.ensures.takes did.ensures.step;
+      done = free_done g.R.Rack g.A.Area c.args.lane.now did.new.lane c.reply_of_free.result did.ensures.pass c.args.object did.result c.requires.own is did.ensures.takes did.ensures.step;
     }

@@ -17,5 +17,6 @@ returns g c =
         cause = λ err. did.ensures.cause (switch_broke c.args.leaf true did.result.1 said is err);
         own = did.ensures.own;
         knows = did.ensures.knows;
+        told = did.ensures.told;
       };
     }

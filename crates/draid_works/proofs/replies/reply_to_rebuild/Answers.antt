@@ -16,5 +16,6 @@ returns g c =
         cause = λ err. did.ensures.cause (rebuild_broke did.result.1 said is err);
         own = did.ensures.own;
         knows = did.ensures.knows;
+        told = did.ensures.told;
       };
     }

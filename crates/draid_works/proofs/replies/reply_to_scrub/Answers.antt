@@ -9,5 +9,5 @@ returns g c =
     record {
       leaves = record { whole = did.ensures.whole; same = did.ensures.same; numbers = did.ensures.mends.numbers };
       fits = scrub_fits c.args.limit did.result.1 reply is did.ensures.within;
-      done = record { answer = did.result.1; reply_is = is; done = did.ensures.mends; cause = λ err. absurd (cc err); own = did.ensures.own; knows = did.ensures.knows };
+      done = record { answer = did.result.1; reply_is = is; done = did.ensures.mends; cause = λ err. absurd (cc err); own = did.ensures.own; knows = did.ensures.knows; told = did.ensures.told };
     }

@@ -9,5 +9,5 @@ returns g c =
     record {
       leaves = record { whole = did.ensures.whole; same = did.ensures.same; numbers = ap (λ p. p.numbers) did.ensures.pass };
       fits = sum_fits c.args.first c.args.count did.result c.reply_of_sum.result is;
-      done = sum_done g.R.Rack g.A.Area c.args.lane.now did.new.lane c.reply_of_sum.result did.ensures.pass c.args.first c.args.count did.result is did.ensures.own did.ensures.sums did.ensures.step;
+      done = sum_done g.R.Rack g.A.Area c.args.lane.now did.new.lane c.reply_of_sum.result did.ensures.pass c.args.first c.args.count did.result c.requires.own is did.ensures.own did.ensures.sums did.ensures.step;
     }

@@ -10,5 +10,5 @@ returns g c =
     record {
       leaves = record { whole = did.ensures.whole; same = did.ensures.same; numbers = ap (λ p. p.numbers) did.ensures.pass };
       fits = write_fits c.args.object c.args.bytes.now did.result c.reply_of_write.result is;
-      done = write_done g.R.Rack g.A.Area c.args.lane.now did.new.lane c.reply_of_write.result did.ensures.pass (FnReturnsAt g.F.Fn c.args.chooser.now) c.args.object c.args.bytes.now did.result is did.ensures.sets did.ensures.step;
+      done = write_done g.R.Rack g.A.Area c.args.lane.now did.new.lane c.reply_of_write.result did.ensures.pass (FnReturnsAt g.F.Fn c.args.chooser.now) c.args.object c.args.bytes.now did.result c.requires.own is did.ensures.sets did.ensures.step;
     }

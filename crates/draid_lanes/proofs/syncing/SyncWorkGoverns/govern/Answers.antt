@@ -7,6 +7,7 @@ use Rattle.draid_lanes.specs.Locks.{owned_by}
 use Rattle.draid_lanes.specs.Waits.{LaneWent, SyncsThrough}
 use Rattle.draid_lanes.proofs.SyncArms.{through_arms}
 use Rattle.draid_lanes.proofs.SyncThrough.{through_layout, through_whole}
+use Rattle.draid_lanes.proofs.UberLater.{through_later}
 use Rattle.draid_lanes.proofs.syncing.SyncWorkGoverns.govern.Goals as goal
 
 pub sync_through-came-requires : goal.sync_through-came-requires
@@ -44,5 +45,6 @@ returns g c =
       owns = e.owns;
       layout = through_layout g.R.Rack g.A.Area lane_last went true owns is.own c.args.count old new u v came is.ready is.beyond e.syncs;
       keeps = λ some no inside. through_whole g.R.Rack g.A.Area lane_last went true owns is.own c.args.count old new u v came is.ready is.beyond e.syncs some inside is.some no;
+      later = through_later g.R.Rack g.A.Area lane_last went true owns c.args.count old new u v came e.syncs;
       related = subst (λ n. SyncsThrough g.R.Rack g.A.Area lane_last went true owns n old u came new v) is.all e.syncs;
     }

@@ -6,6 +6,7 @@ use Rattle.draid_lanes.specs.Governing.{IsGovernor, lane_last}
 use Rattle.draid_lanes.specs.Locks.{owned_by}
 use Rattle.draid_lanes.specs.Waits.{LaneWent}
 use Rattle.draid_works.proofs.MendArms.{mended_arms}
+use Rattle.draid_works.proofs.MendLater.{mended_later}
 use Rattle.draid_works.proofs.MendThrough.{mended_layout, mended_whole}
 use Rattle.draid_works.proofs.Mended.{governor_mends, governs_all}
 use Rattle.draid_works.proofs.mending.MendWorkGoverns.govern.Goals as goal
@@ -50,5 +51,6 @@ returns g c =
       owns = e.owns;
       layout = mended_layout g.R.Rack g.A.Area lane_last went true owns is.own work.geometry work.kind work.limit came old new u v is.ready is.beyond e.mends;
       keeps = λ some no inside. mended_whole g.R.Rack g.A.Area lane_last went true owns is.own work.geometry work.kind work.limit came old new u v is.ready is.beyond e.mends is.some some inside no;
+      later = mended_later g.R.Rack g.A.Area lane_last went true owns work.geometry work.kind work.limit came old new u v e.mends;
       related = (e.mends, e.within);
     }

@@ -8,6 +8,7 @@ use Rattle.draid_lanes.specs.Locks.{owned_by}
 use Rattle.draid_lanes.specs.Waits.{LaneWent}
 use Rattle.draid_works.specs.Switched.{SwitchesThrough}
 use Rattle.draid_works.proofs.SwitchArms.{switched_arms}
+use Rattle.draid_works.proofs.SwitchLater.{switched_later}
 use Rattle.draid_works.proofs.SwitchThrough.{switched_layout, switched_whole}
 use Rattle.draid_works.proofs.switching.SwitchWorkGoverns.govern.Goals as goal
 
@@ -57,6 +58,7 @@ returns g c =
       owns = e.owns;
       layout = switched_layout g.R.Rack g.A.Area lane_last went true owns is.own c.args.count is.some leaf offline old new u v came is.ready is.beyond e.switches;
       keeps = λ some no inside. switched_whole g.R.Rack g.A.Area lane_last went true owns is.own c.args.count is.some leaf offline old new u v came is.ready is.beyond e.switches some inside no;
+      later = switched_later g.R.Rack g.A.Area lane_last went true owns c.args.count leaf offline old new u v came e.switches;
       related = (
         subst (λ n. SwitchesThrough g.R.Rack g.A.Area lane_last went true owns n leaf offline old u came new v) is.all e.switches,
         subst (λ n. LeafIsIn n leaf offline came (lane_last new)) is.all e.leaf,

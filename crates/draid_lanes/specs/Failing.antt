@@ -10,7 +10,9 @@ use Rattle.draid_uber.specs.Uber.{count_of}
 use Rattle.draid_uber.specs.declared.uber.Uber.{Uber}
 use Rattle.draid_pool.specs.Failing.{RecordsRose}
 use Rattle.draid_lanes.specs.Governing.{GovernedIn}
+use Rattle.draid_lanes.specs.Lanes.{IsSameLane}
 use Rattle.draid_lanes.specs.Waits.{LaneWent}
+use Rattle.draid_lanes.specs.declared.lane.Lane.{Lane}
 use Rattle.draid_lanes.specs.declared.locked.Locked.{Locked}
 use Rattle.draid_lanes.specs.declared.uber.UberCell.{UberCell}
 
@@ -41,3 +43,9 @@ module _ {R A S : Type 0} (area : areas.Ghosts A) (went : S → ℕ → Shard R 
 -- and that in a turn of the uberblock that a lane had
 abbrev pub AreaFailedIn : {R A G W : Type 0} → racks.Ghosts R → areas.Ghosts A → Lock (UberCell R A) → Locked R A G W → Locked R A G W → (pass next : Caller (Past (UberCell R A))) → Type 0
 AreaFailedIn rack area lock old new pass next = GovernedIn {O = Unit} rack area (λ before a u done b v. AreaFails area (LaneWent rack area) a u b v) lock old tt new tt pass next
+
+-- so in a turn that was the last one of all that a lane did
+pub record AreaFailedLane {R A G W : Type 0} (rack : racks.Ghosts R) (area : areas.Ghosts A) (old new : Lane R A G W) : Type 0 where
+  pub mid : Lane R A G W
+  pub same : IsSameLane old mid
+  pub failed : AreaFailedIn rack area old.uber.now mid.metaslabs new.metaslabs mid.pass new.pass
