@@ -5,10 +5,12 @@ pub mod LaneStays
 pub mod MendArms
 pub mod MendBegun
 pub mod MendFails
+pub mod MendFar
 pub mod MendStays
 pub mod MendSteps
 pub mod MendSyncs
 pub mod MendThrough
+pub mod MendTurns
 pub mod Mended
 pub mod Replied
 pub mod ScrubEnds
