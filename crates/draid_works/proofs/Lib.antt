@@ -11,6 +11,7 @@ pub mod MendSteps
 pub mod MendSyncs
 pub mod MendThrough
 pub mod MendTurns
+pub mod MendWords
 pub mod Mended
 pub mod Replied
 pub mod ScrubEnds

@@ -39,6 +39,7 @@ use Rattle.draid_lanes.proofs.SealWords.{leaves_then}
 use Rattle.draid_lanes.proofs.SyncThrough.{through_next}
 use Rattle.draid_lanes.proofs.SyncWords.{Through_in, through_holds, through_said}
 use Rattle.draid_lanes.proofs.Tracing.{traced_then}
+use Rattle.draid_works.proofs.MendArms.{held_below}
 use Rattle.draid_works.proofs.MendTurns.{TellsMany, said_many}
 
 -- but for looks it is this
@@ -93,6 +94,11 @@ module _ {R A G W : Type 0} (rack : racks.Ghosts R) (area : areas.Ghosts A) (x :
     beyond = f.beyond;
   }
 
+  -- what comes first of what is left
+  pub far_then : {I : Type 0} (P Q T : I → List Hold → Type 0) (X : List Hold → Type 0) → ((i : I) (front rest : List Hold) → X front → T i rest → Q i (front ++ rest)) → (b : Locked R A G W) (v : Uber A) (us : List Hold) → Far P Q b v us → Far P (Then X T) b v us
+  far_then P Q T X how b v us f =
+      far_as P Q P (Then X T) b v us f (λ left leads i rest z. subst (λ l. P i (left ++ l)) (sym z.2) (leads i (z.0 ++ z.1) (how i z.0 z.1 z.3 z.4)))
+
   module _ {I : Type 0} (P Q T : I → List Hold → Type 0) where
     -- one step behind another
     leading_on : (S : List Hold → Type 0) → ((i : I) (front rest : List Hold) → S front → T i rest → Q i (front ++ rest)) → (hs ks : List Hold) → Leading P Q hs → But S ks → Leading P T (hs ++ ks)
@@ -103,9 +109,10 @@ module _ {R A G W : Type 0} (rack : racks.Ghosts R) (area : areas.Ghosts A) (x :
     )
 
     -- a hold of a metaslab
-    pub far_hold : (S : List Hold → Type 0) → ((i : I) (front rest : List Hold) → S front → T i rest → Q i (front ++ rest)) → (does : Shard R A → Shard R A → Type 0) (b : Locked R A G W) (m : ℕ) (c : Locked R A G W) (v : Uber A) (us : List Hold) → m < count
+    pub far_hold : (S : List Hold → Type 0) → ((i : I) (front rest : List Hold) → S front → T i rest → Q i (front ++ rest)) → (does : Shard R A → Shard R A → Type 0) (b : Locked R A G W) (m : ℕ) (c : Locked R A G W) (v : Uber A) (us : List Hold)
         → (h : Once rack area x owns does b m c) → TellsMany rack area x m (But S) h.before h.after → KeepsQuiet rack owns h.before h.after → Far P Q b v us → Far P T c v us
-    far_hold S how does b m c v us below h tells quiet f =
+    far_hold S how does b m c v us h tells quiet f =
+        let below = held_below rack area lane_last (LaneWent rack area) true owns count does b m c h f.beyond in
         let one = said_many rack area x owns does (But S) b m c h f.said.came tells in
         let g = quiet_on rack area lane_last (LaneWent rack area) true owns own count (λ s. NoneBeyond count (lane_last s)) (beyond_on rack area lane_last (LaneWent rack area) true owns count) does b m c below h (group_of (ubers.kept_of v) + 1) quiet
         (record { left = f.beyond; ready = f.ready }) in
