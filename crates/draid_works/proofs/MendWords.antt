@@ -266,3 +266,99 @@ module _ {R A G W : Type 0} (rack : racks.Ghosts R) (area : areas.Ghosts A) (x :
       subst (λ l. Says rack area x old b l (But (P i))) (append_assoc us ws (sync_holds rack area x owns own some seen b w v (Err why) synced))
       (far_stop rack area x owns own n_all refl some old old_all old_many P (Then (Awaits g ps m end) T) T i why
       (λ hs s. (hs, [], sym (append-nil hs), sync_fails g ps m end hs (subst (groups.SyncStops g ps hs) (sym (end_same why)) s), refl)) seen b w v (us ++ ws) synced two)
+
+  -- ---- one metaslab
+
+  abbrev Visit_here : ℕ → Locked R A G W → Uber A → Progress → Visit → Locked R A G W → Uber A → Progress → Type 0
+  Visit_here m a u p result b v q = Visit_in rack area x owns own some kind m a u p (Some result) b v q
+
+  -- its pass runs, or does so from its planning on
+  run_far : {I : Type 0} (P T : I → List Hold → Type 0) (m stripe : ℕ) (p q : Progress) (result : Visit) (of : PassKind) (same : of ≡ kind) (a b : Locked R A G W) (u v : Uber A) (us : List Hold) (done : Unit)
+      (it : RunsBy rack area lane_last (LaneWent rack area) true owns (Syncs_in rack area x owns own some) of m a u (Some (Ok done)) b v) → Came P (Then (RunIs g ps kind m stripe p result q) T) a u us
+      → Came P (Then (LendIs g ps kind m (begun_at g m stripe p) result q) T) b v (us ++ run_holds rack area x owns own some of m a b u v (Some (Ok done)) it)
+  run_far P T m stripe p q result Rebuild same a b u v us done it f =
+      let at = begun_at g m stripe p in
+      ready_far P (Then (LendIs g ps kind m at result q) T) m a b u v us done it
+      (far_then rack area x owns own n_all refl some old old_all old_many P (Then (RunIs g ps kind m stripe p result q) T) (Then (LendIs g ps kind m at result q) T) (Readying g ps m Went)
+      (then_on T (Readying g ps m Went) (RunIs g ps kind m stripe p result q) (LendIs g ps kind m at result q)
+      (λ front back ready lends. run_so g ps kind m stripe p at q result front back refl (subst (λ k. passes.ReadyPhase g ps k m front Went) same ready) lends)) a u us f)
+  run_far P T m stripe p q result Heal same a b u v us done it f =
+      let at = begun_at g m stripe p in
+      still P (Then (LendIs g ps kind m at result q) T) a b u v us it.1 it.2
+      (far_as rack area x owns own n_all refl some old old_all old_many P (Then (RunIs g ps kind m stripe p result q) T) P (Then (LendIs g ps kind m at result q) T) a u us f
+      (λ left leads i rest z. leads i rest (z.0, z.1, z.2, run_so g ps kind m stripe p at q result [] z.0 refl (subst (λ k. passes.ReadyPhase g ps k m [] Went) same (refl, refl)) z.3, z.4)))
+
+  begun_far : {I : Type 0} (P Q T : I → List Hold → Type 0) (m : ℕ) (start : Begun) → ((i : I) (front rest : List Hold) → BeginIs g ps kind m start front → T i rest → Q i (front ++ rest)) → (a b : Locked R A G W) (u : Uber A) (us : List Hold)
+      → BeginsBy rack area lane_last (LaneWent rack area) true owns kind m a start b → Came P Q a u us → Came P T b u us
+  begun_far P Q T m start how a b u us (came, is, once) f =
+      far_hold rack area x owns own n_all refl some old old_all old_many P Q T (BeginIs g ps kind m start) how (λ before after. StartsIn rack area kind before came after) a m b u us once (tells_starts rack area x m kind came start is once.before once.after once.did)
+      (quiet_by rack area owns once.before once.after once.did.valid once.did.part once.did.blocks) f
+
+  -- it is visited to its end, or pauses
+  visit_far : {I : Type 0} (P T : I → List Hold → Type 0) (m : ℕ) (result : Visit) → ((why : SyncFault) → result ≡ visit.Stopped why → ⊥) → (a b : Locked R A G W) (u v : Uber A) (p q : Progress) (us : List Hold) (it : Visit_here m a u p result b v q)
+      → Came P (Then (VisitIs g ps kind m p result q) T) a u us → Came P T b v (us ++ visit_holds rack area x owns own some kind m a b u v p q (Some result) it)
+  visit_far P T m result never a b u v p q us it f = by it.start it.begins result never it.behind f
+    where
+      by : (start : Begun) → BeginsBy rack area lane_last (LaneWent rack area) true owns kind m a start it.mid → (r : Visit) → ((why : SyncFault) → r ≡ visit.Stopped why → ⊥)
+          → (is : VisitsBehind rack area lane_last (LaneWent rack area) true owns (Syncs_in rack area x owns own some) x.geometry kind m it.mid u p start (Some r) b v q) → Came P (Then (VisitIs g ps kind m p r q) T) a u us
+          → Came P T b v (us ++ behind_holds rack area x owns own some kind m it.mid b u v p q start (Some r) is)
+      by (begun.At stripe) begins r not (Some (Ok done), last, runs, lends) f =
+          let at = begun_at g m stripe p in
+          let one = begun_far P (Then (VisitIs g ps kind m p r q) T) (Then (RunIs g ps kind m stripe p r q) T) m (begun.At stripe)
+          (then_on T (BeginIs g ps kind m (begun.At stripe)) (VisitIs g ps kind m p r q) (RunIs g ps kind m stripe p r q) (λ front back starts runs. visit_so g ps kind m stripe p q r front back starts runs)) a it.mid u us begins f in
+          let rs = run_holds rack area x owns own some kind m it.mid last u v (Some (Ok done)) runs in
+          lends_far P T m v (us ++ rs) last b at q r lends (run_far P T m stripe p q r kind refl it.mid last u v us done runs one)
+      by (begun.At stripe) begins visit.Over not (Some (Err why), last, runs, lends) f = absurd lends
+      by (begun.At stripe) begins visit.Paused not (Some (Err why), last, runs, lends) f = absurd lends
+      by (begun.At stripe) begins (visit.Stopped cause) not (Some (Err why), last, runs, lends) f = absurd (not cause refl)
+      by (begun.At stripe) begins r not (None, last, runs, lends) f = absurd lends
+      by begun.Nothing begins visit.Over not is f =
+          still P T it.mid b u v us is.0 is.1
+          (begun_far P (Then (VisitIs g ps kind m p visit.Over q) T) T m begun.Nothing (then_end T (BeginIs g ps kind m begun.Nothing) (VisitIs g ps kind m p visit.Over q) (λ hs over. inr (is.2, over.0, over.1))) a it.mid u us begins f)
+      by begun.Nothing begins visit.Paused not is f = absurd is
+      by begun.Nothing begins (visit.Stopped cause) not is f = absurd is
+      by (begun.Stopped why) begins (visit.Stopped cause) not is f = absurd (not cause refl)
+      by (begun.Stopped why) begins visit.Over not is f = absurd is
+      by (begun.Stopped why) begins visit.Paused not is f = absurd is
+
+  -- or is stopped
+  visit_stops : {I : Type 0} (P : I → List Hold → Type 0) (i : I) (m : ℕ) (why : SyncFault) (a b : Locked R A G W) (u v : Uber A) (p q : Progress) (us : List Hold) (it : Visit_here m a u p (visit.Stopped why) b v q)
+      → Came P (Then (VisitIs g ps kind m p (visit.Stopped why) q) Nothing) a u us → Says rack area x old b (us ++ visit_holds rack area x owns own some kind m a b u v p q (Some (visit.Stopped why)) it) (But (P i))
+  visit_stops {I} P i m why a b u v p q us it f = by it.start it.begins it.behind
+    where
+      T : I → List Hold → Type 0
+      T = Nothing
+
+      sync_stops : (of : PassKind) (same : of ≡ kind) (cause : SyncFault) → why ≡ cause → (stripe : ℕ) (last : Locked R A G W) → b ≡ last
+          → (runs : RunsBy rack area lane_last (LaneWent rack area) true owns (Syncs_in rack area x owns own some) of m it.mid u (Some (Err cause)) last v) → Came P (Then (RunIs g ps kind m stripe p (visit.Stopped why) q) T) it.mid u us
+          → Says rack area x old b (us ++ run_holds rack area x owns own some of m it.mid last u v (Some (Err cause)) runs) (But (P i))
+      sync_stops Rebuild same cause is stripe last at runs f =
+          subst (λ s. Says rack area x old s (us ++ run_holds rack area x owns own some Rebuild m it.mid last u v (Some (Err cause)) runs) (But (P i))) (sym at)
+          (ready_stops P i m it.mid last u v us cause runs
+          (far_as rack area x owns own n_all refl some old old_all old_many P (Then (RunIs g ps kind m stripe p (visit.Stopped why) q) T) P (Then (Readying g ps m (end_by cause)) T) it.mid u us f
+          (λ left leads j rest z. leads j rest (z.0, z.1, z.2, inr (subst (λ k. passes.ReadyPhase g ps k m z.0 (end_by why)) same (subst (λ w. Readying g ps m (end_by w) z.0) (sym is) z.3)), z.4))))
+      sync_stops Heal same cause is stripe last at runs f = absurd (let none = runs.0 in cc)
+
+      by : (start : Begun) → BeginsBy rack area lane_last (LaneWent rack area) true owns kind m a start it.mid
+          → (is : VisitsBehind rack area lane_last (LaneWent rack area) true owns (Syncs_in rack area x owns own some) x.geometry kind m it.mid u p start (Some (visit.Stopped why)) b v q)
+          → Says rack area x old b (us ++ behind_holds rack area x owns own some kind m it.mid b u v p q start (Some (visit.Stopped why)) is) (But (P i))
+      by (begun.At stripe) begins (made, last, runs, lends) = at_stripe made last runs lends
+        where
+          one : Came P (Then (RunIs g ps kind m stripe p (visit.Stopped why) q) T) it.mid u us
+          one = begun_far P (Then (VisitIs g ps kind m p (visit.Stopped why) q) T) (Then (RunIs g ps kind m stripe p (visit.Stopped why) q) T) m (begun.At stripe)
+              (then_on T (BeginIs g ps kind m (begun.At stripe)) (VisitIs g ps kind m p (visit.Stopped why) q) (RunIs g ps kind m stripe p (visit.Stopped why) q) (λ front back starts runs. visit_so g ps kind m stripe p q (visit.Stopped why) front back starts runs)) a it.mid u us begins f
+
+          at_stripe : (made : Option (Result Unit SyncFault)) (last : Locked R A G W) (runs : RunsBy rack area lane_last (LaneWent rack area) true owns (Syncs_in rack area x owns own some) kind m it.mid u made last v)
+              → LendsBehind rack area lane_last (LaneWent rack area) true owns x.geometry kind m stripe last p made (Some (visit.Stopped why)) b q → Says rack area x old b (us ++ run_holds rack area x owns own some kind m it.mid last u v made runs) (But (P i))
+          at_stripe (Some (Ok done)) last runs lends =
+              let rs = run_holds rack area x owns own some kind m it.mid last u v (Some (Ok done)) runs in
+              far_done rack area x owns own n_all refl some old old_all old_many P T i b v (us ++ rs) refl
+              (lends_far P T m v (us ++ rs) last b (begun_at g m stripe p) q (visit.Stopped why) lends (run_far P T m stripe p q (visit.Stopped why) kind refl it.mid last u v us done runs one))
+          at_stripe (Some (Err cause)) last runs lends = sync_stops kind refl cause lends.0 stripe last lends.1 runs one
+          at_stripe None last runs lends = absurd lends
+      by begun.Nothing begins is = absurd is
+      by (begun.Stopped cause) begins is =
+          far_done rack area x owns own n_all refl some old old_all old_many P T i b v (us ++ []) refl
+          (still P T it.mid b u v us is.1 is.2
+          (begun_far P (Then (VisitIs g ps kind m p (visit.Stopped why) q) T) T m (begun.Stopped cause)
+          (then_end T (BeginIs g ps kind m (begun.Stopped cause)) (VisitIs g ps kind m p (visit.Stopped why) q) (λ hs none. inr (stops_at g ps kind m hs why (subst (λ w. passes.PlansNone g ps kind m hs (end_by w)) (sym is.0) none)))) a it.mid u us begins f))
