@@ -54,6 +54,7 @@ use Rattle.draid_lanes.proofs.RoundWords.{Says}
 use Rattle.draid_lanes.proofs.SealWords.{leaves_self}
 use Rattle.draid_lanes.proofs.SyncWords.{through_holds}
 use Rattle.draid_works.specs.Mended.{SyncsWaiting}
+use Rattle.draid_works.proofs.MendArms.{held_below}
 use Rattle.draid_works.proofs.MendFar.{But, Far, Then, far_as, far_done, far_hold, far_stop, far_sync, far_then}
 use Rattle.draid_works.proofs.MendTurns.{TellsMany}
 
@@ -362,3 +363,91 @@ module _ {R A G W : Type 0} (rack : racks.Ghosts R) (area : areas.Ghosts A) (x :
           (still P T it.mid b u v us is.1 is.2
           (begun_far P (Then (VisitIs g ps kind m p (visit.Stopped why) q) T) T m (begun.Stopped cause)
           (then_end T (BeginIs g ps kind m (begun.Stopped cause)) (VisitIs g ps kind m p (visit.Stopped why) q) (λ hs none. inr (stops_at g ps kind m hs why (subst (λ w. passes.PlansNone g ps kind m hs (end_by w)) (sym is.0) none)))) a it.mid u us begins f))
+
+  -- ---- one after another
+
+  module _ (marks : List Bool) (ys : List Metaslab) (long : length ys ≡ x.geometry.props.metaslabs) (P : VisitsEnd → List Hold → Type 0) where
+    -- the metaslabs as they were looked at
+    abbrev z : State
+    z = record x { metaslabs = ys }
+
+    abbrev pub Left : Progress → ℕ → VisitsEnd → List Hold → Type 0
+    Left at m e holds = FromOn z kind marks at m e holds
+
+    inside : (m : ℕ) (a b : Locked R A G W) (u v : Uber A) (p q : Progress) (us : List Hold) (result : Visit) → Visit_here m a u p result b v q → Came P (Left p m) a u us → (y : Metaslab) × (slice_get ys m ≡ Some y)
+    inside m a b u v p q us result it f =
+        let once = it.begins.2 in
+        let below = held_below rack area lane_last (LaneWent rack area) true owns n_all (λ before after. StartsIn rack area kind before it.begins.0 after) a m it.mid once f.beyond in
+        present ys m (omega (arith, below, long))
+
+    at_far : (mark : Bool) (m : ℕ) → slice_index_or marks m false ≡ mark → (a b : Locked R A G W) (u v : Uber A) (p q : Progress) (us : List Hold) (it : VisitedAt rack area lane_last (LaneWent rack area) true owns (Syncs_in rack area x owns own some) x.geometry kind mark m a u p b v q) → Came P (Left p m) a u us
+        → Came P (Left q (m + 1)) b v (us ++ at_holds rack area x owns own some kind mark m a b u v p q it)
+    at_far true m marked a b u v p q us it f =
+        let y = inside m a b u v p q us visit.Over it f in
+        visit_far P (Left q (m + 1)) m visit.Over (λ why is. absurd (cc)) a b u v p q us it
+        (far_then rack area x owns own n_all refl some old old_all old_many P (Left p m) (Left q (m + 1)) (VisitIs g ps kind m p visit.Over q) (λ e front rest visits is. over_then z kind marks m y.0 y.1 marked p q e front rest visits is) a u us f)
+    at_far false m none a b u v p q us it f =
+        still P (Left q (m + 1)) a b u v us it.0 it.1
+        (far_as rack area x owns own n_all refl some old old_all old_many P (Left p m) P (Left q (m + 1)) a u us f (λ left leads e rest is. leads e rest (by (cases_lt m (length ys)) e rest (subst (λ r. Left r (m + 1) e rest) it.2 is))))
+      where
+        by : (m < length ys) ⊎ (length ys ≤ m) → (e : VisitsEnd) (rest : List Hold) → Left p (m + 1) e rest → Left p m e rest
+        by (inl less) e rest is = (let y = present ys m less in passed_by z kind marks m y.0 y.1 p e rest (λ marked. true≢false (sym marked ∙ none)) is)
+        by (inr past) e rest is = past_end z kind marks m p e rest past is
+
+    upto_far : (first n : ℕ) (a b : Locked R A G W) (u v : Uber A) (p q : Progress) (us : List Hold) (it : VisitedUpto rack area lane_last (LaneWent rack area) true owns (Syncs_in rack area x owns own some) x.geometry kind marks first n a u p b v q) → Came P (Left p first) a u us
+        → Came P (Left q (first + n)) b v (us ++ upto_holds rack area x owns own some kind marks first n a b u v p q it)
+    upto_far first zero a b u v p q us it f =
+        still P (Left q (first + 0)) a b u v us it.0 it.1
+        (subst (λ r. Came P (Left r (first + 0)) a u us) (sym it.2) (subst (λ k. Came P (Left p k) a u us) (let same : first ≡ first + 0 = omega arith in same) f))
+    upto_far first (suc n) a b u v p q us (mid, w, r, front, it) f =
+        let fs = upto_holds rack area x owns own some kind marks first n a mid u w p r front in
+        let vs = at_holds rack area x owns own some kind (slice_index_or marks (first + n) false) (first + n) mid b w v r q it in
+        subst (λ k. Came P (Left q k) b v (us ++ (fs ++ vs))) (let same : first + n + 1 ≡ first + suc n = omega arith in same)
+        (subst (Came P (Left q (first + n + 1)) b v) (append_assoc us fs vs)
+        (at_far (slice_index_or marks (first + n) false) (first + n) refl mid b w v r q (us ++ fs) it (upto_far first n a mid u w p r us front f)))
+
+    -- ---- their end
+
+    abbrev pub EndsSo : Visit → Progress → List Hold → Type 0
+    EndsSo (visit.Stopped why) q hs = (t : passes.Tally) × P (record { o = passes.Stopped (end_by why); tally = t }) hs
+    EndsSo result q hs = P (record { o = outcome_by result; tally = tally_of q }) hs
+
+    -- those below the one that came to another end were visited
+    front_far : (first place : ℕ) (result : Option Visit) (a b : Locked R A G W) (u v : Uber A) (p q : Progress) (us : List Hold) (s : VisitStopsAt rack area lane_last (LaneWent rack area) true owns (Syncs_in rack area x owns own some) x.geometry kind marks first place a u p result b v q)
+        → Came P (Left p first) a u us → Came P (Left s.upto place) s.mid s.uber (us ++ upto_holds rack area x owns own some kind marks first s.many a s.mid u s.uber p s.upto s.front)
+    front_far first place result a b u v p q us s f =
+        subst (λ k. Came P (Left s.upto k) s.mid s.uber (us ++ upto_holds rack area x owns own some kind marks first s.many a s.mid u s.uber p s.upto s.front)) (sym s.is) (upto_far first s.many a s.mid u s.uber p s.upto us s.front f)
+
+    last_of : (left rest front back : List Hold) → rest ≡ front ++ back → back ≡ [] → left ++ front ≡ left ++ rest
+    last_of left rest front back are none = ap (λ l. left ++ l) (sym (are ∙ (ap (λ l. front ++ l) none ∙ append-nil front)))
+
+    pub visits_said : (first place : ℕ) (result : Visit) (a b : Locked R A G W) (u v : Uber A) (p q : Progress) (us : List Hold)
+        (it : VisitsBy rack area lane_last (LaneWent rack area) true owns (Syncs_in rack area x owns own some) x.geometry kind marks first a u p (Some result) place b v q) → Came P (Left p first) a u us
+        → Says rack area x old b (us ++ visits_holds rack area x owns own some kind marks first (Some result) place a b u v p q it) (But (EndsSo result q))
+    visits_said first place visit.Over a b u v p q us (many, most, front) f =
+        far_done rack area x owns own n_all refl some old old_all old_many P (Left q (first + many)) (record { o = passes.Ended; tally = tally_of q }) b v (us ++ upto_holds rack area x owns own some kind marks first many a b u v p q front)
+        (none_left z kind marks (first + many) q (omega (arith, long, most))) (upto_far first many a b u v p q us front f)
+    visits_said first place visit.Paused a b u v p q us s f =
+        let e : VisitsEnd = record { o = passes.Paused; tally = tally_of q } in
+        let fs = upto_holds rack area x owns own some kind marks first s.many a s.mid u s.uber p s.upto s.front in
+        let vs = visit_holds rack area x owns own some kind place s.mid b s.uber v s.upto q (Some visit.Paused) s.stop in
+        let one = front_far first place (Some visit.Paused) a b u v p q us s f in
+        let y = inside place s.mid b s.uber v s.upto q (us ++ fs) visit.Paused s.stop one in
+        let Q : Unit {0} → List Hold → Type 0 = (λ i. P e) in
+        subst (λ l. Says rack area x old b l (But (P e))) (append_assoc us fs vs)
+        (far_done rack area x owns own n_all refl some old old_all old_many Q Nothing tt b v ((us ++ fs) ++ vs) refl
+        (visit_far Q Nothing place visit.Paused (λ why is. absurd (cc)) s.mid b s.uber v s.upto q (us ++ fs) s.stop
+        (far_as rack area x owns own n_all refl some old old_all old_many P (Left s.upto place) Q (Then (VisitIs g ps kind place s.upto visit.Paused q) Nothing) s.mid s.uber (us ++ fs) one
+        (λ left leads i rest t. subst (P e) (last_of left rest t.0 t.1 t.2 t.4) (leads e t.0 (pauses_there z kind marks place y.0 y.1 s.marked s.upto q t.0 t.3))))))
+    visits_said first place (visit.Stopped why) a b u v p q us s f =
+        let fs = upto_holds rack area x owns own some kind marks first s.many a s.mid u s.uber p s.upto s.front in
+        let vs = visit_holds rack area x owns own some kind place s.mid b s.uber v s.upto q (Some (visit.Stopped why)) s.stop in
+        let one = front_far first place (Some (visit.Stopped why)) a b u v p q us s f in
+        let y = inside place s.mid b s.uber v s.upto q (us ++ fs) (visit.Stopped why) s.stop one in
+        let Q : Unit {0} → List Hold → Type 0 = (λ i. EndsSo (visit.Stopped why) q) in
+        subst (λ l. Says rack area x old b l (But (EndsSo (visit.Stopped why) q))) (append_assoc us fs vs)
+        (visit_stops Q tt place why s.mid b s.uber v s.upto q (us ++ fs) s.stop
+        (far_as rack area x owns own n_all refl some old old_all old_many P (Left s.upto place) Q (Then (VisitIs g ps kind place s.upto (visit.Stopped why) q) Nothing) s.mid s.uber (us ++ fs) one
+        (λ left leads i rest t. (
+          let w = stops_there z kind marks place y.0 y.1 s.marked s.upto q why t.0 t.3 in
+          (w.0, subst (P (record { o = passes.Stopped (end_by why); tally = w.0 })) (last_of left rest t.0 t.1 t.2 t.4) (leads (record { o = passes.Stopped (end_by why); tally = w.0 }) t.0 w.1))))))
