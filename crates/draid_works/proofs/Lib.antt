@@ -6,6 +6,8 @@ pub mod MendArms
 pub mod MendBegun
 pub mod MendFails
 pub mod MendFar
+pub mod MendLooks
+pub mod MendSays
 pub mod MendStays
 pub mod MendSteps
 pub mod MendSyncs
