@@ -78,6 +78,10 @@ module _ {R A S : Type 0} (rack : racks.Ghosts R) (area : areas.Ghosts A) (last 
     pub marked_alone : (count : ℕ) (a b : S) (marks : List Bool) → FindsMarks rack area last went shared owns count a (Some marks) b → AllOnly {R = R} {A = A} kind (last a) → AllOnly {R = R} {A = A} kind (last b)
     marked_alone count a b marks sees alone = only_kept a b (sees_kept marks count a b sees) alone
 
+    pub unmarked_alone : (count : ℕ) (a b : S) → FindsMarks rack area last went shared owns count a None b → AllOnly {R = R} {A = A} kind (last a) → AllOnly {R = R} {A = A} kind (last b)
+    unmarked_alone count a b each alone =
+        only_kept a b (round_kept rack area last went shared owns (KeptFor kind) law (λ none x y. SeesRebuilt rack area false x y) (λ n x y saw. still_for x y saw.same) count 0 a b each) alone
+
 -- ---- visits, one after another
 
 module _ {R A S : Type 0} (rack : racks.Ghosts R) (area : areas.Ghosts A) (last : S → ℕ → Option (Shard R A)) (went : S → ℕ → Shard R A → Shard R A → S → Type 0) (shared : Bool) (owns : ℕ → Bool) (syncs : (ℕ → Bool) → S → Uber A → Option (Result Synced SyncFault) → S → Uber A → Type 0) (geometry : Geometry) (a : S) (u : Uber A) (was : Mending) where

@@ -7,6 +7,7 @@ pub mod MendBegun
 pub mod MendFails
 pub mod MendFar
 pub mod MendLooks
+pub mod MendRebuilt
 pub mod MendSays
 pub mod MendStays
 pub mod MendSteps

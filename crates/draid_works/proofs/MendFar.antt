@@ -68,6 +68,10 @@ none_last hold (t ∷ ts) none =
     let z = last_of t ts in
     absurd (some_places t.place (places_in ts) (ap places_in (sym none) ∙ (ap (λ l. places_in (add_last hold l)) z.2 ∙ (last_places hold z.0 z.1 ∙ ap places_in (sym z.2)))))
 
+pub none_look : (m : ℕ) (o : Option Metaslab) (ts : List LaneTurn) → with_look m o ts ≡ [] → ts ≡ []
+none_look m None ts none = none
+none_look m (Some y) ts none = none_last (On (view_of m y) Looked) ts none
+
 module _ {R A G W : Type 0} (rack : racks.Ghosts R) (area : areas.Ghosts A) (x : State) (owns : ℕ → Bool) (own : owns groups_number ≡ true) (count : ℕ) (all : count ≡ x.geometry.props.metaslabs) (some : 0 < count) (old : Locked R A G W) (old_all : count ≡ length old.turns.now)
     (old_many : length old.passes.items ≡ length old.turns.now) where
   abbrev pub Ready : Locked R A G W → Uber A → Type 0
@@ -134,10 +138,6 @@ module _ {R A G W : Type 0} (rack : racks.Ghosts R) (area : areas.Ghosts A) (x :
     closed_at : (b : Locked R A G W) (ys : List Metaslab) → ((m : ℕ) (y : Metaslab) → slice_get ys m ≡ Some y → (shard : Shard R A) → lane_last b m ≡ Some shard → CameTo rack area x m shard y) → (found : Option ℕ) (m : ℕ) (y : Metaslab) → FoundAt rack area x owns own count b found m
         → slice_get ys m ≡ Some y → y.world.closing ≡ found
     closed_at b ys each found m y f at = (let is = came_is rack area x m f.shard y (each m y at f.shard f.there) in is.stands.is_in.closing ∙ f.closing)
-
-    none_look : (m : ℕ) (o : Option Metaslab) (ts : List LaneTurn) → with_look m o ts ≡ [] → ts ≡ []
-    none_look m None ts none = none
-    none_look m (Some y) ts none = none_last (On (view_of m y) Looked) ts none
 
     -- each metaslab is looked at, and then it comes
     record Synced_to (b c : Locked R A G W) (us : List Hold) (result : Result Synced SyncFault) : Type 0 where

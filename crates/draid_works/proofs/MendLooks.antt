@@ -28,7 +28,7 @@ use Rattle.draid_pool.specs.Rounds.{EachIs, HeldEach, NoneBeyond}
 use Rattle.draid_pool.specs.Views.{seen_at}
 use Rattle.draid_pool.specs.declared.cell.Cell.{Cell}
 use Rattle.draid_pool.proofs.Holding.{some_same}
-use Rattle.draid_pool.proofs.Looking.{none_seen}
+use Rattle.draid_pool.proofs.Looking.{looks_at, none_seen}
 use Rattle.draid_pool.proofs.SyncWhole.{KeepsQuiet, beyond_on, quiet_on}
 use Rattle.draid_visits.specs.Looks.{FindsMarks, FindsPass, SeesEach, SeesPass, SeesRebuilt}
 use Rattle.draid_visits.specs.Visiting.{IsOnly}
@@ -40,9 +40,11 @@ use Rattle.draid_lanes.specs.declared.locked.Locked.{Locked}
 use Rattle.draid_lanes.proofs.OneTurn.{CameTo, Once, came_is}
 use Rattle.draid_lanes.proofs.OnlyLooking.{same_looks}
 use Rattle.draid_lanes.proofs.RoundWords.{Says, said_one}
-use Rattle.draid_lanes.proofs.SealWords.{leaves_look}
+use Rattle.draid_lanes.proofs.LooksBehind.{look_turns, now_all, traced_looks}
+use Rattle.draid_lanes.proofs.SealWords.{leaves_look, leaves_self, leaves_then}
 use Rattle.draid_lanes.proofs.Tracing.{traced_then}
 use Rattle.draid_works.proofs.MendArms.{held_below}
+use Rattle.draid_works.proofs.MendFar.{none_look}
 
 -- a hold that changed nothing
 same_quiet : {R A : Type 0} (rack : racks.Ghosts R) (owns : ℕ → Bool) (before after : Shard R A) → Valid rack before → after ≡ before → KeepsQuiet rack owns before after
@@ -97,6 +99,35 @@ module _ {R A G W : Type 0} (rack : racks.Ghosts R) (area : areas.Ghosts A) (x :
   pub marks_looked : (found : Option (List Bool)) (b c : Locked R A G W) (u : Uber A) → FindsMarks rack area lane_last (LaneWent rack area) true owns x.geometry.props.metaslabs b found c → Looked b u → Looked c u
   marks_looked (Some marks) b c u each l = sees_looked marks x.geometry.props.metaslabs b c u each l
   marks_looked None b c u each l = look_round (λ none before after. SeesRebuilt rack area false before after) (λ n before after sees. sees.same) x.geometry.props.metaslabs 0 b c u each l
+
+  -- ---- a look at each
+
+  -- it only looked, and at last at each metaslab
+  pub record LookedAll (b : Locked R A G W) : Type 0 where
+    pub ys : List Metaslab
+    pub long : length ys ≡ x.geometry.props.metaslabs
+    pub each : (m : ℕ) (y : Metaslab) → slice_get ys m ≡ Some y → (shard : Shard R A) → lane_last b m ≡ Some shard → CameTo rack area x m shard y
+    pub said : Says rack area x old b [] (λ hs. LeavesLooks hs (looks_at 0 ys))
+    pub turned : (m : ℕ) (pass : Caller (Past (Cell R A))) → slice_get old.passes.items m ≡ Some pass → said.turns m ≡ [] → ⊥
+
+  pub looked_all : x.geometry.props.metaslabs ≡ length old.turns.now → length old.passes.items ≡ length old.turns.now → (b : Locked R A G W) (u : Uber A) → Looked b u → LookedAll b
+  looked_all old_all old_many b u l =
+      let s = l.said in
+      let count = x.geometry.props.metaslabs in
+      let now = now_all rack area x old b s.turns s.holds [] s.traced count old_all old_many l.turned s.came in
+      record {
+        ys = now.list;
+        long = now.many;
+        each = now.each;
+        said = record {
+          turns = look_turns rack area x old b s.turns s.holds [] s.traced count old_all old_many l.turned s.came;
+          holds = s.holds ++ looks_at 0 now.list;
+          traced = traced_looks rack area x old b s.turns s.holds [] s.traced count old_all old_many l.turned s.came;
+          done = leaves_then s.holds [] (looks_at 0 now.list) (looks_at 0 now.list) s.done (leaves_self (looks_at 0 now.list));
+          came = s.came;
+        };
+        turned = λ k pass at none. l.turned k pass at (none_look k (slice_get now.list k) (s.turns k) none);
+      }
 
   -- ---- what is known of each then
 
