@@ -10,11 +10,17 @@ pub mod LaneTells
 pub mod MendArms
 pub mod MendBegun
 pub mod MendFails
+pub mod MendFar
 pub mod MendLater
+pub mod MendLooks
+pub mod MendRebuilt
+pub mod MendSays
 pub mod MendStays
 pub mod MendSteps
 pub mod MendSyncs
 pub mod MendThrough
+pub mod MendTurns
+pub mod MendWords
 pub mod Mended
 pub mod Replied
 pub mod ScrubEnds
