@@ -6,6 +6,7 @@ pub mod MendArms
 pub mod MendBegun
 pub mod MendFails
 pub mod MendFar
+pub mod MendLeads
 pub mod MendLooks
 pub mod MendRebuilt
 pub mod MendSays
@@ -13,6 +14,7 @@ pub mod MendStays
 pub mod MendSteps
 pub mod MendSyncs
 pub mod MendThrough
+pub mod MendTold
 pub mod MendTurns
 pub mod MendWords
 pub mod Mended

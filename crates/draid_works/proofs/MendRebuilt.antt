@@ -141,14 +141,17 @@ module _ {R A G W : Type 0} (rack : racks.Ghosts R) (area : areas.Ghosts A) (x :
       (λ hs leaves. (
         looks_at 0 all.ys,
         leaves,
-        (refl, record {
-          views = seen_at 0 all.ys;
-          rest = [];
-          t = passes.nothing_yet;
-          finds = record { looks = looks_at 0 all.ys; are = sym (append-nil (looks_at 0 all.ys)); looked = looks_alone all.ys all.long; alone = none_of_kind rack area x owns own old b u two.ready all.ys all.long all.each Heal alone };
-          visits = unvisited x Rebuild (passes.IsRebuilt x.geometry x.perms) (seen_at 0 all.ys) limit passes.nothing_yet unseen;
-          none = refl;
-        }),
+        (
+          refl,
+          record {
+            views = seen_at 0 all.ys;
+            rest = [];
+            t = passes.nothing_yet;
+            finds = record { looks = looks_at 0 all.ys; are = sym (append-nil (looks_at 0 all.ys)); looked = looks_alone all.ys all.long; alone = none_of_kind rack area x owns own old b u two.ready all.ys all.long all.each Heal alone };
+            visits = unvisited x Rebuild (passes.IsRebuilt x.geometry x.perms) (seen_at 0 all.ys) limit passes.nothing_yet unseen;
+            none = refl;
+          },
+        ),
       ))
 
   -- one has a scrub
@@ -179,17 +182,20 @@ module _ {R A G W : Type 0} (rack : racks.Ghosts R) (area : areas.Ghosts A) (x :
         let same : stop.stop.after ≡ s.shard = some_same stop.stop.after s.shard (sym here_is ∙ s.there) in
         let is = subst (λ (t : Shard R A). IsMetaslab rack area (part_in x stop.place) s.pieces t y.0) (sym same ∙ stop.stop.did.same) s.is in
         let lowest : passes.IsLowestPassOf Heal (seen_at 0 all.ys) (0 + stop.place) number =
-            lowest_seen rack area Heal 0 stop.place number all.ys y.0 (pass_in stop.stop.before.slots has.pass) y.1 (is.stands.is_in.pass ∙ ap (option_map (pass_in stop.stop.before.slots)) has.has) has.kind_is has.number_is
-            (λ j z less at bad. (let t = seen j z at in kind_unseen rack area Heal x j t.shard z t.pieces t.is (below_alone j t.shard less t.there) (0 + j) bad)) in
+        lowest_seen rack area Heal 0 stop.place number all.ys y.0 (pass_in stop.stop.before.slots has.pass) y.1 (is.stands.is_in.pass ∙ ap (option_map (pass_in stop.stop.before.slots)) has.has) has.kind_is has.number_is
+        (λ j z less at bad. (let t = seen j z at in kind_unseen rack area Heal x j t.shard z t.pieces t.is (below_alone j t.shard less t.there) (0 + j) bad)) in
         said_as rack area x old b [] (λ hs. LeavesLooks hs (looks_at 0 all.ys)) (MendBut x Rebuild limit (Err (fault.PassThere metaslab number))) all.said
         (λ hs leaves. (
           looks_at 0 all.ys,
           leaves,
-          (refl, record {
-            views = seen_at 0 all.ys;
-            looked = looks_alone all.ys all.long;
-            lowest = subst (λ k. passes.IsLowestPassOf Heal (seen_at 0 all.ys) k number) (let place : 0 + stop.place ≡ metaslab = (let is = found.1 in omega (arith, is)) in place) lowest;
-          }),
+          (
+            refl,
+            record {
+              views = seen_at 0 all.ys;
+              looked = looks_alone all.ys all.long;
+              lowest = subst (λ k. passes.IsLowestPassOf Heal (seen_at 0 all.ys) k number) (let place : 0 + stop.place ≡ metaslab = (let is = found.1 in omega (arith, is)) in place) lowest;
+            },
+          ),
         ))
 
   -- ---- all of it

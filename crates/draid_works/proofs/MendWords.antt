@@ -449,5 +449,5 @@ module _ {R A G W : Type 0} (rack : racks.Ghosts R) (area : areas.Ghosts A) (x :
         (visit_stops Q tt place why s.mid b s.uber v s.upto q (us ++ fs) s.stop
         (far_as rack area x owns own n_all refl some old old_all old_many P (Left s.upto place) Q (Then (VisitIs g ps kind place s.upto (visit.Stopped why) q) Nothing) s.mid s.uber (us ++ fs) one
         (λ left leads i rest t. (
-          let w = stops_there z kind marks place y.0 y.1 s.marked s.upto q why t.0 t.3 in
-          (w.0, subst (P (record { o = passes.Stopped (end_by why); tally = w.0 })) (last_of left rest t.0 t.1 t.2 t.4) (leads (record { o = passes.Stopped (end_by why); tally = w.0 }) t.0 w.1))))))
+        let w = stops_there z kind marks place y.0 y.1 s.marked s.upto q why t.0 t.3 in
+        (w.0, subst (P (record { o = passes.Stopped (end_by why); tally = w.0 })) (last_of left rest t.0 t.1 t.2 t.4) (leads (record { o = passes.Stopped (end_by why); tally = w.0 }) t.0 w.1))))))
