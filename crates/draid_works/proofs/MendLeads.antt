@@ -1,7 +1,6 @@
 -- A rebuild or a scrub in a lane, whatever state of the whole pool stood as the uberblock was taken: its holds of the uberblock lead on.
-use Rattle.std.proofs.Common.{◌≡◌, ◌<◌, ◌≤◌, ◌+◌, ◌++◌, ◌∷◌, ◌∙◌, [], inl, inr, ℕ, zero, suc, Bool, true, false, List, Option, Some, None, Ok, Err, arith, refl, sym, ap, subst, length, slice_index_or}
+use Rattle.std.proofs.Common.{◌≡◌, ◌<◌, ◌+◌, ◌++◌, ◌∙◌, [], inl, inr, ℕ, zero, suc, Bool, true, false, List, Option, Some, None, Ok, Err, refl, sym, subst, length, slice_index_or}
 use Rattle.std.specs.Prelude.{Result}
-use Rattle.std.proofs.lemmas.List.{append-nil}
 use Rattle.draid_names.specs.declared.pass_kind.PassKind.{PassKind}
 use Rattle.draid_names.specs.declared.pass_kind.PassKind.TheVariants.{Heal, Rebuild}
 use Rattle.draid_rack.specs.declared.Rack as racks
@@ -24,7 +23,7 @@ use Rattle.draid_pool.proofs.SyncWhole.{beyond_on, quiet_on}
 use Rattle.draid_visits.specs.Readies.{ReadiesBy, ReadiesIn, Waited}
 use Rattle.draid_visits.specs.Starts.{BeginsBy, StartsIn}
 use Rattle.draid_visits.specs.Units.{LendsBy, Lent, UnitIn}
-use Rattle.draid_visits.specs.Visits.{AnswersBy, LendsBehind, RunsBy, VisitBy, VisitStopsAt, VisitedAt, VisitedUpto, VisitsBehind, VisitsBy}
+use Rattle.draid_visits.specs.Visits.{AnswersBy, RunsBy, VisitStopsAt, VisitedAt, VisitedUpto, VisitsBehind, VisitsBy}
 use Rattle.draid_visits.specs.declared.mending.Mending.{Mending}
 use Rattle.draid_visits.specs.declared.progress.Progress.{Progress}
 use Rattle.draid_visits.specs.declared.progress.Visit.{Visit}
@@ -33,13 +32,12 @@ use Rattle.draid_visits.specs.declared.rebuilding.MendFault.{MendFault}
 use Rattle.draid_visits.specs.declared.rebuilding.Mended.{Mended}
 use Rattle.draid_visits.specs.declared.starting.Begun.{Begun}
 use Rattle.draid_visits.specs.declared.starting.Begun.TheVariants as begun
-use Rattle.draid_visits.specs.declared.steps.Next.{Next}
 use Rattle.draid_visits.specs.declared.steps.Next.TheVariants as next
 use Rattle.draid_visits.proofs.MendKeeps.{Leaves, leaves_readies, leaves_starts, leaves_unit, rebuild_begins, scrub_begins}
 use Rattle.draid_lanes.specs.Governing.{lane_last}
 use Rattle.draid_lanes.specs.Waits.{LaneWent}
 use Rattle.draid_lanes.specs.declared.locked.Locked.{Locked}
-use Rattle.draid_lanes.proofs.GovernedGroup.{Governs, LeadsUber, governs_on, leads_self}
+use Rattle.draid_lanes.proofs.GovernedGroup.{Governs, LeadsUber, governs_on}
 use Rattle.draid_lanes.proofs.GovernedHolds.{IsGood, good_governed, held_knows}
 use Rattle.draid_lanes.proofs.GovernedSync.{through_lead}
 use Rattle.draid_lanes.proofs.OneTurn.{Once}

@@ -1,6 +1,6 @@
 -- A lane's rebuild, from the looks of its meeting on: it is said to be one, but for looks.
-use Rattle.std.proofs.Common.{◌≡◌, ◌==◌, ◌<◌, ◌≤◌, ◌+◌, ◌++◌, ◌∷◌, ◌∙◌, [], inl, inr, ℕ, zero, suc, Bool, true, false, List, Option, Some, None, Ok, Err, arith, refl, sym, ap, subst, length, slice_index_or, if◌then◌else◌, eq-eqb, ne_eqb}
-use Rattle.std.specs.Prelude.{◌↔◌, IsTrue, Result, option_map, slice_get}
+use Rattle.std.proofs.Common.{◌≡◌, ◌<◌, ◌+◌, ◌++◌, ◌∷◌, ◌∙◌, [], inl, inr, ℕ, Bool, true, false, List, Option, Some, None, Err, arith, refl, sym, ap, subst, length, eq-eqb, ne_eqb, if◌then◌else◌}
+use Rattle.std.specs.Prelude.{◌↔◌, Result, option_map}
 use Rattle.std.proofs.lemmas.Bool.{true≢false}
 use Rattle.std.proofs.lemmas.List.{append-nil}
 use Rattle.draid_names.specs.declared.pass_kind.PassKind.{PassKind}
@@ -25,11 +25,10 @@ use Rattle.draid_pool.proofs.Holding.{some_same}
 use Rattle.draid_pool.proofs.Lists.{present}
 use Rattle.draid_pool.proofs.Looking.{looked, looks_at, none_seen}
 use Rattle.draid_visits.specs.Looks.{FindsMarks, FindsPass, SeesPass}
-use Rattle.draid_visits.specs.Rebuilding.{IsAnswer, RebuildDoes}
 use Rattle.draid_visits.specs.Steps.{NextIs}
 use Rattle.draid_visits.specs.Units.{UnitIn}
 use Rattle.draid_visits.specs.Visiting.{IsMarked, IsOnly, end_by, nothing_within, tally_of}
-use Rattle.draid_visits.specs.Visits.{AllOnly, AnswersBy, MendsBy, VisitsBy}
+use Rattle.draid_visits.specs.Visits.{AnswersBy, MendsBy, VisitsBy}
 use Rattle.draid_visits.specs.declared.mending.Mending.{Mending}
 use Rattle.draid_visits.specs.declared.progress.Progress.{Progress}
 use Rattle.draid_visits.specs.declared.progress.Visit.{Visit}
@@ -49,8 +48,8 @@ use Rattle.draid_lanes.proofs.RoundWords.{Says, said_as}
 use Rattle.draid_works.specs.Mended.{BeginsMend, MendsThrough, SyncsWaiting}
 use Rattle.draid_works.specs.Told.{MendBut}
 use Rattle.draid_works.proofs.MendFar.{But, Far}
-use Rattle.draid_works.proofs.MendLooks.{IsSeen, Looked, LookedAll, finds_looked, is_seen, looked_all, marks_looked, none_of_kind, sees_marked, sees_unmarked}
-use Rattle.draid_works.proofs.MendSays.{EndsIn, Whole, answers}
+use Rattle.draid_works.proofs.MendLooks.{Looked, LookedAll, finds_looked, is_seen, looked_all, marks_looked, none_of_kind, sees_marked, sees_unmarked}
+use Rattle.draid_works.proofs.MendSays.{EndsIn, answers}
 use Rattle.draid_works.proofs.MendTurns.{TellsMany}
 use Rattle.draid_works.proofs.MendWords.{EndsSo, Left, tells_stripe, visits_holds, visits_said}
 
