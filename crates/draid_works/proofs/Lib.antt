@@ -12,6 +12,7 @@ pub mod MendBegun
 pub mod MendFails
 pub mod MendFar
 pub mod MendLater
+pub mod MendLeads
 pub mod MendLooks
 pub mod MendRebuilt
 pub mod MendSays
@@ -19,6 +20,7 @@ pub mod MendStays
 pub mod MendSteps
 pub mod MendSyncs
 pub mod MendThrough
+pub mod MendTold
 pub mod MendTurns
 pub mod MendWords
 pub mod Mended

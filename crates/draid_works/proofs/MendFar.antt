@@ -1,5 +1,5 @@
 -- How far a lane came with what it is said to do, from the looks of its meeting on: with whatever is left to do, that is the whole.
-use Rattle.std.proofs.Common.{◌≡◌, ◌<◌, ◌≤◌, ◌+◌, ◌++◌, ◌∷◌, ◌∙◌, [], inl, inr, ℕ, Bool, true, List, Option, Some, None, Ok, Err, arith, refl, sym, ap, subst, length}
+use Rattle.std.proofs.Common.{◌≡◌, ◌<◌, ◌+◌, ◌++◌, ◌∷◌, ◌∙◌, [], ℕ, Bool, true, List, Option, Some, None, Ok, Err, refl, sym, ap, subst, length}
 use Rattle.std.specs.Prelude.{Result, slice_get}
 use Rattle.std.proofs.lemmas.List.{append-nil, append_assoc}
 use Rattle.draid_rack.specs.declared.Rack as racks
@@ -22,7 +22,6 @@ use Rattle.draid_pool.specs.Syncing.{end_of}
 use Rattle.draid_pool.specs.declared.cell.Cell.{Cell}
 use Rattle.draid_pool.specs.declared.fault.SyncFault.{SyncFault}
 use Rattle.draid_pool.specs.declared.fault.Synced.{Synced}
-use Rattle.draid_pool.proofs.Holding.{some_same}
 use Rattle.draid_pool.proofs.Looking.{looks_at}
 use Rattle.draid_pool.proofs.SyncWhole.{KeepsQuiet, beyond_on, quiet_on}
 use Rattle.draid_lanes.specs.Governing.{lane_last}
@@ -33,7 +32,7 @@ use Rattle.draid_lanes.proofs.FinishWords.{FoundAt}
 use Rattle.draid_lanes.proofs.LaneSays.{sync_but}
 use Rattle.draid_lanes.specs.Traces.{LaneTurn, places_in}
 use Rattle.draid_lanes.proofs.LooksBehind.{add_last, last_places, look_turns, now_all, traced_looks, with_look}
-use Rattle.draid_lanes.proofs.OneTurn.{CameTo, HasCame, Once, came_is}
+use Rattle.draid_lanes.proofs.OneTurn.{CameTo, Once, came_is}
 use Rattle.draid_lanes.proofs.RoundWords.{Says, said_as}
 use Rattle.draid_lanes.proofs.SealWords.{leaves_then}
 use Rattle.draid_lanes.proofs.SyncThrough.{through_next}

@@ -1,5 +1,5 @@
 -- A lane that looks for the metaslabs that a rebuild or a scrub is to visit.
-use Rattle.std.proofs.Common.{◌≡◌, ◌<◌, ◌≤◌, ◌+◌, ◌++◌, ◌∷◌, ◌∙◌, [], inl, inr, ℕ, zero, suc, Bool, true, false, List, Option, Some, None, arith, refl, sym, ap, subst, length, slice_index_or, if◌then◌else◌, eq-eqb, ne_eqb}
+use Rattle.std.proofs.Common.{◌≡◌, ◌<◌, ◌+◌, ◌++◌, ◌∷◌, ◌∙◌, [], inl, ℕ, zero, suc, Bool, true, false, List, Option, Some, None, arith, refl, sym, ap, subst, length, slice_index_or, eq-eqb, ne_eqb, if◌then◌else◌}
 use mathlib.Core.Logic.{dite}
 use native.Mathlib.Decide.{ℕ_discrete}
 use Rattle.std.specs.Prelude.{◌↔◌, IsTrue, slice_get}
@@ -8,7 +8,7 @@ use Rattle.draid_names.specs.declared.pass_kind.PassKind.{PassKind}
 use Rattle.draid_rack.specs.declared.Rack as racks
 use Rattle.draid_area.specs.declared.Area as areas
 use Rattle.draid_segments.specs.Segments.{Pieces}
-use Rattle.draid_session.specs.Holds.{Hold, view_of}
+use Rattle.draid_session.specs.Holds.{view_of}
 use Rattle.draid_session.specs.Lanes.{IsLookOnly, LeavesLooks}
 use Rattle.draid_session.specs.Passes as passes
 use Rattle.draid_session.specs.Phases.{NoneOf}
@@ -31,7 +31,6 @@ use Rattle.draid_pool.proofs.Holding.{some_same}
 use Rattle.draid_pool.proofs.Looking.{looks_at, none_seen}
 use Rattle.draid_pool.proofs.SyncWhole.{KeepsQuiet, beyond_on, quiet_on}
 use Rattle.draid_visits.specs.Looks.{FindsMarks, FindsPass, SeesEach, SeesPass, SeesRebuilt}
-use Rattle.draid_visits.specs.Visiting.{IsOnly}
 use Rattle.draid_visits.specs.Visits.{AllOnly}
 use Rattle.draid_visits.proofs.Found.{kind_unseen}
 use Rattle.draid_lanes.specs.Governing.{lane_last}

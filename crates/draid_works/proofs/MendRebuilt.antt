@@ -1,6 +1,6 @@
 -- A lane's rebuild, from the looks of its meeting on: it is said to be one, but for looks.
-use Rattle.std.proofs.Common.{◌≡◌, ◌==◌, ◌<◌, ◌≤◌, ◌+◌, ◌++◌, ◌∷◌, ◌∙◌, [], inl, inr, ℕ, zero, suc, Bool, true, false, List, Option, Some, None, Ok, Err, arith, refl, sym, ap, subst, length, slice_index_or, if◌then◌else◌, eq-eqb, ne_eqb}
-use Rattle.std.specs.Prelude.{◌↔◌, IsTrue, Result, option_map, slice_get}
+use Rattle.std.proofs.Common.{◌≡◌, ◌<◌, ◌+◌, ◌++◌, ◌∷◌, ◌∙◌, [], inl, inr, ℕ, Bool, true, false, List, Option, Some, None, Err, arith, refl, sym, ap, subst, length, eq-eqb, ne_eqb, if◌then◌else◌}
+use Rattle.std.specs.Prelude.{◌↔◌, Result, option_map}
 use Rattle.std.proofs.lemmas.Bool.{true≢false}
 use Rattle.std.proofs.lemmas.List.{append-nil}
 use Rattle.draid_names.specs.declared.pass_kind.PassKind.{PassKind}
@@ -25,11 +25,10 @@ use Rattle.draid_pool.proofs.Holding.{some_same}
 use Rattle.draid_pool.proofs.Lists.{present}
 use Rattle.draid_pool.proofs.Looking.{looked, looks_at, none_seen}
 use Rattle.draid_visits.specs.Looks.{FindsMarks, FindsPass, SeesPass}
-use Rattle.draid_visits.specs.Rebuilding.{IsAnswer, RebuildDoes}
 use Rattle.draid_visits.specs.Steps.{NextIs}
 use Rattle.draid_visits.specs.Units.{UnitIn}
 use Rattle.draid_visits.specs.Visiting.{IsMarked, IsOnly, end_by, nothing_within, tally_of}
-use Rattle.draid_visits.specs.Visits.{AllOnly, AnswersBy, MendsBy, VisitsBy}
+use Rattle.draid_visits.specs.Visits.{AnswersBy, MendsBy, VisitsBy}
 use Rattle.draid_visits.specs.declared.mending.Mending.{Mending}
 use Rattle.draid_visits.specs.declared.progress.Progress.{Progress}
 use Rattle.draid_visits.specs.declared.progress.Visit.{Visit}
@@ -49,8 +48,8 @@ use Rattle.draid_lanes.proofs.RoundWords.{Says, said_as}
 use Rattle.draid_works.specs.Mended.{BeginsMend, MendsThrough, SyncsWaiting}
 use Rattle.draid_works.specs.Told.{MendBut}
 use Rattle.draid_works.proofs.MendFar.{But, Far}
-use Rattle.draid_works.proofs.MendLooks.{IsSeen, Looked, LookedAll, finds_looked, is_seen, looked_all, marks_looked, none_of_kind, sees_marked, sees_unmarked}
-use Rattle.draid_works.proofs.MendSays.{EndsIn, Whole, answers}
+use Rattle.draid_works.proofs.MendLooks.{Looked, LookedAll, finds_looked, is_seen, looked_all, marks_looked, none_of_kind, sees_marked, sees_unmarked}
+use Rattle.draid_works.proofs.MendSays.{EndsIn, answers}
 use Rattle.draid_works.proofs.MendTurns.{TellsMany}
 use Rattle.draid_works.proofs.MendWords.{EndsSo, Left, tells_stripe, visits_holds, visits_said}
 
@@ -141,14 +140,17 @@ module _ {R A G W : Type 0} (rack : racks.Ghosts R) (area : areas.Ghosts A) (x :
       (λ hs leaves. (
         looks_at 0 all.ys,
         leaves,
-        (refl, record {
-          views = seen_at 0 all.ys;
-          rest = [];
-          t = passes.nothing_yet;
-          finds = record { looks = looks_at 0 all.ys; are = sym (append-nil (looks_at 0 all.ys)); looked = looks_alone all.ys all.long; alone = none_of_kind rack area x owns own old b u two.ready all.ys all.long all.each Heal alone };
-          visits = unvisited x Rebuild (passes.IsRebuilt x.geometry x.perms) (seen_at 0 all.ys) limit passes.nothing_yet unseen;
-          none = refl;
-        }),
+        (
+          refl,
+          record {
+            views = seen_at 0 all.ys;
+            rest = [];
+            t = passes.nothing_yet;
+            finds = record { looks = looks_at 0 all.ys; are = sym (append-nil (looks_at 0 all.ys)); looked = looks_alone all.ys all.long; alone = none_of_kind rack area x owns own old b u two.ready all.ys all.long all.each Heal alone };
+            visits = unvisited x Rebuild (passes.IsRebuilt x.geometry x.perms) (seen_at 0 all.ys) limit passes.nothing_yet unseen;
+            none = refl;
+          },
+        ),
       ))
 
   -- one has a scrub
@@ -179,17 +181,20 @@ module _ {R A G W : Type 0} (rack : racks.Ghosts R) (area : areas.Ghosts A) (x :
         let same : stop.stop.after ≡ s.shard = some_same stop.stop.after s.shard (sym here_is ∙ s.there) in
         let is = subst (λ (t : Shard R A). IsMetaslab rack area (part_in x stop.place) s.pieces t y.0) (sym same ∙ stop.stop.did.same) s.is in
         let lowest : passes.IsLowestPassOf Heal (seen_at 0 all.ys) (0 + stop.place) number =
-            lowest_seen rack area Heal 0 stop.place number all.ys y.0 (pass_in stop.stop.before.slots has.pass) y.1 (is.stands.is_in.pass ∙ ap (option_map (pass_in stop.stop.before.slots)) has.has) has.kind_is has.number_is
-            (λ j z less at bad. (let t = seen j z at in kind_unseen rack area Heal x j t.shard z t.pieces t.is (below_alone j t.shard less t.there) (0 + j) bad)) in
+        lowest_seen rack area Heal 0 stop.place number all.ys y.0 (pass_in stop.stop.before.slots has.pass) y.1 (is.stands.is_in.pass ∙ ap (option_map (pass_in stop.stop.before.slots)) has.has) has.kind_is has.number_is
+        (λ j z less at bad. (let t = seen j z at in kind_unseen rack area Heal x j t.shard z t.pieces t.is (below_alone j t.shard less t.there) (0 + j) bad)) in
         said_as rack area x old b [] (λ hs. LeavesLooks hs (looks_at 0 all.ys)) (MendBut x Rebuild limit (Err (fault.PassThere metaslab number))) all.said
         (λ hs leaves. (
           looks_at 0 all.ys,
           leaves,
-          (refl, record {
-            views = seen_at 0 all.ys;
-            looked = looks_alone all.ys all.long;
-            lowest = subst (λ k. passes.IsLowestPassOf Heal (seen_at 0 all.ys) k number) (let place : 0 + stop.place ≡ metaslab = (let is = found.1 in omega (arith, is)) in place) lowest;
-          }),
+          (
+            refl,
+            record {
+              views = seen_at 0 all.ys;
+              looked = looks_alone all.ys all.long;
+              lowest = subst (λ k. passes.IsLowestPassOf Heal (seen_at 0 all.ys) k number) (let place : 0 + stop.place ≡ metaslab = (let is = found.1 in omega (arith, is)) in place) lowest;
+            },
+          ),
         ))
 
   -- ---- all of it

@@ -1,5 +1,5 @@
 -- A turn of a metaslab's lock in which a lane makes several of the session's holds, one after another.
-use Rattle.std.proofs.Common.{◌≡◌, ◌==◌, ◌<◌, ◌≤◌, ◌+◌, ◌++◌, ◌∷◌, ◌∙◌, [], inr, ℕ, zero, suc, Bool, true, false, List, Option, Some, None, All, Contains, arith, refl, sym, ap, subst, length, slice_set, if◌then◌else◌, eq-eqb, ne_eqb}
+use Rattle.std.proofs.Common.{◌≡◌, ◌==◌, ◌<◌, ◌≤◌, ◌++◌, ◌∷◌, ◌∙◌, [], inr, ℕ, zero, suc, Bool, true, false, List, Some, None, Contains, arith, refl, sym, ap, subst, length, slice_set, eq-eqb, ne_eqb, if◌then◌else◌}
 use mathlib.Core.Logic.{dite}
 use native.Mathlib.Decide.{ℕ_discrete}
 use Rattle.std.specs.Prelude.{cond, slice_get, slice_index_or}
@@ -10,7 +10,7 @@ use Rattle.draid_area.specs.declared.Area as areas
 use Rattle.draid_machine.specs.State as machine
 use Rattle.draid_machine.proofs.Small.{none_some}
 use Rattle.draid_segments.specs.Segments.{Pieces}
-use Rattle.draid_session.specs.Holds.{Hold, On, view_of}
+use Rattle.draid_session.specs.Holds.{Hold}
 use Rattle.draid_session.specs.Lanes.{holds_of, is_of}
 use Rattle.draid_session.specs.State.{Metaslab, State}
 use Rattle.draid_shard.specs.Part.{layout_in}

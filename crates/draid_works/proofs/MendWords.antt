@@ -1,6 +1,6 @@
 -- The visits of a rebuild or a scrub in a lane, in the session's words.
-use Rattle.std.proofs.Common.{◌≡◌, ◌<◌, ◌≤◌, ◌+◌, ◌++◌, ◌∷◌, ◌∙◌, ◌⊎◌, [], inl, inr, ℕ, zero, suc, Bool, true, false, List, Option, Some, None, Ok, Err, arith, refl, sym, ap, subst, length, slice_index_or}
-use Rattle.std.specs.Prelude.{◌↔◌, ⊤, IsTrue, Result, slice_get}
+use Rattle.std.proofs.Common.{◌≡◌, ◌<◌, ◌≤◌, ◌+◌, ◌++◌, ◌∙◌, ◌⊎◌, [], inl, inr, ℕ, zero, suc, Bool, true, false, List, Option, Some, None, Ok, Err, arith, refl, sym, ap, subst, length, slice_index_or}
+use Rattle.std.specs.Prelude.{⊤, Result, slice_get}
 use Rattle.std.proofs.lemmas.Bool.{cases_lt, true≢false}
 use Rattle.std.proofs.lemmas.List.{append-nil, append_assoc}
 use Rattle.draid_names.specs.declared.pass_kind.PassKind.{PassKind}
@@ -10,7 +10,7 @@ use Rattle.draid_area.specs.declared.Area as areas
 use Rattle.draid_perm.specs.declared.perms.Perms.{Perms}
 use Rattle.draid_spec.specs.declared.layout.Geometry.{Geometry}
 use Rattle.draid_session.specs.Groups as groups
-use Rattle.draid_session.specs.Holds.{Hold, View}
+use Rattle.draid_session.specs.Holds.{Hold}
 use Rattle.draid_session.specs.Passes as passes
 use Rattle.draid_session.specs.Phases.{End, Starved, WasWorn, Went}
 use Rattle.draid_session.specs.State.{Metaslab, State}
@@ -19,7 +19,6 @@ use Rattle.draid_uber.specs.declared.uber.Uber.{Uber}
 use Rattle.draid_passing.specs.declared.fault.PlanFault.{PlanFault}
 use Rattle.draid_pool.specs.Drifts.{groups_number}
 use Rattle.draid_pool.specs.Pools.{part_in}
-use Rattle.draid_pool.specs.Syncing.{end_of}
 use Rattle.draid_pool.specs.declared.fault.SyncFault.{SyncFault}
 use Rattle.draid_pool.specs.declared.fault.SyncFault.TheVariants as sync
 use Rattle.draid_pool.specs.declared.fault.Synced.{Synced}
@@ -30,7 +29,7 @@ use Rattle.draid_visits.specs.Readies.{ReadiesBy, ReadiesIn, Waited}
 use Rattle.draid_visits.specs.Starts.{BeginsBy, IsBegun, StartsIn}
 use Rattle.draid_visits.specs.Steps.{NextIs}
 use Rattle.draid_visits.specs.Units.{LastIs, LendsBy, Lent, UnitIn}
-use Rattle.draid_visits.specs.Visiting.{BeginIs, LendIs, RunIs, Tells, VisitIs, end_by, outcome_by, tally_of, counted}
+use Rattle.draid_visits.specs.Visiting.{BeginIs, LendIs, RunIs, VisitIs, end_by, outcome_by, tally_of, counted}
 use Rattle.draid_visits.specs.Visits.{LendsBehind, RunsBy, VisitBy, VisitStopsAt, VisitedAt, VisitedUpto, VisitsBehind, VisitsBy, begun_at}
 use Rattle.draid_visits.specs.declared.progress.Progress.{Progress}
 use Rattle.draid_visits.specs.declared.progress.Visit.{Visit}
@@ -449,5 +448,5 @@ module _ {R A G W : Type 0} (rack : racks.Ghosts R) (area : areas.Ghosts A) (x :
         (visit_stops Q tt place why s.mid b s.uber v s.upto q (us ++ fs) s.stop
         (far_as rack area x owns own n_all refl some old old_all old_many P (Left s.upto place) Q (Then (VisitIs g ps kind place s.upto (visit.Stopped why) q) Nothing) s.mid s.uber (us ++ fs) one
         (λ left leads i rest t. (
-          let w = stops_there z kind marks place y.0 y.1 s.marked s.upto q why t.0 t.3 in
-          (w.0, subst (P (record { o = passes.Stopped (end_by why); tally = w.0 })) (last_of left rest t.0 t.1 t.2 t.4) (leads (record { o = passes.Stopped (end_by why); tally = w.0 }) t.0 w.1))))))
+        let w = stops_there z kind marks place y.0 y.1 s.marked s.upto q why t.0 t.3 in
+        (w.0, subst (P (record { o = passes.Stopped (end_by why); tally = w.0 })) (last_of left rest t.0 t.1 t.2 t.4) (leads (record { o = passes.Stopped (end_by why); tally = w.0 }) t.0 w.1))))))
