@@ -16,6 +16,7 @@ pub mod Known
 pub mod Legal
 pub mod Makings
 pub mod Next
+pub mod Places
 pub mod Printing
 pub mod Remembered
 pub mod Repaired
