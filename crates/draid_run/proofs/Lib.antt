@@ -14,6 +14,7 @@ pub mod GivenBack
 pub mod Importings
 pub mod Known
 pub mod Legal
+pub mod Lining
 pub mod Makings
 pub mod Next
 pub mod Places

@@ -1,4 +1,5 @@
 pub mod Books
+pub mod Clashes
 pub mod Closing
 pub mod Crashes
 pub mod Desks

@@ -193,6 +193,7 @@ module _ {R A : Type 0} (rack : racks.Ghosts R) (area : areas.Ghosts A) (choices
     pub desk : IsDesk rack area entry now pool reached
     pub runs : RunsOn choices (MayFind rack area entry) (is_some entry.held) Outside (sits first []) lines replies place (sits reached journal)
     pub stands : place_after Outside lines ≡ place
+    pub goes_on : place ≡ Ended → ⊥
     pub known : WhereKnown input rest (λ all behind. lines_of all ≡ lines ++ lines_of behind)
     pub printed : Appends start held (texts_of (all_said replies))
     pub unanswered : lines ≡ [] → now ≡ entry

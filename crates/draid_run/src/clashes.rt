@@ -1,9 +1,10 @@
 //! Lanes that may not run side by side: two that name an object, or two that have a rebuild or a scrub.
-ghost use Rattle.std.specs.Prelude.{◌≡◌, ◌↔◌, IfNone, IfOk, IfSome, IsTrue};
+ghost use Rattle.std.specs.Prelude.{◌≡◌, IfNone, IfOk, IfSome, false};
 ghost use Rattle.draid_script.specs.Line.{command_in};
 ghost use Rattle.draid_session.specs.Lanes.{objects_in};
-ghost use Rattle.draid_session.specs.Sections.{ClashesMend, IsLeastClash, Mends, NoClash};
-ghost use Rattle.draid_run.specs.Sections.{lanes_in};
+ghost use Rattle.draid_session.specs.Sections.{IsLeastClash, NoClash};
+ghost use Rattle.draid_run.specs.Clashes.{is_mending, lane_is_mending, two_are_mending};
+ghost use Rattle.draid_run.specs.Sections.{commands_in, lanes_in};
 
 use draid_names::NoMemory;
 use draid_script::Line;
@@ -41,7 +42,7 @@ pub(crate) fn least_clash(alloc: Global, lanes: &[Vec<Line>]) -> Result<Option<u
 
 /// Whether a line is a rebuild or a scrub.
 fn mends(line: &Line) -> bool
-    ensures { IsTrue result ↔ Mends (command_in line.now) }
+    ensures { result ≡ is_mending (command_in line.now) }
 {
     match line {
         Line::Rebuild { .. } => true,
@@ -50,13 +51,25 @@ fn mends(line: &Line) -> bool
     }
 }
 
-/// Whether two lanes have a rebuild or a scrub.
+/// Whether a lane has one.
+fn lane_mends(lane: &[Line]) -> bool
+    ensures { result ≡ lane_is_mending (commands_in lane.now) }
+{
+    for k in 0..lane.len() {
+        if mends(&lane[k]) {
+            return true;
+        }
+    }
+    false
+}
+
+/// Whether two lanes have one.
 pub(crate) fn two_mend(lanes: &[Vec<Line>]) -> bool
-    ensures { IsTrue result ↔ ClashesMend (lanes_in lanes.now) }
+    ensures { result ≡ two_are_mending false (lanes_in lanes.now) }
 {
     let mut before = false;
-    for lane in lanes {
-        if lane.iter().any(|line| mends(line)) {
+    for k in 0..lanes.len() {
+        if lane_mends(&lanes[k]) {
             if before {
                 return true;
             }

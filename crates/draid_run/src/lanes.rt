@@ -144,8 +144,11 @@ fn print_lane<K: Sink>(
     ensures later { K.faults sink.old ≤ K.faults sink.new }
     ensures cause { result ≡ Err Status.SinkFault → Rose (K.faults sink.old) (K.faults sink.new) }
 {
-    for reply in replies {
-        print_said(alloc, sink, lane, reply)?;
+    for k in 0..replies.len() {
+        match print_said(alloc, sink, lane, &replies[k]) {
+            Ok(()) => {}
+            Err(status) => return Err(status),
+        }
     }
     Ok(())
 }
@@ -161,8 +164,11 @@ pub(crate) fn print_lanes<K: Sink>(
     ensures later { K.faults sink.old ≤ K.faults sink.new }
     ensures cause { result ≡ Err Status.SinkFault → Rose (K.faults sink.old) (K.faults sink.new) }
 {
-    for lane in 0..ran.len() {
-        print_lane(alloc, sink, lane as u32, &ran[lane].replies)?;
+    for k in 0..ran.len() {
+        match print_lane(alloc, sink, k as u32, &ran[k].replies) {
+            Ok(()) => {}
+            Err(status) => return Err(status),
+        }
     }
     Ok(())
 }
