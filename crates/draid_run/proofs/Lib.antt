@@ -24,6 +24,7 @@ pub mod Repaired
 pub mod Risen
 pub mod Runs
 pub mod Said
+pub mod Sectioned
 pub mod Serving
 pub mod Steps
 pub mod Told

@@ -11,11 +11,37 @@ use Rattle.draid_session.specs.Said.{Said}
 use Rattle.draid_session.specs.Sections.{LaneTurns, OutsideTurns, PlaceBehind, PlaceTurns, RunsOn, SectionTurns}
 use Rattle.draid_session.specs.Session.{Agrees, Desk, Finding, Untouched, Bare, Made, Open, Shut, Foreign, Unknown, Sitting, sits}
 use Rattle.draid_run.specs.Places.{place_after, place_behind, place_inside, place_opened}
+use Rattle.draid_run.specs.Script.{MayEndAt}
+use Rattle.draid_run.specs.declared.status.Status.{Status}
+use Rattle.draid_run.specs.declared.status.Status.TheVariants as status_is
+use Rattle.draid_run.specs.declared.status.Status.TheVariants.{Done, Usage, SourceFault, SinkFault, NoMemory, TooLong, ShelfFault, Record}
 
 -- where lines lead, and one more
 pub after_more : (from : Place) (lines : List (List ℕ)) (line : List ℕ) → place_after from (lines ++ line ∷ []) ≡ place_behind (place_after from lines) line
 after_more from [] line = refl
 after_more from (first ∷ lines) line = after_more (place_behind from first) lines line
+
+-- a run breaks off at a line of its own outside sections alone
+pub broken_outside : (to : Place) (ended : Status) (text : List ℕ) → MayEndAt to ended (Some text) → to ≡ Outside
+broken_outside Outside ended text may = refl
+broken_outside (Inside lanes) Done text may = absurd may
+broken_outside (Inside lanes) ShelfFault text may = absurd may
+broken_outside (Inside lanes) Usage text may = absurd may
+broken_outside (Inside lanes) (status_is.Line line why at) text may = absurd may
+broken_outside (Inside lanes) SourceFault text may = absurd may
+broken_outside (Inside lanes) SinkFault text may = absurd may
+broken_outside (Inside lanes) NoMemory text may = absurd may
+broken_outside (Inside lanes) (TooLong line) text may = absurd may
+broken_outside (Inside lanes) (Record which place fault) text may = absurd may
+broken_outside Ended Done text may = absurd may
+broken_outside Ended ShelfFault text may = absurd may
+broken_outside Ended Usage text may = absurd may
+broken_outside Ended (status_is.Line line why at) text may = absurd may
+broken_outside Ended SourceFault text may = absurd may
+broken_outside Ended SinkFault text may = absurd may
+broken_outside Ended NoMemory text may = absurd may
+broken_outside Ended (TooLong line) text may = absurd may
+broken_outside Ended (Record which place fault) text may = absurd may
 
 behind_led : (lanes : List (List Command)) (replies : List (List Reply)) (to : Place) → PlaceBehind lanes replies to → (to ≡ Outside) ⊎ (to ≡ Ended)
 behind_led lanes replies Outside behind = inl refl

@@ -297,7 +297,7 @@ module _ {R A : Type 0} (rack : racks.Ghosts R) (area : areas.Ghosts A) (choices
         → WhereKnown rest rest' (λ old new. lines_of old ≡ line ∷ lines_of new)
         → Printed rack area choices past after from line entry before pool is.reached now pool' held held' to → TellsAsBefore entry now → (to ≡ Ended → ⊥)
         → Serving rack area choices to after first input rest' start held' entry now pool' (count + 1)
-    serving_more from past after input rest rest' start held held' before now pool pool' count line to is behind printed tells open =
+    serving_more from past after input rest rest' start held held' before now pool pool' count line to is behind printed tells still =
         let counted = is.count_is in
         let longer = length-append is.lines (line ∷ []) in
         record {
@@ -308,8 +308,8 @@ module _ {R A : Type 0} (rack : racks.Ghosts R) (area : areas.Ghosts A) (choices
           desk = printed.placed.desk;
           runs = more past after is.lines is.replies from is.reached line printed.saids now pool' to is.runs printed.placed tells;
           stands = after_more Outside is.lines line ∙ ap (λ p. place_behind p line) is.stands
-              ∙ sym (goes_on choices (MayFind rack area entry) from line (sits is.reached past) (sits printed.placed.new after) printed.saids to open printed.placed.turns);
-          goes_on = open;
+              ∙ sym (goes_on choices (MayFind rack area entry) from line (sits is.reached past) (sits printed.placed.new after) printed.saids to still printed.placed.turns);
+          goes_on = still;
           known = known_on input rest rest' _ _ _ (λ x y z a b. lines_more x y z is.lines line a b) is.known behind;
           printed = rw (texts_more is.replies printed.saids) (appends_more start held held' _ _ is.printed printed.prints);
           unanswered = λ none. absurd (not_none is.lines line none);

@@ -109,7 +109,7 @@ module _ (choices : Choices) (finds : Finding → Type 0) where
 -- ---- lines without a section
 
 module _ (choices : Choices) (finds : Finding → Type 0) where
-  outside_plain : (line : Result Command LineFault) (old new : Sitting) (saids : List Said) (to : Place) → IsNoOpening line → OutsideTurns choices finds line old saids new to → SittingTurns choices finds line old saids new × (to ≡ Outside)
+  pub outside_plain : (line : Result Command LineFault) (old new : Sitting) (saids : List Said) (to : Place) → IsNoOpening line → OutsideTurns choices finds line old saids new to → SittingTurns choices finds line old saids new × (to ≡ Outside)
   outside_plain (Ok (OpenLanes count)) old new saids to none t = absurd none
   outside_plain line old new saids to none t = t
 
