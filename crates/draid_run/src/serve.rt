@@ -1,4 +1,5 @@
 ghost use Rattle.std.specs.Prelude.{◌≡◌, ◌≤◌, ℕ, List, Some, None, Ok, Err, IfOk, length};
+ghost use Rattle.std.specs.List.{list_any};
 ghost use Rattle.std.specs.Io.KnownBytes.{IsAtEnd, prepend_known};
 ghost use Rattle.std.specs.Fn.{FnReturnsAt};
 ghost use Rattle.draid_agent.specs.Policy.{IsPolicy, PolicyReturns};
@@ -309,6 +310,13 @@ fn print_reply<K: Sink>(alloc: Global, sink: &mut K, reply: Reply) -> Result<(),
     }
 }
 
+/// Whether a failing device ended a lane.
+fn is_stopped(ran: &[LaneReplies]) -> bool
+    ensures { result ≡ list_any (λ lane. lane.stopped) ran.now }
+{
+    ran.iter().any(|lane: &LaneReplies| lane.stopped)
+}
+
 /// Prints the replies to the lanes of a section. Where a failing device ended one the run ends behind them.
 fn print_ran<K: Sink>(alloc: Global, sink: &mut K, ran: &[LaneReplies]) -> Result<(), Status>
     requires few { length ran.now ≤ most_lanes }
@@ -320,7 +328,7 @@ fn print_ran<K: Sink>(alloc: Global, sink: &mut K, ran: &[LaneReplies]) -> Resul
         Ok(()) => {}
         Err(status) => return Err(status),
     }
-    if ran.iter().any(|lane: &LaneReplies| lane.stopped) {
+    if is_stopped(ran) {
         Err(Status::ShelfFault)
     } else {
         Ok(())
