@@ -19,6 +19,7 @@ pub mod Makings
 pub mod Next
 pub mod Places
 pub mod Printing
+pub mod Ran
 pub mod Remembered
 pub mod Repaired
 pub mod Risen
@@ -29,4 +30,5 @@ pub mod Serving
 pub mod Steps
 pub mod Told
 pub mod Turned
+pub mod TwoMend
 pub mod Unfailing

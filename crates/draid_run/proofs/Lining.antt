@@ -51,6 +51,10 @@ map_both f (x ∷ xs) ys = ap (λ zs. f x ∷ zs) (map_both f xs ys)
 
 -- ---- the lanes of a section that opens, and a line more
 
+pub lanes_many : (lanes : List (Vec Line Global)) → length (lanes_in lanes) ≡ length lanes
+lanes_many [] = refl
+lanes_many (lane ∷ lanes) = (let rest = lanes_many lanes in omega (arith, rest))
+
 none_more : {T : Type 0} (x : T) (n : ℕ) → replicate n x ++ x ∷ [] ≡ replicate (n + 1) x
 none_more x n = last x n ∙ ap (λ m. replicate m x) (sym (one_more n))
   where

@@ -19,7 +19,7 @@ use Rattle.draid_pool.specs.Returning.{own_count}
 use Rattle.draid_pool.specs.Shelves.{OnShelf}
 use Rattle.draid_run.specs.Shelves.{AreaHasFailed, AreaRose, FailsIn, FaultIn, HasFailed, HasFault, HoldsDesk, HoldsFault, IsClosed}
 
-rose_some : (before now : ℕ) → Rose before now → 0 < now
+pub rose_some : (before now : ℕ) → Rose before now → 0 < now
 rose_some before now rose = omega (arith, rose)
 
 -- a count of an area that rose isn't 0
