@@ -73,6 +73,22 @@ text_no_done lines lines' left left' status text is = subst (λ s. TextIs lines 
 pub text_no_usage : (lines lines' : Rest) (left left' : Option (List ℕ)) (status : Status) → TextIs lines lines' left left' (Err status) → status ≡ Usage → ⊥
 text_no_usage lines lines' left left' status text is = subst (λ s. TextIs lines lines' left left' (Err s)) is text
 
+-- nor does the end of the input
+pub end_no_source : (number : ℕ) (place : Place) → end_at number place ≡ SourceFault → ⊥
+end_no_source number Outside is = cc is
+end_no_source number (Inside lanes) is = cc is
+end_no_source number Ended is = cc is
+
+pub end_no_sink : (number : ℕ) (place : Place) → end_at number place ≡ SinkFault → ⊥
+end_no_sink number Outside is = cc is
+end_no_sink number (Inside lanes) is = cc is
+end_no_sink number Ended is = cc is
+
+pub end_no_usage : (number : ℕ) (place : Place) → end_at number place ≡ Usage → ⊥
+end_no_usage number Outside is = cc is
+end_no_usage number (Inside lanes) is = cc is
+end_no_usage number Ended is = cc is
+
 -- the number of the next line
 pub first_number : (given : ℕ) → given ≡ 0 → given + 1 ≡ 1
 first_number given none = omega (arith, none)

@@ -1,6 +1,6 @@
 -- Lines inside a section, and its end.
 use Rattle.std.proofs.Common.{arith, refl, sym, subst, ap, ◌≡◌, ◌∙◌, ◌<◌, ◌≤◌, ◌⊎◌, inl, inr, ℕ, zero, suc, List, Bool, true, false, [], ◌∷◌, ◌++◌, Option, Some, None, Result, Ok, Err, Vec, Global, length, map, flat_map, replicate, slice_index_or, slice_set}
-use Rattle.std.specs.Prelude.{⊤, max, if◌then◌else◌}
+use Rattle.std.specs.Prelude.{⊤, IfErr, IfOk, max, if◌then◌else◌}
 use Rattle.std.specs.Io.KnownBytes.{Appends}
 use Rattle.std.specs.List.{list_any}
 use Rattle.draid_names.specs.declared.journal.Entry.{Entry}
@@ -9,8 +9,8 @@ use Rattle.draid_rack.specs.declared.Rack as racks
 use Rattle.draid_area.specs.declared.Area as areas
 use Rattle.draid_objects.specs.Changes.{Change}
 use Rattle.draid_script.proofs.Read.{lane_inv}
-use Rattle.draid_script.specs.Grammar.{lane_of}
-use Rattle.draid_script.specs.Line.{Command, FillObjects, FreeObject, InLane, IsInRange, LaneCommand, ReadObject, RebuildPool, ScrubPool, SectionEnd, SilentLane, SumObjects, SyncPool, TakeOffline, TakeOnline, WriteObject, most_lanes}
+use Rattle.draid_script.specs.Grammar.{lane_of, line_of}
+use Rattle.draid_script.specs.Line.{Command, FillObjects, FreeObject, InLane, IsInRange, LaneCommand, OpenLanes, ReadObject, RebuildPool, ScrubPool, SectionEnd, SilentLane, SumObjects, SyncPool, TakeOffline, TakeOnline, WriteObject, most_lanes}
 use Rattle.draid_script.specs.Writing.{IsForLanes}
 use Rattle.draid_script.specs.declared.fault.LineFault.{LineFault}
 use Rattle.draid_script.specs.declared.line.Line.{Line}
@@ -25,17 +25,19 @@ use Rattle.draid_session.specs.Holds.{Hold}
 use Rattle.draid_session.specs.Looks.{AllOf}
 use Rattle.draid_session.specs.Places.{Ended, Inside, Outside, Place}
 use Rattle.draid_session.specs.Said.{Said, alone}
-use Rattle.draid_session.specs.Sections.{LaneTurns, SectionTurns, to_lanes, with_command}
-use Rattle.draid_session.specs.Session.{Desk, Untouched, Bare, Made, Open, Shut, Foreign, Unknown}
+use Rattle.draid_session.specs.Sections.{LaneTurns, OutsideTurns, SectionTurns, opened_lanes, with_command}
+use Rattle.draid_session.specs.Session.{Desk, Untouched, Bare, Made, Open, Shut, Foreign, Unknown, sits}
 use Rattle.draid_session.specs.State.{State, Store}
 use Rattle.draid_session.proofs.Lanewise.{all_both, all_set}
 use Rattle.draid_pool.specs.Shelves.{OnShelf}
 use Rattle.draid_pool.specs.declared.pool.Pool.{Pool}
+use Rattle.draid_run.specs.Crashes.{LeavesFirm}
 use Rattle.draid_run.specs.Desks.{IsDesk, asked_in}
 use Rattle.draid_run.specs.Places.{asked_inside, line_at}
 use Rattle.draid_run.specs.Script.{IsBuilt, MayEndAt, texts_of}
-use Rattle.draid_run.specs.Sections.{AreLanes, IsOfLane, PrintsAre, RanIs, SectionIs, lanes_in, place_of, replies_in, saids_of}
-use Rattle.draid_run.specs.Serve.{LineIs, Placed, Printed, PrintIs}
+use Rattle.draid_run.specs.Sections.{AreLanes, IsOfLane, PrintsAre, RanIs, SectionIs, lanes_in, place_in, place_next, place_of, saids_of}
+use Rattle.draid_run.specs.Serve.{LineIs, Placed, Printed, PrintIs, done_of, opened_by}
+use Rattle.draid_run.specs.Shelves.{MayFind}
 use Rattle.draid_run.specs.declared.sections.LaneReplies.{LaneReplies}
 use Rattle.draid_run.specs.declared.status.Status.{Status}
 use Rattle.draid_run.specs.declared.status.Status.TheVariants as status_is
@@ -180,6 +182,31 @@ module _ {R A : Type 0} (rack : racks.Ghosts R) (area : areas.Ghosts A) (choices
     end_ran ran (Err SourceFault) it prints = absurd prints
     end_ran ran (Err (TooLong line)) it prints = absurd prints
     end_ran ran (Err (Record which place kind)) it prints = absurd prints
+
+-- ---- a section opens
+
+pub opened_is : (command : Command) (count : ℕ) → opened_by command ≡ Some count → command ≡ OpenLanes count
+opened_is (OpenLanes n) count is = cc is
+opened_is command count is = cc is
+
+pub in_range : (command : Command) (count : ℕ) → opened_by command ≡ Some count → IsInRange command → (1 ≤ count) × (count ≤ most_lanes)
+in_range command count is range = subst IsInRange (opened_is command count is) range
+
+pub goes_on : (next : Option (Vec (Vec Line Global) Global)) → place_in next ≡ Ended → ⊥
+goes_on None is = cc is
+goes_on (Some lanes) is = cc is
+
+module _ {R A : Type 0} (rack : racks.Ghosts R) (area : areas.Ghosts A) (choices : Choices) (past : List Entry) (number : ℕ) (text : List ℕ) (entry now : OnShelf) (pool : Option (Pool R A)) (x : Desk) (held : Option (List ℕ)) (count : ℕ) (asked : line_of text ≡ Ok (OpenLanes count)) where
+  pub line_opened : (result : Result (Option (Vec (Vec Line Global) Global)) Status) → IfOk result (λ next. place_in next ≡ opened_lanes count) → IfErr result (λ status. status ≡ NoMemory) → IsDesk rack area entry now pool x
+      → LineIs rack area choices past past Outside number text entry now pool x now pool held held (place_next result) (done_of result)
+  line_opened (Ok next) opened refused desk = record {
+    saids = [];
+    placed = record { new = x; desk = desk; turns = subst (λ l. OutsideTurns choices (MayFind rack area entry) l (sits x past) [] (sits x past) (place_in next)) (sym asked) (refl, refl, opened); stopped = λ e. absurd (goes_on next e) };
+    firm = subst (λ l. LeavesFirm l [] now pool now pool) (sym asked) tt;
+    built = subst IsBuilt (sym asked) (λ unbuilt. unbuilt);
+    prints = appends_none held;
+  }
+  line_opened (Err status) opened refused desk = subst (λ s. LineIs rack area choices past past Outside number text entry now pool x now pool held held Outside (Err s)) (sym refused) (inl (refl, refl, refl))
 
 -- ---- whatever the policy of spares is
 

@@ -1,4 +1,4 @@
-ghost use Rattle.std.specs.Prelude.{◌≡◌, ◌≤◌, ℕ, List, Some, None, Ok, Err, IfOk, length};
+ghost use Rattle.std.specs.Prelude.{◌≡◌, ◌≤◌, ℕ, List, Some, None, Ok, Err, IfErr, IfOk, length};
 ghost use Rattle.std.specs.List.{list_any};
 ghost use Rattle.std.specs.Io.KnownBytes.{IsAtEnd, prepend_known};
 ghost use Rattle.std.specs.Fn.{FnReturnsAt};
@@ -7,10 +7,11 @@ ghost use Rattle.draid_choose.specs.Rooms.{IsChooser};
 ghost use Rattle.draid_names.specs.Faults.{Rose};
 ghost use Rattle.draid_names.specs.declared.journal.Entry.{Entry};
 ghost use Rattle.draid_script.specs.Grammar.{lane_of, line_of};
-ghost use Rattle.draid_script.specs.Line.{IsInRange, SectionEnd, command_in};
+ghost use Rattle.draid_script.specs.Line.{IsInRange, SectionEnd, command_in, most_lanes};
 ghost use Rattle.draid_reply.specs.Reply.{text_of};
 ghost use Rattle.draid_session.specs.Choices.{choices_by, choices_with};
 ghost use Rattle.draid_session.specs.Places.{Inside, Outside};
+ghost use Rattle.draid_session.specs.Sections.{opened_lanes};
 ghost use Rattle.draid_session.specs.Session.{Desk};
 ghost use Rattle.draid_run.specs.Desks.{IsDesk, IsPool};
 ghost use Rattle.draid_run.specs.Sections.{AreLanes, IsReading, RanIs, lanes_in, place_in, place_next};
@@ -74,6 +75,20 @@ fn opened(line: &Line) -> Option<u32>
     match line {
         Line::Lanes { count } => Some(*count),
         _ => None,
+    }
+}
+
+/// The lanes of a section that opens.
+fn open_section(alloc: Global, count: u32) -> Result<Option<Vec<Vec<Line>>>, Status>
+    requires some { 1 ≤ count }
+    requires few { count ≤ most_lanes }
+    ensures opened { IfOk result (λ next. place_in next ≡ opened_lanes count) }
+    ensures reading { IfOk result IsReading }
+    ensures refused { IfErr result (λ status. status ≡ Status.NoMemory) }
+{
+    match open_lanes(alloc, count) {
+        Ok(lanes) => Ok(Some(lanes)),
+        Err(NoMemory) => Err(Status::NoMemory),
     }
 }
 
@@ -218,10 +233,7 @@ fn serve_outside<
         Err(fault) => return Err(unread(number, fault)),
     };
     if let Some(count) = opened(&line) {
-        return match open_lanes(alloc, count) {
-            Ok(lanes) => Ok(Some(lanes)),
-            Err(NoMemory) => Err(Status::NoMemory),
-        };
+        return open_section(alloc, count);
     }
     match serve_command(
         rt, alloc, shelf, pool, chooser, policy, journal, sink, number, &line,
