@@ -141,14 +141,14 @@ gets_short ShelfFault shown old new number gets = absurd number
 -- what failed, by what was open
 shelf_fails : {A : Type 0} (area : areas.Ghosts A) (broken : Option (List ℕ)) (lines : List (List ℕ)) (saids : List Said) (mid last : Desk) (entry now : OnShelf) → MayEndAt Outside ShelfFault broken → BreaksOff lines ShelfFault broken saids mid last
     → (IsClosed mid → FailsShut area broken lines mid entry now) → HasFailed entry now ⊎ (MakesLeavesAt lines broken × RackFailedOn now) → Fails area broken lines mid last entry now
-shelf_fails area None lines saids mid last entry now breaks shut failed = absurd breaks
-shelf_fails area (Some text) lines saids Untouched last entry now breaks shut failed = shut tt
-shelf_fails area (Some text) lines saids Bare last entry now breaks shut failed = shut tt
-shelf_fails area (Some text) lines saids (Made told n geometry) last entry now breaks shut failed = shut tt
-shelf_fails area (Some text) lines saids (Shut crash x) last entry now breaks shut failed = shut tt
-shelf_fails area (Some text) lines saids Unknown last entry now breaks shut failed = shut tt
-shelf_fails area (Some text) lines saids (Foreign known) last entry now breaks shut failed = failed
-shelf_fails area (Some text) lines saids (Open x) last entry now breaks shut failed =
+shelf_fails area None lines saids mid last entry now may breaks shut failed = absurd may
+shelf_fails area (Some text) lines saids Untouched last entry now may breaks shut failed = shut tt
+shelf_fails area (Some text) lines saids Bare last entry now may breaks shut failed = shut tt
+shelf_fails area (Some text) lines saids (Made told n geometry) last entry now may breaks shut failed = shut tt
+shelf_fails area (Some text) lines saids (Shut crash x) last entry now may breaks shut failed = shut tt
+shelf_fails area (Some text) lines saids Unknown last entry now may breaks shut failed = shut tt
+shelf_fails area (Some text) lines saids (Foreign known) last entry now may breaks shut failed = failed
+shelf_fails area (Some text) lines saids (Open x) last entry now may breaks shut failed =
     let b = breaks.breaks in
     let it = b.2 in
     let rose = broken_rose x.geometry x.perms breaks.command x.store it.holds it.store x it.mid it.broken it.follows in
