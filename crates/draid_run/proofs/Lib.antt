@@ -13,6 +13,7 @@ pub mod Exits
 pub mod GivenBack
 pub mod Importings
 pub mod Known
+pub mod Least
 pub mod Legal
 pub mod Lining
 pub mod Makings

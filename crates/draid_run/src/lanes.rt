@@ -48,24 +48,18 @@ pub(crate) fn add_line(lanes: &mut Vec<Vec<Line>>, lane: u32, line: Line) -> Res
 }
 
 /// Why lanes aren't run, if there is a reason.
-fn refusal(alloc: Global, lanes: &[Vec<Line>]) -> Option<Reply>
+fn refusal(lanes: &[Vec<Line>]) -> Option<Reply>
     ensures some { IfSome result (RefusesSection (lanes_in lanes.now)) }
     ensures apart { IfNone result (NoClash (lanes_in lanes.now)) }
     ensures one_mends { IfNone result (ClashesMend (lanes_in lanes.now) → ⊥) }
 {
-    match least_clash(alloc, lanes) {
-        Ok(Some(object)) => Some(Reply::LanesClash { object }),
-        Ok(None) => {
-            if two_mend(lanes) {
-                Some(Reply::LanesClashMend)
-            } else {
-                None
-            }
-        }
-        Err(NoMemory) => Some(Reply::NoMemory {
-            command: CommandName::Lanes,
-        }),
+    if let Some(object) = least_clash(lanes) {
+        return Some(Reply::LanesClash { object });
     }
+    if two_mend(lanes) {
+        return Some(Reply::LanesClashMend);
+    }
+    None
 }
 
 /// Runs the lanes of a section on the pool that is open, if one is and they may be run. Else there is one reply.
@@ -90,7 +84,7 @@ pub(crate) fn run_lanes<
     let Some(open) = pool.take() else {
         return Err(no_pool(CommandName::Lanes));
     };
-    if let Some(reply) = refusal(alloc, &lanes) {
+    if let Some(reply) = refusal(&lanes) {
         *pool = Some(open);
         return Err(reply);
     }
