@@ -14,13 +14,13 @@ use Rattle.draid_reply.specs.declared.reply.Reply.{Reply}
 use Rattle.draid_session.specs.Said.{Said, alone}
 use Rattle.draid_session.specs.Choices.{Choices}
 use Rattle.draid_session.specs.Holds.{Hold}
-use Rattle.draid_session.specs.Session.{Desk, TurnsBy}
+use Rattle.draid_session.specs.Session.{Desk}
 use Rattle.draid_session.specs.State.{State, Store}
 use Rattle.draid_pool.specs.Carries.{CarriesOut, ReplyDoes}
 use Rattle.draid_pool.specs.Says.{SyncSays}
 use Rattle.draid_pool.specs.declared.pool.Pool.{Pool}
 use Rattle.draid_run.specs.Crashes.{LeavesFirm}
-use Rattle.draid_run.specs.Desks.{AnswerDoes, IsDesk, Turned, asked_in}
+use Rattle.draid_run.specs.Desks.{AnswerDoes, IsDesk, asked_in}
 use Rattle.draid_run.specs.Making.{CreateIs}
 use Rattle.draid_names.specs.declared.fault.Failed.{Failed}
 use Rattle.draid_changes.specs.DetachSays.{DetachSays}
@@ -31,7 +31,7 @@ use Rattle.draid_store.specs.Says.{DamageSays, FreeSays, ReadSays, SumSays}
 use Rattle.draid_status.specs.Says.{StatusSays}
 use Rattle.draid_visits.specs.Says.{CancelSays, RebuildSays, ScrubSays}
 use Rattle.draid_run.specs.Rebalancing.{RebalanceSays}
-use Rattle.draid_run.specs.Script.{IsBuilt, IsUnbuilt}
+use Rattle.draid_run.specs.Script.{IsUnbuilt}
 use Rattle.draid_run.specs.Serve.{AnswerIs, AskIs, IsSaid, opened_by}
 use Rattle.draid_pool.specs.Shelves.{OnShelf}
 use Rattle.draid_run.specs.Shelves.{MayFind}

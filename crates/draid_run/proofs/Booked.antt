@@ -8,7 +8,7 @@ use Rattle.draid_shelf.specs.Kits.{Held}
 use Rattle.draid_session.specs.Choices.{Choices}
 use Rattle.draid_session.specs.Book.{Book, BreaksAtLine, EndsBook, blank, closed}
 use Rattle.draid_session.specs.Keeping.{Keeps}
-use Rattle.draid_session.specs.Places.{Ended, Inside, Outside, Place}
+use Rattle.draid_session.specs.Places.{Outside}
 use Rattle.draid_session.specs.Said.{Said}
 use Rattle.draid_session.specs.Session.{Agrees, Bare, Desk, Foreign, Made, Open, RecordFails, ShelfFails, Shut, Unknown, Untouched, left_of, sits}
 use Rattle.draid_session.specs.Sections.{RunsOn}

@@ -1,10 +1,9 @@
 -- The lines of a section that is read, and the replies to its lanes as they are printed.
-use Rattle.std.proofs.Common.{arith, refl, sym, subst, ap, ◌≡◌, ◌∙◌, ◌<◌, ◌≤◌, ◌+◌, ◌⊎◌, inl, inr, ℕ, zero, suc, List, Bool, true, false, [], ◌∷◌, ◌++◌, Option, Some, None, Result, Ok, Err, Vec, Global, length, map, take, drop, replicate, slice_index_or, slice_set, append_assoc}
+use Rattle.std.proofs.Common.{arith, refl, sym, subst, ap, ◌≡◌, ◌∙◌, ◌<◌, ◌≤◌, ◌+◌, ℕ, zero, suc, List, [], ◌∷◌, ◌++◌, Option, Some, Err, Vec, Global, length, map, take, drop, replicate, slice_index_or, slice_set, append_assoc}
 use Rattle.std.specs.Io.KnownBytes.{Appends}
 use Rattle.std.proofs.lemmas.Grind.{flat_map-append}
 use Rattle.std.proofs.lemmas.List.{append-nil}
-use Rattle.draid_lines.specs.Sink.{AppendsFront}
-use Rattle.draid_script.specs.Line.{Command, command_in}
+use Rattle.draid_script.specs.Line.{command_in}
 use Rattle.draid_script.specs.declared.line.Line.{Line}
 use Rattle.draid_reply.specs.declared.reply.Reply.{Reply}
 use Rattle.draid_session.specs.Said.{Said}

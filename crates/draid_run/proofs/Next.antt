@@ -1,5 +1,5 @@
 -- What the next run finds, and the lines of a run between which a crash came.
-use Rattle.std.proofs.Common.{◌≡◌, ◌∙◌, refl, sym, ap, subst, ℕ, Bool, true, false, List, [], ◌∷◌, ◌++◌, Option, Some, None, Result, Ok, Err, String, Global, length, replicate, arith}
+use Rattle.std.proofs.Common.{◌≡◌, ◌∙◌, refl, sym, ap, subst, ℕ, Bool, true, false, List, [], ◌∷◌, ◌++◌, Option, Some, None, Result, Ok, Err, String, Global, length, replicate}
 use Rattle.std.specs.Prelude.{⊤, IsSomeAnd, is_some}
 use Rattle.draid_rack.specs.Moments as rack_moments
 use Rattle.draid_rack.specs.Rack.{Told}
@@ -190,7 +190,7 @@ module _ (choices : Choices) (finds : Finding → Type 0) (crash import : List �
   again front said first same is_crash is_import known agrees runs =
       let it = on_split choices finds true Outside first front said (crash ∷ import ∷ back) (alone Crashed ∷ alone (Imported called group objects) ∷ behind) to last same runs in
       let more : it.here ≡ Ended → ⊥ = λ ended. ended_none choices finds true it.mid crash (import ∷ back) (alone Crashed ∷ alone (Imported called group objects) ∷ behind) to last
-          (subst (λ p. RunsOn choices finds true p it.mid (crash ∷ import ∷ back) (alone Crashed ∷ alone (Imported called group objects) ∷ behind) to last) ended it.after) in
+      (subst (λ p. RunsOn choices finds true p it.mid (crash ∷ import ∷ back) (alone Crashed ∷ alone (Imported called group objects) ∷ behind) to last) ended it.after) in
       let led = led_on choices finds true Outside first front said it.here it.mid more it.before in
       let outside : it.here ≡ Outside = crash_outside it.here crash more (ap (λ p. line_at p crash) led ∙ is_crash) in
       let asked : line_of crash ≡ Ok CrashPool = ap (λ p. line_at p crash) (sym outside ∙ led) ∙ is_crash in

@@ -1,5 +1,5 @@
 -- Lines with sections: one more, where a run stands behind them, and where it may end.
-use Rattle.std.proofs.Common.{arith, refl, sym, subst, ap, ◌≡◌, ◌∙◌, ◌⊎◌, inl, inr, ℕ, List, Bool, [], ◌∷◌, ◌++◌, Option, Some, None, Result, Ok, Err, length}
+use Rattle.std.proofs.Common.{arith, refl, sym, subst, ◌≡◌, ◌⊎◌, inl, inr, ℕ, List, Bool, [], ◌∷◌, ◌++◌, Some, Result, Ok, Err, length}
 use Rattle.draid_names.specs.declared.journal.Entry.{Entry}
 use Rattle.draid_script.specs.Grammar.{lane_of, line_of}
 use Rattle.draid_script.specs.Line.{Command, InLane, LaneCommand, OpenLanes, SectionEnd, SilentLane}

@@ -1,7 +1,6 @@
 -- What becomes of a section at its end: of the pool, of the desk, and of where the run stands.
-use Rattle.std.proofs.Common.{refl, sym, subst, ap, ◌≡◌, ◌≢◌, ◌∙◌, ◌<◌, ◌≤◌, ◌⊎◌, inl, inr, arith, ℕ, zero, suc, List, Bool, true, false, [], ◌∷◌, ◌++◌, Option, Some, None, Result, Ok, Err, Vec, Global, length, map}
-use Rattle.std.specs.Prelude.{⊤, IfErr, IfOk, is_some, nat_eq, slice_get}
-use Rattle.std.specs.HashMap.{get}
+use Rattle.std.proofs.Common.{refl, sym, subst, ap, ◌≡◌, ◌∙◌, inl, inr, arith, ℕ, zero, suc, List, Bool, true, false, [], ◌∷◌, Option, Some, None, Result, Ok, Err, Vec, Global, length}
+use Rattle.std.specs.Prelude.{IfErr, IfOk, slice_get}
 use Rattle.std.specs.List.{list_any}
 use Rattle.draid_names.specs.Faults.{Rose}
 use Rattle.draid_rack.specs.declared.Rack as racks
@@ -9,16 +8,16 @@ use Rattle.draid_area.specs.declared.Area as areas
 use Rattle.draid_script.specs.Line.{Command}
 use Rattle.draid_script.specs.declared.name.CommandName.TheVariants as name
 use Rattle.draid_reply.specs.declared.reply.Reply.{Reply}
-use Rattle.draid_reply.specs.declared.reply.Reply.TheVariants.{NoMemory, NoPool}
+use Rattle.draid_reply.specs.declared.reply.Reply.TheVariants.{NoPool}
 use Rattle.draid_objects.specs.Marks.{check_by}
 use Rattle.draid_session.specs.Choices.{Choices}
 use Rattle.draid_session.specs.Known.{Known}
 use Rattle.draid_session.specs.Looks.{AllOf}
-use Rattle.draid_session.specs.Places.{Ended, Inside, Outside, Place}
-use Rattle.draid_session.specs.Said.{Said, alone}
+use Rattle.draid_session.specs.Places.{Ended, Outside}
+use Rattle.draid_session.specs.Said.{alone}
 use Rattle.draid_session.specs.Sections.{AllReplied, ClashesMend, NoClash, PlaceBehind, RefusesSection, SectionTurns}
 use Rattle.draid_session.specs.Session.{Desk, Untouched, Bare, Made, Open, Shut, Foreign, Unknown}
-use Rattle.draid_session.specs.State.{Metaslab, State}
+use Rattle.draid_session.specs.State.{State}
 use Rattle.draid_pool.specs.Failing as failing
 use Rattle.draid_pool.specs.Knows.{FitsKnown, KnowsPointers}
 use Rattle.draid_pool.specs.Objects.{PointsTo}
@@ -31,9 +30,8 @@ use Rattle.draid_pool.specs.declared.pool.Pool.{Pool}
 use Rattle.draid_objects.specs.Changes.{write_of}
 use Rattle.draid_uber.specs.Uber.{count_of}
 use Rattle.draid_run.specs.Desks.{IsDesk, IsPool, IsShelf}
-use Rattle.draid_run.specs.Sections.{IsStopped, LanesTeach, RunsSection, SamePool, SectionIs, StopWhere, StopsWhere, place_of, replies_in, saids_of}
-use Rattle.draid_run.specs.Serve.{LaneStopped}
-use Rattle.draid_run.specs.Shelves.{AreaRose, IsOut, PoolFails}
+use Rattle.draid_run.specs.Sections.{IsStopped, LanesTeach, RunsSection, SamePool, SectionIs, StopWhere, StopsWhere, place_of, replies_in}
+use Rattle.draid_run.specs.Shelves.{AreaRose, PoolFails}
 use Rattle.draid_run.specs.declared.sections.LaneReplies.{LaneReplies}
 use Rattle.draid_run.proofs.Risen.{rose_some}
 
@@ -143,17 +141,29 @@ module _ {R A : Type 0} (rack : racks.Ghosts R) (area : areas.Ghosts A) (old new
       let ym = some_at new.metaslabs.shards.items y.metaslabs after.stands.shards m b there in
       let was = (before.stands.each m a xm.0 at xm.1).counts in
       let is = (after.stands.each m b ym.0 there ym.1).counts in
-      inl (m, xm.0, ym.0, xm.1, ym.1, elim rose [
-        | inl even ↦ inl (subst (λ c. Rose c.even ym.0.counts.even) (sym was) (subst (λ c. Rose (area.faults a.even) c.even) (sym is) even))
-        | inr odd ↦ inr (subst (λ c. Rose c.odd ym.0.counts.odd) (sym was) (subst (λ c. Rose (area.faults a.odd) c.odd) (sym is) odd))
-      ])
+      inl (
+        m,
+        xm.0,
+        ym.0,
+        xm.1,
+        ym.1,
+        elim rose [
+          | inl even ↦ inl (subst (λ c. Rose c.even ym.0.counts.even) (sym was) (subst (λ c. Rose (area.faults a.even) c.even) (sym is) even))
+          | inr odd ↦ inr (subst (λ c. Rose c.odd ym.0.counts.odd) (sym was) (subst (λ c. Rose (area.faults a.odd) c.odd) (sym is) odd))
+        ],
+      )
 
   pub rose_fails : failing.AreaRose area.faults old new → failing.AreaFails area.faults new
   rose_fails (inl rose) = inl (rose_some (count_of area.faults old.uber) (count_of area.faults new.uber) rose)
-  rose_fails (inr (m, a, b, at, there, rose)) = inr (m, b, there, elim rose [
-    | inl even ↦ (let some = rose_some (area.faults a.even) (area.faults b.even) even in omega (arith, some))
-    | inr odd ↦ (let some = rose_some (area.faults a.odd) (area.faults b.odd) odd in omega (arith, some))
-  ])
+  rose_fails (inr (m, a, b, at, there, rose)) = inr (
+    m,
+    b,
+    there,
+    elim rose [
+      | inl even ↦ (let some = rose_some (area.faults a.even) (area.faults b.even) even in omega (arith, some))
+      | inr odd ↦ (let some = rose_some (area.faults a.odd) (area.faults b.odd) odd in omega (arith, some))
+    ],
+  )
 
 -- ---- the end of a section
 

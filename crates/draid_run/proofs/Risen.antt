@@ -24,10 +24,15 @@ rose_some before now rose = omega (arith, rose)
 
 -- a count of an area that rose isn't 0
 pub area_shows : (x y : State) → AreaRose x y → AreaHasFailed y
-area_shows x y (inl (m, a, b, at, there, rose)) = inl (m, b, there, elim rose [
-  | inl even ↦ (let some = rose_some a.counts.even b.counts.even even in omega (arith, some))
-  | inr odd ↦ (let some = rose_some a.counts.odd b.counts.odd odd in omega (arith, some))
-])
+area_shows x y (inl (m, a, b, at, there, rose)) = inl (
+  m,
+  b,
+  there,
+  elim rose [
+    | inl even ↦ (let some = rose_some a.counts.even b.counts.even even in omega (arith, some))
+    | inr odd ↦ (let some = rose_some a.counts.odd b.counts.odd odd in omega (arith, some))
+  ],
+)
 area_shows x y (inr rose) = inr (rose_some x.uber_count y.uber_count rose)
 
 -- what has risen shows there

@@ -1,5 +1,5 @@
 -- What goes on along lines with sections, and what a section leaves of a pool.
-use Rattle.std.proofs.Common.{refl, sym, subst, ap, min, ◌≡◌, ◌∙◌, ◌-◌, ◌^◌, ◌≤◌, inl, inr, ℕ, List, Bool, [], ◌∷◌, Option, Some, None, Result, Ok, Err, Global, length}
+use Rattle.std.proofs.Common.{sym, subst, min, ◌≡◌, ◌∙◌, ◌-◌, ◌^◌, ◌≤◌, inl, inr, ℕ, List, Bool, [], ◌∷◌, Some, None, Result, Ok, Err, length}
 use Rattle.std.specs.Prelude.{⊤, slice_get}
 use Rattle.draid_spec.specs.declared.layout.Geometry.{Geometry}
 use Rattle.draid_perm.specs.declared.perms.Perms.{Perms}

@@ -10,7 +10,6 @@ use Rattle.draid_rack.specs.declared.Rack as racks
 use Rattle.draid_area.specs.declared.Area as areas
 use Rattle.draid_lines.proofs.Ends.{lines_none}
 use Rattle.draid_lines.specs.Lines.{most_lines, Rest, WhereKnown, lines_of}
-use Rattle.draid_script.specs.Grammar.{line_of}
 use Rattle.draid_script.specs.Line.{Command}
 use Rattle.draid_session.specs.Said.{Said}
 use Rattle.draid_session.specs.Choices.{Choices}
@@ -25,7 +24,7 @@ use Rattle.draid_run.specs.Places.{IsInside, line_at, line_behind, place_after, 
 use Rattle.draid_run.specs.Script.{AreBuilt, IsBuilt, all_said, BreaksOff, Ends, EndsSection, FaultyShut, GetsReplies, LineFaultIs, MayEndAt, Shows, said_text, texts_of}
 use Rattle.draid_run.specs.Serve.{BrokenLine, Cut, LaneStopped, LineIs, Placed, Printed, Served, Serving, TextIs, Untold, end_at}
 use Rattle.draid_pool.specs.Shelves.{OnShelf}
-use Rattle.draid_run.specs.Shelves.{AreaHasFailed, AreaRose, FaultIn, HasFailed, HasFault, HoldsDesk, HoldsFault, MakesLeavesAt, MakesLeavesBy, IsClosed, MayFind, RackFault, TellsAsBefore}
+use Rattle.draid_run.specs.Shelves.{FaultIn, HasFailed, HasFault, HoldsDesk, HoldsFault, MakesLeavesAt, MakesLeavesBy, IsClosed, MayFind, RackFault, TellsAsBefore}
 use Rattle.draid_run.specs.declared.status.LineRefusal.{LineRefusal}
 use Rattle.draid_run.specs.declared.status.LineRefusal.TheVariants as refusal
 use Rattle.draid_script.specs.declared.fault.LineFaultKind.TheVariants as line_fault
@@ -381,7 +380,7 @@ module _ {R A : Type 0} (rack : racks.Ghosts R) (area : areas.Ghosts A) (choices
         let counted = is.count_is in
         at_rest (Inside lanes) past input rest start held now pool count is (Line number (refusal.Fault line_fault.Lane) 0) tt (refl, refl)
         (all_lines input rest rest' is.lines is.known end (Ends (Line number (refusal.Fault line_fault.Lane) 0) None is.lines) (λ bytes e.
-            (inr (e, subst IsInside (sym is.stands) tt, refl, refl), omega (arith, counted, n))))
+        (inr (e, subst IsInside (sym is.stands) tt, refl, refl), omega (arith, counted, n))))
         refl is.printed (λ e. cc e) (λ which place kind e. cc e)
     served_done Ended past input rest rest' start held now pool count number n is end = absurd (is.goes_on refl)
 

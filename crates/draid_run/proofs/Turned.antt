@@ -1,5 +1,5 @@
 -- A line among those of a session, and the lines of a run as those of a session.
-use Rattle.std.proofs.Common.{◌≡◌, refl, subst, ℕ, Bool, List, [], ◌∷◌, ◌++◌, Result, Ok, Err, arith, length}
+use Rattle.std.proofs.Common.{◌≡◌, refl, subst, ℕ, Bool, List, [], ◌∷◌, ◌++◌, Result, Ok, Err, length}
 use Rattle.draid_names.specs.declared.journal.Entry.{Entry}
 use Rattle.draid_script.specs.Grammar.{line_of}
 use Rattle.draid_script.specs.Line.{Command, ImportPool, OpenLanes, RunAgent, ShowJournal, Silent}

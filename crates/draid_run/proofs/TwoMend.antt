@@ -1,5 +1,5 @@
 -- Two lanes have a rebuild or a scrub just where that is found.
-use Rattle.std.proofs.Common.{arith, refl, sym, subst, ap, ◌≡◌, ◌∙◌, ◌<◌, ℕ, zero, suc, List, Bool, true, false, [], ◌∷◌, Option, Some, None}
+use Rattle.std.proofs.Common.{arith, refl, subst, ◌≡◌, ◌<◌, ℕ, zero, suc, List, Bool, true, false, [], ◌∷◌, Some}
 use Rattle.std.specs.Prelude.{slice_get}
 use Rattle.draid_script.specs.Line.{Command, RebuildPool, ScrubPool}
 use Rattle.draid_session.specs.Sections.{ClashesMend, LaneMends, Mends}

@@ -323,7 +323,7 @@ unfailing rack area choices words status input old new entry now first it at tel
         let all : AllOf MakesNoPool it.session.lines = all_front MakesNoPool it.session.lines rest (subst (AllOf MakesNoPool) is makes) in
         let front : AllOf MakesNoPool s.front = all_front MakesNoPool s.front (s.line ∷ []) (subst (AllOf MakesNoPool) s.lines_are all) in
         let behind = run_up choices (MayFind rack area entry) entry Outside s.front s.said (Inside s.lanes) (sits first []) (sits s.old it.session.journal) front (first_up first entry at known) (first_agrees first entry at tells)
-            (subst (λ t. RunsOn choices (MayFind rack area entry) t Outside (sits first []) s.front s.said (Inside s.lanes) (sits s.old it.session.journal)) tells s.before) in
+        (subst (λ t. RunsOn choices (MayFind rack area entry) t Outside (sits first []) s.front s.said (Inside s.lanes) (sits s.old it.session.journal)) tells s.before) in
         lane_not entry now none s.old it.session.mid behind.0 (subst (λ d. HoldsDesk (left_of d) entry now) breaks.1 it.shelf) s.failed
 
     by : (to : Place) (broken : Option (List ℕ)) → it.session.to ≡ to → it.session.broken ≡ broken → MayEndAt it.session.to ShelfFault it.session.broken → Ends ShelfFault it.session.broken it.session.lines input
@@ -335,7 +335,7 @@ unfailing rack area choices words status input old new entry now first it at tel
         broke text there same ends breaks =
             let all : AllOf MakesNoPool (it.session.lines ++ (text ∷ ends.0)) = subst (AllOf MakesNoPool) ends.1 makes in
             let behind = run_up choices (MayFind rack area entry) entry Outside it.session.lines it.session.replies it.session.to (sits first []) (sits it.session.mid it.session.journal) (all_front MakesNoPool it.session.lines (text ∷ ends.0) all)
-                (first_up first entry at known) (first_agrees first entry at tells) told_runs in
+            (first_up first entry at known) (first_agrees first entry at tells) told_runs in
             let led = led_on choices (MayFind rack area entry) true Outside (sits first []) it.session.lines it.session.replies it.session.to (sits it.session.mid it.session.journal) (λ e. (let f = sym there ∙ e in cc f)) told_runs in
             let asked : line_of text ≡ line_behind it.session.lines text = ap (λ p. line_at p text) (sym there ∙ led) in
             none_fails entry now none area text it.session.lines (subst MakesNoPoolIn asked (all_back MakesNoPool it.session.lines (text ∷ ends.0) all).0) it.session.saids it.session.mid it.last behind.0 behind.1 it.shelf breaks

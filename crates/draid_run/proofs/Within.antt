@@ -1,13 +1,11 @@
 -- Lines inside a section, and its end.
-use Rattle.std.proofs.Common.{arith, refl, sym, subst, ap, ◌≡◌, ◌∙◌, ◌<◌, ◌≤◌, ◌⊎◌, inl, inr, ℕ, zero, suc, List, Bool, true, false, [], ◌∷◌, ◌++◌, Option, Some, None, Result, Ok, Err, Vec, Global, length, map, flat_map, replicate, slice_index_or, slice_set}
-use Rattle.std.specs.Prelude.{⊤, IfErr, IfOk, max, if◌then◌else◌}
-use Rattle.std.specs.Io.KnownBytes.{Appends}
+use Rattle.std.proofs.Common.{arith, refl, sym, subst, ap, ◌≡◌, ◌∙◌, ◌≤◌, inl, inr, ℕ, zero, suc, List, Bool, true, false, [], ◌∷◌, ◌++◌, Option, Some, None, Result, Ok, Err, Vec, Global, length, map, flat_map, replicate, slice_index_or, slice_set}
+use Rattle.std.specs.Prelude.{IfErr, IfOk, max, if◌then◌else◌}
 use Rattle.std.specs.List.{list_any}
 use Rattle.draid_names.specs.declared.journal.Entry.{Entry}
 use Rattle.draid_names.specs.declared.room.Room.{Room}
 use Rattle.draid_rack.specs.declared.Rack as racks
 use Rattle.draid_area.specs.declared.Area as areas
-use Rattle.draid_objects.specs.Changes.{Change}
 use Rattle.draid_script.proofs.Read.{lane_inv}
 use Rattle.draid_script.specs.Grammar.{lane_of, line_of}
 use Rattle.draid_script.specs.Line.{Command, FillObjects, FreeObject, InLane, IsInRange, LaneCommand, OpenLanes, ReadObject, RebuildPool, ScrubPool, SectionEnd, SilentLane, SumObjects, SyncPool, TakeOffline, TakeOnline, WriteObject, most_lanes}
@@ -24,7 +22,7 @@ use Rattle.draid_session.specs.Lanes.{Section, Together}
 use Rattle.draid_session.specs.Holds.{Hold}
 use Rattle.draid_session.specs.Looks.{AllOf}
 use Rattle.draid_session.specs.Places.{Ended, Inside, Outside, Place}
-use Rattle.draid_session.specs.Said.{Said, alone}
+use Rattle.draid_session.specs.Said.{Said}
 use Rattle.draid_session.specs.Sections.{LaneTurns, OutsideTurns, SectionTurns, opened_lanes, with_command}
 use Rattle.draid_session.specs.Session.{Desk, Untouched, Bare, Made, Open, Shut, Foreign, Unknown, sits}
 use Rattle.draid_session.specs.State.{State, Store}
@@ -34,8 +32,8 @@ use Rattle.draid_pool.specs.declared.pool.Pool.{Pool}
 use Rattle.draid_run.specs.Crashes.{LeavesFirm}
 use Rattle.draid_run.specs.Desks.{IsDesk, asked_in}
 use Rattle.draid_run.specs.Places.{asked_inside, line_at}
-use Rattle.draid_run.specs.Script.{IsBuilt, MayEndAt, texts_of}
-use Rattle.draid_run.specs.Sections.{AreLanes, IsOfLane, PrintsAre, RanIs, SectionIs, lanes_in, place_in, place_next, place_of, saids_of}
+use Rattle.draid_run.specs.Script.{IsBuilt, MayEndAt}
+use Rattle.draid_run.specs.Sections.{AreLanes, IsOfLane, RanIs, SectionIs, lanes_in, place_in, place_next, place_of, saids_of}
 use Rattle.draid_run.specs.Serve.{LineIs, Placed, Printed, PrintIs, done_of, opened_by}
 use Rattle.draid_run.specs.Shelves.{MayFind}
 use Rattle.draid_run.specs.declared.sections.LaneReplies.{LaneReplies}

@@ -63,12 +63,7 @@ fn refusal(lanes: &[Vec<Line>]) -> Option<Reply>
 }
 
 /// Runs the lanes of a section on the pool that is open, if one is and they may be run. Else there is one reply.
-pub(crate) fn run_lanes<
-    R: Rack,
-    A: Area,
-    F: Fn(&[Room]) -> Option<u32> + Sync,
-    G: Sections<R, A>,
->(
+pub(crate) fn run_lanes<R: Rack, A: Area, F: Fn(&[Room]) -> Option<u32> + Sync, G: Sections<R, A>>(
     alloc: Global,
     sections: &G,
     pool: &mut Option<Pool<R, A>>,
@@ -108,12 +103,7 @@ fn lane_text(alloc: Global, lane: u64, reply: &Reply) -> Result<Vec<u8>, NoMemor
 }
 
 /// Prints a reply to a lane, as one `put`.
-fn print_said<K: Sink>(
-    alloc: Global,
-    sink: &mut K,
-    lane: u64,
-    reply: &Reply,
-) -> Result<(), Status>
+fn print_said<K: Sink>(alloc: Global, sink: &mut K, lane: u64, reply: &Reply) -> Result<(), Status>
     ensures prints { PrintIs (said_text (record { lane = Some lane; reply = reply.now })) (K.held sink.old) (K.held sink.new) result }
     ensures later { K.faults sink.old ≤ K.faults sink.new }
     ensures cause { result ≡ Err Status.SinkFault → Rose (K.faults sink.old) (K.faults sink.new) }

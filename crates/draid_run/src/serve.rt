@@ -161,13 +161,7 @@ fn serve_section<
 
 /// Does what a line of this number asks for inside a section: a lane gets a line more, or the section ends. Where it goes on
 /// these are its lanes.
-fn serve_inside<
-    R: Rack,
-    A: Area,
-    K: Sink,
-    F: Fn(&[Room]) -> Option<u32> + Sync,
-    G: Sections<R, A>,
->(
+fn serve_inside<R: Rack, A: Area, K: Sink, F: Fn(&[Room]) -> Option<u32> + Sync, G: Sections<R, A>>(
     alloc: Global,
     sections: &G,
     pool: &mut Option<Pool<R, A>>,
@@ -280,9 +274,7 @@ fn serve_line<
         None => serve_outside(
             rt, alloc, shelf, pool, chooser, policy, journal, sink, number, text,
         ),
-        Some(lanes) => {
-            serve_inside(alloc, sections, pool, chooser, sink, number, text, lanes)
-        }
+        Some(lanes) => { serve_inside(alloc, sections, pool, chooser, sink, number, text, lanes) }
     }
 }
 

@@ -119,7 +119,9 @@ pub fn run<
         Err(WordsFault::NoMemory) => return end_run(alloc, sink, Status::NoMemory),
     }
     let mut pool = None;
-    let ended = serve(rt, alloc, sections, shelf, &mut pool, chooser, policy, source, sink);
+    let ended = serve(
+        rt, alloc, sections, shelf, &mut pool, chooser, policy, source, sink,
+    );
     give_back(shelf, pool);
     end_run(alloc, sink, ended)
 }

@@ -35,7 +35,11 @@ pub fn runs_are_sessions<R: Rack, A: Area, D: Decides>(rack: &R, area: &A, decid
 
 /// Law: where no line opens a section, the lines of a run are answered one by one outside sections, and it stands there behind
 /// them. The laws of sessions outside sections speak of such lines.
-pub fn runs_without_sections_stay_outside<R: Rack, A: Area, D: Decides>(rack: &R, area: &A, decider: &D)
+pub fn runs_without_sections_stay_outside<R: Rack, A: Area, D: Decides>(
+    rack: &R,
+    area: &A,
+    decider: &D,
+)
     ensures outside { (entry : OnShelf) (tells : Bool) (to : Place) (lines : List (List ℕ)) (replies : List (List Said)) (old new : Sitting)
         → RunsOn (D.choices decider.now) (MayFind R.Rack A.Area entry) tells Outside old lines replies to new → AllOf OpensNone lines
         → (to ≡ Outside) × Runs (D.choices decider.now) (MayFind R.Rack A.Area entry) tells old lines replies new }

@@ -14,7 +14,7 @@ use Rattle.draid_session.specs.Choices.{choices_by}
 use Rattle.draid_session.specs.Sections.{ClashesMend, NoClash, RefusesSection}
 use Rattle.draid_run.specs.Desks.{IsPool}
 use Rattle.draid_run.specs.Sections.{IsStopped, LanesTeach, RunsSection, SamePool, StopWhere, lanes_in, replies_in}
-use Rattle.draid_run.proofs.Ran.{of_err, of_ok, pool_whole, same_pool, section_closed, section_ran, section_refused}
+use Rattle.draid_run.proofs.Ran.{of_err, of_ok, pool_whole, same_pool, section_ran, section_refused}
 use Rattle.draid_run.proofs.lanes.run_lanes.Goals as goal
 
 pub returns-in-Some-refusal : goal.returns-in-Some-refusal

@@ -1,7 +1,7 @@
-use Rattle.std.proofs.Common.{◌≡◌, ◌∙◌, Ok, Err, ap, refl, subst, sym}
+use Rattle.std.proofs.Common.{◌∙◌, Ok, ap, refl, subst, sym}
 use Rattle.std.specs.Fn.{FnReturnsAt}
 use Rattle.draid_script.specs.Grammar.{lane_of}
-use Rattle.draid_script.specs.Line.{InLane, SectionEnd, IsLaneLine, SilentLane, command_in, lane_command_in}
+use Rattle.draid_script.specs.Line.{InLane, IsLaneLine, SilentLane, command_in, lane_command_in}
 use Rattle.draid_session.specs.Choices.{choices_by}
 use Rattle.draid_session.specs.Places.{Inside, Outside}
 use Rattle.draid_run.specs.Sections.{lanes_in}
