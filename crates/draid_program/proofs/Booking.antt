@@ -12,6 +12,7 @@ use Rattle.draid_words.specs.declared.mode.Mode.TheVariants.{Session}
 use Rattle.draid_words.specs.declared.mode.WordsFault.{WordsFault}
 use Rattle.draid_session.specs.Book.{blank, closed}
 use Rattle.draid_session.specs.Choices.{Choices}
+use Rattle.draid_session.specs.Places.{Outside}
 use Rattle.draid_pool.specs.Shelves.{OnShelf}
 use Rattle.draid_run.specs.Script.{EndsWithLine, Ends, Prints}
 use Rattle.draid_run.specs.Shelves.{HoldsBare}
@@ -42,7 +43,9 @@ starved_book words exit input old new it = record {
     ended = NoMemory;
     broken = None;
     saids = [];
-    answers = record { mid = blank; last = blank; answers = refl; ends = (refl, refl); made = refl };
+    to = Outside;
+    answers = record { mid = blank; last = blank; answers = (refl, refl); ends = (refl, refl); made = refl };
+    may = tt;
     broke = tt;
     ends = nothing input;
     shows = inl refl;

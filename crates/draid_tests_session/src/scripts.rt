@@ -37,7 +37,16 @@ pub fn run_chosen<R: AllocGlobal + Threads + Sync, F: Fn(&[Room]) -> Option<u32>
         { first_free(slot, logged, free) },
     );
     match words_of(rt.alloc(), line) {
-        Ok(words) => Some(run(rt, &NoSections, &words, shelf, source, sink, chooser, &policy)),
+        Ok(words) => Some(run(
+            rt,
+            &NoSections,
+            &words,
+            shelf,
+            source,
+            sink,
+            chooser,
+            &policy,
+        )),
         Err(_) => None,
     }
 }
