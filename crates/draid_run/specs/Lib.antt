@@ -1,4 +1,5 @@
 pub mod Books
+pub mod Clashes
 pub mod Closing
 pub mod Crashes
 pub mod Desks
@@ -7,9 +8,11 @@ pub mod Importing
 pub mod Lines
 pub mod Making
 pub mod Next
+pub mod Places
 pub mod Rebalancing
 pub mod Repairing
 pub mod Script
+pub mod Sections
 pub mod Serve
 pub mod Shelves
 pub mod Spares
