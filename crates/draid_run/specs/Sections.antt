@@ -1,9 +1,12 @@
 -- Who runs the lanes of a section over a pool, and what that comes to.
-use Rattle.std.specs.Prelude.{◌≡◌, ◌<◌, ◌≤◌, ◌++◌, ⊤, ℕ, Bool, true, false, List, [], ◌∷◌, Option, Some, None, Result, Ok, Err, IfSome, length, map, if◌then◌else◌}
+use Rattle.std.specs.Prelude.{◌≡◌, ◌<◌, ◌≤◌, ◌++◌, ⊤, ℕ, Bool, true, false, List, [], ◌∷◌, Option, Some, None, Result, Ok, Err, IfSome, length, map, if◌then◌else◌, IfErr, IfOk}
+use Rattle.std.specs.Fn.{Shared}
 use Rattle.std.specs.Io.KnownBytes.{Appends}
 use Rattle.std.specs.List.{list_any}
 use Rattle.std.specs.declared.vec.Vec.{Vec}
 use Rattle.std.specs.declared.alloc.Global.{Global}
+use Rattle.draid_names.specs.declared.fault.NoMemory.{NoMemory as WantsMemory}
+use Rattle.draid_names.specs.declared.room.Room.{Room}
 use Rattle.draid_rack.specs.declared.Rack as racks
 use Rattle.draid_area.specs.declared.Area as areas
 use Rattle.draid_script.specs.Line.{Command, IsInRange, command_in, most_lanes}
@@ -11,7 +14,7 @@ use Rattle.draid_script.specs.Writing.{IsForLanes}
 use Rattle.draid_script.specs.declared.line.Line.{Line}
 use Rattle.draid_reply.specs.declared.reply.Reply.{Reply}
 use Rattle.draid_lines.specs.Sink.{AppendsFront}
-use Rattle.draid_session.specs.Choices.{Choices}
+use Rattle.draid_session.specs.Choices.{Choices, choices_by}
 use Rattle.draid_session.specs.Known.{Known}
 use Rattle.draid_session.specs.Lanes.{Section}
 use Rattle.draid_session.specs.Looks.{AllOf}
@@ -20,9 +23,11 @@ use Rattle.draid_session.specs.Said.{Said, alone}
 use Rattle.draid_session.specs.Sections.{ClashesMend, LanesLearn, NoClash, SectionTurns, to_lanes}
 use Rattle.draid_session.specs.Session.{Desk}
 use Rattle.draid_session.specs.State.{State}
+use Rattle.draid_pool.specs.Failing.{AreaRose, AreasLater}
 use Rattle.draid_pool.specs.Knows.{KnowsPointers}
 use Rattle.draid_pool.specs.Pointers.{SamePointers}
 use Rattle.draid_pool.specs.Pools.{Represents}
+use Rattle.draid_pool.specs.Whole.{IsWhole}
 use Rattle.draid_pool.specs.declared.pool.Pool.{Pool}
 use Rattle.draid_pool.specs.Shelves.{OnShelf}
 use Rattle.draid_run.specs.Desks.{IsDesk}
@@ -97,6 +102,24 @@ module _ {R A : Type 0} where
     pub later : Known
     pub learn : LanesLearn lanes replies known later
     pub fits : KnowsPointers new later
+
+module _ {R A : Type 0} (rack : racks.Ghosts R) (area : areas.Ghosts A) where
+  -- What a section came to over a whole pool, which is whole behind it. Where memory was wanting before a lane ran the pool is as it was. Else it tells which lanes were stopped, and whatever is known of the pool, what
+  -- they did is told by their replies. Areas are to blame only where they failed in the section, and what has failed stays counted.
+  pub record SectionMet (choices : Choices) (lanes : List (List Command)) (pool new : Pool R A) (result : Result (Vec LaneReplies Global) WantsMemory) : Type 0 where
+    pub whole : IsWhole rack area new
+    pub refused : IfErr result (λ _. SamePool pool new)
+    pub stops : IfOk result (λ ran. StopWhere lanes ran.items)
+    pub runs : IfOk result (λ ran. (x : State) → Represents rack area pool x → RunsSection rack area choices x lanes (replies_in ran.items) new)
+    pub teach : IfOk result (λ ran. (known : Known) → KnowsPointers pool known → LanesTeach lanes (replies_in ran.items) known new)
+    pub cause : IfOk result (λ ran. IsStopped ran.items → AreaRose area.faults pool new)
+    pub later : AreasLater area.faults pool new
+
+  -- A closure that runs the lanes of each section which may be run, over each whole pool. Blocks go to metaslabs by these choices.
+  pub record RunsSections {S : Type 0} (g : Shared S (Pool R A × (Vec (Vec Line Global) Global × Unit {0})) (Pool R A × Result (Vec LaneReplies Global) WantsMemory)) (chosen : List Room → Option ℕ → Type 0) (f : S) : Type 0 where
+    pub callable : (pool : Pool R A) (lanes : Vec (Vec Line Global) Global) → IsWhole rack area pool → MayRunLanes (lanes_in lanes.items) → g.pre f (pool, (lanes, tt))
+    pub meets : (pool new : Pool R A) (lanes : Vec (Vec Line Global) Global) (result : Result (Vec LaneReplies Global) WantsMemory) → IsWhole rack area pool → MayRunLanes (lanes_in lanes.items) → g.post f (pool, (lanes, tt)) (new, result)
+        → SectionMet (choices_by chosen) (lanes_in lanes.items) pool new result
 
 -- ---- the lanes of a section that is read
 

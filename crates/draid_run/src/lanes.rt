@@ -1,7 +1,6 @@
 //! A section: its lines are kept as they are read, and at its end its lanes run.
 ghost use Rattle.std.specs.Prelude.{◌≡◌, ◌<◌, ◌≤◌, [], IfNone, IfOk, IfSome, Some, Err, length, replicate};
 ghost use Rattle.std.specs.Fn.{FnReturnsAt};
-ghost use Rattle.draid_choose.specs.Rooms.{IsChooser};
 ghost use Rattle.draid_names.specs.Faults.{Rose};
 ghost use Rattle.draid_script.specs.Line.{command_in};
 ghost use Rattle.draid_session.specs.Choices.{choices_by};
@@ -63,14 +62,13 @@ fn refusal(lanes: &[Vec<Line>]) -> Option<Reply>
 }
 
 /// Runs the lanes of a section on the pool that is open, if one is and they may be run. Else there is one reply.
-pub(crate) fn run_lanes<R: Rack, A: Area, F: Fn(&[Room]) -> Option<u32> + Sync, G: Sections<R, A>>(
-    alloc: Global,
+pub(crate) fn run_lanes<R: Rack, A: Area, F: Fn(&[Room]) -> Option<u32>, G: Sections<R, A>>(
     sections: &G,
     pool: &mut Option<Pool<R, A>>,
     chooser: &Chooser<F>,
     lanes: Vec<Vec<Line>>,
 ) -> Result<Vec<LaneReplies>, Reply>
-    requires chooser { IsChooser F.Fn chooser.now }
+    requires sections { G.ready sections.now (FnReturnsAt F.Fn chooser.now) }
     requires lanes { AreLanes lanes.items }
     requires desk { (x : Desk) × IsPool R.Rack A.Area pool.old x }
     ensures did { (entry now : OnShelf) (x : Desk) → IsDesk R.Rack A.Area entry now pool.old x
@@ -83,7 +81,7 @@ pub(crate) fn run_lanes<R: Rack, A: Area, F: Fn(&[Room]) -> Option<u32> + Sync, 
         *pool = Some(open);
         return Err(reply);
     }
-    let (open, ran) = sections.run_section(alloc, open, chooser, lanes);
+    let (open, ran) = sections.run_section(chooser, open, lanes);
     *pool = Some(open);
     match ran {
         Ok(ran) => Ok(ran),

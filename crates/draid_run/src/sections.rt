@@ -6,7 +6,6 @@ use draid_pool::Pool;
 use draid_rack::Rack;
 use draid_reply::Reply;
 use draid_script::Line;
-use std::alloc::Global;
 
 /// What a lane replied.
 #[derive(Drop)]
@@ -19,84 +18,84 @@ pub struct LaneReplies {
 
 /// Who runs the lanes of a section over a pool.
 pub trait Sections<R: Rack, A: Area> {
-    ghost use Rattle.std.specs.Prelude.{IfOk, IfErr};
+    ghost use Rattle.std.specs.Prelude.{ℕ, List, Option};
     ghost use Rattle.std.specs.Fn.{FnReturnsAt};
-    ghost use Rattle.draid_choose.specs.Rooms.{IsChooser};
+    ghost use Rattle.draid_names.specs.declared.room.Room.{Room as RoomOf};
     ghost use Rattle.draid_session.specs.Choices.{choices_by};
-    ghost use Rattle.draid_session.specs.Known.{Known};
-    ghost use Rattle.draid_session.specs.State.{State};
-    ghost use Rattle.draid_pool.specs.Failing.{AreaRose, AreasLater, RacksLater};
-    ghost use Rattle.draid_pool.specs.Knows.{KnowsPointers};
-    ghost use Rattle.draid_pool.specs.Pools.{Represents};
     ghost use Rattle.draid_pool.specs.Whole.{IsWhole};
-    ghost use Rattle.draid_run.specs.Sections.{IsStopped, LanesTeach, MayRunLanes, RunsSection, SamePool, StopWhere, lanes_in, replies_in};
+    ghost use Rattle.draid_run.specs.Sections.{MayRunLanes, SectionMet, lanes_in};
+
+    /// That lanes may be run, whose blocks go to metaslabs by these choices.
+    ghost ready: { Self → (List RoomOf → Option ℕ → Type 0) → Type 0 };
 
     /// Does the lines of each lane one after another, beside those of the others, and gives the replies of each. A lane ends behind a line in which an area of the pool failed, and the others
     /// go on. Where memory is wanting before one runs, none does, and the pool is as it was.
-    fn run_section<F: Fn(&[Room]) -> Option<u32> + Sync>(
+    fn run_section<F: Fn(&[Room]) -> Option<u32>>(
         &self,
-        alloc: Global,
-        pool: Pool<R, A>,
         chooser: &Chooser<F>,
+        pool: Pool<R, A>,
         lanes: Vec<Vec<Line>>,
     ) -> (Pool<R, A>, Result<Vec<LaneReplies>, NoMemory>)
-        requires chooser { IsChooser F.Fn chooser.now }
+        requires ready { ready self.now (FnReturnsAt F.Fn chooser.now) }
         requires whole { IsWhole R.Rack A.Area pool }
         requires lanes { MayRunLanes (lanes_in lanes.items) }
-        ensures whole { IsWhole R.Rack A.Area result.0 }
-        ensures refused { IfErr result.1 (λ _. SamePool pool result.0) }
+        ensures { SectionMet R.Rack A.Area (choices_by (FnReturnsAt F.Fn chooser.now)) (lanes_in lanes.items) pool result.0 result.1 };
+}
 
-        // Which lanes were stopped; and whatever is known of the pool, what they did is told by their replies.
-        ensures stops { IfOk result.1 (λ ran. StopWhere (lanes_in lanes.items) ran.items) }
-        ensures runs { IfOk result.1 (λ ran. (x : State) → Represents R.Rack A.Area pool x
-            → RunsSection R.Rack A.Area (choices_by (FnReturnsAt F.Fn chooser.now)) x (lanes_in lanes.items) (replies_in ran.items) result.0) }
-        ensures teach { IfOk result.1 (λ ran. (known : Known) → KnowsPointers pool known → LanesTeach (lanes_in lanes.items) (replies_in ran.items) known result.0) }
+/// Runs the lanes of sections by a closure.
+pub struct SectionsBy<S> {
+    pub run: S,
+}
 
-        // Areas are to blame only where they failed in this section, and what has failed stays counted.
-        ensures cause { IfOk result.1 (λ ran. IsStopped ran.items → AreaRose A.faults pool result.0) }
-        ensures later { AreasLater A.faults pool result.0 }
-        ensures racks_later { RacksLater R.faults pool result.0 };
+impl<
+    R: Rack,
+    A: Area,
+    S: Fn(Pool<R, A>, Vec<Vec<Line>>) -> (Pool<R, A>, Result<Vec<LaneReplies>, NoMemory>),
+> Sections<R, A> for SectionsBy<S> {
+    ghost use Rattle.std.specs.Fn.{FnReturnsAt};
+    ghost use Rattle.draid_session.specs.Choices.{choices_by};
+    ghost use Rattle.draid_pool.specs.Whole.{IsWhole};
+    ghost use Rattle.draid_run.specs.Sections.{MayRunLanes, RunsSections, SectionMet, lanes_in};
+
+    ghost ready = { λ s chosen. RunsSections R.Rack A.Area S.Fn chosen s.run };
+
+    fn run_section<F: Fn(&[Room]) -> Option<u32>>(
+        &self,
+        _chooser: &Chooser<F>,
+        pool: Pool<R, A>,
+        lanes: Vec<Vec<Line>>,
+    ) -> (Pool<R, A>, Result<Vec<LaneReplies>, NoMemory>)
+        requires ready { RunsSections R.Rack A.Area S.Fn (FnReturnsAt F.Fn _chooser.now) self.now.run }
+        requires whole { IsWhole R.Rack A.Area pool }
+        requires lanes { MayRunLanes (lanes_in lanes.items) }
+        ensures { SectionMet R.Rack A.Area (choices_by (FnReturnsAt F.Fn _chooser.now)) (lanes_in lanes.items) pool result.0 result.1 }
+    {
+        (self.run)(pool, lanes)
+    }
 }
 
 /// Runs no lanes, as where memory is wanting.
 pub struct NoSections;
 
 impl<R: Rack, A: Area> Sections<R, A> for NoSections {
-    ghost use Rattle.std.specs.Prelude.{IfOk, IfErr};
+    ghost use Rattle.std.specs.Prelude.{⊤};
     ghost use Rattle.std.specs.Fn.{FnReturnsAt};
-    ghost use Rattle.draid_choose.specs.Rooms.{IsChooser};
     ghost use Rattle.draid_session.specs.Choices.{choices_by};
-    ghost use Rattle.draid_session.specs.Known.{Known};
-    ghost use Rattle.draid_session.specs.State.{State};
-    ghost use Rattle.draid_pool.specs.Failing.{AreaRose, AreasLater, RacksLater};
-    ghost use Rattle.draid_pool.specs.Knows.{KnowsPointers};
-    ghost use Rattle.draid_pool.specs.Pools.{Represents};
     ghost use Rattle.draid_pool.specs.Whole.{IsWhole};
-    ghost use Rattle.draid_run.specs.Sections.{IsStopped, LanesTeach, MayRunLanes, RunsSection, SamePool, StopWhere, lanes_in, replies_in};
+    ghost use Rattle.draid_run.specs.Sections.{MayRunLanes, SectionMet, lanes_in};
 
-    fn run_section<F: Fn(&[Room]) -> Option<u32> + Sync>(
+    ghost ready = { λ s chosen. ⊤ };
+
+    fn run_section<F: Fn(&[Room]) -> Option<u32>>(
         &self,
-        _alloc: Global,
-        pool: Pool<R, A>,
         chooser: &Chooser<F>,
+        pool: Pool<R, A>,
         lanes: Vec<Vec<Line>>,
     ) -> (Pool<R, A>, Result<Vec<LaneReplies>, NoMemory>)
-        requires chooser { IsChooser F.Fn chooser.now }
+        requires ready { ⊤ }
         requires whole { IsWhole R.Rack A.Area pool }
         requires lanes { MayRunLanes (lanes_in lanes.items) }
-        ensures whole { IsWhole R.Rack A.Area result.0 }
-        ensures refused { IfErr result.1 (λ _. SamePool pool result.0) }
-
-        // Which lanes were stopped; and whatever is known of the pool, what they did is told by their replies.
-        ensures stops { IfOk result.1 (λ ran. StopWhere (lanes_in lanes.items) ran.items) }
-        ensures runs { IfOk result.1 (λ ran. (x : State) → Represents R.Rack A.Area pool x
-            → RunsSection R.Rack A.Area (choices_by (FnReturnsAt F.Fn chooser.now)) x (lanes_in lanes.items) (replies_in ran.items) result.0) }
-        ensures teach { IfOk result.1 (λ ran. (known : Known) → KnowsPointers pool known → LanesTeach (lanes_in lanes.items) (replies_in ran.items) known result.0) }
-
-        // Areas are to blame only where they failed in this section, and what has failed stays counted.
-        ensures cause { IfOk result.1 (λ ran. IsStopped ran.items → AreaRose A.faults pool result.0) }
-        ensures later { AreasLater A.faults pool result.0 }
-        ensures racks_later { RacksLater R.faults pool result.0 }
+        ensures { SectionMet R.Rack A.Area (choices_by (FnReturnsAt F.Fn chooser.now)) (lanes_in lanes.items) pool result.0 result.1 }
     {
         (pool, Err(NoMemory))
     }

@@ -134,7 +134,7 @@ fn serve_section<
     R: Rack,
     A: Area,
     K: Sink,
-    F: Fn(&[Room]) -> Option<u32> + Sync,
+    F: Fn(&[Room]) -> Option<u32>,
     G: Sections<R, A>,
 >(
     alloc: Global,
@@ -144,7 +144,7 @@ fn serve_section<
     sink: &mut K,
     lanes: Vec<Vec<Line>>,
 ) -> Result<(), Status>
-    requires chooser { IsChooser F.Fn chooser.now }
+    requires sections { G.ready sections.now (FnReturnsAt F.Fn chooser.now) }
     requires lanes { AreLanes lanes.items }
     requires desk { (x : Desk) × IsPool R.Rack A.Area pool.old x }
     ensures line { (past : List Entry) (number : ℕ) (text : List ℕ) (entry now : OnShelf) (x : Desk) → lane_of (length (lanes_in lanes.items)) text ≡ Ok SectionEnd
@@ -153,7 +153,7 @@ fn serve_section<
     ensures later { K.faults sink.old ≤ K.faults sink.new }
     ensures cause { result ≡ Err Status.SinkFault → Rose (K.faults sink.old) (K.faults sink.new) }
 {
-    match run_lanes(alloc, sections, pool, chooser, lanes) {
+    match run_lanes(sections, pool, chooser, lanes) {
         Ok(ran) => print_ran(alloc, sink, &ran),
         Err(reply) => print_reply(alloc, sink, reply),
     }
@@ -161,7 +161,7 @@ fn serve_section<
 
 /// Does what a line of this number asks for inside a section: a lane gets a line more, or the section ends. Where it goes on
 /// these are its lanes.
-fn serve_inside<R: Rack, A: Area, K: Sink, F: Fn(&[Room]) -> Option<u32> + Sync, G: Sections<R, A>>(
+fn serve_inside<R: Rack, A: Area, K: Sink, F: Fn(&[Room]) -> Option<u32>, G: Sections<R, A>>(
     alloc: Global,
     sections: &G,
     pool: &mut Option<Pool<R, A>>,
@@ -171,7 +171,7 @@ fn serve_inside<R: Rack, A: Area, K: Sink, F: Fn(&[Room]) -> Option<u32> + Sync,
     text: &[u8],
     mut lanes: Vec<Vec<Line>>,
 ) -> Result<Option<Vec<Vec<Line>>>, Status>
-    requires chooser { IsChooser F.Fn chooser.now }
+    requires sections { G.ready sections.now (FnReturnsAt F.Fn chooser.now) }
     requires lanes { AreLanes lanes.items }
     requires desk { (x : Desk) × IsPool R.Rack A.Area pool.old x }
     ensures line { (past : List Entry) (entry now : OnShelf) (x : Desk) → IsDesk R.Rack A.Area entry now pool.old x
@@ -242,7 +242,7 @@ fn serve_outside<
 fn serve_line<
     H: Shelf,
     K: Sink,
-    F: Fn(&[Room]) -> Option<u32> + Sync,
+    F: Fn(&[Room]) -> Option<u32>,
     P: Fn(u32, u64, &[u32]) -> Option<u32>,
     G: Sections<H::R, H::A>,
 >(
@@ -260,6 +260,7 @@ fn serve_line<
     text: &[u8],
 ) -> Result<Option<Vec<Vec<Line>>>, Status>
     requires chooser { IsChooser F.Fn chooser.now }
+    requires sections { G.ready sections.now (FnReturnsAt F.Fn chooser.now) }
     requires policy { IsPolicy P.Fn policy.now }
     requires reading { IsReading section }
     requires desk { (x : Desk) × IsPool H.R.Rack H.A.Area pool.old x }
@@ -363,7 +364,7 @@ pub(crate) fn serve<
     H: Shelf,
     S: Source,
     K: Sink,
-    F: Fn(&[Room]) -> Option<u32> + Sync,
+    F: Fn(&[Room]) -> Option<u32>,
     P: Fn(u32, u64, &[u32]) -> Option<u32>,
     G: Sections<H::R, H::A>,
 >(
@@ -378,6 +379,7 @@ pub(crate) fn serve<
     sink: &mut K,
 ) -> Status
     requires chooser { IsChooser F.Fn chooser.now }
+    requires sections { G.ready sections.now (FnReturnsAt F.Fn chooser.now) }
     requires policy { IsPolicy P.Fn policy.now }
     requires closed { pool.old ≡ None }
     ensures served { (first : Desk) → HoldsDesk first (on_shelf H.Shelf shelf.old) (on_shelf H.Shelf shelf.old)

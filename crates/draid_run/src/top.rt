@@ -80,7 +80,7 @@ pub fn run<
     H: Shelf,
     S: Source,
     K: Sink,
-    F: Fn(&[Room]) -> Option<u32> + Sync,
+    F: Fn(&[Room]) -> Option<u32>,
     P: Fn(u32, u64, &[u32]) -> Option<u32>,
     G: Sections<H::R, H::A>,
     A: AllocGlobal + Threads + Sync,
@@ -95,6 +95,7 @@ pub fn run<
     policy: &Policy<P>,
 ) -> Status
     requires chooser { IsChooser F.Fn chooser.now }
+    requires sections { G.ready sections.now (FnReturnsAt F.Fn chooser.now) }
     requires policy { IsPolicy P.Fn policy.now }
     ensures run { RunIs H.R.Rack H.A.Area (choices_with (FnReturnsAt F.Fn chooser.now) (PolicyReturns P.Fn policy.now)) (map string_bytes words.now) result (S.left source.old) (K.held sink.old) (K.held sink.new) (on_shelf H.Shelf shelf.old) (on_shelf H.Shelf shelf.new) }
 
