@@ -16,6 +16,7 @@ pub mod MendLeads
 pub mod MendLooks
 pub mod MendRebuilt
 pub mod MendSays
+pub mod MendSees
 pub mod MendStays
 pub mod MendSteps
 pub mod MendSyncs
