@@ -46,6 +46,7 @@ use Rattle.draid_lanes.proofs.RoundWords.{Says, said_as}
 use Rattle.draid_works.specs.Mended.{BeginsMend, MendsThrough, SyncsWaiting}
 use Rattle.draid_works.specs.Told.{MendBut}
 use Rattle.draid_works.proofs.MendFar.{But, Far}
+use Rattle.draid_works.proofs.MendFinds.{finds_other, looks_alone}
 use Rattle.draid_works.proofs.MendLooks.{Looked, LookedAll, finds_looked, is_seen, looked_all, marks_looked, none_of_kind, sees_marked, sees_unmarked}
 use Rattle.draid_works.proofs.MendSays.{EndsIn, answers}
 use Rattle.draid_works.proofs.MendSees.{Seen}
@@ -66,7 +67,7 @@ module _ {R A G W : Type 0} (rack : racks.Ghosts R) (area : areas.Ghosts A) (x :
   mend_holds kind limit a b u v result (inl (begun, mid, new, starts, rest)) = rest_holds mid b u v begun new (Some result) rest
   mend_holds kind limit a b u v result (inr it) = []
 
-rebuild_heals : Rebuild ≡ Heal → ⊥
+pub rebuild_heals : Rebuild ≡ Heal → ⊥
 rebuild_heals same = absurd (cc)
 
 -- none of the views is visited
@@ -132,9 +133,6 @@ module _ {R A G W : Type 0} (rack : racks.Ghosts R) (area : areas.Ghosts A) (x :
 
   -- ---- or nothing
 
-  looks_alone : (all : List Metaslab) → length all ≡ x.geometry.props.metaslabs → Looks x.geometry.props.metaslabs (looks_at 0 all) (seen_at 0 all)
-  looks_alone all long = subst (λ n. LooksFrom 0 n (looks_at 0 all) (seen_at 0 all)) long (looked 0 all)
-
   nothing_said : (a b mid : Locked R A G W) (u : Uber A) → Looked rack area x owns own old a u → FindsPass rack area lane_last (LaneWent rack area) true owns x.geometry.props.metaslabs Heal a None mid
       → FindsMarks rack area lane_last (LaneWent rack area) true owns x.geometry.props.metaslabs mid None b → Says rack area x old b [] (MendBut x Rebuild limit (Err fault.Nothing))
   nothing_said a b mid u l none marks =
@@ -158,7 +156,7 @@ module _ {R A G W : Type 0} (rack : racks.Ghosts R) (area : areas.Ghosts A) (x :
             views = seen_at 0 all.ys;
             rest = [];
             t = passes.nothing_yet;
-            finds = record { looks = looks_at 0 all.ys; are = sym (append-nil (looks_at 0 all.ys)); looked = looks_alone all.ys all.long; alone = none_of_kind rack area x owns own old b u two.ready all.ys all.long all.each Heal alone };
+            finds = record { looks = looks_at 0 all.ys; are = sym (append-nil (looks_at 0 all.ys)); looked = looks_alone x all.ys all.long; alone = none_of_kind rack area x owns own old b u two.ready all.ys all.long all.each Heal alone };
             visits = unvisited x Rebuild (passes.IsRebuilt x.geometry x.perms) (seen_at 0 all.ys) limit passes.nothing_yet unseen;
             none = refl;
           },
@@ -166,48 +164,11 @@ module _ {R A G W : Type 0} (rack : racks.Ghosts R) (area : areas.Ghosts A) (x :
       ))
 
   -- one has a scrub
-  module _ (metaslab number : ℕ) (a b : Locked R A G W) (u : Uber A) (l : Looked rack area x owns own old a u) (found : FindsPass rack area lane_last (LaneWent rack area) true owns x.geometry.props.metaslabs Heal a (Some (metaslab, number)) b) where
-    abbrev stop : StoppedBy rack area lane_last (LaneWent rack area) true owns (λ none before after. SeesPass Heal None before after) (λ before after. SeesPass Heal (Some number) before after) x.geometry.props.metaslabs a b
-    stop = found.0
-
-    -- those below it have none
-    below_alone : (k : ℕ) (shard : Shard R A) → k < stop.place → lane_last b k ≡ Some shard → IsOnly Rebuild shard
-    below_alone k shard less at =
-        let z = only_upto rack area lane_last (LaneWent rack area) true owns Heal stop.place stop.sum a stop.mid stop.front k less in
-        let same : lane_last b k ≡ lane_last stop.mid k = stop.stop.is k ∙ ap (λ t. if t then Some stop.stop.after else lane_last stop.mid k) (ne_eqb k stop.place (λ is. omega (arith, is, less))) in
-        subst (λ (s : Shard R A). IsOnly Rebuild s) (some_same z.0 shard (sym z.1 ∙ (sym same ∙ at))) z.2
-
-    here_is : lane_last b stop.place ≡ Some stop.stop.after
-    here_is = stop.stop.is stop.place ∙ ap (λ t. if t then Some stop.stop.after else lane_last stop.mid stop.place) (eq-eqb stop.place stop.place refl)
-
-    there_said : Says rack area x old b [] (MendBut x Rebuild limit (Err (fault.PassThere metaslab number)))
-    there_said =
-        let two = finds_looked rack area x owns own old Heal (Some (metaslab, number)) a b u found l in
-        let all = looked_all rack area x owns own old old_all old_many b u two in
-        let seen = is_seen rack area x owns own old b u two.ready all.ys all.long all.each in
-        let below = stop.below in
-        let many = all.long in
-        let y = present all.ys stop.place (omega (arith, below, many)) in
-        let s = seen stop.place y.0 y.1 in
-        let has = stop.stop.did.found in
-        let same : stop.stop.after ≡ s.shard = some_same stop.stop.after s.shard (sym here_is ∙ s.there) in
-        let is = subst (λ (t : Shard R A). IsMetaslab rack area (part_in x stop.place) s.pieces t y.0) (sym same ∙ stop.stop.did.same) s.is in
-        let lowest : passes.IsLowestPassOf Heal (seen_at 0 all.ys) (0 + stop.place) number =
-        lowest_seen rack area Heal 0 stop.place number all.ys y.0 (pass_in stop.stop.before.slots has.pass) y.1 (is.stands.is_in.pass ∙ ap (option_map (pass_in stop.stop.before.slots)) has.has) has.kind_is has.number_is
-        (λ j z less at bad. (let t = seen j z at in kind_unseen rack area Heal x j t.shard z t.pieces t.is (below_alone j t.shard less t.there) (0 + j) bad)) in
-        said_as rack area x old b [] (λ hs. LeavesLooks hs (looks_at 0 all.ys)) (MendBut x Rebuild limit (Err (fault.PassThere metaslab number))) all.said
-        (λ hs leaves. (
-          looks_at 0 all.ys,
-          leaves,
-          (
-            refl,
-            record {
-              views = seen_at 0 all.ys;
-              looked = looks_alone all.ys all.long;
-              lowest = subst (λ k. passes.IsLowestPassOf Heal (seen_at 0 all.ys) k number) (let place : 0 + stop.place ≡ metaslab = (let is = found.1 in omega (arith, is)) in place) lowest;
-            },
-          ),
-        ))
+  there_said : (metaslab number : ℕ) (a b : Locked R A G W) (u : Uber A) → Looked rack area x owns own old a u → FindsPass rack area lane_last (LaneWent rack area) true owns x.geometry.props.metaslabs Heal a (Some (metaslab, number)) b
+      → Says rack area x old b [] (MendBut x Rebuild limit (Err (fault.PassThere metaslab number)))
+  there_said metaslab number a b u l found =
+      said_as rack area x old b [] (But (λ hs. passes.FindsOther x.geometry x.perms Rebuild hs metaslab number)) (MendBut x Rebuild limit (Err (fault.PassThere metaslab number)))
+      (finds_other rack area x owns own old old_all old_many Heal metaslab number a b u l found Rebuild refl) (λ hs d. (d.0, d.1, (refl, d.2)))
 
   -- ---- all of it
 
