@@ -11,11 +11,15 @@ pub mod MendArms
 pub mod MendBegun
 pub mod MendFails
 pub mod MendFar
+pub mod MendFinds
 pub mod MendLater
 pub mod MendLeads
 pub mod MendLooks
 pub mod MendRebuilt
 pub mod MendSays
+pub mod MendScrubbed
+pub mod MendScrubs
+pub mod MendSees
 pub mod MendStays
 pub mod MendSteps
 pub mod MendSyncs

@@ -5,6 +5,8 @@ use native.Mathlib.Decide.{ℕ_discrete}
 use Rattle.std.specs.Prelude.{cond, slice_get, slice_index_or}
 use Rattle.std.proofs.lemmas.List.{append-nil, append_assoc, length-append}
 use Rattle.std.proofs.lemmas.List.Elements.{All-cons, All-nil}
+use Rattle.draid_names.specs.declared.pass_kind.PassKind.{PassKind}
+use Rattle.draid_names.specs.declared.pass_kind.PassKind.TheVariants.{Heal}
 use Rattle.draid_rack.specs.declared.Rack as racks
 use Rattle.draid_area.specs.declared.Area as areas
 use Rattle.draid_machine.specs.State as machine
@@ -25,6 +27,7 @@ use Rattle.draid_pool.specs.declared.cell.Cell.{Cell}
 use Rattle.draid_pool.proofs.Holding.{some_same}
 use Rattle.draid_pool.proofs.Places.{get_set_other, get_set_same, set_length}
 use Rattle.draid_pool.proofs.ShardSteps.{follows_since}
+use Rattle.draid_visits.specs.Steps.{HadContents}
 use Rattle.draid_lanes.specs.Governing.{lane_last}
 use Rattle.draid_lanes.specs.Locks.{Went, left_in}
 use Rattle.draid_lanes.specs.Traces.{IsShardTurn, LaneTurn, holds_in}
@@ -32,8 +35,9 @@ use Rattle.draid_lanes.specs.Waits.{LaneWent}
 use Rattle.draid_lanes.specs.declared.locked.Locked.{Locked}
 use Rattle.draid_lanes.proofs.Drifted.{left_append}
 use Rattle.draid_lanes.proofs.OneTurn.{CameTo, HasCame, Once, came_at, came_on, found_came, gone, only_at}
-use Rattle.draid_lanes.proofs.RoundWords.{Says}
+use Rattle.draid_lanes.proofs.RoundWords.{Says, said_as}
 use Rattle.draid_lanes.proofs.Tracing.{PassWent, Traced, starts_self, went_none}
+use Rattle.draid_works.proofs.MendSees.{Seen, found_had}
 
 -- ---- holds of one metaslab
 
@@ -57,8 +61,10 @@ pub record LedTo {R A : Type 0} (rack : racks.Ghosts R) (area : areas.Ghosts A) 
   pub done : told holds
   pub is : IsMetaslab rack area (part_in x m) pieces after reached
 
-abbrev pub TellsMany : {R A : Type 0} → racks.Ghosts R → areas.Ghosts A → State → ℕ → (List Hold → Type 0) → Shard R A → Shard R A → Type 0
-TellsMany rack area x m told before after = (pieces : Pieces) (y : Metaslab) → IsMetaslab rack area (part_in x m) pieces before y → LedTo rack area x m y after told
+-- so it is of a scrub where the metaslab's blocks had bytes
+abbrev pub TellsMany : {R A : Type 0} → racks.Ghosts R → areas.Ghosts A → State → ℕ → PassKind → (List Hold → Type 0) → Shard R A → Shard R A → Type 0
+TellsMany rack area x m kind told before after =
+    (pieces : Pieces) (y : Metaslab) → IsMetaslab rack area (part_in x m) pieces before y → LedTo rack area x m y after (λ hs. (kind ≡ Heal → HadContents rack area (part_in x m) before y) → told hs)
 
 -- ---- the turn
 
@@ -179,5 +185,13 @@ module _ {R A G W : Type 0} (rack : racks.Ghosts R) (area : areas.Ghosts A) (x :
       came = came_many;
     }
 
-  pub said_many : TellsMany rack area x m told h.before h.after → Says rack area x a b [] told
-  said_many tells = (let g = gone rack area x owns does a m b h came in said_led (tells g.now g.reached g.is))
+module _ {R A G W : Type 0} (rack : racks.Ghosts R) (area : areas.Ghosts A) (x : State) (owns : ℕ → Bool) (kind : PassKind) (does : Shard R A → Shard R A → Type 0) (told : List Hold → Type 0) (a : Locked R A G W) (m : ℕ) (b : Locked R A G W) (h : Once rack area x owns does a m b)
+    (came : HasCame rack area x a) where
+  abbrev had : Metaslab → Type 0
+  had y = kind ≡ Heal → HadContents rack area (part_in x m) h.before y
+
+  pub said_many : TellsMany rack area x m kind told h.before h.after → Says rack area x a b [] (Seen rack area x kind b told)
+  said_many tells =
+      let g = gone rack area x owns does a m b h came in
+      said_as rack area x a b [] (λ hs. had g.reached → told hs) (Seen rack area x kind b told) (said_led rack area x owns does (λ hs. had g.reached → told hs) a m b h came (tells g.now g.reached g.is))
+      (λ hs d saw. d (λ heal. found_had rack area x a b m h.before h.after g.reached h.goes (found_came rack area x owns does a m b h came) (saw heal)))

@@ -1,4 +1,5 @@
 use Rattle.std.proofs.Common.{◌∙◌, ap, sym, subst}
+use Rattle.draid_spec.specs.Geometry.{IsGeometry}
 use Rattle.draid_spec.specs.declared.layout.Geometry.{Geometry}
 use Rattle.draid_names.specs.declared.pass_kind.PassKind.TheVariants.{Rebuild}
 use Rattle.draid_lanes.specs.Traces.{SawBytes}
@@ -12,6 +13,6 @@ returns-clause-told g c x same many =
     let lane = c.args.lane in
     let did = c.mend_in_lane in
     let e = did.ensures in
-    rebuild_told g.R.Rack g.A.Area x c.args.limit lane did.result.0 did.result.1 is.lane_is is.same is.first
-    (subst (λ (q : Geometry). MendedIn g.R.Rack g.A.Area q Rebuild c.args.limit lane.uber.now lane.metaslabs did.result.0.metaslabs did.result.1 lane.pass did.result.0.pass) (sym same) e.mends)
-    e.whole.lane_is e.same.turns e.same.uber c.requires.passes (is.many ∙ ap (λ (q : Geometry). q.props.metaslabs) (sym same)) many e.knows (SawBytes g.R.Rack g.A.Area x did.result.0)
+    rebuild_told g.R.Rack g.A.Area x c.args.limit lane did.result.0 did.result.1 is.lane_is is.same is.first e.whole.lane_is e.same.turns e.same.uber c.requires.passes (is.many ∙ ap (λ (q : Geometry). q.props.metaslabs) (sym same)) many
+    (subst IsGeometry (sym same) c.requires.geometry) e.knows
+    (subst (λ (q : Geometry). MendedIn g.R.Rack g.A.Area q Rebuild c.args.limit lane.uber.now lane.metaslabs did.result.0.metaslabs did.result.1 lane.pass did.result.0.pass) (sym same) e.mends) (SawBytes g.R.Rack g.A.Area x did.result.0)
