@@ -3,6 +3,7 @@ pub mod Alone
 pub mod Arms
 pub mod Ascending
 pub mod Bytes
+pub mod BytesKept
 pub mod Closed
 pub mod Commits
 pub mod Committed
