@@ -35,7 +35,7 @@ use Rattle.draid_lanes.specs.declared.locked.Locked.{Locked}
 use Rattle.draid_lanes.proofs.GroupWords.{GroupBut, group_refused, group_starved, group_unclosed, group_unsealed, group_went, name_hold}
 use Rattle.draid_lanes.proofs.OneTurn.{HasCame, Once, gone}
 use Rattle.draid_lanes.proofs.OnlyLooking.{Looks, same_looks}
-use Rattle.draid_lanes.proofs.RoundWords.{Each, IsOneOf, Says, TellsAt, said_as, said_none, said_on, said_one}
+use Rattle.draid_lanes.proofs.RoundWords.{Each, IsOneOf, Says, TellsAt, looks_end, said_as, said_none, said_on, said_one}
 use Rattle.draid_lanes.proofs.SealWords.{SealedTo, SealedUpto, Sealing, closed_all, closes_again, closes_upto, finds_again, leaves_look, leaves_self, leaves_then, look_on, seals_again, seals_from, sees_again, waits_on, was_closing, was_sealed}
 use Rattle.draid_lanes.proofs.SealWords.SealedTo.{Behind, Under}
 
@@ -71,7 +71,7 @@ module _ {R A G W : Type 0} (rack : racks.Ghosts R) (area : areas.Ghosts A) (x :
       let after : h.after.closing ≡ h.before.closing = ap (λ (s : Shard R A). s.closing) h.did.0 in (
         record {
           said = said_on rack area x a b c [] [] (λ hs. LeavesLooks hs []) (IsOneOf IsLookOnly) (λ hs. LeavesLooks hs []) f.said
-              (said_one rack area x owns (SeesClosing found) IsLookOnly b m c h f.said.came (λ pieces y is. same_looks rack area (part_in x m) pieces h.before h.after y is h.did.0)) (λ hs ks l one. leaves_look hs [] ks l one);
+              (said_one rack area x owns (SeesClosing found) IsLookOnly b m c h f.said.came (λ pieces y is. same_looks rack area (part_in x m) pieces h.before h.after y is h.did.0) looks_end) (λ hs ks l one. leaves_look hs [] ks l one);
           same = λ k shard at. dite (ℕ_discrete k m)
               (λ same.
               let is : h.after ≡ shard = some_same h.after shard (sym (h.is m ∙ ap (λ t. if t then Some h.after else lane_last b m) (eq-eqb m m refl)) ∙ (ap (lane_last c) (sym same) ∙ at)) in

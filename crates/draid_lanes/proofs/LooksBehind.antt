@@ -101,6 +101,7 @@ module _ {R A : Type 0} (rack : racks.Ghosts R) (area : areas.Ghosts A) (x : Sta
         reached_is = t.reached_is;
         follows = subst (λ v. FollowsIn (layout_in (part_in x m)) m (holds ++ On (view_of m v) Looked ∷ []) t.found t.reached) (one_came m (left_in lock seen) t.reached y reached came)
             (follows_more (layout_in (part_in x m)) m holds t.found t.reached t.follows);
+        bytes = t.bytes;
       }
 
   module _ (lock : Lock (Cell R A)) (m : ℕ) (pass next : Caller (Past (Cell R A))) (y : Metaslab) (came : CameTo rack area x m (left_in lock next.seen) y) where

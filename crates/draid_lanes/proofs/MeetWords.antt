@@ -19,8 +19,10 @@ use Rattle.draid_turn.specs.Calls.{Caller, Lock}
 use Rattle.draid_turn.specs.Lists.{AllAbove, Ascends, StartsWith, merge, with_place}
 use Rattle.draid_turn.specs.declared.past.Past.{Past}
 use Rattle.draid_pool.specs.Drifts.{GoesOn}
+use Rattle.draid_pool.specs.Metaslabs.{IsMetaslab}
 use Rattle.draid_pool.specs.Pools.{part_in}
 use Rattle.draid_pool.specs.declared.cell.Cell.{Cell}
+use Rattle.draid_pool.proofs.BytesKept.{still_bytes}
 use Rattle.draid_pool.proofs.Lists.{present, some_of}
 use Rattle.draid_pool.proofs.Looking.{looks_at}
 use Rattle.draid_lanes.specs.Governing.{lane_last}
@@ -142,6 +144,7 @@ module _ {R A : Type 0} (rack : racks.Ghosts R) (area : areas.Ghosts A) (x : Sta
       found_is = came_at rack area x lock meets.log m (left_in lock met.seen) y found_same came;
       reached_is = came_at rack area x lock (meets.log ++ meets.left ∷ []) m (left_in lock met.seen) y (ap (left_in lock) (sym meets.seen)) came;
       follows = (Looked, y, refl, refl, refl);
+      bytes = still_bytes rack area (part_in x m) (left_in lock meets.log) meets.left.left.shard y (λ pieces is. subst (λ (c : Cell R A). IsMetaslab rack area (part_in x m) pieces c.shard y) (sym meets.still) is);
     }
 
     pub glance_went : Ascends lane.own → other.own ≡ [] → PassWent rack area x lock m lane met (record { place = length met.seen - 1; holds = On (view_of m y) Looked ∷ [] } ∷ [])

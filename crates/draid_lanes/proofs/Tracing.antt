@@ -61,6 +61,7 @@ module _ {R A : Type 0} (rack : racks.Ghosts R) (area : areas.Ghosts A) (x : Sta
     found_is = t.found_is;
     reached_is = t.reached_is;
     follows = t.follows;
+    bytes = t.bytes;
   }
 
   -- the last of some turns, behind which nothing was seen

@@ -18,6 +18,7 @@ use Rattle.draid_machine.specs.After.{is_freed_block, keep_if, seal_held, set_he
 use Rattle.draid_machine.specs.Names.{is_block, is_freed_by, key_eq}
 use Rattle.draid_machine.specs.State as machine
 use Rattle.draid_machine.specs.Step.{Step}
+use Rattle.draid_entries.specs.Entries.{held_in}
 use Rattle.draid_entries.specs.Maps.{key_of}
 use Rattle.draid_machine.proofs.Small.{bool_cases, both_true, key_refl, key_true, some_injective}
 use Rattle.draid_objects.specs.Blocks.{DoesToBlocks, SameBlocks, Table, is_block_in, without_freed}
@@ -32,7 +33,7 @@ use Rattle.draid_shard.specs.States.{layout_by, part_of}
 use Rattle.draid_shard.specs.declared.shard.Shard.{Shard}
 use Rattle.draid_shard.proofs.Standing.{has_layout}
 use Rattle.draid_pool.specs.Bytes.{HasBytes, HaveBytes}
-use Rattle.draid_pool.specs.Drifts.{GoesWithBytes, KeepsBytes}
+use Rattle.draid_pool.specs.Drifts.{GoesWithBytes, KeepsBytes, KeepsTo, is_other}
 use Rattle.draid_pool.specs.Metaslabs.{IsMetaslab}
 use Rattle.draid_pool.specs.Shards.{FollowsIn, FreesIn, Goes}
 use Rattle.draid_pool.proofs.Bytes.{same_bytes, staged_bytes}
@@ -50,6 +51,11 @@ TableHas geometry pieces table = (key : Key) (h : Held) → table key ≡ Some h
 abbrev pub EndsWithBytes : Geometry → Pieces → Table → Event → Type 0
 EndsWithBytes geometry pieces table (Finish key) = (h : Held) → table key ≡ Some h → HasBytes geometry h key pieces
 EndsWithBytes geometry pieces table e = ⊤
+
+-- what an act ends as a block has bytes
+abbrev pub ActEnds : Geometry → Pieces → Table → Act → Type 0
+ActEnds geometry pieces table (Did e w) = EndsWithBytes geometry pieces table e
+ActEnds geometry pieces table act = ⊤
 
 staged_has : (geometry : Geometry) (h g : Held) (s : Stage) (key : Key) (pieces : Pieces) → record h { stage = s } ≡ g → HasBytes geometry h key pieces → HasBytes geometry g key pieces
 staged_has geometry h g s key pieces same has = subst (λ (i : Held). HasBytes geometry i key pieces) same (staged_bytes geometry h s key pieces has)
@@ -212,11 +218,6 @@ module _ {R A : Type 0} (rack : racks.Ghosts R) (area : areas.Ghosts A) where
     has = step_has part mid pieces old x e d.reached.world is d.step ends has;
   }
 
-  -- what an act ends as a block has bytes
-  abbrev pub ActEnds : Geometry → Pieces → Table → Act → Type 0
-  ActEnds geometry pieces table (Did e w) = EndsWithBytes geometry pieces table e
-  ActEnds geometry pieces table act = ⊤
-
   acts_has : (part : Part) (pieces : Pieces) (old : Shard R A) (x y : Metaslab) (act : Act) → IsMetaslab rack area part pieces old x → MetaslabActs (layout_in part) act x y → ActEnds part.geometry pieces x.world.core.held act → HaveBytes part.geometry pieces x → HaveBytes part.geometry pieces y
   acts_has part pieces old x y Looked is acts ends has = subst (HaveBytes part.geometry pieces) (sym acts) has
   acts_has part pieces old x y (Did e w) is acts ends has =
@@ -239,3 +240,25 @@ module _ {R A : Type 0} (rack : racks.Ghosts R) (area : areas.Ghosts A) where
       let act = Did (Free (key_of p) group) g.reached.world in
       let acts = acts_one (layout_in part) part.number act x g.reached (subst (λ hs. FollowsIn (layout_in part) part.number hs x g.reached) g.done.are g.follows) in
       act_bytes part pieces old new x g.reached act is g.is acts tt has
+
+  -- a block of another object than that which a hold concerns was there before, and has bytes where it had them
+  pub kept_bytes : (part : Part) (old new : Shard R A) (concerned : Option ℕ) (x : Metaslab) → KeepsTo rack area old new concerned → ((k : Key) (h : Held) → held_in new.entries k ≡ Some h → is_other concerned k.object ≡ true) → KeepsBytes rack area part old x new
+  kept_bytes part old new concerned x keeps others pieces is has =
+      let g = keeps.state part pieces x is in
+      record {
+        reached = g.reached;
+        pieces = g.now;
+        is = g.is;
+        since = g.since;
+        has = λ k h at block.
+            (let now : held_in new.entries k ≡ Some h = sym (g.is.stands.is_in.held k) ∙ at in
+            let other = others k h now in
+            let was : x.world.core.held k ≡ Some h = elim (keeps.others.each k other) [
+              | inl e ↦ is.stands.is_in.held k ∙ (sym e ∙ now)
+              | inr e ↦ absurd (let f : None ≡ Some h = sym e.1 ∙ now in cc)
+            ] in
+            elim (g.same k other) [
+              | inl e ↦ same_bytes part.geometry h k pieces g.now e (has k h was block)
+              | inr e ↦ subst (λ (i : Held). HasBytes part.geometry i k g.now) (some_injective e.0 h (sym e.1 ∙ was)) e.3
+            ]);
+      }
