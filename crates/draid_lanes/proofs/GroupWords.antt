@@ -1,32 +1,28 @@
 -- A group that a lane commits, or that is stopped, in the session's words, however often the lane waited before.
-use Rattle.std.proofs.Common.{◌≡◌, ◌<◌, ◌≤◌, ◌+◌, ◌++◌, ◌∷◌, ◌∙◌, ◌⊎◌, [], inl, inr, ℕ, zero, suc, Bool, true, List, Option, Some, None, Ok, Err, arith, refl, sym, ap, subst}
+use Rattle.std.proofs.Common.{◌≡◌, ◌<◌, ◌+◌, ◌++◌, ◌∷◌, [], inl, inr, ℕ, zero, suc, Bool, true, List, Ok, Err, arith, refl, sym, ap, subst}
 use Rattle.std.specs.Prelude.{Result}
 use Rattle.std.proofs.lemmas.List.{append_assoc}
 use Rattle.draid_rack.specs.declared.Rack as racks
 use Rattle.draid_area.specs.declared.Area as areas
-use Rattle.draid_segments.specs.Segments.{Pieces}
 use Rattle.draid_session.specs.Groups as groups
-use Rattle.draid_session.specs.Holds.{CommitFailed, CommitStarved, Committed, Hold, Looked, On, OnUber, UberView, view_of}
-use Rattle.draid_session.specs.Lanes.{IsLookOnly, LeavesLooks}
+use Rattle.draid_session.specs.Holds.{CommitFailed, CommitStarved, Committed, Hold, OnUber, UberView}
+use Rattle.draid_session.specs.Lanes.{LeavesLooks}
 use Rattle.draid_session.specs.Phases.{Broke, Chain, End, Starved, Walk, Went}
 use Rattle.draid_session.specs.Phases as phases
-use Rattle.draid_session.specs.State.{Metaslab, State}
+use Rattle.draid_session.specs.State.{State}
 use Rattle.draid_shard.specs.declared.shard.Shard.{Shard}
 use Rattle.draid_uber.specs.Slots.{group_of}
 use Rattle.draid_uber.specs.Uber as ubers
 use Rattle.draid_uber.specs.declared.uber.Uber.{Uber}
 use Rattle.draid_pool.specs.Drifts.{groups_number}
-use Rattle.draid_pool.specs.Grouping.{ClosesIn, CommitsNext, SealsBy, SealsNext, UberNames}
-use Rattle.draid_pool.specs.Metaslabs.{IsMetaslab}
+use Rattle.draid_pool.specs.Grouping.{ClosesIn, SealsBy, UberNames}
 use Rattle.draid_pool.specs.Pools.{part_in}
-use Rattle.draid_pool.specs.Syncing.{CloseIs, Commits, SealIs, Turns, end_of}
+use Rattle.draid_pool.specs.Syncing.{Commits, end_of}
 use Rattle.draid_pool.specs.declared.fault.SyncFault.{SyncFault}
 use Rattle.draid_pool.specs.declared.fault.SyncFault.TheVariants as sync
-use Rattle.draid_pool.proofs.SyncCalls.{end_same}
 use Rattle.draid_pool.proofs.SyncSteps.{not_went}
 use Rattle.draid_pool.proofs.Turns.{commit_turns}
 use Rattle.draid_pool.proofs.Walks.{Walked, walk_stops, walk_went}
-use Rattle.draid_lanes.specs.Governing.{lane_last}
 use Rattle.draid_lanes.specs.declared.locked.Locked.{Locked}
 use Rattle.draid_lanes.proofs.OneTurn.{HasCame, Once}
 use Rattle.draid_lanes.proofs.RoundWords.{Each, EndsNone, IsOneOf, Says, TellsAt, round_said, said_as, said_on, said_one, said_uber}

@@ -1,5 +1,5 @@
 -- What is said of a lane's holds, one after another, and in rounds over metaslabs.
-use Rattle.std.proofs.Common.{◌≡◌, ◌<◌, ◌+◌, ◌++◌, ◌∷◌, ◌∙◌, [], ℕ, zero, suc, Bool, true, List, arith, refl, sym, ap, subst}
+use Rattle.std.proofs.Common.{◌≡◌, ◌+◌, ◌++◌, ◌∷◌, [], ℕ, zero, suc, Bool, true, List, arith, refl, sym, subst}
 use Rattle.draid_rack.specs.declared.Rack as racks
 use Rattle.draid_area.specs.declared.Area as areas
 use Rattle.draid_segments.specs.Segments.{Pieces}
@@ -23,8 +23,7 @@ use Rattle.draid_lanes.specs.Governing.{lane_last}
 use Rattle.draid_lanes.specs.Traces.{LaneTurn}
 use Rattle.draid_lanes.specs.Waits.{LaneWent}
 use Rattle.draid_lanes.specs.declared.locked.Locked.{Locked}
-use Rattle.draid_lanes.proofs.OneTurn.{HasCame, Once, came_one, found_came, gone, hold, only_at, traced_one, turn}
-use Rattle.draid_lanes.proofs.OneTurn.{CameTo}
+use Rattle.draid_lanes.proofs.OneTurn.{HasCame, Once, came_one, gone, hold, only_at, traced_one, turn}
 use Rattle.draid_lanes.proofs.Tracing.{Traced, traced_none, traced_then, traced_uber}
 
 -- it is one hold, that is so

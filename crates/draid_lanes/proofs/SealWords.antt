@@ -1,7 +1,5 @@
 -- A group that is closed in all metaslabs by a lane, and sealed in more and more of them, however often the lane waits in between.
-use Rattle.std.proofs.Common.{◌≡◌, ◌==◌, ◌<◌, ◌≤◌, ◌+◌, ◌++◌, ◌∷◌, ◌∙◌, ◌⊎◌, [], inl, inr, ℕ, zero, suc, Bool, true, List, Option, Some, None, Ok, arith, refl, sym, ap, subst, if◌then◌else◌, eq-eqb, ne_eqb}
-use mathlib.Core.Logic.{dite}
-use native.Mathlib.Decide.{ℕ_discrete}
+use Rattle.std.proofs.Common.{◌≡◌, ◌==◌, ◌<◌, ◌≤◌, ◌+◌, ◌++◌, ◌∷◌, ◌∙◌, ◌⊎◌, [], inl, inr, ℕ, zero, suc, Bool, true, List, Option, Some, Ok, arith, refl, sym, ap, subst, if◌then◌else◌, ne_eqb}
 use Rattle.std.proofs.lemmas.Bool.{cases_lt}
 use Rattle.std.proofs.lemmas.List.{append-nil, append_assoc}
 use Rattle.draid_rack.specs.declared.Rack as racks
@@ -13,21 +11,19 @@ use Rattle.draid_session.specs.Lanes.{IsLookOnly, LeavesLooks}
 use Rattle.draid_session.specs.State.{Metaslab, State}
 use Rattle.draid_shard.specs.declared.shard.Shard.{Shard}
 use Rattle.draid_pool.specs.Drifts.{groups_number}
-use Rattle.draid_pool.specs.Grouping.{ClosesEach, ClosesIn, CommitsNext, SealsBy, SealsNext, SeesClosing, WaitsForWrites}
+use Rattle.draid_pool.specs.Grouping.{ClosesIn, CommitsNext, SealsBy, SealsNext, SeesClosing, WaitsForWrites}
 use Rattle.draid_pool.specs.Metaslabs.{IsMetaslab}
 use Rattle.draid_pool.specs.Pools.{part_in}
 use Rattle.draid_pool.specs.Rounds.{EachIs}
-use Rattle.draid_pool.specs.Syncing.{CloseIs, KeepsCommitted, SealIs, Turns}
 use Rattle.draid_pool.proofs.GroupKeeps.{closed_seals, commit_ready, seal_ready, sealed_again, sealed_commits}
 use Rattle.draid_pool.proofs.Holding.{some_same}
 use Rattle.draid_pool.proofs.RoundSteps.{each_more, each_stays}
 use Rattle.draid_pool.proofs.Walks.{Walked, walked_more}
 use Rattle.draid_lanes.specs.Governing.{lane_last}
-use Rattle.draid_lanes.specs.Waits.{LaneWent}
 use Rattle.draid_lanes.specs.declared.locked.Locked.{Locked}
 use Rattle.draid_lanes.proofs.OneTurn.{HasCame, Once, gone}
 use Rattle.draid_lanes.proofs.OnlyLooking.{Looks, close_looks, look_leaves, same_looks, seal_looks}
-use Rattle.draid_lanes.proofs.RoundWords.{Each, From, IsOneOf, Says, TellsAt, each_from, looks_end, round_said, said_as, said_on, said_one}
+use Rattle.draid_lanes.proofs.RoundWords.{Each, From, IsOneOf, Says, TellsAt, looks_end, round_said, said_as, said_on, said_one}
 
 -- ---- looks that are left out
 

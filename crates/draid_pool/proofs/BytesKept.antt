@@ -1,5 +1,5 @@
 -- Blocks that had bytes have them behind a hold.
-use Rattle.std.proofs.Common.{◌≡◌, ◌∙◌, ◌&&◌, ◌⊎◌, inl, inr, ℕ, Bool, true, false, List, Option, Some, None, refl, sym, ap, subst, not, if◌then◌else◌}
+use Rattle.std.proofs.Common.{◌≡◌, ◌∙◌, ◌&&◌, inl, inr, ℕ, Bool, true, false, List, Option, Some, None, refl, sym, ap, subst, not, if◌then◌else◌}
 use Rattle.std.proofs.lemmas.Bool.{true≢false}
 use Rattle.std.specs.Prelude.{⊤, IsSome, nat_le}
 use Rattle.draid_names.specs.declared.pointer.Pointer.{Pointer}
@@ -24,7 +24,7 @@ use Rattle.draid_machine.proofs.Small.{bool_cases, both_true, key_refl, key_true
 use Rattle.draid_objects.specs.Blocks.{DoesToBlocks, SameBlocks, Table, is_block_in, without_freed}
 use Rattle.draid_objects.proofs.Moving.{blocks_moved}
 use Rattle.draid_segments.specs.Segments.{Backed, Pieces, piece_of, reads_at}
-use Rattle.draid_segments.proofs.Backing.{firm_pieces, read_as}
+use Rattle.draid_segments.proofs.Backing.{read_as}
 use Rattle.draid_session.specs.Follows.{MetaslabActs}
 use Rattle.draid_session.specs.Holds.{Act, AreaFailed, CallStarved, Did, Looked, MadeLeaf, RackFailed, Reserved}
 use Rattle.draid_session.specs.State.{Metaslab}
