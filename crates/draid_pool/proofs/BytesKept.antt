@@ -1,7 +1,8 @@
 -- Blocks that had bytes have them behind a hold.
-use Rattle.std.proofs.Common.{◌≡◌, ◌∙◌, ◌&&◌, inl, inr, ℕ, Bool, true, false, List, Option, Some, None, refl, sym, ap, subst, not, if◌then◌else◌}
+use Rattle.std.proofs.Common.{◌≤◌, arith, ne_eqb, ◌≡◌, ◌∙◌, ◌&&◌, inl, inr, ℕ, Bool, true, false, List, Option, Some, None, refl, sym, ap, subst, not, if◌then◌else◌}
 use Rattle.std.proofs.lemmas.Bool.{true≢false}
 use Rattle.std.specs.Prelude.{⊤, IsSome, nat_le}
+use Rattle.draid_names.specs.declared.numbers.TheConstants.{OBJECTS}
 use Rattle.draid_names.specs.declared.pointer.Pointer.{Pointer}
 use Rattle.draid_rack.specs.Rack.{OnTold, Told}
 use Rattle.draid_rack.specs.declared.Rack as racks
@@ -31,8 +32,9 @@ use Rattle.draid_session.specs.State.{Metaslab}
 use Rattle.draid_shard.specs.Part.{Part, layout_in}
 use Rattle.draid_shard.specs.States.{layout_by, part_of}
 use Rattle.draid_shard.specs.declared.shard.Shard.{Shard}
+use Rattle.draid_shard.proofs.Held.{held_entry}
 use Rattle.draid_shard.proofs.Standing.{has_layout}
-use Rattle.draid_pool.specs.Bytes.{HasBytes, HaveBytes}
+use Rattle.draid_pool.specs.Bytes.{HasBytes, HaveBytes, KeepsContents}
 use Rattle.draid_pool.specs.Drifts.{GoesWithBytes, KeepsBytes, KeepsTo, is_other}
 use Rattle.draid_pool.specs.Metaslabs.{IsMetaslab}
 use Rattle.draid_pool.specs.Shards.{FollowsIn, FreesIn, Goes}
@@ -262,3 +264,32 @@ module _ {R A : Type 0} (rack : racks.Ghosts R) (area : areas.Ghosts A) where
               | inr e ↦ subst (λ (i : Held). HasBytes part.geometry i k g.now) (some_injective e.0 h (sym e.1 ∙ was)) e.3
             ]);
       }
+
+  -- ---- holds that concern no object
+
+  module _ (old new : Shard R A) (number : ℕ) (far : OBJECTS ≤ number) (keeps : KeepsTo rack area old new (Some number)) where
+    far_others : (k : Key) (h : Held) → held_in new.entries k ≡ Some h → is_other (Some number) k.object ≡ true
+    far_others k h at =
+        let e = held_entry new.entries k h at in
+        let small = (keeps.valid.tables.placed h.first e.e e.there).is_block.object_small in
+        let own = ap (λ (j : Key). j.object) e.key_is in
+        ap (λ c. if c then false else true) (ne_eqb number k.object (λ same. omega (arith, far, small, own, same)))
+
+    far_was : (k : Key) (h : Held) → held_in new.entries k ≡ Some h → held_in old.entries k ≡ Some h
+    far_was k h at = elim (keeps.others.each k (far_others k h at)) [
+      | inl e ↦ sym e ∙ at
+      | inr e ↦ absurd (let f : None ≡ Some h = sym e.1 ∙ at in cc)
+    ]
+
+    pub far_bytes : (part : Part) (x : Metaslab) → KeepsBytes rack area part old x new
+    far_bytes part x = kept_bytes part old new (Some number) x keeps far_others
+
+    -- with these pieces
+    pub led_bytes : (part : Part) (pieces later : Pieces) (x y : Metaslab) → IsMetaslab rack area part pieces old x → IsMetaslab rack area part later new y → KeepsContents part x pieces later → HaveBytes part.geometry pieces x → HaveBytes part.geometry later y
+    led_bytes part pieces later x y is led contents has k h at block =
+        let was : x.world.core.held k ≡ Some h = is.stands.is_in.held k ∙ far_was k h (sym (led.stands.is_in.held k) ∙ at) in
+        elim (contents.each k) [
+          | inl e ↦ same_bytes part.geometry h k pieces later e (has k h was block)
+          | inr e ↦ subst (λ (i : Held). HasBytes part.geometry i k later) (some_injective e.0 h (sym e.1 ∙ was)) e.3
+        ]
+
