@@ -34,7 +34,7 @@ use Rattle.draid_shard.specs.States.{layout_by, part_of}
 use Rattle.draid_shard.specs.declared.shard.Shard.{Shard}
 use Rattle.draid_shard.proofs.Held.{held_entry}
 use Rattle.draid_shard.proofs.Standing.{has_layout}
-use Rattle.draid_pool.specs.Bytes.{HasBytes, HaveBytes, KeepsContents}
+use Rattle.draid_pool.specs.Bytes.{HasBytes, HaveBytes}
 use Rattle.draid_pool.specs.Drifts.{GoesWithBytes, KeepsBytes, KeepsTo, is_other}
 use Rattle.draid_pool.specs.Metaslabs.{IsMetaslab}
 use Rattle.draid_pool.specs.Shards.{FollowsIn, FreesIn, Goes}
@@ -284,12 +284,13 @@ module _ {R A : Type 0} (rack : racks.Ghosts R) (area : areas.Ghosts A) where
     pub far_bytes : (part : Part) (x : Metaslab) → KeepsBytes rack area part old x new
     far_bytes part x = kept_bytes part old new (Some number) x keeps far_others
 
-    -- with these pieces
-    pub led_bytes : (part : Part) (pieces later : Pieces) (x y : Metaslab) → IsMetaslab rack area part pieces old x → IsMetaslab rack area part later new y → KeepsContents part x pieces later → HaveBytes part.geometry pieces x → HaveBytes part.geometry later y
+    -- with pieces that are the same, or those of other bytes of a block's length and digest
+    pub led_bytes : (part : Part) (pieces later : Pieces) (x y : Metaslab) → IsMetaslab rack area part pieces old x → IsMetaslab rack area part later new y
+        → ((k : Key) (h : Held) → x.world.core.held k ≡ Some h → (later k ≡ pieces k) ⊎ HasBytes part.geometry h k later) → HaveBytes part.geometry pieces x → HaveBytes part.geometry later y
     led_bytes part pieces later x y is led contents has k h at block =
         let was : x.world.core.held k ≡ Some h = is.stands.is_in.held k ∙ far_was k h (sym (led.stands.is_in.held k) ∙ at) in
-        elim (contents.each k) [
+        elim (contents k h was) [
           | inl e ↦ same_bytes part.geometry h k pieces later e (has k h was block)
-          | inr e ↦ subst (λ (i : Held). HasBytes part.geometry i k later) (some_injective e.0 h (sym e.1 ∙ was)) e.3
+          | inr e ↦ e
         ]
 

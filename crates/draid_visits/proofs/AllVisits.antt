@@ -92,7 +92,7 @@ pub none_left : (x : State) (kind : PassKind) (marks : List Bool) (m : ℕ) (at 
 none_left x kind marks m at end = subst (Of x kind marks at (record { o = passes.Ended; tally = tally_of at }) []) (sym (views_end 0 m x.metaslabs end)) (refl, refl, refl)
 
 -- there is none from a number on, nor from the next one
-past_end : (x : State) (kind : PassKind) (marks : List Bool) (m : ℕ) (at : Progress) (e : VisitsEnd) (holds : List Hold) → length x.metaslabs ≤ m → FromOn x kind marks at (m + 1) e holds → FromOn x kind marks at m e holds
+pub past_end : (x : State) (kind : PassKind) (marks : List Bool) (m : ℕ) (at : Progress) (e : VisitsEnd) (holds : List Hold) → length x.metaslabs ≤ m → FromOn x kind marks at (m + 1) e holds → FromOn x kind marks at m e holds
 past_end x kind marks m at e holds past is = subst (Of x kind marks at e holds) (views_end 0 (m + 1) x.metaslabs (omega (arith, past)) ∙ sym (views_end 0 m x.metaslabs past)) is
 
 -- ---- a pool

@@ -93,7 +93,7 @@ module _ {R A : Type 0} (rack : racks.Ghosts R) (area : areas.Ghosts A) (kind : 
       kind_unseen x k z.0 y (r.stands.pieces k) (r.stands.each k z.0 y z.1 at) (alone k z.0 z.1) (0 + k) has))
 
   -- the lowest is seen
-  lowest_seen : (m k n : ℕ) (ys : List Metaslab) (y : Metaslab) (p : machine.Pass) → slice_get ys k ≡ Some y → y.world.core.pass ≡ Some p → p.kind ≡ kind → n ≡ p.number
+  pub lowest_seen : (m k n : ℕ) (ys : List Metaslab) (y : Metaslab) (p : machine.Pass) → slice_get ys k ≡ Some y → y.world.core.pass ≡ Some p → p.kind ≡ kind → n ≡ p.number
       → ((j : ℕ) (z : Metaslab) → j < k → slice_get ys j ≡ Some z → passes.HasPassOf kind (view_of (m + j) z) → ⊥) → passes.IsLowestPassOf kind (seen_at m ys) (m + k) n
   unfolding seen_at
   lowest_seen m k n [] y p at has kind_is number none = absurd (none_some (slice_get [] k) y refl at)

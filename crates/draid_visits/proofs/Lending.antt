@@ -32,7 +32,7 @@ pub record Ending : Type 0 where
 abbrev pub SomeLends : Geometry → Perms → PassKind → ℕ → Progress → Ending → List Hold → Type 0
 SomeLends g p kind m at e holds = (n : ℕ) × passes.Lends g p kind m n at.left (tally_of at) holds e.o e.after e.tally
 
-lent_then : (g : Geometry) (p : Perms) (kind : PassKind) (m repaired : ℕ) (at : Progress) (e : Ending) (front rest : List Hold) → (passes.IsUsedUp at.left → ⊥) → passes.LendsOne g p kind m repaired front []
+pub lent_then : (g : Geometry) (p : Perms) (kind : PassKind) (m repaired : ℕ) (at : Progress) (e : Ending) (front rest : List Hold) → (passes.IsUsedUp at.left → ⊥) → passes.LendsOne g p kind m repaired front []
     → SomeLends g p kind m (counted repaired at) e rest → SomeLends g p kind m at e (front ++ rest)
 lent_then g p kind m repaired at e front rest some l is = (
   suc is.0,
@@ -46,7 +46,7 @@ lent_then g p kind m repaired at e front rest some l is = (
 )
 
 -- why something is left
-kept_back : (g : Geometry) (p : Perms) (m : ℕ) (holds : List Hold) (how says : View → Type 0) → passes.KeepsBack g p m holds how → ((v : View) → how v → says v) → passes.KeepsBack g p m holds says
+pub kept_back : (g : Geometry) (p : Perms) (m : ℕ) (holds : List Hold) (how says : View → Type 0) → passes.KeepsBack g p m holds how → ((v : View) → how v → says v) → passes.KeepsBack g p m holds says
 kept_back g p m holds how says k so = record { v = k.v; are = k.are; there = k.there; more = k.more; why = so k.v k.why }
 
 -- the test of what is left

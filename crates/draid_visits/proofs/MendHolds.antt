@@ -37,7 +37,7 @@ beyond_stays owns last now count stay beyond m from = stay.absent m (beyond m fr
 
 module _ {R A S : Type 0} (rack : racks.Ghosts R) (area : areas.Ghosts A) (last : S → ℕ → Option (Shard R A)) (went : S → ℕ → Shard R A → Shard R A → S → Type 0) (shared : Bool) (owns : ℕ → Bool) where
   -- none of those that were looked at has a pass of the kind
-  only_upto : (kind : PassKind) (n sum : ℕ) (a b : S) → HeldEach rack area last went shared owns (λ none x y. SeesPass kind None x y) n a sum b → EachIs n (IsOnly {R = R} {A = A} (passes.other_kind kind)) (last b)
+  pub only_upto : (kind : PassKind) (n sum : ℕ) (a b : S) → HeldEach rack area last went shared owns (λ none x y. SeesPass kind None x y) n a sum b → EachIs n (IsOnly {R = R} {A = A} (passes.other_kind kind)) (last b)
   only_upto kind zero sum a b each = λ m less. absurd (omega (arith, less))
   only_upto kind (suc n) sum a b (mid, some, more, each, once, adds) =
       subst (λ k. EachIs k (IsOnly {R = R} {A = A} (passes.other_kind kind)) (last b)) (let same : n + 1 ≡ suc n = omega arith in same)
@@ -77,6 +77,10 @@ module _ {R A S : Type 0} (rack : racks.Ghosts R) (area : areas.Ghosts A) (last 
 
     pub marked_alone : (count : ℕ) (a b : S) (marks : List Bool) → FindsMarks rack area last went shared owns count a (Some marks) b → AllOnly {R = R} {A = A} kind (last a) → AllOnly {R = R} {A = A} kind (last b)
     marked_alone count a b marks sees alone = only_kept a b (sees_kept marks count a b sees) alone
+
+    pub unmarked_alone : (count : ℕ) (a b : S) → FindsMarks rack area last went shared owns count a None b → AllOnly {R = R} {A = A} kind (last a) → AllOnly {R = R} {A = A} kind (last b)
+    unmarked_alone count a b each alone =
+        only_kept a b (round_kept rack area last went shared owns (KeptFor kind) law (λ none x y. SeesRebuilt rack area false x y) (λ n x y saw. still_for x y saw.same) count 0 a b each) alone
 
 -- ---- visits, one after another
 

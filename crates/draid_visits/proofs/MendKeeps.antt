@@ -51,13 +51,13 @@ module _ {R A : Type 0} (rack : racks.Ghosts R) (area : areas.Ghosts A) where
   leaves_still : (x y : Shard R A) → Valid rack x → y ≡ x → Leaves rack area x y
   leaves_still x y valid same = subst (Leaves rack area x) (sym same) (record { valid = valid; part = refl; held = λ key. refl; groups = same_groups x x refl; state = λ of. state_self rack area of x })
 
-  leaves_starts : (kind : PassKind) (came : Result ℕ PlanFault) (x y : Shard R A) → StartsIn rack area kind x came y → Leaves rack area x y
+  pub leaves_starts : (kind : PassKind) (came : Result ℕ PlanFault) (x y : Shard R A) → StartsIn rack area kind x came y → Leaves rack area x y
   leaves_starts kind came x y s = record { valid = s.valid; part = s.part; held = s.blocks.entries.held; groups = s.groups; state = λ of. state_goes rack area of x y _ s.goes }
 
-  leaves_readies : (runs : Bool) (x y : Shard R A) → ReadiesIn rack area runs x y → Leaves rack area x y
+  pub leaves_readies : (runs : Bool) (x y : Shard R A) → ReadiesIn rack area runs x y → Leaves rack area x y
   leaves_readies runs x y r = record { valid = r.valid; part = r.part; held = r.blocks.entries.held; groups = r.groups; state = λ of. state_goes rack area of x y _ r.goes }
 
-  leaves_unit : (kind : PassKind) (used : Bool) (came : Next) (x y : Shard R A) → UnitIn rack area kind used came x y → Leaves rack area x y
+  pub leaves_unit : (kind : PassKind) (used : Bool) (came : Next) (x y : Shard R A) → UnitIn rack area kind used came x y → Leaves rack area x y
   leaves_unit kind used came x y u = record { valid = u.valid; part = u.table.part; held = u.table.entries.held; groups = u.groups; state = λ of. state_goes_later rack area of x y u.moves }
 
 -- ---- all of them

@@ -50,6 +50,25 @@ last_no_shelf why last shelf = (let e = sym last ∙ shelf in cc)
 memory_no_shelf : (why : SyncFault) → why ≡ sync.NoMemory → why ≡ sync.Shelf → ⊥
 memory_no_shelf why memory shelf = (let e = sym memory ∙ shelf in cc)
 
+-- what is said of the beginning, by its hold
+pub said_by : (kind : PassKind) (m : ℕ) (g : Geometry) (p : Perms) (holds : List Hold) (came : Result ℕ PlanFault) (result : Begun) → IsBegun came result → StartIs (record { geometry = g; perms = p; number = m }) kind came holds → BeginIs g p kind m result holds
+said_by kind m g p holds (Ok at) (begun.At stripe) is said = subst (λ n. passes.Starts g p kind m n holds Went) (sym is) said
+said_by kind m g p holds (Ok at) begun.Nothing is said = absurd is
+said_by kind m g p holds (Ok at) (begun.Stopped why) is said = absurd is
+said_by kind m g p holds (Err plan.Nothing) begun.Nothing is said = said
+said_by kind m g p holds (Err plan.Nothing) (begun.At stripe) is said = absurd is
+said_by kind m g p holds (Err plan.Nothing) (begun.Stopped why) is said = absurd is
+said_by kind m g p holds (Err (plan.Worn events)) (begun.Stopped why) is said = subst (λ y. passes.PlansNone g p kind m holds (end_by y)) (sym is) said
+said_by kind m g p holds (Err (plan.Worn events)) (begun.At stripe) is said = absurd is
+said_by kind m g p holds (Err (plan.Worn events)) begun.Nothing is said = absurd is
+said_by kind m g p holds (Err plan.Last) (begun.Stopped why) is said = subst (λ y. passes.PlansNone g p kind m holds (end_by y)) (sym is) said
+said_by kind m g p holds (Err plan.Last) (begun.At stripe) is said = absurd is
+said_by kind m g p holds (Err plan.Last) begun.Nothing is said = absurd is
+said_by kind m g p holds (Err plan.NoMemory) (begun.Stopped why) is said = subst (λ y. passes.PlansNone g p kind m holds (end_by y)) (sym is) said
+said_by kind m g p holds (Err plan.NoMemory) (begun.At stripe) is said = absurd is
+said_by kind m g p holds (Err plan.NoMemory) begun.Nothing is said = absurd is
+said_by kind m g p holds (Err (plan.PassRunning number)) result is said = absurd said
+
 module _ {R A : Type 0} (rack : racks.Ghosts R) (area : areas.Ghosts A) (kind : PassKind) (m : ℕ) (pool : Pool R A) (w : IsWhole rack area pool) where
   pub record BeginDone (new : Pool R A) (result : Begun) : Type 0 where
     pub whole : IsWhole rack area new
@@ -88,25 +107,6 @@ module _ {R A : Type 0} (rack : racks.Ghosts R) (area : areas.Ghosts A) (kind : 
     begins_by (Err (plan.PassRunning number)) begun.Nothing is s = absurd is
     begins_by (Err (plan.PassRunning number)) (begun.Stopped why) is s = absurd is
 
-    -- by its hold
-    said_by : (g : Geometry) (p : Perms) (holds : List Hold) (came : Result ℕ PlanFault) (result : Begun) → IsBegun came result → StartIs (record { geometry = g; perms = p; number = m }) kind came holds → BeginIs g p kind m result holds
-    said_by g p holds (Ok at) (begun.At stripe) is said = subst (λ n. passes.Starts g p kind m n holds Went) (sym is) said
-    said_by g p holds (Ok at) begun.Nothing is said = absurd is
-    said_by g p holds (Ok at) (begun.Stopped why) is said = absurd is
-    said_by g p holds (Err plan.Nothing) begun.Nothing is said = said
-    said_by g p holds (Err plan.Nothing) (begun.At stripe) is said = absurd is
-    said_by g p holds (Err plan.Nothing) (begun.Stopped why) is said = absurd is
-    said_by g p holds (Err (plan.Worn events)) (begun.Stopped why) is said = subst (λ y. passes.PlansNone g p kind m holds (end_by y)) (sym is) said
-    said_by g p holds (Err (plan.Worn events)) (begun.At stripe) is said = absurd is
-    said_by g p holds (Err (plan.Worn events)) begun.Nothing is said = absurd is
-    said_by g p holds (Err plan.Last) (begun.Stopped why) is said = subst (λ y. passes.PlansNone g p kind m holds (end_by y)) (sym is) said
-    said_by g p holds (Err plan.Last) (begun.At stripe) is said = absurd is
-    said_by g p holds (Err plan.Last) begun.Nothing is said = absurd is
-    said_by g p holds (Err plan.NoMemory) (begun.Stopped why) is said = subst (λ y. passes.PlansNone g p kind m holds (end_by y)) (sym is) said
-    said_by g p holds (Err plan.NoMemory) (begun.At stripe) is said = absurd is
-    said_by g p holds (Err plan.NoMemory) begun.Nothing is said = absurd is
-    said_by g p holds (Err (plan.PassRunning number)) result is said = absurd said
-
   pub begin_done : (result : Begun) (b : Owned R A) → BeginsBy rack area left_by went_by false all kind m pool.metaslabs result b → BeginDone (with_owned pool b) result
   begin_done result b (came, is, once) =
       let new = with_owned pool b in
@@ -119,5 +119,5 @@ module _ {R A : Type 0} (rack : racks.Ghosts R) (area : areas.Ghosts A) (kind : 
         idle = idle_set rack area m pool new once.before once.after set e.blocks.groups.closing;
         begins = begins_by new once.before once.after set came result is e;
         carries = λ x represents. steps_as rack area (λ g p holds. StartIs (record { geometry = g; perms = p; number = m }) kind came holds) (λ g p holds. BeginIs g p kind m result holds) pool new
-            (steps_in rack area m pool new once.before once.after (λ part holds. StartIs part kind came holds) set (λ part pieces y own has. e.goes part pieces y own)) (λ g p holds said. said_by new once.before once.after set g p holds came result is said) x represents;
+            (steps_in rack area m pool new once.before once.after (λ part holds. StartIs part kind came holds) set (λ part pieces y own has. e.goes part pieces y own)) (λ g p holds said. said_by kind m g p holds came result is said) x represents;
       }

@@ -46,7 +46,7 @@ runs_so g p kind m place old at front back o after t is ready n lends = record {
   lends = subst (λ (q : Progress). passes.Lends g p kind m n q.left (tally_of q) back o after t) is lends;
 }
 
-run_so : (g : Geometry) (p : Perms) (kind : PassKind) (m place : ℕ) (old at new : Progress) (result : Visit) (front back : List Hold) → at ≡ begun (passes.pool_stripe g p m place) old → passes.ReadyPhase g p kind m front Went
+pub run_so : (g : Geometry) (p : Perms) (kind : PassKind) (m place : ℕ) (old at new : Progress) (result : Visit) (front back : List Hold) → at ≡ begun (passes.pool_stripe g p m place) old → passes.ReadyPhase g p kind m front Went
     → LendIs g p kind m at result new back → RunIs g p kind m place old result new (front ++ back)
 run_so g p kind m place old at new visit.Over front back is ready lends = runs_so g p kind m place old at front back passes.Ended new.left (tally_of new) is ready lends.0 lends.1
 run_so g p kind m place old at new visit.Paused front back is ready lends = runs_so g p kind m place old at front back passes.Paused new.left (tally_of new) is ready lends.0 lends.1
@@ -71,7 +71,7 @@ visits_so g p kind m place old front back o after t starts runs = record {
   lends = runs.lends;
 }
 
-visit_so : (g : Geometry) (p : Perms) (kind : PassKind) (m place : ℕ) (old new : Progress) (result : Visit) (front back : List Hold) → passes.Starts g p kind m place front Went → RunIs g p kind m place old result new back
+pub visit_so : (g : Geometry) (p : Perms) (kind : PassKind) (m place : ℕ) (old new : Progress) (result : Visit) (front back : List Hold) → passes.Starts g p kind m place front Went → RunIs g p kind m place old result new back
     → VisitIs g p kind m old result new (front ++ back)
 visit_so g p kind m place old new visit.Over front back starts runs = inl (visits_so g p kind m place old front back passes.Ended new.left (tally_of new) starts runs)
 visit_so g p kind m place old new visit.Paused front back starts runs = visits_so g p kind m place old front back passes.Paused new.left (tally_of new) starts runs
@@ -81,7 +81,7 @@ visit_so g p kind m place old new (visit.Stopped why) front back starts (inr rea
     inr (record { «at» = place; stopped = not_went Unit why; begins = begins_run g p kind m place front back (end_by why) starts ready })
 
 -- it couldn't begin
-stops_at : (g : Geometry) (p : Perms) (kind : PassKind) (m : ℕ) (holds : List Hold) (why : SyncFault) → passes.PlansNone g p kind m holds (end_by why) → passes.VisitStops g p kind m holds (end_by why)
+pub stops_at : (g : Geometry) (p : Perms) (kind : PassKind) (m : ℕ) (holds : List Hold) (why : SyncFault) → passes.PlansNone g p kind m holds (end_by why) → passes.VisitStops g p kind m holds (end_by why)
 stops_at g p kind m holds sync.Worn none = record { «at» = 0; stopped = not_went Unit sync.Worn; begins = inr (not_went Unit sync.Worn, none) }
 stops_at g p kind m holds sync.Last none = record { «at» = 0; stopped = not_went Unit sync.Last; begins = inr (not_went Unit sync.Last, none) }
 stops_at g p kind m holds sync.Shelf none = record { «at» = 0; stopped = not_went Unit sync.Shelf; begins = inr (not_went Unit sync.Shelf, none) }

@@ -88,7 +88,7 @@ module _ {R A : Type 0} (rack : racks.Ghosts R) (area : areas.Ghosts A) where
     step = λ x y part pass. record { part = part; only = kind_kept kind x.pass y.pass pass };
   }
 
-  quiet_by : (owns : ℕ → Bool) (x y : Shard R A) → Valid rack y → part_of y ≡ part_of x → KeepsBlocks x y → KeepsQuiet rack owns x y
+  pub quiet_by : (owns : ℕ → Bool) (x y : Shard R A) → Valid rack y → part_of y ≡ part_of x → KeepsBlocks x y → KeepsQuiet rack owns x y
   quiet_by owns x y valid part blocks = record { keeps = record { valid = valid; part = part; entries = record { each = λ key own. inl (blocks.entries.held key) } }; committed = blocks.groups.committed }
 
   -- the beginning of a visit

@@ -32,16 +32,16 @@ Readying g p m end holds = passes.ReadyPhase g p Rebuild m holds end
 abbrev pub SyncsOnce : Says
 SyncsOnce g p holds = (group : ℕ) × (thin : ℕ) × groups.Syncs g p group thin holds Went
 
-waits_then : (g : Geometry) (p : Perms) (m : ℕ) (end : End) (front rest : List Hold) → passes.Waits g p m front [] → Awaits g p m end rest → Readying g p m end (front ++ rest)
+pub waits_then : (g : Geometry) (p : Perms) (m : ℕ) (end : End) (front rest : List Hold) → passes.Waits g p m front [] → Awaits g p m end rest → Readying g p m end (front ++ rest)
 waits_then g p m end front rest w is = (
   suc is.0,
   (rest, is.1, is.2, record { v = w.v; are = ap (λ hs. hs ++ rest) w.are; there = w.there; planned = w.planned; not_yet = w.not_yet }, is.3),
 )
 
-syncs_then : (g : Geometry) (p : Perms) (m : ℕ) (end : End) (front rest : List Hold) → SyncsOnce g p front → Readying g p m end rest → Awaits g p m end (front ++ rest)
+pub syncs_then : (g : Geometry) (p : Perms) (m : ℕ) (end : End) (front rest : List Hold) → SyncsOnce g p front → Readying g p m end rest → Awaits g p m end (front ++ rest)
 syncs_then g p m end front rest s is = (is.0, s.0, s.1, inl (front, rest, refl, s.2, is.1))
 
-sync_fails : (g : Geometry) (p : Perms) (m : ℕ) (end : End) (holds : List Hold) → groups.SyncStops g p holds end → Awaits g p m end holds
+pub sync_fails : (g : Geometry) (p : Perms) (m : ℕ) (end : End) (holds : List Hold) → groups.SyncStops g p holds end → Awaits g p m end holds
 sync_fails g p m end holds s = (0, s.group, s.thin, inr (s.stopped, s.syncs))
 
 -- a sync that was stopped, by why

@@ -22,7 +22,7 @@ pub struct Progress {
 
 /// How the visit of a metaslab ended.
 #[derive(Clone, Copy)]
-pub(crate) enum Visit {
+pub enum Visit {
     /// Its pass ended, or there was nothing to do.
     Over,
     /// Something is left, and the limit is used up.

@@ -13,7 +13,7 @@ use draid_rack::Rack;
 
 /// How the pass of a metaslab began.
 #[derive(Clone, Copy)]
-pub(crate) enum Begun {
+pub enum Begun {
     /// It stands at this stripe of the metaslab.
     At { stripe: u64 },
     /// There is none, since a rebuild would have no target.

@@ -38,7 +38,7 @@ const NO_MARKS: [Marks; 64] = [[false; 3]; 64];
 
 /// What comes next in a metaslab where a pass runs.
 #[derive(Clone, Copy)]
-pub(crate) enum Next {
+pub enum Next {
     /// A stripe or a block was lent, and landed; so many columns were rewritten, counted by arm.
     Landed { repaired: u64 },
     /// Nothing was left, and the pass ended with so many errors.
