@@ -20,6 +20,8 @@ use Rattle.draid_shard.specs.declared.shard.Shard.{Shard}
 use Rattle.draid_turn.specs.Calls.{Caller, Lock}
 use Rattle.draid_turn.specs.Lists.{StartsWith}
 use Rattle.draid_turn.specs.declared.past.Past.{Past}
+use Rattle.draid_pool.specs.Bytes.{HaveBytes}
+use Rattle.draid_pool.specs.Drifts.{KeepsBytes}
 use Rattle.draid_pool.specs.Metaslabs.{IsMetaslab}
 use Rattle.draid_pool.specs.Pools.{part_in}
 use Rattle.draid_pool.specs.Shards.{FollowsIn}
@@ -52,24 +54,26 @@ holds_none : (l : machine.Layout) (m : ℕ) (hs : List Hold) (y z : Metaslab) �
 holds_none l m [] y z f = refl
 holds_none l m (h ∷ hs) y z f = ap (λ b. cond b (h ∷ holds_of None hs) (holds_of None hs)) (ap (is_of None) f.2) ∙ holds_none l m hs f.1 z f.4
 
--- what holds are told to do to a metaslab, whatever that stood for
-pub record LedTo {R A : Type 0} (rack : racks.Ghosts R) (area : areas.Ghosts A) (x : State) (m : ℕ) (y : Metaslab) (after : Shard R A) (told : List Hold → Type 0) : Type 0 where
+-- What holds are told to do to a metaslab, whatever that stood for. Where all blocks had bytes by these pieces, they have them then.
+pub record LedTo {R A : Type 0} (rack : racks.Ghosts R) (area : areas.Ghosts A) (x : State) (m : ℕ) (before : Pieces) (y : Metaslab) (after : Shard R A) (told : List Hold → Type 0) : Type 0 where
   pub holds : List Hold
   pub reached : Metaslab
   pub pieces : Pieces
   pub follows : FollowsIn (layout_in (part_in x m)) m holds y reached
   pub done : told holds
   pub is : IsMetaslab rack area (part_in x m) pieces after reached
+  pub bytes : HaveBytes (part_in x m).geometry before y → HaveBytes (part_in x m).geometry pieces reached
 
 -- so it is of a scrub where the metaslab's blocks had bytes
 abbrev pub TellsMany : {R A : Type 0} → racks.Ghosts R → areas.Ghosts A → State → ℕ → PassKind → (List Hold → Type 0) → Shard R A → Shard R A → Type 0
 TellsMany rack area x m kind told before after =
-    (pieces : Pieces) (y : Metaslab) → IsMetaslab rack area (part_in x m) pieces before y → LedTo rack area x m y after (λ hs. (kind ≡ Heal → HadContents rack area (part_in x m) before y) → told hs)
+    (pieces : Pieces) (y : Metaslab) → IsMetaslab rack area (part_in x m) pieces before y → LedTo rack area x m pieces y after (λ hs. (kind ≡ Heal → HadContents rack area (part_in x m) before y) → told hs)
 
 -- ---- the turn
 
 module _ {R A G W : Type 0} (rack : racks.Ghosts R) (area : areas.Ghosts A) (x : State) (a b : Locked R A G W) (m : ℕ) (before after : Shard R A) (goes : LaneWent rack area a m before after b) (found reached : Metaslab) (came_found : CameTo rack area x m before found)
-    (came_left : CameTo rack area x m after reached) (hs : List Hold) (follows : FollowsIn (layout_in (part_in x m)) m hs found reached) where
+    (came_left : CameTo rack area x m after reached) (hs : List Hold) (follows : FollowsIn (layout_in (part_in x m)) m hs found reached)
+    (bytes : KeepsBytes rack area (part_in x m) before found after) where
   abbrev w : Went rack area a.turns.now a.passes.items m before after b.passes.items
   w = goes.1
 
@@ -90,6 +94,7 @@ module _ {R A G W : Type 0} (rack : racks.Ghosts R) (area : areas.Ghosts A) (x :
     found_is = came_at rack area x w.lock w.log m before found (sym w.found) came_found;
     reached_is = came_at rack area x w.lock (w.log ++ w.left ∷ []) m after reached behind_is came_left;
     follows = follows;
+    bytes = subst (λ (q : Shard R A × Shard R A). KeepsBytes rack area (part_in x m) q.0 found q.1) (λ i. (w.found i, sym w.left_is i)) bytes;
   }
 
   below_next : length w.log < length w.next.seen
@@ -162,7 +167,7 @@ module _ {R A G W : Type 0} (rack : racks.Ghosts R) (area : areas.Ghosts A) (x :
 -- ---- one of a command that is made over holds
 
 module _ {R A G W : Type 0} (rack : racks.Ghosts R) (area : areas.Ghosts A) (x : State) (owns : ℕ → Bool) (does : Shard R A → Shard R A → Type 0) (told : List Hold → Type 0) (a : Locked R A G W) (m : ℕ) (b : Locked R A G W) (h : Once rack area x owns does a m b) (came : HasCame rack area x a) where
-  module _ (t : LedTo rack area x m (gone rack area x owns does a m b h came).reached h.after told) where
+  module _ (t : LedTo rack area x m (gone rack area x owns does a m b h came).now (gone rack area x owns does a m b h came).reached h.after told) (bytes : KeepsBytes rack area (part_in x m) h.before (gone rack area x owns does a m b h came).reached h.after) where
     abbrev found : Metaslab
     found = (gone rack area x owns does a m b h came).reached
 
@@ -178,9 +183,9 @@ module _ {R A G W : Type 0} (rack : racks.Ghosts R) (area : areas.Ghosts A) (x :
 
     pub said_led : Says rack area x a b [] told
     said_led = record {
-      turns = only_at m (many_turn rack area x a b m h.before h.after h.goes found t.reached (found_came rack area x owns does a m b h came) left_came t.holds t.follows ∷ []);
+      turns = only_at m (many_turn rack area x a b m h.before h.after h.goes found t.reached (found_came rack area x owns does a m b h came) left_came t.holds t.follows bytes ∷ []);
       holds = t.holds;
-      traced = traced_many rack area x a b m h.before h.after h.goes found t.reached (found_came rack area x owns does a m b h came) left_came t.holds t.follows;
+      traced = traced_many rack area x a b m h.before h.after h.goes found t.reached (found_came rack area x owns does a m b h came) left_came t.holds t.follows bytes;
       done = t.done;
       came = came_many;
     }
@@ -190,8 +195,15 @@ module _ {R A G W : Type 0} (rack : racks.Ghosts R) (area : areas.Ghosts A) (x :
   abbrev had : Metaslab → Type 0
   had y = kind ≡ Heal → HadContents rack area (part_in x m) h.before y
 
+  -- so the hold leaves blocks their bytes
+  many_bytes : (y : Metaslab) → TellsMany rack area x m kind told h.before h.after → KeepsBytes rack area (part_in x m) h.before y h.after
+  many_bytes y tells pieces is has =
+      let t = tells pieces y is in
+      record { reached = t.reached; pieces = t.pieces; is = t.is; since = follows_since (layout_in (part_in x m)) m t.holds y t.reached t.follows; has = t.bytes has }
+
   pub said_many : TellsMany rack area x m kind told h.before h.after → Says rack area x a b [] (Seen rack area x kind b told)
   said_many tells =
       let g = gone rack area x owns does a m b h came in
-      said_as rack area x a b [] (λ hs. had g.reached → told hs) (Seen rack area x kind b told) (said_led rack area x owns does (λ hs. had g.reached → told hs) a m b h came (tells g.now g.reached g.is))
+      said_as rack area x a b [] (λ hs. had g.reached → told hs) (Seen rack area x kind b told)
+      (said_led rack area x owns does (λ hs. had g.reached → told hs) a m b h came (tells g.now g.reached g.is) (many_bytes g.reached tells))
       (λ hs d saw. d (λ heal. found_had rack area x a b m h.before h.after g.reached h.goes (found_came rack area x owns does a m b h came) (saw heal)))

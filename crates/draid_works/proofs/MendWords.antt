@@ -17,7 +17,9 @@ use Rattle.draid_session.specs.State.{Metaslab, State}
 use Rattle.draid_shard.specs.declared.shard.Shard.{Shard}
 use Rattle.draid_uber.specs.declared.uber.Uber.{Uber}
 use Rattle.draid_passing.specs.declared.fault.PlanFault.{PlanFault}
-use Rattle.draid_pool.specs.Drifts.{groups_number}
+use Rattle.draid_names.specs.declared.numbers.TheConstants.{OBJECTS}
+use Rattle.draid_pool.specs.Drifts.{groups_number, passes_number}
+use Rattle.draid_pool.proofs.BytesKept.{led_bytes}
 use Rattle.draid_pool.specs.Pools.{part_in}
 use Rattle.draid_pool.specs.declared.fault.SyncFault.{SyncFault}
 use Rattle.draid_pool.specs.declared.fault.SyncFault.TheVariants as sync
@@ -41,7 +43,9 @@ use Rattle.draid_visits.specs.declared.steps.Next.TheVariants as next
 use Rattle.draid_visits.proofs.AllVisits.{FromOn, VisitsEnd, none_left, over_then, passed_by, past_end, pauses_there, stops_there}
 use Rattle.draid_visits.proofs.Lending.{Ending, SomeLends, kept_back, lent_then, unused, used}
 use Rattle.draid_visits.proofs.OwnedBegin.{said_by}
-use Rattle.draid_visits.proofs.ReadyHolds.{ready_quiet}
+use Rattle.draid_visits.proofs.ReadyHolds.{ready_keeps, ready_quiet}
+use Rattle.draid_visits.proofs.StartHolds.{start_keeps}
+use Rattle.draid_visits.proofs.UnitHolds.{unit_keeps}
 use Rattle.draid_visits.proofs.Visited.{run_so, stops_at, visit_so}
 use Rattle.draid_visits.proofs.VisitsStay.{quiet_by, unit_blocks}
 use Rattle.draid_visits.proofs.Waiting.{Awaits, Readying, sync_fails, syncs_then, waits_then}
@@ -72,26 +76,61 @@ then_end T S X how i f rest s t = (f, rest, refl, how f s, t)
 
 -- ---- one metaslab in a hold
 
+far_passes : OBJECTS ≤ passes_number
+far_passes = omega arith
+
 module _ {R A : Type 0} (rack : racks.Ghosts R) (area : areas.Ghosts A) (x : State) (m : ℕ) where
   tells_starts : (kind : PassKind) (came : Result ℕ PlanFault) (start : Begun) → IsBegun came start → (before after : Shard R A) → StartsIn rack area kind before came after → TellsMany rack area x m kind (But (BeginIs x.geometry x.perms kind m start)) before after
   tells_starts kind came start begins before after s pieces y is =
       let g = s.goes (part_in x m) pieces y is in
-      record { holds = g.holds; reached = g.reached; pieces = pieces; follows = g.follows; done = λ had. (g.holds, leaves_self g.holds, said_by kind m x.geometry x.perms g.holds came start begins g.done.0); is = g.is }
+      record {
+        holds = g.holds;
+        reached = g.reached;
+        pieces = pieces;
+        follows = g.follows;
+        done = λ had. (g.holds, leaves_self g.holds, said_by kind m x.geometry x.perms g.holds came start begins g.done.0);
+        is = g.is;
+        bytes = led_bytes rack area before after passes_number far_passes (start_keeps rack area kind before after (Some came) s) (part_in x m) pieces pieces y g.reached is g.is (λ k h at. inl refl);
+      }
 
   tells_waits : (kind : PassKind) (before after : Shard R A) → ReadiesIn rack area false before after → TellsMany rack area x m kind (But (λ hs. passes.Waits x.geometry x.perms m hs [])) before after
   tells_waits kind before after r pieces y is =
       let g = r.goes (part_in x m) pieces y is in
-      record { holds = g.holds; reached = g.reached; pieces = pieces; follows = g.follows; done = λ had. (g.holds, leaves_self g.holds, g.done.0); is = g.is }
+      record {
+        holds = g.holds;
+        reached = g.reached;
+        pieces = pieces;
+        follows = g.follows;
+        done = λ had. (g.holds, leaves_self g.holds, g.done.0);
+        is = g.is;
+        bytes = led_bytes rack area before after passes_number far_passes (ready_keeps rack area before after false r) (part_in x m) pieces pieces y g.reached is g.is (λ k h at. inl refl);
+      }
 
   tells_runs : (kind : PassKind) (before after : Shard R A) → ReadiesIn rack area true before after → TellsMany rack area x m kind (But (passes.RunsNow x.geometry x.perms m)) before after
   tells_runs kind before after r pieces y is =
       let g = r.goes (part_in x m) pieces y is in
-      record { holds = g.holds; reached = g.reached; pieces = pieces; follows = g.follows; done = λ had. (g.holds, leaves_self g.holds, g.done.0); is = g.is }
+      record {
+        holds = g.holds;
+        reached = g.reached;
+        pieces = pieces;
+        follows = g.follows;
+        done = λ had. (g.holds, leaves_self g.holds, g.done.0);
+        is = g.is;
+        bytes = led_bytes rack area before after passes_number far_passes (ready_keeps rack area before after true r) (part_in x m) pieces pieces y g.reached is g.is (λ k h at. inl refl);
+      }
 
   tells_unit : (kind : PassKind) (used : Bool) (came : Next) (before after : Shard R A) → UnitIn rack area kind used came before after → TellsMany rack area x m kind (But (NextIs (part_in x m) kind used came)) before after
   tells_unit kind used came before after u pieces y is =
       let g = u.goes (part_in x m) pieces y is in
-      record { holds = g.holds; reached = g.reached; pieces = g.later; follows = g.follows; done = λ had. (g.holds, leaves_self g.holds, g.done.0 had); is = g.is }
+      record {
+        holds = g.holds;
+        reached = g.reached;
+        pieces = g.later;
+        follows = g.follows;
+        done = λ had. (g.holds, leaves_self g.holds, g.done.0 had);
+        is = g.is;
+        bytes = led_bytes rack area before after passes_number far_passes (unit_keeps rack area before after kind used came u) (part_in x m) pieces g.later y g.reached is g.is g.contents;
+      }
 
 unit_quiet : {R A : Type 0} (rack : racks.Ghosts R) (area : areas.Ghosts A) (owns : ℕ → Bool) (kind : PassKind) (used : Bool) (came : Next) (before after : Shard R A) → UnitIn rack area kind used came before after → KeepsQuiet rack owns before after
 unit_quiet rack area owns kind used came before after d = quiet_by rack area owns before after d.valid d.table.part (unit_blocks rack area kind used came before after d)
