@@ -4,7 +4,7 @@ use Rattle.std.specs.Prelude.{option_map, slice_get}
 use Rattle.draid_names.specs.declared.pass_kind.PassKind.{PassKind}
 use Rattle.draid_rack.specs.declared.Rack as racks
 use Rattle.draid_area.specs.declared.Area as areas
-use Rattle.draid_session.specs.Holds.{Hold, view_of}
+use Rattle.draid_session.specs.Holds.{view_of}
 use Rattle.draid_session.specs.Lanes.{LeavesLooks}
 use Rattle.draid_session.specs.Looks.{Looks, LooksFrom}
 use Rattle.draid_session.specs.Passes as passes

@@ -1,6 +1,6 @@
 -- A lane's rebuild, from the looks of its meeting on: it is said to be one, but for looks.
-use Rattle.std.proofs.Common.{◌≡◌, ◌<◌, ◌+◌, ◌++◌, ◌∷◌, ◌∙◌, [], inl, inr, ℕ, Bool, true, false, List, Option, Some, None, Err, arith, refl, sym, ap, subst, length, eq-eqb, ne_eqb, if◌then◌else◌}
-use Rattle.std.specs.Prelude.{◌↔◌, Result, option_map}
+use Rattle.std.proofs.Common.{◌≡◌, ◌<◌, ◌++◌, ◌∷◌, ◌∙◌, [], inl, inr, ℕ, Bool, true, List, Option, Some, None, Err, refl, sym, subst, length}
+use Rattle.std.specs.Prelude.{◌↔◌, Result}
 use Rattle.std.proofs.lemmas.Bool.{true≢false}
 use Rattle.std.proofs.lemmas.List.{append-nil}
 use Rattle.draid_names.specs.declared.pass_kind.PassKind.{PassKind}
@@ -9,24 +9,16 @@ use Rattle.draid_rack.specs.declared.Rack as racks
 use Rattle.draid_area.specs.declared.Area as areas
 use Rattle.draid_session.specs.Holds.{Hold, View, view_of}
 use Rattle.draid_session.specs.Lanes.{LeavesLooks}
-use Rattle.draid_session.specs.Looks.{Looks, LooksFrom}
 use Rattle.draid_session.specs.Passes as passes
 use Rattle.draid_session.specs.Phases.{NoneOf}
-use Rattle.draid_session.specs.State.{Metaslab, State}
-use Rattle.draid_shard.specs.declared.shard.Shard.{Shard}
-use Rattle.draid_slots.specs.States.{pass_in}
+use Rattle.draid_session.specs.State.{State}
 use Rattle.draid_uber.specs.declared.uber.Uber.{Uber}
 use Rattle.draid_pool.specs.Drifts.{groups_number, passes_number}
-use Rattle.draid_pool.specs.Metaslabs.{IsMetaslab}
-use Rattle.draid_pool.specs.Pools.{part_in}
-use Rattle.draid_pool.specs.Rounds.{StoppedBy}
 use Rattle.draid_pool.specs.Views.{seen_at}
-use Rattle.draid_pool.proofs.Holding.{some_same}
-use Rattle.draid_pool.proofs.Lists.{present}
-use Rattle.draid_pool.proofs.Looking.{looked, looks_at, none_seen}
-use Rattle.draid_visits.specs.Looks.{FindsMarks, FindsPass, SeesPass}
+use Rattle.draid_pool.proofs.Looking.{looks_at, none_seen}
+use Rattle.draid_visits.specs.Looks.{FindsMarks, FindsPass}
 use Rattle.draid_visits.specs.Rebuilding.{IsAnswer, RebuildDoes}
-use Rattle.draid_visits.specs.Visiting.{IsMarked, IsOnly, end_by, nothing_within, tally_of}
+use Rattle.draid_visits.specs.Visiting.{IsMarked, end_by, nothing_within, tally_of}
 use Rattle.draid_visits.specs.Visits.{AnswersBy, MendsBy, VisitsBy}
 use Rattle.draid_visits.specs.declared.mending.Mending.{Mending}
 use Rattle.draid_visits.specs.declared.progress.Progress.{Progress}
@@ -36,8 +28,8 @@ use Rattle.draid_visits.specs.declared.rebuilding.MendFault.{MendFault}
 use Rattle.draid_visits.specs.declared.rebuilding.MendFault.TheVariants as fault
 use Rattle.draid_visits.specs.declared.rebuilding.Mended.{Mended}
 use Rattle.draid_visits.proofs.AllVisits.{FromOn, VisitsEnd}
-use Rattle.draid_visits.proofs.Found.{kind_unseen, lowest_seen, none_before}
-use Rattle.draid_visits.proofs.MendHolds.{marked_alone, none_found, only_upto, unmarked_alone}
+use Rattle.draid_visits.proofs.Found.{none_before}
+use Rattle.draid_visits.proofs.MendHolds.{marked_alone, none_found, unmarked_alone}
 use Rattle.draid_visits.proofs.Rebuilt.{AgreeOn, agree_seen}
 use Rattle.draid_lanes.specs.Governing.{lane_last}
 use Rattle.draid_lanes.specs.Waits.{LaneWent}

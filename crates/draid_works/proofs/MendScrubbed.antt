@@ -1,32 +1,21 @@
 -- A lane's scrub, from the looks of its meeting on: it is said to be one, but for looks, where its blocks had bytes in all that it saw.
-use Rattle.std.proofs.Common.{◌≡◌, ◌<◌, ◌≤◌, ◌+◌, ◌++◌, ◌∷◌, ◌∙◌, [], inl, inr, ℕ, Bool, true, false, List, Option, Some, None, Err, arith, drop, take, refl, sym, ap, subst, length, slice_index_or, eq-eqb, ne_eqb, if◌then◌else◌}
-use Rattle.std.specs.Prelude.{◌↔◌, Result, option_map}
+use Rattle.std.proofs.Common.{◌≡◌, ◌<◌, ◌≤◌, ◌+◌, ◌++◌, ◌∷◌, ◌∙◌, [], inl, inr, ℕ, Bool, true, false, List, Option, Some, None, Err, arith, drop, take, refl, sym, ap, subst, length, slice_index_or}
+use Rattle.std.specs.Prelude.{◌↔◌, Result}
 use Rattle.std.proofs.lemmas.List.{take-append-drop}
-use Rattle.draid_names.specs.declared.pass_kind.PassKind.{PassKind}
 use Rattle.draid_names.specs.declared.pass_kind.PassKind.TheVariants.{Heal, Rebuild}
 use Rattle.draid_rack.specs.declared.Rack as racks
 use Rattle.draid_area.specs.declared.Area as areas
 use Rattle.draid_spec.specs.Geometry.{IsGeometry}
 use Rattle.draid_session.specs.Holds.{Hold, View, view_of}
-use Rattle.draid_session.specs.Lanes.{LeavesLooks}
-use Rattle.draid_session.specs.Looks.{LooksFrom}
 use Rattle.draid_session.specs.Passes as passes
 use Rattle.draid_session.specs.Phases.{NoneOf}
 use Rattle.draid_session.specs.State.{Metaslab, State}
-use Rattle.draid_shard.specs.declared.shard.Shard.{Shard}
-use Rattle.draid_slots.specs.States.{pass_in}
 use Rattle.draid_uber.specs.declared.uber.Uber.{Uber}
 use Rattle.draid_pool.specs.Drifts.{groups_number, passes_number}
-use Rattle.draid_pool.specs.Metaslabs.{IsMetaslab}
-use Rattle.draid_pool.specs.Pools.{part_in}
-use Rattle.draid_pool.specs.Rounds.{StoppedBy}
 use Rattle.draid_pool.specs.Views.{seen_at}
-use Rattle.draid_pool.proofs.Holding.{some_same}
-use Rattle.draid_pool.proofs.Lists.{present}
-use Rattle.draid_pool.proofs.Looking.{looked, looks_at}
-use Rattle.draid_visits.specs.Looks.{FindsPass, SeesPass}
+use Rattle.draid_visits.specs.Looks.{FindsPass}
 use Rattle.draid_visits.specs.Rebuilding.{ScrubDoes}
-use Rattle.draid_visits.specs.Visiting.{IsOnly, end_by, nothing_within, tally_of}
+use Rattle.draid_visits.specs.Visiting.{end_by, nothing_within, tally_of}
 use Rattle.draid_visits.specs.Visits.{FirstIs}
 use Rattle.draid_visits.specs.declared.mending.Mending.{Mending}
 use Rattle.draid_visits.specs.declared.progress.Progress.{Progress}
@@ -36,8 +25,7 @@ use Rattle.draid_visits.specs.declared.rebuilding.MendFault.{MendFault}
 use Rattle.draid_visits.specs.declared.rebuilding.MendFault.TheVariants as fault
 use Rattle.draid_visits.specs.declared.rebuilding.Mended.{Mended}
 use Rattle.draid_visits.proofs.AllVisits.{FromOn, views_more}
-use Rattle.draid_visits.proofs.Found.{kind_unseen, lowest_seen}
-use Rattle.draid_visits.proofs.MendHolds.{found_alone, none_found, only_upto}
+use Rattle.draid_visits.proofs.MendHolds.{found_alone, none_found}
 use Rattle.draid_visits.proofs.Scrubbed.{none_taken}
 use Rattle.draid_lanes.specs.Governing.{lane_last}
 use Rattle.draid_lanes.specs.Waits.{LaneWent}
@@ -47,7 +35,7 @@ use Rattle.draid_works.specs.Mended.{BeginsMend}
 use Rattle.draid_works.specs.Told.{MendBut}
 use Rattle.draid_works.proofs.MendFar.{But}
 use Rattle.draid_works.proofs.MendFinds.{LowestAt, finds_other, lowest_at}
-use Rattle.draid_works.proofs.MendLooks.{Looked, LookedAll, finds_looked, is_seen, looked_all, none_of_kind}
+use Rattle.draid_works.proofs.MendLooks.{Looked, LookedAll, finds_looked, looked_all, none_of_kind}
 use Rattle.draid_works.proofs.MendRebuilt.{Rest, Through, ends_so, mend_holds, rest_holds, rest_said}
 use Rattle.draid_works.proofs.MendScrubs.{EndsIn, answers}
 use Rattle.draid_works.proofs.MendSees.{Seen}

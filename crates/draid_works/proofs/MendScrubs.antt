@@ -1,5 +1,5 @@
 -- What a lane's scrub comes to, by what is said of its visits.
-use Rattle.std.proofs.Common.{◌≡◌, ◌<◌, ◌≤◌, ◌++◌, ◌∙◌, [], inl, inr, ℕ, Bool, true, false, List, Option, Some, None, Ok, Err, drop, refl, sym, ap, subst, length, slice_index_or}
+use Rattle.std.proofs.Common.{◌≡◌, ◌<◌, ◌≤◌, ◌++◌, ◌∙◌, ℕ, Bool, true, false, List, Option, Ok, Err, drop, refl, sym, ap, subst, length, slice_index_or}
 use Rattle.std.specs.Prelude.{◌↔◌, Result}
 use Rattle.draid_names.specs.declared.pass_kind.PassKind.TheVariants.{Heal, Rebuild}
 use Rattle.draid_session.specs.Holds.{Hold}

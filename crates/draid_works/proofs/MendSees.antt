@@ -15,7 +15,7 @@ use Rattle.draid_pool.specs.Pools.{part_in}
 use Rattle.draid_pool.specs.declared.cell.Cell.{Cell}
 use Rattle.draid_pool.proofs.Places.{get_set_same}
 use Rattle.draid_visits.specs.Steps.{HadContents}
-use Rattle.draid_lanes.specs.Locks.{Went, left_in}
+use Rattle.draid_lanes.specs.Locks.{Went}
 use Rattle.draid_lanes.specs.Traces.{HadBytes, LaneTurn}
 use Rattle.draid_lanes.specs.Waits.{LaneWent}
 use Rattle.draid_lanes.specs.declared.locked.Locked.{Locked}
