@@ -8,7 +8,7 @@ use Rattle.draid_shelf.specs.Kits.{Held}
 use Rattle.draid_session.specs.Choices.{Choices}
 use Rattle.draid_session.specs.Book.{Book, BreaksAtLine, EndsBook, blank, closed}
 use Rattle.draid_session.specs.Keeping.{Keeps}
-use Rattle.draid_session.specs.Places.{Outside}
+use Rattle.draid_session.specs.Places.{Outside, line_at, line_behind}
 use Rattle.draid_session.specs.Said.{Said}
 use Rattle.draid_session.specs.Session.{Agrees, Bare, Desk, Foreign, Made, Open, RecordFails, ShelfFails, Shut, Unknown, Untouched, left_of, sits}
 use Rattle.draid_session.specs.Sections.{RunsOn}
@@ -16,7 +16,6 @@ use Rattle.draid_session.proofs.Running.{AllOn, runs_on}
 use Rattle.draid_session.proofs.Turning.{breaks_ends, left_keeps, no_record_fails}
 use Rattle.draid_run.specs.Books.{AreRuns, BrokeAt, KeepBook, KeepsBook, OneRun}
 use Rattle.draid_run.specs.Next.{next_desk}
-use Rattle.draid_run.specs.Places.{line_at, line_behind}
 use Rattle.draid_run.specs.Script.{BreaksAt, BreaksOff, MayEndAt, RunIs, RunsFrom}
 use Rattle.draid_pool.specs.Shelves.{OnShelf}
 use Rattle.draid_run.specs.Shelves.{HoldsBare, HoldsDesk, MayFind}
@@ -41,7 +40,7 @@ left_agrees Unknown entry now holds tells = tt
 -- a book at the end of a run, before the pool is given back
 record EndsAt (ended : Status) (broken : Option (List ℕ)) (saids : List Said) (b : Book) (last : Desk) : Type 0 where
   pub book : Book
-  pub ends : EndsBook Outside broken b saids book
+  pub ends : EndsBook broken b saids book
   pub broke : BrokeAt ended broken
   pub keeps : Keeps last book
 

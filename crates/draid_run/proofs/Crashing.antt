@@ -8,7 +8,7 @@ use Rattle.draid_reply.specs.declared.reply.Reply.TheVariants.{Crashed}
 use Rattle.draid_rack.specs.declared.Rack as racks
 use Rattle.draid_area.specs.declared.Area as areas
 use Rattle.draid_shelf.specs.Kits.{OnHeld}
-use Rattle.draid_session.specs.Places.{Ended, Inside, Outside, Place}
+use Rattle.draid_session.specs.Places.{Ended, Inside, Outside, Place, place_after, place_behind}
 use Rattle.draid_session.specs.Sections.{RunsOn}
 use Rattle.draid_session.specs.Said.{Said}
 use Rattle.draid_session.specs.Choices.{Choices}
@@ -17,7 +17,6 @@ use Rattle.draid_pool.specs.Returning.{IsFirm}
 use Rattle.draid_pool.specs.Shelves.{OnShelf}
 use Rattle.draid_pool.specs.declared.pool.Pool.{Pool}
 use Rattle.draid_run.specs.Crashes.{IsFirmShut, LeavesFirm, LeavesFirmAt, crash_at, crash_behind, crash_came_last, is_crash}
-use Rattle.draid_run.specs.Places.{place_after, place_behind}
 use Rattle.draid_run.specs.Desks.{IsPool}
 use Rattle.draid_run.specs.Shelves.{IsClosed}
 

@@ -11,12 +11,11 @@ use Rattle.draid_lines.proofs.Ends.{lines_first, lines_last, position-le}
 use Rattle.draid_script.specs.Line.{Command, ImportPool}
 use Rattle.draid_script.specs.declared.fault.LineFault.{LineFault}
 use Rattle.draid_session.specs.Choices.{Choices}
-use Rattle.draid_session.specs.Places.{Ended, Inside, Outside, Place}
+use Rattle.draid_session.specs.Places.{Ended, Inside, IsInside, IsOutside, Outside, Place, line_behind, place_after}
 use Rattle.draid_session.specs.Said.{Said}
 use Rattle.draid_session.specs.Session.{Desk, Untouched, Bare, Made, Open, Shut, Foreign, Unknown, Breaks, BreaksGiven, RecordFails}
 use Rattle.draid_session.specs.State.{State}
 use Rattle.draid_run.specs.Ending.{CanRun, EndsWell, IsBuilt, IsUndisturbed, IsUntold}
-use Rattle.draid_run.specs.Places.{IsInside, IsOutside, line_behind, place_after}
 use Rattle.draid_run.specs.Script.{BreaksOff, Ends, IsSession, LineFaultIs, Prints, RunsFrom}
 use Rattle.draid_pool.specs.Shelves.{OnShelf}
 use Rattle.draid_run.specs.Status.{last_text}

@@ -16,14 +16,13 @@ use Rattle.draid_reply.specs.Reply.{text_of}
 use Rattle.draid_reply.specs.declared.reply.Reply.{Reply}
 use Rattle.draid_session.specs.Said.{Said, alone}
 use Rattle.draid_session.specs.Choices.{Choices}
-use Rattle.draid_session.specs.Places.{Outside, Place}
+use Rattle.draid_session.specs.Places.{Outside, Place, line_at}
 use Rattle.draid_session.specs.Sections.{OutsideTurns}
 use Rattle.draid_session.specs.Session.{Desk, Finding, Sitting, SittingTurns, sits}
 use Rattle.draid_pool.specs.declared.pool.Pool.{Pool}
 use Rattle.draid_run.specs.Crashes.{LeavesFirm, LeavesFirmAt}
 use Rattle.draid_run.specs.Desks.{Noted, Turned}
 use Rattle.draid_run.specs.Lines.{IsNoOpening}
-use Rattle.draid_run.specs.Places.{line_at}
 use Rattle.draid_run.specs.Serve.{AnswerIs, LineIs, Placed, PrintIs, opened_by, status_of}
 use Rattle.draid_run.specs.Shelves.{MayFind}
 use Rattle.draid_run.specs.Script.{IsBuilt, LineFaultIs}

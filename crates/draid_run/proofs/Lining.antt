@@ -7,7 +7,8 @@ use Rattle.draid_script.specs.Line.{command_in}
 use Rattle.draid_script.specs.declared.line.Line.{Line}
 use Rattle.draid_reply.specs.declared.reply.Reply.{Reply}
 use Rattle.draid_session.specs.Said.{Said}
-use Rattle.draid_session.specs.Sections.{to_lane, to_lanes, with_command}
+use Rattle.draid_session.specs.Sections.{to_lane, to_lanes}
+use Rattle.draid_session.specs.Places.{with_command}
 use Rattle.draid_run.specs.Script.{said_text, texts_of}
 use Rattle.draid_run.specs.Sections.{PrintsAre, commands_in, lanes_in, replies_in}
 use Rattle.draid_run.specs.Serve.{PrintIs}

@@ -14,7 +14,7 @@ use Rattle.draid_reply.specs.declared.reply.Reply.TheVariants.{Crashed, Imported
 use Rattle.draid_shelf.specs.Kits.{AreNewChecks, Both, ChecksTold, CrashedChecks, CrashedHeld, CrashedKit, Held, IsNewArea, IsNewRack, KitCounts, KitTold, OnHeld, uber_bytes}
 use Rattle.draid_session.specs.Said.{Said, alone}
 use Rattle.draid_session.specs.Choices.{Choices}
-use Rattle.draid_session.specs.Places.{Ended, Inside, Outside, Place}
+use Rattle.draid_session.specs.Places.{Ended, Inside, Outside, Place, asked_inside, line_at, line_behind, place_after, place_behind, place_opened}
 use Rattle.draid_session.specs.Sections.{RunsOn}
 use Rattle.draid_session.specs.Session.{Agrees, Desk, Finding, Untouched, Bare, Made, Open, Shut, Foreign, Unknown, KnowsShelf, Sitting, left_of, sits}
 use Rattle.draid_session.specs.State.{State}
@@ -25,7 +25,6 @@ use Rattle.draid_pool.proofs.Returned.{rests_crashed}
 use Rattle.draid_pool.proofs.Importables.{importable_left}
 use Rattle.draid_run.specs.Lines.{IsNoOpening}
 use Rattle.draid_run.specs.Next.{FindsAgain, HasCrashed, IsFound, next_desk}
-use Rattle.draid_run.specs.Places.{asked_inside, line_at, line_behind, place_after, place_behind, place_opened}
 use Rattle.draid_create.specs.Says.{IsSame}
 use Rattle.draid_pool.specs.Shelves.{OnShelf}
 use Rattle.draid_run.specs.Shelves.{HoldsBare, HoldsDesk, HoldsNew, HoldsShut, TellsAsBefore}

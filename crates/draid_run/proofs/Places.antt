@@ -6,11 +6,10 @@ use Rattle.draid_script.specs.Line.{Command, InLane, LaneCommand, OpenLanes, Sec
 use Rattle.draid_script.specs.declared.fault.LineFault.{LineFault}
 use Rattle.draid_reply.specs.declared.reply.Reply.{Reply}
 use Rattle.draid_session.specs.Choices.{Choices}
-use Rattle.draid_session.specs.Places.{Ended, Inside, Outside, Place}
+use Rattle.draid_session.specs.Places.{Ended, Inside, Outside, Place, place_after, place_behind, place_inside, place_opened}
 use Rattle.draid_session.specs.Said.{Said}
 use Rattle.draid_session.specs.Sections.{LaneTurns, OutsideTurns, PlaceBehind, PlaceTurns, RunsOn, SectionTurns}
 use Rattle.draid_session.specs.Session.{Agrees, Desk, Finding, Untouched, Bare, Made, Open, Shut, Foreign, Unknown, Sitting, sits}
-use Rattle.draid_run.specs.Places.{place_after, place_behind, place_inside, place_opened}
 use Rattle.draid_run.specs.Script.{MayEndAt}
 use Rattle.draid_run.specs.declared.status.Status.{Status}
 use Rattle.draid_run.specs.declared.status.Status.TheVariants as status_is

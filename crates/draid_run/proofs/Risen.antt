@@ -12,7 +12,7 @@ use Rattle.draid_import.specs.Found.{HasRisen}
 use Rattle.draid_pool.specs.declared.pool.Pool.{Pool}
 use Rattle.draid_run.specs.declared.status.RecordName.{RecordName}
 use Rattle.draid_run.specs.Desks.{CauseShows, IsShelf}
-use Rattle.draid_run.specs.Places.{line_behind}
+use Rattle.draid_session.specs.Places.{line_behind}
 use Rattle.draid_run.specs.Script.{FailsShut, FaultyShut}
 use Rattle.draid_create.specs.Says.{MakingFailed}
 use Rattle.draid_pool.specs.Returning.{own_count}

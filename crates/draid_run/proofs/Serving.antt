@@ -13,14 +13,13 @@ use Rattle.draid_lines.specs.Lines.{most_lines, Rest, WhereKnown, lines_of}
 use Rattle.draid_script.specs.Line.{Command}
 use Rattle.draid_session.specs.Said.{Said}
 use Rattle.draid_session.specs.Choices.{Choices}
-use Rattle.draid_session.specs.Places.{Ended, Inside, Outside, Place}
+use Rattle.draid_session.specs.Places.{Ended, Inside, IsInside, Outside, Place, line_at, line_behind, place_after, place_behind}
 use Rattle.draid_session.specs.Sections.{PlaceTurns, RunsOn}
 use Rattle.draid_session.specs.Session.{Desk, Untouched, Bare, Made, Open, Shut, Foreign, Unknown, RecordFails, ShelfFails, Sitting, sits}
 use Rattle.draid_pool.specs.declared.pool.Pool.{Pool}
 use Rattle.draid_run.specs.declared.status.RecordName.{RecordName}
 use Rattle.draid_run.specs.Crashes.{IsFirmShut, LeavesFirmAt, crash_came_last}
 use Rattle.draid_run.specs.Desks.{IsDesk}
-use Rattle.draid_run.specs.Places.{IsInside, line_at, line_behind, place_after, place_behind}
 use Rattle.draid_run.specs.Script.{AreBuilt, IsBuilt, all_said, BreaksOff, Ends, EndsSection, FaultyShut, GetsReplies, LineFaultIs, MayEndAt, Shows, said_text, texts_of}
 use Rattle.draid_run.specs.Serve.{BrokenLine, Cut, LaneStopped, LineIs, Placed, Printed, Served, Serving, TextIs, Untold, end_at}
 use Rattle.draid_pool.specs.Shelves.{OnShelf}

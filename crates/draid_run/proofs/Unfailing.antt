@@ -18,7 +18,7 @@ use Rattle.draid_shelf.specs.Kits.{Held, KitCounts}
 use Rattle.draid_uber.specs.Uber.{kept_of, layout_of, next_leaf_of}
 use Rattle.draid_uber.specs.declared.uber.Uber.{Uber}
 use Rattle.draid_session.specs.Choices.{Choices}
-use Rattle.draid_session.specs.Places.{Ended, Inside, Outside, Place}
+use Rattle.draid_session.specs.Places.{Ended, Inside, Outside, Place, line_at, line_behind}
 use Rattle.draid_session.specs.Sections.{RunsOn}
 use Rattle.draid_session.specs.Looks.{AllOf}
 use Rattle.draid_session.specs.Opening.{Finds, Imports}
@@ -35,7 +35,6 @@ use Rattle.draid_import.specs.Found.{HasRisen, IsFoundUber, IsRecovered}
 use Rattle.draid_import.specs.Importing.{RestsThere}
 use Rattle.draid_import.proofs.ImportMade.{made_not}
 use Rattle.draid_import.proofs.ImportPool.{body_found}
-use Rattle.draid_run.specs.Places.{line_at, line_behind}
 use Rattle.draid_run.specs.Script.{BreaksOff, Ends, Fails, FailsShut, LaneFails, MayEndAt, Prints, RunsFrom}
 use Rattle.draid_run.specs.Shelves.{AreaRose, FailsIn, HoldsDesk, HoldsNew, HoldsShut, MayFind, RackRose}
 use Rattle.draid_run.specs.Unfailing.{NothingRose}

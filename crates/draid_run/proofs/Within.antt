@@ -21,9 +21,9 @@ use Rattle.draid_session.specs.Lanes as lanes
 use Rattle.draid_session.specs.Lanes.{Section, Together}
 use Rattle.draid_session.specs.Holds.{Hold}
 use Rattle.draid_session.specs.Looks.{AllOf}
-use Rattle.draid_session.specs.Places.{Ended, Inside, Outside, Place}
+use Rattle.draid_session.specs.Places.{Ended, Inside, Outside, Place, asked_inside, line_at, opened_lanes, with_command}
 use Rattle.draid_session.specs.Said.{Said}
-use Rattle.draid_session.specs.Sections.{LaneTurns, OutsideTurns, SectionTurns, opened_lanes, with_command}
+use Rattle.draid_session.specs.Sections.{LaneTurns, OutsideTurns, SectionTurns}
 use Rattle.draid_session.specs.Session.{Desk, Untouched, Bare, Made, Open, Shut, Foreign, Unknown, sits}
 use Rattle.draid_session.specs.State.{State, Store}
 use Rattle.draid_session.proofs.Lanewise.{all_both, all_set}
@@ -31,7 +31,6 @@ use Rattle.draid_pool.specs.Shelves.{OnShelf}
 use Rattle.draid_pool.specs.declared.pool.Pool.{Pool}
 use Rattle.draid_run.specs.Crashes.{LeavesFirm}
 use Rattle.draid_run.specs.Desks.{IsDesk, asked_in}
-use Rattle.draid_run.specs.Places.{asked_inside, line_at}
 use Rattle.draid_run.specs.Script.{IsBuilt, MayEndAt}
 use Rattle.draid_run.specs.Sections.{AreLanes, IsOfLane, RanIs, SectionIs, lanes_in, place_in, place_next, place_of, saids_of}
 use Rattle.draid_run.specs.Serve.{LineIs, Placed, Printed, PrintIs, done_of, opened_by}

@@ -4,9 +4,9 @@ use Rattle.draid_rack.specs.declared.Rack as racks
 use Rattle.draid_area.specs.declared.Area as areas
 use Rattle.draid_session.specs.Said.{Said}
 use Rattle.draid_session.specs.Choices.{Choices}
-use Rattle.draid_session.specs.Book.{Book, EndsBook, closed}
-use Rattle.draid_session.specs.Places.{Outside, Place}
-use Rattle.draid_session.specs.Sections.{BookOn}
+use Rattle.draid_session.specs.Book.{Book}
+use Rattle.draid_session.specs.Places.{Place}
+use Rattle.draid_session.specs.Sections.{AnswersRun}
 use Rattle.draid_run.specs.Next.{IsFound}
 use Rattle.draid_run.specs.Script.{Ends, IsScript, MayEndAt, RunIs, Shows, all_replies}
 use Rattle.draid_pool.specs.Shelves.{OnShelf}
@@ -19,14 +19,6 @@ BrokeAt ShelfFault broken = ⊤
 BrokeAt (Record which at kind) broken = ⊥
 BrokeAt ended None = ⊤
 BrokeAt ended (Some text) = ⊥
-
--- A run in the book: its lines are answered, with sections, it ends behind them, or in a line outside a section that breaks off, to which this was said, and a pool that is open is given back.
-pub record AnswersRun (old : Book) (lines : List (List ℕ)) (replies : List (List Said)) (to : Place) (broken : Option (List ℕ)) (saids : List Said) (new : Book) : Type 0 where
-  pub mid : Book
-  pub last : Book
-  pub answers : BookOn Outside old lines replies to mid
-  pub ends : EndsBook Outside broken mid saids last
-  pub made : new ≡ closed last
 
 -- A run from one book to another: lines of its input were answered by replies, as the book has it; it ended for a cause; and the sink got the replies' texts and the last line.
 pub record KeepsBook (words : List (List ℕ)) (status : Status) (input old new : Option (List ℕ)) (before after : Book) : Type 0 where

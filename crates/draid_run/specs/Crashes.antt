@@ -6,12 +6,11 @@ use Rattle.draid_script.specs.declared.fault.LineFault.{LineFault}
 use Rattle.draid_reply.specs.declared.reply.Reply.{Reply}
 use Rattle.draid_reply.specs.declared.reply.Reply.TheVariants.{Crashed}
 use Rattle.draid_shelf.specs.Kits.{OnHeld}
-use Rattle.draid_session.specs.Places.{Outside, Place}
+use Rattle.draid_session.specs.Places.{Outside, Place, place_behind}
 use Rattle.draid_session.specs.Said.{Said}
 use Rattle.draid_pool.specs.Returning.{IsFirm}
 use Rattle.draid_pool.specs.Shelves.{OnShelf}
 use Rattle.draid_pool.specs.declared.pool.Pool.{Pool}
-use Rattle.draid_run.specs.Places.{place_behind}
 
 -- ---- lines
 

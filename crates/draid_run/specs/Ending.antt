@@ -4,9 +4,8 @@ use Rattle.draid_names.specs.declared.numbers.TheConstants.{LONGEST_LINE}
 use Rattle.draid_lines.specs.Lines.{lines_of, most_lines}
 use Rattle.draid_script.specs.Line.{Command}
 use Rattle.draid_script.specs.declared.fault.LineFault.{LineFault}
-use Rattle.draid_session.specs.Places.{Outside}
+use Rattle.draid_session.specs.Places.{IsOutside, Outside, line_behind, place_after}
 use Rattle.draid_session.specs.Session.{Desk, Untouched, Made, Shut, Unknown}
-use Rattle.draid_run.specs.Places.{IsOutside, line_behind, place_after}
 use Rattle.draid_run.specs.Script.{IsUnbuilt}
 use Rattle.draid_run.specs.declared.status.Status.{Status}
 use Rattle.draid_run.specs.declared.status.Status.TheVariants.{Done, Record, SourceFault, SinkFault, NoMemory, ShelfFault}

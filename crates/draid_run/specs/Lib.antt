@@ -8,7 +8,6 @@ pub mod Importing
 pub mod Lines
 pub mod Making
 pub mod Next
-pub mod Places
 pub mod Rebalancing
 pub mod Repairing
 pub mod Script

@@ -16,7 +16,7 @@ use Rattle.draid_script.specs.declared.fault.ParseFault.{ParseFault}
 use Rattle.draid_script.specs.declared.fault.ParseFault.TheVariants as parse_fault
 use Rattle.draid_script.specs.declared.name.CommandName.{CommandName}
 use Rattle.draid_reply.specs.declared.reply.Reply.{Reply}
-use Rattle.draid_session.specs.Places.{Ended, Inside, Outside, Place}
+use Rattle.draid_session.specs.Places.{Ended, Inside, Outside, Place, line_at, place_after}
 use Rattle.draid_session.specs.Said.{Said, alone}
 use Rattle.draid_session.specs.Choices.{Choices}
 use Rattle.draid_session.specs.Sections.{PlaceTurns, RunsOn}
@@ -25,7 +25,6 @@ use Rattle.draid_pool.specs.declared.pool.Pool.{Pool}
 use Rattle.draid_run.specs.declared.status.RecordName.{RecordName}
 use Rattle.draid_run.specs.Crashes.{IsFirmShut, LeavesFirm, LeavesFirmAt, crash_came_last}
 use Rattle.draid_run.specs.Desks.{Broken, IsDesk, Noted, PoolBroke, PoolDid, Turned, asked_in}
-use Rattle.draid_run.specs.Places.{line_at, place_after}
 use Rattle.draid_run.specs.Script.{AreBuilt, IsBuilt, all_replies, all_said, BreaksOff, Ends, EndsSection, FailsShut, FaultyShut, GetsReplies, IsUnbuilt, LineFaultIs, MayEndAt, Shows, said_text, texts_of}
 use Rattle.draid_pool.specs.Shelves.{OnShelf}
 use Rattle.draid_run.specs.Shelves.{AreaRose, HasFault, HoldsFault, IsClosed, MakesLeavesAt, MayFind, PoolFails, RackFault}

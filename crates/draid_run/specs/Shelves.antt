@@ -25,7 +25,7 @@ use Rattle.draid_pool.specs.Importable.{IsImportable}
 use Rattle.draid_create.specs.Opening.{StaysMade}
 use Rattle.draid_create.specs.Says.{IsSame, MakingFailed}
 use Rattle.draid_pool.specs.declared.pool.Pool.{Pool}
-use Rattle.draid_run.specs.Places.{line_behind}
+use Rattle.draid_session.specs.Places.{line_behind}
 use Rattle.draid_run.specs.declared.status.RecordName.{RecordName}
 use Rattle.draid_run.specs.declared.status.RecordName.TheVariants as record_name
 

@@ -8,7 +8,7 @@ ghost use Rattle.draid_session.specs.Said.{Said, alone};
 ghost use Rattle.draid_session.specs.Session.{Bare, Desk, KnowsShelf, sits};
 ghost use Rattle.draid_run.specs.Ending.{CanRun, EndsWell, IsUndisturbed};
 ghost use Rattle.draid_run.specs.Next.{FindsAgain, IsFound, next_desk};
-ghost use Rattle.draid_run.specs.Places.{line_behind};
+ghost use Rattle.draid_session.specs.Places.{line_behind};
 ghost use Rattle.draid_run.specs.Script.{IsSession, RunsFrom};
 ghost use Rattle.draid_pool.specs.Shelves.{OnShelf, on_shelf};
 ghost use Rattle.draid_run.specs.Shelves.{HoldsDesk, MayFind, TellsAsBefore};
