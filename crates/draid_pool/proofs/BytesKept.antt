@@ -293,4 +293,3 @@ module _ {R A : Type 0} (rack : racks.Ghosts R) (area : areas.Ghosts A) where
           | inl e ↦ same_bytes part.geometry h k pieces later e (has k h was block)
           | inr e ↦ e
         ]
-

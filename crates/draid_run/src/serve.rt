@@ -129,13 +129,7 @@ fn serve_command<
 }
 
 /// Runs the lanes of a section, and prints their replies. Where a failing device ended one the run ends behind these.
-fn serve_section<
-    R: Rack,
-    A: Area,
-    K: Sink,
-    F: Fn(&[Room]) -> Option<u32>,
-    G: Sections<R, A>,
->(
+fn serve_section<R: Rack, A: Area, K: Sink, F: Fn(&[Room]) -> Option<u32>, G: Sections<R, A>>(
     alloc: Global,
     sections: &G,
     pool: &mut Option<Pool<R, A>>,
