@@ -11,7 +11,7 @@ use Rattle.draid_session.specs.State.{Metaslab, State}
 use Rattle.draid_shard.specs.Part.{Part, layout_in}
 use Rattle.draid_turn.specs.Calls.{Caller, Lock}
 use Rattle.draid_turn.specs.declared.past.Past.{Past}
-use Rattle.draid_pool.specs.Drifts.{Since}
+use Rattle.draid_pool.specs.Drifts.{KeepsBytes, Since}
 use Rattle.draid_pool.specs.Follows.{FollowsBy, HeldAt}
 use Rattle.draid_pool.specs.Metaslabs.{IsMetaslab}
 use Rattle.draid_pool.specs.Pools.{part_in}
@@ -86,8 +86,11 @@ module _ {R A G W : Type 0} (rack : racks.Ghosts R) (area : areas.Ghosts A) (x :
       abbrev turn : LaneTurn
       turn = its_turn rack area x a b m h.goes.before h.goes.after h.goes.goes h.found h.left found_came left_came act acts
 
+      bytes : KeepsBytes rack area (part_in x m) h.goes.before h.found h.goes.after
+      bytes = subst (λ p. KeepsBytes rack area p h.goes.before h.found h.goes.after) (part_is m) h.goes.bytes
+
       traced : Traced rack area x a b (only_at m (turn ∷ [])) (On v act ∷ []) []
-      traced = subst (λ u. Traced rack area x a b (only_at m (turn ∷ [])) (On u act ∷ []) []) (sym h.sees) (traced_hold rack area x a b m h.goes.before h.goes.after h.goes.goes h.found h.left found_came left_came act acts)
+      traced = subst (λ u. Traced rack area x a b (only_at m (turn ∷ [])) (On u act ∷ []) []) (sym h.sees) (traced_hold rack area x a b m h.goes.before h.goes.after h.goes.goes h.found h.left found_came left_came act acts bytes)
 
       -- the metaslab, and the others
       here : CameAt rack area x w.lock w.next.seen m h.left

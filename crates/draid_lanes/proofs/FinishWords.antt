@@ -1,5 +1,5 @@
 -- A closing group that a lane finishes, in the session's words, however often it waits.
-use Rattle.std.proofs.Common.{◌≡◌, ◌==◌, ◌<◌, ◌≤◌, ◌+◌, ◌++◌, ◌∷◌, ◌∙◌, ◌⊎◌, [], inl, inr, ℕ, zero, suc, Bool, true, List, Option, Some, None, Ok, Err, arith, refl, sym, ap, subst, if◌then◌else◌, eq-eqb, ne_eqb}
+use Rattle.std.proofs.Common.{◌≡◌, ◌<◌, ◌≤◌, ◌+◌, ◌++◌, ◌∷◌, ◌∙◌, ◌⊎◌, [], inl, inr, ℕ, zero, suc, Bool, true, List, Option, Some, None, Ok, Err, arith, refl, sym, ap, subst, if◌then◌else◌, eq-eqb, ne_eqb}
 use mathlib.Core.Logic.{dite}
 use native.Mathlib.Decide.{ℕ_discrete}
 use Rattle.std.specs.Prelude.{Result, is_some}
@@ -19,13 +19,12 @@ use Rattle.draid_uber.specs.Slots.{group_of}
 use Rattle.draid_uber.specs.Uber as ubers
 use Rattle.draid_uber.specs.declared.uber.Uber.{Uber}
 use Rattle.draid_pool.specs.Drifts.{groups_number}
-use Rattle.draid_pool.specs.Grouping.{ClosesIn, ClosesNext, ClosesEach, CommitsIn, FindsClosing, FinishesIn, SealsBy, SealsEach, SeesClosing, WaitsForWrites}
+use Rattle.draid_pool.specs.Grouping.{ClosesIn, ClosesNext, ClosesEach, CommitsIn, FindsClosing, FinishesIn, SealsBy, SealsEach, SeesClosing}
 use Rattle.draid_pool.specs.Metaslabs.{IsMetaslab}
 use Rattle.draid_pool.specs.Pools.{part_in}
-use Rattle.draid_pool.specs.Rounds.{EachIs, StoppedBy}
-use Rattle.draid_pool.specs.Syncing.{CloseIs, SealIs, Turns, end_of}
+use Rattle.draid_pool.specs.Rounds.{EachIs}
+use Rattle.draid_pool.specs.Syncing.{end_of}
 use Rattle.draid_pool.specs.declared.fault.SyncFault.{SyncFault}
-use Rattle.draid_pool.specs.declared.fault.SyncFault.TheVariants as sync
 use Rattle.draid_pool.proofs.GroupKeeps.{closing_behind}
 use Rattle.draid_pool.proofs.Holding.{some_same}
 use Rattle.draid_pool.proofs.SyncCalls.{end_same}
@@ -34,9 +33,9 @@ use Rattle.draid_lanes.specs.Waits.{LaneWent}
 use Rattle.draid_lanes.specs.declared.locked.Locked.{Locked}
 use Rattle.draid_lanes.proofs.GroupWords.{GroupBut, group_refused, group_starved, group_unclosed, group_unsealed, group_went, name_hold}
 use Rattle.draid_lanes.proofs.OneTurn.{HasCame, Once, gone}
-use Rattle.draid_lanes.proofs.OnlyLooking.{Looks, same_looks}
-use Rattle.draid_lanes.proofs.RoundWords.{Each, IsOneOf, Says, TellsAt, said_as, said_none, said_on, said_one}
-use Rattle.draid_lanes.proofs.SealWords.{SealedTo, SealedUpto, Sealing, closed_all, closes_again, closes_upto, finds_again, leaves_look, leaves_self, leaves_then, look_on, seals_again, seals_from, sees_again, waits_on, was_closing, was_sealed}
+use Rattle.draid_lanes.proofs.OnlyLooking.{same_looks}
+use Rattle.draid_lanes.proofs.RoundWords.{Each, IsOneOf, Says, looks_end, said_as, said_none, said_on, said_one}
+use Rattle.draid_lanes.proofs.SealWords.{SealedTo, SealedUpto, Sealing, closed_all, closes_again, closes_upto, finds_again, leaves_look, leaves_then, look_on, seals_again, sees_again, waits_on, was_closing, was_sealed}
 use Rattle.draid_lanes.proofs.SealWords.SealedTo.{Behind, Under}
 
 some_not : (o : Option machine.Image) → is_some o ≡ true → o ≡ None → ⊥
@@ -71,7 +70,7 @@ module _ {R A G W : Type 0} (rack : racks.Ghosts R) (area : areas.Ghosts A) (x :
       let after : h.after.closing ≡ h.before.closing = ap (λ (s : Shard R A). s.closing) h.did.0 in (
         record {
           said = said_on rack area x a b c [] [] (λ hs. LeavesLooks hs []) (IsOneOf IsLookOnly) (λ hs. LeavesLooks hs []) f.said
-              (said_one rack area x owns (SeesClosing found) IsLookOnly b m c h f.said.came (λ pieces y is. same_looks rack area (part_in x m) pieces h.before h.after y is h.did.0)) (λ hs ks l one. leaves_look hs [] ks l one);
+              (said_one rack area x owns (SeesClosing found) IsLookOnly b m c h f.said.came (λ pieces y is. same_looks rack area (part_in x m) pieces h.before h.after y is h.did.0) looks_end) (λ hs ks l one. leaves_look hs [] ks l one);
           same = λ k shard at. dite (ℕ_discrete k m)
               (λ same.
               let is : h.after ≡ shard = some_same h.after shard (sym (h.is m ∙ ap (λ t. if t then Some h.after else lane_last b m) (eq-eqb m m refl)) ∙ (ap (lane_last c) (sym same) ∙ at)) in

@@ -1,8 +1,6 @@
 -- A group that a governor commits, or that is stopped, whatever state of the whole pool stood.
-use Rattle.std.proofs.Common.{◌≡◌, ◌==◌, ◌<◌, ◌≤◌, ◌+◌, ◌∙◌, ◌⊎◌, ◌∷◌, [], inl, inr, ℕ, zero, suc, Bool, true, false, List, Option, Some, None, Ok, Err, arith, refl, sym, ap, subst, if◌then◌else◌}
-use mathlib.Core.Logic.{dite}
-use native.Mathlib.Decide.{ℕ_discrete}
-use Rattle.std.specs.Prelude.{Result, length, slice_get, is_some}
+use Rattle.std.proofs.Common.{◌≡◌, ◌==◌, ◌<◌, ◌≤◌, ◌+◌, ◌∙◌, ◌∷◌, [], inl, inr, ℕ, zero, suc, Bool, true, false, List, Option, Some, None, Ok, Err, arith, refl, sym, ap, subst, if◌then◌else◌}
+use Rattle.std.specs.Prelude.{length, slice_get, is_some}
 use Rattle.std.proofs.lemmas.Bool.{cases_lt}
 use Rattle.std.proofs.lemmas.Option.{slice_get_within}
 use Rattle.draid_names.specs.Faults.{Rose}
@@ -13,9 +11,8 @@ use Rattle.draid_machine.specs.State as machine
 use Rattle.draid_machine.proofs.Small.{absurd_test, bool_cases, is_equal, none_some, some_injective}
 use Rattle.draid_segments.specs.Segments.{Pieces}
 use Rattle.draid_session.specs.Follows.{Follows}
-use Rattle.draid_session.specs.Holds.{CommitFailed, CommitStarved, Committed, Hold, OnUber, view_of}
+use Rattle.draid_session.specs.Holds.{Hold, view_of}
 use Rattle.draid_session.specs.Lanes.{SwitchesAgree}
-use Rattle.draid_session.specs.Opening.{MayFind}
 use Rattle.draid_session.specs.State.{Metaslab, State}
 use Rattle.draid_shard.specs.Part.{layout_in}
 use Rattle.draid_shard.specs.declared.shard.Shard.{Shard}
@@ -23,34 +20,29 @@ use Rattle.draid_uber.specs.Slots.{group_of}
 use Rattle.draid_uber.specs.Uber as ubers
 use Rattle.draid_uber.specs.declared.uber.Uber.{Uber}
 use Rattle.draid_pool.specs.Drifts.{groups_number}
-use Rattle.draid_pool.specs.Grouping.{ClosesEach, ClosesIn, CommitsIn, CommitsNext, FindsClosing, FinishesIn, SealsBy, SealsEach, SeesClosing, UberNames, WaitsForWrites}
+use Rattle.draid_pool.specs.Grouping.{CommitsNext, UberNames}
 use Rattle.draid_pool.specs.Importable.{HasPoolVersions, IsAlike, Shared, keep_shared}
 use Rattle.draid_pool.specs.Metaslabs.{IsMetaslab}
 use Rattle.draid_pool.specs.Pools.{part_in}
 use Rattle.draid_pool.specs.Records.{HasImage, LeavesAreBelow}
 use Rattle.draid_pool.specs.Rounds.{EachIs}
 use Rattle.draid_pool.specs.Syncing.{Commits}
-use Rattle.draid_pool.specs.Ubers.{IsUber, Names, Refuses, body_of, kept_in}
+use Rattle.draid_pool.specs.Ubers.{IsUber, Refuses, body_of}
 use Rattle.draid_pool.specs.declared.fault.SyncFault.{SyncFault}
 use Rattle.draid_pool.specs.declared.fault.SyncFault.TheVariants as sync
-use Rattle.draid_pool.proofs.GroupKeeps.{commit_ready}
 use Rattle.draid_pool.proofs.Imaged.{alike_stays, leaves_kept}
 use Rattle.draid_pool.proofs.Holding.{some_same}
 use Rattle.draid_pool.proofs.Naming.{named_state, refused_state, uber_named, uber_refused}
 use Rattle.draid_pool.proofs.ShardSteps.{acts_since}
 use Rattle.draid_pool.proofs.Turns.{commit_turns, state_sound}
 use Rattle.draid_lanes.specs.Governing.{lane_last}
-use Rattle.draid_lanes.specs.Waits.{LaneWent}
 use Rattle.draid_lanes.specs.declared.locked.Locked.{Locked}
 use Rattle.draid_lanes.proofs.DriftGoverned.{KeepsGoverned}
-use Rattle.draid_lanes.proofs.FinishWords.{commit_holds, finish_holds}
-use Rattle.draid_lanes.proofs.GovernedHolds.{GoesTo, IsGood, Knowing, QuietAt, good_governed, held_knows, quiet_closes, quiet_each, quiet_knows, quiet_seals, quiet_sees, quiet_stop, quiet_waits}
+use Rattle.draid_lanes.proofs.GovernedHolds.{GoesTo, IsGood, Knowing, good_governed, held_knows}
 use Rattle.draid_lanes.proofs.GroupWords.{name_hold, uber_view}
-use Rattle.draid_lanes.proofs.OneTurn.{CameTo, Once, came_is}
+use Rattle.draid_lanes.proofs.OneTurn.{CameTo, came_is}
 use Rattle.draid_lanes.proofs.RoundWords.{Each}
-use Rattle.draid_lanes.proofs.SealWords.{SealOne, each_is}
 use Rattle.draid_lanes.proofs.Switches.{KeepsSwitches, commit_switches, switches_arms, switches_then}
-use Rattle.draid_pool.proofs.GroupKeeps.{sealed_commits}
 
 -- ---- the uberblock
 

@@ -1,27 +1,25 @@
 -- What a governor's holds leave of a whole pool's metaslabs, whatever state of it stood.
-use Rattle.std.proofs.Common.{◌≡◌, ◌==◌, ◌<◌, ◌≤◌, ◌+◌, ◌∙◌, ◌⊎◌, inl, inr, ℕ, zero, suc, Bool, true, Option, Some, None, Ok, Err, arith, refl, sym, ap, subst, if◌then◌else◌, eq-eqb, ne_eqb}
+use Rattle.std.proofs.Common.{◌≡◌, ◌<◌, ◌+◌, ◌∙◌, ℕ, zero, suc, Bool, true, Option, Some, Ok, Err, refl, sym, ap, subst, if◌then◌else◌, eq-eqb, ne_eqb}
 use mathlib.Core.Logic.{dite}
 use native.Mathlib.Decide.{ℕ_discrete}
 use Rattle.std.specs.Prelude.{Result, slice_get}
 use Rattle.draid_rack.specs.declared.Rack as racks
 use Rattle.draid_area.specs.declared.Area as areas
-use Rattle.draid_machine.specs.Images.{IsImage}
 use Rattle.draid_machine.specs.State as machine
 use Rattle.draid_segments.specs.Segments.{Pieces}
 use Rattle.draid_session.specs.Holds.{Hold, view_of}
 use Rattle.draid_session.specs.Opening.{MayFind}
 use Rattle.draid_session.specs.State.{Metaslab, State}
-use Rattle.draid_shard.specs.Part.{Part, layout_in}
+use Rattle.draid_shard.specs.Part.{layout_in}
 use Rattle.draid_shard.specs.declared.shard.Shard.{Shard}
-use Rattle.draid_pool.specs.Drifts.{GoesOn, Since, groups_number}
-use Rattle.draid_pool.specs.Grouping.{ClosesEach, ClosesIn, SealsBy, SealsEach, SeesClosing, WaitsForWrites}
+use Rattle.draid_pool.specs.Drifts.{Since, groups_number}
+use Rattle.draid_pool.specs.Grouping.{ClosesIn, SealsBy, SeesClosing, WaitsForWrites}
 use Rattle.draid_pool.specs.Importable.{IsAlike, Shared}
 use Rattle.draid_pool.specs.Metaslabs.{IsMetaslab}
 use Rattle.draid_pool.specs.Pools.{part_in}
 use Rattle.draid_pool.specs.Records.{HasImage, LeavesAreBelow}
-use Rattle.draid_pool.specs.Rounds.{HeldEach, HeldFrom, StoppedBy}
-use Rattle.draid_pool.specs.Shards.{KeepsImages}
-use Rattle.draid_pool.specs.Syncing.{CloseIs, KeepsCommitted, SealIs, Turns, end_of}
+use Rattle.draid_pool.specs.Rounds.{StoppedBy}
+use Rattle.draid_pool.specs.Syncing.{KeepsCommitted, Turns, end_of}
 use Rattle.draid_pool.specs.declared.fault.SyncFault.{SyncFault}
 use Rattle.draid_pool.proofs.Holding.{some_same}
 use Rattle.draid_pool.proofs.Imaged.{alike_stays, image_kept, leaves_kept}
@@ -33,7 +31,6 @@ use Rattle.draid_lanes.specs.declared.locked.Locked.{Locked}
 use Rattle.draid_lanes.proofs.DriftGoverned.{KeepsGoverned, drift_governed}
 use Rattle.draid_lanes.proofs.OneTurn.{CameTo, Once, came_is, came_on}
 use Rattle.draid_lanes.proofs.RoundWords.{Each, From}
-use Rattle.draid_lanes.proofs.SealWords.{CloseOne, SealOne}
 use Rattle.draid_lanes.proofs.Switches.{KeepsSwitches, close_stop_switches, close_switches, seal_stop_switches, seal_switches, switches_arms, switches_self, switches_then}
 
 -- ---- one metaslab of a whole pool

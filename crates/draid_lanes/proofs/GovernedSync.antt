@@ -1,10 +1,9 @@
 -- A sync of a governor's, whatever state of the whole pool stood as its turn began.
-use Rattle.std.proofs.Common.{◌≡◌, ◌<◌, ◌≤◌, ◌+◌, ◌++◌, ◌∷◌, ◌∙◌, ◌⊎◌, [], inl, inr, ℕ, zero, suc, Bool, true, List, Option, Some, None, Ok, Err, arith, refl, sym, ap, subst, length}
+use Rattle.std.proofs.Common.{◌≡◌, ◌<◌, ◌+◌, ◌++◌, ◌∷◌, ◌∙◌, [], inl, inr, ℕ, zero, suc, Bool, true, List, Option, Some, None, Ok, Err, arith, refl, sym, ap, subst, length}
 use Rattle.std.specs.Prelude.{Result}
 use Rattle.draid_rack.specs.declared.Rack as racks
 use Rattle.draid_area.specs.declared.Area as areas
-use Rattle.draid_session.specs.Follows.{Follows}
-use Rattle.draid_session.specs.Holds.{Hold, LookedUber, OnUber}
+use Rattle.draid_session.specs.Holds.{Hold}
 use Rattle.draid_session.specs.State.{State}
 use Rattle.draid_shard.specs.declared.shard.Shard.{Shard}
 use Rattle.draid_uber.specs.Slots.{group_of}
@@ -22,12 +21,11 @@ use Rattle.draid_pool.proofs.GroupKeeps.{sealed_commits}
 use Rattle.draid_pool.proofs.Steps.{follows_on}
 use Rattle.draid_pool.proofs.SyncWhole.{begin_ready, find_ready}
 use Rattle.draid_lanes.specs.Governing.{lane_last}
-use Rattle.draid_lanes.specs.Waits.{BeginsThrough, BegunOn, GoesThrough, LaneWent, SyncsThrough, WaitsOn}
+use Rattle.draid_lanes.specs.Waits.{BegunOn, LaneWent, SyncsThrough, WaitsOn}
 use Rattle.draid_lanes.specs.declared.locked.Locked.{Locked}
 use Rattle.draid_lanes.proofs.FinishWords.{commit_holds, finish_holds}
 use Rattle.draid_lanes.proofs.GovernedGroup.{Governs, LeadsUber, governs_on, leads_self, named_governs, not_named_governs, uber_sees}
 use Rattle.draid_lanes.proofs.GovernedHolds.{IsGood, Knowing, QuietAt, quiet_closes, quiet_each, quiet_from, quiet_knows, quiet_seals, quiet_sees, quiet_stop, quiet_waits}
-use Rattle.draid_lanes.proofs.GroupWords.{name_hold, uber_view}
 use Rattle.draid_lanes.proofs.OneTurn.{HasCame}
 use Rattle.draid_lanes.proofs.SealWords.{CloseOne, SealOne, Sealing, closed_all, each_is}
 use Rattle.draid_lanes.proofs.SyncWords.{from_on, go_holds, look_hold, stop_holds, through_holds, waits_stage}

@@ -1,35 +1,31 @@
 -- A group that a lane commits, or that is stopped, in the session's words, however often the lane waited before.
-use Rattle.std.proofs.Common.{◌≡◌, ◌<◌, ◌≤◌, ◌+◌, ◌++◌, ◌∷◌, ◌∙◌, ◌⊎◌, [], inl, inr, ℕ, zero, suc, Bool, true, List, Option, Some, None, Ok, Err, arith, refl, sym, ap, subst}
+use Rattle.std.proofs.Common.{◌≡◌, ◌<◌, ◌+◌, ◌++◌, ◌∷◌, [], inl, inr, ℕ, zero, suc, Bool, true, List, Ok, Err, arith, refl, sym, ap, subst}
 use Rattle.std.specs.Prelude.{Result}
 use Rattle.std.proofs.lemmas.List.{append_assoc}
 use Rattle.draid_rack.specs.declared.Rack as racks
 use Rattle.draid_area.specs.declared.Area as areas
-use Rattle.draid_segments.specs.Segments.{Pieces}
 use Rattle.draid_session.specs.Groups as groups
-use Rattle.draid_session.specs.Holds.{CommitFailed, CommitStarved, Committed, Hold, Looked, On, OnUber, UberView, view_of}
-use Rattle.draid_session.specs.Lanes.{IsLookOnly, LeavesLooks}
+use Rattle.draid_session.specs.Holds.{CommitFailed, CommitStarved, Committed, Hold, OnUber, UberView}
+use Rattle.draid_session.specs.Lanes.{LeavesLooks}
 use Rattle.draid_session.specs.Phases.{Broke, Chain, End, Starved, Walk, Went}
 use Rattle.draid_session.specs.Phases as phases
-use Rattle.draid_session.specs.State.{Metaslab, State}
+use Rattle.draid_session.specs.State.{State}
 use Rattle.draid_shard.specs.declared.shard.Shard.{Shard}
 use Rattle.draid_uber.specs.Slots.{group_of}
 use Rattle.draid_uber.specs.Uber as ubers
 use Rattle.draid_uber.specs.declared.uber.Uber.{Uber}
 use Rattle.draid_pool.specs.Drifts.{groups_number}
-use Rattle.draid_pool.specs.Grouping.{ClosesIn, CommitsNext, SealsBy, SealsNext, UberNames}
-use Rattle.draid_pool.specs.Metaslabs.{IsMetaslab}
+use Rattle.draid_pool.specs.Grouping.{ClosesIn, SealsBy, UberNames}
 use Rattle.draid_pool.specs.Pools.{part_in}
-use Rattle.draid_pool.specs.Syncing.{CloseIs, Commits, SealIs, Turns, end_of}
+use Rattle.draid_pool.specs.Syncing.{Commits, end_of}
 use Rattle.draid_pool.specs.declared.fault.SyncFault.{SyncFault}
 use Rattle.draid_pool.specs.declared.fault.SyncFault.TheVariants as sync
-use Rattle.draid_pool.proofs.SyncCalls.{end_same}
 use Rattle.draid_pool.proofs.SyncSteps.{not_went}
 use Rattle.draid_pool.proofs.Turns.{commit_turns}
 use Rattle.draid_pool.proofs.Walks.{Walked, walk_stops, walk_went}
-use Rattle.draid_lanes.specs.Governing.{lane_last}
 use Rattle.draid_lanes.specs.declared.locked.Locked.{Locked}
 use Rattle.draid_lanes.proofs.OneTurn.{HasCame, Once}
-use Rattle.draid_lanes.proofs.RoundWords.{Each, IsOneOf, Says, TellsAt, round_said, said_as, said_on, said_one, said_uber}
+use Rattle.draid_lanes.proofs.RoundWords.{Each, EndsNone, IsOneOf, Says, TellsAt, round_said, said_as, said_on, said_one, said_uber}
 use Rattle.draid_lanes.proofs.SealWords.{SealedUpto, Sealing, leaves_self, leaves_then, walked_zero}
 
 -- ---- walks
@@ -58,6 +54,19 @@ name_hold u group (Err sync.Shelf) = OnUber (uber_view u) (CommitFailed group)
 name_hold u group (Err sync.NoMemory) = OnUber (uber_view u) (CommitStarved group)
 name_hold u group (Err sync.Worn) = OnUber (uber_view u) (CommitStarved group)
 name_hold u group (Err sync.Last) = OnUber (uber_view u) (CommitStarved group)
+
+-- what stops a group ends no ticket
+unsealed_ends : (x : State) (group k : ℕ) (why : SyncFault) → EndsNone (λ hold. groups.SealStops x.geometry x.perms group k hold (end_of {T = ℕ} (Err why)))
+unsealed_ends x group k sync.Worn v key w is = is
+unsealed_ends x group k sync.Last v key w is = is
+unsealed_ends x group k sync.Shelf v key w is = is
+unsealed_ends x group k sync.NoMemory v key w is = is
+
+unclosed_ends : (x : State) (group k : ℕ) (why : SyncFault) → EndsNone (λ hold. groups.CloseStops x.geometry x.perms group k hold (end_of {T = Unit} (Err why)))
+unclosed_ends x group k sync.Worn v key w is = is
+unclosed_ends x group k sync.Last v key w is = is
+unclosed_ends x group k sync.Shelf v key w is = is
+unclosed_ends x group k sync.NoMemory v key w is = is
 
 -- but for looks it is a group, so far
 pub record GroupBut (x : State) (group thin : ℕ) (end : End) (hs : List Hold) : Type 0 where
@@ -190,7 +199,7 @@ module _ {R A G W : Type 0} (rack : racks.Ghosts R) (area : areas.Ghosts A) (x :
       → Each rack area x owns (λ n before after. Commits rack group before after) count late none b → Says rack area x a b (name_hold u group (Ok tt) ∷ []) (GroupBut x group sum Went)
   group_went a late b sum none u v next s names commits =
       let named = name_said late u (Ok tt) s.said.came in
-      let each = round_said rack area x owns (λ n before after. Commits rack group before after) (λ m hold n. groups.Commits x.geometry x.perms group m hold) (tells_commit rack area x count all group) count none late b commits s.said.came in
+      let each = round_said rack area x owns (λ n before after. Commits rack group before after) (λ m hold n. groups.Commits x.geometry x.perms group m hold) (tells_commit rack area x count all group) (λ n m v key w is. is) count none late b commits s.said.came in
       said_on rack area x a late b [] (name_hold u group (Ok tt) ∷ []) (SealedUpto x count group count sum) (λ hs. (ks : List Hold) × (hs ≡ name_hold u group (Ok tt) ∷ ks) × phases.Each (groups.Commits x.geometry x.perms group) 0 count ks) (GroupBut x group sum Went) s.said
       (said_on rack area x late late b (name_hold u group (Ok tt) ∷ []) [] (λ hs. hs ≡ name_hold u group (Ok tt) ∷ []) (λ hs. Walked (λ m hold n. groups.Commits x.geometry x.perms group m hold) 0 count hs none)
       (λ hs. (ks : List Hold) × (hs ≡ name_hold u group (Ok tt) ∷ ks) × phases.Each (groups.Commits x.geometry x.perms group) 0 count ks) named each
@@ -212,7 +221,7 @@ module _ {R A G W : Type 0} (rack : racks.Ghosts R) (area : areas.Ghosts A) (x :
   group_unsealed a b c k sum why less s once =
       said_on rack area x a b c [] [] (SealedUpto x count group k sum) (IsOneOf (λ hold. groups.SealStops x.geometry x.perms group k hold (end_of {T = ℕ} (Err why)))) (GroupBut x group 0 (end_of {T = ℕ} (Err why))) s.said
       (said_one rack area x owns (λ before after. SealsBy rack area group before (Err why) after) (λ hold. groups.SealStops x.geometry x.perms group k hold (end_of {T = ℕ} (Err why))) b k c once s.said.came
-      (tells_unsealed rack area x count all group why k once.before once.after once.did)) (λ hs ks d one. subst (λ l. GroupBut x group 0 (end_of {T = ℕ} (Err why)) (hs ++ l)) (sym one.are) (unsealed_is rack area x count all group k sum why less hs d one.hold one.is))
+      (tells_unsealed rack area x count all group why k once.before once.after once.did) (unsealed_ends x group k why)) (λ hs ks d one. subst (λ l. GroupBut x group 0 (end_of {T = ℕ} (Err why)) (hs ++ l)) (sym one.are) (unsealed_is rack area x count all group k sum why less hs d one.hold one.is))
 
   -- ---- memory is wanting as it is closed again
 
@@ -224,9 +233,9 @@ module _ {R A G W : Type 0} (rack : racks.Ghosts R) (area : areas.Ghosts A) (x :
   pub group_unclosed : (a b c : Locked R A G W) (k none : ℕ) (why : SyncFault) → k < count → HasCame rack area x a → Each rack area x owns (λ n before after. ClosesIn rack area group before (Ok tt) after) k a none b
       → Once rack area x owns (λ before after. ClosesIn rack area group before (Err why) after) b k c → Says rack area x a c [] (GroupBut x group 0 (end_of {T = Unit} (Err why)))
   group_unclosed a b c k none why less came each once =
-      let front = round_said rack area x owns (λ n before after. ClosesIn rack area group before (Ok tt) after) (λ m hold n. groups.Closes x.geometry x.perms group m hold 0) (tells_closed rack area x count all group) k none a b each came in
+      let front = round_said rack area x owns (λ n before after. ClosesIn rack area group before (Ok tt) after) (λ m hold n. groups.Closes x.geometry x.perms group m hold 0) (tells_closed rack area x count all group) (λ n m v key w is. is) k none a b each came in
       let one = said_one rack area x owns (λ before after. ClosesIn rack area group before (Err why) after) (λ hold. groups.CloseStops x.geometry x.perms group k hold (end_of {T = Unit} (Err why))) b k c once front.came
-      (tells_unclosed rack area x count all group why k once.before once.after once.did) in
+      (tells_unclosed rack area x count all group why k once.before once.after once.did) (unclosed_ends x group k why) in
       said_on rack area x a b c [] [] (λ hs. Walked (λ m hold n. groups.Closes x.geometry x.perms group m hold 0) 0 k hs none) (IsOneOf (λ hold. groups.CloseStops x.geometry x.perms group k hold (end_of {T = Unit} (Err why)))) (GroupBut x group 0 (end_of {T = Unit} (Err why))) front one
       (λ hs ks w o. record {
         left = hs ++ ks;

@@ -1,17 +1,15 @@
 -- What a lane did in a turn of the uberblock, told from the state in which the section began.
-use Rattle.std.proofs.Common.{◌≡◌, ◌<◌, ◌≤◌, ◌+◌, ◌++◌, ◌∷◌, ◌∙◌, ◌⊎◌, [], ℕ, zero, suc, Bool, List, Option, Some, None, All, Contains, arith, refl, sym, ap, subst, length}
+use Rattle.std.proofs.Common.{◌≡◌, ◌<◌, ◌≤◌, ◌++◌, ◌∷◌, ◌∙◌, ◌⊎◌, [], ℕ, zero, suc, List, Option, Some, None, All, Contains, arith, refl, sym, ap, subst, length}
 use Rattle.std.specs.Prelude.{slice_get, slice_index_or}
-use Rattle.std.proofs.lemmas.List.{append-nil, append_assoc, length-append, map-append}
+use Rattle.std.proofs.lemmas.List.{append-nil, append_assoc, length-append}
 use Rattle.std.proofs.lemmas.List.Elements.{All-append, All-cons, All-nil, All-weaker}
 use Rattle.std.proofs.lemmas.Option.{slice_get_within}
 use Rattle.draid_rack.specs.declared.Rack as racks
 use Rattle.draid_area.specs.declared.Area as areas
-use Rattle.draid_machine.proofs.Small.{none_some}
 use Rattle.draid_session.specs.Holds.{Hold}
 use Rattle.draid_session.specs.Lanes.{holds_of}
 use Rattle.draid_session.specs.State.{Metaslab, State, Store}
 use Rattle.draid_shard.specs.Part.{layout_in}
-use Rattle.draid_shard.specs.declared.shard.Shard.{Shard}
 use Rattle.draid_turn.specs.Calls.{Caller, Lock}
 use Rattle.draid_turn.specs.Lists.{Ascends, StartsWith}
 use Rattle.draid_turn.specs.declared.past.Past.{Past}
@@ -24,13 +22,13 @@ use Rattle.draid_pool.proofs.Lists.{present, some_of}
 use Rattle.draid_lanes.specs.Governing.{GovernedIn, lane_last}
 use Rattle.draid_lanes.specs.Knowing.{KnowsLater}
 use Rattle.draid_lanes.specs.Lanes.{table_of}
-use Rattle.draid_lanes.specs.Locks.{last_in, last_of, left_in, owned_by}
+use Rattle.draid_lanes.specs.Locks.{last_of, left_in, owned_by}
 use Rattle.draid_lanes.specs.Traces.{CameAt, HadTurns, IsShardTurn, IsUberTurn, LaneTurn, LeadsLane, StandsAt, holds_in, places_in}
 use Rattle.draid_lanes.specs.Ubers.{IsLane}
 use Rattle.draid_lanes.specs.declared.lane.Lane.{Lane}
 use Rattle.draid_lanes.specs.declared.locked.Locked.{Locked}
 use Rattle.draid_lanes.specs.declared.uber.UberCell.{UberCell}
-use Rattle.draid_lanes.proofs.OneTurn.{CameTo, came_at, came_on, came_to}
+use Rattle.draid_lanes.proofs.OneTurn.{came_at, came_on, came_to}
 use Rattle.draid_lanes.proofs.Tracing.{EndsAt, PassWent, Traced, ascends_append, starts_long}
 
 module _ {R A G W O : Type 0} (rack : racks.Ghosts R) (area : areas.Ghosts A) (x : State) (relates : O → Locked R A G W → Uber A → O → Locked R A G W → Uber A → Type 0) (old new : Lane R A G W) (before after : O)

@@ -1,13 +1,12 @@
 -- Looks at all metaslabs behind what a lane did: each stands in the lane's last turn of its lock.
-use Rattle.std.proofs.Common.{◌≡◌, ◌<◌, ◌≤◌, ◌+◌, ◌++◌, ◌∷◌, ◌∙◌, ◌⊎◌, [], inl, inr, ℕ, zero, suc, Bool, true, List, Option, Some, None, All, Contains, arith, refl, sym, ap, subst, length}
-use Rattle.std.specs.Prelude.{flat_map, slice_get, slice_index_or}
+use Rattle.std.proofs.Common.{◌≡◌, ◌<◌, ◌≤◌, ◌++◌, ◌∷◌, ◌∙◌, ◌⊎◌, [], inl, inr, ℕ, zero, suc, List, Option, Some, None, All, Contains, arith, refl, sym, ap, subst, length}
+use Rattle.std.specs.Prelude.{slice_get, slice_index_or}
 use Rattle.std.proofs.lemmas.Grind.{flat_map-append}
-use Rattle.std.proofs.lemmas.List.{append-nil, append_assoc, length-append, map-append}
+use Rattle.std.proofs.lemmas.List.{append-nil, append_assoc, map-append}
 use Rattle.std.proofs.lemmas.List.Elements.{Contains-append_cases, Contains-append_left, Contains-append_right, filter-append}
 use Rattle.draid_rack.specs.declared.Rack as racks
 use Rattle.draid_area.specs.declared.Area as areas
 use Rattle.draid_machine.proofs.Small.{none_some}
-use Rattle.draid_session.specs.Follows.{MetaslabActs}
 use Rattle.draid_session.specs.Holds.{Hold, Looked, On, view_of}
 use Rattle.draid_session.specs.Lanes.{is_of}
 use Rattle.draid_session.specs.State.{Metaslab, State}
@@ -15,13 +14,13 @@ use Rattle.draid_shard.specs.Part.{layout_in}
 use Rattle.draid_shard.specs.declared.shard.Shard.{Shard}
 use Rattle.draid_machine.specs.State as machine
 use Rattle.draid_turn.specs.Calls.{Caller, Lock}
-use Rattle.draid_turn.specs.Lists.{Ascends, StartsWith}
+use Rattle.draid_turn.specs.Lists.{Ascends}
 use Rattle.draid_turn.specs.declared.past.Past.{Past}
 use Rattle.draid_pool.specs.Pools.{part_in}
 use Rattle.draid_pool.specs.Shards.{FollowsIn}
 use Rattle.draid_pool.specs.declared.cell.Cell.{Cell}
 use Rattle.draid_lanes.specs.Locks.{left_in}
-use Rattle.draid_lanes.specs.Traces.{Came, CameAt, IsShardTurn, LaneTurn, holds_in, places_in}
+use Rattle.draid_lanes.specs.Traces.{Came, IsShardTurn, LaneTurn, holds_in, places_in}
 use Rattle.draid_lanes.proofs.OneCame.{one_metaslab}
 use Rattle.draid_lanes.specs.Governing.{lane_last}
 use Rattle.draid_lanes.specs.Locks.{last_of}
@@ -101,6 +100,7 @@ module _ {R A : Type 0} (rack : racks.Ghosts R) (area : areas.Ghosts A) (x : Sta
         reached_is = t.reached_is;
         follows = subst (λ v. FollowsIn (layout_in (part_in x m)) m (holds ++ On (view_of m v) Looked ∷ []) t.found t.reached) (one_came m (left_in lock seen) t.reached y reached came)
             (follows_more (layout_in (part_in x m)) m holds t.found t.reached t.follows);
+        bytes = t.bytes;
       }
 
   module _ (lock : Lock (Cell R A)) (m : ℕ) (pass next : Caller (Past (Cell R A))) (y : Metaslab) (came : CameTo rack area x m (left_in lock next.seen) y) where

@@ -1,5 +1,5 @@
 -- What is said of a lane, with looks at all its metaslabs behind it.
-use Rattle.std.proofs.Common.{◌≡◌, ◌++◌, [], ℕ, List, Option, Some, refl, length}
+use Rattle.std.proofs.Common.{◌≡◌, ◌++◌, [], ℕ, List, Some, refl, length}
 use Rattle.std.specs.Prelude.{slice_get}
 use Rattle.draid_rack.specs.declared.Rack as racks
 use Rattle.draid_area.specs.declared.Area as areas
@@ -12,7 +12,7 @@ use Rattle.draid_pool.specs.declared.cell.Cell.{Cell}
 use Rattle.draid_pool.proofs.Looking.{looks_at}
 use Rattle.draid_lanes.specs.Governing.{lane_last}
 use Rattle.draid_lanes.specs.declared.locked.Locked.{Locked}
-use Rattle.draid_lanes.proofs.LooksBehind.{look_turns, now_all, then_ys, traced_looks}
+use Rattle.draid_lanes.proofs.LooksBehind.{look_turns, now_all, traced_looks}
 use Rattle.draid_lanes.proofs.OneTurn.{CameTo}
 use Rattle.draid_lanes.proofs.RoundWords.{Says}
 

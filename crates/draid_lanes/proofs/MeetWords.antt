@@ -1,32 +1,31 @@
 -- A lane that meets the passes of the groups looks at each metaslab: these looks are holds of its own.
-use Rattle.std.proofs.Common.{◌≡◌, ◌==◌, ◌<◌, ◌≤◌, ◌+◌, ◌-◌, ◌++◌, ◌∷◌, ◌∙◌, ◌⊎◌, [], inl, inr, ℕ, zero, suc, Bool, true, false, List, Option, Some, None, All, Contains, arith, refl, sym, ap, subst, length, if◌then◌else◌, eq-eqb, ne_eqb}
+use Rattle.std.proofs.Common.{◌≡◌, ◌<◌, ◌≤◌, ◌+◌, ◌-◌, ◌++◌, ◌∷◌, ◌∙◌, [], inr, ℕ, zero, suc, true, List, Option, Some, None, Contains, arith, refl, sym, ap, subst, length, if◌then◌else◌, eq-eqb, ne_eqb}
 use mathlib.Core.Logic.{dite}
 use native.Mathlib.Decide.{ℕ_discrete}
-use Rattle.std.specs.Prelude.{cond, filter, nat_lt, slice_get, slice_index_or}
-use Rattle.std.proofs.lemmas.Bool.{cases_lt}
+use Rattle.std.specs.Prelude.{cond, nat_lt, slice_get, slice_index_or}
 use Rattle.std.proofs.lemmas.Bool.Decides.{nat_tests}
-use Rattle.std.proofs.lemmas.List.{append-nil, length-append}
+use Rattle.std.proofs.lemmas.List.{length-append}
 use Rattle.std.proofs.lemmas.List.Elements.{All-cons, All-nil}
-use Rattle.std.proofs.lemmas.Option.{slice_get_past, slice_get_within}
+use Rattle.std.proofs.lemmas.Option.{slice_get_within}
 use Rattle.draid_rack.specs.declared.Rack as racks
 use Rattle.draid_area.specs.declared.Area as areas
 use Rattle.draid_machine.proofs.Small.{none_some}
 use Rattle.draid_session.specs.Holds.{Hold, Looked, On, view_of}
-use Rattle.draid_session.specs.Lanes.{holds_of, is_of}
+use Rattle.draid_session.specs.Lanes.{holds_of}
 use Rattle.draid_session.specs.State.{Metaslab, State}
-use Rattle.draid_shard.specs.declared.shard.Shard.{Shard}
 use Rattle.draid_turn.specs.Calls.{Caller, Lock}
 use Rattle.draid_turn.specs.Lists.{AllAbove, Ascends, StartsWith, merge, with_place}
 use Rattle.draid_turn.specs.declared.past.Past.{Past}
-use Rattle.draid_pool.specs.Drifts.{GoesOn}
+use Rattle.draid_pool.specs.Metaslabs.{IsMetaslab}
 use Rattle.draid_pool.specs.Pools.{part_in}
 use Rattle.draid_pool.specs.declared.cell.Cell.{Cell}
+use Rattle.draid_pool.proofs.BytesKept.{still_bytes}
 use Rattle.draid_pool.proofs.Lists.{present, some_of}
 use Rattle.draid_pool.proofs.Looking.{looks_at}
 use Rattle.draid_lanes.specs.Governing.{lane_last}
-use Rattle.draid_lanes.specs.Locks.{last_in, last_of, left_in}
+use Rattle.draid_lanes.specs.Locks.{last_of, left_in}
 use Rattle.draid_lanes.specs.Meeting.{EachMeets, Meets}
-use Rattle.draid_lanes.specs.Traces.{CameAt, IsShardTurn, LaneTurn, holds_in, places_in}
+use Rattle.draid_lanes.specs.Traces.{IsShardTurn, LaneTurn, holds_in}
 use Rattle.draid_lanes.specs.declared.locked.Locked.{Locked}
 use Rattle.draid_lanes.proofs.Drifted.{left_append}
 use Rattle.draid_lanes.proofs.Held.{has_place}
@@ -142,6 +141,7 @@ module _ {R A : Type 0} (rack : racks.Ghosts R) (area : areas.Ghosts A) (x : Sta
       found_is = came_at rack area x lock meets.log m (left_in lock met.seen) y found_same came;
       reached_is = came_at rack area x lock (meets.log ++ meets.left ∷ []) m (left_in lock met.seen) y (ap (left_in lock) (sym meets.seen)) came;
       follows = (Looked, y, refl, refl, refl);
+      bytes = still_bytes rack area (part_in x m) (left_in lock meets.log) meets.left.left.shard y (λ pieces is. subst (λ (c : Cell R A). IsMetaslab rack area (part_in x m) pieces c.shard y) (sym meets.still) is);
     }
 
     pub glance_went : Ascends lane.own → other.own ≡ [] → PassWent rack area x lock m lane met (record { place = length met.seen - 1; holds = On (view_of m y) Looked ∷ [] } ∷ [])

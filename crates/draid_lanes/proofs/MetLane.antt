@@ -1,5 +1,5 @@
 -- A lane that holds the uberblock: what it saw of its metaslabs as it met them.
-use Rattle.std.proofs.Common.{◌≡◌, ◌<◌, ◌≤◌, ◌+◌, ◌∙◌, [], ℕ, Bool, true, List, Option, Some, None, arith, refl, sym, ap, subst, length}
+use Rattle.std.proofs.Common.{◌≡◌, ◌+◌, ◌∙◌, [], ℕ, List, Option, Some, None, arith, sym, ap, subst, length}
 use Rattle.std.specs.Prelude.{slice_get}
 use Rattle.std.proofs.lemmas.Option.{slice_get_within}
 use Rattle.draid_rack.specs.declared.Rack as racks

@@ -17,7 +17,7 @@ use Rattle.draid_shard.specs.declared.shard.Shard.{Shard}
 use Rattle.draid_turn.specs.Calls.{Caller, Lock}
 use Rattle.draid_turn.specs.Lists.{StartsWith}
 use Rattle.draid_turn.specs.declared.past.Past.{Past}
-use Rattle.draid_pool.specs.Drifts.{GoesOn, Since}
+use Rattle.draid_pool.specs.Drifts.{GoesOn, KeepsBytes, Since}
 use Rattle.draid_pool.specs.Metaslabs.{IsMetaslab}
 use Rattle.draid_pool.specs.Pools.{part_in}
 use Rattle.draid_pool.specs.Rounds.{HeldOnce}
@@ -87,85 +87,87 @@ module _ {R A G W : Type 0} (rack : racks.Ghosts R) (area : areas.Ghosts A) (x :
   pub behind_is : left_in w.lock (w.log ++ w.left ∷ []) ≡ after
   behind_is = ap (λ (c : Cell R A). c.shard) (left_append w.lock.first w.log (w.left ∷ [])) ∙ w.left_is
 
-  one_turn : IsShardTurn rack area x w.lock w.next.seen m (length w.log) (its_hold ∷ [])
-  one_turn = record {
-    log = w.log;
-    left = w.left;
-    place_is = refl;
-    begins = subst (λ seen. StartsWith seen (w.log ++ w.left ∷ [])) (sym w.seen) (starts_self (w.log ++ w.left ∷ []));
-    found = found;
-    reached = reached;
-    found_is = came_at rack area x w.lock w.log m before found (sym w.found) came_found;
-    reached_is = came_at rack area x w.lock (w.log ++ w.left ∷ []) m after reached behind_is came_left;
-    follows = (act, reached, refl, acts, refl);
-  }
+  module _ (bytes : KeepsBytes rack area (part_in x m) before found after) where
+    one_turn : IsShardTurn rack area x w.lock w.next.seen m (length w.log) (its_hold ∷ [])
+    one_turn = record {
+      log = w.log;
+      left = w.left;
+      place_is = refl;
+      begins = subst (λ seen. StartsWith seen (w.log ++ w.left ∷ [])) (sym w.seen) (starts_self (w.log ++ w.left ∷ []));
+      found = found;
+      reached = reached;
+      found_is = came_at rack area x w.lock w.log m before found (sym w.found) came_found;
+      reached_is = came_at rack area x w.lock (w.log ++ w.left ∷ []) m after reached behind_is came_left;
+      follows = (act, reached, refl, acts, refl);
+      bytes = subst (λ (q : Shard R A × Shard R A). KeepsBytes rack area (part_in x m) q.0 found q.1) (λ i. (w.found i, sym w.left_is i)) bytes;
+    }
 
-  below_next : length w.log < length w.next.seen
-  below_next = (let all = ap length w.seen ∙ length-append w.log (w.left ∷ []) in omega (arith, all))
+    below_next : length w.log < length w.next.seen
+    below_next = (let all = ap length w.seen ∙ length-append w.log (w.left ∷ []) in omega (arith, all))
 
-  from_seen : length w.pass.seen ≤ length w.log
-  from_seen = (let all = ap length w.behind ∙ length-append w.pass.seen w.unseen in omega (arith, all))
+    from_seen : length w.pass.seen ≤ length w.log
+    from_seen = (let all = ap length w.behind ∙ length-append w.pass.seen w.unseen in omega (arith, all))
 
-  one_in : (other : LaneTurn) → Contains (its_turn ∷ []) other → its_turn ≡ other
-  one_in other among = by among.0 among.1 among.2
-    where
-      by : (k : ℕ) → k < 1 → slice_index_or (its_turn ∷ []) k other ≡ other → its_turn ≡ other
-      by zero less is = is
-      by (suc k) less is = absurd (omega (arith, less))
+    one_in : (other : LaneTurn) → Contains (its_turn ∷ []) other → its_turn ≡ other
+    one_in other among = by among.0 among.1 among.2
+      where
+        by : (k : ℕ) → k < 1 → slice_index_or (its_turn ∷ []) k other ≡ other → its_turn ≡ other
+        by zero less is = is
+        by (suc k) less is = absurd (omega (arith, less))
 
-  went_one : PassWent rack area x w.lock m w.pass w.next (its_turn ∷ [])
-  went_one = record {
-    own = w.own;
-    seen = (w.unseen ++ w.left ∷ [], w.seen ∙ (ap (λ l. l ++ w.left ∷ []) w.behind ∙ append_assoc w.pass.seen w.unseen (w.left ∷ [])));
-    above = All-cons (λ place. length w.pass.seen ≤ place) (length w.log) [] from_seen (All-nil (λ place. length w.pass.seen ≤ place));
-    below = All-cons (λ place. place < length w.next.seen) (length w.log) [] below_next (All-nil (λ place. place < length w.next.seen));
-    ascends = (tt, tt);
-    ends = inr (record { front = []; last = its_turn; are = refl; log = w.log; left = w.left; place_is = refl; seen_is = w.seen });
-    shards = λ other among. subst (λ (u : LaneTurn). IsShardTurn rack area x w.lock w.next.seen m u.place u.holds) (one_in other among) one_turn;
-  }
+    went_one : PassWent rack area x w.lock m w.pass w.next (its_turn ∷ [])
+    went_one = record {
+      own = w.own;
+      seen = (w.unseen ++ w.left ∷ [], w.seen ∙ (ap (λ l. l ++ w.left ∷ []) w.behind ∙ append_assoc w.pass.seen w.unseen (w.left ∷ [])));
+      above = All-cons (λ place. length w.pass.seen ≤ place) (length w.log) [] from_seen (All-nil (λ place. length w.pass.seen ≤ place));
+      below = All-cons (λ place. place < length w.next.seen) (length w.log) [] below_next (All-nil (λ place. place < length w.next.seen));
+      ascends = (tt, tt);
+      ends = inr (record { front = []; last = its_turn; are = refl; log = w.log; left = w.left; place_is = refl; seen_is = w.seen });
+      shards = λ other among. subst (λ (u : LaneTurn). IsShardTurn rack area x w.lock w.next.seen m u.place u.holds) (one_in other among) one_turn;
+    }
 
-  only_here : only_at m (its_turn ∷ []) m ≡ its_turn ∷ []
-  only_here = ap (λ t. if t then its_turn ∷ [] else []) (eq-eqb m m refl)
+    only_here : only_at m (its_turn ∷ []) m ≡ its_turn ∷ []
+    only_here = ap (λ t. if t then its_turn ∷ [] else []) (eq-eqb m m refl)
 
-  only_other : (k : ℕ) → (k ≡ m → ⊥) → only_at m (its_turn ∷ []) k ≡ []
-  only_other k not = ap (λ t. if t then its_turn ∷ [] else []) (ne_eqb m k (λ same. not (sym same)))
+    only_other : (k : ℕ) → (k ≡ m → ⊥) → only_at m (its_turn ∷ []) k ≡ []
+    only_other k not = ap (λ t. if t then its_turn ∷ [] else []) (ne_eqb m k (λ same. not (sym same)))
 
-  -- what became of a pass
-  abbrev Went_at : ℕ → Type 0
-  Went_at k = (pass : Caller (Past (Cell R A))) → slice_get a.passes.items k ≡ Some pass → (lock : Lock (Cell R A)) → slice_get a.turns.now k ≡ Some lock
-      → (next : Caller (Past (Cell R A))) × (slice_get (slice_set a.passes.items m w.next) k ≡ Some next) × PassWent rack area x lock k pass next (only_at m (its_turn ∷ []) k)
+    -- what became of a pass
+    abbrev Went_at : ℕ → Type 0
+    Went_at k = (pass : Caller (Past (Cell R A))) → slice_get a.passes.items k ≡ Some pass → (lock : Lock (Cell R A)) → slice_get a.turns.now k ≡ Some lock
+        → (next : Caller (Past (Cell R A))) × (slice_get (slice_set a.passes.items m w.next) k ≡ Some next) × PassWent rack area x lock k pass next (only_at m (its_turn ∷ []) k)
 
-  here : Went_at m
-  here pass at lock there = (
-    w.next,
-    get_set_same a.passes.items m w.pass w.next w.pass_is,
-    subst (λ (z : Lock (Cell R A) × Caller (Past (Cell R A))). PassWent rack area x z.0 m z.1 w.next (only_at m (its_turn ∷ []) m))
-        (λ i. (some_same w.lock lock (sym w.lock_is ∙ there) i, some_same w.pass pass (sym w.pass_is ∙ at) i)) (subst (PassWent rack area x w.lock m w.pass w.next) (sym only_here) went_one),
-  )
+    here : Went_at m
+    here pass at lock there = (
+      w.next,
+      get_set_same a.passes.items m w.pass w.next w.pass_is,
+      subst (λ (z : Lock (Cell R A) × Caller (Past (Cell R A))). PassWent rack area x z.0 m z.1 w.next (only_at m (its_turn ∷ []) m))
+          (λ i. (some_same w.lock lock (sym w.lock_is ∙ there) i, some_same w.pass pass (sym w.pass_is ∙ at) i)) (subst (PassWent rack area x w.lock m w.pass w.next) (sym only_here) went_one),
+    )
 
-  away : (k : ℕ) → (k ≡ m → ⊥) → Went_at k
-  away k not pass at lock there = (pass, get_set_other a.passes.items m k w.next not ∙ at, subst (PassWent rack area x lock k pass pass) (sym (only_other k not)) (went_none rack area x lock k pass))
+    away : (k : ℕ) → (k ≡ m → ⊥) → Went_at k
+    away k not pass at lock there = (pass, get_set_other a.passes.items m k w.next not ∙ at, subst (PassWent rack area x lock k pass pass) (sym (only_other k not)) (went_none rack area x lock k pass))
 
-  each_at : (k : ℕ) → Went_at k
-  each_at k = dite (ℕ_discrete k m) (λ same. subst Went_at (sym same) here) (λ not. away k not)
+    each_at : (k : ℕ) → Went_at k
+    each_at k = dite (ℕ_discrete k m) (λ same. subst Went_at (sym same) here) (λ not. away k not)
 
-  lost : (k : ℕ) → slice_get a.passes.items k ≡ None → k ≡ m → ⊥
-  lost k none same = none_some (slice_get a.passes.items k) w.pass none (ap (slice_get a.passes.items) same ∙ w.pass_is)
+    lost : (k : ℕ) → slice_get a.passes.items k ≡ None → k ≡ m → ⊥
+    lost k none same = none_some (slice_get a.passes.items k) w.pass none (ap (slice_get a.passes.items) same ∙ w.pass_is)
 
-  same_at : (t : Bool) → cond t (its_hold ∷ []) [] ≡ holds_in (if t then its_turn ∷ [] else [])
-  same_at true = refl
-  same_at false = refl
+    same_at : (t : Bool) → cond t (its_hold ∷ []) [] ≡ holds_in (if t then its_turn ∷ [] else [])
+    same_at true = refl
+    same_at false = refl
 
-  pub traced_hold : Traced rack area x a b (only_at m (its_turn ∷ [])) (its_hold ∷ []) []
-  traced_hold = record {
-    locks = goes.0;
-    many = ap length w.sets ∙ set_length a.passes.items m w.next;
-    same = λ k. same_at (m == k);
-    of_uber = refl;
-    none = λ k none. only_other k (lost k none);
-    each = λ k pass at lock there. (let z = each_at k pass at lock there in (z.0, ap (λ ps. slice_get ps k) w.sets ∙ z.1, z.2));
-    absent = λ k none. ap (λ ps. slice_get ps k) w.sets ∙ (get_set_other a.passes.items m k w.next (lost k none) ∙ none);
-  }
+    pub traced_hold : Traced rack area x a b (only_at m (its_turn ∷ [])) (its_hold ∷ []) []
+    traced_hold = record {
+      locks = goes.0;
+      many = ap length w.sets ∙ set_length a.passes.items m w.next;
+      same = λ k. same_at (m == k);
+      of_uber = refl;
+      none = λ k none. only_other k (lost k none);
+      each = λ k pass at lock there. (let z = each_at k pass at lock there in (z.0, ap (λ ps. slice_get ps k) w.sets ∙ z.1, z.2));
+      absent = λ k none. ap (λ ps. slice_get ps k) w.sets ∙ (get_set_other a.passes.items m k w.next (lost k none) ∙ none);
+    }
 
 -- ---- one of a command that is made over holds
 
@@ -194,8 +196,8 @@ module _ {R A G W : Type 0} (rack : racks.Ghosts R) (area : areas.Ghosts A) (x :
       abbrev pub turn : LaneTurn
       turn = record { place = length h.goes.1.log; holds = hold ∷ [] }
 
-      pub traced_one : Traced rack area x a b (only_at m (turn ∷ [])) (hold ∷ []) []
-      traced_one = traced_hold rack area x a b m h.before h.after h.goes gone.reached t.reached found_came left_came t.act t.acts
+      pub traced_one : KeepsBytes rack area (part_in x m) h.before gone.reached h.after → Traced rack area x a b (only_at m (turn ∷ [])) (hold ∷ []) []
+      traced_one bytes = traced_hold rack area x a b m h.before h.after h.goes gone.reached t.reached found_came left_came t.act t.acts bytes
 
       -- each metaslab is still what one came to
       pub came_one : HasCame rack area x b

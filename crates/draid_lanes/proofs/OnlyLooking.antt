@@ -1,11 +1,10 @@
 -- Which holds of a sync only look: those that close what is closing already, and seal what is sealed.
-use Rattle.std.proofs.Common.{◌≡◌, ◌≢◌, ◌∙◌, ℕ, Bool, true, Option, Some, None, Ok, Err, refl, sym, ap, subst}
-use Rattle.std.specs.Prelude.{is_some, Result}
+use Rattle.std.proofs.Common.{◌≡◌, ◌∙◌, ℕ, true, Option, Some, None, Ok, refl, sym, ap, subst}
+use Rattle.std.specs.Prelude.{is_some}
 use Rattle.draid_rack.specs.declared.Rack as racks
 use Rattle.draid_area.specs.declared.Area as areas
 use Rattle.draid_spec.specs.declared.layout.Geometry.{Geometry}
 use Rattle.draid_perm.specs.declared.perms.Perms.{Perms}
-use Rattle.draid_machine.specs.declared.event.Event.{Event}
 use Rattle.draid_machine.specs.declared.event.Event.TheVariants as event
 use Rattle.draid_machine.specs.State as machine
 use Rattle.draid_machine.proofs.Small.{none_some}
@@ -14,14 +13,12 @@ use Rattle.draid_session.specs.Follows.{MetaslabActs}
 use Rattle.draid_session.specs.Groups as groups
 use Rattle.draid_session.specs.Holds.{Act, AreaFailed, CallStarved, Did, Hold, Looked, MadeLeaf, On, RackFailed, Reserved, View, view_of}
 use Rattle.draid_session.specs.Lanes.{IsLookOnly}
-use Rattle.draid_session.specs.Phases.{End}
 use Rattle.draid_session.specs.State.{Metaslab}
 use Rattle.draid_shard.specs.Part.{Part, layout_in}
 use Rattle.draid_shard.specs.declared.shard.Shard.{Shard}
-use Rattle.draid_pool.specs.Grouping.{ClosesIn, SealsBy, SeesClosing, WaitsForWrites}
+use Rattle.draid_pool.specs.Grouping.{ClosesIn, SealsBy}
 use Rattle.draid_pool.specs.Metaslabs.{IsMetaslab}
-use Rattle.draid_pool.specs.Syncing.{CloseIs, SealIs, Turns}
-use Rattle.draid_pool.specs.declared.fault.SyncFault.{SyncFault}
+use Rattle.draid_pool.specs.Syncing.{Turns}
 
 some_none : (o : Option machine.Image) → is_some o ≡ true → o ≡ None → ⊥
 some_none None is none = absurd (cc)

@@ -1,6 +1,5 @@
 -- A whole pool under its governor, told from the state to which it has come.
-use Rattle.std.proofs.Common.{◌≡◌, ◌<◌, ◌≤◌, ◌+◌, ◌∙◌, inl, inr, ℕ, zero, suc, Bool, true, Option, Some, None, Ok, arith, refl, sym, ap, subst, length}
-use Rattle.std.specs.Prelude.{slice_get}
+use Rattle.std.proofs.Common.{◌≡◌, ◌<◌, ◌≤◌, ◌∙◌, inl, inr, ℕ, zero, suc, Bool, true, Some, None, Ok, arith, refl, sym, ap, subst, length}
 use Rattle.std.proofs.lemmas.Option.{slice_get_within}
 use Rattle.draid_rack.specs.declared.Rack as racks
 use Rattle.draid_area.specs.declared.Area as areas
@@ -11,9 +10,8 @@ use Rattle.draid_uber.specs.declared.uber.Uber.{Uber}
 use Rattle.draid_pool.specs.Drifts.{Drifts, groups_number}
 use Rattle.draid_pool.specs.Grouping.{FinishesIn}
 use Rattle.draid_pool.specs.Rounds.{EachIs}
-use Rattle.draid_pool.specs.Ubers.{IsUber}
 use Rattle.draid_pool.proofs.Holding.{some_same}
-use Rattle.draid_pool.proofs.Lists.{present, some_of}
+use Rattle.draid_pool.proofs.Lists.{present}
 use Rattle.draid_pool.proofs.RoundSteps.{each_stays}
 use Rattle.draid_lanes.specs.Governing.{lane_last}
 use Rattle.draid_lanes.specs.Waits.{LaneWent}

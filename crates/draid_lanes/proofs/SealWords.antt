@@ -1,7 +1,5 @@
 -- A group that is closed in all metaslabs by a lane, and sealed in more and more of them, however often the lane waits in between.
-use Rattle.std.proofs.Common.{◌≡◌, ◌==◌, ◌<◌, ◌≤◌, ◌+◌, ◌++◌, ◌∷◌, ◌∙◌, ◌⊎◌, [], inl, inr, ℕ, zero, suc, Bool, true, List, Option, Some, None, Ok, arith, refl, sym, ap, subst, if◌then◌else◌, eq-eqb, ne_eqb}
-use mathlib.Core.Logic.{dite}
-use native.Mathlib.Decide.{ℕ_discrete}
+use Rattle.std.proofs.Common.{◌≡◌, ◌==◌, ◌<◌, ◌≤◌, ◌+◌, ◌++◌, ◌∷◌, ◌∙◌, ◌⊎◌, [], inl, inr, ℕ, zero, suc, Bool, true, List, Option, Some, Ok, arith, refl, sym, ap, subst, if◌then◌else◌, ne_eqb}
 use Rattle.std.proofs.lemmas.Bool.{cases_lt}
 use Rattle.std.proofs.lemmas.List.{append-nil, append_assoc}
 use Rattle.draid_rack.specs.declared.Rack as racks
@@ -13,21 +11,19 @@ use Rattle.draid_session.specs.Lanes.{IsLookOnly, LeavesLooks}
 use Rattle.draid_session.specs.State.{Metaslab, State}
 use Rattle.draid_shard.specs.declared.shard.Shard.{Shard}
 use Rattle.draid_pool.specs.Drifts.{groups_number}
-use Rattle.draid_pool.specs.Grouping.{ClosesEach, ClosesIn, CommitsNext, SealsBy, SealsNext, SeesClosing, WaitsForWrites}
+use Rattle.draid_pool.specs.Grouping.{ClosesIn, CommitsNext, SealsBy, SealsNext, SeesClosing, WaitsForWrites}
 use Rattle.draid_pool.specs.Metaslabs.{IsMetaslab}
 use Rattle.draid_pool.specs.Pools.{part_in}
 use Rattle.draid_pool.specs.Rounds.{EachIs}
-use Rattle.draid_pool.specs.Syncing.{CloseIs, KeepsCommitted, SealIs, Turns}
 use Rattle.draid_pool.proofs.GroupKeeps.{closed_seals, commit_ready, seal_ready, sealed_again, sealed_commits}
 use Rattle.draid_pool.proofs.Holding.{some_same}
 use Rattle.draid_pool.proofs.RoundSteps.{each_more, each_stays}
 use Rattle.draid_pool.proofs.Walks.{Walked, walked_more}
 use Rattle.draid_lanes.specs.Governing.{lane_last}
-use Rattle.draid_lanes.specs.Waits.{LaneWent}
 use Rattle.draid_lanes.specs.declared.locked.Locked.{Locked}
 use Rattle.draid_lanes.proofs.OneTurn.{HasCame, Once, gone}
 use Rattle.draid_lanes.proofs.OnlyLooking.{Looks, close_looks, look_leaves, same_looks, seal_looks}
-use Rattle.draid_lanes.proofs.RoundWords.{Each, From, IsOneOf, Says, TellsAt, each_from, round_said, said_as, said_on, said_one}
+use Rattle.draid_lanes.proofs.RoundWords.{Each, From, IsOneOf, Says, TellsAt, looks_end, round_said, said_as, said_on, said_one}
 
 -- ---- looks that are left out
 
@@ -117,7 +113,7 @@ module _ {R A G W : Type 0} (rack : racks.Ghosts R) (area : areas.Ghosts A) (x :
     pub closed_all : (a b : Locked R A G W) (sum : ℕ) → Each rack area x owns (CloseOne rack area group) count a sum b → HasCame rack area x a → Sealing a b 0 0
     closed_all a b sum each came = record {
       said = said_as rack area x a b [] (λ hs. Walked (λ m hold none. groups.Closes x.geometry x.perms group m hold 0) 0 count hs sum) (SealedUpto x count group 0 0)
-          (round_said rack area x owns (CloseOne rack area group) (λ m hold none. groups.Closes x.geometry x.perms group m hold 0) (tells_close rack area x group) count sum a b each came)
+          (round_said rack area x owns (CloseOne rack area group) (λ m hold none. groups.Closes x.geometry x.perms group m hold 0) (tells_close rack area x group) (λ n m v key w is. is) count sum a b each came)
           (λ hs w. record {
             closes = hs;
             seals = [];
@@ -134,7 +130,7 @@ module _ {R A G W : Type 0} (rack : racks.Ghosts R) (area : areas.Ghosts A) (x :
     pub seals_one : (a b c : Locked R A G W) (k sum n : ℕ) → k < count → Sealing a b k sum → Once rack area x owns (SealOne rack area group n) b k c → Sealing a c (suc k) (sum + n)
     seals_one a b c k sum n less s once = record {
       said = said_on rack area x a b c [] [] (SealedUpto x count group k sum) (IsOneOf (λ hold. groups.Seals x.geometry x.perms group k hold n)) (SealedUpto x count group (suc k) (sum + n)) s.said
-          (said_one rack area x owns (SealOne rack area group n) (λ hold. groups.Seals x.geometry x.perms group k hold n) b k c once s.said.came (tells_seal rack area x group n k once.before once.after once.did)) (λ hs ks. more_sealed x count group k sum n hs ks);
+          (said_one rack area x owns (SealOne rack area group n) (λ hold. groups.Seals x.geometry x.perms group k hold n) b k c once s.said.came (tells_seal rack area x group n k once.before once.after once.did) (λ v key w is. is)) (λ hs ks. more_sealed x count group k sum n hs ks);
       closing = each_stays (SealsNext rack group) (lane_last b) (lane_last c) k once.after once.is (sealed_again rack area group n once.before once.after once.did) count s.closing;
       sealed = subst (λ j. EachIs j (CommitsNext rack group) (lane_last c)) (let same : k + 1 ≡ suc k = omega arith in same)
           (each_more (CommitsNext rack group) (lane_last b) (lane_last c) k once.after once.is (sealed_commits rack area group n once.before once.after once.did) s.sealed);
@@ -167,7 +163,7 @@ module _ {R A G W : Type 0} (rack : racks.Ghosts R) (area : areas.Ghosts A) (x :
         let left = look_leaves rack area (part_in x m) g.now h.before h.after g.reached g.is t in
         let closing = was_closing does b c m h less s.closing in
         record {
-          said = said_on rack area x a b c [] [] (SealedUpto x count group k sum) (IsOneOf IsLookOnly) (SealedUpto x count group k sum) s.said (said_one rack area x owns does IsLookOnly b m c h s.said.came looks)
+          said = said_on rack area x a b c [] [] (SealedUpto x count group k sum) (IsOneOf IsLookOnly) (SealedUpto x count group k sum) s.said (said_one rack area x owns does IsLookOnly b m c h s.said.came looks looks_end)
               (λ hs ks d one. record { closes = d.closes; seals = d.seals; leaves = leaves_look hs (d.closes ++ d.seals) ks d.leaves one; closed = d.closed; sealed = d.sealed });
           closing = each_stays (SealsNext rack group) (lane_last b) (lane_last c) m h.after h.is (record { valid = t.is.valid; closing = left.closing ∙ closing.closing }) count s.closing;
           sealed = elim (cases_lt m k) [

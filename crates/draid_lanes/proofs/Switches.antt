@@ -1,19 +1,16 @@
 -- Who is offline stays so as a group is closed, sealed and committed in a metaslab.
-use Rattle.std.proofs.Common.{◌≡◌, ◌∙◌, ℕ, Bool, true, false, Option, Some, None, Ok, Err, refl, sym, ap, subst, if◌then◌else◌}
-use Rattle.std.specs.Prelude.{Result, option_map}
-use Rattle.draid_rack.specs.declared.Rack as racks
-use Rattle.draid_area.specs.declared.Area as areas
+use Rattle.std.proofs.Common.{◌≡◌, ◌∙◌, ℕ, Bool, true, false, Option, Some, None, refl, sym, ap, subst, if◌then◌else◌}
+use Rattle.std.specs.Prelude.{option_map}
 use Rattle.draid_spec.specs.declared.layout.Geometry.{Geometry}
 use Rattle.draid_perm.specs.declared.perms.Perms.{Perms}
-use Rattle.draid_machine.specs.declared.event.Event.{Event}
 use Rattle.draid_machine.specs.declared.event.Event.TheVariants as event
 use Rattle.draid_machine.specs.declared.names.ArmName.TheVariants.{Leaf}
 use Rattle.draid_machine.specs.After.{map_arm}
 use Rattle.draid_machine.specs.State as machine
 use Rattle.draid_session.specs.Follows.{MetaslabActs}
 use Rattle.draid_session.specs.Groups as groups
-use Rattle.draid_session.specs.Holds.{Act, AreaFailed, CallStarved, Did, Hold, Looked, MadeLeaf, On, RackFailed, Reserved, View}
-use Rattle.draid_session.specs.Phases.{Broke, End, Starved, WasLast, WasWorn, Went}
+use Rattle.draid_session.specs.Holds.{Act, AreaFailed, CallStarved, Did, Looked, MadeLeaf, On, RackFailed, Reserved, View}
+use Rattle.draid_session.specs.Phases.{End}
 use Rattle.draid_session.specs.State.{Metaslab}
 use Rattle.draid_pool.specs.Importable.{SameArms, bare}
 

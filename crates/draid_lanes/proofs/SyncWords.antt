@@ -6,12 +6,11 @@ use Rattle.draid_area.specs.declared.Area as areas
 use Rattle.draid_session.specs.Holds.{Hold, LookedUber, OnUber, UberView}
 use Rattle.draid_session.specs.Phases.{End, Went}
 use Rattle.draid_session.specs.State.{State}
-use Rattle.draid_shard.specs.declared.shard.Shard.{Shard}
 use Rattle.draid_uber.specs.Slots.{group_of}
 use Rattle.draid_uber.specs.Uber as ubers
 use Rattle.draid_uber.specs.declared.uber.Uber.{Uber}
 use Rattle.draid_pool.specs.Drifts.{groups_number}
-use Rattle.draid_pool.specs.GoingOn.{BeginsIn, GoesOnIn, SealsFrom, SealsUntil}
+use Rattle.draid_pool.specs.GoingOn.{BeginsIn, GoesOnIn, SealsFrom}
 use Rattle.draid_pool.specs.Grouping.{ClosesNext, SealsBy, WaitsForWrites}
 use Rattle.draid_pool.specs.Rounds.{EachIs, HeldFrom, HeldOnce}
 use Rattle.draid_pool.specs.Syncing.{end_of}
@@ -20,9 +19,9 @@ use Rattle.draid_pool.specs.declared.fault.Synced.{Synced}
 use Rattle.draid_pool.specs.declared.fault.Syncing.{Syncing}
 use Rattle.draid_pool.proofs.SyncCalls.{end_same}
 use Rattle.draid_lanes.specs.Governing.{lane_last}
-use Rattle.draid_lanes.specs.Waits.{BeginsThrough, BegunOn, GoesThrough, LaneWent, SyncsThrough, WaitsOn}
+use Rattle.draid_lanes.specs.Waits.{BegunOn, LaneWent, SyncsThrough, WaitsOn}
 use Rattle.draid_lanes.specs.declared.locked.Locked.{Locked}
-use Rattle.draid_lanes.proofs.FinishWords.{FinishSays, Fresh, Stage, Waiting, finish_holds, finish_said, fresh_none, waits_more}
+use Rattle.draid_lanes.proofs.FinishWords.{FinishSays, Fresh, Stage, finish_holds, finish_said, fresh_none, waits_more}
 use Rattle.draid_lanes.proofs.FinishWords.Stage.{Begins, Waits}
 use Rattle.draid_lanes.proofs.GroupWords.{GroupBut, group_refused, group_unclosed, group_unsealed, group_went, name_hold, uber_view}
 use Rattle.draid_lanes.proofs.OneTurn.{HasCame}

@@ -1,12 +1,11 @@
 -- What a lane's passes saw and did between two of its states, one turn behind another.
-use Rattle.std.proofs.Common.{◌≡◌, ◌<◌, ◌≤◌, ◌++◌, ◌∷◌, ◌∙◌, [], inl, inr, ℕ, zero, suc, false, true, List, Option, Some, None, All, Contains, arith, refl, sym, ap, subst, length, map, ◌⊎◌}
-use Rattle.std.specs.Prelude.{cond, flat_map, slice_get}
+use Rattle.std.proofs.Common.{◌≡◌, ◌<◌, ◌≤◌, ◌++◌, ◌∷◌, ◌∙◌, [], inl, inr, ℕ, false, true, List, Some, None, All, Contains, arith, refl, sym, ap, subst, length, ◌⊎◌}
+use Rattle.std.specs.Prelude.{cond, slice_get}
 use Rattle.std.proofs.lemmas.Grind.{flat_map-append}
 use Rattle.std.proofs.lemmas.List.{append-nil, append_assoc, length-append, map-append}
 use Rattle.std.proofs.lemmas.List.Elements.{All-append, All-head, All-nil, All-tail, All-weaker, Contains-append_cases, filter-append}
 use Rattle.draid_rack.specs.declared.Rack as racks
 use Rattle.draid_area.specs.declared.Area as areas
-use Rattle.draid_machine.proofs.Small.{none_some}
 use Rattle.draid_session.specs.Holds.{Hold}
 use Rattle.draid_session.specs.Lanes.{holds_of, is_of}
 use Rattle.draid_session.specs.State.{State}
@@ -61,6 +60,7 @@ module _ {R A : Type 0} (rack : racks.Ghosts R) (area : areas.Ghosts A) (x : Sta
     found_is = t.found_is;
     reached_is = t.reached_is;
     follows = t.follows;
+    bytes = t.bytes;
   }
 
   -- the last of some turns, behind which nothing was seen

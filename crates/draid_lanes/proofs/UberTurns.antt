@@ -1,31 +1,24 @@
 -- One turn of the uberblock, whatever state of the whole pool stood at its place.
-use Rattle.std.proofs.Common.{◌≡◌, ◌<◌, ◌≤◌, ◌++◌, ◌∷◌, ◌∙◌, [], ℕ, Bool, true, false, List, Option, Some, None, All, arith, refl, sym, ap, subst, length}
+use Rattle.std.proofs.Common.{◌≡◌, ◌<◌, ◌++◌, ◌∷◌, ◌∙◌, [], ℕ, Bool, true, false, List, Some, None, All, arith, refl, sym, ap, subst, length}
 use Rattle.std.specs.Prelude.{cond, filter, slice_get}
-use Rattle.std.proofs.lemmas.List.{append-nil}
 use Rattle.std.proofs.lemmas.List.Elements.{All-cons, All-nil}
 use Rattle.std.proofs.lemmas.Option.{slice_get_within}
 use Rattle.draid_rack.specs.declared.Rack as racks
 use Rattle.draid_area.specs.declared.Area as areas
-use Rattle.draid_session.specs.Follows.{Follows}
 use Rattle.draid_session.specs.Holds.{Hold}
-use Rattle.draid_session.specs.Lanes.{SamePool, SwitchesAgree, is_of}
+use Rattle.draid_session.specs.Lanes.{SwitchesAgree, is_of}
 use Rattle.draid_session.specs.State.{Metaslab, State}
-use Rattle.draid_shard.specs.declared.shard.Shard.{Shard}
-use Rattle.draid_turn.specs.Calls.{Caller, Lock, newcomer}
-use Rattle.draid_turn.specs.History.{left_by}
+use Rattle.draid_turn.specs.Calls.{Caller, Lock}
 use Rattle.draid_turn.specs.Lists.{StartsWith}
 use Rattle.draid_turn.specs.Numbers.{holds}
 use Rattle.draid_turn.specs.declared.past.Past.{Past}
 use Rattle.draid_uber.specs.declared.uber.Uber.{Uber}
 use Rattle.draid_pool.specs.Drifts.{groups_number}
 use Rattle.draid_pool.specs.Pools.{part_in}
-use Rattle.draid_pool.specs.Ubers.{IsUber}
 use Rattle.draid_pool.specs.declared.cell.Cell.{Cell}
-use Rattle.draid_pool.proofs.Holding.{some_same}
 use Rattle.draid_pool.proofs.Lists.{present, some_of}
 use Rattle.draid_lanes.specs.Governing.{GovernedIn, lane_last}
 use Rattle.draid_lanes.specs.Locks.{last_of, left_in}
-use Rattle.draid_lanes.specs.Meeting.{groups_alone}
 use Rattle.draid_lanes.specs.Traces.{CameAt, IsGoverned, IsUberTurn}
 use Rattle.draid_lanes.specs.Ubers.{IsLane, IsUberOf, UberStep}
 use Rattle.draid_lanes.specs.declared.locked.Locked.{Locked}

@@ -18,7 +18,7 @@ use Rattle.draid_turn.specs.History.{left_by}
 use Rattle.draid_turn.specs.Lists.{Ascends, StartsWith}
 use Rattle.draid_turn.specs.declared.past.Past.{Past}
 use Rattle.draid_pool.specs.Bytes.{HasBytes}
-use Rattle.draid_pool.specs.Drifts.{Since}
+use Rattle.draid_pool.specs.Drifts.{KeepsBytes, Since}
 use Rattle.draid_pool.specs.Importable.{AllAlike, HasPoolVersions, Shared}
 use Rattle.draid_pool.specs.Metaslabs.{IsMetaslab}
 use Rattle.draid_pool.specs.Pools.{part_in}
@@ -90,7 +90,7 @@ module _ {R A : Type 0} (rack : racks.Ghosts R) (area : areas.Ghosts A) (x : Sta
 
   -- ---- what a turn did
 
-  -- A turn of a metaslab's lock that a pass has seen: at its place the metaslab was what it had come to, and the holds led to what it had come to then.
+  -- A turn of a metaslab's lock that a pass has seen: at its place the metaslab was what it had come to, and the holds led to what it had come to then. Where all its blocks had bytes, they have them behind the turn.
   pub record IsShardTurn (lock : Lock (Cell R A)) (seen : List (Past (Cell R A))) (m place : ℕ) (holds : List Hold) : Type 0 where
     pub log : List (Past (Cell R A))
     pub left : Past (Cell R A)
@@ -101,6 +101,7 @@ module _ {R A : Type 0} (rack : racks.Ghosts R) (area : areas.Ghosts A) (x : Sta
     pub found_is : CameAt lock log m found
     pub reached_is : CameAt lock (log ++ left ∷ []) m reached
     pub follows : FollowsIn (layout_in (part_in x m)) m holds found reached
+    pub bytes : KeepsBytes rack area (part_in x m) (left_in lock log) found left.left.shard
 
   -- A turn of the uberblock's lock that a pass has seen: whatever state of the pool stood at its place, the holds led from there to one that stood behind it.
   pub record IsUberTurn (lock : Lock (UberCell R A)) (seen : List (Past (UberCell R A))) (place : ℕ) (holds : List Hold) : Type 0 where

@@ -22,6 +22,7 @@ use Rattle.draid_pool.proofs.Lastly.{write_object}
 use Rattle.draid_pool.proofs.Moved.{turn, with_metaslab}
 use Rattle.draid_pool.specs.Drifts.{Drifts}
 use Rattle.draid_pool.specs.Threads.{Knows, LeadsBy, all_of}
+use Rattle.draid_pool.proofs.BytesKept.{still_bytes}
 use Rattle.draid_pool.proofs.Contents.{all_long}
 use Rattle.draid_pool.proofs.Finds.{Found, found_drops, found_later, looks, points_at_on}
 use Rattle.draid_pool.proofs.HoldStep.{each_on, f, follows, here, live_key, pointer_at_on}
@@ -60,7 +61,8 @@ module _ {R A S : Type 0} (rack : racks.Ghosts R) (area : areas.Ghosts A) (went 
     holds = On (view_of m z.z) Looked ∷ [];
     reached = with_metaslab x m z.z;
     store = x.store;
-    follows = follows rack area went shared owns a b last new m shard before after there drifts still.valid is goes (all_of owns) (all_of owns) table seq floor knows.pieces x knows.but_it Looked z.z z.now it (looks (layout_in (part_in x m)) z.z) (λ same. refl);
+    follows = follows rack area went shared owns a b last new m shard before after there drifts still.valid is goes (all_of owns) (all_of owns) table seq floor knows.pieces x knows.but_it Looked z.z z.now it (looks (layout_in (part_in x m)) z.z) (λ same. refl)
+        (still_bytes rack area (part_in x m) before after z.z (λ pieces is. still.stands (part_in x m) pieces z.z is));
     done = (refl, ((view_of m z.z, refl), tt));
     knows = record {
       pieces = turn m z.now knows.pieces;

@@ -32,7 +32,7 @@ use Rattle.draid_pool.specs.Pools.{part_in}
 use Rattle.draid_pool.proofs.Lastly.{write_object}
 use Rattle.draid_pool.proofs.Lists.{get_set_other, get_set_same, some_of}
 use Rattle.draid_pool.proofs.Moved.{turn, turn_here, turn_other, with_metaslab}
-use Rattle.draid_pool.specs.Drifts.{Drifts}
+use Rattle.draid_pool.specs.Drifts.{Drifts, KeepsBytes}
 use Rattle.draid_pool.specs.Follows.{FollowsBy}
 use Rattle.draid_pool.specs.Threads.{Between, IsPointerAt, KnowsBut, PointsAt}
 use Rattle.draid_pool.proofs.ShardSteps.{at_here, at_other, live_before, same_entry}
@@ -109,9 +109,9 @@ module _ {R A S : Type 0} (rack : racks.Ghosts R) (area : areas.Ghosts A) (went 
       })
 
   -- one hold that did this
-  pub follows : (act : Act) (r : Metaslab) (now : Pieces) → IsMetaslab rack area (part_in x m) now after r → MetaslabActs (layout_in (part_in x m)) act f.z r → (act ≡ Looked → r ≡ f.z)
+  pub follows : (act : Act) (r : Metaslab) (now : Pieces) → IsMetaslab rack area (part_in x m) now after r → MetaslabActs (layout_in (part_in x m)) act f.z r → (act ≡ Looked → r ≡ f.z) → KeepsBytes rack area (part_in x m) before f.z after
       → FollowsBy (Between rack area went shared (part_in x)) (λ s t u v. ⊥) a (On (view_of m f.z) act ∷ []) x b (with_metaslab x m r)
-  follows act r now it acts still = (
+  follows act r now it acts still bytes = (
     b,
     with_metaslab x m r,
     record {
@@ -122,7 +122,7 @@ module _ {R A S : Type 0} (rack : racks.Ghosts R) (area : areas.Ghosts A) (went 
       sees = refl;
       acts = acts;
       still = still;
-      goes = record { before = before; after = after; goes = goes; pieces = f.now; now = now; found_is = f.is; left_is = it; since = f.since; alone = f.alone };
+      goes = record { before = before; after = after; goes = goes; pieces = f.now; now = now; found_is = f.is; left_is = it; since = f.since; alone = f.alone; bytes = bytes };
       made = refl;
     },
     (refl, refl),

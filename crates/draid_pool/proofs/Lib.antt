@@ -3,6 +3,7 @@ pub mod Alone
 pub mod Arms
 pub mod Ascending
 pub mod Bytes
+pub mod BytesKept
 pub mod Closed
 pub mod Commits
 pub mod Committed
@@ -53,6 +54,7 @@ pub mod OwnedStands
 pub mod Owning
 pub mod PhaseSteps
 pub mod Places
+pub mod PoolBytes
 pub mod QuietWhole
 pub mod Ranging
 pub mod Refusing

@@ -21,6 +21,7 @@ use Rattle.draid_pool.specs.Drifts.{Drifts}
 use Rattle.draid_pool.specs.Metaslabs.{IsMetaslab}
 use Rattle.draid_pool.specs.Pools.{part_in}
 use Rattle.draid_pool.specs.Threads.{Knows, LeadsBy, all_of}
+use Rattle.draid_pool.proofs.BytesKept.{still_bytes}
 use Rattle.draid_pool.proofs.Contents.{all_long}
 use Rattle.draid_pool.proofs.Finds.{Found, found_drops, found_later, looks, points_at_on}
 use Rattle.draid_pool.proofs.HoldStep.{each_on, f, follows, here, live_key, pointer_at_on}
@@ -47,7 +48,8 @@ module _ {R A S : Type 0} (rack : racks.Ghosts R) (area : areas.Ghosts A) (went 
     holds = On (view_of m z.z) Looked ∷ [];
     reached = with_metaslab x m z.z;
     store = x.store;
-    follows = follows rack area went shared owns a b last new m shard before after there drifts valid is goes (all_of owns) (all_of owns) table seq floor knows.pieces x knows.but_it Looked z.z z.now it (looks (layout_in (part_in x m)) z.z) (λ e. refl);
+    follows = follows rack area went shared owns a b last new m shard before after there drifts valid is goes (all_of owns) (all_of owns) table seq floor knows.pieces x knows.but_it Looked z.z z.now it (looks (layout_in (part_in x m)) z.z) (λ e. refl)
+        (still_bytes rack area (part_in x m) before after z.z (λ pieces is. subst (λ (s : Shard R A). IsMetaslab rack area (part_in x m) pieces s z.z) (sym same) is));
     done = (refl, (On (view_of m z.z) Looked, refl, (view_of m z.z, record { looked = refl; there = refl }, says z.now z.z z.is)));
     knows = record {
       pieces = turn m z.now knows.pieces;

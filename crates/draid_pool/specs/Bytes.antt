@@ -34,6 +34,10 @@ KnowsBlock geometry h key pieces = (column row : ℕ) → IsSome (pieces key col
 abbrev pub KnowsBlocks : Geometry → Pieces → Table → Type 0
 KnowsBlocks geometry pieces table = (key : Key) (h : Held) → table key ≡ Some h → is_block h.stage ≡ true → KnowsBlock geometry h key pieces
 
+-- each block of a metaslab, live or freed, has bytes of its length and digest, of which these are the pieces
+abbrev pub HaveBytes : Geometry → Pieces → Metaslab → Type 0
+HaveBytes geometry pieces x = (key : Key) (h : Held) → x.world.core.held key ≡ Some h → is_block h.stage ≡ true → HasBytes geometry h key pieces
+
 -- and of the ticket that an event ends as a block
 abbrev pub KnowsFinished : Geometry → Pieces → Table → Event → Type 0
 KnowsFinished geometry pieces table (event.Finish key) = (h : Held) → table key ≡ Some h → KnowsBlock geometry h key pieces

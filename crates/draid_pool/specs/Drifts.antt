@@ -18,7 +18,7 @@ use Rattle.draid_shard.specs.Part.{Part, layout_in}
 use Rattle.draid_shard.specs.States.{part_of}
 use Rattle.draid_shard.specs.declared.shard.Shard.{Shard}
 use Rattle.draid_session.specs.State.{Metaslab}
-use Rattle.draid_pool.specs.Bytes.{SamePieces}
+use Rattle.draid_pool.specs.Bytes.{HaveBytes, SamePieces}
 use Rattle.draid_pool.specs.Groups.{AreasLater}
 use Rattle.draid_pool.specs.Metaslabs.{IsMetaslab}
 use Rattle.draid_pool.specs.Passes.{KeepsPass}
@@ -56,6 +56,20 @@ pub record GoesOn {R A : Type 0} (rack : racks.Ghosts R) (area : areas.Ghosts A)
 -- whatever the one stood for, the other stands for something behind it
 abbrev pub StateStep : {R A : Type 0} → racks.Ghosts R → areas.Ghosts A → (ℕ → Bool) → Shard R A → Shard R A → Type 0
 StateStep rack area of old new = (part : Part) (pieces : Pieces) (x : Metaslab) → IsMetaslab rack area part pieces old x → GoesOn rack area of part pieces x new
+
+-- ---- bytes
+
+-- a shard stands for a metaslab that came from one by events, and all blocks of which have bytes
+pub record GoesWithBytes {R A : Type 0} (rack : racks.Ghosts R) (area : areas.Ghosts A) (part : Part) (x : Metaslab) (new : Shard R A) : Type 0 where
+  pub reached : Metaslab
+  pub pieces : Pieces
+  pub is : IsMetaslab rack area part pieces new reached
+  pub since : Since (layout_in part) x reached
+  pub has : HaveBytes part.geometry pieces reached
+
+-- where all blocks of a metaslab have bytes for which the one stood, so have those of what the other stands for behind it
+abbrev pub KeepsBytes : {R A : Type 0} → racks.Ghosts R → areas.Ghosts A → Part → Shard R A → Metaslab → Shard R A → Type 0
+KeepsBytes rack area part old x new = (pieces : Pieces) → IsMetaslab rack area part pieces old x → HaveBytes part.geometry pieces x → GoesWithBytes rack area part x new
 
 -- ---- tables
 

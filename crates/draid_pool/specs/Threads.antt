@@ -24,7 +24,7 @@ use Rattle.draid_pool.specs.Metaslabs.{IsMetaslab}
 use Rattle.draid_pool.specs.Objects.{HoldsObjects, IsLastAt, blocks_of}
 use Rattle.draid_pool.specs.Pools.{part_in}
 use Rattle.draid_pool.specs.Follows.{FollowsBy}
-use Rattle.draid_pool.specs.Drifts.{KeepsGroups, Since, groups_number}
+use Rattle.draid_pool.specs.Drifts.{KeepsBytes, KeepsGroups, Since, groups_number}
 use Rattle.draid_shard.specs.declared.shard.Shard.{Shard}
 
 -- ---- what the blocks are of a thread's own objects
@@ -154,7 +154,7 @@ pub record Knows {R A : Type 0} (rack : racks.Ghosts R) (area : areas.Ghosts A) 
   pub pieces : ℕ → Pieces
   pub but_it : KnowsBut rack area owns (all_of owns) (all_of owns) last table number group pieces x
 
--- One hold of a thread's own: of a metaslab that stood for the one which was found, behind others' holds since this thread left it.
+-- One hold of a thread's own: of a metaslab that stood for the one which was found, behind others' holds since this thread left it. Where all blocks had bytes, they have them behind it.
 pub record Between {R A S : Type 0} (rack : racks.Ghosts R) (area : areas.Ghosts A) (went : S → ℕ → Shard R A → Shard R A → S → Type 0) (shared : Bool) (part : ℕ → Part) (a : S) (m : ℕ) (old found left : Metaslab) (b : S) : Type 0 where
   pub before : Shard R A
   pub after : Shard R A
@@ -165,6 +165,7 @@ pub record Between {R A S : Type 0} (rack : racks.Ghosts R) (area : areas.Ghosts
   pub left_is : IsMetaslab rack area (part m) now after left
   pub since : Since (layout_in (part m)) old found
   pub alone : shared ≡ false → found ≡ old
+  pub bytes : KeepsBytes rack area (part m) before found after
 
 -- Holds of metaslabs by one thread led to a state of which this is known. They are what is said to be done, with what the thread has of its own then; between them
 -- others may have held the metaslabs.

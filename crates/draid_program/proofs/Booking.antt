@@ -1,21 +1,21 @@
 -- The program's ends in words of the book, and by its exit status.
-use Rattle.std.proofs.Common.{◌≡◌, ◌∙◌, ◌⊎◌, inl, inr, refl, sym, ap, subst, ℕ, List, [], Option, Some, None, Result, Ok, IfOk, Global}
+use Rattle.std.proofs.Common.{◌≡◌, ◌∙◌, inl, inr, refl, sym, ap, subst, ℕ, List, [], Option, Some, None, Result, Ok, IfOk, Global}
 use Rattle.std.specs.Prelude.{⊤, MatchOption, String, string_bytes}
-use Rattle.std.specs.Process.{exit_status}
 use Rattle.std.specs.declared.process.ExitCode.{ExitCode}
 use Rattle.draid_rack.specs.declared.Rack as racks
 use Rattle.draid_area.specs.declared.Area as areas
 use Rattle.draid_lines.specs.Lines.{lines_of}
-use Rattle.draid_words.specs.Mode.{OfSession, asked, asked_in}
+use Rattle.draid_words.specs.Mode.{asked, asked_in}
 use Rattle.draid_words.specs.declared.mode.Mode.{Mode}
 use Rattle.draid_words.specs.declared.mode.Mode.TheVariants.{Session}
 use Rattle.draid_words.specs.declared.mode.WordsFault.{WordsFault}
 use Rattle.draid_session.specs.Book.{blank, closed}
 use Rattle.draid_session.specs.Choices.{Choices}
+use Rattle.draid_session.specs.Places.{Outside}
 use Rattle.draid_pool.specs.Shelves.{OnShelf}
 use Rattle.draid_run.specs.Script.{EndsWithLine, Ends, Prints}
 use Rattle.draid_run.specs.Shelves.{HoldsBare}
-use Rattle.draid_run.specs.Status.{HasNumber, code_of, last_text}
+use Rattle.draid_run.specs.Status.{code_of, last_text}
 use Rattle.draid_run.specs.declared.status.Status.{Status}
 use Rattle.draid_run.specs.declared.status.Status.TheVariants.{Done, Usage, Line, SourceFault, SinkFault, NoMemory, TooLong, ShelfFault, Record}
 use Rattle.draid_run.proofs.Booked.{bare_keeps}
@@ -42,7 +42,9 @@ starved_book words exit input old new it = record {
     ended = NoMemory;
     broken = None;
     saids = [];
-    answers = record { mid = blank; last = blank; answers = refl; ends = (refl, refl); made = refl };
+    to = Outside;
+    answers = record { mid = blank; last = blank; answers = (refl, refl); ends = (refl, refl); made = refl };
+    may = tt;
     broke = tt;
     ends = nothing input;
     shows = inl refl;

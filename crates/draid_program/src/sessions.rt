@@ -20,7 +20,7 @@ use draid_files::{FileArea, FileRack, FileShelf};
 use draid_lines::{Sink, Source};
 use draid_names::Room;
 use draid_rack::Rack;
-use draid_run::{Status, end_run, run};
+use draid_run::{NoSections, Status, end_run, run};
 use draid_shelf::{CrashRule, MemoryShelf, Shelf};
 use draid_words::{Mode, WordsFault, read_words};
 use std::alloc::Global;
@@ -51,7 +51,7 @@ fn run_on<
     H: Shelf,
     S: Source,
     K: Sink,
-    F: Fn(&[Room]) -> Option<u32>,
+    F: Fn(&[Room]) -> Option<u32> + Sync,
     P: Fn(u32, u64, &[u32]) -> Option<u32>,
     A: AllocGlobal + Threads + Sync,
 >(
@@ -68,7 +68,7 @@ fn run_on<
     ensures run { EndsByRun H.R.Rack H.A.Area (choices_with (FnReturnsAt F.Fn chooser.now) (PolicyReturns P.Fn policy.now)) (map string_bytes words.now) result (S.left source.old) (K.held sink.old) (K.held sink.new) (on_shelf H.Shelf shelf.old) (on_shelf H.Shelf shelf.new) }
     ensures done { exit_status result ≡ 0 → IsAtEnd (S.left source.new) }
 {
-    let status = run(rt, words, shelf, source, sink, chooser, policy);
+    let status = run(rt, &NoSections, words, shelf, source, sink, chooser, policy);
     ExitCode::from(status.code())
 }
 
@@ -86,7 +86,7 @@ fn new_shelf(alloc: Global) -> MemoryShelf
 fn run_in_memory<
     S: Source,
     K: Sink,
-    F: Fn(&[Room]) -> Option<u32>,
+    F: Fn(&[Room]) -> Option<u32> + Sync,
     P: Fn(u32, u64, &[u32]) -> Option<u32>,
     A: AllocGlobal + Threads + Sync,
 >(
@@ -110,7 +110,7 @@ fn run_in_memory<
 fn run_in_folder<
     S: Source,
     K: Sink,
-    F: Fn(&[Room]) -> Option<u32>,
+    F: Fn(&[Room]) -> Option<u32> + Sync,
     P: Fn(u32, u64, &[u32]) -> Option<u32>,
     A: AllocGlobal + Threads + Sync,
 >(
@@ -138,7 +138,7 @@ fn run_in_folder<
 fn run_words<
     S: Source,
     K: Sink,
-    F: Fn(&[Room]) -> Option<u32>,
+    F: Fn(&[Room]) -> Option<u32> + Sync,
     P: Fn(u32, u64, &[u32]) -> Option<u32>,
     A: AllocGlobal + Threads + Sync,
 >(
@@ -175,7 +175,7 @@ fn run_words<
 pub(crate) fn run_program<
     S: Source,
     K: Sink,
-    F: Fn(&[Room]) -> Option<u32>,
+    F: Fn(&[Room]) -> Option<u32> + Sync,
     P: Fn(u32, u64, &[u32]) -> Option<u32>,
     A: AllocGlobal + Threads + Sync,
 >(

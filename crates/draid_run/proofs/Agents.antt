@@ -1,5 +1,5 @@
 -- What a line of the repair agent comes to.
-use Rattle.std.proofs.Common.{◌≡◌, ◌∙◌, ◌++◌, ◌+◌, inl, inr, ℕ, zero, suc, List, [], ◌∷◌, Option, Some, None, Result, Ok, Err, Vec, Global, refl, sym, subst, length}
+use Rattle.std.proofs.Common.{◌≡◌, ◌∙◌, ◌++◌, ◌+◌, inl, inr, ℕ, zero, suc, List, [], ◌∷◌, Option, Some, None, Result, Ok, Err, refl, sym, subst, length}
 use Rattle.std.proofs.lemmas.List.{append-nil}
 use Rattle.draid_names.specs.declared.fault.Failed.{Failed}
 use Rattle.draid_names.specs.declared.journal.Did.{Did}
@@ -28,7 +28,6 @@ use Rattle.draid_session.specs.Phases.{Broke, End, Went}
 use Rattle.draid_session.specs.State.{State, Store}
 use Rattle.draid_pool.specs.Carries.{CarriesOut, ReplyDoes}
 use Rattle.draid_pool.specs.Failing.{AreaFails}
-use Rattle.draid_pool.specs.Knows.{KnowsPointers}
 use Rattle.draid_pool.specs.Pointers.{SamePointers}
 use Rattle.draid_pool.specs.Pools.{Represents}
 use Rattle.draid_pool.specs.Shelves.{OnShelf}
@@ -42,7 +41,6 @@ use Rattle.draid_pool.proofs.Taught.{still_known}
 use Rattle.draid_run.specs.Desks.{BreaksBy, IsDesk, IsPool, IsShelf, Noted, PoolBroke, Turned}
 use Rattle.draid_run.specs.Repairing.{AgentActs, AgentDid, AgentIs, AgentSays, IsAgentReply, JournalIs, NotesBehind, RepairEnds, ShowSays}
 use Rattle.draid_run.specs.Serve.{AnswerIs, IsSaid}
-use Rattle.draid_run.specs.Shelves.{MayFind}
 use Rattle.draid_run.specs.declared.answer.Stop.{Stop}
 use Rattle.draid_run.specs.declared.answer.Stop.TheVariants as stop
 use Rattle.draid_run.proofs.Steps.{ask_breaks, broke_open, still_out}

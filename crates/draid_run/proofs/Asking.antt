@@ -14,13 +14,13 @@ use Rattle.draid_reply.specs.declared.reply.Reply.{Reply}
 use Rattle.draid_session.specs.Said.{Said, alone}
 use Rattle.draid_session.specs.Choices.{Choices}
 use Rattle.draid_session.specs.Holds.{Hold}
-use Rattle.draid_session.specs.Session.{Desk, TurnsBy}
+use Rattle.draid_session.specs.Session.{Desk}
 use Rattle.draid_session.specs.State.{State, Store}
 use Rattle.draid_pool.specs.Carries.{CarriesOut, ReplyDoes}
 use Rattle.draid_pool.specs.Says.{SyncSays}
 use Rattle.draid_pool.specs.declared.pool.Pool.{Pool}
 use Rattle.draid_run.specs.Crashes.{LeavesFirm}
-use Rattle.draid_run.specs.Desks.{AnswerDoes, IsDesk, Turned, asked_in}
+use Rattle.draid_run.specs.Desks.{AnswerDoes, IsDesk, asked_in}
 use Rattle.draid_run.specs.Making.{CreateIs}
 use Rattle.draid_names.specs.declared.fault.Failed.{Failed}
 use Rattle.draid_changes.specs.DetachSays.{DetachSays}
@@ -31,8 +31,8 @@ use Rattle.draid_store.specs.Says.{DamageSays, FreeSays, ReadSays, SumSays}
 use Rattle.draid_status.specs.Says.{StatusSays}
 use Rattle.draid_visits.specs.Says.{CancelSays, RebuildSays, ScrubSays}
 use Rattle.draid_run.specs.Rebalancing.{RebalanceSays}
-use Rattle.draid_run.specs.Script.{IsBuilt, IsUnbuilt}
-use Rattle.draid_run.specs.Serve.{AnswerIs, AskIs, IsSaid}
+use Rattle.draid_run.specs.Script.{IsUnbuilt}
+use Rattle.draid_run.specs.Serve.{AnswerIs, AskIs, IsSaid, opened_by}
 use Rattle.draid_pool.specs.Shelves.{OnShelf}
 use Rattle.draid_run.specs.Shelves.{MayFind}
 use Rattle.draid_run.specs.declared.answer.Stop.{Stop}
@@ -177,37 +177,37 @@ pub is_unbuilt : (line : Line) → (line ≡ variant.Nothing → ⊥)
     → (line ≡ variant.Export → ⊥)
     → (line ≡ variant.Crash → ⊥)
     → ((least : ℕ) → line ≡ variant.Agent least → ⊥)
-    → (line ≡ variant.AgentLog → ⊥)
+    → (line ≡ variant.AgentLog → ⊥) → opened_by (command_in line) ≡ None
     → asked_in (command_in line) ≡ None → IsUnbuilt (command_in line)
-is_unbuilt variant.Nothing nothing create opens export crash agent log none = absurd (nothing refl)
-is_unbuilt (variant.Create spec children keys) nothing create opens export crash agent log none = absurd (create spec children keys refl)
-is_unbuilt variant.Import nothing create opens export crash agent log none = absurd (opens refl)
-is_unbuilt variant.Export nothing create opens export crash agent log none = absurd (export refl)
-is_unbuilt variant.Sync nothing create opens export crash agent log none = absurd (cc none)
-is_unbuilt variant.Cancel nothing create opens export crash agent log none = absurd (cc none)
-is_unbuilt variant.Crash nothing create opens export crash agent log none = absurd (crash refl)
-is_unbuilt (variant.Write object bytes) nothing create opens export crash agent log none = absurd (cc none)
-is_unbuilt (variant.Fill first count len seed) nothing create opens export crash agent log none = absurd (cc none)
-is_unbuilt (variant.Read object) nothing create opens export crash agent log none = absurd (cc none)
-is_unbuilt (variant.Free object) nothing create opens export crash agent log none = absurd (cc none)
-is_unbuilt (variant.Sum first count) nothing create opens export crash agent log none = absurd (cc none)
-is_unbuilt (variant.Offline leaf) nothing create opens export crash agent log none = absurd (cc none)
-is_unbuilt (variant.Online leaf) nothing create opens export crash agent log none = absurd (cc none)
-is_unbuilt (variant.Damage leaf sector) nothing create opens export crash agent log none = absurd (cc none)
-is_unbuilt (variant.Spare slot spare) nothing create opens export crash agent log none = absurd (cc none)
-is_unbuilt (variant.Replace slot sectors) nothing create opens export crash agent log none = absurd (cc none)
-is_unbuilt (variant.Detach arm) nothing create opens export crash agent log none = absurd (cc none)
-is_unbuilt (variant.Rebuild limit) nothing create opens export crash agent log none = absurd (cc none)
-is_unbuilt (variant.Scrub limit) nothing create opens export crash agent log none = absurd (cc none)
-is_unbuilt (variant.Rebalance slot) nothing create opens export crash agent log none = absurd (cc none)
-is_unbuilt (variant.Status form) nothing create opens export crash agent log none = absurd (cc none)
-is_unbuilt (variant.Lanes count) nothing create opens export crash agent log none = tt
-is_unbuilt variant.Upgrade nothing create opens export crash agent log none = absurd (cc none)
-is_unbuilt (variant.Agent least) nothing create opens export crash agent log none = absurd (agent least refl)
-is_unbuilt variant.AgentLog nothing create opens export crash agent log none = absurd (log refl)
-is_unbuilt variant.Checkpoint nothing create opens export crash agent log none = tt
-is_unbuilt variant.Rewind nothing create opens export crash agent log none = tt
-is_unbuilt variant.Discard nothing create opens export crash agent log none = tt
+is_unbuilt variant.Nothing nothing create opens export crash agent log alone none = absurd (nothing refl)
+is_unbuilt (variant.Create spec children keys) nothing create opens export crash agent log alone none = absurd (create spec children keys refl)
+is_unbuilt variant.Import nothing create opens export crash agent log alone none = absurd (opens refl)
+is_unbuilt variant.Export nothing create opens export crash agent log alone none = absurd (export refl)
+is_unbuilt variant.Sync nothing create opens export crash agent log alone none = absurd (cc none)
+is_unbuilt variant.Cancel nothing create opens export crash agent log alone none = absurd (cc none)
+is_unbuilt variant.Crash nothing create opens export crash agent log alone none = absurd (crash refl)
+is_unbuilt (variant.Write object bytes) nothing create opens export crash agent log alone none = absurd (cc none)
+is_unbuilt (variant.Fill first count len seed) nothing create opens export crash agent log alone none = absurd (cc none)
+is_unbuilt (variant.Read object) nothing create opens export crash agent log alone none = absurd (cc none)
+is_unbuilt (variant.Free object) nothing create opens export crash agent log alone none = absurd (cc none)
+is_unbuilt (variant.Sum first count) nothing create opens export crash agent log alone none = absurd (cc none)
+is_unbuilt (variant.Offline leaf) nothing create opens export crash agent log alone none = absurd (cc none)
+is_unbuilt (variant.Online leaf) nothing create opens export crash agent log alone none = absurd (cc none)
+is_unbuilt (variant.Damage leaf sector) nothing create opens export crash agent log alone none = absurd (cc none)
+is_unbuilt (variant.Spare slot spare) nothing create opens export crash agent log alone none = absurd (cc none)
+is_unbuilt (variant.Replace slot sectors) nothing create opens export crash agent log alone none = absurd (cc none)
+is_unbuilt (variant.Detach arm) nothing create opens export crash agent log alone none = absurd (cc none)
+is_unbuilt (variant.Rebuild limit) nothing create opens export crash agent log alone none = absurd (cc none)
+is_unbuilt (variant.Scrub limit) nothing create opens export crash agent log alone none = absurd (cc none)
+is_unbuilt (variant.Rebalance slot) nothing create opens export crash agent log alone none = absurd (cc none)
+is_unbuilt (variant.Status form) nothing create opens export crash agent log alone none = absurd (cc none)
+is_unbuilt (variant.Lanes count) nothing create opens export crash agent log alone none = absurd (cc alone)
+is_unbuilt variant.Upgrade nothing create opens export crash agent log alone none = absurd (cc none)
+is_unbuilt (variant.Agent least) nothing create opens export crash agent log alone none = absurd (agent least refl)
+is_unbuilt variant.AgentLog nothing create opens export crash agent log alone none = absurd (log refl)
+is_unbuilt variant.Checkpoint nothing create opens export crash agent log alone none = tt
+is_unbuilt variant.Rewind nothing create opens export crash agent log alone none = tt
+is_unbuilt variant.Discard nothing create opens export crash agent log alone none = tt
 
 -- ---- what a pool replies, by the line
 

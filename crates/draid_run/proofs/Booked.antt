@@ -1,24 +1,28 @@
 -- Each run is answered as the book has it, and so are runs one after another.
-use Rattle.std.proofs.Common.{◌≡◌, ◌∙◌, refl, sym, subst, ℕ, Bool, true, false, List, [], ◌∷◌, Option, Some, None}
+use Rattle.std.proofs.Common.{◌≡◌, ◌∙◌, refl, sym, ap, subst, ℕ, Bool, true, false, List, [], ◌∷◌, Option, Some, None}
 use Rattle.std.specs.Prelude.{is_some, IsSomeAnd}
 use Rattle.draid_rack.specs.declared.Rack as racks
 use Rattle.draid_area.specs.declared.Area as areas
+use Rattle.draid_script.specs.Grammar.{line_of}
 use Rattle.draid_shelf.specs.Kits.{Held}
 use Rattle.draid_session.specs.Choices.{Choices}
 use Rattle.draid_session.specs.Book.{Book, BreaksAtLine, EndsBook, blank, closed}
 use Rattle.draid_session.specs.Keeping.{Keeps}
-use Rattle.draid_session.specs.Places.{Outside, place_after}
+use Rattle.draid_session.specs.Places.{Outside, line_at, line_behind}
 use Rattle.draid_session.specs.Said.{Said}
-use Rattle.draid_session.specs.Session.{Agrees, Bare, Desk, Foreign, Made, Open, RecordFails, Runs, ShelfFails, Shut, Unknown, Untouched, left_of, sits}
-use Rattle.draid_session.proofs.Turning.{breaks_ends, left_keeps, no_record_fails, run_turns, AllAnswered}
+use Rattle.draid_session.specs.Session.{Agrees, Bare, Desk, Foreign, Made, Open, RecordFails, ShelfFails, Shut, Unknown, Untouched, left_of, sits}
+use Rattle.draid_session.specs.Sections.{RunsOn}
+use Rattle.draid_session.proofs.Running.{AllOn, runs_on}
+use Rattle.draid_session.proofs.Turning.{breaks_ends, left_keeps, no_record_fails}
 use Rattle.draid_run.specs.Books.{AreRuns, BrokeAt, KeepBook, KeepsBook, OneRun}
 use Rattle.draid_run.specs.Next.{next_desk}
-use Rattle.draid_run.specs.Script.{BreaksAt, BreaksOff, RunIs, RunsFrom}
+use Rattle.draid_run.specs.Script.{BreaksAt, BreaksOff, MayEndAt, RunIs, RunsFrom}
 use Rattle.draid_pool.specs.Shelves.{OnShelf}
 use Rattle.draid_run.specs.Shelves.{HoldsBare, HoldsDesk, MayFind}
 use Rattle.draid_run.specs.declared.status.Status.{Status}
 use Rattle.draid_run.specs.declared.status.Status.TheVariants.{NoMemory, ShelfFault, Record}
 use Rattle.draid_run.proofs.Next.{desk_found, tells_found}
+use Rattle.draid_run.proofs.Places.{broken_outside, led_on}
 use Rattle.draid_run.proofs.Serving.{as_found}
 
 -- ---- a run breaks off
@@ -34,32 +38,32 @@ left_agrees (Foreign known) entry now holds tells = tt
 left_agrees Unknown entry now holds tells = tt
 
 -- a book at the end of a run, before the pool is given back
-record EndsAt (lines : List (List ℕ)) (ended : Status) (broken : Option (List ℕ)) (saids : List Said) (b : Book) (last : Desk) : Type 0 where
+record EndsAt (ended : Status) (broken : Option (List ℕ)) (saids : List Said) (b : Book) (last : Desk) : Type 0 where
   pub book : Book
-  pub ends : EndsBook (place_after Outside lines) broken b saids book
+  pub ends : EndsBook broken b saids book
   pub broke : BrokeAt ended broken
   pub keeps : Keeps last book
 
-shelf_breaks : (lines : List (List ℕ)) (text : List ℕ) (saids : List Said) (mid last : Desk) (b : Book) → Keeps mid b → Agrees true last → BreaksAt ShelfFails lines text saids mid last → EndsAt lines ShelfFault (Some text) saids b last
-shelf_breaks lines text saids mid last b keeps agrees it =
+shelf_breaks : (lines : List (List ℕ)) (text : List ℕ) (saids : List Said) (mid last : Desk) (b : Book) → line_of text ≡ line_behind lines text → Keeps mid b → Agrees true last → BreaksAt ShelfFails lines text saids mid last → EndsAt ShelfFault (Some text) saids b last
+shelf_breaks lines text saids mid last b asked keeps agrees it =
     let ends = breaks_ends ShelfFails mid last b it.command keeps it.breaks agrees in
-    record { book = ends.book; ends = subst (λ line. BreaksAtLine line b saids ends.book) (sym it.line) (it.none, ends.breaks); broke = tt; keeps = ends.keeps }
+    record { book = ends.book; ends = subst (λ line. BreaksAtLine line b saids ends.book) (sym (asked ∙ it.line)) (it.none, ends.breaks); broke = tt; keeps = ends.keeps }
 
 no_record : (lines : List (List ℕ)) (text : List ℕ) (saids : List Said) (mid last : Desk) (b : Book) → Keeps mid b → BreaksAt RecordFails lines text saids mid last → ⊥
 no_record lines text saids mid last b keeps it = no_record_fails mid last b it.command keeps it.breaks
 
-goes_through : (lines : List (List ℕ)) (ended : Status) (saids : List Said) (mid last : Desk) (b : Book) → Keeps mid b → BrokeAt ended None → saids ≡ [] → last ≡ mid → EndsAt lines ended None saids b last
+goes_through : (lines : List (List ℕ)) (ended : Status) (saids : List Said) (mid last : Desk) (b : Book) → Keeps mid b → BrokeAt ended None → saids ≡ [] → last ≡ mid → EndsAt ended None saids b last
 goes_through lines ended saids mid last b keeps broke none same = record { book = b; ends = (none, refl); broke = broke; keeps = subst (λ desk. Keeps desk b) (sym same) keeps }
 
-ends_at : (lines : List (List ℕ)) (ended : Status) (broken : Option (List ℕ)) (saids : List Said) (mid last : Desk) (b : Book) → Keeps mid b → Agrees true last → BreaksOff lines ended broken saids mid last
-    → EndsAt lines ended broken saids b last
-ends_at lines ShelfFault None saids mid last b keeps agrees off = absurd off
-ends_at lines ShelfFault (Some text) saids mid last b keeps agrees off = shelf_breaks lines text saids mid last b keeps agrees off
-ends_at lines (Record which at kind) None saids mid last b keeps agrees off = absurd off
-ends_at lines (Record which at kind) (Some text) saids mid last b keeps agrees off = absurd (no_record lines text saids mid last b keeps off)
-ends_at lines NoMemory (Some text) saids mid last b keeps agrees off = absurd (no_record lines text saids mid last b keeps off)
-ends_at lines ended None saids mid last b keeps agrees off = goes_through lines ended saids mid last b keeps tt off.0 off.1
-ends_at lines ended (Some text) saids mid last b keeps agrees off = absurd off
+ends_at : (lines : List (List ℕ)) (ended : Status) (broken : Option (List ℕ)) (saids : List Said) (mid last : Desk) (b : Book) → ((text : List ℕ) → broken ≡ Some text → line_of text ≡ line_behind lines text) → Keeps mid b → Agrees true last → BreaksOff lines ended broken saids mid last
+    → EndsAt ended broken saids b last
+ends_at lines ShelfFault None saids mid last b asked keeps agrees off = goes_through lines ShelfFault saids mid last b keeps tt off.0 off.1
+ends_at lines ShelfFault (Some text) saids mid last b asked keeps agrees off = shelf_breaks lines text saids mid last b (asked text refl) keeps agrees off
+ends_at lines (Record which at kind) None saids mid last b asked keeps agrees off = absurd off
+ends_at lines (Record which at kind) (Some text) saids mid last b asked keeps agrees off = absurd (no_record lines text saids mid last b keeps off)
+ends_at lines NoMemory (Some text) saids mid last b asked keeps agrees off = absurd (no_record lines text saids mid last b keeps off)
+ends_at lines ended None saids mid last b asked keeps agrees off = goes_through lines ended saids mid last b keeps tt off.0 off.1
+ends_at lines ended (Some text) saids mid last b asked keeps agrees off = absurd off
 
 -- ---- desks of the next run
 
@@ -104,7 +108,9 @@ module _ {R A : Type 0} (rack : racks.Ghosts R) (area : areas.Ghosts A) (choices
       ended = it.session.ended;
       broken = it.session.broken;
       saids = it.session.saids;
+      to = it.session.to;
       answers = record { mid = all.book; last = ends.book; answers = all.answers; ends = ends.ends; made = refl };
+      may = it.session.may;
       broke = ends.broke;
       ends = it.session.ends;
       shows = it.session.shows;
@@ -116,12 +122,19 @@ module _ {R A : Type 0} (rack : racks.Ghosts R) (area : areas.Ghosts A) (choices
       now_tells : is_some now.held ≡ true
       now_tells = it.tells ∙ tells
 
-      all : AllAnswered choices (MayFind rack area entry) b it.session.lines it.session.replies it.session.mid
-      all = run_turns choices (MayFind rack area entry) it.session.lines it.session.replies (sits first []) (sits it.session.mid it.session.journal) b keeps
-          (subst (λ t. Runs choices (MayFind rack area entry) t (sits first []) it.session.lines it.session.replies (sits it.session.mid it.session.journal)) tells it.session.runs)
+      all : AllOn choices (MayFind rack area entry) b Outside it.session.lines it.session.replies it.session.to it.session.mid
+      all = runs_on choices (MayFind rack area entry) it.session.lines it.session.replies it.session.to (sits first []) (sits it.session.mid it.session.journal) b keeps
+          (subst (λ t. RunsOn choices (MayFind rack area entry) t Outside (sits first []) it.session.lines it.session.replies it.session.to (sits it.session.mid it.session.journal)) tells it.session.runs)
 
-      ends : EndsAt it.session.lines it.session.ended it.session.broken it.session.saids all.book it.last
-      ends = ends_at it.session.lines it.session.ended it.session.broken it.session.saids it.session.mid it.last all.book all.keeps (left_agrees it.last entry now it.shelf now_tells) it.session.breaks
+      -- it breaks off outside a section alone
+      asked : (text : List ℕ) → it.session.broken ≡ Some text → line_of text ≡ line_behind it.session.lines text
+      asked text is =
+          let outside = broken_outside it.session.to it.session.ended text (subst (MayEndAt it.session.to it.session.ended) is it.session.may) in
+          let led = led_on choices (MayFind rack area entry) (is_some entry.held) Outside (sits first []) it.session.lines it.session.replies it.session.to (sits it.session.mid it.session.journal) (λ ended. (let e = sym outside ∙ ended in cc e)) it.session.runs in
+          ap (λ p. line_at p text) (sym outside ∙ led)
+
+      ends : EndsAt it.session.ended it.session.broken it.session.saids all.book it.last
+      ends = ends_at it.session.lines it.session.ended it.session.broken it.session.saids it.session.mid it.last all.book asked all.keeps (left_agrees it.last entry now it.shelf now_tells) it.session.breaks
 
   -- ---- several runs
 

@@ -10,14 +10,14 @@ use Rattle.draid_script.specs.Line.{Command, CreatePool, ImportPool, ExportPool,
 use Rattle.draid_script.specs.declared.name.CommandName.{CommandName}
 use Rattle.draid_script.specs.declared.name.CommandName.TheVariants as name
 use Rattle.draid_reply.specs.declared.reply.Reply.{Reply}
-use Rattle.draid_reply.specs.declared.reply.Reply.TheVariants.{PoolOpen, NoMemory, Worn, Last, PassThere, Exported, Crashed, Synced, Written, NoSpace, Missed, WriteLast, Filled, FillRefused, Contents, NoObject, Unreadable, ReadWorn, Summed, SumRefused, Freed, FreeNoObject, Damaged, DamageRefused, DamageFailed, DamageWorn, OfflineDone, OfflineRefused, OfflineWorn, OnlineDone, OnlineRefused, OnlineWorn, Spared, SpareRefused, SpareWorn, Replaced, ReplaceRefused, ReplaceWorn, Detached, DetachRefused, DetachWorn, DetachLast, Rebuilt, RebuildNothing, Scrubbed, Rebalanced, RebalanceRefused, RebalanceWorn, RebalanceLast, Cancelled, Status, Upgraded, UpgradeAlready, Checkpointed, CheckpointThere, Discarded, NoCheckpoint, Rewound, Acted, AgentIdle, Journal}
+use Rattle.draid_reply.specs.declared.reply.Reply.TheVariants.{PoolOpen, NoMemory, Worn, Last, PassThere, Exported, Crashed, Synced, Written, NoSpace, Missed, WriteLast, Filled, FillRefused, Contents, NoObject, Unreadable, ReadWorn, Summed, SumRefused, Freed, FreeNoObject, Damaged, DamageRefused, DamageFailed, DamageWorn, OfflineDone, OfflineRefused, OfflineWorn, OnlineDone, OnlineRefused, OnlineWorn, Spared, SpareRefused, SpareWorn, Replaced, ReplaceRefused, ReplaceWorn, Detached, DetachRefused, DetachWorn, DetachLast, Rebuilt, RebuildNothing, Scrubbed, Rebalanced, RebalanceRefused, RebalanceWorn, RebalanceLast, Cancelled, Status, Upgraded, UpgradeAlready, Checkpointed, CheckpointThere, Discarded, NoCheckpoint, Rewound, Journal}
 use Rattle.draid_session.specs.Choices.{choices_by, choices_with}
 use Rattle.draid_session.specs.Does.{Does}
 use Rattle.draid_session.specs.Holds.{Hold}
 use Rattle.draid_session.specs.Making.{content_of}
 use Rattle.draid_session.specs.Session.{Bare, Desk, Foreign, Made, Open, Shut, Unknown, Untouched}
-use Rattle.draid_session.specs.State.{State, Store}
-use Rattle.draid_pool.specs.Carries.{CarriesOut, ReplyDoes}
+use Rattle.draid_session.specs.State.{Store}
+use Rattle.draid_pool.specs.Carries.{ReplyDoes}
 use Rattle.draid_pool.specs.declared.pool.Pool.{Pool}
 use Rattle.draid_pool.proofs.Steps.{carries_so}
 use Rattle.draid_run.specs.Desks.{PoolDid, asked_in}

@@ -1,20 +1,22 @@
 -- A run that has ended: what was served, and then the last line.
 use Rattle.std.proofs.Common.{refl, sym, subst, ◌≡◌, ◌∙◌, ◌⊎◌, inl, inr, ℕ, List, [], ◌∷◌, Option, Some, None, MatchOption}
 use Rattle.std.specs.Prelude.{⊤}
+use Rattle.std.proofs.lemmas.List.{append-nil}
 use Rattle.draid_record.specs.declared.fault.RecordFaultKind.{RecordFaultKind}
 use Rattle.draid_rack.specs.declared.Rack as racks
 use Rattle.draid_area.specs.declared.Area as areas
 use Rattle.draid_lines.specs.Lines.{lines_of}
 use Rattle.draid_session.specs.Said.{Said}
 use Rattle.draid_session.specs.Choices.{Choices}
+use Rattle.draid_session.specs.Places.{Ended, Inside, Outside, Place}
 use Rattle.draid_session.specs.Session.{Desk, Untouched, Bare, Made, Open, Shut, Foreign, Unknown, left_of}
 use Rattle.draid_pool.specs.declared.pool.Pool.{Pool}
 use Rattle.draid_run.specs.declared.status.RecordName.{RecordName}
 use Rattle.draid_run.specs.Desks.{IsDesk, LeavesDesk}
-use Rattle.draid_run.specs.Script.{all_replies, BreaksOff, Ends, EndsWithLine, Fails, FailsShut, GetsReplies, IsSession, Prints, RunsFrom, Shows}
-use Rattle.draid_run.specs.Serve.{Served}
+use Rattle.draid_run.specs.Script.{all_replies, BreaksOff, Ends, EndsWithLine, Fails, FailsShut, GetsReplies, IsSession, LaneFails, MayEndAt, Prints, RunsFrom, Shows}
+use Rattle.draid_run.specs.Serve.{LaneStopped, Served}
 use Rattle.draid_pool.specs.Shelves.{OnShelf}
-use Rattle.draid_run.specs.Shelves.{AreaRose, DeviceFailed, HasFailed, HoldsDesk, IsClosed, MakesLeavesAt, MakesLeavesBy, MayMakeLeaves, RackFailedOn, RackRose, TellsAsBefore}
+use Rattle.draid_run.specs.Shelves.{AreaRose, DeviceFailed, HasFailed, HasFault, HoldsDesk, IsClosed, MakesLeavesAt, MakesLeavesBy, MayMakeLeaves, RackFailedOn, RackRose, TellsAsBefore}
 use Rattle.draid_run.specs.Status.{HasNumber, last_text}
 use Rattle.draid_run.specs.declared.status.Status.{Status}
 use Rattle.draid_run.specs.declared.status.Status.TheVariants.{Done, Usage, Line, SourceFault, SinkFault, NoMemory, TooLong, ShelfFault, Record}
@@ -27,7 +29,7 @@ use Rattle.draid_run.proofs.Known.{appends_none}
 -- a run that ended at a number may as well have ended for want of memory
 ends_short : (ended : Status) (broken : Option (List ℕ)) (saids : List Said) (mid last : Desk) (lines : List (List ℕ)) (input : List ℕ) → HasNumber ended → BreaksOff lines ended broken saids mid last → Ends ended broken lines input
     → Ends NoMemory broken lines input
-ends_short (Line line kind at) None saids mid last lines input number breaks ends = (ends.0 ∷ ends.1, ends.2)
+ends_short (Line line kind at) None saids mid last lines input number breaks ends = elim ends.0 [ inl bad ↦ (bad.0 ∷ bad.1, bad.2) | inr inside ↦ ([], inside.0 ∙ sym (append-nil lines)) ]
 ends_short (Line line kind at) (Some text) saids mid last lines input number breaks ends = absurd breaks
 ends_short (TooLong line) None saids mid last lines input number breaks ends = (lines_of ends.0, ends.1)
 ends_short (TooLong line) (Some text) saids mid last lines input number breaks ends = absurd breaks
@@ -59,6 +61,61 @@ breaks_short lines SinkFault broken saids mid last number breaks = absurd number
 breaks_short lines NoMemory broken saids mid last number breaks = absurd number
 breaks_short lines ShelfFault broken saids mid last number breaks = absurd number
 
+may_short : (to : Place) (ended : Status) (broken : Option (List ℕ)) → HasNumber ended → MayEndAt to ended broken → MayEndAt to NoMemory broken
+may_short Outside ended broken number may = tt
+may_short (Inside lanes) (Line line kind at) None number may = tt
+may_short (Inside lanes) (Line line kind at) (Some text) number may = absurd may
+may_short (Inside lanes) (TooLong line) None number may = tt
+may_short (Inside lanes) (TooLong line) (Some text) number may = absurd may
+may_short (Inside lanes) (Record which place kind) None number may = tt
+may_short (Inside lanes) (Record which place kind) (Some text) number may = absurd may
+may_short Ended (Line line kind at) broken number may = absurd may
+may_short Ended (TooLong line) broken number may = absurd may
+may_short Ended (Record which place kind) broken number may = absurd may
+may_short to Done broken number may = absurd number
+may_short to Usage broken number may = absurd number
+may_short to SourceFault broken number may = absurd number
+may_short to SinkFault broken number may = absurd number
+may_short to NoMemory broken number may = absurd number
+may_short to ShelfFault broken number may = absurd number
+
+-- where a lane was stopped, the run ends at the desk behind that
+last_same : (ended : Status) (broken : Option (List ℕ)) (lines : List (List ℕ)) (saids : List Said) (mid last : Desk) → MayEndAt Ended ended broken → BreaksOff lines ended broken saids mid last → last ≡ mid
+last_same ShelfFault None lines saids mid last may breaks = breaks.1
+last_same SinkFault None lines saids mid last may breaks = breaks.1
+last_same NoMemory None lines saids mid last may breaks = breaks.1
+last_same ShelfFault (Some text) lines saids mid last may breaks = absurd may
+last_same SinkFault (Some text) lines saids mid last may breaks = absurd may
+last_same NoMemory (Some text) lines saids mid last may breaks = absurd may
+last_same Done broken lines saids mid last may breaks = absurd may
+last_same Usage broken lines saids mid last may breaks = absurd may
+last_same (Line line kind at) broken lines saids mid last may breaks = absurd may
+last_same SourceFault broken lines saids mid last may breaks = absurd may
+last_same (TooLong line) broken lines saids mid last may breaks = absurd may
+last_same (Record which place kind) broken lines saids mid last may breaks = absurd may
+
+-- what stopped it shows on the shelf
+lane_left : {R A : Type 0} (area : areas.Ghosts A) (entry before now : OnShelf) (pool : Option (Pool R A)) (old mid : Desk) → (HasFault area entry before pool mid → HasFailed entry now) → LaneStopped area pool old mid → LaneFails entry now old mid
+lane_left area entry before now pool (Open x) (Open y) shows stopped = stopped
+lane_left area entry before now pool (Foreign known) (Foreign later) shows stopped = shows stopped
+lane_left area entry before now pool (Open x) Untouched shows stopped = absurd stopped
+lane_left area entry before now pool (Open x) Bare shows stopped = absurd stopped
+lane_left area entry before now pool (Open x) (Made told n geometry) shows stopped = absurd stopped
+lane_left area entry before now pool (Open x) (Shut crash y) shows stopped = absurd stopped
+lane_left area entry before now pool (Open x) (Foreign known) shows stopped = absurd stopped
+lane_left area entry before now pool (Open x) Unknown shows stopped = absurd stopped
+lane_left area entry before now pool (Foreign known) Untouched shows stopped = absurd stopped
+lane_left area entry before now pool (Foreign known) Bare shows stopped = absurd stopped
+lane_left area entry before now pool (Foreign known) (Made told n geometry) shows stopped = absurd stopped
+lane_left area entry before now pool (Foreign known) (Open y) shows stopped = absurd stopped
+lane_left area entry before now pool (Foreign known) (Shut crash y) shows stopped = absurd stopped
+lane_left area entry before now pool (Foreign known) Unknown shows stopped = absurd stopped
+lane_left area entry before now pool Untouched mid shows stopped = absurd stopped
+lane_left area entry before now pool Bare mid shows stopped = absurd stopped
+lane_left area entry before now pool (Made told n geometry) mid shows stopped = absurd stopped
+lane_left area entry before now pool (Shut crash x) mid shows stopped = absurd stopped
+lane_left area entry before now pool Unknown mid shows stopped = absurd stopped
+
 shows_short : (ended : Status) (replies : List (List Said)) (shown : List Said) → HasNumber ended → Shows ended replies shown → Shows NoMemory replies shown
 shows_short (Line line kind at) replies shown number shows = inl shows
 shows_short (TooLong line) replies shown number shows = inl shows
@@ -82,16 +139,16 @@ gets_short NoMemory shown old new number gets = absurd number
 gets_short ShelfFault shown old new number gets = absurd number
 
 -- what failed, by what was open
-shelf_fails : {A : Type 0} (area : areas.Ghosts A) (broken : Option (List ℕ)) (lines : List (List ℕ)) (saids : List Said) (mid last : Desk) (entry now : OnShelf) → BreaksOff lines ShelfFault broken saids mid last
+shelf_fails : {A : Type 0} (area : areas.Ghosts A) (broken : Option (List ℕ)) (lines : List (List ℕ)) (saids : List Said) (mid last : Desk) (entry now : OnShelf) → MayEndAt Outside ShelfFault broken → BreaksOff lines ShelfFault broken saids mid last
     → (IsClosed mid → FailsShut area broken lines mid entry now) → HasFailed entry now ⊎ (MakesLeavesAt lines broken × RackFailedOn now) → Fails area broken lines mid last entry now
-shelf_fails area None lines saids mid last entry now breaks shut failed = absurd breaks
-shelf_fails area (Some text) lines saids Untouched last entry now breaks shut failed = shut tt
-shelf_fails area (Some text) lines saids Bare last entry now breaks shut failed = shut tt
-shelf_fails area (Some text) lines saids (Made told n geometry) last entry now breaks shut failed = shut tt
-shelf_fails area (Some text) lines saids (Shut crash x) last entry now breaks shut failed = shut tt
-shelf_fails area (Some text) lines saids Unknown last entry now breaks shut failed = shut tt
-shelf_fails area (Some text) lines saids (Foreign known) last entry now breaks shut failed = failed
-shelf_fails area (Some text) lines saids (Open x) last entry now breaks shut failed =
+shelf_fails area None lines saids mid last entry now may breaks shut failed = absurd may
+shelf_fails area (Some text) lines saids Untouched last entry now may breaks shut failed = shut tt
+shelf_fails area (Some text) lines saids Bare last entry now may breaks shut failed = shut tt
+shelf_fails area (Some text) lines saids (Made told n geometry) last entry now may breaks shut failed = shut tt
+shelf_fails area (Some text) lines saids (Shut crash x) last entry now may breaks shut failed = shut tt
+shelf_fails area (Some text) lines saids Unknown last entry now may breaks shut failed = shut tt
+shelf_fails area (Some text) lines saids (Foreign known) last entry now may breaks shut failed = failed
+shelf_fails area (Some text) lines saids (Open x) last entry now may breaks shut failed =
     let b = breaks.breaks in
     let it = b.2 in
     let rose = broken_rose x.geometry x.perms breaks.command x.store it.holds it.store x it.mid it.broken it.follows in
@@ -114,7 +171,7 @@ not_bad meant (inr none) which place kind is = (let e = sym none ∙ is in cc e)
 -- a line of an input that makes leaves
 may_make : (input : Option (List ℕ)) (broken : Option (List ℕ)) (lines : List (List ℕ)) → MatchOption input ⊤ (Ends ShelfFault broken lines) → MakesLeavesAt lines broken → MayMakeLeaves input
 may_make None broken lines ends makes = tt
-may_make (Some bytes) None lines ends makes = absurd ends
+may_make (Some bytes) None lines ends makes = absurd makes
 may_make (Some bytes) (Some text) lines ends makes = (lines, text, ends.0, ends.1, makes)
 
 -- what has failed shows on the shelf
@@ -139,7 +196,10 @@ module _ {R A : Type 0} (rack : racks.Ghosts R) (area : areas.Ghosts A) (choices
     broken = is.broken;
     saids = is.saids;
     desk = is.desk;
+    to = is.to;
     runs = is.runs;
+    may = may_short is.to ended is.broken number is.may;
+    stopped = is.stopped;
     breaks = breaks_short is.lines ended is.broken is.saids is.mid is.last number is.breaks;
     ends = ends_known ended is.broken is.saids is.mid is.last is.lines input number is.breaks is.ends;
     shows = shows_short ended (all_replies is.replies is.saids) is.shown number is.shows;
@@ -166,8 +226,10 @@ module _ {R A : Type 0} (rack : racks.Ghosts R) (area : areas.Ghosts A) (choices
       journal = is.journal;
       broken = is.broken;
       saids = is.saids;
+      to = is.to;
       runs = is.runs;
       built = is.built;
+      may = is.may;
       breaks = is.breaks;
       ends = is.ends;
       shows = is.shows;
@@ -180,8 +242,23 @@ module _ {R A : Type 0} (rack : racks.Ghosts R) (area : areas.Ghosts A) (choices
     shelf = leaves.shelf;
     tells = tells;
     firm = λ rest came. firm_left rack area is.last before now pool is.desk.stands leaves.same (is.firm rest came);
-    failed = λ e. shelf_fails area is.broken is.lines is.saids is.mid is.last entry now (subst (λ s. BreaksOff is.lines s is.broken is.saids is.mid is.last) e is.breaks)
+    failed = λ e outside. shelf_fails area is.broken is.lines is.saids is.mid is.last entry now (subst (λ s. MayEndAt Outside s is.broken) e (subst (λ p. MayEndAt p ended is.broken) outside is.may)) (subst (λ s. BreaksOff is.lines s is.broken is.saids is.mid is.last) e is.breaks)
         (λ closed. (let since = is.since e closed in subst (FailsShut area is.broken is.lines is.mid entry) (sym (leaves.same since.0)) since.1)) (elim (is.failed e) [ inl fault ↦ inl (leaves.failed fault) | inr whole ↦ inr (whole.0, leaves.racks whole.1) ]);
+    stopped = λ e.
+        (let it = is.stopped e in
+        let same = last_same ended is.broken is.lines is.saids is.mid is.last (subst (λ p. MayEndAt p ended is.broken) e is.may) is.breaks in
+        record {
+          front = it.front;
+          said = it.said;
+          line = it.line;
+          saids = it.saids;
+          lanes = it.lanes;
+          old = it.old;
+          lines_are = it.lines_are;
+          replies_are = it.replies_are;
+          before = it.before;
+          failed = lane_left area entry before now pool it.old is.mid (λ fault. leaves.failed (subst (HasFault area entry before pool) (sym same) fault)) it.failed;
+        });
     bad = is.bad;
   }
 
@@ -202,9 +279,9 @@ module _ {R A : Type 0} (rack : racks.Ghosts R) (area : areas.Ghosts A) (choices
 
 module _ {R A : Type 0} (rack : racks.Ghosts R) (area : areas.Ghosts A) (choices : Choices) (words : List (List ℕ)) (status : Status) (input old new : Option (List ℕ)) (entry : OnShelf) (first : Desk) (at : HoldsDesk first entry entry) where
   -- a run that does nothing but print its last line
-  run_of_none : (meant : Status) → (meant ≡ Usage → IsSession words → ⊥) → (meant ≡ Usage) ⊎ (meant ≡ NoMemory) → ((known : Option (List ℕ)) → MatchOption known ⊤ (Ends meant None [])) → Shows meant [] []
+  run_of_none : (meant : Status) → MayEndAt Outside meant None → (meant ≡ Usage → IsSession words → ⊥) → (meant ≡ Usage) ⊎ (meant ≡ NoMemory) → ((known : Option (List ℕ)) → MatchOption known ⊤ (Ends meant None [])) → Shows meant [] []
       → BreaksOff [] meant None [] first first → GetsReplies meant [] old old → (HasNumber meant → ⊥) → EndsWithLine meant status old new → RunsFrom rack area choices words status input old new entry entry first
-  run_of_none meant wrong refused ends shows breaks gets plain line = elim line.is [
+  run_of_none meant may wrong refused ends shows breaks gets plain line = elim line.is [
     | inl same ↦ record {
       last = first;
       session = record {
@@ -216,8 +293,10 @@ module _ {R A : Type 0} (rack : racks.Ghosts R) (area : areas.Ghosts A) (choices
         journal = [];
         broken = None;
         saids = [];
-        runs = refl;
+        to = Outside;
+        runs = (refl, refl);
         built = tt;
+        may = may;
         breaks = breaks;
         ends = ends input;
         shows = shows;
@@ -231,6 +310,7 @@ module _ {R A : Type 0} (rack : racks.Ghosts R) (area : areas.Ghosts A) (choices
       tells = refl;
       firm = λ rest came. absurd (cc came);
       failed = λ e. absurd (not_fault meant refused e);
+      stopped = λ e. absurd (cc e);
       bad = λ which place kind e. absurd (not_bad meant refused which place kind e);
     }
     | inr none ↦ absurd (plain none.1)
@@ -247,14 +327,14 @@ module _ {R A : Type 0} (rack : racks.Ghosts R) (area : areas.Ghosts A) (choices
 
   -- a run whose words aren't those of a session
   pub run_refused : (IsSession words → ⊥) → EndsWithLine Usage status old new → RunsFrom rack area choices words status input old new entry entry first
-  run_refused wrong = run_of_none Usage (λ e. wrong) (inl refl) ends_nothing refl (refl, refl) (appends_none old) (λ number. number) where
+  run_refused wrong = run_of_none Usage tt (λ e. wrong) (inl refl) ends_nothing refl (refl, refl) (appends_none old) (λ number. number) where
     ends_nothing : (known : Option (List ℕ)) → MatchOption known ⊤ (Ends Usage None [])
     ends_nothing None = tt
     ends_nothing (Some bytes) = refl
 
   -- a run whose words can't be read for want of memory
   pub run_unread : EndsWithLine NoMemory status old new → RunsFrom rack area choices words status input old new entry entry first
-  run_unread = run_of_none NoMemory (λ e. absurd (not_usage e)) (inr refl) ends_nothing (inl refl) (refl, refl) (appends_none old) (λ number. number) where
+  run_unread = run_of_none NoMemory tt (λ e. absurd (not_usage e)) (inr refl) ends_nothing (inl refl) (refl, refl) (appends_none old) (λ number. number) where
     ends_nothing : (known : Option (List ℕ)) → MatchOption known ⊤ (Ends NoMemory None [])
     ends_nothing None = tt
     ends_nothing (Some bytes) = (lines_of bytes, refl)

@@ -11,7 +11,7 @@ use Rattle.draid_lines.proofs.Ends.{lines_first, lines_last, position-le}
 use Rattle.draid_script.specs.Line.{Command, ImportPool}
 use Rattle.draid_script.specs.declared.fault.LineFault.{LineFault}
 use Rattle.draid_session.specs.Choices.{Choices}
-use Rattle.draid_session.specs.Places.{line_behind}
+use Rattle.draid_session.specs.Places.{Ended, Inside, IsInside, IsOutside, Outside, Place, line_behind, place_after}
 use Rattle.draid_session.specs.Said.{Said}
 use Rattle.draid_session.specs.Session.{Desk, Untouched, Bare, Made, Open, Shut, Foreign, Unknown, Breaks, BreaksGiven, RecordFails}
 use Rattle.draid_session.specs.State.{State}
@@ -73,6 +73,11 @@ not_built : (line : Result Command LineFault) (why : LineRefusal) (at : ℕ) →
 not_built (Ok command) why at built fault = built fault.0
 not_built (Err other) why at built fault = built
 
+not_both : (place : Place) → IsInside place → IsOutside place → ⊥
+not_both Outside inside outside = inside
+not_both (Inside lanes) inside outside = outside
+not_both Ended inside outside = inside
+
 -- ---- records
 
 told_given : (b : Bool) (x : State) (last : Desk) → BreaksGiven b RecordFails x last → b ≡ false
@@ -103,7 +108,7 @@ module _ {R A : Type 0} (rack : racks.Ghosts R) (area : areas.Ghosts A) (choices
   by_end Done broken lines saids mid last quiet usage breaks ends = tt
   by_end Usage broken lines saids mid last quiet usage breaks ends = usage refl session
   by_end (Line line kind at) broken lines saids mid last quiet usage breaks ends =
-      not_built (line_behind lines ends.0) kind at (can.built lines ends.0 ends.1 ends.2) ends.3
+      elim ends.0 [ inl bad ↦ not_built (line_behind lines bad.0) kind at (can.built lines bad.0 bad.1 bad.2) bad.3 | inr inside ↦ absurd (not_both (place_after Outside lines) inside.1 (subst (λ ls. IsOutside (place_after Outside ls)) inside.0 can.outside)) ]
   by_end (TooLong line) broken lines saids mid last quiet usage breaks ends = not_long input lines ends.0 can ends.1 ends.2
   by_end SourceFault broken lines saids mid last quiet usage breaks ends = quiet.source refl
   by_end SinkFault broken lines saids mid last quiet usage breaks ends = quiet.sink refl

@@ -10,17 +10,21 @@ use Rattle.draid_area.specs.declared.Area as areas
 use Rattle.draid_lines.specs.declared.lines.ReadFault.{ReadFault}
 use Rattle.draid_lines.specs.declared.lines.ReadFault.TheVariants as reads
 use Rattle.draid_script.specs.Grammar.{line_of}
-use Rattle.draid_script.specs.Line.{Command}
+use Rattle.draid_script.specs.Line.{Command, OpenLanes}
 use Rattle.draid_script.specs.declared.fault.LineFault.{LineFault}
 use Rattle.draid_reply.specs.Reply.{text_of}
 use Rattle.draid_reply.specs.declared.reply.Reply.{Reply}
 use Rattle.draid_session.specs.Said.{Said, alone}
 use Rattle.draid_session.specs.Choices.{Choices}
-use Rattle.draid_session.specs.Session.{Desk}
+use Rattle.draid_session.specs.Places.{Outside, Place, line_at}
+use Rattle.draid_session.specs.Sections.{OutsideTurns}
+use Rattle.draid_session.specs.Session.{Desk, Finding, Sitting, SittingTurns, sits}
 use Rattle.draid_pool.specs.declared.pool.Pool.{Pool}
-use Rattle.draid_run.specs.Crashes.{LeavesFirm}
+use Rattle.draid_run.specs.Crashes.{LeavesFirm, LeavesFirmAt}
 use Rattle.draid_run.specs.Desks.{Noted, Turned}
-use Rattle.draid_run.specs.Serve.{AnswerIs, LineIs, PrintIs, status_of}
+use Rattle.draid_run.specs.Lines.{IsNoOpening}
+use Rattle.draid_run.specs.Serve.{AnswerIs, LineIs, Placed, PrintIs, opened_by, status_of}
+use Rattle.draid_run.specs.Shelves.{MayFind}
 use Rattle.draid_run.specs.Script.{IsBuilt, LineFaultIs}
 use Rattle.draid_pool.specs.Shelves.{OnShelf}
 use Rattle.draid_run.specs.declared.answer.Stop.{Stop}
@@ -105,33 +109,59 @@ abbrev pub Answered : {R A : Type 0} → racks.Ghosts R → areas.Ghosts A → C
 Answered rack area choices past after entry before pool x saids now pool' line =
     (turned : Turned rack area choices line entry x saids now pool') × Noted rack area choices line entry x saids now pool' turned past after × LeavesFirm line saids before pool now pool' × IsBuilt line
 
+-- a line that opens no section
+pub no_opening : (command : Command) → opened_by command ≡ None → IsNoOpening (Ok command)
+no_opening (OpenLanes count) is = cc is
+no_opening command is = tt
+
+place_outside : (choices : Choices) (finds : Finding → Type 0) (line : Result Command LineFault) (old new : Sitting) (saids : List Said) → IsNoOpening line → SittingTurns choices finds line old saids new → OutsideTurns choices finds line old saids new Outside
+place_outside choices finds (Ok (OpenLanes count)) old new saids none t = absurd none
+place_outside choices finds line old new saids none t = (t, refl)
+
+-- so the run stands outside behind it
+module _ {R A : Type 0} (rack : racks.Ghosts R) (area : areas.Ghosts A) (choices : Choices) (past after : List Entry) (text : List ℕ) (entry before : OnShelf) (pool : Option (Pool R A)) (x : Desk) (saids : List Said) (now : OnShelf) (pool' : Option (Pool R A)) where
+  pub answered_outside : IsNoOpening (line_of text) → Answered rack area choices past after entry before pool x saids now pool' (line_of text) → Placed rack area choices past after Outside text entry x saids now pool' Outside
+  answered_outside none it = record {
+    new = it.0.new;
+    desk = it.0.desk;
+    turns = place_outside choices (MayFind rack area entry) (line_of text) (sits x past) (sits it.0.new after) saids none (it.0.turns, it.1.0, it.1.1, it.1.2);
+    stopped = λ e. absurd (cc e);
+  }
+
+-- one reply to a line was printed or not
+module _ {R A : Type 0} (rack : racks.Ghosts R) (area : areas.Ghosts A) (choices : Choices) (past after : List Entry) (from : Place) (number : ℕ) (text : List ℕ) (entry before : OnShelf) (pool : Option (Pool R A)) (x : Desk) (now : OnShelf) (pool' : Option (Pool R A)) (reply : Reply) (held held' : Option (List ℕ))
+    (placed : Placed rack area choices past after from text entry x (alone reply) now pool' Outside) (firm : LeavesFirmAt from text (alone reply) before pool now pool') (built : IsBuilt (line_at from text)) where
+  pub printed_alone : (result : Result Unit Status) → PrintIs (text_of reply) held held' result → LineIs rack area choices past after from number text entry before pool x now pool' held held' Outside result
+  printed_alone (Ok done) prints = record { saids = alone reply; placed = placed; firm = firm; built = built; prints = subst (λ text. Appends held held' text) (sym (append-nil (text_of reply))) prints }
+  printed_alone (Err SinkFault) prints =
+      record { part = []; said = record { lane = None; reply = reply }; rest = []; mid = held; to = Outside; ends = tt; placed = placed; firm = firm; built = built; whole = appends_none held; prints = prints }
+  printed_alone (Err NoMemory) prints =
+      inr (record { part = []; said = record { lane = None; reply = reply }; rest = []; to = Outside; ends = tt; placed = placed; firm = firm; built = built; prints = subst (λ now. Appends held now []) (sym prints) (appends_none held) })
+  printed_alone (Err Done) prints = absurd prints
+  printed_alone (Err Usage) prints = absurd prints
+  printed_alone (Err (Line line kind at)) prints = absurd prints
+  printed_alone (Err SourceFault) prints = absurd prints
+  printed_alone (Err (TooLong line)) prints = absurd prints
+  printed_alone (Err ShelfFault) prints = absurd prints
+  printed_alone (Err (Record which place kind)) prints = absurd prints
+
 -- a line was answered, and its reply printed or not
-module _ {R A : Type 0} (rack : racks.Ghosts R) (area : areas.Ghosts A) (choices : Choices) (past after : List Entry) (number : ℕ) (text : List ℕ) (entry before : OnShelf) (pool : Option (Pool R A)) (x : Desk) (now : OnShelf) (pool' : Option (Pool R A)) (reply : Reply) (held held' : Option (List ℕ)) where
+module _ {R A : Type 0} (rack : racks.Ghosts R) (area : areas.Ghosts A) (choices : Choices) (past after : List Entry) (number : ℕ) (text : List ℕ) (entry before : OnShelf) (pool : Option (Pool R A)) (x : Desk) (now : OnShelf) (pool' : Option (Pool R A)) (reply : Reply) (held held' : Option (List ℕ)) (none : IsNoOpening (line_of text)) where
   pub line_told : (result : Result Unit Status) → Answered rack area choices past after entry before pool x (alone reply) now pool' (line_of text) → PrintIs (text_of reply) held held' result
-      → LineIs rack area choices past after number text entry before pool x now pool' held held' result
-  line_told (Ok done) it prints = record { saids = alone reply; turned = it.0; noted = it.1; firm = it.2; built = it.3; prints = subst (λ text. Appends held held' text) (sym (append-nil (text_of reply))) prints }
-  line_told (Err SinkFault) it prints =
-      record { part = []; said = record { lane = None; reply = reply }; rest = []; mid = held; turned = it.0; noted = it.1; firm = it.2; built = it.3; whole = appends_none held; prints = prints }
-  line_told (Err NoMemory) it prints =
-      inr (record { part = []; said = record { lane = None; reply = reply }; rest = []; turned = it.0; noted = it.1; firm = it.2; built = it.3; prints = subst (λ now. Appends held now []) (sym prints) (appends_none held) })
-  line_told (Err Done) it prints = absurd prints
-  line_told (Err Usage) it prints = absurd prints
-  line_told (Err (Line line kind at)) it prints = absurd prints
-  line_told (Err SourceFault) it prints = absurd prints
-  line_told (Err (TooLong line)) it prints = absurd prints
-  line_told (Err ShelfFault) it prints = absurd prints
-  line_told (Err (Record which place kind)) it prints = absurd prints
+      → LineIs rack area choices past after Outside number text entry before pool x now pool' held held' Outside result
+  line_told result it prints =
+      printed_alone rack area choices past after Outside number text entry before pool x now pool' reply held held' (answered_outside rack area choices past after text entry before pool x (alone reply) now pool' none it) it.2 it.3 result prints
 
 -- a line has no reply, and the run ends
 module _ {R A : Type 0} (rack : racks.Ghosts R) (area : areas.Ghosts A) (choices : Choices) (past after : List Entry) (number : ℕ) (text : List ℕ) (entry before : OnShelf) (pool : Option (Pool R A)) (x : Desk) (now : OnShelf) (pool' : Option (Pool R A)) (held : Option (List ℕ)) (command : Command) (line : line_of text ≡ Ok command) where
-  by_stop : (why : Stop) → AnswerIs rack area choices past after command entry before pool x now pool' (Err why) → LineIs rack area choices past after number text entry before pool x now pool' held held (Err (status_of number why))
+  by_stop : (why : Stop) → AnswerIs rack area choices past after command entry before pool x now pool' (Err why) → LineIs rack area choices past after Outside number text entry before pool x now pool' held held Outside (Err (status_of number why))
   by_stop stop.Unbuilt answered = (subst (λ r. LineFaultIs r refusal.Unbuilt 0) (sym line) (answered.0, refl, refl), answered.1, answered.2, refl, refl)
-  by_stop stop.Shelf answered = (refl, record { command = command; line = line; built = answered.1; broken = answered.0 })
-  by_stop (stop.Record which place kind) answered = (refl, record { command = command; line = line; built = answered.2; broken = answered.0 }, answered.1)
+  by_stop stop.Shelf answered = inl (refl, refl, record { command = command; line = line; built = answered.1; broken = answered.0 })
+  by_stop (stop.Record which place kind) answered = (refl, refl, record { command = command; line = line; built = answered.2; broken = answered.0 }, answered.1)
 
   pub line_stopped : (why : Stop) (status : Status) → status ≡ status_of number why → AnswerIs rack area choices past after command entry before pool x now pool' (Err why)
-      → LineIs rack area choices past after number text entry before pool x now pool' held held (Err status)
-  line_stopped why status is answered = subst (λ s. LineIs rack area choices past after number text entry before pool x now pool' held held (Err s)) (sym is) (by_stop why answered)
+      → LineIs rack area choices past after Outside number text entry before pool x now pool' held held Outside (Err status)
+  line_stopped why status is answered = subst (λ s. LineIs rack area choices past after Outside number text entry before pool x now pool' held held Outside (Err s)) (sym is) (by_stop why answered)
 
 -- ---- the next line's text
 

@@ -1,32 +1,39 @@
 -- What the next run finds, and the lines of a run between which a crash came.
-use Rattle.std.proofs.Common.{◌≡◌, ◌∙◌, refl, sym, ap, subst, ℕ, Bool, true, false, List, [], ◌∷◌, ◌++◌, Option, Some, None, Ok, String, Global, length, replicate, arith}
-use Rattle.std.specs.Prelude.{IsSomeAnd, is_some}
+use Rattle.std.proofs.Common.{◌≡◌, ◌∙◌, refl, sym, ap, subst, ℕ, Bool, true, false, List, [], ◌∷◌, ◌++◌, Option, Some, None, Result, Ok, Err, String, Global, length, replicate}
+use Rattle.std.specs.Prelude.{⊤, IsSomeAnd, is_some}
 use Rattle.draid_rack.specs.Moments as rack_moments
 use Rattle.draid_rack.specs.Rack.{Told}
 use Rattle.draid_area.specs.Area.{Content}
 use Rattle.draid_area.specs.Moments as area_moments
 use Rattle.draid_area.proofs.Moments.{leaves_all}
 use Rattle.draid_spec.specs.declared.layout.Geometry.{Geometry}
-use Rattle.draid_script.specs.Grammar.{line_of}
-use Rattle.draid_script.specs.Line.{CrashPool, ImportPool}
+use Rattle.draid_script.specs.Grammar.{lane_of, line_of}
+use Rattle.draid_script.specs.Line.{CrashPool, ImportPool, LaneCommand}
+use Rattle.draid_script.specs.declared.fault.LineFault.{LineFault}
 use Rattle.draid_reply.specs.declared.reply.Reply.TheVariants.{Crashed, Imported}
 use Rattle.draid_shelf.specs.Kits.{AreNewChecks, Both, ChecksTold, CrashedChecks, CrashedHeld, CrashedKit, Held, IsNewArea, IsNewRack, KitCounts, KitTold, OnHeld, uber_bytes}
 use Rattle.draid_session.specs.Said.{Said, alone}
 use Rattle.draid_session.specs.Choices.{Choices}
-use Rattle.draid_session.specs.Session.{Agrees, Desk, Finding, Untouched, Bare, Made, Open, Shut, Foreign, Unknown, KnowsShelf, Runs, Sitting, left_of, sits}
+use Rattle.draid_session.specs.Places.{Ended, Inside, Outside, Place, asked_inside, line_at, line_behind, place_after, place_behind, place_opened}
+use Rattle.draid_session.specs.Sections.{RunsOn}
+use Rattle.draid_session.specs.Session.{Agrees, Desk, Finding, Untouched, Bare, Made, Open, Shut, Foreign, Unknown, KnowsShelf, Sitting, left_of, sits}
 use Rattle.draid_session.specs.State.{State}
 use Rattle.draid_session.proofs.Again.{crash_found, runs_known}
 use Rattle.draid_pool.specs.Returning.{HoldsPool, SameCounts}
 use Rattle.draid_pool.specs.Taking.{HoldsMade}
 use Rattle.draid_pool.proofs.Returned.{rests_crashed}
 use Rattle.draid_pool.proofs.Importables.{importable_left}
+use Rattle.draid_run.specs.Lines.{IsNoOpening}
 use Rattle.draid_run.specs.Next.{FindsAgain, HasCrashed, IsFound, next_desk}
 use Rattle.draid_create.specs.Says.{IsSame}
 use Rattle.draid_pool.specs.Shelves.{OnShelf}
 use Rattle.draid_run.specs.Shelves.{HoldsBare, HoldsDesk, HoldsNew, HoldsShut, TellsAsBefore}
 use Rattle.draid_run.proofs.GivenBack.{own_same}
 use Rattle.draid_run.proofs.Makings.{same_shelf}
+use Rattle.draid_run.proofs.Places.{after_more, ended_none, led_on, on_split}
+use Rattle.draid_run.proofs.Sectioned.{all_any, on_keeps}
 use Rattle.draid_run.proofs.Serving.{as_found}
+use Rattle.draid_run.proofs.Turned.{outside_plain}
 
 -- ---- a crash of the shelf
 
@@ -137,20 +144,65 @@ tells_found false entry left found it tells = ap is_some it.0.held ∙ tells
 
 -- ---- a crash among the lines of a run
 
-module _ (choices : Choices) (finds : Finding → Type 0) (crash import : List ℕ) (back : List (List ℕ)) (called : String Global) (group objects : ℕ) (behind : List (List Said)) (last : Sitting)
-    (is_crash : line_of crash ≡ Ok CrashPool) (is_import : line_of import ≡ Ok ImportPool) where
-  here : (first : Sitting) → KnowsShelf first.desk → Agrees true first.desk → Runs choices finds true first (crash ∷ import ∷ back) (alone Crashed ∷ alone (Imported called group objects) ∷ behind) last
-      → FindsAgain choices finds first [] [] group objects back behind last
-  here first known agrees runs =
-      let it = crash_found choices finds crash import back called group objects behind first.journal last is_crash is_import first.desk known runs in
-      record { old = it.old; new = it.new; journal = first.journal; before = ap (λ desk. sits desk first.journal) (sym it.was); imports = it.imports; counted = it.counted; after = it.after }
+-- a line asks for a crash outside sections alone
+asked_not : (line : Result LaneCommand LineFault) → asked_inside line ≡ Ok CrashPool → ⊥
+asked_not (Ok command) is = cc is
+asked_not (Err fault) is = cc is
 
-  pub again : (front : List (List ℕ)) (said : List (List Said)) (first : Sitting) → length said ≡ length front → KnowsShelf first.desk → Agrees true first.desk
-      → Runs choices finds true first (front ++ (crash ∷ import ∷ back)) (said ++ (alone Crashed ∷ alone (Imported called group objects) ∷ behind)) last → FindsAgain choices finds first front said group objects back behind last
-  again [] [] first same known agrees runs = here first known agrees runs
-  again [] (saids ∷ said) first same known agrees runs = absurd (omega (arith, same))
-  again (line ∷ front) [] first same known agrees runs = absurd (omega (arith, same))
-  again (line ∷ front) (saids ∷ said) first same known agrees runs =
-      let one = runs_known choices finds (line ∷ []) (saids ∷ []) first runs.0 known agrees (runs.0, runs.1, runs.2, refl) in
-      let it = again front said runs.0 (omega (arith, same)) one.0 one.1 runs.3 in
-      record { old = it.old; new = it.new; journal = it.journal; before = (runs.0, runs.1, runs.2, it.before); imports = it.imports; counted = it.counted; after = it.after }
+crash_outside : (place : Place) (crash : List ℕ) → (place ≡ Ended → ⊥) → line_at place crash ≡ Ok CrashPool → place ≡ Outside
+crash_outside Outside crash more is = refl
+crash_outside (Inside lanes) crash more is = absurd (asked_not (lane_of (length lanes) crash) is)
+crash_outside Ended crash more is = absurd (more refl)
+
+-- what the shelf holds is known along lines
+known_on : (choices : Choices) (finds : Finding → Type 0) (from : Place) (lines : List (List ℕ)) (replies : List (List Said)) (to : Place) (old new : Sitting) → RunsOn choices finds true from old lines replies to new
+    → KnowsShelf old.desk × Agrees true old.desk → KnowsShelf new.desk × Agrees true new.desk
+known_on choices finds from lines replies to old new runs knows =
+    on_keeps choices finds true (λ desk. KnowsShelf desk × Agrees true desk) (λ (line : List ℕ). ⊤)
+    (λ line a b saids any turns agrees p. runs_known choices finds (line ∷ []) (saids ∷ []) a b p.0 p.1 (b, turns, agrees, refl))
+    (λ x y lanes replies section p. (tt, sym section.together.rest.told ∙ p.1))
+    (λ known later p. absurd p.0)
+    from lines replies to old new (all_any lines) runs knows
+
+module _ (choices : Choices) (finds : Finding → Type 0) (crash import : List ℕ) (back : List (List ℕ)) (called : String Global) (group objects : ℕ) (behind : List (List Said)) (to : Place) (last : Sitting) where
+  here : (first : Sitting) → line_of crash ≡ Ok CrashPool → line_of import ≡ Ok ImportPool → KnowsShelf first.desk
+      → RunsOn choices finds true Outside first (crash ∷ import ∷ back) (alone Crashed ∷ alone (Imported called group objects) ∷ behind) to last
+      → FindsAgain choices finds first [] [] group objects back behind to last
+  here first is_crash is_import known runs =
+      let one = outside_plain choices finds (line_of crash) first runs.0 (alone Crashed) runs.1 (subst IsNoOpening (sym is_crash) tt) runs.2 in
+      let rest = subst (λ p. RunsOn choices finds true p runs.0 (import ∷ back) (alone (Imported called group objects) ∷ behind) to last) one.1 runs.4 in
+      let two = outside_plain choices finds (line_of import) runs.0 rest.0 (alone (Imported called group objects)) rest.1 (subst IsNoOpening (sym is_import) tt) rest.2 in
+      let it = crash_found choices finds crash import [] called group objects [] first.journal rest.0 is_crash is_import first.desk known (runs.0, one.0, runs.3, (rest.0, two.0, rest.3, refl)) in
+      record {
+        old = it.old;
+        new = it.new;
+        journal = first.journal;
+        before = (ap (λ desk. sits desk first.journal) (sym it.was), refl);
+        imports = it.imports;
+        counted = it.counted;
+        after = subst (λ s. RunsOn choices finds true Outside s back behind to last) it.after (subst (λ p. RunsOn choices finds true p rest.0 back behind to last) two.1 rest.4);
+      }
+
+  pub again : (front : List (List ℕ)) (said : List (List Said)) (first : Sitting) → length said ≡ length front → line_behind front crash ≡ Ok CrashPool → line_behind (front ++ crash ∷ []) import ≡ Ok ImportPool
+      → KnowsShelf first.desk → Agrees true first.desk
+      → RunsOn choices finds true Outside first (front ++ (crash ∷ import ∷ back)) (said ++ (alone Crashed ∷ alone (Imported called group objects) ∷ behind)) to last → FindsAgain choices finds first front said group objects back behind to last
+  again front said first same is_crash is_import known agrees runs =
+      let it = on_split choices finds true Outside first front said (crash ∷ import ∷ back) (alone Crashed ∷ alone (Imported called group objects) ∷ behind) to last same runs in
+      let more : it.here ≡ Ended → ⊥ = λ ended. ended_none choices finds true it.mid crash (import ∷ back) (alone Crashed ∷ alone (Imported called group objects) ∷ behind) to last
+      (subst (λ p. RunsOn choices finds true p it.mid (crash ∷ import ∷ back) (alone Crashed ∷ alone (Imported called group objects) ∷ behind) to last) ended it.after) in
+      let led = led_on choices finds true Outside first front said it.here it.mid more it.before in
+      let outside : it.here ≡ Outside = crash_outside it.here crash more (ap (λ p. line_at p crash) led ∙ is_crash) in
+      let asked : line_of crash ≡ Ok CrashPool = ap (λ p. line_at p crash) (sym outside ∙ led) ∙ is_crash in
+      let then : place_after Outside (front ++ crash ∷ []) ≡ Outside = after_more Outside front crash ∙ ap (λ p. place_behind p crash) (sym led ∙ outside) ∙ ap place_opened asked in
+      let imported : line_of import ≡ Ok ImportPool = ap (λ p. line_at p import) (sym then) ∙ is_import in
+      let knows = known_on choices finds Outside front said it.here first it.mid it.before (known, agrees) in
+      let found = here it.mid asked imported knows.0 (subst (λ p. RunsOn choices finds true p it.mid (crash ∷ import ∷ back) (alone Crashed ∷ alone (Imported called group objects) ∷ behind) to last) outside it.after) in
+      record {
+        old = found.old;
+        new = found.new;
+        journal = found.journal;
+        before = subst (λ s. RunsOn choices finds true Outside first front said Outside s) (sym found.before.0) (subst (λ p. RunsOn choices finds true Outside first front said p it.mid) outside it.before);
+        imports = found.imports;
+        counted = found.counted;
+        after = found.after;
+      }

@@ -15,7 +15,6 @@ use Rattle.draid_session.specs.Said.{Said, alone}
 use Rattle.draid_session.specs.Choices.{Choices}
 use Rattle.draid_session.specs.Known.{AllowsBytes, AllowsNone, Known, Learns, MayGiveNone, MayHaveAll, learns, learns_all, learns_filled, learns_lost}
 use Rattle.draid_session.specs.Making.{content_of}
-use Rattle.draid_session.specs.Places.{Outside}
 use Rattle.draid_session.specs.Reads.{ReadsAs}
 use Rattle.draid_session.specs.Replies.{IsReplyTo}
 use Rattle.draid_session.specs.Session.{Desk, Finding, Foreign, Runs, Sitting, TurnsBy, sits}
@@ -162,7 +161,7 @@ module _ (object : ℕ) (bytes : List ℕ) where
         }
 
     module _ (tells : Bool) (read : List ℕ) (p : ℕ) (got : Vec ℕ Global) (is_read : line_of read ≡ Ok (ReadObject object)) where
-      pub read_behind : (lines : List (List ℕ)) (replies : List (List Said)) (old : Known) (at last : Sitting) → at.desk ≡ Foreign old → AllSpare object Outside lines → length replies ≡ length lines
+      pub read_behind : (lines : List (List ℕ)) (replies : List (List Said)) (old : Known) (at last : Sitting) → at.desk ≡ Foreign old → AllSpare object lines → length replies ≡ length lines
           → Runs choices finds tells at (lines ++ (read ∷ [])) (replies ++ (alone (Contents p got) ∷ [])) last → HasKnown old → ReadsAs bytes got.items
       read_behind [] [] old at last is spare same runs has =
           let here = subst (λ d. TurnsBy choices finds (line_of read) d (alone (Contents p got)) runs.0.desk) is runs.1.0 in
@@ -176,7 +175,7 @@ module _ (object : ℕ) (bytes : List ℕ) where
 
 -- ---- behind a write, and behind a read
 
-module _ (choices : Choices) (finds : Finding → Type 0) (tells : Bool) (lines : List (List ℕ)) (replies : List (List Said)) (object o p : ℕ) (old : Known) (journal : List Entry) (last : Sitting) (spare : AllSpare object Outside lines)
+module _ (choices : Choices) (finds : Finding → Type 0) (tells : Bool) (lines : List (List ℕ)) (replies : List (List Said)) (object o p : ℕ) (old : Known) (journal : List Entry) (last : Sitting) (spare : AllSpare object lines)
     (same : length replies ≡ length lines) (first read : List ℕ) (got : Vec ℕ Global) (is_read : line_of read ≡ Ok (ReadObject object)) where
   abbrev RunsOn : Reply → Type 0
   RunsOn reply = Runs choices finds tells (sits (Foreign old) journal) (first ∷ (lines ++ (read ∷ []))) (alone reply ∷ (replies ++ (alone (Contents p got) ∷ []))) last

@@ -5,21 +5,35 @@ use Rattle.draid_names.specs.Faults.{Rose}
 use Rattle.draid_rack.specs.declared.Rack as racks
 use Rattle.draid_area.specs.declared.Area as areas
 use Rattle.draid_spec.specs.declared.layout.Geometry.{Geometry}
-use Rattle.draid_script.specs.Grammar.{line_of}
 use Rattle.draid_script.specs.Line.{Command, Silent, CreatePool, ImportPool, ExportPool, SyncPool, CancelPasses, CrashPool, WriteObject, FillObjects, ReadObject, FreeObject, SumObjects, TakeOffline, TakeOnline, DamageSector, AttachSpare, ReplaceDisk, DetachArm, RebuildPool, ScrubPool, RebalanceSlot, ShowStatus, OpenLanes, UpgradePool, RunAgent, ShowJournal, TakeCheckpoint, RewindPool, DiscardCheckpoint}
+use Rattle.draid_session.specs.State.{State}
 use Rattle.draid_session.specs.Session.{Desk, Untouched, Bare, Made, Open, Shut, Foreign, Unknown, Breaks, RecordFails, ShelfFails}
 use Rattle.draid_import.specs.Found.{HasRisen}
 use Rattle.draid_pool.specs.declared.pool.Pool.{Pool}
 use Rattle.draid_run.specs.declared.status.RecordName.{RecordName}
 use Rattle.draid_run.specs.Desks.{CauseShows, IsShelf}
+use Rattle.draid_session.specs.Places.{line_behind}
 use Rattle.draid_run.specs.Script.{FailsShut, FaultyShut}
 use Rattle.draid_create.specs.Says.{MakingFailed}
 use Rattle.draid_pool.specs.Returning.{own_count}
 use Rattle.draid_pool.specs.Shelves.{OnShelf}
-use Rattle.draid_run.specs.Shelves.{FailsIn, FaultIn, HasFailed, HasFault, HoldsDesk, HoldsFault, IsClosed}
+use Rattle.draid_run.specs.Shelves.{AreaHasFailed, AreaRose, FailsIn, FaultIn, HasFailed, HasFault, HoldsDesk, HoldsFault, IsClosed}
 
-rose_some : (before now : ℕ) → Rose before now → 0 < now
+pub rose_some : (before now : ℕ) → Rose before now → 0 < now
 rose_some before now rose = omega (arith, rose)
+
+-- a count of an area that rose isn't 0
+pub area_shows : (x y : State) → AreaRose x y → AreaHasFailed y
+area_shows x y (inl (m, a, b, at, there, rose)) = inl (
+  m,
+  b,
+  there,
+  elim rose [
+    | inl even ↦ (let some = rose_some a.counts.even b.counts.even even in omega (arith, some))
+    | inr odd ↦ (let some = rose_some a.counts.odd b.counts.odd odd in omega (arith, some))
+  ],
+)
+area_shows x y (inr rose) = inr (rose_some x.uber_count y.uber_count rose)
 
 -- what has risen shows there
 risen : {A : Type 0} (area : areas.Ghosts A) (before now : OnShelf) → HasRisen area before.held before.faults now.faults (own_count before.own) (own_count now.own) before.counts now.counts → HasFailed before now
@@ -127,7 +141,7 @@ closed_shelf (Shut crash y) entry before closed shelf = shelf
 closed_shelf Unknown entry before closed shelf = shelf
 
 -- what a run says of the command at which it broke off
-pub fails_shut : {R A : Type 0} (rack : racks.Ghosts R) (area : areas.Ghosts A) (text : List ℕ) (lines : List (List ℕ)) (command : Command) (old new : Desk) (entry before now : OnShelf) (pool : Option (Pool R A)) → line_of text ≡ Ok command → IsShelf old entry before
+pub fails_shut : {R A : Type 0} (rack : racks.Ghosts R) (area : areas.Ghosts A) (text : List ℕ) (lines : List (List ℕ)) (command : Command) (old new : Desk) (entry before now : OnShelf) (pool : Option (Pool R A)) → line_behind lines text ≡ Ok command → IsShelf old entry before
     → entry.faults ≤ before.faults → (lines ≡ [] → before ≡ entry) → CauseShows rack area ShelfFails command before old now pool new → IsClosed old → IsClosed new × FailsShut area (Some text) lines old entry now
 fails_shut rack area text lines command old new entry before now pool line shelf later first cause closed =
     let shown = closed_cause rack area command before now pool old new closed cause in (
@@ -150,7 +164,7 @@ record_closed (Foreign known) new command breaks = absurd breaks
 
 -- and what it says of that record
 pub faulty_shut : {R A : Type 0} (rack : racks.Ghosts R) (area : areas.Ghosts A) (text : List ℕ) (lines : List (List ℕ)) (command : Command) (old new : Desk) (entry before : OnShelf) (which : RecordName) (place : ℕ) (kind : RecordFaultKind)
-    → line_of text ≡ Ok command → IsShelf old entry before → entry.faults ≤ before.faults → (lines ≡ [] → before ≡ entry) → Breaks RecordFails old command new → HoldsFault rack area before which place kind
+    → line_behind lines text ≡ Ok command → IsShelf old entry before → entry.faults ≤ before.faults → (lines ≡ [] → before ≡ entry) → Breaks RecordFails old command new → HoldsFault rack area before which place kind
     → FaultyShut rack area (Some text) lines old entry which place kind
 faulty_shut rack area text lines command old new entry before which place kind line shelf later first breaks bad = record {
   came = record { text = text; is = refl; command = command; line = line; before = before; held = closed_shelf old entry before (record_closed old new command breaks) shelf; later = later; first = first };

@@ -1,4 +1,4 @@
-use Rattle.std.proofs.Common.{refl, sym, subst, ◌≡◌, ℕ, List, Bool, true, [], ◌∷◌, ◌++◌, Option, Some, None, Result, Ok}
+use Rattle.std.proofs.Common.{refl, subst, ◌≡◌, ℕ, List, Bool, true, [], ◌∷◌, ◌++◌, Option, Some, None, Ok}
 use Rattle.std.specs.Prelude.{IsSomeAnd, is_some}
 use Rattle.draid_names.specs.declared.journal.Entry.{Entry}
 use Rattle.draid_rack.specs.declared.Rack as racks

@@ -1,26 +1,27 @@
 -- A line among those of a session, and the lines of a run as those of a session.
-use Rattle.std.proofs.Common.{◌≡◌, refl, ℕ, Bool, List, [], ◌∷◌, ◌++◌, Result, Ok, Err, arith, length}
+use Rattle.std.proofs.Common.{◌≡◌, refl, subst, ℕ, Bool, List, [], ◌∷◌, ◌++◌, Result, Ok, Err, length}
 use Rattle.draid_names.specs.declared.journal.Entry.{Entry}
 use Rattle.draid_script.specs.Grammar.{line_of}
-use Rattle.draid_script.specs.Line.{Command, ImportPool, RunAgent, ShowJournal, Silent}
+use Rattle.draid_script.specs.Line.{Command, ImportPool, OpenLanes, RunAgent, ShowJournal, Silent}
 use Rattle.draid_script.specs.declared.fault.LineFault.{LineFault}
 use Rattle.draid_script.specs.declared.name.CommandName.TheVariants as name
 use Rattle.draid_reply.specs.declared.reply.Reply.{Reply}
 use Rattle.draid_reply.specs.declared.reply.Reply.TheVariants.{Imported, NoMemory, NoPool}
 use Rattle.draid_session.specs.Said.{Said}
 use Rattle.draid_session.specs.Choices.{Choices}
+use Rattle.draid_session.specs.Looks.{AllOf}
+use Rattle.draid_session.specs.Places.{Ended, Inside, Outside, Place}
+use Rattle.draid_session.specs.Sections.{OutsideTurns, PlaceTurns, RunsOn}
 use Rattle.draid_session.specs.Session.{Bare, Desk, Finding, FindsFound, Foreign, ImportTurns, IsAnything, Made, Notes, Open, ReplyTurns, Runs, Shut, ShutTurns, Sitting, SittingTurns, TurnsBy, Unknown, Untouched}
-use Rattle.draid_run.specs.Lines.{IsTurn}
+use Rattle.draid_run.specs.Lines.{IsNoOpening, IsTurn, OpensNone}
+use Rattle.draid_run.proofs.Places.{on_split}
 
-module _ (choices : Choices) (finds : Finding → Type 0) (tells : Bool) (line : List ℕ) (saids : List Said) (back : List (List ℕ)) (behind : List (List Said)) (last : Sitting) where
-  pub one_turn : (front : List (List ℕ)) (said : List (List Said)) (first : Sitting) → length said ≡ length front → Runs choices finds tells first (front ++ line ∷ back) (said ++ saids ∷ behind) last
-      → IsTurn choices finds tells first front said line saids back behind last
-  one_turn [] [] first same runs = record { old = first; new = runs.0; before = refl; turns = runs.1; agrees = runs.2; after = runs.3 }
-  one_turn [] (s ∷ said) first same runs = absurd (omega (arith, same))
-  one_turn (l ∷ front) [] first same runs = absurd (omega (arith, same))
-  one_turn (l ∷ front) (s ∷ said) first same runs =
-      let it = one_turn front said runs.0 (omega (arith, same)) runs.3 in
-      record { old = it.old; new = it.new; before = (runs.0, runs.1, runs.2, it.before); turns = it.turns; agrees = it.agrees; after = it.after }
+module _ (choices : Choices) (finds : Finding → Type 0) (tells : Bool) (line : List ℕ) (saids : List Said) (back : List (List ℕ)) (behind : List (List Said)) (to : Place) (last : Sitting) where
+  pub one_turn : (front : List (List ℕ)) (said : List (List Said)) (first : Sitting) → length said ≡ length front → RunsOn choices finds tells Outside first (front ++ line ∷ back) (said ++ saids ∷ behind) to last
+      → IsTurn choices finds tells first front said line saids back behind to last
+  one_turn front said first same runs =
+      let it = on_split choices finds tells Outside first front said (line ∷ back) (saids ∷ behind) to last same runs in
+      record { old = it.mid; new = it.after.0; here = it.here; there = it.after.1; before = it.before; turns = it.after.2; agrees = it.after.3; after = it.after.4 }
 
 -- what an import finds may be anything
 module _ (choices : Choices) (finds : Finding → Type 0) where
@@ -89,9 +90,64 @@ module _ (choices : Choices) (finds : Finding → Type 0) where
   any_sitting : (line : Result Command LineFault) (old new : Sitting) (saids : List Said) → SittingTurns choices finds line old saids new → SittingTurns choices IsAnything line old saids new
   any_sitting line old new saids t = (any_line line old.desk new.desk saids t.0, t.1, any_notes old.journal t.1 line old.desk new.desk saids t.0 t.2, t.3)
 
-  pub any_runs : (tells : Bool) (lines : List (List ℕ)) (replies : List (List Said)) (old new : Sitting) → Runs choices finds tells old lines replies new → Runs choices IsAnything tells old lines replies new
-  any_runs tells [] [] old new runs = runs
-  any_runs tells [] (saids ∷ replies) old new runs = absurd runs
-  any_runs tells (line ∷ lines) [] old new runs = absurd runs
-  any_runs tells (line ∷ lines) (saids ∷ replies) old new runs =
-      (runs.0, any_sitting (line_of line) old runs.0 saids runs.1, runs.2, any_runs tells lines replies runs.0 new runs.3)
+  any_outside : (line : Result Command LineFault) (old new : Sitting) (saids : List Said) (to : Place) → OutsideTurns choices finds line old saids new to → OutsideTurns choices IsAnything line old saids new to
+  any_outside (Ok (OpenLanes count)) old new saids to t = t
+  any_outside line old new saids to t = (any_sitting line old new saids t.0, t.1)
+
+  any_place : (from : Place) (line : List ℕ) (old new : Sitting) (saids : List Said) (to : Place) → PlaceTurns choices finds from line old saids new to → PlaceTurns choices IsAnything from line old saids new to
+  any_place Outside line old new saids to t = any_outside (line_of line) old new saids to t
+  any_place (Inside lanes) line old new saids to t = t
+  any_place Ended line old new saids to t = absurd t
+
+  pub any_runs : (tells : Bool) (from to : Place) (lines : List (List ℕ)) (replies : List (List Said)) (old new : Sitting) → RunsOn choices finds tells from old lines replies to new → RunsOn choices IsAnything tells from old lines replies to new
+  any_runs tells from to [] [] old new runs = runs
+  any_runs tells from to [] (saids ∷ replies) old new runs = absurd runs
+  any_runs tells from to (line ∷ lines) [] old new runs = absurd runs
+  any_runs tells from to (line ∷ lines) (saids ∷ replies) old new runs =
+      (runs.0, runs.1, any_place from line old runs.0 saids runs.1 runs.2, runs.3, any_runs tells runs.1 to lines replies runs.0 new runs.4)
+
+-- ---- lines without a section
+
+module _ (choices : Choices) (finds : Finding → Type 0) where
+  pub outside_plain : (line : Result Command LineFault) (old new : Sitting) (saids : List Said) (to : Place) → IsNoOpening line → OutsideTurns choices finds line old saids new to → SittingTurns choices finds line old saids new × (to ≡ Outside)
+  outside_plain (Ok (OpenLanes count)) old new saids to none t = absurd none
+  outside_plain line old new saids to none t = t
+
+  pub runs_outside : (tells : Bool) (to : Place) (lines : List (List ℕ)) (replies : List (List Said)) (old new : Sitting) → RunsOn choices finds tells Outside old lines replies to new → AllOf OpensNone lines
+      → (to ≡ Outside) × Runs choices finds tells old lines replies new
+  runs_outside tells to [] [] old new runs none = (runs.1, runs.0)
+  runs_outside tells to [] (saids ∷ replies) old new runs none = absurd runs
+  runs_outside tells to (line ∷ lines) [] old new runs none = absurd runs
+  runs_outside tells to (line ∷ lines) (saids ∷ replies) old new runs none =
+      let one = outside_plain (line_of line) old runs.0 saids runs.1 none.0 runs.2 in
+      let rest = runs_outside tells to lines replies runs.0 new (subst (λ p. RunsOn choices finds tells p runs.0 lines replies to new) one.1 runs.4) none.1 in
+      (rest.0, (runs.0, one.0, runs.3, rest.1))
+
+  -- no reply is one to a line that opens a section
+  opens_not : (count : ℕ) (old new : Sitting) (saids : List Said) → SittingTurns choices finds (Ok (OpenLanes count)) old saids new → ⊥
+  opens_not count old new [] t = absurd t.0
+  opens_not count old new (said ∷ other ∷ saids) t = absurd t.0
+  opens_not count old new (said ∷ []) t = by old.desk t.0.1
+    where
+      by : (desk : Desk) → ReplyTurns choices finds desk (OpenLanes count) said.reply new.desk → ⊥
+      by Untouched r = cc (r.1)
+      by Bare r = cc (r.1)
+      by (Made told failed geometry) r = cc (r.1)
+      by (Open x) r = r.1.does
+      by (Shut crash x) r = cc (r.1)
+      by (Foreign known) r = r.0
+      by Unknown r = cc (r.1)
+
+  outside_back : (line : Result Command LineFault) (old new : Sitting) (saids : List Said) → SittingTurns choices finds line old saids new → IsNoOpening line × OutsideTurns choices finds line old saids new Outside
+  outside_back (Ok (OpenLanes count)) old new saids t = absurd (opens_not count old new saids t)
+  outside_back line old new saids t = (tt, (t, refl))
+
+  pub runs_back : (tells : Bool) (lines : List (List ℕ)) (replies : List (List Said)) (old new : Sitting) → Runs choices finds tells old lines replies new
+      → AllOf OpensNone lines × RunsOn choices finds tells Outside old lines replies Outside new
+  runs_back tells [] [] old new runs = (tt, (runs, refl))
+  runs_back tells [] (saids ∷ replies) old new runs = absurd runs
+  runs_back tells (line ∷ lines) [] old new runs = absurd runs
+  runs_back tells (line ∷ lines) (saids ∷ replies) old new runs =
+      let one = outside_back (line_of line) old runs.0 saids runs.1 in
+      let rest = runs_back tells lines replies runs.0 new runs.3 in
+      ((one.0, rest.0), (runs.0, Outside, one.1, runs.2, rest.1))

@@ -18,10 +18,12 @@ use Rattle.draid_shelf.specs.Kits.{Held, KitCounts}
 use Rattle.draid_uber.specs.Uber.{kept_of, layout_of, next_leaf_of}
 use Rattle.draid_uber.specs.declared.uber.Uber.{Uber}
 use Rattle.draid_session.specs.Choices.{Choices}
+use Rattle.draid_session.specs.Places.{Ended, Inside, Outside, Place, line_at, line_behind}
+use Rattle.draid_session.specs.Sections.{RunsOn}
 use Rattle.draid_session.specs.Looks.{AllOf}
 use Rattle.draid_session.specs.Opening.{Finds, Imports}
 use Rattle.draid_session.specs.Said.{Said}
-use Rattle.draid_session.specs.Session.{Agrees, Bare, Breaks, CarriesOut, Desk, Finding, FindsGiven, FindsGivenIf, FindsNew, FindsNewIf, FindsNoGroup, Foreign, ImportTurns, IsStill, KnowsShelf, LeavesState, Made, Open, ReplyTurns, Runs, ShelfFails, Shut, ShutTurns, Sitting, TurnsBy, Unknown, Untouched, desk_behind, left_of, sits}
+use Rattle.draid_session.specs.Session.{Agrees, Bare, Breaks, CarriesOut, Desk, Finding, FindsGiven, FindsGivenIf, FindsNew, FindsNewIf, FindsNoGroup, Foreign, ImportTurns, IsStill, KnowsShelf, LeavesState, Made, Open, ReplyTurns, ShelfFails, Shut, ShutTurns, Sitting, TurnsBy, Unknown, Untouched, desk_behind, left_of, sits}
 use Rattle.draid_session.specs.State.{Metaslab, State}
 use Rattle.draid_session.specs.Staying.{IsNoCreate, MakesNoPool, MakesNoPoolIn}
 use Rattle.draid_session.proofs.Lists.{all_back, all_front}
@@ -33,7 +35,7 @@ use Rattle.draid_import.specs.Found.{HasRisen, IsFoundUber, IsRecovered}
 use Rattle.draid_import.specs.Importing.{RestsThere}
 use Rattle.draid_import.proofs.ImportMade.{made_not}
 use Rattle.draid_import.proofs.ImportPool.{body_found}
-use Rattle.draid_run.specs.Script.{BreaksOff, Ends, Fails, FailsShut, Prints, RunsFrom}
+use Rattle.draid_run.specs.Script.{BreaksOff, Ends, Fails, FailsShut, LaneFails, MayEndAt, Prints, RunsFrom}
 use Rattle.draid_run.specs.Shelves.{AreaRose, FailsIn, HoldsDesk, HoldsNew, HoldsShut, MayFind, RackRose}
 use Rattle.draid_run.specs.Unfailing.{NothingRose}
 use Rattle.draid_run.specs.declared.status.Status.{Status}
@@ -41,6 +43,8 @@ use Rattle.draid_run.specs.declared.status.Status.TheVariants.{ShelfFault}
 use Rattle.draid_run.proofs.Broke.{IsLater, follows_later, later_more, later_none}
 use Rattle.draid_run.proofs.GivenBack.{new_count}
 use Rattle.draid_run.proofs.Importings.{new_held, resting}
+use Rattle.draid_run.proofs.Places.{led_on}
+use Rattle.draid_run.proofs.Sectioned.{on_keeps, section_later}
 
 -- ---- counts since the entry
 
@@ -152,13 +156,14 @@ module _ (choices : Choices) (finds : Finding → Type 0) (entry : OnShelf) wher
   line_up (Ok command) old new (said ∷ []) none up agrees it = reply_up old new command said.reply none up agrees it.1
   line_up (Ok command) old new (said ∷ other ∷ more) none up agrees it = absurd it
 
-  run_up : (lines : List (List ℕ)) (replies : List (List Said)) (old new : Sitting) → AllOf MakesNoPool lines → IsUp entry old.desk → Agrees true old.desk → Runs choices finds true old lines replies new
+  run_up : (from : Place) (lines : List (List ℕ)) (replies : List (List Said)) (to : Place) (old new : Sitting) → AllOf MakesNoPool lines → IsUp entry old.desk → Agrees true old.desk → RunsOn choices finds true from old lines replies to new
       → IsUp entry new.desk × Agrees true new.desk
-  run_up [] [] old new none up agrees runs = (subst (λ (s : Sitting). IsUp entry s.desk) (sym runs) up, subst (λ (s : Sitting). Agrees true s.desk) (sym runs) agrees)
-  run_up [] (saids ∷ replies) old new none up agrees runs = absurd runs
-  run_up (line ∷ lines) [] old new none up agrees runs = absurd runs
-  run_up (line ∷ lines) (saids ∷ replies) old new none up agrees runs =
-      run_up lines replies runs.0 new none.1 (line_up (line_of line) old.desk runs.0.desk saids none.0 up agrees runs.1.0) runs.2 runs.3
+  run_up from lines replies to old new none up agrees runs =
+      on_keeps choices finds true (λ desk. IsUp entry desk × Agrees true desk) MakesNoPool
+      (λ line a b saids makes turns told p. (line_up (line_of line) a.desk b.desk saids makes p.0 p.1 turns.0, told))
+      (λ x y lanes said section p. (above_later entry x y (section_later x choices lanes said y section) p.0, sym section.together.rest.told ∙ p.1))
+      (λ known later p. absurd p.0)
+      from lines replies to old new none runs (up, agrees)
 
 -- ---- the entry
 
@@ -208,6 +213,22 @@ module _ (entry now : OnShelf) (none : NothingRose entry now) where
       let same = (shut.counts m b there).rack None in
       none.racks m (omega (arith, low, same, more))
 
+  -- a lane of a section was stopped
+  lane_not : (old mid : Desk) → IsUp entry old → HoldsDesk (left_of mid) entry now → LaneFails entry now old mid → ⊥
+  lane_not (Open x) (Open y) up holds fails = area_not x y up holds fails
+  lane_not (Open x) Untouched up holds fails = fails
+  lane_not (Open x) Bare up holds fails = fails
+  lane_not (Open x) (Made told failed geometry) up holds fails = fails
+  lane_not (Open x) (Shut crash y) up holds fails = fails
+  lane_not (Open x) (Foreign known) up holds fails = fails
+  lane_not (Open x) Unknown up holds fails = fails
+  lane_not (Foreign known) mid up holds fails = up
+  lane_not Untouched mid up holds fails = up
+  lane_not Bare mid up holds fails = fails
+  lane_not (Made told failed geometry) mid up holds fails = fails
+  lane_not (Shut crash x) mid up holds fails = fails
+  lane_not Unknown mid up holds fails = up
+
   -- a pool was imported that had been given back: the uberblock that was found names its metaslabs
   metaslabs_found : {A : Type 0} (area : areas.Ghosts A) (x : State) (pieces : ℕ → Pieces) (o : Option Held) (leaves : ℕ → Option Shape) (counts : ℕ → KitCounts) (count : ℕ) (uber : Uber A)
       → RestsThere x pieces o leaves counts count → IsFoundUber area uber → IsRecovered area o count uber → (layout_of uber).props.metaslabs ≡ length x.metaslabs
@@ -253,20 +274,20 @@ module _ (entry now : OnShelf) (none : NothingRose entry now) where
   bare_not ImportPool last makes breaks = breaks
   bare_not command last makes breaks = breaks
 
-  same_text : (text : List ℕ) (command : Command) → MakesNoPool text → line_of text ≡ Ok command → IsNoCreate command
-  same_text text command makes is = subst MakesNoPoolIn is makes
+  same_text : (text : List ℕ) (lines : List (List ℕ)) (command : Command) → MakesNoPoolIn (line_behind lines text) → line_behind lines text ≡ Ok command → IsNoCreate command
+  same_text text lines command makes is = subst MakesNoPoolIn is makes
 
-  module _ {A : Type 0} (area : areas.Ghosts A) (text : List ℕ) (lines : List (List ℕ)) (makes : MakesNoPool text) where
+  module _ {A : Type 0} (area : areas.Ghosts A) (text : List ℕ) (lines : List (List ℕ)) (makes : MakesNoPoolIn (line_behind lines text)) where
     came_not : (mid : Desk) (f : FailsShut area (Some text) lines mid entry now)
         → (HasRisen area f.came.before.held f.came.before.faults now.faults (own_count f.came.before.own) (own_count now.own) f.came.before.counts now.counts → ⊥) → ⊥
     came_not mid f risen =
         let named : text ≡ f.came.text = some_injective text f.came.text f.came.is in
-        command_not area f.came.command f.came.before (same_text f.came.text f.came.command (subst MakesNoPool named makes) f.came.line) risen f.failed
+        command_not area f.came.command f.came.before (same_text f.came.text lines f.came.command (subst (λ t. MakesNoPoolIn (line_behind lines t)) named makes) f.came.line) risen f.failed
 
     none_fails : (saids : List Said) (mid last : Desk) → IsUp entry mid → Agrees true mid → HoldsDesk (left_of last) entry now → BreaksOff lines ShelfFault (Some text) saids mid last
         → Fails area (Some text) lines mid last entry now → ⊥
     none_fails saids Untouched last up agrees holds breaks fails = up
-    none_fails saids Bare last up agrees holds breaks fails = bare_not breaks.command last (same_text text breaks.command makes breaks.line) breaks.breaks
+    none_fails saids Bare last up agrees holds breaks fails = bare_not breaks.command last (same_text text lines breaks.command makes breaks.line) breaks.breaks
     none_fails saids (Made told failed geometry) last up agrees holds breaks fails =
         came_not (Made told failed geometry) fails (made_unrisen area told failed geometry fails.came.before up agrees fails.came.held fails.came.later)
     none_fails saids (Open x) (Open y) up agrees holds breaks fails = elim fails [ inl areas ↦ area_not x y up holds areas | inr racks ↦ rack_not x y up holds racks.1 ]
@@ -285,17 +306,42 @@ pub unfailing : {R A : Type 0} (rack : racks.Ghosts R) (area : areas.Ghosts A) (
     → RunsFrom rack area choices words status (Some input) old new entry now first → HoldsDesk first entry entry → is_some entry.held ≡ true → KnowsShelf first → AllOf MakesNoPool (lines_of input)
     → NothingRose entry now → status ≡ ShelfFault → ⊥
 unfailing rack area choices words status input old new entry now first it at tells known makes none is =
-    by it.session.broken refl (subst (λ e. Ends e it.session.broken it.session.lines input) ended it.session.ends) (subst (λ e. BreaksOff it.session.lines e it.session.broken it.session.saids it.session.mid it.last) ended it.session.breaks)
+    by it.session.to it.session.broken refl refl (subst (λ e. MayEndAt it.session.to e it.session.broken) ended it.session.may) (subst (λ e. Ends e it.session.broken it.session.lines input) ended it.session.ends)
+    (subst (λ e. BreaksOff it.session.lines e it.session.broken it.session.saids it.session.mid it.last) ended it.session.breaks)
   where
     ended : it.session.ended ≡ ShelfFault
     ended = meant_shelf status it.session.ended _ it.script.prints.between new it.script.prints.last is
 
-    by : (broken : Option (List ℕ)) → it.session.broken ≡ broken → Ends ShelfFault broken it.session.lines input → BreaksOff it.session.lines ShelfFault broken it.session.saids it.session.mid it.last → ⊥
-    by None same ends breaks = ends
-    by (Some text) same ends breaks =
-        let all : AllOf MakesNoPool (it.session.lines ++ (text ∷ ends.0)) = subst (AllOf MakesNoPool) ends.1 makes in
-        let behind = run_up choices (MayFind rack area entry) entry it.session.lines it.session.replies (sits first []) (sits it.session.mid it.session.journal) (all_front MakesNoPool it.session.lines (text ∷ ends.0) all)
-        (first_up first entry at known) (first_agrees first entry at tells)
-        (subst (λ t. Runs choices (MayFind rack area entry) t (sits first []) it.session.lines it.session.replies (sits it.session.mid it.session.journal)) tells it.session.runs) in
-        none_fails entry now none area text it.session.lines (all_back MakesNoPool it.session.lines (text ∷ ends.0) all).0 it.session.saids it.session.mid it.last behind.0 behind.1 it.shelf breaks
-        (subst (λ b. Fails area b it.session.lines it.session.mid it.last entry now) same (it.failed ended))
+    told_runs : RunsOn choices (MayFind rack area entry) true Outside (sits first []) it.session.lines it.session.replies it.session.to (sits it.session.mid it.session.journal)
+    told_runs = subst (λ t. RunsOn choices (MayFind rack area entry) t Outside (sits first []) it.session.lines it.session.replies it.session.to (sits it.session.mid it.session.journal)) tells it.session.runs
+
+    -- a lane was stopped
+    stopped_not : (rest : List (List ℕ)) → lines_of input ≡ it.session.lines ++ rest → it.session.to ≡ Ended → BreaksOff it.session.lines ShelfFault None it.session.saids it.session.mid it.last → ⊥
+    stopped_not rest is at_end breaks =
+        let s = it.stopped at_end in
+        let all : AllOf MakesNoPool it.session.lines = all_front MakesNoPool it.session.lines rest (subst (AllOf MakesNoPool) is makes) in
+        let front : AllOf MakesNoPool s.front = all_front MakesNoPool s.front (s.line ∷ []) (subst (AllOf MakesNoPool) s.lines_are all) in
+        let behind = run_up choices (MayFind rack area entry) entry Outside s.front s.said (Inside s.lanes) (sits first []) (sits s.old it.session.journal) front (first_up first entry at known) (first_agrees first entry at tells)
+        (subst (λ t. RunsOn choices (MayFind rack area entry) t Outside (sits first []) s.front s.said (Inside s.lanes) (sits s.old it.session.journal)) tells s.before) in
+        lane_not entry now none s.old it.session.mid behind.0 (subst (λ d. HoldsDesk (left_of d) entry now) breaks.1 it.shelf) s.failed
+
+    by : (to : Place) (broken : Option (List ℕ)) → it.session.to ≡ to → it.session.broken ≡ broken → MayEndAt it.session.to ShelfFault it.session.broken → Ends ShelfFault it.session.broken it.session.lines input
+        → BreaksOff it.session.lines ShelfFault it.session.broken it.session.saids it.session.mid it.last → ⊥
+    by Outside None there same may ends breaks = subst (λ p. MayEndAt p ShelfFault None) there (subst (MayEndAt it.session.to ShelfFault) same may)
+    by Outside (Some text) there same may ends breaks = broke text there same (subst (λ b. Ends ShelfFault b it.session.lines input) same ends) (subst (λ b. BreaksOff it.session.lines ShelfFault b it.session.saids it.session.mid it.last) same breaks)
+      where
+        broke : (text : List ℕ) → it.session.to ≡ Outside → it.session.broken ≡ Some text → Ends ShelfFault (Some text) it.session.lines input → BreaksOff it.session.lines ShelfFault (Some text) it.session.saids it.session.mid it.last → ⊥
+        broke text there same ends breaks =
+            let all : AllOf MakesNoPool (it.session.lines ++ (text ∷ ends.0)) = subst (AllOf MakesNoPool) ends.1 makes in
+            let behind = run_up choices (MayFind rack area entry) entry Outside it.session.lines it.session.replies it.session.to (sits first []) (sits it.session.mid it.session.journal) (all_front MakesNoPool it.session.lines (text ∷ ends.0) all)
+            (first_up first entry at known) (first_agrees first entry at tells) told_runs in
+            let led = led_on choices (MayFind rack area entry) true Outside (sits first []) it.session.lines it.session.replies it.session.to (sits it.session.mid it.session.journal) (λ e. (let f = sym there ∙ e in cc f)) told_runs in
+            let asked : line_of text ≡ line_behind it.session.lines text = ap (λ p. line_at p text) (sym there ∙ led) in
+            none_fails entry now none area text it.session.lines (subst MakesNoPoolIn asked (all_back MakesNoPool it.session.lines (text ∷ ends.0) all).0) it.session.saids it.session.mid it.last behind.0 behind.1 it.shelf breaks
+            (subst (λ b. Fails area b it.session.lines it.session.mid it.last entry now) same (it.failed ended there))
+    by (Inside lanes) None there same may ends breaks = subst (λ p. MayEndAt p ShelfFault None) there (subst (MayEndAt it.session.to ShelfFault) same may)
+    by (Inside lanes) (Some text) there same may ends breaks = subst (λ p. MayEndAt p ShelfFault (Some text)) there (subst (MayEndAt it.session.to ShelfFault) same may)
+    by Ended None there same may ends breaks =
+        let e = subst (λ b. Ends ShelfFault b it.session.lines input) same ends in
+        stopped_not e.0 e.1 there (subst (λ b. BreaksOff it.session.lines ShelfFault b it.session.saids it.session.mid it.last) same breaks)
+    by Ended (Some text) there same may ends breaks = subst (λ p. MayEndAt p ShelfFault (Some text)) there (subst (MayEndAt it.session.to ShelfFault) same may)

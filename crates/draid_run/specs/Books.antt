@@ -4,17 +4,18 @@ use Rattle.draid_rack.specs.declared.Rack as racks
 use Rattle.draid_area.specs.declared.Area as areas
 use Rattle.draid_session.specs.Said.{Said}
 use Rattle.draid_session.specs.Choices.{Choices}
-use Rattle.draid_session.specs.Book.{AnswersRun, Book}
+use Rattle.draid_session.specs.Book.{Book}
+use Rattle.draid_session.specs.Places.{Place}
+use Rattle.draid_session.specs.Sections.{AnswersRun}
 use Rattle.draid_run.specs.Next.{IsFound}
-use Rattle.draid_run.specs.Script.{Ends, IsScript, RunIs, Shows, all_replies}
+use Rattle.draid_run.specs.Script.{Ends, IsScript, MayEndAt, RunIs, Shows, all_replies}
 use Rattle.draid_pool.specs.Shelves.{OnShelf}
 use Rattle.draid_run.specs.declared.status.Status.{Status}
 use Rattle.draid_run.specs.declared.status.Status.TheVariants.{ShelfFault, Record}
 
--- A run broke off at a line of its own just where the shelf failed. No record had a fault.
+-- A run broke off at a line of its own only where the shelf failed. No record had a fault.
 abbrev pub BrokeAt : Status → Option (List ℕ) → Type 0
-BrokeAt ShelfFault None = ⊥
-BrokeAt ShelfFault (Some text) = ⊤
+BrokeAt ShelfFault broken = ⊤
 BrokeAt (Record which at kind) broken = ⊥
 BrokeAt ended None = ⊤
 BrokeAt ended (Some text) = ⊥
@@ -27,7 +28,9 @@ pub record KeepsBook (words : List (List ℕ)) (status : Status) (input old new 
   pub ended : Status
   pub broken : Option (List ℕ)
   pub saids : List Said
-  pub answers : AnswersRun before lines replies broken saids after
+  pub to : Place
+  pub answers : AnswersRun before lines replies to broken saids after
+  pub may : MayEndAt to ended broken
   pub broke : BrokeAt ended broken
   pub ends : MatchOption input ⊤ (Ends ended broken lines)
   pub shows : Shows ended (all_replies replies saids) shown

@@ -1,4 +1,5 @@
 pub mod Books
+pub mod Clashes
 pub mod Closing
 pub mod Crashes
 pub mod Desks
@@ -10,6 +11,7 @@ pub mod Next
 pub mod Rebalancing
 pub mod Repairing
 pub mod Script
+pub mod Sections
 pub mod Serve
 pub mod Shelves
 pub mod Spares

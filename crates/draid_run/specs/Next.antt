@@ -5,7 +5,9 @@ use Rattle.draid_shelf.specs.Kits.{Both, CrashedHeld}
 use Rattle.draid_session.specs.Said.{Said}
 use Rattle.draid_session.specs.Choices.{Choices}
 use Rattle.draid_session.specs.Opening.{HasObjects, Imports}
-use Rattle.draid_session.specs.Session.{Desk, Finding, Untouched, Bare, Made, Open, Shut, Foreign, Unknown, Runs, Sitting, sits}
+use Rattle.draid_session.specs.Places.{Outside, Place}
+use Rattle.draid_session.specs.Sections.{RunsOn}
+use Rattle.draid_session.specs.Session.{Desk, Finding, Untouched, Bare, Made, Open, Shut, Foreign, Unknown, Sitting, sits}
 use Rattle.draid_session.specs.State.{State}
 use Rattle.draid_create.specs.Says.{IsSame}
 use Rattle.draid_pool.specs.Shelves.{OnShelf}
@@ -41,11 +43,11 @@ next_desk crash Unknown = Untouched
 -- Lines and their replies, with a crash and an import that found a pool among them: the pool was open, and the import found one of its groups, with what this kept. All lines are those of one run, over
 -- a shelf that tells.
 pub record FindsAgain (choices : Choices) (finds : Finding → Type 0) (first : Sitting) (front : List (List ℕ)) (said : List (List Said)) (group objects : ℕ) (back : List (List ℕ))
-    (behind : List (List Said)) (last : Sitting) : Type 0 where
+    (behind : List (List Said)) (to : Place) (last : Sitting) : Type 0 where
   pub old : State
   pub new : State
   pub journal : List Entry
-  pub before : Runs choices finds true first front said (sits (Open old) journal)
+  pub before : RunsOn choices finds true Outside first front said Outside (sits (Open old) journal)
   pub imports : Imports old group new
   pub counted : HasObjects new.store.changes objects
-  pub after : Runs choices finds true (sits (Open new) journal) back behind last
+  pub after : RunsOn choices finds true Outside (sits (Open new) journal) back behind to last

@@ -10,25 +10,29 @@ use Rattle.draid_rack.specs.declared.Rack as racks
 use Rattle.draid_area.specs.declared.Area as areas
 use Rattle.draid_lines.specs.Lines.{Rest, WhereKnown, IsTooLong, lines_of, most_lines}
 use Rattle.draid_lines.specs.Sink.{AppendsFront}
-use Rattle.draid_script.specs.Line.{Command}
+use Rattle.draid_script.specs.Line.{Command, OpenLanes}
+use Rattle.draid_script.specs.declared.fault.LineFaultKind.TheVariants as line_fault
+use Rattle.draid_script.specs.declared.fault.ParseFault.{ParseFault}
+use Rattle.draid_script.specs.declared.fault.ParseFault.TheVariants as parse_fault
 use Rattle.draid_script.specs.declared.name.CommandName.{CommandName}
 use Rattle.draid_reply.specs.declared.reply.Reply.{Reply}
-use Rattle.draid_session.specs.Places.{Outside, line_at}
+use Rattle.draid_session.specs.Places.{Ended, Inside, Outside, Place, line_at, place_after}
 use Rattle.draid_session.specs.Said.{Said, alone}
 use Rattle.draid_session.specs.Choices.{Choices}
-use Rattle.draid_session.specs.Session.{Cause, Desk, RecordFails, Runs, ShelfFails, sits}
+use Rattle.draid_session.specs.Sections.{PlaceTurns, RunsOn}
+use Rattle.draid_session.specs.Session.{Cause, Desk, Foreign, Open, RecordFails, ShelfFails, sits}
 use Rattle.draid_pool.specs.declared.pool.Pool.{Pool}
 use Rattle.draid_run.specs.declared.status.RecordName.{RecordName}
-use Rattle.draid_run.specs.Crashes.{IsFirmShut, LeavesFirm, crash_came_last}
+use Rattle.draid_run.specs.Crashes.{IsFirmShut, LeavesFirm, LeavesFirmAt, crash_came_last}
 use Rattle.draid_run.specs.Desks.{Broken, IsDesk, Noted, PoolBroke, PoolDid, Turned, asked_in}
-use Rattle.draid_run.specs.Script.{AreBuilt, IsBuilt, all_replies, all_said, BreaksOff, Ends, FailsShut, FaultyShut, GetsReplies, IsUnbuilt, LineFaultIs, Shows, said_text, texts_of}
+use Rattle.draid_run.specs.Script.{AreBuilt, IsBuilt, all_replies, all_said, BreaksOff, Ends, EndsSection, FailsShut, FaultyShut, GetsReplies, IsUnbuilt, LineFaultIs, MayEndAt, Shows, said_text, texts_of}
 use Rattle.draid_pool.specs.Shelves.{OnShelf}
-use Rattle.draid_run.specs.Shelves.{HasFault, HoldsFault, IsClosed, MakesLeavesAt, MayFind, RackFault}
+use Rattle.draid_run.specs.Shelves.{AreaRose, HasFault, HoldsFault, IsClosed, MakesLeavesAt, MayFind, PoolFails, RackFault}
 use Rattle.draid_run.specs.declared.answer.Stop.{Stop}
 use Rattle.draid_run.specs.declared.answer.Stop.TheVariants as stop
 use Rattle.draid_run.specs.declared.status.LineRefusal.TheVariants as refusal
 use Rattle.draid_run.specs.declared.status.Status.{Status}
-use Rattle.draid_run.specs.declared.status.Status.TheVariants.{Line, SourceFault, SinkFault, NoMemory, TooLong, ShelfFault, Record}
+use Rattle.draid_run.specs.declared.status.Status.TheVariants.{Done, Line, SourceFault, SinkFault, NoMemory, TooLong, ShelfFault, Record}
 
 -- What became of the next line, where the bytes to come before and after the call are known.
 abbrev pub TextIs : Rest → Rest → Option (List ℕ) → Option (List ℕ) → Result (Option (Vec ℕ Global)) Status → Type 0
@@ -71,11 +75,38 @@ abbrev pub said_of : Option Reply → List Said
 said_of None = []
 said_of (Some reply) = alone reply
 
+-- how many lanes a command opens, if it opens a section
+abbrev pub opened_by : Command → Option ℕ
+opened_by (OpenLanes count) = Some count
+opened_by command = None
+
+-- the status of a run that ends at the line of this number, which can't be read
+abbrev pub unread_at : ℕ → ParseFault → Status
+unread_at number parse_fault.NoMemory = NoMemory
+unread_at number (parse_fault.Line fault) = Line number (refusal.Fault fault.kind) fault.at
+
+-- the status of a run whose input ends at the line of this number, by where it stands
+abbrev pub end_at : ℕ → Place → Status
+end_at number Outside = Done
+end_at number (Inside lanes) = Line number (refusal.Fault line_fault.Lane) 0
+end_at number Ended = ShelfFault
+
+-- whether something was done, or the run ended
+abbrev pub done_of : {T : Type 0} → Result T Status → Result Unit Status
+done_of (Ok t) = Ok tt
+done_of (Err status) = Err status
+
 -- the status of a run that ends at the line of this number
 abbrev pub status_of : ℕ → Stop → Status
 status_of number stop.Unbuilt = Line number refusal.Unbuilt 0
 status_of number stop.Shelf = ShelfFault
 status_of number (stop.Record which place kind) = Record which place kind
+
+-- What shows of an open pool that a failing device ended a lane of a section, between the desks before and behind that: the count of an area rose; of one of which nothing is said it isn't 0.
+abbrev pub LaneStopped : {R A : Type 0} → areas.Ghosts A → Option (Pool R A) → Desk → Desk → Type 0
+LaneStopped area pool (Open x) (Open y) = AreaRose x y
+LaneStopped area pool (Foreign known) (Foreign later) = PoolFails area pool
+LaneStopped area pool old new = ⊥
 
 module _ {R A : Type 0} (rack : racks.Ghosts R) (area : areas.Ghosts A) (choices : Choices) where
   -- the reply of the pool that is open, or that none is; that a device of it failed; or that the command asks for none
@@ -97,60 +128,71 @@ module _ {R A : Type 0} (rack : racks.Ghosts R) (area : areas.Ghosts A) (choices
     AnswerIs command entry before pool old now pool' (Err (stop.Record which place kind)) =
         Broken rack area RecordFails command entry before old now pool' × HoldsFault rack area before which place kind × IsBuilt (Ok command)
 
-    -- A line was answered, and the replies to it were printed.
-    pub record Printed (text : List ℕ) (entry before : OnShelf) (pool : Option (Pool R A)) (old : Desk) (now : OnShelf) (pool' : Option (Pool R A)) (held held' : Option (List ℕ)) : Type 0 where
+    -- A line was done where the run stood, and this was said to it. So the run came to another desk, and stands at another place.
+    pub record Placed (from : Place) (text : List ℕ) (entry : OnShelf) (old : Desk) (saids : List Said) (now : OnShelf) (pool' : Option (Pool R A)) (to : Place) : Type 0 where
+      pub new : Desk
+      pub desk : IsDesk rack area entry now pool' new
+      pub turns : PlaceTurns choices (MayFind rack area entry) from text (sits old past) saids (sits new after) to
+      pub stopped : to ≡ Ended → LaneStopped area pool' old new
+
+    -- A line was done, and the replies to it were printed.
+    pub record Printed (from : Place) (text : List ℕ) (entry before : OnShelf) (pool : Option (Pool R A)) (old : Desk) (now : OnShelf) (pool' : Option (Pool R A)) (held held' : Option (List ℕ)) (to : Place) : Type 0 where
       pub saids : List Said
-      pub turned : Turned rack area choices (line_at Outside text) entry old saids now pool'
-      pub noted : Noted rack area choices (line_at Outside text) entry old saids now pool' turned past after
-      pub firm : LeavesFirm (line_at Outside text) saids before pool now pool'
-      pub built : IsBuilt (line_at Outside text)
+      pub placed : Placed from text entry old saids now pool' to
+      pub firm : LeavesFirmAt from text saids before pool now pool'
+      pub built : IsBuilt (line_at from text)
       pub prints : Appends held held' (texts_of saids)
 
-    -- A line was answered, and the sink failed at one of the replies to it.
-    pub record Cut (text : List ℕ) (entry before : OnShelf) (pool : Option (Pool R A)) (old : Desk) (now : OnShelf) (pool' : Option (Pool R A)) (held held' : Option (List ℕ)) : Type 0 where
+    -- A line was done, and the sink failed at one of the replies to it.
+    pub record Cut (from : Place) (text : List ℕ) (entry before : OnShelf) (pool : Option (Pool R A)) (old : Desk) (now : OnShelf) (pool' : Option (Pool R A)) (held held' : Option (List ℕ)) : Type 0 where
       pub part : List Said
       pub said : Said
       pub rest : List Said
       pub mid : Option (List ℕ)
-      pub turned : Turned rack area choices (line_at Outside text) entry old (part ++ said ∷ rest) now pool'
-      pub noted : Noted rack area choices (line_at Outside text) entry old (part ++ said ∷ rest) now pool' turned past after
-      pub firm : LeavesFirm (line_at Outside text) (part ++ said ∷ rest) before pool now pool'
-      pub built : IsBuilt (line_at Outside text)
+      pub to : Place
+      pub ends : MayEndAt to SinkFault None
+      pub placed : Placed from text entry old (part ++ said ∷ rest) now pool' to
+      pub firm : LeavesFirmAt from text (part ++ said ∷ rest) before pool now pool'
+      pub built : IsBuilt (line_at from text)
       pub whole : Appends held mid (texts_of part)
       pub prints : AppendsFront mid held' (said_text said)
 
-    -- A line was answered, and memory was wanting for the text of one of the replies to it.
-    pub record Untold (text : List ℕ) (entry before : OnShelf) (pool : Option (Pool R A)) (old : Desk) (now : OnShelf) (pool' : Option (Pool R A)) (held held' : Option (List ℕ)) : Type 0 where
+    -- A line was done, and memory was wanting for the text of one of the replies to it.
+    pub record Untold (from : Place) (text : List ℕ) (entry before : OnShelf) (pool : Option (Pool R A)) (old : Desk) (now : OnShelf) (pool' : Option (Pool R A)) (held held' : Option (List ℕ)) : Type 0 where
       pub part : List Said
       pub said : Said
       pub rest : List Said
-      pub turned : Turned rack area choices (line_at Outside text) entry old (part ++ said ∷ rest) now pool'
-      pub noted : Noted rack area choices (line_at Outside text) entry old (part ++ said ∷ rest) now pool' turned past after
-      pub firm : LeavesFirm (line_at Outside text) (part ++ said ∷ rest) before pool now pool'
-      pub built : IsBuilt (line_at Outside text)
+      pub to : Place
+      pub ends : MayEndAt to NoMemory None
+      pub placed : Placed from text entry old (part ++ said ∷ rest) now pool' to
+      pub firm : LeavesFirmAt from text (part ++ said ∷ rest) before pool now pool'
+      pub built : IsBuilt (line_at from text)
       pub prints : Appends held held' (texts_of part)
 
-    -- what became of a line
-    abbrev pub LineIs : ℕ → List ℕ → OnShelf → OnShelf → Option (Pool R A) → Desk → OnShelf → Option (Pool R A) → Option (List ℕ) → Option (List ℕ) → Result Unit Status → Type 0
-    LineIs number text entry before pool old now pool' held held' (Ok done) = Printed text entry before pool old now pool' held held'
-    LineIs number text entry before pool old now pool' held held' (Err SinkFault) = Cut text entry before pool old now pool' held held'
-    LineIs number text entry before pool old now pool' held held' (Err ShelfFault) = (held' ≡ held) × BrokenLine rack area ShelfFails text entry before old now pool'
-    LineIs number text entry before pool old now pool' held held' (Err (Record which place kind)) =
-        (held' ≡ held) × BrokenLine rack area RecordFails text entry before old now pool' × HoldsFault rack area before which place kind
-    LineIs number text entry before pool old now pool' held held' (Err (Line line why at)) =
-        LineFaultIs (line_at Outside text) why at × (now ≡ before) × (pool' ≡ pool) × (held' ≡ held) × (line ≡ number)
-    LineIs number text entry before pool old now pool' held held' (Err NoMemory) =
-        ((held' ≡ held) × (now ≡ before) × (pool' ≡ pool)) ⊎ Untold text entry before pool old now pool' held held'
-    LineIs number text entry before pool old now pool' held held' (Err status) = ⊥
+    -- What became of a line, where the run stood. Where it goes on, it stands there.
+    abbrev pub LineIs : Place → ℕ → List ℕ → OnShelf → OnShelf → Option (Pool R A) → Desk → OnShelf → Option (Pool R A) → Option (List ℕ) → Option (List ℕ) → Place → Result Unit Status → Type 0
+    LineIs from number text entry before pool old now pool' held held' to (Ok done) = Printed from text entry before pool old now pool' held held' to
+    LineIs from number text entry before pool old now pool' held held' to (Err SinkFault) = Cut from text entry before pool old now pool' held held'
+    LineIs from number text entry before pool old now pool' held held' to (Err ShelfFault) =
+        ((from ≡ Outside) × (held' ≡ held) × BrokenLine rack area ShelfFails text entry before old now pool') ⊎ Printed from text entry before pool old now pool' held held' Ended
+    LineIs from number text entry before pool old now pool' held held' to (Err (Record which place kind)) =
+        (from ≡ Outside) × (held' ≡ held) × BrokenLine rack area RecordFails text entry before old now pool' × HoldsFault rack area before which place kind
+    LineIs from number text entry before pool old now pool' held held' to (Err (Line line why at)) =
+        LineFaultIs (line_at from text) why at × (now ≡ before) × (pool' ≡ pool) × (held' ≡ held) × (line ≡ number)
+    LineIs from number text entry before pool old now pool' held held' to (Err NoMemory) =
+        ((held' ≡ held) × (now ≡ before) × (pool' ≡ pool)) ⊎ Untold from text entry before pool old now pool' held held'
+    LineIs from number text entry before pool old now pool' held held' to (Err status) = ⊥
 
-  -- The lines so far were answered and their replies printed, from this desk on, and the journal is this.
-  pub record Serving (journal : List Entry) (first : Desk) (input rest start held : Option (List ℕ)) (entry now : OnShelf) (pool : Option (Pool R A)) (count : ℕ) : Type 0 where
+  -- The lines so far were answered and their replies printed, from this desk on, and the journal is this. The run stands here.
+  pub record Serving (place : Place) (journal : List Entry) (first : Desk) (input rest start held : Option (List ℕ)) (entry now : OnShelf) (pool : Option (Pool R A)) (count : ℕ) : Type 0 where
     pub lines : List (List ℕ)
     pub replies : List (List Said)
     pub reached : Desk
     pub count_is : length lines ≡ count
     pub desk : IsDesk rack area entry now pool reached
-    pub runs : Runs choices (MayFind rack area entry) (is_some entry.held) (sits first []) lines replies (sits reached journal)
+    pub runs : RunsOn choices (MayFind rack area entry) (is_some entry.held) Outside (sits first []) lines replies place (sits reached journal)
+    pub stands : place_after Outside lines ≡ place
+    pub goes_on : place ≡ Ended → ⊥
     pub known : WhereKnown input rest (λ all behind. lines_of all ≡ lines ++ lines_of behind)
     pub printed : Appends start held (texts_of (all_said replies))
     pub unanswered : lines ≡ [] → now ≡ entry
@@ -168,7 +210,10 @@ module _ {R A : Type 0} (rack : racks.Ghosts R) (area : areas.Ghosts A) (choices
     pub broken : Option (List ℕ)
     pub saids : List Said
     pub desk : IsDesk rack area entry now pool last
-    pub runs : Runs choices (MayFind rack area entry) (is_some entry.held) (sits first []) lines replies (sits mid journal)
+    pub to : Place
+    pub runs : RunsOn choices (MayFind rack area entry) (is_some entry.held) Outside (sits first []) lines replies to (sits mid journal)
+    pub may : MayEndAt to ended broken
+    pub stopped : to ≡ Ended → EndsSection choices (MayFind rack area entry) (is_some entry.held) (LaneStopped area pool) first mid lines replies journal
     pub breaks : BreaksOff lines ended broken saids mid last
     pub ends : MatchOption input ⊤ (Ends ended broken lines)
     pub shows : Shows ended (all_replies replies saids) shown

@@ -10,7 +10,6 @@ use Rattle.draid_script.specs.Line.{Command, CreatePool, ImportPool}
 use Rattle.draid_script.specs.declared.fault.LineFault.{LineFault}
 use Rattle.draid_shelf.specs.Kits.{OnHeld}
 use Rattle.draid_session.specs.Certain.{MakesLeaves}
-use Rattle.draid_session.specs.Places.{line_behind}
 use Rattle.draid_session.specs.Session.{Desk, Finding, CheckFault, Fault, Nothing, Untouched, Bare, Made, Open, Shut, Foreign, Unknown, HasLayout}
 use Rattle.draid_session.specs.Session as finding
 use Rattle.draid_session.specs.State.{Metaslab, State}
@@ -26,6 +25,7 @@ use Rattle.draid_pool.specs.Importable.{IsImportable}
 use Rattle.draid_create.specs.Opening.{StaysMade}
 use Rattle.draid_create.specs.Says.{IsSame, MakingFailed}
 use Rattle.draid_pool.specs.declared.pool.Pool.{Pool}
+use Rattle.draid_session.specs.Places.{line_behind}
 use Rattle.draid_run.specs.declared.status.RecordName.{RecordName}
 use Rattle.draid_run.specs.declared.status.RecordName.TheVariants as record_name
 

@@ -1,8 +1,8 @@
 -- What is known of a pool's objects, by the table of their pointers.
 use Rattle.std.specs.Prelude.{◌≡◌, ◌<◌, ◌≤◌, ◌+◌, ◌⊎◌, ⊤, ℕ, List, [], ◌∷◌, Result, Ok}
+use Rattle.draid_script.specs.Grammar.{line_of}
 use Rattle.draid_script.specs.Line.{Command, CrashPool, ExportPool, FillObjects, FreeObject, RewindPool, WriteObject}
 use Rattle.draid_script.specs.declared.fault.LineFault.{LineFault}
-use Rattle.draid_session.specs.Places.{Place, line_at, place_behind}
 
 -- ---- lines between a write and a read
 
@@ -16,7 +16,7 @@ Spares object (Ok RewindPool) = ⊥
 Spares object (Ok CrashPool) = ⊥
 Spares object line = ⊤
 
--- so do lines from a place on
-abbrev pub AllSpare : ℕ → Place → List (List ℕ) → Type 0
-AllSpare object place [] = ⊤
-AllSpare object place (line ∷ lines) = Spares object (line_at place line) × AllSpare object (place_behind place line) lines
+-- so do lines outside sections
+abbrev pub AllSpare : ℕ → List (List ℕ) → Type 0
+AllSpare object [] = ⊤
+AllSpare object (line ∷ lines) = Spares object (line_of line) × AllSpare object lines

@@ -8,7 +8,7 @@ ghost use Rattle.draid_session.specs.Choices.{choices_by, choices_with};
 ghost use Rattle.draid_session.specs.Session.{Desk};
 ghost use Rattle.draid_run.specs.Desks.{IsDesk, IsPool, asked_in};
 ghost use Rattle.draid_run.specs.Repairing.{AgentIs, JournalIs};
-ghost use Rattle.draid_run.specs.Serve.{AnswerIs, AskIs, IsSaid};
+ghost use Rattle.draid_run.specs.Serve.{AnswerIs, AskIs, IsSaid, opened_by};
 ghost use Rattle.draid_pool.specs.Shelves.{OnShelf, on_shelf};
 
 use crate::repairing::{reply_to_agent, reply_to_journal};
@@ -149,7 +149,7 @@ fn said(reply: Result<Reply, Stop>) -> Result<Option<Reply>, Stop>
     }
 }
 
-/// Does what a line asks for. An empty line and a comment have no reply.
+/// Does what a line asks for that opens no section. An empty line and a comment have no reply.
 pub(crate) fn answer<
     H: Shelf,
     F: Fn(&[Room]) -> Option<u32>,
@@ -167,6 +167,7 @@ pub(crate) fn answer<
     requires chooser { IsChooser F.Fn chooser.now }
     requires policy { IsPolicy P.Fn policy.now }
     requires range { IsInRange (command_in line.now) }
+    requires alone { opened_by (command_in line.now) ≡ None }
     requires desk { (x : Desk) × IsPool H.R.Rack H.A.Area pool.old x }
     ensures answer { (entry : OnShelf) (x : Desk) → IsDesk H.R.Rack H.A.Area entry (on_shelf H.Shelf shelf.old) pool.old x
         → AnswerIs H.R.Rack H.A.Area (choices_with (FnReturnsAt F.Fn chooser.now) (PolicyReturns P.Fn policy.now)) journal.old.entries journal.new.entries (command_in line.now) entry (on_shelf H.Shelf shelf.old) pool.old x (on_shelf H.Shelf shelf.new) pool.new result }

@@ -3,12 +3,12 @@ ghost use Rattle.std.specs.declared.alloc.Global.{Global as Heap};
 ghost use Rattle.draid_reply.specs.declared.reply.Reply.{Reply};
 ghost use Rattle.draid_script.specs.Line.{CrashPool, ImportPool};
 ghost use Rattle.draid_shelf.specs.Memory.{HoldsNothing};
-ghost use Rattle.draid_session.specs.Places.{line_behind};
 ghost use Rattle.draid_session.specs.Present.{DeskReached};
 ghost use Rattle.draid_session.specs.Said.{Said, alone};
 ghost use Rattle.draid_session.specs.Session.{Bare, Desk, KnowsShelf, sits};
 ghost use Rattle.draid_run.specs.Ending.{CanRun, EndsWell, IsUndisturbed};
 ghost use Rattle.draid_run.specs.Next.{FindsAgain, IsFound, next_desk};
+ghost use Rattle.draid_session.specs.Places.{line_behind};
 ghost use Rattle.draid_run.specs.Script.{IsSession, RunsFrom};
 ghost use Rattle.draid_pool.specs.Shelves.{OnShelf, on_shelf};
 ghost use Rattle.draid_run.specs.Shelves.{HoldsDesk, MayFind, TellsAsBefore};
@@ -47,7 +47,7 @@ pub fn crashed_pools_are_found_again<R: Rack, A: Area, D: Decides>(rack: &R, are
         → line_behind front crash ≡ Ok CrashPool → line_behind (front ++ crash ∷ []) import ≡ Ok ImportPool → length said ≡ length front
         → it.session.lines ≡ front ++ (crash ∷ import ∷ back)
         → it.session.replies ≡ said ++ (alone Reply.Crashed ∷ alone (Reply.Imported called group objects) ∷ behind)
-        → FindsAgain (D.choices decider.now) (MayFind R.Rack A.Area entry) (sits first []) front said group objects back behind (sits it.session.mid it.session.journal) }
+        → FindsAgain (D.choices decider.now) (MayFind R.Rack A.Area entry) (sits first []) front said group objects back behind it.session.to (sits it.session.mid it.session.journal) }
 {}
 
 /// Law: legal histories give the states of the metaslabs of the pool that a run has open or gave back, behind its lines and

@@ -4,15 +4,18 @@
 
 mod answer;
 mod books;
+mod clashes;
 mod closing;
 mod failures;
 mod kept;
+mod lanes;
 mod laws;
 mod opening;
 mod origins;
 mod rebalancing;
 mod repairing;
 mod replies;
+mod sections;
 mod serve;
 mod status;
 mod top;
@@ -27,6 +30,7 @@ pub use laws::{
     runs_stay_legal, undisturbed_runs_are_done,
 };
 pub use origins::{known_pools_have_a_book, new_shelves_keep_the_book, told_pools_are_reached};
+pub use sections::{LaneReplies, NoSections, Sections, SectionsBy};
 pub use status::{LineRefusal, RecordName, Status};
 pub use top::{end_run, run};
-pub use turns::{each_line_is_a_turn, runs_are_sessions};
+pub use turns::{each_line_is_a_turn, runs_are_sessions, runs_without_sections_stay_outside};

@@ -11,6 +11,7 @@ ghost use Rattle.draid_run.specs.Script.{EndsWithLine, Prints, RunIs};
 ghost use Rattle.draid_pool.specs.Shelves.{OnShelf, on_shelf};
 ghost use Rattle.draid_run.specs.Shelves.{DeviceFailed};
 
+use crate::sections::Sections;
 use crate::serve::serve;
 use crate::status::{Status, fixed_line, numbered_line};
 use crate::words::take_words;
@@ -74,16 +75,18 @@ fn give_back<H: Shelf>(shelf: &mut H, pool: Option<Pool<H::R, H::A>>)
 
 /// Runs the script of `source` on the pool of `shelf`, with its replies to `sink`. The words are those of the
 /// command line behind the program's name. The chooser names the metaslab that a new block goes to, and the policy the
-/// spare that a slot gets from the repair agent.
+/// spare that a slot gets from the repair agent. The lanes of sections are run by `sections`.
 pub fn run<
     H: Shelf,
     S: Source,
     K: Sink,
     F: Fn(&[Room]) -> Option<u32>,
     P: Fn(u32, u64, &[u32]) -> Option<u32>,
+    G: Sections<H::R, H::A>,
     A: AllocGlobal + Threads + Sync,
 >(
     rt: &A,
+    sections: &G,
     words: &[String],
     shelf: &mut H,
     source: &mut S,
@@ -92,6 +95,7 @@ pub fn run<
     policy: &Policy<P>,
 ) -> Status
     requires chooser { IsChooser F.Fn chooser.now }
+    requires sections { G.ready sections.now (FnReturnsAt F.Fn chooser.now) }
     requires policy { IsPolicy P.Fn policy.now }
     ensures run { RunIs H.R.Rack H.A.Area (choices_with (FnReturnsAt F.Fn chooser.now) (PolicyReturns P.Fn policy.now)) (map string_bytes words.now) result (S.left source.old) (K.held sink.old) (K.held sink.new) (on_shelf H.Shelf shelf.old) (on_shelf H.Shelf shelf.new) }
 
@@ -116,7 +120,9 @@ pub fn run<
         Err(WordsFault::NoMemory) => return end_run(alloc, sink, Status::NoMemory),
     }
     let mut pool = None;
-    let ended = serve(rt, alloc, shelf, &mut pool, chooser, policy, source, sink);
+    let ended = serve(
+        rt, alloc, sections, shelf, &mut pool, chooser, policy, source, sink,
+    );
     give_back(shelf, pool);
     end_run(alloc, sink, ended)
 }

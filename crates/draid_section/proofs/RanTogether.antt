@@ -18,13 +18,13 @@ use Rattle.draid_objects.specs.Changes.{Change}
 use Rattle.draid_pool.specs.declared.cell.Cell.{Cell}
 use Rattle.draid_pool.proofs.Lists.{present, some_of}
 use Rattle.draid_lanes.specs.Locks.{Step}
-use Rattle.draid_lanes.specs.Traces.{CameAt, HadTurns, IsGoverned, IsShardTurn, IsUberTurn, LaneTurn, StandsAt, holds_in, places_in}
+use Rattle.draid_lanes.specs.Traces.{CameAt, HadBytes, HadTurns, IsGoverned, IsShardTurn, IsUberTurn, LaneTurn, StandsAt, holds_in, places_in}
 use Rattle.draid_lanes.specs.declared.lane.Lane.{Lane}
 use Rattle.draid_lanes.specs.declared.uber.UberCell.{UberCell}
 use Rattle.draid_section.specs.Opening.{passes_at, with_pass}
 use Rattle.draid_section.specs.Turning.{UberHold}
 use Rattle.draid_section.proofs.LockTurns.{all_times}
-use Rattle.draid_section.proofs.ShardTurns.{ShardTogether, shard_together}
+use Rattle.draid_section.proofs.ShardTurns.{BytesAt, ShardTogether, shard_bytes, shard_together}
 use Rattle.draid_section.proofs.UberTurns.{UberTogether, uber_together}
 
 -- what a lane did: its holds, its turns of each lock, what it has of its own in the end, and what befell its objects
@@ -117,6 +117,7 @@ module _ {R A : Type 0} (G W : Type 0) (rack : racks.Ghosts R) (area : areas.Gho
           found_is = here.found_is;
           reached_is = here.reached_is;
           follows = here.follows;
+          bytes = here.bytes;
         }
 
     uber_turn : (log : List (Past (UberCell R A))) → StartsWith log pass.seen → (turn : LaneTurn) → Contains (trace.turns None) turn → IsUberTurn rack area x uber log turn.place turn.holds
@@ -200,28 +201,38 @@ module _ {R A : Type 0} (G W : Type 0) (rack : racks.Ghosts R) (area : areas.Gho
           (pass.0, pass.1, own_at trace lane l.1 r m pass.0 inside pass.1))) in
           omega (arith, none, one, all)
 
-      -- all turns of a metaslab's lock come together
-      pub shard_came : (lock : Lock (Cell R A)) (rest : Caller (Past (Cell R A))) (value : Cell R A) (c : ClosesEach (Step rack area) lock.first rest (passes_at m (lanes ++ groups ∷ [])) value) → slice_get locks m ≡ Some lock → rest.own ≡ []
-          → ((seen : List (Past (Cell R A))) (y z : Metaslab) → CameAt rack area x lock seen m y → CameAt rack area x lock seen m z → y ≡ z) → (y : Metaslab) → slice_get x.metaslabs m ≡ Some y → CameAt rack area x lock [] m y
-          → ShardTogether rack area x lock m c.log (holds_all traces)
-      shard_came lock rest value c lock_is fresh single y there first_at = shard_together rack area x lock m c.log single y there first_at (turns_all (Some m) traces) (holds_all traces) (all_same (Some m)) (once_at c.log rest fresh c.single) (all_ascend (Some m)) (λ i turns at turn in_it.
-          (let t = at_traces (λ trace. trace.turns (Some m)) i turns at in
-          let l = lane_of i t.0 t.1 in
-          shard_turn t.0 l.0 l.1 l.4 m lock c.log lock_is (λ next next_is. seen_at i l.0 l.2 next next_is) turn (subst (λ ts. Contains ts turn) (sym t.2) in_it)))
+      passes_all : (P : Caller (Past (Cell R A)) → Type 0) (ls : List (Vec (Caller (Past (Cell R A))) Global)) → All P (passes_at m (ls ++ groups ∷ [])) → (i : ℕ) (lane : Vec (Caller (Past (Cell R A))) Global) (pass : Caller (Past (Cell R A))) → slice_get ls i ≡ Some lane → slice_get lane.items m ≡ Some pass → P pass
+      passes_all P [] all i lane pass at there = absurd (cc)
+      passes_all P (l ∷ ls) all zero lane pass at there =
+          let same : l ≡ lane = cc in
+          All-head P pass (passes_at m (ls ++ groups ∷ [])) (subst (λ o. All P (with_pass o (passes_at m (ls ++ groups ∷ [])))) (ap (λ (v : Vec (Caller (Past (Cell R A))) Global). slice_get v.items m) same ∙ there) all)
+      passes_all P (l ∷ ls) all (suc i) lane pass at there = passes_all P ls (behind (slice_get l.items m) all) i lane pass at there
         where
-          passes_all : (P : Caller (Past (Cell R A)) → Type 0) (ls : List (Vec (Caller (Past (Cell R A))) Global)) → All P (passes_at m (ls ++ groups ∷ [])) → (i : ℕ) (lane : Vec (Caller (Past (Cell R A))) Global) (pass : Caller (Past (Cell R A))) → slice_get ls i ≡ Some lane → slice_get lane.items m ≡ Some pass → P pass
-          passes_all P [] all i lane pass at there = absurd (cc)
-          passes_all P (l ∷ ls) all zero lane pass at there =
-              let same : l ≡ lane = cc in
-              All-head P pass (passes_at m (ls ++ groups ∷ [])) (subst (λ o. All P (with_pass o (passes_at m (ls ++ groups ∷ [])))) (ap (λ (v : Vec (Caller (Past (Cell R A))) Global). slice_get v.items m) same ∙ there) all)
-          passes_all P (l ∷ ls) all (suc i) lane pass at there = passes_all P ls (behind (slice_get l.items m) all) i lane pass at there
-            where
-              behind : (o : Option (Caller (Past (Cell R A)))) → All P (with_pass o (passes_at m (ls ++ groups ∷ []))) → All P (passes_at m (ls ++ groups ∷ []))
-              behind None every = every
-              behind (Some p) every = All-tail P p (passes_at m (ls ++ groups ∷ [])) every
+          behind : (o : Option (Caller (Past (Cell R A)))) → All P (with_pass o (passes_at m (ls ++ groups ∷ []))) → All P (passes_at m (ls ++ groups ∷ []))
+          behind None every = every
+          behind (Some p) every = All-tail P p (passes_at m (ls ++ groups ∷ [])) every
 
-          seen_at : (i : ℕ) (lane : Vec (Caller (Past (Cell R A))) Global) → slice_get lanes i ≡ Some lane → (next : Caller (Past (Cell R A))) → slice_get lane.items m ≡ Some next → StartsWith c.log next.seen
-          seen_at i lane at next next_is = passes_all (λ pass. StartsWith c.log pass.seen) lanes c.seen i lane next at next_is
+      -- each pass that is left is a front of the history
+      module _ (lock : Lock (Cell R A)) (rest : Caller (Past (Cell R A))) (value : Cell R A) (c : ClosesEach (Step rack area) lock.first rest (passes_at m (lanes ++ groups ∷ [])) value) where
+        seen_at : (i : ℕ) (lane : Vec (Caller (Past (Cell R A))) Global) → slice_get lanes i ≡ Some lane → (next : Caller (Past (Cell R A))) → slice_get lane.items m ≡ Some next → StartsWith c.log next.seen
+        seen_at i lane at next next_is = passes_all (λ pass. StartsWith c.log pass.seen) lanes c.seen i lane next at next_is
+
+        module _ (lock_is : slice_get locks m ≡ Some lock) (fresh : rest.own ≡ []) (single : (seen : List (Past (Cell R A))) (y z : Metaslab) → CameAt rack area x lock seen m y → CameAt rack area x lock seen m z → y ≡ z) (y : Metaslab) (there : slice_get x.metaslabs m ≡ Some y)
+            (first_at : CameAt rack area x lock [] m y) where
+          its_turn : (i : ℕ) (turns : List LaneTurn) → slice_get (turns_all (Some m) traces) i ≡ Some turns → (turn : LaneTurn) → Contains turns turn → IsShardTurn rack area x lock c.log m turn.place turn.holds
+          its_turn i turns at turn in_it =
+              let t = at_traces (λ trace. trace.turns (Some m)) i turns at in
+              let l = lane_of i t.0 t.1 in
+              shard_turn t.0 l.0 l.1 l.4 m lock c.log lock_is (λ next next_is. seen_at i l.0 l.2 next next_is) turn (subst (λ ts. Contains ts turn) (sym t.2) in_it)
+
+          -- all turns of a metaslab's lock come together
+          pub shard_came : ShardTogether rack area x lock m c.log (holds_all traces)
+          shard_came = shard_together rack area x lock m c.log single y there first_at (turns_all (Some m) traces) (holds_all traces) (all_same (Some m)) (once_at c.log rest fresh c.single) (all_ascend (Some m)) its_turn
+
+          -- in all that a lane saw its blocks had bytes, where it began so
+          pub lane_bytes : BytesAt rack area x lock m [] y → (i : ℕ) (lane : Vec (Caller (Past (Cell R A))) Global) (pass : Caller (Past (Cell R A))) → slice_get lanes i ≡ Some lane → slice_get lane.items m ≡ Some pass → HadBytes rack area x lock pass.seen m
+          lane_bytes begun i lane pass at pass_is =
+              shard_bytes rack area x lock m c.log single y there first_at (turns_all (Some m) traces) (holds_all traces) (all_same (Some m)) (once_at c.log rest fresh c.single) (all_ascend (Some m)) its_turn begun pass.seen (seen_at i lane at pass pass_is)
 
     -- ---- the uberblock
 

@@ -46,7 +46,7 @@ use Rattle.draid_pool.proofs.OwnedKnows.{all as everything, knows_all, table_in}
 use Rattle.draid_lanes.specs.Lanes.{table_of}
 use Rattle.draid_lanes.specs.Locks.{AreOf, last_in, last_of, left_in, owned_by}
 use Rattle.draid_lanes.specs.Meeting.{groups_alone}
-use Rattle.draid_lanes.specs.Traces.{CameAt, HadTurns, IsGoverned, LeadsLane, StandsAt}
+use Rattle.draid_lanes.specs.Traces.{CameAt, HadTurns, IsGoverned, LeadsLane, SawBytes, StandsAt}
 use Rattle.draid_lanes.specs.Ubers.{IsUberOf}
 use Rattle.draid_lanes.specs.declared.lane.Lane.{Lane}
 use Rattle.draid_lanes.specs.declared.uber.UberCell.{UberCell}
@@ -72,14 +72,14 @@ use Rattle.draid_section.proofs.LanePasses.{get_last}
 use Rattle.draid_section.proofs.RanTogether.{RanLane, RanLanes, Trace, holds_all}
 use Rattle.draid_section.proofs.Restricted.{knows_some}
 use Rattle.draid_section.proofs.SectionStands.{any_owns, none_owns, owner_of, owners_of, section_owners, section_represents}
-use Rattle.draid_section.proofs.SectionState.{Listed, listed, section_at, section_many, section_metaslabs, section_together, section_uber}
-use Rattle.draid_section.proofs.SectionTold.{begins_at, came_single, governed_first, stands_first}
+use Rattle.draid_section.proofs.SectionState.{Listed, listed, section_at, section_bytes, section_many, section_metaslabs, section_together, section_uber}
+use Rattle.draid_section.proofs.SectionTold.{begins_at, begins_bytes, came_single, governed_first, stands_first}
 use Rattle.draid_section.proofs.UberTurns.{UberTogether, with_uber}
 
 module _ {R A G W J : Type 0} (rack : racks.Ghosts R) (area : areas.Ghosts A) (needs : J → Lane R A G W → Type 0) (relates : J → Lane R A G W → J → Lane R A G W → Type 0) (pool : Pool R A) (w : IsWhole rack area pool) (lists : List (Vec Span Global)) (al : AreLaneLists lists) (jobs : Vec J Global)
     (may : MayRunAll rack area needs pool lists jobs.items) (keeps : KeepLanes rack area needs relates) (locks : List (Lock (Cell R A))) (firsts : List (Caller (Past (Cell R A)))) (locked : AreLocked pool.metaslabs.shards.items locks firsts) (gl : Vec Span Global) (alone : gl.items ≡ groups_alone)
     (owns : Vec Own Global) (dealt_out : AreDealtOut pool.own lists owns.items) (uber' : Uber A) (shards' : List (Shard R A)) (owns' : Vec Own Global) (jobs' : Vec J Global) (ran : RunsLocked rack area relates pool.geometry locks pool.uber (lists ++ gl ∷ []) owns jobs uber' shards' owns' jobs')
-    (x : State) (r : Represents rack area pool x) (says : J → J → Store → List Hold → Store → Type 0) (rests : J → Type 0) (tells : JobsTell rack area says rests relates x) (calm : (i : ℕ) (job : J) → slice_get jobs.items i ≡ Some job → rests job → ⊥) (many_jobs : length lists ≡ length jobs.items) where
+    (x : State) (r : Represents rack area pool x) (says : J → J → Store → List Hold → Store → Type 0) (rests : J → Type 0) (tells : JobsTell rack area says rests relates x) (many_jobs : length lists ≡ length jobs.items) where
   abbrev pub Ran : ℕ → Type 0
   Ran i = JobRan relates locks ran.under.lock pool.geometry ran.old ran.new ran.under.over.passes ran.under.over.nexts i
 
@@ -104,18 +104,15 @@ module _ {R A G W J : Type 0} (rack : racks.Ghosts R) (area : areas.Ghosts A) (n
         stands_first rack area pool x r locks firsts locked j.lane list.items j.over.turns new some d.objects d.seq d.floor
 
     -- what it did
-    lane_led : LeadsLane rack area x (λ holds store. says j.job j.done x.store holds store × Grows (owned_by j.lane.metaslabs.passes.items) x.store store) j.lane j.next
-    lane_led =
-        let l = tells j.job j.lane j.done j.next j.related x lane_stands in
-        let there : slice_get jobs.items i ≡ Some j.job = sym (ap (λ (v : Vec J Global). slice_get v.items i) ran.jobs_are) ∙ j.begun.job_is in
-        record { turns = l.turns; holds = l.holds; had = l.had; reached = l.reached; done = (l.done.0 (λ r. absurd (calm i j.job there r)), l.done.1); stands = l.stands }
+    lane_led : LeadsLane rack area x (λ holds store. ((rests j.job → SawBytes rack area x j.next) → says j.job j.done x.store holds store) × Grows (owned_by j.lane.metaslabs.passes.items) x.store store) j.lane j.next
+    lane_led = tells j.job j.lane j.done j.next j.related x lane_stands
 
   -- a lane's trace, and where it comes from
   pub record LedBy (i : ℕ) (trace : Trace) : Type 0 where
     pub ran_it : Ran i
     pub list : Vec Span Global
     pub list_is : slice_get lists i ≡ Some list
-    pub led : LeadsLane rack area x (λ holds store. says ran_it.job ran_it.done x.store holds store × Grows (owned_by ran_it.lane.metaslabs.passes.items) x.store store) ran_it.lane ran_it.next
+    pub led : LeadsLane rack area x (λ holds store. ((rests ran_it.job → SawBytes rack area x ran_it.next) → says ran_it.job ran_it.done x.store holds store) × Grows (owned_by ran_it.lane.metaslabs.passes.items) x.store store) ran_it.lane ran_it.next
     pub is : trace ≡ record { holds = led.holds; turns = led.turns; store = led.reached.store; since = led.done.1.since }
 
   all : Listed LedBy 0 (length lists)
@@ -206,6 +203,15 @@ module _ {R A G W J : Type 0} (rack : racks.Ghosts R) (area : areas.Ghosts A) (n
 
   begun : IsGoverned rack area x lock.first x
   begun = governed_first rack area pool x r locks firsts locked lock.first ran.under.made.turns_are ran.under.made.uber_is first_groups
+
+  -- all that a lane saw had bytes
+  lane_saw : (i : ℕ) (trace : Trace) (t : LedBy i trace) → SawBytes rack area x t.ran_it.next
+  lane_saw i trace t m l pass l_is pass_is =
+      let j = t.ran_it in
+      let left = whole_at rack area needs relates pool w lists al jobs may keeps locks firsts locked gl alone owns dealt_out uber' shards' owns' jobs' ran i j in
+      let turns : j.next.metaslabs.turns.now ≡ locks = left.same.turns ∙ j.over.turns in
+      section_bytes G W rack area x locks lock x_many section_traces lanes nexts ran_lanes ran.groups' ran.rests shards' ran.unlocked rest_of idle (came_single rack area x) (begins_at rack area pool x r locks firsts locked) ran.under.over.rest ran.under.over.back.value ran.under.over.back.closes ran.under.over.of_lanes.fresh.2 begun
+      (begins_bytes rack area pool x r locks firsts locked) m l (sym (ap (λ ls. slice_get ls m) turns) ∙ l_is) i j.next.metaslabs.passes pass j.ended.held pass_is
 
   zs : List Metaslab
   zs = section_metaslabs G W rack area x locks lock x_many section_traces lanes nexts ran_lanes ran.groups' ran.rests shards' ran.unlocked rest_of idle (came_single rack area x) (begins_at rack area pool x r locks firsts locked) ran.under.over.rest ran.under.over.back.value ran.under.over.back.closes ran.under.over.of_lanes.fresh.2 begun
@@ -673,7 +679,7 @@ module _ {R A G W J : Type 0} (rack : racks.Ghosts R) (area : areas.Ghosts A) (n
             j.done,
             sym (ap (λ (v : Vec J Global). slice_get v.items i) ran.jobs_are) ∙ j.begun.job_is,
             sym (ap (λ (v : Vec J Global). slice_get v.items i) ran.jobs_then) ∙ j.ended.job_is,
-            subst (λ (v : LaneDid). says j.job j.done x.store v.holds v.store) (ap did_of (sym t.is) ∙ z.2) t.led.done.0,
+            subst (λ (v : LaneDid). says j.job j.done x.store v.holds v.store) (ap did_of (sym t.is) ∙ z.2) (t.led.done.0 (λ rests. lane_saw i z.0 t)),
             subst (λ (v : LaneDid). v.store.changes ≡ v.since ++ x.store.changes) z.2 (adds i z.0 z.1),
           ));
       reached = reached;

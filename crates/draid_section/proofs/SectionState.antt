@@ -16,13 +16,13 @@ use Rattle.draid_session.specs.Lanes.{Together, TogetherAt, holds_of}
 use Rattle.draid_session.specs.State.{Metaslab, State, Store}
 use Rattle.draid_pool.specs.declared.cell.Cell.{Cell}
 use Rattle.draid_pool.proofs.Lists.{present}
-use Rattle.draid_lanes.specs.Traces.{CameAt, IsGoverned, LaneTurn, holds_in}
+use Rattle.draid_lanes.specs.Traces.{CameAt, HadBytes, IsGoverned, LaneTurn, holds_in}
 use Rattle.draid_lanes.specs.declared.uber.UberCell.{UberCell}
 use Rattle.draid_section.specs.Opening.{AreUnlocked}
 use Rattle.draid_section.specs.Turning.{UberHold}
 use Rattle.draid_section.proofs.Finals.{FinalAt}
-use Rattle.draid_section.proofs.RanTogether.{RanLane, RanLanes, Trace, holds_all, shard_came, uber_came}
-use Rattle.draid_section.proofs.ShardTurns.{ShardTogether}
+use Rattle.draid_section.proofs.RanTogether.{RanLane, RanLanes, Trace, holds_all, lane_bytes, shard_came, uber_came}
+use Rattle.draid_section.proofs.ShardTurns.{BytesAt, ShardTogether}
 use Rattle.draid_section.proofs.UberTurns.{UberTogether, with_uber}
 
 -- ---- lists that are made element by element
@@ -70,6 +70,16 @@ module _ {R A : Type 0} (G W : Type 0) (rack : racks.Ghosts R) (area : areas.Gho
           together = s.together;
         },
       )
+
+  -- in all that a lane saw the blocks of each metaslab had bytes, where all began so
+  pub section_bytes : ((m : ℕ) (lock : Lock (Cell R A)) (y : Metaslab) → slice_get locks m ≡ Some lock → slice_get x.metaslabs m ≡ Some y → BytesAt rack area x lock m [] y)
+      → (m : ℕ) (lock : Lock (Cell R A)) → slice_get locks m ≡ Some lock → (i : ℕ) (lane : Vec (Caller (Past (Cell R A))) Global) (pass : Caller (Past (Cell R A))) → slice_get lanes i ≡ Some lane → slice_get lane.items m ≡ Some pass → HadBytes rack area x lock pass.seen m
+  section_bytes begun m lock lock_is i lane pass lane_is pass_is =
+      let inside = slice_get_within locks m lock lock_is in
+      let rest = rest_of m inside in
+      let y = present x.metaslabs m (omega (arith, inside, many)) in
+      let c = unlocked.each m lock rest.0 lock_is rest.1 in
+      lane_bytes G W rack area x locks uber traces lanes ubers ran m inside groups (idle m) lock rest.0 c.0 c.2 lock_is rest.2 (single lock m) y.0 y.1 (first_at m lock y.0 lock_is y.1) (begun m lock y.0 lock_is y.1) i lane pass lane_is pass_is
 
   pub section_all : Listed CameTo 0 (length locks)
   section_all = listed CameTo (length locks) 0 (λ k less. (let one = came_to k less in (one.0, subst (λ n. CameTo n one.0) (omega arith) one.1)))

@@ -24,6 +24,7 @@ use Rattle.draid_pool.specs.declared.cell.Cell.{Cell}
 use Rattle.draid_pool.specs.declared.pool.Pool.{Pool}
 use Rattle.draid_pool.proofs.Lists.{present, some_of}
 use Rattle.draid_pool.proofs.OwnedKnows.{all, knows_all, table_in}
+use Rattle.draid_pool.proofs.PoolBytes.{pool_bytes}
 use Rattle.draid_pool.proofs.Since.{since_self}
 use Rattle.draid_lanes.specs.Lanes.{table_of}
 use Rattle.draid_lanes.specs.Locks.{last_in, left_in, owned_by}
@@ -36,6 +37,7 @@ use Rattle.draid_section.specs.Opening.{AreLocked, IsDealt}
 use Rattle.draid_section.proofs.Beginning.{first_of, lasts, lock_of, pass_new}
 use Rattle.draid_section.proofs.Dealt.{dealt_owns}
 use Rattle.draid_section.proofs.Restricted.{knows_some}
+use Rattle.draid_section.proofs.ShardTurns.{BytesAt}
 
 -- a table that has the same pointers of what is owned
 knows_table : {R A : Type 0} (rack : racks.Ghosts R) (area : areas.Ghosts A) (owns : ℕ → Bool) (last : ℕ → Option (Shard R A)) (table other : ℕ → Option Pointer) (seq floor : ℕ) (x : State) → ((o : ℕ) → owns o ≡ true → other o ≡ table o)
@@ -69,6 +71,12 @@ module _ {R A : Type 0} (rack : racks.Ghosts R) (area : areas.Ghosts A) (pool : 
   begins_at m lock y lock_is there =
       let is = r.stands.each m lock.first.shard y (first_of pool.metaslabs.shards.items locks firsts locked m lock lock_is) there in
       record { first = y; there = there; came = record { began = subst (λ p. IsReached (layout_in p) y.world) is.part_is is.stands.reached; reached = y; pieces = r.stands.pieces m; is = is; since = since_self (layout_in (part_in x m)) y }; is = refl }
+
+  -- all blocks of each have bytes
+  pub begins_bytes : (m : ℕ) (lock : Lock (Cell R A)) (y : Metaslab) → slice_get locks m ≡ Some lock → slice_get x.metaslabs m ≡ Some y → BytesAt rack area x lock m [] y
+  begins_bytes m lock y lock_is there =
+      let is = r.stands.each m lock.first.shard y (first_of pool.metaslabs.shards.items locks firsts locked m lock lock_is) there in
+      (r.stands.pieces m, is, pool_bytes rack area pool x r m lock.first.shard y there is)
 
   -- a lane knows as much of it as its own objects go
   module _ {G W : Type 0} (lane : Lane R A G W) (list : List Span) (turns : lane.metaslabs.turns.now ≡ locks) (new : IsDealt locks list lane.metaslabs.passes.items) (some : 0 < length locks) (table : (o : ℕ) → table_of lane o ≡ (if holds o list then get nat_eq pool.own.objects o else None))

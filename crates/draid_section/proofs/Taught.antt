@@ -1,5 +1,5 @@
 -- What lanes say of the objects, one lane after another.
-use Rattle.std.proofs.Common.{◌≡◌, ◌∙◌, ◌++◌, ◌∷◌, ◌<◌, ◌≤◌, ◌+◌, arith, ℕ, zero, suc, Bool, true, false, List, [], Option, Some, None, if◌then◌else◌, length, refl, sym, ap, subst}
+use Rattle.std.proofs.Common.{◌≡◌, ◌∙◌, ◌∷◌, ◌≤◌, ◌+◌, arith, ℕ, zero, suc, Bool, true, false, List, [], Option, Some, if◌then◌else◌, length, refl, sym, ap, subst}
 use Rattle.std.specs.Prelude.{nat_eq, slice_get}
 use Rattle.std.specs.HashMap.{get}
 use Rattle.std.specs.declared.vec.Vec.{Vec}

@@ -1,5 +1,5 @@
 -- Lanes that ran over a pool of which something is known: what they say of the objects is so of the pool that is put together of them.
-use Rattle.std.proofs.Common.{◌≡◌, ◌∙◌, ◌++◌, ◌∷◌, ◌<◌, ◌≤◌, ◌+◌, arith, ℕ, zero, suc, Bool, true, false, List, [], Option, Some, None, if◌then◌else◌, length, refl, sym, ap, subst}
+use Rattle.std.proofs.Common.{◌≡◌, ◌∙◌, ◌++◌, ◌∷◌, ◌<◌, arith, ℕ, zero, suc, true, List, [], Option, Some, None, if◌then◌else◌, length, refl, sym, ap, subst}
 use Rattle.std.specs.Prelude.{nat_eq, slice_get}
 use Rattle.std.specs.HashMap.{get}
 use Rattle.std.specs.declared.vec.Vec.{Vec}
@@ -25,12 +25,12 @@ use Rattle.draid_pool.proofs.Lists.{present, some_of}
 use Rattle.draid_lanes.specs.Lanes.{table_of}
 use Rattle.draid_lanes.specs.Locks.{owned_by}
 use Rattle.draid_lanes.specs.Meeting.{groups_alone}
-use Rattle.draid_lanes.specs.Telling.{JobsTeach, TeachesSo, beside}
+use Rattle.draid_lanes.specs.Telling.{JobsTeach, beside}
 use Rattle.draid_lanes.specs.declared.lane.Lane.{Lane}
-use Rattle.draid_section.specs.Opening.{AreLocked, IsDealt}
+use Rattle.draid_section.specs.Opening.{AreLocked}
 use Rattle.draid_section.specs.Running.{JobRan, KeepLanes, WereDone}
 use Rattle.draid_section.specs.Section.{MayRunAll, RunsLocked}
-use Rattle.draid_section.specs.Told.{LearnEach, SectionTaught}
+use Rattle.draid_section.specs.Told.{SectionTaught}
 use Rattle.draid_tables.specs.Lists.{AreLaneLists}
 use Rattle.draid_tables.specs.Owns.{AreDealtOut, TakesAll}
 use Rattle.draid_tables.proofs.Listing.{a_holder}

@@ -1,5 +1,5 @@
 -- A section, from a whole pool to a whole pool: what lanes get of it, what they did, and what is put together behind them.
-use Rattle.std.specs.Prelude.{◌≡◌, ◌≢◌, ◌+◌, ◌<◌, ◌≤◌, ◌++◌, ◌∷◌, ℕ, List, [], Some, None, length, nat_eq, slice_get, vec_capacity, if◌then◌else◌}
+use Rattle.std.specs.Prelude.{◌≡◌, ◌≤◌, ◌++◌, ◌∷◌, ℕ, List, [], Some, None, length, nat_eq, slice_get, vec_capacity, if◌then◌else◌}
 use Rattle.std.specs.HashMap.{get, spare}
 use Rattle.std.specs.declared.vec.Vec.{Vec}
 use Rattle.std.specs.declared.alloc.Global.{Global}
@@ -8,12 +8,11 @@ use Rattle.draid_area.specs.declared.Area as areas
 use Rattle.draid_shard.specs.declared.shard.Shard.{Shard}
 use Rattle.draid_spec.specs.declared.layout.Geometry.{Geometry}
 use Rattle.draid_turn.specs.Calls.{Caller, Lock}
-use Rattle.draid_turn.specs.Numbers.{holds, number_limit}
+use Rattle.draid_turn.specs.Numbers.{holds}
 use Rattle.draid_turn.specs.declared.past.Past.{Past}
 use Rattle.draid_turn.specs.declared.span.Span.{Span}
-use Rattle.draid_holds.specs.Passes.{EachHoldsSome, shares}
+use Rattle.draid_holds.specs.Passes.{shares}
 use Rattle.draid_uber.specs.declared.uber.Uber.{Uber}
-use Rattle.draid_pool.specs.Drifts.{groups_number}
 use Rattle.draid_pool.specs.declared.cell.Cell.{Cell}
 use Rattle.draid_pool.specs.declared.own.Own.{Own}
 use Rattle.draid_pool.specs.declared.pool.Pool.{Pool}

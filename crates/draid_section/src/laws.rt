@@ -29,15 +29,14 @@ use draid_rack::Rack;
 use draid_session::Decides;
 use std::sync::Wait;
 
-/// Law: where lanes ran over a pool that stands for a state, and each job tells what its lane did from whatever it knew, and rests that on its own blocks alone, the pool that is put together of them stands for
-/// the state to which all of it led, lock by lock in one order.
+/// Law: where lanes ran over a pool that stands for a state, and each job tells what its lane did from whatever it knew, the pool that is put together of them stands for the state to which all of it led, lock by
+/// lock in one order. In all that each lane saw all blocks had bytes, so what rests on that is so.
 pub fn lanes_come_together<R: Rack, A: Area, G: Gate, W: Wait, J: LaneJob<R, A, G, W> + Says>()
     ensures { (pool : PoolOf R A) (lists : List (Vec NumberSpan Heap)) (jobs : Vec J Heap) (new : PoolOf R A) (done : Vec J Heap) (x : State)
         → IsWhole R.Rack A.Area pool → AreLaneLists lists → length jobs.items ≡ length lists
         → MayRunAll R.Rack A.Area J.needs pool lists jobs.items → KeepLanes R.Rack A.Area J.needs J.relates
         → RunsInLanes R.Rack A.Area J.relates pool lists jobs new done → IsWhole R.Rack A.Area new
         → Represents R.Rack A.Area pool x → JobsTell R.Rack A.Area (λ job end. J.says job end x) J.rests J.relates x
-        → ((i : ℕ) (job : J) → slice_get jobs.items i ≡ Some job → J.rests job → ⊥)
         → SectionStood R.Rack A.Area (λ job end. J.says job end x) x jobs.items done.items new }
 {}
 

@@ -14,8 +14,8 @@ use Rattle.draid_session.specs.Choices.{Choices}
 use Rattle.draid_session.specs.Keeping.{Keeps}
 use Rattle.draid_session.specs.Looks.{AllOf}
 use Rattle.draid_session.specs.Said.{Said, alone}
-use Rattle.draid_session.specs.Places.{Ended, Inside, Outside, Place}
-use Rattle.draid_session.specs.Sections.{BookOn, LaneLine, LaneTurns, OutsideBook, OutsideTurns, PlaceBehind, PlaceBook, PlaceTurns, RunsOn, SectionBook, SectionTurns, with_command}
+use Rattle.draid_session.specs.Places.{Ended, Inside, Outside, Place, with_command}
+use Rattle.draid_session.specs.Sections.{BookOn, LaneLine, LaneTurns, OutsideBook, OutsideTurns, PlaceBehind, PlaceBook, PlaceTurns, RunsOn, SectionBook, SectionTurns}
 use Rattle.draid_session.specs.Session.{Agrees, Bare, Desk, Finding, Foreign, Made, Open, Shut, Sitting, Unknown, Untouched}
 use Rattle.draid_session.specs.State.{State}
 use Rattle.draid_session.proofs.Lanewise.{all_both, all_set}

@@ -4,6 +4,7 @@ use Rattle.std.specs.List.Sorted.{IsStrictlyIncreasing}
 use Rattle.sha2.specs.Sha256.{sha256}
 use Rattle.draid_names.specs.declared.refusal.ObjectFault.{ObjectFault}
 use Rattle.draid_names.specs.declared.refusal.ObjectFault.TheVariants as fault
+use Rattle.draid_script.specs.Grammar.{line_of}
 use Rattle.draid_script.specs.Line.{Command, Silent, CreatePool, ImportPool, ExportPool, SyncPool, CancelPasses, CrashPool, WriteObject, FillObjects, ReadObject, FreeObject, SumObjects, TakeOffline, TakeOnline, DamageSector, AttachSpare, ReplaceDisk, DetachArm, RebuildPool, ScrubPool, RebalanceSlot, ShowStatus, TakeCheckpoint, UpgradePool, DiscardCheckpoint, RewindPool, RunAgent, ShowJournal}
 use Rattle.draid_script.specs.declared.fault.LineFault.{LineFault}
 use Rattle.draid_script.specs.declared.line.StatusFormat.{StatusFormat}
@@ -16,7 +17,6 @@ use Rattle.draid_reply.specs.declared.reply.Reply.{Reply}
 use Rattle.draid_reply.specs.declared.reply.Reply.TheVariants.{NoPool, PoolOpen, NoMemory, Worn, Last, PassThere, Created, CreateRefused, Imported, Exported, Crashed, Synced, Written, NoSpace, Missed, WriteLast, Filled, FillRefused, Contents, NoObject, Unreadable, ReadWorn, Summed, SumRefused, Freed, FreeNoObject, Damaged, DamageRefused, DamageFailed, DamageWorn, OfflineDone, OfflineRefused, OfflineWorn, OnlineDone, OnlineRefused, OnlineWorn, Spared, SpareRefused, SpareWorn, Replaced, ReplaceRefused, ReplaceWorn, Detached, DetachRefused, DetachWorn, DetachLast, Rebuilt, RebuildNothing, Scrubbed, Rebalanced, RebalanceRefused, RebalanceWorn, RebalanceLast, Cancelled, Status, Upgraded, UpgradeAlready, Checkpointed, CheckpointThere, Discarded, NoCheckpoint, Rewound, Acted, AgentIdle, Journal}
 use Rattle.draid_session.specs.Said.{Said}
 use Rattle.draid_session.specs.Making.{content_of}
-use Rattle.draid_session.specs.Places.{Outside, Place, line_at, place_after, place_behind}
 use Rattle.draid_session.specs.Reads.{ReadsAs}
 use Rattle.draid_session.specs.Session.{name_of}
 
@@ -321,15 +321,11 @@ AnswersLine (Ok Silent) old (said ∷ more) new = ⊥
 AnswersLine (Ok command) old (said ∷ []) new = (said.lane ≡ None) × Answers old command said.reply new
 AnswersLine line old saids new = ⊥
 
--- the lines are answered by the replies to each, one after another, from a place on
-abbrev pub AnswersAt : Place → Book → List (List ℕ) → List (List Said) → Book → Type 0
-AnswersAt place old [] [] new = new ≡ old
-AnswersAt place old (line ∷ lines) (saids ∷ replies) new = (mid : Book) × AnswersLine (line_at place line) old saids mid × AnswersAt (place_behind place line) mid lines replies new
-AnswersAt place old lines replies new = ⊥
-
--- from outside a section on
+-- the lines are answered outside sections by the replies to each, one after another
 abbrev pub AnswersAll : Book → List (List ℕ) → List (List Said) → Book → Type 0
-AnswersAll old lines replies new = AnswersAt Outside old lines replies new
+AnswersAll old [] [] new = new ≡ old
+AnswersAll old (line ∷ lines) (saids ∷ replies) new = (mid : Book) × AnswersLine (line_of line) old saids mid × AnswersAll mid lines replies new
+AnswersAll old lines replies new = ⊥
 
 -- ---- the end of a run
 
@@ -369,15 +365,7 @@ abbrev pub BreaksAtLine : Result Command LineFault → Book → List Said → Bo
 BreaksAtLine (Ok command) old saids new = (saids ≡ []) × BreaksBook old command new
 BreaksAtLine line old saids new = ⊥
 
--- it ends behind its last reply, or in this line at this place, behind what was said to it
-abbrev pub EndsBook : Place → Option (List ℕ) → Book → List Said → Book → Type 0
-EndsBook place None old saids new = (saids ≡ []) × (new ≡ old)
-EndsBook place (Some line) old saids new = BreaksAtLine (line_at place line) old saids new
-
--- A run: its lines are answered, it ends behind them or in a line that breaks off, to which this was said, and a pool that is open is given back.
-pub record AnswersRun (old : Book) (lines : List (List ℕ)) (replies : List (List Said)) (broken : Option (List ℕ)) (saids : List Said) (new : Book) : Type 0 where
-  pub mid : Book
-  pub last : Book
-  pub answers : AnswersAll old lines replies mid
-  pub ends : EndsBook (place_after Outside lines) broken mid saids last
-  pub made : new ≡ closed last
+-- it ends behind its last reply, or in this line outside a section, behind what was said to it
+abbrev pub EndsBook : Option (List ℕ) → Book → List Said → Book → Type 0
+EndsBook None old saids new = (saids ≡ []) × (new ≡ old)
+EndsBook (Some line) old saids new = BreaksAtLine (line_of line) old saids new

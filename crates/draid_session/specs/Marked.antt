@@ -7,7 +7,6 @@ use Rattle.draid_script.specs.declared.name.CommandName.TheVariants as name
 use Rattle.draid_reply.specs.declared.reply.Reply.{Reply}
 use Rattle.draid_reply.specs.declared.reply.Reply.TheVariants.{CheckpointThere, Checkpointed, Created, Detached, Discarded, Exported, Imported, Last, NoCheckpoint, NoMemory, NoPool, Rebalanced, Rewound, Synced, Upgraded, Worn}
 use Rattle.draid_session.specs.Book.{Answers, AreMany, Book, NamesNext, Objects, doubtful, synced}
-use Rattle.draid_session.specs.Places.{Outside, Place, line_at, place_behind}
 use Rattle.draid_session.specs.Said.{Said}
 
 -- A book; the objects of the checkpoint, where there is one; those of the checkpoint that the last group has which a reply named; and those of the checkpoint behind each change of
@@ -129,15 +128,11 @@ MarkedLine (Ok Silent) old (said ∷ more) new = ⊥
 MarkedLine (Ok command) old (said ∷ []) new = (said.lane ≡ None) × MarkedAnswers old command said.reply new
 MarkedLine line old saids new = ⊥
 
--- so are lines from a place on
-abbrev pub MarkedAt : Place → Marked → List (List ℕ) → List (List Said) → Marked → Type 0
-MarkedAt place old [] [] new = new ≡ old
-MarkedAt place old (line ∷ lines) (saids ∷ replies) new = (mid : Marked) × MarkedLine (line_at place line) old saids mid × MarkedAt (place_behind place line) mid lines replies new
-MarkedAt place old lines replies new = ⊥
-
--- from outside a section on
+-- so are lines outside sections
 abbrev pub MarkedAll : Marked → List (List ℕ) → List (List Said) → Marked → Type 0
-MarkedAll old lines replies new = MarkedAt Outside old lines replies new
+MarkedAll old [] [] new = new ≡ old
+MarkedAll old (line ∷ lines) (saids ∷ replies) new = (mid : Marked) × MarkedLine (line_of line) old saids mid × MarkedAll mid lines replies new
+MarkedAll old lines replies new = ⊥
 
 -- ---- between a checkpoint and its rewind
 

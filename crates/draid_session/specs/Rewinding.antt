@@ -6,6 +6,7 @@ use Rattle.draid_machine.specs.declared.names.Key.{Key}
 use Rattle.draid_machine.specs.declared.names.Stage.TheVariants.{Live}
 use Rattle.draid_objects.specs.Marks.{Dropped, GivenUp, Made, Mark, check_by, marks_upto}
 use Rattle.draid_reply.specs.declared.reply.Reply.TheVariants.{Synced}
+use Rattle.draid_script.specs.Grammar.{line_of}
 use Rattle.draid_script.specs.Line.{SyncPool}
 use Rattle.draid_session.specs.Checkpoints.{GoesBackTo}
 use Rattle.draid_session.specs.Choices.{Choices}
@@ -13,7 +14,6 @@ use Rattle.draid_session.specs.Follows.{Follows}
 use Rattle.draid_session.specs.Groups.{Finishes}
 use Rattle.draid_session.specs.Holds.{Did, Hold, On, View}
 use Rattle.draid_session.specs.Phases.{Went}
-use Rattle.draid_session.specs.Places.{Outside, Place, line_at, place_behind}
 use Rattle.draid_session.specs.Said.{Said}
 use Rattle.draid_session.specs.Session.{Agrees, CarriesOut, Desk, Finding, Open, Shut, TurnsBy}
 use Rattle.draid_session.specs.State.{Metaslab, State, Store}
@@ -79,14 +79,9 @@ module _ (choices : Choices) where
     pub made : left ≡ GivenUp (at.committed + 1) ∷ marks
 
   module _ (finds : Finding → Type 0) where
-    -- The lines were answered by the replies to each from a place on, none of which makes a checkpoint or gives it up.
-    abbrev pub BesideAt : Place → Bool → Desk → List Mark → List (List ℕ) → List (List Said) → Desk → List Mark → Type 0
-    BesideAt place tells old marks [] [] new left = (new ≡ old) × (left ≡ marks)
-    BesideAt place tells old marks (line ∷ lines) (saids ∷ replies) new left =
-        (mid : Desk) × (some : List Mark) × TurnsBy choices finds (line_at place line) old saids mid × Agrees tells mid × MarksGo (committed_at old) marks some
-        × BesideAt (place_behind place line) tells mid some lines replies new left
-    BesideAt place tells old marks lines replies new left = ⊥
-
-    -- from outside a section on
+    -- The lines were answered outside sections by the replies to each, none of which makes a checkpoint or gives it up.
     abbrev pub RunsBeside : Bool → Desk → List Mark → List (List ℕ) → List (List Said) → Desk → List Mark → Type 0
-    RunsBeside tells old marks lines replies new left = BesideAt Outside tells old marks lines replies new left
+    RunsBeside tells old marks [] [] new left = (new ≡ old) × (left ≡ marks)
+    RunsBeside tells old marks (line ∷ lines) (saids ∷ replies) new left =
+        (mid : Desk) × (some : List Mark) × TurnsBy choices finds (line_of line) old saids mid × Agrees tells mid × MarksGo (committed_at old) marks some × RunsBeside tells mid some lines replies new left
+    RunsBeside tells old marks lines replies new left = ⊥

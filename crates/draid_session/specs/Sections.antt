@@ -1,5 +1,5 @@
 -- Sections in a session: lines between `lanes K` and `end` are read whole, and at `end` the lanes run, or one reply says why they don't.
-use Rattle.std.specs.Prelude.{◌≡◌, ◌≢◌, ◌+◌, ◌<◌, ◌≤◌, ◌⊎◌, ⊤, ℕ, Bool, true, false, List, [], ◌∷◌, ◌++◌, None, Some, Result, Ok, Err, length, map, replicate, slice_get, slice_index_or, slice_set}
+use Rattle.std.specs.Prelude.{◌≡◌, ◌≢◌, ◌+◌, ◌<◌, ◌≤◌, ◌⊎◌, ⊤, ℕ, Bool, true, false, List, [], ◌∷◌, ◌++◌, None, Some, Option, Result, Ok, Err, length, map, slice_get}
 use Rattle.draid_script.specs.Grammar.{lane_of}
 use Rattle.draid_script.specs.Line.{Command, LaneCommand, InLane, OpenLanes, RebuildPool, ScrubPool, SectionEnd, SilentLane}
 use Rattle.draid_script.specs.declared.fault.LineFault.{LineFault}
@@ -7,26 +7,16 @@ use Rattle.draid_script.specs.declared.name.CommandName.TheVariants as name
 use Rattle.draid_reply.specs.declared.reply.Reply.{Reply}
 use Rattle.draid_reply.specs.declared.reply.Reply.TheVariants.{LanesCheckpoint, LanesClash, LanesClashMend, NoMemory, NoPool}
 use Rattle.draid_objects.specs.Marks.{check_by}
-use Rattle.draid_session.specs.Book.{AnswersLine, Book}
+use Rattle.draid_session.specs.Book.{AnswersLine, Book, EndsBook, closed}
 use Rattle.draid_session.specs.Choices.{Choices}
 use Rattle.draid_session.specs.Known.{Known, Learns}
 use Rattle.draid_session.specs.LaneBook.{AnswersSection}
 use Rattle.draid_session.specs.Lanes.{Clashes, Section}
-use Rattle.draid_session.specs.Places.{Ended, Inside, Outside, Place, line_at}
+use Rattle.draid_session.specs.Places.{Ended, Inside, Outside, Place, line_at, opened_lanes, with_command}
 use Rattle.draid_session.specs.Replies.{IsReplyTo}
 use Rattle.draid_session.specs.Said.{Said, alone}
 use Rattle.draid_session.specs.Session.{Agrees, Desk, Finding, Foreign, MayBreak, Open, Sitting, SittingTurns}
 use Rattle.draid_session.specs.State.{State}
-
--- ---- reading
-
--- a section opens
-abbrev pub opened_lanes : ℕ → Place
-opened_lanes count = Inside (replicate count [])
-
--- one of the lanes gets a command more
-abbrev pub with_command : ℕ → Command → List (List Command) → List (List Command)
-with_command lane command lanes = slice_set lanes lane (slice_index_or lanes lane [] ++ command ∷ [])
 
 -- ---- what is refused
 
@@ -181,3 +171,11 @@ abbrev pub BookOn : Place → Book → List (List ℕ) → List (List Said) → 
 BookOn from old [] [] to new = (new ≡ old) × (to ≡ from)
 BookOn from old (line ∷ lines) (saids ∷ replies) to new = (mid : Book) × (place : Place) × PlaceBook from line old saids mid place × BookOn place mid lines replies to new
 BookOn from old lines replies to new = ⊥
+
+-- A run: its lines are answered, with sections, it ends behind them, or in a line outside a section that breaks off, to which this was said, and a pool that is open is given back.
+pub record AnswersRun (old : Book) (lines : List (List ℕ)) (replies : List (List Said)) (to : Place) (broken : Option (List ℕ)) (saids : List Said) (new : Book) : Type 0 where
+  pub mid : Book
+  pub last : Book
+  pub answers : BookOn Outside old lines replies to mid
+  pub ends : EndsBook broken mid saids last
+  pub made : new ≡ closed last

@@ -25,6 +25,7 @@ use Rattle.draid_store.proofs.Older.{earlier_step}
 use Rattle.draid_pool.proofs.Contents.{all_long}
 use Rattle.draid_pool.proofs.Finds.{Found, found_drops, found_later, looks, points_at_on}
 use Rattle.draid_pool.proofs.Hiding.{but_inside}
+use Rattle.draid_pool.proofs.BytesKept.{still_bytes}
 use Rattle.draid_pool.proofs.HoldStep.{each_on, f, follows, here, live_key, pointer_at_on}
 use Rattle.draid_pool.proofs.Glances.{IsStill, early_still}
 use Rattle.draid_pool.proofs.Owning.{StaysAt, but_drifts}
@@ -58,7 +59,8 @@ module _ {R A S : Type 0} (rack : racks.Ghosts R) (area : areas.Ghosts A) (went 
       holds = On (view_of p.metaslab z.z) Looked ∷ [];
       reached = with_metaslab x p.metaslab z.z;
       store = x.store;
-      follows = follows rack area went shared owns a b last new p.metaslab shard before after there drifts still.valid is goes (all_of owns) lives table seq floor known.pieces x known.but_it Looked z.z z.now it (looks (layout_in (part_in x p.metaslab)) z.z) (λ same. refl);
+      follows = follows rack area went shared owns a b last new p.metaslab shard before after there drifts still.valid is goes (all_of owns) lives table seq floor known.pieces x known.but_it Looked z.z z.now it (looks (layout_in (part_in x p.metaslab)) z.z) (λ same. refl)
+          (still_bytes rack area (part_in x p.metaslab) before after z.z (λ pieces is. still.stands (part_in x p.metaslab) pieces z.z is));
       done = (refl, ((view_of p.metaslab z.z, refl), tt));
       knows = record {
         pieces = turn p.metaslab z.now known.pieces;

@@ -1,5 +1,5 @@
 -- A write of a thread's own ends in a hold, by what the thread knows of a pool's state.
-use Rattle.std.proofs.Common.{◌≡◌, ◌==◌, ◌≤◌, ◌<◌, ◌+◌, ◌∙◌, ◌⊎◌, inl, inr, arith, ℕ, Bool, true, [], ◌∷◌, Option, Some, None, Ok, Err, refl, sym, ap, ap₂, subst, cond, if◌then◌else◌, ne_eqb}
+use Rattle.std.proofs.Common.{◌≡◌, ◌==◌, ◌≤◌, ◌<◌, ◌+◌, ◌∙◌, ◌⊎◌, inl, inr, arith, ℕ, Bool, true, false, [], ◌∷◌, Option, Some, None, Ok, Err, refl, sym, ap, ap₂, subst, cond, if◌then◌else◌, ne_eqb}
 use mathlib.Core.Logic.{dite}
 use native.Mathlib.Decide.{ℕ_discrete}
 use Rattle.std.specs.Prelude.{nat_eq, option_map}
@@ -15,7 +15,7 @@ use Rattle.draid_machine.specs.declared.event.Event.TheVariants as event
 use Rattle.draid_machine.specs.declared.names.Key.{Key}
 use Rattle.draid_machine.specs.declared.names.Held.{Held}
 use Rattle.draid_machine.specs.declared.names.Stage.TheVariants as stage
-use Rattle.draid_machine.specs.Names.{key_eq}
+use Rattle.draid_machine.specs.Names.{is_block, key_eq}
 use Rattle.draid_machine.proofs.Small.{equal, key_refl}
 use Rattle.draid_segments.specs.Segments.{Pieces}
 use Rattle.draid_objects.specs.Blocks.{Blocks, Sets}
@@ -38,6 +38,7 @@ use Rattle.draid_session.specs.Holds.{Did, On, view_of}
 use Rattle.draid_session.specs.Rooms.{stripes_for}
 use Rattle.draid_session.specs.State.{State, Store}
 use Rattle.draid_pool.specs.Bytes.{HasBytes, KnowsBlock}
+use Rattle.draid_pool.proofs.Bytes.{same_bytes}
 use Rattle.draid_pool.specs.Objects.{HasPieces, HoldsObjects, IsLastAt, blocks_of}
 use Rattle.draid_pool.specs.Pools.{part_in}
 use Rattle.draid_pool.proofs.Dids.{Done, did_quiet}
@@ -49,7 +50,7 @@ use Rattle.draid_objects.proofs.Imaging.{last_live}
 use Rattle.draid_store.proofs.FreeKeeps.{same_key}
 use Rattle.draid_store.proofs.PutSteps.{set_own}
 use Rattle.draid_store.proofs.Written.{missed_holds, written_holds, written_only}
-use Rattle.draid_pool.specs.Drifts.{Drifts}
+use Rattle.draid_pool.specs.Drifts.{Drifts, KeepsBytes}
 use Rattle.draid_pool.specs.Follows.{FollowsBy}
 use Rattle.draid_pool.specs.Threads.{Between, HoldsBut, HoldsOwn, IsPointerAt, Knows, KnowsBut, LeadsBy, PointsAt, all_of, but, own_blocks, own_changes, own_store}
 use Rattle.draid_store.specs.Open.{KnowsOpen, KnowsReplaced}
@@ -57,6 +58,7 @@ use Rattle.draid_store.specs.Writing.{EndsIn, FinishesShard}
 use Rattle.draid_pool.proofs.ShardSteps.{at_here}
 use Rattle.draid_pool.proofs.Finds.{Found, all_low, bound_in, found_ticket}
 use Rattle.draid_pool.proofs.Hiding.{but_here, but_inside, seen_set, unhide}
+use Rattle.draid_pool.proofs.BytesKept.{done_bytes, metaslab_key, other_bytes, with_key, with_own, with_same}
 use Rattle.draid_pool.proofs.HoldStep.{f, follows, here, unseen_step}
 use Rattle.draid_pool.proofs.Owning.{own_is, own_some, write_own}
 
@@ -160,8 +162,8 @@ module _ {R A S : Type 0} (rack : racks.Ghosts R) (area : areas.Ghosts A) (went 
         (held_at (staged (stage.Writing ticket.next ticket.missed) ticket.pointer)) open_.own led refl (z.same (key_of ticket.pointer) open_.own)
 
     -- its bytes are known
-    ended_bytes : (h : Held) → z.z.world.core.held (key_of ticket.pointer) ≡ Some h → KnowsBlock x.geometry h (key_of ticket.pointer) z.now
-    ended_bytes h at column row some = subst (λ (i : Held). HasBytes x.geometry i (key_of ticket.pointer) z.now)
+    ended_has : (h : Held) → z.z.world.core.held (key_of ticket.pointer) ≡ Some h → HasBytes x.geometry h (key_of ticket.pointer) z.now
+    ended_has h at = subst (λ (i : Held). HasBytes x.geometry i (key_of ticket.pointer) z.now)
         (some_of (z.z.world.core.held (key_of ticket.pointer)) (held_at (staged (stage.Writing ticket.next ticket.missed) ticket.pointer)) h (z.is.stands.is_in.held (key_of ticket.pointer) ∙ led) at)
         (record {
           content = block.bytes;
@@ -172,6 +174,25 @@ module _ {R A S : Type 0} (rack : racks.Ghosts R) (area : areas.Ghosts A) (went 
           are = subst (λ cut. AreColumns cut block.bytes block.columns) (fin.carried.cut ∙ ap (λ (q : Part). cut_of q.geometry) z.is.part_is) fin.carried.columns;
           rows = λ c r below inside. ap (λ f. f c r) pieces_stay ∙ open_.rows c r (subst (λ n. c < n) (sym (fin.all ∙ ap (λ (q : Part). q.geometry.g) z.is.part_is)) below) inside;
         })
+
+    ended_bytes : (h : Held) → z.z.world.core.held (key_of ticket.pointer) ≡ Some h → KnowsBlock x.geometry h (key_of ticket.pointer) z.now
+    ended_bytes h at column row some = ended_has h at
+
+    -- whatever the pieces of other blocks
+    no_block : (h : Held) → z.z.world.core.held (key_of ticket.pointer) ≡ Some h → is_block h.stage ≡ false
+    no_block h at =
+        let same = some_of (z.z.world.core.held (key_of ticket.pointer)) (held_at (staged (stage.Writing ticket.next ticket.missed) ticket.pointer)) h (z.is.stands.is_in.held (key_of ticket.pointer) ∙ led) at in
+        ap (λ (i : Held). is_block i.stage) (sym same)
+
+    bytes : KeepsBytes rack area (part_in x m) before z.z after
+    bytes pieces is has =
+        let key = key_of ticket.pointer in
+        let all = with_key key z.now pieces in
+        let stands = metaslab_key rack area (part_in x m) key z.now pieces before z.z z.is is in
+        let own : (h : Held) → z.z.world.core.held key ≡ Some h → HasBytes x.geometry h key all = λ h at. same_bytes x.geometry h key z.now all (with_own key z.now pieces) (ended_has h at) in
+        let does = did_quiet rack area (part_in x m) all before after (event.Finish key) z.z stands valid fin.does fin.kit fin.reserve (λ w after step s t same. same) (λ v step. refl) refl refl tt (λ h at column row some. own h at) in
+        done_bytes rack area (part_in x m) all all before after z.z (event.Finish key) stands does own
+        (other_bytes rack area (part_in x m) key pieces all z.z (with_same key z.now pieces) no_block has)
 
     pub d : Done rack area (part_in x m) z.now after (event.Finish (key_of ticket.pointer)) z.z
     d = did_quiet rack area (part_in x m) z.now before after (event.Finish (key_of ticket.pointer)) z.z z.is valid fin.does fin.kit fin.reserve (λ w after step s t same. same) (λ v step. refl) refl refl tt ended_bytes
@@ -207,7 +228,7 @@ module _ {R A S : Type 0} (rack : racks.Ghosts R) (area : areas.Ghosts A) (went 
 
     pub followed : FollowsBy (Between rack area went shared (part_in x)) (λ s t u v. ⊥) a (On (view_of m z.z) (Did (event.Finish (key_of ticket.pointer)) d.reached.world) ∷ []) x b x_then
     followed = follows rack area went shared owns a b last new m shard before after there drifts valid is goes seen seen table seq floor open_.pieces x open_.but_it
-        (Did (event.Finish (key_of ticket.pointer)) d.reached.world) d.reached z.now d.is d.acts (λ same. absurd (cc))
+        (Did (event.Finish (key_of ticket.pointer)) d.reached.world) d.reached z.now d.is d.acts (λ same. absurd (cc)) bytes
 
   -- ---- more columns than the parity landed nowhere
 

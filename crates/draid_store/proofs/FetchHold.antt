@@ -24,7 +24,8 @@ use Rattle.draid_shard.specs.declared.shard.Shard.{Shard}
 use Rattle.draid_session.specs.Follows.{MetaslabActs}
 use Rattle.draid_session.specs.Holds.{Act, Did, Looked, On, view_of}
 use Rattle.draid_session.specs.State.{Metaslab, State}
-use Rattle.draid_pool.specs.Drifts.{Drifts}
+use Rattle.draid_pool.specs.Drifts.{Drifts, KeepsBytes}
+use Rattle.draid_segments.specs.Segments.{Pieces}
 use Rattle.draid_pool.specs.Metaslabs.{IsMetaslab}
 use Rattle.draid_pool.specs.Objects.{HasPieces, HoldsObjects, blocks_of}
 use Rattle.draid_pool.specs.Pools.{part_in}
@@ -32,6 +33,7 @@ use Rattle.draid_pool.specs.Shards.{FollowsIn, Goes}
 use Rattle.draid_pool.specs.Threads.{CarriesBy, IsPointerAt, Knows, all_of, own_blocks, own_changes, own_store}
 use Rattle.draid_pool.proofs.Contents.{all_long}
 use Rattle.draid_pool.proofs.Finds.{Found, all_low, bound_in, found_drops, found_later, looks, pointed_at, pointed_nowhere, points_at_on}
+use Rattle.draid_pool.proofs.BytesKept.{act_bytes, still_bytes}
 use Rattle.draid_pool.proofs.HoldStep.{each_on, f, follows, here, live_key, pointer_at_on}
 use Rattle.draid_pool.proofs.Lastly.{by_last, write_object}
 use Rattle.draid_pool.proofs.Moved.{blocks_at, turn, with_metaslab}
@@ -132,17 +134,27 @@ module _ {R A S : Type 0} (rack : racks.Ghosts R) (area : areas.Ghosts A) (went 
     holds = On (view_of p.metaslab z.z) act ∷ [];
     reached = with_metaslab x p.metaslab g.reached;
     store = x.store;
-    follows = follows rack area went shared owns a b last new p.metaslab shard before after there drifts valid is goes (all_of owns) (all_of owns) table seq floor knows.pieces x knows.but_it act g.reached z.now g.is acts (λ same. absurd (cc));
+    follows = follows rack area went shared owns a b last new p.metaslab shard before after there drifts valid is goes (all_of owns) (all_of owns) table seq floor knows.pieces x knows.but_it act g.reached z.now g.is acts (λ same. absurd (cc)) bytes;
     done = fetch_is x object w p z.z g.reached fetched (On (view_of p.metaslab z.z) act ∷ []) z.now geometry found_w.1 is_of content
         (subst (λ hs. FetchesIn (part_in x p.metaslab) z.now p fetched z.z hs g.reached) g.done.are g.done);
     knows = knows_then g.reached g.is;
   }
     where
+      goes_with : (pieces : Pieces) → IsMetaslab rack area (part_in x p.metaslab) pieces before z.z → Goes rack area (part_in x p.metaslab) pieces z.z after (FetchesIn (part_in x p.metaslab) pieces p fetched z.z)
+      goes_with pieces is = fetches rack area (part_in x p.metaslab) before after p fetched d.fetches valid d.areas_are d.told d.reserve d.not_worn pieces z.z is
+
       g : Goes rack area (part_in x p.metaslab) z.now z.z after (FetchesIn (part_in x p.metaslab) z.now p fetched z.z)
-      g = fetches rack area (part_in x p.metaslab) before after p fetched d.fetches valid d.areas_are d.told d.reserve d.not_worn z.now z.z z.is
+      g = goes_with z.now z.is
 
       act : Act
       act = Did (event.Fetch (maps.key_of p) g.done.failed) g.reached.world
+
+      bytes : KeepsBytes rack area (part_in x p.metaslab) before z.z after
+      bytes pieces is has =
+          let h = goes_with pieces is in
+          let does = Did (event.Fetch (maps.key_of p) h.done.failed) h.reached.world in
+          let did = acts_one (layout_in (part_in x p.metaslab)) p.metaslab does z.z h.reached (subst (λ hs. FollowsIn (layout_in (part_in x p.metaslab)) p.metaslab hs z.z h.reached) h.done.are h.follows) in
+          act_bytes rack area (part_in x p.metaslab) pieces before after z.z h.reached does is h.is did tt has
 
       acts : MetaslabActs (layout_in (part_in x p.metaslab)) act z.z g.reached
       acts = acts_one (layout_in (part_in x p.metaslab)) p.metaslab act z.z g.reached (subst (λ hs. FollowsIn (layout_in (part_in x p.metaslab)) p.metaslab hs z.z g.reached) g.done.are g.follows)
@@ -154,7 +166,8 @@ module _ {R A S : Type 0} (rack : racks.Ghosts R) (area : areas.Ghosts A) (went 
     holds = On (view_of p.metaslab z.z) Looked ∷ [];
     reached = with_metaslab x p.metaslab z.z;
     store = x.store;
-    follows = follows rack area went shared owns a b last new p.metaslab shard before after there drifts valid is goes (all_of owns) (all_of owns) table seq floor knows.pieces x knows.but_it Looked z.z z.now it (looks (layout_in (part_in x p.metaslab)) z.z) (λ same. refl);
+    follows = follows rack area went shared owns a b last new p.metaslab shard before after there drifts valid is goes (all_of owns) (all_of owns) table seq floor knows.pieces x knows.but_it Looked z.z z.now it (looks (layout_in (part_in x p.metaslab)) z.z) (λ same. refl)
+        (still_bytes rack area (part_in x p.metaslab) before after z.z (λ pieces is. none_stands rack area before after p why d n (part_in x p.metaslab) pieces z.z is));
     done = (refl, done);
     knows = knows_then z.z it;
   }

@@ -39,6 +39,7 @@ use Rattle.draid_store.proofs.FreeKnown.{own_freed}
 use Rattle.draid_pool.proofs.Contents.{all_long}
 use Rattle.draid_pool.proofs.Finds.{Found, found_drops, found_later, pointed_at, pointed_nowhere, points_at_on}
 use Rattle.draid_pool.proofs.Glances.{early_still, look_step}
+use Rattle.draid_pool.proofs.BytesKept.{free_bytes}
 use Rattle.draid_pool.proofs.HoldStep.{each_on, f, follows, here, pointer_at_on}
 use Rattle.draid_pool.proofs.Owning.{own_drifts}
 
@@ -138,7 +139,8 @@ module _ {R A S : Type 0} (rack : racks.Ghosts R) (area : areas.Ghosts A) (went 
         holds = On (view_of m z.z) (Did (event.Free (key_of p) group) r.world) ∷ [];
         reached = with_metaslab x m r;
         store = store;
-        follows = follows rack area went shared owns a b last new p.metaslab shard before after there drifts keeps.valid is goes (all_of owns) (all_of owns) table seq floor knows.pieces x knows.but_it (Did (event.Free (key_of p) group) r.world) r z.now g.is acts (λ same. absurd (cc));
+        follows = follows rack area went shared owns a b last new p.metaslab shard before after there drifts keeps.valid is goes (all_of owns) (all_of owns) table seq floor knows.pieces x knows.but_it (Did (event.Free (key_of p) group) r.world) r z.now g.is acts (λ same. absurd (cc))
+            (free_bytes rack area (part_in x p.metaslab) before after z.z p floor group (λ pieces is. fb.frees (part_in x p.metaslab) pieces z.z is));
         done = record {
           w = w;
           group = group;

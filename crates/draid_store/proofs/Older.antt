@@ -43,6 +43,7 @@ use Rattle.draid_pool.proofs.ShardSteps.{acts_one}
 use Rattle.draid_pool.proofs.Contents.{all_long}
 use Rattle.draid_pool.proofs.Finds.{Found, all_low, bound_in, found_drops, found_later, points_at_on}
 use Rattle.draid_pool.proofs.Hiding.{but_away, but_inside, own_set}
+use Rattle.draid_pool.proofs.BytesKept.{free_bytes}
 use Rattle.draid_pool.proofs.HoldStep.{each_on, f, follows, here, live_key, pointer_at_on}
 use Rattle.draid_pool.proofs.Owning.{StaysAt, bound_before, but_drifts, own_is, write_own}
 
@@ -151,7 +152,8 @@ module _ {R A S : Type 0} (rack : racks.Ghosts R) (area : areas.Ghosts A) (went 
     holds = On (view_of p.metaslab z.z) (Did (event.Free (key_of p) group) g.reached.world) ∷ [];
     reached = with_metaslab x p.metaslab g.reached;
     store = record x.store { floor = group };
-    follows = follows rack area went shared owns a b last new p.metaslab shard before after there drifts valid is goes (all_of owns) lives table seq floor known.pieces x known.but_it (Did (event.Free (key_of p) group) g.reached.world) g.reached z.now g.is acts (λ same. absurd (cc));
+    follows = follows rack area went shared owns a b last new p.metaslab shard before after there drifts valid is goes (all_of owns) lives table seq floor known.pieces x known.but_it (Did (event.Free (key_of p) group) g.reached.world) g.reached z.now g.is acts (λ same. absurd (cc))
+        (free_bytes rack area (part_in x p.metaslab) before after z.z p floor group (λ pieces is. frees.frees (part_in x p.metaslab) pieces z.z is));
     done = (
       record {
         v = view_of p.metaslab z.z;

@@ -1,5 +1,5 @@
 -- A write of a thread's own, hold by hold, by what the thread knows of a pool's state: a ticket is opened, and a column is put.
-use Rattle.std.proofs.Common.{◌≡◌, ◌==◌, ◌≤◌, ◌+◌, ◌∙◌, inl, inr, arith, ℕ, Bool, true, [], ◌∷◌, Option, Some, refl, sym, ap, ap₂, subst, max, if◌then◌else◌}
+use Rattle.std.proofs.Common.{◌≡◌, ◌==◌, ◌≤◌, ◌+◌, ◌∙◌, inl, inr, arith, ℕ, Bool, true, false, [], ◌∷◌, Option, Some, refl, sym, ap, ap₂, subst, max, if◌then◌else◌}
 use Rattle.draid_names.specs.declared.numbers.TheConstants.{LAST_NUMBER}
 use Rattle.draid_names.specs.declared.pointer.Pointer.{Pointer}
 use Rattle.draid_rack.specs.declared.Rack as racks
@@ -10,6 +10,7 @@ use Rattle.draid_machine.specs.declared.event.Event.TheVariants as event
 use Rattle.draid_machine.specs.declared.names.Key.{Key}
 use Rattle.draid_machine.specs.declared.names.Held.{Held}
 use Rattle.draid_machine.specs.declared.names.Stage.TheVariants as stage
+use Rattle.draid_machine.specs.Names.{is_block}
 use Rattle.draid_machine.proofs.Small.{none_some}
 use Rattle.draid_segments.specs.Segments.{Pieces}
 use Rattle.draid_entries.specs.Entries.{begun, held_in}
@@ -32,13 +33,14 @@ use Rattle.draid_pool.proofs.Dids.{Done, did_quiet}
 use Rattle.draid_pool.proofs.Lists.{some_of}
 use Rattle.draid_pool.proofs.Moved.{turn, turn_here, with_metaslab}
 use Rattle.draid_pool.proofs.Roomy.{worn_for}
-use Rattle.draid_pool.specs.Drifts.{Drifts}
+use Rattle.draid_pool.specs.Drifts.{Drifts, KeepsBytes}
 use Rattle.draid_pool.specs.Threads.{Knows, KnowsBut, LeadsBy, all_of, but}
 use Rattle.draid_store.specs.Open.{KnowsOpen}
 use Rattle.draid_store.specs.Writing.{BeginsBlock, BeginsIn, PutsShard}
 use Rattle.draid_store.proofs.Column.{column_for, one_column_more, others_same, put_column}
 use Rattle.draid_pool.proofs.Finds.{Found, found_ticket}
 use Rattle.draid_pool.proofs.Hiding.{but_here, but_inside, hide, unused_own}
+use Rattle.draid_pool.proofs.BytesKept.{done_bytes, other_bytes}
 use Rattle.draid_pool.proofs.HoldStep.{f, follows, here, unseen_step}
 
 writing_live : (c m : ℕ) → stage.Writing c m ≡ stage.Live → ⊥
@@ -80,6 +82,11 @@ module _ {R A S : Type 0} (rack : racks.Ghosts R) (area : areas.Ghosts A) (went 
     d : Done rack area (part_in x m) z.now after (begins ticket.pointer) z.z
     d = did_quiet rack area (part_in x m) z.now before after (begins ticket.pointer) z.z z.is valid begin.does kit reserve (λ w after step s t same. same) (λ v step. refl) refl refl tt tt
 
+    bytes : KeepsBytes rack area (part_in x m) before z.z after
+    bytes pieces is has =
+        let does = did_quiet rack area (part_in x m) pieces before after (begins ticket.pointer) z.z is valid begin.does kit reserve (λ w after step s t same. same) (λ v step. refl) refl refl tt tt in
+        done_bytes rack area (part_in x m) pieces pieces before after z.z (begins ticket.pointer) is does tt has
+
     not_live : (h : Held) → held_in before.entries (key_of ticket.pointer) ≡ Some h → h.stage ≡ stage.Live → ⊥
     not_live h there_h live = none_some (held_in before.entries (key_of ticket.pointer)) h (ap (held_in before.entries) key_is ∙ begin.unused) there_h
 
@@ -97,7 +104,7 @@ module _ {R A S : Type 0} (rack : racks.Ghosts R) (area : areas.Ghosts A) (went 
       holds = On (view_of m z.z) (Did (begins ticket.pointer) d.reached.world) ∷ [];
       reached = with_metaslab x m d.reached;
       store = x.store;
-      follows = follows rack area went shared owns a b last new m shard before after there drifts valid is goes mine mine table seq floor knows.pieces x known (Did (begins ticket.pointer) d.reached.world) d.reached z.now d.is d.acts (λ same. absurd (cc));
+      follows = follows rack area went shared owns a b last new m shard before after there drifts valid is goes mine mine table seq floor knows.pieces x known (Did (begins ticket.pointer) d.reached.world) d.reached z.now d.is d.acts (λ same. absurd (cc)) bytes;
       done = (
         refl,
         record {
@@ -147,6 +154,19 @@ module _ {R A S : Type 0} (rack : racks.Ghosts R) (area : areas.Ghosts A) (went 
         let same : held_at (staged (stage.Writing ticket.next ticket.missed) ticket.pointer) ≡ h = some_of (held_in before.entries (key_of ticket.pointer)) (held_at (staged (stage.Writing ticket.next ticket.missed) ticket.pointer)) h led there_h in
         writing_live ticket.next ticket.missed (ap (λ (i : Held). i.stage) same ∙ live)
 
+    no_block : (h : Held) → g.z.world.core.held (key_of ticket.pointer) ≡ Some h → is_block h.stage ≡ false
+    no_block h at =
+        let led = key_leads before.entries ticket.pointer.first (staged (stage.Writing ticket.next ticket.missed) ticket.pointer) put.carried.is_open in
+        let same = some_of (g.z.world.core.held (key_of ticket.pointer)) (held_at (staged (stage.Writing ticket.next ticket.missed) ticket.pointer)) h (g.is.stands.is_in.held (key_of ticket.pointer) ∙ led) at in
+        ap (λ (i : Held). is_block i.stage) (sym same)
+
+    put_bytes : KeepsBytes rack area (part_in x m) before g.z after
+    put_bytes pieces is has =
+        let columns = column_for (key_of ticket.pointer) ticket.next before.geometry.props.sector block.columns pieces in
+        let does = put_column rack area before after ticket now block valid put.areas_are put.reserve put.puts put.carried (part_in x m) pieces g.z is in
+        done_bytes rack area (part_in x m) pieces columns before after g.z (event.Put (key_of ticket.pointer) put.puts.landed put.puts.failed) is does tt
+        (other_bytes rack area (part_in x m) (key_of ticket.pointer) pieces columns g.z (λ k other. others_same (key_of ticket.pointer) ticket.next before.geometry.props.sector block.columns pieces k other) no_block has)
+
     -- its pieces are those that it had
     pieces_stay : g.now (key_of ticket.pointer) ≡ open_.pieces m (key_of ticket.pointer)
     pieces_stay =
@@ -175,7 +195,7 @@ module _ {R A S : Type 0} (rack : racks.Ghosts R) (area : areas.Ghosts A) (went 
       reached = with_metaslab x m e.reached;
       store = x.store;
       follows = follows rack area went shared owns a b last new m shard before after there drifts valid is goes seen seen table seq floor open_.pieces x open_.but_it
-          (Did (event.Put (key_of ticket.pointer) put.puts.landed put.puts.failed) e.reached.world) e.reached columns_now e.is e.acts (λ same. absurd (cc));
+          (Did (event.Put (key_of ticket.pointer) put.puts.landed put.puts.failed) e.reached.world) e.reached columns_now e.is e.acts (λ same. absurd (cc)) put_bytes;
       done = (
         refl,
         (

@@ -6,7 +6,7 @@ use draid_agent::{Policy, first_free};
 use draid_choose::{Chooser, first_fit};
 use draid_lines::{MemorySink, MemorySource};
 use draid_names::Room;
-use draid_run::{Status, run};
+use draid_run::{NoSections, Status, run};
 use draid_shelf::MemoryShelf;
 use std::alloc::{AllocError, Global};
 use std::thread::Threads;
@@ -21,7 +21,7 @@ pub fn words_of(alloc: Global, line: &str) -> Result<Vec<String>, AllocError> {
 }
 
 /// Runs a script on a shelf, and gives the status; none where there is no memory for the words.
-pub fn run_chosen<R: AllocGlobal + Threads + Sync, F: Fn(&[Room]) -> Option<u32>>(
+pub fn run_chosen<R: AllocGlobal + Threads + Sync, F: Fn(&[Room]) -> Option<u32> + Sync>(
     rt: &R,
     line: &str,
     shelf: &mut MemoryShelf,
@@ -37,7 +37,16 @@ pub fn run_chosen<R: AllocGlobal + Threads + Sync, F: Fn(&[Room]) -> Option<u32>
         { first_free(slot, logged, free) },
     );
     match words_of(rt.alloc(), line) {
-        Ok(words) => Some(run(rt, &words, shelf, source, sink, chooser, &policy)),
+        Ok(words) => Some(run(
+            rt,
+            &NoSections,
+            &words,
+            shelf,
+            source,
+            sink,
+            chooser,
+            &policy,
+        )),
         Err(_) => None,
     }
 }

@@ -7,7 +7,7 @@ use Rattle.sha2.specs.Sha256.{sha256}
 use Rattle.draid_gf.specs.Field.{IsByte}
 use Rattle.draid_names.specs.declared.pass_kind.PassKind.TheVariants.{Heal}
 use Rattle.draid_names.specs.declared.pointer.Pointer.{Pointer}
-use Rattle.draid_rack.specs.Rack.{OnBothTold}
+use Rattle.draid_rack.specs.Rack.{OnBothTold, OnTold}
 use Rattle.draid_rack.specs.declared.Rack as racks
 use Rattle.draid_area.specs.declared.Area as areas
 use Rattle.draid_spec.specs.declared.layout.Geometry.{Geometry}
@@ -26,7 +26,8 @@ use Rattle.draid_machine.specs.State as machine
 use Rattle.draid_machine.specs.Step.{Step}
 use Rattle.draid_machine.proofs.Small.{key_refl, key_true, some_same}
 use Rattle.draid_segments.specs.Acts as segments
-use Rattle.draid_segments.specs.Segments.{Pieces}
+use Rattle.draid_segments.specs.Segments.{Backed, Pieces}
+use Rattle.draid_segments.proofs.Whole.{event_backed}
 use Rattle.draid_entries.specs.History.{limit_in, reserved_of}
 use Rattle.draid_entries.specs.Maps.{held_at, key_of, staged}
 use Rattle.draid_pass.specs.declared.pass.Pass.{Pass}
@@ -43,6 +44,7 @@ use Rattle.draid_shard.specs.declared.loan.KeptLoan.TheVariants.{Block}
 use Rattle.draid_shard.specs.declared.loan.LentBlock.{LentBlock}
 use Rattle.draid_shard.specs.declared.shard.Shard.{Shard}
 use Rattle.draid_shard.proofs.Held.{key_leads}
+use Rattle.draid_shard.proofs.Standing.{has_layout}
 use Rattle.draid_heal.specs.Lands as lands
 use Rattle.draid_heal.specs.Lands.{MovesBehind, WritesRestored}
 use Rattle.draid_shard.specs.Scrubs.{IsBlockHere, IsLentHere, IsRunningScrub}
@@ -58,11 +60,11 @@ use Rattle.draid_pool.proofs.Dids.{none_here}
 use Rattle.draid_pool.proofs.Imaged.{keeps_then}
 use Rattle.draid_pool.specs.Bytes.{HasBytes, KeepsContents, KnowsBlocks, SamePieces}
 use Rattle.draid_visits.specs.Pieces.{GoesTo}
-use Rattle.draid_visits.specs.Steps.{HasContents, MovesOn, NextIs, TellsLanding}
+use Rattle.draid_visits.specs.Steps.{HadContents, MovesOn, NextIs, TellsLanding}
 use Rattle.draid_visits.specs.declared.steps.Next.{Next}
 use Rattle.draid_visits.specs.declared.steps.Next.TheVariants as next
 use Rattle.draid_visits.proofs.Beyond.{beyond, no_block}
-use Rattle.draid_visits.proofs.Landed.{Lands, landed_to}
+use Rattle.draid_visits.proofs.Landed.{Lands, landed_to, told_on}
 use Rattle.draid_visits.proofs.Lifting.{contents_by}
 use Rattle.draid_visits.proofs.Needed.{needed}
 use Rattle.draid_visits.proofs.Over.{told_worn}
@@ -263,6 +265,36 @@ module _ {R A : Type 0} (rack : racks.Ghosts R) (area : areas.Ghosts A) (old len
   one_leaves : Leaves x.world y.world
   one_leaves = rebuild_leaves (layout_in part) x.world y.world (Lend unit.failed) first.step tt
 
+  -- what was lent has the pieces that it had, whichever those are
+  lent_backed : (q : Pieces) → IsMetaslab rack area (part_of old) q old x → Step (layout_by old) x.world (Lend unit.failed) y.world → OnTold (rack.told lent.rack) (Backed (layout_by old) q y.world)
+  lent_backed q had step =
+      let l = layout_by old in
+      told_on (rack.told old.rack) (rack.told lent.rack) (segments.Acts l x.world (Lend unit.failed) y.world step q) (Backed l q x.world) (Backed l q y.world)
+      (λ a b act backed. event_backed l (has_layout (part_of old) had.valid.part) x.world had.stands.reached q a b q backed (Lend unit.failed) y.world step act (λ key none. refl))
+      (unit.acts q x.world y.world step had.stands.reached had.stands.is_in) had.stands.segments
+
+  again : (q : Pieces) → IsMetaslab rack area part q old x → IsMetaslab rack area part q solved y
+  again q had =
+      let backed = subst (λ (p : Part). IsMetaslab rack area p q old x → Step (layout_in p) x.world (Lend unit.failed) y.world → OnTold (rack.told lent.rack) (Backed (layout_in p) q y.world)) had.part_is (lent_backed q) had first.step in
+      record {
+        valid = mid.valid;
+        part_is = mid.part_is;
+        stands = record {
+          is_in = mid.stands.is_in;
+          reached = mid.stands.reached;
+          segments = subst (λ (p : Part). OnTold (rack.told solved.rack) (Backed (layout_in p) q y.world)) (sym mid.part_is)
+              (subst (λ (s : Shard R A). OnTold (rack.told s.rack) (Backed (layout_in part) q y.world)) (sym only) backed);
+        };
+        run = mid.run;
+        events = mid.events;
+        limit = mid.limit;
+        reserved = mid.reserved;
+        counts = mid.counts;
+        harm = mid.harm;
+        records = mid.records;
+        bytes = subst (λ t. KnowsBlocks part.geometry q t) (sym one_leaves.held) had.bytes;
+      }
+
   -- memory was wanting for its bytes
   pub stays_out : Goes rack area part pieces x solved (λ holds v. NextIs part Heal false next.NoMemory holds × SameBlocks x v)
   stays_out = record {
@@ -319,13 +351,16 @@ module _ {R A : Type 0} (rack : racks.Ghosts R) (area : areas.Ghosts A) (old len
     loan_there : y.world.loan ≡ Some (block_loan landed.lent)
     loan_there = mid.stands.is_in.loan ∙ ap (option_map loan_in) landed.lent_is
 
-    abbrev written : Pieces
-    written = written_of part.geometry.props.sector (key_of landed.lent.pointer) landed.lent.restored pieces
+    abbrev written_by : Pieces → Pieces
+    written_by q = written_of part.geometry.props.sector (key_of landed.lent.pointer) landed.lent.restored q
 
-    restored_there : WritesRestored solved landed.lent written
-    restored_there =
-        subst (λ (g : Geometry). IfSome landed.lent.restored (λ (block : BlockValue). ArePieces g.props.sector g.g landed.lent.pointer.stripes block.columns (key_of landed.lent.pointer) written)) (sym solved_geometry)
-        (writes_rows part.geometry.props.sector part.geometry.g landed.lent.pointer.stripes (key_of landed.lent.pointer) landed.lent.restored pieces)
+    abbrev written : Pieces
+    written = written_by pieces
+
+    restored_there : (q : Pieces) → WritesRestored solved landed.lent (written_by q)
+    restored_there q =
+        subst (λ (g : Geometry). IfSome landed.lent.restored (λ (block : BlockValue). ArePieces g.props.sector g.g landed.lent.pointer.stripes block.columns (key_of landed.lent.pointer) (written_by q))) (sym solved_geometry)
+        (writes_rows part.geometry.props.sector part.geometry.g landed.lent.pointer.stripes (key_of landed.lent.pointer) landed.lent.restored q)
 
     others : (after : machine.State) (step : Step (layout_by solved) y.world e after) → segments.WritesPieces (layout_by solved) y.world e after step pieces written
     others after step key other =
@@ -371,7 +406,7 @@ module _ {R A : Type 0} (rack : racks.Ghosts R) (area : areas.Ghosts A) (old len
     second =
         landed_to rack area part pieces written solved new e y mid new_valid landed.does new_reserve (raised rack area landed.failed.items solved new new_areas landed.counts) refl
         (λ v step. (block_leaves (layout_by solved) y.world v landed.pass.number landed.lent.serial landed.failed landed.patched (is_none landed.lent.restored) step).images)
-        (λ after step. landed.acts written y.world after step mid.stands.reached mid.stands.is_in restored_there) others known
+        (λ after step. landed.acts written y.world after step mid.stands.reached mid.stands.is_in (restored_there pieces)) others known
 
     two_leaves : Leaves y.world second.done.reached.world
     two_leaves = block_leaves (layout_in part) y.world second.done.reached.world landed.pass.number landed.lent.serial landed.failed landed.patched (is_none landed.lent.restored) second.done.step
@@ -398,14 +433,14 @@ module _ {R A : Type 0} (rack : racks.Ghosts R) (area : areas.Ghosts A) (old len
         least_is a b n g least own low few = omega (arith, least, own, low, few)
 
     -- an unreadable block was beyond repair as it was lent, where the blocks have contents
-    why : HasContents part pieces x → passes.LendsBeyond part.geometry part.perms (view_of part.number x) unit.failed y.world e
-    why contents_are = by (is_none landed.lent.restored) refl
+    why : HadContents rack area part old x → passes.LendsBeyond part.geometry part.perms (view_of part.number x) unit.failed y.world e
+    why had = by (is_none landed.lent.restored) refl
       where
         by : (b : Bool) → is_none landed.lent.restored ≡ b
             → passes.LendsBeyond part.geometry part.perms (view_of part.number x) unit.failed y.world (LandBlock landed.pass.number landed.lent.serial landed.failed landed.patched b)
         by false there = tt
         by true gone =
-            beyond rack area old lent unit lent_valid solved.kept r (no_block r.block (sym (ap (λ (l : LentBlock). is_none l.restored) same_lent) ∙ gone)) part pieces x is contents_are y.world first.is.stands.is_in.loan
+            beyond rack area old lent unit lent_valid solved.kept r (no_block r.block (sym (ap (λ (l : LentBlock). is_none l.restored) same_lent) ∙ gone)) part had.0 x had.1 had.2 y.world first.is.stands.is_in.loan
 
     -- of one that was restored no more columns were taken from no arm than there are parity columns
     few_sources : passes.LendsSourced part.geometry part.perms (view_of part.number x) y.world e
@@ -421,31 +456,31 @@ module _ {R A : Type 0} (rack : racks.Ghosts R) (area : areas.Ghosts A) (old len
             (sourced rack old lent unit lent_valid solved.kept r block (sym (ap (λ (l : LentBlock). l.restored) same_lent) ∙ there)))
 
     -- what the landing did, where the block was restored or not
-    record LandsAs (o : Option BlockValue) : Type 0 where
+    record LandsAs (q : Pieces) (o : Option BlockValue) : Type 0 where
       pub after : machine.State
       pub step : Step (layout_in part) y.world (LandBlock landed.pass.number landed.lent.serial landed.failed landed.patched (is_none o)) after
-      pub acts : OnBothTold (rack.told solved.rack) (rack.told new.rack) (segments.Acts (layout_in part) y.world (LandBlock landed.pass.number landed.lent.serial landed.failed landed.patched (is_none o)) after step written)
-      pub rows : IfSome o (λ (block : BlockValue). ArePieces part.geometry.props.sector part.geometry.g landed.lent.pointer.stripes block.columns (key_of landed.lent.pointer) written)
+      pub acts : OnBothTold (rack.told solved.rack) (rack.told new.rack) (segments.Acts (layout_in part) y.world (LandBlock landed.pass.number landed.lent.serial landed.failed landed.patched (is_none o)) after step (written_by q))
+      pub rows : IfSome o (λ (block : BlockValue). ArePieces part.geometry.props.sector part.geometry.g landed.lent.pointer.stripes block.columns (key_of landed.lent.pointer) (written_by q))
 
-    lands_as : LandsAs landed.lent.restored
-    lands_as = record {
+    lands_as : (q : Pieces) → LandsAs q landed.lent.restored
+    lands_as q = record {
       after = second.after;
       step = second.step;
-      acts = subst (λ (p : Part). (after : machine.State) (step : Step (layout_in p) y.world e after) → OnBothTold (rack.told solved.rack) (rack.told new.rack) (segments.Acts (layout_in p) y.world e after step written)) mid.part_is
-          (λ after step. landed.acts written y.world after step mid.stands.reached mid.stands.is_in restored_there) second.after second.step;
-      rows = writes_rows part.geometry.props.sector part.geometry.g landed.lent.pointer.stripes (key_of landed.lent.pointer) landed.lent.restored pieces;
+      acts = subst (λ (p : Part). (after : machine.State) (step : Step (layout_in p) y.world e after) → OnBothTold (rack.told solved.rack) (rack.told new.rack) (segments.Acts (layout_in p) y.world e after step (written_by q))) mid.part_is
+          (λ after step. landed.acts (written_by q) y.world after step mid.stands.reached mid.stands.is_in (restored_there q)) second.after second.step;
+      rows = writes_rows part.geometry.props.sector part.geometry.g landed.lent.pointer.stripes (key_of landed.lent.pointer) landed.lent.restored q;
     }
 
     -- what it wrote on clean arms was harmed or in doubt, or a column was taken wrong
-    was_needed : HasContents part pieces x → passes.LandsNeeded part.geometry part.perms (view_of part.number y) e
-    was_needed contents_are = by landed.lent.restored refl
+    was_needed : HadContents rack area part old x → passes.LandsNeeded part.geometry part.perms (view_of part.number y) e
+    was_needed had = by landed.lent.restored refl
       where
         by : (o : Option BlockValue) → landed.lent.restored ≡ o → passes.LandsNeeded part.geometry part.perms (view_of part.number y) (LandBlock landed.pass.number landed.lent.serial landed.failed landed.patched (is_none o))
         by None gone = tt
         by (Some block) there =
-            let did = subst LandsAs there lands_as in
-            needed rack area old lent solved new unit lent_valid only r block (sym (ap (λ (l : LentBlock). l.restored) same_lent) ∙ there) pieces written x y part is mid first.step contents_are
-            (subst (λ (p : Pointer). ArePieces part.geometry.props.sector part.geometry.g p.stripes block.columns (key_of p) written) (ap (λ (l : LentBlock). l.pointer) same_lent) did.rows)
+            let did = subst (LandsAs had.0) there (lands_as had.0) in
+            needed rack area old lent solved new unit lent_valid only r block (sym (ap (λ (l : LentBlock). l.restored) same_lent) ∙ there) had.0 (written_by had.0) x y part had.1 (again had.0 had.1) first.step had.2
+            (subst (λ (p : Pointer). ArePieces part.geometry.props.sector part.geometry.g p.stripes block.columns (key_of p) (written_by had.0)) (ap (λ (l : LentBlock). l.pointer) same_lent) did.rows)
             landed.pass.number landed.lent.serial landed.failed landed.patched did.after did.step did.acts
 
     both_follow : FollowsIn (layout_in part) part.number (On (view_of part.number x) (Did (Lend unit.failed) y.world) ∷ (On (view_of part.number y) (Did e second.done.reached.world) ∷ [])) x second.done.reached
@@ -469,14 +504,14 @@ module _ {R A : Type 0} (rack : racks.Ghosts R) (area : areas.Ghosts A) (old len
       is = second.done.is;
     }
 
-    pub block_goes : HasContents part pieces x → GoesTo rack area part pieces x new (λ holds v. NextIs part Heal false (next.Landed repaired) holds × SameBlocks x v)
-    block_goes contents_are = record {
+    pub block_goes : GoesTo rack area part pieces x new (λ holds v. (HadContents rack area part old x → NextIs part Heal false (next.Landed repaired) holds) × SameBlocks x v)
+    block_goes = record {
       holds = On (view_of part.number x) (Did (Lend unit.failed) y.world) ∷ (On (view_of part.number y) (Did e second.done.reached.world) ∷ []);
       reached = second.done.reached;
       follows = both_follow;
       images = keeps_then x.world y.world second.done.reached.world one_leaves.images two_leaves.images;
       done = (
-        (
+        λ had. (
           refl,
           record {
             v = view_of part.number x;
@@ -489,9 +524,9 @@ module _ {R A : Type 0} (rack : racks.Ghosts R) (area : areas.Ghosts A) (old len
             there = (refl, refl);
             not_worn = λ worn. not_worn (told_worn rack area part pieces old x is worn);
             lands = (block_loan landed.lent, own, loan_there, held_there, all_told);
-            why = why contents_are;
+            why = why had;
             sourced = few_sources;
-            needed = was_needed contents_are;
+            needed = was_needed had;
           },
         ),
         record { held = two_leaves.held ∙ one_leaves.held; committed = two_leaves.committed ∙ one_leaves.committed },

@@ -31,7 +31,7 @@ use Rattle.draid_pool.proofs.Imaged.{records_kept}
 use Rattle.draid_visits.proofs.PassSteps.{IsOfRebuild, no_uses, none_ends, rebuild_leaves, rises, same_pieces}
 
 -- what is told stays told
-told_on : (o p : Option Told) (P : Told → Told → Type 0) (A B : Told → Type 0) → ((x y : Told) → P x y → A x → B y) → OnBothTold o p P → OnTold o A → OnTold p B
+pub told_on : (o p : Option Told) (P : Told → Told → Type 0) (A B : Told → Type 0) → ((x y : Told) → P x y → A x → B y) → OnBothTold o p P → OnTold o A → OnTold p B
 told_on None p P A B f h a = rw h tt
 told_on (Some x) None P A B f h a = absurd h
 told_on (Some x) (Some y) P A B f h a = f x y h a

@@ -57,6 +57,47 @@ module _ {R A : Type 0} (rack : racks.Ghosts R) (area : areas.Ghosts A) where
     is = goes.is;
   }
 
+  -- what is said under a premise
+  pub goes_under : (part : Part) (pieces : Pieces) (x : Metaslab) (new : Shard R A) (P : Type 0) (S : List Hold → Type 0) → GoesTo rack area part pieces x new (λ holds y. S holds × SameBlocks x y)
+      → GoesTo rack area part pieces x new (λ holds y. (P → S holds) × SameBlocks x y)
+  goes_under part pieces x new P S goes = record {
+    holds = goes.holds;
+    reached = goes.reached;
+    follows = goes.follows;
+    images = goes.images;
+    done = (λ had. goes.done.0, goes.done.1);
+    later = goes.later;
+    contents = goes.contents;
+    is = goes.is;
+  }
+
+  -- is said where the premise is so, and under one that it follows from
+  pub goes_by : (part : Part) (pieces : Pieces) (x : Metaslab) (new : Shard R A) (P Q : Type 0) (S : List Hold → Type 0) → (Q → P) → GoesTo rack area part pieces x new (λ holds y. (P → S holds) × SameBlocks x y)
+      → GoesTo rack area part pieces x new (λ holds y. (Q → S holds) × SameBlocks x y)
+  goes_by part pieces x new P Q S from goes = record {
+    holds = goes.holds;
+    reached = goes.reached;
+    follows = goes.follows;
+    images = goes.images;
+    done = (λ had. goes.done.0 (from had), goes.done.1);
+    later = goes.later;
+    contents = goes.contents;
+    is = goes.is;
+  }
+
+  pub goes_said : (part : Part) (pieces : Pieces) (x : Metaslab) (new : Shard R A) (P : Type 0) (S : List Hold → Type 0) → P → GoesTo rack area part pieces x new (λ holds y. (P → S holds) × SameBlocks x y)
+      → GoesTo rack area part pieces x new (λ holds y. S holds × SameBlocks x y)
+  goes_said part pieces x new P S has goes = record {
+    holds = goes.holds;
+    reached = goes.reached;
+    follows = goes.follows;
+    images = goes.images;
+    done = (goes.done.0 has, goes.done.1);
+    later = goes.later;
+    contents = goes.contents;
+    is = goes.is;
+  }
+
   module _ (m : ℕ) (pool new : Pool R A) (shard shard' : Shard R A) (x : State) (y : Metaslab) (r : Represents rack area pool x) (set : SetsShard rack area m pool new shard shard')
       (at : slice_get x.metaslabs m ≡ Some y) (later : Pieces) (contents : SameContents (part_in x m) y (r.stands.pieces m) later) where
     points_on : (y' : Metaslab) (p : Option Pointer) (w : Option Write) → Turned rack area m pool new shard shard' x y y' later → y'.world.core.held ≡ y.world.core.held

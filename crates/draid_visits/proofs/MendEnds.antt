@@ -1,5 +1,5 @@
 -- A rebuild or a scrub whose syncs always have an answer has one.
-use Rattle.std.proofs.Common.{◌≡◌, ℕ, Bool, List, Option, Some, None, Ok, Err, refl}
+use Rattle.std.proofs.Common.{ℕ, Bool, Option, Some, None, Ok, Err}
 use Rattle.std.specs.Prelude.{Result}
 use Rattle.draid_names.specs.declared.pass_kind.PassKind.{PassKind}
 use Rattle.draid_names.specs.declared.pass_kind.PassKind.TheVariants.{Heal, Rebuild}
@@ -10,7 +10,7 @@ use Rattle.draid_spec.specs.declared.layout.Geometry.{Geometry}
 use Rattle.draid_uber.specs.declared.uber.Uber.{Uber}
 use Rattle.draid_pool.specs.declared.fault.SyncFault.{SyncFault}
 use Rattle.draid_pool.specs.declared.fault.Synced.{Synced}
-use Rattle.draid_visits.specs.Visits.{AnswersBy, LendsBehind, MendsBy, RunsBy, VisitBy, VisitsBehind, VisitsBy}
+use Rattle.draid_visits.specs.Visits.{AnswersBy, LendsBehind, MendsBy, RunsBy, VisitsBehind, VisitsBy}
 use Rattle.draid_visits.specs.declared.mending.Mending.{Mending}
 use Rattle.draid_visits.specs.declared.progress.Progress.{Progress}
 use Rattle.draid_visits.specs.declared.progress.Visit.{Visit}

@@ -1,5 +1,5 @@
 -- What is so behind the holds of a rebuild or a scrub: whatever each of them keeps and each sync, and that follows one behind another.
-use Rattle.std.proofs.Common.{◌≡◌, ◌⊎◌, ◌+◌, inl, inr, ℕ, zero, suc, Bool, true, false, List, Option, Some, None, Ok, Err, refl, sym, ap, subst, slice_index_or}
+use Rattle.std.proofs.Common.{◌≡◌, ◌+◌, ℕ, zero, suc, Bool, true, false, List, Option, Some, None, Ok, Err, refl, sym, subst, slice_index_or}
 use Rattle.std.specs.Prelude.{Result}
 use Rattle.draid_names.specs.declared.pass_kind.PassKind.{PassKind}
 use Rattle.draid_names.specs.declared.pass_kind.PassKind.TheVariants.{Heal, Rebuild}
@@ -14,7 +14,7 @@ use Rattle.draid_shard.specs.declared.shard.Shard.{Shard}
 use Rattle.draid_spec.specs.declared.layout.Geometry.{Geometry}
 use Rattle.draid_uber.specs.declared.uber.Uber.{Uber}
 use Rattle.draid_pool.specs.Drifts.{KeepsGroups, StateStep}
-use Rattle.draid_pool.specs.Rounds.{HeldEach, HeldOnce, StoppedBy}
+use Rattle.draid_pool.specs.Rounds.{HeldEach, HeldOnce}
 use Rattle.draid_pool.specs.declared.fault.SyncFault.{SyncFault}
 use Rattle.draid_pool.specs.declared.fault.Synced.{Synced}
 use Rattle.draid_pool.proofs.Drifting.{same_groups}
@@ -51,13 +51,13 @@ module _ {R A : Type 0} (rack : racks.Ghosts R) (area : areas.Ghosts A) where
   leaves_still : (x y : Shard R A) → Valid rack x → y ≡ x → Leaves rack area x y
   leaves_still x y valid same = subst (Leaves rack area x) (sym same) (record { valid = valid; part = refl; held = λ key. refl; groups = same_groups x x refl; state = λ of. state_self rack area of x })
 
-  leaves_starts : (kind : PassKind) (came : Result ℕ PlanFault) (x y : Shard R A) → StartsIn rack area kind x came y → Leaves rack area x y
+  pub leaves_starts : (kind : PassKind) (came : Result ℕ PlanFault) (x y : Shard R A) → StartsIn rack area kind x came y → Leaves rack area x y
   leaves_starts kind came x y s = record { valid = s.valid; part = s.part; held = s.blocks.entries.held; groups = s.groups; state = λ of. state_goes rack area of x y _ s.goes }
 
-  leaves_readies : (runs : Bool) (x y : Shard R A) → ReadiesIn rack area runs x y → Leaves rack area x y
+  pub leaves_readies : (runs : Bool) (x y : Shard R A) → ReadiesIn rack area runs x y → Leaves rack area x y
   leaves_readies runs x y r = record { valid = r.valid; part = r.part; held = r.blocks.entries.held; groups = r.groups; state = λ of. state_goes rack area of x y _ r.goes }
 
-  leaves_unit : (kind : PassKind) (used : Bool) (came : Next) (x y : Shard R A) → UnitIn rack area kind used came x y → Leaves rack area x y
+  pub leaves_unit : (kind : PassKind) (used : Bool) (came : Next) (x y : Shard R A) → UnitIn rack area kind used came x y → Leaves rack area x y
   leaves_unit kind used came x y u = record { valid = u.valid; part = u.table.part; held = u.table.entries.held; groups = u.groups; state = λ of. state_goes_later rack area of x y u.moves }
 
 -- ---- all of them

@@ -266,6 +266,6 @@ module _ {R A : Type 0} (rack : racks.Ghosts R) (area : areas.Ghosts A) (part : 
     starved kind left = looked rack area part pieces new x (λ holds y. NextIs part kind false next.NoMemory holds × SameBlocks x y) here ((refl, inl (keeps_back (λ v. ⊤) left tt)), same_world x)
 
 -- as it is known whether the limit is used up
-pub used_so : {R A : Type 0} (rack : racks.Ghosts R) (area : areas.Ghosts A) (part : Part) (pieces : Pieces) (x : Metaslab) (new : Shard R A) (kind : PassKind) (used known : Bool) (what : Next) → used ≡ known
-    → GoesTo rack area part pieces x new (λ holds y. NextIs part kind known what holds × SameBlocks x y) → GoesTo rack area part pieces x new (λ holds y. NextIs part kind used what holds × SameBlocks x y)
-used_so rack area part pieces x new kind used known what is goes = subst (λ b. GoesTo rack area part pieces x new (λ holds y. NextIs part kind b what holds × SameBlocks x y)) (sym is) goes
+pub used_so : {R A : Type 0} (rack : racks.Ghosts R) (area : areas.Ghosts A) (part : Part) (pieces : Pieces) (x : Metaslab) (new : Shard R A) (P : Type 0) (kind : PassKind) (used known : Bool) (what : Next) → used ≡ known
+    → GoesTo rack area part pieces x new (λ holds y. (P → NextIs part kind known what holds) × SameBlocks x y) → GoesTo rack area part pieces x new (λ holds y. (P → NextIs part kind used what holds) × SameBlocks x y)
+used_so rack area part pieces x new P kind used known what is goes = subst (λ b. GoesTo rack area part pieces x new (λ holds y. (P → NextIs part kind b what holds) × SameBlocks x y)) (sym is) goes

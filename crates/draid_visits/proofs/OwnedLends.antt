@@ -4,6 +4,7 @@ use Rattle.std.specs.Prelude.{◌↔◌, IsTrue}
 use Rattle.std.proofs.lemmas.Bool.{true≢false}
 use Rattle.std.proofs.lemmas.List.{length-set}
 use Rattle.draid_names.specs.declared.pass_kind.PassKind.{PassKind}
+use Rattle.draid_names.specs.declared.pass_kind.PassKind.TheVariants.{Heal}
 use Rattle.draid_rack.specs.declared.Rack as racks
 use Rattle.draid_area.specs.declared.Area as areas
 use Rattle.draid_pass.specs.declared.pass.Pass.{Pass}
@@ -21,7 +22,7 @@ use Rattle.draid_pool.proofs.GroupClosed.{left_by, once_sets, went_by, with_owne
 use Rattle.draid_pool.proofs.Lifted.{SetsShard}
 use Rattle.draid_pool.proofs.OwnedKnows.{all}
 use Rattle.draid_pool.proofs.Rises.{areas_on, areas_set, areas_still, records_same}
-use Rattle.draid_visits.specs.Steps.{IsRunningOf, NextIs}
+use Rattle.draid_visits.specs.Steps.{HadContents, IsRunningOf, NextIs}
 use Rattle.draid_visits.specs.Units.{LastIs, LendsBy, Lent, UnitIn}
 use Rattle.draid_visits.specs.Visiting.{KeepsOthers, LeavesAt, LendIs, counted}
 use Rattle.draid_visits.specs.declared.progress.Progress.{Progress}
@@ -31,6 +32,7 @@ use Rattle.draid_visits.specs.declared.steps.Next.{Next}
 use Rattle.draid_visits.specs.declared.steps.Next.TheVariants as next
 use Rattle.draid_visits.proofs.Kept.{at_set, idle_set, others_on, others_same, others_set, runs_kept}
 use Rattle.draid_visits.proofs.Leading.{Does, Steps, leads_none, steps_to}
+use Rattle.draid_visits.proofs.Lifting.{goes_said}
 use Rattle.draid_visits.proofs.Lending.{Lending, NextSays, SomeLends, lends_end, lends_more, lends_paused, lends_starved, lends_worn}
 use Rattle.draid_visits.proofs.SharedWhole.{whole_shared}
 
@@ -77,7 +79,8 @@ module _ {R A : Type 0} (rack : racks.Ghosts R) (area : areas.Ghosts A) (kind : 
     held_many = ap length set.sets ∙ (length-set mid.shards.items m h.after ∙ i.many)
 
     held_step : Steps rack area (with_owned pool mid) (with_owned pool b) (NextSays rack area kind m old used came)
-    held_step = steps_to rack area m (with_owned pool mid) (with_owned pool b) h.before h.after (λ part holds. NextIs part kind used came holds) set (λ part pieces y own has. h.did.goes part pieces y own (λ heal. has))
+    held_step = steps_to rack area m (with_owned pool mid) (with_owned pool b) h.before h.after (λ part holds. NextIs part kind used came holds) set (λ part pieces y own has.
+        goes_said rack area part pieces y h.after (kind ≡ Heal → HadContents rack area part h.before y) (NextIs part kind used came) (λ heal. (pieces, own, has)) (h.did.goes part pieces y own))
 
   -- one more
   lent_more : (repaired : ℕ) (mid b : Owned R A) (at : Progress) → LentAt (with_owned pool mid) at → (at.left ≡ Some 0 → ⊥) → HeldOnce rack area left_by went_by false all (UnitIn rack area kind false (next.Landed repaired)) mid m b

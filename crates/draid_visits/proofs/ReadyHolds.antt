@@ -1,6 +1,6 @@
 -- A rebuild that is made to run in a hold keeps to what every hold keeps to, and a thread that has the passes and the groups makes it run.
 use Rattle.std.proofs.Common.{◌≡◌, ◌==◌, ◌<◌, ◌≤◌, ◌+◌, ◌∙◌, arith, inl, inr, ℕ, Bool, true, false, Option, Some, Ok, ap, refl, subst, sym, if◌then◌else◌}
-use Rattle.std.specs.Prelude.{IsSomeAnd, Result}
+use Rattle.std.specs.Prelude.{IsSomeAnd}
 use Rattle.draid_names.specs.declared.pass_kind.PassKind.TheVariants.{Rebuild}
 use Rattle.draid_rack.specs.declared.Rack as racks
 use Rattle.draid_area.specs.declared.Area as areas
@@ -13,7 +13,6 @@ use Rattle.draid_pool.specs.Drifts.{Drifts, KeepsTo, groups_number, is_other, pa
 use Rattle.draid_pool.specs.Grouping.{ClosesNext, FinishesIn, SyncsIn}
 use Rattle.draid_pool.specs.Rounds.{EachIs, HeldOnce, NoneBeyond}
 use Rattle.draid_pool.specs.Threads.{KeepsWhole, all_of}
-use Rattle.draid_pool.specs.declared.fault.SyncFault.{SyncFault}
 use Rattle.draid_pool.specs.declared.fault.Synced.{Synced}
 use Rattle.draid_pool.proofs.Drifting.{same_pass}
 use Rattle.draid_pool.proofs.Holding.{some_same}

@@ -1,10 +1,9 @@
 -- A scrub waits for nobody. It has something to do wherever there is a metaslab, and needs no group, so that no area of records can fail it.
-use Rattle.std.proofs.Common.{◌≡◌, ◌<◌, ◌≤◌, ◌+◌, ◌∙◌, inl, inr, ℕ, zero, suc, Bool, true, false, List, Option, Some, None, Ok, Err, arith, refl, sym, ap, subst, slice_index_or}
+use Rattle.std.proofs.Common.{◌≡◌, ◌<◌, ◌+◌, ◌∙◌, ℕ, zero, suc, Bool, true, false, List, Option, Some, None, Ok, Err, arith, refl, sym, ap, subst, slice_index_or}
 use mathlib.Core.Logic.{dite}
 use native.Mathlib.Decide.{ℕ_discrete}
-use Rattle.std.specs.Prelude.{◌↔◌, IfErr, IsSome, Result}
-use Rattle.draid_names.specs.declared.pass_kind.PassKind.{PassKind}
-use Rattle.draid_names.specs.declared.pass_kind.PassKind.TheVariants.{Heal, Rebuild}
+use Rattle.std.specs.Prelude.{IfErr, IsSome, Result}
+use Rattle.draid_names.specs.declared.pass_kind.PassKind.TheVariants.{Heal}
 use Rattle.draid_rack.specs.declared.Rack as racks
 use Rattle.draid_area.specs.declared.Area as areas
 use Rattle.draid_passing.specs.Passing.{IsPlanRefused}
@@ -19,10 +18,10 @@ use Rattle.draid_pool.specs.declared.fault.SyncFault.{SyncFault}
 use Rattle.draid_pool.specs.declared.fault.SyncFault.TheVariants as sync
 use Rattle.draid_pool.specs.declared.fault.Synced.{Synced}
 use Rattle.draid_visits.specs.Looks.{FindsPass}
-use Rattle.draid_visits.specs.Rebuilding.{IsAnswer, stopped_by}
+use Rattle.draid_visits.specs.Rebuilding.{IsAnswer}
 use Rattle.draid_visits.specs.Starts.{IsBegun, StartsIn}
 use Rattle.draid_visits.specs.Units.{LastIs, LendsBy, Lent}
-use Rattle.draid_visits.specs.Visits.{AnswersBy, BeginsScrub, FirstIs, LendsBehind, MendsBy, RunsBy, VisitBy, VisitedAt, VisitedUpto, VisitsBehind, VisitsBy}
+use Rattle.draid_visits.specs.Visits.{AnswersBy, BeginsScrub, FirstIs, LendsBehind, MendsBy, VisitBy, VisitedAt, VisitedUpto, VisitsBehind, VisitsBy}
 use Rattle.draid_visits.specs.declared.mending.Mending.{Mending}
 use Rattle.draid_visits.specs.declared.progress.Progress.{Progress}
 use Rattle.draid_visits.specs.declared.progress.Visit.{Visit}

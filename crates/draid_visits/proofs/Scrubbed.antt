@@ -52,7 +52,7 @@ no_rebuild is = absurd (cc)
 abbrev pub MarksFrom : List Bool → ℕ → Type 0
 MarksFrom marks first = (k : ℕ) → k < 64 → (slice_index_or marks k false ≡ true) ↔ (first ≤ k)
 
-visits_from : (g : Geometry) (p : Perms) (marks : List Bool) (k m : ℕ) (ys : List Metaslab) (left : Option ℕ) (t : passes.Tally) (holds : List Hold) (o : passes.Outcome) (new : passes.Tally)
+pub visits_from : (g : Geometry) (p : Perms) (marks : List Bool) (k m : ℕ) (ys : List Metaslab) (left : Option ℕ) (t : passes.Tally) (holds : List Hold) (o : passes.Outcome) (new : passes.Tally)
     → ((j : ℕ) → j < length ys → (slice_index_or marks (m + j) false ≡ true) ↔ (k ≤ j)) → passes.VisitsAll g p Heal (IsMarked marks) (seen_at m ys) left t holds o new
     → passes.VisitsAll g p Heal (passes.AnyView g p) (drop k (seen_at m ys)) left t holds o new
 unfolding seen_at
@@ -69,7 +69,7 @@ visits_from g p marks (suc k) m (y ∷ ys) left t holds o new are (inr (mark, w)
     absurd (let same : m ≡ m + 0 = omega arith in let low = (are 0 (omega arith)).0 (subst (λ n. slice_index_or marks n false ≡ true) same mark) in omega (arith, low))
 
 -- none of the first so many has a scrub
-none_taken : (P : View → Type 0) (k m : ℕ) (ys : List Metaslab) → ((j : ℕ) (y : Metaslab) → j < k → slice_get ys j ≡ Some y → P (view_of (m + j) y) → ⊥) → NoneOf P (take k (seen_at m ys))
+pub none_taken : (P : View → Type 0) (k m : ℕ) (ys : List Metaslab) → ((j : ℕ) (y : Metaslab) → j < k → slice_get ys j ≡ Some y → P (view_of (m + j) y) → ⊥) → NoneOf P (take k (seen_at m ys))
 unfolding seen_at
 none_taken P zero m ys none = tt
 none_taken P (suc k) m [] none = tt

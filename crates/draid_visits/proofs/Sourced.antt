@@ -1,5 +1,5 @@
 -- Of a block of a scrub that was restored no more columns were taken from no arm than there are parity columns.
-use Rattle.std.proofs.Common.{arith, ◌≡◌, ◌==◌, ◌+◌, ◌<◌, ◌≤◌, ◌++◌, ◌∷◌, ◌∙◌, [], ℕ, zero, suc, Bool, true, false, List, Option, None, Some, refl, sym, ap, subst, length, if◌then◌else◌}
+use Rattle.std.proofs.Common.{arith, ◌≡◌, ◌==◌, ◌+◌, ◌<◌, ◌≤◌, ◌∷◌, ◌∙◌, [], ℕ, zero, suc, Bool, true, false, List, Option, None, Some, refl, sym, ap, subst, length, if◌then◌else◌}
 use Rattle.std.specs.Prelude.{◌↔◌, Contains, IfSome, is_none, slice_get, slice_index_or}
 use Rattle.std.proofs.lemmas.List.Elements.{Contains-append_right}
 use Rattle.std.proofs.lemmas.Option.{get_or_from_slice_get}
@@ -10,12 +10,10 @@ use Rattle.draid_block.specs.Solving.{IsRestoredOf, absent_columns, sets_of}
 use Rattle.draid_block.proofs.Held.{absent_contains}
 use Rattle.draid_block.proofs.Order.{order_only}
 use Rattle.draid_machine.specs.Names.{count_below, has_number}
-use Rattle.draid_machine.specs.declared.names.ArmName.{ArmName}
 use Rattle.draid_machine.proofs.Small.{absurd_test, equal, true_left, true_right}
 use Rattle.draid_shard.specs.Fits.{Valid}
 use Rattle.draid_shard.specs.Loans.{IsKept, IsLentBlock}
 use Rattle.draid_shard.specs.Part.{Part}
-use Rattle.draid_shard.specs.States.{part_of}
 use Rattle.draid_shard.specs.declared.loan.KeptLoan.{KeptLoan}
 use Rattle.draid_shard.specs.declared.loan.LentBlock.{LentBlock}
 use Rattle.draid_shard.specs.declared.shard.Shard.{Shard}

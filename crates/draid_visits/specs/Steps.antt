@@ -5,6 +5,7 @@ use Rattle.std.specs.declared.vec.Vec.{Vec}
 use Rattle.draid_names.specs.declared.pass_kind.PassKind.{PassKind}
 use Rattle.draid_names.specs.declared.pass_kind.PassKind.TheVariants.{Rebuild}
 use Rattle.draid_rack.specs.declared.Rack as racks
+use Rattle.draid_area.specs.declared.Area as areas
 use Rattle.draid_spec.specs.Geometry.{metaslab_stripes}
 use Rattle.draid_block.specs.Blocks.{BlockValue}
 use Rattle.draid_machine.specs.Names.{is_block}
@@ -30,6 +31,7 @@ use Rattle.draid_session.specs.Passes as passes
 use Rattle.draid_session.specs.Phases.{Went, WasWorn, WasLast, Starved}
 use Rattle.draid_session.specs.State.{Metaslab}
 use Rattle.draid_pool.specs.Bytes.{HasBytes}
+use Rattle.draid_pool.specs.Metaslabs.{IsMetaslab}
 use Rattle.draid_visits.specs.declared.steps.Next.{Next}
 use Rattle.draid_visits.specs.declared.steps.Next.TheVariants as next
 
@@ -107,3 +109,7 @@ NextIs part kind used next.NoMemory holds =
 -- the pieces of each block are those of bytes that have its length and digest; nothing is said of tickets
 abbrev pub HasContents : Part → Pieces → Metaslab → Type 0
 HasContents part pieces x = (k : Key) (h : Held) → x.world.core.held k ≡ Some h → is_block h.stage ≡ true → HasBytes part.geometry h k pieces
+
+-- so it is of some pieces with which the shard stands for the metaslab
+abbrev pub HadContents : {R A : Type 0} → racks.Ghosts R → areas.Ghosts A → Part → Shard R A → Metaslab → Type 0
+HadContents rack area part shard x = (pieces : Pieces) × IsMetaslab rack area part pieces shard x × HasContents part pieces x

@@ -17,7 +17,7 @@ use Rattle.draid_pool.specs.Rounds.{HeldOnce}
 use Rattle.draid_pool.specs.Shards.{GoesLater, SameBlocks}
 use Rattle.draid_pool.specs.declared.fault.SyncFault.TheVariants as sync
 use Rattle.draid_visits.specs.Pieces.{GoesTo}
-use Rattle.draid_visits.specs.Steps.{HasContents, IsRunningOf, IsToLend, MovesOn, NextIs, SharesTable, TellsLanding}
+use Rattle.draid_visits.specs.Steps.{HadContents, IsRunningOf, IsToLend, MovesOn, NextIs, SharesTable, TellsLanding}
 use Rattle.draid_visits.specs.Visiting.{IsOnly, counted}
 use Rattle.draid_visits.specs.declared.progress.Progress.{Progress}
 use Rattle.draid_visits.specs.declared.progress.Visit.{Visit}
@@ -34,7 +34,7 @@ pub record MayLendIn {R A : Type 0} (rack : racks.Ghosts R) (kind : PassKind) (s
 
 -- The next stripe or block was lent and landed, or the pass ended, or something is left. All blocks, tickets, groups and reserved events are as they were, and so are the
 -- arms, but for whether the pass has made them good. Of a block it is told that it is unreadable exactly where what was read of it has no answer. What
--- is said of a block rests on the bytes of those that are there.
+-- is said of a block rests on the bytes of those that are there; the holds are the same, whatever they have.
 pub record UnitIn {R A : Type 0} (rack : racks.Ghosts R) (area : areas.Ghosts A) (kind : PassKind) (used : Bool) (came : Next) (old new : Shard R A) : Type 0 where
   pub valid : Valid rack new
   pub table : SharesTable old new
@@ -46,8 +46,8 @@ pub record UnitIn {R A : Type 0} (rack : racks.Ghosts R) (area : areas.Ghosts A)
   pub paused : came ≡ next.Paused → (used ≡ true) × IsSomeAnd new.pass (IsRunningOf kind)
   pub only : IsOnly kind new
   pub moves : (part : Part) (pieces : Pieces) (x : Metaslab) → IsMetaslab rack area part pieces old x → GoesLater rack area part pieces x new
-  pub goes : (part : Part) (pieces : Pieces) (x : Metaslab) → IsMetaslab rack area part pieces old x → (kind ≡ Heal → HasContents part pieces x)
-      → GoesTo rack area part pieces x new (λ holds y. NextIs part kind used came holds × SameBlocks x y)
+  pub goes : (part : Part) (pieces : Pieces) (x : Metaslab) → IsMetaslab rack area part pieces old x
+      → GoesTo rack area part pieces x new (λ holds y. ((kind ≡ Heal → HadContents rack area part old x) → NextIs part kind used came holds) × SameBlocks x y)
 
 -- what the last of these holds says of all
 abbrev pub LastIs : Next → Progress → Visit → Progress → Type 0

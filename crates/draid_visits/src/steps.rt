@@ -20,7 +20,7 @@ ghost use Rattle.draid_pool.specs.Metaslabs.{IsMetaslab};
 ghost use Rattle.draid_pool.specs.Shards.{Goes, GoesLater, SameBlocks};
 ghost use Rattle.draid_pool.specs.Syncing.{KeepsTable};
 ghost use Rattle.draid_visits.specs.Pieces.{GoesTo};
-ghost use Rattle.draid_visits.specs.Steps.{HasContents, IsRebuiltIn, IsRunningOf, IsToLend, MovesOn, NextIs, ReadyIs, SharesTable, StartIs, TellsLanding};
+ghost use Rattle.draid_visits.specs.Steps.{HadContents, IsRebuiltIn, IsRunningOf, IsToLend, MovesOn, NextIs, ReadyIs, SharesTable, StartIs, TellsLanding};
 ghost use Rattle.draid_visits.specs.Visiting.{IsOnly};
 
 use crate::unit::unit_in;
@@ -171,8 +171,8 @@ pub(crate) fn next_in<R: Rack, A: Area>(
     ensures only { IsOnly kind shard.new }
     ensures moves { (part : Part) (pieces : Pieces) (x : Metaslab) → IsMetaslab R.Rack A.Area part pieces shard.old x
         → GoesLater R.Rack A.Area part pieces x shard.new }
-    ensures goes { (part : Part) (pieces : Pieces) (x : Metaslab) → IsMetaslab R.Rack A.Area part pieces shard.old x → (kind ≡ Heal → HasContents part pieces x)
-        → GoesTo R.Rack A.Area part pieces x shard.new (λ holds y. NextIs part kind used_up result holds × SameBlocks x y) }
+    ensures goes { (part : Part) (pieces : Pieces) (x : Metaslab) → IsMetaslab R.Rack A.Area part pieces shard.old x
+        → GoesTo R.Rack A.Area part pieces x shard.new (λ holds y. ((kind ≡ Heal → HadContents R.Rack A.Area part shard.old x) → NextIs part kind used_up result holds) × SameBlocks x y) }
 {
     if !is_running(&shard.pass) {
         return Next::NoMemory;

@@ -13,7 +13,7 @@ ghost use Rattle.draid_pool.specs.Drifts.{KeepsGroups};
 ghost use Rattle.draid_pool.specs.Metaslabs.{IsMetaslab};
 ghost use Rattle.draid_pool.specs.Shards.{Goes, GoesLater, SameBlocks};
 ghost use Rattle.draid_visits.specs.Pieces.{GoesTo};
-ghost use Rattle.draid_visits.specs.Steps.{HasContents, IsRunningOf, MovesOn, NextIs, SharesTable, TellsLanding};
+ghost use Rattle.draid_visits.specs.Steps.{HadContents, IsRunningOf, MovesOn, NextIs, SharesTable, TellsLanding};
 ghost use Rattle.draid_visits.specs.Visiting.{IsOnly};
 
 use crate::steps::{Next, end_in};
@@ -40,8 +40,8 @@ pub(crate) fn unit_in<R: Rack, A: Area>(shard: &mut Shard<R, A>, kind: PassKind)
     ensures only { IsOnly kind shard.new }
     ensures moves { (part : Part) (pieces : Pieces) (x : Metaslab) → IsMetaslab R.Rack A.Area part pieces shard.old x
         → GoesLater R.Rack A.Area part pieces x shard.new }
-    ensures goes { (part : Part) (pieces : Pieces) (x : Metaslab) → IsMetaslab R.Rack A.Area part pieces shard.old x → (kind ≡ Heal → HasContents part pieces x)
-        → GoesTo R.Rack A.Area part pieces x shard.new (λ holds y. NextIs part kind false result holds × SameBlocks x y) }
+    ensures goes { (part : Part) (pieces : Pieces) (x : Metaslab) → IsMetaslab R.Rack A.Area part pieces shard.old x
+        → GoesTo R.Rack A.Area part pieces x shard.new (λ holds y. ((kind ≡ Heal → HadContents R.Rack A.Area part shard.old x) → NextIs part kind false result holds) × SameBlocks x y) }
 {
     match kind {
         PassKind::Rebuild => stripe_in(shard),
@@ -93,8 +93,8 @@ fn block_in<R: Rack, A: Area>(shard: &mut Shard<R, A>) -> Next
     ensures only { IsOnly Heal shard.new }
     ensures moves { (part : Part) (pieces : Pieces) (x : Metaslab) → IsMetaslab R.Rack A.Area part pieces shard.old x
         → GoesLater R.Rack A.Area part pieces x shard.new }
-    ensures goes { (part : Part) (pieces : Pieces) (x : Metaslab) → IsMetaslab R.Rack A.Area part pieces shard.old x → HasContents part pieces x
-        → GoesTo R.Rack A.Area part pieces x shard.new (λ holds y. NextIs part Heal false result holds × SameBlocks x y) }
+    ensures goes { (part : Part) (pieces : Pieces) (x : Metaslab) → IsMetaslab R.Rack A.Area part pieces shard.old x
+        → GoesTo R.Rack A.Area part pieces x shard.new (λ holds y. (HadContents R.Rack A.Area part shard.old x → NextIs part Heal false result holds) × SameBlocks x y) }
 {
     match draid_restore::lend(shard) {
         Ok(Lent::Unit) => {

@@ -1,6 +1,6 @@
 -- What a lane's commands say of the objects, one after another.
-use Rattle.std.proofs.Common.{◌≡◌, ◌∙◌, ℕ, zero, suc, Bool, true, false, List, [], ◌∷◌, Option, Some, Ok, Err, map, refl, sym, ap, subst}
-use Rattle.std.specs.Prelude.{Result, nat_eq, slice_get}
+use Rattle.std.proofs.Common.{◌≡◌, ◌∙◌, ℕ, suc, Bool, true, false, List, [], ◌∷◌, Option, Ok, Err, map, refl, sym, ap, subst}
+use Rattle.std.specs.Prelude.{nat_eq}
 use Rattle.std.specs.HashMap.{get}
 use Rattle.draid_names.specs.declared.fault.Failed.{Failed}
 use Rattle.draid_names.specs.declared.pointer.Pointer.{Pointer}

@@ -1,7 +1,8 @@
 -- How far a lane came with what it is said to do, from the looks of its meeting on: with whatever is left to do, that is the whole.
-use Rattle.std.proofs.Common.{◌≡◌, ◌<◌, ◌≤◌, ◌+◌, ◌++◌, ◌∷◌, ◌∙◌, [], inl, inr, ℕ, Bool, true, List, Option, Some, None, Ok, Err, arith, refl, sym, ap, subst, length}
+use Rattle.std.proofs.Common.{◌≡◌, ◌<◌, ◌+◌, ◌++◌, ◌∷◌, ◌∙◌, [], ℕ, Bool, true, List, Option, Some, None, Ok, Err, refl, sym, ap, subst, length}
 use Rattle.std.specs.Prelude.{Result, slice_get}
 use Rattle.std.proofs.lemmas.List.{append-nil, append_assoc}
+use Rattle.draid_names.specs.declared.pass_kind.PassKind.{PassKind}
 use Rattle.draid_rack.specs.declared.Rack as racks
 use Rattle.draid_area.specs.declared.Area as areas
 use Rattle.draid_session.specs.Groups as groups
@@ -22,7 +23,6 @@ use Rattle.draid_pool.specs.Syncing.{end_of}
 use Rattle.draid_pool.specs.declared.cell.Cell.{Cell}
 use Rattle.draid_pool.specs.declared.fault.SyncFault.{SyncFault}
 use Rattle.draid_pool.specs.declared.fault.Synced.{Synced}
-use Rattle.draid_pool.proofs.Holding.{some_same}
 use Rattle.draid_pool.proofs.Looking.{looks_at}
 use Rattle.draid_pool.proofs.SyncWhole.{KeepsQuiet, beyond_on, quiet_on}
 use Rattle.draid_lanes.specs.Governing.{lane_last}
@@ -33,13 +33,14 @@ use Rattle.draid_lanes.proofs.FinishWords.{FoundAt}
 use Rattle.draid_lanes.proofs.LaneSays.{sync_but}
 use Rattle.draid_lanes.specs.Traces.{LaneTurn, places_in}
 use Rattle.draid_lanes.proofs.LooksBehind.{add_last, last_places, look_turns, now_all, traced_looks, with_look}
-use Rattle.draid_lanes.proofs.OneTurn.{CameTo, HasCame, Once, came_is}
+use Rattle.draid_lanes.proofs.OneTurn.{CameTo, Once, came_is}
 use Rattle.draid_lanes.proofs.RoundWords.{Says, said_as}
 use Rattle.draid_lanes.proofs.SealWords.{leaves_then}
 use Rattle.draid_lanes.proofs.SyncThrough.{through_next}
 use Rattle.draid_lanes.proofs.SyncWords.{Through_in, through_holds, through_said}
 use Rattle.draid_lanes.proofs.Tracing.{traced_then}
 use Rattle.draid_works.proofs.MendArms.{held_below}
+use Rattle.draid_works.proofs.MendSees.{Seen, saw_before}
 use Rattle.draid_works.proofs.MendTurns.{TellsMany, said_many}
 
 -- but for looks it is this
@@ -73,13 +74,13 @@ none_look m None ts none = none
 none_look m (Some y) ts none = none_last (On (view_of m y) Looked) ts none
 
 module _ {R A G W : Type 0} (rack : racks.Ghosts R) (area : areas.Ghosts A) (x : State) (owns : ℕ → Bool) (own : owns groups_number ≡ true) (count : ℕ) (all : count ≡ x.geometry.props.metaslabs) (some : 0 < count) (old : Locked R A G W) (old_all : count ≡ length old.turns.now)
-    (old_many : length old.passes.items ≡ length old.turns.now) where
+    (old_many : length old.passes.items ≡ length old.turns.now) (kind : PassKind) where
   abbrev pub Ready : Locked R A G W → Uber A → Type 0
   Ready b v = EachIs count (ClosesNext rack (group_of (ubers.kept_of v) + 1)) (lane_last b)
 
   -- So far it came, with these holds of the uberblock, and had a turn of each metaslab's lock.
   pub record Far {I : Type 0} (P Q : I → List Hold → Type 0) (b : Locked R A G W) (v : Uber A) (us : List Hold) : Type 0 where
-    pub said : Says rack area x old b us (Leading P Q)
+    pub said : Says rack area x old b us (Seen rack area x kind b (Leading P Q))
     pub turned : (m : ℕ) (pass : Caller (Past (Cell R A))) → slice_get old.passes.items m ≡ Some pass → said.turns m ≡ [] → ⊥
     pub ready : Ready b v
     pub beyond : NoneBeyond count (lane_last b)
@@ -92,7 +93,7 @@ module _ {R A G W : Type 0} (rack : racks.Ghosts R) (area : areas.Ghosts A) (x :
   pub far_as : {I J : Type 0} (P Q : I → List Hold → Type 0) (S T : J → List Hold → Type 0) (b : Locked R A G W) (v : Uber A) (us : List Hold) → Far P Q b v us
       → ((left : List Hold) → ((i : I) (rest : List Hold) → Q i rest → P i (left ++ rest)) → (j : J) (rest : List Hold) → T j rest → S j (left ++ rest)) → Far S T b v us
   far_as P Q S T b v us f how = record {
-    said = record { turns = f.said.turns; holds = f.said.holds; traced = f.said.traced; done = (let d = f.said.done in (d.0, d.1, how d.0 d.2)); came = f.said.came };
+    said = record { turns = f.said.turns; holds = f.said.holds; traced = f.said.traced; done = λ saw. (let d = f.said.done saw in (d.0, d.1, how d.0 d.2)); came = f.said.came };
     turned = f.turned;
     ready = f.ready;
     beyond = f.beyond;
@@ -114,10 +115,10 @@ module _ {R A G W : Type 0} (rack : racks.Ghosts R) (area : areas.Ghosts A) (x :
 
     -- a hold of a metaslab
     pub far_hold : (S : List Hold → Type 0) → ((i : I) (front rest : List Hold) → S front → T i rest → Q i (front ++ rest)) → (does : Shard R A → Shard R A → Type 0) (b : Locked R A G W) (m : ℕ) (c : Locked R A G W) (v : Uber A) (us : List Hold)
-        → (h : Once rack area x owns does b m c) → TellsMany rack area x m (But S) h.before h.after → KeepsQuiet rack owns h.before h.after → Far P Q b v us → Far P T c v us
+        → (h : Once rack area x owns does b m c) → TellsMany rack area x m kind (But S) h.before h.after → KeepsQuiet rack owns h.before h.after → Far P Q b v us → Far P T c v us
     far_hold S how does b m c v us h tells quiet f =
         let below = held_below rack area lane_last (LaneWent rack area) true owns count does b m c h f.beyond in
-        let one = said_many rack area x owns does (But S) b m c h f.said.came tells in
+        let one = said_many rack area x owns kind does (But S) b m c h f.said.came tells in
         let g = quiet_on rack area lane_last (LaneWent rack area) true owns own count (λ s. NoneBeyond count (lane_last s)) (beyond_on rack area lane_last (LaneWent rack area) true owns count) does b m c below h (group_of (ubers.kept_of v) + 1) quiet
         (record { left = f.beyond; ready = f.ready }) in
         subst (Far P T c v) (append-nil us) (record {
@@ -125,7 +126,7 @@ module _ {R A G W : Type 0} (rack : racks.Ghosts R) (area : areas.Ghosts A) (x :
             turns = λ k. f.said.turns k ++ one.turns k;
             holds = f.said.holds ++ one.holds;
             traced = traced_then rack area x old b c f.said.turns one.turns f.said.holds one.holds us [] f.said.traced one.traced;
-            done = leading_on S how f.said.holds one.holds f.said.done one.done;
+            done = λ saw. leading_on S how f.said.holds one.holds (f.said.done (saw_before rack area x kind b c one.turns one.holds [] one.traced saw)) (one.done saw);
             came = one.came;
           };
           turned = λ k pass at none. f.turned k pass at (none_front (f.said.turns k) (one.turns k) none);
@@ -141,7 +142,7 @@ module _ {R A G W : Type 0} (rack : racks.Ghosts R) (area : areas.Ghosts A) (x :
 
     -- each metaslab is looked at, and then it comes
     record Synced_to (b c : Locked R A G W) (us : List Hold) (result : Result Synced SyncFault) : Type 0 where
-      pub said : Says rack area x old c us (λ hs. (front : List Hold) × (back : List Hold) × (hs ≡ front ++ back) × Leading P Q front × SyncBut x result back)
+      pub said : Says rack area x old c us (λ hs. (front : List Hold) × (back : List Hold) × (hs ≡ front ++ back) × Seen rack area x kind c (Leading P Q) front × SyncBut x result back)
       pub turned : (m : ℕ) (pass : Caller (Past (Cell R A))) → slice_get old.passes.items m ≡ Some pass → said.turns m ≡ [] → ⊥
 
     sync_behind : (b c : Locked R A G W) (u v : Uber A) (us : List Hold) (result : Result Synced SyncFault) (it : Through_in rack area x owns own count all some b u result c v) → Far P Q b u us
@@ -161,7 +162,7 @@ module _ {R A G W : Type 0} (rack : racks.Ghosts R) (area : areas.Ghosts A) (x :
               l.holds,
               looks_at 0 now.list ++ s.holds,
               append_assoc l.holds (looks_at 0 now.list) s.holds,
-              l.done,
+              λ saw. l.done (saw_before rack area x kind b c s.turns s.holds vs s.traced saw),
               sync_but rack area x owns own count all b now.list now.many (closed_at b now.list now.each) some result s.holds s.done,
             );
             came = s.came;
@@ -181,7 +182,7 @@ module _ {R A G W : Type 0} (rack : racks.Ghosts R) (area : areas.Ghosts A) (x :
             turns = s.said.turns;
             holds = s.said.holds;
             traced = s.said.traced;
-            done = (let d = s.said.done in subst (Leading P T) (sym d.2) (leading_on (λ hs. groups.Syncs x.geometry x.perms it.group it.thin hs Went) (λ i front rest syncs is. how i front rest it syncs is) d.0 d.1 d.3 d.4));
+            done = λ saw. (let d = s.said.done in subst (Leading P T) (sym d.2) (leading_on (λ hs. groups.Syncs x.geometry x.perms it.group it.thin hs Went) (λ i front rest syncs is. how i front rest it syncs is) d.0 d.1 (d.3 saw) d.4));
             came = s.said.came;
           };
           turned = s.turned;
@@ -191,21 +192,21 @@ module _ {R A G W : Type 0} (rack : racks.Ghosts R) (area : areas.Ghosts A) (x :
 
     -- or was stopped
     pub far_stop : (i : I) (why : SyncFault) → ((front : List Hold) → groups.SyncStops x.geometry x.perms front (end_of {T = ℕ} (Err why)) → Q i front) → (b c : Locked R A G W) (u v : Uber A) (us : List Hold)
-        (did : Through_in rack area x owns own count all some b u (Err why) c v) → Far P Q b u us → Says rack area x old c (us ++ through_holds rack area x owns own count all some b c u v (Err why) did) (But (P i))
+        (did : Through_in rack area x owns own count all some b u (Err why) c v) → Far P Q b u us → Says rack area x old c (us ++ through_holds rack area x owns own count all some b c u v (Err why) did) (Seen rack area x kind c (But (P i)))
     far_stop i why how b c u v us did f =
         let s = sync_behind b c u v us (Err why) did f in
         record {
           turns = s.said.turns;
           holds = s.said.holds;
           traced = s.said.traced;
-          done = (let d = s.said.done in
-              let l = d.3 in
+          done = λ saw. (let d = s.said.done in
+              let l = d.3 saw in
               let t = d.4 in
               subst (But (P i)) (sym d.2) (l.0 ++ t.0, leaves_then d.0 l.0 d.1 t.0 l.1 t.1, l.2 i t.0 (how t.0 t.2)));
           came = s.said.came;
         }
 
   -- nothing is left to do
-  pub far_done : {I : Type 0} (P Q : I → List Hold → Type 0) (i : I) (b : Locked R A G W) (v : Uber A) (us : List Hold) → Q i [] → Far P Q b v us → Says rack area x old b us (But (P i))
+  pub far_done : {I : Type 0} (P Q : I → List Hold → Type 0) (i : I) (b : Locked R A G W) (v : Uber A) (us : List Hold) → Q i [] → Far P Q b v us → Says rack area x old b us (Seen rack area x kind b (But (P i)))
   far_done P Q i b v us is f =
-      said_as rack area x old b us (Leading P Q) (But (P i)) f.said (λ hs d. (d.0, d.1, subst (P i) (append-nil d.0) (d.2 i [] is)))
+      said_as rack area x old b us (Seen rack area x kind b (Leading P Q)) (Seen rack area x kind b (But (P i))) f.said (λ hs d saw. (let z = d saw in (z.0, z.1, subst (P i) (append-nil z.0) (z.2 i [] is))))

@@ -1,5 +1,5 @@
 -- A lane that looks for the metaslabs that a rebuild or a scrub is to visit.
-use Rattle.std.proofs.Common.{◌≡◌, ◌<◌, ◌≤◌, ◌+◌, ◌++◌, ◌∷◌, ◌∙◌, [], inl, inr, ℕ, zero, suc, Bool, true, false, List, Option, Some, None, arith, refl, sym, ap, subst, length, slice_index_or, if◌then◌else◌, eq-eqb, ne_eqb}
+use Rattle.std.proofs.Common.{◌≡◌, ◌<◌, ◌+◌, ◌++◌, ◌∷◌, ◌∙◌, [], inl, ℕ, zero, suc, Bool, true, false, List, Option, Some, None, arith, refl, sym, ap, subst, length, slice_index_or, eq-eqb, ne_eqb, if◌then◌else◌}
 use mathlib.Core.Logic.{dite}
 use native.Mathlib.Decide.{ℕ_discrete}
 use Rattle.std.specs.Prelude.{◌↔◌, IsTrue, slice_get}
@@ -8,7 +8,7 @@ use Rattle.draid_names.specs.declared.pass_kind.PassKind.{PassKind}
 use Rattle.draid_rack.specs.declared.Rack as racks
 use Rattle.draid_area.specs.declared.Area as areas
 use Rattle.draid_segments.specs.Segments.{Pieces}
-use Rattle.draid_session.specs.Holds.{Hold, view_of}
+use Rattle.draid_session.specs.Holds.{view_of}
 use Rattle.draid_session.specs.Lanes.{IsLookOnly, LeavesLooks}
 use Rattle.draid_session.specs.Passes as passes
 use Rattle.draid_session.specs.Phases.{NoneOf}
@@ -31,7 +31,6 @@ use Rattle.draid_pool.proofs.Holding.{some_same}
 use Rattle.draid_pool.proofs.Looking.{looks_at, none_seen}
 use Rattle.draid_pool.proofs.SyncWhole.{KeepsQuiet, beyond_on, quiet_on}
 use Rattle.draid_visits.specs.Looks.{FindsMarks, FindsPass, SeesEach, SeesPass, SeesRebuilt}
-use Rattle.draid_visits.specs.Visiting.{IsOnly}
 use Rattle.draid_visits.specs.Visits.{AllOnly}
 use Rattle.draid_visits.proofs.Found.{kind_unseen}
 use Rattle.draid_lanes.specs.Governing.{lane_last}
@@ -39,7 +38,7 @@ use Rattle.draid_lanes.specs.Waits.{LaneWent}
 use Rattle.draid_lanes.specs.declared.locked.Locked.{Locked}
 use Rattle.draid_lanes.proofs.OneTurn.{CameTo, Once, came_is}
 use Rattle.draid_lanes.proofs.OnlyLooking.{same_looks}
-use Rattle.draid_lanes.proofs.RoundWords.{Says, said_one}
+use Rattle.draid_lanes.proofs.RoundWords.{Says, looks_end, said_one}
 use Rattle.draid_lanes.proofs.LooksBehind.{look_turns, now_all, traced_looks}
 use Rattle.draid_lanes.proofs.SealWords.{leaves_look, leaves_self, leaves_then}
 use Rattle.draid_lanes.proofs.Tracing.{traced_then}
@@ -65,7 +64,7 @@ module _ {R A G W : Type 0} (rack : racks.Ghosts R) (area : areas.Ghosts A) (x :
   look_on : (does : Shard R A → Shard R A → Type 0) (b : Locked R A G W) (m : ℕ) (c : Locked R A G W) (u : Uber A) (h : Once rack area x owns does b m c) → h.after ≡ h.before → Looked b u → Looked c u
   look_on does b m c u h same l =
       let count = x.geometry.props.metaslabs in
-      let one = said_one rack area x owns does IsLookOnly b m c h l.said.came (λ pieces y is. same_looks rack area (part_in x m) pieces h.before h.after y is same) in
+      let one = said_one rack area x owns does IsLookOnly b m c h l.said.came (λ pieces y is. same_looks rack area (part_in x m) pieces h.before h.after y is same) looks_end in
       let below = held_below rack area lane_last (LaneWent rack area) true owns count does b m c h l.beyond in
       let z = quiet_on rack area lane_last (LaneWent rack area) true owns own count (λ s. NoneBeyond count (lane_last s)) (beyond_on rack area lane_last (LaneWent rack area) true owns count) does b m c below h (group_of (ubers.kept_of u) + 1)
       (same_quiet rack owns h.before h.after h.drifts.valid same) (record { left = l.beyond; ready = l.ready }) in

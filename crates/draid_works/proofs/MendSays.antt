@@ -1,49 +1,28 @@
 -- A lane's rebuild in the session's words, from the looks of its meeting on.
-use Rattle.std.proofs.Common.{◌≡◌, ◌<◌, ◌≤◌, ◌+◌, ◌++◌, ◌∷◌, ◌∙◌, ◌⊎◌, [], inl, inr, ℕ, zero, suc, Bool, true, false, List, Option, Some, None, Ok, Err, arith, drop, refl, sym, ap, subst, length, slice_index_or}
-use Rattle.std.specs.Prelude.{◌↔◌, IsTrue, Result, slice_get}
-use Rattle.std.proofs.lemmas.List.{append-nil, append_assoc}
+use Rattle.std.proofs.Common.{◌≡◌, ◌++◌, ◌∷◌, ◌∙◌, [], inl, inr, ℕ, Bool, true, false, List, Option, Some, None, Ok, Err, refl, sym, ap, subst, length}
+use Rattle.std.specs.Prelude.{Result}
 use Rattle.draid_names.specs.declared.pass_kind.PassKind.{PassKind}
 use Rattle.draid_names.specs.declared.pass_kind.PassKind.TheVariants.{Heal, Rebuild}
-use Rattle.draid_rack.specs.declared.Rack as racks
-use Rattle.draid_area.specs.declared.Area as areas
-use Rattle.draid_session.specs.Holds.{Hold, View, view_of}
-use Rattle.draid_session.specs.Lanes.{LeavesLooks}
+use Rattle.draid_session.specs.Holds.{Hold, View}
 use Rattle.draid_session.specs.Looks.{Looks, LooksFrom}
 use Rattle.draid_session.specs.Passes as passes
 use Rattle.draid_session.specs.Phases.{NoneOf}
-use Rattle.draid_session.specs.State.{Metaslab, State, Store}
-use Rattle.draid_shard.specs.declared.shard.Shard.{Shard}
-use Rattle.draid_uber.specs.declared.uber.Uber.{Uber}
-use Rattle.draid_pool.specs.Drifts.{groups_number, passes_number}
-use Rattle.draid_pool.specs.Pools.{part_in}
+use Rattle.draid_session.specs.State.{Metaslab, State}
 use Rattle.draid_pool.specs.Views.{seen_at}
 use Rattle.draid_pool.specs.declared.fault.SyncFault.{SyncFault}
 use Rattle.draid_pool.specs.declared.fault.SyncFault.TheVariants as sync
-use Rattle.draid_pool.proofs.Looking.{looked, looks_at, none_seen}
+use Rattle.draid_pool.proofs.Looking.{looked, looks_at}
 use Rattle.draid_pool.proofs.SyncSteps.{not_went}
 use Rattle.draid_visits.specs.Rebuilding.{IsAnswer, IsMended, RebuildDoes, stopped_by}
-use Rattle.draid_visits.specs.Steps.{NextIs}
-use Rattle.draid_visits.specs.Units.{UnitIn}
-use Rattle.draid_visits.specs.Visiting.{IsMarked, IsOnly, end_by, nothing_within, outcome_by, tally_of}
-use Rattle.draid_visits.specs.Visits.{AllOnly, AnswersBy, BeginsRebuild, MendsBy, VisitsBy}
-use Rattle.draid_visits.specs.declared.mending.Mending.{Mending}
+use Rattle.draid_visits.specs.Visiting.{IsMarked, end_by, outcome_by, tally_of}
 use Rattle.draid_visits.specs.declared.progress.Progress.{Progress}
 use Rattle.draid_visits.specs.declared.progress.Visit.{Visit}
 use Rattle.draid_visits.specs.declared.progress.Visit.TheVariants as visit
 use Rattle.draid_visits.specs.declared.rebuilding.MendFault.{MendFault}
 use Rattle.draid_visits.specs.declared.rebuilding.MendFault.TheVariants as fault
 use Rattle.draid_visits.specs.declared.rebuilding.Mended.{Mended}
-use Rattle.draid_visits.specs.declared.steps.Next.{Next}
-use Rattle.draid_visits.proofs.AllVisits.{FromOn, VisitsEnd}
-use Rattle.draid_visits.proofs.Found.{none_before}
-use Rattle.draid_visits.proofs.MendHolds.{marked_alone, none_found}
-use Rattle.draid_visits.proofs.Rebuilt.{AgreeOn, agree_seen, visits_as}
-use Rattle.draid_lanes.specs.Governing.{lane_last}
-use Rattle.draid_lanes.specs.Waits.{LaneWent}
-use Rattle.draid_lanes.specs.declared.locked.Locked.{Locked}
-use Rattle.draid_lanes.proofs.RoundWords.{Says, said_as}
-use Rattle.draid_works.specs.Mended.{BeginsMend, MendsThrough, SyncsWaiting}
-use Rattle.draid_works.proofs.MendFar.{But}
+use Rattle.draid_visits.proofs.AllVisits.{VisitsEnd}
+use Rattle.draid_visits.proofs.Rebuilt.{AgreeOn, visits_as}
 
 -- ---- what is said of the visits of a rebuild
 

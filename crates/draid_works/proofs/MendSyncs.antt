@@ -1,5 +1,5 @@
 -- A sync that waits names a later group, and leaves each metaslab its part and its pass.
-use Rattle.std.proofs.Common.{◌≡◌, ◌<◌, ◌≤◌, ◌+◌, ◌∙◌, inl, inr, ℕ, zero, suc, Bool, true, Option, Some, None, Ok, Err, arith, refl, sym, ap, subst}
+use Rattle.std.proofs.Common.{◌≡◌, ◌<◌, ◌+◌, ◌∙◌, inl, inr, ℕ, zero, suc, Bool, true, Option, Some, None, Ok, Err, arith, sym, ap, subst}
 use Rattle.std.specs.Prelude.{Result}
 use Rattle.draid_rack.specs.declared.Rack as racks
 use Rattle.draid_area.specs.declared.Area as areas
@@ -17,7 +17,7 @@ use Rattle.draid_pool.proofs.SyncWhole.{beyond_on}
 use Rattle.draid_visits.specs.Readies.{KeepsPart, KeepsParts}
 use Rattle.draid_visits.proofs.PassesStay.{parts_law}
 use Rattle.draid_visits.proofs.SyncStays.{AllKept, all_on, all_same, begins_kept, goes_kept}
-use Rattle.draid_lanes.specs.Waits.{BeginsThrough, BegunOn, GoesThrough, SyncsThrough, WaitsOn}
+use Rattle.draid_lanes.specs.Waits.{BeginsThrough, BegunOn, SyncsThrough, WaitsOn}
 use Rattle.draid_lanes.proofs.SyncThrough.{started_next}
 
 module _ {R A S : Type 0} (rack : racks.Ghosts R) (area : areas.Ghosts A) (last : S → ℕ → Option (Shard R A)) (went : S → ℕ → Shard R A → Shard R A → S → Type 0) (shared : Bool) (owns : ℕ → Bool) (count : ℕ) where

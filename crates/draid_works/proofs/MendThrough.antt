@@ -1,5 +1,5 @@
 -- What a thread needs of some of its own it has behind a rebuild or a scrub that waited.
-use Rattle.std.proofs.Common.{◌≡◌, ◌<◌, ◌+◌, inl, ℕ, Bool, true, false, Option, Some, None, arith, refl}
+use Rattle.std.proofs.Common.{◌≡◌, ◌<◌, ◌+◌, inl, ℕ, Bool, true, false, Option, Some, None, arith}
 use Rattle.std.specs.Prelude.{Result}
 use Rattle.draid_names.specs.declared.pass_kind.PassKind.{PassKind}
 use Rattle.draid_rack.specs.declared.Rack as racks
@@ -26,7 +26,7 @@ use Rattle.draid_works.proofs.MendArms.{held_below}
 use Rattle.draid_works.proofs.MendSteps.{mends_keeps}
 
 -- a hold that leaves blocks and groups is quiet
-leaves_quiet : {R A : Type 0} (rack : racks.Ghosts R) (area : areas.Ghosts A) (owns : ℕ → Bool) (x y : Shard R A) → Leaves rack area x y → KeepsQuiet rack owns x y
+pub leaves_quiet : {R A : Type 0} (rack : racks.Ghosts R) (area : areas.Ghosts A) (owns : ℕ → Bool) (x y : Shard R A) → Leaves rack area x y → KeepsQuiet rack owns x y
 leaves_quiet rack area owns x y l = record { keeps = record { valid = l.valid; part = l.part; entries = record { each = λ key own. inl (l.held key) } }; committed = l.groups.groups.committed }
 
 -- ---- what every hold keeps that leaves what a thread has of its own

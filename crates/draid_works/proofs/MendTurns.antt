@@ -1,16 +1,18 @@
 -- A turn of a metaslab's lock in which a lane makes several of the session's holds, one after another.
-use Rattle.std.proofs.Common.{◌≡◌, ◌==◌, ◌<◌, ◌≤◌, ◌+◌, ◌++◌, ◌∷◌, ◌∙◌, [], inr, ℕ, zero, suc, Bool, true, false, List, Option, Some, None, All, Contains, arith, refl, sym, ap, subst, length, slice_set, if◌then◌else◌, eq-eqb, ne_eqb}
+use Rattle.std.proofs.Common.{◌≡◌, ◌==◌, ◌<◌, ◌≤◌, ◌++◌, ◌∷◌, ◌∙◌, [], inr, ℕ, zero, suc, Bool, true, false, List, Some, None, Contains, arith, refl, sym, ap, subst, length, slice_set, eq-eqb, ne_eqb, if◌then◌else◌}
 use mathlib.Core.Logic.{dite}
 use native.Mathlib.Decide.{ℕ_discrete}
 use Rattle.std.specs.Prelude.{cond, slice_get, slice_index_or}
 use Rattle.std.proofs.lemmas.List.{append-nil, append_assoc, length-append}
 use Rattle.std.proofs.lemmas.List.Elements.{All-cons, All-nil}
+use Rattle.draid_names.specs.declared.pass_kind.PassKind.{PassKind}
+use Rattle.draid_names.specs.declared.pass_kind.PassKind.TheVariants.{Heal}
 use Rattle.draid_rack.specs.declared.Rack as racks
 use Rattle.draid_area.specs.declared.Area as areas
 use Rattle.draid_machine.specs.State as machine
 use Rattle.draid_machine.proofs.Small.{none_some}
 use Rattle.draid_segments.specs.Segments.{Pieces}
-use Rattle.draid_session.specs.Holds.{Hold, On, view_of}
+use Rattle.draid_session.specs.Holds.{Hold}
 use Rattle.draid_session.specs.Lanes.{holds_of, is_of}
 use Rattle.draid_session.specs.State.{Metaslab, State}
 use Rattle.draid_shard.specs.Part.{layout_in}
@@ -18,6 +20,8 @@ use Rattle.draid_shard.specs.declared.shard.Shard.{Shard}
 use Rattle.draid_turn.specs.Calls.{Caller, Lock}
 use Rattle.draid_turn.specs.Lists.{StartsWith}
 use Rattle.draid_turn.specs.declared.past.Past.{Past}
+use Rattle.draid_pool.specs.Bytes.{HaveBytes}
+use Rattle.draid_pool.specs.Drifts.{KeepsBytes}
 use Rattle.draid_pool.specs.Metaslabs.{IsMetaslab}
 use Rattle.draid_pool.specs.Pools.{part_in}
 use Rattle.draid_pool.specs.Shards.{FollowsIn}
@@ -25,6 +29,7 @@ use Rattle.draid_pool.specs.declared.cell.Cell.{Cell}
 use Rattle.draid_pool.proofs.Holding.{some_same}
 use Rattle.draid_pool.proofs.Places.{get_set_other, get_set_same, set_length}
 use Rattle.draid_pool.proofs.ShardSteps.{follows_since}
+use Rattle.draid_visits.specs.Steps.{HadContents}
 use Rattle.draid_lanes.specs.Governing.{lane_last}
 use Rattle.draid_lanes.specs.Locks.{Went, left_in}
 use Rattle.draid_lanes.specs.Traces.{IsShardTurn, LaneTurn, holds_in}
@@ -32,8 +37,9 @@ use Rattle.draid_lanes.specs.Waits.{LaneWent}
 use Rattle.draid_lanes.specs.declared.locked.Locked.{Locked}
 use Rattle.draid_lanes.proofs.Drifted.{left_append}
 use Rattle.draid_lanes.proofs.OneTurn.{CameTo, HasCame, Once, came_at, came_on, found_came, gone, only_at}
-use Rattle.draid_lanes.proofs.RoundWords.{Says}
+use Rattle.draid_lanes.proofs.RoundWords.{Says, said_as}
 use Rattle.draid_lanes.proofs.Tracing.{PassWent, Traced, starts_self, went_none}
+use Rattle.draid_works.proofs.MendSees.{Seen, found_had}
 
 -- ---- holds of one metaslab
 
@@ -48,22 +54,26 @@ holds_none : (l : machine.Layout) (m : ℕ) (hs : List Hold) (y z : Metaslab) �
 holds_none l m [] y z f = refl
 holds_none l m (h ∷ hs) y z f = ap (λ b. cond b (h ∷ holds_of None hs) (holds_of None hs)) (ap (is_of None) f.2) ∙ holds_none l m hs f.1 z f.4
 
--- what holds are told to do to a metaslab, whatever that stood for
-pub record LedTo {R A : Type 0} (rack : racks.Ghosts R) (area : areas.Ghosts A) (x : State) (m : ℕ) (y : Metaslab) (after : Shard R A) (told : List Hold → Type 0) : Type 0 where
+-- What holds are told to do to a metaslab, whatever that stood for. Where all blocks had bytes by these pieces, they have them then.
+pub record LedTo {R A : Type 0} (rack : racks.Ghosts R) (area : areas.Ghosts A) (x : State) (m : ℕ) (before : Pieces) (y : Metaslab) (after : Shard R A) (told : List Hold → Type 0) : Type 0 where
   pub holds : List Hold
   pub reached : Metaslab
   pub pieces : Pieces
   pub follows : FollowsIn (layout_in (part_in x m)) m holds y reached
   pub done : told holds
   pub is : IsMetaslab rack area (part_in x m) pieces after reached
+  pub bytes : HaveBytes (part_in x m).geometry before y → HaveBytes (part_in x m).geometry pieces reached
 
-abbrev pub TellsMany : {R A : Type 0} → racks.Ghosts R → areas.Ghosts A → State → ℕ → (List Hold → Type 0) → Shard R A → Shard R A → Type 0
-TellsMany rack area x m told before after = (pieces : Pieces) (y : Metaslab) → IsMetaslab rack area (part_in x m) pieces before y → LedTo rack area x m y after told
+-- so it is of a scrub where the metaslab's blocks had bytes
+abbrev pub TellsMany : {R A : Type 0} → racks.Ghosts R → areas.Ghosts A → State → ℕ → PassKind → (List Hold → Type 0) → Shard R A → Shard R A → Type 0
+TellsMany rack area x m kind told before after =
+    (pieces : Pieces) (y : Metaslab) → IsMetaslab rack area (part_in x m) pieces before y → LedTo rack area x m pieces y after (λ hs. (kind ≡ Heal → HadContents rack area (part_in x m) before y) → told hs)
 
 -- ---- the turn
 
 module _ {R A G W : Type 0} (rack : racks.Ghosts R) (area : areas.Ghosts A) (x : State) (a b : Locked R A G W) (m : ℕ) (before after : Shard R A) (goes : LaneWent rack area a m before after b) (found reached : Metaslab) (came_found : CameTo rack area x m before found)
-    (came_left : CameTo rack area x m after reached) (hs : List Hold) (follows : FollowsIn (layout_in (part_in x m)) m hs found reached) where
+    (came_left : CameTo rack area x m after reached) (hs : List Hold) (follows : FollowsIn (layout_in (part_in x m)) m hs found reached)
+    (bytes : KeepsBytes rack area (part_in x m) before found after) where
   abbrev w : Went rack area a.turns.now a.passes.items m before after b.passes.items
   w = goes.1
 
@@ -84,6 +94,7 @@ module _ {R A G W : Type 0} (rack : racks.Ghosts R) (area : areas.Ghosts A) (x :
     found_is = came_at rack area x w.lock w.log m before found (sym w.found) came_found;
     reached_is = came_at rack area x w.lock (w.log ++ w.left ∷ []) m after reached behind_is came_left;
     follows = follows;
+    bytes = subst (λ (q : Shard R A × Shard R A). KeepsBytes rack area (part_in x m) q.0 found q.1) (λ i. (w.found i, sym w.left_is i)) bytes;
   }
 
   below_next : length w.log < length w.next.seen
@@ -156,7 +167,7 @@ module _ {R A G W : Type 0} (rack : racks.Ghosts R) (area : areas.Ghosts A) (x :
 -- ---- one of a command that is made over holds
 
 module _ {R A G W : Type 0} (rack : racks.Ghosts R) (area : areas.Ghosts A) (x : State) (owns : ℕ → Bool) (does : Shard R A → Shard R A → Type 0) (told : List Hold → Type 0) (a : Locked R A G W) (m : ℕ) (b : Locked R A G W) (h : Once rack area x owns does a m b) (came : HasCame rack area x a) where
-  module _ (t : LedTo rack area x m (gone rack area x owns does a m b h came).reached h.after told) where
+  module _ (t : LedTo rack area x m (gone rack area x owns does a m b h came).now (gone rack area x owns does a m b h came).reached h.after told) (bytes : KeepsBytes rack area (part_in x m) h.before (gone rack area x owns does a m b h came).reached h.after) where
     abbrev found : Metaslab
     found = (gone rack area x owns does a m b h came).reached
 
@@ -172,12 +183,27 @@ module _ {R A G W : Type 0} (rack : racks.Ghosts R) (area : areas.Ghosts A) (x :
 
     pub said_led : Says rack area x a b [] told
     said_led = record {
-      turns = only_at m (many_turn rack area x a b m h.before h.after h.goes found t.reached (found_came rack area x owns does a m b h came) left_came t.holds t.follows ∷ []);
+      turns = only_at m (many_turn rack area x a b m h.before h.after h.goes found t.reached (found_came rack area x owns does a m b h came) left_came t.holds t.follows bytes ∷ []);
       holds = t.holds;
-      traced = traced_many rack area x a b m h.before h.after h.goes found t.reached (found_came rack area x owns does a m b h came) left_came t.holds t.follows;
+      traced = traced_many rack area x a b m h.before h.after h.goes found t.reached (found_came rack area x owns does a m b h came) left_came t.holds t.follows bytes;
       done = t.done;
       came = came_many;
     }
 
-  pub said_many : TellsMany rack area x m told h.before h.after → Says rack area x a b [] told
-  said_many tells = (let g = gone rack area x owns does a m b h came in said_led (tells g.now g.reached g.is))
+module _ {R A G W : Type 0} (rack : racks.Ghosts R) (area : areas.Ghosts A) (x : State) (owns : ℕ → Bool) (kind : PassKind) (does : Shard R A → Shard R A → Type 0) (told : List Hold → Type 0) (a : Locked R A G W) (m : ℕ) (b : Locked R A G W) (h : Once rack area x owns does a m b)
+    (came : HasCame rack area x a) where
+  abbrev had : Metaslab → Type 0
+  had y = kind ≡ Heal → HadContents rack area (part_in x m) h.before y
+
+  -- so the hold leaves blocks their bytes
+  many_bytes : (y : Metaslab) → TellsMany rack area x m kind told h.before h.after → KeepsBytes rack area (part_in x m) h.before y h.after
+  many_bytes y tells pieces is has =
+      let t = tells pieces y is in
+      record { reached = t.reached; pieces = t.pieces; is = t.is; since = follows_since (layout_in (part_in x m)) m t.holds y t.reached t.follows; has = t.bytes has }
+
+  pub said_many : TellsMany rack area x m kind told h.before h.after → Says rack area x a b [] (Seen rack area x kind b told)
+  said_many tells =
+      let g = gone rack area x owns does a m b h came in
+      said_as rack area x a b [] (λ hs. had g.reached → told hs) (Seen rack area x kind b told)
+      (said_led rack area x owns does (λ hs. had g.reached → told hs) a m b h came (tells g.now g.reached g.is) (many_bytes g.reached tells))
+      (λ hs d saw. d (λ heal. found_had rack area x a b m h.before h.after g.reached h.goes (found_came rack area x owns does a m b h came) (saw heal)))

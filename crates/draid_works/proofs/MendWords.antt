@@ -1,6 +1,6 @@
 -- The visits of a rebuild or a scrub in a lane, in the session's words.
-use Rattle.std.proofs.Common.{◌≡◌, ◌<◌, ◌≤◌, ◌+◌, ◌++◌, ◌∷◌, ◌∙◌, ◌⊎◌, [], inl, inr, ℕ, zero, suc, Bool, true, false, List, Option, Some, None, Ok, Err, arith, refl, sym, ap, subst, length, slice_index_or}
-use Rattle.std.specs.Prelude.{◌↔◌, ⊤, IsTrue, Result, slice_get}
+use Rattle.std.proofs.Common.{◌≡◌, ◌<◌, ◌≤◌, ◌+◌, ◌++◌, ◌∙◌, ◌⊎◌, [], inl, inr, ℕ, zero, suc, Bool, true, false, List, Option, Some, None, Ok, Err, arith, refl, sym, ap, subst, length, slice_index_or}
+use Rattle.std.specs.Prelude.{⊤, Result, slice_get}
 use Rattle.std.proofs.lemmas.Bool.{cases_lt, true≢false}
 use Rattle.std.proofs.lemmas.List.{append-nil, append_assoc}
 use Rattle.draid_names.specs.declared.pass_kind.PassKind.{PassKind}
@@ -10,16 +10,17 @@ use Rattle.draid_area.specs.declared.Area as areas
 use Rattle.draid_perm.specs.declared.perms.Perms.{Perms}
 use Rattle.draid_spec.specs.declared.layout.Geometry.{Geometry}
 use Rattle.draid_session.specs.Groups as groups
-use Rattle.draid_session.specs.Holds.{Hold, View}
+use Rattle.draid_session.specs.Holds.{Hold}
 use Rattle.draid_session.specs.Passes as passes
 use Rattle.draid_session.specs.Phases.{End, Starved, WasWorn, Went}
 use Rattle.draid_session.specs.State.{Metaslab, State}
 use Rattle.draid_shard.specs.declared.shard.Shard.{Shard}
 use Rattle.draid_uber.specs.declared.uber.Uber.{Uber}
 use Rattle.draid_passing.specs.declared.fault.PlanFault.{PlanFault}
-use Rattle.draid_pool.specs.Drifts.{groups_number}
+use Rattle.draid_names.specs.declared.numbers.TheConstants.{OBJECTS}
+use Rattle.draid_pool.specs.Drifts.{groups_number, passes_number}
+use Rattle.draid_pool.proofs.BytesKept.{led_bytes}
 use Rattle.draid_pool.specs.Pools.{part_in}
-use Rattle.draid_pool.specs.Syncing.{end_of}
 use Rattle.draid_pool.specs.declared.fault.SyncFault.{SyncFault}
 use Rattle.draid_pool.specs.declared.fault.SyncFault.TheVariants as sync
 use Rattle.draid_pool.specs.declared.fault.Synced.{Synced}
@@ -30,7 +31,7 @@ use Rattle.draid_visits.specs.Readies.{ReadiesBy, ReadiesIn, Waited}
 use Rattle.draid_visits.specs.Starts.{BeginsBy, IsBegun, StartsIn}
 use Rattle.draid_visits.specs.Steps.{NextIs}
 use Rattle.draid_visits.specs.Units.{LastIs, LendsBy, Lent, UnitIn}
-use Rattle.draid_visits.specs.Visiting.{BeginIs, LendIs, RunIs, Tells, VisitIs, end_by, outcome_by, tally_of, counted}
+use Rattle.draid_visits.specs.Visiting.{BeginIs, LendIs, RunIs, VisitIs, end_by, outcome_by, tally_of, counted}
 use Rattle.draid_visits.specs.Visits.{LendsBehind, RunsBy, VisitBy, VisitStopsAt, VisitedAt, VisitedUpto, VisitsBehind, VisitsBy, begun_at}
 use Rattle.draid_visits.specs.declared.progress.Progress.{Progress}
 use Rattle.draid_visits.specs.declared.progress.Visit.{Visit}
@@ -42,7 +43,9 @@ use Rattle.draid_visits.specs.declared.steps.Next.TheVariants as next
 use Rattle.draid_visits.proofs.AllVisits.{FromOn, VisitsEnd, none_left, over_then, passed_by, past_end, pauses_there, stops_there}
 use Rattle.draid_visits.proofs.Lending.{Ending, SomeLends, kept_back, lent_then, unused, used}
 use Rattle.draid_visits.proofs.OwnedBegin.{said_by}
-use Rattle.draid_visits.proofs.ReadyHolds.{ready_quiet}
+use Rattle.draid_visits.proofs.ReadyHolds.{ready_keeps, ready_quiet}
+use Rattle.draid_visits.proofs.StartHolds.{start_keeps}
+use Rattle.draid_visits.proofs.UnitHolds.{unit_keeps}
 use Rattle.draid_visits.proofs.Visited.{run_so, stops_at, visit_so}
 use Rattle.draid_visits.proofs.VisitsStay.{quiet_by, unit_blocks}
 use Rattle.draid_visits.proofs.Waiting.{Awaits, Readying, sync_fails, syncs_then, waits_then}
@@ -56,6 +59,7 @@ use Rattle.draid_lanes.proofs.SyncWords.{through_holds}
 use Rattle.draid_works.specs.Mended.{SyncsWaiting}
 use Rattle.draid_works.proofs.MendArms.{held_below}
 use Rattle.draid_works.proofs.MendFar.{But, Far, Then, far_as, far_done, far_hold, far_stop, far_sync, far_then}
+use Rattle.draid_works.proofs.MendSees.{Seen}
 use Rattle.draid_works.proofs.MendTurns.{TellsMany}
 
 -- ---- how what is said grows
@@ -72,30 +76,61 @@ then_end T S X how i f rest s t = (f, rest, refl, how f s, t)
 
 -- ---- one metaslab in a hold
 
+far_passes : OBJECTS ≤ passes_number
+far_passes = omega arith
+
 module _ {R A : Type 0} (rack : racks.Ghosts R) (area : areas.Ghosts A) (x : State) (m : ℕ) where
-  tells_starts : (kind : PassKind) (came : Result ℕ PlanFault) (start : Begun) → IsBegun came start → (before after : Shard R A) → StartsIn rack area kind before came after → TellsMany rack area x m (But (BeginIs x.geometry x.perms kind m start)) before after
+  tells_starts : (kind : PassKind) (came : Result ℕ PlanFault) (start : Begun) → IsBegun came start → (before after : Shard R A) → StartsIn rack area kind before came after → TellsMany rack area x m kind (But (BeginIs x.geometry x.perms kind m start)) before after
   tells_starts kind came start begins before after s pieces y is =
       let g = s.goes (part_in x m) pieces y is in
-      record { holds = g.holds; reached = g.reached; pieces = pieces; follows = g.follows; done = (g.holds, leaves_self g.holds, said_by kind m x.geometry x.perms g.holds came start begins g.done.0); is = g.is }
+      record {
+        holds = g.holds;
+        reached = g.reached;
+        pieces = pieces;
+        follows = g.follows;
+        done = λ had. (g.holds, leaves_self g.holds, said_by kind m x.geometry x.perms g.holds came start begins g.done.0);
+        is = g.is;
+        bytes = led_bytes rack area before after passes_number far_passes (start_keeps rack area kind before after (Some came) s) (part_in x m) pieces pieces y g.reached is g.is (λ k h at. inl refl);
+      }
 
-  tells_waits : (before after : Shard R A) → ReadiesIn rack area false before after → TellsMany rack area x m (But (λ hs. passes.Waits x.geometry x.perms m hs [])) before after
-  tells_waits before after r pieces y is =
+  tells_waits : (kind : PassKind) (before after : Shard R A) → ReadiesIn rack area false before after → TellsMany rack area x m kind (But (λ hs. passes.Waits x.geometry x.perms m hs [])) before after
+  tells_waits kind before after r pieces y is =
       let g = r.goes (part_in x m) pieces y is in
-      record { holds = g.holds; reached = g.reached; pieces = pieces; follows = g.follows; done = (g.holds, leaves_self g.holds, g.done.0); is = g.is }
+      record {
+        holds = g.holds;
+        reached = g.reached;
+        pieces = pieces;
+        follows = g.follows;
+        done = λ had. (g.holds, leaves_self g.holds, g.done.0);
+        is = g.is;
+        bytes = led_bytes rack area before after passes_number far_passes (ready_keeps rack area before after false r) (part_in x m) pieces pieces y g.reached is g.is (λ k h at. inl refl);
+      }
 
-  tells_runs : (before after : Shard R A) → ReadiesIn rack area true before after → TellsMany rack area x m (But (passes.RunsNow x.geometry x.perms m)) before after
-  tells_runs before after r pieces y is =
+  tells_runs : (kind : PassKind) (before after : Shard R A) → ReadiesIn rack area true before after → TellsMany rack area x m kind (But (passes.RunsNow x.geometry x.perms m)) before after
+  tells_runs kind before after r pieces y is =
       let g = r.goes (part_in x m) pieces y is in
-      record { holds = g.holds; reached = g.reached; pieces = pieces; follows = g.follows; done = (g.holds, leaves_self g.holds, g.done.0); is = g.is }
+      record {
+        holds = g.holds;
+        reached = g.reached;
+        pieces = pieces;
+        follows = g.follows;
+        done = λ had. (g.holds, leaves_self g.holds, g.done.0);
+        is = g.is;
+        bytes = led_bytes rack area before after passes_number far_passes (ready_keeps rack area before after true r) (part_in x m) pieces pieces y g.reached is g.is (λ k h at. inl refl);
+      }
 
-  -- a stripe of a rebuild rests on no bytes
-  pub tells_stripe : (used : Bool) (came : Next) (before after : Shard R A) → UnitIn rack area Rebuild used came before after → TellsMany rack area x m (But (NextIs (part_in x m) Rebuild used came)) before after
-  tells_stripe used came before after u pieces y is =
-      let g = u.goes (part_in x m) pieces y is (λ heal. absurd (never heal)) in
-      record { holds = g.holds; reached = g.reached; pieces = g.later; follows = g.follows; done = (g.holds, leaves_self g.holds, g.done.0); is = g.is }
-    where
-      never : Rebuild ≡ Heal → ⊥
-      never same = absurd (cc)
+  tells_unit : (kind : PassKind) (used : Bool) (came : Next) (before after : Shard R A) → UnitIn rack area kind used came before after → TellsMany rack area x m kind (But (NextIs (part_in x m) kind used came)) before after
+  tells_unit kind used came before after u pieces y is =
+      let g = u.goes (part_in x m) pieces y is in
+      record {
+        holds = g.holds;
+        reached = g.reached;
+        pieces = g.later;
+        follows = g.follows;
+        done = λ had. (g.holds, leaves_self g.holds, g.done.0 had);
+        is = g.is;
+        bytes = led_bytes rack area before after passes_number far_passes (unit_keeps rack area before after kind used came u) (part_in x m) pieces g.later y g.reached is g.is g.contents;
+      }
 
 unit_quiet : {R A : Type 0} (rack : racks.Ghosts R) (area : areas.Ghosts A) (owns : ℕ → Bool) (kind : PassKind) (used : Bool) (came : Next) (before after : Shard R A) → UnitIn rack area kind used came before after → KeepsQuiet rack owns before after
 unit_quiet rack area owns kind used came before after d = quiet_by rack area owns before after d.valid d.table.part (unit_blocks rack area kind used came before after d)
@@ -155,7 +190,7 @@ module _ {R A G W : Type 0} (rack : racks.Ghosts R) (area : areas.Ghosts A) (x :
 -- ---- the walk
 
 module _ {R A G W : Type 0} (rack : racks.Ghosts R) (area : areas.Ghosts A) (x : State) (owns : ℕ → Bool) (own : owns groups_number ≡ true) (some : 0 < x.geometry.props.metaslabs) (old : Locked R A G W) (old_all : x.geometry.props.metaslabs ≡ length old.turns.now)
-    (old_many : length old.passes.items ≡ length old.turns.now) (kind : PassKind) (units : (m : ℕ) (used : Bool) (came : Next) (before after : Shard R A) → UnitIn rack area kind used came before after → TellsMany rack area x m (But (NextIs (part_in x m) kind used came)) before after) where
+    (old_many : length old.passes.items ≡ length old.turns.now) (kind : PassKind) where
   abbrev g : Geometry
   g = x.geometry
 
@@ -166,7 +201,7 @@ module _ {R A G W : Type 0} (rack : racks.Ghosts R) (area : areas.Ghosts A) (x :
   n_all = x.geometry.props.metaslabs
 
   abbrev pub Came : {I : Type 0} (P Q : I → List Hold → Type 0) → Locked R A G W → Uber A → List Hold → Type 0
-  Came P Q b v us = Far rack area x owns own n_all refl some old old_all old_many P Q b v us
+  Came P Q b v us = Far rack area x owns own n_all refl some old old_all old_many kind P Q b v us
 
   -- nothing was done
   still : {I : Type 0} (P Q : I → List Hold → Type 0) (a b : Locked R A G W) (u v : Uber A) (us : List Hold) → b ≡ a → v ≡ u → Came P Q a u us → Came P Q b v (us ++ [])
@@ -180,9 +215,9 @@ module _ {R A G W : Type 0} (rack : racks.Ghosts R) (area : areas.Ghosts A) (x :
   lent_far P T m e u us (suc n) a b p q (mid, r, repaired, front, some_left, once, counts) f =
       let mid_far = lent_far P T m e u us n a mid p r front f in
       subst (λ r. Came P (Then (SomeLends g ps kind m r e) T) b u us) (sym counts)
-      (far_hold rack area x owns own n_all refl some old old_all old_many P (Then (SomeLends g ps kind m r e) T) (Then (SomeLends g ps kind m (counted repaired r) e) T) (NextIs (part_in x m) kind false (next.Landed repaired))
+      (far_hold rack area x owns own n_all refl some old old_all old_many kind P (Then (SomeLends g ps kind m r e) T) (Then (SomeLends g ps kind m (counted repaired r) e) T) (NextIs (part_in x m) kind false (next.Landed repaired))
       (then_on T (NextIs (part_in x m) kind false (next.Landed repaired)) (SomeLends g ps kind m r e) (SomeLends g ps kind m (counted repaired r) e) (λ f rest d s. lent_then g ps kind m repaired r e f rest (λ up. some_left up) d.1 s))
-      (UnitIn rack area kind false (next.Landed repaired)) mid m b u us once (units m false (next.Landed repaired) once.before once.after once.did) (unit_quiet rack area owns kind false (next.Landed repaired) once.before once.after once.did) mid_far)
+      (UnitIn rack area kind false (next.Landed repaired)) mid m b u us once (tells_unit rack area x m kind false (next.Landed repaired) once.before once.after once.did) (unit_quiet rack area owns kind false (next.Landed repaired) once.before once.after once.did) mid_far)
 
   -- they are lent, and then none is
   lends_far : {I : Type 0} (P T : I → List Hold → Type 0) (m : ℕ) (u : Uber A) (us : List Hold) (a b : Locked R A G W) (p q : Progress) (result : Visit) → LendsBy rack area lane_last (LaneWent rack area) true owns kind m a p result b q
@@ -191,12 +226,12 @@ module _ {R A G W : Type 0} (rack : racks.Ghosts R) (area : areas.Ghosts A) (x :
     where
       hold_it : (e : Ending) (c : Next) → Once rack area x owns (UnitIn rack area kind l.used c) l.mid m b → ((hs : List Hold) → NextIs (part_in x m) kind l.used c hs → SomeLends g ps kind m l.upto e hs) → Came P (Then (SomeLends g ps kind m p e) T) a u us → Came P T b u us
       hold_it e c once so f =
-          far_hold rack area x owns own n_all refl some old old_all old_many P (Then (SomeLends g ps kind m l.upto e) T) T (NextIs (part_in x m) kind l.used c) (then_end T (NextIs (part_in x m) kind l.used c) (SomeLends g ps kind m l.upto e) so)
-          (UnitIn rack area kind l.used c) l.mid m b u us once (units m l.used c once.before once.after once.did) (unit_quiet rack area owns kind l.used c once.before once.after once.did) (lent_far P T m e u us l.units a l.mid p l.upto l.front f)
+          far_hold rack area x owns own n_all refl some old old_all old_many kind P (Then (SomeLends g ps kind m l.upto e) T) T (NextIs (part_in x m) kind l.used c) (then_end T (NextIs (part_in x m) kind l.used c) (SomeLends g ps kind m l.upto e) so)
+          (UnitIn rack area kind l.used c) l.mid m b u us once (tells_unit rack area x m kind l.used c once.before once.after once.did) (unit_quiet rack area owns kind l.used c once.before once.after once.did) (lent_far P T m e u us l.units a l.mid p l.upto l.front f)
 
       stop_it : (why : SyncFault) (e : Ending) (t : Progress) → e.o ≡ passes.Stopped (end_by why) → Came P (Then (LendIs g ps kind m p (visit.Stopped why) t) T) a u us → Came P (Then (SomeLends g ps kind m p e) T) a u us
       stop_it why e t is f =
-          far_as rack area x owns own n_all refl some old old_all old_many P (Then (LendIs g ps kind m p (visit.Stopped why) t) T) P (Then (SomeLends g ps kind m p e) T) a u us f
+          far_as rack area x owns own n_all refl some old old_all old_many kind P (Then (LendIs g ps kind m p (visit.Stopped why) t) T) P (Then (SomeLends g ps kind m p e) T) a u us f
           (λ left leads i rest z. leads i rest (z.0, z.1, z.2, (z.3.0, e.after, e.tally, subst (λ o. passes.Lends g ps kind m z.3.0 p.left (tally_of p) z.0 o e.after e.tally) is z.3.1), z.4))
 
       either : (hs : List Hold) → (passes.IsUsedUp l.upto.left → ⊥) → passes.KeepsBack g ps m hs (λ v. ⊤) ⊎ passes.StaysOut g ps m None hs → passes.KeepsBack g ps m hs (λ v. passes.IsUsedUp l.upto.left → ⊥) ⊎ passes.StaysOut g ps m l.upto.left hs
@@ -239,10 +274,10 @@ module _ {R A G W : Type 0} (rack : racks.Ghosts R) (area : areas.Ghosts A) (x :
   waited_far P T m end (suc n) a b u v us (mid, w, seen, it, front, once, synced) f =
       let ws = waited_holds rack area x owns own some m n a mid u w front in
       let one = waited_far P T m end n a mid u w us front f in
-      let two = far_hold rack area x owns own n_all refl some old old_all old_many P (Then (Readying g ps m end) T) (Then (Awaits g ps m end) T) (λ hs. passes.Waits g ps m hs []) (then_on T (λ hs. passes.Waits g ps m hs []) (Readying g ps m end) (Awaits g ps m end) (waits_then g ps m end))
-      (ReadiesIn rack area false) mid m seen w (us ++ ws) once (tells_waits rack area x m once.before once.after once.did) (ready_quiet rack area owns false once.before once.after once.did) one in
+      let two = far_hold rack area x owns own n_all refl some old old_all old_many kind P (Then (Readying g ps m end) T) (Then (Awaits g ps m end) T) (λ hs. passes.Waits g ps m hs []) (then_on T (λ hs. passes.Waits g ps m hs []) (Readying g ps m end) (Awaits g ps m end) (waits_then g ps m end))
+      (ReadiesIn rack area false) mid m seen w (us ++ ws) once (tells_waits rack area x m kind once.before once.after once.did) (ready_quiet rack area owns false once.before once.after once.did) one in
       subst (Came P (Then (Readying g ps m end) T) b v) (append_assoc us ws (sync_holds rack area x owns own some seen b w v (Ok it) synced))
-      (far_sync rack area x owns own n_all refl some old old_all old_many P (Then (Awaits g ps m end) T) (Then (Readying g ps m end) T)
+      (far_sync rack area x owns own n_all refl some old old_all old_many kind P (Then (Awaits g ps m end) T) (Then (Readying g ps m end) T)
       (λ i front rest it syncs. then_on T (λ hs. groups.Syncs x.geometry x.perms it.group it.thin hs Went) (Awaits g ps m end) (Readying g ps m end) (λ f r s d. syncs_then g ps m end f r (it.group, it.thin, s) d) i front rest syncs)
       seen b w v (us ++ ws) it synced two)
 
@@ -251,21 +286,21 @@ module _ {R A G W : Type 0} (rack : racks.Ghosts R) (area : areas.Ghosts A) (x :
       → Came P (Then (Readying g ps m Went) T) a u us → Came P T b v (us ++ ready_holds rack area x owns own some m a b u v (Some (Ok done)) it)
   ready_far P T m a b u v us done (n, mid, front, once) f =
       let ws = waited_holds rack area x owns own some m n a mid u v front in
-      far_hold rack area x owns own n_all refl some old old_all old_many P (Then (Readying g ps m Went) T) T (passes.RunsNow g ps m) (then_end T (passes.RunsNow g ps m) (Readying g ps m Went) (λ hs runs. (0, (refl, runs))))
-      (ReadiesIn rack area true) mid m b v (us ++ ws) once (tells_runs rack area x m once.before once.after once.did) (ready_quiet rack area owns true once.before once.after once.did) (waited_far P T m Went n a mid u v us front f)
+      far_hold rack area x owns own n_all refl some old old_all old_many kind P (Then (Readying g ps m Went) T) T (passes.RunsNow g ps m) (then_end T (passes.RunsNow g ps m) (Readying g ps m Went) (λ hs runs. (0, (refl, runs))))
+      (ReadiesIn rack area true) mid m b v (us ++ ws) once (tells_runs rack area x m kind once.before once.after once.did) (ready_quiet rack area owns true once.before once.after once.did) (waited_far P T m Went n a mid u v us front f)
 
   -- or a sync was stopped
   ready_stops : {I : Type 0} (P : I → List Hold → Type 0) (i : I) (m : ℕ) (a b : Locked R A G W) (u v : Uber A) (us : List Hold) (why : SyncFault) (it : ReadiesBy rack area lane_last (LaneWent rack area) true owns (Syncs_in rack area x owns own some) m a u (Some (Err why)) b v)
-      → Came P (Then (Readying g ps m (end_by why)) Nothing) a u us → Says rack area x old b (us ++ ready_holds rack area x owns own some m a b u v (Some (Err why)) it) (But (P i))
+      → Came P (Then (Readying g ps m (end_by why)) Nothing) a u us → Says rack area x old b (us ++ ready_holds rack area x owns own some m a b u v (Some (Err why)) it) (Seen rack area x kind b (But (P i)))
   ready_stops {I} P i m a b u v us why (n, mid, w, seen, front, once, synced) f =
       let end = end_by why in
       let T : I → List Hold → Type 0 = Nothing in
       let ws = waited_holds rack area x owns own some m n a mid u w front in
       let one = waited_far P T m end n a mid u w us front f in
-      let two = far_hold rack area x owns own n_all refl some old old_all old_many P (Then (Readying g ps m end) T) (Then (Awaits g ps m end) T) (λ hs. passes.Waits g ps m hs []) (then_on T (λ hs. passes.Waits g ps m hs []) (Readying g ps m end) (Awaits g ps m end) (waits_then g ps m end))
-      (ReadiesIn rack area false) mid m seen w (us ++ ws) once (tells_waits rack area x m once.before once.after once.did) (ready_quiet rack area owns false once.before once.after once.did) one in
-      subst (λ l. Says rack area x old b l (But (P i))) (append_assoc us ws (sync_holds rack area x owns own some seen b w v (Err why) synced))
-      (far_stop rack area x owns own n_all refl some old old_all old_many P (Then (Awaits g ps m end) T) T i why
+      let two = far_hold rack area x owns own n_all refl some old old_all old_many kind P (Then (Readying g ps m end) T) (Then (Awaits g ps m end) T) (λ hs. passes.Waits g ps m hs []) (then_on T (λ hs. passes.Waits g ps m hs []) (Readying g ps m end) (Awaits g ps m end) (waits_then g ps m end))
+      (ReadiesIn rack area false) mid m seen w (us ++ ws) once (tells_waits rack area x m kind once.before once.after once.did) (ready_quiet rack area owns false once.before once.after once.did) one in
+      subst (λ l. Says rack area x old b l (Seen rack area x kind b (But (P i)))) (append_assoc us ws (sync_holds rack area x owns own some seen b w v (Err why) synced))
+      (far_stop rack area x owns own n_all refl some old old_all old_many kind P (Then (Awaits g ps m end) T) T i why
       (λ hs s. (hs, [], sym (append-nil hs), sync_fails g ps m end hs (subst (groups.SyncStops g ps hs) (sym (end_same why)) s), refl)) seen b w v (us ++ ws) synced two)
 
   -- ---- one metaslab
@@ -280,19 +315,19 @@ module _ {R A G W : Type 0} (rack : racks.Ghosts R) (area : areas.Ghosts A) (x :
   run_far P T m stripe p q result Rebuild same a b u v us done it f =
       let at = begun_at g m stripe p in
       ready_far P (Then (LendIs g ps kind m at result q) T) m a b u v us done it
-      (far_then rack area x owns own n_all refl some old old_all old_many P (Then (RunIs g ps kind m stripe p result q) T) (Then (LendIs g ps kind m at result q) T) (Readying g ps m Went)
+      (far_then rack area x owns own n_all refl some old old_all old_many kind P (Then (RunIs g ps kind m stripe p result q) T) (Then (LendIs g ps kind m at result q) T) (Readying g ps m Went)
       (then_on T (Readying g ps m Went) (RunIs g ps kind m stripe p result q) (LendIs g ps kind m at result q)
       (λ front back ready lends. run_so g ps kind m stripe p at q result front back refl (subst (λ k. passes.ReadyPhase g ps k m front Went) same ready) lends)) a u us f)
   run_far P T m stripe p q result Heal same a b u v us done it f =
       let at = begun_at g m stripe p in
       still P (Then (LendIs g ps kind m at result q) T) a b u v us it.1 it.2
-      (far_as rack area x owns own n_all refl some old old_all old_many P (Then (RunIs g ps kind m stripe p result q) T) P (Then (LendIs g ps kind m at result q) T) a u us f
+      (far_as rack area x owns own n_all refl some old old_all old_many kind P (Then (RunIs g ps kind m stripe p result q) T) P (Then (LendIs g ps kind m at result q) T) a u us f
       (λ left leads i rest z. leads i rest (z.0, z.1, z.2, run_so g ps kind m stripe p at q result [] z.0 refl (subst (λ k. passes.ReadyPhase g ps k m [] Went) same (refl, refl)) z.3, z.4)))
 
   begun_far : {I : Type 0} (P Q T : I → List Hold → Type 0) (m : ℕ) (start : Begun) → ((i : I) (front rest : List Hold) → BeginIs g ps kind m start front → T i rest → Q i (front ++ rest)) → (a b : Locked R A G W) (u : Uber A) (us : List Hold)
       → BeginsBy rack area lane_last (LaneWent rack area) true owns kind m a start b → Came P Q a u us → Came P T b u us
   begun_far P Q T m start how a b u us (came, is, once) f =
-      far_hold rack area x owns own n_all refl some old old_all old_many P Q T (BeginIs g ps kind m start) how (λ before after. StartsIn rack area kind before came after) a m b u us once (tells_starts rack area x m kind came start is once.before once.after once.did)
+      far_hold rack area x owns own n_all refl some old old_all old_many kind P Q T (BeginIs g ps kind m start) how (λ before after. StartsIn rack area kind before came after) a m b u us once (tells_starts rack area x m kind came start is once.before once.after once.did)
       (quiet_by rack area owns once.before once.after once.did.valid once.did.part once.did.blocks) f
 
   -- it is visited to its end, or pauses
@@ -324,7 +359,7 @@ module _ {R A G W : Type 0} (rack : racks.Ghosts R) (area : areas.Ghosts A) (x :
 
   -- or is stopped
   visit_stops : {I : Type 0} (P : I → List Hold → Type 0) (i : I) (m : ℕ) (why : SyncFault) (a b : Locked R A G W) (u v : Uber A) (p q : Progress) (us : List Hold) (it : Visit_here m a u p (visit.Stopped why) b v q)
-      → Came P (Then (VisitIs g ps kind m p (visit.Stopped why) q) Nothing) a u us → Says rack area x old b (us ++ visit_holds rack area x owns own some kind m a b u v p q (Some (visit.Stopped why)) it) (But (P i))
+      → Came P (Then (VisitIs g ps kind m p (visit.Stopped why) q) Nothing) a u us → Says rack area x old b (us ++ visit_holds rack area x owns own some kind m a b u v p q (Some (visit.Stopped why)) it) (Seen rack area x kind b (But (P i)))
   visit_stops {I} P i m why a b u v p q us it f = by it.start it.begins it.behind
     where
       T : I → List Hold → Type 0
@@ -332,17 +367,17 @@ module _ {R A G W : Type 0} (rack : racks.Ghosts R) (area : areas.Ghosts A) (x :
 
       sync_stops : (of : PassKind) (same : of ≡ kind) (cause : SyncFault) → why ≡ cause → (stripe : ℕ) (last : Locked R A G W) → b ≡ last
           → (runs : RunsBy rack area lane_last (LaneWent rack area) true owns (Syncs_in rack area x owns own some) of m it.mid u (Some (Err cause)) last v) → Came P (Then (RunIs g ps kind m stripe p (visit.Stopped why) q) T) it.mid u us
-          → Says rack area x old b (us ++ run_holds rack area x owns own some of m it.mid last u v (Some (Err cause)) runs) (But (P i))
+          → Says rack area x old b (us ++ run_holds rack area x owns own some of m it.mid last u v (Some (Err cause)) runs) (Seen rack area x kind b (But (P i)))
       sync_stops Rebuild same cause is stripe last at runs f =
-          subst (λ s. Says rack area x old s (us ++ run_holds rack area x owns own some Rebuild m it.mid last u v (Some (Err cause)) runs) (But (P i))) (sym at)
+          subst (λ s. Says rack area x old s (us ++ run_holds rack area x owns own some Rebuild m it.mid last u v (Some (Err cause)) runs) (Seen rack area x kind s (But (P i)))) (sym at)
           (ready_stops P i m it.mid last u v us cause runs
-          (far_as rack area x owns own n_all refl some old old_all old_many P (Then (RunIs g ps kind m stripe p (visit.Stopped why) q) T) P (Then (Readying g ps m (end_by cause)) T) it.mid u us f
+          (far_as rack area x owns own n_all refl some old old_all old_many kind P (Then (RunIs g ps kind m stripe p (visit.Stopped why) q) T) P (Then (Readying g ps m (end_by cause)) T) it.mid u us f
           (λ left leads j rest z. leads j rest (z.0, z.1, z.2, inr (subst (λ k. passes.ReadyPhase g ps k m z.0 (end_by why)) same (subst (λ w. Readying g ps m (end_by w) z.0) (sym is) z.3)), z.4))))
       sync_stops Heal same cause is stripe last at runs f = absurd (let none = runs.0 in cc)
 
       by : (start : Begun) → BeginsBy rack area lane_last (LaneWent rack area) true owns kind m a start it.mid
           → (is : VisitsBehind rack area lane_last (LaneWent rack area) true owns (Syncs_in rack area x owns own some) x.geometry kind m it.mid u p start (Some (visit.Stopped why)) b v q)
-          → Says rack area x old b (us ++ behind_holds rack area x owns own some kind m it.mid b u v p q start (Some (visit.Stopped why)) is) (But (P i))
+          → Says rack area x old b (us ++ behind_holds rack area x owns own some kind m it.mid b u v p q start (Some (visit.Stopped why)) is) (Seen rack area x kind b (But (P i)))
       by (begun.At stripe) begins (made, last, runs, lends) = at_stripe made last runs lends
         where
           one : Came P (Then (RunIs g ps kind m stripe p (visit.Stopped why) q) T) it.mid u us
@@ -350,16 +385,16 @@ module _ {R A G W : Type 0} (rack : racks.Ghosts R) (area : areas.Ghosts A) (x :
               (then_on T (BeginIs g ps kind m (begun.At stripe)) (VisitIs g ps kind m p (visit.Stopped why) q) (RunIs g ps kind m stripe p (visit.Stopped why) q) (λ front back starts runs. visit_so g ps kind m stripe p q (visit.Stopped why) front back starts runs)) a it.mid u us begins f
 
           at_stripe : (made : Option (Result Unit SyncFault)) (last : Locked R A G W) (runs : RunsBy rack area lane_last (LaneWent rack area) true owns (Syncs_in rack area x owns own some) kind m it.mid u made last v)
-              → LendsBehind rack area lane_last (LaneWent rack area) true owns x.geometry kind m stripe last p made (Some (visit.Stopped why)) b q → Says rack area x old b (us ++ run_holds rack area x owns own some kind m it.mid last u v made runs) (But (P i))
+              → LendsBehind rack area lane_last (LaneWent rack area) true owns x.geometry kind m stripe last p made (Some (visit.Stopped why)) b q → Says rack area x old b (us ++ run_holds rack area x owns own some kind m it.mid last u v made runs) (Seen rack area x kind b (But (P i)))
           at_stripe (Some (Ok done)) last runs lends =
               let rs = run_holds rack area x owns own some kind m it.mid last u v (Some (Ok done)) runs in
-              far_done rack area x owns own n_all refl some old old_all old_many P T i b v (us ++ rs) refl
+              far_done rack area x owns own n_all refl some old old_all old_many kind P T i b v (us ++ rs) refl
               (lends_far P T m v (us ++ rs) last b (begun_at g m stripe p) q (visit.Stopped why) lends (run_far P T m stripe p q (visit.Stopped why) kind refl it.mid last u v us done runs one))
           at_stripe (Some (Err cause)) last runs lends = sync_stops kind refl cause lends.0 stripe last lends.1 runs one
           at_stripe None last runs lends = absurd lends
       by begun.Nothing begins is = absurd is
       by (begun.Stopped cause) begins is =
-          far_done rack area x owns own n_all refl some old old_all old_many P T i b v (us ++ []) refl
+          far_done rack area x owns own n_all refl some old old_all old_many kind P T i b v (us ++ []) refl
           (still P T it.mid b u v us is.1 is.2
           (begun_far P (Then (VisitIs g ps kind m p (visit.Stopped why) q) T) T m (begun.Stopped cause)
           (then_end T (BeginIs g ps kind m (begun.Stopped cause)) (VisitIs g ps kind m p (visit.Stopped why) q) (λ hs none. inr (stops_at g ps kind m hs why (subst (λ w. passes.PlansNone g ps kind m hs (end_by w)) (sym is.0) none)))) a it.mid u us begins f))
@@ -385,10 +420,10 @@ module _ {R A G W : Type 0} (rack : racks.Ghosts R) (area : areas.Ghosts A) (x :
     at_far true m marked a b u v p q us it f =
         let y = inside m a b u v p q us visit.Over it f in
         visit_far P (Left q (m + 1)) m visit.Over (λ why is. absurd (cc)) a b u v p q us it
-        (far_then rack area x owns own n_all refl some old old_all old_many P (Left p m) (Left q (m + 1)) (VisitIs g ps kind m p visit.Over q) (λ e front rest visits is. over_then z kind marks m y.0 y.1 marked p q e front rest visits is) a u us f)
+        (far_then rack area x owns own n_all refl some old old_all old_many kind P (Left p m) (Left q (m + 1)) (VisitIs g ps kind m p visit.Over q) (λ e front rest visits is. over_then z kind marks m y.0 y.1 marked p q e front rest visits is) a u us f)
     at_far false m none a b u v p q us it f =
         still P (Left q (m + 1)) a b u v us it.0 it.1
-        (far_as rack area x owns own n_all refl some old old_all old_many P (Left p m) P (Left q (m + 1)) a u us f (λ left leads e rest is. leads e rest (by (cases_lt m (length ys)) e rest (subst (λ r. Left r (m + 1) e rest) it.2 is))))
+        (far_as rack area x owns own n_all refl some old old_all old_many kind P (Left p m) P (Left q (m + 1)) a u us f (λ left leads e rest is. leads e rest (by (cases_lt m (length ys)) e rest (subst (λ r. Left r (m + 1) e rest) it.2 is))))
       where
         by : (m < length ys) ⊎ (length ys ≤ m) → (e : VisitsEnd) (rest : List Hold) → Left p (m + 1) e rest → Left p m e rest
         by (inl less) e rest is = (let y = present ys m less in passed_by z kind marks m y.0 y.1 p e rest (λ marked. true≢false (sym marked ∙ none)) is)
@@ -423,9 +458,9 @@ module _ {R A G W : Type 0} (rack : racks.Ghosts R) (area : areas.Ghosts A) (x :
 
     pub visits_said : (first place : ℕ) (result : Visit) (a b : Locked R A G W) (u v : Uber A) (p q : Progress) (us : List Hold)
         (it : VisitsBy rack area lane_last (LaneWent rack area) true owns (Syncs_in rack area x owns own some) x.geometry kind marks first a u p (Some result) place b v q) → Came P (Left p first) a u us
-        → Says rack area x old b (us ++ visits_holds rack area x owns own some kind marks first (Some result) place a b u v p q it) (But (EndsSo result q))
+        → Says rack area x old b (us ++ visits_holds rack area x owns own some kind marks first (Some result) place a b u v p q it) (Seen rack area x kind b (But (EndsSo result q)))
     visits_said first place visit.Over a b u v p q us (many, most, front) f =
-        far_done rack area x owns own n_all refl some old old_all old_many P (Left q (first + many)) (record { o = passes.Ended; tally = tally_of q }) b v (us ++ upto_holds rack area x owns own some kind marks first many a b u v p q front)
+        far_done rack area x owns own n_all refl some old old_all old_many kind P (Left q (first + many)) (record { o = passes.Ended; tally = tally_of q }) b v (us ++ upto_holds rack area x owns own some kind marks first many a b u v p q front)
         (none_left z kind marks (first + many) q (omega (arith, long, most))) (upto_far first many a b u v p q us front f)
     visits_said first place visit.Paused a b u v p q us s f =
         let e : VisitsEnd = record { o = passes.Paused; tally = tally_of q } in
@@ -434,10 +469,10 @@ module _ {R A G W : Type 0} (rack : racks.Ghosts R) (area : areas.Ghosts A) (x :
         let one = front_far first place (Some visit.Paused) a b u v p q us s f in
         let y = inside place s.mid b s.uber v s.upto q (us ++ fs) visit.Paused s.stop one in
         let Q : Unit {0} → List Hold → Type 0 = (λ i. P e) in
-        subst (λ l. Says rack area x old b l (But (P e))) (append_assoc us fs vs)
-        (far_done rack area x owns own n_all refl some old old_all old_many Q Nothing tt b v ((us ++ fs) ++ vs) refl
+        subst (λ l. Says rack area x old b l (Seen rack area x kind b (But (P e)))) (append_assoc us fs vs)
+        (far_done rack area x owns own n_all refl some old old_all old_many kind Q Nothing tt b v ((us ++ fs) ++ vs) refl
         (visit_far Q Nothing place visit.Paused (λ why is. absurd (cc)) s.mid b s.uber v s.upto q (us ++ fs) s.stop
-        (far_as rack area x owns own n_all refl some old old_all old_many P (Left s.upto place) Q (Then (VisitIs g ps kind place s.upto visit.Paused q) Nothing) s.mid s.uber (us ++ fs) one
+        (far_as rack area x owns own n_all refl some old old_all old_many kind P (Left s.upto place) Q (Then (VisitIs g ps kind place s.upto visit.Paused q) Nothing) s.mid s.uber (us ++ fs) one
         (λ left leads i rest t. subst (P e) (last_of left rest t.0 t.1 t.2 t.4) (leads e t.0 (pauses_there z kind marks place y.0 y.1 s.marked s.upto q t.0 t.3))))))
     visits_said first place (visit.Stopped why) a b u v p q us s f =
         let fs = upto_holds rack area x owns own some kind marks first s.many a s.mid u s.uber p s.upto s.front in
@@ -445,9 +480,9 @@ module _ {R A G W : Type 0} (rack : racks.Ghosts R) (area : areas.Ghosts A) (x :
         let one = front_far first place (Some (visit.Stopped why)) a b u v p q us s f in
         let y = inside place s.mid b s.uber v s.upto q (us ++ fs) (visit.Stopped why) s.stop one in
         let Q : Unit {0} → List Hold → Type 0 = (λ i. EndsSo (visit.Stopped why) q) in
-        subst (λ l. Says rack area x old b l (But (EndsSo (visit.Stopped why) q))) (append_assoc us fs vs)
+        subst (λ l. Says rack area x old b l (Seen rack area x kind b (But (EndsSo (visit.Stopped why) q)))) (append_assoc us fs vs)
         (visit_stops Q tt place why s.mid b s.uber v s.upto q (us ++ fs) s.stop
-        (far_as rack area x owns own n_all refl some old old_all old_many P (Left s.upto place) Q (Then (VisitIs g ps kind place s.upto (visit.Stopped why) q) Nothing) s.mid s.uber (us ++ fs) one
+        (far_as rack area x owns own n_all refl some old old_all old_many kind P (Left s.upto place) Q (Then (VisitIs g ps kind place s.upto (visit.Stopped why) q) Nothing) s.mid s.uber (us ++ fs) one
         (λ left leads i rest t. (
-          let w = stops_there z kind marks place y.0 y.1 s.marked s.upto q why t.0 t.3 in
-          (w.0, subst (P (record { o = passes.Stopped (end_by why); tally = w.0 })) (last_of left rest t.0 t.1 t.2 t.4) (leads (record { o = passes.Stopped (end_by why); tally = w.0 }) t.0 w.1))))))
+        let w = stops_there z kind marks place y.0 y.1 s.marked s.upto q why t.0 t.3 in
+        (w.0, subst (P (record { o = passes.Stopped (end_by why); tally = w.0 })) (last_of left rest t.0 t.1 t.2 t.4) (leads (record { o = passes.Stopped (end_by why); tally = w.0 }) t.0 w.1))))))

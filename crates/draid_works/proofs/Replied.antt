@@ -1,16 +1,16 @@
 -- Replies of a lane to lines one after another.
-use Rattle.std.proofs.Common.{◌≡◌, ◌∙◌, ◌++◌, ◌∷◌, ◌+◌, ◌<◌, ◌⊎◌, inl, inr, ℕ, zero, suc, Bool, true, false, List, [], Option, Some, Result, Ok, Err, IfOk, length, take, ap, arith, refl, subst, sym, ⊎_elim}
+use Rattle.std.proofs.Common.{◌≡◌, ◌∙◌, ◌++◌, ◌∷◌, ◌+◌, ◌⊎◌, inl, inr, ℕ, zero, suc, true, false, List, [], Option, Some, Ok, Err, length, take, ap, arith, refl, subst, sym, ⊎_elim}
 use Rattle.std.specs.Prelude.{slice_get}
 use Rattle.draid_names.specs.declared.fault.Failed.{Failed}
 use Rattle.draid_rack.specs.declared.Rack as racks
 use Rattle.draid_area.specs.declared.Area as areas
-use Rattle.draid_script.specs.Line.{Command, command_in}
+use Rattle.draid_script.specs.Line.{command_in}
 use Rattle.draid_script.specs.declared.line.Line.{Line}
 use Rattle.draid_reply.specs.declared.reply.Reply.{Reply}
 use Rattle.draid_session.specs.Choices.{Choices}
 use Rattle.draid_session.specs.Replies.{IsReplyTo}
 use Rattle.draid_lanes.specs.declared.lane.Lane.{Lane}
-use Rattle.draid_works.specs.Job.{AreRepliesTo, CommandsDone, LeavesWhole, MayBeGiven}
+use Rattle.draid_works.specs.Job.{AreRepliesTo, CommandsDone, LeavesWhole}
 use Rattle.draid_works.specs.Replied.{CommandDone}
 use Rattle.draid_works.proofs.FilledIn.{same_then}
 

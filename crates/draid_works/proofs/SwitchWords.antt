@@ -1,8 +1,10 @@
 -- A leaf that goes offline in a lane's metaslabs or comes back, in the session's words, behind what was closing.
-use Rattle.std.proofs.Common.{◌≡◌, ◌<◌, ◌+◌, ◌++◌, ◌∙◌, [], inl, inr, ℕ, zero, suc, Bool, true, List, Ok, Err, arith, refl, sym, subst}
+use Rattle.std.proofs.Common.{◌≡◌, ◌<◌, ◌+◌, ◌++◌, ◌∙◌, [], inl, inr, ℕ, zero, suc, Bool, true, false, List, Ok, Err, arith, refl, sym, subst}
 use Rattle.draid_rack.specs.declared.Rack as racks
 use Rattle.draid_area.specs.declared.Area as areas
 use Rattle.draid_machine.specs.declared.event.Event.{Event}
+use Rattle.draid_machine.specs.declared.event.Event.TheVariants as event
+use Rattle.draid_machine.specs.declared.names.Key.{Key}
 use Rattle.draid_session.specs.Arms as arms
 use Rattle.draid_session.specs.Holds.{Did, Hold}
 use Rattle.draid_session.specs.Lanes.{IsLookOnly, LeavesLooks}
@@ -17,6 +19,7 @@ use Rattle.draid_pool.proofs.Walks.{Walked, walk_stops, walk_went}
 use Rattle.draid_changes.specs.Switching.{ReservesEach, ReservesOne, SeesLeaf, SwitchesEach}
 use Rattle.draid_changes.specs.Walks.{Switches, end_of_reserving, switch_event}
 use Rattle.draid_entries.specs.declared.history.ReserveFault.{ReserveFault}
+use Rattle.draid_entries.specs.declared.history.ReserveFault.TheVariants as reserve
 use Rattle.draid_changes.proofs.OwnedSwitch.{reserving_by}
 use Rattle.draid_changes.proofs.Reserved.{not_through, reserve_stops, reserve_turns}
 use Rattle.draid_changes.proofs.Switched.{switch_did}
@@ -28,7 +31,7 @@ use Rattle.draid_lanes.proofs.FinishWords.Stage.{Begins, Waits}
 use Rattle.draid_lanes.proofs.GroupWords.{each_of}
 use Rattle.draid_lanes.proofs.OneTurn.{HasCame, Once}
 use Rattle.draid_lanes.proofs.OnlyLooking.{same_looks}
-use Rattle.draid_lanes.proofs.RoundWords.{IsOneOf, Says, TellsAt, round_said, said_on, said_one}
+use Rattle.draid_lanes.proofs.RoundWords.{EndsNone, IsOneOf, Says, TellsAt, looks_end, round_said, said_on, said_one}
 use Rattle.draid_lanes.proofs.SealWords.{leaves_self, walked_zero}
 use Rattle.draid_works.specs.Switched.{TriedOn}
 
@@ -37,6 +40,15 @@ pub record RestBut (x : State) (e : Event) (end : End) (hs : List Hold) : Type 0
   pub left : List Hold
   pub leaves : LeavesLooks hs left
   pub does : Chain (arms.ReservePhase x.geometry x.perms (arms.one_event x.geometry x.perms)) (arms.EventPhase x.geometry x.perms e) left end
+
+-- no ticket is ended
+switch_ends : (leaf : ℕ) (offline : Bool) (key : Key) → event.Finish key ≡ switch_event leaf offline → ⊥
+switch_ends leaf true key same = absurd (cc)
+switch_ends leaf false key same = absurd (cc)
+
+short_ends : (x : State) (why : ReserveFault) (m : ℕ) → EndsNone (λ hold. arms.ReserveStops x.geometry x.perms (arms.one_event x.geometry x.perms) m hold (end_of_reserving (Err why)))
+short_ends x (reserve.Worn events) m v key w is = is
+short_ends x reserve.NoMemory m v key w is = is
 
 -- a look in front
 look_front : (hs ks left : List Hold) → IsOneOf IsLookOnly hs → LeavesLooks ks left → LeavesLooks (hs ++ ks) left
@@ -71,7 +83,7 @@ module _ {R A G W : Type 0} (rack : racks.Ghosts R) (area : areas.Ghosts A) (x :
 
   -- the first metaslab is looked at
   pub seen_said : (there : Bool) (a b : Locked R A G W) → Once rack area x owns (SeesLeaf leaf there) a 0 b → HasCame rack area x a → Says rack area x a b [] (IsOneOf IsLookOnly)
-  seen_said there a b h came = said_one rack area x owns (SeesLeaf leaf there) IsLookOnly a 0 b h came (λ pieces y is. same_looks rack area (part_in x 0) pieces h.before h.after y is h.did.same)
+  seen_said there a b h came = said_one rack area x owns (SeesLeaf leaf there) IsLookOnly a 0 b h came (λ pieces y is. same_looks rack area (part_in x 0) pieces h.before h.after y is h.did.same) looks_end
 
   pub rest_went : (a seen late b : Locked R A G W) → Once rack area x owns (SeesLeaf leaf true) a 0 seen → ReservesEach rack area lane_last (LaneWent rack area) true owns count seen (Ok tt) late
       → SwitchesEach rack area lane_last (LaneWent rack area) true owns count leaf offline late b → HasCame rack area x a → Says rack area x a b [] (RestBut x (switch_event leaf offline) Went)
@@ -80,8 +92,8 @@ module _ {R A G W : Type 0} (rack : racks.Ghosts R) (area : areas.Ghosts A) (x :
       let one = seen_said true a seen look came in
       let P = λ (m : ℕ) (hold : Hold) (n : ℕ). arms.Reserves x.geometry x.perms (arms.one_event x.geometry x.perms) m hold 0 in
       let Q = λ (m : ℕ) (hold : Hold) (n : ℕ). arms.Happens x.geometry x.perms e m hold in
-      let first = round_said rack area x owns (λ n before after. ReservesOne rack before (Ok tt) after) P (tells_reserve rack area x) count 0 seen late reserves one.came in
-      let second = round_said rack area x owns (λ n before after. Switches rack leaf offline before after) Q (tells_switch rack area x leaf offline) count 0 late b switches first.came in
+      let first = round_said rack area x owns (λ n before after. ReservesOne rack before (Ok tt) after) P (tells_reserve rack area x) (λ n m v key w is. is) count 0 seen late reserves one.came in
+      let second = round_said rack area x owns (λ n before after. Switches rack leaf offline before after) Q (tells_switch rack area x leaf offline) (λ n m v key w is. switch_ends leaf offline key is.1) count 0 late b switches first.came in
       said_on rack area x a seen b [] [] (IsOneOf IsLookOnly) (RestBut x e Went) (RestBut x e Went) one
       (said_on rack area x seen late b [] [] (λ hs. Walked P 0 count hs 0) (λ hs. Walked Q 0 count hs 0) (RestBut x e Went) first second
       (λ hs ks w v. record {
@@ -108,8 +120,8 @@ module _ {R A G W : Type 0} (rack : racks.Ghosts R) (area : areas.Ghosts A) (x :
       let one = seen_said true a seen look came in
       let P = λ (m : ℕ) (hold : Hold) (n : ℕ). arms.Reserves x.geometry x.perms (arms.one_event x.geometry x.perms) m hold 0 in
       let S = λ (hold : Hold). arms.ReserveStops x.geometry x.perms (arms.one_event x.geometry x.perms) stop.place hold end in
-      let first = round_said rack area x owns (λ n before after. ReservesOne rack before (Ok tt) after) P (tells_reserve rack area x) stop.place stop.sum seen stop.mid stop.front one.came in
-      let last = said_one rack area x owns (λ before after. ReservesOne rack before (Err short) after) S stop.mid stop.place b stop.stop first.came (tells_short rack area x short stop.place stop.stop.before stop.stop.after stop.stop.did) in
+      let first = round_said rack area x owns (λ n before after. ReservesOne rack before (Ok tt) after) P (tells_reserve rack area x) (λ n m v key w is. is) stop.place stop.sum seen stop.mid stop.front one.came in
+      let last = said_one rack area x owns (λ before after. ReservesOne rack before (Err short) after) S stop.mid stop.place b stop.stop first.came (tells_short rack area x short stop.place stop.stop.before stop.stop.after stop.stop.did) (λ v key w is. short_ends x short stop.place v key w is) in
       said_on rack area x a seen b [] [] (IsOneOf IsLookOnly) (RestBut x e end) (RestBut x e end) one
       (said_on rack area x seen stop.mid b [] [] (λ hs. Walked P 0 stop.place hs stop.sum) (IsOneOf S) (RestBut x e end) first last
       (λ hs ks w o. record {

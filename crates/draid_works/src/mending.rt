@@ -200,7 +200,6 @@ fn mend_in_lane<'a, 'b, R: Rack, A: Area, G: Gate, W: Wait>(
     ensures knows { (x : State) → LaneKnows R.Rack A.Area lane.entry x → LaneKnowsLater R.Rack A.Area result.0 x }
     ensures cause { IsErrOf result.1 MendFault.Shelf → AreaFailedIn R.Rack A.Area lane.entry.uber.now lane.entry.metaslabs result.0.metaslabs lane.entry.pass result.0.pass }
     ensures within { IfOk result.1 (λ it. IsWithin limit it.units it.paused) }
-    ensures told { (x : State) → x.geometry ≡ lane.entry.geometry → length x.metaslabs ≡ x.geometry.props.metaslabs → LaneTold R.Rack A.Area x (MendLane x kind (SawBytes R.Rack A.Area x result.0) limit result.1) lane.entry result.0 }
     ensures mends { MendedIn R.Rack A.Area lane.entry.geometry kind limit lane.entry.uber.now lane.entry.metaslabs result.0.metaslabs result.1 lane.entry.pass result.0.pass }
 {
     let Lane {

@@ -1,5 +1,4 @@
-use Rattle.std.proofs.Common.{◌≡◌, refl, sym}
-use Rattle.draid_lanes.specs.Jobs.{HasRun}
+use Rattle.std.proofs.Common.{refl, sym}
 use Rattle.draid_lanes.proofs.jobs.run_lane.Goals as goal
 
 pub returns-in-Some : goal.returns-in-Some

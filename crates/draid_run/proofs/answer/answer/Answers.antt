@@ -49,7 +49,7 @@ pub returns-in_default : goal.returns-in_default
 returns-in_default g c = record {
   answer = λ entry x desk.
       answer_ask g.H.R.Rack g.H.A.Area (choices_with (FnReturnsAt g.F.Fn c.args.chooser.now) (PolicyReturns g.P.Fn c.args.policy.now)) c.args.journal.now.entries entry (on_shelf g.H.Shelf c.args.shelf.now) c.args.pool.now x desk (command_in c.args.line.now)
-      (is_unbuilt c.args.line.now c.in_default.not-Nothing c.in_default.not-Create c.in_default.not-Import c.in_default.not-Export c.in_default.not-Crash c.in_default.not-Agent c.in_default.not-AgentLog)
+      (is_unbuilt c.args.line.now c.in_default.not-Nothing c.in_default.not-Create c.in_default.not-Import c.in_default.not-Export c.in_default.not-Crash c.in_default.not-Agent c.in_default.not-AgentLog c.requires.alone)
       c.ask.new.pool c.ask.result c.said-in_default.result c.said-in_default.ensures
       (asked_with g.H.R.Rack g.H.A.Area (FnReturnsAt g.F.Fn c.args.chooser.now) (PolicyReturns g.P.Fn c.args.policy.now) (command_in c.args.line.now) c.args.pool.now x c.ask.new.pool c.ask.result (c.ask.ensures.did x desk.stands));
   later = same_later (g.H.Shelf.faults c.args.shelf.now);

@@ -1,8 +1,8 @@
-use Rattle.std.proofs.Common.{inl, refl}
+use Rattle.std.proofs.Common.{refl}
 use Rattle.draid_agent.specs.Policy.{PolicyReturns}
 use Rattle.draid_pool.proofs.Rises.{rose_fails}
 use Rattle.draid_run.proofs.Agents.{agent_breaks, agent_open, agent_shut}
-use Rattle.draid_run.proofs.Steps.{broke_open, is_whole}
+use Rattle.draid_run.proofs.Steps.{is_whole}
 use Rattle.draid_run.proofs.answer.ask_agent.Goals as goal
 
 pub returns-in-Ok : goal.returns-in-Ok

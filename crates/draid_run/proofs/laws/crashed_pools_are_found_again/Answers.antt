@@ -1,5 +1,7 @@
 use Rattle.std.proofs.Common.{[], ◌∷◌, ◌++◌, subst, true}
-use Rattle.draid_session.specs.Session.{Agrees, Runs, sits}
+use Rattle.draid_session.specs.Places.{Outside}
+use Rattle.draid_session.specs.Sections.{RunsOn}
+use Rattle.draid_session.specs.Session.{Agrees, sits}
 use Rattle.draid_run.specs.Shelves.{MayFind}
 use Rattle.draid_run.proofs.Next.{again}
 use Rattle.draid_run.proofs.Runs.{shelf_agrees}
@@ -12,7 +14,7 @@ returns g c words status input old new entry now first it tells holds known fron
     let s = it.session in
     let start = sits first [] in
     let mid = sits s.mid s.journal in
-    let told = subst (λ b. Runs choices finds b start s.lines s.replies mid) tells s.runs in
-    let lined = subst (λ ls. Runs choices finds true start ls s.replies mid) lines told in
-    let runs = subst (λ rs. Runs choices finds true start (front ++ (crash ∷ import ∷ back)) rs mid) replies lined in
-    again choices finds crash import back called group objects behind mid is_crash is_import front said start same known (subst (λ b. Agrees b first) tells (shelf_agrees first entry entry holds)) runs
+    let told = subst (λ b. RunsOn choices finds b Outside start s.lines s.replies s.to mid) tells s.runs in
+    let lined = subst (λ ls. RunsOn choices finds true Outside start ls s.replies s.to mid) lines told in
+    let runs = subst (λ rs. RunsOn choices finds true Outside start (front ++ (crash ∷ import ∷ back)) rs s.to mid) replies lined in
+    again choices finds crash import back called group objects behind s.to mid front said start same is_crash is_import known (subst (λ b. Agrees b first) tells (shelf_agrees first entry entry holds)) runs

@@ -1,7 +1,6 @@
 use Rattle.std.proofs.Common.{arith, ◌∙◌, [], refl, sym}
 use Rattle.std.proofs.lemmas.List.{append-nil}
 use Rattle.draid_agent.specs.Policy.{PolicyReturns}
-use Rattle.draid_pool.proofs.Rises.{areas_still}
 use Rattle.draid_changes.proofs.GivenTo.{sliced}
 use Rattle.draid_run.proofs.Repaired.{agent_cause, agent_fits, agent_notes, agent_step, agent_wants, list_added, list_short, some_entries}
 use Rattle.draid_run.proofs.repairing.reply_to_agent.Goals as goal

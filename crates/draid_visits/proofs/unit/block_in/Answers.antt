@@ -4,11 +4,11 @@ use Rattle.draid_shard.specs.declared.loan.Lent.TheVariants.{End, Unit}
 use Rattle.draid_pool.specs.Drifts.{KeepsGroups}
 use Rattle.draid_pool.specs.Metaslabs.{IsMetaslab}
 use Rattle.draid_pool.specs.Shards.{SameBlocks}
-use Rattle.draid_visits.specs.Steps.{NextIs}
+use Rattle.draid_visits.specs.Steps.{HadContents, NextIs}
 use Rattle.draid_visits.specs.declared.steps.Next.TheVariants as next
 use Rattle.draid_visits.proofs.Blocks.{block_goes, block_moves, few_rewritten, landed_is, moves_on, on_ok, solved_here, stays_out, tells}
 use Rattle.draid_visits.proofs.ToLend.{only_counted, only_moved, only_none, only_scrub}
-use Rattle.draid_visits.proofs.Lifting.{goes_later, goes_to}
+use Rattle.draid_visits.proofs.Lifting.{goes_later, goes_to, goes_under}
 use Rattle.draid_visits.proofs.Over.{ok_as, starved, worn, worn_as}
 use Rattle.draid_visits.proofs.Tables.{groups_landed, groups_left, groups_stay, table_landed, table_stays}
 use Rattle.draid_visits.proofs.unit.block_in.Goals as goal
@@ -36,12 +36,13 @@ returns-then-is_err-clause-moves g c = λ part pieces x at.
     (stays_out g.R.Rack g.A.Area c.args.shard.now c.lend.new.shard c.solve.new.shard (l.unit is) l.valid l.areas l.reserve (l.not_worn is) s.valid s.only s.none part pieces x at))
 
 pub returns-then-is_err-clause-goes : goal.returns-then-is_err-clause-goes
-returns-then-is_err-clause-goes g c = λ part pieces x at contents.
+returns-then-is_err-clause-goes g c = λ part pieces x at.
     (let is = ok_as c.lend.result c.in-Ok-Unit.field-0 Unit c.in-Ok-Unit.is c.in-Ok-Unit.field-0-is in
     let l = c.lend.ensures in
     let s = c.solve.ensures in
-    goes_to g.R.Rack g.A.Area part pieces x c.solve.new.shard (λ holds y. NextIs part Heal false next.NoMemory holds × SameBlocks x y)
-    (stays_out g.R.Rack g.A.Area c.args.shard.now c.lend.new.shard c.solve.new.shard (l.unit is) l.valid l.areas l.reserve (l.not_worn is) s.valid s.only s.none part pieces x at))
+    goes_under g.R.Rack g.A.Area part pieces x c.solve.new.shard (HadContents g.R.Rack g.A.Area part c.args.shard.now x) (NextIs part Heal false next.NoMemory)
+    (goes_to g.R.Rack g.A.Area part pieces x c.solve.new.shard (λ holds y. NextIs part Heal false next.NoMemory holds × SameBlocks x y)
+    (stays_out g.R.Rack g.A.Area c.args.shard.now c.lend.new.shard c.solve.new.shard (l.unit is) l.valid l.areas l.reserve (l.not_worn is) s.valid s.only s.none part pieces x at)))
 
 pub land-requires-clause-here : goal.land-requires-clause-here
 land-requires-clause-here g c =
@@ -100,13 +101,13 @@ returns-else-is_err-clause-moves g c = λ part pieces x at.
     (on_ok c.solve.result _ (sym c.is_err.ensures.value ∙ c.if-is_err.false) s.solves) c.land.result c.min.result c.min.ensures e.valid e.areas e.lands e.reserve)
 
 pub returns-else-is_err-clause-goes : goal.returns-else-is_err-clause-goes
-returns-else-is_err-clause-goes g c = λ part pieces x at contents.
+returns-else-is_err-clause-goes g c = λ part pieces x at.
     (let is = ok_as c.lend.result c.in-Ok-Unit.field-0 Unit c.in-Ok-Unit.is c.in-Ok-Unit.field-0-is in
     let l = c.lend.ensures in
     let s = c.solve.ensures in
     let e = c.land.ensures in
     block_goes g.R.Rack g.A.Area c.args.shard.now c.lend.new.shard c.solve.new.shard (l.unit is) l.valid l.areas l.reserve (l.not_worn is) s.valid s.only s.none part pieces x at c.land.new.shard
-    (on_ok c.solve.result _ (sym c.is_err.ensures.value ∙ c.if-is_err.false) s.solves) c.land.result c.min.result c.min.ensures e.valid e.areas e.lands e.reserve contents)
+    (on_ok c.solve.result _ (sym c.is_err.ensures.value ∙ c.if-is_err.false) s.solves) c.land.result c.min.result c.min.ensures e.valid e.areas e.lands e.reserve)
 
 pub returns-in-Ok-End-clause-groups : goal.returns-in-Ok-End-clause-groups
 returns-in-Ok-End-clause-groups g c =
@@ -123,10 +124,11 @@ returns-in-Ok-End-clause-moves g c = λ part pieces x at.
     (c.end_in.ensures.goes part pieces x (subst (λ s. IsMetaslab g.R.Rack g.A.Area part pieces s x) (sym end.1) at)))
 
 pub returns-in-Ok-End-clause-goes : goal.returns-in-Ok-End-clause-goes
-returns-in-Ok-End-clause-goes g c = λ part pieces x at contents.
+returns-in-Ok-End-clause-goes g c = λ part pieces x at.
     (let end = c.lend.ensures.end (ok_as c.lend.result c.in-Ok-End.field-0 End c.in-Ok-End.is c.in-Ok-End.field-0-is) in
-    goes_to g.R.Rack g.A.Area part pieces x c.end_in.new.shard (λ holds y. NextIs part Heal false (next.Ended c.end_in.result) holds × SameBlocks x y)
-    (c.end_in.ensures.goes part pieces x (subst (λ s. IsMetaslab g.R.Rack g.A.Area part pieces s x) (sym end.1) at)))
+    goes_under g.R.Rack g.A.Area part pieces x c.end_in.new.shard (HadContents g.R.Rack g.A.Area part c.args.shard.now x) (NextIs part Heal false (next.Ended c.end_in.result))
+    (goes_to g.R.Rack g.A.Area part pieces x c.end_in.new.shard (λ holds y. NextIs part Heal false (next.Ended c.end_in.result) holds × SameBlocks x y)
+    (c.end_in.ensures.goes part pieces x (subst (λ s. IsMetaslab g.R.Rack g.A.Area part pieces s x) (sym end.1) at))))
 
 pub returns-in-Err-Worn-clause-groups : goal.returns-in-Err-Worn-clause-groups
 returns-in-Err-Worn-clause-groups g c = (let l = c.lend.ensures in groups_left c.args.shard.now c.lend.new.shard l.keeps l.arms l.reserve)
@@ -143,12 +145,13 @@ returns-in-Err-Worn-clause-moves g c = λ part pieces x at.
     (worn g.R.Rack g.A.Area part pieces old x at c.lend.new.shard e.valid e.none.none e.kit e.reserve Heal e.more (worn_as old why.field-0 why.field-0-0 e.refused why.field-0-is)))
 
 pub returns-in-Err-Worn-clause-goes : goal.returns-in-Err-Worn-clause-goes
-returns-in-Err-Worn-clause-goes g c = λ part pieces x at contents.
+returns-in-Err-Worn-clause-goes g c = λ part pieces x at.
     (let old = c.args.shard.now in
     let why = c.in-Err-Worn in
     let e = why.ensures in
-    goes_to g.R.Rack g.A.Area part pieces x c.lend.new.shard (λ holds y. NextIs part Heal false next.Worn holds × SameBlocks x y)
-    (worn g.R.Rack g.A.Area part pieces old x at c.lend.new.shard e.valid e.none.none e.kit e.reserve Heal e.more (worn_as old why.field-0 why.field-0-0 e.refused why.field-0-is)))
+    goes_under g.R.Rack g.A.Area part pieces x c.lend.new.shard (HadContents g.R.Rack g.A.Area part c.args.shard.now x) (NextIs part Heal false next.Worn)
+    (goes_to g.R.Rack g.A.Area part pieces x c.lend.new.shard (λ holds y. NextIs part Heal false next.Worn holds × SameBlocks x y)
+    (worn g.R.Rack g.A.Area part pieces old x at c.lend.new.shard e.valid e.none.none e.kit e.reserve Heal e.more (worn_as old why.field-0 why.field-0-0 e.refused why.field-0-is))))
 
 pub returns-in-Err-NoMemory-clause-groups : goal.returns-in-Err-NoMemory-clause-groups
 returns-in-Err-NoMemory-clause-groups g c = (let l = c.lend.ensures in groups_left c.args.shard.now c.lend.new.shard l.keeps l.arms l.reserve)
@@ -164,8 +167,9 @@ returns-in-Err-NoMemory-clause-moves g c = λ part pieces x at.
     (starved g.R.Rack g.A.Area part pieces old x at c.lend.new.shard e.valid e.none.none e.kit e.reserve Heal e.more))
 
 pub returns-in-Err-NoMemory-clause-goes : goal.returns-in-Err-NoMemory-clause-goes
-returns-in-Err-NoMemory-clause-goes g c = λ part pieces x at contents.
+returns-in-Err-NoMemory-clause-goes g c = λ part pieces x at.
     (let old = c.args.shard.now in
     let e = c.in-Err-NoMemory.ensures in
-    goes_to g.R.Rack g.A.Area part pieces x c.lend.new.shard (λ holds y. NextIs part Heal false next.NoMemory holds × SameBlocks x y)
-    (starved g.R.Rack g.A.Area part pieces old x at c.lend.new.shard e.valid e.none.none e.kit e.reserve Heal e.more))
+    goes_under g.R.Rack g.A.Area part pieces x c.lend.new.shard (HadContents g.R.Rack g.A.Area part c.args.shard.now x) (NextIs part Heal false next.NoMemory)
+    (goes_to g.R.Rack g.A.Area part pieces x c.lend.new.shard (λ holds y. NextIs part Heal false next.NoMemory holds × SameBlocks x y)
+    (starved g.R.Rack g.A.Area part pieces old x at c.lend.new.shard e.valid e.none.none e.kit e.reserve Heal e.more)))

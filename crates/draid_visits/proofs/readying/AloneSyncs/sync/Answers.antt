@@ -1,4 +1,4 @@
-use Rattle.std.proofs.Common.{Ok, Some, subst}
+use Rattle.std.proofs.Common.{subst}
 use Rattle.draid_pool.specs.Grouping.{SyncsIn}
 use Rattle.draid_visits.proofs.PassesStay.{sync_parts}
 use Rattle.draid_visits.proofs.ReadyHolds.{sync_rises}

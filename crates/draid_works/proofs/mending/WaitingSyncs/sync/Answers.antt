@@ -1,4 +1,4 @@
-use Rattle.std.proofs.Common.{◌≡◌, Ok, Some, subst}
+use Rattle.std.proofs.Common.{◌≡◌, Ok, subst}
 use Rattle.draid_lanes.specs.Waits.{SyncsThrough}
 use Rattle.draid_works.proofs.MendSyncs.{synced_parts, synced_rises}
 use Rattle.draid_works.proofs.mending.WaitingSyncs.sync.Goals as goal

@@ -1,0 +1,156 @@
+//! A section: its lines are kept as they are read, and at its end its lanes run.
+ghost use Rattle.std.specs.Prelude.{◌≡◌, ◌<◌, ◌≤◌, [], IfNone, IfOk, IfSome, Some, Err, length, replicate};
+ghost use Rattle.std.specs.Fn.{FnReturnsAt};
+ghost use Rattle.draid_names.specs.Faults.{Rose};
+ghost use Rattle.draid_script.specs.Line.{command_in};
+ghost use Rattle.draid_session.specs.Choices.{choices_by};
+ghost use Rattle.draid_session.specs.Sections.{ClashesMend, NoClash, RefusesSection, to_lane, to_lanes};
+ghost use Rattle.draid_session.specs.Places.{with_command};
+ghost use Rattle.draid_session.specs.Session.{Desk};
+ghost use Rattle.draid_pool.specs.Shelves.{OnShelf};
+ghost use Rattle.draid_run.specs.Desks.{IsDesk, IsPool};
+ghost use Rattle.draid_run.specs.Script.{said_text};
+ghost use Rattle.draid_run.specs.Serve.{PrintIs};
+ghost use Rattle.draid_run.specs.Sections.{AreLanes, PrintsAre, SectionIs, lanes_in, replies_in};
+
+use crate::answer::no_pool;
+use crate::clashes::{least_clash, two_mend};
+use crate::sections::{LaneReplies, Sections};
+use crate::status::Status;
+use draid_area::Area;
+use draid_choose::Chooser;
+use draid_lines::Sink;
+use draid_names::{Failed, NoMemory, Room};
+use draid_pool::Pool;
+use draid_rack::Rack;
+use draid_reply::{Reply, reply_text};
+use draid_script::{CommandName, Line};
+use std::alloc::Global;
+
+/// The lanes of a section that opens.
+pub(crate) fn open_lanes(alloc: Global, count: u32) -> Result<Vec<Vec<Line>>, NoMemory>
+    ensures { IfOk result (λ lanes. lanes_in lanes.items ≡ replicate count []) }
+{
+    let mut lanes = Vec::with_capacity(alloc, count as usize)?;
+    for _ in 0..count {
+        lanes.push_reserved(Vec::new(alloc));
+    }
+    Ok(lanes)
+}
+
+/// Gives one of the lanes a line more.
+pub(crate) fn add_line(lanes: &mut Vec<Vec<Line>>, lane: u32, line: Line) -> Result<(), NoMemory>
+    requires there { lane < length lanes.old.items }
+    ensures added { IfOk result (λ _. lanes_in lanes.new.items ≡ with_command lane (command_in line) (lanes_in lanes.old.items)) }
+{
+    lanes[lane as usize].push(line)?;
+    Ok(())
+}
+
+/// Why lanes aren't run, if there is a reason.
+fn refusal(lanes: &[Vec<Line>]) -> Option<Reply>
+    ensures some { IfSome result (RefusesSection (lanes_in lanes.now)) }
+    ensures apart { IfNone result (NoClash (lanes_in lanes.now)) }
+    ensures one_mends { IfNone result (ClashesMend (lanes_in lanes.now) → ⊥) }
+{
+    if let Some(object) = least_clash(lanes) {
+        return Some(Reply::LanesClash { object });
+    }
+    if two_mend(lanes) {
+        return Some(Reply::LanesClashMend);
+    }
+    None
+}
+
+/// Runs the lanes of a section on the pool that is open, if one is and they may be run. Else there is one reply.
+pub(crate) fn run_lanes<R: Rack, A: Area, F: Fn(&[Room]) -> Option<u32>, G: Sections<R, A>>(
+    sections: &G,
+    pool: &mut Option<Pool<R, A>>,
+    chooser: &Chooser<F>,
+    lanes: Vec<Vec<Line>>,
+) -> Result<Vec<LaneReplies>, Reply>
+    requires sections { G.ready sections.now (FnReturnsAt F.Fn chooser.now) }
+    requires lanes { AreLanes lanes.items }
+    requires desk { (x : Desk) × IsPool R.Rack A.Area pool.old x }
+    ensures did { (entry now : OnShelf) (x : Desk) → IsDesk R.Rack A.Area entry now pool.old x
+        → SectionIs R.Rack A.Area (choices_by (FnReturnsAt F.Fn chooser.now)) (lanes_in lanes.items) entry now x pool.new result }
+{
+    let Some(open) = pool.take() else {
+        return Err(no_pool(CommandName::Lanes));
+    };
+    if let Some(reply) = refusal(&lanes) {
+        *pool = Some(open);
+        return Err(reply);
+    }
+    let (open, ran) = sections.run_section(chooser, open, lanes);
+    *pool = Some(open);
+    match ran {
+        Ok(ran) => Ok(ran),
+        Err(NoMemory) => Err(Reply::NoMemory {
+            command: CommandName::Lanes,
+        }),
+    }
+}
+
+/// The text of a reply to a lane of this number.
+fn lane_text(alloc: Global, lane: u64, reply: &Reply) -> Result<Vec<u8>, NoMemory>
+    ensures { IfOk result (λ text. text.items ≡ said_text (record { lane = Some lane; reply = reply.now })) }
+{
+    let mut text = format!(in alloc; "{lane} ")?.into_bytes();
+    text.extend_from_slice(&reply_text(alloc, reply)?)?;
+    Ok(text)
+}
+
+/// Prints a reply to a lane, as one `put`.
+fn print_said<K: Sink>(alloc: Global, sink: &mut K, lane: u64, reply: &Reply) -> Result<(), Status>
+    ensures prints { PrintIs (said_text (record { lane = Some lane; reply = reply.now })) (K.held sink.old) (K.held sink.new) result }
+    ensures later { K.faults sink.old ≤ K.faults sink.new }
+    ensures cause { result ≡ Err Status.SinkFault → Rose (K.faults sink.old) (K.faults sink.new) }
+{
+    let Ok(text) = lane_text(alloc, lane, reply) else {
+        return Err(Status::NoMemory);
+    };
+    match sink.put(&text) {
+        Ok(()) => Ok(()),
+        Err(Failed) => Err(Status::SinkFault),
+    }
+}
+
+/// Prints the replies to one lane.
+fn print_lane<K: Sink>(
+    alloc: Global,
+    sink: &mut K,
+    lane: u64,
+    replies: &[Reply],
+) -> Result<(), Status>
+    ensures prints { PrintsAre (to_lane lane replies.now) (K.held sink.old) (K.held sink.new) result }
+    ensures later { K.faults sink.old ≤ K.faults sink.new }
+    ensures cause { result ≡ Err Status.SinkFault → Rose (K.faults sink.old) (K.faults sink.new) }
+{
+    for k in 0..replies.len() {
+        match print_said(alloc, sink, lane, &replies[k]) {
+            Ok(()) => {}
+            Err(status) => return Err(status),
+        }
+    }
+    Ok(())
+}
+
+/// Prints the replies to all lanes, one lane after another.
+pub(crate) fn print_lanes<K: Sink>(
+    alloc: Global,
+    sink: &mut K,
+    ran: &[LaneReplies],
+) -> Result<(), Status>
+    ensures prints { PrintsAre (to_lanes 0 (replies_in ran.now)) (K.held sink.old) (K.held sink.new) result }
+    ensures later { K.faults sink.old ≤ K.faults sink.new }
+    ensures cause { result ≡ Err Status.SinkFault → Rose (K.faults sink.old) (K.faults sink.new) }
+{
+    for k in 0..ran.len() {
+        match print_lane(alloc, sink, k as u64, &ran[k].replies) {
+            Ok(()) => {}
+            Err(status) => return Err(status),
+        }
+    }
+    Ok(())
+}

@@ -1,0 +1,102 @@
+//! Sections: who runs their lanes.
+use draid_area::Area;
+use draid_choose::Chooser;
+use draid_names::{NoMemory, Room};
+use draid_pool::Pool;
+use draid_rack::Rack;
+use draid_reply::Reply;
+use draid_script::Line;
+
+/// What a lane replied.
+#[derive(Drop)]
+pub struct LaneReplies {
+    /// A reply to each of its lines, up to one in which an area failed.
+    pub replies: Vec<Reply>,
+    /// Whether an area failed behind these.
+    pub stopped: bool,
+}
+
+/// Who runs the lanes of a section over a pool.
+pub trait Sections<R: Rack, A: Area> {
+    ghost use Rattle.std.specs.Prelude.{ℕ, List, Option};
+    ghost use Rattle.std.specs.Fn.{FnReturnsAt};
+    ghost use Rattle.draid_names.specs.declared.room.Room.{Room as RoomOf};
+    ghost use Rattle.draid_session.specs.Choices.{choices_by};
+    ghost use Rattle.draid_pool.specs.Whole.{IsWhole};
+    ghost use Rattle.draid_run.specs.Sections.{MayRunLanes, SectionMet, lanes_in};
+
+    /// That lanes may be run, whose blocks go to metaslabs by these choices.
+    ghost ready: { Self → (List RoomOf → Option ℕ → Type 0) → Type 0 };
+
+    /// Does the lines of each lane one after another, beside those of the others, and gives the replies of each. A lane ends behind a line in which an area of the pool failed, and the others
+    /// go on. Where memory is wanting before one runs, none does, and the pool is as it was.
+    fn run_section<F: Fn(&[Room]) -> Option<u32>>(
+        &self,
+        chooser: &Chooser<F>,
+        pool: Pool<R, A>,
+        lanes: Vec<Vec<Line>>,
+    ) -> (Pool<R, A>, Result<Vec<LaneReplies>, NoMemory>)
+        requires ready { ready self.now (FnReturnsAt F.Fn chooser.now) }
+        requires whole { IsWhole R.Rack A.Area pool }
+        requires lanes { MayRunLanes (lanes_in lanes.items) }
+        ensures { SectionMet R.Rack A.Area (choices_by (FnReturnsAt F.Fn chooser.now)) (lanes_in lanes.items) pool result.0 result.1 };
+}
+
+/// Runs the lanes of sections by a closure.
+pub struct SectionsBy<S> {
+    pub run: S,
+}
+
+impl<
+    R: Rack,
+    A: Area,
+    S: Fn(Pool<R, A>, Vec<Vec<Line>>) -> (Pool<R, A>, Result<Vec<LaneReplies>, NoMemory>),
+> Sections<R, A> for SectionsBy<S> {
+    ghost use Rattle.std.specs.Fn.{FnReturnsAt};
+    ghost use Rattle.draid_session.specs.Choices.{choices_by};
+    ghost use Rattle.draid_pool.specs.Whole.{IsWhole};
+    ghost use Rattle.draid_run.specs.Sections.{MayRunLanes, RunsSections, SectionMet, lanes_in};
+
+    ghost ready = { λ s chosen. RunsSections R.Rack A.Area S.Fn chosen s.run };
+
+    fn run_section<F: Fn(&[Room]) -> Option<u32>>(
+        &self,
+        _chooser: &Chooser<F>,
+        pool: Pool<R, A>,
+        lanes: Vec<Vec<Line>>,
+    ) -> (Pool<R, A>, Result<Vec<LaneReplies>, NoMemory>)
+        requires ready { RunsSections R.Rack A.Area S.Fn (FnReturnsAt F.Fn _chooser.now) self.now.run }
+        requires whole { IsWhole R.Rack A.Area pool }
+        requires lanes { MayRunLanes (lanes_in lanes.items) }
+        ensures { SectionMet R.Rack A.Area (choices_by (FnReturnsAt F.Fn _chooser.now)) (lanes_in lanes.items) pool result.0 result.1 }
+    {
+        (self.run)(pool, lanes)
+    }
+}
+
+/// Runs no lanes, as where memory is wanting.
+pub struct NoSections;
+
+impl<R: Rack, A: Area> Sections<R, A> for NoSections {
+    ghost use Rattle.std.specs.Prelude.{⊤};
+    ghost use Rattle.std.specs.Fn.{FnReturnsAt};
+    ghost use Rattle.draid_session.specs.Choices.{choices_by};
+    ghost use Rattle.draid_pool.specs.Whole.{IsWhole};
+    ghost use Rattle.draid_run.specs.Sections.{MayRunLanes, SectionMet, lanes_in};
+
+    ghost ready = { λ s chosen. ⊤ };
+
+    fn run_section<F: Fn(&[Room]) -> Option<u32>>(
+        &self,
+        chooser: &Chooser<F>,
+        pool: Pool<R, A>,
+        lanes: Vec<Vec<Line>>,
+    ) -> (Pool<R, A>, Result<Vec<LaneReplies>, NoMemory>)
+        requires ready { ⊤ }
+        requires whole { IsWhole R.Rack A.Area pool }
+        requires lanes { MayRunLanes (lanes_in lanes.items) }
+        ensures { SectionMet R.Rack A.Area (choices_by (FnReturnsAt F.Fn chooser.now)) (lanes_in lanes.items) pool result.0 result.1 }
+    {
+        (pool, Err(NoMemory))
+    }
+}
