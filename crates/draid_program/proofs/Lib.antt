@@ -1,1 +1,3 @@
 pub mod Booking
+pub mod LanesGiven
+pub mod LanesRun

@@ -228,7 +228,7 @@ all_of : {X : Type 0} (P : X → Type 0) (xs : List X) → ((i : ℕ) (x : X) �
 all_of P [] each = All-nil P
 all_of P (x ∷ xs) each = All-cons P x xs (each 0 x refl) (all_of P xs (λ i y there. each (suc i) y there))
 
-get_map : {X Y : Type 0} (f : X → Y) (xs : List X) (i : ℕ) (x : X) → slice_get xs i ≡ Some x → slice_get (map f xs) i ≡ Some (f x)
+pub get_map : {X Y : Type 0} (f : X → Y) (xs : List X) (i : ℕ) (x : X) → slice_get xs i ≡ Some x → slice_get (map f xs) i ≡ Some (f x)
 get_map f [] i x is = absurd (cc)
 get_map f (y ∷ xs) zero x is = (let same : y ≡ x = cc in ap (λ z. Some (f z)) same)
 get_map f (y ∷ xs) (suc i) x is = get_map f xs i x is
@@ -238,7 +238,7 @@ map_get f [] i y is = absurd (cc)
 map_get f (x ∷ xs) zero y is = (x, refl, (let same : f x ≡ y = cc in sym same))
 map_get f (x ∷ xs) (suc i) y is = map_get f xs i y is
 
-present : {X : Type 0} (xs : List X) (i : ℕ) → i < length xs → (x : X) × (slice_get xs i ≡ Some x)
+pub present : {X : Type 0} (xs : List X) (i : ℕ) → i < length xs → (x : X) × (slice_get xs i ≡ Some x)
 present [] i below = absurd (omega (arith, below))
 present (x ∷ xs) zero below = (x, refl)
 present (x ∷ xs) (suc i) below = present xs i (omega (arith, below))
