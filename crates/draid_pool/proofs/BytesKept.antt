@@ -1,5 +1,5 @@
 -- Blocks that had bytes have them behind a hold.
-use Rattle.std.proofs.Common.{◌≤◌, arith, ne_eqb, ◌≡◌, ◌∙◌, ◌&&◌, inl, inr, ℕ, Bool, true, false, List, Option, Some, None, refl, sym, ap, subst, not, if◌then◌else◌}
+use Rattle.std.proofs.Common.{◌≤◌, arith, ne_eqb, ◌≡◌, ◌∙◌, ◌&&◌, ◌⊎◌, inl, inr, ℕ, Bool, true, false, List, Option, Some, None, refl, sym, ap, subst, not, if◌then◌else◌}
 use Rattle.std.proofs.lemmas.Bool.{true≢false}
 use Rattle.std.specs.Prelude.{⊤, IsSome, nat_le}
 use Rattle.draid_names.specs.declared.numbers.TheConstants.{OBJECTS}
