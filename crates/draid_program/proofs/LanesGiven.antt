@@ -1,5 +1,5 @@
 -- What the jobs of a section's lanes are given.
-use Rattle.std.proofs.Common.{◌≡◌, ◌∙◌, ◌++◌, ◌∷◌, ◌<◌, ◌≤◌, ◌+◌, ◌⊎◌, inl, inr, arith, ℕ, zero, suc, Bool, true, List, [], Option, Some, length, map, refl, sym, ap, subst}
+use Rattle.std.proofs.Common.{◌≡◌, ◌∙◌, ◌∷◌, ◌≤◌, inl, inr, arith, ℕ, zero, suc, Bool, true, List, [], Option, Some, length, refl, sym, ap, subst}
 use Rattle.std.specs.Prelude.{slice_get, vec_capacity}
 use Rattle.std.specs.Borrow.{Bor}
 use Rattle.std.specs.Fn.{FnReturnsAt, Shared}
@@ -10,7 +10,7 @@ use Rattle.draid_names.specs.declared.room.Room.{Room}
 use Rattle.draid_choose.specs.Rooms.{IsChooser}
 use Rattle.draid_rack.specs.declared.Rack as racks
 use Rattle.draid_area.specs.declared.Area as areas
-use Rattle.draid_script.specs.Line.{Command, SyncPool, WriteObject, FillObjects, ReadObject, FreeObject, SumObjects, TakeOffline, TakeOnline, RebuildPool, ScrubPool, IsInRange, command_in}
+use Rattle.draid_script.specs.Line.{Command, SyncPool, WriteObject, FillObjects, ReadObject, FreeObject, SumObjects, TakeOffline, TakeOnline, RebuildPool, ScrubPool, command_in}
 use Rattle.draid_script.specs.Writing.{IsForLanes}
 use Rattle.draid_script.specs.declared.line.Line.{Line}
 use Rattle.draid_session.specs.Choices.{choices_by}
@@ -26,7 +26,7 @@ use Rattle.draid_lanes.specs.declared.lane.Lane.{Lane}
 use Rattle.draid_tables.specs.Lists.{AreAllInRange, ListsEach, Wants, commands_of}
 use Rattle.draid_tables.proofs.Listing.{get_map, present}
 use Rattle.draid_section.specs.Running.{KeepLanes}
-use Rattle.draid_section.specs.Section.{BeginsLane, MayRunAll}
+use Rattle.draid_section.specs.Section.{MayRunAll}
 use Rattle.draid_works.specs.Job.{DoesCommands, MayAllBeGiven, MayBeGiven, MayDoCommands}
 use Rattle.draid_works.specs.Job as works
 use Rattle.draid_works.specs.declared.job.LaneCommands.{LaneCommands}
@@ -88,8 +88,7 @@ module _ (lanes : Vec (Vec Line Global) Global) (may : MayRunLanes (lanes_in lan
         pub may_all : MayRunAll {R = R} {A = A} {G = G} {W = W} rack area Needs pool numbers jobs.items
         may_all i job lane begins =
             let z = job_of i job begins.job_is in
-            let is = z.2 in
-            (
+            let is = z.2 in (
               is_sync,
               record {
                 chooser_is = subst (IsChooser closure) (sym is.chooser_is) chooser_is;

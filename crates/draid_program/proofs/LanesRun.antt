@@ -1,6 +1,6 @@
 -- What lanes that ran in threads come to, by what their jobs replied.
-use Rattle.std.proofs.Common.{◌≡◌, ◌∙◌, ◌++◌, ◌∷◌, ◌<◌, ◌≤◌, ◌+◌, arith, ℕ, zero, suc, Bool, true, false, List, [], Option, Some, length, map, refl, sym, ap, subst}
-use Rattle.std.specs.Prelude.{slice_get, vec_capacity}
+use Rattle.std.proofs.Common.{◌≡◌, ◌∙◌, ◌∷◌, arith, ℕ, suc, Bool, true, false, List, [], Option, Some, length, map, refl, sym, ap, subst}
+use Rattle.std.specs.Prelude.{slice_get}
 use Rattle.std.specs.Borrow.{Bor}
 use Rattle.std.specs.Fn.{FnReturnsAt, Shared}
 use Rattle.std.specs.declared.vec.Vec.{Vec}
@@ -29,19 +29,18 @@ use Rattle.draid_pool.specs.Whole.{IsWhole}
 use Rattle.draid_pool.specs.declared.pool.Pool.{Pool}
 use Rattle.draid_pool.proofs.Lists.{present, some_of}
 use Rattle.draid_lanes.specs.Locks.{owned_by}
-use Rattle.draid_lanes.specs.Telling.{Grows, JobsTeach, JobsTell}
-use Rattle.draid_lanes.specs.Traces.{SawBytes}
+use Rattle.draid_lanes.specs.Telling.{JobsTeach, JobsTell}
 use Rattle.draid_lanes.specs.declared.lane.Lane.{Lane}
 use Rattle.draid_lanes.proofs.TurnsThen.{leads_as}
 use Rattle.draid_tables.specs.Lists.{AreLaneLists, ListsEach}
 use Rattle.draid_section.specs.Running.{WereDone}
 use Rattle.draid_section.specs.Section.{RunsInLanes}
-use Rattle.draid_section.specs.Told.{LearnEach, SectionStood, SectionTaught}
+use Rattle.draid_section.specs.Told.{LearnEach, SectionStood}
 use Rattle.draid_section.proofs.Answered.{section_is}
 use Rattle.draid_section.proofs.Counted.{areas_come_back, failed_stays}
 use Rattle.draid_section.proofs.SectionLaw.{section_stood}
 use Rattle.draid_section.proofs.TeachLaw.{section_taught, were_done}
-use Rattle.draid_works.specs.Job.{AreAll, CommandsDone, DoesCommands, HasScrub}
+use Rattle.draid_works.specs.Job.{AreAll, CommandsDone, HasScrub}
 use Rattle.draid_works.specs.declared.job.LaneCommands.{LaneCommands}
 use Rattle.draid_works.proofs.CommandsFail.{commands_fail}
 use Rattle.draid_works.proofs.LaneTeaches.{all_taught}
@@ -121,13 +120,16 @@ module _ {R A F : Type 0} (rack : racks.Ghosts R) (area : areas.Ghosts A) (closu
       were = were_done rack area Need Do pool whole numbers al jobs (may_all lanes may numbers each rack area closure sync is_sync pool whole chooser chooser_is jobs are) (keeps lanes may numbers each rack area closure sync is_sync pool whole chooser chooser_is jobs are) d.locks d.firsts d.locked d.groups
           d.alone d.owns d.dealt new.uber new.metaslabs.shards.items d.owns' done d.ran many
 
+      pub as_many : length done.items ≡ length lanes.items
+      as_many = were.many ∙ are.many
+
       pub stops : StopWhere (lanes_in lanes.items) (map told_of done.items)
-      stops = stop_all lanes.items done.items (were.many ∙ are.many) at
+      stops = stop_all lanes.items done.items as_many at
         where
           at : (i : ℕ) (lines : Vec Line Global) (end : LaneCommands F) → slice_get lanes.items i ≡ Some lines → slice_get done.items i ≡ Some end → AreAll end.stopped lines.items end.replies.items
           at i lines end there end_is =
               let within = slice_get_within lanes.items i lines there in
-              let job = present jobs.items i (let as_many = are.many in omega (arith, within, as_many)) in
+              let job = present jobs.items i (let same = are.many in omega (arith, within, same)) in
               let z = were.each i job.0 job.1 in
               let same : z.1 ≡ end = some_of (slice_get done.items i) z.1 end z.3 end_is in
               let is = are.each i lines job.0 there job.1 in
@@ -149,7 +151,7 @@ module _ {R A F : Type 0} (rack : racks.Ghosts R) (area : areas.Ghosts A) (closu
           let z = find_stopped done.items some in
           failed_stays rack area Do pool numbers jobs new done d z.0 z.1 z.2
           (λ job lane next did. commands_fail rack area (choices_by (FnReturnsAt closure job.chooser.now)) job.lines.items z.1.replies.items lane next
-              (subst (λ b. CommandsDone rack area (choices_by (FnReturnsAt closure job.chooser.now)) job.lines.items z.1.replies.items b lane next) z.3 did.done))
+          (subst (λ b. CommandsDone rack area (choices_by (FnReturnsAt closure job.chooser.now)) job.lines.items z.1.replies.items b lane next) z.3 did.done))
 
       pub later : AreasLater area.faults pool new
       later = areas_come_back rack area Do pool numbers jobs new done d
@@ -196,7 +198,7 @@ module _ {R A F : Type 0} (rack : racks.Ghosts R) (area : areas.Ghosts A) (closu
       pub teaches : (known : Known) → KnowsPointers pool known → LanesTeach (lanes_in lanes.items) (replies_in (map told_of done.items)) known new
       teaches known knows =
           let t = section_taught rack area Need Do pool whole numbers al jobs (may_all lanes may numbers each rack area closure sync is_sync pool whole chooser chooser_is jobs are) (keeps lanes may numbers each rack area closure sync is_sync pool whole chooser chooser_is jobs are) d.locks d.firsts d.locked d.groups d.alone
-              d.owns d.dealt new.uber new.metaslabs.shards.items d.owns' done d.ran many LearnsJob teach new d.takes known knows in
+          d.owns d.dealt new.uber new.metaslabs.shards.items d.owns' done d.ran many LearnsJob teach new d.takes known knows in
           let one = same_commands chooser lanes.items jobs.items are.many are.each in
           let two = same_replies done.items in
           record {

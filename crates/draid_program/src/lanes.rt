@@ -1,10 +1,15 @@
 //! The lanes of a section run in threads, each metaslab under a lock of its own.
-ghost use Rattle.std.specs.Prelude.{◌≡◌, ◌≤◌, [], IfOk, length, map, vec_capacity};
+ghost use Rattle.std.specs.Prelude.{◌≡◌, ◌≤◌, [], IfErr, IfOk, length, map, vec_capacity};
 ghost use Rattle.std.specs.Fn.{FnReturnsAt};
 ghost use Rattle.draid_choose.specs.Rooms.{IsChooser};
 ghost use Rattle.draid_session.specs.Choices.{choices_by};
+ghost use Rattle.draid_session.specs.Known.{Known};
+ghost use Rattle.draid_session.specs.State.{State};
+ghost use Rattle.draid_pool.specs.Failing.{AreaRose, AreasLater};
+ghost use Rattle.draid_pool.specs.Knows.{KnowsPointers};
+ghost use Rattle.draid_pool.specs.Pools.{Represents};
 ghost use Rattle.draid_pool.specs.Whole.{IsWhole};
-ghost use Rattle.draid_run.specs.Sections.{MayRunLanes, SectionMet, lanes_in};
+ghost use Rattle.draid_run.specs.Sections.{IsStopped, LanesTeach, MayRunLanes, RunsSection, SamePool, StopWhere, lanes_in, replies_in};
 ghost use Rattle.draid_program.specs.Jobs.{AreJobsOf, told_of};
 
 use draid_area::Area;
@@ -74,7 +79,14 @@ pub(crate) fn run_lanes<
     requires chooser { IsChooser F.Fn chooser.now }
     requires whole { IsWhole R.Rack A.Area pool }
     requires lanes { MayRunLanes (lanes_in lanes.items) }
-    ensures { SectionMet R.Rack A.Area (choices_by (FnReturnsAt F.Fn chooser.now)) (lanes_in lanes.items) pool result.0 result.1 }
+    ensures whole { IsWhole R.Rack A.Area result.0 }
+    ensures refused { IfErr result.1 (λ _. SamePool pool result.0) }
+    ensures stops { IfOk result.1 (λ ran. StopWhere (lanes_in lanes.items) ran.items) }
+    ensures runs { IfOk result.1 (λ ran. (x : State) → Represents R.Rack A.Area pool x
+        → RunsSection R.Rack A.Area (choices_by (FnReturnsAt F.Fn chooser.now)) x (lanes_in lanes.items) (replies_in ran.items) result.0) }
+    ensures teach { IfOk result.1 (λ ran. (known : Known) → KnowsPointers pool known → LanesTeach (lanes_in lanes.items) (replies_in ran.items) known result.0) }
+    ensures cause { IfOk result.1 (λ ran. IsStopped ran.items → AreaRose A.faults pool result.0) }
+    ensures later { AreasLater A.faults pool result.0 }
 {
     let Ok(numbers) = lists_of(alloc, &lanes) else {
         return (pool, Err(NoMemory));
