@@ -76,13 +76,18 @@ fn run_on<
 {
     let alloc = rt.alloc();
     let sections = SectionsBy {
-        run: |pool: Pool<H::R, H::A>, lanes: Vec<Vec<Line>>| -> (Pool<H::R, H::A>, Result<Vec<LaneReplies>, NoMemory>)
+        run: |pool: Pool<H::R, H::A>, lanes: Vec<Vec<Line>>| -> (
+            Pool<H::R, H::A>,
+            Result<Vec<LaneReplies>, NoMemory>,
+        )
+            requires chooser { IsChooser F.Fn chooser.now }
             requires whole { IsWhole H.R.Rack H.A.Area pool }
             requires lanes { MayRunLanes (lanes_in lanes.items) }
-            ensures { SectionMet H.R.Rack H.A.Area (choices_by (FnReturnsAt F.Fn chooser.now)) (lanes_in lanes.items) pool result.0 result.1 }
+            ensures { SectionMet H.R.Rack H.A.Area (choices_by (FnReturnsAt F.Fn chooser.entry.now)) (lanes_in lanes.items) pool result.0 result.1 }
         { run_lanes(rt, alloc, pool, chooser, lanes) },
     };
     let status = run(rt, &sections, words, shelf, source, sink, chooser, policy);
+    let SectionsBy { run: _ } = sections;
     ExitCode::from(status.code())
 }
 
