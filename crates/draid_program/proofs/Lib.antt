@@ -1,1 +1,5 @@
 pub mod Booking
+pub mod JobsMade
+pub mod LanesGiven
+pub mod LanesRefused
+pub mod LanesRun

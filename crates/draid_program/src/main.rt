@@ -2,6 +2,7 @@
 
 #![tactic(auto)]
 
+mod lanes;
 mod sessions;
 
 ghost use Rattle.std.specs.Prelude.{◌≤◌, length};

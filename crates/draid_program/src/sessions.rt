@@ -9,22 +9,28 @@ ghost use Rattle.draid_faults.specs.declared.crash.CrashRule.{CrashRule};
 ghost use Rattle.draid_files.specs.Folders.{path_of};
 ghost use Rattle.draid_shelf.specs.Failing.{is_planned, lists_of, no_lists, rule_of};
 ghost use Rattle.draid_shelf.specs.Memory.{HoldsNothing};
-ghost use Rattle.draid_session.specs.Choices.{choices_with};
+ghost use Rattle.draid_session.specs.Choices.{choices_by, choices_with};
 ghost use Rattle.draid_pool.specs.Shelves.{on_shelf};
+ghost use Rattle.draid_pool.specs.Whole.{IsWhole};
+ghost use Rattle.draid_run.specs.Sections.{MayRunLanes, SectionMet, lanes_in};
 ghost use Rattle.draid_program.specs.Program.{EndsBy, EndsByBook, EndsByRun, NamesFolder, unread};
 
+use crate::lanes::run_lanes;
 use draid_agent::Policy;
 use draid_area::Area;
 use draid_choose::Chooser;
 use draid_files::{FileArea, FileRack, FileShelf};
 use draid_lines::{Sink, Source};
-use draid_names::Room;
+use draid_names::{NoMemory, Room};
+use draid_pool::Pool;
 use draid_rack::Rack;
-use draid_run::{NoSections, Status, end_run, run};
+use draid_run::{LaneReplies, SectionsBy, Status, end_run, run};
+use draid_script::Line;
 use draid_shelf::{CrashRule, MemoryShelf, Shelf};
 use draid_words::{Mode, WordsFault, read_words};
 use std::alloc::Global;
 use std::process::ExitCode;
+use std::sync::Wait;
 use std::thread::Threads;
 
 /// Prints the last line of a status, and exits with it.
@@ -53,7 +59,7 @@ fn run_on<
     K: Sink,
     F: Fn(&[Room]) -> Option<u32> + Sync,
     P: Fn(u32, u64, &[u32]) -> Option<u32>,
-    A: AllocGlobal + Threads + Sync,
+    A: AllocGlobal + Threads + Wait + Sync,
 >(
     rt: &A,
     words: &[String],
@@ -68,7 +74,20 @@ fn run_on<
     ensures run { EndsByRun H.R.Rack H.A.Area (choices_with (FnReturnsAt F.Fn chooser.now) (PolicyReturns P.Fn policy.now)) (map string_bytes words.now) result (S.left source.old) (K.held sink.old) (K.held sink.new) (on_shelf H.Shelf shelf.old) (on_shelf H.Shelf shelf.new) }
     ensures done { exit_status result ≡ 0 → IsAtEnd (S.left source.new) }
 {
-    let status = run(rt, &NoSections, words, shelf, source, sink, chooser, policy);
+    let alloc = rt.alloc();
+    let sections = SectionsBy {
+        run: |pool: Pool<H::R, H::A>, lanes: Vec<Vec<Line>>| -> (
+            Pool<H::R, H::A>,
+            Result<Vec<LaneReplies>, NoMemory>,
+        )
+            requires chooser { IsChooser F.Fn chooser.now }
+            requires whole { IsWhole H.R.Rack H.A.Area pool }
+            requires lanes { MayRunLanes (lanes_in lanes.items) }
+            ensures { SectionMet H.R.Rack H.A.Area (choices_by (FnReturnsAt F.Fn chooser.entry.now)) (lanes_in lanes.items) pool result.0 result.1 }
+        { run_lanes(rt, alloc, pool, chooser, lanes) },
+    };
+    let status = run(rt, &sections, words, shelf, source, sink, chooser, policy);
+    let SectionsBy { run: _ } = sections;
     ExitCode::from(status.code())
 }
 
@@ -88,7 +107,7 @@ fn run_in_memory<
     K: Sink,
     F: Fn(&[Room]) -> Option<u32> + Sync,
     P: Fn(u32, u64, &[u32]) -> Option<u32>,
-    A: AllocGlobal + Threads + Sync,
+    A: AllocGlobal + Threads + Wait + Sync,
 >(
     rt: &A,
     words: &[String],
@@ -112,7 +131,7 @@ fn run_in_folder<
     K: Sink,
     F: Fn(&[Room]) -> Option<u32> + Sync,
     P: Fn(u32, u64, &[u32]) -> Option<u32>,
-    A: AllocGlobal + Threads + Sync,
+    A: AllocGlobal + Threads + Wait + Sync,
 >(
     files: &HostRuntime,
     rt: &A,
@@ -140,7 +159,7 @@ fn run_words<
     K: Sink,
     F: Fn(&[Room]) -> Option<u32> + Sync,
     P: Fn(u32, u64, &[u32]) -> Option<u32>,
-    A: AllocGlobal + Threads + Sync,
+    A: AllocGlobal + Threads + Wait + Sync,
 >(
     files: &HostRuntime,
     rt: &A,
@@ -177,7 +196,7 @@ pub(crate) fn run_program<
     K: Sink,
     F: Fn(&[Room]) -> Option<u32> + Sync,
     P: Fn(u32, u64, &[u32]) -> Option<u32>,
-    A: AllocGlobal + Threads + Sync,
+    A: AllocGlobal + Threads + Wait + Sync,
 >(
     files: &HostRuntime,
     rt: &A,
