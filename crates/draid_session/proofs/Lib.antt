@@ -7,9 +7,11 @@ pub mod Balancing
 pub mod Bearing
 pub mod Calm
 pub mod Landing
+pub mod LanesCalm
 pub mod LanesPend
 pub mod LanesSteady
 pub mod LanesUpTo
+pub mod Fetched
 pub mod Fewer
 pub mod Whole
 pub mod Certain

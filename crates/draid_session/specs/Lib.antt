@@ -17,6 +17,7 @@ pub mod Holds
 pub mod Keeping
 pub mod Known
 pub mod LaneBook
+pub mod LanesCalm
 pub mod Landing
 pub mod Lanes
 pub mod Looks

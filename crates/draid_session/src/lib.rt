@@ -5,11 +5,16 @@
 
 mod crashes;
 mod decides;
+mod lanes;
 mod laws;
 mod scrubs;
 
 pub use crashes::{crashed_pools_are_found_again, known_shelves_stay_known};
 pub use decides::{Deciders, Decides};
+pub use lanes::{
+    lanes_leave_logs_once_present, lanes_wait_for_three_syncs, readable_fetches_give_bytes,
+    undisturbed_lanes_are_whole,
+};
 pub use laws::{
     arms_change_everywhere_or_nowhere, books_give_back_what_was_kept, broken_commands_end_failed,
     checkpoints_come_back, closing_groups_are_synced, committed_groups_stay, endings_keep_the_book,
