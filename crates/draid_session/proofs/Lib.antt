@@ -1,5 +1,6 @@
 pub mod Beginning
 pub mod Beside
+pub mod AgentWhole
 pub mod Again
 pub mod Answering
 pub mod Arming

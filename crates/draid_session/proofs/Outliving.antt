@@ -254,23 +254,28 @@ module _ (m : ℕ) (P R : machine.State → Type 0) (e : Event) (geometry : Geom
       ]
 
 -- holds without an event
-abbrev IsQuiet : Hold → Type 0
+abbrev pub IsQuiet : Hold → Type 0
 IsQuiet (On v (Did e w)) = ⊥
 IsQuiet hold = ⊤
 
 pub quiet_keeps : (m : ℕ) (P : machine.State → Type 0) (holds : List Hold) (x z : State) → AllOf IsQuiet holds → Follows holds x z → AreReached x → AtState m P x → AtState m P z
 quiet_keeps m P = follows_keep m IsQuiet P (λ l v e w new at q lay r s p. absurd q)
 
-module _ (b u : ℕ) (x : State) (idle : (m : ℕ) (y : Metaslab) → slice_get x.metaslabs m ≡ Some y → y.world.closing ≡ None) where
-  reserves_quiet : (m : ℕ) (hold : Hold) (k : ℕ) → arms.Reserves x.geometry x.perms (arms.attach_events x.geometry x.perms) m hold k → IsQuiet hold
+-- a reservation has none
+module _ (geometry : Geometry) (perms : Perms) (need : View → ℕ) where
+  reserves_quiet : (m : ℕ) (hold : Hold) (k : ℕ) → arms.Reserves geometry perms need m hold k → IsQuiet hold
   reserves_quiet m (On v (Reserved events)) k r = tt
   reserves_quiet m hold k r = absurd r
 
-  stops_quiet : (m : ℕ) (hold : Hold) (end : End) → arms.ReserveStops x.geometry x.perms (arms.attach_events x.geometry x.perms) m hold end → IsQuiet hold
+  stops_quiet : (m : ℕ) (hold : Hold) (end : End) → arms.ReserveStops geometry perms need m hold end → IsQuiet hold
   stops_quiet m (On v Looked) WasWorn s = tt
   stops_quiet m (On v Looked) Starved s = tt
   stops_quiet m hold end s = absurd s
 
+  pub reserving_quiet : (holds : List Hold) (end : End) → arms.ReservePhase geometry perms need holds end → AllOf IsQuiet holds
+  reserving_quiet holds end r = walk_all IsQuiet (arms.Reserves geometry perms need) (arms.ReserveStops geometry perms need) reserves_quiet stops_quiet 0 geometry.props.metaslabs holds end 0 r
+
+module _ (b u : ℕ) (x : State) (idle : (m : ℕ) (y : Metaslab) → slice_get x.metaslabs m ≡ Some y → y.world.closing ≡ None) where
   -- what a metaslab is behind an attachment
   pub spare_at : (m : ℕ) (P R : machine.State → Type 0)
       → ((w new : machine.State) → IsReached (layout_of x.geometry x.perms m) w → Step (layout_of x.geometry x.perms m) w (event.Attach b (Spare u)) new → P w → R new)
@@ -299,7 +304,7 @@ module _ (b u : ℕ) (x : State) (idle : (m : ℕ) (y : Metaslab) → slice_get 
       by (inl (front, back, are, reserve, events)) y yg yp rest r p =
           let split = follows_split front back y z (subst (λ hs. Follows hs y z) are rest) in
           let same = layout_stays front y split.0 split.1 in
-          let calm = walk_all IsQuiet (arms.Reserves x.geometry x.perms (arms.attach_events x.geometry x.perms)) (arms.ReserveStops x.geometry x.perms (arms.attach_events x.geometry x.perms)) reserves_quiet stops_quiet 0 x.geometry.props.metaslabs front Went 0 reserve in
+          let calm = reserving_quiet x.geometry x.perms (arms.attach_events x.geometry x.perms) front Went reserve in
           each_at m P R (event.Attach b (Spare u)) x.geometry x.perms step 0 x.geometry.props.metaslabs back split.0 z (same.0 ∙ yg) (same.1 ∙ yp) events.0 split.2 (follows_reached front y split.0 split.1 r) (omega arith) (omega (arith, inside))
           (quiet_keeps m P front y split.0 calm split.1 r p)
 
@@ -561,10 +566,14 @@ module _ (geometry : Geometry) (perms : Perms) where
   visits_mend (v ∷ views) left t holds new (inr (visited, inr (inr (inr w)))) =
       subst (AllOf IsMending) (sym w.2) (all_both IsMending w.0 w.1 (subst (AllOf IsMending) (sym w.4.are) (tt, tt)) (visits_mend views left t w.1 new w.5))
 
+  pub found_mends : (limit : Option ℕ) (holds : List Hold) (views : List View) (rest : List Hold) (t : Tally) → passes.FindsNoOther geometry perms Rebuild holds views rest
+      → passes.VisitsAll geometry perms Rebuild (passes.IsRebuilt geometry perms) views limit passes.nothing_yet rest Ended t → AllOf IsMending holds
+  found_mends limit holds views rest t finds visits =
+      subst (AllOf IsMending) (sym finds.are) (all_both IsMending finds.looks rest (looks_from_all IsMending (λ v. tt) 0 geometry.props.metaslabs finds.looks views finds.looked)
+      (visits_mend views limit passes.nothing_yet rest t visits))
+
   pub rebuild_mends : (limit : Option ℕ) (holds : List Hold) (t : Tally) → passes.Rebuilds geometry perms limit holds Ended t → AllOf IsMending holds
-  rebuild_mends limit holds t r =
-      subst (AllOf IsMending) (sym r.finds.are) (all_both IsMending r.finds.looks r.rest (looks_from_all IsMending (λ v. tt) 0 geometry.props.metaslabs r.finds.looks r.views r.finds.looked)
-      (visits_mend r.views limit passes.nothing_yet r.rest t r.visits))
+  rebuild_mends limit holds t r = found_mends limit holds r.views r.rest t r.finds r.visits
 
 pub both_so : (holds : List Hold) → AllOf IsMending holds → AllOf FailsNoFlush holds → AllOf IsCalmMending holds
 both_so [] a b = tt

@@ -267,14 +267,19 @@ module _ (geometry : Geometry) (perms : Perms) where
               (λ low. waiting_on front x split.0 look split.1 r (is (omega (arith, low)))) (λ low. good_still front x split.0 look split.1 r (good (omega (arith, low, other))))
         ]
 
+    pub found_good : (limit : Option ℕ) (holds : List Hold) (views : List View) (rest : List Hold) (t : Tally) (x z : State) → passes.FindsNoOther geometry perms Rebuild holds views rest
+        → passes.VisitsAll geometry perms Rebuild (passes.IsRebuilt geometry perms) views limit passes.nothing_yet rest Ended t → t.errors ≡ 0 → Follows holds x z → x.geometry ≡ geometry → x.perms ≡ perms
+        → AreReached x → m < geometry.props.metaslabs → Waiting x → Good z
+    found_good limit holds views rest t x z finds visits none follows g p r inside is =
+        let split = follows_split finds.looks rest x z (subst (λ hs. Follows hs x z) finds.are follows) in
+        let all = looks_all (IsSeen x) 0 geometry.props.metaslabs finds.looks views x split.0 finds.looked split.1 (λ k y there. (y, there, refl)) in
+        let from = are_from x 0 geometry.props.metaslabs finds.looks views finds.looked all in
+        let same = stays finds.looks x split.0 split.1 g p in
+        let many = from.1 in
+        let seen = looks_seen 0 geometry.props.metaslabs finds.looks views x split.0 finds.looked split.1 in
+        visits_good x g p r is views 0 limit passes.nothing_yet rest t split.0 z visits none from.0 (omega (arith, inside, many)) split.2 same.0 same.1 (follows_reached finds.looks x split.0 split.1 r)
+        (λ low. (λ y there. (let b = seen.back m y there in subst (λ (v : View). Waits n v.world) (sym b.2) (is b.0 b.1)))) (λ low. absurd (omega (arith, low)))
+
     pub rebuild_good : (limit : Option ℕ) (holds : List Hold) (t : Tally) (x z : State) → passes.Rebuilds geometry perms limit holds Ended t → t.errors ≡ 0 → Follows holds x z → x.geometry ≡ geometry → x.perms ≡ perms
         → AreReached x → m < geometry.props.metaslabs → Waiting x → Good z
-    rebuild_good limit holds t x z rebuilds none follows g p r inside is =
-        let split = follows_split rebuilds.finds.looks rebuilds.rest x z (subst (λ hs. Follows hs x z) rebuilds.finds.are follows) in
-        let all = looks_all (IsSeen x) 0 geometry.props.metaslabs rebuilds.finds.looks rebuilds.views x split.0 rebuilds.finds.looked split.1 (λ k y there. (y, there, refl)) in
-        let from = are_from x 0 geometry.props.metaslabs rebuilds.finds.looks rebuilds.views rebuilds.finds.looked all in
-        let same = stays rebuilds.finds.looks x split.0 split.1 g p in
-        let many = from.1 in
-        let seen = looks_seen 0 geometry.props.metaslabs rebuilds.finds.looks rebuilds.views x split.0 rebuilds.finds.looked split.1 in
-        visits_good x g p r is rebuilds.views 0 limit passes.nothing_yet rebuilds.rest t split.0 z rebuilds.visits none from.0 (omega (arith, inside, many)) split.2 same.0 same.1 (follows_reached rebuilds.finds.looks x split.0 split.1 r)
-        (λ low. (λ y there. (let b = seen.back m y there in subst (λ (v : View). Waits n v.world) (sym b.2) (is b.0 b.1)))) (λ low. absurd (omega (arith, low)))
+    rebuild_good limit holds t x z r none follows g p reached inside is = found_good limit holds r.views r.rest t x z r.finds r.visits none follows g p reached inside is

@@ -3,6 +3,8 @@ use Rattle.std.specs.Prelude.{◌≡◌, ◌+◌, ◌++◌, ◌<◌, ◌≤◌, 
 use Rattle.std.specs.declared.alloc.Global.{Global}
 use Rattle.draid_names.specs.declared.arm.ArmKind.{ArmKind}
 use Rattle.draid_names.specs.declared.arm.ArmKind.TheVariants as kind
+use Rattle.draid_names.specs.declared.journal.Did.TheVariants as did
+use Rattle.draid_names.specs.declared.journal.Entry.{Entry}
 use Rattle.draid_names.specs.declared.numbers.TheConstants.{NUMBERS}
 use Rattle.draid_machine.specs.Arms.{HasEmptyLog, first_leaf, first_spare, is_fresh, leaf_answers, passes}
 use Rattle.draid_machine.specs.Names.{has_name}
@@ -212,6 +214,13 @@ module _ (choices : Choices) where
   abbrev pub OutlivesAll : List Failure → State → State → Type 0
   OutlivesAll [] old new = new ≡ old
   OutlivesAll (f ∷ failures) old new = (mid : State) × Outlives f old mid × OutlivesAll failures mid new
+
+-- ---- the repair agent
+
+-- each slot that got a spare, by these entries, is whole in each metaslab
+abbrev pub AreWholeAgain : List Entry → State → Type 0
+AreWholeAgain entries x = (e : Entry) (spare m : ℕ) (y : Metaslab) → Contains entries e → e.did ≡ did.Spared spare → m < x.geometry.props.metaslabs → slice_get x.metaslabs m ≡ Some y
+    → IsSlotWhole y.world.core e.slot
 
 -- ---- rebuilds without errors
 

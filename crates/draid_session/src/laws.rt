@@ -10,11 +10,12 @@ ghost use Rattle.draid_machine.specs.State as machine;
 ghost use Rattle.draid_machine.specs.declared.names.ArmName.{ArmName};
 ghost use Rattle.draid_names.specs.declared.journal.Entry.{Entry};
 ghost use Rattle.draid_objects.specs.Changes.{Write, write_of, group_of};
+ghost use Rattle.draid_reply.specs.declared.reply.AgentErrors.{AgentErrors};
 ghost use Rattle.draid_reply.specs.declared.reply.Reply.{Reply};
-ghost use Rattle.draid_script.specs.Line.{Command, CrashPool, FreeObject, ImportPool, ReadObject, RebuildPool, ScrubPool, ShowStatus, SyncPool, WriteObject, RewindPool, TakeCheckpoint};
+ghost use Rattle.draid_script.specs.Line.{Command, CrashPool, FreeObject, ImportPool, ReadObject, RebuildPool, RunAgent, ScrubPool, ShowStatus, SyncPool, WriteObject, RewindPool, TakeCheckpoint};
 ghost use Rattle.draid_script.specs.declared.line.StatusFormat.{StatusFormat};
 ghost use Rattle.draid_session.specs.Agent.{AreNumbered};
-ghost use Rattle.draid_session.specs.Bearing.{AreIdle, AreUnhurt, FailsNoCall, FailsNoFetch, GoOffline, HaveFewBroken, HaveNoPass, IsPoolWhole, IsSteady, IsWanted, IsWholeBut, Failure, OutlivesAll, ShowsWholeBut, Uses};
+ghost use Rattle.draid_session.specs.Bearing.{AreIdle, AreUnhurt, AreWholeAgain, FailsNoCall, FailsNoFetch, GoOffline, HaveFewBroken, HaveNoPass, IsPoolWhole, IsSteady, IsWanted, IsWholeBut, Failure, OutlivesAll, ShowsWholeBut, Uses};
 ghost use Rattle.draid_objects.specs.Marks.{Mark};
 ghost use Rattle.draid_session.specs.Checkpoints.{GoesBackTo};
 ghost use Rattle.draid_script.specs.Writing.{IsForLanes};
@@ -257,6 +258,14 @@ pub fn rebuilt_arms_miss_nothing<D: Decides>(decider: &D)
         → CarriesOut (D.choices decider.now) (RebuildPool limit) (Reply.Rebuilt from stripes 0 false) x z
         → AreReached x → HaveNoPass x → m < x.geometry.props.metaslabs → slice_get x.metaslabs m ≡ Some y
         → slice_get z.metaslabs m ≡ Some u → IsWanted y.world.core name → HasEmptyLog u.world.core name }
+{}
+
+/// Law: behind an agent whose rebuild told no error each slot that got a spare is whole again in each metaslab: the spare has
+/// missed nothing.
+pub fn agents_make_slots_whole<D: Decides>(decider: &D)
+    ensures { (least parity : ℕ) (entries : Vec Entry Heap) (errors : AgentErrors) (x z : State)
+        → CarriesOut (D.choices decider.now) (RunAgent least) (Reply.Acted parity entries (Some errors)) x z
+        → AreReached x → errors.rebuild ≡ 0 → AreWholeAgain entries.items z }
 {}
 
 /// Law: a pool in use outlives one failure after another, where each is rebuilt onto a spare of its slot: behind a rebuild
