@@ -17,7 +17,7 @@ use Rattle.draid_turn.specs.Calls.{Follows}
 use Rattle.draid_turn.specs.History.{Stood, number_of}
 use Rattle.draid_turn.specs.Lists.{StartsWith, one_if, one_within}
 use Rattle.draid_turn.specs.Numbers.{HoldsOther, HoldsSome, IsForeign, IsOwn, all_numbers, holds, number_limit}
-use Rattle.draid_turn.specs.Steps.{HasTaken, Takes, drew, learned, looked, served, told, took}
+use Rattle.draid_turn.specs.Steps.{drew, learned, looked, served, told, took}
 use Rattle.draid_turn.specs.Rule.{IsHolding, NumbersOnce, PlacesOnce, Rule, TurnsInOrder}
 use Rattle.draid_turn.specs.Views.{united_view, first_view, served_view, holding_view, learned_view, giver_view, told_view, waiting_view, new_view, spent_view}
 use Rattle.draid_turn.proofs.KeepsTurns.{added_turns, at_home, counted_turns, drawn_turns, given_turns, holder_whole, opens_turns, taken_turns, ticket_of, touched_turns, under_next}
@@ -246,17 +246,10 @@ abbrev value_of : {T : Type 0} → T → Option T → T
 value_of d None = d
 value_of d (Some x) = x
 
-module _ {T E : Type 0} (fact : List E → T → Type 0) (number : E → Option ℕ) where
-  -- what was in the slot is the value that the step told of
-  pub has_taken : (old mid new : Me (Option T) (SeatView E)) (ticket : ℕ) (slot : Option T) (x : T) → Takes fact number old ticket mid → old.1 ≡ [] → mid.1 ≡ (0, slot) ∷ rest mid.1
-      → new ≡ (mid.0, (0, None) ∷ rest mid.1) → slot ≡ Some x → HasTaken fact number old ticket new x
-  has_taken old mid new ticket slot x took empty out is there =
-      let carried : mid.1 ≡ (0, Some took.value) ∷ [] = took.slot_is ∙ ap (λ l. (0, Some took.value) ∷ l) empty in
-      let same : took.value ≡ x = ap (value_of took.value) (sym (slot_value mid.1 slot (Some took.value) out carried) ∙ there) in
-      subst (HasTaken fact number old ticket new) same record {
-        log = took.log;
-        me = is ∙ (λ i. (took.view_is i, (0, None) ∷ rest (carried i)));
-        kept = took.kept;
-        follows = took.follows;
-        made_all = took.made_all;
-      }
+-- what was in the slot, and what was taken out of it
+pub value_is : {T : Type 0} (c : List (ℕ × Option T)) (slot : Option T) (x y : T) → c ≡ (0, slot) ∷ rest c → c ≡ (0, Some x) ∷ [] → slot ≡ Some y → x ≡ y
+value_is c slot x y e f g = ap (value_of x) (sym (slot_value c slot (Some x) e f) ∙ g)
+
+-- a slot has one value
+pub one_value : {T : Type 0} (c : List (ℕ × Option T)) (x y : T) → c ≡ (0, Some x) ∷ [] → c ≡ (0, Some y) ∷ [] → x ≡ y
+one_value c x y e f = ap (λ l. value_of x (item_of None l)) (sym e ∙ f)

@@ -1,5 +1,5 @@
 -- What each kind of step tells the caller that makes it.
-use Rattle.std.specs.Prelude.{◌≡◌, ◌∷◌, ℕ, List, [], Option, Some, None, length}
+use Rattle.std.specs.Prelude.{◌≡◌, ◌∷◌, ℕ, List, [], Option, Some, length}
 use Rattle.atomic_table.specs.Table.{Me, Step, rest}
 use Rattle.draid_turn.specs.declared.view.SeatStage.TheVariants.{Waiting}
 use Rattle.draid_turn.specs.declared.view.SeatView.{SeatView}
@@ -41,10 +41,8 @@ module _ {T E : Type 0} (fact : List E → T → Type 0) (number : E → Option 
   abbrev pub took : Step (Option T) → Me (Option T) (SeatView E) → ℕ → Me (Option T) (SeatView E) → Type 0
   took step old found new = (ticket : ℕ) → old.0.stage ≡ Waiting ticket → (ticket ≡ found → Takes old ticket new) × ((ticket ≡ found → ⊥) → new ≡ old)
 
-  -- the seat has its turn, and the value is in the caller's hands
-  pub record HasTaken (old : Me (Option T) (SeatView E)) (ticket : ℕ) (new : Me (Option T) (SeatView E)) (value : T) : Type 0 where
-    pub log : List E
-    pub me : new ≡ (holding_view ticket log old.0, (0, None) ∷ [])
-    pub kept : fact log value
-    pub follows : Follows number old.0.numbers log old.0.seen
-    pub made_all : HoldsAll old.0.numbers → old.0.own ≡ places 0 (length log)
+-- the seat has the slot, and the value in it is so
+pub record HasValue {T : Type 0} (carried : List (ℕ × Option T)) (fact : T → Type 0) : Type 0 where
+  pub value : T
+  pub is : carried ≡ (0, Some value) ∷ []
+  pub so : fact value

@@ -16,7 +16,7 @@ use std::alloc::Global;
 use std::marker::{Brand, Model};
 use std::snapshot::Snapshot;
 use std::sync::Wait;
-use std::thread;
+use std::{hint, thread};
 
 /// There was no memory for a lock. The value comes back.
 #[derive(Drop)]
@@ -41,10 +41,22 @@ impl<T: Stand> Model for Turn<T> {
     ghost invariant = { λ turn. (turn.table.shared.table_id.words ≡ 2) × (turn.table.shared.table_id.slots ≡ 1) };
 }
 
+/// So often a caller looks again at once, before it yields its thread at each look.
+const SHORT_TRIES: u32 = 64;
+
+/// Waits a moment.
+fn pause(tries: u32) {
+    if tries < SHORT_TRIES {
+        hint::spin_loop();
+    } else {
+        thread::yield_now();
+    }
+}
+
 impl<T: Stand> Turn<T> {
     ghost use Rattle.draid_turn.specs.declared.view.SeatStage.TheVariants.{Idle, Waiting};
     ghost use Rattle.draid_turn.specs.Rule.{IsHolding};
-    ghost use Rattle.draid_turn.specs.Steps.{HasTaken};
+    ghost use Rattle.draid_turn.specs.Steps.{HasValue, Takes};
     ghost use Rattle.draid_turn.specs.Views.{giver_view, new_view, served_view, told_view, waiting_view};
 
     /// Puts a value under a lock. Nothing is in its history, and the first pass holds all numbers.
@@ -91,11 +103,11 @@ impl<T: Stand> Turn<T> {
         ensures { Did T.step O.relates O.concerns self.now.first op.old op.new pass.old pass.new }
     {
         let ticket = self.draw(rt, &mut pass.seat);
-        let mut value = self.take_in_turn::<Brand, R>(rt, &mut pass.seat, ticket);
+        self.take_in_turn::<Brand, R>(rt, &mut pass.seat, ticket);
         let concerned = op.concerned();
-        op.act(&mut value);
-        self.tell::<Brand>(&mut pass.seat, &value, concerned);
-        self.give_back(&mut pass.seat, value);
+        let left = self.act_in_turn(&mut pass.seat, op);
+        self.tell::<Brand>(&mut pass.seat, &left, concerned);
+        self.give_back(&mut pass.seat, &left);
     }
 
     /// Takes another pass in: what either saw, did and holds.
@@ -127,7 +139,8 @@ impl<T: Stand> Turn<T> {
     {
         let Pass { mut seat, size: _ } = pass;
         let ticket = self.draw(rt, &mut seat);
-        self.take_in_turn::<Brand, R>(rt, &mut seat, ticket)
+        self.take_in_turn::<Brand, R>(rt, &mut seat, ticket);
+        self.table.shared.exchange(&mut seat, 0, None).unwrap()
     }
 
     /// Draws a ticket. Where the last number was drawn it waits without end.
@@ -137,6 +150,7 @@ impl<T: Stand> Turn<T> {
         ensures own { seat.new.table_id ≡ seat.old.table_id }
         ensures waiting { seat.new.me ≡ (waiting_view result seat.old.me.0, []) }
     {
+        let mut tries = 0u32;
         for _ in rt.forever() {
             let next = self.table.shared.load::<Look>(seat, 0);
             if next < u64::MAX {
@@ -148,42 +162,67 @@ impl<T: Stand> Turn<T> {
                     return found;
                 }
             }
-            thread::yield_now();
+            pause(tries);
+            tries = tries.saturating_add(1);
         }
         unreachable!()
     }
 
-    /// Waits until the ticket is served, and takes the value.
+    /// Waits until the ticket is served. The value is the seat's then, where it lies.
     fn take_in_turn<I: Kept<T>, R: Wait>(
         &self,
         rt: &R,
         seat: &mut Seat<Option<T>, SeatView<Past<T>>>,
         ticket: u64,
-    ) -> T
+    )
         requires kept { (log : List (Past T)) (x : T) → Stood T.step self.now.first log x → I.kept log x }
         requires own { seat.old.table_id ≡ self.now.table }
         requires waiting { (seat.old.me.0.stage ≡ Waiting ticket) × (seat.old.me.1 ≡ []) }
         ensures own { seat.new.table_id ≡ seat.old.table_id }
-        ensures taken { HasTaken I.kept number_of seat.old.me ticket seat.new.me result }
+        ensures taken { Takes I.kept number_of seat.old.me ticket seat.new.me }
     {
+        let mut tries = 0u32;
         for _ in rt.forever() {
             let served = self.table.shared.load::<Take<I>>(seat, 1);
             if served == ticket {
-                return self.table.shared.exchange(seat, 0, None).unwrap();
+                return;
             }
-            thread::yield_now();
+            pause(tries);
+            tries = tries.saturating_add(1);
         }
         unreachable!()
+    }
+
+    /// Runs the operation on the value where it lies, and notes how that is left.
+    fn act_in_turn<O: Act<T>>(
+        &self,
+        seat: &mut Seat<Option<T>, SeatView<Past<T>>>,
+        op: &mut O,
+    ) -> Snapshot<T>
+        requires own { seat.old.table_id ≡ self.now.table }
+        requires ready { HasValue seat.old.me.1 (O.needs op.old) }
+        ensures own { seat.new.table_id ≡ seat.old.table_id }
+        ensures left { seat.new.me ≡ (seat.old.me.0, (0, Some result.value) ∷ []) }
+        ensures related { HasValue seat.old.me.1 (λ x. O.relates op.old x op.new result.value) }
+    {
+        let slot = seat.slot_mut(&self.table.shared, 0);
+        match slot {
+            Some(value) => {
+                op.act(value);
+                Snapshot::of(value)
+            }
+            None => unreachable!(),
+        }
     }
 
     /// Adds to the history how the value is left.
     fn tell<J: Added<Past<T>>>(
         &self,
         seat: &mut Seat<Option<T>, SeatView<Past<T>>>,
-        value: &T,
+        left: &Snapshot<T>,
         concerned: Option<u64>,
     )
-        requires added { J.added ≡ record { left = value.now; concerned = concerned } ∷ [] }
+        requires added { J.added ≡ record { left = left.now.value; concerned = concerned } ∷ [] }
         requires own { seat.old.table_id ≡ self.now.table }
         requires number { (n : ℕ) → concerned ≡ Some n → holds n seat.old.me.0.numbers ≡ true }
         requires some { HoldsSome seat.old.me.0.numbers }
@@ -195,15 +234,13 @@ impl<T: Stand> Turn<T> {
     }
 
     /// Gives the value back, and serves the next ticket.
-    fn give_back(&self, seat: &mut Seat<Option<T>, SeatView<Past<T>>>, value: T)
+    fn give_back(&self, seat: &mut Seat<Option<T>, SeatView<Past<T>>>, left: &Snapshot<T>)
         requires own { seat.old.table_id ≡ self.now.table }
-        requires holding { IsHolding seat.old.me.0.stage × (seat.old.me.1 ≡ (0, None) ∷ []) }
-        requires stood { Stood T.step self.now.first seat.old.me.0.seen value }
+        requires holding { IsHolding seat.old.me.0.stage × (seat.old.me.1 ≡ (0, Some left.now.value) ∷ []) }
+        requires stood { Stood T.step self.now.first seat.old.me.0.seen left.now.value }
         ensures own { seat.new.table_id ≡ seat.old.table_id }
         ensures served { seat.new.me ≡ (served_view seat.old.me.0, []) }
     {
-        let empty = self.table.shared.exchange(seat, 0, Some(value));
-        let None = empty else { unreachable!() };
         self.table.shared.fetch_add::<Serve>(seat, 1, 1);
     }
 

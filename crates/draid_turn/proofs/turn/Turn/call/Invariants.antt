@@ -6,4 +6,4 @@ abbrev pub ghosts-take_in_turn : goal.ghosts-take_in_turn
 ghosts-take_in_turn g a = record { kept = Stood g.T.Stand.step a.self.now.first }
 
 abbrev pub ghosts-tell : goal.ghosts-tell
-ghosts-tell g a = record { added = record { left = a.value.now; concerned = a.concerned } ∷ [] }
+ghosts-tell g a = record { added = record { left = a.left.now.value; concerned = a.concerned } ∷ [] }

@@ -5,7 +5,6 @@ use Rattle.draid_turn.proofs.Beginnings.{shorter_longer}
 use Rattle.draid_turn.specs.Numbers.{HoldsSome}
 use Rattle.draid_turn.specs.Views.{learned_view}
 use Rattle.draid_turn.proofs.Spans.{some_append}
-use Rattle.draid_turn.proofs.Joined.{first_follows, second_follows}
 use Rattle.draid_turn.proofs.turn.Turn.join.Goals as goal
 
 pub join_seat-requires : goal.join_seat-requires
