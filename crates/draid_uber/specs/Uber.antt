@@ -14,7 +14,8 @@ use Rattle.draid_uber.specs.declared.uber.UberFault.{UberFault}
 use Rattle.draid_uber.specs.declared.uber.UberFault.TheVariants as faults
 use Rattle.draid_uber.specs.declared.uber.UberRefused.{UberRefused}
 use Rattle.draid_uber.specs.declared.areas.Areas.{Areas}
-use Rattle.draid_uber.specs.Checks.{count_in}
+use Rattle.draid_record.specs.Checks.{CheckTold}
+use Rattle.draid_uber.specs.Checks.{count_in, no_check}
 use Rattle.draid_uber.specs.Held.{IsHeld}
 use Rattle.draid_uber.specs.Slots.{area_bytes, read_body}
 
@@ -66,6 +67,10 @@ next_of uber group = record {
   props = with_version uber.geometry.props uber.version;
   next_leaf = uber.next_leaf;
 }
+
+-- what the check record of this group says, as a commit writes it
+abbrev pub next_check : {A : Type 0} → Uber A → ℕ → CheckTold
+next_check uber group = no_check
 
 -- the parts fit together, and the area has both slots
 pub record Valid {A : Type 0} (size : A → ℕ) (uber : Uber A) : Type 0 where

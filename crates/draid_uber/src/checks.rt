@@ -2,10 +2,10 @@
 ghost use Rattle.std.specs.Prelude.{◌≡◌, ◌≤◌, ◌%◌, ℕ, Ok, Err, IfOk, IsErrOf, OnOk, length, option_map};
 ghost use Rattle.draid_area.specs.Area.{Counts, OnTold, flushes, writes};
 ghost use Rattle.draid_names.specs.Faults.{Rose};
-ghost use Rattle.draid_record.specs.Checks.{told_check};
+ghost use Rattle.draid_record.specs.Checks.{IsCheck, told_check};
 ghost use Rattle.draid_record.specs.declared.fault.RecordFaultKind.{RecordFaultKind};
 ghost use Rattle.draid_record.specs.declared.fault.RecordFault.TheVariants.{Bad};
-ghost use Rattle.draid_uber.specs.Checks.{CheckStands, check_area, check_in, count_in};
+ghost use Rattle.draid_uber.specs.Checks.{CheckStands, check_area, check_in, count_in, no_check};
 
 use crate::areas::Areas;
 use draid_area::Area;
@@ -32,23 +32,31 @@ fn put_front<A: Area>(area: &mut A, bytes: &[u8]) -> Result<(), DeviceFault>
     area.flush()
 }
 
-/// Writes the check record of a group, which has no checkpoint, and flushes its area.
+/// What a check record says where there is no checkpoint.
+pub(crate) fn no_check(alloc: Global) -> CheckBody
+    ensures { told_check result ≡ no_check }
+{
+    CheckBody {
+        group: 0,
+        drops: Vec::new(alloc),
+    }
+}
+
+/// Writes what the check record of a group says, and flushes its area.
 pub(crate) fn put_check<A: Area>(
     alloc: Global,
     areas: &mut Areas<A>,
+    body: &CheckBody,
     group: u64,
 ) -> Result<(), DeviceFault>
-    ensures written { OnOk result (OnTold (A.told (check_area areas.new group)) (CheckStands group)) }
+    requires range { IsCheck group (told_check body.now) }
+    ensures written { OnOk result (OnTold (A.told (check_area areas.new group)) (CheckStands (told_check body.now) group)) }
     // The area of the groups before it and behind it is as it was.
     ensures other { (n : ℕ) → (n % 2 ≡ group % 2 → ⊥) → check_area areas.new n ≡ check_area areas.old n }
     ensures uber { areas.new.uber ≡ areas.old.uber }
     ensures cause { Counts result (count_in A.faults areas.old) (count_in A.faults areas.new) }
 {
-    let body = CheckBody {
-        group: 0,
-        drops: Vec::new(alloc),
-    };
-    let bytes = write_check(alloc, &body, group)?;
+    let bytes = write_check(alloc, body, group)?;
     if group % 2 == 0 {
         put_front(&mut areas.even, &bytes)
     } else {
@@ -84,10 +92,7 @@ fn check_of(alloc: Global, bytes: &[u8], group: u64) -> Result<CheckBody, Record
     ensures faulty { (place : ℕ) (kind : RecordFaultKind) → result ≡ Err (Bad place kind) → check_in group bytes.now ≡ Err (Bad place kind) }
 {
     if bytes.is_empty() {
-        return Ok(CheckBody {
-            group: 0,
-            drops: Vec::new(alloc),
-        });
+        return Ok(no_check(alloc));
     }
     read_check(alloc, bytes, group)
 }

@@ -9,7 +9,7 @@ ghost use Rattle.draid_spec.specs.Geometry.{IsGeometry};
 ghost use Rattle.draid_uber.specs.Uber.{IsWhy};
 
 use crate::areas::Areas;
-use crate::checks::{CheckFault, put_check, read_of};
+use crate::checks::{CheckFault, no_check, put_check, read_of};
 use crate::slots::{chosen, layout};
 use crate::steps::{clear, write};
 use draid_area::Area;
@@ -73,11 +73,11 @@ impl<A: Area> Uber<A> {
     ghost use Rattle.draid_uber.specs.Held.{IsNext};
     ghost use Rattle.draid_uber.specs.Steps.{IsSameOrFlushed};
     ghost use Rattle.draid_uber.specs.Slots.{StandsTold, chosen_of, group_of};
-    ghost use Rattle.draid_record.specs.Checks.{told_check};
+    ghost use Rattle.draid_record.specs.Checks.{CheckTold, IsCheck, told_check};
     ghost use Rattle.draid_record.specs.declared.fault.RecordFaultKind.{RecordFaultKind};
     ghost use Rattle.draid_record.specs.declared.fault.RecordFault.TheVariants.{Bad};
     ghost use Rattle.draid_uber.specs.Checks.{AreasStand, LeavesAny, check_area, check_in, told_by};
-    ghost use Rattle.draid_uber.specs.Uber.{layout_in, next_of, Finds, IsNewArea, Valid, area_of, areas_of, count_of, kept_of, layout_of, next_leaf_of, version_of};
+    ghost use Rattle.draid_uber.specs.Uber.{layout_in, next_check, next_of, Finds, IsNewArea, Valid, area_of, areas_of, count_of, kept_of, layout_of, next_leaf_of, version_of};
 
     /// The uberblock of a new pool, of which nothing is committed yet. A crash leaves no open gate.
     #[tactic(auto, using(crate::proofs::Choices::new_area))]
@@ -252,6 +252,15 @@ impl<A: Area> Uber<A> {
         clear(&mut self.areas.uber, group)
     }
 
+    /// What the check record of a group says, as the next commit writes it.
+    fn next_check(&self, group: u64) -> CheckBody
+        ensures body { told_check result ≡ next_check self.now group }
+        ensures ranges { IsCheck group (told_check result) }
+    {
+        let _group = group;
+        no_check(self.alloc)
+    }
+
     /// Commits a group, the one behind the committed one, with its check record. That is written while no gate of the group
     /// is open. After a refusal the committed group is as before, and the call may be made again.
     pub fn commit_with_check(&mut self, group: u64) -> Result<(), DeviceFault>
@@ -260,10 +269,12 @@ impl<A: Area> Uber<A> {
         ensures valid { Valid A.size self.new }
 
         // Whatever a crash leaves, an import finds the committed group or the new one, and the check record of what it finds.
-        ensures refused { (pending : List UberBody) → AreasStand (kept_of self.old) pending (told_by A.told (areas_of self.old))
-            → OnErr result (LeavesAny (kept_of self.old) (next_of self.old group ∷ pending) (told_by A.told (areas_of self.new))) }
-        ensures committed { (pending : List UberBody) → AreasStand (kept_of self.old) pending (told_by A.told (areas_of self.old))
-            → OnOk result (AreasStand (Some (next_of self.old group)) [] (told_by A.told (areas_of self.new))) }
+        ensures refused { (check : ℕ → CheckTold) (pending : List UberBody) → check group ≡ next_check self.old group
+            → AreasStand check (kept_of self.old) pending (told_by A.told (areas_of self.old))
+            → OnErr result (LeavesAny check (kept_of self.old) (next_of self.old group ∷ pending) (told_by A.told (areas_of self.new))) }
+        ensures committed { (check : ℕ → CheckTold) (pending : List UberBody) → check group ≡ next_check self.old group
+            → AreasStand check (kept_of self.old) pending (told_by A.told (areas_of self.old))
+            → OnOk result (AreasStand check (Some (next_of self.old group)) [] (told_by A.told (areas_of self.new))) }
 
         ensures kept { OnOk result (kept_of self.new ≡ Some (next_of self.old group)) }
         ensures same { OnErr result (kept_of self.new ≡ kept_of self.old) }
@@ -274,7 +285,8 @@ impl<A: Area> Uber<A> {
         ensures cause { Counts result (count_of A.faults self.old) (count_of A.faults self.new) }
     {
         self.shut(group)?;
-        put_check(self.alloc, &mut self.areas, group)?;
+        let body = self.next_check(group);
+        put_check(self.alloc, &mut self.areas, &body, group)?;
         self.commit(group)
     }
 
