@@ -1,18 +1,18 @@
 -- What a crash leaves of the check records as a group is committed.
-use Rattle.std.proofs.Common.{arith, ◌≡◌, ◌≤◌, ◌<◌, ◌==◌, ◌+◌, ◌%◌, ◌^◌, ℕ, Bool, true, false, List, [], ◌∷◌, ◌++◌, Option, Some, None, Result, Ok, Err, IfOk, OnOk, drop, length, option_map, refl, sym, ◌∙◌, ap, subst, if◌then◌else◌}
+use Rattle.std.proofs.Common.{arith, ◌≡◌, ◌≤◌, ◌==◌, ◌+◌, ◌%◌, ℕ, Bool, true, false, List, [], ◌∷◌, ◌++◌, Option, Some, None, Result, Ok, Err, IfOk, drop, length, option_map, refl, sym, ◌∙◌, ap, subst, if◌then◌else◌}
 use Rattle.std.specs.Prelude.{⊤, All, Contains, MatchOption}
 use Rattle.std.proofs.lemmas.Bool.Decides.{nat_tests}
 use Rattle.std.proofs.lemmas.List.Elements.{All-cons, All-contains_itself, All-nil, All-weaker, Contains-append_right}
-use Rattle.draid_area.specs.Area.{Content, IsOfSize, MayLeave, OnTold, flushes, writes}
-use Rattle.draid_area.specs.Moments.{CrashesTold, IsCrashOutcome}
+use Rattle.draid_area.specs.Area.{Content, IsOfSize, OnTold, flushes, writes}
+use Rattle.draid_area.specs.Moments.{CrashesTold}
 use Rattle.draid_area.proofs.Moments.{crash_left, leaves_all}
 use Rattle.draid_record.specs.Checks.{AnswersCheck, CheckTold, IsCheck, check_bytes, check_of, told_check}
 use Rattle.draid_record.specs.declared.checks.CheckBody.{CheckBody}
 use Rattle.draid_record.specs.declared.fault.RecordFault.{RecordFault}
-use Rattle.draid_record.specs.declared.checks.Dropped.{Dropped}
 use Rattle.draid_record.specs.declared.uber.UberBody.{UberBody}
 use Rattle.draid_record.proofs.Checked.{check_again}
-use Rattle.draid_uber.specs.Checks.{AreasStand, AreasTold, CheckStands, HasCheck, LeavesAny, check_area, check_in, no_check, told_by}
+use Rattle.draid_uber.specs.Checks.{AreasStand, AreasTold, CheckStands, HasCheck, LeavesAny, check_area, check_in, told_by}
+use Rattle.draid_uber.specs.Points.{no_check}
 use Rattle.draid_uber.specs.declared.areas.Areas.{Areas}
 use Rattle.draid_uber.specs.Slots.{StandsTold, group_of}
 use Rattle.draid_uber.specs.Uber.{layout_of, next_leaf_of, next_of, version_of, with_version}

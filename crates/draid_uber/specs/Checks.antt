@@ -5,6 +5,7 @@ use Rattle.draid_record.specs.Checks.{CheckTold, check_of}
 use Rattle.draid_record.specs.declared.fault.RecordFault.{RecordFault}
 use Rattle.draid_record.specs.declared.uber.UberBody.{UberBody}
 use Rattle.draid_uber.specs.declared.areas.Areas.{Areas}
+use Rattle.draid_uber.specs.Points.{no_check}
 use Rattle.draid_uber.specs.Slots.{StandsTold}
 
 -- how often calls on them have failed
@@ -16,10 +17,6 @@ count_in faults areas = faults areas.uber + (faults areas.even + faults areas.od
 -- the area of a group's check record, of the two
 abbrev pub check_area : {A : Type 0} → Areas A → ℕ → A
 check_area areas group = if group % 2 == 0 then areas.even else areas.odd
-
--- there is no checkpoint
-abbrev pub no_check : CheckTold
-no_check = record { group = 0; drops = [] }
 
 -- what an area has of a group's checkpoint: one to which nothing was written says that there is none
 abbrev pub check_in : ℕ → List ℕ → Result CheckTold RecordFault

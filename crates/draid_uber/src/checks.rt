@@ -1,16 +1,18 @@
 //! The check record of a group, in the area of its parity.
-ghost use Rattle.std.specs.Prelude.{◌≡◌, ◌≤◌, ◌%◌, ℕ, Ok, Err, IfOk, IsErrOf, OnOk, length, option_map};
+ghost use Rattle.std.specs.Prelude.{◌≡◌, ◌≤◌, ◌%◌, [], ℕ, Ok, Err, IfOk, IsErrOf, OnOk, length, option_map};
 ghost use Rattle.draid_area.specs.Area.{Counts, OnTold, flushes, writes};
 ghost use Rattle.draid_names.specs.Faults.{Rose};
 ghost use Rattle.draid_record.specs.Checks.{IsCheck, told_check};
 ghost use Rattle.draid_record.specs.declared.fault.RecordFaultKind.{RecordFaultKind};
 ghost use Rattle.draid_record.specs.declared.fault.RecordFault.TheVariants.{Bad};
-ghost use Rattle.draid_uber.specs.Checks.{CheckStands, check_area, check_in, count_in, no_check};
+ghost use Rattle.draid_uber.specs.Checks.{CheckStands, check_area, check_in, count_in};
+ghost use Rattle.draid_uber.specs.Points.{drops_upto, drops_with, no_check, told_at};
 
 use crate::areas::Areas;
 use draid_area::Area;
+use draid_checkpoint::{Check, DroppedIn};
 use draid_names::{DeviceFault, NoMemory};
-use draid_record::{CheckBody, RecordFault, RecordFaultKind, read_check, write_check};
+use draid_record::{CheckBody, Dropped, RecordFault, RecordFaultKind, read_check, write_check};
 use std::alloc::Global;
 
 /// Why no check record was read.
@@ -40,6 +42,44 @@ pub(crate) fn no_check(alloc: Global) -> CheckBody
         group: 0,
         drops: Vec::new(alloc),
     }
+}
+
+/// The blocks that were dropped in groups up to one, in the order in which they were.
+fn blocks_upto(alloc: Global, dropped: &[DroppedIn], group: u64) -> Result<Vec<Dropped>, NoMemory>
+    ensures { IfOk result (λ blocks. blocks.items ≡ drops_upto group dropped.now) }
+{
+    let upto = dropped.iter().filter(|it| it.group <= group);
+    let blocks = upto.map(|it| Dropped {
+        object: it.object,
+        seq: it.seq,
+    });
+    Ok(blocks.collect(alloc)?)
+}
+
+/// Blocks, ascending.
+fn ascending(blocks: Vec<Dropped>) -> Vec<Dropped>
+    ensures { result.items ≡ drops_with [] blocks.items }
+{
+    let mut blocks = blocks;
+    blocks.sort_unstable_by_key(|block| (block.object, block.seq));
+    blocks
+}
+
+/// What the check record of a group says of a checkpoint.
+pub(crate) fn check_at(alloc: Global, point: &Check, group: u64) -> Result<CheckBody, NoMemory>
+    ensures { IfOk result (λ it. told_check it ≡ told_at point.now group) }
+{
+    let Some(own) = point.group() else {
+        return Ok(no_check(alloc));
+    };
+    if group < own {
+        return Ok(no_check(alloc));
+    }
+    let blocks = blocks_upto(alloc, point.drops(), group)?;
+    Ok(CheckBody {
+        group: own,
+        drops: ascending(blocks),
+    })
 }
 
 /// Writes what the check record of a group says, and flushes its area.

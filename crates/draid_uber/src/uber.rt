@@ -9,11 +9,12 @@ ghost use Rattle.draid_spec.specs.Geometry.{IsGeometry};
 ghost use Rattle.draid_uber.specs.Uber.{IsWhy};
 
 use crate::areas::Areas;
-use crate::checks::{CheckFault, no_check, put_check, read_of};
+use crate::checks::{CheckFault, check_at, put_check, read_of};
 use crate::slots::{chosen, layout};
 use crate::steps::{clear, write};
 use draid_area::Area;
-use draid_names::DeviceFault;
+use draid_checkpoint::Check;
+use draid_names::{DeviceFault, NoMemory};
 use draid_record::{CheckBody, RecordFault, RecordFaultKind, UberBody};
 use draid_spec::Geometry;
 use std::alloc::Global;
@@ -49,6 +50,8 @@ pub struct Uber<A: Area> {
     version: u32,
     /// The number of the next new leaf.
     next_leaf: u64,
+    /// The checkpoint, of which each commit writes a record.
+    point: Check,
     alloc: Global,
 }
 
@@ -77,7 +80,7 @@ impl<A: Area> Uber<A> {
     ghost use Rattle.draid_record.specs.declared.fault.RecordFaultKind.{RecordFaultKind};
     ghost use Rattle.draid_record.specs.declared.fault.RecordFault.TheVariants.{Bad};
     ghost use Rattle.draid_uber.specs.Checks.{AreasStand, LeavesAny, check_area, check_in, told_by};
-    ghost use Rattle.draid_uber.specs.Uber.{layout_in, next_check, next_of, Finds, IsNewArea, Valid, area_of, areas_of, count_of, kept_of, layout_of, next_leaf_of, version_of};
+    ghost use Rattle.draid_uber.specs.Uber.{layout_in, next_check, next_of, Finds, IsNewArea, Valid, area_of, areas_of, count_of, kept_of, layout_of, next_leaf_of, point_of, version_of};
 
     /// The uberblock of a new pool, of which nothing is committed yet. A crash leaves no open gate.
     #[tactic(auto, using(crate::proofs::Choices::new_area))]
@@ -97,6 +100,7 @@ impl<A: Area> Uber<A> {
         ensures layout { IfOk result (λ uber. layout_of uber ≡ geometry) }
         ensures version { IfOk result (λ uber. version_of uber ≡ geometry.props.version) }
         ensures leaf { IfOk result (λ uber. next_leaf_of uber ≡ geometry.spec.children) }
+        ensures point { IfOk result (λ uber. (point_of uber).group ≡ None) }
     {
         Ok(Uber {
             areas,
@@ -104,6 +108,7 @@ impl<A: Area> Uber<A> {
             geometry,
             version: geometry.props.version,
             next_leaf: u64::from(geometry.spec.children),
+            point: Check::none(alloc),
             alloc,
         })
     }
@@ -118,6 +123,7 @@ impl<A: Area> Uber<A> {
         ensures some { IfOk result (λ uber. IsSomeAnd (kept_of uber) (λ body.
             (version_of uber ≡ body.props.version) × (next_leaf_of uber ≡ body.next_leaf))) }
         ensures ranges { IfOk result (λ uber. IsSomeAnd (kept_of uber) IsUber) }
+        ensures point { IfOk result (λ uber. (point_of uber).group ≡ None) }
 
         // From then on a crash leaves it alone.
         ensures crash { IfOk result (λ uber. StandsTold (kept_of uber) [] (A.told (area_of uber))) }
@@ -140,6 +146,7 @@ impl<A: Area> Uber<A> {
                 geometry: layout(&body),
                 version: body.props.version,
                 next_leaf: body.next_leaf,
+                point: Check::none(alloc),
                 alloc,
             }),
             Err(why) => Err(UberRefused { areas, why }),
@@ -181,6 +188,7 @@ impl<A: Area> Uber<A> {
         ensures kept { kept_of self.new ≡ kept_of self.old }
         ensures layout { layout_of self.new ≡ layout_of self.old }
         ensures version { version_of self.new ≡ version_of self.old }
+        ensures point { point_of self.new ≡ point_of self.old }
     {
         self.next_leaf = next;
     }
@@ -222,6 +230,7 @@ impl<A: Area> Uber<A> {
         ensures same_layout { OnErr result (layout_of self.new ≡ layout_of self.old) }
         ensures version { version_of self.new ≡ version_of self.old }
         ensures leaf { next_leaf_of self.new ≡ next_leaf_of self.old }
+        ensures point { point_of self.new ≡ point_of self.old }
         ensures others { areas_of self.new ≡ record (areas_of self.old) { uber = area_of self.new } }
         ensures cause { Counts result (A.faults (area_of self.old)) (A.faults (area_of self.new)) }
     {
@@ -246,6 +255,7 @@ impl<A: Area> Uber<A> {
         ensures layout { layout_of self.new ≡ layout_of self.old }
         ensures version { version_of self.new ≡ version_of self.old }
         ensures leaf { next_leaf_of self.new ≡ next_leaf_of self.old }
+        ensures point { point_of self.new ≡ point_of self.old }
         ensures others { areas_of self.new ≡ record (areas_of self.old) { uber = area_of self.new } }
         ensures cause { Counts result (A.faults (area_of self.old)) (A.faults (area_of self.new)) }
     {
@@ -253,12 +263,13 @@ impl<A: Area> Uber<A> {
     }
 
     /// What the check record of a group says, as the next commit writes it.
-    fn next_check(&self, group: u64) -> CheckBody
-        ensures body { told_check result ≡ next_check self.now group }
-        ensures ranges { IsCheck group (told_check result) }
+    fn next_check(&self, group: u64) -> Result<CheckBody, NoMemory>
+        requires next { IsNext (kept_of self.now) group }
+        requires valid { Valid A.size self.now }
+        ensures body { IfOk result (λ body. told_check body ≡ next_check self.now group) }
+        ensures ranges { IfOk result (λ body. IsCheck group (told_check body)) }
     {
-        let _group = group;
-        no_check(self.alloc)
+        check_at(self.alloc, &self.point, group)
     }
 
     /// Commits a group, the one behind the committed one, with its check record. That is written while no gate of the group
@@ -282,10 +293,11 @@ impl<A: Area> Uber<A> {
         ensures same_layout { OnErr result (layout_of self.new ≡ layout_of self.old) }
         ensures version { version_of self.new ≡ version_of self.old }
         ensures leaf { next_leaf_of self.new ≡ next_leaf_of self.old }
+        ensures point { point_of self.new ≡ point_of self.old }
         ensures cause { Counts result (count_of A.faults self.old) (count_of A.faults self.new) }
     {
+        let body = self.next_check(group)?;
         self.shut(group)?;
-        let body = self.next_check(group);
         put_check(self.alloc, &mut self.areas, &body, group)?;
         self.commit(group)
     }
@@ -306,6 +318,7 @@ impl<A: Area> Uber<A> {
         ensures layout { layout_of self.new ≡ layout_of self.old }
         ensures version { version_of self.new ≡ version_of self.old }
         ensures leaf { next_leaf_of self.new ≡ next_leaf_of self.old }
+        ensures point { point_of self.new ≡ point_of self.old }
         ensures later { count_of A.faults self.old ≤ count_of A.faults self.new }
         ensures cause { IsErrOf result CheckFault.Area → Rose (count_of A.faults self.old) (count_of A.faults self.new) }
     {
@@ -326,6 +339,7 @@ impl<A: Area> Uber<A> {
         ensures kept { kept_of self.new ≡ kept_of self.old }
         ensures layout { layout_of self.new ≡ layout_of self.old }
         ensures leaf { next_leaf_of self.new ≡ next_leaf_of self.old }
+        ensures point { point_of self.new ≡ point_of self.old }
     {
         self.version = 2;
     }

@@ -14,8 +14,13 @@ returns-in_err-shut-clause-refused g c = λ check pending is_check stands.
     let e = c.in_err-shut.ensures in
     let old = c.args.self.now in
     let new = c.shut.new.self in
-    on_err c.from_residual.result (leaves_pending check old.kept (next_of old c.args.group) pending (told_by g.A.Area.told new.areas)
+    on_err c.from_residual-in_err-shut.result (leaves_pending check old.kept (next_of old c.args.group) pending (told_by g.A.Area.told new.areas)
     (shut_refused check g.A.Area.told old.kept pending old.areas new.areas e.others stands (e.refused pending stands.uber_is)))
+
+pub returns-in_err-body-clause-refused : goal.returns-in_err-body-clause-refused
+returns-in_err-body-clause-refused g c = λ check pending is_check stands.
+    let old = c.args.self.now in
+    on_err c.from_residual.result (leaves_pending check old.kept (next_of old c.args.group) pending (told_by g.A.Area.told old.areas) stands)
 
 pub returns-in_err-put_check-clause-refused : goal.returns-in_err-put_check-clause-refused
 returns-in_err-put_check-clause-refused g c = λ check pending is_check stands.
@@ -43,7 +48,7 @@ returns-clause-refused g c = λ check pending is_check stands.
     let put = check_put check told old.kept body behind mid.areas late p.uber p.other clear in
     let same = next_same old mid c.args.group e.layout e.version e.leaf in
     err_map c.commit.result
-    (λ is. refused check told old.kept body behind late new.areas d.others (subst (λ (v : CheckTold). OnTold (told (check_area late c.args.group)) (CheckStands v c.args.group)) (c.next_check-body.ensures.body ∙ sym is_check) p.written) pending put
+    (λ is. refused check told old.kept body behind late new.areas d.others (subst (λ (v : CheckTold). OnTold (told (check_area late c.args.group)) (CheckStands v c.args.group)) (c.in_ok-body.ensures.body ∙ sym is_check) p.written) pending put
     (subst (λ (b : UberBody). StandsTold old.kept (b ∷ []) (told new.areas.uber)) same (subst (λ kept. StandsTold kept (next_of mid c.args.group ∷ []) (told new.areas.uber)) e.kept is)))
     (d.refused [] (subst (λ kept. StandsTold kept [] (told late.uber)) (sym e.kept) put.uber_is))
 
@@ -63,5 +68,5 @@ returns-clause-committed g c = λ check pending is_check stands.
     let put = check_put check told old.kept body behind mid.areas late p.uber p.other clear in
     let same = next_same old mid c.args.group e.layout e.version e.leaf in
     ok_map c.commit.result
-    (λ is. named check told old.kept body behind late new.areas d.others (subst (λ (v : CheckTold). OnTold (told (check_area late c.args.group)) (CheckStands v c.args.group)) (c.next_check-body.ensures.body ∙ sym is_check) p.written) (subst (λ (b : UberBody). StandsTold (Some b) [] (told new.areas.uber)) same is))
+    (λ is. named check told old.kept body behind late new.areas d.others (subst (λ (v : CheckTold). OnTold (told (check_area late c.args.group)) (CheckStands v c.args.group)) (c.in_ok-body.ensures.body ∙ sym is_check) p.written) (subst (λ (b : UberBody). StandsTold (Some b) [] (told new.areas.uber)) same is))
     (d.committed [] (subst (λ kept. StandsTold kept [] (told late.uber)) (sym e.kept) put.uber_is))
