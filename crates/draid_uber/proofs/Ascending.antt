@@ -1,6 +1,6 @@
 -- Blocks that ascend are told by which they are, however they came in order.
-use Rattle.std.proofs.Common.{inl, inr, suc, ◌⊎◌, ◌≡◌, ◌==◌, ◌<◌, ◌+◌, ◌&&◌, ◌||◌, ◌∙◌, [], ◌∷◌, ℕ, Bool, true, false, List, arith, refl, sym, ap, subst, if◌then◌else◌, nat_lt}
-use Rattle.std.specs.Prelude.{⊤, slice_index_or}
+use Rattle.std.proofs.Common.{inl, inr, suc, ◌⊎◌, ◌≡◌, ◌==◌, ◌<◌, ◌+◌, ◌&&◌, ◌||◌, ◌∙◌, [], ◌∷◌, ℕ, Bool, true, false, List, arith, refl, sym, ap, subst, if◌then◌else◌, nat_lt, Option, Some, None, ◌≤◌}
+use Rattle.std.specs.Prelude.{⊤, not, slice_index_or}
 use Rattle.std.proofs.lemmas.Bool.Decides.{nat_tests}
 use Rattle.std.specs.List.{Contains, sum_by}
 use Rattle.std.specs.List.Sorted.{IsPermutation, IsSortedBy}
@@ -10,6 +10,7 @@ use Rattle.std.specs.declared.cmp.Ordering.TheVariants.{Less, Equal, Greater}
 use Rattle.std.proofs.lemmas.Cmp.{nat_cmp_total, on_total, then_total}
 use Rattle.std.proofs.lemmas.List.Sorted.{ranks_by, sorted_far, sum_by-IsPermutation}
 use Rattle.std.proofs.lemmas.List.Sums.{sum_by-cons}
+use Rattle.draid_record.specs.Checks.{AreDrops}
 use Rattle.draid_record.specs.declared.checks.Dropped.{Dropped}
 use Rattle.draid_uber.specs.Points.{drops_with, insert_drop, is_before}
 
@@ -194,3 +195,28 @@ sorted_is blocks sorted moved up =
     let put = with_times e [] blocks in
     let none = none_there e in
     omega (arith, moved_times, put, none))
+
+-- ---- a list that a check record can spell
+
+behind_is : (a s b t : ℕ) → a ≤ b → (not (b == a) || nat_lt s t) ≡ true → (nat_lt a b || (a == b && nat_lt s t)) ≡ true
+behind_is a s b t low behind = grind (arith, nat_tests)
+
+before_trans : (a s b t c u : ℕ) → (nat_lt a b || (a == b && nat_lt s t)) ≡ true → (nat_lt b c || (b == c && nat_lt t u)) ≡ true → (nat_lt a c || (a == c && nat_lt s u)) ≡ true
+before_trans a s b t c u first second = grind (arith, nat_tests)
+
+all_behind : (x y : Dropped) (xs : List Dropped) → AreDrops (Some x) xs → 0 < times y xs → is_before x y ≡ true
+all_behind x y [] are some = absurd (omega (arith, some, none_there y))
+all_behind x y (e ∷ es) are some =
+    let next = behind_is x.object x.seq e.object e.seq are.0 are.3 in
+    elim (there_cases y e es some) [
+      | inl same ↦ subst (λ z. is_before x z ≡ true) (sym same) next
+      | inr more ↦ before_trans x.object x.seq e.object e.seq y.object y.seq next (all_behind e y es are.4 more)
+    ]
+
+drops_ascend : (before : Option Dropped) (xs : List Dropped) → AreDrops before xs → Ascends xs
+drops_ascend before [] are = tt
+drops_ascend before (x ∷ xs) are = ((λ y some. never_both x.object x.seq y.object y.seq (all_behind x y xs are.4 some)), drops_ascend (Some x) xs are.4)
+
+-- it is in order already
+pub drops_stay : (xs : List Dropped) → AreDrops None xs → drops_with [] xs ≡ xs
+drops_stay xs are = same_list (drops_with [] xs) xs (with_ascends [] xs tt) (drops_ascend None xs are) (λ e. let put = with_times e [] xs in let none = none_there e in omega (arith, put, none))

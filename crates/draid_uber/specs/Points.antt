@@ -1,5 +1,5 @@
 -- What the check record of each group says of a checkpoint that is held in memory.
-use Rattle.std.specs.Prelude.{◌==◌, ◌&&◌, ◌||◌, ℕ, Bool, nat_le, nat_lt, List, [], ◌∷◌, Option, None, Some, filter, map, if◌then◌else◌}
+use Rattle.std.specs.Prelude.{◌==◌, ◌&&◌, ◌||◌, ℕ, Bool, nat_le, nat_lt, List, [], ◌∷◌, Option, None, Some, filter, map, if◌then◌else◌, ◌≡◌, ◌<◌, ◌≤◌, All}
 use Rattle.draid_checkpoint.specs.Check.{Point}
 use Rattle.draid_checkpoint.specs.declared.check.DroppedIn.{DroppedIn}
 use Rattle.draid_record.specs.Checks.{CheckTold}
@@ -37,3 +37,22 @@ told_of group (Some own) drops = if nat_le own group then record { group = own; 
 
 abbrev pub told_at : Point → ℕ → CheckTold
 told_at point group = told_of group point.group point.drops
+
+-- ---- what is done to it
+
+-- a block that was dropped is another one
+abbrev pub IsOther : ℕ → ℕ → DroppedIn → Type 0
+IsOther object seq d = d.object ≡ object → d.seq ≡ seq → ⊥
+
+abbrev pub dropped_in : ℕ → Dropped → DroppedIn
+dropped_in group d = record { object = d.object; seq = d.seq; group = group }
+
+abbrev pub point_group : CheckTold → Option ℕ
+point_group value = if value.group == 0 then None else Some value.group
+
+-- It is the checkpoint that the check record of a group tells: its blocks were dropped in groups up to that one.
+pub record KeepsCheck (group : ℕ) (value : CheckTold) (point : Point) : Type 0 where
+  pub group_is : point.group ≡ point_group value
+  pub blocks : map block_of point.drops ≡ value.drops
+  pub upto : All (λ d. d.group ≤ group) point.drops
+  pub says : (g : ℕ) → group < g → told_at point g ≡ value

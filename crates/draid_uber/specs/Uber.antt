@@ -83,6 +83,7 @@ pub record Valid {A : Type 0} (size : A → ℕ) (uber : Uber A) : Type 0 where
   pub held : IsHeld uber.kept uber.geometry uber.version uber.next_leaf
   pub long : area_bytes ≤ size uber.areas.uber
   pub spelled : (group : ℕ) → group_of uber.kept < group → group < 2 ^ 64 → IsCheck group (next_check uber group)
+  pub positive : (own : ℕ) → uber.point.group ≡ Some own → 0 < own
 
 -- an area of a new pool: zeros, all of which outlast a crash
 pub record IsNewArea (x : Content) : Type 0 where

@@ -1,12 +1,12 @@
 //! The check record of a group, in the area of its parity.
-ghost use Rattle.std.specs.Prelude.{◌≡◌, ◌≤◌, ◌%◌, [], ℕ, Ok, Err, IfOk, IsErrOf, OnOk, length, option_map};
+ghost use Rattle.std.specs.Prelude.{◌≡◌, ◌≤◌, ◌+◌, ◌%◌, ◌++◌, map, [], ℕ, Ok, Err, IfOk, IsErrOf, OnOk, length, option_map};
 ghost use Rattle.draid_area.specs.Area.{Counts, OnTold, flushes, writes};
 ghost use Rattle.draid_names.specs.Faults.{Rose};
 ghost use Rattle.draid_record.specs.Checks.{IsCheck, told_check};
 ghost use Rattle.draid_record.specs.declared.fault.RecordFaultKind.{RecordFaultKind};
 ghost use Rattle.draid_record.specs.declared.fault.RecordFault.TheVariants.{Bad};
 ghost use Rattle.draid_uber.specs.Checks.{CheckStands, check_area, check_in, count_in};
-ghost use Rattle.draid_uber.specs.Points.{drops_upto, drops_with, no_check, told_at};
+ghost use Rattle.draid_uber.specs.Points.{KeepsCheck, dropped_in, drops_upto, drops_with, no_check, told_at};
 
 use crate::areas::Areas;
 use draid_area::Area;
@@ -80,6 +80,41 @@ pub(crate) fn check_at(alloc: Global, point: &Check, group: u64) -> Result<Check
         group: own,
         drops: ascending(blocks),
     })
+}
+
+/// From this group on the checkpoint alone keeps these blocks.
+fn drop_all(point: &mut Check, blocks: &[Dropped], group: u64)
+    requires room { length blocks.now ≤ point.old.spare }
+    ensures group { point.new.group ≡ point.old.group }
+    ensures drops { point.new.drops ≡ point.old.drops ++ map (dropped_in group) blocks.now }
+    ensures room { point.old.spare ≤ point.new.spare + length blocks.now }
+{
+    for block in blocks {
+        point.drop_block(block.object, block.seq, group);
+    }
+}
+
+/// The checkpoint that the check record of a group tells, with room for so many further blocks that it alone keeps.
+pub(crate) fn kept_check(
+    alloc: Global,
+    check: &CheckBody,
+    group: u64,
+    blocks: u64,
+) -> Result<Check, NoMemory>
+    requires range { IsCheck group (told_check check.now) }
+    requires few { length check.now.drops.items + blocks ≤ 524_288 }
+    ensures keeps { IfOk result (λ point. KeepsCheck group (told_check check.now) point) }
+    ensures room { IfOk result (λ point. blocks ≤ point.spare) }
+{
+    if check.group == 0 {
+        let mut none = Check::none(alloc);
+        none.reserve(blocks)?;
+        return Ok(none);
+    }
+    let dropped = check.drops.len() as u64;
+    let mut point = Check::at(alloc, check.group, dropped + blocks)?;
+    drop_all(&mut point, &check.drops, group);
+    Ok(point)
 }
 
 /// Writes what the check record of a group says, and flushes its area.

@@ -1,4 +1,4 @@
-ghost use Rattle.std.specs.Prelude.{◌≡◌, ◌≤◌, ◌∷◌, [], ℕ, List, None, Ok, Err, Some, IfErr, IfOk, IsErrOf, IsOk, IsSome, IsSomeAnd, OnErr, OnOk, option_map};
+ghost use Rattle.std.specs.Prelude.{◌≡◌, ◌≤◌, ◌<◌, ◌+◌, ◌∷◌, [], ℕ, All, length, List, None, Ok, Err, Some, IfErr, IfOk, IsErrOf, IsOk, IsSome, IsSomeAnd, OnErr, OnOk, option_map};
 ghost use Rattle.draid_record.specs.Uber.{IsUber};
 ghost use Rattle.draid_area.specs.Area.{Counts, OnTold, flushes};
 ghost use Rattle.draid_area.specs.Moments.{ElapsesTold};
@@ -9,7 +9,7 @@ ghost use Rattle.draid_spec.specs.Geometry.{IsGeometry};
 ghost use Rattle.draid_uber.specs.Uber.{IsWhy};
 
 use crate::areas::Areas;
-use crate::checks::{CheckFault, check_at, put_check, read_of};
+use crate::checks::{CheckFault, check_at, kept_check, put_check, read_of};
 use crate::slots::{chosen, layout};
 use crate::steps::{clear, write};
 use draid_area::Area;
@@ -75,6 +75,8 @@ fn found(
 impl<A: Area> Uber<A> {
     ghost use Rattle.draid_uber.specs.Held.{IsNext};
     ghost use Rattle.draid_uber.specs.Steps.{IsSameOrFlushed};
+    ghost use Rattle.draid_uber.specs.Points.{IsOther, KeepsCheck};
+    ghost use Rattle.draid_checkpoint.specs.Check.{Drops, holds_birth};
     ghost use Rattle.draid_uber.specs.Slots.{StandsTold, chosen_of, group_of};
     ghost use Rattle.draid_record.specs.Checks.{CheckTold, IsCheck, told_check};
     ghost use Rattle.draid_record.specs.declared.fault.RecordFaultKind.{RecordFaultKind};
@@ -328,6 +330,57 @@ impl<A: Area> Uber<A> {
         } else {
             read_of(self.alloc, &mut self.areas.odd, group)
         }
+    }
+
+    /// The checkpoint.
+    pub fn point(&self) -> &Check
+        ensures { result.now ≡ point_of self.now }
+    {
+        &self.point
+    }
+
+    /// Whether a block that was born in this group is the checkpoint's.
+    pub fn holds(&self, birth: u64) -> bool
+        ensures { result ≡ holds_birth (point_of self.now).group birth }
+    {
+        self.point.holds(birth)
+    }
+
+    /// From this group on the checkpoint alone keeps a block. It takes no memory.
+    pub fn drop_block(&mut self, object: u64, seq: u64, group: u64)
+        requires room { 0 < (point_of self.old).spare }
+        requires few { length (point_of self.old).drops < 524_288 }
+        requires other { All (λ d. IsOther object seq d) (point_of self.old).drops }
+        requires valid { Valid A.size self.old }
+        ensures valid { Valid A.size self.new }
+        ensures drops { Drops (point_of self.old) (point_of self.new) object seq group }
+        ensures areas { areas_of self.new ≡ areas_of self.old }
+        ensures kept { kept_of self.new ≡ kept_of self.old }
+        ensures layout { layout_of self.new ≡ layout_of self.old }
+        ensures version { version_of self.new ≡ version_of self.old }
+        ensures leaf { next_leaf_of self.new ≡ next_leaf_of self.old }
+    {
+        self.point.drop_block(object, seq, group);
+    }
+
+    /// Keeps the checkpoint that the check record of the committed group tells, with room for so many further blocks that it
+    /// alone keeps.
+    pub fn keep_check(&mut self, check: &CheckBody, blocks: u64) -> Result<(), NoMemory>
+        requires range { IsCheck (group_of (kept_of self.old)) (told_check check.now) }
+        requires few { length check.now.drops.items + blocks ≤ 524_288 }
+        requires valid { Valid A.size self.old }
+        ensures valid { Valid A.size self.new }
+        ensures keeps { OnOk result (KeepsCheck (group_of (kept_of self.old)) (told_check check.now) (point_of self.new)) }
+        ensures room { OnOk result (blocks ≤ (point_of self.new).spare) }
+        ensures areas { areas_of self.new ≡ areas_of self.old }
+        ensures kept { kept_of self.new ≡ kept_of self.old }
+        ensures layout { layout_of self.new ≡ layout_of self.old }
+        ensures version { version_of self.new ≡ version_of self.old }
+        ensures leaf { next_leaf_of self.new ≡ next_leaf_of self.old }
+    {
+        let group = self.committed();
+        self.point = kept_check(self.alloc, check, group, blocks)?;
+        Ok(())
     }
 
     /// Has the next commit write version 2.

@@ -9,7 +9,7 @@ pub returns-in_err-write-clause-valid : goal.returns-in_err-write-clause-valid
 returns-in_err-write-clause-valid g c =
     let long = c.requires.valid.long in
     let grown = c.write.ensures.grown in
-    record { held = c.requires.valid.held; long = omega (arith, long, grown); spelled = c.requires.valid.spelled }
+    record { held = c.requires.valid.held; long = omega (arith, long, grown); spelled = c.requires.valid.spelled; positive = c.requires.valid.positive }
 
 pub returns-in_err-write-clause-refused : goal.returns-in_err-write-clause-refused
 returns-in_err-write-clause-refused g c = λ pending stands.
@@ -43,6 +43,7 @@ returns-clause-valid g c =
           (ap (λ (b : UberBody). b.spec) next.body) (ap (λ (b : UberBody). b.props) next.body);
       long = omega (arith, long, grown);
       spelled = λ group low small. v.spelled group (let behind = c.requires.next.behind in let of = ap (λ (b : UberBody). b.group) next.body in omega (arith, low, behind, of)) small;
+      positive = v.positive;
     }
 
 pub returns-clause-same : goal.returns-clause-same
