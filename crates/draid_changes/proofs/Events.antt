@@ -93,7 +93,7 @@ module _ {R A : Type 0} (rack : racks.Ghosts R) (area : areas.Ghosts A) where
           last = r.stands.groups.last;
           seq = r.stands.seq ∙ sym set.seq;
           floor = r.stands.floor ∙ sym set.floor;
-          uber = uber_stays rack area pool new x c.metaslabs x.store set.uber r.stands.uber;
+          uber = uber_stays rack area pool new x c.metaslabs x.store refl set.uber r.stands.uber;
         }
 
     -- where no area was touched

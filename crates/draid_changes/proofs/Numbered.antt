@@ -26,7 +26,7 @@ use Rattle.draid_pool.proofs.Rises.{areas_still}
 use Rattle.draid_pool.specs.Pools.{Represents, part_in}
 use Rattle.draid_pool.specs.Records.{HasImage, LeavesAreBelow}
 use Rattle.draid_pool.specs.Syncing.{AreIdle, Phase}
-use Rattle.draid_pool.specs.Ubers.{IsPending, IsUber, kept_in}
+use Rattle.draid_pool.specs.Ubers.{IsPending, IsUber, kept_in, check_told}
 use Rattle.draid_pool.specs.Whole.{IsWhole}
 use Rattle.draid_pool.specs.declared.pool.Pool.{Pool}
 use Rattle.draid_pool.proofs.Lifted.{HasMetaslab, metaslab_of}
@@ -35,6 +35,8 @@ use Rattle.draid_pool.proofs.Versions.{layout_again}
 use Rattle.draid_pool.proofs.Stood.{IsOneOf, Rest, Stood, represents_of, stood_of}
 use Rattle.draid_changes.proofs.Begun.{uber_of}
 use Rattle.draid_changes.proofs.Events.{unsealed}
+use Rattle.draid_uber.specs.Points.{told_at}
+use Rattle.draid_checkpoint.specs.Check.{Point}
 
 -- an uberblock is another one with this number, which is no lower
 pub record SetsLeaf {A : Type 0} (area : areas.Ghosts A) (old new : Uber A) (next : ℕ) : Type 0 where
@@ -45,6 +47,7 @@ pub record SetsLeaf {A : Type 0} (area : areas.Ghosts A) (old new : Uber A) (nex
   pub kept : kept_of new ≡ kept_of old
   pub layout : ubers.layout_of new ≡ ubers.layout_of old
   pub version : ubers.version_of new ≡ ubers.version_of old
+  pub point : ubers.point_of new ≡ ubers.point_of old
 
 module _ {R A : Type 0} (rack : racks.Ghosts R) (area : areas.Ghosts A) (late : Pool R A) (u : Uber A) (next : ℕ) (set : SetsLeaf area late.uber u next) where
   pub numbered_whole : IsWhole rack area late → IsWhole rack area (record late { uber = u })
@@ -103,11 +106,12 @@ module _ {R A : Type 0} (rack : racks.Ghosts R) (area : areas.Ghosts A) (late : 
       version = set.version ∙ is.version;
       kept = set.kept ∙ is.kept;
       next_leaf = set.next_is;
+      point = λ group late. ap (λ (p : Point). told_at p group) set.point ∙ is.point group late;
       count = is.count ∙ sym (ap (count_in area.faults) set.areas_is);
       stands = record {
         pending = is.stands.pending;
         are = All-weaker (IsPending x) (IsPending after) (λ body pending. absurd (settled_uber pending.0)) is.stands.pending is.stands.are;
-        stands = subst (λ a. AreasStand (kept_in x) is.stands.pending (told_by area.told a)) (sym set.areas_is) is.stands.stands;
+        stands = subst (λ a. AreasStand (check_told x.store.marks) (kept_in x) is.stands.pending (told_by area.told a)) (sym set.areas_is) is.stands.stands;
       };
     })
 

@@ -17,7 +17,7 @@ use Rattle.draid_shard.specs.Part.{Part}
 use Rattle.draid_shard.specs.declared.shard.Shard.{Shard}
 use Rattle.draid_uber.specs.Checks.{AreasStand, count_in, told_by}
 use Rattle.draid_uber.specs.Uber as ubers
-use Rattle.draid_uber.specs.Uber.{areas_of, kept_of, layout_of, next_leaf_of, version_of}
+use Rattle.draid_uber.specs.Uber.{areas_of, kept_of, layout_of, next_leaf_of, version_of, point_of}
 use Rattle.draid_uber.specs.declared.uber.Uber.{Uber}
 use Rattle.draid_session.specs.Arms as arms
 use Rattle.draid_session.specs.Holds.{AsksVersion, Did, OnUber, UberView}
@@ -30,7 +30,7 @@ use Rattle.draid_pool.specs.Metaslabs.{IsMetaslab}
 use Rattle.draid_pool.specs.Pools.{Represents, part_in}
 use Rattle.draid_pool.specs.Records.{LeavesAreBelow}
 use Rattle.draid_pool.specs.Syncing.{AreIdle, Phase, Turns}
-use Rattle.draid_pool.specs.Ubers.{IsPending, IsUber, kept_in}
+use Rattle.draid_pool.specs.Ubers.{IsPending, IsUber, kept_in, check_told}
 use Rattle.draid_pool.specs.declared.pool.Pool.{Pool}
 use Rattle.draid_pool.proofs.Dids.{Done, did_with, records_same}
 use Rattle.draid_pool.proofs.Lifted.{metaslab_of}
@@ -43,6 +43,8 @@ use Rattle.draid_changes.specs.Walks.{ChangedBelow}
 use Rattle.draid_changes.proofs.Events.{unsealed}
 use Rattle.draid_changes.proofs.Switched.{counts_stay}
 use Rattle.draid_changes.proofs.Walk.{ChangesAll, IsChanged, changes_all}
+use Rattle.draid_uber.specs.Points.{told_at}
+use Rattle.draid_checkpoint.specs.Check.{Point}
 
 -- ---- a metaslab
 
@@ -88,6 +90,7 @@ module _ {R A : Type 0} (rack : racks.Ghosts R) (area : areas.Ghosts A) where
     pub kept : kept_of new ≡ kept_of old
     pub layout : layout_of new ≡ layout_of old
     pub next_leaf : next_leaf_of new ≡ next_leaf_of old
+    pub point : point_of new ≡ point_of old
 
   -- where no group is closing no commit was refused
   idle_settled : (pool : Pool R A) (x : State) → Represents rack area pool x → AreIdle pool.metaslabs.shards.items → x.pending ≡ false
@@ -127,11 +130,12 @@ module _ {R A : Type 0} (rack : racks.Ghosts R) (area : areas.Ghosts A) where
     version = a.version;
     kept = a.kept ∙ is.kept;
     next_leaf = a.next_leaf ∙ is.next_leaf;
+    point = λ group late. ap (λ (p : Point). told_at p group) a.point ∙ is.point group late;
     count = is.count ∙ ap (count_in area.faults) (sym a.areas_is);
     stands = record {
       pending = is.stands.pending;
       are = All-weaker (IsPending x) (IsPending (asked_state x metaslabs)) (λ body pending. absurd (let no = sym settled ∙ pending.0 in cc)) is.stands.pending is.stands.are;
-      stands = subst (λ t. AreasStand (kept_in x) is.stands.pending (told_by area.told t)) (sym a.areas_is) is.stands.stands;
+      stands = subst (λ t. AreasStand (check_told x.store.marks) (kept_in x) is.stands.pending (told_by area.told t)) (sym a.areas_is) is.stands.stands;
     };
   }
 

@@ -43,7 +43,7 @@ use Rattle.draid_uber.specs.declared.uber.Uber.{Uber}
 use Rattle.draid_uber.specs.Checks.{AreasStand, AreasTold, CheckStands, HasCheck, told_by}
 use Rattle.draid_uber.specs.Slots.{StandsTold, group_of}
 use Rattle.draid_uber.specs.Uber as ubers
-use Rattle.draid_uber.specs.Uber.{areas_of, count_of, kept_of, layout_of, next_leaf_of, next_of, version_of}
+use Rattle.draid_uber.specs.Uber.{areas_of, count_of, kept_of, layout_of, next_leaf_of, next_of, point_of, version_of}
 use Rattle.draid_uber.proofs.Recorded.{empty_stands, stand_named, stand_pending}
 use Rattle.draid_session.specs.Making.{IsCalm, IsFresh, IsNew}
 use Rattle.draid_session.specs.Opening.{MayFind, VersionIn}
@@ -57,7 +57,9 @@ use Rattle.draid_pool.specs.Taking.{AreSilent, HoldsMade, TakesFirst, TellsAreas
 use Rattle.draid_pool.specs.Pools.{Represents}
 use Rattle.draid_pool.specs.Importable.{AllAlike, IsAlike, Shared}
 use Rattle.draid_pool.specs.Records.{HasImages, HasLeafNumbers, HasRecords, LeavesAreBelow}
-use Rattle.draid_pool.specs.Ubers.{IsPending, IsUber, body_of}
+use Rattle.draid_pool.specs.Ubers.{IsPending, IsUber, body_of, check_told}
+use Rattle.draid_pool.proofs.Pointing.{none_kept, unmarked_told}
+use Rattle.draid_checkpoint.specs.Check.{Point}
 use Rattle.draid_pool.specs.Whole.{IsWhole}
 use Rattle.draid_pool.specs.declared.pool.Pool.{Pool}
 use Rattle.draid_pool.proofs.Alike.{alike_as, alike_created, created_same, one_shared}
@@ -144,16 +146,17 @@ module _ {R A : Type 0} (rack : racks.Ghosts R) (area : areas.Ghosts A) where
     first_layout is = is ∙ (λ i. ubers.layout_in (layout i) (version i))
 
     pub is_uber : (perms : Perms) (shards : List (Shard R A)) (told : Bool) → ubers.Valid area.size new → kept_of new ≡ Some (next_of old 1) → layout_of new ≡ ubers.layout_in (layout_of old) (version_of old)
-        → version_of new ≡ version_of old → next_leaf_of new ≡ next_leaf_of old → AreasStand (Some (next_of old 1)) [] (told_by area.told (areas_of new))
-        → IsUber area new (state_of geometry perms shards (count_of area.faults new) told)
-    is_uber perms shards told valid kept layout_is version_is leaf_is stands = record {
+        → version_of new ≡ version_of old → next_leaf_of new ≡ next_leaf_of old → (point_of old).group ≡ None → point_of new ≡ point_of old
+        → AreasStand (check_told []) (Some (next_of old 1)) [] (told_by area.told (areas_of new)) → IsUber area new (state_of geometry perms shards (count_of area.faults new) told)
+    is_uber perms shards told valid kept layout_is version_is leaf_is none point stands = record {
       valid = valid;
       layout = first_layout layout_is;
       version = version_is ∙ version;
       kept = kept ∙ ap (λ (b : UberBody). Some b) first_body;
       next_leaf = leaf_is ∙ next_leaf;
+      point = λ group late. none_kept (point_of new) [] group (ap (λ (p : Point). p.group) point ∙ none) refl;
       count = refl;
-      stands = record { pending = []; are = All-nil (IsPending (state_of geometry perms shards (count_of area.faults new) told)); stands = subst (λ (b : UberBody). AreasStand (Some b) [] (told_by area.told (areas_of new))) first_body stands };
+      stands = record { pending = []; are = All-nil (IsPending (state_of geometry perms shards (count_of area.faults new) told)); stands = subst (λ (b : UberBody). AreasStand (check_told []) (Some b) [] (told_by area.told (areas_of new))) first_body stands };
     }
 
   module _ (geometry : Geometry) (whole : IsGeometry geometry) (held : Option Held) (counts : ℕ → KitCounts) (shards : List (Shard R A)) (opened : AreOpened rack area geometry held counts shards) where
@@ -349,7 +352,7 @@ module _ {R A : Type 0} (rack : racks.Ghosts R) (area : areas.Ghosts A) where
       }
 
       -- the pool of which the first commit was refused, as it is given back
-      pub refused_parts : (own : AreasTold) (body : UberBody) → body ≡ body_of geometry geometry.props.version 1 geometry.spec.children → AreasStand None (body ∷ []) own
+      pub refused_parts : (own : AreasTold) (body : UberBody) → body ≡ body_of geometry geometry.props.version 1 geometry.spec.children → AreasStand (check_told []) None (body ∷ []) own
           → Parts rack area shards own (uncommitted (state_of geometry opened.perms shards count told))
       refused_parts own body is stands = let x = uncommitted (state_of geometry opened.perms shards count told) in record {
         layout = opened.are_perms;
@@ -443,7 +446,7 @@ module _ {R A : Type 0} (rack : racks.Ghosts R) (area : areas.Ghosts A) where
       told_then (Some u) (Some e) (Some o) None (Some x) (Some y) back t some = absurd (cc)
       told_then (Some u) (Some e) (Some o) (Some w) (Some x) (Some y) back t some = refl
 
-      pub refused : (body : UberBody) (now : OwnCounts) → body ≡ body_of geometry geometry.props.version 1 geometry.spec.children → AreasStand None (body ∷ []) own → ((m : ℕ) → m < geometry.props.metaslabs → IsUncounted (counts m))
+      pub refused : (body : UberBody) (now : OwnCounts) → body ≡ body_of geometry geometry.props.version 1 geometry.spec.children → AreasStand (check_told []) None (body ∷ []) own → ((m : ℕ) → m < geometry.props.metaslabs → IsUncounted (counts m))
           → ((m : ℕ) → after m ≡ late m) → NoChecks now → (leaves : ℕ → Option Shape) → ((m : ℕ) (shard : Shard R A) → slice_get shards m ≡ Some shard → leaves m ≡ Some (rack.shape shard.rack))
           → IsRefused geometry new leaves after now
       refused body now is stands uncounted kept checks leaves shapes =
@@ -502,20 +505,20 @@ areas_new geometry (Some x) told new tells silent =
     record { uber = subst (λ (o : Option Content). OnTold o (IsNewArea (replicate uber_bytes 0))) (sym (tells.uber ∙ u.1)) u.2; even = both.0; odd = both.1 }
 
 -- the check record of the first group is that of an area to which nothing was written
-check_empty : (o : Option Content) → OnTold o (IsNewArea []) → OnTold o (CheckStands 1)
+check_empty : (o : Option Content) → OnTold o (IsNewArea []) → OnTold o (CheckStands (check_told [] 1) 1)
 check_empty None new = tt
-check_empty (Some x) new = empty_stands 1 x new.bytes_are
+check_empty (Some x) new = subst (λ value. CheckStands value 1 x) (sym (unmarked_told [] 1 refl)) (empty_stands 1 x new.bytes_are)
 
 -- the uberblock's area alone was called
 module _ {A : Type 0} (area : areas.Ghosts A) (geometry : Geometry) (old new : Uber A) (same : areas_of new ≡ record (areas_of old) { uber = (areas_of new).uber }) (fresh : AreNewAreas (told_by area.told (areas_of old))) where
-  first_check : HasCheck (told_by area.told (areas_of new)) (next_of old 1)
-  first_check = subst (λ o. OnTold o (CheckStands 1)) (ap (λ (a : Areas A). area.told a.odd) (sym same)) (check_empty (area.told (areas_of old).odd) fresh.odd)
+  first_check : HasCheck (check_told []) (told_by area.told (areas_of new)) (next_of old 1)
+  first_check = subst (λ o. OnTold o (CheckStands (check_told [] 1) 1)) (ap (λ (a : Areas A). area.told a.odd) (sym same)) (check_empty (area.told (areas_of old).odd) fresh.odd)
 
-  pub first_named : StandsTold (Some (next_of old 1)) [] (area.told (areas_of new).uber) → AreasStand (Some (next_of old 1)) [] (told_by area.told (areas_of new))
-  first_named stands = stand_named None (next_of old 1) (told_by area.told (areas_of new)) first_check stands
+  pub first_named : StandsTold (Some (next_of old 1)) [] (area.told (areas_of new).uber) → AreasStand (check_told []) (Some (next_of old 1)) [] (told_by area.told (areas_of new))
+  first_named stands = stand_named (check_told []) None (next_of old 1) (told_by area.told (areas_of new)) first_check stands
 
-  pub first_pending : StandsTold None (next_of old 1 ∷ []) (area.told (areas_of new).uber) → AreasStand None (next_of old 1 ∷ []) (told_by area.told (areas_of new))
-  first_pending stands = stand_pending None (next_of old 1) (told_by area.told (areas_of new)) first_check tt stands
+  pub first_pending : StandsTold None (next_of old 1 ∷ []) (area.told (areas_of new).uber) → AreasStand (check_told []) None (next_of old 1 ∷ []) (told_by area.told (areas_of new))
+  first_pending stands = stand_pending (check_told []) None (next_of old 1) (told_by area.told (areas_of new)) first_check tt stands
 
 pub uber_new : (content : Option Content) → OnTold content (IsNewArea (replicate uber_bytes 0)) → OnTold content ubers.IsNewArea
 uber_new None zeros = tt

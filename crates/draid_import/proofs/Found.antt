@@ -46,7 +46,7 @@ use Rattle.draid_import.proofs.Reopened.{both_same}
 use Rattle.draid_uber.specs.declared.uber.Uber.{Uber}
 use Rattle.draid_uber.specs.Slots.{group_of}
 use Rattle.draid_uber.specs.Uber as ubers
-use Rattle.draid_uber.specs.Uber.{kept_of, layout_of, next_leaf_of, version_of}
+use Rattle.draid_uber.specs.Uber.{kept_of, layout_of, next_leaf_of, version_of, point_of}
 use Rattle.draid_found.specs.Found.{AllLive, AreFound, AreReady}
 use Rattle.draid_import.specs.Found.{AnyRecordsRose, AreFreed, AreReopened, CountsLater, FreesAt, FreesOlder, FreesIfOlder, HaveLowLeaves, IsFoundUber, IsReopened, LeavesUber, OpensOver, RecordsRose, SameButFlushed, StaysHeld}
 use Rattle.draid_pool.specs.Returning.{Returns, TakesBack}
@@ -65,8 +65,8 @@ use Rattle.draid_pool.proofs.Wholes.{live_beside, one_live}
 -- ---- the uberblock
 
 pub found_uber : {A : Type 0} (area : areas.Ghosts A) (uber : Uber A) → ubers.Valid area.size uber → IsSomeAnd (kept_of uber) (λ body. (version_of uber ≡ body.props.version) × (next_leaf_of uber ≡ body.next_leaf))
-    → IsSomeAnd (kept_of uber) IsUber → IsFoundUber area uber
-found_uber area uber valid same ranges = by (kept_of uber) refl same ranges valid.held.kept_is
+    → IsSomeAnd (kept_of uber) IsUber → (point_of uber).group ≡ None → IsFoundUber area uber
+found_uber area uber valid same ranges point = by (kept_of uber) refl same ranges valid.held.kept_is
   where
     by : (kept : Option UberBody) → kept_of uber ≡ kept → IsSomeAnd kept (λ body. (version_of uber ≡ body.props.version) × (next_leaf_of uber ≡ body.next_leaf)) → IsSomeAnd kept IsUber
         → MatchOption kept ⊤ (λ body. (body.spec ≡ (layout_of uber).spec) × (body.props ≡ (layout_of uber).props)) → IsFoundUber area uber
@@ -75,7 +75,7 @@ found_uber area uber valid same ranges = by (kept_of uber) refl same ranges vali
         let group : group_of (kept_of uber) ≡ body.group = ap (λ (kept : Option UberBody). group_of kept) is in
         let above = ranges.group_above in
         let below = ranges.group_below in
-        record { valid = valid; version = same.0 ∙ ap (λ p. p.version) own.1; some = omega (arith, group, above); low = omega (arith, group, below) }
+        record { valid = valid; version = same.0 ∙ ap (λ p. p.version) own.1; point = point; some = omega (arith, group, above); low = omega (arith, group, below) }
 
 pub leaf_found : {A : Type 0} (uber : Uber A) → IsSomeAnd (kept_of uber) (λ body. (version_of uber ≡ body.props.version) × (next_leaf_of uber ≡ body.next_leaf)) → IsSomeAnd (kept_of uber) (λ body. next_leaf_of uber ≡ body.next_leaf)
 leaf_found uber both = by (kept_of uber) both

@@ -18,7 +18,7 @@ use Rattle.draid_segments.specs.Segments.{Pieces}
 use Rattle.draid_shelf.specs.Kits.{ChecksTold, Held, KitCounts, OnHeld, checks_of}
 use Rattle.draid_shard.specs.declared.shard.Shard.{Shard}
 use Rattle.draid_spec.specs.declared.layout.Geometry.{Geometry}
-use Rattle.draid_uber.specs.Checks.{AreasStand, AreasTold, CheckStands, HasCheck, check_area, check_in, no_check, told_by}
+use Rattle.draid_uber.specs.Checks.{AreasStand, AreasTold, CheckStands, HasCheck, check_area, check_in, told_by}
 use Rattle.draid_uber.specs.Slots.{StandsTold, chosen_of, group_of, read_body}
 use Rattle.draid_uber.specs.Uber.{Valid, area_of, areas_of, count_of, kept_of, layout_of, next_leaf_of}
 use Rattle.draid_uber.specs.declared.checks.CheckFault.{CheckFault}
@@ -35,17 +35,22 @@ use Rattle.draid_import.specs.declared.fault.ImportFault.{ImportFault}
 use Rattle.draid_import.specs.declared.fault.ImportFault.TheVariants as fault
 use Rattle.draid_import.proofs.ImportMetaslab.{of_told}
 use Rattle.draid_import.proofs.ImportPool.{body_found, told_checks}
+use Rattle.draid_uber.specs.Points.{no_check}
+use Rattle.draid_checkpoint.specs.Check.{Point}
+use Rattle.draid_pool.specs.Ubers.{check_told}
+use Rattle.draid_pool.proofs.Pointing.{unmarked_told}
 
 -- ---- the uberblock whose areas were read
 
 pub same_uber : {A : Type 0} (area : areas.Ghosts A) (uber : Uber A) → Valid area.size uber → KeepsUber area uber uber
-same_uber area uber valid = record { valid = valid; told = refl; uber = refl; kept = refl; layout = refl; version = refl; leaf = refl; later = omega arith }
+same_uber area uber valid = record { valid = valid; told = refl; uber = refl; kept = refl; layout = refl; version = refl; point = refl; leaf = refl; later = omega arith }
 
 module _ {A : Type 0} (area : areas.Ghosts A) (old new : Uber A) (k : KeepsUber area old new) where
   pub still_found : IsFoundUber area old → IsFoundUber area new
   still_found f = record {
     valid = k.valid;
     version = k.version ∙ (f.version ∙ ap (λ (g : Geometry). g.props.version) (sym k.layout));
+    point = ap (λ (p : Point). p.group) k.point ∙ f.point;
     some = subst (λ (o : Option UberBody). 1 ≤ group_of o) (sym k.kept) f.some;
     low = subst (λ (o : Option UberBody). group_of o < LAST_NUMBER) (sym k.kept) f.low;
   }
@@ -199,23 +204,23 @@ none_lacks group x shards place kind told (inr n) =
 
 module _ {A : Type 0} (area : areas.Ghosts A) (counted : (a : A) → OnTold (area.told a) (IsOfSize (area.size a))) where
   -- what a crash may leave of an area is what it has, too
-  says : (group n : ℕ) (o : Option Content) → OnTold o (IsOfSize n) → OnTold o (CheckStands group) → OnTold o (λ x. check_in group x.bytes ≡ Ok no_check)
-  says group n None size stands = tt
-  says group n (Some x) size stands = stands x.bytes (record { same = λ i d soft. refl; least = size.firm; most = omega arith })
+  says : (value : CheckTold) (group n : ℕ) (o : Option Content) → OnTold o (IsOfSize n) → OnTold o (CheckStands value group) → OnTold o (λ x. check_in group x.bytes ≡ Ok value)
+  says value group n None size stands = tt
+  says value group n (Some x) size stands = stands x.bytes (record { same = λ i d soft. refl; least = size.firm; most = omega arith })
 
-  says_own : (b : Bool) (group : ℕ) (e o : A) → OnTold (if b then area.told e else area.told o) (CheckStands group) → OnTold (area.told (if b then e else o)) (λ x. check_in group x.bytes ≡ Ok no_check)
-  says_own true group e o stands = says group (area.size e) (area.told e) (counted e) stands
-  says_own false group e o stands = says group (area.size o) (area.told o) (counted o) stands
+  says_own : (value : CheckTold) (b : Bool) (group : ℕ) (e o : A) → OnTold (if b then area.told e else area.told o) (CheckStands value group) → OnTold (area.told (if b then e else o)) (λ x. check_in group x.bytes ≡ Ok value)
+  says_own value true group e o stands = says value group (area.size e) (area.told e) (counted e) stands
+  says_own value false group e o stands = says value group (area.size o) (area.told o) (counted o) stands
 
-  own_says : (uber : Uber A) → 1 ≤ group_of (kept_of uber) → AreasStand (kept_of uber) [] (told_by area.told (areas_of uber)) → OwnCheck area uber (Ok no_check)
-  own_says uber some stands = by (kept_of uber) refl some stands.kept_check
+  own_says : (check : ℕ → CheckTold) (uber : Uber A) → 1 ≤ group_of (kept_of uber) → AreasStand check (kept_of uber) [] (told_by area.told (areas_of uber)) → OwnCheck area uber (Ok (check (group_of (kept_of uber))))
+  own_says check uber some stands = by (kept_of uber) refl some stands.kept_check
     where
-      by : (kept : Option UberBody) → kept_of uber ≡ kept → 1 ≤ group_of kept → MatchOption kept ⊤ (HasCheck (told_by area.told (areas_of uber))) → OwnCheck area uber (Ok no_check)
+      by : (kept : Option UberBody) → kept_of uber ≡ kept → 1 ≤ group_of kept → MatchOption kept ⊤ (HasCheck check (told_by area.told (areas_of uber))) → OwnCheck area uber (Ok (check (group_of (kept_of uber))))
       by None is some has = absurd (omega (arith, some))
       by (Some body) is some has =
           let group : group_of (kept_of uber) ≡ body.group = ap (λ (o : Option UberBody). group_of o) is in
-          subst (λ n. OnTold (area.told (check_area (areas_of uber) n)) (λ x. check_in n x.bytes ≡ Ok no_check)) (sym group)
-          (says_own (body.group % 2 == 0) body.group (areas_of uber).even (areas_of uber).odd has)
+          subst (λ n. OnTold (area.told (check_area (areas_of uber) n)) (λ x. check_in n x.bytes ≡ Ok (check n))) (sym group)
+          (says_own (check body.group) (body.group % 2 == 0) body.group (areas_of uber).even (areas_of uber).odd has)
 
   -- its check record has no fault
   pub no_check_fault : {R T : Type 0} (x : State) (pieces : ℕ → Pieces) (o : Option Held) (leaves : ℕ → Option Shape) (counts : ℕ → KitCounts) (count : ℕ) (uber : Uber A) (shards : List (Shard R A)) (f : ImportFault)
@@ -224,7 +229,7 @@ module _ {A : Type 0} (area : areas.Ghosts A) (counted : (a : A) → OnTold (are
   no_check_fault x pieces None leaves counts count uber shards f there found r bad place kind err = absurd there.held
   no_check_fault x pieces (Some held) leaves counts count uber shards f there found r bad place kind err =
       let at = body_found area x pieces held leaves counts count uber there found r in
-      let own = own_says uber found.some at.b.own_areas in
+      let own = subst (λ v. OwnCheck area uber (Ok v)) (unmarked_told x.store.marks (group_of (kept_of uber)) there.held.objects.unmarked) (own_says (check_told x.store.marks) uber found.some at.b.own_areas) in
       none_lacks (group_of (kept_of uber)) held shards place kind (own_holds area (Some held) count uber r (Ok no_check) own)
       (bad_entry area (Some held) count uber shards place kind r (bad place kind err))
 

@@ -1,5 +1,5 @@
 -- An import from the metaslabs that are opened to its pool: what is found, one older block after another that is freed, and the pool.
-use Rattle.std.proofs.Common.{◌≡◌, ◌+◌, ◌<◌, ◌≤◌, ◌∙◌, ℕ, Option, Some, List, [], ap, length, refl, sym, slice_set}
+use Rattle.std.proofs.Common.{◌≡◌, ◌+◌, ◌<◌, ◌≤◌, ◌∙◌, ℕ, Option, Some, List, [], ap, length, refl, sym, slice_set, None}
 use Rattle.std.specs.Prelude.{nat_eq, slice_get}
 use Rattle.std.specs.HashMap.{get}
 use Rattle.draid_names.specs.declared.numbers.TheConstants.{LAST_NUMBER}
@@ -13,7 +13,7 @@ use Rattle.draid_shard.specs.Looks.{IsLive}
 use Rattle.draid_shard.specs.Part.{Part}
 use Rattle.draid_shard.specs.declared.shard.Shard.{Shard}
 use Rattle.draid_uber.specs.Checks.{AreasStand, told_by}
-use Rattle.draid_uber.specs.Uber.{Valid, areas_of, count_of, kept_of, layout_of, next_leaf_of, version_of}
+use Rattle.draid_uber.specs.Uber.{Valid, areas_of, count_of, kept_of, layout_of, next_leaf_of, version_of, point_of}
 use Rattle.draid_uber.specs.declared.uber.Uber.{Uber}
 use Rattle.draid_session.specs.Opening.{Finds, IsLastSeq}
 use Rattle.draid_session.specs.State.{Metaslab, State}
@@ -28,14 +28,15 @@ use Rattle.draid_import.proofs.ImportFound.{found_live}
 use Rattle.draid_import.proofs.ImportNewest.{imports_pool, last_in, newest_of, older_by}
 use Rattle.draid_import.proofs.ImportOlder.{none_freed, older_step}
 use Rattle.draid_import.proofs.ImportOpened.{all_opened, all_reached, finds_opened, opened_is_in, opened_says, opened_stands, opened_state}
+use Rattle.draid_pool.specs.Ubers.{check_told}
 
 module _ {R A : Type 0} (rack : racks.Ghosts R) (area : areas.Ghosts A) (x : State) (pieces : ℕ → Pieces) (uber : Uber A) (newest : ℕ → Option Pointer) (seq : ℕ) where
   -- all metaslabs were opened, and their blocks noted
   pub found_begins : (held : Held) (rests : Rests x pieces held) (findable : IsFindable x) (alike : AreAlike x) (body : UberBody) (body_is : FindsBody x body) (shards : List (Shard R A)) (many : length shards ≡ length x.metaslabs)
       → ((m : ℕ) (shard : Shard R A) (y : Metaslab) → slice_get shards m ≡ Some shard → slice_get x.metaslabs m ≡ Some y → OpensFound rack area x body.group m (pieces m) y shard)
       → x.uber_count ≤ count_of area.faults uber → IsLastIn shards seq → IsNewestIn shards newest → body.group < LAST_NUMBER → Valid area.size uber → kept_of uber ≡ Some body
-      → version_of uber ≡ body.props.version → next_leaf_of uber ≡ body.next_leaf → AreasStand (kept_of uber) [] (told_by area.told (areas_of uber)) → layout_of uber ≡ x.geometry → IsFoundOf rack area x uber pieces newest seq shards
-  found_begins held rests findable alike body body_is shards many each counted last newest_in low valid kept version next stands layout = record {
+      → version_of uber ≡ body.props.version → next_leaf_of uber ≡ body.next_leaf → AreasStand (check_told x.store.marks) (kept_of uber) [] (told_by area.told (areas_of uber)) → (point_of uber).group ≡ None → layout_of uber ≡ x.geometry → IsFoundOf rack area x uber pieces newest seq shards
+  found_begins held rests findable alike body body_is shards many each counted last newest_in low valid kept version next stands point layout = record {
     group = body.group;
     mid = mid;
     finds = finds;
@@ -61,7 +62,7 @@ module _ {R A : Type 0} (rack : racks.Ghosts R) (area : areas.Ghosts A) (x : Sta
           (λ m shard y at there. (opened_is_in rack area x pieces held rests findable uber body body_is shards many each seq counted m shard y at there).stands.is_in) seq last
 
       stood : StandsFound rack area shards uber pieces mid
-      stood = opened_stands rack area x pieces held rests findable uber body body_is shards many each seq counted alike last_is low valid kept version next stands layout
+      stood = opened_stands rack area x pieces held rests findable uber body body_is shards many each seq counted alike last_is low valid kept version next stands point layout
 
   -- a live block was freed that isn't the newest of its object
   pub found_frees : (shards : List (Shard R A)) (f : IsFoundOf rack area x uber pieces newest seq shards) (m : ℕ) (shard shard' : Shard R A) (p : Pointer) (floor group : ℕ) → slice_get shards m ≡ Some shard

@@ -47,6 +47,7 @@ use Rattle.draid_import.proofs.ImportRefused.{found_leaves_pool, given_found, le
 use Rattle.draid_import.proofs.ImportVersion.{LeavesFound, found_at, left_from}
 use Rattle.draid_pool.proofs.Lists.{ext, present}
 use Rattle.draid_pool.proofs.Takings.{rose_since}
+use Rattle.draid_pool.specs.Ubers.{check_told}
 
 -- ---- one metaslab
 
@@ -269,7 +270,7 @@ module _ {R A : Type 0} (rack : racks.Ghosts R) (area : areas.Ghosts A) (x : Sta
           )
 
   -- the pool as the group has it whose uberblock was found
-  pub refused_leaves : (u : Content) (k : ChecksTold) (n : ℕ) → AreasStand (Some body) [] (areas_told u k) → x.uber_count ≤ n → LeavesFound x pieces (gives_areas (areas_told u k) back) now after n
+  pub refused_leaves : (u : Content) (k : ChecksTold) (n : ℕ) → AreasStand (check_told x.store.marks) (Some body) [] (areas_told u k) → x.uber_count ≤ n → LeavesFound x pieces (gives_areas (areas_told u k) back) now after n
   refused_leaves u k n stands counted = subst (λ o. LeavesFound x pieces (gives_areas (areas_told u k) o) now after n) (sym given.1)
       (found_leaves_pool x pieces held there.held there.importable.findable body finds (puts_checks (Some k) (puts_uber (Some u) given.0)) now after n there.importable.alike counted each u k refl refl stands)
 
@@ -303,8 +304,8 @@ refused_pool {R} {A} alloc rack area x pieces (Some held) mid back new leaves ye
         let both = told_checks (area.told (areas_of uber).even) (area.told (areas_of uber).odd) c.checks (r.checks ∙ c.checks_are) in
         λ i. record { uber = uber_told i; even = both.0 i; odd = both.1 i }
 
-    stands : AreasStand (Some b.body) [] (areas_told (flushes c.uber) c.checks)
-    stands = subst (λ k. AreasStand k [] (areas_told (flushes c.uber) c.checks)) b.kept (subst (λ t. AreasStand (kept_of uber) [] t) told b.own_areas)
+    stands : AreasStand (check_told x.store.marks) (Some b.body) [] (areas_told (flushes c.uber) c.checks)
+    stands = subst (λ k. AreasStand (check_told x.store.marks) k [] (areas_told (flushes c.uber) c.checks)) b.kept (subst (λ t. AreasStand (check_told x.store.marks) (kept_of uber) [] t) told b.own_areas)
 
     left : LeavesShards rack area (layout_of uber) (group_of (kept_of uber)) (next_leaf_of uber) (Some (puts_checks None (puts_uber None held))) back counts late leaves late_leaves
     left = subst (λ (o : Option Held). LeavesShards rack area (layout_of uber) (group_of (kept_of uber)) (next_leaf_of uber) o back counts late leaves late_leaves) taken

@@ -103,6 +103,7 @@ module _ {R A : Type 0} (rack : racks.Ghosts R) (area : areas.Ghosts A) (mid : S
     version = is.version;
     kept = is.kept;
     next_leaf = is.next_leaf;
+    point = is.point;
     count = is.count;
     stands = record { pending = is.stands.pending; are = is.stands.are; stands = is.stands.stands };
   }

@@ -32,6 +32,7 @@ use Rattle.draid_pool.proofs.Alike.{one_shared}
 use Rattle.draid_import.proofs.ImportFound.{found_groups, found_holds, found_images, found_leaves, found_open, found_says, numbered_last, part_there}
 use Rattle.draid_import.proofs.ImportUber.{found_uber}
 use Rattle.draid_pool.proofs.Lists.{present, some_of}
+use Rattle.draid_pool.specs.Ubers.{check_told}
 
 one_more : {A B : Type 0} (x : A) (xs : List A) (y : B) (ys : List B) (P : ℕ → A → B → Type 0) → P 0 x y → ((m : ℕ) (z : A) (w : B) → slice_get xs m ≡ Some z → slice_get ys m ≡ Some w → P (suc m) z w)
     → (m : ℕ) (z : A) (w : B) → slice_get (x ∷ xs) m ≡ Some z → slice_get (y ∷ ys) m ≡ Some w → P m z w
@@ -129,8 +130,8 @@ module _ {R A : Type 0} (rack : racks.Ghosts R) (area : areas.Ghosts A) (x : Sta
         (y.0, y.1, (all_opened.2 m y.0 z y.1 at).reopens)))
 
     pub opened_stands : AreAlike x → IsLastSeq opened_state seq → body.group < LAST_NUMBER → Valid area.size uber → kept_of uber ≡ Some body → version_of uber ≡ body.props.version → next_leaf_of uber ≡ body.next_leaf
-        → AreasStand (kept_of uber) [] (told_by area.told (areas_of uber)) → ubers.layout_of uber ≡ x.geometry → StandsFound rack area shards uber pieces opened_state
-    opened_stands alike last low valid kept version next stands layout_is = record {
+        → AreasStand (check_told x.store.marks) (kept_of uber) [] (told_by area.told (areas_of uber)) → (ubers.point_of uber).group ≡ None → ubers.layout_of uber ≡ x.geometry → StandsFound rack area shards uber pieces opened_state
+    opened_stands alike last low valid kept version next stands point layout_is = record {
       layout = rests.layout;
       many = all_opened.1 ∙ rests.many;
       shards_are = many ∙ sym all_opened.1;
@@ -138,7 +139,7 @@ module _ {R A : Type 0} (rack : racks.Ghosts R) (area : areas.Ghosts A) (x : Sta
       holds = found_holds x opened_state body.group pieces finds_opened refl rests.layout rests.many reached rests.leaves findable rests.objects
           (numbered_last x opened_state body.group pieces finds_opened refl rests.layout rests.many reached rests.leaves findable rests.objects last);
       groups = found_groups x opened_state body.group pieces finds_opened refl rests.layout rests.many reached rests.leaves findable rests.objects low;
-      uber_is = found_uber area x opened_state uber body valid kept body_is layout_is version next stands refl refl refl refl refl (refl, refl);
+      uber_is = found_uber area x opened_state uber body valid kept body_is layout_is version next stands point rests.objects.unmarked (ap (marks_upto body.group) rests.objects.unmarked) refl refl refl refl refl (refl, refl);
       images = found_images x opened_state body.group pieces finds_opened refl rests.layout rests.many reached rests.leaves findable rests.objects;
       leaves = found_leaves x opened_state body.group pieces finds_opened refl rests.layout rests.many reached rests.leaves findable rests.objects;
       shared = one_shared x.geometry.props.version (opened_arms alike).0;

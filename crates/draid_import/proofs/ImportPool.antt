@@ -35,7 +35,7 @@ use Rattle.draid_import.specs.Imported.{FindsBody, IsFoundOf, IsLastIn, IsNewest
 use Rattle.draid_import.specs.Importing.{RestsThere}
 use Rattle.draid_pool.specs.Taking.{TakesFirst, takes_areas}
 use Rattle.draid_pool.specs.Pools.{part_in}
-use Rattle.draid_pool.specs.Ubers.{UberStands}
+use Rattle.draid_pool.specs.Ubers.{UberStands, check_told}
 use Rattle.draid_uber.proofs.Recorded.{stand_named}
 use Rattle.draid_pool.proofs.Lists.{some_of}
 use Rattle.draid_import.proofs.ImportEnd.{found_begins}
@@ -94,7 +94,7 @@ body_next kept next body leaf is = subst (λ o. IsSomeAnd o (λ b. next ≡ b.ne
 -- the body that was found, and what the area of the uberblock told: the state's layout is at the version that was found
 pub record FoundBody {A : Type 0} (area : areas.Ghosts A) (x : State) (uber : Uber A) : Type 0 where
   pub body : UberBody
-  pub own_areas : AreasStand (kept_of uber) [] (told_by area.told (areas_of uber))
+  pub own_areas : AreasStand (check_told x.store.marks) (kept_of uber) [] (told_by area.told (areas_of uber))
   pub kept : kept_of uber ≡ Some body
   pub finds : FindsBody x body
   pub group : group_of (kept_of uber) ≡ body.group
@@ -115,8 +115,8 @@ body_found {A} area x pieces held leaves counts count uber there found r = recor
   there = there_at x kept.0.props.version pieces held leaves counts count (record { geometry_is = subst IsGeometry layout found.valid.held.layout_is; perms_are = there.held.layout.perms_are }) there;
   b = record {
     body = kept.0;
-    own_areas = subst (λ t. AreasStand (kept_of uber) [] t) (sym told) (subst (λ k. AreasStand k [] (areas_told (flushes c.uber) c.checks)) (sym kept.1)
-        (stand_named None kept.0 (areas_told (flushes c.uber) c.checks) check (subst (λ k. StandsTold k [] (Some (flushes c.uber))) kept.1 (subst (λ t. StandsTold (kept_of uber) [] t) content r.stands))));
+    own_areas = subst (λ t. AreasStand (check_told x.store.marks) (kept_of uber) [] t) (sym told) (subst (λ k. AreasStand (check_told x.store.marks) k [] (areas_told (flushes c.uber) c.checks)) (sym kept.1)
+        (stand_named (check_told x.store.marks) None kept.0 (areas_told (flushes c.uber) c.checks) check (subst (λ k. StandsTold k [] (Some (flushes c.uber))) kept.1 (subst (λ t. StandsTold (kept_of uber) [] t) content r.stands))));
     kept = kept.1;
     finds = finds;
     group = ap (λ (k : Option UberBody). group_of k) kept.1;
@@ -147,7 +147,7 @@ body_found {A} area x pieces held leaves counts count uber there found r = recor
     chosen : chosen_of c.uber.bytes ≡ option_map read_body (kept_of uber)
     chosen = subst (λ o. OnTold o (λ (y : Content). chosen_of y.bytes ≡ option_map read_body (kept_of uber))) own r.finds
 
-    check : HasCheck (areas_told (flushes c.uber) c.checks) kept.0
+    check : HasCheck (check_told x.store.marks) (areas_told (flushes c.uber) c.checks) kept.0
     check = found_check x c.uber c.checks c.stands counted.firm kept.0 (chosen ∙ ap (λ (k : Option UberBody). option_map read_body k) kept.1)
 
     finds : FindsBody (found_at x kept.0.props.version) kept.0
@@ -215,7 +215,7 @@ module _ {R A : Type 0} (rack : racks.Ghosts R) (area : areas.Ghosts A) (x : Sta
       let group = b.group in
       found_begins rack area x pieces uber newest seq held rests importable.findable importable.alike b.body b.finds shards
       (as_many_found shards re) (each_found alloc known now shards counted re over)
-      (omega (arith, later, own)) (last_found shards newest seq blocks) (newest_found shards newest seq blocks) (omega (arith, low, group)) found.valid b.kept b.version b.next b.own_areas b.layout
+      (omega (arith, later, own)) (last_found shards newest seq blocks) (newest_found shards newest seq blocks) (omega (arith, low, group)) found.valid b.kept b.version b.next b.own_areas found.point b.layout
 
 -- what the pool is made of, whatever the shelf tells
 pub pool_found : {R A : Type 0} (alloc : Global) (rack : racks.Ghosts R) (area : areas.Ghosts A) (x : State) (pieces : ℕ → Pieces) (o mid : Option Held) (leaves known : ℕ → Option Shape) (counts now : ℕ → KitCounts) (count : ℕ) (uber : Uber A)

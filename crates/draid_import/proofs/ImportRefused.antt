@@ -27,7 +27,7 @@ use Rattle.draid_pool.specs.Importable.{AreAlike, HasImageLeaves, IsFindable, Is
 use Rattle.draid_import.specs.Imported.{FindsBody, OpensFound, RestsFound, found_state}
 use Rattle.draid_pool.specs.Pools.{part_in}
 use Rattle.draid_import.specs.Importing.{FindsNone, LeavesPool, RestsThere}
-use Rattle.draid_pool.specs.Ubers.{IsPending, UberStands}
+use Rattle.draid_pool.specs.Ubers.{IsPending, UberStands, check_told}
 use Rattle.draid_pool.proofs.Returned.{area_told, kit_is, rests_on}
 use Rattle.draid_import.proofs.ImportFound.{found_findable, found_holds, found_images, found_leaves, numbered_before}
 use Rattle.draid_import.proofs.ImportMetaslab.{FindsImage, counts_rise, found_image, unopened, unopened_reopens, unopened_rests}
@@ -36,6 +36,7 @@ use Rattle.draid_import.proofs.ImportUber.{found_kept}
 use Rattle.draid_import.proofs.ImportVersion.{LeavesFound}
 use Rattle.draid_pool.proofs.ImageLeaves.{leaves_there}
 use Rattle.draid_pool.proofs.Lists.{present}
+use Rattle.draid_objects.specs.Marks.{marks_upto}
 
 -- ---- one metaslab
 
@@ -209,7 +210,7 @@ module _ (x : State) (pieces : ℕ → Pieces) (held : Held) (rests : Rests x pi
         (alike body.group k j p.0 q.0 p.2.reopens.image q.2.reopens.image body_is.may p.1 q.1 p.2.reopens.is p.2.reopens.of q.2.reopens.is q.2.reopens.of))
 
     -- a refusal behind the uberblock leaves the pool as the group has it
-    pub found_leaves_pool : (u : Content) (k : ChecksTold) → new.uber ≡ Some u → new.checks ≡ Some k → AreasStand (Some body) [] (areas_told u k) → LeavesFound x pieces (Some new) now counts n
+    pub found_leaves_pool : (u : Content) (k : ChecksTold) → new.uber ≡ Some u → new.checks ≡ Some k → AreasStand (check_told x.store.marks) (Some body) [] (areas_told u k) → LeavesFound x pieces (Some new) now counts n
     found_leaves_pool u k uber checks stands = record {
       y = mid;
       rests = record {
@@ -217,7 +218,12 @@ module _ (x : State) (pieces : ℕ → Pieces) (held : Held) (rests : Rests x pi
           layout = rests.layout;
           uber = subst (λ o. IsSomeAnd o (λ c. IsSomeAnd new.checks (λ checks. UberStands mid (areas_told c checks)))) (sym uber)
               (subst (λ o. IsSomeAnd o (λ checks. UberStands mid (areas_told u checks))) (sym checks)
-              (record { pending = []; are = All-nil (IsPending mid); stands = subst (λ (b : Option UberBody). AreasStand b [] (areas_told u k)) (sym (found_kept x mid body body_is refl refl refl refl)) stands }));
+              (record {
+                pending = [];
+                are = All-nil (IsPending mid);
+                stands = subst (λ (b : Option UberBody). AreasStand (check_told mid.store.marks) b [] (areas_told u k)) (sym (found_kept x mid body body_is refl refl refl refl))
+                    (subst (λ ms. AreasStand (check_told ms) (Some body) [] (areas_told u k)) (rests.objects.unmarked ∙ sym (ap (marks_upto body.group) rests.objects.unmarked)) stands);
+              }));
           many = shelved.1 ∙ rests.many;
           kits = λ m z at. on_mid (new.kits m) m z (there m z at).1.kit;
           images = found_images x mid body.group pieces finds refl rests.layout rests.many reached rests.leaves findable rests.objects;

@@ -15,7 +15,7 @@ use Rattle.draid_spec.proofs.Layouts.{given_layout}
 use Rattle.draid_shelf.specs.Kits.{ChecksTold}
 use Rattle.draid_uber.specs.Checks.{AreasStand, HasCheck, told_by}
 use Rattle.draid_uber.specs.Slots.{Chooses, IsLeft, chosen_of, read_body}
-use Rattle.draid_uber.specs.Uber.{Valid, areas_of, count_of, kept_of, layout_of, next_leaf_of, version_of}
+use Rattle.draid_uber.specs.Uber.{Valid, areas_of, count_of, kept_of, layout_of, next_leaf_of, version_of, point_of}
 use Rattle.draid_uber.specs.declared.uber.Uber.{Uber}
 use Rattle.draid_uber.proofs.Imports.{import_takes}
 use Rattle.draid_uber.proofs.Recorded.{stand_alone, stand_still}
@@ -23,8 +23,9 @@ use Rattle.draid_pool.specs.Returning.{areas_told}
 use Rattle.draid_session.specs.Opening.{layout_at_version}
 use Rattle.draid_session.specs.State.{State}
 use Rattle.draid_import.specs.Imported.{FindsBody}
-use Rattle.draid_pool.specs.Ubers.{IsPending, IsUber, UberStands, body_of, kept_in}
+use Rattle.draid_pool.specs.Ubers.{IsPending, IsUber, UberStands, body_of, kept_in, check_told}
 use Rattle.draid_import.proofs.ImportVersion.{found_at, layout_at}
+use Rattle.draid_pool.proofs.Pointing.{none_kept}
 
 abbrev Chosen : Type 0
 Chosen = Option (Result UberBody RecordFault)
@@ -98,14 +99,14 @@ module _ (x : State) where
             subst (λ (b : UberBody). FindsBody (found_at x b.props.version) b) same (pending_body p.0 (All-contains (IsPending x) stands.pending p.0 stands.are p.1))
 
     -- the check record of its group stands, whether or not the uberblock's area was flushed
-    pub found_check : (body : UberBody) → chosen_of c.bytes ≡ Some (Ok body) → HasCheck (areas_told (flushes c) k) body
+    pub found_check : (body : UberBody) → chosen_of c.bytes ≡ Some (Ok body) → HasCheck (check_told x.store.marks) (areas_told (flushes c) k) body
     found_check body is = by takes
       where
-        by : Chooses (kept_in x) stands.pending (chosen_of c.bytes) → HasCheck (areas_told (flushes c) k) body
-        by (inl kept) = subst (λ (o : Option UberBody). MatchOption o ⊤ (HasCheck (areas_told c k))) (read_some (kept_in x) body (chosen_of c.bytes) is kept) stands.stands.kept_check
+        by : Chooses (kept_in x) stands.pending (chosen_of c.bytes) → HasCheck (check_told x.store.marks) (areas_told (flushes c) k) body
+        by (inl kept) = subst (λ (o : Option UberBody). MatchOption o ⊤ (HasCheck (check_told x.store.marks) (areas_told c k))) (read_some (kept_in x) body (chosen_of c.bytes) is kept) stands.stands.kept_check
         by (inr p) =
             let same : p.0 ≡ body = same_body p.0 body (chosen_of c.bytes) p.2 is in
-            subst (λ (b : UberBody). HasCheck (areas_told c k) b) same (All-contains (HasCheck (areas_told c k)) stands.pending p.0 stands.stands.pending_checks p.1)
+            subst (λ (b : UberBody). HasCheck (check_told x.store.marks) (areas_told c k) b) same (All-contains (HasCheck (check_told x.store.marks) (areas_told c k)) stands.pending p.0 stands.stands.pending_checks p.1)
 
     -- no gate is open only where no group was committed
     pub found_none : chosen_of c.bytes ≡ None → x.committed ≡ 0
@@ -131,7 +132,7 @@ module _ (x : State) where
     flushed_stands = record {
       pending = stands.pending;
       are = stands.are;
-      stands = stand_still (kept_in x) stands.pending (areas_told c k) (areas_told (flushes c) k) stands.stands
+      stands = stand_still (check_told x.store.marks) (kept_in x) stands.pending (areas_told c k) (areas_told (flushes c) k) stands.stands
           (λ bytes may. subst (IsLeft (kept_in x) stands.pending) (sym (leaves_all (flushes c) bytes (λ i. refl) refl may)) left) refl refl;
     }
 
@@ -140,7 +141,7 @@ module _ (x : State) where
     flushed_none is = record {
       pending = [];
       are = All-nil (IsPending (record x { pending = false }));
-      stands = stand_alone (kept_in x) stands.pending (areas_told c k) (areas_told (flushes c) k) stands.stands
+      stands = stand_alone (check_told x.store.marks) (kept_in x) stands.pending (areas_told c k) (areas_told (flushes c) k) stands.stands
           (λ bytes may. subst (IsLeft (kept_in x) []) (sym (leaves_all (flushes c) bytes (λ i. refl) refl may))
           (record { long = left.long; kept_is = left.kept_is; chosen = inl (is ∙ none_of (read_none_kept is)) })) (λ body same. refl);
     }
@@ -190,15 +191,21 @@ found_layout area x uber body valid kept finds whole =
 module _ {A : Type 0} (area : areas.Ghosts A) (x mid : State) (uber : Uber A) (body : UberBody) (valid : Valid area.size uber) (kept : kept_of uber ≡ Some body) (finds : FindsBody x body)
     (layout : layout_of uber ≡ x.geometry) where
   -- it is that of the state which is found with it
-  pub found_uber : version_of uber ≡ body.props.version → next_leaf_of uber ≡ body.next_leaf → AreasStand (kept_of uber) [] (told_by area.told (areas_of uber))
-      → mid.geometry ≡ x.geometry → mid.committed ≡ body.group → mid.kept_leaf ≡ body.next_leaf → mid.next_leaf ≡ body.next_leaf → mid.uber_count ≡ count_of area.faults uber
+  pub found_uber : version_of uber ≡ body.props.version → next_leaf_of uber ≡ body.next_leaf → AreasStand (check_told x.store.marks) (kept_of uber) [] (told_by area.told (areas_of uber))
+      → (point_of uber).group ≡ None → x.store.marks ≡ [] → mid.store.marks ≡ [] → mid.geometry ≡ x.geometry → mid.committed ≡ body.group → mid.kept_leaf ≡ body.next_leaf → mid.next_leaf ≡ body.next_leaf → mid.uber_count ≡ count_of area.faults uber
       → (mid.kept_version ≡ x.geometry.props.version) × (mid.next_version ≡ x.geometry.props.version) → IsUber area uber mid
-  found_uber version next stands geometry committed kept_leaf next_leaf count versions = record {
+  found_uber version next stands point unmarked none geometry committed kept_leaf next_leaf count versions = record {
     valid = valid;
     layout = layout ∙ sym (λ i. layout_at_version (versions.0 i) (geometry i));
     version = version ∙ (ap (λ (b : UberBody). b.props.version) finds.is ∙ sym versions.1);
     kept = kept ∙ sym (found_kept x mid body finds geometry versions.0 committed kept_leaf);
     next_leaf = next ∙ sym next_leaf;
+    point = λ group late. none_kept (point_of uber) mid.store.marks group point none;
     count = count;
-    stands = record { pending = []; are = All-nil (IsPending mid); stands = subst (λ (k : Option UberBody). AreasStand k [] (told_by area.told (areas_of uber))) (kept ∙ sym (found_kept x mid body finds geometry versions.0 committed kept_leaf)) stands };
+    stands = record {
+      pending = [];
+      are = All-nil (IsPending mid);
+      stands = subst (λ (k : Option UberBody). AreasStand (check_told mid.store.marks) k [] (told_by area.told (areas_of uber))) (kept ∙ sym (found_kept x mid body finds geometry versions.0 committed kept_leaf))
+          (subst (λ ms. AreasStand (check_told ms) (kept_of uber) [] (told_by area.told (areas_of uber))) (unmarked ∙ sym none) stands);
+    };
   }

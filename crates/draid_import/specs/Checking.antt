@@ -14,7 +14,7 @@ use Rattle.draid_shard.specs.declared.shard.Shard.{Shard}
 use Rattle.draid_uber.specs.Checks.{check_area, check_in, told_by}
 use Rattle.draid_uber.specs.Slots.{group_of}
 use Rattle.draid_uber.specs.Uber as ubers
-use Rattle.draid_uber.specs.Uber.{area_of, areas_of, count_of, kept_of, layout_of, next_leaf_of, version_of}
+use Rattle.draid_uber.specs.Uber.{area_of, areas_of, count_of, kept_of, layout_of, next_leaf_of, version_of, point_of}
 use Rattle.draid_uber.specs.declared.uber.Uber.{Uber}
 use Rattle.draid_uber.specs.declared.checks.CheckFault.{CheckFault}
 use Rattle.draid_uber.specs.declared.checks.CheckFault.TheVariants as check_fault
@@ -49,6 +49,7 @@ pub record KeepsUber {A : Type 0} (area : areas.Ghosts A) (old new : Uber A) : T
   pub kept : kept_of new ≡ kept_of old
   pub layout : layout_of new ≡ layout_of old
   pub version : version_of new ≡ version_of old
+  pub point : point_of new ≡ point_of old
   pub leaf : next_leaf_of new ≡ next_leaf_of old
   pub later : count_of area.faults old ≤ count_of area.faults new
 

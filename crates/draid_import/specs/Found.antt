@@ -45,7 +45,7 @@ use Rattle.draid_uber.specs.declared.uber.Uber.{Uber}
 use Rattle.draid_uber.specs.declared.uber.UberFault.{UberFault}
 use Rattle.draid_uber.specs.declared.uber.UberFault.TheVariants as uber_fault
 use Rattle.draid_uber.specs.Slots.{StandsTold, chosen_of, group_of, read_body}
-use Rattle.draid_uber.specs.Uber.{area_of, areas_of, count_of, kept_of, layout_of, next_leaf_of, version_of}
+use Rattle.draid_uber.specs.Uber.{area_of, areas_of, count_of, kept_of, layout_of, next_leaf_of, version_of, point_of}
 use Rattle.draid_uber.specs.Uber as ubers
 
 -- ---- the shelf
@@ -176,6 +176,7 @@ NoRecord result = (metaslab : Option ℕ) (place : ℕ) (kind : RecordFaultKind)
 pub record IsFoundUber {A : Type 0} (area : areas.Ghosts A) (uber : Uber A) : Type 0 where
   pub valid : ubers.Valid area.size uber
   pub version : version_of uber ≡ (layout_of uber).props.version
+  pub point : (point_of uber).group ≡ None
   pub some : 1 ≤ group_of (kept_of uber)
   pub low : group_of (kept_of uber) < LAST_NUMBER
 

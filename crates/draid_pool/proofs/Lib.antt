@@ -54,6 +54,7 @@ pub mod OwnedStands
 pub mod Owning
 pub mod PhaseSteps
 pub mod Places
+pub mod Pointing
 pub mod PoolBytes
 pub mod QuietWhole
 pub mod Ranging

@@ -26,7 +26,9 @@ use Rattle.draid_pool.specs.Pools.{Stands, part_in}
 use Rattle.draid_pool.specs.Records.{HasImage, LeavesAreBelow}
 use Rattle.draid_pool.specs.Importable.{IsAlike}
 use Rattle.draid_pool.specs.Shards.{FollowsIn, KeepsImages}
-use Rattle.draid_pool.specs.Ubers.{IsUber}
+use Rattle.draid_uber.specs.Checks.{AreasStand, told_by}
+use Rattle.draid_uber.specs.Uber.{areas_of}
+use Rattle.draid_pool.specs.Ubers.{IsUber, check_told, kept_in}
 use Rattle.draid_pool.specs.declared.pool.Pool.{Pool}
 use Rattle.draid_pool.proofs.Imaged.{alike_stays, image_kept, leaves_kept}
 use Rattle.draid_pool.proofs.Lists.{ext, get_set_other, get_set_same, set_back, set_twice, some_of}
@@ -109,16 +111,21 @@ each_set xs m y y' P at is each k v there = elim (cases_eq k m) [
 
 module _ {R A : Type 0} (rack : racks.Ghosts R) (area : areas.Ghosts A) where
   -- the uberblock has nothing of the metaslabs
-  pub uber_stays : (old new : Pool R A) (x : State) (metaslabs : List Metaslab) (store : Store) → new.uber ≡ old.uber → IsUber area old.uber x
+  pub uber_stays : (old new : Pool R A) (x : State) (metaslabs : List Metaslab) (store : Store) → store.marks ≡ x.store.marks → new.uber ≡ old.uber → IsUber area old.uber x
       → IsUber area new.uber (record x { metaslabs = metaslabs; store = store })
-  uber_stays old new x metaslabs store same is = subst (λ u. IsUber area u (record x { metaslabs = metaslabs; store = store })) (sym same) (record {
+  uber_stays old new x metaslabs store marks same is = subst (λ u. IsUber area u (record x { metaslabs = metaslabs; store = store })) (sym same) (record {
     valid = is.valid;
     layout = is.layout;
     version = is.version;
     kept = is.kept;
     next_leaf = is.next_leaf;
+    point = λ group late. is.point group late ∙ ap (λ ms. check_told ms group) (sym marks);
     count = is.count;
-    stands = record { pending = is.stands.pending; are = is.stands.are; stands = is.stands.stands };
+    stands = record {
+      pending = is.stands.pending;
+      are = is.stands.are;
+      stands = subst (λ ms. AreasStand (check_told ms) (kept_in x) is.stands.pending (told_by area.told (areas_of old.uber))) (sym marks) is.stands.stands;
+    };
   })
 
   pub record Turned (m : ℕ) (pool new : Pool R A) (shard shard' : Shard R A) (x : State) (y y' : Metaslab) (now : Pieces) : Type 0 where
@@ -184,7 +191,7 @@ module _ {R A : Type 0} (rack : racks.Ghosts R) (area : areas.Ghosts A) where
     objects = objects;
     seq = seq;
     floor = floor;
-    uber = uber_stays pool new x (slice_set x.metaslabs m y') store t.uber s.uber;
+    uber = uber_stays pool new x (slice_set x.metaslabs m y') store (holds.unmarked ∙ sym s.holds.unmarked) t.uber s.uber;
     images = λ group k v may some. each_set x.metaslabs m y y' (HasImage group) t.at (image_kept group y y' t.images (s.images group m y may some t.at)) (λ n z. s.images group n z may some) k v;
     leaves = record {
       order = s.leaves.order;

@@ -11,16 +11,21 @@ use Rattle.draid_machine.specs.State as machine
 use Rattle.draid_machine.proofs.Small.{absurd_test, bool_cases, is_equal, some_injective}
 use Rattle.draid_objects.proofs.Keeping.{commit_kept}
 use Rattle.draid_shard.specs.declared.shard.Shard.{Shard}
+use Rattle.draid_checkpoint.specs.Check.{Point}
+use Rattle.draid_record.specs.Checks.{CheckTold}
+use Rattle.draid_spec.specs.declared.layout.Geometry.{Geometry}
 use Rattle.draid_uber.specs.Checks.{AreasStand, told_by}
 use Rattle.draid_uber.specs.Uber as ubers
-use Rattle.draid_uber.specs.Uber.{Valid, areas_of, count_of, kept_of, layout_of, next_leaf_of, next_of, version_of, with_version}
+use Rattle.draid_uber.specs.Points.{told_at}
+use Rattle.draid_uber.specs.Slots.{group_of}
+use Rattle.draid_uber.specs.Uber.{Valid, areas_of, count_of, kept_of, layout_of, next_check, next_leaf_of, next_of, point_of, version_of, with_version}
 use Rattle.draid_uber.specs.declared.uber.Uber.{Uber}
 use Rattle.draid_session.specs.State.{Metaslab, State}
 use Rattle.draid_pool.specs.Objects.{blocks_of}
 use Rattle.draid_pool.specs.Pools.{part_in}
 use Rattle.draid_pool.specs.Records.{HasImage}
 use Rattle.draid_pool.specs.Syncing.{AreSealed}
-use Rattle.draid_pool.specs.Ubers.{IsPending, IsUber, Names, Refuses, body_of, kept_in}
+use Rattle.draid_pool.specs.Ubers.{IsPending, IsUber, Names, Refuses, body_of, check_told, kept_in}
 use Rattle.draid_pool.proofs.Lists.{present}
 use Rattle.draid_pool.proofs.Stood.{Stood}
 use Rattle.draid_pool.proofs.Turns.{state_sound}
@@ -37,16 +42,35 @@ refused_state x count = record x { pending = true; uber_count = count }
 none_is : (group : ℕ) → 0 < group → (group == 0) ≡ false
 none_is group some = elim (bool_cases (group == 0)) [ inl none ↦ absurd (let same = is_equal group 0 none in omega (arith, same, some)) | inr other ↦ other ]
 
+group_from : (n version leaf : ℕ) (geometry : Geometry) → group_of (if n == 0 then None else Some (body_of geometry version n leaf)) ≡ n
+group_from n version leaf geometry = elim (bool_cases (n == 0)) [
+  | inl none ↦ ap (λ b. group_of (if b then None else Some (body_of geometry version n leaf))) none ∙ sym (is_equal n 0 none)
+  | inr other ↦ ap (λ b. group_of (if b then None else Some (body_of geometry version n leaf))) other
+]
+
 module _ {A : Type 0} (area : areas.Ghosts A) (old new : Uber A) (group : ℕ) (x : State) (is : IsUber area old x) where
   -- what the commit writes
   next_is : next_of old group ≡ body_of x.geometry x.next_version group x.next_leaf
   next_is = λ i. record { group = group; spec = (is.layout i).spec; props = with_version (is.layout i).props (is.version i); next_leaf = is.next_leaf i }
 
-  stood_before : AreasStand (kept_of old) is.stands.pending (told_by area.told (areas_of old))
-  stood_before = subst (λ kept. AreasStand kept is.stands.pending (told_by area.told (areas_of old))) (sym is.kept) is.stands.stands
+  abbrev check : ℕ → CheckTold
+  check = check_told x.store.marks
 
-  pub uber_named : Names area old new group → 0 < group → IsUber area new (named_state x group (count_of area.faults new))
-  uber_named n some =
+  stood_before : AreasStand check (kept_of old) is.stands.pending (told_by area.told (areas_of old))
+  stood_before = subst (λ kept. AreasStand check kept is.stands.pending (told_by area.told (areas_of old))) (sym is.kept) is.stands.stands
+
+  -- the group that it names
+  committed_is : group_of (kept_of old) ≡ x.committed
+  committed_is = ap group_of is.kept ∙ group_from x.committed x.kept_version x.kept_leaf x.geometry
+
+  -- the checkpoint stays
+  point_stays : point_of new ≡ point_of old → (g : ℕ) → x.committed < g → next_check new g ≡ check g
+  point_stays same g late = ap (λ (p : Point). told_at p g) same ∙ is.point g late
+
+  pub uber_named : Names area old new group → group ≡ group_of (kept_of old) + 1 → IsUber area new (named_state x group (count_of area.faults new))
+  uber_named n next =
+      let behind = committed_is in
+      let some : 0 < group = omega (arith, next) in
       let own : Some (next_of old group) ≡ kept_in (named_state x group (count_of area.faults new))
       = ap Some next_is ∙ sym (ap (λ b. if b then None else Some (body_of x.geometry x.next_version group x.next_leaf)) (none_is group some)) in
       record {
@@ -55,11 +79,12 @@ module _ {A : Type 0} (area : areas.Ghosts A) (old new : Uber A) (group : ℕ) (
         version = n.version ∙ is.version;
         kept = n.kept ∙ own;
         next_leaf = n.next_leaf ∙ is.next_leaf;
+        point = λ g late. point_stays n.point g (omega (arith, late, next, behind));
         count = refl;
         stands = record {
           pending = [];
           are = All-nil (IsPending (named_state x group (count_of area.faults new)));
-          stands = subst (λ kept. AreasStand kept [] (told_by area.told (areas_of new))) own (n.stands is.stands.pending stood_before);
+          stands = subst (λ kept. AreasStand check kept [] (told_by area.told (areas_of new))) own (n.stands check is.stands.pending (sym (is.point group (omega (arith, next, behind)))) stood_before);
         };
       }
 
@@ -67,7 +92,7 @@ module _ {A : Type 0} (area : areas.Ghosts A) (old new : Uber A) (group : ℕ) (
   uber_refused n behind =
       let after = refused_state x (count_of area.faults new) in
       let may = next_of old group ∷ is.stands.pending in
-      let left = n.stands is.stands.pending stood_before in
+      let left = n.stands check is.stands.pending (sym (is.point group (omega (arith, behind)))) stood_before in
       let all = All-cons (IsPending after) (next_of old group) is.stands.pending (refl, next_is ∙ ap (λ g. body_of x.geometry x.next_version g x.next_leaf) behind)
       (All-weaker (IsPending x) (IsPending after) (λ body pending. (refl, pending.1)) is.stands.pending is.stands.are) in
       record {
@@ -76,11 +101,12 @@ module _ {A : Type 0} (area : areas.Ghosts A) (old new : Uber A) (group : ℕ) (
         version = n.version ∙ is.version;
         kept = n.kept ∙ is.kept;
         next_leaf = n.next_leaf ∙ is.next_leaf;
+        point = point_stays n.point;
         count = refl;
         stands = record {
           pending = left.pending;
           are = All-weaker (Contains may) (IsPending after) (λ body among. All-contains (IsPending after) may body all among) left.pending left.among;
-          stands = subst (λ kept. AreasStand kept left.pending (told_by area.told (areas_of new))) is.kept left.stands;
+          stands = subst (λ kept. AreasStand check kept left.pending (told_by area.told (areas_of new))) is.kept left.stands;
         };
       }
 

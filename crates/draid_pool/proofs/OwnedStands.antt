@@ -231,7 +231,7 @@ module _ {R A : Type 0} (rack : racks.Ghosts R) (area : areas.Ghosts A) where
           objects = λ object. points_out new.metaslabs.shards.items (table_in new object) (write_of store.changes object) (k.but_it.objects object refl);
           seq = k.but_it.seq;
           floor = k.but_it.floor;
-          uber = uber_stays rack area pool new x zs store uber s.uber;
+          uber = uber_stays rack area pool new x zs store (holds.unmarked ∙ sym s.holds.unmarked) uber s.uber;
           images = λ group m u may some at. (let z = each m u at in image_kept group z.0 u z.2.images (s.images group m z.0 may some z.1));
           leaves = record {
             order = s.leaves.order;

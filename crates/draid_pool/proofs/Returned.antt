@@ -34,7 +34,7 @@ use Rattle.draid_pool.specs.Pools.{Stands, part_in}
 use Rattle.draid_pool.specs.Importable.{AllAlike, HasPoolVersions, Shared}
 use Rattle.draid_pool.specs.Records.{HasImages, HasLeafNumbers, area_for}
 use Rattle.draid_pool.specs.Taking.{gives_areas}
-use Rattle.draid_pool.specs.Ubers.{UberStands, kept_in}
+use Rattle.draid_pool.specs.Ubers.{UberStands, kept_in, check_told}
 use Rattle.draid_pool.specs.declared.pool.Pool.{Pool}
 use Rattle.draid_pool.proofs.Lists.{present, some_of}
 
@@ -363,7 +363,7 @@ areas_crashed x (Some u) (Some v) (Some c) None h uber checks = absurd checks
 areas_crashed x (Some u) (Some v) (Some c) (Some d) h uber checks = record {
   pending = h.pending;
   are = h.are;
-  stands = crash_areas (kept_in x) h.pending (areas_told u c) (areas_told v d) h.stands (record { uber = uber; even = checks.even; odd = checks.odd });
+  stands = crash_areas (check_told x.store.marks) (kept_in x) h.pending (areas_told u c) (areas_told v d) h.stands (record { uber = uber; even = checks.even; odd = checks.odd });
 }
 
 module _ (x : State) (pieces : ℕ → Pieces) where

@@ -122,7 +122,7 @@ module _ {R A : Type 0} (rack : racks.Ghosts R) (area : areas.Ghosts A) where
           last = r.stands.groups.last;
           seq = r.stands.seq ∙ sym seq;
           floor = r.stands.floor ∙ sym floor;
-          uber = uber_stays rack area new new (named_state x group count) c.metaslabs x.store refl (uber_named area pool.uber new.uber group x r.stands.uber n (omega (arith, behind)));
+          uber = uber_stays rack area new new (named_state x group count) c.metaslabs x.store refl refl (uber_named area pool.uber new.uber group x r.stands.uber n (let own = pool_group pool x r in omega (arith, behind, own)));
         }
 
     -- it is refused

@@ -155,7 +155,7 @@ module _ {R A : Type 0} (rack : racks.Ghosts R) (area : areas.Ghosts A) where
         last = r.stands.groups.last;
         seq = r.stands.seq ∙ sym set.seq;
         floor = r.stands.floor ∙ sym set.floor;
-        uber = uber_stays rack area pool new x (slice_set x.metaslabs m t.reached) x.store set.uber r.stands.uber;
+        uber = uber_stays rack area pool new x (slice_set x.metaslabs m t.reached) x.store refl set.uber r.stands.uber;
       }
 
   -- ---- some metaslabs

@@ -16,7 +16,7 @@ use Rattle.draid_pool.specs.Importable.{AllAlike, bare}
 use Rattle.draid_pool.specs.Pools.{part_in}
 use Rattle.draid_pool.specs.Records.{HasImages, HasLeafNumbers}
 use Rattle.draid_pool.specs.Shards.{KeepsImages}
-use Rattle.draid_pool.specs.Ubers.{IsUber}
+use Rattle.draid_pool.specs.Ubers.{IsUber, check_told, kept_in}
 use Rattle.draid_pool.specs.declared.cell.Cell.{Cell}
 use Rattle.draid_pool.proofs.Imaged.{alike_stays, image_kept, leaves_kept}
 use Rattle.draid_pool.proofs.Lists.{present}
@@ -25,6 +25,8 @@ use Rattle.draid_lanes.specs.Traces.{CameAt, IsGoverned}
 use Rattle.draid_lanes.specs.declared.uber.UberCell.{UberCell}
 use Rattle.draid_section.proofs.Finals.{FinalAt, came_on}
 use Rattle.draid_section.proofs.UberTurns.{with_uber}
+use Rattle.draid_uber.specs.Checks.{AreasStand, told_by}
+use Rattle.draid_uber.specs.Uber.{areas_of}
 
 -- a leaf that was offline as another was, is so yet
 offline_kept : (a b c d : Option machine.Arm) → option_map bare c ≡ option_map bare a → option_map bare d ≡ option_map bare b → ((i j : machine.Arm) → a ≡ Some i → b ≡ Some j → i.offline ≡ j.offline) → (i j : machine.Arm) → c ≡ Some i → d ≡ Some j → i.offline ≡ j.offline
@@ -79,15 +81,20 @@ module _ {R A : Type 0} (rack : racks.Ghosts R) (area : areas.Ghosts A) (x : Sta
     u_is : record u { metaslabs = zs; store = store } ≡ now
     u_is = λ i. record u { metaslabs = zs; store = store; geometry = sym g.pool.geometry i; perms = sym g.pool.perms i; told = sym g.pool.told i }
 
-    pub end_uber : IsUber area cell.uber now
-    end_uber = subst (IsUber area cell.uber) u_is (record {
+    pub end_uber : store.marks ≡ u.store.marks → IsUber area cell.uber now
+    end_uber marks = subst (IsUber area cell.uber) u_is (record {
       valid = g.uber.valid;
       layout = g.uber.layout;
       version = g.uber.version;
       kept = g.uber.kept;
       next_leaf = g.uber.next_leaf;
+      point = λ group late. g.uber.point group late ∙ ap (λ ms. check_told ms group) (sym marks);
       count = g.uber.count;
-      stands = record { pending = g.uber.stands.pending; are = g.uber.stands.are; stands = g.uber.stands.stands };
+      stands = record {
+        pending = g.uber.stands.pending;
+        are = g.uber.stands.are;
+        stands = subst (λ ms. AreasStand (check_told ms) (kept_in u) g.uber.stands.pending (told_by area.told (areas_of cell.uber))) (sym marks) g.uber.stands.stands;
+      };
     })
 
     pub end_images : HasImages now

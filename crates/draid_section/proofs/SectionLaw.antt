@@ -596,7 +596,7 @@ module _ {R A G W J : Type 0} (rack : racks.Ghosts R) (area : areas.Ghosts A) (n
 
     uber_here : IsUber area q.uber reached
     unfolding reached
-    uber_here = subst (λ v. IsUber area v (with_uber (record x { metaslabs = zs; store = store }) u)) (sym (uber_q ∙ ran.under.over.back.uber_is)) (end_uber rack area x locks shards' zs zs_many shards_many final (came_single rack area x) ran.under.over.back.value turns_are groups_many u governed (owned_by e.groups.items) held groups_drift store)
+    uber_here = subst (λ v. IsUber area v (with_uber (record x { metaslabs = zs; store = store }) u)) (sym (uber_q ∙ ran.under.over.back.uber_is)) (end_uber rack area x locks shards' zs zs_many shards_many final (came_single rack area x) ran.under.over.back.value turns_are groups_many u governed (owned_by e.groups.items) held groups_drift store (sym (ap (λ (s : Store). s.marks) governed.store)))
 
     represents : Represents rack area q reached
     unfolding reached

@@ -1,8 +1,10 @@
 pub mod Recorded
+pub mod Ascending
 pub mod Choices
 pub mod Commits
 pub mod Ends
 pub mod Imports
 pub mod Layouts
 pub mod Passed
+pub mod Pointing
 pub mod Recovers

@@ -1,5 +1,5 @@
 -- A pool's own areas with what was committed, and what the next commit writes.
-use Rattle.std.specs.Prelude.{◌≡◌, ◌≤◌, ◌⊎◌, ⊤, ℕ, false, Option, None, Some, Result, Ok, Err, option_map, replicate}
+use Rattle.std.specs.Prelude.{◌≡◌, ◌≤◌, ◌<◌, ◌^◌, ◌⊎◌, ⊤, ℕ, false, Option, None, Some, Result, Ok, Err, option_map, replicate}
 use Rattle.draid_area.specs.Area.{Content}
 use Rattle.draid_record.specs.declared.fault.RecordFault.{RecordFault}
 use Rattle.draid_names.specs.declared.fault.DeviceFault.{DeviceFault}
@@ -14,9 +14,12 @@ use Rattle.draid_uber.specs.declared.uber.UberFault.{UberFault}
 use Rattle.draid_uber.specs.declared.uber.UberFault.TheVariants as faults
 use Rattle.draid_uber.specs.declared.uber.UberRefused.{UberRefused}
 use Rattle.draid_uber.specs.declared.areas.Areas.{Areas}
+use Rattle.draid_record.specs.Checks.{CheckTold, IsCheck}
 use Rattle.draid_uber.specs.Checks.{count_in}
+use Rattle.draid_uber.specs.Points.{told_at}
+use Rattle.draid_checkpoint.specs.Check.{Point}
 use Rattle.draid_uber.specs.Held.{IsHeld}
-use Rattle.draid_uber.specs.Slots.{area_bytes, read_body}
+use Rattle.draid_uber.specs.Slots.{area_bytes, group_of, read_body}
 
 abbrev pub areas_of : {A : Type 0} → Uber A → Areas A
 areas_of uber = uber.areas
@@ -67,10 +70,20 @@ next_of uber group = record {
   next_leaf = uber.next_leaf;
 }
 
+-- the checkpoint
+abbrev pub point_of : {A : Type 0} → Uber A → Point
+point_of uber = uber.point
+
+-- what the check record of this group says, as a commit writes it
+abbrev pub next_check : {A : Type 0} → Uber A → ℕ → CheckTold
+next_check uber = told_at (point_of uber)
+
 -- the parts fit together, and the area has both slots
 pub record Valid {A : Type 0} (size : A → ℕ) (uber : Uber A) : Type 0 where
   pub held : IsHeld uber.kept uber.geometry uber.version uber.next_leaf
   pub long : area_bytes ≤ size uber.areas.uber
+  pub spelled : (group : ℕ) → group_of uber.kept < group → group < 2 ^ 64 → IsCheck group (next_check uber group)
+  pub positive : (own : ℕ) → uber.point.group ≡ Some own → 0 < own
 
 -- an area of a new pool: zeros, all of which outlast a crash
 pub record IsNewArea (x : Content) : Type 0 where

@@ -1,4 +1,4 @@
-ghost use Rattle.std.specs.Prelude.{◌≡◌, ◌≤◌, ◌∷◌, [], ℕ, List, None, Ok, Err, Some, IfErr, IfOk, IsErrOf, IsOk, IsSome, IsSomeAnd, OnErr, OnOk, option_map};
+ghost use Rattle.std.specs.Prelude.{◌≡◌, ◌≤◌, ◌<◌, ◌+◌, ◌∷◌, [], ℕ, All, length, List, None, Ok, Err, Some, IfErr, IfOk, IsErrOf, IsOk, IsSome, IsSomeAnd, OnErr, OnOk, option_map};
 ghost use Rattle.draid_record.specs.Uber.{IsUber};
 ghost use Rattle.draid_area.specs.Area.{Counts, OnTold, flushes};
 ghost use Rattle.draid_area.specs.Moments.{ElapsesTold};
@@ -9,11 +9,12 @@ ghost use Rattle.draid_spec.specs.Geometry.{IsGeometry};
 ghost use Rattle.draid_uber.specs.Uber.{IsWhy};
 
 use crate::areas::Areas;
-use crate::checks::{CheckFault, put_check, read_of};
+use crate::checks::{CheckFault, check_at, kept_check, put_check, read_of};
 use crate::slots::{chosen, layout};
 use crate::steps::{clear, write};
 use draid_area::Area;
-use draid_names::DeviceFault;
+use draid_checkpoint::Check;
+use draid_names::{DeviceFault, NoMemory};
 use draid_record::{CheckBody, RecordFault, RecordFaultKind, UberBody};
 use draid_spec::Geometry;
 use std::alloc::Global;
@@ -49,6 +50,8 @@ pub struct Uber<A: Area> {
     version: u32,
     /// The number of the next new leaf.
     next_leaf: u64,
+    /// The checkpoint, of which each commit writes a record.
+    point: Check,
     alloc: Global,
 }
 
@@ -72,12 +75,14 @@ fn found(
 impl<A: Area> Uber<A> {
     ghost use Rattle.draid_uber.specs.Held.{IsNext};
     ghost use Rattle.draid_uber.specs.Steps.{IsSameOrFlushed};
+    ghost use Rattle.draid_uber.specs.Points.{IsOther, KeepsCheck};
+    ghost use Rattle.draid_checkpoint.specs.Check.{Drops, holds_birth};
     ghost use Rattle.draid_uber.specs.Slots.{StandsTold, chosen_of, group_of};
-    ghost use Rattle.draid_record.specs.Checks.{told_check};
+    ghost use Rattle.draid_record.specs.Checks.{CheckTold, IsCheck, told_check};
     ghost use Rattle.draid_record.specs.declared.fault.RecordFaultKind.{RecordFaultKind};
     ghost use Rattle.draid_record.specs.declared.fault.RecordFault.TheVariants.{Bad};
     ghost use Rattle.draid_uber.specs.Checks.{AreasStand, LeavesAny, check_area, check_in, told_by};
-    ghost use Rattle.draid_uber.specs.Uber.{layout_in, next_of, Finds, IsNewArea, Valid, area_of, areas_of, count_of, kept_of, layout_of, next_leaf_of, version_of};
+    ghost use Rattle.draid_uber.specs.Uber.{layout_in, next_check, next_of, Finds, IsNewArea, Valid, area_of, areas_of, count_of, kept_of, layout_of, next_leaf_of, point_of, version_of};
 
     /// The uberblock of a new pool, of which nothing is committed yet. A crash leaves no open gate.
     #[tactic(auto, using(crate::proofs::Choices::new_area))]
@@ -97,6 +102,7 @@ impl<A: Area> Uber<A> {
         ensures layout { IfOk result (λ uber. layout_of uber ≡ geometry) }
         ensures version { IfOk result (λ uber. version_of uber ≡ geometry.props.version) }
         ensures leaf { IfOk result (λ uber. next_leaf_of uber ≡ geometry.spec.children) }
+        ensures point { IfOk result (λ uber. (point_of uber).group ≡ None) }
     {
         Ok(Uber {
             areas,
@@ -104,6 +110,7 @@ impl<A: Area> Uber<A> {
             geometry,
             version: geometry.props.version,
             next_leaf: u64::from(geometry.spec.children),
+            point: Check::none(alloc),
             alloc,
         })
     }
@@ -118,6 +125,7 @@ impl<A: Area> Uber<A> {
         ensures some { IfOk result (λ uber. IsSomeAnd (kept_of uber) (λ body.
             (version_of uber ≡ body.props.version) × (next_leaf_of uber ≡ body.next_leaf))) }
         ensures ranges { IfOk result (λ uber. IsSomeAnd (kept_of uber) IsUber) }
+        ensures point { IfOk result (λ uber. (point_of uber).group ≡ None) }
 
         // From then on a crash leaves it alone.
         ensures crash { IfOk result (λ uber. StandsTold (kept_of uber) [] (A.told (area_of uber))) }
@@ -140,6 +148,7 @@ impl<A: Area> Uber<A> {
                 geometry: layout(&body),
                 version: body.props.version,
                 next_leaf: body.next_leaf,
+                point: Check::none(alloc),
                 alloc,
             }),
             Err(why) => Err(UberRefused { areas, why }),
@@ -181,6 +190,7 @@ impl<A: Area> Uber<A> {
         ensures kept { kept_of self.new ≡ kept_of self.old }
         ensures layout { layout_of self.new ≡ layout_of self.old }
         ensures version { version_of self.new ≡ version_of self.old }
+        ensures point { point_of self.new ≡ point_of self.old }
     {
         self.next_leaf = next;
     }
@@ -222,6 +232,7 @@ impl<A: Area> Uber<A> {
         ensures same_layout { OnErr result (layout_of self.new ≡ layout_of self.old) }
         ensures version { version_of self.new ≡ version_of self.old }
         ensures leaf { next_leaf_of self.new ≡ next_leaf_of self.old }
+        ensures point { point_of self.new ≡ point_of self.old }
         ensures others { areas_of self.new ≡ record (areas_of self.old) { uber = area_of self.new } }
         ensures cause { Counts result (A.faults (area_of self.old)) (A.faults (area_of self.new)) }
     {
@@ -246,10 +257,21 @@ impl<A: Area> Uber<A> {
         ensures layout { layout_of self.new ≡ layout_of self.old }
         ensures version { version_of self.new ≡ version_of self.old }
         ensures leaf { next_leaf_of self.new ≡ next_leaf_of self.old }
+        ensures point { point_of self.new ≡ point_of self.old }
         ensures others { areas_of self.new ≡ record (areas_of self.old) { uber = area_of self.new } }
         ensures cause { Counts result (A.faults (area_of self.old)) (A.faults (area_of self.new)) }
     {
         clear(&mut self.areas.uber, group)
+    }
+
+    /// What the check record of a group says, as the next commit writes it.
+    fn next_check(&self, group: u64) -> Result<CheckBody, NoMemory>
+        requires next { IsNext (kept_of self.now) group }
+        requires valid { Valid A.size self.now }
+        ensures body { IfOk result (λ body. told_check body ≡ next_check self.now group) }
+        ensures ranges { IfOk result (λ body. IsCheck group (told_check body)) }
+    {
+        check_at(self.alloc, &self.point, group)
     }
 
     /// Commits a group, the one behind the committed one, with its check record. That is written while no gate of the group
@@ -260,10 +282,12 @@ impl<A: Area> Uber<A> {
         ensures valid { Valid A.size self.new }
 
         // Whatever a crash leaves, an import finds the committed group or the new one, and the check record of what it finds.
-        ensures refused { (pending : List UberBody) → AreasStand (kept_of self.old) pending (told_by A.told (areas_of self.old))
-            → OnErr result (LeavesAny (kept_of self.old) (next_of self.old group ∷ pending) (told_by A.told (areas_of self.new))) }
-        ensures committed { (pending : List UberBody) → AreasStand (kept_of self.old) pending (told_by A.told (areas_of self.old))
-            → OnOk result (AreasStand (Some (next_of self.old group)) [] (told_by A.told (areas_of self.new))) }
+        ensures refused { (check : ℕ → CheckTold) (pending : List UberBody) → check group ≡ next_check self.old group
+            → AreasStand check (kept_of self.old) pending (told_by A.told (areas_of self.old))
+            → OnErr result (LeavesAny check (kept_of self.old) (next_of self.old group ∷ pending) (told_by A.told (areas_of self.new))) }
+        ensures committed { (check : ℕ → CheckTold) (pending : List UberBody) → check group ≡ next_check self.old group
+            → AreasStand check (kept_of self.old) pending (told_by A.told (areas_of self.old))
+            → OnOk result (AreasStand check (Some (next_of self.old group)) [] (told_by A.told (areas_of self.new))) }
 
         ensures kept { OnOk result (kept_of self.new ≡ Some (next_of self.old group)) }
         ensures same { OnErr result (kept_of self.new ≡ kept_of self.old) }
@@ -271,10 +295,12 @@ impl<A: Area> Uber<A> {
         ensures same_layout { OnErr result (layout_of self.new ≡ layout_of self.old) }
         ensures version { version_of self.new ≡ version_of self.old }
         ensures leaf { next_leaf_of self.new ≡ next_leaf_of self.old }
+        ensures point { point_of self.new ≡ point_of self.old }
         ensures cause { Counts result (count_of A.faults self.old) (count_of A.faults self.new) }
     {
+        let body = self.next_check(group)?;
         self.shut(group)?;
-        put_check(self.alloc, &mut self.areas, group)?;
+        put_check(self.alloc, &mut self.areas, &body, group)?;
         self.commit(group)
     }
 
@@ -294,6 +320,7 @@ impl<A: Area> Uber<A> {
         ensures layout { layout_of self.new ≡ layout_of self.old }
         ensures version { version_of self.new ≡ version_of self.old }
         ensures leaf { next_leaf_of self.new ≡ next_leaf_of self.old }
+        ensures point { point_of self.new ≡ point_of self.old }
         ensures later { count_of A.faults self.old ≤ count_of A.faults self.new }
         ensures cause { IsErrOf result CheckFault.Area → Rose (count_of A.faults self.old) (count_of A.faults self.new) }
     {
@@ -305,6 +332,57 @@ impl<A: Area> Uber<A> {
         }
     }
 
+    /// The checkpoint.
+    pub fn point(&self) -> &Check
+        ensures { result.now ≡ point_of self.now }
+    {
+        &self.point
+    }
+
+    /// Whether a block that was born in this group is the checkpoint's.
+    pub fn holds(&self, birth: u64) -> bool
+        ensures { result ≡ holds_birth (point_of self.now).group birth }
+    {
+        self.point.holds(birth)
+    }
+
+    /// From this group on the checkpoint alone keeps a block. It takes no memory.
+    pub fn drop_block(&mut self, object: u64, seq: u64, group: u64)
+        requires room { 0 < (point_of self.old).spare }
+        requires few { length (point_of self.old).drops < 524_288 }
+        requires other { All (λ d. IsOther object seq d) (point_of self.old).drops }
+        requires valid { Valid A.size self.old }
+        ensures valid { Valid A.size self.new }
+        ensures drops { Drops (point_of self.old) (point_of self.new) object seq group }
+        ensures areas { areas_of self.new ≡ areas_of self.old }
+        ensures kept { kept_of self.new ≡ kept_of self.old }
+        ensures layout { layout_of self.new ≡ layout_of self.old }
+        ensures version { version_of self.new ≡ version_of self.old }
+        ensures leaf { next_leaf_of self.new ≡ next_leaf_of self.old }
+    {
+        self.point.drop_block(object, seq, group);
+    }
+
+    /// Keeps the checkpoint that the check record of the committed group tells, with room for so many further blocks that it
+    /// alone keeps.
+    pub fn keep_check(&mut self, check: &CheckBody, blocks: u64) -> Result<(), NoMemory>
+        requires range { IsCheck (group_of (kept_of self.old)) (told_check check.now) }
+        requires few { length check.now.drops.items + blocks ≤ 524_288 }
+        requires valid { Valid A.size self.old }
+        ensures valid { Valid A.size self.new }
+        ensures keeps { OnOk result (KeepsCheck (group_of (kept_of self.old)) (told_check check.now) (point_of self.new)) }
+        ensures room { OnOk result (blocks ≤ (point_of self.new).spare) }
+        ensures areas { areas_of self.new ≡ areas_of self.old }
+        ensures kept { kept_of self.new ≡ kept_of self.old }
+        ensures layout { layout_of self.new ≡ layout_of self.old }
+        ensures version { version_of self.new ≡ version_of self.old }
+        ensures leaf { next_leaf_of self.new ≡ next_leaf_of self.old }
+    {
+        let group = self.committed();
+        self.point = kept_check(self.alloc, check, group, blocks)?;
+        Ok(())
+    }
+
     /// Has the next commit write version 2.
     pub fn upgrade(&mut self)
         requires valid { Valid A.size self.old }
@@ -314,6 +392,7 @@ impl<A: Area> Uber<A> {
         ensures kept { kept_of self.new ≡ kept_of self.old }
         ensures layout { layout_of self.new ≡ layout_of self.old }
         ensures leaf { next_leaf_of self.new ≡ next_leaf_of self.old }
+        ensures point { point_of self.new ≡ point_of self.old }
     {
         self.version = 2;
     }

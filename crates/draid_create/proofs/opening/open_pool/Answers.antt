@@ -45,7 +45,7 @@ returns-in-Ok-commit g c =
           opens g.H.R.Rack g.H.A.Area c.args.layout c.requires.layout (shelf.told c.args.shelf.now) (shelf.counts c.args.shelf.now) c.in-Ok.shards.items o
           (shelf.told c.open_shards.new.shelf) _ c.requires.held c.in-Ok.ensures.told c.requires.counts refl refl refl refl (λ q. search rules)
           (is_uber g.H.R.Rack g.H.A.Area c.args.layout c.args.uber c.commit.new.self u.layout u.version u.next_leaf o.perms c.in-Ok.shards.items (is_some (shelf.told c.args.shelf.now))
-          e.valid e.kept e.layout e.version e.leaf (first_named g.H.A.Area c.args.layout c.args.uber c.commit.new.self e.others u.new (e.committed [] before))));
+          e.valid e.kept e.layout e.version e.leaf u.point e.point (first_named g.H.A.Area c.args.layout c.args.uber c.commit.new.self e.others u.new (e.committed [] before))));
       away = away c.args.layout (g.H.Shelf.told c.args.shelf.now) (g.H.Shelf.told c.open_shards.new.shelf) c.requires.held c.in-Ok.ensures.told;
       back = tt;
       later = c.open_shards.ensures.later;

@@ -20,7 +20,7 @@ returns-in-Ok-recover g c =
     let t = c.in-Ok.ensures in
     let e = c.in-Ok-recover.ensures in
     record {
-      found = found_uber g.H.A.Area c.in-Ok-recover.uber c.in-Ok-recover.ensures.valid c.in-Ok-recover.ensures.some c.in-Ok-recover.ensures.ranges;
+      found = found_uber g.H.A.Area c.in-Ok-recover.uber c.in-Ok-recover.ensures.valid c.in-Ok-recover.ensures.some c.in-Ok-recover.ensures.ranges c.in-Ok-recover.ensures.point;
       recovered = (let area = g.H.A.Area in
           record {
             content = area.told c.in-Ok.areas.uber;

@@ -9,7 +9,7 @@ pub returns-in_err-write-clause-valid : goal.returns-in_err-write-clause-valid
 returns-in_err-write-clause-valid g c =
     let long = c.requires.valid.long in
     let grown = c.write.ensures.grown in
-    record { held = c.requires.valid.held; long = omega (arith, long, grown) }
+    record { held = c.requires.valid.held; long = omega (arith, long, grown); spelled = c.requires.valid.spelled; positive = c.requires.valid.positive }
 
 pub returns-in_err-write-clause-refused : goal.returns-in_err-write-clause-refused
 returns-in_err-write-clause-refused g c = λ pending stands.
@@ -42,6 +42,8 @@ returns-clause-valid g c =
       held = held_next c.args.self.now.kept c.args.self.now.geometry c.args.self.now.version c.args.self.now.next_leaf c.next-body.result v.held next.ranges
           (ap (λ (b : UberBody). b.spec) next.body) (ap (λ (b : UberBody). b.props) next.body);
       long = omega (arith, long, grown);
+      spelled = λ group low small. v.spelled group (let behind = c.requires.next.behind in let of = ap (λ (b : UberBody). b.group) next.body in omega (arith, low, behind, of)) small;
+      positive = v.positive;
     }
 
 pub returns-clause-same : goal.returns-clause-same
@@ -67,3 +69,9 @@ returns-in_err-write-clause-version g c = refl
 
 pub returns-in_err-write-clause-leaf : goal.returns-in_err-write-clause-leaf
 returns-in_err-write-clause-leaf g c = refl
+
+pub returns-clause-point : goal.returns-clause-point
+returns-clause-point g c = refl
+
+pub returns-in_err-write-clause-point : goal.returns-in_err-write-clause-point
+returns-in_err-write-clause-point g c = refl

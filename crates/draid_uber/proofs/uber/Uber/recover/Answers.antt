@@ -3,6 +3,7 @@ use Rattle.draid_area.specs.Area.{OnTold, flushes}
 use Rattle.draid_names.specs.declared.fault.DeviceFault.{DeviceFault}
 use Rattle.draid_uber.specs.Slots.{chosen_of}
 use Rattle.draid_uber.proofs.Layouts.{held_by}
+use Rattle.draid_uber.proofs.Pointing.{none_positive, none_spelled}
 use Rattle.draid_uber.proofs.Recovers.{Choice, refused, told_is}
 use Rattle.draid_uber.proofs.uber.Uber.recover.Goals as goal
 
@@ -17,10 +18,11 @@ returns-in-Ok g c =
     let ranges = c.chosen.ensures.ranges body is in
     let chosen : OnTold old (λ x. Some (Ok body) ≡ chosen_of x.bytes) = subst (λ (r : Result Choice DeviceFault). IfOk r (λ k. OnTold old (λ x. k ≡ chosen_of x.bytes))) is c.chosen.ensures.chosen in
     record {
-      valid = record { held = held_by body c.layout.result ranges c.layout.ensures.whole c.layout.ensures.spec c.layout.ensures.props; long = c.chosen.ensures.long body is };
+      valid = record { held = held_by body c.layout.result ranges c.layout.ensures.whole c.layout.ensures.spec c.layout.ensures.props; long = c.chosen.ensures.long body is; spelled = λ group low small. none_spelled c.none.result group c.none.ensures.none small; positive = none_positive c.none.result c.none.ensures.none };
       finds = told_is old (Some (Ok body)) _ refl chosen;
       some = (refl, refl);
       ranges = ranges;
+      point = c.none.ensures.none;
       crash = c.chosen.ensures.stands body is;
       flushed = subst (λ (r : Result Choice DeviceFault). OnOk r (g.A.Area.told c.chosen.new.area ≡ option_map flushes old)) is c.chosen.ensures.flushed;
       err = tt;
@@ -41,6 +43,7 @@ returns-in-Err g c =
       finds = r.finds;
       some = tt;
       ranges = tt;
+      point = tt;
       crash = tt;
       flushed = tt;
       err = r.err;
