@@ -12,7 +12,7 @@ type Case = (Section, &'static [&'static str], &'static str, &'static str);
 
 const CREATE: &str = "create draid1:2d:3c:0s 3 sector=512 height=8 metaslabs=2 slices=4\n";
 
-static CASES: [Case; 7] = [
+static CASES: [Case; 8] = [
     // Two lanes write and read objects of their own.
     (
         Section {
@@ -193,6 +193,51 @@ static CASES: [Case; 7] = [
         ],
         "import\nread 1\nread 2001\n",
         "import draid1:2d:3c:0s-0 group=3 objects=3\nread 1 1 11\nread 2001 1 55\n",
+    ),
+    // Before the first column of a write another lane reads, and a third one's rebuild is planned there and waits.
+    (
+        Section {
+            before: "create draid1:2d:4c:1s 4 sector=512 height=8 metaslabs=2 slices=4\nwrite 2005 bb\nsync\noffline 0\nspare 0 0\nsync\n",
+            stops: &[
+                Stop {
+                    lane: 2,
+                    call: 0,
+                    of: 1,
+                    calls: 4,
+                },
+                Stop {
+                    lane: 0,
+                    call: 0,
+                    of: 1,
+                    calls: 4,
+                },
+                Stop {
+                    lane: 1,
+                    call: 3,
+                    of: 2,
+                    calls: 3,
+                },
+                Stop {
+                    lane: 1,
+                    call: 3,
+                    of: 0,
+                    calls: 107,
+                },
+            ],
+            lanes: &[
+                "rebuild\n",
+                "write 1001 11\n",
+                "read 2005\nread 2005\nread 2005\n",
+            ],
+            exported: false,
+        },
+        &[
+            "rebuild from=0 stripes=2 errors=0 done\n",
+            "write 1001 ok\n",
+            "read 2005 1 bb\nread 2005 1 bb\nread 2005 1 bb\n",
+        ],
+        "import\nread 1001\nread 2005\n",
+        "import draid1:2d:4c:1s-0 group=5 objects=2\nread 1001 1 11\nread 2005 1 bb\n",
     ),
     // A sync that waits at the second metaslab for an open write counts what is thin in both.
     (
