@@ -2,12 +2,12 @@ use Rattle.std.specs.Prelude.{ℕ, ⊤, List, [], ◌++◌, codes}
 use Rattle.std.specs.Fmt.{decimal}
 use Rattle.draid_record.specs.Kind.{kind_number}
 use Rattle.draid_script.specs.Fault as lines
-use Rattle.draid_run.specs.declared.status.LineRefusal.{LineRefusal}
-use Rattle.draid_run.specs.declared.status.LineRefusal.TheVariants.{Fault, Unbuilt}
-use Rattle.draid_run.specs.declared.status.RecordName.{RecordName}
-use Rattle.draid_run.specs.declared.status.RecordName.TheVariants.{Uber, Metaslab, Check}
-use Rattle.draid_run.specs.declared.status.Status.{Status}
-use Rattle.draid_run.specs.declared.status.Status.TheVariants.{Done, Usage, Line, SourceFault, SinkFault, NoMemory, TooLong, ShelfFault, Record}
+use Rattle.draid_exits.specs.declared.status.LineRefusal.{LineRefusal}
+use Rattle.draid_exits.specs.declared.status.LineRefusal.TheVariants.{Fault, Unbuilt}
+use Rattle.draid_exits.specs.declared.status.RecordName.{RecordName}
+use Rattle.draid_exits.specs.declared.status.RecordName.TheVariants.{Uber, Metaslab, Check}
+use Rattle.draid_exits.specs.declared.status.Status.{Status}
+use Rattle.draid_exits.specs.declared.status.Status.TheVariants.{Done, Usage, Line, SourceFault, SinkFault, NoMemory, TooLong, ShelfFault, Record}
 
 -- the program's exit status
 abbrev pub code_of : Status → ℕ

@@ -1,5 +1,5 @@
 ghost use Rattle.std.specs.Prelude.{◌≡◌, IfOk, IfSome, IfNone, string_bytes};
-ghost use Rattle.draid_run.specs.Status.{HasNumber, fixed_text, last_text};
+ghost use Rattle.draid_exits.specs.Status.{HasNumber, fixed_text, last_text};
 
 use draid_record::RecordFaultKind;
 use draid_script::LineFaultKind;
@@ -15,7 +15,7 @@ pub enum LineRefusal {
 }
 
 impl LineRefusal {
-    ghost use Rattle.draid_run.specs.Status.{refusal_number};
+    ghost use Rattle.draid_exits.specs.Status.{refusal_number};
 
     /// The number by which it is printed.
     fn number(self) -> u8
@@ -73,7 +73,7 @@ pub enum Status {
 }
 
 impl Status {
-    ghost use Rattle.draid_run.specs.Status.{code_of};
+    ghost use Rattle.draid_exits.specs.Status.{code_of};
 
     /// The program's exit status.
     pub fn code(&self) -> u8
@@ -154,7 +154,7 @@ fn record_refused(
 }
 
 /// The line that is printed last, its end included, where it names a number.
-pub(crate) fn numbered_line(alloc: Global, status: Status) -> Option<Result<String, AllocError>>
+pub fn numbered_line(alloc: Global, status: Status) -> Option<Result<String, AllocError>>
     ensures some { IfSome result (λ line. IfOk line (λ text. string_bytes text ≡ last_text status)) }
     ensures number { IfSome result (λ line. HasNumber status) }
     ensures none { IfNone result (last_text status ≡ fixed_text status) }
@@ -168,7 +168,7 @@ pub(crate) fn numbered_line(alloc: Global, status: Status) -> Option<Result<Stri
 }
 
 /// The line that is printed last, its end included, where it names no number; nothing where none is printed.
-pub(crate) fn fixed_line(status: Status) -> &'static str
+pub fn fixed_line(status: Status) -> &'static str
     ensures { result.now ≡ fixed_text status }
 {
     match status {
