@@ -15,9 +15,9 @@ use Rattle.draid_session.specs.Places.{Outside}
 use Rattle.draid_pool.specs.Shelves.{OnShelf}
 use Rattle.draid_run.specs.Script.{EndsWithLine, Ends, Prints}
 use Rattle.draid_run.specs.Shelves.{HoldsBare}
-use Rattle.draid_run.specs.Status.{code_of, last_text}
-use Rattle.draid_run.specs.declared.status.Status.{Status}
-use Rattle.draid_run.specs.declared.status.Status.TheVariants.{Done, Usage, Line, SourceFault, SinkFault, NoMemory, TooLong, ShelfFault, Record}
+use Rattle.draid_exits.specs.Status.{code_of, last_text}
+use Rattle.draid_exits.specs.declared.status.Status.{Status}
+use Rattle.draid_exits.specs.declared.status.Status.TheVariants.{Done, Usage, Line, SourceFault, SinkFault, NoMemory, TooLong, ShelfFault, Record}
 use Rattle.draid_run.proofs.Booked.{bare_keeps}
 use Rattle.draid_run.proofs.Known.{appends_none}
 use Rattle.draid_program.specs.Program.{EndsBy, EndsByBook, EndsByRun, NamesFolder}

@@ -31,7 +31,8 @@ use Rattle.draid_works.specs.Job.{DoesCommands, MayAllBeGiven, MayBeGiven, MayDo
 use Rattle.draid_works.specs.Job as works
 use Rattle.draid_works.specs.declared.job.LaneCommands.{LaneCommands}
 use Rattle.draid_program.specs.Jobs.{AreJobsOf, IsJobOf}
-use Rattle.draid_run.specs.Sections.{IsOfLane, MayRunLanes, lanes_in}
+use Rattle.draid_clashes.specs.Lanes.{lanes_in}
+use Rattle.draid_run.specs.Sections.{IsOfLane, MayRunLanes}
 
 pub all_at : {X : Type 0} (P : X → Type 0) (xs : List X) (i : ℕ) (x : X) → AllOf P xs → slice_get xs i ≡ Some x → P x
 all_at P [] i x all there = absurd (cc)

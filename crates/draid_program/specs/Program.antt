@@ -12,9 +12,9 @@ use Rattle.draid_session.specs.Choices.{Choices}
 use Rattle.draid_pool.specs.Shelves.{OnShelf}
 use Rattle.draid_run.specs.Books.{KeepsBook}
 use Rattle.draid_run.specs.Script.{EndsWithLine, RunIs}
-use Rattle.draid_run.specs.Status.{code_of}
-use Rattle.draid_run.specs.declared.status.Status.{Status}
-use Rattle.draid_run.specs.declared.status.Status.TheVariants.{NoMemory, Usage}
+use Rattle.draid_exits.specs.Status.{code_of}
+use Rattle.draid_exits.specs.declared.status.Status.{Status}
+use Rattle.draid_exits.specs.declared.status.Status.TheVariants.{NoMemory, Usage}
 
 -- the status of words that can't be read
 abbrev pub unread : WordsFault → Status

@@ -12,7 +12,8 @@ ghost use Rattle.draid_shelf.specs.Memory.{HoldsNothing};
 ghost use Rattle.draid_session.specs.Choices.{choices_by, choices_with};
 ghost use Rattle.draid_pool.specs.Shelves.{on_shelf};
 ghost use Rattle.draid_pool.specs.Whole.{IsWhole};
-ghost use Rattle.draid_run.specs.Sections.{MayRunLanes, SectionMet, lanes_in};
+ghost use Rattle.draid_clashes.specs.Lanes.{lanes_in};
+ghost use Rattle.draid_run.specs.Sections.{MayRunLanes, SectionMet};
 ghost use Rattle.draid_program.specs.Program.{EndsBy, EndsByBook, EndsByRun, NamesFolder, unread};
 
 use crate::lanes::run_lanes;
@@ -87,7 +88,6 @@ fn run_on<
         { run_lanes(rt, alloc, pool, chooser, lanes) },
     };
     let status = run(rt, &sections, words, shelf, source, sink, chooser, policy);
-    let SectionsBy { run: _ } = sections;
     ExitCode::from(status.code())
 }
 

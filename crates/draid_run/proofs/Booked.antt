@@ -19,8 +19,8 @@ use Rattle.draid_run.specs.Next.{next_desk}
 use Rattle.draid_run.specs.Script.{BreaksAt, BreaksOff, MayEndAt, RunIs, RunsFrom}
 use Rattle.draid_pool.specs.Shelves.{OnShelf}
 use Rattle.draid_run.specs.Shelves.{HoldsBare, HoldsDesk, MayFind}
-use Rattle.draid_run.specs.declared.status.Status.{Status}
-use Rattle.draid_run.specs.declared.status.Status.TheVariants.{NoMemory, ShelfFault, Record}
+use Rattle.draid_exits.specs.declared.status.Status.{Status}
+use Rattle.draid_exits.specs.declared.status.Status.TheVariants.{NoMemory, ShelfFault, Record}
 use Rattle.draid_run.proofs.Next.{desk_found, tells_found}
 use Rattle.draid_run.proofs.Places.{broken_outside, led_on}
 use Rattle.draid_run.proofs.Serving.{as_found}

@@ -11,15 +11,15 @@ use Rattle.draid_session.specs.Choices.{Choices}
 use Rattle.draid_session.specs.Places.{Ended, Inside, Outside, Place}
 use Rattle.draid_session.specs.Session.{Desk, Untouched, Bare, Made, Open, Shut, Foreign, Unknown, left_of}
 use Rattle.draid_pool.specs.declared.pool.Pool.{Pool}
-use Rattle.draid_run.specs.declared.status.RecordName.{RecordName}
+use Rattle.draid_exits.specs.declared.status.RecordName.{RecordName}
 use Rattle.draid_run.specs.Desks.{IsDesk, LeavesDesk}
 use Rattle.draid_run.specs.Script.{all_replies, BreaksOff, Ends, EndsWithLine, Fails, FailsShut, GetsReplies, IsSession, LaneFails, MayEndAt, Prints, RunsFrom, Shows}
 use Rattle.draid_run.specs.Serve.{LaneStopped, Served}
 use Rattle.draid_pool.specs.Shelves.{OnShelf}
 use Rattle.draid_run.specs.Shelves.{AreaRose, DeviceFailed, HasFailed, HasFault, HoldsDesk, IsClosed, MakesLeavesAt, MakesLeavesBy, MayMakeLeaves, RackFailedOn, RackRose, TellsAsBefore}
-use Rattle.draid_run.specs.Status.{HasNumber, last_text}
-use Rattle.draid_run.specs.declared.status.Status.{Status}
-use Rattle.draid_run.specs.declared.status.Status.TheVariants.{Done, Usage, Line, SourceFault, SinkFault, NoMemory, TooLong, ShelfFault, Record}
+use Rattle.draid_exits.specs.Status.{HasNumber, last_text}
+use Rattle.draid_exits.specs.declared.status.Status.{Status}
+use Rattle.draid_exits.specs.declared.status.Status.TheVariants.{Done, Usage, Line, SourceFault, SinkFault, NoMemory, TooLong, ShelfFault, Record}
 use Rattle.draid_run.proofs.Broke.{broken_rose}
 use Rattle.draid_run.proofs.Crashing.{firm_left}
 use Rattle.draid_run.proofs.Known.{appends_none}
@@ -248,16 +248,13 @@ module _ {R A : Type 0} (rack : racks.Ghosts R) (area : areas.Ghosts A) (choices
         (let it = is.stopped e in
         let same = last_same ended is.broken is.lines is.saids is.mid is.last (subst (λ p. MayEndAt p ended is.broken) e is.may) is.breaks in
         record {
-          front = it.front;
-          said = it.said;
-          line = it.line;
-          saids = it.saids;
           lanes = it.lanes;
           old = it.old;
-          lines_are = it.lines_are;
-          replies_are = it.replies_are;
-          before = it.before;
-          failed = lane_left area entry before now pool it.old is.mid (λ fault. leaves.failed (subst (HasFault area entry before pool) (sym same) fault)) it.failed;
+          line = it.line;
+          saids = it.saids;
+          step = it.step;
+          turns = it.turns;
+          failed = lane_left area entry before now pool it.old.desk is.mid (λ fault. leaves.failed (subst (HasFault area entry before pool) (sym same) fault)) it.failed;
         });
     bad = is.bad;
   }

@@ -18,10 +18,10 @@ use Rattle.draid_session.specs.State.{State}
 use Rattle.draid_run.specs.Ending.{CanRun, EndsWell, IsBuilt, IsUndisturbed, IsUntold}
 use Rattle.draid_run.specs.Script.{BreaksOff, Ends, IsSession, LineFaultIs, Prints, RunsFrom}
 use Rattle.draid_pool.specs.Shelves.{OnShelf}
-use Rattle.draid_run.specs.Status.{last_text}
-use Rattle.draid_run.specs.declared.status.LineRefusal.{LineRefusal}
-use Rattle.draid_run.specs.declared.status.Status.{Status}
-use Rattle.draid_run.specs.declared.status.Status.TheVariants.{Done, Usage, Line, SourceFault, SinkFault, NoMemory, TooLong, ShelfFault, Record}
+use Rattle.draid_exits.specs.Status.{last_text}
+use Rattle.draid_exits.specs.declared.status.LineRefusal.{LineRefusal}
+use Rattle.draid_exits.specs.declared.status.Status.{Status}
+use Rattle.draid_exits.specs.declared.status.Status.TheVariants.{Done, Usage, Line, SourceFault, SinkFault, NoMemory, TooLong, ShelfFault, Record}
 
 -- ---- lines
 

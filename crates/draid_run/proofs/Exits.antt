@@ -29,11 +29,11 @@ use Rattle.draid_run.specs.Script.{IsBuilt, LineFaultIs}
 use Rattle.draid_pool.specs.Shelves.{OnShelf}
 use Rattle.draid_run.specs.declared.answer.Stop.{Stop}
 use Rattle.draid_run.specs.declared.answer.Stop.TheVariants as stop
-use Rattle.draid_run.specs.declared.status.LineRefusal.{LineRefusal}
-use Rattle.draid_run.specs.declared.status.LineRefusal.TheVariants as refusal
-use Rattle.draid_run.specs.declared.status.Status.{Status}
+use Rattle.draid_exits.specs.declared.status.LineRefusal.{LineRefusal}
+use Rattle.draid_exits.specs.declared.status.LineRefusal.TheVariants as refusal
+use Rattle.draid_exits.specs.declared.status.Status.{Status}
 use Rattle.draid_run.proofs.Known.{appends_none}
-use Rattle.draid_run.specs.declared.status.Status.TheVariants.{Done, Usage, Line, SourceFault, SinkFault, NoMemory, TooLong, ShelfFault, Record}
+use Rattle.draid_exits.specs.declared.status.Status.TheVariants.{Done, Usage, Line, SourceFault, SinkFault, NoMemory, TooLong, ShelfFault, Record}
 
 -- nothing failed since
 pub same_later : (n : ℕ) → n ≤ n

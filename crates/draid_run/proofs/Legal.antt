@@ -11,8 +11,8 @@ use Rattle.draid_session.proofs.Reaching.{breaks_reached, run_reached}
 use Rattle.draid_run.proofs.Sectioned.{all_any, on_keeps, section_reached}
 use Rattle.draid_run.specs.Next.{next_desk}
 use Rattle.draid_run.specs.Script.{BreaksAt, BreaksOff}
-use Rattle.draid_run.specs.declared.status.Status.{Status}
-use Rattle.draid_run.specs.declared.status.Status.TheVariants.{NoMemory, Record, ShelfFault}
+use Rattle.draid_exits.specs.declared.status.Status.{Status}
+use Rattle.draid_exits.specs.declared.status.Status.TheVariants.{NoMemory, Record, ShelfFault}
 
 at_reached : (alloc : Global) (cause : Cause) (lines : List (List ℕ)) (text : List ℕ) (saids : List Said) (mid last : Desk) → BreaksAt cause lines text saids mid last → DeskReached mid → DeskReached last
 at_reached alloc cause lines text saids mid last b r = breaks_reached alloc cause mid last b.command b.breaks r

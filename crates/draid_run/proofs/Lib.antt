@@ -13,7 +13,6 @@ pub mod Exits
 pub mod GivenBack
 pub mod Importings
 pub mod Known
-pub mod Least
 pub mod Legal
 pub mod Lining
 pub mod Makings
@@ -31,6 +30,5 @@ pub mod Serving
 pub mod Steps
 pub mod Told
 pub mod Turned
-pub mod TwoMend
 pub mod Unfailing
 pub mod Within

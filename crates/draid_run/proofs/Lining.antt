@@ -10,12 +10,13 @@ use Rattle.draid_session.specs.Said.{Said}
 use Rattle.draid_session.specs.Sections.{to_lane, to_lanes}
 use Rattle.draid_session.specs.Places.{with_command}
 use Rattle.draid_run.specs.Script.{said_text, texts_of}
-use Rattle.draid_run.specs.Sections.{PrintsAre, commands_in, lanes_in, replies_in}
+use Rattle.draid_clashes.specs.Lanes.{commands_in, lanes_in}
+use Rattle.draid_run.specs.Sections.{PrintsAre, replies_in}
 use Rattle.draid_run.specs.Serve.{PrintIs}
 use Rattle.draid_run.specs.declared.sections.LaneReplies.{LaneReplies}
-use Rattle.draid_run.specs.declared.status.Status.{Status}
-use Rattle.draid_run.specs.declared.status.Status.TheVariants as status_is
-use Rattle.draid_run.specs.declared.status.Status.TheVariants.{Done, Usage, SourceFault, SinkFault, NoMemory, TooLong, ShelfFault, Record}
+use Rattle.draid_exits.specs.declared.status.Status.{Status}
+use Rattle.draid_exits.specs.declared.status.Status.TheVariants as status_is
+use Rattle.draid_exits.specs.declared.status.Status.TheVariants.{Done, Usage, SourceFault, SinkFault, NoMemory, TooLong, ShelfFault, Record}
 use Rattle.draid_run.proofs.Known.{appends_more}
 
 -- ---- lists

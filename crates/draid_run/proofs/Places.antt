@@ -1,5 +1,5 @@
 -- Lines with sections: one more, where a run stands behind them, and where it may end.
-use Rattle.std.proofs.Common.{arith, refl, sym, subst, ◌≡◌, ◌⊎◌, inl, inr, ℕ, List, Bool, [], ◌∷◌, ◌++◌, Some, Result, Ok, Err, length}
+use Rattle.std.proofs.Common.{arith, refl, sym, subst, ap, ◌≡◌, ◌⊎◌, inl, inr, ℕ, List, Bool, [], ◌∷◌, ◌++◌, Some, Result, Ok, Err, length}
 use Rattle.draid_names.specs.declared.journal.Entry.{Entry}
 use Rattle.draid_script.specs.Grammar.{lane_of, line_of}
 use Rattle.draid_script.specs.Line.{Command, InLane, LaneCommand, OpenLanes, SectionEnd, SilentLane}
@@ -10,10 +10,10 @@ use Rattle.draid_session.specs.Places.{Ended, Inside, Outside, Place, place_afte
 use Rattle.draid_session.specs.Said.{Said}
 use Rattle.draid_session.specs.Sections.{LaneTurns, OutsideTurns, PlaceBehind, PlaceTurns, RunsOn, SectionTurns}
 use Rattle.draid_session.specs.Session.{Agrees, Desk, Finding, Untouched, Bare, Made, Open, Shut, Foreign, Unknown, Sitting, sits}
-use Rattle.draid_run.specs.Script.{MayEndAt}
-use Rattle.draid_run.specs.declared.status.Status.{Status}
-use Rattle.draid_run.specs.declared.status.Status.TheVariants as status_is
-use Rattle.draid_run.specs.declared.status.Status.TheVariants.{Done, Usage, SourceFault, SinkFault, NoMemory, TooLong, ShelfFault, Record}
+use Rattle.draid_run.specs.Script.{LastStep, MayEndAt}
+use Rattle.draid_exits.specs.declared.status.Status.{Status}
+use Rattle.draid_exits.specs.declared.status.Status.TheVariants as status_is
+use Rattle.draid_exits.specs.declared.status.Status.TheVariants.{Done, Usage, SourceFault, SinkFault, NoMemory, TooLong, ShelfFault, Record}
 
 -- where lines lead, and one more
 pub after_more : (from : Place) (lines : List (List ℕ)) (line : List ℕ) → place_after from (lines ++ line ∷ []) ≡ place_behind (place_after from lines) line
@@ -104,6 +104,33 @@ module _ (choices : Choices) where
     on_more tells from start (l ∷ ls) [] here mid line saids to new runs turns agrees = absurd runs
     on_more tells from start (l ∷ ls) (r ∷ rs) here mid line saids to new runs turns agrees =
         (runs.0, runs.1, runs.2, runs.3, on_more tells runs.1 runs.0 ls rs here mid line saids to new runs.4 turns agrees)
+
+    -- and it is the last one then
+    pub last_more : (tells : Bool) (from : Place) (start : Sitting) (lines : List (List ℕ)) (replies : List (List Said)) (here : Place) (mid : Sitting) (line : List ℕ) (saids : List Said) (to : Place) (new : Sitting)
+        → (runs : RunsOn choices finds tells from start lines replies here mid) (turns : PlaceTurns choices finds here line mid saids new to) (agrees : Agrees tells new.desk)
+        → LastStep choices finds tells from start (lines ++ line ∷ []) (replies ++ saids ∷ []) to new (on_more tells from start lines replies here mid line saids to new runs turns agrees) here mid line saids
+    unfolding on_more
+    last_more tells from start [] [] here mid line saids to new runs turns agrees = (runs.1, runs.0, refl, refl)
+    last_more tells from start [] (r ∷ rs) here mid line saids to new runs turns agrees = absurd runs
+    last_more tells from start (l ∷ ls) [] here mid line saids to new runs turns agrees = absurd runs
+    last_more tells from start (l ∷ []) (r ∷ rs) here mid line saids to new runs turns agrees = last_more tells runs.1 runs.0 [] rs here mid line saids to new runs.4 turns agrees
+    last_more tells from start (l ∷ (k ∷ ls)) (r ∷ rs) here mid line saids to new runs turns agrees = last_more tells runs.1 runs.0 (k ∷ ls) rs here mid line saids to new runs.4 turns agrees
+
+    -- the lines before it were answered
+    pub record Before (tells : Bool) (from : Place) (start : Sitting) (lines : List (List ℕ)) (place : Place) (mid : Sitting) (line : List ℕ) : Type 0 where
+      pub front : List (List ℕ)
+      pub said : List (List Said)
+      pub lines_are : lines ≡ front ++ line ∷ []
+      pub runs : RunsOn choices finds tells from start front said place mid
+
+    pub before_last : (tells : Bool) (from : Place) (start : Sitting) (lines : List (List ℕ)) (replies : List (List Said)) (to : Place) (new : Sitting) (runs : RunsOn choices finds tells from start lines replies to new) (place : Place) (mid : Sitting) (line : List ℕ) (saids : List Said)
+        → LastStep choices finds tells from start lines replies to new runs place mid line saids → Before tells from start lines place mid line
+    before_last tells from start [] replies to new runs place mid line saids step = absurd step
+    before_last tells from start (l ∷ ls) [] to new runs place mid line saids step = absurd step
+    before_last tells from start (l ∷ []) (r ∷ rs) to new runs place mid line saids step = record { front = []; said = []; lines_are = ap (λ t. t ∷ []) (sym step.2); runs = (step.1, step.0) }
+    before_last tells from start (l ∷ (k ∷ ls)) (r ∷ rs) to new runs place mid line saids step =
+        let rest = before_last tells runs.1 runs.0 (k ∷ ls) rs to new runs.4 place mid line saids step in
+        record { front = l ∷ rest.front; said = r ∷ rest.said; lines_are = ap (λ ts. l ∷ ts) rest.lines_are; runs = (runs.0, runs.1, runs.2, runs.3, rest.runs) }
 
     -- none is answered behind the end of a run
     pub ended_none : (tells : Bool) (start : Sitting) (line : List ℕ) (lines : List (List ℕ)) (replies : List (List Said)) (to : Place) (last : Sitting) → RunsOn choices finds tells Ended start (line ∷ lines) replies to last → ⊥

@@ -10,7 +10,7 @@ use Rattle.draid_session.specs.State.{State}
 use Rattle.draid_session.specs.Session.{Desk, Untouched, Bare, Made, Open, Shut, Foreign, Unknown, Breaks, RecordFails, ShelfFails}
 use Rattle.draid_import.specs.Found.{HasRisen}
 use Rattle.draid_pool.specs.declared.pool.Pool.{Pool}
-use Rattle.draid_run.specs.declared.status.RecordName.{RecordName}
+use Rattle.draid_exits.specs.declared.status.RecordName.{RecordName}
 use Rattle.draid_run.specs.Desks.{CauseShows, IsShelf}
 use Rattle.draid_session.specs.Places.{line_behind}
 use Rattle.draid_run.specs.Script.{FailsShut, FaultyShut}

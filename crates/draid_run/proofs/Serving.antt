@@ -17,22 +17,22 @@ use Rattle.draid_session.specs.Places.{Ended, Inside, IsInside, Outside, Place, 
 use Rattle.draid_session.specs.Sections.{PlaceTurns, RunsOn}
 use Rattle.draid_session.specs.Session.{Desk, Untouched, Bare, Made, Open, Shut, Foreign, Unknown, RecordFails, ShelfFails, Sitting, sits}
 use Rattle.draid_pool.specs.declared.pool.Pool.{Pool}
-use Rattle.draid_run.specs.declared.status.RecordName.{RecordName}
+use Rattle.draid_exits.specs.declared.status.RecordName.{RecordName}
 use Rattle.draid_run.specs.Crashes.{IsFirmShut, LeavesFirmAt, crash_came_last}
 use Rattle.draid_run.specs.Desks.{IsDesk}
-use Rattle.draid_run.specs.Script.{AreBuilt, IsBuilt, all_said, BreaksOff, Ends, EndsSection, FaultyShut, GetsReplies, LineFaultIs, MayEndAt, Shows, said_text, texts_of}
+use Rattle.draid_run.specs.Script.{AreBuilt, IsBuilt, all_said, BreaksOff, Ends, EndsSection, FaultyShut, GetsReplies, LastStep, LineFaultIs, MayEndAt, Shows, said_text, texts_of}
 use Rattle.draid_run.specs.Serve.{BrokenLine, Cut, LaneStopped, LineIs, Placed, Printed, Served, Serving, TextIs, Untold, end_at}
 use Rattle.draid_pool.specs.Shelves.{OnShelf}
 use Rattle.draid_run.specs.Shelves.{FaultIn, HasFailed, HasFault, HoldsDesk, HoldsFault, MakesLeavesAt, MakesLeavesBy, IsClosed, MayFind, RackFault, TellsAsBefore}
-use Rattle.draid_run.specs.declared.status.LineRefusal.{LineRefusal}
-use Rattle.draid_run.specs.declared.status.LineRefusal.TheVariants as refusal
+use Rattle.draid_exits.specs.declared.status.LineRefusal.{LineRefusal}
+use Rattle.draid_exits.specs.declared.status.LineRefusal.TheVariants as refusal
 use Rattle.draid_script.specs.declared.fault.LineFaultKind.TheVariants as line_fault
-use Rattle.draid_run.specs.declared.status.Status.{Status}
-use Rattle.draid_run.specs.declared.status.Status.TheVariants.{Done, Usage, Line, SourceFault, SinkFault, NoMemory, TooLong, ShelfFault, Record}
+use Rattle.draid_exits.specs.declared.status.Status.{Status}
+use Rattle.draid_exits.specs.declared.status.Status.TheVariants.{Done, Usage, Line, SourceFault, SinkFault, NoMemory, TooLong, ShelfFault, Record}
 use Rattle.draid_run.proofs.Crashing.{firm_more}
 use Rattle.draid_run.proofs.Exits.{rose_from}
 use Rattle.draid_run.proofs.Known.{appends_more, appends_none, known_input, known_on}
-use Rattle.draid_run.proofs.Places.{after_more, ended_inside, goes_on, on_more}
+use Rattle.draid_run.proofs.Places.{after_more, ended_inside, goes_on, last_more, on_more}
 use Rattle.draid_run.proofs.Risen.{area_shows, cause_fault, fails_shut, faulty_shut}
 use Rattle.draid_run.proofs.Runs.{desk_agrees}
 
@@ -287,22 +287,23 @@ module _ {R A : Type 0} (rack : racks.Ghosts R) (area : areas.Ghosts A) (choices
     built_so lines from line stands are is = built_more Outside lines line are (subst (λ p. IsBuilt (line_at p line)) (sym stands) is)
 
     -- a lane was stopped in the last line
-    stops_so : (past after : List Entry) (lines : List (List ℕ)) (replies : List (List Said)) (from : Place) (mid : Desk) (line : List ℕ) (saids : List Said) (now : OnShelf) (pool : Option (Pool R A)) (to : Place) → RunsSo lines replies from (sits mid past)
-        → (placed : Placed rack area choices past after from line entry mid saids now pool to) → to ≡ Ended
-        → EndsSection choices (MayFind rack area entry) (is_some entry.held) (LaneStopped area pool) first placed.new (lines ++ line ∷ []) (replies ++ saids ∷ []) after
-    stops_so past after lines replies from mid line saids now pool to runs placed ended =
+    stops_so : (past after : List Entry) (lines : List (List ℕ)) (replies : List (List Said)) (from : Place) (mid : Desk) (line : List ℕ) (saids : List Said) (now : OnShelf) (pool : Option (Pool R A)) (to : Place) (runs : RunsSo lines replies from (sits mid past))
+        (placed : Placed rack area choices past after from line entry mid saids now pool to) (tells : TellsAsBefore entry now) → to ≡ Ended
+        → EndsSection choices (MayFind rack area entry) (is_some entry.held) (LaneStopped area pool) (sits first []) (lines ++ line ∷ []) (replies ++ saids ∷ []) to (sits placed.new after) (more past after lines replies from mid line saids now pool to runs placed tells)
+    unfolding more
+    stops_so past after lines replies from mid line saids now pool to runs placed tells ended =
         let turns = subst (λ p. PlaceTurns choices (MayFind rack area entry) from line (sits mid past) saids (sits placed.new after) p) ended placed.turns in
         let it = ended_inside choices (MayFind rack area entry) from line mid placed.new past after saids turns in
+        let runs_on = more past after lines replies from mid line saids now pool to runs placed tells in
+        let step = last_more choices (MayFind rack area entry) (is_some entry.held) Outside (sits first []) lines replies from (sits mid past) line saids to (sits placed.new after) runs placed.turns
+        (desk_agrees rack area entry now pool placed.new tells placed.desk) in
         record {
-          front = lines;
-          said = replies;
+          lanes = it.0;
+          old = sits mid past;
           line = line;
           saids = saids;
-          lanes = it.0;
-          old = mid;
-          lines_are = refl;
-          replies_are = refl;
-          before = subst (λ j. RunsSo lines replies (Inside it.0) (sits mid j)) (sym it.2) (subst (λ p. RunsSo lines replies p (sits mid past)) it.1 runs);
+          step = subst (λ p. LastStep choices (MayFind rack area entry) (is_some entry.held) Outside (sits first []) (lines ++ line ∷ []) (replies ++ saids ∷ []) to (sits placed.new after) runs_on p (sits mid past) line saids) it.1 step;
+          turns = subst (λ p. PlaceTurns choices (MayFind rack area entry) p line (sits mid past) saids (sits placed.new after) Ended) it.1 turns;
           failed = placed.stopped ended;
         }
 
@@ -458,7 +459,7 @@ module _ {R A : Type 0} (rack : racks.Ghosts R) (area : areas.Ghosts A) (choices
           to = cut.to;
           runs = more past after is.lines is.replies from is.reached line (cut.part ++ cut.said ∷ cut.rest) now pool' cut.to is.runs cut.placed tells;
           may = cut.ends;
-          stopped = stops_so past after is.lines is.replies from is.reached line (cut.part ++ cut.said ∷ cut.rest) now pool' cut.to is.runs cut.placed;
+          stopped = stops_so past after is.lines is.replies from is.reached line (cut.part ++ cut.said ∷ cut.rest) now pool' cut.to is.runs cut.placed tells;
           breaks = (refl, refl);
           ends = rest_of;
           shows = (
@@ -497,7 +498,7 @@ module _ {R A : Type 0} (rack : racks.Ghosts R) (area : areas.Ghosts A) (choices
           to = cut.to;
           runs = more past after is.lines is.replies from is.reached line (cut.part ++ cut.said ∷ cut.rest) now pool' cut.to is.runs cut.placed tells;
           may = cut.ends;
-          stopped = stops_so past after is.lines is.replies from is.reached line (cut.part ++ cut.said ∷ cut.rest) now pool' cut.to is.runs cut.placed;
+          stopped = stops_so past after is.lines is.replies from is.reached line (cut.part ++ cut.said ∷ cut.rest) now pool' cut.to is.runs cut.placed tells;
           breaks = (refl, refl);
           ends = rest_of;
           shows = inr (cut.part, cut.said, cut.rest, record { front = is.replies; replies_are = refl; shown_are = refl });
@@ -524,7 +525,7 @@ module _ {R A : Type 0} (rack : racks.Ghosts R) (area : areas.Ghosts A) (choices
           to = Ended;
           runs = more past after is.lines is.replies from is.reached line it.saids now pool' Ended is.runs it.placed tells;
           may = tt;
-          stopped = stops_so past after is.lines is.replies from is.reached line it.saids now pool' Ended is.runs it.placed;
+          stopped = stops_so past after is.lines is.replies from is.reached line it.saids now pool' Ended is.runs it.placed tells;
           breaks = (refl, refl);
           ends = rest_of;
           shows = refl;

@@ -38,12 +38,12 @@ use Rattle.draid_import.proofs.ImportPool.{body_found}
 use Rattle.draid_run.specs.Script.{BreaksOff, Ends, Fails, FailsShut, LaneFails, MayEndAt, Prints, RunsFrom}
 use Rattle.draid_run.specs.Shelves.{AreaRose, FailsIn, HoldsDesk, HoldsNew, HoldsShut, MayFind, RackRose}
 use Rattle.draid_run.specs.Unfailing.{NothingRose}
-use Rattle.draid_run.specs.declared.status.Status.{Status}
-use Rattle.draid_run.specs.declared.status.Status.TheVariants.{ShelfFault}
+use Rattle.draid_exits.specs.declared.status.Status.{Status}
+use Rattle.draid_exits.specs.declared.status.Status.TheVariants.{ShelfFault}
 use Rattle.draid_run.proofs.Broke.{IsLater, follows_later, later_more, later_none}
 use Rattle.draid_run.proofs.GivenBack.{new_count}
 use Rattle.draid_run.proofs.Importings.{new_held, resting}
-use Rattle.draid_run.proofs.Places.{led_on}
+use Rattle.draid_run.proofs.Places.{before_last, led_on}
 use Rattle.draid_run.proofs.Sectioned.{on_keeps, section_later}
 
 -- ---- counts since the entry
@@ -320,10 +320,11 @@ unfailing rack area choices words status input old new entry now first it at tel
     stopped_not rest is at_end breaks =
         let s = it.stopped at_end in
         let all : AllOf MakesNoPool it.session.lines = all_front MakesNoPool it.session.lines rest (subst (AllOf MakesNoPool) is makes) in
-        let front : AllOf MakesNoPool s.front = all_front MakesNoPool s.front (s.line ∷ []) (subst (AllOf MakesNoPool) s.lines_are all) in
-        let behind = run_up choices (MayFind rack area entry) entry Outside s.front s.said (Inside s.lanes) (sits first []) (sits s.old it.session.journal) front (first_up first entry at known) (first_agrees first entry at tells)
-        (subst (λ t. RunsOn choices (MayFind rack area entry) t Outside (sits first []) s.front s.said (Inside s.lanes) (sits s.old it.session.journal)) tells s.before) in
-        lane_not entry now none s.old it.session.mid behind.0 (subst (λ d. HoldsDesk (left_of d) entry now) breaks.1 it.shelf) s.failed
+        let before = before_last choices (MayFind rack area entry) (is_some entry.held) Outside (sits first []) it.session.lines it.session.replies it.session.to (sits it.session.mid it.session.journal) it.session.runs (Inside s.lanes) s.old s.line s.saids s.step in
+        let front : AllOf MakesNoPool before.front = all_front MakesNoPool before.front (s.line ∷ []) (subst (AllOf MakesNoPool) before.lines_are all) in
+        let behind = run_up choices (MayFind rack area entry) entry Outside before.front before.said (Inside s.lanes) (sits first []) s.old front (first_up first entry at known) (first_agrees first entry at tells)
+        (subst (λ t. RunsOn choices (MayFind rack area entry) t Outside (sits first []) before.front before.said (Inside s.lanes) s.old) tells before.runs) in
+        lane_not entry now none s.old.desk it.session.mid behind.0 (subst (λ d. HoldsDesk (left_of d) entry now) breaks.1 it.shelf) s.failed
 
     by : (to : Place) (broken : Option (List ℕ)) → it.session.to ≡ to → it.session.broken ≡ broken → MayEndAt it.session.to ShelfFault it.session.broken → Ends ShelfFault it.session.broken it.session.lines input
         → BreaksOff it.session.lines ShelfFault it.session.broken it.session.saids it.session.mid it.last → ⊥

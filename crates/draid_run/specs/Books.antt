@@ -10,8 +10,8 @@ use Rattle.draid_session.specs.Sections.{AnswersRun}
 use Rattle.draid_run.specs.Next.{IsFound}
 use Rattle.draid_run.specs.Script.{Ends, IsScript, MayEndAt, RunIs, Shows, all_replies}
 use Rattle.draid_pool.specs.Shelves.{OnShelf}
-use Rattle.draid_run.specs.declared.status.Status.{Status}
-use Rattle.draid_run.specs.declared.status.Status.TheVariants.{ShelfFault, Record}
+use Rattle.draid_exits.specs.declared.status.Status.{Status}
+use Rattle.draid_exits.specs.declared.status.Status.TheVariants.{ShelfFault, Record}
 
 -- A run broke off at a line of its own only where the shelf failed. No record had a fault.
 abbrev pub BrokeAt : Status → Option (List ℕ) → Type 0

@@ -7,8 +7,8 @@ use Rattle.draid_script.specs.declared.fault.LineFault.{LineFault}
 use Rattle.draid_session.specs.Places.{IsOutside, Outside, line_behind, place_after}
 use Rattle.draid_session.specs.Session.{Desk, Untouched, Made, Shut, Unknown}
 use Rattle.draid_run.specs.Script.{IsUnbuilt}
-use Rattle.draid_run.specs.declared.status.Status.{Status}
-use Rattle.draid_run.specs.declared.status.Status.TheVariants.{Done, Record, SourceFault, SinkFault, NoMemory, ShelfFault}
+use Rattle.draid_exits.specs.declared.status.Status.{Status}
+use Rattle.draid_exits.specs.declared.status.Status.TheVariants.{Done, Record, SourceFault, SinkFault, NoMemory, ShelfFault}
 
 -- a line is in the grammar, and its command is built
 abbrev pub IsBuilt : Result Command LineFault → Type 0

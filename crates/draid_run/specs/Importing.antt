@@ -15,8 +15,8 @@ use Rattle.draid_pool.specs.Shelves.{OnShelf}
 use Rattle.draid_run.specs.Shelves.{HoldsFault, MayFind}
 use Rattle.draid_run.specs.declared.answer.Stop.{Stop}
 use Rattle.draid_run.specs.declared.answer.Stop.TheVariants as stop
-use Rattle.draid_run.specs.declared.status.RecordName.{RecordName}
-use Rattle.draid_run.specs.declared.status.RecordName.TheVariants as record_name
+use Rattle.draid_exits.specs.declared.status.RecordName.{RecordName}
+use Rattle.draid_exits.specs.declared.status.RecordName.TheVariants as record_name
 
 -- what `import` does where a pool is open, or none is
 abbrev pub ImportDoes : {R A : Type 0} → racks.Ghosts R → areas.Ghosts A → OnShelf → Desk → Reply → Desk → Type 0

@@ -1,5 +1,4 @@
 pub mod Books
-pub mod Clashes
 pub mod Closing
 pub mod Crashes
 pub mod Desks
@@ -15,5 +14,4 @@ pub mod Sections
 pub mod Serve
 pub mod Shelves
 pub mod Spares
-pub mod Status
 pub mod Unfailing

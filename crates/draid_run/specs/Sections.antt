@@ -9,7 +9,7 @@ use Rattle.draid_names.specs.declared.fault.NoMemory.{NoMemory as WantsMemory}
 use Rattle.draid_names.specs.declared.room.Room.{Room}
 use Rattle.draid_rack.specs.declared.Rack as racks
 use Rattle.draid_area.specs.declared.Area as areas
-use Rattle.draid_script.specs.Line.{Command, IsInRange, command_in, most_lanes}
+use Rattle.draid_script.specs.Line.{Command, IsInRange, most_lanes}
 use Rattle.draid_script.specs.Writing.{IsForLanes}
 use Rattle.draid_script.specs.declared.line.Line.{Line}
 use Rattle.draid_reply.specs.declared.reply.Reply.{Reply}
@@ -30,21 +30,15 @@ use Rattle.draid_pool.specs.Pools.{Represents}
 use Rattle.draid_pool.specs.Whole.{IsWhole}
 use Rattle.draid_pool.specs.declared.pool.Pool.{Pool}
 use Rattle.draid_pool.specs.Shelves.{OnShelf}
+use Rattle.draid_clashes.specs.Lanes.{lanes_in}
 use Rattle.draid_run.specs.Desks.{IsDesk}
 use Rattle.draid_run.specs.Script.{said_text, texts_of}
 use Rattle.draid_run.specs.Serve.{LaneStopped}
 use Rattle.draid_run.specs.declared.sections.LaneReplies.{LaneReplies}
-use Rattle.draid_run.specs.declared.status.Status.{Status}
-use Rattle.draid_run.specs.declared.status.Status.TheVariants.{SinkFault, NoMemory, ShelfFault}
+use Rattle.draid_exits.specs.declared.status.Status.{Status}
+use Rattle.draid_exits.specs.declared.status.Status.TheVariants.{SinkFault, NoMemory, ShelfFault}
 
 -- ---- lanes
-
--- the commands of a lane, and those of each lane
-abbrev pub commands_in : List Line → List Command
-commands_in lines = map command_in lines
-
-abbrev pub lanes_in : List (Vec Line Global) → List (List Command)
-lanes_in lanes = map (λ (lane : Vec Line Global). commands_in lane.items) lanes
 
 -- a command that a lane may have, with its numbers in their ranges
 abbrev pub IsOfLane : Command → Type 0

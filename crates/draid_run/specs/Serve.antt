@@ -22,7 +22,7 @@ use Rattle.draid_session.specs.Choices.{Choices}
 use Rattle.draid_session.specs.Sections.{PlaceTurns, RunsOn}
 use Rattle.draid_session.specs.Session.{Cause, Desk, Foreign, Open, RecordFails, ShelfFails, sits}
 use Rattle.draid_pool.specs.declared.pool.Pool.{Pool}
-use Rattle.draid_run.specs.declared.status.RecordName.{RecordName}
+use Rattle.draid_exits.specs.declared.status.RecordName.{RecordName}
 use Rattle.draid_run.specs.Crashes.{IsFirmShut, LeavesFirm, LeavesFirmAt, crash_came_last}
 use Rattle.draid_run.specs.Desks.{Broken, IsDesk, Noted, PoolBroke, PoolDid, Turned, asked_in}
 use Rattle.draid_run.specs.Script.{AreBuilt, IsBuilt, all_replies, all_said, BreaksOff, Ends, EndsSection, FailsShut, FaultyShut, GetsReplies, IsUnbuilt, LineFaultIs, MayEndAt, Shows, said_text, texts_of}
@@ -30,9 +30,9 @@ use Rattle.draid_pool.specs.Shelves.{OnShelf}
 use Rattle.draid_run.specs.Shelves.{AreaRose, HasFault, HoldsFault, IsClosed, MakesLeavesAt, MayFind, PoolFails, RackFault}
 use Rattle.draid_run.specs.declared.answer.Stop.{Stop}
 use Rattle.draid_run.specs.declared.answer.Stop.TheVariants as stop
-use Rattle.draid_run.specs.declared.status.LineRefusal.TheVariants as refusal
-use Rattle.draid_run.specs.declared.status.Status.{Status}
-use Rattle.draid_run.specs.declared.status.Status.TheVariants.{Done, Line, SourceFault, SinkFault, NoMemory, TooLong, ShelfFault, Record}
+use Rattle.draid_exits.specs.declared.status.LineRefusal.TheVariants as refusal
+use Rattle.draid_exits.specs.declared.status.Status.{Status}
+use Rattle.draid_exits.specs.declared.status.Status.TheVariants.{Done, Line, SourceFault, SinkFault, NoMemory, TooLong, ShelfFault, Record}
 
 -- What became of the next line, where the bytes to come before and after the call are known.
 abbrev pub TextIs : Rest → Rest → Option (List ℕ) → Option (List ℕ) → Result (Option (Vec ℕ Global)) Status → Type 0
@@ -213,7 +213,7 @@ module _ {R A : Type 0} (rack : racks.Ghosts R) (area : areas.Ghosts A) (choices
     pub to : Place
     pub runs : RunsOn choices (MayFind rack area entry) (is_some entry.held) Outside (sits first []) lines replies to (sits mid journal)
     pub may : MayEndAt to ended broken
-    pub stopped : to ≡ Ended → EndsSection choices (MayFind rack area entry) (is_some entry.held) (LaneStopped area pool) first mid lines replies journal
+    pub stopped : to ≡ Ended → EndsSection choices (MayFind rack area entry) (is_some entry.held) (LaneStopped area pool) (sits first []) lines replies to (sits mid journal) runs
     pub breaks : BreaksOff lines ended broken saids mid last
     pub ends : MatchOption input ⊤ (Ends ended broken lines)
     pub shows : Shows ended (all_replies replies saids) shown

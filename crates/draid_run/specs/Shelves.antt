@@ -26,8 +26,8 @@ use Rattle.draid_create.specs.Opening.{StaysMade}
 use Rattle.draid_create.specs.Says.{IsSame, MakingFailed}
 use Rattle.draid_pool.specs.declared.pool.Pool.{Pool}
 use Rattle.draid_session.specs.Places.{line_behind}
-use Rattle.draid_run.specs.declared.status.RecordName.{RecordName}
-use Rattle.draid_run.specs.declared.status.RecordName.TheVariants as record_name
+use Rattle.draid_exits.specs.declared.status.RecordName.{RecordName}
+use Rattle.draid_exits.specs.declared.status.RecordName.TheVariants as record_name
 
 -- The devices of an open pool are away. Whether the shelf tells is as the pool was opened.
 pub record IsOut (x : State) (now : OnShelf) : Type 0 where

@@ -3,8 +3,8 @@ use Rattle.std.specs.Prelude.{◌≢◌, ℕ, None}
 use Rattle.draid_names.specs.Faults.{Rose}
 use Rattle.draid_pool.specs.Returning.{own_count}
 use Rattle.draid_pool.specs.Shelves.{OnShelf}
-use Rattle.draid_run.specs.declared.status.Status.{Status}
-use Rattle.draid_run.specs.declared.status.Status.TheVariants.{SourceFault, SinkFault, ShelfFault}
+use Rattle.draid_exits.specs.declared.status.Status.{Status}
+use Rattle.draid_exits.specs.declared.status.Status.TheVariants.{SourceFault, SinkFault, ShelfFault}
 
 -- No count of a shelf rose: neither that of the shelf itself nor that of a pool's own areas, nor those of a metaslab's areas and of its rack as a whole.
 pub record NothingRose (entry now : OnShelf) : Type 0 where

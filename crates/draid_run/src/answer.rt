@@ -12,11 +12,11 @@ ghost use Rattle.draid_run.specs.Serve.{AnswerIs, AskIs, IsSaid, opened_by};
 ghost use Rattle.draid_pool.specs.Shelves.{OnShelf, on_shelf};
 
 use crate::repairing::{reply_to_agent, reply_to_journal};
-use crate::status::RecordName;
 use crate::{closing, opening, replies};
 use draid_agent::{Journal, Policy};
 use draid_area::Area;
 use draid_choose::Chooser;
+use draid_exits::RecordName;
 use draid_names::{Failed, Room};
 use draid_pool::Pool;
 use draid_rack::Rack;

@@ -8,7 +8,7 @@ ghost use Rattle.draid_pool.specs.Shelves.{OnShelf};
 ghost use Rattle.draid_run.specs.Script.{RunIs};
 ghost use Rattle.draid_run.specs.Shelves.{HoldsDesk};
 ghost use Rattle.draid_run.specs.Unfailing.{EndsUnfailing, NothingRose};
-ghost use Rattle.draid_run.specs.declared.status.Status.{Status};
+ghost use Rattle.draid_exits.specs.declared.status.Status.{Status};
 
 use draid_area::Area;
 use draid_rack::Rack;

@@ -11,14 +11,15 @@ ghost use Rattle.draid_pool.specs.Shelves.{OnShelf};
 ghost use Rattle.draid_run.specs.Desks.{IsDesk, IsPool};
 ghost use Rattle.draid_run.specs.Script.{said_text};
 ghost use Rattle.draid_run.specs.Serve.{PrintIs};
-ghost use Rattle.draid_run.specs.Sections.{AreLanes, PrintsAre, SectionIs, lanes_in, replies_in};
+ghost use Rattle.draid_clashes.specs.Lanes.{lanes_in};
+ghost use Rattle.draid_run.specs.Sections.{AreLanes, PrintsAre, SectionIs, replies_in};
 
 use crate::answer::no_pool;
-use crate::clashes::{least_clash, two_mend};
 use crate::sections::{LaneReplies, Sections};
-use crate::status::Status;
 use draid_area::Area;
 use draid_choose::Chooser;
+use draid_clashes::{least_clash, two_mend};
+use draid_exits::Status;
 use draid_lines::Sink;
 use draid_names::{Failed, NoMemory, Room};
 use draid_pool::Pool;
@@ -48,13 +49,19 @@ pub(crate) fn add_line(lanes: &mut Vec<Vec<Line>>, lane: u32, line: Line) -> Res
 }
 
 /// Why lanes aren't run, if there is a reason.
-fn refusal(lanes: &[Vec<Line>]) -> Option<Reply>
+fn refusal(alloc: Global, lanes: &[Vec<Line>]) -> Option<Reply>
     ensures some { IfSome result (RefusesSection (lanes_in lanes.now)) }
     ensures apart { IfNone result (NoClash (lanes_in lanes.now)) }
     ensures one_mends { IfNone result (ClashesMend (lanes_in lanes.now) → ⊥) }
 {
-    if let Some(object) = least_clash(lanes) {
-        return Some(Reply::LanesClash { object });
+    match least_clash(alloc, lanes) {
+        Ok(Some(object)) => return Some(Reply::LanesClash { object }),
+        Ok(None) => {}
+        Err(NoMemory) => {
+            return Some(Reply::NoMemory {
+                command: CommandName::Lanes,
+            });
+        }
     }
     if two_mend(lanes) {
         return Some(Reply::LanesClashMend);
@@ -64,6 +71,7 @@ fn refusal(lanes: &[Vec<Line>]) -> Option<Reply>
 
 /// Runs the lanes of a section on the pool that is open, if one is and they may be run. Else there is one reply.
 pub(crate) fn run_lanes<R: Rack, A: Area, F: Fn(&[Room]) -> Option<u32>, G: Sections<R, A>>(
+    alloc: Global,
     sections: &G,
     pool: &mut Option<Pool<R, A>>,
     chooser: &Chooser<F>,
@@ -78,7 +86,7 @@ pub(crate) fn run_lanes<R: Rack, A: Area, F: Fn(&[Room]) -> Option<u32>, G: Sect
     let Some(open) = pool.take() else {
         return Err(no_pool(CommandName::Lanes));
     };
-    if let Some(reply) = refusal(&lanes) {
+    if let Some(reply) = refusal(alloc, &lanes) {
         *pool = Some(open);
         return Err(reply);
     }

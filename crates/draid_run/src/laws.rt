@@ -12,7 +12,7 @@ ghost use Rattle.draid_session.specs.Places.{line_behind};
 ghost use Rattle.draid_run.specs.Script.{IsSession, RunsFrom};
 ghost use Rattle.draid_pool.specs.Shelves.{OnShelf, on_shelf};
 ghost use Rattle.draid_run.specs.Shelves.{HoldsDesk, MayFind, TellsAsBefore};
-ghost use Rattle.draid_run.specs.declared.status.Status.{Status};
+ghost use Rattle.draid_exits.specs.declared.status.Status.{Status};
 
 use draid_area::Area;
 use draid_rack::Rack;

@@ -4,7 +4,6 @@
 
 mod answer;
 mod books;
-mod clashes;
 mod closing;
 mod failures;
 mod kept;
@@ -17,12 +16,12 @@ mod repairing;
 mod replies;
 mod sections;
 mod serve;
-mod status;
 mod top;
 mod turns;
 mod words;
 
 pub use books::runs_keep_the_book;
+pub use draid_exits::{LineRefusal, RecordName, Status};
 pub use failures::runs_without_failures_end_well;
 pub use kept::known_objects_are_read;
 pub use laws::{
@@ -31,6 +30,5 @@ pub use laws::{
 };
 pub use origins::{known_pools_have_a_book, new_shelves_keep_the_book, told_pools_are_reached};
 pub use sections::{LaneReplies, NoSections, Sections, SectionsBy};
-pub use status::{LineRefusal, RecordName, Status};
 pub use top::{end_run, run};
 pub use turns::{each_line_is_a_turn, runs_are_sessions, runs_without_sections_stay_outside};

@@ -7,8 +7,8 @@ ghost use Rattle.draid_run.specs.Importing.{ImportIs, name_of, stop_of_import};
 ghost use Rattle.draid_run.specs.Making.{CreateIs};
 
 use crate::answer::Stop;
-use crate::status::RecordName;
 use draid_create::reply_to_create;
+use draid_exits::RecordName;
 use draid_import::{ImportStop, reply_to_import};
 use draid_names::Failed;
 use draid_pool::Pool;

@@ -9,7 +9,7 @@ ghost use Rattle.draid_pool.specs.Shelves.{OnShelf, on_shelf};
 ghost use Rattle.draid_run.specs.Books.{KeepsBook};
 ghost use Rattle.draid_run.specs.Script.{RunIs};
 ghost use Rattle.draid_run.specs.Shelves.{HoldsDesk};
-ghost use Rattle.draid_run.specs.declared.status.Status.{Status};
+ghost use Rattle.draid_exits.specs.declared.status.Status.{Status};
 
 use draid_area::Area;
 use draid_rack::Rack;

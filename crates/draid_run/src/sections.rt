@@ -23,7 +23,8 @@ pub trait Sections<R: Rack, A: Area> {
     ghost use Rattle.draid_names.specs.declared.room.Room.{Room as RoomOf};
     ghost use Rattle.draid_session.specs.Choices.{choices_by};
     ghost use Rattle.draid_pool.specs.Whole.{IsWhole};
-    ghost use Rattle.draid_run.specs.Sections.{MayRunLanes, SectionMet, lanes_in};
+    ghost use Rattle.draid_clashes.specs.Lanes.{lanes_in};
+    ghost use Rattle.draid_run.specs.Sections.{MayRunLanes, SectionMet};
 
     /// That lanes may be run, whose blocks go to metaslabs by these choices.
     ghost ready: { Self → (List RoomOf → Option ℕ → Type 0) → Type 0 };
@@ -43,6 +44,7 @@ pub trait Sections<R: Rack, A: Area> {
 }
 
 /// Runs the lanes of sections by a closure.
+#[derive(Drop)]
 pub struct SectionsBy<S> {
     pub run: S,
 }
@@ -55,7 +57,8 @@ impl<
     ghost use Rattle.std.specs.Fn.{FnReturnsAt};
     ghost use Rattle.draid_session.specs.Choices.{choices_by};
     ghost use Rattle.draid_pool.specs.Whole.{IsWhole};
-    ghost use Rattle.draid_run.specs.Sections.{MayRunLanes, RunsSections, SectionMet, lanes_in};
+    ghost use Rattle.draid_clashes.specs.Lanes.{lanes_in};
+    ghost use Rattle.draid_run.specs.Sections.{MayRunLanes, RunsSections, SectionMet};
 
     ghost ready = { λ s chosen. RunsSections R.Rack A.Area S.Fn chosen s.run };
 
@@ -82,7 +85,8 @@ impl<R: Rack, A: Area> Sections<R, A> for NoSections {
     ghost use Rattle.std.specs.Fn.{FnReturnsAt};
     ghost use Rattle.draid_session.specs.Choices.{choices_by};
     ghost use Rattle.draid_pool.specs.Whole.{IsWhole};
-    ghost use Rattle.draid_run.specs.Sections.{MayRunLanes, SectionMet, lanes_in};
+    ghost use Rattle.draid_clashes.specs.Lanes.{lanes_in};
+    ghost use Rattle.draid_run.specs.Sections.{MayRunLanes, SectionMet};
 
     ghost ready = { λ s chosen. ⊤ };
 

@@ -13,7 +13,8 @@ ghost use Rattle.draid_session.specs.Choices.{choices_by, choices_with};
 ghost use Rattle.draid_session.specs.Places.{Inside, Outside, opened_lanes};
 ghost use Rattle.draid_session.specs.Session.{Desk};
 ghost use Rattle.draid_run.specs.Desks.{IsDesk, IsPool};
-ghost use Rattle.draid_run.specs.Sections.{AreLanes, IsReading, RanIs, lanes_in, place_in, place_next};
+ghost use Rattle.draid_clashes.specs.Lanes.{lanes_in};
+ghost use Rattle.draid_run.specs.Sections.{AreLanes, IsReading, RanIs, place_in, place_next};
 ghost use Rattle.draid_run.specs.Serve.{LineIs, PrintIs, Served, TextIs, done_of, end_at, opened_by, status_of, unread_at};
 ghost use Rattle.draid_pool.specs.Shelves.{OnShelf, on_shelf};
 ghost use Rattle.draid_run.specs.Shelves.{HoldsDesk};
@@ -21,10 +22,10 @@ ghost use Rattle.draid_run.specs.Shelves.{HoldsDesk};
 use crate::answer::{Stop, answer};
 use crate::lanes::{add_line, open_lanes, print_lanes, run_lanes};
 use crate::sections::{LaneReplies, Sections};
-use crate::status::{LineRefusal, Status};
 use draid_agent::{Journal, Policy};
 use draid_area::Area;
 use draid_choose::Chooser;
+use draid_exits::{LineRefusal, Status};
 use draid_lines::{Lines, ReadFault, Sink, Source};
 use draid_names::{Failed, NoMemory, Room};
 use draid_pool::Pool;
@@ -146,7 +147,7 @@ fn serve_section<R: Rack, A: Area, K: Sink, F: Fn(&[Room]) -> Option<u32>, G: Se
     ensures later { K.faults sink.old ≤ K.faults sink.new }
     ensures cause { result ≡ Err Status.SinkFault → Rose (K.faults sink.old) (K.faults sink.new) }
 {
-    match run_lanes(sections, pool, chooser, lanes) {
+    match run_lanes(alloc, sections, pool, chooser, lanes) {
         Ok(ran) => print_ran(alloc, sink, &ran),
         Err(reply) => print_reply(alloc, sink, reply),
     }

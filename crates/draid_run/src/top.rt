@@ -13,10 +13,10 @@ ghost use Rattle.draid_run.specs.Shelves.{DeviceFailed};
 
 use crate::sections::Sections;
 use crate::serve::serve;
-use crate::status::{Status, fixed_line, numbered_line};
 use crate::words::take_words;
 use draid_agent::Policy;
 use draid_choose::Chooser;
+use draid_exits::{Status, fixed_line, numbered_line};
 use draid_lines::{Sink, Source};
 use draid_names::Room;
 use draid_pool::{Pool, close};

@@ -6,7 +6,8 @@ use Rattle.draid_session.specs.Sections.{ClashesMend, NoClash}
 use Rattle.draid_pool.specs.Failing.{AreaRose}
 use Rattle.draid_tables.specs.Lists.{AreAllInRange, ListsEach, commands_of_lanes}
 use Rattle.draid_section.specs.Section as section
-use Rattle.draid_run.specs.Sections.{IsStopped, LanesTeach, RunsSection, StopWhere, lanes_in, replies_in}
+use Rattle.draid_clashes.specs.Lanes.{lanes_in}
+use Rattle.draid_run.specs.Sections.{IsStopped, LanesTeach, RunsSection, StopWhere, replies_in}
 use Rattle.draid_run.specs.declared.sections.LaneReplies.{LaneReplies}
 use Rattle.draid_program.proofs.LanesGiven.{in_range, may_all}
 use Rattle.draid_program.proofs.LanesRefused.{areas_same, of_err, of_ok, same_pool}

@@ -1,5 +1,5 @@
 use Rattle.std.proofs.Common.{arith, ◌∙◌, ◌∷◌, [], ap, length, length-append}
-use Rattle.draid_run.specs.Sections.{lanes_in}
+use Rattle.draid_clashes.specs.Lanes.{lanes_in}
 use Rattle.draid_run.proofs.Lining.{opens_more}
 use Rattle.draid_run.proofs.lanes.open_lanes.Goals as goal
 

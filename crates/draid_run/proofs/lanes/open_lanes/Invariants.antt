@@ -1,6 +1,6 @@
 use Rattle.std.proofs.Common.{◌≡◌, ◌≤◌, [], length, replicate}
 use Rattle.std.specs.Prelude.{vec_capacity}
-use Rattle.draid_run.specs.Sections.{lanes_in}
+use Rattle.draid_clashes.specs.Lanes.{lanes_in}
 use Rattle.draid_run.proofs.lanes.open_lanes.Given as goal
 
 -- so many lanes are there, without lines

@@ -4,7 +4,7 @@ use Rattle.draid_script.specs.Grammar.{lane_of}
 use Rattle.draid_script.specs.Line.{InLane, IsLaneLine, SilentLane, command_in, lane_command_in}
 use Rattle.draid_session.specs.Choices.{choices_by}
 use Rattle.draid_session.specs.Places.{Inside, Outside}
-use Rattle.draid_run.specs.Sections.{lanes_in}
+use Rattle.draid_clashes.specs.Lanes.{lanes_in}
 use Rattle.draid_run.specs.Serve.{LineIs}
 use Rattle.draid_run.proofs.Lining.{lanes_many}
 use Rattle.draid_run.proofs.Within.{keeps_lanes, line_kept}

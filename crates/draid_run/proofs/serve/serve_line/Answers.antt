@@ -2,7 +2,8 @@ use Rattle.std.proofs.Common.{subst, sym}
 use Rattle.std.specs.Fn.{FnReturnsAt}
 use Rattle.draid_agent.specs.Policy.{PolicyReturns}
 use Rattle.draid_pool.specs.Shelves.{on_shelf}
-use Rattle.draid_run.specs.Sections.{IsReading, lanes_in, place_in, place_next}
+use Rattle.draid_clashes.specs.Lanes.{lanes_in}
+use Rattle.draid_run.specs.Sections.{IsReading, place_in, place_next}
 use Rattle.draid_session.specs.Choices.{choices_with}
 use Rattle.draid_run.specs.Serve.{LineIs, done_of}
 use Rattle.draid_run.proofs.Within.{lanes_plain, line_with}

@@ -1,7 +1,8 @@
 use Rattle.std.proofs.Common.{subst}
 use Rattle.std.specs.Fn.{FnReturnsAt}
 use Rattle.draid_session.specs.Choices.{choices_by}
-use Rattle.draid_run.specs.Sections.{RanIs, lanes_in}
+use Rattle.draid_clashes.specs.Lanes.{lanes_in}
+use Rattle.draid_run.specs.Sections.{RanIs}
 use Rattle.draid_run.proofs.Within.{end_alone, end_ran}
 use Rattle.draid_run.proofs.serve.serve_section.Goals as goal
 

@@ -1,8 +1,8 @@
 use Rattle.std.proofs.Common.{◌≡◌, ◌∙◌, inl, inr, refl, subst, sym, Result, String, Global}
 use Rattle.std.specs.Prelude.{IfOk, string_bytes}
 use Rattle.std.specs.declared.alloc.AllocError.{AllocError}
-use Rattle.draid_run.specs.Status.{last_text}
-use Rattle.draid_run.specs.declared.status.Status.TheVariants.{NoMemory}
+use Rattle.draid_exits.specs.Status.{last_text}
+use Rattle.draid_exits.specs.declared.status.Status.TheVariants.{NoMemory}
 use Rattle.draid_run.proofs.Printing.{ends_with, no_done, no_shelf, no_sink, no_source, no_usage, prints_done, prints_shelf, prints_source, prints_usage}
 use Rattle.draid_run.proofs.top.end_run.Goals as goal
 

@@ -5,7 +5,7 @@ use Rattle.draid_session.specs.Choices.{choices_with}
 use Rattle.draid_session.specs.Session.{Untouched}
 use Rattle.draid_pool.specs.Shelves.{on_shelf}
 use Rattle.draid_run.proofs.Ended.{device_failed, run_refused, run_served, run_unread}
-use Rattle.draid_run.specs.declared.status.Status.TheVariants.{NoMemory, ShelfFault, SourceFault, Usage}
+use Rattle.draid_exits.specs.declared.status.Status.TheVariants.{NoMemory, ShelfFault, SourceFault, Usage}
 use Rattle.draid_run.proofs.Exits.{blameless, later_on, later_same, memory_done, same_later, sink_last, sink_since, usage_done}
 use Rattle.draid_run.proofs.Serving.{as_found}
 use Rattle.draid_run.proofs.top.run.Goals as goal

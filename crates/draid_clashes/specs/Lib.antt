@@ -1,0 +1,3 @@
+pub mod Lanes
+pub mod Mending
+pub mod Named
