@@ -1,4 +1,4 @@
-ghost use Rattle.std.specs.Prelude.{◌≡◌, ℕ, List, Option, Some, IsOk};
+ghost use Rattle.std.specs.Prelude.{Some, IsOk};
 ghost use Rattle.std.specs.Io.{ReadsAtMost};
 ghost use Rattle.std.specs.Io.KnownBytes.{ReadConsumes};
 ghost use Rattle.draid_names.specs.Faults.{HasCause};
@@ -8,6 +8,7 @@ use crate::source::copy_front;
 use draid_names::Failed;
 
 /// A text in memory, as a source that never fails.
+#[derive(Drop)]
 pub struct Text<'a> {
     /// What is left of it.
     pub left: &'a [u8],

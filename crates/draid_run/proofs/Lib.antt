@@ -34,3 +34,4 @@ pub mod Turned
 pub mod TwoMend
 pub mod Unfailing
 pub mod Within
+pub mod WorkloadEnds

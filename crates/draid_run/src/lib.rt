@@ -20,7 +20,7 @@ mod serve;
 mod status;
 mod top;
 mod turns;
-mod words;
+mod workloads;
 
 pub use books::runs_keep_the_book;
 pub use failures::runs_without_failures_end_well;
