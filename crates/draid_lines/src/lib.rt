@@ -5,7 +5,9 @@
 mod lines;
 mod sink;
 mod source;
+mod text;
 
 pub use lines::{Lines, ReadFault};
 pub use sink::{MemorySink, Sink};
 pub use source::{MemorySource, Source};
+pub use text::Text;

@@ -100,7 +100,7 @@ impl Source for MemorySource {
 }
 
 /// Copies as many bytes as there are and as fit, and answers how many.
-fn copy_front(from: &[u8], into: &mut [u8]) -> usize
+pub(crate) fn copy_front(from: &[u8], into: &mut [u8]) -> usize
     ensures count { result ≡ min (length from.now) (length into.old) }
     ensures copied { into.new ≡ take result from.now ++ drop result into.old }
 {

@@ -35,7 +35,7 @@ starved_book words exit input old new it = record {
   status = it.status;
   exits = it.exits;
   book = closed blank;
-  keeps = record {
+  keeps = inl (record {
     lines = [];
     replies = [];
     shown = [];
@@ -49,11 +49,11 @@ starved_book words exit input old new it = record {
     ends = nothing input;
     shows = inl refl;
     script = record {
-      usage = λ e taken. cc e;
+      usage = λ e. absurd (cc e);
       refused = λ wrong. record { nothing = refl; cause = inr refl };
       prints = record { between = old; replies = appends_none old; last = last_line it.line };
     };
-  };
+  });
 }
   where
     nothing : (known : Option (List ℕ)) → MatchOption known ⊤ (Ends NoMemory None [])

@@ -1,4 +1,4 @@
-//! Sessions of the program: in memory, or in a folder.
+//! Runs of the program: a session in memory or in a folder, or a workload in memory.
 ghost use Rattle.std.specs.Prelude.{◌≡◌, ◌⊎◌, ℕ, List, Vec, IfErr, IfOk, Err, false, map, string_bytes};
 ghost use Rattle.std.specs.Fn.{FnReturnsAt};
 ghost use Rattle.std.specs.Io.KnownBytes.{IsAtEnd};
@@ -13,6 +13,7 @@ ghost use Rattle.draid_session.specs.Choices.{choices_by, choices_with};
 ghost use Rattle.draid_pool.specs.Shelves.{on_shelf};
 ghost use Rattle.draid_pool.specs.Whole.{IsWhole};
 ghost use Rattle.draid_clashes.specs.Lanes.{lanes_in};
+ghost use Rattle.draid_run.specs.Script.{IsSession};
 ghost use Rattle.draid_run.specs.Sections.{MayRunLanes, SectionMet};
 ghost use Rattle.draid_program.specs.Program.{EndsBy, EndsByBook, EndsByRun, NamesFolder, unread};
 
@@ -73,7 +74,8 @@ fn run_on<
     requires chooser { IsChooser F.Fn chooser.now }
     requires policy { IsPolicy P.Fn policy.now }
     ensures run { EndsByRun H.R.Rack H.A.Area (choices_with (FnReturnsAt F.Fn chooser.now) (PolicyReturns P.Fn policy.now)) (map string_bytes words.now) result (S.left source.old) (K.held sink.old) (K.held sink.new) (on_shelf H.Shelf shelf.old) (on_shelf H.Shelf shelf.new) }
-    ensures done { exit_status result ≡ 0 → IsAtEnd (S.left source.new) }
+    ensures done { exit_status result ≡ 0 → IsSession (map string_bytes words.now) → IsAtEnd (S.left source.new) }
+    ensures untouched { (IsSession (map string_bytes words.now) → ⊥) → source.new ≡ source.old }
 {
     let alloc = rt.alloc();
     let sections = SectionsBy {
@@ -91,7 +93,7 @@ fn run_on<
     ExitCode::from(status.code())
 }
 
-/// The shelf of a session in memory: an empty one, of which no call fails.
+/// The shelf of a run in memory: an empty one, of which no call fails.
 fn new_shelf(alloc: Global) -> MemoryShelf
     ensures nothing { HoldsNothing result.devices }
     ensures rule { rule_of result ≡ CrashRule.Torn }
@@ -119,7 +121,8 @@ fn run_in_memory<
     requires chooser { IsChooser F.Fn chooser.now }
     requires policy { IsPolicy P.Fn policy.now }
     ensures book { EndsByBook (map string_bytes words.now) result (S.left source.old) (K.held sink.old) (K.held sink.new) }
-    ensures done { exit_status result ≡ 0 → IsAtEnd (S.left source.new) }
+    ensures done { exit_status result ≡ 0 → IsSession (map string_bytes words.now) → IsAtEnd (S.left source.new) }
+    ensures untouched { (IsSession (map string_bytes words.now) → ⊥) → source.new ≡ source.old }
 {
     let mut shelf = new_shelf(rt.alloc());
     run_on(rt, words, &mut shelf, source, sink, chooser, policy)
@@ -146,7 +149,7 @@ fn run_in_folder<
     requires policy { IsPolicy P.Fn policy.now }
     ensures run { (entry now : FileShelf) × (path_of entry ≡ string_bytes path)
         × EndsByRun ⟦<FileRack as Rack>⟧ ⟦<FileArea as Area>⟧ (choices_with (FnReturnsAt F.Fn chooser.now) (PolicyReturns P.Fn policy.now)) (map string_bytes words.now) result (S.left source.old) (K.held sink.old) (K.held sink.new) (on_shelf ⟦<FileShelf as Shelf>⟧ entry) (on_shelf ⟦<FileShelf as Shelf>⟧ now) }
-    ensures done { exit_status result ≡ 0 → IsAtEnd (S.left source.new) }
+    ensures done { exit_status result ≡ 0 → IsSession (map string_bytes words.now) → IsAtEnd (S.left source.new) }
 {
     let mut shelf = FileShelf::new(files, path);
     run_on(rt, words, &mut shelf, source, sink, chooser, policy)
@@ -177,7 +180,8 @@ fn run_words<
         → ((entry now : FileShelf) × (path_of entry ≡ path)
         × EndsByRun ⟦<FileRack as Rack>⟧ ⟦<FileArea as Area>⟧ (choices_with (FnReturnsAt F.Fn chooser.now) (PolicyReturns P.Fn policy.now)) (map string_bytes words.now) result (S.left source.old) (K.held sink.old) (K.held sink.new) (on_shelf ⟦<FileShelf as Shelf>⟧ entry) (on_shelf ⟦<FileShelf as Shelf>⟧ now))
         ⊎ EndsBy Status.NoMemory result (K.held sink.old) (K.held sink.new) }
-    ensures done { exit_status result ≡ 0 → IsAtEnd (S.left source.new) }
+    ensures done { exit_status result ≡ 0 → IsSession (map string_bytes words.now) → IsAtEnd (S.left source.new) }
+    ensures untouched { (IsSession (map string_bytes words.now) → ⊥) → source.new ≡ source.old }
 {
     match read_words(rt.alloc(), words) {
         Ok(Mode::Session { dir: Some(path) }) => {
@@ -215,7 +219,8 @@ pub(crate) fn run_program<
         → ((entry now : FileShelf) × (path_of entry ≡ path)
         × EndsByRun ⟦<FileRack as Rack>⟧ ⟦<FileArea as Area>⟧ (choices_with (FnReturnsAt F.Fn chooser.now) (PolicyReturns P.Fn policy.now)) (map string_bytes words.items) result (S.left source.old) (K.held sink.old) (K.held sink.new) (on_shelf ⟦<FileShelf as Shelf>⟧ entry) (on_shelf ⟦<FileShelf as Shelf>⟧ now))
         ⊎ EndsBy Status.NoMemory result (K.held sink.old) (K.held sink.new)) }
-    ensures done { exit_status result ≡ 0 → IsAtEnd (S.left source.new) }
+    ensures done { IfOk words (λ words. exit_status result ≡ 0 → IsSession (map string_bytes words.items) → IsAtEnd (S.left source.new)) }
+    ensures untouched { IfOk words (λ words. (IsSession (map string_bytes words.items) → ⊥) → source.new ≡ source.old) }
 {
     match words {
         Ok(words) => run_words(files, rt, &words, source, sink, chooser, policy),

@@ -1,5 +1,5 @@
 -- Each run is answered as the book has it, and so are runs one after another.
-use Rattle.std.proofs.Common.{◌≡◌, ◌∙◌, refl, sym, ap, subst, ℕ, Bool, true, false, List, [], ◌∷◌, Option, Some, None}
+use Rattle.std.proofs.Common.{◌≡◌, ◌∙◌, refl, sym, ap, subst, ℕ, Bool, true, false, List, [], ◌∷◌, Option, Some, None, inl, inr}
 use Rattle.std.specs.Prelude.{is_some, IsSomeAnd}
 use Rattle.draid_rack.specs.declared.Rack as racks
 use Rattle.draid_area.specs.declared.Area as areas
@@ -14,9 +14,10 @@ use Rattle.draid_session.specs.Session.{Agrees, Bare, Desk, Foreign, Made, Open,
 use Rattle.draid_session.specs.Sections.{RunsOn}
 use Rattle.draid_session.proofs.Running.{AllOn, runs_on}
 use Rattle.draid_session.proofs.Turning.{breaks_ends, left_keeps, no_record_fails}
-use Rattle.draid_run.specs.Books.{AreRuns, BrokeAt, KeepBook, KeepsBook, OneRun}
+use Rattle.draid_run.specs.Books.{AreRuns, BrokeAt, KeepBook, KeepsBook, OneRun, SessionKeepsBook}
+use Rattle.draid_gen.specs.Workload.{script_of}
 use Rattle.draid_run.specs.Next.{next_desk}
-use Rattle.draid_run.specs.Script.{BreaksAt, BreaksOff, MayEndAt, RunIs, RunsFrom}
+use Rattle.draid_run.specs.Script.{BreaksAt, BreaksOff, MayEndAt, RunIs, RunsFrom, session_words}
 use Rattle.draid_pool.specs.Shelves.{OnShelf}
 use Rattle.draid_run.specs.Shelves.{HoldsBare, HoldsDesk, MayFind}
 use Rattle.draid_exits.specs.declared.status.Status.{Status}
@@ -96,10 +97,10 @@ module _ {R A : Type 0} (rack : racks.Ghosts R) (area : areas.Ghosts A) (choices
     pub tells : is_some shelf.held ≡ true
     pub keeps : Keeps (left_of last) b
 
-  run_keeps : (words : List (List ℕ)) (status : Status) (input old new : Option (List ℕ)) (entry now : OnShelf) (first : Desk) (b : Book)
+  session_keeps : (words : List (List ℕ)) (status : Status) (input old new : Option (List ℕ)) (entry now : OnShelf) (first : Desk) (b : Book)
       → RunsFrom rack area choices words status input old new entry now first → is_some entry.held ≡ true → Keeps first b
-      → (later : Book) × KeepsBook words status input old new b later × Leaves now later
-  run_keeps words status input old new entry now first b it tells keeps = (
+      → (later : Book) × SessionKeepsBook words status input old new b later × Leaves now later
+  session_keeps words status input old new entry now first b it tells keeps = (
     closed ends.book,
     record {
       lines = it.session.lines;
@@ -136,6 +137,17 @@ module _ {R A : Type 0} (rack : racks.Ghosts R) (area : areas.Ghosts A) (choices
       ends : EndsAt it.session.ended it.session.broken it.session.saids all.book it.last
       ends = ends_at it.session.lines it.session.ended it.session.broken it.session.saids it.session.mid it.last all.book asked all.keeps (left_agrees it.last entry now it.shelf now_tells) it.session.breaks
 
+  -- so does a workload, by the session on its script
+  run_keeps : (words : List (List ℕ)) (status : Status) (input old new : Option (List ℕ)) (entry now : OnShelf) (first : Desk) (b : Book)
+      → RunIs rack area choices words status input old new entry now → HoldsDesk first entry entry → is_some entry.held ≡ true → Keeps first b
+      → (later : Book) × KeepsBook words status input old new b later × Leaves now later
+  run_keeps words status input old new entry now first b (inl is) holds tells keeps =
+      let one = session_keeps words status input old new entry now first b (is first holds) tells keeps in
+      (one.0, inl one.1, one.2)
+  run_keeps words status input old new entry now first b (inr is) holds tells keeps =
+      let one = session_keeps session_words is.ended (Some (script_of is.number)) (Some []) (Some is.replied) entry now first b (is.does first holds) tells keeps in
+      (one.0, inr (record { number = is.number; asks = is.asks; ended = is.ended; replied = is.replied; does = one.1; prints = is.prints }), one.2)
+
   -- ---- several runs
 
   more_keep : (runs : List OneRun) (shelf : OnShelf) (b : Book) → Leaves shelf b → AreRuns rack area choices shelf runs → (later : Book) × KeepBook b runs later
@@ -145,7 +157,7 @@ module _ {R A : Type 0} (rack : racks.Ghosts R) (area : areas.Ghosts A) (choices
       let holds : HoldsDesk first run.entry run.entry = desk_found run.crash left.last left.entry shelf run.entry found left.holds in
       let tells = tells_found run.crash shelf shelf run.entry found refl in
       let keeps = next_keeps run.crash left.last b left.keeps in
-      let one = run_keeps run.words run.status run.input run.old run.new run.entry run.now first b (is first holds) (tells ∙ left.tells) keeps in
+      let one = run_keeps run.words run.status run.input run.old run.new run.entry run.now first b is holds (tells ∙ left.tells) keeps in
       let rest = more_keep runs run.now one.0 one.2 more in
       (rest.0, (one.0, one.1, rest.1))
 
@@ -168,5 +180,5 @@ module _ {R A : Type 0} (rack : racks.Ghosts R) (area : areas.Ghosts A) (choices
       → (book : Book) × KeepsBook words status input old new blank book
   bare_keeps words status input old new entry now is bare =
       let tells = bare_tells entry.held (λ held. held.uber ≡ None) bare in
-      let one = run_keeps words status input old new entry now Bare blank (is Bare ((as_found entry).0, bare)) tells (record { is_shut = refl; none = refl }) in
+      let one = run_keeps words status input old new entry now Bare blank is ((as_found entry).0, bare) tells (record { is_shut = refl; none = refl }) in
       (one.0, one.1)

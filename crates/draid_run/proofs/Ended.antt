@@ -13,6 +13,7 @@ use Rattle.draid_session.specs.Session.{Desk, Untouched, Bare, Made, Open, Shut,
 use Rattle.draid_pool.specs.declared.pool.Pool.{Pool}
 use Rattle.draid_exits.specs.declared.status.RecordName.{RecordName}
 use Rattle.draid_run.specs.Desks.{IsDesk, LeavesDesk}
+use Rattle.draid_words.specs.Mode.{asked}
 use Rattle.draid_run.specs.Script.{all_replies, BreaksOff, Ends, EndsWithLine, Fails, FailsShut, GetsReplies, IsSession, LaneFails, MayEndAt, Prints, RunsFrom, Shows}
 use Rattle.draid_run.specs.Serve.{LaneStopped, Served}
 use Rattle.draid_pool.specs.Shelves.{OnShelf}
@@ -235,7 +236,7 @@ module _ {R A : Type 0} (rack : racks.Ghosts R) (area : areas.Ghosts A) (choices
       shows = is.shows;
     };
     script = record {
-      usage = λ e taken. other e;
+      usage = λ e. absurd (other e);
       refused = λ wrong. absurd (wrong session);
       prints = record { between = mid; replies = is.prints; last = line };
     };
@@ -276,7 +277,7 @@ module _ {R A : Type 0} (rack : racks.Ghosts R) (area : areas.Ghosts A) (choices
 
 module _ {R A : Type 0} (rack : racks.Ghosts R) (area : areas.Ghosts A) (choices : Choices) (words : List (List ℕ)) (status : Status) (input old new : Option (List ℕ)) (entry : OnShelf) (first : Desk) (at : HoldsDesk first entry entry) where
   -- a run that does nothing but print its last line
-  run_of_none : (meant : Status) → MayEndAt Outside meant None → (meant ≡ Usage → IsSession words → ⊥) → (meant ≡ Usage) ⊎ (meant ≡ NoMemory) → ((known : Option (List ℕ)) → MatchOption known ⊤ (Ends meant None [])) → Shows meant [] []
+  run_of_none : (meant : Status) → MayEndAt Outside meant None → (meant ≡ Usage → asked words ≡ None) → (meant ≡ Usage) ⊎ (meant ≡ NoMemory) → ((known : Option (List ℕ)) → MatchOption known ⊤ (Ends meant None [])) → Shows meant [] []
       → BreaksOff [] meant None [] first first → GetsReplies meant [] old old → (HasNumber meant → ⊥) → EndsWithLine meant status old new → RunsFrom rack area choices words status input old new entry entry first
   run_of_none meant may wrong refused ends shows breaks gets plain line = elim line.is [
     | inl same ↦ record {
@@ -323,7 +324,7 @@ module _ {R A : Type 0} (rack : racks.Ghosts R) (area : areas.Ghosts A) (choices
       back (Foreign known) is = absurd is
 
   -- a run whose words aren't those of a session
-  pub run_refused : (IsSession words → ⊥) → EndsWithLine Usage status old new → RunsFrom rack area choices words status input old new entry entry first
+  pub run_refused : asked words ≡ None → EndsWithLine Usage status old new → RunsFrom rack area choices words status input old new entry entry first
   run_refused wrong = run_of_none Usage tt (λ e. wrong) (inl refl) ends_nothing refl (refl, refl) (appends_none old) (λ number. number) where
     ends_nothing : (known : Option (List ℕ)) → MatchOption known ⊤ (Ends Usage None [])
     ends_nothing None = tt

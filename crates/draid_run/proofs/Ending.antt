@@ -16,6 +16,7 @@ use Rattle.draid_session.specs.Said.{Said}
 use Rattle.draid_session.specs.Session.{Desk, Untouched, Bare, Made, Open, Shut, Foreign, Unknown, Breaks, BreaksGiven, RecordFails}
 use Rattle.draid_session.specs.State.{State}
 use Rattle.draid_run.specs.Ending.{CanRun, EndsWell, IsBuilt, IsUndisturbed, IsUntold}
+use Rattle.draid_words.specs.Mode.{asked}
 use Rattle.draid_run.specs.Script.{BreaksOff, Ends, IsSession, LineFaultIs, Prints, RunsFrom}
 use Rattle.draid_pool.specs.Shelves.{OnShelf}
 use Rattle.draid_exits.specs.Status.{last_text}
@@ -104,9 +105,9 @@ meant_is SinkFault ended text old new sink prints = absurd (sink refl)
 meant_is status ended text old new sink prints = sym prints.0
 
 module _ {R A : Type 0} (rack : racks.Ghosts R) (area : areas.Ghosts A) (choices : Choices) (words : List (List ℕ)) (input : List ℕ) (session : IsSession words) (can : CanRun input) where
-  by_end : (ended : Status) (broken : Option (List ℕ)) (lines : List (List ℕ)) (saids : List Said) (mid last : Desk) → IsUndisturbed ended → (ended ≡ Usage → IsSession words → ⊥) → BreaksOff lines ended broken saids mid last → Ends ended broken lines input → EndsWell ended mid
+  by_end : (ended : Status) (broken : Option (List ℕ)) (lines : List (List ℕ)) (saids : List Said) (mid last : Desk) → IsUndisturbed ended → (ended ≡ Usage → asked words ≡ None) → BreaksOff lines ended broken saids mid last → Ends ended broken lines input → EndsWell ended mid
   by_end Done broken lines saids mid last quiet usage breaks ends = tt
-  by_end Usage broken lines saids mid last quiet usage breaks ends = usage refl session
+  by_end Usage broken lines saids mid last quiet usage breaks ends = (let none = usage refl in let some = session.1 in absurd (cc (none, some)))
   by_end (Line line kind at) broken lines saids mid last quiet usage breaks ends =
       elim ends.0 [ inl bad ↦ not_built (line_behind lines bad.0) kind at (can.built lines bad.0 bad.1 bad.2) bad.3 | inr inside ↦ absurd (not_both (place_after Outside lines) inside.1 (subst (λ ls. IsOutside (place_after Outside ls)) inside.0 can.outside)) ]
   by_end (TooLong line) broken lines saids mid last quiet usage breaks ends = not_long input lines ends.0 can ends.1 ends.2

@@ -8,7 +8,8 @@ use Rattle.draid_session.specs.Present.{DeskReached}
 use Rattle.draid_session.specs.Said.{Said}
 use Rattle.draid_session.specs.Session.{Bare, Cause, Desk, Finding, Foreign, Made, Open, RecordFails, ShelfFails, Shut, Sitting, Unknown, Untouched}
 use Rattle.draid_session.proofs.Reaching.{breaks_reached, run_reached}
-use Rattle.draid_run.proofs.Sectioned.{all_any, on_keeps, section_reached}
+use Rattle.draid_session.proofs.LanesCalm.{section_reached}
+use Rattle.draid_run.proofs.Sectioned.{all_any, on_keeps}
 use Rattle.draid_run.specs.Next.{next_desk}
 use Rattle.draid_run.specs.Script.{BreaksAt, BreaksOff}
 use Rattle.draid_exits.specs.declared.status.Status.{Status}

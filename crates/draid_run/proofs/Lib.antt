@@ -32,3 +32,4 @@ pub mod Told
 pub mod Turned
 pub mod Unfailing
 pub mod Within
+pub mod WorkloadEnds

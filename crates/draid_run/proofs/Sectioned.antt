@@ -1,11 +1,6 @@
 -- What goes on along lines with sections, and what a section leaves of a pool.
 use Rattle.std.proofs.Common.{sym, subst, min, ◌≡◌, ◌∙◌, ◌-◌, ◌^◌, ◌≤◌, inl, inr, ℕ, List, Bool, [], ◌∷◌, Some, None, Result, Ok, Err, length}
 use Rattle.std.specs.Prelude.{⊤, slice_get}
-use Rattle.draid_spec.specs.declared.layout.Geometry.{Geometry}
-use Rattle.draid_perm.specs.declared.perms.Perms.{Perms}
-use Rattle.draid_layouts.specs.Layout.{layout_of}
-use Rattle.draid_machine.specs.Created.{IsReached}
-use Rattle.draid_machine.specs.State as machine
 use Rattle.draid_script.specs.Grammar.{lane_of, line_of}
 use Rattle.draid_script.specs.Line.{Command, InLane, LaneCommand, OpenLanes, SectionEnd, SilentLane}
 use Rattle.draid_script.specs.declared.fault.LineFault.{LineFault}
@@ -15,13 +10,10 @@ use Rattle.draid_session.specs.Known.{Known}
 use Rattle.draid_session.specs.Lanes.{Section}
 use Rattle.draid_session.specs.Looks.{AllOf}
 use Rattle.draid_session.specs.Places.{Ended, Inside, Outside, Place}
-use Rattle.draid_session.specs.Present.{AreReached}
 use Rattle.draid_session.specs.Said.{Said}
 use Rattle.draid_session.specs.Sections.{LaneTurns, OutsideTurns, PlaceTurns, RunsOn, SectionTurns}
 use Rattle.draid_session.specs.Session.{Agrees, Desk, Finding, Untouched, Bare, Made, Open, Shut, Foreign, Unknown, Sitting, SittingTurns}
 use Rattle.draid_session.specs.State.{Metaslab, State}
-use Rattle.draid_session.proofs.Present.{follows_reached}
-use Rattle.draid_session.proofs.Visited.{layout_stays}
 use Rattle.draid_run.proofs.Broke.{IsLater, follows_later}
 
 -- ---- lines
@@ -82,18 +74,3 @@ module _ (x : State) (choices : Choices) (lanes : List (List Command)) (replies 
         (follows_later t.order x t.reached t.follows).each k m (t.same ∙ there));
     uber = (let t = s.together.each None in subst (λ n. min x.uber_count (2 ^ 64 - 1) ≤ n) t.same.5 (follows_later t.order x t.reached t.follows).uber);
   }
-
-  -- legal histories give the states of its metaslabs
-  pub section_reached : AreReached x → AreReached y
-  section_reached r = record {
-    layout = λ m. subst (λ (g : Geometry). machine.IsLayout (layout_of g y.perms m)) s.together.rest.geometry (subst (λ (p : Perms). machine.IsLayout (layout_of x.geometry p m)) s.together.rest.perms (r.layout m));
-    each = λ m z there. at m z there;
-  }
-    where
-      at : (m : ℕ) (z : Metaslab) → slice_get y.metaslabs m ≡ Some z → IsReached (layout_of y.geometry y.perms m) z.world
-      at m z there =
-          let t = s.together.each (Some m) in
-          let same = layout_stays t.order x t.reached t.follows in
-          let is = (follows_reached t.order x t.reached t.follows r).each m z (t.same ∙ there) in
-          subst (λ (g : Geometry). IsReached (layout_of g y.perms m) z.world) (same.0 ∙ s.together.rest.geometry)
-          (subst (λ (p : Perms). IsReached (layout_of t.reached.geometry p m) z.world) (same.1 ∙ s.together.rest.perms) is)

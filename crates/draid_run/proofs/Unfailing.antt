@@ -299,7 +299,7 @@ module _ (entry now : OnShelf) (none : NothingRose entry now) where
 
 -- ---- the run
 
-meant_shelf : (status ended : Status) (text : List ℕ) (old new : Option (List ℕ)) → Prints status ended text old new → status ≡ ShelfFault → ended ≡ ShelfFault
+pub meant_shelf : (status ended : Status) (text : List ℕ) (old new : Option (List ℕ)) → Prints status ended text old new → status ≡ ShelfFault → ended ≡ ShelfFault
 meant_shelf status ended text old new prints is = sym (subst (λ s. Prints s ended text old new) is prints).0
 
 pub unfailing : {R A : Type 0} (rack : racks.Ghosts R) (area : areas.Ghosts A) (choices : Choices) (words : List (List ℕ)) (status : Status) (input : List ℕ) (old new : Option (List ℕ)) (entry now : OnShelf) (first : Desk)

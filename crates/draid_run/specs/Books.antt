@@ -1,5 +1,5 @@
 -- Runs in words of objects alone: what the input of a run and its sink say of the objects, and those of several runs over one shelf.
-use Rattle.std.specs.Prelude.{◌≡◌, ⊤, ℕ, Bool, List, [], ◌∷◌, Option, Some, None, MatchOption}
+use Rattle.std.specs.Prelude.{◌≡◌, ◌⊎◌, ⊤, ℕ, Bool, List, [], ◌∷◌, Option, Some, None, MatchOption}
 use Rattle.draid_rack.specs.declared.Rack as racks
 use Rattle.draid_area.specs.declared.Area as areas
 use Rattle.draid_session.specs.Said.{Said}
@@ -8,7 +8,7 @@ use Rattle.draid_session.specs.Book.{Book}
 use Rattle.draid_session.specs.Places.{Place}
 use Rattle.draid_session.specs.Sections.{AnswersRun}
 use Rattle.draid_run.specs.Next.{IsFound}
-use Rattle.draid_run.specs.Script.{Ends, IsScript, MayEndAt, RunIs, Shows, all_replies}
+use Rattle.draid_run.specs.Script.{Ends, IsScript, IsWorkload, MayEndAt, RunIs, Shows, all_replies}
 use Rattle.draid_pool.specs.Shelves.{OnShelf}
 use Rattle.draid_exits.specs.declared.status.Status.{Status}
 use Rattle.draid_exits.specs.declared.status.Status.TheVariants.{ShelfFault, Record}
@@ -20,8 +20,8 @@ BrokeAt (Record which at kind) broken = ⊥
 BrokeAt ended None = ⊤
 BrokeAt ended (Some text) = ⊥
 
--- A run from one book to another: lines of its input were answered by replies, as the book has it; it ended for a cause; and the sink got the replies' texts and the last line.
-pub record KeepsBook (words : List (List ℕ)) (status : Status) (input old new : Option (List ℕ)) (before after : Book) : Type 0 where
+-- A session from one book to another: lines of its input were answered by replies, as the book has it; it ended for a cause; and the sink got the replies' texts and the last line.
+pub record SessionKeepsBook (words : List (List ℕ)) (status : Status) (input old new : Option (List ℕ)) (before after : Book) : Type 0 where
   pub lines : List (List ℕ)
   pub replies : List (List Said)
   pub shown : List Said
@@ -35,6 +35,11 @@ pub record KeepsBook (words : List (List ℕ)) (status : Status) (input old new 
   pub ends : MatchOption input ⊤ (Ends ended broken lines)
   pub shows : Shows ended (all_replies replies saids) shown
   pub script : IsScript words status ended lines shown old new
+
+-- A run from one book to another: such a session, or a workload, whose summary is that of the replies of such a session.
+abbrev pub KeepsBook : List (List ℕ) → Status → Option (List ℕ) → Option (List ℕ) → Option (List ℕ) → Book → Book → Type 0
+KeepsBook words status input old new before after =
+    SessionKeepsBook words status input old new before after ⊎ IsWorkload (λ by ended script nothing replied. SessionKeepsBook by ended script nothing replied before after) words status old new
 
 -- ---- several runs
 

@@ -18,7 +18,7 @@ mod sections;
 mod serve;
 mod top;
 mod turns;
-mod words;
+mod workloads;
 
 pub use books::runs_keep_the_book;
 pub use draid_exits::{LineRefusal, RecordName, Status};

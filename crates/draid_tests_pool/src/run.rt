@@ -451,14 +451,13 @@ fn areas_that_fail_end_the_run(rt: HostRuntime) {
     }
 }
 
-/// Words that ask for nothing, and words that ask for what isn't built.
-static REFUSED: [&str; 7] = [
+/// Words that ask for nothing.
+static REFUSED: [&str; 6] = [
     "frob",
     "workload",
     "workload 1 2",
     "session 1",
     "workload x",
-    "workload 1",
     "session --dir",
 ];
 

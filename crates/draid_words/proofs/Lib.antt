@@ -1,2 +1,2 @@
 mod Rows
-mod Samples
+pub mod Samples

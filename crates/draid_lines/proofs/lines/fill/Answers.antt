@@ -1,5 +1,5 @@
 use Rattle.std.proofs.lemmas.Result.{IfOk-from_err}
-use Rattle.draid_lines.proofs.Apart.{ok_no_err, err_no_ok, some_no_none}
+use Rattle.draid_lines.proofs.Apart.{ok_no_err}
 use Rattle.std.proofs.Common.{rules, arith, inl}
 use Rattle.draid_lines.proofs.Ends.{found_behind, none_behind}
 use Rattle.draid_lines.proofs.Given.{takes_more}

@@ -1,6 +1,6 @@
 use Rattle.std.proofs.Common.{refl, subst, List, ℕ}
 use Rattle.draid_lines.specs.Lines.{Takes}
-use Rattle.draid_lines.proofs.Apart.{ok_no_err, err_no_ok, some_no_none}
+use Rattle.draid_lines.proofs.Apart.{ok_no_err}
 use Rattle.draid_lines.proofs.lines.find_end.Goals as goal
 
 pub returns-in-Some-clause-start : goal.returns-in-Some-clause-start
