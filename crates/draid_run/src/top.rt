@@ -113,9 +113,10 @@ pub(crate) fn run_session<
     end_run(alloc, sink, ended)
 }
 
-/// Does what the words ask for, which are those of the command line behind the program's name: runs the script of
-/// `source` on the pool of `shelf`, with its replies to `sink`, or that of a workload, whose summary the sink gets. The chooser names the metaslab that a new block goes to, and the policy the
-/// spare that a slot gets from the repair agent. The lanes of sections are run by `sections`.
+/// Does what the words of the command line behind the program's name ask for, on the pool of `shelf`: a session on the
+/// script of `source`, with its replies to `sink`, or one on that of a workload, of which the sink gets the summary. The
+/// chooser names the metaslab that a new block goes to, and the policy the spare that a slot gets from the repair agent.
+/// The lanes of sections are run by `sections`.
 pub fn run<
     H: Shelf,
     S: Source,
