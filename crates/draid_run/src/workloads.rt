@@ -10,10 +10,10 @@ ghost use Rattle.draid_run.specs.Script.{PrintsWorkload, RunIs, input_of};
 ghost use Rattle.draid_run.specs.Shelves.{DeviceFailed};
 
 use crate::sections::Sections;
-use draid_exits::Status;
 use crate::top::{end_run, put_last, run_session};
 use draid_agent::Policy;
 use draid_choose::Chooser;
+use draid_exits::Status;
 use draid_gen::workload;
 use draid_lines::{MemorySink, Sink, Text};
 use draid_names::{NoMemory, Room};
