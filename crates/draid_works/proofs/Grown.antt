@@ -1,5 +1,5 @@
 -- What befell objects by a lane's command is of objects that the lane owns.
-use Rattle.std.proofs.Common.{◌≡◌, ◌+◌, ◌++◌, ◌∷◌, ◌∙◌, [], ℕ, zero, suc, Bool, true, List, Option, arith, sym, ap, inl, inr, None}
+use Rattle.std.proofs.Common.{◌≡◌, ◌+◌, ◌++◌, ◌∷◌, ◌∙◌, [], ℕ, zero, suc, Bool, true, List, Option, arith, sym, ap, inl, inr, None, Some}
 use Rattle.std.proofs.lemmas.List.{append_assoc}
 use Rattle.std.proofs.lemmas.List.Elements.{All-append, All-cons, All-nil}
 use Rattle.draid_names.specs.declared.refusal.WriteFault.{WriteFault}
