@@ -265,7 +265,6 @@ module _ {R A G W : Type 0} (rack : racks.Ghosts R) (area : areas.Ghosts A) (x z
         valid = g.uber.valid;
         layout = g.uber.layout;
         version = g.uber.version;
-        point = g.uber.point;
         kept = g.uber.kept;
         next_leaf = g.uber.next_leaf;
         point = g.uber.point;
