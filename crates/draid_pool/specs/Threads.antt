@@ -26,6 +26,7 @@ use Rattle.draid_pool.specs.Pools.{part_in}
 use Rattle.draid_pool.specs.Follows.{FollowsBy}
 use Rattle.draid_pool.specs.Drifts.{KeepsBytes, KeepsGroups, Since, groups_number}
 use Rattle.draid_shard.specs.declared.shard.Shard.{Shard}
+use Rattle.draid_objects.specs.Marks.{Dropped, Mark, check_by, is_dropped}
 
 -- ---- what the blocks are of a thread's own objects
 
@@ -43,8 +44,13 @@ module _ (owns : ℕ → Bool) where
   abbrev pub own_changes : List Change → List Change
   own_changes changes = filter (λ c. owns (object_of c)) changes
 
+  -- what befell the checkpoint by its own blocks, and by all
+  abbrev pub is_own_mark : Mark → Bool
+  is_own_mark (Dropped key group) = owns key.object
+  is_own_mark mark = true
+
   abbrev pub own_store : Store → Store
-  own_store store = record store { changes = own_changes store.changes }
+  own_store store = record store { changes = own_changes store.changes; marks = filter is_own_mark store.marks }
 
 -- no metaslab has committed a later group
 abbrev pub Bounds : State → ℕ → Type 0
@@ -55,7 +61,7 @@ Bounds x c = (m : ℕ) (y : Metaslab) → slice_get x.metaslabs m ≡ Some y →
 -- to be freed lies where none is.
 pub record HoldsBut (owns : ℕ → Bool) (mine lives : ℕ → Key → Bool) (x : State) (pieces : ℕ → Pieces) : Type 0 where
   pub holds : (c : ℕ) → Bounds x c → HoldsObjects x.geometry c (own_store owns x.store) (own_blocks mine (blocks_of x.metaslabs)) pieces
-  pub only : (m : ℕ) (k : Key) (h : Held) → own_blocks lives (blocks_of x.metaslabs) m k ≡ Some h → h.stage ≡ Live → IsLastAt m k (write_of (own_changes owns x.store.changes) k.object)
+  pub only : (m : ℕ) (k : Key) (h : Held) → own_blocks lives (blocks_of x.metaslabs) m k ≡ Some h → h.stage ≡ Live → is_dropped (check_by (own_store owns x.store).marks) k ≡ false → IsLastAt m k (write_of (own_changes owns x.store.changes) k.object)
 
 -- all of them are
 abbrev pub HoldsOwn : (ℕ → Bool) → State → (ℕ → Pieces) → Type 0
