@@ -155,15 +155,14 @@ module _ (x : State) (m : ℕ) (y z : Metaslab) (at : slice_get x.metaslabs m �
     pub but_drifts : HoldsBut owns mine lives x pieces → HoldsBut owns mine lives (with_metaslab x m z) (turn m now pieces)
     but_drifts own = record {
       holds = λ c b. all c b (own.holds c (bound_before c later b)) (all_drop mine drops c (bound_there c b));
-      only = λ n k h there live. own.only n k h (held_before lives drops_live n k h there) live;
+      only = λ n k h there live counts. own.only n k h (held_before lives drops_live n k h there) live counts;
     }
       where
         all : (c : ℕ) → Bounds (with_metaslab x m z) c → HoldsObjects x.geometry c (own_store owns x.store) (own_blocks mine (blocks_of x.metaslabs)) pieces
             → Drops c (own_blocks mine (blocks_of x.metaslabs)) (own_blocks mine (blocks_of after)) → HoldsObjects x.geometry c (own_store owns x.store) (own_blocks mine (blocks_of after)) (turn m now pieces)
         all c b o d = record {
-          stores = commit_kept sha256 c (own_changes owns x.store.changes) [] (own_blocks mine (blocks_of x.metaslabs)) (own_blocks mine (blocks_of after)) o.stores c (omega arith) d;
+          stores = commit_kept sha256 c (own_changes owns x.store.changes) (own_store owns x.store).marks (own_blocks mine (blocks_of x.metaslabs)) (own_blocks mine (blocks_of after)) o.stores c (omega arith) d;
           floors = λ object. commit_floor (own_changes owns x.store.changes) (own_blocks mine (blocks_of x.metaslabs)) (own_blocks mine (blocks_of after)) c object x.store.floor (o.floors object) d;
-          unmarked = o.unmarked;
           settled = λ n k h there. o.settled n k h (held_before mine drops n k h there);
           numbered = λ n k h there. o.numbered n k h (held_before mine drops n k h there);
           bytes = λ n k h w there by. own_bytes c o n k h w (held_before mine drops n k h there) by;

@@ -37,11 +37,6 @@ not_pointed marks held none = no_check marks held (ap check_by none)
 pub not_kept : (marks : List Mark) (birth : ℕ) → marks ≡ [] → KeepsBirth marks birth → ⊥
 not_kept marks birth none (check, there, low) = none_some (check_by marks) check (ap check_by none) there
 
--- a thread knows so of the marks
-pub known_unmarked : {R A : Type 0} (rack : racks.Ghosts R) (area : areas.Ghosts A) (owns : ℕ → Bool) (mine lives : ℕ → Key → Bool) (last : ℕ → Option (Shard R A)) (table : ℕ → Option Pointer) (number group : ℕ) (pieces : ℕ → Pieces) (x : State)
-    → KnowsBut rack area owns mine lives last table number group pieces x → x.store.marks ≡ []
-known_unmarked rack area owns mine lives last table number group pieces x k = (k.holds.holds (bound_in x.metaslabs) (all_low x)).unmarked
-
 -- nothing befell it later
 pub not_late : (committed : ℕ) (marks : List Mark) → marks ≡ [] → HasLateMark committed marks → ⊥
 not_late committed marks none late = All-contains (λ (m : Mark). ⊥) marks late.mark (subst (All (λ (m : Mark). ⊥)) (sym none) (All-nil (λ (m : Mark). ⊥))) late.there

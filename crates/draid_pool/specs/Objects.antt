@@ -1,5 +1,5 @@
 -- How the metaslabs of an open pool hold its objects.
-use Rattle.std.specs.Prelude.{◌≡◌, ◌≤◌, ◌+◌, ⊤, ℕ, true, List, [], Option, Some, None, length, option_map, slice_get, slice_index, ◌<◌, max}
+use Rattle.std.specs.Prelude.{◌≡◌, ◌≤◌, ◌+◌, ⊤, ℕ, true, List, [], Option, Some, None, length, option_map, slice_get, slice_index, max}
 use Rattle.sha2.specs.Sha256.{sha256}
 use Rattle.draid_gf.specs.Field.{IsByte}
 use Rattle.draid_names.specs.declared.numbers.TheConstants.{LAST_NUMBER}
@@ -12,14 +12,13 @@ use Rattle.draid_machine.specs.Names.{is_block}
 use Rattle.draid_machine.specs.State as machine
 use Rattle.draid_objects.specs.Blocks.{Blocks, held_in}
 use Rattle.draid_objects.specs.Changes.{Write, key_of, write_by}
-use Rattle.draid_objects.specs.Stores.{IsFloor, Stores, AreMarkedUpto}
+use Rattle.draid_objects.specs.Stores.{AreMarkedUpto, IsBehindChecks, IsFloor, Stores}
 use Rattle.draid_segments.specs.Segments.{Pieces}
 use Rattle.draid_shard.specs.Looks.{IsLive}
 use Rattle.draid_shard.specs.Columns.{ArePieces}
 use Rattle.draid_shard.specs.declared.shard.Shard.{Shard}
 use Rattle.draid_session.specs.Rooms.{stripes_for}
 use Rattle.draid_session.specs.State.{Metaslab, State, Store}
-use Rattle.draid_objects.specs.Marks.{Check, check_at}
 
 -- the states of the metaslabs, by number, and what they hold
 abbrev pub worlds_of : List Metaslab → ℕ → Option machine.State
@@ -54,7 +53,7 @@ pub record HasGroups (x : State) : Type 0 where
   pub committed : (m : ℕ) (y : Metaslab) → slice_get x.metaslabs m ≡ Some y → y.world.committed ≡ x.committed
   pub next : x.store.floor ≤ x.committed + 2
   pub last : x.store.floor ≤ LAST_NUMBER
-  pub checks : (t : ℕ) (check : Check) → x.committed ≤ t → check_at t x.store.marks ≡ Some check → (m : ℕ) (y : Metaslab) → slice_get x.metaslabs m ≡ Some y → check.group < y.world.open_group
+  pub checks : (m : ℕ) (y : Metaslab) → slice_get x.metaslabs m ≡ Some y → IsBehindChecks x.committed x.store.marks y.world.open_group
   pub marked : AreMarkedUpto (max x.store.floor (x.committed + 1)) x.store.marks
 
 -- a block is that of an object's last write

@@ -37,6 +37,7 @@ pub record KeepsImages (old new : machine.State) : Type 0 where
   pub leaves : (leaf : ℕ) → IsSome (new.core.arm (Leaf leaf)) → IsSome (old.core.arm (Leaf leaf))
   pub asked : new.asked ≡ old.asked
   pub arms : SameArms new.core old.core
+  pub opens : old.open_group ≤ new.open_group
 
 -- Holds of a metaslab led to one for which the shard stands, with these pieces.
 pub record Goes {R A : Type 0} (rack : racks.Ghosts R) (area : areas.Ghosts A) (part : Part) (pieces : Pieces) (x : Metaslab) (new : Shard R A) (does : List Hold → Metaslab → Type 0) : Type 0 where
