@@ -1,9 +1,9 @@
 -- What is said of a pool's marks, of later groups.
-use Rattle.std.proofs.Common.{◌≤◌, ◌≡◌, ℕ, List, Some, arith}
+use Rattle.std.proofs.Common.{◌≤◌, ℕ, List, arith}
 use Rattle.std.specs.Prelude.{max}
 use Rattle.std.proofs.lemmas.Bool.Decides.{nat_tests}
 use Rattle.std.proofs.lemmas.List.Elements.{All-weaker}
-use Rattle.draid_objects.specs.Marks.{Check, Mark, mark_group}
+use Rattle.draid_objects.specs.Marks.{Mark, mark_group}
 use Rattle.draid_objects.specs.Stores.{AreMarkedUpto, IsBehindChecks}
 
 pub max_up : (a b c : ℕ) → a ≤ b → max a c ≤ max b c

@@ -1,17 +1,8 @@
 -- Where there is no checkpoint no group has one.
-use Rattle.std.proofs.Common.{◌≡◌, ◌≤◌, ℕ, List, [], None, ap, refl, subst, sym, Bool, Option}
+use Rattle.std.proofs.Common.{◌≡◌, ◌≤◌, ℕ, List, [], None, ap, refl, subst, sym}
 use Rattle.std.specs.Prelude.{All}
 use Rattle.std.proofs.lemmas.List.Elements.{All-contains, All-nil}
-use Rattle.draid_names.specs.declared.pointer.Pointer.{Pointer}
-use Rattle.draid_rack.specs.declared.Rack as racks
-use Rattle.draid_area.specs.declared.Area as areas
 use Rattle.draid_machine.specs.declared.names.Held.{Held}
-use Rattle.draid_machine.specs.declared.names.Key.{Key}
-use Rattle.draid_segments.specs.Segments.{Pieces}
-use Rattle.draid_shard.specs.declared.shard.Shard.{Shard}
-use Rattle.draid_session.specs.State.{State}
-use Rattle.draid_pool.specs.Threads.{KnowsBut}
-use Rattle.draid_pool.proofs.Finds.{all_low, bound_in}
 use Rattle.draid_machine.proofs.Small.{none_some}
 use Rattle.draid_objects.specs.Marks.{Mark, check_by, mark_group}
 use Rattle.draid_objects.specs.Stores.{AreMarkedUpto, IsBehindChecks, IsSpare}

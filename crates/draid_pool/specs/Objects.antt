@@ -1,5 +1,5 @@
 -- How the metaslabs of an open pool hold its objects.
-use Rattle.std.specs.Prelude.{◌≡◌, ◌≤◌, ◌+◌, ⊤, ℕ, true, List, [], Option, Some, None, length, option_map, slice_get, slice_index, max}
+use Rattle.std.specs.Prelude.{◌≡◌, ◌≤◌, ◌+◌, ⊤, ℕ, true, List, Option, Some, None, length, option_map, slice_get, slice_index, max}
 use Rattle.sha2.specs.Sha256.{sha256}
 use Rattle.draid_gf.specs.Field.{IsByte}
 use Rattle.draid_names.specs.declared.numbers.TheConstants.{LAST_NUMBER}
