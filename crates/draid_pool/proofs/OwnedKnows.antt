@@ -1,6 +1,6 @@
 -- A thread that owns all objects of a pool, with nobody beside it, knows what the pool stands for.
 use Rattle.std.proofs.Common.{◌≡◌, ◌≤◌, ◌∙◌, inl, arith, ℕ, Bool, true, List, [], ◌∷◌, Option, Some, None, refl, sym, ap, subst}
-use Rattle.std.specs.Prelude.{false, filter, slice_get, nat_eq}
+use Rattle.std.specs.Prelude.{◌+◌, false, filter, max, slice_get, nat_eq}
 use Rattle.std.specs.HashMap.{get}
 use Rattle.sha2.specs.Sha256.{sha256}
 use Rattle.draid_names.specs.declared.pointer.Pointer.{Pointer}
@@ -10,7 +10,11 @@ use Rattle.draid_objects.specs.Changes.{Change, Write, write_of}
 use Rattle.draid_objects.proofs.Keeping.{commit_kept}
 use Rattle.draid_shard.specs.Part.{Part}
 use Rattle.draid_shard.specs.declared.shard.Shard.{Shard}
-use Rattle.draid_session.specs.State.{State, Store}
+use Rattle.draid_session.specs.State.{Metaslab, State, Store}
+use Rattle.std.proofs.lemmas.Option.{slice_get_within}
+use Rattle.draid_objects.specs.Stores.{AreMarkedUpto, IsBehindChecks}
+use Rattle.draid_pool.proofs.Marked.{behind_later, marked_later, max_next}
+use Rattle.draid_pool.proofs.Wholes.{open_high}
 use Rattle.draid_objects.specs.Marks.{Dropped, GivenUp, Made, Mark, check_by, is_dropped}
 use Rattle.draid_pool.specs.Objects.{HoldsObjects, IsLastAt, PointsTo, blocks_of}
 use Rattle.draid_pool.specs.Pools.{Represents, Stands}
@@ -119,6 +123,10 @@ module _ {R A : Type 0} (rack : racks.Ghosts R) (area : areas.Ghosts A) where
           bytes = s.holds.bytes;
         });
         only = λ m k h at live counts. subst (λ (z : Store). IsLastAt m k (write_of z.changes k.object)) (sym (all_store x.store)) (r.only m k h at live (subst (λ (z : Store). is_dropped (check_by z.marks) k ≡ false) (all_store x.store) counts));
+        checks = λ c b m y at. subst (λ (z : Store). IsBehindChecks c z.marks y.world.open_group) (sym (all_store x.store))
+            (behind_later x.committed c y.world.open_group y.world.open_group x.store.marks (low c b) (omega arith) (s.groups.checks m y at));
+        marked = λ m y at. subst (λ (z : Store). AreMarkedUpto (max x.store.floor y.world.open_group) z.marks) (sym (all_store x.store))
+            (marked_later (max x.store.floor (x.committed + 1)) (max x.store.floor y.world.open_group) x.store.marks (max_next x.store.floor (x.committed + 1) y.world.open_group (open_behind m y at)) s.groups.marked);
       };
       objects = λ o mine. points_in pool.metaslabs.shards.items (table_in pool o) (write_of x.store.changes o) (s.objects o);
       seq = s.seq;
@@ -128,6 +136,16 @@ module _ {R A : Type 0} (rack : racks.Ghosts R) (area : areas.Ghosts A) where
     where
       s : Stands rack area pool (table_in pool) x
       s = r.stands
+
+      open_behind : (m : ℕ) (y : Metaslab) → slice_get x.metaslabs m ≡ Some y → x.committed + 1 ≤ y.world.open_group
+      open_behind m y at =
+          let shard = present pool.metaslabs.shards.items m (let inside = slice_get_within x.metaslabs m y at in let many = s.shards in omega (arith, inside, many)) in
+          let is = s.each m shard.0 y shard.1 at in
+          let high = open_high shard.0.open_group shard.0.closing shard.0.committed shard.0.sealed is.valid.groups in
+          let open_is = is.stands.is_in.open_group_is in
+          let committed_is = is.stands.is_in.committed in
+          let same = s.groups.committed m y at in
+          omega (arith, high, open_is, committed_is, same)
 
       low : (c : ℕ) → Bounds x c → x.committed ≤ c
       low c b =
