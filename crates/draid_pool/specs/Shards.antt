@@ -76,8 +76,10 @@ pub record FreesIn (m : ℕ) (pointer : Pointer) (floor group : ℕ) (x : Metasl
   pub held : Held
   pub found : x.world.core.held (key_of pointer) ≡ Some held
   pub live : held.stage ≡ Live
+  pub birth : held.birth ≡ pointer.birth
   pub made : y.world.core.held ≡ set_held x.world.core.held (key_of pointer) (Some (record held { stage = Freed group }))
   pub committed : y.world.committed ≡ x.world.committed
+  pub open_group_is : y.world.open_group ≡ x.world.open_group
 
 -- ---- damage
 
