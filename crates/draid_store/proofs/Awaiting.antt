@@ -23,7 +23,7 @@ use Rattle.draid_store.specs.Open.{KnowsEarlier}
 use Rattle.draid_shard.specs.declared.shard.Shard.{Shard}
 use Rattle.draid_store.proofs.Older.{earlier_step}
 use Rattle.draid_pool.proofs.Contents.{all_long}
-use Rattle.draid_pool.proofs.Finds.{Found, found_drops, found_later, looks, points_at_on}
+use Rattle.draid_pool.proofs.Finds.{Found, found_drops, found_later, found_opens, looks, points_at_on}
 use Rattle.draid_pool.proofs.Hiding.{but_inside}
 use Rattle.draid_pool.proofs.BytesKept.{still_bytes}
 use Rattle.draid_pool.proofs.HoldStep.{each_on, f, follows, here, live_key, pointer_at_on}
@@ -67,7 +67,8 @@ module _ {R A S : Type 0} (rack : racks.Ghosts R) (area : areas.Ghosts A) (went 
         but_it = record {
           each = each_on rack area went shared owns a b last new p.metaslab shard before after there drifts still.valid is goes (all_of owns) lives table seq floor known.pieces x known.but_it z.z z.now it;
           holds = but_drifts x p.metaslab y.0 z.z y.1 owns (all_of owns) lives known.pieces z.now
-              (found_later rack area shared owns shard before drifts (part_in x p.metaslab) (known.pieces p.metaslab) z.now y.0 z.z y.2 z.is) stays
+              (found_later rack area shared owns shard before drifts (part_in x p.metaslab) (known.pieces p.metaslab) z.now y.0 z.z y.2 z.is)
+              (found_opens rack area shared owns shard before drifts (part_in x p.metaslab) (known.pieces p.metaslab) z.now y.0 z.z y.2 z.is) stays
               (λ k seen. stays k (but_inside (all_of owns) p.metaslab (key_of p) p.metaslab k seen)) (all_long rack area (part_in x p.metaslab) (known.pieces p.metaslab) shard y.0 y.2) z.same known.but_it.holds;
           objects = λ q own_q. points_at_on last new (table q) (write_of x.store.changes q) (λ t w t_is w_is pt. on q t w own_q (pt.object_is ∙ write_object x.store.changes q w w_is) pt) (known.but_it.objects q own_q);
           seq = known.but_it.seq;

@@ -1,11 +1,13 @@
 -- The block that an object had before is freed.
-use Rattle.std.specs.Prelude.{◌≡◌, ℕ, Bool, false, Option, Some, None, ◌∷◌, ◌⊎◌, ◌≤◌, All, nat_eq, if◌then◌else◌}
+use Rattle.std.specs.Prelude.{◌≡◌, ℕ, Bool, false, Option, Some, None, ◌∷◌, ◌⊎◌, ◌≤◌, All, nat_eq, if◌then◌else◌, List}
 use Rattle.draid_machine.specs.Names.{key_eq}
 use Rattle.draid_entries.specs.Maps.{key_of}
 use Rattle.draid_names.specs.declared.pointer.Pointer.{Pointer}
 use Rattle.draid_rack.specs.declared.Rack as racks
 use Rattle.draid_area.specs.declared.Area as areas
-use Rattle.draid_objects.specs.Changes.{Write, write_of, key_of}
+use Rattle.draid_objects.specs.Changes as changes
+use Rattle.draid_objects.specs.Changes.{Write, write_of}
+use Rattle.draid_session.specs.Holds.{Hold}
 use Rattle.draid_session.specs.Looks.{OnlyLooks}
 use Rattle.draid_session.specs.State.{State, Store}
 use Rattle.draid_session.specs.Writes.{FreesBlock, DropsBlock}
@@ -43,7 +45,7 @@ HasLoose store object = (w : Write) → write_of store.changes object ≡ Some w
 pub record DropsEarlier (x : State) (we : Write) (floor : ℕ) (holds : List Hold) (store : Store) : Type 0 where
   pub group : ℕ
   pub drops : DropsBlock we floor group holds
-  pub made : store ≡ record x.store { marks = Dropped (key_of we) group ∷ x.store.marks; floor = group }
+  pub made : store ≡ record x.store { marks = Dropped (changes.key_of we) group ∷ x.store.marks; floor = group }
 
 -- it is freed, or it is to be tried again
 abbrev pub EarlierSays : {R A S : Type 0} → racks.Ghosts R → areas.Ghosts A → (S → ℕ → Shard R A → Shard R A → S → Type 0) → Bool → (owns now_owns : ℕ → Bool) → (last now : ℕ → Option (Shard R A)) → S → S → Pointer → (table then_table : ℕ → Option Pointer) → (seq floor : ℕ) → State → Write → Option ℕ → Type 0
@@ -70,7 +72,7 @@ pub record IsWholeBeside {R A : Type 0} (rack : racks.Ghosts R) (area : areas.Gh
 pub record RepresentsBut {R A : Type 0} (rack : racks.Ghosts R) (area : areas.Ghosts A) (pool : Pool R A) (pointer : Pointer) (we : Write) (x : State) : Type 0 where
   pub stands : Stands rack area pool (get nat_eq pool.own.objects) x
   pub only : (m : ℕ) (k : Key) (h : Held) → blocks_of x.metaslabs m k ≡ Some h → h.stage ≡ Live → is_dropped (check_by x.store.marks) k ≡ false
-      → ((m ≡ pointer.metaslab) × (k ≡ key_of we)) ⊎ IsLastAt m k (write_of x.store.changes k.object)
+      → ((m ≡ pointer.metaslab) × (k ≡ changes.key_of we)) ⊎ IsLastAt m k (write_of x.store.changes k.object)
   pub had : IsPointerOf pool.metaslabs.shards.items pointer we
   pub kept : KeepsBirth x.store.marks we.birth
   pub later : write_of x.store.changes we.object ≡ Some we → ⊥

@@ -1,4 +1,4 @@
-ghost use Rattle.std.specs.Prelude.{◌≡◌, ◌≤◌, ◌+◌, ⊤, ℕ, Option, None, Some, false, max, nat_eq, true};
+ghost use Rattle.std.specs.Prelude.{◌≡◌, ◌≤◌, ◌+◌, ⊤, ℕ, Ok, Option, None, Some, false, max, nat_eq, true};
 ghost use Rattle.std.specs.HashMap.{get};
 ghost use Rattle.draid_names.specs.declared.numbers.TheConstants.{LAST_NUMBER};
 ghost use Rattle.draid_machine.specs.declared.names.Stage.TheVariants.{Freed};
@@ -186,14 +186,14 @@ pub struct DropOp {
 }
 
 impl<R: Rack, A: Area> Act<Shard<R, A>> for DropOp {
-    ghost use Rattle.std.specs.Prelude.{Some, max};
-    ghost use Rattle.draid_pool.specs.Drifts.{groups_number};
+    ghost use Rattle.std.specs.Prelude.{None, max};
+    ghost use Rattle.draid_shard.specs.Fits.{Valid};
 
-    ghost needs = { λ o s. ⊤ };
+    ghost needs = { λ _ s. Valid R.Rack s };
 
     ghost relates = { λ o s o' s'. (o'.out ≡ max s.open_group o.floor) × (s' ≡ s) };
 
-    ghost concerns = { λ o. Some groups_number };
+    ghost concerns = { λ _. None };
 
     fn concerned(&self) -> Option<u64> {
         None
@@ -224,6 +224,29 @@ pub(crate) fn drop_earlier<R: Rack, A: Area>(pool: &mut Pool<R, A>, pointer: Poi
     pool.own.floor = op.out;
 }
 
+/// Drops the block of an object to the checkpoint, which keeps it, in the group in which it would be freed. The object has
+/// no bytes then.
+fn drop_object<R: Rack, A: Area>(pool: &mut Pool<R, A>, object: u64, pointer: Pointer)
+    requires whole { IsWhole R.Rack A.Area pool.old }
+    requires has { get nat_eq pool.old.own.objects object ≡ Some pointer }
+    requires kept { holds_birth (point_of pool.old.uber).group pointer.birth ≡ true }
+    ensures whole { IsWhole R.Rack A.Area pool.new }
+    ensures frees { FreeTakes object pool.old pool.new (Ok tt) }
+    ensures step { (x : State) → Represents R.Rack A.Area pool.old x
+        → CarriesOut R.Rack A.Area pool.new x (FreeDoes x object (Ok tt)) }
+{
+    let op = pool.metaslabs.hold(
+        pointer.metaslab,
+        DropOp {
+            floor: pool.own.floor,
+            out: 0,
+        },
+    );
+    pool.uber.drop_block(pointer.object, pointer.seq, op.out);
+    pool.own.floor = op.out;
+    pool.own.objects.remove(&object);
+}
+
 /// The pointer of an object whose block the checkpoint keeps.
 fn kept_pointer<R: Rack, A: Area>(pool: &Pool<R, A>, object: u64) -> Option<Pointer>
     ensures { KeptIs (point_of pool.now.uber).group (get nat_eq pool.now.own.objects object) result }
@@ -244,8 +267,7 @@ pub fn free<R: Rack, A: Area>(pool: &mut Pool<R, A>, object: u64) -> Result<(), 
         → CarriesOut R.Rack A.Area pool.new x (FreeDoes x object result) }
 {
     if let Some(pointer) = kept_pointer(pool, object) {
-        pool.own.objects.remove(&object);
-        drop_earlier(pool, pointer);
+        drop_object(pool, object, pointer);
         return Ok(());
     }
     match free_object(&mut pool.metaslabs, &mut pool.own, object) {
