@@ -11,6 +11,7 @@ use Rattle.draid_shard.specs.Part.{layout_in}
 use Rattle.draid_session.specs.Holds.{Looked, On, view_of}
 use Rattle.draid_session.specs.Looks.{OnlyLooks}
 use Rattle.draid_session.specs.State.{Metaslab, State}
+use Rattle.draid_session.specs.Points.{KeepsBirth}
 use Rattle.draid_pool.specs.Metaslabs.{IsMetaslab}
 use Rattle.draid_pool.specs.Pools.{part_in}
 use Rattle.draid_pool.proofs.Lastly.{write_object}
@@ -82,6 +83,6 @@ module _ {R A S : Type 0} (rack : racks.Ghosts R) (area : areas.Ghosts A) (went 
       };
     }
 
-  pub earlier_says : (out : Option ℕ) → FreesShard rack area before p floor out after → EarlierSays rack area went shared owns owns last new a b p table table seq floor x we out
-  earlier_says None s = await_step (early_still rack area before after s.valid s.did.same)
-  earlier_says (Some group) s = earlier_step rack area went shared owns a b last new p shard before after there drifts s.valid s.part is goes table seq floor x we known group s.did
+  pub earlier_says : (KeepsBirth x.store.marks we.birth → ⊥) → (out : Option ℕ) → FreesShard rack area before p floor out after → EarlierSays rack area went shared owns owns last new a b p table table seq floor x we out
+  earlier_says loose None s = await_step (early_still rack area before after s.valid s.did.same)
+  earlier_says loose (Some group) s = earlier_step rack area went shared owns a b last new p shard before after there drifts s.valid s.part is goes table seq floor x we known group s.did loose
