@@ -1,3 +1,4 @@
 mod Born
 pub mod Noted
 pub mod Together
+mod NewestBeside

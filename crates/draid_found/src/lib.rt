@@ -4,10 +4,12 @@
 #![tactic(auto)]
 
 mod alike;
+mod beside;
 mod drops;
 mod fault;
 mod finding;
 
+pub use beside::newest_beside;
 pub use drops::first_lack;
 pub use fault::FoundFault;
 pub use finding::{Found, find_blocks};

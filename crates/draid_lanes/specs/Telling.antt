@@ -1,5 +1,5 @@
 -- What a lane's job is said to have done, and to have shown of the objects, in the words of a session.
-use Rattle.std.specs.Prelude.{◌≡◌, ◌++◌, ℕ, Bool, true, List, Option, All, if◌then◌else◌}
+use Rattle.std.specs.Prelude.{◌≡◌, ◌++◌, ℕ, Bool, true, List, Option, All, if◌then◌else◌, None}
 use Rattle.draid_names.specs.declared.pointer.Pointer.{Pointer}
 use Rattle.draid_rack.specs.declared.Rack as racks
 use Rattle.draid_area.specs.declared.Area as areas
@@ -12,13 +12,14 @@ use Rattle.draid_lanes.specs.Lanes.{table_of}
 use Rattle.draid_lanes.specs.Locks.{owned_by}
 use Rattle.draid_lanes.specs.Traces.{LaneTold, SawBytes}
 use Rattle.draid_lanes.specs.declared.lane.Lane.{Lane}
+use Rattle.draid_objects.specs.Marks.{check_by}
 
--- what befell a thread's own objects since, and nothing befell others or a checkpoint
+-- what befell a thread's own objects since, and nothing befell others, or a checkpoint where none stands
 pub record Grows (owns : ℕ → Bool) (old new : Store) : Type 0 where
   pub since : List Change
   pub added : new.changes ≡ since ++ old.changes
   pub own : All (λ c. owns (object_of c) ≡ true) since
-  pub marks : new.marks ≡ old.marks
+  pub marks : check_by old.marks ≡ None → new.marks ≡ old.marks
 
 module _ {R A G W J : Type 0} (rack : racks.Ghosts R) (area : areas.Ghosts A) (says : J → J → Store → List Hold → Store → Type 0) (rests : J → Type 0) where
   -- What each job does is said so, from whatever its lane knew; where that rests on the bytes of all blocks, if these had them in all that the lane saw.

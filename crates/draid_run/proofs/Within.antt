@@ -270,6 +270,7 @@ module _ (room : List Room → Option ℕ → Type 0) (spare : ℕ → ℕ → L
   section_with : (commands : List (List Command)) (replies : List (List Reply)) (new : State) → AllOf (AllOf IsForLanes) commands → Section x By commands replies new → Section x With commands replies new
   section_with commands replies new plain s = record {
     lanes = map lane_with s.lanes;
+    unpointed = s.unpointed;
     apart = s.apart;
     ran = ran_with s.lanes commands replies plain s.ran;
     together = subst (λ holds. Together holds x new) (sym (holds_with s.lanes)) s.together;

@@ -1,5 +1,5 @@
 -- A command that frees an object, by what its thread knows.
-use Rattle.std.proofs.Common.{◌≡◌, ◌==◌, ◌≤◌, ◌∙◌, arith, ℕ, Bool, true, false, List, [], ◌∷◌, Option, Some, None, Result, Ok, Err, refl, sym, ap, subst, slice_set, cond, max, if◌then◌else◌, ne_eqb}
+use Rattle.std.proofs.Common.{◌≡◌, ◌==◌, ◌≤◌, ◌∙◌, arith, ℕ, Bool, true, false, List, [], ◌∷◌, Option, Some, None, Result, Ok, Err, refl, sym, ap, subst, slice_set, cond, max, if◌then◌else◌, ne_eqb, inl, inr}
 use mathlib.Core.Logic.{dite}
 use native.Mathlib.Decide.{ℕ_discrete}
 use Rattle.std.specs.Prelude.{slice_get, nat_eq}
@@ -42,6 +42,8 @@ use Rattle.draid_pool.proofs.Glances.{early_still, look_step}
 use Rattle.draid_pool.proofs.BytesKept.{free_bytes}
 use Rattle.draid_pool.proofs.HoldStep.{each_on, f, follows, here, pointer_at_on}
 use Rattle.draid_pool.proofs.Owning.{own_drifts}
+use Rattle.draid_pool.proofs.Unmarked.{known_unmarked, not_kept}
+use Rattle.draid_session.specs.Writes.{LeavesBlock}
 
 module _ {R A S : Type 0} (rack : racks.Ghosts R) (area : areas.Ghosts A) (went : S → ℕ → Shard R A → Shard R A → S → Type 0) (shared : Bool) (owns : ℕ → Bool) (a b : S) (last new : ℕ → Option (Shard R A)) (object : ℕ) (p : Pointer)
     (table : ℕ → Option Pointer) (seq floor : ℕ) (shard before after : Shard R A) (there : last p.metaslab ≡ Some shard) (drifts : Drifts rack area shared owns shard before)
@@ -145,13 +147,18 @@ module _ {R A S : Type 0} (rack : racks.Ghosts R) (area : areas.Ghosts A) (went 
           w = w;
           group = group;
           written = found_w.1;
-          frees = record {
-            v = view_of m z.z;
-            after = r.world;
-            did = ap (λ j. On (view_of m z.z) (Did (event.Free j group) r.world) ∷ []) key;
-            there = of.metaslab_is;
-            group_is = g.done.group_is ∙ ap (λ n. max z.z.world.open_group n) (sym knows.but_it.floor);
-          };
+          marks = x.store.marks;
+          leaves = inl (
+            not_kept x.store.marks w.birth (known_unmarked rack area owns (all_of owns) (all_of owns) last table seq floor knows.pieces x knows.but_it),
+            record {
+              v = view_of m z.z;
+              after = r.world;
+              did = ap (λ j. On (view_of m z.z) (Did (event.Free j group) r.world) ∷ []) key;
+              there = of.metaslab_is;
+              group_is = g.done.group_is ∙ ap (λ n. max z.z.world.open_group n) (sym knows.but_it.floor);
+            },
+            refl,
+          );
           made = refl;
         };
         knows = record { pieces = pieces; but_it = record { each = each_on rack area went shared owns a b last new p.metaslab shard before after there drifts keeps.valid is goes (all_of owns) (all_of owns) table seq floor knows.pieces x knows.but_it r z.now g.is; holds = holds_after; objects = points; seq = knows.but_it.seq; floor = refl } };
@@ -172,5 +179,9 @@ not_there rack area went shared owns a last object table seq floor own none x kn
 
 -- a freeing leaves images, arms and groups
 pub free_plain : (x : State) (object : ℕ) (result : Result Unit FreeFault) (holds : List Hold) (store : Store) → FreeDoes x object result holds store → ArePlain holds
-free_plain x object (Ok done) holds store f = subst ArePlain (sym f.frees.did) (tt, tt)
+free_plain x object (Ok done) holds store f = by f.leaves
+  where
+    by : LeavesBlock x.store.marks f.w x.store.floor f.group holds f.marks → ArePlain holds
+    by (inl b) = subst ArePlain (sym b.1.did) (tt, tt)
+    by (inr d) = subst ArePlain (sym d.1.looked) (tt, tt)
 free_plain x object (Err fault) holds store f = subst ArePlain (sym f.1) tt

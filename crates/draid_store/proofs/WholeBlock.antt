@@ -1,5 +1,5 @@
 -- What becomes of a write as the earlier block of its object is freed behind it, or there was none.
-use Rattle.std.proofs.Common.{◌≡◌, ◌+◌, ◌++◌, ◌∙◌, ℕ, Bool, List, [], ◌∷◌, Option, Some, None, Result, Ok, Err, refl, sym, ap, subst}
+use Rattle.std.proofs.Common.{◌≡◌, ◌+◌, ◌++◌, ◌∙◌, ℕ, Bool, List, [], ◌∷◌, Option, Some, None, Result, Ok, Err, refl, sym, ap, subst, inl}
 use Rattle.draid_names.specs.declared.pointer.Pointer.{Pointer}
 use Rattle.draid_rack.specs.declared.Rack as racks
 use Rattle.draid_area.specs.declared.Area as areas
@@ -8,19 +8,20 @@ use Rattle.draid_objects.specs.Changes.{Write, write_of}
 use Rattle.draid_session.specs.Holds.{Hold}
 use Rattle.draid_session.specs.Looks.{OnlyLooks}
 use Rattle.draid_session.specs.State.{State, Store}
-use Rattle.draid_session.specs.Writes.{FreesEarlier}
+use Rattle.draid_session.specs.Writes.{LeavesEarlier}
 use Rattle.draid_session.specs.Writes as written
 use Rattle.draid_store.specs.declared.fault.StoreFault.{StoreFault}
 use Rattle.draid_store.specs.declared.fault.StoreFault.TheVariants as why
 use Rattle.draid_store.specs.Answers.{WriteInDoes}
 use Rattle.draid_store.specs.Freeing.{EarlierSays}
 use Rattle.draid_store.specs.Storing.{AwaitsIn, StoreSays, StoresIn, WriteSays, store_with}
-use Rattle.draid_pool.specs.Threads.{Knows, LeadsBy}
+use Rattle.draid_pool.specs.Threads.{Knows, LeadsBy, all_of}
 use Rattle.draid_store.specs.Open.{KnowsEarlier, KnowsReplaced}
 use Rattle.draid_shard.specs.declared.shard.Shard.{Shard}
 use Rattle.draid_pool.proofs.Joining.{Both, leads_then}
 use Rattle.draid_pool.proofs.Joining.{leads_as}
 use Rattle.draid_store.proofs.Storing.{answer_of}
+use Rattle.draid_pool.proofs.Unmarked.{known_unmarked, not_kept}
 
 pub answered : (r : Option (Result (Option Pointer) StoreFault)) (s : Result (Option Pointer) StoreFault) (e o : Option Pointer) → r ≡ Some s → s ≡ Ok e → e ≡ o → r ≡ answer_of o
 answered r s e o a b d = cc
@@ -51,7 +52,8 @@ module _ {R A S : Type 0} (rack : racks.Ghosts R) (area : areas.Ghosts A) (went 
           are = nothing s.holds;
           writes = s.done.writes;
           few = s.done.few;
-          frees = subst (λ w. FreesEarlier w birth birth []) (sym s.knows.0) (refl, refl);
+          marks = x.store.marks;
+          leaves = subst (λ w. LeavesEarlier x.store.marks w birth birth [] x.store.marks) (sym s.knows.0) (refl, refl, refl);
           made = s.done.made;
         };
         knows = s.knows.1;
@@ -88,7 +90,9 @@ module _ {R A S : Type 0} (rack : racks.Ghosts R) (area : areas.Ghosts A) (went 
           are = d.are;
           writes = d.first.writes;
           few = d.first.few;
-          frees = subst (λ w. FreesEarlier w birth group d.back) (sym d.second.before_is) d.second.frees_it;
+          marks = x.store.marks;
+          leaves = subst (λ w. LeavesEarlier x.store.marks w birth group d.back x.store.marks) (sym d.second.before_is)
+              (inl (not_kept x.store.marks d.second.we.birth (known_unmarked rack area owns (all_of owns) (all_of owns) last table seq floor knows.pieces x knows.but_it), d.second.frees_it, refl));
           made = d.second.made;
         })
         (leads_then rack area went shared s0 s3 s4 x (StoresIn x m object birth block.bytes) (KnowsReplaced rack area o3 l3 then_table then_seq birth (Some e) (write_of x.store.changes object)) (FreesDoes (write_of x.store.changes object) x.store group) (Knows rack area o4 l4 then_table then_seq group)

@@ -1,5 +1,5 @@
 -- A whole write by one thread, of its parts.
-use Rattle.std.proofs.Common.{◌≡◌, ◌≤◌, ◌+◌, ◌++◌, ◌∙◌, ℕ, Bool, List, [], ◌∷◌, Option, Some, None, Ok, refl, sym, ap, subst}
+use Rattle.std.proofs.Common.{◌≡◌, ◌≤◌, ◌+◌, ◌++◌, ◌∙◌, ℕ, Bool, List, [], ◌∷◌, Option, Some, None, Ok, refl, sym, ap, subst, inl}
 use Rattle.draid_names.specs.declared.pointer.Pointer.{Pointer}
 use Rattle.draid_spec.specs.declared.layout.Geometry.{Geometry}
 use Rattle.draid_rack.specs.declared.Rack as racks
@@ -11,7 +11,7 @@ use Rattle.draid_entries.specs.Maps.{key_of}
 use Rattle.draid_blocks.specs.declared.ticket.Ticket.{Ticket}
 use Rattle.draid_session.specs.Holds.{Did, Hold, On}
 use Rattle.draid_session.specs.State.{State, Store}
-use Rattle.draid_session.specs.Writes.{FreesEarlier, PutsColumns, WritesBlock}
+use Rattle.draid_session.specs.Writes.{LeavesEarlier, PutsColumns, WritesBlock}
 use Rattle.draid_session.specs.Writes as written
 use Rattle.draid_store.specs.Answers.{WriteInDoes}
 use Rattle.draid_store.specs.Storing.{StoresIn, store_with}
@@ -22,6 +22,7 @@ use Rattle.draid_store.specs.Writing.{BeginsIn, EndsIn}
 use Rattle.draid_shard.specs.declared.shard.Shard.{Shard}
 use Rattle.draid_pool.proofs.Joining.{Both, leads_then}
 use Rattle.draid_pool.proofs.Joining.{leads_as}
+use Rattle.draid_pool.proofs.Unmarked.{not_kept}
 
 joined : {A : Type 0} (a b c : List A) → (a ++ b) ++ c ≡ a ++ (b ++ c)
 joined [] b c = refl
@@ -134,7 +135,8 @@ module _ {R A S : Type 0} (rack : racks.Ghosts R) (area : areas.Ghosts A) (went 
       are = nothing stored.holds;
       writes = stored.done.writes;
       few = stored.done.few;
-      frees = subst (λ w. FreesEarlier w first.pointer.birth first.pointer.birth []) (sym before_none) (refl, refl);
+      marks = x.store.marks;
+      leaves = subst (λ w. LeavesEarlier x.store.marks w first.pointer.birth first.pointer.birth [] x.store.marks) (sym before_none) (refl, refl, refl);
       made = stored.done.made;
     };
     knows = subst (λ n. Knows rack area owns l3 then_table (seq + 1) n (record stored.reached { store = stored.store })) (ap (λ (p : Pointer). p.birth) same) known.1;
@@ -150,10 +152,10 @@ module _ {R A S : Type 0} (rack : racks.Ghosts R) (area : areas.Ghosts A) (went 
       before_none : write_of x.store.changes object ≡ None
       before_none = ap (write_of x.store.changes) (sym (ap (λ (p : Pointer). p.object) same ∙ object_is)) ∙ known.0
 
-  pub wrote_again : (e : Pointer) → table ticket.pointer.object ≡ Some e
+  pub wrote_again : x.store.marks ≡ [] → (e : Pointer) → table ticket.pointer.object ≡ Some e
       → ((y : State) (we : Write) → KnowsEarlier rack area owns l3 then_table (seq + 1) ticket.pointer.birth e we y → LeadsBy rack area went shared s3 s4 y (λ holds store. written.FreesBlock we ticket.pointer.birth group holds × (store ≡ record y.store { floor = group })) (Knows rack area owns l4 then_table (seq + 1) group))
       → LeadsBy rack area went shared s0 s4 x (WriteInDoes x m object block.bytes (Ok tt)) (Knows rack area owns l4 then_table (seq + 1) group)
-  wrote_again e some frees =
+  wrote_again unmarked e some frees =
       leads_as rack area went shared s0 s4 x (Both rack area went shared s0 s3 s4 x (StoresIn x m object first.pointer.birth block.bytes) (Replaced x.store) FreesDoes (Knows rack area owns l4 then_table (seq + 1) group)) (WriteInDoes x m object block.bytes (Ok tt)) (Knows rack area owns l4 then_table (seq + 1) group)
       (λ holds store d. record {
         birth = first.pointer.birth;
@@ -164,7 +166,8 @@ module _ {R A S : Type 0} (rack : racks.Ghosts R) (area : areas.Ghosts A) (went 
         are = d.are;
         writes = d.first.writes;
         few = d.first.few;
-        frees = subst (λ w. FreesEarlier w first.pointer.birth group d.back) (sym d.second.1) d.second.2;
+        marks = x.store.marks;
+        leaves = subst (λ w. LeavesEarlier x.store.marks w first.pointer.birth group d.back x.store.marks) (sym d.second.1) (inl (not_kept x.store.marks d.second.0.birth unmarked, d.second.2, refl));
         made = d.second.3;
       })
       (leads_then rack area went shared s0 s3 s4 x (StoresIn x m object first.pointer.birth block.bytes) (Replaced x.store) FreesDoes (Knows rack area owns l4 then_table (seq + 1) group) stored

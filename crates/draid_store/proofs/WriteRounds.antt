@@ -47,6 +47,7 @@ use Rattle.draid_pool.proofs.Joining.{leads_as}
 use Rattle.draid_pool.proofs.LookHold.{only_looked}
 use Rattle.draid_pool.proofs.LookRooms.{looks_append}
 use Rattle.draid_store.proofs.Refused.{refused_memory}
+use Rattle.draid_objects.specs.Marks.{Mark}
 
 -- ---- what a write did, by the layout and by what the thread had
 
@@ -59,10 +60,11 @@ record WroteIn (g : Geometry) (t : Store) (m o : ℕ) (bytes : List ℕ) (holds 
   pub are : holds ≡ front ++ back
   pub writes : written.WritesBlock g o (t.seq + 1) bytes t.floor m birth columns front
   pub few : columns ≤ g.spec.parity
-  pub frees : written.FreesEarlier (write_of t.changes o) birth group back
+  pub marks : List Mark
+  pub leaves : written.LeavesEarlier t.marks (write_of t.changes o) birth group back marks
   pub made : new ≡ record {
     changes = Wrote (record { object = o; seq = t.seq + 1; metaslab = m; birth = birth; bytes = bytes }) ∷ t.changes;
-    marks = t.marks;
+    marks = marks;
     seq = t.seq + 1;
     floor = group;
   }
@@ -93,7 +95,8 @@ wrote_in x y m o bytes holds new s w = own_of x y (λ g p t. WroteIn g t m o byt
   are = w.are;
   writes = w.writes;
   few = w.few;
-  frees = w.frees;
+  marks = w.marks;
+  leaves = w.leaves;
   made = w.made;
 })
 
@@ -182,7 +185,8 @@ module _ {R A S : Type 0} (rack : racks.Ghosts R) (area : areas.Ghosts A) (went 
         are = d.are ∙ (ap (λ hs. d.front ++ hs) w.are ∙ sym (append_assoc d.front w.front w.back));
         tries = record { looks = d.front; written = w.front; are = refl; chooses = chooses x geometry layout block.bytes need need_is rooms chosen m d.front named d.first.1; numbered = low; writes = w.writes };
         few = w.few;
-        frees = w.frees;
+        marks = w.marks;
+        leaves = w.leaves;
         made = w.made;
       })
       (leads_then rack area went shared a b c x Looked (Known mid) (WroteIn x.geometry x.store m object block.bytes) Then looked

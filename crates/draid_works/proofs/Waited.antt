@@ -14,7 +14,7 @@ use Rattle.draid_session.specs.State.{State, Store}
 use Rattle.draid_session.specs.Writes as written
 use Rattle.draid_pool.specs.Looking.{HasMany}
 use Rattle.draid_pool.specs.Pools.{part_in}
-use Rattle.draid_pool.specs.Threads.{AllStay, Between, CarriesBy, IsWholeBy, Knows, LeadsBy}
+use Rattle.draid_pool.specs.Threads.{AllStay, Between, CarriesBy, IsWholeBy, Knows, LeadsBy, all_of, but}
 use Rattle.draid_pool.proofs.Joining.{Both, leads_as, leads_then, same_layout}
 use Rattle.draid_pool.proofs.LookRooms.{looks_append}
 use Rattle.draid_pool.proofs.Steps.{SameLayout, own_of}
@@ -24,6 +24,8 @@ use Rattle.draid_store.specs.Open.{KnowsEarlier, KnowsReplaced}
 use Rattle.draid_store.specs.Storing.{WriteAwaits, WritesBy, store_with}
 use Rattle.draid_store.specs.declared.fault.FreeFault.{FreeFault}
 use Rattle.draid_works.specs.Waiting.{FreesRest, LooksBut, StoresThrough}
+use Rattle.draid_pool.proofs.Unmarked.{known_unmarked, not_kept}
+use Rattle.draid_entries.specs.Maps.{key_of}
 
 -- ---- looks that are left out
 
@@ -215,6 +217,7 @@ module _ {R A S : Type 0} (rack : racks.Ghosts R) (area : areas.Ghosts A) (went 
       let y = led rack area went shared a b c x (LooksBut (WriteAwaits x chosen object bytes)) Replaced one in
       let we = one.knows.0 in
       let w = one.done.2 in
+      let unmarked : x.store.marks ≡ [] = sym (ap (λ (t : Store). t.marks) w.made) ∙ known_unmarked rack area owns (all_of owns) (but p.metaslab (key_of p) (all_of owns)) now table seq floor one.knows.2.pieces _ one.knows.2.but_it in
       let born : w.birth ≡ floor = sym (ap (λ (t : Store). t.floor) w.made) ∙ one.knows.2.but_it.floor in
       leads_next rack area went shared a b c x (LooksBut (WriteAwaits x chosen object bytes)) Replaced one (LooksBut (FreesRest y we floor group)) then_known (LooksBut (WriteDoes x chosen object bytes (Ok tt))) (next y we one.knows.2)
       (λ back store d.
@@ -231,7 +234,9 @@ module _ {R A S : Type 0} (rack : racks.Ghosts R) (area : areas.Ghosts A) (went 
           are = refl;
           tries = w.tries;
           few = w.few;
-          frees = subst (λ o. written.FreesEarlier o w.birth group d.0) (sym one.knows.1) (subst (λ f. written.FreesBlock we f group d.0) (sym born) d.2.0);
+          marks = x.store.marks;
+          leaves = subst (λ o. written.LeavesEarlier x.store.marks o w.birth group d.0 x.store.marks) (sym one.knows.1)
+              (inl (not_kept x.store.marks we.birth unmarked, subst (λ f. written.FreesBlock we f group d.0) (sym born) d.2.0, refl));
           made = d.2.1 ∙ ap (λ (t : Store). record t { floor = group }) w.made;
         },
       ))
