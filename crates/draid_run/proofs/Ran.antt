@@ -30,7 +30,8 @@ use Rattle.draid_pool.specs.declared.pool.Pool.{Pool}
 use Rattle.draid_objects.specs.Changes.{write_of}
 use Rattle.draid_uber.specs.Uber.{count_of}
 use Rattle.draid_run.specs.Desks.{IsDesk, IsPool, IsShelf}
-use Rattle.draid_run.specs.Sections.{IsStopped, LanesTeach, RunsSection, SamePool, SectionIs, StopWhere, StopsWhere, place_of, replies_in}
+use Rattle.draid_pool.specs.Keeping.{SamePool}
+use Rattle.draid_run.specs.Sections.{IsStopped, LanesTeach, RunsSection, SectionIs, StopWhere, StopsWhere, place_of, replies_in}
 use Rattle.draid_run.specs.Shelves.{AreaRose, PoolFails}
 use Rattle.draid_run.specs.declared.sections.LaneReplies.{LaneReplies}
 use Rattle.draid_run.proofs.Risen.{rose_some}

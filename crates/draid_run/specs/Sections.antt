@@ -24,8 +24,8 @@ use Rattle.draid_session.specs.Sections.{ClashesMend, LanesLearn, NoClash, Secti
 use Rattle.draid_session.specs.Session.{Desk}
 use Rattle.draid_session.specs.State.{State}
 use Rattle.draid_pool.specs.Failing.{AreaRose, AreasLater}
+use Rattle.draid_pool.specs.Keeping.{SamePool}
 use Rattle.draid_pool.specs.Knows.{KnowsPointers}
-use Rattle.draid_pool.specs.Pointers.{SamePointers}
 use Rattle.draid_pool.specs.Pools.{Represents}
 use Rattle.draid_pool.specs.Whole.{IsWhole}
 use Rattle.draid_pool.specs.declared.pool.Pool.{Pool}
@@ -76,15 +76,6 @@ IsStopped ran = AllOf (λ (lane : LaneReplies). lane.stopped ≡ false) ran → 
 -- ---- what is done
 
 module _ {R A : Type 0} where
-  -- a pool is as it was: its objects have the pointers that they had
-  pub record SamePool (old new : Pool R A) : Type 0 where
-    pub geometry : new.geometry ≡ old.geometry
-    pub metaslabs : new.metaslabs.shards.items ≡ old.metaslabs.shards.items
-    pub uber : new.uber ≡ old.uber
-    pub objects : SamePointers old new
-    pub seq : new.own.seq ≡ old.own.seq
-    pub floor : new.own.floor ≡ old.own.floor
-
   -- A section of a state led to another, for which the pool stands.
   pub record RunsSection (rack : racks.Ghosts R) (area : areas.Ghosts A) (choices : Choices) (x : State) (lanes : List (List Command)) (replies : List (List Reply)) (new : Pool R A) : Type 0 where
     pub reached : State

@@ -25,7 +25,8 @@ use Rattle.draid_pool.specs.declared.pool.Pool.{Pool}
 use Rattle.draid_pool.proofs.Lists.{present, some_of}
 use Rattle.draid_section.specs.Opening.{AreLocked, shard_under, shards_under}
 use Rattle.draid_tables.specs.Owns.{TakesAll, greatest}
-use Rattle.draid_section.specs.Section.{IsMadeOf, SameOwn, SamePool}
+use Rattle.draid_pool.specs.Keeping.{SamePool}
+use Rattle.draid_section.specs.Section.{IsMadeOf, SameOwn}
 use Rattle.draid_section.specs.Whole.{pointer_in}
 use Rattle.draid_section.proofs.Beginning.{first_of}
 use Rattle.draid_section.proofs.Kept.{get_map, list_same}

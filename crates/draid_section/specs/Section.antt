@@ -122,15 +122,6 @@ module _ {R A G W J : Type 0} (rack : racks.Ghosts R) (area : areas.Ghosts A) wh
     pub takes : TakesAll lists owns'.items pool.own new.own
 
 module _ {R A : Type 0} where
-  -- a pool is as it was: its objects have the pointers that they had
-  pub record SamePool (old new : Pool R A) : Type 0 where
-    pub geometry : new.geometry ≡ old.geometry
-    pub metaslabs : new.metaslabs.shards.items ≡ old.metaslabs.shards.items
-    pub uber : new.uber ≡ old.uber
-    pub objects : (object : ℕ) → pointer_in new object ≡ pointer_in old object
-    pub seq : new.own.seq ≡ old.own.seq
-    pub floor : new.own.floor ≡ old.own.floor
-
   -- a pool has these parts
   pub record IsMadeOf (geometry : Geometry) (shards : Vec (Shard R A) Global) (uber : Uber A) (own : Own) (pool : Pool R A) : Type 0 where
     pub geometry_is : pool.geometry ≡ geometry

@@ -4,13 +4,13 @@ use Rattle.draid_script.specs.declared.line.Line.{Line}
 use Rattle.draid_session.specs.Choices.{choices_by}
 use Rattle.draid_session.specs.Sections.{ClashesMend, NoClash}
 use Rattle.draid_pool.specs.Failing.{AreaRose}
+use Rattle.draid_pool.specs.Keeping.{SamePool}
 use Rattle.draid_tables.specs.Lists.{AreAllInRange, ListsEach, commands_of_lanes}
-use Rattle.draid_section.specs.Section as section
 use Rattle.draid_clashes.specs.Lanes.{lanes_in}
 use Rattle.draid_run.specs.Sections.{IsStopped, LanesTeach, RunsSection, StopWhere, replies_in}
 use Rattle.draid_run.specs.declared.sections.LaneReplies.{LaneReplies}
 use Rattle.draid_program.proofs.LanesGiven.{in_range, may_all}
-use Rattle.draid_program.proofs.LanesRefused.{areas_same, of_err, of_ok, same_pool}
+use Rattle.draid_program.proofs.LanesRefused.{areas_same, of_err, of_ok}
 use Rattle.draid_program.proofs.LanesRun as run
 use Rattle.draid_program.proofs.lanes.run_lanes.Goals as goal
 
@@ -78,8 +78,8 @@ returns-in-Ok-ran-clause-later g c =
 
 pub returns-in-Err-clause-refused : goal.returns-in-Err-clause-refused
 returns-in-Err-clause-refused g c =
-    same_pool c.args.pool c.run_in_lanes-pool.result.0 (of_err (λ _. section.SamePool c.args.pool c.run_in_lanes-pool.result.0) c.run_in_lanes-pool.result.1 c.in-Err.field-0 c.in-Err.is c.run_in_lanes-pool.ensures.refused)
+    of_err (λ _. SamePool c.args.pool c.run_in_lanes-pool.result.0) c.run_in_lanes-pool.result.1 c.in-Err.field-0 c.in-Err.is c.run_in_lanes-pool.ensures.refused
 
 pub returns-in-Err-clause-later : goal.returns-in-Err-clause-later
 returns-in-Err-clause-later g c =
-    areas_same c.args.pool c.run_in_lanes-pool.result.0 (of_err (λ _. section.SamePool c.args.pool c.run_in_lanes-pool.result.0) c.run_in_lanes-pool.result.1 c.in-Err.field-0 c.in-Err.is c.run_in_lanes-pool.ensures.refused) g.A.Area.faults
+    areas_same c.args.pool c.run_in_lanes-pool.result.0 (of_err (λ _. SamePool c.args.pool c.run_in_lanes-pool.result.0) c.run_in_lanes-pool.result.1 c.in-Err.field-0 c.in-Err.is c.run_in_lanes-pool.ensures.refused) g.A.Area.faults

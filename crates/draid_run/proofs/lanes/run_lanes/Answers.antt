@@ -14,7 +14,8 @@ use Rattle.draid_session.specs.Choices.{choices_by}
 use Rattle.draid_session.specs.Sections.{ClashesMend, NoClash, RefusesSection}
 use Rattle.draid_run.specs.Desks.{IsPool}
 use Rattle.draid_clashes.specs.Lanes.{lanes_in}
-use Rattle.draid_run.specs.Sections.{IsStopped, LanesTeach, RunsSection, SamePool, StopWhere, replies_in}
+use Rattle.draid_pool.specs.Keeping.{SamePool}
+use Rattle.draid_run.specs.Sections.{IsStopped, LanesTeach, RunsSection, StopWhere, replies_in}
 use Rattle.draid_run.proofs.Ran.{of_err, of_ok, pool_whole, same_pool, section_ran, section_refused}
 use Rattle.draid_run.proofs.lanes.run_lanes.Goals as goal
 
