@@ -46,6 +46,7 @@ pub mod LookHold
 pub mod LookKeeps
 pub mod LookRooms
 pub mod Looking
+pub mod Marked
 pub mod Moved
 pub mod Naming
 pub mod OneHold

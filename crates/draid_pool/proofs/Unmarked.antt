@@ -1,17 +1,8 @@
 -- Where there is no checkpoint no group has one.
-use Rattle.std.proofs.Common.{◌≡◌, ◌≤◌, ℕ, List, [], None, ap, refl, subst, sym, Bool, Option}
+use Rattle.std.proofs.Common.{◌≡◌, ◌≤◌, ℕ, List, [], None, ap, refl, subst, sym}
 use Rattle.std.specs.Prelude.{All}
 use Rattle.std.proofs.lemmas.List.Elements.{All-contains, All-nil}
-use Rattle.draid_names.specs.declared.pointer.Pointer.{Pointer}
-use Rattle.draid_rack.specs.declared.Rack as racks
-use Rattle.draid_area.specs.declared.Area as areas
 use Rattle.draid_machine.specs.declared.names.Held.{Held}
-use Rattle.draid_machine.specs.declared.names.Key.{Key}
-use Rattle.draid_segments.specs.Segments.{Pieces}
-use Rattle.draid_shard.specs.declared.shard.Shard.{Shard}
-use Rattle.draid_session.specs.State.{State}
-use Rattle.draid_pool.specs.Threads.{KnowsBut}
-use Rattle.draid_pool.proofs.Finds.{all_low, bound_in}
 use Rattle.draid_machine.proofs.Small.{none_some}
 use Rattle.draid_objects.specs.Marks.{Mark, check_by, mark_group}
 use Rattle.draid_objects.specs.Stores.{AreMarkedUpto, IsBehindChecks, IsSpare}
@@ -36,11 +27,6 @@ not_pointed marks held none = no_check marks held (ap check_by none)
 
 pub not_kept : (marks : List Mark) (birth : ℕ) → marks ≡ [] → KeepsBirth marks birth → ⊥
 not_kept marks birth none (check, there, low) = none_some (check_by marks) check (ap check_by none) there
-
--- a thread knows so of the marks
-pub known_unmarked : {R A : Type 0} (rack : racks.Ghosts R) (area : areas.Ghosts A) (owns : ℕ → Bool) (mine lives : ℕ → Key → Bool) (last : ℕ → Option (Shard R A)) (table : ℕ → Option Pointer) (number group : ℕ) (pieces : ℕ → Pieces) (x : State)
-    → KnowsBut rack area owns mine lives last table number group pieces x → x.store.marks ≡ []
-known_unmarked rack area owns mine lives last table number group pieces x k = (k.holds.holds (bound_in x.metaslabs) (all_low x)).unmarked
 
 -- nothing befell it later
 pub not_late : (committed : ℕ) (marks : List Mark) → marks ≡ [] → HasLateMark committed marks → ⊥

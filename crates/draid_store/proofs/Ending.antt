@@ -2,7 +2,7 @@
 use Rattle.std.proofs.Common.{◌≡◌, ◌==◌, ◌≤◌, ◌<◌, ◌+◌, ◌∙◌, ◌⊎◌, inl, inr, arith, ℕ, Bool, true, false, [], ◌∷◌, Option, Some, None, Ok, Err, refl, sym, ap, ap₂, subst, cond, if◌then◌else◌, ne_eqb}
 use mathlib.Core.Logic.{dite}
 use native.Mathlib.Decide.{ℕ_discrete}
-use Rattle.std.specs.Prelude.{nat_eq, option_map}
+use Rattle.std.specs.Prelude.{max, nat_eq, option_map}
 use Rattle.std.proofs.lemmas.Bool.{true≢false}
 use Rattle.sha2.specs.Sha256.{sha256}
 use Rattle.draid_names.specs.declared.pointer.Pointer.{Pointer}
@@ -21,7 +21,9 @@ use Rattle.draid_segments.specs.Segments.{Pieces}
 use Rattle.draid_objects.specs.Blocks.{Blocks, Sets}
 use Rattle.draid_objects.specs.Changes as changes
 use Rattle.draid_objects.specs.Changes.{Change, Write, Wrote, write_of}
-use Rattle.draid_objects.specs.Stores.{IsBlockOf}
+use Rattle.draid_objects.specs.Stores.{IsBehindChecks, IsBlockOf}
+use Rattle.draid_objects.specs.Marks.{check_by, is_dropped}
+use Rattle.draid_pool.proofs.Marked.{marked_later, max_up}
 use Rattle.draid_objects.proofs.Finding.{changes_it, other_changes}
 use Rattle.draid_entries.specs.declared.entry.Entry.{Entry}
 use Rattle.draid_entries.specs.Entries.{entry_at, held_in}
@@ -52,7 +54,7 @@ use Rattle.draid_store.proofs.PutSteps.{set_own}
 use Rattle.draid_store.proofs.Written.{missed_holds, written_holds, written_only}
 use Rattle.draid_pool.specs.Drifts.{Drifts, KeepsBytes}
 use Rattle.draid_pool.specs.Follows.{FollowsBy}
-use Rattle.draid_pool.specs.Threads.{Between, HoldsBut, HoldsOwn, IsPointerAt, Knows, KnowsBut, LeadsBy, PointsAt, all_of, but, own_blocks, own_changes, own_store}
+use Rattle.draid_pool.specs.Threads.{Bounds, Between, HoldsBut, HoldsOwn, IsPointerAt, Knows, KnowsBut, LeadsBy, PointsAt, all_of, but, own_blocks, own_changes, own_store}
 use Rattle.draid_store.specs.Open.{KnowsOpen, KnowsReplaced}
 use Rattle.draid_store.specs.Writing.{EndsIn, FinishesShard}
 use Rattle.draid_pool.proofs.ShardSteps.{at_here}
@@ -73,7 +75,7 @@ lives_of owns None = all_of owns
 lives_of owns (Some write) = but write.metaslab (changes.key_of write) (all_of owns)
 
 module _ (owns : ℕ → Bool) (x : State) (pieces : ℕ → Pieces) (m : ℕ) (w : Write) (own : owns w.object ≡ true) (seq_is : w.seq ≡ x.store.seq + 1) (metaslab_is : w.metaslab ≡ m) (later : x.store.floor ≤ w.birth)
-    (known : HoldsBut owns (but m (changes.key_of w) (all_of owns)) (but m (changes.key_of w) (all_of owns)) x pieces) where
+    (known : HoldsBut owns (but m (changes.key_of w) (all_of owns)) (but m (changes.key_of w) (all_of owns)) x pieces) (behind : (c : ℕ) → Bounds x c → IsBehindChecks c (own_store owns x.store).marks w.birth) where
   abbrev key : Key
   key = changes.key_of w
 
@@ -99,26 +101,28 @@ module _ (owns : ℕ → Bool) (x : State) (pieces : ℕ → Pieces) (m : ℕ) (
 
     pub came : (earlier : Option Write) → write_of x.store.changes w.object ≡ earlier → HoldsBut owns (all_of owns) (lives_of owns earlier) (record x { store = store_then }) pieces
     came earlier earlier_is = record {
-      holds = λ c b. subst (λ cs. HoldsObjects x.geometry c (record { changes = cs; marks = x.store.marks; seq = x.store.seq + 1; floor = w.birth }) all pieces) (sym changes_are)
-          (subst (λ ps. HoldsObjects x.geometry c (record { changes = Wrote w ∷ own_changes owns x.store.changes; marks = x.store.marks; seq = x.store.seq + 1; floor = w.birth }) all ps) (turn_back m pieces)
-          (written_holds x.geometry c (own_store owns x.store) old pieces (known.holds c b) m w.object (pieces m) (λ k other. refl) w refl seq_is metaslab_is later all h live of set_at has));
-      only = λ n k i there_i is_live. subst (λ cs. IsLastAt n k (write_of cs k.object)) (sym changes_are) (by earlier earlier_is n k i there_i is_live);
+      holds = λ c b. subst (λ cs. HoldsObjects x.geometry c (record { changes = cs; marks = (own_store owns x.store).marks; seq = x.store.seq + 1; floor = w.birth }) all pieces) (sym changes_are)
+          (subst (λ ps. HoldsObjects x.geometry c (record { changes = Wrote w ∷ own_changes owns x.store.changes; marks = (own_store owns x.store).marks; seq = x.store.seq + 1; floor = w.birth }) all ps) (turn_back m pieces)
+          (written_holds x.geometry c (own_store owns x.store) old pieces (known.holds c b) m w.object (pieces m) (λ k other. refl) w refl seq_is metaslab_is later all h live of set_at has (behind c b)));
+      only = λ n k i there_i is_live counts. subst (λ cs. IsLastAt n k (write_of cs k.object)) (sym changes_are) (by earlier earlier_is n k i there_i is_live counts);
+      checks = known.checks;
+      marked = λ n v there_v. marked_later (max x.store.floor v.world.open_group) (max w.birth v.world.open_group) (own_store owns x.store).marks (max_up x.store.floor w.birth v.world.open_group later) (known.marked n v there_v);
     }
       where
-        first : (n : ℕ) (k : Key) (i : Held) → all n k ≡ Some i → i.stage ≡ stage.Live
+        first : (n : ℕ) (k : Key) (i : Held) → all n k ≡ Some i → i.stage ≡ stage.Live → is_dropped (check_by (own_store owns x.store).marks) k ≡ false
             → IsLastAt n k (write_of (Wrote w ∷ own_changes owns x.store.changes) k.object) ⊎ IsLastAt n k (write_of (own_changes owns x.store.changes) w.object)
-        first n k i there_i is_live = written_only x.geometry (bound_in x.metaslabs) (own_store owns x.store) old pieces (known.holds (bound_in x.metaslabs) (all_low x)) m w.object (pieces m) (λ j other. refl) w refl seq_is metaslab_is later all h live of set_at has known.only n k i there_i is_live
+        first n k i there_i is_live counts = written_only x.geometry (bound_in x.metaslabs) (own_store owns x.store) old pieces (known.holds (bound_in x.metaslabs) (all_low x)) m w.object (pieces m) (λ j other. refl) w refl seq_is metaslab_is later all h live of set_at has known.only n k i there_i is_live counts
 
-        by : (e : Option Write) → write_of x.store.changes w.object ≡ e → (n : ℕ) (k : Key) (i : Held) → own_blocks (lives_of owns e) (blocks_of x.metaslabs) n k ≡ Some i → i.stage ≡ stage.Live
+        by : (e : Option Write) → write_of x.store.changes w.object ≡ e → (n : ℕ) (k : Key) (i : Held) → own_blocks (lives_of owns e) (blocks_of x.metaslabs) n k ≡ Some i → i.stage ≡ stage.Live → is_dropped (check_by (own_store owns x.store).marks) k ≡ false
             → IsLastAt n k (write_of (Wrote w ∷ own_changes owns x.store.changes) k.object)
-        by None e_is n k i there_i is_live = elim (first n k i there_i is_live) [
+        by None e_is n k i there_i is_live counts = elim (first n k i there_i is_live counts) [
           | inl is ↦ is
           | inr was ↦ absurd (subst (IsLastAt n k) (write_own owns x.store.changes w.object own ∙ e_is) was)
         ]
-        by (Some e) e_is n k i there_i is_live =
+        by (Some e) e_is n k i there_i is_live counts =
             let seen = own_some (but e.metaslab (changes.key_of e) (all_of owns)) (blocks_of x.metaslabs) n k i there_i in
             let seen_all = but_inside (all_of owns) e.metaslab (changes.key_of e) n k seen in
-            elim (first n k i (own_is (all_of owns) (blocks_of x.metaslabs) n k seen_all ∙ (sym (own_is (but e.metaslab (changes.key_of e) (all_of owns)) (blocks_of x.metaslabs) n k seen) ∙ there_i)) is_live) [
+            elim (first n k i (own_is (all_of owns) (blocks_of x.metaslabs) n k seen_all ∙ (sym (own_is (but e.metaslab (changes.key_of e) (all_of owns)) (blocks_of x.metaslabs) n k seen) ∙ there_i)) is_live counts) [
               | inl is ↦ is
               | inr was ↦ (let z = subst (IsLastAt n k) (write_own owns x.store.changes w.object own ∙ e_is) was in absurd (is_hidden e n k seen z.0 z.1))
             ]
@@ -130,9 +134,11 @@ module _ (owns : ℕ → Bool) (x : State) (pieces : ℕ → Pieces) (m : ℕ) (
 pub gone : (owns : ℕ → Bool) (x : State) (pieces : ℕ → Pieces) (m object group : ℕ) → x.store.floor ≤ group → HoldsOwn owns x pieces
     → HoldsOwn owns (record x { store = record { changes = x.store.changes; marks = x.store.marks; seq = x.store.seq + 1; floor = group } }) pieces
 gone owns x pieces m object group later h = record {
-  holds = λ c b. subst (λ ps. HoldsObjects x.geometry c (record { changes = own_changes owns x.store.changes; marks = x.store.marks; seq = x.store.seq + 1; floor = group }) (own_blocks (all_of owns) (blocks_of x.metaslabs)) ps) (turn_back m pieces)
+  holds = λ c b. subst (λ ps. HoldsObjects x.geometry c (record { changes = own_changes owns x.store.changes; marks = (own_store owns x.store).marks; seq = x.store.seq + 1; floor = group }) (own_blocks (all_of owns) (blocks_of x.metaslabs)) ps) (turn_back m pieces)
       (missed_holds x.geometry c (own_store owns x.store) (own_blocks (all_of owns) (blocks_of x.metaslabs)) pieces (h.holds c b) m object (pieces m) (λ k other. refl) group later);
   only = h.only;
+  checks = h.checks;
+  marked = λ n v there_v. marked_later (max x.store.floor v.world.open_group) (max group v.world.open_group) (own_store owns x.store).marks (max_up x.store.floor group v.world.open_group later) (h.marked n v there_v);
 }
 
 -- ---- the hold

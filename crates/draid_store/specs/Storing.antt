@@ -1,5 +1,5 @@
 -- A block of an object is stored: a begin, its columns and its end.
-use Rattle.std.specs.Prelude.{◌≡◌, ◌+◌, ◌≤◌, ◌∷◌, ◌++◌, ◌==◌, ⊤, ℕ, Bool, List, Option, Some, None, Result, Ok, Err, if◌then◌else◌}
+use Rattle.std.specs.Prelude.{◌≡◌, ◌+◌, ◌≤◌, ◌∷◌, ◌++◌, ◌==◌, ⊤, ℕ, Bool, List, Option, Some, None, Result, Ok, Err, if◌then◌else◌, true}
 use Rattle.draid_names.specs.declared.pointer.Pointer.{Pointer}
 use Rattle.draid_names.specs.declared.refusal.WriteFault.{WriteFault}
 use Rattle.draid_names.specs.declared.refusal.WriteFault.TheVariants as fault
@@ -22,6 +22,8 @@ use Rattle.draid_store.specs.declared.fault.StoreFault.TheVariants.{Missed, Refu
 use Rattle.draid_pool.specs.Pointers.{FitsPointer}
 use Rattle.draid_pool.specs.Threads.{HasPointer, Knows, LeadsBy}
 use Rattle.draid_shard.specs.declared.shard.Shard.{Shard}
+use Rattle.draid_checkpoint.specs.Check.{holds_birth}
+use Rattle.draid_session.specs.Points.{IsPointOf}
 
 -- the store as the block has come
 abbrev pub store_with : Store → ℕ → ℕ → ℕ → List ℕ → Store
@@ -55,13 +57,13 @@ pub record AwaitsIn (x : State) (m object birth : ℕ) (bytes : List ℕ) (holds
   pub looks : OnlyLooks back
   pub stores : StoresIn x m object birth bytes front store
 
-module _ {R A S : Type 0} (rack : racks.Ghosts R) (area : areas.Ghosts A) (went : S → ℕ → Shard R A → Shard R A → S → Type 0) (shared : Bool) (owns now_owns : ℕ → Bool) (last now : ℕ → Option (Shard R A)) (a b : S) (m columns object : ℕ)
+module _ {R A S : Type 0} (rack : racks.Ghosts R) (area : areas.Ghosts A) (went : S → ℕ → Shard R A → Shard R A → S → Type 0) (shared : Bool) (owns now_owns : ℕ → Bool) (last now : ℕ → Option (Shard R A)) (a b : S) (m columns : ℕ) (point : Option ℕ) (object : ℕ)
     (table then_table : ℕ → Option Pointer) (seq floor then_seq then_floor : ℕ) (block : BlockValue) where
-  -- It is to be tried again; or a whole write; or one whose earlier block is to be freed; or no write was begun; or too many columns landed nowhere.
+  -- It is to be tried again; or a whole write; or one whose earlier block is to be freed or dropped; or no write was begun; or too many columns landed nowhere.
   abbrev pub WriteSays : Option (Result (Option Pointer) StoreFault) → Type 0
   WriteSays None = (x : State) → Knows rack area owns last table seq floor x
       → LeadsBy rack area went shared a b x (λ holds store. (store ≡ x.store) × OnlyLooks holds) (Knows rack area now_owns now then_table then_seq then_floor)
-  WriteSays (Some (Ok None)) = (x : State) → x.geometry.g ≡ columns → Knows rack area owns last table seq floor x
+  WriteSays (Some (Ok None)) = (x : State) → x.geometry.g ≡ columns → IsPointOf x.store.marks point → Knows rack area owns last table seq floor x
       → LeadsBy rack area went shared a b x (WriteInDoes x m object block.bytes (Ok tt)) (Knows rack area now_owns now then_table then_seq then_floor)
   WriteSays (Some (Ok (Some earlier))) = (x : State) → x.geometry.g ≡ columns → Knows rack area owns last table seq floor x
       → LeadsBy rack area went shared a b x (AwaitsIn x m object then_floor block.bytes) (KnowsReplaced rack area now_owns now then_table then_seq then_floor (Some earlier) (write_of x.store.changes object))
@@ -87,6 +89,13 @@ StoreRefusedBy rack area shared owns last m block result = ⊤
 pub record ComesBack {R A : Type 0} (rack : racks.Ghosts R) (owns : ℕ → Bool) (now : ℕ → Option (Shard R A)) (table : ℕ → Option Pointer) (object : ℕ) (p : Pointer) : Type 0 where
   pub has : HasPointer now rack owns object p
   pub apart : IsApart table p
+
+-- nothing is to be tried again, but what the checkpoint keeps is to be dropped: the pointer that comes back is of such a block
+abbrev pub IsServedBut : {E : Type 0} → Option ℕ → Option (Result (Option Pointer) E) → Type 0
+IsServedBut point (Some (Ok None)) = ⊤
+IsServedBut point (Some (Ok (Some earlier))) = holds_birth point earlier.birth ≡ true
+IsServedBut point (Some (Err why)) = ⊤
+IsServedBut point None = ⊥
 
 -- nothing is to be tried again
 abbrev pub IsServed : {E : Type 0} → Option (Result (Option Pointer) E) → Type 0

@@ -106,7 +106,7 @@ fn store_through<R: Rack, A: Area, M: Metaslabs<R, A>, F: Fn(&[Room]) -> Option<
 {
     for _ in rt.forever() {
         if let Some(stored) = write_encoded(
-            alloc, metaslabs, own, geometry, chooser, object, block,
+            alloc, metaslabs, own, geometry, None, chooser, object, block,
         ) {
             return stored;
         }
