@@ -1,0 +1,7 @@
+pub mod Back
+pub mod Giving
+pub mod Low
+pub mod Says
+pub mod Sweeps
+pub mod Tables
+pub mod Taking
