@@ -1,1 +1,3 @@
-
+pub mod Others
+pub mod NewestBorn
+pub mod Swept

@@ -1,7 +1,7 @@
 -- What becomes of the metaslabs of a pool as the live blocks are freed to which a table of pointers doesn't lead.
-use Rattle.std.specs.Prelude.{◌≡◌, ◌≤◌, ◌<◌, ◌×◌, ℕ, Bool, true, false, List, [], ◌∷◌, Option, Some, None, length, slice_get, slice_set}
+use Rattle.std.specs.Prelude.{◌≡◌, ◌≤◌, ◌⊎◌, ℕ, List, [], ◌∷◌, Option, Some, None, length, slice_get, slice_set}
 use Rattle.draid_names.specs.declared.pointer.Pointer.{Pointer}
-use Rattle.draid_names.specs.declared.numbers.TheConstants.{LAST_NUMBER}
+use Rattle.draid_names.specs.declared.numbers.TheConstants.{LAST_NUMBER, NUMBERS}
 use Rattle.draid_rack.specs.declared.Rack as racks
 use Rattle.draid_area.specs.declared.Area as areas
 use Rattle.draid_machine.specs.declared.names.Stage.TheVariants.{Freed, Live}
@@ -39,9 +39,9 @@ pub record FreesOne {R A : Type 0} (rack : racks.Ghosts R) (area : areas.Ghosts 
   pub frees : (part : Part) (pieces : Pieces) (x : Metaslab) → IsMetaslab rack area part pieces old x → Goes rack area part pieces x new (FreesIn part.number pointer group group x)
 
 -- or it isn't live, or the table leads to it
-abbrev pub FreesIfOther : {R A : Type 0} → racks.Ghosts R → areas.Ghosts A → (ℕ → Option Pointer) → Pointer → (group : ℕ) → Shard R A → Bool → Shard R A → Type 0
-FreesIfOther rack area table pointer group old true new = FreesOne rack area table group pointer old new
-FreesIfOther rack area table pointer group old false new = (new ≡ old) × (IsLive old pointer → table pointer.object ≡ Some pointer)
+abbrev pub FreesIfOther : {R A : Type 0} → racks.Ghosts R → areas.Ghosts A → (ℕ → Option Pointer) → Pointer → (group : ℕ) → Shard R A → ℕ → Shard R A → Type 0
+FreesIfOther rack area table pointer group old freed new =
+    ((freed ≡ 1) × FreesOne rack area table group pointer old new) ⊎ ((freed ≡ 0) × (new ≡ old) × (IsLive old pointer → table pointer.object ≡ Some pointer))
 
 -- ---- a metaslab
 
@@ -59,7 +59,7 @@ pub record FreesOthersIn {R A : Type 0} (rack : racks.Ghosts R) (area : areas.Gh
   pub open_ : IsOpenIn rack group new
   pub pointers : List Pointer
   pub many : freed ≡ length pointers
-  pub few : freed < 2 ^ 48
+  pub few : freed ≤ NUMBERS
   pub are : FreesThese rack area table group pointers old new
   pub only : HasOnly table new
 

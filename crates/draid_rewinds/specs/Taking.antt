@@ -32,10 +32,6 @@ pub record HasRoomFor {R A : Type 0} (pool : Pool R A) (point : Point) : Type 0 
   pub room : objects ≤ point.spare
   pub few : objects ≤ 524_288
 
--- each metaslab has closed the group behind the committed one, and no commit of it was refused
-pub record IsUnclosed (x : State) : Type 0 where
-  pub settled : x.pending ≡ false
-
 -- where the pool had no checkpoint it has one of this group
 pub record MakesPoint {R A : Type 0} (rack : racks.Ghosts R) (area : areas.Ghosts A) (new : Pool R A) (group : ℕ) (x : State) : Type 0 where
   pub none : check_by x.store.marks ≡ None

@@ -1,5 +1,5 @@
 //! The steps of a sync that makes a checkpoint.
-ghost use Rattle.std.specs.Prelude.{◌≡◌, ◌+◌, ◌≤◌, None, IsErrOf, OnOk};
+ghost use Rattle.std.specs.Prelude.{◌≡◌, ◌+◌, ◌≤◌, None, IsErrOf, OnOk, false};
 ghost use Rattle.draid_session.specs.Groups as groups;
 ghost use Rattle.draid_session.specs.State.{State};
 ghost use Rattle.draid_pool.specs.Carries.{CarriesOut};
@@ -9,7 +9,7 @@ ghost use Rattle.draid_pool.specs.Pools.{Represents, group_in};
 ghost use Rattle.draid_pool.specs.Syncing.{AreClosing, AreIdle, Phase, end_of};
 ghost use Rattle.draid_pool.specs.Whole.{IsWhole};
 ghost use Rattle.draid_uber.specs.Uber.{point_of};
-ghost use Rattle.draid_rewinds.specs.Taking.{GoesOnDoes, HasRoomFor, IsUnclosed, MakesPoint};
+ghost use Rattle.draid_rewinds.specs.Taking.{GoesOnDoes, HasRoomFor, MakesPoint};
 
 use draid_area::Area;
 use draid_checkpoint::Check;
@@ -48,7 +48,7 @@ pub(crate) fn make<R: Rack, A: Area>(pool: &mut Pool<R, A>, point: Check, group:
     ensures later { AreasLater A.faults pool.old pool.new }
     ensures closing { AreClosing pool.new.metaslabs.shards.items group }
     ensures next { group ≡ group_in pool.new + 1 }
-    ensures makes { (x : State) → Represents R.Rack A.Area pool.old x → x.store.floor ≤ x.committed + 1 → IsUnclosed x
+    ensures makes { (x : State) → Represents R.Rack A.Area pool.old x → x.store.floor ≤ x.committed + 1 → x.pending ≡ false
         → MakesPoint R.Rack A.Area pool.new group x }
 {
     pool.uber.make_point(point, group);

@@ -20,26 +20,26 @@ fn is_own(objects: &HashMap<u64, Pointer>, pointer: &Pointer) -> bool
     objects.get(&pointer.object) == Some(pointer)
 }
 
-/// Frees a block in the open group, if it is live and not that of its object. The answer is whether it was freed.
+/// Frees a block in the open group, if it is live and not that of its object. The answer is how many were freed, one or none.
 fn free_if_other<R: Rack, A: Area>(
     shard: &mut Shard<R, A>,
     objects: &HashMap<u64, Pointer>,
     pointer: &Pointer,
     group: u64,
-) -> bool
+) -> u64
     requires open { IsOpenIn R.Rack group shard.old }
     ensures frees { FreesIfOther R.Rack A.Area (get nat_eq objects.now) pointer.now group shard.old result shard.new }
 {
     if !shard.is_live(pointer) {
-        return false;
+        return 0;
     }
     if is_own(objects, pointer) {
-        return false;
+        return 0;
     }
     let Ok(_group) = free(shard, pointer, group) else {
         unreachable!()
     };
-    true
+    1
 }
 
 /// Frees the live blocks of a metaslab that aren't those of their objects, and counts them.
@@ -54,9 +54,7 @@ fn free_others_in<R: Rack, A: Area>(
     let mut from = 0;
     let mut freed = 0;
     while let Some(pointer) = shard.next_held(from) {
-        if free_if_other(shard, objects, &pointer, group) {
-            freed += 1;
-        }
+        freed += free_if_other(shard, objects, &pointer, group);
         from = pointer.first + 1;
     }
     freed
