@@ -1,2 +1,2 @@
 pub mod Appending
-pub mod Printing
+pub mod Lining

@@ -20,11 +20,16 @@ pub struct LaneReplies {
     pub stopped: bool,
 }
 
-/// The text that a reply becomes.
-fn into_text(alloc: Global, reply: Reply) -> Result<Vec<u8>, NoMemory>
-    ensures { IfOk result (λ text. text.items ≡ text_of reply) }
+/// Prints a text, as one `put`.
+fn put_text<K: Sink>(sink: &mut K, text: &[u8]) -> Result<(), Status>
+    ensures prints { PrintIs text.now (K.held sink.old) (K.held sink.new) result }
+    ensures later { K.faults sink.old ≤ K.faults sink.new }
+    ensures cause { result ≡ Err Status.SinkFault → Rose (K.faults sink.old) (K.faults sink.new) }
 {
-    reply_text(alloc, &reply)
+    match sink.put(text) {
+        Ok(()) => Ok(()),
+        Err(Failed) => Err(Status::SinkFault),
+    }
 }
 
 /// Prints a reply, as one `put`.
@@ -33,13 +38,10 @@ pub fn print_reply<K: Sink>(alloc: Global, sink: &mut K, reply: Reply) -> Result
     ensures later { K.faults sink.old ≤ K.faults sink.new }
     ensures cause { result ≡ Err Status.SinkFault → Rose (K.faults sink.old) (K.faults sink.new) }
 {
-    let Ok(text) = into_text(alloc, reply) else {
+    let Ok(text) = reply_text(alloc, &reply) else {
         return Err(Status::NoMemory);
     };
-    match sink.put(&text) {
-        Ok(()) => Ok(()),
-        Err(Failed) => Err(Status::SinkFault),
-    }
+    put_text(sink, &text)
 }
 
 /// The text of a reply to a lane of this number.
@@ -60,10 +62,7 @@ fn print_said<K: Sink>(alloc: Global, sink: &mut K, lane: u64, reply: &Reply) ->
     let Ok(text) = lane_text(alloc, lane, reply) else {
         return Err(Status::NoMemory);
     };
-    match sink.put(&text) {
-        Ok(()) => Ok(()),
-        Err(Failed) => Err(Status::SinkFault),
-    }
+    put_text(sink, &text)
 }
 
 /// Prints the replies to one lane.
@@ -87,11 +86,7 @@ fn print_lane<K: Sink>(
 }
 
 /// Prints the replies to all lanes, one lane after another.
-pub fn print_lanes<K: Sink>(
-    alloc: Global,
-    sink: &mut K,
-    ran: &[LaneReplies],
-) -> Result<(), Status>
+pub fn print_lanes<K: Sink>(alloc: Global, sink: &mut K, ran: &[LaneReplies]) -> Result<(), Status>
     ensures prints { PrintsAre (to_lanes 0 (replies_in ran.now)) (K.held sink.old) (K.held sink.new) result }
     ensures later { K.faults sink.old ≤ K.faults sink.new }
     ensures cause { result ≡ Err Status.SinkFault → Rose (K.faults sink.old) (K.faults sink.new) }

@@ -2,9 +2,9 @@ use Rattle.std.proofs.Common.{◌∙◌, ◌+◌, Some, subst, sym, take, drop}
 use Rattle.std.specs.Io.KnownBytes.{Appends}
 use Rattle.draid_session.specs.Sections.{to_lane}
 use Rattle.draid_print.specs.Printing.{texts_of}
-use Rattle.draid_print.proofs.Printing.{later_on, rose_from, same_later}
+use Rattle.draid_print.proofs.Lining.{later_on, rose_from, same_later}
 use Rattle.draid_print.proofs.Appending.{appends_none}
-use Rattle.draid_print.proofs.Printing.{cut_at, lane_here, lane_next, said_on, take_whole}
+use Rattle.draid_print.proofs.Lining.{cut_at, lane_here, lane_next, said_on, take_whole}
 use Rattle.draid_print.proofs.printing.print_lane.Goals as goal
 
 pub loop-k-init : goal.loop-k-init

@@ -4,9 +4,9 @@ use Rattle.draid_session.specs.Sections.{to_lane, to_lanes}
 use Rattle.draid_print.specs.Printing.{texts_of}
 use Rattle.draid_print.specs.Printing.{PrintsAre, replies_in}
 use Rattle.draid_print.specs.declared.printing.LaneReplies.{LaneReplies}
-use Rattle.draid_print.proofs.Printing.{later_on, rose_from, same_later}
+use Rattle.draid_print.proofs.Lining.{later_on, rose_from, same_later}
 use Rattle.draid_print.proofs.Appending.{appends_none}
-use Rattle.draid_print.proofs.Printing.{cut_in, lanes_here, lanes_next, take_whole, texts_on}
+use Rattle.draid_print.proofs.Lining.{cut_in, lanes_here, lanes_next, take_whole, texts_on}
 use Rattle.draid_print.proofs.printing.print_lanes.Goals as goal
 
 pub loop-k-init : goal.loop-k-init

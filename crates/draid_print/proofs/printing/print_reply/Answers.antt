@@ -1,7 +1,6 @@
 use Rattle.std.proofs.Common.{◌∙◌, refl, subst}
-use Rattle.std.specs.Io.KnownBytes.{Appends}
-use Rattle.draid_lines.specs.Sink.{AppendsFront}
-use Rattle.draid_print.proofs.Printing.{same_later}
+use Rattle.draid_print.specs.Printing.{PrintIs}
+use Rattle.draid_print.proofs.Lining.{same_later}
 use Rattle.draid_print.proofs.printing.print_reply.Goals as goal
 
 pub returns-in_default : goal.returns-in_default
@@ -11,16 +10,9 @@ returns-in_default g c = record {
   cause = λ is. absurd (cc is);
 }
 
-pub returns-in-Ok-put : goal.returns-in-Ok-put
-returns-in-Ok-put g c = record {
-  prints = subst (λ text. Appends (g.K.Sink.held c.args.sink.now) (g.K.Sink.held c.put.new.self) text) (c.deref.ensures.value ∙ c.in-Ok.ensures) c.in-Ok-put.ensures.bytes;
-  later = c.put.ensures.cause.later;
-  cause = λ is. absurd (cc is);
-}
-
 pub returns : goal.returns
 returns g c = record {
-  prints = subst (λ text. AppendsFront (g.K.Sink.held c.args.sink.now) (g.K.Sink.held c.put.new.self) text) (c.deref.ensures.value ∙ c.in-Ok.ensures) c.in-Err.ensures.bytes;
-  later = c.put.ensures.cause.later;
-  cause = λ is. c.in-Err.ensures.cause.cause;
+  prints = subst (λ text. PrintIs text (g.K.Sink.held c.args.sink.now) (g.K.Sink.held c.put_text.new.sink) c.put_text.result) (c.deref.ensures.value ∙ c.in-Ok.ensures) c.put_text.ensures.prints;
+  later = c.put_text.ensures.later;
+  cause = c.put_text.ensures.cause;
 }
