@@ -105,6 +105,7 @@ impl<A: Area> Uber<A> {
         ensures version { IfOk result (λ uber. version_of uber ≡ geometry.props.version) }
         ensures leaf { IfOk result (λ uber. next_leaf_of uber ≡ geometry.spec.children) }
         ensures point { IfOk result (λ uber. (point_of uber).group ≡ None) }
+        ensures drops { IfOk result (λ uber. (point_of uber).drops ≡ []) }
         ensures changed { IfOk result (λ uber. changed_of uber ≡ 0) }
     {
         Ok(Uber {
@@ -130,6 +131,7 @@ impl<A: Area> Uber<A> {
             (version_of uber ≡ body.props.version) × (next_leaf_of uber ≡ body.next_leaf))) }
         ensures ranges { IfOk result (λ uber. IsSomeAnd (kept_of uber) IsUber) }
         ensures point { IfOk result (λ uber. (point_of uber).group ≡ None) }
+        ensures drops { IfOk result (λ uber. (point_of uber).drops ≡ []) }
         ensures changed { IfOk result (λ uber. changed_of uber ≡ 0) }
 
         // From then on a crash leaves it alone.
@@ -153,8 +155,8 @@ impl<A: Area> Uber<A> {
                 geometry: layout(&body),
                 version: body.props.version,
                 next_leaf: body.next_leaf,
-                point: Check::none(alloc),
-            changed: 0,
+                    point: Check::none(alloc),
+                changed: 0,
                 alloc,
             }),
             Err(why) => Err(UberRefused { areas, why }),
@@ -321,6 +323,7 @@ impl<A: Area> Uber<A> {
         ensures valid { Valid A.size self.new }
         ensures found { IfOk result (λ it. OnTold (A.told (check_area (areas_of self.old) (group_of (kept_of self.old))))
             (λ x. check_in (group_of (kept_of self.old)) x.bytes ≡ Ok (told_check it))) }
+        ensures range { IfOk result (λ it. IsCheck (group_of (kept_of self.old)) (told_check it)) }
         ensures faulty { (place : ℕ) (kind : RecordFaultKind) → IsErrOf result (CheckFault.Record place kind)
             → OnTold (A.told (check_area (areas_of self.old) (group_of (kept_of self.old))))
             (λ x. check_in (group_of (kept_of self.old)) x.bytes ≡ Err (Bad place kind)) }
