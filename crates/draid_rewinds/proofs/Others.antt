@@ -1,5 +1,5 @@
 -- Blocks of one metaslab are freed to which a table doesn't lead, one after another, and then those of the next.
-use Rattle.std.proofs.Common.{arith, ◌≡◌, ◌+◌, ◌<◌, ◌≤◌, ◌++◌, ◌∙◌, ◌⊎◌, inl, inr, ℕ, List, [], ◌∷◌, Option, Some, None, refl, sym, ap, subst, slice_set, length}
+use Rattle.std.proofs.Common.{arith, ◌≡◌, ◌==◌, ◌+◌, ◌*◌, ◌^◌, if◌then◌else◌, ◌<◌, ◌≤◌, ◌++◌, ◌∙◌, ◌⊎◌, inl, inr, ℕ, List, [], ◌∷◌, Option, Some, None, refl, sym, ap, subst, slice_set, length, max}
 use Rattle.std.specs.Prelude.{map, slice_get}
 use Rattle.std.proofs.lemmas.Bool.{cases_eq, cases_lt}
 use Rattle.std.proofs.lemmas.Bool.Decides.{nat_tests}
@@ -13,12 +13,43 @@ use Rattle.draid_machine.specs.declared.names.Stage.TheVariants.{Freed, Live}
 use Rattle.draid_machine.proofs.Small.{some_injective}
 use Rattle.draid_entries.specs.declared.entry.Entry.{Entry}
 use Rattle.draid_entries.specs.Entries.{entry_at}
-use Rattle.draid_entries.specs.Maps.{staged}
+use Rattle.draid_entries.specs.Maps.{key_of, staged}
+use Rattle.draid_machine.specs.declared.event.Event.TheVariants.{Free}
+use Rattle.draid_shard.specs.Calls.{SameKit, SameReserve}
+use Rattle.draid_shard.specs.Changes.{SetsBlock}
+use Rattle.draid_shard.specs.Fits.{Valid}
 use Rattle.draid_shard.specs.Looks.{IsLive, IsNextHeld}
-use Rattle.draid_shard.specs.States.{part_of}
+use Rattle.draid_shard.specs.States.{Does, part_of}
 use Rattle.draid_shard.specs.declared.shard.Shard.{Shard}
 use Rattle.draid_pool.proofs.Lists.{get_set_other, get_set_same, set_back, set_twice, some_of}
+use Rattle.draid_pool.proofs.Freed.{frees}
 use Rattle.draid_rewinds.specs.Sweeps.{FreesAll, FreesIfOther, FreesOne, FreesOthers, FreesOthersIn, FreesThese, HasOnly, IsOpenIn}
+
+pub freed_now : {R A : Type 0} (rack : racks.Ghosts R) (area : areas.Ghosts A) (table : ℕ → Option Pointer) (p : Pointer) (group own : ℕ) (old new : Shard R A) → IsOpenIn rack group old → IsLive old p → (table p.object ≡ Some p → ⊥)
+    → Valid rack new → SameKit old new → SameReserve old new → own ≡ max old.open_group group → Does old new (Free (key_of p) own) → SetsBlock old new p (Some (staged (Freed own) p)) → FreesOne rack area table group p old new
+freed_now rack area table p group own old new is live other valid kit reserve own_is does sets = record {
+  open_ = record { valid = valid; is_open = sets.groups.open_group_is ∙ is.is_open; low = is.low };
+  live = live;
+  other = other;
+  part = does.part;
+  kit = kit;
+  sets = subst (λ k. SetsBlock old new p (Some (staged (Freed k) p))) same sets;
+  frees = frees rack area old new p group group valid kit reserve (sym same ∙ own_is) (subst (λ k. Does old new (Free (key_of p) k)) same does) is.low live;
+}
+  where
+    same : own ≡ group
+    same = (let at = is.is_open in omega (arith, own_is, at))
+
+-- sums of so many fit
+pub one_fits : (from freed more : ℕ) → freed ≤ from → from ≤ NUMBERS → more ≤ 1 → freed + more < 2 ^ 64
+one_fits from freed more few bound one = omega (arith, few, bound, one)
+
+pub sum_fits : (n freed more : ℕ) → n < 64 → freed ≤ n * NUMBERS → more ≤ NUMBERS → freed + more < 2 ^ 64
+sum_fits n freed more below few own = omega (arith, below, few, own)
+
+pub one_at_most : {R A : Type 0} (rack : racks.Ghosts R) (area : areas.Ghosts A) (table : ℕ → Option Pointer) (p : Pointer) (group : ℕ) (old : Shard R A) (freed : ℕ) (new : Shard R A) → FreesIfOther rack area table p group old freed new → freed ≤ 1
+one_at_most rack area table p group old freed new (inl one) = (let is = one.0 in omega (arith, is))
+one_at_most rack area table p group old freed new (inr none) = (let is = none.0 in omega (arith, is))
 
 module _ {R A : Type 0} (rack : racks.Ghosts R) (area : areas.Ghosts A) (table : ℕ → Option Pointer) (group : ℕ) where
   -- ---- one metaslab

@@ -1,5 +1,5 @@
 -- What becomes of a pool as its checkpoint is given up, with all live blocks to which no object's pointer leads.
-use Rattle.std.specs.Prelude.{◌≡◌, ◌+◌, ◌≤◌, ℕ, None, Some, max, nat_eq, slice_get}
+use Rattle.std.specs.Prelude.{◌≡◌, ◌+◌, ◌≤◌, ℕ, [], None, Some, length, max, nat_eq, slice_get}
 use Rattle.std.specs.HashMap.{get}
 use Rattle.draid_rack.specs.declared.Rack as racks
 use Rattle.draid_area.specs.declared.Area as areas
@@ -17,18 +17,22 @@ pub record MayGiveUp {R A : Type 0} (rack : racks.Ghosts R) (area : areas.Ghosts
   pub few : length pool.metaslabs.shards.items ≤ 64
   pub uber : ubers.Valid area.size pool.uber
 
--- the uberblock has no checkpoint from a group on
-pub record ForgetsPoint {A : Type 0} (area : areas.Ghosts A) (group : ℕ) (old new : Uber A) : Type 0 where
+-- its checkpoint changed in a group, and nothing else
+pub record SetsPoint {A : Type 0} (area : areas.Ghosts A) (group : ℕ) (old new : Uber A) : Type 0 where
   pub valid : ubers.Valid area.size new
-  pub point : (ubers.point_of new).group ≡ None
-  pub drops : (ubers.point_of new).drops ≡ []
-  pub told : (g : ℕ) → ubers.next_check new g ≡ no_check
   pub changed : ubers.changed_of new ≡ group
   pub areas_are : ubers.areas_of new ≡ ubers.areas_of old
   pub kept : ubers.kept_of new ≡ ubers.kept_of old
   pub layout : ubers.layout_of new ≡ ubers.layout_of old
   pub version : ubers.version_of new ≡ ubers.version_of old
   pub leaf : ubers.next_leaf_of new ≡ ubers.next_leaf_of old
+
+-- the uberblock has no checkpoint from a group on
+pub record ForgetsPoint {A : Type 0} (area : areas.Ghosts A) (group : ℕ) (old new : Uber A) : Type 0 where
+  pub sets : SetsPoint area group old new
+  pub point : (ubers.point_of new).group ≡ None
+  pub drops : (ubers.point_of new).drops ≡ []
+  pub told : (g : ℕ) → ubers.next_check new g ≡ no_check
 
 -- so many blocks were freed in that group, and the checkpoint is given up in it
 pub record GivesUp {R A : Type 0} (rack : racks.Ghosts R) (area : areas.Ghosts A) (old : Pool R A) (freed : ℕ) (new : Pool R A) : Type 0 where

@@ -9,7 +9,7 @@ pub loop-shard-init : goal.loop-shard-init
 loop-shard-init g c = record { finding = finding_none c.args.shards.now c.args.group (get nat_eq c.new-newest.result) (λ object. search rules); bound = omega arith }
 
 pub keep_born_in-requires : goal.keep_born_in-requires
-keep_born_in-requires g c = c.requires.valid c.loop-shard.shard-index c.shard-item.result (at_item c.args.shards.now c.loop-shard.shard-index c.shard-item.result c.loop-shard-test.true c.shard-item.is)
+keep_born_in-requires g c = record { valid = c.requires.valid c.loop-shard.shard-index c.shard-item.result (at_item c.args.shards.now c.loop-shard.shard-index c.shard-item.result c.loop-shard-test.true c.shard-item.is) }
 
 pub loop-shard-preserved : goal.loop-shard-preserved
 loop-shard-preserved g c =
