@@ -203,5 +203,10 @@ module _ {R A : Type 0} (rack : racks.Ghosts R) (area : areas.Ghosts A) where
           (λ g late. uber.told g ∙ sym (given_told x.store.marks group g (omega (arith, late)))) r.stands.uber;
     }
 
-    pub forgotten : ((object : ℕ) (v : Write) → write_of store.changes object ≡ Some v → v.object ≡ object) → Represents rack area new reached
-    forgotten own = represents_of rack area new r.stands.shared reached (stood own) rest
+    -- the frees, and the state to which they led
+    pub record Forgotten : Type 0 where
+      pub all : SweptAll rack area table group test x r.stands.pieces new.metaslabs.shards.items many
+      pub represents : Represents rack area new (record x { metaslabs = all.swept.metaslabs; store = store })
+
+    pub forgotten : ((object : ℕ) (v : Write) → write_of store.changes object ≡ Some v → v.object ≡ object) → Forgotten
+    forgotten own = record { all = swept; represents = represents_of rack area new r.stands.shared reached (stood own) rest }

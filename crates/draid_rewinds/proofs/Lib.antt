@@ -4,3 +4,7 @@ pub mod Swept
 pub mod Marking
 pub mod Forgotten
 pub mod Letting
+pub mod Backing
+pub mod WholeThen
+pub mod Settled
+pub mod GivenUp

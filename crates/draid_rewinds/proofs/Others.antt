@@ -198,7 +198,7 @@ module _ {R A : Type 0} (rack : racks.Ghosts R) (area : areas.Ghosts A) (table :
       → SweepingAll (n + 1) (freed + more) old (slice_set mid n shard')
   all_step n freed more old mid shard shard' there s f = record {
     blocks = in_metaslab n f.pointers ++ s.blocks;
-    many = (let a = s.many in let b = f.many in let both = length-append (in_metaslab n f.pointers) s.blocks in let each = length-map (λ (p : Pointer). (n, p)) f.pointers in omega (arith, a, b, both, each));
+    many = (let a = s.many in let b = f.many in let both = length-append (in_metaslab n f.pointers) s.blocks in let each = length-map f.pointers (λ (p : Pointer). (n, p)) in omega (arith, a, b, both, each));
     few = (let a = s.few in let b = f.few in omega (arith, a, b));
     long = length-set mid n shard' ∙ s.long;
     are = all_more s.blocks f.pointers old mid n shard shard' s.are there f.are;

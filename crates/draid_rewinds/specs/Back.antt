@@ -20,19 +20,19 @@ use Rattle.draid_rewinds.specs.declared.fault.Rewound.{Rewound}
 
 -- ---- where no group is closing
 
--- Each object has what it had at the checkpoint, in the group behind the committed one. The holds are those of the frees of the blocks that were born behind it.
-pub record Reverted (x : State) (holds : List Hold) (new : Store) : Type 0 where
-  pub reverts : Reverts (x.committed + 1) x.store new
-  pub frees : FreesBorn reverts.goes.check.group (x.committed + 1) holds
-  pub all : (object : ℕ) (w : Write) → write_of x.store.changes object ≡ Some w → reverts.goes.check.group < w.birth → FreesKey (key_of w) holds
+-- Each object has what it had at the checkpoint, from a group on. The holds are those of the frees of the blocks that were born behind it.
+pub record Reverted (group : ℕ) (old : Store) (holds : List Hold) (new : Store) : Type 0 where
+  pub reverts : Reverts group old new
+  pub frees : FreesBorn reverts.goes.check.group group holds
+  pub all : (object : ℕ) (w : Write) → write_of old.changes object ≡ Some w → reverts.goes.check.group < w.birth → FreesKey (key_of w) holds
 
--- the checkpoint is given up in that group, and these holds are those of the frees of the blocks that it alone kept, so many
-pub record LetsGo (x : State) (freed : ℕ) (holds : List Hold) (new : Store) : Type 0 where
-  pub has : check_by x.store.marks ≢ None
+-- the checkpoint is given up in a group, and these holds are those of the frees of the blocks that it alone kept, so many
+pub record LetsGo (group : ℕ) (old : Store) (freed : ℕ) (holds : List Hold) (new : Store) : Type 0 where
+  pub has : check_by old.marks ≢ None
   pub many : freed ≡ length holds
-  pub frees : FreesKept x.store (x.committed + 1) holds
-  pub all : (key : Key) → IsKeptAlone x.store key → FreesKey key holds
-  pub made : new ≡ given_up (x.committed + 1) x.store
+  pub frees : FreesKept old group holds
+  pub all : (key : Key) → IsKeptAlone old key → FreesKey key holds
+  pub made : new ≡ given_up group old
 
 -- ---- the whole
 

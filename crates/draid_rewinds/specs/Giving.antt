@@ -1,6 +1,7 @@
 -- What becomes of a pool as its checkpoint is given up, with all live blocks to which no object's pointer leads.
 use Rattle.std.specs.Prelude.{◌≡◌, ◌+◌, ◌≤◌, ℕ, [], None, Some, length, max, nat_eq, slice_get}
 use Rattle.std.specs.HashMap.{get}
+use Rattle.draid_names.specs.declared.numbers.TheConstants.{LAST_NUMBER}
 use Rattle.draid_rack.specs.declared.Rack as racks
 use Rattle.draid_area.specs.declared.Area as areas
 use Rattle.draid_shard.specs.declared.shard.Shard.{Shard}
@@ -15,6 +16,7 @@ use Rattle.draid_rewinds.specs.Sweeps.{FreesOthers, IsOpenIn}
 pub record MayGiveUp {R A : Type 0} (rack : racks.Ghosts R) (area : areas.Ghosts A) (pool : Pool R A) : Type 0 where
   pub each : (m : ℕ) (shard : Shard R A) → slice_get pool.metaslabs.shards.items m ≡ Some shard → IsOpenIn rack (group_in pool + 1) shard
   pub few : length pool.metaslabs.shards.items ≤ 64
+  pub low : group_in pool + 1 ≤ LAST_NUMBER
   pub uber : ubers.Valid area.size pool.uber
 
 -- its checkpoint changed in a group, and nothing else

@@ -60,7 +60,7 @@ fn go_back<R: Rack, A: Area>(pool: &mut Pool<R, A>, objects: HashMap<u64, Pointe
     ensures whole { IsWhole R.Rack A.Area pool.new }
     ensures later { AreasLater A.faults pool.old pool.new }
     ensures carries { (x : State) → Represents R.Rack A.Area pool.old x → x.store.floor ≤ x.committed + 1
-        → CarriesOut R.Rack A.Area pool.new x (Reverted x) }
+        → CarriesOut R.Rack A.Area pool.new x (Reverted (x.committed + 1) x.store) }
 {
     pool.own.objects = objects;
     give_up(pool);
@@ -103,7 +103,7 @@ fn let_go<R: Rack, A: Area>(pool: &mut Pool<R, A>) -> u64
     ensures same { SamePointers pool.old pool.new }
     ensures later { AreasLater A.faults pool.old pool.new }
     ensures carries { (x : State) → Represents R.Rack A.Area pool.old x → x.store.floor ≤ x.committed + 1
-        → CarriesOut R.Rack A.Area pool.new x (LetsGo x result) }
+        → CarriesOut R.Rack A.Area pool.new x (LetsGo (x.committed + 1) x.store result) }
 {
     give_up(pool)
 }

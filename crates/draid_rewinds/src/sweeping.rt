@@ -27,7 +27,7 @@ fn free_if_other<R: Rack, A: Area>(
     pointer: &Pointer,
     group: u64,
 ) -> u64
-    requires open { IsOpenIn R.Rack group shard.old }
+    requires ready { IsOpenIn R.Rack group shard.old }
     ensures frees { FreesIfOther R.Rack A.Area (get nat_eq objects.now) pointer.now group shard.old result shard.new }
 {
     if !shard.is_live(pointer) {
@@ -48,7 +48,7 @@ fn free_others_in<R: Rack, A: Area>(
     objects: &HashMap<u64, Pointer>,
     group: u64,
 ) -> u64
-    requires open { IsOpenIn R.Rack group shard.old }
+    requires ready { IsOpenIn R.Rack group shard.old }
     ensures frees { FreesOthersIn R.Rack A.Area (get nat_eq objects.now) group shard.old result shard.new }
 {
     let mut from = 0;
@@ -66,7 +66,7 @@ pub(crate) fn free_others<R: Rack, A: Area>(
     objects: &HashMap<u64, Pointer>,
     group: u64,
 ) -> u64
-    requires open { (m : ℕ) (shard : Shard R A) → slice_get shards.old.items m ≡ Some shard → IsOpenIn R.Rack group shard }
+    requires ready { (m : ℕ) (shard : Shard R A) → slice_get shards.old.items m ≡ Some shard → IsOpenIn R.Rack group shard }
     requires few { length shards.old.items ≤ 64 }
     ensures frees { FreesOthers R.Rack A.Area (get nat_eq objects.now) group shards.old.items result shards.new.items }
 {

@@ -16,7 +16,7 @@ free_others_in-freed-requires g c =
     let end = c.len-number-end.ensures in
     let len = c.args.shards.now.ok.0 in
     let there = at_item c.loop-number.shards.items c.loop-number.number c.index_mut.result.now (omega (arith, long, below, end, len)) c.index_mut.ensures.value in
-    record { open = c.requires.open c.loop-number.number c.index_mut.result.now (sym (all.left c.loop-number.number (omega arith)) ∙ there) }
+    record { ready = c.requires.ready c.loop-number.number c.index_mut.result.now (sym (all.left c.loop-number.number (omega arith)) ∙ there) }
 
 pub overflow_add-freed : goal.overflow_add-freed
 overflow_add-freed g c =

@@ -6,7 +6,7 @@ use Rattle.draid_rewinds.proofs.Others.{one_at_most, one_fits, sweeping_all, swe
 use Rattle.draid_rewinds.proofs.sweeping.free_others_in.Goals as goal
 
 pub loop-pointer-init : goal.loop-pointer-init
-loop-pointer-init g c = sweeping_none g.R.Rack g.A.Area (get nat_eq c.args.objects.now) c.args.group c.args.shard.now c.requires.open
+loop-pointer-init g c = sweeping_none g.R.Rack g.A.Area (get nat_eq c.args.objects.now) c.args.group c.args.shard.now c.requires.ready
 
 pub overflow_add-from : goal.overflow_add-from
 overflow_add-from g c = (let low = next_low g.R.Rack c.loop-pointer.shard c.loop-pointer.from c.in-Some.pointer c.in-Some.ensures.some in omega (arith, low))
@@ -33,7 +33,7 @@ loop-pointer-preserved g c =
     c.free_if_other-freed.ensures.frees
 
 pub free_if_other-freed-requires : goal.free_if_other-freed-requires
-free_if_other-freed-requires g c = record { open = c.loop-pointer.invariant.open_ }
+free_if_other-freed-requires g c = record { ready = c.loop-pointer.invariant.open_ }
 
 pub returns : goal.returns
 returns g c =
