@@ -1,5 +1,5 @@
 -- Objects go back to a checkpoint: what befalls them then, and which blocks they have.
-use Rattle.std.proofs.Common.{arith, ◌≡◌, ◌==◌, ◌≢◌, ◌+◌, ◌++◌, ◌<◌, ◌≤◌, ◌∙◌, ◌⊎◌, inl, inr, ⊤, ℕ, Bool, true, false, List, [], ◌∷◌, Option, Some, None, All, refl, sym, ap, subst, max, cond, if◌then◌else◌}
+use Rattle.std.proofs.Common.{arith, ◌≡◌, ◌==◌, ◌≢◌, ◌+◌, ◌++◌, ◌<◌, ◌≤◌, ◌∙◌, ◌⊎◌, inl, inr, ℕ, Bool, true, false, List, [], ◌∷◌, Option, Some, None, All, refl, sym, ap, subst, max, cond, if◌then◌else◌}
 use Rattle.std.specs.Prelude.{IsSome, filter, find, map, nat_eq, nat_le, nat_lt, slice_get}
 use Rattle.std.specs.HashMap.{get}
 use Rattle.std.proofs.lemmas.Bool.Decides.{nat_tests}
@@ -51,11 +51,11 @@ use Rattle.draid_rewinds.proofs.Swept.{IsTestOf, metaslab_at}
 -- ---- changes
 
 module _ (check group : ℕ) (old : List Change) where
-  back_to : (o : ℕ) → Option Write → Change
+  abbrev pub back_to : (o : ℕ) → Option Write → Change
   back_to o None = Freed o group
   back_to o (Some w) = Restored w group
 
-  abbrev back_of : Change → Change
+  abbrev pub back_of : Change → Change
   back_of c = back_to (object_of c) (kept check old (object_of c))
 
   -- what befalls the objects to which something had befallen

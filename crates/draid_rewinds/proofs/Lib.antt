@@ -8,3 +8,4 @@ pub mod Backing
 pub mod WholeThen
 pub mod Settled
 pub mod GivenUp
+pub mod Going

@@ -1,5 +1,5 @@
 -- Blocks of one metaslab are freed to which a table doesn't lead, one after another, and then those of the next.
-use Rattle.std.proofs.Common.{arith, ◌≡◌, ◌==◌, ◌+◌, ◌*◌, ◌^◌, if◌then◌else◌, ◌<◌, ◌≤◌, ◌++◌, ◌∙◌, ◌⊎◌, inl, inr, ℕ, List, [], ◌∷◌, Option, Some, None, refl, sym, ap, subst, slice_set, length, max}
+use Rattle.std.proofs.Common.{arith, ◌≡◌, ◌==◌, ◌+◌, ◌*◌, if◌then◌else◌, ◌<◌, ◌≤◌, ◌++◌, ◌∙◌, ◌⊎◌, inl, inr, ℕ, List, [], ◌∷◌, Option, Some, None, refl, sym, ap, subst, slice_set, length, max}
 use Rattle.std.specs.Prelude.{map, slice_get}
 use Rattle.std.proofs.lemmas.Bool.{cases_eq, cases_lt}
 use Rattle.std.proofs.lemmas.Bool.Decides.{nat_tests}
@@ -39,13 +39,6 @@ freed_now rack area table p group own old new is live other valid kit reserve ow
   where
     same : own ≡ group
     same = (let at = is.is_open in omega (arith, own_is, at))
-
--- sums of so many fit
-pub one_fits : (from freed more : ℕ) → freed ≤ from → from ≤ NUMBERS → more ≤ 1 → freed + more < 2 ^ 64
-one_fits from freed more few bound one = omega (arith, few, bound, one)
-
-pub sum_fits : (n freed more : ℕ) → n < 64 → freed ≤ n * NUMBERS → more ≤ NUMBERS → freed + more < 2 ^ 64
-sum_fits n freed more below few own = omega (arith, below, few, own)
 
 pub one_at_most : {R A : Type 0} (rack : racks.Ghosts R) (area : areas.Ghosts A) (table : ℕ → Option Pointer) (p : Pointer) (group : ℕ) (old : Shard R A) (freed : ℕ) (new : Shard R A) → FreesIfOther rack area table p group old freed new → freed ≤ 1
 one_at_most rack area table p group old freed new (inl one) = (let is = one.0 in omega (arith, is))
@@ -198,7 +191,7 @@ module _ {R A : Type 0} (rack : racks.Ghosts R) (area : areas.Ghosts A) (table :
       → SweepingAll (n + 1) (freed + more) old (slice_set mid n shard')
   all_step n freed more old mid shard shard' there s f = record {
     blocks = in_metaslab n f.pointers ++ s.blocks;
-    many = (let a = s.many in let b = f.many in let both = length-append (in_metaslab n f.pointers) s.blocks in let each = length-map f.pointers (λ (p : Pointer). (n, p)) in omega (arith, a, b, both, each));
+    many = (let a = s.many in let b = f.many in let both = length-append (in_metaslab n f.pointers) s.blocks in let each : length (in_metaslab n f.pointers) ≡ length f.pointers = length-map {B = ℕ × Pointer} f.pointers (λ p. (n, p)) in omega (arith, a, b, both, each));
     few = (let a = s.few in let b = f.few in omega (arith, a, b));
     long = length-set mid n shard' ∙ s.long;
     are = all_more s.blocks f.pointers old mid n shard shard' s.are there f.are;

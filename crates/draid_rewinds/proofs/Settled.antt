@@ -1,6 +1,6 @@
 -- What is so of a pool in which no group is closing, and of holds of metaslabs alone.
-use Rattle.std.proofs.Common.{arith, ◌≡◌, ◌≢◌, ◌+◌, ◌++◌, ◌<◌, ◌≤◌, ◌∙◌, ◌⊎◌, inl, inr, ⊤, ℕ, zero, suc, Bool, true, false, List, [], ◌∷◌, Option, Some, None, refl, sym, ap, subst, length}
-use Rattle.std.specs.Prelude.{is_some, slice_get}
+use Rattle.std.proofs.Common.{arith, ◌≡◌, ◌≢◌, ◌+◌, ◌++◌, ◌<◌, ◌≤◌, ◌∙◌, ◌⊎◌, inl, inr, ℕ, zero, suc, Bool, true, false, List, [], ◌∷◌, Option, Some, None, refl, sym, ap, subst, length}
+use Rattle.std.specs.Prelude.{⊤, is_some, slice_get}
 use Rattle.std.proofs.lemmas.Option.{slice_get_within}
 use Rattle.draid_rack.specs.declared.Rack as racks
 use Rattle.draid_area.specs.declared.Area as areas
@@ -93,7 +93,7 @@ module _ (geometry : Geometry) (perms : Perms) (group : ℕ) where
   names_next : (holds : List Hold) (x y : State) → groups.Names geometry perms group holds Went → Follows holds x y → y.committed ≡ x.committed + 1
   names_next (OnUber u (Committed t) ∷ []) x y names (mid, one, rest) =
       let sees = ap (λ (v : UberView). v.committed) one.sees in
-      let made = ap (λ (s : State). s.committed) one.acts.2.1 in
+      let made = ap (λ (s : State). s.committed) one.acts.2 in
       let same = ap (λ (s : State). s.committed) rest in
       let is = names.0 in
       let next = names.1 in

@@ -1,6 +1,6 @@
 -- What frees of blocks do to the state for whose metaslabs the shards stand, one after another.
-use Rattle.std.proofs.Common.{arith, ◌≡◌, ◌≤◌, ◌++◌, ◌∙◌, ◌⊎◌, inl, inr, ⊤, ℕ, Bool, true, false, List, [], ◌∷◌, Option, Some, refl, sym, ap, subst, slice_set, length}
-use Rattle.std.specs.Prelude.{None, option_map, slice_get}
+use Rattle.std.proofs.Common.{arith, ◌≡◌, ◌+◌, ◌≤◌, ◌++◌, ◌∙◌, ◌⊎◌, inl, inr, ℕ, Bool, true, false, List, [], ◌∷◌, Option, Some, refl, sym, ap, subst, slice_set, length}
+use Rattle.std.specs.Prelude.{⊤, None, option_map, slice_get}
 use Rattle.std.proofs.lemmas.Bool.{cases_eq}
 use Rattle.std.proofs.lemmas.List.{length-append, length-set}
 use Rattle.std.proofs.lemmas.Option.{slice_get_within}

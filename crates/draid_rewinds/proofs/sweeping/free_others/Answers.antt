@@ -2,7 +2,7 @@ use Rattle.std.proofs.Common.{arith, ◌∙◌, sym}
 use Rattle.std.specs.Prelude.{nat_eq}
 use Rattle.std.specs.HashMap.{get}
 use Rattle.draid_found.proofs.Noted.{at_item}
-use Rattle.draid_rewinds.proofs.Others.{all_ends, all_none, all_step, sum_fits}
+use Rattle.draid_rewinds.proofs.Others.{all_ends, all_none, all_step}
 use Rattle.draid_rewinds.proofs.sweeping.free_others.Goals as goal
 
 pub loop-number-init : goal.loop-number-init
@@ -27,7 +27,7 @@ overflow_add-freed g c =
     let end = c.len-number-end.ensures in
     let len = c.args.shards.now.ok.0 in
     let most = c.requires.few in
-    sum_fits c.loop-number.number c.loop-number.freed c.free_others_in-freed.result (omega (arith, below, end, len, most)) few more
+    omega (arith, below, end, len, most, few, more)
 
 pub loop-number-preserved : goal.loop-number-preserved
 loop-number-preserved g c =

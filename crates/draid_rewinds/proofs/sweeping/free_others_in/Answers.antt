@@ -2,7 +2,7 @@ use Rattle.std.proofs.Common.{arith}
 use Rattle.std.specs.Prelude.{nat_eq}
 use Rattle.std.specs.HashMap.{get}
 use Rattle.draid_found.proofs.Noted.{next_low}
-use Rattle.draid_rewinds.proofs.Others.{one_at_most, one_fits, sweeping_all, sweeping_more, sweeping_none}
+use Rattle.draid_rewinds.proofs.Others.{one_at_most, sweeping_all, sweeping_more, sweeping_none}
 use Rattle.draid_rewinds.proofs.sweeping.free_others_in.Goals as goal
 
 pub loop-pointer-init : goal.loop-pointer-init
@@ -15,7 +15,8 @@ pub overflow_add-freed : goal.overflow_add-freed
 overflow_add-freed g c =
     let few = c.loop-pointer.invariant.few in
     let bound = c.loop-pointer.invariant.bound in
-    one_fits c.loop-pointer.from c.loop-pointer.freed c.free_if_other-freed.result few bound (one_at_most g.R.Rack g.A.Area _ _ _ _ _ _ c.free_if_other-freed.ensures.frees)
+    let one = one_at_most g.R.Rack g.A.Area (get nat_eq c.args.objects.now) c.in-Some.pointer c.args.group c.loop-pointer.shard c.free_if_other-freed.result c.free_if_other-freed.new.shard c.free_if_other-freed.ensures.frees in
+    omega (arith, few, bound, one)
 
 pub loop-pointer-smaller : goal.loop-pointer-smaller
 loop-pointer-smaller g c =
