@@ -9,3 +9,7 @@ pub mod WholeThen
 pub mod Settled
 pub mod GivenUp
 pub mod Going
+pub mod Made
+pub mod Comes
+pub mod Taken
+pub mod Whys

@@ -4,10 +4,11 @@ ghost use Rattle.draid_session.specs.State.{State};
 ghost use Rattle.draid_pool.specs.Carries.{CarriesOut};
 ghost use Rattle.draid_pool.specs.Failing.{AreaRose, AreasLater};
 ghost use Rattle.draid_pool.specs.Pointers.{SamePointers};
-ghost use Rattle.draid_pool.specs.Pools.{Represents};
+ghost use Rattle.draid_pool.specs.Pools.{Represents, group_in};
 ghost use Rattle.draid_pool.specs.Syncing.{AreIdle};
 ghost use Rattle.draid_pool.specs.Whole.{IsWhole};
-ghost use Rattle.draid_uber.specs.Uber.{Valid as IsValidUber, point_of};
+ghost use Rattle.draid_names.specs.declared.numbers.TheConstants.{LAST_NUMBER};
+ghost use Rattle.draid_uber.specs.Uber.{point_of};
 ghost use Rattle.draid_rewinds.specs.Low.{IsLow};
 ghost use Rattle.draid_rewinds.specs.Taking.{HasRoomFor, TakeDoes, TakesDoes};
 
@@ -49,7 +50,7 @@ pub fn checkpoint<R: Rack, A: Area>(pool: &mut Pool<R, A>) -> Result<u64, TakeFa
 
 /// A checkpoint of the group that is open, with room for each live block, where there is none.
 fn point_for<R: Rack, A: Area>(pool: &Pool<R, A>) -> Result<Check, NoMemory>
-    requires valid { IsValidUber A.size pool.now.uber }
+    requires low { group_in pool.now < LAST_NUMBER }
     ensures { IfOk result (λ point. HasRoomFor pool.now point) }
 {
     let blocks = pool.objects();
