@@ -80,7 +80,7 @@ module _ (check group : ℕ) (old : List Change) where
   goes_to o None is = (refl, is)
   goes_to o (Some w) is = (refl, ap (kept check old) (kept_own o w is) ∙ is)
 
-  backs_go : (cs : List Change) → All (GoesBack check group old) (map back_of cs)
+  pub backs_go : (cs : List Change) → All (GoesBack check group old) (map back_of cs)
   backs_go [] = All-nil (GoesBack check group old)
   backs_go (c ∷ cs) = All-cons (GoesBack check group old) (back_of c) (map back_of cs) (goes_to (object_of c) (kept check old (object_of c)) refl) (backs_go cs)
 
@@ -312,7 +312,7 @@ module _ {R A : Type 0} (rack : racks.Ghosts R) (area : areas.Ghosts A) (pool : 
       floor = refl;
       stores = λ new frees. rewound sha256 x.committed group x.store.changes back_store.changes x.store.marks c blocks new r.stands.holds.stores check (omega arith) early floor_at
           (marked_later (max x.store.floor (x.committed + 1)) group x.store.marks (omega (arith, floor_low)) r.stands.groups.marked) frees is_back;
-      writes = λ k. writes_stay c.group group x.store.changes is_back.back k is_back.each;
+      writes = λ k. writes_stay c.group group x.store.changes (backs c.group group x.store.changes) k (backs_go c.group group x.store.changes x.store.changes);
       changed = λ object. groups_upto c.group group x.store.changes object (floor_at object).changed;
       only = λ m k h there live not.
           subst (IsLastAt m k) (sym (is_back.now k.object)) (last_back k.object (kept c.group x.store.changes k.object) m k refl (born_there m k h there live (younger_not c.group h.birth not)) (has.says k.object));

@@ -121,8 +121,7 @@ module _ {R A : Type 0} (rack : racks.Ghosts R) (area : areas.Ghosts A) where
               (then_phase rack area q last x (Seals group new.thin) (Ends group) Went (s.carries x r) n.carries)
               (λ holds store done. (
                 group_is,
-                done.0,
-                subst (λ thin. Chain (groups.SealPhase x.geometry x.perms group thin) (Ends group x.geometry x.perms) holds Went) (sym thin_is) done.1,
+                (done.0, subst (λ thin. Chain (groups.SealPhase x.geometry x.perms group thin) (Ends group x.geometry x.perms) holds Went) (sym thin_is) done.1),
               ));
         }
     going (Err why) b new v (inl (seals, same)) =

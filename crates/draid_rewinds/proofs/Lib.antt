@@ -13,3 +13,4 @@ pub mod Made
 pub mod Comes
 pub mod Taken
 pub mod Whys
+pub mod Stopped

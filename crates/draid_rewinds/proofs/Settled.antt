@@ -14,9 +14,9 @@ use Rattle.draid_shard.specs.Part.{Part}
 use Rattle.draid_shard.specs.declared.shard.Shard.{Shard}
 use Rattle.draid_session.specs.Follows.{Follows}
 use Rattle.draid_session.specs.Groups as groups
-use Rattle.draid_session.specs.Holds.{Committed, Hold, On, OnUber, UberView, View, view_of}
+use Rattle.draid_session.specs.Holds.{CommitFailed, CommitStarved, Committed, Hold, On, OnUber, UberView, View, view_of}
 use Rattle.draid_session.specs.Looks.{AllOf}
-use Rattle.draid_session.specs.Phases.{Chain, Each, End, Walk, Went}
+use Rattle.draid_session.specs.Phases.{Broke, Chain, Each, End, Starved, Walk, Went}
 use Rattle.draid_session.specs.State.{Metaslab, State, Store}
 use Rattle.draid_session.proofs.Looked.{Seen, follows_split, looks_seen}
 use Rattle.draid_pool.specs.Metaslabs.{IsMetaslab}
@@ -90,15 +90,17 @@ module _ (geometry : Geometry) (perms : Perms) (group : ℕ) where
   seal_on thin holds end (sum, w, same) = walk_on (groups.Seals geometry perms group) (groups.SealStops geometry perms group) seals_on seal_stops_on 0 geometry.props.metaslabs holds end sum w
 
   -- the uberblock names the group
-  names_next : (holds : List Hold) (x y : State) → groups.Names geometry perms group holds Went → Follows holds x y → y.committed ≡ x.committed + 1
-  names_next (OnUber u (Committed t) ∷ []) x y names (mid, one, rest) =
+  names_next : (holds : List Hold) (end : End) (x y : State) → end ≡ Went → groups.Names geometry perms group holds end → Follows holds x y → y.committed ≡ x.committed + 1
+  names_next (OnUber u (Committed t) ∷ []) Went x y went names (mid, one, rest) =
       let sees = ap (λ (v : UberView). v.committed) one.sees in
       let made = ap (λ (s : State). s.committed) one.acts.2 in
       let same = ap (λ (s : State). s.committed) rest in
       let is = names.0 in
       let next = names.1 in
       omega (arith, sees, made, same, is, next)
-  names_next holds x y names follows = absurd names
+  names_next (OnUber u (CommitFailed t) ∷ []) Broke x y went names follows = absurd (cc)
+  names_next (OnUber u (CommitStarved t) ∷ []) Starved x y went names follows = absurd (cc)
+  names_next holds end x y went names follows = absurd names
 
   -- a group that was committed
   pub group_next : (thin : ℕ) (holds : List Hold) (x y : State) → groups.Group geometry perms group thin holds Went → Follows holds x y → y.committed ≡ x.committed + 1
@@ -111,7 +113,7 @@ module _ (geometry : Geometry) (perms : Perms) (group : ℕ) where
       let c = follows_split names commits b.0 y (subst (λ hs. Follows hs b.0 y) are_last b.2) in
       let one = (on_stays front x a.0 (close_on front Went close) a.1).committed in
       let two = (on_stays seals a.0 b.0 (seal_on thin seals Went seal) b.1).committed in
-      let three = names_next names b.0 c.0 named c.1 in
+      let three = names_next names Went b.0 c.0 refl named c.1 in
       let four = (on_stays commits c.0 y (each_on (groups.Commits geometry perms group) commits_on 0 geometry.props.metaslabs commits commit.0) c.2).committed in
       omega (arith, one, two, three, four)
 

@@ -1,5 +1,5 @@
 -- What frees of blocks do to the state for whose metaslabs the shards stand, one after another.
-use Rattle.std.proofs.Common.{arith, ◌≡◌, ◌+◌, ◌≤◌, ◌++◌, ◌∙◌, ◌⊎◌, inl, inr, ℕ, Bool, true, false, List, [], ◌∷◌, Option, Some, refl, sym, ap, subst, slice_set, length}
+use Rattle.std.proofs.Common.{arith, ◌≡◌, ◌+◌, ◌≤◌, ◌++◌, ◌∙◌, ◌⊎◌, inl, inr, ℕ, suc, Bool, true, false, List, [], ◌∷◌, Option, Some, refl, sym, ap, subst, slice_set, length}
 use Rattle.std.specs.Prelude.{⊤, None, option_map, slice_get}
 use Rattle.std.proofs.lemmas.Bool.{cases_eq}
 use Rattle.std.proofs.lemmas.List.{length-append, length-set}
@@ -256,11 +256,14 @@ module _ {R A : Type 0} (rack : racks.Ghosts R) (area : areas.Ghosts A) where
         blocks = blocks_then;
       }
 
+    one_on : (n : ℕ) → n + 1 ≡ suc n
+    one_on n = omega arith
+
     -- all of them
     swept_all : IsTestOf test table (blocks_of x.metaslabs) → (ds : List (ℕ × Pointer)) (old new : List (Shard R A)) → StandsAll x pieces old x.metaslabs → FreesAll rack area table group ds old new → Swept new (length ds)
     swept_all told [] old new stands same = subst (λ zs. Swept zs 0) (sym same) (swept_none old stands)
     swept_all told (d ∷ ds) old new stands (mid, before, after, rest, there, one, is) =
-        subst (λ zs. Swept zs (1 + length ds)) (sym is) (subst (λ n. Swept (slice_set mid d.0 after) n) (omega arith)
+        subst (λ zs. Swept zs (suc (length ds))) (sym is) (subst (Swept (slice_set mid d.0 after)) (one_on (length ds))
         (swept_more told (length ds) mid (swept_all told ds old mid stands rest) d.0 d.1 before after there one))
 
     -- The live blocks that pass the test were freed, and none else.

@@ -96,7 +96,7 @@ module _ {R A : Type 0} (rack : racks.Ghosts R) (area : areas.Ghosts A) where
 
     -- what it did, by its answer
     done_by : (answer : Result Synced SyncFault) → GoesOnDoes (record c.reached { store = marked (Made group) c.reached.store }) group answer e.holds e.store → TakesDoes x answer (c.holds ++ e.holds) e.store
-    done_by (Ok it) (group_is, kept_is, chain) = (
+    done_by (Ok it) (group_is, (kept_is, chain)) = (
       none,
       group_is ∙ at,
       kept e.store kept_is it.group (sym group_is),

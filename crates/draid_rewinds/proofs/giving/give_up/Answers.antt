@@ -29,6 +29,6 @@ returns g c =
         geometry = refl;
         objects = refl;
         seq = refl;
-        floor = (let most = c.max.ensures in omega (arith, most, same));
+        floor = (let most = c.max-pool.ensures in omega (arith, most, same));
       };
     }
