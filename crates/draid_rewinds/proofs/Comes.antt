@@ -48,10 +48,10 @@ SyncEnds geometry perms (Err why) holds = (group : ℕ) × (thin : ℕ) × group
 
 sync_ends : (z : State) (result : Result Synced SyncFault) (holds : List Hold) (store : Store) → SyncDoes z result holds store → (store ≡ z.store) × SyncEnds z.geometry z.perms result holds
 sync_ends z (Ok it) holds store d = d
-sync_ends z (Err sync.Worn) holds store d = (d.0, d.1.group, d.1.thin, d.1.syncs)
-sync_ends z (Err sync.Last) holds store d = (d.0, d.1.group, d.1.thin, d.1.syncs)
-sync_ends z (Err sync.Shelf) holds store d = (d.0, d.1.group, d.1.thin, d.1.syncs)
-sync_ends z (Err sync.NoMemory) holds store d = (d.0, d.1.group, d.1.thin, d.1.syncs)
+sync_ends z (Err sync.Worn) holds store d = (d.0, (d.1.group, d.1.thin, d.1.syncs))
+sync_ends z (Err sync.Last) holds store d = (d.0, (d.1.group, d.1.thin, d.1.syncs))
+sync_ends z (Err sync.Shelf) holds store d = (d.0, (d.1.group, d.1.thin, d.1.syncs))
+sync_ends z (Err sync.NoMemory) holds store d = (d.0, (d.1.group, d.1.thin, d.1.syncs))
 
 module _ {R A : Type 0} (rack : racks.Ghosts R) (area : areas.Ghosts A) where
   -- ---- behind the finishing

@@ -135,8 +135,7 @@ module _ {R A : Type 0} (rack : racks.Ghosts R) (area : areas.Ghosts A) where
               carries_so rack area last x (SealDoes x group (Err why)) (GoesOnDoes x group (Err why)) (s.carries x r)
               (λ holds store done. (
                 done.1.0,
-                done.0,
-                inr (not_went Synced why, subst (groups.SealPhase x.geometry x.perms group done.1.0 holds) (end_same ℕ Synced why) done.1.1),
+                (done.0, inr (not_went Synced why, subst (groups.SealPhase x.geometry x.perms group done.1.0 holds) (end_same ℕ Synced why) done.1.1)),
               ));
         })
     going (Err why) b new v (inr (seals, names)) =
@@ -153,8 +152,7 @@ module _ {R A : Type 0} (rack : racks.Ghosts R) (area : areas.Ghosts A) where
               (then_phase rack area q last x (Seals group new.thin) (Ends group) (end_of {T = Unit} (Err why)) (s.carries x r) n.carries)
               (λ holds store done. (
                 new.thin,
-                done.0,
-                subst (Chain (groups.SealPhase x.geometry x.perms group new.thin) (Ends group x.geometry x.perms) holds) (end_same Unit Synced why) done.1,
+                (done.0, subst (Chain (groups.SealPhase x.geometry x.perms group new.thin) (Ends group x.geometry x.perms) holds) (end_same Unit Synced why) done.1),
               ));
         }
 

@@ -102,7 +102,7 @@ module _ {R A : Type 0} (rack : racks.Ghosts R) (area : areas.Ghosts A) where
       kept e.store kept_is it.group (sym group_is),
       subst (λ n. groups.Group x.geometry x.perms n it.thin (c.holds ++ e.holds) Went) (sym group_is) (inl (c.holds, e.holds, refl, c.done.1, behind it.thin Went chain)),
     )
-    done_by (Err why) (thin, kept_is, chain) =
+    done_by (Err why) (thin, (kept_is, chain)) =
         let end : End = end_of {T = Synced} (Err why) in
         let here = behind thin end chain in
         let late_is : IsLate end = behind_late x.geometry x.perms group thin e.holds end here in
@@ -187,12 +187,12 @@ module _ {R A : Type 0} (rack : racks.Ghosts R) (area : areas.Ghosts A) where
     closing_stops end stopped none closes = (stopped, inr (none, record { group = c.reached.committed + 1; front = c.holds; u = u; back = d.holds; are = refl; finishes = c.done.1; next = refl; closes = closes }))
 
     behind_stops : (why : SyncFault) → Says (Err why) x.geometry x.perms x.store → TakeDoes x (Err (fault.Sync why)) holds d.store
-    behind_stops sync.Worn (none, inl (kept, closes)) = (kept, closing_stops (end_of {T = Synced} (Err sync.Worn)) (not_went Synced sync.Worn) none closes)
-    behind_stops sync.Worn (none, inr (not_worn, rest)) = absurd (not_worn refl)
-    behind_stops sync.Last (none, inl (kept, closes)) = (kept, closing_stops (end_of {T = Synced} (Err sync.Last)) (not_went Synced sync.Last) none closes)
-    behind_stops sync.Last (none, inr (not_worn, not_last, rest)) = absurd (not_last refl)
-    behind_stops sync.Shelf (none, inl (kept, closes)) = inl (kept, closing_stops (end_of {T = Synced} (Err sync.Shelf)) (not_went Synced sync.Shelf) none closes)
-    behind_stops sync.Shelf (none, inr (not_worn, not_last, made, (front, back, thin, are, closes, rest))) = inr (record {
+    behind_stops sync.Worn (unmade, inl (stays, closes)) = (stays, closing_stops (end_of {T = Synced} (Err sync.Worn)) (not_went Synced sync.Worn) unmade closes)
+    behind_stops sync.Worn (unmade, inr (not_worn, not_last, made_is, rest)) = absurd (not_worn refl)
+    behind_stops sync.Last (unmade, inl (stays, closes)) = (stays, closing_stops (end_of {T = Synced} (Err sync.Last)) (not_went Synced sync.Last) unmade closes)
+    behind_stops sync.Last (unmade, inr (not_worn, not_last, made_is, rest)) = absurd (not_last refl)
+    behind_stops sync.Shelf (unmade, inl (stays, closes)) = inl (stays, closing_stops (end_of {T = Synced} (Err sync.Shelf)) (not_went Synced sync.Shelf) unmade closes)
+    behind_stops sync.Shelf (unmade, inr (not_worn, not_last, made_is, (front, back, thin, are, closes, rest))) = inr (record {
       group = c.reached.committed + 1;
       thin = thin;
       front = c.holds;
@@ -205,11 +205,11 @@ module _ {R A : Type 0} (rack : racks.Ghosts R) (area : areas.Ghosts A) where
       closes = closes;
       rest = rest;
       stopped = not_went Synced sync.Shelf;
-      none = none;
-      made = made;
+      none = unmade;
+      made = made_is;
     })
-    behind_stops sync.NoMemory (none, inl (kept, closes)) = inl (kept, closing_stops (end_of {T = Synced} (Err sync.NoMemory)) (not_went Synced sync.NoMemory) none closes)
-    behind_stops sync.NoMemory (none, inr (not_worn, not_last, made, (front, back, thin, are, closes, rest))) = inr (record {
+    behind_stops sync.NoMemory (unmade, inl (stays, closes)) = inl (stays, closing_stops (end_of {T = Synced} (Err sync.NoMemory)) (not_went Synced sync.NoMemory) unmade closes)
+    behind_stops sync.NoMemory (unmade, inr (not_worn, not_last, made_is, (front, back, thin, are, closes, rest))) = inr (record {
       group = c.reached.committed + 1;
       thin = thin;
       front = c.holds;
@@ -222,8 +222,8 @@ module _ {R A : Type 0} (rack : racks.Ghosts R) (area : areas.Ghosts A) where
       closes = closes;
       rest = rest;
       stopped = not_went Synced sync.NoMemory;
-      none = none;
-      made = made;
+      none = unmade;
+      made = made_is;
     })
 
     pub take_stopped : (why : SyncFault) → result ≡ Err why → CarriesOut rack area new x (TakeDoes x (Err (fault.Sync why)))

@@ -1,6 +1,6 @@
 -- Why a command on the checkpoint was refused.
-use Rattle.std.proofs.Common.{◌≡◌, ℕ, Err, refl}
-use Rattle.std.specs.Prelude.{IsErrOf, Result}
+use Rattle.std.proofs.Common.{◌≡◌, ℕ, Bool, true, false, Option, Some, None, Err, refl, ◌∙◌, sym}
+use Rattle.std.specs.Prelude.{IsErrOf, Result, is_some, not}
 use Rattle.draid_pool.specs.declared.fault.SyncFault.{SyncFault}
 use Rattle.draid_pool.specs.declared.fault.SyncFault.TheVariants as sync
 use Rattle.draid_rewinds.specs.declared.fault.BackFault.TheVariants as back
@@ -18,3 +18,14 @@ take_shelf sync.Worn is = absurd (cc is)
 take_shelf sync.Last is = absurd (cc is)
 take_shelf sync.Shelf is = refl
 take_shelf sync.NoMemory is = absurd (cc is)
+
+-- what a test for nothing says
+pub none_by : (o : Option ℕ) (b : Bool) → is_some o ≡ not b → b ≡ true → o ≡ None
+none_by None b says is = refl
+none_by (Some own) true says is = absurd (cc)
+none_by (Some own) false says is = absurd (cc)
+
+pub some_by : (o : Option ℕ) (b : Bool) → is_some o ≡ not b → b ≡ false → o ≡ None → ⊥
+some_by (Some own) b says is none = absurd (cc)
+some_by None true says is none = absurd (cc)
+some_by None false says is none = absurd (cc)
