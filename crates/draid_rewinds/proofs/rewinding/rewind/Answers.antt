@@ -29,7 +29,7 @@ returns-in_default-group g c =
     record { whole = first.whole; later = first.later; cause = λ is. absurd (cc is); carries = λ x r low. rewind_none g.R.Rack g.A.Area mid x (first.carries x r) none }
 
 pub newest_born-requires : goal.newest_born-requires
-newest_born-requires g c = record { valid = subst (AreValid g.R.Rack) (sym c.deref.ensures) (λ m shard there. (c.in_default.ensures.whole.shards m shard there).valid) }
+newest_born-requires g c = record { valid = subst (AreValid g.R.Rack) (sym c.deref.ensures.value) (λ m shard there. (c.in_default.ensures.whole.shards m shard there).valid) }
 
 pub returns-in_default-newest_born : goal.returns-in_default-newest_born
 returns-in_default-newest_born g c =
@@ -45,7 +45,7 @@ go_back-requires g c =
       whole = c.in_default.ensures.whole;
       idle = c.in_default.ensures.idle;
       some = some;
-      objects = subst (λ zs. AreNewestBorn zs c.in-Some.group (get nat_eq c.in-Ok.objects)) c.deref.ensures c.in-Ok.ensures;
+      objects = subst (λ zs. AreNewestBorn zs c.in-Some.group (get nat_eq c.in-Ok.objects)) c.deref.ensures.value c.in-Ok.ensures;
     }
 
 pub returns-in-Ok-sync : goal.returns-in-Ok-sync
