@@ -1,7 +1,6 @@
 -- Objects go back to a checkpoint: what befalls them then, and which blocks they have.
-use Rattle.std.proofs.Common.{arith, ◌≡◌, ◌==◌, ◌≢◌, ◌+◌, ◌++◌, ◌<◌, ◌≤◌, ◌∙◌, ◌⊎◌, inl, inr, ℕ, Bool, true, false, List, [], ◌∷◌, Option, Some, None, All, refl, sym, ap, subst, max, cond, if◌then◌else◌}
-use Rattle.std.specs.Prelude.{IsSome, filter, find, map, nat_eq, nat_le, nat_lt, slice_get}
-use Rattle.std.specs.HashMap.{get}
+use Rattle.std.proofs.Common.{arith, ◌≡◌, ◌==◌, ◌+◌, ◌++◌, ◌≤◌, ◌∙◌, ◌⊎◌, inl, inr, ℕ, true, false, List, [], ◌∷◌, Option, Some, None, All, refl, sym, ap, subst, max, cond, if◌then◌else◌}
+use Rattle.std.specs.Prelude.{IsSome, find, map, nat_le, nat_lt, slice_get}
 use Rattle.std.proofs.lemmas.Bool.Decides.{nat_tests}
 use Rattle.std.proofs.lemmas.List.Elements.{All-append, All-cons, All-filter, All-head, All-nil, All-tail, All-weaker}
 use Rattle.std.proofs.lemmas.Option.{slice_get_within}
@@ -11,16 +10,16 @@ use Rattle.draid_rack.specs.declared.Rack as racks
 use Rattle.draid_area.specs.declared.Area as areas
 use Rattle.draid_machine.specs.declared.names.Held.{Held}
 use Rattle.draid_machine.specs.declared.names.Key.{Key}
-use Rattle.draid_machine.specs.declared.names.Stage.TheVariants.{Freed as FreedStage, Live}
+use Rattle.draid_machine.specs.declared.names.Stage.TheVariants.{Live}
 use Rattle.draid_machine.specs.After.{seal_held}
 use Rattle.draid_machine.proofs.Seals.{sealed_held}
-use Rattle.draid_machine.specs.Names.{is_block, is_freed_by, key_eq}
+use Rattle.draid_machine.specs.Names.{is_block, is_freed_by}
 use Rattle.draid_machine.proofs.Small.{bool_cases, equal, is_equal, none_some}
-use Rattle.draid_objects.specs.Blocks.{Blocks, SaysOf, SaysWrite, sealed_at}
+use Rattle.draid_objects.specs.Blocks.{Blocks, SaysOf, sealed_at}
 use Rattle.draid_objects.specs.Changes.{Change, Freed, Restored, Write, Wrote, group_of, has_key, kept, key_of as key_in, object_of, upto as changes_upto, write_by, write_in, write_of}
-use Rattle.draid_objects.specs.Marks.{Check, GivenUp, born_by, born_upto, check_at, check_by, mark_group}
-use Rattle.draid_objects.specs.Rewinds.{FreesThose, GoesBack, IsRewound, is_younger}
-use Rattle.draid_objects.specs.Stores.{AreMarkedUpto, HasCheck, IsBlockOf, IsFloor, Stores}
+use Rattle.draid_objects.specs.Marks.{Check, GivenUp, born_by, born_upto, check_at, check_by}
+use Rattle.draid_objects.specs.Rewinds.{GoesBack, IsRewound, is_younger}
+use Rattle.draid_objects.specs.Stores.{HasCheck, IsBlockOf, IsFloor}
 use Rattle.draid_objects.proofs.Checking.{born_some}
 use Rattle.draid_objects.proofs.Finding.{changes_it, other_changes}
 use Rattle.draid_objects.proofs.Keeping.{floor_up}
@@ -30,20 +29,19 @@ use Rattle.draid_objects.proofs.Sealing.{gone_sealed, is_some_of, live_block, se
 use Rattle.draid_objects.proofs.Sealing as sealing
 use Rattle.draid_entries.specs.Entries.{entry_at}
 use Rattle.draid_entries.specs.Maps.{held_at, key_of, staged}
-use Rattle.draid_found.specs.Found.{Reaches}
 use Rattle.draid_shard.specs.Looks.{IsLive}
 use Rattle.draid_shard.specs.Part.{Part}
 use Rattle.draid_shard.specs.declared.shard.Shard.{Shard}
 use Rattle.draid_shard.proofs.Held.{held_entry}
-use Rattle.draid_session.specs.State.{Metaslab, State, Store}
-use Rattle.draid_pool.specs.Objects.{IsLastAt, IsPointerOf, PointsTo, blocks_of}
-use Rattle.draid_pool.specs.Pools.{Represents, part_in}
+use Rattle.draid_session.specs.State.{State, Store}
+use Rattle.draid_pool.specs.Objects.{IsLastAt, PointsTo, blocks_of}
+use Rattle.draid_pool.specs.Pools.{Represents}
 use Rattle.draid_pool.specs.declared.pool.Pool.{Pool}
 use Rattle.draid_pool.proofs.Lists.{present, some_of}
-use Rattle.draid_pool.proofs.Lives.{held_by, live_by}
+use Rattle.draid_pool.proofs.Lives.{held_by}
 use Rattle.draid_pool.proofs.Marked.{marked_later}
 use Rattle.draid_pool.proofs.Moved.{blocks_at}
-use Rattle.draid_rewinds.specs.Tables.{AreNewestBorn, IsBorn}
+use Rattle.draid_rewinds.specs.Tables.{AreNewestBorn}
 use Rattle.draid_rewinds.proofs.Forgotten.{MayForget}
 use Rattle.draid_rewinds.proofs.Letting.{at_top, floor_top, own_object, same_pointer, top}
 use Rattle.draid_rewinds.proofs.Swept.{IsTestOf, metaslab_at}

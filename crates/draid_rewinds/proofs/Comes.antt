@@ -1,12 +1,12 @@
 -- A closing group is finished, something befalls the checkpoint, and a sync comes to its end.
-use Rattle.std.proofs.Common.{arith, ◌≡◌, ◌≢◌, ◌+◌, ◌++◌, ◌≤◌, ◌∙◌, ◌⊎◌, inl, inr, ℕ, List, [], ◌∷◌, Option, Some, None, Ok, Err, refl, sym, ap, subst, length}
+use Rattle.std.proofs.Common.{◌≡◌, ◌≢◌, ◌+◌, ◌++◌, ◌≤◌, inl, inr, ℕ, List, ◌∷◌, Some, None, Ok, Err, refl, subst}
 use Rattle.std.specs.Prelude.{Result}
 use Rattle.draid_rack.specs.declared.Rack as racks
 use Rattle.draid_area.specs.declared.Area as areas
 use Rattle.draid_spec.specs.declared.layout.Geometry.{Geometry}
 use Rattle.draid_perm.specs.declared.perms.Perms.{Perms}
 use Rattle.draid_machine.proofs.Small.{none_some}
-use Rattle.draid_objects.specs.Marks.{Check, check_by}
+use Rattle.draid_objects.specs.Marks.{check_by}
 use Rattle.draid_session.specs.Discarding.{Discards}
 use Rattle.draid_session.specs.Follows.{Follows}
 use Rattle.draid_session.specs.GoingBack.{GoesBack}
@@ -14,7 +14,7 @@ use Rattle.draid_session.specs.Groups as groups
 use Rattle.draid_session.specs.Holds.{Hold, LookedUber, OnUber, UberView}
 use Rattle.draid_session.specs.Opening.{HasObjects}
 use Rattle.draid_session.specs.Phases.{End, Went}
-use Rattle.draid_session.specs.Points.{HasPoint, IsPointOf}
+use Rattle.draid_session.specs.Points.{HasPoint}
 use Rattle.draid_session.specs.State.{State, Store}
 use Rattle.draid_uber.specs.Uber.{point_of}
 use Rattle.draid_pool.specs.Carries.{CarriesOut}
@@ -31,10 +31,7 @@ use Rattle.draid_pool.proofs.Steps.{carries_so, follows_on, own_of, same_layout,
 use Rattle.draid_pool.proofs.SyncSteps.{not_went}
 use Rattle.draid_rewinds.specs.Back.{DiscardDoes, LetsGo, Reverted, RewindDoes}
 use Rattle.draid_rewinds.specs.Low.{IsLow}
-use Rattle.draid_rewinds.specs.declared.fault.BackFault.{BackFault}
 use Rattle.draid_rewinds.specs.declared.fault.BackFault.TheVariants as fault
-use Rattle.draid_rewinds.specs.declared.fault.Discarded.{Discarded}
-use Rattle.draid_rewinds.specs.declared.fault.Rewound.{Rewound}
 use Rattle.draid_rewinds.proofs.Going.{end_same}
 use Rattle.draid_rewinds.proofs.GivenUp.{has_point}
 use Rattle.draid_rewinds.proofs.Settled.{low_then}

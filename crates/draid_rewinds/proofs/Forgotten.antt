@@ -1,8 +1,7 @@
 -- For which state a pool stands whose checkpoint was given up, with the live blocks to which its table doesn't lead.
-use Rattle.std.proofs.Common.{arith, ◌≡◌, ◌+◌, ◌<◌, ◌≤◌, ◌∙◌, ◌⊎◌, inl, inr, ℕ, Bool, true, false, List, [], ◌∷◌, Option, Some, None, All, refl, sym, ap, subst, length, max}
-use Rattle.std.specs.Prelude.{nat_eq, option_map, slice_get}
+use Rattle.std.proofs.Common.{arith, ◌≡◌, ◌+◌, ◌≤◌, ◌∙◌, inl, inr, ℕ, Bool, true, false, ◌∷◌, Option, Some, None, All, refl, sym, ap, subst, max}
+use Rattle.std.specs.Prelude.{nat_eq}
 use Rattle.std.specs.HashMap.{get}
-use Rattle.std.proofs.lemmas.Bool.Decides.{nat_tests}
 use Rattle.std.proofs.lemmas.List.Elements.{All-cons}
 use Rattle.std.proofs.lemmas.Option.{slice_get_within}
 use Rattle.sha2.specs.Sha256.{sha256}
@@ -16,20 +15,14 @@ use Rattle.draid_machine.specs.declared.names.Stage.TheVariants.{Freed, Live}
 use Rattle.draid_machine.specs.Names.{is_block}
 use Rattle.draid_objects.specs.Blocks.{Blocks}
 use Rattle.draid_objects.specs.Changes.{Write, group_of, object_of, write_by, write_of}
-use Rattle.draid_objects.specs.Marks.{GivenUp, Mark, check_by, is_dropped, mark_group}
+use Rattle.draid_objects.specs.Marks.{GivenUp, mark_group}
 use Rattle.draid_objects.specs.Rewinds.{FreesThose, freed_in}
-use Rattle.draid_objects.specs.Stores.{AreMarkedUpto, IsBehindChecks, IsFloor, Stores}
+use Rattle.draid_objects.specs.Stores.{AreMarkedUpto, IsBehindChecks, Stores}
 use Rattle.draid_entries.specs.Maps.{held_at, key_of, staged}
-use Rattle.draid_shard.specs.Looks.{IsLive}
 use Rattle.draid_shard.specs.Part.{Part}
-use Rattle.draid_shard.specs.declared.shard.Shard.{Shard}
-use Rattle.draid_session.specs.Opening.{MayFind}
-use Rattle.draid_session.specs.State.{Metaslab, State, Store}
-use Rattle.draid_pool.specs.Importable.{IsAlike}
-use Rattle.draid_pool.specs.Objects.{HasPieces, HoldsObjects, IsLastAt, IsPointerOf, PointsTo, blocks_of}
-use Rattle.draid_pool.specs.Pools.{Represents, part_in}
-use Rattle.draid_pool.specs.Records.{HasImage, LeavesAreBelow}
-use Rattle.draid_pool.specs.Ubers.{IsUber}
+use Rattle.draid_session.specs.State.{State, Store}
+use Rattle.draid_pool.specs.Objects.{HoldsObjects, IsLastAt, IsPointerOf, PointsTo, blocks_of}
+use Rattle.draid_pool.specs.Pools.{Represents}
 use Rattle.draid_pool.specs.declared.pool.Pool.{Pool}
 use Rattle.draid_pool.proofs.Imaged.{alike_stays, image_kept, leaves_kept}
 use Rattle.draid_pool.proofs.Lists.{present, some_of}
@@ -40,7 +33,7 @@ use Rattle.draid_pool.proofs.Stood.{IsOneOf, Rest, Stood, represents_of}
 use Rattle.draid_rewinds.specs.Giving.{ForgetsPoint}
 use Rattle.draid_rewinds.specs.Sweeps.{FreesOthers}
 use Rattle.draid_rewinds.proofs.Marking.{given_behind, given_told, uber_marked}
-use Rattle.draid_rewinds.proofs.Swept.{FreedAt, IsTestOf, Since, StandsAll, Swept, SweptAll, metaslab_at, swept_whole}
+use Rattle.draid_rewinds.proofs.Swept.{IsTestOf, StandsAll, Swept, SweptAll, metaslab_at, swept_whole}
 
 module _ {R A : Type 0} (rack : racks.Ghosts R) (area : areas.Ghosts A) where
   -- the shards of a pool stand for the metaslabs of its state

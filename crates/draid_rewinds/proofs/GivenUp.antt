@@ -1,5 +1,5 @@
 -- What a pool does that gives up its checkpoint: as it goes back to it, and as it lets it go.
-use Rattle.std.proofs.Common.{arith, ◌≡◌, ◌≢◌, ◌+◌, ◌<◌, ◌≤◌, ◌∙◌, inl, inr, ℕ, Bool, true, false, List, [], ◌∷◌, Option, Some, None, refl, sym, ap, subst, length, max}
+use Rattle.std.proofs.Common.{arith, ◌≡◌, ◌≢◌, ◌+◌, ◌<◌, ◌≤◌, ◌∙◌, ℕ, true, false, List, [], ◌∷◌, Option, Some, None, refl, sym, ap, subst, max}
 use Rattle.std.specs.Prelude.{nat_eq, nat_lt, slice_get}
 use Rattle.std.specs.HashMap.{get}
 use Rattle.std.proofs.lemmas.Bool.Decides.{nat_tests}
@@ -8,21 +8,19 @@ use Rattle.draid_names.specs.declared.pointer.Pointer.{Pointer}
 use Rattle.draid_rack.specs.declared.Rack as racks
 use Rattle.draid_area.specs.declared.Area as areas
 use Rattle.draid_machine.specs.declared.event.Event.TheVariants as event
-use Rattle.draid_machine.specs.declared.names.Held.{Held}
-use Rattle.draid_machine.specs.declared.names.Key.{Key}
 use Rattle.draid_machine.specs.declared.names.Stage.TheVariants.{Live}
 use Rattle.draid_machine.proofs.Small.{none_some}
-use Rattle.draid_objects.specs.Changes.{Write, key_of as key_in, write_of}
+use Rattle.draid_objects.specs.Changes.{Write, write_of}
 use Rattle.draid_objects.specs.Marks.{Check, Mark, check_by}
 use Rattle.draid_objects.specs.Rewinds.{is_its_own, is_younger}
 use Rattle.draid_objects.proofs.Marking.{upto_all}
 use Rattle.draid_entries.specs.Maps.{held_at, key_of, staged}
 use Rattle.draid_shard.specs.Part.{Part}
-use Rattle.draid_session.specs.Discarding.{FreesKept, FreesKey, IsKeptAlone}
-use Rattle.draid_session.specs.GoingBack.{FreesBorn, Reverts}
+use Rattle.draid_session.specs.Discarding.{FreesKept, FreesKey}
+use Rattle.draid_session.specs.GoingBack.{FreesBorn}
 use Rattle.draid_session.specs.Holds.{Did, Hold, On}
 use Rattle.draid_session.specs.Points.{HasPoint, IsPointOf, given_up}
-use Rattle.draid_session.specs.State.{Metaslab, State, Store}
+use Rattle.draid_session.specs.State.{State, Store}
 use Rattle.draid_uber.specs.Uber.{point_of}
 use Rattle.draid_pool.specs.Carries.{CarriesOut}
 use Rattle.draid_pool.specs.Objects.{IsPointerOf, PointsTo, blocks_of}

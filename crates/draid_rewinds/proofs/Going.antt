@@ -1,6 +1,6 @@
 -- A sync whose group is closed in all metaslabs goes on to its end.
-use Rattle.std.proofs.Common.{arith, ◌≡◌, ◌≢◌, ◌+◌, ◌∙◌, inl, inr, ℕ, zero, suc, false, List, [], ◌∷◌, Option, Some, None, Ok, Err, refl, sym, ap, subst}
-use Rattle.std.specs.Prelude.{Result, IsErrOf, slice_get}
+use Rattle.std.proofs.Common.{◌≡◌, ◌≢◌, ◌+◌, inl, inr, ℕ, zero, suc, false, List, [], ◌∷◌, Some, None, Ok, Err, refl, sym, subst}
+use Rattle.std.specs.Prelude.{Result, IsErrOf}
 use Rattle.draid_rack.specs.declared.Rack as racks
 use Rattle.draid_area.specs.declared.Area as areas
 use Rattle.draid_spec.specs.declared.layout.Geometry.{Geometry}
@@ -11,10 +11,10 @@ use Rattle.draid_uber.specs.declared.uber.Uber.{Uber}
 use Rattle.draid_session.specs.Groups as groups
 use Rattle.draid_session.specs.Holds.{AreaFailed, CallStarved, CommitFailed, CommitStarved, Committed, Hold, On, OnUber}
 use Rattle.draid_session.specs.Phases.{Broke, Chain, End, Starved, Walk, WasLast, WasWorn, Went}
-use Rattle.draid_session.specs.State.{State, Store}
+use Rattle.draid_session.specs.State.{State}
 use Rattle.draid_pool.specs.Carries.{CarriesOut}
 use Rattle.draid_pool.specs.Failing.{AreaRose, AreasLater}
-use Rattle.draid_pool.specs.GoingOn.{GoesOnIn, IsFirst, MayGoOn}
+use Rattle.draid_pool.specs.GoingOn.{GoesOnIn, MayGoOn}
 use Rattle.draid_pool.specs.Grouping.{SealsBy, SealsNext, WaitsForWrites}
 use Rattle.draid_pool.specs.Pools.{Represents}
 use Rattle.draid_pool.specs.Syncing.{AreClosing, Phase, SealDoes, end_of}
@@ -27,8 +27,8 @@ use Rattle.draid_pool.specs.declared.owned.Owned.{Owned}
 use Rattle.draid_pool.specs.declared.pool.Pool.{Pool}
 use Rattle.draid_pool.proofs.GoneOn.{begun_all, begun_until, stands_first}
 use Rattle.draid_pool.proofs.GroupClosed.{each_whole, left_by, went_by, with_owned}
-use Rattle.draid_pool.proofs.GroupDone.{NamedAll, named_all, named_not, with_both}
-use Rattle.draid_pool.proofs.GroupSealed.{SealedAll, never_in_the_way, sealed_all}
+use Rattle.draid_pool.proofs.GroupDone.{named_all, named_not, with_both}
+use Rattle.draid_pool.proofs.GroupSealed.{never_in_the_way, sealed_all}
 use Rattle.draid_pool.proofs.OwnedKnows.{all}
 use Rattle.draid_pool.proofs.Refusing.{no_refusal}
 use Rattle.draid_pool.proofs.Rises.{areas_on, err_on, rose_then}

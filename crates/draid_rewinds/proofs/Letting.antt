@@ -1,22 +1,19 @@
 -- The blocks that a checkpoint alone keeps are those to which no object's pointer leads.
-use Rattle.std.proofs.Common.{arith, ◌≡◌, ◌≢◌, ◌==◌, ◌+◌, ◌<◌, ◌≤◌, ◌∙◌, ◌⊎◌, inl, inr, ℕ, Bool, true, false, List, [], ◌∷◌, Option, Some, None, All, refl, sym, ap, subst, max}
-use Rattle.std.specs.Prelude.{IsSome, nat_eq, slice_get}
+use Rattle.std.proofs.Common.{arith, ◌≡◌, ◌==◌, ◌+◌, ◌≤◌, ◌∙◌, inl, inr, ℕ, false, List, [], ◌∷◌, Option, Some, None, refl, sym, ap, subst, max}
+use Rattle.std.specs.Prelude.{nat_eq}
 use Rattle.std.specs.HashMap.{get}
-use Rattle.std.proofs.lemmas.List.Elements.{All-weaker}
 use Rattle.sha2.specs.Sha256.{sha256}
 use Rattle.draid_names.specs.declared.pointer.Pointer.{Pointer}
 use Rattle.draid_rack.specs.declared.Rack as racks
 use Rattle.draid_area.specs.declared.Area as areas
-use Rattle.draid_machine.specs.declared.names.Held.{Held}
-use Rattle.draid_machine.specs.declared.names.Key.{Key}
 use Rattle.draid_machine.specs.declared.names.Stage.TheVariants.{Live}
 use Rattle.draid_machine.proofs.Small.{bool_cases, is_equal, none_some}
-use Rattle.draid_objects.specs.Blocks.{Blocks, SaysOf, SaysWrite, sealed_at}
+use Rattle.draid_objects.specs.Blocks.{Blocks, SaysOf, sealed_at}
 use Rattle.draid_objects.specs.Changes as changes
 use Rattle.draid_objects.specs.Changes.{Change, Freed, Restored, Write, Wrote, group_of, kept, object_of, write_of}
-use Rattle.draid_objects.specs.Marks.{Check, check_at, check_by, counted, is_dropped, mark_group, shown_at}
-use Rattle.draid_objects.specs.Rewinds.{FreesThose, is_its_own}
-use Rattle.draid_objects.specs.Stores.{AreMarkedUpto, IsFloor, Stores}
+use Rattle.draid_objects.specs.Marks.{Check, check_at, check_by, counted, is_dropped, shown_at}
+use Rattle.draid_objects.specs.Rewinds.{is_its_own}
+use Rattle.draid_objects.specs.Stores.{AreMarkedUpto, IsFloor}
 use Rattle.draid_objects.proofs.Checking.{count_gone}
 use Rattle.draid_objects.proofs.Finding.{changes_it, kept_all, other_changes}
 use Rattle.draid_objects.proofs.Keeping.{floor_up}
@@ -24,13 +21,10 @@ use Rattle.draid_objects.proofs.Marking.{upto_all}
 use Rattle.draid_objects.proofs.Rewinding.{discarded}
 use Rattle.draid_objects.proofs.Sealing as sealing
 use Rattle.draid_entries.specs.Maps.{held_at, key_of, staged}
-use Rattle.draid_shard.specs.Looks.{IsLive}
-use Rattle.draid_shard.specs.Part.{Part}
-use Rattle.draid_shard.specs.declared.shard.Shard.{Shard}
 use Rattle.draid_session.specs.Points.{given_up}
-use Rattle.draid_session.specs.State.{Metaslab, State, Store}
+use Rattle.draid_session.specs.State.{State}
 use Rattle.draid_pool.specs.Objects.{IsLastAt, IsPointerOf, PointsTo, blocks_of}
-use Rattle.draid_pool.specs.Pools.{Represents, part_in}
+use Rattle.draid_pool.specs.Pools.{Represents}
 use Rattle.draid_pool.specs.declared.pool.Pool.{Pool}
 use Rattle.draid_pool.proofs.Lists.{present, some_of}
 use Rattle.draid_pool.proofs.Lives.{held_by}

@@ -1,12 +1,10 @@
 -- A checkpoint is made of the group that is closing in all metaslabs: what the pool stands for then.
-use Rattle.std.proofs.Common.{arith, ◌≡◌, ◌+◌, ◌<◌, ◌≤◌, ◌∙◌, inl, inr, ℕ, Bool, true, false, List, [], ◌∷◌, Option, Some, None, All, refl, sym, ap, subst, length, max}
+use Rattle.std.proofs.Common.{arith, ◌≡◌, ◌+◌, ◌≤◌, ◌∙◌, inl, inr, ℕ, Bool, false, [], ◌∷◌, Option, Some, None, All, refl, sym, ap, subst, length, max}
 use Rattle.std.specs.Prelude.{Contains, IsSome, nat_eq, slice_get}
 use Rattle.std.specs.HashMap.{get}
 use Rattle.std.proofs.lemmas.Option.{slice_get_within}
-use Rattle.draid_record.specs.Checks.{CheckTold}
 use Rattle.std.proofs.lemmas.List.Elements.{All-cons, All-contains, All-contains_itself, All-nil, All-weaker}
 use Rattle.sha2.specs.Sha256.{sha256}
-use Rattle.draid_names.specs.declared.numbers.TheConstants.{LAST_NUMBER}
 use Rattle.draid_names.specs.declared.pointer.Pointer.{Pointer}
 use Rattle.draid_rack.specs.declared.Rack as racks
 use Rattle.draid_area.specs.declared.Area as areas
@@ -15,23 +13,20 @@ use Rattle.draid_checkpoint.specs.declared.check.DroppedIn.{DroppedIn}
 use Rattle.draid_machine.specs.declared.names.Held.{Held}
 use Rattle.draid_machine.specs.declared.names.Key.{Key}
 use Rattle.draid_machine.specs.declared.names.Stage.TheVariants.{Freed as FreedStage, Live}
-use Rattle.draid_machine.specs.Names.{is_block, is_freed_by}
 use Rattle.draid_machine.specs.After.{seal_held}
 use Rattle.draid_machine.proofs.Seals.{sealed_held}
 use Rattle.draid_machine.proofs.Small.{none_some}
 use Rattle.draid_objects.specs.Blocks.{Blocks, sealed_at}
-use Rattle.draid_objects.specs.Changes.{Change, Write, group_of as group_in_change, key_of as key_in, object_of, write_of}
+use Rattle.draid_objects.specs.Changes.{Write, group_of as group_in_change, object_of, write_of}
 use Rattle.draid_objects.specs.Marks.{Made, check_by, is_dropped, mark_group}
-use Rattle.draid_objects.specs.Stores.{AreMarkedUpto, HasOne, IsBehindChecks, Stores}
+use Rattle.draid_objects.specs.Stores.{AreMarkedUpto, HasOne, Stores}
 use Rattle.draid_objects.proofs.Marking.{made}
 use Rattle.draid_objects.proofs.Sealing.{gone_sealed, stages}
 use Rattle.draid_objects.proofs.Sealing as sealing
 use Rattle.draid_shard.specs.Fits.{AreGroups}
-use Rattle.draid_shard.specs.Part.{Part}
 use Rattle.draid_shard.specs.declared.shard.Shard.{Shard}
-use Rattle.draid_shard.proofs.Changed.{same_arms}
 use Rattle.draid_session.specs.Points.{marked}
-use Rattle.draid_session.specs.State.{Metaslab, State, Store}
+use Rattle.draid_session.specs.State.{Metaslab, State}
 use Rattle.draid_uber.specs.Held.{IsNext}
 use Rattle.draid_uber.specs.Slots.{group_of}
 use Rattle.draid_uber.specs.Checks.{count_in}
@@ -39,9 +34,9 @@ use Rattle.draid_uber.specs.Uber as ubers
 use Rattle.draid_uber.specs.declared.uber.Uber.{Uber}
 use Rattle.draid_pool.specs.Failing.{AreasLater}
 use Rattle.draid_pool.specs.Objects.{IsLastAt, blocks_of}
-use Rattle.draid_pool.specs.Pools.{HasNames, Represents, group_in}
+use Rattle.draid_pool.specs.Pools.{Represents, group_in}
 use Rattle.draid_pool.specs.Syncing.{AreClosing}
-use Rattle.draid_pool.specs.Whole.{IsPointer, IsShardOf, IsWhole, PointFits}
+use Rattle.draid_pool.specs.Whole.{IsShardOf, IsWhole, PointFits}
 use Rattle.draid_pool.specs.declared.pool.Pool.{Pool}
 use Rattle.draid_pool.proofs.Lists.{present, some_of}
 use Rattle.draid_pool.proofs.Marked.{marked_later}
@@ -168,13 +163,16 @@ module _ {R A : Type 0} (rack : racks.Ghosts R) (area : areas.Ghosts A) where
       sealed_live : (n : ℕ) (k : Key) → IsSome (sealed_at (x.committed + 1) blocks n k) → (h : Held) × (blocks n k ≡ Some h) × (h.stage ≡ Live)
       sealed_live n k some =
           let z = sealing.some_of (sealed_at (x.committed + 1) blocks n k) some in
-          let y = sealed_held (x.committed + 1) (blocks n k) z.0 z.1 in
-          (y.h, y.found, elim (stages y.h.stage y.block) [
-            | inl live ↦ live
-            | inr freed ↦
-                let low = freed_low n k y.h freed.0 y.found freed.1 in
-                absurd (none_some (sealed_at (x.committed + 1) blocks n k) z.0 (ap (seal_held (x.committed + 1)) y.found ∙ gone_sealed (x.committed + 1) freed.0 y.h low freed.1) z.1)
-          ])
+          let y = sealed_held (x.committed + 1) (blocks n k) z.0 z.1 in (
+            y.h,
+            y.found,
+            elim (stages y.h.stage y.block) [
+              | inl live ↦ live
+              | inr freed ↦
+                  let low = freed_low n k y.h freed.0 y.found freed.1 in
+                  absurd (none_some (sealed_at (x.committed + 1) blocks n k) z.0 (ap (seal_held (x.committed + 1)) y.found ∙ gone_sealed (x.committed + 1) freed.0 y.h low freed.1) z.1)
+            ],
+          )
 
       last_once : (o : Option Write) (n p : ℕ) (j k : Key) → IsLastAt n j o → IsLastAt p k o → (n ≡ p) × (j ≡ k)
       last_once None n p j k a b = absurd a

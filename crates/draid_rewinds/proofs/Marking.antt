@@ -1,18 +1,17 @@
 -- Something befalls the checkpoint of a pool in the group behind the committed one, of which no commit was refused: what its uberblock stands for then.
-use Rattle.std.proofs.Common.{arith, ◌≡◌, ◌==◌, ◌+◌, ◌<◌, ◌≤◌, ◌∙◌, inl, inr, ℕ, Bool, true, false, List, [], ◌∷◌, Option, Some, None, Contains, All, ◌%◌, refl, sym, ap, subst, if◌then◌else◌}
-use Rattle.std.specs.Prelude.{⊤, MatchOption, cond, nat_le, ◌↔◌, ◌++◌}
+use Rattle.std.proofs.Common.{arith, ◌≡◌, ◌==◌, ◌+◌, ◌<◌, ◌≤◌, ◌∙◌, ℕ, Bool, true, false, List, [], ◌∷◌, Option, Some, None, ◌%◌, refl, sym, ap, subst, if◌then◌else◌}
+use Rattle.std.specs.Prelude.{⊤, MatchOption, cond, nat_le, ◌↔◌}
 use Rattle.std.proofs.lemmas.Bool.Decides.{nat_tests}
 use Rattle.std.proofs.lemmas.List.Elements.{All-contains, All-cons, All-weaker, Contains-append_left, Contains-push}
 use Rattle.draid_area.specs.Area.{OnTold}
 use Rattle.draid_area.specs.declared.Area as areas
-use Rattle.draid_record.specs.Checks.{CheckTold}
 use Rattle.draid_record.specs.declared.uber.UberBody.{UberBody}
-use Rattle.draid_machine.proofs.Small.{bool_cases, none_some}
+use Rattle.draid_machine.proofs.Small.{none_some}
 use Rattle.draid_objects.specs.Marks.{Check, GivenUp, Made, Mark, check_at, check_by, mark_group, marks_upto}
 use Rattle.draid_objects.specs.Stores.{AreMarkedUpto, IsBehindChecks}
 use Rattle.draid_uber.specs.Checks.{AreasStand, CheckStands, HasCheck, count_in, told_by}
 use Rattle.draid_uber.specs.Points.{no_check}
-use Rattle.draid_uber.specs.Uber.{area_of, areas_of, changed_of, kept_of, next_check}
+use Rattle.draid_uber.specs.Uber.{areas_of, changed_of, next_check}
 use Rattle.draid_uber.specs.declared.uber.Uber.{Uber}
 use Rattle.draid_session.specs.Points.{HasLateMark}
 use Rattle.draid_session.specs.State.{Metaslab, State, Store}

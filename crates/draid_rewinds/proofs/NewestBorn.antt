@@ -1,15 +1,14 @@
 -- The live blocks that were born up to a group, as they are noted.
-use Rattle.std.proofs.Common.{arith, ◌≡◌, ◌+◌, ◌<◌, ◌≤◌, ◌∙◌, ◌⊎◌, inl, inr, ℕ, List, Option, Some, None, refl, sym, ap, subst, length}
+use Rattle.std.proofs.Common.{arith, ◌≡◌, ◌+◌, ◌<◌, ◌≤◌, ◌∙◌, ◌⊎◌, inl, inr, ℕ, List, Option, Some, None, sym, ap, subst, length}
 use Rattle.std.specs.Prelude.{slice_get}
 use Rattle.std.proofs.lemmas.Bool.{cases_eq, cases_lt}
 use Rattle.std.proofs.lemmas.Option.{slice_get_within}
 use Rattle.draid_names.specs.declared.pointer.Pointer.{Pointer}
 use Rattle.draid_rack.specs.declared.Rack as racks
 use Rattle.draid_machine.specs.declared.names.Stage.TheVariants.{Live}
-use Rattle.draid_machine.proofs.Small.{some_injective}
 use Rattle.draid_entries.specs.Entries.{entry_at}
 use Rattle.draid_entries.specs.Maps.{staged}
-use Rattle.draid_shard.specs.Looks.{IsLive, IsNextHeld}
+use Rattle.draid_shard.specs.Looks.{IsNextHeld}
 use Rattle.draid_shard.specs.declared.shard.Shard.{Shard}
 use Rattle.draid_found.specs.Found.{Grows, KeepsNewer, Reaches}
 use Rattle.draid_found.proofs.Noted.{below_next, reaches_more}

@@ -1,5 +1,5 @@
 -- What is so of a pool in which no group is closing, and of holds of metaslabs alone.
-use Rattle.std.proofs.Common.{arith, ◌≡◌, ◌≢◌, ◌+◌, ◌++◌, ◌<◌, ◌≤◌, ◌∙◌, ◌⊎◌, inl, inr, ℕ, zero, suc, Bool, true, false, List, [], ◌∷◌, Option, Some, None, refl, sym, ap, subst, length}
+use Rattle.std.proofs.Common.{arith, ◌≡◌, ◌+◌, ◌≤◌, ◌∙◌, inl, inr, ℕ, zero, suc, true, false, List, [], ◌∷◌, Option, Some, None, refl, sym, ap, subst}
 use Rattle.std.specs.Prelude.{⊤, is_some, slice_get}
 use Rattle.std.proofs.lemmas.Option.{slice_get_within}
 use Rattle.draid_rack.specs.declared.Rack as racks
@@ -14,9 +14,9 @@ use Rattle.draid_shard.specs.Part.{Part}
 use Rattle.draid_shard.specs.declared.shard.Shard.{Shard}
 use Rattle.draid_session.specs.Follows.{Follows}
 use Rattle.draid_session.specs.Groups as groups
-use Rattle.draid_session.specs.Holds.{CommitFailed, CommitStarved, Committed, Hold, On, OnUber, UberView, View, view_of}
+use Rattle.draid_session.specs.Holds.{CommitFailed, CommitStarved, Committed, Hold, On, OnUber, UberView, View}
 use Rattle.draid_session.specs.Looks.{AllOf}
-use Rattle.draid_session.specs.Phases.{Broke, Chain, Each, End, Starved, Walk, Went}
+use Rattle.draid_session.specs.Phases.{Broke, Each, End, Starved, Walk, Went}
 use Rattle.draid_session.specs.State.{Metaslab, State, Store}
 use Rattle.draid_session.proofs.Looked.{Seen, follows_split, looks_seen}
 use Rattle.draid_pool.specs.Metaslabs.{IsMetaslab}

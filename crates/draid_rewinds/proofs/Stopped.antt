@@ -1,8 +1,8 @@
 -- What is replied where a command's sync was stopped.
-use Rattle.std.proofs.Common.{◌≡◌, ℕ, Ok, Err, refl, subst, sym}
-use Rattle.std.specs.Prelude.{IfOk, IsErr, IsErrOf, Result}
+use Rattle.std.proofs.Common.{◌≡◌, Ok, Err, refl, subst, sym}
+use Rattle.std.specs.Prelude.{IfOk, IsErr, Result}
 use Rattle.draid_names.specs.declared.fault.Failed.{Failed}
-use Rattle.draid_script.specs.Line.{Command, DiscardCheckpoint, RewindPool, TakeCheckpoint}
+use Rattle.draid_script.specs.Line.{DiscardCheckpoint, RewindPool, TakeCheckpoint}
 use Rattle.draid_script.specs.declared.name.CommandName.{CommandName}
 use Rattle.draid_script.specs.declared.name.CommandName.TheVariants as name
 use Rattle.draid_reply.specs.declared.reply.Reply.{Reply}

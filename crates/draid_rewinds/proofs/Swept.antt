@@ -1,5 +1,5 @@
 -- What frees of blocks do to the state for whose metaslabs the shards stand, one after another.
-use Rattle.std.proofs.Common.{arith, ◌≡◌, ◌+◌, ◌≤◌, ◌++◌, ◌∙◌, ◌⊎◌, inl, inr, ℕ, suc, Bool, true, false, List, [], ◌∷◌, Option, Some, refl, sym, ap, subst, slice_set, length}
+use Rattle.std.proofs.Common.{arith, ◌≡◌, ◌+◌, ◌++◌, ◌∙◌, ◌⊎◌, inl, inr, ℕ, suc, Bool, true, false, List, [], ◌∷◌, Option, Some, refl, sym, ap, subst, slice_set, length}
 use Rattle.std.specs.Prelude.{⊤, None, option_map, slice_get}
 use Rattle.std.proofs.lemmas.Bool.{cases_eq}
 use Rattle.std.proofs.lemmas.List.{length-append, length-set}
@@ -17,13 +17,12 @@ use Rattle.draid_objects.specs.Rewinds.{FreesThose, freed_in}
 use Rattle.draid_objects.proofs.One.{one_set}
 use Rattle.draid_objects.proofs.Sealing.{set_cases}
 use Rattle.draid_entries.specs.Maps.{held_at, key_of, staged}
-use Rattle.draid_shard.specs.Looks.{IsLive}
 use Rattle.draid_shard.specs.Part.{Part}
 use Rattle.draid_shard.specs.declared.shard.Shard.{Shard}
 use Rattle.draid_shard.proofs.Held.{held_entry}
 use Rattle.draid_session.specs.Discarding.{FreesKey}
 use Rattle.draid_session.specs.Follows.{Follows}
-use Rattle.draid_session.specs.Holds.{Did, Hold, On, View, view_of}
+use Rattle.draid_session.specs.Holds.{Did, Hold, On, View}
 use Rattle.draid_session.specs.State.{Metaslab, State}
 use Rattle.draid_pool.specs.Metaslabs.{IsMetaslab}
 use Rattle.draid_pool.specs.Objects.{blocks_of, worlds_of}
@@ -32,9 +31,9 @@ use Rattle.draid_pool.specs.Shards.{FreesIn, Goes, KeepsImages}
 use Rattle.draid_pool.proofs.Imaged.{keeps_same, keeps_then}
 use Rattle.draid_pool.proofs.Lists.{get_set_other, get_set_same, present, some_of}
 use Rattle.draid_pool.proofs.Lives.{held_by}
-use Rattle.draid_pool.proofs.Moved.{blocks_at, follows_one, moves_one, with_metaslab}
+use Rattle.draid_pool.proofs.Moved.{blocks_at, follows_one, moves_one}
 use Rattle.draid_pool.proofs.Steps.{follows_on}
-use Rattle.draid_rewinds.specs.Sweeps.{FreesAll, FreesOne, FreesOthers, HasOnly}
+use Rattle.draid_rewinds.specs.Sweeps.{FreesAll, FreesOne, FreesOthers}
 
 -- ---- holds
 

@@ -1,5 +1,5 @@
 -- A checkpoint is made of the group that a sync commits, step by step.
-use Rattle.std.proofs.Common.{arith, ◌≡◌, ◌≢◌, ◌+◌, ◌++◌, ◌≤◌, ◌∙◌, ◌⊎◌, inl, inr, ℕ, false, List, [], ◌∷◌, Option, Some, None, Ok, Err, refl, sym, ap, subst}
+use Rattle.std.proofs.Common.{arith, ◌≡◌, ◌≢◌, ◌+◌, ◌++◌, ◌≤◌, ◌∙◌, inl, inr, ℕ, false, List, ◌∷◌, Some, None, Ok, Err, refl, sym, ap, subst}
 use Rattle.std.specs.Prelude.{Result}
 use Rattle.draid_rack.specs.declared.Rack as racks
 use Rattle.draid_area.specs.declared.Area as areas
@@ -12,7 +12,7 @@ use Rattle.draid_session.specs.Holds.{Hold, LookedUber, OnUber, UberView}
 use Rattle.draid_session.specs.Phases.{Chain, End, Went}
 use Rattle.draid_session.specs.Points.{marked}
 use Rattle.draid_session.specs.State.{State, Store}
-use Rattle.draid_session.specs.Taking.{StopsBefore, StopsBehind, StopsClosing, TakeStops}
+use Rattle.draid_session.specs.Taking.{StopsBefore}
 use Rattle.draid_uber.specs.Uber.{point_of}
 use Rattle.draid_pool.specs.Carries.{CarriesOut}
 use Rattle.draid_pool.specs.Objects.{blocks_of}
@@ -29,7 +29,6 @@ use Rattle.draid_pool.proofs.SyncCalls.{pool_group}
 use Rattle.draid_pool.proofs.SyncSteps.{not_went}
 use Rattle.draid_rewinds.specs.Low.{IsLow}
 use Rattle.draid_rewinds.specs.Taking.{GoesOnDoes, MakesPoint, TakeDoes, TakesDoes}
-use Rattle.draid_rewinds.specs.declared.fault.TakeFault.{TakeFault}
 use Rattle.draid_rewinds.specs.declared.fault.TakeFault.TheVariants as fault
 use Rattle.draid_rewinds.proofs.Comes.{none_after, some_after}
 use Rattle.draid_rewinds.proofs.Going.{IsLate, behind_late, end_same}
@@ -105,8 +104,7 @@ module _ {R A : Type 0} (rack : racks.Ghosts R) (area : areas.Ghosts A) where
     done_by (Err why) (thin, (kept_is, chain)) =
         let end : End = end_of {T = Synced} (Err why) in
         let here = behind thin end chain in
-        let late_is : IsLate end = behind_late x.geometry x.perms group thin e.holds end here in
-        (
+        let late_is : IsLate end = behind_late x.geometry x.perms group thin e.holds end here in (
           none,
           inr (
             λ worn. late_is.not_worn (ap (λ w. end_of {T = Synced} (Err w)) worn),

@@ -1,5 +1,5 @@
 -- A whole pool stays whole as blocks are freed to which its table doesn't lead, and its checkpoint is given up.
-use Rattle.std.proofs.Common.{arith, ◌≡◌, ◌==◌, ◌+◌, ◌<◌, ◌≤◌, ◌∙◌, inl, inr, ℕ, Bool, true, false, List, [], ◌∷◌, Option, Some, None, refl, sym, ap, subst, slice_set, length, max, if◌then◌else◌}
+use Rattle.std.proofs.Common.{arith, ◌≡◌, ◌+◌, ◌≤◌, ◌∙◌, inl, inr, ℕ, Bool, true, false, List, [], ◌∷◌, Option, Some, refl, sym, ap, subst, slice_set, length, max, if◌then◌else◌}
 use Rattle.std.specs.Prelude.{nat_eq, slice_get}
 use Rattle.std.specs.HashMap.{get}
 use Rattle.std.proofs.lemmas.Bool.{cases_eq}
@@ -20,7 +20,6 @@ use Rattle.draid_shard.specs.Alike.{KeepsArms}
 use Rattle.draid_shard.specs.Calls.{SameAreas}
 use Rattle.draid_shard.specs.Fits.{AreGroups, Valid}
 use Rattle.draid_shard.specs.Looks.{IsLive}
-use Rattle.draid_shard.specs.Part.{Part}
 use Rattle.draid_shard.specs.States.{part_of}
 use Rattle.draid_shard.specs.declared.shard.Shard.{Shard}
 use Rattle.draid_shard.proofs.Changed.{arms_then, same_arms}
@@ -36,7 +35,7 @@ use Rattle.draid_pool.specs.Pools.{group_in}
 use Rattle.draid_pool.specs.Syncing.{AreIdle}
 use Rattle.draid_pool.specs.Whole.{IsPointer, IsShardOf, IsWhole}
 use Rattle.draid_pool.specs.declared.pool.Pool.{Pool}
-use Rattle.draid_pool.proofs.Arms.{Kept, all_kept, leaf_kept}
+use Rattle.draid_pool.proofs.Arms.{all_kept, leaf_kept}
 use Rattle.draid_pool.proofs.Lists.{get_set_other, get_set_same, present, some_of}
 use Rattle.draid_pool.proofs.Rises.{records_same}
 use Rattle.draid_pool.proofs.Wholes.{fits_none, live_beside, one_live}

@@ -1,6 +1,6 @@
 -- Why a command on the checkpoint was refused.
-use Rattle.std.proofs.Common.{◌≡◌, ℕ, Bool, true, false, Option, Some, None, Err, refl, ◌∙◌, sym}
-use Rattle.std.specs.Prelude.{IsErrOf, Result, is_some, not}
+use Rattle.std.proofs.Common.{◌≡◌, ℕ, Bool, true, false, Option, Some, None, Err, refl}
+use Rattle.std.specs.Prelude.{IsErrOf, is_some, not}
 use Rattle.draid_pool.specs.declared.fault.SyncFault.{SyncFault}
 use Rattle.draid_pool.specs.declared.fault.SyncFault.TheVariants as sync
 use Rattle.draid_rewinds.specs.declared.fault.BackFault.TheVariants as back

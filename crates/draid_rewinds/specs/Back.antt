@@ -1,5 +1,5 @@
 -- What going back to a checkpoint and giving it up do, by their answers.
-use Rattle.std.specs.Prelude.{◌≡◌, ◌≢◌, ◌+◌, ◌<◌, ℕ, List, Option, None, Some, Result, Ok, Err, length}
+use Rattle.std.specs.Prelude.{◌≡◌, ◌≢◌, ◌<◌, ℕ, List, None, Some, Result, Ok, Err, length}
 use Rattle.draid_machine.specs.declared.names.Key.{Key}
 use Rattle.draid_objects.specs.Changes.{Write, key_of, write_of}
 use Rattle.draid_objects.specs.Marks.{check_by}
@@ -12,7 +12,6 @@ use Rattle.draid_session.specs.Phases.{Went}
 use Rattle.draid_session.specs.Points.{given_up}
 use Rattle.draid_session.specs.State.{State, Store}
 use Rattle.draid_pool.specs.Syncing.{end_of}
-use Rattle.draid_pool.specs.declared.fault.SyncFault.{SyncFault}
 use Rattle.draid_rewinds.specs.declared.fault.BackFault.{BackFault}
 use Rattle.draid_rewinds.specs.declared.fault.BackFault.TheVariants as fault
 use Rattle.draid_rewinds.specs.declared.fault.Discarded.{Discarded}

@@ -1,17 +1,16 @@
 -- What the making of a checkpoint does, by its answer.
-use Rattle.std.specs.Prelude.{◌≡◌, ◌≢◌, ◌+◌, ◌≤◌, ◌⊎◌, ◌++◌, ℕ, List, [], Option, None, Some, Result, Ok, Err, nat_eq, slice_get}
+use Rattle.std.specs.Prelude.{◌≡◌, ◌≢◌, ◌+◌, ◌≤◌, ◌⊎◌, ◌++◌, ℕ, List, [], None, Some, Result, Ok, Err, nat_eq}
 use Rattle.std.specs.HashMap.{get}
 use Rattle.draid_rack.specs.declared.Rack as racks
 use Rattle.draid_area.specs.declared.Area as areas
 use Rattle.draid_checkpoint.specs.Check.{Point}
 use Rattle.draid_objects.specs.Marks.{Made, check_by}
 use Rattle.draid_session.specs.Groups as groups
-use Rattle.draid_session.specs.Holds.{Hold, LookedUber, OnUber, UberView}
-use Rattle.draid_session.specs.Phases.{Chain, End, Went, WasLast, WasWorn}
+use Rattle.draid_session.specs.Holds.{Hold}
+use Rattle.draid_session.specs.Phases.{Chain, Went, WasLast, WasWorn}
 use Rattle.draid_session.specs.Points.{HasPoint, marked}
-use Rattle.draid_session.specs.State.{Metaslab, State, Store}
+use Rattle.draid_session.specs.State.{State, Store}
 use Rattle.draid_session.specs.Taking.{StopsBefore, TakeStops}
-use Rattle.draid_uber.specs.Uber.{point_of}
 use Rattle.draid_pool.specs.Pools.{HasNames, Represents, group_in}
 use Rattle.draid_pool.specs.Syncing.{Phase, end_of}
 use Rattle.draid_pool.specs.declared.fault.SyncFault.{SyncFault}

@@ -1,4 +1,4 @@
-use Rattle.std.proofs.Common.{◌+◌, ◌∙◌, ℕ, arith, refl, sym, subst, ap}
+use Rattle.std.proofs.Common.{◌+◌, ◌∙◌, arith, refl, sym, subst, ap}
 use Rattle.std.specs.Prelude.{nat_eq}
 use Rattle.std.specs.HashMap.{get}
 use Rattle.draid_rewinds.specs.Sweeps.{FreesOthers, IsOpenIn}

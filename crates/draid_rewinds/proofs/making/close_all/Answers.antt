@@ -1,5 +1,4 @@
 use Rattle.draid_pool.proofs.GroupClosed.{closed_all, closes_each}
-use Rattle.draid_pool.proofs.Rises.{err_on}
 use Rattle.draid_rewinds.proofs.making.close_all.Goals as goal
 
 pub close_each-requires-clause-next : goal.close_each-requires-clause-next

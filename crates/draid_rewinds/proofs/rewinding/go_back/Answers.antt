@@ -1,4 +1,4 @@
-use Rattle.std.proofs.Common.{◌∙◌, arith, refl, sym, ap, subst, ◌≡◌, ℕ}
+use Rattle.std.proofs.Common.{sym, ap, subst, ℕ}
 use Rattle.std.specs.Prelude.{nat_eq}
 use Rattle.std.specs.HashMap.{get}
 use Rattle.draid_rewinds.specs.Tables.{AreNewestBorn}

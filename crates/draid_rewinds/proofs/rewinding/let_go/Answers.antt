@@ -1,8 +1,7 @@
-use Rattle.std.proofs.Common.{◌∙◌, arith, refl, sym, ap, subst, ◌≡◌, ℕ}
+use Rattle.std.proofs.Common.{refl, ap, ℕ}
 use Rattle.std.specs.Prelude.{nat_eq}
 use Rattle.std.specs.HashMap.{get}
 use Rattle.draid_pool.proofs.Wholes.{same_pointers}
-use Rattle.draid_pool.proofs.Points.{point_stands}
 use Rattle.draid_rewinds.proofs.GivenUp.{given_later, given_whole, let_carries, some_point}
 use Rattle.draid_rewinds.proofs.WholeThen.{may_give}
 use Rattle.draid_rewinds.proofs.rewinding.let_go.Goals as goal

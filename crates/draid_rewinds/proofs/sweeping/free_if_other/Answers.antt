@@ -1,5 +1,5 @@
-use Rattle.std.proofs.Common.{◌∙◌, arith, inl, inr, refl, sym, ap, subst, ◌≡◌, ℕ, max}
-use Rattle.std.specs.Prelude.{Some, nat_eq}
+use Rattle.std.proofs.Common.{◌∙◌, arith, inl, inr, refl, sym}
+use Rattle.std.specs.Prelude.{nat_eq}
 use Rattle.std.specs.HashMap.{get}
 use Rattle.std.proofs.lemmas.Bool.{true≢false}
 use Rattle.draid_rewinds.proofs.Others.{freed_now}

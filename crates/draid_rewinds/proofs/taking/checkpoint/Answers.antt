@@ -1,4 +1,4 @@
-use Rattle.std.proofs.Common.{◌∙◌, ◌≡◌, ℕ, Ok, Err, ap, arith, refl, sym, subst}
+use Rattle.std.proofs.Common.{◌∙◌, ℕ, Ok, Err, ap, arith, refl, sym}
 use Rattle.draid_checkpoint.specs.Check.{Point}
 use Rattle.draid_pool.specs.declared.fault.Synced.{Synced}
 use Rattle.draid_pool.proofs.Rises.{areas_on, rose_then}

@@ -1,4 +1,4 @@
-use Rattle.std.proofs.Common.{◌∙◌, ◌+◌, ◌≡◌, ℕ, Ok, Err, ap, arith, refl, sym, subst}
+use Rattle.std.proofs.Common.{◌∙◌, ◌+◌, ap, arith, sym, subst}
 use Rattle.std.specs.Prelude.{Some, nat_eq}
 use Rattle.std.specs.HashMap.{get}
 use Rattle.draid_uber.specs.Slots.{group_of}
