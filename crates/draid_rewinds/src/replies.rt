@@ -1,5 +1,5 @@
 //! What the commands on the checkpoint reply.
-ghost use Rattle.std.specs.Prelude.{IfOk, IsErr};
+ghost use Rattle.std.specs.Prelude.{◌≡◌, IfOk, IsErr, Ok};
 ghost use Rattle.draid_script.specs.Line.{DiscardCheckpoint, RewindPool, TakeCheckpoint};
 ghost use Rattle.draid_session.specs.Replies.{IsReplyTo};
 ghost use Rattle.draid_session.specs.State.{State};
@@ -60,6 +60,7 @@ pub fn reply_to_rewind<R: Rack, A: Area>(pool: &mut Pool<R, A>) -> Result<Reply,
     ensures later { AreasLater A.faults pool.old pool.new }
     ensures cause { IsErr result → AreaRose A.faults pool.old pool.new }
     ensures fits { IfOk result (IsReplyTo RewindPool) }
+    ensures none { result ≡ Ok (Reply.NoCheckpoint CommandName.Rewind) → SamePointers pool.old pool.new }
     ensures step { (x : State) → Represents R.Rack A.Area pool.old x → IsLow x
         → CarriesOut R.Rack A.Area pool.new x (RewindSays result x) }
 {

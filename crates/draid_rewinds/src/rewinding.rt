@@ -29,6 +29,9 @@ pub fn rewind<R: Rack, A: Area>(pool: &mut Pool<R, A>) -> Result<Rewound, BackFa
     ensures whole { IsWhole R.Rack A.Area pool.new }
     ensures later { AreasLater A.faults pool.old pool.new }
     ensures cause { IsErrOf result (BackFault.Sync SyncFault.Shelf) → AreaRose A.faults pool.old pool.new }
+    // Where there is none, and where room was wanting, the objects have what they had.
+    ensures none { IsErrOf result BackFault.Nothing → SamePointers pool.old pool.new }
+    ensures room { IsErrOf result BackFault.NoMemory → SamePointers pool.old pool.new }
     ensures carries { (x : State) → Represents R.Rack A.Area pool.old x → IsLow x
         → CarriesOut R.Rack A.Area pool.new x (RewindDoes x result) }
 {

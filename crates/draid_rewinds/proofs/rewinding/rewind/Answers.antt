@@ -4,6 +4,7 @@ use Rattle.std.specs.HashMap.{get}
 use Rattle.draid_checkpoint.specs.Check.{Point}
 use Rattle.draid_pool.specs.declared.fault.Synced.{Synced}
 use Rattle.draid_pool.proofs.Rises.{areas_on, rose_then}
+use Rattle.draid_pool.proofs.Wholes.{same_pointers}
 use Rattle.draid_rewinds.specs.Back.{Reverted}
 use Rattle.draid_rewinds.specs.Tables.{AreNewestBorn, AreValid}
 use Rattle.draid_rewinds.specs.declared.fault.Rewound.{Rewound}
@@ -17,7 +18,9 @@ returns-in-Err g c =
       whole = c.in-Err.ensures.whole;
       later = c.in-Err.ensures.later;
       cause = λ is. c.in-Err.ensures.cause (back_shelf {T = Rewound} {U = Unit} c.in-Err.why is);
-      carries = λ x r low. rewind_unfinished g.R.Rack g.A.Area c.finish.new.self x c.in-Err.why (c.in-Err.ensures.carries x r);
+      none = λ is. absurd (cc is);
+        room = λ is. absurd (cc is);
+        carries = λ x r low. rewind_unfinished g.R.Rack g.A.Area c.finish.new.self x c.in-Err.why (c.in-Err.ensures.carries x r);
     }
 
 pub returns-in_default-group : goal.returns-in_default-group
@@ -25,7 +28,9 @@ returns-in_default-group g c =
     let mid = c.finish.new.self in
     let first = c.in_default.ensures in
     let none = ap (λ (p : Point). p.group) (sym c.point.ensures) ∙ (sym c.group.ensures ∙ c.in_default-group.is) in
-    record { whole = first.whole; later = first.later; cause = λ is. absurd (cc is); carries = λ x r low. rewind_none g.R.Rack g.A.Area mid x (first.carries x r) none }
+    record { whole = first.whole; later = first.later; cause = λ is. absurd (cc is); none = λ is. same_pointers c.args.pool.now mid first.objects;
+        room = λ is. absurd (cc is);
+        carries = λ x r low. rewind_none g.R.Rack g.A.Area mid x (first.carries x r) none }
 
 pub newest_born-requires : goal.newest_born-requires
 newest_born-requires g c = record { valid = subst (AreValid g.R.Rack) (sym c.deref.ensures.value) (λ m shard there. (c.in_default.ensures.whole.shards m shard there).valid) }
@@ -35,7 +40,9 @@ returns-in_default-newest_born g c =
     let mid = c.finish.new.self in
     let first = c.in_default.ensures in
     let some = ap (λ (p : Point). p.group) (sym c.point.ensures) ∙ (sym c.group.ensures ∙ c.in-Some.is) in
-    record { whole = first.whole; later = first.later; cause = λ is. absurd (cc is); carries = λ x r low. rewind_starved g.R.Rack g.A.Area mid x (first.carries x r) c.in-Some.group some }
+    record { whole = first.whole; later = first.later; cause = λ is. absurd (cc is); none = λ is. absurd (cc is);
+        room = λ is. same_pointers c.args.pool.now mid first.objects;
+        carries = λ x r low. rewind_starved g.R.Rack g.A.Area mid x (first.carries x r) c.in-Some.group some }
 
 pub go_back-requires : goal.go_back-requires
 go_back-requires g c =
@@ -61,7 +68,9 @@ returns-in-Ok-sync g c =
       whole = last.whole;
       later = areas_on faults old late new (areas_on faults old mid late first.later goes.later) last.later;
       cause = λ is. absurd (cc is);
-      carries = λ x r low. rewound_by g.R.Rack g.A.Area new x c.in-Ok-sync.synced c.objects.result c.objects.ensures.state
+      none = λ is. absurd (cc is);
+            room = λ is. absurd (cc is);
+            carries = λ x r low. rewound_by g.R.Rack g.A.Area new x c.in-Ok-sync.synced c.objects.result c.objects.ensures.state
           (comes g.R.Rack g.A.Area Reverted old mid late new x (Ok c.in-Ok-sync.synced) r low first.idle (first.carries x r) goes.carries last.carries);
     }
 
@@ -80,6 +89,8 @@ returns-in-Err-sync g c =
       whole = last.whole;
       later = areas_on faults old late new before last.later;
       cause = λ is. rose_then faults old late new before (last.cause (back_shelf {T = Rewound} {U = Synced} c.in-Err-sync.why is));
-      carries = λ x r low. rewind_stopped g.R.Rack g.A.Area new x c.in-Err-sync.why
+      none = λ is. absurd (cc is);
+            room = λ is. absurd (cc is);
+            carries = λ x r low. rewind_stopped g.R.Rack g.A.Area new x c.in-Err-sync.why
           (comes g.R.Rack g.A.Area Reverted old mid late new x (Err c.in-Err-sync.why) r low first.idle (first.carries x r) goes.carries last.carries);
     }
