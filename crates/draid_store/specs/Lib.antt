@@ -6,7 +6,6 @@ pub mod Frees
 pub mod Open
 pub mod PointerSums
 pub mod Pointers
-pub mod Points
 pub mod Putting
 pub mod Says
 pub mod Shards

@@ -22,7 +22,12 @@ use Rattle.draid_store.specs.declared.fault.StoreFault.TheVariants.{Missed, Refu
 use Rattle.draid_pool.specs.Pointers.{FitsPointer}
 use Rattle.draid_pool.specs.Threads.{HasPointer, Knows, LeadsBy}
 use Rattle.draid_shard.specs.declared.shard.Shard.{Shard}
-use Rattle.draid_store.specs.Points.{HasKept, IsPointFor}
+use Rattle.draid_checkpoint.specs.Check.{holds_birth}
+use Rattle.draid_session.specs.Points.{IsPointOf}
+
+-- the checkpoint of this group keeps the block of a pointer
+abbrev pub HasKept : Option ℕ → Pointer → Type 0
+HasKept point p = holds_birth point p.birth ≡ true
 
 -- the store as the block has come
 abbrev pub store_with : Store → ℕ → ℕ → ℕ → List ℕ → Store
@@ -63,7 +68,7 @@ module _ {R A S : Type 0} (rack : racks.Ghosts R) (area : areas.Ghosts A) (went 
   abbrev pub WriteSays : Option (Result (Option Pointer) StoreFault) → Type 0
   WriteSays None = (x : State) → Knows rack area owns last table seq floor x
       → LeadsBy rack area went shared a b x (λ holds store. (store ≡ x.store) × OnlyLooks holds) (Knows rack area now_owns now then_table then_seq then_floor)
-  WriteSays (Some (Ok None)) = (x : State) → x.geometry.g ≡ columns → IsPointFor x.store.marks point → Knows rack area owns last table seq floor x
+  WriteSays (Some (Ok None)) = (x : State) → x.geometry.g ≡ columns → IsPointOf x.store.marks point → Knows rack area owns last table seq floor x
       → LeadsBy rack area went shared a b x (λ holds store. WriteInDoes x m object block.bytes (Ok tt) holds store × (store.marks ≡ x.store.marks)) (Knows rack area now_owns now then_table then_seq then_floor)
   WriteSays (Some (Ok (Some earlier))) = (x : State) → x.geometry.g ≡ columns → Knows rack area owns last table seq floor x
       → LeadsBy rack area went shared a b x (AwaitsIn x m object then_floor block.bytes point earlier) (KnowsReplaced rack area now_owns now then_table then_seq then_floor (Some earlier) (write_of x.store.changes object))

@@ -12,7 +12,7 @@ ghost use Rattle.draid_store.specs.Answers.{WriteDoes};
 ghost use Rattle.draid_pool.specs.Looking.{HasMany};
 ghost use Rattle.draid_store.specs.Putting.{Takes};
 ghost use Rattle.draid_store.specs.Storing.{ComesBack, IsAnswerTo, IsServedBut, StoreRefusedBy, StoreSetsTable, StoresNew, WriteSays, WritesBy};
-ghost use Rattle.draid_store.specs.Points.{IsPointFor};
+ghost use Rattle.draid_session.specs.Points.{IsPointOf};
 ghost use Rattle.draid_pool.specs.Carries.{CarriesOut};
 ghost use Rattle.draid_store.specs.Pointers.{WriteSets};
 ghost use Rattle.draid_pool.specs.Drifts.{groups_number};
@@ -106,7 +106,7 @@ pub fn write_object<R: Rack, A: Area, M: Metaslabs<R, A>, F: Fn(&[Room]) -> Opti
     // Where a block was stored the object has a new pointer, and the one that comes back was its own.
     ensures new { M.owns metaslabs.old groups_number ≡ true → StoresNew (M.last metaslabs.old) object own.old.seq (λ o. get nat_eq own.old.objects o) (λ o. get nat_eq own.new.objects o) result }
     ensures later { own.old.seq ≤ own.new.seq }
-    ensures step { (x : State) → x.geometry ≡ geometry.now → IsPointFor x.store.marks point → Knows R.Rack A.Area (M.owns metaslabs.old) (M.last metaslabs.old) (λ o. get nat_eq own.old.objects o) own.old.seq own.old.floor x
+    ensures step { (x : State) → x.geometry ≡ geometry.now → IsPointOf x.store.marks point → Knows R.Rack A.Area (M.owns metaslabs.old) (M.last metaslabs.old) (λ o. get nat_eq own.old.objects o) own.old.seq own.old.floor x
         → WritesBy R.Rack A.Area M.went M.shared (M.owns metaslabs.old) (M.last metaslabs.new) metaslabs.old metaslabs.new point (FnReturnsAt F.Fn chooser.now) object bytes.now (λ o. get nat_eq own.new.objects o) own.new.seq own.new.floor x result }
     // Who alone closes groups, with nobody between its holds, never has to try again. What the checkpoint keeps is to be dropped.
     ensures served { M.owns metaslabs.old groups_number ≡ true → M.shared ≡ false → IsServedBut point result }
@@ -148,7 +148,7 @@ pub fn write_encoded<R: Rack, A: Area, M: Metaslabs<R, A>, F: Fn(&[Room]) -> Opt
     // Where a block was stored the object has a new pointer, and the one that comes back was its own.
     ensures new { M.owns metaslabs.old groups_number ≡ true → StoresNew (M.last metaslabs.old) object own.old.seq (λ o. get nat_eq own.old.objects o) (λ o. get nat_eq own.new.objects o) result }
     ensures later { own.old.seq ≤ own.new.seq }
-    ensures step { (x : State) → x.geometry ≡ geometry.now → IsPointFor x.store.marks point → Knows R.Rack A.Area (M.owns metaslabs.old) (M.last metaslabs.old) (λ o. get nat_eq own.old.objects o) own.old.seq own.old.floor x
+    ensures step { (x : State) → x.geometry ≡ geometry.now → IsPointOf x.store.marks point → Knows R.Rack A.Area (M.owns metaslabs.old) (M.last metaslabs.old) (λ o. get nat_eq own.old.objects o) own.old.seq own.old.floor x
         → WritesBy R.Rack A.Area M.went M.shared (M.owns metaslabs.old) (M.last metaslabs.new) metaslabs.old metaslabs.new point (FnReturnsAt F.Fn chooser.now) object block.now.bytes (λ o. get nat_eq own.new.objects o) own.new.seq own.new.floor x result }
     // Who alone closes groups, with nobody between its holds, never has to try again. What the checkpoint keeps is to be dropped.
     ensures served { M.owns metaslabs.old groups_number ≡ true → M.shared ≡ false → IsServedBut point result }
