@@ -70,7 +70,7 @@ module _ {R A S : Type 0} (rack : racks.Ghosts R) (area : areas.Ghosts A) (went 
       → LeadsBy rack area went shared a b x (λ holds store. (store ≡ x.store) × OnlyLooks holds) (Knows rack area now_owns now then_table then_seq then_floor)
   WriteSays (Some (Ok None)) = (x : State) → x.geometry.g ≡ columns → IsPointOf x.store.marks point → Knows rack area owns last table seq floor x
       → LeadsBy rack area went shared a b x (λ holds store. WriteInDoes x m object block.bytes (Ok tt) holds store × (store.marks ≡ x.store.marks)) (Knows rack area now_owns now then_table then_seq then_floor)
-  WriteSays (Some (Ok (Some earlier))) = (x : State) → x.geometry.g ≡ columns → Knows rack area owns last table seq floor x
+  WriteSays (Some (Ok (Some earlier))) = (x : State) → x.geometry.g ≡ columns → IsPointOf x.store.marks point → Knows rack area owns last table seq floor x
       → LeadsBy rack area went shared a b x (AwaitsIn x m object then_floor block.bytes point earlier) (KnowsReplaced rack area now_owns now then_table then_seq then_floor (Some earlier) (write_of x.store.changes object))
   WriteSays (Some (Err (Refused why))) = (x : State) → Knows rack area owns last table seq floor x
       → LeadsBy rack area went shared a b x (λ holds store. (store ≡ x.store) × OnlyLooks holds) (Knows rack area now_owns now then_table then_seq then_floor)
@@ -115,13 +115,6 @@ IsServedBut point (Some (Ok None)) = ⊤
 IsServedBut point (Some (Ok (Some earlier))) = HasKept point earlier
 IsServedBut point (Some (Err why)) = ⊤
 IsServedBut point None = ⊥
-
--- nothing is to be tried again
-abbrev pub IsServed : {E : Type 0} → Option (Result (Option Pointer) E) → Type 0
-IsServed (Some (Ok None)) = ⊤
-IsServed (Some (Ok (Some earlier))) = ⊥
-IsServed (Some (Err why)) = ⊤
-IsServed None = ⊥
 
 -- ---- in the metaslab that is named
 

@@ -6,6 +6,7 @@ ghost use Rattle.draid_names.specs.declared.numbers.TheConstants.{NUMBERS, OBJEC
 ghost use Rattle.draid_names.specs.declared.pointer.Pointer.{Pointer};
 ghost use Rattle.draid_spec.specs.Geometry.{IsGeometry};
 ghost use Rattle.draid_block.specs.Blocks.{cut_of};
+ghost use Rattle.draid_checkpoint.specs.Check.{holds_birth};
 ghost use Rattle.draid_session.specs.Rooms.{longest};
 ghost use Rattle.draid_session.specs.State.{State};
 ghost use Rattle.draid_store.specs.Answers.{WriteDoes};
@@ -240,7 +241,7 @@ pub fn write_block<R: Rack, A: Area, M: Metaslabs<R, A>>(
         Some(Err(why)) => return Some(Err(why)),
         None => return None,
     };
-    if point.is_some_and(|group| earlier.birth <= group) {
+    if keeps(point, earlier.birth) {
         return Some(Ok(Some(earlier)));
     }
     let Some(group) = free_earlier(metaslabs, earlier, own.floor) else {
@@ -248,6 +249,16 @@ pub fn write_block<R: Rack, A: Area, M: Metaslabs<R, A>>(
     };
     own.floor = group;
     Some(Ok(None))
+}
+
+/// Whether the checkpoint of this group keeps what was born then.
+fn keeps(point: Option<u64>, birth: u64) -> bool
+    ensures { result ≡ holds_birth point birth }
+{
+    match point {
+        Some(group) => birth <= group,
+        None => false,
+    }
 }
 
 /// The longest run of some rooms.
