@@ -14,7 +14,7 @@ use Rattle.draid_objects.specs.Marks.{Check, Dropped, Mark, check_at, check_by, 
 use Rattle.draid_objects.specs.Stores.{AreMarkedUpto, IsBehindChecks}
 use Rattle.draid_machine.specs.Names.{key_eq}
 use Rattle.draid_record.specs.Checks.{CheckTold}
-use Rattle.draid_record.specs.declared.checks.Dropped as told
+use Rattle.draid_record.specs.declared.checks.Dropped as blocks
 use Rattle.draid_record.specs.declared.uber.UberBody.{UberBody}
 use Rattle.draid_session.specs.Points.{HasLateMark}
 use Rattle.draid_session.specs.State.{Metaslab, State, Store}
@@ -29,7 +29,7 @@ use Rattle.draid_pool.proofs.Marked.{marked_later}
 
 -- ---- check records of a point
 
-with_more : (some ds : List told.Dropped) (b : told.Dropped) → drops_with some (ds ++ b ∷ []) ≡ insert_drop b (drops_with some ds)
+with_more : (some ds : List blocks.Dropped) (b : blocks.Dropped) → drops_with some (ds ++ b ∷ []) ≡ insert_drop b (drops_with some ds)
 with_more some [] b = refl
 with_more some (d ∷ ds) b = with_more (insert_drop d some) ds b
 
@@ -48,13 +48,13 @@ upto_more group (e ∷ es) d = by (upto_more group es d) (nat_le e.group group)
     by rest false = rest
 
 module _ (old new : Point) (key : Key) (group : ℕ) (d : Drops old new key.object key.seq group) (own : ℕ) (has : old.group ≡ Some own) where
-  abbrev block : told.Dropped
+  abbrev block : blocks.Dropped
   block = record { object = key.object; seq = key.seq }
 
   list : (g : ℕ) → drops_upto g new.drops ≡ drops_upto g old.drops ++ (if nat_le group g then block ∷ [] else [])
   list g = ap (drops_upto g) d.drops ∙ upto_more g old.drops (record { object = key.object; seq = key.seq; group = group })
 
-  abbrev told_if : Bool → List told.Dropped → CheckTold
+  abbrev told_if : Bool → List blocks.Dropped → CheckTold
   told_if b ds = if b then record { group = own; drops = drops_with [] ds } else no_check
 
   told_is : (point : Point) (g : ℕ) → point.group ≡ Some own → told_at point g ≡ told_if (nat_le own g) (drops_upto g point.drops)
@@ -79,10 +79,10 @@ module _ (old new : Point) (key : Key) (group : ℕ) (d : Drops old new key.obje
   pub told_sooner : (g : ℕ) → g < group → told_at new g ≡ told_at old g
   told_sooner g early =
       told_is new g (d.group_is ∙ has)
-      ∙ (ap (told_if (nat_le own g)) (list g ∙ (ap (λ b. drops_upto g old.drops ++ (if b then block ∷ [] else [])) not ∙ append-nil (drops_upto g old.drops))) ∙ sym (told_is old g has))
+      ∙ (ap (told_if (nat_le own g)) (list g ∙ (ap (λ b. drops_upto g old.drops ++ (if b then block ∷ [] else [])) isnt ∙ append-nil (drops_upto g old.drops))) ∙ sym (told_is old g has))
     where
-      not : nat_le group g ≡ false
-      not = grind (arith, nat_tests, early)
+      isnt : nat_le group g ≡ false
+      isnt = grind (arith, nat_tests, early)
 
 -- ---- of marks
 

@@ -6,6 +6,7 @@ pub mod Column
 pub mod ColumnSteps
 pub mod DamageSteps
 pub mod Damages
+pub mod DropWhole
 pub mod Dropped
 pub mod Ended
 pub mod Ending
