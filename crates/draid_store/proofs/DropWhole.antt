@@ -1,5 +1,5 @@
 -- A pool stays whole as a block is dropped to the checkpoint, and as an object gets a new pointer.
-use Rattle.std.proofs.Common.{◌≡◌, ◌==◌, ◌<◌, ◌≤◌, ◌+◌, ◌++◌, ◌⊎◌, ◌∷◌, ◌∙◌, [], inl, inr, ℕ, Bool, true, false, List, Option, Some, None, arith, ap, refl, sym, subst, length, if◌then◌else◌, cond}
+use Rattle.std.proofs.Common.{◌≡◌, ◌==◌, ◌<◌, ◌≤◌, ◌+◌, ◌++◌, ◌⊎◌, ◌∷◌, ◌∙◌, [], inl, inr, ℕ, Bool, true, false, List, Option, Some, None, Result, Ok, Err, arith, ap, refl, sym, subst, length, if◌then◌else◌, cond}
 use mathlib.Core.Logic.{dite}
 use native.Mathlib.Decide.{ℕ_discrete}
 use Rattle.std.specs.Prelude.{All, Contains, max, nat_eq, nat_le, slice_get}
@@ -11,13 +11,15 @@ use Rattle.std.proofs.lemmas.List.Elements.{All-cons, All-contains, All-head, Al
 use Rattle.draid_area.specs.declared.Area as areas
 use Rattle.draid_checkpoint.specs.Check.{Drops, Point, holds_birth}
 use Rattle.draid_checkpoint.specs.declared.check.DroppedIn.{DroppedIn}
-use Rattle.draid_machine.proofs.Small.{key_refl}
+use Rattle.draid_machine.proofs.Small.{bool_cases, key_refl, key_true}
 use Rattle.draid_machine.specs.Names.{key_eq}
 use Rattle.draid_machine.specs.declared.names.Key.{Key}
+use Rattle.draid_machine.specs.declared.names.Stage.TheVariants.{Live}
 use Rattle.draid_names.specs.declared.numbers.TheConstants.{LAST_NUMBER}
 use Rattle.draid_names.specs.declared.pointer.Pointer.{Pointer}
 use Rattle.draid_rack.specs.declared.Rack as racks
-use Rattle.draid_entries.specs.Maps.{key_of}
+use Rattle.draid_entries.specs.Maps.{held_at, key_of, staged}
+use Rattle.draid_shard.proofs.Held.{key_leads}
 use Rattle.draid_shard.specs.declared.shard.Shard.{Shard}
 use Rattle.draid_uber.specs.Points.{IsOther}
 use Rattle.draid_uber.specs.Slots.{group_of}
@@ -28,9 +30,12 @@ use Rattle.draid_pool.specs.Whole.{IsPointer, IsWhole, PointFits}
 use Rattle.draid_pool.specs.declared.own.Own.{Own}
 use Rattle.draid_pool.specs.declared.pool.Pool.{Pool}
 use Rattle.draid_pool.proofs.Lists.{some_of}
-use Rattle.draid_pool.proofs.Wholes.{fits_on, open_low, put_elsewhere, put_here}
+use Rattle.draid_pool.proofs.Wholes.{open_low, put_elsewhere, put_here}
 use Rattle.draid_store.specs.Freeing.{IsApart}
-use Rattle.draid_store.specs.Storing.{IsNewPointer}
+use Rattle.draid_store.specs.Pointers.{TriesTake}
+use Rattle.draid_store.specs.Storing.{IsNewPointer, StoreSetsTable}
+use Rattle.draid_store.specs.declared.fault.FreeFault.{FreeFault}
+use Rattle.draid_store.specs.declared.fault.FreeFault.TheVariants.{NoObject}
 use Rattle.draid_store.proofs.Dropped.{DropsUber}
 
 -- ---- names
@@ -79,6 +84,19 @@ all_both : {X : Type 0} (P Q : X → Type 0) (xs : List X) → All P xs → All 
 all_both P Q [] a b = All-nil (λ x. P x × Q x)
 all_both P Q (x ∷ xs) a b = All-cons (λ x. P x × Q x) x xs (All-head P x xs a, All-head Q x xs b) (all_both P Q xs (All-tail P x xs a) (All-tail Q x xs b))
 
+-- ---- tables
+
+-- what a table has from which an object's pointer is taken
+pub table_left : (old new : ℕ → Option Pointer) (object : ℕ) → ((o : ℕ) → new o ≡ cond (nat_eq object o) None (old o)) → (o : ℕ) (q : Pointer) → new o ≡ Some q → (object ≡ o → ⊥) × (old o ≡ Some q)
+table_left old new object removed o q at_q = dite (ℕ_discrete object o)
+    (λ same. absurd (let e : None ≡ Some q = sym (put_here (new o) (old o) object o None (removed o) same) ∙ at_q in cc))
+    (λ isnt. (isnt, sym (put_elsewhere (new o) (old o) object o None (removed o) isnt) ∙ at_q))
+
+-- what one has that an object was freed from
+pub taken_left : (object : ℕ) (table now : ℕ → Option Pointer) (result : Result Unit FreeFault) → TriesTake object table now (Some result) → (o : ℕ) (q : Pointer) → now o ≡ Some q → table o ≡ Some q
+taken_left object table now (Ok done) takes o q at = (table_left table now object takes.2 o q at).1
+taken_left object table now (Err NoObject) takes o q at = sym (takes.1 o) ∙ at
+
 -- ---- a point
 
 -- what it keeps it has a group for
@@ -89,6 +107,14 @@ held_group (Some own) birth held = (own, refl, grind (arith, nat_tests, held))
 -- and what was born behind its group it doesn't
 pub not_held : (group : Option ℕ) (birth : ℕ) → ((own : ℕ) → group ≡ Some own → own < birth) → holds_birth group birth ≡ true → ⊥
 not_held group birth behind held = (let z = held_group group birth held in let late = behind z.0 z.1 in let low = z.2 in omega (arith, late, low))
+
+-- there is room for one that a table has
+pub room_for : (point : Point) (table : ℕ → Option Pointer) (seq object : ℕ) (p : Pointer) → table object ≡ Some p → holds_birth point.group p.birth ≡ true → PointFits 0 point table seq → (0 < point.spare) × (length point.drops < 524_288)
+room_for point table seq object p at held fits =
+    let less = fewer object fits.names (among object fits.names (fits.each object p at held)) in
+    let room = fits.room in
+    let few = fits.few in
+    (omega (arith, less, room), omega (arith, less, few))
 
 -- what fits with room for more fits with room for none
 pub fits_less : (more : ℕ) (point : Point) (table : ℕ → Option Pointer) (seq : ℕ) → PointFits more point table seq → PointFits 0 point table seq
@@ -242,12 +268,8 @@ module _ {R A : Type 0} (rack : racks.Ghosts R) (area : areas.Ghosts A) (pool : 
   -- the room for it, where the table had its pointer
   pub fits_removed : (object : ℕ) → get nat_eq pool.own.objects object ≡ Some p → holds_birth (point_of pool.uber).group p.birth ≡ true → ((o : ℕ) → table o ≡ cond (nat_eq object o) None (get nat_eq pool.own.objects o)) → PointFits 1 (point_of pool.uber) table pool.own.seq
   fits_removed object at kept removed =
-      fits_without (point_of pool.uber) (get nat_eq pool.own.objects) table pool.own.seq pool.own.seq object p at kept (λ o q at_q held. left object removed o q at_q) (λ o q at_q. inl (left object removed o q at_q).1) (omega arith) w.point
-    where
-      left : (n : ℕ) → ((o : ℕ) → table o ≡ cond (nat_eq n o) None (get nat_eq pool.own.objects o)) → (o : ℕ) (q : Pointer) → table o ≡ Some q → (n ≡ o → ⊥) × (get nat_eq pool.own.objects o ≡ Some q)
-      left n sets o q at_q = dite (ℕ_discrete n o)
-          (λ same. absurd (let e : None ≡ Some q = sym (put_here (table o) (get nat_eq pool.own.objects o) n o None (sets o) same) ∙ at_q in cc))
-          (λ isnt. (isnt, sym (put_elsewhere (table o) (get nat_eq pool.own.objects o) n o None (sets o) isnt) ∙ at_q))
+      fits_without (point_of pool.uber) (get nat_eq pool.own.objects) table pool.own.seq pool.own.seq object p at kept (λ o q at_q held. table_left (get nat_eq pool.own.objects) table object removed o q at_q)
+      (λ o q at_q. inl (table_left (get nat_eq pool.own.objects) table object removed o q at_q).1) (omega arith) w.point
 
 -- ---- a new pointer
 
@@ -288,3 +310,26 @@ pub other_drops : {R A : Type 0} (rack : racks.Ghosts R) (area : areas.Ghosts A)
 other_drops rack area pool object p w at object_is =
     All-weaker (λ d. (q : Pointer) → get nat_eq pool.own.objects d.object ≡ Some q → d.seq ≡ q.seq → ⊥) (λ d. IsOther p.object p.seq d)
     (λ d apart same_object same_seq. apart p (ap (get nat_eq pool.own.objects) (same_object ∙ object_is) ∙ at) same_seq) (point_of pool.uber).drops w.point.apart
+
+-- a pointer of the table has the number of a write that was begun
+pub pointer_begun : {R A : Type 0} (rack : racks.Ghosts R) (area : areas.Ghosts A) (pool : Pool R A) (object : ℕ) (p : Pointer) → IsWhole rack area pool → IsPointer pool object p → p.seq ≤ pool.own.seq
+pointer_begun rack area pool object p w is = (w.shards p.metaslab is.shard is.there).numbered (key_of p) (held_at (staged Live p)) (key_leads is.shard.entries p.first (staged Live p) is.live)
+
+-- no pointer of a table leads to the block of one that was taken from it
+pub apart_removed : {R A : Type 0} (rack : racks.Ghosts R) (area : areas.Ghosts A) (pool : Pool R A) (object : ℕ) (p : Pointer) (new : ℕ → Option Pointer) → IsWhole rack area pool → get nat_eq pool.own.objects object ≡ Some p
+    → ((o : ℕ) → new o ≡ cond (nat_eq object o) None (get nat_eq pool.own.objects o)) → IsApart new p
+apart_removed rack area pool object p new w at removed o q at_q = elim (bool_cases (key_eq (key_of p) (key_of q))) [
+  | inr other ↦ other
+  | inl one ↦
+      let z = table_left (get nat_eq pool.own.objects) new object removed o q at_q in
+      let keys : p.object ≡ q.object = ap (λ (k : Key). k.object) (key_true (key_of p) (key_of q) one) in
+      absurd (z.0 (sym (w.objects object p at).object_is ∙ (keys ∙ (w.objects o q z.1).object_is)))
+]
+
+-- ---- by the answer of a write
+
+-- the pointer that a write says is the new one
+pub sets_new : {E : Type 0} (object : ℕ) (bytes : List ℕ) (table now : ℕ → Option Pointer) (earlier : Option Pointer) (p : Pointer) → StoreSetsTable {E = E} object bytes table now (Some (Ok earlier)) → now object ≡ Some p → (o : ℕ) → now o ≡ (if object == o then Some p else table o)
+sets_new object bytes table now earlier p sets at o =
+    let same : sets.0 ≡ p = some_of (now object) sets.0 p (put_here (now object) (table object) object object (Some sets.0) (sets.2 object) refl) at in
+    subst (λ q. now o ≡ (if object == o then Some q else table o)) same (sets.2 o)

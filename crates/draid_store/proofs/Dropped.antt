@@ -3,15 +3,20 @@ use Rattle.std.proofs.Common.{◌≡◌, ◌==◌, ◌%◌, ◌||◌, ◌<◌, �
 use Rattle.std.specs.Prelude.{◌↔◌, ⊤, All, Contains, MatchOption, filter, map, max, nat_le, option_map}
 use Rattle.std.proofs.lemmas.Bool.Decides.{nat_tests}
 use Rattle.std.proofs.lemmas.List.{append-nil}
-use Rattle.std.proofs.lemmas.List.Elements.{All-cons, All-contains, All-head, All-nil, All-tail, Contains-append_left, Contains-push}
+use Rattle.std.proofs.lemmas.List.Elements.{All-cons, All-contains, All-head, All-nil, All-tail, All-weaker, Contains-append_left, Contains-push}
 use Rattle.draid_area.specs.Area.{OnTold}
 use Rattle.draid_area.specs.declared.Area as areas
 use Rattle.draid_checkpoint.specs.Check.{Drops, Point}
 use Rattle.draid_checkpoint.specs.declared.check.DroppedIn.{DroppedIn}
 use Rattle.draid_machine.specs.declared.names.Key.{Key}
 use Rattle.draid_names.specs.declared.numbers.TheConstants.{LAST_NUMBER}
-use Rattle.draid_objects.specs.Marks.{Check, Dropped, Mark, check_at, check_by, drops_in, is_dropped, mark_group, marks_upto}
-use Rattle.draid_objects.specs.Stores.{AreMarkedUpto, IsBehindChecks}
+use Rattle.draid_objects.proofs.Checking.{count_undropped}
+use Rattle.draid_objects.proofs.Finding.{all_below, greatest, kept_all}
+use Rattle.draid_objects.proofs.Marking.{upto_all}
+use Rattle.draid_objects.specs.Blocks.{Blocks, SaysOf, sealed_at}
+use Rattle.draid_objects.specs.Changes.{Change, Write, group_of, kept, key_of, object_of, write_of}
+use Rattle.draid_objects.specs.Marks.{Check, Dropped, Mark, check_at, check_by, drops_in, is_dropped, mark_group, marks_upto, shown_at}
+use Rattle.draid_objects.specs.Stores.{AreMarkedUpto, IsBehindChecks, Stores}
 use Rattle.draid_machine.specs.Names.{key_eq}
 use Rattle.draid_record.specs.Checks.{CheckTold}
 use Rattle.draid_record.specs.declared.checks.Dropped as blocks
@@ -214,3 +219,18 @@ undropped key k (Some c) check some is = by (key_eq key k) (c.dropped k) is
     by true b e = absurd (cc)
     by false true e = absurd (cc)
     by false false e = (refl, refl)
+
+-- the block of an object's last write isn't dropped
+pub last_counts : (digest : List ℕ → List ℕ) (committed group object : ℕ) (cs : List Change) (marks : List Mark) (blocks : Blocks) (w : Write) → Stores digest committed cs marks blocks → AreMarkedUpto group marks → write_of cs object ≡ Some w
+    → is_dropped (check_by marks) (key_of w) ≡ false
+last_counts digest committed group object cs marks blocks w s upto last =
+    subst (λ o. is_dropped o (key_of w) ≡ false) (upto_all t group marks upto (omega arith)) (count_undropped (check_at t marks) (sealed_at t blocks) w.metaslab (key_of w) says.there)
+  where
+    t : ℕ
+    t = committed + (greatest cs + group)
+
+    keeps : kept t cs object ≡ Some w
+    keeps = kept_all t object cs (All-weaker (λ c. group_of c ≤ t) (λ c. object_of c ≡ object → group_of c ≤ t) (λ c low at. low) cs (all_below t cs (omega arith))) ∙ last
+
+    says : SaysOf (shown_at marks t blocks) object (Some w)
+    says = subst (λ v. SaysOf (shown_at marks t blocks) object v) keeps (s.says t object (omega arith))
