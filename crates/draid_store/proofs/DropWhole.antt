@@ -29,11 +29,14 @@ use Rattle.draid_uber.specs.declared.uber.Uber.{Uber}
 use Rattle.draid_pool.specs.Whole.{IsPointer, IsWhole, PointFits}
 use Rattle.draid_pool.specs.declared.own.Own.{Own}
 use Rattle.draid_pool.specs.declared.pool.Pool.{Pool}
+use Rattle.draid_pool.specs.Threads.{AllStay, IsWholeBy}
 use Rattle.draid_pool.proofs.Lists.{some_of}
+use Rattle.draid_pool.proofs.OwnedKnows.{all, left_in, table_in}
+use Rattle.draid_pool.proofs.OwnedStands.{whole_left}
 use Rattle.draid_pool.proofs.Wholes.{open_low, put_elsewhere, put_here}
-use Rattle.draid_store.specs.Freeing.{IsApart}
+use Rattle.draid_store.specs.Freeing.{IsApart, IsWholeBeside}
 use Rattle.draid_store.specs.Pointers.{TriesTake}
-use Rattle.draid_store.specs.Storing.{IsNewPointer, StoreSetsTable}
+use Rattle.draid_store.specs.Storing.{ComesBack, IsNewPointer, StoreSetsTable, StoresNew}
 use Rattle.draid_store.specs.declared.fault.FreeFault.{FreeFault}
 use Rattle.draid_store.specs.declared.fault.FreeFault.TheVariants.{NoObject}
 use Rattle.draid_store.proofs.Dropped.{DropsUber}
@@ -333,3 +336,21 @@ pub sets_new : {E : Type 0} (object : ℕ) (bytes : List ℕ) (table now : ℕ �
 sets_new object bytes table now earlier p sets at o =
     let same : sets.0 ≡ p = some_of (now object) sets.0 p (put_here (now object) (table object) object object (Some sets.0) (sets.2 object) refl) at in
     subst (λ q. now o ≡ (if object == o then Some q else table o)) same (sets.2 o)
+
+-- a write of a pool is done, but for the drop of the earlier block
+module _ {R A E : Type 0} (rack : racks.Ghosts R) (area : areas.Ghosts A) (pool new : Pool R A) (w : IsWhole rack area pool) (geometry : new.geometry ≡ pool.geometry) (uber : new.uber ≡ pool.uber) (stay : AllStay all (left_in pool) (left_in new))
+    (by : IsWholeBy rack all (left_in new) (table_in new) new.own.seq new.own.floor) (object : ℕ) (bytes : List ℕ) where
+  pub beside : (earlier : Pointer) → StoreSetsTable {E = E} object bytes (table_in pool) (table_in new) (Some (Ok (Some earlier))) → StoresNew {E = E} (left_in pool) object pool.own.seq (table_in pool) (table_in new) (Some (Ok (Some earlier)))
+      → ComesBack rack all (left_in new) (table_in new) object earlier → holds_birth (point_of pool.uber).group earlier.birth ≡ true → pool.own.seq ≤ new.own.seq → IsWholeBeside rack area new earlier
+  beside earlier sets stored back kept up = record {
+    whole = whole_left rack area pool new w geometry uber stay by (fits_less 1 (point_of new.uber) (table_in new) new.own.seq fits);
+    fits = fits;
+    has = record { object_is = refl; shard = back.has.shard; there = back.has.there; live = back.has.live };
+    apart = back.apart;
+    begun = (let low = pointer_begun rack area pool object earlier w (w.objects object earlier stored.3) in omega (arith, low, up));
+    other = subst (λ u. All (λ d. IsOther earlier.object earlier.seq d) (point_of u).drops) (sym uber) (other_drops rack area pool object earlier w stored.3 back.has.object_is);
+  }
+    where
+      fits : PointFits 1 (point_of new.uber) (table_in new) new.own.seq
+      fits = subst (λ u. PointFits 1 (point_of u) (table_in new) new.own.seq) (sym uber)
+          (fits_beside rack area pool w (table_in new) new.own.seq object stored.0 (sets_new object bytes (table_in pool) (table_in new) (Some earlier) stored.0 sets stored.1) stored.2 up earlier stored.3 kept)
