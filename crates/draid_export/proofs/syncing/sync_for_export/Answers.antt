@@ -21,7 +21,7 @@ returns-then-is_safe g c =
       names = c.committed.ensures.group;
       grows = (omega arith);
       cause = λ is. absurd (no_refusal is);
-      carries = λ x is. export_none g.R.Rack g.A.Area c.args.pool.now x c.committed.result is ((c.is_safe.ensures x is).0 c.if-is_safe.true) c.committed.ensures.group;
+      carries = λ x is. export_none g.R.Rack g.A.Area c.args.pool.now x c.committed.result is ((c.is_safe.ensures.safe x is).0 c.if-is_safe.true) c.committed.ensures.group;
     }
 
 pub returns-in-Ok : goal.returns-in-Ok
@@ -37,7 +37,7 @@ returns-in-Ok g c =
       names = c.in-Ok.ensures.names;
       grows = (let rises = c.in-Ok.ensures.rises in omega (arith, rises));
       cause = λ is. absurd (no_refusal is);
-      carries = λ x is. export_done g.R.Rack g.A.Area c.args.pool.now c.sync.new.self x c.in-Ok.synced is (not_told c.is_safe.result (IsSafe x) (c.is_safe.ensures x is) c.if-is_safe.false)
+      carries = λ x is. export_done g.R.Rack g.A.Area c.args.pool.now c.sync.new.self x c.in-Ok.synced is (not_told c.is_safe.result (IsSafe x) (c.is_safe.ensures.safe x is) c.if-is_safe.false)
           (c.in-Ok.ensures.carries x is);
     }
 
@@ -54,6 +54,6 @@ returns-in-Err g c =
       names = tt;
       grows = tt;
       cause = λ is. c.in-Err.ensures.cause (err_on ℕ Synced c.in-Err.fault sync.Shelf is);
-      carries = λ x is. export_stops g.R.Rack g.A.Area c.args.pool.now c.sync.new.self x c.in-Err.fault is (not_told c.is_safe.result (IsSafe x) (c.is_safe.ensures x is) c.if-is_safe.false)
+      carries = λ x is. export_stops g.R.Rack g.A.Area c.args.pool.now c.sync.new.self x c.in-Err.fault is (not_told c.is_safe.result (IsSafe x) (c.is_safe.ensures.safe x is) c.if-is_safe.false)
           (c.in-Err.ensures.carries x is);
     }
