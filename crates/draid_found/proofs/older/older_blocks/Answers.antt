@@ -1,4 +1,4 @@
-use Rattle.std.proofs.Common.{arith, refl}
+use Rattle.std.proofs.Common.{arith, rules}
 use Rattle.std.specs.Prelude.{nat_eq}
 use Rattle.std.specs.HashMap.{get}
 use Rattle.draid_found.specs.Together.{noted_in}
@@ -8,7 +8,7 @@ use Rattle.draid_found.proofs.older.older_blocks.Goals as goal
 
 pub loop-shard-init : goal.loop-shard-init
 loop-shard-init g c = record {
-  listing = listing_begins c.args.shards.now (get nat_eq c.args.newest.now) c.args.upto c.args.drops.now c.new-list.result.items (noted_in c.in_ok-keys.keys) refl c.in_ok-keys.ensures;
+  listing = listing_begins c.args.shards.now (get nat_eq c.args.newest.now) c.args.upto c.args.drops.now c.new-list.result.items (noted_in c.in_ok-keys.keys) (search rules) c.in_ok-keys.ensures;
   bound = omega arith;
 }
 
