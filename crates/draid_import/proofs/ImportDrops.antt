@@ -59,7 +59,7 @@ pub upto_low : (group : ℕ) (marks : List Mark) → AreMarkedUpto group (marks_
 upto_low group marks = All-weaker (λ m. nat_le (mark_group m) group ≡ true) (λ m. mark_group m ≤ group) (λ m is. is_low (mark_group m) group is) (marks_upto group marks) (filter_passes (λ m. nat_le (mark_group m) group) marks)
 
 -- a checkpoint was made up to a group
-abbrev IsOld : ℕ → Mark → Type 0
+abbrev pub IsOld : ℕ → Mark → Type 0
 IsOld group (Made t) = t ≤ group
 IsOld group (Dropped key t) = ⊤
 IsOld group (GivenUp t) = ⊤

@@ -25,7 +25,7 @@ use Rattle.draid_pool.specs.Metaslabs.{IsMetaslab}
 use Rattle.draid_pool.specs.Shards.{FreesIn, Goes}
 use Rattle.draid_pool.specs.declared.pool.Pool.{Pool}
 use Rattle.draid_import.proofs.ImportFound.{found_live}
-use Rattle.draid_import.proofs.ImportNewest.{imports_pool, last_in, newest_of, older_by}
+use Rattle.draid_import.proofs.ImportNewest.{counts_by, imports_pool, last_in, loose_by, older_by}
 use Rattle.draid_import.proofs.ImportOlder.{none_freed, older_step}
 use Rattle.draid_import.proofs.ImportOpened.{all_opened, all_reached, finds_opened, opened_is_in, opened_says, opened_stands, opened_state}
 use Rattle.draid_pool.specs.Ubers.{check_told}
@@ -66,10 +66,10 @@ module _ {R A : Type 0} (rack : racks.Ghosts R) (area : areas.Ghosts A) (x : Sta
 
   -- a live block was freed that isn't the newest of its object
   pub found_frees : (shards : List (Shard R A)) (f : IsFoundOf rack area x uber pieces newest seq shards) (m : ℕ) (shard shard' : Shard R A) (p : Pointer) (floor group : ℕ) → slice_get shards m ≡ Some shard
-      → IsLive shard p → p.metaslab ≡ m → (newest p.object ≡ Some p → ⊥) → floor ≡ f.group + 1
+      → IsLive shard p → p.metaslab ≡ m → (Stays newest (point_of uber).group p → ⊥) → floor ≡ f.group + 1
       → ((part : Part) (pieces : Pieces) (y : Metaslab) → IsMetaslab rack area part pieces shard y → Goes rack area part pieces y shard' (FreesIn part.number p floor group y))
       → IsFoundOf rack area x uber pieces newest seq (slice_set shards m shard')
-  found_frees shards f m shard shard' p floor group at live here other floor_is frees = record {
+  found_frees shards f m shard shard' p floor group at live here gone floor_is frees = record {
     group = f.group;
     mid = f.mid;
     finds = f.finds;
@@ -77,13 +77,15 @@ module _ {R A : Type 0} (rack : racks.Ghosts R) (area : areas.Ghosts A) (x : Sta
     seq_is = f.seq_is;
     knows = f.knows;
     freed = older_step rack area f.mid uber pieces f.knows.says shards f.freed m shard shard' at p
-        (older_by rack area f.mid uber pieces f.knows.says f.knows.holds f.knows.live newest f.knows.newest_is shards f.freed m shard p at live here other) floor group
+        (older_by rack area f.mid uber pieces f.knows.says f.knows.holds f.knows.live newest f.knows.newest_is (point_of uber).group f.knows.point f.knows.kept f.knows.dropped shards f.freed m shard p at live here gone)
+        (counts_by rack area f.mid uber pieces f.knows.says f.knows.holds f.knows.live newest f.knows.newest_is (point_of uber).group f.knows.point f.knows.kept f.knows.dropped shards f.freed m shard p at live gone)
+        (loose_by rack area f.mid uber pieces f.knows.says f.knows.holds f.knows.live newest f.knows.newest_is (point_of uber).group f.knows.point f.knows.kept f.knows.dropped shards f.freed p gone) floor group
         (floor_is ∙ ap (λ g. g + 1) (sym f.finds.committed)) frees;
   }
 
-  -- each live block that is left is the newest of its object: the pool is imported
-  pub found_imports : (shards : List (Shard R A)) (f : IsFoundOf rack area x uber pieces newest seq shards) (pool : Pool R A) → AreNewest shards newest → pool.metaslabs.shards.items ≡ shards → pool.uber ≡ uber
+  -- each live block that is left is the newest of its object, or the checkpoint keeps it: the pool is imported
+  pub found_imports : (shards : List (Shard R A)) (f : IsFoundOf rack area x uber pieces newest seq shards) (pool : Pool R A) → AreLeft shards newest (point_of uber).group → pool.metaslabs.shards.items ≡ shards → pool.uber ≡ uber
       → pool.geometry ≡ layout_of uber → pool.own.seq ≡ seq → pool.own.floor ≡ f.group + 1 → ((object : ℕ) → get nat_eq pool.own.objects object ≡ newest object) → ImportsPool rack area x pool
   found_imports shards f pool only items uber_is layout seq_is floor table =
-      imports_pool rack area f.mid uber pieces f.knows.says f.knows.holds f.knows.live newest f.knows.newest_is shards f.freed only x f.group pool f.finds f.last items uber_is layout
+      imports_pool rack area f.mid uber pieces f.knows.says f.knows.holds f.knows.live newest f.knows.newest_is (point_of uber).group f.knows.point f.knows.kept f.knows.dropped shards f.freed only x f.group pool f.finds f.last items uber_is layout
       (seq_is ∙ sym f.seq_is) (floor ∙ sym f.finds.floor) table
