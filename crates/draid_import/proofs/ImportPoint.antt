@@ -58,7 +58,7 @@ told_then g group ds marks upto from =
     ap point_told (marks_all g (dropped_marks group ds marks) (All-weaker (λ m. mark_group m ≤ group) (λ m. mark_group m ≤ g) (λ m low. omega (arith, low, from)) (dropped_marks group ds marks) (dropped_upto group ds marks upto)))
     ∙ told_dropped group ds marks
 
-point_upto : (group : ℕ) (marks : List Mark) → point_told (marks_upto group marks) ≡ check_told marks group
+pub point_upto : (group : ℕ) (marks : List Mark) → point_told (marks_upto group marks) ≡ check_told marks group
 unfolding check_told
 point_upto group marks = refl
 

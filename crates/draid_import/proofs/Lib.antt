@@ -3,10 +3,12 @@ pub mod Findings
 pub mod Flushed
 pub mod Found
 pub mod ImportAlike
+pub mod ImportBeside
 pub mod ImportCheck
 pub mod ImportDrops
 pub mod ImportEnd
 pub mod ImportFaulty
+pub mod ImportFits
 pub mod ImportFound
 pub mod ImportFreed
 pub mod ImportLeft

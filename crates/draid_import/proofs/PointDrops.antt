@@ -16,7 +16,7 @@ use Rattle.draid_pool.specs.Pools.{HasNames}
 
 -- ---- a block that is dropped next
 
-mapped : {X Y : Type 0} (f : X → Y) (xs : List X) (x : X) → Contains xs x → Contains (map f xs) (f x)
+pub mapped : {X Y : Type 0} (f : X → Y) (xs : List X) (x : X) → Contains xs x → Contains (map f xs) (f x)
 mapped f xs x (i, low, is) = (i, (let same = length-map xs f in omega (arith, low, same)), get_or-map f xs i x (f x) low ∙ ap f is)
 
 in_front : {X : Type 0} (xs : List X) (n : ℕ) (x : X) → Contains (take n xs) x → (k : ℕ) × (k < n) × (slice_get xs k ≡ Some x)

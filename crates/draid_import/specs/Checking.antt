@@ -1,5 +1,5 @@
 -- The check record of the group that an import finds, and its first fault.
-use Rattle.std.specs.Prelude.{◌≡◌, ◌==◌, ◌+◌, ◌*◌, ◌%◌, ◌≤◌, ◌⊎◌, ⊤, ℕ, List, Option, Result, Ok, Err, IsErrOf, IsSomeAnd, if◌then◌else◌, length}
+use Rattle.std.specs.Prelude.{◌≡◌, ◌==◌, ◌+◌, ◌*◌, ◌%◌, ◌<◌, ◌≤◌, ◌⊎◌, ⊤, ℕ, List, Option, Result, Ok, Err, IsErrOf, IsSomeAnd, if◌then◌else◌, length}
 use Rattle.draid_area.specs.Area.{OnTold}
 use Rattle.draid_area.specs.declared.Area as areas
 use Rattle.draid_rack.specs.Rack.{Shape}
@@ -60,10 +60,11 @@ module _ {R A : Type 0} (tells : Result CheckTold RecordFault → Type 0) (shard
     pub read : tells (Ok value)
     pub have : HaveNamed shards value.group value.drops
 
-  -- it has no fault but that they lack a block which it names: this is the first
+  -- it has no fault, and tells of a checkpoint, but they lack a block which it names: this is the first
   pub record NamesLack (place : ℕ) (kind : RecordFaultKind) : Type 0 where
     pub value : CheckTold
     pub read : tells (Ok value)
+    pub some : 0 < value.group
     pub i : ℕ
     pub lack : LackNamed shards value.group value.drops i
     pub place_is : place ≡ 30 + 16 * i

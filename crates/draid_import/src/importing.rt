@@ -1,7 +1,7 @@
 //! A pool is imported from what was given back to a shelf: its uberblock is found, each metaslab is opened from the
 //! record of the group that it names, the check record of the group is read, and of each object the block with the greatest
 //! number counts that wasn't dropped to the checkpoint.
-ghost use Rattle.std.specs.Prelude.{◌≡◌, ◌<◌, ◌≤◌, ◌+◌, ◌⊎◌, ◌↔◌, ℕ, None, Some, Err, IfErr, IfOk, IsErrOf, IsSome, IsSomeAnd, IsTrue, OnErr, OnOk, is_some, length, nat_eq, slice_get, Option};
+ghost use Rattle.std.specs.Prelude.{◌≡◌, ◌<◌, ◌≤◌, ◌+◌, ◌⊎◌, ◌↔◌, ℕ, None, Some, Err, Ok, IfErr, IfOk, IsErrOf, IsSome, IsSomeAnd, IsTrue, OnErr, OnOk, is_some, length, nat_eq, slice_get, Option};
 ghost use Rattle.std.specs.HashMap.{get};
 ghost use Rattle.draid_record.specs.declared.fault.RecordFaultKind.{RecordFaultKind};
 ghost use Rattle.draid_names.specs.Faults.{Rose};
@@ -19,7 +19,9 @@ ghost use Rattle.draid_uber.specs.Slots.{group_of};
 ghost use Rattle.draid_uber.specs.Uber.{Valid as IsValidUber, changed_of, count_of, kept_of, layout_of, next_leaf_of, point_of};
 ghost use Rattle.draid_segments.specs.Segments.{Pieces};
 ghost use Rattle.draid_session.specs.State.{State, limit_of};
-ghost use Rattle.draid_import.specs.Checking.{CheckIsBad, IsBadCheck, KeepsUber, NoCheck, OwnCheck};
+ghost use Rattle.draid_import.specs.Checking.{CheckIsBad, HoldsCheck, IsBadCheck, KeepsUber, NoCheck, OwnCheck};
+ghost use Rattle.draid_record.specs.Checks.{CheckTold};
+ghost use Rattle.draid_pool.specs.Ubers.{check_told};
 ghost use Rattle.draid_import.specs.Faulty.{HoldsNoGroup, IsUnread, OneIsUnread, RecordIsBad, TellsBody, UberIsBad};
 ghost use Rattle.draid_import.specs.Findings.{IsMadeOf, IsReadPool, LeavesAll};
 ghost use Rattle.draid_import.specs.Imported.{AreLeft, HasPointers, IsFoundOf, IsLastIn};
@@ -284,6 +286,10 @@ fn find_all<R: Rack, A: Area>(
         → RestsThere x pieces held leaves counts count → IsFoundUber A.Area uber.old → IsRecovered A.Area held count uber.old → ((m : ℕ) → now m ≡ counts m)
         → AreReopened R.Rack (layout_of uber.old) (group_of (kept_of uber.old)) shards.now
         → OpensAllOver R.Rack A.Area (limit_of (layout_of uber.old)) (group_of (kept_of uber.old)) (next_leaf_of uber.old) (takes_areas held) known now shards.now → NoCheck result }
+    // What its check record says is what became of its checkpoint.
+    ensures told { (x : State) (pieces : ℕ → Pieces) (held : Option Held) (leaves : ℕ → Option Shape) (counts : ℕ → KitCounts) (count : ℕ)
+        → RestsThere x pieces held leaves counts count → IsFoundUber A.Area uber.old → IsRecovered A.Area held count uber.old
+        → (value : CheckTold) → HoldsCheck (group_of (kept_of uber.old)) held (Ok value) → value ≡ check_told x.store.marks (group_of (kept_of uber.old)) }
     ensures some { IsErrOf result ImportFault.NoPool → ⊥ }
 {
     let mut found = match find_blocks(alloc, shards) {
@@ -294,9 +300,10 @@ fn find_all<R: Rack, A: Area>(
         Ok(check) => check,
         Err(fault) => return Err(fault),
     };
-    let Ok(()) = count_beside(alloc, shards, &mut found, &check.drops) else {
-        return Err(ImportFault::NoMemory);
-    };
+    match count_beside(alloc, shards, &mut found, &check.drops) {
+        Ok(()) => {}
+        Err(NoMemory) => return Err(ImportFault::NoMemory),
+    }
     match keep_point(alloc, shards, &found.newest, &check, uber) {
         Ok(()) => Ok(found),
         Err(NoMemory) => Err(ImportFault::NoMemory),
