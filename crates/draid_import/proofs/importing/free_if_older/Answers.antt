@@ -1,11 +1,20 @@
-use Rattle.std.proofs.Common.{◌∙◌, arith, inl, inr, refl, sym}
+use Rattle.std.proofs.Common.{◌≡◌, ◌∙◌, ◌⊎◌, arith, inl, inr, refl, sym, true}
+use Rattle.std.specs.Prelude.{Some, nat_eq}
+use Rattle.std.specs.HashMap.{get}
 use Rattle.std.proofs.lemmas.Bool.{true≢false}
+use Rattle.draid_checkpoint.specs.Check.{holds_birth}
+use Rattle.draid_uber.specs.Uber.{point_of}
 use Rattle.draid_pool.proofs.Freed.{frees}
 use Rattle.draid_import.proofs.importing.free_if_older.Goals as goal
 
 pub returns-then-is_newest : goal.returns-then-is_newest
 returns-then-is_newest g c = record {
-  frees = record { valid = c.requires.valid; part = refl; open_group_is = refl; done = inl (c.is_newest.ensures.0 c.if-is_newest.true, refl) };
+  frees = record { valid = c.requires.valid; part = refl; open_group_is = refl; done = inl (inl (c.is_newest.ensures.0 c.if-is_newest.true), refl) };
+}
+
+pub returns-then-holds : goal.returns-then-holds
+returns-then-holds g c = record {
+  frees = record { valid = c.requires.valid; part = refl; open_group_is = refl; done = inl (inr (sym c.holds.ensures ∙ c.if-holds.true), refl) };
 }
 
 pub returns : goal.returns
@@ -17,7 +26,7 @@ returns g c =
         part = e.event.1.part;
         open_group_is = e.sets.groups.open_group_is;
         done = inr (
-          λ same. true≢false (sym (c.is_newest.ensures.1 same) ∙ c.if-is_newest.false),
+          gone,
           (
             c.in-Ok._group,
             e.sets,
@@ -27,3 +36,7 @@ returns g c =
         );
       };
     }
+  where
+    gone : (get nat_eq c.args.newest.now c.args.pointer.now.object ≡ Some c.args.pointer.now) ⊎ (holds_birth (point_of c.args.uber.now).group c.args.pointer.now.birth ≡ true) → ⊥
+    gone (inl same) = true≢false (sym (c.is_newest.ensures.1 same) ∙ c.if-is_newest.false)
+    gone (inr held) = true≢false (sym held ∙ (sym c.holds.ensures ∙ c.if-holds.false))

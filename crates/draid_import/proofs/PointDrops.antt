@@ -1,0 +1,93 @@
+-- Blocks are dropped to a checkpoint one after another, and what it keeps then.
+use Rattle.std.proofs.Common.{arith, ◌≡◌, ◌==◌, ◌+◌, ◌-◌, ◌^◌, ◌<◌, ◌≤◌, ◌++◌, ◌∙◌, ◌⊎◌, inl, inr, ℕ, zero, suc, Bool, true, false, nat_le, List, [], ◌∷◌, Option, Some, None, get_or, refl, sym, ap, subst, length, min, take, if◌then◌else◌}
+use Rattle.std.specs.Prelude.{All, Contains, IfSome, map, slice_get}
+use Rattle.std.proofs.lemmas.Bool.Decides.{nat_tests}
+use Rattle.std.proofs.lemmas.List.{get_or-map, get_or-take, length-map, length-take, take_more}
+use Rattle.std.proofs.lemmas.List.Elements.{All-append, All-contains_itself, All-map, All-weaker}
+use Rattle.std.proofs.lemmas.Option.{slice_get-get_or}
+use Rattle.draid_checkpoint.specs.Check.{Point}
+use Rattle.draid_checkpoint.specs.declared.check.DroppedIn.{DroppedIn}
+use Rattle.draid_names.specs.declared.pointer.Pointer.{Pointer}
+use Rattle.draid_record.specs.Checks.{CheckTold, IsCheck, most_drops}
+use Rattle.draid_record.specs.declared.checks.Dropped.{Dropped}
+use Rattle.draid_uber.specs.Points.{IsOther, KeepsCheck, block_of, dropped_in}
+use Rattle.draid_import.specs.Points.{AreOthers, HasRoom, changed_by}
+use Rattle.draid_pool.specs.Pools.{HasNames}
+
+-- ---- a block that is dropped next
+
+pub mapped : {X Y : Type 0} (f : X → Y) (xs : List X) (x : X) → Contains xs x → Contains (map f xs) (f x)
+mapped f xs x (i, low, is) = (i, (let same = length-map xs f in omega (arith, low, same)), get_or-map f xs i x (f x) low ∙ ap f is)
+
+in_front : {X : Type 0} (xs : List X) (n : ℕ) (x : X) → Contains (take n xs) x → (k : ℕ) × (k < n) × (slice_get xs k ≡ Some x)
+in_front xs n x (k, low, is) =
+    let short = length-take n xs in
+    let below : k < n = grind (arith, nat_tests, low, short) in
+    let inside : k < length xs = grind (arith, nat_tests, low, short) in
+    (k, below, slice_get-get_or xs k x inside ∙ ap Some (sym (get_or-take n xs k x below) ∙ is))
+
+-- it is another one than each that was dropped before
+pub other_then : (dropped : List DroppedIn) (list : List Dropped) (group i : ℕ) (d : Dropped) → AreOthers (map block_of dropped) list → slice_get list i ≡ Some d → Contains list d
+    → All (λ e. IsOther d.object d.seq e) (dropped ++ map (dropped_in group) (take i list))
+other_then dropped list group i d others at has = All-append (λ e. IsOther d.object d.seq e) dropped (map (dropped_in group) (take i list))
+    (All-weaker (Contains dropped) (λ e. IsOther d.object d.seq e) (λ e there object seq. others.apart d has (subst (Contains (map block_of dropped)) (λ j. record { object = object j; seq = seq j }) (mapped block_of dropped e there))) dropped (All-contains_itself dropped))
+    (All-map (λ e. IsOther d.object d.seq e) (dropped_in group) (take i list)
+    (All-weaker (Contains (take i list)) (λ e. IsOther d.object d.seq (dropped_in group e))
+    (λ e there object seq.
+    (let z = in_front list i e there in
+    let same : e ≡ d = λ j. record { object = object j; seq = seq j } in
+    others.once i z.0 d z.1 at (z.2 ∙ ap Some same))) (take i list) (All-contains_itself (take i list))))
+
+-- so many were dropped then
+pub more_dropped : (first now : List DroppedIn) (list : List Dropped) (group i : ℕ) (d : Dropped) → i < length list → d ≡ get_or list i d → now ≡ first ++ map (dropped_in group) (take i list)
+    → now ++ dropped_in group d ∷ [] ≡ first ++ map (dropped_in group) (take (i + 1) list)
+more_dropped first now list group i d low is are =
+    ap (λ ds. ds ++ dropped_in group d ∷ []) are
+    ∙ (append_three first (map (dropped_in group) (take i list)) (dropped_in group d)
+    ∙ ap (λ ds. first ++ ds) (sym (map_push (take i list) d) ∙ ap (map (dropped_in group)) (ap (λ e. take i list ++ e ∷ []) is ∙ sym (take_more list i d low))))
+  where
+    append_three : (xs ys : List DroppedIn) (z : DroppedIn) → (xs ++ ys) ++ z ∷ [] ≡ xs ++ (ys ++ z ∷ [])
+    append_three [] ys z = refl
+    append_three (x ∷ xs) ys z = ap (λ zs. x ∷ zs) (append_three xs ys z)
+
+    map_push : (xs : List Dropped) (x : Dropped) → map (dropped_in group) (xs ++ x ∷ []) ≡ map (dropped_in group) xs ++ dropped_in group x ∷ []
+    map_push [] x = refl
+    map_push (y ∷ xs) x = ap (λ zs. dropped_in group y ∷ zs) (map_push xs x)
+
+pub changed_more : (list : List Dropped) (group was i : ℕ) (d : Dropped) → i < length list → group ≡ changed_by (take (i + 1) list) group was
+changed_more list group was i d low = by (take i list) ∙ ap (λ ds. changed_by ds group was) (sym (take_more list i d low))
+  where
+    by : (xs : List Dropped) → group ≡ changed_by (xs ++ get_or list i d ∷ []) group was
+    by [] = refl
+    by (x ∷ xs) = refl
+
+-- ---- room
+
+pub few_sum : (named older objects most : ℕ) → most ≡ min (older + objects) (2 ^ 64 - 1) → min (named + most) (2 ^ 64 - 1) ≤ 524_288 → (most ≡ older + objects) × (named + most ≤ 524_288)
+few_sum named older objects most is few = (grind (arith, nat_tests, is, few), grind (arith, nat_tests, is, few))
+
+module _ (group : ℕ) (value : CheckTold) (point : Point) (keeps : KeepsCheck group value point) where
+  -- as many as the record names
+  pub as_many : length point.drops ≡ length value.drops
+  as_many = sym (length-map point.drops block_of) ∙ ap length keeps.blocks
+
+  -- where it tells of no checkpoint, there is none
+  pub no_point : value.group ≡ 0 → IsCheck group value → (point.group ≡ None) × (point.drops ≡ [])
+  no_point none range = (
+    keeps.group_is ∙ ap (λ n. if n == 0 then None else Some n) none,
+    nothing point.drops (let few = subst (λ n. length value.drops ≤ most_drops n) none range.few in omega (arith, few, as_many)),
+  )
+    where
+      nothing : {X : Type 0} (xs : List X) → length xs ≤ 0 → xs ≡ []
+      nothing [] few = refl
+      nothing (x ∷ xs) few = absurd (omega (arith, few))
+
+-- the room that is left once older blocks were dropped
+pub room_left : (newest : ℕ → Option Pointer) (old new : Point) (named older objects : ℕ) (list : List Dropped) (group : ℕ) → HasNames newest objects → length list ≡ older → length old.drops ≡ named
+    → new.drops ≡ old.drops ++ map (dropped_in group) list → old.spare ≤ new.spare + older → older + objects ≤ old.spare → named + (older + objects) ≤ 524_288 → HasRoom newest new
+room_left newest old new named older objects list group names many had dropped room spare few =
+    inl (objects, names, omega (arith, room, spare), (let all = ap length dropped ∙ sums old.drops (map (dropped_in group) list) in let same = length-map list (dropped_in group) in omega (arith, all, same, many, had, few)))
+  where
+    sums : {X : Type 0} (xs ys : List X) → length (xs ++ ys) ≡ length xs + length ys
+    sums [] ys = refl
+    sums (x ∷ xs) ys = ap suc (sums xs ys)
