@@ -55,6 +55,7 @@ module _ (geometry : Geometry) (committed : ℕ) (store : Store) (old new : Bloc
     floors = λ o. freed_object_floor m group store.changes old new key h o group sets (λ is. omega arith) (floor_then o);
     settled = λ n j i there. (at n j i there).2;
     numbered = λ n j i there. (let z = at n j i there in holds.numbered n j z.0 z.1);
+    positive = holds.positive;
     bytes = λ n j i w there by. (let z = at n j i there in holds.bytes n j z.0 w z.1 by);
   }
 
@@ -65,6 +66,7 @@ module _ (geometry : Geometry) (committed : ℕ) (store : Store) (old new : Bloc
     floors = λ o. freed_floor m group store.changes old new key h o group sets (λ is. omega arith) (floor_then o);
     settled = λ n j i there. (at n j i there).2;
     numbered = λ n j i there. (let z = at n j i there in holds.numbered n j z.0 z.1);
+    positive = holds.positive;
     bytes = λ n j i w there by. (let z = at n j i there in holds.bytes n j z.0 w z.1 by);
   }
 

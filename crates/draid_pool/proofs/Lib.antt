@@ -56,6 +56,7 @@ pub mod Owning
 pub mod PhaseSteps
 pub mod Places
 pub mod Pointing
+pub mod Points
 pub mod PoolBytes
 pub mod QuietWhole
 pub mod Ranging

@@ -149,7 +149,7 @@ module _ {R A : Type 0} (rack : racks.Ghosts R) (area : areas.Ghosts A) (shards 
     shards_are = s.shards_are;
     pieces = s.pieces;
     each = s.each;
-    holds = record { stores = s.holds.stores; floors = s.holds.floors; settled = s.holds.settled; numbered = s.holds.numbered; bytes = s.holds.bytes };
+    holds = record { stores = s.holds.stores; floors = s.holds.floors; settled = s.holds.settled; numbered = s.holds.numbered; positive = s.holds.positive; bytes = s.holds.bytes };
     only = s.only;
     checks = s.checks;
     marked = s.marked;
@@ -176,6 +176,7 @@ module _ {R A : Type 0} (rack : racks.Ghosts R) (area : areas.Ghosts A) (shards 
       floors = s.holds.floors;
       settled = s.holds.settled;
       numbered = s.holds.numbered;
+      positive = s.holds.positive;
       bytes = s.holds.bytes;
     };
     only = s.only;

@@ -120,6 +120,7 @@ module _ {R A : Type 0} (rack : racks.Ghosts R) (area : areas.Ghosts A) where
           floors = s.holds.floors;
           settled = s.holds.settled;
           numbered = s.holds.numbered;
+          positive = s.holds.positive;
           bytes = s.holds.bytes;
         });
         only = λ m k h at live counts. subst (λ (z : Store). IsLastAt m k (write_of z.changes k.object)) (sym (all_store x.store)) (r.only m k h at live (subst (λ (z : Store). is_dropped (check_by z.marks) k ≡ false) (all_store x.store) counts));

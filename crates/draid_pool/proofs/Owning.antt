@@ -171,6 +171,7 @@ module _ (x : State) (m : ℕ) (y z : Metaslab) (at : slice_get x.metaslabs m �
           floors = λ object. commit_floor (own_changes owns x.store.changes) (own_blocks mine (blocks_of x.metaslabs)) (own_blocks mine (blocks_of after)) c object x.store.floor (o.floors object) d;
           settled = λ n k h there. o.settled n k h (held_before mine drops n k h there);
           numbered = λ n k h there. o.numbered n k h (held_before mine drops n k h there);
+          positive = o.positive;
           bytes = λ n k h w there by. own_bytes c o n k h w (held_before mine drops n k h there) by;
         }
 

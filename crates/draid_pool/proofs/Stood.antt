@@ -163,6 +163,7 @@ module _ {R A : Type 0} (rack : racks.Ghosts R) (area : areas.Ghosts A) where
       floors = λ object. commit_floor x.store.changes (blocks_of x.metaslabs) (blocks_of after) x.committed object x.store.floor (s.holds.floors object) drops;
       settled = λ k key h there. s.holds.settled k key h (was k key h there);
       numbered = λ k key h there. s.holds.numbered k key h (was k key h there);
+      positive = s.holds.positive;
       bytes = λ k key h write there by. s.holds.bytes k key h write (was k key h there) by;
     }
 

@@ -1,11 +1,11 @@
 -- What a whole pool has, and that it stays whole as one of its shards is another one of the same metaslab.
-use Rattle.std.proofs.Common.{◌≡◌, ◌==◌, ◌<◌, ◌≤◌, ◌+◌, ◌∙◌, inl, inr, cond, ℕ, Bool, true, false, Option, Some, None, arith, refl, sym, ap, subst, slice_index_or, slice_set, length, if◌then◌else◌, nat_eq}
+use Rattle.std.proofs.Common.{◌≡◌, ◌==◌, ◌<◌, ◌≤◌, ◌+◌, ◌∙◌, inl, inr, cond, ℕ, Bool, true, false, [], Option, Some, None, arith, refl, sym, ap, subst, slice_index_or, slice_set, length, if◌then◌else◌, nat_eq}
 use Rattle.std.specs.Prelude.{nat_eq, slice_get, All, cond}
 use Rattle.std.specs.HashMap.{get}
 use Rattle.std.proofs.lemmas.Bool.{cases_eq}
 use Rattle.std.proofs.lemmas.List.{length-set}
-use Rattle.std.proofs.lemmas.List.Elements.{All-weaker}
-use Rattle.draid_checkpoint.specs.Check.{Point}
+use Rattle.std.proofs.lemmas.List.Elements.{All-nil, All-weaker}
+use Rattle.draid_checkpoint.specs.Check.{Point, holds_birth}
 use Rattle.std.proofs.lemmas.Option.{slice_get-get_or}
 use Rattle.draid_names.specs.declared.numbers.TheConstants.{LAST_NUMBER}
 use Rattle.draid_names.specs.declared.pointer.Pointer.{Pointer}
@@ -71,7 +71,23 @@ fits_on more point old new seq later up among fits = record {
   few = fits.few;
   apart = All-weaker (λ d. (p : Pointer) → old d.object ≡ Some p → d.seq ≡ p.seq → ⊥) (λ d. (p : Pointer) → new d.object ≡ Some p → d.seq ≡ p.seq → ⊥) (λ d apart p at. apart p (among d.object p at)) point.drops fits.apart;
   begun = All-weaker (λ d. d.seq ≤ seq) (λ d. d.seq ≤ later) (λ d low. omega (arith, low, up)) point.drops fits.begun;
+  none = fits.none;
 }
+
+-- where there is none, it fits any
+pub fits_none : (point : Point) (table : ℕ → Option Pointer) (seq : ℕ) → point.group ≡ None → point.drops ≡ [] → PointFits 0 point table seq
+fits_none point table seq none empty = record {
+  names = [];
+  each = λ o p at kept. absurd (not_held point.group p.birth none kept);
+  room = omega arith;
+  few = (let zero = ap (λ ds. length ds) empty in omega (arith, zero));
+  apart = subst (All (λ d. (p : Pointer) → table d.object ≡ Some p → d.seq ≡ p.seq → ⊥)) (sym empty) (All-nil (λ d. (p : Pointer) → table d.object ≡ Some p → d.seq ≡ p.seq → ⊥));
+  begun = subst (All (λ d. d.seq ≤ seq)) (sym empty) (All-nil (λ d. d.seq ≤ seq));
+  none = λ is. empty;
+}
+  where
+    not_held : (group : Option ℕ) (birth : ℕ) → group ≡ None → holds_birth group birth ≡ true → ⊥
+    not_held group birth is held = absurd (let now : holds_birth None birth ≡ true = subst (λ g. holds_birth g birth ≡ true) is held in cc)
 
 -- ---- blocks
 

@@ -1,5 +1,5 @@
 -- How the metaslabs of an open pool hold its objects.
-use Rattle.std.specs.Prelude.{◌≡◌, ◌≤◌, ◌+◌, ⊤, ℕ, true, List, Option, Some, None, length, option_map, slice_get, slice_index, max}
+use Rattle.std.specs.Prelude.{◌≡◌, ◌≤◌, ◌+◌, ⊤, ℕ, true, List, Option, Some, None, length, option_map, slice_get, slice_index, max, All}
 use Rattle.sha2.specs.Sha256.{sha256}
 use Rattle.draid_gf.specs.Field.{IsByte}
 use Rattle.draid_names.specs.declared.numbers.TheConstants.{LAST_NUMBER}
@@ -12,6 +12,7 @@ use Rattle.draid_machine.specs.Names.{is_block}
 use Rattle.draid_machine.specs.State as machine
 use Rattle.draid_objects.specs.Blocks.{Blocks, held_in}
 use Rattle.draid_objects.specs.Changes.{Write, key_of, write_by}
+use Rattle.draid_objects.specs.Marks.{mark_group}
 use Rattle.draid_objects.specs.Stores.{AreMarkedUpto, IsBehindChecks, IsFloor, Stores}
 use Rattle.draid_segments.specs.Segments.{Pieces}
 use Rattle.draid_shard.specs.Looks.{IsLive}
@@ -38,12 +39,13 @@ pub record HasPieces (geometry : Geometry) (write : Write) (pieces : Pieces) : T
   pub rows : ArePieces geometry.props.sector geometry.g (stripes_for geometry write.bytes) columns (key_of write) pieces
 
 -- The blocks store what befell the objects, beside the checkpoint; and the floor is one for each of them. No write is under way, and none that is held has a greater number than the
--- last. The pieces of each block are those of its write's bytes.
+-- last. Nothing befell the checkpoint before the first group. The pieces of each block are those of its write's bytes.
 pub record HoldsObjects (geometry : Geometry) (committed : ℕ) (store : Store) (blocks : Blocks) (pieces : ℕ → Pieces) : Type 0 where
   pub stores : Stores sha256 committed store.changes store.marks blocks
   pub floors : (object : ℕ) → IsFloor store.changes blocks object store.floor
   pub settled : (m : ℕ) (k : Key) (h : Held) → blocks m k ≡ Some h → is_block h.stage ≡ true
   pub numbered : (m : ℕ) (k : Key) (h : Held) → blocks m k ≡ Some h → k.seq ≤ store.seq
+  pub positive : All (λ m. 1 ≤ mark_group m) store.marks
   pub bytes : (m : ℕ) (k : Key) (h : Held) (write : Write) → blocks m k ≡ Some h → write_by store.changes k ≡ Some write
       → HasPieces geometry write (pieces m)
 

@@ -1,5 +1,5 @@
 -- What a pool is by itself, whatever its devices hold.
-use Rattle.std.specs.Prelude.{◌≡◌, ◌≤◌, ◌<◌, ◌+◌, ℕ, true, Some, nat_eq, length, slice_get, List, Option, All, Contains}
+use Rattle.std.specs.Prelude.{◌≡◌, ◌≤◌, ◌<◌, ◌+◌, ℕ, true, Some, None, [], nat_eq, length, slice_get, List, Option, All, Contains}
 use Rattle.std.specs.HashMap.{get}
 use Rattle.draid_rack.specs.declared.Rack as racks
 use Rattle.draid_area.specs.declared.Area as areas
@@ -39,7 +39,7 @@ pub record IsPointer {R A : Type 0} (pool : Pool R A) (object : ℕ) (pointer : 
   pub live : IsLive shard pointer
 
 -- The checkpoint has room for each object's block that it keeps, and for some more; it can spell them all in a check record; and none that it alone keeps is an object's own, or of a write
--- that wasn't begun.
+-- that wasn't begun. Where there is none it keeps no block.
 pub record PointFits (more : ℕ) (point : Point) (table : ℕ → Option Pointer) (seq : ℕ) : Type 0 where
   pub names : List ℕ
   pub each : (object : ℕ) (p : Pointer) → table object ≡ Some p → holds_birth point.group p.birth ≡ true → Contains names object
@@ -47,6 +47,7 @@ pub record PointFits (more : ℕ) (point : Point) (table : ℕ → Option Pointe
   pub few : length point.drops + (length names + more) ≤ 524_288
   pub apart : All (λ d. (p : Pointer) → table d.object ≡ Some p → d.seq ≡ p.seq → ⊥) point.drops
   pub begun : All (λ d. d.seq ≤ seq) point.drops
+  pub none : point.group ≡ None → point.drops ≡ []
 
 -- What each call needs and keeps. A pool is whole also where nothing is known of what its devices held as it was imported. All its metaslabs have the same arms.
 -- But for its version its uberblock has the pool's layout.
