@@ -29,15 +29,17 @@ use Rattle.draid_pool.specs.declared.pool.Pool.{Pool}
 use Rattle.draid_pool.proofs.Arms.{AllShare}
 use Rattle.draid_pool.proofs.Lists.{present}
 use Rattle.draid_pool.proofs.Versions.{same_uber_layout}
+use Rattle.draid_pool.proofs.WholeGroups.{point_on}
 use Rattle.draid_changes.specs.Walks.{ChangedBelow}
 use Rattle.draid_changes.proofs.Walk.{changed_at}
 
--- a shard is another one of the same metaslab, with the same blocks and the same committed group
+-- a shard is another one of the same metaslab, with the same blocks, the same committed group and no lower one that is open
 pub record IsStill {R A : Type 0} (rack : racks.Ghosts R) (old new : Shard R A) : Type 0 where
   pub valid : Valid rack new
   pub part : part_of new ≡ part_of old
   pub entries : SameEntries old.entries new.entries
   pub committed : new.committed ≡ old.committed
+  pub opens : old.open_group ≤ new.open_group
 
 -- all that a pool has besides its metaslabs is as it was
 pub record SameOwn {R A : Type 0} (pool new : Pool R A) : Type 0 where
@@ -63,6 +65,12 @@ module _ {R A : Type 0} (rack : racks.Ghosts R) (area : areas.Ghosts A) where
         objects = λ o q at. pointer o q (w.objects o q (sym (ap (λ os. get nat_eq os o) set.objects) ∙ at));
         floor = subst (λ u. new.own.floor ≤ group_of (kept_of u) + 2) (sym set.uber) (let fits = w.floor in let same = set.floor in omega (arith, fits, same));
         low = (let low = w.low in let same = set.floor in omega (arith, low, same));
+        point = point_on rack area pool new w (ap (λ u. ubers.point_of u) set.uber) set.objects set.seq;
+        behind = λ own k z is there.
+            (let was = changed_at Changes pool.metaslabs.shards.items new.metaslabs.shards.items c k z there in
+            let low = w.behind own k was.0 (ap (λ u. (ubers.point_of u).group) (sym set.uber) ∙ is) was.1 in
+            let opens = (still was.0 z was.2).opens in
+            omega (arith, low, opens));
       }
     where
       each : (k : ℕ) (z : Shard R A) → slice_get new.metaslabs.shards.items k ≡ Some z → IsShardOf rack w.perms new k z
