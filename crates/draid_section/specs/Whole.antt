@@ -67,6 +67,8 @@ module _ {R A : Type 0} (rack : racks.Ghosts R) (area : areas.Ghosts A) where
     pub locked : AreLocked pool.metaslabs.shards.items locks firsts
     pub groups : Vec (Caller (Past (Cell R A))) Global
     pub governs : IsUberOf rack area locks uber groups
+    pub unpointed : (ubers.point_of pool.uber).group ≡ None
+    pub point : ubers.point_of uber ≡ ubers.point_of pool.uber
     pub lists : List (Vec (Caller (Past (Cell R A))) Global)
     pub unlocked : AreUnlocked rack area locks rests lists shards
     pub groups_in : (k : ℕ) × (slice_get lists k ≡ Some groups)
