@@ -25,6 +25,7 @@ pub mod Opening
 pub mod Plain
 pub mod Pointed
 pub mod PointedSums
+pub mod Points
 pub mod PutKeeps
 pub mod PutSteps
 pub mod QuietKeeps
