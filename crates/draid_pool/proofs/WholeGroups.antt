@@ -68,7 +68,7 @@ module _ {R A : Type 0} (rack : racks.Ghosts R) (area : areas.Ghosts A) where
 
   -- ---- the checkpoint
 
-  pub point_on : (pool new : Pool R A) → IsWhole rack area pool → ubers.point_of new.uber ≡ ubers.point_of pool.uber → new.own.objects ≡ pool.own.objects → new.own.seq ≡ pool.own.seq
+  point_on : (pool new : Pool R A) → IsWhole rack area pool → ubers.point_of new.uber ≡ ubers.point_of pool.uber → new.own.objects ≡ pool.own.objects → new.own.seq ≡ pool.own.seq
       → PointFits 0 (ubers.point_of new.uber) (get nat_eq new.own.objects) new.own.seq
   point_on pool new w point objects seq = subst (λ p. PointFits 0 p (get nat_eq new.own.objects) new.own.seq) (sym point)
       (fits_on 0 (ubers.point_of pool.uber) (get nat_eq pool.own.objects) (get nat_eq new.own.objects) pool.own.seq new.own.seq (omega (arith, seq)) (λ o p at. sym (ap (λ os. get nat_eq os o) objects) ∙ at) w.point)

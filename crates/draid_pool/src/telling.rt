@@ -1,9 +1,7 @@
-//! What an open pool tells of its committed group, of its objects and of its checkpoint.
+//! What an open pool tells of its committed group and of its objects.
 ghost use Rattle.std.specs.Prelude.{◌≡◌, nat_eq};
 ghost use Rattle.std.specs.HashMap.{get};
-ghost use Rattle.draid_uber.specs.Uber.{point_of};
 ghost use Rattle.draid_session.specs.Opening.{HasObjects};
-ghost use Rattle.draid_session.specs.Points.{IsPointOf};
 ghost use Rattle.draid_session.specs.State.{State};
 ghost use Rattle.draid_pool.specs.Pools.{HasNames, group_in, Represents};
 
@@ -26,13 +24,5 @@ impl<R: Rack, A: Area> Pool<R, A> {
         ensures state { (x : State) → Represents R.Rack A.Area self.now x → HasObjects x.store.changes result }
     {
         self.own.objects.len() as u64
-    }
-
-    /// The group of the checkpoint, if there is one.
-    pub fn point(&self) -> Option<u64>
-        ensures group { result ≡ (point_of self.now.uber).group }
-        ensures state { (x : State) → Represents R.Rack A.Area self.now x → IsPointOf x.store.marks result }
-    {
-        self.uber.point().group()
     }
 }
