@@ -24,12 +24,12 @@ use Rattle.draid_shard.specs.declared.shard.Shard.{Shard}
 use Rattle.draid_uber.specs.Slots.{group_of}
 use Rattle.draid_uber.specs.Uber as ubers
 use Rattle.draid_uber.specs.Uber.{kept_of, next_leaf_of}
-use Rattle.draid_pool.specs.Whole.{IsPointer, IsShardOf, IsWhole}
+use Rattle.draid_pool.specs.Whole.{IsPointer, IsShardOf, IsWhole, PointFits}
 use Rattle.draid_pool.specs.declared.pool.Pool.{Pool}
 use Rattle.draid_pool.proofs.Arms.{AllShare}
 use Rattle.draid_pool.proofs.Lists.{present}
 use Rattle.draid_pool.proofs.Versions.{same_uber_layout}
-use Rattle.draid_pool.proofs.WholeGroups.{point_on}
+use Rattle.draid_pool.proofs.Wholes.{fits_on}
 use Rattle.draid_changes.specs.Walks.{ChangedBelow}
 use Rattle.draid_changes.proofs.Walk.{changed_at}
 
@@ -65,7 +65,8 @@ module _ {R A : Type 0} (rack : racks.Ghosts R) (area : areas.Ghosts A) where
         objects = λ o q at. pointer o q (w.objects o q (sym (ap (λ os. get nat_eq os o) set.objects) ∙ at));
         floor = subst (λ u. new.own.floor ≤ group_of (kept_of u) + 2) (sym set.uber) (let fits = w.floor in let same = set.floor in omega (arith, fits, same));
         low = (let low = w.low in let same = set.floor in omega (arith, low, same));
-        point = point_on rack area pool new w (ap (λ u. ubers.point_of u) set.uber) set.objects set.seq;
+        point = subst (λ u. PointFits 0 (ubers.point_of u) (get nat_eq new.own.objects) new.own.seq) (sym set.uber)
+            (fits_on 0 (ubers.point_of pool.uber) (get nat_eq pool.own.objects) (get nat_eq new.own.objects) pool.own.seq new.own.seq (let same = set.seq in omega (arith, same)) (λ o q at. sym (ap (λ os. get nat_eq os o) set.objects) ∙ at) w.point);
         behind = λ own k z is there.
             (let was = changed_at Changes pool.metaslabs.shards.items new.metaslabs.shards.items c k z there in
             let low = w.behind own k was.0 (ap (λ u. (ubers.point_of u).group) (sym set.uber) ∙ is) was.1 in

@@ -31,12 +31,13 @@ use Rattle.draid_objects.specs.Changes.{write_of}
 use Rattle.draid_uber.specs.Uber.{count_of, point_of}
 use Rattle.draid_run.specs.Desks.{IsDesk, IsPool, IsShelf}
 use Rattle.draid_pool.specs.Keeping.{SamePool}
-use Rattle.draid_run.specs.Sections.{IsStopped, LanesTeach, RunsSection, SectionIs, StopWhere, StopsWhere, place_of, replies_in}
+use Rattle.draid_run.specs.Sections.{IsStopped, LanesTeach, RunsSection, SectionIs, StopWhere, StopsWhere, place_of}
+use Rattle.draid_print.specs.Printing.{replies_in}
 use Rattle.draid_run.specs.Shelves.{AreaRose, PoolFails}
-use Rattle.draid_run.specs.declared.sections.LaneReplies.{LaneReplies}
+use Rattle.draid_print.specs.declared.printing.LaneReplies.{LaneReplies}
 use Rattle.draid_run.proofs.Risen.{rose_some}
-use Rattle.draid_session.specs.Points.{HasPoint}
-use Rattle.draid_pool.proofs.Points.{none_stands}
+use Rattle.draid_session.specs.Points.{HasPoint, IsPointOf}
+use Rattle.draid_pool.proofs.Points.{none_stands, point_stands}
 use Rattle.draid_machine.proofs.Small.{none_some}
 
 -- ---- lanes that were stopped
@@ -195,16 +196,19 @@ module _ {R A : Type 0} (rack : racks.Ghosts R) (area : areas.Ghosts A) (choices
   unchecked : (x : State) (pool : Pool R A) → (point_of pool.uber).group ≡ None → Represents rack area pool x → check_by x.store.marks ≡ None
   unchecked x pool none is = none_stands area pool.uber x (blocks_of x.metaslabs) is.stands.pieces is.stands.uber is.stands.holds is.stands.groups none
 
+  pointed : (x : State) (pool : Pool R A) (group : ℕ) → (point_of pool.uber).group ≡ Some group → Represents rack area pool x → HasPoint x.store.marks group
+  pointed x pool group some is = subst (IsPointOf x.store.marks) some (point_stands area pool.uber x (blocks_of x.metaslabs) is.stands.pieces is.stands.uber is.stands.holds is.stands.groups)
+
   -- a checkpoint stands: the pool is as it was
-  pub section_pointed : (x : Desk) (old new : Option (Pool R A)) (was : Pool R A) (group : ℕ) → old ≡ Some was → new ≡ Some was → ((y : State) → Represents rack area was y → HasPoint y.store.marks group)
+  pub section_pointed : (x : Desk) (old new : Option (Pool R A)) (was : Pool R A) (group : ℕ) → old ≡ Some was → new ≡ Some was → (point_of was.uber).group ≡ Some group
       → IsDesk rack area entry now old x → SectionIs rack area choices lanes entry now x new (Err LanesCheckpoint)
-  section_pointed x old new was group there then points desk = by x (subst (λ p. IsPool rack area p x) there desk.stands) desk.shelf
+  section_pointed x old new was group there then some desk = by x (subst (λ p. IsPool rack area p x) there desk.stands) desk.shelf
     where
       by : (x : Desk) → IsPool rack area (Some was) x → IsShelf x entry now → SectionIs rack area choices lanes entry now x new (Err LanesCheckpoint)
       by (Open y) stands shelf = record {
         new = Open y;
         desk = record { stands = subst (λ p. IsPool rack area p (Open y)) (sym then) stands; shelf = shelf };
-        turns = inl (λ none. (let has = points y stands.1 in none_some (check_by y.store.marks) has.0 none has.1), (refl, refl, refl));
+        turns = inl (λ none. (let has = pointed y was group some stands.1 in none_some (check_by y.store.marks) has.0 none has.1), (refl, refl, refl));
         stopped = λ e. absurd (cc e);
       }
       by (Foreign known) stands shelf = record {

@@ -1,4 +1,4 @@
-use Rattle.std.proofs.Common.{◌≤◌, Vec, Global, refl, subst, sym}
+use Rattle.std.proofs.Common.{◌≤◌, Vec, Global, refl, subst, sym, ◌∙◌, ap}
 use Rattle.draid_script.specs.Line.{most_lanes}
 use Rattle.draid_script.specs.declared.name.CommandName.TheVariants as name
 use Rattle.draid_reply.specs.declared.reply.Reply.TheVariants.{NoMemory}
@@ -7,7 +7,7 @@ use Rattle.draid_session.specs.State.{State}
 use Rattle.draid_pool.specs.Failing.{AreaRose}
 use Rattle.draid_pool.specs.Knows.{KnowsPointers}
 use Rattle.draid_pool.specs.Pools.{Represents}
-use Rattle.draid_run.specs.declared.sections.LaneReplies.{LaneReplies}
+use Rattle.draid_print.specs.declared.printing.LaneReplies.{LaneReplies}
 use Rattle.draid_run.proofs.Lining.{lanes_many}
 use Rattle.std.specs.Fn.{FnReturnsAt}
 use Rattle.draid_session.specs.Choices.{choices_by}
@@ -15,15 +15,17 @@ use Rattle.draid_session.specs.Sections.{ClashesMend, NoClash, RefusesSection}
 use Rattle.draid_run.specs.Desks.{IsPool}
 use Rattle.draid_clashes.specs.Lanes.{lanes_in}
 use Rattle.draid_pool.specs.Keeping.{SamePool}
-use Rattle.draid_run.specs.Sections.{IsStopped, LanesTeach, RunsSection, StopWhere, replies_in}
+use Rattle.draid_run.specs.Sections.{IsStopped, LanesTeach, RunsSection, StopWhere}
+use Rattle.draid_print.specs.Printing.{replies_in}
 use Rattle.draid_run.proofs.Ran.{of_err, of_ok, pool_whole, same_pool, section_pointed, section_ran, section_refused}
 use Rattle.draid_run.proofs.lanes.run_lanes.Goals as goal
+use Rattle.draid_checkpoint.specs.Check.{Point}
 
 pub returns-in-Some-point : goal.returns-in-Some-point
 returns-in-Some-point g c = record {
   did = λ entry now x desk.
-      section_pointed g.R.Rack g.A.Area (choices_by (FnReturnsAt g.F.Fn c.args.chooser.now)) (lanes_in c.args.lanes.items) entry now x c.args.pool.now _ c.in-Some.open c.in-Some-point.field-0 (sym c.in-Some.ensures.value) refl
-      c.in-Some-point.ensures.state desk;
+      section_pointed g.R.Rack g.A.Area (choices_by (FnReturnsAt g.F.Fn c.args.chooser.now)) (lanes_in c.args.lanes.items) entry now x c.args.pool.now _ c.in-Some.open c.in-Some-group.field-0 (sym c.in-Some.ensures.value) refl
+      (sym (c.group.ensures ∙ ap (λ (p : Point). p.group) c.point.ensures)) desk;
 }
 
 pub returns-in-Some-refusal : goal.returns-in-Some-refusal
