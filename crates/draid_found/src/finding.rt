@@ -29,7 +29,7 @@ fn is_newer(newest: &HashMap<u64, Pointer>, pointer: &Pointer) -> bool
 }
 
 /// Keeps a block in mind, unless one of its object was noted that is as new.
-pub(crate) fn keep_newer(
+pub fn keep_newer(
     newest: &mut HashMap<u64, Pointer>,
     pointer: Pointer,
 ) -> Result<(), NoMemory>

@@ -12,4 +12,4 @@ mod finding;
 pub use beside::newest_beside;
 pub use drops::first_lack;
 pub use fault::FoundFault;
-pub use finding::{Found, find_blocks};
+pub use finding::{Found, find_blocks, keep_newer};

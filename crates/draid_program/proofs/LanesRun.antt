@@ -47,8 +47,9 @@ use Rattle.draid_works.proofs.LaneTeaches.{all_taught}
 use Rattle.draid_works.proofs.LaneTells.{commands_lead}
 use Rattle.draid_program.specs.Jobs.{AreJobsOf, IsJobOf, told_of}
 use Rattle.draid_clashes.specs.Lanes.{commands_in, lanes_in}
-use Rattle.draid_run.specs.Sections.{IsStopped, LanesTeach, MayRunLanes, RunsSection, StopWhere, StopsWhere, replies_in}
-use Rattle.draid_run.specs.declared.sections.LaneReplies.{LaneReplies}
+use Rattle.draid_run.specs.Sections.{IsStopped, LanesTeach, MayRunLanes, RunsSection, StopWhere, StopsWhere}
+use Rattle.draid_print.specs.Printing.{replies_in}
+use Rattle.draid_print.specs.declared.printing.LaneReplies.{LaneReplies}
 use Rattle.draid_program.proofs.LanesGiven.{Does, Needs, job_of, keeps, may_all}
 
 -- ---- lists

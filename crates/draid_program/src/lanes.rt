@@ -11,7 +11,8 @@ ghost use Rattle.draid_pool.specs.Pools.{Represents};
 ghost use Rattle.draid_pool.specs.Whole.{IsWhole};
 ghost use Rattle.draid_clashes.specs.Lanes.{lanes_in};
 ghost use Rattle.draid_pool.specs.Keeping.{SamePool};
-ghost use Rattle.draid_run.specs.Sections.{IsStopped, LanesTeach, MayRunLanes, RunsSection, StopWhere, replies_in};
+ghost use Rattle.draid_run.specs.Sections.{IsStopped, LanesTeach, MayRunLanes, RunsSection, StopWhere};
+ghost use Rattle.draid_print.specs.Printing.{replies_in};
 ghost use Rattle.draid_program.specs.Jobs.{AreJobsOf, told_of};
 
 use draid_area::Area;

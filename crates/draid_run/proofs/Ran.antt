@@ -31,9 +31,10 @@ use Rattle.draid_objects.specs.Changes.{write_of}
 use Rattle.draid_uber.specs.Uber.{count_of}
 use Rattle.draid_run.specs.Desks.{IsDesk, IsPool, IsShelf}
 use Rattle.draid_pool.specs.Keeping.{SamePool}
-use Rattle.draid_run.specs.Sections.{IsStopped, LanesTeach, RunsSection, SectionIs, StopWhere, StopsWhere, place_of, replies_in}
+use Rattle.draid_run.specs.Sections.{IsStopped, LanesTeach, RunsSection, SectionIs, StopWhere, StopsWhere, place_of}
+use Rattle.draid_print.specs.Printing.{replies_in}
 use Rattle.draid_run.specs.Shelves.{AreaRose, PoolFails}
-use Rattle.draid_run.specs.declared.sections.LaneReplies.{LaneReplies}
+use Rattle.draid_print.specs.declared.printing.LaneReplies.{LaneReplies}
 use Rattle.draid_run.proofs.Risen.{rose_some}
 
 -- ---- lanes that were stopped

@@ -34,15 +34,16 @@ use Rattle.draid_run.specs.Desks.{IsDesk, asked_in}
 use Rattle.draid_run.specs.Script.{IsBuilt, MayEndAt}
 use Rattle.draid_clashes.specs.Lanes.{lanes_in}
 use Rattle.draid_run.specs.Sections.{AreLanes, IsOfLane, RanIs, SectionIs, place_in, place_next, place_of, saids_of}
-use Rattle.draid_run.specs.Serve.{LineIs, Placed, Printed, PrintIs, done_of, opened_by}
+use Rattle.draid_run.specs.Serve.{LineIs, Placed, Printed, done_of, opened_by}
+use Rattle.draid_print.specs.Printing.{PrintIs}
 use Rattle.draid_run.specs.Shelves.{MayFind}
-use Rattle.draid_run.specs.declared.sections.LaneReplies.{LaneReplies}
+use Rattle.draid_print.specs.declared.printing.LaneReplies.{LaneReplies}
 use Rattle.draid_exits.specs.declared.status.Status.{Status}
 use Rattle.draid_exits.specs.declared.status.Status.TheVariants as status_is
 use Rattle.draid_exits.specs.declared.status.Status.TheVariants.{Done, Usage, SourceFault, SinkFault, NoMemory, TooLong, ShelfFault, Record}
 use Rattle.draid_run.proofs.Deciding.{with_spare}
 use Rattle.draid_run.proofs.Exits.{printed_alone}
-use Rattle.draid_run.proofs.Known.{appends_none}
+use Rattle.draid_print.proofs.Appending.{appends_none}
 use Rattle.draid_run.proofs.Lining.{lanes_many}
 
 -- ---- the lines of a section

@@ -32,9 +32,9 @@ use Rattle.draid_pool.specs.declared.pool.Pool.{Pool}
 use Rattle.draid_pool.specs.Shelves.{OnShelf}
 use Rattle.draid_clashes.specs.Lanes.{lanes_in}
 use Rattle.draid_run.specs.Desks.{IsDesk}
-use Rattle.draid_run.specs.Script.{said_text, texts_of}
+use Rattle.draid_print.specs.Printing.{PrintsAre, replies_in, texts_of}
 use Rattle.draid_run.specs.Serve.{LaneStopped}
-use Rattle.draid_run.specs.declared.sections.LaneReplies.{LaneReplies}
+use Rattle.draid_print.specs.declared.printing.LaneReplies.{LaneReplies}
 use Rattle.draid_exits.specs.declared.status.Status.{Status}
 use Rattle.draid_exits.specs.declared.status.Status.TheVariants.{SinkFault, NoMemory, ShelfFault}
 
@@ -53,10 +53,6 @@ pub record MayRunLanes (lanes : List (List Command)) : Type 0 where
   pub one_mends : ClashesMend lanes → ⊥
 
 -- ---- what is replied
-
--- each lane's replies
-abbrev pub replies_in : List LaneReplies → List (List Reply)
-replies_in ran = map (λ (lane : LaneReplies). lane.replies.items) ran
 
 -- A lane has a reply to each of its commands, or fewer where an area stopped it.
 abbrev pub StopsWhere : Bool → List Command → List Reply → Type 0
@@ -147,13 +143,6 @@ pub record SectionIs {R A : Type 0} (rack : racks.Ghosts R) (area : areas.Ghosts
   pub stopped : place_of result ≡ Ended → LaneStopped area pool old new
 
 -- ---- what is printed
-
--- What became of the texts of some replies: all were printed; or the sink failed at one, or memory was wanting for it, behind those before.
-abbrev pub PrintsAre : List Said → Option (List ℕ) → Option (List ℕ) → Result Unit Status → Type 0
-PrintsAre saids old new (Ok done) = Appends old new (texts_of saids)
-PrintsAre saids old new (Err SinkFault) = (part : List Said) × (said : Said) × (rest : List Said) × (mid : Option (List ℕ)) × (saids ≡ part ++ said ∷ rest) × Appends old mid (texts_of part) × AppendsFront mid new (said_text said)
-PrintsAre saids old new (Err NoMemory) = (part : List Said) × (said : Said) × (rest : List Said) × (saids ≡ part ++ said ∷ rest) × Appends old new (texts_of part)
-PrintsAre saids old new (Err status) = ⊥
 
 -- of those of a section's lanes: behind all of them the run goes on, or ends where a lane was stopped
 abbrev pub RanIs : List LaneReplies → Option (List ℕ) → Option (List ℕ) → Result Unit Status → Type 0

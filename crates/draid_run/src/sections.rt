@@ -3,18 +3,10 @@ use draid_area::Area;
 use draid_choose::Chooser;
 use draid_names::{NoMemory, Room};
 use draid_pool::Pool;
+use draid_print::LaneReplies;
 use draid_rack::Rack;
 use draid_reply::Reply;
 use draid_script::Line;
-
-/// What a lane replied.
-#[derive(Drop)]
-pub struct LaneReplies {
-    /// A reply to each of its lines, up to one in which an area failed.
-    pub replies: Vec<Reply>,
-    /// Whether an area failed behind these.
-    pub stopped: bool,
-}
 
 /// Who runs the lanes of a section over a pool.
 pub trait Sections<R: Rack, A: Area> {

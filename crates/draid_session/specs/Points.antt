@@ -1,6 +1,6 @@
 -- What a checkpoint is to what a thread has of its own.
-use Rattle.std.specs.Prelude.{◌≡◌, ℕ, List, ◌∷◌, Some, ◌<◌, Contains, ◌≤◌, Option, None}
-use Rattle.draid_objects.specs.Marks.{Check, Mark, check_by, mark_group}
+use Rattle.std.specs.Prelude.{◌≡◌, ℕ, List, ◌∷◌, Some, ◌<◌, Contains, ◌≤◌, Option, None, max}
+use Rattle.draid_objects.specs.Marks.{Check, GivenUp, Mark, check_by, mark_group}
 use Rattle.draid_session.specs.State.{Store}
 
 -- there is one, of this group
@@ -19,6 +19,10 @@ IsPointOf marks (Some group) = HasPoint marks group
 -- this befell it
 abbrev pub marked : Mark → Store → Store
 marked mark store = record store { marks = mark ∷ store.marks }
+
+-- it is given up in a group, in which the blocks that it alone keeps are freed
+abbrev pub given_up : ℕ → Store → Store
+given_up at store = record store { marks = GivenUp at ∷ store.marks; floor = max at store.floor }
 
 -- something befell the checkpoint in a later group than this one
 pub record HasLateMark (committed : ℕ) (marks : List Mark) : Type 0 where

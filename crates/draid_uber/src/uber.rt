@@ -77,7 +77,7 @@ fn found(
 impl<A: Area> Uber<A> {
     ghost use Rattle.draid_uber.specs.Held.{IsNext};
     ghost use Rattle.draid_uber.specs.Steps.{IsSameOrFlushed};
-    ghost use Rattle.draid_uber.specs.Points.{IsOther, KeepsCheck};
+    ghost use Rattle.draid_uber.specs.Points.{IsOther, KeepsCheck, no_check};
     ghost use Rattle.draid_checkpoint.specs.Check.{Drops, holds_birth};
     ghost use Rattle.draid_uber.specs.Slots.{StandsTold, chosen_of, group_of};
     ghost use Rattle.draid_record.specs.Checks.{CheckTold, IsCheck, told_check};
@@ -105,6 +105,7 @@ impl<A: Area> Uber<A> {
         ensures version { IfOk result (λ uber. version_of uber ≡ geometry.props.version) }
         ensures leaf { IfOk result (λ uber. next_leaf_of uber ≡ geometry.spec.children) }
         ensures point { IfOk result (λ uber. (point_of uber).group ≡ None) }
+        ensures drops { IfOk result (λ uber. (point_of uber).drops ≡ []) }
         ensures changed { IfOk result (λ uber. changed_of uber ≡ 0) }
     {
         Ok(Uber {
@@ -130,6 +131,7 @@ impl<A: Area> Uber<A> {
             (version_of uber ≡ body.props.version) × (next_leaf_of uber ≡ body.next_leaf))) }
         ensures ranges { IfOk result (λ uber. IsSomeAnd (kept_of uber) IsUber) }
         ensures point { IfOk result (λ uber. (point_of uber).group ≡ None) }
+        ensures drops { IfOk result (λ uber. (point_of uber).drops ≡ []) }
         ensures changed { IfOk result (λ uber. changed_of uber ≡ 0) }
 
         // From then on a crash leaves it alone.
@@ -153,8 +155,8 @@ impl<A: Area> Uber<A> {
                 geometry: layout(&body),
                 version: body.props.version,
                 next_leaf: body.next_leaf,
-                point: Check::none(alloc),
-            changed: 0,
+                    point: Check::none(alloc),
+                changed: 0,
                 alloc,
             }),
             Err(why) => Err(UberRefused { areas, why }),
@@ -321,6 +323,7 @@ impl<A: Area> Uber<A> {
         ensures valid { Valid A.size self.new }
         ensures found { IfOk result (λ it. OnTold (A.told (check_area (areas_of self.old) (group_of (kept_of self.old))))
             (λ x. check_in (group_of (kept_of self.old)) x.bytes ≡ Ok (told_check it))) }
+        ensures range { IfOk result (λ it. IsCheck (group_of (kept_of self.old)) (told_check it)) }
         ensures faulty { (place : ℕ) (kind : RecordFaultKind) → IsErrOf result (CheckFault.Record place kind)
             → OnTold (A.told (check_area (areas_of self.old) (group_of (kept_of self.old))))
             (λ x. check_in (group_of (kept_of self.old)) x.bytes ≡ Err (Bad place kind)) }
@@ -402,6 +405,44 @@ impl<A: Area> Uber<A> {
         let group = self.committed();
         self.point = kept_check(self.alloc, check, group, blocks)?;
         Ok(())
+    }
+
+    /// From now on there is a checkpoint of the group that is committed next, of which nothing is dropped yet.
+    pub fn make_point(&mut self, point: Check, group: u64)
+        requires next { IsNext (kept_of self.old) group }
+        requires made { point.group ≡ Some group }
+        requires new { point.drops ≡ [] }
+        requires valid { Valid A.size self.old }
+        ensures valid { Valid A.size self.new }
+        ensures point { point_of self.new ≡ point }
+        ensures told { (g : ℕ) → group ≤ g → next_check self.new g ≡ record { group = group; drops = [] } }
+        ensures changed { changed_of self.new ≡ group }
+        ensures areas { areas_of self.new ≡ areas_of self.old }
+        ensures kept { kept_of self.new ≡ kept_of self.old }
+        ensures layout { layout_of self.new ≡ layout_of self.old }
+        ensures version { version_of self.new ≡ version_of self.old }
+        ensures leaf { next_leaf_of self.new ≡ next_leaf_of self.old }
+    {
+        self.point = point;
+        self.changed = group;
+    }
+
+    /// From this group on there is no checkpoint. It takes no memory.
+    pub fn give_up_point(&mut self, group: u64)
+        requires valid { Valid A.size self.old }
+        ensures valid { Valid A.size self.new }
+        ensures point { (point_of self.new).group ≡ None }
+        ensures drops { (point_of self.new).drops ≡ [] }
+        ensures told { (g : ℕ) → next_check self.new g ≡ no_check }
+        ensures changed { changed_of self.new ≡ group }
+        ensures areas { areas_of self.new ≡ areas_of self.old }
+        ensures kept { kept_of self.new ≡ kept_of self.old }
+        ensures layout { layout_of self.new ≡ layout_of self.old }
+        ensures version { version_of self.new ≡ version_of self.old }
+        ensures leaf { next_leaf_of self.new ≡ next_leaf_of self.old }
+    {
+        self.point = Check::none(self.alloc);
+        self.changed = group;
     }
 
     /// Has the next commit write version 2.

@@ -7,8 +7,9 @@ use Rattle.draid_pool.specs.Failing.{AreaRose}
 use Rattle.draid_pool.specs.Keeping.{SamePool}
 use Rattle.draid_tables.specs.Lists.{AreAllInRange, ListsEach, commands_of_lanes}
 use Rattle.draid_clashes.specs.Lanes.{lanes_in}
-use Rattle.draid_run.specs.Sections.{IsStopped, LanesTeach, RunsSection, StopWhere, replies_in}
-use Rattle.draid_run.specs.declared.sections.LaneReplies.{LaneReplies}
+use Rattle.draid_run.specs.Sections.{IsStopped, LanesTeach, RunsSection, StopWhere}
+use Rattle.draid_print.specs.Printing.{replies_in}
+use Rattle.draid_print.specs.declared.printing.LaneReplies.{LaneReplies}
 use Rattle.draid_program.proofs.LanesGiven.{in_range, may_all}
 use Rattle.draid_program.proofs.LanesRefused.{areas_same, of_err, of_ok}
 use Rattle.draid_program.proofs.LanesRun as run

@@ -7,7 +7,7 @@ use Rattle.draid_session.specs.State.{State}
 use Rattle.draid_pool.specs.Failing.{AreaRose}
 use Rattle.draid_pool.specs.Knows.{KnowsPointers}
 use Rattle.draid_pool.specs.Pools.{Represents}
-use Rattle.draid_run.specs.declared.sections.LaneReplies.{LaneReplies}
+use Rattle.draid_print.specs.declared.printing.LaneReplies.{LaneReplies}
 use Rattle.draid_run.proofs.Lining.{lanes_many}
 use Rattle.std.specs.Fn.{FnReturnsAt}
 use Rattle.draid_session.specs.Choices.{choices_by}
@@ -15,7 +15,8 @@ use Rattle.draid_session.specs.Sections.{ClashesMend, NoClash, RefusesSection}
 use Rattle.draid_run.specs.Desks.{IsPool}
 use Rattle.draid_clashes.specs.Lanes.{lanes_in}
 use Rattle.draid_pool.specs.Keeping.{SamePool}
-use Rattle.draid_run.specs.Sections.{IsStopped, LanesTeach, RunsSection, StopWhere, replies_in}
+use Rattle.draid_run.specs.Sections.{IsStopped, LanesTeach, RunsSection, StopWhere}
+use Rattle.draid_print.specs.Printing.{replies_in}
 use Rattle.draid_run.proofs.Ran.{of_err, of_ok, pool_whole, same_pool, section_ran, section_refused}
 use Rattle.draid_run.proofs.lanes.run_lanes.Goals as goal
 
