@@ -29,7 +29,7 @@ returns-in-Some-free_object g c =
     let e = c.in-Some-free_object.ensures in
     let number = e.number in
     let whole : IsWhole g.R.Rack g.A.Area new = whole_left g.R.Rack g.A.Area old new c.requires.whole refl refl e.stay e.whole
-        (fits_on 0 (point_of old.uber) (get nat_eq old.own.objects) (get nat_eq new.own.objects) old.own.seq new.own.seq (omega (arith, number)) (taken_left c.args.object (get nat_eq old.own.objects) (get nat_eq new.own.objects) c.in-Some-free_object.result e.takes) c.requires.whole.point) in
+    (fits_on 0 (point_of old.uber) (get nat_eq old.own.objects) (get nat_eq new.own.objects) old.own.seq new.own.seq (omega (arith, number)) (taken_left c.args.object (get nat_eq old.own.objects) (get nat_eq new.own.objects) c.in-Some-free_object.result e.takes) c.requires.whole.point) in
     record {
       whole = whole;
       frees = e.takes;
