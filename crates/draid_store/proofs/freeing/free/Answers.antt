@@ -22,8 +22,8 @@ drop_object-requires g c =
 pub free_object-requires-clause-whole : goal.free_object-requires-clause-whole
 free_object-requires-clause-whole g c = whole_by g.R.Rack g.A.Area c.args.pool.now c.requires.whole
 
-pub returns-in-Some-free_object : goal.returns-in-Some-free_object
-returns-in-Some-free_object g c =
+pub returns : goal.returns
+returns g c =
     let old = c.args.pool.now in
     let new : Pool g.row.R.Denot g.row.A.Denot = record old { metaslabs = c.free_object.new.metaslabs; own = c.free_object.new.own } in
     let e = c.in-Some-free_object.ensures in
@@ -34,6 +34,6 @@ returns-in-Some-free_object g c =
       whole = whole;
       frees = e.takes;
       step = λ x is.
-          let loose = is_loose g.R.Rack g.A.Area old x is.stands c.args.object c.kept_pointer.result c.kept_pointer.ensures NONE in
+          let loose = is_loose g.R.Rack g.A.Area old x is.stands c.args.object c.kept_pointer.result c.kept_pointer.ensures c.in_default.is in
           carries_out g.R.Rack g.A.Area old new x is refl refl whole _ _ _ (FreeDoes x c.args.object c.in-Some-free_object.result) (free_plain x c.args.object c.in-Some-free_object.result loose) (e.step x loose (knows_all g.R.Rack g.A.Area old x is));
     }

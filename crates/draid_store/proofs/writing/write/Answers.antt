@@ -52,7 +52,7 @@ returns-in-Some-Ok-None g c =
     let stored = subst (StoresNew (left_in old) c.args.object old.own.seq (table_in old) (table_in new)) is_as (e.new refl) in
     let sets = subst (StoreSetsTable c.args.object c.args.bytes.now (table_in old) (table_in new)) is_as e.sets in
     let whole : IsWhole g.R.Rack g.A.Area new = whole_left g.R.Rack g.A.Area old new c.requires.whole refl refl e.stay e.whole
-    (fits_written g.R.Rack g.A.Area old c.requires.whole (table_in new) new.own.seq c.args.object stored.0 (sets_new c.args.object c.args.bytes.now (table_in old) (table_in new) None stored.0 sets stored.1) stored.2 e.later) in
+    (fits_written g.R.Rack g.A.Area old c.requires.whole (table_in new) new.own.seq c.args.object stored.0 (sets_new WriteFault c.args.object c.args.bytes.now (table_in old) (table_in new) None stored.0 sets stored.1) stored.2 e.later) in
     let group_is : c.group.result ≡ (point_of old.uber).group = c.group.ensures ∙ ap (λ (p : Point). p.group) c.point.ensures in
     record {
       whole = whole;
@@ -98,7 +98,7 @@ drop_earlier-requires g c =
     let group_is : c.group.result ≡ (point_of old.uber).group = c.group.ensures ∙ ap (λ (p : Point). p.group) c.point.ensures in
     let kept : holds_birth (point_of old.uber).group r.earlier.birth ≡ true = subst (λ n. holds_birth n r.earlier.birth ≡ true) group_is (subst (IsServedBut c.group.result) is_as (e.served refl refl)) in
     record {
-      whole = beside g.R.Rack g.A.Area old mid c.requires.whole refl refl e.stay e.whole c.args.object c.args.bytes.now (subst (StoreSetsTable c.args.object c.args.bytes.now (table_in old) (table_in mid)) is_as e.sets) r.earlier
+      whole = beside WriteFault g.R.Rack g.A.Area old mid c.requires.whole refl refl e.stay e.whole c.args.object c.args.bytes.now r.earlier (subst (StoreSetsTable c.args.object c.args.bytes.now (table_in old) (table_in mid)) is_as e.sets)
           (subst (StoresNew (left_in old) c.args.object old.own.seq (table_in old) (table_in mid)) is_as (e.new refl)) (e.earlier r.earlier is_as) kept e.later;
       kept = kept;
     }
@@ -114,7 +114,9 @@ returns-in-Some-Ok-Some g c =
     let group_is : c.group.result ≡ (point_of old.uber).group = c.group.ensures ∙ ap (λ (p : Point). p.group) c.point.ensures in
     let sets = subst (StoreSetsTable c.args.object c.args.bytes.now (table_in old) (table_in mid)) is_as e.sets in
     let kept = subst (IsServedBut c.group.result) is_as (e.served refl refl) in
-    let whole : IsWhole g.R.Rack g.A.Area mid = (c.drop_earlier.requires.whole).whole in
+    let by_point : holds_birth (point_of old.uber).group r.earlier.birth ≡ true = subst (λ n. holds_birth n r.earlier.birth ≡ true) group_is kept in
+    let whole : IsWhole g.R.Rack g.A.Area mid = (beside WriteFault g.R.Rack g.A.Area old mid c.requires.whole refl refl e.stay e.whole c.args.object c.args.bytes.now r.earlier sets
+    (subst (StoresNew (left_in old) c.args.object old.own.seq (table_in old) (table_in mid)) is_as (e.new refl)) (e.earlier r.earlier is_as) by_point e.later).whole in
     record {
       whole = d.whole;
       writes = (sets.0, sets.1, λ o. d.same o ∙ sets.2 o);
