@@ -77,7 +77,7 @@ module _ {R A : Type 0} (rack : racks.Ghosts R) (area : areas.Ghosts A) (pool : 
 
   -- ---- where it lies
 
-  y : Metaslab
+  abbrev y : Metaslab
   y = (metaslab_of rack area pool x s p.metaslab d.shard d.there).y
 
   at : slice_get x.metaslabs p.metaslab ≡ Some y

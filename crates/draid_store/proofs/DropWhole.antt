@@ -60,28 +60,28 @@ contains o (x ∷ xs) (inl is) = subst (Contains (x ∷ xs)) is (Contains-append
 contains o (x ∷ xs) (inr is) = Contains-append_right (x ∷ []) xs o (contains o xs is)
 
 -- one of them is left out
-without : ℕ → List ℕ → List ℕ
+abbrev without : ℕ → List ℕ → List ℕ
 without o [] = []
 without o (x ∷ xs) = if x == o then xs else x ∷ without o xs
 
 fewer : (o : ℕ) (xs : List ℕ) → IsAmong o xs → length (without o xs) + 1 ≡ length xs
 fewer o [] is = absurd is
-fewer o (x ∷ xs) is = by (x == o) refl is
+fewer o (x ∷ xs) is = by (x == o) refl is (λ at. fewer o xs at)
   where
-    by : (b : Bool) → (x == o) ≡ b → (x ≡ o) ⊎ IsAmong o xs → length (if b then xs else x ∷ without o xs) + 1 ≡ length (x ∷ xs)
-    by true same any = omega arith
-    by false other (inl at) = absurd (grind (arith, nat_tests, other, at))
-    by false other (inr at) = (let rest = fewer o xs at in omega (arith, rest))
+    by : (b : Bool) → (x == o) ≡ b → (x ≡ o) ⊎ IsAmong o xs → (IsAmong o xs → length (without o xs) + 1 ≡ length xs) → length (if b then xs else x ∷ without o xs) + 1 ≡ length (x ∷ xs)
+    by true same any rest = omega arith
+    by false other (inl at) rest = absurd (grind (arith, nat_tests, other, at))
+    by false other (inr at) rest = (let one = rest at in omega (arith, one))
 
 still : (o q : ℕ) → (q ≡ o → ⊥) → (xs : List ℕ) → IsAmong q xs → IsAmong q (without o xs)
 still o q differ [] is = absurd is
-still o q differ (x ∷ xs) is = by (x == o) refl is
+still o q differ (x ∷ xs) is = by (x == o) refl is (λ at. still o q differ xs at)
   where
-    by : (b : Bool) → (x == o) ≡ b → (x ≡ q) ⊎ IsAmong q xs → IsAmong q (if b then xs else x ∷ without o xs)
-    by true same (inl at) = absurd (differ (grind (arith, nat_tests, same, at)))
-    by true same (inr at) = at
-    by false other (inl at) = inl at
-    by false other (inr at) = inr (still o q differ xs at)
+    by : (b : Bool) → (x == o) ≡ b → (x ≡ q) ⊎ IsAmong q xs → (IsAmong q xs → IsAmong q (without o xs)) → IsAmong q (if b then xs else x ∷ without o xs)
+    by true same (inl at) rest = absurd (differ (grind (arith, nat_tests, same, at)))
+    by true same (inr at) rest = at
+    by false other (inl at) rest = inl at
+    by false other (inr at) rest = inr (rest at)
 
 all_both : {X : Type 0} (P Q : X → Type 0) (xs : List X) → All P xs → All Q xs → All (λ x. P x × Q x) xs
 all_both P Q [] a b = All-nil (λ x. P x × Q x)
@@ -332,13 +332,13 @@ apart_removed rack area pool object p new w at removed o q at_q = elim (bool_cas
 -- ---- by the answer of a write
 
 -- the pointer that a write says is the new one
-pub sets_new : {E : Type 0} (object : ℕ) (bytes : List ℕ) (table now : ℕ → Option Pointer) (earlier : Option Pointer) (p : Pointer) → StoreSetsTable {E = E} object bytes table now (Some (Ok earlier)) → now object ≡ Some p → (o : ℕ) → now o ≡ (if object == o then Some p else table o)
-sets_new object bytes table now earlier p sets at o =
+pub sets_new : (E : Type 0) (object : ℕ) (bytes : List ℕ) (table now : ℕ → Option Pointer) (earlier : Option Pointer) (p : Pointer) → StoreSetsTable {E = E} object bytes table now (Some (Ok earlier)) → now object ≡ Some p → (o : ℕ) → now o ≡ (if object == o then Some p else table o)
+sets_new E object bytes table now earlier p sets at o =
     let same : sets.0 ≡ p = some_of (now object) sets.0 p (put_here (now object) (table object) object object (Some sets.0) (sets.2 object) refl) at in
     subst (λ q. now o ≡ (if object == o then Some q else table o)) same (sets.2 o)
 
 -- a write of a pool is done, but for the drop of the earlier block
-module _ {R A E : Type 0} (rack : racks.Ghosts R) (area : areas.Ghosts A) (pool new : Pool R A) (w : IsWhole rack area pool) (geometry : new.geometry ≡ pool.geometry) (uber : new.uber ≡ pool.uber) (stay : AllStay all (left_in pool) (left_in new))
+module _ {R A : Type 0} (E : Type 0) (rack : racks.Ghosts R) (area : areas.Ghosts A) (pool new : Pool R A) (w : IsWhole rack area pool) (geometry : new.geometry ≡ pool.geometry) (uber : new.uber ≡ pool.uber) (stay : AllStay all (left_in pool) (left_in new))
     (by : IsWholeBy rack all (left_in new) (table_in new) new.own.seq new.own.floor) (object : ℕ) (bytes : List ℕ) where
   pub beside : (earlier : Pointer) → StoreSetsTable {E = E} object bytes (table_in pool) (table_in new) (Some (Ok (Some earlier))) → StoresNew {E = E} (left_in pool) object pool.own.seq (table_in pool) (table_in new) (Some (Ok (Some earlier)))
       → ComesBack rack all (left_in new) (table_in new) object earlier → holds_birth (point_of pool.uber).group earlier.birth ≡ true → pool.own.seq ≤ new.own.seq → IsWholeBeside rack area new earlier
@@ -353,4 +353,4 @@ module _ {R A E : Type 0} (rack : racks.Ghosts R) (area : areas.Ghosts A) (pool 
     where
       fits : PointFits 1 (point_of new.uber) (table_in new) new.own.seq
       fits = subst (λ u. PointFits 1 (point_of u) (table_in new) new.own.seq) (sym uber)
-          (fits_beside rack area pool w (table_in new) new.own.seq object stored.0 (sets_new object bytes (table_in pool) (table_in new) (Some earlier) stored.0 sets stored.1) stored.2 up earlier stored.3 kept)
+          (fits_beside rack area pool w (table_in new) new.own.seq object stored.0 (sets_new E object bytes (table_in pool) (table_in new) (Some earlier) stored.0 sets stored.1) stored.2 up earlier stored.3 kept)

@@ -156,8 +156,8 @@ uber_drops {A} area old new x store key group own is d has behind after closed u
       omega (arith, low, late, same)),
       (λ less. record { mark = Dropped key group; there = subst (λ ms. Contains ms (Dropped key group)) (sym marks) (mark_there (Dropped key group) x.store.marks); late = (let same = d.changed in omega (arith, less, same)) })
       );
-  count = is.count ∙ ap (λ (as : Areas A). count_in area.faults as) (sym d.areas_are);
-  stands = subst (λ (as : Areas A). UberStands (record x { store = store }) (told_by area.told as)) (sym d.areas_are) (record {
+  count = is.count ∙ ap (λ (parts : Areas A). count_in area.faults parts) (sym d.areas_are);
+  stands = subst (λ (parts : Areas A). UberStands (record x { store = store }) (told_by area.told parts)) (sym d.areas_are) (record {
     pending = is.stands.pending;
     are = is.stands.are;
     stands = record {

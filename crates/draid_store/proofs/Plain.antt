@@ -39,7 +39,7 @@ earlier_plain marks after (Some w) floor group holds (inr d) = subst ArePlain (s
 rooms_plain : (x : State) (bytes : List ℕ) (holds : List Hold) (views : List View) (rooms : List Room) → LooksForRoom x.geometry x.perms bytes holds views rooms → ArePlain holds
 rooms_plain x bytes holds views rooms l = looks_plain holds (only_looked 0 x.geometry.props.metaslabs holds views l.looked)
 
-tries_plain : (x : State) (chosen : List Room → Option ℕ → Type 0) (object : ℕ) (bytes : List ℕ) (m birth columns : ℕ) (holds : List Hold) → Tries x.geometry x.perms chosen object bytes x.store m birth columns holds → ArePlain holds
+pub tries_plain : (x : State) (chosen : List Room → Option ℕ → Type 0) (object : ℕ) (bytes : List ℕ) (m birth columns : ℕ) (holds : List Hold) → Tries x.geometry x.perms chosen object bytes x.store m birth columns holds → ArePlain holds
 tries_plain x chosen object bytes m birth columns holds t = subst ArePlain (sym t.are)
     (plain_append t.looks t.written (rooms_plain x bytes t.looks t.chooses.views t.chooses.rooms t.chooses.looked) (block_plain x.geometry object _ bytes _ m birth columns t.written t.writes))
 

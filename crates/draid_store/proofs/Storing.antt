@@ -115,7 +115,7 @@ module _ {R A : Type 0} (rack : racks.Ghosts R) (owns : ℕ → Bool) (now : ℕ
 
 -- ---- the new pointer
 
-module _ {R A E : Type 0} (last : ℕ → Option (Shard R A)) (object seq : ℕ) (table now : ℕ → Option Pointer) where
+module _ {R A : Type 0} (E : Type 0) (last : ℕ → Option (Shard R A)) (object seq : ℕ) (table now : ℕ → Option Pointer) where
   pub stores_new : (earlier : Option Pointer) (pointer : Pointer) → earlier ≡ table object → now object ≡ Some pointer → IsNewPointer last seq pointer → StoresNew {E = E} last object seq table now (Some (Ok earlier))
   stores_new None pointer had at new = (pointer, at, new)
   stores_new (Some e) pointer had at new = (pointer, at, new, sym had)

@@ -115,7 +115,9 @@ pub fn write_object<R: Rack, A: Area, M: Metaslabs<R, A>, F: Fn(&[Room]) -> Opti
     let Ok(block) = Encoded::of(alloc, geometry, bytes) else {
         return Some(Err(WriteFault::NoMemory));
     };
-    write_encoded(alloc, metaslabs, own, geometry, point, chooser, object, &block)
+    write_encoded(
+        alloc, metaslabs, own, geometry, point, chooser, object, &block,
+    )
 }
 
 /// The same of a block that is encoded.

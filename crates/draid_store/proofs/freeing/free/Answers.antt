@@ -22,18 +22,18 @@ drop_object-requires g c =
 pub free_object-requires-clause-whole : goal.free_object-requires-clause-whole
 free_object-requires-clause-whole g c = whole_by g.R.Rack g.A.Area c.args.pool.now c.requires.whole
 
-pub returns-in-Some-free_object : goal.returns-in-Some-free_object
-returns-in-Some-free_object g c =
+pub returns : goal.returns
+returns g c =
     let old = c.args.pool.now in
     let new : Pool g.row.R.Denot g.row.A.Denot = record old { metaslabs = c.free_object.new.metaslabs; own = c.free_object.new.own } in
     let e = c.in-Some-free_object.ensures in
     let number = e.number in
     let whole : IsWhole g.R.Rack g.A.Area new = whole_left g.R.Rack g.A.Area old new c.requires.whole refl refl e.stay e.whole
-        (fits_on 0 (point_of old.uber) (get nat_eq old.own.objects) (get nat_eq new.own.objects) old.own.seq new.own.seq (omega (arith, number)) (taken_left c.args.object (get nat_eq old.own.objects) (get nat_eq new.own.objects) c.in-Some-free_object.result e.takes) c.requires.whole.point) in
+    (fits_on 0 (point_of old.uber) (get nat_eq old.own.objects) (get nat_eq new.own.objects) old.own.seq new.own.seq (omega (arith, number)) (taken_left c.args.object (get nat_eq old.own.objects) (get nat_eq new.own.objects) c.in-Some-free_object.result e.takes) c.requires.whole.point) in
     record {
       whole = whole;
       frees = e.takes;
       step = λ x is.
-          let loose = is_loose g.R.Rack g.A.Area old x is.stands c.args.object c.kept_pointer.result c.kept_pointer.ensures NONE in
+          let loose = is_loose g.R.Rack g.A.Area old x is.stands c.args.object c.kept_pointer.result c.kept_pointer.ensures c.in_default.is in
           carries_out g.R.Rack g.A.Area old new x is refl refl whole _ _ _ (FreeDoes x c.args.object c.in-Some-free_object.result) (free_plain x c.args.object c.in-Some-free_object.result loose) (e.step x loose (knows_all g.R.Rack g.A.Area old x is));
     }

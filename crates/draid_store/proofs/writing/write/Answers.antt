@@ -52,7 +52,7 @@ returns-in-Some-Ok-None g c =
     let stored = subst (StoresNew (left_in old) c.args.object old.own.seq (table_in old) (table_in new)) is_as (e.new refl) in
     let sets = subst (StoreSetsTable c.args.object c.args.bytes.now (table_in old) (table_in new)) is_as e.sets in
     let whole : IsWhole g.R.Rack g.A.Area new = whole_left g.R.Rack g.A.Area old new c.requires.whole refl refl e.stay e.whole
-        (fits_written g.R.Rack g.A.Area old c.requires.whole (table_in new) new.own.seq c.args.object stored.0 (sets_new c.args.object c.args.bytes.now (table_in old) (table_in new) None stored.0 sets stored.1) stored.2 e.later) in
+    (fits_written g.R.Rack g.A.Area old c.requires.whole (table_in new) new.own.seq c.args.object stored.0 (sets_new WriteFault c.args.object c.args.bytes.now (table_in old) (table_in new) None stored.0 sets stored.1) stored.2 e.later) in
     let group_is : c.group.result ≡ (point_of old.uber).group = c.group.ensures ∙ ap (λ (p : Point). p.group) c.point.ensures in
     record {
       whole = whole;
@@ -75,7 +75,7 @@ returns-in-Some-Err g c =
     let is_as : c.write_object.result ≡ Some (Err r.why) = r.is ∙ ap Some r.field-0-is in
     let sets = subst (StoreSetsTable c.args.object c.args.bytes.now (table_in old) (table_in new)) is_as e.sets in
     let whole : IsWhole g.R.Rack g.A.Area new = whole_left g.R.Rack g.A.Area old new c.requires.whole refl refl e.stay e.whole
-        (fits_on 0 (point_of old.uber) (table_in old) (table_in new) old.own.seq new.own.seq e.later (λ o q at. sym (sets o) ∙ at) c.requires.whole.point) in
+    (fits_on 0 (point_of old.uber) (table_in old) (table_in new) old.own.seq new.own.seq e.later (λ o q at. sym (sets o) ∙ at) c.requires.whole.point) in
     let group_is : c.group.result ≡ (point_of old.uber).group = c.group.ensures ∙ ap (λ (p : Point). p.group) c.point.ensures in
     record {
       whole = whole;
@@ -97,8 +97,11 @@ drop_earlier-requires g c =
     let is_as = wrote c.write_object.result r.field-0 r.field-0-0 (Some r.earlier) r.is r.field-0-is r.field-0-0-is in
     let group_is : c.group.result ≡ (point_of old.uber).group = c.group.ensures ∙ ap (λ (p : Point). p.group) c.point.ensures in
     let kept : holds_birth (point_of old.uber).group r.earlier.birth ≡ true = subst (λ n. holds_birth n r.earlier.birth ≡ true) group_is (subst (IsServedBut c.group.result) is_as (e.served refl refl)) in
-    record { whole = beside g.R.Rack g.A.Area old mid c.requires.whole refl refl e.stay e.whole c.args.object c.args.bytes.now (subst (StoreSetsTable c.args.object c.args.bytes.now (table_in old) (table_in mid)) is_as e.sets) r.earlier
-        (subst (StoresNew (left_in old) c.args.object old.own.seq (table_in old) (table_in mid)) is_as (e.new refl)) (e.earlier r.earlier is_as) kept e.later; kept = kept }
+    record {
+      whole = beside WriteFault g.R.Rack g.A.Area old mid c.requires.whole refl refl e.stay e.whole c.args.object c.args.bytes.now r.earlier (subst (StoreSetsTable c.args.object c.args.bytes.now (table_in old) (table_in mid)) is_as e.sets)
+          (subst (StoresNew (left_in old) c.args.object old.own.seq (table_in old) (table_in mid)) is_as (e.new refl)) (e.earlier r.earlier is_as) kept e.later;
+      kept = kept;
+    }
 
 pub returns-in-Some-Ok-Some : goal.returns-in-Some-Ok-Some
 returns-in-Some-Ok-Some g c =
@@ -111,7 +114,9 @@ returns-in-Some-Ok-Some g c =
     let group_is : c.group.result ≡ (point_of old.uber).group = c.group.ensures ∙ ap (λ (p : Point). p.group) c.point.ensures in
     let sets = subst (StoreSetsTable c.args.object c.args.bytes.now (table_in old) (table_in mid)) is_as e.sets in
     let kept = subst (IsServedBut c.group.result) is_as (e.served refl refl) in
-    let whole : IsWhole g.R.Rack g.A.Area mid = (c.drop_earlier.requires.whole).whole in
+    let by_point : holds_birth (point_of old.uber).group r.earlier.birth ≡ true = subst (λ n. holds_birth n r.earlier.birth ≡ true) group_is kept in
+    let whole : IsWhole g.R.Rack g.A.Area mid = (beside WriteFault g.R.Rack g.A.Area old mid c.requires.whole refl refl e.stay e.whole c.args.object c.args.bytes.now r.earlier sets
+    (subst (StoresNew (left_in old) c.args.object old.own.seq (table_in old) (table_in mid)) is_as (e.new refl)) (e.earlier r.earlier is_as) by_point e.later).whole in
     record {
       whole = d.whole;
       writes = (sets.0, sets.1, λ o. d.same o ∙ sets.2 o);
