@@ -1,6 +1,6 @@
 -- What an import finds of blocks and of the check record, as the pool's uberblock keeps it.
 use Rattle.std.proofs.Common.{arith, ◌≡◌, ◌==◌, ◌+◌, ◌<◌, ◌≤◌, ◌++◌, ◌∙◌, ◌⊎◌, inl, inr, ℕ, Bool, true, false, List, [], ◌∷◌, Option, Some, None, Result, Ok, Err, length, refl, sym, ap, subst, if◌then◌else◌}
-use Rattle.std.specs.Prelude.{All, Contains, IsSome, OnOk, map}
+use Rattle.std.specs.Prelude.{All, Contains, IsErrOf, IsSome, OnOk, map}
 use Rattle.std.proofs.lemmas.Bool.Decides.{nat_tests}
 use Rattle.std.proofs.lemmas.List.{length-map}
 use Rattle.std.proofs.lemmas.List.Elements.{All-append, All-contains_itself, All-map, All-weaker}
@@ -11,7 +11,8 @@ use Rattle.draid_names.specs.declared.pointer.Pointer.{Pointer}
 use Rattle.draid_machine.specs.declared.names.Key.{Key}
 use Rattle.draid_record.specs.Checks.{CheckTold, IsCheck, most_drops}
 use Rattle.draid_record.specs.declared.checks.Dropped.{Dropped}
-use Rattle.draid_record.specs.declared.fault.RecordFault.{RecordFault}
+use Rattle.draid_record.specs.declared.fault.RecordFaultKind.{RecordFaultKind}
+use Rattle.draid_import.specs.declared.fault.ImportFault.TheVariants as fault
 use Rattle.draid_record.specs.declared.uber.UberBody.{UberBody}
 use Rattle.draid_shelf.specs.Kits.{Held}
 use Rattle.draid_shard.specs.declared.shard.Shard.{Shard}
@@ -144,3 +145,21 @@ module _ {R A : Type 0} (group : ℕ) (value : CheckTold) (shards : List (Shard 
           omega (arith, low, seq_is)));
       none = no_drops;
     }
+
+-- the blocks of a vector
+pub deref_drops : {R A : Type 0} (shards : List (Shard R A)) (view drops : List Dropped) (newest : ℕ → Option Pointer) → view ≡ drops → AreNewestBeside shards view newest → AreNewestBeside shards drops newest
+deref_drops shards view drops newest same = subst (λ ds. AreNewestBeside shards ds newest) same
+
+-- ---- want of memory
+
+pub starved_no_record : {T : Type 0} (metaslab : Option ℕ) (place : ℕ) (kind : RecordFaultKind) → IsErrOf {T = T} (Err fault.NoMemory) (fault.Record metaslab place kind) → ⊥
+starved_no_record metaslab place kind err = absurd (cc)
+
+pub starved_no_check : {T : Type 0} (place : ℕ) (kind : RecordFaultKind) → IsErrOf {T = T} (Err fault.NoMemory) (fault.Check place kind) → ⊥
+starved_no_check place kind err = absurd (cc)
+
+pub starved_no_shelf : {T : Type 0} → IsErrOf {T = T} (Err fault.NoMemory) fault.Shelf → ⊥
+starved_no_shelf err = absurd (cc)
+
+pub starved_some : {T : Type 0} → IsErrOf {T = T} (Err fault.NoMemory) fault.NoPool → ⊥
+starved_some err = absurd (cc)
