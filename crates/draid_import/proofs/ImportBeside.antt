@@ -14,7 +14,7 @@ use Rattle.draid_machine.specs.declared.names.Held.{Held}
 use Rattle.draid_machine.specs.declared.names.Key.{Key}
 use Rattle.draid_machine.specs.declared.names.Stage.TheVariants as stage
 use Rattle.draid_machine.proofs.Small.{absurd_test, none_some, some_injective}
-use Rattle.draid_objects.specs.Blocks.{SaysOf}
+use Rattle.draid_objects.specs.Blocks.{Blocks, SaysOf}
 use Rattle.draid_objects.specs.Changes as changes
 use Rattle.draid_objects.specs.Changes.{Write, write_by, write_of}
 use Rattle.draid_objects.specs.Marks.{Check, Dropped, GivenUp, Made, Mark, check_by, counted, drops_in, is_dropped, mark_group}
@@ -64,12 +64,12 @@ some_group (Made group ∷ marks) c some is =
     let low = All-head (λ m. 1 ≤ mark_group m) (Made group) marks some in
     let same = ap (λ (z : Check). z.group) (some_injective (record { group = group; dropped = λ k. false }) c is) in
     omega (arith, low, same)
-some_group (Dropped key group ∷ marks) c some is = by (check_by marks) refl is
+some_group (Dropped key group ∷ marks) c some is = by (λ b. some_group marks b (All-tail (λ m. 1 ≤ mark_group m) (Dropped key group) marks some)) (check_by marks) refl is
   where
-    by : (o : Option Check) → check_by marks ≡ o → option_map (drops_in key) o ≡ Some c → 1 ≤ c.group
-    by None none is = absurd (none_some None c refl is)
-    by (Some b) own is =
-        let low = some_group marks b (All-tail (λ m. 1 ≤ mark_group m) (Dropped key group) marks some) own in
+    by : ((b : Check) → check_by marks ≡ Some b → 1 ≤ b.group) → (o : Option Check) → check_by marks ≡ o → option_map (drops_in key) o ≡ Some c → 1 ≤ c.group
+    by rest None none is = absurd (none_some None c refl is)
+    by rest (Some b) own is =
+        let low = rest b own in
         let same = ap (λ (z : Check). z.group) (some_injective (drops_in key b) c is) in
         omega (arith, low, same)
 some_group (GivenUp group ∷ marks) c some is = absurd (none_some None c refl is)
@@ -106,7 +106,7 @@ module _ {R A : Type 0} (rack : racks.Ghosts R) (area : areas.Ghosts A) (x : Sta
     (group : ℕ) (floor_is : x.store.floor ≡ group + 1) (low : AreMarkedUpto group x.store.marks)
     (newest : ℕ → Option Pointer) (value : CheckTold) (value_is : value ≡ point_told x.store.marks) (range : IsCheck group value) (have : HaveNamed shards value.group value.drops) (beside : AreNewestBeside shards value.drops newest)
     (older : List Block) (are : AreOlder shards newest value older) where
-  abbrev blocks : _
+  abbrev blocks : Blocks
   blocks = blocks_of x.metaslabs
 
   -- what was dropped before is what the record names
