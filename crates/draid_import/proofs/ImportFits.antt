@@ -84,20 +84,20 @@ module _ {R A : Type 0} (group : ℕ) (value : CheckTold) (shards : List (Shard 
   no_drops : (point_of uber).group ≡ None → (point_of uber).drops ≡ []
   no_drops none = p.drops ∙ ((λ i. empty i ++ map (dropped_in (group + 1)) (no_older i)))
     where
-      zero : value.group ≡ 0
-      zero = by (value.group == 0) refl (sym (p.group_is ∙ p.keeps.group_is) ∙ none)
+      is_zero : value.group ≡ 0
+      is_zero = by (value.group == 0) refl (sym (p.group_is ∙ p.keeps.group_is) ∙ none)
         where
           by : (b : Bool) → (value.group == 0) ≡ b → (if b then None else Some value.group) ≡ None → value.group ≡ 0
           by true is same = grind (arith, nat_tests, is)
           by false is same = absurd (cc)
 
       empty : p.told.drops ≡ []
-      empty = nothing p.told.drops (let few = subst (λ n. length value.drops ≤ most_drops n) zero range.few in let many = sym (length-map p.told.drops block_of) ∙ ap length p.keeps.blocks in omega (arith, few, many))
+      empty = nothing p.told.drops (let few = subst (λ n. length value.drops ≤ most_drops n) is_zero range.few in let many = sym (length-map p.told.drops block_of) ∙ ap length p.keeps.blocks in omega (arith, few, many))
 
       no_older : p.older ≡ []
       no_older = elim p.are [
         | inl z ↦ z.1
-        | inr z ↦ (let some = z.0 in absurd (omega (arith, some, zero)))
+        | inr z ↦ (let some = z.0 in absurd (omega (arith, some, is_zero)))
       ]
 
   module _ (seq : ℕ) (have : HaveNamed shards value.group value.drops) (beside : AreNewestBeside shards value.drops newest) (last : IsLastIn shards seq) where

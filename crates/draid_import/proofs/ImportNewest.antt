@@ -58,8 +58,8 @@ use Rattle.draid_pool.proofs.Moved.{blocks_at}
 
 -- what isn't so
 pub not_true : (b : Bool) → (b ≡ true → ⊥) → b ≡ false
-not_true true no = absurd (no refl)
-not_true false no = refl
+not_true true never = absurd (never refl)
+not_true false never = refl
 
 -- a pointer is known by its key, its metaslab and what a state has of its block
 same_pointer : (p q : Pointer) → key_of p ≡ key_of q → held_at (staged stage.Live p) ≡ held_at (staged stage.Live q) → p.metaslab ≡ q.metaslab → p ≡ q

@@ -103,9 +103,9 @@ room_left newest old new named older objects list group names many had dropped r
 module _ {R A : Type 0} (group : ℕ) (value : CheckTold) (shards : List (Shard R A)) (newest : ℕ → Option Pointer) (was : ℕ) where
   -- where the record tells of no checkpoint
   pub none_kept : (new : Uber A) → value.group ≡ 0 → KeepsCheck group value (point_of new) → changed_of new ≡ was → KeepsPoint group value shards newest was new
-  none_kept new zero keeps same = record {
+  none_kept new empty keeps same = record {
     older = [];
-    are = inl (zero, refl);
+    are = inl (empty, refl);
     told = point_of new;
     keeps = keeps;
     group_is = refl;
