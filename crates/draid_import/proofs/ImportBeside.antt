@@ -440,10 +440,14 @@ module _ {R A : Type 0} (rack : racks.Ghosts R) (area : areas.Ghosts A) (x : Sta
   dropped_all_then m k h there keeps = elim ((lists g.0 g.1).all m f.shard h.first f.entry.e f.at f.entry.there (let birth = ap (λ (i : Held). i.birth) f.entry.held_is in let born = g.2 in let same = own_group g.0 g.1 in omega (arith, birth, born, same))) [
     | inl own ↦
         let at : newest k.object ≡ Some own.0 = ap (λ (j : Key). newest j.object) (sym f.entry.key_is) ∙ own.1 in
-        inr (own.0, at, λ i. record {
-          object = (newest_before.own k.object own.0 at) i;
-          seq = (own.2 ∙ ap (λ (j : Key). j.seq) f.entry.key_is) i;
-        })
+        inr (
+          own.0,
+          at,
+          λ i. record {
+            object = (newest_before.own k.object own.0 at) i;
+            seq = (own.2 ∙ ap (λ (j : Key). j.seq) f.entry.key_is) i;
+          },
+        )
     | inr named_or ↦ inl (ap (λ o. is_dropped o k) (then_check g.0 g.1).1 ∙ dropped_then g.0 g.1 k (elim named_or [
       | inl has ↦ inl (subst (λ (j : Key). Contains value.drops (record { object = j.object; seq = j.seq })) f.entry.key_is has)
       | inr has ↦ inr (subst (λ (j : Key). Contains older (record { object = j.object; seq = j.seq })) f.entry.key_is has)

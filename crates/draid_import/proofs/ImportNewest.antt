@@ -280,9 +280,12 @@ module _ {R A : Type 0} (rack : racks.Ghosts R) (area : areas.Ghosts A) where
           )
           by (inr kept_it) = elim (drops m k h was (keeps_by own point h.birth (ap (holds_birth own) (sym birth) ∙ kept_it))) [
             | inl gone ↦ absurd (absurd_test (is_dropped (check_by mid.store.marks) k) gone counts)
-            | inr own_p ↦
-                (own_p.0, own_p.1, own_p.2,
-                  sym (one_metaslab m own_p.0.metaslab k (key_of own_p.0) h (held_at (staged stage.Live own_p.0)) (sym own_p.2) was (newest_there k.object own_p.0 own_p.1)))
+            | inr own_p ↦ (
+              own_p.0,
+              own_p.1,
+              own_p.2,
+              sym (one_metaslab m own_p.0.metaslab k (key_of own_p.0) h (held_at (staged stage.Live own_p.0)) (sym own_p.2) was (newest_there k.object own_p.0 own_p.1)),
+            )
           ]
 
       -- the write that a newest block is of
