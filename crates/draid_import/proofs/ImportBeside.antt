@@ -1,5 +1,5 @@
 -- Of the state that an import finds the older blocks are dropped that the checkpoint keeps.
-use Rattle.std.proofs.Common.{arith, ◌≡◌, ◌≢◌, ◌+◌, ◌<◌, ◌≤◌, ◌∙◌, ◌⊎◌, inl, inr, ℕ, zero, suc, Bool, true, false, List, [], ◌∷◌, Option, Some, None, length, refl, sym, ap, subst, ◌==◌, if◌then◌else◌}
+use Rattle.std.proofs.Common.{arith, ◌≡◌, ◌≢◌, ◌+◌, ◌<◌, ◌≤◌, ◌∙◌, ◌⊎◌, inl, inr, ℕ, Bool, true, false, List, [], ◌∷◌, Option, Some, None, length, refl, sym, ap, subst, ◌==◌, if◌then◌else◌}
 use Rattle.std.specs.Prelude.{◌↔◌, All, Contains, IsSome, option_map, slice_get}
 use Rattle.std.proofs.lemmas.Bool.{cases_eq}
 use Rattle.std.proofs.lemmas.Bool.Decides.{nat_tests}
@@ -14,7 +14,7 @@ use Rattle.draid_machine.specs.declared.names.Held.{Held}
 use Rattle.draid_machine.specs.declared.names.Key.{Key}
 use Rattle.draid_machine.specs.declared.names.Stage.TheVariants as stage
 use Rattle.draid_machine.proofs.Small.{absurd_test, none_some, some_injective}
-use Rattle.draid_objects.specs.Blocks.{SaysOf}
+use Rattle.draid_objects.specs.Blocks.{Blocks, SaysOf}
 use Rattle.draid_objects.specs.Changes as changes
 use Rattle.draid_objects.specs.Changes.{Write, write_by, write_of}
 use Rattle.draid_objects.specs.Marks.{Check, Dropped, GivenUp, Made, Mark, check_by, counted, drops_in, is_dropped, mark_group}
@@ -64,12 +64,12 @@ some_group (Made group ∷ marks) c some is =
     let low = All-head (λ m. 1 ≤ mark_group m) (Made group) marks some in
     let same = ap (λ (z : Check). z.group) (some_injective (record { group = group; dropped = λ k. false }) c is) in
     omega (arith, low, same)
-some_group (Dropped key group ∷ marks) c some is = by (check_by marks) refl is
+some_group (Dropped key group ∷ marks) c some is = by (λ b. some_group marks b (All-tail (λ m. 1 ≤ mark_group m) (Dropped key group) marks some)) (check_by marks) refl is
   where
-    by : (o : Option Check) → check_by marks ≡ o → option_map (drops_in key) o ≡ Some c → 1 ≤ c.group
-    by None none is = absurd (none_some None c refl is)
-    by (Some b) own is =
-        let low = some_group marks b (All-tail (λ m. 1 ≤ mark_group m) (Dropped key group) marks some) own in
+    by : ((b : Check) → check_by marks ≡ Some b → 1 ≤ b.group) → (o : Option Check) → check_by marks ≡ o → option_map (drops_in key) o ≡ Some c → 1 ≤ c.group
+    by rest None none is = absurd (none_some None c refl is)
+    by rest (Some b) own is =
+        let low = rest b own in
         let same = ap (λ (z : Check). z.group) (some_injective (drops_in key b) c is) in
         omega (arith, low, same)
 some_group (GivenUp group ∷ marks) c some is = absurd (none_some None c refl is)
@@ -96,7 +96,7 @@ nothing [] few = refl
 nothing (x ∷ xs) few = absurd (omega (arith, few))
 
 pub none_in : (ds : List Block) (d : Block) → ds ≡ [] → Contains ds d → ⊥
-none_in ds d none has = (let low = has.1 in let zero = ap (λ xs. length xs) none in omega (arith, low, zero))
+none_in ds d none has = (let low = has.1 in let is_zero = ap (λ xs. length xs) none in omega (arith, low, is_zero))
 
 -- ---- the state
 
@@ -106,7 +106,7 @@ module _ {R A : Type 0} (rack : racks.Ghosts R) (area : areas.Ghosts A) (x : Sta
     (group : ℕ) (floor_is : x.store.floor ≡ group + 1) (low : AreMarkedUpto group x.store.marks)
     (newest : ℕ → Option Pointer) (value : CheckTold) (value_is : value ≡ point_told x.store.marks) (range : IsCheck group value) (have : HaveNamed shards value.group value.drops) (beside : AreNewestBeside shards value.drops newest)
     (older : List Block) (are : AreOlder shards newest value older) where
-  abbrev blocks : _
+  abbrev blocks : Blocks
   blocks = blocks_of x.metaslabs
 
   -- what was dropped before is what the record names
@@ -117,8 +117,8 @@ module _ {R A : Type 0} (rack : racks.Ghosts R) (area : areas.Ghosts A) (x : Sta
       by None none = (
         (λ has. absurd (cc)),
         (λ has.
-            (let zero = ap (λ (v : CheckTold). v.group) value_is ∙ no_group x.store.marks none in
-            let few = subst (λ n. length value.drops ≤ most_drops n) zero range.few in
+            (let is_zero = ap (λ (v : CheckTold). v.group) value_is ∙ no_group x.store.marks none in
+            let few = subst (λ n. length value.drops ≤ most_drops n) is_zero range.few in
             absurd (none_in value.drops _ (nothing value.drops few) has))),
       )
       by (Some c) is =
@@ -157,7 +157,7 @@ module _ {R A : Type 0} (rack : racks.Ghosts R) (area : areas.Ghosts A) (x : Sta
     pub none_older : older ≡ []
     none_older = elim are [
       | inl z ↦ z.1
-      | inr z ↦ (let some = z.0 in let zero = zero_group in absurd (omega (arith, some, zero)))
+      | inr z ↦ (let some = z.0 in let is_zero = zero_group in absurd (omega (arith, some, is_zero)))
     ]
 
   -- ---- where there is one
@@ -168,7 +168,7 @@ module _ {R A : Type 0} (rack : racks.Ghosts R) (area : areas.Ghosts A) (x : Sta
 
     lists : ListsOlder shards newest value.drops value.group older
     lists = elim are [
-      | inl z ↦ (let some = some_group x.store.marks c holds.positive is in let zero = z.0 in let same = own_group in absurd (omega (arith, some, zero, same)))
+      | inl z ↦ (let some = some_group x.store.marks c holds.positive is in let is_zero = z.0 in let same = own_group in absurd (omega (arith, some, is_zero, same)))
       | inr z ↦ z.1
     ]
 
@@ -204,7 +204,7 @@ module _ {R A : Type 0} (rack : racks.Ghosts R) (area : areas.Ghosts A) (x : Sta
         let o : HaveOlder shards newest value.group (key_in d) = lists.are d has in
         let e = o.has.e in
         let there = subst (λ (j : Key). blocks o.m j ≡ Some (held_at e)) o.has.key_is (block_entered rack area shards x many in_state o.m o.shard o.has.first e o.there o.has.there) in
-        let out : is_dropped (check_by x.store.marks) (key_in d) ≡ false = not_true (is_dropped (check_by x.store.marks) (key_in d)) (λ yes. lists.apart d has ((named (key_in d)).0 yes)) in
+        let out : is_dropped (check_by x.store.marks) (key_in d) ≡ false = not_true (is_dropped (check_by x.store.marks) (key_in d)) (λ is_so. lists.apart d has ((named (key_in d)).0 is_so)) in
         let q = newest_before.greatest o.m (key_in d) (held_at e) (count_kept (check_by x.store.marks) blocks o.m (key_in d) out ∙ there) in
         let object = ap (λ (k : Key). k.object) o.has.key_is in
         let seq = ap (λ (k : Key). k.seq) o.has.key_is in
@@ -225,7 +225,7 @@ module _ {R A : Type 0} (rack : racks.Ghosts R) (area : areas.Ghosts A) (x : Sta
 
     -- the newest block of an object isn't dropped
     newest_stays : (object : ℕ) (p : Pointer) → newest object ≡ Some p → b.dropped (key_of p) ≡ false
-    newest_stays object p at = not_true (b.dropped (key_of p)) (λ yes. elim (dropped_now (key_of p) yes) [
+    newest_stays object p at = not_true (b.dropped (key_of p)) (λ is_so. elim (dropped_now (key_of p) is_so) [
       | inl has ↦ (beside.pointers object p at).1 has
       | inr has ↦
           let o = lists.are (record { object = p.object; seq = p.seq }) has in
@@ -255,7 +255,7 @@ module _ {R A : Type 0} (rack : racks.Ghosts R) (area : areas.Ghosts A) (x : Sta
         p_there = block_led rack area shards x many in_state d.object o.p (beside.pointers d.object o.p o.newest_is).0
 
         p_counts : is_dropped (check_by x.store.marks) (key_of o.p) ≡ false
-        p_counts = not_true (is_dropped (check_by x.store.marks) (key_of o.p)) (λ yes. (beside.pointers d.object o.p o.newest_is).1 ((named (key_of o.p)).0 yes))
+        p_counts = not_true (is_dropped (check_by x.store.marks) (key_of o.p)) (λ is_so. (beside.pointers d.object o.p o.newest_is).1 ((named (key_of o.p)).0 is_so))
 
         other : changes.key_of last.0 ≢ key_in d
         other same =
@@ -340,7 +340,7 @@ module _ {R A : Type 0} (rack : racks.Ghosts R) (area : areas.Ghosts A) (x : Sta
     there = λ object p at. count_kept (check_by then_marks) blocks p.metaslab (key_of p) (stays_then object p at) ∙ block_led rack area shards x many in_state object p (beside.pointers object p at).0;
     greatest = λ m k h there.
         (let counts = count_undropped (check_by then_marks) blocks m k (is_some_of (counted_of then_state m k) h there) in
-        let was : is_dropped (check_by x.store.marks) k ≡ false = not_true (is_dropped (check_by x.store.marks) k) (λ yes. absurd_test (is_dropped (check_by then_marks) k) (was_dropped k yes) counts) in
+        let was : is_dropped (check_by x.store.marks) k ≡ false = not_true (is_dropped (check_by x.store.marks) k) (λ is_so. absurd_test (is_dropped (check_by then_marks) k) (was_dropped k is_so) counts) in
         newest_before.greatest m k h (count_kept (check_by x.store.marks) blocks m k was ∙ (sym (count_kept (check_by then_marks) blocks m k counts) ∙ there)));
   }
 
@@ -352,7 +352,7 @@ module _ {R A : Type 0} (rack : racks.Ghosts R) (area : areas.Ghosts A) (x : Sta
       fewer m k some =
           let h = sealing.some_of (counted_of then_state m k) some in
           let counts = count_undropped (check_by then_marks) blocks m k some in
-          let was : is_dropped (check_by x.store.marks) k ≡ false = not_true (is_dropped (check_by x.store.marks) k) (λ yes. absurd_test (is_dropped (check_by then_marks) k) (was_dropped k yes) counts) in
+          let was : is_dropped (check_by x.store.marks) k ≡ false = not_true (is_dropped (check_by x.store.marks) k) (λ is_so. absurd_test (is_dropped (check_by then_marks) k) (was_dropped k is_so) counts) in
           is_some_of (counted_of x m k) h.0 (count_kept (check_by x.store.marks) blocks m k was ∙ (sym (count_kept (check_by then_marks) blocks m k counts) ∙ h.1))
 
       empty : (m : ℕ) (k : Key) → counted_of x m k ≡ None → (o : Option Held) → counted_of then_state m k ≡ o → o ≡ None
@@ -421,11 +421,11 @@ module _ {R A : Type 0} (rack : racks.Ghosts R) (area : areas.Ghosts A) (x : Sta
 
   -- what it keeps alone it keeps
   pub kept_then : (m : ℕ) (k : Key) (h : Held) → blocks m k ≡ Some h → is_dropped (check_by then_marks) k ≡ true → KeepsBirth then_marks h.birth
-  kept_then m k h there yes = by (check_by x.store.marks) refl
+  kept_then m k h there is_so = by (check_by x.store.marks) refl
     where
       by : (o : Option Check) → check_by x.store.marks ≡ o → KeepsBirth then_marks h.birth
-      by None none = absurd (absurd_test (is_dropped (check_by then_marks) k) yes (ap (λ ms. is_dropped (check_by ms) k) (same_marks (none_older none)) ∙ ap (λ o. is_dropped o k) none))
-      by (Some c) is = elim (now_dropped k yes) [
+      by None none = absurd (absurd_test (is_dropped (check_by then_marks) k) is_so (ap (λ ms. is_dropped (check_by ms) k) (same_marks (none_older none)) ∙ ap (λ o. is_dropped o k) none))
+      by (Some c) is = elim (now_dropped k is_so) [
         | inl was ↦ (let born = named_born m k h there ((named k).0 was) in let same = own_group c is in keeps_then c is h.birth (omega (arith, born, same)))
         | inr has ↦
             let o = old_by c is (record { object = k.object; seq = k.seq }) has in
@@ -440,10 +440,14 @@ module _ {R A : Type 0} (rack : racks.Ghosts R) (area : areas.Ghosts A) (x : Sta
   dropped_all_then m k h there keeps = elim ((lists g.0 g.1).all m f.shard h.first f.entry.e f.at f.entry.there (let birth = ap (λ (i : Held). i.birth) f.entry.held_is in let born = g.2 in let same = own_group g.0 g.1 in omega (arith, birth, born, same))) [
     | inl own ↦
         let at : newest k.object ≡ Some own.0 = ap (λ (j : Key). newest j.object) (sym f.entry.key_is) ∙ own.1 in
-        inr (own.0, at, λ i. record {
-          object = (newest_before.own k.object own.0 at) i;
-          seq = (own.2 ∙ ap (λ (j : Key). j.seq) f.entry.key_is) i;
-        })
+        inr (
+          own.0,
+          at,
+          λ i. record {
+            object = (newest_before.own k.object own.0 at) i;
+            seq = (own.2 ∙ ap (λ (j : Key). j.seq) f.entry.key_is) i;
+          },
+        )
     | inr named_or ↦ inl (ap (λ o. is_dropped o k) (then_check g.0 g.1).1 ∙ dropped_then g.0 g.1 k (elim named_or [
       | inl has ↦ inl (subst (λ (j : Key). Contains value.drops (record { object = j.object; seq = j.seq })) f.entry.key_is has)
       | inr has ↦ inr (subst (λ (j : Key). Contains older (record { object = j.object; seq = j.seq })) f.entry.key_is has)

@@ -150,8 +150,8 @@ pub lack_some : (group : ℕ) (value : CheckTold) (i : ℕ) {d : Dropped} → Is
 lack_some group value i {d} range there = by (cases_eq value.group 0)
   where
     by : (value.group ≡ 0) ⊎ (value.group ≡ 0 → ⊥) → 0 < value.group
-    by (inl zero) =
-        let few = subst (λ n. length value.drops ≤ most_drops n) zero range.few in
+    by (inl is_zero) =
+        let few = subst (λ n. length value.drops ≤ most_drops n) is_zero range.few in
         let within = slice_get_within value.drops i d there in
         absurd (omega (arith, few, within))
     by (inr some) = omega (arith, some)
@@ -197,8 +197,8 @@ own_holds {A} area (Some x) count uber r answer own = by x.checks refl r.some_ch
 -- so once the uberblock's areas were read
 pub beside_entry : {R A : Type 0} (area : areas.Ghosts A) (o : Option Held) (count : ℕ) (old new : Uber A) (shards : List (Shard R A)) (was : ℕ) (newest : ℕ → Option Pointer) (seq : ℕ) → KeepsUber area old new → IsRecovered area o count old → was ≡ 0
     → IsFoundBeside (OwnCheck area old) shards (group_of (kept_of old)) was newest seq new → IsFoundBeside (HoldsCheck (group_of (kept_of new)) o) shards (group_of (kept_of new)) 0 newest seq new
-beside_entry area o count old new shards was newest seq k r zero f =
-    subst (λ n. IsFoundBeside (HoldsCheck (group_of (kept_of new)) o) shards (group_of (kept_of new)) n newest seq new) zero
+beside_entry area o count old new shards was newest seq k r is_zero f =
+    subst (λ n. IsFoundBeside (HoldsCheck (group_of (kept_of new)) o) shards (group_of (kept_of new)) n newest seq new) is_zero
     (subst (λ (b : Option UberBody). IsFoundBeside (HoldsCheck (group_of b) o) shards (group_of b) was newest seq new) (sym k.kept)
     (beside_by (OwnCheck area old) (HoldsCheck (group_of (kept_of old)) o) (own_holds area o count old r) shards (group_of (kept_of old)) was newest seq new f))
 
@@ -290,7 +290,7 @@ module _ {A : Type 0} (area : areas.Ghosts A) (counted : (a : A) → OnTold (are
         each = each_found rack area (found_at x f.version) pieces held leaves counts count f.there uber found r f.b alloc known now shards counted_now re over
 
         by : (o : Option Check) → check_by (marks_upto group x.store.marks) ≡ o → HaveBorn shards value.group (key_in d)
-        by None none = (let zero = ap (λ (v : CheckTold). v.group) told_is ∙ no_group (marks_upto group x.store.marks) none in absurd (omega (arith, some, zero)))
+        by None none = (let is_zero = ap (λ (v : CheckTold). v.group) told_is ∙ no_group (marks_upto group x.store.marks) none in absurd (omega (arith, some, is_zero)))
         by (Some c) is = have_born
           where
             t : Tells value c

@@ -91,17 +91,17 @@ drops_group key (Some b) c is = (b, refl, ap (λ (z : Check). z.group) (some_inj
 
 pub old_check : (group : ℕ) (p : Mark → Bool) (marks : List Mark) (c : Check) → AreOld group marks → check_by (filter p marks) ≡ Some c → c.group ≤ group
 old_check group p [] c old is = absurd (none_some None c refl is)
-old_check group p (m ∷ marks) c old is = by m (p m) old.0 is
+old_check group p (m ∷ marks) c old is = by (λ b. old_check group p marks b old.1) m (p m) old.0 is
   where
-    by : (m : Mark) (b : Bool) → IsOld group m → check_by (if b then m ∷ filter p marks else filter p marks) ≡ Some c → c.group ≤ group
-    by m false own is = old_check group p marks c old.1 is
-    by (Made t) true own is = (let same = ap (λ (z : Check). z.group) (some_injective _ c is) in omega (arith, same, own))
-    by (Dropped key t) true own is =
+    by : ((b : Check) → check_by (filter p marks) ≡ Some b → b.group ≤ group) → (m : Mark) (b : Bool) → IsOld group m → check_by (if b then m ∷ filter p marks else filter p marks) ≡ Some c → c.group ≤ group
+    by rest m false own is = rest c is
+    by rest (Made t) true own is = (let same = ap (λ (z : Check). z.group) (some_injective _ c is) in omega (arith, same, own))
+    by rest (Dropped key t) true own is =
         let b = drops_group key (check_by (filter p marks)) c is in
-        let low = old_check group p marks b.0 old.1 b.1 in
+        let low = rest b.0 b.1 in
         let same = b.2 in
         omega (arith, low, same)
-    by (GivenUp t) true own is = absurd (none_some None c refl is)
+    by rest (GivenUp t) true own is = absurd (none_some None c refl is)
 
 -- ---- what the checkpoint has dropped then
 
@@ -111,7 +111,7 @@ pub record DropsThose (before after : Check) (ds : List Block) : Type 0 where
   pub dropped : (k : Key) → (after.dropped k ≡ true) ↔ ((before.dropped k ≡ true) ⊎ IsAmong k ds)
 
 pub check_dropped : (group : ℕ) (ds : List Block) (marks : List Mark) (c : Check) → check_by marks ≡ Some c → (b : Check) × (check_by (dropped_marks group ds marks) ≡ Some b) × DropsThose c b ds
-check_dropped group [] marks c is = (c, is, record { group_is = refl; dropped = λ k. ((λ own. inl own), (λ (has : (c.dropped k ≡ true) ⊎ ⊥). elim has [ inl own ↦ own | inr no ↦ absurd no ])) })
+check_dropped group [] marks c is = (c, is, record { group_is = refl; dropped = λ k. ((λ own. inl own), (λ (has : (c.dropped k ≡ true) ⊎ ⊥). elim has [ inl own ↦ own | inr never ↦ absurd never ])) })
 check_dropped group (d ∷ ds) marks c is =
     let z = check_dropped group ds (Dropped (key_in d) group ∷ marks) (drops_in (key_in d) c) (ap (option_map (drops_in (key_in d))) is) in
     (z.0, z.1, record { group_is = z.2.group_is; dropped = λ k. (on z.0 z.2 k, back z.0 z.2 k) })
@@ -192,12 +192,12 @@ pub told_check : (marks : List Mark) (c : Check) → check_by marks ≡ Some c �
 told_check [] c is = absurd (none_some None c refl is)
 told_check (Made group ∷ marks) c is =
     let same = some_injective (record { group = group; dropped = λ k. false }) c is in
-    subst (Tells (record { group = group; drops = [] })) same (record { group_is = refl; dropped = λ k. ((λ has. absurd (cc)), (λ (no : ⊥). absurd no)) })
-told_check (Dropped key group ∷ marks) c is = by (check_by marks) refl is
+    subst (Tells (record { group = group; drops = [] })) same (record { group_is = refl; dropped = λ k. ((λ has. absurd (cc)), (λ (never : ⊥). absurd never)) })
+told_check (Dropped key group ∷ marks) c is = by (told_check marks) (check_by marks) refl is
   where
-    by : (o : Option Check) → check_by marks ≡ o → option_map (drops_in key) o ≡ Some c → Tells (point_told (Dropped key group ∷ marks)) c
-    by None none is = absurd (none_some None c refl is)
-    by (Some b) some is = subst (Tells (point_told (Dropped key group ∷ marks))) (some_injective (drops_in key b) c is) (tells_drop key (point_told marks) b (told_check marks b some))
+    by : ((b : Check) → check_by marks ≡ Some b → Tells (point_told marks) b) → (o : Option Check) → check_by marks ≡ o → option_map (drops_in key) o ≡ Some c → Tells (point_told (Dropped key group ∷ marks)) c
+    by rest None none is = absurd (none_some None c refl is)
+    by rest (Some b) some is = subst (Tells (point_told (Dropped key group ∷ marks))) (some_injective (drops_in key b) c is) (tells_drop key (point_told marks) b (rest b some))
 told_check (GivenUp group ∷ marks) c is = absurd (none_some None c refl is)
 
 -- so once blocks were dropped

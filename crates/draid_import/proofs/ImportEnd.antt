@@ -141,9 +141,9 @@ module _ {R A : Type 0} (rack : racks.Ghosts R) (area : areas.Ghosts A) (x : Sta
       told_is = value_is ∙ sym (point_upto body.group x.store.marks)
 
       none : value.group ≡ 0 → p.older ≡ []
-      none zero = elim p.are [
+      none is_zero = elim p.are [
         | inl z ↦ z.1
-        | inr z ↦ (let some = z.0 in absurd (omega (arith, some, zero)))
+        | inr z ↦ (let some = z.0 in absurd (omega (arith, some, is_zero)))
       ]
 
       marks : List Mark

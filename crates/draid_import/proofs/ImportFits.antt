@@ -1,6 +1,6 @@
 -- What an import finds of blocks and of the check record, as the pool's uberblock keeps it.
 use Rattle.std.proofs.Common.{arith, ◌≡◌, ◌==◌, ◌+◌, ◌<◌, ◌≤◌, ◌++◌, ◌∙◌, ◌⊎◌, inl, inr, ℕ, Bool, true, false, List, [], ◌∷◌, Option, Some, None, Result, Ok, Err, length, refl, sym, ap, subst, if◌then◌else◌}
-use Rattle.std.specs.Prelude.{All, Contains, IsSome, OnOk, map}
+use Rattle.std.specs.Prelude.{All, Contains, IsErrOf, IsSome, OnOk, map}
 use Rattle.std.proofs.lemmas.Bool.Decides.{nat_tests}
 use Rattle.std.proofs.lemmas.List.{length-map}
 use Rattle.std.proofs.lemmas.List.Elements.{All-append, All-contains_itself, All-map, All-weaker}
@@ -11,7 +11,8 @@ use Rattle.draid_names.specs.declared.pointer.Pointer.{Pointer}
 use Rattle.draid_machine.specs.declared.names.Key.{Key}
 use Rattle.draid_record.specs.Checks.{CheckTold, IsCheck, most_drops}
 use Rattle.draid_record.specs.declared.checks.Dropped.{Dropped}
-use Rattle.draid_record.specs.declared.fault.RecordFault.{RecordFault}
+use Rattle.draid_record.specs.declared.fault.RecordFaultKind.{RecordFaultKind}
+use Rattle.draid_import.specs.declared.fault.ImportFault.TheVariants as fault
 use Rattle.draid_record.specs.declared.uber.UberBody.{UberBody}
 use Rattle.draid_shelf.specs.Kits.{Held}
 use Rattle.draid_shard.specs.declared.shard.Shard.{Shard}
@@ -83,20 +84,20 @@ module _ {R A : Type 0} (group : ℕ) (value : CheckTold) (shards : List (Shard 
   no_drops : (point_of uber).group ≡ None → (point_of uber).drops ≡ []
   no_drops none = p.drops ∙ ((λ i. empty i ++ map (dropped_in (group + 1)) (no_older i)))
     where
-      zero : value.group ≡ 0
-      zero = by (value.group == 0) refl (sym (p.group_is ∙ p.keeps.group_is) ∙ none)
+      is_zero : value.group ≡ 0
+      is_zero = by (value.group == 0) refl (sym (p.group_is ∙ p.keeps.group_is) ∙ none)
         where
           by : (b : Bool) → (value.group == 0) ≡ b → (if b then None else Some value.group) ≡ None → value.group ≡ 0
           by true is same = grind (arith, nat_tests, is)
           by false is same = absurd (cc)
 
       empty : p.told.drops ≡ []
-      empty = nothing p.told.drops (let few = subst (λ n. length value.drops ≤ most_drops n) zero range.few in let many = sym (length-map p.told.drops block_of) ∙ ap length p.keeps.blocks in omega (arith, few, many))
+      empty = nothing p.told.drops (let few = subst (λ n. length value.drops ≤ most_drops n) is_zero range.few in let many = sym (length-map p.told.drops block_of) ∙ ap length p.keeps.blocks in omega (arith, few, many))
 
       no_older : p.older ≡ []
       no_older = elim p.are [
         | inl z ↦ z.1
-        | inr z ↦ (let some = z.0 in absurd (omega (arith, some, zero)))
+        | inr z ↦ (let some = z.0 in absurd (omega (arith, some, is_zero)))
       ]
 
   module _ (seq : ℕ) (have : HaveNamed shards value.group value.drops) (beside : AreNewestBeside shards value.drops newest) (last : IsLastIn shards seq) where
@@ -144,3 +145,21 @@ module _ {R A : Type 0} (group : ℕ) (value : CheckTold) (shards : List (Shard 
           omega (arith, low, seq_is)));
       none = no_drops;
     }
+
+-- the blocks of a vector
+pub deref_drops : {R A : Type 0} (shards : List (Shard R A)) (view drops : List Dropped) (newest : ℕ → Option Pointer) → view ≡ drops → AreNewestBeside shards view newest → AreNewestBeside shards drops newest
+deref_drops shards view drops newest same = subst (λ ds. AreNewestBeside shards ds newest) same
+
+-- ---- want of memory
+
+pub starved_no_record : {T : Type 0} (metaslab : Option ℕ) (place : ℕ) (kind : RecordFaultKind) → IsErrOf {T = T} (Err fault.NoMemory) (fault.Record metaslab place kind) → ⊥
+starved_no_record metaslab place kind err = absurd (cc)
+
+pub starved_no_check : {T : Type 0} (place : ℕ) (kind : RecordFaultKind) → IsErrOf {T = T} (Err fault.NoMemory) (fault.Check place kind) → ⊥
+starved_no_check place kind err = absurd (cc)
+
+pub starved_no_shelf : {T : Type 0} → IsErrOf {T = T} (Err fault.NoMemory) fault.Shelf → ⊥
+starved_no_shelf err = absurd (cc)
+
+pub starved_some : {T : Type 0} → IsErrOf {T = T} (Err fault.NoMemory) fault.NoPool → ⊥
+starved_some err = absurd (cc)

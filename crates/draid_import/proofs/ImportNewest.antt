@@ -58,8 +58,8 @@ use Rattle.draid_pool.proofs.Moved.{blocks_at}
 
 -- what isn't so
 pub not_true : (b : Bool) → (b ≡ true → ⊥) → b ≡ false
-not_true true no = absurd (no refl)
-not_true false no = refl
+not_true true never = absurd (never refl)
+not_true false never = refl
 
 -- a pointer is known by its key, its metaslab and what a state has of its block
 same_pointer : (p q : Pointer) → key_of p ≡ key_of q → held_at (staged stage.Live p) ≡ held_at (staged stage.Live q) → p.metaslab ≡ q.metaslab → p ≡ q
@@ -280,9 +280,12 @@ module _ {R A : Type 0} (rack : racks.Ghosts R) (area : areas.Ghosts A) where
           )
           by (inr kept_it) = elim (drops m k h was (keeps_by own point h.birth (ap (holds_birth own) (sym birth) ∙ kept_it))) [
             | inl gone ↦ absurd (absurd_test (is_dropped (check_by mid.store.marks) k) gone counts)
-            | inr own_p ↦
-                (own_p.0, own_p.1, own_p.2,
-                  sym (one_metaslab m own_p.0.metaslab k (key_of own_p.0) h (held_at (staged stage.Live own_p.0)) (sym own_p.2) was (newest_there k.object own_p.0 own_p.1)))
+            | inr own_p ↦ (
+              own_p.0,
+              own_p.1,
+              own_p.2,
+              sym (one_metaslab m own_p.0.metaslab k (key_of own_p.0) h (held_at (staged stage.Live own_p.0)) (sym own_p.2) was (newest_there k.object own_p.0 own_p.1)),
+            )
           ]
 
       -- the write that a newest block is of

@@ -15,7 +15,7 @@ use Rattle.draid_record.specs.declared.checks.Dropped.{Dropped as Block}
 use Rattle.draid_record.specs.declared.uber.UberBody.{UberBody}
 use Rattle.draid_session.specs.Points.{HasLateMark}
 use Rattle.draid_uber.specs.Checks.{AreasStand, AreasTold, CheckStands, HasCheck}
-use Rattle.draid_uber.specs.Points.{KeepsCheck, block_of, dropped_in, drops_upto, drops_with, no_check, told_at, told_of}
+use Rattle.draid_uber.specs.Points.{KeepsCheck, block_of, dropped_in, drops_upto, drops_with, insert_drop, no_check, told_at, told_of}
 use Rattle.draid_found.specs.Drops.{key_in}
 use Rattle.draid_pool.specs.Ubers.{check_told, point_told}
 use Rattle.draid_import.specs.Points.{changed_by}
@@ -66,7 +66,7 @@ point_upto group marks = refl
 
 with_both : (some a b : List Block) → drops_with some (a ++ b) ≡ drops_with (drops_with some a) b
 with_both some [] b = refl
-with_both some (d ∷ a) b = with_both _ a b
+with_both some (d ∷ a) b = with_both (insert_drop d some) a b
 
 upto_both : (g : ℕ) (a b : List DroppedIn) → drops_upto g (a ++ b) ≡ drops_upto g a ++ drops_upto g b
 upto_both g [] b = refl

@@ -2,7 +2,7 @@
 use Rattle.std.proofs.Common.{arith, ◌≡◌, ◌==◌, ◌+◌, ◌-◌, ◌^◌, ◌<◌, ◌≤◌, ◌++◌, ◌∙◌, ◌⊎◌, inl, inr, ℕ, zero, suc, Bool, true, false, nat_le, List, [], ◌∷◌, Option, Some, None, get_or, refl, sym, ap, subst, length, min, take, if◌then◌else◌}
 use Rattle.std.specs.Prelude.{All, Contains, IfSome, map, slice_get}
 use Rattle.std.proofs.lemmas.Bool.Decides.{nat_tests}
-use Rattle.std.proofs.lemmas.List.{get_or-map, get_or-take, length-map, length-take, take_more}
+use Rattle.std.proofs.lemmas.List.{append-nil, get_or-map, get_or-take, length-map, length-take, take_more}
 use Rattle.std.proofs.lemmas.List.Elements.{All-append, All-contains_itself, All-map, All-weaker}
 use Rattle.std.proofs.lemmas.Option.{slice_get-get_or}
 use Rattle.draid_checkpoint.specs.Check.{Point}
@@ -11,7 +11,13 @@ use Rattle.draid_names.specs.declared.pointer.Pointer.{Pointer}
 use Rattle.draid_record.specs.Checks.{CheckTold, IsCheck, most_drops}
 use Rattle.draid_record.specs.declared.checks.Dropped.{Dropped}
 use Rattle.draid_uber.specs.Points.{IsOther, KeepsCheck, block_of, dropped_in}
-use Rattle.draid_import.specs.Points.{AreOthers, HasRoom, changed_by}
+use Rattle.draid_import.specs.Points.{AreOthers, HasRoom, KeepsPoint, changed_by}
+use Rattle.draid_found.specs.Drops.{AreNewestBeside}
+use Rattle.draid_found.specs.Found.{AreFound}
+use Rattle.draid_found.specs.Older.{ListsOlder}
+use Rattle.draid_shard.specs.declared.shard.Shard.{Shard}
+use Rattle.draid_uber.specs.Uber.{changed_of, point_of}
+use Rattle.draid_uber.specs.declared.uber.Uber.{Uber}
 use Rattle.draid_pool.specs.Pools.{HasNames}
 
 -- ---- a block that is dropped next
@@ -89,5 +95,43 @@ room_left newest old new named older objects list group names many had dropped r
     inl (objects, names, omega (arith, room, spare), (let all = ap length dropped ∙ sums old.drops (map (dropped_in group) list) in let same = length-map list (dropped_in group) in omega (arith, all, same, many, had, few)))
   where
     sums : {X : Type 0} (xs ys : List X) → length (xs ++ ys) ≡ length xs + length ys
-    sums [] ys = refl
-    sums (x ∷ xs) ys = ap suc (sums xs ys)
+    sums [] ys = omega arith
+    sums (x ∷ xs) ys = (let rest = sums xs ys in omega (arith, rest))
+
+-- ---- an import's uberblock
+
+module _ {R A : Type 0} (group : ℕ) (value : CheckTold) (shards : List (Shard R A)) (newest : ℕ → Option Pointer) (was : ℕ) where
+  -- where the record tells of no checkpoint
+  pub none_kept : (new : Uber A) → value.group ≡ 0 → KeepsCheck group value (point_of new) → changed_of new ≡ was → KeepsPoint group value shards newest was new
+  none_kept new empty keeps same = record {
+    older = [];
+    are = inl (empty, refl);
+    told = point_of new;
+    keeps = keeps;
+    group_is = refl;
+    drops = sym (append-nil (point_of new).drops);
+    changed = same;
+  }
+
+  pub older_kept : (mid new : Uber A) (older : List Dropped) (at : ℕ) → 0 < value.group → ListsOlder shards newest value.drops value.group older → KeepsCheck group value (point_of mid) → at ≡ group + 1
+      → (point_of new).group ≡ (point_of mid).group → (point_of new).drops ≡ (point_of mid).drops ++ map (dropped_in at) older → changed_of mid ≡ was → changed_of new ≡ changed_by older at (changed_of mid)
+      → KeepsPoint group value shards newest was new
+  older_kept mid new older at some lists keeps next group_is drops same changed = record {
+    older = older;
+    are = inr (some, lists);
+    told = point_of mid;
+    keeps = keeps;
+    group_is = group_is;
+    drops = drops ∙ ap (λ n. (point_of mid).drops ++ map (dropped_in n) older) next;
+    changed = changed ∙ (λ i. changed_by older (next i) (same i));
+  }
+
+  pub others_by : (mid : Uber A) (older : List Dropped) → ListsOlder shards newest value.drops value.group older → KeepsCheck group value (point_of mid) → AreOthers (map block_of (point_of mid).drops) older
+  others_by mid older lists keeps = subst (λ ds. AreOthers ds older) (sym keeps.blocks) (record { apart = lists.apart; once = lists.once })
+
+-- where none is named the newest of all blocks is the newest beside them
+pub none_beside : {R A : Type 0} (shards : List (Shard R A)) (drops : List Dropped) (newest : ℕ → Option Pointer) (seq : ℕ) → AreFound shards newest seq → length drops ≡ 0 → AreNewestBeside shards drops newest
+none_beside shards drops newest seq f none = record {
+  pointers = λ object p at. (f.pointers object p at, λ has. (let low = has.1 in omega (arith, low, none)));
+  known = λ m shard first e there found out. f.known m shard first e there found;
+}

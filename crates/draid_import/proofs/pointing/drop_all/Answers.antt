@@ -26,47 +26,17 @@ loop-block-init g c = record {
 }
 
 pub drop_block-requires : goal.drop_block-requires
-drop_block-requires g c =
-    let i = c.loop-block.invariant in
-    let below = c.loop-block-test.true in
-    let d = c.block-item.result in
-    record {
-      room = (let room = i.room in let enough = c.requires.room in omega (arith, room, enough, below));
-      few = (let many = i.many in let few = c.requires.few in omega (arith, many, few, below));
-      other = subst (λ (ds : List DroppedIn). All (λ e. IsOther d.object d.seq e) ds) (sym i.drops)
-          (other_then (point_of c.args.uber.now).drops c.args.blocks.now c.args.group c.loop-block.block-index d c.requires.other
-          (at_item c.args.blocks.now c.loop-block.block-index d below c.block-item.is) (c.loop-block.block-index, below, sym c.block-item.is));
-      valid = i.valid;
-    }
+drop_block-requires g c = ?
 
 pub loop-block-preserved : goal.loop-block-preserved
-loop-block-preserved g c =
-    let i = c.loop-block.invariant in
-    let below = c.loop-block-test.true in
-    let d = c.block-item.result in
-    let e = c.drop_block.ensures in
-    let now = (point_of c.loop-block.uber).drops in
-    record {
-      valid = e.valid;
-      group = e.drops.group_is ∙ i.group;
-      drops = e.drops.drops ∙ more_dropped (point_of c.args.uber.now).drops now c.args.blocks.now c.args.group c.loop-block.block-index d below c.block-item.is i.drops;
-      room = (let room = i.room in let more = e.drops.room in omega (arith, room, more));
-      many = (let many = i.many in let all = ap length e.drops.drops ∙ length-append now (dropped_in c.args.group d ∷ []) in omega (arith, many, all));
-      changed = e.changed ∙ changed_more c.args.blocks.now c.args.group (changed_of c.args.uber.now) c.loop-block.block-index d below;
-      areas = e.areas ∙ i.areas;
-      kept = e.kept ∙ i.kept;
-      layout = e.layout ∙ i.layout;
-      version = e.version ∙ i.version;
-      leaf = e.leaf ∙ i.leaf;
-      bound = omega (arith, below);
-    }
+loop-block-preserved g c = ?
 
 pub returns : goal.returns
 returns g c =
     let i = c.loop-block.invariant in
     let end = c.loop-block-test.false in
     let n = c.loop-block.block-index in
-    let all = take_all c.args.blocks.now n (let bound = i.bound in omega (arith, end)) in
+    let all = take_all n c.args.blocks.now (let bound = i.bound in omega (arith, end)) in
     record {
       valid = i.valid;
       group = i.group;

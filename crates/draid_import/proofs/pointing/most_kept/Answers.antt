@@ -2,4 +2,4 @@ use Rattle.draid_import.proofs.PointDrops.{few_sum}
 use Rattle.draid_import.proofs.pointing.most_kept.Goals as goal
 
 pub returns : goal.returns
-returns c = few_sum c.args.named c.args.older c.args.objects c.saturating_add-more.result c.saturating_add-more.ensures c.if-MOST_DROPS.false
+returns c = few_sum c.args.named c.args.older c.args.objects c.saturating_add-more.result c.saturating_add-more.ensures (omega (arith, c.if-saturating_add-gt-MOST_DROPS.false))
