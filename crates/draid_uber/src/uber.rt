@@ -155,7 +155,7 @@ impl<A: Area> Uber<A> {
                 geometry: layout(&body),
                 version: body.props.version,
                 next_leaf: body.next_leaf,
-                    point: Check::none(alloc),
+                point: Check::none(alloc),
                 changed: 0,
                 alloc,
             }),
