@@ -1,6 +1,6 @@
 -- What a pool's uberblock says of its checkpoint.
 use Rattle.std.proofs.Common.{◌≡◌, ◌≤◌, ◌<◌, ◌+◌, ◌∙◌, [], ◌∷◌, ℕ, true, false, Bool, List, Option, Some, None, arith, ap, refl, sym, subst, if◌then◌else◌}
-use Rattle.std.specs.Prelude.{All, max, nat_le, option_map}
+use Rattle.std.specs.Prelude.{⊤, All, max, nat_le, option_map}
 use Rattle.std.proofs.lemmas.Bool.Decides.{nat_tests}
 use Rattle.std.proofs.lemmas.List.Elements.{All-head, All-tail, All-weaker}
 use Rattle.draid_area.specs.declared.Area as areas
