@@ -77,7 +77,9 @@ point_stands area uber x blocks pieces is holds groups = by (point_of uber).grou
     some (Some check) own positive same = (check, refl, sym same)
 
     told_group : (own group : ℕ) → own ≤ group → (told_of group (Some own) (point_of uber).drops).group ≡ own
-    told_group own group low = ap (λ b. (if b then record { group = own; drops = drops_with [] (drops_upto group (point_of uber).drops) } else no_check).group) (grind (arith, nat_tests, low))
+    told_group own group low =
+        let so : nat_le own group ≡ true = grind (arith, nat_tests, low) in
+        ap (λ b. (if b then record { group = own; drops = drops_with [] (drops_upto group (point_of uber).drops) } else no_check).group) so
 
     by : (o : Option ℕ) → (point_of uber).group ≡ o → IsPointOf x.store.marks o
     by None at = none (check_by x.store.marks) (sym (ap (λ g. (told_of upto g (point_of uber).drops).group) at) ∙ behind upto (omega arith)) (positive_check x.store.marks holds.positive)
