@@ -149,13 +149,13 @@ uber_drops {A} area old new x store key group own is d has behind after closed u
   next_leaf = d.leaf ∙ is.next_leaf;
   point = λ g above. point g above (nat_le group g) refl ∙ ap (λ ms. check_told ms g) (sym marks);
   late = λ g above. (
-      (λ z.
-      let low = All-contains (λ m. mark_group m ≤ group) (Dropped key group ∷ x.store.marks) z.mark (All-cons (λ m. mark_group m ≤ group) (Dropped key group) x.store.marks (omega arith) upto) (subst (λ ms. Contains ms z.mark) marks z.there) in
-      let late = z.late in
-      let same = d.changed in
-      omega (arith, low, late, same)),
-      (λ less. record { mark = Dropped key group; there = subst (λ ms. Contains ms (Dropped key group)) (sym marks) (mark_there (Dropped key group) x.store.marks); late = (let same = d.changed in omega (arith, less, same)) })
-      );
+    (λ z.
+        let low = All-contains (λ m. mark_group m ≤ group) (Dropped key group ∷ x.store.marks) z.mark (All-cons (λ m. mark_group m ≤ group) (Dropped key group) x.store.marks (omega arith) upto) (subst (λ ms. Contains ms z.mark) marks z.there) in
+        let late = z.late in
+        let same = d.changed in
+        omega (arith, low, late, same)),
+    (λ less. record { mark = Dropped key group; there = subst (λ ms. Contains ms (Dropped key group)) (sym marks) (mark_there (Dropped key group) x.store.marks); late = (let same = d.changed in omega (arith, less, same)) }),
+  );
   count = is.count ∙ ap (λ (parts : Areas A). count_in area.faults parts) (sym d.areas_are);
   stands = subst (λ (parts : Areas A). UberStands (record x { store = store }) (told_by area.told parts)) (sym d.areas_are) (record {
     pending = is.stands.pending;
