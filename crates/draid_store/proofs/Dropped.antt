@@ -1,6 +1,6 @@
 -- What the check records, the uberblock and the groups say as a block is dropped to the checkpoint.
 use Rattle.std.proofs.Common.{◌≡◌, ◌==◌, ◌%◌, ◌||◌, ◌<◌, ◌≤◌, ◌+◌, ◌++◌, ◌∷◌, ◌∙◌, [], ℕ, Bool, true, false, List, Option, Some, None, arith, ap, refl, sym, subst, if◌then◌else◌}
-use Rattle.std.specs.Prelude.{◌↔◌, ⊤, All, Contains, MatchOption, filter, map, max, nat_le, option_map}
+use Rattle.std.specs.Prelude.{⊤, All, Contains, MatchOption, filter, map, max, nat_le, option_map}
 use Rattle.std.proofs.lemmas.Bool.Decides.{nat_tests}
 use Rattle.std.proofs.lemmas.List.{append-nil}
 use Rattle.std.proofs.lemmas.List.Elements.{All-cons, All-contains, All-head, All-nil, All-tail, All-weaker, Contains-append_left, Contains-push}
@@ -21,15 +21,14 @@ use Rattle.draid_machine.specs.Names.{key_eq}
 use Rattle.draid_record.specs.Checks.{CheckTold}
 use Rattle.draid_record.specs.declared.checks.Dropped as blocks
 use Rattle.draid_record.specs.declared.uber.UberBody.{UberBody}
-use Rattle.draid_session.specs.Points.{HasLateMark}
-use Rattle.draid_session.specs.State.{Metaslab, State, Store}
+use Rattle.draid_session.specs.State.{State, Store}
 use Rattle.draid_uber.specs.Checks.{AreasTold, CheckStands, HasCheck, count_in, told_by}
 use Rattle.draid_uber.specs.Points.{block_of, drops_upto, drops_with, insert_drop, no_check, told_at, told_of}
 use Rattle.draid_uber.specs.Uber.{Valid, areas_of, changed_of, kept_of, layout_of, next_leaf_of, point_of, version_of}
 use Rattle.draid_uber.specs.declared.areas.Areas.{Areas}
 use Rattle.draid_uber.specs.declared.uber.Uber.{Uber}
 use Rattle.draid_pool.specs.Objects.{HasGroups}
-use Rattle.draid_pool.specs.Ubers.{IsPending, IsUber, UberStands, body_of, check_told, kept_in, point_told, with_drop}
+use Rattle.draid_pool.specs.Ubers.{IsPending, IsUber, UberStands, body_of, check_told, point_told, with_drop}
 use Rattle.draid_pool.proofs.Marked.{marked_later}
 
 -- ---- check records of a point
@@ -149,13 +148,13 @@ uber_drops {A} area old new x store key group own is d has behind after closed u
   next_leaf = d.leaf ∙ is.next_leaf;
   point = λ g above. point g above (nat_le group g) refl ∙ ap (λ ms. check_told ms g) (sym marks);
   late = λ g above. (
-      (λ z.
-      let low = All-contains (λ m. mark_group m ≤ group) (Dropped key group ∷ x.store.marks) z.mark (All-cons (λ m. mark_group m ≤ group) (Dropped key group) x.store.marks (omega arith) upto) (subst (λ ms. Contains ms z.mark) marks z.there) in
-      let late = z.late in
-      let same = d.changed in
-      omega (arith, low, late, same)),
-      (λ less. record { mark = Dropped key group; there = subst (λ ms. Contains ms (Dropped key group)) (sym marks) (mark_there (Dropped key group) x.store.marks); late = (let same = d.changed in omega (arith, less, same)) })
-      );
+    (λ z.
+        let low = All-contains (λ m. mark_group m ≤ group) (Dropped key group ∷ x.store.marks) z.mark (All-cons (λ m. mark_group m ≤ group) (Dropped key group) x.store.marks (omega arith) upto) (subst (λ ms. Contains ms z.mark) marks z.there) in
+        let late = z.late in
+        let same = d.changed in
+        omega (arith, low, late, same)),
+    (λ less. record { mark = Dropped key group; there = subst (λ ms. Contains ms (Dropped key group)) (sym marks) (mark_there (Dropped key group) x.store.marks); late = (let same = d.changed in omega (arith, less, same)) }),
+  );
   count = is.count ∙ ap (λ (parts : Areas A). count_in area.faults parts) (sym d.areas_are);
   stands = subst (λ (parts : Areas A). UberStands (record x { store = store }) (told_by area.told parts)) (sym d.areas_are) (record {
     pending = is.stands.pending;

@@ -1,5 +1,5 @@
 -- A block of an object is stored, of its parts as calls say them.
-use Rattle.std.proofs.Common.{◌≡◌, ◌+◌, ◌∙◌, ◌≤◌, ℕ, Bool, true, Option, Some, None, Result, Ok, Err, arith, refl, sym, ap, subst, cond}
+use Rattle.std.proofs.Common.{◌≡◌, ◌+◌, ◌∙◌, ℕ, Bool, true, Option, Some, None, Result, Ok, Err, arith, refl, sym, ap, subst, cond}
 use Rattle.std.specs.Prelude.{nat_eq}
 use Rattle.draid_names.specs.declared.pointer.Pointer.{Pointer}
 use Rattle.draid_names.specs.declared.refusal.WriteFault.TheVariants as fault

@@ -1,14 +1,12 @@
 -- A write of a pool whose earlier block the checkpoint keeps: it is dropped behind the write.
-use Rattle.std.proofs.Common.{◌≡◌, ◌==◌, ◌<◌, ◌≤◌, ◌+◌, ◌++◌, ◌⊎◌, ◌∷◌, ◌∙◌, [], inl, inr, ℕ, Bool, true, false, List, Option, Some, None, Result, Ok, arith, ap, refl, sym, subst, length}
-use Rattle.std.specs.Prelude.{max, nat_eq, slice_get}
-use Rattle.std.specs.HashMap.{get}
+use Rattle.std.proofs.Common.{◌≡◌, ◌≤◌, ◌+◌, ◌++◌, ◌⊎◌, ◌∷◌, ◌∙◌, [], inl, inr, ℕ, Bool, true, false, List, Option, Some, Ok, arith, ap, refl, sym, subst, length}
+use Rattle.std.specs.Prelude.{max, slice_get}
 use mathlib.Core.Logic.{dite}
 use native.Mathlib.Decide.{ℕ_discrete}
 use Rattle.std.proofs.lemmas.Bool.{true≢false}
 use Rattle.std.proofs.lemmas.List.{append-nil}
 use Rattle.sha2.specs.Sha256.{sha256}
 use Rattle.draid_area.specs.declared.Area as areas
-use Rattle.draid_checkpoint.specs.Check.{holds_birth}
 use Rattle.draid_entries.specs.Maps.{key_of}
 use Rattle.draid_machine.proofs.Small.{bool_cases, key_refl, key_true}
 use Rattle.draid_machine.specs.Names.{key_eq}
@@ -26,7 +24,7 @@ use Rattle.draid_objects.specs.Stores.{AreMarkedUpto, IsBehindChecks}
 use Rattle.draid_segments.specs.Segments.{Pieces}
 use Rattle.draid_shard.specs.declared.shard.Shard.{Shard}
 use Rattle.draid_session.specs.Follows.{Follows}
-use Rattle.draid_session.specs.Holds.{Hold, Looked, On, View}
+use Rattle.draid_session.specs.Holds.{Looked, On, View}
 use Rattle.draid_session.specs.Points.{IsPointOf, KeepsBirth}
 use Rattle.draid_session.specs.State.{Metaslab, State, Store}
 use Rattle.draid_session.specs.Writes.{DropsBlock, LeavesEarlier}
@@ -36,7 +34,7 @@ use Rattle.draid_pool.specs.Carries.{CarriesOut}
 use Rattle.draid_pool.specs.Metaslabs.{IsMetaslab}
 use Rattle.draid_pool.specs.Objects.{HoldsObjects, IsLastAt, blocks_of}
 use Rattle.draid_pool.specs.Pools.{Represents, Stands, part_in}
-use Rattle.draid_pool.specs.Threads.{Between, KnowsBut, LeadsBy, all_of, but, own_blocks}
+use Rattle.draid_pool.specs.Threads.{Between, KnowsBut, LeadsBy, all_of, but}
 use Rattle.draid_pool.specs.Whole.{IsWhole}
 use Rattle.draid_pool.specs.declared.pool.Pool.{Pool}
 use Rattle.draid_pool.proofs.Alone.{follows_alone}

@@ -1,10 +1,9 @@
-use Rattle.std.proofs.Common.{◌≡◌, ◌<◌, ◌+◌, ◌∙◌, arith, refl, sym, ap, subst, length}
+use Rattle.std.proofs.Common.{◌≡◌, ◌∙◌, arith, refl, sym, ap, subst}
 use Rattle.std.specs.Prelude.{max}
 use Rattle.draid_pool.specs.Carries.{CarriesOut}
 use Rattle.draid_pool.specs.Whole.{IsWhole}
 use Rattle.draid_pool.specs.declared.own.Own.{Own}
 use Rattle.draid_pool.specs.declared.owned.Owned.{Owned}
-use Rattle.draid_pool.specs.declared.pool.Pool.{Pool}
 use Rattle.draid_pool.proofs.LookKeeps.{same_keeps}
 use Rattle.draid_pool.proofs.Wholes.{whole_valid}
 use Rattle.draid_shard.specs.declared.shard.Shard.{Shard}

@@ -1,4 +1,4 @@
-use Rattle.std.proofs.Common.{◌≡◌, ◌<◌, ◌+◌, ◌∙◌, ℕ, Ok, Some, None, arith, refl, sym, ap, subst, cond, nat_eq, length}
+use Rattle.std.proofs.Common.{◌≡◌, ◌∙◌, ℕ, Ok, None, refl, sym, ap, subst, cond, nat_eq}
 use Rattle.std.specs.Prelude.{max}
 use Rattle.std.specs.HashMap.{get}
 use Rattle.draid_objects.specs.Changes.{write_of}
