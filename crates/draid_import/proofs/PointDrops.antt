@@ -148,6 +148,9 @@ module _ {R A : Type 0} (group : ℕ) (value : CheckTold) (shards : List (Shard 
   pub others_by : (mid : Uber A) (older : List Dropped) → ListsOlder shards newest value.drops value.group older → KeepsCheck group value (point_of mid) → AreOthers (map block_of (point_of mid).drops) older
   others_by mid older lists keeps = subst (λ ds. AreOthers ds older) (sym keeps.blocks) (record { apart = lists.apart; once = lists.once })
 
+pub empty_drops : (drops : List Dropped) (result : Bool) → result ≡ (length drops == 0) → result ≡ true → length drops ≡ 0
+empty_drops drops result is so = (let both : (length drops == 0) ≡ true = sym is ∙ so in grind (arith, nat_tests, both))
+
 -- where none is named the newest of all blocks is the newest beside them
 pub none_beside : {R A : Type 0} (shards : List (Shard R A)) (drops : List Dropped) (newest : ℕ → Option Pointer) (seq : ℕ) → AreFound shards newest seq → length drops ≡ 0 → AreNewestBeside shards drops newest
 none_beside shards drops newest seq f none = record {
