@@ -1,4 +1,4 @@
-use Rattle.std.proofs.Common.{arith, ◌≡◌, ◌∙◌, ◌+◌, ◌++◌, ap, inr, length, refl, subst, sym}
+use Rattle.std.proofs.Common.{◌∙◌, ◌+◌, ◌++◌, ap, inr, length, refl, subst, sym}
 use Rattle.std.specs.Prelude.{map, nat_eq}
 use Rattle.std.specs.HashMap.{get}
 use Rattle.draid_record.specs.Checks.{told_check}
