@@ -50,7 +50,7 @@ use Rattle.draid_uber.specs.Uber.{kept_of, layout_of, next_leaf_of, version_of, 
 use Rattle.draid_found.specs.Found.{AllLive, AreReady}
 use Rattle.draid_import.specs.Imported.{HasPointers, IsLastIn, Stays}
 use Rattle.draid_import.specs.Found.{AnyRecordsRose, AreFreed, AreReopened, CountsLater, FreesAt, FreesOlder, FreesIfOlder, HaveLowLeaves, IsFoundUber, IsReopened, LeavesUber, OpensOver, RecordsRose, SameButFlushed, StaysHeld}
-use Rattle.draid_pool.specs.Returning.{Returns, TakesBack}
+use Rattle.draid_pool.specs.Returning.{Returns}
 use Rattle.draid_uber.specs.Checks.{AreasTold}
 use Rattle.draid_pool.specs.Taking.{TakesFirst, TellsAreas, gives_areas, takes_areas}
 use Rattle.draid_pool.specs.Whole.{IsWhole, PointFits}

@@ -1,5 +1,5 @@
 -- Of the state that an import finds the older blocks are dropped that the checkpoint keeps.
-use Rattle.std.proofs.Common.{arith, ◌≡◌, ◌≢◌, ◌+◌, ◌<◌, ◌≤◌, ◌∙◌, ◌⊎◌, inl, inr, ℕ, Bool, true, false, List, [], ◌∷◌, Option, Some, None, length, refl, sym, ap, subst, ◌==◌, if◌then◌else◌}
+use Rattle.std.proofs.Common.{arith, ◌≡◌, ◌≢◌, ◌+◌, ◌<◌, ◌≤◌, ◌∙◌, ◌⊎◌, inl, inr, ℕ, true, false, List, [], ◌∷◌, Option, Some, None, length, refl, sym, ap, subst, ◌==◌, if◌then◌else◌}
 use Rattle.std.specs.Prelude.{◌↔◌, All, Contains, IsSome, option_map, slice_get}
 use Rattle.std.proofs.lemmas.Bool.{cases_eq}
 use Rattle.std.proofs.lemmas.Bool.Decides.{nat_tests}
@@ -9,7 +9,6 @@ use Rattle.sha2.specs.Sha256.{sha256}
 use Rattle.draid_names.specs.declared.pointer.Pointer.{Pointer}
 use Rattle.draid_rack.specs.declared.Rack as racks
 use Rattle.draid_area.specs.declared.Area as areas
-use Rattle.draid_checkpoint.specs.Check.{Point}
 use Rattle.draid_machine.specs.declared.names.Held.{Held}
 use Rattle.draid_machine.specs.declared.names.Key.{Key}
 use Rattle.draid_machine.specs.declared.names.Stage.TheVariants as stage
@@ -17,32 +16,29 @@ use Rattle.draid_machine.proofs.Small.{absurd_test, none_some, some_injective}
 use Rattle.draid_objects.specs.Blocks.{Blocks, SaysOf}
 use Rattle.draid_objects.specs.Changes as changes
 use Rattle.draid_objects.specs.Changes.{Write, write_by, write_of}
-use Rattle.draid_objects.specs.Marks.{Check, Dropped, GivenUp, Made, Mark, check_by, counted, drops_in, is_dropped, mark_group}
+use Rattle.draid_objects.specs.Marks.{Check, Dropped, GivenUp, Made, Mark, check_by, drops_in, is_dropped, mark_group}
 use Rattle.draid_objects.specs.Stores.{AreMarkedUpto, IsFloor, Stores}
-use Rattle.draid_objects.proofs.Checking.{count_kept, count_same, count_undropped}
+use Rattle.draid_objects.proofs.Checking.{count_kept, count_undropped}
 use Rattle.draid_objects.proofs.Sealing.{is_some_of, live_block, says_same}
 use Rattle.draid_objects.proofs.Sealing as sealing
 use Rattle.draid_record.specs.Checks.{CheckTold, IsCheck, most_drops}
 use Rattle.draid_record.specs.declared.checks.Dropped.{Dropped as Block}
 use Rattle.draid_segments.specs.Segments.{Pieces}
-use Rattle.draid_entries.specs.declared.entry.Entry.{Entry}
-use Rattle.draid_entries.specs.Entries.{entry_at}
 use Rattle.draid_entries.specs.Maps.{held_at, key_of, staged}
 use Rattle.draid_shard.specs.States.{IsIn}
 use Rattle.draid_shard.specs.declared.shard.Shard.{Shard}
 use Rattle.draid_uber.specs.Points.{point_group}
 use Rattle.draid_found.specs.Drops.{AreNewestBeside, HaveBorn, HaveNamed, key_in}
-use Rattle.draid_found.specs.Older.{HaveOlder, IsInTable, ListsOlder, block_in}
-use Rattle.draid_session.specs.Opening.{DropsOlder, IsOlder}
+use Rattle.draid_found.specs.Older.{HaveOlder, ListsOlder}
+use Rattle.draid_session.specs.Opening.{DropsOlder}
 use Rattle.draid_session.specs.Points.{IsPointOf, KeepsBirth}
-use Rattle.draid_session.specs.State.{Metaslab, State, Store}
+use Rattle.draid_session.specs.State.{Metaslab, State}
 use Rattle.draid_pool.specs.Objects.{HoldsObjects, blocks_of}
 use Rattle.draid_pool.specs.Ubers.{point_told}
 use Rattle.draid_pool.proofs.Lists.{some_of}
-use Rattle.draid_pool.proofs.Moved.{blocks_at}
 use Rattle.draid_import.specs.Imported.{IsNewestOf, SaysObjects, counted_of}
 use Rattle.draid_import.specs.Points.{AreOlder}
-use Rattle.draid_import.proofs.ImportDrops.{AreOnce, DropsThose, IsAmong, MayDrop, Tells, among, check_dropped, dropped_all, dropped_marks, placed_among, stored_dropped, told_check}
+use Rattle.draid_import.proofs.ImportDrops.{DropsThose, IsAmong, MayDrop, Tells, among, check_dropped, dropped_all, dropped_marks, placed_among, stored_dropped, told_check}
 use Rattle.draid_import.proofs.ImportFound.{held_there}
 use Rattle.draid_import.proofs.ImportNewest.{Found, block_entered, block_led, found, newest_of, not_true}
 

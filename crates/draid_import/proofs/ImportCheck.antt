@@ -28,7 +28,7 @@ use Rattle.draid_uber.specs.declared.uber.Uber.{Uber}
 use Rattle.draid_session.specs.State.{State, limit_of}
 use Rattle.draid_pool.specs.Taking.{TakesFirst}
 use Rattle.draid_pool.proofs.Takings.{rose_since}
-use Rattle.draid_import.specs.Checking.{HoldsCheck, IsBadCheck, IsCheckFault, KeepsUber, NamesLack, NoCheck, OwnCheck, check_fault_of, check_held}
+use Rattle.draid_import.specs.Checking.{HoldsCheck, IsBadCheck, IsCheckFault, KeepsUber, NoCheck, OwnCheck, check_fault_of, check_held}
 use Rattle.draid_import.specs.Points.{IsFoundBeside}
 use Rattle.draid_import.specs.Faulty.{TellsBody}
 use Rattle.draid_import.specs.Found.{AreReopened, HaveLowLeaves, IsFoundUber, IsRecovered, NoRecord, OpensAllOver}

@@ -1,13 +1,12 @@
 -- The marks of a pool as an import leaves them: those of the group that was found, and behind them the older blocks that it dropped.
-use Rattle.std.proofs.Common.{arith, ◌≡◌, ◌≢◌, ◌+◌, ◌<◌, ◌≤◌, ◌++◌, ◌∙◌, ◌⊎◌, inl, inr, ℕ, zero, suc, Bool, true, false, nat_le, nat_lt, List, [], ◌∷◌, Option, Some, None, refl, sym, ap, cond, subst, length, if◌then◌else◌}
-use Rattle.std.specs.Prelude.{⊤, ◌↔◌, ◌||◌, ◌&&◌, ◌==◌, All, Contains, filter, option_map, slice_get, get_or}
-use Rattle.std.proofs.lemmas.Bool.Decides.{nat_tests}
-use Rattle.std.proofs.lemmas.List.Elements.{All-cons, All-nil, All-weaker, Contains-append_right, filter_passes}
+use Rattle.std.proofs.Common.{arith, ◌≡◌, ◌≢◌, ◌<◌, ◌≤◌, ◌++◌, ◌⊎◌, inl, inr, ℕ, zero, suc, Bool, true, false, nat_le, List, [], ◌∷◌, Option, Some, None, refl, ap, subst, if◌then◌else◌}
+use Rattle.std.specs.Prelude.{⊤, ◌↔◌, ◌||◌, All, Contains, filter, option_map, slice_get}
+use Rattle.std.proofs.lemmas.List.Elements.{All-cons, All-weaker, Contains-append_right, filter_passes}
 use Rattle.draid_machine.specs.declared.names.Held.{Held}
 use Rattle.draid_machine.specs.declared.names.Key.{Key}
 use Rattle.draid_machine.specs.declared.names.Stage.TheVariants as stage
 use Rattle.draid_machine.specs.Names.{key_eq}
-use Rattle.draid_machine.proofs.Small.{absurd_test, bool_cases, is_low, key_refl, key_true, none_some, some_injective}
+use Rattle.draid_machine.proofs.Small.{is_low, key_refl, key_true, none_some, some_injective}
 use Rattle.draid_objects.specs.Blocks.{Blocks}
 use Rattle.draid_objects.specs.Changes.{Change, Write, key_of, write_of}
 use Rattle.draid_objects.specs.Marks.{Check, Dropped, GivenUp, Made, Mark, check_by, drops_in, mark_group, marks_upto}
@@ -15,7 +14,7 @@ use Rattle.draid_objects.specs.Stores.{AreMarkedUpto, IsFloor, Stores}
 use Rattle.draid_objects.proofs.Marking.{older_dropped}
 use Rattle.draid_record.specs.Checks.{CheckTold}
 use Rattle.draid_record.specs.declared.checks.Dropped.{Dropped as Block}
-use Rattle.draid_uber.specs.Points.{drops_with, insert_drop, is_before, no_check}
+use Rattle.draid_uber.specs.Points.{drops_with, insert_drop, is_before}
 use Rattle.draid_found.specs.Drops.{key_in}
 use Rattle.draid_pool.specs.Ubers.{point_told}
 

@@ -95,7 +95,7 @@ module _ {R A : Type 0} (rack : racks.Ghosts R) (area : areas.Ghosts A) (x : Sta
     group = body.group;
     mid = mid;
     finds = finds;
-    last = last_is;
+    last = record { one = last_is.one; all = last_is.all };
     seq_is = refl;
     knows = record {
       says = says_then rack area plain pieces shards as_many in_state says holds live body.group refl low_marks newest value told_is range have newest_in p.older p.are;

@@ -1,11 +1,10 @@
 -- What an import finds of blocks and of the check record, as the pool's uberblock keeps it.
-use Rattle.std.proofs.Common.{arith, ◌≡◌, ◌==◌, ◌+◌, ◌<◌, ◌≤◌, ◌++◌, ◌∙◌, ◌⊎◌, inl, inr, ℕ, Bool, true, false, List, [], ◌∷◌, Option, Some, None, Result, Ok, Err, length, refl, sym, ap, subst, if◌then◌else◌}
+use Rattle.std.proofs.Common.{arith, ◌≡◌, ◌==◌, ◌+◌, ◌≤◌, ◌++◌, ◌∙◌, inl, inr, ℕ, Bool, true, false, List, [], Option, Some, None, Result, Ok, Err, length, refl, sym, ap, subst, if◌then◌else◌}
 use Rattle.std.specs.Prelude.{All, Contains, IsErrOf, IsSome, OnOk, map}
 use Rattle.std.proofs.lemmas.Bool.Decides.{nat_tests}
 use Rattle.std.proofs.lemmas.List.{length-map}
 use Rattle.std.proofs.lemmas.List.Elements.{All-append, All-contains_itself, All-map, All-weaker}
 use Rattle.draid_area.specs.declared.Area as areas
-use Rattle.draid_checkpoint.specs.Check.{Point}
 use Rattle.draid_checkpoint.specs.declared.check.DroppedIn.{DroppedIn}
 use Rattle.draid_names.specs.declared.pointer.Pointer.{Pointer}
 use Rattle.draid_machine.specs.declared.names.Key.{Key}
@@ -18,9 +17,9 @@ use Rattle.draid_shelf.specs.Kits.{Held}
 use Rattle.draid_shard.specs.declared.shard.Shard.{Shard}
 use Rattle.draid_objects.specs.Marks.{Mark}
 use Rattle.draid_uber.specs.Checks.{told_by}
-use Rattle.draid_uber.specs.Points.{block_of, dropped_in, point_group}
+use Rattle.draid_uber.specs.Points.{block_of, dropped_in}
 use Rattle.draid_uber.specs.Slots.{group_of}
-use Rattle.draid_uber.specs.Uber.{Valid, areas_of, count_of, kept_of, layout_of, next_leaf_of, point_of, version_of}
+use Rattle.draid_uber.specs.Uber.{Valid, areas_of, kept_of, layout_of, next_leaf_of, point_of, version_of}
 use Rattle.draid_uber.specs.declared.uber.Uber.{Uber}
 use Rattle.draid_found.specs.Drops.{AreNewestBeside, HaveNamed, key_in}
 use Rattle.draid_found.specs.Older.{HaveOlder}
@@ -29,7 +28,7 @@ use Rattle.draid_pool.specs.Whole.{PointFits}
 use Rattle.draid_pool.proofs.Wholes.{fits_none}
 use Rattle.draid_import.specs.Checking.{HoldsCheck, KeepsUber}
 use Rattle.draid_import.specs.Imported.{IsLastIn}
-use Rattle.draid_import.specs.Points.{HasRoom, IsFoundBeside, KeepsPoint}
+use Rattle.draid_import.specs.Points.{HasRoom, KeepsPoint}
 use Rattle.draid_import.proofs.ImportBeside.{at_list, none_in, nothing}
 use Rattle.draid_import.proofs.PointDrops.{mapped}
 

@@ -230,7 +230,7 @@ module _ {R A : Type 0} (rack : racks.Ghosts R) (area : areas.Ghosts A) where
     older_by m shard p at live here gone = elim (cases_lt p.seq q.0.seq) [
       | inl less ↦
           let z = held_there mid.metaslabs q.0.metaslab (key_of q.0) (held_at (staged stage.Live q.0)) (newest_there p.object q.0 q.1) in
-          record { m = q.0.metaslab; y = z.0; later = key_of q.0; held = held_at (staged stage.Live q.0); there = z.1; found = z.2; same = own; greater = less; counts = newest_counts p.object q.0 q.1 }
+          record { m = q.0.metaslab; y = z.0; later = key_of q.0; held = held_at (staged stage.Live q.0); there = z.1; found = z.2; same = own_is; greater = less; counts = newest_counts p.object q.0 q.1 }
       | inr over ↦ absurd (gone (inl (q.1 ∙ ap Some (sym (equal over)))))
     ]
       where
@@ -240,14 +240,14 @@ module _ {R A : Type 0} (rack : racks.Ghosts R) (area : areas.Ghosts A) where
         q : (q : Pointer) × (newest p.object ≡ Some q) × (p.seq ≤ q.seq)
         q = n.greatest m (key_of p) (held_at (staged stage.Live p)) (count_kept (check_by mid.store.marks) (blocks_of mid.metaslabs) m (key_of p) (counts_by m shard p at live gone) ∙ there)
 
-        own : q.0.object ≡ p.object
-        own = n.own p.object q.0 q.1
+        own_is : q.0.object ≡ p.object
+        own_is = n.own p.object q.0 q.1
 
         equal : q.0.seq ≤ p.seq → p ≡ q.0
         equal over =
             let low = q.2 in
             let seq : p.seq ≡ q.0.seq = omega (arith, over, low) in
-            let key : key_of p ≡ key_of q.0 = (λ i. record { object = sym own i; seq = seq i }) in
+            let key : key_of p ≡ key_of q.0 = (λ i. record { object = sym own_is i; seq = seq i }) in
             let it = newest_there p.object q.0 q.1 in
             let metaslab : m ≡ q.0.metaslab = one_metaslab m q.0.metaslab (key_of p) (key_of q.0) (held_at (staged stage.Live p)) (held_at (staged stage.Live q.0)) key there it in
             same_pointer p q.0 key

@@ -11,7 +11,6 @@ use Rattle.draid_area.specs.declared.Area as areas
 use Rattle.draid_machine.specs.declared.event.Event.TheVariants as event
 use Rattle.draid_machine.specs.declared.names.Key.{Key}
 use Rattle.draid_machine.specs.declared.names.Stage.TheVariants as stage
-use Rattle.draid_machine.specs.State as machine
 use Rattle.draid_objects.specs.Blocks.{SaysOf, Sets}
 use Rattle.draid_objects.specs.Changes as changes
 use Rattle.draid_objects.specs.Changes.{Write, write_of}

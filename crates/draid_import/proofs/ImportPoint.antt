@@ -1,12 +1,11 @@
 -- What the uberblock of an import says of the checkpoint, once older blocks were dropped to it.
 use Rattle.std.proofs.Common.{arith, ◌≡◌, ◌==◌, ◌%◌, ◌+◌, ◌<◌, ◌≤◌, ◌++◌, ◌∙◌, ℕ, Bool, true, false, nat_le, List, [], ◌∷◌, Option, Some, None, refl, sym, ap, subst, if◌then◌else◌}
-use Rattle.std.specs.Prelude.{◌↔◌, All, Contains, filter, map}
+use Rattle.std.specs.Prelude.{◌↔◌, filter, map}
 use Rattle.std.proofs.lemmas.Bool.Decides.{nat_tests}
 use Rattle.std.proofs.lemmas.List.Elements.{All-contains, All-nil, All-weaker}
 use Rattle.draid_area.specs.Area.{OnTold}
 use Rattle.draid_checkpoint.specs.Check.{Point}
 use Rattle.draid_checkpoint.specs.declared.check.DroppedIn.{DroppedIn}
-use Rattle.draid_machine.proofs.Small.{is_low}
 use Rattle.draid_objects.specs.Marks.{Dropped, Mark, mark_group, marks_upto}
 use Rattle.draid_objects.specs.Stores.{AreMarkedUpto}
 use Rattle.draid_objects.proofs.Checking.{high, marks_again, marks_all}

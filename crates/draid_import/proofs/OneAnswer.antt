@@ -42,7 +42,7 @@ use Rattle.draid_found.specs.Drops.{AreNewestBeside}
 use Rattle.draid_record.specs.Checks.{CheckTold}
 use Rattle.draid_record.specs.declared.checks.Dropped.{Dropped}
 use Rattle.draid_import.specs.Checking.{HoldsCheck}
-use Rattle.draid_import.proofs.ImportCheck.{ok_value, one_told}
+use Rattle.draid_import.proofs.ImportCheck.{ok_value as check_value, one_told}
 use Rattle.draid_found.specs.Together.{AreApart, AreTogether, HasBlock, HasBlockTwice, HasEarlier, HasOtherArms, blocks_below, place_in}
 use Rattle.draid_shard.specs.Alike.{AreSameArms, HaveSameArms}
 use Rattle.draid_import.specs.Faulty.{AreReadApart, HoldsNoGroup, IsUnread, OneIsUnread, RecordIsBad, TellsBody}
@@ -466,7 +466,7 @@ module _ {R A : Type 0} (rack : racks.Ghosts R) (area : areas.Ghosts A) (x : Hel
 
         -- one check record
         one_check : f.read.blocks.value ≡ e.read.blocks.value
-        one_check = ok_value f.read.blocks.value e.read.blocks.value (one_told (group_of (kept_of f.uber)) x (Ok f.read.blocks.value) (Ok e.read.blocks.value) f.read.blocks.checked.read
+        one_check = check_value f.read.blocks.value e.read.blocks.value (one_told (group_of (kept_of f.uber)) x (Ok f.read.blocks.value) (Ok e.read.blocks.value) f.read.blocks.checked.read
             (subst (λ n. HoldsCheck n (Some x) (Ok e.read.blocks.value)) same.group e.read.blocks.checked.read))
 
         newest_also : AreNewestBeside e.shards f.read.blocks.value.drops e.newest

@@ -1,6 +1,6 @@
 -- Blocks are dropped to a checkpoint one after another, and what it keeps then.
-use Rattle.std.proofs.Common.{arith, ◌≡◌, ◌==◌, ◌+◌, ◌-◌, ◌^◌, ◌<◌, ◌≤◌, ◌++◌, ◌∙◌, ◌⊎◌, inl, inr, ℕ, zero, suc, Bool, true, false, nat_le, List, [], ◌∷◌, Option, Some, None, get_or, refl, sym, ap, subst, length, min, take, if◌then◌else◌}
-use Rattle.std.specs.Prelude.{All, Contains, IfSome, map, slice_get}
+use Rattle.std.proofs.Common.{arith, ◌≡◌, ◌==◌, ◌+◌, ◌-◌, ◌^◌, ◌<◌, ◌≤◌, ◌++◌, ◌∙◌, inl, inr, ℕ, Bool, true, List, [], ◌∷◌, Option, Some, None, get_or, refl, sym, ap, subst, length, min, take, if◌then◌else◌}
+use Rattle.std.specs.Prelude.{All, Contains, map, slice_get}
 use Rattle.std.proofs.lemmas.Bool.Decides.{nat_tests}
 use Rattle.std.proofs.lemmas.List.{append-nil, get_or-map, get_or-take, length-map, length-take, take_more}
 use Rattle.std.proofs.lemmas.List.Elements.{All-append, All-contains_itself, All-map, All-weaker}
@@ -98,6 +98,25 @@ room_left newest old new named older objects list group names many had dropped r
     sums [] ys = omega arith
     sums (x ∷ xs) ys = (let rest = sums xs ys in omega (arith, rest))
 
+-- numbers of a call: those that are named, the older blocks and the objects
+pub enough_room : (view items older objects more spare : ℕ) → view ≡ items → older ≡ items → more ≡ older + objects → more ≤ spare → view ≤ spare
+enough_room view items older objects more spare same many sum room = omega (arith, same, many, sum, room)
+
+pub few_named : (told drops named view items older objects more : ℕ) → told ≡ drops → named ≡ drops → view ≡ items → older ≡ items → more ≡ older + objects → named + more ≤ 524_288 → told + view ≤ 524_288
+few_named told drops named view items older objects more same all seen many sum few = omega (arith, same, all, seen, many, sum, few)
+
+pub all_room : (items older objects more spare : ℕ) → older ≡ items → more ≡ older + objects → more ≤ spare → items + objects ≤ spare
+all_room items older objects more spare many sum room = omega (arith, many, sum, room)
+
+pub all_few : (drops named items older objects more : ℕ) → named ≡ drops → older ≡ items → more ≡ older + objects → named + more ≤ 524_288 → drops + (items + objects) ≤ 524_288
+all_few drops named items older objects more all many sum few = omega (arith, all, many, sum, few)
+
+pub room_seen : (old new view items : ℕ) → view ≡ items → old ≤ new + view → old ≤ new + items
+room_seen old new view items seen left = omega (arith, seen, left)
+
+pub not_none : (group : ℕ) → (group ≡ 0 → ⊥) → 0 < group
+not_none group some = omega (arith, some)
+
 -- ---- an import's uberblock
 
 module _ {R A : Type 0} (group : ℕ) (value : CheckTold) (shards : List (Shard R A)) (newest : ℕ → Option Pointer) (was : ℕ) where
@@ -129,9 +148,16 @@ module _ {R A : Type 0} (group : ℕ) (value : CheckTold) (shards : List (Shard 
   pub others_by : (mid : Uber A) (older : List Dropped) → ListsOlder shards newest value.drops value.group older → KeepsCheck group value (point_of mid) → AreOthers (map block_of (point_of mid).drops) older
   others_by mid older lists keeps = subst (λ ds. AreOthers ds older) (sym keeps.blocks) (record { apart = lists.apart; once = lists.once })
 
+pub empty_drops : (drops : List Dropped) (result : Bool) → result ≡ (length drops == 0) → result ≡ true → length drops ≡ 0
+empty_drops drops result is so = (let both : (length drops == 0) ≡ true = sym is ∙ so in grind (arith, nat_tests, both))
+
 -- where none is named the newest of all blocks is the newest beside them
 pub none_beside : {R A : Type 0} (shards : List (Shard R A)) (drops : List Dropped) (newest : ℕ → Option Pointer) (seq : ℕ) → AreFound shards newest seq → length drops ≡ 0 → AreNewestBeside shards drops newest
 none_beside shards drops newest seq f none = record {
   pointers = λ object p at. (f.pointers object p at, λ has. (let low = has.1 in omega (arith, low, none)));
   known = λ m shard first e there found out. f.known m shard first e there found;
 }
+
+-- the blocks of a vector
+pub lists_view : {R A : Type 0} {shards : List (Shard R A)} {newest : ℕ → Option Pointer} {view drops : List Dropped} {upto : ℕ} {older : List Dropped} → view ≡ drops → ListsOlder shards newest view upto older → ListsOlder shards newest drops upto older
+lists_view {shards = shards} {newest = newest} {upto = upto} {older = older} same = subst (λ ds. ListsOlder shards newest ds upto older) same

@@ -24,7 +24,6 @@ use Rattle.draid_stable.specs.Stable as stable
 use Rattle.draid_entries.specs.declared.entry.Entry.{Entry}
 use Rattle.draid_entries.specs.Entries.{entry_at}
 use Rattle.draid_entries.specs.Maps.{held_at, key_of, staged}
-use Rattle.draid_shard.specs.Looks.{IsLive}
 use Rattle.draid_pool.specs.Groups.{ListsOnce}
 use Rattle.draid_shard.specs.declared.shard.Shard.{Shard}
 use Rattle.draid_uber.specs.Uber.{point_of}

@@ -1,3 +1,4 @@
+use Rattle.std.proofs.Common.{false}
 use Rattle.draid_session.specs.Points.{HasLateMark}
 use Rattle.draid_export.specs.Exporting.{HasUnsynced}
 use Rattle.draid_export.proofs.Exports.{late_of, neither_of, one_of}

@@ -31,7 +31,7 @@ returns g c =
             c.in-Ok._group,
             e.sets,
             frees g.R.Rack g.A.Area c.args.shard.now c.free.new.shard c.args.pointer.now c.args.floor c.in-Ok._group e.valid e.kit e.reserve e.event.0 e.event.1
-                (let low = c.requires.valid.low in let floor = c.requires.floor in let last = c.requires.last in let is = e.event.0 in omega (arith, low, floor, last, is)),
+                (let low = c.requires.valid.low in let floor = c.requires.floor in let last = c.requires.last in let is = e.event.0 in omega (arith, low, floor, last, is)) c.requires.live,
           ),
         );
       };

@@ -1,3 +1,4 @@
+use Rattle.std.proofs.Common.{arith}
 use Rattle.draid_import.proofs.PointDrops.{few_sum}
 use Rattle.draid_import.proofs.pointing.most_kept.Goals as goal
 
