@@ -76,10 +76,12 @@ point_stands area uber x blocks pieces is holds groups = by (point_of uber).grou
     some None own positive same = absurd (omega (arith, positive, same))
     some (Some check) own positive same = (check, refl, sym same)
 
+    told_if : (b : Bool) (told : CheckTold) → b ≡ true → (if b then told else no_check) ≡ told
+    told_if true told is = refl
+    told_if false told is = absurd (cc is)
+
     told_group : (own group : ℕ) → own ≤ group → (told_of group (Some own) (point_of uber).drops).group ≡ own
-    told_group own group low =
-        let so : nat_le own group ≡ true = grind (arith, nat_tests, low) in
-        ap (λ b. (if b then record { group = own; drops = drops_with [] (drops_upto group (point_of uber).drops) } else no_check).group) so
+    told_group own group low = ap (λ (c : CheckTold). c.group) (told_if (nat_le own group) (record { group = own; drops = drops_with [] (drops_upto group (point_of uber).drops) }) (grind (arith, nat_tests, low)))
 
     by : (o : Option ℕ) → (point_of uber).group ≡ o → IsPointOf x.store.marks o
     by None at = none (check_by x.store.marks) (sym (ap (λ g. (told_of upto g (point_of uber).drops).group) at) ∙ behind upto (omega arith)) (positive_check x.store.marks holds.positive)
