@@ -6,6 +6,9 @@ pub mod Column
 pub mod ColumnSteps
 pub mod DamageSteps
 pub mod Damages
+pub mod DropHold
+pub mod DropWhole
+pub mod Dropped
 pub mod Ended
 pub mod Ending
 pub mod Feeding
@@ -41,6 +44,7 @@ pub mod Unlooked
 pub mod WholeBlock
 pub mod WholeMissed
 pub mod WholeWrite
+pub mod WriteDrops
 pub mod WriteRounds
 pub mod WriteWhole
 pub mod Written

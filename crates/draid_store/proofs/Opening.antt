@@ -116,8 +116,8 @@ module _ {R A S : Type 0} (rack : racks.Ghosts R) (area : areas.Ghosts A) (went 
     begun_known : KnowsBut rack area owns mine mine new table seq floor (turn m z.now knows.pieces) (with_metaslab x m d.reached)
     begun_known =
         unseen_step rack area went shared owns a b last new m shard before after there drifts valid is goes mine mine table seq floor knows.pieces x known ticket.pointer (Some (begun ticket.pointer)) begin.opens.enters begin.does.part
-            not_live (but_here (all_of owns) m (key_of ticket.pointer)) (but_here (all_of owns) m (key_of ticket.pointer))
-            (λ k seen. but_inside (all_of owns) m (key_of ticket.pointer) m k seen) (λ k seen. but_inside (all_of owns) m (key_of ticket.pointer) m k seen) d.reached z.now d.is (λ k other. refl)
+        not_live (but_here (all_of owns) m (key_of ticket.pointer)) (but_here (all_of owns) m (key_of ticket.pointer))
+        (λ k seen. but_inside (all_of owns) m (key_of ticket.pointer) m k seen) (λ k seen. but_inside (all_of owns) m (key_of ticket.pointer) m k seen) d.reached z.now d.is (λ k other. refl)
 
     begun_behind : (c : ℕ) → Bounds (with_metaslab x m d.reached) c → IsBehindChecks c (own_store owns x.store).marks ticket.pointer.birth
     begun_behind c b =

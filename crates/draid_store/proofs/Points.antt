@@ -1,5 +1,5 @@
 -- What a group says of a thread's checkpoint: which blocks that keeps.
-use Rattle.std.proofs.Common.{◌≡◌, ◌≤◌, ◌∙◌, ℕ, true, false, List, Option, Some, None, arith, ap, nat_le}
+use Rattle.std.proofs.Common.{◌≡◌, ◌≤◌, ◌∙◌, ℕ, true, false, List, Option, Some, None, arith, ap}
 use Rattle.std.proofs.lemmas.Bool.Decides.{nat_tests}
 use Rattle.draid_checkpoint.specs.Check.{holds_birth}
 use Rattle.draid_machine.proofs.Small.{none_some}

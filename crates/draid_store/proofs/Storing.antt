@@ -1,5 +1,5 @@
 -- A block of an object is stored, of its parts as calls say them.
-use Rattle.std.proofs.Common.{◌≡◌, ◌+◌, ◌∙◌, ◌≤◌, ℕ, Bool, true, Option, Some, None, Result, Ok, Err, arith, refl, sym, ap, subst, cond}
+use Rattle.std.proofs.Common.{◌≡◌, ◌+◌, ◌∙◌, ℕ, Bool, true, Option, Some, None, Result, Ok, Err, arith, refl, sym, ap, subst, cond}
 use Rattle.std.specs.Prelude.{nat_eq}
 use Rattle.draid_names.specs.declared.pointer.Pointer.{Pointer}
 use Rattle.draid_names.specs.declared.refusal.WriteFault.TheVariants as fault
@@ -115,7 +115,7 @@ module _ {R A : Type 0} (rack : racks.Ghosts R) (owns : ℕ → Bool) (now : ℕ
 
 -- ---- the new pointer
 
-module _ {R A E : Type 0} (last : ℕ → Option (Shard R A)) (object seq : ℕ) (table now : ℕ → Option Pointer) where
+module _ {R A : Type 0} (E : Type 0) (last : ℕ → Option (Shard R A)) (object seq : ℕ) (table now : ℕ → Option Pointer) where
   pub stores_new : (earlier : Option Pointer) (pointer : Pointer) → earlier ≡ table object → now object ≡ Some pointer → IsNewPointer last seq pointer → StoresNew {E = E} last object seq table now (Some (Ok earlier))
   stores_new None pointer had at new = (pointer, at, new)
   stores_new (Some e) pointer had at new = (pointer, at, new, sym had)

@@ -1,5 +1,5 @@
 -- What becomes of a write as the earlier block of its object is freed behind it, or there was none.
-use Rattle.std.proofs.Common.{◌≡◌, ◌+◌, ◌++◌, ◌∙◌, ℕ, Bool, true, false, List, [], Option, Some, None, Result, Ok, Err, refl, sym, ap, subst, inl}
+use Rattle.std.proofs.Common.{◌≡◌, ◌+◌, ◌∙◌, ℕ, Bool, false, List, [], Option, Some, None, Result, Ok, Err, refl, sym, ap, subst, inl}
 use Rattle.std.proofs.lemmas.Bool.{true≢false}
 use Rattle.std.proofs.lemmas.List.{append-nil}
 use Rattle.draid_names.specs.declared.pointer.Pointer.{Pointer}
@@ -48,19 +48,22 @@ module _ {R A S : Type 0} (rack : racks.Ghosts R) (area : areas.Ghosts A) (went 
         reached = s.reached;
         store = s.store;
         follows = s.follows;
-        done = (record {
-          birth = birth;
-          columns = s.done.columns;
-          group = birth;
-          front = s.holds;
-          back = [];
-          are = sym (append-nil s.holds);
-          writes = s.done.writes;
-          few = s.done.few;
-          marks = x.store.marks;
-          leaves = subst (λ w. LeavesEarlier x.store.marks w birth birth [] x.store.marks) (sym s.knows.0) (refl, refl, refl);
-          made = s.done.made;
-        }, ap (λ (t : Store). t.marks) s.done.made);
+        done = (
+          record {
+            birth = birth;
+            columns = s.done.columns;
+            group = birth;
+            front = s.holds;
+            back = [];
+            are = sym (append-nil s.holds);
+            writes = s.done.writes;
+            few = s.done.few;
+            marks = x.store.marks;
+            leaves = subst (λ w. LeavesEarlier x.store.marks w birth birth [] x.store.marks) (sym s.knows.0) (refl, refl, refl);
+            made = s.done.made;
+          },
+          ap (λ (t : Store). t.marks) s.done.made,
+        );
         knows = s.knows.1;
       }
 
@@ -87,20 +90,23 @@ module _ {R A S : Type 0} (rack : racks.Ghosts R) (area : areas.Ghosts A) (went 
     earlier_freed group out_is x columns_are is knows =
         leads_as rack area went shared s0 s4 x (Both rack area went shared s0 s3 s4 x (StoresIn x m object birth block.bytes) (KnowsReplaced rack area o3 l3 then_table then_seq birth (Some e) (write_of x.store.changes object)) (FreesDoes (write_of x.store.changes object) x.store group) (Knows rack area o4 l4 then_table then_seq group))
         (λ holds store. WriteInDoes x m object block.bytes (Ok tt) holds store × (store.marks ≡ x.store.marks)) (Knows rack area o4 l4 then_table then_seq group)
-        (λ holds store d. (record {
-          birth = birth;
-          columns = d.first.columns;
-          group = group;
-          front = d.front;
-          back = d.back;
-          are = d.are;
-          writes = d.first.writes;
-          few = d.first.few;
-          marks = x.store.marks;
-          leaves = subst (λ w. LeavesEarlier x.store.marks w birth group d.back x.store.marks) (sym d.second.before_is)
-              (inl (d.second.isnt, d.second.frees_it, refl));
-          made = d.second.made;
-        }, ap (λ (t : Store). t.marks) d.second.made))
+        (λ holds store d. (
+          record {
+            birth = birth;
+            columns = d.first.columns;
+            group = group;
+            front = d.front;
+            back = d.back;
+            are = d.are;
+            writes = d.first.writes;
+            few = d.first.few;
+            marks = x.store.marks;
+            leaves = subst (λ w. LeavesEarlier x.store.marks w birth group d.back x.store.marks) (sym d.second.before_is)
+                (inl (d.second.isnt, d.second.frees_it, refl));
+            made = d.second.made;
+          },
+          ap (λ (t : Store). t.marks) d.second.made,
+        ))
         (leads_then rack area went shared s0 s3 s4 x (StoresIn x m object birth block.bytes) (KnowsReplaced rack area o3 l3 then_table then_seq birth (Some e) (write_of x.store.changes object)) (FreesDoes (write_of x.store.changes object) x.store group) (Knows rack area o4 l4 then_table then_seq group)
         (stored x columns_are knows)
         (λ y layout perms front done k.

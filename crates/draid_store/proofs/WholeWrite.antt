@@ -1,23 +1,21 @@
 -- A whole write by one thread, of its parts.
-use Rattle.std.proofs.Common.{◌≡◌, ◌≤◌, ◌+◌, ◌++◌, ◌∙◌, ℕ, Bool, List, [], ◌∷◌, Option, Some, None, Ok, refl, sym, ap, subst, inl}
+use Rattle.std.proofs.Common.{◌≡◌, ◌≤◌, ◌+◌, ◌++◌, ◌∙◌, ℕ, Bool, List, [], ◌∷◌, Option, Some, refl, sym, ap, subst}
 use Rattle.draid_names.specs.declared.pointer.Pointer.{Pointer}
 use Rattle.draid_spec.specs.declared.layout.Geometry.{Geometry}
 use Rattle.draid_rack.specs.declared.Rack as racks
 use Rattle.draid_area.specs.declared.Area as areas
 use Rattle.draid_block.specs.Blocks.{BlockValue}
 use Rattle.draid_machine.specs.declared.event.Event.TheVariants as event
-use Rattle.draid_objects.specs.Changes.{Write, Wrote, write_of}
+use Rattle.draid_objects.specs.Changes.{write_of}
 use Rattle.draid_entries.specs.Maps.{key_of}
 use Rattle.draid_blocks.specs.declared.ticket.Ticket.{Ticket}
 use Rattle.draid_session.specs.Holds.{Did, Hold, On}
 use Rattle.draid_session.specs.State.{State, Store}
-use Rattle.draid_session.specs.Writes.{LeavesEarlier, PutsColumns, WritesBlock}
-use Rattle.draid_session.specs.Writes as written
-use Rattle.draid_store.specs.Answers.{WriteInDoes}
+use Rattle.draid_session.specs.Writes.{PutsColumns, WritesBlock}
 use Rattle.draid_store.specs.Storing.{StoresIn, store_with}
 use Rattle.draid_store.specs.Putting.{PutsBy, PutsSome}
-use Rattle.draid_pool.specs.Threads.{Knows, LeadsBy}
-use Rattle.draid_store.specs.Open.{KnowsEarlier, KnowsOpen, KnowsReplaced}
+use Rattle.draid_pool.specs.Threads.{LeadsBy}
+use Rattle.draid_store.specs.Open.{KnowsOpen, KnowsReplaced}
 use Rattle.draid_store.specs.Writing.{BeginsIn, EndsIn}
 use Rattle.draid_shard.specs.declared.shard.Shard.{Shard}
 use Rattle.draid_pool.proofs.Joining.{Both, leads_then}

@@ -1,5 +1,5 @@
 -- A write in the metaslab that was named, behind a look at each.
-use Rattle.std.proofs.Common.{◌≡◌, ◌≤◌, ◌<◌, ◌+◌, ◌++◌, ◌∙◌, ℕ, Bool, false, List, ◌∷◌, Option, Some, None, Result, Ok, Err, arith, refl, sym, ap, subst, length}
+use Rattle.std.proofs.Common.{◌≡◌, ◌≤◌, ◌<◌, ◌+◌, ◌++◌, ◌∙◌, ℕ, Bool, false, List, [], ◌∷◌, Option, Some, None, Result, Ok, Err, arith, refl, sym, ap, subst, length}
 use Rattle.std.proofs.lemmas.List.{append_assoc}
 use Rattle.std.specs.List.{AllZip}
 use Rattle.std.specs.Prelude.{slice_get}
@@ -184,21 +184,23 @@ module _ {R A S : Type 0} (rack : racks.Ghosts R) (area : areas.Ghosts A) (went 
       → LeadsBy rack area went shared a c x (λ holds store. WriteDoes x chosen object block.bytes (Ok tt) holds store × (store.marks ≡ x.store.marks)) Then
   whole_write says = leads_as rack area went shared a c x (Both rack area went shared a b c x Looked (Known mid) WroteBy Then) (λ holds store. WriteDoes x chosen object block.bytes (Ok tt) holds store × (store.marks ≡ x.store.marks)) Then
       (λ holds store d.
-      let w = d.second.0 in
-      (record {
-        m = m;
-        birth = w.birth;
-        columns = w.columns;
-        group = w.group;
-        tried = d.front ++ w.front;
-        freed = w.back;
-        are = d.are ∙ (ap (λ hs. d.front ++ hs) w.are ∙ sym (append_assoc d.front w.front w.back));
-        tries = record { looks = d.front; written = w.front; are = refl; chooses = chooses x geometry layout block.bytes need need_is rooms chosen m d.front named d.first.1; numbered = low; writes = w.writes };
-        few = w.few;
-        marks = w.marks;
-        leaves = w.leaves;
-        made = w.made;
-      }, d.second.1))
+      let w = d.second.0 in (
+        record {
+          m = m;
+          birth = w.birth;
+          columns = w.columns;
+          group = w.group;
+          tried = d.front ++ w.front;
+          freed = w.back;
+          are = d.are ∙ (ap (λ hs. d.front ++ hs) w.are ∙ sym (append_assoc d.front w.front w.back));
+          tries = record { looks = d.front; written = w.front; are = refl; chooses = chooses x geometry layout block.bytes need need_is rooms chosen m d.front named d.first.1; numbered = low; writes = w.writes };
+          few = w.few;
+          marks = w.marks;
+          leaves = w.leaves;
+          made = w.made;
+        },
+        d.second.1,
+      ))
       (leads_then rack area went shared a b c x Looked (Known mid) WroteBy Then looked
       (λ y geometry_is perms front done known. leads_as rack area went shared b c y (λ holds store. WriteInDoes y m object block.bytes (Ok tt) holds store × (store.marks ≡ y.store.marks)) WroteBy Then
       (λ holds store w. (wrote_in x y m object block.bytes holds store (same_as y front geometry_is perms done) w.0, w.1 ∙ ap (λ (t : Store). t.marks) done.0))

@@ -1,5 +1,5 @@
 -- What the blocks store as a block comes, or as a write is given up.
-use Rattle.std.proofs.Common.{◌≡◌, ◌==◌, ◌≤◌, ◌+◌, ◌⊎◌, ◌∙◌, inl, inr, ℕ, Bool, true, false, [], ◌∷◌, Option, Some, arith, refl, sym, ap, subst}
+use Rattle.std.proofs.Common.{◌≡◌, ◌==◌, ◌≤◌, ◌+◌, ◌⊎◌, ◌∙◌, inl, inr, ℕ, Bool, true, false, ◌∷◌, Option, Some, arith, refl, sym, ap, subst}
 use Rattle.std.proofs.lemmas.Bool.{cases_eq}
 use Rattle.sha2.specs.Sha256.{sha256}
 use Rattle.draid_spec.specs.declared.layout.Geometry.{Geometry}
@@ -25,7 +25,6 @@ use Rattle.draid_objects.specs.Stores.{IsBehindChecks}
 use Rattle.std.proofs.lemmas.Bool.Decides.{nat_tests}
 use Rattle.draid_pool.proofs.Moved.{turn, turn_here, turn_other}
 use Rattle.draid_pool.proofs.Owning.{pieces_on}
-use Rattle.draid_pool.proofs.Unmarked.{all_behind}
 
 differs : (object o : ℕ) → (o == object) ≡ false → (object == o) ≡ false
 differs object o other = grind (arith, nat_tests, other)

@@ -1,5 +1,5 @@
 -- A block of an object is stored: a begin, its columns and its end.
-use Rattle.std.specs.Prelude.{◌≡◌, ◌+◌, ◌≤◌, ◌∷◌, ◌++◌, ◌==◌, ⊤, ℕ, Bool, List, Option, Some, None, Result, Ok, Err, if◌then◌else◌, true}
+use Rattle.std.specs.Prelude.{◌≡◌, ◌+◌, ◌≤◌, ◌∷◌, ◌++◌, ◌==◌, ⊤, ℕ, Bool, List, [], Option, Some, None, Result, Ok, Err, if◌then◌else◌, true}
 use Rattle.draid_names.specs.declared.pointer.Pointer.{Pointer}
 use Rattle.draid_names.specs.declared.refusal.WriteFault.{WriteFault}
 use Rattle.draid_names.specs.declared.refusal.WriteFault.TheVariants as fault

@@ -34,8 +34,8 @@ use draid_rack::Rack;
 use draid_spec::Geometry;
 use std::alloc::Global;
 
-/// Writes 1 to 131,072 bytes to an object below 2^32, in the metaslab that the chooser names. After any refusal the
-/// object has its earlier bytes.
+/// Writes 1 to 131,072 bytes to an object below 2^32, in the metaslab that the chooser names. The block that it had is
+/// freed then, or dropped to the checkpoint where that keeps it. After any refusal the object has its earlier bytes.
 pub fn write<R: Rack, A: Area, F: Fn(&[Room]) -> Option<u32>>(
     pool: &mut Pool<R, A>,
     chooser: &Chooser<F>,
@@ -115,7 +115,9 @@ pub fn write_object<R: Rack, A: Area, M: Metaslabs<R, A>, F: Fn(&[Room]) -> Opti
     let Ok(block) = Encoded::of(alloc, geometry, bytes) else {
         return Some(Err(WriteFault::NoMemory));
     };
-    write_encoded(alloc, metaslabs, own, geometry, point, chooser, object, &block)
+    write_encoded(
+        alloc, metaslabs, own, geometry, point, chooser, object, &block,
+    )
 }
 
 /// The same of a block that is encoded.

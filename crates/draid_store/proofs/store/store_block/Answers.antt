@@ -1,9 +1,10 @@
-use Rattle.std.proofs.Common.{◌≡◌, ◌≤◌, ◌+◌, ◌∙◌, Some, Err, ap, arith, refl, sym, subst}
+use Rattle.std.proofs.Common.{◌≡◌, ◌∙◌, Some, Err, ap, arith, refl, sym, subst}
 use Rattle.std.specs.Prelude.{nat_eq}
 use Rattle.std.specs.HashMap.{get}
 use Rattle.draid_block.specs.Blocks.{IsContent}
 use Rattle.draid_names.specs.declared.pointer.Pointer.{Pointer}
 use Rattle.draid_pool.proofs.Wholes.{put_here}
+use Rattle.draid_store.specs.declared.fault.StoreFault.{StoreFault}
 use Rattle.draid_store.specs.Storing.{IsNewPointer}
 use Rattle.draid_store.proofs.Pointed.{content_fits}
 use Rattle.draid_store.proofs.StoreWhole.{comes_back, may_start, missed_whole, stored_whole}
@@ -83,7 +84,7 @@ returns-in-Ok-insert g c =
           c.put_all-ticket.ensures.pointer (λ o. get nat_eq c.args.own.now.objects o) c.args.own.now.seq c.args.own.now.floor starts.object_is starts.seq_is starts.at c.requires.whole
           (begun_whole g.R.Rack (g.M.Metaslabs.owns c.args.metaslabs.now) (g.M.Metaslabs.last c.begin_write.new.metaslabs) (λ o. get nat_eq c.args.own.now.objects o) c.args.own.now.seq c.args.own.now.floor c.args.metaslab c.begin_write.result c.in-Some-Ok.ticket (c.in-Some-Ok.is ∙ ap Some c.in-Some-Ok.field-0-is) (c.begin_write.ensures.whole (λ o. get nat_eq c.args.own.now.objects o) c.requires.whole))
           c.put_all-ticket.ensures.whole c.end_write-result.result c.end_write-result.ensures.whole pointer c.in-Ok.is named (λ o. get nat_eq c.insert.new.self o) (λ q. c.in-Ok-insert.ensures.updates.0 q) p (sym c.in-Ok-insert.ensures.old ∙ same_earlier c.in-Ok-insert.earlier p is);
-      new = stores_new (g.M.Metaslabs.last c.args.metaslabs.now) c.args.object c.args.own.now.seq (λ o. get nat_eq c.args.own.now.objects o) (λ o. get nat_eq c.insert.new.self o) c.in-Ok-insert.earlier pointer c.in-Ok-insert.ensures.old
+      new = stores_new StoreFault (g.M.Metaslabs.last c.args.metaslabs.now) c.args.object c.args.own.now.seq (λ o. get nat_eq c.args.own.now.objects o) (λ o. get nat_eq c.insert.new.self o) c.in-Ok-insert.earlier pointer c.in-Ok-insert.ensures.old
           (put_here (get nat_eq c.insert.new.self c.args.object) (get nat_eq c.args.own.now.objects c.args.object) c.args.object c.args.object (Some pointer) (c.in-Ok-insert.ensures.updates.0 c.args.object) refl)
           (subst (IsNewPointer (g.M.Metaslabs.last c.args.metaslabs.now) c.args.own.now.seq) (sym (named ∙ c.put_all-ticket.ensures.pointer)) (record {
             seq_is = starts.seq_is;

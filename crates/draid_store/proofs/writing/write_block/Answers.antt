@@ -7,6 +7,7 @@ use Rattle.draid_pool.specs.Threads.{AllStay, HasPointer, IsWholeBy}
 use Rattle.draid_store.specs.Freeing.{EarlierWhole}
 use Rattle.draid_store.specs.Storing.{ComesBack, StoreRefusedBy, StoreSays, StoreSetsTable, StoresNew}
 use Rattle.draid_pool.proofs.HeldBy.{stay_then}
+use Rattle.draid_store.specs.declared.fault.StoreFault.{StoreFault}
 use Rattle.draid_store.proofs.Storing.{new_alone}
 use Rattle.draid_store.proofs.WholeBlock.{answered, earlier_awaits, earlier_freed, earlier_kept, same_err, same_first, same_none}
 use Rattle.draid_store.proofs.writing.write_block.Goals as goal
@@ -157,7 +158,7 @@ returns g c =
       whole = subst (λ o. IsWholeBy g.R.Rack o (g.M.Metaslabs.last c.free_earlier.new.metaslabs) (λ o. get nat_eq c.store_block.new.own.objects o) c.store_block.new.own.seq c.in-Some.group) e.owns
           (subst (EarlierWhole g.R.Rack (g.M.Metaslabs.owns c.store_block.new.metaslabs) (g.M.Metaslabs.last c.free_earlier.new.metaslabs) (λ o. get nat_eq c.store_block.new.own.objects o) c.store_block.new.own.seq c.store_block.new.own.floor) c.in-Some.is (f.whole (λ o. get nat_eq c.store_block.new.own.objects o) c.store_block.new.own.seq whole back.apart));
       earlier = λ q is. absurd (cc);
-      new = new_alone (g.M.Metaslabs.last c.args.metaslabs.now) c.args.object c.args.own.now.seq (λ o. get nat_eq c.args.own.now.objects o) (λ o. get nat_eq c.store_block.new.own.objects o) p (subst (StoresNew (g.M.Metaslabs.last c.args.metaslabs.now) c.args.object c.args.own.now.seq (λ o. get nat_eq c.args.own.now.objects o) (λ o. get nat_eq c.store_block.new.own.objects o)) some e.new);
+      new = new_alone StoreFault (g.M.Metaslabs.last c.args.metaslabs.now) c.args.object c.args.own.now.seq (λ o. get nat_eq c.args.own.now.objects o) (λ o. get nat_eq c.store_block.new.own.objects o) p (subst (StoresNew (g.M.Metaslabs.last c.args.metaslabs.now) c.args.object c.args.own.now.seq (λ o. get nat_eq c.args.own.now.objects o) (λ o. get nat_eq c.store_block.new.own.objects o)) some e.new);
       later = e.later;
       says = earlier_freed g.R.Rack g.A.Area g.M.Metaslabs.went g.M.Metaslabs.shared (g.M.Metaslabs.owns c.args.metaslabs.now) (g.M.Metaslabs.owns c.store_block.new.metaslabs) (g.M.Metaslabs.last c.args.metaslabs.now) (g.M.Metaslabs.last c.store_block.new.metaslabs) c.args.metaslabs.now c.store_block.new.metaslabs c.args.metaslab c.args.columns c.args.point c.args.object
           (λ o. get nat_eq c.args.own.now.objects o) (λ o. get nat_eq c.store_block.new.own.objects o) c.args.own.now.seq c.args.own.now.floor c.store_block.new.own.seq c.store_block.new.own.floor c.args.block.now
