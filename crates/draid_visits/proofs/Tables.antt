@@ -98,7 +98,6 @@ groups_then a b c one two = record {
   closing = two.closing ∙ one.closing;
   sealed = two.sealed ∙ one.sealed;
   committed = two.committed ∙ one.committed;
-  opens = (let first = one.opens in let second = two.opens in omega (arith, first, second));
 }
 
 groups_loan : {R A : Type 0} (shard : Shard R A) (kept : Option KeptLoan) → SameGroups shard (record shard { kept = kept })
