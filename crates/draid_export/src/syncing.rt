@@ -1,5 +1,5 @@
 //! What an export makes safe before the pool is given back.
-ghost use Rattle.std.specs.Prelude.{◌≡◌, ◌≤◌, ◌↔◌, false, IfOk, IsErrOf, IsTrue, OnOk};
+ghost use Rattle.std.specs.Prelude.{◌≡◌, ◌≤◌, ◌↔◌, IfOk, IsErrOf, IsTrue, OnOk};
 ghost use Rattle.draid_session.specs.State.{State};
 ghost use Rattle.draid_pool.specs.Carries.{CarriesOut};
 ghost use Rattle.draid_pool.specs.Failing.{AreaRose, AreasLater, RacksLater};
@@ -45,9 +45,11 @@ pub fn sync_for_export<R: Rack, A: Area>(pool: &mut Pool<R, A>) -> Result<u64, S
 /// group.
 fn is_safe<R: Rack, A: Area>(pool: &Pool<R, A>) -> bool
     ensures safe { (x : State) → Represents R.Rack A.Area pool.now x → IsTrue result ↔ IsSafe x }
-    ensures synced { IsTrue result → FoundUnsynced pool.now.metaslabs.shards.items false }
 {
-    !has_unsynced(pool) && !pool.uber.has_news()
+    if has_unsynced(pool) {
+        return false;
+    }
+    !pool.uber.has_news()
 }
 
 /// Whether a metaslab has something that no sync has made safe: an export makes a sync just there.

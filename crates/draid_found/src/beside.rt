@@ -24,7 +24,7 @@ fn note_named(keys: &mut HashSet<(u64, u64)>, block: &Dropped) -> Result<(), NoM
 }
 
 /// The object and the number of each block that is named.
-fn named(alloc: Global, drops: &[Dropped]) -> Result<HashSet<(u64, u64)>, NoMemory>
+pub(crate) fn named(alloc: Global, drops: &[Dropped]) -> Result<HashSet<(u64, u64)>, NoMemory>
     ensures { IfOk result (λ keys. AreJustNamed drops.now (noted_in keys)) }
 {
     let mut keys = HashSet::new(alloc);

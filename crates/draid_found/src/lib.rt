@@ -8,8 +8,10 @@ mod beside;
 mod drops;
 mod fault;
 mod finding;
+mod older;
 
 pub use beside::newest_beside;
 pub use drops::first_lack;
 pub use fault::FoundFault;
 pub use finding::{Found, find_blocks, keep_newer};
+pub use older::older_blocks;

@@ -37,6 +37,7 @@ use Rattle.draid_run.specs.Serve.{LaneStopped}
 use Rattle.draid_print.specs.declared.printing.LaneReplies.{LaneReplies}
 use Rattle.draid_exits.specs.declared.status.Status.{Status}
 use Rattle.draid_exits.specs.declared.status.Status.TheVariants.{SinkFault, NoMemory, ShelfFault}
+use Rattle.draid_uber.specs.Uber.{point_of}
 
 -- ---- lanes
 
@@ -96,10 +97,10 @@ module _ {R A : Type 0} (rack : racks.Ghosts R) (area : areas.Ghosts A) where
     pub cause : IfOk result (λ ran. IsStopped ran.items → AreaRose area.faults pool new)
     pub later : AreasLater area.faults pool new
 
-  -- A closure that runs the lanes of each section which may be run, over each whole pool. Blocks go to metaslabs by these choices.
+  -- A closure that runs the lanes of each section which may be run, over each whole pool without a checkpoint. Blocks go to metaslabs by these choices.
   pub record RunsSections {S : Type 0} (g : Shared S (Pool R A × (Vec (Vec Line Global) Global × Unit {0})) (Pool R A × Result (Vec LaneReplies Global) WantsMemory)) (chosen : List Room → Option ℕ → Type 0) (f : S) : Type 0 where
-    pub callable : (pool : Pool R A) (lanes : Vec (Vec Line Global) Global) → IsWhole rack area pool → MayRunLanes (lanes_in lanes.items) → g.pre f (pool, (lanes, tt))
-    pub meets : (pool new : Pool R A) (lanes : Vec (Vec Line Global) Global) (result : Result (Vec LaneReplies Global) WantsMemory) → IsWhole rack area pool → MayRunLanes (lanes_in lanes.items) → g.post f (pool, (lanes, tt)) (new, result)
+    pub callable : (pool : Pool R A) (lanes : Vec (Vec Line Global) Global) → IsWhole rack area pool → MayRunLanes (lanes_in lanes.items) → (point_of pool.uber).group ≡ None → g.pre f (pool, (lanes, tt))
+    pub meets : (pool new : Pool R A) (lanes : Vec (Vec Line Global) Global) (result : Result (Vec LaneReplies Global) WantsMemory) → IsWhole rack area pool → MayRunLanes (lanes_in lanes.items) → (point_of pool.uber).group ≡ None → g.post f (pool, (lanes, tt)) (new, result)
         → SectionMet (choices_by chosen) (lanes_in lanes.items) pool new result
 
 -- ---- the lanes of a section that is read

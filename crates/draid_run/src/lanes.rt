@@ -65,7 +65,8 @@ fn refusal(alloc: Global, lanes: &[Vec<Line>]) -> Option<Reply>
     None
 }
 
-/// Runs the lanes of a section on the pool that is open, if one is and they may be run. Else there is one reply.
+/// Runs the lanes of a section on the pool that is open, if one is, no checkpoint stands and they may be run. Else there is one
+/// reply.
 pub(crate) fn run_lanes<R: Rack, A: Area, F: Fn(&[Room]) -> Option<u32>, G: Sections<R, A>>(
     alloc: Global,
     sections: &G,
@@ -82,6 +83,10 @@ pub(crate) fn run_lanes<R: Rack, A: Area, F: Fn(&[Room]) -> Option<u32>, G: Sect
     let Some(open) = pool.take() else {
         return Err(no_pool(CommandName::Lanes));
     };
+    if let Some(_) = open.uber.point().group() {
+        *pool = Some(open);
+        return Err(Reply::LanesCheckpoint);
+    }
     if let Some(reply) = refusal(alloc, &lanes) {
         *pool = Some(open);
         return Err(reply);

@@ -15,7 +15,6 @@ use Rattle.draid_session.specs.State.{State, Store}
 use Rattle.draid_pool.specs.declared.pool.Pool.{Pool}
 use Rattle.draid_pool.proofs.Lists.{some_of}
 use Rattle.draid_section.specs.Told.{LaneDid, SectionStood, greatest_of}
-use Rattle.draid_objects.specs.Marks.{check_by}
 
 module _ {J : Type 0} (x : State) (choices : Choices) (says : J → J → Store → List Hold → Store → Type 0) (commands : J → List Command) (replies : J → List Reply) where
   lane_of : LaneDid → Lane x choices
@@ -78,7 +77,7 @@ module _ {J : Type 0} (x : State) (choices : Choices) (says : J → J → Store 
     pub section_is : Section x choices (map commands jobs) (map replies done) stood.reached
     section_is = record {
       lanes = map lane_of stood.lanes;
-      unpointed = ap check_by (sym stood.marks ∙ stood.represents.stands.holds.unmarked);
+      unpointed = stood.unpointed;
       apart = apart;
       ran = lanes_ran stood.lanes jobs done tells stood.many stood.done_many stood.each;
       together = subst (λ (hs : List (List Hold)). Together hs x stood.reached) (sym (holds_same stood.lanes)) stood.together;

@@ -28,6 +28,7 @@ use Rattle.draid_section.specs.Running.{JobsRan, MayRunEach}
 use Rattle.draid_section.specs.Turning.{AreOfLanes, IsUberLock, UberComesBack}
 use Rattle.draid_section.specs.Whole.{pointer_in}
 use Rattle.draid_section.specs.declared.seats.Shares.{Shares}
+use Rattle.draid_uber.specs.Uber.{point_of}
 
 -- ---- a lane that begins
 
@@ -47,9 +48,10 @@ module _ {R A G W J : Type 0} (rack : racks.Ghosts R) (area : areas.Ghosts A) wh
     pub seq : lane.own.seq ≡ pool.own.seq
     pub floor : lane.own.floor ≡ pool.own.floor
 
-  -- each job has what it needs of such a lane
-  abbrev pub MayRunAll : (needs : J → Lane R A G W → Type 0) → Pool R A → List (Vec Span Global) → List J → Type 0
-  MayRunAll needs pool lists jobs = (i : ℕ) (job : J) (lane : Lane R A G W) → BeginsLane pool lists jobs i job lane → needs job lane
+  -- No checkpoint stands, and each job has what it needs of such a lane.
+  pub record MayRunAll (needs : J → Lane R A G W → Type 0) (pool : Pool R A) (lists : List (Vec Span Global)) (jobs : List J) : Type 0 where
+    pub unpointed : (point_of pool.uber).group ≡ None
+    pub each : (i : ℕ) (job : J) (lane : Lane R A G W) → BeginsLane pool lists jobs i job lane → needs job lane
 
   -- ---- what was done
 

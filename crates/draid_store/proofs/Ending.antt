@@ -2,7 +2,7 @@
 use Rattle.std.proofs.Common.{◌≡◌, ◌==◌, ◌≤◌, ◌<◌, ◌+◌, ◌∙◌, ◌⊎◌, inl, inr, arith, ℕ, Bool, true, false, [], ◌∷◌, Option, Some, None, Ok, Err, refl, sym, ap, ap₂, subst, cond, if◌then◌else◌, ne_eqb}
 use mathlib.Core.Logic.{dite}
 use native.Mathlib.Decide.{ℕ_discrete}
-use Rattle.std.specs.Prelude.{max, nat_eq, option_map}
+use Rattle.std.specs.Prelude.{max, nat_eq, option_map, slice_get}
 use Rattle.std.proofs.lemmas.Bool.{true≢false}
 use Rattle.sha2.specs.Sha256.{sha256}
 use Rattle.draid_names.specs.declared.pointer.Pointer.{Pointer}
@@ -38,10 +38,11 @@ use Rattle.draid_shard.specs.declared.shard.Shard.{Shard}
 use Rattle.draid_shard.proofs.Held.{key_leads}
 use Rattle.draid_session.specs.Holds.{Did, On, view_of}
 use Rattle.draid_session.specs.Rooms.{stripes_for}
-use Rattle.draid_session.specs.State.{State, Store}
+use Rattle.draid_session.specs.State.{Metaslab, State, Store}
 use Rattle.draid_pool.specs.Bytes.{HasBytes, KnowsBlock}
 use Rattle.draid_pool.proofs.Bytes.{same_bytes}
 use Rattle.draid_pool.specs.Objects.{HasPieces, HoldsObjects, IsLastAt, blocks_of}
+use Rattle.draid_pool.specs.Metaslabs.{IsMetaslab}
 use Rattle.draid_pool.specs.Pools.{part_in}
 use Rattle.draid_pool.proofs.Dids.{Done, did_quiet}
 use Rattle.draid_pool.proofs.Lastly.{write_object}
@@ -51,6 +52,7 @@ use Rattle.draid_pool.proofs.Wholes.{put_elsewhere, put_here}
 use Rattle.draid_objects.proofs.Imaging.{last_live}
 use Rattle.draid_store.proofs.FreeKeeps.{same_key}
 use Rattle.draid_store.proofs.PutSteps.{set_own}
+use Rattle.draid_store.proofs.Opening.{behind_on}
 use Rattle.draid_store.proofs.Written.{missed_holds, written_holds, written_only}
 use Rattle.draid_pool.specs.Drifts.{Drifts, KeepsBytes}
 use Rattle.draid_pool.specs.Follows.{FollowsBy}
@@ -333,8 +335,19 @@ module _ {R A S : Type 0} (rack : racks.Ghosts R) (area : areas.Ghosts A) (went 
       late : x.store.floor ≤ ticket.pointer.birth
       late = (let low = open_.but_it.floor in let born = open_.born in omega (arith, low, born))
 
+      y_was : (y : Metaslab) × (slice_get x.metaslabs m ≡ Some y) × IsMetaslab rack area (part_in x m) (open_.pieces m) shard y
+      y_was = here rack area went shared owns a b last new m shard before after there drifts valid is goes seen seen table seq floor open_.pieces x open_.but_it
+
+      ended_later : y_was.0.world.committed ≤ d_now.reached.world.committed
+      ended_later =
+          let was = y_was.2.stands.is_in.committed in
+          let up = drifts.later in
+          let same = fin.ends.2.groups.committed in
+          let reached_is = d_now.is.stands.is_in.committed in
+          omega (arith, was, up, same, reached_is)
+
       known : (was : Option Write) → write_of x.store.changes ticket.pointer.object ≡ was → HoldsBut owns (all_of owns) (lives_of owns was) (record x_now { store = store_then }) pieces_then
-      known was was_is = came owns x_now pieces_then m w open_.own refl refl late hidden (held_at (staged stage.Live ticket.pointer)) at_w refl of_block has was was_is
+      known was was_is = came owns x_now pieces_then m w open_.own refl refl late hidden (behind_on x m y_was.0 d_now.reached y_was.1 ended_later (own_store owns x.store).marks ticket.pointer.birth open_.behind) (held_at (staged stage.Live ticket.pointer)) at_w refl of_block has was was_is
 
       itself : IsPointerAt new ticket.pointer w
       itself = record {
@@ -394,6 +407,6 @@ module _ {R A S : Type 0} (rack : racks.Ghosts R) (area : areas.Ghosts A) (went 
           older : we.seq ≤ x.store.seq
           older =
               let h = hidden.holds (bound_in x_now.metaslabs) (all_low x_now) in
-              let found = last_live sha256 (bound_in x_now.metaslabs) ticket.pointer.object (own_changes owns x.store.changes) []
+              let found = last_live sha256 (bound_in x_now.metaslabs) ticket.pointer.object (own_changes owns x.store.changes) (own_store owns x.store).marks
               (own_blocks (but m (changes.key_of w) (all_of owns)) (blocks_of x_now.metaslabs)) we h.stores (write_own owns x.store.changes ticket.pointer.object open_.own ∙ was_is) in
               h.numbered we.metaslab (changes.key_of we) found.0 found.1

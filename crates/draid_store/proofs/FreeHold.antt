@@ -31,6 +31,7 @@ use Rattle.draid_store.specs.Answers.{FreeDoes}
 use Rattle.draid_store.specs.declared.fault.FreeFault.{FreeFault}
 use Rattle.draid_store.specs.declared.fault.FreeFault.TheVariants.{NoObject}
 use Rattle.draid_pool.proofs.OwnedStands.{ArePlain}
+use Rattle.draid_store.proofs.Plain.{KeepsPlain}
 use Rattle.draid_pool.specs.Drifts.{Drifts, KeepsTo, is_other}
 use Rattle.draid_store.specs.Frees.{FreesBlock, IsEarly, TriesFree}
 use Rattle.draid_store.specs.Freeing.{HasLoose}
@@ -179,11 +180,15 @@ not_there rack area went shared owns a last object table seq floor own none x kn
   knows = knows;
 }
 
--- a freeing leaves images, arms and groups
-pub free_plain : (x : State) (object : ℕ) (result : Result Unit FreeFault) (holds : List Hold) (store : Store) → FreeDoes x object result holds store → ArePlain holds
-free_plain x object (Ok done) holds store f = by f.leaves
+-- a freeing leaves images, arms and groups, and what befell the checkpoint
+pub free_plain : (x : State) (object : ℕ) (result : Result Unit FreeFault) → HasLoose x.store object → (holds : List Hold) (store : Store) → FreeDoes x object result holds store → KeepsPlain x holds store
+free_plain x object (Ok done) loose holds store f = by f.leaves
   where
-    by : LeavesBlock x.store.marks f.w x.store.floor f.group holds f.marks → ArePlain holds
-    by (inl b) = subst ArePlain (sym b.1.did) (tt, tt)
-    by (inr d) = subst ArePlain (sym d.1.looked) (tt, tt)
-free_plain x object (Err fault) holds store f = subst ArePlain (sym f.1) tt
+    by : LeavesBlock x.store.marks f.w x.store.floor f.group holds f.marks → KeepsPlain x holds store
+    by (inl b) = (
+      subst ArePlain (sym b.1.did) (tt, tt),
+      ap (λ (t : Store). t.marks) f.made ∙ b.2,
+      (let is = b.1.group_is in let made = ap (λ (t : Store). t.floor) f.made in omega (arith, is, made)),
+    )
+    by (inr d) = absurd (loose f.w f.written d.0)
+free_plain x object (Err fault) loose holds store f = (subst ArePlain (sym f.1) tt, ap (λ (t : Store). t.marks) f.0, (let floor = ap (λ (t : Store). t.floor) f.0 in omega (arith, floor)))

@@ -1,5 +1,5 @@
 -- What a thread knows of a pool's state, as it frees an object of its own.
-use Rattle.std.proofs.Common.{◌≡◌, ◌≤◌, ◌∙◌, arith, ℕ, Bool, true, ◌∷◌, Option, Some, None, sym, ap, subst, slice_set, cond, List}
+use Rattle.std.proofs.Common.{◌≡◌, ◌≤◌, ◌∙◌, arith, ℕ, Bool, true, ◌∷◌, Option, Some, sym, ap, subst, slice_set, cond, List}
 use Rattle.std.specs.Prelude.{max, slice_get}
 use Rattle.draid_machine.specs.declared.names.Key.{Key}
 use Rattle.draid_machine.specs.declared.names.Held.{Held}

@@ -1,5 +1,5 @@
 -- What the blocks store as a block comes, or as a write is given up.
-use Rattle.std.proofs.Common.{◌≡◌, ◌==◌, ◌≤◌, ◌+◌, ◌⊎◌, ◌∙◌, inl, inr, ℕ, Bool, true, false, [], ◌∷◌, Option, Some, arith, refl, sym, ap, subst}
+use Rattle.std.proofs.Common.{◌≡◌, ◌==◌, ◌≤◌, ◌+◌, ◌⊎◌, ◌∙◌, inl, inr, ℕ, Bool, true, false, ◌∷◌, Option, Some, arith, refl, sym, ap, subst}
 use Rattle.std.proofs.lemmas.Bool.{cases_eq}
 use Rattle.sha2.specs.Sha256.{sha256}
 use Rattle.draid_spec.specs.declared.layout.Geometry.{Geometry}
@@ -25,7 +25,6 @@ use Rattle.draid_objects.specs.Stores.{IsBehindChecks}
 use Rattle.std.proofs.lemmas.Bool.Decides.{nat_tests}
 use Rattle.draid_pool.proofs.Moved.{turn, turn_here, turn_other}
 use Rattle.draid_pool.proofs.Owning.{pieces_on}
-use Rattle.draid_pool.proofs.Unmarked.{all_behind}
 
 differs : (object o : ℕ) → (o == object) ≡ false → (object == o) ≡ false
 differs object o other = grind (arith, nat_tests, other)
@@ -62,6 +61,7 @@ module _ (geometry : Geometry) (committed : ℕ) (store : Store) (old : Blocks) 
     floors = λ o. floor_up store.changes old o store.floor group (holds.floors o) later;
     settled = holds.settled;
     numbered = λ n k h there. (let low = holds.numbered n k h there in omega (arith, low));
+    positive = holds.positive;
     bytes = was;
   }
 
@@ -79,7 +79,7 @@ module _ (geometry : Geometry) (committed : ℕ) (store : Store) (old : Blocks) 
       stores = written sha256 committed store.changes store.marks old new w h holds.stores (floor_up store.changes old w.object store.floor w.birth (holds.floors w.object) later)
           (λ n k i there block object. (let low = holds.numbered n k i there in omega (arith, low, seq_is))) live of behind sets;
       floors = λ o. written_floor store.changes old new w h o w.birth live sets (λ is. omega arith) (floor_up store.changes old o store.floor w.birth (holds.floors o) later);
-        settled = λ n k i there. elim (set_cases old new w.metaslab (changes.key_of w) (Some h) sets n k) [
+      settled = λ n k i there. elim (set_cases old new w.metaslab (changes.key_of w) (Some h) sets n k) [
         | inl z ↦ subst (λ (x : Held). is_block x.stage ≡ true) (some_is (new n k) h i z.2 there) (ap is_block live)
         | inr z ↦ holds.settled n k i (sym z.0 ∙ there)
       ];
@@ -87,6 +87,7 @@ module _ (geometry : Geometry) (committed : ℕ) (store : Store) (old : Blocks) 
         | inl z ↦ (let seqs = ap (λ (j : Key). j.seq) z.1 in omega (arith, seqs, seq_is))
         | inr z ↦ (let low = holds.numbered n k i (sym z.0 ∙ there) in omega (arith, low))
       ];
+      positive = holds.positive;
       bytes = λ n k i v there by. elim (set_cases old new w.metaslab (changes.key_of w) (Some h) sets n k) [
         | inl z ↦
             let own : w ≡ v = some_is (write_by (Wrote w ∷ store.changes) k) w v (by_own w store.changes k (subst (λ j. key_eq (changes.key_of w) j ≡ true) z.1 (key_refl (changes.key_of w)))) by in

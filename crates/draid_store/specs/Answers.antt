@@ -57,7 +57,7 @@ DamageDoes x leaf sector (Err damaged.NoMemory) holds new = (new ≡ x.store) ×
 
 -- ---- parts of calls
 
--- a block of these bytes was written in metaslab m, and then the object's earlier one was freed or dropped or dropped
+-- a block of these bytes was written in metaslab m, and then the object's earlier one was freed or dropped
 pub record WritesIn (x : State) (m o : ℕ) (bytes : List ℕ) (holds : List Hold) (new : Store) : Type 0 where
   pub birth : ℕ
   pub columns : ℕ

@@ -1,5 +1,5 @@
 -- The block that an object had before is freed.
-use Rattle.std.specs.Prelude.{◌≡◌, ℕ, Bool, false, Option, Some, None, ◌∷◌, ◌⊎◌, ◌≤◌, All, nat_eq, if◌then◌else◌, List}
+use Rattle.std.specs.Prelude.{◌≡◌, ℕ, Bool, false, Option, Some, None, ◌∷◌, ◌⊎◌, ◌≤◌, ◌<◌, All, nat_eq, if◌then◌else◌, List}
 use Rattle.draid_machine.specs.Names.{key_eq}
 use Rattle.draid_entries.specs.Maps.{key_of}
 use Rattle.draid_names.specs.declared.pointer.Pointer.{Pointer}
@@ -68,11 +68,14 @@ pub record IsWholeBeside {R A : Type 0} (rack : racks.Ghosts R) (area : areas.Gh
   pub begun : pointer.seq ≤ pool.own.seq
   pub other : All (λ d. IsOther pointer.object pointer.seq d) (point_of pool.uber).drops
 
--- The pool stands for a state but for the block of a write, which is live, and isn't its object's any more: that is to be dropped.
+-- The pool stands for a state but for the block of a write, which is live, and isn't its object's any more, that has a later write: that is to be dropped, and wasn't yet.
 pub record RepresentsBut {R A : Type 0} (rack : racks.Ghosts R) (area : areas.Ghosts A) (pool : Pool R A) (pointer : Pointer) (we : Write) (x : State) : Type 0 where
   pub stands : Stands rack area pool (get nat_eq pool.own.objects) x
   pub only : (m : ℕ) (k : Key) (h : Held) → blocks_of x.metaslabs m k ≡ Some h → h.stage ≡ Live → is_dropped (check_by x.store.marks) k ≡ false
       → ((m ≡ pointer.metaslab) × (k ≡ changes.key_of we)) ⊎ IsLastAt m k (write_of x.store.changes k.object)
   pub had : IsPointerOf pool.metaslabs.shards.items pointer we
   pub kept : KeepsBirth x.store.marks we.birth
-  pub later : write_of x.store.changes we.object ≡ Some we → ⊥
+  pub counts : is_dropped (check_by x.store.marks) (changes.key_of we) ≡ false
+  pub newer : Write
+  pub is_last : write_of x.store.changes we.object ≡ Some newer
+  pub later : we.seq < newer.seq

@@ -117,6 +117,7 @@ pub fn free_object<R: Rack, A: Area, M: Metaslabs<R, A>>(
     ensures owns { M.owns metaslabs.new ≡ M.owns metaslabs.old }
     ensures whole { IsWholeBy R.Rack (M.owns metaslabs.new) (M.last metaslabs.new) (λ o. get nat_eq own.new.objects o) own.new.seq own.new.floor }
     ensures stay { AllStay (M.owns metaslabs.old) (M.last metaslabs.old) (M.last metaslabs.new) }
+    ensures number { own.new.seq ≡ own.old.seq }
     ensures takes { TriesTake object (λ o. get nat_eq own.old.objects o) (λ o. get nat_eq own.new.objects o) result }
     // Where the checkpoint keeps its block it is to be dropped in place of this.
     ensures step { (x : State) → HasLoose x.store object → Knows R.Rack A.Area (M.owns metaslabs.old) (M.last metaslabs.old) (λ o. get nat_eq own.old.objects o) own.old.seq own.old.floor x

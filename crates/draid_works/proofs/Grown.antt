@@ -1,5 +1,5 @@
 -- What befell objects by a lane's command is of objects that the lane owns.
-use Rattle.std.proofs.Common.{◌≡◌, ◌+◌, ◌++◌, ◌∷◌, ◌∙◌, [], ℕ, zero, suc, Bool, true, List, Option, arith, sym, ap, inl, inr, None, Some}
+use Rattle.std.proofs.Common.{◌≡◌, ◌+◌, ◌++◌, ◌∷◌, ◌∙◌, [], ℕ, zero, suc, Bool, true, List, Option, arith, sym, ap, inl, inr, None, Some, refl}
 use Rattle.std.proofs.lemmas.List.{append_assoc}
 use Rattle.std.proofs.lemmas.List.Elements.{All-append, All-cons, All-nil}
 use Rattle.draid_names.specs.declared.refusal.WriteFault.{WriteFault}
@@ -112,3 +112,8 @@ module _ (owns : ℕ → Bool) where
       does_grow (RebuildPool limit) reply of_lane d = grows_self old new (same_store geometry perms choices old new holds (RebuildPool limit) reply tt d)
       does_grow (ScrubPool limit) reply of_lane d = grows_self old new (same_store geometry perms choices old new holds (ScrubPool limit) reply tt d)
       does_grow command reply of_lane d = absurd of_lane
+
+-- where no checkpoint stands none does behind a fill
+pub fills_leave : (geometry : Geometry) (perms : Perms) (chosen : List Room → Option ℕ → Type 0) (content : ℕ → List ℕ) (first count : ℕ) (old new : Store) (holds : List Hold) → check_by old.marks ≡ None → writes.Fills geometry perms chosen content first count old holds new
+    → new.marks ≡ old.marks
+fills_leave geometry perms chosen content first count old new holds none f = (fills_grow (λ object. true) geometry perms chosen content first count old new holds (λ object from below. refl) f).marks none
