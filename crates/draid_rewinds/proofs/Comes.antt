@@ -24,17 +24,17 @@ use Rattle.draid_pool.specs.Syncing.{AreIdle, Phase, SyncDoes, end_of}
 use Rattle.draid_pool.specs.declared.fault.SyncFault.{SyncFault}
 use Rattle.draid_pool.specs.declared.fault.SyncFault.TheVariants as sync
 use Rattle.draid_pool.specs.declared.fault.Synced.{Synced}
+use Rattle.draid_pool.specs.Whole.{IsWhole}
 use Rattle.draid_pool.specs.declared.pool.Pool.{Pool}
 use Rattle.draid_pool.proofs.Following.{follows_but}
 use Rattle.draid_pool.proofs.Points.{none_stands, point_stands}
 use Rattle.draid_pool.proofs.Steps.{carries_so, follows_on, own_of, same_layout, settled}
 use Rattle.draid_pool.proofs.SyncSteps.{not_went}
 use Rattle.draid_rewinds.specs.Back.{DiscardDoes, LetsGo, Reverted, RewindDoes}
-use Rattle.draid_rewinds.specs.Low.{IsLow}
 use Rattle.draid_rewinds.specs.declared.fault.BackFault.TheVariants as fault
 use Rattle.draid_rewinds.proofs.Going.{end_same}
 use Rattle.draid_rewinds.proofs.GivenUp.{has_point}
-use Rattle.draid_rewinds.proofs.Settled.{low_then}
+use Rattle.draid_rewinds.proofs.Settled.{low_idle}
 
 -- ---- syncs
 
@@ -90,10 +90,10 @@ module _ {R A : Type 0} (rack : racks.Ghosts R) (area : areas.Ghosts A) where
       pub follows : Follows (front ++ (OnUber u LookedUber ∷ (frees ++ back))) x reached
       pub represents : Represents rack area new (record reached { store = store })
 
-    pub comes : (old mid late new : Pool R A) (x : State) (result : Result Synced SyncFault) → Represents rack area old x → IsLow x → AreIdle mid.metaslabs.shards.items → CarriesOut rack area mid x (Phase x (groups.Finishes x.geometry x.perms) Went)
+    pub comes : (old mid late new : Pool R A) (x : State) (result : Result Synced SyncFault) → Represents rack area old x → IsWhole rack area mid → AreIdle mid.metaslabs.shards.items → CarriesOut rack area mid x (Phase x (groups.Finishes x.geometry x.perms) Went)
         → ((y : State) → Represents rack area mid y → y.store.floor ≤ y.committed + 1 → CarriesOut rack area late y (Q (y.committed + 1) y.store))
         → ((z : State) → Represents rack area late z → CarriesOut rack area new z (SyncDoes z result)) → Comes new x result
-    comes old mid late new x result r low idle c next last = record {
+    comes old mid late new x result r whole idle c next last = record {
       front = c.holds;
       u = u;
       frees = d.holds;
@@ -123,7 +123,7 @@ module _ {R A : Type 0} (rack : racks.Ghosts R) (area : areas.Ghosts A) where
         u = record { committed = c.reached.committed; next_leaf = c.reached.next_leaf }
 
         d : CarriesOut rack area late c.reached (Q (c.reached.committed + 1) c.reached.store)
-        d = next c.reached s (low_then rack area old mid x c.reached c.holds r s idle low c.done.1 c.follows same)
+        d = next c.reached s (low_idle rack area mid c.reached whole idle s)
 
         e : CarriesOut rack area new (record d.reached { store = d.store }) (SyncDoes (record d.reached { store = d.store }) result)
         e = last (record d.reached { store = d.store }) d.represents

@@ -122,6 +122,7 @@ module _ {R A : Type 0} (rack : racks.Ghosts R) (area : areas.Ghosts A) where
       objects = λ object p leads. (let of = w.objects object p leads in record { object_is = of.object_is; shard = of.shard; there = of.there; live = of.live });
       floor = (let low = w.floor in let same = group_is in omega (arith, low, same));
       low = w.low;
+      near = w.near;
       point = fits;
       behind = λ own k shard is there.
           (let same : own ≡ group = some_of (ubers.point_of v).group own group is point_group in

@@ -22,10 +22,11 @@ use Rattle.draid_session.proofs.Looked.{Seen, follows_split, looks_seen}
 use Rattle.draid_pool.specs.Metaslabs.{IsMetaslab}
 use Rattle.draid_pool.specs.Pools.{Represents, part_in}
 use Rattle.draid_pool.specs.Syncing.{AreIdle}
+use Rattle.draid_pool.specs.Whole.{IsWhole}
 use Rattle.draid_pool.specs.declared.pool.Pool.{Pool}
 use Rattle.draid_pool.proofs.Lists.{present}
+use Rattle.draid_pool.proofs.SyncCalls.{pool_group}
 use Rattle.draid_pool.proofs.Turns.{state_sound}
-use Rattle.draid_rewinds.specs.Low.{IsLow}
 
 -- ---- holds of metaslabs
 
@@ -166,35 +167,16 @@ module _ {R A : Type 0} (rack : racks.Ghosts R) (area : areas.Ghosts A) where
       let groups : (shard.0.open_group ≡ shard.0.committed + 1) × (shard.0.sealed ≡ false) = subst (λ o. AreGroups shard.0.open_group o shard.0.committed shard.0.sealed) (idle m shard.0 shard.1) is.valid.groups in
       is.stands.is_in.open_group_is ∙ (groups.0 ∙ ap (λ n. n + 1) (sym is.stands.is_in.committed ∙ r.stands.groups.committed m y at))
 
-  -- where a closing group was finished no call has used a group behind the next one
-  pub low_then : (old new : Pool R A) (x y : State) (holds : List Hold) → Represents rack area old x → Represents rack area new y → AreIdle new.metaslabs.shards.items → IsLow x → groups.Finishes x.geometry x.perms holds Went → Follows holds x y → y.store ≡ x.store
-      → y.store.floor ≤ y.committed + 1
-  low_then old new x y holds r s idle low f follows kept = elim f.does [
-    | inl none ↦
-        let rest : Follows [] parts.0 y = subst (λ hs. Follows hs parts.0 y) none.1 parts.2 in
-        let same : y.committed ≡ x.committed = ap (λ (z : State). z.committed) rest ∙ seen.committed in
-        elim low [
-          | inl is ↦ omega (arith, is, same, floor_is)
-          | inr is ↦
-              let z = seen.each is.0 is.1 is.2 in
-              let at : slice_get y.metaslabs is.0 ≡ Some z.0 = ap (λ (w : State). slice_get w.metaslabs is.0) rest ∙ z.1 in
-              let now = idle_open new y s idle is.0 z.0 at in
-              let world : z.0.world.open_group ≡ is.1.world.open_group = ap (λ (v : View). v.world.open_group) z.2 in
-              let under = is.3 in
-              omega (arith, under, now, world, floor_is)
-        ]
-    | inr more ↦
-        let next = group_next x.geometry x.perms more.0 more.2 f.rest parts.0 y more.5 parts.2 in
-        let same = seen.committed in
-        let under = r.stands.groups.next in
-        omega (arith, next, same, under, floor_is)
-  ]
-    where
-      parts : (mid : State) × Follows f.looks x mid × Follows f.rest mid y
-      parts = follows_split f.looks f.rest x y (subst (λ hs. Follows hs x y) f.are follows)
-
-      seen : Seen x parts.0
-      seen = looks_seen 0 x.geometry.props.metaslabs f.looks f.views x parts.0 f.looked parts.1
-
-      floor_is : y.store.floor ≡ x.store.floor
-      floor_is = ap (λ (t : Store). t.floor) kept
+  -- where no group is closing no call has used a group behind the next one
+  pub low_idle : (pool : Pool R A) (x : State) → IsWhole rack area pool → AreIdle pool.metaslabs.shards.items → Represents rack area pool x → x.store.floor ≤ x.committed + 1
+  low_idle pool x w idle r =
+      let near = w.near in
+      let is = w.shards near.metaslab near.shard near.there in
+      let groups : (near.shard.open_group ≡ near.shard.committed + 1) × (near.shard.sealed ≡ false)
+          = subst (λ o. AreGroups near.shard.open_group o near.shard.committed near.shard.sealed) (idle near.metaslab near.shard near.there) is.valid.groups in
+      let up = near.near in
+      let open_is = groups.0 in
+      let own = is.committed in
+      let group = pool_group rack area pool x r in
+      let floor = r.stands.floor in
+      omega (arith, up, open_is, own, group, floor)

@@ -21,18 +21,18 @@ use Rattle.draid_pool.specs.Syncing.{AreIdle, Phase, end_of}
 use Rattle.draid_pool.specs.declared.fault.SyncFault.{SyncFault}
 use Rattle.draid_pool.specs.declared.fault.SyncFault.TheVariants as sync
 use Rattle.draid_pool.specs.declared.fault.Synced.{Synced}
+use Rattle.draid_pool.specs.Whole.{IsWhole}
 use Rattle.draid_pool.specs.declared.pool.Pool.{Pool}
 use Rattle.draid_pool.proofs.Following.{follows_but}
 use Rattle.draid_pool.proofs.Points.{none_stands}
 use Rattle.draid_pool.proofs.Steps.{SameLayout, carries_so, follows_on, own_of, same_layout, settled}
 use Rattle.draid_pool.proofs.SyncCalls.{pool_group}
 use Rattle.draid_pool.proofs.SyncSteps.{not_went}
-use Rattle.draid_rewinds.specs.Low.{IsLow}
 use Rattle.draid_rewinds.specs.Taking.{GoesOnDoes, MakesPoint, TakeDoes, TakesDoes}
 use Rattle.draid_rewinds.specs.declared.fault.TakeFault.TheVariants as fault
 use Rattle.draid_rewinds.proofs.Comes.{none_after, some_after}
 use Rattle.draid_rewinds.proofs.Going.{IsLate, behind_late, end_same}
-use Rattle.draid_rewinds.proofs.Settled.{close_on, idle_settled, low_then, on_stays}
+use Rattle.draid_rewinds.proofs.Settled.{close_on, idle_settled, low_idle, on_stays}
 
 module _ {R A : Type 0} (rack : racks.Ghosts R) (area : areas.Ghosts A) where
   -- ---- where no group is closing
@@ -144,14 +144,14 @@ module _ {R A : Type 0} (rack : racks.Ghosts R) (area : areas.Ghosts A) where
   take_starved new x c none = carries_so rack area new x (Phase x (groups.Finishes x.geometry x.perms) Went) (TakeDoes x (Err fault.NoMemory)) c (λ holds store done. (done.0, none_after rack area new x Went c none, done.1))
 
   -- and then a checkpoint was made, or that was stopped
-  module _ (old mid new : Pool R A) (x : State) (r : Represents rack area old x) (low : IsLow x) (idle : AreIdle mid.metaslabs.shards.items) (c : CarriesOut rack area mid x (Phase x (groups.Finishes x.geometry x.perms) Went)) (result : Result Synced SyncFault)
+  module _ (old mid new : Pool R A) (x : State) (r : Represents rack area old x) (whole : IsWhole rack area mid) (idle : AreIdle mid.metaslabs.shards.items) (c : CarriesOut rack area mid x (Phase x (groups.Finishes x.geometry x.perms) Went)) (result : Result Synced SyncFault)
       (takes : (y : State) → Represents rack area mid y → y.store.floor ≤ y.committed + 1 → CarriesOut rack area new y (TakesDoes y result)) where
     layout : SameLayout x c.reached
     layout = same_layout c.holds x c.reached c.follows
 
     d : CarriesOut rack area new c.reached (TakesDoes c.reached result)
     d = takes c.reached (settled rack area mid x (Phase x (groups.Finishes x.geometry x.perms) Went) c c.done.0)
-        (low_then rack area old mid x c.reached c.holds r (settled rack area mid x (Phase x (groups.Finishes x.geometry x.perms) Went) c c.done.0) idle low c.done.1 c.follows layout.store)
+        (low_idle rack area mid c.reached whole idle (settled rack area mid x (Phase x (groups.Finishes x.geometry x.perms) Went) c c.done.0))
 
     abbrev u : UberView
     u = record { committed = c.reached.committed; next_leaf = c.reached.next_leaf }

@@ -1,4 +1,5 @@
 -- A whole pool stays whole as blocks are freed to which its table doesn't lead, and its checkpoint is given up.
+use Rattle.std.proofs.lemmas.Bool.{cases_lt}
 use Rattle.std.proofs.Common.{arith, ◌≡◌, ◌+◌, ◌≤◌, ◌∙◌, inl, inr, ℕ, Bool, true, false, List, [], ◌∷◌, Option, Some, refl, sym, ap, subst, slice_set, length, max, if◌then◌else◌}
 use Rattle.std.specs.Prelude.{nat_eq, slice_get}
 use Rattle.std.specs.HashMap.{get}
@@ -38,7 +39,9 @@ use Rattle.draid_pool.specs.declared.pool.Pool.{Pool}
 use Rattle.draid_pool.proofs.Arms.{all_kept, leaf_kept}
 use Rattle.draid_pool.proofs.Lists.{get_set_other, get_set_same, present, some_of}
 use Rattle.draid_pool.proofs.Rises.{records_same}
-use Rattle.draid_pool.proofs.Wholes.{fits_none, live_beside, one_live}
+use Rattle.draid_pool.specs.Threads.{IsNear}
+use Rattle.draid_pool.proofs.Nears.{near_kept}
+use Rattle.draid_pool.proofs.Wholes.{fits_none, live_beside, one_live, open_high}
 use Rattle.draid_rewinds.specs.Giving.{ForgetsPoint, MayGiveUp}
 use Rattle.draid_rewinds.specs.Sweeps.{FreesAll, FreesOne, IsOpenIn}
 
@@ -49,6 +52,7 @@ module _ {R A : Type 0} (rack : racks.Ghosts R) (area : areas.Ghosts A) where
   pub record KeepsOwn (table : ℕ → Option Pointer) (old new : Shard R A) : Type 0 where
     pub part : part_of new ≡ part_of old
     pub committed : new.committed ≡ old.committed
+    pub opens : old.open_group ≤ new.open_group
     pub slots : KeepsArms old.slots new.slots
     pub areas_are : SameAreas old new
     pub held : (key : Key) (h : Held) → held_in new.entries key ≡ Some h → (z : Held) × (held_in old.entries key ≡ Some z) × (is_block z.stage ≡ true → is_block h.stage ≡ true)
@@ -58,6 +62,7 @@ module _ {R A : Type 0} (rack : racks.Ghosts R) (area : areas.Ghosts A) where
   keeps_same table shard = record {
     part = refl;
     committed = refl;
+    opens = omega arith;
     slots = same_arms shard.slots;
     areas_are = record { even = refl; odd = refl };
     held = λ key h there. (h, there, λ is. is);
@@ -68,6 +73,7 @@ module _ {R A : Type 0} (rack : racks.Ghosts R) (area : areas.Ghosts A) where
   keeps_then table old mid new a b = record {
     part = b.part ∙ a.part;
     committed = b.committed ∙ a.committed;
+    opens = (let one = a.opens in let two = b.opens in omega (arith, one, two));
     slots = arms_then old.slots mid.slots new.slots a.slots b.slots;
     areas_are = record { even = b.areas_are.even ∙ a.areas_are.even; odd = b.areas_are.odd ∙ a.areas_are.odd };
     held = λ key h there. (let y = b.held key h there in let z = a.held key y.0 y.1 in (z.0, z.1, λ is. y.2 (z.2 is)));
@@ -78,6 +84,7 @@ module _ {R A : Type 0} (rack : racks.Ghosts R) (area : areas.Ghosts A) where
   keeps_one table group p old new there f = record {
     part = f.part;
     committed = f.sets.groups.committed;
+    opens = (let same = f.sets.groups.open_group_is in omega (arith, same));
     slots = f.sets.slots;
     areas_are = f.kit.areas;
     held = λ key h at. (let is = sym (f.sets.entry.held key) ∙ at in at_key key h is);
@@ -183,6 +190,31 @@ module _ {R A : Type 0} (rack : racks.Ghosts R) (area : areas.Ghosts A) where
         let same : of.shard ≡ k.0 = some_of (slice_get old.metaslabs.shards.items p.metaslab) of.shard k.0 of.there k.1 in
         record { object_is = of.object_is; shard = z.0; there = z.1; live = k.2.live p (ap table of.object_is ∙ own) (subst (λ s. IsLive s p) same of.live) }
 
+    near_then : IsNear new.own.floor (slice_get new.metaslabs.shards.items)
+    near_then = elim (cases_lt old.own.floor (group_in old + 1)) [
+      | inl less ↦
+          let many = w.many in
+          let some = w.layout.geometry_is.props.some_metaslabs in
+          let long = keeps.many in
+          let z = present new.metaslabs.shards.items 0 (omega (arith, many, some, long)) in
+          let is = each_shard 0 z.0 z.1 in
+          let high = open_high z.0.open_group z.0.closing z.0.committed z.0.sealed is.valid.groups in
+          let own = is.committed in
+          let same = kept_is in
+          record { metaslab = 0; shard = z.0; there = z.1; near = omega (arith, floor, less, high, own, same) }
+      | inr from ↦ near_kept old.own.floor new.own.floor (slice_get old.metaslabs.shards.items) (slice_get new.metaslabs.shards.items) (omega (arith, floor, from)) stays w.near
+    ]
+      where
+        stays : (m : ℕ) (y : Shard R A) → slice_get old.metaslabs.shards.items m ≡ Some y → (after : Shard R A) × (slice_get new.metaslabs.shards.items m ≡ Some after) × (y.open_group ≤ after.open_group)
+        stays m y at =
+            let within = slice_get_within old.metaslabs.shards.items m y at in
+            let many = keeps.many in
+            let z = present new.metaslabs.shards.items m (omega (arith, within, many)) in
+            let k = keeps.each m z.0 z.1 in
+            let same = ap (λ (q : Shard R A). q.open_group) (some_of (slice_get old.metaslabs.shards.items m) y k.0 at k.1) in
+            let opens = k.2.opens in
+            (z.0, z.1, omega (arith, same, opens))
+
     pub whole_then : IsWhole rack area new
     whole_then = record {
       perms = w.perms;
@@ -195,6 +227,7 @@ module _ {R A : Type 0} (rack : racks.Ghosts R) (area : areas.Ghosts A) where
       objects = pointer_then;
       floor = (let was = w.floor in let same = kept_is in omega (arith, was, floor, same));
       low = (let was = w.low in omega (arith, was, floor, low));
+      near = near_then;
       point = fits_none (ubers.point_of new.uber) (get nat_eq new.own.objects) new.own.seq uber.point uber.drops;
       behind = λ own m z is there. absurd (none_some (ubers.point_of new.uber).group own uber.point is);
     }

@@ -1,6 +1,5 @@
 pub mod Back
 pub mod Giving
-pub mod Low
 pub mod Says
 pub mod Sweeps
 pub mod Tables

@@ -8,7 +8,6 @@ ghost use Rattle.draid_pool.specs.Failing.{AreaRose, AreasLater};
 ghost use Rattle.draid_pool.specs.Pointers.{SamePointers};
 ghost use Rattle.draid_pool.specs.Pools.{Represents};
 ghost use Rattle.draid_pool.specs.Whole.{IsWhole};
-ghost use Rattle.draid_rewinds.specs.Low.{IsLow};
 ghost use Rattle.draid_rewinds.specs.Says.{DiscardSays, IsStoppedBy, RewindSays, TakeSays};
 
 use crate::fault::{BackFault, Discarded, Rewound, TakeFault};
@@ -41,7 +40,7 @@ pub fn reply_to_checkpoint<R: Rack, A: Area>(pool: &mut Pool<R, A>) -> Result<Re
     ensures later { AreasLater A.faults pool.old pool.new }
     ensures cause { IsErr result → AreaRose A.faults pool.old pool.new }
     ensures fits { IfOk result (IsReplyTo TakeCheckpoint) }
-    ensures step { (x : State) → Represents R.Rack A.Area pool.old x → IsLow x
+    ensures step { (x : State) → Represents R.Rack A.Area pool.old x
         → CarriesOut R.Rack A.Area pool.new x (TakeSays result x) }
 {
     let command = CommandName::Checkpoint;
@@ -61,7 +60,7 @@ pub fn reply_to_rewind<R: Rack, A: Area>(pool: &mut Pool<R, A>) -> Result<Reply,
     ensures cause { IsErr result → AreaRose A.faults pool.old pool.new }
     ensures fits { IfOk result (IsReplyTo RewindPool) }
     ensures none { result ≡ Ok (Reply.NoCheckpoint CommandName.Rewind) → SamePointers pool.old pool.new }
-    ensures step { (x : State) → Represents R.Rack A.Area pool.old x → IsLow x
+    ensures step { (x : State) → Represents R.Rack A.Area pool.old x
         → CarriesOut R.Rack A.Area pool.new x (RewindSays result x) }
 {
     let command = CommandName::Rewind;
@@ -81,7 +80,7 @@ pub fn reply_to_discard<R: Rack, A: Area>(pool: &mut Pool<R, A>) -> Result<Reply
     ensures later { AreasLater A.faults pool.old pool.new }
     ensures cause { IsErr result → AreaRose A.faults pool.old pool.new }
     ensures fits { IfOk result (IsReplyTo DiscardCheckpoint) }
-    ensures step { (x : State) → Represents R.Rack A.Area pool.old x → IsLow x
+    ensures step { (x : State) → Represents R.Rack A.Area pool.old x
         → CarriesOut R.Rack A.Area pool.new x (DiscardSays result x) }
 {
     let command = CommandName::Discard;

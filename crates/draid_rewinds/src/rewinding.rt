@@ -10,7 +10,6 @@ ghost use Rattle.draid_pool.specs.Syncing.{AreIdle};
 ghost use Rattle.draid_pool.specs.Whole.{IsWhole};
 ghost use Rattle.draid_uber.specs.Uber.{point_of};
 ghost use Rattle.draid_rewinds.specs.Back.{DiscardDoes, LetsGo, RewindDoes, Reverted};
-ghost use Rattle.draid_rewinds.specs.Low.{IsLow};
 ghost use Rattle.draid_rewinds.specs.Tables.{AreNewestBorn};
 
 use crate::fault::{BackFault, Discarded, Rewound};
@@ -32,7 +31,7 @@ pub fn rewind<R: Rack, A: Area>(pool: &mut Pool<R, A>) -> Result<Rewound, BackFa
     // Where there is none, and where room was wanting, the objects have what they had.
     ensures none { IsErrOf result BackFault.Nothing → SamePointers pool.old pool.new }
     ensures room { IsErrOf result BackFault.NoMemory → SamePointers pool.old pool.new }
-    ensures carries { (x : State) → Represents R.Rack A.Area pool.old x → IsLow x
+    ensures carries { (x : State) → Represents R.Rack A.Area pool.old x
         → CarriesOut R.Rack A.Area pool.new x (RewindDoes x result) }
 {
     if let Err(why) = pool.finish() {
@@ -78,7 +77,7 @@ pub fn discard<R: Rack, A: Area>(pool: &mut Pool<R, A>) -> Result<Discarded, Bac
     ensures later { AreasLater A.faults pool.old pool.new }
     ensures cause { IsErrOf result (BackFault.Sync SyncFault.Shelf) → AreaRose A.faults pool.old pool.new }
     ensures room { IsErrOf result BackFault.NoMemory → ⊥ }
-    ensures carries { (x : State) → Represents R.Rack A.Area pool.old x → IsLow x
+    ensures carries { (x : State) → Represents R.Rack A.Area pool.old x
         → CarriesOut R.Rack A.Area pool.new x (DiscardDoes x result) }
 {
     if let Err(why) = pool.finish() {

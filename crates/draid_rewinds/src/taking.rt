@@ -9,7 +9,6 @@ ghost use Rattle.draid_pool.specs.Syncing.{AreIdle};
 ghost use Rattle.draid_pool.specs.Whole.{IsWhole};
 ghost use Rattle.draid_names.specs.declared.numbers.TheConstants.{LAST_NUMBER};
 ghost use Rattle.draid_uber.specs.Uber.{point_of};
-ghost use Rattle.draid_rewinds.specs.Low.{IsLow};
 ghost use Rattle.draid_rewinds.specs.Taking.{HasRoomFor, TakeDoes, TakesDoes};
 
 use crate::fault::TakeFault;
@@ -30,7 +29,7 @@ pub fn checkpoint<R: Rack, A: Area>(pool: &mut Pool<R, A>) -> Result<u64, TakeFa
     ensures same { SamePointers pool.old pool.new }
     ensures later { AreasLater A.faults pool.old pool.new }
     ensures cause { IsErrOf result (TakeFault.Sync SyncFault.Shelf) → AreaRose A.faults pool.old pool.new }
-    ensures carries { (x : State) → Represents R.Rack A.Area pool.old x → IsLow x
+    ensures carries { (x : State) → Represents R.Rack A.Area pool.old x
         → CarriesOut R.Rack A.Area pool.new x (TakeDoes x result) }
 {
     if let Err(why) = pool.finish() {

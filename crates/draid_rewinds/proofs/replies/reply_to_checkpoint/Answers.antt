@@ -14,7 +14,7 @@ returns-in-Ok g c =
       later = c.checkpoint.ensures.later;
       cause = λ failed. absurd (cc failed);
       fits = tt;
-      step = λ x is low. by_answer g.R.Rack g.A.Area (TakeDoes x) _ x c.checkpoint.new.pool c.checkpoint.result (Ok c.in-Ok.group) c.in-Ok.is (λ holds store w. (Ok c.in-Ok.group, refl, w)) (c.checkpoint.ensures.carries x is low);
+      step = λ x is. by_answer g.R.Rack g.A.Area (TakeDoes x) _ x c.checkpoint.new.pool c.checkpoint.result (Ok c.in-Ok.group) c.in-Ok.is (λ holds store w. (Ok c.in-Ok.group, refl, w)) (c.checkpoint.ensures.carries x is);
     }
 
 pub returns-in-Err-Exists : goal.returns-in-Err-Exists
@@ -26,7 +26,7 @@ returns-in-Err-Exists g c =
       later = c.checkpoint.ensures.later;
       cause = λ failed. absurd (cc failed);
       fits = tt;
-      step = λ x is low. by_answer g.R.Rack g.A.Area (TakeDoes x) _ x c.checkpoint.new.pool c.checkpoint.result (Err (fault.Exists c.in-Err-Exists.group)) same (λ holds store w. (Err (fault.Exists c.in-Err-Exists.group), refl, w)) (c.checkpoint.ensures.carries x is low);
+      step = λ x is. by_answer g.R.Rack g.A.Area (TakeDoes x) _ x c.checkpoint.new.pool c.checkpoint.result (Err (fault.Exists c.in-Err-Exists.group)) same (λ holds store w. (Err (fault.Exists c.in-Err-Exists.group), refl, w)) (c.checkpoint.ensures.carries x is);
     }
 
 pub returns-in-Err-NoMemory : goal.returns-in-Err-NoMemory
@@ -38,7 +38,7 @@ returns-in-Err-NoMemory g c =
       later = c.checkpoint.ensures.later;
       cause = λ failed. absurd (cc failed);
       fits = tt;
-      step = λ x is low. by_answer g.R.Rack g.A.Area (TakeDoes x) _ x c.checkpoint.new.pool c.checkpoint.result (Err (fault.NoMemory)) same (λ holds store w. (Err (fault.NoMemory), refl, w)) (c.checkpoint.ensures.carries x is low);
+      step = λ x is. by_answer g.R.Rack g.A.Area (TakeDoes x) _ x c.checkpoint.new.pool c.checkpoint.result (Err (fault.NoMemory)) same (λ holds store w. (Err (fault.NoMemory), refl, w)) (c.checkpoint.ensures.carries x is);
     }
 
 pub returns-in-Err-Sync : goal.returns-in-Err-Sync
@@ -52,5 +52,5 @@ returns-in-Err-Sync g c =
       later = c.checkpoint.ensures.later;
       cause = λ failed. c.checkpoint.ensures.cause (same ∙ ap (λ w. Err (fault.Sync w)) (stopped_failed name.Checkpoint why c.stopped.result says failed));
       fits = take_fits why c.stopped.result says;
-      step = λ x is low. by_answer g.R.Rack g.A.Area (TakeDoes x) _ x c.checkpoint.new.pool c.checkpoint.result (Err (fault.Sync why)) same (λ holds store w. (Err (fault.Sync why), says, w)) (c.checkpoint.ensures.carries x is low);
+      step = λ x is. by_answer g.R.Rack g.A.Area (TakeDoes x) _ x c.checkpoint.new.pool c.checkpoint.result (Err (fault.Sync why)) same (λ holds store w. (Err (fault.Sync why), says, w)) (c.checkpoint.ensures.carries x is);
     }

@@ -14,7 +14,7 @@ returns-in-Ok g c =
       later = c.discard.ensures.later;
       cause = λ failed. absurd (cc failed);
       fits = tt;
-      step = λ x is low. by_answer g.R.Rack g.A.Area (DiscardDoes x) _ x c.discard.new.pool c.discard.result (Ok c.in-Ok.field-0) c.in-Ok.is (λ holds store w. (Ok c.in-Ok.field-0, refl, w)) (c.discard.ensures.carries x is low);
+      step = λ x is. by_answer g.R.Rack g.A.Area (DiscardDoes x) _ x c.discard.new.pool c.discard.result (Ok c.in-Ok.field-0) c.in-Ok.is (λ holds store w. (Ok c.in-Ok.field-0, refl, w)) (c.discard.ensures.carries x is);
     }
 
 pub returns-in-Err-Nothing : goal.returns-in-Err-Nothing
@@ -26,7 +26,7 @@ returns-in-Err-Nothing g c =
       later = c.discard.ensures.later;
       cause = λ failed. absurd (cc failed);
       fits = tt;
-      step = λ x is low. by_answer g.R.Rack g.A.Area (DiscardDoes x) _ x c.discard.new.pool c.discard.result (Err (fault.Nothing)) same (λ holds store w. (Err (fault.Nothing), refl, w)) (c.discard.ensures.carries x is low);
+      step = λ x is. by_answer g.R.Rack g.A.Area (DiscardDoes x) _ x c.discard.new.pool c.discard.result (Err (fault.Nothing)) same (λ holds store w. (Err (fault.Nothing), refl, w)) (c.discard.ensures.carries x is);
     }
 
 pub returns-in-Err-NoMemory : goal.returns-in-Err-NoMemory
@@ -43,5 +43,5 @@ returns-in-Err-Sync g c =
       later = c.discard.ensures.later;
       cause = λ failed. c.discard.ensures.cause (same ∙ ap (λ w. Err (fault.Sync w)) (stopped_failed name.Discard why c.stopped.result says failed));
       fits = discard_fits why c.stopped.result says;
-      step = λ x is low. by_answer g.R.Rack g.A.Area (DiscardDoes x) _ x c.discard.new.pool c.discard.result (Err (fault.Sync why)) same (λ holds store w. (Err (fault.Sync why), says, w)) (c.discard.ensures.carries x is low);
+      step = λ x is. by_answer g.R.Rack g.A.Area (DiscardDoes x) _ x c.discard.new.pool c.discard.result (Err (fault.Sync why)) same (λ holds store w. (Err (fault.Sync why), says, w)) (c.discard.ensures.carries x is);
     }

@@ -14,7 +14,7 @@ returns-in-Ok g c =
       cause = λ failed. absurd (cc failed);
       fits = tt;
       none = λ is. absurd (cc is);
-      step = λ x is low. by_answer g.R.Rack g.A.Area (RewindDoes x) _ x c.rewind.new.pool c.rewind.result (Ok c.in-Ok.field-0) c.in-Ok.is (λ holds store w. (Ok c.in-Ok.field-0, refl, w)) (c.rewind.ensures.carries x is low);
+      step = λ x is. by_answer g.R.Rack g.A.Area (RewindDoes x) _ x c.rewind.new.pool c.rewind.result (Ok c.in-Ok.field-0) c.in-Ok.is (λ holds store w. (Ok c.in-Ok.field-0, refl, w)) (c.rewind.ensures.carries x is);
     }
 
 pub returns-in-Err-Nothing : goal.returns-in-Err-Nothing
@@ -26,7 +26,7 @@ returns-in-Err-Nothing g c =
       cause = λ failed. absurd (cc failed);
       fits = tt;
       none = λ is. c.rewind.ensures.none same;
-      step = λ x is low. by_answer g.R.Rack g.A.Area (RewindDoes x) _ x c.rewind.new.pool c.rewind.result (Err (fault.Nothing)) same (λ holds store w. (Err (fault.Nothing), refl, w)) (c.rewind.ensures.carries x is low);
+      step = λ x is. by_answer g.R.Rack g.A.Area (RewindDoes x) _ x c.rewind.new.pool c.rewind.result (Err (fault.Nothing)) same (λ holds store w. (Err (fault.Nothing), refl, w)) (c.rewind.ensures.carries x is);
     }
 
 pub returns-in-Err-NoMemory : goal.returns-in-Err-NoMemory
@@ -38,7 +38,7 @@ returns-in-Err-NoMemory g c =
       cause = λ failed. absurd (cc failed);
       fits = tt;
       none = λ is. absurd (cc is);
-      step = λ x is low. by_answer g.R.Rack g.A.Area (RewindDoes x) _ x c.rewind.new.pool c.rewind.result (Err (fault.NoMemory)) same (λ holds store w. (Err (fault.NoMemory), refl, w)) (c.rewind.ensures.carries x is low);
+      step = λ x is. by_answer g.R.Rack g.A.Area (RewindDoes x) _ x c.rewind.new.pool c.rewind.result (Err (fault.NoMemory)) same (λ holds store w. (Err (fault.NoMemory), refl, w)) (c.rewind.ensures.carries x is);
     }
 
 pub returns-in-Err-Sync : goal.returns-in-Err-Sync
@@ -52,5 +52,5 @@ returns-in-Err-Sync g c =
       cause = λ failed. c.rewind.ensures.cause (same ∙ ap (λ w. Err (fault.Sync w)) (stopped_failed name.Rewind why c.stopped.result says failed));
       fits = rewind_fits why c.stopped.result says;
       none = λ is. absurd (stopped_none why c.stopped.result says is);
-      step = λ x is low. by_answer g.R.Rack g.A.Area (RewindDoes x) _ x c.rewind.new.pool c.rewind.result (Err (fault.Sync why)) same (λ holds store w. (Err (fault.Sync why), says, w)) (c.rewind.ensures.carries x is low);
+      step = λ x is. by_answer g.R.Rack g.A.Area (RewindDoes x) _ x c.rewind.new.pool c.rewind.result (Err (fault.Sync why)) same (λ holds store w. (Err (fault.Sync why), says, w)) (c.rewind.ensures.carries x is);
     }

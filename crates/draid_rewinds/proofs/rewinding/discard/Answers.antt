@@ -17,7 +17,7 @@ returns-in-Err g c =
       later = c.in-Err.ensures.later;
       cause = λ is. c.in-Err.ensures.cause (back_shelf {T = Discarded} {U = Unit} c.in-Err.why is);
       room = λ is. absurd (cc is);
-      carries = λ x r low. discard_unfinished g.R.Rack g.A.Area c.finish.new.self x 0 c.in-Err.why (c.in-Err.ensures.carries x r);
+      carries = λ x r. discard_unfinished g.R.Rack g.A.Area c.finish.new.self x 0 c.in-Err.why (c.in-Err.ensures.carries x r);
     }
 
 pub returns-then-is_none : goal.returns-then-is_none
@@ -32,7 +32,7 @@ returns-then-is_none g c =
       later = first.later;
       cause = λ is. absurd (cc is);
       room = λ is. absurd (cc is);
-      carries = λ x r low. discard_none g.R.Rack g.A.Area mid x 0 (first.carries x r) none;
+      carries = λ x r. discard_none g.R.Rack g.A.Area mid x 0 (first.carries x r) none;
     }
 
 pub let_go-freed-requires : goal.let_go-freed-requires
@@ -58,8 +58,8 @@ returns-in-Ok g c =
       later = areas_on faults old late new (areas_on faults old mid late first.later lets.later) last.later;
       cause = λ is. absurd (cc is);
       room = λ is. absurd (cc is);
-      carries = λ x r low. discarded_by g.R.Rack g.A.Area new x c.let_go-freed.result c.in-Ok.synced
-          (comes g.R.Rack g.A.Area (λ at store holds after. LetsGo at store c.let_go-freed.result holds after) old mid late new x (Ok c.in-Ok.synced) r low first.idle (first.carries x r) lets.carries last.carries);
+      carries = λ x r. discarded_by g.R.Rack g.A.Area new x c.let_go-freed.result c.in-Ok.synced
+          (comes g.R.Rack g.A.Area (λ at store holds after. LetsGo at store c.let_go-freed.result holds after) old mid late new x (Ok c.in-Ok.synced) r first.whole first.idle (first.carries x r) lets.carries last.carries);
     }
 
 pub returns-in-Err-sync : goal.returns-in-Err-sync
@@ -79,6 +79,6 @@ returns-in-Err-sync g c =
       later = areas_on faults old late new before last.later;
       cause = λ is. rose_then faults old late new before (last.cause (back_shelf {T = Discarded} {U = Synced} c.in-Err-sync.why is));
       room = λ is. absurd (cc is);
-      carries = λ x r low. discard_stopped g.R.Rack g.A.Area new x c.let_go-freed.result c.in-Err-sync.why
-          (comes g.R.Rack g.A.Area (λ at store holds after. LetsGo at store c.let_go-freed.result holds after) old mid late new x (Err c.in-Err-sync.why) r low first.idle (first.carries x r) lets.carries last.carries);
+      carries = λ x r. discard_stopped g.R.Rack g.A.Area new x c.let_go-freed.result c.in-Err-sync.why
+          (comes g.R.Rack g.A.Area (λ at store holds after. LetsGo at store c.let_go-freed.result holds after) old mid late new x (Err c.in-Err-sync.why) r first.whole first.idle (first.carries x r) lets.carries last.carries);
     }

@@ -20,7 +20,7 @@ returns-in-Err g c =
       cause = λ is. c.in-Err.ensures.cause (back_shelf {T = Rewound} {U = Unit} c.in-Err.why is);
       none = λ is. absurd (cc is);
         room = λ is. absurd (cc is);
-        carries = λ x r low. rewind_unfinished g.R.Rack g.A.Area c.finish.new.self x c.in-Err.why (c.in-Err.ensures.carries x r);
+        carries = λ x r. rewind_unfinished g.R.Rack g.A.Area c.finish.new.self x c.in-Err.why (c.in-Err.ensures.carries x r);
     }
 
 pub returns-in_default-group : goal.returns-in_default-group
@@ -30,7 +30,7 @@ returns-in_default-group g c =
     let none = ap (λ (p : Point). p.group) (sym c.point.ensures) ∙ (sym c.group.ensures ∙ c.in_default-group.is) in
     record { whole = first.whole; later = first.later; cause = λ is. absurd (cc is); none = λ is. same_pointers c.args.pool.now mid first.objects;
         room = λ is. absurd (cc is);
-        carries = λ x r low. rewind_none g.R.Rack g.A.Area mid x (first.carries x r) none }
+        carries = λ x r. rewind_none g.R.Rack g.A.Area mid x (first.carries x r) none }
 
 pub newest_born-requires : goal.newest_born-requires
 newest_born-requires g c = record { valid = subst (AreValid g.R.Rack) (sym c.deref.ensures.value) (λ m shard there. (c.in_default.ensures.whole.shards m shard there).valid) }
@@ -42,7 +42,7 @@ returns-in_default-newest_born g c =
     let some = ap (λ (p : Point). p.group) (sym c.point.ensures) ∙ (sym c.group.ensures ∙ c.in-Some.is) in
     record { whole = first.whole; later = first.later; cause = λ is. absurd (cc is); none = λ is. absurd (cc is);
         room = λ is. same_pointers c.args.pool.now mid first.objects;
-        carries = λ x r low. rewind_starved g.R.Rack g.A.Area mid x (first.carries x r) c.in-Some.group some }
+        carries = λ x r. rewind_starved g.R.Rack g.A.Area mid x (first.carries x r) c.in-Some.group some }
 
 pub go_back-requires : goal.go_back-requires
 go_back-requires g c =
@@ -70,8 +70,8 @@ returns-in-Ok-sync g c =
       cause = λ is. absurd (cc is);
       none = λ is. absurd (cc is);
             room = λ is. absurd (cc is);
-            carries = λ x r low. rewound_by g.R.Rack g.A.Area new x c.in-Ok-sync.synced c.objects.result c.objects.ensures.state
-          (comes g.R.Rack g.A.Area Reverted old mid late new x (Ok c.in-Ok-sync.synced) r low first.idle (first.carries x r) goes.carries last.carries);
+            carries = λ x r. rewound_by g.R.Rack g.A.Area new x c.in-Ok-sync.synced c.objects.result c.objects.ensures.state
+          (comes g.R.Rack g.A.Area Reverted old mid late new x (Ok c.in-Ok-sync.synced) r first.whole first.idle (first.carries x r) goes.carries last.carries);
     }
 
 pub returns-in-Err-sync : goal.returns-in-Err-sync
@@ -91,6 +91,6 @@ returns-in-Err-sync g c =
       cause = λ is. rose_then faults old late new before (last.cause (back_shelf {T = Rewound} {U = Synced} c.in-Err-sync.why is));
       none = λ is. absurd (cc is);
             room = λ is. absurd (cc is);
-            carries = λ x r low. rewind_stopped g.R.Rack g.A.Area new x c.in-Err-sync.why
-          (comes g.R.Rack g.A.Area Reverted old mid late new x (Err c.in-Err-sync.why) r low first.idle (first.carries x r) goes.carries last.carries);
+            carries = λ x r. rewind_stopped g.R.Rack g.A.Area new x c.in-Err-sync.why
+          (comes g.R.Rack g.A.Area Reverted old mid late new x (Err c.in-Err-sync.why) r first.whole first.idle (first.carries x r) goes.carries last.carries);
     }

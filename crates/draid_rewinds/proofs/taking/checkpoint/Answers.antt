@@ -15,7 +15,7 @@ returns-in-Err g c =
       same = same_pointers c.args.pool.now c.finish.new.self c.in-Err.ensures.objects;
       later = c.in-Err.ensures.later;
       cause = λ is. c.in-Err.ensures.cause (take_shelf {T = ℕ} {U = Unit} c.in-Err.why is);
-      carries = λ x r low. take_unfinished g.R.Rack g.A.Area c.finish.new.self x c.in-Err.why (λ last. c.in-Err.ensures.not_last (ap Err last)) (c.in-Err.ensures.carries x r);
+      carries = λ x r. take_unfinished g.R.Rack g.A.Area c.finish.new.self x c.in-Err.why (λ last. c.in-Err.ensures.not_last (ap Err last)) (c.in-Err.ensures.carries x r);
     }
 
 pub returns-in-Some : goal.returns-in-Some
@@ -29,7 +29,7 @@ returns-in-Some g c =
       same = same_pointers old mid first.objects;
       later = first.later;
       cause = λ is. absurd (cc is);
-      carries = λ x r low. take_exists g.R.Rack g.A.Area mid x (first.carries x r) c.in-Some.group some;
+      carries = λ x r. take_exists g.R.Rack g.A.Area mid x (first.carries x r) c.in-Some.group some;
     }
 
 pub point_for-requires : goal.point_for-requires
@@ -46,7 +46,7 @@ returns-in_default-point_for g c =
       same = same_pointers old mid first.objects;
       later = first.later;
       cause = λ is. absurd (cc is);
-      carries = λ x r low. take_starved g.R.Rack g.A.Area mid x (first.carries x r) none;
+      carries = λ x r. take_starved g.R.Rack g.A.Area mid x (first.carries x r) none;
     }
 
 pub take-requires : goal.take-requires
@@ -66,7 +66,7 @@ returns-in-Ok-take g c =
       same = λ object. last.same object ∙ same_pointers old mid first.objects object;
       later = areas_on g.A.Area.faults old mid new first.later last.later;
       cause = λ is. absurd (cc is);
-      carries = λ x r low. take_all g.R.Rack g.A.Area old mid new x r low first.idle (first.carries x r) (Ok c.in-Ok-take.synced) last.carries c.in-Ok-take.synced refl;
+      carries = λ x r. take_all g.R.Rack g.A.Area old mid new x r first.whole first.idle (first.carries x r) (Ok c.in-Ok-take.synced) last.carries c.in-Ok-take.synced refl;
     }
 
 pub returns-in-Err-take : goal.returns-in-Err-take
@@ -82,5 +82,5 @@ returns-in-Err-take g c =
       same = λ object. last.same object ∙ same_pointers old mid first.objects object;
       later = areas_on g.A.Area.faults old mid new first.later last.later;
       cause = λ is. rose_then g.A.Area.faults old mid new first.later (last.cause (take_shelf {T = ℕ} {U = Synced} why is));
-      carries = λ x r low. take_stopped g.R.Rack g.A.Area old mid new x r low first.idle (first.carries x r) (Err why) last.carries why refl;
+      carries = λ x r. take_stopped g.R.Rack g.A.Area old mid new x r first.whole first.idle (first.carries x r) (Err why) last.carries why refl;
     }
