@@ -1,5 +1,5 @@
 -- A pool is whole yet where one of its metaslabs kept its blocks, and its arms but for whether a pass has made them good.
-use Rattle.std.proofs.Common.{◌≡◌, ◌<◌, ◌∙◌, inl, inr, ℕ, List, Some, arith, sym, ap, subst, length}
+use Rattle.std.proofs.Common.{◌≡◌, ◌<◌, ◌≤◌, ◌∙◌, inl, inr, ℕ, List, Some, arith, sym, ap, subst, length}
 use Rattle.std.specs.Prelude.{nat_eq, slice_get}
 use Rattle.std.specs.HashMap.{get}
 use Rattle.std.proofs.lemmas.Bool.{cases_eq}
