@@ -14,11 +14,10 @@ use Rattle.draid_shard.specs.Part.{Part}
 use Rattle.draid_shard.specs.declared.shard.Shard.{Shard}
 use Rattle.draid_session.specs.Follows.{Follows}
 use Rattle.draid_session.specs.Groups as groups
-use Rattle.draid_session.specs.Holds.{CommitFailed, CommitStarved, Committed, Hold, On, OnUber, UberView, View}
+use Rattle.draid_session.specs.Holds.{Hold, On, OnUber}
 use Rattle.draid_session.specs.Looks.{AllOf}
-use Rattle.draid_session.specs.Phases.{Broke, Each, End, Starved, Walk, Went}
-use Rattle.draid_session.specs.State.{Metaslab, State, Store}
-use Rattle.draid_session.proofs.Looked.{Seen, follows_split, looks_seen}
+use Rattle.draid_session.specs.Phases.{End, Walk}
+use Rattle.draid_session.specs.State.{Metaslab, State}
 use Rattle.draid_pool.specs.Metaslabs.{IsMetaslab}
 use Rattle.draid_pool.specs.Pools.{Represents, part_in}
 use Rattle.draid_pool.specs.Syncing.{AreIdle}
@@ -59,10 +58,6 @@ walk_on P S p s m (suc n) holds end sum (inl (hold, rest, k, more, are, sums, on
 walk_on P S p s m (suc n) holds end sum (inr (inl (hold, are, stopped, zero_is, one))) = subst (AllOf IsOn) (sym are) (s m hold end one, tt)
 walk_on P S p s m (suc n) holds end sum (inr (inr (are, starved, zero_is))) = subst (AllOf IsOn) (sym are) tt
 
-each_on : (P : ℕ → Hold → Type 0) → ((m : ℕ) (hold : Hold) → P m hold → IsOn hold) → (m n : ℕ) (holds : List Hold) → Each P m n holds → AllOf IsOn holds
-each_on P p m zero holds e = subst (AllOf IsOn) (sym e) tt
-each_on P p m (suc n) holds (hold, rest, are, one, next) = subst (AllOf IsOn) (sym are) (p m hold one, each_on P p (m + 1) n rest next)
-
 module _ (geometry : Geometry) (perms : Perms) (group : ℕ) where
   closes_on : (m k : ℕ) (hold : Hold) → groups.Closes geometry perms group m hold k → IsOn hold
   closes_on m k (On v act) is = tt
@@ -72,51 +67,8 @@ module _ (geometry : Geometry) (perms : Perms) (group : ℕ) where
   close_stops_on m (On v act) end is = tt
   close_stops_on m (OnUber u act) end is = is
 
-  seals_on : (m k : ℕ) (hold : Hold) → groups.Seals geometry perms group m hold k → IsOn hold
-  seals_on m k (On v act) is = tt
-  seals_on m k (OnUber u act) is = is
-
-  seal_stops_on : (m : ℕ) (hold : Hold) (end : End) → groups.SealStops geometry perms group m hold end → IsOn hold
-  seal_stops_on m (On v act) end is = tt
-  seal_stops_on m (OnUber u act) end is = is
-
-  commits_on : (m : ℕ) (hold : Hold) → groups.Commits geometry perms group m hold → IsOn hold
-  commits_on m (On v act) is = tt
-  commits_on m (OnUber u act) is = is
-
   pub close_on : (holds : List Hold) (end : End) → groups.ClosePhase geometry perms group holds end → AllOf IsOn holds
   close_on holds end w = walk_on (groups.Closes geometry perms group) (groups.CloseStops geometry perms group) closes_on close_stops_on 0 geometry.props.metaslabs holds end 0 w
-
-  seal_on : (thin : ℕ) (holds : List Hold) (end : End) → groups.SealPhase geometry perms group thin holds end → AllOf IsOn holds
-  seal_on thin holds end (sum, w, same) = walk_on (groups.Seals geometry perms group) (groups.SealStops geometry perms group) seals_on seal_stops_on 0 geometry.props.metaslabs holds end sum w
-
-  -- the uberblock names the group
-  names_next : (holds : List Hold) (end : End) (x y : State) → end ≡ Went → groups.Names geometry perms group holds end → Follows holds x y → y.committed ≡ x.committed + 1
-  names_next (OnUber u (Committed t) ∷ []) Went x y went names (mid, one, rest) =
-      let sees = ap (λ (v : UberView). v.committed) one.sees in
-      let made = ap (λ (s : State). s.committed) one.acts.2 in
-      let same = ap (λ (s : State). s.committed) rest in
-      let is = names.0 in
-      let next = names.1 in
-      omega (arith, sees, made, same, is, next)
-  names_next (OnUber u (CommitFailed t) ∷ []) Broke x y went names follows = absurd (cc)
-  names_next (OnUber u (CommitStarved t) ∷ []) Starved x y went names follows = absurd (cc)
-  names_next holds end x y went names follows = absurd names
-
-  -- a group that was committed
-  pub group_next : (thin : ℕ) (holds : List Hold) (x y : State) → groups.Group geometry perms group thin holds Went → Follows holds x y → y.committed ≡ x.committed + 1
-  group_next thin holds x y (inr stopped) follows = absurd (stopped.0 refl)
-  group_next thin holds x y (inl (front, back, are, close, inr stopped)) follows = absurd (stopped.0 refl)
-  group_next thin holds x y (inl (front, back, are, close, inl (seals, rest, are_more, seal, inr stopped))) follows = absurd (stopped.0 refl)
-  group_next thin holds x y (inl (front, back, are, close, inl (seals, rest, are_more, seal, inl (names, commits, are_last, named, commit)))) follows =
-      let a = follows_split front back x y (subst (λ hs. Follows hs x y) are follows) in
-      let b = follows_split seals rest a.0 y (subst (λ hs. Follows hs a.0 y) are_more a.2) in
-      let c = follows_split names commits b.0 y (subst (λ hs. Follows hs b.0 y) are_last b.2) in
-      let one = (on_stays front x a.0 (close_on front Went close) a.1).committed in
-      let two = (on_stays seals a.0 b.0 (seal_on thin seals Went seal) b.1).committed in
-      let three = names_next names Went b.0 c.0 refl named c.1 in
-      let four = (on_stays commits c.0 y (each_on (groups.Commits geometry perms group) commits_on 0 geometry.props.metaslabs commits commit.0) c.2).committed in
-      omega (arith, one, two, three, four)
 
 module _ {R A : Type 0} (rack : racks.Ghosts R) (area : areas.Ghosts A) where
   -- ---- no group is closing
@@ -173,7 +125,7 @@ module _ {R A : Type 0} (rack : racks.Ghosts R) (area : areas.Ghosts A) where
       let near = w.near in
       let is = w.shards near.metaslab near.shard near.there in
       let groups : (near.shard.open_group ≡ near.shard.committed + 1) × (near.shard.sealed ≡ false)
-          = subst (λ o. AreGroups near.shard.open_group o near.shard.committed near.shard.sealed) (idle near.metaslab near.shard near.there) is.valid.groups in
+      = subst (λ o. AreGroups near.shard.open_group o near.shard.committed near.shard.sealed) (idle near.metaslab near.shard near.there) is.valid.groups in
       let up = near.near in
       let open_is = groups.0 in
       let own = is.committed in

@@ -19,8 +19,8 @@ returns-in-Err g c =
       later = c.in-Err.ensures.later;
       cause = λ is. c.in-Err.ensures.cause (back_shelf {T = Rewound} {U = Unit} c.in-Err.why is);
       none = λ is. absurd (cc is);
-        room = λ is. absurd (cc is);
-        carries = λ x r. rewind_unfinished g.R.Rack g.A.Area c.finish.new.self x c.in-Err.why (c.in-Err.ensures.carries x r);
+      room = λ is. absurd (cc is);
+      carries = λ x r. rewind_unfinished g.R.Rack g.A.Area c.finish.new.self x c.in-Err.why (c.in-Err.ensures.carries x r);
     }
 
 pub returns-in_default-group : goal.returns-in_default-group
@@ -28,9 +28,14 @@ returns-in_default-group g c =
     let mid = c.finish.new.self in
     let first = c.in_default.ensures in
     let none = ap (λ (p : Point). p.group) (sym c.point.ensures) ∙ (sym c.group.ensures ∙ c.in_default-group.is) in
-    record { whole = first.whole; later = first.later; cause = λ is. absurd (cc is); none = λ is. same_pointers c.args.pool.now mid first.objects;
-        room = λ is. absurd (cc is);
-        carries = λ x r. rewind_none g.R.Rack g.A.Area mid x (first.carries x r) none }
+    record {
+      whole = first.whole;
+      later = first.later;
+      cause = λ is. absurd (cc is);
+      none = λ is. same_pointers c.args.pool.now mid first.objects;
+      room = λ is. absurd (cc is);
+      carries = λ x r. rewind_none g.R.Rack g.A.Area mid x (first.carries x r) none;
+    }
 
 pub newest_born-requires : goal.newest_born-requires
 newest_born-requires g c = record { valid = subst (AreValid g.R.Rack) (sym c.deref.ensures.value) (λ m shard there. (c.in_default.ensures.whole.shards m shard there).valid) }
@@ -40,9 +45,14 @@ returns-in_default-newest_born g c =
     let mid = c.finish.new.self in
     let first = c.in_default.ensures in
     let some = ap (λ (p : Point). p.group) (sym c.point.ensures) ∙ (sym c.group.ensures ∙ c.in-Some.is) in
-    record { whole = first.whole; later = first.later; cause = λ is. absurd (cc is); none = λ is. absurd (cc is);
-        room = λ is. same_pointers c.args.pool.now mid first.objects;
-        carries = λ x r. rewind_starved g.R.Rack g.A.Area mid x (first.carries x r) c.in-Some.group some }
+    record {
+      whole = first.whole;
+      later = first.later;
+      cause = λ is. absurd (cc is);
+      none = λ is. absurd (cc is);
+      room = λ is. same_pointers c.args.pool.now mid first.objects;
+      carries = λ x r. rewind_starved g.R.Rack g.A.Area mid x (first.carries x r) c.in-Some.group some;
+    }
 
 pub go_back-requires : goal.go_back-requires
 go_back-requires g c =
@@ -69,8 +79,8 @@ returns-in-Ok-sync g c =
       later = areas_on faults old late new (areas_on faults old mid late first.later goes.later) last.later;
       cause = λ is. absurd (cc is);
       none = λ is. absurd (cc is);
-            room = λ is. absurd (cc is);
-            carries = λ x r. rewound_by g.R.Rack g.A.Area new x c.in-Ok-sync.synced c.objects.result c.objects.ensures.state
+      room = λ is. absurd (cc is);
+      carries = λ x r. rewound_by g.R.Rack g.A.Area new x c.in-Ok-sync.synced c.objects.result c.objects.ensures.state
           (comes g.R.Rack g.A.Area Reverted old mid late new x (Ok c.in-Ok-sync.synced) r first.whole first.idle (first.carries x r) goes.carries last.carries);
     }
 
@@ -90,7 +100,7 @@ returns-in-Err-sync g c =
       later = areas_on faults old late new before last.later;
       cause = λ is. rose_then faults old late new before (last.cause (back_shelf {T = Rewound} {U = Synced} c.in-Err-sync.why is));
       none = λ is. absurd (cc is);
-            room = λ is. absurd (cc is);
-            carries = λ x r. rewind_stopped g.R.Rack g.A.Area new x c.in-Err-sync.why
+      room = λ is. absurd (cc is);
+      carries = λ x r. rewind_stopped g.R.Rack g.A.Area new x c.in-Err-sync.why
           (comes g.R.Rack g.A.Area Reverted old mid late new x (Err c.in-Err-sync.why) r first.whole first.idle (first.carries x r) goes.carries last.carries);
     }
