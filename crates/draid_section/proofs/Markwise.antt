@@ -1,12 +1,12 @@
 -- What some threads' own marks say of a checkpoint, and what all marks say.
-use Rattle.std.proofs.Common.{◌≡◌, ◌≤◌, ◌∙◌, ◌||◌, [], ◌∷◌, inl, inr, ℕ, Bool, true, false, nat_le, List, Option, Some, None, All, cond, filter, refl, sym, ap, subst, arith}
+use Rattle.std.proofs.Common.{◌≡◌, ◌≤◌, ◌<◌, ◌∙◌, ◌||◌, [], ◌∷◌, inl, inr, ℕ, Bool, true, false, nat_le, List, Option, Some, None, All, cond, filter, refl, sym, ap, subst, arith}
 use Rattle.std.specs.Prelude.{⊤, option_map}
 use Rattle.std.proofs.lemmas.List.Elements.{All-cons, All-filter, All-head, All-nil, All-tail}
 use Rattle.draid_machine.specs.declared.names.Key.{Key}
 use Rattle.draid_machine.specs.Names.{key_eq}
 use Rattle.draid_machine.proofs.Small.{absurd_test, bool_cases, key_true, none_some}
 use Rattle.draid_objects.specs.Marks.{Check, Dropped, GivenUp, Made, Mark, MarksNeverFall, check_at, check_by, drops_in, is_dropped, mark_group, marks_upto}
-use Rattle.draid_objects.specs.Stores.{IsBehindChecks}
+use Rattle.draid_objects.specs.Stores.{AreMarkedUpto, IsBehindChecks}
 use Rattle.draid_pool.specs.Threads.{is_own_mark}
 
 -- two tests commute
