@@ -1,13 +1,11 @@
 -- An export makes all safe, by a sync where something isn't.
-use Rattle.std.proofs.Common.{◌≡◌, ◌<◌, ◌+◌, ◌++◌, ◌∙◌, [], ◌∷◌, inl, inr, ℕ, true, false, Some, Ok, Err, arith, refl, ap, sym}
-use Rattle.std.specs.Prelude.{◌↔◌, Bool, not, slice_get}
+use Rattle.std.proofs.Common.{◌≡◌, ◌<◌, ◌+◌, ◌++◌, ◌∙◌, [], ◌∷◌, inl, inr, ℕ, true, false, Ok, Err, arith, refl, ap, sym}
+use Rattle.std.specs.Prelude.{◌↔◌, Bool, not}
 use Rattle.std.proofs.lemmas.Bool.{true≢false}
 use Rattle.std.proofs.lemmas.Option.{slice_get_within}
 use Rattle.draid_rack.specs.declared.Rack as racks
 use Rattle.draid_area.specs.declared.Area as areas
 use Rattle.draid_machine.proofs.Small.{absurd_test}
-use Rattle.draid_shard.specs.declared.shard.Shard.{Shard}
-use Rattle.draid_shard.specs.States.{stored_in}
 use Rattle.draid_uber.specs.Slots.{group_of}
 use Rattle.draid_uber.specs.Uber.{changed_of, kept_of}
 use Rattle.draid_session.specs.Groups as groups
