@@ -163,7 +163,7 @@ at_if true o p is = (is, refl)
 at_if false o p is = absurd (cc)
 
 -- along a history of the uberblock its checkpoint is as it was
-points_by : {R A : Type 0} (rack : racks.Ghosts R) (area : areas.Ghosts A) (first : UberCell R A) (log : List (Past (UberCell R A))) → Steps (UberHold rack area) first log → point_of (left_by first log).uber ≡ point_of first.uber
+pub points_by : {R A : Type 0} (rack : racks.Ghosts R) (area : areas.Ghosts A) (first : UberCell R A) (log : List (Past (UberCell R A))) → Steps (UberHold rack area) first log → point_of (left_by first log).uber ≡ point_of first.uber
 points_by rack area first [] s = refl
 points_by rack area first (past ∷ log) s = points_by rack area past.left log s.1 ∙ s.0.point
 

@@ -1,5 +1,5 @@
 -- What some threads' own marks say of a checkpoint, and what all marks say.
-use Rattle.std.proofs.Common.{◌≡◌, ◌≤◌, ◌<◌, ◌∙◌, ◌||◌, [], ◌∷◌, ℕ, Bool, true, false, nat_le, List, Option, Some, None, All, cond, filter, refl, sym, ap, subst, arith}
+use Rattle.std.proofs.Common.{◌≡◌, ◌≤◌, ◌<◌, ◌∙◌, ◌||◌, [], ◌∷◌, inl, inr, ℕ, Bool, true, false, nat_le, List, Option, Some, None, All, cond, filter, refl, sym, ap, subst, arith}
 use Rattle.std.specs.Prelude.{⊤, option_map}
 use Rattle.std.proofs.lemmas.List.Elements.{All-cons, All-filter, All-head, All-nil, All-tail}
 use Rattle.draid_machine.specs.declared.names.Key.{Key}
@@ -44,7 +44,9 @@ same_dropped o (Some c) None k same of = absurd same
 -- one is there where the other is
 pub same_check : (o : ℕ) (a b : Option Check) (d : Check) → SameCheck o a b → b ≡ Some d → (c : Check) × (a ≡ Some c) × (c.group ≡ d.group) × ((k : Key) → k.object ≡ o → c.dropped k ≡ d.dropped k)
 same_check o None None d same is = absurd (none_some None d refl is)
-same_check o (Some c) (Some e) d same is = (c, refl, subst (λ (z : Check). (c.group ≡ z.group) × ((k : Key) → k.object ≡ o → c.dropped k ≡ z.dropped k)) (let here : e ≡ d = cc in here) same)
+same_check o (Some c) (Some e) d same is =
+    let here : e ≡ d = cc in
+    (c, refl, subst (λ (z : Check). c.group ≡ z.group) here same.0, subst (λ (z : Check). (k : Key) → k.object ≡ o → c.dropped k ≡ z.dropped k) here same.1)
 same_check o None (Some e) d same is = absurd same
 same_check o (Some c) None d same is = absurd same
 
