@@ -1,17 +1,18 @@
 -- An open pool and its book, and what a command on objects does to both.
 use Rattle.std.proofs.Common.{◌≡◌, ◌∙◌, ◌+◌, ◌<◌, ◌≤◌, ℕ, zero, suc, true, false, List, [], ◌∷◌, Option, Some, None, All, length, inl, inr, refl, sym, ap, subst, arith, ◌++◌}
-use Rattle.std.specs.Prelude.{max, slice_get}
-use Rattle.std.proofs.lemmas.List.Elements.{All-cons, All-weaker}
+use Rattle.std.specs.Prelude.{◌≢◌, ◌⊎◌, max, option_map, slice_get}
+use Rattle.std.proofs.lemmas.List.Elements.{All-cons, All-weaker, Contains-append_right}
 use Rattle.draid_names.specs.declared.room.Room.{Room}
 use Rattle.draid_spec.specs.declared.layout.Geometry.{Geometry}
 use Rattle.draid_perm.specs.declared.perms.Perms.{Perms}
 use Rattle.draid_machine.specs.declared.event.Event.TheVariants as event
 use Rattle.draid_machine.specs.State as machine
 use Rattle.draid_objects.specs.Changes.{Change, Freed, Write, Wrote, group_of, key_of, object_of, write_in, write_of}
-use Rattle.draid_session.specs.Points.{HasLateMark}
+use Rattle.draid_objects.specs.Marks.{Dropped, Mark, check_by, drops_in}
+use Rattle.draid_session.specs.Points.{HasLateMark, KeepsBirth}
 use Rattle.draid_session.specs.Book.{Book, changed, filled}
 use Rattle.draid_session.specs.Follows.{Follows, HoldsMetaslab}
-use Rattle.draid_session.specs.Holds.{Did, Hold, On, View}
+use Rattle.draid_session.specs.Holds.{Did, Hold, Looked, On, View}
 use Rattle.draid_session.specs.Groups.{behind_close, ends_group, has_other}
 use Rattle.draid_session.specs.Rooms.{stripes_for}
 use Rattle.sha2.specs.Sha256.{sha256}
@@ -19,12 +20,12 @@ use Rattle.draid_layouts.specs.Layout.{layout_of}
 use Rattle.draid_machine.specs.declared.event.Event.{Event}
 use Rattle.draid_session.specs.Looks.{AllOf, LooksFrom}
 use Rattle.draid_session.specs.State.{State, Store}
-use Rattle.draid_session.specs.Writes.{FreesBlock, FreesEarlier, Frees, Fills, PutsColumns, Tries, Writes}
+use Rattle.draid_session.specs.Writes.{DropsBlock, FreesBlock, LeavesBlock, LeavesEarlier, Frees, Fills, PutsColumns, Tries, Writes}
 use Rattle.draid_session.proofs.Noted.{ahead_last, unsynced_last, ahead_in}
 use Rattle.draid_session.proofs.Calm.{alike_by, calm_commit, hold_each, step_alike, IsCalm, CalmTo, IsCalmHold, calm_both, calm_follows, calm_more, Alike}
 use Rattle.draid_session.proofs.Looked.{follows_split}
 use Rattle.draid_session.proofs.Saying.{tells_change}
-use Rattle.draid_session.specs.Keeping.{SaysObjects, bytes_in, IsInStep, UnsyncedIn, IsNoted, AreInStep, AreNoted, HasUnsynced, HasAhead, ShowsUnsynced, IsLowFloor, KeepsOpen, IsUnderWay}
+use Rattle.draid_session.specs.Keeping.{SaysObjects, bytes_in, IsInStep, UnsyncedIn, IsNoted, AreInStep, AreNoted, HasUnsynced, HasAhead, ShowsUnsynced, IsLowFloor, HasLowFloor, HasClosing, DropsAhead, KeepsOpen, IsUnderWay}
 
 pub calm_steps : (x z : State) → CalmTo x z → AreInStep x → AreInStep z
 calm_steps x z c steps k m there =
@@ -45,6 +46,21 @@ calm_busy x z c b =
 pub calm_floor : (x z : State) (floor : ℕ) → CalmTo x z → IsLowFloor x floor → IsLowFloor z floor
 calm_floor x z floor c (inl low) = (let same = c.committed in inl (omega (arith, low, same)))
 calm_floor x z floor c (inr busy) = (let same = c.committed in let low = busy.0 in inr (omega (arith, low, same), calm_busy x z c busy.1))
+
+pub calm_closing : (x z : State) → CalmTo x z → HasClosing x → HasClosing z
+calm_closing x z c b = (let one = c.each b.k b.y b.there in record { k = b.k; y = one.0; group = b.group; there = one.1; closing = one.2.closing ∙ b.closing })
+
+pub calm_drops : (x z : State) (marks : List Mark) (floor : ℕ) → CalmTo x z → DropsAhead x marks floor → DropsAhead z marks floor
+calm_drops x z marks floor c d = record {
+  low = (let same = c.committed in let low = d.low in omega (arith, low, same));
+  closes = calm_closing x z c d.closes;
+  late = subst (λ n. HasLateMark (n + 1) marks) (sym c.committed) d.late;
+  stands = d.stands;
+}
+
+pub calm_low : (x z : State) (marks : List Mark) (floor : ℕ) → CalmTo x z → HasLowFloor x marks floor → HasLowFloor z marks floor
+calm_low x z marks floor c (inl low) = inl (calm_floor x z floor c low)
+calm_low x z marks floor c (inr drops) = inr (calm_drops x z marks floor c drops)
 
 pub calm_noted : (x z : State) → CalmTo x z → AreNoted x → AreNoted z
 calm_noted x z c noted k m there = (let one = c.back k m there in one.3.noted (noted k one.0 one.1))
@@ -77,19 +93,23 @@ calm_fit x z store b c f = record {
   noted = calm_noted x z c f.noted;
   shows = calm_used x z store c f.shows;
   groups = f.groups;
-  floor = calm_floor x z store.floor c f.floor;
+  floor = calm_low x z store.marks store.floor c f.floor;
 }
 
+calm_shows : (x z : State) (marks : List Mark) → CalmTo x z → HasUnsynced x ⊎ HasLateMark x.committed marks → HasUnsynced z ⊎ HasLateMark z.committed marks
+calm_shows x z marks c (inl unsynced) = inl (calm_unsynced x z c unsynced)
+calm_shows x z marks c (inr late) = inr (subst (λ n. HasLateMark n marks) (sym c.committed) late)
+
 -- a call used a group: the greater of the one that was open in a metaslab and the floor
-pub record Uses (x : State) (floor group : ℕ) : Type 0 where
+pub record Uses (x : State) (marks : List Mark) (floor group : ℕ) : Type 0 where
   pub later : x.committed < group
   pub above : floor ≤ group
-  pub is_floor : IsLowFloor x group
-  pub unsynced : HasUnsynced x
+  pub is_floor : HasLowFloor x marks group
+  pub shows : HasUnsynced x ⊎ HasLateMark x.committed marks
 
-pub uses_by : (v : View) (e : Event) (w : machine.State) (x z : State) (floor group : ℕ) → IsCalm e → ((g : ℕ) → ends_group g e ≡ false) → (it : HoldsMetaslab v (Did e w) x z)
-    → AreInStep x → AreNoted x → IsLowFloor x floor → group ≡ max it.before.world.open_group floor → Uses z floor group
-uses_by v e w x z floor group calm other it steps noted low is = by it.before.world.closing refl low
+pub uses_by : (v : View) (e : Event) (w : machine.State) (x z : State) (marks : List Mark) (floor group : ℕ) → IsCalm e → ((g : ℕ) → ends_group g e ≡ false) → (it : HoldsMetaslab v (Did e w) x z)
+    → AreInStep x → AreNoted x → HasLowFloor x marks floor → group ≡ max it.before.world.open_group floor → Uses z marks floor group
+uses_by v e w x z marks floor group calm other it steps noted low is = by it.before.world.closing refl low
   where
     calm_to : CalmTo x z
     calm_to = calm_follows (On v (Did e w) ∷ []) x z (calm, tt) (z, it, refl)
@@ -128,29 +148,35 @@ uses_by v e w x z floor group calm other it steps noted low is = by it.before.wo
       ahead = subst (λ es. has_other t (behind_close t es) ≡ true) (sym it.acts.stored) (ahead_last it.before.world.committed it.before.world.closing it.before.events e t n some (other t));
     }
 
-    by : (o : Option ℕ) → it.before.world.closing ≡ o → IsLowFloor x floor → Uses z floor group
-    by None none (inl l) =
-        (let at = same in let open_group = step.idle none in record { later = omega (arith, open_group, is, at); above = omega (arith, is); is_floor = inl (omega (arith, open_group, is, l, at)); unsynced = unsynced })
-    by None none (inr l) =
+    by : (o : Option ℕ) → it.before.world.closing ≡ o → HasLowFloor x marks floor → Uses z marks floor group
+    by None none (inl (inl l)) =
+        (let at = same in let open_group = step.idle none in record { later = omega (arith, open_group, is, at); above = omega (arith, is); is_floor = inl (inl (omega (arith, open_group, is, l, at))); shows = inl unsynced })
+    by None none (inl (inr l)) =
         (let at = same in let open_group = step.idle none in let l0 = l.0 in
-        record { later = omega (arith, open_group, is, at); above = omega (arith, is); is_floor = inr (omega (arith, open_group, is, l0, at), calm_busy x z calm_to l.1); unsynced = unsynced })
-    by (Some t) some (inl l) =
+        record { later = omega (arith, open_group, is, at); above = omega (arith, is); is_floor = inl (inr (omega (arith, open_group, is, l0, at), calm_busy x z calm_to l.1)); shows = inl unsynced })
+    by (Some t) some (inl (inl l)) =
         (let at = same in let s = step.busy t some in let s0 = s.0 in let s1 = s.1 in
-        record { later = omega (arith, s0, s1, is, at); above = omega (arith, is); is_floor = inr (omega (arith, s0, s1, is, l, at), busy t some); unsynced = unsynced })
-    by (Some t) some (inr l) =
+        record { later = omega (arith, s0, s1, is, at); above = omega (arith, is); is_floor = inl (inr (omega (arith, s0, s1, is, l, at), busy t some)); shows = inl unsynced })
+    by (Some t) some (inl (inr l)) =
         (let at = same in let s = step.busy t some in let s0 = s.0 in let s1 = s.1 in let l0 = l.0 in
-        record { later = omega (arith, s0, s1, is, at); above = omega (arith, is); is_floor = inr (omega (arith, s0, s1, is, l0, at), calm_busy x z calm_to l.1); unsynced = unsynced })
+        record { later = omega (arith, s0, s1, is, at); above = omega (arith, is); is_floor = inl (inr (omega (arith, s0, s1, is, l0, at), calm_busy x z calm_to l.1)); shows = inl unsynced })
+    by None none (inr d) =
+        (let at = same in let open_group = step.idle none in let low = d.low in
+        record { later = omega (arith, open_group, is, at); above = omega (arith, is); is_floor = inr (record { low = omega (arith, open_group, is, low, at); closes = calm_closing x z calm_to d.closes; late = (calm_drops x z marks floor calm_to d).late; stands = d.stands }); shows = inl unsynced })
+    by (Some t) some (inr d) =
+        (let at = same in let s = step.busy t some in let s0 = s.0 in let s1 = s.1 in let low = d.low in
+        record { later = omega (arith, s0, s1, is, at); above = omega (arith, is); is_floor = inl (inr (omega (arith, s0, s1, is, low, at), busy t some)); shows = inl unsynced })
 
-uses_calm : (x z : State) (floor group : ℕ) → CalmTo x z → Uses x floor group → Uses z floor group
-uses_calm x z floor group c u =
-    (let same = c.committed in let later = u.later in record { later = omega (arith, later, same); above = u.above; is_floor = calm_floor x z group c u.is_floor; unsynced = calm_unsynced x z c u.unsynced })
+uses_calm : (x z : State) (marks : List Mark) (floor group : ℕ) → CalmTo x z → Uses x marks floor group → Uses z marks floor group
+uses_calm x z marks floor group c u =
+    (let same = c.committed in let later = u.later in record { later = omega (arith, later, same); above = u.above; is_floor = calm_low x z marks group c u.is_floor; shows = calm_shows x z marks c u.shows })
 
 -- a change of an object, in a group that a call uses, where the floor comes to be one that it uses then
 pub fit_change : (x : State) (c : Change) (store new : Store) (b : Book) → KeepsOpen x store b → x.committed < group_of c → store.floor ≤ group_of c → group_of c ≤ new.floor → store.floor ≤ new.floor
-    → IsLowFloor x new.floor → HasUnsynced x
+    → HasLowFloor x new.marks new.floor → HasUnsynced x ⊎ HasLateMark x.committed new.marks
     → new.changes ≡ c ∷ store.changes → (object : ℕ) (bytes : Option (List ℕ)) → object_of c ≡ object
     → bytes_in (write_in (Some c)) ≡ bytes → KeepsOpen x new (changed object bytes b)
-fit_change x c store new b f later last within above floor unsynced made object bytes o is = record {
+fit_change x c store new b f later last within above floor shown made object bytes o is = record {
   is_open = f.is_open;
   says = subst (λ cs. SaysObjects x.committed cs (changed object bytes b)) (sym made)
       (subst (λ n. SaysObjects x.committed (c ∷ store.changes) (changed n bytes b)) o
@@ -164,16 +190,16 @@ fit_change x c store new b f later last within above floor unsynced made object 
   inside = f.inside;
   place = f.place;
   noted = f.noted;
-  shows = inr (inl unsynced);
+  shows = inr shown;
   groups = subst (All (λ d. group_of d ≤ new.floor)) (sym made)
       (All-cons (λ d. group_of d ≤ new.floor) c store.changes within (All-weaker (λ d. group_of d ≤ store.floor) (λ d. group_of d ≤ new.floor) (λ d less. omega (arith, less, above)) store.changes f.groups));
   floor = floor;
 }
 
 -- only the floor rises
-pub fit_floor : (x : State) (store new : Store) (b : Book) → KeepsOpen x store b → store.floor ≤ new.floor → IsLowFloor x new.floor → HasUnsynced x
+pub fit_floor : (x : State) (store new : Store) (b : Book) → KeepsOpen x store b → store.floor ≤ new.floor → HasLowFloor x new.marks new.floor → HasUnsynced x ⊎ HasLateMark x.committed new.marks
     → new.changes ≡ store.changes → KeepsOpen x new b
-fit_floor x store new b f above floor unsynced made = record {
+fit_floor x store new b f above floor shown made = record {
   is_open = f.is_open;
   says = subst (λ cs. SaysObjects x.committed cs b) (sym made) f.says;
   low = f.low;
@@ -185,7 +211,7 @@ fit_floor x store new b f above floor unsynced made = record {
   inside = f.inside;
   place = f.place;
   noted = f.noted;
-  shows = inr (inl unsynced);
+  shows = inr shown;
   groups = subst (All (λ d. group_of d ≤ new.floor)) (sym made) (All-weaker (λ d. group_of d ≤ store.floor) (λ d. group_of d ≤ new.floor) (λ d less. omega (arith, less, above)) store.changes f.groups);
   floor = floor;
 }
@@ -201,31 +227,120 @@ pub puts_calm : (key : _) (m n : ℕ) (holds : List Hold) → PutsColumns key m 
 puts_calm key m zero holds puts = subst (AllOf IsCalmHold) (sym puts) tt
 puts_calm key m (suc n) holds puts = subst (AllOf IsCalmHold) (sym puts.2) (subst IsCalmHold (sym puts.3.did) tt, puts_calm key m n puts.1 puts.4)
 
+-- a further mark
+late_more : (n : ℕ) (mark : Mark) (marks : List Mark) → HasLateMark n marks → HasLateMark n (mark ∷ marks)
+late_more n mark marks late = record { mark = late.mark; there = Contains-append_right (mark ∷ []) marks late.mark late.there; late = late.late }
+
+pub low_two : (x : State) (marks : List Mark) (floor : ℕ) → HasLowFloor x marks floor → floor ≤ x.committed + 2
+low_two x marks floor (inl (inl low)) = omega (arith, low)
+low_two x marks floor (inl (inr busy)) = busy.0
+low_two x marks floor (inr drops) = drops.low
+
 -- a block is freed
-pub frees_uses : (w : Write) (floor group : ℕ) (holds : List Hold) (x z : State) → FreesBlock w floor group holds → Follows holds x z → AreInStep x → AreNoted x
-    → IsLowFloor x floor → Uses z floor group × CalmTo x z
-frees_uses w floor group holds x z f follows steps noted low =
+pub frees_uses : (marks : List Mark) (w : Write) (floor group : ℕ) (holds : List Hold) (x z : State) → FreesBlock w floor group holds → Follows holds x z → AreInStep x → AreNoted x
+    → HasLowFloor x marks floor → Uses z marks floor group × CalmTo x z
+frees_uses marks w floor group holds x z f follows steps noted low =
     let all : Follows (On f.v (Did (event.Free (key_of w) group) f.after) ∷ []) x z = subst (λ hs. Follows hs x z) f.did follows in
     let it = all.1 in
     let calm : CalmTo x z = calm_follows (On f.v (Did (event.Free (key_of w) group) f.after) ∷ []) x z (tt, tt) all in
     let is : group ≡ max it.before.world.open_group floor = f.group_is ∙ ap (λ (v : View). max v.world.open_group floor) it.sees in
-    let u = uses_by f.v (event.Free (key_of w) group) f.after x all.0 floor group tt (λ g. refl) it steps noted low is in
-    (subst (λ (s : State). Uses s floor group) (sym all.2) u, calm)
+    let u = uses_by f.v (event.Free (key_of w) group) f.after x all.0 marks floor group tt (λ g. refl) it steps noted low is in
+    (subst (λ (s : State). Uses s marks floor group) (sym all.2) u, calm)
+
+-- it is dropped
+drops_uses : (marks : List Mark) (w : Write) (floor group : ℕ) (holds : List Hold) (x z : State) → KeepsBirth marks w.birth → DropsBlock w floor group holds → Follows holds x z → AreInStep x
+    → HasLowFloor x marks floor → Uses z (Dropped (key_of w) group ∷ marks) floor group × CalmTo x z
+drops_uses marks w floor group holds x z kept d follows steps low = (by it.before.world.closing refl low, calm)
+  where
+    after : List Mark
+    after = Dropped (key_of w) group ∷ marks
+
+    all : Follows (On d.v Looked ∷ []) x z
+    all = subst (λ hs. Follows hs x z) d.looked follows
+
+    it : HoldsMetaslab d.v Looked x all.0
+    it = all.1
+
+    calm : CalmTo x z
+    calm = calm_follows (On d.v Looked ∷ []) x z (tt, tt) all
+
+    is : group ≡ max it.before.world.open_group floor
+    is = d.group_is ∙ ap (λ (v : View). max v.world.open_group floor) it.sees
+
+    step : IsInStep x.committed it.before.world
+    step = steps d.v.metaslab it.before it.there
+
+    there : check_by after ≢ None
+    there none = (let has = ap (option_map (drops_in (key_of w))) kept.1 in let both = sym none ∙ has in cc)
+
+    mark : (n : ℕ) → n < group → HasLateMark n after
+    mark n less = record { mark = Dropped (key_of w) group; there = (0, omega arith, refl); late = less }
+
+    by : (o : Option ℕ) → it.before.world.closing ≡ o → HasLowFloor x marks floor → Uses z after floor group
+    by None none (inl (inl l)) =
+        (let at = calm.committed in let open_group = step.idle none in record { later = omega (arith, open_group, is, at); above = omega (arith, is); is_floor = inl (inl (omega (arith, open_group, is, l, at))); shows = inr (mark z.committed (omega (arith, open_group, is, at))) })
+    by None none (inl (inr l)) =
+        (let at = calm.committed in let open_group = step.idle none in let l0 = l.0 in
+        record { later = omega (arith, open_group, is, at); above = omega (arith, is); is_floor = inl (inr (omega (arith, open_group, is, l0, at), calm_busy x z calm l.1)); shows = inr (mark z.committed (omega (arith, open_group, is, at))) })
+    by None none (inr e) =
+        (let at = calm.committed in let open_group = step.idle none in let low = e.low in let old = calm_drops x z marks floor calm e in
+        record { later = omega (arith, open_group, is, at); above = omega (arith, is); is_floor = inr (record { low = omega (arith, open_group, is, low, at); closes = old.closes; late = late_more (z.committed + 1) (Dropped (key_of w) group) marks old.late; stands = there }); shows = inr (mark z.committed (omega (arith, open_group, is, at))) })
+    by (Some t) some l =
+        (let at = calm.committed in let s = step.busy t some in let s0 = s.0 in let s1 = s.1 in let high = low_two x marks floor l in
+        record {
+          later = omega (arith, s0, s1, is, at);
+          above = omega (arith, is);
+          is_floor = inr (record {
+            low = omega (arith, s0, s1, is, high, at);
+            closes = calm_closing x z calm (record { k = d.v.metaslab; y = it.before; group = t; there = it.there; closing = some });
+            late = mark (z.committed + 1) (omega (arith, s0, s1, is, at));
+            stands = there;
+          });
+          shows = inr (mark z.committed (omega (arith, s0, s1, is, at)));
+        })
+
+-- the one or the other
+pub leaves_uses : (marks after : List Mark) (w : Write) (floor group : ℕ) (holds : List Hold) (x z : State) → LeavesBlock marks w floor group holds after → Follows holds x z → AreInStep x → AreNoted x
+    → HasLowFloor x marks floor → Uses z after floor group × CalmTo x z
+leaves_uses marks after w floor group holds x z (inl f) follows steps noted low =
+    subst (λ ms. Uses z ms floor group × CalmTo x z) (sym f.2) (frees_uses marks w floor group holds x z f.1 follows steps noted low)
+leaves_uses marks after w floor group holds x z (inr d) follows steps noted low =
+    subst (λ ms. Uses z ms floor group × CalmTo x z) (sym d.2) (drops_uses marks w floor group holds x z d.0 d.1 follows steps low)
+
+pub low_by : (z : State) (marks : List Mark) (new : Store) (group : ℕ) → new.marks ≡ marks → new.floor ≡ group → HasLowFloor z marks group → HasLowFloor z new.marks new.floor
+low_by z marks new group same floor low = subst (HasLowFloor z new.marks) (sym floor) (subst (λ ms. HasLowFloor z ms group) (sym same) low)
+
+pub shown_by : (z : State) (marks : List Mark) (new : Store) → new.marks ≡ marks → HasUnsynced z ⊎ HasLateMark z.committed marks → HasUnsynced z ⊎ HasLateMark z.committed new.marks
+shown_by z marks new same shows = subst (λ ms. HasUnsynced z ⊎ HasLateMark z.committed ms) (sym same) shows
+
+-- what an event of a write shows stays with the marks
+pub shown_more : (z : State) (marks after : List Mark) → ((n : ℕ) → HasLateMark n marks → HasLateMark n after) → HasUnsynced z ⊎ HasLateMark z.committed marks → HasUnsynced z ⊎ HasLateMark z.committed after
+shown_more z marks after more (inl unsynced) = inl unsynced
+shown_more z marks after more (inr late) = inr (more z.committed late)
+
+-- behind a block that is left there are the marks from before
+pub leaves_more : (marks after : List Mark) (w : Write) (floor group : ℕ) (holds : List Hold) → LeavesBlock marks w floor group holds after → (n : ℕ) → HasLateMark n marks → HasLateMark n after
+leaves_more marks after w floor group holds (inl f) n late = subst (HasLateMark n) (sym f.2) late
+leaves_more marks after w floor group holds (inr d) n late = subst (HasLateMark n) (sym d.2) (late_more n (Dropped (key_of w) group) marks late)
+
+pub earlier_more : (marks after : List Mark) (o : Option Write) (floor group : ℕ) (holds : List Hold) → LeavesEarlier marks o floor group holds after → (n : ℕ) → HasLateMark n marks → HasLateMark n after
+earlier_more marks after None floor group holds f n late = subst (HasLateMark n) (sym f.2) late
+earlier_more marks after (Some w) floor group holds f n late = leaves_more marks after w floor group holds f n late
 
 pub frees_fit : (object : ℕ) (old new : Store) (holds : List Hold) (x z : State) (b : Book) → Frees object old holds new → Follows holds x z → KeepsOpen x old b
     → KeepsOpen z new (changed object None b)
 frees_fit object old new holds x z b f follows fit =
-    let u = frees_uses f.w old.floor f.group holds x z f.frees follows fit.steps fit.noted fit.floor in
+    let u = leaves_uses old.marks f.marks f.w old.floor f.group holds x z f.leaves follows fit.steps fit.noted fit.floor in
     let c : Change = Freed object f.group in
     let low : f.group ≤ new.floor = (let made = ap (λ (s : Store). s.floor) f.made in omega (arith, made)) in
     let above : old.floor ≤ new.floor = (let a = u.0.above in omega (arith, a, low)) in
-    fit_change z c old new b (calm_fit x z old b u.1 fit) u.0.later u.0.above low above (subst (IsLowFloor z) (sym (ap (λ (s : Store). s.floor) f.made)) u.0.is_floor) u.0.unsynced (ap (λ (s : Store). s.changes) f.made) object None refl refl
+    fit_change z c old new b (calm_fit x z old b u.1 fit) u.0.later u.0.above low above (low_by z f.marks new f.group (ap (λ (s : Store). s.marks) f.made) (ap (λ (s : Store). s.floor) f.made) u.0.is_floor) (shown_by z f.marks new (ap (λ (s : Store). s.marks) f.made) u.0.shows) (ap (λ (s : Store). s.changes) f.made) object None refl refl
 
 module _ (geometry : Geometry) (perms : Perms) (chosen : List Room → Option ℕ → Type 0) where
   -- a block is tried
   pub tries_uses : (object : ℕ) (bytes : List ℕ) (old : Store) (m birth columns : ℕ) (holds : List Hold) (x z : State)
       → Tries geometry perms chosen object bytes old m birth columns holds
-      → Follows holds x z → AreInStep x → AreNoted x → IsLowFloor x old.floor → Uses z old.floor birth × CalmTo x z
+      → Follows holds x z → AreInStep x → AreNoted x → HasLowFloor x old.marks old.floor → Uses z old.marks old.floor birth × CalmTo x z
   tries_uses object bytes old m birth columns holds x z t follows steps noted low =
       let parts = follows_split t.looks t.written x z (subst (λ hs. Follows hs x z) t.are follows) in
       let s = parts.0 in
@@ -236,19 +351,19 @@ module _ (geometry : Geometry) (perms : Perms) (chosen : List Room → Option �
       let is : birth ≡ max it.before.world.open_group old.floor = w.birth_is ∙ ap (λ (v : View). max v.world.open_group old.floor) it.sees in
       let rest : AllOf IsCalmHold (w.puts ++ On w.last (Did (event.Finish w.key) w.ended) ∷ []) =
       calm_both w.puts (On w.last (Did (event.Finish w.key) w.ended) ∷ []) (puts_calm w.key m geometry.g w.puts w.all_put) (tt, tt) in
-      let u = uses_by w.v (event.Begin w.key w.first (stripes_for geometry bytes) (length bytes) birth (sha256 bytes)) w.begun s all.0 old.floor birth tt (λ g. refl) it (calm_steps x s looked steps)
-      (calm_noted x s looked noted) (calm_floor x s old.floor looked low) is in
+      let u = uses_by w.v (event.Begin w.key w.first (stripes_for geometry bytes) (length bytes) birth (sha256 bytes)) w.begun s all.0 old.marks old.floor birth tt (λ g. refl) it (calm_steps x s looked steps)
+      (calm_noted x s looked noted) (calm_low x s old.marks old.floor looked low) is in
       let calm : CalmTo s z = calm_follows t.written s z (subst (AllOf IsCalmHold) (sym w.are) (tt, rest)) parts.2 in
-      (uses_calm all.0 z old.floor birth (calm_follows (w.puts ++ On w.last (Did (event.Finish w.key) w.ended) ∷ []) all.0 z rest all.2) u, calm_more x s z looked calm)
+      (uses_calm all.0 z old.marks old.floor birth (calm_follows (w.puts ++ On w.last (Did (event.Finish w.key) w.ended) ∷ []) all.0 z rest all.2) u, calm_more x s z looked calm)
 
-  pub earlier_uses : (o : Option Write) (floor group : ℕ) (holds : List Hold) (x z : State) → FreesEarlier o floor group holds → Follows holds x z → AreInStep x → AreNoted x
-      → IsLowFloor x floor
-      → (floor ≤ group) × IsLowFloor z group × CalmTo x z
-  earlier_uses None floor group holds x z f follows steps noted low =
+  pub earlier_uses : (marks after : List Mark) (o : Option Write) (floor group : ℕ) (holds : List Hold) (x z : State) → LeavesEarlier marks o floor group holds after → Follows holds x z → AreInStep x → AreNoted x
+      → HasLowFloor x marks floor
+      → (floor ≤ group) × HasLowFloor z after group × CalmTo x z
+  earlier_uses marks after None floor group holds x z f follows steps noted low =
       let calm : CalmTo x z = calm_follows holds x z (subst (AllOf IsCalmHold) (sym f.0) tt) follows in
       let same = f.1 in
-      (omega (arith, same), calm_floor x z group calm (subst (IsLowFloor x) (sym same) low), calm)
-  earlier_uses (Some w) floor group holds x z f follows steps noted low = (let u = frees_uses w floor group holds x z f follows steps noted low in (u.0.above, u.0.is_floor, u.1))
+      (omega (arith, same), subst (λ ms. HasLowFloor z ms group) (sym f.2) (calm_low x z marks group calm (subst (HasLowFloor x marks) (sym same) low)), calm)
+  earlier_uses marks after (Some w) floor group holds x z f follows steps noted low = (let u = leaves_uses marks after w floor group holds x z f follows steps noted low in (u.0.above, u.0.is_floor, u.1))
 
   pub writes_fit : (object : ℕ) (bytes : List ℕ) (old new : Store) (holds : List Hold) (x z : State) (b : Book) → Writes geometry perms chosen object bytes old holds new
       → Follows holds x z
@@ -257,14 +372,14 @@ module _ (geometry : Geometry) (perms : Perms) (chosen : List Room → Option �
       let parts = follows_split w.tried w.freed x z (subst (λ hs. Follows hs x z) w.are follows) in
       let a = parts.0 in
       let t = tries_uses object bytes old w.m w.birth w.columns w.tried x a w.tries parts.1 fit.steps fit.noted fit.floor in
-      let e = earlier_uses (write_of old.changes object) w.birth w.group w.freed a z w.frees parts.2 (calm_steps x a t.1 fit.steps) (calm_noted x a t.1 fit.noted) t.0.is_floor in
+      let e = earlier_uses old.marks w.marks (write_of old.changes object) w.birth w.group w.freed a z w.leaves parts.2 (calm_steps x a t.1 fit.steps) (calm_noted x a t.1 fit.noted) t.0.is_floor in
       let calm : CalmTo x z = calm_more x a z t.1 e.2 in
-      let later : z.committed < w.birth = (uses_calm a z old.floor w.birth e.2 t.0).later in
+      let later : z.committed < w.birth = (uses_calm a z old.marks old.floor w.birth e.2 t.0).later in
       let made : new.floor ≡ w.group = ap (λ (s : Store). s.floor) w.made in
       let within : w.birth ≤ new.floor = (let e0 = e.0 in omega (arith, e0, made)) in
       let above : old.floor ≤ new.floor = (let t0 = t.0.above in omega (arith, t0, within)) in
       fit_change z (Wrote (record { object = object; seq = old.seq + 1; metaslab = w.m; birth = w.birth; bytes = bytes })) old new b (calm_fit x z old b calm fit) later t.0.above within above
-      (subst (IsLowFloor z) (sym made) e.1) (uses_calm a z old.floor w.birth e.2 t.0).unsynced (ap (λ (s : Store). s.changes) w.made) object (Some bytes) refl refl
+      (low_by z w.marks new w.group (ap (λ (s : Store). s.marks) w.made) made e.1) (shown_by z w.marks new (ap (λ (s : Store). s.marks) w.made) (shown_more z old.marks w.marks (earlier_more old.marks w.marks (write_of old.changes object) w.birth w.group w.freed w.leaves) (uses_calm a z old.marks old.floor w.birth e.2 t.0).shows)) (ap (λ (s : Store). s.changes) w.made) object (Some bytes) refl refl
 
   pub fills_fit : (content : ℕ → List ℕ) (first n : ℕ) (old new : Store) (holds : List Hold) (x z : State) (b : Book)
       → Fills geometry perms chosen content first n old holds new → Follows holds x z

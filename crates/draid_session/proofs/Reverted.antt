@@ -4,12 +4,12 @@ use Rattle.std.specs.Prelude.{Contains}
 use Rattle.std.proofs.lemmas.List.Elements.{All-cons, All-head, All-tail, All-weaker, Contains-append_left, Contains-push}
 use Rattle.draid_machine.proofs.Small.{is_low, none_some}
 use Rattle.draid_objects.specs.Changes.{Change, Freed, Restored, Wrote, group_of, kept, object_of, write_of}
-use Rattle.draid_objects.specs.Marks.{GivenUp}
+use Rattle.draid_objects.specs.Marks.{GivenUp, Mark}
 use Rattle.draid_objects.specs.Rewinds.{GoesBack}
 use Rattle.draid_objects.proofs.Finding.{kept_all, kept_later}
 use Rattle.draid_session.specs.Book.{Book, HaveBeen, Objects, reverted}
 use Rattle.draid_session.specs.GoingBack.{Reverts}
-use Rattle.draid_session.specs.Keeping.{IsLowFloor, KeepsOpen, bytes_in}
+use Rattle.draid_session.specs.Keeping.{KeepsOpen, bytes_in, HasLowFloor}
 use Rattle.draid_session.specs.State.{State, Store}
 use Rattle.draid_session.proofs.Saying.{have_same, high, not_low}
 use Rattle.draid_session.proofs.Syncing.{AreIdle}
@@ -33,9 +33,10 @@ back_low n check at old cs (c ∷ back) less low all =
     All-cons (λ d. group_of d ≤ n) c (back ++ cs) (omega (arith, is, less)) (back_low n check at old cs back less low (All-tail (GoesBack check at old) c back all))
 
 -- where no group is closing, the floor is the open group
-idle_floor : (y : State) (floor : ℕ) → AreIdle y → IsLowFloor y floor → floor ≤ y.committed + 1
-idle_floor y floor idle (inl low) = low
-idle_floor y floor idle (inr (low, ahead)) = absurd (none_some ahead.y.world.closing ahead.group (idle ahead.k ahead.y ahead.there) ahead.closing)
+pub idle_floor : (y : State) (marks : List Mark) (floor : ℕ) → AreIdle y → HasLowFloor y marks floor → floor ≤ y.committed + 1
+idle_floor y marks floor idle (inr e) = absurd (none_some e.closes.y.world.closing e.closes.group (idle e.closes.k e.closes.y e.closes.there) e.closes.closing)
+idle_floor y marks floor idle (inl (inl low)) = low
+idle_floor y marks floor idle (inl (inr (low, ahead))) = absurd (none_some ahead.y.world.closing ahead.group (idle ahead.k ahead.y ahead.there) ahead.closing)
 
 pub reverted_fit : (y : State) (old new : Store) (b : Book) (committed : ℕ) → AreIdle y → committed ≡ y.committed → Reverts (committed + 1) old new → KeepsOpen y old b
     → KeepsOpen y new (reverted (λ o. bytes_in (write_of new.changes o)) b)
@@ -58,7 +59,7 @@ reverted_fit y old new b committed idle at r f = record {
     late = omega (arith, at);
   }));
   groups = all new.floor (let is = r.floor in omega (arith, is)) (let is = r.floor in omega (arith, is));
-  floor = inl (let is = r.floor in let low = idle_floor y old.floor idle f.floor in omega (arith, is, low, at));
+  floor = inl (inl (let is = r.floor in let low = idle_floor y old.marks old.floor idle f.floor in omega (arith, is, low, at)));
 }
   where
     all : (n : ℕ) → committed + 1 ≤ n → old.floor ≤ n → All (λ c. group_of c ≤ n) new.changes
@@ -71,7 +72,7 @@ reverted_fit y old new b committed idle at r f = record {
 
     later : (t o : ℕ) → committed + 1 ≤ t → kept t new.changes o ≡ write_of new.changes o
     later t o less =
-        let low = idle_floor y old.floor idle f.floor in
+        let low = idle_floor y old.marks old.floor idle f.floor in
         kept_all t o new.changes (All-weaker (λ c. group_of c ≤ t) (λ c. object_of c ≡ o → group_of c ≤ t) (λ c small is. small) new.changes (all t less (omega (arith, low, at, less))))
 
     had_then : (objects : Objects) → HaveBeen b objects → HaveBeen (reverted (λ o. bytes_in (write_of new.changes o)) b) objects

@@ -19,7 +19,7 @@ use Rattle.draid_layouts.specs.Layout.{layout_of}
 use Rattle.draid_session.specs.Follows.{Adds, Follows, Holds, MetaslabActs}
 use Rattle.draid_session.specs.Holds.{Act, AreaFailed, AsksVersion, CommitFailed, CommitStarved, Committed, Did, Hold, Looked, LookedUber, MadeLeaf, NextLeaf, On, OnUber, RackFailed, Reserved, View, CallStarved}
 use Rattle.draid_session.specs.Points.{HasLateMark}
-use Rattle.draid_session.specs.Keeping.{IsInStep, HasAhead, HasUnsynced, IsLowFloor, IsNoted, IsUnderWay, KeepsOpen, SaysObjects}
+use Rattle.draid_session.specs.Keeping.{IsInStep, HasAhead, HasUnsynced, IsLowFloor, IsNoted, IsUnderWay, KeepsOpen, SaysObjects, HasLowFloor}
 use Rattle.draid_session.specs.LaneBook.{AnswersSection, AreCertain, Changes, Deed, LanesSay, Named}
 use Rattle.draid_session.specs.Lanes.{Clashes, IsMerged, Lane, LanesRan, Names, Section, greatest, holds_of, is_of, store_of}
 use Rattle.draid_session.specs.Looks.{AllOf}
@@ -258,8 +258,16 @@ module _ (x : State) (choices : Choices) (commands : List (List Command)) (repli
   low_down k floor less (inl a) = inl (omega (arith, less, a))
   low_down k floor less (inr a) = (let a0 = a.0 in inr (omega (arith, less, a0), a.1))
 
+  -- no block was dropped ahead, as no checkpoint stands
+  low_first : IsLowFloor x first
+  low_first = by fit.floor
+    where
+      by : HasLowFloor x x.store.marks first → IsLowFloor x first
+      by (inl low) = low
+      by (inr e) = absurd (e.stands it.unpointed)
+
   floors : (mine : ℕ → Type 0) → lane.Floors new c first many mine in_step inside origin from first
-  floors mine = elim fit.floor [
+  floors mine = elim low_first [
     | inl l ↦ (let b0 = base 0 origin.0 origin.1 in let cl = c_low in record {
       base = base;
       m = 0;
@@ -362,7 +370,7 @@ module _ (x : State) (choices : Choices) (commands : List (List Command)) (repli
       let mine : ℕ → Type 0 = Has (commits (holds_of (Some 0) l.holds)) in
       let rest = lanes_run lanes more others of.1 ran.1 (λ object clash. apart object (clash_more cs more object clash)) lies.1 rides.1 distinct.1 in
       let one : LaneRun new c first many mine in_step inside origin x choices refl (c + c + 1) c cs rs x.store l.store b =
-      lane_runs new c first many mine in_step inside origin x choices refl cs rs x.store l.store l.holds from (c + c + 1) c b of.0 ran.0.says rides.0 lies.0 (tells_own l.holds) (floors mine) (ahead mine) fit.says.now
+      lane_runs new c first many mine in_step inside origin x choices refl cs rs x.store l.store l.holds from (c + c + 1) c b of.0 ran.0.says rides.0 lies.0 (tells_own l.holds) (floors mine) (ahead mine) fit.says.now it.unpointed
       (base 0 origin.0 origin.1) in
       let parts = merge one.parts rest.parts in
       let m = merges one.parts rest.parts in
@@ -487,7 +495,7 @@ module _ (x : State) (choices : Choices) (commands : List (List Command)) (repli
       up high = All-weaker (λ d. group_of d ≤ first) (λ d. group_of d ≤ new.committed) (λ d less. omega (arith, less, high)) x.store.changes fit.groups
 
       later : new.committed + 0 ≢ c → All (λ d. group_of d ≤ new.committed) x.store.changes ⊎ StillShows
-      later other = elim fit.floor [
+      later other = elim low_first [
         | inl l ↦ inl (up (let cl = c_low in omega (arith, l, cl, other)))
         | inr a ↦ (let a0 = a.0 in elim (bool_cases (nat_le (c + 2) new.committed)) [
           | inl e ↦ inl (up (let far = is_low (c + 2) new.committed e in omega (arith, a0, far)))
@@ -568,7 +576,7 @@ module _ (x : State) (choices : Choices) (commands : List (List Command)) (repli
         shows = shows;
         groups = all_join (λ d. group_of d ≤ all.floor) (flat it.lanes) x.store.changes (all_more (IsLate all.floor) (λ d. group_of d ≤ all.floor) (flat it.lanes) (λ d is. is.0) ran.late)
             (All-weaker (λ d. group_of d ≤ first) (λ d. group_of d ≤ all.floor) (λ d less. (let l = ran.least in omega (arith, less, l))) x.store.changes fit.groups);
-        floor = ran.low;
+        floor = inl ran.low;
       })
         where
           quiet : AllOf (λ d. group_of d ≤ new.committed) (flat it.lanes) → All (λ d. group_of d ≤ new.committed) x.store.changes → (t : Bool) → new.pending ≡ t

@@ -37,7 +37,7 @@ use Rattle.draid_session.specs.State.{State, Store}
 use Rattle.draid_session.specs.Staying.{IsNoCreate, MakesNoPool, MakesNoPoolIn, Stays, StaysIn}
 use Rattle.draid_session.specs.Writes as writes
 use Rattle.draid_session.proofs.Calm.{follows_store}
-use Rattle.draid_session.proofs.Changing.{calm_noted, calm_steps, earlier_uses, fills_fit, frees_uses, tries_uses}
+use Rattle.draid_session.proofs.Changing.{calm_noted, calm_steps, earlier_uses, fills_fit, leaves_uses, tries_uses, low_two}
 use Rattle.draid_session.proofs.Looked.{follows_split}
 use Rattle.draid_session.proofs.Rising.{group_rises}
 use Rattle.draid_session.proofs.Saying.{high, not_low, same_or_low}
@@ -88,7 +88,7 @@ record Kept (x z : State) (old new : List Change) : Type 0 where
 frees_kept : (object : ℕ) (old new : Store) (holds : List Hold) (x z : State) (b : Book) → writes.Frees object old holds new → Follows holds x z → KeepsOpen x old b
     → Kept x z old.changes new.changes
 frees_kept object old new holds x z b f follows fit =
-    let u = frees_uses f.w old.floor f.group holds x z f.frees follows fit.steps fit.noted fit.floor in
+    let u = leaves_uses old.marks f.marks f.w old.floor f.group holds x z f.leaves follows fit.steps fit.noted fit.floor in
     let same = u.1.committed in
     let later = u.0.later in
     record { same = same; keeps = keeps_change x.committed (Freed object f.group) old.changes new.changes (omega (arith, same, later)) (ap (λ (s : Store). s.changes) f.made) }
@@ -100,7 +100,7 @@ module _ (geometry : Geometry) (perms : Perms) (chosen : List Room → Option �
       let parts = follows_split w.tried w.freed x z (subst (λ hs. Follows hs x z) w.are follows) in
       let a = parts.0 in
       let t = tries_uses geometry perms chosen object bytes old w.m w.birth w.columns w.tried x a w.tries parts.1 fit.steps fit.noted fit.floor in
-      let e = earlier_uses geometry perms chosen (write_of old.changes object) w.birth w.group w.freed a z w.frees parts.2 (calm_steps x a t.1 fit.steps) (calm_noted x a t.1 fit.noted) t.0.is_floor in
+      let e = earlier_uses geometry perms chosen old.marks w.marks (write_of old.changes object) w.birth w.group w.freed a z w.leaves parts.2 (calm_steps x a t.1 fit.steps) (calm_noted x a t.1 fit.noted) t.0.is_floor in
       let first = t.1.committed in
       let second = e.2.committed in
       let later = t.0.later in
@@ -156,7 +156,7 @@ module _ (x : State) (store : Store) (b : Book) (f : KeepsOpen x store b) where
   }
 
   floor_low : store.floor ≤ x.committed + 2
-  floor_low = elim f.floor [ inl low ↦ omega (arith, low) | inr low ↦ (let l = low.0 in omega (arith, l)) ]
+  floor_low = low_two x store.marks store.floor f.floor
 
   sharp_had : (group : ℕ) → x.committed ≤ group → HaveBeen sharp (λ o. bytes_in (kept group store.changes o))
   sharp_had group from = by (same_or_low x.committed group from)

@@ -4,11 +4,11 @@ use Rattle.draid_spec.specs.declared.layout.Geometry.{Geometry}
 use Rattle.draid_perm.specs.declared.perms.Perms.{Perms}
 use Rattle.draid_machine.specs.declared.event.Event.TheVariants as event
 use Rattle.draid_machine.specs.declared.names.Key.{Key}
-use Rattle.draid_objects.specs.Marks.{Check, GivenUp, check_by}
+use Rattle.draid_objects.specs.Marks.{Check, check_by}
 use Rattle.draid_session.specs.Groups.{Finishes, Syncs}
 use Rattle.draid_session.specs.Holds.{Did, Hold, LookedUber, On, OnUber, UberView}
 use Rattle.draid_session.specs.Phases.{End, Went}
-use Rattle.draid_session.specs.Points.{marked}
+use Rattle.draid_session.specs.Points.{given_up}
 use Rattle.draid_session.specs.State.{Store}
 
 -- the checkpoint alone keeps a block
@@ -45,4 +45,4 @@ module _ (geometry : Geometry) (perms : Perms) where
   abbrev pub DiscardStops : Store → List Hold → End → Store → Type 0
   DiscardStops old holds end new =
       ((new ≡ old) × (end ≢ Went) × Finishes geometry perms holds end)
-      ⊎ ((at : ℕ) × (group : ℕ) × (thin : ℕ) × (frees : List Hold) × (new ≡ marked (GivenUp at) old) × (end ≢ Went) × Discards old at group thin frees holds end)
+      ⊎ ((at : ℕ) × (group : ℕ) × (thin : ℕ) × (frees : List Hold) × (new ≡ given_up at old) × (end ≢ Went) × Discards old at group thin frees holds end)

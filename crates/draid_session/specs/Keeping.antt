@@ -1,5 +1,5 @@
 -- Of which desks a book is: what an open pool, or one that was given back, has to be for it, so that what comes next is as the book has it.
-use Rattle.std.specs.Prelude.{◌≡◌, ◌<◌, ◌≤◌, ◌+◌, ◌||◌, ◌⊎◌, ℕ, Bool, true, false, List, [], ◌∷◌, Option, Some, None, All, slice_get}
+use Rattle.std.specs.Prelude.{◌≡◌, ◌<◌, ◌≤◌, ◌+◌, ◌||◌, ◌⊎◌, ℕ, Bool, true, false, List, [], ◌∷◌, Option, Some, None, All, slice_get, ◌≢◌}
 use Rattle.draid_machine.specs.declared.event.Event.{Event}
 use Rattle.draid_machine.specs.State as machine
 use Rattle.draid_objects.specs.Changes.{Change, Write, group_of, kept, write_of}
@@ -8,6 +8,7 @@ use Rattle.draid_session.specs.Book.{Book, HaveBeen}
 use Rattle.draid_session.specs.Groups.{behind_close, has_commit, has_other, is_close_of, is_unsynced}
 use Rattle.draid_session.specs.Session.{Desk, Untouched, Bare, Made, Open, Shut, Foreign, Unknown}
 use Rattle.draid_session.specs.State.{Metaslab, State, Store}
+use Rattle.draid_objects.specs.Marks.{Mark, check_by}
 
 -- ---- objects
 
@@ -90,6 +91,25 @@ IsUnderWay x =
 abbrev pub IsLowFloor : State → ℕ → Type 0
 IsLowFloor x floor = (floor ≤ x.committed + 1) ⊎ ((floor ≤ x.committed + 2) × HasAhead x)
 
+-- some metaslab closes a group
+pub record HasClosing (x : State) : Type 0 where
+  pub k : ℕ
+  pub y : Metaslab
+  pub group : ℕ
+  pub there : slice_get x.metaslabs k ≡ Some y
+  pub closing : y.world.closing ≡ Some group
+
+-- a block was dropped to the checkpoint in the group behind one that is closing, which no event shows
+pub record DropsAhead (x : State) (marks : List Mark) (floor : ℕ) : Type 0 where
+  pub low : floor ≤ x.committed + 2
+  pub closes : HasClosing x
+  pub late : HasLateMark (x.committed + 1) marks
+  pub stands : check_by marks ≢ None
+
+-- no call used a group behind the open one, where some were dropped to the checkpoint
+abbrev pub HasLowFloor : State → List Mark → ℕ → Type 0
+HasLowFloor x marks floor = IsLowFloor x floor ⊎ DropsAhead x marks floor
+
 -- ---- desks
 
 -- An open pool, of which the changes are of this store. The committed group is the last that a reply named or a later one, by at most as many as no reply told of; so is one that is under way.
@@ -107,7 +127,7 @@ pub record KeepsOpen (x : State) (store : Store) (book : Book) : Type 0 where
   pub noted : AreNoted x
   pub shows : ShowsUnsynced x store
   pub groups : All (λ c. group_of c ≤ store.floor) store.changes
-  pub floor : IsLowFloor x store.floor
+  pub floor : HasLowFloor x store.marks store.floor
 
 -- a pool that was given back: the same, but for what only an open one needs
 pub record KeepsShut (x : State) (book : Book) : Type 0 where
