@@ -51,8 +51,15 @@ impl Sector {
         requires { length bytes.now ≡ length self.old.bytes.items }
         ensures { view_of self.new ≡ landed bytes.now harmed clock (view_of self.old) }
     {
-        self.mark(harmed, clock);
-        self.bytes.copy_from_slice(bytes);
+        if self.soft {
+            self.bytes.copy_from_slice(bytes);
+        } else {
+            keep(&mut self.flushed, bytes);
+            mem::swap(&mut self.bytes, &mut self.flushed);
+        }
+        self.soft = true;
+        self.harmed = harmed;
+        self.changed = clock;
     }
 
     pub(crate) fn settle(&mut self)
