@@ -8,3 +8,4 @@ pub mod Layouts
 pub mod Passed
 pub mod Pointing
 pub mod Recovers
+pub mod Spelling

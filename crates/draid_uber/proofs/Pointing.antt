@@ -25,6 +25,23 @@ none_spelled point group none small = subst (IsCheck group) (sym (none_told poin
 pub none_positive : (point : Point) → point.group ≡ None → (own : ℕ) → point.group ≡ Some own → 0 < own
 none_positive point none own some = absurd (let both = sym none ∙ some in cc)
 
+-- ---- one is made
+
+-- from its group on it is told
+pub made_told : (point : Point) (group : ℕ) → point.group ≡ Some group → point.drops ≡ [] → (g : ℕ) → group ≤ g → told_at point g ≡ record { group = group; drops = [] }
+made_told point group own new g from =
+    let low : nat_le group g ≡ true = grind (arith, nat_tests, from) in
+    (λ i. told_of g (own i) (new i)) ∙ ap (λ b. if b then record { group = group; drops = [] } else no_check) low
+
+pub made_spelled : (point : Point) (group : ℕ) → point.group ≡ Some group → point.drops ≡ [] → (g : ℕ) → group ≤ g → g < 2 ^ 64 → IsCheck g (told_at point g)
+made_spelled point group own new g from small = subst (IsCheck g) (sym (made_told point group own new g from)) (record { small = small; upto = from; few = omega arith; drops_are = tt })
+
+pub made_positive : (point : Point) (group : ℕ) → point.group ≡ Some group → 0 < group → (own : ℕ) → point.group ≡ Some own → 0 < own
+made_positive point group is some own same = by own (sym is ∙ same)
+  where
+    by : (own : ℕ) → Some group ≡ Some own → 0 < own
+    by own e = (let one : group ≡ own = cc in omega (arith, some, one))
+
 -- ---- a block is dropped
 
 -- the blocks are others than one

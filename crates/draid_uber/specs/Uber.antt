@@ -74,6 +74,10 @@ next_of uber group = record {
 abbrev pub point_of : {A : Type 0} → Uber A → Point
 point_of uber = uber.point
 
+-- the last group in which something befell it, 0 where nothing is known to have
+abbrev pub changed_of : {A : Type 0} → Uber A → ℕ
+changed_of uber = uber.changed
+
 -- what the check record of this group says, as a commit writes it
 abbrev pub next_check : {A : Type 0} → Uber A → ℕ → CheckTold
 next_check uber = told_at (point_of uber)

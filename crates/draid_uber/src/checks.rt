@@ -164,6 +164,7 @@ fn read_all<A: Area>(alloc: Global, area: &mut A) -> Result<Vec<u8>, DeviceFault
 /// What bytes have of a group's checkpoint.
 fn check_of(alloc: Global, bytes: &[u8], group: u64) -> Result<CheckBody, RecordFault>
     ensures found { IfOk result (λ it. check_in group bytes.now ≡ Ok (told_check it)) }
+    ensures range { IfOk result (λ it. IsCheck group (told_check it)) }
     ensures faulty { (place : ℕ) (kind : RecordFaultKind) → result ≡ Err (Bad place kind) → check_in group bytes.now ≡ Err (Bad place kind) }
 {
     if bytes.is_empty() {
@@ -180,6 +181,7 @@ pub(crate) fn read_of<A: Area>(
 ) -> Result<CheckBody, CheckFault>
     ensures told { A.told area.new ≡ A.told area.old }
     ensures found { IfOk result (λ it. OnTold (A.told area.old) (λ x. check_in group x.bytes ≡ Ok (told_check it))) }
+    ensures range { IfOk result (λ it. IsCheck group (told_check it)) }
     ensures faulty { (place : ℕ) (kind : RecordFaultKind) → IsErrOf result (CheckFault.Record place kind)
         → OnTold (A.told area.old) (λ x. check_in group x.bytes ≡ Err (Bad place kind)) }
     ensures size { A.size area.new ≡ A.size area.old }

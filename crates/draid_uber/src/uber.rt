@@ -1,4 +1,4 @@
-ghost use Rattle.std.specs.Prelude.{◌≡◌, ◌≤◌, ◌<◌, ◌+◌, ◌∷◌, [], ℕ, All, length, List, None, Ok, Err, Some, IfErr, IfOk, IsErrOf, IsOk, IsSome, IsSomeAnd, OnErr, OnOk, option_map};
+ghost use Rattle.std.specs.Prelude.{◌≡◌, ◌≤◌, ◌<◌, ◌+◌, ◌↔◌, IsTrue, ◌∷◌, [], ℕ, All, length, List, None, Ok, Err, Some, IfErr, IfOk, IsErrOf, IsOk, IsSome, IsSomeAnd, OnErr, OnOk, option_map};
 ghost use Rattle.draid_record.specs.Uber.{IsUber};
 ghost use Rattle.draid_area.specs.Area.{Counts, OnTold, flushes};
 ghost use Rattle.draid_area.specs.Moments.{ElapsesTold};
@@ -52,6 +52,8 @@ pub struct Uber<A: Area> {
     next_leaf: u64,
     /// The checkpoint, of which each commit writes a record.
     point: Check,
+    /// The last group in which something befell the checkpoint, 0 where nothing is known to have.
+    changed: u64,
     alloc: Global,
 }
 
@@ -75,14 +77,14 @@ fn found(
 impl<A: Area> Uber<A> {
     ghost use Rattle.draid_uber.specs.Held.{IsNext};
     ghost use Rattle.draid_uber.specs.Steps.{IsSameOrFlushed};
-    ghost use Rattle.draid_uber.specs.Points.{IsOther, KeepsCheck};
+    ghost use Rattle.draid_uber.specs.Points.{IsOther, KeepsCheck, no_check};
     ghost use Rattle.draid_checkpoint.specs.Check.{Drops, holds_birth};
     ghost use Rattle.draid_uber.specs.Slots.{StandsTold, chosen_of, group_of};
     ghost use Rattle.draid_record.specs.Checks.{CheckTold, IsCheck, told_check};
     ghost use Rattle.draid_record.specs.declared.fault.RecordFaultKind.{RecordFaultKind};
     ghost use Rattle.draid_record.specs.declared.fault.RecordFault.TheVariants.{Bad};
     ghost use Rattle.draid_uber.specs.Checks.{AreasStand, LeavesAny, check_area, check_in, told_by};
-    ghost use Rattle.draid_uber.specs.Uber.{layout_in, next_check, next_of, Finds, IsNewArea, Valid, area_of, areas_of, count_of, kept_of, layout_of, next_leaf_of, point_of, version_of};
+    ghost use Rattle.draid_uber.specs.Uber.{layout_in, next_check, next_of, Finds, IsNewArea, Valid, area_of, areas_of, count_of, kept_of, layout_of, next_leaf_of, point_of, changed_of, version_of};
 
     /// The uberblock of a new pool, of which nothing is committed yet. A crash leaves no open gate.
     #[tactic(auto, using(crate::proofs::Choices::new_area))]
@@ -103,6 +105,8 @@ impl<A: Area> Uber<A> {
         ensures version { IfOk result (λ uber. version_of uber ≡ geometry.props.version) }
         ensures leaf { IfOk result (λ uber. next_leaf_of uber ≡ geometry.spec.children) }
         ensures point { IfOk result (λ uber. (point_of uber).group ≡ None) }
+        ensures drops { IfOk result (λ uber. (point_of uber).drops ≡ []) }
+        ensures changed { IfOk result (λ uber. changed_of uber ≡ 0) }
     {
         Ok(Uber {
             areas,
@@ -111,6 +115,7 @@ impl<A: Area> Uber<A> {
             version: geometry.props.version,
             next_leaf: u64::from(geometry.spec.children),
             point: Check::none(alloc),
+            changed: 0,
             alloc,
         })
     }
@@ -126,6 +131,8 @@ impl<A: Area> Uber<A> {
             (version_of uber ≡ body.props.version) × (next_leaf_of uber ≡ body.next_leaf))) }
         ensures ranges { IfOk result (λ uber. IsSomeAnd (kept_of uber) IsUber) }
         ensures point { IfOk result (λ uber. (point_of uber).group ≡ None) }
+        ensures drops { IfOk result (λ uber. (point_of uber).drops ≡ []) }
+        ensures changed { IfOk result (λ uber. changed_of uber ≡ 0) }
 
         // From then on a crash leaves it alone.
         ensures crash { IfOk result (λ uber. StandsTold (kept_of uber) [] (A.told (area_of uber))) }
@@ -149,6 +156,7 @@ impl<A: Area> Uber<A> {
                 version: body.props.version,
                 next_leaf: body.next_leaf,
                 point: Check::none(alloc),
+                changed: 0,
                 alloc,
             }),
             Err(why) => Err(UberRefused { areas, why }),
@@ -191,6 +199,7 @@ impl<A: Area> Uber<A> {
         ensures layout { layout_of self.new ≡ layout_of self.old }
         ensures version { version_of self.new ≡ version_of self.old }
         ensures point { point_of self.new ≡ point_of self.old }
+        ensures changed { changed_of self.new ≡ changed_of self.old }
     {
         self.next_leaf = next;
     }
@@ -233,6 +242,7 @@ impl<A: Area> Uber<A> {
         ensures version { version_of self.new ≡ version_of self.old }
         ensures leaf { next_leaf_of self.new ≡ next_leaf_of self.old }
         ensures point { point_of self.new ≡ point_of self.old }
+        ensures changed { changed_of self.new ≡ changed_of self.old }
         ensures others { areas_of self.new ≡ record (areas_of self.old) { uber = area_of self.new } }
         ensures cause { Counts result (A.faults (area_of self.old)) (A.faults (area_of self.new)) }
     {
@@ -258,6 +268,7 @@ impl<A: Area> Uber<A> {
         ensures version { version_of self.new ≡ version_of self.old }
         ensures leaf { next_leaf_of self.new ≡ next_leaf_of self.old }
         ensures point { point_of self.new ≡ point_of self.old }
+        ensures changed { changed_of self.new ≡ changed_of self.old }
         ensures others { areas_of self.new ≡ record (areas_of self.old) { uber = area_of self.new } }
         ensures cause { Counts result (A.faults (area_of self.old)) (A.faults (area_of self.new)) }
     {
@@ -296,6 +307,7 @@ impl<A: Area> Uber<A> {
         ensures version { version_of self.new ≡ version_of self.old }
         ensures leaf { next_leaf_of self.new ≡ next_leaf_of self.old }
         ensures point { point_of self.new ≡ point_of self.old }
+        ensures changed { changed_of self.new ≡ changed_of self.old }
         ensures cause { Counts result (count_of A.faults self.old) (count_of A.faults self.new) }
     {
         let body = self.next_check(group)?;
@@ -311,6 +323,7 @@ impl<A: Area> Uber<A> {
         ensures valid { Valid A.size self.new }
         ensures found { IfOk result (λ it. OnTold (A.told (check_area (areas_of self.old) (group_of (kept_of self.old))))
             (λ x. check_in (group_of (kept_of self.old)) x.bytes ≡ Ok (told_check it))) }
+        ensures range { IfOk result (λ it. IsCheck (group_of (kept_of self.old)) (told_check it)) }
         ensures faulty { (place : ℕ) (kind : RecordFaultKind) → IsErrOf result (CheckFault.Record place kind)
             → OnTold (A.told (check_area (areas_of self.old) (group_of (kept_of self.old))))
             (λ x. check_in (group_of (kept_of self.old)) x.bytes ≡ Err (Bad place kind)) }
@@ -321,6 +334,7 @@ impl<A: Area> Uber<A> {
         ensures version { version_of self.new ≡ version_of self.old }
         ensures leaf { next_leaf_of self.new ≡ next_leaf_of self.old }
         ensures point { point_of self.new ≡ point_of self.old }
+        ensures changed { changed_of self.new ≡ changed_of self.old }
         ensures later { count_of A.faults self.old ≤ count_of A.faults self.new }
         ensures cause { IsErrOf result CheckFault.Area → Rose (count_of A.faults self.old) (count_of A.faults self.new) }
     {
@@ -339,6 +353,13 @@ impl<A: Area> Uber<A> {
         &self.point
     }
 
+    /// Whether something befell the checkpoint since the committed group.
+    pub fn has_news(&self) -> bool
+        ensures { IsTrue result ↔ (group_of (kept_of self.now) < changed_of self.now) }
+    {
+        self.committed() < self.changed
+    }
+
     /// Whether a block that was born in this group is the checkpoint's.
     pub fn holds(&self, birth: u64) -> bool
         ensures { result ≡ holds_birth (point_of self.now).group birth }
@@ -354,6 +375,7 @@ impl<A: Area> Uber<A> {
         requires valid { Valid A.size self.old }
         ensures valid { Valid A.size self.new }
         ensures drops { Drops (point_of self.old) (point_of self.new) object seq group }
+        ensures changed { changed_of self.new ≡ group }
         ensures areas { areas_of self.new ≡ areas_of self.old }
         ensures kept { kept_of self.new ≡ kept_of self.old }
         ensures layout { layout_of self.new ≡ layout_of self.old }
@@ -361,6 +383,7 @@ impl<A: Area> Uber<A> {
         ensures leaf { next_leaf_of self.new ≡ next_leaf_of self.old }
     {
         self.point.drop_block(object, seq, group);
+        self.changed = group;
     }
 
     /// Keeps the checkpoint that the check record of the committed group tells, with room for so many further blocks that it
@@ -372,6 +395,7 @@ impl<A: Area> Uber<A> {
         ensures valid { Valid A.size self.new }
         ensures keeps { OnOk result (KeepsCheck (group_of (kept_of self.old)) (told_check check.now) (point_of self.new)) }
         ensures room { OnOk result (blocks ≤ (point_of self.new).spare) }
+        ensures changed { changed_of self.new ≡ changed_of self.old }
         ensures areas { areas_of self.new ≡ areas_of self.old }
         ensures kept { kept_of self.new ≡ kept_of self.old }
         ensures layout { layout_of self.new ≡ layout_of self.old }
@@ -381,6 +405,44 @@ impl<A: Area> Uber<A> {
         let group = self.committed();
         self.point = kept_check(self.alloc, check, group, blocks)?;
         Ok(())
+    }
+
+    /// From now on there is a checkpoint of the group that is committed next, of which nothing is dropped yet.
+    pub fn make_point(&mut self, point: Check, group: u64)
+        requires next { IsNext (kept_of self.old) group }
+        requires made { point.group ≡ Some group }
+        requires new { point.drops ≡ [] }
+        requires valid { Valid A.size self.old }
+        ensures valid { Valid A.size self.new }
+        ensures point { point_of self.new ≡ point }
+        ensures told { (g : ℕ) → group ≤ g → next_check self.new g ≡ record { group = group; drops = [] } }
+        ensures changed { changed_of self.new ≡ group }
+        ensures areas { areas_of self.new ≡ areas_of self.old }
+        ensures kept { kept_of self.new ≡ kept_of self.old }
+        ensures layout { layout_of self.new ≡ layout_of self.old }
+        ensures version { version_of self.new ≡ version_of self.old }
+        ensures leaf { next_leaf_of self.new ≡ next_leaf_of self.old }
+    {
+        self.point = point;
+        self.changed = group;
+    }
+
+    /// From this group on there is no checkpoint. It takes no memory.
+    pub fn give_up_point(&mut self, group: u64)
+        requires valid { Valid A.size self.old }
+        ensures valid { Valid A.size self.new }
+        ensures point { (point_of self.new).group ≡ None }
+        ensures drops { (point_of self.new).drops ≡ [] }
+        ensures told { (g : ℕ) → next_check self.new g ≡ no_check }
+        ensures changed { changed_of self.new ≡ group }
+        ensures areas { areas_of self.new ≡ areas_of self.old }
+        ensures kept { kept_of self.new ≡ kept_of self.old }
+        ensures layout { layout_of self.new ≡ layout_of self.old }
+        ensures version { version_of self.new ≡ version_of self.old }
+        ensures leaf { next_leaf_of self.new ≡ next_leaf_of self.old }
+    {
+        self.point = Check::none(self.alloc);
+        self.changed = group;
     }
 
     /// Has the next commit write version 2.
@@ -393,6 +455,7 @@ impl<A: Area> Uber<A> {
         ensures layout { layout_of self.new ≡ layout_of self.old }
         ensures leaf { next_leaf_of self.new ≡ next_leaf_of self.old }
         ensures point { point_of self.new ≡ point_of self.old }
+        ensures changed { changed_of self.new ≡ changed_of self.old }
     {
         self.version = 2;
     }

@@ -75,3 +75,9 @@ returns-clause-point g c = refl
 
 pub returns-in_err-write-clause-point : goal.returns-in_err-write-clause-point
 returns-in_err-write-clause-point g c = refl
+
+pub returns-clause-changed : goal.returns-clause-changed
+returns-clause-changed g c = refl
+
+pub returns-in_err-write-clause-changed : goal.returns-in_err-write-clause-changed
+returns-in_err-write-clause-changed g c = refl

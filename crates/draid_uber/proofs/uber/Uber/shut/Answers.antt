@@ -15,6 +15,7 @@ returns g c =
       version = refl;
       leaf = refl;
       point = refl;
+      changed = refl;
       others = refl;
       cause = c.clear.ensures.cause;
     }
