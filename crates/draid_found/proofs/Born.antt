@@ -1,5 +1,5 @@
 -- The blocks of metaslabs that were born up to a group, as they are noted and looked for.
-use Rattle.std.proofs.Common.{arith, ◌≡◌, ◌+◌, ◌<◌, ◌≤◌, ◌∙◌, ◌⊎◌, inl, inr, ℕ, Bool, true, false, List, [], Option, Some, None, refl, sym, ap, subst, length}
+use Rattle.std.proofs.Common.{arith, ◌≡◌, ◌+◌, ◌<◌, ◌≤◌, ◌∙◌, ◌⊎◌, inl, inr, ℕ, Bool, true, List, [], Option, Some, None, sym, ap, subst, length}
 use Rattle.std.specs.Prelude.{◌↔◌, IfNone, IfSome, slice_get}
 use Rattle.std.specs.HashSet.{HashSet, keys}
 use Rattle.std.specs.List.{list_any}
@@ -9,7 +9,6 @@ use Rattle.draid_names.specs.declared.pointer.Pointer.{Pointer}
 use Rattle.draid_machine.specs.declared.names.Key.{Key}
 use Rattle.draid_machine.proofs.Small.{absurd_test, some_injective}
 use Rattle.draid_rack.specs.declared.Rack as racks
-use Rattle.draid_entries.specs.declared.entry.Entry.{Entry}
 use Rattle.draid_entries.specs.Entries.{entry_at}
 use Rattle.draid_entries.specs.Maps.{key_of, staged}
 use Rattle.draid_record.specs.declared.checks.Dropped.{Dropped}

@@ -53,7 +53,7 @@ keeps_same pointer table known = record {
   grows = λ object p there. (p, there, omega arith);
 }
 
-reaches_more : (old new : ℕ → Option Pointer) (object seq : ℕ) → Grows old new → Reaches old object seq → Reaches new object seq
+pub reaches_more : (old new : ℕ → Option Pointer) (object seq : ℕ) → Grows old new → Reaches old object seq → Reaches new object seq
 reaches_more old new object seq grows r = (let s = grows object r.0 r.1 in let low = r.2 in let more = s.2 in (s.0, s.1, omega (arith, low, more)))
 
 module _ {R A : Type 0} (rack : racks.Ghosts R) (shard : Shard R A) where

@@ -46,7 +46,7 @@ slots_more a b n before same slot below = elim (cases_eq slot n) [
 
 -- ---- one block
 
-pair_same : (a b : ℕ) → pair_eq (a, b) (a, b) ≡ true
+pub pair_same : (a b : ℕ) → pair_eq (a, b) (a, b) ≡ true
 pair_same a b = grind (arith, nat_tests)
 
 -- a set to which the pair of a block was put

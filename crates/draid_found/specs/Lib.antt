@@ -1,3 +1,4 @@
 pub mod Drops
 pub mod Found
+pub mod Older
 pub mod Together

@@ -10,7 +10,6 @@ use Rattle.draid_entries.specs.declared.entries.Entries.{Entries}
 use Rattle.draid_entries.specs.Entries.{entry_at}
 use Rattle.draid_entries.specs.Maps.{key_of}
 use Rattle.draid_record.specs.declared.sizes.TheConstants.{BLOCK_BYTES, SLOT_COUNT_AT}
-use Rattle.draid_slots.specs.Table.{SlotTable, arms_of}
 use Rattle.draid_shard.specs.Alike.{HaveSameArms}
 use Rattle.draid_shard.specs.declared.shard.Shard.{Shard}
 

@@ -29,7 +29,7 @@ fn is_newer(newest: &HashMap<u64, Pointer>, pointer: &Pointer) -> bool
 }
 
 /// Keeps a block in mind, unless one of its object was noted that is as new.
-fn keep_newer(newest: &mut HashMap<u64, Pointer>, pointer: Pointer) -> Result<(), NoMemory>
+pub fn keep_newer(newest: &mut HashMap<u64, Pointer>, pointer: Pointer) -> Result<(), NoMemory>
     ensures keeps { OnOk result (KeepsNewer pointer (get nat_eq newest.old) (get nat_eq newest.new)) }
 {
     if is_newer(newest, &pointer) {

@@ -4,10 +4,14 @@
 #![tactic(auto)]
 
 mod alike;
+mod beside;
 mod drops;
 mod fault;
 mod finding;
+mod older;
 
+pub use beside::newest_beside;
 pub use drops::first_lack;
 pub use fault::FoundFault;
-pub use finding::{Found, find_blocks};
+pub use finding::{Found, find_blocks, keep_newer};
+pub use older::older_blocks;

@@ -1,6 +1,6 @@
 use Rattle.std.proofs.Common.{arith}
 use Rattle.draid_found.specs.Together.{noted_in}
-use Rattle.draid_found.proofs.Born.{born_late, born_noted}
+use Rattle.draid_found.proofs.Born.{born_noted}
 use Rattle.draid_found.proofs.Together.{notes_only}
 use Rattle.draid_found.proofs.drops.note_born.Goals as goal
 
