@@ -127,6 +127,12 @@ module _ {R A : Type 0} (rack : racks.Ghosts R) (area : areas.Ghosts A) (old new
         | inr is ↦ absurd_test x.pending is.0 idle
       ];
       leaves = leaves;
+      opens = (
+          let before = (c.stood.each m shard.0 own.0 there own.1).stands.is_in.open_group_is in
+          let behind = turns.is.stands.is_in.open_group_is in
+          let same = after.2.commits.open_group_is in
+          omega (arith, before, behind, same)
+          );
     }
 
     pub came_on : CameTo (m + 1)
@@ -188,6 +194,8 @@ module _ {R A : Type 0} (rack : racks.Ghosts R) (area : areas.Ghosts A) (old new
       each = c.stood.each;
       holds = c.stood.holds;
       only = c.stood.only;
+      checks = c.stood.checks;
+      marked = c.stood.marked;
       objects = c.stood.objects;
       images = c.stood.images;
       leaves = c.stood.leaves;

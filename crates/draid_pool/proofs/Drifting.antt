@@ -76,6 +76,7 @@ drifts_not rack area owns shard v = record {
   valid = v;
   part = refl;
   later = (omega arith);
+  opens = (omega arith);
   groups = λ own. groups_kept shard;
   passes = λ own. pass_still shard.pass;
   own = keeps_self owns shard.committed shard.entries;

@@ -70,6 +70,14 @@ module _ {R A : Type 0} (rack : racks.Ghosts R) (area : areas.Ghosts A) where
       let c = d.later in
       omega (arith, a, b, c)
 
+  pub found_opens : (shared : Bool) (owns : ℕ → Bool) (shard before : Shard R A) (d : Drifts rack area shared owns shard before) (part : Part) (pieces now : Pieces) (y z : Metaslab) → IsMetaslab rack area part pieces shard y
+      → IsMetaslab rack area part now before z → y.world.open_group ≤ z.world.open_group
+  found_opens shared owns shard before d part pieces now y z is it =
+      let a = is.stands.is_in.open_group_is in
+      let b = it.stands.is_in.open_group_is in
+      let c = d.opens in
+      omega (arith, a, b, c)
+
   -- a ticket that is found has the pieces that it had
   pub found_ticket : (shared : Bool) (owns : ℕ → Bool) (shard before : Shard R A) (d : Drifts rack area shared owns shard before) (part : Part) (pieces now : Pieces) (y : Metaslab) → IsMetaslab rack area part pieces shard y
       → (k : Key) (h : Held) → owns k.object ≡ true → held_in before.entries k ≡ Some h → is_block h.stage ≡ false → SamePieces part y pieces now k → now k ≡ pieces k

@@ -24,7 +24,7 @@ use Rattle.draid_pool.specs.Drifts.{Drifts}
 use Rattle.draid_pool.specs.Threads.{Knows, LeadsBy, all_of}
 use Rattle.draid_pool.proofs.BytesKept.{still_bytes}
 use Rattle.draid_pool.proofs.Contents.{all_long}
-use Rattle.draid_pool.proofs.Finds.{Found, found_drops, found_later, looks, points_at_on}
+use Rattle.draid_pool.proofs.Finds.{Found, found_drops, found_later, found_opens, looks, points_at_on}
 use Rattle.draid_pool.proofs.HoldStep.{each_on, f, follows, here, live_key, pointer_at_on}
 use Rattle.draid_pool.proofs.Owning.{own_drifts}
 
@@ -69,6 +69,7 @@ module _ {R A S : Type 0} (rack : racks.Ghosts R) (area : areas.Ghosts A) (went 
       but_it = record {
         each = each_on rack area went shared owns a b last new m shard before after there drifts still.valid is goes (all_of owns) (all_of owns) table seq floor knows.pieces x knows.but_it z.z z.now it;
         holds = own_drifts owns x m y.0 z.z knows.pieces z.now y.1 (found_later rack area shared owns shard before drifts (part_in x m) (knows.pieces m) z.now y.0 z.z y.2 z.is)
+            (found_opens rack area shared owns shard before drifts (part_in x m) (knows.pieces m) z.now y.0 z.z y.2 z.is)
             (found_drops rack area shared owns shard before drifts (part_in x m) (knows.pieces m) z.now y.0 z.z y.2 z.is) (all_long rack area (part_in x m) (knows.pieces m) shard y.0 y.2) z.same knows.but_it.holds;
         objects = λ q own_q. points_at_on last new (table q) (write_of x.store.changes q)
             (λ t w t_is w_is pt. pointer_at_on rack area went shared owns a b last new m shard before after there drifts still.valid is goes (all_of owns) (all_of owns) table seq floor knows.pieces x knows.but_it q t w own_q (pt.object_is ∙ write_object x.store.changes q w w_is)

@@ -51,7 +51,7 @@ module _ {R A : Type 0} (rack : racks.Ghosts R) (area : areas.Ghosts A) where
         → CarriesOut rack area new x (Phase x (Chain (groups.Names x.geometry x.perms group) (groups.CommitPhase x.geometry x.perms group)) (end_of result))
 
   module _ (pool : Pool R A) (group : ℕ) (v : Uber A) (w : IsWhole rack area pool) (next : group ≡ group_of (kept_of pool.uber) + 1) (sealed : AreSealed pool.metaslabs.shards.items group) where
-    named_all : (b : Owned R A) → UberNames area group pool.uber (Ok tt) v → CommitsEach rack area left_by went_by false all group pool.geometry.props.metaslabs pool.metaslabs b → NamedAll pool (with_both pool b v) group (Ok tt)
+    pub named_all : (b : Owned R A) → UberNames area group pool.uber (Ok tt) v → CommitsEach rack area left_by went_by false all group pool.geometry.props.metaslabs pool.metaslabs b → NamedAll pool (with_both pool b v) group (Ok tt)
     named_all b names each =
         let new = with_both pool b v in
         let commits : CommitsBelow rack group (length pool.metaslabs.shards.items) pool.metaslabs.shards.items b.shards.items
@@ -72,7 +72,7 @@ module _ {R A : Type 0} (rack : racks.Ghosts R) (area : areas.Ghosts A) where
     abbrev refused : Pool R A
     refused = record pool { uber = v }
 
-    named_not : (why : SyncFault) → UberNames area group pool.uber (Err why) v → NamedAll pool refused group (Err why)
+    pub named_not : (why : SyncFault) → UberNames area group pool.uber (Err why) v → NamedAll pool refused group (Err why)
     named_not sync.Shelf names = record {
       whole = whole_refused rack area pool refused group w names.0 refl refl refl refl refl;
       later = areas_named area.faults pool refused names.1 refl;

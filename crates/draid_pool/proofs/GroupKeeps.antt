@@ -60,6 +60,7 @@ module _ {R A : Type 0} (rack : racks.Ghosts R) (area : areas.Ghosts A) where
     valid = valid;
     part = table.part;
     later = (let same = table.committed in omega (arith, same));
+    opens = table.opens;
     groups = λ is. not_kept is;
     passes = λ other. pass;
     others = record { each = λ key own. inl (table.entries.held key) };
@@ -83,6 +84,7 @@ module _ {R A : Type 0} (rack : racks.Ghosts R) (area : areas.Ghosts A) where
     valid = subst (Valid rack) (sym same) valid;
     part = ap (λ s. part_of s) same;
     later = (let c = ap (λ (s : Shard R A). s.committed) same in omega (arith, c));
+    opens = (let o = ap (λ (s : Shard R A). s.open_group) same in omega (arith, o));
     groups = λ is. not_kept is;
     passes = λ other. same_pass x.pass y.pass (ap (λ (s : Shard R A). s.pass) same);
     others = subst (λ (s : Shard R A). KeepsOf (is_other (Some groups_number)) s.committed x.entries s.entries) (sym same) (keeps_self (is_other (Some groups_number)) x.committed x.entries);
@@ -103,6 +105,7 @@ module _ {R A : Type 0} (rack : racks.Ghosts R) (area : areas.Ghosts A) where
     valid = c.valid;
     part = c.does.part;
     later = (let behind = closing_behind x group next.valid next.closing in let is = c.commits.committed in omega (arith, behind, is));
+    opens = (let same = c.commits.open_group_is in omega (arith, same));
     groups = λ is. not_kept is;
     passes = λ other. c.stays.pass;
     others = drops_keeps (is_other (Some groups_number)) y.committed x.entries y.entries (subst (λ g. DropsFreed g x.entries y.entries) (sym c.commits.committed) c.commits.entries);

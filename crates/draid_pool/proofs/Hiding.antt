@@ -87,6 +87,8 @@ module _ (owns : ℕ → Bool) (x : State) (pieces : ℕ → Pieces) (m : ℕ) (
   hide none h = record {
     holds = λ c b. subst (λ bs. HoldsObjects x.geometry c (own_store owns x.store) bs pieces) (sym same) (h.holds c b);
     only = λ n k i there. h.only n k i (ap (λ bs. bs n k) (sym same) ∙ there);
+    checks = h.checks;
+    marked = h.marked;
   }
     where
       same : own_blocks (but m key (all_of owns)) (blocks_of x.metaslabs) ≡ own_blocks (all_of owns) (blocks_of x.metaslabs)
@@ -96,6 +98,8 @@ module _ (owns : ℕ → Bool) (x : State) (pieces : ℕ → Pieces) (m : ℕ) (
   unhide none h = record {
     holds = λ c b. subst (λ bs. HoldsObjects x.geometry c (own_store owns x.store) bs pieces) same (h.holds c b);
     only = λ n k i there. h.only n k i (ap (λ bs. bs n k) same ∙ there);
+    checks = h.checks;
+    marked = h.marked;
   }
     where
       same : own_blocks (but m key (all_of owns)) (blocks_of x.metaslabs) ≡ own_blocks (all_of owns) (blocks_of x.metaslabs)

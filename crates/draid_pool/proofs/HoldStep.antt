@@ -37,7 +37,7 @@ use Rattle.draid_pool.specs.Follows.{FollowsBy}
 use Rattle.draid_pool.specs.Threads.{Between, IsPointerAt, KnowsBut, PointsAt}
 use Rattle.draid_pool.proofs.ShardSteps.{at_here, at_other, live_before, same_entry}
 use Rattle.draid_pool.proofs.Contents.{all_long, same_on}
-use Rattle.draid_pool.proofs.Finds.{Found, found, found_drops, found_later, points_at_on}
+use Rattle.draid_pool.proofs.Finds.{Found, found, found_drops, found_later, found_opens, points_at_on}
 use Rattle.draid_pool.proofs.Owning.{StaysAt, but_drifts}
 
 -- a block that is held as it was is live as it was
@@ -152,6 +152,15 @@ module _ {R A S : Type 0} (rack : racks.Ghosts R) (area : areas.Ghosts A) (went 
     later : here.0.world.committed ≤ r.world.committed
     later = (let c = found_later rack area shared owns shard before drifts (part_in x m) (pieces m) f.now here.0 f.z here.2 f.is in let d = committed in omega (arith, c, d))
 
+    opens : here.0.world.open_group ≤ r.world.open_group
+    opens = (
+        let c = found_opens rack area shared owns shard before drifts (part_in x m) (pieces m) f.now here.0 f.z here.2 f.is in
+        let a = it.stands.is_in.open_group_is in
+        let b = f.is.stands.is_in.open_group_is in
+        let same = sets.groups.open_group_is in
+        omega (arith, a, b, c, same)
+        )
+
     -- a pointer of the table
     still_live : (q : Pointer) → IsLive before q → IsLive after q
     still_live q live = elim (bool_cases (key_eq (key_of p) (key_of q))) [
@@ -166,7 +175,7 @@ module _ {R A S : Type 0} (rack : racks.Ghosts R) (area : areas.Ghosts A) (went 
     pub unseen_step : KnowsBut rack area owns mine lives new table seq floor (turn m now pieces) (with_metaslab x m r)
     unseen_step = record {
       each = each_on r now it;
-      holds = but_drifts x m here.0 r here.1 owns mine lives pieces now later (λ k seen. stays k (inside k seen) (unseen k seen)) (λ k seen. stays k (inside_live k seen) (unseen_live k seen))
+      holds = but_drifts x m here.0 r here.1 owns mine lives pieces now later opens (λ k seen. stays k (inside k seen) (unseen k seen)) (λ k seen. stays k (inside_live k seen) (unseen_live k seen))
           (all_long rack area (part_in x m) (pieces m) shard here.0 here.2) (λ k seen. same_on (part_in x m) here.0 (pieces m) f.now now k (same k (unseen k seen)) (f.same k (inside k seen))) knows.holds;
       objects = pointers_on;
       seq = knows.seq;

@@ -1,5 +1,5 @@
 -- Calls that leave the images of a metaslab as they are, and with them what an import may take.
-use Rattle.std.proofs.Common.{◌≡◌, ◌∙◌, inl, inr, ℕ, Bool, true, false, Option, Some, None, IsSome, refl, sym, subst, ◌≢◌, ◌<◌, ◌==◌, ◌&&◌, [], ◌∷◌, zero, suc, List, arith, ap, length, get_or}
+use Rattle.std.proofs.Common.{◌≤◌, ◌≡◌, ◌∙◌, inl, inr, ℕ, Bool, true, false, Option, Some, None, IsSome, refl, sym, subst, ◌≢◌, ◌<◌, ◌==◌, ◌&&◌, [], ◌∷◌, zero, suc, List, arith, ap, length, get_or}
 use Rattle.std.specs.Prelude.{⊤, nat_lt, if◌then◌else◌}
 use Rattle.draid_area.specs.Area.{Content}
 use Rattle.draid_machine.specs.declared.event.Event.{Event}
@@ -27,11 +27,14 @@ use Rattle.draid_shard.specs.Fits.{IsLeaf}
 use Rattle.draid_slots.specs.States.{HasSlots}
 use Rattle.draid_machine.specs.Names.{named}
 
+same_low : (n : ℕ) → n ≤ n
+same_low n = omega arith
+
 pub keeps_same : (w : machine.State) → KeepsImages w w
-keeps_same w = record { image = refl; sealed = refl; leaves = λ leaf some. some; asked = refl; arms = record { order = λ slot. refl; arms = λ n. refl } }
+keeps_same w = record { image = refl; sealed = refl; leaves = λ leaf some. some; asked = refl; arms = record { order = λ slot. refl; arms = λ n. refl }; opens = same_low w.open_group }
 
 pub keeps_then : (w mid v : machine.State) → KeepsImages w mid → KeepsImages mid v → KeepsImages w v
-keeps_then w mid v a b = record { image = b.image ∙ a.image; sealed = b.sealed ∙ a.sealed; leaves = λ leaf some. a.leaves leaf (b.leaves leaf some); asked = b.asked ∙ a.asked; arms = alike_then v.core mid.core w.core b.arms a.arms }
+keeps_then w mid v a b = record { image = b.image ∙ a.image; sealed = b.sealed ∙ a.sealed; leaves = λ leaf some. a.leaves leaf (b.leaves leaf some); asked = b.asked ∙ a.asked; arms = alike_then v.core mid.core w.core b.arms a.arms; opens = (let low = a.opens in let high = b.opens in omega (arith, low, high)) }
 
 -- ---- events
 
@@ -56,19 +59,19 @@ from_mapped f (Some a) some = refl
 
 finish_keeps : (w : machine.State) (key : Key) (h : Held) (b : Bool)
     → KeepsImages w (if b then gone_state w key else live_state w key h)
-finish_keeps w key h true = record { image = refl; sealed = refl; leaves = λ leaf some. some; asked = refl; arms = record { order = λ slot. refl; arms = λ n. refl } }
-finish_keeps w key h false = record { image = refl; sealed = refl; leaves = λ leaf some. some; asked = refl; arms = record { order = λ slot. refl; arms = λ n. refl } }
+finish_keeps w key h true = record { image = refl; sealed = refl; leaves = λ leaf some. some; asked = refl; arms = record { order = λ slot. refl; arms = λ n. refl }; opens = same_low w.open_group }
+finish_keeps w key h false = record { image = refl; sealed = refl; leaves = λ leaf some. some; asked = refl; arms = record { order = λ slot. refl; arms = λ n. refl }; opens = same_low w.open_group }
 
 pub step_keeps : (l : machine.Layout) (w v : machine.State) (e : Event) → Step l w e v → LeavesImages e → KeepsImages w v
-step_keeps l w v (Begin key first stripes len birth digest) step leaves = made_keeps w v _ step.made (record { image = refl; sealed = refl; leaves = λ leaf some. some; asked = refl; arms = record { order = λ slot. refl; arms = λ n. refl } })
+step_keeps l w v (Begin key first stripes len birth digest) step leaves = made_keeps w v _ step.made (record { image = refl; sealed = refl; leaves = λ leaf some. some; asked = refl; arms = record { order = λ slot. refl; arms = λ n. refl }; opens = same_low w.open_group })
 step_keeps l w v (Put key landed failed) step leaves =
-    made_keeps w v _ step.made (record { image = refl; sealed = refl; leaves = λ leaf some. from_mapped _ (w.core.arm (Leaf leaf)) some; asked = refl; arms = record { order = λ slot. refl; arms = λ n. same_bare _ (w.core.arm n) (λ a. refl) } })
+    made_keeps w v _ step.made (record { image = refl; sealed = refl; leaves = λ leaf some. from_mapped _ (w.core.arm (Leaf leaf)) some; asked = refl; arms = record { order = λ slot. refl; arms = λ n. same_bare _ (w.core.arm n) (λ a. refl) }; opens = same_low w.open_group })
 step_keeps l w v (Finish key) step leaves = made_keeps w v _ step.made (finish_keeps w key step.h (nat_lt l.parity step.m))
-step_keeps l w v (Abort key) step leaves = made_keeps w v _ step.made (record { image = refl; sealed = refl; leaves = λ leaf some. some; asked = refl; arms = record { order = λ slot. refl; arms = λ n. refl } })
-step_keeps l w v (Free key group) step leaves = made_keeps w v _ step.made (record { image = refl; sealed = refl; leaves = λ leaf some. some; asked = refl; arms = record { order = λ slot. refl; arms = λ n. refl } })
+step_keeps l w v (Abort key) step leaves = made_keeps w v _ step.made (record { image = refl; sealed = refl; leaves = λ leaf some. some; asked = refl; arms = record { order = λ slot. refl; arms = λ n. refl }; opens = same_low w.open_group })
+step_keeps l w v (Free key group) step leaves = made_keeps w v _ step.made (record { image = refl; sealed = refl; leaves = λ leaf some. some; asked = refl; arms = record { order = λ slot. refl; arms = λ n. refl }; opens = same_low w.open_group })
 step_keeps l w v (Fetch key failed) step leaves = made_keeps w v w step.made (keeps_same w)
 step_keeps l w v (Damage leaf sector failed) step leaves = made_keeps w v w step.made (keeps_same w)
-step_keeps l w v (Close group) step leaves = made_keeps w v _ step.made (record { image = refl; sealed = refl; leaves = λ leaf some. some; asked = refl; arms = record { order = λ slot. refl; arms = λ n. refl } })
+step_keeps l w v (Close group) step leaves = made_keeps w v _ step.made (record { image = refl; sealed = refl; leaves = λ leaf some. some; asked = refl; arms = record { order = λ slot. refl; arms = λ n. refl }; opens = (let from = step.open_group in omega (arith, from)) })
 step_keeps l w v e step leaves = absurd leaves
 
 -- ---- what an import may take

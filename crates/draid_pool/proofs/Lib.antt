@@ -46,6 +46,7 @@ pub mod LookHold
 pub mod LookKeeps
 pub mod LookRooms
 pub mod Looking
+pub mod Marked
 pub mod Moved
 pub mod Naming
 pub mod OneHold
@@ -55,6 +56,7 @@ pub mod Owning
 pub mod PhaseSteps
 pub mod Places
 pub mod Pointing
+pub mod Points
 pub mod PoolBytes
 pub mod QuietWhole
 pub mod Ranging

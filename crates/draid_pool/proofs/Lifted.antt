@@ -1,6 +1,6 @@
 -- Holds of one metaslab of a pool that leave what it holds as it was.
 use Rattle.std.proofs.Common.{◌≡◌, ◌∙◌, [], ℕ, List, Option, Some, None, arith, refl, sym, ap, subst, slice_index_or, slice_set}
-use Rattle.std.specs.Prelude.{nat_eq, slice_get}
+use Rattle.std.specs.Prelude.{false, nat_eq, slice_get}
 use Rattle.std.specs.HashMap.{get}
 use Rattle.std.specs.Vec.{with_item}
 use Rattle.std.proofs.lemmas.Option.{slice_get-get_or, slice_get_within}
@@ -11,6 +11,7 @@ use Rattle.draid_machine.specs.declared.names.Key.{Key}
 use Rattle.draid_machine.specs.declared.names.Held.{Held}
 use Rattle.draid_machine.specs.declared.names.Stage.TheVariants.{Live}
 use Rattle.draid_segments.specs.Segments.{Pieces}
+use Rattle.draid_objects.specs.Marks.{check_by, is_dropped}
 use Rattle.draid_objects.specs.Blocks.{Blocks}
 use Rattle.draid_objects.specs.Changes.{Write, write_of}
 use Rattle.draid_entries.specs.Maps.{key_of}
@@ -82,12 +83,12 @@ module _ {R A : Type 0} (rack : racks.Ghosts R) (area : areas.Ghosts A) where
       = subst (λ b. HoldsObjects x.geometry x.committed x.store b (turn m (s.pieces m) s.pieces)) (sym blocks)
       (subst (λ p. HoldsObjects x.geometry x.committed x.store (blocks_of x.metaslabs) p) (sym (turn_back m s.pieces)) s.holds) in
       record {
-        stands = stands_turned rack area m pool new shard shard' (λ object. get nat_eq pool.own.objects object) (λ object. get nat_eq new.own.objects object) x y y' (s.pieces m) x.store s t holds
+        stands = stands_turned rack area m pool new shard shard' (λ object. get nat_eq pool.own.objects object) (λ object. get nat_eq new.own.objects object) x y y' (s.pieces m) x.store s t holds refl (omega arith)
             s.groups.next s.groups.last
             (λ object. subst (λ objects. PointsTo new.metaslabs.shards.items (get nat_eq objects object) (write_of x.store.changes object)) (sym set.objects)
             (points_on m pool new shard shard' x y y' (s.pieces m) (get nat_eq pool.own.objects object) (write_of x.store.changes object) s t same.held (s.objects object)))
             (s.seq ∙ sym set.seq) (s.floor ∙ sym set.floor);
-        only = subst (λ (b : Blocks). (n : ℕ) (k : Key) (h : Held) → b n k ≡ Some h → h.stage ≡ Live → IsLastAt n k (write_of x.store.changes k.object)) (sym blocks) r.only;
+        only = subst (λ (b : Blocks). (n : ℕ) (k : Key) (h : Held) → b n k ≡ Some h → h.stage ≡ Live → is_dropped (check_by x.store.marks) k ≡ false → IsLastAt n k (write_of x.store.changes k.object)) (sym blocks) r.only;
       }
 
   -- what they did, as a call of the pool

@@ -20,6 +20,7 @@ module _ {R A : Type 0} (rack : racks.Ghosts R) (area : areas.Ghosts A) where
     valid = subst (Valid rack) (sym same) valid;
     part = ap (λ s. part_of s) same;
     later = (let c = ap (λ (s : Shard R A). s.committed) same in omega (arith, c));
+    opens = (let o = ap (λ (s : Shard R A). s.open_group) same in omega (arith, o));
     groups = λ other. same_groups x y same;
     passes = λ other. same_pass x.pass y.pass (ap (λ (s : Shard R A). s.pass) same);
     others = subst (λ (s : Shard R A). KeepsOf (is_other None) s.committed x.entries s.entries) (sym same) (keeps_self (is_other None) x.committed x.entries);

@@ -1,6 +1,6 @@
 -- One metaslab of a pool moves, and the others stay.
 use Rattle.std.proofs.Common.{◌≡◌, ◌==◌, ◌≤◌, ◌+◌, ◌∙◌, inl, inr, ℕ, Bool, true, false, List, [], ◌∷◌, Option, Some, arith, refl, sym, ap, subst, slice_set, length, if◌then◌else◌}
-use Rattle.std.specs.Prelude.{slice_get, option_map}
+use Rattle.std.specs.Prelude.{◌↔◌, ◌<◌, max, option_map, slice_get}
 use Rattle.std.proofs.lemmas.Bool.{cases_eq}
 use Rattle.std.proofs.lemmas.List.{length-set}
 use Rattle.draid_names.specs.declared.numbers.TheConstants.{LAST_NUMBER}
@@ -27,12 +27,16 @@ use Rattle.draid_pool.specs.Records.{HasImage, LeavesAreBelow}
 use Rattle.draid_pool.specs.Importable.{IsAlike}
 use Rattle.draid_pool.specs.Shards.{FollowsIn, KeepsImages}
 use Rattle.draid_uber.specs.Checks.{AreasStand, told_by}
-use Rattle.draid_uber.specs.Uber.{areas_of}
+use Rattle.draid_uber.specs.Uber.{areas_of, changed_of}
 use Rattle.draid_pool.specs.Ubers.{IsUber, check_told, kept_in}
 use Rattle.draid_pool.specs.declared.pool.Pool.{Pool}
 use Rattle.draid_pool.proofs.Imaged.{alike_stays, image_kept, leaves_kept}
 use Rattle.draid_pool.proofs.Lists.{ext, get_set_other, get_set_same, set_back, set_twice, some_of}
 use Rattle.draid_pool.proofs.Lives.{held_by, live_by}
+use Rattle.draid_pool.proofs.Marked.{behind_later, marked_later, max_up}
+use Rattle.draid_machine.specs.State as machine
+use Rattle.draid_objects.specs.Stores.{AreMarkedUpto, IsBehindChecks}
+use Rattle.draid_session.specs.Points.{HasLateMark}
 
 -- the state in which metaslab m is this
 abbrev pub with_metaslab : State → ℕ → Metaslab → State
@@ -120,6 +124,7 @@ module _ {R A : Type 0} (rack : racks.Ghosts R) (area : areas.Ghosts A) where
     kept = is.kept;
     next_leaf = is.next_leaf;
     point = λ group late. is.point group late ∙ ap (λ ms. check_told ms group) (sym marks);
+    late = λ group above. subst (λ ms. HasLateMark group ms ↔ (group < changed_of old.uber)) (sym marks) (is.late group above);
     count = is.count;
     stands = record {
       pending = is.stands.pending;
@@ -176,10 +181,10 @@ module _ {R A : Type 0} (rack : racks.Ghosts R) (area : areas.Ghosts A) where
   pub stands_turned : (m : ℕ) (pool new : Pool R A) (shard shard' : Shard R A) (table table' : ℕ → Option Pointer) (x : State) (y y' : Metaslab) (now : Pieces) (store : Store)
       → (s : Stands rack area pool table x) → Turned m pool new shard shard' x y y' now
       → HoldsObjects x.geometry x.committed store (blocks_of (slice_set x.metaslabs m y')) (turn m now s.pieces)
-      → store.floor ≤ x.committed + 2 → store.floor ≤ LAST_NUMBER
+      → store.marks ≡ x.store.marks → x.store.floor ≤ store.floor → store.floor ≤ x.committed + 2 → store.floor ≤ LAST_NUMBER
       → ((object : ℕ) → PointsTo new.metaslabs.shards.items (table' object) (write_of store.changes object)) → store.seq ≡ new.own.seq → store.floor ≡ new.own.floor
       → Stands rack area new table' (record x { metaslabs = slice_set x.metaslabs m y'; store = store })
-  stands_turned m pool new shard shard' table table' x y y' now store s t holds next last objects seq floor = record {
+  stands_turned m pool new shard shard' table table' x y y' now store s t holds marks up next last objects seq floor = record {
     geometry = s.geometry ∙ sym t.geometry;
     layout = s.layout;
     many = length-set x.metaslabs m y' ∙ s.many;
@@ -187,11 +192,17 @@ module _ {R A : Type 0} (rack : racks.Ghosts R) (area : areas.Ghosts A) where
     pieces = turn m now s.pieces;
     each = each;
     holds = holds;
-    groups = record { committed = committed; next = next; last = last };
+    groups = record {
+      committed = committed;
+      next = next;
+      last = last;
+      checks = each_set x.metaslabs m y y' (λ z. IsBehindChecks x.committed store.marks z.world.open_group) t.at (behind_kept y.world y'.world t.images.opens (checks m y t.at)) checks;
+      marked = subst (AreMarkedUpto (max store.floor (x.committed + 1))) (sym marks) (marked_later (max x.store.floor (x.committed + 1)) (max store.floor (x.committed + 1)) x.store.marks (max_up x.store.floor store.floor (x.committed + 1) up) s.groups.marked);
+    };
     objects = objects;
     seq = seq;
     floor = floor;
-    uber = uber_stays pool new x (slice_set x.metaslabs m y') store (holds.unmarked ∙ sym s.holds.unmarked) t.uber s.uber;
+    uber = uber_stays pool new x (slice_set x.metaslabs m y') store marks t.uber s.uber;
     images = λ group k v may some. each_set x.metaslabs m y y' (HasImage group) t.at (image_kept group y y' t.images (s.images group m y may some t.at)) (λ n z. s.images group n z may some) k v;
     leaves = record {
       order = s.leaves.order;
@@ -216,6 +227,12 @@ module _ {R A : Type 0} (rack : racks.Ghosts R) (area : areas.Ghosts A) where
             subst (λ p. IsMetaslab rack area (part_in x k) p z v) (sym (turn_other m k now s.pieces differ))
             (s.each k z v (sym (get_set_other pool.metaslabs.shards.items m k shard' differ) ∙ (sym (ap (λ zs. slice_get zs k) t.sets) ∙ a)) (sym (get_set_other x.metaslabs m k y' differ) ∙ b))
       ]
+
+      checks : (k : ℕ) (v : Metaslab) → slice_get x.metaslabs k ≡ Some v → IsBehindChecks x.committed store.marks v.world.open_group
+      checks k v at = subst (λ ms. IsBehindChecks x.committed ms v.world.open_group) (sym marks) (s.groups.checks k v at)
+
+      behind_kept : (w v : machine.State) → w.open_group ≤ v.open_group → IsBehindChecks x.committed store.marks w.open_group → IsBehindChecks x.committed store.marks v.open_group
+      behind_kept w v opens = behind_later x.committed x.committed w.open_group v.open_group store.marks (omega arith) opens
 
       committed : (k : ℕ) (v : Metaslab) → slice_get (slice_set x.metaslabs m y') k ≡ Some v → v.world.committed ≡ x.committed
       committed = each_set x.metaslabs m y y' (λ z. z.world.committed ≡ x.committed) t.at (t.committed ∙ s.groups.committed m y t.at) s.groups.committed

@@ -1,6 +1,6 @@
 -- The uberblock of a pool names a group, or is refused it.
 use Rattle.std.proofs.Common.{◌≡◌, ◌==◌, ◌<◌, ◌+◌, ◌∙◌, [], ◌∷◌, inl, inr, ℕ, true, false, List, Option, Some, None, arith, refl, sym, ap, subst, if◌then◌else◌}
-use Rattle.std.specs.Prelude.{Contains, is_some, slice_get}
+use Rattle.std.specs.Prelude.{Contains, is_some, max, slice_get, ◌↔◌, ◌≤◌}
 use Rattle.std.proofs.lemmas.Option.{slice_get_within}
 use Rattle.std.proofs.lemmas.List.Elements.{All-cons, All-contains, All-nil, All-weaker}
 use Rattle.sha2.specs.Sha256.{sha256}
@@ -18,7 +18,7 @@ use Rattle.draid_uber.specs.Checks.{AreasStand, told_by}
 use Rattle.draid_uber.specs.Uber as ubers
 use Rattle.draid_uber.specs.Points.{told_at}
 use Rattle.draid_uber.specs.Slots.{group_of}
-use Rattle.draid_uber.specs.Uber.{Valid, areas_of, count_of, kept_of, layout_of, next_check, next_leaf_of, next_of, point_of, version_of, with_version}
+use Rattle.draid_uber.specs.Uber.{Valid, areas_of, changed_of, count_of, kept_of, layout_of, next_check, next_leaf_of, next_of, point_of, version_of, with_version}
 use Rattle.draid_uber.specs.declared.uber.Uber.{Uber}
 use Rattle.draid_session.specs.State.{Metaslab, State}
 use Rattle.draid_pool.specs.Objects.{blocks_of}
@@ -27,6 +27,8 @@ use Rattle.draid_pool.specs.Records.{HasImage}
 use Rattle.draid_pool.specs.Syncing.{AreSealed}
 use Rattle.draid_pool.specs.Ubers.{IsPending, IsUber, Names, Refuses, body_of, check_told, kept_in}
 use Rattle.draid_pool.proofs.Lists.{present}
+use Rattle.draid_pool.proofs.Marked.{behind_later, marked_later, max_next}
+use Rattle.draid_session.specs.Points.{HasLateMark}
 use Rattle.draid_pool.proofs.Stood.{Stood}
 use Rattle.draid_pool.proofs.Turns.{state_sound}
 
@@ -67,6 +69,9 @@ module _ {A : Type 0} (area : areas.Ghosts A) (old new : Uber A) (group : ℕ) (
   point_stays : point_of new ≡ point_of old → (g : ℕ) → x.committed < g → next_check new g ≡ check g
   point_stays same g late = ap (λ (p : Point). told_at p g) same ∙ is.point g late
 
+  late_stays : changed_of new ≡ changed_of old → (g : ℕ) → x.committed ≤ g → HasLateMark g x.store.marks ↔ (g < changed_of new)
+  late_stays same g above = subst (λ n. HasLateMark g x.store.marks ↔ (g < n)) (sym same) (is.late g above)
+
   pub uber_named : Names area old new group → group ≡ group_of (kept_of old) + 1 → IsUber area new (named_state x group (count_of area.faults new))
   uber_named n next =
       let behind = committed_is in
@@ -80,6 +85,7 @@ module _ {A : Type 0} (area : areas.Ghosts A) (old new : Uber A) (group : ℕ) (
         kept = n.kept ∙ own;
         next_leaf = n.next_leaf ∙ is.next_leaf;
         point = λ g late. point_stays n.point g (omega (arith, late, next, behind));
+        late = λ g above. late_stays n.changed g (omega (arith, above, next, behind));
         count = refl;
         stands = record {
           pending = [];
@@ -102,6 +108,7 @@ module _ {A : Type 0} (area : areas.Ghosts A) (old new : Uber A) (group : ℕ) (
         kept = n.kept ∙ is.kept;
         next_leaf = n.next_leaf ∙ is.next_leaf;
         point = point_stays n.point;
+        late = late_stays n.changed;
         count = refl;
         stands = record {
           pending = left.pending;
@@ -142,8 +149,10 @@ module _ {R A : Type 0} (rack : racks.Ghosts R) (area : areas.Ghosts A) (shards 
     shards_are = s.shards_are;
     pieces = s.pieces;
     each = s.each;
-    holds = record { stores = s.holds.stores; unmarked = s.holds.unmarked; floors = s.holds.floors; settled = s.holds.settled; numbered = s.holds.numbered; bytes = s.holds.bytes };
+    holds = record { stores = s.holds.stores; floors = s.holds.floors; settled = s.holds.settled; numbered = s.holds.numbered; positive = s.holds.positive; bytes = s.holds.bytes };
     only = s.only;
+    checks = s.checks;
+    marked = s.marked;
     objects = s.objects;
     images = λ g m y may some at. elim may [
       | inl is ↦ s.images g m y (inl is) some at
@@ -163,14 +172,16 @@ module _ {R A : Type 0} (rack : racks.Ghosts R) (area : areas.Ghosts A) (shards 
     pieces = s.pieces;
     each = s.each;
     holds = record {
-      stores = commit_kept sha256 x.committed x.store.changes [] (blocks_of x.metaslabs) (blocks_of x.metaslabs) s.holds.stores group (omega (arith, behind)) (λ m k. inl refl);
+      stores = commit_kept sha256 x.committed x.store.changes x.store.marks (blocks_of x.metaslabs) (blocks_of x.metaslabs) s.holds.stores group (omega (arith, behind)) (λ m k. inl refl);
       floors = s.holds.floors;
-      unmarked = s.holds.unmarked;
       settled = s.holds.settled;
       numbered = s.holds.numbered;
+      positive = s.holds.positive;
       bytes = s.holds.bytes;
     };
     only = s.only;
+    checks = λ m y at. behind_later x.committed group y.world.open_group y.world.open_group x.store.marks (omega (arith, behind)) (omega arith) (s.checks m y at);
+    marked = marked_later (max x.store.floor (x.committed + 1)) (max x.store.floor (group + 1)) x.store.marks (max_next x.store.floor (x.committed + 1) (group + 1) (omega (arith, behind))) s.marked;
     objects = s.objects;
     images = λ g m y may some at. elim may [
       | inl is ↦ subst (λ k. HasImage k y) (sym is) (sealed_image m y at)

@@ -1,6 +1,6 @@
 -- A thread that owns all objects of a pool, with nobody beside it, knows what the pool stands for.
 use Rattle.std.proofs.Common.{◌≡◌, ◌≤◌, ◌∙◌, inl, arith, ℕ, Bool, true, List, [], ◌∷◌, Option, Some, None, refl, sym, ap, subst}
-use Rattle.std.specs.Prelude.{slice_get, nat_eq}
+use Rattle.std.specs.Prelude.{◌+◌, false, filter, max, slice_get, nat_eq}
 use Rattle.std.specs.HashMap.{get}
 use Rattle.sha2.specs.Sha256.{sha256}
 use Rattle.draid_names.specs.declared.pointer.Pointer.{Pointer}
@@ -10,10 +10,15 @@ use Rattle.draid_objects.specs.Changes.{Change, Write, write_of}
 use Rattle.draid_objects.proofs.Keeping.{commit_kept}
 use Rattle.draid_shard.specs.Part.{Part}
 use Rattle.draid_shard.specs.declared.shard.Shard.{Shard}
-use Rattle.draid_session.specs.State.{State}
+use Rattle.draid_session.specs.State.{Metaslab, State, Store}
+use Rattle.std.proofs.lemmas.Option.{slice_get_within}
+use Rattle.draid_objects.specs.Stores.{AreMarkedUpto, IsBehindChecks}
+use Rattle.draid_pool.proofs.Marked.{behind_later, marked_later, max_next}
+use Rattle.draid_pool.proofs.Wholes.{open_high}
+use Rattle.draid_objects.specs.Marks.{Dropped, GivenUp, Made, Mark, check_by, is_dropped}
 use Rattle.draid_pool.specs.Objects.{HoldsObjects, IsLastAt, PointsTo, blocks_of}
 use Rattle.draid_pool.specs.Pools.{Represents, Stands}
-use Rattle.draid_pool.specs.Threads.{Bounds, IsWholeBy, Knows, PointsAt, own_changes}
+use Rattle.draid_pool.specs.Threads.{Bounds, IsWholeBy, Knows, PointsAt, is_own_mark, own_changes, own_store}
 use Rattle.draid_pool.specs.Whole.{IsWhole}
 use Rattle.draid_pool.specs.declared.pool.Pool.{Pool}
 use Rattle.draid_pool.proofs.Lifted.{metaslab_of}
@@ -33,6 +38,15 @@ table_in pool object = get nat_eq pool.own.objects object
 pub all_own : (cs : List Change) → own_changes all cs ≡ cs
 all_own [] = refl
 all_own (c ∷ cs) = ap (λ l. c ∷ l) (all_own cs)
+
+pub all_marks : (ms : List Mark) → filter (is_own_mark all) ms ≡ ms
+all_marks [] = refl
+all_marks (Made group ∷ ms) = ap (λ l. Made group ∷ l) (all_marks ms)
+all_marks (Dropped key group ∷ ms) = ap (λ l. Dropped key group ∷ l) (all_marks ms)
+all_marks (GivenUp group ∷ ms) = ap (λ l. GivenUp group ∷ l) (all_marks ms)
+
+pub all_store : (store : Store) → own_store all store ≡ store
+all_store store = λ i. record store { changes = all_own store.changes i; marks = all_marks store.marks i }
 
 module _ {R A : Type 0} where
   points_in : (shards : List (Shard R A)) (o : Option Pointer) (w : Option Write) → PointsTo shards o w → PointsAt (λ m. slice_get shards m) o w
@@ -101,15 +115,19 @@ module _ {R A : Type 0} (rack : racks.Ghosts R) (area : areas.Ghosts A) where
     but_it = record {
       each = λ m shard at. (let z = metaslab_of rack area pool x s m shard at in (z.y, z.at, z.is));
       holds = record {
-        holds = λ c b. subst (λ cs. HoldsObjects x.geometry c (record x.store { changes = cs }) (blocks_of x.metaslabs) s.pieces) (sym (all_own x.store.changes)) (record {
-          stores = commit_kept sha256 x.committed x.store.changes [] (blocks_of x.metaslabs) (blocks_of x.metaslabs) s.holds.stores c (low c b) (λ m k. inl refl);
+        holds = λ c b. subst (λ (z : Store). HoldsObjects x.geometry c z (blocks_of x.metaslabs) s.pieces) (sym (all_store x.store)) (record {
+          stores = commit_kept sha256 x.committed x.store.changes x.store.marks (blocks_of x.metaslabs) (blocks_of x.metaslabs) s.holds.stores c (low c b) (λ m k. inl refl);
           floors = s.holds.floors;
-          unmarked = s.holds.unmarked;
           settled = s.holds.settled;
           numbered = s.holds.numbered;
+          positive = s.holds.positive;
           bytes = s.holds.bytes;
         });
-        only = λ m k h at live. subst (λ cs. IsLastAt m k (write_of cs k.object)) (sym (all_own x.store.changes)) (r.only m k h at live);
+        only = λ m k h at live counts. subst (λ (z : Store). IsLastAt m k (write_of z.changes k.object)) (sym (all_store x.store)) (r.only m k h at live (subst (λ (z : Store). is_dropped (check_by z.marks) k ≡ false) (all_store x.store) counts));
+        checks = λ c b m y at. subst (λ (z : Store). IsBehindChecks c z.marks y.world.open_group) (sym (all_store x.store))
+            (behind_later x.committed c y.world.open_group y.world.open_group x.store.marks (low c b) (omega arith) (s.groups.checks m y at));
+        marked = λ m y at. subst (λ (z : Store). AreMarkedUpto (max x.store.floor y.world.open_group) z.marks) (sym (all_store x.store))
+            (marked_later (max x.store.floor (x.committed + 1)) (max x.store.floor y.world.open_group) x.store.marks (max_next x.store.floor (x.committed + 1) y.world.open_group (open_behind m y at)) s.groups.marked);
       };
       objects = λ o mine. points_in pool.metaslabs.shards.items (table_in pool o) (write_of x.store.changes o) (s.objects o);
       seq = s.seq;
@@ -119,6 +137,16 @@ module _ {R A : Type 0} (rack : racks.Ghosts R) (area : areas.Ghosts A) where
     where
       s : Stands rack area pool (table_in pool) x
       s = r.stands
+
+      open_behind : (m : ℕ) (y : Metaslab) → slice_get x.metaslabs m ≡ Some y → x.committed + 1 ≤ y.world.open_group
+      open_behind m y at =
+          let shard = present pool.metaslabs.shards.items m (let inside = slice_get_within x.metaslabs m y at in let many = s.shards in omega (arith, inside, many)) in
+          let is = s.each m shard.0 y shard.1 at in
+          let high = open_high shard.0.open_group shard.0.closing shard.0.committed shard.0.sealed is.valid.groups in
+          let open_is = is.stands.is_in.open_group_is in
+          let committed_is = is.stands.is_in.committed in
+          let same = s.groups.committed m y at in
+          omega (arith, high, open_is, committed_is, same)
 
       low : (c : ℕ) → Bounds x c → x.committed ≤ c
       low c b =

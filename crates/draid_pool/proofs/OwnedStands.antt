@@ -1,6 +1,6 @@
 -- What a pool stands for behind holds by its only thread that leave groups and arms: from what the thread knows then, and from what the pool stood for.
 use Rattle.std.proofs.Common.{◌≡◌, ◌<◌, ◌≤◌, ◌+◌, ◌∙◌, inl, inr, arith, ℕ, suc, Bool, true, false, List, [], ◌∷◌, Some, None, refl, sym, ap, subst, slice_set, length}
-use Rattle.std.specs.Prelude.{slice_get, nat_lt, if◌then◌else◌, ⊤}
+use Rattle.std.specs.Prelude.{max, slice_get, nat_lt, if◌then◌else◌, ⊤}
 use Rattle.std.proofs.lemmas.Bool.{cases_eq}
 use Rattle.std.proofs.lemmas.List.{length-set}
 use Rattle.std.proofs.lemmas.Option.{slice_get_within}
@@ -30,7 +30,7 @@ use Rattle.draid_pool.specs.Objects.{HoldsObjects, IsLastAt, blocks_of}
 use Rattle.draid_pool.specs.Pools.{Represents, Stands, part_in}
 use Rattle.draid_pool.specs.Shards.{KeepsImages}
 use Rattle.draid_pool.specs.Threads.{AllStay, CarriesBy, IsWholeBy, Knows}
-use Rattle.draid_pool.specs.Whole.{IsWhole}
+use Rattle.draid_pool.specs.Whole.{IsWhole, PointFits}
 use Rattle.draid_pool.specs.declared.pool.Pool.{Pool}
 use Rattle.draid_pool.proofs.Alone.{carries_alone}
 use Rattle.draid_shard.specs.Alike.{ShareArms}
@@ -38,8 +38,11 @@ use Rattle.draid_shard.specs.Fits.{IsLeaf}
 use Rattle.draid_pool.proofs.Arms.{Shared, all_shared}
 use Rattle.draid_pool.proofs.Imaged.{LeavesImages, alike_stays, image_kept, keeps_same, keeps_then, leaves_kept, step_keeps}
 use Rattle.draid_pool.proofs.Lists.{get_set_other, get_set_same, present, some_of}
+use Rattle.draid_pool.proofs.Marked.{behind_later, marked_later, max_up}
 use Rattle.draid_pool.proofs.Moved.{uber_stays}
-use Rattle.draid_pool.proofs.OwnedKnows.{all, all_own, left_in, points_out, table_in}
+use Rattle.draid_objects.specs.Marks.{check_by, is_dropped}
+use Rattle.draid_objects.specs.Stores.{AreMarkedUpto, IsBehindChecks}
+use Rattle.draid_pool.proofs.OwnedKnows.{all, all_store, left_in, points_out, table_in}
 use Rattle.draid_pool.proofs.SyncCalls.{pool_group}
 use Rattle.draid_pool.proofs.Versions.{same_uber_layout}
 
@@ -146,8 +149,8 @@ module _ {R A : Type 0} (rack : racks.Ghosts R) (area : areas.Ghosts A) where
     many_left : length new.metaslabs.shards.items ≡ length pool.metaslabs.shards.items
     many_left = same_long pool.metaslabs.shards.items new.metaslabs.shards.items (λ m shard at. (let z = stay.each m shard at in (z.0, z.1))) stay.absent
 
-    pub whole_left : IsWholeBy rack all (left_in new) (table_in new) new.own.seq new.own.floor → IsWhole rack area new
-    whole_left by = record {
+    pub whole_left : IsWholeBy rack all (left_in new) (table_in new) new.own.seq new.own.floor → PointFits 0 (ubers.point_of new.uber) (table_in new) new.own.seq → IsWhole rack area new
+    whole_left by fits = record {
       perms = w.perms;
       layout = subst (λ g. IsLayout g w.perms) (sym geometry) w.layout;
       many = many_left ∙ (w.many ∙ ap (λ (g : Geometry). g.props.metaslabs) (sym geometry));
@@ -173,8 +176,19 @@ module _ {R A : Type 0} (rack : racks.Ghosts R) (area : areas.Ghosts A) where
       objects = λ object pointer at. (let p = by.pointers object pointer at in record { object_is = p.object_is; shard = p.shard; there = p.there; live = p.live });
       floor = floor;
       low = by.low;
+      point = fits;
+      behind = behind;
     }
       where
+        behind : (own k : ℕ) (z : Shard R A) → (ubers.point_of new.uber).group ≡ Some own → slice_get new.metaslabs.shards.items k ≡ Some z → own < z.open_group
+        behind own k z is at =
+            let was = present pool.metaslabs.shards.items k (let inside = slice_get_within new.metaslabs.shards.items k z at in let many = many_left in omega (arith, inside, many)) in
+            let s = stay.each k was.0 was.1 in
+            let same : s.0 ≡ z = some_of (left_in new k) s.0 z s.1 at in
+            let low = w.behind own k was.0 (ap (λ u. (ubers.point_of u).group) (sym uber) ∙ is) was.1 in
+            let open_is = (s.2.groups refl).groups.open_group_is in
+            subst (λ (q : Shard R A). own < q.open_group) same (omega (arith, low, open_is))
+
         had : (k : ℕ) (s : Shard R A) → slice_get new.metaslabs.shards.items k ≡ Some s → Shared pool.metaslabs.shards.items k s
         had k s at =
             let was = present pool.metaslabs.shards.items k (let inside = slice_get_within new.metaslabs.shards.items k s at in let many = many_left in omega (arith, inside, many)) in
@@ -206,7 +220,7 @@ module _ {R A : Type 0} (rack : racks.Ghosts R) (area : areas.Ghosts A) where
       committed m u at = (let z = each m u at in z.2.committed ∙ s.groups.committed m z.0 z.1)
 
       holds : HoldsObjects x.geometry x.committed store (blocks_of zs) k.pieces
-      holds = subst (λ cs. HoldsObjects x.geometry x.committed (record store { changes = cs }) (blocks_of zs) k.pieces) (all_own store.changes)
+      holds = subst (λ (z : Store). HoldsObjects x.geometry x.committed z (blocks_of zs) k.pieces) (all_store store)
           (k.but_it.holds.holds x.committed (λ m u at. (let same = committed m u at in omega (arith, same))))
 
       floor_is : store.floor ≤ x.committed + 2
@@ -217,8 +231,17 @@ module _ {R A : Type 0} (rack : racks.Ghosts R) (area : areas.Ghosts A) where
           let same = ap (λ u. group_of (kept_of u)) uber in
           omega (arith, own, next, group, same)
 
-      pub stands_left : Represents rack area new (record x { metaslabs = zs; store = store })
-      stands_left = record {
+      checks : store.marks ≡ x.store.marks → (m : ℕ) (u : Metaslab) → slice_get zs m ≡ Some u → IsBehindChecks x.committed store.marks u.world.open_group
+      checks marks m u at = (let z = each m u at in subst (λ ms. IsBehindChecks x.committed ms u.world.open_group) (sym marks)
+          (behind_later x.committed x.committed z.0.world.open_group u.world.open_group x.store.marks (omega arith) z.2.images.opens (s.groups.checks m z.0 z.1)))
+
+      marked : store.marks ≡ x.store.marks → x.store.floor ≤ store.floor → AreMarkedUpto (max store.floor (x.committed + 1)) store.marks
+      marked marks up = subst (AreMarkedUpto (max store.floor (x.committed + 1))) (sym marks)
+          (marked_later (max x.store.floor (x.committed + 1)) (max store.floor (x.committed + 1)) x.store.marks (max_up x.store.floor store.floor (x.committed + 1) up) s.groups.marked)
+
+      -- where nothing befell the checkpoint
+      pub stands_left : store.marks ≡ x.store.marks → x.store.floor ≤ store.floor → Represents rack area new (record x { metaslabs = zs; store = store })
+      stands_left marks up = record {
         stands = record {
           geometry = s.geometry ∙ sym geometry;
           layout = s.layout;
@@ -227,11 +250,11 @@ module _ {R A : Type 0} (rack : racks.Ghosts R) (area : areas.Ghosts A) where
           pieces = k.pieces;
           each = λ m shard u a b. (let z = k.but_it.each m shard a in subst (λ y. IsMetaslab rack area (part_in x m) (k.pieces m) shard y) (some_of (slice_get zs m) z.0 u z.1 b) z.2);
           holds = holds;
-          groups = record { committed = committed; next = floor_is; last = (let own = k.but_it.floor in let low = w.low in omega (arith, own, low)) };
+          groups = record { committed = committed; next = floor_is; last = (let own = k.but_it.floor in let low = w.low in omega (arith, own, low)); checks = checks marks; marked = marked marks up };
           objects = λ object. points_out new.metaslabs.shards.items (table_in new object) (write_of store.changes object) (k.but_it.objects object refl);
           seq = k.but_it.seq;
           floor = k.but_it.floor;
-          uber = uber_stays rack area pool new x zs store (holds.unmarked ∙ sym s.holds.unmarked) uber s.uber;
+          uber = uber_stays rack area pool new x zs store marks uber s.uber;
           images = λ group m u may some at. (let z = each m u at in image_kept group z.0 u z.2.images (s.images group m z.0 may some z.1));
           leaves = record {
             order = s.leaves.order;
@@ -241,11 +264,11 @@ module _ {R A : Type 0} (rack : racks.Ghosts R) (area : areas.Ghosts A) where
           versions = s.versions;
           alike = λ m u at. (let z = each m u at in alike_stays s.shared z.0.world u.world z.2.images (s.alike m z.0 z.1));
         };
-        only = λ m key h there live. subst (λ cs. IsLastAt m key (write_of cs key.object)) (all_own store.changes) (k.but_it.holds.only m key h there live);
+        only = λ m key h there live counts. subst (λ (z : Store). IsLastAt m key (write_of z.changes key.object)) (all_store store) (k.but_it.holds.only m key h there live (subst (λ (z : Store). is_dropped (check_by z.marks) key ≡ false) (sym (all_store store)) counts));
       }
 
     -- a command of the only thread is one of the pool
-    pub carries_out : {S : Type 0} (went : S → ℕ → Shard R A → Shard R A → S → Type 0) (a b : S) (does : List Hold → Store → Type 0) → ((holds : List Hold) (store : Store) → does holds store → ArePlain holds)
+    pub carries_out : {S : Type 0} (went : S → ℕ → Shard R A → Shard R A → S → Type 0) (a b : S) (does : List Hold → Store → Type 0) → ((holds : List Hold) (store : Store) → does holds store → ArePlain holds × (store.marks ≡ x.store.marks) × (x.store.floor ≤ store.floor))
         → CarriesBy rack area went false all (left_in new) (table_in new) new.own.seq new.own.floor a b x does → CarriesOut rack area new x does
     carries_out went a b does plain c = record {
       holds = c.holds;
@@ -255,11 +278,14 @@ module _ {R A : Type 0} (rack : racks.Ghosts R) (area : areas.Ghosts A) where
       done = c.done;
       represents = subst (λ (y : State). Represents rack area new (record y { store = c.store })) (sym rest.rest)
           (stands_left c.reached.metaslabs c.store rest.many rest.each
-          (subst (λ (y : State). Knows rack area all (left_in new) (table_in new) new.own.seq new.own.floor (record y { store = c.store })) rest.rest c.knows));
+          (subst (λ (y : State). Knows rack area all (left_in new) (table_in new) new.own.seq new.own.floor (record y { store = c.store })) rest.rest c.knows) told.1 told.2);
     }
       where
+        told : ArePlain c.holds × (c.store.marks ≡ x.store.marks) × (x.store.floor ≤ c.store.floor)
+        told = plain c.holds c.store c.done
+
         follows : Follows c.holds x c.reached
         follows = carries_alone rack area went all (left_in new) (table_in new) new.own.seq new.own.floor a b x does c
 
         rest : AllRest x c.reached
-        rest = follows_rest c.holds x c.reached follows (plain c.holds c.store c.done)
+        rest = follows_rest c.holds x c.reached follows told.0

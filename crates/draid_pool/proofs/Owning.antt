@@ -1,6 +1,6 @@
 -- What is known of a thread's own objects stays, as others hold the metaslabs.
 use Rattle.std.proofs.Common.{◌≡◌, ◌==◌, ◌≤◌, ◌∙◌, ◌⊎◌, inl, inr, arith, ℕ, Bool, true, false, List, [], ◌∷◌, Some, None, refl, sym, ap, subst, slice_set, length, cond, if◌then◌else◌}
-use Rattle.std.specs.Prelude.{slice_get, option_map}
+use Rattle.std.specs.Prelude.{max, option_map, slice_get}
 use Rattle.std.proofs.lemmas.Bool.{cases_eq, true≢false}
 use Rattle.sha2.specs.Sha256.{sha256}
 use Rattle.draid_spec.specs.declared.layout.Geometry.{Geometry}
@@ -20,7 +20,9 @@ use Rattle.draid_pool.specs.Objects.{HoldsObjects, HasPieces, blocks_of}
 use Rattle.draid_pool.specs.Pools.{part_in}
 use Rattle.draid_pool.proofs.Contents.{pieces_by}
 use Rattle.draid_pool.proofs.Lists.{get_set_other, get_set_same, some_of}
-use Rattle.draid_pool.proofs.Moved.{blocks_at, turn, turn_here, turn_other, with_metaslab}
+use Rattle.draid_pool.proofs.Moved.{blocks_at, each_set, turn, turn_here, turn_other, with_metaslab}
+use Rattle.draid_pool.proofs.Marked.{behind_later, marked_later, max_next}
+use Rattle.draid_objects.specs.Stores.{AreMarkedUpto, IsBehindChecks}
 use Rattle.draid_pool.specs.Threads.{Bounds, HoldsBut, HoldsOwn, all_of, own_blocks, own_changes, own_store}
 use Rattle.draid_pool.proofs.Drifting.{freed_later}
 
@@ -131,7 +133,7 @@ module _ (x : State) (m : ℕ) (y z : Metaslab) (at : slice_get x.metaslabs m �
       | inr e ↦ absurd (none_some (own_blocks mine (blocks_of after) n k) h e.1 there)
     ]
 
-  module _ (owns : ℕ → Bool) (mine lives : ℕ → Key → Bool) (pieces : ℕ → Pieces) (now : Pieces) (later : y.world.committed ≤ z.world.committed)
+  module _ (owns : ℕ → Bool) (mine lives : ℕ → Key → Bool) (pieces : ℕ → Pieces) (now : Pieces) (later : y.world.committed ≤ z.world.committed) (opens : y.world.open_group ≤ z.world.open_group)
       (drops : (k : Key) → mine m k ≡ true → StaysAt y z k) (drops_live : (k : Key) → lives m k ≡ true → StaysAt y z k) (long : AreLong x.geometry y) (same : (k : Key) → mine m k ≡ true → SamePieces (part_in x m) y (pieces m) now k) where
     own_bytes : (c : ℕ) → HoldsObjects x.geometry c (own_store owns x.store) (own_blocks mine (blocks_of x.metaslabs)) pieces → (n : ℕ) (k : Key) (h : Held) (w : Write)
         → own_blocks mine (blocks_of x.metaslabs) n k ≡ Some h → write_by (own_changes owns x.store.changes) k ≡ Some w → HasPieces x.geometry w (turn m now pieces n)
@@ -155,21 +157,25 @@ module _ (x : State) (m : ℕ) (y z : Metaslab) (at : slice_get x.metaslabs m �
     pub but_drifts : HoldsBut owns mine lives x pieces → HoldsBut owns mine lives (with_metaslab x m z) (turn m now pieces)
     but_drifts own = record {
       holds = λ c b. all c b (own.holds c (bound_before c later b)) (all_drop mine drops c (bound_there c b));
-      only = λ n k h there live. own.only n k h (held_before lives drops_live n k h there) live;
+      only = λ n k h there live counts. own.only n k h (held_before lives drops_live n k h there) live counts;
+      checks = λ c b. each_set x.metaslabs m y z (λ v. IsBehindChecks c (own_store owns x.store).marks v.world.open_group) at
+          (behind_later c c y.world.open_group z.world.open_group (own_store owns x.store).marks (omega arith) opens (own.checks c (bound_before c later b) m y at)) (own.checks c (bound_before c later b));
+      marked = each_set x.metaslabs m y z (λ v. AreMarkedUpto (max x.store.floor v.world.open_group) (own_store owns x.store).marks) at
+          (marked_later (max x.store.floor y.world.open_group) (max x.store.floor z.world.open_group) (own_store owns x.store).marks (max_next x.store.floor y.world.open_group z.world.open_group opens) (own.marked m y at)) own.marked;
     }
       where
         all : (c : ℕ) → Bounds (with_metaslab x m z) c → HoldsObjects x.geometry c (own_store owns x.store) (own_blocks mine (blocks_of x.metaslabs)) pieces
             → Drops c (own_blocks mine (blocks_of x.metaslabs)) (own_blocks mine (blocks_of after)) → HoldsObjects x.geometry c (own_store owns x.store) (own_blocks mine (blocks_of after)) (turn m now pieces)
         all c b o d = record {
-          stores = commit_kept sha256 c (own_changes owns x.store.changes) [] (own_blocks mine (blocks_of x.metaslabs)) (own_blocks mine (blocks_of after)) o.stores c (omega arith) d;
+          stores = commit_kept sha256 c (own_changes owns x.store.changes) (own_store owns x.store).marks (own_blocks mine (blocks_of x.metaslabs)) (own_blocks mine (blocks_of after)) o.stores c (omega arith) d;
           floors = λ object. commit_floor (own_changes owns x.store.changes) (own_blocks mine (blocks_of x.metaslabs)) (own_blocks mine (blocks_of after)) c object x.store.floor (o.floors object) d;
-          unmarked = o.unmarked;
           settled = λ n k h there. o.settled n k h (held_before mine drops n k h there);
           numbered = λ n k h there. o.numbered n k h (held_before mine drops n k h there);
+          positive = o.positive;
           bytes = λ n k h w there by. own_bytes c o n k h w (held_before mine drops n k h there) by;
         }
 
 -- a metaslab that others held
-pub own_drifts : (owns : ℕ → Bool) (x : State) (m : ℕ) (y z : Metaslab) (pieces : ℕ → Pieces) (now : Pieces) → slice_get x.metaslabs m ≡ Some y → y.world.committed ≤ z.world.committed
+pub own_drifts : (owns : ℕ → Bool) (x : State) (m : ℕ) (y z : Metaslab) (pieces : ℕ → Pieces) (now : Pieces) → slice_get x.metaslabs m ≡ Some y → y.world.committed ≤ z.world.committed → y.world.open_group ≤ z.world.open_group
     → ((k : Key) → owns k.object ≡ true → StaysAt y z k) → AreLong x.geometry y → ((k : Key) → owns k.object ≡ true → SamePieces (part_in x m) y (pieces m) now k) → HoldsOwn owns x pieces → HoldsOwn owns (with_metaslab x m z) (turn m now pieces)
-own_drifts owns x m y z pieces now at later drops long same own = but_drifts x m y z at owns (all_of owns) (all_of owns) pieces now later drops drops long same own
+own_drifts owns x m y z pieces now at later opens drops long same own = but_drifts x m y z at owns (all_of owns) (all_of owns) pieces now later opens drops drops long same own

@@ -1,5 +1,5 @@
 -- What the check records say of marks.
-use Rattle.std.proofs.Common.{◌≡◌, ◌∙◌, [], ℕ, List, None, ap, refl, sym}
+use Rattle.std.proofs.Common.{◌≡◌, ◌∙◌, [], ℕ, List, None, ap, sym}
 use Rattle.draid_checkpoint.specs.Check.{Point}
 use Rattle.draid_objects.specs.Marks.{Mark}
 use Rattle.draid_uber.specs.Points.{no_check, told_at}

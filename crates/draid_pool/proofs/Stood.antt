@@ -1,6 +1,6 @@
 -- The shards of a pool stand for the metaslabs of a state, whatever is said of each metaslab's group, version and arms; and so they do as one of them moves.
-use Rattle.std.proofs.Common.{◌≡◌, ◌<◌, ◌≤◌, ◌+◌, ◌⊎◌, ◌∙◌, inl, inr, ℕ, true, List, [], Option, Some, None, arith, refl, sym, ap, subst, slice_set, length}
-use Rattle.std.specs.Prelude.{nat_eq, option_map, slice_get}
+use Rattle.std.proofs.Common.{◌≡◌, ◌<◌, ◌≤◌, ◌+◌, ◌⊎◌, ◌∙◌, inl, inr, ℕ, true, List, Option, Some, None, arith, refl, sym, ap, subst, slice_set, length}
+use Rattle.std.specs.Prelude.{false, max, nat_eq, option_map, slice_get}
 use Rattle.std.specs.HashMap.{get}
 use Rattle.std.proofs.lemmas.Bool.{cases_eq}
 use Rattle.std.proofs.lemmas.List.{length-set}
@@ -34,6 +34,9 @@ use Rattle.draid_pool.specs.Ubers.{IsUber}
 use Rattle.draid_pool.specs.declared.pool.Pool.{Pool}
 use Rattle.draid_pool.proofs.Lists.{get_set_other, get_set_same, some_of}
 use Rattle.draid_pool.proofs.Lives.{held_by, live_by}
+use Rattle.draid_pool.proofs.Marked.{behind_later}
+use Rattle.draid_objects.specs.Marks.{check_by, is_dropped}
+use Rattle.draid_objects.specs.Stores.{AreMarkedUpto, IsBehindChecks}
 use Rattle.draid_pool.proofs.Moved.{blocks_at, each_set, with_metaslab}
 
 -- a metaslab has committed this group, and has what all have in common
@@ -53,7 +56,9 @@ module _ {R A : Type 0} (rack : racks.Ghosts R) (area : areas.Ghosts A) where
     pub pieces : ℕ → Pieces
     pub each : (m : ℕ) (shard : Shard R A) (y : Metaslab) → slice_get shards m ≡ Some shard → slice_get x.metaslabs m ≡ Some y → IsMetaslab rack area (part_in x m) (pieces m) shard y
     pub holds : HoldsObjects x.geometry x.committed x.store (blocks_of x.metaslabs) pieces
-    pub only : (m : ℕ) (k : Key) (h : Held) → blocks_of x.metaslabs m k ≡ Some h → h.stage ≡ Live → IsLastAt m k (write_of x.store.changes k.object)
+    pub only : (m : ℕ) (k : Key) (h : Held) → blocks_of x.metaslabs m k ≡ Some h → h.stage ≡ Live → is_dropped (check_by x.store.marks) k ≡ false → IsLastAt m k (write_of x.store.changes k.object)
+    pub checks : (m : ℕ) (y : Metaslab) → slice_get x.metaslabs m ≡ Some y → IsBehindChecks x.committed x.store.marks y.world.open_group
+    pub marked : AreMarkedUpto (max x.store.floor (x.committed + 1)) x.store.marks
     pub objects : (object : ℕ) → PointsTo shards (table object) (write_of x.store.changes object)
     pub images : HasImages x
     pub leaves : HasLeafNumbers x
@@ -81,6 +86,8 @@ module _ {R A : Type 0} (rack : racks.Ghosts R) (area : areas.Ghosts A) where
     each = s.each;
     holds = s.holds;
     only = r.only;
+    checks = s.groups.checks;
+    marked = s.groups.marked;
     objects = s.objects;
     images = s.images;
     leaves = s.leaves;
@@ -97,7 +104,7 @@ module _ {R A : Type 0} (rack : racks.Ghosts R) (area : areas.Ghosts A) where
       pieces = s.pieces;
       each = s.each;
       holds = s.holds;
-      groups = record { committed = λ m y at. (s.said m y at).0; next = rest.next; last = rest.last };
+      groups = record { committed = λ m y at. (s.said m y at).0; next = rest.next; last = rest.last; checks = s.checks; marked = s.marked };
       objects = s.objects;
       seq = rest.seq;
       floor = rest.floor;
@@ -121,6 +128,7 @@ module _ {R A : Type 0} (rack : racks.Ghosts R) (area : areas.Ghosts A) where
     pub held : (key : Key) → (y'.world.core.held key ≡ y.world.core.held key) ⊎ ((is_freed_block x.committed (y.world.core.held key) ≡ true) × (y'.world.core.held key ≡ None))
     pub images : (group : ℕ) → MayFind x group → 0 < group → HasImage group y → HasImage group y'
     pub leaves : LeavesAreBelow x.kept_leaf x.next_leaf y.world → LeavesAreBelow x.kept_leaf x.next_leaf y'.world
+    pub opens : y.world.open_group ≤ y'.world.open_group
 
   live_stays : (group : ℕ) (h : Held) (o n : Option Held) → o ≡ Some h → h.stage ≡ Live → (n ≡ o) ⊎ ((is_freed_block group o ≡ true) × (n ≡ None)) → n ≡ Some h
   live_stays group h o n there live (inl same) = same ∙ there
@@ -151,11 +159,11 @@ module _ {R A : Type 0} (rack : racks.Ghosts R) (area : areas.Ghosts A) where
 
     holds : HoldsObjects x.geometry x.committed x.store (blocks_of after) s.pieces
     holds = record {
-      stores = commit_kept sha256 x.committed x.store.changes [] (blocks_of x.metaslabs) (blocks_of after) s.holds.stores x.committed (omega arith) drops;
+      stores = commit_kept sha256 x.committed x.store.changes x.store.marks (blocks_of x.metaslabs) (blocks_of after) s.holds.stores x.committed (omega arith) drops;
       floors = λ object. commit_floor x.store.changes (blocks_of x.metaslabs) (blocks_of after) x.committed object x.store.floor (s.holds.floors object) drops;
-      unmarked = s.holds.unmarked;
       settled = λ k key h there. s.holds.settled k key h (was k key h there);
       numbered = λ k key h there. s.holds.numbered k key h (was k key h there);
+      positive = s.holds.positive;
       bytes = λ k key h write there by. s.holds.bytes k key h write (was k key h there) by;
     }
 
@@ -217,7 +225,9 @@ module _ {R A : Type 0} (rack : racks.Ghosts R) (area : areas.Ghosts A) where
       pieces = s.pieces;
       each = each;
       holds = holds;
-      only = λ k key h there live. s.only k key h (was k key h there) live;
+      only = λ k key h there live counts. s.only k key h (was k key h there) live counts;
+      checks = each_set x.metaslabs m y y' (λ z. IsBehindChecks x.committed x.store.marks z.world.open_group) v.at (behind_later x.committed x.committed y.world.open_group y'.world.open_group x.store.marks (omega arith) v.opens (s.checks m y v.at)) s.checks;
+      marked = s.marked;
       objects = λ object. points (table object) (write_of x.store.changes object) (s.objects object);
       images = λ group k u may some. each_set x.metaslabs m y y' (HasImage group) v.at (v.images group may some (s.images group m y may some v.at)) (λ n z. s.images group n z may some) k u;
       leaves = record {

@@ -43,7 +43,7 @@ module _ {R A : Type 0} (rack : racks.Ghosts R) (area : areas.Ghosts A) where
     at_same m shard there = sym (ap (λ zs. slice_get zs m) same) ∙ there
 
     pub still_whole : IsWhole rack area pool → IsWhole rack area (with_owned pool o)
-    still_whole w = whole_table rack area pool (with_owned pool o) w same refl refl refl refl w.objects
+    still_whole w = whole_table rack area pool (with_owned pool o) w same refl refl refl refl w.objects w.point
 
     pub still_stands : (x : State) → Represents rack area pool x → Represents rack area (with_owned pool o) x
     still_stands x r =

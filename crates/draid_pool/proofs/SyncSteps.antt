@@ -96,7 +96,7 @@ module _ {R A : Type 0} (rack : racks.Ghosts R) (area : areas.Ghosts A) where
   pub whole_on : (m : ℕ) (pool new : Pool R A) (shard shard' : Shard R A) → IsWhole rack area pool → SetsShard rack area m pool new shard shard' → Valid rack shard' → KeepsTable shard shard' → IsWhole rack area new
   whole_on m pool new shard shard' w set valid table =
       whole_same rack area m pool new shard shard' w
-      (record { there = set.there; sets = set.sets; geometry = set.geometry; uber = set.uber; valid = valid; part = table.part; committed = table.committed; slots = table.slots }) table.entries set.seq set.floor
+      (record { there = set.there; sets = set.sets; geometry = set.geometry; uber = set.uber; valid = valid; part = table.part; committed = table.committed; opens = table.opens; slots = table.slots }) table.entries set.seq set.floor
       (λ q. ap (λ os. get nat_eq os q) set.objects)
 
   -- ---- one metaslab
@@ -138,6 +138,7 @@ module _ {R A : Type 0} (rack : racks.Ghosts R) (area : areas.Ghosts A) where
         held = λ key. inl (ap (λ held. held key) t.done.1.held);
         images = λ group may some has. record { image = has.image; is = t.done.1.images has.image has.is; of = has.of };
         leaves = t.done.1.leaves x.kept_leaf x.next_leaf;
+        opens = t.done.1.opens;
       }
 
       stood : Stood rack area new.metaslabs.shards.items (λ object. get nat_eq new.own.objects object) after (IsOneOf x.committed r.stands.shared)

@@ -1,5 +1,5 @@
 -- One metaslab as a group is closed, sealed and committed there.
-use Rattle.std.proofs.Common.{◌≡◌, ◌==◌, ◌%◌, ◌<◌, ◌+◌, ◌∙◌, [], ◌∷◌, inl, inr, ℕ, suc, Bool, true, false, List, Option, Some, None, Ok, Err, IsSome, Contains, Vec, Global, arith, refl, sym, ap, subst, length, if◌then◌else◌}
+use Rattle.std.proofs.Common.{◌≤◌, ◌≡◌, ◌==◌, ◌%◌, ◌<◌, ◌+◌, ◌∙◌, [], ◌∷◌, inl, inr, ℕ, suc, Bool, true, false, List, Option, Some, None, Ok, Err, IsSome, Contains, Vec, Global, arith, refl, sym, ap, subst, length, if◌then◌else◌}
 use Rattle.std.specs.Prelude.{is_some}
 use Rattle.draid_pool.proofs.Refusing.{not_both}
 use Rattle.draid_names.specs.Faults.{Rose}
@@ -90,7 +90,7 @@ seal_fault seal.NoMemory = sync.NoMemory
 -- ---- states
 
 kept_here : (w : machine.State) → KeepsCommitted w w
-kept_here w = record { held = refl; committed = refl; images = λ image is. is; leaves = λ kept_leaf next_leaf below. below; alike = λ shared is. is }
+kept_here w = record { held = refl; committed = refl; images = λ image is. is; leaves = λ kept_leaf next_leaf below. below; alike = λ shared is. is; opens = omega arith }
 
 close_keeps : (l : machine.Layout) (w v : machine.State) (group : ℕ) → Step l w (event.Close group) v → KeepsCommitted w v
 close_keeps l w v group step = subst (KeepsCommitted w) (sym step.made) (record {
@@ -99,6 +99,7 @@ close_keeps l w v group step = subst (KeepsCommitted w) (sym step.made) (record 
   images = λ image is. is;
   leaves = λ kept_leaf next_leaf below. record { kept = below.kept; sealed = below.sealed; now = below.now };
   alike = λ shared is. alike_kept shared w _ refl (own_arms w.core) refl refl is;
+  opens = (let from = step.open_group in omega (arith, from));
 })
 
 from_mapped : (f : machine.Arm → machine.Arm) (o : Option machine.Arm) → IsSome (map_arm f o) → IsSome o
@@ -108,6 +109,9 @@ from_mapped f (Some a) some = refl
 from_sealed : (o : Option machine.Arm) → IsSome (seal_arm o) → IsSome o
 from_sealed None some = some
 from_sealed (Some a) some = refl
+
+same_low : (n : ℕ) → n ≤ n
+same_low n = omega arith
 
 seal_keeps : (l : machine.Layout) (w v : machine.State) (group : ℕ) (failed : Vec ℕ Global) → Step l w (event.Seal group failed) v → KeepsCommitted w v
 seal_keeps l w v group failed step = subst (KeepsCommitted w) (sym step.made) (record {
@@ -121,6 +125,7 @@ seal_keeps l w v group failed step = subst (KeepsCommitted w) (sym step.made) (r
         below.now leaf (from_mapped _ (w.core.arm (Leaf leaf)) (from_sealed _ (subst (λ (i : machine.Image). IsSome (i.core.arm (Leaf leaf))) (sym (some_injective _ image is)) some)));
     now = λ leaf some. below.now leaf (from_mapped _ (w.core.arm (Leaf leaf)) some);
   };
+  opens = same_low w.open_group;
 })
 
 -- what a commit does to a state

@@ -7,7 +7,7 @@ use Rattle.draid_machine.proofs.Small.{none_some}
 use Rattle.draid_objects.specs.Marks.{Mark, check_by, mark_group}
 use Rattle.draid_objects.specs.Stores.{AreMarkedUpto, IsBehindChecks, IsSpare}
 use Rattle.draid_session.specs.Opening.{IsPointed}
-use Rattle.draid_session.specs.Points.{HasLateMark}
+use Rattle.draid_session.specs.Points.{HasLateMark, KeepsBirth}
 
 pub all_spare : (group birth : ℕ) → IsSpare group [] birth
 all_spare group birth t check less is = absurd (none_some None check refl is)
@@ -24,6 +24,9 @@ no_check marks held none (check, there, low) = none_some (check_by marks) check 
 
 pub not_pointed : (marks : List Mark) (held : Held) → marks ≡ [] → IsPointed marks held → ⊥
 not_pointed marks held none = no_check marks held (ap check_by none)
+
+pub not_kept : (marks : List Mark) (birth : ℕ) → marks ≡ [] → KeepsBirth marks birth → ⊥
+not_kept marks birth none (check, there, low) = none_some (check_by marks) check (ap check_by none) there
 
 -- nothing befell it later
 pub not_late : (committed : ℕ) (marks : List Mark) → marks ≡ [] → HasLateMark committed marks → ⊥

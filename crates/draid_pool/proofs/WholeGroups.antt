@@ -1,5 +1,5 @@
 -- A whole pool stays whole as its uberblock names a group, or is refused it.
-use Rattle.std.proofs.Common.{◌≡◌, ◌+◌, ◌∙◌, ℕ, List, Some, None, arith, sym, ap, subst, length, if◌then◌else◌}
+use Rattle.std.proofs.Common.{◌≡◌, ◌+◌, ◌<◌, ◌∙◌, ℕ, List, Some, None, arith, sym, ap, subst, length, if◌then◌else◌}
 use Rattle.std.specs.Prelude.{nat_eq, slice_get}
 use Rattle.std.specs.HashMap.{get}
 use Rattle.std.proofs.lemmas.Option.{slice_get_within}
@@ -24,12 +24,14 @@ use Rattle.draid_uber.specs.Slots.{group_of}
 use Rattle.draid_uber.specs.Uber as ubers
 use Rattle.draid_uber.specs.Uber.{kept_of}
 use Rattle.draid_pool.specs.Syncing.{AreIdle, Commits, CommitsBelow}
-use Rattle.draid_pool.specs.Whole.{IsPointer, IsShardOf, IsWhole}
+use Rattle.draid_pool.specs.Whole.{IsPointer, IsShardOf, IsWhole, PointFits}
 use Rattle.draid_pool.specs.declared.pool.Pool.{Pool}
 use Rattle.draid_pool.proofs.Arms.{leaf_left, share_left}
 use Rattle.draid_pool.proofs.Lists.{present, some_of}
 use Rattle.draid_pool.specs.Ubers.{Names, Refuses}
 use Rattle.draid_pool.proofs.Versions.{layout_again}
+use Rattle.draid_pool.proofs.Wholes.{fits_on}
+use Rattle.draid_checkpoint.specs.Check.{Point}
 
 module _ {R A : Type 0} (rack : racks.Ghosts R) (area : areas.Ghosts A) where
   -- a pool has a metaslab
@@ -64,6 +66,13 @@ module _ {R A : Type 0} (rack : racks.Ghosts R) (area : areas.Ghosts A) where
       let after = commits.below m was.0 (omega (arith, inside, many)) was.1 in
       subst (λ (q : Shard R A). q.closing ≡ None) (some_of (slice_get new m) after.0 z after.1 there) after.2.commits.closing
 
+  -- ---- the checkpoint
+
+  point_on : (pool new : Pool R A) → IsWhole rack area pool → ubers.point_of new.uber ≡ ubers.point_of pool.uber → new.own.objects ≡ pool.own.objects → new.own.seq ≡ pool.own.seq
+      → PointFits 0 (ubers.point_of new.uber) (get nat_eq new.own.objects) new.own.seq
+  point_on pool new w point objects seq = subst (λ p. PointFits 0 p (get nat_eq new.own.objects) new.own.seq) (sym point)
+      (fits_on 0 (ubers.point_of pool.uber) (get nat_eq pool.own.objects) (get nat_eq new.own.objects) pool.own.seq new.own.seq (omega (arith, seq)) (λ o p at. sym (ap (λ os. get nat_eq os o) objects) ∙ at) w.point)
+
   -- ---- the uberblock refuses
 
   pub whole_refused : (pool new : Pool R A) (group : ℕ) → IsWhole rack area pool → Refuses area pool.uber new.uber group → new.metaslabs.shards.items ≡ pool.metaslabs.shards.items → new.geometry ≡ pool.geometry
@@ -87,6 +96,8 @@ module _ {R A : Type 0} (rack : racks.Ghosts R) (area : areas.Ghosts A) where
         record { object_is = of.object_is; shard = of.shard; there = ap (λ zs. slice_get zs q.metaslab) shards ∙ of.there; live = of.live });
     floor = (let fits = w.floor in let same = ap group_of n.kept in omega (arith, fits, same, floor));
     low = (let low = w.low in omega (arith, low, floor));
+    point = point_on pool new w n.point objects seq;
+    behind = λ own k z is there. w.behind own k z (ap (λ (p : Point). p.group) (sym n.point) ∙ is) (sym (ap (λ zs. slice_get zs k) shards) ∙ there);
   }
 
   -- ---- it names the group, and each metaslab commits it
@@ -110,8 +121,20 @@ module _ {R A : Type 0} (rack : racks.Ghosts R) (area : areas.Ghosts A) where
     objects = λ o q at. pointer o q (w.objects o q (sym (ap (λ os. get nat_eq os o) objects) ∙ at));
     floor = (let fits = w.floor in omega (arith, fits, named, next, floor));
     low = (let low = w.low in omega (arith, low, floor));
+    point = point_on pool new w n.point objects seq;
+    behind = behind;
   }
     where
+      behind : (own k : ℕ) (z : Shard R A) → (ubers.point_of new.uber).group ≡ Some own → slice_get new.metaslabs.shards.items k ≡ Some z → own < z.open_group
+      behind own k z is there =
+          let inside = slice_get_within new.metaslabs.shards.items k z there in
+          let many = commits.many in
+          let was = present pool.metaslabs.shards.items k (omega (arith, inside, many)) in
+          let after = commits.below k was.0 (omega (arith, inside, many)) was.1 in
+          let same = after.2.commits.open_group_is in
+          let low = w.behind own k was.0 (ap (λ (p : Point). p.group) (sym n.point) ∙ is) was.1 in
+          subst (λ (q : Shard R A). own < q.open_group) (some_of (slice_get new.metaslabs.shards.items k) after.0 z after.1 there) (omega (arith, same, low))
+
       named : group_of (kept_of new.uber) ≡ group
       named = ap group_of n.kept
 

@@ -1,9 +1,11 @@
 -- What a whole pool has, and that it stays whole as one of its shards is another one of the same metaslab.
-use Rattle.std.proofs.Common.{◌≡◌, ◌==◌, ◌<◌, ◌≤◌, ◌+◌, ◌∙◌, inl, inr, cond, ℕ, Bool, true, false, Option, Some, None, arith, refl, sym, ap, subst, slice_index_or, slice_set, length, if◌then◌else◌, nat_eq}
+use Rattle.std.proofs.Common.{◌≡◌, ◌==◌, ◌<◌, ◌≤◌, ◌+◌, ◌∙◌, inl, inr, cond, ℕ, Bool, true, false, [], Option, Some, None, arith, refl, sym, ap, subst, slice_index_or, slice_set, length, if◌then◌else◌, nat_eq}
 use Rattle.std.specs.Prelude.{nat_eq, slice_get, All, cond}
 use Rattle.std.specs.HashMap.{get}
 use Rattle.std.proofs.lemmas.Bool.{cases_eq}
 use Rattle.std.proofs.lemmas.List.{length-set}
+use Rattle.std.proofs.lemmas.List.Elements.{All-nil, All-weaker}
+use Rattle.draid_checkpoint.specs.Check.{Point, holds_birth}
 use Rattle.std.proofs.lemmas.Option.{slice_get-get_or}
 use Rattle.draid_names.specs.declared.numbers.TheConstants.{LAST_NUMBER}
 use Rattle.draid_names.specs.declared.pointer.Pointer.{Pointer}
@@ -31,7 +33,7 @@ use Rattle.draid_shard.proofs.Changed.{same_arms}
 use Rattle.draid_uber.specs.Slots.{group_of}
 use Rattle.draid_uber.specs.Uber as ubers
 use Rattle.draid_uber.specs.Uber.{kept_of}
-use Rattle.draid_pool.specs.Whole.{IsPointer, IsShardOf, IsWhole}
+use Rattle.draid_pool.specs.Whole.{IsPointer, IsShardOf, IsWhole, PointFits}
 use Rattle.draid_pool.specs.declared.pool.Pool.{Pool}
 use Rattle.draid_pool.proofs.Arms.{Kept, all_kept, leaf_kept}
 use Rattle.draid_pool.proofs.Lists.{get_set_other, get_set_same, some_of}
@@ -57,6 +59,35 @@ open_low o (Some t) c sealed groups = (let is = groups.0 in let closing = groups
 
 pub same_pointers : {R A : Type 0} (old new : Pool R A) → new.own.objects ≡ old.own.objects → SamePointers old new
 same_pointers old new same = λ o. ap (λ table. get nat_eq table o) same
+
+-- ---- the checkpoint
+
+-- it fits a table with some of the same pointers, and later writes
+pub fits_on : (more : ℕ) (point : Point) (old new : ℕ → Option Pointer) (seq later : ℕ) → seq ≤ later → ((o : ℕ) (p : Pointer) → new o ≡ Some p → old o ≡ Some p) → PointFits more point old seq → PointFits more point new later
+fits_on more point old new seq later up among fits = record {
+  names = fits.names;
+  each = λ o p at kept. fits.each o p (among o p at) kept;
+  room = fits.room;
+  few = fits.few;
+  apart = All-weaker (λ d. (p : Pointer) → old d.object ≡ Some p → d.seq ≡ p.seq → ⊥) (λ d. (p : Pointer) → new d.object ≡ Some p → d.seq ≡ p.seq → ⊥) (λ d apart p at. apart p (among d.object p at)) point.drops fits.apart;
+  begun = All-weaker (λ d. d.seq ≤ seq) (λ d. d.seq ≤ later) (λ d low. omega (arith, low, up)) point.drops fits.begun;
+  none = fits.none;
+}
+
+-- where there is none, it fits any
+pub fits_none : (point : Point) (table : ℕ → Option Pointer) (seq : ℕ) → point.group ≡ None → point.drops ≡ [] → PointFits 0 point table seq
+fits_none point table seq none empty = record {
+  names = [];
+  each = λ o p at kept. absurd (not_held point.group p.birth none kept);
+  room = omega arith;
+  few = (let zero = ap (λ ds. length ds) empty in omega (arith, zero));
+  apart = subst (All (λ d. (p : Pointer) → table d.object ≡ Some p → d.seq ≡ p.seq → ⊥)) (sym empty) (All-nil (λ d. (p : Pointer) → table d.object ≡ Some p → d.seq ≡ p.seq → ⊥));
+  begun = subst (All (λ d. d.seq ≤ seq)) (sym empty) (All-nil (λ d. d.seq ≤ seq));
+  none = λ is. empty;
+}
+  where
+    not_held : (group : Option ℕ) (birth : ℕ) → group ≡ None → holds_birth group birth ≡ true → ⊥
+    not_held group birth is held = absurd (let now : holds_birth None birth ≡ true = subst (λ g. holds_birth g birth ≡ true) is held in cc)
 
 -- ---- blocks
 
@@ -112,6 +143,7 @@ module _ {R A : Type 0} (rack : racks.Ghosts R) (area : areas.Ghosts A) where
     pub valid : Valid rack shard'
     pub part : part_of shard' ≡ part_of shard
     pub committed : shard'.committed ≡ shard.committed
+    pub opens : shard.open_group ≤ shard'.open_group
     pub slots : KeepsArms shard.slots shard'.slots
 
   same_shard : (perms : Perms) (pool new : Pool R A) (k : ℕ) (z : Shard R A) → IsShardOf rack perms pool k z → new.geometry ≡ pool.geometry → new.uber ≡ pool.uber → pool.own.seq ≤ new.own.seq
@@ -126,8 +158,9 @@ module _ {R A : Type 0} (rack : racks.Ghosts R) (area : areas.Ghosts A) where
   }
 
   whole_replaced : (m : ℕ) (pool new : Pool R A) (shard shard' : Shard R A) → IsWhole rack area pool → Replaces m pool new shard shard' → pool.own.seq ≤ new.own.seq → Numbered new.own.seq shard'
-      → ((o : ℕ) (q : Pointer) → get nat_eq new.own.objects o ≡ Some q → IsPointer new o q) → new.own.floor ≤ group_of (kept_of pool.uber) + 2 → new.own.floor ≤ LAST_NUMBER → IsWhole rack area new
-  whole_replaced m pool new shard shard' w r up n objects floor low = record {
+      → ((o : ℕ) (q : Pointer) → get nat_eq new.own.objects o ≡ Some q → IsPointer new o q) → new.own.floor ≤ group_of (kept_of pool.uber) + 2 → new.own.floor ≤ LAST_NUMBER
+      → PointFits 0 (ubers.point_of pool.uber) (get nat_eq new.own.objects) new.own.seq → IsWhole rack area new
+  whole_replaced m pool new shard shard' w r up n objects floor low fits = record {
     perms = w.perms;
     layout = subst (λ g. IsLayout g w.perms) (sym r.geometry) w.layout;
     many = ap (λ zs. length zs) r.sets ∙ (length-set pool.metaslabs.shards.items m shard' ∙ (w.many ∙ ap (λ (g : Geometry). g.props.metaslabs) (sym r.geometry)));
@@ -138,8 +171,19 @@ module _ {R A : Type 0} (rack : racks.Ghosts R) (area : areas.Ghosts A) where
     objects = objects;
     floor = subst (λ u. new.own.floor ≤ group_of (kept_of u) + 2) (sym r.uber) floor;
     low = low;
+    point = subst (λ u. PointFits 0 (ubers.point_of u) (get nat_eq new.own.objects) new.own.seq) (sym r.uber) fits;
+    behind = λ own_group k z is there. later k z there own_group (ap (λ u. (ubers.point_of u).group) (sym r.uber) ∙ is);
   }
     where
+      later : (k : ℕ) (z : Shard R A) → slice_get new.metaslabs.shards.items k ≡ Some z → (group : ℕ) → (ubers.point_of pool.uber).group ≡ Some group → group < z.open_group
+      later k z there group is = elim (cases_eq k m) [
+        | inl same ↦
+            let here : shard' ≡ z = some_of (slice_get new.metaslabs.shards.items m) shard' z (ap (λ zs. slice_get zs m) r.sets ∙ get_set_same pool.metaslabs.shards.items m shard shard' r.there)
+            (subst (λ j. slice_get new.metaslabs.shards.items j ≡ Some z) same there) in
+            subst (λ (q : Shard R A). group < q.open_group) here (let low = w.behind group m shard is r.there in let up = r.opens in omega (arith, low, up))
+        | inr other ↦ w.behind group k z is (sym (get_set_other pool.metaslabs.shards.items m k shard' (λ same. omega (arith, same, other))) ∙ (sym (ap (λ zs. slice_get zs k) r.sets) ∙ there))
+      ]
+
       own : IsShardOf rack w.perms new m shard'
       own =
           let was = w.shards m shard r.there in
@@ -209,6 +253,7 @@ module _ {R A : Type 0} (rack : racks.Ghosts R) (area : areas.Ghosts A) where
       let low = w.low in
       whole_replaced m pool new shard shard' w r (omega (arith, seq)) (subst (λ n. Numbered n shard') (sym seq) (numbered_kept shard shard' pool.own.seq same (numbered_here pool m shard w r.there)))
       (λ o q at. pointer_replaced m pool new shard shard' o q r (λ live. same.at q.first ∙ live) (w.objects o q (sym (objects o) ∙ at))) (omega (arith, fits, floor)) (omega (arith, low, floor))
+      (fits_on 0 (ubers.point_of pool.uber) (get nat_eq pool.own.objects) (get nat_eq new.own.objects) pool.own.seq new.own.seq (omega (arith, seq)) (λ o p at. sym (objects o) ∙ at) w.point)
 
   -- and no group
   pub whole_kept : (m : ℕ) (pool new : Pool R A) (shard shard' : Shard R A) → IsWhole rack area pool → Replaces m pool new shard shard' → KeepsBlocks shard shard' → new.own.seq ≡ pool.own.seq
@@ -217,8 +262,8 @@ module _ {R A : Type 0} (rack : racks.Ghosts R) (area : areas.Ghosts A) where
 
   -- only the table changed
   pub whole_table : (pool new : Pool R A) → IsWhole rack area pool → new.metaslabs.shards.items ≡ pool.metaslabs.shards.items → new.geometry ≡ pool.geometry → new.uber ≡ pool.uber → new.own.seq ≡ pool.own.seq
-      → new.own.floor ≡ pool.own.floor → ((o : ℕ) (q : Pointer) → get nat_eq new.own.objects o ≡ Some q → IsPointer pool o q) → IsWhole rack area new
-  whole_table pool new w shards geometry uber seq floor objects = record {
+      → new.own.floor ≡ pool.own.floor → ((o : ℕ) (q : Pointer) → get nat_eq new.own.objects o ≡ Some q → IsPointer pool o q) → PointFits 0 (ubers.point_of pool.uber) (get nat_eq new.own.objects) new.own.seq → IsWhole rack area new
+  whole_table pool new w shards geometry uber seq floor objects fits_now = record {
     perms = w.perms;
     layout = subst (λ g. IsLayout g w.perms) (sym geometry) w.layout;
     many = ap (λ zs. length zs) shards ∙ (w.many ∙ ap (λ (g : Geometry). g.props.metaslabs) (sym geometry));
@@ -229,4 +274,6 @@ module _ {R A : Type 0} (rack : racks.Ghosts R) (area : areas.Ghosts A) where
     objects = λ o q at. (let of = objects o q at in record { object_is = of.object_is; shard = of.shard; there = ap (λ zs. slice_get zs q.metaslab) shards ∙ of.there; live = of.live });
     floor = subst (λ u. new.own.floor ≤ group_of (kept_of u) + 2) (sym uber) (let fits = w.floor in omega (arith, fits, floor));
     low = (let low = w.low in omega (arith, low, floor));
+    point = subst (λ u. PointFits 0 (ubers.point_of u) (get nat_eq new.own.objects) new.own.seq) (sym uber) fits_now;
+    behind = λ group k z is there. w.behind group k z (ap (λ u. (ubers.point_of u).group) (sym uber) ∙ is) (sym (ap (λ zs. slice_get zs k) shards) ∙ there);
   }

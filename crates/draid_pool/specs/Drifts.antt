@@ -93,12 +93,13 @@ pub record KeepsGroups {R A : Type 0} (old new : Shard R A) : Type 0 where
   pub reserve : reserved_of new.history ≡ reserved_of old.history
 
 -- What every hold keeps to: the metaslab is valid, what it has of objects that the hold doesn't concern is as it was, its groups, arms and reserved events are as they were unless
--- the hold concerns them, its pass is the one that it was unless the hold concerns that, no count of failed calls on the areas of its records fell, and whatever state it stood for, it
+-- the hold concerns them, its pass is the one that it was unless the hold concerns that, no group of it fell, no count of failed calls on the areas of its records fell, and whatever state it stood for, it
 -- stands for one behind it.
 pub record KeepsTo {R A : Type 0} (rack : racks.Ghosts R) (area : areas.Ghosts A) (old new : Shard R A) (concerned : Option ℕ) : Type 0 where
   pub valid : Valid rack new
   pub part : part_of new ≡ part_of old
   pub later : old.committed ≤ new.committed
+  pub opens : old.open_group ≤ new.open_group
   pub groups : is_other concerned groups_number ≡ true → KeepsGroups old new
   pub passes : is_other concerned passes_number ≡ true → KeepsPass old.pass new.pass
   pub others : KeepsOf (is_other concerned) new.committed old.entries new.entries
@@ -111,6 +112,7 @@ pub record Drifts {R A : Type 0} (rack : racks.Ghosts R) (area : areas.Ghosts A)
   pub valid : Valid rack now
   pub part : part_of now ≡ part_of old
   pub later : old.committed ≤ now.committed
+  pub opens : old.open_group ≤ now.open_group
   pub groups : owns groups_number ≡ true → KeepsGroups old now
   pub passes : owns passes_number ≡ true → KeepsPass old.pass now.pass
   pub own : KeepsOf owns now.committed old.entries now.entries

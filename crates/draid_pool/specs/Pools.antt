@@ -1,5 +1,5 @@
 -- For which states a pool stands.
-use Rattle.std.specs.Prelude.{◌≡◌, ℕ, Option, Some, nat_eq, length, slice_get, ◌↔◌, List, Contains, IsSome}
+use Rattle.std.specs.Prelude.{◌≡◌, ℕ, Option, Some, nat_eq, length, slice_get, ◌↔◌, List, Contains, IsSome, false}
 use Rattle.std.specs.HashMap.{get}
 use Rattle.draid_rack.specs.declared.Rack as racks
 use Rattle.draid_area.specs.declared.Area as areas
@@ -22,6 +22,7 @@ use Rattle.draid_pool.specs.declared.pool.Pool.{Pool}
 use Rattle.std.specs.List.Sorted.{IsStrictlyIncreasing}
 use Rattle.draid_uber.specs.Slots.{group_of}
 use Rattle.draid_uber.specs.Uber.{kept_of}
+use Rattle.draid_objects.specs.Marks.{check_by, is_dropped}
 
 -- a metaslab of a state
 abbrev pub part_in : State → ℕ → Part
@@ -50,10 +51,10 @@ pub record Stands {R A : Type 0} (rack : racks.Ghosts R) (area : areas.Ghosts A)
   pub versions : HasPoolVersions x.kept_version x.next_version shared
   pub alike : AllAlike shared x
 
--- and each live block is that of its object's last write
+-- and each live block is that of its object's last write, but for those that the checkpoint alone keeps
 pub record Represents {R A : Type 0} (rack : racks.Ghosts R) (area : areas.Ghosts A) (pool : Pool R A) (x : State) : Type 0 where
   pub stands : Stands rack area pool (λ object. get nat_eq pool.own.objects object) x
-  pub only : (m : ℕ) (k : Key) (h : Held) → blocks_of x.metaslabs m k ≡ Some h → h.stage ≡ Live → IsLastAt m k (write_of x.store.changes k.object)
+  pub only : (m : ℕ) (k : Key) (h : Held) → blocks_of x.metaslabs m k ≡ Some h → h.stage ≡ Live → is_dropped (check_by x.store.marks) k ≡ false → IsLastAt m k (write_of x.store.changes k.object)
 
 -- the group that a pool's uberblock names
 abbrev pub group_in : {R A : Type 0} → Pool R A → ℕ

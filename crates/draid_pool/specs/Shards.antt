@@ -37,6 +37,7 @@ pub record KeepsImages (old new : machine.State) : Type 0 where
   pub leaves : (leaf : ℕ) → IsSome (new.core.arm (Leaf leaf)) → IsSome (old.core.arm (Leaf leaf))
   pub asked : new.asked ≡ old.asked
   pub arms : SameArms new.core old.core
+  pub opens : old.open_group ≤ new.open_group
 
 -- Holds of a metaslab led to one for which the shard stands, with these pieces.
 pub record Goes {R A : Type 0} (rack : racks.Ghosts R) (area : areas.Ghosts A) (part : Part) (pieces : Pieces) (x : Metaslab) (new : Shard R A) (does : List Hold → Metaslab → Type 0) : Type 0 where
@@ -75,8 +76,10 @@ pub record FreesIn (m : ℕ) (pointer : Pointer) (floor group : ℕ) (x : Metasl
   pub held : Held
   pub found : x.world.core.held (key_of pointer) ≡ Some held
   pub live : held.stage ≡ Live
+  pub birth : held.birth ≡ pointer.birth
   pub made : y.world.core.held ≡ set_held x.world.core.held (key_of pointer) (Some (record held { stage = Freed group }))
   pub committed : y.world.committed ≡ x.world.committed
+  pub open_group_is : y.world.open_group ≡ x.world.open_group
 
 -- ---- damage
 

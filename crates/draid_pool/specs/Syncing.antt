@@ -83,12 +83,14 @@ pub record KeepsCommitted (old new : machine.State) : Type 0 where
   pub images : (image : machine.Image) → IsImage old image → IsImage new image
   pub leaves : (kept_leaf next_leaf : ℕ) → LeavesAreBelow kept_leaf next_leaf old → LeavesAreBelow kept_leaf next_leaf new
   pub alike : (shared : Shared) → IsAlike shared old → IsAlike shared new
+  pub opens : old.open_group ≤ new.open_group
 
 -- all blocks, tickets, arms and the committed group are as they were, whatever the state
 pub record KeepsTable {R A : Type 0} (old new : Shard R A) : Type 0 where
   pub part : part_of new ≡ part_of old
   pub entries : SameEntries old.entries new.entries
   pub committed : new.committed ≡ old.committed
+  pub opens : old.open_group ≤ new.open_group
   pub slots : KeepsArms old.slots new.slots
 
 -- its pass, its arms and the version that it asks for are as they were, and the count of its rack as a whole didn't fall

@@ -1,5 +1,5 @@
 -- What one thread knows of its own objects, and what its commands do to that.
-use Rattle.std.specs.Prelude.{◌≡◌, ◌==◌, ◌&&◌, ◌+◌, ◌≤◌, ⊤, ℕ, Bool, true, false, List, filter, Option, Some, None, length, slice_get, if◌then◌else◌}
+use Rattle.std.specs.Prelude.{◌≡◌, ◌==◌, ◌&&◌, ◌+◌, ◌≤◌, ⊤, ℕ, Bool, true, false, List, filter, Option, Some, None, length, max, slice_get, if◌then◌else◌}
 use Rattle.sha2.specs.Sha256.{sha256}
 use Rattle.draid_names.specs.declared.numbers.TheConstants.{LAST_NUMBER}
 use Rattle.draid_names.specs.declared.pointer.Pointer.{Pointer}
@@ -26,6 +26,8 @@ use Rattle.draid_pool.specs.Pools.{part_in}
 use Rattle.draid_pool.specs.Follows.{FollowsBy}
 use Rattle.draid_pool.specs.Drifts.{KeepsBytes, KeepsGroups, Since, groups_number}
 use Rattle.draid_shard.specs.declared.shard.Shard.{Shard}
+use Rattle.draid_objects.specs.Marks.{Dropped, Mark, check_by, is_dropped}
+use Rattle.draid_objects.specs.Stores.{AreMarkedUpto, IsBehindChecks}
 
 -- ---- what the blocks are of a thread's own objects
 
@@ -43,8 +45,13 @@ module _ (owns : ℕ → Bool) where
   abbrev pub own_changes : List Change → List Change
   own_changes changes = filter (λ c. owns (object_of c)) changes
 
+  -- what befell the checkpoint by its own blocks, and by all
+  abbrev pub is_own_mark : Mark → Bool
+  is_own_mark (Dropped key group) = owns key.object
+  is_own_mark mark = true
+
   abbrev pub own_store : Store → Store
-  own_store store = record store { changes = own_changes store.changes }
+  own_store store = record store { changes = own_changes store.changes; marks = filter is_own_mark store.marks }
 
 -- no metaslab has committed a later group
 abbrev pub Bounds : State → ℕ → Type 0
@@ -52,10 +59,12 @@ Bounds x c = (m : ℕ) (y : Metaslab) → slice_get x.metaslabs m ≡ Some y →
 
 -- The blocks of a thread's own objects store what befell them, from each group on up to which all metaslabs have committed, where those of some places are seen alone:
 -- a write that is under way lies where none is seen. Each live one is that of its object's last write, where those of some places are seen: an earlier one that is
--- to be freed lies where none is.
+-- to be freed lies where none is. A checkpoint is of a group that is open in no metaslab any more, and no mark is of a group behind both the floor and one that is open.
 pub record HoldsBut (owns : ℕ → Bool) (mine lives : ℕ → Key → Bool) (x : State) (pieces : ℕ → Pieces) : Type 0 where
   pub holds : (c : ℕ) → Bounds x c → HoldsObjects x.geometry c (own_store owns x.store) (own_blocks mine (blocks_of x.metaslabs)) pieces
-  pub only : (m : ℕ) (k : Key) (h : Held) → own_blocks lives (blocks_of x.metaslabs) m k ≡ Some h → h.stage ≡ Live → IsLastAt m k (write_of (own_changes owns x.store.changes) k.object)
+  pub only : (m : ℕ) (k : Key) (h : Held) → own_blocks lives (blocks_of x.metaslabs) m k ≡ Some h → h.stage ≡ Live → is_dropped (check_by (own_store owns x.store).marks) k ≡ false → IsLastAt m k (write_of (own_changes owns x.store.changes) k.object)
+  pub checks : (c : ℕ) → Bounds x c → (m : ℕ) (y : Metaslab) → slice_get x.metaslabs m ≡ Some y → IsBehindChecks c (own_store owns x.store).marks y.world.open_group
+  pub marked : (m : ℕ) (y : Metaslab) → slice_get x.metaslabs m ≡ Some y → AreMarkedUpto (max x.store.floor y.world.open_group) (own_store owns x.store).marks
 
 -- all of them are
 abbrev pub HoldsOwn : (ℕ → Bool) → State → (ℕ → Pieces) → Type 0

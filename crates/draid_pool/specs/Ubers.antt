@@ -1,5 +1,5 @@
 -- What the uberblock of an open pool has, and what an import finds there and in the check records after a crash.
-use Rattle.std.specs.Prelude.{◌≡◌, ◌<◌, ◌==◌, ◌+◌, ℕ, true, List, [], ◌∷◌, Option, Some, None, All, if◌then◌else◌}
+use Rattle.std.specs.Prelude.{◌≡◌, ◌<◌, ◌==◌, ◌+◌, ℕ, true, List, [], ◌∷◌, Option, Some, None, All, if◌then◌else◌, ◌↔◌, ◌≤◌}
 use Rattle.draid_area.specs.declared.Area as areas
 use Rattle.draid_record.specs.Checks.{CheckTold}
 use Rattle.draid_record.specs.declared.uber.UberBody.{UberBody}
@@ -9,9 +9,10 @@ use Rattle.draid_spec.specs.declared.layout.Geometry.{Geometry}
 use Rattle.draid_uber.specs.declared.uber.Uber.{Uber}
 use Rattle.draid_uber.specs.Checks.{AreasStand, AreasTold, LeavesAny, told_by}
 use Rattle.draid_uber.specs.Points.{insert_drop, no_check}
-use Rattle.draid_uber.specs.Uber.{Valid, areas_of, count_of, kept_of, layout_in, layout_of, next_check, next_leaf_of, next_of, point_of, version_of}
+use Rattle.draid_uber.specs.Uber.{Valid, areas_of, count_of, kept_of, layout_in, layout_of, next_check, next_leaf_of, next_of, point_of, version_of, changed_of}
 use Rattle.draid_session.specs.Opening.{layout_at_version}
 use Rattle.draid_session.specs.State.{State}
+use Rattle.draid_session.specs.Points.{HasLateMark}
 
 -- what a commit of a group writes, for a pool of this layout, at this version and with this number of the next leaf
 abbrev pub body_of : Geometry → ℕ → ℕ → ℕ → UberBody
@@ -59,6 +60,7 @@ pub record IsUber {A : Type 0} (area : areas.Ghosts A) (uber : Uber A) (x : Stat
   pub kept : kept_of uber ≡ kept_in x
   pub next_leaf : next_leaf_of uber ≡ x.next_leaf
   pub point : (group : ℕ) → x.committed < group → next_check uber group ≡ check_told x.store.marks group
+  pub late : (group : ℕ) → x.committed ≤ group → HasLateMark group x.store.marks ↔ (group < changed_of uber)
   pub count : x.uber_count ≡ count_of area.faults uber
   pub stands : UberStands x (told_by area.told (areas_of uber))
 
@@ -73,6 +75,7 @@ pub record Names {A : Type 0} (area : areas.Ghosts A) (old new : Uber A) (group 
   pub version : version_of new ≡ version_of old
   pub next_leaf : next_leaf_of new ≡ next_leaf_of old
   pub point : point_of new ≡ point_of old
+  pub changed : changed_of new ≡ changed_of old
 
 -- and one that was refused
 pub record Refuses {A : Type 0} (area : areas.Ghosts A) (old new : Uber A) (group : ℕ) : Type 0 where
@@ -83,3 +86,4 @@ pub record Refuses {A : Type 0} (area : areas.Ghosts A) (old new : Uber A) (grou
   pub version : version_of new ≡ version_of old
   pub next_leaf : next_leaf_of new ≡ next_leaf_of old
   pub point : point_of new ≡ point_of old
+  pub changed : changed_of new ≡ changed_of old

@@ -37,5 +37,6 @@ pub use records::{record_of, write_to};
 pub use replies::reply_to_sync;
 pub use returning::{close, give_areas, give_back, into_kit, take_areas};
 pub use room::{LookOp, Seen, SeenRooms, look_for_room};
+pub use rounds::close_each;
 pub use sealing::seal;
 pub use vdev::vdev_name;

@@ -12,7 +12,7 @@ use draid_area::Area;
 use draid_rack::Rack;
 
 /// Closes a group in each of so many metaslabs, where it isn't closing already.
-pub(crate) fn close_each<R: Rack, A: Area, M: Metaslabs<R, A>>(
+pub fn close_each<R: Rack, A: Area, M: Metaslabs<R, A>>(
     metaslabs: &mut M,
     count: u32,
     group: u64,

@@ -28,7 +28,7 @@ pub returns-in-Ok : goal.returns-in-Ok
 returns-in-Ok g c =
     record {
       valid = c.in-Ok.ensures.valid;
-      table = record { part = c.in-Ok.ensures.sealed.does.part; entries = c.in-Ok.ensures.seals.entries; committed = c.in-Ok.ensures.seals.committed; slots = c.in-Ok.ensures.slots };
+      table = record { part = c.in-Ok.ensures.sealed.does.part; entries = c.in-Ok.ensures.seals.entries; committed = c.in-Ok.ensures.seals.committed; opens = (let same = c.in-Ok.ensures.seals.open_group_is in omega (arith, same)); slots = c.in-Ok.ensures.slots };
       stays = c.in-Ok.ensures.stays;
       sealed = (c.in-Ok.ensures.seals.closing ∙ c.requires.closing, c.in-Ok.ensures.seals.sealed);
       low = c.in-Ok.ensures.sealed.low;
@@ -43,7 +43,7 @@ pub returns-in-Err-Area : goal.returns-in-Err-Area
 returns-in-Err-Area g c =
     record {
       valid = c.in-Err-Area.ensures.valid;
-      table = record { part = c.in-Err-Area.ensures.refused.none.part; entries = c.in-Err-Area.ensures.keeps.entries; committed = c.in-Err-Area.ensures.keeps.groups.committed; slots = c.in-Err-Area.ensures.slots };
+      table = record { part = c.in-Err-Area.ensures.refused.none.part; entries = c.in-Err-Area.ensures.keeps.entries; committed = c.in-Err-Area.ensures.keeps.groups.committed; opens = (let same = c.in-Err-Area.ensures.keeps.groups.open_group_is in omega (arith, same)); slots = c.in-Err-Area.ensures.slots };
       stays = c.in-Err-Area.ensures.stays;
       sealed = tt;
       low = tt;
@@ -62,7 +62,7 @@ pub returns-in-Err-NoMemory : goal.returns-in-Err-NoMemory
 returns-in-Err-NoMemory g c =
     record {
       valid = c.in-Err-NoMemory.ensures.valid;
-      table = record { part = c.in-Err-NoMemory.ensures.refused.none.part; entries = c.in-Err-NoMemory.ensures.keeps.entries; committed = c.in-Err-NoMemory.ensures.keeps.groups.committed; slots = c.in-Err-NoMemory.ensures.slots };
+      table = record { part = c.in-Err-NoMemory.ensures.refused.none.part; entries = c.in-Err-NoMemory.ensures.keeps.entries; committed = c.in-Err-NoMemory.ensures.keeps.groups.committed; opens = (let same = c.in-Err-NoMemory.ensures.keeps.groups.open_group_is in omega (arith, same)); slots = c.in-Err-NoMemory.ensures.slots };
       stays = c.in-Err-NoMemory.ensures.stays;
       sealed = tt;
       low = tt;
@@ -81,7 +81,7 @@ pub returns-then-sealed : goal.returns-then-sealed
 returns-then-sealed g c =
     record {
       valid = c.requires.valid;
-      table = record { part = refl; entries = record { at = λ first. refl; held = λ key. refl; count = refl; owed = λ columns. refl }; committed = refl; slots = same_arms c.args.shard.now.slots };
+      table = record { part = refl; entries = record { at = λ first. refl; held = λ key. refl; count = refl; owed = λ columns. refl }; committed = refl; opens = omega arith; slots = same_arms c.args.shard.now.slots };
       stays = stays_still g.R.Rack.faults c.args.shard.now;
       sealed = (c.requires.closing, sym c.sealed.ensures ∙ c.if-sealed.true);
       low = omega arith;
