@@ -11,6 +11,7 @@ use Rattle.draid_shard.specs.Part.{layout_in}
 use Rattle.draid_session.specs.Holds.{Looked, On, view_of}
 use Rattle.draid_session.specs.Looks.{OnlyLooks}
 use Rattle.draid_session.specs.State.{Metaslab, State}
+use Rattle.draid_session.specs.Points.{KeepsBirth}
 use Rattle.draid_pool.specs.Metaslabs.{IsMetaslab}
 use Rattle.draid_pool.specs.Pools.{part_in}
 use Rattle.draid_pool.proofs.Lastly.{write_object}
@@ -23,7 +24,7 @@ use Rattle.draid_store.specs.Open.{KnowsEarlier}
 use Rattle.draid_shard.specs.declared.shard.Shard.{Shard}
 use Rattle.draid_store.proofs.Older.{earlier_step}
 use Rattle.draid_pool.proofs.Contents.{all_long}
-use Rattle.draid_pool.proofs.Finds.{Found, found_drops, found_later, looks, points_at_on}
+use Rattle.draid_pool.proofs.Finds.{Found, found_drops, found_later, found_opens, looks, points_at_on}
 use Rattle.draid_pool.proofs.Hiding.{but_inside}
 use Rattle.draid_pool.proofs.BytesKept.{still_bytes}
 use Rattle.draid_pool.proofs.HoldStep.{each_on, f, follows, here, live_key, pointer_at_on}
@@ -67,7 +68,8 @@ module _ {R A S : Type 0} (rack : racks.Ghosts R) (area : areas.Ghosts A) (went 
         but_it = record {
           each = each_on rack area went shared owns a b last new p.metaslab shard before after there drifts still.valid is goes (all_of owns) lives table seq floor known.pieces x known.but_it z.z z.now it;
           holds = but_drifts x p.metaslab y.0 z.z y.1 owns (all_of owns) lives known.pieces z.now
-              (found_later rack area shared owns shard before drifts (part_in x p.metaslab) (known.pieces p.metaslab) z.now y.0 z.z y.2 z.is) stays
+              (found_later rack area shared owns shard before drifts (part_in x p.metaslab) (known.pieces p.metaslab) z.now y.0 z.z y.2 z.is)
+              (found_opens rack area shared owns shard before drifts (part_in x p.metaslab) (known.pieces p.metaslab) z.now y.0 z.z y.2 z.is) stays
               (λ k seen. stays k (but_inside (all_of owns) p.metaslab (key_of p) p.metaslab k seen)) (all_long rack area (part_in x p.metaslab) (known.pieces p.metaslab) shard y.0 y.2) z.same known.but_it.holds;
           objects = λ q own_q. points_at_on last new (table q) (write_of x.store.changes q) (λ t w t_is w_is pt. on q t w own_q (pt.object_is ∙ write_object x.store.changes q w w_is) pt) (known.but_it.objects q own_q);
           seq = known.but_it.seq;
@@ -81,6 +83,6 @@ module _ {R A S : Type 0} (rack : racks.Ghosts R) (area : areas.Ghosts A) (went 
       };
     }
 
-  pub earlier_says : (out : Option ℕ) → FreesShard rack area before p floor out after → EarlierSays rack area went shared owns owns last new a b p table table seq floor x we out
-  earlier_says None s = await_step (early_still rack area before after s.valid s.did.same)
-  earlier_says (Some group) s = earlier_step rack area went shared owns a b last new p shard before after there drifts s.valid s.part is goes table seq floor x we known group s.did
+  pub earlier_says : (KeepsBirth x.store.marks we.birth → ⊥) → (out : Option ℕ) → FreesShard rack area before p floor out after → EarlierSays rack area went shared owns owns last new a b p table table seq floor x we out
+  earlier_says loose None s = await_step (early_still rack area before after s.valid s.did.same)
+  earlier_says loose (Some group) s = earlier_step rack area went shared owns a b last new p shard before after there drifts s.valid s.part is goes table seq floor x we known group s.did loose

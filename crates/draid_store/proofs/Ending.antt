@@ -2,7 +2,7 @@
 use Rattle.std.proofs.Common.{◌≡◌, ◌==◌, ◌≤◌, ◌<◌, ◌+◌, ◌∙◌, ◌⊎◌, inl, inr, arith, ℕ, Bool, true, false, [], ◌∷◌, Option, Some, None, Ok, Err, refl, sym, ap, ap₂, subst, cond, if◌then◌else◌, ne_eqb}
 use mathlib.Core.Logic.{dite}
 use native.Mathlib.Decide.{ℕ_discrete}
-use Rattle.std.specs.Prelude.{nat_eq, option_map}
+use Rattle.std.specs.Prelude.{max, nat_eq, option_map, slice_get}
 use Rattle.std.proofs.lemmas.Bool.{true≢false}
 use Rattle.sha2.specs.Sha256.{sha256}
 use Rattle.draid_names.specs.declared.pointer.Pointer.{Pointer}
@@ -21,7 +21,9 @@ use Rattle.draid_segments.specs.Segments.{Pieces}
 use Rattle.draid_objects.specs.Blocks.{Blocks, Sets}
 use Rattle.draid_objects.specs.Changes as changes
 use Rattle.draid_objects.specs.Changes.{Change, Write, Wrote, write_of}
-use Rattle.draid_objects.specs.Stores.{IsBlockOf}
+use Rattle.draid_objects.specs.Stores.{IsBehindChecks, IsBlockOf}
+use Rattle.draid_objects.specs.Marks.{check_by, is_dropped}
+use Rattle.draid_pool.proofs.Marked.{marked_later, max_up}
 use Rattle.draid_objects.proofs.Finding.{changes_it, other_changes}
 use Rattle.draid_entries.specs.declared.entry.Entry.{Entry}
 use Rattle.draid_entries.specs.Entries.{entry_at, held_in}
@@ -36,10 +38,11 @@ use Rattle.draid_shard.specs.declared.shard.Shard.{Shard}
 use Rattle.draid_shard.proofs.Held.{key_leads}
 use Rattle.draid_session.specs.Holds.{Did, On, view_of}
 use Rattle.draid_session.specs.Rooms.{stripes_for}
-use Rattle.draid_session.specs.State.{State, Store}
+use Rattle.draid_session.specs.State.{Metaslab, State, Store}
 use Rattle.draid_pool.specs.Bytes.{HasBytes, KnowsBlock}
 use Rattle.draid_pool.proofs.Bytes.{same_bytes}
 use Rattle.draid_pool.specs.Objects.{HasPieces, HoldsObjects, IsLastAt, blocks_of}
+use Rattle.draid_pool.specs.Metaslabs.{IsMetaslab}
 use Rattle.draid_pool.specs.Pools.{part_in}
 use Rattle.draid_pool.proofs.Dids.{Done, did_quiet}
 use Rattle.draid_pool.proofs.Lastly.{write_object}
@@ -49,10 +52,11 @@ use Rattle.draid_pool.proofs.Wholes.{put_elsewhere, put_here}
 use Rattle.draid_objects.proofs.Imaging.{last_live}
 use Rattle.draid_store.proofs.FreeKeeps.{same_key}
 use Rattle.draid_store.proofs.PutSteps.{set_own}
+use Rattle.draid_store.proofs.Opening.{behind_on}
 use Rattle.draid_store.proofs.Written.{missed_holds, written_holds, written_only}
 use Rattle.draid_pool.specs.Drifts.{Drifts, KeepsBytes}
 use Rattle.draid_pool.specs.Follows.{FollowsBy}
-use Rattle.draid_pool.specs.Threads.{Between, HoldsBut, HoldsOwn, IsPointerAt, Knows, KnowsBut, LeadsBy, PointsAt, all_of, but, own_blocks, own_changes, own_store}
+use Rattle.draid_pool.specs.Threads.{Bounds, Between, HoldsBut, HoldsOwn, IsPointerAt, Knows, KnowsBut, LeadsBy, PointsAt, all_of, but, own_blocks, own_changes, own_store}
 use Rattle.draid_store.specs.Open.{KnowsOpen, KnowsReplaced}
 use Rattle.draid_store.specs.Writing.{EndsIn, FinishesShard}
 use Rattle.draid_pool.proofs.ShardSteps.{at_here}
@@ -73,7 +77,7 @@ lives_of owns None = all_of owns
 lives_of owns (Some write) = but write.metaslab (changes.key_of write) (all_of owns)
 
 module _ (owns : ℕ → Bool) (x : State) (pieces : ℕ → Pieces) (m : ℕ) (w : Write) (own : owns w.object ≡ true) (seq_is : w.seq ≡ x.store.seq + 1) (metaslab_is : w.metaslab ≡ m) (later : x.store.floor ≤ w.birth)
-    (known : HoldsBut owns (but m (changes.key_of w) (all_of owns)) (but m (changes.key_of w) (all_of owns)) x pieces) where
+    (known : HoldsBut owns (but m (changes.key_of w) (all_of owns)) (but m (changes.key_of w) (all_of owns)) x pieces) (behind : (c : ℕ) → Bounds x c → IsBehindChecks c (own_store owns x.store).marks w.birth) where
   abbrev key : Key
   key = changes.key_of w
 
@@ -99,26 +103,28 @@ module _ (owns : ℕ → Bool) (x : State) (pieces : ℕ → Pieces) (m : ℕ) (
 
     pub came : (earlier : Option Write) → write_of x.store.changes w.object ≡ earlier → HoldsBut owns (all_of owns) (lives_of owns earlier) (record x { store = store_then }) pieces
     came earlier earlier_is = record {
-      holds = λ c b. subst (λ cs. HoldsObjects x.geometry c (record { changes = cs; marks = x.store.marks; seq = x.store.seq + 1; floor = w.birth }) all pieces) (sym changes_are)
-          (subst (λ ps. HoldsObjects x.geometry c (record { changes = Wrote w ∷ own_changes owns x.store.changes; marks = x.store.marks; seq = x.store.seq + 1; floor = w.birth }) all ps) (turn_back m pieces)
-          (written_holds x.geometry c (own_store owns x.store) old pieces (known.holds c b) m w.object (pieces m) (λ k other. refl) w refl seq_is metaslab_is later all h live of set_at has));
-      only = λ n k i there_i is_live. subst (λ cs. IsLastAt n k (write_of cs k.object)) (sym changes_are) (by earlier earlier_is n k i there_i is_live);
+      holds = λ c b. subst (λ cs. HoldsObjects x.geometry c (record { changes = cs; marks = (own_store owns x.store).marks; seq = x.store.seq + 1; floor = w.birth }) all pieces) (sym changes_are)
+          (subst (λ ps. HoldsObjects x.geometry c (record { changes = Wrote w ∷ own_changes owns x.store.changes; marks = (own_store owns x.store).marks; seq = x.store.seq + 1; floor = w.birth }) all ps) (turn_back m pieces)
+          (written_holds x.geometry c (own_store owns x.store) old pieces (known.holds c b) m w.object (pieces m) (λ k other. refl) w refl seq_is metaslab_is later all h live of set_at has (behind c b)));
+      only = λ n k i there_i is_live counts. subst (λ cs. IsLastAt n k (write_of cs k.object)) (sym changes_are) (by earlier earlier_is n k i there_i is_live counts);
+      checks = known.checks;
+      marked = λ n v there_v. marked_later (max x.store.floor v.world.open_group) (max w.birth v.world.open_group) (own_store owns x.store).marks (max_up x.store.floor w.birth v.world.open_group later) (known.marked n v there_v);
     }
       where
-        first : (n : ℕ) (k : Key) (i : Held) → all n k ≡ Some i → i.stage ≡ stage.Live
+        first : (n : ℕ) (k : Key) (i : Held) → all n k ≡ Some i → i.stage ≡ stage.Live → is_dropped (check_by (own_store owns x.store).marks) k ≡ false
             → IsLastAt n k (write_of (Wrote w ∷ own_changes owns x.store.changes) k.object) ⊎ IsLastAt n k (write_of (own_changes owns x.store.changes) w.object)
-        first n k i there_i is_live = written_only x.geometry (bound_in x.metaslabs) (own_store owns x.store) old pieces (known.holds (bound_in x.metaslabs) (all_low x)) m w.object (pieces m) (λ j other. refl) w refl seq_is metaslab_is later all h live of set_at has known.only n k i there_i is_live
+        first n k i there_i is_live counts = written_only x.geometry (bound_in x.metaslabs) (own_store owns x.store) old pieces (known.holds (bound_in x.metaslabs) (all_low x)) m w.object (pieces m) (λ j other. refl) w refl seq_is metaslab_is later all h live of set_at has known.only n k i there_i is_live counts
 
-        by : (e : Option Write) → write_of x.store.changes w.object ≡ e → (n : ℕ) (k : Key) (i : Held) → own_blocks (lives_of owns e) (blocks_of x.metaslabs) n k ≡ Some i → i.stage ≡ stage.Live
+        by : (e : Option Write) → write_of x.store.changes w.object ≡ e → (n : ℕ) (k : Key) (i : Held) → own_blocks (lives_of owns e) (blocks_of x.metaslabs) n k ≡ Some i → i.stage ≡ stage.Live → is_dropped (check_by (own_store owns x.store).marks) k ≡ false
             → IsLastAt n k (write_of (Wrote w ∷ own_changes owns x.store.changes) k.object)
-        by None e_is n k i there_i is_live = elim (first n k i there_i is_live) [
+        by None e_is n k i there_i is_live counts = elim (first n k i there_i is_live counts) [
           | inl is ↦ is
           | inr was ↦ absurd (subst (IsLastAt n k) (write_own owns x.store.changes w.object own ∙ e_is) was)
         ]
-        by (Some e) e_is n k i there_i is_live =
+        by (Some e) e_is n k i there_i is_live counts =
             let seen = own_some (but e.metaslab (changes.key_of e) (all_of owns)) (blocks_of x.metaslabs) n k i there_i in
             let seen_all = but_inside (all_of owns) e.metaslab (changes.key_of e) n k seen in
-            elim (first n k i (own_is (all_of owns) (blocks_of x.metaslabs) n k seen_all ∙ (sym (own_is (but e.metaslab (changes.key_of e) (all_of owns)) (blocks_of x.metaslabs) n k seen) ∙ there_i)) is_live) [
+            elim (first n k i (own_is (all_of owns) (blocks_of x.metaslabs) n k seen_all ∙ (sym (own_is (but e.metaslab (changes.key_of e) (all_of owns)) (blocks_of x.metaslabs) n k seen) ∙ there_i)) is_live counts) [
               | inl is ↦ is
               | inr was ↦ (let z = subst (IsLastAt n k) (write_own owns x.store.changes w.object own ∙ e_is) was in absurd (is_hidden e n k seen z.0 z.1))
             ]
@@ -130,9 +136,11 @@ module _ (owns : ℕ → Bool) (x : State) (pieces : ℕ → Pieces) (m : ℕ) (
 pub gone : (owns : ℕ → Bool) (x : State) (pieces : ℕ → Pieces) (m object group : ℕ) → x.store.floor ≤ group → HoldsOwn owns x pieces
     → HoldsOwn owns (record x { store = record { changes = x.store.changes; marks = x.store.marks; seq = x.store.seq + 1; floor = group } }) pieces
 gone owns x pieces m object group later h = record {
-  holds = λ c b. subst (λ ps. HoldsObjects x.geometry c (record { changes = own_changes owns x.store.changes; marks = x.store.marks; seq = x.store.seq + 1; floor = group }) (own_blocks (all_of owns) (blocks_of x.metaslabs)) ps) (turn_back m pieces)
+  holds = λ c b. subst (λ ps. HoldsObjects x.geometry c (record { changes = own_changes owns x.store.changes; marks = (own_store owns x.store).marks; seq = x.store.seq + 1; floor = group }) (own_blocks (all_of owns) (blocks_of x.metaslabs)) ps) (turn_back m pieces)
       (missed_holds x.geometry c (own_store owns x.store) (own_blocks (all_of owns) (blocks_of x.metaslabs)) pieces (h.holds c b) m object (pieces m) (λ k other. refl) group later);
   only = h.only;
+  checks = h.checks;
+  marked = λ n v there_v. marked_later (max x.store.floor v.world.open_group) (max group v.world.open_group) (own_store owns x.store).marks (max_up x.store.floor group v.world.open_group later) (h.marked n v there_v);
 }
 
 -- ---- the hold
@@ -327,8 +335,19 @@ module _ {R A S : Type 0} (rack : racks.Ghosts R) (area : areas.Ghosts A) (went 
       late : x.store.floor ≤ ticket.pointer.birth
       late = (let low = open_.but_it.floor in let born = open_.born in omega (arith, low, born))
 
+      y_was : (y : Metaslab) × (slice_get x.metaslabs m ≡ Some y) × IsMetaslab rack area (part_in x m) (open_.pieces m) shard y
+      y_was = here rack area went shared owns a b last new m shard before after there drifts valid is goes seen seen table seq floor open_.pieces x open_.but_it
+
+      ended_later : y_was.0.world.committed ≤ d_now.reached.world.committed
+      ended_later =
+          let was = y_was.2.stands.is_in.committed in
+          let up = drifts.later in
+          let same = fin.ends.2.groups.committed in
+          let reached_is = d_now.is.stands.is_in.committed in
+          omega (arith, was, up, same, reached_is)
+
       known : (was : Option Write) → write_of x.store.changes ticket.pointer.object ≡ was → HoldsBut owns (all_of owns) (lives_of owns was) (record x_now { store = store_then }) pieces_then
-      known was was_is = came owns x_now pieces_then m w open_.own refl refl late hidden (held_at (staged stage.Live ticket.pointer)) at_w refl of_block has was was_is
+      known was was_is = came owns x_now pieces_then m w open_.own refl refl late hidden (behind_on x m y_was.0 d_now.reached y_was.1 ended_later (own_store owns x.store).marks ticket.pointer.birth open_.behind) (held_at (staged stage.Live ticket.pointer)) at_w refl of_block has was was_is
 
       itself : IsPointerAt new ticket.pointer w
       itself = record {
@@ -388,6 +407,6 @@ module _ {R A S : Type 0} (rack : racks.Ghosts R) (area : areas.Ghosts A) (went 
           older : we.seq ≤ x.store.seq
           older =
               let h = hidden.holds (bound_in x_now.metaslabs) (all_low x_now) in
-              let found = last_live sha256 (bound_in x_now.metaslabs) ticket.pointer.object (own_changes owns x.store.changes) []
+              let found = last_live sha256 (bound_in x_now.metaslabs) ticket.pointer.object (own_changes owns x.store.changes) (own_store owns x.store).marks
               (own_blocks (but m (changes.key_of w) (all_of owns)) (blocks_of x_now.metaslabs)) we h.stores (write_own owns x.store.changes ticket.pointer.object open_.own ∙ was_is) in
               h.numbered we.metaslab (changes.key_of we) found.0 found.1

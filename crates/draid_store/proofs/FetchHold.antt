@@ -32,7 +32,7 @@ use Rattle.draid_pool.specs.Pools.{part_in}
 use Rattle.draid_pool.specs.Shards.{FollowsIn, Goes}
 use Rattle.draid_pool.specs.Threads.{CarriesBy, IsPointerAt, Knows, all_of, own_blocks, own_changes, own_store}
 use Rattle.draid_pool.proofs.Contents.{all_long}
-use Rattle.draid_pool.proofs.Finds.{Found, all_low, bound_in, found_drops, found_later, looks, pointed_at, pointed_nowhere, points_at_on}
+use Rattle.draid_pool.proofs.Finds.{Found, all_low, bound_in, found_drops, found_later, found_opens, looks, pointed_at, pointed_nowhere, points_at_on}
 use Rattle.draid_pool.proofs.BytesKept.{act_bytes, still_bytes}
 use Rattle.draid_pool.proofs.HoldStep.{each_on, f, follows, here, live_key, pointer_at_on}
 use Rattle.draid_pool.proofs.Lastly.{by_last, write_object}
@@ -84,8 +84,8 @@ module _ {R A S : Type 0} (rack : racks.Ghosts R) (area : areas.Ghosts A) (went 
       let holds : HoldsObjects x.geometry c (own_store owns x.store) (own_blocks (all_of owns) (blocks_of x.metaslabs)) knows.pieces = knows.but_it.holds.holds c (all_low x) in
       let cs : List Change = own_changes owns x.store.changes in
       let last_w : write_of cs object ≡ Some w = write_own owns x.store.changes object own ∙ found_w.1 in
-      let live = last_live sha256 c object cs [] (own_blocks (all_of owns) (blocks_of x.metaslabs)) w holds.stores last_w in
-      let has : HasPieces x.geometry w (knows.pieces w.metaslab) = holds.bytes w.metaslab (key_of w) live.0 w live.1 (by_last sha256 c cs [] (own_blocks (all_of owns) (blocks_of x.metaslabs)) object w holds.stores last_w) in
+      let live = last_live sha256 c object cs (own_store owns x.store).marks (own_blocks (all_of owns) (blocks_of x.metaslabs)) w holds.stores last_w in
+      let has : HasPieces x.geometry w (knows.pieces w.metaslab) = holds.bytes w.metaslab (key_of w) live.0 w live.1 (by_last sha256 c cs (own_store owns x.store).marks (own_blocks (all_of owns) (blocks_of x.metaslabs)) object w holds.stores last_w) in
       let mine : owns w.object ≡ true = ap owns (write_object x.store.changes object w found_w.1) ∙ own in
       let here_w : own_blocks (all_of owns) (blocks_of x.metaslabs) p.metaslab (key_of w) ≡ Some live.0 = subst (λ n. own_blocks (all_of owns) (blocks_of x.metaslabs) n (key_of w) ≡ Some live.0) (sym of.metaslab_is) live.1 in
       let held : y.0.world.core.held (key_of w) ≡ Some live.0 = sym (own_is (all_of owns) (blocks_of x.metaslabs) p.metaslab (key_of w) mine ∙ blocks_at x.metaslabs p.metaslab y.0 (key_of w) y.1) ∙ here_w in
@@ -113,12 +113,21 @@ module _ {R A S : Type 0} (rack : racks.Ghosts R) (area : areas.Ghosts A) (went 
     later : y.0.world.committed ≤ r.world.committed
     later = (let c = found_later rack area shared owns shard before drifts (part_in x p.metaslab) (knows.pieces p.metaslab) z.now y.0 z.z y.2 z.is in let d = committed in omega (arith, c, d))
 
+    opens : y.0.world.open_group ≤ r.world.open_group
+    opens = (
+        let c = found_opens rack area shared owns shard before drifts (part_in x p.metaslab) (knows.pieces p.metaslab) z.now y.0 z.z y.2 z.is in
+        let a = it.stands.is_in.open_group_is in
+        let b = z.is.stands.is_in.open_group_is in
+        let same = blocks.groups.open_group_is in
+        omega (arith, a, b, c, same)
+        )
+
     knows_then : Knows rack area owns new table seq floor (with_metaslab x p.metaslab r)
     knows_then = record {
       pieces = turn p.metaslab z.now knows.pieces;
       but_it = record {
         each = each_on rack area went shared owns a b last new p.metaslab shard before after there drifts valid is goes (all_of owns) (all_of owns) table seq floor knows.pieces x knows.but_it r z.now it;
-        holds = own_drifts owns x p.metaslab y.0 r knows.pieces z.now y.1 later stays (all_long rack area (part_in x p.metaslab) (knows.pieces p.metaslab) shard y.0 y.2) z.same knows.but_it.holds;
+        holds = own_drifts owns x p.metaslab y.0 r knows.pieces z.now y.1 later opens stays (all_long rack area (part_in x p.metaslab) (knows.pieces p.metaslab) shard y.0 y.2) z.same knows.but_it.holds;
         objects = λ q own_q. points_at_on last new (table q) (write_of x.store.changes q)
             (λ t u t_is u_is pt. pointer_at_on rack area went shared owns a b last new p.metaslab shard before after there drifts valid is goes (all_of owns) (all_of owns) table seq floor knows.pieces x knows.but_it q t u own_q (pt.object_is ∙ write_object x.store.changes q u u_is)
             (λ same live. live_key rack before after t drifts.valid valid part (blocks.entries.held (maps.key_of t)) live) pt) (knows.but_it.objects q own_q);

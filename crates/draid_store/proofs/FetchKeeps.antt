@@ -90,6 +90,7 @@ module _ {R A : Type 0} (rack : racks.Ghosts R) (area : areas.Ghosts A) where
     valid = f.valid;
     part = f.part;
     later = (let same = (fetch_blocks x y p result f).groups.committed in omega (arith, same));
+    opens = (let same = (fetch_blocks x y p result f).groups.open_group_is in omega (arith, same));
     groups = λ other. fetch_groups x y p result f;
     passes = λ other. same_pass x.pass y.pass f.pass;
     others = record { each = λ key other. inl ((fetch_blocks x y p result f).entries.held key) };

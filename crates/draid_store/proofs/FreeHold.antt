@@ -1,5 +1,5 @@
 -- A command that frees an object, by what its thread knows.
-use Rattle.std.proofs.Common.{◌≡◌, ◌==◌, ◌≤◌, ◌∙◌, arith, ℕ, Bool, true, false, List, [], ◌∷◌, Option, Some, None, Result, Ok, Err, refl, sym, ap, subst, slice_set, cond, max, if◌then◌else◌, ne_eqb}
+use Rattle.std.proofs.Common.{◌≡◌, ◌==◌, ◌≤◌, ◌∙◌, arith, ℕ, Bool, true, false, List, [], ◌∷◌, Option, Some, None, Result, Ok, Err, refl, sym, ap, subst, slice_set, cond, max, if◌then◌else◌, ne_eqb, inl, inr}
 use mathlib.Core.Logic.{dite}
 use native.Mathlib.Decide.{ℕ_discrete}
 use Rattle.std.specs.Prelude.{slice_get, nat_eq}
@@ -31,17 +31,21 @@ use Rattle.draid_store.specs.Answers.{FreeDoes}
 use Rattle.draid_store.specs.declared.fault.FreeFault.{FreeFault}
 use Rattle.draid_store.specs.declared.fault.FreeFault.TheVariants.{NoObject}
 use Rattle.draid_pool.proofs.OwnedStands.{ArePlain}
+use Rattle.draid_store.proofs.Plain.{KeepsPlain}
 use Rattle.draid_pool.specs.Drifts.{Drifts, KeepsTo, is_other}
 use Rattle.draid_store.specs.Frees.{FreesBlock, IsEarly, TriesFree}
+use Rattle.draid_store.specs.Freeing.{HasLoose}
+use Rattle.draid_session.specs.Points.{KeepsBirth}
 use Rattle.draid_pool.specs.Threads.{CarriesBy, HoldsOwn, IsPointerAt, Knows, PointsAt, all_of}
 use Rattle.draid_pool.proofs.ShardSteps.{acts_one, live_on}
 use Rattle.draid_store.proofs.FreeKnown.{own_freed}
 use Rattle.draid_pool.proofs.Contents.{all_long}
-use Rattle.draid_pool.proofs.Finds.{Found, found_drops, found_later, pointed_at, pointed_nowhere, points_at_on}
+use Rattle.draid_pool.proofs.Finds.{Found, found_drops, found_later, found_opens, pointed_at, pointed_nowhere, points_at_on}
 use Rattle.draid_pool.proofs.Glances.{early_still, look_step}
 use Rattle.draid_pool.proofs.BytesKept.{free_bytes}
 use Rattle.draid_pool.proofs.HoldStep.{each_on, f, follows, here, pointer_at_on}
 use Rattle.draid_pool.proofs.Owning.{own_drifts}
+use Rattle.draid_session.specs.Writes.{LeavesBlock}
 
 module _ {R A S : Type 0} (rack : racks.Ghosts R) (area : areas.Ghosts A) (went : S → ℕ → Shard R A → Shard R A → S → Type 0) (shared : Bool) (owns : ℕ → Bool) (a b : S) (last new : ℕ → Option (Shard R A)) (object : ℕ) (p : Pointer)
     (table : ℕ → Option Pointer) (seq floor : ℕ) (shard before after : Shard R A) (there : last p.metaslab ≡ Some shard) (drifts : Drifts rack area shared owns shard before)
@@ -64,6 +68,7 @@ module _ {R A S : Type 0} (rack : racks.Ghosts R) (area : areas.Ghosts A) (went 
 
   holds_found : HoldsOwn owns (with_metaslab x m z.z) pieces
   holds_found = own_drifts owns x m y.0 z.z knows.pieces z.now y.1 (found_later rack area shared owns shard before drifts (part_in x m) (knows.pieces m) z.now y.0 z.z y.2 z.is)
+      (found_opens rack area shared owns shard before drifts (part_in x m) (knows.pieces m) z.now y.0 z.z y.2 z.is)
       (found_drops rack area shared owns shard before drifts (part_in x m) (knows.pieces m) z.now y.0 z.z y.2 z.is) (all_long rack area (part_in x m) (knows.pieces m) shard y.0 y.2) z.same knows.but_it.holds
 
   other_object : (q : ℕ) → (object ≡ q → ⊥) → is_other (Some object) q ≡ true
@@ -76,9 +81,9 @@ module _ {R A S : Type 0} (rack : racks.Ghosts R) (area : areas.Ghosts A) (went 
 
   -- ---- the block is freed
 
-  pub free_step : (table' : ℕ → Option Pointer) (group : ℕ) → FreesBlock rack area before p floor group after → ((q : ℕ) → table' q ≡ cond (nat_eq object q) None (table q))
+  pub free_step : HasLoose x.store object → (table' : ℕ → Option Pointer) (group : ℕ) → FreesBlock rack area before p floor group after → ((q : ℕ) → table' q ≡ cond (nat_eq object q) None (table q))
       → CarriesBy rack area went shared owns new table' seq group a b x (TriesFree x object (Some (Ok tt)))
-  free_step table' group fb objects = by
+  free_step loose table' group fb objects = by
     where
       found_w : (write : Write) × (write_of x.store.changes object ≡ Some write) × IsPointerAt last p write
       found_w = pointed_at last (table object) (write_of x.store.changes object) p at (knows.but_it.objects object own)
@@ -109,7 +114,7 @@ module _ {R A S : Type 0} (rack : racks.Ghosts R) (area : areas.Ghosts A) (went 
 
       freed_at : HoldsOwn owns (record (with_metaslab (with_metaslab x m z.z) m r) { store = record { changes = Freed p.object group ∷ x.store.changes; marks = x.store.marks; seq = x.store.seq; floor = group } }) pieces
       freed_at = own_freed owns (with_metaslab x m z.z) m z.z r pieces (get_set_same x.metaslabs m y.0 z.z y.1) (key_of p) (ap owns mine_p ∙ own) g.done.held g.done.found g.done.live group later g.done.made g.done.committed
-          w (ap (write_of x.store.changes) mine_p ∙ found_w.1) (sym key) (sym of.metaslab_is) holds_found
+          w (ap (write_of x.store.changes) mine_p ∙ found_w.1) (sym key) (sym of.metaslab_is) holds_found g.done.open_group_is (g.done.group_is ∙ ap (λ n. max z.z.world.open_group n) (sym knows.but_it.floor)) (λ kept. loose w found_w.1 (subst (KeepsBirth x.store.marks) (g.done.birth ∙ of.birth_is) kept))
 
       store : Store
       store = record { changes = Freed object group ∷ x.store.changes; marks = x.store.marks; seq = x.store.seq; floor = group }
@@ -145,13 +150,18 @@ module _ {R A S : Type 0} (rack : racks.Ghosts R) (area : areas.Ghosts A) (went 
           w = w;
           group = group;
           written = found_w.1;
-          frees = record {
-            v = view_of m z.z;
-            after = r.world;
-            did = ap (λ j. On (view_of m z.z) (Did (event.Free j group) r.world) ∷ []) key;
-            there = of.metaslab_is;
-            group_is = g.done.group_is ∙ ap (λ n. max z.z.world.open_group n) (sym knows.but_it.floor);
-          };
+          marks = x.store.marks;
+          leaves = inl (
+            loose w found_w.1,
+            record {
+              v = view_of m z.z;
+              after = r.world;
+              did = ap (λ j. On (view_of m z.z) (Did (event.Free j group) r.world) ∷ []) key;
+              there = of.metaslab_is;
+              group_is = g.done.group_is ∙ ap (λ n. max z.z.world.open_group n) (sym knows.but_it.floor);
+            },
+            refl,
+          );
           made = refl;
         };
         knows = record { pieces = pieces; but_it = record { each = each_on rack area went shared owns a b last new p.metaslab shard before after there drifts keeps.valid is goes (all_of owns) (all_of owns) table seq floor knows.pieces x knows.but_it r z.now g.is; holds = holds_after; objects = points; seq = knows.but_it.seq; floor = refl } };
@@ -170,7 +180,15 @@ not_there rack area went shared owns a last object table seq floor own none x kn
   knows = knows;
 }
 
--- a freeing leaves images, arms and groups
-pub free_plain : (x : State) (object : ℕ) (result : Result Unit FreeFault) (holds : List Hold) (store : Store) → FreeDoes x object result holds store → ArePlain holds
-free_plain x object (Ok done) holds store f = subst ArePlain (sym f.frees.did) (tt, tt)
-free_plain x object (Err fault) holds store f = subst ArePlain (sym f.1) tt
+-- a freeing leaves images, arms and groups, and what befell the checkpoint
+pub free_plain : (x : State) (object : ℕ) (result : Result Unit FreeFault) → HasLoose x.store object → (holds : List Hold) (store : Store) → FreeDoes x object result holds store → KeepsPlain x holds store
+free_plain x object (Ok done) loose holds store f = by f.leaves
+  where
+    by : LeavesBlock x.store.marks f.w x.store.floor f.group holds f.marks → KeepsPlain x holds store
+    by (inl b) = (
+      subst ArePlain (sym b.1.did) (tt, tt),
+      ap (λ (t : Store). t.marks) f.made ∙ b.2,
+      (let is = b.1.group_is in let made = ap (λ (t : Store). t.floor) f.made in omega (arith, is, made)),
+    )
+    by (inr d) = absurd (loose f.w f.written d.0)
+free_plain x object (Err fault) loose holds store f = (subst ArePlain (sym f.1) tt, ap (λ (t : Store). t.marks) f.0, (let floor = ap (λ (t : Store). t.floor) f.0 in omega (arith, floor)))

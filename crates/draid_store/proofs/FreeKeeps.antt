@@ -45,6 +45,7 @@ module _ {R A : Type 0} (rack : racks.Ghosts R) (area : areas.Ghosts A) where
         valid = f.valid;
         part = f.part;
         later = (let same = ap (λ (s : Shard R A). s.committed) e.same in omega (arith, same));
+        opens = (let same = ap (λ (s : Shard R A). s.open_group) e.same in omega (arith, same));
         groups = λ other. same_groups x y e.same;
         passes = λ other. same_pass x.pass y.pass (ap (λ (s : Shard R A). s.pass) e.same);
         others = subst (λ (s : Shard R A). KeepsOf of s.committed x.entries s.entries) (sym e.same) (keeps_self of x.committed x.entries);
@@ -55,6 +56,7 @@ module _ {R A : Type 0} (rack : racks.Ghosts R) (area : areas.Ghosts A) where
         valid = f.valid;
         part = f.part;
         later = (let same = b.sets.groups.committed in omega (arith, same));
+        opens = (let same = b.sets.groups.open_group_is in omega (arith, same));
         groups = λ other. sets_groups x y p (Some (staged (stage.Freed group) p)) b.sets b.reserve;
         passes = λ other. same_pass x.pass y.pass b.pass;
         others = sets_others y.committed x.entries y.entries p (Some (staged (stage.Freed group) p)) b.sets.entry;

@@ -6,6 +6,9 @@ pub mod Column
 pub mod ColumnSteps
 pub mod DamageSteps
 pub mod Damages
+pub mod DropHold
+pub mod DropWhole
+pub mod Dropped
 pub mod Ended
 pub mod Ending
 pub mod Feeding
@@ -25,6 +28,7 @@ pub mod Opening
 pub mod Plain
 pub mod Pointed
 pub mod PointedSums
+pub mod Points
 pub mod PutKeeps
 pub mod PutSteps
 pub mod QuietKeeps
@@ -40,6 +44,7 @@ pub mod Unlooked
 pub mod WholeBlock
 pub mod WholeMissed
 pub mod WholeWrite
+pub mod WriteDrops
 pub mod WriteRounds
 pub mod WriteWhole
 pub mod Written

@@ -67,6 +67,7 @@ module _ {R A : Type 0} (rack : racks.Ghosts R) (area : areas.Ghosts A) where
             valid = b.valid;
             part = b.part;
             later = (let c = ap (λ (s : Shard R A). s.committed) same in omega (arith, c));
+            opens = (let o = ap (λ (s : Shard R A). s.open_group) same in omega (arith, o));
             groups = λ other. same_groups x y same;
             passes = λ other. same_pass x.pass y.pass b.pass;
             others = subst (λ (s : Shard R A). KeepsOf of s.committed x.entries s.entries) (sym same) (keeps_self of x.committed x.entries);
@@ -82,6 +83,7 @@ module _ {R A : Type 0} (rack : racks.Ghosts R) (area : areas.Ghosts A) where
             valid = b.valid;
             part = b.part;
             later = (let c = none.keeps.groups.committed in omega (arith, c));
+            opens = (let o = none.keeps.groups.open_group_is in omega (arith, o));
             groups = λ other. nothing_groups x y none b.reserve;
             passes = λ other. same_pass x.pass y.pass b.pass;
             others = record { each = λ key other. inl (none.keeps.entries.held key) };

@@ -1,11 +1,12 @@
 -- A write of a thread's own, hold by hold, by what the thread knows of a pool's state: a ticket is opened, and a column is put.
-use Rattle.std.proofs.Common.{◌≡◌, ◌==◌, ◌≤◌, ◌+◌, ◌∙◌, inl, inr, arith, ℕ, Bool, true, false, [], ◌∷◌, Option, Some, refl, sym, ap, ap₂, subst, max, if◌then◌else◌}
+use Rattle.std.proofs.Common.{◌≡◌, ◌==◌, ◌≤◌, ◌+◌, ◌∙◌, inl, inr, arith, ℕ, Bool, true, false, [], ◌∷◌, List, Option, Some, refl, sym, ap, ap₂, subst, max, if◌then◌else◌}
 use Rattle.draid_names.specs.declared.numbers.TheConstants.{LAST_NUMBER}
 use Rattle.draid_names.specs.declared.pointer.Pointer.{Pointer}
 use Rattle.draid_rack.specs.declared.Rack as racks
 use Rattle.draid_area.specs.declared.Area as areas
 use Rattle.draid_block.specs.Blocks.{BlockValue, cut_of}
 use Rattle.draid_block.specs.Columns.{stripes_of}
+use Rattle.std.specs.Prelude.{slice_get}
 use Rattle.draid_machine.specs.declared.event.Event.TheVariants as event
 use Rattle.draid_machine.specs.declared.names.Key.{Key}
 use Rattle.draid_machine.specs.declared.names.Held.{Held}
@@ -26,15 +27,20 @@ use Rattle.draid_shard.specs.declared.shard.Shard.{Shard}
 use Rattle.draid_shard.proofs.Held.{key_leads}
 use Rattle.draid_session.specs.Holds.{Did, Hold, On, view_of}
 use Rattle.draid_session.specs.Rooms.{IsShut}
-use Rattle.draid_session.specs.State.{State}
+use Rattle.draid_session.specs.State.{Metaslab, State}
 use Rattle.draid_session.specs.Writes.{PutsColumn}
 use Rattle.draid_pool.specs.Pools.{part_in}
+use Rattle.draid_pool.specs.Metaslabs.{IsMetaslab}
+use Rattle.draid_objects.specs.Marks.{Mark}
+use Rattle.draid_objects.specs.Stores.{IsBehindChecks}
 use Rattle.draid_pool.proofs.Dids.{Done, did_quiet}
-use Rattle.draid_pool.proofs.Lists.{some_of}
+use Rattle.draid_pool.proofs.Lists.{get_set_same, some_of}
+use Rattle.draid_pool.proofs.Marked.{behind_later}
+use Rattle.draid_pool.proofs.Owning.{bound_before}
 use Rattle.draid_pool.proofs.Moved.{turn, turn_here, with_metaslab}
 use Rattle.draid_pool.proofs.Roomy.{worn_for}
 use Rattle.draid_pool.specs.Drifts.{Drifts, KeepsBytes}
-use Rattle.draid_pool.specs.Threads.{Knows, KnowsBut, LeadsBy, all_of, but}
+use Rattle.draid_pool.specs.Threads.{Bounds, Knows, KnowsBut, LeadsBy, all_of, but, own_store}
 use Rattle.draid_store.specs.Open.{KnowsOpen}
 use Rattle.draid_store.specs.Writing.{BeginsBlock, BeginsIn, PutsShard}
 use Rattle.draid_store.proofs.Column.{column_for, one_column_more, others_same, put_column}
@@ -56,6 +62,11 @@ all_but rack area owns last table seq floor m key x knows next = record {
   seq = knows.but_it.seq;
   floor = knows.but_it.floor;
 }
+
+-- a group that is behind each checkpoint stays so as a metaslab goes on
+pub behind_on : (x : State) (m : ℕ) (y z : Metaslab) → slice_get x.metaslabs m ≡ Some y → y.world.committed ≤ z.world.committed → (marks : List Mark) (group : ℕ) → ((c : ℕ) → Bounds x c → IsBehindChecks c marks group)
+    → (c : ℕ) → Bounds (with_metaslab x m z) c → IsBehindChecks c marks group
+behind_on x m y z at later marks group behind c b = behind c (bound_before x m y z at c later b)
 
 module _ {R A S : Type 0} (rack : racks.Ghosts R) (area : areas.Ghosts A) (went : S → ℕ → Shard R A → Shard R A → S → Type 0) (shared : Bool) (owns : ℕ → Bool) (a b : S) (last new : ℕ → Option (Shard R A)) (m : ℕ)
     (shard before after : Shard R A) (there : last m ≡ Some shard) (drifts : Drifts rack area shared owns shard before) (valid : Valid rack after)
@@ -99,6 +110,23 @@ module _ {R A S : Type 0} (rack : racks.Ghosts R) (area : areas.Ghosts A) (went 
       ]
     ]
 
+    abbrev y_begun : (y : Metaslab) × (slice_get x.metaslabs m ≡ Some y) × IsMetaslab rack area (part_in x m) (knows.pieces m) shard y
+    y_begun = here rack area went shared owns a b last new m shard before after there drifts valid is goes mine mine table seq floor knows.pieces x known
+
+    begun_known : KnowsBut rack area owns mine mine new table seq floor (turn m z.now knows.pieces) (with_metaslab x m d.reached)
+    begun_known =
+        unseen_step rack area went shared owns a b last new m shard before after there drifts valid is goes mine mine table seq floor knows.pieces x known ticket.pointer (Some (begun ticket.pointer)) begin.opens.enters begin.does.part
+        not_live (but_here (all_of owns) m (key_of ticket.pointer)) (but_here (all_of owns) m (key_of ticket.pointer))
+        (λ k seen. but_inside (all_of owns) m (key_of ticket.pointer) m k seen) (λ k seen. but_inside (all_of owns) m (key_of ticket.pointer) m k seen) d.reached z.now d.is (λ k other. refl)
+
+    begun_behind : (c : ℕ) → Bounds (with_metaslab x m d.reached) c → IsBehindChecks c (own_store owns x.store).marks ticket.pointer.birth
+    begun_behind c b =
+        let reached_is = d.is.stands.is_in.open_group_is in
+        let same = begin.opens.enters.groups.open_group_is in
+        let birth = begin.opens.named.birth_is in
+        behind_later c c d.reached.world.open_group ticket.pointer.birth (own_store owns x.store).marks (omega arith) (omega (arith, reached_is, same, birth))
+        (begun_known.holds.checks c b m d.reached (get_set_same x.metaslabs m y_begun.0 d.reached y_begun.1))
+
     pub begin_step : LeadsBy rack area went shared a b x (λ holds store. (store ≡ x.store) × BeginsIn x.geometry m floor ticket.pointer block.bytes holds) (KnowsOpen rack area owns new table seq floor m ticket block)
     begin_step = record {
       holds = On (view_of m z.z) (Did (begins ticket.pointer) d.reached.world) ∷ [];
@@ -121,14 +149,13 @@ module _ {R A S : Type 0} (rack : racks.Ghosts R) (area : areas.Ghosts A) (went 
       );
       knows = record {
         pieces = turn m z.now knows.pieces;
-        but_it = unseen_step rack area went shared owns a b last new m shard before after there drifts valid is goes mine mine table seq floor knows.pieces x known ticket.pointer (Some (begun ticket.pointer)) begin.opens.enters begin.does.part
-            not_live (but_here (all_of owns) m (key_of ticket.pointer)) (but_here (all_of owns) m (key_of ticket.pointer))
-            (λ k seen. but_inside (all_of owns) m (key_of ticket.pointer) m k seen) (λ k seen. but_inside (all_of owns) m (key_of ticket.pointer) m k seen) d.reached z.now d.is (λ k other. refl);
+        but_it = begun_known;
         own = ap owns begin.opens.named.object_is ∙ own;
         next = begin.opens.named.seq_is;
         at = begin.opens.named.metaslab_is ∙ ap (λ (q : Part). q.number) z.is.part_is;
         born = (let birth = begin.opens.named.birth_is in omega (arith, birth));
         low = (let birth = begin.opens.named.birth_is in let low = begin.low in omega (arith, birth, low));
+        behind = begun_behind;
         rows = λ c row less inside. absurd (let none = begin.opens.named.fresh.0 in omega (arith, less, none));
       };
     }
@@ -189,6 +216,17 @@ module _ {R A S : Type 0} (rack : racks.Ghosts R) (area : areas.Ghosts A) (went 
         size : before.geometry.props.sector ≡ x.geometry.props.sector
         size = ap (λ (q : Part). q.geometry.props.sector) g.is.part_is
 
+    abbrev y_put : (y : Metaslab) × (slice_get x.metaslabs m ≡ Some y) × IsMetaslab rack area (part_in x m) (open_.pieces m) shard y
+    y_put = here rack area went shared owns a b last new m shard before after there drifts valid is goes seen seen table seq floor open_.pieces x open_.but_it
+
+    put_later : y_put.0.world.committed ≤ e.reached.world.committed
+    put_later =
+        let was = y_put.2.stands.is_in.committed in
+        let up = drifts.later in
+        let same = put.puts.sets.groups.committed in
+        let reached_is = e.is.stands.is_in.committed in
+        omega (arith, was, up, same, reached_is)
+
     pub put_step : LeadsBy rack area went shared a b x (λ holds store. (store ≡ x.store) × ((hold : Hold) × (holds ≡ hold ∷ []) × PutsColumn (key_of ticket.pointer) m hold)) (KnowsOpen rack area owns new table seq floor m now block)
     put_step = record {
       holds = On (view_of m g.z) (Did (event.Put (key_of ticket.pointer) put.puts.landed put.puts.failed) e.reached.world) ∷ [];
@@ -217,6 +255,8 @@ module _ {R A S : Type 0} (rack : racks.Ghosts R) (area : areas.Ghosts A) (went 
         at = ap (λ (q : Pointer). q.metaslab) put.puts.pointer ∙ open_.at;
         born = subst (λ (q : Pointer). floor ≤ q.birth) (sym put.puts.pointer) open_.born;
         low = subst (λ (q : Pointer). q.birth ≤ LAST_NUMBER) (sym put.puts.pointer) open_.low;
+        behind = subst (λ (q : Pointer). (c : ℕ) → Bounds (with_metaslab x m e.reached) c → IsBehindChecks c (own_store owns x.store).marks q.birth) (sym put.puts.pointer)
+            (behind_on x m y_put.0 e.reached y_put.1 put_later (own_store owns x.store).marks ticket.pointer.birth open_.behind);
         rows = rows_then;
       };
     }

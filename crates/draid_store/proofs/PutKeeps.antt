@@ -25,6 +25,7 @@ put_keeps rack area x y before now block valid areas_are reserve pass put carrie
   valid = valid;
   part = put.does.part;
   later = (let same = put.sets.groups.committed in omega (arith, same));
+  opens = (let same = put.sets.groups.open_group_is in omega (arith, same));
   groups = λ other. sets_groups x y before.pointer _ put.sets reserve;
   passes = λ other. same_pass x.pass y.pass pass;
   others = sets_others y.committed x.entries y.entries before.pointer _ put.sets.entry;

@@ -40,6 +40,7 @@ module _ {R A : Type 0} (rack : racks.Ghosts R) (area : areas.Ghosts A) where
     valid = valid;
     part = does.part;
     later = (let same = sets.groups.committed in omega (arith, same));
+    opens = (let same = sets.groups.open_group_is in omega (arith, same));
     groups = λ other. sets_groups x y p entry sets reserve;
     passes = λ other. same_pass x.pass y.pass pass;
     others = sets_others y.committed x.entries y.entries p entry sets.entry;

@@ -1,5 +1,5 @@
 -- What was fetched of an object is solved.
-use Rattle.std.proofs.Common.{◌≡◌, ◌+◌, [], ◌∷◌, ℕ, Bool, List, Vec, Global, Result, Ok, Err, arith, refl, sym, subst}
+use Rattle.std.proofs.Common.{◌≡◌, ◌+◌, [], ◌∷◌, ℕ, Bool, List, Vec, Global, Result, Ok, Err, arith, refl, sym, subst, ap, ◌≤◌}
 use Rattle.draid_names.specs.declared.refusal.ObjectFault.{ObjectFault}
 use Rattle.draid_names.specs.declared.refusal.ObjectFault.TheVariants as object
 use Rattle.draid_rack.specs.declared.Rack as racks
@@ -101,3 +101,27 @@ tries_but x first count (Err fault) holds store is = is
 
 pub sum_looks_plain : (x : State) (first count : ℕ) (result : Result (List ℕ) SumFault) (holds : List Hold) (store : Store) → ButLooks (SumDoes x first count result) holds store → ArePlain holds
 sum_looks_plain x first count result holds store is = subst ArePlain (sym is.are) (plain_append is.front is.back (sum_plain x first count result is.front store is.did) (looks_plain is.back is.looks))
+
+-- ---- the store as it was
+
+-- of which a pool stands as before
+stays_as : (x : State) (holds : List Hold) (store : Store) → ArePlain holds → store ≡ x.store → ArePlain holds × (store.marks ≡ x.store.marks) × (x.store.floor ≤ store.floor)
+stays_as x holds store plain same = (plain, ap (λ (s : Store). s.marks) same, (let floor = ap (λ (s : Store). s.floor) same in omega (arith, floor)))
+
+read_store : (x : State) (o : ℕ) (result : Result (Vec ℕ Global) ObjectFault) (holds : List Hold) (store : Store) → ReadDoes x o result holds store → store ≡ x.store
+read_store x o (Ok bytes) holds store is = is.0
+read_store x o (Err object.NoObject) holds store is = is.0
+read_store x o (Err (object.Unreadable absent tried)) holds store is = is.0
+read_store x o (Err object.Worn) holds store is = is.0
+read_store x o (Err object.NoMemory) holds store is = is.0
+
+pub read_stays : (x : State) (o : ℕ) (result : Result (Vec ℕ Global) ObjectFault) (holds : List Hold) (store : Store) → ReadDoes x o result holds store → ArePlain holds × (store.marks ≡ x.store.marks) × (x.store.floor ≤ store.floor)
+read_stays x o result holds store is = stays_as x holds store (read_plain x o result holds store is) (read_store x o result holds store is)
+
+sum_store : (x : State) (first count : ℕ) (result : Result (List ℕ) SumFault) (holds : List Hold) (store : Store) → SumDoes x first count result holds store → store ≡ x.store
+sum_store x first count (Ok digest) holds store is = is.0
+sum_store x first count (Err fault) holds store is = is.0
+
+pub sum_stays : (x : State) (first count : ℕ) (result : Result (List ℕ) SumFault) (holds : List Hold) (store : Store) → ButLooks (SumDoes x first count result) holds store
+    → ArePlain holds × (store.marks ≡ x.store.marks) × (x.store.floor ≤ store.floor)
+sum_stays x first count result holds store is = stays_as x holds store (sum_looks_plain x first count result holds store is) (sum_store x first count result is.front store is.did)

@@ -43,6 +43,12 @@ module _ {R A S : Type 0} (rack : racks.Ghosts R) (area : areas.Ghosts A) (went 
         seq_is = s.did.1.opens.named.seq_is;
         at = s.did.1.opens.named.metaslab_is ∙ (ap (λ (q : Part). q.number) drifts.part ∙ (ap (λ (c : Shard R A). c.number) (sym same) ∙ may.number));
         low = (let birth = s.did.1.opens.named.birth_is in let low = s.did.1.low in omega (arith, birth, low));
+        late = λ was at. (
+            let opens = drifts.opens in
+            let birth = s.did.1.opens.named.birth_is in
+            let is_it = ap (λ (c : Shard R A). c.open_group) (some_of (last m) shard was there at) in
+            omega (arith, opens, birth, is_it)
+            );
         step = λ table x knows. begin_step rack area went shared owns a b last new m shard before after there drifts s.valid is goes table seq floor x knows object block ticket own s.did.1 s.kit s.reserve;
       }
 

@@ -1,5 +1,5 @@
 -- A block of an object is stored, of its parts as calls say them.
-use Rattle.std.proofs.Common.{◌≡◌, ◌+◌, ◌∙◌, ℕ, Bool, Option, Some, None, Result, Ok, Err, sym, ap, subst, cond}
+use Rattle.std.proofs.Common.{◌≡◌, ◌+◌, ◌∙◌, ℕ, Bool, true, Option, Some, None, Result, Ok, Err, arith, refl, sym, ap, subst, cond}
 use Rattle.std.specs.Prelude.{nat_eq}
 use Rattle.draid_names.specs.declared.pointer.Pointer.{Pointer}
 use Rattle.draid_names.specs.declared.refusal.WriteFault.TheVariants as fault
@@ -16,9 +16,12 @@ use Rattle.draid_store.specs.declared.fault.StoreFault.TheVariants as why
 use Rattle.draid_store.specs.Answers.{WriteInDoes}
 use Rattle.draid_entries.specs.Maps.{key_of}
 use Rattle.draid_store.specs.Putting.{BeginRefusedBy, BeginSays, BeginsWhole, EndSays, PutsBy, RefusesAt, StartsBy}
-use Rattle.draid_store.specs.Storing.{StoreSays, StoresIn}
+use Rattle.draid_store.specs.Storing.{IsNewPointer, StoreSays, StoresIn, StoresNew}
 use Rattle.draid_pool.specs.Threads.{AllStay, IsWholeBut, IsWholeBy, Knows, LeadsBy, all_of, but}
+use Rattle.draid_machine.proofs.Small.{none_some}
+use Rattle.draid_pool.specs.Drifts.{groups_number}
 use Rattle.draid_pool.proofs.HeldBy.{stay_then}
+use Rattle.draid_pool.proofs.Lists.{some_of}
 use Rattle.draid_store.specs.Open.{KnowsReplaced}
 use Rattle.draid_shard.specs.declared.shard.Shard.{Shard}
 use Rattle.draid_store.proofs.WholeMissed.{lost}
@@ -109,6 +112,38 @@ module _ {R A : Type 0} (rack : racks.Ghosts R) (owns : ℕ → Bool) (now : ℕ
   begun_whole None ticket is w = absurd (cc)
   begun_whole (Some (Ok t)) ticket is w = (let same : t ≡ ticket = cc in subst (λ (u : Ticket). IsWholeBut rack owns (but m (key_of u.pointer) (all_of owns)) now table seq u.pointer.birth) same w)
   begun_whole (Some (Err f)) ticket is w = absurd (cc)
+
+-- ---- the new pointer
+
+module _ {R A : Type 0} (E : Type 0) (last : ℕ → Option (Shard R A)) (object seq : ℕ) (table now : ℕ → Option Pointer) where
+  pub stores_new : (earlier : Option Pointer) (pointer : Pointer) → earlier ≡ table object → now object ≡ Some pointer → IsNewPointer last seq pointer → StoresNew {E = E} last object seq table now (Some (Ok earlier))
+  stores_new None pointer had at new = (pointer, at, new)
+  stores_new (Some e) pointer had at new = (pointer, at, new, sym had)
+
+  -- where the earlier block is freed behind it
+  pub new_alone : (earlier : Pointer) → StoresNew {E = E} last object seq table now (Some (Ok (Some earlier))) → StoresNew {E = E} last object seq table now (Some (Ok None))
+  new_alone earlier new = (new.0, new.1, new.2)
+
+-- as its metaslab was left before
+pub new_pointer_on : {R A : Type 0} (owns : ℕ → Bool) (last mid : ℕ → Option (Shard R A)) → AllStay owns last mid → owns groups_number ≡ true → (seq : ℕ) (pointer : Pointer) → IsNewPointer mid seq pointer → IsNewPointer last seq pointer
+new_pointer_on {R} {A} owns last mid stay own seq pointer new = by (last pointer.metaslab) refl
+  where
+    by : (o : Option (Shard R A)) → last pointer.metaslab ≡ o → IsNewPointer last seq pointer
+    by None is = absurd (none_some (mid pointer.metaslab) new.shard (stay.absent pointer.metaslab is) new.there)
+    by (Some shard) is =
+        let z = stay.each pointer.metaslab shard is in
+        let same : z.0 ≡ new.shard = some_of (mid pointer.metaslab) z.0 new.shard z.1 new.there in
+        let open_is = (z.2.groups own).groups.open_group_is in
+        let here : z.0.open_group ≡ new.shard.open_group = ap (λ (s : Shard R A). s.open_group) same in
+        let late = new.late in
+        record { seq_is = new.seq_is; shard = shard; there = is; late = omega (arith, open_is, here, late) }
+
+pub new_on : {R A E : Type 0} (owns : ℕ → Bool) (last mid : ℕ → Option (Shard R A)) → AllStay owns last mid → owns groups_number ≡ true → (object seq : ℕ) (table now : ℕ → Option Pointer) (r : Option (Result (Option Pointer) E))
+    → StoresNew mid object seq table now r → StoresNew last object seq table now r
+new_on owns last mid stay own object seq table now None new = tt
+new_on owns last mid stay own object seq table now (Some (Ok None)) new = (new.0, new.1, new_pointer_on owns last mid stay own seq new.0 new.2)
+new_on owns last mid stay own object seq table now (Some (Ok (Some e))) new = (new.0, new.1, new_pointer_on owns last mid stay own seq new.0 new.2, new.3)
+new_on owns last mid stay own object seq table now (Some (Err why)) new = tt
 
 -- three calls, one after the other
 pub stay_three : {R A : Type 0} (owns o1 o2 : ℕ → Bool) (e1 : o1 ≡ owns) (e2 : o2 ≡ o1) (last l1 l2 l3 : ℕ → Option (Shard R A)) → AllStay owns last l1 → AllStay o1 l1 l2 → AllStay o2 l2 l3 → AllStay owns last l3

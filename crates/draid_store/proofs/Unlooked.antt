@@ -1,5 +1,5 @@
 -- Looks at the end of a command, where no others come between.
-use Rattle.std.proofs.Common.{◌≡◌, ◌++◌, ◌∙◌, ℕ, false, List, [], ◌∷◌, refl, sym, ap, subst, slice_set}
+use Rattle.std.proofs.Common.{◌≡◌, ◌≤◌, ◌++◌, ◌∙◌, ℕ, false, List, [], ◌∷◌, refl, sym, ap, subst, slice_set}
 use Rattle.draid_rack.specs.declared.Rack as racks
 use Rattle.draid_area.specs.declared.Area as areas
 use Rattle.draid_shard.specs.declared.shard.Shard.{Shard}
@@ -48,7 +48,7 @@ module _ {S : Type 0} (between : S → ℕ → Metaslab → Metaslab → Metasla
 
 module _ {R A : Type 0} (rack : racks.Ghosts R) (area : areas.Ghosts A) (pool new : Pool R A) (x : State) (r : Represents rack area pool x) (geometry : new.geometry ≡ pool.geometry) (uber : new.uber ≡ pool.uber) (w : IsWhole rack area new) where
   -- a command of the only thread is one of the pool, without its looks at the end
-  pub carries_but : {S : Type 0} (went : S → ℕ → Shard R A → Shard R A → S → Type 0) (a b : S) (does : List Hold → Store → Type 0) → ((holds : List Hold) (store : Store) → ButLooks does holds store → ArePlain holds)
+  pub carries_but : {S : Type 0} (went : S → ℕ → Shard R A → Shard R A → S → Type 0) (a b : S) (does : List Hold → Store → Type 0) → ((holds : List Hold) (store : Store) → ButLooks does holds store → ArePlain holds × (store.marks ≡ x.store.marks) × (x.store.floor ≤ store.floor))
       → CarriesBy rack area went false all (left_in new) (table_in new) new.own.seq new.own.floor a b x (ButLooks does) → CarriesOut rack area new x does
   carries_but went a b does plain c = record {
     holds = c.done.front;
@@ -59,8 +59,11 @@ module _ {R A : Type 0} (rack : racks.Ghosts R) (area : areas.Ghosts A) (pool ne
     done = c.done.did;
     represents = subst (λ (y : State). Represents rack area new (record y { store = c.store })) (sym rest.rest)
         (stands_left rack area pool new x r geometry uber w c.reached.metaslabs c.store rest.many rest.each
-        (subst (λ (y : State). Knows rack area all (left_in new) (table_in new) new.own.seq new.own.floor (record y { store = c.store })) rest.rest c.knows));
+        (subst (λ (y : State). Knows rack area all (left_in new) (table_in new) new.own.seq new.own.floor (record y { store = c.store })) rest.rest c.knows) told.1 told.2);
   }
     where
+      told : ArePlain c.holds × (c.store.marks ≡ x.store.marks) × (x.store.floor ≤ c.store.floor)
+      told = plain c.holds c.store c.done
+
       rest : AllRest x c.reached
-      rest = follows_rest c.holds x c.reached (carries_alone rack area went all (left_in new) (table_in new) new.own.seq new.own.floor a b x (ButLooks does) c) (plain c.holds c.store c.done)
+      rest = follows_rest c.holds x c.reached (carries_alone rack area went all (left_in new) (table_in new) new.own.seq new.own.floor a b x (ButLooks does) c) told.0

@@ -1,23 +1,21 @@
 -- A whole write by one thread, of its parts.
-use Rattle.std.proofs.Common.{◌≡◌, ◌≤◌, ◌+◌, ◌++◌, ◌∙◌, ℕ, Bool, List, [], ◌∷◌, Option, Some, None, Ok, refl, sym, ap, subst}
+use Rattle.std.proofs.Common.{◌≡◌, ◌≤◌, ◌+◌, ◌++◌, ◌∙◌, ℕ, Bool, List, [], ◌∷◌, Option, Some, refl, sym, ap, subst}
 use Rattle.draid_names.specs.declared.pointer.Pointer.{Pointer}
 use Rattle.draid_spec.specs.declared.layout.Geometry.{Geometry}
 use Rattle.draid_rack.specs.declared.Rack as racks
 use Rattle.draid_area.specs.declared.Area as areas
 use Rattle.draid_block.specs.Blocks.{BlockValue}
 use Rattle.draid_machine.specs.declared.event.Event.TheVariants as event
-use Rattle.draid_objects.specs.Changes.{Write, Wrote, write_of}
+use Rattle.draid_objects.specs.Changes.{write_of}
 use Rattle.draid_entries.specs.Maps.{key_of}
 use Rattle.draid_blocks.specs.declared.ticket.Ticket.{Ticket}
 use Rattle.draid_session.specs.Holds.{Did, Hold, On}
 use Rattle.draid_session.specs.State.{State, Store}
-use Rattle.draid_session.specs.Writes.{FreesEarlier, PutsColumns, WritesBlock}
-use Rattle.draid_session.specs.Writes as written
-use Rattle.draid_store.specs.Answers.{WriteInDoes}
+use Rattle.draid_session.specs.Writes.{PutsColumns, WritesBlock}
 use Rattle.draid_store.specs.Storing.{StoresIn, store_with}
 use Rattle.draid_store.specs.Putting.{PutsBy, PutsSome}
-use Rattle.draid_pool.specs.Threads.{Knows, LeadsBy}
-use Rattle.draid_store.specs.Open.{KnowsEarlier, KnowsOpen, KnowsReplaced}
+use Rattle.draid_pool.specs.Threads.{LeadsBy}
+use Rattle.draid_store.specs.Open.{KnowsOpen, KnowsReplaced}
 use Rattle.draid_store.specs.Writing.{BeginsIn, EndsIn}
 use Rattle.draid_shard.specs.declared.shard.Shard.{Shard}
 use Rattle.draid_pool.proofs.Joining.{Both, leads_then}
@@ -78,10 +76,6 @@ module _ {R A S : Type 0} (rack : racks.Ghosts R) (area : areas.Ghosts A) (went 
     pub columns : PutsColumns (key_of first.pointer) m x.geometry.g puts
     pub ends : Ends x.store end store
 
-  abbrev FreesDoes : List Hold → Store → Type 0
-  FreesDoes holds store = (we : Write) × (write_of x.store.changes object ≡ Some we) × written.FreesBlock we first.pointer.birth group holds
-      × (store ≡ record { changes = Wrote (record { object = object; seq = x.store.seq + 1; metaslab = m; birth = first.pointer.birth; bytes = block.bytes }) ∷ x.store.changes; marks = x.store.marks; seq = x.store.seq + 1; floor = group })
-
   -- the columns, and the end
   rest : (y : State) → y.geometry ≡ x.geometry → y.store ≡ x.store → KnowsOpen rack area owns l1 table seq floor m first block y
       → LeadsBy rack area went shared s1 s3 y (Both rack area went shared s1 s2 s3 y (PutsSome first m x.geometry.g y) Carried (Ends x.store) (Replaced x.store)) (Replaced x.store)
@@ -116,65 +110,3 @@ module _ {R A S : Type 0} (rack : racks.Ghosts R) (area : areas.Ghosts A) (went 
 
           birth_at : ticket.pointer.birth ≡ first.pointer.birth
           birth_at = ap (λ (p : Pointer). p.birth) same
-
-  -- ---- with the freeing of the earlier block, or where there was none
-
-  pub wrote_first : table ticket.pointer.object ≡ None → LeadsBy rack area went shared s0 s3 x (WriteInDoes x m object block.bytes (Ok tt)) (Knows rack area owns l3 then_table (seq + 1) first.pointer.birth)
-  wrote_first none = record {
-    holds = stored.holds;
-    reached = stored.reached;
-    store = stored.store;
-    follows = stored.follows;
-    done = record {
-      birth = first.pointer.birth;
-      columns = stored.done.columns;
-      group = first.pointer.birth;
-      front = stored.holds;
-      back = [];
-      are = nothing stored.holds;
-      writes = stored.done.writes;
-      few = stored.done.few;
-      frees = subst (λ w. FreesEarlier w first.pointer.birth first.pointer.birth []) (sym before_none) (refl, refl);
-      made = stored.done.made;
-    };
-    knows = subst (λ n. Knows rack area owns l3 then_table (seq + 1) n (record stored.reached { store = stored.store })) (ap (λ (p : Pointer). p.birth) same) known.1;
-  }
-    where
-      nothing : (hs : List Hold) → hs ≡ hs ++ []
-      nothing [] = refl
-      nothing (h ∷ hs) = ap (λ l. h ∷ l) (nothing hs)
-
-      known : (write_of x.store.changes ticket.pointer.object ≡ None) × Knows rack area owns l3 then_table (seq + 1) ticket.pointer.birth (record stored.reached { store = stored.store })
-      known = subst (λ o. KnowsReplaced rack area owns l3 then_table (seq + 1) ticket.pointer.birth o (write_of x.store.changes ticket.pointer.object) (record stored.reached { store = stored.store })) none stored.knows
-
-      before_none : write_of x.store.changes object ≡ None
-      before_none = ap (write_of x.store.changes) (sym (ap (λ (p : Pointer). p.object) same ∙ object_is)) ∙ known.0
-
-  pub wrote_again : (e : Pointer) → table ticket.pointer.object ≡ Some e
-      → ((y : State) (we : Write) → KnowsEarlier rack area owns l3 then_table (seq + 1) ticket.pointer.birth e we y → LeadsBy rack area went shared s3 s4 y (λ holds store. written.FreesBlock we ticket.pointer.birth group holds × (store ≡ record y.store { floor = group })) (Knows rack area owns l4 then_table (seq + 1) group))
-      → LeadsBy rack area went shared s0 s4 x (WriteInDoes x m object block.bytes (Ok tt)) (Knows rack area owns l4 then_table (seq + 1) group)
-  wrote_again e some frees =
-      leads_as rack area went shared s0 s4 x (Both rack area went shared s0 s3 s4 x (StoresIn x m object first.pointer.birth block.bytes) (Replaced x.store) FreesDoes (Knows rack area owns l4 then_table (seq + 1) group)) (WriteInDoes x m object block.bytes (Ok tt)) (Knows rack area owns l4 then_table (seq + 1) group)
-      (λ holds store d. record {
-        birth = first.pointer.birth;
-        columns = d.first.columns;
-        group = group;
-        front = d.front;
-        back = d.back;
-        are = d.are;
-        writes = d.first.writes;
-        few = d.first.few;
-        frees = subst (λ w. FreesEarlier w first.pointer.birth group d.back) (sym d.second.1) d.second.2;
-        made = d.second.3;
-      })
-      (leads_then rack area went shared s0 s3 s4 x (StoresIn x m object first.pointer.birth block.bytes) (Replaced x.store) FreesDoes (Knows rack area owns l4 then_table (seq + 1) group) stored
-      (λ y layout perms front done replaced.
-      let k = subst (λ o. KnowsReplaced rack area owns l3 then_table (seq + 1) ticket.pointer.birth o (write_of x.store.changes ticket.pointer.object) y) some replaced in
-      leads_as rack area went shared s3 s4 y (λ holds store. written.FreesBlock k.0 ticket.pointer.birth group holds × (store ≡ record y.store { floor = group })) FreesDoes (Knows rack area owns l4 then_table (seq + 1) group)
-      (λ holds store d. (
-        k.0,
-        ap (write_of x.store.changes) (sym (ap (λ (p : Pointer). p.object) same ∙ object_is)) ∙ k.1,
-        subst (λ n. written.FreesBlock k.0 n group holds) (ap (λ (p : Pointer). p.birth) same) d.0,
-        d.1 ∙ ap (λ (s : Store). record s { floor = group }) done.made,
-      ))
-      (frees y k.0 k.2)))

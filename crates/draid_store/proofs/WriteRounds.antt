@@ -1,5 +1,5 @@
 -- A write in the metaslab that was named, behind a look at each.
-use Rattle.std.proofs.Common.{◌≡◌, ◌≤◌, ◌<◌, ◌+◌, ◌++◌, ◌∙◌, ℕ, Bool, false, List, ◌∷◌, Option, Some, None, Result, Ok, Err, arith, refl, sym, ap, subst, length}
+use Rattle.std.proofs.Common.{◌≡◌, ◌≤◌, ◌<◌, ◌+◌, ◌++◌, ◌∙◌, ℕ, Bool, false, List, [], ◌∷◌, Option, Some, None, Result, Ok, Err, arith, refl, sym, ap, subst, length}
 use Rattle.std.proofs.lemmas.List.{append_assoc}
 use Rattle.std.specs.List.{AllZip}
 use Rattle.std.specs.Prelude.{slice_get}
@@ -25,6 +25,7 @@ use Rattle.draid_shard.specs.States.{IsIn}
 use Rattle.draid_shard.specs.declared.shard.Shard.{Shard}
 use Rattle.draid_session.specs.Holds.{Hold}
 use Rattle.draid_session.specs.Looks.{LooksFrom, OnlyLooks}
+use Rattle.draid_session.specs.Points.{IsPointOf}
 use Rattle.draid_session.specs.Rooms.{IsRoomOf, LooksForRoom, longest, stripes_for}
 use Rattle.draid_session.specs.State.{State, Store}
 use Rattle.draid_session.specs.Writes as written
@@ -38,7 +39,7 @@ use Rattle.draid_pool.specs.Looking.{HasMany, LooksAtRooms, LooksDo, RoomsAre}
 use Rattle.draid_pool.specs.Threads.{HaveLayout}
 use Rattle.draid_store.specs.Putting.{Takes}
 use Rattle.draid_store.specs.Open.{KnowsReplaced}
-use Rattle.draid_store.specs.Storing.{AwaitsIn, IsAnswerTo, IsServed, StoreRefusedBy, StoreSetsTable, WriteAwaits, WriteSays, WritesBy, store_with}
+use Rattle.draid_store.specs.Storing.{AwaitsIn, HasKept, IsAnswerTo, IsServedBut, StoreRefusedBy, StoreSetsTable, StoresNew, WriteAwaits, WriteSays, WritesBy, store_with}
 use Rattle.draid_store.specs.declared.fault.StoreFault.{StoreFault}
 use Rattle.draid_store.specs.declared.fault.StoreFault.TheVariants.{Missed, Refused}
 use Rattle.draid_pool.specs.declared.room.SeenRooms.{SeenRooms}
@@ -47,6 +48,7 @@ use Rattle.draid_pool.proofs.Joining.{leads_as}
 use Rattle.draid_pool.proofs.LookHold.{only_looked}
 use Rattle.draid_pool.proofs.LookRooms.{looks_append}
 use Rattle.draid_store.proofs.Refused.{refused_memory}
+use Rattle.draid_objects.specs.Marks.{Mark}
 
 -- ---- what a write did, by the layout and by what the thread had
 
@@ -59,10 +61,11 @@ record WroteIn (g : Geometry) (t : Store) (m o : ℕ) (bytes : List ℕ) (holds 
   pub are : holds ≡ front ++ back
   pub writes : written.WritesBlock g o (t.seq + 1) bytes t.floor m birth columns front
   pub few : columns ≤ g.spec.parity
-  pub frees : written.FreesEarlier (write_of t.changes o) birth group back
+  pub marks : List Mark
+  pub leaves : written.LeavesEarlier t.marks (write_of t.changes o) birth group back marks
   pub made : new ≡ record {
     changes = Wrote (record { object = o; seq = t.seq + 1; metaslab = m; birth = birth; bytes = bytes }) ∷ t.changes;
-    marks = t.marks;
+    marks = marks;
     seq = t.seq + 1;
     floor = group;
   }
@@ -73,12 +76,13 @@ record MissedIn (g : Geometry) (t : Store) (m o : ℕ) (bytes : List ℕ) (colum
   pub over : g.spec.parity < columns
   pub made : new ≡ record { changes = t.changes; marks = t.marks; seq = t.seq + 1; floor = birth }
 
-record WaitsIn (g : Geometry) (t : Store) (m o birth : ℕ) (bytes : List ℕ) (holds : List Hold) (new : Store) : Type 0 where
+record WaitsIn (g : Geometry) (t : Store) (m o birth : ℕ) (bytes : List ℕ) (point : Option ℕ) (earlier : Pointer) (holds : List Hold) (new : Store) : Type 0 where
   pub columns : ℕ
   pub front : List Hold
   pub back : List Hold
   pub are : holds ≡ front ++ back
   pub looks : OnlyLooks back
+  pub kept : HasKept point earlier → back ≡ []
   pub writes : written.WritesBlock g o (t.seq + 1) bytes t.floor m birth columns front
   pub few : columns ≤ g.spec.parity
   pub made : new ≡ store_with t o m birth bytes
@@ -93,20 +97,22 @@ wrote_in x y m o bytes holds new s w = own_of x y (λ g p t. WroteIn g t m o byt
   are = w.are;
   writes = w.writes;
   few = w.few;
-  frees = w.frees;
+  marks = w.marks;
+  leaves = w.leaves;
   made = w.made;
 })
 
 missed_in : (x y : State) (m o : ℕ) (bytes : List ℕ) (columns : ℕ) (holds : List Hold) (new : Store) → SameLayout x y → MissesIn y m o bytes columns holds new → MissedIn x.geometry x.store m o bytes columns holds new
 missed_in x y m o bytes columns holds new s w = own_of x y (λ g p t. MissedIn g t m o bytes columns holds new) s (record { birth = w.birth; writes = w.writes; over = w.over; made = w.made })
 
-waits_in : (x y : State) (m o birth : ℕ) (bytes : List ℕ) (holds : List Hold) (new : Store) → SameLayout x y → AwaitsIn y m o birth bytes holds new → WaitsIn x.geometry x.store m o birth bytes holds new
-waits_in x y m o birth bytes holds new s w = own_of x y (λ g p t. WaitsIn g t m o birth bytes holds new) s (record {
+waits_in : (x y : State) (m o birth : ℕ) (bytes : List ℕ) (point : Option ℕ) (earlier : Pointer) (holds : List Hold) (new : Store) → SameLayout x y → AwaitsIn y m o birth bytes point earlier holds new → WaitsIn x.geometry x.store m o birth bytes point earlier holds new
+waits_in x y m o birth bytes point earlier holds new s w = own_of x y (λ g p t. WaitsIn g t m o birth bytes point earlier holds new) s (record {
   columns = w.stores.columns;
   front = w.front;
   back = w.back;
   are = w.are;
   looks = w.looks;
+  kept = w.kept;
   writes = w.stores.writes;
   few = w.stores.few;
   made = w.stores.made;
@@ -149,9 +155,9 @@ module _ (x : State) (geometry : Geometry) (layout : x.geometry ≡ geometry) (b
 
 -- ---- and the write
 
-module _ {R A S : Type 0} (rack : racks.Ghosts R) (area : areas.Ghosts A) (went : S → ℕ → Shard R A → Shard R A → S → Type 0) (shared : Bool) (owns : ℕ → Bool) (a b c : S) (last mid new : ℕ → Option (Shard R A)) (geometry : Geometry) (chosen : List Room → Option ℕ → Type 0)
+module _ {R A S : Type 0} (rack : racks.Ghosts R) (area : areas.Ghosts A) (went : S → ℕ → Shard R A → Shard R A → S → Type 0) (shared : Bool) (owns : ℕ → Bool) (a b c : S) (last mid new : ℕ → Option (Shard R A)) (geometry : Geometry) (point : Option ℕ) (chosen : List Room → Option ℕ → Type 0)
     (object m : ℕ) (block : BlockValue) (need : ℕ) (need_is : need ≡ stripes_for geometry block.bytes) (rooms : SeenRooms) (table then_table : ℕ → Option Pointer) (seq floor then_seq then_floor : ℕ) (named : chosen rooms.rooms.items (Some m)) (numbered : seq < LAST_NUMBER)
-    (x : State) (layout : x.geometry ≡ geometry) (knows : Knows rack area owns last table seq floor x) (looked : LeadsBy rack area went shared a b x (LooksDo x need geometry.props.metaslabs (Ok rooms)) (Knows rack area owns mid table seq floor)) where
+    (x : State) (layout : x.geometry ≡ geometry) (is_point : IsPointOf x.store.marks point) (knows : Knows rack area owns last table seq floor x) (looked : LeadsBy rack area went shared a b x (LooksDo x need geometry.props.metaslabs (Ok rooms)) (Knows rack area owns mid table seq floor)) where
   abbrev Looked : List Hold → Store → Type 0
   Looked = LooksDo x need geometry.props.metaslabs (Ok rooms)
 
@@ -167,27 +173,38 @@ module _ {R A S : Type 0} (rack : racks.Ghosts R) (area : areas.Ghosts A) (went 
   same_as : (y : State) (front : List Hold) → y.geometry ≡ x.geometry → y.perms ≡ x.perms → Looked front y.store → SameLayout x y
   same_as y front geometry_is perms d = record { geometry = geometry_is; perms = perms; store = d.0 }
 
+  point_on : (y : State) → y.store ≡ x.store → IsPointOf y.store.marks point
+  point_on y same = subst (λ (t : Store). IsPointOf t.marks point) (sym same) is_point
+
+  abbrev WroteBy : List Hold → Store → Type 0
+  WroteBy holds store = WroteIn x.geometry x.store m object block.bytes holds store × (store.marks ≡ x.store.marks)
+
   -- a whole write
-  whole_write : (says : (y : State) → y.geometry.g ≡ geometry.g → Known mid y → LeadsBy rack area went shared b c y (WriteInDoes y m object block.bytes (Ok tt)) Then) → LeadsBy rack area went shared a c x (WriteDoes x chosen object block.bytes (Ok tt)) Then
-  whole_write says = leads_as rack area went shared a c x (Both rack area went shared a b c x Looked (Known mid) (WroteIn x.geometry x.store m object block.bytes) Then) (WriteDoes x chosen object block.bytes (Ok tt)) Then
+  whole_write : (says : (y : State) → y.geometry.g ≡ geometry.g → IsPointOf y.store.marks point → Known mid y → LeadsBy rack area went shared b c y (λ holds store. WriteInDoes y m object block.bytes (Ok tt) holds store × (store.marks ≡ y.store.marks)) Then)
+      → LeadsBy rack area went shared a c x (λ holds store. WriteDoes x chosen object block.bytes (Ok tt) holds store × (store.marks ≡ x.store.marks)) Then
+  whole_write says = leads_as rack area went shared a c x (Both rack area went shared a b c x Looked (Known mid) WroteBy Then) (λ holds store. WriteDoes x chosen object block.bytes (Ok tt) holds store × (store.marks ≡ x.store.marks)) Then
       (λ holds store d.
-      let w = d.second in
-      record {
-        m = m;
-        birth = w.birth;
-        columns = w.columns;
-        group = w.group;
-        tried = d.front ++ w.front;
-        freed = w.back;
-        are = d.are ∙ (ap (λ hs. d.front ++ hs) w.are ∙ sym (append_assoc d.front w.front w.back));
-        tries = record { looks = d.front; written = w.front; are = refl; chooses = chooses x geometry layout block.bytes need need_is rooms chosen m d.front named d.first.1; numbered = low; writes = w.writes };
-        few = w.few;
-        frees = w.frees;
-        made = w.made;
-      })
-      (leads_then rack area went shared a b c x Looked (Known mid) (WroteIn x.geometry x.store m object block.bytes) Then looked
-      (λ y geometry_is perms front done known. leads_as rack area went shared b c y (WriteInDoes y m object block.bytes (Ok tt)) (WroteIn x.geometry x.store m object block.bytes) Then
-      (λ holds store w. wrote_in x y m object block.bytes holds store (same_as y front geometry_is perms done) w) (says y (ap (λ (g : Geometry). g.g) (geometry_is ∙ layout)) known)))
+      let w = d.second.0 in (
+        record {
+          m = m;
+          birth = w.birth;
+          columns = w.columns;
+          group = w.group;
+          tried = d.front ++ w.front;
+          freed = w.back;
+          are = d.are ∙ (ap (λ hs. d.front ++ hs) w.are ∙ sym (append_assoc d.front w.front w.back));
+          tries = record { looks = d.front; written = w.front; are = refl; chooses = chooses x geometry layout block.bytes need need_is rooms chosen m d.front named d.first.1; numbered = low; writes = w.writes };
+          few = w.few;
+          marks = w.marks;
+          leaves = w.leaves;
+          made = w.made;
+        },
+        d.second.1,
+      ))
+      (leads_then rack area went shared a b c x Looked (Known mid) WroteBy Then looked
+      (λ y geometry_is perms front done known. leads_as rack area went shared b c y (λ holds store. WriteInDoes y m object block.bytes (Ok tt) holds store × (store.marks ≡ y.store.marks)) WroteBy Then
+      (λ holds store w. (wrote_in x y m object block.bytes holds store (same_as y front geometry_is perms done) w.0, w.1 ∙ ap (λ (t : Store). t.marks) done.0))
+      (says y (ap (λ (g : Geometry). g.g) (geometry_is ∙ layout)) (point_on y done.0) known)))
 
   -- too many columns landed nowhere
   missed_write : (columns : ℕ) (says : (y : State) → y.geometry.g ≡ geometry.g → Known mid y → LeadsBy rack area went shared b c y (WriteInDoes y m object block.bytes (Err (fault.Missed columns))) Then)
@@ -209,11 +226,11 @@ module _ {R A S : Type 0} (rack : racks.Ghosts R) (area : areas.Ghosts A) (went 
   abbrev ReplacedBy : Pointer → State → Type 0
   ReplacedBy earlier = KnowsReplaced rack area owns new then_table then_seq then_floor (Some earlier) (write_of x.store.changes object)
 
-  -- the earlier block isn't freed yet
-  waiting_write : (earlier : Pointer) (says : (y : State) → y.geometry.g ≡ geometry.g → Known mid y
-      → LeadsBy rack area went shared b c y (AwaitsIn y m object then_floor block.bytes) (KnowsReplaced rack area owns new then_table then_seq then_floor (Some earlier) (write_of y.store.changes object)))
-      → LeadsBy rack area went shared a c x (WriteAwaits x chosen object block.bytes) (KnowsReplaced rack area owns new then_table then_seq then_floor (Some earlier) (write_of x.store.changes object))
-  waiting_write earlier says = leads_as rack area went shared a c x (Both rack area went shared a b c x Looked (Known mid) (WaitsIn x.geometry x.store m object then_floor block.bytes) (ReplacedBy earlier)) (WriteAwaits x chosen object block.bytes) (ReplacedBy earlier)
+  -- the earlier block isn't freed or dropped yet
+  waiting_write : (earlier : Pointer) (says : (y : State) → y.geometry.g ≡ geometry.g → IsPointOf y.store.marks point → Known mid y
+      → LeadsBy rack area went shared b c y (AwaitsIn y m object then_floor block.bytes point earlier) (KnowsReplaced rack area owns new then_table then_seq then_floor (Some earlier) (write_of y.store.changes object)))
+      → LeadsBy rack area went shared a c x (WriteAwaits x chosen object block.bytes point earlier) (KnowsReplaced rack area owns new then_table then_seq then_floor (Some earlier) (write_of x.store.changes object))
+  waiting_write earlier says = leads_as rack area went shared a c x (Both rack area went shared a b c x Looked (Known mid) (WaitsIn x.geometry x.store m object then_floor block.bytes point earlier) (ReplacedBy earlier)) (WriteAwaits x chosen object block.bytes point earlier) (ReplacedBy earlier)
       (λ holds store d.
       let w = d.second in
       record {
@@ -227,12 +244,13 @@ module _ {R A S : Type 0} (rack : racks.Ghosts R) (area : areas.Ghosts A) (went 
         few = w.few;
         made = w.made;
         looks = w.looks;
+        kept = w.kept;
       })
-      (leads_then rack area went shared a b c x Looked (Known mid) (WaitsIn x.geometry x.store m object then_floor block.bytes) (ReplacedBy earlier) looked
+      (leads_then rack area went shared a b c x Looked (Known mid) (WaitsIn x.geometry x.store m object then_floor block.bytes point earlier) (ReplacedBy earlier) looked
       (λ y geometry_is perms front done known.
-      subst (λ (t : Store). LeadsBy rack area went shared b c y (WaitsIn x.geometry x.store m object then_floor block.bytes) (KnowsReplaced rack area owns new then_table then_seq then_floor (Some earlier) (write_of t.changes object))) done.0
-      (leads_as rack area went shared b c y (AwaitsIn y m object then_floor block.bytes) (WaitsIn x.geometry x.store m object then_floor block.bytes) (KnowsReplaced rack area owns new then_table then_seq then_floor (Some earlier) (write_of y.store.changes object))
-      (λ holds store w. waits_in x y m object then_floor block.bytes holds store (same_as y front geometry_is perms done) w) (says y (ap (λ (g : Geometry). g.g) (geometry_is ∙ layout)) known))))
+      subst (λ (t : Store). LeadsBy rack area went shared b c y (WaitsIn x.geometry x.store m object then_floor block.bytes point earlier) (KnowsReplaced rack area owns new then_table then_seq then_floor (Some earlier) (write_of t.changes object))) done.0
+      (leads_as rack area went shared b c y (AwaitsIn y m object then_floor block.bytes point earlier) (WaitsIn x.geometry x.store m object then_floor block.bytes point earlier) (KnowsReplaced rack area owns new then_table then_seq then_floor (Some earlier) (write_of y.store.changes object))
+      (λ holds store w. waits_in x y m object then_floor block.bytes point earlier holds store (same_as y front geometry_is perms done) w) (says y (ap (λ (g : Geometry). g.g) (geometry_is ∙ layout)) (point_on y done.0) known))))
 
   -- no write was begun
   no_write : (says : (y : State) → Known mid y → LeadsBy rack area went shared b c y (λ holds store. (store ≡ y.store) × OnlyLooks holds) Then) → LeadsBy rack area went shared a c x (λ holds store. (store ≡ x.store) × OnlyLooks holds) Then
@@ -243,10 +261,10 @@ module _ {R A S : Type 0} (rack : racks.Ghosts R) (area : areas.Ghosts A) (went 
       (λ holds store d. (d.0 ∙ done.0, d.1)) (says y known)))
 
   abbrev Says : Option (Result (Option Pointer) StoreFault) → Type 0
-  Says = WriteSays rack area went shared owns owns mid new b c m geometry.g object table then_table seq floor then_seq then_floor block
+  Says = WriteSays rack area went shared owns owns mid new b c m geometry.g point object table then_table seq floor then_seq then_floor block
 
   abbrev By : Option (Result (Option Pointer) WriteFault) → Type 0
-  By = WritesBy rack area went shared owns new a c chosen object block.bytes then_table then_seq then_floor x
+  By = WritesBy rack area went shared owns new a c point chosen object block.bytes then_table then_seq then_floor x
 
   as_answer : (answer said : Option (Result (Option Pointer) WriteFault)) → answer ≡ said → By said → By answer
   as_answer answer said is by = subst By (sym is) by
@@ -286,6 +304,17 @@ sets_answer object bytes table now (Err (Refused (begin.Entries held))) answer i
 sets_answer object bytes table now (Err (Refused (begin.NoRoom largest))) answer is sets = subst (StoreSetsTable object bytes table now) (sym is) sets
 sets_answer object bytes table now (Err (Refused (begin.Worn events))) answer is sets = subst (StoreSetsTable object bytes table now) (sym is) sets
 
+pub new_answer : {R A : Type 0} (last : ℕ → Option (Shard R A)) (object seq : ℕ) (table now : ℕ → Option Pointer) (r : Result (Option Pointer) StoreFault) (answer : Option (Result (Option Pointer) WriteFault)) → IsAnswerTo r answer → StoresNew last object seq table now (Some r)
+    → StoresNew last object seq table now answer
+new_answer last object seq table now (Ok None) answer is new = subst (StoresNew last object seq table now) (sym is) new
+new_answer last object seq table now (Ok (Some earlier)) answer is new = subst (StoresNew last object seq table now) (sym is) new
+new_answer last object seq table now (Err (Missed missed)) answer is new = subst (StoresNew last object seq table now) (sym is) tt
+new_answer last object seq table now (Err (Refused begin.NoMemory)) answer is new = subst (StoresNew last object seq table now) (sym is) tt
+new_answer last object seq table now (Err (Refused (begin.Disabled pass))) answer is new = subst (StoresNew last object seq table now) (sym is) tt
+new_answer last object seq table now (Err (Refused (begin.Entries held))) answer is new = subst (StoresNew last object seq table now) (sym is) tt
+new_answer last object seq table now (Err (Refused (begin.NoRoom largest))) answer is new = subst (StoresNew last object seq table now) (sym is) tt
+new_answer last object seq table now (Err (Refused (begin.Worn events))) answer is new = subst (StoresNew last object seq table now) (sym is) tt
+
 pub earlier_answer : (r : Result (Option Pointer) StoreFault) (answer : Option (Result (Option Pointer) WriteFault)) (p : Pointer) → IsAnswerTo r answer → answer ≡ Some (Ok (Some p)) → r ≡ Ok (Some p)
 earlier_answer (Ok earlier) answer p is same = (let both : ◌≡◌ {A = Option (Result (Option Pointer) WriteFault)} (Some (Ok earlier)) (Some (Ok (Some p))) = sym is ∙ same in cc)
 earlier_answer (Err (Missed missed)) answer p is same = absurd (cc)
@@ -295,15 +324,15 @@ earlier_answer (Err (Refused (begin.Entries held))) answer p is same = absurd (c
 earlier_answer (Err (Refused (begin.NoRoom largest))) answer p is same = absurd (cc)
 earlier_answer (Err (Refused (begin.Worn events))) answer p is same = absurd (cc)
 
-pub served_answer : (r : Result (Option Pointer) StoreFault) (answer : Option (Result (Option Pointer) WriteFault)) → IsAnswerTo r answer → IsServed (Some r) → ((why : BeginFault) → r ≡ Err (Refused why) → why ≡ begin.NoMemory) → IsServed answer
-served_answer (Ok None) answer is served memory = subst IsServed (sym is) tt
-served_answer (Ok (Some earlier)) answer is served memory = absurd served
-served_answer (Err (Missed missed)) answer is served memory = subst IsServed (sym is) tt
-served_answer (Err (Refused begin.NoMemory)) answer is served memory = subst IsServed (sym is) tt
-served_answer (Err (Refused (begin.Disabled pass))) answer is served memory = absurd (let e = memory (begin.Disabled pass) refl in cc)
-served_answer (Err (Refused (begin.Entries held))) answer is served memory = absurd (let e = memory (begin.Entries held) refl in cc)
-served_answer (Err (Refused (begin.NoRoom largest))) answer is served memory = absurd (let e = memory (begin.NoRoom largest) refl in cc)
-served_answer (Err (Refused (begin.Worn events))) answer is served memory = absurd (let e = memory (begin.Worn events) refl in cc)
+pub served_answer : (point : Option ℕ) (r : Result (Option Pointer) StoreFault) (answer : Option (Result (Option Pointer) WriteFault)) → IsAnswerTo r answer → IsServedBut point (Some r) → ((why : BeginFault) → r ≡ Err (Refused why) → why ≡ begin.NoMemory) → IsServedBut point answer
+served_answer point (Ok None) answer is served memory = subst (IsServedBut point) (sym is) tt
+served_answer point (Ok (Some earlier)) answer is served memory = subst (IsServedBut point) (sym is) served
+served_answer point (Err (Missed missed)) answer is served memory = subst (IsServedBut point) (sym is) tt
+served_answer point (Err (Refused begin.NoMemory)) answer is served memory = subst (IsServedBut point) (sym is) tt
+served_answer point (Err (Refused (begin.Disabled pass))) answer is served memory = absurd (let e = memory (begin.Disabled pass) refl in cc)
+served_answer point (Err (Refused (begin.Entries held))) answer is served memory = absurd (let e = memory (begin.Entries held) refl in cc)
+served_answer point (Err (Refused (begin.NoRoom largest))) answer is served memory = absurd (let e = memory (begin.NoRoom largest) refl in cc)
+served_answer point (Err (Refused (begin.Worn events))) answer is served memory = absurd (let e = memory (begin.Worn events) refl in cc)
 
 -- the metaslab that was named has room yet, where nobody comes between: so want of memory alone is why no write is begun
 pub only_memory : {R A : Type 0} (rack : racks.Ghosts R) (area : areas.Ghosts A) (shared : Bool) (owns : ℕ → Bool) (mid : ℕ → Option (Shard R A)) (geometry : Geometry) (block : BlockValue) (need m : ℕ) (rooms : List Room) → shared ≡ false → 1 ≤ need → need ≡ stripes_for geometry block.bytes

@@ -1,5 +1,5 @@
 -- What the blocks store as a block comes, or as a write is given up.
-use Rattle.std.proofs.Common.{◌≡◌, ◌==◌, ◌≤◌, ◌+◌, ◌⊎◌, ◌∙◌, inl, inr, ℕ, Bool, true, false, [], ◌∷◌, Option, Some, arith, refl, sym, ap, subst}
+use Rattle.std.proofs.Common.{◌≡◌, ◌==◌, ◌≤◌, ◌+◌, ◌⊎◌, ◌∙◌, inl, inr, ℕ, Bool, true, false, ◌∷◌, Option, Some, arith, refl, sym, ap, subst}
 use Rattle.std.proofs.lemmas.Bool.{cases_eq}
 use Rattle.sha2.specs.Sha256.{sha256}
 use Rattle.draid_spec.specs.declared.layout.Geometry.{Geometry}
@@ -20,10 +20,11 @@ use Rattle.draid_session.specs.State.{Store}
 use Rattle.draid_pool.specs.Objects.{HasPieces, HoldsObjects, IsLastAt}
 use Rattle.draid_store.specs.Shards.{SamePieces}
 use Rattle.draid_pool.proofs.Entering.{OnlyLast}
+use Rattle.draid_objects.specs.Marks.{check_by, is_dropped}
+use Rattle.draid_objects.specs.Stores.{IsBehindChecks}
 use Rattle.std.proofs.lemmas.Bool.Decides.{nat_tests}
 use Rattle.draid_pool.proofs.Moved.{turn, turn_here, turn_other}
 use Rattle.draid_pool.proofs.Owning.{pieces_on}
-use Rattle.draid_pool.proofs.Unmarked.{all_behind}
 
 differs : (object o : ℕ) → (o == object) ≡ false → (object == o) ≡ false
 differs object o other = grind (arith, nat_tests, other)
@@ -57,10 +58,10 @@ module _ (geometry : Geometry) (committed : ℕ) (store : Store) (old : Blocks) 
   pub missed_holds : (group : ℕ) → store.floor ≤ group → HoldsObjects geometry committed (record { changes = store.changes; marks = store.marks; seq = store.seq + 1; floor = group }) old (turn m now pieces)
   missed_holds group later = record {
     stores = holds.stores;
-    unmarked = holds.unmarked;
     floors = λ o. floor_up store.changes old o store.floor group (holds.floors o) later;
     settled = holds.settled;
     numbered = λ n k h there. (let low = holds.numbered n k h there in omega (arith, low));
+    positive = holds.positive;
     bytes = was;
   }
 
@@ -73,12 +74,11 @@ module _ (geometry : Geometry) (committed : ℕ) (store : Store) (old : Blocks) 
     some_is : {A : Type 0} (o : Option A) (x y : A) → o ≡ Some x → o ≡ Some y → x ≡ y
     some_is o x y a b = (let e = sym a ∙ b in cc)
 
-    pub written_holds : HoldsObjects geometry committed (record { changes = Wrote w ∷ store.changes; marks = store.marks; seq = store.seq + 1; floor = w.birth }) new (turn m now pieces)
-    written_holds = record {
-      stores = written sha256 committed store.changes [] old new w h holds.stores (floor_up store.changes old w.object store.floor w.birth (holds.floors w.object) later)
-          (λ n k i there block object. (let low = holds.numbered n k i there in omega (arith, low, seq_is))) live of (all_behind committed w.birth) sets;
+    pub written_holds : IsBehindChecks committed store.marks w.birth → HoldsObjects geometry committed (record { changes = Wrote w ∷ store.changes; marks = store.marks; seq = store.seq + 1; floor = w.birth }) new (turn m now pieces)
+    written_holds behind = record {
+      stores = written sha256 committed store.changes store.marks old new w h holds.stores (floor_up store.changes old w.object store.floor w.birth (holds.floors w.object) later)
+          (λ n k i there block object. (let low = holds.numbered n k i there in omega (arith, low, seq_is))) live of behind sets;
       floors = λ o. written_floor store.changes old new w h o w.birth live sets (λ is. omega arith) (floor_up store.changes old o store.floor w.birth (holds.floors o) later);
-      unmarked = holds.unmarked;
       settled = λ n k i there. elim (set_cases old new w.metaslab (changes.key_of w) (Some h) sets n k) [
         | inl z ↦ subst (λ (x : Held). is_block x.stage ≡ true) (some_is (new n k) h i z.2 there) (ap is_block live)
         | inr z ↦ holds.settled n k i (sym z.0 ∙ there)
@@ -87,6 +87,7 @@ module _ (geometry : Geometry) (committed : ℕ) (store : Store) (old : Blocks) 
         | inl z ↦ (let seqs = ap (λ (j : Key). j.seq) z.1 in omega (arith, seqs, seq_is))
         | inr z ↦ (let low = holds.numbered n k i (sym z.0 ∙ there) in omega (arith, low))
       ];
+      positive = holds.positive;
       bytes = λ n k i v there by. elim (set_cases old new w.metaslab (changes.key_of w) (Some h) sets n k) [
         | inl z ↦
             let own : w ≡ v = some_is (write_by (Wrote w ∷ store.changes) k) w v (by_own w store.changes k (subst (λ j. key_eq (changes.key_of w) j ≡ true) z.1 (key_refl (changes.key_of w)))) by in
@@ -99,11 +100,11 @@ module _ (geometry : Geometry) (committed : ℕ) (store : Store) (old : Blocks) 
     }
 
     -- the last writes
-    pub written_only : OnlyLast old store.changes → (n : ℕ) (k : Key) (i : Held) → new n k ≡ Some i → i.stage ≡ stage.Live
+    pub written_only : OnlyLast (check_by store.marks) old store.changes → (n : ℕ) (k : Key) (i : Held) → new n k ≡ Some i → i.stage ≡ stage.Live → is_dropped (check_by store.marks) k ≡ false
         → IsLastAt n k (write_of (Wrote w ∷ store.changes) k.object) ⊎ IsLastAt n k (write_of store.changes object)
-    written_only only n k i there is_live = elim (set_cases old new w.metaslab (changes.key_of w) (Some h) sets n k) [
+    written_only only n k i there is_live counts = elim (set_cases old new w.metaslab (changes.key_of w) (Some h) sets n k) [
       | inl z ↦ inl (subst (IsLastAt n k) (sym (changes_it (Wrote w) store.changes k.object (equal w.object k.object (ap (λ (j : Key). j.object) z.1)))) (z.0, z.1))
-      | inr z ↦ other (w.object == k.object) refl (only n k i (sym z.0 ∙ there) is_live)
+      | inr z ↦ other (w.object == k.object) refl (only n k i (sym z.0 ∙ there) is_live counts)
     ]
       where
         other : (b : Bool) → (w.object == k.object) ≡ b → IsLastAt n k (write_of store.changes k.object)

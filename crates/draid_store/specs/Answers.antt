@@ -25,6 +25,7 @@ use Rattle.draid_store.specs.declared.fault.DamageFault.{DamageFault}
 use Rattle.draid_store.specs.declared.fault.DamageFault.TheVariants as damaged
 use Rattle.draid_store.specs.declared.fault.FreeFault.{FreeFault}
 use Rattle.draid_store.specs.declared.fault.SumFault.{SumFault}
+use Rattle.draid_objects.specs.Marks.{Mark}
 
 -- a write, where the chooser may name these metaslabs
 abbrev pub WriteDoes : State → (List Room → Option ℕ → Type 0) → ℕ → List ℕ → Result Unit WriteFault → List Hold → Store → Type 0
@@ -56,7 +57,7 @@ DamageDoes x leaf sector (Err damaged.NoMemory) holds new = (new ≡ x.store) ×
 
 -- ---- parts of calls
 
--- a block of these bytes was written in metaslab m, and then the object's earlier one was freed
+-- a block of these bytes was written in metaslab m, and then the object's earlier one was freed or dropped
 pub record WritesIn (x : State) (m o : ℕ) (bytes : List ℕ) (holds : List Hold) (new : Store) : Type 0 where
   pub birth : ℕ
   pub columns : ℕ
@@ -66,10 +67,11 @@ pub record WritesIn (x : State) (m o : ℕ) (bytes : List ℕ) (holds : List Hol
   pub are : holds ≡ front ++ back
   pub writes : written.WritesBlock x.geometry o (x.store.seq + 1) bytes x.store.floor m birth columns front
   pub few : columns ≤ x.geometry.spec.parity
-  pub frees : written.FreesEarlier (write_of x.store.changes o) birth group back
+  pub marks : List Mark
+  pub leaves : written.LeavesEarlier x.store.marks (write_of x.store.changes o) birth group back marks
   pub made : new ≡ record {
     changes = Wrote (record { object = o; seq = x.store.seq + 1; metaslab = m; birth = birth; bytes = bytes }) ∷ x.store.changes;
-    marks = x.store.marks;
+    marks = marks;
     seq = x.store.seq + 1;
     floor = group;
   }

@@ -12,9 +12,10 @@ use Rattle.draid_objects.specs.Changes.{Write, write_of}
 use Rattle.draid_shard.specs.Columns.{ArePieces}
 use Rattle.draid_shard.specs.declared.shard.Shard.{Shard}
 use Rattle.draid_session.specs.State.{State}
-use Rattle.draid_pool.specs.Threads.{IsPointerAt, Knows, KnowsBut, all_of, but}
+use Rattle.draid_pool.specs.Threads.{Bounds, IsPointerAt, Knows, KnowsBut, all_of, but, own_store}
+use Rattle.draid_objects.specs.Stores.{IsBehindChecks}
 
--- A write is under way in this metaslab: its ticket carries the block there, as it was left, and has the next number. The pieces of its columns so far are there.
+-- A write is under way in this metaslab: its ticket carries the block there, as it was left, has the next number, and was born behind each checkpoint. The pieces of its columns so far are there.
 pub record KnowsOpen {R A : Type 0} (rack : racks.Ghosts R) (area : areas.Ghosts A) (owns : ℕ → Bool) (last : ℕ → Option (Shard R A)) (table : ℕ → Option Pointer) (number group m : ℕ) (ticket : Ticket) (block : BlockValue) (x : State) : Type 0 where
   pub pieces : ℕ → Pieces
   pub but_it : KnowsBut rack area owns (but m (key_of ticket.pointer) (all_of owns)) (but m (key_of ticket.pointer) (all_of owns)) last table number group pieces x
@@ -23,6 +24,7 @@ pub record KnowsOpen {R A : Type 0} (rack : racks.Ghosts R) (area : areas.Ghosts
   pub at : ticket.pointer.metaslab ≡ m
   pub born : group ≤ ticket.pointer.birth
   pub low : ticket.pointer.birth ≤ LAST_NUMBER
+  pub behind : (c : ℕ) → Bounds x c → IsBehindChecks c (own_store owns x.store).marks ticket.pointer.birth
   pub rows : ArePieces x.geometry.props.sector ticket.next ticket.pointer.stripes block.columns (key_of ticket.pointer) (pieces m)
 
 -- A write ended, and the block that its object had before isn't freed yet.

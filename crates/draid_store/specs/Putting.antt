@@ -112,6 +112,7 @@ module _ {R A S : Type 0} (rack : racks.Ghosts R) (area : areas.Ghosts A) (went 
     pub seq_is : ticket.pointer.seq ≡ seq + 1
     pub at : ticket.pointer.metaslab ≡ m
     pub low : ticket.pointer.birth ≤ LAST_NUMBER
+    pub late : (shard : Shard R A) → last m ≡ Some shard → shard.open_group ≤ ticket.pointer.birth
     pub step : (table : ℕ → Option Pointer) (x : State) → Knows rack area owns last table seq floor x
         → LeadsBy rack area went shared a b x (λ holds store. (store ≡ x.store) × BeginsIn x.geometry m floor ticket.pointer block.bytes holds) (KnowsOpen rack area now_owns now table seq floor m ticket block)
 

@@ -1,4 +1,4 @@
-ghost use Rattle.std.specs.Prelude.{◌≡◌, ◌≤◌, ◌+◌, ℕ, Option, None, Some, false, max, nat_eq, true};
+ghost use Rattle.std.specs.Prelude.{◌≡◌, ◌≤◌, ◌+◌, ⊤, ℕ, Ok, Option, None, Some, false, max, nat_eq, true};
 ghost use Rattle.std.specs.HashMap.{get};
 ghost use Rattle.draid_names.specs.declared.numbers.TheConstants.{LAST_NUMBER};
 ghost use Rattle.draid_machine.specs.declared.names.Stage.TheVariants.{Freed};
@@ -16,7 +16,10 @@ ghost use Rattle.draid_pool.specs.Shards.{FreesIn, Goes};
 ghost use Rattle.draid_store.specs.Answers.{FreeDoes};
 ghost use Rattle.draid_names.specs.declared.pointer.Pointer.{Pointer};
 ghost use Rattle.draid_objects.specs.Changes.{Write};
-ghost use Rattle.draid_store.specs.Freeing.{EarlierSays, EarlierWhole, IsApart};
+ghost use Rattle.draid_store.specs.Freeing.{DropsEarlier, EarlierSays, EarlierWhole, HasLoose, IsApart, IsWholeBeside, KeptIs, RepresentsBut};
+ghost use Rattle.draid_session.specs.Points.{KeepsBirth};
+ghost use Rattle.draid_checkpoint.specs.Check.{holds_birth};
+ghost use Rattle.draid_uber.specs.Uber.{point_of};
 ghost use Rattle.draid_store.specs.Open.{KnowsEarlier};
 ghost use Rattle.draid_store.specs.Frees.{FreesShard, MayFreeIn, TriesFree};
 ghost use Rattle.draid_pool.specs.Carries.{CarriesOut};
@@ -114,8 +117,10 @@ pub fn free_object<R: Rack, A: Area, M: Metaslabs<R, A>>(
     ensures owns { M.owns metaslabs.new ≡ M.owns metaslabs.old }
     ensures whole { IsWholeBy R.Rack (M.owns metaslabs.new) (M.last metaslabs.new) (λ o. get nat_eq own.new.objects o) own.new.seq own.new.floor }
     ensures stay { AllStay (M.owns metaslabs.old) (M.last metaslabs.old) (M.last metaslabs.new) }
+    ensures number { own.new.seq ≡ own.old.seq }
     ensures takes { TriesTake object (λ o. get nat_eq own.old.objects o) (λ o. get nat_eq own.new.objects o) result }
-    ensures step { (x : State) → Knows R.Rack A.Area (M.owns metaslabs.old) (M.last metaslabs.old) (λ o. get nat_eq own.old.objects o) own.old.seq own.old.floor x
+    // Where the checkpoint keeps its block it is to be dropped in place of this.
+    ensures step { (x : State) → HasLoose x.store object → Knows R.Rack A.Area (M.owns metaslabs.old) (M.last metaslabs.old) (λ o. get nat_eq own.old.objects o) own.old.seq own.old.floor x
         → CarriesBy R.Rack A.Area M.went M.shared (M.owns metaslabs.new) (M.last metaslabs.new) (λ o. get nat_eq own.new.objects o) own.new.seq own.new.floor metaslabs.old metaslabs.new x (TriesFree x object result) }
     // Who alone closes groups never has to try again.
     ensures served { M.owns metaslabs.old groups_number ≡ true → result ≡ None → ⊥ }
@@ -155,7 +160,8 @@ pub fn free_earlier<R: Rack, A: Area, M: Metaslabs<R, A>>(
         → EarlierWhole R.Rack (M.owns metaslabs.old) (M.last metaslabs.new) table seq floor result }
     // Where it is to be tried again the block is live yet.
     ensures has { result ≡ None → HasPointer (M.last metaslabs.new) R.Rack (M.owns metaslabs.old) pointer.object pointer }
-    ensures says { (table : ℕ → Option Pointer) (seq : ℕ) (x : State) (we : Write) → KnowsEarlier R.Rack A.Area (M.owns metaslabs.old) (M.last metaslabs.old) table seq floor pointer we x
+    // Where the checkpoint keeps it, it is to be dropped in place of this.
+    ensures says { (table : ℕ → Option Pointer) (seq : ℕ) (x : State) (we : Write) → (KeepsBirth x.store.marks we.birth → ⊥) → KnowsEarlier R.Rack A.Area (M.owns metaslabs.old) (M.last metaslabs.old) table seq floor pointer we x
         → EarlierSays R.Rack A.Area M.went M.shared (M.owns metaslabs.old) (M.owns metaslabs.new) (M.last metaslabs.old) (M.last metaslabs.new) metaslabs.old metaslabs.new pointer table table seq floor x we result }
     // Who alone closes groups never has to try again.
     ensures served { (table : ℕ → Option Pointer) (seq : ℕ) → IsWholeBy R.Rack (M.owns metaslabs.old) (M.last metaslabs.old) table seq floor
@@ -172,8 +178,88 @@ pub fn free_earlier<R: Rack, A: Area, M: Metaslabs<R, A>>(
     op.out
 }
 
+/// The group that is open in a metaslab, or the floor where that is the next one: a block that the checkpoint keeps is
+/// dropped in it.
+#[derive(Drop)]
+pub struct DropOp {
+    pub floor: u64,
+    pub out: u64,
+}
+
+impl<R: Rack, A: Area> Act<Shard<R, A>> for DropOp {
+    ghost use Rattle.std.specs.Prelude.{None, max};
+    ghost use Rattle.draid_shard.specs.Fits.{Valid};
+
+    ghost needs = { λ _ s. Valid R.Rack s };
+
+    ghost relates = { λ o s o' s'. (o'.out ≡ max s.open_group o.floor) × (s' ≡ s) };
+
+    ghost concerns = { λ _. None };
+
+    fn concerned(&self) -> Option<u64> {
+        None
+    }
+
+    fn act(&mut self, shard: &mut Shard<R, A>) {
+        self.out = shard.open_group.max(self.floor);
+    }
+}
+
+/// Drops a block that an object had to the checkpoint, which keeps it, in the group in which it would be freed.
+pub(crate) fn drop_earlier<R: Rack, A: Area>(pool: &mut Pool<R, A>, pointer: Pointer)
+    requires whole { IsWholeBeside R.Rack A.Area pool.old pointer }
+    requires kept { holds_birth (point_of pool.old.uber).group pointer.birth ≡ true }
+    ensures whole { IsWhole R.Rack A.Area pool.new }
+    ensures same { (object : ℕ) → get nat_eq pool.new.own.objects object ≡ get nat_eq pool.old.own.objects object }
+    ensures step { (x : State) (we : Write) → RepresentsBut R.Rack A.Area pool.old pointer we x
+        → CarriesOut R.Rack A.Area pool.new x (DropsEarlier x we x.store.floor) }
+{
+    let op = pool.metaslabs.hold(
+        pointer.metaslab,
+        DropOp {
+            floor: pool.own.floor,
+            out: 0,
+        },
+    );
+    pool.uber.drop_block(pointer.object, pointer.seq, op.out);
+    pool.own.floor = op.out;
+}
+
+/// Drops the block of an object to the checkpoint, which keeps it, in the group in which it would be freed. The object has
+/// no bytes then.
+fn drop_object<R: Rack, A: Area>(pool: &mut Pool<R, A>, object: u64, pointer: Pointer)
+    requires whole { IsWhole R.Rack A.Area pool.old }
+    requires has { get nat_eq pool.old.own.objects object ≡ Some pointer }
+    requires kept { holds_birth (point_of pool.old.uber).group pointer.birth ≡ true }
+    ensures whole { IsWhole R.Rack A.Area pool.new }
+    ensures frees { FreeTakes object pool.old pool.new (Ok tt) }
+    ensures step { (x : State) → Represents R.Rack A.Area pool.old x
+        → CarriesOut R.Rack A.Area pool.new x (FreeDoes x object (Ok tt)) }
+{
+    let op = pool.metaslabs.hold(
+        pointer.metaslab,
+        DropOp {
+            floor: pool.own.floor,
+            out: 0,
+        },
+    );
+    pool.uber.drop_block(pointer.object, pointer.seq, op.out);
+    pool.own.floor = op.out;
+    pool.own.objects.remove(&object);
+}
+
+/// The pointer of an object whose block the checkpoint keeps.
+fn kept_pointer<R: Rack, A: Area>(pool: &Pool<R, A>, object: u64) -> Option<Pointer>
+    ensures { KeptIs (point_of pool.now.uber).group (get nat_eq pool.now.own.objects object) result }
+{
+    match pool.own.objects.get(&object) {
+        Some(found) if pool.uber.holds(found.birth) => Some(*found),
+        _ => None,
+    }
+}
+
 /// Frees an object, which has no bytes then. Their block keeps its stripes until its group is committed, and is still
-/// counted in its metaslab.
+/// counted in its metaslab. A block that the checkpoint keeps is dropped to it, and stays.
 pub fn free<R: Rack, A: Area>(pool: &mut Pool<R, A>, object: u64) -> Result<(), FreeFault>
     requires whole { IsWhole R.Rack A.Area pool.old }
     ensures whole { IsWhole R.Rack A.Area pool.new }
@@ -181,6 +267,10 @@ pub fn free<R: Rack, A: Area>(pool: &mut Pool<R, A>, object: u64) -> Result<(), 
     ensures step { (x : State) → Represents R.Rack A.Area pool.old x
         → CarriesOut R.Rack A.Area pool.new x (FreeDoes x object result) }
 {
+    if let Some(pointer) = kept_pointer(pool, object) {
+        drop_object(pool, object, pointer);
+        return Ok(());
+    }
     match free_object(&mut pool.metaslabs, &mut pool.own, object) {
         Some(result) => result,
         None => unreachable!(),

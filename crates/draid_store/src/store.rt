@@ -1,11 +1,11 @@
-ghost use Rattle.std.specs.Prelude.{◌≡◌, ◌+◌, ◌<◌, None, Ok, Some, nat_eq, true};
+ghost use Rattle.std.specs.Prelude.{◌≡◌, ◌+◌, ◌<◌, ◌≤◌, None, Ok, Some, nat_eq, true};
 ghost use Rattle.std.specs.HashMap.{get, spare};
 ghost use Rattle.draid_names.specs.declared.numbers.TheConstants.{NUMBERS, OBJECTS};
 ghost use Rattle.draid_names.specs.declared.pointer.Pointer.{Pointer};
 ghost use Rattle.draid_pool.specs.Drifts.{groups_number};
 ghost use Rattle.draid_pool.specs.Threads.{AllStay, IsWholeBy};
 ghost use Rattle.draid_store.specs.Putting.{Takes};
-ghost use Rattle.draid_store.specs.Storing.{ComesBack, StoreRefusedBy, StoreSays, StoreSetsTable};
+ghost use Rattle.draid_store.specs.Storing.{ComesBack, StoreRefusedBy, StoreSays, StoreSetsTable, StoresNew};
 
 use crate::beginning::begin_write;
 use crate::fault::StoreFault;
@@ -41,6 +41,9 @@ pub fn store_block<R: Rack, A: Area, M: Metaslabs<R, A>>(
     ensures whole { IsWholeBy R.Rack (M.owns metaslabs.old) (M.last metaslabs.new) (λ o. get nat_eq own.new.objects o) own.new.seq own.new.floor }
     ensures sets { StoreSetsTable object block.now.bytes (λ o. get nat_eq own.old.objects o) (λ o. get nat_eq own.new.objects o) result }
     ensures earlier { (p : Pointer) → result ≡ Some (Ok (Some p)) → ComesBack R.Rack (M.owns metaslabs.old) (M.last metaslabs.new) (λ o. get nat_eq own.new.objects o) object p }
+    // Where a block was stored the object has a new pointer, and the one that comes back was its own.
+    ensures new { StoresNew (M.last metaslabs.old) object own.old.seq (λ o. get nat_eq own.old.objects o) (λ o. get nat_eq own.new.objects o) result }
+    ensures later { own.old.seq ≤ own.new.seq }
     ensures says { StoreSays R.Rack A.Area M.went M.shared (M.owns metaslabs.old) (M.owns metaslabs.new) (M.last metaslabs.old) (M.last metaslabs.new) metaslabs.old metaslabs.new metaslab columns object
         (λ o. get nat_eq own.old.objects o) (λ o. get nat_eq own.new.objects o) own.old.seq own.old.floor own.new.seq own.new.floor block.now result }
     ensures refused { StoreRefusedBy R.Rack A.Area M.shared (M.owns metaslabs.old) (M.last metaslabs.old) metaslab block.now result }

@@ -1,4 +1,4 @@
-use Rattle.std.proofs.Common.{◌/◌, refl}
+use Rattle.std.proofs.Common.{◌/◌, refl, arith}
 use Rattle.draid_store.proofs.DamageSteps.{damage_done, damage_none, damage_shard, sector_below}
 use Rattle.draid_pool.proofs.Lifted.{sets_shard, with_shard}
 use Rattle.draid_pool.proofs.Wholes.{Replaces, whole_kept, whole_valid}
@@ -34,7 +34,7 @@ returns g c =
     let e = c.damage_sector.ensures in
     let new = with_shard old k after in
     let r : Replaces g.R.Rack g.A.Area k old new before after
-    = record { there = there; sets = refl; geometry = refl; uber = refl; valid = e.valid; part = e.part; committed = e.keeps.groups.committed; slots = e.slots } in
+    = record { there = there; sets = refl; geometry = refl; uber = refl; valid = e.valid; part = e.part; committed = e.keeps.groups.committed; opens = (let same = e.keeps.groups.open_group_is in omega (arith, same)); slots = e.slots } in
     let set = sets_shard g.R.Rack g.A.Area old k before after there in
     record {
       whole = whole_kept g.R.Rack g.A.Area k old new before after c.requires.whole r e.keeps refl refl (λ q. refl);

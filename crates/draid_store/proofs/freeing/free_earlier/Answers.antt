@@ -40,13 +40,13 @@ returns-clause-served g c table seq whole own none =
     h.shard h.before h.after h.there h.drifts h.keeps (free_groups g.R.Rack g.A.Area h.before h.after c.args.pointer c.args.floor c.hold-op.result.out h.related) h.is c.hold-op.result.out h.related own none
 
 pub returns-clause-says : goal.returns-clause-says
-returns-clause-says g c table seq x we known =
+returns-clause-says g c table seq x we loose known =
     let h = c.hold-op.ensures.held in
     let owns = g.M.Metaslabs.owns c.args.metaslabs.now in
     let last = g.M.Metaslabs.last c.args.metaslabs.now in
     let new = g.M.Metaslabs.last c.hold-op.new.self in
     subst (λ o. EarlierSays g.R.Rack g.A.Area g.M.Metaslabs.went g.M.Metaslabs.shared owns o last new c.args.metaslabs.now c.hold-op.new.self c.args.pointer table table seq c.args.floor x we c.hold-op.result.out) (sym c.hold-op.ensures.owns)
-    (earlier_says g.R.Rack g.A.Area g.M.Metaslabs.went g.M.Metaslabs.shared owns c.args.metaslabs.now c.hold-op.new.self last new c.args.pointer h.shard h.before h.after h.there h.drifts h.is h.went table seq c.args.floor x we known c.hold-op.result.out h.related)
+    (earlier_says g.R.Rack g.A.Area g.M.Metaslabs.went g.M.Metaslabs.shared owns c.args.metaslabs.now c.hold-op.new.self last new c.args.pointer h.shard h.before h.after h.there h.drifts h.is h.went table seq c.args.floor x we known loose c.hold-op.result.out h.related)
 
 pub returns-clause-has : goal.returns-clause-has
 returns-clause-has g c none =

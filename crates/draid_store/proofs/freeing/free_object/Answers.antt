@@ -21,7 +21,7 @@ pub returns-in_default-clause-takes : goal.returns-in_default-clause-takes
 returns-in_default-clause-takes g c = (sym c.get.ensures.value ∙ ap option_copied c.in_default.is, λ other. refl)
 
 pub returns-in_default-clause-step : goal.returns-in_default-clause-step
-returns-in_default-clause-step g c x knows =
+returns-in_default-clause-step g c x loose knows =
     not_there g.R.Rack g.A.Area g.M.Metaslabs.went g.M.Metaslabs.shared (g.M.Metaslabs.owns c.args.metaslabs.now) c.args.metaslabs.now (g.M.Metaslabs.last c.args.metaslabs.now) c.args.object (λ o. get nat_eq c.args.own.now.objects o)
     c.args.own.now.seq c.args.own.now.floor c.requires.own (sym c.get.ensures.value ∙ ap option_copied c.in_default.is) x knows
 
@@ -77,7 +77,7 @@ returns-in_err-group-clause-served g c own none =
     (did_early g.R.Rack g.A.Area h.before h.after p c.args.own.now.floor c.hold-op.result.out h.related c.in_err-group.was)
 
 pub returns-in_err-group-clause-step : goal.returns-in_err-group-clause-step
-returns-in_err-group-clause-step g c x knows =
+returns-in_err-group-clause-step g c x loose knows =
     let p = c.in-Some.found.now in
     let h = c.hold-op.ensures.held in
     let last = g.M.Metaslabs.last c.args.metaslabs.now in
@@ -120,7 +120,7 @@ pub returns-clause-takes : goal.returns-clause-takes
 returns-clause-takes g c = (c.in-Some.found.now, sym c.get.ensures.value ∙ ap option_copied c.in-Some.is, λ other. c.remove.ensures.updates.0 other)
 
 pub returns-clause-step : goal.returns-clause-step
-returns-clause-step g c x knows =
+returns-clause-step g c x loose knows =
     let p = c.in-Some.found.now in
     let h = c.hold-op.ensures.held in
     let last = g.M.Metaslabs.last c.args.metaslabs.now in
@@ -132,5 +132,5 @@ returns-clause-step g c x knows =
     let has = c.requires.whole.pointers c.args.object p at in
     subst (λ o. CarriesBy g.R.Rack g.A.Area g.M.Metaslabs.went g.M.Metaslabs.shared o new after c.args.own.now.seq c.in_ok-group.group c.args.metaslabs.now c.hold-op.new.self x (TriesFree x c.args.object (Some (Ok tt)))) (sym c.hold-op.ensures.owns)
     (free_step g.R.Rack g.A.Area g.M.Metaslabs.went g.M.Metaslabs.shared owns c.args.metaslabs.now c.hold-op.new.self last new c.args.object p table c.args.own.now.seq c.args.own.now.floor h.shard h.before h.after h.there h.drifts
-    (subst (λ n. KeepsTo g.R.Rack g.A.Area h.before h.after (Some n)) has.object_is h.keeps) h.is h.went c.requires.own at x knows after c.in_ok-group.group
+    (subst (λ n. KeepsTo g.R.Rack g.A.Area h.before h.after (Some n)) has.object_is h.keeps) h.is h.went c.requires.own at x knows loose after c.in_ok-group.group
     (did_free g.R.Rack g.A.Area h.before h.after p c.args.own.now.floor c.in_ok-group.group c.hold-op.result.out h.related c.in_ok-group.was) (λ q. c.remove.ensures.updates.0 q))

@@ -1,11 +1,14 @@
-use Rattle.std.proofs.Common.{◌≡◌, ◌∙◌, Some, Err, ap, refl, sym, subst}
+use Rattle.std.proofs.Common.{◌≡◌, ◌∙◌, Some, Err, ap, arith, refl, sym, subst}
 use Rattle.std.specs.Prelude.{nat_eq}
 use Rattle.std.specs.HashMap.{get}
 use Rattle.draid_block.specs.Blocks.{IsContent}
 use Rattle.draid_names.specs.declared.pointer.Pointer.{Pointer}
+use Rattle.draid_pool.proofs.Wholes.{put_here}
+use Rattle.draid_store.specs.declared.fault.StoreFault.{StoreFault}
+use Rattle.draid_store.specs.Storing.{IsNewPointer}
 use Rattle.draid_store.proofs.Pointed.{content_fits}
 use Rattle.draid_store.proofs.StoreWhole.{comes_back, may_start, missed_whole, stored_whole}
-use Rattle.draid_store.proofs.Storing.{begun_whole, missed_says, none_whole, ok_says, refused_by, refused_says, refused_whole, same_earlier, started, stay_three, unbegun}
+use Rattle.draid_store.proofs.Storing.{begun_whole, missed_says, none_whole, ok_says, refused_by, refused_says, refused_whole, same_earlier, started, stay_three, stores_new, unbegun}
 use Rattle.draid_store.proofs.store.store_block.Goals as goal
 
 pub begin_write-requires-clause-may : goal.begin_write-requires-clause-may
@@ -27,6 +30,8 @@ returns-in-Some-Err g c =
       whole = refused_whole g.R.Rack (g.M.Metaslabs.owns c.args.metaslabs.now) (g.M.Metaslabs.last c.begin_write.new.metaslabs) (λ o. get nat_eq c.args.own.now.objects o) c.args.own.now.seq c.args.own.now.floor c.args.metaslab c.begin_write.result c.in-Some-Err.why out_is (e.whole (λ o. get nat_eq c.args.own.now.objects o) c.requires.whole);
       sets = λ other. refl;
       earlier = λ p is. absurd (cc);
+      new = tt;
+      later = omega arith;
       says = refused_says g.R.Rack g.A.Area g.M.Metaslabs.went g.M.Metaslabs.shared (g.M.Metaslabs.owns c.args.metaslabs.now) (g.M.Metaslabs.owns c.begin_write.new.metaslabs) (g.M.Metaslabs.last c.args.metaslabs.now) (g.M.Metaslabs.last c.begin_write.new.metaslabs)
           c.args.metaslabs.now c.begin_write.new.metaslabs c.args.metaslab c.args.columns c.args.object (λ o. get nat_eq c.args.own.now.objects o) c.args.own.now.seq c.args.own.now.floor c.args.block.now c.begin_write.result c.in-Some-Err.why out_is e.says;
       refused = refused_by g.R.Rack g.A.Area g.M.Metaslabs.went g.M.Metaslabs.shared (g.M.Metaslabs.owns c.args.metaslabs.now) (g.M.Metaslabs.owns c.begin_write.new.metaslabs) (g.M.Metaslabs.last c.args.metaslabs.now) (g.M.Metaslabs.last c.begin_write.new.metaslabs)
@@ -45,6 +50,8 @@ returns-in-None g c =
       whole = none_whole g.R.Rack (g.M.Metaslabs.owns c.args.metaslabs.now) (g.M.Metaslabs.last c.begin_write.new.metaslabs) (λ o. get nat_eq c.args.own.now.objects o) c.args.own.now.seq c.args.own.now.floor c.args.metaslab c.begin_write.result c.in-None.is (e.whole (λ o. get nat_eq c.args.own.now.objects o) c.requires.whole);
       sets = λ other. refl;
       earlier = λ p is. absurd (cc);
+      new = tt;
+      later = omega arith;
       says = unbegun g.R.Rack g.A.Area g.M.Metaslabs.went g.M.Metaslabs.shared (g.M.Metaslabs.owns c.args.metaslabs.now) (g.M.Metaslabs.owns c.begin_write.new.metaslabs) (g.M.Metaslabs.last c.args.metaslabs.now) (g.M.Metaslabs.last c.begin_write.new.metaslabs)
           c.args.metaslabs.now c.begin_write.new.metaslabs c.args.metaslab c.args.columns c.args.object (λ o. get nat_eq c.args.own.now.objects o) c.args.own.now.seq c.args.own.now.floor c.args.block.now c.begin_write.result c.in-None.is e.says;
       refused = tt;
@@ -77,6 +84,15 @@ returns-in-Ok-insert g c =
           c.put_all-ticket.ensures.pointer (λ o. get nat_eq c.args.own.now.objects o) c.args.own.now.seq c.args.own.now.floor starts.object_is starts.seq_is starts.at c.requires.whole
           (begun_whole g.R.Rack (g.M.Metaslabs.owns c.args.metaslabs.now) (g.M.Metaslabs.last c.begin_write.new.metaslabs) (λ o. get nat_eq c.args.own.now.objects o) c.args.own.now.seq c.args.own.now.floor c.args.metaslab c.begin_write.result c.in-Some-Ok.ticket (c.in-Some-Ok.is ∙ ap Some c.in-Some-Ok.field-0-is) (c.begin_write.ensures.whole (λ o. get nat_eq c.args.own.now.objects o) c.requires.whole))
           c.put_all-ticket.ensures.whole c.end_write-result.result c.end_write-result.ensures.whole pointer c.in-Ok.is named (λ o. get nat_eq c.insert.new.self o) (λ q. c.in-Ok-insert.ensures.updates.0 q) p (sym c.in-Ok-insert.ensures.old ∙ same_earlier c.in-Ok-insert.earlier p is);
+      new = stores_new StoreFault (g.M.Metaslabs.last c.args.metaslabs.now) c.args.object c.args.own.now.seq (λ o. get nat_eq c.args.own.now.objects o) (λ o. get nat_eq c.insert.new.self o) c.in-Ok-insert.earlier pointer c.in-Ok-insert.ensures.old
+          (put_here (get nat_eq c.insert.new.self c.args.object) (get nat_eq c.args.own.now.objects c.args.object) c.args.object c.args.object (Some pointer) (c.in-Ok-insert.ensures.updates.0 c.args.object) refl)
+          (subst (IsNewPointer (g.M.Metaslabs.last c.args.metaslabs.now) c.args.own.now.seq) (sym (named ∙ c.put_all-ticket.ensures.pointer)) (record {
+            seq_is = starts.seq_is;
+            shard = c.requires.takes.shard;
+            there = ap (g.M.Metaslabs.last c.args.metaslabs.now) starts.at ∙ c.requires.takes.there;
+            late = starts.late c.requires.takes.shard c.requires.takes.there;
+          }));
+      later = omega arith;
       says = ok_says g.R.Rack g.A.Area g.M.Metaslabs.went g.M.Metaslabs.shared (g.M.Metaslabs.owns c.args.metaslabs.now) (g.M.Metaslabs.owns c.begin_write.new.metaslabs) (g.M.Metaslabs.owns c.put_all-ticket.new.metaslabs) (g.M.Metaslabs.owns c.end_write-result.new.metaslabs)
           c.begin_write.ensures.owns c.put_all-ticket.ensures.owns c.end_write-result.ensures.owns (g.M.Metaslabs.last c.args.metaslabs.now) (g.M.Metaslabs.last c.begin_write.new.metaslabs) (g.M.Metaslabs.last c.put_all-ticket.new.metaslabs) (g.M.Metaslabs.last c.end_write-result.new.metaslabs) c.args.metaslabs.now c.begin_write.new.metaslabs c.put_all-ticket.new.metaslabs c.end_write-result.new.metaslabs c.args.metaslab c.args.columns c.args.object
           (λ o. get nat_eq c.args.own.now.objects o) c.args.own.now.seq c.args.own.now.floor c.args.block.now c.in-Some-Ok.ticket c.put_all-ticket.result c.put_all-ticket.ensures.pointer c.put_all-ticket.ensures.all (started g.R.Rack g.A.Area g.M.Metaslabs.went g.M.Metaslabs.shared (g.M.Metaslabs.owns c.args.metaslabs.now) (g.M.Metaslabs.owns c.begin_write.new.metaslabs) (g.M.Metaslabs.last c.args.metaslabs.now) (g.M.Metaslabs.last c.begin_write.new.metaslabs) c.args.metaslabs.now c.begin_write.new.metaslabs c.args.metaslab c.args.columns c.args.object c.args.own.now.seq c.args.own.now.floor c.args.block.now
@@ -102,6 +118,8 @@ returns-in-Err g c =
           c.put_all-ticket.ensures.whole c.end_write-result.result c.end_write-result.ensures.whole c.in-Err.missed c.in-Err.is;
       sets = λ other. refl;
       earlier = λ p is. absurd (cc);
+      new = tt;
+      later = omega arith;
       says = missed_says g.R.Rack g.A.Area g.M.Metaslabs.went g.M.Metaslabs.shared (g.M.Metaslabs.owns c.args.metaslabs.now) (g.M.Metaslabs.owns c.begin_write.new.metaslabs) (g.M.Metaslabs.owns c.put_all-ticket.new.metaslabs) (g.M.Metaslabs.owns c.end_write-result.new.metaslabs)
           c.begin_write.ensures.owns c.put_all-ticket.ensures.owns c.end_write-result.ensures.owns (g.M.Metaslabs.last c.args.metaslabs.now) (g.M.Metaslabs.last c.begin_write.new.metaslabs) (g.M.Metaslabs.last c.put_all-ticket.new.metaslabs) (g.M.Metaslabs.last c.end_write-result.new.metaslabs) c.args.metaslabs.now c.begin_write.new.metaslabs c.put_all-ticket.new.metaslabs c.end_write-result.new.metaslabs c.args.metaslab c.args.columns c.args.object
           (λ o. get nat_eq c.args.own.now.objects o) c.args.own.now.seq c.args.own.now.floor c.args.block.now c.in-Some-Ok.ticket c.put_all-ticket.result c.put_all-ticket.ensures.pointer c.put_all-ticket.ensures.all (started g.R.Rack g.A.Area g.M.Metaslabs.went g.M.Metaslabs.shared (g.M.Metaslabs.owns c.args.metaslabs.now) (g.M.Metaslabs.owns c.begin_write.new.metaslabs) (g.M.Metaslabs.last c.args.metaslabs.now) (g.M.Metaslabs.last c.begin_write.new.metaslabs) c.args.metaslabs.now c.begin_write.new.metaslabs c.args.metaslab c.args.columns c.args.object c.args.own.now.seq c.args.own.now.floor c.args.block.now
