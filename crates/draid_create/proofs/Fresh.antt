@@ -1,6 +1,6 @@
 -- A pool that was just created.
-use Rattle.std.proofs.Common.{arith, ◌≡◌, ◌<◌, ◌∙◌, ◌⊎◌, inl, inr, ℕ, zero, suc, Bool, true, false, List, [], ◌∷◌, Option, Some, None, refl, sym, ap, subst, length, map, if◌then◌else◌}
-use Rattle.std.specs.Prelude.{IsSome, IsSomeAnd, IsTrue, MatchOption, is_some, nat_eq, nat_lt, option_map, replicate, slice_get}
+use Rattle.std.proofs.Common.{arith, ◌≡◌, ◌<◌, ◌≤◌, ◌+◌, ◌∙◌, ◌⊎◌, inl, inr, ℕ, zero, suc, Bool, true, false, List, [], ◌∷◌, Option, Some, None, refl, sym, ap, subst, length, map, if◌then◌else◌}
+use Rattle.std.specs.Prelude.{IsSome, IsSomeAnd, IsTrue, MatchOption, is_some, max, nat_eq, nat_lt, option_map, replicate, slice_get}
 use Rattle.std.specs.HashMap.{get}
 use Rattle.std.proofs.lemmas.Bool.{cases_lt}
 use Rattle.std.proofs.lemmas.Bool.Decides.{nat_tests}
@@ -43,7 +43,7 @@ use Rattle.draid_uber.specs.declared.uber.Uber.{Uber}
 use Rattle.draid_uber.specs.Checks.{AreasStand, AreasTold, CheckStands, HasCheck, told_by}
 use Rattle.draid_uber.specs.Slots.{StandsTold, group_of}
 use Rattle.draid_uber.specs.Uber as ubers
-use Rattle.draid_uber.specs.Uber.{areas_of, count_of, kept_of, layout_of, next_leaf_of, next_of, point_of, version_of}
+use Rattle.draid_uber.specs.Uber.{areas_of, count_of, kept_of, layout_of, next_leaf_of, next_of, point_of, changed_of, version_of}
 use Rattle.draid_uber.proofs.Recorded.{empty_stands, stand_named, stand_pending}
 use Rattle.draid_session.specs.Making.{IsCalm, IsFresh, IsNew}
 use Rattle.draid_session.specs.Opening.{MayFind, VersionIn}
@@ -59,6 +59,9 @@ use Rattle.draid_pool.specs.Importable.{AllAlike, IsAlike, Shared}
 use Rattle.draid_pool.specs.Records.{HasImages, HasLeafNumbers, HasRecords, LeavesAreBelow}
 use Rattle.draid_pool.specs.Ubers.{IsPending, IsUber, body_of, check_told}
 use Rattle.draid_pool.proofs.Pointing.{none_kept, unmarked_told}
+use Rattle.draid_pool.proofs.Unmarked.{all_behind, none_marked, not_late}
+use Rattle.draid_pool.proofs.Wholes.{fits_none}
+use Rattle.draid_objects.specs.Marks.{mark_group}
 use Rattle.draid_checkpoint.specs.Check.{Point}
 use Rattle.draid_pool.specs.Whole.{IsWhole}
 use Rattle.draid_pool.specs.declared.pool.Pool.{Pool}
@@ -146,15 +149,16 @@ module _ {R A : Type 0} (rack : racks.Ghosts R) (area : areas.Ghosts A) where
     first_layout is = is ∙ (λ i. ubers.layout_in (layout i) (version i))
 
     pub is_uber : (perms : Perms) (shards : List (Shard R A)) (told : Bool) → ubers.Valid area.size new → kept_of new ≡ Some (next_of old 1) → layout_of new ≡ ubers.layout_in (layout_of old) (version_of old)
-        → version_of new ≡ version_of old → next_leaf_of new ≡ next_leaf_of old → (point_of old).group ≡ None → point_of new ≡ point_of old
+        → version_of new ≡ version_of old → next_leaf_of new ≡ next_leaf_of old → (point_of old).group ≡ None → point_of new ≡ point_of old → changed_of new ≡ 0
         → AreasStand (check_told []) (Some (next_of old 1)) [] (told_by area.told (areas_of new)) → IsUber area new (state_of geometry perms shards (count_of area.faults new) told)
-    is_uber perms shards told valid kept layout_is version_is leaf_is none point stands = record {
+    is_uber perms shards told valid kept layout_is version_is leaf_is none point changed stands = record {
       valid = valid;
       layout = first_layout layout_is;
       version = version_is ∙ version;
       kept = kept ∙ ap (λ (b : UberBody). Some b) first_body;
       next_leaf = leaf_is ∙ next_leaf;
       point = λ group late. none_kept (point_of new) [] group (ap (λ (p : Point). p.group) point ∙ none) refl;
+      late = λ group up. ((λ late. absurd (not_late group [] refl late)), (λ less. absurd (omega (arith, less, changed))));
       count = refl;
       stands = record { pending = []; are = All-nil (IsPending (state_of geometry perms shards (count_of area.faults new) told)); stands = subst (λ (b : UberBody). AreasStand (check_told []) (Some b) [] (told_by area.told (areas_of new))) first_body stands };
     }
@@ -256,9 +260,9 @@ module _ {R A : Type 0} (rack : racks.Ghosts R) (area : areas.Ghosts A) where
     holds_none committed = record {
       stores = subst (λ (b : Blocks). Stores sha256 committed [] [] b) (sym blocks_none) (none_stored sha256 committed);
       floors = λ object. subst (λ (b : Blocks). IsFloor [] b object 0) (sym blocks_none) (none_floor object 0);
-      unmarked = refl;
       settled = λ m k h is. absurd (not_held m k h is);
       numbered = λ m k h is. absurd (not_held m k h is);
+      positive = All-nil (λ m. 1 ≤ mark_group m);
       bytes = λ m k h write is by. absurd (not_held m k h is);
     }
 
@@ -337,6 +341,8 @@ module _ {R A : Type 0} (rack : racks.Ghosts R) (area : areas.Ghosts A) where
             committed = first_committed;
             next = omega arith;
             last = omega arith;
+            checks = λ m y there. all_behind 1 y.world.open_group;
+            marked = none_marked (max 0 (1 + 1));
           };
           objects = λ object. points_none pool.metaslabs.shards.items (get nat_eq pool.own.objects object) (empty object);
           seq = sym seq;
@@ -348,7 +354,7 @@ module _ {R A : Type 0} (rack : racks.Ghosts R) (area : areas.Ghosts A) where
           versions = record { kept = refl; now = refl };
           alike = alike_first (state_of geometry opened.perms shards count told) refl;
         };
-        only = λ m k h is live. absurd (not_held m k h is);
+        only = λ m k h is live counts. absurd (not_held m k h is);
       }
 
       -- the pool of which the first commit was refused, as it is given back
@@ -391,8 +397,9 @@ module _ {R A : Type 0} (rack : racks.Ghosts R) (area : areas.Ghosts A) where
 
     -- a pool whose uberblock names the first group is whole
     pub first_whole : (pool : Pool R A) → pool.geometry ≡ geometry → pool.metaslabs.shards.items ≡ shards → pool.own.floor ≡ 0 → ((q : ℕ) → get nat_eq pool.own.objects q ≡ None)
-        → ubers.Valid area.size pool.uber → layout_of pool.uber ≡ geometry → group_of (kept_of pool.uber) ≡ 1 → next_leaf_of pool.uber ≡ geometry.spec.children → IsWhole rack area pool
-    first_whole pool used items floor empty valid layout first next = record {
+        → ubers.Valid area.size pool.uber → layout_of pool.uber ≡ geometry → group_of (kept_of pool.uber) ≡ 1 → next_leaf_of pool.uber ≡ geometry.spec.children
+        → (point_of pool.uber).group ≡ None → (point_of pool.uber).drops ≡ [] → IsWhole rack area pool
+    first_whole pool used items floor empty valid layout first next none undropped = record {
       perms = opened.perms;
       layout = subst (λ (x : Geometry). IsLayout x opened.perms) (sym used) opened.are_perms;
       many = ap (λ (xs : List (Shard R A)). length xs) items ∙ (opened.many ∙ ap (λ (x : Geometry). x.props.metaslabs) (sym used));
@@ -414,6 +421,8 @@ module _ {R A : Type 0} (rack : racks.Ghosts R) (area : areas.Ghosts A) where
       objects = λ object pointer there. (let none = empty object in absurd (cc));
       floor = omega (arith, floor);
       low = omega (arith, floor);
+      point = fits_none (point_of pool.uber) (get nat_eq pool.own.objects) pool.own.seq none undropped;
+      behind = λ own m shard some there. absurd (none_some (point_of pool.uber).group own none some);
     }
 
     -- what the shelf still told was told before

@@ -21,7 +21,7 @@ use Rattle.draid_shard.specs.declared.shard.Shard.{Shard}
 use Rattle.draid_uber.specs.declared.uber.Uber.{Uber}
 use Rattle.draid_uber.specs.Checks.{AreasTold, told_by}
 use Rattle.draid_uber.specs.Slots.{StandsTold}
-use Rattle.draid_uber.specs.Uber.{area_of, areas_of, kept_of, layout_of, next_leaf_of, point_of, version_of}
+use Rattle.draid_uber.specs.Uber.{area_of, areas_of, kept_of, layout_of, next_leaf_of, point_of, changed_of, version_of}
 use Rattle.draid_uber.specs.Uber as ubers
 use Rattle.draid_session.specs.Making.{IsFresh}
 use Rattle.draid_session.specs.Session.{uncommitted}
@@ -175,6 +175,8 @@ pub record IsNewUber {A : Type 0} (area : areas.Ghosts A) (geometry : Geometry) 
   pub version : version_of uber ≡ geometry.props.version
   pub next_leaf : next_leaf_of uber ≡ geometry.spec.children
   pub point : (point_of uber).group ≡ None
+  pub drops : (point_of uber).drops ≡ []
+  pub changed : changed_of uber ≡ 0
   pub stands : StandsTold None [] (area.told (area_of uber))
   pub new : AreNewAreas (told_by area.told (areas_of uber))
   pub count : area.faults (area_of uber) ≡ 0

@@ -19,6 +19,7 @@ use Rattle.draid_pool.specs.Shelves.{OnShelf}
 use Rattle.draid_pool.specs.declared.fault.SyncFault.{SyncFault}
 use Rattle.draid_pool.specs.declared.fault.SyncFault.TheVariants as sync
 use Rattle.draid_export.specs.declared.replies.ExportRefused.{ExportRefused}
+use Rattle.draid_session.specs.Points.{HasLateMark}
 
 -- ---- what isn't safe
 
@@ -31,6 +32,10 @@ FoundUnsynced {R = R} {A = A} shards false = (m : ℕ) (shard : Shard R A) → s
 -- a metaslab of a state has something that no sync has made safe
 abbrev pub HasUnsynced : State → Type 0
 HasUnsynced x = (m : ℕ) × (y : Metaslab) × (slice_get x.metaslabs m ≡ Some y) × (groups.is_unsynced y.world.committed y.events ≡ true)
+
+-- nothing isn't safe: of no metaslab, and of the checkpoint nothing since the committed group
+abbrev pub IsSafe : State → Type 0
+IsSafe x = (HasUnsynced x → ⊥) × (HasLateMark x.committed x.store.marks → ⊥)
 
 -- what an export does before the pool is given back, and why it was stopped; the answer is the committed group
 abbrev pub ExportDoes : State → Result ℕ SyncFault → List Hold → Store → Type 0

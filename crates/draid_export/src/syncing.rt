@@ -8,15 +8,15 @@ ghost use Rattle.draid_pool.specs.Passes.{KeepsPasses};
 ghost use Rattle.draid_pool.specs.Pointers.{SamePointers};
 ghost use Rattle.draid_pool.specs.Pools.{Represents, group_in};
 ghost use Rattle.draid_pool.specs.Whole.{IsWhole};
-ghost use Rattle.draid_export.specs.Exporting.{ExportDoes, FoundUnsynced, HasUnsynced};
+ghost use Rattle.draid_export.specs.Exporting.{ExportDoes, FoundUnsynced, HasUnsynced, IsSafe};
 
 use crate::unsynced::any_unsynced;
 use draid_area::Area;
 use draid_pool::{Pool, SyncFault};
 use draid_rack::Rack;
 
-/// Makes all that the pool holds safe, as an export wants it: a sync comes where a metaslab isn't synced. The answer
-/// is the committed group.
+/// Makes all that the pool holds safe, as an export wants it: a sync comes where a metaslab isn't synced, or something
+/// befell the checkpoint since the committed group. The answer is the committed group.
 pub fn sync_for_export<R: Rack, A: Area>(pool: &mut Pool<R, A>) -> Result<u64, SyncFault>
     requires whole { IsWhole R.Rack A.Area pool.old }
     ensures whole { IsWhole R.Rack A.Area pool.new }
@@ -32,13 +32,24 @@ pub fn sync_for_export<R: Rack, A: Area>(pool: &mut Pool<R, A>) -> Result<u64, S
     ensures carries { (x : State) → Represents R.Rack A.Area pool.old x
         → CarriesOut R.Rack A.Area pool.new x (ExportDoes x result) }
 {
-    if !has_unsynced(pool) {
+    if is_safe(pool) {
         return Ok(pool.committed());
     }
     match pool.sync() {
         Ok(synced) => Ok(synced.group),
         Err(fault) => Err(fault),
     }
+}
+
+/// Whether all that the pool has is safe: each metaslab is synced, and nothing befell the checkpoint since the committed
+/// group.
+fn is_safe<R: Rack, A: Area>(pool: &Pool<R, A>) -> bool
+    ensures safe { (x : State) → Represents R.Rack A.Area pool.now x → IsTrue result ↔ IsSafe x }
+{
+    if has_unsynced(pool) {
+        return false;
+    }
+    !pool.uber.has_news()
 }
 
 /// Whether a metaslab has something that no sync has made safe: an export makes a sync just there.

@@ -33,6 +33,8 @@ open_pool-requires-clause-uber g c κs within =
       version = e.version;
       next_leaf = e.leaf;
       point = e.point;
+      drops = e.drops;
+      changed = e.changed;
       stands = e.crash;
       new = subst (λ a. AreNewAreas (told_by g.H.A.Area.told a)) (sym e.areas)
           (areas_new c.args.layout (g.H.Shelf.told c.make.new.self) (told_by g.H.A.Area.told c.in_ok-areas.areas) made.told t.areas t.untold);

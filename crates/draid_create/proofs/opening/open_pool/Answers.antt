@@ -1,5 +1,6 @@
 use Rattle.std.proofs.Common.{rules, ◌+◌, ◌∙◌, [], ◌∷◌, Option, ap, inl, inr, refl, subst, sym, arith}
 use Rattle.std.specs.Prelude.{is_some}
+use Rattle.draid_checkpoint.specs.Check.{Point}
 use Rattle.draid_record.specs.declared.uber.UberBody.{UberBody}
 use Rattle.draid_uber.specs.Checks.{told_by}
 use Rattle.draid_uber.specs.Slots.{StandsTold, group_of}
@@ -39,13 +40,13 @@ returns-in-Ok-commit g c =
     record {
       whole = first_whole g.H.R.Rack g.H.A.Area c.args.layout c.requires.layout (shelf.told c.args.shelf.now) (shelf.counts c.args.shelf.now) c.in-Ok.shards.items c.in-Ok.ensures.opened
           _ refl refl refl (λ q. search rules) e.valid (first_layout g.H.R.Rack g.H.A.Area c.args.layout c.args.uber c.commit.new.self u.layout u.version u.next_leaf e.layout)
-          (ap (λ (kept : Option UberBody). group_of kept) e.kept) (e.leaf ∙ u.next_leaf);
+          (ap (λ (kept : Option UberBody). group_of kept) e.kept) (e.leaf ∙ u.next_leaf) (ap (λ (p : Point). p.group) e.point ∙ u.point) (ap (λ (p : Point). p.drops) e.point ∙ u.drops);
       opens = (let o = c.in-Ok.ensures.opened in
           let before = subst (λ kept. StandsTold kept [] (g.H.A.Area.told (area_of c.args.uber))) (sym u.kept) u.stands in
           opens g.H.R.Rack g.H.A.Area c.args.layout c.requires.layout (shelf.told c.args.shelf.now) (shelf.counts c.args.shelf.now) c.in-Ok.shards.items o
           (shelf.told c.open_shards.new.shelf) _ c.requires.held c.in-Ok.ensures.told c.requires.counts refl refl refl refl (λ q. search rules)
           (is_uber g.H.R.Rack g.H.A.Area c.args.layout c.args.uber c.commit.new.self u.layout u.version u.next_leaf o.perms c.in-Ok.shards.items (is_some (shelf.told c.args.shelf.now))
-          e.valid e.kept e.layout e.version e.leaf u.point e.point (first_named g.H.A.Area c.args.layout c.args.uber c.commit.new.self e.others u.new (e.committed [] before))));
+          e.valid e.kept e.layout e.version e.leaf u.point e.point (e.changed ∙ u.changed) (first_named g.H.A.Area c.args.layout c.args.uber c.commit.new.self e.others u.new (e.committed [] before))));
       away = away c.args.layout (g.H.Shelf.told c.args.shelf.now) (g.H.Shelf.told c.open_shards.new.shelf) c.requires.held c.in-Ok.ensures.told;
       back = tt;
       later = c.open_shards.ensures.later;

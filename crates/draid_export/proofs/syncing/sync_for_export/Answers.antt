@@ -1,15 +1,15 @@
-use Rattle.std.proofs.Common.{ℕ, arith, refl, subst}
-use Rattle.draid_export.specs.Exporting.{FoundUnsynced}
+use Rattle.std.proofs.Common.{ℕ, arith, refl}
+use Rattle.draid_export.specs.Exporting.{IsSafe}
 use Rattle.draid_pool.specs.declared.fault.SyncFault.TheVariants as sync
 use Rattle.draid_pool.specs.declared.fault.Synced.{Synced}
 use Rattle.draid_pool.proofs.Keeping.{all_arms_by, all_asked_by, all_stay, passes_by, racks_by}
 use Rattle.draid_pool.proofs.Rises.{err_on, areas_still}
-use Rattle.draid_export.proofs.Exports.{export_done, export_none, export_stops}
+use Rattle.draid_export.proofs.Exports.{export_done, export_none, export_stops, not_told}
 use Rattle.draid_pool.proofs.Refusing.{no_refusal}
 use Rattle.draid_export.proofs.syncing.sync_for_export.Goals as goal
 
-pub returns-then-not-has_unsynced : goal.returns-then-not-has_unsynced
-returns-then-not-has_unsynced g c =
+pub returns-then-is_safe : goal.returns-then-is_safe
+returns-then-is_safe g c =
     record {
       whole = c.requires.whole;
       same = λ o. refl;
@@ -21,7 +21,7 @@ returns-then-not-has_unsynced g c =
       names = c.committed.ensures.group;
       grows = (omega arith);
       cause = λ is. absurd (no_refusal is);
-      carries = λ x is. export_none g.R.Rack g.A.Area c.args.pool.now x c.committed.result is (subst (FoundUnsynced c.args.pool.now.metaslabs.shards.items) c.if-not-has_unsynced.true c.has_unsynced.ensures.found) c.committed.ensures.group;
+      carries = λ x is. export_none g.R.Rack g.A.Area c.args.pool.now x c.committed.result is ((c.is_safe.ensures.safe x is).0 c.if-is_safe.true) c.committed.ensures.group;
     }
 
 pub returns-in-Ok : goal.returns-in-Ok
@@ -37,7 +37,7 @@ returns-in-Ok g c =
       names = c.in-Ok.ensures.names;
       grows = (let rises = c.in-Ok.ensures.rises in omega (arith, rises));
       cause = λ is. absurd (no_refusal is);
-      carries = λ x is. export_done g.R.Rack g.A.Area c.args.pool.now c.sync.new.self x c.in-Ok.synced is (subst (FoundUnsynced c.args.pool.now.metaslabs.shards.items) c.if-not-has_unsynced.false c.has_unsynced.ensures.found)
+      carries = λ x is. export_done g.R.Rack g.A.Area c.args.pool.now c.sync.new.self x c.in-Ok.synced is (not_told c.is_safe.result (IsSafe x) (c.is_safe.ensures.safe x is) c.if-is_safe.false)
           (c.in-Ok.ensures.carries x is);
     }
 
@@ -54,6 +54,6 @@ returns-in-Err g c =
       names = tt;
       grows = tt;
       cause = λ is. c.in-Err.ensures.cause (err_on ℕ Synced c.in-Err.fault sync.Shelf is);
-      carries = λ x is. export_stops g.R.Rack g.A.Area c.args.pool.now c.sync.new.self x c.in-Err.fault is (subst (FoundUnsynced c.args.pool.now.metaslabs.shards.items) c.if-not-has_unsynced.false c.has_unsynced.ensures.found)
+      carries = λ x is. export_stops g.R.Rack g.A.Area c.args.pool.now c.sync.new.self x c.in-Err.fault is (not_told c.is_safe.result (IsSafe x) (c.is_safe.ensures.safe x is) c.if-is_safe.false)
           (c.in-Err.ensures.carries x is);
     }
